@@ -1,0 +1,4 @@
+pub mod Text
+pub mod Lex
+pub mod Stream
+pub mod Tokenization
