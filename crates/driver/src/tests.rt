@@ -1,0 +1,211 @@
+//! Runs of the top call over objects in memory. The answers come from the format and the list of statuses, not from runs.
+
+ghost use Rattle.std.specs.Prelude.{◌<◌};
+
+use crate::serve;
+use kio::{MemSink, MemSource, read_all};
+use std::alloc::{AllocError, Global};
+use std::process::Abort;
+use std::test::Fail;
+
+/// The block `bool` up to the main term.
+const FRONT: &[u8] =
+    b"(env 1 (levels) (constraints) (InductiveDecl bool (params) (family bool (sort Set) (indices) (ctor true (args) (result)) (ctor false (args) (result)))) (main ";
+/// The example, with `false` as main.
+const FALSE: &[u8] =
+    b"(env 1 (levels) (constraints) (InductiveDecl bool (params) (family bool (sort Set) (indices) (ctor true (args) (result)) (ctor false (args) (result)))) (main (tConstruct bool 0 1)))";
+
+const USAGE: &[u8] = b"usage: erasec JOB [--turns N] [--pages N] [--steps N] [--size N]\n";
+
+const FORM: &[u8] = b"unsupported Form at 0\n";
+/// No call has this number.
+const NEVER: u64 = 0;
+
+/// A run of the top call: the words, the input and the calls that fail.
+#[derive(Clone, Copy)]
+struct Run<'a> {
+    words: &'a [&'a str],
+    input: &'a [u8],
+    failing_read: u64,
+    failing_write: u64,
+}
+
+/// What a run answers and leaves.
+#[derive(Clone, Copy)]
+struct Want<'a> {
+    status: u8,
+    out: &'a [u8],
+    err: &'a [u8],
+}
+
+fn words_of(alloc: Global, words: &[&str]) -> Result<Vec<String>, AllocError> {
+    let mut list = Vec::new(alloc);
+    for word in words {
+        list.push(String::from_str(alloc, word)?)?;
+    }
+    Ok(list)
+}
+
+/// A sink that takes at most `most` bytes in a call.
+fn sink(alloc: Global, most: usize, failing: u64) -> Result<MemSink, AllocError>
+    requires { 0 < most }
+{
+    Ok(MemSink::new(alloc, most, Vec::from_slice(alloc, &[failing])?))
+}
+
+/// Makes the run, and compares.
+fn expect(rt: &impl Abort, alloc: Global, run: &Run, want: &Want) -> Result<(), AllocError> {
+    let words = words_of(alloc, run.words)?;
+    let fails = Vec::from_slice(alloc, &[run.failing_read])?;
+    let mut src = MemSource::new(run.input.to_vec(alloc)?, fails);
+    let mut out = sink(alloc, 3, run.failing_write)?;
+    let mut err = sink(alloc, 4096, NEVER)?;
+    let status = serve(alloc, &words, &mut src, &mut out, &mut err);
+    assert_eq!(rt; status, want.status);
+    assert_eq!(rt; out.bytes(), want.out);
+    assert_eq!(rt; err.bytes(), want.err);
+    Ok(())
+}
+
+/// A run of `exec` in which no call fails.
+fn exec_on(input: &[u8]) -> Run<'_> {
+    Run {
+        words: &["exec"],
+        input,
+        failing_read: NEVER,
+        failing_write: NEVER,
+    }
+}
+
+/// The block `bool` with this main term.
+fn with_main(alloc: Global, main: &[u8]) -> Result<Vec<u8>, AllocError> {
+    let mut text = FRONT.to_vec(alloc)?;
+    text.extend_from_slice(main)?;
+    text.extend_from_slice(b"))")?;
+    Ok(text)
+}
+
+#[test]
+fn exec_prints_the_constructor(rt: HostRuntime) -> Result<(), Fail> {
+    let alloc = rt.alloc();
+    for (main, out) in [
+        ("(tConstruct bool 0 0)", "true\n"),
+        ("(tConstruct bool 0 1)", "false\n"),
+    ] {
+        let text = with_main(alloc, main.as_bytes())?;
+        let want = Want {
+            status: 0,
+            out: out.as_bytes(),
+            err: b"",
+        };
+        expect(&rt, alloc, &exec_on(text.as_slice()), &want)?;
+    }
+    Ok(())
+}
+
+#[test]
+fn exec_refuses_other_mains(rt: HostRuntime) -> Result<(), Fail> {
+    let alloc = rt.alloc();
+    let want = Want {
+        status: 6,
+        out: b"",
+        err: FORM,
+    };
+    for main in [
+        "(tRel 0)",
+        "(tConstruct bool 0 2)",
+        "(tConstruct bool 1 0)",
+        "(tConstruct nat 0 0)",
+        "(tConstruct bool 0 01)",
+        "(tConstruct bool 0 4294967296)",
+    ] {
+        let text = with_main(alloc, main.as_bytes())?;
+        expect(&rt, alloc, &exec_on(text.as_slice()), &want)?;
+    }
+    Ok(())
+}
+
+#[test]
+fn exec_refuses_each_proper_prefix(rt: HostRuntime) -> Result<(), Fail> {
+    let alloc = rt.alloc();
+    let want = Want {
+        status: 6,
+        out: b"",
+        err: FORM,
+    };
+    for length in 0..FALSE.len() {
+        expect(&rt, alloc, &exec_on(&FALSE[..length]), &want)?;
+    }
+    Ok(())
+}
+
+#[test]
+fn exec_reads_other_spellings(rt: HostRuntime) -> Result<(), Fail> {
+    let alloc = rt.alloc();
+    let want = Want {
+        status: 0,
+        out: b"b\n",
+        err: b"",
+    };
+    for text in [
+        "(env 1(levels)(constraints)(InductiveDecl t(params)(family t(sort(Type(Set 0)))(indices)(ctor a(args)(result))(ctor b(args)(result))))(main(tConstruct t 0 1)))",
+        "; a comment\n(env 1 (levels) (constraints) (InductiveDecl t (params) (family other (sort (Type (Set 0) (Set 0))) (indices) (ctor b (args) (result)))) (main (tConstruct t 0 0)))\t\r\n ; the end",
+    ] {
+        expect(&rt, alloc, &exec_on(text.as_bytes()), &want)?;
+    }
+    Ok(())
+}
+
+#[test]
+fn refuses_other_command_lines_and_reads_nothing(rt: HostRuntime) -> Result<(), Fail> {
+    let alloc = rt.alloc();
+    let no_word: [&str; 0] = [];
+    for list in [&no_word[..], &["walk"][..], &["exec", "exec"][..]] {
+        let words = words_of(alloc, list)?;
+        let mut src = MemSource::new(FALSE.to_vec(alloc)?, Vec::new(alloc));
+        let mut out = sink(alloc, 3, NEVER)?;
+        let mut err = sink(alloc, 4096, NEVER)?;
+        let status = serve(alloc, &words, &mut src, &mut out, &mut err);
+        assert_eq!(rt; status, 2);
+        assert_eq!(rt; out.bytes(), b"".as_slice());
+        assert_eq!(rt; err.bytes(), USAGE);
+        let rest = read_all(alloc, &mut src, 4096).ok().ok_or("unread")?;
+        assert_eq!(rt; rest.as_slice(), FALSE);
+    }
+    Ok(())
+}
+
+#[test]
+fn tells_faults_of_input_and_output(rt: HostRuntime) -> Result<(), Fail> {
+    let alloc = rt.alloc();
+    let mut broken_input = exec_on(FALSE);
+    broken_input.failing_read = 1;
+    let read_fault = Want {
+        status: 3,
+        out: b"",
+        err: b"read fault\n",
+    };
+    expect(&rt, alloc, &broken_input, &read_fault)?;
+    let mut broken_output = exec_on(FALSE);
+    broken_output.failing_write = 2;
+    let write_fault = Want {
+        status: 4,
+        out: b"fal",
+        err: b"write fault\n",
+    };
+    expect(&rt, alloc, &broken_output, &write_fault)?;
+    Ok(())
+}
+
+#[test]
+fn refuses_a_long_input(rt: HostRuntime) -> Result<(), Fail> {
+    let alloc = rt.alloc();
+    let text = vec![in alloc; b' '; 16_777_217]?;
+    let want = Want {
+        status: 7,
+        out: b"",
+        err: b"limit InputBytes\n",
+    };
+    expect(&rt, alloc, &exec_on(text.as_slice()), &want)?;
+    Ok(())
+}

@@ -1,0 +1,113 @@
+//! The top call.
+
+ghost use Rattle.std.specs.Prelude.{◌≡◌, ◌≢◌, ◌↔◌, ◌⊎◌, ◌<◌, ◌≤◌, ℕ, List, [], ◌∷◌, length, Contains, IfErr, None};
+ghost use Rattle.std.specs.Io.KnownBytes.{Appends};
+ghost use Rattle.kio.specs.Causes.{Rose};
+ghost use Rattle.driver.specs.CommandLine.{job_of, words_of};
+ghost use Rattle.driver.specs.Environment.{Environment};
+ghost use Rattle.driver.specs.Lines.{status_of, line_of};
+ghost use Rattle.driver.specs.Simple.{IsSimple};
+ghost use Rattle.driver.specs.Serve.{Answered, Concludes, IsAsked, IsInput, IsTooLong, ReadSays, Says, SpellsNone, TakesLine, TakesPrefix, TellsRefusal, input_limit};
+
+use crate::command_line::{Job, read_words};
+use crate::exec::exec;
+use crate::refusal::{Refusal, line, status};
+use kio::{ReadAll, Sink, Source, read_all, write_all};
+use std::alloc::Global;
+
+/// The most bytes of an input.
+const INPUT_BYTES: usize = 16_777_216;
+
+/// The whole input, within the limit.
+fn read_input<S: Source>(alloc: Global, src: &mut S) -> Result<Vec<u8>, Refusal>
+    ensures says { ReadSays (λ v. v.items) result (S.left src.old) (S.faults src.old) (S.faults src.new) }
+    ensures later { S.faults src.old ≤ S.faults src.new }
+{
+    match read_all(alloc, src, INPUT_BYTES) {
+        Ok(bytes) => Ok(bytes),
+        Err(ReadAll::Fault) => Err(Refusal::ReadFault),
+        Err(ReadAll::TooLong) => Err(Refusal::InputBytes),
+        Err(ReadAll::Memory) => Err(Refusal::Memory),
+    }
+}
+
+/// The text of the answer of the job that the words name.
+fn answer<S: Source>(alloc: Global, words: &Vec<String>, src: &mut S) -> Result<Vec<u8>, Refusal>
+    ensures says { Says (λ v. v.items) result (words_of words.now) (S.left src.old) (S.faults src.old) (S.faults src.new) }
+    ensures unread { IfErr result (λ r. r ≡ Refusal.Usage → src.new ≡ src.old) }
+    ensures later { S.faults src.old ≤ S.faults src.new }
+{
+    match read_words(words) {
+        None => Err(Refusal::Usage),
+        Some(Job::Exec) => {
+            let bytes = read_input(alloc, src)?;
+            exec(alloc, bytes.as_slice())
+        }
+    }
+}
+
+/// Writes the refusal's line, and gives its status.
+fn refuse<E: Sink>(err: &mut E, refusal: Refusal) -> u8
+    ensures status { result ≡ status_of refusal }
+    ensures line { TakesLine (E.taken err.old) (E.taken err.new) (E.faults err.old) (E.faults err.new) (line_of refusal) }
+{
+    let _ = write_all(err, line(refusal));
+    status(refusal)
+}
+
+/// Writes the text of the answer to out, or the refusal's line to err, and gives the status.
+fn conclude<K: Sink, E: Sink>(out: &mut K, err: &mut E, answered: Result<Vec<u8>, Refusal>) -> u8
+    ensures concludes { Concludes (λ v. v.items) answered result out.old out.new (K.taken out.old) (K.taken out.new) (K.faults out.old) (K.faults out.new) err.old err.new (E.taken err.old) (E.taken err.new) (E.faults err.old) (E.faults err.new) }
+{
+    match answered {
+        Ok(text) => match write_all(out, text.as_slice()) {
+            Ok(()) => 0,
+            Err(_) => refuse(err, Refusal::WriteFault),
+        },
+        Err(refusal) => refuse(err, refusal),
+    }
+}
+
+/// Does the job that the words after the program's name ask for, and answers the program's status.
+///
+/// The job is `exec`: the input is the text of a simple environment, one block of constructors without arguments with one of
+/// them as main. A module is made of it, encoded, decoded, validated and run, and the answer, the constructor's name with LF,
+/// goes to `out`. Statuses: 0 done; 1 want of memory; 2 the words aren't the one word `exec`, and then nothing is read; 3 a read
+/// fault; 4 a write fault; 6 the input spells no simple environment within the limits; 7 more than 16,777,216 bytes came.
+///
+/// A refusal writes one line to `err`, which takes no memory; a fault on `err` changes no status. Nothing goes to `out` before
+/// the whole answer is there, so a refusal other than a write fault leaves it as it was.
+pub fn serve<S: Source, K: Sink, E: Sink>(
+    alloc: Global,
+    words: &Vec<String>,
+    src: &mut S,
+    out: &mut K,
+    err: &mut E,
+) -> u8
+    // The answer: the text spells a simple environment that is well formed, and out takes the name of its main constructor.
+    ensures done { result ≡ 0 → (text : List ℕ) × Answered (S.left src.old) text × Appends (K.taken out.old) (K.taken out.new) text }
+    ensures statuses { Contains (0 ∷ 1 ∷ 2 ∷ 3 ∷ 4 ∷ 6 ∷ 7 ∷ []) result }
+
+    // The causes of the refusals.
+    ensures usage { (result ≡ 2) ↔ (job_of (words_of words.now) ≡ None) }
+    ensures nothing_read { result ≡ 2 → src.new ≡ src.old }
+    ensures read_fault { result ≡ 3 → Rose (S.faults src.old) (S.faults src.new) }
+    ensures write_fault { result ≡ 4 → Rose (K.faults out.old) (K.faults out.new) }
+    ensures prefix { result ≡ 4 → (text : List ℕ) × Answered (S.left src.old) text × TakesPrefix (K.taken out.old) (K.taken out.new) text }
+    ensures form { result ≡ 6 → (bytes : List ℕ) × IsInput (S.left src.old) bytes × SpellsNone bytes }
+    ensures input_bytes { result ≡ 7 → IsTooLong (S.left src.old) }
+
+    // Where no count rises, want of memory is the only other answer.
+    ensures complete { (bytes : List ℕ) (e : Environment) → IsAsked (words_of words.now) (S.left src.old) bytes (S.faults src.old) (S.faults src.new) → length bytes ≤ input_limit → IsSimple bytes e → ¬ Rose (K.faults out.old) (K.faults out.new) → (result ≡ 0) ⊎ (result ≡ 1) }
+    ensures refuses_text { (bytes : List ℕ) → IsAsked (words_of words.now) (S.left src.old) bytes (S.faults src.old) (S.faults src.new) → length bytes ≤ input_limit → SpellsNone bytes → (result ≡ 6) ⊎ (result ≡ 1) }
+    ensures refuses_length { (bytes : List ℕ) → IsAsked (words_of words.now) (S.left src.old) bytes (S.faults src.old) (S.faults src.new) → input_limit < length bytes → (result ≡ 7) ⊎ (result ≡ 1) }
+
+    // What is left behind.
+    ensures nothing_out { result ≢ 0 → result ≢ 4 → out.new ≡ out.old }
+    ensures line { result ≢ 0 → TellsRefusal result (E.taken err.old) (E.taken err.new) (E.faults err.old) (E.faults err.new) }
+    ensures quiet { result ≡ 0 → err.new ≡ err.old }
+    ensures counts { S.faults src.old ≤ S.faults src.new }
+{
+    let answered = answer(alloc, words, src);
+    conclude(out, err, answered)
+}

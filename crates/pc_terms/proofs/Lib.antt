@@ -1,0 +1,4 @@
+pub mod Most
+pub mod Parts
+pub mod NodeTrees
+pub mod Applied

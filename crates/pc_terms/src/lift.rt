@@ -1,0 +1,165 @@
+//! Lifting: adding to the variables of a term.
+ghost use Rattle.std.specs.Prelude.{◌≡◌, ◌<◌, ◌^◌, IfOk, IfErr, length, map};
+ghost use Rattle.trees.specs.Tree.{terms_of};
+ghost use Rattle.trees.specs.Substitution.{walk, lift_var, lift};
+ghost use Rattle.trees.specs.Parallel.{shift};
+ghost use Rattle.trees.specs.Measures.{IsWithin, IsBeyond, AreBeyond};
+ghost use Rattle.pc_terms.specs.Lists.{arms_of, AreBeyondDefs, walk_branch, walk_def, walk_match};
+ghost use Rattle.pc_terms.specs.View.{tree_of};
+ghost use Rattle.pc_terms.specs.declared.term.Node.TheVariants.{Case};
+ghost use Rattle.pc_terms.specs.declared.term.MakeFault.TheVariants.{TooDeep};
+
+use crate::term::{Branch, Branches, Def, Defs, MakeFault, Match, Node, Term, Terms};
+use std::alloc::Global;
+
+impl Term {
+    /// The term with `k` added to each variable that is `n` or more.
+    ///
+    /// Subterms that are closed below the cutoff are shared. `TooDeep` where a variable number passes 4,294,967,295.
+    #[tactic(auto, using(trees::proofs::Cutoffs::cutoff_laws))]
+    pub fn lift(&self, alloc: Global, k: u32, n: u32) -> Result<Term, MakeFault>
+        ensures ok { IfOk result (λ t. t ≡ lift k n self.now) }
+        ensures parallel { IfOk result (λ t. t ≡ shift k n self.now) }
+        ensures within { IfOk result IsWithin }
+        ensures too_deep { IfErr result (λ e. e ≡ TooDeep → IsBeyond (lift k n self.now)) }
+    {
+        self.lift_above(alloc, k, u64::from(n))
+    }
+}
+
+impl Terms {
+    #[cycle(lift)]
+    #[tactic(auto, using(crate::proofs::Parts::part_laws, trees::proofs::Closed::closed_laws, std::proofs::lemmas::Grind::common_steps))]
+    fn lift_above(&self, alloc: Global, k: u32, n: u64) -> Result<Terms, MakeFault>
+        requires { n < 2 ^ 32 }
+        ensures ok { IfOk result (λ out. out ≡ map (walk (lift_var k) n) self.now) }
+        ensures too_deep { IfErr result (λ e. e ≡ TooDeep → AreBeyond (terms_of (map (walk (lift_var k) n) self.now))) }
+    {
+        let mut items = Vec::new(alloc);
+        for t in &self.items {
+            let t = t.lift_above(alloc, k, n)?;
+            if items.push(t).is_err() {
+                return Err(MakeFault::Memory);
+            }
+        }
+        Ok(Terms { items })
+    }
+}
+
+impl Branches {
+    #[cycle(lift)]
+    #[tactic(auto, using(crate::proofs::Parts::part_laws, trees::proofs::Closed::closed_laws, std::proofs::lemmas::Grind::common_steps))]
+    fn lift_above(&self, alloc: Global, k: u32, n: u64) -> Result<Branches, MakeFault>
+        requires { n < 2 ^ 32 }
+        ensures ok { IfOk result (λ out. out ≡ map (walk_branch (lift_var k) n) self.now) }
+        ensures too_deep { IfErr result (λ e. e ≡ TooDeep → AreBeyond (arms_of (map (walk_branch (lift_var k) n) self.now))) }
+    {
+        let mut items = Vec::new(alloc);
+        for b in &self.items {
+            let binders = b.binders;
+            let body = b.body.lift_above(alloc, k, n + u64::from(binders))?;
+            if items.push(Branch { binders, body }).is_err() {
+                return Err(MakeFault::Memory);
+            }
+        }
+        Ok(Branches { items })
+    }
+}
+
+impl Defs {
+    #[cycle(lift)]
+    #[tactic(auto, using(crate::proofs::Parts::part_laws, trees::proofs::Closed::closed_laws, std::proofs::lemmas::Grind::common_steps))]
+    fn lift_above(&self, alloc: Global, k: u32, n: u64) -> Result<Defs, MakeFault>
+        requires { n < 2 ^ 32 }
+        ensures ok { IfOk result (λ out. out ≡ map (walk_def (lift_var k) n (length self.now)) self.now) }
+        ensures too_deep { IfErr result (λ e. e ≡ TooDeep → AreBeyondDefs (map (walk_def (lift_var k) n (length self.now)) self.now)) }
+    {
+        let inner = n + self.items.len() as u64;
+        let mut items = Vec::new(alloc);
+        for d in &self.items {
+            let rarg = d.rarg;
+            let ty = d.ty.lift_above(alloc, k, n)?;
+            let body = d.body.lift_above(alloc, k, inner)?;
+            if items.push(Def { ty, body, rarg }).is_err() {
+                return Err(MakeFault::Memory);
+            }
+        }
+        Ok(Defs { items })
+    }
+}
+
+impl Match {
+    #[cycle(lift)]
+    #[tactic(auto, using(crate::proofs::Parts::part_laws, trees::proofs::Closed::closed_laws, std::proofs::lemmas::Grind::common_steps))]
+    fn lift_above(&self, alloc: Global, k: u32, n: u64) -> Result<Match, MakeFault>
+        requires { n < 2 ^ 32 }
+        ensures ok { IfOk result (λ m. m ≡ walk_match (lift_var k) n self.now) }
+        ensures too_deep { IfErr result (λ e. e ≡ TooDeep → IsBeyond (tree_of (Case (walk_match (lift_var k) n self.now)))) }
+    {
+        let params = self.params.lift_above(alloc, k, n)?;
+        let ret = self.ret.lift_above(alloc, k, n + u64::from(self.binders))?;
+        let scrut = self.scrut.lift_above(alloc, k, n)?;
+        let branches = self.branches.lift_above(alloc, k, n)?;
+        Ok(Match {
+            family: self.family,
+            params,
+            binders: self.binders,
+            ret,
+            scrut,
+            branches,
+        })
+    }
+}
+
+impl Term {
+    #[cycle(lift)]
+    #[tactic(auto, using(crate::proofs::Parts::part_laws, trees::proofs::Closed::closed_laws, std::proofs::lemmas::Grind::common_steps))]
+    pub(crate) fn lift_above(&self, alloc: Global, k: u32, n: u64) -> Result<Term, MakeFault>
+        ensures ok { IfOk result (λ t. t ≡ walk (lift_var k) n self.now) }
+        ensures within { IfOk result IsWithin }
+        ensures too_deep { IfErr result (λ e. e ≡ TooDeep → IsBeyond (walk (lift_var k) n self.now)) }
+    {
+        if self.loose() <= n {
+            return self.share();
+        }
+        match self.view() {
+            Node::Rel(i) => match i.checked_add(k) {
+                Some(j) => Term::make(alloc, Node::Rel(j)),
+                None => Err(MakeFault::TooDeep),
+            },
+            Node::Sort(_) => self.share(),
+            Node::Prod(domain, codomain) => {
+                let domain = domain.lift_above(alloc, k, n)?;
+                let codomain = codomain.lift_above(alloc, k, n + 1)?;
+                Term::make(alloc, Node::Prod(domain, codomain))
+            }
+            Node::Lambda(domain, body) => {
+                let domain = domain.lift_above(alloc, k, n)?;
+                let body = body.lift_above(alloc, k, n + 1)?;
+                Term::make(alloc, Node::Lambda(domain, body))
+            }
+            Node::LetIn(value, ty, body) => {
+                let value = value.lift_above(alloc, k, n)?;
+                let ty = ty.lift_above(alloc, k, n)?;
+                let body = body.lift_above(alloc, k, n + 1)?;
+                Term::make(alloc, Node::LetIn(value, ty, body))
+            }
+            Node::App(function, argument) => {
+                let function = function.lift_above(alloc, k, n)?;
+                let argument = argument.lift_above(alloc, k, n)?;
+                Term::make(alloc, Node::App(function, argument))
+            }
+            Node::Const(_) => self.share(),
+            Node::Ind(_) => self.share(),
+            Node::Construct(_, _) => self.share(),
+            Node::Case(m) => {
+                let m = m.lift_above(alloc, k, n)?;
+                Term::make(alloc, Node::Case(m))
+            }
+            Node::Fix(ds, i) => {
+                let ds = ds.lift_above(alloc, k, n)?;
+                Term::make(alloc, Node::Fix(ds, *i))
+            }
+        }
+    }
+}

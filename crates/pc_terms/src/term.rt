@@ -1,0 +1,273 @@
+//! A term and its node.
+ghost use Rattle.std.specs.Prelude.{◌≡◌, ◌≤◌, ◌^◌, ℕ, Result, Err, IfOk, IfErr};
+ghost use Rattle.trees.specs.Closed.{Closed};
+ghost use Rattle.trees.specs.Measures.{depth, loose, IsWithin, IsBeyond};
+ghost use Rattle.pc_terms.specs.Syntax.{HasIndex};
+ghost use Rattle.pc_terms.specs.View.{tree_of};
+ghost use Rattle.pc_terms.specs.declared.term.MakeFault.TheVariants.{TooDeep, Memory};
+
+use crate::leaf::{FamilyId, Name};
+use std::alloc::Global;
+use std::marker::Model;
+use std::rc::Rc;
+use thiserror::Error;
+use universe_levels::sort::Sort;
+
+/// A term: a shared node, which keeps its depth and its loose bound.
+///
+/// Contracts see it as a tree. Its depth is at most 2,048, and its variables are numbers of 32 bits.
+#[cycle(term)]
+#[derive(Drop)]
+pub struct Term {
+    rc: Rc<Inner>,
+}
+
+#[cycle(term)]
+#[derive(Drop)]
+struct Inner {
+    depth: u32,
+    loose: u64,
+    node: Node,
+}
+
+/// A node of a term: one of its formers, with its parts.
+///
+/// Variables are de Bruijn indices: `Rel(0)` is the variable of the innermost binder.
+#[cycle(term)]
+#[derive(Drop)]
+pub enum Node {
+    /// A variable, by its index.
+    Rel(u32),
+    Sort(Sort),
+    /// A product: its domain, and its codomain under one variable.
+    Prod(Term, Term),
+    /// A function: its domain, and its body under one variable.
+    Lambda(Term, Term),
+    /// A definition: the value, its type, and the body under one variable.
+    LetIn(Term, Term, Term),
+    /// A function applied to an argument.
+    App(Term, Term),
+    Const(Name),
+    Ind(FamilyId),
+    /// A constructor, by its place in the family from 0.
+    Construct(FamilyId, u32),
+    Case(Match),
+    /// One of the definitions of a fixpoint, by its place from 0.
+    Fix(Defs, u32),
+}
+
+/// A match on a value of an inductive family.
+///
+/// The predicate `ret` is under `binders` variables: the family's indices and, innermost, the scrutinee. The parameters and the
+/// scrutinee are under none.
+#[cycle(term)]
+#[derive(Drop)]
+pub struct Match {
+    pub family: FamilyId,
+    pub params: Terms,
+    pub binders: u32,
+    pub ret: Term,
+    pub scrut: Term,
+    pub branches: Branches,
+}
+
+/// A branch of a match: its body, under `binders` variables, one for each argument of its constructor.
+#[cycle(term)]
+#[derive(Drop)]
+pub struct Branch {
+    pub binders: u32,
+    pub body: Term,
+}
+
+/// A definition of a fixpoint: its type, its body, which is under one variable for each definition of the fixpoint (the last definition
+/// is variable 0), and the place of the argument that it recurses on, from 0.
+#[cycle(term)]
+#[derive(Drop)]
+pub struct Def {
+    pub ty: Term,
+    pub body: Term,
+    pub rarg: u32,
+}
+
+/// A list of terms.
+#[cycle(term)]
+#[derive(Drop)]
+pub struct Terms {
+    pub(crate) items: Vec<Term>,
+}
+
+/// A list of branches.
+#[cycle(term)]
+#[derive(Drop)]
+pub struct Branches {
+    pub(crate) items: Vec<Branch>,
+}
+
+/// A list of definitions.
+#[cycle(term)]
+#[derive(Drop)]
+pub struct Defs {
+    pub(crate) items: Vec<Def>,
+}
+
+impl Model for Terms {
+    ghost use Rattle.std.specs.Prelude.{List, ◌+◌, ◌*◌};
+    ghost use Rattle.std.specs.Coded.{coded_list};
+    ghost use Rattle.pc_terms.specs.Syntax.{Term};
+    ghost use Rattle.pc_terms.specs.Code.{coded_term};
+
+    ghost Value = { List Term };
+
+    ghost coded = { coded_list coded_term };
+
+    ghost use Rattle.trees.specs.Tree.{terms_of};
+    ghost use Rattle.trees.specs.Measures.{depth_trees};
+
+    ghost view = { λ a. a.items.items };
+
+    ghost size = { λ xs. 2 * depth_trees (terms_of xs) + 1 };
+
+    ghost use Rattle.std.proofs.Common.{arith};
+    ghost use Rattle.pc_terms.specs.Falls.{most_le-depth_trees};
+
+    ghost size_decreases = { λ a h. omega (arith, most_le-depth_trees a.items.items) };
+}
+
+impl Model for Branches {
+    ghost use Rattle.std.specs.Prelude.{List, ◌+◌, ◌*◌};
+    ghost use Rattle.std.specs.Coded.{coded_list};
+    ghost use Rattle.pc_terms.specs.declared.term.Branch.{Branch};
+    ghost use Rattle.pc_terms.specs.Codes.{coded_branch};
+
+    ghost Value = { List Branch };
+
+    ghost coded = { coded_list coded_branch };
+
+    ghost use Rattle.trees.specs.Measures.{depth_trees};
+    ghost use Rattle.pc_terms.specs.Lists.{arms_of};
+
+    ghost view = { λ a. a.items.items };
+
+    ghost size = { λ xs. 2 * depth_trees (arms_of xs) + 1 };
+
+    ghost use Rattle.std.proofs.Common.{arith};
+    ghost use Rattle.pc_terms.specs.Falls.{most_le-depth_arms};
+
+    ghost size_decreases = { λ a h. omega (arith, most_le-depth_arms a.items.items) };
+}
+
+impl Model for Defs {
+    ghost use Rattle.std.specs.Prelude.{List, ◌+◌, ◌*◌};
+    ghost use Rattle.std.specs.Coded.{coded_list};
+    ghost use Rattle.pc_terms.specs.declared.term.Def.{Def};
+    ghost use Rattle.pc_terms.specs.Codes.{coded_def};
+
+    ghost Value = { List Def };
+
+    ghost coded = { coded_list coded_def };
+
+    ghost use Rattle.pc_terms.specs.Lists.{depth_defs};
+
+    ghost view = { λ a. a.items.items };
+
+    ghost size = { λ xs. 2 * depth_defs xs + 1 };
+
+    ghost use Rattle.std.proofs.Common.{arith};
+    ghost use Rattle.pc_terms.specs.Falls.{most_le-depth_defs};
+
+    ghost size_decreases = { λ a h. omega (arith, most_le-depth_defs a.items.items) };
+}
+
+impl Model for Term {
+    ghost use Rattle.std.specs.Prelude.{◌*◌};
+    ghost use Rattle.pc_terms.specs.Syntax.{Term};
+    ghost use Rattle.trees.specs.Measures.{depth};
+    ghost use Rattle.pc_terms.specs.Code.{coded_term};
+
+    ghost Value = { Term };
+
+    ghost coded = { coded_term };
+
+    ghost use Rattle.pc_terms.specs.Counted.{IsCounted};
+    ghost use Rattle.pc_terms.specs.View.{tree_of};
+
+    ghost view = { λ t. tree_of t.rc.value.node };
+
+    ghost invariant = { λ t. IsCounted t.rc.value.depth t.rc.value.loose (tree_of t.rc.value.node) };
+
+    ghost size = { λ t. 2 * depth t };
+}
+
+/// Why a term was not made.
+#[derive(Clone, Copy, Debug, PartialEq, Eq, Error)]
+pub enum MakeFault {
+    /// The term asked for has a depth over 2,048 or a variable number over 4,294,967,295.
+    #[error("the term is too deep")]
+    TooDeep,
+    /// There was no memory.
+    #[error("out of memory")]
+    Memory,
+}
+
+impl Term {
+    /// The term of a node.
+    ///
+    /// A fixpoint's index is below the number of its definitions. `TooDeep` where the term has a depth over 2,048: a node without
+    /// subterms has depth 1, another one more than its deepest subterm.
+    pub fn make(alloc: Global, node: Node) -> Result<Term, MakeFault>
+        requires { HasIndex (tree_of node) }
+        ensures ok { IfOk result (λ t. t ≡ tree_of node) }
+        ensures within { IfOk result IsWithin }
+        ensures too_deep { IfErr result (λ e. e ≡ TooDeep → IsBeyond (tree_of node)) }
+        ensures beyond { IsBeyond (tree_of node) → result ≡ Err TooDeep }
+    {
+        let depth = node.depth();
+        if depth > 2048 {
+            return Err(MakeFault::TooDeep);
+        }
+        let loose = node.loose();
+        match Rc::new(alloc, Inner { depth, loose, node }) {
+            Ok(rc) => Ok(Term { rc }),
+            Err(_) => Err(MakeFault::Memory),
+        }
+    }
+
+    /// The node of the term, as it was made.
+    pub fn view(&self) -> &Node
+        ensures is { tree_of result.now ≡ self.now }
+        ensures indexed { HasIndex self.now }
+    {
+        &self.rc.node
+    }
+
+    /// The depth of the term: 1 for a node without subterms, and else one more than its deepest subterm's.
+    pub fn depth(&self) -> u32
+        ensures is { result ≡ depth self.now }
+        ensures within { IsWithin self.now }
+    {
+        self.rc.depth
+    }
+
+    /// The least k such that the term is closed below k: no variable that its own binders leave free has a number of k or more.
+    #[tactic(auto, using(trees::proofs::Closed::loose_laws))]
+    pub fn loose(&self) -> u64
+        ensures is { result ≡ loose self.now }
+        ensures closed { Closed result self.now }
+        ensures least { (k : ℕ) → Closed k self.now → result ≤ k }
+        ensures small { result ≤ 2 ^ 32 }
+    {
+        self.rc.loose
+    }
+
+    /// The same term, shared with this one.
+    pub fn share(&self) -> Result<Term, MakeFault>
+        ensures ok { IfOk result (λ t. t ≡ self.now) }
+        ensures within { IfOk result IsWithin }
+        ensures only_memory { IfErr result (λ e. e ≡ Memory) }
+    {
+        match self.rc.clone() {
+            Ok(rc) => Ok(Term { rc }),
+            Err(_) => Err(MakeFault::Memory),
+        }
+    }
+}

@@ -1,0 +1,7 @@
+use Rattle.std.proofs.Common.{◌≤◌, suc, take}
+use Rattle.std.specs.List.{All}
+use Rattle.universe_graph.specs.Spans.{chained, span}
+use Rattle.universe_graph.proofs.cover.covers_part.Given as goal
+
+abbrev pub invariant-loop-above : goal.invariant-loop-above
+invariant-loop-above l = All (λ h. chained (suc h.add) (span l.rows l.part.level.0 h.level.0) ≤ l.part.add) (take l.above-index l.high)

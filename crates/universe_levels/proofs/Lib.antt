@@ -1,0 +1,4 @@
+pub mod MaximumLemmas
+pub mod OverLemmas
+pub mod Placing
+pub mod Raising

@@ -1,0 +1,6 @@
+pub mod Consistency
+pub mod Maximum
+pub mod Parts
+pub mod Places
+pub mod Sorts
+pub mod Valuation
