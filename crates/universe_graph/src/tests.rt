@@ -106,6 +106,7 @@ fn lists_the_cycle_alone(rt: HostRuntime) -> Result<(), Fail> {
     for (triples, want) in rows {
         let listed = cycle(rt.alloc(), triples)?.ok_or("no cycle")?;
         assert_eq!(rt; listed.as_slice(), want);
+        assert_eq!(rt; listed.into_vec().as_slice(), want);
     }
     Ok(())
 }
