@@ -5,3 +5,5 @@ pub mod View
 pub mod Counted
 pub mod Codes
 pub mod Falls
+pub mod BoxSyntax
+pub mod BoxCode

@@ -1,0 +1,13 @@
+pub mod Words
+pub mod Values
+pub mod Language
+pub mod Things
+pub mod Exact
+pub mod Law
+pub mod FirstRefusal
+pub mod Within
+pub mod Numbering
+pub mod RefusedTexts
+pub mod AcceptedTexts
+pub mod Verdicts
+pub mod CountedTexts
