@@ -1,0 +1,13 @@
+pub mod Congruence
+pub mod Bare
+pub mod Spines
+pub mod OneEach
+pub mod Determined
+pub mod WeakHead
+pub mod WeakNext
+pub mod Fair
+pub mod FairReduction
+pub mod FairRules
+pub mod FairTyping
+pub mod Examples
+pub mod SameTrees

@@ -1,0 +1,37 @@
+-- Each name of an accepted environment has one declaration.
+use Rattle.std.proofs.Common.{◌≡◌, ℕ, List, Option, Some, None, refl, sym, ap, ◌∙◌}
+use Rattle.universe_levels.specs.declared.constraint.Constraint.{Constraint}
+use Rattle.pc_terms.specs.Syntax.{Term}
+use Rattle.pc_rules.specs.declared.declaration.Block.{Block}
+use Rattle.pc_rules.specs.declared.declaration.Kept.{Kept}
+use Rattle.pc_rules.specs.declared.declaration.Kept.TheVariants.{Constant, Block as Whole}
+use Rattle.pc_rules.specs.Environment.{Env, Has, here, there, name_of, family_at}
+use Rattle.pc_rules.specs.Accepted.{Accepted, empty, constant, block, IsAccepted}
+use Rattle.pc_rules.specs.Laws.{OneEach}
+use Rattle.pc_rules.proofs.Spines.{one_item}
+
+one_declaration : {n : ℕ} {cs : List Constraint} {ds : List Kept} {d d' : Kept} → Accepted n cs ds → Has ds d → Has ds d' → name_of d ≡ name_of d' → d ≡ d'
+one_declaration empty h h' e = elim h [ ]
+one_declaration (constant a f p q) here here e = refl
+one_declaration (constant a f p q) here (there h') e = absurd (f _ h' (sym e))
+one_declaration (constant a f p q) (there h) here e = absurd (f _ h e)
+one_declaration (constant a f p q) (there h) (there h') e = one_declaration a h h' e
+one_declaration (block a f p) here here e = refl
+one_declaration (block a f p) here (there h') e = absurd (f _ h' (sym e))
+one_declaration (block a f p) (there h) here e = absurd (f _ h e)
+one_declaration (block a f p) (there h) (there h') e = one_declaration a h h' e
+
+body_in : Kept → Option Term
+body_in (Constant k T b) = b
+body_in _ = None
+
+block_in : Kept → Option Block
+block_in (Whole B) = Some B
+block_in _ = None
+
+pub one_of_each : (E : Env) → IsAccepted E → OneEach E
+unfolding body_in block_in
+one_of_each E a = record {
+  bodies = λ k T T' b b' h h'. one_item (ap body_in (one_declaration a.declarations h h' refl));
+  families = λ f F G h h'. one_item (sym h.3 ∙ ap (λ B. family_at B f.family) (one_item (ap block_in (one_declaration a.declarations h.1 h'.1 (h.2 ∙ sym h'.2)))) ∙ h'.3);
+}

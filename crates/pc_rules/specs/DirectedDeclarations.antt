@@ -1,0 +1,249 @@
+-- The directed rules of levels, constraints, the graph, declarations and main, in this order.
+use Rattle.std.specs.Prelude.{ℕ, suc, ◌+◌, ◌==◌, ◌||◌, ◌&&◌, not, Bool, false, if◌then◌else◌, nat_le, List, [], ◌∷◌, length, Option, Some, None}
+use Rattle.universe_levels.specs.declared.level.Level.{Level}
+use Rattle.universe_levels.specs.declared.sort.Sort.{Sort}
+use Rattle.universe_levels.specs.declared.sort.Sort.TheVariants.{Prop, Of}
+use Rattle.universe_levels.specs.declared.constraint.Constraint.{Constraint}
+use Rattle.pc_terms.specs.declared.leaf.Name.{Name}
+use Rattle.pc_terms.specs.Syntax.{Slot, Label, IndOf, ConstructOf, CaseOf, Term, Terms, Children, End, Child, Group, Next, Node, Rel, Prod, Ind, head, args}
+use Rattle.pc_terms.specs.Syntax as syntax
+use Rattle.pc_rules.specs.declared.declaration.Constructor.{Constructor}
+use Rattle.pc_rules.specs.declared.declaration.Family.{Family}
+use Rattle.pc_rules.specs.declared.declaration.Block.{Block}
+use Rattle.pc_rules.specs.declared.declaration.Kept.{Kept}
+use Rattle.pc_rules.specs.declared.declaration.Kept.TheVariants.{Constant, Heads, Block as Whole}
+use Rattle.pc_rules.specs.declared.entry.Entry.TheVariants.{Assumed}
+use Rattle.pc_rules.specs.declared.broken.Broken.{Broken}
+use Rattle.pc_rules.specs.declared.broken.Broken.TheVariants.{LevelUndeclared, UniverseCycle, NotPositive, SortTooSmall, DuplicateName}
+use Rattle.pc_rules.specs.declared.broken.Place.{Place}
+use Rattle.pc_rules.specs.declared.broken.Place.TheVariants.{Level as AtLevel, Constraint as AtConstraint, Declaration as AtDeclaration, Main as AtMain}
+use Rattle.pc_rules.specs.declared.meter.Account.{Account}
+use Rattle.pc_rules.specs.Environment.{Env, heads_of}
+use Rattle.pc_rules.specs.Context.{Context, extend}
+use Rattle.pc_rules.specs.Accepted.{env}
+use Rattle.pc_rules.specs.Same.{same_names}
+use Rattle.pc_rules.specs.DirectedRun as run
+use Rattle.pc_rules.specs.DirectedRun.{Run, Act, done, refused, bind}
+use Rattle.pc_rules.specs.DirectedWeakHead.{kept_at}
+use Rattle.pc_rules.specs.DirectedComparison.{Test, Comparison, compare, sort_below}
+use Rattle.pc_rules.specs.DirectedTyping.{Typing, infer, sort_of, sorts_of, check, check_all, counted, undeclared_in, levels_declared}
+
+-- positivity, as a test
+
+abbrev pub names_label : Name → Label → Bool
+names_label k (IndOf f) = same_names f.block k
+names_label k (ConstructOf f c) = same_names f.block k
+names_label k (CaseOf f n) = same_names f.block k
+names_label k _ = false
+
+abbrev mutual
+  pub names_block : Name → Term → Bool
+  names_block k (Rel i) = false
+  names_block k (Node l ts) = names_label k l || names_block_children k ts
+
+  pub names_block_children : Name → {ss : List Slot} → Children ss → Bool
+  names_block_children k End = false
+  names_block_children k (Child t ts) = names_block k t || names_block_children k ts
+  names_block_children k (Group us ts) = names_block_terms k us || names_block_children k ts
+
+  pub names_block_terms : Name → Terms → Bool
+  names_block_terms k syntax.Done = false
+  names_block_terms k (Next n t ts) = names_block k t || names_block_terms k ts
+
+abbrev pub some_names : Name → List Term → Bool
+some_names k [] = false
+some_names k (t ∷ ts) = names_block k t || some_names k ts
+
+abbrev pub is_of_block : Name → Term → Bool
+is_of_block k (Ind f) = same_names f.block k
+is_of_block k _ = false
+
+abbrev pub is_positive : Name → Term → Bool
+is_positive k (Prod A B) = not (names_block k A) && is_positive k B
+is_positive k A = not (names_block k A) || (is_of_block k (head A) && not (some_names k (args A)))
+
+-- a block's heads
+
+abbrev pub has_name : Name → List Constructor → Bool
+has_name k [] = false
+has_name k (C ∷ Cs) = same_names C.name k || has_name k Cs
+
+-- each constructor's name is none of those before it
+abbrev pub distinct_names : List Constructor → List Constructor → Act
+distinct_names before [] u = done tt u
+distinct_names before (C ∷ Cs) u = if has_name C.name before then refused (DuplicateName C.name.0) u else distinct_names (C ∷ before) Cs u
+
+abbrev pub family_head : Env → Typing → Block → Family → Act
+family_head E inf B F u =
+    bind (distinct_names [] F.ctors u) (λ _ v.
+    bind (levels_declared (undeclared_in E.levels F.sort) v) (λ _ w.
+    bind (sorts_of E inf (extend [] B.params) F.indices w) (λ ss x. done tt x)))
+
+abbrev pub family_heads : Env → Typing → Block → List Family → Act
+family_heads E inf B [] u = done tt u
+family_heads E inf B (F ∷ Fs) u = bind (family_head E inf B F u) (λ _ v. family_heads E inf B Fs v)
+
+abbrev pub heads_rule : Env → Typing → Block → Act
+heads_rule E inf B u = bind (sorts_of E inf [] B.params u) (λ ss v. family_heads E inf B B.families v)
+
+-- a block's constructors: f and n are the places of the family and of the constructor
+
+abbrev pub fits_sort : Test → Sort → Sort → Act
+fits_sort q Prop s u = done tt u
+fits_sort q (Of w) s u = if sort_below q s (Of w) then done tt u else refused (SortTooSmall s (Of w)) u
+
+abbrev pub positive_rule : Name → ℕ → ℕ → Term → Act
+positive_rule k f n A u = if is_positive k A then done tt u else refused (NotPositive f n) u
+
+unfoldable pub arguments_rule : Env → Test → Typing → Name → ℕ → ℕ → Sort → Context → List Term → Account → Run (List Sort)
+arguments_rule H q inf k f n r c [] u = done [] u
+arguments_rule H q inf k f n r c (A ∷ As) u =
+    bind (sort_of H inf c A u) (λ s v.
+    bind (fits_sort q r s v) (λ _ w.
+    bind (positive_rule k f n A w) (λ _ x.
+    bind (arguments_rule H q inf k f n r (Assumed A ∷ c) As x) (λ ss y. done (s ∷ ss) y))))
+
+abbrev pub result_names : Name → ℕ → ℕ → List Term → Act
+result_names k f n ts u = if some_names k ts then refused (NotPositive f n) u else done tt u
+
+-- the constructor with the sorts of its arguments
+abbrev pub with_sorts : Constructor → List Sort → Constructor
+with_sorts C ss = record { name = C.name; args = C.args; arg_sorts = ss; result = C.result }
+
+abbrev pub constructor_rule : Env → Test → Typing → Comparison → Block → Family → ℕ → ℕ → Constructor → Account → Run Constructor
+constructor_rule H q inf cmp B F f n C u =
+    bind (arguments_rule H q inf B.name f n F.sort (extend [] B.params) C.args u) (λ ss v.
+    bind (counted (length F.indices) (length C.result) v) (λ _ w.
+    bind (check_all H inf cmp (extend (extend [] B.params) C.args) (λ i. Rel (length C.args + i)) C.result F.indices w) (λ _ x.
+    bind (result_names B.name f n C.result x) (λ _ y. done (with_sorts C ss) y))))
+
+unfoldable pub constructors_rule : Env → Test → Typing → Comparison → Block → Family → ℕ → ℕ → List Constructor → Account → Run (List Constructor)
+constructors_rule H q inf cmp B F f n [] u = done [] u
+constructors_rule H q inf cmp B F f n (C ∷ Cs) u =
+    bind (constructor_rule H q inf cmp B F f n C u) (λ D v. bind (constructors_rule H q inf cmp B F f (suc n) Cs v) (λ Ds w. done (D ∷ Ds) w))
+
+abbrev pub with_constructors : Family → List Constructor → Family
+with_constructors F Cs = record { name = F.name; sort = F.sort; indices = F.indices; ctors = Cs }
+
+unfoldable pub families_rule : Env → Test → Typing → Comparison → Block → ℕ → List Family → Account → Run (List Family)
+families_rule H q inf cmp B f [] u = done [] u
+families_rule H q inf cmp B f (F ∷ Fs) u =
+    bind (constructors_rule H q inf cmp B F f 0 F.ctors u) (λ Cs v.
+    bind (families_rule H q inf cmp B (suc f) Fs v) (λ Gs w. done (with_constructors F Cs ∷ Gs) w))
+
+abbrev pub with_families : Block → List Family → Block
+with_families B Fs = record { name = B.name; params = B.params; families = Fs }
+
+-- the environment in which a block's constructors are typed: its families are known by their types alone
+abbrev pub with_heads : Env → Block → Env
+with_heads E B = env E.levels E.constraints (Heads (heads_of B) ∷ E.declarations)
+
+-- a block, given without argument sorts, with them; n rules may still stand in one another
+abbrev pub block_rule : Env → Test → ℕ → Block → Account → Run Block
+block_rule E q n B u =
+    bind (heads_rule E (infer E q n) B u) (λ _ v.
+    bind (families_rule (with_heads E B) q (infer (with_heads E B) q n) (compare (with_heads E B) q n) B 0 B.families v) (λ Fs w.
+    done (with_families B Fs) w))
+
+-- a constant
+
+abbrev pub body_rule : Env → Typing → Comparison → Term → Option Term → Act
+body_rule E inf cmp T None u = done tt u
+body_rule E inf cmp T (Some b) u = check E inf cmp [] b T u
+
+abbrev pub constant_rule : Env → Test → ℕ → Name → Term → Option Term → Account → Run Kept
+constant_rule E q n k T b u =
+    bind (sort_of E (infer E q n) [] T u) (λ s v.
+    bind (body_rule E (infer E q n) (compare E q n) T b v) (λ _ w. done (Constant k T b) w))
+
+-- a declaration, given without argument sorts
+abbrev pub fresh_name : Option Kept → Name → Act
+fresh_name None k u = done tt u
+fresh_name (Some d) k u = refused (DuplicateName k.0) u
+
+abbrev pub declaration_rule : Env → Test → ℕ → Kept → Account → Run Kept
+declaration_rule E q n (Constant k T b) u = bind (fresh_name (kept_at E.declarations k) k u) (λ _ v. constant_rule E q n k T b v)
+declaration_rule E q n (Whole B) u =
+    bind (fresh_name (kept_at E.declarations B.name) B.name u) (λ _ v. bind (block_rule E q n B v) (λ D w. done (Whole D) w))
+declaration_rule E q n (Heads B) u = done (Heads B) u
+
+-- how the check of a whole environment ends
+pub data Outcome : Type 0 where
+  Accepts : Env → Term → Account → Outcome  -- the environment, and main's type
+  Breaks : Place → Broken → Account → Outcome
+  Spends Nests : Outcome
+
+pub record Checked : Type 0 where
+  pub outcome : Outcome
+  pub deep : Bool
+
+abbrev pub placed_end : {A : Type 0} → Place → run.End A → (A → Account → Outcome) → Outcome
+placed_end p (run.Done a u) k = k a u
+placed_end p (run.Refused b u) k = Breaks p b u
+placed_end p run.NoUnit k = Spends
+placed_end p run.Nested k = Nests
+
+-- what is done at a place, and then the rest
+unfoldable pub placed : {A : Type 0} → Place → Run A → (A → Account → Checked) → Checked
+placed p r k = record {
+  outcome = placed_end p r.end (λ a u. (k a u).outcome);
+  deep = r.deep || run.deep_then r.end (λ a u. (k a u).deep);
+}
+
+abbrev pub breaks : Place → Broken → Account → Checked
+breaks p b u = record { outcome = Breaks p b u; deep = false }
+
+-- levels, as they are listed: none is listed twice
+abbrev pub has_level : Level → List Level → Bool
+has_level l [] = false
+has_level l (m ∷ ms) = (l.0 == m.0) || has_level l ms
+
+abbrev pub first_repeated : ℕ → List Level → List Level → Option (ℕ × Level)
+first_repeated i before [] = None
+first_repeated i before (l ∷ ls) = if has_level l before then Some (i, l) else first_repeated (suc i) (l ∷ before) ls
+
+-- constraints: each names declared levels
+abbrev pub undeclared_end : ℕ → Constraint → Option Level
+undeclared_end n c = if nat_le c.left.0 n then (if nat_le c.right.0 n then None else Some c.right) else Some c.left
+
+abbrev pub first_end : ℕ → Option Level → Option (ℕ × Level) → Option (ℕ × Level)
+first_end i None rest = rest
+first_end i (Some l) rest = Some (i, l)
+
+abbrev pub first_undeclared_end : ℕ → ℕ → List Constraint → Option (ℕ × Level)
+first_undeclared_end n i [] = None
+first_undeclared_end n i (c ∷ cs) = first_end i (undeclared_end n c) (first_undeclared_end n (suc i) cs)
+
+-- main
+abbrev pub main_rule : Env → Test → ℕ → Term → Account → Checked
+main_rule E q n main u = placed AtMain (infer E q n [] main u) (λ T v. record { outcome = Accepts E T v; deep = false })
+
+-- declarations, from place i on; and then main
+unfoldable pub declarations_rule : ℕ → List Constraint → Test → ℕ → ℕ → List Kept → List Kept → Term → Account → Checked
+declarations_rule levels cs q n i ds [] main u = main_rule (env levels cs ds) q n main u
+declarations_rule levels cs q n i ds (d ∷ rest) main u =
+    placed (AtDeclaration i) (declaration_rule (env levels cs ds) q n d u) (λ k v. declarations_rule levels cs q n (suc i) (k ∷ ds) rest main v)
+
+abbrev pub place_of : List ℕ → Place
+place_of [] = AtConstraint 0
+place_of (i ∷ is) = AtConstraint i
+
+-- the graph: `cycle` is a list of the places of constraints that alone have no valuation, where the constraints are inconsistent
+abbrev pub graph_rule : Option (List ℕ) → Checked → Account → Checked
+graph_rule None go u = go
+graph_rule (Some is) go u = breaks (place_of is) (UniverseCycle is) u
+
+abbrev pub constraints_rule : Option (ℕ × Level) → Checked → Account → Checked
+constraints_rule None go u = go
+constraints_rule (Some p) go u = breaks (AtConstraint p.0) (LevelUndeclared p.1) u
+
+abbrev pub levels_rule : Option (ℕ × Level) → Checked → Account → Checked
+levels_rule None go u = go
+levels_rule (Some p) go u = breaks (AtLevel p.0) (DuplicateName p.1.0) u
+
+-- the whole: levels, constraints, the graph, the declarations in order, main
+abbrev pub environment_rule : List Level → List Constraint → Option (List ℕ) → Test → List Kept → Term → Account → Checked
+environment_rule levels cs cycle q ds main u =
+    levels_rule (first_repeated 0 [] levels)
+    (constraints_rule (first_undeclared_end (length levels) 0 cs)
+    (graph_rule cycle (declarations_rule (length levels) cs q 2048 0 [] ds main u) u) u) u

@@ -1,0 +1,34 @@
+//! Sanity laws of the directed rules, as functions with no result but their contract.
+ghost use Rattle.pc_rules.specs.DirectedLaws.{
+  SameIsOneTree,
+  DirectedStepsAreSteps,
+  DirectedStepsAreWeakSteps,
+  DirectedWhnfIsReached,
+  WhnfIsSteady,
+  ComparisonIsSteady,
+  GuardIsSteady,
+  InferenceIsSteady,
+  BlocksAreSteady,
+};
+
+/// The test of sameness in the directed rules is true exactly where two terms are one tree.
+pub fn sameness_is_of_trees()
+    ensures same { SameIsOneTree }
+{}
+
+/// The weak-head step that the directed rules find is a weak-head step of reduction, and so a step; and the weak-head normal form that
+/// they end with is reached by such steps.
+pub fn directed_steps_are_steps()
+    ensures steps { DirectedStepsAreSteps }
+    ensures weak_steps { DirectedStepsAreWeakSteps }
+    ensures reached { DirectedWhnfIsReached }
+{}
+
+/// The directed rules never go back on units, and more units change no result or refusal: they only leave as many more.
+pub fn directed_rules_are_steady()
+    ensures weak_head { WhnfIsSteady }
+    ensures comparison { ComparisonIsSteady }
+    ensures guard { GuardIsSteady }
+    ensures inference { InferenceIsSteady }
+    ensures blocks { BlocksAreSteady }
+{}
