@@ -16,7 +16,7 @@ use Rattle.wasm_core.proofs.Enumeration.{enumeration_answers}
 
 -- a machine's step is a step of a run
 step-is : (m : Parts) (cap : ℕ) (s t : State) → Move m cap s t → Step m s t
-step-is m cap (At c) t h = (grants cap c, h)
+step-is m cap (At c) t h = (grants m cap c, h)
 step-is m cap (Over e store) t h = h
 
 reached : (m : Parts) (cap k : ℕ) (s t : State) → Moves m cap k s t → Reach m k s t

@@ -17,7 +17,7 @@ use Rattle.dump_grammar.proofs.Values.{counted, with_levels, with_constraints, w
 use Rattle.dump_grammar.specs.Named.{NamedEnv}
 use Rattle.dump_grammar.specs.Environments.{Dump, dump, env_of, constraint_meaning, Spells}
 use Rattle.dump_grammar.specs.Table.{VNames, VConstraints, VDecls, VEnv, MakeEnv, start, Outcome, Accepted, Refused, after, run}
-use Rattle.dump_grammar.specs.Exactness.{Begins, IsDead, StopsAt, Meets, IsExact}
+use Rattle.dump_grammar.specs.Exactness.{Begins, IsDead, Meets, IsExact}
 use Rattle.dump_grammar.proofs.Words.{word-is, comparison-is}
 use Rattle.dump_grammar.proofs.Values.{levels-value, constraints-value, declarations-value}
 use Rattle.dump_grammar.proofs.Language.{run-step, do-then, type-head, names-read, levels-read, sort-read, form-read, arguments-read, terms-read, branches-read, definitions-read, bindings-read, constructors-read, families-read, parts-read, constraints-read, body-read, declarations-read}
@@ -305,15 +305,14 @@ alive front is vs reached =
     let (env, v, p) = outcome_meets (front ++ ts) (Accepted ws) accepts in
     (ts, env, p)
 
--- Where the items refuse what is to come, it is dead.
-pub stops_at : (front rest : List Text) (is : List Item) (vs : List Value) → ((more : List Text) → run start [] (front ++ more) ≡ run is vs more) → ((s : List Text) → run is vs (same_first rest s) ≡ Refused (same_first rest s)) → StopsAt (front ++ rest) rest
-stops_at front rest is vs reached stuck =
-    record { front = front; parts = refl; begins = alive front is vs reached; dead = dead front rest (λ s. reached (same_first rest s) ∙ stuck s) }
+-- No text goes on where the items refuse what is to come.
+pub dead_at : (front rest : List Text) (is : List Item) (vs : List Value) → ((more : List Text) → run start [] (front ++ more) ≡ run is vs more) → ((s : List Text) → run is vs (same_first rest s) ≡ Refused (same_first rest s)) → IsDead front rest
+dead_at front rest is vs reached stuck = dead front rest (λ s. reached (same_first rest s) ∙ stuck s)
 
--- What stops is not spelled.
-pub stops-apart : (ts rest : List Text) (env : NamedEnv) → StopsAt ts rest → Spells ts env → ⊥
-stops-apart ts [] env h p = h.dead env (subst (λ us. Spells us env) (h.parts ∙ append-nil h.front) p)
-stops-apart ts (t ∷ rest) env h p = h.dead (rest, env, subst (λ us. Spells us env) (h.parts ∙ sym (append_assoc h.front (t ∷ []) rest)) p)
+-- What begins so is not spelled.
+pub dead-apart : (front rest : List Text) (env : NamedEnv) → IsDead front rest → Spells (front ++ rest) env → ⊥
+dead-apart front [] env h p = h env (subst (λ us. Spells us env) (append-nil front) p)
+dead-apart front (t ∷ rest) env h p = h (rest, env, subst (λ us. Spells us env) (sym (append_assoc front (t ∷ []) rest)) p)
 
 pub exact : IsExact
 exact = record { outcome = λ ts. outcome_meets ts (run start [] ts) refl; read = spelled-read; one_meaning = one }

@@ -13,8 +13,7 @@ use Rattle.dump_grammar.proofs.Exact.{exact, alive}
 use Rattle.dump_grammar.specs.Foreign.{foreign}
 use Rattle.dump_grammar.specs.Limits.{over}
 use Rattle.dump_grammar.specs.Judge.{texts, Verdict, Refuse, lexed, unread, moved, judge, verdict}
-use Rattle.dump_grammar.specs.Law.{nesting_of}
-use Rattle.dump_grammar.specs.FirstRefusal.{State, onward, state_from, item_refusal, items_refusal, answer_refusal, end_refusal, rest_refusal, on_state, refusal_from, NothingBefore, IsFirstRefusal, IsFirst}
+use Rattle.dump_grammar.specs.FirstRefusal.{nesting_of, State, onward, state_from, item_refusal, items_refusal, answer_refusal, end_refusal, rest_refusal, on_state, refusal_from, IsFirstRefusal, IsFirst}
 
 refusal_is : (a b : ReadRefusal) → Refuse a ≡ Refuse b → a ≡ b
 refusal_is a b e = cc
@@ -95,7 +94,7 @@ module _ (len : ℕ) where
   -- ---- the front
 
   abbrev Before : ℕ → List Item → List Value → List Spanned → List Spanned → Type 0
-  Before d is vs front rest = NothingBefore front (λ before s after. refusal_from len d is vs before (s ∷ after ++ rest))
+  Before d is vs front rest = (before : List Spanned) (s : Spanned) (after : List Spanned) → front ≡ before ++ s ∷ after → refusal_from len d is vs before (s ∷ after ++ rest) ≡ None
 
   state-step : (i : Item) (is : List Item) (vs : List Value) (t : Text) (ts : List Text) (m : List Item × List Value) → step i t vs ≡ Some m → state_from (i ∷ is) vs (t ∷ ts) ≡ state_from (m.0 ++ is) m.1 ts
   unfolding state_from
@@ -199,12 +198,12 @@ module _ (len : ℕ) where
       ] in
       on (rest_refusal len d (s ∷ ss) (is, vs)) refl
 
-refuses : (len : ℕ) (tokens : List Spanned) (r : ReadRefusal) → verdict len tokens ≡ Refuse r → IsFirstRefusal len tokens r
+pub refuses : (len : ℕ) (tokens : List Spanned) (r : ReadRefusal) → verdict len tokens ≡ Refuse r → IsFirstRefusal len tokens r
 refuses len tokens r h =
     let f = first len tokens 0 start [] r h in
     record { front = f.front; rest = f.rest; parts = f.parts; stands = f.stands; arises = f.arises; nothing_before = f.before }
 
-refused : (len : ℕ) (tokens : List Spanned) (r : ReadRefusal) → IsFirstRefusal len tokens r → verdict len tokens ≡ Refuse r
+pub refused : (len : ℕ) (tokens : List Spanned) (r : ReadRefusal) → IsFirstRefusal len tokens r → verdict len tokens ≡ Refuse r
 refused len tokens r f =
     let (st, stands) = f.stands in
     let here : rest_refusal len (nesting_of 0 f.front) f.rest st ≡ Some r = subst (λ o. on_state o (rest_refusal len (nesting_of 0 f.front) f.rest) ≡ Some r) stands f.arises in
@@ -212,7 +211,7 @@ refused len tokens r f =
 
 -- ---- states and texts
 
-run-of-state : (ts : List Text) (is : List Item) (vs : List Value) (st : State) → state_from is vs ts ≡ Some st → (more : List Text) → run is vs (ts ++ more) ≡ run st.0 st.1 more
+pub run-of-state : (ts : List Text) (is : List Item) (vs : List Value) (st : State) → state_from is vs ts ≡ Some st → (more : List Text) → run is vs (ts ++ more) ≡ run st.0 st.1 more
 unfolding state_from run
 run-of-state [] is vs st e more =
     let pair : State = (is, vs) in
@@ -224,6 +223,20 @@ run-of-state (t ∷ ts) (i ∷ is) vs st e more =
     let on : (m : Moved) → P m = λ m. elim m as P [ None ↦ λ e. absurd cc | Some m ↦ λ e. run-of-state ts (m.0 ++ is) m.1 st e more ] in
     on (step i t vs) e
 
+-- a token more
+pub state-further : (ts : List Text) (t : Text) (is : List Item) (j : Item) (js : List Item) (vs ws : List Value) (m : List Item × List Value) → state_from is vs ts ≡ Some (j ∷ js, ws) → step j t ws ≡ Some m → state_from is vs (ts ++ t ∷ []) ≡ Some (m.0 ++ js, m.1)
+unfolding state_from
+state-further [] t is j js vs ws m e h =
+    let from : State = (is, vs) in
+    let to : State = (j ∷ js, ws) in
+    let same : from ≡ to = cc in
+    subst (λ (st : State). state_from st.0 st.1 (t ∷ []) ≡ Some (m.0 ++ js, m.1)) (sym same) (rw h refl)
+state-further (t' ∷ ts) t [] j js vs ws m e h = absurd cc
+state-further (t' ∷ ts) t (i ∷ is) j js vs ws m e h =
+    let P : Moved → Type 0 = λ o. onward o (λ ks xs. state_from (ks ++ is) xs ts) ≡ Some (j ∷ js, ws) → onward o (λ ks xs. state_from (ks ++ is) xs (ts ++ t ∷ [])) ≡ Some (m.0 ++ js, m.1) in
+    let on : (o : Moved) → P o = λ o. elim o as P [ None ↦ λ e. absurd cc | Some n ↦ λ e. state-further ts t (n.0 ++ is) j js n.1 ws m e h ] in
+    on (step i t' vs) e
+
 state-of-run : (ts more : List Text) (is : List Item) (vs ws : List Value) → run is vs (ts ++ more) ≡ Accepted ws → (st : State) × (state_from is vs ts ≡ Some st)
 unfolding state_from run
 state-of-run [] more is vs ws e = ((is, vs), refl)
@@ -233,7 +246,7 @@ state-of-run (t ∷ ts) more (i ∷ is) vs ws e =
     let on : (m : Moved) → P m = λ m. elim m as P [ None ↦ λ e. absurd cc | Some m ↦ λ e. state-of-run ts more (m.0 ++ is) m.1 ws e ] in
     on (step i t vs) e
 
-begins : (front : List Text) (st : State) → state_from start [] front ≡ Some st → Begins front
+pub begins : (front : List Text) (st : State) → state_from start [] front ≡ Some st → Begins front
 begins front st e = alive front st.0 st.1 (run-of-state front start [] st e)
 
 stands : (front : List Text) → Begins front → (st : State) × (state_from start [] front ≡ Some st)

@@ -15,12 +15,14 @@ use Rattle.dump_grammar.specs.declared.refusal.ReadRefusal.TheVariants as refusa
 use Rattle.dump_grammar.specs.Named.{NamedEnv}
 use Rattle.dump_grammar.specs.Environments.{Spells}
 use Rattle.dump_grammar.specs.Table.{Value, VEnv, Item, IOpen, IClose, IEnd, IEntryEnd, IWord, IParams, IVersion, IBinder, IName, ILevel, INumber, IAdd, IIndex, IComparison, ISort, ITerm, IHead, IType, ITypeHead, IBody, INames, ILevels, IList, IDecls, IDecl, Do, act, start, Moved, step, after, Outcome, Accepted, Refused, run}
-use Rattle.dump_grammar.specs.Exactness.{StopsAt, Meets}
+use Rattle.dump_grammar.specs.Exactness.{IsDead, Meets}
 use Rattle.dump_grammar.specs.Foreign.{foreign}
-use Rattle.dump_grammar.specs.Limits.{token_over, over}
-use Rattle.dump_grammar.specs.Judge.{texts, Verdict, Fine, Refuse, fault_refusal, lexed, unread, moved, at_end, judge, verdict}
-use Rattle.dump_grammar.specs.Law.{place, SyntaxAt, nesting_of, Reached, UnsupportedAt, Passes, LimitAt, IsJudged}
-use Rattle.dump_grammar.proofs.Exact.{exact, alive, same_first, stops_at, stops-apart}
+use Rattle.dump_grammar.specs.Limits.{unless, token_over, over}
+use Rattle.dump_grammar.specs.Judge.{texts, Verdict, Fine, Refuse, fault_refusal, lexed, unread, moved, judge, verdict}
+use Rattle.dump_grammar.specs.FirstRefusal.{nesting_of, state_from, item_refusal, items_refusal, answer_refusal, token_refusal, end_refusal, rest_refusal, on_state, NothingBefore}
+use Rattle.dump_grammar.specs.Law.{place, SyntaxAt, Reached, UnsupportedAt, PassesAt, LimitAt, IsJudged}
+use Rattle.dump_grammar.proofs.Exact.{exact, same_first, dead_at, dead-apart}
+use Rattle.dump_grammar.proofs.FirstRefusal.{refuses, refused, run-of-state, state-further, begins}
 
 pub no-stray : (i : Item) (vs : List Value) → step i Stray vs ≡ None
 no-stray IOpen vs = refl
@@ -76,6 +78,19 @@ fault-tells d st Stray = (refl, refl)
 fault-is : (d st : ℕ) (t : Text) (f : TokenFault) → answer_at d st t ≡ Err f → FaultTells d st t f
 fault-is d st t f e = subst (λ a. OnFault a (FaultTells d st t)) e (fault-tells d st t)
 
+-- a token that the tokenizer gives passes no limit of tokens
+token-within : (d st : ℕ) (t : Text) (o : Option Token) → answer_at d st t ≡ Ok o → token_over d t ≡ None
+token-within d st Open o e =
+    let P : Bool → Type 0 = λ b. cond b (token kinds.Open st (st + 1)) (Err (faults.Nesting st)) ≡ Ok o → unless b limits.Nesting ≡ None in
+    let on : (b : Bool) → P b = λ b. elim b as P [ true ↦ λ e. refl | false ↦ λ e. absurd cc ] in
+    on (nat_lt d 1000) e
+token-within d st Close o e = refl
+token-within d st (Atom a) o e =
+    let P : Bool → Type 0 = λ b. cond b (token kinds.Atom st (st + length a)) (Err (faults.NameBytes st)) ≡ Ok o → unless b limits.NameBytes ≡ None in
+    let on : (b : Bool) → P b = λ b. elim b as P [ true ↦ λ e. refl | false ↦ λ e. absurd cc ] in
+    on (nat_le (length a) 255) e
+token-within d st Stray o e = refl
+
 -- ---- the place and the cause of a refusal
 
 -- an item's refusal at a token
@@ -86,68 +101,63 @@ Here (i ∷ is) s vs rest r =
     ⊎ ((m : List Item × List Value) × (step i s.text vs ≡ Some m) × (l : Limit) × (over i s.text vs rest ≡ Some l) × (r ≡ refusals.Limit l s.start))
 
 abbrev Cause : (len : ℕ) → List Spanned → ℕ → List Item → List Value → ReadRefusal → Type 0
-Cause len [] d is vs r = at_end len is vs ≡ Refuse r
-Cause len (s ∷ ss) d is vs r = ((f : TokenFault) × (answer_at d s.start s.text ≡ Err f) × (r ≡ fault_refusal f)) ⊎ Here is s vs (texts ss) r
+Cause len [] d is vs r = end_refusal len is ≡ Some r
+Cause len (s ∷ ss) d is vs r = ((f : TokenFault) × (answer_at d s.start s.text ≡ Err f) × (r ≡ fault_refusal f)) ⊎ ((o : Option Token) × (answer_at d s.start s.text ≡ Ok o) × Here is s vs (texts ss) r)
 
-record Found (len : ℕ) (tokens : List Spanned) (d : ℕ) (is : List Item) (vs : List Value) (r : ReadRefusal) : Type 0 where
+refusal_is : (a b : ReadRefusal) → Some a ≡ Some b → b ≡ a
+refusal_is a b e = cc
+
+here-cause : (is : List Item) (s : Spanned) (vs : List Value) (rest : List Text) (r : ReadRefusal) → items_refusal is s vs rest ≡ Some r → Here is s vs rest r
+here-cause [] s vs rest r e = refusal_is _ _ e
+here-cause (i ∷ is) s vs rest r e =
+    let none : ReadRefusal = unread (foreign i s.text) s.start in
+    let P : Moved → Option Limit → Type 0 = λ m l. step i s.text vs ≡ m → over i s.text vs rest ≡ l → item_refusal m none l s.start ≡ Some r → Here (i ∷ is) s vs rest r in
+    let on : (m : Moved) (l : Option Limit) → P m l = λ m l. elim m as (λ m. P m l) [
+      | None ↦ λ at past e. inl (at, refusal_is _ _ e)
+      | Some m ↦ elim l as (λ l. P (Some m) l) [
+        | None ↦ λ at past e. absurd cc
+        | Some l ↦ λ at past e. inr (m, at, l, past, refusal_is _ _ e)
+      ]
+    ] in
+    on (step i s.text vs) (over i s.text vs rest) refl refl e
+
+cause : (len : ℕ) (rest : List Spanned) (d : ℕ) (is : List Item) (vs : List Value) (r : ReadRefusal) → rest_refusal len d rest (is, vs) ≡ Some r → Cause len rest d is vs r
+cause len [] d is vs r e = e
+cause len (s ∷ ss) d is vs r e =
+    let P : Result (Option Token) TokenFault → Type 0 = λ a. answer_at d s.start s.text ≡ a → answer_refusal a (items_refusal is s vs (texts ss)) ≡ Some r → Cause len (s ∷ ss) d is vs r in
+    let on : (a : Result (Option Token) TokenFault) → P a = λ a. elim a as P [
+      | Ok o ↦ λ at e. inr (o, at, here-cause is s vs (texts ss) r e)
+      | Err f ↦ λ at e. inl (f, at, refusal_is _ _ e)
+    ] in
+    on (answer_at d s.start s.text) refl e
+
+record Found (len : ℕ) (tokens : List Spanned) (r : ReadRefusal) : Type 0 where
   front : List Spanned
   rest : List Spanned
   items : List Item
   values : List Value
   parts : tokens ≡ front ++ rest
-  reached : (more : List Text) → run is vs (texts front ++ more) ≡ run items values more
-  cause : Cause len rest (nesting_of d front) items values r
+  stands : state_from start [] (texts front) ≡ Some (items, values)
+  nothing_before : NothingBefore front rest
+  cause : Cause len rest (nesting_of 0 front) items values r
 
-refusal_is : (a b : ReadRefusal) → Refuse a ≡ Refuse b → b ≡ a
-refusal_is a b e = cc
+found : (len : ℕ) (tokens : List Spanned) (r : ReadRefusal) → verdict len tokens ≡ Refuse r → Found len tokens r
+found len tokens r e =
+    let f = refuses len tokens r e in
+    let (st, stands) = f.stands in
+    let here : rest_refusal len (nesting_of 0 f.front) f.rest (st.0, st.1) ≡ Some r = subst (λ o. on_state o (rest_refusal len (nesting_of 0 f.front) f.rest) ≡ Some r) stands f.arises in
+    record {
+      front = f.front;
+      rest = f.rest;
+      items = st.0;
+      values = st.1;
+      parts = f.parts;
+      stands = stands;
+      nothing_before = f.nothing_before;
+      cause = cause len f.rest (nesting_of 0 f.front) st.0 st.1 r here;
+    }
 
 module _ (len : ℕ) where
-  at_once : (tokens : List Spanned) (d : ℕ) (is : List Item) (vs : List Value) (r : ReadRefusal) → Cause len tokens d is vs r → Found len tokens d is vs r
-  at_once tokens d is vs r c = record { front = []; rest = tokens; items = is; values = vs; parts = refl; reached = λ more. refl; cause = c }
-
-  found : (ss : List Spanned) (d : ℕ) (is : List Item) (vs : List Value) (r : ReadRefusal) → judge len ss d is vs ≡ Refuse r → Found len ss d is vs r
-  unfolding judge run
-  found [] d is vs r e = at_once [] d is vs r e
-  found (s ∷ ss) d [] vs r e =
-      let V : Verdict = Refuse (refusals.Syntax s.start) in
-      let P : Result (Option Token) TokenFault → Type 0 = λ a. answer_at d s.start s.text ≡ a → lexed a V ≡ Refuse r → Found len (s ∷ ss) d [] vs r in
-      let on : (a : Result (Option Token) TokenFault) → P a = λ a. elim a as P [
-        | Ok o ↦ λ at e. at_once (s ∷ ss) d [] vs r (inr (refusal_is _ _ e))
-        | Err f ↦ λ at e. at_once (s ∷ ss) d [] vs r (inl (f, at, refusal_is _ _ e))
-      ] in
-      on (answer_at d s.start s.text) refl e
-  found (s ∷ ss) d (i ∷ is) vs r e =
-      let d' : ℕ = nesting_after_text d s.text in
-      let go : List Item → List Value → Verdict = λ js xs. judge len ss d' (js ++ is) xs in
-      let none : ReadRefusal = unread (foreign i s.text) s.start in
-      let P : Moved → Type 0 = λ m. step i s.text vs ≡ m → moved m none (over i s.text vs (texts ss)) s.start go ≡ Refuse r → Found len (s ∷ ss) d (i ∷ is) vs r in
-      let on : (m : Moved) → P m = λ m. elim m as P [
-        | None ↦ λ at e. at_once (s ∷ ss) d (i ∷ is) vs r (inr (inl (at, refusal_is _ _ e)))
-        | Some m ↦ λ at e.
-            let Q : Option Limit → Type 0 = λ l. over i s.text vs (texts ss) ≡ l → moved (Some m) none l s.start go ≡ Refuse r → Found len (s ∷ ss) d (i ∷ is) vs r in
-            let more : (l : Option Limit) → Q l = λ l. elim l as Q [
-              | None ↦ λ quiet e.
-                  let h = found ss d' (m.0 ++ is) m.1 r e in
-                  record {
-                    front = s ∷ h.front;
-                    rest = h.rest;
-                    items = h.items;
-                    values = h.values;
-                    parts = ap (λ (us : List Spanned). s ∷ us) h.parts;
-                    reached = λ more. rw at (h.reached more);
-                    cause = h.cause;
-                  }
-              | Some l ↦ λ passes e. at_once (s ∷ ss) d (i ∷ is) vs r (inr (inr (m, at, l, passes, refusal_is _ _ e)))
-            ] in
-            more (over i s.text vs (texts ss)) refl e
-      ] in
-      let A : Result (Option Token) TokenFault → Type 0 = λ a. answer_at d s.start s.text ≡ a → lexed a (moved (step i s.text vs) none (over i s.text vs (texts ss)) s.start go) ≡ Refuse r → Found len (s ∷ ss) d (i ∷ is) vs r in
-      let first : (a : Result (Option Token) TokenFault) → A a = λ a. elim a as A [
-        | Ok o ↦ λ at e. on (step i s.text vs) refl e
-        | Err f ↦ λ at e. at_once (s ∷ ss) d (i ∷ is) vs r (inl (f, at, refusal_is _ _ e))
-      ] in
-      first (answer_at d s.start s.text) refl e
-
   accepts : (ss : List Spanned) (d : ℕ) (is : List Item) (vs ws : List Value) → judge len ss d is vs ≡ Fine ws → run is vs (texts ss) ≡ Accepted ws
   unfolding judge run
   accepts [] d [] vs ws e = cc
@@ -197,16 +207,17 @@ first-of i j is js e = cc
 none-first : (i : Item) (is : List Item) (vs : List Value) (t : Text) → step i t vs ≡ None → (j : Item) (js : List Item) → i ∷ is ≡ j ∷ js → step j t vs ≡ None
 none-first i is vs t e j js at = subst (λ j. step j t vs ≡ None) (first-of i j is js at) e
 
-stops-here : (tokens front rest : List Spanned) (is : List Item) (vs : List Value) → tokens ≡ front ++ rest → ((more : List Text) → run start [] (texts front ++ more) ≡ run is vs more) → Stuck is vs (texts rest) → StopsAt (texts tokens) (texts rest)
-stops-here tokens front rest is vs parts reached stuck =
-    subst (λ ts. StopsAt ts (texts rest)) (sym (ap texts parts ∙ texts-append front rest)) (stops_at (texts front) (texts rest) is vs reached stuck)
-
-abbrev Reaches : List Spanned → List Item → List Value → Type 0
-Reaches front is vs = (more : List Text) → run start [] (texts front ++ more) ≡ run is vs more
-
 module _ (len : ℕ) (tokens front : List Spanned) where
-  syntax-at : (rest : List Spanned) (is : List Item) (vs : List Value) (o : ℕ) → tokens ≡ front ++ rest → Reaches front is vs → Stuck is vs (texts rest) → o ≡ place len rest → SyntaxAt len tokens o
-  syntax-at rest is vs o parts reached stuck at = record { rest = rest; stops = stops-here tokens front rest is vs parts reached stuck; at = at }
+  -- these items and values stand behind the front
+  abbrev Reaches : List Item → List Value → Type 0
+  Reaches is vs = state_from start [] (texts front) ≡ Some (is, vs)
+
+  dead-here : (rest : List Spanned) (is : List Item) (vs : List Value) → Reaches is vs → Stuck is vs (texts rest) → IsDead (texts front) (texts rest)
+  dead-here rest is vs reached stuck = dead_at (texts front) (texts rest) is vs (run-of-state (texts front) start [] (is, vs) reached) stuck
+
+  syntax-at : (rest : List Spanned) (is : List Item) (vs : List Value) (o : ℕ) → tokens ≡ front ++ rest → Reaches is vs → Stuck is vs (texts rest) → o ≡ place len rest → SyntaxAt len tokens o
+  syntax-at rest is vs o parts reached stuck at =
+      record { front = front; rest = rest; parts = parts; begins = begins (texts front) (is, vs) reached; dead = dead-here rest is vs reached stuck; at = at }
 
   stray-stuck : (is : List Item) (vs : List Value) (t : Text) (rest : List Text) → t ≡ Stray → Stuck is vs (t ∷ rest)
   stray-stuck is vs t rest e = stuck-none is vs t rest (λ i js at. subst (λ t. step i t vs ≡ None) (sym e) (no-stray i vs))
@@ -215,7 +226,7 @@ module _ (len : ℕ) (tokens front : List Spanned) where
   unread-syntax None st o e = cc
   unread-syntax (Some f) st o e = absurd cc
 
-  fault-syntax : (s : Spanned) (ss : List Spanned) (is : List Item) (vs : List Value) (o : ℕ) → tokens ≡ front ++ s ∷ ss → Reaches front is vs → (f : TokenFault) → answer_at (nesting_of 0 front) s.start s.text ≡ Err f → refusals.Syntax o ≡ fault_refusal f → SyntaxAt len tokens o
+  fault-syntax : (s : Spanned) (ss : List Spanned) (is : List Item) (vs : List Value) (o : ℕ) → tokens ≡ front ++ s ∷ ss → Reaches is vs → (f : TokenFault) → answer_at (nesting_of 0 front) s.start s.text ≡ Err f → refusals.Syntax o ≡ fault_refusal f → SyntaxAt len tokens o
   fault-syntax s ss is vs o parts reached (faults.Stray p) at e =
       let h = fault-is (nesting_of 0 front) s.start s.text (faults.Stray p) at in
       let same : o ≡ p = cc in
@@ -223,25 +234,26 @@ module _ (len : ℕ) (tokens front : List Spanned) where
   fault-syntax s ss is vs o parts reached (faults.NameBytes p) at e = absurd cc
   fault-syntax s ss is vs o parts reached (faults.Nesting p) at e = absurd cc
 
-  syntax-cause : (rest : List Spanned) (is : List Item) (vs : List Value) (o : ℕ) → tokens ≡ front ++ rest → Reaches front is vs → Cause len rest (nesting_of 0 front) is vs (refusals.Syntax o) → SyntaxAt len tokens o
+  syntax-cause : (rest : List Spanned) (is : List Item) (vs : List Value) (o : ℕ) → tokens ≡ front ++ rest → Reaches is vs → Cause len rest (nesting_of 0 front) is vs (refusals.Syntax o) → SyntaxAt len tokens o
   syntax-cause [] [] vs o parts reached c = absurd cc
   syntax-cause [] (i ∷ is) vs o parts reached c = syntax-at [] (i ∷ is) vs o parts reached (stuck-end i is vs) (cc)
   syntax-cause (s ∷ ss) [] vs o parts reached c =
       elim c [
         | inl h ↦ fault-syntax s ss [] vs o parts reached h.0 h.1 h.2
-        | inr e ↦ syntax-at (s ∷ ss) [] vs o parts reached (stuck-none [] vs s.text (texts ss) (λ i js at. absurd cc)) (cc)
+        | inr h ↦ (let e : refusals.Syntax o ≡ refusals.Syntax s.start = h.2 in syntax-at (s ∷ ss) [] vs o parts reached (stuck-none [] vs s.text (texts ss) (λ i js at. absurd cc)) (cc))
       ]
   syntax-cause (s ∷ ss) (i ∷ is) vs o parts reached c =
       elim c [
         | inl h ↦ fault-syntax s ss (i ∷ is) vs o parts reached h.0 h.1 h.2
-        | inr h ↦ elim h [
+        | inr h ↦ elim h.2 [
           | inl n ↦ syntax-at (s ∷ ss) (i ∷ is) vs o parts reached (stuck-none (i ∷ is) vs s.text (texts ss) (none-first i is vs s.text n.0)) (unread-syntax (foreign i s.text) s.start o n.1)
           | inr l ↦ (let e : refusals.Syntax o ≡ refusals.Limit l.2 s.start = l.4 in absurd cc)
         ]
       ]
 
-  reached-at : (here : Spanned) (rest : List Spanned) (is : List Item) (vs : List Value) → tokens ≡ front ++ here ∷ rest → Reaches front is vs → Reached tokens here rest is vs (nesting_of 0 front)
-  reached-at here rest is vs parts reached = record { front = front; parts = parts; items_are = reached; nesting_is = refl; begins = alive (texts front) is vs reached }
+  reached-at : (here : Spanned) (rest : List Spanned) (is : List Item) (vs : List Value) → tokens ≡ front ++ here ∷ rest → NothingBefore front (here ∷ rest) → Reaches is vs → Reached tokens here rest is vs (nesting_of 0 front)
+  reached-at here rest is vs parts before reached =
+      record { front = front; parts = parts; nothing_before = before; stands = reached; nesting_is = refl; begins = begins (texts front) (is, vs) reached }
 
   no-unsupported-fault : (f : TokenFault) (w : Foreign) (o : ℕ) → refusals.Unsupported w o ≡ fault_refusal f → ⊥
   no-unsupported-fault (faults.Stray p) w o e = cc
@@ -252,18 +264,19 @@ module _ (len : ℕ) (tokens front : List Spanned) where
   unread-foreign None st o w e = absurd cc
   unread-foreign (Some f) st o w e = (cc, cc)
 
-  unsupported-cause : (rest : List Spanned) (is : List Item) (vs : List Value) (w : Foreign) (o : ℕ) → tokens ≡ front ++ rest → Reaches front is vs → Cause len rest (nesting_of 0 front) is vs (refusals.Unsupported w o) → UnsupportedAt tokens w o
-  unsupported-cause [] [] vs w o parts reached c = absurd cc
-  unsupported-cause [] (i ∷ is) vs w o parts reached c = absurd cc
-  unsupported-cause (s ∷ ss) [] vs w o parts reached c =
+  unsupported-cause : (rest : List Spanned) (is : List Item) (vs : List Value) (w : Foreign) (o : ℕ) → tokens ≡ front ++ rest → NothingBefore front rest → Reaches is vs → Cause len rest (nesting_of 0 front) is vs (refusals.Unsupported w o) → UnsupportedAt tokens w o
+  unfolding reached-at
+  unsupported-cause [] [] vs w o parts before reached c = absurd cc
+  unsupported-cause [] (i ∷ is) vs w o parts before reached c = absurd cc
+  unsupported-cause (s ∷ ss) [] vs w o parts before reached c =
       elim c [
         | inl h ↦ absurd (no-unsupported-fault h.0 w o h.2)
-        | inr e ↦ absurd cc
+        | inr h ↦ (let e : refusals.Unsupported w o ≡ refusals.Syntax s.start = h.2 in absurd cc)
       ]
-  unsupported-cause (s ∷ ss) (i ∷ is) vs w o parts reached c =
+  unsupported-cause (s ∷ ss) (i ∷ is) vs w o parts before reached c =
       elim c [
         | inl h ↦ absurd (no-unsupported-fault h.0 w o h.2)
-        | inr h ↦ elim h [
+        | inr h ↦ elim h.2 [
           | inl n ↦
               (let f = unread-foreign (foreign i s.text) s.start o w n.1 in
               record {
@@ -273,9 +286,10 @@ module _ (len : ℕ) (tokens front : List Spanned) where
                 items = is;
                 values = vs;
                 nesting = nesting_of 0 front;
-                reached = reached-at s ss (i ∷ is) vs parts reached;
+                reached = reached-at s ss (i ∷ is) vs parts before reached;
+                within = token-within (nesting_of 0 front) s.start s.text h.0 h.1;
                 stands = f.0;
-                stops = stops-here tokens front (s ∷ ss) (i ∷ is) vs parts reached (stuck-none (i ∷ is) vs s.text (texts ss) (none-first i is vs s.text n.0));
+                dead = dead-here (s ∷ ss) (i ∷ is) vs reached (stuck-none (i ∷ is) vs s.text (texts ss) (none-first i is vs s.text n.0));
                 at = f.1;
               })
           | inr l ↦ (let e : refusals.Unsupported w o ≡ refusals.Limit l.2 s.start = l.4 in absurd cc)
@@ -299,27 +313,28 @@ module _ (len : ℕ) (tokens front : List Spanned) where
   unread-no_limit None st o l e = cc
   unread-no_limit (Some f) st o l e = cc
 
-  limit-at : (s : Spanned) (ss : List Spanned) (is : List Item) (vs : List Value) (l : Limit) (o : ℕ) → tokens ≡ front ++ s ∷ ss → Reaches front is vs → (token_over (nesting_of 0 front) s.text ≡ Some l) ⊎ Passes is s.text vs (texts ss) l → o ≡ s.start → LimitAt tokens l o
-  limit-at s ss is vs l o parts reached passes at =
-      record { here = s; rest = ss; items = is; values = vs; nesting = nesting_of 0 front; reached = reached-at s ss is vs parts reached; passes = passes; at = at }
+  limit-at : (s : Spanned) (ss : List Spanned) (is : List Item) (vs : List Value) (l : Limit) (o : ℕ) → tokens ≡ front ++ s ∷ ss → NothingBefore front (s ∷ ss) → Reaches is vs → PassesAt (nesting_of 0 front) is s vs ss l → o ≡ s.start → LimitAt tokens l o
+  limit-at s ss is vs l o parts before reached passes at =
+      record { here = s; rest = ss; items = is; values = vs; nesting = nesting_of 0 front; reached = reached-at s ss is vs parts before reached; passes = passes; at = at }
 
-  limit-cause : (rest : List Spanned) (is : List Item) (vs : List Value) (l : Limit) (o : ℕ) → tokens ≡ front ++ rest → Reaches front is vs → Cause len rest (nesting_of 0 front) is vs (refusals.Limit l o) → LimitAt tokens l o
-  limit-cause [] [] vs l o parts reached c = absurd cc
-  limit-cause [] (i ∷ is) vs l o parts reached c = absurd cc
-  limit-cause (s ∷ ss) [] vs l o parts reached c =
+  limit-cause : (rest : List Spanned) (is : List Item) (vs : List Value) (l : Limit) (o : ℕ) → tokens ≡ front ++ rest → NothingBefore front rest → Reaches is vs → Cause len rest (nesting_of 0 front) is vs (refusals.Limit l o) → LimitAt tokens l o
+  limit-cause [] [] vs l o parts before reached c = absurd cc
+  limit-cause [] (i ∷ is) vs l o parts before reached c = absurd cc
+  limit-cause (s ∷ ss) [] vs l o parts before reached c =
       elim c [
-        | inl h ↦ (let f = fault-limit (nesting_of 0 front) s.start s.text h.0 l o h.1 h.2 in limit-at s ss [] vs l o parts reached (inl f.0) f.1)
-        | inr e ↦ absurd cc
+        | inl h ↦ (let f = fault-limit (nesting_of 0 front) s.start s.text h.0 l o h.1 h.2 in limit-at s ss [] vs l o parts before reached (inl f.0) f.1)
+        | inr h ↦ (let e : refusals.Limit l o ≡ refusals.Syntax s.start = h.2 in absurd cc)
       ]
-  limit-cause (s ∷ ss) (i ∷ is) vs l o parts reached c =
+  limit-cause (s ∷ ss) (i ∷ is) vs l o parts before reached c =
       elim c [
-        | inl h ↦ (let f = fault-limit (nesting_of 0 front) s.start s.text h.0 l o h.1 h.2 in limit-at s ss (i ∷ is) vs l o parts reached (inl f.0) f.1)
-        | inr h ↦ elim h [
+        | inl h ↦ (let f = fault-limit (nesting_of 0 front) s.start s.text h.0 l o h.1 h.2 in limit-at s ss (i ∷ is) vs l o parts before reached (inl f.0) f.1)
+        | inr h ↦ elim h.2 [
           | inl n ↦ absurd (unread-no_limit (foreign i s.text) s.start o l n.1)
           | inr n ↦
               (let e : refusals.Limit l o ≡ refusals.Limit n.2 s.start = n.4 in
               let which : n.2 ≡ l = cc in
-              limit-at s ss (i ∷ is) vs l o parts reached (inr (n.0, n.1, n.3 ∙ ap Some which)) (cc))
+              let within : token_over (nesting_of 0 front) s.text ≡ None = token-within (nesting_of 0 front) s.start s.text h.0 h.1 in
+              limit-at s ss (i ∷ is) vs l o parts before reached (inr (within, (n.0, n.1, n.3 ∙ ap Some which))) (cc))
         ]
       ]
 
@@ -335,37 +350,146 @@ module _ (len : ℕ) (tokens front : List Spanned) where
   memory-cause : (rest : List Spanned) (is : List Item) (vs : List Value) → Cause len rest (nesting_of 0 front) is vs refusals.Memory → ⊥
   memory-cause [] [] vs c = cc
   memory-cause [] (i ∷ is) vs c = cc
-  memory-cause (s ∷ ss) [] vs c = elim c [ inl h ↦ no-memory-fault h.0 h.2 | inr e ↦ cc ]
+  memory-cause (s ∷ ss) [] vs c = elim c [ inl h ↦ no-memory-fault h.0 h.2 | inr h ↦ (let e : refusals.Memory ≡ refusals.Syntax s.start = h.2 in cc) ]
   memory-cause (s ∷ ss) (i ∷ is) vs c =
       elim c [
         | inl h ↦ no-memory-fault h.0 h.2
-        | inr h ↦ elim h [
+        | inr h ↦ elim h.2 [
           | inl n ↦ no-memory-unread (foreign i s.text) s.start n.1
           | inr n ↦ (let e : refusals.Memory ≡ refusals.Limit n.2 s.start = n.4 in cc)
         ]
       ]
 
+-- ---- from the place to the refusal
+
+-- a token over its limit is a fault
+over-fault : (d st : ℕ) (t : Text) (l : Limit) → token_over d t ≡ Some l → (f : TokenFault) × (answer_at d st t ≡ Err f) × (fault_refusal f ≡ refusals.Limit l st)
+over-fault d st Open l e =
+    let P : Bool → Type 0 = λ b. unless b limits.Nesting ≡ Some l → (f : TokenFault) × (cond b (token kinds.Open st (st + 1)) (Err (faults.Nesting st)) ≡ Err f) × (fault_refusal f ≡ refusals.Limit l st) in
+    let on : (b : Bool) → P b = λ b. elim b as P [ true ↦ λ e. absurd cc | false ↦ λ e. (faults.Nesting st, refl, cc) ] in
+    on (nat_lt d 1000) e
+over-fault d st Close l e = absurd cc
+over-fault d st (Atom a) l e =
+    let P : Bool → Type 0 = λ b. unless b limits.NameBytes ≡ Some l → (f : TokenFault) × (cond b (token kinds.Atom st (st + length a)) (Err (faults.NameBytes st)) ≡ Err f) × (fault_refusal f ≡ refusals.Limit l st) in
+    let on : (b : Bool) → P b = λ b. elim b as P [ true ↦ λ e. absurd cc | false ↦ λ e. (faults.NameBytes st, refl, cc) ] in
+    on (nat_le (length a) 255) e
+over-fault d st Stray l e = absurd cc
+
+-- one within it is a token, unless it is none
+within-answer : (d st : ℕ) (t : Text) → token_over d t ≡ None → (t ≡ Stray → ⊥) → (o : Option Token) × (answer_at d st t ≡ Ok o)
+within-answer d st Open e real =
+    let P : Bool → Type 0 = λ b. unless b limits.Nesting ≡ None → (o : Option Token) × (cond b (token kinds.Open st (st + 1)) (Err (faults.Nesting st)) ≡ Ok o) in
+    let on : (b : Bool) → P b = λ b. elim b as P [ true ↦ λ e. (Some (record { kind = kinds.Open; start = st; «end» = st + 1 }), refl) | false ↦ λ e. absurd cc ] in
+    on (nat_lt d 1000) e
+within-answer d st Close e real = (Some (record { kind = kinds.Close; start = st; «end» = st + 1 }), refl)
+within-answer d st (Atom a) e real =
+    let P : Bool → Type 0 = λ b. unless b limits.NameBytes ≡ None → (o : Option Token) × (cond b (token kinds.Atom st (st + length a)) (Err (faults.NameBytes st)) ≡ Ok o) in
+    let on : (b : Bool) → P b = λ b. elim b as P [ true ↦ λ e. (Some (record { kind = kinds.Atom; start = st; «end» = st + length a }), refl) | false ↦ λ e. absurd cc ] in
+    on (nat_le (length a) 255) e
+within-answer d st Stray e real = absurd (real refl)
+
+no-foreign-stray : (i : Item) → foreign i Stray ≡ None
+no-foreign-stray IOpen = refl
+no-foreign-stray IClose = refl
+no-foreign-stray IEnd = refl
+no-foreign-stray IEntryEnd = refl
+no-foreign-stray (IWord w) = refl
+no-foreign-stray IParams = refl
+no-foreign-stray IVersion = refl
+no-foreign-stray IBinder = refl
+no-foreign-stray IName = refl
+no-foreign-stray ILevel = refl
+no-foreign-stray INumber = refl
+no-foreign-stray IAdd = refl
+no-foreign-stray IIndex = refl
+no-foreign-stray IComparison = refl
+no-foreign-stray ISort = refl
+no-foreign-stray ITerm = refl
+no-foreign-stray IHead = refl
+no-foreign-stray IType = refl
+no-foreign-stray ITypeHead = refl
+no-foreign-stray IBody = refl
+no-foreign-stray INames = refl
+no-foreign-stray ILevels = refl
+no-foreign-stray (IList k) = refl
+no-foreign-stray IDecls = refl
+no-foreign-stray IDecl = refl
+no-foreign-stray (Do d i) = no-foreign-stray i
+
+foreign-real : (i : Item) (t : Text) (w : Foreign) → foreign i t ≡ Some w → t ≡ Stray → ⊥
+foreign-real i t w e at = (let h : foreign i t ≡ None = subst (λ t. foreign i t ≡ None) (sym at) (no-foreign-stray i) in cc)
+
+step-real : (i : Item) (t : Text) (vs : List Value) (m : List Item × List Value) → step i t vs ≡ Some m → t ≡ Stray → ⊥
+step-real i t vs m e at = (let h : step i t vs ≡ None = subst (λ t. step i t vs ≡ None) (sym at) (no-stray i vs) in cc)
+
+module _ (len : ℕ) (tokens : List Spanned) where
+  -- what arises behind tokens at which nothing arises is the verdict
+  refused-there : (here : Spanned) (rest : List Spanned) (is : List Item) (vs : List Value) (d : ℕ) (r : ReadRefusal) → Reached tokens here rest is vs d → token_refusal d here rest (is, vs) ≡ Some r → verdict len tokens ≡ Refuse r
+  refused-there here rest is vs d r reached e =
+      let at : token_refusal (nesting_of 0 reached.front) here rest (is, vs) ≡ Some r = subst (λ d. token_refusal d here rest (is, vs) ≡ Some r) reached.nesting_is e in
+      refused len tokens r (record {
+        front = reached.front;
+        rest = here ∷ rest;
+        parts = reached.parts;
+        stands = ((is, vs), reached.stands);
+        arises = ap (λ o. on_state o (rest_refusal len (nesting_of 0 reached.front) (here ∷ rest))) reached.stands ∙ at;
+        nothing_before = reached.nothing_before;
+      })
+
+  -- no text goes on with the token, so its item doesn't take it
+  stuck-there : (here : Spanned) (rest : List Spanned) (i : Item) (is : List Item) (vs : List Value) (d : ℕ) (q : Reached tokens here rest (i ∷ is) vs d) → IsDead (texts q.front) (texts (here ∷ rest)) → step i here.text vs ≡ None
+  stuck-there here rest i is vs d q dead =
+      let P : Moved → Type 0 = λ m. step i here.text vs ≡ m → m ≡ None in
+      let on : (m : Moved) → P m = λ m. elim m as P [
+        | None ↦ λ e. refl
+        | Some m ↦ λ e. absurd (dead (begins (texts q.front ++ here.text ∷ []) (m.0 ++ is, m.1) (state-further (texts q.front) here.text start i is [] vs m q.stands e)))
+      ] in
+      on (step i here.text vs) refl
+
+  unsupported-refused : (w : Foreign) (o : ℕ) → UnsupportedAt tokens w o → verdict len tokens ≡ Refuse (refusals.Unsupported w o)
+  unsupported-refused w o h =
+      let none = stuck-there h.here h.rest h.item h.items h.values h.nesting h.reached h.dead in
+      let (token, lexes) = within-answer h.nesting h.here.start h.here.text h.within (foreign-real h.item h.here.text w h.stands) in
+      let e : token_refusal h.nesting h.here h.rest (h.item ∷ h.items, h.values) ≡ Some (refusals.Unsupported w h.here.start) = rw (lexes, none, h.stands) refl in
+      refused-there h.here h.rest (h.item ∷ h.items) h.values h.nesting (refusals.Unsupported w o) h.reached (e ∙ ap (λ o. Some (refusals.Unsupported w o)) (sym h.at))
+
+  passes-refused : (d : ℕ) (here : Spanned) (rest : List Spanned) (is : List Item) (vs : List Value) (l : Limit) → PassesAt d is here vs rest l → token_refusal d here rest (is, vs) ≡ Some (refusals.Limit l here.start)
+  passes-refused d here rest is vs l (inl past) = (let (f, fault, is-limit) = over-fault d here.start here.text l past in ap (λ a. answer_refusal a (items_refusal is here vs (texts rest))) fault ∙ ap Some is-limit)
+  passes-refused d here rest [] vs l (inr (within, nothing)) = absurd nothing
+  passes-refused d here rest (i ∷ is) vs l (inr (within, (m, moves, past))) =
+      let (token, lexes) = within-answer d here.start here.text within (step-real i here.text vs m moves) in
+      rw (lexes, moves, past) refl
+
+  limit-refused : (l : Limit) (o : ℕ) → LimitAt tokens l o → verdict len tokens ≡ Refuse (refusals.Limit l o)
+  limit-refused l o h =
+      refused-there h.here h.rest h.items h.values h.nesting (refusals.Limit l o) h.reached
+      (passes-refused h.nesting h.here h.rest h.items h.values l h.passes ∙ ap (λ o. Some (refusals.Limit l o)) (sym h.at))
+
 -- ---- the law
 
 is-syntax : (len : ℕ) (tokens : List Spanned) (o : ℕ) → verdict len tokens ≡ Refuse (refusals.Syntax o) → SyntaxAt len tokens o
 is-syntax len tokens o e =
-    let h = found len tokens 0 start [] (refusals.Syntax o) e in
-    syntax-cause len tokens h.front h.rest h.items h.values o h.parts h.reached h.cause
+    let h = found len tokens (refusals.Syntax o) e in
+    syntax-cause len tokens h.front h.rest h.items h.values o h.parts h.stands h.cause
 
 is-unsupported : (len : ℕ) (tokens : List Spanned) (w : Foreign) (o : ℕ) → verdict len tokens ≡ Refuse (refusals.Unsupported w o) → UnsupportedAt tokens w o
 is-unsupported len tokens w o e =
-    let h = found len tokens 0 start [] (refusals.Unsupported w o) e in
-    unsupported-cause len tokens h.front h.rest h.items h.values w o h.parts h.reached h.cause
+    let h = found len tokens (refusals.Unsupported w o) e in
+    unsupported-cause len tokens h.front h.rest h.items h.values w o h.parts h.nothing_before h.stands h.cause
 
 is-limit : (len : ℕ) (tokens : List Spanned) (l : Limit) (o : ℕ) → verdict len tokens ≡ Refuse (refusals.Limit l o) → LimitAt tokens l o
 is-limit len tokens l o e =
-    let h = found len tokens 0 start [] (refusals.Limit l o) e in
-    limit-cause len tokens h.front h.rest h.items h.values l o h.parts h.reached h.cause
+    let h = found len tokens (refusals.Limit l o) e in
+    limit-cause len tokens h.front h.rest h.items h.values l o h.parts h.nothing_before h.stands h.cause
 
 no-memory : (len : ℕ) (tokens : List Spanned) → verdict len tokens ≡ Refuse refusals.Memory → ⊥
 no-memory len tokens e =
-    let h = found len tokens 0 start [] refusals.Memory e in
+    let h = found len tokens refusals.Memory e in
     memory-cause len tokens h.front h.rest h.items h.values h.cause
+
+-- no environment is spelled where no text goes on
+unspelled : (tokens front rest : List Spanned) (env : NamedEnv) → tokens ≡ front ++ rest → IsDead (texts front) (texts rest) → Spells (texts tokens) env → ⊥
+unspelled tokens front rest env parts dead p = dead-apart (texts front) (texts rest) env dead (subst (λ ts. Spells ts env) (ap texts parts ∙ texts-append front rest) p)
 
 is-fine : (len : ℕ) (tokens : List Spanned) (ws : List Value) → verdict len tokens ≡ Fine ws → (env : NamedEnv) × (ws ≡ VEnv env ∷ []) × Spells (texts tokens) env
 is-fine len tokens ws e = subst (λ (o : Outcome). Meets o (texts tokens)) (accepts len tokens 0 start [] ws e) (exact.outcome (texts tokens))
@@ -375,8 +499,8 @@ is-spelled len tokens env p =
     let Goal : Type 0 = (verdict len tokens ≡ Fine (VEnv env ∷ [])) ⊎ ((l : Limit) × (o : ℕ) × (verdict len tokens ≡ Refuse (refusals.Limit l o))) in
     let R : ReadRefusal → Type 0 = λ r. verdict len tokens ≡ Refuse r → Goal in
     let refused : (r : ReadRefusal) → R r = λ r. elim r as R [
-      | refusals.Syntax o ↦ λ e. (let h = is-syntax len tokens o e in absurd (stops-apart (texts tokens) (texts h.rest) env h.stops p))
-      | refusals.Unsupported w o ↦ λ e. (let h = is-unsupported len tokens w o e in absurd (stops-apart (texts tokens) (texts (h.here ∷ h.rest)) env h.stops p))
+      | refusals.Syntax o ↦ λ e. (let h = is-syntax len tokens o e in absurd (unspelled tokens h.front h.rest env h.parts h.dead p))
+      | refusals.Unsupported w o ↦ λ e. (let h = is-unsupported len tokens w o e in absurd (unspelled tokens h.reached.front (h.here ∷ h.rest) env h.reached.parts h.dead p))
       | refusals.Limit l o ↦ λ e. inr (l, o, e)
       | refusals.Memory ↦ λ e. absurd (no-memory len tokens e)
     ] in
@@ -391,4 +515,14 @@ is-spelled len tokens env p =
     on (verdict len tokens) refl
 
 pub judged : IsJudged
-judged = record { fine = is-fine; syntax = is-syntax; unsupported = is-unsupported; limit = is-limit; memory = no-memory; spelled = is-spelled }
+judged =
+    record {
+      fine = is-fine;
+      syntax = is-syntax;
+      unsupported = is-unsupported;
+      limit = is-limit;
+      unsupported_there = unsupported-refused;
+      limit_there = limit-refused;
+      memory = no-memory;
+      spelled = is-spelled;
+    }

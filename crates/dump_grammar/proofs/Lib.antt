@@ -3,8 +3,8 @@ pub mod Values
 pub mod Language
 pub mod Things
 pub mod Exact
-pub mod Law
 pub mod FirstRefusal
+pub mod Law
 pub mod Within
 pub mod Numbering
 pub mod RefusedTexts

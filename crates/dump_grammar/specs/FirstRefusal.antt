@@ -2,7 +2,7 @@
 -- first, then Syntax, then the forms that are known and not read, then the other limits.
 use Rattle.std.specs.Prelude.{◌≡◌, ℕ, List, [], ◌∷◌, ◌++◌, Option, Some, None, Result, Ok, Err}
 use Rattle.sexp_reader.specs.Text.{Text}
-use Rattle.sexp_reader.specs.Lex.{Spanned, answer_at}
+use Rattle.sexp_reader.specs.Lex.{Spanned, answer_at, nesting_after_text}
 use Rattle.sexp_reader.specs.declared.Token.{Token}
 use Rattle.sexp_reader.specs.declared.TokenFault.{TokenFault}
 use Rattle.dump_grammar.specs.declared.refusal.Limit.{Limit}
@@ -13,7 +13,11 @@ use Rattle.dump_grammar.specs.Foreign.{foreign}
 use Rattle.dump_grammar.specs.Limits.{over}
 use Rattle.dump_grammar.specs.Judge.{texts, fault_refusal, unread, Refuse, verdict}
 use Rattle.dump_grammar.specs.Exactness.{Begins}
-use Rattle.dump_grammar.specs.Law.{nesting_of}
+
+-- the brackets that are open behind these tokens
+abbrev pub nesting_of : ℕ → List Spanned → ℕ
+nesting_of d [] = d
+nesting_of d (s ∷ ss) = nesting_of (nesting_after_text d s.text) ss
 
 -- the items that may come next, and the values
 abbrev pub State : Type 0
@@ -43,6 +47,10 @@ abbrev pub answer_refusal : Result (Option Token) TokenFault → Option ReadRefu
 answer_refusal (Ok o) r = r
 answer_refusal (Err f) r = Some (fault_refusal f)
 
+-- what a token refuses
+abbrev pub token_refusal : (nesting : ℕ) → Spanned → (after : List Spanned) → State → Option ReadRefusal
+token_refusal d s ss st = answer_refusal (answer_at d s.start s.text) (items_refusal st.0 s st.1 (texts ss))
+
 -- the end of the text refuses where something more may come
 abbrev pub end_refusal : (len : ℕ) → List Item → Option ReadRefusal
 end_refusal len [] = None
@@ -50,7 +58,7 @@ end_refusal len (i ∷ is) = Some (refusals.Syntax len)
 
 abbrev pub rest_refusal : (len nesting : ℕ) → (rest : List Spanned) → State → Option ReadRefusal
 rest_refusal len d [] st = end_refusal len st.0
-rest_refusal len d (s ∷ ss) st = answer_refusal (answer_at d s.start s.text) (items_refusal st.0 s st.1 (texts ss))
+rest_refusal len d (s ∷ ss) st = token_refusal d s ss st
 
 abbrev pub on_state : Option State → (State → Option ReadRefusal) → Option ReadRefusal
 on_state None go = None
@@ -64,8 +72,9 @@ abbrev pub refusal_at : (len : ℕ) → (front rest : List Spanned) → Option R
 refusal_at len front rest = refusal_from len 0 start [] front rest
 
 -- nothing arises at any token of the front
-abbrev pub NothingBefore : (front : List Spanned) → ((before : List Spanned) (s : Spanned) (after : List Spanned) → Option ReadRefusal) → Type 0
-NothingBefore front arises = (before : List Spanned) (s : Spanned) (after : List Spanned) → front ≡ before ++ s ∷ after → arises before s after ≡ None
+abbrev pub NothingBefore : (front rest : List Spanned) → Type 0
+NothingBefore front rest = (before : List Spanned) (s : Spanned) (after : List Spanned) → front ≡ before ++ s ∷ after →
+    on_state (state_from start [] (texts before)) (token_refusal (nesting_of 0 before) s (after ++ rest)) ≡ None
 
 pub record IsFirstRefusal (len : ℕ) (tokens : List Spanned) (r : ReadRefusal) : Type 0 where
   pub front : List Spanned
@@ -73,7 +82,7 @@ pub record IsFirstRefusal (len : ℕ) (tokens : List Spanned) (r : ReadRefusal) 
   pub parts : tokens ≡ front ++ rest
   pub stands : (st : State) × (state_from start [] (texts front) ≡ Some st)
   pub arises : refusal_at len front rest ≡ Some r
-  pub nothing_before : NothingBefore front (λ before s after. refusal_at len before (s ∷ after ++ rest))
+  pub nothing_before : NothingBefore front rest
 
 pub record IsFirst : Type 0 where
   -- A state stands exactly behind the tokens that some text begins with.

@@ -11,8 +11,8 @@ pub mod Exactness
 pub mod Foreign
 pub mod Limits
 pub mod Judge
-pub mod Law
 pub mod FirstRefusal
+pub mod Law
 pub mod Uses
 pub mod Numbering
 pub mod Within

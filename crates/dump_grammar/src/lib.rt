@@ -9,8 +9,9 @@
 //!
 //! What is promised, each as the contract of a function without result: `reading_is_exact` (what the table accepts is what is spelled, a text
 //! has one meaning, and the table stops at the first token that no text goes on with), `verdict_is_exact` (what an acceptance and each refusal
-//! of the verdict say, and that what is spelled is accepted or passes a limit), `limits_are_exact` (what is spelled is accepted exactly where
-//! no form and no token passes a limit), `numbers_are_by_first_use`, and `sample_texts` (texts with their meanings and refusals, counted by hand).
+//! of the verdict say, that forms that are known and not read and limits are refused exactly where they stand, and that what is spelled is
+//! accepted or passes a limit), `limits_are_exact` (what is spelled is accepted exactly where no form and no token passes a limit),
+//! `numbers_are_by_first_use`, and `sample_texts` (texts with their meanings and refusals, counted by hand).
 //! `docs/DUMP_FORMAT.md` is the same format as a page for users.
 //!
 //! Below stands `sexp_reader`, whose tokens these are. Above stands the reader of dumps, whose code follows the table.
@@ -40,7 +41,8 @@ pub fn reading_is_exact()
 {}
 
 /// The verdict on a text of spanned tokens: an acceptance is spelled, each refusal stands where its cause is, and what is spelled is accepted or
-/// passes a limit. It refuses exactly with the first refusal, which is said of each place of the text by itself.
+/// passes a limit. A form that is known and not read, or a limit, is refused exactly where it stands and no token before is refused. The verdict
+/// refuses exactly with the first refusal, which is said of each place of the text by itself.
 pub fn verdict_is_exact()
     ensures judged { IsJudged }
     ensures first { IsFirst }

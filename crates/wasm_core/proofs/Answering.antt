@@ -15,7 +15,7 @@ use Rattle.wasm_core.proofs.Safety.{safe, stays_good}
 
 -- a machine's step is a step of a run
 move_steps : (m : Parts) (cap : ℕ) (s t : State) → Move m cap s t → Step m s t
-move_steps m cap (At c) t h = (grants cap c, h)
+move_steps m cap (At c) t h = (grants m cap c, h)
 move_steps m cap (Over e store) t h = h
 
 pub moves_reach : (m : Parts) (cap k : ℕ) (s t : State) → Moves m cap k s t → Reach m k s t

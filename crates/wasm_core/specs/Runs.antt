@@ -1,6 +1,6 @@
 -- Whole runs of `main`, and runs of a machine with a bound on its pages.
 use Rattle.std.specs.Prelude.{ℕ, zero, suc, ◌≡◌, ◌+◌, ◌-◌, ◌*◌, ◌^◌, ◌≤◌, List, [], ◌∷◌, Bool, true, false, Option, Some, None, Result, Ok, Err, min, map, nat_le, replicate, slice_get}
-use Rattle.std.specs.Option.{option_and_then}
+use Rattle.std.specs.Option.{option_and_then, unwrap_or}
 use Rattle.wasm_core.specs.declared.types.ValType.{ValType}
 use Rattle.wasm_core.specs.declared.types.ValType.TheVariants as type
 use Rattle.wasm_core.specs.declared.types.Limits.{Limits}
@@ -18,6 +18,11 @@ use Rattle.wasm_core.specs.Entries.{index_of}
 abbrev pub first_pages : Option Limits → ℕ
 first_pages None = 0
 first_pages (Some l) = l.min
+
+-- the pages that a module's memory may have at most: its maximum, or 65,536 for a memory without one
+abbrev pub greatest_pages : Option Limits → ℕ
+greatest_pages None = 0
+greatest_pages (Some l) = unwrap_or l.max 65536
 
 -- the bytes of so many pages of zeros
 unfoldable pub zeroed : ℕ → List ℕ
@@ -52,18 +57,19 @@ abbrev pub store_of : State → Store
 store_of (At c) = c.store
 store_of (Over e store) = store
 
--- a machine grants a grow by n pages where they stay within its bound
+-- whether a memory of so many pages stays within a bound where it grows by the topmost operand
 abbrev pub within : ℕ → ℕ → List ConstValue → Bool
-within cap pages [] = false
-within cap pages (I32 n ∷ operands) = nat_le (pages + n) cap
-within cap pages (I64 n ∷ operands) = false
+within most pages [] = false
+within most pages (I32 n ∷ operands) = nat_le (pages + n) most
+within most pages (I64 n ∷ operands) = false
 
-abbrev pub grants : ℕ → Conf → Bool
-grants cap c = within cap c.store.pages c.current.operands
+-- A machine refuses a grow exactly where the pages would pass the smaller of its bound and the module's maximum.
+abbrev pub grants : Parts → ℕ → Conf → Bool
+grants m cap c = within (min cap (greatest_pages m.memory)) c.store.pages c.current.operands
 
--- a step of a machine that refuses a grow exactly past its bound and the module's maximum
+-- a step of such a machine
 abbrev pub Move : Parts → ℕ → State → State → Type 0
-Move m cap (At c) t = step m (grants cap c) c ≡ Some t
+Move m cap (At c) t = step m (grants m cap c) c ≡ Some t
 Move m cap (Over e store) t = ⊥
 
 -- k such steps

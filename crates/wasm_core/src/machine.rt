@@ -125,7 +125,8 @@ fn i32_at(globals: &[ConstValue], place: u32) -> u32
 }
 
 impl<'m> Machine<'m> {
-    /// A machine at the start of a run of `main`, whose memory grows to `cap` pages of 65,536 bytes at most.
+    /// A machine at the start of a run of `main`, whose memory grows to `cap` pages of 65,536 bytes at most, or to the module's maximum where that
+    /// is smaller.
     ///
     /// `NoEntry` names the first of `main`, `memory`, `result` and `status` that the module doesn't export as asked.
     /// `Pages` comes where the entries are there and the memory's least pages pass `cap`.

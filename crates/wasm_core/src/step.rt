@@ -32,8 +32,8 @@ fn run_instr(
 ) -> Result<Option<Ended>, AllocError>
     requires next { next ≡ thread.old.at + 1 }
     requires here { slice_get body.now.code thread.old.at ≡ Some instr.now }
-    requires some { IsSome (act program.now (grants cap (conf_of body.now thread.old)) instr.now (drop (thread.old.at + 1) body.now.code) (conf_of body.now thread.old)) }
-    ensures ok { IfOk result (λ e. act program.now (grants cap (conf_of body.now thread.old)) instr.now (drop (thread.old.at + 1) body.now.code) (conf_of body.now thread.old) ≡ Some (state_of body.now e thread.new)) }
+    requires some { IsSome (act program.now (grants program.now cap (conf_of body.now thread.old)) instr.now (drop (thread.old.at + 1) body.now.code) (conf_of body.now thread.old)) }
+    ensures ok { IfOk result (λ e. act program.now (grants program.now cap (conf_of body.now thread.old)) instr.now (drop (thread.old.at + 1) body.now.code) (conf_of body.now thread.old) ≡ Some (state_of body.now e thread.new)) }
     ensures err { OnErr result (conf_of body.now thread.new ≡ conf_of body.now thread.old) }
 {
     match instr {
@@ -51,15 +51,15 @@ fn run_instr(
     Ok(None)
 }
 
-/// One step, where memory may grow up to `cap` pages.
+/// One step, where memory may grow up to the smaller of `cap` and the module's maximum, in pages of 65,536 bytes.
 pub fn run_step(
     program: &Module,
     body: &Body,
     cap: u32,
     thread: &mut Thread,
 ) -> Result<Option<Ended>, AllocError>
-    requires { IsSome (step program.now (grants cap (conf_of body.now thread.old)) (conf_of body.now thread.old)) }
-    ensures ok { IfOk result (λ e. step program.now (grants cap (conf_of body.now thread.old)) (conf_of body.now thread.old) ≡ Some (state_of body.now e thread.new)) }
+    requires { IsSome (step program.now (grants program.now cap (conf_of body.now thread.old)) (conf_of body.now thread.old)) }
+    ensures ok { IfOk result (λ e. step program.now (grants program.now cap (conf_of body.now thread.old)) (conf_of body.now thread.old) ≡ Some (state_of body.now e thread.new)) }
     ensures err { OnErr result (conf_of body.now thread.new ≡ conf_of body.now thread.old) }
 {
     let code = body.code.as_slice();
