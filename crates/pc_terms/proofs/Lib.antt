@@ -2,3 +2,4 @@ pub mod Most
 pub mod Parts
 pub mod NodeTrees
 pub mod Applied
+pub mod Forms

@@ -1,5 +1,7 @@
 -- The largest of a list, as a loop finds it, and what it says of the lists within a tree.
-use Rattle.std.proofs.Common.{◌≡◌, ℕ, ◌-◌, List, [], ◌∷◌, length, max, refl, ap, arith}
+use Rattle.std.proofs.Common.{◌≡◌, ℕ, zero, suc, ◌+◌, ◌-◌, ◌<◌, List, [], ◌∷◌, length, take, get_or, max, refl, sym, ap, ◌∙◌, subst as along, arith}
+use Rattle.std.specs.Ordering.{ord_max, nat_cmp}
+use Rattle.std.proofs.lemmas.Grind.{common_steps}
 use denote.Param.Weighed.{most}
 use Rattle.trees.specs.Tree.{terms_of}
 use Rattle.pc_terms.specs.Syntax.{Term}
@@ -7,6 +9,20 @@ use Rattle.trees.specs.Measures.{depth, depth_trees, loose, loose_trees, above, 
 use Rattle.pc_terms.specs.Lists.{arms_of, types_of, bodies_of, depth_defs, loose_defs, above_defs}
 use Rattle.pc_terms.specs.declared.term.Branch.{Branch}
 use Rattle.pc_terms.specs.declared.term.Def.{Def}
+
+pub ord_max-numbers : (a b : ℕ) → ord_max nat_cmp a b ≡ max a b
+ord_max-numbers a b = grind (arith, common_steps)
+
+most-suc : {X : Type 0} (f : X → ℕ) (xs : List X) (i : ℕ) (o : X) → i < length xs → most f (take (suc i) xs) ≡ max (most f (take i xs)) (f (get_or xs i o))
+most-suc f [] i o h = absurd (omega arith)
+most-suc f (x ∷ xs) zero o h = omega arith
+most-suc f (x ∷ xs) (suc i) o h = omega (arith, most-suc f xs i o (omega arith))
+
+-- one more item, which a loop has read
+pub most-more : {X : Type 0} (f : X → ℕ) (xs : List X) (i : ℕ) (x : X) → x ≡ get_or xs i x → i < length xs → most f (take (i + 1) xs) ≡ max (most f (take i xs)) (f x)
+most-more f xs i x is h =
+    let next : suc i ≡ i + 1 = omega arith in
+    along (λ n. most f (take n xs) ≡ max (most f (take i xs)) (f x)) next (most-suc f xs i x h ∙ ap (λ y. max (most f (take i xs)) (f y)) (sym is))
 
 pub depth_trees-most : (xs : List Term) → depth_trees (terms_of xs) ≡ most (λ x. depth x) xs
 depth_trees-most [] = refl

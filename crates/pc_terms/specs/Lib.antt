@@ -1,4 +1,5 @@
 pub mod Syntax
+pub mod Formed
 pub mod Code
 pub mod Lists
 pub mod View

@@ -1,7 +1,10 @@
 //! Depth and loose bound of a node, from those of its parts.
 ghost use Rattle.std.specs.Prelude.{◌≡◌, ◌≤◌, ◌^◌};
+ghost use Rattle.std.specs.List.{All};
 ghost use Rattle.trees.specs.Tree.{terms_of};
 ghost use Rattle.trees.specs.Measures.{depth, depth_trees, loose, loose_trees, above, above_trees};
+ghost use Rattle.pc_terms.specs.Syntax.{HasIndex};
+ghost use Rattle.pc_terms.specs.Formed.{IsFormed};
 ghost use Rattle.pc_terms.specs.Lists.{arms_of, depth_defs, above_defs, loose_defs};
 ghost use Rattle.pc_terms.specs.View.{tree_of};
 
@@ -13,6 +16,7 @@ impl Terms {
         ensures is { result ≡ depth_trees (terms_of self.now) }
         ensures depths { depth_trees (terms_of self.now) ≤ 2048 }
         ensures numbers { above_trees (terms_of self.now) ≤ 2 ^ 32 }
+        ensures formed { All IsFormed self.now }
     {
         let mut most = 0;
         for x in &self.items {
@@ -38,6 +42,7 @@ impl Branches {
         ensures is { result ≡ depth_trees (arms_of self.now) }
         ensures depths { depth_trees (arms_of self.now) ≤ 2048 }
         ensures numbers { above_trees (arms_of self.now) ≤ 2 ^ 32 }
+        ensures formed { All (λ b. IsFormed b.body) self.now }
     {
         let mut most = 0;
         for x in &self.items {
@@ -63,6 +68,7 @@ impl Defs {
         ensures is { result ≡ depth_defs self.now }
         ensures depths { depth_defs self.now ≤ 2048 }
         ensures numbers { above_defs self.now ≤ 2 ^ 32 }
+        ensures formed { All (λ d. IsFormed d.ty × IsFormed d.body) self.now }
     {
         let mut most = 0;
         for x in &self.items {
@@ -91,6 +97,7 @@ impl Node {
         ensures is { result ≡ depth (tree_of self.now) }
         ensures depths { depth (tree_of self.now) ≤ 2049 }
         ensures numbers { above (tree_of self.now) ≤ 2 ^ 32 }
+        ensures formed { HasIndex (tree_of self.now) → IsFormed (tree_of self.now) }
     {
         match self {
             Node::Rel(i) => {

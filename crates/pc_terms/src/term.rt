@@ -3,6 +3,7 @@ ghost use Rattle.std.specs.Prelude.{◌≡◌, ◌≤◌, ◌^◌, ℕ, Result, 
 ghost use Rattle.trees.specs.Closed.{Closed};
 ghost use Rattle.trees.specs.Measures.{depth, loose, IsWithin, IsBeyond};
 ghost use Rattle.pc_terms.specs.Syntax.{HasIndex};
+ghost use Rattle.pc_terms.specs.Formed.{IsFormed};
 ghost use Rattle.pc_terms.specs.View.{tree_of};
 ghost use Rattle.pc_terms.specs.declared.term.MakeFault.TheVariants.{TooDeep, Memory};
 
@@ -15,7 +16,9 @@ use universe_levels::sort::Sort;
 
 /// A term: a shared node, which keeps its depth and its loose bound.
 ///
-/// Contracts see it as a tree. Its depth is at most 2,048, and its variables are numbers of 32 bits.
+/// Contracts see it as a tree. Its depth is at most 2,048, its variables are numbers of 32 bits, and all its nodes are formed: a match's
+/// parameters stand under no variable of their own, and a fixpoint names one of its definitions, each of which has a type, a body under
+/// all definitions, and a recursive argument.
 #[cycle(term)]
 #[derive(Drop)]
 pub struct Term {
@@ -236,6 +239,7 @@ impl Term {
     pub fn view(&self) -> &Node
         ensures is { tree_of result.now ≡ self.now }
         ensures indexed { HasIndex self.now }
+        ensures formed { IsFormed self.now }
     {
         &self.rc.node
     }
@@ -244,6 +248,7 @@ impl Term {
     pub fn depth(&self) -> u32
         ensures is { result ≡ depth self.now }
         ensures within { IsWithin self.now }
+        ensures formed { IsFormed self.now }
     {
         self.rc.depth
     }

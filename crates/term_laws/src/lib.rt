@@ -10,12 +10,16 @@
 #![tactic(auto)]
 
 ghost use Rattle.std.specs.Prelude.{◌≡◌, ◌≤◌, ◌<◌, ◌+◌, ◌++◌, ℕ, List, [], ◌∷◌, length, map};
+ghost use Rattle.std.specs.List.{All};
 ghost use Rattle.trees.specs.Tree.{Rel};
 ghost use Rattle.trees.specs.Substitution.{lift, subst, subst_list};
 ghost use Rattle.trees.specs.Parallel.{rename, over, overs, substitute, shift, put, put_all};
 ghost use Rattle.trees.specs.Closed.{Closed, ClosedEach};
 ghost use Rattle.trees.specs.Measures.{depth, nodes, loose, above};
-ghost use Rattle.pc_terms.specs.Syntax.{Term, apply, head, args};
+ghost use Rattle.pc_terms.specs.Syntax.{Term, HasIndex, apply, head, args};
+ghost use Rattle.pc_terms.specs.Formed.{IsFormed};
+ghost use Rattle.pc_terms.specs.View.{tree_of};
+ghost use Rattle.pc_terms.specs.declared.term.Node.{Node};
 
 /// A lift of a lift: a lift by nothing is the identity; two lifts are one where the second cuts off within what the first freed; and a
 /// lift goes past one that cuts off above it.
@@ -82,6 +86,28 @@ pub fn results_stay_closed()
     ensures of_subst { (n k : ℕ) (a t : Term) → Closed (k + n + 1) t → Closed n a → Closed (k + n) (subst k a t) }
     ensures of_subst_list { (n k : ℕ) (xs : List Term) (t : Term) →
         Closed (k + n + length xs) t → ClosedEach n xs → Closed (k + n) (subst_list k xs t) }
+{}
+
+/// What results are of the form that terms in memory have: each operation on terms of that form gives one.
+pub fn results_stay_formed()
+    ensures of_rename { (r : ℕ → ℕ) (t : Term) → IsFormed t → IsFormed (rename r t) }
+    ensures before_rename { (r : ℕ → ℕ) (t : Term) → IsFormed (rename r t) → IsFormed t }
+    ensures of_substitute { (s : ℕ → Term) (t : Term) → ((i : ℕ) → IsFormed (s i)) → IsFormed t → IsFormed (substitute s t) }
+    ensures of_put_all { (xs : List Term) (s : ℕ → Term) → All IsFormed xs → ((i : ℕ) → IsFormed (s i)) → (i : ℕ) → IsFormed (put_all xs s i) }
+    ensures under_binders { (k : ℕ) (s : ℕ → Term) → ((i : ℕ) → IsFormed (s i)) → (i : ℕ) → IsFormed (overs k s i) }
+    ensures of_lift { (m k : ℕ) (t : Term) → IsFormed t → IsFormed (lift m k t) }
+    ensures before_lift { (m k : ℕ) (t : Term) → IsFormed (lift m k t) → IsFormed t }
+    ensures of_subst { (k : ℕ) (a t : Term) → IsFormed a → IsFormed t → IsFormed (subst k a t) }
+    ensures of_subst_list { (k : ℕ) (xs : List Term) (t : Term) → All IsFormed xs → IsFormed t → IsFormed (subst_list k xs t) }
+    ensures of_apply { (f : Term) (xs : List Term) → IsFormed f → All IsFormed xs → IsFormed (apply f xs) }
+    ensures of_head { (t : Term) → IsFormed t → IsFormed (head t) }
+    ensures of_args { (t : Term) → IsFormed t → All IsFormed (args t) }
+    ensures index { (t : Term) → IsFormed t → HasIndex t }
+{}
+
+/// A term of that form is the tree of a node, so the form asks for no more than the types of the nodes do.
+pub fn formed_terms_have_nodes()
+    ensures node { (t : Term) → IsFormed t → (n : Node) × (tree_of n ≡ t) }
 {}
 
 /// The loose bound is the least number that the term is closed below.

@@ -5,3 +5,4 @@ pub mod Put
 pub mod Exchange
 pub mod Bounds
 pub mod Operations
+pub mod Shape
