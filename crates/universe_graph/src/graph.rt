@@ -12,6 +12,7 @@ use crate::row::Row;
 use crate::steps::steps;
 use std::alloc::{AllocError, Global};
 use std::marker::Model;
+use std::rc::Rc;
 use universe_levels::constraint::Constraint;
 use universe_levels::universe::Universe;
 
@@ -36,6 +37,12 @@ impl From<AllocError> for GraphFault {
 /// the list of the constraints.
 #[derive(Drop)]
 pub struct Graph {
+    table: Rc<Table>,
+}
+
+// What graphs of the same constraints share.
+#[derive(Drop)]
+struct Table {
     levels: u32,
     constraints: Vec<Constraint>,
     rows: Vec<Row>,
@@ -48,9 +55,9 @@ impl Model for Graph {
 
     ghost use Rattle.universe_graph.specs.Table.{IsTable};
 
-    ghost view = { λ g. record { levels = g.levels; constraints = g.constraints.items } };
+    ghost view = { λ g. record { levels = g.table.value.levels; constraints = g.table.value.constraints.items } };
 
-    ghost invariant = { λ g. IsTable g.levels g.constraints.items g.rows.items };
+    ghost invariant = { λ g. IsTable g.table.value.levels g.table.value.constraints.items g.table.value.rows.items };
 }
 
 impl Graph {
@@ -78,11 +85,24 @@ impl Graph {
             });
         }
         let constraints = constraints.to_vec(alloc)?;
-        Ok(Graph {
-            levels,
-            constraints,
-            rows,
-        })
+        let table = shared(
+            alloc,
+            Table {
+                levels,
+                constraints,
+                rows,
+            },
+        )?;
+        Ok(Graph { table })
+    }
+
+    /// The same graph, which shares all it has with this one; answers only `Memory` besides.
+    pub fn share(&self) -> Result<Graph, GraphFault>
+        ensures same { IfOk result (λ g. g ≡ self.now) }
+        ensures only_memory { IfErr result (λ e. e ≡ Memory) }
+    {
+        let table = self.table.clone()?;
+        Ok(Graph { table })
     }
 
     /// Whether `low` is at most `high` under every valuation that meets the constraints. Takes no memory.
@@ -91,21 +111,33 @@ impl Graph {
         requires high_over { IsOver self.now.levels high.now }
         ensures entailed { IsTrue result ↔ Entails self.now.levels self.now.constraints low.now high.now }
     {
-        covers(self.rows.as_slice(), low.parts(), high.parts())
+        covers(self.table.rows.as_slice(), low.parts(), high.parts())
     }
 
     /// The number of declared levels. Takes no memory.
     pub fn levels(&self) -> u32
         ensures value { result ≡ self.now.levels }
     {
-        self.levels
+        self.table.levels
     }
 
     /// The constraints, in the order that they were given. Takes no memory.
     pub fn constraints(&self) -> &[Constraint]
         ensures value { result.now ≡ self.now.constraints }
         ensures consistent { IsConsistent self.now.levels self.now.constraints }
+        ensures over { AreOver self.now.levels self.now.constraints }
     {
-        self.constraints.as_slice()
+        self.table.constraints.as_slice()
+    }
+}
+
+// The table, to be shared.
+fn shared(alloc: Global, table: Table) -> Result<Rc<Table>, GraphFault>
+    ensures same { IfOk result (λ rc. rc.value ≡ table) }
+    ensures only_memory { IfErr result (λ e. e ≡ Memory) }
+{
+    match Rc::new(alloc, table) {
+        Ok(rc) => Ok(rc),
+        Err(_) => Err(GraphFault::Memory),
     }
 }

@@ -8,4 +8,4 @@ use Rattle.universe_graph.proofs.graph.Graph.constraints.Goals as goal
 pub returns-clause-consistent : goal.returns-clause-consistent
 returns-clause-consistent c =
     let P : Constrained → Type 0 = λ g. IsConsistent g.levels g.constraints in
-    subst P c.self.view_is (closed-consistent c.self.inside.levels c.self.inside.constraints.items (span c.self.inside.rows.items) c.self.invariant.over c.self.invariant.closed)
+    subst P c.self.view_is (closed-consistent c.self.inside.table.value.levels c.self.inside.table.value.constraints.items (span c.self.inside.table.value.rows.items) c.self.invariant.over c.self.invariant.closed)
