@@ -11,3 +11,6 @@ pub mod FairRules
 pub mod FairTyping
 pub mod Examples
 pub mod SameTrees
+pub mod Entailing
+pub mod Meters
+pub mod Following

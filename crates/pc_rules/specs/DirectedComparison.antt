@@ -1,9 +1,9 @@
 -- Comparison: below, or equal. One unit at its start; equal terms are done; else both sides are reduced, and taken apart.
-use Rattle.std.specs.Prelude.{ℕ, zero, suc, ◌≡◌, ◌==◌, ◌&&◌, Bool, true, false, if◌then◌else◌, List, [], ◌∷◌, length, Option, Some, None}
+use Rattle.std.specs.Prelude.{ℕ, zero, suc, ◌≡◌, ◌≢◌, ◌==◌, ◌&&◌, Bool, true, false, if◌then◌else◌, List, [], ◌∷◌, length, Option, Some, None}
 use Rattle.universe_levels.specs.declared.level.LevelExpr.{LevelExpr}
 use Rattle.universe_levels.specs.declared.sort.Sort.{Sort}
 use Rattle.universe_levels.specs.declared.sort.Sort.TheVariants.{Prop, Of}
-use Rattle.universe_levels.specs.Consistency.{Entails}
+use Rattle.universe_levels.specs.Consistency.{Entails, IsOver}
 use Rattle.universe_levels.specs.declared.constraint.Constraint.{Constraint}
 use Rattle.pc_terms.specs.declared.leaf.FamilyId.{FamilyId}
 use Rattle.pc_terms.specs.Syntax.{Term, Terms, Next, Rel, SortT, Prod, Lambda, Const, Ind, Construct, Case, Fix, head, args, number, shift}
@@ -19,13 +19,13 @@ use Rattle.pc_rules.specs.Same.{same, same_numbers, same_names, same_families}
 use Rattle.pc_rules.specs.DirectedRun.{Act, done, refused, too_nested, passing, bind, ticking, any_beyond, run_all}
 use Rattle.pc_rules.specs.DirectedWeakHead.{whnf, family_of}
 
--- a test of entailment between universes, which decides the meaning of entailment under the constraints
+-- a test of entailment between universes, which decides the meaning of entailment under the constraints, for universes of declared levels
 abbrev pub Test : Type 0
 Test = List LevelExpr → List LevelExpr → Bool
 
 pub record IsTest (levels : ℕ) (cs : List Constraint) (q : Test) : Type 0 where
   pub yes : (u w : List LevelExpr) → q u w ≡ true → Entails levels cs u w
-  pub no : (u w : List LevelExpr) → q u w ≡ false → Entails levels cs u w → ⊥
+  pub no : (u w : List LevelExpr) → w ≢ [] → IsOver levels u → IsOver levels w → q u w ≡ false → Entails levels cs u w → ⊥
 
 abbrev pub sort_below : Test → Sort → Sort → Bool
 sort_below q Prop s = true

@@ -23,3 +23,13 @@ pub mod DirectedTyping
 pub mod DirectedDeclarations
 pub mod DirectedErasable
 pub mod DirectedLaws
+pub mod Follows
+pub mod Stops
+pub mod WellCounted
+pub mod FixConditions
+pub mod Lookup
+pub mod Trie
+pub mod TrieNodes
+pub mod SharedCells
+pub mod Entailment
+pub mod Leads

@@ -1,4 +1,7 @@
 //! What an environment keeps: constants, and blocks of inductive families with their constructors.
+ghost use Rattle.std.specs.Prelude.{◌≡◌, length};
+ghost use Rattle.pc_rules.specs.Environment.{name_of};
+
 use pc_terms::leaf::Name;
 use pc_terms::lists::Telescope;
 use pc_terms::term::{Term, Terms};
@@ -43,6 +46,19 @@ pub enum Kept {
     },
     Heads(Block),
     Block(Block),
+}
+
+impl Kept {
+    /// The name by which it is kept. Takes no memory.
+    pub fn name(&self) -> Name
+        ensures is { result ≡ name_of self.now }
+    {
+        match self {
+            Kept::Constant { name, .. } => *name,
+            Kept::Heads(block) => block.name,
+            Kept::Block(block) => block.name,
+        }
+    }
 }
 
 /// A list of sorts.
@@ -96,4 +112,94 @@ impl Model for Families {
     ghost coded = { Prim.hlevel (codes, coded_term) };
 
     ghost view = { λ a. a.items.items };
+}
+
+impl Sorts {
+    /// The list of the sorts of a vector. Takes no memory.
+    pub fn of(items: Vec<Sort>) -> Sorts
+        ensures is { result ≡ items.items }
+    {
+        Sorts { items }
+    }
+
+    /// The vector of the sorts. Takes no memory.
+    pub fn into_vec(self) -> Vec<Sort>
+        ensures is { result.items ≡ self }
+    {
+        self.items
+    }
+
+    /// The sorts, the first first. Takes no memory.
+    pub fn as_slice(&self) -> &[Sort]
+        ensures is { result.now ≡ self.now }
+    {
+        self.items.as_slice()
+    }
+
+    /// The number of sorts. Takes no memory.
+    pub fn len(&self) -> usize
+        ensures is { result ≡ length self.now }
+    {
+        self.items.len()
+    }
+}
+
+impl Constructors {
+    /// The list of the constructors of a vector. Takes no memory.
+    pub fn of(items: Vec<Constructor>) -> Constructors
+        ensures is { result ≡ items.items }
+    {
+        Constructors { items }
+    }
+
+    /// The vector of the constructors. Takes no memory.
+    pub fn into_vec(self) -> Vec<Constructor>
+        ensures is { result.items ≡ self }
+    {
+        self.items
+    }
+
+    /// The constructors, the first first. Takes no memory.
+    pub fn as_slice(&self) -> &[Constructor]
+        ensures is { result.now ≡ self.now }
+    {
+        self.items.as_slice()
+    }
+
+    /// The number of constructors. Takes no memory.
+    pub fn len(&self) -> usize
+        ensures is { result ≡ length self.now }
+    {
+        self.items.len()
+    }
+}
+
+impl Families {
+    /// The list of the families of a vector. Takes no memory.
+    pub fn of(items: Vec<Family>) -> Families
+        ensures is { result ≡ items.items }
+    {
+        Families { items }
+    }
+
+    /// The vector of the families. Takes no memory.
+    pub fn into_vec(self) -> Vec<Family>
+        ensures is { result.items ≡ self }
+    {
+        self.items
+    }
+
+    /// The families, the first first. Takes no memory.
+    pub fn as_slice(&self) -> &[Family]
+        ensures is { result.now ≡ self.now }
+    {
+        self.items.as_slice()
+    }
+
+    /// The number of families. Takes no memory.
+    pub fn len(&self) -> usize
+        ensures is { result ≡ length self.now }
+    {
+        self.items.len()
+    }
 }

@@ -1,4 +1,5 @@
-//! The rules of the calculus as definitions: PCUIC (Sozeau et al., "Coq Coq Correct!", POPL 2020) in this project's profile.
+//! The rules of the calculus: PCUIC (Sozeau et al., "Coq Coq Correct!", POPL 2020) in this project's profile, as definitions; and the types
+//! and traits of the crates that reduce, compare, guard and infer by them.
 //!
 //! The declarative definitions say what is meant. In the order in which they stand on each other: `specs/Environment.antt`, `Context`,
 //! `Instances` (types and entries formed from declarations), `Step` (reduction), `Conversion` (equality and cumulativity), `Elimination`,
@@ -7,21 +8,44 @@
 //!
 //! The directed rules say what a checker does, step by step: which unit it takes, which refusal comes first and what it keeps, and which
 //! uses of rules are counted. They are total functions: `DirectedRun` (how a run ends), `DirectedWeakHead`, `DirectedComparison`,
-//! `DirectedGuard`, `DirectedTyping`, `DirectedDeclarations` and `DirectedErasable`.
+//! `DirectedGuard`, `DirectedTyping`, `DirectedDeclarations` and `DirectedErasable`. `Entailment` is their test of universes.
 //!
-//! What is promised (`laws`, `directed_laws`): equality is a congruence and an equivalence, below a preorder (`reflexive`, `symmetric`,
-//! `transitive`, `steps`, `equality`, `prop` and one clause for each former); evaluation is deterministic, its count of nodes too
-//! (`determined`); a term has one weak-head normal form at most (`unique`); what has a type has it as a bare type (`bare`); directed
+//! The traits `Reducer`, `Converter`, `Guarder` and `Typer` say of each implementation that it follows the directed rules (`follows`, by
+//! `Follows`): its results and refusals are theirs with the units that are left and the uses of rules; it stops for want of units exactly
+//! where they do, unless they pass a limit first; and it may always answer want of memory. Besides, its results are right by the
+//! declarative definitions (`reached`, `below`, `equal`, `guarded`, `typed`). Their conditions are in `WellCounted` and `FixConditions`.
+//!
+//! The types: `Env` finds what is kept by a name (`kept`), keeps declarations (`kept`, `as_before`) and heads of blocks, and decides
+//! entailment (`test`, `entailed`); `Ctx` is extended without copying (`longer`); `Meter` takes units, counts uses of rules and bounds the
+//! rules that stand in one another (`account`, `nest`).
+//!
+//! What is promised besides (`laws`, `directed_laws`): equality is a congruence and an equivalence, below a preorder (`reflexive`,
+//! `symmetric`, `transitive`, `steps`, `equality`, `prop` and one clause for each former); evaluation is deterministic, its count of nodes
+//! too (`determined`); a term has one weak-head normal form at most (`unique`); what has a type has it as a bare type (`bare`); directed
 //! weak-head steps are steps (`steps`, `weak_steps`, `reached`); the directed rules never go back on units, and more units change no
 //! result (`weak_head`, `comparison`, `guard`, `inference`, `blocks`).
 //!
-//! Below stand `trees` and `pc_terms` (terms, lifting, substitution) and `universe_levels` (sorts, valuations, entailment), above the
-//! crates that reduce, compare, infer, check, evaluate and erase, and those that prove laws of typing and erasure.
+//! Below stand `trees` and `pc_terms` (terms, lifting, substitution), `universe_levels` (sorts, valuations) and `universe_graph`
+//! (constraints and entailment), above the crates that reduce, compare, infer, check, evaluate and erase, and those that prove laws of
+//! typing and erasure.
 #![tactic(auto)]
 
+pub mod accepted;
 pub mod broken;
+pub mod context;
+pub mod converter;
 pub mod declaration;
+mod declarations;
 pub mod directed_laws;
 pub mod entry;
+pub mod environment;
+pub mod guarder;
 pub mod laws;
 pub mod meter;
+mod number_map;
+pub mod reducer;
+mod shared_list;
+pub mod stop;
+#[cfg(test)]
+mod tests;
+pub mod typer;
