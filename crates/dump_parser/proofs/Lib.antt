@@ -1,0 +1,7 @@
+pub mod Steps
+pub mod Numbers
+pub mod Depths
+pub mod Lists
+pub mod Maps
+pub mod Declarations
+pub mod Chains

@@ -1,0 +1,16 @@
+use Rattle.std.proofs.Common.{◌≡◌, ◌≤◌, List, ◌∷◌, length, map}
+use Rattle.sexp_reader.specs.Stream.{source, stream}
+use Rattle.dump_grammar.specs.Table.{Item, Value, IList, Constructors, Do, NoCtors, VCtors}
+use Rattle.dump_parser.specs.Reading.{judged}
+use Rattle.dump_parser.specs.Environment.{named_ctor}
+use Rattle.dump_parser.proofs.block.constructors.Given as goal
+
+abbrev pub invariant-loop-list : goal.invariant-loop-list
+invariant-loop-list l = record {
+  same : source l.tokens ≡ source l.fn.tokens;
+  shorter : length (stream l.tokens) ≤ length (stream l.fn.tokens);
+  goes : (k : List Item) (vs : List Value) → judged l.fn.tokens (Do NoCtors (IList Constructors) ∷ k) vs ≡ judged l.tokens (IList Constructors ∷ k) (VCtors (map named_ctor l.list.items) ∷ vs);
+}
+
+abbrev pub decreases-loop-list : goal.decreases-loop-list
+decreases-loop-list l = length (stream l.tokens)

@@ -1,0 +1,10 @@
+pub mod Code
+pub mod Tree
+pub mod Falls
+pub mod Environment
+pub mod Reading
+pub mod Number
+pub mod Making
+pub mod Words
+pub mod Opening
+pub mod Ending

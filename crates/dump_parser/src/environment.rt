@@ -1,0 +1,62 @@
+//! The environment of a text: its levels, constraints, declarations and main, each name as the slice of the text where it stands.
+
+use crate::tree::{SortTree, Tree};
+
+/// How two levels of a constraint stand to each other: `lt`, `le` or `eq`.
+#[derive(Clone, Copy, Debug, PartialEq, Eq)]
+pub enum Relation {
+    Less,
+    AtMost,
+    Equal,
+}
+
+/// A constraint on two levels.
+#[derive(Clone, Copy, Debug)]
+pub struct ConstraintTree<'a> {
+    pub relation: Relation,
+    pub left: &'a [u8],
+    pub right: &'a [u8],
+}
+
+/// A constructor: the types of its arguments, the outermost first, each under the block's parameters and the arguments before it; and the indices
+/// of what it builds, under the parameters and all arguments.
+#[derive(Drop)]
+pub struct CtorTree<'a> {
+    pub name: &'a [u8],
+    pub args: Vec<Tree<'a>>,
+    pub result: Vec<Tree<'a>>,
+}
+
+/// A family: its sort, the types of its indices, the outermost first, each under the block's parameters and the indices before it, and its
+/// constructors.
+#[derive(Drop)]
+pub struct FamilyTree<'a> {
+    pub name: &'a [u8],
+    pub sort: SortTree<'a>,
+    pub indices: Vec<Tree<'a>>,
+    pub ctors: Vec<CtorTree<'a>>,
+}
+
+/// A declaration: a constant, with its body if it has one, or a block of families, with the types of its parameters, the outermost first.
+#[derive(Drop)]
+pub enum DeclTree<'a> {
+    Constant {
+        name: &'a [u8],
+        ty: Tree<'a>,
+        body: Option<Tree<'a>>,
+    },
+    Block {
+        name: &'a [u8],
+        params: Vec<Tree<'a>>,
+        families: Vec<FamilyTree<'a>>,
+    },
+}
+
+/// An environment: the levels and constraints, the declarations in their order, and main.
+#[derive(Drop)]
+pub struct EnvTree<'a> {
+    pub levels: Vec<&'a [u8]>,
+    pub constraints: Vec<ConstraintTree<'a>>,
+    pub declarations: Vec<DeclTree<'a>>,
+    pub main: Tree<'a>,
+}
