@@ -1,0 +1,10 @@
+pub mod Tables
+pub mod Growth
+pub mod Depths
+pub mod Parts
+pub mod Items
+pub mod Formers
+pub mod Universes
+pub mod Members
+pub mod Spelled
+pub mod Verdicts

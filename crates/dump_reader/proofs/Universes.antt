@@ -1,0 +1,62 @@
+-- What is made of a sort, from what is made of its parts.
+use Rattle.std.proofs.Common.{◌≡◌, ◌≢◌, ℕ, zero, suc, ◌+◌, ◌<◌, List, [], ◌∷◌, ◌++◌, map, length, take, get_or, refl, sym, ap, subst, ◌∙◌, arith}
+use Rattle.universe_levels.specs.declared.level.Level.{Level}
+use Rattle.universe_levels.specs.declared.level.LevelExpr.{LevelExpr}
+use Rattle.universe_levels.specs.declared.sort.Sort.TheVariants as sorts
+use Rattle.universe_levels.specs.Maximum.{maximum_of}
+use Rattle.dump_grammar.specs.Named.{NamedSort, AType}
+use Rattle.dump_grammar.specs.Uses.{levels_of_sort, level_of_part, each}
+use Rattle.dump_parser.specs.declared.tree.LevelPart.{LevelPart}
+use Rattle.dump_parser.specs.Tree.{part_of}
+use Rattle.dump_reader.specs.Tables.{after_uses}
+use Rattle.dump_reader.specs.declared.numbering.Tables.{Tables}
+use Rattle.dump_reader.specs.Numbered.{level_number, level_part, numbered_sort}
+use Rattle.dump_reader.specs.Growth.{unused, Numbers}
+use Rattle.dump_reader.specs.Made.{NumbersEach, part_names, part_levels, numbered_part}
+use Rattle.dump_reader.proofs.Growth.{on, restated, one-more-at}
+
+pub same-item : {X : Type 0} (xs : List X) (i : ℕ) (d e : X) → i < length xs → get_or xs i d ≡ get_or xs i e
+same-item [] i d e h = absurd (omega arith)
+same-item (x ∷ xs) zero d e h = refl
+same-item (x ∷ xs) (suc i) d e h = same-item xs i d e (omega arith)
+
+pub one-part : (ps : List LevelPart) (i : ℕ) (d : LevelPart) (ys zs : List LevelExpr) (l : Level) {old mid new : Tables} → i < length ps → zs ≡ ys ++ record { level = l; add = (get_or ps i d).add } ∷ []
+    → NumbersEach part_names part_levels numbered_part (take i ps) old mid ys
+    → Numbers unused (λ after. (get_or ps i d).level.now ∷ after) (λ ns ls. level_number ls (get_or ps i d).level.now) mid new l
+    → NumbersEach part_names part_levels numbered_part (take (i + 1) ps) old new zs
+one-part ps i d ys zs l within put p q =
+    one-more-at part_names part_levels numbered_part ps i (get_or ps i d) ys zs (record { level = l; add = (get_or ps i d).add }) (same-item ps i d (get_or ps i d) within) within put p
+    (restated (on q (λ m. record { level = m; add = (get_or ps i d).add })) (λ after. refl) (λ after. refl) (λ ns ls. refl) refl)
+
+no-names : (ps : List LevelPart) (after : List (List ℕ)) → after ≡ each part_names ps after
+unfolding each
+no-names [] after = refl
+no-names (p ∷ ps) after = no-names ps after
+
+sort-levels : (ps : List LevelPart) (after : List (List ℕ)) → each level_of_part (map part_of ps) after ≡ each part_levels ps after
+unfolding each
+sort-levels [] after = refl
+sort-levels (p ∷ ps) after = ap (λ more. p.level.now ∷ more) (sort-levels ps after)
+
+part-values : (ns ls : List (List ℕ)) (ps : List LevelPart) → map (numbered_part ns ls) ps ≡ map (level_part ls) (map part_of ps)
+part-values ns ls [] = refl
+part-values ns ls (p ∷ ps) = ap (λ (more : List LevelExpr). numbered_part ns ls p ∷ more) (part-values ns ls ps)
+
+pub sort-made : (s : NamedSort) (ps us : List LevelPart) (xs ys u : List LevelExpr) {old new : Tables} → s ≡ AType (map part_of ps) → us ≡ ps → ys ≡ xs → u ≡ maximum_of ys
+    → NumbersEach part_names part_levels numbered_part us old new xs → Numbers unused (levels_of_sort s) (λ ns ls. numbered_sort ls s) old new (sorts.Of u)
+sort-made s ps us xs ys u {old} {new} e f g h p =
+    let same : s ≡ AType (map part_of us) = e ∙ ap (λ (z : List LevelPart). AType (map part_of z)) (sym f) in
+    let made : Numbers unused (levels_of_sort (AType (map part_of us))) (λ ns ls. numbered_sort ls (AType (map part_of us))) old new (sorts.Of u) =
+    restated (on p (λ (z : List LevelExpr). sorts.Of (maximum_of z))) (no-names us) (sort-levels us) (λ ns ls. ap (λ (z : List LevelExpr). sorts.Of (maximum_of z)) (part-values ns ls us))
+    (ap sorts.Of (h ∙ ap maximum_of g)) in
+    subst (λ (z : NamedSort). Numbers unused (levels_of_sort z) (λ ns ls. numbered_sort ls z) old new (sorts.Of u)) (sym same) made
+
+no-parts : (ps : List LevelPart) (ns ls : List (List ℕ)) → [] ≡ map (numbered_part ns ls) ps → map part_of ps ≡ []
+no-parts [] ns ls e = refl
+no-parts (p ∷ ps) ns ls e = absurd cc
+
+-- a sort with parts has a universe
+pub some-part : (ps us : List LevelPart) (xs ys : List LevelExpr) {old new : Tables} → us ≡ ps → ys ≡ xs → map part_of ps ≢ [] → NumbersEach part_names part_levels numbered_part us old new xs → ys ≡ [] → ⊥
+some-part ps us xs ys {old} {new} f g some p none =
+    let nothing : map part_of us ≡ [] = no-parts us (after_uses new.names []) (after_uses new.levels []) (sym none ∙ g ∙ p.is_value [] []) in
+    some (ap (λ (z : List LevelPart). map part_of z) (sym f) ∙ nothing)

@@ -1,0 +1,5 @@
+use Rattle.dump_reader.proofs.Growth.{used-name}
+use Rattle.dump_reader.proofs.numbering.Tables.name.Goals as goal
+
+pub returns-clause-made : goal.returns-clause-made
+returns-clause-made c = used-name c.args.text.now c.text_of.result.now c.args.self.now c.number.new.self c.in_ok-number.number c.text_of.ensures.same c.in_ok-number.ensures.added c.in_ok-number.ensures.number

@@ -1,0 +1,184 @@
+use Rattle.std.proofs.Common.{rules, ◌≡◌, ◌+◌, ◌*◌, ◌<◌, ◌≤◌, ◌^◌, ℕ, List, map, subst, length, refl, sym, ap, ◌∙◌, arith}
+use Rattle.pc_terms.specs.Syntax as terms
+use Rattle.dump_grammar.specs.Named.{Rel, Sort, Prod, Lambda, LetIn, App, Const, Ind, Construct, Case, Fix, depth, terms_of, branches_of, defs_of, depth_terms, depth_branches, depth_defs}
+use Rattle.dump_grammar.specs.Named as g
+use Rattle.dump_parser.specs.Tree.{named_sort, named_def, named_branch}
+use Rattle.dump_reader.specs.Formed.{Each, IsFormed, AreFormedBranches, AreFormedDefs}
+use Rattle.dump_reader.proofs.Parts.{seen, term-at, branch-at, def-at, sort-part, const-part, ind-part, construct-part, prod-parts, lambda-parts, let-parts, fix-parts, cast-parts, cast-function, case-parts, case-depths, each-formed, run-parts, run-depths}
+use Rattle.dump_reader.proofs.Items.{no-terms, no-branches, no-defs, one-term, one-branch, one-def}
+use Rattle.dump_reader.proofs.Formers.{as-term, of-tree, terms-along, branches-along, defs-along, term-result, term-within, rel-term, sort-term, const-term, ind-term, construct-term, prod-term, lambda-term, app-term, let-term, cast-term, run-term, case-term, fix-term, fix-index}
+use Rattle.dump_reader.proofs.term.+term.Goals as goal
+
+pub terms-loop-tree-init : goal.terms-loop-tree-init
+terms-loop-tree-init t c = no-terms c.args.tables.now c.new-items.result.items (search rules)
+
+pub branches-loop-branch-init : goal.branches-loop-branch-init
+branches-loop-branch-init t c = no-branches c.args.tables.now c.new-items.result.items (search rules)
+
+pub definitions-loop-def-init : goal.definitions-loop-def-init
+definitions-loop-def-init t c = no-defs c.args.tables.now c.new-items.result.items (search rules)
+
+pub terms-term-requires : goal.terms-term-requires
+terms-term-requires t c = (let p = term-at c.args.trees.now c.loop-tree.tree-index c.tree-item.result c.tree-item.is c.loop-tree-test.true c.requires in (omega (arith, p.0), p.1))
+
+pub terms-loop-tree-preserved : goal.terms-loop-tree-preserved
+terms-loop-tree-preserved t c = one-term c.args.trees.now c.loop-tree.tree-index c.tree-item.result c.loop-tree.items.items c.push.new.self.items c.in_ok-t.t c.tree-item.is c.loop-tree-test.true (search rules) c.loop-tree.invariant c.in_ok-t.ensures.made
+
+pub branches-term-requires : goal.branches-term-requires
+branches-term-requires t c = (let p = branch-at c.args.trees.now c.loop-branch.branch-index c.branch-item.result c.branch-item.is c.loop-branch-test.true c.requires in (omega (arith, p.0), p.1))
+
+pub branches-loop-branch-preserved : goal.branches-loop-branch-preserved
+branches-loop-branch-preserved t c = one-branch c.args.trees.now c.loop-branch.branch-index c.branch-item.result c.loop-branch.items.items c.push.new.self.items c.in_ok-body.body c.branch-item.is c.loop-branch-test.true (search rules) c.loop-branch.invariant c.in_ok-body.ensures.made
+
+pub definitions-term-requires : goal.definitions-term-requires
+definitions-term-requires t c = (let p = def-at c.args.trees.now c.loop-def.def-index c.def-item.result c.def-item.is c.loop-def-test.true c.requires in (omega (arith, p.0), p.2))
+
+pub definitions-term-requires-in-loop-def : goal.definitions-term-requires-in-loop-def
+definitions-term-requires-in-loop-def t c = (let p = def-at c.args.trees.now c.loop-def.def-index c.def-item.result c.def-item.is c.loop-def-test.true c.requires in (omega (arith, p.1), p.3))
+
+pub definitions-loop-def-preserved : goal.definitions-loop-def-preserved
+definitions-loop-def-preserved t c = one-def c.args.trees.now c.loop-def.def-index c.def-item.result c.loop-def.items.items c.push.new.self.items c.in_ok-ty.ty c.in_ok-body.body c.def-item.is c.loop-def-test.true (search rules) c.loop-def.invariant c.in_ok-ty.ensures.made c.in_ok-body.ensures.made
+
+pub term-sort-requires : goal.term-sort-requires
+term-sort-requires t c = sort-part c.args.tree.now (named_sort c.in-Sort.s) (seen c.node.ensures.is c.in-Sort.is) c.requires
+
+pub term-name-requires : goal.term-name-requires
+term-name-requires t c = const-part c.args.tree.now c.in-Const.name.now (seen c.node.ensures.is c.in-Const.is) c.requires
+
+pub term-name-requires-in-Ind : goal.term-name-requires-in-Ind
+term-name-requires-in-Ind t c = ind-part c.args.tree.now c.in-Ind.block.now c.in-Ind.family (seen c.node.ensures.is c.in-Ind.is) c.requires
+
+pub term-name-requires-in-Construct : goal.term-name-requires-in-Construct
+term-name-requires-in-Construct t c = construct-part c.args.tree.now c.in-Construct.block.now c.in-Construct.family c.in-Construct.place (seen c.node.ensures.is c.in-Construct.is) c.requires
+
+pub term-returns-in-Rel-clause-made : goal.term-returns-in-Rel-clause-made
+term-returns-in-Rel-clause-made t c = term-result (of-tree (seen c.node.ensures.is c.in-Rel.is) (rel-term c.in-Rel.n c.args.tables.now (omega arith))) c.made.result c.made.ensures.ok
+
+pub term-returns-in_ok-s-in-Sort-clause-made : goal.term-returns-in_ok-s-in-Sort-clause-made
+term-returns-in_ok-s-in-Sort-clause-made t c = term-result (of-tree (seen c.node.ensures.is c.in-Sort.is) (sort-term (named_sort c.in-Sort.s) c.in_ok-s-in-Sort.s c.in_ok-s-in-Sort.ensures.made)) c.made-in-Sort.result c.made-in-Sort.ensures.ok
+
+pub term-returns-in_ok-name-in-Const-clause-made : goal.term-returns-in_ok-name-in-Const-clause-made
+term-returns-in_ok-name-in-Const-clause-made t c = term-result (of-tree (seen c.node.ensures.is c.in-Const.is) (const-term c.in-Const.name.now c.in_ok-name-in-Const.name c.in_ok-name-in-Const.ensures.made)) c.made-in-Const.result c.made-in-Const.ensures.ok
+
+pub term-returns-in_ok-block-in-Ind-clause-made : goal.term-returns-in_ok-block-in-Ind-clause-made
+term-returns-in_ok-block-in-Ind-clause-made t c = term-result (of-tree (seen c.node.ensures.is c.in-Ind.is) (ind-term c.in-Ind.block.now c.in_ok-block-in-Ind.block c.in_ok-block-in-Ind.ensures.made c.in-Ind.family)) c.made-in-Ind.result c.made-in-Ind.ensures.ok
+
+pub term-returns-in_ok-block-in-Construct-clause-made : goal.term-returns-in_ok-block-in-Construct-clause-made
+term-returns-in_ok-block-in-Construct-clause-made t c = term-result (of-tree (seen c.node.ensures.is c.in-Construct.is) (construct-term c.in-Construct.block.now c.in_ok-block-in-Construct.block c.in_ok-block-in-Construct.ensures.made c.in-Construct.family c.in-Construct.place)) c.made-in-Construct.result c.made-in-Construct.ensures.ok
+
+pub term-term-requires : goal.term-term-requires
+term-term-requires t c = (let p = prod-parts c.args.tree.now c.in-Prod.domain c.in-Prod.codomain (seen c.node.ensures.is c.in-Prod.is) c.requires in (omega (arith, p.0), p.2))
+
+pub term-term-requires-in-Prod : goal.term-term-requires-in-Prod
+term-term-requires-in-Prod t c = (let p = prod-parts c.args.tree.now c.in-Prod.domain c.in-Prod.codomain (seen c.node.ensures.is c.in-Prod.is) c.requires in (omega (arith, p.1), p.3))
+
+pub term-made-requires-in-Prod-clause-within : goal.term-made-requires-in-Prod-clause-within
+term-made-requires-in-Prod-clause-within t c = term-within (of-tree (seen c.node.ensures.is c.in-Prod.is) (prod-term c.in_ok-domain-in-Prod.ensures.made c.in_ok-codomain-in-Prod.ensures.made)) c.node.ensures.within
+
+pub term-returns-in_ok-codomain-in-Prod-clause-made : goal.term-returns-in_ok-codomain-in-Prod-clause-made
+term-returns-in_ok-codomain-in-Prod-clause-made t c = term-result (of-tree (seen c.node.ensures.is c.in-Prod.is) (prod-term c.in_ok-domain-in-Prod.ensures.made c.in_ok-codomain-in-Prod.ensures.made)) c.made-in-Prod.result c.made-in-Prod.ensures.ok
+
+pub term-term-requires-in-Lambda : goal.term-term-requires-in-Lambda
+term-term-requires-in-Lambda t c = (let p = lambda-parts c.args.tree.now c.in-Lambda.domain c.in-Lambda.body (seen c.node.ensures.is c.in-Lambda.is) c.requires in (omega (arith, p.0), p.2))
+
+pub term-term-requires-in-Lambda-2 : goal.term-term-requires-in-Lambda-2
+term-term-requires-in-Lambda-2 t c = (let p = lambda-parts c.args.tree.now c.in-Lambda.domain c.in-Lambda.body (seen c.node.ensures.is c.in-Lambda.is) c.requires in (omega (arith, p.1), p.3))
+
+pub term-made-requires-in-Lambda-clause-within : goal.term-made-requires-in-Lambda-clause-within
+term-made-requires-in-Lambda-clause-within t c = term-within (of-tree (seen c.node.ensures.is c.in-Lambda.is) (lambda-term c.in_ok-domain-in-Lambda.ensures.made c.in_ok-body-in-Lambda.ensures.made)) c.node.ensures.within
+
+pub term-returns-in_ok-body-in-Lambda-clause-made : goal.term-returns-in_ok-body-in-Lambda-clause-made
+term-returns-in_ok-body-in-Lambda-clause-made t c = term-result (of-tree (seen c.node.ensures.is c.in-Lambda.is) (lambda-term c.in_ok-domain-in-Lambda.ensures.made c.in_ok-body-in-Lambda.ensures.made)) c.made-in-Lambda.result c.made-in-Lambda.ensures.ok
+
+pub case-terms-requires : goal.case-terms-requires
+case-terms-requires t c =
+    let d = case-depths c.args.m.now.block.now c.args.m.now.family c.args.m.now.params.items c.args.m.now.binders c.args.m.now.ret c.args.m.now.scrut c.args.m.now.branches.items in
+    let same : depth_terms (terms_of c.as_slice.result.now) ≡ depth_terms (terms_of c.args.m.now.params.items) = ap (λ ts. depth_terms (terms_of ts)) c.as_slice.ensures.value in
+    (omega (arith, d.0), subst (λ ts. Each IsFormed ts) (sym c.as_slice.ensures.value) (each-formed c.args.m.now.params.items (case-parts c.args.m.now.block.now c.args.m.now.family c.args.m.now.params.items c.args.m.now.binders c.args.m.now.ret c.args.m.now.scrut c.args.m.now.branches.items c.requires.formed).3))
+
+pub case-term-requires : goal.case-term-requires
+case-term-requires t c = (let d = case-depths c.args.m.now.block.now c.args.m.now.family c.args.m.now.params.items c.args.m.now.binders c.args.m.now.ret c.args.m.now.scrut c.args.m.now.branches.items in (omega (arith, d.1), (case-parts c.args.m.now.block.now c.args.m.now.family c.args.m.now.params.items c.args.m.now.binders c.args.m.now.ret c.args.m.now.scrut c.args.m.now.branches.items c.requires.formed).1))
+
+pub case-term-requires-2 : goal.case-term-requires-2
+case-term-requires-2 t c = (let d = case-depths c.args.m.now.block.now c.args.m.now.family c.args.m.now.params.items c.args.m.now.binders c.args.m.now.ret c.args.m.now.scrut c.args.m.now.branches.items in (omega (arith, d.2), (case-parts c.args.m.now.block.now c.args.m.now.family c.args.m.now.params.items c.args.m.now.binders c.args.m.now.ret c.args.m.now.scrut c.args.m.now.branches.items c.requires.formed).2))
+
+pub case-branches-requires : goal.case-branches-requires
+case-branches-requires t c =
+    let d = case-depths c.args.m.now.block.now c.args.m.now.family c.args.m.now.params.items c.args.m.now.binders c.args.m.now.ret c.args.m.now.scrut c.args.m.now.branches.items in
+    let same : depth_branches (branches_of (map named_branch c.as_slice-2.result.now)) ≡ depth_branches (branches_of (map named_branch c.args.m.now.branches.items)) = ap (λ bs. depth_branches (branches_of (map named_branch bs))) c.as_slice-2.ensures.value in
+    (omega (arith, d.3), subst (λ bs. AreFormedBranches (branches_of (map named_branch bs))) (sym c.as_slice-2.ensures.value) (case-parts c.args.m.now.block.now c.args.m.now.family c.args.m.now.params.items c.args.m.now.binders c.args.m.now.ret c.args.m.now.scrut c.args.m.now.branches.items c.requires.formed).4)
+
+pub case-made-requires-clause-within : goal.case-made-requires-clause-within
+case-made-requires-clause-within t c = term-within (case-term c.args.m.now.block.now c.args.m.now.family c.args.m.now.params.items c.args.m.now.binders c.args.m.now.ret c.args.m.now.scrut c.args.m.now.branches.items c.in_ok-block.ensures.made (terms-along c.as_slice.ensures.value c.of.ensures.is c.in_ok-params.ensures.made) c.in_ok-ret.ensures.made c.in_ok-scrut.ensures.made (branches-along c.as_slice-2.ensures.value c.of-2.ensures.is c.in_ok-branches.ensures.made)) c.requires.within
+
+pub case-returns-clause-made : goal.case-returns-clause-made
+case-returns-clause-made t c = as-term c.in_ok-whole.ensures.ok (case-term c.args.m.now.block.now c.args.m.now.family c.args.m.now.params.items c.args.m.now.binders c.args.m.now.ret c.args.m.now.scrut c.args.m.now.branches.items c.in_ok-block.ensures.made (terms-along c.as_slice.ensures.value c.of.ensures.is c.in_ok-params.ensures.made) c.in_ok-ret.ensures.made c.in_ok-scrut.ensures.made (branches-along c.as_slice-2.ensures.value c.of-2.ensures.is c.in_ok-branches.ensures.made))
+
+pub case-name-requires : goal.case-name-requires
+case-name-requires t c = (case-parts c.args.m.now.block.now c.args.m.now.family c.args.m.now.params.items c.args.m.now.binders c.args.m.now.ret c.args.m.now.scrut c.args.m.now.branches.items c.requires.formed).0
+
+pub cast-term-requires : goal.cast-term-requires
+cast-term-requires t c = (let p = cast-parts c.args.subject.now c.args.ty.now c.requires.formed in (omega (arith, p.1), p.3))
+
+pub cast-made-requires-2-clause-within : goal.cast-made-requires-2-clause-within
+cast-made-requires-2-clause-within t c = term-within (lambda-term c.in_ok-ty.ensures.made (as-term c.in_ok-variable.ensures.ok (rel-term 0 c.term.new.tables (omega arith)))) (cast-function c.args.subject.now c.args.ty.now c.requires.within)
+
+pub cast-term-requires-2 : goal.cast-term-requires-2
+cast-term-requires-2 t c = (let p = cast-parts c.args.subject.now c.args.ty.now c.requires.formed in (omega (arith, p.0), p.2))
+
+pub cast-made-requires-3-clause-within : goal.cast-made-requires-3-clause-within
+cast-made-requires-3-clause-within t c = term-within (app-term (as-term c.in_ok-function.ensures.ok (lambda-term c.in_ok-ty.ensures.made (as-term c.in_ok-variable.ensures.ok (rel-term 0 c.term.new.tables (omega arith))))) c.in_ok-subject.ensures.made) c.requires.within
+
+pub cast-returns-clause-made : goal.cast-returns-clause-made
+cast-returns-clause-made t c = as-term c.in_ok-whole.ensures.ok (app-term (as-term c.in_ok-function.ensures.ok (lambda-term c.in_ok-ty.ensures.made (as-term c.in_ok-variable.ensures.ok (rel-term 0 c.term.new.tables (omega arith))))) c.in_ok-subject.ensures.made)
+
+pub run-term-requires : goal.run-term-requires
+run-term-requires t c = (let d = run-depths c.args.function.now c.args.first.now c.args.more.now.items in (omega (arith, d.0), (run-parts c.args.function.now c.args.first.now c.args.more.now.items c.requires.formed).0))
+
+pub run-term-requires-2 : goal.run-term-requires-2
+run-term-requires-2 t c = (let d = run-depths c.args.function.now c.args.first.now c.args.more.now.items in (omega (arith, d.1), (run-parts c.args.function.now c.args.first.now c.args.more.now.items c.requires.formed).1))
+
+pub run-made-requires-clause-within : goal.run-made-requires-clause-within
+run-made-requires-clause-within t c = (let d = run-depths c.args.function.now c.args.first.now c.args.more.now.items in term-within (app-term c.in_ok-function.ensures.made c.in_ok-first.ensures.made) (omega (arith, d.2)))
+
+pub run-terms-requires : goal.run-terms-requires
+run-terms-requires t c =
+    let d = run-depths c.args.function.now c.args.first.now c.args.more.now.items in
+    let same : depth_terms (terms_of c.as_slice.result.now) ≡ depth_terms (terms_of c.args.more.now.items) = ap (λ ts. depth_terms (terms_of ts)) c.as_slice.ensures.value in
+    (omega (arith, d.3), subst (λ ts. Each IsFormed ts) (sym c.as_slice.ensures.value) (run-parts c.args.function.now c.args.first.now c.args.more.now.items c.requires.formed).2)
+
+pub run-applied-requires : goal.run-applied-requires
+run-applied-requires t c = term-within (run-term (as-term c.in_ok-head.ensures.ok (app-term c.in_ok-function.ensures.made c.in_ok-first.ensures.made)) (terms-along c.as_slice.ensures.value c.of.ensures.is c.in_ok-items.ensures.made)) c.requires.within
+
+pub run-returns-clause-made : goal.run-returns-clause-made
+run-returns-clause-made t c = as-term c.in_ok-whole.ensures.ok (run-term (as-term c.in_ok-head.ensures.ok (app-term c.in_ok-function.ensures.made c.in_ok-first.ensures.made)) (terms-along c.as_slice.ensures.value c.of.ensures.is c.in_ok-items.ensures.made))
+
+pub let_in-term-requires : goal.let_in-term-requires
+let_in-term-requires t c = (let p = let-parts (LetIn c.args.value.now c.args.ty.now c.args.body.now) c.args.value.now c.args.ty.now c.args.body.now refl c.requires.formed in (omega (arith, p.0), p.3))
+
+pub let_in-term-requires-2 : goal.let_in-term-requires-2
+let_in-term-requires-2 t c = (let p = let-parts (LetIn c.args.value.now c.args.ty.now c.args.body.now) c.args.value.now c.args.ty.now c.args.body.now refl c.requires.formed in (omega (arith, p.1), p.4))
+
+pub let_in-term-requires-3 : goal.let_in-term-requires-3
+let_in-term-requires-3 t c = (let p = let-parts (LetIn c.args.value.now c.args.ty.now c.args.body.now) c.args.value.now c.args.ty.now c.args.body.now refl c.requires.formed in (omega (arith, p.2), p.5))
+
+pub let_in-made-requires-clause-within : goal.let_in-made-requires-clause-within
+let_in-made-requires-clause-within t c = term-within (let-term c.in_ok-value.ensures.made c.in_ok-ty.ensures.made c.in_ok-body.ensures.made) c.requires.within
+
+pub let_in-returns-clause-made : goal.let_in-returns-clause-made
+let_in-returns-clause-made t c = as-term c.in_ok-whole.ensures.ok (let-term c.in_ok-value.ensures.made c.in_ok-ty.ensures.made c.in_ok-body.ensures.made)
+
+pub fixpoint-definitions-requires : goal.fixpoint-definitions-requires
+fixpoint-definitions-requires t c =
+    let p = fix-parts (Fix (defs_of (map named_def c.args.defs.now.items)) c.args.index) c.args.defs.now.items c.args.index refl c.requires.formed in
+    let same : depth_defs (defs_of (map named_def c.as_slice.result.now)) ≡ depth_defs (defs_of (map named_def c.args.defs.now.items)) = ap (λ ds. depth_defs (defs_of (map named_def ds))) c.as_slice.ensures.value in
+    (omega (arith, p.0), subst (λ ds. AreFormedDefs (defs_of (map named_def ds))) (sym c.as_slice.ensures.value) p.2)
+
+pub fixpoint-made-requires-clause-indexed : goal.fixpoint-made-requires-clause-indexed
+fixpoint-made-requires-clause-indexed t c = fix-index c.args.defs.now.items c.args.index c.of.result (defs-along c.as_slice.ensures.value c.of.ensures.is c.in_ok-items.ensures.made) (fix-parts (Fix (defs_of (map named_def c.args.defs.now.items)) c.args.index) c.args.defs.now.items c.args.index refl c.requires.formed).1
+
+pub fixpoint-made-requires-clause-within : goal.fixpoint-made-requires-clause-within
+fixpoint-made-requires-clause-within t c = term-within (fix-term c.args.defs.now.items c.args.index c.of.result (defs-along c.as_slice.ensures.value c.of.ensures.is c.in_ok-items.ensures.made)) c.requires.within
+
+pub fixpoint-returns-clause-made : goal.fixpoint-returns-clause-made
+fixpoint-returns-clause-made t c = as-term c.in_ok-whole.ensures.ok (fix-term c.args.defs.now.items c.args.index c.of.result (defs-along c.as_slice.ensures.value c.of.ensures.is c.in_ok-items.ensures.made))

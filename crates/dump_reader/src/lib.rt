@@ -1,0 +1,28 @@
+//! The environment that a text spells: names and levels as numbers, terms as shared trees.
+//!
+//! `read_env` reads a dumped environment. Names and levels are numbered by first use, levels from `Set` on, which is 0; universes are put in
+//! normal form; a cast is a function applied. What a text means is `specs/Numbered.antt`, above the grammar of dumps.
+//!
+//! What is promised, by the clauses of `read_env`: an answer is the verdict on the text (`exact`), so the environment is the one that the text
+//! spells (`spells`), each refusal is the first of the text and stands where its cause is (`first`, `syntax`, `unsupported`, `limit`), and a
+//! text that spells an environment within the limits is read as that environment unless memory runs out (`complete`). A text spells one
+//! environment at most (`meaning_is_unique`).
+//!
+//! Below stand `dump_grammar` (the format and its refusals), `dump_parser` (the text as a tree), `pc_terms` and `universe_levels`. Above stand the
+//! printer and the checker.
+#![tactic(auto)]
+
+pub mod declaration;
+mod declared;
+pub mod environment;
+mod lists;
+pub mod names;
+mod numbering;
+pub mod reading;
+mod term;
+#[cfg(test)]
+mod tests;
+mod universe;
+mod whole;
+
+pub use dump_grammar::{Foreign, Limit, ReadRefusal};

@@ -1,0 +1,66 @@
+//! The tables of names and of levels, which grow as a tree is read.
+ghost use Rattle.std.specs.Prelude.{◌≡◌, ◌∷◌, [], IfOk, IfErr};
+ghost use Rattle.std.specs.Str.{IsAscii};
+ghost use Rattle.dump_grammar.specs.declared.refusal.ReadRefusal.TheVariants.{Memory};
+ghost use Rattle.dump_grammar.specs.declared.keyword.Keyword.TheVariants as words;
+ghost use Rattle.dump_grammar.specs.Keywords.{spelling};
+ghost use Rattle.dump_reader.specs.Numbered.{name_number, level_number};
+ghost use Rattle.dump_reader.specs.Growth.{Numbers, unused};
+
+use crate::names::Names;
+use dump_grammar::{Keyword, ReadRefusal, spelling_of};
+use pc_terms::leaf::Name;
+use std::alloc::Global;
+use universe_levels::level::Level;
+
+/// The names and the levels that have been used, by number.
+#[derive(Drop)]
+pub(crate) struct Tables {
+    pub(crate) names: Names,
+    pub(crate) levels: Names,
+}
+
+impl Tables {
+    /// The tables of a text that begins: no name, and the level `Set`.
+    pub(crate) fn new(alloc: Global) -> Result<Tables, ReadRefusal>
+        ensures names { IfOk result (λ tables. tables.names ≡ []) }
+        ensures levels { IfOk result (λ tables. tables.levels ≡ spelling words.Set ∷ []) }
+        ensures only_memory { IfErr result (λ e. e ≡ Memory) }
+    {
+        let mut levels = Names::new(alloc);
+        levels.number(alloc, text_of(spelling_of(Keyword::Set)))?;
+        let names = Names::new(alloc);
+        Ok(Tables { names, levels })
+    }
+
+    /// The number of a name at a use of it.
+    pub(crate) fn name(&mut self, alloc: Global, text: &[u8]) -> Result<Name, ReadRefusal>
+        requires { IsAscii text.now }
+        ensures made { IfOk result (Numbers (λ after. text.now ∷ after) unused (λ ns ls. name_number ns text.now) self.old self.new) }
+        ensures only_memory { IfErr result (λ e. e ≡ Memory) }
+    {
+        let number = self.names.number(alloc, text_of(text))?;
+        Ok(Name(number))
+    }
+
+    /// The number of a level at a use of it.
+    pub(crate) fn level(&mut self, alloc: Global, text: &[u8]) -> Result<Level, ReadRefusal>
+        requires { IsAscii text.now }
+        ensures made { IfOk result (Numbers unused (λ after. text.now ∷ after) (λ ns ls. level_number ls text.now) self.old self.new) }
+        ensures only_memory { IfErr result (λ e. e ≡ Memory) }
+    {
+        let number = self.levels.number(alloc, text_of(text))?;
+        Ok(Level(number))
+    }
+}
+
+/// ASCII bytes as text.
+fn text_of(bytes: &[u8]) -> &str
+    requires { IsAscii bytes.now }
+    ensures same { result.now ≡ bytes.now }
+{
+    match str::from_utf8(bytes) {
+        Ok(text) => text,
+        Err(_) => unreachable!(),
+    }
+}

@@ -1,0 +1,261 @@
+//! Terms, with numbers for names and levels, made of the trees of a text.
+ghost use Rattle.std.specs.Prelude.{◌≡◌, ◌≤◌, map, IfOk, IfErr};
+ghost use Rattle.trees.specs.Measures.{IsWithin};
+ghost use Rattle.trees.specs.Tree.{terms_of};
+ghost use Rattle.pc_terms.specs.Syntax.{HasIndex, apply};
+ghost use Rattle.pc_terms.specs.View.{tree_of};
+ghost use Rattle.dump_grammar.specs.declared.refusal.ReadRefusal.TheVariants.{Memory};
+ghost use Rattle.dump_grammar.specs.Named.{branches_of, defs_of, depth, depth_terms, depth_branches, depth_defs};
+ghost use Rattle.dump_grammar.specs.Named as named;
+ghost use Rattle.dump_parser.specs.Tree.{named_branch, named_def, named as named_node};
+ghost use Rattle.dump_parser.specs.declared.tree.Node.TheVariants as nodes;
+ghost use Rattle.dump_reader.specs.Formed.{IsFormed, AreFormed, AreFormedBranches, AreFormedDefs, Each};
+ghost use Rattle.dump_reader.specs.Made.{IsTerm, AreTerms, AreBranches, AreDefs};
+
+use crate::numbering::Tables;
+use crate::universe::sort;
+use dump_grammar::ReadRefusal;
+use dump_parser::tree;
+use dump_parser::tree::Tree;
+use pc_terms::leaf::FamilyId;
+use pc_terms::term::{Branch, Branches, Def, Defs, MakeFault, Match, Node, Term, Terms};
+use std::alloc::Global;
+
+/// The term of a node that is within the limits of terms.
+fn made(alloc: Global, node: Node) -> Result<Term, ReadRefusal>
+    requires indexed { HasIndex (tree_of node) }
+    requires within { IsWithin (tree_of node) }
+    ensures ok { IfOk result (λ t. t ≡ tree_of node) }
+    ensures only_memory { IfErr result (λ e. e ≡ Memory) }
+{
+    match Term::make(alloc, node) {
+        Ok(term) => Ok(term),
+        Err(MakeFault::Memory) => Err(ReadRefusal::Memory),
+        Err(MakeFault::TooDeep) => unreachable!(),
+    }
+}
+
+/// A function applied to arguments, where the whole is within the limits of terms.
+fn applied(alloc: Global, function: &Term, arguments: &Terms) -> Result<Term, ReadRefusal>
+    requires { IsWithin (apply function.now arguments.now) }
+    ensures ok { IfOk result (λ t. t ≡ apply function.now arguments.now) }
+    ensures only_memory { IfErr result (λ e. e ≡ Memory) }
+{
+    match function.apply(alloc, arguments) {
+        Ok(term) => Ok(term),
+        Err(MakeFault::Memory) => Err(ReadRefusal::Memory),
+        Err(MakeFault::TooDeep) => unreachable!(),
+    }
+}
+
+/// The term of a tree.
+#[cycle(term)]
+pub(crate) fn term(alloc: Global, tables: &mut Tables, tree: &Tree) -> Result<Term, ReadRefusal>
+    requires { IsFormed tree.now }
+    ensures made { IfOk result (IsTerm tree.now tables.old tables.new) }
+    ensures only_memory { IfErr result (λ e. e ≡ Memory) }
+{
+    match tree.node() {
+        tree::Node::Rel(n) => made(alloc, Node::Rel(*n)),
+        tree::Node::Sort(s) => {
+            let s = sort(alloc, tables, s)?;
+            made(alloc, Node::Sort(s))
+        }
+        tree::Node::Prod(domain, codomain) => {
+            let domain = term(alloc, tables, domain)?;
+            let codomain = term(alloc, tables, codomain)?;
+            made(alloc, Node::Prod(domain, codomain))
+        }
+        tree::Node::Lambda(domain, body) => {
+            let domain = term(alloc, tables, domain)?;
+            let body = term(alloc, tables, body)?;
+            made(alloc, Node::Lambda(domain, body))
+        }
+        tree::Node::LetIn(value, ty, body) => let_in(alloc, tables, value, ty, body),
+        tree::Node::App(function, first, more) => run(alloc, tables, function, first, more),
+        tree::Node::Const(name) => {
+            let name = tables.name(alloc, name)?;
+            made(alloc, Node::Const(name))
+        }
+        tree::Node::Ind(block, family) => {
+            let block = tables.name(alloc, block)?;
+            let family = *family;
+            made(alloc, Node::Ind(FamilyId { block, family }))
+        }
+        tree::Node::Construct(block, family, place) => {
+            let block = tables.name(alloc, block)?;
+            let family = *family;
+            made(alloc, Node::Construct(FamilyId { block, family }, *place))
+        }
+        tree::Node::Case(m) => case(alloc, tables, m),
+        tree::Node::Fix(defs, index) => fixpoint(alloc, tables, defs, *index),
+        tree::Node::Cast(subject, ty) => cast(alloc, tables, subject, ty),
+    }
+}
+
+/// A definition in a term: its value, its type and the term, in this order.
+#[cycle(term)]
+fn let_in(
+    alloc: Global,
+    tables: &mut Tables,
+    value: &Tree,
+    ty: &Tree,
+    body: &Tree,
+) -> Result<Term, ReadRefusal>
+    requires formed { IsFormed (named_node (nodes.LetIn value.now ty.now body.now)) }
+    requires within { depth (named_node (nodes.LetIn value.now ty.now body.now)) ≤ 2048 }
+    ensures made { IfOk result (IsTerm (named_node (nodes.LetIn value.now ty.now body.now)) tables.old tables.new) }
+    ensures only_memory { IfErr result (λ e. e ≡ Memory) }
+{
+    let value = term(alloc, tables, value)?;
+    let ty = term(alloc, tables, ty)?;
+    let body = term(alloc, tables, body)?;
+    let whole = made(alloc, Node::LetIn(value, ty, body))?;
+    Ok(whole)
+}
+
+/// One of the definitions of a fixpoint.
+#[cycle(term)]
+fn fixpoint(
+    alloc: Global,
+    tables: &mut Tables,
+    defs: &Vec<tree::Def>,
+    index: u32,
+) -> Result<Term, ReadRefusal>
+    requires formed { IsFormed (named_node (nodes.Fix defs.now index)) }
+    requires within { depth (named_node (nodes.Fix defs.now index)) ≤ 2048 }
+    ensures made { IfOk result (IsTerm (named_node (nodes.Fix defs.now index)) tables.old tables.new) }
+    ensures only_memory { IfErr result (λ e. e ≡ Memory) }
+{
+    let items = definitions(alloc, tables, defs.as_slice())?;
+    let whole = made(alloc, Node::Fix(Defs::of(items), index))?;
+    Ok(whole)
+}
+
+/// A run of applications, from the function on.
+#[cycle(term)]
+fn run(
+    alloc: Global,
+    tables: &mut Tables,
+    function: &Tree,
+    first: &Tree,
+    more: &Vec<Tree>,
+) -> Result<Term, ReadRefusal>
+    requires formed { IsFormed (named_node (nodes.App function.now first.now more.now)) }
+    requires within { depth (named_node (nodes.App function.now first.now more.now)) ≤ 2048 }
+    ensures made { IfOk result (IsTerm (named_node (nodes.App function.now first.now more.now)) tables.old tables.new) }
+    ensures only_memory { IfErr result (λ e. e ≡ Memory) }
+{
+    let function = term(alloc, tables, function)?;
+    let first = term(alloc, tables, first)?;
+    let head = made(alloc, Node::App(function, first))?;
+    let items = terms(alloc, tables, more.as_slice())?;
+    let whole = applied(alloc, &head, &Terms::of(items))?;
+    Ok(whole)
+}
+
+/// A cast: a function that gives back its argument, applied. Its type counts before its term.
+#[cycle(term)]
+fn cast(alloc: Global, tables: &mut Tables, subject: &Tree, ty: &Tree) -> Result<Term, ReadRefusal>
+    requires formed { IsFormed (named_node (nodes.Cast subject.now ty.now)) }
+    requires within { depth (named_node (nodes.Cast subject.now ty.now)) ≤ 2048 }
+    ensures made { IfOk result (IsTerm (named_node (nodes.Cast subject.now ty.now)) tables.old tables.new) }
+    ensures only_memory { IfErr result (λ e. e ≡ Memory) }
+{
+    let ty = term(alloc, tables, ty)?;
+    let variable = made(alloc, Node::Rel(0))?;
+    let function = made(alloc, Node::Lambda(ty, variable))?;
+    let subject = term(alloc, tables, subject)?;
+    let whole = made(alloc, Node::App(function, subject))?;
+    Ok(whole)
+}
+
+/// A match.
+#[cycle(term)]
+fn case(alloc: Global, tables: &mut Tables, m: &tree::Match) -> Result<Term, ReadRefusal>
+    requires formed { IsFormed (named_node (nodes.Case m.now)) }
+    requires within { depth (named_node (nodes.Case m.now)) ≤ 2048 }
+    ensures made { IfOk result (IsTerm (named_node (nodes.Case m.now)) tables.old tables.new) }
+    ensures only_memory { IfErr result (λ e. e ≡ Memory) }
+{
+    let block = tables.name(alloc, m.block)?;
+    let params = terms(alloc, tables, m.params.as_slice())?;
+    let ret = term(alloc, tables, &m.ret)?;
+    let scrut = term(alloc, tables, &m.scrut)?;
+    let branches = branches(alloc, tables, m.branches.as_slice())?;
+    let whole = made(
+        alloc,
+        Node::Case(Match {
+            family: FamilyId {
+                block,
+                family: m.family,
+            },
+            params: Terms::of(params),
+            binders: m.binders,
+            ret,
+            scrut,
+            branches: Branches::of(branches),
+        }),
+    )?;
+    Ok(whole)
+}
+
+/// The terms of trees, from the first to the last.
+#[cycle(term)]
+pub(crate) fn terms(
+    alloc: Global,
+    tables: &mut Tables,
+    trees: &[Tree],
+) -> Result<Vec<Term>, ReadRefusal>
+    requires { Each IsFormed trees.now }
+    ensures made { IfOk result (λ made. AreTerms trees.now tables.old tables.new made.items) }
+    ensures only_memory { IfErr result (λ e. e ≡ Memory) }
+{
+    let mut items = Vec::new(alloc);
+    for tree in trees {
+        let t = term(alloc, tables, tree)?;
+        items.push(t)?;
+    }
+    Ok(items)
+}
+
+/// The branches of a match.
+#[cycle(term)]
+fn branches(
+    alloc: Global,
+    tables: &mut Tables,
+    trees: &[tree::Branch],
+) -> Result<Vec<Branch>, ReadRefusal>
+    requires { AreFormedBranches (branches_of (map named_branch trees.now)) }
+    ensures made { IfOk result (λ made. AreBranches trees.now tables.old tables.new made.items) }
+    ensures only_memory { IfErr result (λ e. e ≡ Memory) }
+{
+    let mut items = Vec::new(alloc);
+    for branch in trees {
+        let binders = branch.binders;
+        let body = term(alloc, tables, &branch.body)?;
+        items.push(Branch { binders, body })?;
+    }
+    Ok(items)
+}
+
+/// The definitions of a fixpoint.
+#[cycle(term)]
+fn definitions(
+    alloc: Global,
+    tables: &mut Tables,
+    trees: &[tree::Def],
+) -> Result<Vec<Def>, ReadRefusal>
+    requires { AreFormedDefs (defs_of (map named_def trees.now)) }
+    ensures made { IfOk result (λ made. AreDefs trees.now tables.old tables.new made.items) }
+    ensures only_memory { IfErr result (λ e. e ≡ Memory) }
+{
+    let mut items = Vec::new(alloc);
+    for def in trees {
+        let rarg = def.rarg;
+        let ty = term(alloc, tables, &def.ty)?;
+        let body = term(alloc, tables, &def.body)?;
+        items.push(Def { ty, body, rarg })?;
+    }
+    Ok(items)
+}
