@@ -1,8 +1,7 @@
-pub mod Reading
-pub mod Language
-pub mod Judged
-pub mod SimpleTexts
-pub mod NameLists
+pub mod TextCauses
 pub mod Serving
 pub mod Running
+pub mod Small
 pub mod Answering
+pub mod Lines
+pub mod Pairs

@@ -1,16 +1,18 @@
 -- The clauses of the top call, from what its two halves say.
-use Rattle.std.proofs.Common.{◌≡◌, ◌≢◌, ℕ, zero, suc, ◌<◌, ◌≤◌, List, [], ◌∷◌, length, Option, Some, None, Result, Ok, Err, ◌⊎◌, inl, inr, ◌↔◌, refl, sym, subst, ◌∙◌, arith, lit<}
+use Rattle.std.proofs.Common.{◌≡◌, ◌≢◌, ℕ, zero, suc, ◌<◌, ◌≤◌, List, [], ◌∷◌, length, Option, Some, None, Result, Ok, Err, ◌⊎◌, inl, inr, ◌↔◌, refl, sym, ap, subst, ◌∙◌, arith, lit<}
 use Rattle.std.specs.Prelude.{Contains, IfErr}
 use Rattle.std.specs.Io.KnownBytes.{Appends}
 use Rattle.kio.specs.Causes.{Rose}
+use Rattle.dump_reader.specs.declared.environment.RawEnv.{RawEnv}
+use Rattle.driver.specs.Texts.{SpellsWithin}
 use Rattle.driver.specs.declared.refusal.Refusal.{Refusal}
 use Rattle.driver.specs.declared.refusal.Refusal.TheVariants as refusals
 use Rattle.driver.specs.declared.command_line.Job.TheVariants.{Exec}
 use Rattle.driver.specs.CommandLine.{job_of}
-use Rattle.driver.specs.Environment.{Environment}
-use Rattle.driver.specs.Lines.{status_of}
+use Rattle.driver.specs.Lines.{status_of, line_of}
 use Rattle.driver.specs.Simple.{IsSimple}
-use Rattle.driver.specs.Serve.{Answered, Concludes, IsAsked, IsInput, IsTooLong, Says, SpellsNone, TakesPrefix, TellsRefusal, input_limit}
+use Rattle.driver.specs.Serve.{Answered, Concludes, IsAnswer, IsAsked, IsCause, IsInput, IsRefused, IsTextCause, IsTooLong, Says, TakesPrefix, input_limit}
+use Rattle.driver.proofs.TextCauses.{one_cause, no_cause_of_answers, no_cause_of_simple}
 
 zero_or : (n : ℕ) → (n ≡ 0) ⊎ (n ≢ 0)
 zero_or zero = inl refl
@@ -28,6 +30,44 @@ long-is : (left : Option (List ℕ)) (told : List ℕ) → IsTooLong left → le
 long-is None told h e = absurd cc
 long-is (Some l) told h e = let q : l ≡ told = cc in subst (λ x. input_limit < length x) q h
 
+-- ---- statuses of refusals
+
+not_zero : (r : Refusal) → status_of r ≡ 0 → ⊥
+not_zero refusals.Memory e = omega (arith, e)
+not_zero refusals.Usage e = omega (arith, e)
+not_zero refusals.ReadFault e = omega (arith, e)
+not_zero refusals.WriteFault e = omega (arith, e)
+not_zero (refusals.Syntax o) e = omega (arith, e)
+not_zero (refusals.Unsupported w o) e = omega (arith, e)
+not_zero refusals.Form e = omega (arith, e)
+not_zero (refusals.Limit l) e = omega (arith, e)
+not_zero refusals.InputBytes e = omega (arith, e)
+
+of_usage : (r : Refusal) → status_of r ≡ 2 → r ≡ refusals.Usage
+of_usage refusals.Memory e = absurd (omega (arith, e))
+of_usage refusals.Usage e = refl
+of_usage refusals.ReadFault e = absurd (omega (arith, e))
+of_usage refusals.WriteFault e = absurd (omega (arith, e))
+of_usage (refusals.Syntax o) e = absurd (omega (arith, e))
+of_usage (refusals.Unsupported w o) e = absurd (omega (arith, e))
+of_usage refusals.Form e = absurd (omega (arith, e))
+of_usage (refusals.Limit l) e = absurd (omega (arith, e))
+of_usage refusals.InputBytes e = absurd (omega (arith, e))
+
+of_write_fault : (r : Refusal) → status_of r ≡ 4 → r ≡ refusals.WriteFault
+of_write_fault refusals.Memory e = absurd (omega (arith, e))
+of_write_fault refusals.Usage e = absurd (omega (arith, e))
+of_write_fault refusals.ReadFault e = absurd (omega (arith, e))
+of_write_fault refusals.WriteFault e = refl
+of_write_fault (refusals.Syntax o) e = absurd (omega (arith, e))
+of_write_fault (refusals.Unsupported w o) e = absurd (omega (arith, e))
+of_write_fault refusals.Form e = absurd (omega (arith, e))
+of_write_fault (refusals.Limit l) e = absurd (omega (arith, e))
+of_write_fault refusals.InputBytes e = absurd (omega (arith, e))
+
+abbrev all_statuses : List ℕ
+all_statuses = 0 ∷ 1 ∷ 2 ∷ 3 ∷ 4 ∷ 5 ∷ 6 ∷ 7 ∷ []
+
 module _ {V K E : Type 0} (view : V → List ℕ) (status : ℕ) (words : List (List ℕ)) (left : Option (List ℕ)) (before now : ℕ) (out out' : K) (taken taken' : Option (List ℕ)) (faults faults' : ℕ) (err err' : E) (line line' : Option (List ℕ)) (errs errs' : ℕ) where
   abbrev S : Result V Refusal → Type 0
   S a = Says view a words left before now
@@ -35,140 +75,141 @@ module _ {V K E : Type 0} (view : V → List ℕ) (status : ℕ) (words : List (
   abbrev C : Result V Refusal → Type 0
   C a = Concludes view a status out out' taken taken' faults faults' err err' line line' errs errs'
 
-  -- 0 and 4 come of an answer alone
-  not_refused : (r : Refusal) → S (Err r) → status ≡ status_of r → (status ≡ 0) ⊎ (status ≡ 4) → ⊥
-  not_refused refusals.Memory s e (inl h) = absurd (omega (arith, e, h))
-  not_refused refusals.Memory s e (inr h) = absurd (omega (arith, e, h))
-  not_refused refusals.Usage s e (inl h) = absurd (omega (arith, e, h))
-  not_refused refusals.Usage s e (inr h) = absurd (omega (arith, e, h))
-  not_refused refusals.ReadFault s e (inl h) = absurd (omega (arith, e, h))
-  not_refused refusals.ReadFault s e (inr h) = absurd (omega (arith, e, h))
-  not_refused refusals.WriteFault s e h = s
-  not_refused refusals.Form s e (inl h) = absurd (omega (arith, e, h))
-  not_refused refusals.Form s e (inr h) = absurd (omega (arith, e, h))
-  not_refused refusals.InputBytes s e (inl h) = absurd (omega (arith, e, h))
-  not_refused refusals.InputBytes s e (inr h) = absurd (omega (arith, e, h))
+  -- What a refusal before anything is written says.
+  says_cause : (r : Refusal) → S (Err r) → IsCause r words left before now faults faults'
+  says_cause refusals.Memory s = s
+  says_cause refusals.Usage s = s
+  says_cause refusals.ReadFault s = s
+  says_cause refusals.WriteFault s = absurd s
+  says_cause (refusals.Syntax o) s = s
+  says_cause (refusals.Unsupported w o) s = s
+  says_cause refusals.Form s = s
+  says_cause (refusals.Limit l) s = s
+  says_cause refusals.InputBytes s = s
+
+  -- All refusals but usage come of a job.
+  says_job : (r : Refusal) → S (Err r) → (r ≡ refusals.Usage) ⊎ (job_of words ≡ Some Exec)
+  says_job refusals.Memory s = inr s
+  says_job refusals.Usage s = inl refl
+  says_job refusals.ReadFault s = inr s.0
+  says_job refusals.WriteFault s = absurd s
+  says_job (refusals.Syntax o) s = inr s.0
+  says_job (refusals.Unsupported w o) s = inr s.0
+  says_job refusals.Form s = inr s.0
+  says_job (refusals.Limit l) s = inr s.0
+  says_job refusals.InputBytes s = inr s.0
+
+  says_no_write_fault : (r : Refusal) → S (Err r) → r ≡ refusals.WriteFault → ⊥
+  says_no_write_fault r s e = subst (λ x. Says {V = V} view (Err x) words left before now) e s
 
   pub done : (a : Result V Refusal) → S a → C a → status ≡ 0 → (text : List ℕ) × Answered left text × Appends taken taken' text
   done (Ok v) s c e = (view v, s.1, (c.whole e).0)
-  done (Err r) s c e = absurd (not_refused r s c.0 (inl e))
+  done (Err r) s c e = absurd (not_zero r (sym c.0 ∙ e))
 
   pub prefix : (a : Result V Refusal) → S a → C a → status ≡ 4 → (text : List ℕ) × Answered left text × TakesPrefix taken taken' text
   prefix (Ok v) s c e = let w = c.part (λ z. omega (arith, e, z)) in (view v, s.1, w.2)
-  prefix (Err r) s c e = absurd (not_refused r s c.0 (inr e))
-
-  pub write_fault : (a : Result V Refusal) → S a → C a → status ≡ 4 → Rose faults faults'
-  write_fault (Ok v) s c e = let w = c.part (λ z. omega (arith, e, z)) in w.1
-  write_fault (Err r) s c e = absurd (not_refused r s c.0 (inr e))
+  prefix (Err r) s c e = absurd (says_no_write_fault r s (of_write_fault r (sym c.0 ∙ e)))
 
   pub nothing_out : (a : Result V Refusal) → S a → C a → status ≢ 0 → status ≢ 4 → out' ≡ out
   nothing_out (Ok v) s c n m = absurd (m (c.part n).0)
   nothing_out (Err r) s c n m = c.1
 
-  pub tells : (a : Result V Refusal) → S a → C a → status ≢ 0 → TellsRefusal status line line' errs errs'
-  tells (Ok v) s c n = let w = c.part n in (refusals.WriteFault, w.0, w.3)
-  tells (Err r) s c n = (r, c.0, c.2)
+  pub refused : (a : Result V Refusal) → S a → C a → status ≢ 0 → IsRefused status words left before now faults faults' line line' errs errs'
+  refused (Ok v) s c n = let w = c.part n in record { refusal = refusals.WriteFault; status_is = w.0; cause = (s.0, w.1); told = w.3 }
+  refused (Err r) s c n = record { refusal = r; status_is = c.0; cause = says_cause r s; told = c.2 }
 
   pub quiet : (a : Result V Refusal) → S a → C a → status ≡ 0 → err' ≡ err
   quiet (Ok v) s c e = (c.whole e).1
-  quiet (Err r) s c e = absurd (not_refused r s c.0 (inl e))
+  quiet (Err r) s c e = absurd (not_zero r (sym c.0 ∙ e))
 
   -- an answer's status is 0 or 4
   answered : (v : V) → C (Ok v) → (status ≡ 0) ⊎ (status ≡ 4)
   answered v c = elim (zero_or status) [ inl z ↦ inl z | inr n ↦ inr (c.part n).0 ]
 
+  not_usage : (v : V) → C (Ok v) → status ≡ 2 → ⊥
+  not_usage v c e = elim (answered v c) [ inl z ↦ omega (arith, e, z) | inr z ↦ omega (arith, e, z) ]
+
   pub usage : (a : Result V Refusal) → S a → C a → (status ≡ 2) ↔ (job_of words ≡ None)
-  usage (Ok v) s c = ((λ e. elim (answered v c) [ inl z ↦ absurd (omega (arith, e, z)) | inr z ↦ absurd (omega (arith, e, z)) ]), (λ n. absurd (clash words s.0 n)))
-  usage (Err refusals.Memory) s c = ((λ e. absurd (omega (arith, e, c.0))), (λ n. absurd (clash words s n)))
-  usage (Err refusals.Usage) s c = ((λ e. s), (λ n. c.0))
-  usage (Err refusals.ReadFault) s c = ((λ e. absurd (omega (arith, e, c.0))), (λ n. absurd (clash words s.0 n)))
-  usage (Err refusals.WriteFault) s c = absurd s
-  usage (Err refusals.Form) s c = ((λ e. absurd (omega (arith, e, c.0))), (λ n. absurd (clash words s.0 n)))
-  usage (Err refusals.InputBytes) s c = ((λ e. absurd (omega (arith, e, c.0))), (λ n. absurd (clash words s.0 n)))
+  usage (Ok v) s c = ((λ e. absurd (not_usage v c e)), (λ n. absurd (clash words s.0 n)))
+  usage (Err r) s c =
+      let asked : r ≡ refusals.Usage → job_of words ≡ None = λ q. subst (λ x. IsCause x words left before now faults faults') q (says_cause r s) in
+      let on : job_of words ≡ None → status ≡ 2 = λ n. elim (says_job r s) [ inl q ↦ c.0 ∙ ap status_of q | inr j ↦ absurd (clash words j n) ] in
+      ((λ e. asked (of_usage r (sym c.0 ∙ e))), on)
 
   pub nothing_read : {X : Type 0} (src src' : X) → (a : Result V Refusal) → S a → C a → IfErr a (λ r. r ≡ refusals.Usage → src' ≡ src) → status ≡ 2 → src' ≡ src
-  nothing_read src src' (Ok v) s c u e = absurd (elim (answered v c) [ inl z ↦ omega (arith, e, z) | inr z ↦ omega (arith, e, z) ])
-  nothing_read src src' (Err refusals.Memory) s c u e = absurd (omega (arith, e, c.0))
-  nothing_read src src' (Err refusals.Usage) s c u e = u refl
-  nothing_read src src' (Err refusals.ReadFault) s c u e = absurd (omega (arith, e, c.0))
-  nothing_read src src' (Err refusals.WriteFault) s c u e = absurd s
-  nothing_read src src' (Err refusals.Form) s c u e = absurd (omega (arith, e, c.0))
-  nothing_read src src' (Err refusals.InputBytes) s c u e = absurd (omega (arith, e, c.0))
+  nothing_read src src' (Ok v) s c u e = absurd (not_usage v c e)
+  nothing_read src src' (Err r) s c u e = u (of_usage r (sym c.0 ∙ e))
 
-  pub read_fault : (a : Result V Refusal) → S a → C a → status ≡ 3 → Rose before now
-  read_fault (Ok v) s c e = absurd (elim (answered v c) [ inl z ↦ omega (arith, e, z) | inr z ↦ omega (arith, e, z) ])
-  read_fault (Err refusals.Memory) s c e = absurd (omega (arith, e, c.0))
-  read_fault (Err refusals.Usage) s c e = absurd (omega (arith, e, c.0))
-  read_fault (Err refusals.ReadFault) s c e = s.1
-  read_fault (Err refusals.WriteFault) s c e = absurd s
-  read_fault (Err refusals.Form) s c e = absurd (omega (arith, e, c.0))
-  read_fault (Err refusals.InputBytes) s c e = absurd (omega (arith, e, c.0))
+  listed : (r : Refusal) → status ≡ status_of r → Contains all_statuses status
+  listed refusals.Memory e = (1, lit< tt, sym e)
+  listed refusals.Usage e = (2, lit< tt, sym e)
+  listed refusals.ReadFault e = (3, lit< tt, sym e)
+  listed refusals.WriteFault e = (4, lit< tt, sym e)
+  listed (refusals.Syntax o) e = (5, lit< tt, sym e)
+  listed (refusals.Unsupported w o) e = (6, lit< tt, sym e)
+  listed refusals.Form e = (6, lit< tt, sym e)
+  listed (refusals.Limit l) e = (7, lit< tt, sym e)
+  listed refusals.InputBytes e = (7, lit< tt, sym e)
 
-  pub form : (a : Result V Refusal) → S a → C a → status ≡ 6 → (bytes : List ℕ) × IsInput left bytes × SpellsNone bytes
-  form (Ok v) s c e = absurd (elim (answered v c) [ inl z ↦ omega (arith, e, z) | inr z ↦ omega (arith, e, z) ])
-  form (Err refusals.Memory) s c e = absurd (omega (arith, e, c.0))
-  form (Err refusals.Usage) s c e = absurd (omega (arith, e, c.0))
-  form (Err refusals.ReadFault) s c e = absurd (omega (arith, e, c.0))
-  form (Err refusals.WriteFault) s c e = absurd s
-  form (Err refusals.Form) s c e = s.1
-  form (Err refusals.InputBytes) s c e = absurd (omega (arith, e, c.0))
-
-  pub input_bytes : (a : Result V Refusal) → S a → C a → status ≡ 7 → IsTooLong left
-  input_bytes (Ok v) s c e = absurd (elim (answered v c) [ inl z ↦ omega (arith, e, z) | inr z ↦ omega (arith, e, z) ])
-  input_bytes (Err refusals.Memory) s c e = absurd (omega (arith, e, c.0))
-  input_bytes (Err refusals.Usage) s c e = absurd (omega (arith, e, c.0))
-  input_bytes (Err refusals.ReadFault) s c e = absurd (omega (arith, e, c.0))
-  input_bytes (Err refusals.WriteFault) s c e = absurd s
-  input_bytes (Err refusals.Form) s c e = absurd (omega (arith, e, c.0))
-  input_bytes (Err refusals.InputBytes) s c e = s.1
-
-  abbrev Statuses : List ℕ
-  Statuses = 0 ∷ 1 ∷ 2 ∷ 3 ∷ 4 ∷ 6 ∷ 7 ∷ []
-
-  pub statuses : (a : Result V Refusal) → S a → C a → Contains Statuses status
+  pub statuses : (a : Result V Refusal) → S a → C a → Contains all_statuses status
   statuses (Ok v) s c = elim (answered v c) [ inl z ↦ (0, lit< tt, sym z) | inr z ↦ (4, lit< tt, sym z) ]
-  statuses (Err refusals.Memory) s c = (1, lit< tt, sym c.0)
-  statuses (Err refusals.Usage) s c = (2, lit< tt, sym c.0)
-  statuses (Err refusals.ReadFault) s c = (3, lit< tt, sym c.0)
-  statuses (Err refusals.WriteFault) s c = absurd s
-  statuses (Err refusals.Form) s c = (5, lit< tt, sym c.0)
-  statuses (Err refusals.InputBytes) s c = (6, lit< tt, sym c.0)
+  statuses (Err r) s c = listed r c.0
 
-  pub complete : (a : Result V Refusal) → S a → C a → (bytes : List ℕ) (e : Environment) → IsAsked words left bytes before now → length bytes ≤ input_limit → IsSimple bytes e → ¬ Rose faults faults' → (status ≡ 0) ⊎ (status ≡ 1)
-  complete (Ok v) s c bytes e asked short simple calm = elim (zero_or status) [ inl z ↦ inl z | inr n ↦ absurd (calm (c.part n).1) ]
-  complete (Err refusals.Memory) s c bytes e asked short simple calm = inr c.0
-  complete (Err refusals.Usage) s c bytes e asked short simple calm = absurd (clash words asked.words_are s)
-  complete (Err refusals.ReadFault) s c bytes e asked short simple calm = absurd (asked.no_fault s.1)
-  complete (Err refusals.WriteFault) s c bytes e asked short simple calm = absurd s
-  complete (Err refusals.Form) s c bytes e asked short simple calm =
-      let (found, input, none) = s.1 in
-      absurd (none e (subst (λ b. IsSimple b e) (sym (input-is left found bytes input asked.bytes_are).0) simple))
-  complete (Err refusals.InputBytes) s c bytes e asked short simple calm = let long = long-is left bytes s.1 asked.bytes_are in absurd (omega (arith, long, short))
+  -- ---- where the source tells its bytes and no count rises
 
-  pub refuses_text : (a : Result V Refusal) → S a → C a → (bytes : List ℕ) → IsAsked words left bytes before now → length bytes ≤ input_limit → SpellsNone bytes → (status ≡ 6) ⊎ (status ≡ 1)
-  refuses_text (Ok v) s c bytes asked short none =
-      let found = s.1 in
-      absurd (none found.answer.environment (subst (λ b. IsSimple b found.answer.environment) (input-is left found.bytes bytes found.input asked.bytes_are).0 found.answer.simple))
-  refuses_text (Err refusals.Memory) s c bytes asked short none = inr c.0
-  refuses_text (Err refusals.Usage) s c bytes asked short none = absurd (clash words asked.words_are s)
-  refuses_text (Err refusals.ReadFault) s c bytes asked short none = absurd (asked.no_fault s.1)
-  refuses_text (Err refusals.WriteFault) s c bytes asked short none = absurd s
-  refuses_text (Err refusals.Form) s c bytes asked short none = inl c.0
-  refuses_text (Err refusals.InputBytes) s c bytes asked short none = let long = long-is left bytes s.1 asked.bytes_are in absurd (omega (arith, long, short))
+  -- what a refusal says of the bytes
+  data Told (r : Refusal) (bytes : List ℕ) : Type 0 where
+    OfMemory : r ≡ refusals.Memory → Told r bytes
+    OfText : length bytes ≤ input_limit → IsTextCause r bytes → Told r bytes
+    OfLength : r ≡ refusals.InputBytes → input_limit < length bytes → Told r bytes
 
-  pub refuses_length : (a : Result V Refusal) → S a → C a → (bytes : List ℕ) → IsAsked words left bytes before now → input_limit < length bytes → (status ≡ 7) ⊎ (status ≡ 1)
-  refuses_length (Ok v) s c bytes asked long =
+  of_text : (r : Refusal) (bytes : List ℕ) → IsAsked words left bytes before now → (found : List ℕ) × IsInput left found × IsTextCause r found → Told r bytes
+  of_text r bytes asked t =
+      let (found, input, cause) = t in
+      let (same, short) = input-is left found bytes input asked.bytes_are in
+      OfText (subst (λ b. length b ≤ input_limit) same short) (subst (λ b. IsTextCause r b) same cause)
+
+  told : (r : Refusal) (bytes : List ℕ) → S (Err r) → IsAsked words left bytes before now → Told r bytes
+  told refusals.Memory bytes s asked = OfMemory refl
+  told refusals.Usage bytes s asked = absurd (clash words asked.words_are s)
+  told refusals.ReadFault bytes s asked = absurd (asked.no_fault s.1)
+  told refusals.WriteFault bytes s asked = absurd s
+  told (refusals.Syntax o) bytes s asked = of_text (refusals.Syntax o) bytes asked s.1
+  told (refusals.Unsupported w o) bytes s asked = of_text (refusals.Unsupported w o) bytes asked s.1
+  told refusals.Form bytes s asked = of_text refusals.Form bytes asked s.1
+  told (refusals.Limit l) bytes s asked = of_text (refusals.Limit l) bytes asked s.1
+  told refusals.InputBytes bytes s asked = OfLength refl (long-is left bytes s.1 asked.bytes_are)
+
+  -- the answer is that of the bytes told
+  answer_of : (v : V) (bytes : List ℕ) → S (Ok v) → IsAsked words left bytes before now → (length bytes ≤ input_limit) × IsAnswer bytes (view v)
+  answer_of v bytes s asked =
       let found = s.1 in
       let (same, short) = input-is left found.bytes bytes found.input asked.bytes_are in
-      let told : length bytes ≤ input_limit = subst (λ b. length b ≤ input_limit) same short in
-      absurd (omega (arith, told, long))
-  refuses_length (Err refusals.Memory) s c bytes asked long = inr c.0
-  refuses_length (Err refusals.Usage) s c bytes asked long = absurd (clash words asked.words_are s)
-  refuses_length (Err refusals.ReadFault) s c bytes asked long = absurd (asked.no_fault s.1)
-  refuses_length (Err refusals.WriteFault) s c bytes asked long = absurd s
-  refuses_length (Err refusals.Form) s c bytes asked long =
-      let (found, input, none) = s.1 in
-      let (same, short) = input-is left found bytes input asked.bytes_are in
-      let told : length bytes ≤ input_limit = subst (λ b. length b ≤ input_limit) same short in
-      absurd (omega (arith, told, long))
-  refuses_length (Err refusals.InputBytes) s c bytes asked long = inl c.0
+      (subst (λ b. length b ≤ input_limit) same short, subst (λ b. IsAnswer b (view v)) same found.answer)
+
+  pub complete : (a : Result V Refusal) → S a → C a → (bytes : List ℕ) (e : RawEnv) → IsAsked words left bytes before now → length bytes ≤ input_limit → SpellsWithin bytes e → IsSimple e → ¬ Rose faults faults' → (status ≡ 0) ⊎ (status ≡ 1)
+  complete (Ok v) s c bytes e asked short spelled simple calm = elim (zero_or status) [ inl z ↦ inl z | inr n ↦ absurd (calm (c.part n).1) ]
+  complete (Err r) s c bytes e asked short spelled simple calm =
+      elim (told r bytes s asked) [
+        | OfMemory q ↦ inr (c.0 ∙ ap status_of q)
+        | OfText few cause ↦ absurd (no_cause_of_simple bytes e r spelled simple cause)
+        | OfLength q long ↦ absurd (omega (arith, long, short))
+      ]
+
+  pub refuses_text : (a : Result V Refusal) → S a → C a → (bytes : List ℕ) (r : Refusal) → IsAsked words left bytes before now → length bytes ≤ input_limit → IsTextCause r bytes → (status ≡ status_of r) ⊎ (status ≡ 1)
+  refuses_text (Ok v) s c bytes r asked short cause = absurd (no_cause_of_answers bytes (view v) r (answer_of v bytes s asked).1 cause)
+  refuses_text (Err q) s c bytes r asked short cause =
+      elim (told q bytes s asked) [
+        | OfMemory e ↦ inr (c.0 ∙ ap status_of e)
+        | OfText few found ↦ inl (c.0 ∙ ap status_of (one_cause bytes q r found cause))
+        | OfLength e long ↦ absurd (omega (arith, long, short))
+      ]
+
+  pub refuses_length : (a : Result V Refusal) → S a → C a → (bytes : List ℕ) → IsAsked words left bytes before now → input_limit < length bytes → (status ≡ 7) ⊎ (status ≡ 1)
+  refuses_length (Ok v) s c bytes asked long = let told = (answer_of v bytes s asked).0 in absurd (omega (arith, told, long))
+  refuses_length (Err r) s c bytes asked long =
+      elim (told r bytes s asked) [
+        | OfMemory e ↦ inr (c.0 ∙ ap status_of e)
+        | OfText few cause ↦ absurd (omega (arith, long, few))
+        | OfLength e far ↦ inl (c.0 ∙ ap status_of e)
+      ]

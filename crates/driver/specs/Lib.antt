@@ -1,11 +1,5 @@
-pub mod Names
-pub mod Keywords
-pub mod Environment
-pub mod SimpleText
-pub mod Steps
-pub mod Reading
 pub mod Simple
-pub mod Seen
+pub mod Texts
 pub mod Lines
 pub mod CommandLine
 pub mod Serve

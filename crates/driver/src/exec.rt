@@ -4,22 +4,10 @@ ghost use Rattle.std.specs.Prelude.{◌≡◌, ◌<◌, ◌∷◌, ◌++◌, [],
 ghost use Rattle.driver.specs.Serve.{ExecSays};
 
 use crate::program::{compile, load, run, write};
-use crate::reader::{NotRead, read_simple};
 use crate::refusal::Refusal;
+use crate::simple::simple_of;
+use dump_reader::reading::read_env;
 use std::alloc::Global;
-
-impl From<NotRead> for Refusal {
-    ghost use Rattle.driver.specs.Serve.{refusal_of};
-
-    ghost from_gives = { λ n r. r ≡ refusal_of n };
-
-    fn from(why: NotRead) -> Refusal {
-        match why {
-            NotRead::Form => Refusal::Form,
-            NotRead::Memory => Refusal::Memory,
-        }
-    }
-}
 
 /// The name, and LF.
 fn text_of(alloc: Global, name: &[u8]) -> Result<Vec<u8>, Refusal>
@@ -36,10 +24,18 @@ fn text_of(alloc: Global, name: &[u8]) -> Result<Vec<u8>, Refusal>
 pub(crate) fn exec(alloc: Global, bytes: &[u8]) -> Result<Vec<u8>, Refusal>
     ensures says { ExecSays (λ v. v.items) result bytes.now }
 {
-    let environment = read_simple(alloc, bytes)?;
-    let program = compile(alloc, environment.main_constructor)?;
+    let environment = read_env(alloc, bytes)?;
+    let main = match simple_of(&environment) {
+        Some(main) => main,
+        None => return Err(Refusal::Form),
+    };
+    let program = compile(alloc, main.number)?;
     let file = write(alloc, &program)?;
     let loaded = load(alloc, file.as_slice())?;
     let word = run(alloc, &loaded)?;
-    text_of(alloc, environment.constructors[(word / 2) as usize])
+    let ctor = &main.family.ctors.as_slice()[(word / 2) as usize];
+    match environment.names.text(ctor.name.0) {
+        Some(name) => text_of(alloc, name.as_bytes()),
+        None => unreachable!(),
+    }
 }

@@ -103,8 +103,37 @@ fn exec_prints_the_constructor(rt: HostRuntime) -> Result<(), Fail> {
     Ok(())
 }
 
+/// The front of a text that declares nothing, up to the main term.
+const MAIN: &str = "(env 1 (levels) (constraints) (main ";
+
+/// The front, the piece so many times, and the back.
+fn repeated(
+    alloc: Global,
+    front: &str,
+    piece: &str,
+    times: usize,
+    back: &str,
+) -> Result<Vec<u8>, AllocError> {
+    let mut text = Vec::from_slice(alloc, front.as_bytes())?;
+    for _ in 0..times {
+        text.extend_from_slice(piece.as_bytes())?;
+    }
+    text.extend_from_slice(back.as_bytes())?;
+    Ok(text)
+}
+
+/// A refusal with this status and line.
+fn refusal(status: u8, line: &str) -> Want<'_> {
+    Want {
+        status,
+        out: b"",
+        err: line.as_bytes(),
+    }
+}
+
+/// Environments that are spelled and aren't simple.
 #[test]
-fn exec_refuses_other_mains(rt: HostRuntime) -> Result<(), Fail> {
+fn exec_refuses_what_is_not_simple(rt: HostRuntime) -> Result<(), Fail> {
     let alloc = rt.alloc();
     let want = Want {
         status: 6,
@@ -116,11 +145,100 @@ fn exec_refuses_other_mains(rt: HostRuntime) -> Result<(), Fail> {
         "(tConstruct bool 0 2)",
         "(tConstruct bool 1 0)",
         "(tConstruct nat 0 0)",
-        "(tConstruct bool 0 01)",
-        "(tConstruct bool 0 4294967296)",
+        "(tCast (tConstruct bool 0 1) Cast (tInd bool 0))",
     ] {
         let text = with_main(alloc, main.as_bytes())?;
         expect(&rt, alloc, &exec_on(text.as_slice()), &want)?;
+    }
+    for text in [
+        "(env 1 (levels) (constraints) (main (tSort Prop)))",
+        "(env 1 (levels u) (constraints) (InductiveDecl t (params) (family t (sort Set) (indices) (ctor a (args) (result)))) (main (tConstruct t 0 0)))",
+        "(env 1 (levels) (constraints) (InductiveDecl t (params) (family t (sort Prop) (indices) (ctor a (args) (result)))) (main (tConstruct t 0 0)))",
+        "(env 1 (levels) (constraints) (InductiveDecl t (params) (family t (sort Set) (indices) (ctor a (args (x (tInd t 0))) (result)))) (main (tConstruct t 0 0)))",
+        "(env 1 (levels) (constraints) (InductiveDecl t (params) (family t (sort Set) (indices) (ctor a (args) (result)) (ctor a (args) (result)))) (main (tConstruct t 0 0)))",
+        "(env 1 (levels) (constraints) (ConstantDecl c (tSort Prop) None) (InductiveDecl t (params) (family t (sort Set) (indices) (ctor a (args) (result)))) (main (tConstruct t 0 0)))",
+    ] {
+        expect(&rt, alloc, &exec_on(text.as_bytes()), &want)?;
+    }
+    Ok(())
+}
+
+/// Texts with their first refusal; the offsets are counted by hand.
+#[test]
+fn exec_tells_the_first_refusal_of_a_text(rt: HostRuntime) -> Result<(), Fail> {
+    let alloc = rt.alloc();
+    for (text, status, line) in [
+        ("", 5, "syntax at 0\n"),
+        ("(env 1 (levels) (constraints) (main (tRel 00)))", 5, "syntax at 42\n"),
+        ("(env 1 (levels) (constraints) (main (tFix ((def f (tRel 0) (tRel 0) 0)) 1)))", 5, "syntax at 72\n"),
+        ("(env 1 (levels) (constraints) (main (tCoFix () 0)))", 6, "unsupported CoFix at 37\n"),
+        ("(env 1 (levels) (constraints) (main (tVar x)))", 6, "unsupported Var at 37\n"),
+        ("(env 1 (levels) (constraints) (main (tEvar 0)))", 6, "unsupported Evar at 37\n"),
+        ("(env 1 (levels) (constraints) (main (tProj p)))", 6, "unsupported Proj at 37\n"),
+        ("(env 1 (levels) (constraints) (main (tInt 0)))", 6, "unsupported Int at 37\n"),
+        ("(env 1 (levels) (constraints) (main (tFloat 0)))", 6, "unsupported Float at 37\n"),
+        ("(env 1 (levels) (constraints) (main (tString s)))", 6, "unsupported String at 37\n"),
+        ("(env 1 (levels) (constraints) (main (tArray a)))", 6, "unsupported Array at 37\n"),
+        ("(env 1 (levels) (constraints) (main (tSort SProp)))", 6, "unsupported SProp at 43\n"),
+        ("(env 1 (levels) (constraints) (CoInductiveDecl s))", 6, "unsupported CoInductive at 31\n"),
+        ("(env 1 (levels) (constraints) (ConstantDecl c (universes)))", 6, "unsupported Polymorphic at 47\n"),
+        ("(env 1 (levels) (constraints) (InductiveDecl b (params (x (tSort Set) (tSort Set)))))", 6, "unsupported TelescopeLet at 70\n"),
+        ("(env 1 (levels (x)))", 6, "unsupported LevelVariable at 15\n"),
+        ("(env 2)", 6, "unsupported Version at 5\n"),
+        ("(env 1 (levels) (constraints) (main (tRel 4294967296)))", 7, "limit Number\n"),
+        ("(env 1 (levels) (constraints) (main (tSort (Type (Set 1001)))))", 7, "limit LevelAdd\n"),
+    ] {
+        expect(&rt, alloc, &exec_on(text.as_bytes()), &refusal(status, line))?;
+    }
+    Ok(())
+}
+
+/// A text that passes a counted limit: a piece so many times between a front and a back.
+#[derive(Clone, Copy)]
+struct Long<'a> {
+    front: &'a str,
+    piece: &'a str,
+    times: usize,
+    back: &'a str,
+    status: u8,
+    line: &'a str,
+}
+
+const BLOCK: &str = "(env 1 (levels) (constraints) (InductiveDecl b (params";
+const FAMILY: &str =
+    "(env 1 (levels) (constraints) (InductiveDecl b (params) (family f (sort Set) (indices)";
+
+fn long<'a>(front: &'a str, piece: &'a str, times: usize, line: &'a str) -> Long<'a> {
+    Long {
+        front,
+        piece,
+        times,
+        back: "",
+        status: 7,
+        line,
+    }
+}
+
+#[test]
+fn exec_tells_the_limits_of_a_text(rt: HostRuntime) -> Result<(), Fail> {
+    let alloc = rt.alloc();
+    let spine = "(env 1 (levels) (constraints) (main (tApp (tRel 0)";
+    let fixpoint = "(env 1 (levels) (constraints) (main (tFix (";
+    for row in [
+        long(MAIN, "(tApp ", 999, "limit Nesting\n"),
+        long("(", "a", 256, "limit NameBytes\n"),
+        long("(env 1 (levels", " a", 1025, "limit Levels\n"),
+        long("(env 1 (levels) (constraints", " (lt a b)", 16385, "limit Constraints\n"),
+        long("(env 1 (levels) (constraints)", " (ConstantDecl c (tSort Prop) None)", 65537, "limit Declarations\n"),
+        long(BLOCK, " (x (tSort Prop))", 256, "limit Telescope\n"),
+        long(FAMILY, ") (family f (sort Set) (indices)", 255, "limit Families\n"),
+        long(FAMILY, " (ctor c (args) (result))", 1025, "limit Constructors\n"),
+        long(fixpoint, "(def f (tRel 0) (tRel 0) 0)", 256, "limit Definitions\n"),
+        Long { back: ")))", ..long(spine, " (tRel 0)", 2048, "limit Depth\n") },
+        Long { status: 5, ..long(MAIN, "(tApp ", 998, "syntax at 6024\n") },
+    ] {
+        let text = repeated(alloc, row.front, row.piece, row.times, row.back)?;
+        expect(&rt, alloc, &exec_on(text.as_slice()), &refusal(row.status, row.line))?;
     }
     Ok(())
 }
@@ -128,14 +246,16 @@ fn exec_refuses_other_mains(rt: HostRuntime) -> Result<(), Fail> {
 #[test]
 fn exec_refuses_each_proper_prefix(rt: HostRuntime) -> Result<(), Fail> {
     let alloc = rt.alloc();
-    let want = Want {
-        status: 6,
-        out: b"",
-        err: FORM,
-    };
     for length in 0..FALSE.len() {
-        expect(&rt, alloc, &exec_on(&FALSE[..length]), &want)?;
+        let words = words_of(alloc, &["exec"])?;
+        let mut src = MemSource::new(FALSE[..length].to_vec(alloc)?, Vec::new(alloc));
+        let mut out = sink(alloc, 3, NEVER)?;
+        let mut err = sink(alloc, 4096, NEVER)?;
+        let status = serve(alloc, &words, &mut src, &mut out, &mut err);
+        assert_eq!(rt; status, 5);
+        assert_eq!(rt; out.bytes(), b"".as_slice());
     }
+    expect(&rt, alloc, &exec_on(&FALSE[..180]), &refusal(5, "syntax at 180\n"))?;
     Ok(())
 }
 

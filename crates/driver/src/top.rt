@@ -3,15 +3,17 @@
 ghost use Rattle.std.specs.Prelude.{◌≡◌, ◌≢◌, ◌↔◌, ◌⊎◌, ◌<◌, ◌≤◌, ℕ, List, [], ◌∷◌, length, Contains, IfErr, None};
 ghost use Rattle.std.specs.Io.KnownBytes.{Appends};
 ghost use Rattle.kio.specs.Causes.{Rose};
+ghost use Rattle.dump_reader.specs.declared.environment.RawEnv.{RawEnv};
+ghost use Rattle.driver.specs.Texts.{SpellsWithin};
 ghost use Rattle.driver.specs.CommandLine.{job_of, words_of};
-ghost use Rattle.driver.specs.Environment.{Environment};
 ghost use Rattle.driver.specs.Lines.{status_of, line_of};
 ghost use Rattle.driver.specs.Simple.{IsSimple};
-ghost use Rattle.driver.specs.Serve.{Answered, Concludes, IsAsked, IsInput, IsTooLong, ReadSays, Says, SpellsNone, TakesLine, TakesPrefix, TellsRefusal, input_limit};
+ghost use Rattle.driver.specs.Serve.{Answered, Concludes, IsAsked, IsRefused, IsTextCause, ReadSays, Says, TakesLine, TakesPrefix, input_limit};
 
 use crate::command_line::{Job, read_words};
+use crate::err_line::write_line;
 use crate::exec::exec;
-use crate::refusal::{Refusal, line, status};
+use crate::refusal::{Refusal, status};
 use kio::{ReadAll, Sink, Source, read_all, write_all};
 use std::alloc::Global;
 
@@ -51,7 +53,7 @@ fn refuse<E: Sink>(err: &mut E, refusal: Refusal) -> u8
     ensures status { result ≡ status_of refusal }
     ensures line { TakesLine (E.taken err.old) (E.taken err.new) (E.faults err.old) (E.faults err.new) (line_of refusal) }
 {
-    let _ = write_all(err, line(refusal));
+    write_line(err, refusal);
     status(refusal)
 }
 
@@ -70,10 +72,11 @@ fn conclude<K: Sink, E: Sink>(out: &mut K, err: &mut E, answered: Result<Vec<u8>
 
 /// Does the job that the words after the program's name ask for, and answers the program's status.
 ///
-/// The job is `exec`: the input is the text of a simple environment, one block of constructors without arguments with one of
-/// them as main. A module is made of it, encoded, decoded, validated and run, and the answer, the constructor's name with LF,
-/// goes to `out`. Statuses: 0 done; 1 want of memory; 2 the words aren't the one word `exec`, and then nothing is read; 3 a read
-/// fault; 4 a write fault; 6 the input spells no simple environment within the limits; 7 more than 16,777,216 bytes came.
+/// The job is `exec`: the input is the text of an environment, which must be simple, one block of constructors without arguments with one
+/// of them as main. A module is made of it, encoded, decoded, validated and run, and the answer, the constructor's name with LF, goes to
+/// `out`. Statuses: 0 done; 1 want of memory; 2 the words aren't the one word `exec`, and then nothing is read; 3 a read fault; 4 a
+/// write fault; 5 the text's first refusal is a syntax fault; 6 its first refusal is a form that is known and not read, or the text spells
+/// an environment within the limits that isn't simple; 7 its first refusal is a limit of the text, or more than 16,777,216 bytes came.
 ///
 /// A refusal writes one line to `err`, which takes no memory; a fault on `err` changes no status. Nothing goes to `out` before
 /// the whole answer is there, so a refusal other than a write fault leaves it as it was.
@@ -84,27 +87,23 @@ pub fn serve<S: Source, K: Sink, E: Sink>(
     out: &mut K,
     err: &mut E,
 ) -> u8
-    // The answer: the text spells a simple environment that is well formed, and out takes the name of its main constructor.
+    // The answer: the text spells a simple environment, and out takes the name of its main constructor.
     ensures done { result ≡ 0 → (text : List ℕ) × Answered (S.left src.old) text × Appends (K.taken out.old) (K.taken out.new) text }
-    ensures statuses { Contains (0 ∷ 1 ∷ 2 ∷ 3 ∷ 4 ∷ 6 ∷ 7 ∷ []) result }
+    ensures statuses { Contains (0 ∷ 1 ∷ 2 ∷ 3 ∷ 4 ∷ 5 ∷ 6 ∷ 7 ∷ []) result }
 
-    // The causes of the refusals.
+    // Each refusal has its cause, and its line goes to err.
+    ensures refused { result ≢ 0 → IsRefused result (words_of words.now) (S.left src.old) (S.faults src.old) (S.faults src.new) (K.faults out.old) (K.faults out.new) (E.taken err.old) (E.taken err.new) (E.faults err.old) (E.faults err.new) }
     ensures usage { (result ≡ 2) ↔ (job_of (words_of words.now) ≡ None) }
     ensures nothing_read { result ≡ 2 → src.new ≡ src.old }
-    ensures read_fault { result ≡ 3 → Rose (S.faults src.old) (S.faults src.new) }
-    ensures write_fault { result ≡ 4 → Rose (K.faults out.old) (K.faults out.new) }
     ensures prefix { result ≡ 4 → (text : List ℕ) × Answered (S.left src.old) text × TakesPrefix (K.taken out.old) (K.taken out.new) text }
-    ensures form { result ≡ 6 → (bytes : List ℕ) × IsInput (S.left src.old) bytes × SpellsNone bytes }
-    ensures input_bytes { result ≡ 7 → IsTooLong (S.left src.old) }
 
     // Where no count rises, want of memory is the only other answer.
-    ensures complete { (bytes : List ℕ) (e : Environment) → IsAsked (words_of words.now) (S.left src.old) bytes (S.faults src.old) (S.faults src.new) → length bytes ≤ input_limit → IsSimple bytes e → ¬ Rose (K.faults out.old) (K.faults out.new) → (result ≡ 0) ⊎ (result ≡ 1) }
-    ensures refuses_text { (bytes : List ℕ) → IsAsked (words_of words.now) (S.left src.old) bytes (S.faults src.old) (S.faults src.new) → length bytes ≤ input_limit → SpellsNone bytes → (result ≡ 6) ⊎ (result ≡ 1) }
+    ensures complete { (bytes : List ℕ) (e : RawEnv) → IsAsked (words_of words.now) (S.left src.old) bytes (S.faults src.old) (S.faults src.new) → length bytes ≤ input_limit → SpellsWithin bytes e → IsSimple e → ¬ Rose (K.faults out.old) (K.faults out.new) → (result ≡ 0) ⊎ (result ≡ 1) }
+    ensures refuses_text { (bytes : List ℕ) (r : Refusal) → IsAsked (words_of words.now) (S.left src.old) bytes (S.faults src.old) (S.faults src.new) → length bytes ≤ input_limit → IsTextCause r bytes → (result ≡ status_of r) ⊎ (result ≡ 1) }
     ensures refuses_length { (bytes : List ℕ) → IsAsked (words_of words.now) (S.left src.old) bytes (S.faults src.old) (S.faults src.new) → input_limit < length bytes → (result ≡ 7) ⊎ (result ≡ 1) }
 
     // What is left behind.
     ensures nothing_out { result ≢ 0 → result ≢ 4 → out.new ≡ out.old }
-    ensures line { result ≢ 0 → TellsRefusal result (E.taken err.old) (E.taken err.new) (E.faults err.old) (E.faults err.new) }
     ensures quiet { result ≡ 0 → err.new ≡ err.old }
     ensures counts { S.faults src.old ≤ S.faults src.new }
 {

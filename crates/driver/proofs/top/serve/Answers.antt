@@ -1,4 +1,4 @@
-use Rattle.driver.proofs.Serving.{complete, done, form, input_bytes, nothing_out, nothing_read, prefix, quiet, read_fault, refuses_length, refuses_text, statuses, tells, usage, write_fault}
+use Rattle.driver.proofs.Serving.{complete, done, nothing_out, nothing_read, prefix, quiet, refused, refuses_length, refuses_text, statuses, usage}
 use Rattle.driver.specs.CommandLine.{words_of}
 use Rattle.driver.proofs.top.serve.Goals as goal
 
@@ -14,20 +14,8 @@ returns-clause-usage g c = usage (λ v. v.items) c.conclude.result (words_of c.a
 pub returns-clause-nothing_read : goal.returns-clause-nothing_read
 returns-clause-nothing_read g c = nothing_read (λ v. v.items) c.conclude.result (words_of c.args.words.now) (g.S.Source.left c.args.src.now) (g.S.Source.faults c.args.src.now) (g.S.Source.faults c.answer-answered.new.src) c.args.out.now c.conclude.new.out (g.K.Sink.taken c.args.out.now) (g.K.Sink.taken c.conclude.new.out) (g.K.Sink.faults c.args.out.now) (g.K.Sink.faults c.conclude.new.out) c.args.err.now c.conclude.new.err (g.E.Sink.taken c.args.err.now) (g.E.Sink.taken c.conclude.new.err) (g.E.Sink.faults c.args.err.now) (g.E.Sink.faults c.conclude.new.err) c.args.src.now c.answer-answered.new.src c.answer-answered.result c.answer-answered.ensures.says c.conclude.ensures.concludes c.answer-answered.ensures.unread
 
-pub returns-clause-read_fault : goal.returns-clause-read_fault
-returns-clause-read_fault g c = read_fault (λ v. v.items) c.conclude.result (words_of c.args.words.now) (g.S.Source.left c.args.src.now) (g.S.Source.faults c.args.src.now) (g.S.Source.faults c.answer-answered.new.src) c.args.out.now c.conclude.new.out (g.K.Sink.taken c.args.out.now) (g.K.Sink.taken c.conclude.new.out) (g.K.Sink.faults c.args.out.now) (g.K.Sink.faults c.conclude.new.out) c.args.err.now c.conclude.new.err (g.E.Sink.taken c.args.err.now) (g.E.Sink.taken c.conclude.new.err) (g.E.Sink.faults c.args.err.now) (g.E.Sink.faults c.conclude.new.err) c.answer-answered.result c.answer-answered.ensures.says c.conclude.ensures.concludes
-
-pub returns-clause-write_fault : goal.returns-clause-write_fault
-returns-clause-write_fault g c = write_fault (λ v. v.items) c.conclude.result (words_of c.args.words.now) (g.S.Source.left c.args.src.now) (g.S.Source.faults c.args.src.now) (g.S.Source.faults c.answer-answered.new.src) c.args.out.now c.conclude.new.out (g.K.Sink.taken c.args.out.now) (g.K.Sink.taken c.conclude.new.out) (g.K.Sink.faults c.args.out.now) (g.K.Sink.faults c.conclude.new.out) c.args.err.now c.conclude.new.err (g.E.Sink.taken c.args.err.now) (g.E.Sink.taken c.conclude.new.err) (g.E.Sink.faults c.args.err.now) (g.E.Sink.faults c.conclude.new.err) c.answer-answered.result c.answer-answered.ensures.says c.conclude.ensures.concludes
-
 pub returns-clause-prefix : goal.returns-clause-prefix
 returns-clause-prefix g c = prefix (λ v. v.items) c.conclude.result (words_of c.args.words.now) (g.S.Source.left c.args.src.now) (g.S.Source.faults c.args.src.now) (g.S.Source.faults c.answer-answered.new.src) c.args.out.now c.conclude.new.out (g.K.Sink.taken c.args.out.now) (g.K.Sink.taken c.conclude.new.out) (g.K.Sink.faults c.args.out.now) (g.K.Sink.faults c.conclude.new.out) c.args.err.now c.conclude.new.err (g.E.Sink.taken c.args.err.now) (g.E.Sink.taken c.conclude.new.err) (g.E.Sink.faults c.args.err.now) (g.E.Sink.faults c.conclude.new.err) c.answer-answered.result c.answer-answered.ensures.says c.conclude.ensures.concludes
-
-pub returns-clause-form : goal.returns-clause-form
-returns-clause-form g c = form (λ v. v.items) c.conclude.result (words_of c.args.words.now) (g.S.Source.left c.args.src.now) (g.S.Source.faults c.args.src.now) (g.S.Source.faults c.answer-answered.new.src) c.args.out.now c.conclude.new.out (g.K.Sink.taken c.args.out.now) (g.K.Sink.taken c.conclude.new.out) (g.K.Sink.faults c.args.out.now) (g.K.Sink.faults c.conclude.new.out) c.args.err.now c.conclude.new.err (g.E.Sink.taken c.args.err.now) (g.E.Sink.taken c.conclude.new.err) (g.E.Sink.faults c.args.err.now) (g.E.Sink.faults c.conclude.new.err) c.answer-answered.result c.answer-answered.ensures.says c.conclude.ensures.concludes
-
-pub returns-clause-input_bytes : goal.returns-clause-input_bytes
-returns-clause-input_bytes g c = input_bytes (λ v. v.items) c.conclude.result (words_of c.args.words.now) (g.S.Source.left c.args.src.now) (g.S.Source.faults c.args.src.now) (g.S.Source.faults c.answer-answered.new.src) c.args.out.now c.conclude.new.out (g.K.Sink.taken c.args.out.now) (g.K.Sink.taken c.conclude.new.out) (g.K.Sink.faults c.args.out.now) (g.K.Sink.faults c.conclude.new.out) c.args.err.now c.conclude.new.err (g.E.Sink.taken c.args.err.now) (g.E.Sink.taken c.conclude.new.err) (g.E.Sink.faults c.args.err.now) (g.E.Sink.faults c.conclude.new.err) c.answer-answered.result c.answer-answered.ensures.says c.conclude.ensures.concludes
 
 pub returns-clause-complete : goal.returns-clause-complete
 returns-clause-complete g c = complete (λ v. v.items) c.conclude.result (words_of c.args.words.now) (g.S.Source.left c.args.src.now) (g.S.Source.faults c.args.src.now) (g.S.Source.faults c.answer-answered.new.src) c.args.out.now c.conclude.new.out (g.K.Sink.taken c.args.out.now) (g.K.Sink.taken c.conclude.new.out) (g.K.Sink.faults c.args.out.now) (g.K.Sink.faults c.conclude.new.out) c.args.err.now c.conclude.new.err (g.E.Sink.taken c.args.err.now) (g.E.Sink.taken c.conclude.new.err) (g.E.Sink.faults c.args.err.now) (g.E.Sink.faults c.conclude.new.err) c.answer-answered.result c.answer-answered.ensures.says c.conclude.ensures.concludes
@@ -41,8 +29,8 @@ returns-clause-refuses_length g c = refuses_length (λ v. v.items) c.conclude.re
 pub returns-clause-nothing_out : goal.returns-clause-nothing_out
 returns-clause-nothing_out g c = nothing_out (λ v. v.items) c.conclude.result (words_of c.args.words.now) (g.S.Source.left c.args.src.now) (g.S.Source.faults c.args.src.now) (g.S.Source.faults c.answer-answered.new.src) c.args.out.now c.conclude.new.out (g.K.Sink.taken c.args.out.now) (g.K.Sink.taken c.conclude.new.out) (g.K.Sink.faults c.args.out.now) (g.K.Sink.faults c.conclude.new.out) c.args.err.now c.conclude.new.err (g.E.Sink.taken c.args.err.now) (g.E.Sink.taken c.conclude.new.err) (g.E.Sink.faults c.args.err.now) (g.E.Sink.faults c.conclude.new.err) c.answer-answered.result c.answer-answered.ensures.says c.conclude.ensures.concludes
 
-pub returns-clause-line : goal.returns-clause-line
-returns-clause-line g c = tells (λ v. v.items) c.conclude.result (words_of c.args.words.now) (g.S.Source.left c.args.src.now) (g.S.Source.faults c.args.src.now) (g.S.Source.faults c.answer-answered.new.src) c.args.out.now c.conclude.new.out (g.K.Sink.taken c.args.out.now) (g.K.Sink.taken c.conclude.new.out) (g.K.Sink.faults c.args.out.now) (g.K.Sink.faults c.conclude.new.out) c.args.err.now c.conclude.new.err (g.E.Sink.taken c.args.err.now) (g.E.Sink.taken c.conclude.new.err) (g.E.Sink.faults c.args.err.now) (g.E.Sink.faults c.conclude.new.err) c.answer-answered.result c.answer-answered.ensures.says c.conclude.ensures.concludes
+pub returns-clause-refused : goal.returns-clause-refused
+returns-clause-refused g c = refused (λ v. v.items) c.conclude.result (words_of c.args.words.now) (g.S.Source.left c.args.src.now) (g.S.Source.faults c.args.src.now) (g.S.Source.faults c.answer-answered.new.src) c.args.out.now c.conclude.new.out (g.K.Sink.taken c.args.out.now) (g.K.Sink.taken c.conclude.new.out) (g.K.Sink.faults c.args.out.now) (g.K.Sink.faults c.conclude.new.out) c.args.err.now c.conclude.new.err (g.E.Sink.taken c.args.err.now) (g.E.Sink.taken c.conclude.new.err) (g.E.Sink.faults c.args.err.now) (g.E.Sink.faults c.conclude.new.err) c.answer-answered.result c.answer-answered.ensures.says c.conclude.ensures.concludes
 
 pub returns-clause-quiet : goal.returns-clause-quiet
 returns-clause-quiet g c = quiet (λ v. v.items) c.conclude.result (words_of c.args.words.now) (g.S.Source.left c.args.src.now) (g.S.Source.faults c.args.src.now) (g.S.Source.faults c.answer-answered.new.src) c.args.out.now c.conclude.new.out (g.K.Sink.taken c.args.out.now) (g.K.Sink.taken c.conclude.new.out) (g.K.Sink.faults c.args.out.now) (g.K.Sink.faults c.conclude.new.out) c.args.err.now c.conclude.new.err (g.E.Sink.taken c.args.err.now) (g.E.Sink.taken c.conclude.new.err) (g.E.Sink.faults c.args.err.now) (g.E.Sink.faults c.conclude.new.err) c.answer-answered.result c.answer-answered.ensures.says c.conclude.ensures.concludes

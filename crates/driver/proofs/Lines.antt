@@ -1,0 +1,47 @@
+-- A line that is written in three parts.
+use Rattle.std.proofs.Common.{◌≡◌, ℕ, ◌+◌, ◌^◌, ◌≤◌, List, ◌++◌, length, take, min, Option, Some, None, ◌⊎◌, inl, inr, refl, sym, ap, subst, ◌∙◌, arith}
+use Rattle.std.specs.Prelude.{Result, Ok, Err, OnOk, IfErr}
+use Rattle.std.proofs.Math.Seq.{take-append-add}
+use Rattle.std.proofs.lemmas.List.{append_assoc, length-append, take-append-le}
+use Rattle.std.specs.Io.KnownBytes.{Appends}
+use Rattle.kio.specs.Causes.{Rose, HasCause}
+use Rattle.kio.specs.declared.WriteFault.{WriteFault}
+use Rattle.driver.specs.Serve.{TakesLine, TakesPrefix}
+
+-- one part, and then another
+appends_both : (a b c : Option (List ℕ)) (xs ys : List ℕ) → Appends a b xs → Appends b c ys → Appends a c (xs ++ ys)
+appends_both None b c xs ys h k = tt
+appends_both (Some a) None c xs ys h k = absurd h
+appends_both (Some a) (Some b) None xs ys h k = absurd k
+appends_both (Some a) (Some b) (Some c) xs ys h k = k ∙ ap (λ z. z ++ ys) h ∙ append_assoc a xs ys
+
+rose_later : (a b c : ℕ) → a ≤ b → Rose b c → Rose a c
+rose_later a b c h k = omega (arith, h, k)
+
+rose_earlier : (a b c : ℕ) → Rose a b → b ≤ c → Rose a c
+rose_earlier a b c h k = omega (arith, h, k)
+
+-- a part, and then the rest of the line
+pub line_then : (a b c : Option (List ℕ)) (m n k : ℕ) (xs ys : List ℕ) → Appends a b xs → m ≤ n → TakesLine b c n k ys → TakesLine a c m k (xs ++ ys)
+line_then a b c m n k xs ys h l t = record {
+  count = omega (arith, l, t.count);
+  line_or_prefix = elim t.line_or_prefix [
+    | inl w ↦ inl (appends_both a b c xs ys h w)
+    | inr (rose, (p, few, part)) ↦ inr (
+      rose_later m n k l rose,
+      (length xs + p, (let all = length-append xs ys in omega (arith, few, all)), subst (λ z. Appends a c z) (sym (take-append-add xs ys p)) (appends_both a b c xs (take p ys) h part)),
+    )
+  ];
+}
+
+-- a part that faults
+pub line_stops : (a b : Option (List ℕ)) (m n p : ℕ) (xs ys : List ℕ) → p ≤ length xs → Appends a b (take p xs) → m ≤ n → Rose m n → TakesLine a b m n (xs ++ ys)
+line_stops a b m n p xs ys few h l rose = record {
+  count = l;
+  line_or_prefix = inr (rose, (p, (let all = length-append xs ys in omega (arith, few, all)), subst (λ z. Appends a b z) (sym (take-append-le p xs ys few)) h));
+}
+
+-- the last part, whole or not
+pub line_ends : (a b : Option (List ℕ)) (m n : ℕ) (xs : List ℕ) (r : Result (Unit {0}) WriteFault) → OnOk r (Appends a b xs) → IfErr r (λ f. (f.written ≤ length xs) × Appends a b (take f.written xs)) → HasCause m n r → TakesLine a b m n xs
+line_ends a b m n xs (Ok u) whole part cause = record { count = cause.later; line_or_prefix = inl whole }
+line_ends a b m n xs (Err f) whole part cause = record { count = cause.later; line_or_prefix = inr (cause.failed, (f.written, part.0, part.1)) }

@@ -1,0 +1,21 @@
+use Rattle.std.proofs.Common.{◌++◌}
+use Rattle.driver.proofs.Lines.{line_ends, line_stops, line_then}
+use Rattle.driver.proofs.err_line.write_parts.Goals as goal
+
+pub returns-in_err-write_all : goal.returns-in_err-write_all
+returns-in_err-write_all g c =
+    let e = c.in_err-write_all.ensures in
+    record { line = line_stops _ _ _ _ _ c.args.front.now (c.args.digits.now ++ c.args.end.now) e.part.0 e.part.1 e.cause.later e.cause.failed }
+
+pub returns-in_err-write_all-2 : goal.returns-in_err-write_all-2
+returns-in_err-write_all-2 g c =
+    let w = c.in_ok-write_all.ensures in
+    let e = c.in_err-write_all-2.ensures in
+    record { line = line_then _ _ _ _ _ _ c.args.front.now (c.args.digits.now ++ c.args.end.now) w.all w.cause.later (line_stops _ _ _ _ _ c.args.digits.now c.args.end.now e.part.0 e.part.1 e.cause.later e.cause.failed) }
+
+pub returns : goal.returns
+returns g c =
+    let w = c.in_ok-write_all.ensures in
+    let x = c.in_ok-write_all-2.ensures in
+    let e = c.write_all-3.ensures in
+    record { line = line_then _ _ _ _ _ _ c.args.front.now (c.args.digits.now ++ c.args.end.now) w.all w.cause.later (line_then _ _ _ _ _ _ c.args.digits.now c.args.end.now x.all x.cause.later (line_ends _ _ _ _ c.args.end.now c.write_all-3.result e.all e.part e.cause)) }

@@ -1,6 +1,0 @@
-use Rattle.std.proofs.Common.{◌≡◌, ℕ, ◌≤◌, ◌<◌, ◌^◌, drop}
-use Rattle.driver.specs.SimpleText.{digits_from}
-use Rattle.driver.proofs.reader.number_of_text.Given as goal
-
-abbrev pub invariant-loop-b : goal.invariant-loop-b
-invariant-loop-b l = (v : ℕ) × (digits_from 0 l.text ≡ digits_from v (drop l.b-index l.text)) × (v ≤ 4294967295 → l.n ≡ v) × (4294967295 < v → 4294967295 < l.n) × (l.n < 2 ^ 40)
