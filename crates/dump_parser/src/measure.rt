@@ -75,7 +75,7 @@ impl<'a> Node<'a> {
             Node::Sort(_) => 1,
             Node::Prod(domain, codomain) => domain.depth().max(codomain.depth()) + 1,
             Node::Lambda(domain, body) => domain.depth().max(body.depth()) + 1,
-            Node::LetIn(value, ty, body) => { value.depth().max(ty.depth().max(body.depth())) + 1 }
+            Node::LetIn(value, ty, body) => value.depth().max(ty.depth().max(body.depth())) + 1,
             Node::App(function, argument, more) => {
                 applied_depth(function.depth().max(argument.depth()) + 1, more.as_slice())
             }
