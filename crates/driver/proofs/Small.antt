@@ -86,8 +86,8 @@ few-of-forms (ConstantForm k' A b ∷ ds) k g n t e h = absurd cc
 few-of-forms (BlockForm k' ps f more ∷ ds) k g n t e h =
     let same : family_meaning f ≡ g = cc in
     let over : declaration_over (BlockForm k' ps f more) ≡ None =
-      none-left (declaration_over (BlockForm k' ps f more)) (declarations_over (n + 1) ds t)
-      (none-right (one_more_over 65536 limits.Declarations n) (first (declaration_over (BlockForm k' ps f more)) (declarations_over (n + 1) ds t)) h) in
+    none-left (declaration_over (BlockForm k' ps f more)) (declarations_over (n + 1) ds t)
+    (none-right (one_more_over 65536 limits.Declarations n) (first (declaration_over (BlockForm k' ps f more)) (declarations_over (n + 1) ds t)) h) in
     let family : family_over f ≡ None = none-left (family_over f) (families_over 1 more) (none-right (bindings_over 0 ps) (first (family_over f) (families_over 1 more)) over) in
     let ctors : ctors_over 0 f.ctors ≡ None = none-right (bindings_over 0 f.indices) (ctors_over 0 f.ctors) (none-right (sort_over f.sort) (first (bindings_over 0 f.indices) (ctors_over 0 f.ctors)) family) in
     let few : 0 + length f.ctors ≤ 1024 = few-ctors 0 f.ctors (omega arith) ctors in
@@ -100,8 +100,8 @@ few bytes e f c s simple =
     let is : map (numbered_decl (name_table n) (level_table n)) n.decls ≡ block_of simple.block f ∷ [] = ap (λ x. x.decls) (sym s.means) ∙ simple.one_declaration in
     let b = block (name_table n) (level_table n) n.decls simple.block f is in
     let over : declarations_over 0 s.form.decls s.form.main ≡ None =
-      none-right (constraints_over 0 s.form.constraints) (declarations_over 0 s.form.decls s.form.main)
-      (none-right (levels_over 0 s.form.levels) (first (constraints_over 0 s.form.constraints) (declarations_over 0 s.form.decls s.form.main)) s.within.1) in
+    none-right (constraints_over 0 s.form.constraints) (declarations_over 0 s.form.decls s.form.main)
+    (none-right (levels_over 0 s.form.levels) (first (constraints_over 0 s.form.constraints) (declarations_over 0 s.form.decls s.form.main)) s.within.1) in
     let few : length b.family.ctors ≤ 1024 = few-of-forms s.form.decls b.name b.family 0 s.form.main b.decls_are over in
     let many : length f.ctors ≡ length b.family.ctors = ap (λ x. length x.ctors) b.family_is ∙ length-map (numbered_ctor (name_table n) (level_table n)) b.family.ctors in
     omega (arith, few, many, simple.declared)
@@ -151,9 +151,9 @@ name-of n k g cm i decls indices constants at =
     let after = names n.main [] in
     let there = used (name_table n) (level_table n) g.ctors i cm after constants at in
     let uses : name_uses n ≡ k ∷ g.name ∷ each names_of_ctor g.ctors after =
-      ap (λ ds. each names_of_decl ds after) decls ∙ ap (λ is. k ∷ g.name ∷ each names is (each names_of_ctor g.ctors after)) indices in
+    ap (λ ds. each names_of_decl ds after) decls ∙ ap (λ is. k ∷ g.name ∷ each names is (each names_of_ctor g.ctors after)) indices in
     let member : is_in cm.name (name_uses n) ≡ true =
-      ap (is_in cm.name) uses ∙ or-right (bytes_eq cm.name k) (bytes_eq cm.name g.name || is_in cm.name (each names_of_ctor g.ctors after)) (or-right (bytes_eq cm.name g.name) (is_in cm.name (each names_of_ctor g.ctors after)) there) in
+    ap (is_in cm.name) uses ∙ or-right (bytes_eq cm.name k) (bytes_eq cm.name g.name || is_in cm.name (each names_of_ctor g.ctors after)) (or-right (bytes_eq cm.name g.name) (is_in cm.name (each names_of_ctor g.ctors after)) there) in
     at-place (place_of cm.name (name_table n)) (name_table n) cm.name (numbering.used (name_uses n) cm.name member)
 
 from-map : {X Y : Type 0} (f : X → Y) (o : Option X) (y : Y) → option_map f o ≡ Some y → (x : X) × (o ≡ Some x) × (y ≡ f x)

@@ -9,7 +9,12 @@ use itoa::Buffer;
 use kio::{Sink, WriteFault, write_all};
 
 /// Writes the three parts of a line one after another, up to the first fault.
-fn write_parts<E: Sink>(err: &mut E, front: &[u8], digits: &[u8], end: &[u8]) -> Result<(), WriteFault>
+fn write_parts<E: Sink>(
+    err: &mut E,
+    front: &[u8],
+    digits: &[u8],
+    end: &[u8],
+) -> Result<(), WriteFault>
     ensures line { TakesLine (E.taken err.old) (E.taken err.new) (E.faults err.old) (E.faults err.new) (front.now ++ (digits.now ++ end.now)) }
 {
     write_all(err, front)?;

@@ -60,9 +60,7 @@ fn are_constants(ctors: &[RawCtor]) -> bool
 fn is_enumeration(family: &RawFamily) -> bool
     ensures enumeration { IsTrue result ↔ IsEnumeration family.now }
 {
-    is_set(&family.sort)
-        && family.indices.is_empty()
-        && are_constants(family.ctors.as_slice())
+    is_set(&family.sort) && family.indices.is_empty() && are_constants(family.ctors.as_slice())
 }
 
 /// Whether the name of constructor i is a later constructor's too.
@@ -97,7 +95,13 @@ fn one_family(decls: &[RawDecl]) -> Option<OneFamily<'_>>
     ensures none { IfNone result ((name : Name) (f : RawFamily) → decls.now ≡ block_of name f ∷ [] → ⊥) }
 {
     match decls {
-        [RawDecl::Block { name, params, families }] => {
+        [
+            RawDecl::Block {
+                name,
+                params,
+                families,
+            },
+        ] => {
             if !params.is_empty() {
                 return None;
             }

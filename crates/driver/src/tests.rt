@@ -169,26 +169,99 @@ fn exec_tells_the_first_refusal_of_a_text(rt: HostRuntime) -> Result<(), Fail> {
     let alloc = rt.alloc();
     for (text, status, line) in [
         ("", 5, "syntax at 0\n"),
-        ("(env 1 (levels) (constraints) (main (tRel 00)))", 5, "syntax at 42\n"),
-        ("(env 1 (levels) (constraints) (main (tFix ((def f (tRel 0) (tRel 0) 0)) 1)))", 5, "syntax at 72\n"),
-        ("(env 1 (levels) (constraints) (main (tCoFix () 0)))", 6, "unsupported CoFix at 37\n"),
-        ("(env 1 (levels) (constraints) (main (tVar x)))", 6, "unsupported Var at 37\n"),
-        ("(env 1 (levels) (constraints) (main (tEvar 0)))", 6, "unsupported Evar at 37\n"),
-        ("(env 1 (levels) (constraints) (main (tProj p)))", 6, "unsupported Proj at 37\n"),
-        ("(env 1 (levels) (constraints) (main (tInt 0)))", 6, "unsupported Int at 37\n"),
-        ("(env 1 (levels) (constraints) (main (tFloat 0)))", 6, "unsupported Float at 37\n"),
-        ("(env 1 (levels) (constraints) (main (tString s)))", 6, "unsupported String at 37\n"),
-        ("(env 1 (levels) (constraints) (main (tArray a)))", 6, "unsupported Array at 37\n"),
-        ("(env 1 (levels) (constraints) (main (tSort SProp)))", 6, "unsupported SProp at 43\n"),
-        ("(env 1 (levels) (constraints) (CoInductiveDecl s))", 6, "unsupported CoInductive at 31\n"),
-        ("(env 1 (levels) (constraints) (ConstantDecl c (universes)))", 6, "unsupported Polymorphic at 47\n"),
-        ("(env 1 (levels) (constraints) (InductiveDecl b (params (x (tSort Set) (tSort Set)))))", 6, "unsupported TelescopeLet at 70\n"),
-        ("(env 1 (levels (x)))", 6, "unsupported LevelVariable at 15\n"),
+        (
+            "(env 1 (levels) (constraints) (main (tRel 00)))",
+            5,
+            "syntax at 42\n",
+        ),
+        (
+            "(env 1 (levels) (constraints) (main (tFix ((def f (tRel 0) (tRel 0) 0)) 1)))",
+            5,
+            "syntax at 72\n",
+        ),
+        (
+            "(env 1 (levels) (constraints) (main (tCoFix () 0)))",
+            6,
+            "unsupported CoFix at 37\n",
+        ),
+        (
+            "(env 1 (levels) (constraints) (main (tVar x)))",
+            6,
+            "unsupported Var at 37\n",
+        ),
+        (
+            "(env 1 (levels) (constraints) (main (tEvar 0)))",
+            6,
+            "unsupported Evar at 37\n",
+        ),
+        (
+            "(env 1 (levels) (constraints) (main (tProj p)))",
+            6,
+            "unsupported Proj at 37\n",
+        ),
+        (
+            "(env 1 (levels) (constraints) (main (tInt 0)))",
+            6,
+            "unsupported Int at 37\n",
+        ),
+        (
+            "(env 1 (levels) (constraints) (main (tFloat 0)))",
+            6,
+            "unsupported Float at 37\n",
+        ),
+        (
+            "(env 1 (levels) (constraints) (main (tString s)))",
+            6,
+            "unsupported String at 37\n",
+        ),
+        (
+            "(env 1 (levels) (constraints) (main (tArray a)))",
+            6,
+            "unsupported Array at 37\n",
+        ),
+        (
+            "(env 1 (levels) (constraints) (main (tSort SProp)))",
+            6,
+            "unsupported SProp at 43\n",
+        ),
+        (
+            "(env 1 (levels) (constraints) (CoInductiveDecl s))",
+            6,
+            "unsupported CoInductive at 31\n",
+        ),
+        (
+            "(env 1 (levels) (constraints) (ConstantDecl c (universes)))",
+            6,
+            "unsupported Polymorphic at 47\n",
+        ),
+        (
+            "(env 1 (levels) (constraints) (InductiveDecl b (params (x (tSort Set) (tSort Set)))))",
+            6,
+            "unsupported TelescopeLet at 70\n",
+        ),
+        (
+            "(env 1 (levels (x)))",
+            6,
+            "unsupported LevelVariable at 15\n",
+        ),
         ("(env 2)", 6, "unsupported Version at 5\n"),
-        ("(env 1 (levels) (constraints) (main (tRel 4294967296)))", 7, "limit Number\n"),
-        ("(env 1 (levels) (constraints) (main (tSort (Type (Set 1001)))))", 7, "limit LevelAdd\n"),
+        (
+            "(env 1 (levels) (constraints) (main (tRel 4294967296)))",
+            7,
+            "limit Number\n",
+        ),
+        (
+            "(env 1 (levels) (constraints) (main (tSort (Type (Set 1001)))))",
+            7,
+            "limit LevelAdd\n",
+        ),
     ] {
-        expect(&rt, alloc, &exec_on(text.as_bytes()), &refusal(status, line))?;
+        expect(
+            &rt,
+            alloc,
+            &exec_on(text.as_bytes()),
+            &refusal(status, line),
+        )?;
     }
     Ok(())
 }
@@ -205,6 +278,7 @@ struct Long<'a> {
 }
 
 const BLOCK: &str = "(env 1 (levels) (constraints) (InductiveDecl b (params";
+
 const FAMILY: &str =
     "(env 1 (levels) (constraints) (InductiveDecl b (params) (family f (sort Set) (indices)";
 
@@ -228,17 +302,53 @@ fn exec_tells_the_limits_of_a_text(rt: HostRuntime) -> Result<(), Fail> {
         long(MAIN, "(tApp ", 999, "limit Nesting\n"),
         long("(", "a", 256, "limit NameBytes\n"),
         long("(env 1 (levels", " a", 1025, "limit Levels\n"),
-        long("(env 1 (levels) (constraints", " (lt a b)", 16385, "limit Constraints\n"),
-        long("(env 1 (levels) (constraints)", " (ConstantDecl c (tSort Prop) None)", 65537, "limit Declarations\n"),
+        long(
+            "(env 1 (levels) (constraints",
+            " (lt a b)",
+            16385,
+            "limit Constraints\n",
+        ),
+        long(
+            "(env 1 (levels) (constraints)",
+            " (ConstantDecl c (tSort Prop) None)",
+            65537,
+            "limit Declarations\n",
+        ),
         long(BLOCK, " (x (tSort Prop))", 256, "limit Telescope\n"),
-        long(FAMILY, ") (family f (sort Set) (indices)", 255, "limit Families\n"),
-        long(FAMILY, " (ctor c (args) (result))", 1025, "limit Constructors\n"),
-        long(fixpoint, "(def f (tRel 0) (tRel 0) 0)", 256, "limit Definitions\n"),
-        Long { back: ")))", ..long(spine, " (tRel 0)", 2048, "limit Depth\n") },
-        Long { status: 5, ..long(MAIN, "(tApp ", 998, "syntax at 6024\n") },
+        long(
+            FAMILY,
+            ") (family f (sort Set) (indices)",
+            255,
+            "limit Families\n",
+        ),
+        long(
+            FAMILY,
+            " (ctor c (args) (result))",
+            1025,
+            "limit Constructors\n",
+        ),
+        long(
+            fixpoint,
+            "(def f (tRel 0) (tRel 0) 0)",
+            256,
+            "limit Definitions\n",
+        ),
+        Long {
+            back: ")))",
+            ..long(spine, " (tRel 0)", 2048, "limit Depth\n")
+        },
+        Long {
+            status: 5,
+            ..long(MAIN, "(tApp ", 998, "syntax at 6024\n")
+        },
     ] {
         let text = repeated(alloc, row.front, row.piece, row.times, row.back)?;
-        expect(&rt, alloc, &exec_on(text.as_slice()), &refusal(row.status, row.line))?;
+        expect(
+            &rt,
+            alloc,
+            &exec_on(text.as_slice()),
+            &refusal(row.status, row.line),
+        )?;
     }
     Ok(())
 }
@@ -255,7 +365,12 @@ fn exec_refuses_each_proper_prefix(rt: HostRuntime) -> Result<(), Fail> {
         assert_eq!(rt; status, 5);
         assert_eq!(rt; out.bytes(), b"".as_slice());
     }
-    expect(&rt, alloc, &exec_on(&FALSE[..180]), &refusal(5, "syntax at 180\n"))?;
+    expect(
+        &rt,
+        alloc,
+        &exec_on(&FALSE[..180]),
+        &refusal(5, "syntax at 180\n"),
+    )?;
     Ok(())
 }
 
