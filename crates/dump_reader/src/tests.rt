@@ -56,12 +56,14 @@ fn constraint(left: u32, relation: Relation, right: u32) -> Constraint {
 }
 
 fn are_texts(names: &Names, texts: &[&str]) -> bool {
-    for i in 0..texts.len() {
-        if names.text(i as u32) != Some(texts[i]) {
+    let mut next: u32 = 0;
+    for text in texts {
+        if names.text(next) != Some(*text) {
             return false;
         }
+        next = next.wrapping_add(1);
     }
-    names.len() == texts.len() && names.text(texts.len() as u32).is_none()
+    names.len() == texts.len() && names.text(next).is_none()
 }
 
 /// Whether the declaration is the block of bool with its constructors, numbered from 0.
