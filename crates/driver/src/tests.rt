@@ -268,7 +268,7 @@ fn exec_tells_the_first_refusal_of_a_text(rt: HostRuntime) -> Result<(), Fail> {
 
 /// A text that passes a counted limit: a piece so many times between a front and a back.
 #[derive(Clone, Copy)]
-struct Long<'a> {
+struct Repetition<'a> {
     front: &'a str,
     piece: &'a str,
     times: usize,
@@ -282,8 +282,8 @@ const BLOCK: &str = "(env 1 (levels) (constraints) (InductiveDecl b (params";
 const FAMILY: &str =
     "(env 1 (levels) (constraints) (InductiveDecl b (params) (family f (sort Set) (indices)";
 
-fn long<'a>(front: &'a str, piece: &'a str, times: usize, line: &'a str) -> Long<'a> {
-    Long {
+fn long<'a>(front: &'a str, piece: &'a str, times: usize, line: &'a str) -> Repetition<'a> {
+    Repetition {
         front,
         piece,
         times,
@@ -333,11 +333,11 @@ fn exec_tells_the_limits_of_a_text(rt: HostRuntime) -> Result<(), Fail> {
             256,
             "limit Definitions\n",
         ),
-        Long {
+        Repetition {
             back: ")))",
             ..long(spine, " (tRel 0)", 2048, "limit Depth\n")
         },
-        Long {
+        Repetition {
             status: 5,
             ..long(MAIN, "(tApp ", 998, "syntax at 6024\n")
         },
