@@ -23,12 +23,12 @@ one_constructor u {f} {c} {d} {v} {ps} {qs} {xs} {ys} (is_constructor {F = F} k 
     long : length ps ≡ length qs
     long = p ∙ ap (λ F. length F.parameters) (u.families f F G k k') ∙ sym p'
 
-not_more : {E : Env} {A b : Term} → TakesMore E (Lambda A b) → ⊥
+pub not_more : {E : Env} {A b : Term} → TakesMore E (Lambda A b) → ⊥
 not_more (family f xs e) = let h = ap head e ∙ head-apply (Ind f) xs in cc
 not_more (constructor f c xs k i l e) = let h = ap head e ∙ head-apply (Construct f c) xs in cc
 not_more (fixpoint i rargs types bodies xs r l e) = let h = ap head e ∙ head-apply (Fix i rargs types bodies) xs in cc
 
-not_unfolds : {A b v u : Term} → Unfolds (Lambda A b) v u → ⊥
+pub not_unfolds : {A b v u : Term} → Unfolds (Lambda A b) v u → ⊥
 not_unfolds (unfolds i rargs types bodies xs r l b e) = let h = ap head e ∙ head-apply (Fix i rargs types bodies) xs in cc
 
 more_or_unfolds : {E : Env} {g v u : Term} → TakesMore E g → Unfolds g v u → ⊥

@@ -6,7 +6,6 @@ use Rattle.pc_terms.specs.declared.leaf.Name.{Name}
 use Rattle.pc_terms.specs.declared.leaf.FamilyId.{FamilyId}
 use Rattle.pc_terms.specs.Syntax.{Term, Done, Next, Rel, SortT, Prod, Lambda, App, Const, Ind, Construct, Case, Fix}
 use Rattle.pc_rules.specs.declared.declaration.Block.{Block}
-use Rattle.pc_rules.specs.declared.declaration.Kept.{Kept}
 use Rattle.pc_rules.specs.declared.declaration.Kept.TheVariants.{Constant, Block as Whole}
 use Rattle.pc_rules.specs.declared.meter.Account.{Account}
 use Rattle.pc_rules.specs.declared.broken.Broken.{Broken}
@@ -21,7 +20,9 @@ use Rattle.pc_rules.specs.DirectedWeakHead.{whnf, steps}
 use Rattle.pc_rules.specs.DirectedComparison.{compare, Test}
 use Rattle.pc_rules.specs.DirectedTyping.{infer, sort_of, check, retype, conv, check_all, sorts_of, branches_rule, types_rule, definitions_rule}
 use Rattle.pc_rules.specs.DirectedGuard.{find, body_guard}
-use Rattle.pc_rules.specs.DirectedDeclarations.{environment_rule, Outcome, Accepts, Breaks, Spends, Nests, declarations_rule, placed, arguments_rule, constructors_rule, families_rule}
+use Rattle.pc_rules.specs.DirectedDeclarations.{Given, GivenConstant, GivenBlock, environment_rule, Outcome, Accepts, Breaks, Spends, Nests, declarations_rule, placed, arguments_rule, constructors_rule, families_rule}
+use Rattle.pc_rules.specs.DirectedEvaluation.{Value, Stuck, evaluate, evaluation}
+use Rattle.pc_rules.specs.DirectedFirstOrder.{Found, NotFirstOrder, TooManyTypes, shape, put_arguments, put_constructors, argument_types, work_on, search_within}
 use Rattle.pc_rules.specs.Same.{same}
 
 abbrev n_nat : Name
@@ -151,32 +152,32 @@ abbrev below_test : Test
 below_test (a ∷ []) (b ∷ []) = (a.level.0 == b.level.0) && nat_le a.add b.add
 below_test u w = false
 
-abbrev checked : List Kept → Term → ℕ → Verdict
-checked ds main n = verdict (environment_rule [] [] None below_test ds main (units n)).outcome
+abbrev checked : List Given → Term → ℕ → Verdict
+checked ds main n = verdict (environment_rule [] [] None below_test 2048 ds main (units n)).outcome
 
-constant_false : (environment_rule [] [] None below_test (Whole block_bool ∷ Constant n_add BoolT (Some ff') ∷ []) (Const n_add) (units 3)).outcome
+constant_false : (environment_rule [] [] None below_test 2048 (GivenBlock block_bool ∷ GivenConstant n_add BoolT (Some ff') ∷ []) (Const n_add) (units 3)).outcome
     ≡ Accepts (record { levels = 0; constraints = []; declarations = Constant n_add BoolT (Some ff') ∷ Whole block_bool ∷ [] }) BoolT
     (record { left = 0; uses = 0 ∷ 0 ∷ 0 ∷ 0 ∷ 0 ∷ 0 ∷ 1 ∷ 1 ∷ 1 ∷ 0 ∷ 0 ∷ 0 ∷ [] })
 unfolding verdict infer ticking bind sort_of check retype conv check_all sorts_of branches_rule steps compare same run_all declarations_rule placed arguments_rule constructors_rule families_rule types_rule definitions_rule find body_guard
 constant_false = refl
 
-constant_short : checked (Whole block_bool ∷ Constant n_add BoolT (Some ff') ∷ []) (Const n_add) 2 ≡ Short
+constant_short : checked (GivenBlock block_bool ∷ GivenConstant n_add BoolT (Some ff') ∷ []) (Const n_add) 2 ≡ Short
 unfolding verdict infer ticking bind sort_of check retype conv check_all sorts_of branches_rule steps compare same run_all declarations_rule placed arguments_rule constructors_rule families_rule types_rule definitions_rule find body_guard
 constant_short = refl
 
-lambda_over_false : checked (Whole block_bool ∷ []) (Lambda ff' (Rel 0)) 50 ≡ Bad Main (NotASort BoolT)
+lambda_over_false : checked (GivenBlock block_bool ∷ []) (Lambda ff' (Rel 0)) 50 ≡ Bad Main (NotASort BoolT)
 unfolding verdict infer ticking bind sort_of check retype conv check_all sorts_of branches_rule steps compare same run_all declarations_rule placed arguments_rule constructors_rule families_rule types_rule definitions_rule find body_guard
 lambda_over_false = refl
 
-false_applied : checked (Whole block_bool ∷ []) (App ff' ff') 50 ≡ Bad Main (NotAProduct BoolT)
+false_applied : checked (GivenBlock block_bool ∷ []) (App ff' ff') 50 ≡ Bad Main (NotAProduct BoolT)
 unfolding verdict infer ticking bind sort_of check retype conv check_all sorts_of branches_rule steps compare same run_all declarations_rule placed arguments_rule constructors_rule families_rule types_rule definitions_rule find body_guard
 false_applied = refl
 
-bool_twice : checked (Whole block_bool ∷ Whole block_bool ∷ []) ff' 50 ≡ Bad (Declaration 1) (DuplicateName 1)
+bool_twice : checked (GivenBlock block_bool ∷ GivenBlock block_bool ∷ []) ff' 50 ≡ Bad (Declaration 1) (DuplicateName 1)
 unfolding verdict infer ticking bind sort_of check retype conv check_all sorts_of branches_rule steps compare same run_all declarations_rule placed arguments_rule constructors_rule families_rule types_rule definitions_rule find body_guard
 bool_twice = refl
 
-match_of_nat : checked (Whole block_nat ∷ Whole block_bool ∷ []) (Case fbool Done 1 BoolT O (Next 0 tt' (Next 0 ff' Done))) 50 ≡ Bad Main (NotTheFamily NatT)
+match_of_nat : checked (GivenBlock block_nat ∷ GivenBlock block_bool ∷ []) (Case fbool Done 1 BoolT O (Next 0 tt' (Next 0 ff' Done))) 50 ≡ Bad Main (NotTheFamily NatT)
 unfolding verdict infer ticking bind sort_of check retype conv check_all sorts_of branches_rule steps compare same run_all declarations_rule placed arguments_rule constructors_rule families_rule types_rule definitions_rule find body_guard
 match_of_nat = refl
 
@@ -193,7 +194,7 @@ block_box = record {
   } ∷ [];
 }
 
-too_small : checked (Whole block_box ∷ []) ff' 50 ≡ Bad (Declaration 0) (SortTooSmall (Of (record { level = record { 0 = 0 }; add = 1 } ∷ [])) set)
+too_small : checked (GivenBlock block_box ∷ []) ff' 50 ≡ Bad (Declaration 0) (SortTooSmall (Of (record { level = record { 0 = 0 }; add = 1 } ∷ [])) set)
 unfolding verdict infer ticking bind sort_of check retype conv check_all sorts_of branches_rule steps compare same run_all declarations_rule placed arguments_rule constructors_rule families_rule types_rule definitions_rule find body_guard
 too_small = refl
 
@@ -213,18 +214,18 @@ block_negative = record {
   } ∷ [];
 }
 
-not_positive : checked (Whole block_negative ∷ []) ff' 50 ≡ Bad (Declaration 0) (NotPositive 0 0)
+not_positive : checked (GivenBlock block_negative ∷ []) ff' 50 ≡ Bad (Declaration 0) (NotPositive 0 0)
 unfolding verdict infer ticking bind sort_of check retype conv check_all sorts_of branches_rule steps compare same run_all declarations_rule placed arguments_rule constructors_rule families_rule types_rule definitions_rule find body_guard
 not_positive = refl
 
 -- a fixpoint over sets
-over_sets : checked (Whole block_nat ∷ []) (Fix 0 (0 ∷ []) (Next 0 (Prod (SortT set) NatT) Done) (Next 1 (Lambda (SortT set) O) Done)) 50
+over_sets : checked (GivenBlock block_nat ∷ []) (Fix 0 (0 ∷ []) (Next 0 (Prod (SortT set) NatT) Done) (Next 1 (Lambda (SortT set) O) Done)) 50
     ≡ Bad Main (RecArgNotInductive (SortT set))
 unfolding verdict infer ticking bind sort_of check retype conv check_all sorts_of branches_rule steps compare same run_all declarations_rule placed arguments_rule constructors_rule families_rule types_rule definitions_rule find body_guard
 over_sets = refl
 
 -- a fixpoint that calls itself on its own argument
-loops : checked (Whole block_nat ∷ []) (Fix 0 (0 ∷ []) (Next 0 (Prod NatT NatT) Done) (Next 1 (Lambda NatT (App (Rel 1) (Rel 0))) Done)) 50
+loops : checked (GivenBlock block_nat ∷ []) (Fix 0 (0 ∷ []) (Next 0 (Prod NatT NatT) Done) (Next 1 (Lambda NatT (App (Rel 1) (Rel 0))) Done)) 50
     ≡ Bad Main (NotGuarded (Rel 0))
 unfolding verdict infer ticking bind sort_of check retype conv check_all sorts_of branches_rule steps compare same run_all declarations_rule placed arguments_rule constructors_rule families_rule types_rule definitions_rule find body_guard
 loops = refl
@@ -234,6 +235,94 @@ abbrev is_fine : Verdict → Bool
 is_fine (Fine T n) = true
 is_fine v = false
 
-adding : is_fine (checked (Whole block_nat ∷ Constant n_add NN (Some add_fix) ∷ []) (App (App (Const n_add) (S (S O))) (S (S (S O)))) 200) ≡ true
+adding : is_fine (checked (GivenBlock block_nat ∷ GivenConstant n_add NN (Some add_fix) ∷ []) (App (App (Const n_add) (S (S O))) (S (S (S O)))) 200) ≡ true
 unfolding verdict infer ticking bind sort_of check retype conv check_all sorts_of branches_rule steps compare same run_all declarations_rule placed arguments_rule constructors_rule families_rule types_rule definitions_rule find body_guard
 adding = refl
+
+-- a function is applied to a value, in four nodes
+abbrev id_false : Term
+id_false = App (Lambda BoolT (Rel 0)) ff'
+
+applies : (evaluation EB id_false (units 4)).end ≡ run.Done (Value ff') (units 0)
+unfolding evaluate ticking bind
+applies = refl
+
+applies_short : (evaluation EB id_false (units 3)).end ≡ run.NoUnit
+unfolding evaluate ticking bind
+applies_short = refl
+
+-- a constant without a body: no unit is left before it is looked at
+abbrev EA : Env
+EA = record { levels = 0; constraints = []; declarations = Constant n_add BoolT None ∷ [] }
+
+no_body : (evaluation EA (Const n_add) (units 1)).end ≡ run.Done (Stuck (Const n_add)) (units 0)
+unfolding evaluate ticking bind
+no_body = refl
+
+no_body_short : (evaluation EA (Const n_add) (units 0)).end ≡ run.NoUnit
+unfolding evaluate ticking bind
+no_body_short = refl
+
+-- first-order searches: lists, and a family whose types grow
+abbrev flist : FamilyId
+flist = record { block = n_bool; family = 0 }
+
+abbrev fnest : FamilyId
+fnest = record { block = n_add; family = 0 }
+
+abbrev ListOf : Term → Term
+ListOf A = App (Ind flist) A
+
+abbrev NestOf : Term → Term
+NestOf A = App (Ind fnest) A
+
+abbrev block_list : Block
+block_list = record {
+  name = n_bool;
+  params = SortT set ∷ [];
+  families = record {
+    name = n_bool;
+    sort = set;
+    indices = [];
+    ctors = record { name = record { 0 = 12 }; args = []; arg_sorts = []; result = [] }
+        ∷ record { name = record { 0 = 13 }; args = Rel 0 ∷ ListOf (Rel 1) ∷ []; arg_sorts = set ∷ set ∷ []; result = [] } ∷ [];
+  } ∷ [];
+}
+
+abbrev block_nest : Block
+block_nest = record {
+  name = n_add;
+  params = SortT set ∷ [];
+  families = record {
+    name = n_add;
+    sort = set;
+    indices = [];
+    ctors = record { name = record { 0 = 14 }; args = []; arg_sorts = []; result = [] }
+        ∷ record { name = record { 0 = 15 }; args = NestOf (ListOf (Rel 0)) ∷ []; arg_sorts = set ∷ []; result = [] } ∷ [];
+  } ∷ [];
+}
+
+abbrev EL : Env
+EL = record { levels = 0; constraints = []; declarations = Whole block_nest ∷ Whole block_list ∷ Whole block_nat ∷ [] }
+
+finds_nat : (search_within EL 3 NatT (units 1)).end ≡ run.Done (Found (shape fnat [] ([] ∷ (0 ∷ []) ∷ []) ∷ [])) (units 0)
+unfolding ticking bind steps same put_arguments put_constructors argument_types work_on
+finds_nat = refl
+
+finds_lists : (search_within EL 3 (ListOf NatT) (units 2)).end
+    ≡ run.Done (Found (shape flist (NatT ∷ []) ([] ∷ (1 ∷ 0 ∷ []) ∷ []) ∷ shape fnat [] ([] ∷ (1 ∷ []) ∷ []) ∷ [])) (units 0)
+unfolding ticking bind steps same put_arguments put_constructors argument_types work_on
+finds_lists = refl
+
+functions_are_refused : (search_within EL 3 NN (units 1)).end ≡ run.Done (NotFirstOrder NN) (units 0)
+unfolding ticking bind steps same put_arguments put_constructors argument_types work_on
+functions_are_refused = refl
+
+-- within three types the fourth is too many, before its unit
+nests_grow : (search_within EL 3 (NestOf NatT) (units 3)).end ≡ run.Done TooManyTypes (units 0)
+unfolding ticking bind steps same put_arguments put_constructors argument_types work_on
+nests_grow = refl
+
+nests_short : (search_within EL 3 (NestOf NatT) (units 2)).end ≡ run.NoUnit
+unfolding ticking bind steps same put_arguments put_constructors argument_types work_on
+nests_short = refl

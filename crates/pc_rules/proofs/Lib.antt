@@ -14,3 +14,7 @@ pub mod SameTrees
 pub mod Entailing
 pub mod Meters
 pub mod Following
+pub mod FairSearch
+pub mod EvaluationRuns
+pub mod EvaluationReached
+pub mod SearchRuns

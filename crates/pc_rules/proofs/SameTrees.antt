@@ -10,7 +10,7 @@ use Rattle.pc_terms.specs.Syntax.{Slot, slots, Term, Terms, Children, End, Child
 use Rattle.pc_rules.specs.Same.{same_numbers, same_parts, same_sorts, same_names, same_families, same_labels, same, same_children, same_terms}
 use Rattle.pc_rules.proofs.WeakNext.{same_names_is, same_families_is}
 
-both_true : (a b : Bool) → (a && b) ≡ true → (a ≡ true) × (b ≡ true)
+pub both_true : (a b : Bool) → (a && b) ≡ true → (a ≡ true) × (b ≡ true)
 both_true true b e = (refl, e)
 both_true false b e = cc
 
@@ -89,7 +89,7 @@ mutual
 
 -- and it is true of a term and itself
 
-one_number : (n : ℕ) → (n == n) ≡ true
+pub one_number : (n : ℕ) → (n == n) ≡ true
 one_number n = eq-eqb n n refl
 
 one_list : (ns : List ℕ) → same_numbers ns ns ≡ true
@@ -106,7 +106,7 @@ one_sort : (s : Sort) → same_sorts s s ≡ true
 one_sort Prop = refl
 one_sort (Of u) = one_universe u
 
-one_family : (f : FamilyId) → same_families f f ≡ true
+pub one_family : (f : FamilyId) → same_families f f ≡ true
 one_family f = and_true (same_names f.block f.block) (f.family == f.family) (one_number f.block.0) (one_number f.family)
 
 one_label : (l : Label) → same_labels l l ≡ true

@@ -17,14 +17,14 @@ use Rattle.pc_rules.specs.Same.{same_names, same_families}
 use Rattle.pc_rules.specs.DirectedWeakHead.{if_some, kept_at, body_of, whole_block, family_of, arguments_at, built_arguments, built, branch_of, case_step, unfold_at, recursive_step, fix_step, app_step, weak_next}
 use Rattle.pc_rules.proofs.Spines.{one_item}
 
-none_some : {A : Type 0} {x : A} → None ≡ Some x → ⊥
+pub none_some : {A : Type 0} {x : A} → None ≡ Some x → ⊥
 none_some e = cc
 
-if_some_is : {A B : Type 0} (o : Option A) (k : A → Option B) {y : B} → if_some o k ≡ Some y → (a : A) × (o ≡ Some a) × (k a ≡ Some y)
+pub if_some_is : {A B : Type 0} (o : Option A) (k : A → Option B) {y : B} → if_some o k ≡ Some y → (a : A) × (o ≡ Some a) × (k a ≡ Some y)
 if_some_is None k e = absurd (none_some e)
 if_some_is (Some a) k e = (a, refl, e)
 
-if_is : {A : Type 0} (b : Bool) (o : Option A) {y : A} → (if b then o else None) ≡ Some y → (b ≡ true) × (o ≡ Some y)
+pub if_is : {A : Type 0} (b : Bool) (o : Option A) {y : A} → (if b then o else None) ≡ Some y → (b ≡ true) × (o ≡ Some y)
 if_is true o e = (refl, e)
 if_is false o e = absurd (none_some e)
 
@@ -50,7 +50,7 @@ pub kept_is : (ds : List Kept) (k : Name) (d : Kept) → kept_at ds k ≡ Some d
 kept_is [] k d e = absurd (none_some e)
 kept_is (x ∷ ds) k d e = first_or_rest x ds k d (same_names (name_of x) k) refl (kept_is ds k d) e
 
-body_found : (E : Env) (k : Name) (o : Option Kept) (b : Term) → kept_at E.declarations k ≡ o → body_of o ≡ Some b →
+pub body_found : (E : Env) (k : Name) (o : Option Kept) (b : Term) → kept_at E.declarations k ≡ o → body_of o ≡ Some b →
     (T : Term) × Has E.declarations (Constant k T (Some b))
 body_found E k None b e p = absurd (none_some p)
 body_found E k (Some (Constant l T o)) b e p =
@@ -91,7 +91,7 @@ drop_long zero m xs e = omega arith
 drop_long (suc n) m [] e = omega arith
 drop_long (suc n) m (x ∷ xs) e = drop_long n m xs (omega arith)
 
-take_drop : {A : Type 0} (n : ℕ) (xs : List A) → take n xs ++ drop n xs ≡ xs
+pub take_drop : {A : Type 0} (n : ℕ) (xs : List A) → take n xs ++ drop n xs ≡ xs
 take_drop zero xs = refl
 take_drop (suc n) [] = refl
 take_drop (suc n) (x ∷ xs) = ap (◌∷◌ x) (take_drop n xs)

@@ -4,6 +4,8 @@ use Rattle.universe_levels.specs.declared.level.Level.{Level}
 use Rattle.universe_levels.specs.declared.sort.Sort.{Sort}
 use Rattle.universe_levels.specs.declared.sort.Sort.TheVariants.{Prop, Of}
 use Rattle.universe_levels.specs.declared.constraint.Constraint.{Constraint}
+use Rattle.universe_levels.specs.Consistency.{IsConsistent}
+use Rattle.universe_graph.specs.Listed.{Clashes}
 use Rattle.pc_terms.specs.declared.leaf.Name.{Name}
 use Rattle.pc_terms.specs.Syntax.{Slot, Label, IndOf, ConstructOf, CaseOf, Term, Terms, Children, End, Child, Group, Next, Node, Rel, Prod, Ind, head, args}
 use Rattle.pc_terms.specs.Syntax as syntax
@@ -156,16 +158,20 @@ constant_rule E q n k T b u =
     bind (sort_of E (infer E q n) [] T u) (λ s v.
     bind (body_rule E (infer E q n) (compare E q n) T b v) (λ _ w. done (Constant k T b) w))
 
--- a declaration, given without argument sorts
+-- a declaration as it is given: without argument sorts, and never the heads of a block
+pub data Given : Type 0 where
+  GivenConstant : Name → Term → Option Term → Given
+  GivenBlock : Block → Given
+
 abbrev pub fresh_name : Option Kept → Name → Act
 fresh_name None k u = done tt u
 fresh_name (Some d) k u = refused (DuplicateName k.0) u
 
-abbrev pub declaration_rule : Env → Test → ℕ → Kept → Account → Run Kept
-declaration_rule E q n (Constant k T b) u = bind (fresh_name (kept_at E.declarations k) k u) (λ _ v. constant_rule E q n k T b v)
-declaration_rule E q n (Whole B) u =
+abbrev pub declaration_rule : Env → Test → ℕ → Given → Account → Run Kept
+declaration_rule E q n (GivenConstant k T b) u =
+    bind (fresh_name (kept_at E.declarations k) k u) (λ _ v. constant_rule E q n k T b v)
+declaration_rule E q n (GivenBlock B) u =
     bind (fresh_name (kept_at E.declarations B.name) B.name u) (λ _ v. bind (block_rule E q n B v) (λ D w. done (Whole D) w))
-declaration_rule E q n (Heads B) u = done (Heads B) u
 
 -- how the check of a whole environment ends
 pub data Outcome : Type 0 where
@@ -219,7 +225,7 @@ abbrev pub main_rule : Env → Test → ℕ → Term → Account → Checked
 main_rule E q n main u = placed AtMain (infer E q n [] main u) (λ T v. record { outcome = Accepts E T v; deep = false })
 
 -- declarations, from place i on; and then main
-unfoldable pub declarations_rule : ℕ → List Constraint → Test → ℕ → ℕ → List Kept → List Kept → Term → Account → Checked
+unfoldable pub declarations_rule : ℕ → List Constraint → Test → ℕ → ℕ → List Kept → List Given → Term → Account → Checked
 declarations_rule levels cs q n i ds [] main u = main_rule (env levels cs ds) q n main u
 declarations_rule levels cs q n i ds (d ∷ rest) main u =
     placed (AtDeclaration i) (declaration_rule (env levels cs ds) q n d u) (λ k v. declarations_rule levels cs q n (suc i) (k ∷ ds) rest main v)
@@ -228,10 +234,16 @@ abbrev pub place_of : List ℕ → Place
 place_of [] = AtConstraint 0
 place_of (i ∷ is) = AtConstraint i
 
--- the graph: `cycle` is a list of the places of constraints that alone have no valuation, where the constraints are inconsistent
+-- what is known of the graph: no cycle where the constraints have a valuation, and else the places, in rising order, of constraints that
+-- alone have none
+abbrev pub IsCycle : ℕ → List Constraint → Option (List ℕ) → Type 0
+IsCycle levels cs None = IsConsistent levels cs
+IsCycle levels cs (Some places) = Clashes levels cs places
+
+-- the graph, with such a cycle
 abbrev pub graph_rule : Option (List ℕ) → Checked → Account → Checked
 graph_rule None go u = go
-graph_rule (Some is) go u = breaks (place_of is) (UniverseCycle is) u
+graph_rule (Some places) go u = breaks (place_of places) (UniverseCycle places) u
 
 abbrev pub constraints_rule : Option (ℕ × Level) → Checked → Account → Checked
 constraints_rule None go u = go
@@ -241,9 +253,10 @@ abbrev pub levels_rule : Option (ℕ × Level) → Checked → Account → Check
 levels_rule None go u = go
 levels_rule (Some p) go u = breaks (AtLevel p.0) (DuplicateName p.1.0) u
 
--- the whole: levels, constraints, the graph, the declarations in order, main
-abbrev pub environment_rule : List Level → List Constraint → Option (List ℕ) → Test → List Kept → Term → Account → Checked
-environment_rule levels cs cycle q ds main u =
+-- the whole: levels, constraints, the graph (`cycle` is one by IsCycle, which asks it of constraints on declared levels), the declarations
+-- in order, main; n rules may stand in one another
+abbrev pub environment_rule : List Level → List Constraint → Option (List ℕ) → Test → ℕ → List Given → Term → Account → Checked
+environment_rule levels cs cycle q n ds main u =
     levels_rule (first_repeated 0 [] levels)
     (constraints_rule (first_undeclared_end (length levels) 0 cs)
-    (graph_rule cycle (declarations_rule (length levels) cs q 2048 0 [] ds main u) u) u) u
+    (graph_rule cycle (declarations_rule (length levels) cs q n 0 [] ds main u) u) u) u

@@ -1,9 +1,10 @@
 -- The test of erasable terms, with units: the first of the four kinds of evidence that there is, or none.
-use Rattle.std.specs.Prelude.{ℕ, zero, suc, Bool, true, false, if◌then◌else◌, List, ◌∷◌, Option, Some, None}
+use Rattle.std.specs.Prelude.{ℕ, zero, suc, Bool, true, false, if◌then◌else◌, List, ◌∷◌, Option, Some, None, slice_get}
 use Rattle.universe_levels.specs.declared.sort.Sort.{Sort}
 use Rattle.universe_levels.specs.declared.sort.Sort.TheVariants.{Prop, Of}
 use Rattle.pc_terms.specs.declared.leaf.FamilyId.{FamilyId}
 use Rattle.pc_terms.specs.Syntax.{Term, SortT, Prod, Construct, Case}
+use Rattle.pc_rules.specs.declared.declaration.Constructor.{Constructor}
 use Rattle.pc_rules.specs.declared.entry.Entry.TheVariants.{Assumed}
 use Rattle.pc_rules.specs.declared.meter.Account.{Account}
 use Rattle.pc_rules.specs.Environment.{Env, FamilyDecl}
@@ -51,9 +52,14 @@ arity_found E inf c T false u = bind (sort_of E inf c T u) (λ s v. proof_found 
 abbrev pub type_test : Env → Typing → Context → Term → Account → Run (Option Kind)
 type_test E inf c t u = bind (inf c t u) (λ T v. bind (ends_in_sort E v.left c T v) (λ b w. arity_found E inf c T b w))
 
-abbrev pub constructor_test : Env → Typing → Context → Term → Option FamilyDecl → Account → Run (Option Kind)
-constructor_test E inf c t None u = type_test E inf c t u
-constructor_test E inf c t (Some F) u = if is_prop F.sort then done (Some PropConstructor) u else type_test E inf c t u
+-- the term is a constructor, where there is one of the number
+abbrev pub numbered_test : Env → Typing → Context → Term → Sort → Option Constructor → Account → Run (Option Kind)
+numbered_test E inf c t s None u = type_test E inf c t u
+numbered_test E inf c t s (Some C) u = if is_prop s then done (Some PropConstructor) u else type_test E inf c t u
+
+abbrev pub constructor_test : Env → Typing → Context → Term → ℕ → Option FamilyDecl → Account → Run (Option Kind)
+constructor_test E inf c t n None u = type_test E inf c t u
+constructor_test E inf c t n (Some F) u = numbered_test E inf c t F.sort (slice_get F.constructors n) u
 
 abbrev pub match_sort : Env → Typing → Context → Term → Sort → Account → Run (Option Kind)
 match_sort E inf c t s u = if is_prop s then done (Some PropMatch) u else type_test E inf c t u
@@ -66,6 +72,6 @@ match_test E inf c t f ps ret (Some F) u =
 
 -- a constructor of a family of sort Prop; a match whose predicate has sort Prop in its context; a type that ends in a sort; a type of sort Prop
 abbrev pub erasable_test : Env → Typing → Context → Term → Account → Run (Option Kind)
-erasable_test E inf c (Construct f n) u = constructor_test E inf c (Construct f n) (family_of E f) u
+erasable_test E inf c (Construct f n) u = constructor_test E inf c (Construct f n) n (family_of E f) u
 erasable_test E inf c (Case f ps n ret s bs) u = match_test E inf c (Case f ps n ret s bs) f (list_of ps) ret (family_of E f) u
 erasable_test E inf c t u = type_test E inf c t u

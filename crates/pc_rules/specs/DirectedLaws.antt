@@ -1,19 +1,26 @@
 -- Sanity laws of the directed rules, as statements.
 use Rattle.std.specs.Prelude.{ℕ, ◌+◌, ◌≤◌, ◌≡◌, ◌↔◌, Bool, true, List, Some}
-use Rattle.pc_terms.specs.Syntax.{Term, Terms}
+use Rattle.universe_levels.specs.declared.constraint.Constraint.{Constraint}
+use Rattle.universe_levels.specs.Consistency.{IsConsistent}
+use Rattle.pc_terms.specs.Syntax.{Term, Terms, shift}
 use Rattle.pc_rules.specs.declared.declaration.Block.{Block}
 use Rattle.pc_rules.specs.declared.meter.Account.{Account}
 use Rattle.pc_rules.specs.Environment.{Env}
 use Rattle.pc_rules.specs.Context.{Context, Values}
 use Rattle.pc_rules.specs.Step.{Step}
 use Rattle.pc_rules.specs.WeakHead.{WeakStep, WeakSteps}
+use Rattle.pc_rules.specs.Accepted.{IsAccepted}
+use Rattle.pc_rules.specs.Evaluation.{Evaluates}
+use Rattle.pc_rules.specs.FirstOrder.{Shape, IsFirstOrder}
 use Rattle.pc_rules.specs.Same.{same}
 use Rattle.pc_rules.specs.DirectedRun.{Run, End, Done, Refused, NoUnit, Nested}
 use Rattle.pc_rules.specs.DirectedWeakHead.{weak_next, whnf}
 use Rattle.pc_rules.specs.DirectedComparison.{Test, compare}
 use Rattle.pc_rules.specs.DirectedGuard.{fix_guard}
 use Rattle.pc_rules.specs.DirectedTyping.{infer}
-use Rattle.pc_rules.specs.DirectedDeclarations.{block_rule}
+use Rattle.pc_rules.specs.DirectedDeclarations.{block_rule, IsCycle}
+use Rattle.pc_rules.specs.DirectedEvaluation.{Value, evaluation}
+use Rattle.pc_rules.specs.DirectedFirstOrder.{Found, without, search_within}
 
 -- k units more
 abbrev pub more : ℕ → Account → Account
@@ -67,3 +74,32 @@ InferenceIsSteady = (E : Env) (q : Test) (n : ℕ) (c : Context) (t : Term) → 
 
 abbrev pub BlocksAreSteady : Type 0
 BlocksAreSteady = (E : Env) (q : Test) (n : ℕ) (B : Block) → IsSteady (block_rule E q n B)
+
+abbrev pub EvaluationIsSteady : Type 0
+EvaluationIsSteady = (E : Env) (t : Term) → IsSteady (evaluation E t)
+
+abbrev pub SearchIsSteady : Type 0
+SearchIsSteady = (E : Env) (limit : ℕ) (T : Term) → IsSteady (search_within E limit T)
+
+-- what the directed evaluation ends with is the term's value, and one unit is taken for each node
+abbrev pub DirectedValuesAreValues : Type 0
+DirectedValuesAreValues =
+    (E : Env) (t v : Term) (u w : Account) → (evaluation E t u).end ≡ Done (Value v) w → (n : ℕ) × Evaluates E t v n × (u ≡ more n w)
+
+-- over an accepted environment it ends with the value, where there is a unit for each node
+abbrev pub ValuesAreDirectedValues : Type 0
+ValuesAreDirectedValues =
+    (E : Env) → IsAccepted E → (t v : Term) (n : ℕ) → Evaluates E t v n → (w : Account) → (evaluation E t (more n w)).end ≡ Done (Value v) w
+
+-- what a search finds is a first-order set of its type
+abbrev pub FoundIsFirstOrder : Type 0
+FoundIsFirstOrder =
+    (E : Env) (limit : ℕ) (T : Term) (S : List Shape) (u w : Account) → (search_within E limit T u).end ≡ Done (Found S) w → IsFirstOrder E T S
+
+-- an argument type is A without the n arguments before it exactly where it is A lifted over them
+abbrev pub WithoutIsLifted : Type 0
+WithoutIsLifted = (n : ℕ) (A B : Term) → (without n B ≡ Some A) ↔ (B ≡ shift n 0 A)
+
+-- where there is a cycle, the constraints have no valuation: so there is none exactly where they have one
+abbrev pub CyclesHaveNoValuation : Type 0
+CyclesHaveNoValuation = (levels : ℕ) (cs : List Constraint) (places : List ℕ) → IsCycle levels cs (Some places) → IsConsistent levels cs → ⊥

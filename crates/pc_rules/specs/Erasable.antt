@@ -1,9 +1,10 @@
 -- Erasable terms (PCUIC, POPL 2020, section 4: erasable terms), by bare types. There are four kinds of evidence.
-use Rattle.std.specs.Prelude.{ℕ, suc, ◌≡◌, List, length}
+use Rattle.std.specs.Prelude.{ℕ, suc, ◌≡◌, List, Some, length, slice_get}
 use Rattle.universe_levels.specs.declared.sort.Sort.{Sort}
 use Rattle.universe_levels.specs.declared.sort.Sort.TheVariants.{Prop}
 use Rattle.pc_terms.specs.declared.leaf.FamilyId.{FamilyId}
 use Rattle.pc_terms.specs.Syntax.{Term, Terms, SortT, Construct, Case, terms_of}
+use Rattle.pc_rules.specs.declared.declaration.Constructor.{Constructor}
 use Rattle.pc_rules.specs.Environment.{FamilyDecl, Env, KeepsFamily}
 use Rattle.pc_rules.specs.Context.{Context, values, extend}
 use Rattle.pc_rules.specs.Instances.{products, predicate_entries}
@@ -20,7 +21,8 @@ pub data Erasable (E : Env) : Context → Term → Type 0 where
       n ≡ suc (length F.indices) → length ps ≡ length F.parameters →
       Types bare E (extend c (predicate_entries f F ps)) ret (SortT Prop) → Erasable E c (Case f (terms_of ps) n ret t bs)
   -- the term is a constructor of a family of sort Prop
-  prop_constructor : {c : Context} {f : FamilyId} {F : FamilyDecl} {k : ℕ} → KeepsFamily E f F → F.sort ≡ Prop → Erasable E c (Construct f k)
+  prop_constructor : {c : Context} {f : FamilyId} {F : FamilyDecl} {C : Constructor} {k : ℕ} → KeepsFamily E f F → F.sort ≡ Prop →
+      slice_get F.constructors k ≡ Some C → Erasable E c (Construct f k)
 
 -- the kinds of evidence
 pub data Kind : Type 0 where
@@ -30,4 +32,4 @@ abbrev pub kind_of : {E : Env} {c : Context} {t : Term} → Erasable E c t → K
 kind_of (arity As s p e) = Arity
 kind_of (proof p q) = Proof
 kind_of (prop_match ps k n l p) = PropMatch
-kind_of (prop_constructor k p) = PropConstructor
+kind_of (prop_constructor k p q) = PropConstructor

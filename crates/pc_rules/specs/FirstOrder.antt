@@ -1,5 +1,5 @@
 -- First-order types, and data: what a value is read as. They are this project's own.
-use Rattle.std.specs.Prelude.{ℕ, suc, ◌≡◌, ◌≢◌, List, [], ◌∷◌, Some, length, slice_get}
+use Rattle.std.specs.Prelude.{ℕ, suc, ◌≡◌, ◌≢◌, List, [], ◌∷◌, ◌++◌, Some, length, slice_get}
 use Rattle.universe_levels.specs.declared.sort.Sort.TheVariants.{Prop}
 use Rattle.pc_terms.specs.declared.leaf.FamilyId.{FamilyId}
 use Rattle.pc_terms.specs.Syntax.{Term, Ind, apply, shift}
@@ -48,41 +48,36 @@ pub record IsFirstOrder (E : Env) (T : Term) (S : List Shape) : Type 0 where
   pub first : IsAt E S T 0
   pub members : (j : ℕ) (h : Shape) → slice_get S j ≡ Some h → IsMember E S h
 
--- data: a tree of constructor numbers, without parameters
-mutual
-  pub data Data : Type 0 where
-    Built : ℕ → Fields → Data
-
-  pub data Fields : Type 0 where
-    NoField : Fields
-    Field : Data → Fields → Fields
+-- data: a tree of constructor numbers, without parameters, as the list of its nodes in preorder, each with its number of arguments
+abbrev pub Data : Type 0
+Data = List (ℕ × ℕ)
 
 -- at type i of the set the value is a constructor of that family with all its arguments, and so all the way down
 mutual
   pub data Reads (E : Env) (S : List Shape) : ℕ → Term → Data → Type 0 where
-    reads : {i c : ℕ} {v : Term} {h : Shape} {js : List ℕ} {qs xs : List Term} {ds : Fields} → slice_get S i ≡ Some h →
-        slice_get h.constructors c ≡ Some js → IsConstructor E h.family c v qs xs → ReadsAll E S js xs ds → Reads E S i v (Built c ds)
+    reads : {i c : ℕ} {v : Term} {h : Shape} {js : List ℕ} {qs xs : List Term} {ds : Data} → slice_get S i ≡ Some h →
+        slice_get h.constructors c ≡ Some js → IsConstructor E h.family c v qs xs → ReadsAll E S js xs ds → Reads E S i v ((c, length xs) ∷ ds)
 
-  pub data ReadsAll (E : Env) (S : List Shape) : List ℕ → List Term → Fields → Type 0 where
-    no_field : ReadsAll E S [] [] NoField
-    field : {j : ℕ} {js : List ℕ} {x : Term} {xs : List Term} {d : Data} {ds : Fields} → Reads E S j x d → ReadsAll E S js xs ds →
-        ReadsAll E S (j ∷ js) (x ∷ xs) (Field d ds)
+  pub data ReadsAll (E : Env) (S : List Shape) : List ℕ → List Term → Data → Type 0 where
+    no_field : ReadsAll E S [] [] []
+    field : {j : ℕ} {js : List ℕ} {x : Term} {xs : List Term} {d ds : Data} → Reads E S j x d → ReadsAll E S js xs ds →
+        ReadsAll E S (j ∷ js) (x ∷ xs) (d ++ ds)
 
 -- no constructor term that is a node of the data is erasable
 abbrev mutual
   pub NothingErasable : {E : Env} {S : List Shape} {i : ℕ} {v : Term} {d : Data} → Reads E S i v d → Type 0
   NothingErasable {E} {v = v} (reads s e c rs) = (Erasable E [] v → ⊥) × NothingErasableInside rs
 
-  pub NothingErasableInside : {E : Env} {S : List Shape} {js : List ℕ} {xs : List Term} {ds : Fields} → ReadsAll E S js xs ds → Type 0
+  pub NothingErasableInside : {E : Env} {S : List Shape} {js : List ℕ} {xs : List Term} {ds : Data} → ReadsAll E S js xs ds → Type 0
   NothingErasableInside no_field = Unit {0}
   NothingErasableInside (field r rs) = NothingErasable r × NothingErasableInside rs
 
 -- the data alone has the constructors and the counts of the set
 mutual
   pub data FitsShapes (S : List Shape) : ℕ → Data → Type 0 where
-    fits : {i c : ℕ} {h : Shape} {js : List ℕ} {ds : Fields} → slice_get S i ≡ Some h → slice_get h.constructors c ≡ Some js →
-        FieldsFit S js ds → FitsShapes S i (Built c ds)
+    fits : {i c : ℕ} {h : Shape} {js : List ℕ} {ds : Data} → slice_get S i ≡ Some h → slice_get h.constructors c ≡ Some js →
+        FieldsFit S js ds → FitsShapes S i ((c, length js) ∷ ds)
 
-  pub data FieldsFit (S : List Shape) : List ℕ → Fields → Type 0 where
-    no_field_fits : FieldsFit S [] NoField
-    field_fits : {j : ℕ} {js : List ℕ} {d : Data} {ds : Fields} → FitsShapes S j d → FieldsFit S js ds → FieldsFit S (j ∷ js) (Field d ds)
+  pub data FieldsFit (S : List Shape) : List ℕ → Data → Type 0 where
+    no_field_fits : FieldsFit S [] []
+    field_fits : {j : ℕ} {js : List ℕ} {d ds : Data} → FitsShapes S j d → FieldsFit S js ds → FieldsFit S (j ∷ js) (d ++ ds)

@@ -22,6 +22,8 @@ pub mod DirectedGuard
 pub mod DirectedTyping
 pub mod DirectedDeclarations
 pub mod DirectedErasable
+pub mod DirectedEvaluation
+pub mod DirectedFirstOrder
 pub mod DirectedLaws
 pub mod Follows
 pub mod Stops

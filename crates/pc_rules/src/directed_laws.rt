@@ -9,6 +9,13 @@ ghost use Rattle.pc_rules.specs.DirectedLaws.{
   GuardIsSteady,
   InferenceIsSteady,
   BlocksAreSteady,
+  EvaluationIsSteady,
+  SearchIsSteady,
+  DirectedValuesAreValues,
+  ValuesAreDirectedValues,
+  FoundIsFirstOrder,
+  WithoutIsLifted,
+  CyclesHaveNoValuation,
 };
 
 /// The test of sameness in the directed rules is true exactly where two terms are one tree.
@@ -31,4 +38,25 @@ pub fn directed_rules_are_steady()
     ensures guard { GuardIsSteady }
     ensures inference { InferenceIsSteady }
     ensures blocks { BlocksAreSteady }
+    ensures evaluation { EvaluationIsSteady }
+    ensures search { SearchIsSteady }
+{}
+
+/// The directed evaluation ends with a value only where the term evaluates to it, with one unit taken for each node; and over an accepted
+/// environment it does so wherever there is a unit for each node.
+pub fn directed_evaluation_is_evaluation()
+    ensures sound { DirectedValuesAreValues }
+    ensures complete { ValuesAreDirectedValues }
+{}
+
+/// The shapes that a first-order search finds are a first-order set of the type that it starts from; and its test of argument types finds
+/// exactly those that mention no argument before them.
+pub fn found_shapes_are_first_order()
+    ensures found { FoundIsFirstOrder }
+    ensures without { WithoutIsLifted }
+{}
+
+/// A cycle is refused only where the constraints have no valuation.
+pub fn cycles_have_no_valuation()
+    ensures none { CyclesHaveNoValuation }
 {}

@@ -8,7 +8,8 @@
 //!
 //! The directed rules say what a checker does, step by step: which unit it takes, which refusal comes first and what it keeps, and which
 //! uses of rules are counted. They are total functions: `DirectedRun` (how a run ends), `DirectedWeakHead`, `DirectedComparison`,
-//! `DirectedGuard`, `DirectedTyping`, `DirectedDeclarations` and `DirectedErasable`. `Entailment` is their test of universes.
+//! `DirectedGuard`, `DirectedTyping`, `DirectedDeclarations`, `DirectedFirstOrder`, `DirectedEvaluation` and `DirectedErasable`. `Entailment`
+//! is their test of universes.
 //!
 //! The traits `Reducer`, `Converter`, `Guarder` and `Typer` say of each implementation that it follows the directed rules (`follows`, by
 //! `Follows`): its results and refusals are theirs with the units that are left and the uses of rules; it stops for want of units exactly
@@ -23,7 +24,9 @@
 //! `symmetric`, `transitive`, `steps`, `equality`, `prop` and one clause for each former); evaluation is deterministic, its count of nodes
 //! too (`determined`); a term has one weak-head normal form at most (`unique`); what has a type has it as a bare type (`bare`); directed
 //! weak-head steps are steps (`steps`, `weak_steps`, `reached`); the directed rules never go back on units, and more units change no
-//! result (`weak_head`, `comparison`, `guard`, `inference`, `blocks`).
+//! result (`weak_head`, `comparison`, `guard`, `inference`, `blocks`, `evaluation`, `search`); evaluation with units is evaluation (`sound`,
+//! `complete`); what the first-order search finds is a first-order set (`found`, `without`); and there is no cycle exactly where the
+//! constraints have a valuation (`none`).
 //!
 //! Below stand `trees` and `pc_terms` (terms, lifting, substitution), `universe_levels` (sorts, valuations) and `universe_graph`
 //! (constraints and entailment), above the crates that reduce, compare, infer, check, evaluate and erase, and those that prove laws of

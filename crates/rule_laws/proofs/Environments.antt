@@ -26,9 +26,9 @@ use Rattle.pc_rules.specs.DirectedRun.{Run, End, done, bind}
 use Rattle.pc_rules.specs.DirectedWeakHead.{kept_at}
 use Rattle.pc_rules.specs.DirectedComparison.{Test, IsTest, compare}
 use Rattle.pc_rules.specs.DirectedTyping.{infer, sort_of}
-use Rattle.pc_rules.specs.DirectedDeclarations.{block_rule, body_rule, constant_rule, fresh_name, declaration_rule, Outcome, Accepts, Breaks, Checked, placed_end, placed, has_level, first_repeated, undeclared_end, first_end, first_undeclared_end, declarations_rule, graph_rule, constraints_rule, levels_rule, environment_rule}
+use Rattle.pc_rules.specs.DirectedDeclarations.{block_rule, body_rule, constant_rule, fresh_name, Given, GivenConstant, GivenBlock, declaration_rule, Outcome, Accepts, Breaks, Checked, placed_end, placed, has_level, first_repeated, undeclared_end, first_end, first_undeclared_end, declarations_rule, graph_rule, constraints_rule, levels_rule, environment_rule}
 use Rattle.rule_laws.specs.WellCounted.{Formed, BodyWellCounted, EnvWellCounted}
-use Rattle.rule_laws.specs.Declarations.{plain, IsCheckedDeclaration, IsCheckedEnvironment, BodyFormed, KeptFormed, AllKeptFormed}
+use Rattle.rule_laws.specs.Declarations.{plain, plain_given, IsCheckedDeclaration, IsCheckedEnvironment, BodyFormed, GivenFormed, AllGivenFormed}
 use Rattle.rule_laws.proofs.Runs.{bind_both, refused_done, done_value}
 use Rattle.rule_laws.proofs.Comparing.{compare_sound}
 use Rattle.rule_laws.proofs.SimpleRules.{sort_sound, check_sound}
@@ -61,7 +61,7 @@ module _ (levels : ℕ) (cs : List Constraint) (q : Test) (test : IsTest levels 
       record { fits = c.0; all = c.1 }
 
   constant_sound : (ds : List Kept) → AcceptedSoFar ds → (n : ℕ) (k : Name) (T : Term) (b : Option Term) (e : Kept) (u v : Account) → IsFresh k ds → Formed T → BodyFormed b →
-      (constant_rule (env levels cs ds) q n k T b u).end ≡ run.Done e v → IsCheckedDeclaration levels cs ds (Constant k T b) e
+      (constant_rule (env levels cs ds) q n k T b u).end ≡ run.Done e v → IsCheckedDeclaration levels cs ds (GivenConstant k T b) e
   constant_sound ds a n k T b e u v fresh fT fb h =
       let E : Env = env levels cs ds in
       let k1 : Sort → Account → Run Kept = λ s v. bind (body_rule E (infer E q n) (compare E q n) T b v) (λ _ w. done (Constant k T b) w) in
@@ -69,20 +69,20 @@ module _ (levels : ℕ) (cs : List Constraint) (q : Test) (test : IsTest levels 
       let p2 = bind_both (body_rule E (infer E q n) (compare E q n) T b p1.1) (λ _ w. done (Constant k T b) w) e v p1.3 in
       let s = sort_sound E a.1 (infer E q n) (infer_sound E a.1 q test n) [] T p1.0 u p1.1 tt fT p1.2 in
       let bs = body_sound E test a.1 n T b p1.1 p2.1 fT fb p2.2 in
-      subst (λ e. IsCheckedDeclaration levels cs ds (Constant k T b) e) (done_value p2.3)
+      subst (λ e. IsCheckedDeclaration levels cs ds (GivenConstant k T b) e) (done_value p2.3)
       (record {
         accepted = constant a.0 fresh s.0 bs.fits;
         counted = env_more levels cs ds (Constant k T b) fresh a.1 (s.1, bs.all);
         same = refl;
       })
 
-  pub declaration_sound : (ds : List Kept) → AcceptedSoFar ds → (n : ℕ) (d e : Kept) (u v : Account) → KeptFormed d →
+  pub declaration_sound : (ds : List Kept) → AcceptedSoFar ds → (n : ℕ) (d : Given) (e : Kept) (u v : Account) → GivenFormed d →
       (declaration_rule (env levels cs ds) q n d u).end ≡ run.Done e v → IsCheckedDeclaration levels cs ds d e
-  declaration_sound ds a n (Constant k T b) e u v f h =
+  declaration_sound ds a n (GivenConstant k T b) e u v f h =
       let E : Env = env levels cs ds in
       let p = bind_both (fresh_name (kept_at ds k) k u) (λ _ v. constant_rule E q n k T b v) e v h in
       constant_sound ds a n k T b e p.1 v (fresh_is ds k (name_is_new (kept_at ds k) k u p.1 p.2)) f.0 f.1 p.3
-  declaration_sound ds a n (Whole B) e u v f h =
+  declaration_sound ds a n (GivenBlock B) e u v f h =
       let E : Env = env levels cs ds in
       let k1 : Unit {0} → Account → Run Kept = λ _ v. bind (block_rule E q n B v) (λ D w. done (Whole D) w) in
       let p1 = bind_both (fresh_name (kept_at ds B.name) B.name u) k1 e v h in
@@ -91,13 +91,12 @@ module _ (levels : ℕ) (cs : List Constraint) (q : Test) (test : IsTest levels 
       let fresh = fresh_is ds B.name (name_is_new (kept_at ds B.name) B.name u p1.1 p1.2) in
       let c = block_sound E q test a.1 n B D p1.1 p2.1 fresh f p2.2 in
       let same_name : B.name ≡ D.name = sym (ap (λ X. X.name) c.heads) in
-      subst (λ e. IsCheckedDeclaration levels cs ds (Whole B) e) (done_value p2.3)
+      subst (λ e. IsCheckedDeclaration levels cs ds (GivenBlock B) e) (done_value p2.3)
       (record {
         accepted = block a.0 (subst (λ k. IsFresh k ds) same_name fresh) c.fits;
         counted = c.counted;
         same = ap (λ X. Whole X) c.same;
       })
-  declaration_sound ds a n (Heads B) e u v f h = absurd f
 
 -- what is placed
 
@@ -135,16 +134,16 @@ placed_both p r k E T v h = end_placed p r.end (λ a u. (k a u).outcome) E T v h
 -- the declarations, and main
 
 module _ (levels : ℕ) (cs : List Constraint) (q : Test) (test : IsTest levels cs q) where
-  pub record IsEnd (ds rest : List Kept) (main : Term) (E : Env) (T : Term) : Type 0 where
+  pub record IsEnd (ds : List Kept) (rest : List Given) (main : Term) (E : Env) (T : Term) : Type 0 where
     pub kept : List Kept
     pub is : env levels cs kept ≡ E
     pub accepted : Accepted levels cs kept
     pub counted : EnvWellCounted (env levels cs kept)
     pub typed : Types guarded (env levels cs kept) [] main T
-    pub same : map plain kept ≡ reverse (map plain rest) ++ map plain ds
+    pub same : map plain kept ≡ reverse (map plain_given rest) ++ map plain ds
 
-  pub declarations_sound : (n i : ℕ) (ds rest : List Kept) (main T : Term) (E : Env) (u v : Account) → Accepted levels cs ds → EnvWellCounted (env levels cs ds) →
-      AllKeptFormed rest → Formed main → (declarations_rule levels cs q n i ds rest main u).outcome ≡ Accepts E T v → IsEnd ds rest main E T
+  pub declarations_sound : (n i : ℕ) (ds : List Kept) (rest : List Given) (main T : Term) (E : Env) (u v : Account) → Accepted levels cs ds → EnvWellCounted (env levels cs ds) →
+      AllGivenFormed rest → Formed main → (declarations_rule levels cs q n i ds rest main u).outcome ≡ Accepts E T v → IsEnd ds rest main E T
   unfolding declarations_rule
   declarations_sound n i ds [] main T E u v a w fs fm h =
       let D : Env = env levels cs ds in
@@ -167,8 +166,8 @@ module _ (levels : ℕ) (cs : List Constraint) (q : Test) (test : IsTest levels 
         accepted = end.accepted;
         counted = end.counted;
         typed = end.typed;
-        same = end.same ∙ ap (λ k. reverse (map plain rest) ++ (k ∷ map plain ds)) one.same
-            ∙ sym (append_assoc (reverse (map plain rest)) (plain d ∷ []) (map plain ds)) ∙ ap (λ xs. xs ++ map plain ds) (sym (reverse_onto (map plain rest) (plain d) []));
+        same = end.same ∙ ap (λ k. reverse (map plain_given rest) ++ (k ∷ map plain ds)) one.same
+            ∙ sym (append_assoc (reverse (map plain_given rest)) (plain_given d ∷ []) (map plain ds)) ∙ ap (λ xs. xs ++ map plain ds) (sym (reverse_onto (map plain_given rest) (plain_given d) []));
       }
 
 -- levels and constraints
@@ -249,17 +248,17 @@ pub nothing_counted : (levels : ℕ) (cs : List Constraint) → EnvWellCounted (
 nothing_counted levels cs d h = elim h [ ]
 
 pub environment_sound : (levels : List Level) (cs : List Constraint) (cycle : Option (List ℕ)) (q : Test) → IsTest (length levels) cs q →
-    (cycle ≡ None → IsConsistent (length levels) cs) → (ds : List Kept) (main T : Term) (E : Env) (u v : Account) → AllKeptFormed ds → Formed main →
-    (environment_rule levels cs cycle q ds main u).outcome ≡ Accepts E T v → IsCheckedEnvironment levels cs ds main E T
-environment_sound levels cs cycle q test consistent ds main T E u v fs fm h =
+    (cycle ≡ None → IsConsistent (length levels) cs) → (n : ℕ) (ds : List Given) (main T : Term) (E : Env) (u v : Account) → AllGivenFormed ds → Formed main →
+    (environment_rule levels cs cycle q n ds main u).outcome ≡ Accepts E T v → IsCheckedEnvironment levels cs ds main E T
+environment_sound levels cs cycle q test consistent k ds main T E u v fs fm h =
     let n : ℕ = length levels in
-    let go3 : Checked = declarations_rule n cs q 2048 0 [] ds main u in
+    let go3 : Checked = declarations_rule n cs q k 0 [] ds main u in
     let go2 : Checked = graph_rule cycle go3 u in
     let go1 : Checked = constraints_rule (first_undeclared_end n 0 cs) go2 u in
     let p1 = levels_passed (first_repeated 0 [] levels) go1 u E T v h in
     let p2 = constraints_passed (first_undeclared_end n 0 cs) go2 u E T v p1.1 in
     let p3 = graph_passed cycle go3 u E T v p2.1 in
-    let end = declarations_sound n cs q test 2048 0 [] ds main T E u v empty (nothing_counted n cs) fs fm p3.1 in
+    let end = declarations_sound n cs q test k 0 [] ds main T E u v empty (nothing_counted n cs) fs fm p3.1 in
     let D : Env = env n cs end.kept in
     let formed : IsWellFormed levels D main T = record {
       distinct = all_pairs levels (are_new 0 [] levels p1.0).0;
@@ -268,4 +267,4 @@ environment_sound levels cs cycle q test consistent ds main T E u v fs fm h =
       typed = end.typed;
     } in
     subst (λ E. IsCheckedEnvironment levels cs ds main E T) end.is
-    (record { formed = formed; counted = end.counted; constraints = refl; declarations = end.same ∙ append-nil (reverse (map plain ds)) })
+    (record { formed = formed; counted = end.counted; constraints = refl; declarations = end.same ∙ append-nil (reverse (map plain_given ds)) })

@@ -1,5 +1,6 @@
 -- Where the test of erasable terms finds evidence there is evidence of that kind.
-use Rattle.std.proofs.Common.{◌≡◌, ℕ, zero, suc, Bool, true, false, if◌then◌else◌, List, [], ◌∷◌, length, Option, Some, None, refl, sym, ap, ◌∙◌, subst}
+use Rattle.std.proofs.Common.{◌≡◌, ℕ, zero, suc, Bool, true, false, if◌then◌else◌, List, [], ◌∷◌, length, Option, Some, None, slice_get, refl, sym, ap, ◌∙◌, subst}
+use Rattle.pc_rules.specs.declared.declaration.Constructor.{Constructor}
 use Rattle.universe_levels.specs.declared.sort.Sort.{Sort}
 use Rattle.universe_levels.specs.declared.sort.Sort.TheVariants.{Prop, Of}
 use Rattle.pc_terms.specs.declared.leaf.FamilyId.{FamilyId}
@@ -18,7 +19,7 @@ use Rattle.pc_rules.specs.DirectedRun.{Run, done, no_unit, passing, is_beyond, a
 use Rattle.pc_rules.specs.DirectedWeakHead.{weak_next, family_of}
 use Rattle.pc_rules.specs.DirectedComparison.{list_of}
 use Rattle.pc_rules.specs.DirectedTyping.{Typing, sort_of}
-use Rattle.pc_rules.specs.DirectedErasable.{is_prop, Ending, ending_on, end_of, ends_in_sort, proof_found, arity_found, type_test, constructor_test, match_sort, match_test, erasable_test}
+use Rattle.pc_rules.specs.DirectedErasable.{is_prop, Ending, ending_on, end_of, ends_in_sort, proof_found, arity_found, type_test, constructor_test, numbered_test, match_sort, match_test, erasable_test}
 use Rattle.pc_rules.proofs.Spines.{one_item}
 use Rattle.pc_rules.proofs.WeakNext.{weak_next_found, family_found}
 use Rattle.pc_rules.proofs.WeakHead.{weak_equal}
@@ -107,15 +108,20 @@ module _ (E : Env) where
         arity_sound c t T p2.0 k p2.1 v kc (bare_types i.typed) i.classifier
         (λ e. ends_sound p1.1.left c T p1.1 p2.1 (subst (λ b. (ends_in_sort E p1.1.left c T p1.1).end ≡ run.Done b p2.1) e p2.2)) p2.3
 
-    constructor_prop : (c : Context) (f : FamilyId) (n : ℕ) (F : FamilyDecl) (s : Sort) (k : Kind) (u v : Account) → ContextWellCounted E c → family_of E f ≡ Some F → F.sort ≡ s →
-        (if is_prop s then done (Some PropConstructor) u else type_test E inf c (Construct f n) u).end ≡ run.Done (Some k) v → HasEvidence E c (Construct f n) k
-    constructor_prop c f n F Prop k u v kc e s h = (prop_constructor (family_found E f F e) s, one_kind (done_value h))
-    constructor_prop c f n F (Of x) k u v kc e s h = type_sound c (Construct f n) k u v kc ((tt, tt), tt) h
+    constructor_prop : (c : Context) (f : FamilyId) (n : ℕ) (F : FamilyDecl) (C : Constructor) (s : Sort) (k : Kind) (u v : Account) → ContextWellCounted E c → family_of E f ≡ Some F →
+        F.sort ≡ s → slice_get F.constructors n ≡ Some C → (if is_prop s then done (Some PropConstructor) u else type_test E inf c (Construct f n) u).end ≡ run.Done (Some k) v → HasEvidence E c (Construct f n) k
+    constructor_prop c f n F C Prop k u v kc e s is h = (prop_constructor (family_found E f F e) s is, one_kind (done_value h))
+    constructor_prop c f n F C (Of x) k u v kc e s is h = type_sound c (Construct f n) k u v kc ((tt, tt), tt) h
+
+    numbered_sound : (c : Context) (f : FamilyId) (n : ℕ) (F : FamilyDecl) (o : Option Constructor) (k : Kind) (u v : Account) → ContextWellCounted E c → family_of E f ≡ Some F →
+        slice_get F.constructors n ≡ o → (numbered_test E inf c (Construct f n) F.sort o u).end ≡ run.Done (Some k) v → HasEvidence E c (Construct f n) k
+    numbered_sound c f n F None k u v kc e is h = type_sound c (Construct f n) k u v kc ((tt, tt), tt) h
+    numbered_sound c f n F (Some C) k u v kc e is h = constructor_prop c f n F C F.sort k u v kc e refl is h
 
     constructor_sound : (c : Context) (f : FamilyId) (n : ℕ) (o : Option FamilyDecl) (k : Kind) (u v : Account) → ContextWellCounted E c → family_of E f ≡ o →
-        (constructor_test E inf c (Construct f n) o u).end ≡ run.Done (Some k) v → HasEvidence E c (Construct f n) k
+        (constructor_test E inf c (Construct f n) n o u).end ≡ run.Done (Some k) v → HasEvidence E c (Construct f n) k
     constructor_sound c f n None k u v kc e h = type_sound c (Construct f n) k u v kc ((tt, tt), tt) h
-    constructor_sound c f n (Some F) k u v kc e h = constructor_prop c f n F F.sort k u v kc e refl h
+    constructor_sound c f n (Some F) k u v kc e h = numbered_sound c f n F (slice_get F.constructors n) k u v kc e refl h
 
     match_prop : (c : Context) (t : Term) (s : Sort) (k : Kind) (u v : Account) → ContextWellCounted E c → WellCounted E t → (s ≡ Prop → HasEvidence E c t PropMatch) →
         (match_sort E inf c t s u).end ≡ run.Done (Some k) v → HasEvidence E c t k

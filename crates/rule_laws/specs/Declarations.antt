@@ -14,7 +14,7 @@ use Rattle.pc_rules.specs.Environment.{Env, heads_of}
 use Rattle.pc_rules.specs.Accepted.{IsFresh, BlockFits, IsWellFormed, Accepted, env}
 use Rattle.pc_rules.specs.DirectedRun.{Done}
 use Rattle.pc_rules.specs.DirectedComparison.{Test, IsTest}
-use Rattle.pc_rules.specs.DirectedDeclarations.{with_heads, block_rule, declaration_rule, Accepts, environment_rule}
+use Rattle.pc_rules.specs.DirectedDeclarations.{with_heads, block_rule, Given, GivenConstant, GivenBlock, declaration_rule, Accepts, environment_rule}
 use Rattle.rule_laws.specs.WellCounted.{Formed, EnvWellCounted}
 use Rattle.rule_laws.specs.Inference.{AllFormed}
 
@@ -35,14 +35,13 @@ abbrev pub BodyFormed : Option Term → Type 0
 BodyFormed None = Unit {0}
 BodyFormed (Some b) = Formed b
 
-abbrev pub KeptFormed : Kept → Type 0
-KeptFormed (Constant k T b) = Formed T × BodyFormed b
-KeptFormed (Heads B) = ⊥
-KeptFormed (Whole B) = BlockFormed B
+abbrev pub GivenFormed : Given → Type 0
+GivenFormed (GivenConstant k T b) = Formed T × BodyFormed b
+GivenFormed (GivenBlock B) = BlockFormed B
 
-abbrev pub AllKeptFormed : List Kept → Type 0
-AllKeptFormed [] = Unit {0}
-AllKeptFormed (d ∷ ds) = KeptFormed d × AllKeptFormed ds
+abbrev pub AllGivenFormed : List Given → Type 0
+AllGivenFormed [] = Unit {0}
+AllGivenFormed (d ∷ ds) = GivenFormed d × AllGivenFormed ds
 
 -- declarations without the sorts of constructor arguments
 
@@ -60,6 +59,11 @@ plain (Constant k T b) = Constant k T b
 plain (Heads B) = Heads (plain_block B)
 plain (Whole B) = Whole (plain_block B)
 
+-- a declaration as it is given
+abbrev pub plain_given : Given → Kept
+plain_given (GivenConstant k T b) = Constant k T b
+plain_given (GivenBlock B) = Whole (plain_block B)
+
 -- a block that the directed rules let pass fits: with the sorts that they find it is kept by the rules of well-formed environments
 pub record IsCheckedBlock (E : Env) (B D : Block) : Type 0 where
   pub fits : BlockFits E (with_heads E D) D
@@ -72,25 +76,25 @@ BlocksAreSound = (E : Env) (q : Test) → IsTest E.levels E.constraints q → En
     IsFresh B.name E.declarations → BlockFormed B → (block_rule E q n B u).end ≡ Done D v → IsCheckedBlock E B D
 
 -- one more declaration is accepted, with sorts of constructor arguments
-pub record IsCheckedDeclaration (levels : ℕ) (cs : List Constraint) (ds : List Kept) (d e : Kept) : Type 0 where
+pub record IsCheckedDeclaration (levels : ℕ) (cs : List Constraint) (ds : List Kept) (d : Given) (e : Kept) : Type 0 where
   pub accepted : Accepted levels cs (e ∷ ds)
   pub counted : EnvWellCounted (env levels cs (e ∷ ds))
-  pub same : plain e ≡ plain d
+  pub same : plain e ≡ plain_given d
 
 abbrev pub DeclarationsAreSound : Type 0
 DeclarationsAreSound = (levels : ℕ) (cs : List Constraint) (ds : List Kept) (q : Test) → IsTest levels cs q → Accepted levels cs ds → EnvWellCounted (env levels cs ds) →
-    (n : ℕ) (d e : Kept) (u v : Account) → KeptFormed d → (declaration_rule (env levels cs ds) q n d u).end ≡ Done e v →
+    (n : ℕ) (d : Given) (e : Kept) (u v : Account) → GivenFormed d → (declaration_rule (env levels cs ds) q n d u).end ≡ Done e v →
     IsCheckedDeclaration levels cs ds d e
 
 -- what is accepted is well formed, and its main term has the type; it has the constraints and the declarations that were given, the newest
 -- first, with sorts of constructor arguments
-pub record IsCheckedEnvironment (levels : List Level) (cs : List Constraint) (ds : List Kept) (main : Term) (E : Env) (T : Term) : Type 0 where
+pub record IsCheckedEnvironment (levels : List Level) (cs : List Constraint) (ds : List Given) (main : Term) (E : Env) (T : Term) : Type 0 where
   pub formed : IsWellFormed levels E main T
   pub counted : EnvWellCounted E
   pub constraints : E.constraints ≡ cs
-  pub declarations : map plain E.declarations ≡ reverse (map plain ds)
+  pub declarations : map plain E.declarations ≡ reverse (map plain_given ds)
 
 abbrev pub EnvironmentsAreSound : Type 0
 EnvironmentsAreSound = (levels : List Level) (cs : List Constraint) (cycle : Option (List ℕ)) (q : Test) → IsTest (length levels) cs q →
-    (cycle ≡ None → IsConsistent (length levels) cs) → (ds : List Kept) (main T : Term) (E : Env) (u v : Account) → AllKeptFormed ds → Formed main →
-    (environment_rule levels cs cycle q ds main u).outcome ≡ Accepts E T v → IsCheckedEnvironment levels cs ds main E T
+    (cycle ≡ None → IsConsistent (length levels) cs) → (n : ℕ) (ds : List Given) (main T : Term) (E : Env) (u v : Account) → AllGivenFormed ds → Formed main →
+    (environment_rule levels cs cycle q n ds main u).outcome ≡ Accepts E T v → IsCheckedEnvironment levels cs ds main E T
