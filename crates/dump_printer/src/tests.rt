@@ -1,0 +1,198 @@
+//! Texts of environments that are built by hand.
+use crate::print_env;
+use crate::text::write_text;
+use dump_reader::declaration::{RawCtor, RawCtors, RawDecl, RawDecls, RawFamilies, RawFamily};
+use dump_reader::environment::{Constraints, Levels, RawEnv};
+use dump_reader::names::Names;
+use dump_reader::reading::read_env;
+use kio::{MemSink, WriteFault};
+use pc_terms::leaf::{FamilyId, Name};
+use pc_terms::lists::Telescope;
+use pc_terms::term::{Node, Term, Terms};
+use std::alloc::Global;
+use std::test::Fail;
+use universe_levels::level::{Level, LevelExpr};
+use universe_levels::sort::Sort;
+use universe_levels::universe::Universe;
+
+const BOOL: &str =
+    "(env 1 (levels) (constraints) (InductiveDecl bool (params) (family bool (sort Set) (indices) (ctor true (args) (result)) (ctor false (args) (result)))) (main (tConstruct bool 0 1)))";
+
+fn table(alloc: Global, texts: &[&str]) -> Result<Names, Fail> {
+    let mut names = Names::new(alloc);
+    for text in texts {
+        names.number(alloc, *text)?;
+    }
+    Ok(names)
+}
+
+fn type_of(alloc: Global, parts: &[LevelExpr]) -> Result<Sort, Fail> {
+    Ok(Sort::Of(Universe::of(alloc, parts)?))
+}
+
+fn plus(level: u32, add: u32) -> LevelExpr {
+    LevelExpr {
+        level: Level(level),
+        add,
+    }
+}
+
+fn family_of(block: u32) -> FamilyId {
+    FamilyId {
+        block: Name(block),
+        family: 0,
+    }
+}
+
+fn ctor(alloc: Global, name: u32) -> RawCtor {
+    RawCtor {
+        name: Name(name),
+        args: Telescope::new(alloc),
+        result: Terms::new(alloc),
+    }
+}
+
+/// The block of names 0, 1 and 2: `bool` with `true` and `false`.
+fn bool_block(alloc: Global) -> Result<RawDecl, Fail> {
+    let mut ctors = Vec::new(alloc);
+    ctors.push(ctor(alloc, 1))?;
+    ctors.push(ctor(alloc, 2))?;
+    let mut families = Vec::new(alloc);
+    families.push(RawFamily {
+        name: Name(0),
+        sort: type_of(alloc, &[plus(0, 0)])?,
+        indices: Telescope::new(alloc),
+        ctors: RawCtors::of(ctors),
+    })?;
+    Ok(RawDecl::Block {
+        name: Name(0),
+        params: Telescope::new(alloc),
+        families: RawFamilies::of(families),
+    })
+}
+
+fn bool_env(alloc: Global, main: Term) -> Result<RawEnv, Fail> {
+    let mut decls = Vec::new(alloc);
+    decls.push(bool_block(alloc)?)?;
+    Ok(RawEnv {
+        names: table(alloc, &["bool", "true", "false"])?,
+        level_names: table(alloc, &["Set"])?,
+        levels: Levels::new(alloc),
+        constraints: Constraints::new(alloc),
+        decls: RawDecls::of(decls),
+        main,
+    })
+}
+
+fn main_only(alloc: Global, main: Term) -> Result<RawEnv, Fail> {
+    Ok(RawEnv {
+        names: table(alloc, &["f", "nat", "O", "S"])?,
+        level_names: table(alloc, &["Set", "a", "b"])?,
+        levels: Levels::new(alloc),
+        constraints: Constraints::new(alloc),
+        decls: RawDecls::new(alloc),
+        main,
+    })
+}
+
+fn a_false(alloc: Global) -> Result<Term, Fail> {
+    Ok(Term::make(alloc, Node::Construct(family_of(0), 1))?)
+}
+
+fn sink(alloc: Global) -> MemSink {
+    MemSink::new(alloc, 5, Vec::new(alloc))
+}
+
+#[test]
+fn writes_bool(rt: HostRuntime) -> Result<(), Fail> {
+    let alloc = rt.alloc();
+    let env = bool_env(alloc, a_false(alloc)?)?;
+    let mut out = sink(alloc);
+    assert_eq!(rt; write_text(&env, &mut out), Ok(()));
+    assert_eq!(rt; out.bytes(), BOOL.as_bytes());
+    Ok(())
+}
+
+#[test]
+fn writes_a_cast_as_a_function_applied(rt: HostRuntime) -> Result<(), Fail> {
+    let alloc = rt.alloc();
+    let domain = Term::make(alloc, Node::Ind(family_of(0)))?;
+    let body = Term::make(alloc, Node::Rel(0))?;
+    let function = Term::make(alloc, Node::Lambda(domain, body))?;
+    let main = Term::make(alloc, Node::App(function, a_false(alloc)?))?;
+    let env = bool_env(alloc, main)?;
+    let mut out = sink(alloc);
+    assert_eq!(rt; write_text(&env, &mut out), Ok(()));
+    assert_eq!(rt;
+        out.bytes(),
+        b"(env 1 (levels) (constraints) (InductiveDecl bool (params) (family bool (sort Set) (indices) (ctor true (args) (result)) (ctor false (args) (result)))) (main (tApp (tLambda _ (tInd bool 0) (tRel 0)) (tConstruct bool 0 1))))".as_slice()
+    );
+    Ok(())
+}
+
+#[test]
+fn says_how_much_went_out(rt: HostRuntime) -> Result<(), Fail> {
+    let alloc = rt.alloc();
+    for (failing, written, taken) in [
+        (1, 0, ""),
+        (2, 1, "("),
+        (5, 6, "(env 1"),
+        (8, 11, "(env 1 (lev"),
+    ] {
+        let env = bool_env(alloc, a_false(alloc)?)?;
+        let mut out = MemSink::new(alloc, 3, Vec::from_slice(alloc, &[failing])?);
+        assert_eq!(rt;
+            write_text(&env, &mut out),
+            Err(WriteFault { written }),
+            "call {failing} fails"
+        );
+        assert_eq!(rt; out.bytes(), taken.as_bytes(), "call {failing} fails");
+    }
+    Ok(())
+}
+
+#[test]
+fn writes_sorts(rt: HostRuntime) -> Result<(), Fail> {
+    let alloc = rt.alloc();
+    for (first, second, want) in [
+        (
+            plus(0, 0),
+            plus(0, 0),
+            "(env 1 (levels) (constraints) (main (tSort Set)))",
+        ),
+        (
+            plus(0, 1),
+            plus(0, 0),
+            "(env 1 (levels) (constraints) (main (tSort (Type (Set 1)))))",
+        ),
+        (
+            plus(1, 0),
+            plus(1, 0),
+            "(env 1 (levels) (constraints) (main (tSort (Type (a 0)))))",
+        ),
+        (
+            plus(2, 1000),
+            plus(0, 3),
+            "(env 1 (levels) (constraints) (main (tSort (Type (Set 3) (b 1000)))))",
+        ),
+    ] {
+        let s = type_of(alloc, &[first, second])?;
+        let env = main_only(alloc, Term::make(alloc, Node::Sort(s))?)?;
+        let mut out = sink(alloc);
+        assert_eq!(rt; write_text(&env, &mut out), Ok(()));
+        assert_eq!(rt; out.bytes(), want.as_bytes());
+    }
+    Ok(())
+}
+
+/// What is read is printed as it was written: the only answer beside it is want of memory.
+#[test]
+fn prints_what_was_read(rt: HostRuntime) -> Result<(), Fail> {
+    let alloc = rt.alloc();
+    if let Ok(env) = read_env(alloc, BOOL.as_bytes()) {
+        let mut out = sink(alloc);
+        assert_eq!(rt; print_env(&env, &mut out), Ok(()));
+        assert_eq!(rt; out.bytes(), BOOL.as_bytes());
+    }
+    Ok(())
+}
