@@ -1,7 +1,10 @@
+pub mod Uses
+pub mod Limited
+pub mod Kept
+pub mod Judging
 pub mod TextCauses
+pub mod Checking
 pub mod Serving
 pub mod Running
-pub mod Small
 pub mod Answering
 pub mod Lines
-pub mod Pairs

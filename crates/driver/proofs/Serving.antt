@@ -3,24 +3,25 @@ use Rattle.std.proofs.Common.{◌≡◌, ◌≢◌, ℕ, zero, suc, ◌<◌, ◌
 use Rattle.std.specs.Prelude.{Contains, IfErr}
 use Rattle.std.specs.Io.KnownBytes.{Appends}
 use Rattle.kio.specs.Causes.{Rose}
-use Rattle.dump_reader.specs.declared.environment.RawEnv.{RawEnv}
-use Rattle.driver.specs.Texts.{SpellsWithin}
 use Rattle.driver.specs.declared.refusal.Refusal.{Refusal}
 use Rattle.driver.specs.declared.refusal.Refusal.TheVariants as refusals
-use Rattle.driver.specs.declared.command_line.Job.TheVariants.{Exec}
+use Rattle.driver.specs.declared.command_line.Job.{Job}
 use Rattle.driver.specs.CommandLine.{job_of}
 use Rattle.driver.specs.Lines.{status_of, line_of}
-use Rattle.driver.specs.Simple.{IsSimple}
-use Rattle.driver.specs.Serve.{Answered, Concludes, IsAnswer, IsAsked, IsCause, IsInput, IsRefused, IsTextCause, IsTooLong, Says, TakesPrefix, input_limit}
-use Rattle.driver.proofs.TextCauses.{one_cause, no_cause_of_answers, no_cause_of_simple}
+use Rattle.driver.specs.Serve.{Answered, Concludes, IsAnswerOf, IsAsked, IsCause, IsForJob, IsInput, IsJudgedWith, IsOfText, IsRefused, IsSure, IsTextCause, IsTooLong, Says, TakesPrefix, input_limit}
+use Rattle.driver.proofs.TextCauses.{one_cause, judged_cause, no_cause_of_answers, judged_answer}
 
 zero_or : (n : ℕ) → (n ≡ 0) ⊎ (n ≢ 0)
 zero_or zero = inl refl
 zero_or (suc n) = inr (λ e. omega (arith, e))
 
 -- one value, none at a time
-clash : (words : List (List ℕ)) → job_of words ≡ Some Exec → job_of words ≡ None → ⊥
-clash words e f = let q : Some Exec ≡ None = sym e ∙ f in absurd cc
+clash : (words : List (List ℕ)) → IsForJob words → job_of words ≡ None → ⊥
+clash words (job, e) f = let q : Some job ≡ None = sym e ∙ f in absurd cc
+
+-- and one job
+one_job : (words : List (List ℕ)) (a b : Job) → job_of words ≡ Some a → job_of words ≡ Some b → a ≡ b
+one_job words a b e f = let q : Some a ≡ Some b = sym e ∙ f in cc
 
 input-is : (left : Option (List ℕ)) (bytes told : List ℕ) → IsInput left bytes → left ≡ Some told → (bytes ≡ told) × (length bytes ≤ input_limit)
 input-is None bytes told h e = absurd cc
@@ -42,6 +43,9 @@ not_zero (refusals.Unsupported w o) e = omega (arith, e)
 not_zero refusals.Form e = omega (arith, e)
 not_zero (refusals.Limit l) e = omega (arith, e)
 not_zero refusals.InputBytes e = omega (arith, e)
+not_zero refusals.Depth e = omega (arith, e)
+not_zero refusals.TurnsSpent e = omega (arith, e)
+not_zero (refusals.Broken n p) e = omega (arith, e)
 
 of_usage : (r : Refusal) → status_of r ≡ 2 → r ≡ refusals.Usage
 of_usage refusals.Memory e = absurd (omega (arith, e))
@@ -53,6 +57,9 @@ of_usage (refusals.Unsupported w o) e = absurd (omega (arith, e))
 of_usage refusals.Form e = absurd (omega (arith, e))
 of_usage (refusals.Limit l) e = absurd (omega (arith, e))
 of_usage refusals.InputBytes e = absurd (omega (arith, e))
+of_usage refusals.Depth e = absurd (omega (arith, e))
+of_usage refusals.TurnsSpent e = absurd (omega (arith, e))
+of_usage (refusals.Broken n p) e = absurd (omega (arith, e))
 
 of_write_fault : (r : Refusal) → status_of r ≡ 4 → r ≡ refusals.WriteFault
 of_write_fault refusals.Memory e = absurd (omega (arith, e))
@@ -64,9 +71,12 @@ of_write_fault (refusals.Unsupported w o) e = absurd (omega (arith, e))
 of_write_fault refusals.Form e = absurd (omega (arith, e))
 of_write_fault (refusals.Limit l) e = absurd (omega (arith, e))
 of_write_fault refusals.InputBytes e = absurd (omega (arith, e))
+of_write_fault refusals.Depth e = absurd (omega (arith, e))
+of_write_fault refusals.TurnsSpent e = absurd (omega (arith, e))
+of_write_fault (refusals.Broken n p) e = absurd (omega (arith, e))
 
 abbrev all_statuses : List ℕ
-all_statuses = 0 ∷ 1 ∷ 2 ∷ 3 ∷ 4 ∷ 5 ∷ 6 ∷ 7 ∷ []
+all_statuses = 0 ∷ 1 ∷ 2 ∷ 3 ∷ 4 ∷ 5 ∷ 6 ∷ 7 ∷ 8 ∷ 9 ∷ []
 
 module _ {V K E : Type 0} (view : V → List ℕ) (status : ℕ) (words : List (List ℕ)) (left : Option (List ℕ)) (before now : ℕ) (out out' : K) (taken taken' : Option (List ℕ)) (faults faults' : ℕ) (err err' : E) (line line' : Option (List ℕ)) (errs errs' : ℕ) where
   abbrev S : Result V Refusal → Type 0
@@ -86,28 +96,37 @@ module _ {V K E : Type 0} (view : V → List ℕ) (status : ℕ) (words : List (
   says_cause refusals.Form s = s
   says_cause (refusals.Limit l) s = s
   says_cause refusals.InputBytes s = s
+  says_cause refusals.Depth s = s
+  says_cause refusals.TurnsSpent s = s
+  says_cause (refusals.Broken n p) s = s
 
   -- All refusals but usage come of a job.
-  says_job : (r : Refusal) → S (Err r) → (r ≡ refusals.Usage) ⊎ (job_of words ≡ Some Exec)
+  of_job : (r : Refusal) → IsOfText r words left → IsForJob words
+  of_job r s = (s.0, s.1)
+
+  says_job : (r : Refusal) → S (Err r) → (r ≡ refusals.Usage) ⊎ IsForJob words
   says_job refusals.Memory s = inr s
   says_job refusals.Usage s = inl refl
   says_job refusals.ReadFault s = inr s.0
   says_job refusals.WriteFault s = absurd s
-  says_job (refusals.Syntax o) s = inr s.0
-  says_job (refusals.Unsupported w o) s = inr s.0
-  says_job refusals.Form s = inr s.0
-  says_job (refusals.Limit l) s = inr s.0
+  says_job (refusals.Syntax o) s = inr (of_job (refusals.Syntax o) s)
+  says_job (refusals.Unsupported w o) s = inr (of_job (refusals.Unsupported w o) s)
+  says_job refusals.Form s = inr (of_job refusals.Form s)
+  says_job (refusals.Limit l) s = inr (of_job (refusals.Limit l) s)
   says_job refusals.InputBytes s = inr s.0
+  says_job refusals.Depth s = inr (of_job refusals.Depth s)
+  says_job refusals.TurnsSpent s = inr (of_job refusals.TurnsSpent s)
+  says_job (refusals.Broken n p) s = inr (of_job (refusals.Broken n p) s)
 
   says_no_write_fault : (r : Refusal) → S (Err r) → r ≡ refusals.WriteFault → ⊥
   says_no_write_fault r s e = subst (λ x. Says {V = V} view (Err x) words left before now) e s
 
-  pub done : (a : Result V Refusal) → S a → C a → status ≡ 0 → (text : List ℕ) × Answered left text × Appends taken taken' text
-  done (Ok v) s c e = (view v, s.1, (c.whole e).0)
+  pub done : (a : Result V Refusal) → S a → C a → status ≡ 0 → (text : List ℕ) × Answered words left text × Appends taken taken' text
+  done (Ok v) s c e = (view v, s, (c.whole e).0)
   done (Err r) s c e = absurd (not_zero r (sym c.0 ∙ e))
 
-  pub prefix : (a : Result V Refusal) → S a → C a → status ≡ 4 → (text : List ℕ) × Answered left text × TakesPrefix taken taken' text
-  prefix (Ok v) s c e = let w = c.part (λ z. omega (arith, e, z)) in (view v, s.1, w.2)
+  pub prefix : (a : Result V Refusal) → S a → C a → status ≡ 4 → (text : List ℕ) × Answered words left text × TakesPrefix taken taken' text
+  prefix (Ok v) s c e = let w = c.part (λ z. omega (arith, e, z)) in (view v, s, w.2)
   prefix (Err r) s c e = absurd (says_no_write_fault r s (of_write_fault r (sym c.0 ∙ e)))
 
   pub nothing_out : (a : Result V Refusal) → S a → C a → status ≢ 0 → status ≢ 4 → out' ≡ out
@@ -115,7 +134,7 @@ module _ {V K E : Type 0} (view : V → List ℕ) (status : ℕ) (words : List (
   nothing_out (Err r) s c n m = c.1
 
   pub refused : (a : Result V Refusal) → S a → C a → status ≢ 0 → IsRefused status words left before now faults faults' line line' errs errs'
-  refused (Ok v) s c n = let w = c.part n in record { refusal = refusals.WriteFault; status_is = w.0; cause = (s.0, w.1); told = w.3 }
+  refused (Ok v) s c n = let w = c.part n in record { refusal = refusals.WriteFault; status_is = w.0; cause = ((s.job, s.asked), w.1); told = w.3 }
   refused (Err r) s c n = record { refusal = r; status_is = c.0; cause = says_cause r s; told = c.2 }
 
   pub quiet : (a : Result V Refusal) → S a → C a → status ≡ 0 → err' ≡ err
@@ -130,7 +149,7 @@ module _ {V K E : Type 0} (view : V → List ℕ) (status : ℕ) (words : List (
   not_usage v c e = elim (answered v c) [ inl z ↦ omega (arith, e, z) | inr z ↦ omega (arith, e, z) ]
 
   pub usage : (a : Result V Refusal) → S a → C a → (status ≡ 2) ↔ (job_of words ≡ None)
-  usage (Ok v) s c = ((λ e. absurd (not_usage v c e)), (λ n. absurd (clash words s.0 n)))
+  usage (Ok v) s c = ((λ e. absurd (not_usage v c e)), (λ n. absurd (clash words (s.job, s.asked) n)))
   usage (Err r) s c =
       let asked : r ≡ refusals.Usage → job_of words ≡ None = λ q. subst (λ x. IsCause x words left before now faults faults') q (says_cause r s) in
       let on : job_of words ≡ None → status ≡ 2 = λ n. elim (says_job r s) [ inl q ↦ c.0 ∙ ap status_of q | inr j ↦ absurd (clash words j n) ] in
@@ -150,6 +169,9 @@ module _ {V K E : Type 0} (view : V → List ℕ) (status : ℕ) (words : List (
   listed refusals.Form e = (6, lit< tt, sym e)
   listed (refusals.Limit l) e = (7, lit< tt, sym e)
   listed refusals.InputBytes e = (7, lit< tt, sym e)
+  listed refusals.Depth e = (7, lit< tt, sym e)
+  listed refusals.TurnsSpent e = (8, lit< tt, sym e)
+  listed (refusals.Broken n p) e = (9, lit< tt, sym e)
 
   pub statuses : (a : Result V Refusal) → S a → C a → Contains all_statuses status
   statuses (Ok v) s c = elim (answered v c) [ inl z ↦ (0, lit< tt, sym z) | inr z ↦ (4, lit< tt, sym z) ]
@@ -157,59 +179,67 @@ module _ {V K E : Type 0} (view : V → List ℕ) (status : ℕ) (words : List (
 
   -- ---- where the source tells its bytes and no count rises
 
-  -- what a refusal says of the bytes
-  data Told (r : Refusal) (bytes : List ℕ) : Type 0 where
-    OfMemory : r ≡ refusals.Memory → Told r bytes
-    OfText : length bytes ≤ input_limit → IsTextCause r bytes → Told r bytes
-    OfLength : r ≡ refusals.InputBytes → input_limit < length bytes → Told r bytes
+  module _ (job : Job) (bytes : List ℕ) (asked : IsAsked job words left bytes before now) where
+    -- what a refusal says of the bytes
+    data Told (r : Refusal) : Type 0 where
+      OfMemory : r ≡ refusals.Memory → Told r
+      OfText : length bytes ≤ input_limit → IsTextCause job r bytes → Told r
+      OfLength : r ≡ refusals.InputBytes → input_limit < length bytes → Told r
 
-  of_text : (r : Refusal) (bytes : List ℕ) → IsAsked words left bytes before now → (found : List ℕ) × IsInput left found × IsTextCause r found → Told r bytes
-  of_text r bytes asked t =
-      let (found, input, cause) = t in
-      let (same, short) = input-is left found bytes input asked.bytes_are in
-      OfText (subst (λ b. length b ≤ input_limit) same short) (subst (λ b. IsTextCause r b) same cause)
+    of_text : (r : Refusal) → IsOfText r words left → Told r
+    of_text r (other, e, (found, input, cause)) =
+        let (same, short) = input-is left found bytes input asked.bytes_are in
+        let one : other ≡ job = one_job words other job e asked.words_are in
+        OfText (subst (λ b. length b ≤ input_limit) same short) (subst (λ j. IsTextCause j r bytes) one (subst (λ b. IsTextCause other r b) same cause))
 
-  told : (r : Refusal) (bytes : List ℕ) → S (Err r) → IsAsked words left bytes before now → Told r bytes
-  told refusals.Memory bytes s asked = OfMemory refl
-  told refusals.Usage bytes s asked = absurd (clash words asked.words_are s)
-  told refusals.ReadFault bytes s asked = absurd (asked.no_fault s.1)
-  told refusals.WriteFault bytes s asked = absurd s
-  told (refusals.Syntax o) bytes s asked = of_text (refusals.Syntax o) bytes asked s.1
-  told (refusals.Unsupported w o) bytes s asked = of_text (refusals.Unsupported w o) bytes asked s.1
-  told refusals.Form bytes s asked = of_text refusals.Form bytes asked s.1
-  told (refusals.Limit l) bytes s asked = of_text (refusals.Limit l) bytes asked s.1
-  told refusals.InputBytes bytes s asked = OfLength refl (long-is left bytes s.1 asked.bytes_are)
+    told : (r : Refusal) → S (Err r) → Told r
+    told refusals.Memory s = OfMemory refl
+    told refusals.Usage s = absurd (clash words (job, asked.words_are) s)
+    told refusals.ReadFault s = absurd (asked.no_fault s.1)
+    told refusals.WriteFault s = absurd s
+    told (refusals.Syntax o) s = of_text (refusals.Syntax o) s
+    told (refusals.Unsupported w o) s = of_text (refusals.Unsupported w o) s
+    told refusals.Form s = of_text refusals.Form s
+    told (refusals.Limit l) s = of_text (refusals.Limit l) s
+    told refusals.InputBytes s = OfLength refl (long-is left bytes s.1 asked.bytes_are)
+    told refusals.Depth s = of_text refusals.Depth s
+    told refusals.TurnsSpent s = of_text refusals.TurnsSpent s
+    told (refusals.Broken n p) s = of_text (refusals.Broken n p) s
 
-  -- the answer is that of the bytes told
-  answer_of : (v : V) (bytes : List ℕ) → S (Ok v) → IsAsked words left bytes before now → (length bytes ≤ input_limit) × IsAnswer bytes (view v)
-  answer_of v bytes s asked =
-      let found = s.1 in
-      let (same, short) = input-is left found.bytes bytes found.input asked.bytes_are in
-      (subst (λ b. length b ≤ input_limit) same short, subst (λ b. IsAnswer b (view v)) same found.answer)
+    -- the answer is that of the bytes told
+    answer_of : (v : V) → S (Ok v) → (length bytes ≤ input_limit) × IsAnswerOf job bytes (view v)
+    answer_of v s =
+        let (same, short) = input-is left s.bytes bytes s.input asked.bytes_are in
+        let one : s.job ≡ job = one_job words s.job job s.asked asked.words_are in (
+          subst (λ b. length b ≤ input_limit) same short,
+          subst (λ j. IsAnswerOf j bytes (view v)) one (subst (λ b. IsAnswerOf s.job b (view v)) same s.answer),
+        )
 
-  pub complete : (a : Result V Refusal) → S a → C a → (bytes : List ℕ) (e : RawEnv) → IsAsked words left bytes before now → length bytes ≤ input_limit → SpellsWithin bytes e → IsSimple e → ¬ Rose faults faults' → (status ≡ 0) ⊎ (status ≡ 1)
-  complete (Ok v) s c bytes e asked short spelled simple calm = elim (zero_or status) [ inl z ↦ inl z | inr n ↦ absurd (calm (c.part n).1) ]
-  complete (Err r) s c bytes e asked short spelled simple calm =
-      elim (told r bytes s asked) [
-        | OfMemory q ↦ inr (c.0 ∙ ap status_of q)
-        | OfText few cause ↦ absurd (no_cause_of_simple bytes e r spelled simple cause)
-        | OfLength q long ↦ absurd (omega (arith, long, short))
-      ]
+    pub judged : (a : Result V Refusal) → S a → C a → (wanted : ℕ) → length bytes ≤ input_limit → IsJudgedWith job wanted bytes → ¬ Rose faults faults' → (status ≡ wanted) ⊎ (status ≡ 1)
+    judged (Ok v) s c wanted short h calm =
+        let zero = judged_answer job bytes (view v) wanted h (answer_of v s).1 in
+        elim (zero_or status) [ inl z ↦ inl (z ∙ sym zero) | inr n ↦ absurd (calm (c.part n).1) ]
+    judged (Err r) s c wanted short h calm =
+        elim (told r s) [
+          | OfMemory q ↦ inr (c.0 ∙ ap status_of q)
+          | OfText few cause ↦ inl (c.0 ∙ sym (judged_cause job bytes wanted r h cause))
+          | OfLength q long ↦ absurd (omega (arith, long, short))
+        ]
 
-  pub refuses_text : (a : Result V Refusal) → S a → C a → (bytes : List ℕ) (r : Refusal) → IsAsked words left bytes before now → length bytes ≤ input_limit → IsTextCause r bytes → (status ≡ status_of r) ⊎ (status ≡ 1)
-  refuses_text (Ok v) s c bytes r asked short cause = absurd (no_cause_of_answers bytes (view v) r (answer_of v bytes s asked).1 cause)
-  refuses_text (Err q) s c bytes r asked short cause =
-      elim (told q bytes s asked) [
-        | OfMemory e ↦ inr (c.0 ∙ ap status_of e)
-        | OfText few found ↦ inl (c.0 ∙ ap status_of (one_cause bytes q r found cause))
-        | OfLength e long ↦ absurd (omega (arith, long, short))
-      ]
+    pub refuses_text : (a : Result V Refusal) → S a → C a → (r : Refusal) → length bytes ≤ input_limit → IsTextCause job r bytes → IsSure r → (status ≡ status_of r) ⊎ (status ≡ 1)
+    refuses_text (Ok v) s c r short cause sure = absurd (no_cause_of_answers job bytes (view v) r (answer_of v s).1 cause sure)
+    refuses_text (Err q) s c r short cause sure =
+        elim (told q s) [
+          | OfMemory e ↦ inr (c.0 ∙ ap status_of e)
+          | OfText few found ↦ inl (c.0 ∙ ap status_of (one_cause job bytes q r found cause sure))
+          | OfLength e long ↦ absurd (omega (arith, long, short))
+        ]
 
-  pub refuses_length : (a : Result V Refusal) → S a → C a → (bytes : List ℕ) → IsAsked words left bytes before now → input_limit < length bytes → (status ≡ 7) ⊎ (status ≡ 1)
-  refuses_length (Ok v) s c bytes asked long = let told = (answer_of v bytes s asked).0 in absurd (omega (arith, told, long))
-  refuses_length (Err r) s c bytes asked long =
-      elim (told r bytes s asked) [
-        | OfMemory e ↦ inr (c.0 ∙ ap status_of e)
-        | OfText few cause ↦ absurd (omega (arith, long, few))
-        | OfLength e far ↦ inl (c.0 ∙ ap status_of e)
-      ]
+    pub refuses_length : (a : Result V Refusal) → S a → C a → input_limit < length bytes → (status ≡ 7) ⊎ (status ≡ 1)
+    refuses_length (Ok v) s c long = let told = (answer_of v s).0 in absurd (omega (arith, told, long))
+    refuses_length (Err r) s c long =
+        elim (told r s) [
+          | OfMemory e ↦ inr (c.0 ∙ ap status_of e)
+          | OfText few cause ↦ absurd (omega (arith, long, few))
+          | OfLength e far ↦ inl (c.0 ∙ ap status_of e)
+        ]

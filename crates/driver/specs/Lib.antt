@@ -1,4 +1,5 @@
-pub mod Simple
+pub mod Plain
+pub mod Judged
 pub mod Texts
 pub mod Lines
 pub mod CommandLine

@@ -8,6 +8,7 @@ use Rattle.dump_grammar.specs.declared.refusal.ReadRefusal.{ReadRefusal}
 use Rattle.dump_grammar.specs.declared.refusal.ReadRefusal.TheVariants as reads
 use Rattle.driver.specs.declared.refusal.Refusal.{Refusal}
 use Rattle.driver.specs.declared.refusal.Refusal.TheVariants as refusals
+use Rattle.driver.specs.declared.refusal.Where.TheVariants as tells
 
 -- a refusal of the text
 abbrev pub refusal_of : ReadRefusal → Refusal
@@ -26,6 +27,9 @@ status_of (refusals.Unsupported w o) = 6
 status_of refusals.Form = 6
 status_of (refusals.Limit l) = 7
 status_of refusals.InputBytes = 7
+status_of refusals.Depth = 7
+status_of refusals.TurnsSpent = 8
+status_of (refusals.Broken n p) = 9
 
 unfoldable pub front_of_foreign : Foreign → List ℕ
 front_of_foreign foreigns.Var = codes "unsupported Var at "
@@ -57,7 +61,7 @@ front_of_limit limits.Definitions = codes "limit Definitions"
 front_of_limit limits.Levels = codes "limit Levels"
 front_of_limit limits.Constraints = codes "limit Constraints"
 
--- what a line begins with: all of it but for an offset and its LF
+-- what a line begins with: all of it but for a number, a place and its LF
 unfoldable pub front_of : Refusal → List ℕ
 front_of refusals.Memory = codes "out of memory"
 front_of refusals.Usage = codes "usage: erasec JOB [--turns N] [--pages N] [--steps N] [--size N]"
@@ -68,17 +72,33 @@ front_of (refusals.Unsupported w o) = front_of_foreign w
 front_of refusals.Form = codes "unsupported Form at 0"
 front_of (refusals.Limit l) = front_of_limit l
 front_of refusals.InputBytes = codes "limit InputBytes"
+front_of refusals.Depth = codes "limit Depth"
+front_of refusals.TurnsSpent = codes "turns spent"
+front_of (refusals.Broken n p) = codes "broken "
 
--- the offset that a line ends with
-abbrev pub offset_of : Refusal → Option ℕ
-offset_of (refusals.Syntax o) = Some o
-offset_of (refusals.Unsupported w o) = Some o
-offset_of _ = None
+-- the number in a line: an offset, or that of a broken rule
+abbrev pub number_in : Refusal → Option ℕ
+number_in (refusals.Syntax o) = Some o
+number_in (refusals.Unsupported w o) = Some o
+number_in (refusals.Broken n p) = Some n
+number_in _ = None
 
-abbrev pub offset_text : Option ℕ → List ℕ
-offset_text None = []
-offset_text (Some n) = decimal n
+abbrev pub number_text : Option ℕ → List ℕ
+number_text None = []
+number_text (Some n) = decimal n
+
+-- the place in a line, and the name of a declaration there
+unfoldable pub place_of : Refusal → List ℕ
+place_of (refusals.Broken n tells.Levels) = codes " in levels"
+place_of (refusals.Broken n tells.Constraints) = codes " in constraints"
+place_of (refusals.Broken n (tells.Declaration name)) = codes " in declaration "
+place_of (refusals.Broken n tells.Main) = codes " in main"
+place_of _ = []
+
+abbrev pub name_in : Refusal → List ℕ
+name_in (refusals.Broken n (tells.Declaration name)) = name.items
+name_in _ = []
 
 -- a line ends with LF
 abbrev pub line_of : Refusal → List ℕ
-line_of r = front_of r ++ (offset_text (offset_of r) ++ 10 ∷ [])
+line_of r = front_of r ++ (number_text (number_in r) ++ (place_of r ++ (name_in r ++ 10 ∷ [])))

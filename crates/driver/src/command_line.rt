@@ -7,6 +7,7 @@ ghost use Rattle.driver.specs.CommandLine.{job_of, words_of};
 #[derive(Clone, Copy, Debug, PartialEq, Eq)]
 pub(crate) enum Job {
     Exec,
+    Check,
 }
 
 /// The job that the words name: exactly one word, a job that is there.
@@ -15,6 +16,7 @@ pub(crate) fn read_words(words: &Vec<String>) -> Option<Job>
 {
     match words.as_slice() {
         [word] if word.as_str() == "exec" => Some(Job::Exec),
+        [word] if word.as_str() == "check" => Some(Job::Check),
         _ => None,
     }
 }

@@ -1,31 +1,35 @@
 //! The top call `serve`: from the words of the command line and the bytes of the input to the status, the answer and the line of a
 //! refusal.
 //!
-//! The one job is `exec`, on simple environments: one block of constructors without arguments, with one of them as main. `exec`
-//! (in `exec.rt`) is the list of its stages: read, compile, write, load, run, and the text of the answer.
+//! The jobs are `check`, on every environment, and `exec`, on plain ones: blocks of constructors without arguments, with one of them as
+//! main. `check` (in `check.rt`) reads and accepts; `exec` (in `exec.rt`) is the list of its stages: read, accept, compile, write, load,
+//! run, and the text of the answer.
 //!
-//! What `serve` promises: on status 0 the input spells a simple environment, its module validates, every run of it that is long
-//! enough answers main's constructor, and out takes the constructor's name and LF (`done`); each other status has its cause, and the line
-//! of that refusal goes to err (`refused`, `usage`, `nothing_read`, `prefix`), and no other status comes (`statuses`); where no count of
-//! faults rises, the answer up to want of memory (`complete`, `refuses_text`, `refuses_length`); and what is left behind (`nothing_out`,
+//! What `serve` promises: on status 0 the input spells an environment that is well formed, and out takes `ok`, or, by `exec`, the name of
+//! main's constructor, which every long enough run of its module, a valid one, answers (`done`); each other status has its cause, and the
+//! line of that refusal goes to err (`refused`, `usage`, `nothing_read`, `prefix`), and no other status comes (`statuses`); where no count
+//! of faults rises, the answer up to want of memory (`judged`, `refuses_text`, `refuses_length`); and what is left behind (`nothing_out`,
 //! `quiet`, `counts`).
 //!
-//! The definitions in `specs/`: `CommandLine` and `Lines` (words, statuses, lines), `Simple` (which environments are simple), `Serve`
-//! (answers and causes). Which bytes spell which environment, and what a text's first refusal is, are definitions of `dump_grammar` and
-//! `dump_reader`.
+//! The definitions in `specs/`: `CommandLine` and `Lines` (words, statuses, lines), `Plain` (which environments `exec` takes), `Judged`
+//! (what the directed rules say of an environment), `Serve` (answers and causes). Which bytes spell which environment, and what a text's
+//! first refusal is, are definitions of `dump_grammar` and `dump_reader`; which environments are well formed is one of `pc_rules`.
 //!
-//! Below stand `kio`, `dump_reader` and `wasm_core`; above stands the program `erasec`.
+//! Below stand `kio`, `dump_reader`, `env_check` and `wasm_core`; above stands the program `erasec`.
 #![tactic(auto)]
 
+mod check;
 mod command_line;
 mod err_line;
 mod exec;
+mod plain;
 mod program;
 mod refusal;
-mod simple;
 mod top;
 
 pub use top::serve;
 
+#[cfg(test)]
+mod check_tests;
 #[cfg(test)]
 mod tests;

@@ -1,13 +1,22 @@
 //! The refusals of a job, each with its status and the parts of its line.
 
 ghost use Rattle.std.specs.Prelude.{◌≡◌, Some, None};
-ghost use Rattle.driver.specs.Lines.{status_of, front_of, front_of_foreign, front_of_limit, offset_of};
+ghost use Rattle.driver.specs.Lines.{status_of, front_of, front_of_foreign, front_of_limit, number_in, place_of, name_in};
 
 use dump_grammar::{Foreign, Limit, ReadRefusal};
 use std::alloc::{AllocError, AllocFailed};
 
+/// Where in an environment a rule is broken, as a line tells it: a declaration by the bytes of its name.
+#[derive(Drop)]
+pub(crate) enum Where {
+    Levels,
+    Constraints,
+    Declaration(Vec<u8>),
+    Main,
+}
+
 /// Why a job gives no answer. Offsets are bytes from the start of the input.
-#[derive(Clone, Copy, Debug, PartialEq, Eq)]
+#[derive(Drop)]
 pub(crate) enum Refusal {
     Memory,
     Usage,
@@ -19,11 +28,17 @@ pub(crate) enum Refusal {
     Form,
     Limit { which: Limit },
     InputBytes,
+    /// A limit was passed in the check: the depth of a term, a number, or the rules that stand in one another.
+    Depth,
+    /// The check has no end within the units of a job.
+    TurnsSpent,
+    /// The rule of this number is broken at a place of the environment.
+    Broken { number: u8, place: Where },
 }
 
 /// The program's status.
-pub(crate) fn status(refusal: Refusal) -> u8
-    ensures value { result ≡ status_of refusal }
+pub(crate) fn status(refusal: &Refusal) -> u8
+    ensures value { result ≡ status_of refusal.now }
 {
     match refusal {
         Refusal::Memory => 1,
@@ -32,7 +47,9 @@ pub(crate) fn status(refusal: Refusal) -> u8
         Refusal::WriteFault => 4,
         Refusal::Syntax { .. } => 5,
         Refusal::Unsupported { .. } | Refusal::Form => 6,
-        Refusal::Limit { .. } | Refusal::InputBytes => 7,
+        Refusal::Limit { .. } | Refusal::InputBytes | Refusal::Depth => 7,
+        Refusal::TurnsSpent => 8,
+        Refusal::Broken { .. } => 9,
     }
 }
 
@@ -80,10 +97,10 @@ fn limit_front(which: Limit) -> &'static [u8]
     }
 }
 
-/// What the line on err begins with: all of it but for an offset and its LF.
+/// What the line on err begins with: all of it but for a number, a place and its LF.
 #[tactic(auto, unfolding(crate::specs::Lines::front_of))]
-pub(crate) fn front(refusal: Refusal) -> &'static [u8]
-    ensures bytes { result.now ≡ front_of refusal }
+pub(crate) fn front(refusal: &Refusal) -> &'static [u8]
+    ensures bytes { result.now ≡ front_of refusal.now }
 {
     match refusal {
         Refusal::Memory => b"out of memory",
@@ -91,21 +108,54 @@ pub(crate) fn front(refusal: Refusal) -> &'static [u8]
         Refusal::ReadFault => b"read fault",
         Refusal::WriteFault => b"write fault",
         Refusal::Syntax { .. } => b"syntax at ",
-        Refusal::Unsupported { what, .. } => foreign_front(what),
+        Refusal::Unsupported { what, .. } => foreign_front(*what),
         Refusal::Form => b"unsupported Form at 0",
-        Refusal::Limit { which } => limit_front(which),
+        Refusal::Limit { which } => limit_front(*which),
         Refusal::InputBytes => b"limit InputBytes",
+        Refusal::Depth => b"limit Depth",
+        Refusal::TurnsSpent => b"turns spent",
+        Refusal::Broken { .. } => b"broken ",
     }
 }
 
-/// The offset that the line ends with, if it tells one.
-pub(crate) fn offset(refusal: Refusal) -> Option<usize>
-    ensures value { result ≡ offset_of refusal }
+/// The number in the line, if it tells one: an offset, or that of a broken rule.
+pub(crate) fn number(refusal: &Refusal) -> Option<usize>
+    ensures value { result ≡ number_in refusal.now }
 {
     match refusal {
-        Refusal::Syntax { offset } => Some(offset),
-        Refusal::Unsupported { offset, .. } => Some(offset),
+        Refusal::Syntax { offset } => Some(*offset),
+        Refusal::Unsupported { offset, .. } => Some(*offset),
+        Refusal::Broken { number, .. } => Some(*number as usize),
         _ => None,
+    }
+}
+
+/// The place in the line, if it tells one, but for the name of a declaration.
+#[tactic(auto, unfolding(crate::specs::Lines::place_of))]
+pub(crate) fn place(refusal: &Refusal) -> &'static [u8]
+    ensures bytes { result.now ≡ place_of refusal.now }
+{
+    match refusal {
+        Refusal::Broken { place, .. } => match place {
+            Where::Levels => b" in levels",
+            Where::Constraints => b" in constraints",
+            Where::Declaration(_) => b" in declaration ",
+            Where::Main => b" in main",
+        },
+        _ => b"",
+    }
+}
+
+/// The name in the line, if it tells one.
+pub(crate) fn name(refusal: &Refusal) -> &[u8]
+    ensures bytes { result.now ≡ name_in refusal.now }
+{
+    match refusal {
+        Refusal::Broken {
+            place: Where::Declaration(name),
+            ..
+        } => name.as_slice(),
+        _ => b"",
     }
 }
 

@@ -17,25 +17,25 @@ const FALSE: &[u8] =
 
 const USAGE: &[u8] = b"usage: erasec JOB [--turns N] [--pages N] [--steps N] [--size N]\n";
 
-const FORM: &[u8] = b"unsupported Form at 0\n";
+const FORM: &str = "unsupported Form at 0\n";
 /// No call has this number.
-const NEVER: u64 = 0;
+pub(crate) const NEVER: u64 = 0;
 
 /// A run of the top call: the words, the input and the calls that fail.
 #[derive(Clone, Copy)]
-struct Run<'a> {
-    words: &'a [&'a str],
-    input: &'a [u8],
-    failing_read: u64,
-    failing_write: u64,
+pub(crate) struct Run<'a> {
+    pub(crate) words: &'a [&'a str],
+    pub(crate) input: &'a [u8],
+    pub(crate) failing_read: u64,
+    pub(crate) failing_write: u64,
 }
 
 /// What a run answers and leaves.
 #[derive(Clone, Copy)]
-struct Want<'a> {
-    status: u8,
-    out: &'a [u8],
-    err: &'a [u8],
+pub(crate) struct Want<'a> {
+    pub(crate) status: u8,
+    pub(crate) out: &'a [u8],
+    pub(crate) err: &'a [u8],
 }
 
 fn words_of(alloc: Global, words: &[&str]) -> Result<Vec<String>, AllocError> {
@@ -54,7 +54,12 @@ fn sink(alloc: Global, most: usize, failing: u64) -> Result<MemSink, AllocError>
 }
 
 /// Makes the run, and compares.
-fn expect(rt: &impl Abort, alloc: Global, run: &Run, want: &Want) -> Result<(), AllocError> {
+pub(crate) fn expect(
+    rt: &impl Abort,
+    alloc: Global,
+    run: &Run,
+    want: &Want,
+) -> Result<(), AllocError> {
     let words = words_of(alloc, run.words)?;
     let fails = Vec::from_slice(alloc, &[run.failing_read])?;
     let mut src = MemSource::new(run.input.to_vec(alloc)?, fails);
@@ -123,7 +128,7 @@ fn repeated(
 }
 
 /// A refusal with this status and line.
-fn refusal(status: u8, line: &str) -> Want<'_> {
+pub(crate) fn refusal(status: u8, line: &str) -> Want<'_> {
     Want {
         status,
         out: b"",
@@ -131,20 +136,13 @@ fn refusal(status: u8, line: &str) -> Want<'_> {
     }
 }
 
-/// Environments that are spelled and aren't simple.
+/// Environments that are spelled and aren't plain.
 #[test]
-fn exec_refuses_what_is_not_simple(rt: HostRuntime) -> Result<(), Fail> {
+fn exec_refuses_what_is_not_plain(rt: HostRuntime) -> Result<(), Fail> {
     let alloc = rt.alloc();
-    let want = Want {
-        status: 6,
-        out: b"",
-        err: FORM,
-    };
+    let want = refusal(6, FORM);
     for main in [
         "(tRel 0)",
-        "(tConstruct bool 0 2)",
-        "(tConstruct bool 1 0)",
-        "(tConstruct nat 0 0)",
         "(tCast (tConstruct bool 0 1) Cast (tInd bool 0))",
     ] {
         let text = with_main(alloc, main.as_bytes())?;
@@ -155,11 +153,48 @@ fn exec_refuses_what_is_not_simple(rt: HostRuntime) -> Result<(), Fail> {
         "(env 1 (levels u) (constraints) (InductiveDecl t (params) (family t (sort Set) (indices) (ctor a (args) (result)))) (main (tConstruct t 0 0)))",
         "(env 1 (levels) (constraints) (InductiveDecl t (params) (family t (sort Prop) (indices) (ctor a (args) (result)))) (main (tConstruct t 0 0)))",
         "(env 1 (levels) (constraints) (InductiveDecl t (params) (family t (sort Set) (indices) (ctor a (args (x (tInd t 0))) (result)))) (main (tConstruct t 0 0)))",
-        "(env 1 (levels) (constraints) (InductiveDecl t (params) (family t (sort Set) (indices) (ctor a (args) (result)) (ctor a (args) (result)))) (main (tConstruct t 0 0)))",
         "(env 1 (levels) (constraints) (ConstantDecl c (tSort Prop) None) (InductiveDecl t (params) (family t (sort Set) (indices) (ctor a (args) (result)))) (main (tConstruct t 0 0)))",
     ] {
         expect(&rt, alloc, &exec_on(text.as_bytes()), &want)?;
     }
+    Ok(())
+}
+
+/// Plain environments with a rule that they break, and the place.
+#[test]
+fn exec_tells_the_broken_rule_of_a_plain_environment(rt: HostRuntime) -> Result<(), Fail> {
+    let alloc = rt.alloc();
+    for (main, line) in [
+        ("(tConstruct bool 0 2)", "broken 3 in main\n"),
+        ("(tConstruct bool 1 0)", "broken 3 in main\n"),
+        ("(tConstruct nat 0 0)", "broken 2 in main\n"),
+    ] {
+        let text = with_main(alloc, main.as_bytes())?;
+        expect(&rt, alloc, &exec_on(text.as_slice()), &refusal(9, line))?;
+    }
+    let twice =
+        "(env 1 (levels) (constraints) (InductiveDecl t (params) (family t (sort Set) (indices) (ctor a (args) (result)) (ctor a (args) (result)))) (main (tConstruct t 0 0)))";
+    expect(
+        &rt,
+        alloc,
+        &exec_on(twice.as_bytes()),
+        &refusal(9, "broken 16 in declaration t\n"),
+    )?;
+    Ok(())
+}
+
+/// A plain environment of two blocks.
+#[test]
+fn exec_takes_several_blocks(rt: HostRuntime) -> Result<(), Fail> {
+    let alloc = rt.alloc();
+    let text =
+        "(env 1 (levels) (constraints) (InductiveDecl t (params) (family t (sort Set) (indices) (ctor a (args) (result)))) (InductiveDecl s (params) (family s (sort Set) (indices) (ctor b (args) (result)) (ctor c (args) (result)))) (main (tConstruct s 0 1)))";
+    let want = Want {
+        status: 0,
+        out: b"c\n",
+        err: b"",
+    };
+    expect(&rt, alloc, &exec_on(text.as_bytes()), &want)?;
     Ok(())
 }
 

@@ -3,13 +3,12 @@
 ghost use Rattle.std.specs.Prelude.{◌≡◌, ◌≢◌, ◌↔◌, ◌⊎◌, ◌<◌, ◌≤◌, ℕ, List, [], ◌∷◌, length, Contains, IfErr, None};
 ghost use Rattle.std.specs.Io.KnownBytes.{Appends};
 ghost use Rattle.kio.specs.Causes.{Rose};
-ghost use Rattle.dump_reader.specs.declared.environment.RawEnv.{RawEnv};
-ghost use Rattle.driver.specs.Texts.{SpellsWithin};
 ghost use Rattle.driver.specs.CommandLine.{job_of, words_of};
 ghost use Rattle.driver.specs.Lines.{status_of, line_of};
-ghost use Rattle.driver.specs.Simple.{IsSimple};
-ghost use Rattle.driver.specs.Serve.{Answered, Concludes, IsAsked, IsRefused, IsTextCause, ReadSays, Says, TakesLine, TakesPrefix, input_limit};
+ghost use Rattle.driver.specs.declared.command_line.Job.{Job as Asked};
+ghost use Rattle.driver.specs.Serve.{Answered, Concludes, IsAsked, IsJudgedWith, IsRefused, IsSure, IsTextCause, JobSays, ReadSays, Says, TakesLine, TakesPrefix, input_limit};
 
+use crate::check::check;
 use crate::command_line::{Job, read_words};
 use crate::err_line::write_line;
 use crate::exec::exec;
@@ -33,6 +32,16 @@ fn read_input<S: Source>(alloc: Global, src: &mut S) -> Result<Vec<u8>, Refusal>
     }
 }
 
+/// The text of the answer of a job on the bytes of its input.
+fn answer_on(alloc: Global, job: Job, bytes: &[u8]) -> Result<Vec<u8>, Refusal>
+    ensures says { JobSays job (λ v. v.items) result bytes.now }
+{
+    match job {
+        Job::Exec => exec(alloc, bytes),
+        Job::Check => check(alloc, bytes),
+    }
+}
+
 /// The text of the answer of the job that the words name.
 fn answer<S: Source>(alloc: Global, words: &Vec<String>, src: &mut S) -> Result<Vec<u8>, Refusal>
     ensures says { Says (λ v. v.items) result (words_of words.now) (S.left src.old) (S.faults src.old) (S.faults src.new) }
@@ -41,9 +50,9 @@ fn answer<S: Source>(alloc: Global, words: &Vec<String>, src: &mut S) -> Result<
 {
     match read_words(words) {
         None => Err(Refusal::Usage),
-        Some(Job::Exec) => {
+        Some(job) => {
             let bytes = read_input(alloc, src)?;
-            exec(alloc, bytes.as_slice())
+            answer_on(alloc, job, bytes.as_slice())
         }
     }
 }
@@ -53,8 +62,8 @@ fn refuse<E: Sink>(err: &mut E, refusal: Refusal) -> u8
     ensures status { result ≡ status_of refusal }
     ensures line { TakesLine (E.taken err.old) (E.taken err.new) (E.faults err.old) (E.faults err.new) (line_of refusal) }
 {
-    write_line(err, refusal);
-    status(refusal)
+    write_line(err, &refusal);
+    status(&refusal)
 }
 
 /// Writes the text of the answer to out, or the refusal's line to err, and gives the status.
@@ -72,11 +81,13 @@ fn conclude<K: Sink, E: Sink>(out: &mut K, err: &mut E, answered: Result<Vec<u8>
 
 /// Does the job that the words after the program's name ask for, and answers the program's status.
 ///
-/// The job is `exec`: the input is the text of an environment, which must be simple, one block of constructors without arguments with one
-/// of them as main. A module is made of it, encoded, decoded, validated and run, and the answer, the constructor's name with LF, goes to
-/// `out`. Statuses: 0 done; 1 want of memory; 2 the words aren't the one word `exec`, and then nothing is read; 3 a read fault; 4 a
-/// write fault; 5 the text's first refusal is a syntax fault; 6 its first refusal is a form that is known and not read, or the text spells
-/// an environment within the limits that isn't simple; 7 its first refusal is a limit of the text, or more than 16,777,216 bytes came.
+/// The input is the text of an environment. `check` accepts it where every declaration and main have a derivation by the typing rules, and
+/// writes `ok` with LF to `out`. `exec` takes plain environments, whose declarations are blocks of constructors without arguments, with
+/// a constructor as main: it checks the environment, makes a module of it, which is encoded, decoded, validated and run, and writes the
+/// answer, the constructor's name with LF. Statuses: 0 done; 1 want of memory; 2 the words aren't one word that is a job, and then nothing
+/// is read; 3 a read fault; 4 a write fault; 5 the text's first refusal is a syntax fault; 6 its first refusal is a form that is known and
+/// not read, or the text spells an environment within the limits that `exec` doesn't take; 7 its first refusal is a limit of the text, or
+/// more than 16,777,216 bytes came, or the check passed a limit; 8 the check has no end within 1,000,000 units; 9 a rule is broken.
 ///
 /// A refusal writes one line to `err`, which takes no memory; a fault on `err` changes no status. Nothing goes to `out` before
 /// the whole answer is there, so a refusal other than a write fault leaves it as it was.
@@ -87,20 +98,20 @@ pub fn serve<S: Source, K: Sink, E: Sink>(
     out: &mut K,
     err: &mut E,
 ) -> u8
-    // The answer: the text spells a simple environment, and out takes the name of its main constructor.
-    ensures done { result ≡ 0 → (text : List ℕ) × Answered (S.left src.old) text × Appends (K.taken out.old) (K.taken out.new) text }
-    ensures statuses { Contains (0 ∷ 1 ∷ 2 ∷ 3 ∷ 4 ∷ 5 ∷ 6 ∷ 7 ∷ []) result }
+    // The answer: the text spells an environment that is well formed; out takes `ok`, or the name of the constructor that its module answers.
+    ensures done { result ≡ 0 → (text : List ℕ) × Answered (words_of words.now) (S.left src.old) text × Appends (K.taken out.old) (K.taken out.new) text }
+    ensures statuses { Contains (0 ∷ 1 ∷ 2 ∷ 3 ∷ 4 ∷ 5 ∷ 6 ∷ 7 ∷ 8 ∷ 9 ∷ []) result }
 
     // Each refusal has its cause, and its line goes to err.
     ensures refused { result ≢ 0 → IsRefused result (words_of words.now) (S.left src.old) (S.faults src.old) (S.faults src.new) (K.faults out.old) (K.faults out.new) (E.taken err.old) (E.taken err.new) (E.faults err.old) (E.faults err.new) }
     ensures usage { (result ≡ 2) ↔ (job_of (words_of words.now) ≡ None) }
     ensures nothing_read { result ≡ 2 → src.new ≡ src.old }
-    ensures prefix { result ≡ 4 → (text : List ℕ) × Answered (S.left src.old) text × TakesPrefix (K.taken out.old) (K.taken out.new) text }
+    ensures prefix { result ≡ 4 → (text : List ℕ) × Answered (words_of words.now) (S.left src.old) text × TakesPrefix (K.taken out.old) (K.taken out.new) text }
 
-    // Where no count rises, want of memory is the only other answer.
-    ensures complete { (bytes : List ℕ) (e : RawEnv) → IsAsked (words_of words.now) (S.left src.old) bytes (S.faults src.old) (S.faults src.new) → length bytes ≤ input_limit → SpellsWithin bytes e → IsSimple e → ¬ Rose (K.faults out.old) (K.faults out.new) → (result ≡ 0) ⊎ (result ≡ 1) }
-    ensures refuses_text { (bytes : List ℕ) (r : Refusal) → IsAsked (words_of words.now) (S.left src.old) bytes (S.faults src.old) (S.faults src.new) → length bytes ≤ input_limit → IsTextCause r bytes → (result ≡ status_of r) ⊎ (result ≡ 1) }
-    ensures refuses_length { (bytes : List ℕ) → IsAsked (words_of words.now) (S.left src.old) bytes (S.faults src.old) (S.faults src.new) → input_limit < length bytes → (result ≡ 7) ⊎ (result ≡ 1) }
+    // Where no count rises and the rules pass no limit, want of memory is the only other answer.
+    ensures judged { (job : Asked) (bytes : List ℕ) (status : ℕ) → IsAsked job (words_of words.now) (S.left src.old) bytes (S.faults src.old) (S.faults src.new) → length bytes ≤ input_limit → IsJudgedWith job status bytes → ¬ Rose (K.faults out.old) (K.faults out.new) → (result ≡ status) ⊎ (result ≡ 1) }
+    ensures refuses_text { (job : Asked) (bytes : List ℕ) (r : Refusal) → IsAsked job (words_of words.now) (S.left src.old) bytes (S.faults src.old) (S.faults src.new) → length bytes ≤ input_limit → IsTextCause job r bytes → IsSure r → (result ≡ status_of r) ⊎ (result ≡ 1) }
+    ensures refuses_length { (job : Asked) (bytes : List ℕ) → IsAsked job (words_of words.now) (S.left src.old) bytes (S.faults src.old) (S.faults src.new) → input_limit < length bytes → (result ≡ 7) ⊎ (result ≡ 1) }
 
     // What is left behind.
     ensures nothing_out { result ≢ 0 → result ≢ 4 → out.new ≡ out.old }

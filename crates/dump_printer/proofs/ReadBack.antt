@@ -15,7 +15,7 @@ use Rattle.dump_reader.specs.Spelling.{IsVerdict}
 use Rattle.dump_printer.specs.CanonicalTerms.{text_of}
 use Rattle.dump_printer.specs.Canonical.{canonical_tokens, canonical_text}
 use Rattle.dump_printer.specs.Nesting.{nesting}
-use Rattle.dump_printer.specs.Spelled.{IsSpelled}
+use Rattle.dump_reader.specs.Spelled.{IsSpelled}
 use Rattle.dump_printer.proofs.Fits.{Fits}
 use Rattle.dump_printer.proofs.FitEnvironments.{FitEach, FitCtors, FitsFamily, FitFamilies, FitsOption, FitsDecl, FitDecls, results-apart}
 use Rattle.dump_printer.proofs.CanonicalForms.{canon}

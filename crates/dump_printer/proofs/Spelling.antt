@@ -16,7 +16,7 @@ use Rattle.dump_reader.specs.declared.environment.RawEnv.{RawEnv}
 use Rattle.dump_reader.specs.NumberedEnvironment.{numbered}
 use Rattle.dump_reader.specs.Spelling.{Spells}
 use Rattle.dump_printer.specs.Canonical.{canonical_tokens, canonical_text}
-use Rattle.dump_printer.specs.Spelled.{IsSpelled}
+use Rattle.dump_reader.specs.Spelled.{IsSpelled}
 use Rattle.dump_printer.proofs.Printed.{dump-fit, canonical_dump, canonical-tokens, canonical-numbers}
 use Rattle.dump_printer.proofs.Good.{AreGood, accepted-good, spaced-read, word-good}
 use Rattle.dump_printer.proofs.GoodTexts.{AllGood, good-more, uses-good}

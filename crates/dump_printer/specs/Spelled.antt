@@ -1,7 +1,6 @@
--- Environments that some text spells within the limits.
+-- Texts that are accepted with an environment, beside its canonical text.
 use Rattle.std.specs.Prelude.{◌≡◌, ℕ, ◌≤◌, List, [], ◌∷◌}
 use Rattle.sexp_reader.specs.Lex.{tokens_of}
-use Rattle.dump_grammar.specs.Named.{NamedEnv}
 use Rattle.dump_grammar.specs.Environments.{Dump, dump, env_of}
 use Rattle.dump_grammar.specs.Table.{VEnv}
 use Rattle.dump_grammar.specs.Judge.{texts, Fine}
@@ -11,10 +10,6 @@ use Rattle.dump_reader.specs.Spelling.{verdict_on}
 use Rattle.dump_printer.specs.Canonical.{canonical_tokens}
 use Rattle.dump_printer.specs.Casts.{TextHasNoCast}
 use Rattle.dump_printer.specs.Nesting.{nesting}
-
--- Some text is accepted with this environment.
-abbrev pub IsSpelled : RawEnv → Type 0
-IsSpelled e = (bytes : List ℕ) × (env : NamedEnv) × (verdict_on bytes ≡ Fine (VEnv env ∷ [])) × (e ≡ numbered env)
 
 -- The canonical text nests no deeper than any text without a cast that is accepted with this environment.
 abbrev pub NestsNoDeeper : RawEnv → Type 0

@@ -23,9 +23,10 @@ ghost use Rattle.std.specs.Io.KnownBytes.{Appends};
 ghost use Rattle.kio.specs.Causes.{HasCause};
 ghost use Rattle.kio.specs.Known.{StillTells};
 ghost use Rattle.dump_reader.specs.Spelling.{Spells, IsVerdict};
+ghost use Rattle.dump_reader.specs.Spelled.{IsSpelled};
 ghost use Rattle.dump_printer.specs.Canonical.{canonical_text, canonical_tokens};
 ghost use Rattle.dump_printer.specs.Nesting.{nesting};
-ghost use Rattle.dump_printer.specs.Spelled.{IsSpelled, NestsNoDeeper};
+ghost use Rattle.dump_printer.specs.Spelled.{NestsNoDeeper};
 ghost use Rattle.dump_printer.specs.Writing.{HasGone};
 
 mod declarations;

@@ -5,3 +5,4 @@ pub mod Applying
 pub mod Telescopes
 pub mod Definitions
 pub mod Parts
+pub mod KnownFamilies

@@ -1,2 +1,3 @@
 pub mod Unfolding
 pub mod Replacing
+pub mod Known

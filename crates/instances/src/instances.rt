@@ -12,4 +12,4 @@ pub mod families;
 pub mod fixpoints;
 pub mod predicates;
 mod products;
-mod replacing;
+pub mod replacing;

@@ -7,6 +7,7 @@ use Rattle.universe_levels.specs.Sorts.{super_sort, product_sort}
 use Rattle.pc_terms.specs.declared.leaf.Name.{Name}
 use Rattle.pc_terms.specs.declared.leaf.FamilyId.{FamilyId}
 use Rattle.pc_terms.specs.Syntax.{Term, Terms, Rel, SortT, Prod, Lambda, LetIn, App, Const, Ind, Construct, Case, Fix, first, put, substitute, shift, apply, head, args, number, term_at}
+use Rattle.pc_terms.specs.Formed.{binders_of}
 use Rattle.pc_rules.specs.declared.declaration.Constructor.{Constructor}
 use Rattle.pc_rules.specs.declared.declaration.Family.{Family}
 use Rattle.pc_rules.specs.declared.declaration.Block.{Block}
@@ -20,7 +21,7 @@ use Rattle.pc_rules.specs.Instances.{family_type, constructor_type, predicate_en
 use Rattle.pc_rules.specs.Same.{same}
 use Rattle.pc_rules.specs.DirectedRun.{done, make, is_beyond, any_beyond}
 use Rattle.pc_rules.specs.DirectedWeakHead.{kept_at, known_block, whole_block}
-use Rattle.pc_rules.specs.DirectedComparison.{Test, Comparison, compare, list_of, names_of, sort_below}
+use Rattle.pc_rules.specs.DirectedComparison.{Test, Comparison, compare, list_of, sort_below}
 use Rattle.pc_rules.specs.DirectedTyping.{Typing, conv, sort_found, sort_of, check, retype, rel_rule, undeclared_in, raises_past, levels_declared, sort_rule, app_found, const_rule, family_number, find_family, constructor_number, counted, names_counted, match_counted, check_all, sorts_of, may_eliminate, eliminated, is_the_family, found_family, scrutinee_fits, scrutinee_rule, branch_beyond, branch_rule, branches_rule, predicate_rule, case_rule, types_rule, recursive_domain, enough_abstractions, is_a_family, family_found, definition_rule, definitions_rule, definition_type, rule, rule_number, infer}
 use Rattle.pc_rules.specs.DirectedDeclarations.{has_name, distinct_names, family_heads, fits_sort, is_positive, arguments_rule, some_names, with_sorts, constructor_rule, constructors_rule, with_constructors, families_rule, with_families, with_heads, block_rule}
 use Rattle.pc_rules.proofs.Fair.{IsFair, fair_done, fair_refused, fair_made, fair_passing, fair_nested, fair_if, fair_noted, fair_bind, fair_ticking}
@@ -108,7 +109,7 @@ fair_match_counted : {n k : ℕ} (F : FamilyDecl) (ps : Terms) (m : ℕ) (bs : T
 fair_match_counted F ps m bs =
     fair_bind _ _ _ _ (fair_counted (length F.parameters) (number ps)) (λ x.
     fair_bind _ _ _ _ (fair_counted (length F.indices + 1) m) (λ y.
-    fair_bind _ _ _ _ (fair_counted (length F.constructors) (number bs)) (λ z. fair_names F.constructors (names_of bs))))
+    fair_bind _ _ _ _ (fair_counted (length F.constructors) (number bs)) (λ z. fair_names F.constructors (binders_of bs))))
 
 pub fair_check_all : {n k : ℕ} (E : Env) (inf : Typing) (cmp : Comparison) → FairTyping n k inf → FairComparison n k cmp → (c : Context) (s : ℕ → Term) (ts As : List Term) →
     IsFair n k (λ u. check_all E inf cmp c s ts As u) (λ u. check_all E inf cmp c s ts As u)

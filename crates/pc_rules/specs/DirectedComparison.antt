@@ -8,6 +8,7 @@ use Rattle.universe_levels.specs.declared.constraint.Constraint.{Constraint}
 use Rattle.pc_terms.specs.declared.leaf.FamilyId.{FamilyId}
 use Rattle.pc_terms.specs.Syntax.{Term, Terms, Next, Rel, SortT, Prod, Lambda, Const, Ind, Construct, Case, Fix, head, args, number, shift}
 use Rattle.pc_terms.specs.Syntax as syntax
+use Rattle.pc_terms.specs.Formed.{binders_of}
 use Rattle.pc_rules.specs.declared.declaration.Constructor.{Constructor}
 use Rattle.pc_rules.specs.declared.entry.Entry.TheVariants.{Assumed}
 use Rattle.pc_rules.specs.declared.broken.Broken.TheVariants.{NotBelow, UnknownName}
@@ -45,10 +46,6 @@ abbrev pub list_of : Terms → List Term
 list_of syntax.Done = []
 list_of (Next n t ts) = t ∷ list_of ts
 
-abbrev pub names_of : Terms → List ℕ
-names_of syntax.Done = []
-names_of (Next n t ts) = n ∷ names_of ts
-
 -- two heads of one kind, with the same numbers
 abbrev pub alike : Term → Term → Bool
 alike (Rel i) (Rel j) = i == j
@@ -56,7 +53,7 @@ alike (Const k) (Const l) = same_names k l
 alike (Ind f) (Ind g) = same_families f g
 alike (Construct f c) (Construct g d) = same_families f g && (c == d)
 alike (Case f ps n ret s bs) (Case g qs m ret' s' bs') =
-    same_families f g && ((number ps == number qs) && ((n == m) && same_numbers (names_of bs) (names_of bs')))
+    same_families f g && ((number ps == number qs) && ((n == m) && same_numbers (binders_of bs) (binders_of bs')))
 alike (Fix i rargs types bodies) (Fix j rargs' types' bodies') = (i == j) && same_numbers rargs rargs'
 alike _ _ = false
 

@@ -8,6 +8,7 @@ use Rattle.universe_levels.specs.Sorts.{super_sort, product_sort}
 use Rattle.pc_terms.specs.declared.leaf.Name.{Name}
 use Rattle.pc_terms.specs.declared.leaf.FamilyId.{FamilyId}
 use Rattle.pc_terms.specs.Syntax.{Term, Terms, Rel, SortT, Prod, Lambda, LetIn, App, Const, Ind, Construct, Case, Fix, first, put, substitute, shift, apply, head, args, number, term_at}
+use Rattle.pc_terms.specs.Formed.{binders_of}
 use Rattle.pc_rules.specs.declared.declaration.Constructor.{Constructor}
 use Rattle.pc_rules.specs.declared.declaration.Block.{Block}
 use Rattle.pc_rules.specs.declared.declaration.Kept.{Kept}
@@ -21,7 +22,7 @@ use Rattle.pc_rules.specs.Instances.{family_type, constructor_type, predicate_en
 use Rattle.pc_rules.specs.Same.{same, same_families}
 use Rattle.pc_rules.specs.DirectedRun.{Run, Act, done, refused, too_nested, passing, made, make, noted, bind, ticking, is_beyond, any_beyond}
 use Rattle.pc_rules.specs.DirectedWeakHead.{whnf, kept_at, known_block, whole_block}
-use Rattle.pc_rules.specs.DirectedComparison.{Test, Comparison, compare, list_of, names_of}
+use Rattle.pc_rules.specs.DirectedComparison.{Test, Comparison, compare, list_of}
 use Rattle.pc_rules.specs.DirectedGuard.{fix_guard}
 
 abbrev pub Typing : Type 0
@@ -145,7 +146,7 @@ abbrev pub match_counted : FamilyDecl → Terms → ℕ → Terms → Act
 match_counted F ps n bs u =
     bind (counted (length F.parameters) (number ps) u) (λ _ v.
     bind (counted (length F.indices + 1) n v) (λ _ w.
-    bind (counted (length F.constructors) (number bs) w) (λ _ x. names_counted F.constructors (names_of bs) x)))
+    bind (counted (length F.constructors) (number bs) w) (λ _ x. names_counted F.constructors (binders_of bs) x)))
 
 -- each term against its type at the terms before
 unfoldable pub check_all : Env → Typing → Comparison → Context → (ℕ → Term) → List Term → List Term → Act

@@ -15,6 +15,10 @@ use pc_terms::term::Term;
 use std::alloc::Global;
 
 /// Compares terms by conversion.
+///
+/// What is well counted has no level number above that of the environment's last level, and each match in it is of a family of a whole
+/// block that is kept, with as many parameters, variables of its predicate, branches and variables of each branch as the block gives it
+/// (`specs/WellCounted.antt`, which also names the form that each `Term` has).
 pub trait Converter {
     /// Whether a term is below another (PCUIC, cumulativity); environment, context and terms are well counted.
     ///

@@ -12,7 +12,7 @@ use crate::stop::Halt;
 use pc_terms::term::Term;
 use std::alloc::Global;
 
-/// Judges whether fixpoints are guarded.
+/// Judges whether fixpoints are guarded. What is well counted is said at `Converter`.
 pub trait Guarder {
     /// Whether a fixpoint is guarded, by this project's guard condition; environment, context and term are well counted. The term is a
     /// fixpoint; in it and in each fixpoint inside it each body begins with one lambda more than the place of its recursive argument; and

@@ -14,7 +14,8 @@
 //! The traits `Reducer`, `Converter`, `Guarder` and `Typer` say of each implementation that it follows the directed rules (`follows`, by
 //! `Follows`): its results and refusals are theirs with the units that are left and the uses of rules; it stops for want of units exactly
 //! where they do, unless they pass a limit first; and it may always answer want of memory. Besides, its results are right by the
-//! declarative definitions (`reached`, `below`, `equal`, `guarded`, `typed`). Their conditions are in `WellCounted` and `FixConditions`.
+//! declarative definitions (`reached`, `below`, `equal`, `guarded`, `typed`). Their conditions are in `WellCounted`
+//! (declared levels, the counts of matches, and the form that each term in memory has) and `FixConditions`.
 //!
 //! The types: `Env` finds what is kept by a name (`kept`), keeps declarations (`kept`, `as_before`) and heads of blocks, and decides
 //! entailment (`test`, `entailed`); `Ctx` is extended without copying (`longer`); `Meter` takes units, counts uses of rules and bounds the
@@ -47,7 +48,7 @@ pub mod laws;
 pub mod meter;
 mod number_map;
 pub mod reducer;
-mod shared_list;
+pub mod shared_list;
 pub mod stop;
 #[cfg(test)]
 mod tests;

@@ -25,8 +25,8 @@ use Rattle.pc_rules.specs.DirectedRun.{Run, Act, done, bind}
 use Rattle.pc_rules.specs.DirectedComparison.{Test, IsTest, Comparison, compare, sort_below}
 use Rattle.pc_rules.specs.DirectedTyping.{Typing, infer, sort_of, sorts_of, check_all, counted, undeclared_in, levels_declared}
 use Rattle.pc_rules.specs.DirectedDeclarations.{is_positive, some_names, has_name, distinct_names, family_head, family_heads, heads_rule, fits_sort, positive_rule, arguments_rule, result_names, with_sorts, constructor_rule, constructors_rule, with_constructors, families_rule, with_families, with_heads, block_rule}
+use Rattle.pc_rules.specs.WellCounted.{AreSortsOver, AreCounted, AreCountedConstructors, AreCountedFamilies, HasCountedDeclarations, IsCountedContext}
 use Rattle.pc_rules.proofs.Spines.{one_item}
-use Rattle.rule_laws.specs.WellCounted.{SortsOver, AllWellCounted, ConstructorsWellCounted, FamiliesWellCounted, EnvWellCounted, ContextWellCounted}
 use Rattle.rule_laws.specs.Inference.{AllFormed}
 use Rattle.rule_laws.specs.Declarations.{plain_constructor, plain_family, ConstructorsFormed, FamiliesFormed, BlockFormed, IsCheckedBlock}
 use Rattle.rule_laws.proofs.Runs.{bind_both, tested, refused_done, done_value}
@@ -89,13 +89,13 @@ record HeadFits (E : Env) (B : Block) (F : Family) : Type 0 where
   indices : Entries guarded E (extend [] B.params) F.indices
   sort : IsDeclared E F.sort
   distinct : Distinct (names_in F.ctors)
-  all : AllWellCounted E F.indices
+  all : AreCounted E F.indices
 
 abbrev HeadsFit : Env → Block → List Family → Type 0
 HeadsFit E B [] = Unit {0}
 HeadsFit E B (F ∷ Fs) = HeadFits E B F × HeadsFit E B Fs
 
-module _ (E : Env) (w : EnvWellCounted E) (inf : Typing) (si : Infers E inf) (B : Block) (params : AllWellCounted E B.params) where
+module _ (E : Env) (w : HasCountedDeclarations E) (inf : Typing) (si : Infers E inf) (B : Block) (params : AreCounted E B.params) where
   head_sound : (F : Family) (u v : Account) → AllFormed F.indices → (family_head E inf B F u).end ≡ run.Done tt v → HeadFits E B F
   head_sound F u v f h =
       let k2 : Unit {0} → Account → Run (Unit {0}) = λ _ w. bind (sorts_of E inf (extend [] B.params) F.indices w) (λ ss x. done tt x) in
@@ -119,7 +119,7 @@ module _ (E : Env) (w : EnvWellCounted E) (inf : Typing) (si : Infers E inf) (B 
 
 -- its constructors
 
-module _ (H : Env) (w : EnvWellCounted H) (inf : Typing) (si : Infers H inf) (cmp : Comparison) (sc : IsSound H cmp) (q : Test)
+module _ (H : Env) (w : HasCountedDeclarations H) (inf : Typing) (si : Infers H inf) (cmp : Comparison) (sc : IsSound H cmp) (q : Test)
     (test : IsTest H.levels H.constraints q) where
   fits : (r s : Sort) (u v : Account) → (fits_sort q r s u).end ≡ run.Done tt v → r ≢ Prop → Entails H s r
   fits Prop s u v h n = absurd (n refl)
@@ -129,10 +129,10 @@ module _ (H : Env) (w : EnvWellCounted H) (inf : Typing) (si : Infers H inf) (cm
     sorts : EntrySorts guarded H c As ss
     small : r ≢ Prop → AllAtMost H ss r
     positive : ArePositive k As
-    all : AllWellCounted H As
-    over : SortsOver H.levels ss
+    all : AreCounted H As
+    over : AreSortsOver H.levels ss
 
-  arguments_sound : (k : Name) (f n : ℕ) (r : Sort) (c : Context) (As : List Term) (ss : List Sort) (u v : Account) → ContextWellCounted H c → AllFormed As →
+  arguments_sound : (k : Name) (f n : ℕ) (r : Sort) (c : Context) (As : List Term) (ss : List Sort) (u v : Account) → IsCountedContext H c → AllFormed As →
       (arguments_rule H q inf k f n r c As u).end ≡ run.Done ss v → AreArguments k r c As ss
   unfolding arguments_rule
   arguments_sound k f n r c [] ss u v kc fs h =
@@ -163,14 +163,14 @@ module _ (H : Env) (w : EnvWellCounted H) (inf : Typing) (si : Infers H inf) (cm
   names_tested k f n ts true u v e h = absurd (refused_done h)
   names_tested k f n ts false u v e h = list_names_none k ts e
 
-  module _ (B : Block) (params : AllWellCounted H B.params) where
+  module _ (B : Block) (params : AreCounted H B.params) where
     record IsConstructor (F : Family) (C D : Constructor) : Type 0 where
       fit : ConstructorFits H B F D
       name : D.name ≡ C.name
       same : plain_constructor D ≡ plain_constructor C
-      all : AllWellCounted H D.args × AllWellCounted H D.result × SortsOver H.levels D.arg_sorts
+      all : AreCounted H D.args × AreCounted H D.result × AreSortsOver H.levels D.arg_sorts
 
-    constructor_sound : (F : Family) (f n : ℕ) (C D : Constructor) (u v : Account) → AllWellCounted H F.indices → AllFormed C.args × AllFormed C.result →
+    constructor_sound : (F : Family) (f n : ℕ) (C D : Constructor) (u v : Account) → AreCounted H F.indices → AllFormed C.args × AllFormed C.result →
         (constructor_rule H q inf cmp B F f n C u).end ≡ run.Done D v → IsConstructor F C D
     constructor_sound F f n C D u v wi fc h =
         let c : Context = extend [] B.params in
@@ -185,7 +185,7 @@ module _ (H : Env) (w : EnvWellCounted H) (inf : Typing) (si : Infers H inf) (cm
         let p2 = bind_both (counted (length F.indices) (length C.result) p1.1) (k2 ss) D v p1.3 in
         let p3 = bind_both (check_all H inf cmp d s C.result F.indices p2.1) (k3 ss) D v p2.3 in
         let p4 = bind_both (result_names B.name f n C.result p3.1) (k4 ss) D v p3.3 in
-        let kc : ContextWellCounted H c = context_extended H [] B.params tt params in
+        let kc : IsCountedContext H c = context_extended H [] B.params tt params in
         let as' = arguments_sound B.name f n F.sort c C.args ss u p1.1 kc fc.0 p1.2 in
         let rs = all_sound H w inf si cmp sc d s C.result F.indices p2.1 p3.1 (context_extended H c C.args kc as'.all) (λ i. tt)
         (sym (count_is (length F.indices) (length C.result) p1.1 p2.1 p2.2)) fc.1 wi p3.2 in
@@ -211,9 +211,9 @@ module _ (H : Env) (w : EnvWellCounted H) (inf : Typing) (si : Infers H inf) (cm
       fit : AllFit F Ds
       names : names_in Ds ≡ names_in Cs
       same : map plain_constructor Ds ≡ map plain_constructor Cs
-      all : ConstructorsWellCounted H Ds
+      all : AreCountedConstructors H Ds
 
-    constructors_sound : (F : Family) (f n : ℕ) (Cs Ds : List Constructor) (u v : Account) → AllWellCounted H F.indices → ConstructorsFormed Cs →
+    constructors_sound : (F : Family) (f n : ℕ) (Cs Ds : List Constructor) (u v : Account) → AreCounted H F.indices → ConstructorsFormed Cs →
         (constructors_rule H q inf cmp B F f n Cs u).end ≡ run.Done Ds v → AreConstructors F Cs Ds
     unfolding constructors_rule
     constructors_sound F f n [] Ds u v wi fc h = subst (λ Ds. AreConstructors F [] Ds) (done_value h) (record { fit = tt; names = refl; same = refl; all = tt })
@@ -245,7 +245,7 @@ module _ (H : Env) (w : EnvWellCounted H) (inf : Typing) (si : Infers H inf) (cm
         fit : FamiliesFit Gs
         heads : map head_of Gs ≡ map head_of Fs
         same : map plain_family Gs ≡ map plain_family Fs
-        all : FamiliesWellCounted E Gs
+        all : AreCountedFamilies E Gs
 
       families_sound : (f : ℕ) (Fs Gs : List Family) (u v : Account) → HeadsFit E B Fs → FamiliesFormed Fs → (families_rule H q inf cmp B f Fs u).end ≡ run.Done Gs v →
           AreFamilies Fs Gs
@@ -291,11 +291,11 @@ module _ (H : Env) (w : EnvWellCounted H) (inf : Typing) (si : Infers H inf) (cm
 
 -- the whole block
 
-heads_counted : (E : Env) (B : Block) (Fs : List Family) → HeadsFit E B Fs → FamiliesWellCounted E (map head_of Fs)
+heads_counted : (E : Env) (B : Block) (Fs : List Family) → HeadsFit E B Fs → AreCountedFamilies E (map head_of Fs)
 heads_counted E B [] h = tt
 heads_counted E B (F ∷ Fs) h = ((h.0.all, tt, declared_over E F.sort h.0.sort), heads_counted E B Fs h.1)
 
-pub block_sound : (E : Env) (q : Test) → IsTest E.levels E.constraints q → EnvWellCounted E → (n : ℕ) (B D : Block) (u v : Account) →
+pub block_sound : (E : Env) (q : Test) → IsTest E.levels E.constraints q → HasCountedDeclarations E → (n : ℕ) (B D : Block) (u v : Account) →
     IsFresh B.name E.declarations → BlockFormed B → (block_rule E q n B u).end ≡ run.Done D v → IsCheckedBlock E B D
 block_sound E q test w n B D u v fresh fb h =
     let H : Env = with_heads E B in
@@ -308,11 +308,11 @@ block_sound E q test w n B D u v fresh fb h =
     let p3 = bind_both (sorts_of E (infer E q n) [] B.params u) (λ ss v. family_heads E (infer E q n) B B.families v) tt p1.1 p1.2 in
     let es = entries_sound E w (infer E q n) si [] B.params p3.0 u p3.1 tt fb.0 p3.2 in
     let hs : HeadsFit E B B.families = heads_sound E w (infer E q n) si B es.all B.families p3.1 p1.1 fb.1 p3.3 in
-    let wH : EnvWellCounted H =
+    let wH : HasCountedDeclarations H =
     env_more E.levels E.constraints E.declarations (Heads (heads_of B)) fresh w (es.all, heads_counted E B B.families hs) in
     let more : FindsAs E H = finds_more E.levels E.constraints E.declarations (Heads (heads_of B)) fresh in
     let less : FindsAs H E = finds_without E.levels E.constraints E.declarations (heads_of B) in
-    let params : AllWellCounted H B.params = all_more E H more B.params es.all in
+    let params : AreCounted H B.params = all_more E H more B.params es.all in
     let sH = infer_sound H wH q test n in
     let cH = compare_sound H q test wH n in
     let fs = families_sound H wH (infer H q n) sH (compare H q n) cH q test B params E more less 0 B.families Gs p1.1 p2.1 hs fb.1 p2.2 in

@@ -5,6 +5,7 @@ use Rattle.universe_levels.specs.declared.sort.Sort.{Sort}
 use Rattle.universe_levels.specs.declared.sort.Sort.TheVariants.{Prop, Of}
 use Rattle.pc_terms.specs.declared.leaf.FamilyId.{FamilyId}
 use Rattle.pc_terms.specs.Syntax.{Term, Terms, Done, Next, Rel, SortT, Prod, Lambda, App, Const, Ind, Construct, Case, Fix, apply, head, args, number}
+use Rattle.pc_terms.specs.Formed.{binders_of, EachTerm, AreAll}
 use Rattle.pc_rules.specs.declared.declaration.Constructor.{Constructor}
 use Rattle.pc_rules.specs.declared.entry.Entry.TheVariants.{Assumed}
 use Rattle.pc_rules.specs.declared.broken.Broken.TheVariants.{NotBelow}
@@ -19,13 +20,13 @@ use Rattle.pc_rules.specs.Same.{same, same_numbers, same_families}
 use Rattle.pc_rules.specs.DirectedRun as run
 use Rattle.pc_rules.specs.DirectedRun.{Run, Act, done, refused, too_nested, passing, any_beyond, ticked, ticking, bind, run_all}
 use Rattle.pc_rules.specs.DirectedWeakHead.{whnf, family_of}
-use Rattle.pc_rules.specs.DirectedComparison.{Test, IsTest, sort_below, sorts_stand, Comparison, list_of, names_of, alike, each_equal, entering, branches_equal, matches_equal, lifted_types, fixpoints_equal, heads_equal, spines_equal, pair, entered, compare}
+use Rattle.pc_rules.specs.DirectedComparison.{Test, IsTest, sort_below, sorts_stand, Comparison, list_of, alike, each_equal, entering, branches_equal, matches_equal, lifted_types, fixpoints_equal, heads_equal, spines_equal, pair, entered, compare}
+use Rattle.pc_rules.specs.WellCounted.{arities, IsCounted, AreCounted, HasCountedDeclarations, AreCountedValues, IsCountedNode}
 use Rattle.pc_rules.proofs.WeakNext.{same_names_is, same_families_is, spine_is}
 use Rattle.pc_rules.proofs.SameTrees.{same_is}
 use Rattle.pc_rules.proofs.WeakHead.{weak_equal}
 use Rattle.pc_rules.proofs.FairReduction.{steps_lead}
 use Rattle.pc_rules.proofs.Congruence.{equal_products, equal_lambdas, equal_applications, equal_matches, equal_fixpoints}
-use Rattle.rule_laws.specs.WellCounted.{AreAll, arities, WellCounted, AllWellCounted, EnvWellCounted, ValuesWellCounted, EachTerm, FormedAndCounts}
 use Rattle.rule_laws.specs.Comparison.{Compares}
 use Rattle.rule_laws.proofs.Runs.{bind_both, ticking_done, if_done, tested, nested_done, run_both, both_true, false_true, same_numbers_is}
 use Rattle.rule_laws.proofs.Counted.{head_counted, args_counted, list_counted}
@@ -35,7 +36,7 @@ pub entries_long : (s : ℕ → Term) (As : List Term) → length (entries_at s 
 entries_long s [] = refl
 entries_long s (A ∷ As) = ap suc (entries_long _ As)
 
-pub names_long : (ts : Terms) → length (names_of ts) ≡ number ts
+pub names_long : (ts : Terms) → length (binders_of ts) ≡ number ts
 names_long Done = refl
 names_long (Next n t ts) = ap suc (names_long ts)
 
@@ -89,7 +90,7 @@ module _ (E : Env) where
       (subst (λ x. EqualTerms E V (Next n t ts) (Next x t' ts')) (sym e') (conversion.next p h))
 
   -- terms that are all under n variables
-  all_equal : (V : Values) (n : ℕ) (ts us : Terms) → AreAll n (names_of ts) → AreAll n (names_of us) → EachEqual (under n V) (list_of ts) (list_of us) →
+  all_equal : (V : Values) (n : ℕ) (ts us : Terms) → AreAll n (binders_of ts) → AreAll n (binders_of us) → EachEqual (under n V) (list_of ts) (list_of us) →
       EqualTerms E V ts us
   all_equal V n Done Done a b h = conversion.done
   all_equal V n (Next m t ts) (Next m' u us) a b h = next_equal V n m m' t u ts us a.0 b.0 h.0 (all_equal V n ts us a.1 b.1 h.1)
@@ -102,8 +103,8 @@ module _ (E : Env) where
   pub whnf_equal : (V : Values) (a x : Term) (u v : Account) → (whnf E V a u).end ≡ run.Done x v → Equal E V a x
   whnf_equal V a x u v h = weak_equal (steps_lead E V u.left a x u v h)
 
-  pub whnf_counted : EnvWellCounted E → (V : Values) → ValuesWellCounted E V → (a x : Term) (u v : Account) → WellCounted E a →
-      (whnf E V a u).end ≡ run.Done x v → WellCounted E x
+  pub whnf_counted : HasCountedDeclarations E → (V : Values) → AreCountedValues E V → (a x : Term) (u v : Account) → IsCounted E a →
+      (whnf E V a u).end ≡ run.Done x v → IsCounted E x
   whnf_counted w V k a x u v c h = steps_counted E w k (steps_lead E V u.left a x u v h) c
 
   pub weaker : (equal : Bool) (V : Values) (a b : Term) → Equal E V a b → Compares E equal V a b
@@ -114,15 +115,15 @@ module _ (E : Env) where
   around true V a b x y p q h = chain p (chain h (back q))
   around false V a b x y p q h = Below.chain (of_equal p) (Below.chain h (of_equal (back q)))
 
-  extended_counted : (c : Context) (As : List Term) → ValuesWellCounted E (values c) → ValuesWellCounted E (values (extend c As))
-  extended_counted c As h = subst (λ V. ValuesWellCounted E V) (sym (values_extended E c As)) (under_counted E (length As) (values c) h)
+  extended_counted : (c : Context) (As : List Term) → AreCountedValues E (values c) → AreCountedValues E (values (extend c As))
+  extended_counted c As h = subst (λ V. AreCountedValues E V) (sym (values_extended E c As)) (under_counted E (length As) (values c) h)
 
   -- a comparison that has been found sound
   abbrev pub IsSound : Comparison → Type 0
-  IsSound cmp = (c : Context) (equal : Bool) (a b : Term) (u v : Account) → ValuesWellCounted E (values c) → WellCounted E a → WellCounted E b →
+  IsSound cmp = (c : Context) (equal : Bool) (a b : Term) (u v : Account) → AreCountedValues E (values c) → IsCounted E a → IsCounted E b →
       (cmp c equal a b u).end ≡ run.Done tt v → Compares E equal (values c) a b
 
-  each_sound : (cmp : Comparison) → IsSound cmp → (c : Context) → ValuesWellCounted E (values c) → (ts us : List Term) (u v : Account) → length ts ≡ length us → AllWellCounted E ts → AllWellCounted E us →
+  each_sound : (cmp : Comparison) → IsSound cmp → (c : Context) → AreCountedValues E (values c) → (ts us : List Term) (u v : Account) → length ts ≡ length us → AreCounted E ts → AreCounted E us →
       (run_all (each_equal cmp c ts us) u).end ≡ run.Done tt v → EachEqual (values c) ts us
   each_sound cmp sound c vs [] [] u v l h k e = tt
   each_sound cmp sound c vs [] (y ∷ us) u v l h k e = no_suc (sym l)
@@ -131,17 +132,17 @@ module _ (E : Env) where
       let r = run_both (λ u. cmp c true x y u) (each_equal cmp c ts us) u v e in
       (sound c true x y u r.0 vs h.0 k.0 r.1, each_sound cmp sound c vs ts us r.0 v (omega arith) h.1 k.1 r.2)
 
-  module _ (cmp : Comparison) (sound : IsSound cmp) (c : Context) (vs : ValuesWellCounted E (values c)) where
+  module _ (cmp : Comparison) (sound : IsSound cmp) (c : Context) (vs : AreCountedValues E (values c)) where
     -- what is under a telescope's entries
-    entering_sound : (As : List Term) (n : ℕ) (a b : Term) (u v : Account) → length As ≡ n → WellCounted E a → WellCounted E b →
+    entering_sound : (As : List Term) (n : ℕ) (a b : Term) (u v : Account) → length As ≡ n → IsCounted E a → IsCounted E b →
         (entering c As (λ d. cmp d true a b) u).end ≡ run.Done tt v → Equal E (under n (values c)) a b
     entering_sound As n a b u v l h k e =
         let p = bind_both (passing (any_beyond As) u) (λ _ w. cmp (extend c As) true a b w) tt v e in
         subst (λ V. Equal E V a b) (values_extended E c As ∙ ap (λ m. under m (values c)) l)
         (sound (extend c As) true a b p.1 v (extended_counted c As vs) h k p.3)
 
-    branches_sound : (ps : List Term) (Cs : List Constructor) (bs bs' : Terms) (u v : Account) → names_of bs ≡ arities Cs → names_of bs' ≡ arities Cs →
-        EachTerm (FormedAndCounts E) bs → EachTerm (FormedAndCounts E) bs' →
+    branches_sound : (ps : List Term) (Cs : List Constructor) (bs bs' : Terms) (u v : Account) → binders_of bs ≡ arities Cs → binders_of bs' ≡ arities Cs →
+        EachTerm (IsCountedNode E) bs → EachTerm (IsCountedNode E) bs' →
         (run_all (branches_equal cmp c ps Cs (list_of bs) (list_of bs')) u).end ≡ run.Done tt v → EqualTerms E (values c) bs bs'
     branches_sound ps [] Done Done u v n n' h h' e = conversion.done
     branches_sound ps [] (Next m t ts) bs' u v n n' h h' e = no_cons n
@@ -154,9 +155,9 @@ module _ (E : Env) where
         (entering_sound (branch_entries C ps) (length C.args) t t' u r.0 (entries_long _ C.args) h.0 h'.0 r.1)
         (branches_sound ps Cs ts ts' r.0 v (rest_same n) (rest_same n') h.1 h'.1 r.2)
 
-    matches_sound : (f : FamilyId) (F : FamilyDecl) (n : ℕ) (ps qs bs bs' : Terms) (ret ret' s s' : Term) (u v : Account) → WellCounted E (Case f ps n ret s bs) →
-        family_of E f ≡ Some F → n ≡ suc (length F.indices) → names_of bs ≡ arities F.constructors → names_of bs' ≡ arities F.constructors → AreAll 0 (names_of ps) →
-        AreAll 0 (names_of qs) → number ps ≡ number qs → AllWellCounted E (list_of qs) → WellCounted E ret' → WellCounted E s' → EachTerm (FormedAndCounts E) bs' →
+    matches_sound : (f : FamilyId) (F : FamilyDecl) (n : ℕ) (ps qs bs bs' : Terms) (ret ret' s s' : Term) (u v : Account) → IsCounted E (Case f ps n ret s bs) →
+        family_of E f ≡ Some F → n ≡ suc (length F.indices) → binders_of bs ≡ arities F.constructors → binders_of bs' ≡ arities F.constructors → AreAll 0 (binders_of ps) →
+        AreAll 0 (binders_of qs) → number ps ≡ number qs → AreCounted E (list_of qs) → IsCounted E ret' → IsCounted E s' → EachTerm (IsCountedNode E) bs' →
         (matches_equal cmp c f (family_of E f) ps ret s bs qs ret' s' bs' u).end ≡ run.Done tt v → Equal E (values c) (Case f ps n ret s bs) (Case f qs n ret' s' bs')
     matches_sound f F n ps qs bs bs' ret ret' s s' u v h ef en eb eb' ap' aq el kq kr ks kb e =
         let e1 : (matches_equal cmp c f (Some F) ps ret s bs qs ret' s' bs' u).end ≡ run.Done tt v =
@@ -176,28 +177,28 @@ module _ (E : Env) where
         (branches_sound (list_of ps) F.constructors bs bs' p3.1 v eb eb' h.1.1.1.1.0 kb p3.3)
 
     case_sound : (f g : FamilyId) (n m : ℕ) (ps qs bs bs' : Terms) (ret ret' s s' : Term) (u v : Account) →
-        WellCounted E (Case f ps n ret s bs) → WellCounted E (Case g qs m ret' s' bs') → alike (Case f ps n ret s bs) (Case g qs m ret' s' bs') ≡ true →
+        IsCounted E (Case f ps n ret s bs) → IsCounted E (Case g qs m ret' s' bs') → alike (Case f ps n ret s bs) (Case g qs m ret' s' bs') ≡ true →
         (matches_equal cmp c f (family_of E f) ps ret s bs qs ret' s' bs' u).end ≡ run.Done tt v → Equal E (values c) (Case f ps n ret s bs) (Case g qs m ret' s' bs')
     case_sound f g n m ps qs bs bs' ret ret' s s' u v h k t e =
         let t1 = both_true (same_families f g) _ t in
         let t2 = both_true (number ps == number qs) _ t1.1 in
-        let t3 = both_true (n == m) (same_numbers (names_of bs) (names_of bs')) t2.1 in
-        let names = same_numbers_is (names_of bs) (names_of bs') t3.1 in
+        let t3 = both_true (n == m) (same_numbers (binders_of bs) (binders_of bs')) t2.1 in
+        let names = same_numbers_is (binders_of bs) (binders_of bs') t3.1 in
         let fits = h.0.1 in
         subst (λ x. Equal E (values c) (Case f ps n ret s bs) (Case x qs m ret' s' bs')) (same_families_is f g t1.0)
         (subst (λ x. Equal E (values c) (Case f ps n ret s bs) (Case f qs x ret' s' bs')) (eqb-true n m t3.0)
-        (matches_sound f fits.0 n ps qs bs bs' ret ret' s s' u v h fits.1 fits.3 fits.4 (sym names ∙ fits.4) h.0.0 k.0.0 (eqb-true (number ps) (number qs) t2.0)
+        (matches_sound f fits.0 n ps qs bs bs' ret ret' s s' u v h fits.1 fits.3 fits.4 (sym names ∙ fits.4) h.0.0.0 k.0.0.0 (eqb-true (number ps) (number qs) t2.0)
         (list_counted E qs k.1.0) k.1.1.0 k.1.1.1.0 k.1.1.1.1.0 e))
 
     fix_sound : (i j : ℕ) (rargs rargs' : List ℕ) (types bodies types' bodies' : Terms) (u v : Account) →
-        WellCounted E (Fix i rargs types bodies) → WellCounted E (Fix j rargs' types' bodies') → alike (Fix i rargs types bodies) (Fix j rargs' types' bodies') ≡ true →
+        IsCounted E (Fix i rargs types bodies) → IsCounted E (Fix j rargs' types' bodies') → alike (Fix i rargs types bodies) (Fix j rargs' types' bodies') ≡ true →
         (fixpoints_equal cmp c types bodies types' bodies' u).end ≡ run.Done tt v → Equal E (values c) (Fix i rargs types bodies) (Fix j rargs' types' bodies')
     fix_sound i j rargs rargs' types bodies types' bodies' u v h k t e =
         let t1 = both_true (i == j) (same_numbers rargs rargs') t in
         let rs : rargs ≡ rargs' = same_numbers_is rargs rargs' t1.1 in
         let n : ℕ = length rargs in
-        let a = h.0.0 in
-        let b = k.0.0 in
+        let a = h.0.0.0 in
+        let b = k.0.0.0 in
         let long : length (lifted_types 0 (list_of types)) ≡ n = lifted_long 0 (list_of types) ∙ list_long types ∙ sym (names_long types) ∙ a.0 in
         let D : Context = extend c (lifted_types 0 (list_of types)) in
         let k1 : Unit {0} → Account → Run (Unit {0}) =
@@ -217,9 +218,9 @@ module _ (E : Env) where
         subst (λ x. Equal E (values c) (Fix i rargs types bodies) (Fix x rargs' types' bodies')) (eqb-true i j t1.0)
         (subst (λ x. Equal E (values c) (Fix i rargs types bodies) (Fix i x types' bodies')) rs
         (equal_fixpoints E (values c) i rargs types types' bodies bodies' (all_equal (values c) 0 types types' a.1 b.1 same_types)
-        (all_equal (values c) n bodies bodies' a.3 (subst (λ x. AreAll (length x) (names_of bodies')) (sym rs) b.3) same_bodies)))
+        (all_equal (values c) n bodies bodies' a.3 (subst (λ x. AreAll (length x) (binders_of bodies')) (sym rs) b.3) same_bodies)))
 
-    heads_sound : (a b : Term) (u v : Account) → WellCounted E a → WellCounted E b → alike a b ≡ true → (heads_equal E cmp c a b u).end ≡ run.Done tt v →
+    heads_sound : (a b : Term) (u v : Account) → IsCounted E a → IsCounted E b → alike a b ≡ true → (heads_equal E cmp c a b u).end ≡ run.Done tt v →
         Equal E (values c) a b
     heads_sound (Rel i) (Rel j) u v h k t e = subst (λ x. Equal E (values c) (Rel i) (Rel x)) (eqb-true i j t) the_same
     heads_sound (Const x) (Const y) u v h k t e = subst (λ z. Equal E (values c) (Const x) (Const z)) (same_names_is x y t) the_same
@@ -232,7 +233,7 @@ module _ (E : Env) where
     heads_sound (Fix i rargs types bodies) (Fix j rargs' types' bodies') u v h k t e = fix_sound i j rargs rargs' types bodies types' bodies' u v h k t e
     heads_sound a b u v h k t e = false_true t
 
-    spines_sound : (a b : Term) (u v : Account) → WellCounted E a → WellCounted E b → (spines_equal E cmp c a b u).end ≡ run.Done tt v → Equal E (values c) a b
+    spines_sound : (a b : Term) (u v : Account) → IsCounted E a → IsCounted E b → (spines_equal E cmp c a b u).end ≡ run.Done tt v → Equal E (values c) a b
     spines_sound a b u v h k e =
         let p = tested ((length (args a) == length (args b)) && alike (head a) (head b))
         (bind (heads_equal E cmp c (head a) (head b) u) (λ _ v. run_all (each_equal cmp c (args a) (args b)) v)) (NotBelow (ClashOfTerms a b)) u tt v e in
@@ -243,7 +244,7 @@ module _ (E : Env) where
         (heads_sound (head a) (head b) u p1.1 (head_counted E a h) (head_counted E b k) t.1 p1.2)
         (each_sound cmp sound c vs (args a) (args b) p1.1 v (eqb-true (length (args a)) (length (args b)) t.0) (args_counted E a h) (args_counted E b k) p1.3)))
 
-  module _ (q : Test) (test : IsTest E.levels E.constraints q) (w : EnvWellCounted E) where
+  module _ (q : Test) (test : IsTest E.levels E.constraints q) (w : HasCountedDeclarations E) where
     pub entails : (s s' : Sort) → sort_below q s s' ≡ true → Entails E s s'
     entails Prop s' h = tt
     entails (Of x) Prop h = false_true h
@@ -257,8 +258,8 @@ module _ (E : Env) where
     products_sound true V A A' B B' p h = equal_products E V A A' B B' p h
     products_sound false V A A' B B' p h = product p h
 
-    pair_sound : (cmp : Comparison) → IsSound cmp → (c : Context) → ValuesWellCounted E (values c) → (equal : Bool) (a b : Term) (u v : Account) → WellCounted E a →
-        WellCounted E b → (pair E q cmp c equal a b u).end ≡ run.Done tt v → Compares E equal (values c) a b
+    pair_sound : (cmp : Comparison) → IsSound cmp → (c : Context) → AreCountedValues E (values c) → (equal : Bool) (a b : Term) (u v : Account) → IsCounted E a →
+        IsCounted E b → (pair E q cmp c equal a b u).end ≡ run.Done tt v → Compares E equal (values c) a b
     pair_sound cmp s c vs equal (SortT r) (SortT r') u v h k e =
         sorts_sound equal (values c) r r' (tested (sorts_stand q equal r r') (done tt u) (NotBelow (ClashOfSorts r r')) u tt v e).0
     pair_sound cmp s c vs equal (Prod A B) (Prod A' B') u v h k e =

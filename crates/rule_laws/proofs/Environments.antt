@@ -10,6 +10,7 @@ use Rattle.universe_levels.specs.declared.constraint.Constraint.{Constraint}
 use Rattle.universe_levels.specs.Consistency.{IsConsistent, AreOver}
 use Rattle.pc_terms.specs.declared.leaf.Name.{Name}
 use Rattle.pc_terms.specs.Syntax.{Term}
+use Rattle.pc_terms.specs.Formed.{IsFormed}
 use Rattle.universe_levels.specs.declared.sort.Sort.{Sort}
 use Rattle.pc_rules.specs.declared.declaration.Block.{Block}
 use Rattle.pc_rules.specs.declared.declaration.Kept.{Kept}
@@ -27,7 +28,7 @@ use Rattle.pc_rules.specs.DirectedWeakHead.{kept_at}
 use Rattle.pc_rules.specs.DirectedComparison.{Test, IsTest, compare}
 use Rattle.pc_rules.specs.DirectedTyping.{infer, sort_of}
 use Rattle.pc_rules.specs.DirectedDeclarations.{block_rule, body_rule, constant_rule, fresh_name, Given, GivenConstant, GivenBlock, declaration_rule, Outcome, Accepts, Breaks, Checked, placed_end, placed, has_level, first_repeated, undeclared_end, first_end, first_undeclared_end, declarations_rule, graph_rule, constraints_rule, levels_rule, environment_rule}
-use Rattle.rule_laws.specs.WellCounted.{Formed, BodyWellCounted, EnvWellCounted}
+use Rattle.pc_rules.specs.WellCounted.{IsCountedBody, HasCountedDeclarations}
 use Rattle.rule_laws.specs.Declarations.{plain, plain_given, IsCheckedDeclaration, IsCheckedEnvironment, BodyFormed, GivenFormed, AllGivenFormed}
 use Rattle.rule_laws.proofs.Runs.{bind_both, refused_done, done_value}
 use Rattle.rule_laws.proofs.Comparing.{compare_sound}
@@ -47,20 +48,20 @@ name_is_new (Some d) k u v h = absurd (refused_done h)
 
 module _ (levels : ℕ) (cs : List Constraint) (q : Test) (test : IsTest levels cs q) where
   abbrev pub AcceptedSoFar : List Kept → Type 0
-  AcceptedSoFar ds = Accepted levels cs ds × EnvWellCounted (env levels cs ds)
+  AcceptedSoFar ds = Accepted levels cs ds × HasCountedDeclarations (env levels cs ds)
 
   record BodyIs (E : Env) (T : Term) (b : Option Term) : Type 0 where
     fits : BodyFits E T b
-    all : BodyWellCounted E b
+    all : IsCountedBody E b
 
-  body_sound : (E : Env) → IsTest E.levels E.constraints q → EnvWellCounted E → (n : ℕ) (T : Term) (b : Option Term) (u v : Account) → Formed T → BodyFormed b →
+  body_sound : (E : Env) → IsTest E.levels E.constraints q → HasCountedDeclarations E → (n : ℕ) (T : Term) (b : Option Term) (u v : Account) → IsFormed T → BodyFormed b →
       (body_rule E (infer E q n) (compare E q n) T b u).end ≡ run.Done tt v → BodyIs E T b
   body_sound E t w n T None u v fT fb h = record { fits = tt; all = tt }
   body_sound E t w n T (Some b) u v fT fb h =
       let c = check_sound E w (infer E q n) (infer_sound E w q t n) (compare E q n) (compare_sound E q t w n) [] b T u v tt fb fT h in
       record { fits = c.0; all = c.1 }
 
-  constant_sound : (ds : List Kept) → AcceptedSoFar ds → (n : ℕ) (k : Name) (T : Term) (b : Option Term) (e : Kept) (u v : Account) → IsFresh k ds → Formed T → BodyFormed b →
+  constant_sound : (ds : List Kept) → AcceptedSoFar ds → (n : ℕ) (k : Name) (T : Term) (b : Option Term) (e : Kept) (u v : Account) → IsFresh k ds → IsFormed T → BodyFormed b →
       (constant_rule (env levels cs ds) q n k T b u).end ≡ run.Done e v → IsCheckedDeclaration levels cs ds (GivenConstant k T b) e
   constant_sound ds a n k T b e u v fresh fT fb h =
       let E : Env = env levels cs ds in
@@ -138,12 +139,12 @@ module _ (levels : ℕ) (cs : List Constraint) (q : Test) (test : IsTest levels 
     pub kept : List Kept
     pub is : env levels cs kept ≡ E
     pub accepted : Accepted levels cs kept
-    pub counted : EnvWellCounted (env levels cs kept)
+    pub counted : HasCountedDeclarations (env levels cs kept)
     pub typed : Types guarded (env levels cs kept) [] main T
     pub same : map plain kept ≡ reverse (map plain_given rest) ++ map plain ds
 
-  pub declarations_sound : (n i : ℕ) (ds : List Kept) (rest : List Given) (main T : Term) (E : Env) (u v : Account) → Accepted levels cs ds → EnvWellCounted (env levels cs ds) →
-      AllGivenFormed rest → Formed main → (declarations_rule levels cs q n i ds rest main u).outcome ≡ Accepts E T v → IsEnd ds rest main E T
+  pub declarations_sound : (n i : ℕ) (ds : List Kept) (rest : List Given) (main T : Term) (E : Env) (u v : Account) → Accepted levels cs ds → HasCountedDeclarations (env levels cs ds) →
+      AllGivenFormed rest → IsFormed main → (declarations_rule levels cs q n i ds rest main u).outcome ≡ Accepts E T v → IsEnd ds rest main E T
   unfolding declarations_rule
   declarations_sound n i ds [] main T E u v a w fs fm h =
       let D : Env = env levels cs ds in
@@ -211,6 +212,9 @@ all_pairs : (ls : List Level) → Distinct ls → AllPairs (λ k l. k ≢ l) ls
 all_pairs [] h = λ i j d lt within. absurd (omega arith)
 all_pairs (l ∷ ls) h = AllPairs-cons (λ k l. k ≢ l) l ls (all_differ l ls h.0) (all_pairs ls h.1)
 
+pub distinct_levels : (ls : List Level) → first_repeated 0 [] ls ≡ None → AllPairs (λ k l. k ≢ l) ls
+distinct_levels ls h = all_pairs ls (are_new 0 [] ls h).0
+
 ends_declared : (n : ℕ) (c : Constraint) (a b : Bool) → nat_le c.left.0 n ≡ a → nat_le c.right.0 n ≡ b →
     (if a then (if b then None else Some c.right) else Some c.left) ≡ None → (c.left.0 ≤ n) × (c.right.0 ≤ n)
 ends_declared n c true true p q h = (leb-true c.left.0 n p, leb-true c.right.0 n q)
@@ -221,7 +225,7 @@ both_none : (i : ℕ) (o : Option Level) (rest : Option (ℕ × Level)) → firs
 both_none i None rest h = (refl, h)
 both_none i (Some l) rest h = absurd (none_some h)
 
-are_over : (n i : ℕ) (cs : List Constraint) → first_undeclared_end n i cs ≡ None → AreOver n cs
+pub are_over : (n i : ℕ) (cs : List Constraint) → first_undeclared_end n i cs ≡ None → AreOver n cs
 are_over n i [] h = All-nil (λ c. (c.left.0 ≤ n) × (c.right.0 ≤ n))
 are_over n i (c ∷ cs) h =
     let r = both_none i (undeclared_end n c) (first_undeclared_end n (suc i) cs) h in
@@ -244,11 +248,11 @@ graph_passed : (o : Option (List ℕ)) (go : Checked) (u : Account) (E : Env) (T
 graph_passed None go u E T v h = (refl, h)
 graph_passed (Some is) go u E T v h = absurd (breaks_accepts h)
 
-pub nothing_counted : (levels : ℕ) (cs : List Constraint) → EnvWellCounted (env levels cs [])
+pub nothing_counted : (levels : ℕ) (cs : List Constraint) → HasCountedDeclarations (env levels cs [])
 nothing_counted levels cs d h = elim h [ ]
 
 pub environment_sound : (levels : List Level) (cs : List Constraint) (cycle : Option (List ℕ)) (q : Test) → IsTest (length levels) cs q →
-    (cycle ≡ None → IsConsistent (length levels) cs) → (n : ℕ) (ds : List Given) (main T : Term) (E : Env) (u v : Account) → AllGivenFormed ds → Formed main →
+    (cycle ≡ None → IsConsistent (length levels) cs) → (n : ℕ) (ds : List Given) (main T : Term) (E : Env) (u v : Account) → AllGivenFormed ds → IsFormed main →
     (environment_rule levels cs cycle q n ds main u).outcome ≡ Accepts E T v → IsCheckedEnvironment levels cs ds main E T
 environment_sound levels cs cycle q test consistent k ds main T E u v fs fm h =
     let n : ℕ = length levels in
@@ -261,10 +265,10 @@ environment_sound levels cs cycle q test consistent k ds main T E u v fs fm h =
     let end = declarations_sound n cs q test k 0 [] ds main T E u v empty (nothing_counted n cs) fs fm p3.1 in
     let D : Env = env n cs end.kept in
     let formed : IsWellFormed levels D main T = record {
-      distinct = all_pairs levels (are_new 0 [] levels p1.0).0;
+      distinct = distinct_levels levels p1.0;
       count = refl;
       accepted = record { over = are_over n 0 cs p2.0; consistent = consistent p3.0; declarations = end.accepted };
       typed = end.typed;
     } in
     subst (λ E. IsCheckedEnvironment levels cs ds main E T) end.is
-    (record { formed = formed; counted = end.counted; constraints = refl; declarations = end.same ∙ append-nil (reverse (map plain_given ds)) })
+    (record { formed = formed; counted = record { constraints = are_over n 0 cs p2.0; declarations = end.counted }; constraints = refl; declarations = end.same ∙ append-nil (reverse (map plain_given ds)) })

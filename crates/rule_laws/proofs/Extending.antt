@@ -3,6 +3,7 @@ use Rattle.std.proofs.Common.{◌≡◌, ℕ, Bool, true, false, if◌then◌els
 use Rattle.universe_levels.specs.declared.sort.Sort.{Sort}
 use Rattle.universe_levels.specs.Consistency.{IsSortOver}
 use Rattle.universe_levels.specs.declared.constraint.Constraint.{Constraint}
+use Rattle.trees.proofs.Shape.{each_weaker}
 use Rattle.pc_terms.specs.declared.leaf.Name.{Name}
 use Rattle.pc_terms.specs.declared.leaf.FamilyId.{FamilyId}
 use Rattle.pc_terms.specs.Syntax.{Label, SortOf, CaseOf, Term}
@@ -15,9 +16,8 @@ use Rattle.pc_rules.specs.Environment.{Env, FamilyDecl, here, there, name_of, fa
 use Rattle.pc_rules.specs.Accepted.{IsFresh, env}
 use Rattle.pc_rules.specs.Same.{same_names}
 use Rattle.pc_rules.specs.DirectedWeakHead.{if_some, kept_at, whole_block, family_of}
+use Rattle.pc_rules.specs.WellCounted.{AreSortsOver, IsCountedNode, HasCounts, IsCounted, AreCounted, AreCountedConstructors, AreCountedFamilies, IsCountedBlock, IsCountedBody, IsCountedKept, HasCountedDeclarations}
 use Rattle.pc_rules.proofs.WeakNext.{same_names_is, kept_is}
-use Rattle.rule_laws.specs.WellCounted.{SortsOver, FormedAndCounts, Counts, WellCounted, AllWellCounted, ConstructorsWellCounted, FamiliesWellCounted, BlockWellCounted, BodyWellCounted, KeptWellCounted, EnvWellCounted}
-use Rattle.rule_laws.proofs.Counted.{each_weaker}
 use Rattle.rule_laws.proofs.Names.{kept_there}
 
 none_some : {A : Type 0} {x : A} → None ≡ Some x → ⊥
@@ -32,37 +32,37 @@ module _ (E H : Env) (finds : FindsAs E H) where
   sort_more : (s : Sort) → IsSortOver E.levels s → IsSortOver H.levels s
   sort_more s h = subst (λ n. IsSortOver n s) finds.levels h
 
-  sorts_more : (ss : List Sort) → SortsOver E.levels ss → SortsOver H.levels ss
-  sorts_more ss h = subst (λ n. SortsOver n ss) finds.levels h
+  sorts_more : (ss : List Sort) → AreSortsOver E.levels ss → AreSortsOver H.levels ss
+  sorts_more ss h = subst (λ n. AreSortsOver n ss) finds.levels h
 
-  counts_more : (l : Label) (gs : List (List ℕ)) → Counts E l gs → Counts H l gs
+  counts_more : (l : Label) (gs : List (List ℕ)) → HasCounts E l gs → HasCounts H l gs
   counts_more (CaseOf f n) (ps ∷ bs ∷ gs) h = (h.0, finds.families f h.0 h.1, h.2, h.3, h.4)
   counts_more (SortOf s) gs h = sort_more s h
   counts_more l gs h = tt
 
-  pub counted_more : (t : Term) → WellCounted E t → WellCounted H t
-  counted_more t h = each_weaker (FormedAndCounts E) (FormedAndCounts H) (λ l gs h. (h.0, counts_more l gs h.1)) t h
+  pub counted_more : (t : Term) → IsCounted E t → IsCounted H t
+  counted_more t h = each_weaker (IsCountedNode E) (IsCountedNode H) (λ l gs h. (h.0, counts_more l gs h.1)) t h
 
-  pub all_more : (ts : List Term) → AllWellCounted E ts → AllWellCounted H ts
+  pub all_more : (ts : List Term) → AreCounted E ts → AreCounted H ts
   all_more [] h = tt
   all_more (t ∷ ts) h = (counted_more t h.0, all_more ts h.1)
 
-  pub constructors_more : (Cs : List Constructor) → ConstructorsWellCounted E Cs → ConstructorsWellCounted H Cs
+  pub constructors_more : (Cs : List Constructor) → AreCountedConstructors E Cs → AreCountedConstructors H Cs
   constructors_more [] h = tt
   constructors_more (C ∷ Cs) h = ((all_more C.args h.0.0, all_more C.result h.0.1, sorts_more C.arg_sorts h.0.2), constructors_more Cs h.1)
 
-  families_more : (Fs : List Family) → FamiliesWellCounted E Fs → FamiliesWellCounted H Fs
+  families_more : (Fs : List Family) → AreCountedFamilies E Fs → AreCountedFamilies H Fs
   families_more [] h = tt
   families_more (F ∷ Fs) h = ((all_more F.indices h.0.0, constructors_more F.ctors h.0.1, sort_more F.sort h.0.2), families_more Fs h.1)
 
-  pub block_more : (B : Block) → BlockWellCounted E B → BlockWellCounted H B
+  pub block_more : (B : Block) → IsCountedBlock E B → IsCountedBlock H B
   block_more B h = (all_more B.params h.0, families_more B.families h.1)
 
-  pub body_more : (b : Option Term) → BodyWellCounted E b → BodyWellCounted H b
+  pub body_more : (b : Option Term) → IsCountedBody E b → IsCountedBody H b
   body_more None h = tt
   body_more (Some b) h = counted_more b h
 
-  pub kept_more : (d : Kept) → KeptWellCounted E d → KeptWellCounted H d
+  pub kept_more : (d : Kept) → IsCountedKept E d → IsCountedKept H d
   kept_more (Constant k T b) h = (counted_more T h.0, body_more b h.1)
   kept_more (Heads B) h = block_more B h
   kept_more (Whole B) h = block_more B h
@@ -76,7 +76,7 @@ fresh_from ds k e d h p =
 pub fresh_is : (ds : List Kept) (k : Name) → kept_at ds k ≡ None → IsFresh k ds
 fresh_is = fresh_from
 
-not_found : (ds : List Kept) (k : Name) (o : Option Kept) → IsFresh k ds → kept_at ds k ≡ o → o ≡ None
+pub not_found : (ds : List Kept) (k : Name) (o : Option Kept) → IsFresh k ds → kept_at ds k ≡ o → o ≡ None
 not_found ds k None f e = refl
 not_found ds k (Some d) f e = let r = kept_is ds k d e in absurd (f d r.0 r.1)
 
@@ -109,7 +109,7 @@ finds_without levels cs ds B = record {
 }
 
 -- one more well-counted declaration
-pub env_more : (levels : ℕ) (cs : List Constraint) (ds : List Kept) (x : Kept) → IsFresh (name_of x) ds → EnvWellCounted (env levels cs ds) →
-    KeptWellCounted (env levels cs ds) x → EnvWellCounted (env levels cs (x ∷ ds))
+pub env_more : (levels : ℕ) (cs : List Constraint) (ds : List Kept) (x : Kept) → IsFresh (name_of x) ds → HasCountedDeclarations (env levels cs ds) →
+    IsCountedKept (env levels cs ds) x → HasCountedDeclarations (env levels cs (x ∷ ds))
 env_more levels cs ds x fresh w h d here = kept_more (env levels cs ds) (env levels cs (x ∷ ds)) (finds_more levels cs ds x fresh) x h
 env_more levels cs ds x fresh w h d (there k) = kept_more (env levels cs ds) (env levels cs (x ∷ ds)) (finds_more levels cs ds x fresh) d (w d k)

@@ -1,7 +1,9 @@
 -- Rule 11 of inference, of fixpoints, gives types.
 use Rattle.std.proofs.Common.{◌≡◌, ℕ, zero, suc, ◌+◌, true, List, [], ◌∷◌, length, Option, Some, None, refl, sym, ap, ◌∙◌, subst, arith}
+use Rattle.trees.proofs.Shape.{each_renamed}
 use Rattle.pc_terms.specs.declared.leaf.FamilyId.{FamilyId}
 use Rattle.pc_terms.specs.Syntax.{Term, Terms, Done, Next, Lambda, Ind, Fix, shift, apply, head, args, term_at}
+use Rattle.pc_terms.specs.Formed.{binders_of, EachTerm, AreAll, HasForm, IsFormed}
 use Rattle.pc_rules.specs.declared.entry.Entry.TheVariants.{Assumed}
 use Rattle.pc_rules.specs.declared.broken.Broken.TheVariants.{RecArgNotInductive}
 use Rattle.pc_rules.specs.declared.meter.Account.{Account}
@@ -14,16 +16,16 @@ use Rattle.pc_rules.specs.Typing.{guarded, Types, fix, Recurses, recurses_here, 
 use Rattle.pc_rules.specs.DirectedRun as run
 use Rattle.pc_rules.specs.DirectedRun.{Run, done, make, bind}
 use Rattle.pc_rules.specs.DirectedWeakHead.{whnf}
-use Rattle.pc_rules.specs.DirectedComparison.{Comparison, list_of, names_of}
+use Rattle.pc_rules.specs.DirectedComparison.{Comparison, list_of}
 use Rattle.pc_rules.specs.DirectedGuard.{fix_guard}
 use Rattle.pc_rules.specs.DirectedTyping.{Typing, sort_of, check, types_rule, recursive_domain, enough_abstractions, is_a_family, family_found, definition_rule, definitions_rule, definition_type, fix_rule}
 use Rattle.pc_rules.proofs.Spines.{one_item}
 use Rattle.pc_rules.proofs.WeakNext.{spine_is}
-use Rattle.rule_laws.specs.WellCounted.{IsFormed, Formed, FormedAndCounts, EachTerm, AreAll, WellCounted, EnvWellCounted, ContextWellCounted}
-use Rattle.rule_laws.specs.Guard.{BeginsWith, AllBegin}
+use Rattle.pc_rules.specs.FixConditions.{BeginsWith, HaveLambdas}
+use Rattle.pc_rules.specs.WellCounted.{IsCountedNode, IsCounted, HasCountedDeclarations, IsCountedContext}
 use Rattle.rule_laws.specs.Inference.{IsInferred}
 use Rattle.rule_laws.proofs.Runs.{bind_both, tested, refused_done, done_value, make_then, false_true}
-use Rattle.rule_laws.proofs.Counted.{each_renamed, shifted_counted, before_shift, term_counted}
+use Rattle.rule_laws.proofs.Counted.{shifted_counted, before_shift, term_counted}
 use Rattle.rule_laws.proofs.KeepCounts.{values_counted}
 use Rattle.rule_laws.proofs.Comparing.{IsSound, names_long, whnf_equal}
 use Rattle.rule_laws.proofs.SimpleRules.{Infers, formed, sort_sound, check_sound}
@@ -34,7 +36,7 @@ none_some e = cc
 
 -- the recursive argument's domain
 
-begins : (c : Context) (r : ℕ) (t : Term) (p : Context × Term) → recursive_domain c r t ≡ Some p → BeginsWith r t
+begins : (c : Context) (r : ℕ) (t : Term) (p : Context × Term) → recursive_domain c r t ≡ Some p → BeginsWith (suc r) t
 begins c zero (Lambda A b) p e = tt
 begins c (suc r) (Lambda A b) p e = begins (Assumed A ∷ c) r b p e
 begins c r t p e = absurd (none_some e)
@@ -58,25 +60,25 @@ named_type : (i n : ℕ) (o : Option (ℕ × Term)) (T : Term) (u v : Account) �
 named_type i n None T u v h = absurd (refused_done h)
 named_type i n (Some p) T u v h = (p.0, ap (λ X. Some (p.0, X)) (done_value h))
 
-name_at : (ts : Terms) (i m n : ℕ) (T : Term) → AreAll m (names_of ts) → term_at ts i ≡ Some (n, T) → n ≡ m
+name_at : (ts : Terms) (i m n : ℕ) (T : Term) → AreAll m (binders_of ts) → term_at ts i ≡ Some (n, T) → n ≡ m
 name_at Done i m n T h e = absurd (none_some e)
 name_at (Next k t ts) zero m n T h e = let q : (k, t) ≡ (n, T) = one_item e in (λ j. (sym q j).0) ∙ h.0
 name_at (Next k t ts) (suc i) m n T h e = name_at ts i m n T h.1 e
 
-shifted_formed : (n : ℕ) (T : Term) → Formed T → Formed (shift n 0 T)
-shifted_formed n T h = each_renamed IsFormed T (λ i. n + i) h
+shifted_formed : (n : ℕ) (T : Term) → IsFormed T → IsFormed (shift n 0 T)
+shifted_formed n T h = each_renamed HasForm T (λ i. n + i) h
 
-module _ (E : Env) (w : EnvWellCounted E) (inf : Typing) (si : Infers E inf) where
+module _ (E : Env) (w : HasCountedDeclarations E) (inf : Typing) (si : Infers E inf) where
   -- the types of the definitions
   pub record AreTypes (c : Context) (n : ℕ) (types : Terms) : Type 0 where
     pub sorts : Sorts guarded E c n types
-    pub all : EachTerm (FormedAndCounts E) types
-    pub context : ContextWellCounted E (definitions c n types)
+    pub all : EachTerm (IsCountedNode E) types
+    pub context : IsCountedContext E (definitions c n types)
 
   next_types : (c : Context) (n m : ℕ) (T : Term) (ts : Terms) → m ≡ 0 → AreTypes c n (Next 0 T ts) → AreTypes c n (Next m T ts)
   next_types c n m T ts e h = subst (λ m. AreTypes c n (Next m T ts)) (sym e) h
 
-  types_sound : (c : Context) (n : ℕ) (types : Terms) (u v : Account) → ContextWellCounted E c → AreAll 0 (names_of types) → EachTerm IsFormed types →
+  pub types_sound : (c : Context) (n : ℕ) (types : Terms) (u v : Account) → IsCountedContext E c → AreAll 0 (binders_of types) → EachTerm HasForm types →
       (types_rule E inf c n (list_of types) u).end ≡ run.Done tt v → AreTypes c n types
   unfolding types_rule
   types_sound c n Done u v k a f h = record { sorts = no_types; all = tt; context = k }
@@ -91,16 +93,16 @@ module _ (E : Env) (w : EnvWellCounted E) (inf : Typing) (si : Infers E inf) whe
   module _ (cmp : Comparison) (sc : IsSound E cmp) where
     pub record AreBodies (c : Context) (n : ℕ) (rargs : List ℕ) (types bodies : Terms) : Type 0 where
       pub typed : Bodies guarded E c n rargs types bodies
-      pub all : EachTerm (FormedAndCounts E) bodies
-      pub begin : AllBegin rargs bodies
+      pub all : EachTerm (IsCountedNode E) bodies
+      pub begin : HaveLambdas rargs bodies
 
     pub record IsDefinition (c : Context) (n rarg : ℕ) (T body : Term) : Type 0 where
       pub recursive : Recurses E (values c) rarg body
       pub typed : Types guarded E c body (shift n 0 T)
-      pub subject : WellCounted E body
-      pub begin : BeginsWith rarg body
+      pub subject : IsCounted E body
+      pub begin : BeginsWith (suc rarg) body
 
-    definition_sound : (c : Context) (n d rarg : ℕ) (T body : Term) (u v : Account) → ContextWellCounted E c → WellCounted E T → Formed body →
+    definition_sound : (c : Context) (n d rarg : ℕ) (T body : Term) (u v : Account) → IsCountedContext E c → IsCounted E T → IsFormed body →
         (definition_rule E inf cmp c n d rarg T body u).end ≡ run.Done tt v → IsDefinition c n rarg T body
     definition_sound c n d rarg T body u v k wT f h =
         let S : Term = shift n 0 T in
@@ -131,8 +133,8 @@ module _ (E : Env) (w : EnvWellCounted E) (inf : Typing) (si : Infers E inf) whe
         subst (λ m. AreBodies c n (r ∷ rargs) (Next m T ts) (Next m' body bs)) (sym e)
         (subst (λ m. AreBodies c n (r ∷ rargs) (Next 0 T ts) (Next m body bs)) (sym e') h)
 
-    bodies_sound : (c : Context) (n d : ℕ) (rargs : List ℕ) (types bodies : Terms) (u v : Account) → ContextWellCounted E c → AreAll 0 (names_of types) → AreAll n (names_of bodies) →
-        length (names_of types) ≡ length rargs → length (names_of bodies) ≡ length rargs → EachTerm (FormedAndCounts E) types → EachTerm IsFormed bodies →
+    pub bodies_sound : (c : Context) (n d : ℕ) (rargs : List ℕ) (types bodies : Terms) (u v : Account) → IsCountedContext E c → AreAll 0 (binders_of types) → AreAll n (binders_of bodies) →
+        length (binders_of types) ≡ length rargs → length (binders_of bodies) ≡ length rargs → EachTerm (IsCountedNode E) types → EachTerm HasForm bodies →
         (definitions_rule E inf cmp c n d rargs (list_of types) (list_of bodies) u).end ≡ run.Done tt v → AreBodies c n rargs types bodies
     unfolding definitions_rule
     bodies_sound c n d [] Done Done u v k a b l l' wt fb h = record { typed = no_bodies; all = tt; begin = tt }
@@ -147,8 +149,8 @@ module _ (E : Env) (w : EnvWellCounted E) (inf : Typing) (si : Infers E inf) whe
         next_bodies c n m m' r rargs T body ts bs a.0 b.0
         (record { typed = a_body one.recursive one.typed rest.typed; all = (one.subject, rest.all); begin = (one.begin, rest.begin) })
 
-    pub fix_rule_sound : (c : Context) (i : ℕ) (rargs : List ℕ) (types bodies : Terms) (T : Term) (u v : Account) → ContextWellCounted E c →
-        Formed (Fix i rargs types bodies) → (fix_rule E inf cmp c i rargs types bodies u).end ≡ run.Done T v → IsInferred E c (Fix i rargs types bodies) T
+    pub fix_rule_sound : (c : Context) (i : ℕ) (rargs : List ℕ) (types bodies : Terms) (T : Term) (u v : Account) → IsCountedContext E c →
+        IsFormed (Fix i rargs types bodies) → (fix_rule E inf cmp c i rargs types bodies u).end ≡ run.Done T v → IsInferred E c (Fix i rargs types bodies) T
     fix_rule_sound c i rargs types bodies T u v k ff h =
         let D : Context = definitions c 0 types in
         let n : ℕ = length rargs in
@@ -158,15 +160,15 @@ module _ (E : Env) (w : EnvWellCounted E) (inf : Typing) (si : Infers E inf) whe
         let p1 = bind_both (types_rule E inf c 0 (list_of types) u) k1 T v h in
         let p2 = bind_both (definitions_rule E inf cmp D n 0 rargs (list_of types) (list_of bodies) p1.1) k2 T v p1.3 in
         let p3 = bind_both (fix_guard E (values c) rargs bodies p2.1) k3 T v p2.3 in
-        let shape = ff.0 in
+        let shape = ff.0.0 in
         let ts = types_sound c 0 types u p1.1 k shape.1 ff.1.0 p1.2 in
         let bs = bodies_sound D n 0 rargs types bodies p1.1 p2.1 ts.context shape.1 shape.3 shape.0 shape.2 ts.all ff.1.1.0 p2.2 in
         let guards : IsGuarded E (values c) rargs bodies =
-        guard_sound E w (values c) (values_counted E c k) rargs bodies p2.1 p3.1 bs.all shape.2 bs.begin p3.2 in
+        guard_sound E w (values c) (values_counted E c k) rargs bodies p2.1 p3.1 bs.all bs.begin p3.2 in
         let at = named_type i n (term_at types i) T p3.1 v p3.3 in
         let name : at.0 ≡ 0 = name_at types i 0 at.0 T shape.1 at.1 in
         record {
           typed = fix (sym (names_long types) ∙ shape.0) (at.1 ∙ ap (λ m. Some (m, T)) name) ts.sorts bs.typed guards;
-          subject = ((shape, tt), (ts.all, (bs.all, tt)));
+          subject = ((ff.0, tt), (ts.all, (bs.all, tt)));
           classifier = term_counted E types i at.0 T ts.all at.1;
         }

@@ -3,6 +3,7 @@ use Rattle.std.proofs.Common.{◌≡◌, ℕ, zero, suc, Bool, true, false, if�
 use Rattle.pc_terms.specs.declared.leaf.Name.{Name}
 use Rattle.pc_terms.specs.declared.leaf.FamilyId.{FamilyId}
 use Rattle.pc_terms.specs.Syntax.{Term, Terms, End, Child, Done, Next, Rel, SortT, Prod, Lambda, LetIn, App, Const, Ind, Construct, Case, Fix, apply}
+use Rattle.pc_terms.specs.Formed.{binders_of, EachTerm}
 use Rattle.pc_rules.specs.declared.declaration.Constructor.{Constructor}
 use Rattle.pc_rules.specs.declared.meter.Account.{Account}
 use Rattle.pc_rules.specs.Environment.{Env, FamilyDecl, KeepsFamily}
@@ -13,13 +14,12 @@ use Rattle.pc_rules.specs.Guardedness.{Mark, Recursive, Argument, Smaller, Other
 use Rattle.pc_rules.specs.DirectedRun as run
 use Rattle.pc_rules.specs.DirectedRun.{Run, Act, done, no_unit, passing, is_beyond, bind, ticking, ticked, run_all}
 use Rattle.pc_rules.specs.DirectedWeakHead.{weak_next, whnf, family_of}
-use Rattle.pc_rules.specs.DirectedComparison.{names_of}
 use Rattle.pc_rules.specs.DirectedGuard.{Finding, found_at, applied, opens, constructors_of, step_on, if_smaller, if_opened, later, look, look_branches, find, normal_found, smaller_argument, call_argument, call_rule, interleaved, walk, walk_children, walk_terms, walk_branches, body_guard, bodies_guard, fix_guard}
 use Rattle.pc_rules.proofs.WeakNext.{weak_next_found, family_found}
 use Rattle.pc_rules.proofs.WeakHead.{weak_equal}
 use Rattle.pc_rules.proofs.Congruence.{equal_applications}
-use Rattle.rule_laws.specs.WellCounted.{EachTerm, FormedAndCounts, arities, WellCounted, AllWellCounted, EnvWellCounted, ValuesWellCounted}
-use Rattle.rule_laws.specs.Guard.{BeginsWith, AllBegin}
+use Rattle.pc_rules.specs.FixConditions.{BeginsWith, HaveLambdas}
+use Rattle.pc_rules.specs.WellCounted.{IsCountedNode, arities, IsCounted, AreCounted, HasCountedDeclarations, AreCountedValues}
 use Rattle.rule_laws.proofs.Runs.{bind_both, ticking_done, refused_done, unit_done, done_value, pass_then, run_both}
 use Rattle.rule_laws.proofs.KeepCounts.{under_counted, steps_counted}
 use Rattle.rule_laws.proofs.Comparing.{first_same, rest_same, whnf_equal, whnf_counted}
@@ -52,7 +52,7 @@ interleaved_done [] ys h = (tt, h)
 interleaved_done (x ∷ xs) [] h = (h, tt)
 interleaved_done (x ∷ xs) (y ∷ ys) h = let r = interleaved_done xs ys h.1.1 in ((h.0, r.0), (h.1.0, r.1))
 
-module _ (E : Env) (w : EnvWellCounted E) where
+module _ (E : Env) (w : HasCountedDeclarations E) where
   -- what a mark says of a term
   abbrev Means : Values → Marks → Term → Mark → Type 0
   Means V M t Smaller = IsSmaller E V M t
@@ -110,11 +110,11 @@ module _ (E : Env) (w : EnvWellCounted E) where
 
   -- a finding that has been found sound
   abbrev Finds : Finding → Type 0
-  Finds go = (V : Values) (M : Marks) (t : Term) (m : Mark) (u v : Account) → ValuesWellCounted E V → WellCounted E t → (go V M t u).end ≡ run.Done m v → Means V M t m
+  Finds go = (V : Values) (M : Marks) (t : Term) (m : Mark) (u v : Account) → AreCountedValues E V → IsCounted E t → (go V M t u).end ≡ run.Done m v → Means V M t m
 
-  step_means : (V : Values) (M : Marks) (t : Term) (m : Mark) (o : Option Term) (stay : Run Mark) (go : Term → Account → Run Mark) (u v : Account) → ValuesWellCounted E V →
-      WellCounted E t → weak_next E V t ≡ o → (stay.end ≡ run.Done m v → Means V M t m) →
-      ((x : Term) (y : Account) → WellCounted E x → (go x y).end ≡ run.Done m v → Means V M x m) → (step_on o stay go u).end ≡ run.Done m v → Means V M t m
+  step_means : (V : Values) (M : Marks) (t : Term) (m : Mark) (o : Option Term) (stay : Run Mark) (go : Term → Account → Run Mark) (u v : Account) → AreCountedValues E V →
+      IsCounted E t → weak_next E V t ≡ o → (stay.end ≡ run.Done m v → Means V M t m) →
+      ((x : Term) (y : Account) → IsCounted E x → (go x y).end ≡ run.Done m v → Means V M x m) → (step_on o stay go u).end ≡ run.Done m v → Means V M t m
   step_means V M t m None stay go u v vs k e f g h = f h
   step_means V M t m (Some x) stay go u v vs k e f g h =
       let p : WeakStep E V t x = weak_next_found E V t x e in
@@ -145,7 +145,7 @@ module _ (E : Env) (w : EnvWellCounted E) where
 
   module _ (go : Finding) (sound : Finds go) where
     mutual
-      look_sound : (V : Values) (M : Marks) (t : Term) (m : Mark) (u v : Account) → ValuesWellCounted E V → WellCounted E t → (look E go V M t u).end ≡ run.Done m v → Means V M t m
+      look_sound : (V : Values) (M : Marks) (t : Term) (m : Mark) (u v : Account) → AreCountedValues E V → IsCounted E t → (look E go V M t u).end ≡ run.Done m v → Means V M t m
       look_sound V M (Rel i) m u v vs k h = subst (λ m. Means V M (Rel i) m) (done_value h) (variable_means V M i (slice_get M i) refl)
       look_sound V M (App f a) m u v vs k h =
           let p = bind_both (look E go V M f u) (λ m v. done (applied m) v) m v h in
@@ -171,8 +171,8 @@ module _ (E : Env) (w : EnvWellCounted E) where
       look_sound V M (Construct f c) m u v vs k h = subst (λ m. Means V M (Construct f c) m) (done_value h) tt
       look_sound V M (Fix i rargs types bodies) m u v vs k h = subst (λ m. Means V M (Fix i rargs types bodies) m) (done_value h) tt
 
-      look_branches_sound : (V : Values) (M : Marks) (b : Name) (Cs : List Constructor) (bs : Terms) (m : Mark) (u v : Account) → ValuesWellCounted E V →
-          EachTerm (FormedAndCounts E) bs → names_of bs ≡ arities Cs → (look_branches E go V M b Cs bs u).end ≡ run.Done m v → BranchesMean V M b Cs bs m
+      look_branches_sound : (V : Values) (M : Marks) (b : Name) (Cs : List Constructor) (bs : Terms) (m : Mark) (u v : Account) → AreCountedValues E V →
+          EachTerm (IsCountedNode E) bs → binders_of bs ≡ arities Cs → (look_branches E go V M b Cs bs u).end ≡ run.Done m v → BranchesMean V M b Cs bs m
       look_branches_sound V M b [] Done m u v vs k e h = subst (λ m. BranchesMean V M b [] Done m) (done_value h) no_branch
       look_branches_sound V M b (C ∷ Cs) Done m u v vs k e h = no_name (sym e)
       look_branches_sound V M b [] (Next n body bs) m u v vs k e h = no_name e
@@ -181,7 +181,7 @@ module _ (E : Env) (w : EnvWellCounted E) where
           let N : Marks = branch_marks b C.args M in
           let k1 : Mark → Account → Run Mark = λ m v. if_smaller m (look_branches E go V M b Cs bs v) v in
           let p = bind_both (step_on (weak_next E W body) (look E go W N body u) (go W N) u) k1 m v h in
-          let ws : ValuesWellCounted E W = under_counted E n V vs in
+          let ws : AreCountedValues E W = under_counted E n V vs in
           branch_means V M b C Cs n body bs p.0 m (look_branches E go V M b Cs bs p.1) p.1 v (first_same e)
           (step_means W N body p.0 (weak_next E W body) (look E go W N body u) (go W N) u p.1 ws k.0 refl (λ h. look_sound W N body p.0 u p.1 ws k.0 h)
           (λ x y kx h. sound W N x p.0 y p.1 ws kx h) p.2)
@@ -197,7 +197,7 @@ module _ (E : Env) (w : EnvWellCounted E) where
       step_means V M t m (weak_next E V t) (look E (find E n) V M t u) (find E n V M) u v vs k refl
       (λ h. look_sound (find E n) (find_sound n) V M t m u v vs k h) (λ x y kx h. find_sound n V M x m y v vs kx h) h
 
-  normal_sound : (V : Values) (M : Marks) (t : Term) (p : Term × Mark) (u v : Account) → ValuesWellCounted E V → WellCounted E t →
+  normal_sound : (V : Values) (M : Marks) (t : Term) (p : Term × Mark) (u v : Account) → AreCountedValues E V → IsCounted E t →
       (normal_found E V M t u).end ≡ run.Done p v → Means V M t p.1
   normal_sound V M t p u v vs k h =
       let k1 : Term → Account → Run (Term × Mark) = λ W v. bind (find E v.left V M W v) (λ m w. done (W, m) w) in
@@ -219,12 +219,12 @@ module _ (E : Env) (w : EnvWellCounted E) where
   smaller_is V M a W (Recursive r) u v h e = absurd (refused_done e)
   smaller_is V M a W Other u v h e = absurd (refused_done e)
 
-  item_counted : (xs : List Term) (r : ℕ) (a : Term) → AllWellCounted E xs → slice_get xs r ≡ Some a → WellCounted E a
+  item_counted : (xs : List Term) (r : ℕ) (a : Term) → AreCounted E xs → slice_get xs r ≡ Some a → IsCounted E a
   item_counted [] r a h e = absurd (none_some e)
-  item_counted (x ∷ xs) zero a h e = subst (λ y. WellCounted E y) (let q : x ≡ a = grind arith in q) h.0
+  item_counted (x ∷ xs) zero a h e = subst (λ y. IsCounted E y) (let q : x ≡ a = grind arith in q) h.0
   item_counted (x ∷ xs) (suc r) a h e = item_counted xs r a h.1 e
 
-  call_sound : (V : Values) (M : Marks) (i r : ℕ) (xs : List Term) (o : Option Term) (u v : Account) → ValuesWellCounted E V → AllWellCounted E xs → AreGuarded E V M xs →
+  call_sound : (V : Values) (M : Marks) (i r : ℕ) (xs : List Term) (o : Option Term) (u v : Account) → AreCountedValues E V → AreCounted E xs → AreGuarded E V M xs →
       slice_get M i ≡ Some (Recursive r) → slice_get xs r ≡ o → (call_argument E V M i o u).end ≡ run.Done tt v → IsGuardedIn E V M (apply (Rel i) xs)
   call_sound V M i r xs None u v vs k g e s h = absurd (refused_done h)
   call_sound V M i r xs (Some a) u v vs k g e s h =
@@ -233,7 +233,7 @@ module _ (E : Env) (w : EnvWellCounted E) where
       let q : Term × Mark = p.0 in
       call i r xs refl e s (smaller_is V M a q.0 q.1 p.1 v (normal_sound V M a q (ticked u) p.1 vs (item_counted xs r a k s) p.2) p.3) g
 
-  rel_sound : (V : Values) (M : Marks) (i : ℕ) (xs : List Term) (o : Option Mark) (u v : Account) → ValuesWellCounted E V → AllWellCounted E xs → AreGuarded E V M xs →
+  rel_sound : (V : Values) (M : Marks) (i : ℕ) (xs : List Term) (o : Option Mark) (u v : Account) → AreCountedValues E V → AreCounted E xs → AreGuarded E V M xs →
       slice_get M i ≡ o → (call_rule E V M i xs o u).end ≡ run.Done tt v → IsGuardedIn E V M (apply (Rel i) xs)
   rel_sound V M i xs (Some (Recursive r)) u v vs k g e h = call_sound V M i r xs (slice_get xs r) u v vs k g e refl h
   rel_sound V M i xs (Some Argument) u v vs k g e h = guarded_apply V M (Rel i) xs (variable (λ p. subst (λ o. IsCalled o) e p)) g
@@ -248,7 +248,7 @@ module _ (E : Env) (w : EnvWellCounted E) where
   match_guarded V M f F ps n ret s bs m false e k h gp gr gs gb gt = inside tt (a_group gp (a_child gr (a_child gs (a_group (gt refl) no_child))))
 
   mutual
-    walk_sound : (V : Values) (M : Marks) (xs : List Term) (t : Term) (u v : Account) → ValuesWellCounted E V → WellCounted E t → AllWellCounted E xs → AreGuarded E V M xs →
+    walk_sound : (V : Values) (M : Marks) (xs : List Term) (t : Term) (u v : Account) → AreCountedValues E V → IsCounted E t → AreCounted E xs → AreGuarded E V M xs →
         (walk E V M xs t u).end ≡ run.Done tt v → IsGuardedIn E V M (apply t xs)
     walk_sound V M xs (Rel i) u v vs k kx g h = rel_sound V M i xs (slice_get M i) u v vs kx g refl h
     walk_sound V M xs (App f a) u v vs k kx g h =
@@ -310,20 +310,20 @@ module _ (E : Env) (w : EnvWellCounted E) where
         (inside tt (a_child (walk_sound V M [] A a.0 a.1 vs k.1.0 tt no_argument a.2)
         (a_child (walk_sound (None ∷ V) (Other ∷ M) [] t b.0 b.1 vs k.1.1.0 tt no_argument b.2) no_child))) g
 
-    walk_terms_sound : (V : Values) (M : Marks) (ts : Terms) → ValuesWellCounted E V → EachTerm (FormedAndCounts E) ts → EachDone (walk_terms E V M ts) → AreGuardedTerms E V M ts
+    walk_terms_sound : (V : Values) (M : Marks) (ts : Terms) → AreCountedValues E V → EachTerm (IsCountedNode E) ts → EachDone (walk_terms E V M ts) → AreGuardedTerms E V M ts
     walk_terms_sound V M Done vs k h = no_term
     walk_terms_sound V M (Next n t ts) vs k h =
         let a = h.0 in
         a_term (walk_sound (under n V) (others n M) [] t a.0 a.1 (under_counted E n V vs) k.0 tt no_argument a.2) (walk_terms_sound V M ts vs k.1 h.1)
 
-    shut_sound : (V : Values) (M : Marks) (b : Name) (Cs : List Constructor) (ts : Terms) → ValuesWellCounted E V → EachTerm (FormedAndCounts E) ts →
+    shut_sound : (V : Values) (M : Marks) (b : Name) (Cs : List Constructor) (ts : Terms) → AreCountedValues E V → EachTerm (IsCountedNode E) ts →
         EachDone (walk_branches E V M b false Cs ts) → AreGuardedTerms E V M ts
     shut_sound V M b Cs Done vs k h = no_term
     shut_sound V M b Cs (Next n t ts) vs k h =
         let a = h.0 in
         a_term (walk_sound (under n V) (others n M) [] t a.0 a.1 (under_counted E n V vs) k.0 tt no_argument a.2) (shut_sound V M b (later Cs) ts vs k.1 h.1)
 
-    opened_sound : (V : Values) (M : Marks) (b : Name) (Cs : List Constructor) (ts : Terms) → ValuesWellCounted E V → EachTerm (FormedAndCounts E) ts → names_of ts ≡ arities Cs →
+    opened_sound : (V : Values) (M : Marks) (b : Name) (Cs : List Constructor) (ts : Terms) → AreCountedValues E V → EachTerm (IsCountedNode E) ts → binders_of ts ≡ arities Cs →
         EachDone (walk_branches E V M b true Cs ts) → AreGuardedBranches E V M b Cs ts
     opened_sound V M b [] Done vs k e h = no_guarded_branch
     opened_sound V M b [] (Next n t ts) vs k e h = no_name e
@@ -335,7 +335,7 @@ module _ (E : Env) (w : EnvWellCounted E) where
 
   -- bodies
 
-  body_sound : (V : Values) (M : Marks) (r : ℕ) (t : Term) (u v : Account) → ValuesWellCounted E V → WellCounted E t → BeginsWith r t →
+  body_sound : (V : Values) (M : Marks) (r : ℕ) (t : Term) (u v : Account) → AreCountedValues E V → IsCounted E t → BeginsWith (suc r) t →
       (body_guard E V M r t u).end ≡ run.Done tt v → IsGuardedBody E V M r t
   unfolding body_guard
   body_sound V M zero (Lambda A b) u v vs k l h =
@@ -346,16 +346,16 @@ module _ (E : Env) (w : EnvWellCounted E) where
       more (walk_sound V M [] A u p.1 vs k.1.0 tt no_argument p.2) (body_sound (None ∷ V) (Other ∷ M) r b p.1 v vs k.1.1.0 l p.3)
   body_sound V M r t u v vs k l h = absurd l
 
-  bodies_sound : (V : Values) (M : Marks) (rargs : List ℕ) (bs : Terms) (u v : Account) → ValuesWellCounted E V → EachTerm (FormedAndCounts E) bs →
-      length (names_of bs) ≡ length rargs → AllBegin rargs bs → (run_all (bodies_guard E V M rargs bs) u).end ≡ run.Done tt v → AreGuardedBodies E V M rargs bs
-  bodies_sound V M [] Done u v vs k e l h = no_bodies
-  bodies_sound V M [] (Next n b bs) u v vs k e l h = absurd (omega arith)
-  bodies_sound V M (r ∷ rargs) Done u v vs k e l h = absurd (omega arith)
-  bodies_sound V M (r ∷ rargs) (Next n b bs) u v vs k e l h =
+  bodies_sound : (V : Values) (M : Marks) (rargs : List ℕ) (bs : Terms) (u v : Account) → AreCountedValues E V → EachTerm (IsCountedNode E) bs →
+      HaveLambdas rargs bs → (run_all (bodies_guard E V M rargs bs) u).end ≡ run.Done tt v → AreGuardedBodies E V M rargs bs
+  bodies_sound V M [] Done u v vs k l h = no_bodies
+  bodies_sound V M [] (Next n b bs) u v vs k l h = absurd l
+  bodies_sound V M (r ∷ rargs) Done u v vs k l h = absurd l
+  bodies_sound V M (r ∷ rargs) (Next n b bs) u v vs k l h =
       let p = run_both (λ u. body_guard E V M r b u) (bodies_guard E V M rargs bs) u v h in
-      a_body (body_sound V M r b u p.0 vs k.0 l.0 p.1) (bodies_sound V M rargs bs p.0 v vs k.1 (omega arith) l.1 p.2)
+      a_body (body_sound V M r b u p.0 vs k.0 l.0 p.1) (bodies_sound V M rargs bs p.0 v vs k.1 l.1 p.2)
 
-  pub guard_sound : (V : Values) → ValuesWellCounted E V → (rargs : List ℕ) (bodies : Terms) (u v : Account) → EachTerm (FormedAndCounts E) bodies →
-      length (names_of bodies) ≡ length rargs → AllBegin rargs bodies → (fix_guard E V rargs bodies u).end ≡ run.Done tt v → IsGuarded E V rargs bodies
-  guard_sound V vs rargs bodies u v k e l h =
-      bodies_sound (under (length rargs) V) (definition_marks rargs []) rargs bodies u v (under_counted E (length rargs) V vs) k e l h
+  pub guard_sound : (V : Values) → AreCountedValues E V → (rargs : List ℕ) (bodies : Terms) (u v : Account) → EachTerm (IsCountedNode E) bodies →
+      HaveLambdas rargs bodies → (fix_guard E V rargs bodies u).end ≡ run.Done tt v → IsGuarded E V rargs bodies
+  guard_sound V vs rargs bodies u v k l h =
+      bodies_sound (under (length rargs) V) (definition_marks rargs []) rargs bodies u v (under_counted E (length rargs) V vs) k l h

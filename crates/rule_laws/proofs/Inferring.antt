@@ -1,6 +1,7 @@
 -- What the directed rules infer is a type.
 use Rattle.std.proofs.Common.{◌≡◌, ℕ, zero, suc}
 use Rattle.pc_terms.specs.Syntax.{Term, Rel, SortT, Prod, Lambda, LetIn, App, Const, Ind, Construct, Case, Fix}
+use Rattle.pc_terms.specs.Formed.{IsFormed}
 use Rattle.pc_rules.specs.declared.meter.Account.{Account}
 use Rattle.pc_rules.specs.Environment.{Env}
 use Rattle.pc_rules.specs.Context.{Context}
@@ -8,7 +9,7 @@ use Rattle.pc_rules.specs.DirectedRun as run
 use Rattle.pc_rules.specs.DirectedRun.{too_nested, noted, ticked}
 use Rattle.pc_rules.specs.DirectedComparison.{Test, IsTest, Comparison, compare}
 use Rattle.pc_rules.specs.DirectedTyping.{Typing, rule, rule_number, infer}
-use Rattle.rule_laws.specs.WellCounted.{Formed, EnvWellCounted, ContextWellCounted}
+use Rattle.pc_rules.specs.WellCounted.{HasCountedDeclarations, IsCountedContext}
 use Rattle.rule_laws.specs.Inference.{IsInferred}
 use Rattle.rule_laws.proofs.Runs.{ticking_done, nested_done}
 use Rattle.rule_laws.proofs.Comparing.{IsSound, compare_sound}
@@ -16,8 +17,8 @@ use Rattle.rule_laws.proofs.SimpleRules.{Infers, variable_rule_sound, sort_rule_
 use Rattle.rule_laws.proofs.MatchRule.{case_rule_sound}
 use Rattle.rule_laws.proofs.FixRule.{fix_rule_sound}
 
-module _ (E : Env) (w : EnvWellCounted E) where
-  rule_sound : (inf : Typing) → Infers E inf → (cmp : Comparison) → IsSound E cmp → (c : Context) (t T : Term) (u v : Account) → ContextWellCounted E c → Formed t →
+module _ (E : Env) (w : HasCountedDeclarations E) where
+  rule_sound : (inf : Typing) → Infers E inf → (cmp : Comparison) → IsSound E cmp → (c : Context) (t T : Term) (u v : Account) → IsCountedContext E c → IsFormed t →
       (rule E inf cmp c t u).end ≡ run.Done T v → IsInferred E c t T
   rule_sound inf si cmp sc c (Rel i) T u v k f h = variable_rule_sound E w c k i T u v h
   rule_sound inf si cmp sc c (SortT s) T u v k f h = sort_rule_sound E w c k s T u v h

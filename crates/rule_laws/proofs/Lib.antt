@@ -15,4 +15,5 @@ pub mod Positive
 pub mod Blocks
 pub mod Environments
 pub mod TypedCounts
+pub mod TypedLambdas
 pub mod Evidence

@@ -6,6 +6,7 @@ use Rattle.universe_levels.specs.declared.sort.Sort.{Sort}
 use Rattle.universe_levels.specs.declared.sort.Sort.TheVariants.{Prop, Of}
 use Rattle.pc_terms.specs.declared.leaf.FamilyId.{FamilyId}
 use Rattle.pc_terms.specs.Syntax.{Term, Terms, Done, Next, Rel, SortT, Ind, Case, first, substitute, apply, head, args, number, terms_of}
+use Rattle.pc_terms.specs.Formed.{binders_of, EachTerm, AreAll, HasForm, IsFormed}
 use Rattle.pc_rules.specs.declared.declaration.Constructor.{Constructor}
 use Rattle.pc_rules.specs.declared.declaration.Family.{Family}
 use Rattle.pc_rules.specs.declared.declaration.Block.{Block}
@@ -23,29 +24,29 @@ use Rattle.pc_rules.specs.Same.{same}
 use Rattle.pc_rules.specs.DirectedRun as run
 use Rattle.pc_rules.specs.DirectedRun.{Run, Act, done, make, passing, any_beyond, bind}
 use Rattle.pc_rules.specs.DirectedWeakHead.{kept_at, whole_block, family_of, whnf}
-use Rattle.pc_rules.specs.DirectedComparison.{Comparison, list_of, names_of}
+use Rattle.pc_rules.specs.DirectedComparison.{Comparison, list_of}
 use Rattle.pc_rules.specs.DirectedTyping.{Typing, conv, sort_of, check, retype, find_family, counted, names_counted, match_counted, check_all, sorts_of, all_prop, few_constructors, is_single, may_eliminate, eliminated, is_the_family, found_family, scrutinee_fits, scrutinee_rule, branch_beyond, branch_rule, branches_rule, predicate_rule, case_rule}
+use Rattle.pc_rules.specs.WellCounted.{IsCountedNode, arities, IsCounted, AreCounted, AreCountedConstructors, HasCountedDeclarations, IsCountedContext}
 use Rattle.pc_rules.proofs.WeakNext.{kept_is, same_families_is, family_found}
 use Rattle.pc_rules.proofs.SameTrees.{same_is}
-use Rattle.rule_laws.specs.WellCounted.{IsFormed, Formed, FormedAndCounts, EachTerm, AreAll, arities, WellCounted, AllWellCounted, ConstructorsWellCounted, EnvWellCounted, ContextWellCounted}
 use Rattle.rule_laws.specs.Inference.{IsInferred, AllFormed}
 use Rattle.rule_laws.proofs.Runs.{bind_both, if_done, tested, done_value, make_then, pass_then, both_true, false_true}
-use Rattle.rule_laws.proofs.Counted.{PutsWellCounted, rel_counted, first_counted, substituted_counted, apply_counted, appended_counted, args_counted, terms_counted}
-use Rattle.rule_laws.proofs.KeepCounts.{FamilyDeclWellCounted, values_counted, kept_counted}
+use Rattle.rule_laws.proofs.Counted.{PutsCounted, rel_counted, first_counted, substituted_counted, apply_counted, appended_counted, args_counted, terms_counted}
+use Rattle.rule_laws.proofs.KeepCounts.{IsCountedFamilyDecl, values_counted, kept_counted}
 use Rattle.rule_laws.proofs.CountedParts.{ind_counted, predicate_entries_counted, branch_entries_counted, predicate_at_counted, branch_type_counted, context_extended}
 use Rattle.rule_laws.proofs.Comparing.{IsSound, names_long, list_long, first_same, rest_same, whnf_equal, whnf_counted}
 use Rattle.rule_laws.proofs.SimpleRules.{Infers, formed, whole_family, sort_sound, retype_sound, check_sound}
 
-pub all_formed : (E : Env) (ts : List Term) → AllWellCounted E ts → AllFormed ts
+pub all_formed : (E : Env) (ts : List Term) → AreCounted E ts → AllFormed ts
 all_formed E [] h = tt
 all_formed E (t ∷ ts) h = (formed E t h.0, all_formed E ts h.1)
 
-pub formed_list : (ts : Terms) → EachTerm IsFormed ts → AllFormed (list_of ts)
+pub formed_list : (ts : Terms) → EachTerm HasForm ts → AllFormed (list_of ts)
 formed_list Done h = tt
 formed_list (Next n t ts) h = (h.0, formed_list ts h.1)
 
 -- terms under no variable are a list
-pub terms_are : (ts : Terms) → AreAll 0 (names_of ts) → terms_of (list_of ts) ≡ ts
+pub terms_are : (ts : Terms) → AreAll 0 (binders_of ts) → terms_of (list_of ts) ≡ ts
 terms_are Done h = refl
 terms_are (Next n t ts) h = λ i. Next (sym h.0 i) t (terms_are ts h.1 i)
 
@@ -69,11 +70,11 @@ names_are (C ∷ Cs) (n ∷ ns) u v l h =
 pub record Counted (F : FamilyDecl) (ps : Terms) (n : ℕ) (bs : Terms) : Type 0 where
   pub parameters : number ps ≡ length F.parameters
   pub variables : n ≡ suc (length F.indices)
-  pub branches : names_of bs ≡ arities F.constructors
+  pub branches : binders_of bs ≡ arities F.constructors
 
 match_is_counted : (F : FamilyDecl) (ps : Terms) (n : ℕ) (bs : Terms) (u v : Account) → (match_counted F ps n bs u).end ≡ run.Done tt v → Counted F ps n bs
 match_is_counted F ps n bs u v h =
-    let k3 : Unit {0} → Account → Run (Unit {0}) = λ _ x. names_counted F.constructors (names_of bs) x in
+    let k3 : Unit {0} → Account → Run (Unit {0}) = λ _ x. names_counted F.constructors (binders_of bs) x in
     let k2 : Unit {0} → Account → Run (Unit {0}) = λ _ w. bind (counted (length F.constructors) (number bs) w) k3 in
     let k1 : Unit {0} → Account → Run (Unit {0}) = λ _ v. bind (counted (length F.indices + 1) n v) k2 in
     let p1 = bind_both (counted (length F.parameters) (number ps) u) k1 tt v h in
@@ -84,7 +85,7 @@ match_is_counted F ps n bs u v h =
     record {
       parameters = sym (count_is (length F.parameters) (number ps) u p1.1 p1.2);
       variables = omega arith;
-      branches = names_are F.constructors (names_of bs) p3.1 v (branches ∙ sym (names_long bs)) p3.3;
+      branches = names_are F.constructors (binders_of bs) p3.1 v (branches ∙ sym (names_long bs)) p3.3;
     }
 
 -- elimination
@@ -137,19 +138,19 @@ drop_long zero m xs e = omega arith
 drop_long (suc n) m [] e = omega arith
 drop_long (suc n) m (x ∷ xs) e = drop_long n m xs (omega arith)
 
-dropped_counted : (E : Env) (n : ℕ) (xs : List Term) → AllWellCounted E xs → AllWellCounted E (drop n xs)
+dropped_counted : (E : Env) (n : ℕ) (xs : List Term) → AreCounted E xs → AreCounted E (drop n xs)
 dropped_counted E zero xs h = h
 dropped_counted E (suc n) [] h = tt
 dropped_counted E (suc n) (x ∷ xs) h = dropped_counted E n xs h.1
 
-module _ (E : Env) (w : EnvWellCounted E) (inf : Typing) (si : Infers E inf) where
+module _ (E : Env) (w : HasCountedDeclarations E) (inf : Typing) (si : Infers E inf) where
   -- telescopes
   pub record AreEntries (c : Context) (As : List Term) (ss : List Sort) : Type 0 where
     pub entries : Entries guarded E c As
     pub sorts : EntrySorts guarded E c As ss
-    pub all : AllWellCounted E As
+    pub all : AreCounted E As
 
-  pub entries_sound : (c : Context) (As : List Term) (ss : List Sort) (u v : Account) → ContextWellCounted E c → AllFormed As →
+  pub entries_sound : (c : Context) (As : List Term) (ss : List Sort) (u v : Account) → IsCountedContext E c → AllFormed As →
       (sorts_of E inf c As u).end ≡ run.Done ss v → AreEntries c As ss
   unfolding sorts_of
   entries_sound c [] ss u v k f h =
@@ -168,10 +169,10 @@ module _ (E : Env) (w : EnvWellCounted E) (inf : Typing) (si : Infers E inf) whe
     pub entries : Entries guarded E c (predicate_entries f F ps)
     pub typed : Types guarded E (extend c (predicate_entries f F ps)) ret (SortT target)
     pub may : MayEliminate E f F target
-    pub subject : WellCounted E ret
+    pub subject : IsCounted E ret
 
-  predicate_sound : (c : Context) (f : FamilyId) (F : FamilyDecl) (ps : List Term) (ret : Term) (u v : Account) → ContextWellCounted E c → FamilyDeclWellCounted E F →
-      AllWellCounted E ps → Formed ret → (predicate_rule E inf c (whole_block (kept_at E.declarations f.block)) f F ps ret u).end ≡ run.Done tt v →
+  predicate_sound : (c : Context) (f : FamilyId) (F : FamilyDecl) (ps : List Term) (ret : Term) (u v : Account) → IsCountedContext E c → IsCountedFamilyDecl E F →
+      AreCounted E ps → IsFormed ret → (predicate_rule E inf c (whole_block (kept_at E.declarations f.block)) f F ps ret u).end ≡ run.Done tt v →
       IsPredicate c f F ps ret
   predicate_sound c f F ps ret u v k wF wps fr h =
       let B : Option Block = whole_block (kept_at E.declarations f.block) in
@@ -187,8 +188,8 @@ module _ (E : Env) (w : EnvWellCounted E) (inf : Typing) (si : Infers E inf) whe
 
   module _ (cmp : Comparison) (sc : IsSound E cmp) where
     -- terms against a telescope
-    pub all_sound : (c : Context) (s : ℕ → Term) (ts As : List Term) (u v : Account) → ContextWellCounted E c → PutsWellCounted E s → length ts ≡ length As →
-        AllFormed ts → AllWellCounted E As → (check_all E inf cmp c s ts As u).end ≡ run.Done tt v → TypesAll guarded E c s ts As × AllWellCounted E ts
+    pub all_sound : (c : Context) (s : ℕ → Term) (ts As : List Term) (u v : Account) → IsCountedContext E c → PutsCounted E s → length ts ≡ length As →
+        AllFormed ts → AreCounted E As → (check_all E inf cmp c s ts As u).end ≡ run.Done tt v → TypesAll guarded E c s ts As × AreCounted E ts
     unfolding check_all
     all_sound c s [] [] u v k ps l f a h = (no_terms, tt)
     all_sound c s [] (A ∷ As) u v k ps l f a h = no_suc (sym l)
@@ -204,10 +205,10 @@ module _ (E : Env) (w : EnvWellCounted E) (inf : Typing) (si : Infers E inf) whe
     pub record IsScrutinee (c : Context) (f : FamilyId) (F : FamilyDecl) (ps : List Term) (t : Term) (is : List Term) : Type 0 where
       pub typed : Types guarded E c t (apply (Ind f) (ps ++ is))
       pub long : length is ≡ length F.indices
-      pub all : AllWellCounted E is
-      pub subject : WellCounted E t
+      pub all : AreCounted E is
+      pub subject : IsCounted E t
 
-    fits_sound : (c : Context) (t W T : Term) (u v : Account) → ContextWellCounted E c → WellCounted E W → WellCounted E T → Types guarded E c t W →
+    fits_sound : (c : Context) (t W T : Term) (u v : Account) → IsCountedContext E c → IsCounted E W → IsCounted E T → Types guarded E c t W →
         (scrutinee_fits E inf cmp c W T u).end ≡ run.Done tt v → Types guarded E c t T
     fits_sound c t W T u v k wW wT p h =
         let go : Run (Unit {0}) = bind (conv u) (λ _ v. bind (sort_of E inf c T v) (λ _ w. cmp c false W T w)) in
@@ -219,8 +220,8 @@ module _ (E : Env) (w : EnvWellCounted E) (inf : Typing) (si : Infers E inf) whe
               convert p (sc c false W T p2.1 v (values_counted E c k) wW wT p2.3) (sort_sound E w inf si c T p2.0 p1.1 p2.1 k (formed E T wT) p2.2).0
         ]
 
-    scrutinee_sound : (c : Context) (f : FamilyId) (F : FamilyDecl) (ps : List Term) (t : Term) (is : List Term) (u v : Account) → ContextWellCounted E c →
-        AllWellCounted E ps → Formed t → (scrutinee_rule E inf cmp c f F ps t u).end ≡ run.Done is v → IsScrutinee c f F ps t is
+    scrutinee_sound : (c : Context) (f : FamilyId) (F : FamilyDecl) (ps : List Term) (t : Term) (is : List Term) (u v : Account) → IsCountedContext E c →
+        AreCounted E ps → IsFormed t → (scrutinee_rule E inf cmp c f F ps t u).end ≡ run.Done is v → IsScrutinee c f F ps t is
     scrutinee_sound c f F ps t is u v k wps ft h =
         let n : ℕ = length F.parameters in
         let k5 : Term → Term → Account → Run (List Term) = λ W S z. bind (scrutinee_fits E inf cmp c W S z) (λ _ r. done (drop n (args W)) r) in
@@ -237,9 +238,9 @@ module _ (E : Env) (w : EnvWellCounted E) (inf : Typing) (si : Infers E inf) whe
         let h5 = make_then S p4.1 (k5 W) p4.3 in
         let p5 = bind_both (scrutinee_fits E inf cmp c W S p4.1) (λ _ r. done (drop n (args W)) r) is v h5 in
         let i = si c t T u p1.1 k ft p1.2 in
-        let wW : WellCounted E W = whnf_counted E w (values c) (values_counted E c k) T W p1.1 p2.1 i.classifier p2.2 in
-        let wis : AllWellCounted E (drop n (args W)) = dropped_counted E n (args W) (args_counted E W wW) in
-        let wS : WellCounted E S = apply_counted E (Ind f) (ps ++ drop n (args W)) (ind_counted E f) (appended_counted E ps (drop n (args W)) wps wis) in
+        let wW : IsCounted E W = whnf_counted E w (values c) (values_counted E c k) T W p1.1 p2.1 i.classifier p2.2 in
+        let wis : AreCounted E (drop n (args W)) = dropped_counted E n (args W) (args_counted E W wW) in
+        let wS : IsCounted E S = apply_counted E (Ind f) (ps ++ drop n (args W)) (ind_counted E f) (appended_counted E ps (drop n (args W)) wps wis) in
         let tests = both_true (is_the_family f (head W)) (length (args W) == n + length F.indices)
         (tested (is_the_family f (head W) && (length (args W) == n + length F.indices)) (done tt p2.1) (NotTheFamily W) p2.1 tt p3.1 p3.2).0 in
         let at : Types guarded E c t W = retype_sound E w inf si c t T W p3.1 p4.1 k wW i.typed (whnf_equal E (values c) T W p1.1 p2.1 p2.2) p4.2 in
@@ -252,10 +253,10 @@ module _ (E : Env) (w : EnvWellCounted E) (inf : Typing) (si : Infers E inf) whe
         })
 
     -- branches
-    branch_sound : (c : Context) (f : FamilyId) (n : ℕ) (C : Constructor) (ps : List Term) (ret body : Term) (u v : Account) → ContextWellCounted E c →
-        AllWellCounted E C.args × AllWellCounted E C.result → AllWellCounted E ps → WellCounted E ret → Formed body →
+    branch_sound : (c : Context) (f : FamilyId) (n : ℕ) (C : Constructor) (ps : List Term) (ret body : Term) (u v : Account) → IsCountedContext E c →
+        AreCounted E C.args × AreCounted E C.result → AreCounted E ps → IsCounted E ret → IsFormed body →
         (branch_rule E inf cmp c f n C ps ret body u).end ≡ run.Done tt v →
-        Entries guarded E c (branch_entries C ps) × (Types guarded E (extend c (branch_entries C ps)) body (branch_type f n C ps ret) × WellCounted E body)
+        Entries guarded E c (branch_entries C ps) × (Types guarded E (extend c (branch_entries C ps)) body (branch_type f n C ps ret) × IsCounted E body)
     branch_sound c f n C ps ret body u v k wC wps wr fb h =
         let T : Term = branch_type f n C ps ret in
         let D : Context = extend c (branch_entries C ps) in
@@ -273,10 +274,10 @@ module _ (E : Env) (w : EnvWellCounted E) (inf : Typing) (si : Infers E inf) whe
     no_name : {A : Type 0} {n : ℕ} {ns : List ℕ} → n ∷ ns ≡ [] → A
     no_name e = absurd (cc)
 
-    branches_sound : (c : Context) (f : FamilyId) (n : ℕ) (Cs : List Constructor) (ps : List Term) (ret : Term) (bs : Terms) (u v : Account) → ContextWellCounted E c →
-        ConstructorsWellCounted E Cs → AllWellCounted E ps → WellCounted E ret → EachTerm IsFormed bs → names_of bs ≡ arities Cs →
+    branches_sound : (c : Context) (f : FamilyId) (n : ℕ) (Cs : List Constructor) (ps : List Term) (ret : Term) (bs : Terms) (u v : Account) → IsCountedContext E c →
+        AreCountedConstructors E Cs → AreCounted E ps → IsCounted E ret → EachTerm HasForm bs → binders_of bs ≡ arities Cs →
         (branches_rule E inf cmp c f n Cs ps ret (list_of bs) u).end ≡ run.Done tt v →
-        Branches guarded E c f ps ret n Cs bs × EachTerm (FormedAndCounts E) bs
+        Branches guarded E c f ps ret n Cs bs × EachTerm (IsCountedNode E) bs
     unfolding branches_rule
     branches_sound c f n [] ps ret Done u v k wCs wps wr fb e h = (no_branches, tt)
     branches_sound c f n [] ps ret (Next m t ts) u v k wCs wps wr fb e h = no_name e
@@ -287,8 +288,8 @@ module _ (E : Env) (w : EnvWellCounted E) (inf : Typing) (si : Infers E inf) whe
         let r = branches_sound c f (suc n) Cs ps ret ts p.1 v k wCs.1 wps wr fb.1 (rest_same e) p.3 in
         (branch (first_same e) b.0 b.1.0 r.0, (b.1.1, r.1))
 
-    pub case_rule_sound : (c : Context) (f : FamilyId) (ps : Terms) (n : ℕ) (ret t : Term) (bs : Terms) (T : Term) (u v : Account) → ContextWellCounted E c →
-        Formed (Case f ps n ret t bs) → (case_rule E inf cmp c f ps n ret t bs u).end ≡ run.Done T v → IsInferred E c (Case f ps n ret t bs) T
+    pub case_rule_sound : (c : Context) (f : FamilyId) (ps : Terms) (n : ℕ) (ret t : Term) (bs : Terms) (T : Term) (u v : Account) → IsCountedContext E c →
+        IsFormed (Case f ps n ret t bs) → (case_rule E inf cmp c f ps n ret t bs u).end ≡ run.Done T v → IsInferred E c (Case f ps n ret t bs) T
     case_rule_sound c f ps n ret t bs T u v k fc h =
         let qs : List Term = list_of ps in
         let B : Option Block = whole_block (kept_at E.declarations f.block) in
@@ -308,7 +309,7 @@ module _ (E : Env) (w : EnvWellCounted E) (inf : Typing) (si : Infers E inf) whe
         let p6 = bind_both (branches_rule E inf cmp c f 0 F.constructors qs ret (list_of bs) p5.1) (k6 is) T v p5.3 in
         let family : family_of E f ≡ Some F = whole_family E f F u p1.1 p1.2 in
         let keeps : KeepsFamily E f F = family_found E f F family in
-        let wF : FamilyDeclWellCounted E F = kept_counted E f F w keeps in
+        let wF : IsCountedFamilyDecl E F = kept_counted E f F w keeps in
         let counts : Counted F ps n bs = match_is_counted F ps n bs p1.1 p2.1 p2.2 in
         let as' = all_sound c Rel qs F.parameters p2.1 p3.1 k (rel_counted E) (list_long ps ∙ counts.parameters) (formed_list ps fc.1.0) wF.0 p3.2 in
         let pr = predicate_sound c f F qs ret p3.1 p4.1 k wF as'.1 fc.1.1.0 p4.2 in
@@ -318,7 +319,7 @@ module _ (E : Env) (w : EnvWellCounted E) (inf : Typing) (si : Infers E inf) whe
         case qs is keeps counts.variables sr.long as'.0 pr.entries pr.typed pr.may sr.typed br.0 in
         subst (λ T. IsInferred E c (Case f ps n ret t bs) T) (done_value p6.3)
         (record {
-          typed = subst (λ ps. Types guarded E c (Case f ps n ret t bs) (predicate_at ret is t)) (terms_are ps fc.0) typed;
+          typed = subst (λ ps. Types guarded E c (Case f ps n ret t bs) (predicate_at ret is t)) (terms_are ps fc.0.0) typed;
           subject = (
             (fc.0, (F, family, names_long ps ∙ counts.parameters, counts.variables, counts.branches)),
             (terms_counted E ps as'.1, (pr.subject, (sr.subject, (br.1, tt)))),

@@ -9,9 +9,11 @@ use Rattle.universe_levels.specs.declared.sort.Sort.TheVariants.{Prop, Of}
 use Rattle.universe_levels.specs.Consistency.{IsOver, IsSortOver}
 use Rattle.universe_levels.proofs.OverLemmas.{over-super_sort, over-product_sort}
 use Rattle.universe_levels.specs.Sorts.{super_sort, product_sort}
+use Rattle.trees.proofs.Shape.{each_weaker}
 use Rattle.pc_terms.specs.declared.leaf.Name.{Name}
 use Rattle.pc_terms.specs.declared.leaf.FamilyId.{FamilyId}
 use Rattle.pc_terms.specs.Syntax.{Term, Rel, SortT, Prod, Lambda, LetIn, App, Const, Ind, Construct, put, substitute}
+use Rattle.pc_terms.specs.Formed.{HasForm, IsFormed}
 use Rattle.pc_rules.specs.declared.declaration.Constructor.{Constructor}
 use Rattle.pc_rules.specs.declared.declaration.Block.{Block}
 use Rattle.pc_rules.specs.declared.declaration.Kept.{Kept}
@@ -29,18 +31,18 @@ use Rattle.pc_rules.specs.DirectedRun.{Run, Act, done, make, made, bind}
 use Rattle.pc_rules.specs.DirectedWeakHead.{if_some, kept_at, known_block, whole_block, family_of, whnf}
 use Rattle.pc_rules.specs.DirectedComparison.{Comparison}
 use Rattle.pc_rules.specs.DirectedTyping.{Typing, conv, sort_found, sort_of, check, retype, rel_rule, first_undeclared, undeclared_in, raises_past, levels_declared, sort_rule, prod_rule, lambda_rule, let_rule, app_found, app_rule, const_rule, family_number, find_family, ind_rule, constructor_number, construct_rule}
+use Rattle.pc_rules.specs.WellCounted.{IsCountedNode, IsCounted, HasCountedDeclarations, IsCountedContext}
 use Rattle.pc_rules.proofs.SameTrees.{same_is}
 use Rattle.pc_rules.proofs.WeakNext.{kept_is, family_found}
-use Rattle.rule_laws.specs.WellCounted.{IsFormed, Formed, FormedAndCounts, WellCounted, EnvWellCounted, ContextWellCounted}
 use Rattle.rule_laws.specs.Inference.{IsInferred}
 use Rattle.rule_laws.proofs.Runs.{bind_both, if_done, refused_done, done_value}
-use Rattle.rule_laws.proofs.Counted.{each_weaker, put_counted, substituted_counted, app_counted}
+use Rattle.rule_laws.proofs.Counted.{put_counted, substituted_counted, app_counted}
 use Rattle.rule_laws.proofs.KeepCounts.{values_counted, known_counted, kept_counted}
 use Rattle.rule_laws.proofs.CountedParts.{prod_counted, sort_counted, ind_counted, construct_counted, family_type_counted, slice_counted, constructor_type_counted, type_counted}
 use Rattle.rule_laws.proofs.Comparing.{IsSound, whnf_equal, whnf_counted}
 
-pub formed : (E : Env) (t : Term) → WellCounted E t → Formed t
-formed E t h = each_weaker (FormedAndCounts E) IsFormed (λ l gs h. h.0) t h
+pub formed : (E : Env) (t : Term) → IsCounted E t → IsFormed t
+formed E t h = each_weaker (IsCountedNode E) HasForm (λ l gs h. h.0) t h
 
 -- the levels of a sort that has a type are declared
 pub sort_declared : {m : Mode} {E : Env} {c : Context} {s : Sort} {T : Term} → Types m E c (SortT s) T → IsDeclared E s
@@ -53,7 +55,7 @@ declared_over E (Of u) h = h.1
 
 -- an inference that has been found sound
 abbrev pub Infers : Env → Typing → Type 0
-Infers E inf = (c : Context) (t T : Term) (u v : Account) → ContextWellCounted E c → Formed t → (inf c t u).end ≡ run.Done T v → IsInferred E c t T
+Infers E inf = (c : Context) (t T : Term) (u v : Account) → IsCountedContext E c → IsFormed t → (inf c t u).end ≡ run.Done T v → IsInferred E c t T
 
 declared_from : (o : Option Level) (u v : Account) → (levels_declared o u).end ≡ run.Done tt v → o ≡ None
 declared_from None u v h = refl
@@ -105,7 +107,7 @@ constructor_is : (F : FamilyDecl) (n : ℕ) (o : Option Constructor) (C : Constr
 constructor_is F n None C u v h = absurd (refused_done h)
 constructor_is F n (Some D) C u v h = ap Some (done_value h)
 
-module _ (E : Env) (w : EnvWellCounted E) (c : Context) (k : ContextWellCounted E c) where
+module _ (E : Env) (w : HasCountedDeclarations E) (c : Context) (k : IsCountedContext E c) where
   rel_sound : (i : ℕ) (o : Option Term) (T : Term) (u v : Account) → type_at c i ≡ o → (rel_rule c i o u).end ≡ run.Done T v → IsInferred E c (Rel i) T
   rel_sound i None T u v e h = absurd (refused_done h)
   rel_sound i (Some X) T u v e h =
@@ -129,7 +131,7 @@ module _ (E : Env) (w : EnvWellCounted E) (c : Context) (k : ContextWellCounted 
   const_found l (Some (Constant m X b)) T u v e h =
       let r = kept_is E.declarations l (Constant m X b) e in
       subst (λ T. IsInferred E c (Const l) T) (done_value h)
-      (record { typed = const (subst (λ x. KeepsConstant E x X b) r.1 r.0); subject = ((tt, tt), tt); classifier = (w (Constant m X b) r.0).0 })
+      (record { typed = const (subst (λ x. KeepsConstant E x X b) r.1 r.0); subject = (((tt, tt), tt), tt); classifier = (w (Constant m X b) r.0).0 })
 
   pub const_rule_sound : (l : Name) (T : Term) (u v : Account) → (const_rule l (kept_at E.declarations l) u).end ≡ run.Done T v → IsInferred E c (Const l) T
   const_rule_sound l T u v h = const_found l (kept_at E.declarations l) T u v refl h
@@ -158,8 +160,8 @@ module _ (E : Env) (w : EnvWellCounted E) (c : Context) (k : ContextWellCounted 
         classifier = constructor_type_counted E f F C counted (slice_counted E F.constructors n C counted.2 there);
       })
 
-module _ (E : Env) (w : EnvWellCounted E) (inf : Typing) (si : Infers E inf) where
-  found_sound : (c : Context) (a T W : Term) (s : Sort) (u v : Account) → ContextWellCounted E c → Types guarded E c a T → Equal E (values c) T W →
+module _ (E : Env) (w : HasCountedDeclarations E) (inf : Typing) (si : Infers E inf) where
+  found_sound : (c : Context) (a T W : Term) (s : Sort) (u v : Account) → IsCountedContext E c → Types guarded E c a T → Equal E (values c) T W →
       (sort_found inf c T W u).end ≡ run.Done s v → Types guarded E c a (SortT s)
   found_sound c a T (SortT r) s u v k t e h =
       let go : Run Sort = bind (conv u) (λ _ v. bind (inf c (SortT r) v) (λ _ w. done r w)) in
@@ -168,12 +170,12 @@ module _ (E : Env) (w : EnvWellCounted E) (inf : Typing) (si : Infers E inf) whe
         | inr p ↦
             let p1 = bind_both (conv u) (λ _ v. bind (inf c (SortT r) v) (λ _ w. done r w)) s v p.1 in
             let p2 = bind_both (inf c (SortT r) p1.1) (λ _ w. done r w) s v p1.3 in
-            let i = si c (SortT r) p2.0 p1.1 p2.1 k (tt, tt) p2.2 in
+            let i = si c (SortT r) p2.0 p1.1 p2.1 k ((tt, tt), tt) p2.2 in
             subst (λ s. Types guarded E c a (SortT s)) (done_value p2.3) (convert t (of_equal e) (sort (sort_declared i.typed)))
       ]
   found_sound c a T W s u v k t e h = absurd (refused_done h)
 
-  found_over : (c : Context) (T W : Term) (s : Sort) (u v : Account) → WellCounted E W → (sort_found inf c T W u).end ≡ run.Done s v → IsSortOver E.levels s
+  found_over : (c : Context) (T W : Term) (s : Sort) (u v : Account) → IsCounted E W → (sort_found inf c T W u).end ≡ run.Done s v → IsSortOver E.levels s
   found_over c T (SortT r) s u v wW h =
       let go : Run Sort = bind (conv u) (λ _ v. bind (inf c (SortT r) v) (λ _ w. done r w)) in
       elim (if_done (same T (SortT r)) (done r u) go s v h) [
@@ -186,8 +188,8 @@ module _ (E : Env) (w : EnvWellCounted E) (inf : Typing) (si : Infers E inf) whe
   found_over c T W s u v wW h = absurd (refused_done h)
 
   -- a term's sort
-  pub sort_sound : (c : Context) (A : Term) (s : Sort) (u v : Account) → ContextWellCounted E c → Formed A → (sort_of E inf c A u).end ≡ run.Done s v →
-      Types guarded E c A (SortT s) × WellCounted E A × IsSortOver E.levels s
+  pub sort_sound : (c : Context) (A : Term) (s : Sort) (u v : Account) → IsCountedContext E c → IsFormed A → (sort_of E inf c A u).end ≡ run.Done s v →
+      Types guarded E c A (SortT s) × IsCounted E A × IsSortOver E.levels s
   unfolding sort_of
   sort_sound c A s u v k f h =
       let p1 = bind_both (inf c A u) (λ T v. bind (whnf E (values c) T v) (λ W w. sort_found inf c T W w)) s v h in
@@ -198,7 +200,7 @@ module _ (E : Env) (w : EnvWellCounted E) (inf : Typing) (si : Infers E inf) whe
         found_over c p1.0 p2.0 s p2.1 v (whnf_counted E w (values c) (values_counted E c k) p1.0 p2.0 p1.1 p2.1 i.classifier p2.2) p2.3,
       )
 
-  pub retype_sound : (c : Context) (t T W : Term) (u v : Account) → ContextWellCounted E c → WellCounted E W → Types guarded E c t T → Equal E (values c) T W →
+  pub retype_sound : (c : Context) (t T W : Term) (u v : Account) → IsCountedContext E c → IsCounted E W → Types guarded E c t T → Equal E (values c) T W →
       (retype E inf c T W u).end ≡ run.Done tt v → Types guarded E c t W
   unfolding retype
   retype_sound c t T W u v k wc p e h =
@@ -211,7 +213,7 @@ module _ (E : Env) (w : EnvWellCounted E) (inf : Typing) (si : Infers E inf) whe
             convert p (of_equal e) (sort_sound c W p2.0 p1.1 p2.1 k (formed E W wc) p2.2).0
       ]
 
-  pub prod_rule_sound : (c : Context) (A B T : Term) (u v : Account) → ContextWellCounted E c → Formed A → Formed B → (prod_rule E inf c A B u).end ≡ run.Done T v →
+  pub prod_rule_sound : (c : Context) (A B T : Term) (u v : Account) → IsCountedContext E c → IsFormed A → IsFormed B → (prod_rule E inf c A B u).end ≡ run.Done T v →
       IsInferred E c (Prod A B) T
   prod_rule_sound c A B T u v k fA fB h =
       let p1 = bind_both (sort_of E inf c A u) (λ s v. bind (sort_of E inf (Assumed A ∷ c) B v) (λ r w. done (SortT (product_sort s r)) w)) T v h in
@@ -221,7 +223,7 @@ module _ (E : Env) (w : EnvWellCounted E) (inf : Typing) (si : Infers E inf) whe
       subst (λ T. IsInferred E c (Prod A B) T) (done_value p2.3)
       (record { typed = prod a.0 b.0; subject = prod_counted E A B a.1 b.1; classifier = sort_counted E (product_sort p1.0 p2.0) (over-product_sort E.levels p1.0 p2.0 a.2 b.2) })
 
-  pub lambda_rule_sound : (c : Context) (A b T : Term) (u v : Account) → ContextWellCounted E c → Formed A → Formed b → (lambda_rule E inf c A b u).end ≡ run.Done T v →
+  pub lambda_rule_sound : (c : Context) (A b T : Term) (u v : Account) → IsCountedContext E c → IsFormed A → IsFormed b → (lambda_rule E inf c A b u).end ≡ run.Done T v →
       IsInferred E c (Lambda A b) T
   lambda_rule_sound c A b T u v k fA fb h =
       let p1 = bind_both (sort_of E inf c A u) (λ _ v. bind (inf (Assumed A ∷ c) b v) (λ B w. make (Prod A B) w)) T v h in
@@ -229,12 +231,12 @@ module _ (E : Env) (w : EnvWellCounted E) (inf : Typing) (si : Infers E inf) whe
       let a = sort_sound c A p1.0 u p1.1 k fA p1.2 in
       let i = si (Assumed A ∷ c) b p2.0 p1.1 p2.1 (a.1, k) fb p2.2 in
       subst (λ T. IsInferred E c (Lambda A b) T) (done_value p2.3)
-      (record { typed = lambda a.0 i.typed; subject = ((tt, tt), (a.1, (i.subject, tt))); classifier = prod_counted E A p2.0 a.1 i.classifier })
+      (record { typed = lambda a.0 i.typed; subject = (((tt, tt), tt), (a.1, (i.subject, tt))); classifier = prod_counted E A p2.0 a.1 i.classifier })
 
   module _ (cmp : Comparison) (sc : IsSound E cmp) where
     -- a term against a type
-    pub check_sound : (c : Context) (t T : Term) (u v : Account) → ContextWellCounted E c → Formed t → Formed T → (check E inf cmp c t T u).end ≡ run.Done tt v →
-        Types guarded E c t T × WellCounted E t
+    pub check_sound : (c : Context) (t T : Term) (u v : Account) → IsCountedContext E c → IsFormed t → IsFormed T → (check E inf cmp c t T u).end ≡ run.Done tt v →
+        Types guarded E c t T × IsCounted E t
     unfolding check
     check_sound c t T u v k ft fT h =
         let k1 : Term → Account → Run (Unit {0}) = λ S v. if same S T then done tt v else bind (conv v) (λ _ w. bind (sort_of E inf c T w) (λ _ x. cmp c false S T x)) in
@@ -251,7 +253,7 @@ module _ (E : Env) (w : EnvWellCounted E) (inf : Typing) (si : Infers E inf) whe
               (convert i.typed (sc c false S T p3.1 v (values_counted E c k) i.classifier s.1 p3.3) s.0, i.subject)
         ]
 
-    pub let_rule_sound : (c : Context) (b B t T : Term) (u v : Account) → ContextWellCounted E c → Formed b → Formed B → Formed t →
+    pub let_rule_sound : (c : Context) (b B t T : Term) (u v : Account) → IsCountedContext E c → IsFormed b → IsFormed B → IsFormed t →
         (let_rule E inf cmp c b B t u).end ≡ run.Done T v → IsInferred E c (LetIn b B t) T
     let_rule_sound c b B t T u v k fb fB ft h =
         let k2 : Unit {0} → Account → Run Term = λ _ w. bind (inf (Defined b B ∷ c) t w) (λ T x. make (LetIn b B T) x) in
@@ -264,11 +266,11 @@ module _ (E : Env) (w : EnvWellCounted E) (inf : Typing) (si : Infers E inf) whe
         subst (λ T. IsInferred E c (LetIn b B t) T) (done_value p3.3)
         (record {
           typed = let_in s.0 d.0 i.typed;
-          subject = ((tt, tt), (d.1, (s.1, (i.subject, tt))));
-          classifier = ((tt, tt), (d.1, (s.1, (i.classifier, tt))));
+          subject = (((tt, tt), tt), (d.1, (s.1, (i.subject, tt))));
+          classifier = (((tt, tt), tt), (d.1, (s.1, (i.classifier, tt))));
         })
 
-    app_found_sound : (c : Context) (f a T0 W T : Term) (u v : Account) → ContextWellCounted E c → WellCounted E f → Formed a → WellCounted E W →
+    app_found_sound : (c : Context) (f a T0 W T : Term) (u v : Account) → IsCountedContext E c → IsCounted E f → IsFormed a → IsCounted E W →
         Types guarded E c f T0 → Equal E (values c) T0 W → (app_found E inf cmp c a T0 W u).end ≡ run.Done T v → IsInferred E c (App f a) T
     app_found_sound c f a T0 (Prod A B) T u v k wf fa wW p e h =
         let k1 : Unit {0} → Account → Run Term = λ _ v. bind (check E inf cmp c a A v) (λ _ w. make (substitute (put a) B) w) in
@@ -284,7 +286,7 @@ module _ (E : Env) (w : EnvWellCounted E) (inf : Typing) (si : Infers E inf) whe
         })
     app_found_sound c f a T0 W T u v k wf fa wW p e h = absurd (refused_done h)
 
-    pub app_rule_sound : (c : Context) (f a T : Term) (u v : Account) → ContextWellCounted E c → Formed f → Formed a → (app_rule E inf cmp c f a u).end ≡ run.Done T v →
+    pub app_rule_sound : (c : Context) (f a T : Term) (u v : Account) → IsCountedContext E c → IsFormed f → IsFormed a → (app_rule E inf cmp c f a u).end ≡ run.Done T v →
         IsInferred E c (App f a) T
     app_rule_sound c f a T u v k ff fa h =
         let p1 = bind_both (inf c f u) (λ T v. bind (whnf E (values c) T v) (λ W w. app_found E inf cmp c a T W w)) T v h in

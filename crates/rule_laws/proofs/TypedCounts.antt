@@ -1,11 +1,10 @@
 -- What has a type is well counted, and so is an accepted environment.
-use Rattle.std.proofs.Common.{◌≡◌, ℕ, suc, List, [], ◌∷◌, ◌++◌, map, length, Option, Some, None, refl, ap, ◌∙◌, slice_get}
+use Rattle.std.proofs.Common.{◌≡◌, ℕ, zero, suc, ◌<◌, List, [], ◌∷◌, ◌++◌, map, length, Option, Some, None, refl, ap, ◌∙◌, slice_get, arith}
 use Rattle.universe_levels.proofs.OverLemmas.{over-super_sort, over-product_sort}
 use Rattle.universe_levels.specs.Sorts.{super_sort, product_sort}
 use Rattle.pc_terms.specs.Syntax.{Ind, put}
 use Rattle.pc_rules.specs.declared.declaration.Kept.TheVariants.{Heads}
 use Rattle.pc_rules.specs.Environment.{head_of, heads_of}
-use Rattle.rule_laws.specs.WellCounted.{SortsOver, ContextWellCounted}
 use Rattle.rule_laws.proofs.Counted.{put_counted, substituted_counted, function_counted, parts_counted, term_counted}
 use Rattle.rule_laws.proofs.KeepCounts.{known_counted, kept_counted}
 use Rattle.rule_laws.proofs.CountedParts.{prod_counted, sort_counted, family_type_counted, slice_counted, constructor_type_counted, predicate_at_counted, type_counted, context_extended}
@@ -14,75 +13,85 @@ use Rattle.rule_laws.proofs.Extending.{finds_more}
 use Rattle.universe_levels.specs.declared.constraint.Constraint.{Constraint}
 use Rattle.universe_levels.specs.declared.sort.Sort.{Sort}
 use Rattle.pc_terms.specs.declared.leaf.FamilyId.{FamilyId}
-use Rattle.pc_terms.specs.Syntax.{Term, Terms, terms_of}
+use Rattle.pc_terms.specs.Syntax.{Term, Terms, Done, Next, terms_of, term_at, number}
+use Rattle.pc_terms.specs.Formed.{binders_of, EachTerm, AreAll}
 use Rattle.pc_rules.specs.declared.declaration.Constructor.{Constructor}
 use Rattle.pc_rules.specs.declared.declaration.Family.{Family}
 use Rattle.pc_rules.specs.declared.declaration.Block.{Block}
 use Rattle.pc_rules.specs.declared.declaration.Kept.{Kept}
 use Rattle.pc_rules.specs.declared.declaration.Kept.TheVariants.{Constant, Block as Whole}
-use Rattle.pc_rules.specs.Environment.{Env, heads_of}
+use Rattle.pc_rules.specs.Environment.{Env}
 use Rattle.pc_rules.specs.Context.{Context}
 use Rattle.pc_rules.specs.Typing.{Mode, Types, rel, sort, prod, lambda, let_in, app, const, ind, construct, case, fix, conv, TypesAll, no_terms, term, Entries, no_entries, entry, Branches, no_branches, branch, Sorts, no_types, a_type, Bodies, no_bodies, a_body, EntrySorts, no_sorts, a_sort}
 use Rattle.pc_rules.specs.Accepted.{BodyFits, ConstructorFits, FamilyFits, Accepted, empty, constant, block, env, IsAccepted}
-use Rattle.pc_rules.specs.DirectedComparison.{names_of}
 use Rattle.pc_rules.specs.DirectedDeclarations.{with_heads}
+use Rattle.pc_rules.specs.WellCounted.{AreSortsOver, IsCountedContext, IsCountedNode, arities, IsCounted, AreCounted, AreCountedConstructors, AreCountedFamilies, IsCountedBody, HasCountedDeclarations, IsCountedEnv}
 use Rattle.rule_laws.specs.Reduction.{HasNamesOnce}
-use Rattle.rule_laws.specs.WellCounted.{EachTerm, FormedAndCounts, AreAll, arities, WellCounted, AllWellCounted, ConstructorsWellCounted, FamiliesWellCounted, BodyWellCounted, EnvWellCounted}
 use Rattle.rule_laws.proofs.Names.{family_once, heads_once, once_accepted}
 use Rattle.rule_laws.proofs.Counted.{before_shift}
 use Rattle.rule_laws.proofs.Comparing.{names_long}
 use Rattle.rule_laws.proofs.Extending.{all_more, finds_without, env_more}
 use Rattle.rule_laws.proofs.Environments.{nothing_counted}
 
-list_names : (ts : List Term) → AreAll 0 (names_of (terms_of ts))
+list_names : (ts : List Term) → AreAll 0 (binders_of (terms_of ts))
 list_names [] = tt
 list_names (t ∷ ts) = (refl, list_names ts)
 
-names_of_list : (ts : List Term) → length (names_of (terms_of ts)) ≡ length ts
+names_of_list : (ts : List Term) → length (binders_of (terms_of ts)) ≡ length ts
 names_of_list [] = refl
 names_of_list (t ∷ ts) = ap suc (names_of_list ts)
+
+none_some : {A : Type 0} {x : A} → None ≡ Some x → ⊥
+none_some e = cc
+
+place_within : (ts : Terms) (i : ℕ) {p : ℕ × Term} → term_at ts i ≡ Some p → i < number ts
+place_within Done i e = absurd (none_some e)
+place_within (Next n t ts) zero e = omega arith
+place_within (Next n t ts) (suc i) e = let l : i < number ts = place_within ts i e in omega arith
 
 module _ (E : Env) (once : HasNamesOnce E) where
   -- a list, as the terms of a match's parameters
   record AreTerms (ts As : List Term) : Type 0 where
     long : length ts ≡ length As
-    all : AllWellCounted E ts
-    each : EachTerm (FormedAndCounts E) (terms_of ts)
+    all : AreCounted E ts
+    each : EachTerm (IsCountedNode E) (terms_of ts)
 
   record AreBranches (Cs : List Constructor) (bs : Terms) : Type 0 where
-    names : names_of bs ≡ arities Cs
-    all : EachTerm (FormedAndCounts E) bs
+    names : binders_of bs ≡ arities Cs
+    all : EachTerm (IsCountedNode E) bs
 
   record AreTypes (types : Terms) : Type 0 where
-    names : AreAll 0 (names_of types)
-    all : EachTerm (FormedAndCounts E) types
+    names : AreAll 0 (binders_of types)
+    all : EachTerm (IsCountedNode E) types
 
   record AreBodies (n : ℕ) (rargs : List ℕ) (bodies : Terms) : Type 0 where
-    long : length (names_of bodies) ≡ length rargs
-    names : AreAll n (names_of bodies)
-    all : EachTerm (FormedAndCounts E) bodies
+    long : length (binders_of bodies) ≡ length rargs
+    names : AreAll n (binders_of bodies)
+    all : EachTerm (IsCountedNode E) bodies
 
   mutual
-    pub typed_counted : {m : Mode} {c : Context} {t T : Term} → Types m E c t T → WellCounted E t
+    pub typed_counted : {m : Mode} {c : Context} {t T : Term} → Types m E c t T → IsCounted E t
     typed_counted (rel e) = tt
-    typed_counted (sort {s = s} h) = ((tt, declared_over E s h), tt)
-    typed_counted (prod p q) = ((tt, tt), (typed_counted p, (typed_counted q, tt)))
-    typed_counted (lambda p q) = ((tt, tt), (typed_counted p, (typed_counted q, tt)))
-    typed_counted (let_in p q r) = ((tt, tt), (typed_counted q, (typed_counted p, (typed_counted r, tt))))
-    typed_counted (app p q) = ((tt, tt), (typed_counted p, (typed_counted q, tt)))
-    typed_counted (const k) = ((tt, tt), tt)
-    typed_counted (ind k) = ((tt, tt), tt)
-    typed_counted (construct k e) = ((tt, tt), tt)
+    typed_counted (sort {s = s} h) = (((tt, tt), declared_over E s h), tt)
+    typed_counted (prod p q) = (((tt, tt), tt), (typed_counted p, (typed_counted q, tt)))
+    typed_counted (lambda p q) = (((tt, tt), tt), (typed_counted p, (typed_counted q, tt)))
+    typed_counted (let_in p q r) = (((tt, tt), tt), (typed_counted q, (typed_counted p, (typed_counted r, tt))))
+    typed_counted (app p q) = (((tt, tt), tt), (typed_counted p, (typed_counted q, tt)))
+    typed_counted (const k) = (((tt, tt), tt), tt)
+    typed_counted (ind k) = (((tt, tt), tt), tt)
+    typed_counted (construct k e) = (((tt, tt), tt), tt)
     typed_counted (case {f = f} {F = F} ps is k e l p es q may s bs) =
         let a = terms_counted p in
         let b = branches_counted bs in (
-          (list_names ps, (F, family_once E once f F k, names_of_list ps ∙ a.long, e, b.names)),
+          ((list_names ps, tt), (F, family_once E once f F k, names_of_list ps ∙ a.long, e, b.names)),
           (a.each, (typed_counted q, (typed_counted s, (b.all, tt)))),
         )
-    typed_counted (fix {types = types} e h p b ask) =
+    typed_counted (fix {i = i} {rargs = rargs} {types = types} e h p b ask) =
+        let l : i < number types = place_within types i h in
+        let named : i < length rargs = omega arith in
         let ts = types_counted p in
         let bs = bodies_counted b in
-        (((names_long types ∙ e, ts.names, bs.long, bs.names), tt), (ts.all, (bs.all, tt)))
+        ((((names_long types ∙ e, ts.names, bs.long, bs.names), named), tt), (ts.all, (bs.all, tt)))
     typed_counted (conv p b q) = typed_counted p
 
     terms_counted : {m : Mode} {c : Context} {s : ℕ → Term} {ts As : List Term} → TypesAll m E c s ts As → AreTerms ts As
@@ -107,28 +116,28 @@ module _ (E : Env) (once : HasNamesOnce E) where
     bodies_counted (a_body r p ps) =
         let q = bodies_counted ps in record { long = ap suc q.long; names = (refl, q.names); all = (typed_counted p, q.all) }
 
-  entries_counted : {m : Mode} {c : Context} {As : List Term} → Entries m E c As → AllWellCounted E As
+  entries_counted : {m : Mode} {c : Context} {As : List Term} → Entries m E c As → AreCounted E As
   entries_counted no_entries = tt
   entries_counted (entry p ps) = (typed_counted p, entries_counted ps)
 
-  sorts_counted : {m : Mode} {c : Context} {As : List Term} {ss : List Sort} → EntrySorts m E c As ss → AllWellCounted E As
+  sorts_counted : {m : Mode} {c : Context} {As : List Term} {ss : List Sort} → EntrySorts m E c As ss → AreCounted E As
   sorts_counted no_sorts = tt
   sorts_counted (a_sort p ps) = (typed_counted p, sorts_counted ps)
 
-  body_counted : (T : Term) (b : Option Term) → BodyFits E T b → BodyWellCounted E b
+  body_counted : (T : Term) (b : Option Term) → BodyFits E T b → IsCountedBody E b
   body_counted T None h = tt
   body_counted T (Some b) h = typed_counted h
 
   -- in a well-counted environment and context the type is well counted too
-  module _ (w : EnvWellCounted E) where
-    pub type_of_typed : {m : Mode} {c : Context} {t T : Term} → ContextWellCounted E c → Types m E c t T → WellCounted E T
+  module _ (w : HasCountedDeclarations E) where
+    pub type_of_typed : {m : Mode} {c : Context} {t T : Term} → IsCountedContext E c → Types m E c t T → IsCounted E T
     type_of_typed {c = c} {T = T} k (rel {i = i} e) = type_counted E c i T k e
     type_of_typed k (sort {s = s} h) = sort_counted E (super_sort s) (over-super_sort E.levels s (declared_over E s h))
     type_of_typed k (prod {s = s} {s' = r} p q) =
         sort_counted E (product_sort s r) (over-product_sort E.levels s r (type_of_typed k p).0.1 (type_of_typed (typed_counted p, k) q).0.1)
     type_of_typed k (lambda {A = A} {B = B} p q) = prod_counted E A B (typed_counted p) (type_of_typed (typed_counted p, k) q)
     type_of_typed k (let_in p q r) =
-        ((tt, tt), (typed_counted q, (typed_counted p, (type_of_typed ((typed_counted q, typed_counted p), k) r, tt))))
+        (((tt, tt), tt), (typed_counted q, (typed_counted p, (type_of_typed ((typed_counted q, typed_counted p), k) r, tt))))
     type_of_typed k (app {a = a} {A = A} {B = B} p q) =
         substituted_counted E (put a) B (put_counted E a (typed_counted q)) (type_of_typed k p).1.1.0
     type_of_typed k (const {k = l} {T = T} {b = b} h) = (w (Constant l T b) h).0
@@ -140,16 +149,16 @@ module _ (E : Env) (once : HasNamesOnce E) where
     type_of_typed {T = T} k (fix {i = i} {types = types} e h p b ask) = term_counted E types i 0 T (types_counted p).all h
     type_of_typed k (conv p b q) = typed_counted q
 
-    over_sorts : {m : Mode} {c : Context} {As : List Term} {ss : List Sort} → ContextWellCounted E c → EntrySorts m E c As ss → SortsOver E.levels ss
+    over_sorts : {m : Mode} {c : Context} {As : List Term} {ss : List Sort} → IsCountedContext E c → EntrySorts m E c As ss → AreSortsOver E.levels ss
     over_sorts k no_sorts = tt
     over_sorts k (a_sort p ps) = ((type_of_typed k p).0.1, over_sorts (typed_counted p, k) ps)
 
 -- a block over the environment, with its constructors over its heads
 
 module _ (levels : ℕ) (cs : List Constraint) (ds : List Kept) (B : Block) (once : HasNamesOnce (env levels cs ds)) (once_heads : HasNamesOnce (with_heads (env levels cs ds) B))
-    (whole : EnvWellCounted (with_heads (env levels cs ds) B)) (params : AllWellCounted (with_heads (env levels cs ds) B) B.params) where
+    (whole : HasCountedDeclarations (with_heads (env levels cs ds) B)) (params : AreCounted (with_heads (env levels cs ds) B) B.params) where
   constructors_counted : (F : Family) (Cs : List Constructor) →
-      ((n : ℕ) (C : Constructor) → slice_get Cs n ≡ Some C → ConstructorFits (with_heads (env levels cs ds) B) B F C) → ConstructorsWellCounted (env levels cs ds) Cs
+      ((n : ℕ) (C : Constructor) → slice_get Cs n ≡ Some C → ConstructorFits (with_heads (env levels cs ds) B) B F C) → AreCountedConstructors (env levels cs ds) Cs
   constructors_counted F [] h = tt
   constructors_counted F (C ∷ Cs) h =
       let H : Env = with_heads (env levels cs ds) B in
@@ -164,7 +173,7 @@ module _ (levels : ℕ) (cs : List Constraint) (ds : List Kept) (B : Block) (onc
       )
 
   families_counted : (Fs : List Family) → ((n : ℕ) (F : Family) → slice_get Fs n ≡ Some F → FamilyFits (env levels cs ds) (with_heads (env levels cs ds) B) B F) →
-      FamiliesWellCounted (env levels cs ds) Fs
+      AreCountedFamilies (env levels cs ds) Fs
   families_counted [] h = tt
   families_counted (F ∷ Fs) h =
       let fits = h 0 F refl in
@@ -172,7 +181,7 @@ module _ (levels : ℕ) (cs : List Constraint) (ds : List Kept) (B : Block) (onc
 
 heads_counted : (levels : ℕ) (cs : List Constraint) (ds : List Kept) (B : Block) → HasNamesOnce (env levels cs ds) → (Fs : List Family) →
     ((n : ℕ) (F : Family) → slice_get Fs n ≡ Some F → FamilyFits (env levels cs ds) (with_heads (env levels cs ds) B) B F) →
-    FamiliesWellCounted (env levels cs ds) (map head_of Fs)
+    AreCountedFamilies (env levels cs ds) (map head_of Fs)
 heads_counted levels cs ds B once [] h = tt
 heads_counted levels cs ds B once (F ∷ Fs) h =
     let fits = h 0 F refl in (
@@ -180,7 +189,7 @@ heads_counted levels cs ds B once (F ∷ Fs) h =
       heads_counted levels cs ds B once Fs (λ n G e. h (suc n) G e),
     )
 
-declarations_counted : (levels : ℕ) (cs : List Constraint) (ds : List Kept) → Accepted levels cs ds → EnvWellCounted (env levels cs ds)
+declarations_counted : (levels : ℕ) (cs : List Constraint) (ds : List Kept) → Accepted levels cs ds → HasCountedDeclarations (env levels cs ds)
 declarations_counted levels cs [] empty = nothing_counted levels cs
 declarations_counted levels cs (x ∷ ds) (constant {k = k} {T = T} {b = b} a fresh p q) =
     let E : Env = env levels cs ds in
@@ -189,13 +198,14 @@ declarations_counted levels cs (x ∷ ds) (constant {k = k} {T = T} {b = b} a fr
 declarations_counted levels cs (x ∷ ds) (block {B = B} a fresh p) =
     let E : Env = env levels cs ds in
     let once : HasNamesOnce E = once_accepted levels cs ds a in
-    let w : EnvWellCounted E = declarations_counted levels cs ds a in
-    let params : AllWellCounted E B.params = entries_counted E once p.parameters in
-    let whole : EnvWellCounted (with_heads E B) =
+    let w : HasCountedDeclarations E = declarations_counted levels cs ds a in
+    let params : AreCounted E B.params = entries_counted E once p.parameters in
+    let whole : HasCountedDeclarations (with_heads E B) =
     env_more levels cs ds (Heads (heads_of B)) fresh w (params, heads_counted levels cs ds B once B.families p.families) in
     let more = all_more E (with_heads E B) (finds_more levels cs ds (Heads (heads_of B)) fresh) B.params params in
     env_more levels cs ds (Whole B) fresh w
     (params, families_counted levels cs ds B once (heads_once E B once fresh) whole more B.families p.families)
 
-pub accepted_counted : (E : Env) → IsAccepted E → EnvWellCounted E
-accepted_counted E a = declarations_counted E.levels E.constraints E.declarations a.declarations
+pub accepted_counted : (E : Env) → IsAccepted E → IsCountedEnv E
+accepted_counted E a =
+    record { constraints = a.over; declarations = declarations_counted E.levels E.constraints E.declarations a.declarations }

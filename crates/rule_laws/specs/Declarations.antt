@@ -4,6 +4,7 @@ use Rattle.universe_levels.specs.declared.level.Level.{Level}
 use Rattle.universe_levels.specs.declared.constraint.Constraint.{Constraint}
 use Rattle.universe_levels.specs.Consistency.{IsConsistent}
 use Rattle.pc_terms.specs.Syntax.{Term}
+use Rattle.pc_terms.specs.Formed.{IsFormed}
 use Rattle.pc_rules.specs.declared.declaration.Constructor.{Constructor}
 use Rattle.pc_rules.specs.declared.declaration.Family.{Family}
 use Rattle.pc_rules.specs.declared.declaration.Block.{Block}
@@ -15,7 +16,7 @@ use Rattle.pc_rules.specs.Accepted.{IsFresh, BlockFits, IsWellFormed, Accepted, 
 use Rattle.pc_rules.specs.DirectedRun.{Done}
 use Rattle.pc_rules.specs.DirectedComparison.{Test, IsTest}
 use Rattle.pc_rules.specs.DirectedDeclarations.{with_heads, block_rule, Given, GivenConstant, GivenBlock, declaration_rule, Accepts, environment_rule}
-use Rattle.rule_laws.specs.WellCounted.{Formed, EnvWellCounted}
+use Rattle.pc_rules.specs.WellCounted.{HasCountedDeclarations, IsCountedEnv}
 use Rattle.rule_laws.specs.Inference.{AllFormed}
 
 -- declarations whose terms are formed as terms in memory are; none is the heads of a block
@@ -33,10 +34,10 @@ BlockFormed B = AllFormed B.params × FamiliesFormed B.families
 
 abbrev pub BodyFormed : Option Term → Type 0
 BodyFormed None = Unit {0}
-BodyFormed (Some b) = Formed b
+BodyFormed (Some b) = IsFormed b
 
 abbrev pub GivenFormed : Given → Type 0
-GivenFormed (GivenConstant k T b) = Formed T × BodyFormed b
+GivenFormed (GivenConstant k T b) = IsFormed T × BodyFormed b
 GivenFormed (GivenBlock B) = BlockFormed B
 
 abbrev pub AllGivenFormed : List Given → Type 0
@@ -69,20 +70,20 @@ pub record IsCheckedBlock (E : Env) (B D : Block) : Type 0 where
   pub fits : BlockFits E (with_heads E D) D
   pub heads : heads_of D ≡ heads_of B
   pub same : plain_block D ≡ plain_block B
-  pub counted : EnvWellCounted (env E.levels E.constraints (Whole D ∷ E.declarations))
+  pub counted : HasCountedDeclarations (env E.levels E.constraints (Whole D ∷ E.declarations))
 
 abbrev pub BlocksAreSound : Type 0
-BlocksAreSound = (E : Env) (q : Test) → IsTest E.levels E.constraints q → EnvWellCounted E → (n : ℕ) (B D : Block) (u v : Account) →
+BlocksAreSound = (E : Env) (q : Test) → IsTest E.levels E.constraints q → HasCountedDeclarations E → (n : ℕ) (B D : Block) (u v : Account) →
     IsFresh B.name E.declarations → BlockFormed B → (block_rule E q n B u).end ≡ Done D v → IsCheckedBlock E B D
 
 -- one more declaration is accepted, with sorts of constructor arguments
 pub record IsCheckedDeclaration (levels : ℕ) (cs : List Constraint) (ds : List Kept) (d : Given) (e : Kept) : Type 0 where
   pub accepted : Accepted levels cs (e ∷ ds)
-  pub counted : EnvWellCounted (env levels cs (e ∷ ds))
+  pub counted : HasCountedDeclarations (env levels cs (e ∷ ds))
   pub same : plain e ≡ plain_given d
 
 abbrev pub DeclarationsAreSound : Type 0
-DeclarationsAreSound = (levels : ℕ) (cs : List Constraint) (ds : List Kept) (q : Test) → IsTest levels cs q → Accepted levels cs ds → EnvWellCounted (env levels cs ds) →
+DeclarationsAreSound = (levels : ℕ) (cs : List Constraint) (ds : List Kept) (q : Test) → IsTest levels cs q → Accepted levels cs ds → HasCountedDeclarations (env levels cs ds) →
     (n : ℕ) (d : Given) (e : Kept) (u v : Account) → GivenFormed d → (declaration_rule (env levels cs ds) q n d u).end ≡ Done e v →
     IsCheckedDeclaration levels cs ds d e
 
@@ -90,11 +91,11 @@ DeclarationsAreSound = (levels : ℕ) (cs : List Constraint) (ds : List Kept) (q
 -- first, with sorts of constructor arguments
 pub record IsCheckedEnvironment (levels : List Level) (cs : List Constraint) (ds : List Given) (main : Term) (E : Env) (T : Term) : Type 0 where
   pub formed : IsWellFormed levels E main T
-  pub counted : EnvWellCounted E
+  pub counted : IsCountedEnv E
   pub constraints : E.constraints ≡ cs
   pub declarations : map plain E.declarations ≡ reverse (map plain_given ds)
 
 abbrev pub EnvironmentsAreSound : Type 0
 EnvironmentsAreSound = (levels : List Level) (cs : List Constraint) (cycle : Option (List ℕ)) (q : Test) → IsTest (length levels) cs q →
-    (cycle ≡ None → IsConsistent (length levels) cs) → (n : ℕ) (ds : List Given) (main T : Term) (E : Env) (u v : Account) → AllGivenFormed ds → Formed main →
+    (cycle ≡ None → IsConsistent (length levels) cs) → (n : ℕ) (ds : List Given) (main T : Term) (E : Env) (u v : Account) → AllGivenFormed ds → IsFormed main →
     (environment_rule levels cs cycle q n ds main u).outcome ≡ Accepts E T v → IsCheckedEnvironment levels cs ds main E T

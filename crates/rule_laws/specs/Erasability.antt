@@ -9,7 +9,7 @@ use Rattle.pc_rules.specs.DirectedRun.{Done}
 use Rattle.pc_rules.specs.DirectedComparison.{Test, IsTest}
 use Rattle.pc_rules.specs.DirectedTyping.{infer}
 use Rattle.pc_rules.specs.DirectedErasable.{erasable_test}
-use Rattle.rule_laws.specs.WellCounted.{WellCounted, EnvWellCounted, ContextWellCounted}
+use Rattle.pc_rules.specs.WellCounted.{IsCounted, HasCountedDeclarations, IsCountedContext}
 
 -- the term is erasable, by evidence of that kind
 abbrev pub HasEvidence : Env → Context → Term → Kind → Type 0
@@ -17,5 +17,5 @@ HasEvidence E c t k = (e : Erasable E c t) × (kind_of e ≡ k)
 
 -- where the test finds evidence there is evidence of that kind
 abbrev pub EvidenceIsSound : Type 0
-EvidenceIsSound = (E : Env) (q : Test) → IsTest E.levels E.constraints q → EnvWellCounted E → (n : ℕ) (c : Context) (t : Term) (k : Kind) (u v : Account) →
-    ContextWellCounted E c → WellCounted E t → (erasable_test E (infer E q n) c t u).end ≡ Done (Some k) v → HasEvidence E c t k
+EvidenceIsSound = (E : Env) (q : Test) → IsTest E.levels E.constraints q → HasCountedDeclarations E → (n : ℕ) (c : Context) (t : Term) (k : Kind) (u v : Account) →
+    IsCountedContext E c → IsCounted E t → (erasable_test E (infer E q n) c t u).end ≡ Done (Some k) v → HasEvidence E c t k

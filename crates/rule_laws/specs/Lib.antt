@@ -1,8 +1,8 @@
 pub mod Reduction
-pub mod WellCounted
 pub mod Comparison
 pub mod Inference
 pub mod Guard
 pub mod Declarations
 pub mod Counts
+pub mod Lambdas
 pub mod Erasability

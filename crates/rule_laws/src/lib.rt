@@ -9,11 +9,13 @@
 //! - `inference`: types, sorts and checks against a type (`infer`, `sort_of`, `check`);
 //! - `declarations`: blocks, declarations and whole environments (`blocks`, `declarations`, `environments`);
 //! - `erasability`: evidence that a term is erasable (`sound`);
-//! - `counts`: what has a type is well counted (`typed`), and so are its type (`types`) and an accepted environment (`accepted`).
+//! - `counts`: what has a type is well counted (`typed`), and so are its type (`types`) and an accepted environment (`accepted`); and its fixpoints have
+//!   enough lambdas (`typed` of `typed_terms_have_lambdas`).
 //!
 //! The statements are about the directed functions alone, so they hold of every implementation that gives what those give. Their
-//! conditions are defined in `specs/WellCounted.antt`: comparison and the guard ask for well-counted terms; inference finds out by itself
-//! whether a term is, and asks only that its lists are written as those of terms in memory are.
+//! conditions are those of the checker's interfaces (`WellCounted` of `pc_rules`): comparison and the guard ask for well-counted terms;
+//! inference finds out by itself whether a term is, and asks only that it has the form of terms in memory (`Formed` of `pc_terms`). Of an
+//! environment the laws ask only that its declarations are well counted, which is a part of a well-counted environment.
 //!
 //! Below stands `pc_rules` with both kinds of rules, above the crates that compare, infer, check, erase and judge whole environments.
 #![tactic(auto)]

@@ -17,7 +17,7 @@ use std::alloc::Global;
 
 /// The term with the items of `list` in the place of its innermost variables, all at once, the last item in the place of variable 0, and
 /// the variables outside them lowered by as many and raised by `raise`. `TooDeep` only where that is beyond the limits.
-pub(crate) fn replace(alloc: Global, t: &Term, raise: u32, list: &Terms) -> Result<Term, MakeFault>
+pub fn replace(alloc: Global, t: &Term, raise: u32, list: &Terms) -> Result<Term, MakeFault>
     ensures ok { IfOk result (λ u. u ≡ substitute (put_all list.now (λ i. variable (raise + i))) t.now) }
     ensures too_deep { IfErr result (λ e. e ≡ TooDeep → IsBeyond (substitute (put_all list.now (λ i. variable (raise + i))) t.now)) }
 {

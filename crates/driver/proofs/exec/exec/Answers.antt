@@ -1,11 +1,11 @@
-use Rattle.std.proofs.Common.{◌≡◌, ◌<◌, ◌+◌, ◌*◌, ◌/◌, [], ◌∷◌, ◌++◌, Some, length, ap, sym, subst, ◌∙◌, arith}
+use Rattle.std.proofs.Common.{◌≡◌, ℕ, ◌∷◌, ◌++◌, [], Some, None, inl, ap, sym, subst, ◌∙◌}
+use Rattle.std.specs.Prelude.{Vec}
+use Rattle.std.specs.declared.alloc.Global.{Global}
+use Rattle.driver.specs.Serve.{Takes}
 use Rattle.std.specs.Prelude.{slice_get}
-use Rattle.wasm_core.specs.EnumerationModule.{enumeration_module}
-use Rattle.wasm_core.specs.ModuleGrammar.{SpellsModule}
-use Rattle.wasm_core.specs.ShortestBytes.{module_bytes}
-use Rattle.wasm_core.proofs.Small.{enumeration_few}
-use Rattle.driver.proofs.Answering.{answer, ctor_at, half, never_none, says}
-use Rattle.driver.proofs.Small.{few, named}
+use Rattle.std.proofs.lemmas.Result.{err_from_is_err_and}
+use Rattle.driver.specs.declared.command_line.Job.TheVariants.{Exec}
+use Rattle.driver.proofs.Answering.{answer, cause_of, checked_says, exit_says, main_is, says}
 use Rattle.driver.proofs.TextCauses.{within_limits}
 use Rattle.driver.proofs.exec.exec.Goals as goal
 
@@ -14,52 +14,46 @@ returns-in-None c =
     let e = c.in_ok-environment.environment in
     record { says = (e, within_limits c.args.bytes.now e c.in_ok-environment.ensures.exact, c.in-None.ensures.none) }
 
-pub compile-requires : goal.compile-requires
-compile-requires c =
+pub answer_of-requires : goal.answer_of-requires
+answer_of-requires c =
     let e = c.in_ok-environment.environment in
-    record { in_range = few c.args.bytes.now e c.in-Some.main.family.now c.in-Some.main.number (within_limits c.args.bytes.now e c.in_ok-environment.ensures.exact) c.in-Some.ensures.found }
-
-pub write-requires : goal.write-requires
-write-requires c =
-    let n = c.in-Some.main.number in
-    let few = enumeration_few 1024 n in
-    let same : length (module_bytes c.in_ok-program.program) ≡ length (module_bytes (enumeration_module 1024 n)) = ap (λ p. length (module_bytes p)) c.in_ok-program.ensures.program in
-    record { small = omega (arith, same, few) }
-
-pub bounds-as_slice-word : goal.bounds-as_slice-word
-bounds-as_slice-word c =
-    let n = c.in-Some.main.number in
-    let spelled : SpellsModule c.as_slice.result.now c.in_ok-program.program = subst (λ b. SpellsModule b c.in_ok-program.program) (sym c.as_slice.ensures.value) c.in_ok-file.ensures.spells in
-    let loaded : c.in_ok-loaded.loaded ≡ enumeration_module 1024 n = c.in_ok-loaded.ensures.program c.in_ok-program.program spelled ∙ c.in_ok-program.ensures.program in
-    let place = half c.in_ok-word.word n (c.in_ok-word.ensures.word n loaded) in
-    let declared = c.in-Some.ensures.found.declared in
-    let many : length c.as_slice-2.result.now ≡ length c.in-Some.main.family.now.ctors = ap length c.as_slice-2.ensures.is in
-    omega (arith, place, declared, many)
+    let a = c.in_ok-accepted.accepted in
+    let m = main_is c.args.bytes.now e a.env a.main_type c.in-Some.main.family c.in-Some.main.number (within_limits c.args.bytes.now e c.in_ok-environment.ensures.exact) c.in_ok-accepted.ensures.says.1 c.in-Some.ensures.found in
+    record { few = m.few }
 
 pub unreachable-requires : goal.unreachable-requires
 unreachable-requires c =
     let e = c.in_ok-environment.environment in
-    let family = c.in-Some.main.family.now in
-    let n = c.in-Some.main.number in
-    let spelled : SpellsModule c.as_slice.result.now c.in_ok-program.program = subst (λ b. SpellsModule b c.in_ok-program.program) (sym c.as_slice.ensures.value) c.in_ok-file.ensures.spells in
-    let loaded : c.in_ok-loaded.loaded ≡ enumeration_module 1024 n = c.in_ok-loaded.ensures.program c.in_ok-program.program spelled ∙ c.in_ok-program.ensures.program in
-    let place = half c.in_ok-word.word n (c.in_ok-word.ensures.word n loaded) in
-    let within = within_limits c.args.bytes.now e c.in_ok-environment.ensures.exact in
-    let here = ctor_at family.ctors c.as_slice-2.result.now (c.in_ok-word.word / 2) n c.index-as_slice-word.result c.as_slice-2.ensures.is c.index-as_slice-word.is place c.in-Some.ensures.found.declared in
-    let (name, is) = named c.args.bytes.now e family n c.index-as_slice-word.result within c.in-Some.ensures.found here in
-    never_none e.names c.index-as_slice-word.result.name.0 name c.in-None-text.ensures.bytes is
+    let a = c.in_ok-accepted.accepted in
+    let m = main_is c.args.bytes.now e a.env a.main_type c.in-Some.main.family c.in-Some.main.number (within_limits c.args.bytes.now e c.in_ok-environment.ensures.exact) c.in_ok-accepted.ensures.says.1 c.in-Some.ensures.found in
+    c.in-None-name_of.ensures.none m.family m.constructor m.name m.found (subst (λ n. slice_get m.family.ctors n ≡ Some m.constructor) (sym c.in_ok-number.ensures.same) m.at) m.named
+
+pub returns-in_err-accepted : goal.returns-in_err-accepted
+returns-in_err-accepted c =
+    let e = c.in_ok-environment.environment in
+    let bytes = c.args.bytes.now in
+    let r = c.in_err-accepted.field-0.0 in
+    let takes : Takes Exec e = (c.in-Some.main.family, c.in-Some.main.number, c.in-Some.ensures.found) in
+    let exit = err_from_is_err_and c.from_residual-in_err-accepted.result c.from_residual-in_err-accepted.ensures.1 in
+    record { says = exit_says (λ v. v.items) Exec c.from_residual-in_err-accepted.result r bytes exit (checked_says {V = Vec ℕ Global} (λ v. v.items) Exec r bytes e (within_limits bytes e c.in_ok-environment.ensures.exact) takes (cause_of r e c.in_err-accepted.ensures.says)) }
+
+pub returns-in_err-number : goal.returns-in_err-number
+returns-in_err-number c =
+    let e = c.in_ok-environment.environment in
+    let bytes = c.args.bytes.now in
+    let r = c.in_err-number.field-0.0 in
+    let takes : Takes Exec e = (c.in-Some.main.family, c.in-Some.main.number, c.in-Some.ensures.found) in
+    let exit = err_from_is_err_and c.from_residual-in_err-number.result c.from_residual-in_err-number.ensures.1 in
+    record { says = exit_says (λ v. v.items) Exec c.from_residual-in_err-number.result r bytes exit (checked_says {V = Vec ℕ Global} (λ v. v.items) Exec r bytes e (within_limits bytes e c.in_ok-environment.ensures.exact) takes (inl c.in_err-number.ensures.only_memory)) }
 
 pub returns : goal.returns
 returns c =
+    let bytes = c.args.bytes.now in
     let e = c.in_ok-environment.environment in
-    let family = c.in-Some.main.family.now in
+    let a = c.in_ok-accepted.accepted in
     let n = c.in-Some.main.number in
-    let ctor = c.index-as_slice-word.result in
-    let name = c.in-Some-text.name.now in
-    let spelled : SpellsModule c.as_slice.result.now c.in_ok-program.program = subst (λ b. SpellsModule b c.in_ok-program.program) (sym c.as_slice.ensures.value) c.in_ok-file.ensures.spells in
-    let loaded : c.in_ok-loaded.loaded ≡ enumeration_module 1024 n = c.in_ok-loaded.ensures.program c.in_ok-program.program spelled ∙ c.in_ok-program.ensures.program in
-    let place = half c.in_ok-word.word n (c.in_ok-word.ensures.word n loaded) in
-    let within = within_limits c.args.bytes.now e c.in_ok-environment.ensures.exact in
-    let here = ctor_at family.ctors c.as_slice-2.result.now (c.in_ok-word.word / 2) n ctor c.as_slice-2.ensures.is c.index-as_slice-word.is place c.in-Some.ensures.found.declared in
-    let file : SpellsModule c.in_ok-file.file.items (enumeration_module 1024 n) = subst (λ p. SpellsModule c.in_ok-file.file.items p) c.in_ok-program.ensures.program c.in_ok-file.ensures.spells in
-    record { says = says (λ v. v.items) c.text_of.result c.args.bytes.now c.as_bytes.result.now (λ text is. answer c.args.bytes.now text c.in_ok-file.file.items name e family n ctor within c.in-Some.ensures.found file here (sym c.in-Some-text.ensures.bytes) (is ∙ ap (λ x. x ++ 10 ∷ []) c.as_bytes.ensures.value)) c.text_of.ensures.text c.text_of.ensures.only_memory }
+    let (G, C, found, at, named) = c.in-Some-name_of.ensures.found in
+    let (file, module_is) = c.in_ok-number.ensures.spelled in
+    let there = subst (λ k. slice_get G.ctors k ≡ Some C) c.in_ok-number.ensures.same at in
+    let name = c.in-Some-name_of.name.now in
+    record { says = says (λ v. v.items) Exec c.text_of.result bytes (c.as_bytes.result.now ++ 10 ∷ []) (λ text is. answer bytes text file name e a.env a.main_type c.in-Some.main.family n G C (within_limits bytes e c.in_ok-environment.ensures.exact) c.in_ok-accepted.ensures.says.0 c.in_ok-accepted.ensures.says.1 c.in-Some.ensures.found module_is found there named (is ∙ ap (λ x. x ++ 10 ∷ []) c.as_bytes.ensures.value)) c.text_of.ensures.text c.text_of.ensures.only_memory }

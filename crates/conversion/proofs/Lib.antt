@@ -1,0 +1,7 @@
+pub mod Listing
+pub mod Collected
+pub mod Parts
+pub mod Defaults
+pub mod Comparing
+pub mod Sound
+pub mod Stepping

@@ -1,0 +1,114 @@
+-- Lists of terms, branches and definitions, from one item on.
+use Rattle.std.proofs.Common.{◌≡◌, ◌∙◌, ap, refl, ℕ, zero, suc, ◌<◌, ◌≤◌, ◌+◌, ◌==◌, ◌&&◌, min, ◌⊎◌, inl, inr, Bool, true, false, IsTrue, ◌↔◌, List, [], ◌∷◌, length, drop, get_or, ◌≢◌, add-one, eq-eqb, arith}
+use Rattle.std.proofs.Math.Seq.{drop-cons}
+use Rattle.std.proofs.lemmas.List.{drop_all}
+use Rattle.trees.specs.Tree.{terms_of}
+use Rattle.pc_terms.specs.Syntax.{Term, number}
+use Rattle.pc_terms.specs.View.{tree_of}
+use Rattle.pc_terms.specs.Formed.{binders_of}
+use Rattle.pc_terms.specs.Lists.{arms_of, rargs_of}
+use Rattle.pc_terms.specs.declared.term.Branch.{Branch}
+use Rattle.pc_terms.specs.declared.term.Def.{Def}
+use Rattle.pc_terms.specs.declared.term.Match.{Match}
+use Rattle.pc_terms.specs.declared.term.Node.TheVariants.{Case}
+use Rattle.pc_rules.specs.Same.{same, same_numbers, same_families}
+use Rattle.pc_rules.specs.DirectedComparison.{list_of, alike}
+use Rattle.pc_rules.proofs.SameTrees.{same_is, same_itself}
+
+-- item i and those after it
+pub next_is : {A : Type 0} (xs : List A) (i : ℕ) (a : A) → i < length xs → a ≡ get_or xs i a → drop i xs ≡ a ∷ drop (i + 1) xs
+next_is xs i a h e = rw (add-one, drop-cons xs i a h, ← e) refl
+
+pub none_left : {A : Type 0} (xs : List A) (i : ℕ) → length xs ≤ i → drop i xs ≡ []
+none_left xs i h = drop_all i xs h
+
+-- terms without their numbers of variables
+
+pub listed : (ts : List Term) → list_of (terms_of ts) ≡ ts
+listed [] = refl
+listed (t ∷ ts) = ap (◌∷◌ t) (listed ts)
+
+-- the test of sameness by any test that decides it
+
+pub same_yes : (a b : Term) (r : Bool) → (IsTrue r ↔ (a ≡ b)) → r ≡ true → same a b ≡ true
+same_yes a b r h e = let p : a ≡ b = h.0 e in rw p (same_itself b)
+
+not_true : (b : Bool) → (b ≡ true → ⊥) → b ≡ false
+not_true true h = absurd (h refl)
+not_true false h = refl
+
+no_both : (r : Bool) → r ≡ false → r ≡ true → ⊥
+no_both r e k = cc
+
+pub same_no : (a b : Term) (r : Bool) → (IsTrue r ↔ (a ≡ b)) → r ≡ false → same a b ≡ false
+same_no a b r h e = not_true (same a b) (λ q. no_both r e (h.1 (same_is a b q)))
+
+-- the least of two numbers is one of them
+sucs : {a b i : ℕ} → (a ≤ i) ⊎ (b ≤ i) → (suc a ≤ suc i) ⊎ (suc b ≤ suc i)
+sucs (inl h) = inl (omega arith)
+sucs (inr h) = inr (omega arith)
+
+pub min_either : (a b i : ℕ) → min a b ≤ i → (a ≤ i) ⊎ (b ≤ i)
+min_either zero b i h = inl (omega arith)
+min_either (suc a) zero i h = inr (omega arith)
+min_either (suc a) (suc b) zero h = absurd (omega (arith, h))
+min_either (suc a) (suc b) (suc i) h = sucs (min_either a b i (omega (arith, h)))
+
+-- numbers that are the same from an item on
+
+pub binders_next : (xs ys : List Branch) (i : ℕ) (x y : Branch) → i < length xs → i < length ys → x ≡ get_or xs i x → y ≡ get_or ys i y →
+    same_numbers (binders_of (arms_of (drop i xs))) (binders_of (arms_of (drop i ys)))
+    ≡ ((x.binders == y.binders) && same_numbers (binders_of (arms_of (drop (i + 1) xs))) (binders_of (arms_of (drop (i + 1) ys))))
+binders_next xs ys i x y h k e e' = rw (next_is xs i x h e, next_is ys i y k e') refl
+
+pub rargs_next : (xs ys : List Def) (i : ℕ) (x y : Def) → i < length xs → i < length ys → x ≡ get_or xs i x → y ≡ get_or ys i y →
+    same_numbers (rargs_of (drop i xs)) (rargs_of (drop i ys)) ≡ ((x.rarg == y.rarg) && same_numbers (rargs_of (drop (i + 1) xs)) (rargs_of (drop (i + 1) ys)))
+rargs_next xs ys i x y h k e e' = rw (next_is xs i x h e, next_is ys i y k e') refl
+
+-- the first numbers are the same
+
+test_true : (m n : ℕ) (b : Bool) → m ≡ n → ((m == n) && b) ≡ b
+test_true m n b e = let t : (m == n) ≡ true = eq-eqb m n e in rw t refl
+
+module _ (xs ys : List Branch) (i : ℕ) (x y : Branch) (h : i < length xs) (k : i < length ys) (e : x ≡ get_or xs i x) (e' : y ≡ get_or ys i y) where
+  abbrev rest_binders : ℕ → Bool
+  rest_binders j = same_numbers (binders_of (arms_of (drop j xs))) (binders_of (arms_of (drop j ys)))
+
+  pub binders_same : x.binders ≡ y.binders → rest_binders i ≡ rest_binders (i + 1)
+  binders_same p = binders_next xs ys i x y h k e e' ∙ test_true x.binders y.binders (rest_binders (i + 1)) p
+
+module _ (xs ys : List Def) (i : ℕ) (x y : Def) (h : i < length xs) (k : i < length ys) (e : x ≡ get_or xs i x) (e' : y ≡ get_or ys i y) where
+  abbrev rest_rargs : ℕ → Bool
+  rest_rargs j = same_numbers (rargs_of (drop j xs)) (rargs_of (drop j ys))
+
+  pub rargs_same : x.rarg ≡ y.rarg → rest_rargs i ≡ rest_rargs (i + 1)
+  rargs_same p = rargs_next xs ys i x y h k e e' ∙ test_true x.rarg y.rarg (rest_rargs (i + 1)) p
+
+-- lists of other lengths are not the same
+
+and_false : (a b : Bool) → b ≡ false → (a && b) ≡ false
+and_false true b e = e
+and_false false b e = refl
+
+pub binders_other : (xs ys : List Branch) → length xs ≢ length ys → same_numbers (binders_of (arms_of xs)) (binders_of (arms_of ys)) ≡ false
+binders_other [] [] h = absurd (h refl)
+binders_other [] (y ∷ ys) h = refl
+binders_other (x ∷ xs) [] h = refl
+binders_other (x ∷ xs) (y ∷ ys) h = and_false (x.binders == y.binders) _ (binders_other xs ys (λ e. h (ap suc e)))
+
+pub rargs_other : (xs ys : List Def) → length xs ≢ length ys → same_numbers (rargs_of xs) (rargs_of ys) ≡ false
+rargs_other [] [] h = absurd (h refl)
+rargs_other [] (y ∷ ys) h = refl
+rargs_other (x ∷ xs) [] h = refl
+rargs_other (x ∷ xs) (y ∷ ys) h = and_false (x.rarg == y.rarg) _ (rargs_other xs ys (λ e. h (ap suc e)))
+
+-- the counts of two matches decide whether they are alike
+
+number_listed : (ts : List Term) → number (terms_of ts) ≡ length ts
+number_listed [] = refl
+number_listed (t ∷ ts) = ap suc (number_listed ts)
+
+pub matches_alike : (x y : Match) (a b : Term) (r : Bool) → tree_of (Case x) ≡ a → tree_of (Case y) ≡ b →
+    r ≡ (same_families x.family y.family && ((length x.params == length y.params) && ((x.binders == y.binders) && same_numbers (binders_of (arms_of x.branches)) (binders_of (arms_of y.branches))))) →
+    r ≡ alike a b
+matches_alike x y a b r ea eb e = rw (← ea, ← eb, number_listed x.params, number_listed y.params) e

@@ -1,0 +1,12 @@
+use Rattle.std.proofs.Common.{◌<◌, length, arith}
+use Rattle.conversion.proofs.Collected.{types_next}
+use Rattle.conversion.proofs.definitions.types.Goals as goal
+
+pub loop-i-preserved : goal.loop-i-preserved
+loop-i-preserved c =
+    let lt : c.loop-i.i < length c.as_slice-items.result.now = grind arith in
+    let next = types_next c.as_slice-items.result.now c.loop-i.i c.index-items-i.result lt c.index-items-i.is in
+    let pushed = c.in_ok-push.ensures.ok in
+    let ty = c.in_ok-ty.ensures.ok in
+    let before = c.loop-i.invariant in
+    cc

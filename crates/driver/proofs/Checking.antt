@@ -1,0 +1,83 @@
+-- What the check of an environment says, with the units of a job.
+use Rattle.std.proofs.Common.{◌≡◌, ℕ, ◌<◌, ◌-◌, List, [], ◌∷◌, length, Option, Some, None, Ok, Err, IsTrue, refl, sym, ap, subst, ◌∙◌, arith}
+use Rattle.std.specs.Prelude.{replicate, slice_get}
+use Rattle.std.proofs.Common.{get_or}
+use Rattle.std.proofs.lemmas.Option.{slice_get_read}
+use Rattle.dump_reader.specs.declared.declaration.RawDecl.{RawDecl}
+use Rattle.dump_reader.specs.declared.environment.RawEnv.{RawEnv}
+use Rattle.dump_reader.specs.Spelled.{IsSpelled}
+use Rattle.pc_rules.specs.declared.accepted.Accepted.{Accepted}
+use Rattle.pc_rules.specs.declared.broken.Broken.{Broken as Rule}
+use Rattle.pc_rules.specs.declared.broken.Place.{Place}
+use Rattle.pc_rules.specs.declared.broken.Place.TheVariants.{Declaration}
+use Rattle.pc_rules.specs.declared.meter.Account.{Account}
+use Rattle.pc_rules.specs.DirectedDeclarations.{Breaks}
+use Rattle.env_check.specs.declared.refusal.Refusal.TheVariants.{Broken, Spent, TooDeep}
+use Rattle.env_check.specs.Answers.{AnswersFound}
+use Rattle.env_check.specs.Rules.{rules_of}
+use Rattle.driver.specs.declared.refusal.Where.{Where}
+use Rattle.driver.specs.Texts.{SpellsWithin}
+use Rattle.driver.specs.Judged.{start, IsJudged, IsAcceptedBy, IsSpentBy, IsTooDeepFor, IsBrokenBy, IsTold, IsNamed, name_of, number_of}
+use Rattle.driver.proofs.Judging.{place_within}
+use Rattle.driver.proofs.Kept.{name_there}
+use Rattle.driver.proofs.TextCauses.{within_limits}
+
+-- the account of a meter that is new
+pub begins : (u : Account) → u.left ≡ 1000000 → u.uses ≡ replicate 12 0 → u ≡ start
+begins u e f = λ i. record { left = e i; uses = f i }
+
+module _ (e : RawEnv) (n : ℕ) (u v : Account) (none : n ≡ 0) (fresh : u ≡ start) where
+  judged : (c : Option (List ℕ)) → rules_of e c (2048 - n) u ≡ rules_of e c 2048 start
+  judged c = (λ i. rules_of e c (2048 - none i) u) ∙ ap (rules_of e c 2048) fresh
+
+  pub accepted_by : (a : Accepted) → AnswersFound e (2048 - n) u (Ok a) v → IsAcceptedBy e
+  accepted_by a h = record {
+    rules = rules_of e h.cycle (2048 - n) u;
+    judged = record { cycle = h.cycle; found = h.found; is = judged h.cycle };
+    kept = a.env;
+    type = a.main_type;
+    left = v;
+    accepts = h.answers;
+  }
+
+  pub spent_by : AnswersFound e (2048 - n) u (Err Spent) v → IsSpentBy e
+  spent_by h = record {
+    rules = rules_of e h.cycle (2048 - n) u;
+    judged = record { cycle = h.cycle; found = h.found; is = judged h.cycle };
+    spends = h.answers.0;
+  }
+
+  pub too_deep_for : AnswersFound e (2048 - n) u (Err TooDeep) v → IsTooDeepFor e
+  too_deep_for h = record {
+    rules = rules_of e h.cycle (2048 - n) u;
+    judged = record { cycle = h.cycle; found = h.found; is = judged h.cycle };
+    deep = h.answers;
+  }
+
+  pub broken_by : (p : Place) (b : Rule) (number : ℕ) (told : Where) → AnswersFound e (2048 - n) u (Err (Broken p b)) v → number ≡ number_of b → IsTold e p told → IsBrokenBy e number told
+  broken_by p b number told h is t = record {
+    rules = rules_of e h.cycle (2048 - n) u;
+    judged = record { cycle = h.cycle; found = h.found; is = judged h.cycle };
+    place = p;
+    rule = b;
+    left = v;
+    breaks = h.answers;
+    number_is = is;
+    told_is = t;
+  }
+
+  pub broken_within : (p : Place) (b : Rule) (i : ℕ) → AnswersFound e (2048 - n) u (Err (Broken p b)) v → p ≡ Declaration i → i < length e.decls
+  broken_within p b i h is =
+      place_within e h.cycle (2048 - n) u i b v (h.answers ∙ ap (λ q. Breaks q b v) is)
+
+-- the name of a declaration that is read stands in the table
+pub declared_name_there : (e : RawEnv) → IsSpelled e → (i : ℕ) (d : RawDecl) → slice_get e.decls i ≡ Some d → (name : List ℕ) × IsNamed e (name_of d).0 name
+declared_name_there e (bytes, env, h, same) i d at = name_there bytes e (within_limits bytes e (env, h, same)) i d at
+
+-- the item at a place of a list that is lent as a slice
+pub place_read : {X : Type 0} (xs ys : List X) (i : ℕ) (x : X) → ys ≡ xs → i < length xs → x ≡ get_or ys i x → slice_get xs i ≡ Some x
+place_read xs ys i x same within is =
+    subst (λ zs. slice_get zs i ≡ Some x) same (slice_get_read ys (length ys) i x refl (subst (λ zs. i < length zs) (sym same) within) is)
+
+pub no_name : (names : List (List ℕ)) (n : ℕ) (name : List ℕ) → None ≡ slice_get names n → slice_get names n ≡ Some name → ⊥
+no_name names n name e f = let q : None ≡ Some name = e ∙ f in absurd cc

@@ -1,0 +1,122 @@
+//! The check of an environment that is read, with the units of a job; and the job `check`.
+
+ghost use Rattle.std.specs.Prelude.{◌≡◌, ◌<◌, ℕ, IfOk, IfErr, length, codes};
+ghost use Rattle.dump_reader.specs.Spelled.{IsSpelled};
+ghost use Rattle.pc_rules.specs.declared.broken.Place.TheVariants.{Declaration};
+ghost use Rattle.driver.specs.declared.command_line.Job.TheVariants.{Check};
+ghost use Rattle.driver.specs.Judged.{IsTold, name_of, number_of};
+ghost use Rattle.driver.specs.Serve.{CheckSays, JobSays};
+
+use crate::refusal::{Refusal, Where};
+use dump_reader::declaration::RawDecl;
+use dump_reader::environment::RawEnv;
+use dump_reader::reading::read_env;
+use env_check::check::check_env;
+use env_check::refusal::Refusal as Fault;
+use pc_rules::accepted::Accepted;
+use pc_rules::broken::{Broken, Place};
+use pc_rules::meter::Meter;
+use pc_terms::leaf::Name;
+use reduction::substitution::Subst;
+use std::alloc::Global;
+
+/// The units of a job.
+const TURNS: u64 = 1_000_000;
+
+/// The number of a rule that may be broken, from 1 on.
+fn number(rule: &Broken) -> u8
+    ensures is { result ≡ number_of rule.now }
+{
+    match rule {
+        Broken::UnboundRel { .. } => 1,
+        Broken::UnknownName { .. } => 2,
+        Broken::BadNumber { .. } => 3,
+        Broken::LevelUndeclared { .. } => 4,
+        Broken::UniverseCycle { .. } => 5,
+        Broken::NotASort { .. } => 6,
+        Broken::NotAProduct { .. } => 7,
+        Broken::NotBelow { .. } => 8,
+        Broken::CountWrong { .. } => 9,
+        Broken::NotTheFamily { .. } => 10,
+        Broken::ElimNotAllowed { .. } => 11,
+        Broken::NotEnoughAbstractions { .. } => 12,
+        Broken::NotGuarded { .. } => 13,
+        Broken::NotPositive { .. } => 14,
+        Broken::SortTooSmall { .. } => 15,
+        Broken::DuplicateName { .. } => 16,
+        Broken::RecArgNotInductive { .. } => 17,
+    }
+}
+
+/// The name that a declaration declares.
+fn declared_name(decl: &RawDecl) -> Name
+    ensures is { result ≡ name_of decl.now }
+{
+    match decl {
+        RawDecl::Constant { name, .. } => *name,
+        RawDecl::Block { name, .. } => *name,
+    }
+}
+
+/// How a line tells a place, which is one of the environment. Only `Memory`.
+fn told(alloc: Global, raw: &RawEnv, place: Place) -> Result<Where, Refusal>
+    requires spelled { IsSpelled raw.now }
+    requires within { (i : ℕ) → place ≡ Declaration i → i < length raw.now.decls }
+    ensures told { IfOk result (λ w. IsTold raw.now place w) }
+    ensures only_memory { IfErr result (λ r. r ≡ Refusal.Memory) }
+{
+    match place {
+        Place::Level(_) => Ok(Where::Levels),
+        Place::Constraint(_) => Ok(Where::Constraints),
+        Place::Main => Ok(Where::Main),
+        Place::Declaration(i) => {
+            let name = declared_name(&raw.decls.as_slice()[i as usize]);
+            match raw.names.text(name.0) {
+                Some(text) => {
+                    let bytes = Vec::from_slice(alloc, text.as_bytes())?;
+                    Ok(Where::Declaration(bytes))
+                }
+                None => unreachable!(),
+            }
+        }
+    }
+}
+
+/// The environment with the sorts that its check finds, main and main's type; or why it is not accepted with the units of a job.
+pub(crate) fn accept(alloc: Global, raw: &RawEnv) -> Result<Accepted, Refusal>
+    requires spelled { IsSpelled raw.now }
+    ensures says { CheckSays result raw.now }
+{
+    let mut meter = Meter::new(TURNS);
+    match check_env(alloc, &Subst, raw, &mut meter) {
+        Ok(accepted) => Ok(accepted),
+        Err(Fault::Memory) => Err(Refusal::Memory),
+        Err(Fault::Spent) => Err(Refusal::TurnsSpent),
+        Err(Fault::TooDeep) => Err(Refusal::Depth),
+        Err(Fault::Broken { place, rule }) => {
+            let place = told(alloc, raw, place)?;
+            Err(Refusal::Broken {
+                number: number(&rule),
+                place,
+            })
+        }
+    }
+}
+
+/// The text of an acceptance.
+fn accepted_text(alloc: Global) -> Result<Vec<u8>, Refusal>
+    ensures text { IfOk result (λ v. v.items ≡ codes "ok\n") }
+    ensures only_memory { IfErr result (λ r. r ≡ Refusal.Memory) }
+{
+    let text = Vec::from_slice(alloc, b"ok\n")?;
+    Ok(text)
+}
+
+/// The text of the answer on a dump: `ok`, with LF, where its environment is accepted.
+pub(crate) fn check(alloc: Global, bytes: &[u8]) -> Result<Vec<u8>, Refusal>
+    ensures says { JobSays Check (λ v. v.items) result bytes.now }
+{
+    let environment = read_env(alloc, bytes)?;
+    accept(alloc, &environment)?;
+    accepted_text(alloc)
+}

@@ -1,0 +1,90 @@
+-- How the answers of the steps follow the rules of a whole environment.
+use Rattle.std.proofs.Common.{◌≡◌, ◌∙◌, ℕ, suc, refl, ap, subst, false, List, [], ◌∷◌, Result, Ok, Err}
+use Rattle.universe_levels.specs.declared.constraint.Constraint.{Constraint}
+use Rattle.pc_terms.specs.Syntax.{Term}
+use Rattle.pc_rules.specs.declared.accepted.Accepted.{Accepted}
+use Rattle.pc_rules.specs.declared.declaration.Kept.{Kept}
+use Rattle.pc_rules.specs.declared.meter.Account.{Account}
+use Rattle.pc_rules.specs.declared.broken.Place.{Place}
+use Rattle.pc_rules.specs.declared.broken.Place.TheVariants.{Declaration as AtDeclaration, Main as AtMain}
+use Rattle.pc_rules.specs.declared.stop.Stop.TheVariants as stops
+use Rattle.pc_rules.specs.declared.stop.Halt.{Halt}
+use Rattle.pc_rules.specs.declared.stop.Halt.TheVariants as halts
+use Rattle.pc_rules.specs.Environment.{Env}
+use Rattle.pc_rules.specs.Accepted.{env}
+use Rattle.pc_rules.specs.Follows.{Halts}
+use Rattle.pc_rules.specs.DirectedRun as run
+use Rattle.pc_rules.specs.DirectedRun.{Run}
+use Rattle.pc_rules.specs.DirectedComparison.{Test}
+use Rattle.pc_rules.specs.DirectedTyping.{infer}
+use Rattle.pc_rules.specs.DirectedDeclarations.{Given, declaration_rule, Accepts, Checked, placed_end, placed, main_rule, declarations_rule}
+use Rattle.pc_rules.proofs.Following.{or_left, or_right}
+use Rattle.env_check.specs.declared.refusal.Refusal.{Refusal}
+use Rattle.env_check.specs.declared.refusal.Refusal.TheVariants.{Broken, Spent, TooDeep, Memory}
+use Rattle.env_check.specs.Answers.{Answers}
+use Rattle.env_check.specs.Steps.{refusal_at, LeadsTo}
+
+-- checks that lead to others
+
+pub leads_refl : (c : Checked) → LeadsTo c c
+leads_refl c = record { outcome = refl; deep = λ h. h }
+
+pub leads_trans : (a b c : Checked) → LeadsTo a b → LeadsTo b c → LeadsTo a c
+leads_trans a b c p q = record { outcome = p.outcome ∙ q.outcome; deep = λ h. p.deep (q.deep h) }
+
+pub leads_is : (a b : Checked) → a ≡ b → LeadsTo a b
+leads_is a b e = subst (λ c. LeadsTo a c) e (leads_refl a)
+
+pub leads_answers : (whole rest : Checked) (r : Result Accepted Refusal) (u : Account) → LeadsTo whole rest → Answers rest r u → Answers whole r u
+leads_answers whole rest (Ok a) u l h = l.outcome ∙ h
+leads_answers whole rest (Err (Broken p b)) u l h = l.outcome ∙ h
+leads_answers whole rest (Err Spent) u l h = (l.outcome ∙ h.0, h.1)
+leads_answers whole rest (Err TooDeep) u l h = l.deep h
+leads_answers whole rest (Err Memory) u l h = tt
+
+-- what is done at a place
+
+pub placed_done : {A : Type 0} (p : Place) (d : Run A) (k : A → Account → Checked) (a : A) (u : Account) → d.end ≡ run.Done a u → LeadsTo (placed p d k) (k a u)
+unfolding placed
+placed_done p d k a u e =
+    record { outcome = ap (λ x. placed_end p x (λ a u. (k a u).outcome)) e; deep = λ h. or_right d.deep _ (rw e h) }
+
+pub placed_halted : {A : Type 0} (p : Place) (d : Run A) (k : A → Account → Checked) (h : Halt) (u : Account) → Halts d h u → Answers (placed p d k) (Err (refusal_at p h)) u
+unfolding placed
+placed_halted p d k (halts.Stop stops.Spent) u h = (ap (λ x. placed_end p x (λ a u. (k a u).outcome)) h.0, h.1)
+placed_halted p d k (halts.Stop stops.TooDeep) u h = or_left d.deep _ h
+placed_halted p d k (halts.Stop stops.Memory) u h = tt
+placed_halted p d k (halts.Broken b) u h = ap (λ x. placed_end p x (λ a u. (k a u).outcome)) h
+
+-- declarations
+
+pub declarations_next : (levels : ℕ) (cs : List Constraint) (q : Test) (n i : ℕ) (ds : List Kept) (d : Given) (rest : List Given) (main : Term) (u v : Account) (k : Kept) →
+    (declaration_rule (env levels cs ds) q n d u).end ≡ run.Done k v →
+    LeadsTo (declarations_rule levels cs q n i ds (d ∷ rest) main u) (declarations_rule levels cs q n (suc i) (k ∷ ds) rest main v)
+unfolding declarations_rule
+declarations_next levels cs q n i ds d rest main u v k e =
+    placed_done (AtDeclaration i) (declaration_rule (env levels cs ds) q n d u) (λ k v. declarations_rule levels cs q n (suc i) (k ∷ ds) rest main v) k v e
+
+pub declarations_halted : (levels : ℕ) (cs : List Constraint) (q : Test) (n i : ℕ) (ds : List Kept) (d : Given) (rest : List Given) (main : Term) (u v : Account) (h : Halt) →
+    Halts (declaration_rule (env levels cs ds) q n d u) h v →
+    Answers (declarations_rule levels cs q n i ds (d ∷ rest) main u) (Err (refusal_at (AtDeclaration i) h)) v
+unfolding declarations_rule
+declarations_halted levels cs q n i ds d rest main u v h e =
+    placed_halted (AtDeclaration i) (declaration_rule (env levels cs ds) q n d u) (λ k v. declarations_rule levels cs q n (suc i) (k ∷ ds) rest main v) h v e
+
+pub declarations_end : (levels : ℕ) (cs : List Constraint) (q : Test) (n i : ℕ) (ds : List Kept) (main : Term) (u : Account) →
+    LeadsTo (declarations_rule levels cs q n i ds [] main u) (main_rule (env levels cs ds) q n main u)
+unfolding declarations_rule
+declarations_end levels cs q n i ds main u = leads_refl (main_rule (env levels cs ds) q n main u)
+
+-- main
+
+pub main_done : (E : Env) (q : Test) (n : ℕ) (main T : Term) (u v : Account) → (infer E q n [] main u).end ≡ run.Done T v → (main_rule E q n main u).outcome ≡ Accepts E T v
+main_done E q n main T u v e =
+    let k : Term → Account → Checked = λ T v. record { outcome = Accepts E T v; deep = false } in
+    (placed_done AtMain (infer E q n [] main u) k T v e).outcome
+
+pub main_halted : (E : Env) (q : Test) (n : ℕ) (main : Term) (u v : Account) (h : Halt) → Halts (infer E q n [] main u) h v → Answers (main_rule E q n main u) (Err (refusal_at AtMain h)) v
+main_halted E q n main u v h e =
+    let k : Term → Account → Checked = λ T v. record { outcome = Accepts E T v; deep = false } in
+    placed_halted AtMain (infer E q n [] main u) k h v e

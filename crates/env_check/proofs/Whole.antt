@@ -1,0 +1,180 @@
+-- The steps of the check one after the other.
+use Rattle.std.proofs.Common.{◌≡◌, ◌∙◌, ℕ, ◌-◌, refl, sym, ap, subst, List, [], map, length, Option, Some, None, Result, Ok, Err, IfOk}
+use Rattle.std.proofs.lemmas.List.{length-map}
+use Rattle.universe_levels.specs.declared.level.Level.{Level}
+use Rattle.universe_levels.specs.declared.constraint.Constraint.{Constraint}
+use Rattle.universe_levels.specs.Consistency.{IsConsistent, AreOver}
+use Rattle.universe_graph.specs.Listed.{Clashes}
+use Rattle.dump_reader.specs.declared.declaration.RawDecl.{RawDecl}
+use Rattle.dump_reader.specs.declared.environment.RawEnv.{RawEnv}
+use Rattle.pc_rules.specs.declared.accepted.Accepted.{Accepted}
+use Rattle.pc_rules.specs.declared.broken.Broken.TheVariants.{UniverseCycle}
+use Rattle.pc_rules.specs.declared.meter.Account.{Account}
+use Rattle.pc_rules.specs.declared.meter.Meter.{Meter}
+use Rattle.pc_rules.specs.Environment.{Env}
+use Rattle.pc_rules.specs.Accepted.{Accepted as Accepts, empty, IsAccepted}
+use Rattle.pc_rules.specs.Typing.{Types, guarded}
+use Rattle.pc_rules.specs.Entailment.{entailed_by, test_of}
+use Rattle.pc_rules.specs.Follows.{IsAfter}
+use Rattle.pc_rules.specs.DirectedDeclarations.{Checked, first_repeated, first_undeclared_end, place_of, main_rule, declarations_rule, graph_rule, constraints_rule, levels_rule}
+use Rattle.rule_laws.specs.Declarations.{IsCheckedEnvironment}
+use Rattle.inductive_check.specs.Given.{given_of}
+use Rattle.env_check.specs.declared.refusal.Refusal.{Refusal}
+use Rattle.env_check.specs.declared.refusal.Refusal.TheVariants.{Broken, Spent, TooDeep, Memory}
+use Rattle.env_check.specs.Rules.{givens, rules_of}
+use Rattle.env_check.specs.Answers.{Answers, AnswersFound, FollowsRules}
+use Rattle.env_check.specs.Steps.{Refuses, level_refusal, end_refusal, RefusesGraph, HasChecked}
+use Rattle.env_check.proofs.Steps.{leads_is, leads_answers}
+use Rattle.env_check.proofs.Declaring.{checked_all, checked_whole}
+
+none_some : {A : Type 0} {x : A} → Some x ≡ None → ⊥
+none_some e = cc
+
+follows_found : (raw : RawEnv) (r : Result Accepted Refusal) (old new : Meter) → AnswersFound raw (2048 - old.nest) old.account r new.account → FollowsRules raw r old new
+follows_found raw (Ok a) old new h = h
+follows_found raw (Err (Broken p b)) old new h = h
+follows_found raw (Err Spent) old new h = h
+follows_found raw (Err TooDeep) old new h = h
+follows_found raw (Err Memory) old new h = tt
+
+-- what the rules of levels and of constraints let pass
+
+levels_pass : (o : Option (ℕ × Level)) (go : Checked) (u : Account) → o ≡ None → levels_rule o go u ≡ go
+levels_pass o go u e = ap (λ x. levels_rule x go u) e
+
+constraints_pass : (o : Option (ℕ × Level)) (go : Checked) (u : Account) → o ≡ None → constraints_rule o go u ≡ go
+constraints_pass o go u e = ap (λ x. constraints_rule x go u) e
+
+module _ (raw : RawEnv) where
+  abbrev from_declarations : ℕ → Account → Checked
+  from_declarations n u = declarations_rule (length raw.levels) raw.constraints (entailed_by (length raw.levels) raw.constraints) n 0 [] (givens raw) raw.main u
+
+  abbrev from_graph : Option (List ℕ) → ℕ → Account → Checked
+  from_graph cycle n u = graph_rule cycle (from_declarations n u) u
+
+  abbrev from_constraints : Option (List ℕ) → ℕ → Account → Checked
+  from_constraints cycle n u = constraints_rule (first_undeclared_end (length raw.levels) 0 raw.constraints) (from_graph cycle n u) u
+
+  -- levels
+
+  level_answer : (o : Option (ℕ × Level)) (go : Checked) (u : Account) (e : Refusal) (a : ℕ × Level) → o ≡ Some a → e ≡ level_refusal a → Answers (levels_rule o go u) (Err e) u
+  level_answer o go u e a there is =
+      let here : Answers (levels_rule o go u) (Err (level_refusal a)) u = subst (λ x. Answers (levels_rule x go u) (Err (level_refusal a)) u) (sym there) refl in
+      subst (λ x. Answers (levels_rule o go u) (Err x) u) (sym is) here
+
+  level_found : (e : Refusal) (m : Meter) (a : ℕ × Level) → first_repeated 0 [] raw.levels ≡ Some a → e ≡ level_refusal a → FollowsRules raw (Err e) m m
+  level_found e m a there is =
+      follows_found raw (Err e) m m (record {
+        cycle = None;
+        found = λ once. absurd (none_some (sym there ∙ once));
+        answers = level_answer (first_repeated 0 [] raw.levels) (from_constraints None (2048 - m.nest) m.account) m.account e a there is;
+      })
+
+  pub levels_refused : (e : Refusal) (m : Meter) → Refuses (first_repeated 0 [] raw.levels) level_refusal e → FollowsRules raw (Err e) m m
+  levels_refused (Broken p b) m h = level_found (Broken p b) m h.0 h.1 h.2
+  levels_refused Spent m h = level_found Spent m h.0 h.1 h.2
+  levels_refused TooDeep m h = level_found TooDeep m h.0 h.1 h.2
+  levels_refused Memory m h = tt
+
+  module _ (once : first_repeated 0 [] raw.levels ≡ None) where
+    -- constraints
+
+    end_answer : (o : Option (ℕ × Level)) (go : Checked) (u : Account) (e : Refusal) (a : ℕ × Level) → o ≡ Some a → e ≡ end_refusal a → Answers (constraints_rule o go u) (Err e) u
+    end_answer o go u e a there is =
+        let here : Answers (constraints_rule o go u) (Err (end_refusal a)) u = subst (λ x. Answers (constraints_rule x go u) (Err (end_refusal a)) u) (sym there) refl in
+        subst (λ x. Answers (constraints_rule o go u) (Err x) u) (sym is) here
+
+    end_found : (e : Refusal) (m : Meter) (a : ℕ × Level) → first_undeclared_end (length raw.levels) 0 raw.constraints ≡ Some a → e ≡ end_refusal a → FollowsRules raw (Err e) m m
+    end_found e m a there is =
+        let go = from_graph None (2048 - m.nest) m.account in
+        let pass : rules_of raw None (2048 - m.nest) m.account ≡ from_constraints None (2048 - m.nest) m.account = levels_pass (first_repeated 0 [] raw.levels) (from_constraints None (2048 - m.nest) m.account) m.account once in
+        follows_found raw (Err e) m m (record {
+          cycle = None;
+          found = λ _ declared. absurd (none_some (sym there ∙ declared));
+          answers = leads_answers _ _ (Err e) m.account (leads_is _ _ pass) (end_answer (first_undeclared_end (length raw.levels) 0 raw.constraints) go m.account e a there is);
+        })
+
+    pub constraints_refused : (e : Refusal) (m : Meter) → Refuses (first_undeclared_end (length raw.levels) 0 raw.constraints) end_refusal e → FollowsRules raw (Err e) m m
+    constraints_refused (Broken p b) m h = end_found (Broken p b) m h.0 h.1 h.2
+    constraints_refused Spent m h = end_found Spent m h.0 h.1 h.2
+    constraints_refused TooDeep m h = end_found TooDeep m h.0 h.1 h.2
+    constraints_refused Memory m h = tt
+
+    module _ (declared : first_undeclared_end (length raw.levels) 0 raw.constraints ≡ None) where
+      passes : (cycle : Option (List ℕ)) (n : ℕ) (u : Account) → rules_of raw cycle n u ≡ from_graph cycle n u
+      passes cycle n u =
+          levels_pass (first_repeated 0 [] raw.levels) (from_constraints cycle n u) u once
+          ∙ constraints_pass (first_undeclared_end (length raw.levels) 0 raw.constraints) (from_graph cycle n u) u declared
+
+      -- the graph
+
+      cycle_found : (e : Refusal) (m : Meter) (places : List ℕ) → Clashes (length raw.levels) raw.constraints places → e ≡ Broken (place_of places) (UniverseCycle places) → FollowsRules raw (Err e) m m
+      cycle_found e m places clash is =
+          let here : Answers (from_graph (Some places) (2048 - m.nest) m.account) (Err e) m.account = subst (λ x. Answers (from_graph (Some places) (2048 - m.nest) m.account) (Err x) m.account) (sym is) refl in
+          follows_found raw (Err e) m m (record {
+            cycle = Some places;
+            found = λ _ _. clash;
+            answers = leads_answers _ _ (Err e) m.account (leads_is _ _ (passes (Some places) (2048 - m.nest) m.account)) here;
+          })
+
+      pub graph_refused : (e : Refusal) (m : Meter) → RefusesGraph (length raw.levels) raw.constraints e → FollowsRules raw (Err e) m m
+      graph_refused (Broken p b) m h = cycle_found (Broken p b) m h.0 h.1 h.2
+      graph_refused Spent m h = cycle_found Spent m h.0 h.1 h.2
+      graph_refused TooDeep m h = cycle_found TooDeep m h.0 h.1 h.2
+      graph_refused Memory m h = tt
+
+      -- what comes after, over an environment without declarations
+
+      same_rules : (E : Env) (n : ℕ) (u : Account) → E.levels ≡ length raw.levels → E.constraints ≡ raw.constraints →
+          declarations_rule E.levels E.constraints (test_of E) n 0 [] (givens raw) raw.main u ≡ from_declarations n u
+      same_rules E n u el ec =
+          ap (λ l. declarations_rule l E.constraints (entailed_by l E.constraints) n 0 [] (givens raw) raw.main u) el
+          ∙ ap (λ cs. declarations_rule (length raw.levels) cs (entailed_by (length raw.levels) cs) n 0 [] (givens raw) raw.main u) ec
+
+      declarations_answer : (E : Env) (r : Result Accepted Refusal) (old new : Meter) → E.levels ≡ length raw.levels → E.constraints ≡ raw.constraints → IsConsistent (length raw.levels) raw.constraints →
+          Answers (declarations_rule E.levels E.constraints (test_of E) (2048 - old.nest) 0 [] (givens raw) raw.main old.account) r new.account → FollowsRules raw r old new
+      declarations_answer E r old new el ec consistent h =
+          let n = 2048 - old.nest in
+          follows_found raw r old new (record {
+            cycle = None;
+            found = λ _ _. consistent;
+            answers = leads_answers _ _ r new.account (leads_is _ _ (passes None n old.account ∙ sym (same_rules E n old.account el ec))) h;
+          })
+
+      pub declarations_refused : (E : Env) (xs : List RawDecl) (e : Refusal) (old new : Meter) → xs ≡ raw.decls → E.levels ≡ length raw.levels → E.constraints ≡ raw.constraints →
+          IsConsistent (length raw.levels) raw.constraints →
+          Answers (declarations_rule E.levels E.constraints (test_of E) (2048 - old.nest) 0 [] (map given_of xs) raw.main old.account) (Err e) new.account → FollowsRules raw (Err e) old new
+      declarations_refused E xs e old new is el ec consistent h =
+          declarations_answer E (Err e) old new el ec consistent
+          (subst (λ ys. Answers (declarations_rule E.levels E.constraints (test_of E) (2048 - old.nest) 0 [] (map given_of ys) raw.main old.account) (Err e) new.account) is h)
+
+      module _ (E : Env) (xs : List RawDecl) (is : xs ≡ raw.decls) (el : E.levels ≡ length raw.levels) (ec : E.constraints ≡ raw.constraints) (m0 m1 : Meter) (H : Env)
+          (after : IsAfter m0 m1) (c : HasChecked E (2048 - m0.nest) (map given_of xs) m0.account (length xs) H m1.account) where
+        givens_checked : HasChecked E (2048 - m0.nest) (givens raw) m0.account (length (givens raw)) H m1.account
+        givens_checked =
+            subst (λ ys. HasChecked E (2048 - m0.nest) (map given_of ys) m0.account (length (map given_of ys)) H m1.account) is
+            (subst (λ k. HasChecked E (2048 - m0.nest) (map given_of xs) m0.account k H m1.account) (sym (length-map xs given_of)) c)
+
+        pub main_follows : (r : Result Accepted Refusal) (m2 : Meter) → IsConsistent (length raw.levels) raw.constraints →
+            Answers (main_rule H (test_of H) (2048 - m1.nest) raw.main m1.account) r m2.account → FollowsRules raw r m0 m2
+        main_follows r m2 consistent h =
+            let n = 2048 - m0.nest in
+            let k = subst (λ x. Answers (main_rule H (test_of H) (2048 - x) raw.main m1.account) r m2.account) after.nest h in
+            declarations_answer E r m0 m2 el ec consistent
+            (leads_answers _ _ r m2.account (checked_all E n (givens raw) m0.account H m1.account givens_checked raw.main) k)
+
+        pub main_well_formed : (r : Result Accepted Refusal) → IfOk r (λ a. a.env ≡ H) → IfOk r (λ a. Types guarded H [] raw.main a.main_type) →
+            IfOk r (λ a. IsCheckedEnvironment raw.levels raw.constraints (givens raw) raw.main a.env a.main_type)
+        main_well_formed (Ok a) e t =
+            subst (λ X. IsCheckedEnvironment raw.levels raw.constraints (givens raw) raw.main X a.main_type) (sym e)
+            (checked_whole E (2048 - m0.nest) (givens raw) m0.account H m1.account givens_checked raw.levels raw.constraints raw.main a.main_type once el ec t)
+        main_well_formed (Err x) e t = tt
+
+-- an environment without declarations, over constraints on declared levels that are consistent
+
+pub accepted_empty : (E : Env) (levels : ℕ) (cs : List Constraint) → E.levels ≡ levels → E.constraints ≡ cs → E.declarations ≡ [] → AreOver levels cs → IsConsistent levels cs → IsAccepted E
+accepted_empty E levels cs el ec none over consistent = record {
+  over = subst (λ x. AreOver x E.constraints) (sym el) (subst (λ x. AreOver levels x) (sym ec) over);
+  consistent = subst (λ x. IsConsistent x E.constraints) (sym el) (subst (λ x. IsConsistent levels x) (sym ec) consistent);
+  declarations = subst (λ ds. Accepts E.levels E.constraints ds) (sym none) empty;
+}

@@ -1,0 +1,8 @@
+pub mod Bodies
+pub mod Agreeing
+pub mod Findings
+pub mod Heads
+pub mod FoundRuns
+pub mod WalkRuns
+pub mod Depths
+pub mod Guarded

@@ -1,0 +1,179 @@
+use Rattle.std.proofs.Common.{rules, arith, ◌≤◌, ◌<◌, length}
+use Rattle.std.proofs.lemmas.Result.{err_from_is_err_and}
+use Rattle.pc_rules.proofs.Following.{follows_bind, follows_err, follows_next, follows_first_err}
+use Rattle.trees.specs.Tree.{terms_of}
+use Rattle.trees.specs.Measures.{depth, depth_trees}
+use Rattle.pc_terms.specs.Lists.{arms_of, depth_defs}
+use Rattle.guard_check.proofs.Depths.{term_in, body_in, type_in, definition_in}
+use Rattle.guard_check.proofs.WalkRuns.{walk_leaf, walk_in, follows_last, terms_next, terms_stop, terms_end, branches_next, branches_stop, branches_end, definitions_next, definitions_type, definitions_body, definitions_end}
+use Rattle.guard_check.proofs.guard.Guard.+walk.Goals as goal
+
+-- under a binder
+
+pub binder-returns-in_err-walk : goal.binder-returns-in_err-walk
+binder-returns-in_err-walk g t c = record { follows = search (rules, follows_first_err) }
+
+pub binder-returns : goal.binder-returns
+binder-returns g t c =
+    let f = walk_in c.args.env.now _ _ _ _ c.args.body.now _ _ _ c.in_ok-inner.ensures.values c.in_ok-inner.ensures.marks c.walk-2.ensures.follows in
+    record { follows = follows_next _ _ _ _ _ _ c.in_ok-walk.ensures.follows (follows_last _ _ _ _ f) }
+
+-- branches
+
+pub branches-walk-requires : goal.branches-walk-requires
+branches-walk-requires g t c κs within =
+    let l : c.loop-place.place < length c.as_slice-branches.result.now = grind arith in
+    let less : depth c.index-branches-place.result.body ≤ depth_trees (arms_of c.args.x.now.branches) =
+    rw c.as_slice-branches.ensures.is at (body_in c.as_slice-branches.result.now c.loop-place.place c.index-branches-place.result l c.index-branches-place.is) in
+    (omega arith, search rules)
+
+pub branches-returns-in_err-walk : goal.branches-returns-in_err-walk
+branches-returns-in_err-walk g t c =
+    let l : c.loop-place.place < length c.as_slice-branches.result.now = grind arith in
+    let p = err_from_is_err_and c.from_residual-in_err-walk.result c.from_residual-in_err-walk.ensures.1 in
+    let f = walk_in c.args.env.now _ _ _ _ c.index-branches-place.result.body _ _ _ c.in_ok-inner.ensures.values c.in_ok-inner.ensures.marks c.in_err-walk.ensures.follows in
+    let whole = c.loop-place.invariant _ _ (branches_stop _ _ _ _ _ _ c.as_slice-branches.result.now c.loop-place.place c.index-branches-place.result _ c.loop-place.m c.walk.new.m l c.index-branches-place.is f) in
+    record { follows = rw (p.1, p.2) (rw c.as_slice-branches.ensures.is at whole) }
+
+pub branches-loop-place-preserved : goal.branches-loop-place-preserved
+branches-loop-place-preserved g t c = λ r n x.
+    let l : c.loop-place.place < length c.as_slice-branches.result.now = grind arith in
+    let f = walk_in c.args.env.now _ _ _ _ c.index-branches-place.result.body _ _ _ c.in_ok-inner.ensures.values c.in_ok-inner.ensures.marks c.in_ok-walk.ensures.follows in
+    c.loop-place.invariant r n (branches_next _ _ _ _ _ _ c.as_slice-branches.result.now c.loop-place.place c.index-branches-place.result r c.loop-place.m c.walk.new.m n l c.index-branches-place.is f x)
+
+pub branches-returns : goal.branches-returns
+branches-returns g t c =
+    let l : length c.as_slice-branches.result.now ≤ c.loop-place.place = grind arith in
+    let whole = c.loop-place.invariant _ _ (branches_end _ _ _ _ _ _ c.as_slice-branches.result.now c.loop-place.place c.loop-place.m l) in
+    record { follows = rw c.as_slice-branches.ensures.is at whole }
+
+-- a match
+
+pub case-returns-in_err-mark : goal.case-returns-in_err-mark
+case-returns-in_err-mark g t c = record { follows = search (rules, follows_err) }
+
+pub case-returns-in_err-walk : goal.case-returns-in_err-walk
+case-returns-in_err-walk g t c = record { follows = follows_bind _ _ _ _ _ _ _ c.in_ok-mark.ensures.follows (search (rules, follows_err)) }
+
+pub case-returns-in_err-terms : goal.case-returns-in_err-terms
+case-returns-in_err-terms g t c =
+    record { follows = follows_bind _ _ _ _ _ _ _ c.in_ok-mark.ensures.follows (follows_bind _ _ _ _ _ _ _ c.in_ok-walk.ensures.follows (search (rules, follows_err))) }
+
+pub case-returns-in_err-walk-2 : goal.case-returns-in_err-walk-2
+case-returns-in_err-walk-2 g t c =
+    let p = err_from_is_err_and c.from_residual-in_err-walk-2.result c.from_residual-in_err-walk-2.ensures.1 in
+    let ft = rw c.as_slice.ensures.is at c.in_ok-terms.ensures.follows in
+    let fr = walk_in c.args.env.now _ _ _ _ c.args.x.now.ret _ _ _ c.in_ok-inner.ensures.values c.in_ok-inner.ensures.marks c.in_err-walk-2.ensures.follows in
+    record { follows = rw (p.1, p.2) (follows_bind _ _ _ _ _ _ _ c.in_ok-mark.ensures.follows (follows_bind _ _ _ _ _ _ _ c.in_ok-walk.ensures.follows (follows_bind _ _ _ _ _ _ _ ft (follows_err _ _ _ _ _ fr)))) }
+
+pub case-returns : goal.case-returns
+case-returns g t c =
+    let ft = rw c.as_slice.ensures.is at c.in_ok-terms.ensures.follows in
+    let fr = walk_in c.args.env.now _ _ _ _ c.args.x.now.ret _ _ _ c.in_ok-inner.ensures.values c.in_ok-inner.ensures.marks c.in_ok-walk-2.ensures.follows in
+    let fb = rw c.opens.ensures.is at c.branches.ensures.follows in
+    record { follows = follows_bind _ _ _ _ _ _ _ c.in_ok-mark.ensures.follows (follows_bind _ _ _ _ _ _ _ c.in_ok-walk.ensures.follows (follows_bind _ _ _ _ _ _ _ ft (follows_bind _ _ _ _ _ _ _ fr fb))) }
+
+-- definitions
+
+pub definitions-walk-requires : goal.definitions-walk-requires
+definitions-walk-requires g t c κs within =
+    let l : c.loop-def.def-index < length c.args.defs.now = grind arith in
+    let less : depth c.def-item.result.ty ≤ depth_defs c.args.defs.now = type_in c.args.defs.now c.loop-def.def-index c.def-item.result l c.def-item.is in
+    (omega arith, search rules)
+
+pub definitions-returns-in_err-walk : goal.definitions-returns-in_err-walk
+definitions-returns-in_err-walk g t c =
+    let l : c.loop-def.def-index < length c.args.defs.now = grind arith in
+    let p = err_from_is_err_and c.from_residual-in_err-walk.result c.from_residual-in_err-walk.ensures.1 in
+    record { follows = rw (p.1, p.2) (c.loop-def.invariant _ _ (definitions_type _ _ _ (length c.args.defs.now) c.args.defs.now c.loop-def.def-index c.def-item.result l c.def-item.is _ c.loop-def.m c.walk.new.m c.in_err-walk.ensures.follows)) }
+
+pub definitions-walk-requires-in-loop-def : goal.definitions-walk-requires-in-loop-def
+definitions-walk-requires-in-loop-def g t c κs within =
+    let l : c.loop-def.def-index < length c.args.defs.now = grind arith in
+    let less : depth c.def-item.result.body ≤ depth_defs c.args.defs.now = definition_in c.args.defs.now c.loop-def.def-index c.def-item.result l c.def-item.is in
+    (omega arith, search rules)
+
+pub definitions-returns-in_err-walk-2 : goal.definitions-returns-in_err-walk-2
+definitions-returns-in_err-walk-2 g t c =
+    let l : c.loop-def.def-index < length c.args.defs.now = grind arith in
+    let p = err_from_is_err_and c.from_residual-in_err-walk-2.result c.from_residual-in_err-walk-2.ensures.1 in
+    let f = walk_in c.args.env.now _ _ _ _ c.def-item.result.body _ _ _ c.in_ok-inner.ensures.values c.in_ok-inner.ensures.marks c.in_err-walk-2.ensures.follows in
+    record { follows = rw (p.1, p.2) (c.loop-def.invariant _ _ (definitions_body _ _ _ (length c.args.defs.now) c.args.defs.now c.loop-def.def-index c.def-item.result l c.def-item.is _ c.loop-def.m c.walk.new.m c.walk-in-loop-def.new.m c.in_ok-walk.ensures.follows f)) }
+
+pub definitions-loop-def-preserved : goal.definitions-loop-def-preserved
+definitions-loop-def-preserved g t c = λ r n x.
+    let l : c.loop-def.def-index < length c.args.defs.now = grind arith in
+    let f = walk_in c.args.env.now _ _ _ _ c.def-item.result.body _ _ _ c.in_ok-inner.ensures.values c.in_ok-inner.ensures.marks c.in_ok-walk-2.ensures.follows in
+    c.loop-def.invariant r n (definitions_next _ _ _ (length c.args.defs.now) c.args.defs.now c.loop-def.def-index c.def-item.result l c.def-item.is r c.loop-def.m c.walk.new.m c.walk-in-loop-def.new.m n c.in_ok-walk.ensures.follows f x)
+
+pub definitions-returns : goal.definitions-returns
+definitions-returns g t c =
+    let l : length c.args.defs.now ≤ c.loop-def.def-index = grind arith in
+    record { follows = c.loop-def.invariant _ _ (definitions_end _ _ _ (length c.args.defs.now) c.args.defs.now c.loop-def.def-index c.loop-def.m l) }
+
+-- terms
+
+pub terms-walk-requires : goal.terms-walk-requires
+terms-walk-requires g t c κs within =
+    let l : c.loop-t.t-index < length c.args.ts.now = grind arith in
+    let less : depth c.t-item.result ≤ depth_trees (terms_of c.args.ts.now) = term_in c.args.ts.now c.loop-t.t-index c.t-item.result l c.t-item.is in
+    (omega arith, search rules)
+
+pub terms-returns-in_err-walk : goal.terms-returns-in_err-walk
+terms-returns-in_err-walk g t c =
+    let l : c.loop-t.t-index < length c.args.ts.now = grind arith in
+    let p = err_from_is_err_and c.from_residual.result c.from_residual.ensures.1 in
+    record { follows = rw (p.1, p.2) (c.loop-t.invariant _ _ (terms_stop _ _ _ c.args.ts.now c.loop-t.t-index c.t-item.result l c.t-item.is _ c.loop-t.m c.walk.new.m c.in_err-walk.ensures.follows)) }
+
+pub terms-loop-t-preserved : goal.terms-loop-t-preserved
+terms-loop-t-preserved g t c = λ r n x.
+    let l : c.loop-t.t-index < length c.args.ts.now = grind arith in
+    c.loop-t.invariant r n (terms_next _ _ _ c.args.ts.now c.loop-t.t-index c.t-item.result l c.t-item.is r c.loop-t.m c.walk.new.m n c.in_ok-walk.ensures.follows x)
+
+pub terms-returns : goal.terms-returns
+terms-returns g t c =
+    let l : length c.args.ts.now ≤ c.loop-t.t-index = grind arith in
+    record { follows = c.loop-t.invariant _ _ (terms_end _ _ _ c.args.ts.now c.loop-t.t-index c.loop-t.m l) }
+
+-- terms by their formers
+
+pub walk_applied-returns-in_err-walk_applied-in-App : goal.walk_applied-returns-in_err-walk_applied-in-App
+walk_applied-returns-in_err-walk_applied-in-App g t c =
+    let e = rw c.in-App.is at c.view.ensures.is in
+    let f = rw c.with.ensures.longer at c.in_err-walk_applied-in-App.ensures.follows in
+    record { follows = rw (← e) (search (rules, follows_err)) }
+
+pub walk_applied-returns-in_err-walk-in-LetIn : goal.walk_applied-returns-in_err-walk-in-LetIn
+walk_applied-returns-in_err-walk-in-LetIn g t c =
+    let e = rw c.in-LetIn.is at c.view.ensures.is in
+    record { follows = rw (← e) (search (rules, follows_err)) }
+
+pub walk_applied-returns-in_err-walk-in-LetIn-2 : goal.walk_applied-returns-in_err-walk-in-LetIn-2
+walk_applied-returns-in_err-walk-in-LetIn-2 g t c =
+    let e = rw c.in-LetIn.is at c.view.ensures.is in
+    record { follows = rw (← e) (follows_bind _ _ _ _ _ _ _ c.in_ok-walk-in-LetIn.ensures.follows (search (rules, follows_err))) }
+
+pub walk_applied-returns-in_ok-walk_applied-in-App : goal.walk_applied-returns-in_ok-walk_applied-in-App
+walk_applied-returns-in_ok-walk_applied-in-App g t c =
+    let e = rw c.in-App.is at c.view.ensures.is in
+    let f = rw c.with.ensures.longer at c.in_ok-walk_applied-in-App.ensures.follows in
+    record { follows = rw (← e) (follows_bind _ _ _ _ _ _ _ f c.walk.ensures.follows) }
+
+pub walk_applied-returns-in-Prod : goal.walk_applied-returns-in-Prod
+walk_applied-returns-in-Prod g t c =
+    let e = rw c.in-Prod.is at c.view.ensures.is in
+    record { follows = rw (← e) c.binder.ensures.follows }
+
+pub walk_applied-returns-in-Lambda : goal.walk_applied-returns-in-Lambda
+walk_applied-returns-in-Lambda g t c =
+    let e = rw c.in-Lambda.is at c.view.ensures.is in
+    record { follows = rw (← e) c.binder-in-Lambda.ensures.follows }
+
+pub walk_applied-returns-in_ok-inner-in-LetIn : goal.walk_applied-returns-in_ok-inner-in-LetIn
+walk_applied-returns-in_ok-inner-in-LetIn g t c =
+    let e = rw c.in-LetIn.is at c.view.ensures.is in
+    let f = walk_in c.args.env.now _ _ _ _ c.in-LetIn.body _ _ _ c.in_ok-inner-in-LetIn.ensures.values c.in_ok-inner-in-LetIn.ensures.marks c.walk-in-LetIn-3.ensures.follows in
+    record { follows = rw (← e) (follows_bind _ _ _ _ _ _ _ c.in_ok-walk-in-LetIn.ensures.follows (follows_bind _ _ _ _ _ _ _ c.in_ok-walk-in-LetIn-2.ensures.follows f)) }
+
+pub walk_applied-returns-in-Sort : goal.walk_applied-returns-in-Sort
+walk_applied-returns-in-Sort g t c = record { follows = walk_leaf _ _ _ _ _ _ c.args.m.now c.view.ensures.is c.in-Sort.is }

@@ -1,0 +1,135 @@
+-- Runs that have come to another one, and what follows them.
+use Rattle.std.proofs.Common.{◌≡◌, ◌∙◌, sym, ap, refl, subst, ◌||◌, Bool, false, Result, Ok, Err, List, [], ◌∷◌, ◌++◌, append_assoc, append-nil}
+use Rattle.std.proofs.Math.Bool.{or_assoc, or-false}
+use Rattle.pc_rules.specs.declared.meter.Account.{Account}
+use Rattle.pc_rules.specs.declared.meter.Meter.{Meter}
+use Rattle.pc_rules.specs.declared.stop.Stop.TheVariants.{Spent, TooDeep, Memory}
+use Rattle.pc_rules.specs.declared.stop.Halt.{Halt}
+use Rattle.pc_rules.specs.declared.stop.Halt.TheVariants.{Stop, Broken as Refusal}
+use Rattle.pc_rules.specs.DirectedRun.{Run, End, Done, Refused, NoUnit, Nested, done, bind, end_then, deep_then}
+use Rattle.pc_rules.specs.Follows.{Follows, IsAfter, Answers}
+use Rattle.pc_rules.specs.Leads.{Leads}
+use Rattle.pc_rules.proofs.Meters.{after-refl, after-trans}
+use Rattle.pc_rules.proofs.Following.{bind_end, bind_deep, follows_bind, follows_err}
+
+end_assoc : {A B C : Type 0} (e : End A) (f : A → Account → End B) (g : B → Account → End C) →
+    end_then (end_then e f) g ≡ end_then e (λ a u. end_then (f a u) g)
+end_assoc (Done a u) f g = refl
+end_assoc (Refused b u) f g = refl
+end_assoc NoUnit f g = refl
+end_assoc Nested f g = refl
+
+deep_assoc : {A B C : Type 0} (x : Bool) (e : End A) (f : A → Account → Run B) (g : B → Account → Run C) →
+    ((x || deep_then e (λ a u. (f a u).deep)) || deep_then (end_then e (λ a u. (f a u).end)) (λ b v. (g b v).deep)) ≡
+    (x || deep_then e (λ a u. (f a u).deep || deep_then (f a u).end (λ b v. (g b v).deep)))
+deep_assoc x (Done a u) f g = or_assoc x (f a u).deep (deep_then (f a u).end (λ b v. (g b v).deep))
+deep_assoc x (Refused b u) f g = or-false (x || false)
+deep_assoc x NoUnit f g = or-false (x || false)
+deep_assoc x Nested f g = or-false (x || false)
+
+-- one after the other is the same however they are grouped
+pub bind_assoc : {A B C : Type 0} (d : Run A) (f : A → Account → Run B) (g : B → Account → Run C) → bind (bind d f) g ≡ bind d (λ a u. bind (f a u) g)
+unfolding bind
+bind_assoc d f g = λ i. record {
+  end = end_assoc d.end (λ a u. (f a u).end) (λ b v. (g b v).end) i;
+  deep = deep_assoc d.deep d.end f g i;
+}
+
+-- what is done at once
+pub done_bind : {A B : Type 0} (a : A) (u : Account) (k : A → Account → Run B) → bind (done a u) k ≡ k a u
+unfolding bind
+done_bind a u k = refl
+
+end_unit : {A : Type 0} (e : End A) → e ≡ end_then e (λ a u. Done a u)
+end_unit (Done a u) = refl
+end_unit (Refused b u) = refl
+end_unit NoUnit = refl
+end_unit Nested = refl
+
+deep_unit : {A : Type 0} (x : Bool) (e : End A) → x ≡ (x || deep_then e (λ a u. false))
+deep_unit x (Done a u) = sym (or-false x)
+deep_unit x (Refused b u) = sym (or-false x)
+deep_unit x NoUnit = sym (or-false x)
+deep_unit x Nested = sym (or-false x)
+
+-- a run, and then its result
+pub bind_unit : {A : Type 0} (d : Run A) → d ≡ bind d (λ a u. done a u)
+unfolding bind
+bind_unit d = λ i. record { end = end_unit d.end i; deep = deep_unit d.deep d.end i }
+
+pub leads_start : {A : Type 0} (d e : Run A) → d ≡ e → Leads d e
+leads_start d e p = subst (λ x. Leads d x) p (record { end = refl; deep = λ h. h })
+
+pub leads_along : {A : Type 0} (whole d e : Run A) → d ≡ e → Leads whole d → Leads whole e
+leads_along whole d e p l = subst (λ x. Leads whole x) p l
+
+-- the first part is done
+pub leads_done : {A B : Type 0} (whole : Run B) (d : Run A) (k : A → Account → Run B) (a : A) (u : Account) → Leads whole (bind d k) → d.end ≡ Done a u → Leads whole (k a u)
+leads_done whole d k a u l e = record { end = l.end ∙ bind_end d k a u e; deep = λ h. l.deep (bind_deep d k a u e h) }
+
+-- what follows the rest follows the whole
+
+answers_leads : {A : Type 0} (whole rest : Run A) (r : Result A Halt) (u : Account) → Leads whole rest → Answers rest r u → Answers whole r u
+answers_leads whole rest (Ok a) u l h = l.end ∙ h
+answers_leads whole rest (Err (Stop Spent)) u l h = (l.end ∙ h.0, h.1)
+answers_leads whole rest (Err (Stop TooDeep)) u l h = l.deep h
+answers_leads whole rest (Err (Stop Memory)) u l h = tt
+answers_leads whole rest (Err (Refusal b)) u l h = l.end ∙ h
+
+pub follows_leads : {A : Type 0} (whole rest : Run A) (r : Result A Halt) (m0 m1 m2 : Meter) → Leads whole rest → IsAfter m0 m1 → Follows rest r m1 m2 → Follows whole r m0 m2
+follows_leads whole rest r m0 m1 m2 l after f =
+    record { answer = answers_leads whole rest r m2.account l f.answer; after = after-trans m0 m1 m2 after f.after }
+
+-- the first part of the rest is refused or stops
+pub follows_first : {A B : Type 0} (whole : Run B) (d : Run A) (k : A → Account → Run B) (h : Halt) (m0 m1 m2 : Meter) → Leads whole (bind d k) → IsAfter m0 m1 →
+    Follows d (Err h) m1 m2 → Follows whole (Err h) m0 m2
+follows_first whole d k h m0 m1 m2 l after f = follows_leads whole (bind d k) (Err h) m0 m1 m2 l after (follows_err d k h m1 m2 f)
+
+-- all is done
+pub follows_end : {A : Type 0} (whole : Run A) (a : A) (m0 m1 : Meter) → Leads whole (done a m1.account) → IsAfter m0 m1 → Follows whole (Ok a) m0 m1
+follows_end whole a m0 m1 l after = record { answer = l.end; after = after }
+
+-- lists that are collected: what is found of the first, and the rest
+
+pub collect_start : {B : Type 0} (d : Run (List B)) → Leads d (bind d (λ bs w. done ([] ++ bs) w))
+collect_start d = leads_start d (bind d (λ bs w. done bs w)) (bind_unit d)
+
+module _ {A B : Type 0} (whole : Run (List B)) (out : List B) (one : Run A) (rest : A → Account → Run (List B)) (g : A → B) where
+  abbrev found : A → Account → Run (List B)
+  found a v = bind (rest a v) (λ bs w. done (g a ∷ bs) w)
+
+  regrouped : bind (bind one found) (λ bs w. done (out ++ bs) w) ≡ bind one (λ a v. bind (found a v) (λ bs w. done (out ++ bs) w))
+  regrouped = bind_assoc one found (λ bs w. done (out ++ bs) w)
+
+  one_more : (a : A) (v : Account) → bind (found a v) (λ bs w. done (out ++ bs) w) ≡ bind (rest a v) (λ bs w. done ((out ++ (g a ∷ [])) ++ bs) w)
+  one_more a v =
+      bind_assoc (rest a v) (λ bs w. done (g a ∷ bs) w) (λ bs w. done (out ++ bs) w)
+      ∙ (λ i. bind (rest a v) (λ bs w. (done_bind (g a ∷ bs) w (λ bs w. done (out ++ bs) w) ∙ ap (λ xs. done xs w) (sym (append_assoc out (g a ∷ []) bs))) i))
+
+  pub collect_next : (a : A) (v : Account) → Leads whole (bind (bind one found) (λ bs w. done (out ++ bs) w)) → one.end ≡ Done a v →
+      Leads whole (bind (rest a v) (λ bs w. done ((out ++ (g a ∷ [])) ++ bs) w))
+  collect_next a v l e =
+      leads_along whole _ _ (one_more a v)
+      (leads_done whole one (λ a v. bind (found a v) (λ bs w. done (out ++ bs) w)) a v (leads_along whole _ _ regrouped l) e)
+
+  pub collect_first : (h : Halt) (m0 m1 m2 : Meter) → Leads whole (bind (bind one found) (λ bs w. done (out ++ bs) w)) → IsAfter m0 m1 → Follows one (Err h) m1 m2 →
+      Follows whole (Err h) m0 m2
+  collect_first h m0 m1 m2 l after f =
+      follows_first whole one (λ a v. bind (found a v) (λ bs w. done (out ++ bs) w)) h m0 m1 m2 (leads_along whole _ _ regrouped l) after f
+
+pub collect_end : {B : Type 0} (whole : Run (List B)) (out : List B) (d : Run (List B)) (m0 m1 : Meter) → d ≡ done [] m1.account →
+    Leads whole (bind d (λ bs w. done (out ++ bs) w)) → IsAfter m0 m1 → Follows whole (Ok out) m0 m1
+collect_end whole out d m0 m1 e l after =
+    follows_end whole out m0 m1 (leads_along whole _ _
+    (ap (λ x. bind x (λ bs w. done (out ++ bs) w)) e ∙ (done_bind [] m1.account (λ bs w. done (out ++ bs) w) ∙ ap (λ xs. done xs m1.account) (append-nil out))) l) after
+
+-- a part that leaves the meter alone
+
+pub still_bind : {A B : Type 0} (d : Run A) (k : A → Account → Run B) (a : A) (r : Result B Halt) (m0 m1 : Meter) → Answers d (Ok a) m0.account →
+    Follows (k a m0.account) r m0 m1 → Follows (bind d k) r m0 m1
+still_bind d k a r m0 m1 h f = follows_bind d k a r m0 m0 m1 (record { answer = h; after = after-refl m0 }) f
+
+pub still_stops : {A : Type 0} (d : Run A) (h : Halt) (m : Meter) → Answers d (Err h) m.account → Follows d (Err h) m m
+still_stops d h m e = record { answer = e; after = after-refl m }
+
+pub ruleset after_laws = (after-refl, after-trans)

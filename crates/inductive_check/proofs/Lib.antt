@@ -1,0 +1,9 @@
+pub mod Checking
+pub mod Constructing
+pub mod Distinct
+pub mod Listed
+pub mod Heading
+pub mod Leading
+pub mod Naming
+pub mod Sound
+pub mod Telescopes

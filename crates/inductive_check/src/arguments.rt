@@ -1,0 +1,123 @@
+//! The arguments of a constructor.
+ghost use Rattle.std.specs.Prelude.{◌≡◌, ◌+◌, IfOk};
+ghost use Rattle.universe_levels.specs.Consistency.{IsSortOver, AreOver};
+ghost use Rattle.pc_rules.specs.declared.meter.Account.{Account};
+ghost use Rattle.pc_rules.specs.Context.{extend};
+ghost use Rattle.pc_rules.specs.DirectedTyping.{infer};
+ghost use Rattle.pc_rules.specs.DirectedDeclarations.{fits_sort, positive_rule, arguments_rule};
+ghost use Rattle.pc_rules.specs.Entailment.{test_of};
+ghost use Rattle.pc_rules.specs.Follows.{Follows, Answers};
+ghost use Rattle.pc_rules.specs.WellCounted.{IsCounted, AreCounted, IsCountedContext, IsCountedEnv};
+ghost use Rattle.inductive_check.specs.Arguments.{argument_rule};
+
+use crate::listing::push;
+use crate::positivity::is_positive;
+use crate::telescope::assume;
+use crate::types::sort_of;
+use pc_rules::broken::Broken;
+use pc_rules::context::Ctx;
+use pc_rules::declaration::Sorts;
+use pc_rules::environment::Env;
+use pc_rules::meter::Meter;
+use pc_rules::stop::Halt;
+use pc_rules::typer::Typer;
+use pc_terms::leaf::Name;
+use pc_terms::lists::Telescope;
+use pc_terms::term::Term;
+use std::alloc::Global;
+use universe_levels::sort::Sort;
+
+/// Where a constructor stands in its block: the places of its family and of itself, from 0.
+#[derive(Clone, Copy)]
+pub(crate) struct CtorPlace {
+    pub family: u32,
+    pub ctor: u32,
+}
+
+/// Whether an argument of a sort may stand in a family of a sort: in any in `Prop`, and else in one whose sort is not less.
+/// `SortTooSmall`, and else only `Memory`.
+fn fits_sort(alloc: Global, env: &Env, argument: &Sort, family: &Sort) -> Result<(), Halt>
+    requires over { AreOver env.now.levels env.now.constraints }
+    requires argument { IsSortOver env.now.levels argument.now }
+    requires family { IsSortOver env.now.levels family.now }
+    ensures answers { (u : Account) → Answers (fits_sort (test_of env.now) family.now argument.now u) result u }
+{
+    let Sort::Of(_) = family else {
+        return Ok(());
+    };
+    if env.entails(argument, family) {
+        return Ok(());
+    }
+    let argument = argument.share(alloc)?;
+    let family = family.share(alloc)?;
+    Err(Halt::Broken(Broken::SortTooSmall { argument, family }))
+}
+
+/// Whether a type is strictly positive in the block. `NotPositive` with the constructor's place. Takes no memory.
+pub(crate) fn positive_at(block: Name, at: CtorPlace, ty: &Term) -> Result<(), Halt>
+    ensures answers { (u : Account) → Answers (positive_rule block at.family at.ctor ty.now u) result u }
+{
+    if is_positive(block, ty) {
+        return Ok(());
+    }
+    let CtorPlace { family, ctor } = at;
+    Err(Halt::Broken(Broken::NotPositive { family, ctor }))
+}
+
+/// The sort of an argument of a constructor of the block, which stands at a place in it and whose family has a sort: the refusals of
+/// `Typer::sort_of`, then `SortTooSmall`, then `NotPositive`.
+fn argument<T: Typer>(
+    alloc: Global,
+    typer: &T,
+    env: &Env,
+    room: u32,
+    ctx: &Ctx,
+    block: Name,
+    at: CtorPlace,
+    family: &Sort,
+    ty: &Term,
+    m: &mut Meter,
+) -> Result<Sort, Halt>
+    requires nest { room + m.old.nest ≡ 2048 }
+    requires env { IsCountedEnv env.now }
+    requires ctx { IsCountedContext env.now ctx.now }
+    requires family { IsSortOver env.now.levels family.now }
+    ensures follows { Follows (argument_rule env.now (test_of env.now) (infer env.now (test_of env.now) room) block at.family at.ctor family.now ctx.now ty.now m.old.account) result m.old m.new }
+    ensures counted { IfOk result (λ _. IsCounted env.now ty.now) }
+{
+    let sort = sort_of(alloc, typer, env, room, ctx, ty, m)?;
+    fits_sort(alloc, env, &sort, family)?;
+    positive_at(block, at, ty)?;
+    Ok(sort)
+}
+
+/// The sorts of the arguments of a constructor, each in turn with the refusals of `argument`, and puts each into the context.
+pub(crate) fn arguments<T: Typer>(
+    alloc: Global,
+    typer: &T,
+    env: &Env,
+    room: u32,
+    ctx: &mut Ctx,
+    block: Name,
+    at: CtorPlace,
+    family: &Sort,
+    args: &Telescope,
+    m: &mut Meter,
+) -> Result<Sorts, Halt>
+    requires nest { room + m.old.nest ≡ 2048 }
+    requires env { IsCountedEnv env.now }
+    requires ctx { IsCountedContext env.now ctx.old }
+    requires family { IsSortOver env.now.levels family.now }
+    ensures follows { Follows (arguments_rule env.now (test_of env.now) (infer env.now (test_of env.now) room) block at.family at.ctor family.now ctx.old args.now m.old.account) result m.old m.new }
+    ensures longer { IfOk result (λ _. ctx.new ≡ extend ctx.old args.now) }
+    ensures counted { IfOk result (λ _. AreCounted env.now args.now) }
+    ensures context { IfOk result (λ _. IsCountedContext env.now ctx.new) }
+{
+    let mut sorts = Vec::new(alloc);
+    for ty in args.as_slice() {
+        let sort = argument(alloc, typer, env, room, ctx, block, at, family, ty, m)?;
+        push(&mut sorts, sort)?;
+        assume(alloc, ctx, ty)?;
+    }
+    Ok(Sorts::of(sorts))
+}

@@ -1,0 +1,115 @@
+//! A block that is read.
+ghost use Rattle.std.specs.Prelude.{◌≡◌, ◌+◌, ◌-◌, map, IfOk, IfErr};
+ghost use Rattle.pc_rules.specs.declared.stop.Stop.TheVariants.{Memory};
+ghost use Rattle.pc_rules.specs.DirectedDeclarations.{block_rule, with_heads};
+ghost use Rattle.pc_rules.specs.Entailment.{test_of};
+ghost use Rattle.pc_rules.specs.Follows.{Follows};
+ghost use Rattle.pc_rules.specs.Lookup.{IsNew};
+ghost use Rattle.pc_rules.specs.WellCounted.{IsCountedEnv};
+ghost use Rattle.rule_laws.specs.Declarations.{BlockFormed, IsCheckedBlock};
+ghost use Rattle.inductive_check.specs.Given.{IsBlock, block_of, block_from};
+
+use crate::constructors::check_families;
+use crate::heads::{check_heads, heads};
+use crate::sharing::shared_telescope;
+use crate::telescope::enter;
+use dump_reader::declaration::{RawDecl, RawFamilies};
+use pc_rules::context::Ctx;
+use pc_rules::declaration::Block;
+use pc_rules::environment::Env;
+use pc_rules::meter::Meter;
+use pc_rules::reducer::Reducer;
+use pc_rules::stop::{Halt, Stop};
+use pc_rules::typer::Typer;
+use pc_terms::leaf::Name;
+use pc_terms::lists::Telescope;
+use std::alloc::Global;
+
+/// The environment in which the families of a new block are known by their types alone. Only `Memory`.
+fn with_heads(
+    alloc: Global,
+    env: &Env,
+    name: Name,
+    params: &Telescope,
+    families: &RawFamilies,
+) -> Result<Env, Stop>
+    requires new { IsNew env.now name }
+    ensures ok { IfOk result (λ H. H ≡ with_heads env.now (block_from name params.now families.now)) }
+    ensures only_memory { IfErr result (λ s. s ≡ Memory) }
+{
+    let block = Block {
+        name,
+        params: shared_telescope(alloc, params)?,
+        families: heads(alloc, families)?,
+    };
+    env.heads(alloc, block)
+}
+
+/// Checks a block by its parts: the heads over the environment, then the constructors over the environment with the heads.
+#[tactic(auto, using(crate::proofs::Leading::after_laws))]
+fn check_parts<T: Typer>(
+    alloc: Global,
+    typer: &T,
+    env: &Env,
+    room: u32,
+    name: Name,
+    params: &Telescope,
+    families: &RawFamilies,
+    m: &mut Meter,
+) -> Result<Block, Halt>
+    requires nest { room + m.old.nest ≡ 2048 }
+    requires env { IsCountedEnv env.now }
+    requires new { IsNew env.now name }
+    ensures follows { Follows (block_rule env.now (test_of env.now) room (block_from name params.now families.now) m.old.account) result m.old m.new }
+    ensures formed { IfOk result (λ _. BlockFormed (block_from name params.now families.now)) }
+{
+    let mut ctx = Ctx::new();
+    enter(alloc, typer, env, room, &mut ctx, params, m)?;
+    check_heads(alloc, typer, env, room, &ctx, families, m)?;
+    let under = with_heads(alloc, env, name, params, families)?;
+    let families = check_families(alloc, typer, &under, room, &ctx, name, families, m)?;
+    let params = shared_telescope(alloc, params)?;
+    Ok(Block {
+        name,
+        params,
+        families,
+    })
+}
+
+/// Checks a block of inductive families that is new to the environment, and gives it with the sorts of its constructors' arguments
+/// (PCUIC, Sozeau et al., "Coq Coq Correct!", POPL 2020, section 2.3).
+///
+/// The environment is well counted. The parameters and each family's name, sort, indices and constructor names are looked at first, over
+/// the environment; then the constructors, over the environment in which the families are known by their types alone. `Broken` keeps the
+/// first broken rule: what `sort_of` and `check` of the typer refuse; `DuplicateName` of a constructor whose name an earlier one of its
+/// family has; `LevelUndeclared` in a family's sort; `SortTooSmall` where an argument's sort is not at most the family's, unless that is
+/// `Prop`; `NotPositive`, with the places of family and constructor from 0, where an argument's type is not strictly positive or a result
+/// term names the block; `CountWrong` where a constructor has not as many result terms as its family has indices. `Spent` exactly where
+/// the rules have no end within the units left and no limit was passed. `TooDeep` only where they pass a limit. `Memory` also where a list of
+/// the block has more than 4,294,967,295 items.
+pub fn check_block<T: Typer, R: Reducer>(
+    alloc: Global,
+    typer: &T,
+    _reducer: &R,
+    env: &Env,
+    raw: &RawDecl,
+    m: &mut Meter,
+) -> Result<Block, Halt>
+    requires env { IsCountedEnv env.now }
+    requires block { IsBlock raw.now }
+    requires new { IsNew env.now (block_of raw.now).name }
+    ensures follows { Follows (block_rule env.now (test_of env.now) (2048 - m.old.nest) (block_of raw.now) m.old.account) result m.old m.new }
+    ensures fits { IfOk result (λ block. IsCheckedBlock env.now (block_of raw.now) block) }
+{
+    // The constraints of an environment are consistent.
+    let _ = env.graph();
+    let room = m.room();
+    match raw {
+        RawDecl::Block {
+            name,
+            params,
+            families,
+        } => check_parts(alloc, typer, env, room, *name, params, families, m),
+        RawDecl::Constant { .. } => unreachable!(),
+    }
+}

@@ -1,0 +1,9 @@
+pub mod Finding
+pub mod Beginning
+pub mod Entries
+pub mod Declaring
+pub mod Fixing
+pub mod GuardConditions
+mod Answering
+mod MatchLists
+mod Matching

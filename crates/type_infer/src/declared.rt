@@ -1,0 +1,93 @@
+//! Constants, families and constructors: rules 7 to 9.
+ghost use Rattle.std.specs.Prelude.{◌≡◌, ◌⊎◌, IfOk, IfErr, MatchOption, None, Some, slice_get};
+ghost use Rattle.pc_rules.specs.declared.meter.Account.{Account};
+ghost use Rattle.pc_rules.specs.Environment.{with_parameters, family_at};
+ghost use Rattle.pc_rules.specs.Follows.{Halts, Answers};
+ghost use Rattle.pc_rules.specs.DirectedWeakHead.{kept_at};
+ghost use Rattle.pc_rules.specs.DirectedTyping.{const_rule, family_number, ind_rule, construct_rule};
+
+use instances::instances::constructors::constructor_type;
+use instances::instances::families::family_type;
+use pc_rules::broken::Broken;
+use pc_rules::declaration::{Block, Constructor, Family, Kept};
+use pc_rules::environment::Env;
+use pc_rules::stop::{Halt, Stop};
+use pc_terms::leaf::{FamilyId, Name};
+use pc_terms::term::Term;
+use std::alloc::Global;
+
+/// The type of a constant. `UnknownName` unless a constant is kept by the name.
+pub(crate) fn const_rule(env: &Env, name: Name) -> Result<Term, Halt>
+    ensures answers { (u : Account) → Answers (const_rule name (kept_at env.now.declarations name) u) result u }
+{
+    match env.find(name) {
+        Some(Kept::Constant { ty, .. }) => Ok(ty.share()?),
+        _ => Err(Halt::Broken(Broken::UnknownName { name })),
+    }
+}
+
+/// That there is no item of that number; `Memory` where there are more than numbers of 32 bits.
+pub(crate) fn bad_number(number: u32, items: usize) -> Halt
+    ensures is { (result ≡ Halt.Broken (Broken.BadNumber number items)) ⊎ (result ≡ Halt.Stop Stop.Memory) }
+{
+    match u32::try_from(items) {
+        Ok(count) => Halt::Broken(Broken::BadNumber { number, count }),
+        Err(_) => Halt::Stop(Stop::Memory),
+    }
+}
+
+// Family i of a block.
+fn family_at(block: &Block, i: u32) -> Option<&Family>
+    ensures at { MatchOption result (slice_get block.now.families i ≡ None) (λ F. slice_get block.now.families i ≡ Some F.now) }
+{
+    block.families.as_slice().get(i as usize)
+}
+
+// Constructor i of a family.
+fn constructor_at(family: &Family, i: u32) -> Option<&Constructor>
+    ensures at { MatchOption result (slice_get family.now.ctors i ≡ None) (λ C. slice_get family.now.ctors i ≡ Some C.now) }
+{
+    family.ctors.as_slice().get(i as usize)
+}
+
+/// A family of a block. `BadNumber` where the block has not so many.
+pub(crate) fn family_in(block: &Block, id: FamilyId) -> Result<&Family, Halt>
+    ensures ok { IfOk result (λ F. family_at block.now id.family ≡ Some (with_parameters block.now.params F.now)) }
+    ensures err { IfErr result (λ h. (u : Account) → Halts (family_number block.now id (family_at block.now id.family) u) h u) }
+{
+    match family_at(block, id.family) {
+        Some(family) => Ok(family),
+        None => Err(bad_number(id.family, block.families.len())),
+    }
+}
+
+/// The type of a family: the product over parameters and indices that ends in its sort. `UnknownName`, then `BadNumber`.
+pub(crate) fn ind_rule(alloc: Global, env: &Env, id: FamilyId) -> Result<Term, Halt>
+    ensures answers { (u : Account) → Answers (ind_rule env.now id u) result u }
+{
+    let Some(block) = env.block(id.block) else {
+        return Err(Halt::Broken(Broken::UnknownName { name: id.block }));
+    };
+    let family = family_in(block, id)?;
+    Ok(family_type(alloc, block, family)?)
+}
+
+/// The type of a constructor of a whole block: the product over parameters and arguments that ends in the family at the parameters and the
+/// result. `UnknownName`, then `BadNumber` for the family, then for the constructor.
+pub(crate) fn construct_rule(
+    alloc: Global,
+    env: &Env,
+    id: FamilyId,
+    number: u32,
+) -> Result<Term, Halt>
+    ensures answers { (u : Account) → Answers (construct_rule env.now id number u) result u }
+{
+    let Some(block) = env.whole_block(id.block) else {
+        return Err(Halt::Broken(Broken::UnknownName { name: id.block }));
+    };
+    let family = family_in(block, id)?;
+    match constructor_at(family, number) {
+        Some(ctor) => Ok(constructor_type(alloc, id, block, ctor)?),
+        None => Err(bad_number(number, family.ctors.len())),
+    }
+}
