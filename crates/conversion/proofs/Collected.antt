@@ -1,6 +1,6 @@
 -- Lists that are collected item by item: types, bodies and entries of definitions, and contexts with the entries of a telescope.
-use Rattle.std.proofs.Common.{◌≡◌, ◌∙◌, sym, ap, refl, ℕ, zero, suc, ◌<◌, ◌+◌, IsTrue, List, [], ◌∷◌, ◌++◌, length, take, get_or, subst, arith}
-use Rattle.std.proofs.lemmas.List.{take_more, length-take-le}
+use Rattle.std.proofs.Common.{◌≡◌, ◌∙◌, ap, refl, ℕ, zero, suc, ◌<◌, ◌+◌, IsTrue, List, [], ◌∷◌, ◌++◌, length, take, get_or, subst, arith}
+use Rattle.std.proofs.lemmas.List.{length-take-le}
 use Rattle.trees.specs.Measures.{IsBeyond}
 use Rattle.trees.proofs.Cutoffs.{lift-shift}
 use Rattle.pc_terms.specs.Syntax.{Term, lift, shift}
@@ -11,10 +11,7 @@ use Rattle.pc_rules.specs.Context.{Context, extend}
 use Rattle.pc_rules.specs.DirectedRun.{is_beyond, any_beyond}
 use Rattle.pc_rules.specs.DirectedComparison.{list_of, lifted_types}
 use Rattle.pc_rules.proofs.Following.{or_left, or_right, beyond_is}
-
--- one item more
-pub take_next : {A : Type 0} (xs : List A) (i : ℕ) (a : A) → i < length xs → a ≡ get_or xs i a → take (i + 1) xs ≡ take i xs ++ (a ∷ [])
-take_next xs i a h e = take_more xs i a h ∙ ap (λ y. take i xs ++ (y ∷ [])) (sym e)
+use Rattle.pc_rules.proofs.ListSteps.{take_next}
 
 types_more : (ds : List Def) (d : Def) → list_of (types_of (ds ++ (d ∷ []))) ≡ list_of (types_of ds) ++ (d.ty ∷ [])
 types_more [] d = refl

@@ -24,7 +24,7 @@ use Rattle.pc_rules.specs.DirectedRun.{Act, ticked, too_nested, passing, any_bey
 use Rattle.pc_rules.specs.DirectedWeakHead.{family_of}
 use Rattle.pc_rules.specs.DirectedComparison.{Test, Comparison, compare, entered, entering, each_equal, branches_equal, matches_equal, heads_equal, spines_equal, alike, list_of}
 use Rattle.pc_rules.proofs.Following.{follows_spent, follows_nested, follows_entered, follows_bind, follows_err, follows_deep, follows_memory, follows_passing, follows_none, follows_next, follows_first_err, follows_then, follows_else, follows_refused}
-use Rattle.conversion.proofs.Listing.{next_is, none_left, min_either, listed}
+use Rattle.pc_rules.proofs.ListSteps.{next_is, none_left, min_either, listed}
 
 -- the comparison with room for so many rules
 abbrev pub at_room : Env → ℕ → Comparison

@@ -1,7 +1,5 @@
 -- Lists of terms, branches and definitions, from one item on.
-use Rattle.std.proofs.Common.{◌≡◌, ◌∙◌, ap, refl, ℕ, zero, suc, ◌<◌, ◌≤◌, ◌+◌, ◌==◌, ◌&&◌, min, ◌⊎◌, inl, inr, Bool, true, false, IsTrue, ◌↔◌, List, [], ◌∷◌, length, drop, get_or, ◌≢◌, add-one, eq-eqb, arith}
-use Rattle.std.proofs.Math.Seq.{drop-cons}
-use Rattle.std.proofs.lemmas.List.{drop_all}
+use Rattle.std.proofs.Common.{◌≡◌, ◌∙◌, ap, refl, ℕ, suc, ◌<◌, ◌+◌, ◌==◌, ◌&&◌, Bool, true, false, List, [], ◌∷◌, length, drop, get_or, ◌≢◌, eq-eqb}
 use Rattle.trees.specs.Tree.{terms_of}
 use Rattle.pc_terms.specs.Syntax.{Term, number}
 use Rattle.pc_terms.specs.View.{tree_of}
@@ -11,48 +9,9 @@ use Rattle.pc_terms.specs.declared.term.Branch.{Branch}
 use Rattle.pc_terms.specs.declared.term.Def.{Def}
 use Rattle.pc_terms.specs.declared.term.Match.{Match}
 use Rattle.pc_terms.specs.declared.term.Node.TheVariants.{Case}
-use Rattle.pc_rules.specs.Same.{same, same_numbers, same_families}
-use Rattle.pc_rules.specs.DirectedComparison.{list_of, alike}
-use Rattle.pc_rules.proofs.SameTrees.{same_is, same_itself}
-
--- item i and those after it
-pub next_is : {A : Type 0} (xs : List A) (i : ℕ) (a : A) → i < length xs → a ≡ get_or xs i a → drop i xs ≡ a ∷ drop (i + 1) xs
-next_is xs i a h e = rw (add-one, drop-cons xs i a h, ← e) refl
-
-pub none_left : {A : Type 0} (xs : List A) (i : ℕ) → length xs ≤ i → drop i xs ≡ []
-none_left xs i h = drop_all i xs h
-
--- terms without their numbers of variables
-
-pub listed : (ts : List Term) → list_of (terms_of ts) ≡ ts
-listed [] = refl
-listed (t ∷ ts) = ap (◌∷◌ t) (listed ts)
-
--- the test of sameness by any test that decides it
-
-pub same_yes : (a b : Term) (r : Bool) → (IsTrue r ↔ (a ≡ b)) → r ≡ true → same a b ≡ true
-same_yes a b r h e = let p : a ≡ b = h.0 e in rw p (same_itself b)
-
-not_true : (b : Bool) → (b ≡ true → ⊥) → b ≡ false
-not_true true h = absurd (h refl)
-not_true false h = refl
-
-no_both : (r : Bool) → r ≡ false → r ≡ true → ⊥
-no_both r e k = cc
-
-pub same_no : (a b : Term) (r : Bool) → (IsTrue r ↔ (a ≡ b)) → r ≡ false → same a b ≡ false
-same_no a b r h e = not_true (same a b) (λ q. no_both r e (h.1 (same_is a b q)))
-
--- the least of two numbers is one of them
-sucs : {a b i : ℕ} → (a ≤ i) ⊎ (b ≤ i) → (suc a ≤ suc i) ⊎ (suc b ≤ suc i)
-sucs (inl h) = inl (omega arith)
-sucs (inr h) = inr (omega arith)
-
-pub min_either : (a b i : ℕ) → min a b ≤ i → (a ≤ i) ⊎ (b ≤ i)
-min_either zero b i h = inl (omega arith)
-min_either (suc a) zero i h = inr (omega arith)
-min_either (suc a) (suc b) zero h = absurd (omega (arith, h))
-min_either (suc a) (suc b) (suc i) h = sucs (min_either a b i (omega (arith, h)))
+use Rattle.pc_rules.specs.Same.{same_numbers, same_families}
+use Rattle.pc_rules.specs.DirectedComparison.{alike}
+use Rattle.pc_rules.proofs.ListSteps.{next_is}
 
 -- numbers that are the same from an item on
 

@@ -16,7 +16,7 @@ use Rattle.pc_rules.specs.DirectedComparison.{list_of}
 use Rattle.rule_laws.proofs.Counted.{head_counted, args_counted, list_counted}
 use Rattle.rule_laws.proofs.KeepCounts.{steps_counted}
 use Rattle.conversion.specs.Comparable.{AreComparable}
-use Rattle.conversion.proofs.Listing.{listed}
+use Rattle.pc_rules.proofs.ListSteps.{listed}
 
 -- the entries of a telescope have no values
 pub extended_values : (E : Env) (c : Context) (As : List Term) → AreCountedValues E (values c) → AreCountedValues E (values (extend c As))

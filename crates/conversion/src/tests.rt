@@ -129,6 +129,19 @@ fn products(alloc: Global, count: u32, end: Term) -> Result<Term, Fail>
     Ok(term)
 }
 
+/// A product of a term and itself, so many times over. Both sides are one node, so the tree doubles each time.
+fn doubled(alloc: Global, count: u32, end: Term) -> Result<Term, Fail>
+    requires counted { (E : Env) → IsCounted E end }
+    ensures counted { IfOk result (λ t. (E : Env) → IsCounted E t) }
+{
+    let mut term = end;
+    for _i in 0..count {
+        let domain = term.share()?;
+        term = Term::make(alloc, Node::Prod(domain, term))?;
+    }
+    Ok(term)
+}
+
 /// Terms to compare.
 #[derive(Clone, Copy)]
 enum Shape {
@@ -379,5 +392,23 @@ fn lets_2048_rules_stand_in_one_another(rt: HostRuntime) -> Result<(), Fail> {
     assert!(rt; entered);
     let ending = compared(alloc, &compare, &env, false, &a, &b, &mut m);
     assert_eq!(rt; ending, Ending::TooDeep);
+    Ok(())
+}
+
+/// The trees have 2^2047 leaves: no walk over them would come to an end.
+#[test]
+fn finds_shared_terms_equal_by_one_unit(rt: HostRuntime) -> Result<(), Fail> {
+    let alloc = rt.alloc();
+    let env = empty_env(alloc)?;
+    let compare = Compare::new(Formers);
+    let side = doubled(alloc, 2046, prop(alloc)?)?;
+    let a = doubled(alloc, 1, side.share()?)?;
+    let b = doubled(alloc, 1, side)?;
+    for equal in [true, false] {
+        let mut m = Meter::new(1);
+        let ending = compared(alloc, &compare, &env, equal, &a, &b, &mut m);
+        assert_eq!(rt; ending, Ending::Holds);
+        assert_eq!(rt; m.left(), 0);
+    }
     Ok(())
 }

@@ -1,6 +1,6 @@
 -- The answers of `exec` and `check`, from what their stages say.
-use Rattle.std.proofs.Common.{◌≡◌, ℕ, suc, ◌+◌, ◌*◌, ◌/◌, ◌<◌, length, take, get_or, List, [], ◌∷◌, ◌++◌, Option, Some, None, Result, Ok, Err, ◌⊎◌, inl, inr, refl, sym, ap, subst, ◌∙◌, arith, lit≤}
-use Rattle.std.specs.Prelude.{All, IfOk, IfErr, slice_get, option_map}
+use Rattle.std.proofs.Common.{◌≡◌, ℕ, suc, ◌+◌, ◌*◌, ◌/◌, ◌<◌, length, take, get_or, List, [], ◌∷◌, ◌++◌, Some, Result, Ok, Err, ◌⊎◌, inl, inr, refl, sym, ap, subst, ◌∙◌, arith, lit≤}
+use Rattle.std.specs.Prelude.{All, IfOk, IfErr, slice_get}
 use Rattle.std.proofs.Math.Seq.{take-suc}
 use Rattle.std.proofs.lemmas.List.Elements.{All-nil, All-cons, All-append}
 use Rattle.wasm_core.specs.ModuleGrammar.{SpellsModule}
@@ -11,7 +11,7 @@ use Rattle.pc_terms.specs.Syntax.{Term, Construct}
 use Rattle.pc_rules.specs.declared.declaration.Constructor.{Constructor}
 use Rattle.pc_rules.specs.declared.declaration.Family.{Family}
 use Rattle.pc_rules.specs.declared.declaration.Kept.TheVariants.{Block as Whole}
-use Rattle.pc_rules.specs.Environment.{Env, FamilyDecl, KeepsFamily, with_parameters}
+use Rattle.pc_rules.specs.Environment.{Env, KeepsFamily, with_parameters}
 use Rattle.pc_rules.specs.Typing.{Types, guarded}
 use Rattle.pc_rules.specs.DirectedWeakHead.{if_some, known_block, kept_at}
 use Rattle.pc_rules.specs.Lookup.{family_kept}
@@ -26,15 +26,11 @@ use Rattle.driver.specs.Plain.{IsPlainOf}
 use Rattle.driver.specs.Texts.{SpellsWithin}
 use Rattle.driver.specs.Judged.{IsAcceptedBy, IsNamed}
 use Rattle.driver.specs.Serve.{IsAnswer, IsAnswerOf, CheckSays, IsCheckCause, JobSays, Takes}
-use Rattle.driver.proofs.Kept.{kept_constructor, was_read, named_ctor}
+use Rattle.driver.proofs.Kept.{kept_constructor, was_read, named_ctor, from_map}
 
 -- the constructor's number, from its word
 pub half : (w n : ℕ) → w ≡ 2 * n + 1 → w / 2 ≡ n
 half w n e = omega (arith, e)
-
-from_map : {X Y : Type 0} (g : X → Y) (o : Option X) (y : Y) → option_map g o ≡ Some y → (x : X) × (o ≡ Some x) × (y ≡ g x)
-from_map g None y e = absurd cc
-from_map g (Some x) y e = let q : y ≡ g x = cc in (x, refl, q)
 
 -- ---- main's constructor
 

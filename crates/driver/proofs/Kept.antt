@@ -1,5 +1,5 @@
 -- What is kept by an environment that is accepted was read: main's constructor, with its name in the table.
-use Rattle.std.proofs.Common.{◌≡◌, ℕ, zero, suc, ◌<◌, ◌≤◌, List, [], ◌∷◌, ◌++◌, map, length, reverse, Option, Some, None, refl, sym, ap, subst, ◌∙◌, ◌⊎◌, inl, inr, arith}
+use Rattle.std.proofs.Common.{◌≡◌, ℕ, suc, ◌<◌, ◌≤◌, List, [], ◌∷◌, ◌++◌, map, length, reverse, Option, Some, None, refl, sym, ap, subst, ◌∙◌, ◌⊎◌, inl, inr, arith}
 use Rattle.std.specs.Prelude.{slice_get, option_map}
 use Rattle.std.proofs.lemmas.List.{reverse-append}
 use Rattle.std.proofs.lemmas.Option.{slice_get-map, slice_get_within}
@@ -16,10 +16,9 @@ use Rattle.pc_rules.specs.declared.declaration.Family.{Family}
 use Rattle.pc_rules.specs.declared.declaration.Block.{Block as KeptBlock}
 use Rattle.pc_rules.specs.declared.declaration.Kept.{Kept}
 use Rattle.pc_rules.specs.declared.declaration.Kept.TheVariants.{Constant, Heads, Block as Whole}
-use Rattle.pc_rules.specs.Environment.{Env, Has, here, there, FamilyDecl, KeepsFamily, family_at, with_parameters}
+use Rattle.pc_rules.specs.Environment.{Env, Has, here, there, FamilyDecl, KeepsFamily, with_parameters}
 use Rattle.pc_rules.specs.Context.{Context}
 use Rattle.pc_rules.specs.Typing.{Mode, Types, construct, conv}
-use Rattle.pc_rules.specs.DirectedDeclarations.{Given, GivenConstant, GivenBlock}
 use Rattle.rule_laws.specs.Declarations.{plain, plain_given, plain_block, plain_family, plain_constructor, IsCheckedEnvironment}
 use Rattle.inductive_check.specs.Given.{given_of, family_of, ctor_of}
 use Rattle.env_check.specs.Rules.{givens}
@@ -28,8 +27,7 @@ use Rattle.dump_reader.specs.declared.declaration.RawFamily.{RawFamily}
 use Rattle.dump_reader.specs.declared.declaration.RawDecl.{RawDecl}
 use Rattle.dump_reader.specs.declared.declaration.RawDecl.TheVariants as raw
 use Rattle.dump_reader.specs.declared.environment.RawEnv.{RawEnv}
-use Rattle.dump_reader.specs.Numbered.{name_number, numbered_term}
-use Rattle.dump_reader.specs.NumberedEnvironment.{numbered_ctor, numbered_family, numbered_decl, numbered}
+use Rattle.dump_reader.specs.NumberedEnvironment.{numbered_ctor, numbered_family, numbered_decl}
 use Rattle.driver.specs.Texts.{SpellsWithin}
 use Rattle.driver.specs.Judged.{IsNamed, name_of}
 use Rattle.driver.proofs.Limited.{both, few-declared}
@@ -75,7 +73,7 @@ has_place g [] h = elim h [ ]
 has_place g (x ∷ xs) here = (0, x, refl, refl)
 has_place g (x ∷ xs) (there h) = let r = has_place g xs h in (suc r.0, r.1, r.2, r.3)
 
-from_map : {X Y : Type 0} (g : X → Y) (o : Option X) (y : Y) → option_map g o ≡ Some y → (x : X) × (o ≡ Some x) × (y ≡ g x)
+pub from_map : {X Y : Type 0} (g : X → Y) (o : Option X) (y : Y) → option_map g o ≡ Some y → (x : X) × (o ≡ Some x) × (y ≡ g x)
 from_map g None y e = absurd cc
 from_map g (Some x) y e = let q : y ≡ g x = cc in (x, refl, q)
 

@@ -1,5 +1,5 @@
 -- Runs of the module of a constructor.
-use Rattle.std.proofs.Common.{◌≡◌, ℕ, zero, suc, ◌+◌, ◌*◌, ◌≤◌, List, [], ◌∷◌, Some, None, Ok, Err, refl, sym, ap, subst, ◌∙◌, arith}
+use Rattle.std.proofs.Common.{◌≡◌, ℕ, ◌+◌, ◌*◌, ◌≤◌, List, [], ◌∷◌, Some, None, Ok, Err, refl, sym, ap, subst, ◌∙◌, arith}
 use Rattle.wasm_core.specs.declared.entries.Entry.{Entry}
 use Rattle.wasm_core.specs.declared.entries.Entry.TheVariants as entry
 use Rattle.wasm_core.specs.declared.ended.Ended.{Ended}
@@ -13,15 +13,12 @@ use Rattle.wasm_core.specs.WordData.{StandsFor, empty}
 use Rattle.wasm_core.specs.Answer.{Answers, AnswersWithin, IsAtEnd, global_of}
 use Rattle.wasm_core.specs.EnumerationModule.{enumeration_module}
 use Rattle.wasm_core.proofs.Enumeration.{enumeration_answers}
+use Rattle.wasm_core.proofs.Answering.{moves_reach}
 
 -- a machine's step is a step of a run
 step-is : (m : Parts) (cap : ℕ) (s t : State) → Move m cap s t → Step m s t
 step-is m cap (At c) t h = (grants m cap c, h)
 step-is m cap (Over e store) t h = h
-
-reached : (m : Parts) (cap k : ℕ) (s t : State) → Moves m cap k s t → Reach m k s t
-reached m cap zero s t h = h
-reached m cap (suc k) s t (mid, moves, move) = (mid, reached m cap k s mid moves, step-is m cap mid t move)
 
 at-end : (m : Parts) (e : Ended) (s : State) → IsOver e s → IsAtEnd m s
 at-end m e (At c) h = absurd h
@@ -38,7 +35,7 @@ module _ (c k : ℕ) (s t : State) (starts : main_start (enumeration_module 1024
   from_first =
       let same : Some whole.first ≡ Some s = sym whole.starts ∙ starts in
       let first : whole.first ≡ s = cc in
-      subst (λ x. Reach m k x t) (sym first) (reached m 1024 k s t moves)
+      subst (λ x. Reach m k x t) (sym first) (moves_reach m 1024 k s t moves)
 
   pub few_steps : k ≤ 3
   few_steps = whole.bounded k t from_first

@@ -11,8 +11,8 @@ use Rattle.universe_levels.specs.declared.level.LevelExpr.{LevelExpr}
 use Rattle.universe_levels.specs.Maximum.{with_part, with_parts, maximum_of, IsRising}
 use Rattle.universe_levels.proofs.MaximumLemmas.{with_part-before, with_part-at, with_part-after, rising-with_parts, rising-nil, rising-head, rising-tail}
 use Rattle.dump_grammar.specs.Numbering.{is_in, place_of, firsts}
-use Rattle.dump_grammar.proofs.Numbering.{numbering}
 use Rattle.dump_reader.specs.Tables.{with_text, after_uses}
+use Rattle.dump_reader.proofs.Growth.{all-firsts}
 
 -- ---- numbers in the order of first use: each is below the count so far, or the count itself, which rises then
 
@@ -319,17 +319,6 @@ module _ (L : List (List ℕ)) where
           | inr l ↦ absurd (let f = counts-far c (place_of a L) (places L us) l in cc)
         ]
       ]
-
-after-firsts : (before uses : List (List ℕ)) → after_uses (firsts before) uses ≡ firsts (before ++ uses)
-after-firsts before [] = after-none (firsts before) ∙ ap firsts (sym (append-nil before))
-after-firsts before (a ∷ uses) =
-    let one : with_text a (firsts before) ≡ firsts (before ++ a ∷ []) =
-    ap (λ x. cond x (firsts before) (firsts before ++ a ∷ [])) (numbering.only before a) ∙ sym (numbering.next before a) in
-    after-one (firsts before) a uses ∙ ap (λ t. after_uses t uses) one ∙ after-firsts (before ++ a ∷ []) uses ∙ ap firsts (append_assoc before (a ∷ []) uses)
-
-all-firsts : (uses : List (List ℕ)) → after_uses [] uses ≡ firsts uses
-unfolding firsts
-all-firsts uses = after-firsts [] uses
 
 take-whole : (xs : List (List ℕ)) → take (length xs) xs ≡ xs
 take-whole [] = refl

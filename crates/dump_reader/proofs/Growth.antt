@@ -1,5 +1,5 @@
 -- Tables that grow by uses: numbers stay, and what is made of parts is made of the whole.
-use Rattle.std.proofs.Common.{◌≡◌, ℕ, zero, suc, ◌+◌, ◌<◌, List, [], ◌∷◌, ◌++◌, map, length, take, get_or, Bool, true, false, cond, ◌||◌, if◌then◌else◌, refl, sym, ap, subst, ◌∙◌, arith, append_assoc, append-nil}
+use Rattle.std.proofs.Common.{◌≡◌, ℕ, suc, ◌+◌, ◌<◌, List, [], ◌∷◌, ◌++◌, map, length, take, get_or, Bool, true, false, cond, ◌||◌, refl, sym, ap, subst, ◌∙◌, append_assoc, append-nil}
 use Rattle.std.specs.Prelude.{bytes_eq}
 use Rattle.std.specs.Cmp.Lexicographic.{nat_list_eq_equiv}
 use Rattle.std.proofs.lemmas.List.{map-append, take_more}
@@ -83,7 +83,7 @@ module _ (a : List ℕ) where
 
 -- ---- the tables of a whole text are those of its uses
 
-after-firsts : (before uses : List (List ℕ)) → after_uses (firsts before) uses ≡ firsts (before ++ uses)
+pub after-firsts : (before uses : List (List ℕ)) → after_uses (firsts before) uses ≡ firsts (before ++ uses)
 unfolding after_uses
 after-firsts before [] = ap firsts (sym (append-nil before))
 after-firsts before (a ∷ uses) =

@@ -26,9 +26,7 @@ use Rattle.env_check.specs.Answers.{Answers, AnswersFound, FollowsRules}
 use Rattle.env_check.specs.Steps.{Refuses, level_refusal, end_refusal, RefusesGraph, HasChecked}
 use Rattle.env_check.proofs.Steps.{leads_is, leads_answers}
 use Rattle.env_check.proofs.Declaring.{checked_all, checked_whole}
-
-none_some : {A : Type 0} {x : A} → Some x ≡ None → ⊥
-none_some e = cc
+use Rattle.rule_laws.proofs.SimpleRules.{some_none}
 
 follows_found : (raw : RawEnv) (r : Result Accepted Refusal) (old new : Meter) → AnswersFound raw (2048 - old.nest) old.account r new.account → FollowsRules raw r old new
 follows_found raw (Ok a) old new h = h
@@ -66,7 +64,7 @@ module _ (raw : RawEnv) where
   level_found e m a there is =
       follows_found raw (Err e) m m (record {
         cycle = None;
-        found = λ once. absurd (none_some (sym there ∙ once));
+        found = λ once. absurd (some_none (sym there ∙ once));
         answers = level_answer (first_repeated 0 [] raw.levels) (from_constraints None (2048 - m.nest) m.account) m.account e a there is;
       })
 
@@ -90,7 +88,7 @@ module _ (raw : RawEnv) where
         let pass : rules_of raw None (2048 - m.nest) m.account ≡ from_constraints None (2048 - m.nest) m.account = levels_pass (first_repeated 0 [] raw.levels) (from_constraints None (2048 - m.nest) m.account) m.account once in
         follows_found raw (Err e) m m (record {
           cycle = None;
-          found = λ _ declared. absurd (none_some (sym there ∙ declared));
+          found = λ _ declared. absurd (some_none (sym there ∙ declared));
           answers = leads_answers _ _ (Err e) m.account (leads_is _ _ pass) (end_answer (first_undeclared_end (length raw.levels) 0 raw.constraints) go m.account e a there is);
         })
 

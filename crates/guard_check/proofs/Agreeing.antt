@@ -1,8 +1,9 @@
 -- Runs that are the same where fewer than n units are left, and that never go back on units.
-use Rattle.std.proofs.Common.{◌≡◌, ℕ, zero, suc, ◌≤◌, ◌<◌, ◌-◌, Bool, true, false, ◌||◌, refl, sym, ap, ◌∙◌, subst, arith}
+use Rattle.std.proofs.Common.{◌≡◌, ℕ, zero, suc, ◌<◌, ◌-◌, Bool, true, false, ◌||◌, refl, sym, ap, ◌∙◌, subst, arith}
 use Rattle.pc_rules.specs.declared.meter.Account.{Account}
 use Rattle.pc_rules.specs.DirectedRun.{Run, End, Done, Refused, NoUnit, Nested, done, passing, paid, ticking, ticked, end_then, deep_then, bind}
 use Rattle.pc_rules.specs.DirectedLaws.{Leaves}
+use Rattle.pc_rules.proofs.Fair.{leaves_less}
 
 pub record Agrees {A : Type 0} (n : ℕ) (f g : Account → Run A) : Type 0 where
   pub same : (u : Account) → u.left < n → f u ≡ g u
@@ -20,12 +21,6 @@ agrees_at f g h p e = record { same = λ u l. p.same u l ∙ e u; falls = p.fall
 
 pub agrees_from : {A : Type 0} {n : ℕ} (f g h : Account → Run A) → ((u : Account) → f u ≡ g u) → Agrees n g h → Agrees n f h
 agrees_from f g h e p = record { same = λ u l. e u ∙ p.same u l; falls = λ u l. subst (λ r. Leaves r.end u.left) (sym (e u)) (p.falls u l) }
-
-leaves_less : {A : Type 0} (e : End A) (m n : ℕ) → m ≤ n → Leaves e m → Leaves e n
-leaves_less (Done a v) m n l h = omega arith
-leaves_less (Refused b v) m n l h = omega arith
-leaves_less NoUnit m n l h = tt
-leaves_less Nested m n l h = tt
 
 module _ {A B : Type 0} (n : ℕ) (k k' : A → Account → Run B) (q : (a : A) → Agrees n (k a) (k' a)) where
   end_same : (e : End A) (m : ℕ) → m < n → Leaves e m → end_then e (λ a v. (k a v).end) ≡ end_then e (λ a v. (k' a v).end)
@@ -78,10 +73,6 @@ pub agrees_passing : (n : ℕ) (beyond : Bool) → Agrees n (λ u. passing beyon
 agrees_passing n beyond = record { same = λ u l. refl; falls = λ u l. omega arith }
 
 -- parts of runs that follow each other
-
-pub bind_done : {A B : Type 0} (a : A) (u : Account) (k : A → Account → Run B) → bind (done a u) k ≡ k a u
-unfolding bind
-bind_done a u k = refl
 
 or_assoc : (a b c : Bool) → (a || b) || c ≡ a || (b || c)
 or_assoc true b c = refl

@@ -10,8 +10,8 @@ use Rattle.pc_rules.specs.Guardedness.{Mark, Recursive, Argument, Smaller, Other
 use Rattle.pc_rules.specs.DirectedRun.{Run, done, no_unit, passing, is_beyond, bind, ticked}
 use Rattle.pc_rules.specs.DirectedWeakHead.{weak_next, family_of, stuck_step, after_step, steps, whnf}
 use Rattle.pc_rules.specs.DirectedGuard.{Finding, found_at, applied, constructors_of, step_on, if_smaller, if_opened, first_marks, later, look, look_branches, find}
-use Rattle.pc_rules.proofs.Following.{ticking-more, ticking-none}
-use Rattle.guard_check.proofs.Agreeing.{Agrees, agrees_none, agrees_done, agrees_at, agrees_from, agrees_bind, agrees_ticking, agrees_passing, bind_done, passed_first, pass_same}
+use Rattle.pc_rules.proofs.Following.{ticking-more, ticking-none, bind_done}
+use Rattle.guard_check.proofs.Agreeing.{Agrees, agrees_none, agrees_done, agrees_at, agrees_from, agrees_bind, agrees_ticking, agrees_passing, passed_first, pass_same}
 
 pub agrees_step : (n : ℕ) (o : Option Term) (stay stay' : Account → Run Mark) (go go' : Term → Account → Run Mark) → Agrees (suc n) stay stay' →
     ((t : Term) → Agrees n (go t) (go' t)) → Agrees (suc n) (λ u. step_on o (stay u) go u) (λ u. step_on o (stay' u) go' u)

@@ -19,7 +19,7 @@ use Rattle.pc_rules.specs.Stops.{stop_of}
 use Rattle.pc_rules.specs.WellCounted.{IsCounted, AreCounted}
 use Rattle.pc_rules.proofs.Following.{follows_fault}
 use Rattle.inductive_check.proofs.Leading.{leads_along, leads_done, follows_first}
-use Rattle.inductive_check.proofs.Telescopes.{next_is, none_left}
+use Rattle.pc_rules.proofs.ListSteps.{next_is, none_left}
 
 put_all_more : (xs : List Term) (t : Term) (s : ℕ → Term) → put_all (xs ++ (t ∷ [])) s ≡ first t (put_all xs s)
 put_all_more [] t s = refl

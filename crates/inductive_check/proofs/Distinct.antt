@@ -8,10 +8,10 @@ use Rattle.pc_rules.specs.declared.broken.Broken.TheVariants.{DuplicateName}
 use Rattle.pc_rules.specs.declared.meter.Account.{Account}
 use Rattle.pc_rules.specs.Same.{same_names}
 use Rattle.pc_rules.specs.DirectedRun as run
-use Rattle.pc_rules.specs.DirectedRun.{Run, refused}
+use Rattle.pc_rules.specs.DirectedRun.{refused}
 use Rattle.pc_rules.specs.DirectedDeclarations.{has_name, distinct_names}
 use Rattle.inductive_check.specs.Given.{ctor_of}
-use Rattle.inductive_check.proofs.Telescopes.{next_is, none_left, take_next}
+use Rattle.pc_rules.proofs.ListSteps.{take_next, next_is, none_left}
 
 -- the same names are in two lists
 abbrev pub HaveSameNames : List Constructor → List Constructor → Type 0

@@ -25,8 +25,9 @@ use Rattle.rule_laws.proofs.Extending.{FindsAs, counted_more, block_more, fresh_
 use Rattle.rule_laws.proofs.Blocks.{block_sound}
 use Rattle.inductive_check.specs.Given.{family_of, block_from}
 use Rattle.inductive_check.specs.Arguments.{entries_rule}
-use Rattle.inductive_check.proofs.Leading.{bind_assoc, done_bind}
+use Rattle.inductive_check.proofs.Leading.{bind_assoc}
 use Rattle.inductive_check.proofs.Sound.{decides}
+use Rattle.pc_rules.proofs.Following.{bind_done}
 
 context_more : (E H : Env) → FindsAs E H → (c : Context) → IsCountedContext E c → IsCountedContext H c
 context_more E H finds [] h = tt
@@ -70,7 +71,7 @@ module _ (E : Env) (q : Test) (n : ℕ) (B : Block) where
       bind (sorts_of E (infer E q n) [] B.params u) (λ ss v. k v) ≡ bind (entries_rule E (infer E q n) [] B.params u) (λ _ v. k v)
   params_then u k =
       sym (bind_assoc (sorts_of E (infer E q n) [] B.params u) (λ ss v. done tt v) (λ _ v. k v)
-      ∙ (λ i. bind (sorts_of E (infer E q n) [] B.params u) (λ ss v. done_bind tt v (λ _ v. k v) i)))
+      ∙ (λ i. bind (sorts_of E (infer E q n) [] B.params u) (λ ss v. bind_done tt v (λ _ v. k v) i)))
 
   pub block_run : (u : Account) → block_rule E q n B u ≡ bind (entries_rule E (infer E q n) [] B.params u) (λ _ v. heads_run v)
   block_run u =

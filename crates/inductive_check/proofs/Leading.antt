@@ -10,7 +10,7 @@ use Rattle.pc_rules.specs.DirectedRun.{Run, End, Done, Refused, NoUnit, Nested, 
 use Rattle.pc_rules.specs.Follows.{Follows, IsAfter, Answers}
 use Rattle.pc_rules.specs.Leads.{Leads}
 use Rattle.pc_rules.proofs.Meters.{after-refl, after-trans}
-use Rattle.pc_rules.proofs.Following.{bind_end, bind_deep, follows_bind, follows_err}
+use Rattle.pc_rules.proofs.Following.{bind_end, bind_deep, follows_bind, follows_err, bind_done}
 
 end_assoc : {A B C : Type 0} (e : End A) (f : A → Account → End B) (g : B → Account → End C) →
     end_then (end_then e f) g ≡ end_then e (λ a u. end_then (f a u) g)
@@ -34,11 +34,6 @@ bind_assoc d f g = λ i. record {
   end = end_assoc d.end (λ a u. (f a u).end) (λ b v. (g b v).end) i;
   deep = deep_assoc d.deep d.end f g i;
 }
-
--- what is done at once
-pub done_bind : {A B : Type 0} (a : A) (u : Account) (k : A → Account → Run B) → bind (done a u) k ≡ k a u
-unfolding bind
-done_bind a u k = refl
 
 end_unit : {A : Type 0} (e : End A) → e ≡ end_then e (λ a u. Done a u)
 end_unit (Done a u) = refl
@@ -104,7 +99,7 @@ module _ {A B : Type 0} (whole : Run (List B)) (out : List B) (one : Run A) (res
   one_more : (a : A) (v : Account) → bind (found a v) (λ bs w. done (out ++ bs) w) ≡ bind (rest a v) (λ bs w. done ((out ++ (g a ∷ [])) ++ bs) w)
   one_more a v =
       bind_assoc (rest a v) (λ bs w. done (g a ∷ bs) w) (λ bs w. done (out ++ bs) w)
-      ∙ (λ i. bind (rest a v) (λ bs w. (done_bind (g a ∷ bs) w (λ bs w. done (out ++ bs) w) ∙ ap (λ xs. done xs w) (sym (append_assoc out (g a ∷ []) bs))) i))
+      ∙ (λ i. bind (rest a v) (λ bs w. (bind_done (g a ∷ bs) w (λ bs w. done (out ++ bs) w) ∙ ap (λ xs. done xs w) (sym (append_assoc out (g a ∷ []) bs))) i))
 
   pub collect_next : (a : A) (v : Account) → Leads whole (bind (bind one found) (λ bs w. done (out ++ bs) w)) → one.end ≡ Done a v →
       Leads whole (bind (rest a v) (λ bs w. done ((out ++ (g a ∷ [])) ++ bs) w))
@@ -121,7 +116,7 @@ pub collect_end : {B : Type 0} (whole : Run (List B)) (out : List B) (d : Run (L
     Leads whole (bind d (λ bs w. done (out ++ bs) w)) → IsAfter m0 m1 → Follows whole (Ok out) m0 m1
 collect_end whole out d m0 m1 e l after =
     follows_end whole out m0 m1 (leads_along whole _ _
-    (ap (λ x. bind x (λ bs w. done (out ++ bs) w)) e ∙ (done_bind [] m1.account (λ bs w. done (out ++ bs) w) ∙ ap (λ xs. done xs m1.account) (append-nil out))) l) after
+    (ap (λ x. bind x (λ bs w. done (out ++ bs) w)) e ∙ (bind_done [] m1.account (λ bs w. done (out ++ bs) w) ∙ ap (λ xs. done xs m1.account) (append-nil out))) l) after
 
 -- a part that leaves the meter alone
 

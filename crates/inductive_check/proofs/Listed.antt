@@ -12,7 +12,7 @@ use Rattle.pc_rules.specs.DirectedTyping.{Typing}
 use Rattle.pc_rules.specs.DirectedDeclarations.{family_head, family_heads}
 use Rattle.pc_rules.specs.WellCounted.{AreCountedFamilies}
 use Rattle.inductive_check.specs.Given.{family_of}
-use Rattle.inductive_check.proofs.Telescopes.{next_is, none_left, take_next}
+use Rattle.pc_rules.proofs.ListSteps.{take_next, next_is, none_left}
 
 heads_more : (fs : List RawFamily) (f : RawFamily) → map head_of (map family_of (fs ++ (f ∷ []))) ≡ map head_of (map family_of fs) ++ (head_of (family_of f) ∷ [])
 heads_more [] f = refl

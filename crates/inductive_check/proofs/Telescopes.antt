@@ -1,7 +1,5 @@
 -- The entries of a telescope and the arguments of a constructor, one by one.
-use Rattle.std.proofs.Common.{◌≡◌, ◌∙◌, sym, ap, refl, subst, ℕ, ◌+◌, ◌<◌, ◌≤◌, List, [], ◌∷◌, ◌++◌, length, get_or, drop, take, add-one, Err}
-use Rattle.std.proofs.Math.Seq.{drop-cons}
-use Rattle.std.proofs.lemmas.List.{drop_all, take_more}
+use Rattle.std.proofs.Common.{◌≡◌, ◌∙◌, sym, ap, refl, subst, ℕ, ◌+◌, ◌<◌, ◌≤◌, List, [], ◌∷◌, ◌++◌, length, get_or, drop, Err}
 use Rattle.universe_levels.specs.declared.sort.Sort.{Sort}
 use Rattle.pc_terms.specs.declared.leaf.Name.{Name}
 use Rattle.pc_terms.specs.Syntax.{Term}
@@ -19,14 +17,9 @@ use Rattle.pc_rules.specs.Follows.{Follows, IsAfter}
 use Rattle.pc_rules.specs.Leads.{Leads}
 use Rattle.pc_rules.specs.WellCounted.{IsCounted, AreCounted, IsCountedContext}
 use Rattle.inductive_check.specs.Arguments.{argument_rule, entries_rule}
-use Rattle.inductive_check.proofs.Leading.{bind_assoc, done_bind, leads_along, collect_next, collect_first}
-
--- item i and those after it
-pub next_is : {A : Type 0} (xs : List A) (i : ℕ) (a : A) → i < length xs → a ≡ get_or xs i a → drop i xs ≡ a ∷ drop (i + 1) xs
-next_is xs i a h e = rw (add-one, drop-cons xs i a h, ← e) refl
-
-pub none_left : {A : Type 0} (xs : List A) (i : ℕ) → length xs ≤ i → drop i xs ≡ []
-none_left xs i h = drop_all i xs h
+use Rattle.inductive_check.proofs.Leading.{bind_assoc, leads_along, collect_next, collect_first}
+use Rattle.pc_rules.proofs.ListSteps.{next_is, none_left}
+use Rattle.pc_rules.proofs.Following.{bind_done}
 
 -- the context is longer by an entry, and what is left of the telescope is shorter
 pub extend_next : (c : Context) (As : List Term) (i : ℕ) (A : Term) → i < length As → A ≡ get_or As i A →
@@ -46,11 +39,11 @@ entries_split E inf c A As u =
     let k : Sort → Account → Run (List Sort) = λ s v. bind (sorts_of E inf (Assumed A ∷ c) As v) (λ ss w. done (s ∷ ss) w) in
     bind_assoc (sort_of E inf c A u) k (λ ss v. done tt v)
     ∙ (λ i. bind (sort_of E inf c A u) (λ s v. (bind_assoc (sorts_of E inf (Assumed A ∷ c) As v) (λ ss w. done (s ∷ ss) w) (λ ss w. done tt w)
-    ∙ (λ j. bind (sorts_of E inf (Assumed A ∷ c) As v) (λ ss w. done_bind (s ∷ ss) w (λ ss w. done tt w) j))) i))
+    ∙ (λ j. bind (sorts_of E inf (Assumed A ∷ c) As v) (λ ss w. bind_done (s ∷ ss) w (λ ss w. done tt w) j))) i))
 
 pub no_entries : (E : Env) (inf : Typing) (c : Context) (u : Account) → entries_rule E inf c [] u ≡ done tt u
 unfolding sorts_of
-no_entries E inf c u = done_bind [] u (λ ss v. done tt v)
+no_entries E inf c u = bind_done [] u (λ ss v. done tt v)
 
 module _ (H : Env) (q : Test) (inf : Typing) (k : Name) (f n : ℕ) (r : Sort) where
   abbrev pub more_arguments : Context → Term → List Term → Sort → Account → Run (List Sort)
@@ -66,7 +59,7 @@ module _ (H : Env) (q : Test) (inf : Typing) (k : Name) (f n : ℕ) (r : Sort) w
       let m3 : Sort → Account → Run (List Sort) = λ s w. bind (positive_rule k f n A w) (λ _ x. more_arguments c A As s x) in
       let e3 : (s : Sort) (w : Account) → bind (k3 s w) (more_arguments c A As) ≡ m3 s w =
       λ s w. bind_assoc (positive_rule k f n A w) (λ _ x. done s x) (more_arguments c A As)
-      ∙ (λ i. bind (positive_rule k f n A w) (λ _ x. done_bind s x (more_arguments c A As) i)) in
+      ∙ (λ i. bind (positive_rule k f n A w) (λ _ x. bind_done s x (more_arguments c A As) i)) in
       let e2 : (s : Sort) (v : Account) → bind (k2 s v) (more_arguments c A As) ≡ bind (fits_sort q r s v) (λ _ w. m3 s w) =
       λ s v. bind_assoc (fits_sort q r s v) (λ _ w. k3 s w) (more_arguments c A As) ∙ (λ i. bind (fits_sort q r s v) (λ _ w. e3 s w i)) in
       sym (bind_assoc (sort_of H inf c A u) k2 (more_arguments c A As) ∙ (λ i. bind (sort_of H inf c A u) (λ s v. e2 s v i)))
@@ -116,7 +109,3 @@ module _ (H : Env) (q : Test) (inf : Typing) (k : Name) (f n : ℕ) (r : Sort) (
 -- an entry of a well-counted type is put in
 pub assumed_counted : (E : Env) (c d : Context) (A : Term) → d ≡ Assumed A ∷ c → IsCounted E A → IsCountedContext E c → IsCountedContext E d
 assumed_counted E c d A e h k = subst (λ x. IsCountedContext E x) (sym e) (h, k)
-
--- one item more
-pub take_next : {A : Type 0} (xs : List A) (i : ℕ) (a : A) → i < length xs → a ≡ get_or xs i a → take (i + 1) xs ≡ take i xs ++ (a ∷ [])
-take_next xs i a h e = take_more xs i a h ∙ ap (λ y. take i xs ++ (y ∷ [])) (sym e)

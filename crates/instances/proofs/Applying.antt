@@ -6,6 +6,7 @@ use Rattle.pc_terms.specs.Syntax.{Term, Rel, App, apply, shift, variables}
 use Rattle.pc_terms.proofs.Applied.{beyond-apply}
 use Rattle.pc_rules.specs.DirectedRun.{is_beyond, any_beyond}
 use Rattle.instances.proofs.Beyond.{one_true, true_beyond}
+use Rattle.pc_rules.proofs.SearchRuns.{variables_long}
 
 -- a term is beyond the limits where it is applied to one that is
 wider : (f a : Term) → IsBeyond a → IsBeyond (App f a)
@@ -27,17 +28,13 @@ apply-depth f (x ∷ xs) = omega (arith, apply-depth (App f x) xs)
 pub apply-long : (f : Term) (xs : List Term) → 2048 < length xs → IsBeyond (apply f xs)
 apply-long f xs h = inl (omega (arith, apply-depth f xs))
 
-pub variables-length : (n : ℕ) → length (variables n) ≡ n
-variables-length zero = refl
-variables-length (suc n) = omega (arith, variables-length n)
-
 pub append-long : (xs ys : List Term) → 2048 < length ys → 2048 < length (xs ++ ys)
 append-long [] ys h = h
 append-long (x ∷ xs) ys h = omega (arith, append-long xs ys h)
 
 -- the head applied to lifted terms and to many variables
 pub under-long : (f : Term) (xs : List Term) (n : ℕ) → 2048 < n → IsBeyond (apply f (xs ++ variables n))
-under-long f xs n h = apply-long f (xs ++ variables n) (append-long xs (variables n) (omega (arith, variables-length n)))
+under-long f xs n h = apply-long f (xs ++ variables n) (append-long xs (variables n) (omega (arith, variables_long n)))
 
 -- the next of the lifted variables
 pub variables-next : (above n i : ℕ) → i < n → map (shift above 0) (variables (n - i)) ≡ Rel (above + (n - 1 - i)) ∷ map (shift above 0) (variables (n - (i + 1)))

@@ -1,26 +1,15 @@
 -- The limits as facts and as tests, of terms and of lists of terms.
 use Rattle.std.proofs.Common.{◌≡◌, ℕ, zero, suc, ◌<◌, ◌^◌, ◌||◌, ◌⊎◌, inl, inr, Bool, true, false, List, [], ◌∷◌, ◌++◌, length, get_or, nat_lt, map, refl, subst as along, arith}
 use Rattle.std.specs.Bool.{IsTrue}
-use Rattle.std.proofs.lemmas.Bool.{lt-ltb, ltb-true}
+use Rattle.std.proofs.lemmas.Bool.{ltb-true}
 use Rattle.trees.specs.Measures.{depth, above, IsBeyond}
 use Rattle.pc_terms.specs.Syntax.{Term}
 use Rattle.pc_rules.specs.DirectedRun.{is_beyond, any_beyond}
-
-pub left_true : (a b : Bool) → IsTrue a → IsTrue (a || b)
-left_true true b e = refl
-left_true false b e = cc
-
-pub right_true : (a b : Bool) → IsTrue b → IsTrue (a || b)
-right_true true b e = refl
-right_true false b e = e
+use Rattle.pc_rules.proofs.Following.{beyond_is, or_left, or_right}
 
 pub one_true : (a b : Bool) → IsTrue (a || b) → IsTrue a ⊎ IsTrue b
 one_true true b e = inl refl
 one_true false b e = inr e
-
-pub beyond_true : (t : Term) → IsBeyond t → IsTrue (is_beyond t)
-beyond_true t (inl h) = left_true (nat_lt 2048 (depth t)) (nat_lt (2 ^ 32) (above t)) (lt-ltb 2048 (depth t) h)
-beyond_true t (inr h) = right_true (nat_lt 2048 (depth t)) (nat_lt (2 ^ 32) (above t)) (lt-ltb (2 ^ 32) (above t) h)
 
 pub true_beyond : (t : Term) → IsTrue (is_beyond t) → IsBeyond t
 true_beyond t e = elim (one_true (nat_lt 2048 (depth t)) (nat_lt (2 ^ 32) (above t)) e) [
@@ -31,22 +20,22 @@ true_beyond t e = elim (one_true (nat_lt 2048 (depth t)) (nat_lt (2 ^ 32) (above
 pub any_beyond-left : (xs ys : List Term) → IsTrue (any_beyond xs) → IsTrue (any_beyond (xs ++ ys))
 any_beyond-left [] ys e = cc
 any_beyond-left (x ∷ xs) ys e = elim (one_true (is_beyond x) (any_beyond xs) e) [
-  | inl h ↦ left_true (is_beyond x) (any_beyond (xs ++ ys)) h
-  | inr h ↦ right_true (is_beyond x) (any_beyond (xs ++ ys)) (any_beyond-left xs ys h)
+  | inl h ↦ or_left (is_beyond x) (any_beyond (xs ++ ys)) h
+  | inr h ↦ or_right (is_beyond x) (any_beyond (xs ++ ys)) (any_beyond-left xs ys h)
 ]
 
 pub any_beyond-right : (xs ys : List Term) → IsTrue (any_beyond ys) → IsTrue (any_beyond (xs ++ ys))
 any_beyond-right [] ys e = e
-any_beyond-right (x ∷ xs) ys e = right_true (is_beyond x) (any_beyond (xs ++ ys)) (any_beyond-right xs ys e)
+any_beyond-right (x ∷ xs) ys e = or_right (is_beyond x) (any_beyond (xs ++ ys)) (any_beyond-right xs ys e)
 
 pub any_beyond-last : (xs : List Term) (t : Term) → IsBeyond t → IsTrue (any_beyond (xs ++ (t ∷ [])))
-any_beyond-last xs t h = any_beyond-right xs (t ∷ []) (left_true (is_beyond t) false (beyond_true t h))
+any_beyond-last xs t h = any_beyond-right xs (t ∷ []) (or_left (is_beyond t) false (beyond_is t h))
 
 -- where the item that f gives for one of a list is beyond the limits, one of all that it gives is
 pub any_beyond-map : (f : Term → Term) (xs : List Term) (i : ℕ) (o : Term) → i < length xs → IsBeyond (f (get_or xs i o)) → IsTrue (any_beyond (map f xs))
 any_beyond-map f [] i o l h = absurd (omega arith)
-any_beyond-map f (x ∷ xs) zero o l h = left_true (is_beyond (f x)) (any_beyond (map f xs)) (beyond_true (f x) h)
-any_beyond-map f (x ∷ xs) (suc i) o l h = right_true (is_beyond (f x)) (any_beyond (map f xs)) (any_beyond-map f xs i o (omega arith) h)
+any_beyond-map f (x ∷ xs) zero o l h = or_left (is_beyond (f x)) (any_beyond (map f xs)) (beyond_is (f x) h)
+any_beyond-map f (x ∷ xs) (suc i) o l h = or_right (is_beyond (f x)) (any_beyond (map f xs)) (any_beyond-map f xs i o (omega arith) h)
 
 -- the same, at an item that a loop has read
 pub any_beyond-one : (f : Term → Term) (xs : List Term) (i : ℕ) (x : Term) → x ≡ get_or xs i x → i < length xs → IsBeyond (f x) → IsTrue (any_beyond (map f xs))

@@ -10,7 +10,7 @@ use Rattle.pc_terms.specs.declared.term.Def.{Def}
 use Rattle.pc_rules.specs.Instances.{fixpoints}
 use Rattle.pc_rules.specs.DirectedRun.{is_beyond}
 use Rattle.instances.specs.Unfolding.{fixpoint_at, unfolding_of, some_beyond, unfolding_beyond}
-use Rattle.instances.proofs.Beyond.{right_true, beyond_true}
+use Rattle.pc_rules.proofs.Following.{beyond_is, or_right}
 
 pub fixpoints-last : (i n : ℕ) (rargs : List ℕ) (types bodies : Terms) →
     fixpoints i (suc n) rargs types bodies ≡ fixpoints i n rargs types bodies ++ (Fix (i + n) rargs types bodies ∷ [])
@@ -45,7 +45,7 @@ unfolding_at ds i o l =
 
 pub unfolding_at-beyond : (ds : List Def) (i : ℕ) (t : Term) → unfolding_of ds i ≡ Some t → IsBeyond t → IsTrue (unfolding_beyond ds i)
 unfolding_at-beyond ds i t e h =
-    right_true (is_beyond (fixpoint_at ds i)) (some_beyond (unfolding_of ds i)) (ap some_beyond e ∙ beyond_true t h)
+    or_right (is_beyond (fixpoint_at ds i)) (some_beyond (unfolding_of ds i)) (ap some_beyond e ∙ beyond_is t h)
 
 -- the lists as they are read
 pub unfolding_read : (ds es : List Def) (list : List Term) (i : ℕ) (o : Def) → es ≡ ds → list ≡ all_fixpoints ds →

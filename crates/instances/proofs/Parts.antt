@@ -11,15 +11,16 @@ use Rattle.pc_rules.specs.Environment.{with_parameters}
 use Rattle.pc_rules.specs.Instances.{products, entries_at, family_type, constructor_type, predicate_entries, predicate_at, result_at, built_at, branch_type}
 use Rattle.pc_rules.specs.DirectedRun.{is_beyond, any_beyond}
 use Rattle.pc_rules.specs.DirectedTyping.{branch_beyond}
-use Rattle.instances.proofs.Beyond.{left_true, right_true, beyond_true, any_beyond-left, any_beyond-last}
+use Rattle.instances.proofs.Beyond.{any_beyond-left, any_beyond-last}
 use Rattle.instances.proofs.Codomains.{products-beyond, products-long}
 use Rattle.instances.proofs.Applying.{under-long}
+use Rattle.pc_rules.proofs.Following.{beyond_is, or_left, or_right}
 
 -- types of families
 
 pub family-arity : (Ps : List Term) (G : Family) (s : Term) → s ≡ SortT G.sort → IsBeyond (products G.indices s) → IsTrue (is_beyond (family_type (with_parameters Ps G)))
 family-arity Ps G s e h =
-    beyond_true (family_type (with_parameters Ps G))
+    beyond_is (family_type (with_parameters Ps G))
     (products-beyond Ps (products G.indices (SortT G.sort)) (along (λ (t : Term). IsBeyond (products G.indices t)) e h))
 
 -- types of constructors
@@ -29,25 +30,25 @@ target f p a C = apply (Ind f) (map (shift a 0) (variables p) ++ C.result)
 
 pub constructor-params : (f : FamilyId) (Ps : List Term) (G : Family) (C : Constructor) → 2048 < length Ps → IsTrue (is_beyond (constructor_type f (with_parameters Ps G) C))
 constructor-params f Ps G C h =
-    beyond_true (constructor_type f (with_parameters Ps G) C) (products-long Ps (products C.args (target f (length Ps) (length C.args) C)) h)
+    beyond_is (constructor_type f (with_parameters Ps G) C) (products-long Ps (products C.args (target f (length Ps) (length C.args) C)) h)
 
 pub constructor-inner : (f : FamilyId) (Ps : List Term) (G : Family) (C : Constructor) (a p : ℕ) (t : Term) → a ≡ length C.args → p ≡ length Ps →
     t ≡ apply (Ind f) (map (shift a 0) (variables p) ++ C.result) → IsBeyond (products C.args t) → IsTrue (is_beyond (constructor_type f (with_parameters Ps G) C))
 constructor-inner f Ps G C a p t e g is h =
     let end = is ∙ ap (λ n. target f p n C) e ∙ ap (λ n. target f n (length C.args) C) g in
-    beyond_true (constructor_type f (with_parameters Ps G) C)
+    beyond_is (constructor_type f (with_parameters Ps G) C)
     (products-beyond Ps (products C.args (target f (length Ps) (length C.args) C)) (along (λ (u : Term). IsBeyond (products C.args u)) end h))
 
 pub constructor-args : (f : FamilyId) (Ps : List Term) (G : Family) (C : Constructor) → 2048 < length C.args → IsTrue (is_beyond (constructor_type f (with_parameters Ps G) C))
 constructor-args f Ps G C h =
-    beyond_true (constructor_type f (with_parameters Ps G) C)
+    beyond_is (constructor_type f (with_parameters Ps G) C)
     (products-beyond Ps (products C.args (target f (length Ps) (length C.args) C)) (products-long C.args (target f (length Ps) (length C.args) C) h))
 
 pub constructor-end : (f : FamilyId) (Ps : List Term) (G : Family) (C : Constructor) (a p : ℕ) → a ≡ length C.args → p ≡ length Ps →
     IsBeyond (apply (Ind f) (map (shift a 0) (variables p) ++ C.result)) → IsTrue (is_beyond (constructor_type f (with_parameters Ps G) C))
 constructor-end f Ps G C a p e g h =
     let end = ap (λ n. target f p n C) e ∙ ap (λ n. target f n (length C.args) C) g in
-    beyond_true (constructor_type f (with_parameters Ps G) C)
+    beyond_is (constructor_type f (with_parameters Ps G) C)
     (products-beyond Ps (products C.args (target f (length Ps) (length C.args) C))
     (products-beyond C.args (target f (length Ps) (length C.args) C) (along (λ (u : Term). IsBeyond u) end h)))
 
@@ -75,7 +76,7 @@ predicate-scrutinee f Ps G ps n h e g b =
 
 pub predicate-at : (ret : Term) (is : List Term) (t : Term) (list : List Term) → list ≡ is ++ (t ∷ []) → IsBeyond (subst_list 0 list ret) → IsTrue (is_beyond (predicate_at ret is t))
 predicate-at ret is t list e h =
-    beyond_true (predicate_at ret is t)
+    beyond_is (predicate_at ret is t)
     (along (λ (u : Term). IsBeyond u) (subst_list-substitute list 0 ret ∙ ap (λ ts. substitute (put_all ts Rel) ret) e) h)
 
 -- types of branches
@@ -85,14 +86,14 @@ replacements f c C ps = result_at C ps ++ (built_at f c C ps ∷ [])
 
 pub branch-count : (f : FamilyId) (c : ℕ) (C : Constructor) (ps : List Term) (ret : Term) → 2048 < length C.args → IsTrue (branch_beyond f c C ps ret)
 branch-count f c C ps ret h =
-    right_true (any_beyond (result_at C ps)) (is_beyond (built_at f c C ps) || is_beyond (branch_type f c C ps ret))
-    (left_true (is_beyond (built_at f c C ps)) (is_beyond (branch_type f c C ps ret))
-    (beyond_true (built_at f c C ps) (under-long (Construct f c) (map (shift (length C.args) 0) ps) (length C.args) h)))
+    or_right (any_beyond (result_at C ps)) (is_beyond (built_at f c C ps) || is_beyond (branch_type f c C ps ret))
+    (or_left (is_beyond (built_at f c C ps)) (is_beyond (branch_type f c C ps ret))
+    (beyond_is (built_at f c C ps) (under-long (Construct f c) (map (shift (length C.args) 0) ps) (length C.args) h)))
 
 pub branch-type : (f : FamilyId) (c : ℕ) (C : Constructor) (ps : List Term) (ret : Term) (n : ℕ) (list : List Term) → n ≡ length C.args →
     list ≡ replacements f c C ps → IsBeyond (substitute (put_all list (λ i. Rel (n + i))) ret) → IsTrue (branch_beyond f c C ps ret)
 branch-type f c C ps ret n list e g h =
     let whole = ap (λ m. substitute (put_all list (λ i. Rel (m + i))) ret) e ∙ ap (λ ts. substitute (put_all ts (λ i. Rel (length C.args + i))) ret) g in
-    right_true (any_beyond (result_at C ps)) (is_beyond (built_at f c C ps) || is_beyond (branch_type f c C ps ret))
-    (right_true (is_beyond (built_at f c C ps)) (is_beyond (branch_type f c C ps ret))
-    (beyond_true (branch_type f c C ps ret) (along (λ (u : Term). IsBeyond u) whole h)))
+    or_right (any_beyond (result_at C ps)) (is_beyond (built_at f c C ps) || is_beyond (branch_type f c C ps ret))
+    (or_right (is_beyond (built_at f c C ps)) (is_beyond (branch_type f c C ps ret))
+    (beyond_is (branch_type f c C ps ret) (along (λ (u : Term). IsBeyond u) whole h)))

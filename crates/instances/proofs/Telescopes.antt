@@ -10,7 +10,7 @@ use Rattle.trees.proofs.Put.{overs_over}
 use Rattle.pc_terms.specs.Syntax.{Term, Rel, over, overs, substitute, put_all}
 use Rattle.pc_rules.specs.Instances.{entries_at}
 use Rattle.pc_rules.specs.DirectedRun.{is_beyond, any_beyond}
-use Rattle.instances.proofs.Beyond.{left_true, right_true, beyond_true}
+use Rattle.pc_rules.proofs.Following.{beyond_is, or_left, or_right}
 
 -- under more variables than there are numbers, nothing is put in
 pub subst_list-deep : (k : ℕ) (xs : List Term) (t : Term) → 2 ^ 32 ≤ k → IsWithin t → subst_list k xs t ≡ t
@@ -26,9 +26,9 @@ entries_at-append s (A ∷ As) B =
 -- where an entry is beyond the limits, one of all is
 entries_at-beyond : (s : ℕ → Term) (As : List Term) (i : ℕ) (o : Term) → i < length As → IsBeyond (substitute (overs i s) (get_or As i o)) → IsTrue (any_beyond (entries_at s As))
 entries_at-beyond s [] i o l h = absurd (omega arith)
-entries_at-beyond s (A ∷ As) zero o l h = left_true (is_beyond (substitute s A)) (any_beyond (entries_at (over s) As)) (beyond_true (substitute s A) h)
+entries_at-beyond s (A ∷ As) zero o l h = or_left (is_beyond (substitute s A)) (any_beyond (entries_at (over s) As)) (beyond_is (substitute s A) h)
 entries_at-beyond s (A ∷ As) (suc i) o l h =
-    right_true (is_beyond (substitute s A)) (any_beyond (entries_at (over s) As))
+    or_right (is_beyond (substitute s A)) (any_beyond (entries_at (over s) As))
     (entries_at-beyond (over s) As i o (omega arith) (along (λ (q : ℕ → Term). IsBeyond (substitute q (get_or As i o))) (sym (overs_over i s)) h))
 
 pub entries_at-one : (ps As : List Term) (i : ℕ) (A : Term) → A ≡ get_or As i A → i < length As → IsBeyond (subst_list i ps A) → IsTrue (any_beyond (entries_at (put_all ps Rel) As))

@@ -16,10 +16,8 @@ use Rattle.universe_graph.proofs.ClosingLemmas.{follows-through, has_steps-more,
 use Rattle.universe_graph.proofs.Refuting.{covered-entails, entails-covered}
 use Rattle.pc_rules.specs.DirectedComparison.{IsTest}
 use Rattle.pc_rules.specs.Entailment.{are_ends, step_of, constraint_steps, own_step, first_spans, closed_below, spans, covers_part, some_covers, covers, entailed_by}
-
-both_true : (a b : Bool) → (a && b) ≡ true → (a ≡ true) × (b ≡ true)
-both_true true b e = (refl, e)
-both_true false b e = absurd (cc)
+use Rattle.pc_rules.proofs.WeakNext.{both_true}
+use Rattle.pc_rules.proofs.SameTrees.{and_true}
 
 -- a valuation that meets the constraints follows their steps
 
@@ -170,15 +168,11 @@ covers_is s [] high e k d h = absurd (omega arith)
 covers_is s (l ∷ ls) high e zero d h = some_is s l high (both_true (some_covers s l high) (covers s ls high) e).0
 covers_is s (l ∷ ls) high e (suc k) d h = covers_is s ls high (both_true (some_covers s l high) (covers s ls high) e).1 k d (omega arith)
 
-and_both : (a b : Bool) → a ≡ true → b ≡ true → (a && b) ≡ true
-and_both true b p q = q
-and_both false b p q = absurd (cc)
-
 is_covers : (s : ℕ → ℕ → ℕ) (low high : List LevelExpr) → IsCovered s low high → covers s low high ≡ true
 is_covers s [] high c = refl
 is_covers s (l ∷ ls) high c =
     let first = c 0 l (omega arith) in
-    and_both (some_covers s l high) (covers s ls high) (is_some_at s l high first.0 first.1 first.2 first.3 first.4)
+    and_true (some_covers s l high) (covers s ls high) (is_some_at s l high first.0 first.1 first.2 first.3 first.4)
     (is_covers s ls high (λ k d h. c (suc k) d (omega arith)))
 
 -- what the test says holds, for any constraints

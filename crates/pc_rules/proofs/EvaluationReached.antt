@@ -15,7 +15,7 @@ use Rattle.pc_rules.specs.Instances.{unfolded}
 use Rattle.pc_rules.specs.Step.{IsConstructor, is_constructor}
 use Rattle.pc_rules.specs.Evaluation.{IsValue, sort_is, prod_is, lambda_is, ind_is, construct_is, fix_is, TakesMore, family, constructor, fixpoint, Unfolds, unfolds, Evaluates, value, constant, let_in, beta, extend, unfold_fix, enter}
 use Rattle.pc_rules.specs.Same.{same_names}
-use Rattle.pc_rules.specs.DirectedRun.{Run, Done, done, ticked, paid, ticking, end_then, bind}
+use Rattle.pc_rules.specs.DirectedRun.{Run, Done, done, ticked, ticking, end_then, bind}
 use Rattle.pc_rules.specs.DirectedWeakHead.{if_some, kept_at, body_of, whole_block, family_of, arguments_at, built_arguments, built, branch_of, unfold_at}
 use Rattle.pc_rules.specs.DirectedEvaluation.{Evaluated, Value, Evaluating, on_value, with_value, contracted, contracts, is_missing, lacks_arguments, is_below, takes_more, unfolding_at, extended, applied, node, evaluate}
 use Rattle.pc_rules.specs.DirectedLaws.{more}
@@ -24,6 +24,7 @@ use Rattle.pc_rules.proofs.Determined.{not_more, not_unfolds}
 use Rattle.pc_rules.proofs.SameTrees.{one_family}
 use Rattle.pc_rules.proofs.WeakNext.{same_names_is}
 use Rattle.pc_rules.proofs.EvaluationRuns.{more_none, more_more}
+use Rattle.pc_rules.proofs.Fair.{paid_is}
 
 -- what is declared is found
 
@@ -54,7 +55,7 @@ family_there E a f F h = ap (λ o. if_some (whole_block o) (λ B. family_at B f.
 
 -- a constructor with all its arguments is built
 
-arguments_there : (F : FamilyDecl) (C : Constructor) (c : ℕ) (qs xs : List Term) → slice_get F.constructors c ≡ Some C → length qs ≡ length F.parameters →
+pub arguments_there : (F : FamilyDecl) (C : Constructor) (c : ℕ) (qs xs : List Term) → slice_get F.constructors c ≡ Some C → length qs ≡ length F.parameters →
     length xs ≡ length C.args → arguments_at F c (qs ++ xs) ≡ Some xs
 arguments_there F C c qs xs i p l =
     ap (λ o. if_some o (λ (D : Constructor). if length (qs ++ xs) == length F.parameters + length D.args then Some (drop (length F.parameters) (qs ++ xs)) else None)) i
@@ -119,10 +120,6 @@ contracted_goes go c u = refl
 
 contracts_goes : (go : Evaluating) (t : Term) (o : Option Term) (c : Term) (u : Account) → o ≡ Some c → (contracts go t o u).end ≡ (go c u).end
 contracts_goes go t o c u e = ap (λ o. (contracts go t o u).end) e ∙ contracted_goes go c u
-
-paid_is : {A : Type 0} (m : ℕ) (r : Run A) → 0 < m → paid m r ≡ r
-paid_is zero r l = absurd (omega arith)
-paid_is (suc m) r l = refl
 
 node_entered : (E : Env) (m : ℕ) (t : Term) (n : ℕ) (v : Term) (w : Account) → (node E (evaluate E m) t (more n w)).end ≡ Done (Value v) w →
     (evaluate E (suc m) t (more (suc n) w)).end ≡ Done (Value v) w

@@ -39,7 +39,7 @@ fair_if false f f' g g' p q = q
 pub fair_noted : {A : Type 0} {n k : ℕ} (r : ℕ) (f f' : Account → Run A) → IsFair n k f f' → IsFair n k (λ u. f (noted r u)) (λ u. f' (noted r u))
 fair_noted r f f' p = record { falls = λ u. p.falls (noted r u); stays = λ u l. p.stays (noted r u) l }
 
-leaves_less : {A : Type 0} (e : End A) (m n : ℕ) → m ≤ n → Leaves e m → Leaves e n
+pub leaves_less : {A : Type 0} (e : End A) (m n : ℕ) → m ≤ n → Leaves e m → Leaves e n
 leaves_less (Done a v) m n l h = omega arith
 leaves_less (Refused b v) m n l h = omega arith
 leaves_less NoUnit m n l h = tt
@@ -67,7 +67,7 @@ fair_bind {k = k} f f' g g' p q = record {
   stays = λ u l. stays_then g g' q u.left l (f u).end (f' (more k u)).end (p.falls u) (p.stays u l);
 }
 
-paid_is : {A : Type 0} (m : ℕ) (r : Run A) → 0 < m → paid m r ≡ r
+pub paid_is : {A : Type 0} (m : ℕ) (r : Run A) → 0 < m → paid m r ≡ r
 paid_is zero r l = absurd (omega arith)
 paid_is (suc m) r l = refl
 

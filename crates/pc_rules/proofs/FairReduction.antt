@@ -87,7 +87,7 @@ result_of : End Term → Term → Term
 result_of (Done a v) o = a
 result_of _ o = o
 
-done_is : {t w : Term} {u v : Account} → Done t u ≡ Done w v → t ≡ w
+pub done_is : {t w : Term} {u v : Account} → Done t u ≡ Done w v → t ≡ w
 unfolding result_of
 done_is {t} e = ap (λ r. result_of r t) e
 

@@ -131,7 +131,7 @@ beyond_is t (inr h) = or_right (nat_lt 2048 (depth t)) (nat_lt (2 ^ 32) (above t
 pub follows_made : (t made : Term) (m : Meter) → made ≡ t → Follows (make t m.account) (Ok made) m m
 follows_made t made m e = record { answer = ap (λ x. Done x m.account) (sym e); after = after-refl m }
 
-answers_fault : (t : Term) (f : MakeFault) (u : Account) → (f ≡ DeepTerm → IsBeyond t) → Answers (make t u) (Err (Stop (stop_of f))) u
+pub answers_fault : (t : Term) (f : MakeFault) (u : Account) → (f ≡ DeepTerm → IsBeyond t) → Answers (make t u) (Err (Stop (stop_of f))) u
 answers_fault t DeepTerm u h = beyond_is t (h refl)
 answers_fault t NoTerm u h = tt
 
@@ -180,3 +180,8 @@ steps_stay E V (suc n) t u e = ap (λ o. after_step o (done t u) (λ next. steps
 
 pub follows_whnf_stays : (E : Env) (V : Values) (t same : Term) (m : Meter) → weak_next E V t ≡ None → same ≡ t → Follows (whnf E V t m.account) (Ok same) m m
 follows_whnf_stays E V t same m e p = rw (steps_stay E V m.account.left t m.account e, p) (follows_done t m)
+
+-- what is done at once goes on at once
+pub bind_done : {A B : Type 0} (a : A) (u : Account) (k : A → Account → Run B) → bind (done a u) k ≡ k a u
+unfolding bind
+bind_done a u k = refl

@@ -18,3 +18,5 @@ pub mod FairSearch
 pub mod EvaluationRuns
 pub mod EvaluationReached
 pub mod SearchRuns
+pub mod ListSteps
+pub mod Shifts

@@ -10,7 +10,7 @@ use Rattle.pc_rules.specs.Accepted.{Accepted, empty, constant, block, IsAccepted
 use Rattle.pc_rules.specs.Laws.{OneEach}
 use Rattle.pc_rules.proofs.Spines.{one_item}
 
-one_declaration : {n : ℕ} {cs : List Constraint} {ds : List Kept} {d d' : Kept} → Accepted n cs ds → Has ds d → Has ds d' → name_of d ≡ name_of d' → d ≡ d'
+pub one_declaration : {n : ℕ} {cs : List Constraint} {ds : List Kept} {d d' : Kept} → Accepted n cs ds → Has ds d → Has ds d' → name_of d ≡ name_of d' → d ≡ d'
 one_declaration empty h h' e = elim h [ ]
 one_declaration (constant a f p q) here here e = refl
 one_declaration (constant a f p q) here (there h') e = absurd (f _ h' (sym e))

@@ -1,5 +1,5 @@
 -- The test of sameness is true of two terms exactly where they are one tree.
-use Rattle.std.proofs.Common.{◌≡◌, ℕ, ◌==◌, ◌&&◌, Bool, true, false, List, [], ◌∷◌, refl, ap, subst}
+use Rattle.std.proofs.Common.{◌≡◌, ℕ, ◌==◌, ◌&&◌, Bool, true, false, IsTrue, ◌↔◌, List, [], ◌∷◌, refl, ap, subst}
 use Rattle.std.proofs.lemmas.Bool.{eqb-true, eq-eqb}
 use Rattle.trees.proofs.Fusion.{child, group}
 use Rattle.universe_levels.specs.declared.level.LevelExpr.{LevelExpr}
@@ -8,17 +8,13 @@ use Rattle.universe_levels.specs.declared.sort.Sort.TheVariants.{Prop, Of}
 use Rattle.pc_terms.specs.declared.leaf.FamilyId.{FamilyId}
 use Rattle.pc_terms.specs.Syntax.{Slot, slots, Term, Terms, Children, End, Child, Group, Done, Next, Rel, Node, Label, SortOf, ProdOf, LambdaOf, LetInOf, AppOf, ConstOf, IndOf, ConstructOf, CaseOf, FixOf}
 use Rattle.pc_rules.specs.Same.{same_numbers, same_parts, same_sorts, same_names, same_families, same_labels, same, same_children, same_terms}
-use Rattle.pc_rules.proofs.WeakNext.{same_names_is, same_families_is}
+use Rattle.pc_rules.proofs.WeakNext.{same_names_is, same_families_is, both_true}
 
-pub both_true : (a b : Bool) → (a && b) ≡ true → (a ≡ true) × (b ≡ true)
-both_true true b e = (refl, e)
-both_true false b e = cc
-
-and_true : (a b : Bool) → a ≡ true → b ≡ true → (a && b) ≡ true
+pub and_true : (a b : Bool) → a ≡ true → b ≡ true → (a && b) ≡ true
 and_true true b p q = q
 and_true false b p q = p
 
-same_numbers_is : (ms ns : List ℕ) → same_numbers ms ns ≡ true → ms ≡ ns
+pub same_numbers_is : (ms ns : List ℕ) → same_numbers ms ns ≡ true → ms ≡ ns
 same_numbers_is [] [] e = refl
 same_numbers_is (m ∷ ms) (n ∷ ns) e =
     let both = both_true (m == n) (same_numbers ms ns) e in λ i. eqb-true m n both.0 i ∷ same_numbers_is ms ns both.1 i
@@ -40,7 +36,7 @@ same_sorts_is (Of u) (Of w) e = ap Of (same_parts_is u w e)
 same_sorts_is Prop (Of w) e = cc
 same_sorts_is (Of u) Prop e = cc
 
-false_true : {A : Type 0} → false ≡ true → A
+pub false_true : {A : Type 0} → false ≡ true → A
 false_true e = absurd (cc)
 
 same_labels_is : (l m : Label) → same_labels l m ≡ true → l ≡ m
@@ -137,3 +133,18 @@ mutual
   terms_themselves Done = refl
   terms_themselves (Next n t ts) =
       and_true (n == n) (same t t && same_terms ts ts) (one_number n) (and_true (same t t) (same_terms ts ts) (same_itself t) (terms_themselves ts))
+
+-- the test of sameness by any test that decides it
+
+pub not_true : (b : Bool) → (b ≡ true → ⊥) → b ≡ false
+not_true true h = absurd (h refl)
+not_true false h = refl
+
+no_both : (r : Bool) → r ≡ false → r ≡ true → ⊥
+no_both r e k = cc
+
+pub same_yes : (a b : Term) (r : Bool) → (IsTrue r ↔ (a ≡ b)) → r ≡ true → same a b ≡ true
+same_yes a b r h e = let p : a ≡ b = h.0 e in rw p (same_itself b)
+
+pub same_no : (a b : Term) (r : Bool) → (IsTrue r ↔ (a ≡ b)) → r ≡ false → same a b ≡ false
+same_no a b r h e = not_true (same a b) (λ q. no_both r e (h.1 (same_is a b q)))

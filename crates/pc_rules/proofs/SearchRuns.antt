@@ -18,8 +18,8 @@ use Rattle.pc_rules.specs.DirectedWeakHead.{family_of, whnf}
 use Rattle.pc_rules.specs.DirectedErasable.{is_prop}
 use Rattle.pc_rules.specs.DirectedFirstOrder.{Searched, Found, NotFirstOrder, TooManyTypes, on_found, with_found, next_place, place_in, put_in_at, put_in, put_arguments, put_constructors, lowered, without, independent, member_family, member_of, or_not_first_order, argument_types, shape, work_type, work_on, search_within}
 use Rattle.pc_rules.proofs.Spines.{one_item}
-use Rattle.pc_rules.proofs.SameTrees.{same_is, same_itself, both_true}
-use Rattle.pc_rules.proofs.WeakNext.{none_some, if_some_is, if_is, family_found, spine_is}
+use Rattle.pc_rules.proofs.SameTrees.{same_is, same_itself}
+use Rattle.pc_rules.proofs.WeakNext.{none_some, if_some_is, if_is, family_found, spine_is, both_true}
 use Rattle.pc_rules.proofs.FairReduction.{steps_lead}
 use Rattle.pc_rules.proofs.EvaluationRuns.{bind_came, ticking_came}
 
@@ -319,7 +319,7 @@ without_is n B A e =
     let q = if_is (same (shift n 0 (lowered n B)) B) (Some (lowered n B)) e in
     sym (same_is (shift n 0 (lowered n B)) B q.0) ∙ ap (shift n 0) (one_item q.1)
 
-variables_long : (n : ℕ) → length (variables n) ≡ n
+pub variables_long : (n : ℕ) → length (variables n) ≡ n
 variables_long zero = refl
 variables_long (suc n) = let long = variables_long n in omega arith
 

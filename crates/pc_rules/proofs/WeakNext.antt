@@ -28,7 +28,7 @@ pub if_is : {A : Type 0} (b : Bool) (o : Option A) {y : A} → (if b then o else
 if_is true o e = (refl, e)
 if_is false o e = absurd (none_some e)
 
-both_true : (a b : Bool) → (a && b) ≡ true → (a ≡ true) × (b ≡ true)
+pub both_true : (a b : Bool) → (a && b) ≡ true → (a ≡ true) × (b ≡ true)
 both_true true b e = (refl, e)
 both_true false b e = cc
 
@@ -72,7 +72,7 @@ family_found E f F e =
     let h = block_found E f.block (kept_at E.declarations f.block) r.0 refl r.1 in
     (r.0, h.0, h.1, r.2)
 
-apply_one_more : (h a : Term) (xs : List Term) → apply h (xs ++ (a ∷ [])) ≡ App (apply h xs) a
+pub apply_one_more : (h a : Term) (xs : List Term) → apply h (xs ++ (a ∷ [])) ≡ App (apply h xs) a
 apply_one_more h a [] = refl
 apply_one_more h a (x ∷ xs) = apply_one_more (App h x) a xs
 
@@ -86,7 +86,7 @@ take_long zero m xs e = refl
 take_long (suc n) m [] e = omega arith
 take_long (suc n) m (x ∷ xs) e = ap suc (take_long n m xs (omega arith))
 
-drop_long : {A : Type 0} (n m : ℕ) (xs : List A) → length xs ≡ n + m → length (drop n xs) ≡ m
+pub drop_long : {A : Type 0} (n m : ℕ) (xs : List A) → length xs ≡ n + m → length (drop n xs) ≡ m
 drop_long zero m xs e = omega arith
 drop_long (suc n) m [] e = omega arith
 drop_long (suc n) m (x ∷ xs) e = drop_long n m xs (omega arith)

@@ -3,3 +3,4 @@ pub mod Parts
 pub mod NodeTrees
 pub mod Applied
 pub mod Forms
+pub mod Numbered

@@ -105,12 +105,12 @@ impl Node {
 }
 
 impl Term {
-    /// Whether two terms are the same tree. It takes no memory.
+    /// Whether two terms are the same tree. It takes no memory, and no walk where both share one node.
     #[cycle(same)]
     #[tactic(auto, using(std::proofs::lemmas::Grind::common_steps))]
     pub fn same(&self, other: &Term) -> bool
         ensures is { IsTrue result ↔ (self.now ≡ other.now) }
     {
-        self.view().same(other.view())
+        self.shares_node(other) || self.view().same(other.view())
     }
 }

@@ -1,20 +1,22 @@
 //! A term and its node.
-ghost use Rattle.std.specs.Prelude.{◌≡◌, ◌≤◌, ◌^◌, ℕ, Result, Err, IfOk, IfErr};
+ghost use Rattle.std.specs.Prelude.{◌≡◌, ◌≤◌, ◌^◌, ℕ, Result, Err, IfOk, IfErr, IsTrue};
 ghost use Rattle.trees.specs.Closed.{Closed};
 ghost use Rattle.trees.specs.Measures.{depth, loose, IsWithin, IsBeyond};
 ghost use Rattle.pc_terms.specs.Syntax.{HasIndex};
 ghost use Rattle.pc_terms.specs.Formed.{IsFormed};
 ghost use Rattle.pc_terms.specs.View.{tree_of};
+ghost use Rattle.pc_terms.specs.Counted.{number_of};
 ghost use Rattle.pc_terms.specs.declared.term.MakeFault.TheVariants.{TooDeep, Memory};
 
 use crate::leaf::{FamilyId, Name};
+use stamps::Stamp;
 use std::alloc::Global;
 use std::marker::Model;
 use std::rc::Rc;
 use thiserror::Error;
 use universe_levels::sort::Sort;
 
-/// A term: a shared node, which keeps its depth and its loose bound.
+/// A term: a shared node, which keeps its depth, its loose bound and a stamp by which it is known again.
 ///
 /// Contracts see it as a tree. Its depth is at most 2,048, its variables are numbers of 32 bits, and all its nodes are formed: a match's
 /// parameters stand under no variable of their own, and a fixpoint names one of its definitions, each of which has a type, a body under
@@ -30,6 +32,7 @@ pub struct Term {
 struct Inner {
     depth: u32,
     loose: u64,
+    stamp: Stamp,
     node: Node,
 }
 
@@ -196,7 +199,7 @@ impl Model for Term {
 
     ghost view = { λ t. tree_of t.rc.value.node };
 
-    ghost invariant = { λ t. IsCounted t.rc.value.depth t.rc.value.loose (tree_of t.rc.value.node) };
+    ghost invariant = { λ t. IsCounted t.rc.value.depth t.rc.value.loose t.rc.value.stamp (tree_of t.rc.value.node) };
 
     ghost size = { λ t. 2 * depth t };
 }
@@ -229,7 +232,16 @@ impl Term {
             return Err(MakeFault::TooDeep);
         }
         let loose = node.loose();
-        match Rc::new(alloc, Inner { depth, loose, node }) {
+        let stamp = stamp_of(&node);
+        match Rc::new(
+            alloc,
+            Inner {
+                depth,
+                loose,
+                stamp,
+                node,
+            },
+        ) {
             Ok(rc) => Ok(Term { rc }),
             Err(_) => Err(MakeFault::Memory),
         }
@@ -264,6 +276,13 @@ impl Term {
         self.rc.loose
     }
 
+    // Whether the two are seen to share one node, without a walk.
+    pub(crate) fn shares_node(&self, other: &Term) -> bool
+        ensures is { IsTrue result → self.now ≡ other.now }
+    {
+        self.rc.stamp.same(&other.rc.stamp)
+    }
+
     /// The same term, shared with this one.
     pub fn share(&self) -> Result<Term, MakeFault>
         ensures ok { IfOk result (λ t. t ≡ self.now) }
@@ -275,4 +294,11 @@ impl Term {
             Err(_) => Err(MakeFault::Memory),
         }
     }
+}
+
+// A stamp for the tree of a node.
+fn stamp_of(_node: &Node) -> Stamp
+    ensures is { result ≡ number_of (tree_of _node.now) }
+{
+    Stamp::new()
 }

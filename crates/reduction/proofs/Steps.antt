@@ -9,9 +9,7 @@ use Rattle.pc_rules.specs.DirectedWeakHead.{if_some, built, branch_of, case_step
 use Rattle.pc_rules.proofs.Spines.{index_of, rargs_of}
 use Rattle.reduction.specs.Frames.{one_less, missing}
 use Rattle.reduction.specs.Redexes.{unfold_next}
-
-pub none_some : {A : Type 0} {x : A} → None ≡ Some x → ⊥
-none_some e = cc
+use Rattle.pc_rules.proofs.WeakNext.{none_some}
 
 abbrev pub IsLambda : Term → Type 0
 IsLambda (Lambda A b) = Unit {0}

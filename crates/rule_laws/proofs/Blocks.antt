@@ -1,5 +1,5 @@
 -- A block that the directed rules let pass fits.
-use Rattle.std.proofs.Common.{◌≡◌, ◌≢◌, ℕ, zero, suc, ◌+◌, Bool, true, false, if◌then◌else◌, List, [], ◌∷◌, map, length, Some, None, refl, sym, subst, arith, slice_get}
+use Rattle.std.proofs.Common.{◌≡◌, ◌≢◌, ℕ, zero, suc, ◌+◌, Bool, true, false, if◌then◌else◌, List, [], ◌∷◌, map, length, Some, refl, sym, subst, arith, slice_get}
 use Rattle.std.specs.List.{All, AllPairs}
 use Rattle.std.proofs.lemmas.List.Elements.{All-nil, All-cons}
 use Rattle.std.proofs.lemmas.List.Kept.{AllPairs-cons}
@@ -21,7 +21,7 @@ use Rattle.pc_rules.specs.Positivity.{ArePositive, NameNone}
 use Rattle.pc_rules.specs.Accepted.{IsFresh, AllAtMost, ConstructorFits, FamilyFits, BlockFits, env}
 use Rattle.pc_rules.specs.Same.{same_names}
 use Rattle.pc_rules.specs.DirectedRun as run
-use Rattle.pc_rules.specs.DirectedRun.{Run, Act, done, bind}
+use Rattle.pc_rules.specs.DirectedRun.{Run, done, bind}
 use Rattle.pc_rules.specs.DirectedComparison.{Test, IsTest, Comparison, compare, sort_below}
 use Rattle.pc_rules.specs.DirectedTyping.{Typing, infer, sort_of, sorts_of, check_all, counted, undeclared_in, levels_declared}
 use Rattle.pc_rules.specs.DirectedDeclarations.{is_positive, some_names, has_name, distinct_names, family_head, family_heads, heads_rule, fits_sort, positive_rule, arguments_rule, result_names, with_sorts, constructor_rule, constructors_rule, with_constructors, families_rule, with_families, with_heads, block_rule}
@@ -37,9 +37,7 @@ use Rattle.rule_laws.proofs.MatchRule.{count_is, entries_sound, all_sound}
 use Rattle.rule_laws.proofs.Inferring.{infer_sound}
 use Rattle.rule_laws.proofs.Extending.{FindsAs, all_more, constructors_more, finds_more, finds_without, env_more}
 use Rattle.rule_laws.proofs.Positive.{or_false, other_name, positive_is, list_names_none}
-
-none_some : {A : Type 0} {x : A} → None ≡ Some x → ⊥
-none_some e = cc
+use Rattle.pc_rules.proofs.WeakNext.{none_some}
 
 -- the names of constructors are distinct
 

@@ -18,17 +18,17 @@ use Rattle.pc_rules.specs.Conversion.{Equal, EqualTerms, same as the_same, back,
 use Rattle.pc_rules.specs.Conversion as conversion
 use Rattle.pc_rules.specs.Same.{same, same_numbers, same_families}
 use Rattle.pc_rules.specs.DirectedRun as run
-use Rattle.pc_rules.specs.DirectedRun.{Run, Act, done, refused, too_nested, passing, any_beyond, ticked, ticking, bind, run_all}
+use Rattle.pc_rules.specs.DirectedRun.{Run, done, too_nested, passing, any_beyond, ticked, bind, run_all}
 use Rattle.pc_rules.specs.DirectedWeakHead.{whnf, family_of}
 use Rattle.pc_rules.specs.DirectedComparison.{Test, IsTest, sort_below, sorts_stand, Comparison, list_of, alike, each_equal, entering, branches_equal, matches_equal, lifted_types, fixpoints_equal, heads_equal, spines_equal, pair, entered, compare}
 use Rattle.pc_rules.specs.WellCounted.{arities, IsCounted, AreCounted, HasCountedDeclarations, AreCountedValues, IsCountedNode}
-use Rattle.pc_rules.proofs.WeakNext.{same_names_is, same_families_is, spine_is}
-use Rattle.pc_rules.proofs.SameTrees.{same_is}
+use Rattle.pc_rules.proofs.WeakNext.{same_names_is, same_families_is, spine_is, both_true}
+use Rattle.pc_rules.proofs.SameTrees.{same_is, same_numbers_is, false_true}
 use Rattle.pc_rules.proofs.WeakHead.{weak_equal}
 use Rattle.pc_rules.proofs.FairReduction.{steps_lead}
 use Rattle.pc_rules.proofs.Congruence.{equal_products, equal_lambdas, equal_applications, equal_matches, equal_fixpoints}
 use Rattle.rule_laws.specs.Comparison.{Compares}
-use Rattle.rule_laws.proofs.Runs.{bind_both, ticking_done, if_done, tested, nested_done, run_both, both_true, false_true, same_numbers_is}
+use Rattle.rule_laws.proofs.Runs.{bind_both, ticking_done, if_done, tested, nested_done, run_both}
 use Rattle.rule_laws.proofs.Counted.{head_counted, args_counted, list_counted}
 use Rattle.rule_laws.proofs.KeepCounts.{under_counted, values_extended, steps_counted}
 
@@ -64,10 +64,10 @@ pub rest_same : {m n : ℕ} {ms ns : List ℕ} → m ∷ ms ≡ n ∷ ns → ms 
 unfolding rest_of
 rest_same e = ap rest_of e
 
-no_suc : {A : Type 0} {n : ℕ} → suc n ≡ 0 → A
+pub no_suc : {A : Type 0} {n : ℕ} → suc n ≡ 0 → A
 no_suc e = absurd (omega arith)
 
-no_cons : {A : Type 0} {n : ℕ} {ns : List ℕ} → n ∷ ns ≡ [] → A
+pub no_cons : {A : Type 0} {n : ℕ} {ns : List ℕ} → n ∷ ns ≡ [] → A
 no_cons e = absurd (cc)
 
 module _ (E : Env) where

@@ -14,9 +14,7 @@ use Rattle.pc_rules.specs.WellCounted.{IsCounted, AreCounted, IsCountedNode, Are
 use Rattle.pc_rules.proofs.Spines.{one_item}
 use Rattle.rule_laws.proofs.Counted.{PutsCounted, rel_counted, put_all_counted, substituted_counted, renamed_counted, shifted_counted, apply_counted, appended_counted}
 use Rattle.rule_laws.proofs.KeepCounts.{IsCountedFamilyDecl}
-
-none_some : {A : Type 0} {x : A} → None ≡ Some x → ⊥
-none_some e = cc
+use Rattle.pc_rules.proofs.WeakNext.{none_some}
 
 module _ (E : Env) where
   pub entries_counted : (s : ℕ → Term) → PutsCounted E s → (As : List Term) → AreCounted E As → AreCounted E (entries_at s As)

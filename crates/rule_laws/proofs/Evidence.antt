@@ -22,7 +22,7 @@ use Rattle.pc_rules.specs.DirectedTyping.{Typing, sort_of}
 use Rattle.pc_rules.specs.DirectedErasable.{is_prop, Ending, ending_on, end_of, ends_in_sort, proof_found, arity_found, type_test, constructor_test, numbered_test, match_sort, match_test, erasable_test}
 use Rattle.pc_rules.specs.WellCounted.{IsCounted, HasCountedDeclarations, IsCountedContext}
 use Rattle.pc_rules.proofs.Spines.{one_item}
-use Rattle.pc_rules.proofs.WeakNext.{weak_next_found, family_found}
+use Rattle.pc_rules.proofs.WeakNext.{weak_next_found, family_found, none_some}
 use Rattle.pc_rules.proofs.WeakHead.{weak_equal}
 use Rattle.pc_rules.proofs.Congruence.{equal_products}
 use Rattle.pc_rules.proofs.Bare.{bare_types}
@@ -34,12 +34,7 @@ use Rattle.rule_laws.proofs.CountedParts.{predicate_entries_counted, context_ext
 use Rattle.rule_laws.proofs.Comparing.{names_long, list_long}
 use Rattle.rule_laws.proofs.SimpleRules.{Infers, formed, sort_sound}
 use Rattle.rule_laws.proofs.MatchRule.{terms_are}
-
-none_some : {A : Type 0} {x : A} → None ≡ Some x → ⊥
-none_some e = cc
-
-false_is_true : {A : Type 0} → false ≡ true → A
-false_is_true e = absurd (cc)
+use Rattle.pc_rules.proofs.SameTrees.{false_true}
 
 one_kind : {k l : Kind} → Some k ≡ Some l → k ≡ l
 one_kind e = one_item e
@@ -71,7 +66,7 @@ module _ (E : Env) where
         let d : Context = Assumed A ∷ c in
         let r : IsArity d B = step_ends d B (weak_next E (values d) B) (end_of E go d B u) (go d) u v refl (end_sound d B u v) (λ X y h. sound d X y v h) h in
         (A ∷ r.0, r.1, equal_products E (values c) A A B (products r.0 (SortT r.1)) same r.2)
-    end_sound c T u v h = false_is_true (done_value h)
+    end_sound c T u v h = false_true (done_value h)
 
   ends_sound : (n : ℕ) → Ends (ends_in_sort E n)
   unfolding ends_in_sort

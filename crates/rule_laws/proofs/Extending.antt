@@ -17,11 +17,8 @@ use Rattle.pc_rules.specs.Accepted.{IsFresh, env}
 use Rattle.pc_rules.specs.Same.{same_names}
 use Rattle.pc_rules.specs.DirectedWeakHead.{if_some, kept_at, whole_block, family_of}
 use Rattle.pc_rules.specs.WellCounted.{AreSortsOver, IsCountedNode, HasCounts, IsCounted, AreCounted, AreCountedConstructors, AreCountedFamilies, IsCountedBlock, IsCountedBody, IsCountedKept, HasCountedDeclarations}
-use Rattle.pc_rules.proofs.WeakNext.{same_names_is, kept_is}
+use Rattle.pc_rules.proofs.WeakNext.{same_names_is, kept_is, none_some}
 use Rattle.rule_laws.proofs.Names.{kept_there}
-
-none_some : {A : Type 0} {x : A} → None ≡ Some x → ⊥
-none_some e = cc
 
 -- the environments have as many levels, and what the first finds of a family, the second finds too
 pub record FindsAs (E H : Env) : Type 0 where

@@ -20,19 +20,17 @@ use Rattle.pc_rules.specs.DirectedComparison.{Comparison, list_of}
 use Rattle.pc_rules.specs.DirectedGuard.{fix_guard}
 use Rattle.pc_rules.specs.DirectedTyping.{Typing, sort_of, check, types_rule, recursive_domain, enough_abstractions, is_a_family, family_found, definition_rule, definitions_rule, definition_type, fix_rule}
 use Rattle.pc_rules.proofs.Spines.{one_item}
-use Rattle.pc_rules.proofs.WeakNext.{spine_is}
+use Rattle.pc_rules.proofs.WeakNext.{spine_is, none_some}
 use Rattle.pc_rules.specs.FixConditions.{BeginsWith, HaveLambdas}
 use Rattle.pc_rules.specs.WellCounted.{IsCountedNode, IsCounted, HasCountedDeclarations, IsCountedContext}
 use Rattle.rule_laws.specs.Inference.{IsInferred}
-use Rattle.rule_laws.proofs.Runs.{bind_both, tested, refused_done, done_value, make_then, false_true}
+use Rattle.rule_laws.proofs.Runs.{bind_both, tested, refused_done, done_value, make_then}
 use Rattle.rule_laws.proofs.Counted.{shifted_counted, before_shift, term_counted}
 use Rattle.rule_laws.proofs.KeepCounts.{values_counted}
 use Rattle.rule_laws.proofs.Comparing.{IsSound, names_long, whnf_equal}
 use Rattle.rule_laws.proofs.SimpleRules.{Infers, formed, sort_sound, check_sound}
 use Rattle.rule_laws.proofs.Guarding.{guard_sound}
-
-none_some : {A : Type 0} {x : A} → None ≡ Some x → ⊥
-none_some e = cc
+use Rattle.pc_rules.proofs.SameTrees.{false_true}
 
 -- the recursive argument's domain
 
@@ -48,11 +46,11 @@ recurses E c zero (Lambda A b) p f xs e h =
 recurses E c (suc r) (Lambda A b) p f xs e h = recurses_later (recurses E (Assumed A ∷ c) r b p f xs e h)
 recurses E c r t p f xs e h = absurd (none_some e)
 
-enough : (d : ℕ) (o : Option (Context × Term)) (p : Context × Term) (u v : Account) → (enough_abstractions d o u).end ≡ run.Done p v → o ≡ Some p
+pub enough : (d : ℕ) (o : Option (Context × Term)) (p : Context × Term) (u v : Account) → (enough_abstractions d o u).end ≡ run.Done p v → o ≡ Some p
 enough d None p u v h = absurd (refused_done h)
 enough d (Some q) p u v h = ap Some (done_value h)
 
-a_family : (t : Term) → is_a_family t ≡ true → (f : FamilyId) × (t ≡ Ind f)
+pub a_family : (t : Term) → is_a_family t ≡ true → (f : FamilyId) × (t ≡ Ind f)
 a_family (Ind f) h = (f, refl)
 a_family t h = false_true h
 

@@ -12,27 +12,17 @@ use Rattle.pc_rules.specs.Conversion.{Equal, same, chain}
 use Rattle.pc_rules.specs.WeakHead.{WeakStep, then_step, no_step}
 use Rattle.pc_rules.specs.Guardedness.{Mark, Recursive, Argument, Smaller, Other, Marks, others, IsCalled, branch_marks, IsSmaller, at_variable, at_match, Opens, smaller, argument, AreSmaller, no_branch, a_branch, IsGuardedIn, variable, call, inside, let_in, opened, AreGuarded, no_argument, an_argument, no_child, a_child, a_group, AreGuardedTerms, no_term, a_term, AreGuardedBranches, no_guarded_branch, a_guarded_branch, IsGuardedBody, last, more, definition_marks, AreGuardedBodies, no_bodies, a_body, IsGuarded}
 use Rattle.pc_rules.specs.DirectedRun as run
-use Rattle.pc_rules.specs.DirectedRun.{Run, Act, done, no_unit, passing, is_beyond, bind, ticking, ticked, run_all}
+use Rattle.pc_rules.specs.DirectedRun.{Run, Act, done, no_unit, passing, is_beyond, bind, ticked, run_all}
 use Rattle.pc_rules.specs.DirectedWeakHead.{weak_next, whnf, family_of}
 use Rattle.pc_rules.specs.DirectedGuard.{Finding, found_at, applied, opens, constructors_of, step_on, if_smaller, if_opened, later, look, look_branches, find, normal_found, smaller_argument, call_argument, call_rule, interleaved, walk, walk_children, walk_terms, walk_branches, body_guard, bodies_guard, fix_guard}
-use Rattle.pc_rules.proofs.WeakNext.{weak_next_found, family_found}
+use Rattle.pc_rules.proofs.WeakNext.{weak_next_found, family_found, apply_one_more, none_some}
 use Rattle.pc_rules.proofs.WeakHead.{weak_equal}
 use Rattle.pc_rules.proofs.Congruence.{equal_applications}
 use Rattle.pc_rules.specs.FixConditions.{BeginsWith, HaveLambdas}
 use Rattle.pc_rules.specs.WellCounted.{IsCountedNode, arities, IsCounted, AreCounted, HasCountedDeclarations, AreCountedValues}
 use Rattle.rule_laws.proofs.Runs.{bind_both, ticking_done, refused_done, unit_done, done_value, pass_then, run_both}
 use Rattle.rule_laws.proofs.KeepCounts.{under_counted, steps_counted}
-use Rattle.rule_laws.proofs.Comparing.{first_same, rest_same, whnf_equal, whnf_counted}
-
-none_some : {A : Type 0} {x : A} → None ≡ Some x → ⊥
-none_some e = cc
-
-no_name : {A : Type 0} {n : ℕ} {ns : List ℕ} → n ∷ ns ≡ [] → A
-no_name e = absurd (cc)
-
-one_more : (h a : Term) (xs : List Term) → apply h (xs ++ (a ∷ [])) ≡ App (apply h xs) a
-one_more h a [] = refl
-one_more h a (x ∷ xs) = one_more (App h x) a xs
+use Rattle.rule_laws.proofs.Comparing.{first_same, rest_same, whnf_equal, whnf_counted, no_cons}
 
 -- all acts of a list are done
 abbrev EachDone : List Act → Type 0
@@ -77,10 +67,10 @@ module _ (E : Env) (w : HasCountedDeclarations E) where
 
   smaller_applied : {V : Values} {M : Marks} {f : Term} (a : Term) → IsSmaller E V M f → IsSmaller E V M (App f a)
   smaller_applied {V} {M} {f} a (at_variable i xs p s) =
-      at_variable i (xs ++ (a ∷ [])) (subst (λ x. Equal E V (App f a) x) (sym (one_more (Rel i) a xs)) (equal_applications E V f (apply (Rel i) xs) a a p same)) s
+      at_variable i (xs ++ (a ∷ [])) (subst (λ x. Equal E V (App f a) x) (sym (apply_one_more (Rel i) a xs)) (equal_applications E V f (apply (Rel i) xs) a a p same)) s
   smaller_applied {V} {M} {f} a (at_match g ps n ret s bs xs p k o b) =
       at_match g ps n ret s bs (xs ++ (a ∷ []))
-      (subst (λ x. Equal E V (App f a) x) (sym (one_more (Case g ps n ret s bs) a xs)) (equal_applications E V f (apply (Case g ps n ret s bs) xs) a a p same)) k o b
+      (subst (λ x. Equal E V (App f a) x) (sym (apply_one_more (Case g ps n ret s bs) a xs)) (equal_applications E V f (apply (Case g ps n ret s bs) xs) a a p same)) k o b
 
   applied_means : (V : Values) (M : Marks) (f a : Term) (m : Mark) → Means V M f m → Means V M (App f a) (applied m)
   applied_means V M f a Smaller h = smaller_applied a h
@@ -174,8 +164,8 @@ module _ (E : Env) (w : HasCountedDeclarations E) where
       look_branches_sound : (V : Values) (M : Marks) (b : Name) (Cs : List Constructor) (bs : Terms) (m : Mark) (u v : Account) → AreCountedValues E V →
           EachTerm (IsCountedNode E) bs → binders_of bs ≡ arities Cs → (look_branches E go V M b Cs bs u).end ≡ run.Done m v → BranchesMean V M b Cs bs m
       look_branches_sound V M b [] Done m u v vs k e h = subst (λ m. BranchesMean V M b [] Done m) (done_value h) no_branch
-      look_branches_sound V M b (C ∷ Cs) Done m u v vs k e h = no_name (sym e)
-      look_branches_sound V M b [] (Next n body bs) m u v vs k e h = no_name e
+      look_branches_sound V M b (C ∷ Cs) Done m u v vs k e h = no_cons (sym e)
+      look_branches_sound V M b [] (Next n body bs) m u v vs k e h = no_cons e
       look_branches_sound V M b (C ∷ Cs) (Next n body bs) m u v vs k e h =
           let W : Values = under n V in
           let N : Marks = branch_marks b C.args M in
@@ -326,8 +316,8 @@ module _ (E : Env) (w : HasCountedDeclarations E) where
     opened_sound : (V : Values) (M : Marks) (b : Name) (Cs : List Constructor) (ts : Terms) → AreCountedValues E V → EachTerm (IsCountedNode E) ts → binders_of ts ≡ arities Cs →
         EachDone (walk_branches E V M b true Cs ts) → AreGuardedBranches E V M b Cs ts
     opened_sound V M b [] Done vs k e h = no_guarded_branch
-    opened_sound V M b [] (Next n t ts) vs k e h = no_name e
-    opened_sound V M b (C ∷ Cs) Done vs k e h = no_name (sym e)
+    opened_sound V M b [] (Next n t ts) vs k e h = no_cons e
+    opened_sound V M b (C ∷ Cs) Done vs k e h = no_cons (sym e)
     opened_sound V M b (C ∷ Cs) (Next n t ts) vs k e h =
         let a = h.0 in
         a_guarded_branch (first_same e) (walk_sound (under n V) (branch_marks b C.args M) [] t a.0 a.1 (under_counted E n V vs) k.0 tt no_argument a.2)

@@ -15,9 +15,7 @@ use Rattle.pc_rules.specs.WeakHead.{WeakStep, at_root, in_function, in_scrutinee
 use Rattle.pc_rules.specs.WellCounted.{IsCounted, AreCounted, AreCountedConstructors, AreCountedFamilies, HasCountedDeclarations, IsCountedContext, AreCountedValues}
 use Rattle.pc_rules.proofs.Spines.{one_item}
 use Rattle.rule_laws.proofs.Counted.{rel_counted, put_counted, put_all_counted, substituted_counted, renamed_counted, app_counted, apply_counted, function_counted, parts_counted, term_counted}
-
-none_some : {A : Type 0} {x : A} → None ≡ Some x → ⊥
-none_some e = cc
+use Rattle.pc_rules.proofs.WeakNext.{none_some}
 
 -- contexts and their values
 

@@ -22,19 +22,19 @@ use Rattle.pc_rules.specs.Elimination.{AllProp, IsSingle, MayEliminate}
 use Rattle.pc_rules.specs.Typing.{guarded, Types, case, conv as convert, TypesAll, no_terms, term, Entries, no_entries, entry, Branches, no_branches, branch, EntrySorts, no_sorts, a_sort}
 use Rattle.pc_rules.specs.Same.{same}
 use Rattle.pc_rules.specs.DirectedRun as run
-use Rattle.pc_rules.specs.DirectedRun.{Run, Act, done, make, passing, any_beyond, bind}
+use Rattle.pc_rules.specs.DirectedRun.{Run, done, make, passing, any_beyond, bind}
 use Rattle.pc_rules.specs.DirectedWeakHead.{kept_at, whole_block, family_of, whnf}
 use Rattle.pc_rules.specs.DirectedComparison.{Comparison, list_of}
 use Rattle.pc_rules.specs.DirectedTyping.{Typing, conv, sort_of, check, retype, find_family, counted, names_counted, match_counted, check_all, sorts_of, all_prop, few_constructors, is_single, may_eliminate, eliminated, is_the_family, found_family, scrutinee_fits, scrutinee_rule, branch_beyond, branch_rule, branches_rule, predicate_rule, case_rule}
 use Rattle.pc_rules.specs.WellCounted.{IsCountedNode, arities, IsCounted, AreCounted, AreCountedConstructors, HasCountedDeclarations, IsCountedContext}
-use Rattle.pc_rules.proofs.WeakNext.{kept_is, same_families_is, family_found}
-use Rattle.pc_rules.proofs.SameTrees.{same_is}
+use Rattle.pc_rules.proofs.WeakNext.{kept_is, same_families_is, family_found, drop_long, both_true}
+use Rattle.pc_rules.proofs.SameTrees.{same_is, false_true}
 use Rattle.rule_laws.specs.Inference.{IsInferred, AllFormed}
-use Rattle.rule_laws.proofs.Runs.{bind_both, if_done, tested, done_value, make_then, pass_then, both_true, false_true}
+use Rattle.rule_laws.proofs.Runs.{bind_both, if_done, tested, done_value, make_then, pass_then}
 use Rattle.rule_laws.proofs.Counted.{PutsCounted, rel_counted, first_counted, substituted_counted, apply_counted, appended_counted, args_counted, terms_counted}
 use Rattle.rule_laws.proofs.KeepCounts.{IsCountedFamilyDecl, values_counted, kept_counted}
 use Rattle.rule_laws.proofs.CountedParts.{ind_counted, predicate_entries_counted, branch_entries_counted, predicate_at_counted, branch_type_counted, context_extended}
-use Rattle.rule_laws.proofs.Comparing.{IsSound, names_long, list_long, first_same, rest_same, whnf_equal, whnf_counted}
+use Rattle.rule_laws.proofs.Comparing.{IsSound, names_long, list_long, first_same, rest_same, whnf_equal, whnf_counted, no_suc}
 use Rattle.rule_laws.proofs.SimpleRules.{Infers, formed, whole_family, sort_sound, retype_sound, check_sound}
 
 pub all_formed : (E : Env) (ts : List Term) → AreCounted E ts → AllFormed ts
@@ -54,9 +54,6 @@ terms_are (Next n t ts) h = λ i. Next (sym h.0 i) t (terms_are ts h.1 i)
 
 pub count_is : (want got : ℕ) (u v : Account) → (counted want got u).end ≡ run.Done tt v → want ≡ got
 count_is want got u v h = eqb-true want got (tested (want == got) (done tt u) (CountWrong want got) u tt v h).0
-
-no_suc : {A : Type 0} {n : ℕ} → suc n ≡ 0 → A
-no_suc e = absurd (omega arith)
 
 names_are : (Cs : List Constructor) (ns : List ℕ) (u v : Account) → length Cs ≡ length ns → (names_counted Cs ns u).end ≡ run.Done tt v → ns ≡ arities Cs
 names_are [] [] u v l h = refl
@@ -133,12 +130,7 @@ family_head : (f : FamilyId) (t : Term) → is_the_family f t ≡ true → t ≡
 family_head f (Ind g) h = ap (λ x. Ind x) (sym (same_families_is f g h))
 family_head f t h = false_true h
 
-drop_long : {A : Type 0} (n m : ℕ) (xs : List A) → length xs ≡ n + m → length (drop n xs) ≡ m
-drop_long zero m xs e = omega arith
-drop_long (suc n) m [] e = omega arith
-drop_long (suc n) m (x ∷ xs) e = drop_long n m xs (omega arith)
-
-dropped_counted : (E : Env) (n : ℕ) (xs : List Term) → AreCounted E xs → AreCounted E (drop n xs)
+pub dropped_counted : (E : Env) (n : ℕ) (xs : List Term) → AreCounted E xs → AreCounted E (drop n xs)
 dropped_counted E zero xs h = h
 dropped_counted E (suc n) [] h = tt
 dropped_counted E (suc n) (x ∷ xs) h = dropped_counted E n xs h.1

@@ -1,4 +1,4 @@
--- Environments that declare each name once, and what is found in them by a name.
+-- Environments that declare each name one_declaration, and what is found in them by a name.
 use Rattle.std.proofs.Common.{◌≡◌, ℕ, Bool, true, false, if◌then◌else◌, List, ◌∷◌, Some, refl, sym, ap, ◌∙◌, subst}
 use Rattle.std.proofs.lemmas.Bool.{eq-eqb}
 use Rattle.universe_levels.specs.declared.constraint.Constraint.{Constraint}
@@ -8,29 +8,19 @@ use Rattle.pc_rules.specs.declared.declaration.Block.{Block}
 use Rattle.pc_rules.specs.declared.declaration.Kept.{Kept}
 use Rattle.pc_rules.specs.declared.declaration.Kept.TheVariants.{Heads, Block as Whole}
 use Rattle.pc_rules.specs.Environment.{Env, FamilyDecl, Has, here, there, name_of, heads_of, family_at, KeepsFamily}
-use Rattle.pc_rules.specs.Accepted.{Accepted, empty, constant, block, IsAccepted, IsFresh, env}
+use Rattle.pc_rules.specs.Accepted.{Accepted, IsAccepted, IsFresh, env}
 use Rattle.pc_rules.specs.Same.{same_names}
 use Rattle.pc_rules.specs.DirectedWeakHead.{if_some, kept_at, whole_block, family_of}
 use Rattle.pc_rules.specs.DirectedDeclarations.{with_heads}
 use Rattle.pc_rules.proofs.WeakNext.{kept_is}
 use Rattle.rule_laws.specs.Reduction.{HasNamesOnce}
-
-once : {n : ℕ} {cs : List Constraint} {ds : List Kept} {d d' : Kept} → Accepted n cs ds → Has ds d → Has ds d' → name_of d ≡ name_of d' → d ≡ d'
-once empty h h' e = elim h [ ]
-once (constant a f p q) here here e = refl
-once (constant a f p q) here (there h') e = absurd (f _ h' (sym e))
-once (constant a f p q) (there h) here e = absurd (f _ h e)
-once (constant a f p q) (there h) (there h') e = once a h h' e
-once (block a f p) here here e = refl
-once (block a f p) here (there h') e = absurd (f _ h' (sym e))
-once (block a f p) (there h) here e = absurd (f _ h e)
-once (block a f p) (there h) (there h') e = once a h h' e
+use Rattle.pc_rules.proofs.OneEach.{one_declaration}
 
 pub once_accepted : (levels : ℕ) (cs : List Constraint) (ds : List Kept) → Accepted levels cs ds → HasNamesOnce (env levels cs ds)
-once_accepted levels cs ds a d d' h h' e = once a h h' e
+once_accepted levels cs ds a d d' h h' e = one_declaration a h h' e
 
 pub accepted_once : (E : Env) → IsAccepted E → HasNamesOnce E
-accepted_once E a d d' h h' e = once a.declarations h h' e
+accepted_once E a d d' h h' e = one_declaration a.declarations h h' e
 
 one_more : {ds : List Kept} {x d d' : Kept} → IsFresh (name_of x) ds → ((d d' : Kept) → Has ds d → Has ds d' → name_of d ≡ name_of d' → d ≡ d') →
     Has (x ∷ ds) d → Has (x ∷ ds) d' → name_of d ≡ name_of d' → d ≡ d'

@@ -1,23 +1,23 @@
 -- Where the directed rules find no weak-head step there is none.
-use Rattle.std.proofs.Common.{◌≡◌, ℕ, zero, suc, ◌+◌, ◌==◌, ◌&&◌, Bool, true, false, if◌then◌else◌, List, ◌++◌, length, drop, Option, Some, None, refl, sym, ap, ◌∙◌, subst, slice_get, option_map, length-append}
+use Rattle.std.proofs.Common.{◌≡◌, ℕ, zero, suc, ◌==◌, if◌then◌else◌, List, ◌++◌, length, Option, Some, None, refl, sym, ap, ◌∙◌, subst, slice_get, option_map}
 use Rattle.std.proofs.lemmas.Bool.{eq-eqb}
 use Rattle.pc_terms.specs.declared.leaf.FamilyId.{FamilyId}
 use Rattle.pc_terms.specs.Syntax.{Term, Terms, Lambda, App, Construct, Fix, apply, head, args, term_at, substitute, put_all, Rel}
-use Rattle.pc_rules.specs.declared.declaration.Constructor.{Constructor}
 use Rattle.pc_rules.specs.declared.declaration.Kept.TheVariants.{Constant}
 use Rattle.pc_rules.specs.declared.meter.Account.{Account}
-use Rattle.pc_rules.specs.Environment.{Env, FamilyDecl}
+use Rattle.pc_rules.specs.Environment.{Env}
 use Rattle.pc_rules.specs.Context.{Values}
 use Rattle.pc_rules.specs.Instances.{unfolded}
 use Rattle.pc_rules.specs.Step.{IsConstructor, is_constructor, Root, beta, zeta, constant, variable, matched, fixpoint}
 use Rattle.pc_rules.specs.WeakHead.{WeakStep, at_root, in_function, in_scrutinee, in_argument, IsWeakNormal, IsWhnf}
-use Rattle.pc_rules.specs.Same.{same_names, same_families}
 use Rattle.pc_rules.specs.DirectedRun.{Run, End, Done, NoUnit, done, ticked}
 use Rattle.pc_rules.specs.DirectedWeakHead.{if_some, body_of, arguments_at, built_arguments, built, branch_of, case_step, unfold_at, recursive_step, fix_step, app_step, weak_next, after_step, stuck_step, steps, whnf}
-use Rattle.pc_rules.proofs.Spines.{head-apply, args-apply, drop_past}
-use Rattle.pc_rules.proofs.FairReduction.{steps_lead}
+use Rattle.pc_rules.proofs.Spines.{head-apply, args-apply}
+use Rattle.pc_rules.proofs.FairReduction.{steps_lead, done_is}
 use Rattle.rule_laws.specs.Reduction.{HasNamesOnce}
 use Rattle.rule_laws.proofs.Names.{kept_once, family_once}
+use Rattle.pc_rules.proofs.EvaluationReached.{arguments_there}
+use Rattle.pc_rules.proofs.SameTrees.{one_family}
 
 -- a next term is found
 abbrev Found : Option Term → Type 0
@@ -27,32 +27,16 @@ Found (Some t) = Unit {0}
 found_where : {o o' : Option Term} → o' ≡ o → Found o → Found o'
 found_where {o} e h = subst (λ x. Found x) (sym e) h
 
-and_true : (a b : Bool) → a ≡ true → b ≡ true → (a && b) ≡ true
-and_true true b p q = q
-and_true false b p q = p
-
-family_itself : (f : FamilyId) → same_families f f ≡ true
-family_itself f = and_true (same_names f.block f.block) (f.family == f.family) (eq-eqb f.block.0 f.block.0 refl) (eq-eqb f.family f.family refl)
-
--- a constructor with all its parameters and arguments is seen to be one
-arguments_are : (F : FamilyDecl) (C : Constructor) (c : ℕ) (qs xs : List Term) → slice_get F.constructors c ≡ Some C → length qs ≡ length F.parameters →
-    length xs ≡ length C.args → arguments_at F c (qs ++ xs) ≡ Some xs
-arguments_are F C c qs xs i p q =
-    let long : length (qs ++ xs) ≡ length F.parameters + length C.args = length-append qs xs ∙ (λ j. p j + q j) in
-    ap (λ o. if_some o (λ C. if length (qs ++ xs) == length F.parameters + length C.args then Some (drop (length F.parameters) (qs ++ xs)) else None)) i
-    ∙ ap (λ b. if b then Some (drop (length F.parameters) (qs ++ xs)) else None) (eq-eqb (length (qs ++ xs)) (length F.parameters + length C.args) long)
-    ∙ ap Some (ap (λ n. drop n (qs ++ xs)) (sym p) ∙ drop_past qs xs)
-
 built_is : {E : Env} → HasNamesOnce E → {f : FamilyId} {c : ℕ} {t : Term} {qs xs : List Term} → IsConstructor E f c t qs xs → built E t ≡ Some (f, c, xs)
 built_is {E} o {f} {c} {t} {qs} {xs} (is_constructor {F = F} {C = C} k i p q e) =
     (λ j. built_arguments E ((ap head e ∙ head-apply (Construct f c) (qs ++ xs)) j) ((ap args e ∙ args-apply (Construct f c) (qs ++ xs)) j))
     ∙ ap (λ o. if_some o (λ F. option_map (λ ys. (f, c, ys)) (arguments_at F c (qs ++ xs)))) (family_once E o f F k)
-    ∙ ap (λ o. option_map (λ ys. (f, c, ys)) o) (arguments_are F C c qs xs i p q)
+    ∙ ap (λ o. option_map (λ ys. (f, c, ys)) o) (arguments_there F C c qs xs i p q)
 
 branch_is : (bs : Terms) (f : FamilyId) (c m : ℕ) (body : Term) (xs : List Term) → term_at bs c ≡ Some (m, body) → m ≡ length xs →
     Found (branch_of bs f (Some (f, c, xs)))
 branch_is bs f c m body xs e l =
-    found_where (ap (λ b. if b then if_some (term_at bs c) (λ b. if b.0 == length xs then Some (substitute (put_all xs Rel) b.1) else None) else None) (family_itself f))
+    found_where (ap (λ b. if b then if_some (term_at bs c) (λ b. if b.0 == length xs then Some (substitute (put_all xs Rel) b.1) else None) else None) (one_family f))
     (found_where (ap (λ o. if_some o (λ b. if b.0 == length xs then Some (substitute (put_all xs Rel) b.1) else None)) e)
     (found_where (ap (λ b. if b then Some (substitute (put_all xs Rel) body) else None) (eq-eqb m (length xs) l)) tt))
 
@@ -123,10 +107,6 @@ no_step_is_normal E o V t e u p = subst (λ x. Found x) e (weak_found o p)
 result_of : End Term → Term → Term
 result_of (Done a v) o = a
 result_of _ o = o
-
-done_is : {t w : Term} {u v : Account} → Done t u ≡ Done w v → t ≡ w
-unfolding result_of
-done_is {t} e = ap (λ r. result_of r t) e
 
 not_done : {w : Term} {v : Account} → NoUnit ≡ Done w v → ⊥
 not_done e = cc

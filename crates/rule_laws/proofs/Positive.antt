@@ -7,8 +7,8 @@ use Rattle.pc_terms.specs.Syntax.{Slot, Label, IndOf, ConstructOf, CaseOf, Term,
 use Rattle.pc_rules.specs.Positivity.{IsOther, NamesNone, NameNone, IsPositive, names_none, product, recursive}
 use Rattle.pc_rules.specs.Same.{same_names}
 use Rattle.pc_rules.specs.DirectedDeclarations.{names_label, names_block, names_block_children, names_block_terms, some_names, is_of_block, is_positive}
-use Rattle.pc_rules.proofs.WeakNext.{same_names_is, spine_is}
-use Rattle.rule_laws.proofs.Runs.{both_true, false_true}
+use Rattle.pc_rules.proofs.WeakNext.{same_names_is, spine_is, both_true}
+use Rattle.pc_rules.proofs.SameTrees.{false_true}
 
 pub none_true : {A : Type 0} → true ≡ false → A
 none_true e = absurd (cc)

@@ -1,11 +1,9 @@
 -- Runs that are done: how they are taken apart.
-use Rattle.std.proofs.Common.{◌≡◌, ℕ, zero, suc, ◌⊎◌, inl, inr, ◌&&◌, ◌==◌, Bool, true, false, if◌then◌else◌, List, [], ◌∷◌, refl, ap}
-use Rattle.std.proofs.lemmas.Bool.{eqb-true}
+use Rattle.std.proofs.Common.{◌≡◌, ℕ, zero, suc, ◌⊎◌, inl, inr, Bool, true, false, if◌then◌else◌, List, ◌∷◌, refl, ap}
 use Rattle.pc_rules.specs.declared.meter.Account.{Account}
 use Rattle.pc_rules.specs.declared.broken.Broken.{Broken}
 use Rattle.pc_terms.specs.Syntax.{Term}
 use Rattle.pc_rules.specs.DirectedRun.{Run, End, Done, Refused, NoUnit, Nested, Act, refused, passing, make, ticked, paid, ticking, end_then, bind, run_all}
-use Rattle.pc_rules.specs.Same.{same_numbers}
 
 -- a run followed by another is done where both are
 abbrev pub Both : {A B : Type 0} → End A → (A → Account → End B) → B → Account → Type 0
@@ -63,20 +61,6 @@ pub run_both : (act : Act) (acts : List Act) (u v : Account) → (run_all (act �
     (w : Account) × ((act u).end ≡ Done tt w) × ((run_all acts w).end ≡ Done tt v)
 unfolding run_all
 run_both act acts u v h = let p = bind_both (act u) (λ _ w. run_all acts w) tt v h in (p.1, p.2, p.3)
-
-pub both_true : (a b : Bool) → (a && b) ≡ true → (a ≡ true) × (b ≡ true)
-both_true true b e = (refl, e)
-both_true false b e = absurd (cc)
-
-pub false_true : {A : Type 0} → false ≡ true → A
-false_true e = absurd (cc)
-
-pub same_numbers_is : (ms ns : List ℕ) → same_numbers ms ns ≡ true → ms ≡ ns
-same_numbers_is [] [] e = refl
-same_numbers_is (m ∷ ms) (n ∷ ns) e =
-    let both = both_true (m == n) (same_numbers ms ns) e in λ i. eqb-true m n both.0 i ∷ same_numbers_is ms ns both.1 i
-same_numbers_is [] (n ∷ ns) e = false_true e
-same_numbers_is (m ∷ ms) [] e = false_true e
 
 -- a made term, and what follows
 pub make_then : {B : Type 0} (t : Term) (u : Account) (k : Term → Account → Run B) {b : B} {w : Account} → (bind (make t u) k).end ≡ Done b w → (k t u).end ≡ Done b w

@@ -27,7 +27,7 @@ use Rattle.pc_rules.specs.Conversion.{Equal, equal as of_equal}
 use Rattle.pc_rules.specs.Typing.{Mode, guarded, Types, rel, sort, prod, lambda, let_in, app, const, ind, construct, conv as convert}
 use Rattle.pc_rules.specs.Same.{same}
 use Rattle.pc_rules.specs.DirectedRun as run
-use Rattle.pc_rules.specs.DirectedRun.{Run, Act, done, make, made, bind}
+use Rattle.pc_rules.specs.DirectedRun.{Run, done, make, made, bind}
 use Rattle.pc_rules.specs.DirectedWeakHead.{if_some, kept_at, known_block, whole_block, family_of, whnf}
 use Rattle.pc_rules.specs.DirectedComparison.{Comparison}
 use Rattle.pc_rules.specs.DirectedTyping.{Typing, conv, sort_found, sort_of, check, retype, rel_rule, first_undeclared, undeclared_in, raises_past, levels_declared, sort_rule, prod_rule, lambda_rule, let_rule, app_found, app_rule, const_rule, family_number, find_family, ind_rule, constructor_number, construct_rule}
@@ -61,7 +61,7 @@ declared_from : (o : Option Level) (u v : Account) → (levels_declared o u).end
 declared_from None u v h = refl
 declared_from (Some l) u v h = absurd (refused_done h)
 
-some_none : {A : Type 0} {x : A} → Some x ≡ None → ⊥
+pub some_none : {A : Type 0} {x : A} → Some x ≡ None → ⊥
 some_none e = cc
 
 next_declared : (n : ℕ) (e : LevelExpr) (es : List LevelExpr) (b : Bool) → nat_le e.level.0 n ≡ b → (if b then first_undeclared n es else Some e.level) ≡ None →

@@ -32,6 +32,7 @@ use Rattle.rule_laws.proofs.Counted.{before_shift}
 use Rattle.rule_laws.proofs.Comparing.{names_long}
 use Rattle.rule_laws.proofs.Extending.{all_more, finds_without, env_more}
 use Rattle.rule_laws.proofs.Environments.{nothing_counted}
+use Rattle.pc_rules.proofs.WeakNext.{none_some}
 
 list_names : (ts : List Term) → AreAll 0 (binders_of (terms_of ts))
 list_names [] = tt
@@ -40,9 +41,6 @@ list_names (t ∷ ts) = (refl, list_names ts)
 names_of_list : (ts : List Term) → length (binders_of (terms_of ts)) ≡ length ts
 names_of_list [] = refl
 names_of_list (t ∷ ts) = ap suc (names_of_list ts)
-
-none_some : {A : Type 0} {x : A} → None ≡ Some x → ⊥
-none_some e = cc
 
 place_within : (ts : Terms) (i : ℕ) {p : ℕ × Term} → term_at ts i ≡ Some p → i < number ts
 place_within Done i e = absurd (none_some e)

@@ -1,7 +1,7 @@
 -- What has a type has, in each fixpoint inside it, as many lambdas as the recursive arguments ask for.
 use Rattle.std.proofs.Common.{ℕ, zero, suc, ◌+◌, List, [], ◌∷◌}
 use Rattle.pc_terms.specs.declared.leaf.FamilyId.{FamilyId}
-use Rattle.pc_terms.specs.Syntax.{Slot, SortOf, ProdOf, LambdaOf, LetInOf, AppOf, ConstOf, IndOf, ConstructOf, CaseOf, FixOf, Term, Terms, Children, Rel, Node, End, Child, Group, Done, Next, Lambda, Fix, terms_of, rename, rename_children, rename_terms, ups, shift}
+use Rattle.pc_terms.specs.Syntax.{Slot, SortOf, ProdOf, LambdaOf, LetInOf, AppOf, ConstOf, IndOf, ConstructOf, CaseOf, Term, Terms, Children, Rel, Node, End, Child, Group, Done, Next, Lambda, Fix, terms_of, rename, rename_children, rename_terms, ups}
 use Rattle.pc_rules.specs.declared.declaration.Constructor.{Constructor}
 use Rattle.pc_rules.specs.Environment.{Env}
 use Rattle.pc_rules.specs.Context.{Context, Values}

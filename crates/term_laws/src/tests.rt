@@ -172,3 +172,19 @@ fn deepest(rt: HostRuntime) -> Result<(), Fail> {
     assert!(rt; matches!(beyond, Err(MakeFault::TooDeep)));
     Ok(())
 }
+
+/// Both sides of each application are one node, so the tree has 2^2047 leaves: no walk over it would come to an end.
+#[test]
+fn knows_shared_terms_again(rt: HostRuntime) -> Result<(), Fail> {
+    let alloc = rt.alloc();
+    let mut t = rel(alloc, 7)?;
+    for _ in 0..2046 {
+        t = Term::make(alloc, Node::App(t.share()?, t))?;
+    }
+    let u = Term::make(alloc, Node::App(t.share()?, t.share()?))?;
+    let v = Term::make(alloc, Node::App(t.share()?, t.share()?))?;
+    assert!(rt; u.same(&v));
+    assert!(rt; u.same(&u));
+    assert!(rt; !u.same(&t));
+    Ok(())
+}

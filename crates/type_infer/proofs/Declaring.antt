@@ -1,26 +1,26 @@
 -- Answers of rules 8 and 9, by what is kept.
-use Rattle.std.proofs.Common.{◌≡◌, ◌∙◌, ℕ, ◌⊎◌, inl, inr, Option, Some, None, Result, Ok, Err, IsTrue, List, refl, ap, subst, slice_get, length, option_map}
+use Rattle.std.proofs.Common.{◌≡◌, ℕ, ◌⊎◌, inl, inr, Some, None, Ok, Err, IsTrue, refl, slice_get, length}
 use Rattle.pc_terms.specs.declared.leaf.FamilyId.{FamilyId}
 use Rattle.pc_terms.specs.declared.term.MakeFault.{MakeFault}
-use Rattle.pc_terms.specs.declared.term.MakeFault.TheVariants.{TooDeep as DeepTerm, Memory as NoTerm}
+use Rattle.pc_terms.specs.declared.term.MakeFault.TheVariants.{TooDeep as DeepTerm}
 use Rattle.pc_terms.specs.Syntax.{Term}
 use Rattle.pc_rules.specs.declared.broken.Broken.{Broken}
 use Rattle.pc_rules.specs.declared.broken.Broken.TheVariants.{UnknownName, BadNumber}
 use Rattle.pc_rules.specs.declared.declaration.Constructor.{Constructor}
-use Rattle.pc_rules.specs.declared.declaration.Family.{Family}
 use Rattle.pc_rules.specs.declared.declaration.Block.{Block}
 use Rattle.pc_rules.specs.declared.meter.Account.{Account}
-use Rattle.pc_rules.specs.declared.stop.Stop.TheVariants.{Spent, TooDeep, Memory}
+use Rattle.pc_rules.specs.declared.stop.Stop.TheVariants.{Memory}
 use Rattle.pc_rules.specs.declared.stop.Halt.{Halt}
 use Rattle.pc_rules.specs.declared.stop.Halt.TheVariants.{Stop, Broken as Refusal}
-use Rattle.pc_rules.specs.Environment.{Env, FamilyDecl, with_parameters, family_at}
+use Rattle.pc_rules.specs.Environment.{Env, FamilyDecl, family_at}
 use Rattle.pc_rules.specs.Instances.{family_type, constructor_type}
 use Rattle.pc_rules.specs.Stops.{stop_of}
 use Rattle.pc_rules.specs.Follows.{Answers, Halts}
-use Rattle.pc_rules.specs.DirectedRun.{Run, Refused, is_beyond, make}
+use Rattle.pc_rules.specs.DirectedRun.{Run, Refused, is_beyond}
 use Rattle.pc_rules.specs.DirectedWeakHead.{kept_at, known_block, whole_block}
-use Rattle.pc_rules.specs.DirectedTyping.{family_number, constructor_number, ind_rule, construct_rule}
-use Rattle.type_infer.proofs.Finding.{bind_done, bind_refused, halts_first, answers_made, beyond_fault}
+use Rattle.pc_rules.specs.DirectedTyping.{family_number, ind_rule, construct_rule}
+use Rattle.type_infer.proofs.Finding.{bind_refused, halts_first, answers_made, beyond_fault}
+use Rattle.pc_rules.proofs.Following.{bind_done}
 
 -- a refusal, or want of memory
 pub halts_either : {A : Type 0} (d : Run A) (b : Broken) (h : Halt) (u : Account) → d.end ≡ Refused b u → (h ≡ Refusal b) ⊎ (h ≡ Stop Memory) → Halts d h u

@@ -1,6 +1,5 @@
 -- The types of entries, lifted; the levels of sorts.
-use Rattle.std.proofs.Common.{◌≡◌, ◌≢◌, ℕ, zero, suc, ◌+◌, ◌<◌, ◌≤◌, ◌^◌, ◌||◌, nat_le, Bool, true, false, IsTrue, Any, ◌↔◌, if◌then◌else◌, List, [], ◌∷◌, length, drop, get_or, Option, Some, None, Result, Ok, Err, refl, sym, ap, ◌∙◌, subst, add-one, arith, slice_get}
-use mathlib.Core.Path.{fun_ext}
+use Rattle.std.proofs.Common.{◌≡◌, ◌≢◌, ℕ, zero, suc, ◌+◌, ◌<◌, ◌≤◌, ◌^◌, nat_le, Bool, true, false, IsTrue, if◌then◌else◌, List, [], ◌∷◌, length, drop, get_or, Option, Some, None, Ok, Err, refl, sym, ap, ◌∙◌, subst, add-one, arith, slice_get}
 use Rattle.std.proofs.lemmas.Bool.{le-leb, leb-true}
 use Rattle.std.proofs.lemmas.List.{drop_all}
 use Rattle.std.proofs.Math.Seq.{drop-cons}
@@ -13,37 +12,24 @@ use Rattle.universe_levels.specs.declared.universe.UniverseFault.TheVariants.{To
 use Rattle.universe_levels.specs.Sorts.{super_sort, PassesLimit}
 use Rattle.trees.specs.Measures.{IsBeyond}
 use Rattle.trees.specs.Substitution.{lift}
-use Rattle.trees.proofs.Fusion.{rename-rename}
 use Rattle.trees.proofs.Cutoffs.{lift-shift}
 use Rattle.pc_terms.specs.declared.term.MakeFault.{MakeFault}
-use Rattle.pc_terms.specs.declared.term.MakeFault.TheVariants.{TooDeep as DeepTerm, Memory as NoTerm}
-use Rattle.pc_terms.specs.Syntax.{Term, SortT, rename, shift}
+use Rattle.pc_terms.specs.declared.term.MakeFault.TheVariants.{TooDeep as DeepTerm}
+use Rattle.pc_terms.specs.Syntax.{Term, SortT, shift}
 use Rattle.pc_rules.specs.declared.broken.Broken.TheVariants.{UnboundRel, LevelUndeclared}
 use Rattle.pc_rules.specs.declared.entry.Entry.{Entry}
 use Rattle.pc_rules.specs.declared.meter.Account.{Account}
-use Rattle.pc_rules.specs.declared.stop.Halt.{Halt}
 use Rattle.pc_rules.specs.declared.stop.Halt.TheVariants.{Stop, Broken as Refusal}
 use Rattle.pc_rules.specs.Environment.{Env}
 use Rattle.pc_rules.specs.Context.{Context, type_of, lifted, type_at}
 use Rattle.pc_rules.specs.Stops.{stop_of, universe_stop}
 use Rattle.pc_rules.specs.Follows.{Answers}
-use Rattle.pc_rules.specs.DirectedRun.{made, make}
-use Rattle.pc_rules.specs.DirectedTyping.{first_undeclared, undeclared_in, passes_limit, raises_past, levels_declared, sort_rule, rel_rule}
-use Rattle.pc_rules.proofs.Following.{or_left, or_right, beyond_is}
-use Rattle.rule_laws.proofs.Runs.{false_true}
-use Rattle.type_infer.proofs.Finding.{bind_done, bind_refused, answers_made, answers_fault}
-
-suc_sum : (k i : ℕ) → suc (k + i) ≡ (k + 1) + i
-suc_sum k i = omega arith
-
-once : (t : Term) → rename suc t ≡ shift 1 0 t
-once t = ap (λ r. rename r t) (fun_ext one_sum)
-  where
-    one_sum : (i : ℕ) → suc i ≡ 1 + i
-    one_sum i = omega arith
-
-once_more : (k : ℕ) (t : Term) → rename suc (shift k 0 t) ≡ shift (k + 1) 0 t
-once_more k t = rename-rename t (λ i. k + i) suc ∙ ap (λ r. rename r t) (fun_ext (suc_sum k))
+use Rattle.pc_rules.specs.DirectedRun.{made}
+use Rattle.pc_rules.specs.DirectedTyping.{first_undeclared, undeclared_in, passes_limit, raises_past, sort_rule, rel_rule}
+use Rattle.pc_rules.proofs.Following.{or_left, or_right, answers_fault, bind_done}
+use Rattle.type_infer.proofs.Finding.{bind_refused, answers_made}
+use Rattle.pc_rules.proofs.Shifts.{once, once_more}
+use Rattle.pc_rules.proofs.SameTrees.{false_true}
 
 abbrev shifted : ℕ → Option Entry → Option Term
 shifted n None = None

@@ -1,5 +1,5 @@
 -- Answers of the parts of rules, by what is found.
-use Rattle.std.proofs.Common.{◌≡◌, ℕ, ◌||◌, ◌↔◌, Bool, true, false, Result, Ok, Err, IfOk, IsTrue, refl, sym, ap, subst as transport}
+use Rattle.std.proofs.Common.{◌≡◌, true, false, Result, Ok, Err, IfOk, IsTrue, refl, sym, ap, subst as transport}
 use Rattle.universe_levels.specs.declared.sort.Sort.{Sort}
 use Rattle.trees.specs.Measures.{IsBeyond}
 use Rattle.trees.proofs.Cutoffs.{subst-substitute}
@@ -20,12 +20,7 @@ use Rattle.pc_rules.specs.Follows.{Follows, Answers, Halts}
 use Rattle.pc_rules.specs.DirectedRun.{Run, Done, is_beyond, bind, end_then, done, refused, make}
 use Rattle.pc_rules.specs.DirectedComparison.{Comparison}
 use Rattle.pc_rules.specs.DirectedTyping.{Typing, conv, sort_found, check, retype, app_found}
-use Rattle.pc_rules.proofs.SameTrees.{same_is, same_itself}
-use Rattle.pc_rules.proofs.Following.{or_left, beyond_is, follows_done, follows_then, follows_else}
-
-pub bind_done : {A B : Type 0} (a : A) (u : Account) (k : A → Account → Run B) → bind (done a u) k ≡ k a u
-unfolding bind
-bind_done a u k = refl
+use Rattle.pc_rules.proofs.Following.{or_left, follows_done, follows_then, follows_else}
 
 pub bind_refused : {A B : Type 0} (b : Broken) (u : Account) (k : A → Account → Run B) → bind (refused b u) k ≡ refused b u
 unfolding bind
@@ -47,9 +42,6 @@ pub beyond_fault : (t : Term) (f : MakeFault) (u : Account) → (f ≡ DeepTerm 
 beyond_fault t DeepTerm u h = h refl
 beyond_fault t NoTerm u h = tt
 
-pub answers_fault : (t : Term) (f : MakeFault) (u : Account) → (f ≡ DeepTerm → IsBeyond t) → Answers (make t u) (Err (Stop (stop_of f))) u
-answers_fault t f u h = beyond_fault t f u (λ e. beyond_is t (h e))
-
 -- a result by an equation
 pub follows_is : {A : Type 0} (a b : A) (m : Meter) → a ≡ b → Follows (done b m.account) (Ok a) m m
 follows_is a b m e = rw e (follows_done b m)
@@ -57,21 +49,6 @@ follows_is a b m e = rw e (follows_done b m)
 pub if_ok : {T E : Type 0} (P : Type 0) (r : Result T E) → P → IfOk r (λ _. P)
 if_ok P (Ok x) h = h
 if_ok P (Err e) h = tt
-
--- the test of sameness by any test that decides it
-
-pub same_yes : (a b : Term) (r : Bool) → (IsTrue r ↔ (a ≡ b)) → r ≡ true → same a b ≡ true
-same_yes a b r h e = let p : a ≡ b = h.0 e in rw p (same_itself b)
-
-not_true : (b : Bool) → (b ≡ true → ⊥) → b ≡ false
-not_true true h = absurd (h refl)
-not_true false h = refl
-
-no_both : (r : Bool) → r ≡ false → r ≡ true → ⊥
-no_both r e k = cc
-
-pub same_no : (a b : Term) (r : Bool) → (IsTrue r ↔ (a ≡ b)) → r ≡ false → same a b ≡ false
-same_no a b r h e = not_true (same a b) (λ q. no_both r e (h.1 (same_is a b q)))
 
 -- an argument put in
 pub put_beyond : (a B : Term) (f : MakeFault) → (f ≡ DeepTerm → IsBeyond (subst 0 a B)) → f ≡ DeepTerm → IsBeyond (substitute (put a) B)

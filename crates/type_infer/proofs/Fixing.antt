@@ -6,7 +6,7 @@ use Rattle.universe_levels.specs.declared.sort.Sort.{Sort}
 use Rattle.trees.specs.Measures.{IsBeyond}
 use Rattle.trees.specs.Substitution.{lift}
 use Rattle.trees.proofs.Cutoffs.{lift-shift}
-use Rattle.pc_terms.specs.Syntax.{Term, Terms, Lambda, head, shift, term_at}
+use Rattle.pc_terms.specs.Syntax.{Term, Lambda, head, shift, term_at}
 use Rattle.pc_terms.specs.Lists.{rargs_of, types_of, bodies_of}
 use Rattle.pc_terms.specs.declared.term.Def.{Def}
 use Rattle.pc_terms.specs.declared.term.MakeFault.{MakeFault}
@@ -23,20 +23,17 @@ use Rattle.pc_rules.specs.Context.{Context, values}
 use Rattle.pc_rules.specs.Instances.{definitions}
 use Rattle.pc_rules.specs.Stops.{stop_of}
 use Rattle.pc_rules.specs.Follows.{Follows, Answers}
-use Rattle.pc_rules.specs.DirectedRun.{Run, Done, make, done, bind, refused}
+use Rattle.pc_rules.specs.DirectedRun.{Run, make, bind}
 use Rattle.pc_rules.specs.DirectedWeakHead.{whnf}
 use Rattle.pc_rules.specs.DirectedComparison.{Comparison, list_of}
 use Rattle.pc_rules.specs.DirectedTyping.{Typing, sort_of, check, types_rule, recursive_domain, is_a_family, family_found, definition_rule, definitions_rule, definition_type}
 use Rattle.pc_rules.proofs.Following.{follows_bind, follows_err, follows_made, follows_fault, follows_done, follows_refused, follows_then, follows_else}
 use Rattle.type_infer.proofs.Declaring.{halts_either}
+use Rattle.pc_terms.proofs.Parts.{rargs_length}
 
 -- item i and those after it
 pub next_is : {A : Type 0} (xs : List A) (i : ℕ) (a : A) → i < length xs → a ≡ get_or xs i a → drop i xs ≡ a ∷ drop (suc i) xs
 next_is xs i a h e = rw (drop-cons xs i a h, ← e) refl
-
-pub rargs_long : (ds : List Def) → length (rargs_of ds) ≡ length ds
-rargs_long [] = refl
-rargs_long (d ∷ ds) = ap suc (rargs_long ds)
 
 -- the types
 
@@ -176,7 +173,7 @@ module _ (ds : List Def) (i : ℕ) (u : Account) where
 
   pub no_definition : (h : Halt) → slice_get ds i ≡ None → (h ≡ Refusal (BadNumber i (length ds))) ⊎ (h ≡ Stop Memory) →
       Answers (definition_type i (length (rargs_of ds)) (term_at (types_of ds) i) u) (Err h) u
-  no_definition h e p = rw (type_at_place ds i e, rargs_long ds) (halts_either _ _ h u refl p)
+  no_definition h e p = rw (type_at_place ds i e, rargs_length ds) (halts_either _ _ h u refl p)
 
 -- the domain of a later lambda
 pub later_domain : (c : Context) (r : ℕ) (A b t : Term) → Lambda A b ≡ t → 0 < r → recursive_domain c r t ≡ recursive_domain (Assumed A ∷ c) (r - 1) b

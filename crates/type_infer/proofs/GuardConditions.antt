@@ -1,5 +1,5 @@
 -- What the guard of a fixpoint is asked for, once its types and its definitions have been judged.
-use Rattle.std.proofs.Common.{◌≡◌, ◌∙◌, sym, ap, refl, ℕ, zero, suc, ◌+◌, ◌<◌, Bool, true, List, [], ◌∷◌, length, Option, Some, None, Ok, arith, subst as transport}
+use Rattle.std.proofs.Common.{◌≡◌, ◌∙◌, sym, ap, refl, ℕ, zero, suc, ◌<◌, List, [], ◌∷◌, length, Some, Ok, arith, subst as transport}
 use Rattle.pc_terms.specs.declared.leaf.FamilyId.{FamilyId}
 use Rattle.pc_terms.specs.Formed.{binders_of, AreAll, IsFormed}
 use Rattle.pc_terms.specs.Syntax.{Term, Terms, Done, Next, Lambda, Ind, Fix, apply, head, args, number, term_at, shift}
@@ -26,10 +26,10 @@ use Rattle.pc_rules.proofs.Bare.{bare_sorts, bare_bodies}
 use Rattle.pc_rules.proofs.FairReduction.{steps_lead}
 use Rattle.pc_rules.proofs.Spines.{head-apply, one_item}
 use Rattle.pc_rules.proofs.WeakNext.{spine_is, none_some}
-use Rattle.rule_laws.proofs.Runs.{bind_both, make_then, tested, refused_done, done_value, false_true}
+use Rattle.rule_laws.proofs.Runs.{bind_both, make_then, tested}
 use Rattle.rule_laws.proofs.Comparing.{names_long, compare_sound}
 use Rattle.rule_laws.proofs.KeepCounts.{assumed_under}
-use Rattle.rule_laws.proofs.FixRule.{types_sound, bodies_sound}
+use Rattle.rule_laws.proofs.FixRule.{types_sound, bodies_sound, enough, a_family}
 use Rattle.rule_laws.proofs.Inferring.{infer_sound}
 use Rattle.rule_laws.proofs.TypedLambdas.{typed_lambdas}
 use Rattle.type_infer.specs.Ready.{IsReady}
@@ -58,14 +58,6 @@ no_step_at f e (in_argument i rarg rargs types bodies before p r l q) =
     cc
 
 -- the domain of the recursive argument
-
-a_family : (t : Term) → is_a_family t ≡ true → (f : FamilyId) × (t ≡ Ind f)
-a_family (Ind f) h = (f, refl)
-a_family t h = false_true h
-
-enough : (d : ℕ) (o : Option (Context × Term)) (p : Context × Term) (u v : Account) → (enough_abstractions d o u).end ≡ run.Done p v → o ≡ Some p
-enough d None p u v h = absurd (refused_done h)
-enough d (Some q) p u v h = ap Some (done_value h)
 
 domain_is : (E : Env) (c : Context) (r : ℕ) (t : Term) (p : Context × Term) (f : FamilyId) (xs : List Term) → recursive_domain c r t ≡ Some p →
     IsWhnf E (values p.0) p.1 (apply (Ind f) xs) → DomainIsFamily E (values c) r t

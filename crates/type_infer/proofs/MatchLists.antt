@@ -1,7 +1,5 @@
 -- The lists of a match and of its family, from one item on.
-use Rattle.std.proofs.Common.{◌≡◌, ◌∙◌, sym, ap, refl, ℕ, zero, suc, ◌<◌, ◌≤◌, ◌+◌, min, ◌⊎◌, inl, inr, Result, Ok, Err, true, false, List, [], ◌∷◌, ◌++◌, length, drop, take, get_or, add-one, append_assoc, subst, arith}
-use Rattle.std.proofs.Math.Seq.{drop-cons}
-use Rattle.std.proofs.lemmas.List.{drop_all, take_more}
+use Rattle.std.proofs.Common.{◌≡◌, ◌∙◌, sym, ap, refl, ℕ, suc, ◌<◌, ◌≤◌, ◌+◌, min, ◌⊎◌, inl, inr, Result, Ok, Err, true, false, List, [], ◌∷◌, ◌++◌, length, drop, get_or, append_assoc, subst}
 use Rattle.universe_levels.specs.declared.level.LevelExpr.{LevelExpr}
 use Rattle.universe_levels.specs.declared.sort.Sort.{Sort}
 use Rattle.universe_levels.specs.declared.sort.Sort.TheVariants.{Prop, Of}
@@ -21,24 +19,7 @@ use Rattle.pc_rules.specs.DirectedTyping.{counted, names_counted, match_counted,
 use Rattle.pc_rules.specs.Follows.{Answers, Halts}
 use Rattle.type_infer.proofs.Finding.{halts_first}
 use Rattle.type_infer.proofs.Answering.{answers_bind}
-
--- item i and those after it
-pub next_is : {A : Type 0} (xs : List A) (i : ℕ) (a : A) → i < length xs → a ≡ get_or xs i a → drop i xs ≡ a ∷ drop (i + 1) xs
-next_is xs i a h e = rw (add-one, drop-cons xs i a h, ← e) refl
-
-pub none_left : {A : Type 0} (xs : List A) (i : ℕ) → length xs ≤ i → drop i xs ≡ []
-none_left xs i h = drop_all i xs h
-
--- the least of two numbers is one of them
-sucs : {a b i : ℕ} → (a ≤ i) ⊎ (b ≤ i) → (suc a ≤ suc i) ⊎ (suc b ≤ suc i)
-sucs (inl h) = inl (omega arith)
-sucs (inr h) = inr (omega arith)
-
-pub min_either : (a b i : ℕ) → min a b ≤ i → (a ≤ i) ⊎ (b ≤ i)
-min_either zero b i h = inl (omega arith)
-min_either (suc a) zero i h = inr (omega arith)
-min_either (suc a) (suc b) zero h = absurd (omega (arith, h))
-min_either (suc a) (suc b) (suc i) h = sucs (min_either a b i (omega (arith, h)))
+use Rattle.pc_rules.proofs.ListSteps.{next_is, none_left, min_either}
 
 -- the variables of branches
 
@@ -140,7 +121,3 @@ module _ (F : FamilyDecl) (n : ℕ) (ps : List Term) (bs : List Branch) (u : Acc
       pub names_go : (r : Result (Unit {0}) Halt) → Answers (counted (length F.constructors) (length bs) u) (Ok tt) u →
           Answers (names_counted F.constructors (binders_of (arms_of bs)) u) r u → Answers (match_counted F (terms_of ps) n (arms_of bs) u) r u
       names_go r k h = indices_go r (answers_bind (counted (length F.constructors) (length bs) u) (λ _ v. names_left v) tt u r k h)
-
--- the items before one, and it
-pub take_next : {A : Type 0} (xs : List A) (i : ℕ) (a : A) → i < length xs → a ≡ get_or xs i a → take (i + 1) xs ≡ take i xs ++ (a ∷ [])
-take_next xs i a h e = take_more xs i a h ∙ ap (λ y. take i xs ++ (y ∷ [])) (sym e)

@@ -1,5 +1,5 @@
 -- How the parts of rule 10 are put together.
-use Rattle.std.proofs.Common.{◌≡◌, ◌∙◌, ◌⊎◌, inl, inr, sym, ap, refl, ℕ, zero, suc, ◌<◌, ◌≤◌, ◌+◌, min, ◌||◌, ◌++◌, Result, Ok, Err, IsTrue, Bool, true, false, List, [], ◌∷◌, length, drop, get_or, Option, Some, subst, arith}
+use Rattle.std.proofs.Common.{◌≡◌, ◌∙◌, ◌⊎◌, inl, inr, sym, ap, refl, ℕ, suc, ◌<◌, ◌≤◌, ◌+◌, min, ◌||◌, ◌++◌, Result, Ok, Err, IsTrue, Bool, true, false, List, [], ◌∷◌, length, drop, get_or, Option, Some, subst, arith}
 use Rattle.universe_levels.specs.declared.sort.Sort.{Sort}
 use Rattle.trees.specs.Tree.{terms_of}
 use Rattle.trees.specs.Measures.{IsBeyond}
@@ -29,15 +29,15 @@ use Rattle.pc_rules.specs.DirectedTyping.{Typing, sort_of, check, sorts_of, chec
 use Rattle.pc_rules.specs.WeakHead.{WeakSteps}
 use Rattle.pc_rules.specs.Follows.{Follows, Answers, Halts}
 use Rattle.pc_rules.specs.WellCounted.{IsCounted, AreCounted}
-use Rattle.pc_rules.proofs.Following.{follows_bind, follows_err, follows_done, follows_memory, follows_deep, follows_passing, follows_still, follows_fault}
+use Rattle.pc_rules.proofs.Following.{follows_bind, follows_err, follows_done, follows_memory, follows_deep, follows_passing, follows_still, follows_fault, bind_done}
 use Rattle.rule_laws.specs.Inference.{IsInferred}
 use Rattle.rule_laws.proofs.Counted.{apply_counted, appended_counted, args_counted}
 use Rattle.rule_laws.proofs.CountedParts.{ind_counted}
 use Rattle.rule_laws.proofs.KeepCounts.{values_counted, steps_counted}
 use Rattle.type_infer.specs.Ready.{IsReady}
 use Rattle.type_infer.specs.Entering.{entries_entered}
-use Rattle.type_infer.proofs.Finding.{bind_done}
-use Rattle.type_infer.proofs.MatchLists.{next_is, none_left, min_either}
+use Rattle.pc_rules.proofs.ListSteps.{next_is, none_left, min_either, listed}
+use Rattle.rule_laws.proofs.MatchRule.{dropped_counted}
 
 -- runs, one after the other
 
@@ -180,11 +180,6 @@ module _ (E : Env) (inf : Typing) (cmp : Comparison) (c : Context) (ts As : List
 
 -- the types of a scrutinee
 
-pub dropped_counted : (E : Env) (n : ℕ) (xs : List Term) → AreCounted E xs → AreCounted E (drop n xs)
-dropped_counted E zero xs h = h
-dropped_counted E (suc n) [] h = tt
-dropped_counted E (suc n) (x ∷ xs) h = dropped_counted E n xs h.1
-
 -- the weak-head normal form of the type that a term has
 pub whnf_is_counted : (E : Env) (c : Context) (t T W : Term) → IsReady E c → IsInferred E c t T → WeakSteps E (values c) T W → IsCounted E W
 whnf_is_counted E c t T W h i s = steps_counted E h.env.declarations (values_counted E c h.context) s i.classifier
@@ -235,11 +230,6 @@ module _ (E : Env) (inf : Typing) (cmp : Comparison) (c : Context) (f : FamilyId
   pub branches_end : (i : ℕ) (m : Meter) → min (length Cs) (length bs) ≤ i → Follows (branches_from i m.account) (Ok tt) m m
   branches_end i m h =
       subst (λ x. Follows x (Ok tt) m m) (sym (branches_short i m.account (min_either (length Cs) (length bs) i h))) (follows_done tt m)
-
--- terms without their numbers of variables
-listed : (ts : List Term) → list_of (terms_of ts) ≡ ts
-listed [] = refl
-listed (t ∷ ts) = ap (◌∷◌ t) (listed ts)
 
 -- the whole rule, by the block that is kept and the lists of the match
 module _ (E : Env) (inf : Typing) (cmp : Comparison) (c : Context) (f : FamilyId) (ps : List Term) (n : ℕ) (ret t : Term) (bs : List Branch) where

@@ -1,9 +1,8 @@
-//! Inference over booleans and a constant: types, refusals, the units that are left and the uses of rules. Reduction, comparison and the
+//! Inference over booleans and a constant: types, refusals, the units that are left and the uses of a rule. Reduction, comparison and the
 //! guard stand in crates of their own: here a reducer knows the terms without a step by their former, and all else gives up.
 ghost use Rattle.std.specs.Prelude.{◌≡◌, ℕ, ◌≤◌, [], ◌∷◌, IfOk, IsTrue, None};
 ghost use Rattle.pc_terms.specs.declared.leaf.FamilyId.{FamilyId};
-ghost use Rattle.pc_terms.specs.Syntax.{HasIndex, Ind, head};
-ghost use Rattle.pc_terms.specs.View.{tree_of};
+ghost use Rattle.pc_terms.specs.Syntax.{Ind, head};
 ghost use Rattle.universe_levels.specs.Consistency.{IsSortOver};
 ghost use Rattle.pc_rules.specs.Context.{Values};
 ghost use Rattle.pc_rules.specs.DirectedWeakHead.{weak_next};
@@ -230,20 +229,69 @@ fn environment(alloc: Global) -> Result<Env, Fail>
     Ok(env)
 }
 
-/// Terms to infer a type of, and types.
+fn variable(alloc: Global, i: u32) -> Result<Term, Fail> {
+    let variable = Term::make(alloc, Node::Rel(i))?;
+    Ok(variable)
+}
+
+fn constant(alloc: Global, name: Name) -> Result<Term, Fail> {
+    let constant = Term::make(alloc, Node::Const(name))?;
+    Ok(constant)
+}
+
+/// `Type` of a level, as a term.
+fn type_of_level(alloc: Global, level: u32) -> Result<Term, Fail> {
+    let sort = Term::make(alloc, Node::Sort(types(alloc, level)?))?;
+    Ok(sort)
+}
+
+/// The product of booleans and booleans.
+fn products(alloc: Global) -> Result<Term, Fail> {
+    let products = Term::make(alloc, Node::Prod(bool_type(alloc)?, bool_type(alloc)?))?;
+    Ok(products)
+}
+
+/// The function from a domain that gives its argument.
+fn identity(alloc: Global, domain: Term) -> Result<Term, Fail> {
+    let identity = Term::make(alloc, Node::Lambda(domain, variable(alloc, 0)?))?;
+    Ok(identity)
+}
+
+/// A boolean named in its own body.
+fn named(alloc: Global) -> Result<Term, Fail> {
+    let named = Node::LetIn(boolean(alloc, 1)?, bool_type(alloc)?, boolean(alloc, 0)?);
+    let term = Term::make(alloc, named)?;
+    Ok(term)
+}
+
+/// A term at a boolean.
+fn at_a_boolean(alloc: Global, function: Term) -> Result<Term, Fail> {
+    let applied = Term::make(alloc, Node::App(function, boolean(alloc, 1)?))?;
+    Ok(applied)
+}
+
+/// The fixpoint of one definition, whose recursive argument is its first: functions from a domain to booleans, with this body.
+fn fixpoint(alloc: Global, domain: Term, body: Term) -> Result<Term, Fail> {
+    let ty = Term::make(alloc, Node::Prod(domain, bool_type(alloc)?))?;
+    let mut defs = Defs::new(alloc);
+    defs.push(Def { ty, body, rarg: 0 })?;
+    let fixpoint = Term::make(alloc, Node::Fix(defs, 0))?;
+    Ok(fixpoint)
+}
+
+/// A fixpoint that recurses on an argument in `Set`.
+fn fixpoint_over_a_sort(alloc: Global) -> Result<Term, Fail> {
+    let set = type_of_level(alloc, 0)?;
+    let body = Term::make(alloc, Node::Lambda(set.share()?, boolean(alloc, 1)?))?;
+    fixpoint(alloc, set, body)
+}
+
+/// Terms to infer a type of.
 #[derive(Clone, Copy)]
 enum Shape {
-    Prop,
-    Set,
     /// `Type` of a level that is not declared.
     Undeclared,
-    /// The sort of `Prop`.
-    AboveProp,
-    /// Variable 0, or variable 1.
     Variable(u32),
-    Booleans,
-    /// The family of this number.
-    Family(u32),
     /// The constructor of this number.
     Boolean(u32),
     Chosen,
@@ -257,8 +305,6 @@ enum Shape {
     BadDomain,
     /// A boolean named in its own body.
     Named,
-    /// `Named`'s type: a boolean named in the type of booleans.
-    NamedType,
     /// The function `Same` at a boolean.
     Applied,
     /// A boolean at a boolean.
@@ -269,115 +315,83 @@ enum Shape {
     NoFamily,
 }
 
-fn node(alloc: Global, shape: Shape) -> Result<Node, Fail>
-    ensures indexed { IfOk result (λ n. HasIndex (tree_of n)) }
-{
-    let node = match shape {
-        Shape::Prop => Node::Sort(Sort::Prop),
-        Shape::Set => Node::Sort(types(alloc, 0)?),
-        Shape::Undeclared => Node::Sort(types(alloc, 1)?),
-        Shape::AboveProp => Node::Sort(Sort::Prop.super_of(alloc).map_err(|_| AllocError)?),
-        Shape::Variable(i) => Node::Rel(i),
-        Shape::Booleans => Node::Ind(bool_family()),
-        Shape::Family(family) => Node::Ind(FamilyId {
-            block: BOOL,
-            family,
-        }),
-        Shape::Boolean(c) => Node::Construct(bool_family(), c),
-        Shape::Chosen => Node::Const(CHOSEN),
-        Shape::Lost => Node::Const(Name(9)),
-        Shape::Products => Node::Prod(bool_type(alloc)?, bool_type(alloc)?),
-        Shape::Same => Node::Lambda(bool_type(alloc)?, variable(alloc)?),
-        Shape::BadDomain => Node::Lambda(boolean(alloc, 1)?, variable(alloc)?),
-        Shape::Named => Node::LetIn(boolean(alloc, 1)?, bool_type(alloc)?, variable(alloc)?),
-        Shape::NamedType => Node::LetIn(boolean(alloc, 1)?, bool_type(alloc)?, bool_type(alloc)?),
-        Shape::Applied => {
-            let function = Term::make(alloc, Node::Lambda(bool_type(alloc)?, variable(alloc)?))?;
-            Node::App(function, boolean(alloc, 1)?)
-        }
-        _ => Node::App(boolean(alloc, 1)?, boolean(alloc, 1)?),
-    };
-    Ok(node)
-}
-
-fn variable(alloc: Global) -> Result<Term, Fail> {
-    let variable = Term::make(alloc, Node::Rel(0))?;
-    Ok(variable)
-}
-
-/// The fixpoint of one definition, whose recursive argument is its first.
-fn fixpoint(alloc: Global, ty: Term, body: Term) -> Result<Term, Fail> {
-    let mut defs = Defs::new(alloc);
-    defs.push(Def { ty, body, rarg: 0 })?;
-    let fixpoint = Term::make(alloc, Node::Fix(defs, 0))?;
-    Ok(fixpoint)
-}
-
-fn set_type(alloc: Global) -> Result<Term, Fail> {
-    let set = Term::make(alloc, Node::Sort(types(alloc, 0)?))?;
-    Ok(set)
-}
-
 fn term(alloc: Global, shape: Shape) -> Result<Term, Fail> {
     match shape {
-        Shape::FewLambdas => {
-            let ty = Term::make(alloc, Node::Prod(bool_type(alloc)?, bool_type(alloc)?))?;
-            fixpoint(alloc, ty, boolean(alloc, 1)?)
-        }
-        Shape::NoFamily => {
-            let ty = Term::make(alloc, Node::Prod(set_type(alloc)?, bool_type(alloc)?))?;
-            let body = Term::make(alloc, Node::Lambda(set_type(alloc)?, boolean(alloc, 1)?))?;
-            fixpoint(alloc, ty, body)
-        }
-        other => {
-            let term = Term::make(alloc, node(alloc, other)?)?;
-            Ok(term)
-        }
+        Shape::Undeclared => type_of_level(alloc, 1),
+        Shape::Variable(i) => variable(alloc, i),
+        Shape::Boolean(c) => boolean(alloc, c),
+        Shape::Chosen => constant(alloc, CHOSEN),
+        Shape::Lost => constant(alloc, Name(9)),
+        Shape::Products => products(alloc),
+        Shape::Same => identity(alloc, bool_type(alloc)?),
+        Shape::BadDomain => identity(alloc, boolean(alloc, 1)?),
+        Shape::Named => named(alloc),
+        Shape::Applied => at_a_boolean(alloc, identity(alloc, bool_type(alloc)?)?),
+        Shape::BadFunction => at_a_boolean(alloc, boolean(alloc, 1)?),
+        Shape::FewLambdas => fixpoint(alloc, bool_type(alloc)?, boolean(alloc, 1)?),
+        Shape::NoFamily => fixpoint_over_a_sort(alloc),
     }
 }
 
-/// How an inference ends: with a type, or with a term that a refusal keeps.
-#[derive(Clone, Copy)]
-enum End {
-    Type(Shape),
-    NotASort(Shape),
-    NotAProduct(Shape),
-    NoFamily(Shape),
-    FewLambdas,
-    Unbound,
-    UnknownName,
-    BadNumber,
-    LevelUndeclared,
+/// How an inference ends.
+#[derive(Clone, Copy, Debug, PartialEq, Eq)]
+enum Seen {
+    /// With the type of booleans.
+    Booleans,
+    /// With the product of booleans and booleans.
+    Products,
+    /// With `Set`.
+    Set,
+    /// With another type.
+    Type,
+    Unbound(u32, u32),
+    UnknownName(u32),
+    BadNumber(u32, u32),
+    Undeclared(u32),
+    NotASort,
+    NotAProduct,
+    FewLambdas(u32),
+    NoFamily,
     Spent,
+    Other,
 }
 
-/// Whether an inference ends so.
-fn ends(alloc: Global, answer: &Result<Term, Halt>, end: End) -> Result<bool, Fail> {
-    let Err(halt) = answer else {
-        return match (answer, end) {
-            (Ok(ty), End::Type(shape)) => Ok(ty.same(&term(alloc, shape)?)),
-            _ => Ok(false),
-        };
-    };
-    let Halt::Broken(broken) = halt else {
-        return Ok(matches!((halt, end), (Halt::Stop(Stop::Spent), End::Spent)));
-    };
-    let is = match (broken, end) {
-        (Broken::NotASort { whnf }, End::NotASort(shape)) => whnf.same(&term(alloc, shape)?),
-        (Broken::NotAProduct { whnf }, End::NotAProduct(shape)) => {
-            whnf.same(&term(alloc, shape)?)
-        }
-        (Broken::RecArgNotInductive { whnf }, End::NoFamily(shape)) => {
-            whnf.same(&term(alloc, shape)?)
-        }
-        (Broken::NotEnoughAbstractions { def }, End::FewLambdas) => *def == 0,
-        (Broken::UnboundRel { index, length }, End::Unbound) => *index == 1 && *length == 1,
-        (Broken::UnknownName { name }, End::UnknownName) => *name == Name(9),
-        (Broken::BadNumber { number, count: _ }, End::BadNumber) => *number == 2,
-        (Broken::LevelUndeclared { level }, End::LevelUndeclared) => *level == Level(1),
-        _ => false,
-    };
-    Ok(is)
+fn type_seen(alloc: Global, ty: &Term) -> Result<Seen, Fail> {
+    if ty.same(&bool_type(alloc)?) {
+        return Ok(Seen::Booleans);
+    }
+    if ty.same(&products(alloc)?) {
+        return Ok(Seen::Products);
+    }
+    if ty.same(&type_of_level(alloc, 0)?) {
+        return Ok(Seen::Set);
+    }
+    Ok(Seen::Type)
+}
+
+fn refusal_seen(broken: &Broken) -> Seen {
+    match broken {
+        Broken::UnboundRel { index, length } => Seen::Unbound(*index, *length),
+        Broken::UnknownName { name } => Seen::UnknownName(name.0),
+        Broken::BadNumber { number, count } => Seen::BadNumber(*number, *count),
+        Broken::LevelUndeclared { level } => Seen::Undeclared(level.0),
+        Broken::NotASort { .. } => Seen::NotASort,
+        Broken::NotAProduct { .. } => Seen::NotAProduct,
+        Broken::NotEnoughAbstractions { def } => Seen::FewLambdas(*def),
+        Broken::RecArgNotInductive { .. } => Seen::NoFamily,
+        _ => Seen::Other,
+    }
+}
+
+fn end_of(alloc: Global, answer: &Result<Term, Halt>) -> Result<Seen, Fail> {
+    match answer {
+        Ok(ty) => type_seen(alloc, ty),
+        Err(halt) => match halt {
+            Halt::Broken(broken) => Ok(refusal_seen(broken)),
+            Halt::Stop(Stop::Spent) => Ok(Seen::Spent),
+            Halt::Stop(_) => Ok(Seen::Other),
+        },
+    }
 }
 
 /// The context of one boolean.
@@ -391,131 +405,72 @@ fn one_boolean(alloc: Global) -> Result<Ctx, Fail>
     }
 }
 
+/// What an inference ends with, the units that are left, and the uses of a rule.
+fn inferred<T: Typer + Drop>(
+    alloc: Global,
+    typer: T,
+    env: &Env,
+    ctx: &Ctx,
+    shape: Shape,
+    units: u64,
+    rule: u8,
+) -> Result<(Seen, u64, u64), Fail>
+    requires env { IsCountedEnv env.now }
+    requires ctx { IsCountedContext env.now ctx.now }
+{
+    let t = term(alloc, shape)?;
+    let mut m = Meter::new(units);
+    let answer = typer.infer(alloc, env, ctx, &t, &mut m);
+    let end = end_of(alloc, &answer)?;
+    Ok((end, m.left(), m.uses(rule)))
+}
+
 #[test]
-fn infers_by_each_rule(rt: HostRuntime) -> Result<(), Fail> {
+fn infers_types(rt: HostRuntime) -> Result<(), Fail> {
     let alloc = rt.alloc();
     let env = environment(alloc)?;
     let ctx = one_boolean(alloc)?;
-    let typer = Inference::new(Formers, GivesUp, GivesUp);
     let rows = [
-        (
-            Shape::Variable(0),
-            1,
-            End::Type(Shape::Booleans),
-            [1, 0, 0, 0, 0, 0, 0, 0, 0, 0, 0],
-        ),
-        (
-            Shape::Variable(1),
-            1,
-            End::Unbound,
-            [1, 0, 0, 0, 0, 0, 0, 0, 0, 0, 0],
-        ),
-        (
-            Shape::Prop,
-            1,
-            End::Type(Shape::AboveProp),
-            [0, 1, 0, 0, 0, 0, 0, 0, 0, 0, 0],
-        ),
-        (
-            Shape::Undeclared,
-            1,
-            End::LevelUndeclared,
-            [0, 1, 0, 0, 0, 0, 0, 0, 0, 0, 0],
-        ),
-        (
-            Shape::Products,
-            3,
-            End::Type(Shape::Set),
-            [0, 0, 1, 0, 0, 0, 0, 2, 0, 0, 0],
-        ),
-        (
-            Shape::Products,
-            2,
-            End::Spent,
-            [0, 0, 1, 0, 0, 0, 0, 1, 0, 0, 0],
-        ),
-        (
-            Shape::Same,
-            3,
-            End::Type(Shape::Products),
-            [1, 0, 0, 1, 0, 0, 0, 1, 0, 0, 0],
-        ),
-        (
-            Shape::BadDomain,
-            2,
-            End::NotASort(Shape::Booleans),
-            [0, 0, 0, 1, 0, 0, 0, 0, 1, 0, 0],
-        ),
-        (
-            Shape::Named,
-            4,
-            End::Type(Shape::NamedType),
-            [1, 0, 0, 0, 1, 0, 0, 1, 1, 0, 0],
-        ),
-        (
-            Shape::Applied,
-            5,
-            End::Type(Shape::Booleans),
-            [1, 0, 0, 1, 0, 1, 0, 1, 1, 0, 0],
-        ),
-        (
-            Shape::BadFunction,
-            2,
-            End::NotAProduct(Shape::Booleans),
-            [0, 0, 0, 0, 0, 1, 0, 0, 1, 0, 0],
-        ),
-        (
-            Shape::Chosen,
-            1,
-            End::Type(Shape::Booleans),
-            [0, 0, 0, 0, 0, 0, 1, 0, 0, 0, 0],
-        ),
-        (
-            Shape::Lost,
-            1,
-            End::UnknownName,
-            [0, 0, 0, 0, 0, 0, 1, 0, 0, 0, 0],
-        ),
-        (
-            Shape::Family(2),
-            1,
-            End::BadNumber,
-            [0, 0, 0, 0, 0, 0, 0, 1, 0, 0, 0],
-        ),
-        (
-            Shape::Boolean(1),
-            1,
-            End::Type(Shape::Booleans),
-            [0, 0, 0, 0, 0, 0, 0, 0, 1, 0, 0],
-        ),
-        (
-            Shape::Boolean(2),
-            1,
-            End::BadNumber,
-            [0, 0, 0, 0, 0, 0, 0, 0, 1, 0, 0],
-        ),
-        (
-            Shape::FewLambdas,
-            4,
-            End::FewLambdas,
-            [0, 0, 1, 0, 0, 0, 0, 2, 0, 0, 1],
-        ),
-        (
-            Shape::NoFamily,
-            7,
-            End::NoFamily(Shape::Set),
-            [0, 2, 1, 1, 0, 0, 0, 1, 1, 0, 1],
-        ),
+        (Shape::Variable(0), 1, Seen::Booleans, 1, 1),
+        (Shape::Products, 3, Seen::Set, 8, 2),
+        (Shape::Products, 2, Seen::Spent, 8, 1),
+        (Shape::Same, 3, Seen::Products, 4, 1),
+        (Shape::Named, 4, Seen::Type, 5, 1),
+        (Shape::Applied, 5, Seen::Booleans, 6, 1),
+        (Shape::Chosen, 1, Seen::Booleans, 7, 1),
+        (Shape::Boolean(1), 1, Seen::Booleans, 9, 1),
     ];
-    for (shape, units, end, uses) in rows {
-        let mut m = Meter::new(units);
-        let t = term(alloc, shape)?;
-        let answer = typer.infer(alloc, &env, &ctx, &t, &mut m);
-        assert!(rt; ends(alloc, &answer, end)?);
-        assert_eq!(rt; m.left(), 0);
-        for i in 0..11 {
-            assert_eq!(rt; m.account.uses[i], uses[i]);
-        }
+    for (shape, units, end, rule, uses) in rows {
+        let typer = Inference::new(Formers, GivesUp, GivesUp);
+        let answer = inferred(alloc, typer, &env, &ctx, shape, units, rule)?;
+        assert_eq!(rt; answer.0, end);
+        assert_eq!(rt; answer.1, 0);
+        assert_eq!(rt; answer.2, uses);
+    }
+    Ok(())
+}
+
+#[test]
+fn refuses_by_each_rule(rt: HostRuntime) -> Result<(), Fail> {
+    let alloc = rt.alloc();
+    let env = environment(alloc)?;
+    let ctx = one_boolean(alloc)?;
+    let rows = [
+        (Shape::Variable(1), 1, Seen::Unbound(1, 1), 1, 1),
+        (Shape::Undeclared, 1, Seen::Undeclared(1), 2, 1),
+        (Shape::Lost, 1, Seen::UnknownName(9), 7, 1),
+        (Shape::Boolean(2), 1, Seen::BadNumber(2, 2), 9, 1),
+        (Shape::BadDomain, 2, Seen::NotASort, 4, 1),
+        (Shape::BadFunction, 2, Seen::NotAProduct, 6, 1),
+        (Shape::FewLambdas, 4, Seen::FewLambdas(0), 11, 1),
+        (Shape::NoFamily, 7, Seen::NoFamily, 11, 1),
+    ];
+    for (shape, units, end, rule, uses) in rows {
+        let typer = Inference::new(Formers, GivesUp, GivesUp);
+        let answer = inferred(alloc, typer, &env, &ctx, shape, units, rule)?;
+        assert_eq!(rt; answer.0, end);
+        assert_eq!(rt; answer.1, 0);
+        assert_eq!(rt; answer.2, uses);
     }
     Ok(())
 }
@@ -528,24 +483,16 @@ fn checks_a_constant(rt: HostRuntime) -> Result<(), Fail> {
     let ctx = Ctx::new();
     let typer = Inference::new(Formers, GivesUp, GivesUp);
     let ty = bool_type(alloc)?;
-    for units in [2, 3] {
-        let mut m = Meter::new(units);
-        assert!(rt; typer.sort_of(alloc, &env, &ctx, &ty, &mut m).is_ok());
-        assert!(rt;
-            typer
-                .check(alloc, &env, &ctx, &boolean(alloc, 1)?, &ty, &mut m)
-                .is_ok()
-        );
-        let answer = typer.infer(alloc, &env, &ctx, &term(alloc, Shape::Chosen)?, &mut m);
-        let end = if units == 3 {
-            End::Type(Shape::Booleans)
-        } else {
-            End::Spent
-        };
-        assert!(rt; ends(alloc, &answer, end)?);
-        assert_eq!(rt; m.uses(8), 1);
-        assert_eq!(rt; m.uses(9), 1);
-        assert_eq!(rt; m.uses(7), units - 2);
-    }
+    let value = boolean(alloc, 1)?;
+    let chosen = constant(alloc, CHOSEN)?;
+    let mut m = Meter::new(3);
+    let sort = typer.sort_of(alloc, &env, &ctx, &ty, &mut m);
+    assert!(rt; sort.is_ok());
+    let checked = typer.check(alloc, &env, &ctx, &value, &ty, &mut m);
+    assert!(rt; checked.is_ok());
+    let answer = typer.infer(alloc, &env, &ctx, &chosen, &mut m);
+    assert_eq!(rt; end_of(alloc, &answer)?, Seen::Booleans);
+    assert_eq!(rt; [m.uses(7), m.uses(8), m.uses(9)], [1, 1, 1]);
+    assert_eq!(rt; m.left(), 0);
     Ok(())
 }

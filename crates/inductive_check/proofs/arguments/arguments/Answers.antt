@@ -6,8 +6,9 @@ use Rattle.pc_rules.specs.Entailment.{test_of}
 use Rattle.pc_rules.specs.WellCounted.{IsCountedContext}
 use Rattle.pc_rules.proofs.Meters.{after-refl, after-trans}
 use Rattle.inductive_check.proofs.Leading.{collect_start, collect_end}
-use Rattle.inductive_check.proofs.Telescopes.{none_left, arguments_over, arguments_next, arguments_stop, extend_next, entered_counted, assumed_counted}
+use Rattle.inductive_check.proofs.Telescopes.{arguments_over, arguments_next, arguments_stop, extend_next, entered_counted, assumed_counted}
 use Rattle.inductive_check.proofs.arguments.arguments.Goals as goal
+use Rattle.pc_rules.proofs.ListSteps.{none_left}
 
 pub loop-ty-init : goal.loop-ty-init
 loop-ty-init g c = record {

@@ -5,9 +5,9 @@ use Rattle.pc_rules.specs.DirectedTyping.{infer}
 use Rattle.pc_rules.specs.Entailment.{test_of}
 use Rattle.pc_rules.proofs.Meters.{after-trans}
 use Rattle.inductive_check.proofs.Leading.{follows_end, leads_along}
-use Rattle.inductive_check.proofs.Telescopes.{take_next}
 use Rattle.inductive_check.proofs.Checking.{results_over, results_next, results_stop, results_fault, first_put, counted_more}
 use Rattle.inductive_check.proofs.results.check_results.Goals as goal
+use Rattle.pc_rules.proofs.ListSteps.{take_next}
 
 pub returns-in_err-ty-clause-follows : goal.returns-in_err-ty-clause-follows
 returns-in_err-ty-clause-follows g c =

@@ -6,8 +6,9 @@ use Rattle.pc_rules.specs.Entailment.{test_of}
 use Rattle.pc_rules.specs.WellCounted.{IsCountedContext}
 use Rattle.pc_rules.proofs.Meters.{after-trans}
 use Rattle.inductive_check.proofs.Leading.{leads_along, leads_done, follows_first, follows_end}
-use Rattle.inductive_check.proofs.Telescopes.{none_left, entries_at, entries_over, extend_next, entered_counted, assumed_counted}
+use Rattle.inductive_check.proofs.Telescopes.{entries_at, entries_over, extend_next, entered_counted, assumed_counted}
 use Rattle.inductive_check.proofs.telescope.enter.Goals as goal
+use Rattle.pc_rules.proofs.ListSteps.{none_left}
 
 pub returns-in_err-_sort-clause-follows : goal.returns-in_err-_sort-clause-follows
 returns-in_err-_sort-clause-follows g c =

@@ -1,6 +1,7 @@
 use Rattle.std.proofs.Common.{◌≡◌, ◌∙◌, ◌+◌, sym, ap, [], ◌∷◌, ◌++◌, drop, append-nil}
-use Rattle.type_infer.proofs.MatchLists.{one_more_item, none_left}
+use Rattle.type_infer.proofs.MatchLists.{one_more_item}
 use Rattle.type_infer.proofs.scrutinees.items_from.Goals as goal
+use Rattle.pc_rules.proofs.ListSteps.{none_left}
 
 pub loop-i-preserved : goal.loop-i-preserved
 loop-i-preserved c =

@@ -12,11 +12,11 @@ use Rattle.pc_rules.specs.Same.{same}
 use Rattle.pc_rules.proofs.Following.{follows_bind, follows_err, follows_still}
 use Rattle.std.proofs.lemmas.Result.{err_from_is_err_and}
 use Rattle.conversion.proofs.Defaults.{sort_and_other, product_and_other, lambda_and_other, other_first}
-use Rattle.conversion.proofs.Listing.{same_yes, same_no}
 use Rattle.conversion.proofs.Comparing.{at_room, compare_spent, compare_nested, compare_entered, entering_fault, entering_goes, each_next, each_stops, each_done, branches_next, branches_stops, branches_done, matched, spines_go, spines_clash}
 use Rattle.conversion.proofs.Parts.{whnfs_comparable, left_sort, right_sort, domains_comparable, codomains_comparable, binders_comparable, lambda_bodies_comparable, heads_comparable, args_comparable, items_comparable, parameters_comparable, predicates_comparable, scrutinees_comparable, branches_comparable, types_comparable, bodies_comparable, extended_comparable, same_comparable}
 use Rattle.conversion.proofs.comparison.Compare.+compare.Goals as goal
 use Rattle.conversion.proofs.comparison.Compare.+compare.Goals.{pair-in_default-via-in-Sort+in_default, pair-in_default-via-in-Prod+in_default, pair-in_default-via-in-Lambda+in_default, pair-in_default-via-in_default}
+use Rattle.pc_rules.proofs.SameTrees.{same_yes, same_no}
 
 -- the start of a comparison
 

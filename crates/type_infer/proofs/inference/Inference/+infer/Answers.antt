@@ -8,20 +8,22 @@ use Rattle.pc_rules.specs.DirectedComparison.{compare}
 use Rattle.pc_rules.specs.DirectedRun.{noted}
 use Rattle.pc_rules.specs.DirectedTyping.{infer, rule_number, sort_of, check, retype}
 use Rattle.pc_rules.proofs.Following.{follows_bind, follows_err, follows_still, follows_made, follows_fault, follows_memory, follows_then, follows_else, follows_done}
-use Rattle.type_infer.proofs.Fixing.{rargs_long, types_next, types_stop, types_fault, types_done, definitions_next, definitions_done, lift_beyond, few_lambdas, lambdas_found, is_family, no_family_found, definitions_go, definitions_stop, definitions_end}
+use Rattle.type_infer.proofs.Fixing.{types_next, types_stop, types_fault, types_done, definitions_next, definitions_done, lift_beyond, few_lambdas, lambdas_found, is_family, no_family_found, definitions_go, definitions_stop, definitions_end}
 use Rattle.type_infer.proofs.GuardConditions.{guardable}
 use Rattle.type_infer.specs.Ready.{IsReady}
-use Rattle.type_infer.proofs.Finding.{follows_is, if_ok, same_yes, same_no, put_beyond, sort_found_same, sort_found_goes, product_found}
+use Rattle.type_infer.proofs.Finding.{follows_is, if_ok, put_beyond, sort_found_same, sort_found_goes, product_found}
 use Rattle.type_infer.proofs.Beginning.{infer_spent, infer_nested, infer_entered, inferred_from, assumed_ready, defined_ready}
 use Rattle.pc_rules.specs.Context.{extend}
 use Rattle.type_infer.proofs.Matching.{entered_next, entered_stop, entered_end, longer_next, all_next, all_stop, all_fault, all_end, pass_fault, pass_go, entered_then, entered_err, whnf_is_counted, asked_counted, branches_next, branches_stop, branches_end, case_goes, case_unknown, pred_fault}
 use Rattle.std.proofs.lemmas.List.{take_all}
 use Rattle.pc_rules.specs.WellCounted.{IsCounted}
 use Rattle.rule_laws.proofs.Counted.{appended_counted}
-use Rattle.type_infer.proofs.MatchLists.{take_next}
 use Rattle.pc_rules.specs.Same.{same}
 use Rattle.pc_rules.specs.Environment.{with_parameters}
 use Rattle.type_infer.proofs.inference.Inference.+infer.Goals as goal
+use Rattle.pc_rules.proofs.ListSteps.{take_next}
+use Rattle.pc_rules.proofs.SameTrees.{same_yes, same_no}
+use Rattle.pc_terms.proofs.Parts.{rargs_length}
 
 -- the start of an inference
 
@@ -514,13 +516,13 @@ definitions_rule-returns-in_err-definition_rule g t c =
     let n : c.in-Ok.count ≡ length c.as_slice-items.result.now = grind arith in
     let f = rw n at c.in_err-definition_rule.ensures.follows in
     let whole = c.loop-i.invariant.rest _ _ (definitions_stop c.args.env.now (infer c.args.env.now (test_of c.args.env.now) c.args.room) (compare c.args.env.now (test_of c.args.env.now) c.args.room) c.args.under.now (length c.as_slice-items.result.now) (length c.as_slice-items.result.now) c.as_slice-items.result.now c.loop-i.i c.index-items-i.result l c.index-items-i.is _ c.loop-i.m c.definition_rule.new.m f) in
-    record { follows = rw (p.1, p.2, rargs_long) (rw c.as_slice-items.ensures.is at whole) }
+    record { follows = rw (p.1, p.2, rargs_length) (rw c.as_slice-items.ensures.is at whole) }
 
 pub definitions_rule-returns : goal.definitions_rule-returns
 definitions_rule-returns g t c =
     let h : length c.as_slice-items.result.now ≤ c.loop-i.i = grind arith in
     let whole = c.loop-i.invariant.rest _ _ (definitions_end c.args.env.now (infer c.args.env.now (test_of c.args.env.now) c.args.room) (compare c.args.env.now (test_of c.args.env.now) c.args.room) c.args.under.now (length c.as_slice-items.result.now) (length c.as_slice-items.result.now) c.as_slice-items.result.now c.loop-i.i c.loop-i.m h) in
-    record { follows = rw rargs_long (rw c.as_slice-items.ensures.is at whole) }
+    record { follows = rw rargs_length (rw c.as_slice-items.ensures.is at whole) }
 
 -- a fixpoint
 
