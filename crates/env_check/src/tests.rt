@@ -186,6 +186,26 @@ fn a_constant_takes_three_units(rt: HostRuntime) -> Result<(), Fail> {
     Ok(())
 }
 
+/// A match on false takes six units: its own, its predicate's entry and sort, its scrutinee's and its branches'.
+#[test]
+fn a_match_takes_six_units(rt: HostRuntime) -> Result<(), Fail> {
+    let source = closed(
+        &[BOOL],
+        "(tCase (bool 0) (params) (pred (x) (tInd bool 0)) (tConstruct bool 0 1) (br () (tConstruct bool 0 0)) (br () (tConstruct bool 0 1)))",
+    );
+    let mut m = Meter::new(6);
+    let checked = answer(rt.alloc(), &source, &mut m)?;
+    assert_eq!(rt; summary(&checked), Told::Accepted);
+    assert_eq!(rt; m.left(), 0);
+    for (rule, uses) in [(8, 2), (9, 3), (10, 1), (7, 0)] {
+        assert_eq!(rt; m.uses(rule), uses);
+    }
+    let mut m = Meter::new(5);
+    let checked = answer(rt.alloc(), &source, &mut m)?;
+    assert_eq!(rt; summary(&checked), Told::Spent);
+    Ok(())
+}
+
 #[test]
 fn addition_takes_more_than_three_units(rt: HostRuntime) -> Result<(), Fail> {
     let source = closed(&[NAT, ADD], "(tConst add)");

@@ -29,10 +29,6 @@ mod fixpoints;
 pub mod inference;
 mod leaves;
 mod lookup;
-#[cfg(test)]
-mod match_tests;
 mod matches;
 mod scrutinees;
 mod telescopes;
-#[cfg(test)]
-mod tests;
