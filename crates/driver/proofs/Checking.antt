@@ -1,5 +1,5 @@
 -- What the check of an environment says, with the units of a job.
-use Rattle.std.proofs.Common.{◌≡◌, ℕ, ◌<◌, ◌-◌, List, [], ◌∷◌, length, Option, Some, None, Ok, Err, IsTrue, refl, sym, ap, subst, ◌∙◌, arith}
+use Rattle.std.proofs.Common.{◌≡◌, ℕ, ◌<◌, ◌-◌, List, length, Option, Some, None, Ok, Err, refl, sym, ap, subst, ◌∙◌}
 use Rattle.std.specs.Prelude.{replicate, slice_get}
 use Rattle.std.proofs.Common.{get_or}
 use Rattle.std.proofs.lemmas.Option.{slice_get_read}
@@ -16,8 +16,7 @@ use Rattle.env_check.specs.declared.refusal.Refusal.TheVariants.{Broken, Spent, 
 use Rattle.env_check.specs.Answers.{AnswersFound}
 use Rattle.env_check.specs.Rules.{rules_of}
 use Rattle.driver.specs.declared.refusal.Where.{Where}
-use Rattle.driver.specs.Texts.{SpellsWithin}
-use Rattle.driver.specs.Judged.{start, IsJudged, IsAcceptedBy, IsSpentBy, IsTooDeepFor, IsBrokenBy, IsTold, IsNamed, name_of, number_of}
+use Rattle.driver.specs.Judged.{start, IsAcceptedBy, IsSpentBy, IsTooDeepFor, IsBrokenBy, IsTold, IsNamed, name_of, number_of}
 use Rattle.driver.proofs.Judging.{place_within}
 use Rattle.driver.proofs.Kept.{name_there}
 use Rattle.driver.proofs.TextCauses.{within_limits}

@@ -1,6 +1,6 @@
 -- What the directed rules say of an environment: the same status whichever cycle is found; and a broken rule's place is one of it.
-use Rattle.std.proofs.Common.{◌≡◌, ℕ, zero, suc, ◌+◌, ◌<◌, List, [], ◌∷◌, map, length, Option, Some, None, Bool, ◌⊎◌, inl, inr, refl, sym, ap, subst, ◌∙◌, arith}
-use Rattle.std.specs.Prelude.{All, IfSome, slice_get}
+use Rattle.std.proofs.Common.{◌≡◌, ℕ, zero, suc, ◌+◌, ◌<◌, List, [], ◌∷◌, length, Option, Some, None, refl, sym, ap, subst, ◌∙◌, arith}
+use Rattle.std.specs.Prelude.{All}
 use Rattle.std.proofs.lemmas.List.Elements.{All-head, All-tail, All-from_get_or}
 use Rattle.universe_levels.specs.declared.level.Level.{Level}
 use Rattle.universe_levels.specs.declared.constraint.Constraint.{Constraint}
@@ -18,7 +18,7 @@ use Rattle.pc_rules.specs.Accepted.{env}
 use Rattle.pc_rules.specs.DirectedRun as run
 use Rattle.pc_rules.specs.DirectedComparison.{Test}
 use Rattle.pc_rules.specs.DirectedTyping.{infer}
-use Rattle.pc_rules.specs.DirectedDeclarations.{Given, Outcome, Accepts, Breaks, Spends, Nests, Checked, placed_end, placed, first_repeated, first_undeclared_end, declarations_rule, declaration_rule, main_rule, IsCycle, graph_rule, constraints_rule, levels_rule, environment_rule}
+use Rattle.pc_rules.specs.DirectedDeclarations.{Given, Outcome, Accepts, Breaks, Checked, placed_end, placed, first_repeated, first_undeclared_end, declarations_rule, declaration_rule, main_rule, IsCycle, graph_rule, constraints_rule, levels_rule}
 use Rattle.dump_reader.specs.declared.environment.RawEnv.{RawEnv}
 use Rattle.inductive_check.specs.Given.{given_of}
 use Rattle.env_check.specs.Rules.{rules_of, givens, IsFound}

@@ -2,6 +2,7 @@ pub mod Uses
 pub mod Limited
 pub mod Kept
 pub mod Judging
+pub mod Accepting
 pub mod TextCauses
 pub mod Checking
 pub mod Serving

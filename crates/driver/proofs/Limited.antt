@@ -6,7 +6,7 @@ use Rattle.dump_grammar.specs.declared.refusal.Limit.{Limit}
 use Rattle.dump_grammar.specs.declared.refusal.Limit.TheVariants as limits
 use Rattle.dump_grammar.specs.Declarations.{CtorForm, FamilyForm, DeclForm, ConstantForm, BlockForm, constructor_meaning, family_meaning, declaration_meaning}
 use Rattle.dump_grammar.specs.Limits.{first, unless, one_more_over}
-use Rattle.dump_grammar.specs.Named.{Named, NamedFamily, NamedDecl, Block}
+use Rattle.dump_grammar.specs.Named.{Named, NamedFamily, Block}
 use Rattle.dump_grammar.specs.Terms.{Form}
 use Rattle.dump_grammar.specs.Within.{sort_over, bindings_over, ctor_over, ctors_over, family_over, families_over, declaration_over, declarations_over}
 

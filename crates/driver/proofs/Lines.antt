@@ -1,12 +1,12 @@
 -- A line that is written in three parts.
-use Rattle.std.proofs.Common.{◌≡◌, ℕ, ◌+◌, ◌^◌, ◌≤◌, List, ◌++◌, length, take, min, Option, Some, None, ◌⊎◌, inl, inr, refl, sym, ap, subst, ◌∙◌, arith}
+use Rattle.std.proofs.Common.{ℕ, ◌+◌, ◌≤◌, List, ◌++◌, length, take, Option, Some, None, inl, inr, sym, ap, subst, ◌∙◌, arith}
 use Rattle.std.specs.Prelude.{Result, Ok, Err, OnOk, IfErr}
 use Rattle.std.proofs.Math.Seq.{take-append-add}
 use Rattle.std.proofs.lemmas.List.{append_assoc, length-append, take-append-le}
 use Rattle.std.specs.Io.KnownBytes.{Appends}
 use Rattle.kio.specs.Causes.{Rose, HasCause}
 use Rattle.kio.specs.declared.WriteFault.{WriteFault}
-use Rattle.driver.specs.Serve.{TakesLine, TakesPrefix}
+use Rattle.driver.specs.Serve.{TakesLine}
 
 -- one part, and then another
 appends_both : (a b c : Option (List ℕ)) (xs ys : List ℕ) → Appends a b xs → Appends b c ys → Appends a c (xs ++ ys)

@@ -3,12 +3,16 @@ use Rattle.std.proofs.Common.{◌≡◌, ◌≢◌, ℕ, zero, suc, ◌<◌, ◌
 use Rattle.std.specs.Prelude.{Contains, IfErr}
 use Rattle.std.specs.Io.KnownBytes.{Appends}
 use Rattle.kio.specs.Causes.{Rose}
+use Rattle.dump_reader.specs.declared.environment.RawEnv.{RawEnv}
 use Rattle.driver.specs.declared.refusal.Refusal.{Refusal}
 use Rattle.driver.specs.declared.refusal.Refusal.TheVariants as refusals
 use Rattle.driver.specs.declared.command_line.Job.{Job}
 use Rattle.driver.specs.CommandLine.{job_of}
-use Rattle.driver.specs.Lines.{status_of, line_of}
+use Rattle.driver.specs.Lines.{status_of}
 use Rattle.driver.specs.Serve.{Answered, Concludes, IsAnswerOf, IsAsked, IsCause, IsForJob, IsInput, IsJudgedWith, IsOfText, IsRefused, IsSure, IsTextCause, IsTooLong, Says, TakesPrefix, input_limit}
+use Rattle.driver.specs.Texts.{SpellsWithin}
+use Rattle.driver.specs.Answerable.{IsAnswerable}
+use Rattle.driver.proofs.Accepting.{answerable_ends, answerable_taken}
 use Rattle.driver.proofs.TextCauses.{one_cause, judged_cause, no_cause_of_answers, judged_answer}
 
 zero_or : (n : ℕ) → (n ≡ 0) ⊎ (n ≢ 0)
@@ -225,6 +229,9 @@ module _ {V K E : Type 0} (view : V → List ℕ) (status : ℕ) (words : List (
           | OfText few cause ↦ inl (c.0 ∙ sym (judged_cause job bytes wanted r h cause))
           | OfLength q long ↦ absurd (omega (arith, long, short))
         ]
+
+    pub complete : (a : Result V Refusal) → S a → C a → (e : RawEnv) → length bytes ≤ input_limit → SpellsWithin bytes e → IsAnswerable e → ¬ Rose faults faults' → (status ≡ 0) ⊎ (status ≡ 1)
+    complete a s c e short spelled h calm = judged a s c 0 short (e, spelled, answerable_taken job e h, answerable_ends e h) calm
 
     pub refuses_text : (a : Result V Refusal) → S a → C a → (r : Refusal) → length bytes ≤ input_limit → IsTextCause job r bytes → IsSure r → (status ≡ status_of r) ⊎ (status ≡ 1)
     refuses_text (Ok v) s c r short cause sure = absurd (no_cause_of_answers job bytes (view v) r (answer_of v s).1 cause sure)

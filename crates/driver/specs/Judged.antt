@@ -1,5 +1,5 @@
 -- What the directed rules say of an environment that is read, with the units of a job.
-use Rattle.std.specs.Prelude.{ℕ, ◌≡◌, List, [], ◌∷◌, Option, Some, None, slice_get, replicate, IsTrue, false}
+use Rattle.std.specs.Prelude.{ℕ, ◌≡◌, List, Option, Some, slice_get, replicate, IsTrue, false}
 use Rattle.pc_terms.specs.declared.leaf.Name.{Name}
 use Rattle.pc_terms.specs.Syntax.{Term}
 use Rattle.pc_rules.specs.declared.broken.Broken.{Broken}

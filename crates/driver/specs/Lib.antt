@@ -1,5 +1,6 @@
 pub mod Plain
 pub mod Judged
+pub mod Answerable
 pub mod Texts
 pub mod Lines
 pub mod CommandLine

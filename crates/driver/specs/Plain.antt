@@ -1,6 +1,6 @@
 -- Plain environments: no level and no constraint; each declaration is a block of one family of sort Set, whose constructors take no
 -- argument; and main is a constructor.
-use Rattle.std.specs.Prelude.{◌≡◌, ℕ, List, [], ◌∷◌, All}
+use Rattle.std.specs.Prelude.{◌≡◌, ℕ, [], ◌∷◌, All}
 use Rattle.universe_levels.specs.declared.sort.Sort.{Sort}
 use Rattle.universe_levels.specs.declared.sort.Sort.TheVariants.{Of}
 use Rattle.pc_terms.specs.declared.leaf.Name.{Name}

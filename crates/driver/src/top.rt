@@ -3,9 +3,12 @@
 ghost use Rattle.std.specs.Prelude.{◌≡◌, ◌≢◌, ◌↔◌, ◌⊎◌, ◌<◌, ◌≤◌, ℕ, List, [], ◌∷◌, length, Contains, IfErr, None};
 ghost use Rattle.std.specs.Io.KnownBytes.{Appends};
 ghost use Rattle.kio.specs.Causes.{Rose};
+ghost use Rattle.dump_reader.specs.declared.environment.RawEnv.{RawEnv};
 ghost use Rattle.driver.specs.CommandLine.{job_of, words_of};
 ghost use Rattle.driver.specs.Lines.{status_of, line_of};
 ghost use Rattle.driver.specs.declared.command_line.Job.{Job as Asked};
+ghost use Rattle.driver.specs.Answerable.{IsAnswerable};
+ghost use Rattle.driver.specs.Texts.{SpellsWithin};
 ghost use Rattle.driver.specs.Serve.{Answered, Concludes, IsAsked, IsJudgedWith, IsRefused, IsSure, IsTextCause, JobSays, ReadSays, Says, TakesLine, TakesPrefix, input_limit};
 
 use crate::check::check;
@@ -110,6 +113,7 @@ pub fn serve<S: Source, K: Sink, E: Sink>(
 
     // Where no count rises and the rules pass no limit, want of memory is the only other answer.
     ensures judged { (job : Asked) (bytes : List ℕ) (status : ℕ) → IsAsked job (words_of words.now) (S.left src.old) bytes (S.faults src.old) (S.faults src.new) → length bytes ≤ input_limit → IsJudgedWith job status bytes → ¬ Rose (K.faults out.old) (K.faults out.new) → (result ≡ status) ⊎ (result ≡ 1) }
+    ensures complete { (job : Asked) (bytes : List ℕ) (e : RawEnv) → IsAsked job (words_of words.now) (S.left src.old) bytes (S.faults src.old) (S.faults src.new) → length bytes ≤ input_limit → SpellsWithin bytes e → IsAnswerable e → ¬ Rose (K.faults out.old) (K.faults out.new) → (result ≡ 0) ⊎ (result ≡ 1) }
     ensures refuses_text { (job : Asked) (bytes : List ℕ) (r : Refusal) → IsAsked job (words_of words.now) (S.left src.old) bytes (S.faults src.old) (S.faults src.new) → length bytes ≤ input_limit → IsTextCause job r bytes → IsSure r → (result ≡ status_of r) ⊎ (result ≡ 1) }
     ensures refuses_length { (job : Asked) (bytes : List ℕ) → IsAsked job (words_of words.now) (S.left src.old) bytes (S.faults src.old) (S.faults src.new) → input_limit < length bytes → (result ≡ 7) ⊎ (result ≡ 1) }
 

@@ -1,10 +1,9 @@
-use Rattle.std.proofs.Common.{◌≡◌, ℕ, ◌∷◌, [], Err, ap, subst, sym, inl, ◌∙◌}
+use Rattle.std.proofs.Common.{ℕ}
 use Rattle.std.specs.Prelude.{Vec}
 use Rattle.std.specs.declared.alloc.Global.{Global}
 use Rattle.std.specs.Prelude.{codes}
 use Rattle.std.proofs.lemmas.Result.{err_from_is_err_and}
 use Rattle.driver.specs.declared.command_line.Job.TheVariants.{Check}
-use Rattle.driver.specs.Serve.{JobSays}
 use Rattle.driver.proofs.Answering.{cause_of, checked_says, exit_says, says}
 use Rattle.driver.proofs.TextCauses.{within_limits}
 use Rattle.driver.proofs.check.check.Goals as goal

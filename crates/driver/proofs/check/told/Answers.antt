@@ -1,8 +1,7 @@
-use Rattle.std.proofs.Common.{◌≡◌, ◌<◌, length, Some, None, refl, sym, ap, subst, ◌∙◌, arith}
+use Rattle.std.proofs.Common.{Some, sym, ap, subst, ◌∙◌}
 use Rattle.std.specs.Prelude.{slice_get}
-use Rattle.std.proofs.lemmas.Option.{slice_get_read}
 use Rattle.driver.specs.declared.refusal.Where.TheVariants.{Declaration as Told}
-use Rattle.driver.specs.Judged.{IsTold, name_of}
+use Rattle.driver.specs.Judged.{IsTold}
 use Rattle.driver.proofs.Checking.{declared_name_there, place_read, no_name}
 use Rattle.driver.proofs.check.told.Goals as goal
 

@@ -1,4 +1,4 @@
-use Rattle.std.proofs.Common.{◌≡◌, ◌<◌, ◌+◌, ◌*◌, length, ap, sym, subst, ◌∙◌, arith}
+use Rattle.std.proofs.Common.{◌≡◌, length, ap, sym, subst, ◌∙◌, arith}
 use Rattle.wasm_core.specs.EnumerationModule.{enumeration_module}
 use Rattle.wasm_core.specs.ModuleGrammar.{SpellsModule}
 use Rattle.wasm_core.specs.ShortestBytes.{module_bytes}

@@ -1,4 +1,4 @@
-use Rattle.std.proofs.Common.{◌≡◌, ◌+◌, true, refl, subst, arith, take_all, length}
+use Rattle.std.proofs.Common.{◌+◌, refl, subst, arith, take_all}
 use Rattle.std.specs.Prelude.{All}
 use Rattle.driver.specs.Plain.{IsEnumerationBlock}
 use Rattle.driver.proofs.Answering.{all_more}

@@ -1,4 +1,4 @@
-use Rattle.driver.proofs.Serving.{judged, done, nothing_out, nothing_read, prefix, quiet, refused, refuses_length, refuses_text, statuses, usage}
+use Rattle.driver.proofs.Serving.{complete, judged, done, nothing_out, nothing_read, prefix, quiet, refused, refuses_length, refuses_text, statuses, usage}
 use Rattle.driver.specs.CommandLine.{words_of}
 use Rattle.driver.proofs.top.serve.Goals as goal
 
@@ -19,6 +19,9 @@ returns-clause-prefix g c = prefix (λ v. v.items) c.conclude.result (words_of c
 
 pub returns-clause-judged : goal.returns-clause-judged
 returns-clause-judged g c job bytes wanted asked short h calm = judged (λ v. v.items) c.conclude.result (words_of c.args.words.now) (g.S.Source.left c.args.src.now) (g.S.Source.faults c.args.src.now) (g.S.Source.faults c.answer-answered.new.src) c.args.out.now c.conclude.new.out (g.K.Sink.taken c.args.out.now) (g.K.Sink.taken c.conclude.new.out) (g.K.Sink.faults c.args.out.now) (g.K.Sink.faults c.conclude.new.out) c.args.err.now c.conclude.new.err (g.E.Sink.taken c.args.err.now) (g.E.Sink.taken c.conclude.new.err) (g.E.Sink.faults c.args.err.now) (g.E.Sink.faults c.conclude.new.err) job bytes asked c.answer-answered.result c.answer-answered.ensures.says c.conclude.ensures.concludes wanted short h calm
+
+pub returns-clause-complete : goal.returns-clause-complete
+returns-clause-complete g c job bytes e asked short spelled h calm = complete (λ v. v.items) c.conclude.result (words_of c.args.words.now) (g.S.Source.left c.args.src.now) (g.S.Source.faults c.args.src.now) (g.S.Source.faults c.answer-answered.new.src) c.args.out.now c.conclude.new.out (g.K.Sink.taken c.args.out.now) (g.K.Sink.taken c.conclude.new.out) (g.K.Sink.faults c.args.out.now) (g.K.Sink.faults c.conclude.new.out) c.args.err.now c.conclude.new.err (g.E.Sink.taken c.args.err.now) (g.E.Sink.taken c.conclude.new.err) (g.E.Sink.faults c.args.err.now) (g.E.Sink.faults c.conclude.new.err) job bytes asked c.answer-answered.result c.answer-answered.ensures.says c.conclude.ensures.concludes e short spelled h calm
 
 pub returns-clause-refuses_text : goal.returns-clause-refuses_text
 returns-clause-refuses_text g c job bytes r asked short cause sure = refuses_text (λ v. v.items) c.conclude.result (words_of c.args.words.now) (g.S.Source.left c.args.src.now) (g.S.Source.faults c.args.src.now) (g.S.Source.faults c.answer-answered.new.src) c.args.out.now c.conclude.new.out (g.K.Sink.taken c.args.out.now) (g.K.Sink.taken c.conclude.new.out) (g.K.Sink.faults c.args.out.now) (g.K.Sink.faults c.conclude.new.out) c.args.err.now c.conclude.new.err (g.E.Sink.taken c.args.err.now) (g.E.Sink.taken c.conclude.new.err) (g.E.Sink.faults c.args.err.now) (g.E.Sink.faults c.conclude.new.err) job bytes asked c.answer-answered.result c.answer-answered.ensures.says c.conclude.ensures.concludes r short cause sure
