@@ -3,6 +3,7 @@ pub mod Limited
 pub mod Kept
 pub mod Judging
 pub mod Accepting
+mod Examples
 pub mod TextCauses
 pub mod Checking
 pub mod Serving
