@@ -149,7 +149,7 @@ IsCause refusals.WriteFault words left before now faults faults' = IsForJob word
 IsCause refusals.InputBytes words left before now faults faults' = IsForJob words × IsTooLong left
 IsCause r words left before now faults faults' = IsOfText r words left
 
--- A text went out whole; or the count of faults rose, and a prefix went out.
+-- A prefix of the text went out.
 abbrev pub TakesPrefix : Option (List ℕ) → Option (List ℕ) → List ℕ → Type 0
 TakesPrefix old new text = (n : ℕ) × (n ≤ length text) × Appends old new (take n text)
 

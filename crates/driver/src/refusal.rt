@@ -24,7 +24,7 @@ pub(crate) enum Refusal {
     WriteFault,
     Syntax { offset: usize },
     Unsupported { what: Foreign, offset: usize },
-    /// The text spells an environment that no job takes yet.
+    /// The text spells an environment that `exec` doesn't take.
     Form,
     Limit { which: Limit },
     InputBytes,

@@ -109,22 +109,28 @@ fn exec_prints_the_constructor(rt: HostRuntime) -> Result<(), Fail> {
 }
 
 /// The front of a text that declares nothing, up to the main term.
-const MAIN: &str = "(env 1 (levels) (constraints) (main ";
+pub(crate) const MAIN: &str = "(env 1 (levels) (constraints) (main ";
+
+/// The pieces, each so many times.
+pub(crate) fn joined(alloc: Global, pieces: &[(&str, usize)]) -> Result<Vec<u8>, AllocError> {
+    let mut text = Vec::new(alloc);
+    for (piece, times) in pieces {
+        for _ in 0..*times {
+            text.extend_from_slice(piece.as_bytes())?;
+        }
+    }
+    Ok(text)
+}
 
 /// The front, the piece so many times, and the back.
-fn repeated(
+pub(crate) fn repeated(
     alloc: Global,
     front: &str,
     piece: &str,
     times: usize,
     back: &str,
 ) -> Result<Vec<u8>, AllocError> {
-    let mut text = Vec::from_slice(alloc, front.as_bytes())?;
-    for _ in 0..times {
-        text.extend_from_slice(piece.as_bytes())?;
-    }
-    text.extend_from_slice(back.as_bytes())?;
-    Ok(text)
+    joined(alloc, [(front, 1), (piece, times), (back, 1)].as_slice())
 }
 
 /// A refusal with this status and line.

@@ -84,8 +84,8 @@ fn conclude<K: Sink, E: Sink>(out: &mut K, err: &mut E, answered: Result<Vec<u8>
 
 /// Does the job that the words after the program's name ask for, and answers the program's status.
 ///
-/// The input is the text of an environment. `check` accepts it where every declaration and main have a derivation by the typing rules, and
-/// writes `ok` with LF to `out`. `exec` takes plain environments, whose declarations are blocks of constructors without arguments, with
+/// The input is the text of an environment. `check` accepts it only where every declaration and main have a derivation by the typing rules,
+/// and writes `ok` with LF to `out`. `exec` takes plain environments, whose declarations are blocks of constructors without arguments, with
 /// a constructor as main: it checks the environment, makes a module of it, which is encoded, decoded, validated and run, and writes the
 /// answer, the constructor's name with LF. Statuses: 0 done; 1 want of memory; 2 the words aren't one word that is a job, and then nothing
 /// is read; 3 a read fault; 4 a write fault; 5 the text's first refusal is a syntax fault; 6 its first refusal is a form that is known and

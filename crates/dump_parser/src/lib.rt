@@ -1,6 +1,6 @@
 //! The reader of the text of a dump: one pass over its tokens, from left to right, into a tree whose names are slices of the text.
 //!
-//! A function stands for each bracketed form, so that calls nest as brackets do, at most 1,000 deep; a run of applications is one node, however
+//! A function stands for each bracketed form, so that calls nest with brackets, a few for each of at most 1,000; a run of applications is one node, however
 //! many arguments it has. Names of binders are dropped. The format is the one of `dump_grammar`, whose table the code follows.
 //!
 //! What is promised: `exact` of `parse` says that the answer is the verdict of the grammar on the text: the environment that the grammar means by

@@ -63,7 +63,7 @@ fn end(tokens: &mut Tokens) -> Result<(), ReadRefusal>
 /// The environment that a text spells, as a tree whose names are slices of the text; or the first refusal of the text.
 ///
 /// `Syntax`, `Unsupported` and `Limit` come exactly where the verdict of the grammar has them, `Memory` where there is no memory, or where a binder
-/// has more than 4,294,967,295 names. Brackets nest at most 1,000 deep, and no call nests deeper than brackets do.
+/// has more than 4,294,967,295 names. Brackets nest at most 1,000 deep, and calls with them, a few for each.
 pub fn parse<'a>(alloc: Global, bytes: &'a [u8]) -> Result<EnvTree<'a>, ReadRefusal>
     ensures exact { Gives (verdict (length bytes.now) (tokens_of bytes.now)) result }
 {

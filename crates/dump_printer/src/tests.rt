@@ -185,14 +185,41 @@ fn writes_sorts(rt: HostRuntime) -> Result<(), Fail> {
     Ok(())
 }
 
-/// What is read is printed as it was written: the only answer beside it is want of memory.
+/// Texts, and what is printed of the environments that they spell: each binder `_`, each cast a function applied, each run of applications one.
 #[test]
 fn prints_what_was_read(rt: HostRuntime) -> Result<(), Fail> {
     let alloc = rt.alloc();
-    if let Ok(env) = read_env(alloc, BOOL.as_bytes()) {
+    for (text, want) in [
+        (BOOL, BOOL),
+        (
+            "(env 1 (levels) (constraints) (InductiveDecl bool (params) (family bool (sort Set) (indices) (ctor true (args) (result)) (ctor false (args) (result)))) (main (tCast (tConstruct bool 0 1) Cast (tInd bool 0))))",
+            "(env 1 (levels) (constraints) (InductiveDecl bool (params) (family bool (sort Set) (indices) (ctor true (args) (result)) (ctor false (args) (result)))) (main (tApp (tLambda _ (tInd bool 0) (tRel 0)) (tConstruct bool 0 1))))",
+        ),
+        (
+            "(env 1 (levels u v) (constraints (le u v) (lt Set v) (eq v u)) (ConstantDecl c (tSort Prop) None) (ConstantDecl d (tSort Set) (tProd x (tRel 0) (tLetIn y (tConst c) (tInd b 0) (tRel 1)))) (main (tConst d)))",
+            "(env 1 (levels u v) (constraints (le u v) (lt Set v) (eq v u)) (ConstantDecl c (tSort Prop) None) (ConstantDecl d (tSort Set) (tProd _ (tRel 0) (tLetIn _ (tConst c) (tInd b 0) (tRel 1)))) (main (tConst d)))",
+        ),
+        (
+            "(env 1 (levels) (constraints) (InductiveDecl b (params (x (tRel 0)) (y (tRel 1))) (family f (sort Prop) (indices (z (tRel 2))) (ctor k (args (v (tRel 3)) (w (tRel 4))) (result (tRel 5))) (ctor l (args) (result (tRel 6)))) (family g (sort Set) (indices))) (main (tInd b 1)))",
+            "(env 1 (levels) (constraints) (InductiveDecl b (params (_ (tRel 0)) (_ (tRel 1))) (family f (sort Prop) (indices (_ (tRel 2))) (ctor k (args (_ (tRel 3)) (_ (tRel 4))) (result (tRel 5))) (ctor l (args) (result (tRel 6)))) (family g (sort Set) (indices))) (main (tInd b 1)))",
+        ),
+        (
+            "(env 1 (levels) (constraints) (main (tCase (b 0) (params (tRel 4)) (pred (i s) (tRel 5)) (tRel 6) (br (w) (tRel 7)) (br () (tRel 8)))))",
+            "(env 1 (levels) (constraints) (main (tCase (b 0) (params (tRel 4)) (pred (_ _) (tRel 5)) (tRel 6) (br (_) (tRel 7)) (br () (tRel 8)))))",
+        ),
+        (
+            "(env 1 (levels) (constraints) (main (tFix ((def g (tRel 8) (tRel 9) 0) (def h (tRel 6) (tRel 7) 3)) 1)))",
+            "(env 1 (levels) (constraints) (main (tFix ((def _ (tRel 8) (tRel 9) 0) (def _ (tRel 6) (tRel 7) 3)) 1)))",
+        ),
+        (
+            "(env 1 (levels) (constraints) (main (tApp (tApp (tRel 0) (tRel 1)) (tApp (tRel 2) (tRel 3) (tRel 4)) (tRel 5))))",
+            "(env 1 (levels) (constraints) (main (tApp (tRel 0) (tRel 1) (tApp (tRel 2) (tRel 3) (tRel 4)) (tRel 5))))",
+        ),
+    ] {
+        let env = read_env(alloc, text.as_bytes())?;
         let mut out = sink(alloc);
         assert_eq!(rt; print_env(&env, &mut out), Ok(()));
-        assert_eq!(rt; out.bytes(), BOOL.as_bytes());
+        assert_eq!(rt; out.bytes(), want.as_bytes(), "{text}");
     }
     Ok(())
 }

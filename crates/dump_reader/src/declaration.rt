@@ -14,7 +14,8 @@ pub struct RawCtor {
     pub result: Terms,
 }
 
-/// An inductive family: its sort, the types of its indices, the outermost first, under the block's parameters, and its constructors.
+/// An inductive family: its sort, the types of its indices, the outermost first, each under the block's parameters and the indices before
+/// it, and its constructors.
 #[derive(Drop)]
 pub struct RawFamily {
     pub name: Name,

@@ -10,8 +10,8 @@
 //! `read_all_counted`). `write_all` writes all the bytes (`all`); it fails only where the count rose (`cause`), and then exactly
 //! the first `written` bytes went out (`part`). The objects in memory are exact to the call (`exact`).
 //!
-//! Nothing stands below but std; `ReaderSource` and `WriterSink` are the edge to it, and that a real stream behaves as std says
-//! is not proved. Above stand the driver, the printer of dumps and the certificates.
+//! Below stand `thiserror` and std; `ReaderSource` and `WriterSink` are the edge to std, and that a real stream behaves as it says
+//! is not proved. Above stand `dump_printer`, `driver` and the program `erasec`.
 #![tactic(auto)]
 
 ghost use Rattle.std.specs.Prelude.{◌≡◌, ℕ, ◌+◌, ◌≤◌, ◌<◌, List, length, take, Option, IfOk, IfErr, OnOk};

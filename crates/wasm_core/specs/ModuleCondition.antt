@@ -1,5 +1,6 @@
 -- The modules that the binary format can spell (Core Specification, "Binary Format"), by their parts.
--- The sizes of sections and bodies in bytes have 32 bits too. They aren't asked here: a module whose bytes pass 16 MiB isn't written.
+-- Sizes are left out of this condition: a section or a body of 2^32 bytes or more has no spelling either, and isn't refused here.
+-- A module whose bytes pass 16 MiB isn't written.
 use Rattle.std.specs.Prelude.{ℕ, ◌^◌, ◌<◌, ◌≤◌, ◌≡◌, List, [], ◌∷◌, length, Option, Some, None, IsUtf8, Bool, false}
 use Rattle.wasm_core.specs.declared.types.FuncType.{FuncType}
 use Rattle.wasm_core.specs.declared.types.Limits.{Limits}

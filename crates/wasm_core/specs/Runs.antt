@@ -1,5 +1,5 @@
 -- Whole runs of `main`, and runs of a machine with a bound on its pages.
-use Rattle.std.specs.Prelude.{ℕ, zero, suc, ◌≡◌, ◌+◌, ◌-◌, ◌*◌, ◌^◌, ◌≤◌, List, [], ◌∷◌, Bool, true, false, Option, Some, None, Result, Ok, Err, min, map, nat_le, replicate, slice_get}
+use Rattle.std.specs.Prelude.{ℕ, zero, suc, ◌≡◌, ◌+◌, ◌-◌, ◌*◌, ◌^◌, ◌<◌, ◌≤◌, List, [], ◌∷◌, Bool, true, false, Option, Some, None, Result, Ok, Err, min, map, nat_le, replicate, slice_get}
 use Rattle.std.specs.Option.{option_and_then, unwrap_or}
 use Rattle.wasm_core.specs.declared.types.ValType.{ValType}
 use Rattle.wasm_core.specs.declared.types.ValType.TheVariants as type
@@ -98,7 +98,7 @@ abbrev pub Stops : Result Ended RunFault → ℕ → ℕ → State → Type 0
 Stops (Ok e) k n s = IsOver e s
 Stops (Err StepsSpent) k n s = (k ≡ n) × GoesOn s
 Stops (Err Failed) k n s = ⊥
-Stops (Err Memory) k n s = ⊥
+Stops (Err Memory) k n s = (k < n) × GoesOn s
 
 -- k steps were made, up to what a call of at most n steps answers
 pub record Ran (old new : Shown) (n : ℕ) (answer : Result Ended RunFault) : Type 0 where
@@ -126,4 +126,4 @@ abbrev pub Says : Shown → Shown → ℕ → Result Ended RunFault → Type 0
 Says old new n (Ok e) = (old.failed ≡ false) × (new.failed ≡ false) × Ran old new n (Ok e)
 Says old new n (Err StepsSpent) = (old.failed ≡ false) × (new.failed ≡ false) × Ran old new n (Err StepsSpent)
 Says old new n (Err Failed) = (old.failed ≡ true) × (new ≡ old)
-Says old new n (Err Memory) = (old.failed ≡ false) × (new.failed ≡ true)
+Says old new n (Err Memory) = (old.failed ≡ false) × (new.failed ≡ true) × Ran old new n (Err Memory)

@@ -14,18 +14,20 @@
 //!   offset of the first item without a spelling in its place (`refuses`). No bytes do two of these (`reading_is_exact`).
 //! - `encode` writes the shortest bytes of a module, which spell it, and refuses exactly those that would pass 16 MiB (`writes`); so
 //!   `decode` of what it writes answers the module again, by `answers`.
-//! - `Module` keeps the condition of what bytes can spell (`Module::spelled`, `spelled_is_module`, `shortest_bytes_spell`).
+//! - `Module` keeps the condition of what bytes can spell (`Module::spelled`, `spelled_is_module`, `shortest_bytes_spell`). Sizes of
+//!   2^32 bytes and more, which have no spelling, are left out of that condition.
 //! - `validate` answers `Ok` with the module where it has a typing (`valid`), and `Invalid` exactly where it has none, at the first
 //!   fault (`refused`); each refusal hands the module back (`handed_back`). A `Valid` always has a typing (`Valid::module`, `valid`).
 //! - `Machine::new` starts a run of `main` (`fresh`); it refuses exactly where an entry is missing, the first one (`entry`), or the
 //!   first pages pass the bound (`pages`).
-//! - `Machine::run` makes steps of the definition, at most as many as asked, and stops early only at the run's end (`ran`); it
-//!   answers `Failed` exactly where an earlier call found no memory (`failed`). The machine has no stuck state:
-//!   its invariant gives a step until the run ends, and `never_stuck` says so of every run, whichever grows are refused.
+//! - `Machine::run` makes steps of the definition, at most as many as asked, and stops early only at the run's end or for want of
+//!   memory, where the steps before it are made and counted (`ran`); it answers `Failed` exactly where an earlier call found no
+//!   memory (`failed`). The machine has no stuck state: its invariant gives a step until the run ends, and `never_stuck` says so of
+//!   every run, whichever grows are refused.
 //! - `constructor_module` makes the module of a constructor (`is`); it is valid (`valid`), has every entry (`entries`), each of its
 //!   runs makes exactly 3 steps (`steps`) and answers the constructor (`answers`).
 //!
-//! Want of memory is the one free answer. Nothing of the repository stands below; the emitter and the driver stand above.
+//! Want of memory is the one free answer. Only `thiserror` stands below, and nothing of the repository; above stands `driver`.
 #![tactic(auto)]
 
 mod binary_faults;

@@ -198,6 +198,7 @@ impl<'m> Machine<'m> {
         ensures ok { OnOk result (Move self.old.program self.old.cap self.old.state self.new.state) }
         ensures kept { (self.new.program ≡ self.old.program) × (self.new.cap ≡ self.old.cap) }
         ensures made { OnOk result (self.new.made ≡ min (self.old.made + 1) (2 ^ 64 - 1)) }
+        ensures unmade { OnErr result (self.new.made ≡ self.old.made) }
         ensures sound { OnOk result (self.new.failed ≡ self.old.failed) }
         ensures err { OnErr result (self.new.failed ≡ true) }
         ensures still { OnErr result (self.new.state ≡ self.old.state) }
@@ -218,7 +219,8 @@ impl<'m> Machine<'m> {
     /// Makes at most `steps` steps, up to the run's end.
     ///
     /// `StepsSpent` comes exactly where that many were made and the run hadn't ended; a later call goes on. After the end the
-    /// same end is answered again. After `Memory` every call answers `Failed`.
+    /// same end is answered again. `Memory` comes where a step before that many found no memory: the steps before it are made and
+    /// counted, and the state is the one after them. After `Memory` every call answers `Failed`.
     pub fn run(&mut self, steps: u64) -> Result<Ended, RunFault>
         ensures kept { (self.new.program ≡ self.old.program) × (self.new.cap ≡ self.old.cap) }
         ensures ran { Says self.old self.new steps result }

@@ -54,7 +54,8 @@ impl Module {
         }
     }
 
-    /// Every module is one that the binary format can spell. It takes no memory.
+    /// Every module is one that the binary format can spell. Sizes are left out of this condition: a section or a body of 2^32 bytes or
+    /// more, which has no spelling, isn't refused here. It takes no memory.
     pub fn spelled(&self)
         ensures holds { IsModule self.now }
     {
