@@ -64,7 +64,7 @@ fn check_main<T: Typer>(
 /// before; `LevelUndeclared` at a constraint with a level that is not declared; `UniverseCycle` at the first of some constraints, by their
 /// places in rising order, that alone have no valuation; then each declaration in order, with `DuplicateName` where its name was declared
 /// before, and else with what its type and body or its block break; and main. Places are counted from 0. `Spent` exactly where the rules
-/// have no end within the units left and no limit was passed. `TooDeep` only where they pass a limit. The environment that is read stays
+/// have no end within the units left and `TooDeep` did not come. `TooDeep` only where they pass a limit. The environment that is read stays
 /// as it is.
 pub fn check_env<R: Reducer>(
     alloc: Global,

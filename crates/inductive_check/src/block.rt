@@ -85,8 +85,8 @@ fn check_parts<T: Typer>(
 /// family has; `LevelUndeclared` in a family's sort; `SortTooSmall` where an argument's sort is not at most the family's, unless that is
 /// `Prop`; `NotPositive`, with the places of family and constructor from 0, where an argument's type is not strictly positive or a result
 /// term names the block; `CountWrong` where a constructor has not as many result terms as its family has indices. `Spent` exactly where
-/// the rules have no end within the units left and no limit was passed. `TooDeep` only where they pass a limit. `Memory` also where a list of
-/// the block has more than 4,294,967,295 items.
+/// the rules have no end within the units left and `TooDeep` did not come. `TooDeep` only where they pass a limit. `Memory` also where a list
+/// of the block has more than 4,294,967,295 items.
 pub fn check_block<T: Typer, R: Reducer>(
     alloc: Global,
     typer: &T,

@@ -72,7 +72,8 @@ pub record IsAccepted (E : Env) : Type 0 where
   pub consistent : IsConsistent E.levels E.constraints
   pub declarations : Accepted E.levels E.constraints E.declarations
 
--- a whole environment, with the levels as they are listed, and with main: the listed levels are distinct, and main has the type
+-- a whole environment, with the levels as they are listed, and with main: the listed levels are distinct, and main has the type. That the
+-- listed levels are 1 to n follows from the text that is read, not from this
 pub record IsWellFormed (listed : List Level) (E : Env) (main type : Term) : Type 0 where
   pub distinct : AllPairs (λ k l. k ≢ l) listed
   pub count : E.levels ≡ length listed

@@ -1,4 +1,5 @@
--- Comparison: below, or equal. One unit at its start; equal terms are done; else both sides are reduced, and taken apart.
+-- Comparison: below, or equal. One unit at its start; equal terms are done; else both sides are reduced, and taken apart. The unit is taken
+-- before the nested rule is counted, and after the reduction there is no second test for sameness.
 use Rattle.std.specs.Prelude.{ℕ, zero, suc, ◌≡◌, ◌≢◌, ◌==◌, ◌&&◌, Bool, true, false, if◌then◌else◌, List, [], ◌∷◌, length, Option, Some, None}
 use Rattle.universe_levels.specs.declared.level.LevelExpr.{LevelExpr}
 use Rattle.universe_levels.specs.declared.sort.Sort.{Sort}

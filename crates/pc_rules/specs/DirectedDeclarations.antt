@@ -140,7 +140,7 @@ with_families B Fs = record { name = B.name; params = B.params; families = Fs }
 abbrev pub with_heads : Env → Block → Env
 with_heads E B = env E.levels E.constraints (Heads (heads_of B) ∷ E.declarations)
 
--- a block, given without argument sorts, with them; n rules may still stand in one another
+-- a block with the argument sorts that are found, whatever sorts are given; n rules may still stand in one another
 abbrev pub block_rule : Env → Test → ℕ → Block → Account → Run Block
 block_rule E q n B u =
     bind (heads_rule E (infer E q n) B u) (λ _ v.
@@ -158,7 +158,7 @@ constant_rule E q n k T b u =
     bind (sort_of E (infer E q n) [] T u) (λ s v.
     bind (body_rule E (infer E q n) (compare E q n) T b v) (λ _ w. done (Constant k T b) w))
 
--- a declaration as it is given: without argument sorts, and never the heads of a block
+-- a declaration as it is given, where argument sorts aren't looked at; never the heads of a block
 pub data Given : Type 0 where
   GivenConstant : Name → Term → Option Term → Given
   GivenBlock : Block → Given

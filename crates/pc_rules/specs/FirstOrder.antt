@@ -43,7 +43,7 @@ pub record IsMember (E : Env) (S : List Shape) (h : Shape) : Type 0 where
   pub parameters : length h.parameters ≡ length declared.parameters
   pub constructors : ConstructorsAt E S h.parameters declared.constructors h.constructors
 
--- a first-order set of a type, the type's own weak-head normal form first
+-- a first-order set of a type, the type's own weak-head normal form first. That T is closed is a premise of who uses it
 pub record IsFirstOrder (E : Env) (T : Term) (S : List Shape) : Type 0 where
   pub first : IsAt E S T 0
   pub members : (j : ℕ) (h : Shape) → slice_get S j ≡ Some h → IsMember E S h

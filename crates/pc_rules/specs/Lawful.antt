@@ -61,7 +61,8 @@ pub record IsLawfulMain (E : Env) (S : List Shape) {t v : Term} {n : ℕ} (e : E
   pub reading : Reads E S 0 v answer
   pub solid : NothingErasable reading
 
--- the evaluation of main of type T is lawful: its value is data of that type, along some first-order set of the type
+-- the evaluation of main of type T is lawful: its value is data of that type, along some first-order set of the type. That T is main's type
+-- comes from the caller's derivation, and isn't asked here
 pub record IsLawfulEvaluation (E : Env) (T : Term) {t v : Term} {n : ℕ} (e : Evaluates E t v n) : Type 0 where
   pub shapes : List Shape
   pub first_order : IsFirstOrder E T shapes

@@ -5,16 +5,18 @@ use Rattle.universe_levels.specs.declared.sort.Sort.TheVariants.{Prop}
 use Rattle.pc_terms.specs.declared.leaf.Name.{Name}
 use Rattle.pc_terms.specs.declared.leaf.FamilyId.{FamilyId}
 use Rattle.pc_terms.specs.Syntax.{Term, Terms, SortT, Prod, Lambda, LetIn, App, Case, Fix}
+use Rattle.pc_rules.specs.declared.declaration.Block.{Block}
+use Rattle.pc_rules.specs.declared.declaration.Kept.TheVariants.{Heads}
 use Rattle.pc_rules.specs.Environment.{Env, FamilyDecl, KeepsConstant, KeepsFamily}
 use Rattle.pc_rules.specs.Context.{Context, Values, under}
 use Rattle.pc_rules.specs.Step.{Step}
 use Rattle.pc_rules.specs.Conversion.{Equal, EqualTerms, Below}
 use Rattle.pc_rules.specs.Typing.{Types, guarded, bare}
 use Rattle.pc_rules.specs.WeakHead.{WeakStep, IsWhnf}
-use Rattle.pc_rules.specs.Accepted.{IsAccepted}
+use Rattle.pc_rules.specs.Accepted.{IsAccepted, env}
 use Rattle.pc_rules.specs.Evaluation.{Evaluates}
 
--- each name has one declaration
+-- each name is declared once: no constant has two bodies, and no family of a whole block two declarations
 pub record OneEach (E : Env) : Type 0 where
   pub bodies : (k : Name) (T T' b b' : Term) → KeepsConstant E k T (Some b) → KeepsConstant E k T' (Some b') → b ≡ b'
   pub families : (f : FamilyId) (F G : FamilyDecl) → KeepsFamily E f F → KeepsFamily E f G → F ≡ G
@@ -72,9 +74,13 @@ BelowHasProp = (E : Env) (V : Values) (s : Sort) → Below E V (SortT Prop) (Sor
 abbrev pub AcceptedHasOneEach : Type 0
 AcceptedHasOneEach = (E : Env) → IsAccepted E → OneEach E
 
--- an evaluation has one value and one number of nodes
+-- and that stays so where a block's heads are kept besides
+abbrev pub HeadsKeepOneEach : Type 0
+HeadsKeepOneEach = (E : Env) (B : Block) → OneEach E → OneEach (env E.levels E.constraints (Heads B ∷ E.declarations))
+
+-- where each name is declared once, an evaluation has one value and one number of nodes
 abbrev pub EvaluationIsDetermined : Type 0
-EvaluationIsDetermined = (E : Env) → IsAccepted E → (t v w : Term) (n m : ℕ) → Evaluates E t v n → Evaluates E t w m → (v ≡ w) × (n ≡ m)
+EvaluationIsDetermined = (E : Env) → OneEach E → (t v w : Term) (n m : ℕ) → Evaluates E t v n → Evaluates E t w m → (v ≡ w) × (n ≡ m)
 
 -- a weak-head step is a step
 abbrev pub WeakStepsAreSteps : Type 0
@@ -84,13 +90,13 @@ WeakStepsAreSteps = (E : Env) (V : Values) (t u : Term) → WeakStep E V t u →
 abbrev pub WhnfIsEqual : Type 0
 WhnfIsEqual = (E : Env) (V : Values) (t u : Term) → IsWhnf E V t u → Equal E V t u
 
--- a term has one weak-head step at most
+-- where each name is declared once, a term has one weak-head step at most
 abbrev pub WeakStepIsDetermined : Type 0
-WeakStepIsDetermined = (E : Env) → IsAccepted E → (V : Values) (t u w : Term) → WeakStep E V t u → WeakStep E V t w → u ≡ w
+WeakStepIsDetermined = (E : Env) → OneEach E → (V : Values) (t u w : Term) → WeakStep E V t u → WeakStep E V t w → u ≡ w
 
 -- and one weak-head normal form at most
 abbrev pub WhnfIsDetermined : Type 0
-WhnfIsDetermined = (E : Env) → IsAccepted E → (V : Values) (t u w : Term) → IsWhnf E V t u → IsWhnf E V t w → u ≡ w
+WhnfIsDetermined = (E : Env) → OneEach E → (V : Values) (t u w : Term) → IsWhnf E V t u → IsWhnf E V t w → u ≡ w
 
 -- a type is a bare type
 abbrev pub TypesAreBare : Type 0

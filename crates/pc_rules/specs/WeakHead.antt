@@ -1,5 +1,5 @@
 -- Weak-head reduction: the steps at the head of a term (PCUIC, POPL 2020, section 2.2 and its weak-head reduction strategy).
--- A term has at most one such step, so at most one end: its weak-head normal form.
+-- Where each name is declared once, a term has at most one such step, so at most one end: its weak-head normal form.
 use Rattle.std.specs.Prelude.{ℕ, ◌≡◌, List, Some, length, slice_get}
 use Rattle.pc_terms.specs.declared.leaf.FamilyId.{FamilyId}
 use Rattle.pc_terms.specs.Syntax.{Term, Terms, App, Case, Fix, apply}

@@ -23,7 +23,7 @@ pub trait Converter {
     /// Whether a term is below another (PCUIC, cumulativity); environment, context and terms are well counted.
     ///
     /// `Broken` keeps the first pair of weak-head normal forms that clash. `Spent` exactly where the comparison has no end within the units
-    /// left and no limit was passed. `TooDeep` only where a term is beyond the limits of terms in memory, or more than 2,048 rules would
+    /// left and `TooDeep` did not come. `TooDeep` only where a term is beyond the limits of terms in memory, or more than 2,048 rules would
     /// stand in one another.
     fn below(
         &self,

@@ -19,8 +19,8 @@ pub trait Guarder {
     /// the weak-head normal forms of its own recursive arguments' types are families applied to arguments.
     ///
     /// `Broken` keeps the weak-head normal form of the first recursive call's argument that is not smaller, or the fixpoint's variable
-    /// where it has too few arguments. `Spent` exactly where the walk has no end within the units left and no limit was passed. `TooDeep`
-    /// only where a term is beyond the limits of terms in memory.
+    /// where it has too few arguments. `Spent` exactly where the walk has no end within the units left and `TooDeep` did not come.
+    /// `TooDeep` only where a term is beyond the limits of terms in memory.
     fn fix(
         &self,
         alloc: Global,

@@ -15,6 +15,7 @@ ghost use Rattle.pc_rules.specs.Laws.{
   BelowHasEquality,
   BelowHasProp,
   AcceptedHasOneEach,
+  HeadsKeepOneEach,
   EvaluationIsDetermined,
   WeakStepsAreSteps,
   WhnfIsEqual,
@@ -50,18 +51,20 @@ pub fn below_is_a_preorder()
     ensures prop { BelowHasProp }
 {}
 
-/// A name of an accepted environment has one declaration.
+/// In an accepted environment each name is declared once: no constant has two bodies, and no family of a whole block two declarations. That
+/// stays so where a block's heads are kept besides.
 pub fn accepted_names_have_one_declaration()
     ensures one_each { AcceptedHasOneEach }
+    ensures heads { HeadsKeepOneEach }
 {}
 
-/// Over an accepted environment an evaluation has one value and one number of nodes.
+/// Where each name is declared once, an evaluation has one value and one number of nodes.
 pub fn evaluation_is_deterministic()
     ensures determined { EvaluationIsDetermined }
 {}
 
-/// A weak-head step is a step, so a weak-head normal form is equal to its term; and over an accepted environment a term has one weak-head
-/// step at most, and one weak-head normal form at most.
+/// A weak-head step is a step, so a weak-head normal form is equal to its term; and where each name is declared once, a term has one
+/// weak-head step at most, and one weak-head normal form at most.
 pub fn weak_head_normal_form_is_unique()
     ensures steps { WeakStepsAreSteps }
     ensures equal { WhnfIsEqual }

@@ -15,8 +15,8 @@ use std::alloc::Global;
 /// Reduces terms to weak-head normal form.
 pub trait Reducer {
     /// The weak-head normal form of a term, for which each weak-head step takes a unit (PCUIC, weak-head reduction). `Spent` exactly where
-    /// the steps have no end within the units left and no limit was passed. `TooDeep` only where a term of the steps is beyond the limits
-    /// of terms in memory.
+    /// the steps have no end within the units left and `TooDeep` did not come. `TooDeep` only where a term of the steps is beyond the
+    /// limits of terms in memory.
     fn whnf(
         &self,
         alloc: Global,

@@ -21,9 +21,9 @@ use universe_levels::sort::Sort;
 ///
 /// Environment and context are well counted: no level number in them is above that of the environment's last level, and each match in them
 /// is of a family of a whole block that is kept, with as many parameters, variables and branches as the block gives it (said in full at
-/// `Converter`). `Broken` keeps what the first broken rule says. `Spent` exactly where the rules have no end within the units left and no
-/// limit was passed. `TooDeep` only where a term is beyond the limits of terms in memory, an addition to a level would pass 4,294,967,295,
-/// or more than 2,048 rules would stand in one another.
+/// `Converter`). `Broken` keeps what the first broken rule says. `Spent` exactly where the rules have no end within the units left and
+/// `TooDeep` did not come. `TooDeep` only where a term is beyond the limits of terms in memory, an addition to a level would pass
+/// 4,294,967,295, or more than 2,048 rules would stand in one another.
 pub trait Typer {
     /// A type of a term.
     fn infer(

@@ -15,7 +15,7 @@ use Rattle.pc_rules.specs.declared.declaration.Kept.TheVariants.{Constant, Heads
 use Rattle.pc_rules.specs.declared.entry.Entry.TheVariants.{Assumed}
 use Rattle.pc_rules.specs.declared.broken.Broken.TheVariants.{CountWrong, ElimNotAllowed, NotTheFamily}
 use Rattle.pc_rules.specs.declared.meter.Account.{Account}
-use Rattle.pc_rules.specs.Environment.{Env, FamilyDecl, KeepsFamily}
+use Rattle.pc_rules.specs.Environment.{Env, FamilyDecl, family_at, KeepsFamily}
 use Rattle.pc_rules.specs.Context.{Context, values, extend}
 use Rattle.pc_rules.specs.Instances.{predicate_entries, branch_entries, predicate_at, branch_type}
 use Rattle.pc_rules.specs.Elimination.{AllProp, IsSingle, MayEliminate}
@@ -23,7 +23,7 @@ use Rattle.pc_rules.specs.Typing.{guarded, Types, case, conv as convert, TypesAl
 use Rattle.pc_rules.specs.Same.{same}
 use Rattle.pc_rules.specs.DirectedRun as run
 use Rattle.pc_rules.specs.DirectedRun.{Run, done, make, passing, any_beyond, bind}
-use Rattle.pc_rules.specs.DirectedWeakHead.{kept_at, whole_block, family_of, whnf}
+use Rattle.pc_rules.specs.DirectedWeakHead.{if_some, kept_at, whole_block, family_of, whnf}
 use Rattle.pc_rules.specs.DirectedComparison.{Comparison, list_of}
 use Rattle.pc_rules.specs.DirectedTyping.{Typing, conv, sort_of, check, retype, find_family, counted, names_counted, match_counted, check_all, sorts_of, all_prop, few_constructors, is_single, may_eliminate, eliminated, is_the_family, found_family, scrutinee_fits, scrutinee_rule, branch_beyond, branch_rule, branches_rule, predicate_rule, case_rule}
 use Rattle.pc_rules.specs.WellCounted.{IsCountedNode, arities, IsCounted, AreCounted, AreCountedConstructors, HasCountedDeclarations, IsCountedContext}
@@ -102,27 +102,29 @@ one_family [] h = false_true h
 one_family (G ∷ []) h = (G, refl)
 one_family (G ∷ H ∷ Fs) h = let e : suc (suc (length Fs)) ≡ 1 = eqb-true (suc (suc (length Fs))) 1 h in absurd (omega arith)
 
-single_is : (E : Env) (f : FamilyId) (F : FamilyDecl) (o : Option Kept) → kept_at E.declarations f.block ≡ o → is_single (whole_block o) F ≡ true → IsSingle E f F
-single_is E f F None e h = false_true h
-single_is E f F (Some (Constant k T b)) e h = false_true h
-single_is E f F (Some (Heads B)) e h = false_true h
-single_is E f F (Some (Whole B)) e h =
+single_is : (E : Env) (f : FamilyId) (F : FamilyDecl) (o : Option Kept) → kept_at E.declarations f.block ≡ o →
+    if_some (whole_block o) (λ B. family_at B f.family) ≡ Some F → is_single (whole_block o) F ≡ true → IsSingle E f F
+single_is E f F None e q h = false_true h
+single_is E f F (Some (Constant k T b)) e q h = false_true h
+single_is E f F (Some (Heads B)) e q h = false_true h
+single_is E f F (Some (Whole B)) e q h =
     let k = kept_is E.declarations f.block (Whole B) e in
     let t = both_true (length B.families == 1) (few_constructors F.constructors) h in
-    ((B, k.0, k.1, one_family B.families t.0), few_are F.constructors t.1)
+    ((B, k.0, k.1, q, one_family B.families t.0), few_are F.constructors t.1)
 
 of_not_prop : {A : Type 0} {r : Sort} {u : List LevelExpr} → r ≡ Of u → r ≡ Prop → A
 of_not_prop e p = absurd (cc)
 
-elimination_is : (E : Env) (f : FamilyId) (F : FamilyDecl) (r s : Sort) → F.sort ≡ r → may_eliminate (whole_block (kept_at E.declarations f.block)) F r s ≡ true → MayEliminate E f F s
-elimination_is E f F (Of u) s e h = inl (λ p. of_not_prop e p)
-elimination_is E f F Prop Prop e h = inr (inl refl)
-elimination_is E f F Prop (Of x) e h = inr (inr (single_is E f F (kept_at E.declarations f.block) refl h))
+elimination_is : (E : Env) (f : FamilyId) (F : FamilyDecl) (r s : Sort) → F.sort ≡ r → family_of E f ≡ Some F →
+    may_eliminate (whole_block (kept_at E.declarations f.block)) F r s ≡ true → MayEliminate E f F s
+elimination_is E f F (Of u) s e q h = inl (λ p. of_not_prop e p)
+elimination_is E f F Prop Prop e q h = inr (inl refl)
+elimination_is E f F Prop (Of x) e q h = inr (inr (single_is E f F (kept_at E.declarations f.block) refl q h))
 
-eliminated_is : (E : Env) (f : FamilyId) (F : FamilyDecl) (s : Sort) (u v : Account) →
+eliminated_is : (E : Env) (f : FamilyId) (F : FamilyDecl) (s : Sort) (u v : Account) → family_of E f ≡ Some F →
     (eliminated (whole_block (kept_at E.declarations f.block)) f F s u).end ≡ run.Done tt v → MayEliminate E f F s
-eliminated_is E f F s u v h =
-    elimination_is E f F F.sort s refl (tested (may_eliminate (whole_block (kept_at E.declarations f.block)) F F.sort s) (done tt u) (ElimNotAllowed f) u tt v h).0
+eliminated_is E f F s u v q h =
+    elimination_is E f F F.sort s refl q (tested (may_eliminate (whole_block (kept_at E.declarations f.block)) F F.sort s) (done tt u) (ElimNotAllowed f) u tt v h).0
 
 -- the family of a scrutinee
 
@@ -163,10 +165,10 @@ module _ (E : Env) (w : HasCountedDeclarations E) (inf : Typing) (si : Infers E 
     pub may : MayEliminate E f F target
     pub subject : IsCounted E ret
 
-  predicate_sound : (c : Context) (f : FamilyId) (F : FamilyDecl) (ps : List Term) (ret : Term) (u v : Account) → IsCountedContext E c → IsCountedFamilyDecl E F →
-      AreCounted E ps → IsFormed ret → (predicate_rule E inf c (whole_block (kept_at E.declarations f.block)) f F ps ret u).end ≡ run.Done tt v →
-      IsPredicate c f F ps ret
-  predicate_sound c f F ps ret u v k wF wps fr h =
+  predicate_sound : (c : Context) (f : FamilyId) (F : FamilyDecl) (ps : List Term) (ret : Term) (u v : Account) → IsCountedContext E c →
+      family_of E f ≡ Some F → IsCountedFamilyDecl E F → AreCounted E ps → IsFormed ret →
+      (predicate_rule E inf c (whole_block (kept_at E.declarations f.block)) f F ps ret u).end ≡ run.Done tt v → IsPredicate c f F ps ret
+  predicate_sound c f F ps ret u v k q wF wps fr h =
       let B : Option Block = whole_block (kept_at E.declarations f.block) in
       let D : Context = extend c (predicate_entries f F ps) in
       let k2 : List Sort → Account → Run (Unit {0}) = λ _ w. bind (sort_of E inf D ret w) (λ s x. eliminated B f F s x) in
@@ -176,7 +178,7 @@ module _ (E : Env) (w : HasCountedDeclarations E) (inf : Typing) (si : Infers E 
       let all = predicate_entries_counted E f F ps wF wps in
       let es = entries_sound c (predicate_entries f F ps) p1.0 u p1.1 k (all_formed E (predicate_entries f F ps) all) p1.2 in
       let s = sort_sound E w inf si D ret p2.0 p1.1 p2.1 (context_extended E c (predicate_entries f F ps) k all) fr p2.2 in
-      record { target = p2.0; entries = es.entries; typed = s.0; may = eliminated_is E f F p2.0 p2.1 v p2.3; subject = s.1 }
+      record { target = p2.0; entries = es.entries; typed = s.0; may = eliminated_is E f F p2.0 p2.1 v q p2.3; subject = s.1 }
 
   module _ (cmp : Comparison) (sc : IsSound E cmp) where
     -- terms against a telescope
@@ -304,7 +306,7 @@ module _ (E : Env) (w : HasCountedDeclarations E) (inf : Typing) (si : Infers E 
         let wF : IsCountedFamilyDecl E F = kept_counted E f F w keeps in
         let counts : Counted F ps n bs = match_is_counted F ps n bs p1.1 p2.1 p2.2 in
         let as' = all_sound c Rel qs F.parameters p2.1 p3.1 k (rel_counted E) (list_long ps ∙ counts.parameters) (formed_list ps fc.1.0) wF.0 p3.2 in
-        let pr = predicate_sound c f F qs ret p3.1 p4.1 k wF as'.1 fc.1.1.0 p4.2 in
+        let pr = predicate_sound c f F qs ret p3.1 p4.1 k family wF as'.1 fc.1.1.0 p4.2 in
         let sr = scrutinee_sound c f F qs t is p4.1 p5.1 k as'.1 fc.1.1.1.0 p5.2 in
         let br = branches_sound c f 0 F.constructors qs ret bs p5.1 p6.1 k wF.2 as'.1 pr.subject fc.1.1.1.1.0 counts.branches p6.2 in
         let typed : Types guarded E c (Case f (terms_of qs) n ret t bs) (predicate_at ret is t) =

@@ -1,4 +1,3 @@
-use Rattle.pc_rules.proofs.OneEach.{one_of_each}
 use Rattle.pc_rules.proofs.WeakHead.{weak_step, weak_equal, weak_determined, whnf_determined}
 use Rattle.pc_rules.proofs.laws.weak_head_normal_form_is_unique.Goals as goal
 
@@ -6,6 +5,6 @@ pub returns : goal.returns
 returns c = record {
   steps = λ E V t u p. weak_step p;
   equal = λ E V t u h. weak_equal h.0;
-  step = λ E a V t u w p q. weak_determined (one_of_each E a) p q;
-  unique = λ E a V t u w h h'. whnf_determined (one_of_each E a) h.0 h.1 h'.0 h'.1;
+  step = λ E o V t u w p q. weak_determined o p q;
+  unique = λ E o V t u w h h'. whnf_determined o h.0 h.1 h'.0 h'.1;
 }
