@@ -4,3 +4,4 @@ pub mod NodeTrees
 pub mod Applied
 pub mod Forms
 pub mod Numbered
+pub mod Unlifted

@@ -15,7 +15,8 @@ use std::alloc::Global;
 impl Term {
     /// The term with `k` added to each variable that is `n` or more.
     ///
-    /// Subterms that are closed below the cutoff are shared. `TooDeep` where a variable number passes 4,294,967,295.
+    /// Subterms that are closed below the cutoff are shared, and the whole term where `k` is 0. `TooDeep` where a variable number passes
+    /// 4,294,967,295.
     #[tactic(auto, using(trees::proofs::Cutoffs::cutoff_laws))]
     pub fn lift(&self, alloc: Global, k: u32, n: u32) -> Result<Term, MakeFault>
         ensures ok { IfOk result (λ t. t ≡ lift k n self.now) }
@@ -31,7 +32,7 @@ impl Terms {
     #[cycle(lift)]
     #[tactic(auto, using(crate::proofs::Parts::part_laws, trees::proofs::Closed::closed_laws, std::proofs::lemmas::Grind::common_steps))]
     fn lift_above(&self, alloc: Global, k: u32, n: u64) -> Result<Terms, MakeFault>
-        requires { n < 2 ^ 32 }
+        requires small { n < 2 ^ 32 }
         ensures ok { IfOk result (λ out. out ≡ map (walk (lift_var k) n) self.now) }
         ensures too_deep { IfErr result (λ e. e ≡ TooDeep → AreBeyond (terms_of (map (walk (lift_var k) n) self.now))) }
     {
@@ -50,7 +51,7 @@ impl Branches {
     #[cycle(lift)]
     #[tactic(auto, using(crate::proofs::Parts::part_laws, trees::proofs::Closed::closed_laws, std::proofs::lemmas::Grind::common_steps))]
     fn lift_above(&self, alloc: Global, k: u32, n: u64) -> Result<Branches, MakeFault>
-        requires { n < 2 ^ 32 }
+        requires small { n < 2 ^ 32 }
         ensures ok { IfOk result (λ out. out ≡ map (walk_branch (lift_var k) n) self.now) }
         ensures too_deep { IfErr result (λ e. e ≡ TooDeep → AreBeyond (arms_of (map (walk_branch (lift_var k) n) self.now))) }
     {
@@ -70,7 +71,7 @@ impl Defs {
     #[cycle(lift)]
     #[tactic(auto, using(crate::proofs::Parts::part_laws, trees::proofs::Closed::closed_laws, std::proofs::lemmas::Grind::common_steps))]
     fn lift_above(&self, alloc: Global, k: u32, n: u64) -> Result<Defs, MakeFault>
-        requires { n < 2 ^ 32 }
+        requires small { n < 2 ^ 32 }
         ensures ok { IfOk result (λ out. out ≡ map (walk_def (lift_var k) n (length self.now)) self.now) }
         ensures too_deep { IfErr result (λ e. e ≡ TooDeep → AreBeyondDefs (map (walk_def (lift_var k) n (length self.now)) self.now)) }
     {
@@ -92,7 +93,7 @@ impl Match {
     #[cycle(lift)]
     #[tactic(auto, using(crate::proofs::Parts::part_laws, trees::proofs::Closed::closed_laws, std::proofs::lemmas::Grind::common_steps))]
     fn lift_above(&self, alloc: Global, k: u32, n: u64) -> Result<Match, MakeFault>
-        requires { n < 2 ^ 32 }
+        requires small { n < 2 ^ 32 }
         ensures ok { IfOk result (λ m. m ≡ walk_match (lift_var k) n self.now) }
         ensures too_deep { IfErr result (λ e. e ≡ TooDeep → IsBeyond (tree_of (Case (walk_match (lift_var k) n self.now)))) }
     {
@@ -113,13 +114,13 @@ impl Match {
 
 impl Term {
     #[cycle(lift)]
-    #[tactic(auto, using(crate::proofs::Parts::part_laws, trees::proofs::Closed::closed_laws, std::proofs::lemmas::Grind::common_steps))]
+    #[tactic(auto, using(crate::proofs::Parts::part_laws, crate::proofs::Unlifted::unlifted_laws, trees::proofs::Closed::closed_laws, std::proofs::lemmas::Grind::common_steps))]
     pub(crate) fn lift_above(&self, alloc: Global, k: u32, n: u64) -> Result<Term, MakeFault>
         ensures ok { IfOk result (λ t. t ≡ walk (lift_var k) n self.now) }
         ensures within { IfOk result IsWithin }
         ensures too_deep { IfErr result (λ e. e ≡ TooDeep → IsBeyond (walk (lift_var k) n self.now)) }
     {
-        if self.loose() <= n {
+        if k == 0 || self.loose() <= n {
             return self.share();
         }
         match self.view() {

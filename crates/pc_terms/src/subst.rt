@@ -15,8 +15,8 @@ use std::alloc::Global;
 impl Term {
     /// The term with `a`, lifted by `k`, in the place of variable `k`, and the variables above `k` lowered by one.
     ///
-    /// Subterms that are closed below the cutoff are shared. `TooDeep` where the term asked for has a depth over 2,048 or a variable
-    /// number over 4,294,967,295.
+    /// Subterms that are closed below the cutoff are shared, and so is `a` where it is lifted by 0. `TooDeep` where the term asked for
+    /// has a depth over 2,048 or a variable number over 4,294,967,295.
     #[tactic(auto, using(trees::proofs::Cutoffs::cutoff_laws))]
     pub fn subst(&self, alloc: Global, k: u32, a: &Term) -> Result<Term, MakeFault>
         ensures ok { IfOk result (λ t. t ≡ subst k a.now self.now) }
@@ -32,7 +32,7 @@ impl Terms {
     #[cycle(subst)]
     #[tactic(auto, using(crate::proofs::Parts::part_laws, trees::proofs::Closed::closed_laws, std::proofs::lemmas::Grind::common_steps))]
     fn subst_above(&self, alloc: Global, k: u64, x: &Term) -> Result<Terms, MakeFault>
-        requires { k < 2 ^ 32 }
+        requires small { k < 2 ^ 32 }
         ensures ok { IfOk result (λ out. out ≡ map (walk (subst_var x.now) k) self.now) }
         ensures too_deep { IfErr result (λ e. e ≡ TooDeep → AreBeyond (terms_of (map (walk (subst_var x.now) k) self.now))) }
     {
@@ -51,7 +51,7 @@ impl Branches {
     #[cycle(subst)]
     #[tactic(auto, using(crate::proofs::Parts::part_laws, trees::proofs::Closed::closed_laws, std::proofs::lemmas::Grind::common_steps))]
     fn subst_above(&self, alloc: Global, k: u64, x: &Term) -> Result<Branches, MakeFault>
-        requires { k < 2 ^ 32 }
+        requires small { k < 2 ^ 32 }
         ensures ok { IfOk result (λ out. out ≡ map (walk_branch (subst_var x.now) k) self.now) }
         ensures too_deep { IfErr result (λ e. e ≡ TooDeep → AreBeyond (arms_of (map (walk_branch (subst_var x.now) k) self.now))) }
     {
@@ -71,7 +71,7 @@ impl Defs {
     #[cycle(subst)]
     #[tactic(auto, using(crate::proofs::Parts::part_laws, trees::proofs::Closed::closed_laws, std::proofs::lemmas::Grind::common_steps))]
     fn subst_above(&self, alloc: Global, k: u64, x: &Term) -> Result<Defs, MakeFault>
-        requires { k < 2 ^ 32 }
+        requires small { k < 2 ^ 32 }
         ensures ok { IfOk result (λ out. out ≡ map (walk_def (subst_var x.now) k (length self.now)) self.now) }
         ensures too_deep { IfErr result (λ e. e ≡ TooDeep → AreBeyondDefs (map (walk_def (subst_var x.now) k (length self.now)) self.now)) }
     {
@@ -93,7 +93,7 @@ impl Match {
     #[cycle(subst)]
     #[tactic(auto, using(crate::proofs::Parts::part_laws, trees::proofs::Closed::closed_laws, std::proofs::lemmas::Grind::common_steps))]
     fn subst_above(&self, alloc: Global, k: u64, x: &Term) -> Result<Match, MakeFault>
-        requires { k < 2 ^ 32 }
+        requires small { k < 2 ^ 32 }
         ensures ok { IfOk result (λ m. m ≡ walk_match (subst_var x.now) k self.now) }
         ensures too_deep { IfErr result (λ e. e ≡ TooDeep → IsBeyond (tree_of (Case (walk_match (subst_var x.now) k self.now)))) }
     {

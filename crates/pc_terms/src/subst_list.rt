@@ -16,7 +16,8 @@ impl Term {
     /// The term with the items of `list` in the place of its innermost variables, all at once, the last item in the place of variable
     /// 0, and the variables above them lowered by as many.
     ///
-    /// Closed subterms are shared. `TooDeep` where the term asked for has a depth over 2,048 or a variable number over 4,294,967,295.
+    /// Closed subterms are shared, and so are items where they are lifted by 0. `TooDeep` where the term asked for has a depth over 2,048
+    /// or a variable number over 4,294,967,295.
     #[tactic(auto, using(trees::proofs::Cutoffs::cutoff_laws))]
     pub fn subst_list(&self, alloc: Global, list: &Terms) -> Result<Term, MakeFault>
         ensures ok { IfOk result (λ t. t ≡ subst_list 0 list.now self.now) }
@@ -44,7 +45,7 @@ impl Terms {
     #[cycle(subst_list)]
     #[tactic(auto, using(crate::proofs::Parts::part_laws, trees::proofs::Closed::closed_laws, std::proofs::lemmas::Grind::common_steps))]
     fn subst_list_above(&self, alloc: Global, k: u64, xs: &Terms) -> Result<Terms, MakeFault>
-        requires { k < 2 ^ 32 }
+        requires small { k < 2 ^ 32 }
         ensures ok { IfOk result (λ out. out ≡ map (walk (subst_list_var xs.now) k) self.now) }
         ensures too_deep { IfErr result (λ e. e ≡ TooDeep → AreBeyond (terms_of (map (walk (subst_list_var xs.now) k) self.now))) }
     {
@@ -63,7 +64,7 @@ impl Branches {
     #[cycle(subst_list)]
     #[tactic(auto, using(crate::proofs::Parts::part_laws, trees::proofs::Closed::closed_laws, std::proofs::lemmas::Grind::common_steps))]
     fn subst_list_above(&self, alloc: Global, k: u64, xs: &Terms) -> Result<Branches, MakeFault>
-        requires { k < 2 ^ 32 }
+        requires small { k < 2 ^ 32 }
         ensures ok { IfOk result (λ out. out ≡ map (walk_branch (subst_list_var xs.now) k) self.now) }
         ensures too_deep { IfErr result (λ e. e ≡ TooDeep → AreBeyond (arms_of (map (walk_branch (subst_list_var xs.now) k) self.now))) }
     {
@@ -83,7 +84,7 @@ impl Defs {
     #[cycle(subst_list)]
     #[tactic(auto, using(crate::proofs::Parts::part_laws, trees::proofs::Closed::closed_laws, std::proofs::lemmas::Grind::common_steps))]
     fn subst_list_above(&self, alloc: Global, k: u64, xs: &Terms) -> Result<Defs, MakeFault>
-        requires { k < 2 ^ 32 }
+        requires small { k < 2 ^ 32 }
         ensures ok { IfOk result (λ out. out ≡ map (walk_def (subst_list_var xs.now) k (length self.now)) self.now) }
         ensures too_deep { IfErr result (λ e. e ≡ TooDeep → AreBeyondDefs (map (walk_def (subst_list_var xs.now) k (length self.now)) self.now)) }
     {
@@ -105,7 +106,7 @@ impl Match {
     #[cycle(subst_list)]
     #[tactic(auto, using(crate::proofs::Parts::part_laws, trees::proofs::Closed::closed_laws, std::proofs::lemmas::Grind::common_steps))]
     fn subst_list_above(&self, alloc: Global, k: u64, xs: &Terms) -> Result<Match, MakeFault>
-        requires { k < 2 ^ 32 }
+        requires small { k < 2 ^ 32 }
         ensures ok { IfOk result (λ m. m ≡ walk_match (subst_list_var xs.now) k self.now) }
         ensures too_deep { IfErr result (λ e. e ≡ TooDeep → IsBeyond (tree_of (Case (walk_match (subst_list_var xs.now) k self.now)))) }
     {

@@ -157,12 +157,48 @@ fn lists_are_made_of_vectors(rt: HostRuntime) -> Result<(), Fail> {
 }
 
 #[test]
-fn deepest(rt: HostRuntime) -> Result<(), Fail> {
+fn lists_give_their_last_item_back(rt: HostRuntime) -> Result<(), Fail> {
     let alloc = rt.alloc();
+    let mut numbers = Numbers::new(alloc);
+    assert!(rt; numbers.is_empty());
+    numbers.push(4)?;
+    numbers.push(9)?;
+    assert_eq!(rt; numbers.len(), 2);
+    assert_eq!(rt; numbers.pop(), Some(9));
+    assert_eq!(rt; numbers.as_slice(), [4].as_slice());
+    let mut telescope = Telescope::new(alloc);
+    telescope.push(rel(alloc, 3)?)?;
+    let ty = telescope.pop().ok_or("no type")?;
+    assert!(rt; ty.same(&rel(alloc, 3)?));
+    assert!(rt; telescope.is_empty());
+    let mut branches = Branches::new(alloc);
+    let body = rel(alloc, 1)?;
+    branches.push(Branch { binders: 2, body })?;
+    let branch = branches.pop().ok_or("no branch")?;
+    assert_eq!(rt; branch.binders, 2);
+    assert!(rt; branches.is_empty());
+    let mut defs = Defs::new(alloc);
+    let (ty, body) = (rel(alloc, 0)?, rel(alloc, 1)?);
+    defs.push(Def { ty, body, rarg: 5 })?;
+    let def = defs.pop().ok_or("no definition")?;
+    assert_eq!(rt; def.rarg, 5);
+    assert!(rt; defs.is_empty());
+    Ok(())
+}
+
+/// A term of the greatest depth, 2,048.
+fn deepest_term(alloc: Global) -> Result<Term, MakeFault> {
     let mut t = rel(alloc, 7)?;
     for _ in 0..2047 {
         t = Term::make(alloc, Node::Lambda(rel(alloc, 3000)?, t))?;
     }
+    Ok(t)
+}
+
+#[test]
+fn deepest(rt: HostRuntime) -> Result<(), Fail> {
+    let alloc = rt.alloc();
+    let t = deepest_term(alloc)?;
     assert_eq!(rt; t.depth(), 2048);
     let u = t.lift(alloc, 1, 0)?;
     assert!(rt; !t.same(&u));
@@ -186,5 +222,46 @@ fn knows_shared_terms_again(rt: HostRuntime) -> Result<(), Fail> {
     assert!(rt; u.same(&v));
     assert!(rt; u.same(&u));
     assert!(rt; !u.same(&t));
+    Ok(())
+}
+
+/// The greatest variable lifted by one is beyond the limits, and so is the deepest term applied to an argument.
+#[test]
+fn refuses_what_is_beyond_the_limits(rt: HostRuntime) -> Result<(), Fail> {
+    let alloc = rt.alloc();
+    let top = rel(alloc, 4_294_967_295)?;
+    let mut tops = Terms::new(alloc);
+    tops.push(top.share()?)?;
+    let prop = Term::make(alloc, Node::Sort(Sort::Prop))?;
+    let constant = Term::make(alloc, Node::Lambda(prop, rel(alloc, 1)?))?;
+    let refused = [
+        constant.subst(alloc, 0, &top),
+        constant.subst_list(alloc, &tops),
+        rel(alloc, 1)?.subst_list_at(alloc, 1, &tops),
+        deepest_term(alloc)?.apply(alloc, &tops),
+    ];
+    for result in refused {
+        assert!(rt; matches!(result, Err(MakeFault::TooDeep)));
+    }
+    Ok(())
+}
+
+/// Each round doubles the value, so the last tree has 2^61 leaves: it is made in time since what is put in for variable 0 is shared.
+#[test]
+fn shares_what_is_put_in(rt: HostRuntime) -> Result<(), Fail> {
+    let alloc = rt.alloc();
+    let double = pair(alloc, 0, 0)?;
+    let mut value = pair(alloc, 0, 1)?;
+    for _ in 0..60 {
+        let mut values = Terms::new(alloc);
+        values.push(value.share()?)?;
+        let twice = Term::make(alloc, Node::App(value.share()?, value.share()?))?;
+        assert!(rt; double.subst_list(alloc, &values)?.same(&twice));
+        assert!(rt; value.lift(alloc, 0, 0)?.same(&value));
+        value = double.subst(alloc, 0, &value)?;
+        assert!(rt; value.same(&twice));
+    }
+    assert_eq!(rt; value.depth(), 62);
+    assert_eq!(rt; value.loose(), 2);
     Ok(())
 }

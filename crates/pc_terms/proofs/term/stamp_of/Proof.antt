@@ -1,7 +1,7 @@
 -- `stamp_of` has a stamp made for the number of the node's tree.
 use Prim.Native.Nat.{ℕ}
 use mathlib.Core.Path.{◌≡◌, refl}
-use mathlib.Core.List.{List, [], ◌∷◌}
+use mathlib.Core.List.{[], ◌∷◌}
 use mir.Syntax.{named}
 use base.Logic.{id⊢, emp}
 use base.Fml.{ftrue, flft}
