@@ -32,8 +32,8 @@ use std::alloc::Global;
 
 /// A constructor of a whole block, which is there.
 fn kept_constructor(env: &Env, id: FamilyId, c: u32) -> &Constructor
-    requires { IsSome (constructor_of env.now id c) }
-    ensures { constructor_of env.now id c ≡ Some result.now }
+    requires kept { IsSome (constructor_of env.now id c) }
+    ensures is { constructor_of env.now id c ≡ Some result.now }
 {
     let block = env.whole_block(id.block).unwrap();
     let family = &block.families.as_slice()[id.family as usize];

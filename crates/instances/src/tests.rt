@@ -30,6 +30,9 @@ const EQ: u32 = 2;
 
 const ACC: u32 = 3;
 
+// Its index and its constructor's argument are as deep as a term can be.
+const DEEP: u32 = 4;
+
 fn id(family: u32) -> FamilyId {
     FamilyId {
         block: Name(family),
@@ -65,7 +68,17 @@ fn place_of(word: &str, words: &[&str]) -> Option<u32> {
     None
 }
 
-/// A family, a constructor, a sort or a variable.
+/// A term of depth 2,048.
+fn deepest(alloc: Global) -> Result<Term, Fail> {
+    let mut term = Term::make(alloc, Node::Sort(Sort::Prop))?;
+    for _more in 0..2047 {
+        let domain = Term::make(alloc, Node::Sort(Sort::Prop))?;
+        term = Term::make(alloc, Node::Prod(domain, term))?;
+    }
+    Ok(term)
+}
+
+/// A family, a constructor, a sort, the deepest term or a variable.
 fn leaf(alloc: Global, word: &str) -> Result<Term, Fail> {
     if let Some(family) = place_of(word, &["nat", "list", "eq", "acc"]) {
         return ind(alloc, family);
@@ -78,6 +91,9 @@ fn leaf(alloc: Global, word: &str) -> Result<Term, Fail> {
     }
     if word == "Prop" {
         return Ok(Term::make(alloc, Node::Sort(Sort::Prop))?);
+    }
+    if word == "deepest" {
+        return deepest(alloc);
     }
     let index = word.parse::<u32>().ok().ok_or("no term")?;
     Ok(Term::make(alloc, Node::Rel(index))?)
@@ -128,6 +144,7 @@ fn arguments(family: u32, c: u32) -> &'static str {
         (NAT, 1) => "nat",
         (LIST, 1) => "0 list 1 @",
         (ACC, _) => "2 2 0 @ 1 @ acc 4 @ 3 @ 1 @ -> ->",
+        (DEEP, _) => "deepest",
         _ => "",
     }
 }
@@ -153,7 +170,11 @@ fn constructors(alloc: Global, family: u32) -> Result<Constructors, Fail> {
 }
 
 fn family(alloc: Global, family: u32) -> Result<Family, Fail> {
-    let indices = if family == EQ { "1" } else { "" };
+    let indices = match family {
+        EQ => "1",
+        DEEP => "deepest",
+        _ => "",
+    };
     let sort = if family <= LIST {
         type_of_level(alloc, family)?
     } else {
@@ -183,7 +204,7 @@ fn environment(alloc: Global) -> Result<Env, Fail> {
         return Err("no graph".into());
     };
     let mut env = Env::new(alloc, graph);
-    for family in 0..4 {
+    for family in 0..5 {
         let block = block(alloc, family)?;
         if env.find(block.name).is_none() {
             env.keep(Kept::Block(block)).map_err(|_| AllocError)?;
@@ -205,7 +226,7 @@ fn has_family(env: &Env, id: FamilyId) -> bool
 
 /// Whether an environment keeps a constructor of a family.
 fn has_constructor(env: &Env, id: FamilyId, c: u32) -> bool
-    ensures { IsTrue result → IsSome (constructor_of env.now id c) }
+    ensures kept { IsTrue result → IsSome (constructor_of env.now id c) }
 {
     let Some(block) = env.whole_block(id.block) else {
         return false;
@@ -383,14 +404,58 @@ fn forms_types_of_branches(rt: HostRuntime) -> Result<(), Fail> {
     Ok(())
 }
 
+/// The product over the deepest term is too deep.
+#[test]
+fn refuses_types_beyond_the_limits(rt: HostRuntime) -> Result<(), Fail> {
+    let alloc = rt.alloc();
+    let env = environment(alloc)?;
+    let here = id(DEEP);
+    assert!(rt; has_family(&env, here));
+    let passed = ind_type(alloc, &env, here);
+    assert!(rt; matches!(passed, Err(Stop::TooDeep)));
+    assert!(rt; has_constructor(&env, here, 0));
+    let passed = construct_type(alloc, &env, here, 0);
+    assert!(rt; matches!(passed, Err(Stop::TooDeep)));
+    Ok(())
+}
+
+/// The index of an equality and the first argument of `cons` lift the last variable of the parameters past the limit.
+#[test]
+fn refuses_entries_beyond_the_limits(rt: HostRuntime) -> Result<(), Fail> {
+    let alloc = rt.alloc();
+    let env = environment(alloc)?;
+    let here = id(EQ);
+    assert!(rt; has_family(&env, here));
+    let params = Terms::of(terms(alloc, "7 4294967295")?);
+    let passed = pred_entries(alloc, &env, here, &params);
+    assert!(rt; matches!(passed, Err(Stop::TooDeep)));
+    let here = id(LIST);
+    assert!(rt; has_constructor(&env, here, 1));
+    let params = Terms::of(terms(alloc, "4294967295")?);
+    let passed = branch_entries(alloc, &env, here, 1, &params);
+    assert!(rt; matches!(passed, Err(Stop::TooDeep)));
+    Ok(())
+}
+
 /// Two arguments raise the last variable outside past the limit.
 #[test]
-fn refuses_what_is_beyond_the_limits(rt: HostRuntime) -> Result<(), Fail> {
+fn refuses_a_branch_beyond_the_limits(rt: HostRuntime) -> Result<(), Fail> {
     let alloc = rt.alloc();
     let env = environment(alloc)?;
     let m = matched(alloc, LIST, "4294967295")?;
     assert!(rt; has_constructor(&env, m.family, 1));
     let passed = branch_type(alloc, &env, &m, 1);
+    assert!(rt; matches!(passed, Err(Stop::TooDeep)));
+    Ok(())
+}
+
+/// The predicate has the scrutinee under a product, which lifts its last variable past the limit.
+#[test]
+fn refuses_a_predicate_beyond_the_limits(rt: HostRuntime) -> Result<(), Fail> {
+    let alloc = rt.alloc();
+    let m = matched(alloc, NAT, "Prop 1 ->")?;
+    let scrut = term(alloc, "4294967295")?;
+    let passed = pred_at(alloc, &m, &Terms::new(alloc), &scrut);
     assert!(rt; matches!(passed, Err(Stop::TooDeep)));
     Ok(())
 }
@@ -436,5 +501,31 @@ fn unfolds_fixpoints(rt: HostRuntime) -> Result<(), Fail> {
     let own = Term::make(alloc, Node::App(first, second))?;
     let outside = term(alloc, "0")?;
     assert!(rt; found.same(&Term::make(alloc, Node::App(own, outside))?));
+    Ok(())
+}
+
+/// One definition with this body.
+fn definition(alloc: Global, body: &str) -> Result<Defs, Fail>
+    ensures one { IfOk result (λ ds. length ds ≡ 1) }
+{
+    let mut defs = Defs::new(alloc);
+    let ty = term(alloc, "Prop")?;
+    let body = term(alloc, body)?;
+    defs.push(Def { ty, body, rarg: 0 })?;
+    Ok(defs)
+}
+
+/// The fixpoint is put in under two products, which lift its last variable to the limit and then past it; and a fixpoint of the deepest
+/// body is too deep.
+#[test]
+fn refuses_fixpoints_beyond_the_limits(rt: HostRuntime) -> Result<(), Fail> {
+    let alloc = rt.alloc();
+    let defs = definition(alloc, "4294967293 Prop Prop 2 -> -> @")?;
+    assert!(rt; fix_unfold(alloc, &defs, 0).is_ok());
+    for body in ["4294967294 Prop Prop 2 -> -> @", "deepest"] {
+        let defs = definition(alloc, body)?;
+        let passed = fix_unfold(alloc, &defs, 0);
+        assert!(rt; matches!(passed, Err(Stop::TooDeep)), "{body}");
+    }
     Ok(())
 }

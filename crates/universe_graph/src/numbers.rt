@@ -20,21 +20,21 @@ impl Model for Numbers {
 impl Numbers {
     /// The list of a vector's items. Takes no memory.
     pub fn of(items: Vec<u32>) -> Numbers
-        ensures { result ≡ items.items }
+        ensures is { result ≡ items.items }
     {
         Numbers { items }
     }
 
     /// The items. Takes no memory.
     pub fn as_slice(&self) -> &[u32]
-        ensures { result.now ≡ self.now }
+        ensures is { result.now ≡ self.now }
     {
         self.items.as_slice()
     }
 
     /// The vector of the items. Takes no memory.
     pub fn into_vec(self) -> Vec<u32>
-        ensures { result.items ≡ self }
+        ensures is { result.items ≡ self }
     {
         self.items
     }

@@ -31,7 +31,7 @@ impl Row {
 
     /// The span to a level.
     pub(crate) fn span(&self, level: usize) -> u16
-        requires { level < length self.now }
+        requires level_in { level < length self.now }
         ensures value { result ≡ slice_index self.now level }
     {
         self.spans[level]
@@ -39,7 +39,7 @@ impl Row {
 
     /// Keeps a span to a level, where it is greater than the one that is there.
     pub(crate) fn offer(&mut self, level: usize, span: u16)
-        requires { level < length self.old }
+        requires level_in { level < length self.old }
         ensures value { self.new ≡ slice_set self.old level (max (slice_index self.old level) span) }
     {
         let most = self.spans[level].max(span);
@@ -48,7 +48,7 @@ impl Row {
 
     /// Takes over the spans of another row of as many levels.
     pub(crate) fn copy_from(&mut self, other: &Row)
-        requires { length self.old ≡ length other.now }
+        requires width { length self.old ≡ length other.now }
         ensures value { self.new ≡ other.now }
     {
         self.spans

@@ -8,7 +8,7 @@ use crate::universe::UniverseFault;
 
 /// Puts level expressions to those of `kept`, one by one; answers only `Memory`.
 pub(crate) fn put_all(kept: &mut Vec<LevelExpr>, parts: &[LevelExpr]) -> Result<(), UniverseFault>
-    requires { IsRising kept.old.items }
+    requires rising { IsRising kept.old.items }
     ensures value { OnOk result (kept.new.items ≡ with_parts kept.old.items parts.now) }
     ensures only_memory { IfErr result (λ e. e ≡ UniverseFault.Memory) }
 {
@@ -20,7 +20,7 @@ pub(crate) fn put_all(kept: &mut Vec<LevelExpr>, parts: &[LevelExpr]) -> Result<
 
 /// Puts a level expression to those of `kept`: a level that is there keeps its greater addition.
 fn put(kept: &mut Vec<LevelExpr>, part: LevelExpr) -> Result<(), UniverseFault>
-    requires { IsRising kept.old.items }
+    requires rising { IsRising kept.old.items }
     ensures value { OnOk result (kept.new.items ≡ with_part part kept.old.items) }
     ensures only_memory { IfErr result (λ e. e ≡ UniverseFault.Memory) }
 {
@@ -35,7 +35,7 @@ fn put(kept: &mut Vec<LevelExpr>, part: LevelExpr) -> Result<(), UniverseFault>
 
 /// How many of the level expressions have a lesser level, by halving.
 fn place(parts: &[LevelExpr], level: Level) -> usize
-    requires { IsRising parts.now }
+    requires rising { IsRising parts.now }
     ensures bound { result ≤ length parts.now }
     ensures lesser { (k : ℕ) → k < result → level_at parts.now k < level.0 }
     ensures others { (k : ℕ) → result ≤ k → k < length parts.now → level.0 ≤ level_at parts.now k }

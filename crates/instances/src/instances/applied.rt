@@ -15,7 +15,7 @@ pub(crate) fn push_variables(
     above: u32,
     count: u32,
 ) -> Result<(), MakeFault>
-    requires { above + count ≤ 2 ^ 32 }
+    requires fits { above + count ≤ 2 ^ 32 }
     ensures ok { IfOk result (λ _. out.new ≡ out.old ++ map (shift above 0) (variables count)) }
     ensures only_memory { IfErr result (λ e. e ≡ Memory) }
 {

@@ -37,7 +37,7 @@ fn result_indices(
     count: u32,
     params: &Terms,
 ) -> Result<Terms, MakeFault>
-    requires { count ≡ length ctor.now.args }
+    requires count { count ≡ length ctor.now.args }
     ensures ok { IfOk result (λ out. out ≡ result_at ctor.now params.now) }
     ensures too_deep { IfErr result (λ e. e ≡ TooDeep → IsTrue (any_beyond (result_at ctor.now params.now))) }
 {

@@ -51,7 +51,7 @@ fn fixpoints_of(alloc: Global, defs: &Defs) -> Result<Terms, MakeFault>
 /// result is beyond the limits of terms, and else only `Memory`, which is also the answer for over 4,294,967,295 definitions: for the
 /// last of them there may be no number of 32 bits.
 pub fn fix_unfold(alloc: Global, defs: &Defs, i: u32) -> Result<Term, MakeFault>
-    requires { i < length defs.now }
+    requires there { i < length defs.now }
     ensures ok { IfOk result (λ t. unfolding_of defs.now i ≡ Some t) }
     ensures too_deep { IfErr result (λ e. e ≡ TooDeep → IsTrue (unfolding_beyond defs.now i)) }
 {

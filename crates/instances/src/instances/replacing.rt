@@ -19,6 +19,7 @@ use std::alloc::Global;
 /// the variables outside them lowered by as many and raised by `raise`. `TooDeep` only where that is beyond the limits.
 pub fn replace(alloc: Global, t: &Term, raise: u32, list: &Terms) -> Result<Term, MakeFault>
     ensures ok { IfOk result (λ u. u ≡ substitute (put_all list.now (λ i. variable (raise + i))) t.now) }
+    ensures within { IfOk result IsWithin }
     ensures too_deep { IfErr result (λ e. e ≡ TooDeep → IsBeyond (substitute (put_all list.now (λ i. variable (raise + i))) t.now)) }
 {
     replace_above(alloc, t, 0, raise, list)
@@ -33,7 +34,7 @@ fn terms_above(
     raise: u32,
     list: &Terms,
 ) -> Result<Terms, MakeFault>
-    requires { k < 2 ^ 32 }
+    requires small { k < 2 ^ 32 }
     ensures ok { IfOk result (λ out. out ≡ map (walk (replaced_var list.now raise) k) ts.now) }
     ensures too_deep { IfErr result (λ e. e ≡ TooDeep → AreBeyond (terms_of (map (walk (replaced_var list.now raise) k) ts.now))) }
 {
@@ -54,7 +55,7 @@ fn branches_above(
     raise: u32,
     list: &Terms,
 ) -> Result<Branches, MakeFault>
-    requires { k < 2 ^ 32 }
+    requires small { k < 2 ^ 32 }
     ensures ok { IfOk result (λ out. out ≡ map (walk_branch (replaced_var list.now raise) k) bs.now) }
     ensures too_deep { IfErr result (λ e. e ≡ TooDeep → AreBeyond (arms_of (map (walk_branch (replaced_var list.now raise) k) bs.now))) }
 {
@@ -76,7 +77,7 @@ fn defs_above(
     raise: u32,
     list: &Terms,
 ) -> Result<Defs, MakeFault>
-    requires { k < 2 ^ 32 }
+    requires small { k < 2 ^ 32 }
     ensures ok { IfOk result (λ out. out ≡ map (walk_def (replaced_var list.now raise) k (length ds.now)) ds.now) }
     ensures too_deep { IfErr result (λ e. e ≡ TooDeep → AreBeyondDefs (map (walk_def (replaced_var list.now raise) k (length ds.now)) ds.now)) }
 {
@@ -100,7 +101,7 @@ fn match_above(
     raise: u32,
     list: &Terms,
 ) -> Result<Match, MakeFault>
-    requires { k < 2 ^ 32 }
+    requires small { k < 2 ^ 32 }
     ensures ok { IfOk result (λ u. u ≡ walk_match (replaced_var list.now raise) k m.now) }
     ensures too_deep { IfErr result (λ e. e ≡ TooDeep → IsBeyond (tree_of (Case (walk_match (replaced_var list.now raise) k m.now)))) }
 {
@@ -127,7 +128,7 @@ fn variable_above(
     raise: u32,
     list: &Terms,
 ) -> Result<Term, MakeFault>
-    requires { k ≤ i }
+    requires outside { k ≤ i }
     ensures ok { IfOk result (λ t. t ≡ replaced_var list.now raise k i) }
     ensures within { IfOk result IsWithin }
     ensures too_deep { IfErr result (λ e. e ≡ TooDeep → IsBeyond (replaced_var list.now raise k i)) }

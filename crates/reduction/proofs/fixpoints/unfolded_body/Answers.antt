@@ -6,4 +6,4 @@ pub fix_unfold-requires : goal.fix_unfold-requires
 fix_unfold-requires c =
     let e = rw c.in-Fix.is at c.view.ensures.is in
     let h = rw (← e) at c.view.ensures.indexed in
-    omega (arith, rargs_length c.in-Fix.defs, h)
+    record { there = omega (arith, rargs_length c.in-Fix.defs, h) }

@@ -6,4 +6,4 @@ use Rattle.universe_graph.proofs.tests.universe_of.Goals as goal
 
 pub returns : goal.returns
 returns c =
-    record { over = subst (IsOver 3) (sym (c.in_ok-universe.ensures.value ∙ ap maximum_of c.as_slice.ensures.value)) (over-maximum_of 3 c.loop-pair.parts.items c.loop-pair.invariant) }
+    record { over = subst (IsOver c.args.levels) (sym (c.in_ok-universe.ensures.value ∙ ap maximum_of c.as_slice.ensures.value)) (over-maximum_of c.args.levels c.loop-pair.parts.items c.loop-pair.invariant) }

@@ -11,4 +11,4 @@ returns-in_err-index-clause-too_deep c =
     let lt : c.loop-index.index-index < length c.args.ctor.now.result = grind arith in
     rw (p.1, p.2) (λ e. any_beyond-one (substitute (overs (length c.args.ctor.now.args) (put_all c.args.params.now Rel))) c.args.ctor.now.result
     c.loop-index.index-index c.index-item.result (cc) lt
-    (rw (subst_list-substitute c.args.params.now c.args.count c.index-item.result, c.requires) at (c.in_err-index.ensures.too_deep e)))
+    (rw (subst_list-substitute c.args.params.now c.args.count c.index-item.result, c.requires.count) at (c.in_err-index.ensures.too_deep e)))

@@ -16,7 +16,7 @@ pub returns-then-not-closed-clause-cycle : goal.returns-then-not-closed-clause-c
 returns-then-not-closed-clause-cycle c =
     let begins = c.in_ok-rows.ensures.value in
     let stuck = rw c.if-not-closed.true at c.in_ok-closed.ensures.clash in (
-      subst (Clashes c.args.levels c.args.constraints.now) (sym c.of.ensures) c.in_ok-places.ensures.value,
+      subst (Clashes c.args.levels c.args.constraints.now) (sym c.of.ensures.is) c.in_ok-places.ensures.value,
       λ found. stuck (ranked c.args.levels found.0)
           (begins.sound (ranked c.args.levels found.0) (ranked-solves c.args.levels c.args.constraints.now found.0 c.requires.over found.1)) (ranked-le c.args.levels found.0),
     )
