@@ -228,6 +228,17 @@ fn empty_env(alloc: Global) -> Result<Env, Fail>
     Ok(Env::new(alloc, graph))
 }
 
+/// Whether a sort is `Set`.
+fn is_set(s: &Sort) -> bool {
+    match s {
+        Sort::Prop => false,
+        Sort::Of(universe) => match universe.parts() {
+            [part] => part.level.0 == 0 && part.add == 0,
+            _ => false,
+        },
+    }
+}
+
 /// How a clash ends the comparison of two terms.
 fn clash_ending(clash: &Clash, a: &Term, b: &Term) -> Ending {
     match clash {
@@ -238,8 +249,20 @@ fn clash_ending(clash: &Clash, a: &Term, b: &Term) -> Ending {
                 Ending::Other
             }
         }
-        Clash::Sorts(Sort::Of(_), Sort::Prop) => Ending::SetAndProp,
-        Clash::Sorts(Sort::Prop, Sort::Of(_)) => Ending::PropAndSet,
+        Clash::Sorts(s, Sort::Prop) => {
+            if is_set(s) {
+                Ending::SetAndProp
+            } else {
+                Ending::Other
+            }
+        }
+        Clash::Sorts(Sort::Prop, t) => {
+            if is_set(t) {
+                Ending::PropAndSet
+            } else {
+                Ending::Other
+            }
+        }
         Clash::Sorts(_, _) => Ending::Other,
     }
 }

@@ -8,14 +8,15 @@ use crate::refusal::Refusal;
 use dump_reader::reading::read_env;
 use pc_rules::accepted::Accepted;
 use pc_rules::broken::{Broken, Clash, Place};
-use pc_rules::meter::Meter;
+use pc_rules::meter::{Account, Meter};
+use pc_terms::leaf::FamilyId;
 use pc_terms::term::{Node, Term};
 use reduction::substitution::Subst;
 use std::alloc::{AllocError, Global};
 use std::test::Fail;
 use texts::{
     ACC, ACC_ALL, ACC_INV, ADD, APP, BOOL, DOWN, EQ, LIST, NAT, OR, PRED, RELATION, REV, SPIN,
-    SUBST, TRUE,
+    SUBST, SUM, TRUE,
 };
 use universe_levels::sort::Sort;
 
@@ -31,12 +32,36 @@ struct Source<'a> {
     main: &'a str,
 }
 
+/// A sort, as far as the tables look at it.
+#[derive(Clone, Copy, Debug, PartialEq, Eq)]
+enum Seen {
+    Prop,
+    /// A level, and what is added to it.
+    Type(u32, u32),
+    /// A maximum of several.
+    Maximum,
+}
+
+/// What a broken rule keeps, as far as the tables look at it.
+#[derive(Clone, Copy, Debug, PartialEq, Eq)]
+enum Keeps {
+    Number(u32),
+    Numbers(u32, u32),
+    /// A variable, by its index.
+    Variable(u32),
+    Sort(Seen),
+    Sorts(Seen, Seen),
+    /// A family, by its block and its place there.
+    Family(u32, u32),
+    Other,
+}
+
 /// What was answered.
 #[derive(Clone, Copy, Debug, PartialEq, Eq)]
 enum Told {
     Accepted,
-    /// The number of the rule, the place, and what is kept as two numbers.
-    Broken(u8, Place, (u32, u32)),
+    /// The number of the rule, the place, and what is kept.
+    Broken(u8, Place, Keeps),
     Spent,
     TooDeep,
     Memory,
@@ -90,55 +115,61 @@ fn number_of(rule: &Broken) -> u8 {
     }
 }
 
-/// The first level of a sort and what is added to it, together; 0 for `Prop`.
-fn height_of(sort: &Sort) -> u32 {
+fn sort_seen(sort: &Sort) -> Seen {
     match sort {
-        Sort::Prop => 0,
+        Sort::Prop => Seen::Prop,
         Sort::Of(universe) => match universe.parts() {
-            [] => 0,
-            [part, ..] => part.level.0.saturating_add(part.add),
+            [part] => Seen::Type(part.level.0, part.add),
+            _ => Seen::Maximum,
         },
     }
 }
 
-/// A variable, a sort or a family, as its kind and its number.
-fn numbers_of(term: &Term) -> (u32, u32) {
+fn family_kept(id: &FamilyId) -> Keeps {
+    Keeps::Family(id.block.0, id.family)
+}
+
+/// A variable, a sort or a family.
+fn term_kept(term: &Term) -> Keeps {
     match term.view() {
-        Node::Rel(i) => (0, *i),
-        Node::Sort(sort) => (1, height_of(sort)),
-        Node::Ind(id) => (2, id.block.0),
-        _ => (3, 0),
+        Node::Rel(i) => Keeps::Variable(*i),
+        Node::Sort(sort) => Keeps::Sort(sort_seen(sort)),
+        Node::Ind(id) => family_kept(id),
+        _ => Keeps::Other,
     }
 }
 
-/// What a broken rule keeps, as two numbers.
-fn kept_by(rule: &Broken) -> (u32, u32) {
+/// What a broken rule keeps.
+fn kept_by(rule: &Broken) -> Keeps {
     match rule {
-        Broken::UnboundRel { index, length } => (*index, *length),
-        Broken::UnknownName { name } => (name.0, 0),
-        Broken::BadNumber { number, count } => (*number, *count),
-        Broken::LevelUndeclared { level } => (level.0, 0),
+        Broken::UnboundRel { index, length } => Keeps::Numbers(*index, *length),
+        Broken::UnknownName { name } => Keeps::Number(name.0),
+        Broken::BadNumber { number, count } => Keeps::Numbers(*number, *count),
+        Broken::LevelUndeclared { level } => Keeps::Number(level.0),
         Broken::UniverseCycle { constraints } => match constraints.as_slice() {
-            [first, .., last] => (*first, *last),
-            _ => (0, 0),
+            [first, second] => Keeps::Numbers(*first, *second),
+            _ => Keeps::Other,
         },
         Broken::NotBelow {
             clash: Clash::Terms(a, _),
-        } => numbers_of(a),
+        } => term_kept(a),
         Broken::NotBelow {
             clash: Clash::Sorts(a, b),
-        } => (height_of(a), height_of(b)),
-        Broken::CountWrong { want, got } => (*want, *got),
-        Broken::ElimNotAllowed { family } => (family.block.0, family.family),
-        Broken::NotEnoughAbstractions { def } => (*def, 0),
-        Broken::NotPositive { family, ctor } => (*family, *ctor),
-        Broken::SortTooSmall { argument, family } => (height_of(argument), height_of(family)),
-        Broken::DuplicateName { name } => (*name, 0),
+        } => Keeps::Sorts(sort_seen(a), sort_seen(b)),
+        Broken::CountWrong { want, got } => Keeps::Numbers(*want, *got),
+        Broken::ElimNotAllowed { family } => family_kept(family),
+        Broken::NotEnoughAbstractions { def } => Keeps::Number(*def),
+        Broken::NotPositive { family, ctor } => Keeps::Numbers(*family, *ctor),
+        Broken::SortTooSmall { argument, family } => Keeps::Sorts(
+            sort_seen(argument),
+            sort_seen(family),
+        ),
+        Broken::DuplicateName { name } => Keeps::Number(*name),
         Broken::NotASort { whnf }
         | Broken::NotAProduct { whnf }
         | Broken::NotTheFamily { whnf }
-        | Broken::RecArgNotInductive { whnf } => numbers_of(whnf),
-        Broken::NotGuarded { argument } => numbers_of(argument),
+        | Broken::RecArgNotInductive { whnf } => term_kept(whnf),
+        Broken::NotGuarded { argument } => term_kept(argument),
     }
 }
 
@@ -200,6 +231,10 @@ fn a_match_takes_six_units(rt: HostRuntime) -> Result<(), Fail> {
     for (rule, uses) in [(8, 2), (9, 3), (10, 1), (7, 0)] {
         assert_eq!(rt; m.uses(rule), uses);
     }
+    let Ok(accepted) = &checked else {
+        return Err("not accepted".into());
+    };
+    assert_eq!(rt; term_kept(&accepted.main_type), Keeps::Family(0, 0));
     let mut m = Meter::new(5);
     let checked = answer(rt.alloc(), &source, &mut m)?;
     assert_eq!(rt; summary(&checked), Told::Spent);
@@ -208,10 +243,72 @@ fn a_match_takes_six_units(rt: HostRuntime) -> Result<(), Fail> {
 
 #[test]
 fn addition_takes_more_than_three_units(rt: HostRuntime) -> Result<(), Fail> {
-    let source = closed(&[NAT, ADD], "(tConst add)");
+    let source = closed(&[NAT, ADD], SUM);
     let mut m = Meter::new(3);
     let checked = answer(rt.alloc(), &source, &mut m)?;
     assert_eq!(rt; summary(&checked), Told::Spent);
+    Ok(())
+}
+
+/// Environments that take just so many units, with the uses of each rule. With a unit less they are out of units.
+#[test]
+fn takes_units_and_counts_uses(rt: HostRuntime) -> Result<(), Fail> {
+    for (declarations, main, units, uses) in [
+        // a let: its own unit, its type's, its value's and its body's
+        (
+            [BOOL].as_slice(),
+            "(tLetIn x (tConstruct bool 0 1) (tInd bool 0) (tRel 0))",
+            4,
+            [1, 0, 0, 0, 1, 0, 0, 1, 1, 0, 0, 0],
+        ),
+        // three units for f and one for X; in main the argument's type is another than the domain, so that they are compared
+        (
+            [
+                "(ConstantDecl f (tProd x (tSort Set) (tSort Prop)) None)",
+                "(ConstantDecl X (tSort Prop) None)",
+            ]
+            .as_slice(),
+            "(tApp (tConst f) (tConst X))",
+            10,
+            [0, 4, 1, 0, 0, 1, 2, 0, 0, 0, 0, 1],
+        ),
+        // a fixpoint, whose last unit is that of its call
+        (
+            [NAT].as_slice(),
+            "(tFix ((def f (tProd n (tInd nat 0) (tInd nat 0)) (tLambda n (tInd nat 0) (tCase (nat 0) (params) (pred (x) (tInd nat 0)) (tRel 0) (br () (tConstruct nat 0 0)) (br (p) (tApp (tRel 2) (tRel 0))))) 0)) 0)",
+            17,
+            [3, 0, 1, 1, 0, 1, 0, 7, 1, 1, 1, 0],
+        ),
+    ] {
+        let source = closed(declarations, main);
+        let mut m = Meter::new(units);
+        let checked = answer(rt.alloc(), &source, &mut m)?;
+        assert_eq!(rt; summary(&checked), Told::Accepted, "{main}");
+        assert_eq!(rt; m.account, Account { left: 0, uses }, "{main}");
+        let mut m = Meter::new(units.saturating_sub(1));
+        let checked = answer(rt.alloc(), &source, &mut m)?;
+        assert_eq!(rt; summary(&checked), Told::Spent, "{main}");
+        assert_eq!(rt; m.left(), 0);
+    }
+    Ok(())
+}
+
+/// A definition's type is lifted over the one before it: its variable to the last number, where it is unbound, and past that.
+#[test]
+fn is_too_deep_past_a_limit(rt: HostRuntime) -> Result<(), Fail> {
+    for (main, told) in [
+        (
+            "(tFix ((def f (tSort Prop) (tRel 0) 0) (def g (tRel 4294967294) (tRel 0) 0)) 0)",
+            Told::Broken(1, Place::Main, Keeps::Numbers(4294967295, 1)),
+        ),
+        (
+            "(tFix ((def f (tSort Prop) (tRel 0) 0) (def g (tRel 4294967295) (tRel 0) 0)) 0)",
+            Told::TooDeep,
+        ),
+    ] {
+        let checked = answer(rt.alloc(), &closed(&[], main), &mut Meter::new(UNITS))?;
+        assert_eq!(rt; summary(&checked), told, "{main}");
+    }
     Ok(())
 }
 
@@ -247,12 +344,7 @@ fn accepts_well_formed_environments(rt: HostRuntime) -> Result<(), Fail> {
             "(tCase (or 0) (params (tInd True 0) (tInd True 0)) (pred (x) (tInd True 0)) (tApp (tConstruct or 0 0) (tInd True 0) (tInd True 0) (tConstruct True 0 0)) (br (a) (tConstruct True 0 0)) (br (b) (tConstruct True 0 0)))",
         ),
         // addition
-        (
-            "",
-            "",
-            [NAT, ADD].as_slice(),
-            "(tApp (tConst add) (tApp (tConstruct nat 0 1) (tApp (tConstruct nat 0 1) (tConstruct nat 0 0))) (tApp (tConstruct nat 0 1) (tApp (tConstruct nat 0 1) (tApp (tConstruct nat 0 1) (tConstruct nat 0 0)))))",
-        ),
+        ("", "", [NAT, ADD].as_slice(), SUM),
         // reversal
         (
             "u",
@@ -305,7 +397,7 @@ fn refuses_at_the_first_broken_rule(rt: HostRuntime) -> Result<(), Fail> {
             "(tConstruct bool 0 1)",
             16,
             Place::Level(1),
-            (1, 0),
+            Keeps::Number(1),
         ),
         (
             "",
@@ -314,7 +406,7 @@ fn refuses_at_the_first_broken_rule(rt: HostRuntime) -> Result<(), Fail> {
             "(tConstruct bool 0 1)",
             4,
             Place::Constraint(0),
-            (1, 0),
+            Keeps::Number(1),
         ),
         (
             "a b",
@@ -323,7 +415,7 @@ fn refuses_at_the_first_broken_rule(rt: HostRuntime) -> Result<(), Fail> {
             "(tConstruct bool 0 1)",
             5,
             Place::Constraint(0),
-            (0, 1),
+            Keeps::Numbers(0, 1),
         ),
         (
             "",
@@ -332,7 +424,7 @@ fn refuses_at_the_first_broken_rule(rt: HostRuntime) -> Result<(), Fail> {
             "(tConstruct bool 0 1)",
             16,
             Place::Declaration(1),
-            (0, 0),
+            Keeps::Number(0),
         ),
         (
             "",
@@ -345,7 +437,7 @@ fn refuses_at_the_first_broken_rule(rt: HostRuntime) -> Result<(), Fail> {
             "(tConstruct bool 0 1)",
             15,
             Place::Declaration(0),
-            (1, 0),
+            Keeps::Sorts(Seen::Type(0, 1), Seen::Type(0, 0)),
         ),
         (
             "",
@@ -358,7 +450,7 @@ fn refuses_at_the_first_broken_rule(rt: HostRuntime) -> Result<(), Fail> {
             "(tConstruct bool 0 1)",
             14,
             Place::Declaration(0),
-            (0, 0),
+            Keeps::Numbers(0, 0),
         ),
         (
             "u",
@@ -372,7 +464,7 @@ fn refuses_at_the_first_broken_rule(rt: HostRuntime) -> Result<(), Fail> {
             "(tConstruct bool 0 1)",
             14,
             Place::Declaration(1),
-            (0, 0),
+            Keeps::Numbers(0, 0),
         ),
         (
             "a b",
@@ -387,9 +479,17 @@ fn refuses_at_the_first_broken_rule(rt: HostRuntime) -> Result<(), Fail> {
             "(tConstruct bool 0 1)",
             8,
             Place::Declaration(2),
-            (1, 2),
+            Keeps::Sorts(Seen::Type(1, 0), Seen::Type(2, 0)),
         ),
-        ("", "", [].as_slice(), "(tRel 0)", 1, Place::Main, (0, 0)),
+        (
+            "",
+            "",
+            [].as_slice(),
+            "(tRel 0)",
+            1,
+            Place::Main,
+            Keeps::Numbers(0, 0),
+        ),
         (
             "",
             "",
@@ -397,7 +497,7 @@ fn refuses_at_the_first_broken_rule(rt: HostRuntime) -> Result<(), Fail> {
             "(tConstruct bool 0 2)",
             3,
             Place::Main,
-            (2, 2),
+            Keeps::Numbers(2, 2),
         ),
         (
             "",
@@ -406,7 +506,7 @@ fn refuses_at_the_first_broken_rule(rt: HostRuntime) -> Result<(), Fail> {
             "(tLambda x (tConstruct bool 0 1) (tRel 0))",
             6,
             Place::Main,
-            (2, 0),
+            Keeps::Family(0, 0),
         ),
         (
             "",
@@ -415,7 +515,25 @@ fn refuses_at_the_first_broken_rule(rt: HostRuntime) -> Result<(), Fail> {
             "(tApp (tConstruct bool 0 1) (tConstruct bool 0 1))",
             7,
             Place::Main,
-            (2, 0),
+            Keeps::Family(0, 0),
+        ),
+        (
+            "",
+            "",
+            [BOOL].as_slice(),
+            "(tCase (bool 0) (params (tInd bool 0)) (pred (x) (tInd bool 0)) (tConstruct bool 0 1) (br () (tConstruct bool 0 0)) (br () (tConstruct bool 0 1)))",
+            9,
+            Place::Main,
+            Keeps::Numbers(0, 1),
+        ),
+        (
+            "",
+            "",
+            [BOOL].as_slice(),
+            "(tCase (bool 0) (params) (pred (x y) (tInd bool 0)) (tConstruct bool 0 1) (br () (tConstruct bool 0 0)) (br () (tConstruct bool 0 1)))",
+            9,
+            Place::Main,
+            Keeps::Numbers(1, 2),
         ),
         (
             "",
@@ -424,7 +542,16 @@ fn refuses_at_the_first_broken_rule(rt: HostRuntime) -> Result<(), Fail> {
             "(tCase (bool 0) (params) (pred (x) (tInd bool 0)) (tConstruct bool 0 1) (br () (tConstruct bool 0 0)))",
             9,
             Place::Main,
-            (2, 1),
+            Keeps::Numbers(2, 1),
+        ),
+        (
+            "",
+            "",
+            [NAT].as_slice(),
+            "(tCase (nat 0) (params) (pred (x) (tInd nat 0)) (tConstruct nat 0 0) (br () (tConstruct nat 0 0)) (br () (tConstruct nat 0 0)))",
+            9,
+            Place::Main,
+            Keeps::Numbers(1, 0),
         ),
         (
             "",
@@ -433,7 +560,7 @@ fn refuses_at_the_first_broken_rule(rt: HostRuntime) -> Result<(), Fail> {
             "(tCase (bool 0) (params) (pred (x) (tInd bool 0)) (tConstruct nat 0 0) (br () (tConstruct bool 0 0)) (br () (tConstruct bool 0 1)))",
             10,
             Place::Main,
-            (2, 0),
+            Keeps::Family(0, 0),
         ),
         (
             "",
@@ -442,7 +569,7 @@ fn refuses_at_the_first_broken_rule(rt: HostRuntime) -> Result<(), Fail> {
             "(tCase (or 0) (params (tInd True 0) (tInd True 0)) (pred (x) (tInd nat 0)) (tApp (tConstruct or 0 0) (tInd True 0) (tInd True 0) (tConstruct True 0 0)) (br (a) (tConstruct nat 0 0)) (br (b) (tApp (tConstruct nat 0 1) (tConstruct nat 0 0))))",
             11,
             Place::Main,
-            (5, 0),
+            Keeps::Family(5, 0),
         ),
         (
             "",
@@ -451,7 +578,7 @@ fn refuses_at_the_first_broken_rule(rt: HostRuntime) -> Result<(), Fail> {
             "(tFix ((def f (tProd n (tInd nat 0) (tInd nat 0)) (tConstruct nat 0 1) 0)) 0)",
             12,
             Place::Main,
-            (0, 0),
+            Keeps::Number(0),
         ),
         (
             "",
@@ -460,7 +587,7 @@ fn refuses_at_the_first_broken_rule(rt: HostRuntime) -> Result<(), Fail> {
             "(tFix ((def f (tProd n (tInd nat 0) (tInd nat 0)) (tLambda n (tInd nat 0) (tApp (tRel 1) (tRel 0))) 0)) 0)",
             13,
             Place::Main,
-            (0, 0),
+            Keeps::Variable(0),
         ),
         (
             "",
@@ -469,7 +596,7 @@ fn refuses_at_the_first_broken_rule(rt: HostRuntime) -> Result<(), Fail> {
             "(tFix ((def f (tProd n (tSort Set) (tInd nat 0)) (tLambda n (tSort Set) (tConstruct nat 0 0)) 0)) 0)",
             17,
             Place::Main,
-            (1, 0),
+            Keeps::Sort(Seen::Type(0, 0)),
         ),
     ] {
         let source = Source {

@@ -12,6 +12,10 @@ pub const NAT: &str =
 pub const ADD: &str =
     "(ConstantDecl add (tProd n (tInd nat 0) (tProd m (tInd nat 0) (tInd nat 0))) (tFix ((def add (tProd n (tInd nat 0) (tProd m (tInd nat 0) (tInd nat 0))) (tLambda n (tInd nat 0) (tLambda m (tInd nat 0) (tCase (nat 0) (params) (pred (x) (tInd nat 0)) (tRel 1) (br () (tRel 0)) (br (p) (tApp (tConstruct nat 0 1) (tApp (tRel 3) (tRel 0) (tRel 1))))))) 0)) 0))";
 
+/// Two and three, added.
+pub const SUM: &str =
+    "(tApp (tConst add) (tApp (tConstruct nat 0 1) (tApp (tConstruct nat 0 1) (tConstruct nat 0 0))) (tApp (tConstruct nat 0 1) (tApp (tConstruct nat 0 1) (tApp (tConstruct nat 0 1) (tConstruct nat 0 0)))))";
+
 /// The true proposition.
 pub const TRUE: &str =
     "(InductiveDecl True (params) (family True (sort Prop) (indices) (ctor I (args) (result))))";
