@@ -252,6 +252,48 @@ fn refuses_at_the_place(rt: HostRuntime) -> Result<(), Fail> {
     Ok(())
 }
 
+/// A declaration and a level that are one too many, by the token that stands there.
+#[test]
+fn looks_at_what_is_one_too_many(rt: HostRuntime) -> Result<(), Fail> {
+    let alloc = rt.alloc();
+    let declarations = b"(env 1 (levels) (constraints) ".as_slice();
+    let levels = b"(env 1 (levels ".as_slice();
+    for (front, unit, count, back, answer) in [
+        (
+            declarations,
+            b"(ConstantDecl c (tRel 0) None) ".as_slice(),
+            65536,
+            b"(CoInductiveDecl c".as_slice(),
+            limit(Limit::Declarations, 2031646),
+        ),
+        (
+            declarations,
+            b"(ConstantDecl c (tRel 0) None) ".as_slice(),
+            65536,
+            b"(x".as_slice(),
+            syntax(2031647),
+        ),
+        (
+            levels,
+            b"a ".as_slice(),
+            1024,
+            b"Set".as_slice(),
+            syntax(2063),
+        ),
+        (
+            levels,
+            b"a ".as_slice(),
+            1024,
+            b"(x".as_slice(),
+            unsupported(Foreign::LevelVariable, 2063),
+        ),
+    ] {
+        let text = repeated(alloc, front, unit, count, back)?;
+        assert_eq!(rt; refusal(alloc, text.as_slice()), answer);
+    }
+    Ok(())
+}
+
 #[test]
 fn reads_each_form_within_depth(rt: HostRuntime) -> Result<(), Fail> {
     let alloc = rt.alloc();
@@ -270,6 +312,17 @@ fn reads_each_form_within_depth(rt: HostRuntime) -> Result<(), Fail> {
         )?;
         assert_eq!(rt; refusal(alloc, spine.as_slice()), answer);
     }
+    // A cast is deeper by two than its type, which is a spine here; its bracket closes right behind that of the type.
+    for (count, answer) in [(2045, None), (2046, limit(Limit::Depth, 71 + 2046 * 8 + 1))] {
+        let cast = repeated(
+            alloc,
+            b"(env 1 (levels) (constraints) (main (tCast (tRel 0) Cast (tApp (tRel 0)",
+            b"(tRel 0)",
+            count,
+            b"))))",
+        )?;
+        assert_eq!(rt; refusal(alloc, cast.as_slice()), answer);
+    }
     // Two brackets are open before the term's.
     for (count, answer) in [
         (998, syntax(36 + 998 * 11)),
@@ -284,6 +337,18 @@ fn reads_each_form_within_depth(rt: HostRuntime) -> Result<(), Fail> {
         )?;
         assert_eq!(rt; refusal(alloc, nested.as_slice()), answer);
     }
+    // An atom of 256 bytes, in the place of a number too.
+    let number = repeated(
+        alloc,
+        b"(env 1 (levels) (constraints) (main (tRel ",
+        b"1",
+        256,
+        b"",
+    )?;
+    assert_eq!(rt;
+        refusal(alloc, number.as_slice()),
+        limit(Limit::NameBytes, 42)
+    );
     let long = repeated(alloc, b"(env ", b"a", 256, b"")?;
     assert_eq!(rt; refusal(alloc, long.as_slice()), limit(Limit::NameBytes, 5));
     let env = parse(

@@ -223,3 +223,19 @@ fn prints_what_was_read(rt: HostRuntime) -> Result<(), Fail> {
     }
     Ok(())
 }
+
+/// The deepest term, a spine of 2,047 arguments.
+#[test]
+fn prints_the_deepest_spine(rt: HostRuntime) -> Result<(), Fail> {
+    let alloc = rt.alloc();
+    let mut text = Vec::from_slice(alloc, b"(env 1 (levels) (constraints) (main (tApp (tRel 0)")?;
+    for _ in 0..2047 {
+        text.extend_from_slice(b" (tRel 1)")?;
+    }
+    text.extend_from_slice(b")))")?;
+    let env = read_env(alloc, text.as_slice())?;
+    let mut out = sink(alloc);
+    assert_eq!(rt; print_env(&env, &mut out), Ok(()));
+    assert_eq!(rt; out.bytes(), text.as_slice());
+    Ok(())
+}

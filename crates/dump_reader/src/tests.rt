@@ -1,5 +1,6 @@
 //! What no clause says: that texts from outside are read where memory is ample, with the numbers that were counted by hand.
-use crate::declaration::{RawCtors, RawDecl};
+use crate::declaration::{RawCtors, RawDecl, RawDecls, RawFamilies};
+use crate::environment::{Constraints, Levels};
 use crate::names::Names;
 use crate::reading::{meaning_is_unique, read_env};
 use crate::{Foreign, Limit, ReadRefusal};
@@ -282,5 +283,16 @@ fn refuses_at_the_first_cause(rt: HostRuntime) -> Result<(), Fail> {
     for (text, refusal) in rows {
         assert_eq!(rt; read_env(rt.alloc(), text).err(), Some(refusal));
     }
+    Ok(())
+}
+
+#[test]
+fn lists_are_made_of_vectors(rt: HostRuntime) -> Result<(), Fail> {
+    let alloc = rt.alloc();
+    assert!(rt; RawCtors::of(RawCtors::new(alloc).into_vec()).is_empty());
+    assert!(rt; RawFamilies::of(RawFamilies::new(alloc).into_vec()).is_empty());
+    assert!(rt; RawDecls::of(RawDecls::new(alloc).into_vec()).is_empty());
+    assert!(rt; Levels::of(Levels::new(alloc).into_vec()).is_empty());
+    assert!(rt; Constraints::of(Constraints::new(alloc).into_vec()).is_empty());
     Ok(())
 }

@@ -12,7 +12,7 @@ fn refusal(alloc: Global, bytes: &[u8]) -> Option<usize> {
     }
 }
 
-// Bytes with their offset of refusal. An outside validator refuses just the rows that have one.
+// Bytes with their offset of refusal. An outside validator, of Core Specification 2, refuses just the rows that have one.
 #[test]
 fn bytes_are_read_or_refused(rt: HostRuntime) -> Result<(), Fail> {
     let a = rt.alloc();
