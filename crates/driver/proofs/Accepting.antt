@@ -1,8 +1,8 @@
 -- The directed rules accept each answerable environment, in one unit: that of main.
-use Rattle.std.proofs.Common.{◌≡◌, ◌≢◌, ℕ, zero, suc, ◌<◌, Bool, true, false, if◌then◌else◌, List, [], ◌∷◌, map, length, Option, Some, None, refl, sym, ap, subst, ◌∙◌, ◌||◌, arith, eq-eqb}
+use Rattle.std.proofs.Common.{◌≡◌, ◌≢◌, ℕ, zero, suc, ◌<◌, Bool, true, false, if◌then◌else◌, List, [], ◌∷◌, map, length, Some, None, refl, sym, ap, subst, ◌∙◌, ◌||◌, arith, eq-eqb}
 use Rattle.std.specs.Prelude.{All, AllPairs, slice_get, get_or, option_map}
 use Rattle.std.proofs.Math.Dec.{leb-zero}
-use Rattle.std.proofs.lemmas.Option.{slice_get-map, slice_get-get_or}
+use Rattle.std.proofs.lemmas.Option.{slice_get-map, slice_get-get_or, slice_get_within, get_or_from_slice_get}
 use Rattle.std.proofs.lemmas.List.Elements.{All-head, All-tail, All-nil, All-cons}
 use Rattle.universe_levels.specs.declared.constraint.Constraint.{Constraint}
 use Rattle.universe_levels.specs.Valuation.{Meets}
@@ -35,6 +35,7 @@ use Rattle.dump_reader.specs.declared.declaration.RawDecl.TheVariants as raw
 use Rattle.dump_reader.specs.declared.environment.RawEnv.{RawEnv}
 use Rattle.inductive_check.specs.Given.{ctor_of, family_of, block_of, given_of}
 use Rattle.pc_rules.proofs.WeakNext.{same_names_is}
+use Rattle.rule_laws.proofs.SimpleRules.{some_none}
 use Rattle.env_check.specs.Rules.{rules_of, givens}
 use Rattle.driver.specs.declared.command_line.Job.{Job}
 use Rattle.driver.specs.declared.command_line.Job.TheVariants.{Exec, Check}
@@ -84,13 +85,13 @@ names_pass before (c ∷ cs) u h p =
 
 -- constructors without arguments, in a family without indices
 
-abbrev constant : Name → RawCtor
+abbrev pub constant : Name → RawCtor
 constant k = record { name = k; args = []; result = [] }
 
 is_constant : (c : RawCtor) → IsConstant c → c ≡ constant c.name
 is_constant c h = λ i. record { name = c.name; args = h.0 i; result = h.1 i }
 
-abbrev enumeration : Name → List RawCtor → RawFamily
+abbrev pub enumeration : Name → List RawCtor → RawFamily
 enumeration k cs = record { name = k; sort = set_sort; indices = []; ctors = cs }
 
 is_enumeration : (f : RawFamily) → IsEnumeration f → f ≡ enumeration f.name f.ctors
@@ -116,7 +117,7 @@ module _ (H : Env) (q : Test) (inf : Typing) (cmp : Comparison) (B : Block) (k :
 
 -- a block of one family
 
-abbrev enumeration_block : Name → Name → List RawCtor → RawDecl
+abbrev pub enumeration_block : Name → Name → List RawCtor → RawDecl
 enumeration_block k l cs = raw.Block k [] (enumeration l cs ∷ [])
 
 -- what is kept of it: it has no sorts of arguments
@@ -192,12 +193,9 @@ abbrev all_kept : List RawDecl → List Kept → List Kept
 all_kept [] ks = ks
 all_kept (d ∷ ds) ks = all_kept ds (keep d ∷ ks)
 
-some_none : {X : Type 0} {x : X} {o p : Option X} → o ≡ Some x → p ≡ None → o ≡ p → ⊥
-some_none e n q = let z : Some _ ≡ None = sym e ∙ q ∙ n in absurd cc
-
 beside : (d : RawDecl) (ks : List Kept) (k : Name) (x : Kept) (b : Bool) → same_names (block_of d).name k ≡ b → IsNewIn ks d → kept_at ks k ≡ Some x →
     (if b then Some (keep d) else kept_at ks k) ≡ Some x
-beside d ks k x true e n h = absurd (some_none h n (ap (kept_at ks) (sym (sym (kept_name d) ∙ same_names_is (block_of d).name k e))))
+beside d ks k x true e n h = absurd (some_none (sym h ∙ ap (kept_at ks) (sym (sym (kept_name d) ∙ same_names_is (block_of d).name k e)) ∙ n))
 beside d ks k x false e n h = h
 
 still_kept : (ks : List Kept) (ds : List RawDecl) (k : Name) (x : Kept) → kept_at ks k ≡ Some x → AreNew ks ds → kept_at (all_kept ds ks) k ≡ Some x
@@ -289,9 +287,7 @@ module _ (E : Env) (q : Test) (m : ℕ) (f : FamilyId) (n : ℕ) (l : Name) (cs 
 -- the whole
 
 at_place : {X : Type 0} (P : X → Type 0) (xs : List X) (i : ℕ) (x : X) → slice_get xs i ≡ Some x → All P xs → P x
-at_place P [] i x e h = absurd cc
-at_place P (y ∷ ys) zero x e h = let same : y ≡ x = cc in subst P same (All-head P y ys h)
-at_place P (y ∷ ys) (suc i) x e h = at_place P ys i x e (All-tail P y ys h)
+at_place P xs i x e h = subst P (get_or_from_slice_get xs i x x e) (h i x (slice_get_within xs i x e))
 
 none_new : (ds : List RawDecl) → All (IsNewIn []) ds
 none_new ds = λ i d lt. refl

@@ -1,5 +1,5 @@
 -- The environment of bool with `false` as main is answerable.
-use Rattle.std.proofs.Common.{◌≡◌, ◌≢◌, ℕ, [], ◌∷◌, refl, sym, ap, subst, arith, lit<}
+use Rattle.std.proofs.Common.{◌≡◌, ◌≢◌, ℕ, List, [], ◌∷◌, refl, sym, ap, subst, arith, lit<}
 use Rattle.std.specs.Prelude.{All, AllPairs, slice_get}
 use Rattle.std.proofs.lemmas.List.Elements.{All-nil, All-cons}
 use Rattle.std.proofs.lemmas.List.Kept.{AllPairs-cons}
@@ -9,23 +9,23 @@ use Rattle.pc_terms.specs.Syntax.{Construct}
 use Rattle.dump_reader.specs.declared.declaration.RawCtor.{RawCtor}
 use Rattle.dump_reader.specs.declared.declaration.RawFamily.{RawFamily}
 use Rattle.dump_reader.specs.declared.declaration.RawDecl.{RawDecl}
-use Rattle.dump_reader.specs.declared.declaration.RawDecl.TheVariants.{Block}
 use Rattle.dump_reader.specs.declared.environment.RawEnv.{RawEnv}
 use Rattle.driver.specs.Judged.{name_of}
-use Rattle.driver.specs.Plain.{set_sort, IsConstant, IsEnumerationBlock}
+use Rattle.driver.specs.Plain.{IsConstant, IsEnumerationBlock}
+use Rattle.driver.proofs.Accepting.{constant, enumeration, enumeration_block}
 use Rattle.driver.specs.Answerable.{HasDistinctConstructors, HasDistinctNames, IsAnswerable}
 
 abbrev name : ℕ → Name
 name n = record { 0 = n }
 
-abbrev constant : ℕ → RawCtor
-constant n = record { name = name n; args = []; result = [] }
+abbrev ctors : List RawCtor
+ctors = constant (name 1) ∷ constant (name 2) ∷ []
 
 abbrev bool : RawFamily
-bool = record { name = name 0; sort = set_sort; indices = []; ctors = constant 1 ∷ constant 2 ∷ [] }
+bool = enumeration (name 0) ctors
 
 abbrev block : RawDecl
-block = Block (name 0) [] (bool ∷ [])
+block = enumeration_block (name 0) (name 0) ctors
 
 abbrev bool_family : FamilyId
 bool_family = record { block = name 0; family = 0 }
@@ -40,10 +40,10 @@ other : name 1 ≢ name 2
 other e = let q : 1 ≡ 2 = ap (λ k. k.0) e in omega (arith, q)
 
 distinct : HasDistinctConstructors bool
-distinct = AllPairs-cons (λ a b. a.name ≢ b.name) (constant 1) (constant 2 ∷ []) (one (λ b. name 1 ≢ b.name) (constant 2) other) (one_pair (λ a b. a.name ≢ b.name) (constant 2))
+distinct = AllPairs-cons (λ a b. a.name ≢ b.name) (constant (name 1)) (constant (name 2) ∷ []) (one (λ b. name 1 ≢ b.name) (constant (name 2)) other) (one_pair (λ a b. a.name ≢ b.name) (constant (name 2)))
 
 constants : All IsConstant bool.ctors
-constants = All-cons IsConstant (constant 1) (constant 2 ∷ []) (refl, refl) (one IsConstant (constant 2) (refl, refl))
+constants = All-cons IsConstant (constant (name 1)) (constant (name 2) ∷ []) (refl, refl) (one IsConstant (constant (name 2)) (refl, refl))
 
 bool_is_answerable : (e : RawEnv) → e.levels ≡ [] → e.constraints ≡ [] → e.decls ≡ block ∷ [] → e.main ≡ Construct bool_family 1 → IsAnswerable e
 bool_is_answerable e levels constraints decls main = record {

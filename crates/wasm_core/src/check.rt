@@ -47,7 +47,7 @@ fn check_instr(
     operands: &mut Vec<ValType>,
     instr: &Instr,
 ) -> Result<Progress, AllocError>
-    ensures { IfOk result (λ p. check m.now (option_to_list own) (reverse operands.old.items) instr.now ≡ shows p operands.new.items) }
+    ensures is { IfOk result (λ p. check m.now (option_to_list own) (reverse operands.old.items) instr.now ≡ shows p operands.new.items) }
 {
     match instr {
         Instr::End => {
@@ -83,7 +83,7 @@ pub fn body_fault(
     of: &FuncType,
     body: &Body,
 ) -> Result<Option<usize>, AllocError>
-    ensures { IfOk result (λ o. SaysOfBody m.now of.now body.now o) }
+    ensures is { IfOk result (λ o. SaysOfBody m.now of.now body.now o) }
 {
     let mut operands = Vec::new(alloc);
     let code = body.code.as_slice();

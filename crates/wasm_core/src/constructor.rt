@@ -23,7 +23,7 @@ fn export_of(
     kind: ExportKind,
     index: u32,
 ) -> Result<Export, AllocError>
-    ensures { IfOk result (λ e. e ≡ export entry kind index) }
+    ensures is { IfOk result (λ e. e ≡ export entry kind index) }
 {
     let name = name_of(entry).to_vec(alloc)?;
     Ok(Export {
@@ -35,7 +35,7 @@ fn export_of(
 
 // The exports of an emitted module.
 fn exports_of(alloc: Global) -> Result<Exports, AllocError>
-    ensures { IfOk result (λ es. es ≡ export Entry.Main ExportKind.Func 0 ∷ export Entry.Memory ExportKind.Memory 0 ∷ export Entry.Result ExportKind.Global 0 ∷ export Entry.Status ExportKind.Global 1 ∷ []) }
+    ensures is { IfOk result (λ es. es ≡ export Entry.Main ExportKind.Func 0 ∷ export Entry.Memory ExportKind.Memory 0 ∷ export Entry.Result ExportKind.Global 0 ∷ export Entry.Status ExportKind.Global 1 ∷ []) }
 {
     let main = export_of(alloc, Entry::Main, ExportKind::Func, 0)?;
     let memory = export_of(alloc, Entry::Memory, ExportKind::Memory, 0)?;
@@ -47,7 +47,7 @@ fn exports_of(alloc: Global) -> Result<Exports, AllocError>
 
 // The body of `main`.
 fn body_of(alloc: Global, word: u32) -> Result<Body, AllocError>
-    ensures { IfOk result (λ b. b ≡ main_body word) }
+    ensures is { IfOk result (λ b. b ≡ main_body word) }
 {
     let code = vec![in alloc; Instr::I32Const(word), Instr::GlobalSet(0), Instr::End]?;
     Ok(Body {
@@ -59,7 +59,7 @@ fn body_of(alloc: Global, word: u32) -> Result<Body, AllocError>
 // The module that is asked for.
 fn module_of(alloc: Global, pages: u32, constructor: u32) -> Result<Module, AllocError>
     requires { constructor < 2 ^ 31 }
-    ensures { IfOk result (λ m. m ≡ enumeration_module pages constructor) }
+    ensures is { IfOk result (λ m. m ≡ enumeration_module pages constructor) }
 {
     let main = FuncType {
         params: ValTypes::of(Vec::new(alloc)),

@@ -19,7 +19,7 @@ pub enum Entry {
 
 /// The entry's name, as UTF-8.
 pub fn name_of(entry: Entry) -> &'static [u8]
-    ensures { result.now ≡ Entries.name_of entry }
+    ensures is { result.now ≡ Entries.name_of entry }
 {
     match entry {
         Entry::Main => b"main",
@@ -31,7 +31,7 @@ pub fn name_of(entry: Entry) -> &'static [u8]
 
 // The index of a function from nothing to nothing.
 fn typed_func(m: &Module, func: u32) -> Option<u32>
-    ensures { result ≡ Entries.typed_func m.now func }
+    ensures is { result ≡ Entries.typed_func m.now func }
 {
     let index = match m.funcs().as_slice().get(func as usize) {
         Some(index) => *index,
@@ -49,7 +49,7 @@ fn typed_func(m: &Module, func: u32) -> Option<u32>
 
 // The index of a mutable i32 global.
 fn typed_global(m: &Module, global: u32) -> Option<u32>
-    ensures { result ≡ Entries.typed_global m.now global }
+    ensures is { result ≡ Entries.typed_global m.now global }
 {
     let def = match m.globals().as_slice().get(global as usize) {
         Some(def) => *def,
@@ -63,7 +63,7 @@ fn typed_global(m: &Module, global: u32) -> Option<u32>
 
 // The index that an export gives out, where it is of the entry's kind and type.
 fn fitting(m: &Module, entry: Entry, export: &Export) -> Option<u32>
-    ensures { result ≡ Entries.fitting entry m.now export.now }
+    ensures is { result ≡ Entries.fitting entry m.now export.now }
 {
     match entry {
         Entry::Main => match export.kind {
@@ -83,7 +83,7 @@ fn fitting(m: &Module, entry: Entry, export: &Export) -> Option<u32>
 
 /// The index of what the entry's export gives out, where the export is there and of the entry's kind and type.
 pub fn index_of(m: &Module, entry: Entry) -> Option<u32>
-    ensures { result ≡ Entries.index_of entry m.now }
+    ensures is { result ≡ Entries.index_of entry m.now }
 {
     let name = name_of(entry);
     let exports = m.exports().as_slice();

@@ -62,7 +62,7 @@ struct Entries {
 
 // The places of the entries, or the first that is missing.
 fn entries_of(m: &Module) -> Result<Entries, Entry>
-    ensures { MatchResult result (HasEntries m.now) (λ e. missing m.now ≡ Some e) }
+    ensures is { MatchResult result (HasEntries m.now) (λ e. missing m.now ≡ Some e) }
 {
     let Some(main) = index_of(m, Entry::Main) else {
         return Err(Entry::Main);
@@ -85,7 +85,7 @@ fn entries_of(m: &Module) -> Result<Entries, Entry>
 
 // The least pages of the memory.
 fn pages_of(m: &Module) -> u32
-    ensures { result ≡ first_pages m.now.memory }
+    ensures is { result ≡ first_pages m.now.memory }
 {
     match m.memory() {
         Some(limits) => limits.min,
@@ -96,7 +96,7 @@ fn pages_of(m: &Module) -> u32
 // So many pages of zeros.
 #[tactic(auto, unfolding(crate::specs::Runs::zeroed))]
 fn zeros(alloc: Global, pages: u32) -> Result<Vec<u8>, AllocError>
-    ensures { IfOk result (λ v. v.items ≡ zeroed pages) }
+    ensures is { IfOk result (λ v. v.items ≡ zeroed pages) }
 {
     let count = 65_536 * pages as usize;
     vec![in alloc; 0; count]
@@ -104,7 +104,7 @@ fn zeros(alloc: Global, pages: u32) -> Result<Vec<u8>, AllocError>
 
 // The first values of the globals.
 fn first_globals(alloc: Global, m: &Module) -> Result<Vec<ConstValue>, AllocError>
-    ensures { IfOk result (λ v. v.items ≡ map (λ g. g.init) m.now.globals) }
+    ensures is { IfOk result (λ v. v.items ≡ map (λ g. g.init) m.now.globals) }
 {
     let mut values = Vec::new(alloc);
     for def in m.globals().as_slice() {
@@ -116,7 +116,7 @@ fn first_globals(alloc: Global, m: &Module) -> Result<Vec<ConstValue>, AllocErro
 // The value of an i32 global.
 fn i32_at(globals: &[ConstValue], place: u32) -> u32
     requires { (n : ℕ) × (slice_get globals.now place ≡ Some (ConstValue.I32 n)) }
-    ensures { slice_get globals.now place ≡ Some (ConstValue.I32 result) }
+    ensures is { slice_get globals.now place ≡ Some (ConstValue.I32 result) }
 {
     match globals.get(place as usize) {
         Some(ConstValue::I32(n)) => *n,
@@ -159,7 +159,7 @@ impl<'m> Machine<'m> {
     ) -> Result<Machine<'m>, AllocError>
         requires valid { IsValid program.now }
         requires entries { HasEntries program.now entries }
-        ensures { IfOk result (λ a. IsFresh program.now cap a) }
+        ensures is { IfOk result (λ a. IsFresh program.now cap a) }
     {
         let pages = pages_of(program);
         let memory = zeros(alloc, pages)?;
@@ -187,7 +187,7 @@ impl<'m> Machine<'m> {
 
     // How the run ended, if it has.
     fn end(&self) -> Option<Ended>
-        ensures { MatchOption result (GoesOn self.now.state) (λ e. IsOver e self.now.state) }
+        ensures is { MatchOption result (GoesOn self.now.state) (λ e. IsOver e self.now.state) }
     {
         self.ended
     }

@@ -11,7 +11,7 @@ use crate::types::{ConstValue, Limits, ValType};
 
 // Whether each function's type is there.
 fn types_are_there(m: &Module) -> bool
-    ensures { IsTrue result ↔ IsSound Functions m.now }
+    ensures is { IsTrue result ↔ IsSound Functions m.now }
 {
     let count = m.types().as_slice().len();
     let funcs = m.funcs().as_slice();
@@ -25,7 +25,7 @@ fn types_are_there(m: &Module) -> bool
 
 // Whether a memory's sizes are within 65,536 pages and in order.
 fn are_limits(of: Limits) -> bool
-    ensures { IsTrue result ↔ AreLimits of }
+    ensures is { IsTrue result ↔ AreLimits of }
 {
     let most = match of.max {
         Some(most) => most,
@@ -36,7 +36,7 @@ fn are_limits(of: Limits) -> bool
 
 // Whether the memory's sizes are sound, where there is a memory.
 fn memory_is_sound(m: &Module) -> bool
-    ensures { IsTrue result ↔ IsSound Memories m.now }
+    ensures is { IsTrue result ↔ IsSound Memories m.now }
 {
     match m.memory() {
         Some(of) => are_limits(of),
@@ -46,7 +46,7 @@ fn memory_is_sound(m: &Module) -> bool
 
 /// The type of a value.
 pub fn type_of(of: ConstValue) -> ValType
-    ensures { result ≡ Rattle.wasm_core.specs.ModuleTyping.type_of of }
+    ensures is { result ≡ Rattle.wasm_core.specs.ModuleTyping.type_of of }
 {
     match of {
         ConstValue::I32(_) => ValType::I32,
@@ -56,7 +56,7 @@ pub fn type_of(of: ConstValue) -> ValType
 
 // Whether each global's first value is of its type.
 fn globals_are_sound(m: &Module) -> bool
-    ensures { IsTrue result ↔ IsSound Globals m.now }
+    ensures is { IsTrue result ↔ IsSound Globals m.now }
 {
     let globals = m.globals().as_slice();
     for at in 0..globals.len() {
@@ -78,7 +78,7 @@ pub fn same_bytes(left: &[u8], right: &[u8]) -> bool
 
 // Whether an export has this name.
 fn is_named(exports: &[Export], name: &[u8]) -> bool
-    ensures { IsTrue result ↔ IsNamed exports.now name.now }
+    ensures is { IsTrue result ↔ IsNamed exports.now name.now }
 {
     for at in 0..exports.len() {
         let export = &exports[at];
@@ -91,7 +91,7 @@ fn is_named(exports: &[Export], name: &[u8]) -> bool
 
 // Whether no two exports have the same name.
 fn names_are_distinct(exports: &[Export]) -> bool
-    ensures { IsTrue result ↔ DistinctNames exports.now }
+    ensures is { IsTrue result ↔ DistinctNames exports.now }
 {
     for at in 0..exports.len() {
         let export = &exports[at];
@@ -104,7 +104,7 @@ fn names_are_distinct(exports: &[Export]) -> bool
 
 // Whether what an export names is there.
 fn is_there(m: &Module, kind: ExportKind, index: u32) -> bool
-    ensures { IsTrue result ↔ IsThere m.now kind index }
+    ensures is { IsTrue result ↔ IsThere m.now kind index }
 {
     match kind {
         ExportKind::Func => (index as usize) < m.funcs().as_slice().len(),
@@ -116,7 +116,7 @@ fn is_there(m: &Module, kind: ExportKind, index: u32) -> bool
 
 // Whether what each export names is there.
 fn exports_are_there(m: &Module) -> bool
-    ensures { IsTrue result ↔ EachIsThere m.now }
+    ensures is { IsTrue result ↔ EachIsThere m.now }
 {
     let exports = m.exports().as_slice();
     for at in 0..exports.len() {
@@ -130,7 +130,7 @@ fn exports_are_there(m: &Module) -> bool
 
 /// The id of the first section outside the bodies that has a fault.
 pub fn outside_fault(m: &Module) -> Option<u32>
-    ensures { SaysOutside m.now result }
+    ensures is { SaysOutside m.now result }
 {
     if !types_are_there(m) {
         return Some(3);

@@ -31,7 +31,7 @@ pub struct NotValid {
 
 // A count, which stands still at the last value of its 32 bits.
 fn counted(n: usize) -> u32
-    ensures { result ≡ Rattle.wasm_core.specs.FirstFault.counted n }
+    ensures is { result ≡ Rattle.wasm_core.specs.FirstFault.counted n }
 {
     n.min(u32::MAX as usize) as u32
 }
@@ -40,7 +40,7 @@ fn counted(n: usize) -> u32
 fn func_fault(alloc: Global, m: &Module, func: usize) -> Result<Option<usize>, AllocError>
     requires sound { AllSound m.now }
     requires within { func < length m.now.funcs }
-    ensures { IfOk result (λ o. SaysOfFunc m.now func o) }
+    ensures is { IfOk result (λ o. SaysOfFunc m.now func o) }
 {
     let index = m.funcs().as_slice()[func];
     let of = &m.types().as_slice()[index as usize];
@@ -50,7 +50,7 @@ fn func_fault(alloc: Global, m: &Module, func: usize) -> Result<Option<usize>, A
 
 // Where the module first fails, if it does.
 fn first_fault(alloc: Global, m: &Module) -> Result<Option<(u32, u32)>, AllocError>
-    ensures { IfOk result (λ o. SaysOfModule m.now o) }
+    ensures is { IfOk result (λ o. SaysOfModule m.now o) }
 {
     if let Some(place) = outside_fault(m) {
         return Ok(Some((u32::MAX, place)));

@@ -16,7 +16,7 @@ loop-at-preserved c =
     let m = c.args.m.now in let ls = c.args.of.now.params ++ c.args.body.now.locals in let rs = option_to_list c.args.of.now.result in let code = c.args.body.now.code in
     let lt : c.loop-at.at < length code = omega (arith, ap length c.as_slice-code.ensures.items) in
     let now = reverse c.loop-at.operands.items in
-    let checked = rw c.as_slice-code.ensures.items at c.in_ok-check_instr.ensures in
+    let checked = rw c.as_slice-code.ensures.items at c.in_ok-check_instr.ensures.is in
     let is = checked ∙ ap (λ p. shows p c.check_instr.new.operands.items) c.in-Goes.is in
     let r = pass_more m ls rs code c.loop-at.at (Some (Open now)) c.loop-at.invariant.passed lt ∙ is in
     record { passed = r; begun = begun_more m ls rs code c.loop-at.at (Open (reverse c.check_instr.new.operands.items)) c.loop-at.invariant.begun r }
@@ -26,30 +26,30 @@ returns-in-Stuck c =
     let m = c.args.m.now in let ls = c.args.of.now.params ++ c.args.body.now.locals in let rs = option_to_list c.args.of.now.result in let code = c.args.body.now.code in
     let lt : c.loop-at.at < length code = omega (arith, ap length c.as_slice-code.ensures.items) in
     let now = reverse c.loop-at.operands.items in
-    let checked = rw c.as_slice-code.ensures.items at c.in_ok-check_instr.ensures in
+    let checked = rw c.as_slice-code.ensures.items at c.in_ok-check_instr.ensures.is in
     let is = checked ∙ ap (λ p. shows p c.check_instr.new.operands.items) c.in-Stuck.is in
-    stuck_at m ls rs code c.loop-at.at now c.loop-at.invariant.passed c.loop-at.invariant.begun lt is
+    record { is = stuck_at m ls rs code c.loop-at.at now c.loop-at.invariant.passed c.loop-at.invariant.begun lt is }
 
 pub returns-then-at-code : goal.returns-then-at-code
 returns-then-at-code c =
     let m = c.args.m.now in let ls = c.args.of.now.params ++ c.args.body.now.locals in let rs = option_to_list c.args.of.now.result in let code = c.args.body.now.code in
     let lt : c.loop-at.at < length code = omega (arith, ap length c.as_slice-code.ensures.items) in
     let now = reverse c.loop-at.operands.items in
-    let checked = rw c.as_slice-code.ensures.items at c.in_ok-check_instr.ensures in
+    let checked = rw c.as_slice-code.ensures.items at c.in_ok-check_instr.ensures.is in
     let is = checked ∙ ap (λ p. shows p c.check_instr.new.operands.items) c.in-Ends.is in
-    at_last m ls rs code c.loop-at.at now c.loop-at.invariant.passed lt is (omega (arith, ap length c.as_slice-code.ensures.items))
+    record { is = at_last m ls rs code c.loop-at.at now c.loop-at.invariant.passed lt is (omega (arith, ap length c.as_slice-code.ensures.items)) }
 
 pub returns-in-Ends : goal.returns-in-Ends
 returns-in-Ends c =
     let m = c.args.m.now in let ls = c.args.of.now.params ++ c.args.body.now.locals in let rs = option_to_list c.args.of.now.result in let code = c.args.body.now.code in
     let lt : c.loop-at.at < length code = omega (arith, ap length c.as_slice-code.ensures.items) in
     let now = reverse c.loop-at.operands.items in
-    let checked = rw c.as_slice-code.ensures.items at c.in_ok-check_instr.ensures in
+    let checked = rw c.as_slice-code.ensures.items at c.in_ok-check_instr.ensures.is in
     let is = checked ∙ ap (λ p. shows p c.check_instr.new.operands.items) c.in-Ends.is in
-    past_end m ls rs code c.loop-at.at now c.loop-at.invariant.passed c.loop-at.invariant.begun lt is (omega (arith, ap length c.as_slice-code.ensures.items))
+    record { is = past_end m ls rs code c.loop-at.at now c.loop-at.invariant.passed c.loop-at.invariant.begun lt is (omega (arith, ap length c.as_slice-code.ensures.items)) }
 
 pub returns : goal.returns
 returns c =
     let m = c.args.m.now in let ls = c.args.of.now.params ++ c.args.body.now.locals in let rs = option_to_list c.args.of.now.result in let code = c.args.body.now.code in
     let last : c.loop-at.at ≡ length code = omega (arith, ap length c.as_slice-code.ensures.items) in
-    subst (IsFaultAt m ls rs code) (last ∙ sym (ap length c.as_slice-code.ensures.items)) (unended m ls rs code c.loop-at.at (reverse c.loop-at.operands.items) c.loop-at.invariant.passed c.loop-at.invariant.begun last)
+    record { is = subst (IsFaultAt m ls rs code) (last ∙ sym (ap length c.as_slice-code.ensures.items)) (unended m ls rs code c.loop-at.at (reverse c.loop-at.operands.items) c.loop-at.invariant.passed c.loop-at.invariant.begun last) }

@@ -6,7 +6,7 @@ use Rattle.wasm_core.proofs.outside.is_named.Goals as goal
 pub returns-then-same_bytes : goal.returns-then-same_bytes
 returns-then-same_bytes c =
     let e = here c.args.exports.now c.loop-at.at c.index-exports-at.result c.index-exports-at.is c.loop-at-test.true in
-    (λ t. (c.loop-at.at, c.index-exports-at.result, e, sym c.as_slice.ensures.items ∙ c.same_bytes.ensures.decides.0 c.if-same_bytes.true), λ n. refl)
+    record { is = (λ t. (c.loop-at.at, c.index-exports-at.result, e, sym c.as_slice.ensures.items ∙ c.same_bytes.ensures.decides.0 c.if-same_bytes.true), λ n. refl) }
 
 pub loop-at-preserved : goal.loop-at-preserved
 loop-at-preserved c =
@@ -16,4 +16,4 @@ loop-at-preserved c =
 
 pub returns : goal.returns
 returns c =
-    (λ t. false_is_true t, λ n. absurd (of_each (λ i (x : Export). x.name ≡ c.args.name.now → ⊥) c.args.exports.now c.loop-at.at c.loop-at.invariant c.loop-at-test.false n.0 n.1 n.2 n.3))
+    record { is = (λ t. false_is_true t, λ n. absurd (of_each (λ i (x : Export). x.name ≡ c.args.name.now → ⊥) c.args.exports.now c.loop-at.at c.loop-at.invariant c.loop-at-test.false n.0 n.1 n.2 n.3)) }

@@ -4,19 +4,21 @@ use Rattle.wasm_core.proofs.Faults.{fault_outside, fault_inside, typed_next, all
 use Rattle.wasm_core.proofs.validation.first_fault.Goals as goal
 
 pub returns-in-Some : goal.returns-in-Some
-returns-in-Some c = fault_outside c.args.m.now c.in-Some.place c.in-Some.ensures
+returns-in-Some c = record { is = fault_outside c.args.m.now c.in-Some.place c.in-Some.ensures.is }
 
 pub returns-in-Some-2 : goal.returns-in-Some-2
 returns-in-Some-2 c =
-    let s = subst (SaysOfFunc c.args.m.now c.loop-func.func) c.in-Some-2.is c.in_ok-place.ensures in
-    rw (c.counted.ensures, c.counted-in-Some-2.ensures) (fault_inside c.args.m.now c.loop-func.func c.in-Some-2.place c.loop-func.invariant.sound c.loop-func.invariant.typed s)
+    let s = subst (SaysOfFunc c.args.m.now c.loop-func.func) c.in-Some-2.is c.in_ok-place.ensures.is in
+    record { is = rw (c.counted.ensures.is, c.counted-in-Some-2.ensures.is) (fault_inside c.args.m.now c.loop-func.func c.in-Some-2.place c.loop-func.invariant.sound c.loop-func.invariant.typed s) }
 
 pub loop-func-preserved : goal.loop-func-preserved
 loop-func-preserved c =
-    let s = subst (SaysOfFunc c.args.m.now c.loop-func.func) c.in_default-2.is c.in_ok-place.ensures in
+    let s = subst (SaysOfFunc c.args.m.now c.loop-func.func) c.in_default-2.is c.in_ok-place.ensures.is in
     record { sound = c.loop-func.invariant.sound; typed = typed_next c.args.m.now c.loop-func.func c.loop-func.invariant.typed s }
 
 pub returns : goal.returns
 returns c =
-    all_typed c.args.m.now c.loop-func.func c.loop-func.invariant.sound c.loop-func.invariant.typed
-    (omega (arith, ap length (c.as_slice-func-end.ensures.items ∙ c.funcs.ensures.is)))
+    record {
+      is = all_typed c.args.m.now c.loop-func.func c.loop-func.invariant.sound c.loop-func.invariant.typed
+          (omega (arith, ap length (c.as_slice-func-end.ensures.items ∙ c.funcs.ensures.is)));
+    }

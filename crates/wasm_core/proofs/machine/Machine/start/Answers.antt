@@ -26,7 +26,7 @@ invariant_of-result c =
     let lt = main_body m f c.requires.valid c.requires.entries.main in
     let hb = ap (λ (bs : List Body). slice_get bs f) (sym is) ∙ here c.as_slice.result.now f b c.index-as_slice-entries.is (omega (arith, lt, ap length is)) in
     let t : Thread = record { at = 0; operands = c.new.result; pages = c.pages_of-pages.result; memory = c.in_ok-memory.memory; globals = c.in_ok-globals.globals } in
-    let e = thread_starts m b t refl c.new.ensures.items c.pages_of-pages.ensures (c.in_ok-memory.ensures ∙ ap zeroed c.pages_of-pages.ensures) c.in_ok-globals.ensures in
+    let e = thread_starts m b t refl c.new.ensures.items c.pages_of-pages.ensures.is (c.in_ok-memory.ensures.is ∙ ap zeroed c.pages_of-pages.ensures.is) c.in_ok-globals.ensures.is in
     record { good = subst (IsGood m) (sym e) (start_good m f b c.requires.valid c.requires.entries.main hb); result_at = c.requires.entries.result; status_at = c.requires.entries.status }
 
 pub returns : goal.returns
@@ -36,5 +36,5 @@ returns c =
     let lt = main_body m f c.requires.valid c.requires.entries.main in
     let hb = ap (λ (bs : List Body). slice_get bs f) (sym is) ∙ here c.as_slice.result.now f b c.index-as_slice-entries.is (omega (arith, lt, ap length is)) in
     let t : Thread = record { at = 0; operands = c.new.result; pages = c.pages_of-pages.result; memory = c.in_ok-memory.memory; globals = c.in_ok-globals.globals } in
-    let e = thread_starts m b t refl c.new.ensures.items c.pages_of-pages.ensures (c.in_ok-memory.ensures ∙ ap zeroed c.pages_of-pages.ensures) c.in_ok-globals.ensures in
-    (start m b, main_starts m f b c.requires.entries.main hb, ap (λ (s : State). record { program = m; cap = c.args.cap; state = s; made = 0; failed = false }) e)
+    let e = thread_starts m b t refl c.new.ensures.items c.pages_of-pages.ensures.is (c.in_ok-memory.ensures.is ∙ ap zeroed c.pages_of-pages.ensures.is) c.in_ok-globals.ensures.is in
+    record { is = (start m b, main_starts m f b c.requires.entries.main hb, ap (λ (s : State). record { program = m; cap = c.args.cap; state = s; made = 0; failed = false }) e) }
