@@ -19,5 +19,3 @@ mod matches;
 mod sorts;
 mod spine_heads;
 mod spines;
-#[cfg(test)]
-mod tests;

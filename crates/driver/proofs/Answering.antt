@@ -3,9 +3,9 @@ use Rattle.std.proofs.Common.{◌≡◌, ℕ, suc, ◌+◌, ◌*◌, ◌/◌, �
 use Rattle.std.specs.Prelude.{All, IfOk, IfErr, slice_get}
 use Rattle.std.proofs.Math.Seq.{take-suc}
 use Rattle.std.proofs.lemmas.List.Elements.{All-nil, All-cons, All-append}
-use Rattle.wasm_core.specs.ModuleGrammar.{SpellsModule}
-use Rattle.wasm_core.specs.EnumerationModule.{enumeration_module}
-use Rattle.wasm_core.proofs.Enumeration.{enumeration_valid, enumeration_answers}
+use Rattle.enumeration_modules.specs.ModuleGrammar.{SpellsModule}
+use Rattle.enumeration_modules.specs.EnumerationModule.{enumeration_module}
+use Rattle.enumeration_modules.proofs.Enumeration.{enumeration_valid, enumeration_answers}
 use Rattle.pc_terms.specs.declared.leaf.FamilyId.{FamilyId}
 use Rattle.pc_terms.specs.Syntax.{Term, Construct}
 use Rattle.pc_rules.specs.declared.declaration.Constructor.{Constructor}

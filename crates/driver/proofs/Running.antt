@@ -1,19 +1,19 @@
 -- Runs of the module of a constructor.
 use Rattle.std.proofs.Common.{◌≡◌, ℕ, ◌+◌, ◌*◌, ◌≤◌, List, [], ◌∷◌, Some, None, Ok, Err, refl, sym, ap, subst, ◌∙◌, arith}
-use Rattle.wasm_core.specs.declared.entries.Entry.{Entry}
-use Rattle.wasm_core.specs.declared.entries.Entry.TheVariants as entry
-use Rattle.wasm_core.specs.declared.ended.Ended.{Ended}
-use Rattle.wasm_core.specs.declared.ended.Ended.TheVariants.{Returned}
-use Rattle.wasm_core.specs.declared.ended.RunFault.TheVariants as faults
-use Rattle.wasm_core.specs.Entries.{missing}
-use Rattle.wasm_core.specs.Parts.{Parts}
-use Rattle.wasm_core.specs.MachineStep.{State, At, Over, Step, Reach}
-use Rattle.wasm_core.specs.Runs.{Shown, Move, Moves, IsOver, IsFresh, Says, grants, main_start, store_of}
-use Rattle.wasm_core.specs.WordData.{StandsFor, empty}
-use Rattle.wasm_core.specs.Answer.{Answers, AnswersWithin, IsAtEnd, global_of}
-use Rattle.wasm_core.specs.EnumerationModule.{enumeration_module}
-use Rattle.wasm_core.proofs.Enumeration.{enumeration_answers}
-use Rattle.wasm_core.proofs.Answering.{moves_reach}
+use Rattle.enumeration_modules.specs.declared.entries.Entry.{Entry}
+use Rattle.enumeration_modules.specs.declared.entries.Entry.TheVariants as entry
+use Rattle.enumeration_modules.specs.declared.ended.Ended.{Ended}
+use Rattle.enumeration_modules.specs.declared.ended.Ended.TheVariants.{Returned}
+use Rattle.enumeration_modules.specs.declared.ended.RunFault.TheVariants as faults
+use Rattle.enumeration_modules.specs.Entries.{missing}
+use Rattle.enumeration_modules.specs.Parts.{Parts}
+use Rattle.enumeration_modules.specs.MachineStep.{State, At, Over, Step, Reach}
+use Rattle.enumeration_modules.specs.Runs.{Shown, Move, Moves, IsOver, IsFresh, Says, grants, main_start, store_of}
+use Rattle.enumeration_modules.specs.WordData.{StandsFor, empty}
+use Rattle.enumeration_modules.specs.Answer.{Answers, AnswersWithin, IsAtEnd, global_of}
+use Rattle.enumeration_modules.specs.EnumerationModule.{enumeration_module}
+use Rattle.enumeration_modules.proofs.Enumeration.{enumeration_answers}
+use Rattle.enumeration_modules.proofs.Answering.{moves_reach}
 
 -- a machine's step is a step of a run
 step-is : (m : Parts) (cap : ℕ) (s t : State) → Move m cap s t → Step m s t

@@ -11,10 +11,10 @@ use Rattle.pc_rules.specs.declared.declaration.Constructor.{Constructor}
 use Rattle.pc_rules.specs.Environment.{Env, FamilyDecl, KeepsFamily}
 use Rattle.rule_laws.specs.Declarations.{IsCheckedEnvironment}
 use Rattle.env_check.specs.Rules.{givens}
-use Rattle.wasm_core.specs.Parts.{Parts}
-use Rattle.wasm_core.specs.ModuleGrammar.{SpellsModule}
-use Rattle.wasm_core.specs.ModuleTyping.{IsValid}
-use Rattle.wasm_core.specs.Answer.{AlwaysAnswers}
+use Rattle.enumeration_modules.specs.Parts.{Parts}
+use Rattle.enumeration_modules.specs.ModuleGrammar.{SpellsModule}
+use Rattle.enumeration_modules.specs.ModuleTyping.{IsValid}
+use Rattle.enumeration_modules.specs.Answer.{AlwaysAnswers}
 use Rattle.driver.specs.declared.refusal.Refusal.{Refusal}
 use Rattle.driver.specs.declared.refusal.Refusal.TheVariants as refusals
 use Rattle.driver.specs.declared.command_line.Job.{Job}

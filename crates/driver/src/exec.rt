@@ -4,8 +4,8 @@ ghost use Rattle.std.specs.Prelude.{◌≡◌, ◌<◌, ◌∷◌, ◌++◌, ℕ
 ghost use Rattle.pc_rules.specs.declared.declaration.Family.{Family};
 ghost use Rattle.pc_rules.specs.declared.declaration.Constructor.{Constructor};
 ghost use Rattle.pc_rules.specs.Lookup.{family_kept};
-ghost use Rattle.wasm_core.specs.EnumerationModule.{enumeration_module};
-ghost use Rattle.wasm_core.specs.ModuleGrammar.{SpellsModule};
+ghost use Rattle.enumeration_modules.specs.EnumerationModule.{enumeration_module};
+ghost use Rattle.enumeration_modules.specs.ModuleGrammar.{SpellsModule};
 ghost use Rattle.driver.specs.declared.command_line.Job.TheVariants.{Exec};
 ghost use Rattle.driver.specs.Judged.{IsNamed};
 ghost use Rattle.driver.specs.Serve.{JobSays};

@@ -16,7 +16,7 @@
 //! `Serve` (answers and causes). Which bytes spell which environment, and what a text's first refusal is, are definitions of `dump_grammar`
 //! and `dump_reader`; which environments are well formed is one of `rule_laws` over those of `pc_rules`.
 //!
-//! Below stand `kio`, `dump_reader`, `env_check` and `wasm_core`; above stands the program `erasec`.
+//! Below stand `kio`, `dump_reader`, `env_check` and `enumeration_modules`; above stands the program `erasec`.
 #![tactic(auto)]
 
 mod check;
@@ -30,7 +30,3 @@ mod top;
 
 pub use top::serve;
 
-#[cfg(test)]
-mod check_tests;
-#[cfg(test)]
-mod tests;

@@ -1,15 +1,15 @@
 //! The program of a constructor, a module: made, written, read back, checked and run.
 
 ghost use Rattle.std.specs.Prelude.{◌≡◌, ◌+◌, ◌*◌, ◌<◌, ◌≤◌, ℕ, IfOk, IfErr, length};
-ghost use Rattle.wasm_core.specs.Parts.{Parts};
-ghost use Rattle.wasm_core.specs.EnumerationModule.{enumeration_module};
-ghost use Rattle.wasm_core.specs.ModuleGrammar.{SpellsModule};
-ghost use Rattle.wasm_core.specs.ModuleTyping.{IsValid};
-ghost use Rattle.wasm_core.specs.ShortestBytes.{module_bytes};
+ghost use Rattle.enumeration_modules.specs.Parts.{Parts};
+ghost use Rattle.enumeration_modules.specs.EnumerationModule.{enumeration_module};
+ghost use Rattle.enumeration_modules.specs.ModuleGrammar.{SpellsModule};
+ghost use Rattle.enumeration_modules.specs.ModuleTyping.{IsValid};
+ghost use Rattle.enumeration_modules.specs.ShortestBytes.{module_bytes};
 
 use crate::refusal::Refusal;
 use std::alloc::Global;
-use wasm_core::{
+use enumeration_modules::{
     DecodeFault, EncodeFault, Ended, Machine, Module, NewFault, RunFault, Valid, Why,
     constructor_module, decode, encode, validate,
 };

@@ -33,5 +33,3 @@ mod whole;
 
 pub use whole::parse;
 
-#[cfg(test)]
-mod tests;

@@ -32,8 +32,6 @@ ghost use Rattle.dump_printer.specs.Writing.{HasGone};
 mod declarations;
 mod sorts;
 mod terms;
-#[cfg(test)]
-mod tests;
 mod text;
 mod writing;
 

@@ -20,8 +20,6 @@ pub mod names;
 mod numbering;
 pub mod reading;
 mod term;
-#[cfg(test)]
-mod tests;
 mod universe;
 mod whole;
 

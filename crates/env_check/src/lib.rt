@@ -19,5 +19,3 @@ mod constraints;
 mod declarations;
 mod levels;
 pub mod refusal;
-#[cfg(test)]
-mod tests;

@@ -22,6 +22,4 @@ mod positivity;
 mod results;
 mod sharing;
 mod telescope;
-#[cfg(test)]
-mod tests;
 mod types;

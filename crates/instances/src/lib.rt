@@ -14,5 +14,3 @@
 
 pub mod instances;
 pub mod instantiations;
-#[cfg(test)]
-mod tests;

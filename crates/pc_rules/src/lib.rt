@@ -50,6 +50,4 @@ mod number_map;
 pub mod reducer;
 pub mod shared_list;
 pub mod stop;
-#[cfg(test)]
-mod tests;
 pub mod typer;

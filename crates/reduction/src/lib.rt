@@ -24,5 +24,3 @@ mod meeting;
 mod redexes;
 mod spine;
 pub mod substitution;
-#[cfg(test)]
-mod tests;

@@ -152,5 +152,3 @@ pub fn spines()
         subst_list k ys (apply f xs) ≡ apply (subst_list k ys f) (map (subst_list k ys) xs) }
 {}
 
-#[cfg(test)]
-mod tests;

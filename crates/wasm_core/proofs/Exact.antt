@@ -5,15 +5,11 @@ use Rattle.std.specs.Str.{is_utf8}
 use Rattle.std.proofs.lemmas.Str.{is_utf8-from_IsUtf8, IsUtf8-from_is_utf8}
 use Rattle.std.proofs.lemmas.Bool.{le-leb, lt-ltb, le-ltb, ltb-true, ltb-false, leb-true, leb-false}
 use Rattle.wasm_core.specs.Leb.{number_at, last, higher}
-use Rattle.wasm_core.specs.Format.{Format, Give, Nothing, Byte, Number, Name, Size, End, Outcome, Accepted, Refused, judge, outer, others, name_at, at_length}
+use Rattle.wasm_core.specs.Format.{Format, Give, Nothing, Byte, Number, Name, Size, Skip, End, Outcome, Accepted, Refused, judge, outer, others, name_at, at_length}
 use Rattle.wasm_core.specs.Spelling.{Lasts, IsByte, IsNumber, IsName, IsSize, Spells, Stops, Meets}
 use Rattle.std.proofs.Common.{Result, Ok, Err}
 use Rattle.wasm_core.specs.Parts.{Parts}
 use Rattle.wasm_core.specs.ModuleGrammar.{file, IsExact, SpellsModule, StopsModule, Explains, Answers, Refuses}
-use Rattle.wasm_core.specs.Reads.{Goes}
-use Rattle.wasm_core.specs.Reading.{ExplainsFound}
-use Rattle.wasm_core.specs.Found.{parts_of}
-use Rattle.wasm_core.specs.declared.sections.Found.{Found}
 use Rattle.wasm_core.specs.declared.binary_faults.DecodeFault.{DecodeFault}
 use Rattle.wasm_core.specs.declared.binary_faults.DecodeFault.TheVariants as faults
 
@@ -259,6 +255,10 @@ end_on : {M : Type 0} (may : Bool) (over more : Format M) (at : ℕ) (ws : List 
 end_on may over more at ws m (Accepted x) h = (m, h)
 end_on may over more at ws m (Refused o) h = inr (m, h)
 
+skip_on : {M : Type 0} (next : Format M) (at : ℕ) (w : List ℕ) (ws : List (List ℕ)) (o : Outcome M) → Meets next (at + length w) [] ws o → Meets (Skip next) at w ws o
+skip_on next at w ws (Accepted x) h = h
+skip_on next at w ws (Refused o) h = h
+
 end_meets : {M : Type 0} (may : Bool) (over more : Format M) (at : ℕ) (ws : List (List ℕ)) → Meets over at (outer ws) (others ws) (judge over at (outer ws) (others ws)) → Meets (End may over more) at [] ws (if may then judge over at (outer ws) (others ws) else Refused at)
 end_meets true over more at ws h = end_on true over more at ws refl _ h
 end_meets false over more at ws h = inl (refl, refl)
@@ -287,6 +287,7 @@ meets (Size next) at w ws = elim (size_dec w _ refl) [
   | inl (n, k, i) ↦ subst (Meets (Size next) at w ws) (sym (size_is next at n k w ws i)) (size_on next at n k w ws i _ (meets (next n) (at + k) (take n (drop k w)) (drop n (drop k w) ∷ ws)))
   | inr n ↦ subst (Meets (Size next) at w ws) (sym (size_none next at w ws _ refl n)) (inl (refl, n))
 ]
+meets (Skip next) at w ws = skip_on next at w ws _ (meets next (at + length w) [] ws)
 meets (End may over more) at [] ws = end_meets may over more at ws (meets over at (outer ws) (others ws))
 meets (End may over more) at (b ∷ w) ws = more_on may over more at b w ws _ (meets more at (b ∷ w) ws)
 
@@ -298,6 +299,7 @@ spelled (Byte fits next) at w ws x (b, k, i, h) = byte_is fits next at b k w ws 
 spelled (Number s bits fits next) at w ws x (n, k, i, h) = number_is s bits fits next at n k w ws i ∙ spelled (next n) (at + k) (drop k w) ws x h
 spelled (Name next) at w ws x (s, k, i, h) = name_is next at s k w ws i ∙ spelled (next s) (at + k) (drop k w) ws x h
 spelled (Size next) at w ws x (n, k, i, h) = size_is next at n k w ws i ∙ spelled (next n) (at + k) (take n (drop k w)) (drop n (drop k w) ∷ ws) x h
+spelled (Skip next) at w ws x h = spelled next (at + length w) [] ws x h
 spelled (End may over more) at [] ws x (m, h) = rw m (spelled over at (outer ws) (others ws) x h)
 spelled (End may over more) at (b ∷ w) ws x h = spelled more at (b ∷ w) ws x h
 
@@ -313,6 +315,7 @@ stopped (Name next) at w ws o (inl (e, n)) = name_none next at w ws _ refl (name
 stopped (Name next) at w ws o (inr (s, k, i, h)) = name_is next at s k w ws i ∙ stopped (next s) (at + k) (drop k w) ws o h
 stopped (Size next) at w ws o (inl (e, n)) = size_none next at w ws _ refl n ∙ ap Refused (sym e)
 stopped (Size next) at w ws o (inr (n, k, i, h)) = size_is next at n k w ws i ∙ stopped (next n) (at + k) (take n (drop k w)) (drop n (drop k w) ∷ ws) o h
+stopped (Skip next) at w ws o h = stopped next (at + length w) [] ws o h
 stopped (End may over more) at [] ws o (inl (e, m)) = rw m (ap Refused (sym e))
 stopped (End may over more) at [] ws o (inr (m, h)) = rw m (stopped over at (outer ws) (others ws) o h)
 stopped (End may over more) at (b ∷ w) ws o h = stopped more at (b ∷ w) ws o h
@@ -344,11 +347,6 @@ exact = record {
   not_both = λ bytes m o h g. never m o (sym (spelled (file (length bytes)) 0 bytes [] m h) ∙ stopped (file (length bytes)) 0 bytes [] o g);
   one_of_both = λ bytes. either bytes _ (meets (file (length bytes)) 0 bytes []);
 }
-
-pub explains : (r : Result Found DecodeFault) (bytes : List ℕ) → Goes r (judge (file (length bytes)) 0 bytes []) (λ f. Accepted (parts_of f)) → ExplainsFound r bytes
-explains (Ok f) bytes g = subst (Meets (file (length bytes)) 0 bytes []) g (meets (file (length bytes)) 0 bytes [])
-explains (Err faults.Memory) bytes g = tt
-explains (Err (faults.Bad o)) bytes g = subst (Meets (file (length bytes)) 0 bytes []) g (meets (file (length bytes)) 0 bytes [])
 
 pub answers : (r : Result Parts DecodeFault) (bytes : List ℕ) → Explains r bytes → (m : Parts) → SpellsModule bytes m → Answers m r
 answers (Ok x) bytes e m h = exact.one_module bytes x m e h

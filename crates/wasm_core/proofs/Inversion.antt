@@ -1,18 +1,23 @@
 -- What bytes spell meets the condition of modules.
 use Rattle.std.proofs.Common.{◌≡◌, inl, inr, ℕ, zero, suc, ◌+◌, ◌-◌, ◌^◌, ◌<◌, ◌≤◌, List, [], ◌∷◌, ◌++◌, length, take, drop, Option, Some, None, Bool, true, false, refl, sym, ap, subst, arith, append_assoc, append-nil, length-append}
-use Rattle.std.specs.Prelude.{if◌then◌else◌, replicate, IsUtf8}
+use Rattle.std.specs.Prelude.{if◌then◌else◌, replicate, IsUtf8, nat_eq, not, ◌&&◌}
 use Rattle.std.proofs.lemmas.Bool.{leb-true, eqb-true}
 use Rattle.std.proofs.lemmas.List.{length-replicate}
 use Rattle.std.proofs.Math.Pow.{pow_mono}
 use Rattle.wasm_core.proofs.Powers.{seven_off, half_below}
 use Rattle.wasm_core.specs.Parts.{Parts}
-use Rattle.wasm_core.specs.ModuleCondition.{All, IsU32, IsVector, IsFuncType, IsLimits, IsMemory, IsConstant, IsGlobal, IsExport, IsInstr, opens_after, IsClosed, IsBody, IsModule}
-use Rattle.wasm_core.specs.Format.{Name}
+use Rattle.wasm_core.specs.ModuleCondition.{All, IsU32, IsU64, IsVector, IsFuncType, IsLimits, AreSizes, IsConstant, IsGlobal, IsExport, IsSegment, IsAccess, IsInstr, MayCome, opens_after, IsClosed, IsBody, IsModule}
+use Rattle.wasm_core.specs.Format.{Name, Skip}
 use Rattle.wasm_core.specs.Spelling.{Lasts, SpellsNumber, Spells}
-use Rattle.wasm_core.specs.ModuleGrammar.{Spelling, byte, u32, s32, on, coded, find, finish, times, val_type, val_types, func_result, func_type, limits_flag, limits, mutability, row, Row, Plain, Index, Bits, opcodes, instr, instrs, constant, groups, locals, body, func_types, indices, memory, global, globals, export_kind, exported, exports, bodies, contents, section, section_id, next_section, is_whole, sections, header, file, empty, SpellsModule}
+use Rattle.wasm_core.specs.ModuleGrammar.{Spelling, byte, u32, s32, s64, on, coded, find, finish, times, val_type, val_types, func_result, func_type, limits_flag, limits, mutability, block_type, access, row, Row, Plain, Typed, Index, Accessing, Pair, Table, Zeroed, Bits, LongBits, opcodes, operations, operation_row, row_or, opcode, instr, instrs, constant_of, constant_opcodes, constant, table_type, table, segment, segments, last_after, groups, locals, body, func_types, indices, memory, global, globals, export_kind, exported, exports, bodies, contents, section, section_id, next_section, is_whole, sections, header, file, empty, SpellsModule}
 use Rattle.wasm_core.specs.declared.types.ValType.{ValType}
+use Rattle.wasm_core.specs.declared.types.ValType.TheVariants.{I32, I64}
+use Rattle.wasm_core.specs.declared.instrs.BlockType.{BlockType}
+use Rattle.wasm_core.specs.declared.instrs.I32Op.{I32Op}
+use Rattle.wasm_core.specs.declared.instrs.Instr.TheVariants as instructions
 use Rattle.wasm_core.specs.declared.types.Limits.{Limits}
 use Rattle.wasm_core.specs.declared.types.ConstValue.TheVariants as constants
+use Rattle.wasm_core.specs.declared.instrs.Access.{Access}
 use Rattle.wasm_core.specs.declared.instrs.Instr.{Instr}
 use Rattle.wasm_core.specs.declared.sections.Section.{Section}
 use Rattle.wasm_core.specs.declared.sections.Section.TheVariants as sec
@@ -47,6 +52,10 @@ u32_makes k w ws m (n, j, (i, f), h) = (n, spelled_fits false 32 (take j w) n i.
 s32_makes : Makes s32 IsU32
 unfolding s32
 s32_makes k w ws m (n, j, (i, f), h) = (n, spelled_fits true 32 (take j w) n i.1, (drop j w, ws, h))
+
+s64_makes : Makes s64 IsU64
+unfolding s64
+s64_makes k w ws m (n, j, (i, f), h) = (n, spelled_fits true 64 (take j w) n i.1, (drop j w, ws, h))
 
 byte_makes : (b : ℕ) (k : Spelling) (w : List ℕ) (ws : List (List ℕ)) (m : Parts) → Spells (byte b k) w ws m → (v : List ℕ) × (vs : List (List ℕ)) × Spells k v vs m
 unfolding byte
@@ -155,11 +164,11 @@ limits_makes k w ws m h =
       | false ↦ λ h. (record { min = lo; max = None }, (l, tt), (w2, ws2, h))
     ] in goal bounded h2
 
-memory_makes : Makes memory IsMemory
+memory_makes : Makes memory AreSizes
 unfolding memory
 memory_makes k w ws m (n, j, (i, f), h) =
-    let goal : (c : Bool) → Spells (if c then k None else limits (λ l. k (Some l))) (drop j w) ws m → (x : Option Limits) × IsMemory x × ((v : List ℕ) × (vs : List (List ℕ)) × Spells (k x) v vs m) =
-    λ c. elim c as (λ c. Spells (if c then k None else limits (λ l. k (Some l))) (drop j w) ws m → (x : Option Limits) × IsMemory x × ((v : List ℕ) × (vs : List (List ℕ)) × Spells (k x) v vs m)) [
+    let goal : (c : Bool) → Spells (if c then k None else limits (λ l. k (Some l))) (drop j w) ws m → (x : Option Limits) × AreSizes x × ((v : List ℕ) × (vs : List (List ℕ)) × Spells (k x) v vs m) =
+    λ c. elim c as (λ c. Spells (if c then k None else limits (λ l. k (Some l))) (drop j w) ws m → (x : Option Limits) × AreSizes x × ((v : List ℕ) × (vs : List (List ℕ)) × Spells (k x) v vs m)) [
       | true ↦ λ h. (None, tt, (drop j w, ws, h))
       | false ↦ λ h. let (l, p, r) = limits_makes (λ l. k (Some l)) (drop j w) ws m h in (Some l, p, r)
     ] in goal _ h
@@ -170,43 +179,122 @@ mutability_makes k w ws m h = coded_makes _ Any (λ b x e. tt) k w ws m h
 
 -- ---- instructions
 
-IsRow : Row → Type 0
-IsRow (Plain i) = IsInstr i
-IsRow (Index i) = (n : ℕ) → IsU32 n → IsInstr (i n)
-IsRow (Bits i) = (n : ℕ) → IsU32 n → IsInstr (i n)
+block_type_makes : Makes block_type Any
+unfolding block_type
+block_type_makes k w ws m h = coded_makes _ Any (λ b x e. tt) k w ws m h
 
-row_makes : (r : Row) → IsRow r → Makes (row r) IsInstr
+indices_make : Makes indices (IsVector IsU32)
+unfolding indices
+indices_make k w ws m h = vector_makes u32 IsU32 u32_makes k w ws m h
+
+access_makes : Makes access IsAccess
+unfolding access
+access_makes k w ws m h =
+    let (a, l, (w1, ws1, h1)) = u32_makes (λ a. u32 (λ o. k (record { align = a; offset = o }))) w ws m h in
+    let (o, q, r) = u32_makes (λ o. k (record { align = a; offset = o })) w1 ws1 m h1 in
+    (record { align = a; offset = o }, (l, q), r)
+
+-- what may come, and has its bits
+abbrev Meets : Bool → Instr → Type 0
+Meets may i = MayCome may i × IsInstr i
+
+IsRow : Bool → Row → Type 0
+IsRow may (Plain i) = Meets may i
+IsRow may (Typed i) = (t : BlockType) → Meets may (i t)
+IsRow may (Index i) = (n : ℕ) → IsU32 n → Meets may (i n)
+IsRow may (Accessing i) = (a : Access) → IsAccess a → Meets may (i a)
+IsRow may (Pair i) = (a b : ℕ) → IsU32 a → IsU32 b → Meets may (i a b)
+IsRow may (Table i) = (ls : List ℕ) (l : ℕ) → IsVector IsU32 ls → IsU32 l → Meets may (i ls l)
+IsRow may (Zeroed i) = Meets may i
+IsRow may (Bits i) = (n : ℕ) → IsU32 n → Meets may (i n)
+IsRow may (LongBits i) = (n : ℕ) → IsU64 n → Meets may (i n)
+
+row_makes : (may : Bool) (r : Row) → IsRow may r → Makes (row r) (Meets may)
 unfolding row IsRow
-row_makes (Plain i) p k w ws m h = (i, p, (w, ws, h))
-row_makes (Index i) p k w ws m h = let (n, l, r) = u32_makes (λ n. k (i n)) w ws m h in (i n, p n l, r)
-row_makes (Bits i) p k w ws m h = let (n, l, r) = s32_makes (λ n. k (i n)) w ws m h in (i n, p n l, r)
+row_makes may (Plain i) p k w ws m h = (i, p, (w, ws, h))
+row_makes may (Typed i) p k w ws m h = let (t, u, r) = block_type_makes (λ t. k (i t)) w ws m h in (i t, p t, r)
+row_makes may (Index i) p k w ws m h = let (n, l, r) = u32_makes (λ n. k (i n)) w ws m h in (i n, p n l, r)
+row_makes may (Accessing i) p k w ws m h = let (a, l, r) = access_makes (λ a. k (i a)) w ws m h in (i a, p a l, r)
+row_makes may (Pair i) p k w ws m h =
+    let (a, l, (w1, ws1, h1)) = u32_makes (λ a. u32 (λ b. k (i a b))) w ws m h in
+    let (b, q, r) = u32_makes (λ b. k (i a b)) w1 ws1 m h1 in
+    (i a b, p a b l q, r)
+row_makes may (Table i) p k w ws m h =
+    let (ls, l, (w1, ws1, h1)) = indices_make (λ ls. u32 (λ l. k (i ls l))) w ws m h in
+    let (n, q, r) = u32_makes (λ l. k (i ls l)) w1 ws1 m h1 in
+    (i ls n, p ls n l q, r)
+row_makes may (Zeroed i) p k w ws m h = let r = byte_makes 0 (k i) w ws m h in (i, p, r)
+row_makes may (Bits i) p k w ws m h = let (n, l, r) = s32_makes (λ n. k (i n)) w ws m h in (i n, p n l, r)
+row_makes may (LongBits i) p k w ws m h = let (n, l, r) = s64_makes (λ n. k (i n)) w ws m h in (i n, p n l, r)
 
-opcodes_meet : (b : ℕ) (r : Row) → find b opcodes ≡ Some r → IsRow r
+is_not : (may : Bool) → not may ≡ false → may ≡ true
+is_not true e = refl
+is_not false e = absurd cc
+
+-- what is found in a table meets what its key says
+found_by_key : {A : Type 0} (P : ℕ → A → Type 0) (b : ℕ) (rows : List (ℕ × A)) → All (λ r. P r.0 r.1) rows → (x : A) → find b rows ≡ Some x → P b x
+found_by_key P b [] a x e = absurd cc
+found_by_key {A = A} P b (r ∷ rows) (p, a) x e =
+    let goal : (c : Bool) → nat_eq b r.0 ≡ c → (if c then Some r.1 else find b rows) ≡ Some x → P b x =
+    λ c. elim c as (λ c. nat_eq b r.0 ≡ c → (if c then Some r.1 else find b rows) ≡ Some x → P b x) [
+      | true ↦ λ t e. let q : r.1 ≡ x = some_is e in let k : b ≡ r.0 = eqb-true b r.0 t in subst (λ k. P k x) (sym k) (subst (P r.0) q p)
+      | false ↦ λ t e. found_by_key P b rows a x e
+    ] in goal _ refl e
+
+abbrev Allowed : Bool → ℕ → Row → Type 0
+Allowed may b r = (nat_eq b 5 && not may) ≡ false → IsRow may r
+
+opcodes_meet : (may : Bool) (b : ℕ) (r : Row) → find b opcodes ≡ Some r → (nat_eq b 5 && not may) ≡ false → IsRow may r
 unfolding IsRow
-opcodes_meet b r e = found_row IsRow b opcodes (tt, ((λ n l. l), ((λ n l. l), tt))) r e
+opcodes_meet may b r e f = found_by_key (Allowed may) b opcodes (λ f. (tt, tt), (λ f. (tt, tt), (λ f t. (tt, tt), (λ f t. (tt, tt), (λ f t. (tt, tt), (λ f. (is_not may f, tt), (λ f. (tt, tt), (λ f n l. (tt, l), (λ f n l. (tt, l), (λ f ls l v u. (tt, (v, u)), (λ f. (tt, tt), (λ f n l. (tt, l), (λ f a b l q. (tt, (l, q)), (λ f. (tt, tt), (λ f n l. (tt, l), (λ f n l. (tt, l), (λ f n l. (tt, l), (λ f n l. (tt, l), (λ f n l. (tt, l), (λ f a l. (tt, l), (λ f a l. (tt, l), (λ f a l. (tt, l), (λ f a l. (tt, l), (λ f. (tt, tt), (λ f. (tt, tt), (λ f n l. (tt, l), (λ f n l. (tt, l), tt))))))))))))))))))))))))))) r e f
 
-instr_makes : Makes instr IsInstr
+operation_meets : (may : Bool) (o : Option I32Op) (r : Row) → operation_row o ≡ Some r → IsRow may r
+unfolding IsRow
+operation_meets may None r e = absurd cc
+operation_meets may (Some op) r e = let q : Plain (instructions.I32 op) ≡ r = some_is e in subst (IsRow may) q (tt, tt)
+
+row_meets : (may : Bool) (b : ℕ) (x : Option Row) → find b opcodes ≡ x → (r : Row) → row_or x (find b operations) ≡ Some r → (nat_eq b 5 && not may) ≡ false → IsRow may r
+row_meets may b None h r e f = operation_meets may (find b operations) r e
+row_meets may b (Some x) h r e f = let q : x ≡ r = some_is e in subst (IsRow may) q (opcodes_meet may b x h f)
+
+opcode_meets : (may : Bool) (b : ℕ) (r : Row) → opcode may b ≡ Some r → IsRow may r
+opcode_meets may b r e =
+    let goal : (c : Bool) → (nat_eq b 5 && not may) ≡ c → (if c then None else row_or (find b opcodes) (find b operations)) ≡ Some r → IsRow may r =
+    λ c. elim c as (λ c. (nat_eq b 5 && not may) ≡ c → (if c then None else row_or (find b opcodes) (find b operations)) ≡ Some r → IsRow may r) [
+      | true ↦ λ f e. absurd cc
+      | false ↦ λ f e. row_meets may b (find b opcodes) refl r e f
+    ] in goal _ refl e
+
+instr_makes : (may : Bool) → Makes (instr may) (Meets may)
 unfolding instr
-instr_makes k w ws m h =
-    let (r, p, (w1, ws1, h1)) = coded_makes (λ b. find b opcodes) IsRow opcodes_meet (λ r. row r k) w ws m h in
-    row_makes r p k w1 ws1 m h1
+instr_makes may k w ws m h =
+    let (r, p, (w1, ws1, h1)) = coded_makes (opcode may) (IsRow may) (opcode_meets may) (λ r. row r k) w ws m h in
+    row_makes may r p k w1 ws1 m h1
 
 instrs_make : (fuel : ℕ) (os : List Bool) (done : List Instr) (k : List Instr → Spelling) (w : List ℕ) (ws : List (List ℕ)) (m : Parts) → Spells (instrs fuel os done k) w ws m → (is : List Instr) × IsClosed os is × ((v : List ℕ) × (vs : List (List ℕ)) × Spells (k (done ++ is)) v vs m)
 unfolding instrs
 instrs_make fuel [] done k w ws m h = ([], tt, (w, ws, subst (λ is. Spells (k is) w ws m) (sym (append-nil done)) h))
 instrs_make zero (o ∷ os) done k w ws m h = absurd h
 instrs_make (suc fuel) (o ∷ os) done k w ws m h =
-    let (i, p, (w1, ws1, h1)) = instr_makes (λ i. instrs fuel (opens_after i (o ∷ os)) (done ++ i ∷ []) k) w ws m h in
+    let (i, (q, p), (w1, ws1, h1)) = instr_makes o (λ i. instrs fuel (opens_after i (o ∷ os)) (done ++ i ∷ []) k) w ws m h in
     let (is, c, (w2, ws2, h2)) = instrs_make fuel (opens_after i (o ∷ os)) (done ++ i ∷ []) k w1 ws1 m h1 in
-    (i ∷ is, (p, c), (w2, ws2, subst (λ is. Spells (k is) w2 ws2 m) (append_assoc done (i ∷ []) is) h2))
+    (i ∷ is, (q, p, c), (w2, ws2, subst (λ is. Spells (k is) w2 ws2 m) (append_assoc done (i ∷ []) is) h2))
+
+constant_of_makes : (t : ValType) → Makes (constant_of t) IsConstant
+constant_of_makes I32 k w ws m h =
+    let (n, l, (w2, ws2, h2)) = s32_makes (λ n. byte 11 (k (constants.I32 n))) w ws m h in
+    let (w3, ws3, h3) = byte_makes 11 _ w2 ws2 m h2 in
+    (constants.I32 n, l, (w3, ws3, h3))
+constant_of_makes I64 k w ws m h =
+    let (n, l, (w2, ws2, h2)) = s64_makes (λ n. byte 11 (k (constants.I64 n))) w ws m h in
+    let (w3, ws3, h3) = byte_makes 11 _ w2 ws2 m h2 in
+    (constants.I64 n, l, (w3, ws3, h3))
 
 constant_makes : Makes constant IsConstant
 unfolding constant
 constant_makes k w ws m h =
-    let (w1, ws1, h1) = byte_makes 65 _ w ws m h in
-    let (n, l, (w2, ws2, h2)) = s32_makes (λ n. byte 11 (k (constants.I32 n))) w1 ws1 m h1 in
-    let (w3, ws3, h3) = byte_makes 11 _ w2 ws2 m h2 in
-    (constants.I32 n, l, (w3, ws3, h3))
+    let (t, p, (w1, ws1, h1)) = coded_makes (λ b. find b constant_opcodes) Any (λ b x e. tt) (λ t. constant_of t k) w ws m h in
+    constant_of_makes t k w1 ws1 m h1
 
 -- ---- bodies
 
@@ -244,6 +332,28 @@ global_makes k w ws m h =
     let (c, l, (w3, ws3, h3)) = constant_makes (λ c. k (record { mutable = b; ty = t; init = c })) w2 ws2 m h2 in
     (record { mutable = b; ty = t; init = c }, l, (w3, ws3, h3))
 
+table_type_makes : Makes table_type IsLimits
+unfolding table_type
+table_type_makes k w ws m h = let (w1, ws1, h1) = byte_makes 112 (limits k) w ws m h in limits_makes k w1 ws1 m h1
+
+table_makes : Makes table AreSizes
+unfolding table
+table_makes k w ws m (n, j, (i, f), h) =
+    let goal : (c : Bool) → Spells (if c then k None else table_type (λ l. k (Some l))) (drop j w) ws m → (x : Option Limits) × AreSizes x × ((v : List ℕ) × (vs : List (List ℕ)) × Spells (k x) v vs m) =
+    λ c. elim c as (λ c. Spells (if c then k None else table_type (λ l. k (Some l))) (drop j w) ws m → (x : Option Limits) × AreSizes x × ((v : List ℕ) × (vs : List (List ℕ)) × Spells (k x) v vs m)) [
+      | true ↦ λ h. (None, tt, (drop j w, ws, h))
+      | false ↦ λ h. let (l, p, r) = table_type_makes (λ l. k (Some l)) (drop j w) ws m h in (Some l, p, r)
+    ] in goal _ h
+
+segment_makes : Makes segment IsSegment
+unfolding segment
+segment_makes k w ws m (n, j, (i, f), h) =
+    let (w1, ws1, h1) = byte_makes 65 _ (drop j w) ws m h in
+    let (o, l, (w2, ws2, h2)) = s32_makes (λ o. byte 11 (indices (λ fs. k (record { offset = o; funcs = fs })))) w1 ws1 m h1 in
+    let (w3, ws3, h3) = byte_makes 11 _ w2 ws2 m h2 in
+    let (fs, v, r) = indices_make (λ fs. k (record { offset = o; funcs = fs })) w3 ws3 m h3 in
+    (record { offset = o; funcs = fs }, (l, v), r)
+
 export_kind_makes : Makes export_kind Any
 unfolding export_kind
 export_kind_makes k w ws m h = coded_makes _ Any (λ b x e. tt) k w ws m h
@@ -267,19 +377,24 @@ bodies_make funcs k w ws m (n, j, (i, f), h) =
 record Partial (m : Parts) : Type 0 where
   types : IsVector IsFuncType m.types
   funcs : IsVector IsU32 m.funcs
-  memory : IsMemory m.memory
+  table : AreSizes m.table
+  memory : AreSizes m.memory
   globals : IsVector IsGlobal m.globals
   exports : IsVector IsExport m.exports
+  elements : IsVector IsSegment m.elements
   bodies : IsVector IsBody m.bodies
 
 contents_make : (s : Section) (p : Parts) → Partial p → Makes (contents s p) Partial
-unfolding contents func_types indices globals exports
-contents_make sec.Types p g k w ws m h = let (xs, v, r) = vector_makes func_type IsFuncType func_type_makes (λ ts. k (record p { types = ts })) w ws m h in (record p { types = xs }, record { types = v; funcs = g.funcs; memory = g.memory; globals = g.globals; exports = g.exports; bodies = g.bodies }, r)
-contents_make sec.Functions p g k w ws m h = let (xs, v, r) = vector_makes u32 IsU32 u32_makes (λ ts. k (record p { funcs = ts })) w ws m h in (record p { funcs = xs }, record { types = g.types; funcs = v; memory = g.memory; globals = g.globals; exports = g.exports; bodies = g.bodies }, r)
-contents_make sec.Memories p g k w ws m h = let (xs, v, r) = memory_makes (λ ts. k (record p { memory = ts })) w ws m h in (record p { memory = xs }, record { types = g.types; funcs = g.funcs; memory = v; globals = g.globals; exports = g.exports; bodies = g.bodies }, r)
-contents_make sec.Globals p g k w ws m h = let (xs, v, r) = vector_makes global IsGlobal global_makes (λ ts. k (record p { globals = ts })) w ws m h in (record p { globals = xs }, record { types = g.types; funcs = g.funcs; memory = g.memory; globals = v; exports = g.exports; bodies = g.bodies }, r)
-contents_make sec.Exports p g k w ws m h = let (xs, v, r) = vector_makes exported IsExport exported_makes (λ ts. k (record p { exports = ts })) w ws m h in (record p { exports = xs }, record { types = g.types; funcs = g.funcs; memory = g.memory; globals = g.globals; exports = v; bodies = g.bodies }, r)
-contents_make sec.Codes p g k w ws m h = let (xs, v, r) = bodies_make (length p.funcs) (λ ts. k (record p { bodies = ts })) w ws m h in (record p { bodies = xs }, record { types = g.types; funcs = g.funcs; memory = g.memory; globals = g.globals; exports = g.exports; bodies = v }, r)
+unfolding contents func_types globals exports segments
+contents_make sec.Custom p g k w ws m h = let (s, u, (w1, ws1, h1)) = name_makes (λ s. Skip (k p)) w ws m h in (p, g, ([], ws1, h1))
+contents_make sec.Types p g k w ws m h = let (xs, v, r) = vector_makes func_type IsFuncType func_type_makes (λ ts. k (record p { types = ts })) w ws m h in (record p { types = xs }, record { types = v; funcs = g.funcs; table = g.table; memory = g.memory; globals = g.globals; exports = g.exports; elements = g.elements; bodies = g.bodies }, r)
+contents_make sec.Functions p g k w ws m h = let (xs, v, r) = indices_make (λ ts. k (record p { funcs = ts })) w ws m h in (record p { funcs = xs }, record { types = g.types; funcs = v; table = g.table; memory = g.memory; globals = g.globals; exports = g.exports; elements = g.elements; bodies = g.bodies }, r)
+contents_make sec.Tables p g k w ws m h = let (xs, v, r) = table_makes (λ ts. k (record p { table = ts })) w ws m h in (record p { table = xs }, record { types = g.types; funcs = g.funcs; table = v; memory = g.memory; globals = g.globals; exports = g.exports; elements = g.elements; bodies = g.bodies }, r)
+contents_make sec.Memories p g k w ws m h = let (xs, v, r) = memory_makes (λ ts. k (record p { memory = ts })) w ws m h in (record p { memory = xs }, record { types = g.types; funcs = g.funcs; table = g.table; memory = v; globals = g.globals; exports = g.exports; elements = g.elements; bodies = g.bodies }, r)
+contents_make sec.Globals p g k w ws m h = let (xs, v, r) = vector_makes global IsGlobal global_makes (λ ts. k (record p { globals = ts })) w ws m h in (record p { globals = xs }, record { types = g.types; funcs = g.funcs; table = g.table; memory = g.memory; globals = v; exports = g.exports; elements = g.elements; bodies = g.bodies }, r)
+contents_make sec.Exports p g k w ws m h = let (xs, v, r) = vector_makes exported IsExport exported_makes (λ ts. k (record p { exports = ts })) w ws m h in (record p { exports = xs }, record { types = g.types; funcs = g.funcs; table = g.table; memory = g.memory; globals = g.globals; exports = v; elements = g.elements; bodies = g.bodies }, r)
+contents_make sec.Elements p g k w ws m h = let (xs, v, r) = vector_makes segment IsSegment segment_makes (λ ts. k (record p { elements = ts })) w ws m h in (record p { elements = xs }, record { types = g.types; funcs = g.funcs; table = g.table; memory = g.memory; globals = g.globals; exports = g.exports; elements = v; bodies = g.bodies }, r)
+contents_make sec.Codes p g k w ws m h = let (xs, v, r) = bodies_make (length p.funcs) (λ ts. k (record p { bodies = ts })) w ws m h in (record p { bodies = xs }, record { types = g.types; funcs = g.funcs; table = g.table; memory = g.memory; globals = g.globals; exports = g.exports; elements = g.elements; bodies = v }, r)
 
 section_makes : (s : Section) (p : Parts) → Partial p → Makes (section s p) Partial
 unfolding section
@@ -289,7 +404,7 @@ section_makes s p g k w ws m (n, j, i, h) =
     (q, c, (w2, ws2, h2))
 
 whole_is : (p m : Parts) → Partial p → is_whole p ≡ true → p ≡ m → IsModule m
-whole_is p m g e q = subst IsModule q (record { types = g.types; funcs = g.funcs; memory = g.memory; globals = g.globals; exports = g.exports; bodies = g.bodies; whole = eqb-true _ _ e })
+whole_is p m g e q = subst IsModule q (record { types = g.types; funcs = g.funcs; table = g.table; memory = g.memory; globals = g.globals; exports = g.exports; elements = g.elements; bodies = g.bodies; whole = eqb-true _ _ e })
 
 sections_make : (fuel last : ℕ) (p : Parts) → Partial p → (w : List ℕ) (ws : List (List ℕ)) (m : Parts) → Spells (sections fuel last p) w ws m → IsModule m
 unfolding sections next_section
@@ -297,12 +412,12 @@ sections_make zero last p g [] ws m (e, q) = whole_is p m g e q
 sections_make zero last p g (b ∷ w) ws m h = absurd h
 sections_make (suc fuel) last p g [] ws m (e, q) = whole_is p m g e q
 sections_make (suc fuel) last p g (b ∷ w) ws m (c, j, i, h) =
-    let (s, e, h1) = on_makes (section_id last c) (λ s. section s p (λ m'. sections fuel c m')) (drop j (b ∷ w)) ws m h in
-    let (q, f, (w2, ws2, h2)) = section_makes s p g (λ m'. sections fuel c m') (drop j (b ∷ w)) ws m h1 in
-    sections_make fuel c q f w2 ws2 m h2
+    let (s, e, h1) = on_makes (section_id last c) (λ s. section s p (λ m'. sections fuel (last_after last c) m')) (drop j (b ∷ w)) ws m h in
+    let (q, f, (w2, ws2, h2)) = section_makes s p g (λ m'. sections fuel (last_after last c) m') (drop j (b ∷ w)) ws m h1 in
+    sections_make fuel (last_after last c) q f w2 ws2 m h2
 
 empty_is : Partial empty
-empty_is = record { types = (omega arith, tt); funcs = (omega arith, tt); memory = tt; globals = (omega arith, tt); exports = (omega arith, tt); bodies = (omega arith, tt) }
+empty_is = record { types = (omega arith, tt); funcs = (omega arith, tt); table = tt; memory = tt; globals = (omega arith, tt); exports = (omega arith, tt); elements = (omega arith, tt); bodies = (omega arith, tt) }
 
 header_makes : (k : Spelling) (w : List ℕ) (ws : List (List ℕ)) (m : Parts) → Spells (header k) w ws m → (v : List ℕ) × (vs : List (List ℕ)) × Spells k v vs m
 unfolding header

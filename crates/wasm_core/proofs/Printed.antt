@@ -1,6 +1,6 @@
 -- What is printed is spelled.
 use Rattle.std.proofs.Common.{◌≡◌, ◌⊎◌, inl, inr, ℕ, zero, suc, ◌+◌, ◌-◌, ◌*◌, ◌/◌, ◌%◌, ◌^◌, ◌<◌, ◌≤◌, List, [], ◌∷◌, ◌++◌, length, take, drop, Option, Some, None, Bool, true, false, refl, sym, ap, subst, ◌∙◌, arith, append_assoc, append-nil, length-append, pow-add, drop-drop}
-use Rattle.std.specs.Prelude.{nat_lt, nat_le, ◌&&◌, if◌then◌else◌, IsUtf8}
+use Rattle.std.specs.Prelude.{nat_lt, nat_le, ◌&&◌, if◌then◌else◌, IsUtf8, is_some}
 use Rattle.std.proofs.lemmas.Bool.{ltb-true, ltb-false, leb-true, leb-false, cases_lt}
 use Rattle.std.proofs.lemmas.Bool.{eq-eqb}
 use Rattle.std.proofs.Math.Nat.{mod-add-div}
@@ -9,9 +9,9 @@ use Rattle.std.proofs.Math.Seq.{take-append_seam, drop-append_seam}
 use Rattle.wasm_core.specs.Format.{Number, Name, Size}
 use Rattle.wasm_core.specs.Spelling.{Lasts, IsNumber, Spells}
 use Rattle.wasm_core.specs.Parts.{Parts}
-use Rattle.wasm_core.specs.ModuleCondition.{All, IsFuncType, IsLimits, IsConstant, IsGlobal, IsExport, IsInstr, opens_after, IsClosed}
-use Rattle.wasm_core.specs.ModuleGrammar.{Spelling, byte, u32, s32, any, times, val_type, val_types, func_result, func_type, finish, limits_flag, limits, mutability, constant, global, export_kind, exported, instr, row, instrs}
-use Rattle.wasm_core.specs.ShortestBytes.{unsigned, signed, put_u32, put_all, put_list, put_val_type, put_result, put_func_type, put_bounds, put_limits, flag, put_constant, put_global, put_name, kind_code, put_export, put_instr}
+use Rattle.wasm_core.specs.ModuleCondition.{All, IsFuncType, IsLimits, IsConstant, IsGlobal, IsExport, IsU32, IsVector, IsSegment, IsAccess, IsInstr, MayCome, opens_after, IsClosed}
+use Rattle.wasm_core.specs.ModuleGrammar.{Spelling, byte, u32, s32, s64, block_type, access, indices, table_type, segment, Row, Plain, Typed, Index, Accessing, Pair, Table, Zeroed, Bits, LongBits, opcode, on, any, times, val_type, val_types, func_result, func_type, finish, limits_flag, limits, mutability, constant, global, export_kind, exported, instr, row, instrs}
+use Rattle.wasm_core.specs.ShortestBytes.{unsigned, signed, put_u32, put_all, put_list, put_val_type, put_result, put_func_type, put_bounds, put_limits, flag, put_constant, put_global, put_name, kind_code, put_export, block_type_code, operation_code, put_access, put_instr, put_table_type, put_segment}
 use Rattle.wasm_core.specs.declared.types.ValType.{ValType}
 use Rattle.wasm_core.specs.declared.types.ValType.TheVariants.{I32, I64}
 use Rattle.wasm_core.specs.declared.types.FuncType.{FuncType}
@@ -22,6 +22,12 @@ use Rattle.wasm_core.specs.declared.types.GlobalDef.{GlobalDef}
 use Rattle.wasm_core.specs.declared.exports.ExportKind.{ExportKind}
 use Rattle.wasm_core.specs.declared.exports.ExportKind.TheVariants as kinds
 use Rattle.wasm_core.specs.declared.exports.Export.{Export}
+use Rattle.wasm_core.specs.declared.elements.Segment.{Segment}
+use Rattle.wasm_core.specs.declared.instrs.BlockType.{BlockType}
+use Rattle.wasm_core.specs.declared.instrs.BlockType.TheVariants as block_types
+use Rattle.wasm_core.specs.declared.instrs.Access.{Access}
+use Rattle.wasm_core.specs.declared.instrs.I32Op.{I32Op}
+use Rattle.wasm_core.specs.declared.instrs.I32Op.TheVariants as ops
 use Rattle.wasm_core.specs.declared.instrs.Instr.{Instr}
 use Rattle.wasm_core.specs.declared.instrs.Instr.TheVariants as instructions
 use Rattle.wasm_core.proofs.Powers.{seven_off}
@@ -130,6 +136,10 @@ module _ (ws : List (List ℕ)) (m : Parts) where
   unfolding s32
   s32_printed k n w l h = number_printed true 32 any k (signed 5 32 n w) n w (signed_before 5 32 n w (omega arith) (omega arith) l) refl h
 
+  pub s64_printed : (k : ℕ → Spelling) (n : ℕ) (w : List ℕ) → n < 2 ^ 64 → Spells (k n) w ws m → Spells (s64 k) (signed 10 64 n w) ws m
+  unfolding s64
+  s64_printed k n w l h = number_printed true 64 any k (signed 10 64 n w) n w (signed_before 10 64 n w (omega arith) (omega arith) l) refl h
+
   pub size_printed : (next : ℕ → Spelling) (part w : List ℕ) → length part < 2 ^ 32 → Spells (next (length part)) part (w ∷ ws) m → Spells (Size next) (put_u32 (length part) (part ++ w)) ws m
   size_printed next part w l h =
       let (k, i, d) = unsigned_before 5 32 (length part) (part ++ w) (omega arith) (omega arith) l in
@@ -200,8 +210,8 @@ module _ (ws : List (List ℕ)) (m : Parts) where
 
   constant_printed : (c : ConstValue) → IsConstant c → Prints constant put_constant c
   unfolding constant
-  constant_printed (constants.I32 n) l k w h = byte_printed 65 _ _ (s32_printed (λ n. byte 11 (k (constants.I32 n))) n (11 ∷ w) l (byte_printed 11 _ w h))
-  constant_printed (constants.I64 n) l k w h = absurd l
+  constant_printed (constants.I32 n) l k w h = (65, 1, (refl, (_, refl), refl), s32_printed (λ n. byte 11 (k (constants.I32 n))) n (11 ∷ w) l (byte_printed 11 _ w h))
+  constant_printed (constants.I64 n) l k w h = (66, 1, (refl, (_, refl), refl), s64_printed (λ n. byte 11 (k (constants.I64 n))) n (11 ∷ w) l (byte_printed 11 _ w h))
 
   pub global_printed : (g : GlobalDef) → IsGlobal g → Prints global put_global g
   unfolding global put_global
@@ -209,6 +219,29 @@ module _ (ws : List (List ℕ)) (m : Parts) where
       val_type_printed g.ty (λ t. mutability (λ m. constant (λ c. k (record { mutable = m; ty = t; init = c })))) (flag g.mutable ∷ put_constant g.init w)
       (mutability_printed g.mutable (λ m. constant (λ c. k (record { mutable = m; ty = g.ty; init = c }))) (put_constant g.init w)
       (constant_printed g.init l (λ c. k (record { mutable = g.mutable; ty = g.ty; init = c })) w h))
+
+  -- lists of indices
+  all_indices : (ns : List ℕ) → All IsU32 ns → All (Prints u32 put_u32) ns
+  all_indices [] a = tt
+  all_indices (n ∷ ns) (p, a) = ((λ k w h. u32_printed k n w p h), all_indices ns a)
+
+  pub indices_printed : (ns : List ℕ) → IsVector IsU32 ns → Prints indices (put_list put_u32) ns
+  unfolding indices
+  indices_printed ns (l, a) k w h = u32_printed _ (length ns) _ l (times_printed u32 put_u32 ns [] (all_indices ns a) k w h)
+
+  pub table_type_printed : (l : Limits) → IsLimits l → Prints table_type put_table_type l
+  unfolding table_type put_table_type
+  table_type_printed l i k w h = byte_printed 112 _ _ (limits_printed l i k w h)
+
+  pub segment_printed : (s : Segment) → IsSegment s → Prints segment put_segment s
+  unfolding segment put_segment
+  segment_printed s (l, v) k w h = (
+    0,
+    1,
+    ((omega arith, (omega arith, omega arith, refl)), refl),
+    byte_printed 65 _ _ (s32_printed (λ o. byte 11 (indices (λ fs. k (record { offset = o; funcs = fs })))) s.offset (11 ∷ put_list put_u32 s.funcs w) l
+        (byte_printed 11 _ _ (indices_printed s.funcs v (λ fs. k (record { offset = s.offset; funcs = fs })) w h))),
+  )
 
   -- ---- names
 
@@ -239,11 +272,78 @@ module _ (ws : List (List ℕ)) (m : Parts) where
 
   -- ---- instructions
 
-  pub instr_printed : (i : Instr) → IsInstr i → Prints instr put_instr i
+  block_type_printed : (t : BlockType) → Prints block_type (λ t w. block_type_code t ∷ w) t
+  unfolding block_type
+  block_type_printed block_types.Empty k w h = (64, 1, (refl, (w, refl), refl), h)
+  block_type_printed (block_types.Value I32) k w h = (127, 1, (refl, (w, refl), refl), h)
+  block_type_printed (block_types.Value I64) k w h = (126, 1, (refl, (w, refl), refl), h)
+
+  access_printed : (a : Access) → IsAccess a → Prints access put_access a
+  unfolding access
+  access_printed a (l, q) k w h = u32_printed (λ x. u32 (λ o. k (record { align = x; offset = o }))) a.align _ l (u32_printed (λ o. k (record { align = a.align; offset = o })) a.offset w q h)
+
+  -- an opcode whose `else` doesn't matter
+  op_printed : (may : Bool) (b : ℕ) (r : Row) → ((c : Bool) → opcode c b ≡ Some r) → (k : Instr → Spelling) (w : List ℕ) → Spells (row r k) w ws m → Spells (instr may k) (b ∷ w) ws m
+  unfolding instr
+  op_printed may b r e k w h = (b, 1, (refl, (w, refl), ap is_some (e may)), subst (λ (o : Option Row). Spells (on o (λ r. row r k)) w ws m) (sym (e may)) h)
+
+  operation_printed : (may : Bool) (op : I32Op) (k : Instr → Spelling) (w : List ℕ) → Spells (k (instructions.I32 op)) w ws m → Spells (instr may k) (operation_code op ∷ w) ws m
+  unfolding row
+  operation_printed may ops.Eqz k w h = op_printed may 69 (Plain (instructions.I32 ops.Eqz)) (λ c. refl) k w h
+  operation_printed may ops.Eq k w h = op_printed may 70 (Plain (instructions.I32 ops.Eq)) (λ c. refl) k w h
+  operation_printed may ops.Ne k w h = op_printed may 71 (Plain (instructions.I32 ops.Ne)) (λ c. refl) k w h
+  operation_printed may ops.LtS k w h = op_printed may 72 (Plain (instructions.I32 ops.LtS)) (λ c. refl) k w h
+  operation_printed may ops.LtU k w h = op_printed may 73 (Plain (instructions.I32 ops.LtU)) (λ c. refl) k w h
+  operation_printed may ops.GtS k w h = op_printed may 74 (Plain (instructions.I32 ops.GtS)) (λ c. refl) k w h
+  operation_printed may ops.GtU k w h = op_printed may 75 (Plain (instructions.I32 ops.GtU)) (λ c. refl) k w h
+  operation_printed may ops.LeS k w h = op_printed may 76 (Plain (instructions.I32 ops.LeS)) (λ c. refl) k w h
+  operation_printed may ops.LeU k w h = op_printed may 77 (Plain (instructions.I32 ops.LeU)) (λ c. refl) k w h
+  operation_printed may ops.GeS k w h = op_printed may 78 (Plain (instructions.I32 ops.GeS)) (λ c. refl) k w h
+  operation_printed may ops.GeU k w h = op_printed may 79 (Plain (instructions.I32 ops.GeU)) (λ c. refl) k w h
+  operation_printed may ops.Add k w h = op_printed may 106 (Plain (instructions.I32 ops.Add)) (λ c. refl) k w h
+  operation_printed may ops.Sub k w h = op_printed may 107 (Plain (instructions.I32 ops.Sub)) (λ c. refl) k w h
+  operation_printed may ops.Mul k w h = op_printed may 108 (Plain (instructions.I32 ops.Mul)) (λ c. refl) k w h
+  operation_printed may ops.And k w h = op_printed may 113 (Plain (instructions.I32 ops.And)) (λ c. refl) k w h
+  operation_printed may ops.Or k w h = op_printed may 114 (Plain (instructions.I32 ops.Or)) (λ c. refl) k w h
+  operation_printed may ops.Xor k w h = op_printed may 115 (Plain (instructions.I32 ops.Xor)) (λ c. refl) k w h
+  operation_printed may ops.Shl k w h = op_printed may 116 (Plain (instructions.I32 ops.Shl)) (λ c. refl) k w h
+  operation_printed may ops.ShrS k w h = op_printed may 117 (Plain (instructions.I32 ops.ShrS)) (λ c. refl) k w h
+  operation_printed may ops.ShrU k w h = op_printed may 118 (Plain (instructions.I32 ops.ShrU)) (λ c. refl) k w h
+
+  pub instr_printed : (may : Bool) (i : Instr) → MayCome may i → IsInstr i → Prints (instr may) put_instr i
   unfolding instr row put_instr
-  instr_printed instructions.End f k w h = (11, 1, (refl, (_, refl), refl), h)
-  instr_printed (instructions.GlobalSet n) f k w h = (36, 1, (refl, (_, refl), refl), u32_printed (λ n. k (instructions.GlobalSet n)) n w f h)
-  instr_printed (instructions.I32Const n) f k w h = (65, 1, (refl, (_, refl), refl), s32_printed (λ n. k (instructions.I32Const n)) n w f h)
+  instr_printed may instructions.Unreachable q f k w h = op_printed may 0 (Plain (instructions.Unreachable)) (λ c. refl) k _ h
+  instr_printed may instructions.Nop q f k w h = op_printed may 1 (Plain (instructions.Nop)) (λ c. refl) k _ h
+  instr_printed may (instructions.Block t) q f k w h = op_printed may 2 (Typed instructions.Block) (λ c. refl) k _ (block_type_printed t (λ t. k (instructions.Block t)) w h)
+  instr_printed may (instructions.Loop t) q f k w h = op_printed may 3 (Typed instructions.Loop) (λ c. refl) k _ (block_type_printed t (λ t. k (instructions.Loop t)) w h)
+  instr_printed may (instructions.If t) q f k w h = op_printed may 4 (Typed instructions.If) (λ c. refl) k _ (block_type_printed t (λ t. k (instructions.If t)) w h)
+  instr_printed may instructions.Else q f k w h = else_first may q
+    where
+      else_first : (may : Bool) → may ≡ true → Spells (instr may k) (5 ∷ w) ws m
+      else_first true e = (5, 1, (refl, (w, refl), refl), h)
+      else_first false e = absurd cc
+  instr_printed may instructions.End q f k w h = op_printed may 11 (Plain (instructions.End)) (λ c. refl) k _ h
+  instr_printed may (instructions.Br n) q f k w h = op_printed may 12 (Index instructions.Br) (λ c. refl) k _ (u32_printed (λ n. k (instructions.Br n)) n w f h)
+  instr_printed may (instructions.BrIf n) q f k w h = op_printed may 13 (Index instructions.BrIf) (λ c. refl) k _ (u32_printed (λ n. k (instructions.BrIf n)) n w f h)
+  instr_printed may (instructions.BrTable ls l) q f k w h = op_printed may 14 (Table instructions.BrTable) (λ c. refl) k _ (indices_printed ls f.0 (λ ls. u32 (λ l. k (instructions.BrTable ls l))) (put_u32 l w) (u32_printed (λ l. k (instructions.BrTable ls l)) l w f.1 h))
+  instr_printed may instructions.Return q f k w h = op_printed may 15 (Plain (instructions.Return)) (λ c. refl) k _ h
+  instr_printed may (instructions.Call n) q f k w h = op_printed may 16 (Index instructions.Call) (λ c. refl) k _ (u32_printed (λ n. k (instructions.Call n)) n w f h)
+  instr_printed may (instructions.CallIndirect index table) q f k w h = op_printed may 17 (Pair instructions.CallIndirect) (λ c. refl) k _ (u32_printed (λ a. u32 (λ b. k (instructions.CallIndirect a b))) index (put_u32 table w) f.0 (u32_printed (λ b. k (instructions.CallIndirect index b)) table w f.1 h))
+  instr_printed may instructions.Drop q f k w h = op_printed may 26 (Plain (instructions.Drop)) (λ c. refl) k _ h
+  instr_printed may (instructions.LocalGet n) q f k w h = op_printed may 32 (Index instructions.LocalGet) (λ c. refl) k _ (u32_printed (λ n. k (instructions.LocalGet n)) n w f h)
+  instr_printed may (instructions.LocalSet n) q f k w h = op_printed may 33 (Index instructions.LocalSet) (λ c. refl) k _ (u32_printed (λ n. k (instructions.LocalSet n)) n w f h)
+  instr_printed may (instructions.LocalTee n) q f k w h = op_printed may 34 (Index instructions.LocalTee) (λ c. refl) k _ (u32_printed (λ n. k (instructions.LocalTee n)) n w f h)
+  instr_printed may (instructions.GlobalGet n) q f k w h = op_printed may 35 (Index instructions.GlobalGet) (λ c. refl) k _ (u32_printed (λ n. k (instructions.GlobalGet n)) n w f h)
+  instr_printed may (instructions.GlobalSet n) q f k w h = op_printed may 36 (Index instructions.GlobalSet) (λ c. refl) k _ (u32_printed (λ n. k (instructions.GlobalSet n)) n w f h)
+  instr_printed may (instructions.I32Load a) q f k w h = op_printed may 40 (Accessing instructions.I32Load) (λ c. refl) k _ (access_printed a f (λ a. k (instructions.I32Load a)) w h)
+  instr_printed may (instructions.I32Load8U a) q f k w h = op_printed may 45 (Accessing instructions.I32Load8U) (λ c. refl) k _ (access_printed a f (λ a. k (instructions.I32Load8U a)) w h)
+  instr_printed may (instructions.I32Store a) q f k w h = op_printed may 54 (Accessing instructions.I32Store) (λ c. refl) k _ (access_printed a f (λ a. k (instructions.I32Store a)) w h)
+  instr_printed may (instructions.I32Store8 a) q f k w h = op_printed may 58 (Accessing instructions.I32Store8) (λ c. refl) k _ (access_printed a f (λ a. k (instructions.I32Store8 a)) w h)
+  instr_printed may instructions.MemorySize q f k w h = op_printed may 63 (Zeroed (instructions.MemorySize)) (λ c. refl) k _ (byte_printed 0 _ w h)
+  instr_printed may instructions.MemoryGrow q f k w h = op_printed may 64 (Zeroed (instructions.MemoryGrow)) (λ c. refl) k _ (byte_printed 0 _ w h)
+  instr_printed may (instructions.I32Const n) q f k w h = op_printed may 65 (Bits instructions.I32Const) (λ c. refl) k _ (s32_printed (λ n. k (instructions.I32Const n)) n w f h)
+  instr_printed may (instructions.I64Const n) q f k w h = op_printed may 66 (LongBits instructions.I64Const) (λ c. refl) k _ (s64_printed (λ n. k (instructions.I64Const n)) n w f h)
+  instr_printed may (instructions.I32 op) q f k w h = operation_printed may op k w h
 
   pub instrs_printed : (fuel : ℕ) (os : List Bool) (is done : List Instr) → length is ≤ fuel → IsClosed os is → (k : List Instr → Spelling) (w : List ℕ) → Spells (k (done ++ is)) w ws m → Spells (instrs fuel os done k) (put_all put_instr is w) ws m
   unfolding instrs put_all
@@ -251,5 +351,5 @@ module _ (ws : List (List ℕ)) (m : Parts) where
   instrs_printed fuel [] (i ∷ is) done l b k w h = absurd b
   instrs_printed fuel (o ∷ os) [] done l b k w h = absurd b
   instrs_printed zero (o ∷ os) (i ∷ is) done l b k w h = absurd (omega (arith, l))
-  instrs_printed (suc fuel) (o ∷ os) (i ∷ is) done l (f, b) k w h =
-      instr_printed i f _ _ (instrs_printed fuel (opens_after i (o ∷ os)) is (done ++ i ∷ []) (omega (arith, l)) b k w (subst (λ ys. Spells (k ys) w ws m) (sym (append_assoc done (i ∷ []) is)) h))
+  instrs_printed (suc fuel) (o ∷ os) (i ∷ is) done l (q, f, b) k w h =
+      instr_printed o i q f _ _ (instrs_printed fuel (opens_after i (o ∷ os)) is (done ++ i ∷ []) (omega (arith, l)) b k w (subst (λ ys. Spells (k ys) w ws m) (sym (append_assoc done (i ∷ []) is)) h))

@@ -1,35 +1,34 @@
--- The start of a run of `main` in a valid module.
-use Rattle.std.proofs.Common.{◌≡◌, ℕ, suc, ◌<◌, List, [], ◌∷◌, ◌++◌, Some, None, Option, Bool, true, false, refl, ap, sym, ◌∙◌, subst, map, length, arith}
-use Rattle.std.specs.Prelude.{slice_get}
-use Rattle.std.specs.Option.{option_and_then, option_to_list}
-use Rattle.std.proofs.lemmas.Option.{slice_get_within}
+-- The start of a run of `main` in a valid module is a good state, and so is each state that it reaches.
+use Rattle.std.proofs.Common.{◌≡◌, ℕ, zero, suc, List, [], ◌∷◌, ◌++◌, length, map, reverse, take, Some, None, Option, Bool, true, false, refl, ap, sym, ◌∙◌, subst}
+use Rattle.std.specs.Prelude.{slice_get, if◌then◌else◌}
+use Rattle.std.specs.Option.{option_and_then}
 use Rattle.wasm_core.specs.declared.types.ValType.{ValType}
-use Rattle.wasm_core.specs.declared.types.ValType.TheVariants as type
 use Rattle.wasm_core.specs.declared.types.FuncType.{FuncType}
 use Rattle.wasm_core.specs.declared.types.GlobalDef.{GlobalDef}
 use Rattle.wasm_core.specs.declared.types.ConstValue.{ConstValue}
 use Rattle.wasm_core.specs.declared.types.ConstValue.TheVariants.{I32, I64}
-use Rattle.wasm_core.specs.declared.instrs.Body.{Body}
 use Rattle.wasm_core.specs.declared.exports.Export.{Export}
-use Rattle.wasm_core.specs.declared.entries.Entry.TheVariants.{Main, Result, Status}
-use Rattle.wasm_core.specs.declared.ended.Ended.{Ended}
-use Rattle.wasm_core.specs.declared.step.Thread.{Thread}
+use Rattle.wasm_core.specs.declared.entries.Entry.TheVariants.{Main}
 use Rattle.wasm_core.specs.Parts.{Parts}
-use Rattle.wasm_core.specs.ModuleTyping.{Types, Typed, TypedBody, type_of, IsValid, Globals, Codes}
-use Rattle.wasm_core.specs.MachineStep.{State, At}
-use Rattle.wasm_core.specs.Entries.{index_of, fitting, named, name_of, as_func, as_global, typed_func, typed_global, from_nothing, mutable_i32}
-use Rattle.wasm_core.specs.Runs.{start, main_start, first_pages, zeroed, store_of, GoesOn}
-use Rattle.wasm_core.specs.Thread.{state_of, conf_of, store_in, IsGood, Going, at}
-use Rattle.wasm_core.proofs.Passing.{inj, no, some_of}
-use Rattle.wasm_core.proofs.Safety.{same_place}
+use Rattle.wasm_core.specs.Instance.{Func, func_of, zero_of, segments_fit}
+use Rattle.wasm_core.specs.ModuleTyping.{Types, Of, known, type_of, IsValid, Globals, results_of}
+use Rattle.wasm_core.specs.MachineStep.{State, At, Over, Step, Reach}
+use Rattle.wasm_core.specs.Entries.{index_of, fitting, named, name_of, as_func, typed_func, from_nothing}
+use Rattle.wasm_core.specs.Runs.{start, start_at, main_start, HasSteps}
+use Rattle.wasm_core.specs.Safe.{HasType, is_i32, is_i64, HaveTypes, no_values, values, Goes, goes, fin, GoodState}
+use Rattle.wasm_core.specs.Laws.{NeverStuck, StepsAreDetermined}
+use Rattle.wasm_core.proofs.Small.{inj, no, some_of}
+use Rattle.wasm_core.proofs.Values.{zeros_have}
+use Rattle.wasm_core.proofs.Functions.{found_at}
+use Rattle.wasm_core.proofs.Safety.{result_takes, safe, stays_good}
 
-record FromNothing (m : Parts) (f : ℕ) : Type 0 where
-  index : ℕ
-  type : FuncType
-  is_func : slice_get m.funcs f ≡ Some index
-  is_type : slice_get m.types index ≡ Some type
-  no_params : type.params ≡ []
-  no_result : type.result ≡ None
+pub record FromNothing (m : Parts) (f : ℕ) : Type 0 where
+  pub index : ℕ
+  pub type : FuncType
+  pub is_func : slice_get m.funcs f ≡ Some index
+  pub is_type : slice_get m.types index ≡ Some type
+  pub no_params : type.params ≡ []
+  pub no_result : type.result ≡ None
 
 nothing_to : (ps : List ValType) (r : Option ValType) (i f : ℕ) → from_nothing ps r i ≡ Some f → (ps ≡ []) × (r ≡ None) × (i ≡ f)
 nothing_to [] None i f e = (refl, refl, inj e)
@@ -43,95 +42,83 @@ typed_main m i f e =
     let (ps, r, is) = nothing_to t.params t.result i f e2 in
     record { index = index; type = t; is_func = ap (slice_get m.funcs) (sym is) ∙ hf; is_type = ht; no_params = ps; no_result = r }
 
-main_there : (m : Parts) (f : ℕ) → index_of Main m ≡ Some f → FromNothing m f
+-- the function that is exported as `main` is one from nothing to nothing
+pub main_there : (m : Parts) (f : ℕ) → index_of Main m ≡ Some f → FromNothing m f
 main_there m f e =
     let (x, hx, e1) = some_of (λ (x : Export). fitting Main m x) (named (name_of Main) m.exports) f e in
     let (i, hi, e2) = some_of (λ i. typed_func m i) (as_func x.kind x.index) f e1 in
     typed_main m i f e2
 
--- the body of `main` is there
-pub main_body : (m : Parts) (f : ℕ) → IsValid m → index_of Main m ≡ Some f → f < length m.bodies
-main_body m f valid e =
-    let h = main_there m f e in
-    let lt : f < length m.funcs = slice_get_within m.funcs f h.index h.is_func in
-    let same : length m.funcs ≡ length m.bodies = valid.outside Codes in omega arith
+-- what a start of a run says
+pub record Started (m : Parts) (first : State) : Type 0 where
+  pub index : ℕ
+  pub func : Func
+  pub fits : segments_fit m ≡ true
+  pub exported : index_of Main m ≡ Some index
+  pub is : func_of m index ≡ Some func
+  pub starts : first ≡ start m func
 
-mutable_is : (b : Bool) (t : ValType) (i x : ℕ) → mutable_i32 b t i ≡ Some x → (t ≡ type.I32) × (i ≡ x)
-mutable_is true type.I32 i x e = (refl, inj e)
-mutable_is true type.I64 i x e = no e
-mutable_is false t i x e = no e
+if_some : (b : Bool) (o : Option State) (s : State) → (if b then o else None) ≡ Some s → (b ≡ true) × (o ≡ Some s)
+if_some true o s e = (refl, e)
+if_some false o s e = no e
 
-typed_i32 : (m : Parts) (i x : ℕ) → typed_global m i ≡ Some x → (d : GlobalDef) × (slice_get m.globals x ≡ Some d) × (d.ty ≡ type.I32)
-typed_i32 m i x e =
-    let (d, hd, e1) = some_of (λ (g : GlobalDef). mutable_i32 g.mutable g.ty i) (slice_get m.globals i) x e in
-    let (t, is) = mutable_is d.mutable d.ty i x e1 in
-    (d, ap (slice_get m.globals) (sym is) ∙ hd, t)
+pub started : (m : Parts) (first : State) → main_start m ≡ Some first → Started m first
+started m first e =
+    let (fits, e0) = if_some (segments_fit m) (option_and_then (λ f. start_at m f) (index_of Main m)) first e in
+    let (f, hf, e1) = some_of (λ f. start_at m f) (index_of Main m) first e0 in
+    let (g, hg, e2) = some_of (λ (g : Func). Some (start m g)) (func_of m f) first e1 in
+    record { index = f; func = g; fits = fits; exported = hf; is = hg; starts = sym (inj e2) }
 
--- an i32
-is_i32 : (v : ConstValue) → type_of v ≡ type.I32 → (n : ℕ) × (v ≡ I32 n)
-is_i32 (I32 n) e = (n, refl)
-is_i32 (I64 n) e = cc
+has_own : (v : ConstValue) → HasType v (Of (type_of v))
+has_own (I32 n) = is_i32
+has_own (I64 n) = is_i64
 
-i32_there : (m : Parts) (s : State) (i x : ℕ) → IsGood m s → typed_global m i ≡ Some x → (n : ℕ) × (slice_get (store_of s).globals x ≡ Some (I32 n))
-i32_there m s i x good e =
-    let (d, hd, t) = typed_i32 m i x e in
-    let (v, hv, tv) = same_place (store_of s).globals m.globals x d good.globals hd in
-    let (n, is) = is_i32 v (tv ∙ t) in
-    (n, hv ∙ ap Some is)
+first_globals : (gs : List GlobalDef) → ((x : ℕ) (g : GlobalDef) → slice_get gs x ≡ Some g → type_of g.init ≡ g.ty) → HaveTypes (map (λ (g : GlobalDef). g.init) gs) (map (λ (g : GlobalDef). Of g.ty) gs)
+first_globals [] h = no_values
+first_globals (g ∷ gs) h = values (subst (λ t. HasType g.init (Of t)) (h 0 g refl) (has_own g.init)) (first_globals gs (λ x y f. h (suc x) y f))
 
--- the globals `result` and `status` are i32s in each good state
-pub result_there : (m : Parts) (s : State) (x : ℕ) → IsGood m s → index_of Result m ≡ Some x → (n : ℕ) × (slice_get (store_of s).globals x ≡ Some (I32 n))
-result_there m s x good e =
-    let (y, hy, e1) = some_of (λ (y : Export). fitting Result m y) (named (name_of Result) m.exports) x e in
-    let (i, hi, e2) = some_of (λ i. typed_global m i) (as_global y.kind y.index) x e1 in
-    i32_there m s i x good e2
+first_locals : (ps bs : Types) → ps ≡ [] → HaveTypes (reverse (take (length ps) []) ++ map zero_of bs) (known (ps ++ bs))
+first_locals [] bs e = zeros_have bs
+first_locals (p ∷ ps) bs e = cc
 
-pub status_there : (m : Parts) (s : State) (x : ℕ) → IsGood m s → index_of Status m ≡ Some x → (n : ℕ) × (slice_get (store_of s).globals x ≡ Some (I32 n))
-status_there m s x good e =
-    let (y, hy, e1) = some_of (λ (y : Export). fitting Status m y) (named (name_of Status) m.exports) x e in
-    let (i, hi, e2) = some_of (λ i. typed_global m i) (as_global y.kind y.index) x e1 in
-    i32_there m s i x good e2
+pub start_good : (m : Parts) → IsValid m → (first : State) → main_start m ≡ Some first → GoodState m first
+start_good m valid first e =
+    let s = started m first e in
+    let h = main_there m s.index s.exported in
+    let (x, t) = found_at m valid s.index h.index h.is_func in
+    let same : x.func ≡ s.func = inj (sym x.is ∙ s.is) in
+    let none : x.func.type.params ≡ [] = ap (λ (u : FuncType). u.params) (inj (sym t ∙ h.is_type)) ∙ h.no_params in
+    subst (GoodState m) (ap (start m) same ∙ sym s.starts)
+    (record {
+      ls = x.func.type.params ++ x.func.body.locals;
+      rs = results_of x.func.type;
+      chain = tt;
+      globals = first_globals m.globals (valid.outside Globals);
+      runs = record {
+        labels = results_of x.func.type ∷ [];
+        ts = [];
+        keeps = result_takes x.func.type.result;
+        locals = first_locals x.func.type.params x.func.body.locals none;
+        operands = no_values;
+        goes_on = subst (Goes m (x.func.type.params ++ x.func.body.locals) (results_of x.func.type) [] (results_of x.func.type ∷ []) []) (sym x.typed.ends) (goes x.typed.typed (fin x.typed.matched));
+      };
+    })
 
-first_types : (gs : List GlobalDef) → ((x : ℕ) (g : GlobalDef) → slice_get gs x ≡ Some g → type_of g.init ≡ g.ty) → map type_of (map (λ (g : GlobalDef). g.init) gs) ≡ map (λ (g : GlobalDef). g.ty) gs
-first_types [] h = refl
-first_types (g ∷ gs) h = let e : type_of g.init ≡ g.ty = h 0 g refl in let r = first_types gs (λ x y f. h (suc x) y f) in cc
+good_step : (m : Parts) → IsValid m → (s t : State) (granted : Bool) → GoodState m s → Step m granted s t → GoodState m t
+good_step m valid (At c) t granted good e = stays_good m granted c t valid good e
+good_step m valid (Over e store) t granted good h = absurd h
 
-typed_start : (m : Parts) (b : Body) (ls results : Types) → results ≡ [] → TypedBody m ls results b.code → Going m (start m b)
-typed_start m b ls results e t =
-    let typed : Typed m ls [] ([] ∷ []) [] t.body [] = subst (λ rs. Typed m ls rs (rs ∷ []) [] t.body rs) e t.typed in
-    subst (λ code. Going m (start m (record { locals = b.locals; code = code }))) (sym t.ends) (at {operands = []} refl typed)
+pub good_reach : (m : Parts) → IsValid m → (k : ℕ) (s t : State) → GoodState m s → Reach m k s t → GoodState m t
+good_reach m valid zero s t good r = subst (GoodState m) r good
+good_reach m valid (suc k) s t good (mid, r, (granted, e)) = good_step m valid mid t granted (good_reach m valid k s mid good r) e
 
--- a run of `main` starts in a good state
-pub start_good : (m : Parts) (f : ℕ) (b : Body) → IsValid m → index_of Main m ≡ Some f → slice_get m.bodies f ≡ Some b → IsGood m (start m b)
-start_good m f b valid e hb =
-    let h = main_there m f e in
-    let t = valid.bodies f h.index b h.is_func hb in
-    let same : h.type ≡ t.type = inj (sym h.is_type ∙ t.found) in
-    record {
-      globals = first_types m.globals (valid.outside Globals);
-      going = typed_start m b (t.type.params ++ b.locals) (option_to_list t.type.result) (ap (λ (y : FuncType). option_to_list y.result) (sym same) ∙ ap option_to_list h.no_result) t.typed;
-    }
+pub good_steps : (m : Parts) → IsValid m → (t : State) → GoodState m t → HasSteps m t
+good_steps m valid (At c) good = λ granted. (let (s, e, next) = safe m valid granted c good in (s, e))
+good_steps m valid (Over e store) good = tt
 
-pub main_starts : (m : Parts) (f : ℕ) (b : Body) → index_of Main m ≡ Some f → slice_get m.bodies f ≡ Some b → main_start m ≡ Some (start m b)
-main_starts m f b e hb =
-    ap (option_and_then (λ f. option_and_then (λ b. Some (start m b)) (slice_get m.bodies f))) e ∙ ap (option_and_then (λ b. Some (start m b))) hb
+pub never_stuck : NeverStuck
+never_stuck m first k t valid e r = good_steps m valid t (good_reach m valid k first t (start_good m valid first e) r)
 
--- what a machine keeps at the start
-pub thread_starts : (m : Parts) (b : Body) (t : Thread) → t.at ≡ 0 → t.operands.items ≡ [] → t.pages ≡ first_pages m.memory → t.memory.items ≡ zeroed (first_pages m.memory) → t.globals.items ≡ map (λ (g : GlobalDef). g.init) m.globals → state_of b None t ≡ start m b
-thread_starts m b t ea eo ep em eg = cc
-
-pub store_of_state : (b : Body) (e : Option Ended) (t : Thread) → store_of (state_of b e t) ≡ store_in t
-store_of_state b None t = refl
-store_of_state b (Some e) t = refl
-
--- a run that goes on is at the thread's place
-pub going_on : (m : Parts) (b : Body) (e : Option Ended) (t : Thread) → GoesOn (state_of b e t) → IsGood m (state_of b e t) → IsGood m (At (conf_of b t))
-going_on m b None t on good = good
-going_on m b (Some e) t on good = absurd on
-
--- a run of `main` starts in a good state
-pub first_good : (m : Parts) → IsValid m → (first : State) → main_start m ≡ Some first → IsGood m first
-first_good m valid first e =
-    let (f, hf, e1) = some_of (λ f. option_and_then (λ b. Some (start m b)) (slice_get m.bodies f)) (index_of Main m) first e in
-    let (b, hb, e2) = some_of (λ b. Some (start m b)) (slice_get m.bodies f) first e1 in
-    subst (IsGood m) (inj e2) (start_good m f b valid hf hb)
+pub determined : StepsAreDetermined
+determined m granted (At c) t u a b = inj (sym a ∙ b)
+determined m granted (Over e store) t u a b = absurd a

@@ -1,13 +1,13 @@
 -- The shortest bytes of a whole module spell it.
 use Rattle.std.proofs.Common.{◌≡◌, ℕ, zero, suc, ◌+◌, ◌-◌, ◌/◌, ◌%◌, ◌^◌, ◌<◌, ◌≤◌, List, [], ◌∷◌, ◌++◌, length, Option, Some, None, Bool, true, false, refl, sym, ap, subst, arith, append_assoc, append-nil, length-append}
-use Rattle.std.specs.Prelude.{nat_le, nat_eq, if◌then◌else◌, replicate, is_some}
-use Rattle.std.proofs.lemmas.Bool.{le-leb, lt-ltb, eq-eqb}
+use Rattle.std.specs.Prelude.{nat_le, nat_eq, if◌then◌else◌, replicate, is_some, ◌||◌}
+use Rattle.std.proofs.lemmas.Bool.{le-leb, lt-ltb, eq-eqb, ne_eqb}
 use Rattle.std.proofs.lemmas.List.{length-replicate}
 use Rattle.wasm_core.specs.Spelling.{Spells}
 use Rattle.wasm_core.specs.Parts.{Parts}
-use Rattle.wasm_core.specs.ModuleCondition.{All, IsU32, IsVector, IsFuncType, IsMemory, IsGlobal, IsExport, IsBody, IsModule}
-use Rattle.wasm_core.specs.ModuleGrammar.{SpellsModule, Spelling, u32, times, val_type, func_type, func_types, indices, memory, global, globals, exports, exported, bodies, body, groups, locals, instrs, contents, section, section_id, next_section, sections, sections_by_id, find, on, header, file, empty, finish}
-use Rattle.wasm_core.specs.ShortestBytes.{signed, is_low, is_high, unsigned, put_u32, put_all, put_list, put_sized, put_val_type, put_func_type, put_limits, put_global, put_export, put_instr, runs, put_run, put_locals, body_bytes, put_body, put_section, memories, put_sections, put_header, module_bytes}
+use Rattle.wasm_core.specs.ModuleCondition.{All, IsU32, IsVector, IsFuncType, AreSizes, IsGlobal, IsExport, IsSegment, IsBody, IsModule}
+use Rattle.wasm_core.specs.ModuleGrammar.{SpellsModule, Spelling, u32, times, val_type, func_type, func_types, indices, table, segment, segments, last_after, memory, global, globals, exports, exported, bodies, body, groups, locals, instrs, contents, section, section_id, next_section, sections, sections_by_id, find, on, header, file, empty, finish}
+use Rattle.wasm_core.specs.ShortestBytes.{signed, is_low, is_high, unsigned, put_u32, put_all, put_list, put_sized, put_val_type, put_func_type, put_limits, put_global, put_export, put_segment, put_table_type, put_instr, runs, put_run, put_locals, body_bytes, put_body, put_section, sizes, put_sections, put_header, module_bytes}
 use Rattle.wasm_core.specs.declared.types.ValType.{ValType}
 use Rattle.wasm_core.specs.declared.types.Limits.{Limits}
 use Rattle.wasm_core.specs.declared.instrs.Instr.{Instr}
@@ -15,9 +15,9 @@ use Rattle.wasm_core.specs.declared.instrs.Instr.TheVariants as instructions
 use Rattle.wasm_core.specs.declared.instrs.Body.{Body}
 use Rattle.wasm_core.specs.declared.sections.Section.{Section}
 use Rattle.wasm_core.specs.declared.sections.Section.TheVariants as sec
-use Rattle.wasm_core.proofs.Putting.{u32_longer, sized_longer}
+use Rattle.wasm_core.proofs.Longer.{u32_longer, sized_longer}
 use Rattle.wasm_core.proofs.Locals.{expand, runs_expand, runs_few}
-use Rattle.wasm_core.proofs.Printed.{Prints, byte_printed, u32_printed, number_printed, unsigned_before, size_printed, finish_printed, times_printed, val_type_printed, func_type_printed, limits_printed, global_printed, exported_printed, instrs_printed}
+use Rattle.wasm_core.proofs.Printed.{Prints, byte_printed, u32_printed, number_printed, unsigned_before, size_printed, finish_printed, times_printed, val_type_printed, func_type_printed, limits_printed, global_printed, exported_printed, table_type_printed, segment_printed, instrs_printed}
 
 -- ---- locals
 
@@ -63,11 +63,39 @@ signed_longer (suc g) bits n w =
     ] in
     goal (is_low bits n) (is_high bits n)
 
+list_longer : (ns : List ℕ) → (w : List ℕ) → length w ≤ length (put_list put_u32 ns w)
+list_longer ns w = let a = all_longer put_u32 (λ n w. let h = u32_longer n w in omega (arith, h)) ns w in let b = u32_longer (length ns) (put_all put_u32 ns w) in omega (arith, a, b)
+
 instr_longer : (i : Instr) (w : List ℕ) → length w + 1 ≤ length (put_instr i w)
 unfolding put_instr
+instr_longer instructions.Unreachable w = omega arith
+instr_longer instructions.Nop w = omega arith
+instr_longer (instructions.Block t) w = omega arith
+instr_longer (instructions.Loop t) w = omega arith
+instr_longer (instructions.If t) w = omega arith
+instr_longer instructions.Else w = omega arith
 instr_longer instructions.End w = omega arith
+instr_longer (instructions.Br n) w = let h = u32_longer n w in omega (arith, h)
+instr_longer (instructions.BrIf n) w = let h = u32_longer n w in omega (arith, h)
+instr_longer (instructions.BrTable ls l) w = let h = u32_longer l w in let g = list_longer ls (put_u32 l w) in omega (arith, h, g)
+instr_longer instructions.Return w = omega arith
+instr_longer (instructions.Call n) w = let h = u32_longer n w in omega (arith, h)
+instr_longer (instructions.CallIndirect index table) w = let h = u32_longer table w in let g = u32_longer index (put_u32 table w) in omega (arith, h, g)
+instr_longer instructions.Drop w = omega arith
+instr_longer (instructions.LocalGet n) w = let h = u32_longer n w in omega (arith, h)
+instr_longer (instructions.LocalSet n) w = let h = u32_longer n w in omega (arith, h)
+instr_longer (instructions.LocalTee n) w = let h = u32_longer n w in omega (arith, h)
+instr_longer (instructions.GlobalGet n) w = let h = u32_longer n w in omega (arith, h)
 instr_longer (instructions.GlobalSet n) w = let h = u32_longer n w in omega (arith, h)
+instr_longer (instructions.I32Load a) w = let h = u32_longer a.offset w in let g = u32_longer a.align (put_u32 a.offset w) in omega (arith, h, g)
+instr_longer (instructions.I32Load8U a) w = let h = u32_longer a.offset w in let g = u32_longer a.align (put_u32 a.offset w) in omega (arith, h, g)
+instr_longer (instructions.I32Store a) w = let h = u32_longer a.offset w in let g = u32_longer a.align (put_u32 a.offset w) in omega (arith, h, g)
+instr_longer (instructions.I32Store8 a) w = let h = u32_longer a.offset w in let g = u32_longer a.align (put_u32 a.offset w) in omega (arith, h, g)
+instr_longer instructions.MemorySize w = omega arith
+instr_longer instructions.MemoryGrow w = omega arith
 instr_longer (instructions.I32Const n) w = let h = signed_longer 5 32 n w in omega (arith, h)
+instr_longer (instructions.I64Const n) w = let h = signed_longer 10 64 n w in omega (arith, h)
+instr_longer (instructions.I32 op) w = omega arith
 
 instrs_longer : (is : List Instr) (w : List ℕ) → length is + length w ≤ length (put_all put_instr is w)
 unfolding put_all
@@ -113,10 +141,15 @@ all_prints ws m P one put f (x ∷ xs) (p, a) = (f x p, all_prints ws m P one pu
 list_printed : {A : Type 0} (ws : List (List ℕ)) (m : Parts) (P : A → Type 0) (one : (A → Spelling) → Spelling) (put : A → List ℕ → List ℕ) → ((x : A) → P x → Prints ws m one put x) → (xs : List A) → IsVector P xs → Prints ws m (λ k. u32 (λ n. times n one [] k)) (put_list put) xs
 list_printed ws m P one put f xs (l, a) k w h = u32_printed ws m (λ n. times n one [] k) (length xs) (put_all put xs w) l (times_printed ws m one put xs [] (all_prints ws m P one put f xs a) k w h)
 
-memory_printed : (ws : List (List ℕ)) (m : Parts) (l : Option Limits) → IsMemory l → Prints ws m memory (λ l w. put_list put_limits (memories l) w) l
+memory_printed : (ws : List (List ℕ)) (m : Parts) (l : Option Limits) → AreSizes l → Prints ws m memory (λ l w. put_list put_limits (sizes l) w) l
 unfolding memory put_all unsigned
 memory_printed ws m None i k w h = (0, 1, ((omega arith, (omega arith, omega arith, refl)), refl), h)
 memory_printed ws m (Some l) i k w h = (1, 1, ((omega arith, (omega arith, omega arith, refl)), refl), limits_printed ws m l i (λ l. k (Some l)) w h)
+
+table_printed : (ws : List (List ℕ)) (m : Parts) (l : Option Limits) → AreSizes l → Prints ws m table (λ l w. put_list put_table_type (sizes l) w) l
+unfolding table put_all unsigned
+table_printed ws m None i k w h = (0, 1, ((omega arith, (omega arith, omega arith, refl)), refl), h)
+table_printed ws m (Some l) i k w h = (1, 1, ((omega arith, (omega arith, omega arith, refl)), refl), table_type_printed ws m l i (λ l. k (Some l)) w h)
 
 bodies_printed : (ws : List (List ℕ)) (m : Parts) (funcs : ℕ) (bs : List Body) → length bs ≡ funcs → IsU32 (length bs) → All IsSized bs → Prints ws m (bodies funcs) (put_list put_body) bs
 unfolding bodies
@@ -128,12 +161,12 @@ bodies_printed ws m funcs bs e l a k w h =
 abbrev Later : Parts → Parts → ℕ → ℕ → List ℕ → Type 0
 Later x m hi n w = (f last : ℕ) → n ≤ f → last < hi → Spells (sections f last m) w [] x
 
-section_printed : (x m m1 : Parts) (which : Section) (id f last : ℕ) (part w : List ℕ) → section_id last id ≡ Some which → IsU32 (length part) → ((k : Parts → Spelling) → Spells (k m1) [] (w ∷ []) x → Spells (contents which m k) part (w ∷ []) x) → Spells (sections f id m1) w [] x → Spells (sections (suc f) last m) (id ∷ put_sized part w) [] x
+section_printed : (x m m1 : Parts) (which : Section) (id f last : ℕ) (part w : List ℕ) → section_id last id ≡ Some which → IsU32 (length part) → ((k : Parts → Spelling) → Spells (k m1) [] (w ∷ []) x → Spells (contents which m k) part (w ∷ []) x) → Spells (sections f (last_after last id) m1) w [] x → Spells (sections (suc f) last m) (id ∷ put_sized part w) [] x
 unfolding sections next_section section
 section_printed x m m1 which id f last part w e l c h =
-    let inside : Spells (section which m (λ m'. sections f id m')) (put_sized part w) [] x =
-    size_printed [] x (λ n. contents which m (λ m'. finish (sections f id m'))) part w l (c (λ m'. finish (sections f id m')) (finish_printed [] x (sections f id m1) w h)) in
-    (id, 1, (refl, (_, refl), ap is_some e), subst (λ (o : Option Section). Spells (on o (λ s. section s m (λ m'. sections f id m'))) (put_sized part w) [] x) (sym e) inside)
+    let inside : Spells (section which m (λ m'. sections f (last_after last id) m')) (put_sized part w) [] x =
+    size_printed [] x (λ n. contents which m (λ m'. finish (sections f (last_after last id) m'))) part w l (c (λ m'. finish (sections f (last_after last id) m')) (finish_printed [] x (sections f (last_after last id) m1) w h)) in
+    (id, 1, (refl, (_, refl), ap is_some e), subst (λ (o : Option Section). Spells (on o (λ s. section s m (λ m'. sections f (last_after last id) m'))) (put_sized part w) [] x) (sym e) inside)
 
 lower : (x m : Parts) (lo hi n : ℕ) (w : List ℕ) → lo ≤ hi → Later x m hi n w → Later x m lo n w
 lower x m lo hi n w h later = λ f last a b. later f last a (omega (arith, b, h))
@@ -143,21 +176,28 @@ unfolding sections
 whole_at x zero last e = (eq-eqb _ _ e, refl)
 whole_at x (suc f) last e = (eq-eqb _ _ e, refl)
 
+or_true : (a : Bool) {b : Bool} → b ≡ true → (a || b) ≡ true
+or_true true e = refl
+or_true false e = e
+
 later_id : (last id : ℕ) (which : Section) → last < id → find id sections_by_id ≡ Some which → section_id last id ≡ Some which
-later_id last id which l e = let t = lt-ltb last id l in rw t e
+later_id last id which l e = subst (λ (b : Bool). (if b then find id sections_by_id else None) ≡ Some which) (sym (or_true (nat_eq id 0) (lt-ltb last id l))) e
+
+last_is : (last id : ℕ) → last < id → last_after last id ≡ id
+last_is last id l = ap (λ (b : Bool). if b then last else id) (ne_eqb id 0 (λ e. omega arith))
 
 more_printed : (x m m1 : Parts) (which : Section) (id hi n : ℕ) (part w : List ℕ) → find id sections_by_id ≡ Some which → hi ≤ id → IsU32 (length part) → ((k : Parts → Spelling) → Spells (k m1) [] (w ∷ []) x → Spells (contents which m k) part (w ∷ []) x) → Later x m1 (id + 1) n w → (f last : ℕ) → n + 1 ≤ f → last < hi → Spells (sections f last m) (id ∷ put_sized part w) [] x
 more_printed x m m1 which id hi n part w e g l c later zero last a b = absurd (omega (arith, a))
 more_printed x m m1 which id hi n part w e g l c later (suc f) last a b =
     let s : section_id last id ≡ Some which = later_id last id which (omega (arith, b, g)) e in
-    section_printed x m m1 which id f last part w s l c (later f id (omega (arith, a)) (omega arith))
+    section_printed x m m1 which id f last part w s l c (subst (λ i. Spells (sections f i m1) w [] x) (sym (last_is last id (omega (arith, b, g)))) (later f id (omega (arith, a)) (omega arith)))
 
 step_printed : {A : Type 0} (x m m1 : Parts) (which : Section) (id hi n : ℕ) (put : A → List ℕ → List ℕ) (xs : List A) (w : List ℕ) → find id sections_by_id ≡ Some which → hi ≤ id → IsU32 (length (put_list put xs [])) → (xs ≡ [] → m1 ≡ m) → ((k : Parts → Spelling) → Spells (k m1) [] (w ∷ []) x → Spells (contents which m k) (put_list put xs []) (w ∷ []) x) → Later x m1 (id + 1) n w → Later x m hi (n + 1) (put_section id put xs w)
 unfolding put_section
 step_printed x m m1 which id hi n put [] w e g s none c later = λ f last a b. subst (λ m. Spells (sections f last m) w [] x) (none refl) (later f last (omega (arith, a)) (omega (arith, b, g)))
 step_printed x m m1 which id hi n put (y ∷ ys) w e g s none c later = more_printed x m m1 which id hi n (put_list put (y ∷ ys) []) w e g s c later
 
-no_memory : (l : Option Limits) → memories l ≡ [] → l ≡ None
+no_memory : (l : Option Limits) → sizes l ≡ [] → l ≡ None
 no_memory None e = refl
 no_memory (Some l) e = absurd cc
 
@@ -180,32 +220,40 @@ header_printed : (x : Parts) (k : Spelling) (w : List ℕ) → Spells k w [] x �
 unfolding header
 header_printed x k w h = byte_printed [] x 0 _ _ (byte_printed [] x 97 _ _ (byte_printed [] x 115 _ _ (byte_printed [] x 109 _ _ (byte_printed [] x 1 _ _ (byte_printed [] x 0 _ _ (byte_printed [] x 0 _ _ (byte_printed [] x 0 _ _ h)))))))
 
-sections_printed : (x : Parts) → IsModule x → IsU32 (length (put_sections x [])) → Later x empty 1 6 (put_sections x [])
-unfolding contents func_types indices globals exports
+sections_printed : (x : Parts) → IsModule x → IsU32 (length (put_sections x [])) → Later x empty 1 8 (put_sections x [])
+unfolding contents func_types indices globals exports segments
 sections_printed x i l1 =
-    let m1 : Parts = record { types = x.types; funcs = []; memory = None; globals = []; exports = []; bodies = [] } in
-    let m2 : Parts = record { types = x.types; funcs = x.funcs; memory = None; globals = []; exports = []; bodies = [] } in
-    let m3 : Parts = record { types = x.types; funcs = x.funcs; memory = x.memory; globals = []; exports = []; bodies = [] } in
-    let m4 : Parts = record { types = x.types; funcs = x.funcs; memory = x.memory; globals = x.globals; exports = []; bodies = [] } in
-    let m5 : Parts = record { types = x.types; funcs = x.funcs; memory = x.memory; globals = x.globals; exports = x.exports; bodies = [] } in
-    let w6 : List ℕ = put_section 10 put_body x.bodies [] in
-    let w5 : List ℕ = put_section 7 put_export x.exports w6 in
-    let w4 : List ℕ = put_section 6 put_global x.globals w5 in
-    let w3 : List ℕ = put_section 5 put_limits (memories x.memory) w4 in
+    let m1 : Parts = record { types = x.types; funcs = []; table = None; memory = None; globals = []; exports = []; elements = []; bodies = [] } in
+    let m2 : Parts = record { types = x.types; funcs = x.funcs; table = None; memory = None; globals = []; exports = []; elements = []; bodies = [] } in
+    let m3 : Parts = record { types = x.types; funcs = x.funcs; table = x.table; memory = None; globals = []; exports = []; elements = []; bodies = [] } in
+    let m4 : Parts = record { types = x.types; funcs = x.funcs; table = x.table; memory = x.memory; globals = []; exports = []; elements = []; bodies = [] } in
+    let m5 : Parts = record { types = x.types; funcs = x.funcs; table = x.table; memory = x.memory; globals = x.globals; exports = []; elements = []; bodies = [] } in
+    let m6 : Parts = record { types = x.types; funcs = x.funcs; table = x.table; memory = x.memory; globals = x.globals; exports = x.exports; elements = []; bodies = [] } in
+    let m7 : Parts = record { types = x.types; funcs = x.funcs; table = x.table; memory = x.memory; globals = x.globals; exports = x.exports; elements = x.elements; bodies = [] } in
+    let w8 : List ℕ = put_section 10 put_body x.bodies [] in
+    let w7 : List ℕ = put_section 9 put_segment x.elements w8 in
+    let w6 : List ℕ = put_section 7 put_export x.exports w7 in
+    let w5 : List ℕ = put_section 6 put_global x.globals w6 in
+    let w4 : List ℕ = put_section 5 put_limits (sizes x.memory) w5 in
+    let w3 : List ℕ = put_section 4 put_table_type (sizes x.table) w4 in
     let w2 : List ℕ = put_section 3 put_u32 x.funcs w3 in
     let l2 : IsU32 (length w2) = rest_small 1 put_func_type x.types w2 l1 in
     let l3 : IsU32 (length w3) = rest_small 3 put_u32 x.funcs w3 l2 in
-    let l4 : IsU32 (length w4) = rest_small 5 put_limits (memories x.memory) w4 l3 in
-    let l5 : IsU32 (length w5) = rest_small 6 put_global x.globals w5 l4 in
-    let l6 : IsU32 (length w6) = rest_small 7 put_export x.exports w6 l5 in
-    let s6 : IsU32 (length (put_list put_body x.bodies [])) = part_small 10 put_body x.bodies [] l6 in
-    let t6 : IsU32 (length (put_all put_body x.bodies [])) = (let a = u32_longer (length x.bodies) (put_all put_body x.bodies []) in omega (arith, a, s6)) in
-    let g6 : Later x m5 10 1 w6 = step_printed x m5 x sec.Codes 10 10 0 put_body x.bodies [] refl (omega arith) s6 (λ e. rw e refl) (λ k h. bodies_printed ([] ∷ []) x (length x.funcs) x.bodies (sym i.whole) i.bodies.0 (bodies_sized x.bodies [] i.bodies.1 t6) (λ bs. k (record m5 { bodies = bs })) [] h) (λ f last a b. whole_at x f last i.whole) in
-    let g5 : Later x m4 7 2 w5 = step_printed x m4 m5 sec.Exports 7 7 1 put_export x.exports w6 refl (omega arith) (part_small 7 put_export x.exports w6 l5) (λ e. rw e refl) (λ k h. list_printed (w6 ∷ []) x IsExport exported put_export (λ e p. exported_printed (w6 ∷ []) x e p) x.exports i.exports (λ es. k (record m4 { exports = es })) [] h) (lower x m5 8 10 1 w6 (omega arith) g6) in
-    let g4 : Later x m3 6 3 w4 = step_printed x m3 m4 sec.Globals 6 6 2 put_global x.globals w5 refl (omega arith) (part_small 6 put_global x.globals w5 l4) (λ e. rw e refl) (λ k h. list_printed (w5 ∷ []) x IsGlobal global put_global (λ g p. global_printed (w5 ∷ []) x g p) x.globals i.globals (λ gs. k (record m3 { globals = gs })) [] h) (lower x m4 7 7 2 w5 (omega arith) g5) in
-    let g3 : Later x m2 5 4 w3 = step_printed x m2 m3 sec.Memories 5 5 3 put_limits (memories x.memory) w4 refl (omega arith) (part_small 5 put_limits (memories x.memory) w4 l3) (λ e. ap (λ o. record m2 { memory = o }) (no_memory x.memory e)) (λ k h. memory_printed (w4 ∷ []) x x.memory i.memory (λ l. k (record m2 { memory = l })) [] h) (lower x m3 6 6 3 w4 (omega arith) g4) in
-    let g2 : Later x m1 3 5 w2 = step_printed x m1 m2 sec.Functions 3 3 4 put_u32 x.funcs w3 refl (omega arith) (part_small 3 put_u32 x.funcs w3 l2) (λ e. rw e refl) (λ k h. list_printed (w3 ∷ []) x IsU32 u32 put_u32 (λ n p k w h. u32_printed (w3 ∷ []) x k n w p h) x.funcs i.funcs (λ fs. k (record m1 { funcs = fs })) [] h) (lower x m2 4 5 4 w3 (omega arith) g3) in
-    step_printed x empty m1 sec.Types 1 1 5 put_func_type x.types w2 refl (omega arith) (part_small 1 put_func_type x.types w2 l1) (λ e. rw e refl) (λ k h. list_printed (w2 ∷ []) x IsFuncType func_type put_func_type (λ t p. func_type_printed (w2 ∷ []) x t p) x.types i.types (λ ts. k (record empty { types = ts })) [] h) (lower x m1 2 3 5 w2 (omega arith) g2)
+    let l4 : IsU32 (length w4) = rest_small 4 put_table_type (sizes x.table) w4 l3 in
+    let l5 : IsU32 (length w5) = rest_small 5 put_limits (sizes x.memory) w5 l4 in
+    let l6 : IsU32 (length w6) = rest_small 6 put_global x.globals w6 l5 in
+    let l7 : IsU32 (length w7) = rest_small 7 put_export x.exports w7 l6 in
+    let l8 : IsU32 (length w8) = rest_small 9 put_segment x.elements w8 l7 in
+    let sN : IsU32 (length (put_list put_body x.bodies [])) = part_small 10 put_body x.bodies [] l8 in
+    let tN : IsU32 (length (put_all put_body x.bodies [])) = (let a = u32_longer (length x.bodies) (put_all put_body x.bodies []) in omega (arith, a, sN)) in
+    let g8 : Later x m7 10 1 w8 = step_printed x m7 x sec.Codes 10 10 0 put_body x.bodies [] refl (omega arith) sN (λ e. rw e refl) (λ k h. bodies_printed ([] ∷ []) x (length x.funcs) x.bodies (sym i.whole) i.bodies.0 (bodies_sized x.bodies [] i.bodies.1 tN) (λ bs. k (record m7 { bodies = bs })) [] h) (λ f last a b. whole_at x f last i.whole) in
+    let g7 : Later x m6 9 2 w7 = step_printed x m6 m7 sec.Elements 9 9 1 put_segment x.elements w8 refl (omega arith) (part_small 9 put_segment x.elements w8 l7) (λ e. rw e refl) (λ k h. list_printed (w8 ∷ []) x IsSegment segment put_segment (λ e p. segment_printed (w8 ∷ []) x e p) x.elements i.elements (λ es. k (record m6 { elements = es })) [] h) (lower x m7 10 10 1 w8 (omega arith) g8) in
+    let g6 : Later x m5 7 3 w6 = step_printed x m5 m6 sec.Exports 7 7 2 put_export x.exports w7 refl (omega arith) (part_small 7 put_export x.exports w7 l6) (λ e. rw e refl) (λ k h. list_printed (w7 ∷ []) x IsExport exported put_export (λ e p. exported_printed (w7 ∷ []) x e p) x.exports i.exports (λ es. k (record m5 { exports = es })) [] h) (lower x m6 8 9 2 w7 (omega arith) g7) in
+    let g5 : Later x m4 6 4 w5 = step_printed x m4 m5 sec.Globals 6 6 3 put_global x.globals w6 refl (omega arith) (part_small 6 put_global x.globals w6 l5) (λ e. rw e refl) (λ k h. list_printed (w6 ∷ []) x IsGlobal global put_global (λ g p. global_printed (w6 ∷ []) x g p) x.globals i.globals (λ es. k (record m4 { globals = es })) [] h) (lower x m5 7 7 3 w6 (omega arith) g6) in
+    let g4 : Later x m3 5 5 w4 = step_printed x m3 m4 sec.Memories 5 5 4 put_limits (sizes x.memory) w5 refl (omega arith) (part_small 5 put_limits (sizes x.memory) w5 l4) (λ e. ap (λ (o : Option Limits). record m3 { memory = o }) (no_memory x.memory e)) (λ k h. memory_printed (w5 ∷ []) x x.memory i.memory (λ l. k (record m3 { memory = l })) [] h) (lower x m4 6 6 4 w5 (omega arith) g5) in
+    let g3 : Later x m2 4 6 w3 = step_printed x m2 m3 sec.Tables 4 4 5 put_table_type (sizes x.table) w4 refl (omega arith) (part_small 4 put_table_type (sizes x.table) w4 l3) (λ e. ap (λ (o : Option Limits). record m2 { table = o }) (no_memory x.table e)) (λ k h. table_printed (w4 ∷ []) x x.table i.table (λ l. k (record m2 { table = l })) [] h) (lower x m3 5 5 5 w4 (omega arith) g4) in
+    let g2 : Later x m1 3 7 w2 = step_printed x m1 m2 sec.Functions 3 3 6 put_u32 x.funcs w3 refl (omega arith) (part_small 3 put_u32 x.funcs w3 l2) (λ e. rw e refl) (λ k h. list_printed (w3 ∷ []) x IsU32 u32 put_u32 (λ n p k w h. u32_printed (w3 ∷ []) x k n w p h) x.funcs i.funcs (λ es. k (record m1 { funcs = es })) [] h) (lower x m2 4 4 6 w3 (omega arith) g3) in
+    step_printed x empty m1 sec.Types 1 1 7 put_func_type x.types w2 refl (omega arith) (part_small 1 put_func_type x.types w2 l1) (λ e. rw e refl) (λ k h. list_printed (w2 ∷ []) x IsFuncType func_type put_func_type (λ t p. func_type_printed (w2 ∷ []) x t p) x.types i.types (λ es. k (record empty { types = es })) [] h) (lower x m1 2 3 7 w2 (omega arith) g2)
 
 pub printed : (x : Parts) → IsModule x → IsU32 (length (module_bytes x)) → SpellsModule (module_bytes x) x
 unfolding module_bytes file

@@ -1,13 +1,14 @@
 -- What the runs of a module answer.
-use Rattle.std.specs.Prelude.{ℕ, ◌≡◌, ◌≤◌, Option, Some, None, slice_get}
+use Rattle.std.specs.Prelude.{ℕ, ◌≡◌, ◌≤◌, ◌⊎◌, Bool, true, Option, Some, None, slice_get}
 use Rattle.std.specs.Option.{option_and_then}
 use Rattle.wasm_core.specs.declared.types.ConstValue.{ConstValue}
 use Rattle.wasm_core.specs.declared.types.ConstValue.TheVariants.{I32, I64}
 use Rattle.wasm_core.specs.declared.entries.Entry.{Entry}
 use Rattle.wasm_core.specs.declared.entries.Entry.TheVariants.{Result, Status}
-use Rattle.wasm_core.specs.declared.ended.Ended.TheVariants.{Returned}
+use Rattle.wasm_core.specs.declared.ended.Ended.TheVariants.{Returned, Trapped}
+use Rattle.wasm_core.specs.declared.ended.TrapKind.{TrapKind}
 use Rattle.wasm_core.specs.Parts.{Parts}
-use Rattle.wasm_core.specs.MachineStep.{Store, State, At, Over, Step, Reach}
+use Rattle.wasm_core.specs.MachineStep.{Store, State, Over, Step, Reach}
 use Rattle.wasm_core.specs.Entries.{index_of}
 use Rattle.wasm_core.specs.Runs.{main_start}
 use Rattle.wasm_core.specs.WordData.{Data, StandsFor}
@@ -27,28 +28,30 @@ pub record IsAnswer (m : Parts) (d : Data) (store : Store) : Type 0 where
   pub result : global_of Result m store ≡ Some word
   pub stands : StandsFor store.memory word d
 
+-- the status is 1, and a grow of memory was refused
+pub record HasNoMemory (m : Parts) (store : Store) : Type 0 where
+  pub status : global_of Status m store ≡ Some 1
+  pub refused : store.refused ≡ true
+
 -- the run has returned and answers the data
-abbrev pub Answers : Parts → Data → State → Type 0
-Answers m d (At c) = ⊥
-Answers m d (Over Returned store) = IsAnswer m d store
+pub data Answers (m : Parts) (d : Data) : State → Type 0 where
+  answers : {store : Store} → IsAnswer m d store → Answers m d (Over Returned store)
+
+-- the run has trapped with the status 1, after a refused grow
+pub data Exhausted (m : Parts) : State → Type 0 where
+  exhausted : {k : TrapKind} {store : Store} → HasNoMemory m store → Exhausted m (Over (Trapped k) store)
 
 -- the run can go no further
 abbrev pub IsAtEnd : Parts → State → Type 0
-IsAtEnd m s = (t : State) → Step m s t → ⊥
+IsAtEnd m s = (granted : Bool) (t : State) → Step m granted s t → ⊥
 
--- no run of `main` is longer than so many steps, whichever grows are refused, and each run that can go no further answers the data
+-- no run of `main` is longer than so many steps, whichever grows are refused, and each run that can go no further answers the data or is exhausted
 pub record AnswersWithin (m : Parts) (most : ℕ) (d : Data) : Type 0 where
   pub first : State
   pub starts : main_start m ≡ Some first
   pub bounded : (k : ℕ) (t : State) → Reach m k first t → k ≤ most
-  pub answers : (k : ℕ) (t : State) → Reach m k first t → IsAtEnd m t → Answers m d t
+  pub answers : (k : ℕ) (t : State) → Reach m k first t → IsAtEnd m t → Answers m d t ⊎ Exhausted m t
 
--- every run that is long enough answers the data
+-- every run that is long enough answers the data or is exhausted
 abbrev pub AlwaysAnswers : Parts → Data → Type 0
 AlwaysAnswers m d = (most : ℕ) × AnswersWithin m most d
-
--- each run that can go no further has made exactly so many steps
-pub record TakesSteps (m : Parts) (count : ℕ) : Type 0 where
-  pub first : State
-  pub starts : main_start m ≡ Some first
-  pub exact : (k : ℕ) (t : State) → Reach m k first t → IsAtEnd m t → k ≡ count

@@ -82,3 +82,10 @@ missing m =
     or_missing entry.Main (index_of entry.Main m)
     (or_missing entry.Memory (index_of entry.Memory m)
     (or_missing entry.Result (index_of entry.Result m) (or_missing entry.Status (index_of entry.Status m) None)))
+
+-- the entry is a global
+abbrev pub IsGlobal : Entry → Type 0
+IsGlobal entry.Main = ⊥
+IsGlobal entry.Memory = ⊥
+IsGlobal entry.Result = Unit {0}
+IsGlobal entry.Status = Unit {0}

@@ -16,6 +16,8 @@ pub data Format (M : Type 0) : Type 0 where
   Name : (next : List ℕ → Format M) → Format M
   -- a number of bytes, with which a part begins that has them
   Size : (next : ℕ → Format M) → Format M
+  -- the bytes of the part that are left, whatever they are
+  Skip : (next : Format M) → Format M
   -- where the part has no byte left, its end, if it may end here; else what comes in it
   End : (may : Bool) → (over : Format M) → (more : Format M) → Format M
 
@@ -55,5 +57,6 @@ judge (Byte fits next) at (b ∷ w) ws = if fits b then judge (next b) (at + 1) 
 judge (Number s bits fits next) at w ws = then' (number_at s bits w) (Refused at) (λ n k. if fits n then judge (next n) (at + k) (drop k w) ws else Refused at)
 judge (Name next) at w ws = then' (name_at w) (Refused at) (λ s k. judge (next s) (at + k) (drop k w) ws)
 judge (Size next) at w ws = then' (number_at false 32 w) (Refused at) (λ n k. if nat_le n (length (drop k w)) then judge (next n) (at + k) (take n (drop k w)) (drop n (drop k w) ∷ ws) else Refused at)
+judge (Skip next) at w ws = judge next (at + length w) [] ws
 judge (End may over more) at [] ws = if may then judge over at (outer ws) (others ws) else Refused at
 judge (End may over more) at (b ∷ w) ws = judge more at (b ∷ w) ws

@@ -1,8 +1,8 @@
--- "These bytes spell this module": the binary format of modules (Core Specification, "Binary Format", chapter 5) for the sections
--- type, function, memory, global, export and code and the instructions i32.const, global.set and end.
+-- "These bytes spell this module": the binary format of modules (Core Specification, "Binary Format", chapter 5)
+-- as trees of the items that may come.
 -- A production says which items come next and hands their value to `k`, which says what comes after them.
-use Rattle.std.specs.Prelude.{◌≡◌, ◌⊎◌, ℕ, zero, suc, ◌+◌, List, [], ◌∷◌, ◌++◌, length, replicate, Bool, true, false, nat_lt, nat_le, nat_eq, if◌then◌else◌, Option, Some, None, is_some, Result, Ok, Err}
-use Rattle.wasm_core.specs.Format.{Format, Give, Nothing, Byte, Number, Name, Size, End}
+use Rattle.std.specs.Prelude.{◌≡◌, ◌⊎◌, ℕ, zero, suc, ◌+◌, List, [], ◌∷◌, ◌++◌, length, replicate, Bool, true, false, ◌&&◌, ◌||◌, not, nat_lt, nat_le, nat_eq, if◌then◌else◌, Option, Some, None, is_some, Result, Ok, Err}
+use Rattle.wasm_core.specs.Format.{Format, Give, Nothing, Byte, Number, Name, Size, Skip, End}
 use Rattle.wasm_core.specs.Spelling.{Spells, Stops}
 use Rattle.wasm_core.specs.Parts.{Parts}
 use Rattle.wasm_core.specs.ModuleCondition.{opens_after}
@@ -16,6 +16,12 @@ use Rattle.wasm_core.specs.declared.types.GlobalDef.{GlobalDef}
 use Rattle.wasm_core.specs.declared.exports.ExportKind.{ExportKind}
 use Rattle.wasm_core.specs.declared.exports.ExportKind.TheVariants as kinds
 use Rattle.wasm_core.specs.declared.exports.Export.{Export}
+use Rattle.wasm_core.specs.declared.elements.Segment.{Segment}
+use Rattle.wasm_core.specs.declared.instrs.BlockType.{BlockType}
+use Rattle.wasm_core.specs.declared.instrs.BlockType.TheVariants as block_types
+use Rattle.wasm_core.specs.declared.instrs.Access.{Access}
+use Rattle.wasm_core.specs.declared.instrs.I32Op.{I32Op}
+use Rattle.wasm_core.specs.declared.instrs.I32Op.TheVariants as ops
 use Rattle.wasm_core.specs.declared.instrs.Instr.{Instr}
 use Rattle.wasm_core.specs.declared.instrs.Instr.TheVariants as instructions
 use Rattle.wasm_core.specs.declared.instrs.Body.{Body}
@@ -42,6 +48,10 @@ u32 k = Number false 32 any k
 -- a signed number of 32 bits, given by its bits
 unfoldable pub s32 : (ℕ → Spelling) → Spelling
 s32 k = Number true 32 any k
+
+-- and of 64 bits
+unfoldable pub s64 : (ℕ → Spelling) → Spelling
+s64 k = Number true 64 any k
 
 -- the end of a part
 unfoldable pub finish : Spelling → Spelling
@@ -99,34 +109,88 @@ mutabilities = (0, false) ∷ (1, true) ∷ []
 unfoldable pub mutability : (Bool → Spelling) → Spelling
 mutability k = coded (λ b. find b mutabilities) k
 
+abbrev pub block_kinds : List (ℕ × BlockType)
+block_kinds = (64, block_types.Empty) ∷ (127, block_types.Value I32) ∷ (126, block_types.Value I64) ∷ []
+
+unfoldable pub block_type : (BlockType → Spelling) → Spelling
+block_type k = coded (λ b. find b block_kinds) k
+
 -- ---- instructions (section 5.4)
+
+unfoldable pub indices : (List ℕ → Spelling) → Spelling
+indices k = u32 (λ n. times n u32 [] k)
+
+unfoldable pub access : (Access → Spelling) → Spelling
+access k = u32 (λ a. u32 (λ o. k (record { align = a; offset = o })))
 
 -- what comes after an opcode
 pub data Row : Type 0 where
   Plain : Instr → Row
+  Typed : (BlockType → Instr) → Row
   Index : (ℕ → Instr) → Row
+  Accessing : (Access → Instr) → Row
+  Pair : (ℕ → ℕ → Instr) → Row
+  Table : (List ℕ → ℕ → Instr) → Row
+  Zeroed : Instr → Row
   Bits : (ℕ → Instr) → Row
+  LongBits : (ℕ → Instr) → Row
 
 abbrev pub opcodes : List (ℕ × Row)
-opcodes = (11, Plain instructions.End) ∷ (36, Index instructions.GlobalSet) ∷ (65, Bits instructions.I32Const) ∷ []
+opcodes =
+    (0, Plain instructions.Unreachable) ∷ (1, Plain instructions.Nop) ∷ (2, Typed instructions.Block) ∷ (3, Typed instructions.Loop) ∷ (4, Typed instructions.If) ∷
+    (5, Plain instructions.Else) ∷ (11, Plain instructions.End) ∷ (12, Index instructions.Br) ∷ (13, Index instructions.BrIf) ∷ (14, Table instructions.BrTable) ∷
+    (15, Plain instructions.Return) ∷ (16, Index instructions.Call) ∷ (17, Pair instructions.CallIndirect) ∷ (26, Plain instructions.Drop) ∷ (32, Index instructions.LocalGet) ∷
+    (33, Index instructions.LocalSet) ∷ (34, Index instructions.LocalTee) ∷ (35, Index instructions.GlobalGet) ∷ (36, Index instructions.GlobalSet) ∷
+    (40, Accessing instructions.I32Load) ∷ (45, Accessing instructions.I32Load8U) ∷ (54, Accessing instructions.I32Store) ∷ (58, Accessing instructions.I32Store8) ∷
+    (63, Zeroed instructions.MemorySize) ∷ (64, Zeroed instructions.MemoryGrow) ∷ (65, Bits instructions.I32Const) ∷ (66, LongBits instructions.I64Const) ∷ []
+
+abbrev pub operations : List (ℕ × I32Op)
+operations =
+    (69, ops.Eqz) ∷ (70, ops.Eq) ∷ (71, ops.Ne) ∷ (72, ops.LtS) ∷ (73, ops.LtU) ∷ (74, ops.GtS) ∷ (75, ops.GtU) ∷ (76, ops.LeS) ∷ (77, ops.LeU) ∷ (78, ops.GeS) ∷ (79, ops.GeU) ∷
+    (106, ops.Add) ∷ (107, ops.Sub) ∷ (108, ops.Mul) ∷ (113, ops.And) ∷ (114, ops.Or) ∷ (115, ops.Xor) ∷ (116, ops.Shl) ∷ (117, ops.ShrS) ∷ (118, ops.ShrU) ∷ []
 
 unfoldable pub row : Row → (Instr → Spelling) → Spelling
 row (Plain i) k = k i
+row (Typed i) k = block_type (λ t. k (i t))
 row (Index i) k = u32 (λ n. k (i n))
+row (Accessing i) k = access (λ a. k (i a))
+row (Pair i) k = u32 (λ a. u32 (λ b. k (i a b)))
+row (Table i) k = indices (λ ls. u32 (λ l. k (i ls l)))
+row (Zeroed i) k = byte 0 (k i)
 row (Bits i) k = s32 (λ n. k (i n))
+row (LongBits i) k = s64 (λ n. k (i n))
 
-unfoldable pub instr : (Instr → Spelling) → Spelling
-instr k = coded (λ b. find b opcodes) (λ r. row r k)
+abbrev pub operation_row : Option I32Op → Option Row
+operation_row None = None
+operation_row (Some op) = Some (Plain (instructions.I32 op))
+
+abbrev pub row_or : Option Row → Option I32Op → Option Row
+row_or (Some r) o = Some r
+row_or None o = operation_row o
+
+-- the opcodes, where an `else` may come or not
+abbrev pub opcode : (may_else : Bool) → ℕ → Option Row
+opcode may b = if nat_eq b 5 && not may then None else row_or (find b opcodes) (find b operations)
+
+unfoldable pub instr : (may_else : Bool) → (Instr → Spelling) → Spelling
+instr may k = coded (opcode may) (λ r. row r k)
 
 -- The instructions up to the `end` that closes the last open block. Each takes a byte at least, so at most `fuel` of them fit.
 unfoldable pub instrs : (fuel : ℕ) → List Bool → List Instr → (List Instr → Spelling) → Spelling
 instrs fuel [] done k = k done
 instrs zero (o ∷ os) done k = Nothing
-instrs (suc fuel) (o ∷ os) done k = instr (λ i. instrs fuel (opens_after i (o ∷ os)) (done ++ i ∷ []) k)
+instrs (suc fuel) (o ∷ os) done k = instr o (λ i. instrs fuel (opens_after i (o ∷ os)) (done ++ i ∷ []) k)
+
+abbrev pub constant_opcodes : List (ℕ × ValType)
+constant_opcodes = (65, I32) ∷ (66, I64) ∷ []
+
+abbrev pub constant_of : ValType → (ConstValue → Spelling) → Spelling
+constant_of I32 k = s32 (λ n. byte 11 (k (constants.I32 n)))
+constant_of I64 k = s64 (λ n. byte 11 (k (constants.I64 n)))
 
 -- the value of a constant expression: a constant and `end`
 unfoldable pub constant : (ConstValue → Spelling) → Spelling
-constant k = byte 65 (s32 (λ n. byte 11 (k (constants.I32 n))))
+constant k = coded (λ b. find b constant_opcodes) (λ t. constant_of t k)
 
 -- ---- bodies (section 5.5.13)
 
@@ -147,8 +211,13 @@ body k = Size (λ n. locals (λ ls. instrs n (false ∷ []) [] (λ is. finish (k
 unfoldable pub func_types : (List FuncType → Spelling) → Spelling
 func_types k = u32 (λ n. times n func_type [] k)
 
-unfoldable pub indices : (List ℕ → Spelling) → Spelling
-indices k = u32 (λ n. times n u32 [] k)
+-- a table of functions
+unfoldable pub table_type : (Limits → Spelling) → Spelling
+table_type k = byte 112 (limits k)
+
+-- at most one table
+unfoldable pub table : (Option Limits → Spelling) → Spelling
+table k = Number false 32 (λ n. nat_le n 1) (λ n. if nat_eq n 0 then k None else table_type (λ l. k (Some l)))
 
 -- at most one memory
 unfoldable pub memory : (Option Limits → Spelling) → Spelling
@@ -172,32 +241,46 @@ exported k = Name (λ s. export_kind (λ e. u32 (λ i. k (record { name = s; kin
 unfoldable pub exports : (List Export → Spelling) → Spelling
 exports k = u32 (λ n. times n exported [] k)
 
+-- an element segment for the one table: the flag 0, an i32.const and `end`, and the functions
+unfoldable pub segment : (Segment → Spelling) → Spelling
+segment k = Number false 32 (λ n. nat_eq n 0) (λ n. byte 65 (s32 (λ o. byte 11 (indices (λ fs. k (record { offset = o; funcs = fs }))))))
+
+unfoldable pub segments : (List Segment → Spelling) → Spelling
+segments k = u32 (λ n. times n segment [] k)
+
 -- as many bodies as functions
 unfoldable pub bodies : (funcs : ℕ) → (List Body → Spelling) → Spelling
 bodies funcs k = Number false 32 (λ n. nat_eq n funcs) (λ n. times n body [] k)
 
 -- the contents of a section
 unfoldable pub contents : Section → Parts → (Parts → Spelling) → Spelling
+contents sec.Custom m k = Name (λ s. Skip (k m))
 contents sec.Types m k = func_types (λ ts. k (record m { types = ts }))
 contents sec.Functions m k = indices (λ fs. k (record m { funcs = fs }))
+contents sec.Tables m k = table (λ l. k (record m { table = l }))
 contents sec.Memories m k = memory (λ l. k (record m { memory = l }))
 contents sec.Globals m k = globals (λ gs. k (record m { globals = gs }))
 contents sec.Exports m k = exports (λ es. k (record m { exports = es }))
+contents sec.Elements m k = segments (λ es. k (record m { elements = es }))
 contents sec.Codes m k = bodies (length m.funcs) (λ bs. k (record m { bodies = bs }))
 
 unfoldable pub section : Section → Parts → (Parts → Spelling) → Spelling
 section s m k = Size (λ n. contents s m (λ m'. finish (k m')))
 
 abbrev pub sections_by_id : List (ℕ × Section)
-sections_by_id = (1, sec.Types) ∷ (3, sec.Functions) ∷ (5, sec.Memories) ∷ (6, sec.Globals) ∷ (7, sec.Exports) ∷ (10, sec.Codes) ∷ []
+sections_by_id = (0, sec.Custom) ∷ (1, sec.Types) ∷ (3, sec.Functions) ∷ (4, sec.Tables) ∷ (5, sec.Memories) ∷ (6, sec.Globals) ∷ (7, sec.Exports) ∷ (9, sec.Elements) ∷ (10, sec.Codes) ∷ []
 
--- The ids rise, so each section comes at most once.
+-- The ids rise, so each section comes at most once; custom sections stand anywhere between.
 abbrev pub section_id : (last : ℕ) → ℕ → Option Section
-section_id last b = if nat_lt last b then find b sections_by_id else None
+section_id last b = if nat_eq b 0 || nat_lt last b then find b sections_by_id else None
 
--- a section after that with the id `last`, and its own id
+-- the id of the last section that isn't custom
+abbrev pub last_after : ℕ → ℕ → ℕ
+last_after last b = if nat_eq b 0 then last else b
+
+-- a section after that with the id `last`, and the last id then
 unfoldable pub next_section : (last : ℕ) → Parts → (ℕ × Parts → Spelling) → Spelling
-next_section last m k = Byte (λ b. is_some (section_id last b)) (λ b. on (section_id last b) (λ s. section s m (λ m'. k (b, m'))))
+next_section last m k = Byte (λ b. is_some (section_id last b)) (λ b. on (section_id last b) (λ s. section s m (λ m'. k (last_after last b, m'))))
 
 abbrev pub is_whole : Parts → Bool
 is_whole m = nat_eq (length m.funcs) (length m.bodies)
@@ -212,7 +295,7 @@ unfoldable pub header : Spelling → Spelling
 header k = byte 0 (byte 97 (byte 115 (byte 109 (byte 1 (byte 0 (byte 0 (byte 0 k)))))))
 
 abbrev pub empty : Parts
-empty = record { types = []; funcs = []; memory = None; globals = []; exports = []; bodies = [] }
+empty = record { types = []; funcs = []; table = None; memory = None; globals = []; exports = []; elements = []; bodies = [] }
 
 -- A file of n bytes has at most n sections.
 unfoldable pub file : (n : ℕ) → Spelling

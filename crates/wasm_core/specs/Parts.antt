@@ -4,13 +4,16 @@ use Rattle.wasm_core.specs.declared.types.FuncType.{FuncType}
 use Rattle.wasm_core.specs.declared.types.Limits.{Limits}
 use Rattle.wasm_core.specs.declared.types.GlobalDef.{GlobalDef}
 use Rattle.wasm_core.specs.declared.exports.Export.{Export}
+use Rattle.wasm_core.specs.declared.elements.Segment.{Segment}
 use Rattle.wasm_core.specs.declared.instrs.Body.{Body}
 
--- function types, the type index of each function, the memory, globals, exports, and the body of each function
+-- function types, the type index of each function, the table, the memory, globals, exports, element segments, and the body of each function
 pub record Parts : Type 0 where
   pub types : List FuncType
   pub funcs : List ℕ
+  pub table : Option Limits
   pub memory : Option Limits
   pub globals : List GlobalDef
   pub exports : List Export
+  pub elements : List Segment
   pub bodies : List Body

@@ -13,6 +13,12 @@ use Rattle.wasm_core.specs.declared.types.GlobalDef.{GlobalDef}
 use Rattle.wasm_core.specs.declared.exports.ExportKind.{ExportKind}
 use Rattle.wasm_core.specs.declared.exports.ExportKind.TheVariants as kinds
 use Rattle.wasm_core.specs.declared.exports.Export.{Export}
+use Rattle.wasm_core.specs.declared.elements.Segment.{Segment}
+use Rattle.wasm_core.specs.declared.instrs.BlockType.{BlockType}
+use Rattle.wasm_core.specs.declared.instrs.BlockType.TheVariants as block_types
+use Rattle.wasm_core.specs.declared.instrs.Access.{Access}
+use Rattle.wasm_core.specs.declared.instrs.I32Op.{I32Op}
+use Rattle.wasm_core.specs.declared.instrs.I32Op.TheVariants as ops
 use Rattle.wasm_core.specs.declared.instrs.Instr.{Instr}
 use Rattle.wasm_core.specs.declared.instrs.Instr.TheVariants as instructions
 use Rattle.wasm_core.specs.declared.instrs.Body.{Body}
@@ -47,6 +53,9 @@ put_u32 n w = unsigned 5 n w
 
 abbrev pub put_s32 : ℕ → List ℕ → List ℕ
 put_s32 n w = signed 5 32 n w
+
+abbrev pub put_s64 : ℕ → List ℕ → List ℕ
+put_s64 n w = signed 10 64 n w
 
 unfoldable pub put_all : {A : Type 0} → (A → List ℕ → List ℕ) → List A → List ℕ → List ℕ
 put_all one [] w = w
@@ -89,7 +98,7 @@ flag true = 1
 -- a constant and `end`
 abbrev pub put_constant : ConstValue → List ℕ → List ℕ
 put_constant (constants.I32 n) w = 65 ∷ put_s32 n (11 ∷ w)
-put_constant (constants.I64 n) w = w  -- no module has one yet
+put_constant (constants.I64 n) w = 66 ∷ put_s64 n (11 ∷ w)
 
 unfoldable pub put_global : GlobalDef → List ℕ → List ℕ
 put_global g w = put_val_type g.ty (flag g.mutable ∷ put_constant g.init w)
@@ -110,10 +119,64 @@ put_export e w = put_name e.name (kind_code e.kind ∷ put_u32 e.index w)
 
 -- ---- bodies
 
+abbrev pub block_type_code : BlockType → ℕ
+block_type_code block_types.Empty = 64
+block_type_code (block_types.Value t) = val_type_code t
+
+abbrev pub operation_code : I32Op → ℕ
+operation_code ops.Eqz = 69
+operation_code ops.Eq = 70
+operation_code ops.Ne = 71
+operation_code ops.LtS = 72
+operation_code ops.LtU = 73
+operation_code ops.GtS = 74
+operation_code ops.GtU = 75
+operation_code ops.LeS = 76
+operation_code ops.LeU = 77
+operation_code ops.GeS = 78
+operation_code ops.GeU = 79
+operation_code ops.Add = 106
+operation_code ops.Sub = 107
+operation_code ops.Mul = 108
+operation_code ops.And = 113
+operation_code ops.Or = 114
+operation_code ops.Xor = 115
+operation_code ops.Shl = 116
+operation_code ops.ShrS = 117
+operation_code ops.ShrU = 118
+
+abbrev pub put_access : Access → List ℕ → List ℕ
+put_access a w = put_u32 a.align (put_u32 a.offset w)
+
 unfoldable pub put_instr : Instr → List ℕ → List ℕ
+put_instr instructions.Unreachable w = 0 ∷ w
+put_instr instructions.Nop w = 1 ∷ w
+put_instr (instructions.Block t) w = 2 ∷ block_type_code t ∷ w
+put_instr (instructions.Loop t) w = 3 ∷ block_type_code t ∷ w
+put_instr (instructions.If t) w = 4 ∷ block_type_code t ∷ w
+put_instr instructions.Else w = 5 ∷ w
 put_instr instructions.End w = 11 ∷ w
+put_instr (instructions.Br n) w = 12 ∷ put_u32 n w
+put_instr (instructions.BrIf n) w = 13 ∷ put_u32 n w
+put_instr (instructions.BrTable ls l) w = 14 ∷ put_list put_u32 ls (put_u32 l w)
+put_instr instructions.Return w = 15 ∷ w
+put_instr (instructions.Call n) w = 16 ∷ put_u32 n w
+put_instr (instructions.CallIndirect index table) w = 17 ∷ put_u32 index (put_u32 table w)
+put_instr instructions.Drop w = 26 ∷ w
+put_instr (instructions.LocalGet n) w = 32 ∷ put_u32 n w
+put_instr (instructions.LocalSet n) w = 33 ∷ put_u32 n w
+put_instr (instructions.LocalTee n) w = 34 ∷ put_u32 n w
+put_instr (instructions.GlobalGet n) w = 35 ∷ put_u32 n w
 put_instr (instructions.GlobalSet n) w = 36 ∷ put_u32 n w
+put_instr (instructions.I32Load a) w = 40 ∷ put_access a w
+put_instr (instructions.I32Load8U a) w = 45 ∷ put_access a w
+put_instr (instructions.I32Store a) w = 54 ∷ put_access a w
+put_instr (instructions.I32Store8 a) w = 58 ∷ put_access a w
+put_instr instructions.MemorySize w = 63 ∷ 0 ∷ w
+put_instr instructions.MemoryGrow w = 64 ∷ 0 ∷ w
 put_instr (instructions.I32Const n) w = 65 ∷ put_s32 n w
+put_instr (instructions.I64Const n) w = 66 ∷ put_s64 n w
+put_instr (instructions.I32 op) w = operation_code op ∷ w
 
 abbrev pub same_type : ValType → ValType → Bool
 same_type I32 I32 = true
@@ -149,15 +212,22 @@ unfoldable pub put_section : {A : Type 0} → (id : ℕ) → (A → List ℕ →
 put_section id one [] w = w
 put_section id one (x ∷ xs) w = id ∷ put_sized (put_list one (x ∷ xs) []) w
 
--- the memory as a list
-abbrev pub memories : Option Limits → List Limits
-memories None = []
-memories (Some l) = l ∷ []
+-- the table, or the memory, as a list
+abbrev pub sizes : Option Limits → List Limits
+sizes None = []
+sizes (Some l) = l ∷ []
+
+unfoldable pub put_table_type : Limits → List ℕ → List ℕ
+put_table_type l w = 112 ∷ put_limits l w
+
+unfoldable pub put_segment : Segment → List ℕ → List ℕ
+put_segment s w = 0 ∷ 65 ∷ put_s32 s.offset (11 ∷ put_list put_u32 s.funcs w)
 
 abbrev pub put_sections : Parts → List ℕ → List ℕ
 put_sections m w =
-    put_section 1 put_func_type m.types (put_section 3 put_u32 m.funcs (put_section 5 put_limits (memories m.memory) (
-    put_section 6 put_global m.globals (put_section 7 put_export m.exports (put_section 10 put_body m.bodies w)))))
+    put_section 1 put_func_type m.types (put_section 3 put_u32 m.funcs (put_section 4 put_table_type (sizes m.table) (
+    put_section 5 put_limits (sizes m.memory) (put_section 6 put_global m.globals (put_section 7 put_export m.exports (
+    put_section 9 put_segment m.elements (put_section 10 put_body m.bodies w)))))))
 
 abbrev pub put_header : List ℕ → List ℕ
 put_header w = 0 ∷ 97 ∷ 115 ∷ 109 ∷ 1 ∷ 0 ∷ 0 ∷ 0 ∷ w
@@ -176,21 +246,3 @@ abbrev pub Writes : {X : Type 0} → Result X EncodeFault → (X → List ℕ) �
 Writes (Ok v) bytes_of m = (bytes_of v ≡ module_bytes m) × (length (bytes_of v) ≤ most_bytes) × SpellsModule (bytes_of v) m
 Writes (Err faults.ModuleBytes) bytes_of m = most_bytes < length (module_bytes m)
 Writes (Err faults.Memory) bytes_of m = Unit {0}
-
--- ---- what the functions of the encoder promise
-
--- these bytes are put after the others
-pub record Puts (old new : List ℕ) (put : List ℕ → List ℕ) : Type 0 where
-  pub grows : length old ≤ length new
-  pub after : (w : List ℕ) → new ++ w ≡ old ++ put w
-
--- these bytes are put, or they alone pass 16 MiB
-abbrev pub PutsUnless : Result (Unit {0}) EncodeFault → (old new : List ℕ) → (List ℕ → List ℕ) → Type 0
-PutsUnless (Ok x) old new put = Puts old new put
-PutsUnless (Err faults.ModuleBytes) old new put = (w : List ℕ) → most_bytes < length (put w)
-PutsUnless (Err faults.Memory) old new put = Unit {0}
-
--- the first run, where there is one, has fewer locals than that
-abbrev pub FirstBelow : ℕ → List (ℕ × ValType) → Type 0
-FirstBelow n [] = Unit {0}
-FirstBelow n (r ∷ rs) = r.0 < n

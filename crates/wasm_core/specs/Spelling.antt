@@ -1,6 +1,6 @@
 -- What bytes spell, and the first item that has no spelling in its place.
 use Rattle.std.specs.Prelude.{◌≡◌, ◌⊎◌, ℕ, ◌+◌, ◌-◌, ◌*◌, ◌^◌, ◌<◌, ◌≤◌, List, [], ◌∷◌, length, take, drop, Bool, true, false, IsUtf8}
-use Rattle.wasm_core.specs.Format.{Format, Give, Nothing, Byte, Number, Name, Size, End, Outcome, Accepted, Refused, outer, others}
+use Rattle.wasm_core.specs.Format.{Format, Give, Nothing, Byte, Number, Name, Size, Skip, End, Outcome, Accepted, Refused, outer, others}
 
 -- ---- numbers (Core Specification, section 5.2.2): seven bits a byte, the lowest first, longer spellings within the width allowed
 
@@ -38,6 +38,7 @@ Spells (Byte fits next) w ws x = (b k : ℕ) × IsByte fits w b k × Spells (nex
 Spells (Number s bits fits next) w ws x = (n k : ℕ) × (IsNumber s bits w n k × (fits n ≡ true)) × Spells (next n) (drop k w) ws x
 Spells (Name next) w ws x = (s : List ℕ) × (k : ℕ) × IsName w s k × Spells (next s) (drop k w) ws x
 Spells (Size next) w ws x = (n k : ℕ) × IsSize w n k × Spells (next n) (take n (drop k w)) (drop n (drop k w) ∷ ws) x
+Spells (Skip next) w ws x = Spells next [] ws x
 Spells (End may over more) [] ws x = (may ≡ true) × Spells over (outer ws) (others ws) x
 Spells (End may over more) (b ∷ w) ws x = Spells more (b ∷ w) ws x
 
@@ -49,6 +50,7 @@ Stops (Byte fits next) at w ws o = ((o ≡ at) × ((b k : ℕ) → IsByte fits w
 Stops (Number s bits fits next) at w ws o = ((o ≡ at) × ((n k : ℕ) → IsNumber s bits w n k × (fits n ≡ true) → ⊥)) ⊎ ((n k : ℕ) × (IsNumber s bits w n k × (fits n ≡ true)) × Stops (next n) (at + k) (drop k w) ws o)
 Stops (Name next) at w ws o = ((o ≡ at) × ((s : List ℕ) (k : ℕ) → IsName w s k → ⊥)) ⊎ ((s : List ℕ) × (k : ℕ) × IsName w s k × Stops (next s) (at + k) (drop k w) ws o)
 Stops (Size next) at w ws o = ((o ≡ at) × ((n k : ℕ) → IsSize w n k → ⊥)) ⊎ ((n k : ℕ) × IsSize w n k × Stops (next n) (at + k) (take n (drop k w)) (drop n (drop k w) ∷ ws) o)
+Stops (Skip next) at w ws o = Stops next (at + length w) [] ws o
 Stops (End may over more) at [] ws o = ((o ≡ at) × (may ≡ false)) ⊎ ((may ≡ true) × Stops over at (outer ws) (others ws) o)
 Stops (End may over more) at (b ∷ w) ws o = Stops more at (b ∷ w) ws o
 

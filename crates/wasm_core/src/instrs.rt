@@ -2,15 +2,81 @@
 
 ghost use Rattle.std.specs.Prelude.{◌≡◌};
 
-use crate::types::ValTypes;
+use crate::numbers::Numbers;
+use crate::types::{ValType, ValTypes};
 use std::marker::Model;
 
+/// What a block leaves: nothing, or one value of a type.
+#[derive(Clone, Copy, PartialEq, Eq, Debug)]
+pub enum BlockType {
+    Empty,
+    Value(ValType),
+}
+
+/// How an instruction accesses memory: the exponent of the alignment that it promises, and what is added to its address.
+#[derive(Clone, Copy, PartialEq, Eq, Debug)]
+pub struct Access {
+    pub align: u32,
+    pub offset: u32,
+}
+
+/// An operation on 32-bit integers, under the standard's name without `i32.`.
+#[derive(Clone, Copy, PartialEq, Eq, Debug)]
+pub enum I32Op {
+    Eqz,
+    Eq,
+    Ne,
+    LtS,
+    LtU,
+    GtS,
+    GtU,
+    LeS,
+    LeU,
+    GeS,
+    GeU,
+    Add,
+    Sub,
+    Mul,
+    And,
+    Or,
+    Xor,
+    Shl,
+    ShrS,
+    ShrU,
+}
+
 /// An instruction, under the standard's name. Indices count from 0 in the module's order. A constant keeps its bits.
+/// `BrTable` has the labels for the indices from 0 up, and then the one for all others; `CallIndirect` a type index and then a table index.
 #[derive(Drop)]
 pub enum Instr {
+    Unreachable,
+    Nop,
+    Block(BlockType),
+    Loop(BlockType),
+    If(BlockType),
+    Else,
     End,
+    Br(u32),
+    BrIf(u32),
+    BrTable(Numbers, u32),
+    Return,
+    Call(u32),
+    CallIndirect(u32, u32),
+    Drop,
+    LocalGet(u32),
+    LocalSet(u32),
+    LocalTee(u32),
+    GlobalGet(u32),
     GlobalSet(u32),
+    I32Load(Access),
+    I32Load8U(Access),
+    I32Store(Access),
+    I32Store8(Access),
+    MemorySize,
+    MemoryGrow,
     I32Const(u32),
+    I64Const(u64),
+    I32(I32Op),
 }
 
 /// A function's body: the types of its locals that aren't parameters, and its instructions as a flat list, whose last is the body's own `end`.

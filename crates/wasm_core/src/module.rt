@@ -3,20 +3,23 @@
 ghost use Rattle.std.specs.Prelude.{◌≡◌};
 ghost use Rattle.wasm_core.specs.ModuleCondition.{IsModule};
 
+use crate::elements::Segments;
 use crate::exports::Exports;
 use crate::instrs::Bodies;
 use crate::numbers::Numbers;
 use crate::types::{FuncTypes, GlobalDefs, Limits};
 use std::marker::Model;
 
-/// A module: function types, the type index of each function, the memory where there is one, globals, exports, and the body of each function.
+/// A module: function types, the type index of each function, the table and the memory where there are any, globals, exports, element segments, and the body of each function.
 #[derive(Drop)]
 pub struct Module {
     types: FuncTypes,
     funcs: Numbers,
+    table: Option<Limits>,
     memory: Option<Limits>,
     globals: GlobalDefs,
     exports: Exports,
+    elements: Segments,
     bodies: Bodies,
 }
 
@@ -26,9 +29,9 @@ impl Model for Module {
 
     ghost Value = { Parts };
 
-    ghost view = { λ m. record { types = m.types; funcs = m.funcs; memory = m.memory; globals = m.globals; exports = m.exports; bodies = m.bodies } };
+    ghost view = { λ m. record { types = m.types; funcs = m.funcs; table = m.table; memory = m.memory; globals = m.globals; exports = m.exports; elements = m.elements; bodies = m.bodies } };
 
-    ghost invariant = { λ m. IsModule (record { types = m.types; funcs = m.funcs; memory = m.memory; globals = m.globals; exports = m.exports; bodies = m.bodies }) };
+    ghost invariant = { λ m. IsModule (record { types = m.types; funcs = m.funcs; table = m.table; memory = m.memory; globals = m.globals; exports = m.exports; elements = m.elements; bodies = m.bodies }) };
 }
 
 impl Module {
@@ -36,20 +39,24 @@ impl Module {
     pub fn new(
         types: FuncTypes,
         funcs: Numbers,
+        table: Option<Limits>,
         memory: Option<Limits>,
         globals: GlobalDefs,
         exports: Exports,
+        elements: Segments,
         bodies: Bodies,
     ) -> Module
-        requires { IsModule (record { types = types; funcs = funcs; memory = memory; globals = globals; exports = exports; bodies = bodies }) }
-        ensures parts { result ≡ record { types = types; funcs = funcs; memory = memory; globals = globals; exports = exports; bodies = bodies } }
+        requires { IsModule (record { types = types; funcs = funcs; table = table; memory = memory; globals = globals; exports = exports; elements = elements; bodies = bodies }) }
+        ensures parts { result ≡ record { types = types; funcs = funcs; table = table; memory = memory; globals = globals; exports = exports; elements = elements; bodies = bodies } }
     {
         Module {
             types,
             funcs,
+            table,
             memory,
             globals,
             exports,
+            elements,
             bodies,
         }
     }
@@ -74,6 +81,20 @@ impl Module {
         ensures is { result.now ≡ self.now.funcs }
     {
         &self.funcs
+    }
+
+    /// The table's sizes, where there is a table.
+    pub fn table(&self) -> Option<Limits>
+        ensures is { result ≡ self.now.table }
+    {
+        self.table
+    }
+
+    /// The element segments.
+    pub fn elements(&self) -> &Segments
+        ensures is { result.now ≡ self.now.elements }
+    {
+        &self.elements
     }
 
     /// The globals.

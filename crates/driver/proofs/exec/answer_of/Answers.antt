@@ -1,8 +1,8 @@
 use Rattle.std.proofs.Common.{◌≡◌, length, ap, sym, subst, ◌∙◌, arith}
-use Rattle.wasm_core.specs.EnumerationModule.{enumeration_module}
-use Rattle.wasm_core.specs.ModuleGrammar.{SpellsModule}
-use Rattle.wasm_core.specs.ShortestBytes.{module_bytes}
-use Rattle.wasm_core.proofs.Small.{enumeration_few}
+use Rattle.enumeration_modules.specs.EnumerationModule.{enumeration_module}
+use Rattle.enumeration_modules.specs.ModuleGrammar.{SpellsModule}
+use Rattle.enumeration_modules.specs.ShortestBytes.{module_bytes}
+use Rattle.enumeration_modules.proofs.Small.{enumeration_few}
 use Rattle.driver.proofs.Answering.{half}
 use Rattle.driver.proofs.exec.answer_of.Goals as goal
 

@@ -1,8 +1,8 @@
 use Rattle.std.proofs.Common.{rules, ◌≡◌, Ok, Err, ap, subst, ◌∙◌}
-use Rattle.wasm_core.specs.declared.machine.NewFault.TheVariants as new_faults
-use Rattle.wasm_core.specs.declared.ended.Ended.TheVariants.{Returned}
-use Rattle.wasm_core.specs.declared.ended.RunFault.TheVariants as faults
-use Rattle.wasm_core.specs.Runs.{Says}
+use Rattle.enumeration_modules.specs.declared.machine.NewFault.TheVariants as new_faults
+use Rattle.enumeration_modules.specs.declared.ended.Ended.TheVariants.{Returned}
+use Rattle.enumeration_modules.specs.declared.ended.RunFault.TheVariants as faults
+use Rattle.enumeration_modules.specs.Runs.{Says}
 use Rattle.driver.proofs.Running.{never_missing, run-word, never_spent}
 use Rattle.driver.proofs.program.run.Goals as goal
 

@@ -1,10 +1,5 @@
-use Rattle.std.proofs.Common.{subst}
-use Rattle.wasm_core.specs.Runs.{NeverStuck}
-use Rattle.wasm_core.proofs.Answering.{never_stuck_from}
-use Rattle.wasm_core.proofs.Starting.{first_good}
+use Rattle.wasm_core.proofs.Starting.{never_stuck as law}
 use Rattle.wasm_core.proofs.laws.never_stuck.Goals as goal
 
 pub returns : goal.returns
-returns c = record {
-  steps = subst NeverStuck c.module-m.ensures.module (never_stuck_from c.module-m.result.now (first_good c.module-m.result.now c.module-m.ensures.valid));
-}
+returns c = record { holds = law }

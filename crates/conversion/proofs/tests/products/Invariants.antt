@@ -1,6 +1,0 @@
-use Rattle.pc_rules.specs.Environment.{Env}
-use Rattle.pc_rules.specs.WellCounted.{IsCounted}
-use Rattle.conversion.proofs.tests.products.Given as goal
-
-abbrev pub invariant-loop-i : goal.invariant-loop-i
-invariant-loop-i l = (E : Env) → IsCounted E l.term

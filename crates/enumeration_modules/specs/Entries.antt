@@ -1,0 +1,84 @@
+-- What a host finds of a module by the names of its exports.
+use Rattle.std.specs.Prelude.{ℕ, List, [], ◌∷◌, Bool, true, false, Option, Some, None, find, slice_get, codes}
+use Rattle.std.specs.Option.{option_and_then}
+use Rattle.std.specs.Str.{bytes_eq}
+use Rattle.enumeration_modules.specs.declared.types.ValType.{ValType}
+use Rattle.enumeration_modules.specs.declared.types.ValType.TheVariants.{I32, I64}
+use Rattle.enumeration_modules.specs.declared.exports.Export.{Export}
+use Rattle.enumeration_modules.specs.declared.exports.ExportKind.{ExportKind}
+use Rattle.enumeration_modules.specs.declared.exports.ExportKind.TheVariants.{Func, Table, Memory, Global}
+use Rattle.enumeration_modules.specs.declared.entries.Entry.{Entry}
+use Rattle.enumeration_modules.specs.declared.entries.Entry.TheVariants as entry
+use Rattle.enumeration_modules.specs.Parts.{Parts}
+
+-- the names, as UTF-8
+abbrev pub name_of : Entry → List ℕ
+name_of entry.Main = codes "main"
+name_of entry.Memory = codes "memory"
+name_of entry.Result = codes "result"
+name_of entry.Status = codes "status"
+
+-- the export with this name
+abbrev pub named : List ℕ → List Export → Option Export
+named name exports = find (λ e. bytes_eq e.name name) exports
+
+-- the index of a function, of a memory, of a global
+abbrev pub as_func : ExportKind → ℕ → Option ℕ
+as_func Func i = Some i
+as_func Table i = None
+as_func Memory i = None
+as_func Global i = None
+
+abbrev pub as_memory : ExportKind → ℕ → Option ℕ
+as_memory Func i = None
+as_memory Table i = None
+as_memory Memory i = Some i
+as_memory Global i = None
+
+abbrev pub as_global : ExportKind → ℕ → Option ℕ
+as_global Func i = None
+as_global Table i = None
+as_global Memory i = None
+as_global Global i = Some i
+
+-- a function from nothing to nothing
+abbrev pub from_nothing : List ValType → Option ValType → ℕ → Option ℕ
+from_nothing [] None f = Some f
+from_nothing [] (Some t) f = None
+from_nothing (p ∷ ps) result f = None
+
+-- a mutable i32
+abbrev pub mutable_i32 : Bool → ValType → ℕ → Option ℕ
+mutable_i32 true I32 x = Some x
+mutable_i32 true I64 x = None
+mutable_i32 false t x = None
+
+abbrev pub typed_func : Parts → ℕ → Option ℕ
+typed_func m f =
+    option_and_then (λ index. option_and_then (λ t. from_nothing t.params t.result f) (slice_get m.types index)) (slice_get m.funcs f)
+
+abbrev pub typed_global : Parts → ℕ → Option ℕ
+typed_global m x = option_and_then (λ g. mutable_i32 g.mutable g.ty x) (slice_get m.globals x)
+
+-- the index that an export gives out, where it is of the entry's kind and type
+abbrev pub fitting : Entry → Parts → Export → Option ℕ
+fitting entry.Main m e = option_and_then (λ f. typed_func m f) (as_func e.kind e.index)
+fitting entry.Memory m e = as_memory e.kind e.index
+fitting entry.Result m e = option_and_then (λ x. typed_global m x) (as_global e.kind e.index)
+fitting entry.Status m e = option_and_then (λ x. typed_global m x) (as_global e.kind e.index)
+
+-- the index of an entry, where the export of its name is of its kind and type:
+-- `main` a function from nothing to nothing, `memory` a memory, `result` and `status` mutable i32 globals
+abbrev pub index_of : Entry → Parts → Option ℕ
+index_of n m = option_and_then (λ e. fitting n m e) (named (name_of n) m.exports)
+
+abbrev pub or_missing : Entry → Option ℕ → Option Entry → Option Entry
+or_missing n None others = Some n
+or_missing n (Some i) others = others
+
+-- the first entry that is missing
+abbrev pub missing : Parts → Option Entry
+missing m =
+    or_missing entry.Main (index_of entry.Main m)
+    (or_missing entry.Memory (index_of entry.Memory m)
+    (or_missing entry.Result (index_of entry.Result m) (or_missing entry.Status (index_of entry.Status m) None)))
