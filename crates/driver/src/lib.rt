@@ -29,4 +29,3 @@ mod refusal;
 mod top;
 
 pub use top::serve;
-

@@ -8,11 +8,11 @@ ghost use Rattle.enumeration_modules.specs.ModuleTyping.{IsValid};
 ghost use Rattle.enumeration_modules.specs.ShortestBytes.{module_bytes};
 
 use crate::refusal::Refusal;
-use std::alloc::Global;
 use enumeration_modules::{
     DecodeFault, EncodeFault, Ended, Machine, Module, NewFault, RunFault, Valid, Why,
     constructor_module, decode, encode, validate,
 };
+use std::alloc::Global;
 
 /// The most pages of memory, of 65,536 bytes each.
 const PAGES: u32 = 1024;

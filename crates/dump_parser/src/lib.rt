@@ -32,4 +32,3 @@ pub mod tree;
 mod whole;
 
 pub use whole::parse;
-

@@ -151,4 +151,3 @@ pub fn spines()
     ensures of_subst_list { (k : ℕ) (ys : List Term) (f : Term) (xs : List Term) →
         subst_list k ys (apply f xs) ≡ apply (subst_list k ys f) (map (subst_list k ys) xs) }
 {}
-
