@@ -9,6 +9,7 @@ use Rattle.driver.specs.declared.refusal.Refusal.TheVariants as refusals
 use Rattle.driver.specs.declared.command_line.Job.{Job}
 use Rattle.driver.specs.CommandLine.{job_of}
 use Rattle.driver.specs.Lines.{status_of}
+use Rattle.driver.specs.Served.{Seen, IsKept, Served}
 use Rattle.driver.specs.Serve.{Answered, Concludes, IsAnswerOf, IsAsked, IsCause, IsForJob, IsInput, IsJudgedWith, IsOfText, IsRefused, IsSure, IsTextCause, IsTooLong, Says, TakesPrefix, input_limit}
 use Rattle.driver.specs.Texts.{SpellsWithin}
 use Rattle.driver.specs.Answerable.{IsAnswerable}
@@ -82,15 +83,17 @@ of_write_fault (refusals.Broken n p) e = absurd (omega (arith, e))
 abbrev all_statuses : List ℕ
 all_statuses = 0 ∷ 1 ∷ 2 ∷ 3 ∷ 4 ∷ 5 ∷ 6 ∷ 7 ∷ 8 ∷ 9 ∷ []
 
-module _ {V K E : Type 0} (view : V → List ℕ) (status : ℕ) (words : List (List ℕ)) (left : Option (List ℕ)) (before now : ℕ) (out out' : K) (taken taken' : Option (List ℕ)) (faults faults' : ℕ) (err err' : E) (line line' : Option (List ℕ)) (errs errs' : ℕ) where
-  abbrev S : Result V Refusal → Type 0
-  S a = Says view a words left before now
+module _ {V S K E : Type 0} (view : V → List ℕ) (status : ℕ) (words : List (List ℕ)) (src src' : Seen S) (out out' : Seen K) (err err' : Seen E) where
+  -- what a job's result says, before anything is written
+  abbrev Before : Result V Refusal → Type 0
+  Before a = Says view a words src.told src.faults src'.faults
 
-  abbrev C : Result V Refusal → Type 0
-  C a = Concludes view a status out out' taken taken' faults faults' err err' line line' errs errs'
+  -- what is written of it
+  abbrev After : Result V Refusal → Type 0
+  After a = Concludes view a status out.object out'.object out.told out'.told out.faults out'.faults err.object err'.object err.told err'.told err.faults err'.faults
 
   -- What a refusal before anything is written says.
-  says_cause : (r : Refusal) → S (Err r) → IsCause r words left before now faults faults'
+  says_cause : (r : Refusal) → Before (Err r) → IsCause r words src.told src.faults src'.faults out.faults out'.faults
   says_cause refusals.Memory s = s
   says_cause refusals.Usage s = s
   says_cause refusals.ReadFault s = s
@@ -105,10 +108,10 @@ module _ {V K E : Type 0} (view : V → List ℕ) (status : ℕ) (words : List (
   says_cause (refusals.Broken n p) s = s
 
   -- All refusals but usage come of a job.
-  of_job : (r : Refusal) → IsOfText r words left → IsForJob words
+  of_job : (r : Refusal) → IsOfText r words src.told → IsForJob words
   of_job r s = (s.0, s.1)
 
-  says_job : (r : Refusal) → S (Err r) → (r ≡ refusals.Usage) ⊎ IsForJob words
+  says_job : (r : Refusal) → Before (Err r) → (r ≡ refusals.Usage) ⊎ IsForJob words
   says_job refusals.Memory s = inr s
   says_job refusals.Usage s = inl refl
   says_job refusals.ReadFault s = inr s.0
@@ -122,46 +125,46 @@ module _ {V K E : Type 0} (view : V → List ℕ) (status : ℕ) (words : List (
   says_job refusals.TurnsSpent s = inr (of_job refusals.TurnsSpent s)
   says_job (refusals.Broken n p) s = inr (of_job (refusals.Broken n p) s)
 
-  says_no_write_fault : (r : Refusal) → S (Err r) → r ≡ refusals.WriteFault → ⊥
-  says_no_write_fault r s e = subst (λ x. Says {V = V} view (Err x) words left before now) e s
+  says_no_write_fault : (r : Refusal) → Before (Err r) → r ≡ refusals.WriteFault → ⊥
+  says_no_write_fault r s e = subst (λ x. Says {V = V} view (Err x) words src.told src.faults src'.faults) e s
 
-  pub done : (a : Result V Refusal) → S a → C a → status ≡ 0 → (text : List ℕ) × Answered words left text × Appends taken taken' text
+  done : (a : Result V Refusal) → Before a → After a → status ≡ 0 → (text : List ℕ) × Answered words src.told text × Appends out.told out'.told text
   done (Ok v) s c e = (view v, s, (c.whole e).0)
   done (Err r) s c e = absurd (not_zero r (sym c.0 ∙ e))
 
-  pub prefix : (a : Result V Refusal) → S a → C a → status ≡ 4 → (text : List ℕ) × Answered words left text × TakesPrefix taken taken' text
+  prefix : (a : Result V Refusal) → Before a → After a → status ≡ 4 → (text : List ℕ) × Answered words src.told text × TakesPrefix out.told out'.told text
   prefix (Ok v) s c e = let w = c.part (λ z. omega (arith, e, z)) in (view v, s, w.2)
   prefix (Err r) s c e = absurd (says_no_write_fault r s (of_write_fault r (sym c.0 ∙ e)))
 
-  pub nothing_out : (a : Result V Refusal) → S a → C a → status ≢ 0 → status ≢ 4 → out' ≡ out
+  nothing_out : (a : Result V Refusal) → Before a → After a → status ≢ 0 → status ≢ 4 → out'.object ≡ out.object
   nothing_out (Ok v) s c n m = absurd (m (c.part n).0)
   nothing_out (Err r) s c n m = c.1
 
-  pub refused : (a : Result V Refusal) → S a → C a → status ≢ 0 → IsRefused status words left before now faults faults' line line' errs errs'
+  refused : (a : Result V Refusal) → Before a → After a → status ≢ 0 → IsRefused status words src.told src.faults src'.faults out.faults out'.faults err.told err'.told err.faults err'.faults
   refused (Ok v) s c n = let w = c.part n in record { refusal = refusals.WriteFault; status_is = w.0; cause = ((s.job, s.asked), w.1); told = w.3 }
   refused (Err r) s c n = record { refusal = r; status_is = c.0; cause = says_cause r s; told = c.2 }
 
-  pub quiet : (a : Result V Refusal) → S a → C a → status ≡ 0 → err' ≡ err
+  quiet : (a : Result V Refusal) → Before a → After a → status ≡ 0 → err'.object ≡ err.object
   quiet (Ok v) s c e = (c.whole e).1
   quiet (Err r) s c e = absurd (not_zero r (sym c.0 ∙ e))
 
   -- an answer's status is 0 or 4
-  answered : (v : V) → C (Ok v) → (status ≡ 0) ⊎ (status ≡ 4)
+  answered : (v : V) → After (Ok v) → (status ≡ 0) ⊎ (status ≡ 4)
   answered v c = elim (zero_or status) [ inl z ↦ inl z | inr n ↦ inr (c.part n).0 ]
 
-  not_usage : (v : V) → C (Ok v) → status ≡ 2 → ⊥
+  not_usage : (v : V) → After (Ok v) → status ≡ 2 → ⊥
   not_usage v c e = elim (answered v c) [ inl z ↦ omega (arith, e, z) | inr z ↦ omega (arith, e, z) ]
 
-  pub usage : (a : Result V Refusal) → S a → C a → (status ≡ 2) ↔ (job_of words ≡ None)
+  usage : (a : Result V Refusal) → Before a → After a → (status ≡ 2) ↔ (job_of words ≡ None)
   usage (Ok v) s c = ((λ e. absurd (not_usage v c e)), (λ n. absurd (clash words (s.job, s.asked) n)))
   usage (Err r) s c =
-      let asked : r ≡ refusals.Usage → job_of words ≡ None = λ q. subst (λ x. IsCause x words left before now faults faults') q (says_cause r s) in
+      let asked : r ≡ refusals.Usage → job_of words ≡ None = λ q. subst (λ x. IsCause x words src.told src.faults src'.faults out.faults out'.faults) q (says_cause r s) in
       let on : job_of words ≡ None → status ≡ 2 = λ n. elim (says_job r s) [ inl q ↦ c.0 ∙ ap status_of q | inr j ↦ absurd (clash words j n) ] in
       ((λ e. asked (of_usage r (sym c.0 ∙ e))), on)
 
-  pub nothing_read : {X : Type 0} (src src' : X) → (a : Result V Refusal) → S a → C a → IfErr a (λ r. r ≡ refusals.Usage → src' ≡ src) → status ≡ 2 → src' ≡ src
-  nothing_read src src' (Ok v) s c u e = absurd (not_usage v c e)
-  nothing_read src src' (Err r) s c u e = u (of_usage r (sym c.0 ∙ e))
+  nothing_read : (a : Result V Refusal) → Before a → After a → IfErr a (λ r. r ≡ refusals.Usage → src'.object ≡ src.object) → status ≡ 2 → src'.object ≡ src.object
+  nothing_read (Ok v) s c u e = absurd (not_usage v c e)
+  nothing_read (Err r) s c u e = u (of_usage r (sym c.0 ∙ e))
 
   listed : (r : Refusal) → status ≡ status_of r → Contains all_statuses status
   listed refusals.Memory e = (1, lit< tt, sym e)
@@ -177,26 +180,26 @@ module _ {V K E : Type 0} (view : V → List ℕ) (status : ℕ) (words : List (
   listed refusals.TurnsSpent e = (8, lit< tt, sym e)
   listed (refusals.Broken n p) e = (9, lit< tt, sym e)
 
-  pub statuses : (a : Result V Refusal) → S a → C a → Contains all_statuses status
+  statuses : (a : Result V Refusal) → Before a → After a → Contains all_statuses status
   statuses (Ok v) s c = elim (answered v c) [ inl z ↦ (0, lit< tt, sym z) | inr z ↦ (4, lit< tt, sym z) ]
   statuses (Err r) s c = listed r c.0
 
   -- ---- where the source tells its bytes and no count rises
 
-  module _ (job : Job) (bytes : List ℕ) (asked : IsAsked job words left bytes before now) where
+  module _ (job : Job) (bytes : List ℕ) (asked : IsAsked job words src.told bytes src.faults src'.faults) where
     -- what a refusal says of the bytes
     data Told (r : Refusal) : Type 0 where
       OfMemory : r ≡ refusals.Memory → Told r
       OfText : length bytes ≤ input_limit → IsTextCause job r bytes → Told r
       OfLength : r ≡ refusals.InputBytes → input_limit < length bytes → Told r
 
-    of_text : (r : Refusal) → IsOfText r words left → Told r
+    of_text : (r : Refusal) → IsOfText r words src.told → Told r
     of_text r (other, e, (found, input, cause)) =
-        let (same, short) = input-is left found bytes input asked.bytes_are in
+        let (same, short) = input-is src.told found bytes input asked.bytes_are in
         let one : other ≡ job = one_job words other job e asked.words_are in
         OfText (subst (λ b. length b ≤ input_limit) same short) (subst (λ j. IsTextCause j r bytes) one (subst (λ b. IsTextCause other r b) same cause))
 
-    told : (r : Refusal) → S (Err r) → Told r
+    told : (r : Refusal) → Before (Err r) → Told r
     told refusals.Memory s = OfMemory refl
     told refusals.Usage s = absurd (clash words (job, asked.words_are) s)
     told refusals.ReadFault s = absurd (asked.no_fault s.1)
@@ -205,24 +208,24 @@ module _ {V K E : Type 0} (view : V → List ℕ) (status : ℕ) (words : List (
     told (refusals.Unsupported w o) s = of_text (refusals.Unsupported w o) s
     told refusals.Form s = of_text refusals.Form s
     told (refusals.Limit l) s = of_text (refusals.Limit l) s
-    told refusals.InputBytes s = OfLength refl (long-is left bytes s.1 asked.bytes_are)
+    told refusals.InputBytes s = OfLength refl (long-is src.told bytes s.1 asked.bytes_are)
     told refusals.Depth s = of_text refusals.Depth s
     told refusals.TurnsSpent s = of_text refusals.TurnsSpent s
     told (refusals.Broken n p) s = of_text (refusals.Broken n p) s
 
     -- the answer is that of the bytes told
-    answer_of : (v : V) → S (Ok v) → (length bytes ≤ input_limit) × IsAnswerOf job bytes (view v)
+    answer_of : (v : V) → Before (Ok v) → (length bytes ≤ input_limit) × IsAnswerOf job bytes (view v)
     answer_of v s =
-        let (same, short) = input-is left s.bytes bytes s.input asked.bytes_are in
+        let (same, short) = input-is src.told s.bytes bytes s.input asked.bytes_are in
         let one : s.job ≡ job = one_job words s.job job s.asked asked.words_are in (
           subst (λ b. length b ≤ input_limit) same short,
           subst (λ j. IsAnswerOf j bytes (view v)) one (subst (λ b. IsAnswerOf s.job b (view v)) same s.answer),
         )
 
-    pub judged : (a : Result V Refusal) → S a → C a → (wanted : ℕ) → length bytes ≤ input_limit → IsJudgedWith job wanted bytes → ¬ Rose faults faults' → (status ≡ wanted) ⊎ (status ≡ 1)
+    judged : (a : Result V Refusal) → Before a → After a → (wanted : ℕ) → length bytes ≤ input_limit → IsJudgedWith job wanted bytes → (wanted ≡ 0 → ¬ Rose out.faults out'.faults) → (status ≡ wanted) ⊎ (status ≡ 1)
     judged (Ok v) s c wanted short h calm =
         let zero = judged_answer job bytes (view v) wanted h (answer_of v s).1 in
-        elim (zero_or status) [ inl z ↦ inl (z ∙ sym zero) | inr n ↦ absurd (calm (c.part n).1) ]
+        elim (zero_or status) [ inl z ↦ inl (z ∙ sym zero) | inr n ↦ absurd (calm zero (c.part n).1) ]
     judged (Err r) s c wanted short h calm =
         elim (told r s) [
           | OfMemory q ↦ inr (c.0 ∙ ap status_of q)
@@ -230,10 +233,10 @@ module _ {V K E : Type 0} (view : V → List ℕ) (status : ℕ) (words : List (
           | OfLength q long ↦ absurd (omega (arith, long, short))
         ]
 
-    pub complete : (a : Result V Refusal) → S a → C a → (e : RawEnv) → length bytes ≤ input_limit → SpellsWithin bytes e → IsAnswerable e → ¬ Rose faults faults' → (status ≡ 0) ⊎ (status ≡ 1)
-    complete a s c e short spelled h calm = judged a s c 0 short (e, spelled, answerable_taken job e h, answerable_ends e h) calm
+    complete : (a : Result V Refusal) → Before a → After a → (e : RawEnv) → length bytes ≤ input_limit → SpellsWithin bytes e → IsAnswerable e → ¬ Rose out.faults out'.faults → (status ≡ 0) ⊎ (status ≡ 1)
+    complete a s c e short spelled h calm = judged a s c 0 short (e, spelled, answerable_taken job e h, answerable_ends e h) (λ _. calm)
 
-    pub refuses_text : (a : Result V Refusal) → S a → C a → (r : Refusal) → length bytes ≤ input_limit → IsTextCause job r bytes → IsSure r → (status ≡ status_of r) ⊎ (status ≡ 1)
+    refuses_text : (a : Result V Refusal) → Before a → After a → (r : Refusal) → length bytes ≤ input_limit → IsTextCause job r bytes → IsSure r → (status ≡ status_of r) ⊎ (status ≡ 1)
     refuses_text (Ok v) s c r short cause sure = absurd (no_cause_of_answers job bytes (view v) r (answer_of v s).1 cause sure)
     refuses_text (Err q) s c r short cause sure =
         elim (told q s) [
@@ -242,7 +245,7 @@ module _ {V K E : Type 0} (view : V → List ℕ) (status : ℕ) (words : List (
           | OfLength e long ↦ absurd (omega (arith, long, short))
         ]
 
-    pub refuses_length : (a : Result V Refusal) → S a → C a → input_limit < length bytes → (status ≡ 7) ⊎ (status ≡ 1)
+    refuses_length : (a : Result V Refusal) → Before a → After a → input_limit < length bytes → (status ≡ 7) ⊎ (status ≡ 1)
     refuses_length (Ok v) s c long = let told = (answer_of v s).0 in absurd (omega (arith, told, long))
     refuses_length (Err r) s c long =
         elim (told r s) [
@@ -250,3 +253,23 @@ module _ {V K E : Type 0} (view : V → List ℕ) (status : ℕ) (words : List (
           | OfText few cause ↦ absurd (omega (arith, long, few))
           | OfLength e far ↦ inl (c.0 ∙ ap status_of e)
         ]
+
+  -- ---- all of it together
+
+  pub served : (a : Result V Refusal) → Before a → After a → IfErr a (λ r. r ≡ refusals.Usage → src'.object ≡ src.object) → IsKept src src' → IsKept out out' → IsKept err err' → Served status words src src' out out' err err'
+  served a s c unread kept kept' kept'' = record {
+    done = done a s c;
+    statuses = statuses a s c;
+    refused = refused a s c;
+    usage = usage a s c;
+    nothing_read = nothing_read a s c unread;
+    prefix = prefix a s c;
+    judged = λ job bytes wanted asked short h calm. judged job bytes asked a s c wanted short h calm;
+    complete = λ job bytes e asked short spelled h calm. complete job bytes asked a s c e short spelled h calm;
+    refuses_text = λ job bytes r asked short cause sure. refuses_text job bytes asked a s c r short cause sure;
+    refuses_length = λ job bytes asked long. refuses_length job bytes asked a s c long;
+    nothing_out = nothing_out a s c;
+    quiet = quiet a s c;
+    source = kept;
+    sinks = (kept', kept'');
+  }

@@ -5,3 +5,4 @@ pub mod Texts
 pub mod Lines
 pub mod CommandLine
 pub mod Serve
+pub mod Served

@@ -1,6 +1,7 @@
 //! The line of a refusal on err.
 
 ghost use Rattle.std.specs.Prelude.{◌≡◌, ◌∷◌, ◌++◌, []};
+ghost use Rattle.kio.specs.Known.{StillTells};
 ghost use Rattle.driver.specs.Lines.{line_of, number_text};
 ghost use Rattle.driver.specs.Serve.{TakesLine};
 
@@ -18,6 +19,7 @@ fn write_parts<E: Sink>(
     end: &[u8],
 ) -> Result<(), WriteFault>
     ensures line { TakesLine (E.taken err.old) (E.taken err.new) (E.faults err.old) (E.faults err.new) (front.now ++ (digits.now ++ (place.now ++ (name.now ++ end.now)))) }
+    ensures tells { StillTells (E.taken err.old) (E.taken err.new) }
 {
     write_all(err, front)?;
     write_all(err, digits)?;
@@ -29,6 +31,7 @@ fn write_parts<E: Sink>(
 /// Writes the refusal's line, as far as err takes it. It takes no memory.
 pub(crate) fn write_line<E: Sink>(err: &mut E, refusal: &Refusal)
     ensures line { TakesLine (E.taken err.old) (E.taken err.new) (E.faults err.old) (E.faults err.new) (line_of refusal.now) }
+    ensures tells { StillTells (E.taken err.old) (E.taken err.new) }
 {
     let mut buffer = Buffer::new();
     let digits = match number(refusal) {

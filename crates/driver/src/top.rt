@@ -3,12 +3,14 @@
 ghost use Rattle.std.specs.Prelude.{◌≡◌, ◌≢◌, ◌↔◌, ◌⊎◌, ◌<◌, ◌≤◌, ℕ, List, [], ◌∷◌, length, Contains, IfErr, None};
 ghost use Rattle.std.specs.Io.KnownBytes.{Appends};
 ghost use Rattle.kio.specs.Causes.{Rose};
+ghost use Rattle.kio.specs.Known.{StillTells};
 ghost use Rattle.dump_reader.specs.declared.environment.RawEnv.{RawEnv};
 ghost use Rattle.driver.specs.CommandLine.{job_of, words_of};
 ghost use Rattle.driver.specs.Lines.{status_of, line_of};
 ghost use Rattle.driver.specs.declared.command_line.Job.{Job as Asked};
 ghost use Rattle.driver.specs.Answerable.{IsAnswerable};
 ghost use Rattle.driver.specs.Texts.{SpellsWithin};
+ghost use Rattle.driver.specs.Served.{Served};
 ghost use Rattle.driver.specs.Serve.{Answered, Concludes, IsAsked, IsJudgedWith, IsRefused, IsSure, IsTextCause, JobSays, ReadSays, Says, TakesLine, TakesPrefix, input_limit};
 
 use crate::check::check;
@@ -26,6 +28,7 @@ const INPUT_BYTES: usize = 16_777_216;
 fn read_input<S: Source>(alloc: Global, src: &mut S) -> Result<Vec<u8>, Refusal>
     ensures says { ReadSays (λ v. v.items) result (S.left src.old) (S.faults src.old) (S.faults src.new) }
     ensures later { S.faults src.old ≤ S.faults src.new }
+    ensures tells { StillTells (S.left src.old) (S.left src.new) }
 {
     match read_all(alloc, src, INPUT_BYTES) {
         Ok(bytes) => Ok(bytes),
@@ -50,6 +53,7 @@ fn answer<S: Source>(alloc: Global, words: &Vec<String>, src: &mut S) -> Result<
     ensures says { Says (λ v. v.items) result (words_of words.now) (S.left src.old) (S.faults src.old) (S.faults src.new) }
     ensures unread { IfErr result (λ r. r ≡ Refusal.Usage → src.new ≡ src.old) }
     ensures later { S.faults src.old ≤ S.faults src.new }
+    ensures tells { StillTells (S.left src.old) (S.left src.new) }
 {
     match read_words(words) {
         None => Err(Refusal::Usage),
@@ -64,6 +68,7 @@ fn answer<S: Source>(alloc: Global, words: &Vec<String>, src: &mut S) -> Result<
 fn refuse<E: Sink>(err: &mut E, refusal: Refusal) -> u8
     ensures status { result ≡ status_of refusal }
     ensures line { TakesLine (E.taken err.old) (E.taken err.new) (E.faults err.old) (E.faults err.new) (line_of refusal) }
+    ensures tells { StillTells (E.taken err.old) (E.taken err.new) }
 {
     write_line(err, &refusal);
     status(&refusal)
@@ -72,6 +77,8 @@ fn refuse<E: Sink>(err: &mut E, refusal: Refusal) -> u8
 /// Writes the text of the answer to out, or the refusal's line to err, and gives the status.
 fn conclude<K: Sink, E: Sink>(out: &mut K, err: &mut E, answered: Result<Vec<u8>, Refusal>) -> u8
     ensures concludes { Concludes (λ v. v.items) answered result out.old out.new (K.taken out.old) (K.taken out.new) (K.faults out.old) (K.faults out.new) err.old err.new (E.taken err.old) (E.taken err.new) (E.faults err.old) (E.faults err.new) }
+    ensures tells { StillTells (K.taken out.old) (K.taken out.new) × StillTells (E.taken err.old) (E.taken err.new) }
+    ensures counts { (K.faults out.old ≤ K.faults out.new) × (E.faults err.old ≤ E.faults err.new) }
 {
     match answered {
         Ok(text) => match write_all(out, text.as_slice()) {
@@ -80,6 +87,20 @@ fn conclude<K: Sink, E: Sink>(out: &mut K, err: &mut E, answered: Result<Vec<u8>
         },
         Err(refusal) => refuse(err, refusal),
     }
+}
+
+/// What `serve` does, with all that it promises in one record.
+fn serve_whole<S: Source, K: Sink, E: Sink>(
+    alloc: Global,
+    words: &Vec<String>,
+    src: &mut S,
+    out: &mut K,
+    err: &mut E,
+) -> u8
+    ensures served { Served result (words_of words.now) (record { object = src.old; told = S.left src.old; faults = S.faults src.old }) (record { object = src.new; told = S.left src.new; faults = S.faults src.new }) (record { object = out.old; told = K.taken out.old; faults = K.faults out.old }) (record { object = out.new; told = K.taken out.new; faults = K.faults out.new }) (record { object = err.old; told = E.taken err.old; faults = E.faults err.old }) (record { object = err.new; told = E.taken err.new; faults = E.faults err.new }) }
+{
+    let answered = answer(alloc, words, src);
+    conclude(out, err, answered)
 }
 
 /// Does the job that the words after the program's name ask for, and answers the program's status.
@@ -111,8 +132,8 @@ pub fn serve<S: Source, K: Sink, E: Sink>(
     ensures nothing_read { result ≡ 2 → src.new ≡ src.old }
     ensures prefix { result ≡ 4 → (text : List ℕ) × Answered (words_of words.now) (S.left src.old) text × TakesPrefix (K.taken out.old) (K.taken out.new) text }
 
-    // Where no count rises and the rules pass no limit, want of memory is the only other answer.
-    ensures judged { (job : Asked) (bytes : List ℕ) (status : ℕ) → IsAsked job (words_of words.now) (S.left src.old) bytes (S.faults src.old) (S.faults src.new) → length bytes ≤ input_limit → IsJudgedWith job status bytes → ¬ Rose (K.faults out.old) (K.faults out.new) → (result ≡ status) ⊎ (result ≡ 1) }
+    // Where the source's count doesn't rise, nor out's where something is written, and the rules pass no limit, want of memory is the only other answer.
+    ensures judged { (job : Asked) (bytes : List ℕ) (status : ℕ) → IsAsked job (words_of words.now) (S.left src.old) bytes (S.faults src.old) (S.faults src.new) → length bytes ≤ input_limit → IsJudgedWith job status bytes → (status ≡ 0 → ¬ Rose (K.faults out.old) (K.faults out.new)) → (result ≡ status) ⊎ (result ≡ 1) }
     ensures complete { (job : Asked) (bytes : List ℕ) (e : RawEnv) → IsAsked job (words_of words.now) (S.left src.old) bytes (S.faults src.old) (S.faults src.new) → length bytes ≤ input_limit → SpellsWithin bytes e → IsAnswerable e → ¬ Rose (K.faults out.old) (K.faults out.new) → (result ≡ 0) ⊎ (result ≡ 1) }
     ensures refuses_text { (job : Asked) (bytes : List ℕ) (r : Refusal) → IsAsked job (words_of words.now) (S.left src.old) bytes (S.faults src.old) (S.faults src.new) → length bytes ≤ input_limit → IsTextCause job r bytes → IsSure r → (result ≡ status_of r) ⊎ (result ≡ 1) }
     ensures refuses_length { (job : Asked) (bytes : List ℕ) → IsAsked job (words_of words.now) (S.left src.old) bytes (S.faults src.old) (S.faults src.new) → input_limit < length bytes → (result ≡ 7) ⊎ (result ≡ 1) }
@@ -120,8 +141,9 @@ pub fn serve<S: Source, K: Sink, E: Sink>(
     // What is left behind.
     ensures nothing_out { result ≢ 0 → result ≢ 4 → out.new ≡ out.old }
     ensures quiet { result ≡ 0 → err.new ≡ err.old }
-    ensures counts { S.faults src.old ≤ S.faults src.new }
+    // No count falls, and each object tells its bytes where it did.
+    ensures counts { (S.faults src.old ≤ S.faults src.new) × (K.faults out.old ≤ K.faults out.new) × (E.faults err.old ≤ E.faults err.new) }
+    ensures tells { StillTells (S.left src.old) (S.left src.new) × StillTells (K.taken out.old) (K.taken out.new) × StillTells (E.taken err.old) (E.taken err.new) }
 {
-    let answered = answer(alloc, words, src);
-    conclude(out, err, answered)
+    serve_whole(alloc, words, src, out, err)
 }
