@@ -1,5 +1,4 @@
 pub mod Listing
-pub mod Collected
 pub mod Parts
 pub mod Defaults
 pub mod Comparing

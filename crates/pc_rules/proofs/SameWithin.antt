@@ -1,5 +1,5 @@
--- Runs that are the same where fewer than n units are left, and that never go back on units.
-use Rattle.std.proofs.Common.{◌≡◌, ℕ, zero, suc, ◌<◌, ◌-◌, Bool, true, false, ◌||◌, refl, sym, ap, ◌∙◌, subst, arith}
+-- Runs that are the same where fewer than n units are left, and that never go back on units there.
+use Rattle.std.proofs.Common.{◌≡◌, ℕ, zero, suc, ◌<◌, ◌-◌, Bool, true, false, if◌then◌else◌, ◌||◌, refl, sym, ap, ◌∙◌, subst, arith}
 use Rattle.pc_rules.specs.declared.meter.Account.{Account}
 use Rattle.pc_rules.specs.DirectedRun.{Run, End, Done, Refused, NoUnit, Nested, done, passing, paid, ticking, ticked, end_then, deep_then, bind}
 use Rattle.pc_rules.specs.DirectedLaws.{Leaves}
@@ -11,6 +11,11 @@ pub record Agrees {A : Type 0} (n : ℕ) (f g : Account → Run A) : Type 0 wher
 
 pub agrees_none : {A : Type 0} (f g : Account → Run A) → Agrees zero f g
 agrees_none f g = record { same = λ u l. absurd (omega arith); falls = λ u l. absurd (omega arith) }
+
+pub agrees_if : {A : Type 0} {n : ℕ} (b : Bool) (f f' g g' : Account → Run A) → Agrees n f f' → Agrees n g g' →
+    Agrees n (λ u. if b then f u else g u) (λ u. if b then f' u else g' u)
+agrees_if true f f' g g' p q = p
+agrees_if false f f' g g' p q = q
 
 pub agrees_done : {A : Type 0} (n : ℕ) (a : A) → Agrees n (λ u. done a u) (λ u. done a u)
 agrees_done n a = record { same = λ u l. refl; falls = λ u l. omega arith }
