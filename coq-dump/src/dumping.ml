@@ -13,12 +13,17 @@ let comment c =
   let axioms = if !Options.opaque_axioms then "; opaque proofs other than its own are axioms" else "" in
   Printf.sprintf "%s, from Coq %s%s%s" (atom (Constant.to_string c)) Coq_config.version reduced axioms
 
+let is_monomorphic constant =
+  match constant.Declarations.const_universes with Declarations.Monomorphic -> true | Declarations.Polymorphic _ -> false
+
+let has_body constant =
+  match constant.Declarations.const_body with Declarations.Def _ | Declarations.OpaqueDef _ -> true | _ -> false
+
 (* The closure of the constant as text, given piece by piece. *)
 let dump put env c main =
   let constant = Environ.lookup_constant c env in
-  (match constant.Declarations.const_universes with
-   | Declarations.Polymorphic _ -> refuse "%s: it is universe polymorphic itself: dump a monomorphic instance" (Constant.to_string c)
-   | Declarations.Monomorphic -> ());
+  if not (is_monomorphic constant) then
+    refuse "%s: it is universe polymorphic itself: dump a monomorphic instance" (Constant.to_string c);
   Guarding.contractions := 0;
   let closure = Closure.start env (Constant.canonical c) in
   let main = match main with
@@ -69,12 +74,11 @@ let try_dump reference file =
    | e when CErrors.noncritical e -> Printf.printf "failed %s: %s\n" name (Pp.string_of_ppcmds (CErrors.print e)));
   flush stdout
 
-(* The full names of all constants of the loaded files that have a body, one a line. *)
+(* The full names of all monomorphic constants of the loaded files that have a body, one a line. *)
 let write_names file =
   let names put =
     Environ.fold_constants (fun c constant () ->
-      match constant.Declarations.const_body with
-      | Declarations.Def _ | Declarations.OpaqueDef _ ->
-        (try put (Libnames.string_of_path (Nametab.path_of_global (GlobRef.ConstRef c)) ^ "\n") with Not_found -> ())
-      | _ -> ()) (Global.env ()) () in
+      if is_monomorphic constant && has_body constant then
+        try put (Libnames.string_of_path (Nametab.path_of_global (GlobRef.ConstRef c)) ^ "\n") with Not_found -> ())
+      (Global.env ()) () in
   or_error (fun () -> to_file file names)
