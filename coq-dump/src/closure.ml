@@ -1,0 +1,138 @@
+(* The transitive closure of a constant: what its dump declares, in the order of dependency. *)
+open Names
+open Constr
+open Declarations
+open Textname
+
+(* A universe polymorphic constant or block is declared once for each instance of its universes. *)
+type declaration =
+  | Constant of { constant : Constant.t; instance : Univ.Instance.t; ty : constr; body : constr option }
+  | Block of { block : MutInd.t; instance : Univ.Instance.t }
+
+type t = {
+  env : Environ.env;
+  root : KerName.t;                              (* the dumped constant, which keeps its body whatever the options say *)
+  copies : Block.copies;
+  mutable declarations : declaration list;       (* the newest first *)
+  constants : (string, string) Hashtbl.t;        (* the key of a canonical name and an instance, and the name in the dump *)
+  blocks : (string, string) Hashtbl.t;
+  entered : (string, unit) Hashtbl.t;
+  taken : taken;
+  mutable templates : MutInd.t list;             (* the newest first *)
+}
+
+let start env root =
+  { env; root; copies = Block.no_copies (); declarations = []; constants = Hashtbl.create 97; blocks = Hashtbl.create 97;
+    entered = Hashtbl.create 97; taken = Hashtbl.create 97; templates = [] }
+
+let key name instance =
+  if Univ.Instance.is_empty instance then KerName.to_string name
+  else
+    let levels = Array.to_list (Univ.Instance.to_array instance) in
+    KerName.to_string name ^ "@" ^ String.concat "," (List.map Univ.Level.to_string levels)
+
+(* A name that a module alias or an Include made stands for its canonical one, where that is there. *)
+let canonical_constant env c =
+  let c' = Constant.make1 (Constant.canonical c) in
+  if Environ.mem_constant c' env then c' else c
+
+let canonical_block env m =
+  let m' = MutInd.make1 (MutInd.canonical m) in
+  if Environ.mem_mind m' env then m' else m
+
+let constant_name closure c u = Hashtbl.find closure.constants (key (Constant.canonical c) u)
+let block_name closure m u = Hashtbl.find closure.blocks (key (MutInd.canonical m) u)
+
+let opaque_body name constant =
+  match Global.body_of_constant_body Library.indirect_accessor constant with
+  | Some (_, Opaqueproof.PrivatePolymorphic context, _) when not (Univ.ContextSet.is_empty context) ->
+    refuse "%s: private universes of an opaque polymorphic proof" name
+  | Some (body, _, _) -> body
+  | None -> refuse "%s: an opaque proof that can't be read" name
+
+let body_of closure c constant u =
+  let name = Constant.to_string c in
+  let instantiated body = Block.simple (Vars.subst_instance_constr u body) in
+  let body = match constant.const_body with
+    | Undef _ -> None
+    | Primitive _ -> refuse "%s: a primitive operation" name
+    | Def body -> Some (instantiated body)
+    | OpaqueDef _ when !Options.opaque_axioms && not (KerName.equal closure.root (Constant.canonical c)) -> None
+    | OpaqueDef _ -> Some (instantiated (opaque_body name constant)) in
+  if not !Options.reduce_fixpoints then body
+  else Option.map (Guarding.for_written_guard closure.env ~unfolds:!Options.unfold_constants) body
+
+let type_of constant u = Block.simple (Vars.subst_instance_constr u constant.const_type)
+
+let check_sort where = function
+  | Sorts.SProp -> refuse "%s: SProp" where
+  | _ -> ()
+
+let rec visit closure where t =
+  match kind t with
+  | Rel _ -> ()
+  | Var id -> refuse "%s: a section variable, %s" where (Id.to_string id)
+  | Meta _ | Evar _ -> refuse "%s: an existential variable" where
+  | Sort s -> check_sort where s
+  | Cast (c, _, _) -> visit closure where c
+  | Const (c, u) -> visit_constant closure c u
+  | Ind ((m, _), u) | Construct (((m, _), _), u) -> visit_block closure m u
+  | Case (ci, u, params, (_, ret), inversion, scrutinee, branches) ->
+    (match inversion with NoInvert -> () | CaseInvert _ -> refuse "%s: a match that inverts a family in SProp" where);
+    visit_block closure (fst ci.ci_ind) u;
+    Array.iter (visit closure where) params;
+    visit closure where ret;
+    visit closure where scrutinee;
+    Array.iter (fun (_, body) -> visit closure where body) branches
+  | Proj (p, _) -> refuse "%s: the primitive projection %s" where (Projection.to_string p)
+  | CoFix _ -> refuse "%s: a cofixpoint" where
+  | Int _ -> refuse "%s: a primitive integer" where
+  | Float _ -> refuse "%s: a primitive float" where
+  | Array _ -> refuse "%s: a primitive array" where
+  | Fix _ | Prod _ | Lambda _ | LetIn _ | App _ -> Constr.iter (visit closure where) t
+
+and visit_constant closure c u =
+  let c = canonical_constant closure.env c in
+  let key = key (Constant.canonical c) u in
+  if not (Hashtbl.mem closure.constants key) then begin
+    let where = Constant.to_string c in
+    if Hashtbl.mem closure.entered key then refuse "%s: it is part of its own closure" where;
+    Hashtbl.add closure.entered key ();
+    let constant = try Environ.lookup_constant c closure.env with Not_found -> refuse "%s: no such constant" where in
+    if constant.const_hyps <> [] then refuse "%s: it stands on section variables: close the section first" where;
+    if Environ.is_primitive_type closure.env c then refuse "%s: a primitive type" where;
+    let ty = type_of constant u in
+    let body = body_of closure c constant u in
+    visit closure where ty;
+    Option.iter (visit closure where) body;
+    Hashtbl.add closure.constants key (fresh closure.taken (KerName.to_string (Constant.user c)));
+    closure.declarations <- Constant { constant = c; instance = u; ty; body } :: closure.declarations
+  end
+
+and visit_block closure m u =
+  let m = canonical_block closure.env m in
+  let key = key (MutInd.canonical m) u in
+  if not (Hashtbl.mem closure.entered key) then begin
+    Hashtbl.add closure.entered key ();
+    let where = MutInd.to_string m in
+    let block = Block.at closure.copies closure.env m u in
+    if block.mind_hyps <> [] then refuse "%s: it stands on section variables: close the section first" where;
+    if block.mind_finite = CoFinite then refuse "%s: a coinductive type" where;
+    (match block.mind_record with PrimRecord _ -> refuse "%s: a record with primitive projections" where | _ -> ());
+    if block.mind_variance <> None then refuse "%s: a cumulative inductive type" where;
+    if block.mind_template <> None then closure.templates <- m :: closure.templates;
+    Array.iteri (visit_family closure where block) block.mind_packets;
+    Hashtbl.add closure.blocks key (fresh closure.taken (KerName.to_string (MutInd.user m)));
+    closure.declarations <- Block { block = m; instance = u } :: closure.declarations
+  end
+
+and visit_family closure where block place family =
+  check_sort where (Block.sort_of_family family);
+  let visit_all = List.iter (fun (_, ty) -> visit closure where ty) in
+  let params, indices = Block.family_parts block place in
+  visit_all params;
+  visit_all indices;
+  Array.iteri (fun i _ ->
+    let args, result = Block.constructor_parts block place i in
+    visit_all args;
+    List.iter (visit closure where) result) family.mind_nf_lc

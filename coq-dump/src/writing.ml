@@ -1,0 +1,127 @@
+(* Writing a closure in the dump format. Terms are walked twice: once to meet the levels, which stand first in the text, and once to write them. *)
+open Constr
+open Declarations
+open Textname
+
+type sink = { put : string -> unit; levels : Levels.t; closure : Closure.t }
+
+let print sink fmt = Printf.ksprintf sink.put fmt
+
+let separated sink items write = List.iter (fun item -> sink.put " "; write item) items
+
+(* The parts of a universe that say something: every level is at least 1, so Set + 0 and Set + 1 say nothing beside another level. *)
+let parts_of sink u =
+  let parts = List.map (fun (l, n) -> Levels.name_of sink.levels l, n) (Univ.Universe.repr u) in
+  let others = List.filter (fun (l, _) -> l <> "Set") parts in
+  let high = List.fold_left (fun high (_, n) -> max high n) (-1) others in
+  let parts = List.filter (fun (l, n) -> l <> "Set" || others = [] || n > high + 1) parts in
+  let parts = List.sort_uniq Stdlib.compare parts in
+  List.filter (fun (l, n) -> not (List.exists (fun (l', n') -> l = l' && n' > n) parts)) parts
+
+let sort sink = function
+  | Sorts.SProp -> refuse "SProp"
+  | Sorts.Prop -> sink.put "Prop"
+  | Sorts.Set -> sink.put "Set"
+  | Sorts.Type u ->
+    (match parts_of sink u with
+     | ["Set", 0] -> sink.put "Set"
+     | parts -> sink.put "(Type"; separated sink parts (fun (l, n) -> print sink "(%s %d)" l n); sink.put ")")
+
+(* A match with its binders written out, where its family has lets in telescopes. *)
+let without_lets closure case =
+  let ci, _, _, (names, ret), _, _, branches = case in
+  let family = (Environ.lookup_mind (fst ci.ci_ind) closure.Closure.env).mind_packets.(snd ci.ci_ind) in
+  let has_lets = Block.has_lets family.mind_arity_ctxt || Array.exists (fun (context, _) -> Block.has_lets context) family.mind_nf_lc in
+  if not has_lets then
+    (Array.to_list names, ret), Array.map (fun (names, body) -> Array.to_list names, body) branches
+  else
+    let _, full_ret, _, _, full_branches = Inductive.expand_case closure.Closure.env case in
+    let opened n t = let entries, rest = Block.telescope n t in List.map fst entries, rest in
+    opened (Array.length names) full_ret, Array.mapi (fun i body -> opened (Array.length (fst branches.(i))) body) full_branches
+
+let rec term sink t =
+  match kind t with
+  | Rel n -> print sink "(tRel %d)" (n - 1)
+  | Sort s -> sink.put "(tSort "; sort sink s; sink.put ")"
+  | Cast (c, _, _) -> term sink c
+  | Prod (na, a, b) -> binder_form sink "tProd" na [a; b]
+  | Lambda (na, a, b) -> binder_form sink "tLambda" na [a; b]
+  | LetIn (na, v, a, b) -> binder_form sink "tLetIn" na [v; a; b]
+  | App (f, args) -> sink.put "(tApp "; term sink f; separated sink (Array.to_list args) (term sink); sink.put ")"
+  | Const (c, u) -> print sink "(tConst %s)" (Closure.constant_name sink.closure c u)
+  | Ind ((m, i), u) -> print sink "(tInd %s %d)" (Closure.block_name sink.closure m u) i
+  | Construct (((m, i), j), u) -> print sink "(tConstruct %s %d %d)" (Closure.block_name sink.closure m u) i (j - 1)
+  | Case (ci, u, params, (names, ret), inversion, scrutinee, branches) ->
+    case sink (ci, u, params, (names, ret), inversion, scrutinee, branches)
+  | Fix ((places, i), (names, types, bodies)) ->
+    sink.put "(tFix (";
+    Array.iteri (fun k na ->
+      if k > 0 then sink.put " ";
+      print sink "(def %s " (binder na);
+      term sink types.(k); sink.put " "; term sink bodies.(k);
+      print sink " %d)" places.(k)) names;
+    print sink ") %d)" i
+  | _ -> refuse "a term that the format leaves out"
+
+and binder_form sink word na parts =
+  print sink "(%s %s" word (binder na);
+  separated sink parts (term sink);
+  sink.put ")"
+
+and case sink ((ci, u, params, _, _, scrutinee, _) as whole) =
+  let names_of names = String.concat " " (List.map binder names) in
+  let (names, ret), branches = without_lets sink.closure whole in
+  print sink "(tCase (%s %d) (params" (Closure.block_name sink.closure (fst ci.ci_ind) u) (snd ci.ci_ind);
+  separated sink (Array.to_list params) (term sink);
+  print sink ") (pred (%s) " (names_of names);
+  term sink ret; sink.put ") "; term sink scrutinee;
+  Array.iter (fun (names, body) -> print sink " (br (%s) " (names_of names); term sink body; sink.put ")") branches;
+  sink.put ")"
+
+let telescope sink entries =
+  List.iter (fun (na, ty) -> print sink " (%s " (binder na); term sink ty; sink.put ")") entries
+
+let constructor sink block place i name =
+  let args, result = Block.constructor_parts block place i in
+  print sink "\n    (ctor %s (args" (atom (Names.Id.to_string name));
+  telescope sink args;
+  sink.put ") (result"; separated sink result (term sink); sink.put "))"
+
+let family sink block place family =
+  print sink "\n  (family %s (sort " (atom (Names.Id.to_string family.mind_typename));
+  sort sink (Block.sort_of_family family);
+  sink.put ") (indices";
+  telescope sink (snd (Block.family_parts block place));
+  sink.put ")";
+  Array.iteri (constructor sink block place) family.mind_consnames;
+  sink.put ")"
+
+let declaration sink = function
+  | Closure.Constant { constant; instance; ty; body } ->
+    print sink "(ConstantDecl %s " (Closure.constant_name sink.closure constant instance);
+    term sink ty; sink.put " ";
+    (match body with None -> sink.put "None" | Some body -> term sink body);
+    sink.put ")\n"
+  | Closure.Block { block = m; instance } ->
+    let block = Block.at sink.closure.Closure.copies sink.closure.Closure.env m instance in
+    print sink "(InductiveDecl %s (params" (Closure.block_name sink.closure m instance);
+    telescope sink (fst (Block.family_parts block 0));
+    sink.put ")";
+    Array.iteri (family sink block) block.mind_packets;
+    sink.put ")\n"
+
+let body sink closure main =
+  List.iter (declaration sink) (List.rev closure.Closure.declarations);
+  sink.put "(main "; term sink main; sink.put "))\n"
+
+(* Writes the environment with its head comment. *)
+let environment put closure levels ~comment main =
+  body { put = ignore; levels; closure } closure main;
+  let sink = { put; levels; closure } in
+  print sink "; %s\n(env 1 (levels" comment;
+  let constraints = Levels.constraints levels in
+  separated sink (Levels.listed levels) sink.put;
+  sink.put ")\n(constraints";
+  separated sink constraints (fun (word, a, b) -> print sink "(%s %s %s)" word a b);
+  sink.put ")\n";
+  body sink closure main
