@@ -5,6 +5,7 @@ use Rattle.std.proofs.Math.Seq.{take-append-add}
 use Rattle.std.proofs.lemmas.List.{append_assoc, length-append, take-append-le}
 use Rattle.std.specs.Io.KnownBytes.{Appends}
 use Rattle.kio.specs.Causes.{Rose, HasCause}
+use Rattle.kio.specs.Known.{StillTells}
 use Rattle.kio.specs.declared.WriteFault.{WriteFault}
 use Rattle.driver.specs.Serve.{TakesLine}
 
@@ -45,3 +46,17 @@ line_stops a b m n p xs ys few h l rose = record {
 pub line_ends : (a b : Option (List ℕ)) (m n : ℕ) (xs : List ℕ) (r : Result (Unit {0}) WriteFault) → OnOk r (Appends a b xs) → IfErr r (λ f. (f.written ≤ length xs) × Appends a b (take f.written xs)) → HasCause m n r → TakesLine a b m n xs
 line_ends a b m n xs (Ok u) whole part cause = record { count = cause.later; line_or_prefix = inl whole }
 line_ends a b m n xs (Err f) whole part cause = record { count = cause.later; line_or_prefix = inr (cause.failed, (f.written, part.0, part.1)) }
+
+-- An object that tells its bytes after two calls in a row where it did before.
+pub tells_then : (a b c : Option (List ℕ)) → StillTells a b → StillTells b c → StillTells a c
+tells_then None None None h k = tt
+tells_then (Some x) (Some y) (Some z) h k = tt
+tells_then None (Some y) c h k = absurd h
+tells_then (Some x) None c h k = absurd h
+tells_then None None (Some z) h k = absurd k
+tells_then (Some x) (Some y) None h k = absurd k
+
+-- One that no call touches does.
+pub tells_same : (a : Option (List ℕ)) → StillTells a a
+tells_same None = tt
+tells_same (Some x) = tt

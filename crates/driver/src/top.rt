@@ -75,6 +75,7 @@ fn refuse<E: Sink>(err: &mut E, refusal: Refusal) -> u8
 }
 
 /// Writes the text of the answer to out, or the refusal's line to err, and gives the status.
+#[tactic(auto, using(crate::proofs::Lines::tells_same))]
 fn conclude<K: Sink, E: Sink>(out: &mut K, err: &mut E, answered: Result<Vec<u8>, Refusal>) -> u8
     ensures concludes { Concludes (λ v. v.items) answered result out.old out.new (K.taken out.old) (K.taken out.new) (K.faults out.old) (K.faults out.new) err.old err.new (E.taken err.old) (E.taken err.new) (E.faults err.old) (E.faults err.new) }
     ensures tells { StillTells (K.taken out.old) (K.taken out.new) × StillTells (E.taken err.old) (E.taken err.new) }

@@ -1,0 +1,14 @@
+-- All that the top call promises, by one lemma from its two halves.
+use Rattle.driver.proofs.Serving.{served}
+use Rattle.driver.proofs.top.serve_whole.Goals as goal
+
+pub returns : goal.returns
+returns g c =
+    let a = c.answer-answered.ensures in
+    let e = c.conclude.ensures in
+    record {
+      served = served (λ v. v.items) _ _ _ _ _ _ _ _ c.answer-answered.result a.says e.concludes a.unread
+          (record { count = a.later; tells = a.tells })
+          (record { count = e.counts.0; tells = e.tells.0 })
+          (record { count = e.counts.1; tells = e.tells.1 });
+    }
