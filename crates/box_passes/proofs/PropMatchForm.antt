@@ -18,7 +18,7 @@ use Rattle.lambda_box.specs.SaturatedForm.{nodes_of_constants}
 use Rattle.lambda_box.specs.OrdinaryForm.{propositional_of, IsOrdinary, AreOrdinary}
 use Rattle.box_passes.specs.PropMatch.{only_branch, match_of, drop_matches, drop_matches_terms, drop_matches_constant, PropMatchForm, PropMatchSizes, PropMatchProgramSizes}
 use Rattle.lambda_box.proofs.Naming.{ordered_body}
-use Rattle.lambda_box.proofs.Every.{every_substitute}
+use Rattle.trees.proofs.Every.{every_substitute}
 use Rattle.lambda_box.proofs.Spines.{boxes_number}
 use Rattle.lambda_box.proofs.Families.{has_map}
 use Rattle.lambda_box.proofs.Families.{of_has_map, distinct_mapped}
