@@ -8,3 +8,6 @@ pub mod ToAnfKeeps
 pub mod TermForm
 pub mod Preorder
 pub mod BoxForms
+pub mod View
+pub mod ProgramView
+pub mod Converted

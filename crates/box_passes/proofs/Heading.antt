@@ -11,7 +11,7 @@ use Rattle.box_terms.specs.declared.term.BoxDef.{BoxDef}
 use Rattle.lambda_box.specs.BoxProgram.{BoxFamily, BoxConstant, BoxProgram, Has, here, there, box_apply}
 use Rattle.lambda_box.specs.OrdinaryForm.{family_of}
 use Rattle.box_passes.specs.Saturate.{innermost, lambdas, constructor_function, saturate_family, saturate_applied, saturate_terms, saturate_term}
-use Rattle.box_passes.specs.Heads.{counts_in, spare_of, head_of, spare, applied, head, heads}
+use Rattle.box_passes.specs.Heads.{arity_in, spare_of, head_of, spare, applied, head, heads}
 use Rattle.box_passes.specs.Maps.{map_branch, map_def, AreDeep, AreShallow, deep_body}
 use Rattle.box_passes.specs.PassResults.{IsDeep, deep_main, deep_constant}
 use Rattle.std.proofs.lemmas.List.{reverse-append}
@@ -34,11 +34,11 @@ counted_is true p n f c xs = refl
 counted_is false p n f c xs = refl
 
 construct_is : (o : Option BoxFamily) (f : FamilyId) (c : ℕ) (xs : List BoxTerm) →
-    saturate_family o f c xs ≡ box_apply (head_of (counts_in o c) f c (length xs)) (drop (spare_of (counts_in o c) (length xs)) xs)
+    saturate_family o f c xs ≡ box_apply (head_of (arity_in o c) f c (length xs)) (drop (spare_of (arity_in o c) (length xs)) xs)
 construct_is None f c xs = refl
 construct_is (Some F) f c xs = go (slice_get F.args c) refl
   where
-    go : (o : Option ℕ) → slice_get F.args c ≡ o → saturate_family (Some F) f c xs ≡ box_apply (head_of (counts_in (Some F) c) f c (length xs)) (drop (spare_of (counts_in (Some F) c) (length xs)) xs)
+    go : (o : Option ℕ) → slice_get F.args c ≡ o → saturate_family (Some F) f c xs ≡ box_apply (head_of (arity_in (Some F) c) f c (length xs)) (drop (spare_of (arity_in (Some F) c) (length xs)) xs)
     go None e = rw e refl
     go (Some n) e = rw e (counted_is (nat_le (F.params + n) (length xs)) F.params n f c xs)
 

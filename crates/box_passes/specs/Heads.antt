@@ -7,34 +7,34 @@ use Rattle.pc_terms.specs.BoxSyntax.{BoxTerm, BoxTerms, Box, BLambda, BLetIn, BA
 use Rattle.lambda_box.specs.BoxProgram.{BoxFamily}
 use Rattle.lambda_box.specs.OrdinaryForm.{family_of}
 use Rattle.box_passes.specs.Saturate.{constructor_function}
-use Rattle.box_passes.specs.declared.families.Counts.{Counts}
+use Rattle.box_passes.specs.declared.families.Arity.{Arity}
 
 -- the counts of a constructor
-abbrev pub counts_with : ℕ → Option ℕ → Option Counts
-counts_with p None = None
-counts_with p (Some n) = Some (record { params = p; args = n })
+abbrev pub arity_with : ℕ → Option ℕ → Option Arity
+arity_with p None = None
+arity_with p (Some n) = Some (record { params = p; args = n })
 
-abbrev pub counts_in : Option BoxFamily → ℕ → Option Counts
-counts_in None c = None
-counts_in (Some F) c = counts_with F.params (slice_get F.args c)
+abbrev pub arity_in : Option BoxFamily → ℕ → Option Arity
+arity_in None c = None
+arity_in (Some F) c = arity_with F.params (slice_get F.args c)
 
-abbrev pub counts_of : List BoxFamily → FamilyId → ℕ → Option Counts
-counts_of Fs f c = counts_in (family_of Fs f) c
+abbrev pub arity_of : List BoxFamily → FamilyId → ℕ → Option Arity
+arity_of Fs f c = arity_in (family_of Fs f) c
 
 -- how many of n arguments a constructor drops
-abbrev pub spare_of : Option Counts → ℕ → ℕ
+abbrev pub spare_of : Option Arity → ℕ → ℕ
 spare_of None n = 0
 spare_of (Some k) n = if nat_le (k.params + k.args) n then k.params else 0
 
 -- what it becomes
-abbrev pub head_of : Option Counts → FamilyId → ℕ → ℕ → BoxTerm
+abbrev pub head_of : Option Arity → FamilyId → ℕ → ℕ → BoxTerm
 head_of None f c n = BConstruct f c
 head_of (Some k) f c n = if nat_le (k.params + k.args) n then BConstruct f c else constructor_function k.params k.args f c
 
 -- how many of n arguments a term drops
 abbrev pub spare : List BoxFamily → BoxTerm → ℕ → ℕ
 spare Fs (BApp f a) n = spare Fs f (n + 1) - 1
-spare Fs (BConstruct f c) n = spare_of (counts_of Fs f c) n
+spare Fs (BConstruct f c) n = spare_of (arity_of Fs f c) n
 spare Fs t n = 0
 
 -- a head with one more argument, or without it
@@ -51,7 +51,7 @@ abbrev mutual
   head Fs (BLetIn b t) n = BLetIn (head Fs b 0) (head Fs t 0)
   head Fs (BApp f a) n = applied (spare Fs f (n + 1)) (head Fs f (n + 1)) (head Fs a 0)
   head Fs (BConst k) n = BConst k
-  head Fs (BConstruct f c) n = head_of (counts_of Fs f c) f c n
+  head Fs (BConstruct f c) n = head_of (arity_of Fs f c) f c n
   head Fs (BCase f s bs) n = BCase f (head Fs s 0) (heads Fs bs)
   head Fs (BFix i rargs bodies) n = BFix i rargs (heads Fs bodies)
 

@@ -20,13 +20,17 @@ KeepsData P Q =
     (us : List BoxTerm) (args : List Data) → DataTerms P us args → (w : BoxTerm) (d : Data) (n m : ℕ) → BoxEvaluates P (box_apply P.main us) w n m → BoxReads P w d →
     DataTerms Q us args × EvaluatesTo Q (box_apply Q.main us) d n
 
+-- dropping the matches on its propositional families makes no term deeper
+abbrev pub NoDeeper : BoxProgram → Type 0
+NoDeeper P = (t : BoxTerm) → depth (drop_matches P.families t) ≤ depth t
+
 pub record PropMatched (P Q : BoxProgram) : Type 0 where
   pub is : Q ≡ prop_match_program P
   pub form : IsBoxProgram P → IsBoxProgram Q × IsOrdinaryProgram Q
   pub data_kept : IsBoxProgram P → KeepsData P Q
   pub nodes_kept : program_nodes Q ≤ program_nodes P
   pub words_kept : greatest_words Q ≤ greatest_words P
-  pub no_deeper : (t : BoxTerm) → depth (drop_matches P.families t) ≤ depth t
+  pub no_deeper : NoDeeper P
 
 -- where main, applied to data terms, evaluates to data, so does the other main, applied to the same terms without their parameters
 abbrev pub KeepsBareData : BoxProgram → BoxProgram → Type 0
@@ -40,15 +44,23 @@ RunsForData P Q =
     (us : List BoxTerm) (args : List Data) → DataTerms P us args → (w : BoxTerm) (d : Data) (n m : ℕ) → BoxEvaluates P (box_apply P.main us) w n m → BoxReads P w d →
     (vs : Values) × ValuesHold vs args × RunsTo Q (bind_all vs Empty) (box_apply Q.main (innermost (length us))) d n
 
+-- at most 3 * K + 1 nodes for each of the program's, K being the greatest number of parameters and arguments, together, of a constructor
+abbrev pub IsAtMostSaturated : BoxProgram → BoxProgram → Type 0
+IsAtMostSaturated P Q = program_nodes Q ≤ program_nodes P * (3 * greatest_counts P.families + 1)
+
+-- where main evaluates to data with n nodes, the saturated main gives it in both evaluations, with counts that n bounds
+abbrev pub HasCountedRuns : BoxProgram → Type 0
+HasCountedRuns P = (w : BoxTerm) (d : Data) (n m : ℕ) → BoxEvaluates P P.main w n m → BoxReads P w d → CountedRun P d n
+
 -- the saturated program: it is determined, has the form of programs and is saturated; and where main evaluates to data with n nodes, so does its
 -- main, in both evaluations, with counts that n bounds
 pub record Saturated (P Q : BoxProgram) : Type 0 where
   pub is : Q ≡ saturate_program P
   pub form : IsBoxProgram P → IsBoxProgram Q × IsSaturated Q
-  pub size : IsBoxProgram P → program_nodes Q ≤ program_nodes P * (3 * greatest_counts P.families + 1)
+  pub size : IsBoxProgram P → IsAtMostSaturated P Q
   pub data_kept : IsBoxProgram P → KeepsBareData P Q
   pub runs : IsBoxProgram P → RunsForData P Q
-  pub counted : IsBoxProgram P → (w : BoxTerm) (d : Data) (n m : ℕ) → BoxEvaluates P P.main w n m → BoxReads P w d → CountedRun P d n
+  pub counted : IsBoxProgram P → HasCountedRuns P
 
 -- a term of the program is over the depth limit
 pub data IsDeep (P : BoxProgram) : Type 0 where

@@ -3,19 +3,20 @@ ghost use Rattle.std.specs.Prelude.{◌≡◌, IfOk, IfErr, map};
 ghost use Rattle.lambda_box.specs.OrdinaryForm.{propositional_of};
 ghost use Rattle.lambda_box.specs.OrdinaryForm.{family_of};
 ghost use Rattle.box_passes.specs.Saturate.{without_parameters};
-ghost use Rattle.box_passes.specs.Heads.{counts_of};
-ghost use Rattle.box_passes.specs.declared.fault.PassFault.TheVariants.{Memory};
+ghost use Rattle.box_passes.specs.Heads.{arity_of};
+ghost use Rattle.lambda_box.specs.declared.fault.PassFault.TheVariants.{Memory};
 
-use crate::fault::PassFault;
-use box_terms::program::{BoxFamilies, BoxFamily};
+use box_terms::program::{copied_numbers, BoxFamilies, BoxFamily};
+use lambda_box::PassFault;
 use pc_terms::leaf::FamilyId;
-use pc_terms::lists::Numbers;
 use std::alloc::Global;
 
 /// How many parameters and arguments a constructor has.
 #[derive(Clone, Copy, Debug, PartialEq, Eq)]
-pub struct Counts {
+pub(crate) struct Arity {
+    /// How many parameters, which stand before the arguments.
     pub params: u32,
+    /// How many arguments.
     pub args: u32,
 }
 
@@ -32,13 +33,13 @@ pub(crate) fn propositional(fs: &BoxFamilies, f: FamilyId) -> bool
 }
 
 /// The counts of a constructor; none where the list has no such family or the family no such constructor.
-pub(crate) fn counts_at(fs: &BoxFamilies, f: FamilyId, c: u32) -> Option<Counts>
-    ensures is { result ≡ counts_of fs.now f c }
+pub(crate) fn arity_at(fs: &BoxFamilies, f: FamilyId, c: u32) -> Option<Arity>
+    ensures is { result ≡ arity_of fs.now f c }
 {
     for g in fs.as_slice() {
         if g.id == f {
             return match g.args.as_slice().get(c as usize) {
-                Some(n) => Some(Counts {
+                Some(n) => Some(Arity {
                     params: g.params,
                     args: *n,
                 }),
@@ -49,43 +50,6 @@ pub(crate) fn counts_at(fs: &BoxFamilies, f: FamilyId, c: u32) -> Option<Counts>
     None
 }
 
-// A copy of a list of numbers. Only `Memory`.
-#[tactic(auto, using(std::proofs::lemmas::Grind::common_steps))]
-fn numbers(alloc: Global, xs: &Numbers) -> Result<Numbers, PassFault>
-    ensures ok { IfOk result (λ ys. ys ≡ xs.now) }
-    ensures only_memory { IfErr result (λ e. e ≡ Memory) }
-{
-    let mut items = Vec::new(alloc);
-    for n in xs.as_slice() {
-        if items.push(*n).is_err() {
-            return Err(PassFault::Memory);
-        }
-    }
-    Ok(Numbers::of(items))
-}
-
-/// A copy of the families. Only `Memory`.
-#[tactic(auto, using(std::proofs::lemmas::Grind::common_steps))]
-pub(crate) fn copied(alloc: Global, fs: &BoxFamilies) -> Result<BoxFamilies, PassFault>
-    ensures ok { IfOk result (λ gs. gs ≡ fs.now) }
-    ensures only_memory { IfErr result (λ e. e ≡ Memory) }
-{
-    let mut items = Vec::new(alloc);
-    for f in fs.as_slice() {
-        let args = numbers(alloc, &f.args)?;
-        let copy = BoxFamily {
-            id: f.id,
-            propositional: f.propositional,
-            params: f.params,
-            args,
-        };
-        if items.push(copy).is_err() {
-            return Err(PassFault::Memory);
-        }
-    }
-    Ok(BoxFamilies::of(items))
-}
-
 /// The families with no parameters. Only `Memory`.
 #[tactic(auto, using(std::proofs::lemmas::Grind::common_steps))]
 pub(crate) fn bare(alloc: Global, fs: &BoxFamilies) -> Result<BoxFamilies, PassFault>
@@ -94,7 +58,9 @@ pub(crate) fn bare(alloc: Global, fs: &BoxFamilies) -> Result<BoxFamilies, PassF
 {
     let mut items = Vec::new(alloc);
     for f in fs.as_slice() {
-        let args = numbers(alloc, &f.args)?;
+        let Ok(args) = copied_numbers(alloc, &f.args) else {
+            return Err(PassFault::Memory);
+        };
         let copy = BoxFamily {
             id: f.id,
             propositional: f.propositional,
