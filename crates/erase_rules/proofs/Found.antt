@@ -1,6 +1,5 @@
 -- What the test of erasable terms says where it finds no evidence.
-use Rattle.std.proofs.Common.{◌≡◌, ◌≢◌, ℕ, zero, suc, ◌==◌, ◌⊎◌, inl, inr, Bool, true, false, if◌then◌else◌, List, [], ◌∷◌, length, Option, Some, None, slice_get, refl, sym, ap, ◌∙◌, subst, arith}
-use Rattle.std.proofs.lemmas.Bool.{eqb-true}
+use Rattle.std.proofs.Common.{◌≡◌, ◌≢◌, ℕ, zero, suc, inl, inr, Bool, true, false, if◌then◌else◌, List, [], ◌∷◌, Option, Some, None, slice_get, refl, sym, ap, ◌∙◌, subst, arith}
 use Rattle.universe_levels.specs.declared.level.LevelExpr.{LevelExpr}
 use Rattle.universe_levels.specs.declared.sort.Sort.{Sort}
 use Rattle.universe_levels.specs.declared.sort.Sort.TheVariants.{Prop, Of}
@@ -8,29 +7,25 @@ use Rattle.universe_levels.specs.Sorts.{super_sort, product_sort}
 use Rattle.pc_terms.specs.declared.leaf.FamilyId.{FamilyId}
 use Rattle.pc_terms.specs.Syntax.{Term, Terms, Rel, SortT, Prod, Ind, Construct, Case}
 use Rattle.pc_rules.specs.declared.declaration.Constructor.{Constructor}
-use Rattle.pc_rules.specs.declared.declaration.Family.{Family}
 use Rattle.pc_rules.specs.declared.declaration.Block.{Block}
-use Rattle.pc_rules.specs.declared.declaration.Kept.{Kept}
-use Rattle.pc_rules.specs.declared.declaration.Kept.TheVariants.{Constant, Heads, Block as Whole}
 use Rattle.pc_rules.specs.declared.evidence.Evidence.{Evidence}
 use Rattle.pc_rules.specs.declared.evidence.Evidence.TheVariants.{PropConstructor}
 use Rattle.pc_rules.specs.declared.entry.Entry.TheVariants.{Assumed}
-use Rattle.pc_rules.specs.declared.broken.Broken.TheVariants.{ElimNotAllowed}
 use Rattle.pc_rules.specs.declared.meter.Account.{Account}
-use Rattle.pc_rules.specs.Environment.{Env, FamilyDecl, family_at}
+use Rattle.pc_rules.specs.Environment.{Env, FamilyDecl}
 use Rattle.pc_rules.specs.Context.{Context, values, extend}
 use Rattle.pc_rules.specs.Instances.{products, family_type, constructor_type, predicate_entries, predicate_at}
-use Rattle.pc_rules.specs.Elimination.{AllProp, IsSingle, MayEliminate, MayErase}
+use Rattle.pc_rules.specs.Elimination.{MayEliminate, MayErase}
 use Rattle.pc_rules.specs.DirectedRun as run
-use Rattle.pc_rules.specs.DirectedRun.{Run, done, make, made, no_unit, passing, any_beyond, bind, noted, ticked, too_nested}
-use Rattle.pc_rules.specs.DirectedWeakHead.{if_some, weak_next, kept_at, known_block, whole_block, family_of}
+use Rattle.pc_rules.specs.DirectedRun.{Run, done, make, made, no_unit, any_beyond, bind, noted, ticked, too_nested}
+use Rattle.pc_rules.specs.DirectedWeakHead.{weak_next, kept_at, known_block, whole_block, family_of}
 use Rattle.pc_rules.specs.DirectedComparison.{Test, Comparison, compare, list_of}
-use Rattle.pc_rules.specs.DirectedTyping.{Typing, rule, rule_number, infer, sort_of, sorts_of, levels_declared, undeclared_in, raises_past, find_family, constructor_number, match_counted, check_all, all_prop, few_constructors, is_single, may_eliminate, eliminated, predicate_rule, scrutinee_rule, branches_rule}
+use Rattle.pc_rules.specs.DirectedTyping.{Typing, rule, rule_number, infer, sort_of, sorts_of, levels_declared, undeclared_in, raises_past, find_family, constructor_number, match_counted, check_all, eliminated, predicate_rule, scrutinee_rule, branches_rule}
 use Rattle.pc_rules.specs.DirectedErasable.{is_prop, Ending, ending_on, end_of, ends_in_sort, arity_found, type_test, numbered_test, constructor_test, match_sort, match_test}
-use Rattle.pc_rules.proofs.WeakNext.{none_some, kept_is, both_true}
+use Rattle.pc_rules.proofs.WeakNext.{none_some}
 use Rattle.pc_rules.proofs.Spines.{one_item}
 use Rattle.pc_rules.proofs.SameTrees.{false_true}
-use Rattle.rule_laws.proofs.Runs.{bind_both, ticking_done, tested, refused_done, nested_done, done_value, pass_then}
+use Rattle.rule_laws.proofs.Runs.{bind_both, ticking_done, refused_done, nested_done, done_value, pass_then}
 use Rattle.rule_laws.proofs.SimpleRules.{whole_family, some_none}
 use Rattle.rule_laws.proofs.MatchRule.{eliminated_is}
 use Rattle.agreeing.proofs.Unique.{one_result}

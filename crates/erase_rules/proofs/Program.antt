@@ -14,11 +14,10 @@ use Rattle.pc_rules.specs.declared.broken.Place.{Place}
 use Rattle.pc_rules.specs.declared.broken.Place.TheVariants.{Declaration as AtDeclaration, Main as AtMain}
 use Rattle.pc_rules.specs.declared.meter.Account.{Account}
 use Rattle.pc_rules.specs.Environment as source
-use Rattle.pc_rules.specs.Environment.{Env, FamilyDecl, KeepsFamily, name_of, family_at, with_parameters}
+use Rattle.pc_rules.specs.Environment.{Env, FamilyDecl, KeepsFamily}
 use Rattle.pc_rules.specs.Typing.{guarded, Types}
 use Rattle.pc_rules.specs.Accepted.{IsAccepted, Accepted, empty, constant, block}
 use Rattle.pc_rules.specs.DirectedRun as run
-use Rattle.pc_rules.specs.DirectedRun.{Run}
 use Rattle.pc_rules.specs.DirectedComparison.{Test, IsTest}
 use Rattle.pc_rules.specs.DirectedTyping.{Typing, infer}
 use Rattle.pc_rules.specs.WellCounted.{IsCounted, HasCountedDeclarations}

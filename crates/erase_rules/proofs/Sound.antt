@@ -12,7 +12,7 @@ use Rattle.pc_rules.specs.Context.{Context, extend}
 use Rattle.pc_rules.specs.Instances.{branch_entries, definitions}
 use Rattle.pc_rules.specs.declared.evidence.Evidence.{Evidence}
 use Rattle.pc_rules.specs.DirectedRun as run
-use Rattle.pc_rules.specs.DirectedRun.{Run, done, passing, any_beyond, bind}
+use Rattle.pc_rules.specs.DirectedRun.{Run, done, any_beyond, bind}
 use Rattle.pc_rules.specs.DirectedWeakHead.{family_of}
 use Rattle.pc_rules.specs.DirectedComparison.{Test, IsTest, list_of, lifted_types}
 use Rattle.pc_rules.specs.DirectedTyping.{infer}
