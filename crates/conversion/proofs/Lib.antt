@@ -3,4 +3,3 @@ pub mod Parts
 pub mod Defaults
 pub mod Comparing
 pub mod Sound
-pub mod Stepping
