@@ -1,5 +1,5 @@
 -- What terms are found to be does not depend on more steps than there are units.
-use Rattle.std.proofs.Common.{◌≡◌, ℕ, zero, suc, ◌≤◌, Option, Some, None, List, refl, sym, ap, ◌∙◌, slice_get, arith}
+use Rattle.std.proofs.Common.{◌≡◌, ℕ, zero, suc, ◌≤◌, ◌||◌, Option, Some, None, List, refl, sym, ap, ◌∙◌, slice_get, arith}
 use Rattle.pc_terms.specs.declared.leaf.Name.{Name}
 use Rattle.pc_terms.specs.Syntax.{Term, Terms, Done, Next, Rel, SortT, Prod, Lambda, LetIn, App, Const, Ind, Construct, Case, Fix}
 use Rattle.pc_rules.specs.declared.declaration.Constructor.{Constructor}

@@ -1,5 +1,5 @@
 -- How answers follow what terms are found to be.
-use Rattle.std.proofs.Common.{◌≡◌, ◌∙◌, sym, ap, refl, subst, ℕ, zero, suc, Some, None, List, [], ◌∷◌, ◌++◌, map, Result, Ok, Err, slice_get, option_map}
+use Rattle.std.proofs.Common.{◌≡◌, ◌∙◌, sym, ap, refl, subst, ℕ, zero, suc, Option, Some, None, List, [], ◌∷◌, ◌++◌, map, Result, Ok, Err, slice_get, option_map}
 use Rattle.pc_terms.specs.Syntax.{Term}
 use Rattle.pc_rules.specs.declared.meter.Account.{Account}
 use Rattle.pc_rules.specs.declared.meter.Meter.{Meter}
@@ -10,8 +10,8 @@ use Rattle.pc_rules.specs.declared.stop.Stop.TheVariants.{Memory}
 use Rattle.pc_rules.specs.Environment.{Env}
 use Rattle.pc_rules.specs.Context.{Values}
 use Rattle.pc_rules.specs.Guardedness.{Mark, Recursive, Argument, Smaller, Other, Marks}
-use Rattle.pc_rules.specs.DirectedRun.{Run, done, bind}
-use Rattle.pc_rules.specs.DirectedWeakHead.{weak_next, whnf}
+use Rattle.pc_rules.specs.DirectedRun.{Run, Done, done, bind, ticked}
+use Rattle.pc_rules.specs.DirectedWeakHead.{weak_next, steps, whnf}
 use Rattle.pc_rules.specs.DirectedGuard.{if_smaller, find, smaller_argument, call_argument, call_rule}
 use Rattle.pc_rules.specs.Follows.{Follows}
 use Rattle.pc_rules.proofs.Following.{follows_bind, follows_err, follows_done, follows_refused, follows_memory}

@@ -15,6 +15,7 @@ use Rattle.pc_rules.specs.declared.declaration.Block.{Block}
 use Rattle.pc_rules.specs.declared.declaration.Kept.{Kept}
 use Rattle.pc_rules.specs.declared.declaration.Kept.TheVariants.{Constant, Heads, Block as Whole}
 use Rattle.pc_rules.specs.declared.entry.Entry.TheVariants.{Assumed}
+use Rattle.pc_rules.specs.declared.broken.Broken.{Broken}
 use Rattle.pc_rules.specs.declared.broken.Broken.TheVariants.{LevelUndeclared, UniverseCycle, NotPositive, SortTooSmall, DuplicateName}
 use Rattle.pc_rules.specs.declared.broken.Place.{Place}
 use Rattle.pc_rules.specs.declared.broken.Place.TheVariants.{Level as AtLevel, Constraint as AtConstraint, Declaration as AtDeclaration, Main as AtMain}
