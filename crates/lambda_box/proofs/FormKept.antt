@@ -1,5 +1,5 @@
 -- The form of box programs is kept by evaluation: the value of a closed term of the form is one.
-use Rattle.std.proofs.Common.{◌≡◌, ℕ, zero, suc, ◌+◌, ◌≤◌, List, [], ◌∷◌, ◌++◌, length, Some, refl, sym, ap, ◌∙◌, subst, arith}
+use Rattle.std.proofs.Common.{◌≡◌, ℕ, zero, suc, ◌+◌, ◌≤◌, List, [], ◌∷◌, ◌++◌, length, Some, sym, ◌∙◌, subst, arith}
 use Rattle.trees.specs.Tree.{Slot, Rel, Node, Places, End, Child, Group, Done, Next, term_at}
 use Rattle.trees.specs.Parallel.{up, ups, rename, rename_children, rename_terms, over, overs, substitute, substitute_children, substitute_terms, first, put_all}
 use Rattle.trees.specs.Closed.{Closed, ClosedTerms, ClosedEach}
@@ -10,7 +10,7 @@ use Rattle.lambda_box.specs.BoxProgram.{BoxConstant, BoxFamily, BoxProgram, Has,
 use Rattle.lambda_box.specs.BoxEvaluation.{is_box_constructor, BoxUnfolds, unfolds, box_unfolded, BoxEvaluates, value, constant, let_in, beta, box_app, extend, unfold_fix, enter, enter_only}
 use Rattle.lambda_box.specs.BoxForm.{IsFixBody, boxed, last, more, AreFixBodies, FormAt, HasBoxForm, HasBoxFormChildren, HasBoxFormTerms, IsBoxBody}
 use Rattle.lambda_box.specs.Laws.{ValuesHaveForm}
-use Rattle.lambda_box.proofs.Spines.{one_item}
+use Rattle.lambda_box.proofs.Spines.{one_item, boxes_number, fixpoints_number}
 use Rattle.lambda_box.proofs.Naming.{named_put_list, named_at, EachNamed, ordered_body}
 
 -- definitions of fixpoints
@@ -164,25 +164,17 @@ module _ (P : BoxProgram) where
   each_box zero = tt
   each_box (suc n) = (record { closed = tt; form = (tt, tt); named = (tt, tt) }, each_box n)
 
-  boxes_length : (n : ℕ) → length (boxes n) ≡ n
-  boxes_length zero = refl
-  boxes_length (suc n) = ap suc (boxes_length n)
-
   each_fixpoint : (i n k : ℕ) (rargs : List ℕ) (bodies : BoxTerms) → Body (BFix k rargs bodies) → i + n ≤ length rargs → EachBody (box_fixpoints i n rargs bodies)
   each_fixpoint i zero k rargs bodies h l = tt
   each_fixpoint i (suc n) k rargs bodies h l =
       (record { closed = h.closed; form = ((omega arith, h.form.0.1), h.form.1); named = h.named }, each_fixpoint (suc i) n k rargs bodies h (omega arith))
-
-  fixpoints_length : (i n : ℕ) (rargs : List ℕ) (bodies : BoxTerms) → length (box_fixpoints i n rargs bodies) ≡ n
-  fixpoints_length i zero rargs bodies = refl
-  fixpoints_length i (suc n) rargs bodies = ap suc (fixpoints_length (suc i) n rargs bodies)
 
   body_unfolds : {g v u : BoxTerm} → BoxUnfolds g v u → Body g → Body v → Body u
   body_unfolds {g} {v} (unfolds i rargs bodies xs {body = t} r l b e) hg hv =
       let parts = of_body_apply xs (BFix i rargs bodies) (subst Body e hg) in
       let h = parts.0 in
       let body = body_put_all (box_fixpoints 0 (length rargs) rargs bodies) t (each_fixpoint 0 (length rargs) i rargs bodies h (omega arith))
-      (subst (λ n. Closed n t) (sym (fixpoints_length 0 (length rargs) rargs bodies)) (closed_term_at bodies i (length rargs) t h.closed.0 b))
+      (subst (λ n. Closed n t) (sym (fixpoints_number 0 (length rargs) rargs bodies)) (closed_term_at bodies i (length rargs) t h.closed.0 b))
       (form_term_at bodies i (length rargs) t h.form.1.0 b) (named_at P bodies i (length rargs) t h.named.1.0 b) in
       let whole = body_apply xs (box_unfolded rargs bodies t) body parts.1 in
       record { closed = (whole.closed, (hv.closed, tt)); form = (tt, (whole.form, (hv.form, tt))); named = (tt, (whole.named, (hv.named, tt))) }
@@ -213,7 +205,7 @@ module _ (P : BoxProgram) where
       (body_put_all xs t parts (closed_term_at bs c (length xs) t h.closed.1.0 b) (form_term_at bs c (length xs) t h.form.1.1.0 b) (named_at P bs c (length xs) t h.named.1.1.0 b))
   value_body H (enter_only {k = n} {body = t} k p e e') h =
       value_body H e'
-      (body_put_all (boxes n) t (each_box n) (subst (λ n. Closed n t) (sym (boxes_length n)) (closed_at t (omega arith) h.closed.1.0.0)) h.form.1.1.0.0 h.named.1.1.0.0)
+      (body_put_all (boxes n) t (each_box n) (subst (λ n. Closed n t) (sym (boxes_number n)) (closed_at t (omega arith) h.closed.1.0.0)) h.form.1.1.0.0 h.named.1.1.0.0)
 
 pub values_have_form : ValuesHaveForm
 values_have_form P h t w n m e b = value_body P (λ d k. ordered_body P.families P.constants h.constants d k) e b
