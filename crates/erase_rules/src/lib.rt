@@ -2,18 +2,18 @@
 //! functions give.
 //!
 //! The definitions: `specs/DirectedErasure.antt`, of a term (the test stands before each former; box where there is evidence); and
-//! `specs/DirectedProgram.antt`, of a whole environment: main, then the constants that are reached, from the latest declared to the earliest, the
-//! families with their counts, the first declared constant without a body that is reached, and the place of each refusal.
+//! `specs/DirectedProgram.antt`, of a whole environment: main, then the constants that are reached, from the latest declared to the
+//! earliest, the families with their counts, the first declared constant without a body that is reached, and the place of each refusal.
 //!
-//! Each function has no result but its clauses, which are statements of `specs/Laws.antt`. What is promised of a term (`directed_erasure_is_erasure`): it is an
-//! erasure of its source (`sound`) and no greater (`sizes`), and a term without evidence has a former after erasure (`formers`). Of a program
-//! (`directed_programs_are_erased`): it is erased from its environment (`programs`), has the form of box programs (`form`, and `checked` after the
-//! directed check of the environment), no more nodes than the source (`sizes`), and a constant that is named for having no body has none (`axioms`). It keeps values
-//! (`directed_programs_keep_values`). What erasure ends with depends neither on units nor on room (`directed_erasure_agrees`), and more units change no
-//! answer (`directed_erasure_is_steady`).
+//! Each function has no result but its clauses, which are statements of `specs/Laws.antt`. What is promised of a term
+//! (`directed_erasure_is_erasure`): it is an erasure of its source (`sound`) and no greater (`sizes`), and a term without evidence has a
+//! former after erasure (`formers`). Of a program (`directed_programs_are_erased`): it is erased from its environment (`programs`), has the
+//! form of box programs (`form`, and `checked` after the directed check of the environment), no more nodes than the source (`sizes`), and a
+//! constant that is named for having no body has none (`axioms`). It keeps values (`directed_programs_keep_values`). What erasure ends with
+//! depends neither on units nor on room (`directed_erasure_agrees`), and more units change no answer (`directed_erasure_is_steady`).
 //!
-//! Below stand `rule_laws` and `agreeing` (what the directed rules mean, and that any two runs agree), `lambda_box` and `erase_laws` (the language after erasure,
-//! the erasure relation with its laws); above stands the crate that erases.
+//! Below stand `rule_laws` and `agreeing` (what the directed rules mean, and that any two runs agree), `lambda_box` and `erase_laws` (the
+//! language after erasure, the erasure relation with its laws); above stands the crate that erases.
 #![tactic(auto)]
 
 ghost use Rattle.erase_rules.specs.Laws.{
