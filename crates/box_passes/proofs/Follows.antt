@@ -1,0 +1,788 @@
+-- Evaluation with environments of a saturated program follows evaluation by substitution of the program before.
+use Rattle.std.proofs.Common.{◌≡◌, ℕ, zero, suc, ◌+◌, ◌*◌, ◌<◌, ◌≤◌, List, [], ◌∷◌, ◌++◌, length, true, Some, refl, sym, ap, ◌∙◌, subst, ⊎_elim, arith, length-append}
+use Rattle.std.proofs.lemmas.Bool.{cases_lt}
+use Rattle.std.specs.Prelude.{slice_get}
+use Rattle.trees.specs.Tree.{Rel, Done, Next, term_at}
+use Rattle.trees.specs.Parallel.{put, put_all, substitute}
+use Rattle.trees.specs.Closed.{Closed}
+use Rattle.pc_terms.specs.declared.leaf.Name.{Name}
+use Rattle.pc_terms.specs.declared.leaf.FamilyId.{FamilyId}
+use Rattle.pc_terms.specs.BoxSyntax.{BoxTerm, BoxTerms, Box, BLambda, BApp, BConstruct, BCase, BFix}
+use Rattle.lambda_box.specs.BoxProgram.{BoxFamily, BoxProgram, Has, KeepsBoxConstant, KeepsBoxFamily, box_apply, boxes}
+use Rattle.lambda_box.specs.BoxForm.{IsFixBody, boxed, last, more}
+use Rattle.lambda_box.specs.BoxEvaluation.{box_is, IsBoxConstructor, is_box_constructor, BoxTakesMore, constructor, fixpoint, box_unfolded, BoxUnfolds, unfolds, BoxEvaluates, value, constant, let_in, beta, box_app, extend, unfold_fix, enter, enter_only}
+use Rattle.box_passes.specs.Saturate.{innermost, lambdas, constructor_function}
+use Rattle.lambda_box.specs.ClosureEvaluation.{Value, VBox, VConstruct, VClosure, VFix, Values, NoValue, Then, Env, Empty, Bind, BindFix, bind_all, box_values, size, Held, Holds, Defines, held_value, Finds, found, later, Counts, nothing, constructor_block, ◌⊕◌, Run, run_box, run_value, run_definition, run_lambda, run_fix, run_constant, run_let, run_app, run_box_app, run_fix_app, run_fix_box, run_construct, run_match, run_only, RunArgs, run_head, run_arg}
+use Rattle.lambda_box.proofs.Spines.{head_of, arguments, arguments_before, constructor_head, constructor_arguments, fix_head, fix_arguments, closed_evaluates, one_item}
+use Rattle.box_passes.proofs.Standing as standing
+use Rattle.box_passes.proofs.Standing.{IsValue, is_box, is_lambda, is_fix, is_part, is_part_box, is_construct, is_waiting, Stands, StandTerms, none, next, StandBody, body_boxed, body_last, body_more, StandDefs, StandArgs, args_head, args_dropped, args_kept, Made, made_head, made_dropped, made_kept, Waits, waits_head, waits_more, Part, part_fix, part_app, part_box, closed_value, closed_stands}
+use Rattle.box_passes.proofs.Selves.{made_is, made_count, waits_is, waits_count, part_is, part_no_construct, index_of, rargs_of, bodies_of, no_fix, no_lambda, no_box, construct_not_unfolded, unfolded_now, self, quiet}
+use Rattle.box_passes.proofs.Filling.{stands_one, body_one, stands_boxes, made_size, stands_made, def_at, slice_found, body_unfolded}
+use Rattle.lambda_box.proofs.Spines.{same_body}
+
+abbrev pub Bare : BoxProgram → Type 0
+Bare P = (F : BoxFamily) → Has P.families F → F.params ≡ 0
+
+-- the body, run in the environment, gives a value that is w
+pub record Gives (P P' : BoxProgram) (e : Env) (b w : BoxTerm) (n m : ℕ) : Type 0 where
+  pub v : Value
+  pub c : Counts
+  pub run : Run P' e b v c
+  pub is : IsValue P w v
+  pub contractions : c.contractions < n
+  pub made : c.blocks ≤ 2 * n
+  pub matches : Bare P → c.matches ≡ m
+
+pub record GivesArgs (P P' : BoxProgram) (e : Env) (f : FamilyId) (i p j : ℕ) (b w : BoxTerm) (n m : ℕ) : Type 0 where
+  pub vs : Values
+  pub c : Counts
+  pub run : RunArgs P' e f i b vs c
+  pub is : Made P f i p j w vs
+  pub contractions : c.contractions < n
+  pub made : c.blocks < 2 * n
+  pub matches : Bare P → c.matches ≡ m
+
+-- how a fixpoint's value is entered
+data Enter : Value → Env → BoxTerm → Type 0 where
+  en_closure : {e : Env} {b : BoxTerm} → Enter (VClosure e b) e (BLambda b)
+  en_box : {e : Env} → Enter VBox e Box
+  en_fix : {e : Env} {i : ℕ} {rargs : List ℕ} {bs : BoxTerms} {b : BoxTerm} → term_at bs i ≡ Some (length rargs, b) → Enter (VFix e i rargs bs) (BindFix rargs bs e) b
+
+record Entry (P : BoxProgram) (t : BoxTerm) (v : Value) : Type 0 where
+  n : ℕ
+  e : Env
+  b : BoxTerm
+  part : Part P n t e b
+  enters : Enter v e b
+
+fix_entry : {P : BoxProgram} {i : ℕ} {rargs : List ℕ} {ts : BoxTerms} {t : BoxTerm} {v : Value} → head_of t ≡ BFix i rargs ts → IsValue P t v → Entry P t v
+fix_entry e (is_part p) = record { n = _; e = _; b = _; part = p; enters = en_closure }
+fix_entry e (is_part_box p) = record { n = _; e = _; b = _; part = p; enters = en_box }
+fix_entry e (is_fix {i = i} {rargs = rargs} h l) =
+    let at = slice_found rargs i l in
+    let d = def_at i h at.1 in
+    record { n = _; e = _; b = _; part = part_fix h at.1 d.right; enters = en_fix d.right }
+fix_entry e is_box = absurd (cc)
+fix_entry e (is_lambda h) = absurd (cc)
+fix_entry e (is_construct F at h) = absurd (no_fix (sym (made_is h) ∙ e))
+fix_entry e (is_waiting F at h) = absurd (no_fix (sym (waits_is h) ∙ e))
+
+part_waits : {P : BoxProgram} {n i k : ℕ} {rargs : List ℕ} {ts : BoxTerms} {t b : BoxTerm} {e : Env} → Part P n t e b → head_of t ≡ BFix i rargs ts → slice_get rargs i ≡ Some k → k ≡ n + length (arguments t [])
+part_waits p h at =
+    let q = part_is p in
+    one_item (sym at ∙ sym (ap (λ t. slice_get (rargs_of t) (index_of t)) (sym q.head ∙ h)) ∙ q.waits)
+
+body_shape : {P : BoxProgram} {r k : ℕ} {e : Env} {t b : BoxTerm} → StandBody P r k e t b → IsFixBody r b
+body_shape body_boxed = boxed
+body_shape (body_last h) = last
+body_shape (body_more h) = more (body_shape h)
+
+part_shape : {P : BoxProgram} {n : ℕ} {t b : BoxTerm} {e : Env} → Part P n t e b → IsFixBody n b
+part_shape (part_fix {i = i} {k = k} {bs = bs} h at g) = let d = def_at i h at in subst (λ b. IsFixBody k b) (same_body bs i d.right g) (body_shape d.stands)
+part_shape (part_app p g) = less (part_shape p)
+  where
+    less : {m : ℕ} {c : BoxTerm} → IsFixBody (suc m) (BLambda c) → IsFixBody m c
+    less (more h) = h
+part_shape (part_box p g) = boxed
+
+-- what a fixpoint's body evaluates to
+data LambdaBody (P : BoxProgram) (n : ℕ) (e : Env) (b : BoxTerm) : BoxTerm → ℕ → Type 0 where
+  lambda_body : {c : BoxTerm} → StandBody P n 1 e c b → LambdaBody P n e b (BLambda c) 0
+
+data LastBody (P : BoxProgram) (e : Env) (b : BoxTerm) : BoxTerm → ℕ → Type 0 where
+  last_body : {c : BoxTerm} → Stands P 1 e c b → LastBody P e b (BLambda c) 0
+
+data BoxBody : BoxTerm → ℕ → Type 0 where
+  box_body : BoxBody Box 0
+
+lambda_body_of : {P : BoxProgram} {n k m : ℕ} {e : Env} {t b w : BoxTerm} → StandBody P (suc n) 0 e t (BLambda b) → BoxEvaluates P t w k m → LambdaBody P n e b w m
+lambda_body_of (body_more h) (value i) = lambda_body h
+
+last_body_of : {P : BoxProgram} {k m : ℕ} {e : Env} {t b w : BoxTerm} → StandBody P 0 0 e t (BLambda b) → BoxEvaluates P t w k m → LastBody P e b w m
+last_body_of (body_last h) (value i) = last_body h
+
+box_body_of : {P : BoxProgram} {n k m : ℕ} {e : Env} {t w : BoxTerm} → StandBody P n 0 e t Box → BoxEvaluates P t w k m → BoxBody w m
+box_body_of body_boxed (value i) = box_body
+
+pub lambda_takes_none : {P : BoxProgram} {b : BoxTerm} → BoxTakesMore P (BLambda b) → ⊥
+lambda_takes_none (constructor f c xs k at l e) = no_lambda (constructor_head xs e)
+lambda_takes_none (fixpoint i rargs bodies xs at l e) = let h = fix_head xs e in absurd (cc)
+
+pub box_takes_none : {P : BoxProgram} → BoxTakesMore P Box → ⊥
+box_takes_none (constructor f c xs k at l e) = no_box (constructor_head xs e)
+box_takes_none (fixpoint i rargs bodies xs at l e) = let h = fix_head xs e in absurd (cc)
+
+lambda_unfolds_not : {b v u : BoxTerm} → BoxUnfolds (BLambda b) v u → ⊥
+lambda_unfolds_not (unfolds i rargs bodies xs r l at e) = let h = fix_head xs e in absurd (cc)
+
+box_unfolds_not : {v u : BoxTerm} → BoxUnfolds Box v u → ⊥
+box_unfolds_not (unfolds i rargs bodies xs r l at e) = let h = fix_head xs e in absurd (cc)
+
+-- some term is the body and evaluates to the value in no more nodes
+record Opened (P : BoxProgram) (n : ℕ) (e : Env) (b w : BoxTerm) (k m : ℕ) : Type 0 where
+  t : BoxTerm
+  k' : ℕ
+  m' : ℕ
+  stands : StandBody P n 0 e t b
+  gives : BoxEvaluates P t w k' m'
+  within : k' ≤ k
+  matches : Bare P → m' ≡ m
+
+pub apply_last : (f : BoxTerm) (xs : List BoxTerm) (u : BoxTerm) → box_apply f (xs ++ u ∷ []) ≡ BApp (box_apply f xs) u
+apply_last f [] u = refl
+apply_last f (x ∷ xs) u = apply_last (BApp f x) xs u
+
+module _ (P : BoxProgram) (closed : (k : Name) (b : BoxTerm) → KeepsBoxConstant P k b → Closed 0 b) where
+  opened_beta : (k1 : ℕ) {n k' m' k2 k3 m1 m2 m3 : ℕ} {e : Env} {b u v w c t : BoxTerm} {val : Value} → IsValue P u val → StandBody P (suc n) 0 e t (BLambda b) → BoxEvaluates P t (BLambda c) k' m' → (Bare P → m' ≡ m1) →
+      BoxEvaluates P u v k2 m2 → BoxEvaluates P (substitute (put v) c) w k3 m3 → Opened P n (Bind val e) b w (suc (k1 + k2 + k3)) (m1 + m2 + m3)
+  opened_beta k1 {n} {m' = m'} {k2} {k3} {m1} {m2} {m3} {e} {b} {u} {v} {w} {c} {val = val} g st ev eq d2 d3 = go (lambda_body_of st ev) eq
+    where
+      go : {j : ℕ} → LambdaBody P n e b (BLambda c) j → (Bare P → j ≡ m1) → Opened P n (Bind val e) b w (suc (k1 + k2 + k3)) (m1 + m2 + m3)
+      go (lambda_body h) q =
+          record { t = _; k' = _; m' = _; stands = body_one (self P closed g d2) h; gives = d3; within = omega arith; matches = λ bare. omega (arith, q bare, quiet P closed bare g d2) }
+
+  opened_app : {n k m : ℕ} {e : Env} {b s u w : BoxTerm} {val : Value} → IsValue P u val → ((w' : BoxTerm) (k' m' : ℕ) → BoxEvaluates P s w' k' m' → Opened P (suc n) e (BLambda b) w' k' m') →
+      BoxEvaluates P (BApp s u) w k m → Opened P n (Bind val e) b w k m
+  opened_app g rec (value i) = elim i [ ]
+  opened_app g rec (beta d1 d2 d3) = let o = rec _ _ _ d1 in opened_beta _ g o.stands o.gives o.matches d2 d3
+  opened_app g rec (box_app d1 d2) = let o = rec _ _ _ d1 in elim (lambda_body_of o.stands o.gives) [ ]
+  opened_app g rec (extend d1 d2 m) = let o = rec _ _ _ d1 in absurd (no (lambda_body_of o.stands o.gives) m)
+    where
+      no : {n j : ℕ} {e : Env} {b w : BoxTerm} → LambdaBody P n e b w j → BoxTakesMore P w → ⊥
+      no (lambda_body h) m = lambda_takes_none m
+  opened_app g rec (unfold_fix d1 d2 x d3) = let o = rec _ _ _ d1 in absurd (no (lambda_body_of o.stands o.gives) x)
+    where
+      no : {n j : ℕ} {e : Env} {b w v u : BoxTerm} → LambdaBody P n e b w j → BoxUnfolds w v u → ⊥
+      no (lambda_body h) x = lambda_unfolds_not x
+
+  opened_box : {n k m : ℕ} {e : Env} {s u w : BoxTerm} {val : Value} → IsValue P u val → ((w' : BoxTerm) (k' m' : ℕ) → BoxEvaluates P s w' k' m' → Opened P (suc n) e Box w' k' m') →
+      BoxEvaluates P (BApp s u) w k m → Opened P n e Box w k m
+  opened_box g rec (value i) = elim i [ ]
+  opened_box g rec (beta d1 d2 d3) = let o = rec _ _ _ d1 in elim (box_body_of o.stands o.gives) [ ]
+  opened_box g rec (box_app d1 d2) = let o = rec _ _ _ d1 in
+      record { t = Box; k' = 1; m' = 0; stands = body_boxed; gives = value box_is; within = omega arith; matches = λ bare. omega (arith, zero_of (box_body_of o.stands o.gives), o.matches bare, quiet P closed bare g d2) }
+    where
+      zero_of : {w : BoxTerm} {j : ℕ} → BoxBody w j → j ≡ 0
+      zero_of box_body = refl
+  opened_box g rec (extend d1 d2 m) = let o = rec _ _ _ d1 in absurd (no (box_body_of o.stands o.gives) m)
+    where
+      no : {w : BoxTerm} {j : ℕ} → BoxBody w j → BoxTakesMore P w → ⊥
+      no box_body m = box_takes_none m
+  opened_box g rec (unfold_fix d1 d2 x d3) = let o = rec _ _ _ d1 in absurd (no (box_body_of o.stands o.gives) x)
+    where
+      no : {w v u : BoxTerm} {j : ℕ} → BoxBody w j → BoxUnfolds w v u → ⊥
+      no box_body x = box_unfolds_not x
+
+  -- an unfolded fixpoint with its values
+  opened : {n k m : ℕ} {t b x w : BoxTerm} {e : Env} → Part P n t e b → term_at (bodies_of (head_of t)) (index_of (head_of t)) ≡ Some (length (rargs_of (head_of t)), x) →
+      BoxEvaluates P (box_apply (box_unfolded (rargs_of (head_of t)) (bodies_of (head_of t)) x) (arguments t [])) w k m → Opened P n e b w k m
+  opened (part_fix {i = i} h at g) at' d = record { t = _; k' = _; m' = _; stands = body_unfolded i h at at' g; gives = d; within = omega arith; matches = λ bare. refl }
+  opened {k = k} {m = m} {x = x} {w = w} (part_app {t = t} {u = u} p g) at d =
+      let U = box_unfolded (rargs_of (head_of t)) (bodies_of (head_of t)) x in
+      let same = ap (box_apply U) (arguments_before t (u ∷ [])) ∙ apply_last U (arguments t []) u in
+      opened_app g (λ w' k' m' d. opened p at d) (subst (λ s. BoxEvaluates P s w k m) same d)
+  opened {k = k} {m = m} {x = x} {w = w} (part_box {t = t} {u = u} p g) at d =
+      let U = box_unfolded (rargs_of (head_of t)) (bodies_of (head_of t)) x in
+      let same = ap (box_apply U) (arguments_before t (u ∷ [])) ∙ apply_last U (arguments t []) u in
+      opened_box g (λ w' k' m' d. opened p at d) (subst (λ s. BoxEvaluates P s w k m) same d)
+
+  opened_at : {n k m : ℕ} {s b x w : BoxTerm} {e : Env} (i : ℕ) (rargs : List ℕ) (bodies : BoxTerms) (xs : List BoxTerm) → Part P n s e b → s ≡ box_apply (BFix i rargs bodies) xs → term_at bodies i ≡ Some (length rargs, x) →
+      BoxEvaluates P (box_apply (box_unfolded rargs bodies x) xs) w k m → Opened P n e b w k m
+  opened_at {k = k} {m} {s} {x = x} {w = w} i rargs bodies xs p eq at d =
+      let head = fix_head xs eq in
+      let args = fix_arguments i rargs bodies xs eq in
+      opened p (subst (λ t. term_at (bodies_of t) (index_of t) ≡ Some (length (rargs_of t), x)) (sym head) at)
+      (subst (λ t. BoxEvaluates P (box_apply (box_unfolded (rargs_of t) (bodies_of t) x) (arguments s [])) w k m) (sym head) (subst (λ ys. BoxEvaluates P (box_apply (box_unfolded rargs bodies x) ys) w k m) (sym args) d))
+
+-- one step into a closure or a fixpoint
+record Entered (P' : BoxProgram) (e : Env) (bf ba : BoxTerm) (w : Value) (c : Counts) : Type 0 where
+  c' : Counts
+  run : Run P' e (BApp bf ba) w c'
+  contractions : c'.contractions ≤ 2 + c.contractions
+  blocks : c'.blocks ≡ c.blocks
+  matches : c'.matches ≡ c.matches
+
+enter_run : {P' : BoxProgram} {e e' : Env} {bf ba b : BoxTerm} {vf va w : Value} {c1 c2 c3 : Counts} → Enter vf e' (BLambda b) → Run P' e bf vf c1 → Run P' e ba va c2 → Run P' (Bind va e') b w c3 → Entered P' e bf ba w (c1 ⊕ c2 ⊕ c3)
+enter_run en_closure rf ra rb = record { c' = _; run = run_app rf ra rb; contractions = omega arith; blocks = omega arith; matches = omega arith }
+enter_run (en_fix at) rf ra rb = record { c' = _; run = run_fix_app rf ra at rb; contractions = omega arith; blocks = omega arith; matches = omega arith }
+
+enter_box : {P' : BoxProgram} {e e' : Env} {bf ba : BoxTerm} {vf va : Value} {c1 c2 : Counts} → Enter vf e' Box → Run P' e bf vf c1 → Run P' e ba va c2 → Entered P' e bf ba VBox (c1 ⊕ c2)
+enter_box en_box rf ra = record { c' = _; run = run_box_app rf ra; contractions = omega arith; blocks = omega arith; matches = omega arith }
+enter_box (en_fix at) rf ra = record { c' = _; run = run_fix_box rf ra at; contractions = omega arith; blocks = omega arith; matches = omega arith }
+
+-- a constructor's function at its last argument
+record Taken (P : BoxProgram) (f : FamilyId) (c p j : ℕ) (t : BoxTerm) (e : Env) : Type 0 where
+  vs : Values
+  rest : Env
+  env : e ≡ bind_all vs rest
+  made : Made P f c p j t vs
+
+taken_dropped : {P : BoxProgram} {f : FamilyId} {c p j : ℕ} {t u : BoxTerm} {e : Env} (v : Value) → j < p → Closed 0 u → Taken P f c p j t e → Taken P f c p (suc j) (BApp t u) (Bind v e)
+taken_dropped {P} {f} {c} {p} {j} {t} {u} {e} v l cu r = go r.vs r.made
+  where
+    go : (vs : Values) → Made P f c p j t vs → Taken P f c p (suc j) (BApp t u) (Bind v e)
+    go NoValue h = record { vs = NoValue; rest = Bind v e; env = refl; made = made_dropped l cu h }
+    go (Then w ws) h = absurd (omega (arith, made_size h))
+
+taken : {P : BoxProgram} {f : FamilyId} {c all m : ℕ} {t : BoxTerm} {e : Env} (p j : ℕ) → Waits P f c all m t e → j + m ≡ all → Taken P f c p j t e
+taken {e = e} p zero (waits_head eq) q = record { vs = NoValue; rest = e; env = refl; made = made_head }
+taken p (suc j) (waits_head eq) q = absurd (omega arith)
+taken p zero (waits_more h g) q = absurd (omega (arith, waits_count h))
+taken {P} {f} {c} {all} {m} p (suc j) (waits_more {t = t} {u = u} {e = e} {v = v} h g) q =
+    let r = taken p j h (omega arith) in
+    ⊎_elim (λ lt. taken_dropped v lt (closed_value g) r)
+    (λ le. record { vs = Then v r.vs; rest = r.rest; env = ap (Bind v) r.env; made = made_kept le r.made g })
+    (cases_lt j p)
+
+abbrev drop_values : ℕ → Values → Values
+drop_values zero vs = vs
+drop_values (suc n) NoValue = NoValue
+drop_values (suc n) (Then v vs) = drop_values n vs
+
+record ValueAt (n : ℕ) (vs : Values) (rest : Env) : Type 0 where
+  v : Value
+  split : drop_values n vs ≡ Then v (drop_values (suc n) vs)
+  finds : Finds (bind_all vs rest) n (Holds v)
+
+value_at : (n : ℕ) (vs : Values) (rest : Env) → n < size vs → ValueAt n vs rest
+value_at n NoValue rest l = absurd (omega arith)
+value_at zero (Then v vs) rest l = record { v = v; split = refl; finds = found }
+value_at (suc n) (Then v vs) rest l = let r = value_at n vs rest (omega arith) in record { v = r.v; split = r.split; finds = later r.finds }
+
+drop_all_values : (vs : Values) → drop_values (size vs) vs ≡ NoValue
+drop_all_values NoValue = refl
+drop_all_values (Then v vs) = drop_all_values vs
+
+record QuietArgs (P' : BoxProgram) (e : Env) (f : FamilyId) (c : ℕ) (t : BoxTerm) (vs : Values) : Type 0 where
+  k : Counts
+  run : RunArgs P' e f c t vs k
+  contractions : k.contractions ≡ 0
+  blocks : k.blocks ≡ 0
+  matches : k.matches ≡ 0
+
+run_innermost : {P' : BoxProgram} {f : FamilyId} {c : ℕ} {h : BoxTerm} (vs : Values) (rest : Env) (n : ℕ) → n ≤ size vs → QuietArgs P' (bind_all vs rest) f c h (drop_values n vs) → QuietArgs P' (bind_all vs rest) f c (box_apply h (innermost n)) vs
+run_innermost vs rest zero l q = q
+run_innermost {P'} {f} {c} {h} vs rest (suc n) l q =
+    let r = value_at n vs rest (omega arith) in
+    let run = subst (λ ws. RunArgs P' (bind_all vs rest) f c (BApp h (Rel n)) ws (q.k ⊕ nothing)) (sym r.split) (run_arg q.run (run_value r.finds)) in
+    run_innermost vs rest n (omega arith) (record { k = q.k ⊕ nothing; run = run; contractions = omega (arith, q.contractions); blocks = omega (arith, q.blocks); matches = omega (arith, q.matches) })
+
+run_all : {P' : BoxProgram} (f : FamilyId) (c : ℕ) (vs : Values) (rest : Env) → QuietArgs P' (bind_all vs rest) f c (box_apply (BConstruct f c) (innermost (size vs))) vs
+run_all {P'} f c vs rest =
+    run_innermost vs rest (size vs) (omega arith)
+    (record { k = nothing; run = subst (λ ws. RunArgs P' (bind_all vs rest) f c (BConstruct f c) ws nothing) (sym (drop_all_values vs)) run_head; contractions = refl; blocks = refl; matches = refl })
+
+-- what the body of a constructor's function gives
+record Quiet (P P' : BoxProgram) (e : Env) (b w : BoxTerm) : Type 0 where
+  v : Value
+  c : Counts
+  run : Run P' e b v c
+  is : IsValue P w v
+  contractions : c.contractions ≡ 0
+  blocks : c.blocks ≤ 1
+  matches : c.matches ≡ 0
+
+pub record FamilyAt (P' : BoxProgram) (f : FamilyId) (F : BoxFamily) : Type 0 where
+  pub family : BoxFamily
+  pub keeps : KeepsBoxFamily P' f family
+  pub args : family.args ≡ F.args
+  pub propositional : family.propositional ≡ F.propositional
+
+pub record ConstantAt (P P' : BoxProgram) (k : Name) (b : BoxTerm) : Type 0 where
+  pub body : BoxTerm
+  pub keeps : KeepsBoxConstant P' k body
+  pub stands : Stands P 0 Empty b body
+
+constructor_block_small : (n : ℕ) → (constructor_block n).blocks ≤ 1
+constructor_block_small zero = omega arith
+constructor_block_small (suc n) = omega arith
+
+constructor_block_quiet : (n : ℕ) → (constructor_block n).contractions ≡ 0
+constructor_block_quiet zero = refl
+constructor_block_quiet (suc n) = refl
+
+constructor_block_matches : (n : ℕ) → (constructor_block n).matches ≡ 0
+constructor_block_matches zero = refl
+constructor_block_matches (suc n) = refl
+
+-- the branches of a match, on both sides
+record BranchAt (P : BoxProgram) (n k : ℕ) (e : Env) (bs : BoxTerms) (i : ℕ) (t : BoxTerm) : Type 0 where
+  b : BoxTerm
+  at : term_at bs i ≡ Some (n, b)
+  stands : Stands P (n + k) e t b
+
+branch_at : {P : BoxProgram} {n k : ℕ} {e : Env} {ts bs : BoxTerms} {t : BoxTerm} (i : ℕ) → StandTerms P k e ts bs → term_at ts i ≡ Some (n, t) → BranchAt P n k e bs i t
+branch_at i none eq = absurd (cc)
+branch_at {P} {n} {k} {e} {t = t} zero (next {n = m} {t = u} {b = b} h hs) eq =
+    let p = one_item eq in
+    record { b = b; at = ap (λ q. Some (q.0, b)) p; stands = subst (λ q. Stands P (q.0 + k) e q.1 b) p h }
+branch_at (suc i) (next h hs) eq = let r = branch_at i hs eq in record { b = r.b; at = r.at; stands = r.stands }
+
+-- a value whose head is a constructor
+pub data ConstructValue (P : BoxProgram) (s : BoxTerm) : Value → Type 0 where
+  ready : {f : FamilyId} {c n : ℕ} {F : BoxFamily} {vs : Values} → KeepsBoxFamily P f F → slice_get F.args c ≡ Some n → Made P f c F.params (F.params + n) s vs → ConstructValue P s (VConstruct f c vs)
+  waiting : {f : FamilyId} {c n m : ℕ} {F : BoxFamily} {e : Env} → KeepsBoxFamily P f F → slice_get F.args c ≡ Some n → Waits P f c (F.params + n) (suc m) s e →
+      ConstructValue P s (VClosure e (lambdas m (box_apply (BConstruct f c) (innermost n))))
+
+pub construct_value : {P : BoxProgram} {s : BoxTerm} {v : Value} {f : FamilyId} {c : ℕ} → head_of s ≡ BConstruct f c → IsValue P s v → ConstructValue P s v
+construct_value head (is_construct F at h) = ready F at h
+construct_value head (is_waiting F at h) = waiting F at h
+construct_value head is_box = absurd (no_box head)
+construct_value head (is_lambda h) = absurd (no_lambda head)
+construct_value head (is_fix h lt) = absurd (no_fix (sym head))
+construct_value head (is_part p) = absurd (part_no_construct p head)
+construct_value head (is_part_box p) = absurd (part_no_construct p head)
+
+abbrev pub family_name : BoxTerm → FamilyId → FamilyId
+family_name (BConstruct f c) g = f
+family_name t g = g
+
+abbrev pub constructor_number : BoxTerm → ℕ
+constructor_number (BConstruct f c) = c
+constructor_number t = 0
+
+evaluates_positive : {P : BoxProgram} {t w : BoxTerm} {n m : ℕ} → BoxEvaluates P t w n m → 1 ≤ n
+evaluates_positive (value i) = omega arith
+evaluates_positive (constant k d) = omega arith
+evaluates_positive (let_in d1 d2) = omega arith
+evaluates_positive (beta d1 d2 d3) = omega arith
+evaluates_positive (box_app d1 d2) = omega arith
+evaluates_positive (extend d1 d2 m) = omega arith
+evaluates_positive (unfold_fix d1 d2 u d3) = omega arith
+evaluates_positive (enter d1 c at d2) = omega arith
+evaluates_positive (enter_only k p d1 d2) = omega arith
+
+module _ (P P' : BoxProgram) (constants : (k : Name) (b : BoxTerm) → KeepsBoxConstant P k b → ConstantAt P P' k b) (families : (f : FamilyId) (F : BoxFamily) → KeepsBoxFamily P f F → FamilyAt P' f F)
+    (unique : (f : FamilyId) (F G : BoxFamily) → KeepsBoxFamily P f F → KeepsBoxFamily P f G → F ≡ G) where
+  closed : (k : Name) (b : BoxTerm) → KeepsBoxConstant P k b → Closed 0 b
+  closed k b at = closed_stands (constants k b at).stands
+
+  -- the counts of a constructor are determined
+  same_family_kept : {f g : FamilyId} {c d : ℕ} {F G : BoxFamily} → BConstruct f c ≡ BConstruct g d → KeepsBoxFamily P f F → KeepsBoxFamily P g G → F ≡ G
+  same_family_kept {f} {g} {F = F} {G = G} e k l = let fg : f ≡ g = ap (λ t. family_name t f) e in unique g F G (subst (λ h. KeepsBoxFamily P h F) fg k) l
+
+  pub same_counts : {f g : FamilyId} {c d n m : ℕ} {F G : BoxFamily} → BConstruct f c ≡ BConstruct g d → KeepsBoxFamily P f F → slice_get F.args c ≡ Some n → KeepsBoxFamily P g G → slice_get G.args d ≡ Some m → (F.params ≡ G.params) × (n ≡ m)
+  same_counts {f} {g} {c} {d} {n} {m} {F} {G} e k at l at' =
+      let FG = same_family_kept e k l in
+      let cd : c ≡ d = ap constructor_number e in
+      (ap (λ H. H.params) FG, one_item (sym at ∙ ap (λ H. slice_get H.args c) FG ∙ ap (slice_get G.args) cd ∙ at'))
+
+  var_gives : {t w : BoxTerm} {e : Env} {n m i j : ℕ} (h : Held) → j ≡ 0 + i → Finds e i h → IsValue P t (held_value h) → BoxEvaluates P t w n m → Gives P P' e (Rel j) w n m
+  var_gives {t} {w} {e} {n} {m} {i} {j} (Holds v) eq at is d =
+      let same : i ≡ j = omega arith in
+      record {
+        v = v;
+        c = nothing;
+        run = run_value (subst (λ x. Finds e x (Holds v)) same at);
+        is = self P closed is d;
+        contractions = evaluates_positive d;
+        made = omega arith;
+        matches = λ bare. sym (quiet P closed bare is d);
+      }
+  var_gives {t} {w} {e} {n} {m} {i} {j} (Defines e' l rargs bs) eq at is d =
+      let same : i ≡ j = omega arith in
+      record {
+        v = VFix e' l rargs bs;
+        c = _;
+        run = run_definition (subst (λ x. Finds e x (Defines e' l rargs bs)) same at);
+        is = self P closed is d;
+        contractions = evaluates_positive d;
+        made = omega (arith, evaluates_positive d);
+        matches = λ bare. sym (quiet P closed bare is d);
+      }
+
+  beta_gives : {e : Env} {bf ba b a w : BoxTerm} (l k n lm km nm : ℕ) → Gives P P' e bf (BLambda b) l lm → Gives P P' e ba a k km → ((e' : Env) (c : BoxTerm) → Stands P 0 e' (substitute (put a) b) c → Gives P P' e' c w n nm) →
+      Gives P P' e (BApp bf ba) w (suc (l + k + n)) (lm + km + nm)
+  beta_gives {e} {bf} {ba} {b} {a} {w} l k n lm km nm gf ga rest = go gf.run gf.is
+    where
+      go : {v : Value} → Run P' e bf v gf.c → IsValue P (BLambda b) v → Gives P P' e (BApp bf ba) w (suc (l + k + n)) (lm + km + nm)
+      go run (is_lambda h) =
+          let g = rest _ _ (stands_one ga.is h) in
+          record {
+            v = g.v;
+            c = _;
+            run = run_app run ga.run g.run;
+            is = g.is;
+            contractions = omega (arith, gf.contractions, ga.contractions, g.contractions);
+            made = omega (arith, gf.made, ga.made, g.made);
+            matches = λ bare. omega (arith, gf.matches bare, ga.matches bare, g.matches bare);
+          }
+      go run (is_part p) = elim p [ ]
+      go run (is_part_box p) = elim p [ ]
+      go run (is_construct F at h) = absurd (no_lambda (made_is h))
+      go run (is_waiting F at h) = absurd (no_lambda (waits_is h))
+
+  box_gives : {e : Env} {bf ba a : BoxTerm} (l k lm km : ℕ) → Gives P P' e bf Box l lm → Gives P P' e ba a k km → Gives P P' e (BApp bf ba) Box (suc (l + k)) (lm + km)
+  box_gives {e} {bf} {ba} {a} l k lm km gf ga = go gf.run gf.is
+    where
+      go : {v : Value} → Run P' e bf v gf.c → IsValue P Box v → Gives P P' e (BApp bf ba) Box (suc (l + k)) (lm + km)
+      go run is_box =
+          record {
+            v = VBox;
+            c = _;
+            run = run_box_app run ga.run;
+            is = is_box;
+            contractions = omega (arith, gf.contractions, ga.contractions);
+            made = omega (arith, gf.made, ga.made);
+            matches = λ bare. omega (arith, gf.matches bare, ga.matches bare);
+          }
+      go run (is_part p) = elim p [ ]
+      go run (is_part_box p) = elim p [ ]
+      go run (is_construct F at h) = absurd (no_box (made_is h))
+      go run (is_waiting F at h) = absurd (no_box (waits_is h))
+
+  -- a fixpoint that waits for more values
+  wait_gives : {e : Env} {bf ba s a : BoxTerm} (l k lm km : ℕ) (i : ℕ) (rargs : List ℕ) (ts : BoxTerms) (r : ℕ) → head_of s ≡ BFix i rargs ts → slice_get rargs i ≡ Some r → length (arguments s []) < r →
+      Gives P P' e bf s l lm → Gives P P' e ba a k km → Gives P P' e (BApp bf ba) (BApp s a) (suc (l + k)) (lm + km)
+  wait_gives {e} {bf} {ba} {s} {a} l k lm km i rargs ts r head at lt gf ga =
+      let en = fix_entry head gf.is in
+      let count = part_waits en.part head at in
+      go en.n (omega (arith, count)) en.part (part_shape en.part) en.enters
+    where
+      inner : {n : ℕ} {e' : Env} {b : BoxTerm} → Part P n (BApp s a) (Bind ga.v e') b → IsFixBody n b → Enter gf.v e' (BLambda b) → Gives P P' e (BApp bf ba) (BApp s a) (suc (l + k)) (lm + km)
+      inner p boxed en =
+          let x = enter_run en gf.run ga.run run_box in
+          record {
+            v = VBox;
+            c = x.c';
+            run = x.run;
+            is = is_part_box p;
+            contractions = omega (arith, x.contractions, gf.contractions, ga.contractions);
+            made = omega (arith, x.blocks, gf.made, ga.made);
+            matches = λ bare. omega (arith, x.matches, gf.matches bare, ga.matches bare);
+          }
+      inner p last en =
+          let x = enter_run en gf.run ga.run run_lambda in
+          record {
+            v = _;
+            c = x.c';
+            run = x.run;
+            is = is_part p;
+            contractions = omega (arith, x.contractions, gf.contractions, ga.contractions);
+            made = omega (arith, x.blocks, gf.made, ga.made);
+            matches = λ bare. omega (arith, x.matches, gf.matches bare, ga.matches bare);
+          }
+      inner p (more h) en =
+          let x = enter_run en gf.run ga.run run_lambda in
+          record {
+            v = _;
+            c = x.c';
+            run = x.run;
+            is = is_part p;
+            contractions = omega (arith, x.contractions, gf.contractions, ga.contractions);
+            made = omega (arith, x.blocks, gf.made, ga.made);
+            matches = λ bare. omega (arith, x.matches, gf.matches bare, ga.matches bare);
+          }
+
+      go : (n : ℕ) → 0 < n → {e' : Env} {b : BoxTerm} → Part P n s e' b → IsFixBody n b → Enter gf.v e' b → Gives P P' e (BApp bf ba) (BApp s a) (suc (l + k)) (lm + km)
+      go zero lt p h en = absurd (omega arith)
+      go (suc n) lt p boxed en =
+          let x = enter_box en gf.run ga.run in
+          record {
+            v = VBox;
+            c = x.c';
+            run = x.run;
+            is = is_part_box (part_box p ga.is);
+            contractions = omega (arith, x.contractions, gf.contractions, ga.contractions);
+            made = omega (arith, x.blocks, gf.made, ga.made);
+            matches = λ bare. omega (arith, x.matches, gf.matches bare, ga.matches bare);
+          }
+      go (suc n) lt p (more h) en = inner (part_app p ga.is) h en
+
+  -- a fixpoint at its last value, whose body is a lambda
+  go_lambda : {e : Env} {bf ba s a c a' w u x : BoxTerm} (l k j4 j5 n lm km m4 m5 nm : ℕ) (i : ℕ) (rargs : List ℕ) (bodies : BoxTerms) (xs : List BoxTerm) → BoxUnfolds s a u → s ≡ box_apply (BFix i rargs bodies) xs → term_at bodies i ≡ Some (length rargs, x) →
+      BoxEvaluates P (box_apply (box_unfolded rargs bodies x) xs) (BLambda c) j4 m4 → BoxEvaluates P a a' j5 m5 → Gives P P' e bf s l lm → Gives P P' e ba a k km →
+      ((e' : Env) (d : BoxTerm) → Stands P 0 e' (substitute (put a') c) d → Gives P P' e' d w n nm) → Gives P P' e (BApp bf ba) w (suc (l + k + suc (j4 + j5 + n))) (lm + km + (m4 + m5 + nm))
+  go_lambda {e} {bf} {ba} {s} {a} {c} {a'} {w} {x = x} l k j4 j5 n lm km m4 m5 nm i rargs bodies xs un eq at d4 d5 gf ga rest =
+      let en = fix_entry (fix_head xs eq) gf.is in
+      let o = opened_at P closed i rargs bodies xs en.part eq at d4 in
+      go (unfolded_now en.part un) (part_shape en.part) en.enters o.stands o.gives o.matches
+    where
+      entered : {e' : Env} {b : BoxTerm} {j : ℕ} → Enter gf.v e' (BLambda b) → LastBody P e' b (BLambda c) j → (Bare P → j ≡ m4) → Gives P P' e (BApp bf ba) w (suc (l + k + suc (j4 + j5 + n))) (lm + km + (m4 + m5 + nm))
+      entered {e' = e'} {b = b} en (last_body h) q =
+          let g = rest (Bind ga.v e') b (stands_one (self P closed ga.is d5) h) in
+          let x = enter_run en gf.run ga.run g.run in
+          record {
+            v = g.v;
+            c = x.c';
+            run = x.run;
+            is = g.is;
+            contractions = omega (arith, x.contractions, gf.contractions, ga.contractions, g.contractions);
+            made = omega (arith, x.blocks, gf.made, ga.made, g.made);
+            matches = λ bare. omega (arith, x.matches, gf.matches bare, ga.matches bare, g.matches bare, q bare, quiet P closed bare ga.is d5);
+          }
+
+      go : {r j jm : ℕ} {e' : Env} {b t : BoxTerm} → r ≡ 0 → IsFixBody r b → Enter gf.v e' b → StandBody P r 0 e' t b → BoxEvaluates P t (BLambda c) j jm → (Bare P → jm ≡ m4) →
+          Gives P P' e (BApp bf ba) w (suc (l + k + suc (j4 + j5 + n))) (lm + km + (m4 + m5 + nm))
+      go z boxed en h d q = elim (box_body_of h d) [ ]
+      go z last en h d q = entered en (last_body_of h d) q
+      go z (more f) en h d q = absurd (omega arith)
+
+  -- or is box
+  go_box : {e : Env} {bf ba s a a' u x : BoxTerm} (l k j4 j5 lm km m4 m5 : ℕ) (i : ℕ) (rargs : List ℕ) (bodies : BoxTerms) (xs : List BoxTerm) → BoxUnfolds s a u → s ≡ box_apply (BFix i rargs bodies) xs → term_at bodies i ≡ Some (length rargs, x) →
+      BoxEvaluates P (box_apply (box_unfolded rargs bodies x) xs) Box j4 m4 → BoxEvaluates P a a' j5 m5 → Gives P P' e bf s l lm → Gives P P' e ba a k km →
+      Gives P P' e (BApp bf ba) Box (suc (l + k + suc (j4 + j5))) (lm + km + (m4 + m5))
+  go_box {e} {bf} {ba} {s} {a} {a'} {x = x} l k j4 j5 lm km m4 m5 i rargs bodies xs un eq at d4 d5 gf ga =
+      let en = fix_entry (fix_head xs eq) gf.is in
+      let o = opened_at P closed i rargs bodies xs en.part eq at d4 in
+      go (unfolded_now en.part un) (part_shape en.part) en.enters o.stands o.gives o.matches
+    where
+      entered : {e' : Env} {j : ℕ} → Enter gf.v e' Box → BoxBody Box j → (Bare P → j ≡ m4) → Gives P P' e (BApp bf ba) Box (suc (l + k + suc (j4 + j5))) (lm + km + (m4 + m5))
+      entered en box_body q =
+          let x = enter_box en gf.run ga.run in
+          record {
+            v = VBox;
+            c = x.c';
+            run = x.run;
+            is = is_box;
+            contractions = omega (arith, x.contractions, gf.contractions, ga.contractions);
+            made = omega (arith, x.blocks, gf.made, ga.made);
+            matches = λ bare. omega (arith, x.matches, gf.matches bare, ga.matches bare, q bare, quiet P closed bare ga.is d5);
+          }
+
+      go : {r j jm : ℕ} {e' : Env} {b t : BoxTerm} → r ≡ 0 → IsFixBody r b → Enter gf.v e' b → StandBody P r 0 e' t b → BoxEvaluates P t Box j jm → (Bare P → jm ≡ m4) →
+          Gives P P' e (BApp bf ba) Box (suc (l + k + suc (j4 + j5))) (lm + km + (m4 + m5))
+      go z boxed en h d q = entered en (box_body_of h d) q
+      go z last en h d q = elim (last_body_of h d) [ ]
+      go z (more f) en h d q = absurd (omega arith)
+
+  -- it is neither a constructor nor a waiting fixpoint, nor does it unfold again
+  unfolded_value : {s a u x y : BoxTerm} {v : Value} (l m : ℕ) (i : ℕ) (rargs : List ℕ) (bodies : BoxTerms) (xs : List BoxTerm) → BoxUnfolds s a u → s ≡ box_apply (BFix i rargs bodies) xs → term_at bodies i ≡ Some (length rargs, x) →
+      BoxEvaluates P (box_apply (box_unfolded rargs bodies x) xs) y l m → IsValue P s v → (BoxTakesMore P y → ⊥) × ((b c : BoxTerm) → BoxUnfolds y b c → ⊥)
+  unfolded_value {y = y} l m i rargs bodies xs un eq at d is =
+      let en = fix_entry (fix_head xs eq) is in
+      let o = opened_at P closed i rargs bodies xs en.part eq at d in
+      go (unfolded_now en.part un) (part_shape en.part) o.stands o.gives
+    where
+      boxes_none : {j : ℕ} {w : BoxTerm} → BoxBody w j → (BoxTakesMore P w → ⊥) × ((b c : BoxTerm) → BoxUnfolds w b c → ⊥)
+      boxes_none box_body = (box_takes_none, λ b c u. box_unfolds_not u)
+
+      lambdas_none : {e : Env} {b w : BoxTerm} {j : ℕ} → LastBody P e b w j → (BoxTakesMore P w → ⊥) × ((b c : BoxTerm) → BoxUnfolds w b c → ⊥)
+      lambdas_none (last_body h) = (lambda_takes_none, λ b c u. lambda_unfolds_not u)
+
+      go : {r j jm : ℕ} {e' : Env} {b t : BoxTerm} → r ≡ 0 → IsFixBody r b → StandBody P r 0 e' t b → BoxEvaluates P t y j jm → (BoxTakesMore P y → ⊥) × ((b c : BoxTerm) → BoxUnfolds y b c → ⊥)
+      go z boxed h d = boxes_none (box_body_of h d)
+      go z last h d = lambdas_none (last_body_of h d)
+      go z (more f) h d = absurd (omega arith)
+
+  -- the body of a constructor's function
+  function_gives : {f : FamilyId} {c n m : ℕ} {F : BoxFamily} {t : BoxTerm} {e : Env} → KeepsBoxFamily P f F → slice_get F.args c ≡ Some n → Waits P f c (F.params + n) m t e → Quiet P P' e (lambdas m (box_apply (BConstruct f c) (innermost n))) t
+  function_gives {m = suc m} F at h = record { v = _; c = _; run = run_lambda; is = is_waiting F at h; contractions = refl; blocks = omega arith; matches = refl }
+  function_gives {f} {c} {n} {m = zero} {F} {t} {e} k at h =
+      let r = taken F.params (F.params + n) h (omega arith) in
+      let G = families f F k in
+      let count : size r.vs ≡ n = omega (arith, made_size r.made) in
+      let q = run_all {P' = P'} f c r.vs r.rest in
+      let run = subst (λ b. Run P' (bind_all r.vs r.rest) (box_apply (BConstruct f c) (innermost b)) (VConstruct f c r.vs) (q.k ⊕ constructor_block n)) count (run_construct G.keeps (ap (λ l. slice_get l c) G.args ∙ at) count q.run) in
+      record {
+        v = _;
+        c = _;
+        run = subst (λ e. Run P' e (box_apply (BConstruct f c) (innermost n)) (VConstruct f c r.vs) (q.k ⊕ constructor_block n)) (sym r.env) run;
+        is = is_construct k at r.made;
+        contractions = omega (arith, q.contractions, constructor_block_quiet n);
+        blocks = omega (arith, q.blocks, constructor_block_small n);
+        matches = omega (arith, q.matches, constructor_block_matches n);
+      }
+
+  -- a constructor that waits takes one more
+  construct_gives : {e : Env} {bf ba s a : BoxTerm} (l k lm km : ℕ) {f : FamilyId} {c n : ℕ} {F : BoxFamily} → KeepsBoxFamily P f F → slice_get F.args c ≡ Some n → head_of s ≡ BConstruct f c → length (arguments s []) < F.params + n →
+      Gives P P' e bf s l lm → Gives P P' e ba a k km → Gives P P' e (BApp bf ba) (BApp s a) (suc (l + k)) (lm + km)
+  construct_gives {e} {bf} {ba} {s} {a} l k lm km {f} {c} {n} {F} keeps at head lt gf ga = go gf.run (construct_value head gf.is)
+    where
+      go : {v : Value} → Run P' e bf v gf.c → ConstructValue P s v → Gives P P' e (BApp bf ba) (BApp s a) (suc (l + k)) (lm + km)
+      go run (waiting F' at' h) =
+          let q = function_gives F' at' (waits_more h ga.is) in
+          record {
+            v = q.v;
+            c = _;
+            run = run_app run ga.run q.run;
+            is = q.is;
+            contractions = omega (arith, q.contractions, gf.contractions, ga.contractions);
+            made = omega (arith, q.blocks, gf.made, ga.made);
+            matches = λ bare. omega (arith, q.matches, gf.matches bare, ga.matches bare);
+          }
+      go run (ready F' at' h) = let same = same_counts (sym head ∙ made_is h) keeps at F' at' in absurd (omega (arith, made_count h, same.0, same.1))
+
+  enter_gives : {e : Env} {s' v body w : BoxTerm} {ts bs : BoxTerms} (n n' m m' : ℕ) {f : FamilyId} {c : ℕ} {qs xs : List BoxTerm} → IsBoxConstructor P f c v qs xs → term_at ts c ≡ Some (length xs, body) → StandTerms P 0 e ts bs → Gives P P' e s' v n m →
+      ((e' : Env) (d : BoxTerm) → Stands P 0 e' (substitute (put_all xs Rel) body) d → Gives P P' e' d w n' m') → Gives P P' e (BCase f s' bs) w (suc (n + n')) (suc (m + m'))
+  enter_gives {e} {s'} {v} {body} {w} {ts} {bs} n n' m m' {f} {c} {qs} {xs} (is_box_constructor {F} {n = k} keeps prop at lq lx eq) tat hs gs rest = go gs.run (construct_value (constructor_head (qs ++ xs) eq) gs.is)
+    where
+      head : head_of v ≡ BConstruct f c
+      head = constructor_head (qs ++ xs) eq
+
+      args : arguments v [] ≡ qs ++ xs
+      args = constructor_arguments f c (qs ++ xs) eq
+
+      many : length (arguments v []) ≡ F.params + k
+      many = omega (arith, ap length args, length-append qs xs, lq, lx)
+
+      go : {val : Value} → Run P' e s' val gs.c → ConstructValue P v val → Gives P P' e (BCase f s' bs) w (suc (n + n')) (suc (m + m'))
+      go run (ready {f = g} {c = c'} {vs = vs} F' at' made) =
+          let e1 = sym (made_is made) ∙ head in
+          let same = same_counts e1 F' at' keeps at in
+          let count : size vs ≡ length xs = omega (arith, made_size made, same.0, same.1, lx) in
+          let b = branch_at c hs tat in
+          let G = families f F keeps in
+          let gb : Stands P (size vs + 0) e body b.b = subst (λ x. Stands P (x + 0) e body b.b) (sym count) b.stands in
+          let r = rest (bind_all vs e) b.b (stands_made qs xs made args (omega (arith, lq, same.0)) gb) in
+          let run' = subst (λ h. Run P' e s' (VConstruct h c vs) gs.c) (ap (λ t. family_name t f) e1) (subst (λ d. Run P' e s' (VConstruct g d vs) gs.c) (ap constructor_number e1) run) in
+          let at2 = subst (λ x. term_at bs c ≡ Some (x, b.b)) (sym count) b.at in
+          record {
+            v = r.v;
+            c = _;
+            run = run_match G.keeps (G.propositional ∙ prop) run' at2 r.run;
+            is = r.is;
+            contractions = omega (arith, gs.contractions, r.contractions);
+            made = omega (arith, gs.made, r.made);
+            matches = λ bare. omega (arith, gs.matches bare, r.matches bare);
+          }
+      go run (waiting F' at' h) = let same = same_counts (sym (waits_is h) ∙ head) F' at' keeps at in absurd (omega (arith, waits_count h, many, same.0, same.1))
+
+  only_gives : {e : Env} {s' body w b : BoxTerm} (n n' m m' k : ℕ) {f : FamilyId} {F : BoxFamily} → KeepsBoxFamily P f F → F.propositional ≡ true → Gives P P' e s' Box n m → Stands P (k + 0) e body b →
+      ((e' : Env) (d : BoxTerm) → Stands P 0 e' (substitute (put_all (boxes k) Rel) body) d → Gives P P' e' d w n' m') → Gives P P' e (BCase f s' (Next k b Done)) w (suc (n + n')) (suc (m + m'))
+  only_gives {e} {s'} {body} {w} {b} n n' m m' k {f} {F} keeps prop gs h rest = go gs.run gs.is
+    where
+      go : {val : Value} → Run P' e s' val gs.c → IsValue P Box val → Gives P P' e (BCase f s' (Next k b Done)) w (suc (n + n')) (suc (m + m'))
+      go run is_box =
+          let G = families f F keeps in
+          let r = rest (bind_all (box_values k) e) b (stands_boxes k h) in
+          record {
+            v = r.v;
+            c = _;
+            run = run_only G.keeps (G.propositional ∙ prop) run r.run;
+            is = r.is;
+            contractions = omega (arith, gs.contractions, r.contractions);
+            made = omega (arith, gs.made, r.made);
+            matches = λ bare. omega (arith, gs.matches bare, r.matches bare);
+          }
+      go run (is_part p) = elim p [ ]
+      go run (is_part_box p) = elim p [ ]
+      go run (is_construct F at h) = absurd (no_box (made_is h))
+      go run (is_waiting F at h) = absurd (no_box (waits_is h))
+
+  -- a constructor that has all its parameters and arguments makes one block
+  full_gives : {e : Env} {f : FamilyId} {c n k m : ℕ} {F : BoxFamily} {b w : BoxTerm} → KeepsBoxFamily P f F → slice_get F.args c ≡ Some n → (j : ℕ) → j ≡ F.params + n → GivesArgs P P' e f c F.params j b w k m → Gives P P' e b w k m
+  full_gives {f = f} {c = c} {n = n} {F = F} {w = w} keeps at j z g =
+      let G = families f F keeps in
+      record {
+        v = _;
+        c = _;
+        run = run_construct G.keeps (ap (λ l. slice_get l c) G.args ∙ at) (omega (arith, made_size g.is)) g.run;
+        is = is_construct keeps at (subst (λ i. Made P f c F.params i w g.vs) z g.is);
+        contractions = omega (arith, g.contractions, constructor_block_quiet n);
+        made = omega (arith, g.made, constructor_block_small n);
+        matches = λ bare. omega (arith, g.matches bare, constructor_block_matches n);
+      }
+
+  -- a constructor alone is a function
+  alone_gives : {e : Env} {f : FamilyId} {c n : ℕ} {F : BoxFamily} {b : BoxTerm} → KeepsBoxFamily P f F → slice_get F.args c ≡ Some n → 0 < F.params + n → b ≡ constructor_function F.params n f c → Gives P P' e b (BConstruct f c) 1 0
+  alone_gives {e} {f} {c} {n} {F} {b} keeps at lt eq =
+      let q = function_gives {e = e} keeps at (waits_head refl) in
+      record {
+        v = q.v;
+        c = q.c;
+        run = subst (λ d. Run P' e d q.v q.c) (sym eq) q.run;
+        is = q.is;
+        contractions = omega (arith, q.contractions);
+        made = omega (arith, q.blocks);
+        matches = λ bare. q.matches;
+      }
+
+  head_args : {e : Env} {f : FamilyId} {c p : ℕ} → GivesArgs P P' e f c p 0 (BConstruct f c) (BConstruct f c) 1 0
+  head_args = record { vs = NoValue; c = nothing; run = run_head; is = made_head; contractions = omega arith; made = omega arith; matches = λ b. refl }
+
+  dropped_args : {e : Env} {f : FamilyId} {c p j : ℕ} {b w v : BoxTerm} (k l m n : ℕ) → (Bare P → p ≡ 0) → j < p → Closed 0 v → GivesArgs P P' e f c p j b w k m → GivesArgs P P' e f c p (suc j) b (BApp w v) (suc (k + l)) (m + n)
+  dropped_args k l m n bare lt cv g = record { vs = g.vs; c = g.c; run = g.run; is = made_dropped lt cv g.is; contractions = omega (arith, g.contractions); made = omega (arith, g.made); matches = λ b. absurd (omega (arith, bare b, lt)) }
+
+  kept_args : {e : Env} {f : FamilyId} {c p j : ℕ} {b d w v : BoxTerm} (k l m n : ℕ) → p ≤ j → GivesArgs P P' e f c p j b w k m → Gives P P' e d v l n → GivesArgs P P' e f c p (suc j) (BApp b d) (BApp w v) (suc (k + l)) (m + n)
+  kept_args k l m n le r a =
+      record {
+        vs = _;
+        c = _;
+        run = run_arg r.run a.run;
+        is = made_kept le r.is a.is;
+        contractions = omega (arith, r.contractions, a.contractions);
+        made = omega (arith, r.made, a.made);
+        matches = λ b. omega (arith, r.matches b, a.matches b);
+      }
+
+  mutual
+    pub follows : {t b w : BoxTerm} {e : Env} {n m : ℕ} → BoxEvaluates P t w n m → Stands P 0 e t b → Gives P P' e b w n m
+    follows d (standing.bound lt) = absurd (omega arith)
+    follows d (standing.held {h = h} i eq at is) = var_gives h eq at is d
+    follows (constant at' d) (standing.full F at z h) = elim h [ ]
+    follows (let_in d1 d2) (standing.full F at z h) = elim h [ ]
+    follows (enter d1 con at' d2) (standing.full F at z h) = elim h [ ]
+    follows (enter_only G p d1 d2) (standing.full F at z h) = elim h [ ]
+    follows (value i) (standing.full F at z args_head) = full_gives F at _ z head_args
+    follows (value i) (standing.full F at z (args_dropped l cu h)) = elim i [ ]
+    follows (beta d1 d2 d3) (standing.full F at z (args_dropped l cu h)) = let g = follows_args (λ bare. bare _ F.0) d1 h in absurd (no_lambda (made_is g.is))
+    follows (box_app d1 d2) (standing.full F at z (args_dropped l cu h)) = let g = follows_args (λ bare. bare _ F.0) d1 h in absurd (no_box (made_is g.is))
+    follows (unfold_fix d1 d2 u d3) (standing.full F at z (args_dropped l cu h)) = let g = follows_args (λ bare. bare _ F.0) d1 h in absurd (construct_not_unfolded (made_is g.is) u)
+    follows (extend d1 d2 m) (standing.full F at z (args_dropped l cu h)) =
+        full_gives F at _ z (dropped_args _ _ _ _ (λ bare. bare _ F.0) l (closed_evaluates closed d2 cu) (follows_args (λ bare. bare _ F.0) d1 h))
+    follows (value i) (standing.full F at z (args_kept l h g)) = elim i [ ]
+    follows (beta d1 d2 d3) (standing.full F at z (args_kept l h g)) = let r = follows_args (λ bare. bare _ F.0) d1 h in absurd (no_lambda (made_is r.is))
+    follows (box_app d1 d2) (standing.full F at z (args_kept l h g)) = let r = follows_args (λ bare. bare _ F.0) d1 h in absurd (no_box (made_is r.is))
+    follows (unfold_fix d1 d2 u d3) (standing.full F at z (args_kept l h g)) = let r = follows_args (λ bare. bare _ F.0) d1 h in absurd (construct_not_unfolded (made_is r.is) u)
+    follows (extend d1 d2 m) (standing.full F at z (args_kept l h g)) = full_gives F at _ z (kept_args _ _ _ _ l (follows_args (λ bare. bare _ F.0) d1 h) (follows d2 g))
+    follows (value i) (standing.alone F at l eq) = alone_gives F at l eq
+    follows (value i) standing.box = record { v = VBox; c = nothing; run = run_box; is = is_box; contractions = omega arith; made = omega arith; matches = λ bare. refl }
+    follows (value i) (standing.lambda h) = record { v = _; c = _; run = run_lambda; is = is_lambda h; contractions = omega arith; made = omega arith; matches = λ bare. refl }
+    follows (value i) (standing.fix hs l) = record { v = _; c = _; run = run_fix; is = is_fix hs l; contractions = omega arith; made = omega arith; matches = λ bare. refl }
+    follows (value i) (standing.let_in h g) = elim i [ ]
+    follows (value i) (standing.app h g) = elim i [ ]
+    follows (value i) standing.constant = elim i [ ]
+    follows (value i) (standing.case h g) = elim i [ ]
+    follows (constant {k = k} {b = b} at d) standing.constant =
+        let C = constants k b at in
+        let g = follows d C.stands in
+        record { v = g.v; c = _; run = run_constant C.keeps g.run; is = g.is; contractions = omega (arith, g.contractions); made = omega (arith, g.made); matches = λ bare. omega (arith, g.matches bare) }
+    follows (let_in d1 d2) (standing.let_in h1 h2) =
+        let ga = follows d1 h1 in
+        let g = follows d2 (stands_one ga.is h2) in
+        record {
+          v = g.v;
+          c = _;
+          run = run_let ga.run g.run;
+          is = g.is;
+          contractions = omega (arith, ga.contractions, g.contractions);
+          made = omega (arith, ga.made, g.made);
+          matches = λ bare. omega (arith, ga.matches bare, g.matches bare);
+        }
+    follows (beta d1 d2 d3) (standing.app h1 h2) = beta_gives _ _ _ _ _ _ (follows d1 h1) (follows d2 h2) (λ e c h. follows d3 h)
+    follows (box_app d1 d2) (standing.app h1 h2) = box_gives _ _ _ _ (follows d1 h1) (follows d2 h2)
+    follows (extend d1 d2 (constructor f c xs F at lt eq)) (standing.app h1 h2) =
+        let count = ap length (constructor_arguments f c xs eq) in
+        construct_gives _ _ _ _ F at (constructor_head xs eq) (omega (arith, lt, count)) (follows d1 h1) (follows d2 h2)
+    follows (extend d1 d2 (fixpoint i rargs bodies xs at lt eq)) (standing.app h1 h2) =
+        let count = ap length (fix_arguments i rargs bodies xs eq) in
+        wait_gives _ _ _ _ i rargs bodies _ (fix_head xs eq) at (omega (arith, lt, count)) (follows d1 h1) (follows d2 h2)
+    follows (unfold_fix d1 d2 (unfolds i rargs bodies xs r l at eq) (value j)) (standing.app h1 h2) = elim j [ ]
+    follows (unfold_fix d1 d2 (unfolds i rargs bodies xs r l at eq) (beta d4 d5 d6)) (standing.app h1 h2) =
+        go_lambda _ _ _ _ _ _ _ _ _ _ i rargs bodies xs (unfolds i rargs bodies xs r l at eq) eq at d4 d5 (follows d1 h1) (follows d2 h2) (λ e c h. follows d6 h)
+    follows (unfold_fix d1 d2 (unfolds i rargs bodies xs r l at eq) (box_app d4 d5)) (standing.app h1 h2) =
+        go_box _ _ _ _ _ _ _ _ i rargs bodies xs (unfolds i rargs bodies xs r l at eq) eq at d4 d5 (follows d1 h1) (follows d2 h2)
+    follows (unfold_fix d1 d2 (unfolds i rargs bodies xs r l at eq) (extend d4 d5 m)) (standing.app h1 h2) =
+        let g = follows d1 h1 in let no = unfolded_value {a = Box} _ _ i rargs bodies xs (unfolds i rargs bodies xs r l at eq) eq at d4 g.is in absurd (no.0 m)
+    follows (unfold_fix d1 d2 (unfolds i rargs bodies xs r l at eq) (unfold_fix d4 d5 u d6)) (standing.app h1 h2) =
+        let g = follows d1 h1 in let no = unfolded_value {a = Box} _ _ i rargs bodies xs (unfolds i rargs bodies xs r l at eq) eq at d4 g.is in absurd (no.1 _ _ u)
+    follows (enter d1 con at d2) (standing.case h hs) = enter_gives _ _ _ _ con at hs (follows d1 h) (λ e c h. follows d2 h)
+    follows (enter_only F p d1 d2) (standing.case h (next h2 none)) = only_gives _ _ _ _ _ F p (follows d1 h) h2 (λ e c h. follows d2 h)
+
+    pub follows_args : {t b w : BoxTerm} {e : Env} {n m : ℕ} {f : FamilyId} {c p j : ℕ} → (Bare P → p ≡ 0) → BoxEvaluates P t w n m → StandArgs P 0 e f c p j t b → GivesArgs P P' e f c p j b w n m
+    follows_args bare (constant at' d) h = elim h [ ]
+    follows_args bare (let_in d1 d2) h = elim h [ ]
+    follows_args bare (enter d1 con at' d2) h = elim h [ ]
+    follows_args bare (enter_only G p d1 d2) h = elim h [ ]
+    follows_args bare (value i) args_head = head_args
+    follows_args bare (value i) (args_dropped l cu h) = elim i [ ]
+    follows_args bare (beta d1 d2 d3) (args_dropped l cu h) = let g = follows_args bare d1 h in absurd (no_lambda (made_is g.is))
+    follows_args bare (box_app d1 d2) (args_dropped l cu h) = let g = follows_args bare d1 h in absurd (no_box (made_is g.is))
+    follows_args bare (unfold_fix d1 d2 u d3) (args_dropped l cu h) = let g = follows_args bare d1 h in absurd (construct_not_unfolded (made_is g.is) u)
+    follows_args bare (extend d1 d2 m) (args_dropped l cu h) = dropped_args _ _ _ _ bare l (closed_evaluates closed d2 cu) (follows_args bare d1 h)
+    follows_args bare (value i) (args_kept l h g) = elim i [ ]
+    follows_args bare (beta d1 d2 d3) (args_kept l h g) = let r = follows_args bare d1 h in absurd (no_lambda (made_is r.is))
+    follows_args bare (box_app d1 d2) (args_kept l h g) = let r = follows_args bare d1 h in absurd (no_box (made_is r.is))
+    follows_args bare (unfold_fix d1 d2 u d3) (args_kept l h g) = let r = follows_args bare d1 h in absurd (construct_not_unfolded (made_is r.is) u)
+    follows_args bare (extend d1 d2 m) (args_kept l h g) = kept_args _ _ _ _ l (follows_args bare d1 h) (follows d2 g)
