@@ -7,3 +7,5 @@ pub mod Follows
 pub mod Forms
 pub mod Preorder
 pub mod BoxForms
+pub mod Views
+pub mod Parts
