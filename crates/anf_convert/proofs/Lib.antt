@@ -9,3 +9,6 @@ pub mod Preorder
 pub mod BoxForms
 pub mod Views
 pub mod Parts
+pub mod Pieces
+pub mod Arms
+pub mod Lists

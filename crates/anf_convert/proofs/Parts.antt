@@ -106,7 +106,7 @@ module _ (k : Name → ℕ) (env : List spec.Level) (a : BoxTerm) (d : ℕ) (bef
         ops = p.ops ∙ ap (λ z. z ++ x.ops) e ∙ append_assoc before ops x.ops;
         res = subst (λ r. MadeIs k m r)
             (ap (λ z. ROp (AppOp (at_depth z f) (at_depth z (level_of l)))) p.depth ∙ ap (λ y. ROp (AppOp (at_depth (d + length ops + length x.ops) f) (at_depth (d + length ops + length x.ops) y))) p.atom
-                ∙ ap (λ f. ROp (AppOp (at_depth (d + length ops + length x.ops) f) (at_depth (d + length ops + length x.ops) x.atom))) (sym eg))
+            ∙ ap (λ f. ROp (AppOp (at_depth (d + length ops + length x.ops) f) (at_depth (d + length ops + length x.ops) x.atom))) (sym eg))
             is;
         depth = omega (arith, p.depth, length-append ops x.ops);
       }
