@@ -7,3 +7,8 @@ pub mod Follows
 pub mod Forms
 pub mod Preorder
 pub mod BoxForms
+pub mod Views
+pub mod Parts
+pub mod Pieces
+pub mod Arms
+pub mod Lists

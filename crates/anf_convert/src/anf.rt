@@ -3,6 +3,7 @@
 //!
 //! Variables are de Bruijn indices, the innermost 0. `specs/View.antt` says which tree of `specs/Anf.antt` each of these values is.
 ghost use Rattle.std.specs.Prelude.{◌≡◌, ◌↔◌, IsTrue, length, []};
+ghost use Rattle.anf_convert.specs.declared.anf.AnfBranches.{out-AnfBranches};
 
 use pc_terms::leaf::Name;
 use std::alloc::Global;
@@ -236,7 +237,7 @@ pub struct AnfBranches {
 impl AnfBranches {
     /// The empty list, which grows by `alloc`.
     pub fn new(alloc: Global) -> AnfBranches
-        ensures empty { result.items.items ≡ [] }
+        ensures empty { (out-AnfBranches result).items.items ≡ [] }
     {
         AnfBranches {
             items: Vec::new(alloc),
@@ -245,35 +246,35 @@ impl AnfBranches {
 
     /// The list of the items of a vector. It takes no memory.
     pub fn of(items: Vec<AnfBranch>) -> AnfBranches
-        ensures is { result.items ≡ items }
+        ensures is { (out-AnfBranches result).items ≡ items }
     {
         AnfBranches { items }
     }
 
     /// The vector of the items. It takes no memory.
     pub fn into_vec(self) -> Vec<AnfBranch>
-        ensures is { result ≡ self.items }
+        ensures is { result ≡ (out-AnfBranches self).items }
     {
         self.items
     }
 
     /// The items, the first first.
     pub fn as_slice(&self) -> &[AnfBranch]
-        ensures is { result.now ≡ self.now.items.items }
+        ensures is { result.now ≡ (out-AnfBranches self.now).items.items }
     {
         self.items.as_slice()
     }
 
     /// The number of items.
     pub fn len(&self) -> usize
-        ensures is { result ≡ length self.now.items.items }
+        ensures is { result ≡ length (out-AnfBranches self.now).items.items }
     {
         self.items.len()
     }
 
     /// Whether there is no item.
     pub fn is_empty(&self) -> bool
-        ensures is { IsTrue result ↔ (self.now.items.items ≡ []) }
+        ensures is { IsTrue result ↔ ((out-AnfBranches self.now).items.items ≡ []) }
     {
         self.items.is_empty()
     }

@@ -1,9 +1,12 @@
 //! The translation to A-normal form.
-ghost use Rattle.std.specs.Prelude.{◌≡◌, ◌+◌, ◌∷◌, [], ◌++◌, IfOk, IfErr, OnOk, map, length, reverse, take};
+ghost use Rattle.std.specs.Prelude.{◌≡◌, ℕ, ◌+◌, ◌∷◌, [], ◌++◌, IfOk, IfErr, OnOk, length, take};
 ghost use Rattle.lambda_box.specs.declared.fault.PassFault.TheVariants.{Memory};
 ghost use Rattle.anf_convert.specs.ToAnf as spec;
 ghost use Rattle.anf_convert.specs.View.{atom_of, op_of};
-ghost use Rattle.anf_convert.specs.ProgramView.{names_of, program_of};
+ghost use Rattle.anf_convert.specs.ProgramView.{names_of, names_before, program_of, KeepsAnfData};
+ghost use Rattle.anf_convert.specs.ToAnfKeeps.{IsReady};
+ghost use Rattle.anf_convert.specs.TermForm.{ProgramFits};
+ghost use Rattle.anf_convert.specs.AnfForm.{AnfFormed};
 ghost use Rattle.anf_convert.specs.Anf.{AppOp};
 ghost use Rattle.anf_convert.specs.declared.anf.AnfBranches.{out-AnfBranches};
 ghost use Rattle.anf_convert.specs.Converted.{NumberOf, level_of, levels_of, IsOperation, IsConstruct, IsNamed, Normed, Argued, Applied, LetIn, IsBlock, AreBranches, IsDefinition, AreDefs, MadeIs, AreConverted};
@@ -56,8 +59,20 @@ pub(crate) struct Place {
     depth: u32,
 }
 
-/// The program in A-normal form.
-pub fn to_anf(alloc: Global, p: &BoxProgram) -> Result<AnfProgram, PassFault> {
+/// The program in A-normal form: each function, argument and scrutinee that is no atom gets a variable, and so does each let. It has the names
+/// of `p`'s constants, in the same order, and its families.
+///
+/// The answer is the program of `specs/ToAnf.antt`. Where `p` is what the passes before leave (distinct names, constructors with all their
+/// arguments, no match on a propositional family that has a constructor), main, applied to any values that are data, gives the same data, with
+/// as many matches and blocks, no more contractions and no wider block. `Memory` is the only refusal.
+pub fn to_anf(alloc: Global, p: &BoxProgram) -> Result<AnfProgram, PassFault>
+    ensures is { IfOk result (λ q. program_of q ≡ spec.to_anf p.now) }
+    ensures names { IfOk result (λ q. names_of q ≡ names_before p.now) }
+    ensures families { IfOk result (λ q. q.families ≡ p.now.families) }
+    ensures data_kept { IfOk result (λ q. IsReady p.now → KeepsAnfData p.now (program_of q)) }
+    ensures form { IfOk result (λ q. (m : ℕ) → ProgramFits p.now m → AnfFormed (program_of q) m) }
+    ensures only_memory { IfErr result (λ e. e ≡ Memory) }
+{
     let constants = constants(alloc, &p.constants)?;
     let Ok(families) = p.families.copied(alloc) else {
         return Err(PassFault::Memory);
@@ -135,7 +150,8 @@ fn operation(alloc: Global, made: Made, depth: u32) -> Result<Op, PassFault>
             if levels.is_empty() {
                 Ok(Op::Atom(Atom::Empty(c)))
             } else {
-                construct(alloc, c, levels.as_slice(), depth)
+                let op = construct(alloc, c, levels.as_slice(), depth)?;
+                Ok(op)
             }
         }
         Made::Other(op) => Ok(op),
@@ -173,9 +189,13 @@ fn name(alloc: Global, out: &mut Vec<Op>, made: Made, depth: u32) -> Result<Plac
                 });
             }
             let op = construct(alloc, c, levels.as_slice(), depth)?;
-            bind(out, op, depth)
+            let place = bind(out, op, depth)?;
+            Ok(place)
         }
-        Made::Other(op) => bind(out, op, depth),
+        Made::Other(op) => {
+            let place = bind(out, op, depth)?;
+            Ok(place)
+        }
     }
 }
 
@@ -244,19 +264,15 @@ fn block(
 
 /// A lambda's body as a block, under `depth` variables and its argument. Only `Memory`.
 #[cycle(convert)]
-fn body(
-    alloc: Global,
-    env: &mut Vec<Level>,
-    depth: u32,
-    t: &BoxTerm,
-) -> Result<AnfBlock, PassFault>
+fn body(alloc: Global, env: &mut Vec<Level>, depth: u32, t: &BoxTerm) -> Result<AnfBlock, PassFault>
     ensures ok { IfOk result (IsBlock (spec.LVar depth ∷ levels_of env.old.items) (depth + 1) t.now) }
     ensures env_same { OnOk result (env.new.items ≡ env.old.items) }
     ensures only_memory { IfErr result (λ e. e ≡ Memory) }
 {
+    let outside = env.len();
     let inner = push_levels(env, depth, 1)?;
     let block = block(alloc, env, inner, t)?;
-    let _ = env.pop();
+    env.truncate(outside);
     Ok(block)
 }
 
@@ -274,7 +290,8 @@ fn argument(
     ensures only_memory { IfErr result (λ e. e ≡ Memory) }
 {
     let Part { made, depth: after } = norm(alloc, env, depth, out, t)?;
-    name(alloc, out, made, after)
+    let place = name(alloc, out, made, after)?;
+    Ok(place)
 }
 
 /// An application, after its function. Only `Memory`.
@@ -381,10 +398,14 @@ fn norm(
                 depth,
             })
         }
-        BoxNode::LetIn(v, b) => let_in(alloc, env, depth, out, v, b),
+        BoxNode::LetIn(v, b) => {
+            let part = let_in(alloc, env, depth, out, v, b)?;
+            Ok(part)
+        }
         BoxNode::App(f, a) => {
             let function = norm(alloc, env, depth, out, f)?;
-            apply(alloc, env, function, out, a)
+            let part = apply(alloc, env, function, out, a)?;
+            Ok(part)
         }
         BoxNode::Case(_, s, bs) => {
             let place = argument(alloc, env, depth, out, s)?;
@@ -434,12 +455,7 @@ fn branches(
 
 /// The definitions of a fixpoint under `depth` variables and one for each definition. Only `Memory`.
 #[cycle(convert)]
-fn defs(
-    alloc: Global,
-    env: &mut Vec<Level>,
-    depth: u32,
-    ds: &BoxDefs,
-) -> Result<AnfDefs, PassFault>
+fn defs(alloc: Global, env: &mut Vec<Level>, depth: u32, ds: &BoxDefs) -> Result<AnfDefs, PassFault>
     ensures ok { IfOk result (λ xs. AreDefs (levels_of env.old.items) depth ds.now xs.items.items) }
     ensures env_same { OnOk result (env.new.items ≡ env.old.items) }
     ensures only_memory { IfErr result (λ e. e ≡ Memory) }
@@ -478,6 +494,13 @@ fn definition(
             let block = body(alloc, env, depth, b)?;
             Ok(AnfDef::Lambda(block))
         }
-        _ => Ok(AnfDef::Box),
+        BoxNode::Boxed => Ok(AnfDef::Box),
+        BoxNode::Rel(_) => Ok(AnfDef::Box),
+        BoxNode::LetIn(_, _) => Ok(AnfDef::Box),
+        BoxNode::App(_, _) => Ok(AnfDef::Box),
+        BoxNode::Const(_) => Ok(AnfDef::Box),
+        BoxNode::Construct(_, _) => Ok(AnfDef::Box),
+        BoxNode::Case(_, _, _) => Ok(AnfDef::Box),
+        BoxNode::Fix(_, _) => Ok(AnfDef::Box),
     }
 }

@@ -1,11 +1,13 @@
 pub mod Standing
 pub mod Selves
 pub mod Filling
+pub mod Opening
 pub mod Follows
 pub mod Saturating
 pub mod Keeping
 pub mod PropMatch
 pub mod Results
+pub mod SaturateRelation
 pub mod Saturates
 pub mod SaturatedForm
 pub mod SaturateKeeps

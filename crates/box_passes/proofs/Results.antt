@@ -6,7 +6,7 @@ use Rattle.lambda_box.specs.BoxProgram.{BoxProgram}
 use Rattle.lambda_box.specs.BoxEvaluation.{IsBoxValue, box_is, BoxTakesMore, constructor, fixpoint, BoxUnfolds, unfolds, BoxEvaluates, value, constant, let_in, beta, box_app, extend, unfold_fix, enter, enter_only}
 use Rattle.lambda_box.proofs.Spines.{constructor_head, fix_head, fix_arguments, one_item}
 use Rattle.box_passes.proofs.Selves.{index_of, rargs_of, no_fix}
-use Rattle.box_passes.proofs.Follows.{lambda_takes_none, box_takes_none}
+use Rattle.box_passes.proofs.Opening.{lambda_takes_none, box_takes_none}
 
 pub data IsResult (P : BoxProgram) : BoxTerm → Type 0 where
   result_value : {v : BoxTerm} → IsBoxValue v → IsResult P v

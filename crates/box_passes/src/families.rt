@@ -6,7 +6,7 @@ ghost use Rattle.box_passes.specs.Saturate.{without_parameters};
 ghost use Rattle.box_passes.specs.Heads.{arity_of};
 ghost use Rattle.lambda_box.specs.declared.fault.PassFault.TheVariants.{Memory};
 
-use box_terms::program::{copied_numbers, BoxFamilies, BoxFamily};
+use box_terms::program::{BoxFamilies, BoxFamily, copied_numbers};
 use lambda_box::PassFault;
 use pc_terms::leaf::FamilyId;
 use std::alloc::Global;

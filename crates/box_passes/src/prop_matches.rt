@@ -72,12 +72,7 @@ fn dropped_constants(
 }
 
 /// The term of a node, where it is what the term `t` becomes, which is no deeper than `t`. Only `Memory`.
-fn made(
-    alloc: Global,
-    fs: &BoxFamilies,
-    t: &BoxTerm,
-    node: BoxNode,
-) -> Result<BoxTerm, PassFault>
+fn made(alloc: Global, fs: &BoxFamilies, t: &BoxTerm, node: BoxNode) -> Result<BoxTerm, PassFault>
     requires is { box_of node ≡ drop_matches fs.now t.now }
     ensures ok { IfOk result (λ u. u ≡ drop_matches fs.now t.now) }
     ensures only_memory { IfErr result (λ e. e ≡ Memory) }

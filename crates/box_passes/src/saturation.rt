@@ -12,7 +12,7 @@ ghost use Rattle.lambda_box.specs.SaturatedForm.{IsSaturated};
 ghost use Rattle.box_passes.specs.PassResults.{IsAtMostSaturated, KeepsBareData, RunsForData, HasCountedRuns, IsDeep};
 ghost use Rattle.lambda_box.specs.declared.fault.PassFault.TheVariants.{TooDeep, Memory};
 
-use crate::families::{bare, arity_at, Arity};
+use crate::families::{Arity, arity_at, bare};
 use crate::sharing::{share_branches, share_defs, shared};
 use box_terms::program::{BoxConstant, BoxConstants, BoxFamilies, BoxProgram};
 use box_terms::term::{BoxBranch, BoxBranches, BoxDef, BoxDefs, BoxNode, BoxTerm};
@@ -181,15 +181,24 @@ fn saturated(alloc: Global, fs: &BoxFamilies, t: &BoxTerm, n: u32) -> Result<Hea
         BoxNode::Boxed => same_head(t, 0),
         BoxNode::Rel(_) => same_head(t, 0),
         BoxNode::Lambda(b) => {
-            let Head { term: body, spare: _ } = saturated(alloc, fs, b, 0)?;
+            let Head {
+                term: body,
+                spare: _,
+            } = saturated(alloc, fs, b, 0)?;
             if body.shares_node(b) {
                 return same_head(t, 0);
             }
             head_of(alloc, BoxNode::Lambda(body))
         }
         BoxNode::LetIn(v, b) => {
-            let Head { term: value, spare: _ } = saturated(alloc, fs, v, 0)?;
-            let Head { term: body, spare: _ } = saturated(alloc, fs, b, 0)?;
+            let Head {
+                term: value,
+                spare: _,
+            } = saturated(alloc, fs, v, 0)?;
+            let Head {
+                term: body,
+                spare: _,
+            } = saturated(alloc, fs, b, 0)?;
             if value.shares_node(v) && body.shares_node(b) {
                 return same_head(t, 0);
             }
@@ -204,8 +213,14 @@ fn saturated(alloc: Global, fs: &BoxFamilies, t: &BoxTerm, n: u32) -> Result<Hea
                     spare: spare - 1,
                 });
             }
-            let Head { term: function, spare: _ } = g;
-            let Head { term: argument, spare: _ } = saturated(alloc, fs, a, 0)?;
+            let Head {
+                term: function,
+                spare: _,
+            } = g;
+            let Head {
+                term: argument,
+                spare: _,
+            } = saturated(alloc, fs, a, 0)?;
             if function.shares_node(f) && argument.shares_node(a) {
                 return same_head(t, 0);
             }
@@ -214,7 +229,10 @@ fn saturated(alloc: Global, fs: &BoxFamilies, t: &BoxTerm, n: u32) -> Result<Hea
         BoxNode::Const(_) => same_head(t, 0),
         BoxNode::Construct(f, c) => constructor(alloc, fs, t, *f, *c, n),
         BoxNode::Case(f, s, bs) => {
-            let Head { term: scrut, spare: _ } = saturated(alloc, fs, s, 0)?;
+            let Head {
+                term: scrut,
+                spare: _,
+            } = saturated(alloc, fs, s, 0)?;
             let branches = saturated_branches(alloc, fs, bs)?;
             if scrut.shares_node(s) && share_branches(&branches, bs) {
                 return same_head(t, 0);
@@ -247,7 +265,10 @@ fn saturated_branches(
     let mut items = Vec::new(alloc);
     for i in 0..xs.len() {
         let arm = &xs[i];
-        let Head { term: body, spare: _ } = saturated(alloc, fs, &arm.body, 0)?;
+        let Head {
+            term: body,
+            spare: _,
+        } = saturated(alloc, fs, &arm.body, 0)?;
         let binders = arm.binders;
         if items.push(BoxBranch { binders, body }).is_err() {
             return Err(PassFault::Memory);
@@ -268,7 +289,10 @@ fn saturated_defs(alloc: Global, fs: &BoxFamilies, ds: &BoxDefs) -> Result<BoxDe
     let mut items = Vec::new(alloc);
     for i in 0..xs.len() {
         let def = &xs[i];
-        let Head { term: body, spare: _ } = saturated(alloc, fs, &def.body, 0)?;
+        let Head {
+            term: body,
+            spare: _,
+        } = saturated(alloc, fs, &def.body, 0)?;
         let rarg = def.rarg;
         if items.push(BoxDef { body, rarg }).is_err() {
             return Err(PassFault::Memory);

@@ -6,18 +6,16 @@ ghost use Rattle.closure_lift.specs.CapturedLimit.{CapturedExactly};
 
 /// The lifted program has the data of the program in A-normal form, with as many matches and blocks, no more contractions and no wider
 /// block, whatever data main is applied to.
-#[tactic(auto, using(crate::proofs::Follows::lift_keeps))]
 pub fn lift_law()
-    ensures { LiftKeeps }
+    ensures keeps { LiftKeeps }
 {}
 
 /// The names of the lifted program are in scope, and each closure has the words that its function takes.
-#[tactic(auto, using(crate::proofs::Forms::lift_forms))]
 pub fn form_law()
-    ensures { LiftForms }
+    ensures form { LiftForms }
 {}
 
 /// The functions of a lifted program take as many words as the lambdas and fixpoints have captured ones.
 pub fn captured_law()
-    ensures { CapturedExactly }
+    ensures exactly { CapturedExactly }
 {}

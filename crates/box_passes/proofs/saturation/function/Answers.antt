@@ -25,7 +25,7 @@ returns-in_err-t-3-clause-too_deep c =
     let p = err_from_is_err_and c.from_residual-in_err-t-3.result c.from_residual-in_err-t-3.ensures.1 in
     rw (p.1, p.2)
     (λ q. lambdas_deep (c.binders.binders - 1) (BLambda c.binders.t) (constructor_function c.args.k.params c.args.k.args c.args.f c.args.c) (next_lambda c.binders.binders c.binders.t pos ∙ c.binders.invariant)
-        (c.in_err-t-3.ensures.too_deep q))
+    (c.in_err-t-3.ensures.too_deep q))
 
 pub binders-preserved : goal.binders-preserved
 binders-preserved c =

@@ -1,0 +1,211 @@
+-- How values are entered, and fixpoints opened, on both sides of saturation.
+use Rattle.std.proofs.Common.{◌≡◌, ℕ, zero, suc, ◌+◌, ◌*◌, ◌<◌, ◌≤◌, List, [], ◌∷◌, ◌++◌, length, true, Some, refl, sym, ap, ◌∙◌, subst, ⊎_elim, arith, length-append}
+use Rattle.std.proofs.lemmas.Bool.{cases_lt}
+use Rattle.std.specs.Prelude.{slice_get}
+use Rattle.trees.specs.Tree.{Rel, Done, Next, term_at}
+use Rattle.trees.specs.Parallel.{put, put_all, substitute}
+use Rattle.trees.specs.Closed.{Closed}
+use Rattle.pc_terms.specs.declared.leaf.Name.{Name}
+use Rattle.pc_terms.specs.declared.leaf.FamilyId.{FamilyId}
+use Rattle.pc_terms.specs.BoxSyntax.{BoxTerm, BoxTerms, Box, BLambda, BApp, BConstruct, BCase, BFix}
+use Rattle.lambda_box.specs.BoxProgram.{BoxFamily, BoxProgram, Has, KeepsBoxConstant, KeepsBoxFamily, box_apply, boxes}
+use Rattle.lambda_box.specs.BoxForm.{IsFixBody, boxed, last, more}
+use Rattle.lambda_box.specs.BoxEvaluation.{box_is, IsBoxConstructor, is_box_constructor, BoxTakesMore, constructor, fixpoint, box_unfolded, BoxUnfolds, unfolds, BoxEvaluates, value, constant, let_in, beta, box_app, extend, unfold_fix, enter, enter_only}
+use Rattle.box_passes.specs.Saturate.{innermost, lambdas, constructor_function}
+use Rattle.lambda_box.specs.ClosureEvaluation.{Value, VBox, VConstruct, VClosure, VFix, Values, NoValue, Then, Env, Empty, Bind, BindFix, bind_all, box_values, size, Held, Holds, Defines, held_value, Finds, found, later, Counts, nothing, constructor_block, ◌⊕◌, Run, run_box, run_value, run_definition, run_lambda, run_fix, run_constant, run_let, run_app, run_box_app, run_fix_app, run_fix_box, run_construct, run_match, run_only, RunArgs, run_head, run_arg}
+use Rattle.lambda_box.proofs.Spines.{head_of, arguments, arguments_before, constructor_head, constructor_arguments, fix_head, fix_arguments, closed_evaluates, one_item}
+use Rattle.box_passes.proofs.Standing as standing
+use Rattle.box_passes.proofs.Standing.{IsValue, is_box, is_lambda, is_fix, is_part, is_part_box, is_construct, is_waiting, Stands, StandTerms, none, next, StandBody, body_boxed, body_last, body_more, StandDefs, StandArgs, args_head, args_dropped, args_kept, Made, made_head, made_dropped, made_kept, Waits, waits_head, waits_more, Part, part_fix, part_app, part_box, closed_value, closed_stands}
+use Rattle.box_passes.proofs.Selves.{made_is, made_count, waits_is, waits_count, part_is, part_no_construct, index_of, rargs_of, bodies_of, no_fix, no_lambda, no_box, construct_not_unfolded, unfolded_now, self, quiet}
+use Rattle.box_passes.proofs.Filling.{stands_one, body_one, stands_boxes, made_size, stands_made, def_at, slice_found, body_unfolded}
+use Rattle.lambda_box.proofs.Spines.{same_body}
+
+abbrev pub Bare : BoxProgram → Type 0
+Bare P = (F : BoxFamily) → Has P.families F → F.params ≡ 0
+
+-- the body, run in the environment, gives a value that is w
+pub record Gives (P P' : BoxProgram) (e : Env) (b w : BoxTerm) (n m : ℕ) : Type 0 where
+  pub v : Value
+  pub c : Counts
+  pub run : Run P' e b v c
+  pub is : IsValue P w v
+  pub contractions : c.contractions < n
+  pub made : c.blocks ≤ 2 * n
+  pub matches : Bare P → c.matches ≡ m
+
+pub record GivesArgs (P P' : BoxProgram) (e : Env) (f : FamilyId) (i p j : ℕ) (b w : BoxTerm) (n m : ℕ) : Type 0 where
+  pub vs : Values
+  pub c : Counts
+  pub run : RunArgs P' e f i b vs c
+  pub is : Made P f i p j w vs
+  pub contractions : c.contractions < n
+  pub made : c.blocks < 2 * n
+  pub matches : Bare P → c.matches ≡ m
+
+-- how a fixpoint's value is entered
+pub data Enter : Value → Env → BoxTerm → Type 0 where
+  en_closure : {e : Env} {b : BoxTerm} → Enter (VClosure e b) e (BLambda b)
+  en_box : {e : Env} → Enter VBox e Box
+  en_fix : {e : Env} {i : ℕ} {rargs : List ℕ} {bs : BoxTerms} {b : BoxTerm} → term_at bs i ≡ Some (length rargs, b) → Enter (VFix e i rargs bs) (BindFix rargs bs e) b
+
+record Entry (P : BoxProgram) (t : BoxTerm) (v : Value) : Type 0 where
+  pub n : ℕ
+  pub e : Env
+  pub b : BoxTerm
+  pub part : Part P n t e b
+  pub enters : Enter v e b
+
+pub fix_entry : {P : BoxProgram} {i : ℕ} {rargs : List ℕ} {ts : BoxTerms} {t : BoxTerm} {v : Value} → head_of t ≡ BFix i rargs ts → IsValue P t v → Entry P t v
+fix_entry e (is_part p) = record { n = _; e = _; b = _; part = p; enters = en_closure }
+fix_entry e (is_part_box p) = record { n = _; e = _; b = _; part = p; enters = en_box }
+fix_entry e (is_fix {i = i} {rargs = rargs} h l) =
+    let at = slice_found rargs i l in
+    let d = def_at i h at.1 in
+    record { n = _; e = _; b = _; part = part_fix h at.1 d.right; enters = en_fix d.right }
+fix_entry e is_box = absurd (cc)
+fix_entry e (is_lambda h) = absurd (cc)
+fix_entry e (is_construct F at h) = absurd (no_fix (sym (made_is h) ∙ e))
+fix_entry e (is_waiting F at h) = absurd (no_fix (sym (waits_is h) ∙ e))
+
+pub part_waits : {P : BoxProgram} {n i k : ℕ} {rargs : List ℕ} {ts : BoxTerms} {t b : BoxTerm} {e : Env} → Part P n t e b → head_of t ≡ BFix i rargs ts → slice_get rargs i ≡ Some k → k ≡ n + length (arguments t [])
+part_waits p h at =
+    let q = part_is p in
+    one_item (sym at ∙ sym (ap (λ t. slice_get (rargs_of t) (index_of t)) (sym q.head ∙ h)) ∙ q.waits)
+
+body_shape : {P : BoxProgram} {r k : ℕ} {e : Env} {t b : BoxTerm} → StandBody P r k e t b → IsFixBody r b
+body_shape body_boxed = boxed
+body_shape (body_last h) = last
+body_shape (body_more h) = more (body_shape h)
+
+pub part_shape : {P : BoxProgram} {n : ℕ} {t b : BoxTerm} {e : Env} → Part P n t e b → IsFixBody n b
+part_shape (part_fix {i = i} {k = k} {bs = bs} h at g) = let d = def_at i h at in subst (λ b. IsFixBody k b) (same_body bs i d.right g) (body_shape d.stands)
+part_shape (part_app p g) = less (part_shape p)
+  where
+    less : {m : ℕ} {c : BoxTerm} → IsFixBody (suc m) (BLambda c) → IsFixBody m c
+    less (more h) = h
+part_shape (part_box p g) = boxed
+
+-- what a fixpoint's body evaluates to
+data LambdaBody (P : BoxProgram) (n : ℕ) (e : Env) (b : BoxTerm) : BoxTerm → ℕ → Type 0 where
+  lambda_body : {c : BoxTerm} → StandBody P n 1 e c b → LambdaBody P n e b (BLambda c) 0
+
+pub data LastBody (P : BoxProgram) (e : Env) (b : BoxTerm) : BoxTerm → ℕ → Type 0 where
+  last_body : {c : BoxTerm} → Stands P 1 e c b → LastBody P e b (BLambda c) 0
+
+pub data BoxBody : BoxTerm → ℕ → Type 0 where
+  box_body : BoxBody Box 0
+
+lambda_body_of : {P : BoxProgram} {n k m : ℕ} {e : Env} {t b w : BoxTerm} → StandBody P (suc n) 0 e t (BLambda b) → BoxEvaluates P t w k m → LambdaBody P n e b w m
+lambda_body_of (body_more h) (value i) = lambda_body h
+
+pub last_body_of : {P : BoxProgram} {k m : ℕ} {e : Env} {t b w : BoxTerm} → StandBody P 0 0 e t (BLambda b) → BoxEvaluates P t w k m → LastBody P e b w m
+last_body_of (body_last h) (value i) = last_body h
+
+pub box_body_of : {P : BoxProgram} {n k m : ℕ} {e : Env} {t w : BoxTerm} → StandBody P n 0 e t Box → BoxEvaluates P t w k m → BoxBody w m
+box_body_of body_boxed (value i) = box_body
+
+pub lambda_takes_none : {P : BoxProgram} {b : BoxTerm} → BoxTakesMore P (BLambda b) → ⊥
+lambda_takes_none (constructor f c xs k at l e) = no_lambda (constructor_head xs e)
+lambda_takes_none (fixpoint i rargs bodies xs at l e) = let h = fix_head xs e in absurd (cc)
+
+pub box_takes_none : {P : BoxProgram} → BoxTakesMore P Box → ⊥
+box_takes_none (constructor f c xs k at l e) = no_box (constructor_head xs e)
+box_takes_none (fixpoint i rargs bodies xs at l e) = let h = fix_head xs e in absurd (cc)
+
+pub lambda_unfolds_not : {b v u : BoxTerm} → BoxUnfolds (BLambda b) v u → ⊥
+lambda_unfolds_not (unfolds i rargs bodies xs r l at e) = let h = fix_head xs e in absurd (cc)
+
+pub box_unfolds_not : {v u : BoxTerm} → BoxUnfolds Box v u → ⊥
+box_unfolds_not (unfolds i rargs bodies xs r l at e) = let h = fix_head xs e in absurd (cc)
+
+-- some term is the body and evaluates to the value in no more nodes
+record Opened (P : BoxProgram) (n : ℕ) (e : Env) (b w : BoxTerm) (k m : ℕ) : Type 0 where
+  pub t : BoxTerm
+  pub k' : ℕ
+  pub m' : ℕ
+  pub stands : StandBody P n 0 e t b
+  pub gives : BoxEvaluates P t w k' m'
+  pub within : k' ≤ k
+  pub matches : Bare P → m' ≡ m
+
+pub apply_last : (f : BoxTerm) (xs : List BoxTerm) (u : BoxTerm) → box_apply f (xs ++ u ∷ []) ≡ BApp (box_apply f xs) u
+apply_last f [] u = refl
+apply_last f (x ∷ xs) u = apply_last (BApp f x) xs u
+
+module _ (P : BoxProgram) (closed : (k : Name) (b : BoxTerm) → KeepsBoxConstant P k b → Closed 0 b) where
+  opened_beta : (k1 : ℕ) {n k' m' k2 k3 m1 m2 m3 : ℕ} {e : Env} {b u v w c t : BoxTerm} {val : Value} → IsValue P u val → StandBody P (suc n) 0 e t (BLambda b) → BoxEvaluates P t (BLambda c) k' m' → (Bare P → m' ≡ m1) →
+      BoxEvaluates P u v k2 m2 → BoxEvaluates P (substitute (put v) c) w k3 m3 → Opened P n (Bind val e) b w (suc (k1 + k2 + k3)) (m1 + m2 + m3)
+  opened_beta k1 {n} {m' = m'} {k2} {k3} {m1} {m2} {m3} {e} {b} {u} {v} {w} {c} {val = val} g st ev eq d2 d3 = go (lambda_body_of st ev) eq
+    where
+      pub go : {j : ℕ} → LambdaBody P n e b (BLambda c) j → (Bare P → j ≡ m1) → Opened P n (Bind val e) b w (suc (k1 + k2 + k3)) (m1 + m2 + m3)
+      go (lambda_body h) q =
+          record { t = _; k' = _; m' = _; stands = body_one (self P closed g d2) h; gives = d3; within = omega arith; matches = λ bare. omega (arith, q bare, quiet P closed bare g d2) }
+
+  opened_app : {n k m : ℕ} {e : Env} {b s u w : BoxTerm} {val : Value} → IsValue P u val → ((w' : BoxTerm) (k' m' : ℕ) → BoxEvaluates P s w' k' m' → Opened P (suc n) e (BLambda b) w' k' m') →
+      BoxEvaluates P (BApp s u) w k m → Opened P n (Bind val e) b w k m
+  opened_app g rec (value i) = elim i [ ]
+  opened_app g rec (beta d1 d2 d3) = let o = rec _ _ _ d1 in opened_beta _ g o.stands o.gives o.matches d2 d3
+  opened_app g rec (box_app d1 d2) = let o = rec _ _ _ d1 in elim (lambda_body_of o.stands o.gives) [ ]
+  opened_app g rec (extend d1 d2 m) = let o = rec _ _ _ d1 in absurd (no (lambda_body_of o.stands o.gives) m)
+    where
+      pub no : {n j : ℕ} {e : Env} {b w : BoxTerm} → LambdaBody P n e b w j → BoxTakesMore P w → ⊥
+      no (lambda_body h) m = lambda_takes_none m
+  opened_app g rec (unfold_fix d1 d2 x d3) = let o = rec _ _ _ d1 in absurd (no (lambda_body_of o.stands o.gives) x)
+    where
+      pub no : {n j : ℕ} {e : Env} {b w v u : BoxTerm} → LambdaBody P n e b w j → BoxUnfolds w v u → ⊥
+      no (lambda_body h) x = lambda_unfolds_not x
+
+  opened_box : {n k m : ℕ} {e : Env} {s u w : BoxTerm} {val : Value} → IsValue P u val → ((w' : BoxTerm) (k' m' : ℕ) → BoxEvaluates P s w' k' m' → Opened P (suc n) e Box w' k' m') →
+      BoxEvaluates P (BApp s u) w k m → Opened P n e Box w k m
+  opened_box g rec (value i) = elim i [ ]
+  opened_box g rec (beta d1 d2 d3) = let o = rec _ _ _ d1 in elim (box_body_of o.stands o.gives) [ ]
+  opened_box g rec (box_app d1 d2) = let o = rec _ _ _ d1 in
+      record { t = Box; k' = 1; m' = 0; stands = body_boxed; gives = value box_is; within = omega arith; matches = λ bare. omega (arith, zero_of (box_body_of o.stands o.gives), o.matches bare, quiet P closed bare g d2) }
+    where
+      zero_of : {w : BoxTerm} {j : ℕ} → BoxBody w j → j ≡ 0
+      zero_of box_body = refl
+  opened_box g rec (extend d1 d2 m) = let o = rec _ _ _ d1 in absurd (no (box_body_of o.stands o.gives) m)
+    where
+      pub no : {w : BoxTerm} {j : ℕ} → BoxBody w j → BoxTakesMore P w → ⊥
+      no box_body m = box_takes_none m
+  opened_box g rec (unfold_fix d1 d2 x d3) = let o = rec _ _ _ d1 in absurd (no (box_body_of o.stands o.gives) x)
+    where
+      pub no : {w v u : BoxTerm} {j : ℕ} → BoxBody w j → BoxUnfolds w v u → ⊥
+      no box_body x = box_unfolds_not x
+
+  -- an unfolded fixpoint with its values
+  opened : {n k m : ℕ} {t b x w : BoxTerm} {e : Env} → Part P n t e b → term_at (bodies_of (head_of t)) (index_of (head_of t)) ≡ Some (length (rargs_of (head_of t)), x) →
+      BoxEvaluates P (box_apply (box_unfolded (rargs_of (head_of t)) (bodies_of (head_of t)) x) (arguments t [])) w k m → Opened P n e b w k m
+  opened (part_fix {i = i} h at g) at' d = record { t = _; k' = _; m' = _; stands = body_unfolded i h at at' g; gives = d; within = omega arith; matches = λ bare. refl }
+  opened {k = k} {m = m} {x = x} {w = w} (part_app {t = t} {u = u} p g) at d =
+      let U = box_unfolded (rargs_of (head_of t)) (bodies_of (head_of t)) x in
+      let same = ap (box_apply U) (arguments_before t (u ∷ [])) ∙ apply_last U (arguments t []) u in
+      opened_app g (λ w' k' m' d. opened p at d) (subst (λ s. BoxEvaluates P s w k m) same d)
+  opened {k = k} {m = m} {x = x} {w = w} (part_box {t = t} {u = u} p g) at d =
+      let U = box_unfolded (rargs_of (head_of t)) (bodies_of (head_of t)) x in
+      let same = ap (box_apply U) (arguments_before t (u ∷ [])) ∙ apply_last U (arguments t []) u in
+      opened_box g (λ w' k' m' d. opened p at d) (subst (λ s. BoxEvaluates P s w k m) same d)
+
+  pub opened_at : {n k m : ℕ} {s b x w : BoxTerm} {e : Env} (i : ℕ) (rargs : List ℕ) (bodies : BoxTerms) (xs : List BoxTerm) → Part P n s e b → s ≡ box_apply (BFix i rargs bodies) xs → term_at bodies i ≡ Some (length rargs, x) →
+      BoxEvaluates P (box_apply (box_unfolded rargs bodies x) xs) w k m → Opened P n e b w k m
+  opened_at {k = k} {m} {s} {x = x} {w = w} i rargs bodies xs p eq at d =
+      let head = fix_head xs eq in
+      let args = fix_arguments i rargs bodies xs eq in
+      opened p (subst (λ t. term_at (bodies_of t) (index_of t) ≡ Some (length (rargs_of t), x)) (sym head) at)
+      (subst (λ t. BoxEvaluates P (box_apply (box_unfolded (rargs_of t) (bodies_of t) x) (arguments s [])) w k m) (sym head) (subst (λ ys. BoxEvaluates P (box_apply (box_unfolded rargs bodies x) ys) w k m) (sym args) d))
+
+-- one step into a closure or a fixpoint
+pub record Entered (P' : BoxProgram) (e : Env) (bf ba : BoxTerm) (w : Value) (c : Counts) : Type 0 where
+  pub c' : Counts
+  pub run : Run P' e (BApp bf ba) w c'
+  pub contractions : c'.contractions ≤ 2 + c.contractions
+  pub blocks : c'.blocks ≡ c.blocks
+  pub matches : c'.matches ≡ c.matches
+
+pub enter_run : {P' : BoxProgram} {e e' : Env} {bf ba b : BoxTerm} {vf va w : Value} {c1 c2 c3 : Counts} → Enter vf e' (BLambda b) → Run P' e bf vf c1 → Run P' e ba va c2 → Run P' (Bind va e') b w c3 → Entered P' e bf ba w (c1 ⊕ c2 ⊕ c3)
+enter_run en_closure rf ra rb = record { c' = _; run = run_app rf ra rb; contractions = omega arith; blocks = omega arith; matches = omega arith }
+enter_run (en_fix at) rf ra rb = record { c' = _; run = run_fix_app rf ra at rb; contractions = omega arith; blocks = omega arith; matches = omega arith }
+
+pub enter_box : {P' : BoxProgram} {e e' : Env} {bf ba : BoxTerm} {vf va : Value} {c1 c2 : Counts} → Enter vf e' Box → Run P' e bf vf c1 → Run P' e ba va c2 → Entered P' e bf ba VBox (c1 ⊕ c2)
+enter_box en_box rf ra = record { c' = _; run = run_box_app rf ra; contractions = omega arith; blocks = omega arith; matches = omega arith }
+enter_box (en_fix at) rf ra = record { c' = _; run = run_fix_box rf ra at; contractions = omega arith; blocks = omega arith; matches = omega arith }
