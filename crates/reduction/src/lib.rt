@@ -14,13 +14,8 @@
 //! unfolded), above the crates that compare, infer, check and evaluate.
 #![tactic(auto)]
 
-mod constructors;
-mod fixpoints;
 mod frames;
 mod heads;
-mod lookup;
 mod machine;
 mod meeting;
-mod redexes;
-mod spine;
 pub mod substitution;
