@@ -1,5 +1,5 @@
 -- The laws of directed erasure, as statements.
-use Rattle.std.specs.Prelude.{◌≡◌, ◌≢◌, ◌≤◌, ℕ, ◌+◌, List, [], ◌∷◌, length, Option, Some, None}
+use Rattle.std.specs.Prelude.{◌≡◌, ◌≢◌, ◌≤◌, ℕ, ◌+◌, true, List, [], ◌∷◌, length, Option, Some, None}
 use Rattle.universe_levels.specs.declared.level.Level.{Level}
 use Rattle.universe_levels.specs.declared.constraint.Constraint.{Constraint}
 use Rattle.universe_levels.specs.declared.sort.Sort.TheVariants.{Prop}
@@ -39,7 +39,7 @@ use Rattle.erase_laws.specs.Erases.{Erases}
 use Rattle.erase_laws.specs.ErasedProgram.{counts_of, HasErased, IsErased}
 use Rattle.agreeing.specs.Agreement.{Agree, AgreeAtPlaces}
 use Rattle.erase_rules.specs.DirectedErasure.{erased}
-use Rattle.erase_rules.specs.DirectedProgram.{Program, ReachesAxiom, erased_program}
+use Rattle.erase_rules.specs.DirectedProgram.{is_reached, Program, ReachesAxiom, erased_program}
 
 -- in a well-counted environment and context, what directed erasure makes of a well-counted term is an erasure of it
 abbrev pub ErasureIsSound : Type 0
@@ -114,6 +114,16 @@ body_nodes (d ∷ ds) = body_nodes ds
 abbrev pub ProgramsAreNoGreater : Type 0
 ProgramsAreNoGreater = (E : Env) (q : Test) (n : ℕ) (main : Term) (P : BoxProgram) (u v : Account) → (erased_program E q n main u).outcome ≡ Gives (Program P) v →
     program_nodes P ≤ nodes main + body_nodes E.declarations
+
+-- each constant, the newest first, is named by one of the terms or by the body of a newer constant
+abbrev pub AreReached : List BoxTerm → List BoxConstant → Type 0
+AreReached ts [] = Unit {0}
+AreReached ts (d ∷ cs) = (is_reached d.name ts ≡ true) × AreReached (d.body ∷ ts) cs
+
+-- a program has no constants but those that main reaches
+abbrev pub ConstantsAreReached : Type 0
+ConstantsAreReached = (E : Env) (q : Test) (n : ℕ) (main : Term) (P : BoxProgram) (u v : Account) → (erased_program E q n main u).outcome ≡ Gives (Program P) v →
+    AreReached (P.main ∷ []) P.constants
 
 -- a constant that is named for having no body is kept without one
 abbrev pub AxiomsHaveNoBody : Type 0

@@ -8,9 +8,10 @@
 //! Each function has no result but its clauses, which are statements of `specs/Laws.antt`. What is promised of a term
 //! (`directed_erasure_is_erasure`): it is an erasure of its source (`sound`) and no greater (`sizes`), and a term without evidence has a
 //! former after erasure (`formers`). Of a program (`directed_programs_are_erased`): it is erased from its environment (`programs`), has the
-//! form of box programs (`form`, and `checked` after the directed check of the environment), no more nodes than the source (`sizes`), and a
-//! constant that is named for having no body has none (`axioms`). It keeps values (`directed_programs_keep_values`). What erasure ends with
-//! depends neither on units nor on room (`directed_erasure_agrees`), and more units change no answer (`directed_erasure_is_steady`).
+//! form of box programs (`form`, and `checked` after the directed check of the environment), no more nodes than the source (`sizes`), no
+//! constants but those that main reaches (`reached`), and a constant that is named for having no body has none (`axioms`). It keeps values
+//! (`directed_programs_keep_values`). What erasure ends with depends neither on units nor on room (`directed_erasure_agrees`), and more
+//! units change no answer (`directed_erasure_is_steady`).
 //!
 //! Below stand `rule_laws` and `agreeing` (what the directed rules mean, and that any two runs agree), `lambda_box` and `erase_laws` (the
 //! language after erasure, the erasure relation with its laws); above stands the crate that erases.
@@ -26,6 +27,7 @@ ghost use Rattle.erase_rules.specs.Laws.{
   ProgramsKeepValues,
   ProgramsAreNoGreater,
   AxiomsHaveNoBody,
+  ConstantsAreReached,
   ErasureAgrees,
   ProgramsAgree,
   ErasabilityIsSteady,
@@ -43,12 +45,13 @@ pub fn directed_erasure_is_erasure()
 {}
 
 /// The program that directed erasure makes of an accepted environment is erased from it, and has the form of box programs; it has no more
-/// nodes than the source; and a constant that is named for having no body has none.
+/// nodes than the source, and no constants but those that main reaches; and a constant that is named for having no body has none.
 pub fn directed_programs_are_erased()
     ensures programs { ProgramsAreErased }
     ensures form { ProgramsHaveForm }
     ensures checked { CheckedProgramsHaveForm }
     ensures sizes { ProgramsAreNoGreater }
+    ensures reached { ConstantsAreReached }
     ensures axioms { AxiomsHaveNoBody }
 {}
 
