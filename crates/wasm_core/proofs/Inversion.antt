@@ -61,7 +61,7 @@ byte_makes : (b : ℕ) (k : Spelling) (w : List ℕ) (ws : List (List ℕ)) (m :
 unfolding byte
 byte_makes b k w ws m (c, j, i, h) = (drop j w, ws, h)
 
-on_makes : {A : Type 0} (o : Option A) (k : A → Spelling) (w : List ℕ) (ws : List (List ℕ)) (m : Parts) → Spells (on o k) w ws m → (x : A) × (o ≡ Some x) × Spells (k x) w ws m
+pub on_makes : {A : Type 0} (o : Option A) (k : A → Spelling) (w : List ℕ) (ws : List (List ℕ)) (m : Parts) → Spells (on o k) w ws m → (x : A) × (o ≡ Some x) × Spells (k x) w ws m
 on_makes None k w ws m h = absurd h
 on_makes (Some x) k w ws m h = (x, refl, h)
 
@@ -72,12 +72,12 @@ some_or : {A : Type 0} → A → Option A → A
 some_or d None = d
 some_or d (Some x) = x
 
-some_is : {A : Type 0} {x y : A} → Some x ≡ Some y → x ≡ y
+pub some_is : {A : Type 0} {x y : A} → Some x ≡ Some y → x ≡ y
 unfolding some_or
 some_is {x = x} e = ap (some_or x) e
 
 -- what is found in a table meets the condition that its rows meet
-found_row : {A : Type 0} (P : A → Type 0) (b : ℕ) (rows : List (ℕ × A)) → All (λ r. P r.1) rows → (x : A) → find b rows ≡ Some x → P x
+pub found_row : {A : Type 0} (P : A → Type 0) (b : ℕ) (rows : List (ℕ × A)) → All (λ r. P r.1) rows → (x : A) → find b rows ≡ Some x → P x
 found_row P b [] a x e = absurd cc
 found_row {A = A} P b (r ∷ rows) (p, a) x e =
     let goal : (c : Bool) → (if c then Some r.1 else find b rows) ≡ Some x → P x =
@@ -91,7 +91,7 @@ unfolding finish
 finish_makes k [] ws m (e, h) = (_, _, h)
 finish_makes k (b ∷ w) ws m h = absurd h
 
-take_few : {A : Type 0} (n : ℕ) (xs : List A) → length (take n xs) ≤ n
+pub take_few : {A : Type 0} (n : ℕ) (xs : List A) → length (take n xs) ≤ n
 take_few zero xs = omega arith
 take_few (suc n) [] = omega arith
 take_few (suc n) (x ∷ xs) = let h = take_few n xs in omega (arith, h)

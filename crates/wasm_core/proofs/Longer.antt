@@ -3,7 +3,7 @@ use Rattle.std.proofs.Common.{ℕ, zero, suc, ◌+◌, ◌/◌, ◌%◌, ◌≤�
 use Rattle.std.specs.Prelude.{nat_lt, if◌then◌else◌}
 use Rattle.wasm_core.specs.ShortestBytes.{unsigned, put_u32, put_sized}
 
-unsigned_longer : (g n : ℕ) (w : List ℕ) → length w ≤ length (unsigned g n w)
+pub unsigned_longer : (g n : ℕ) (w : List ℕ) → length w ≤ length (unsigned g n w)
 unfolding unsigned
 unsigned_longer zero n w = omega arith
 unsigned_longer (suc g) n w =

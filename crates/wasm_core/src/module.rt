@@ -46,7 +46,7 @@ impl Module {
         elements: Segments,
         bodies: Bodies,
     ) -> Module
-        requires { IsModule (record { types = types; funcs = funcs; table = table; memory = memory; globals = globals; exports = exports; elements = elements; bodies = bodies }) }
+        requires is_module { IsModule (record { types = types; funcs = funcs; table = table; memory = memory; globals = globals; exports = exports; elements = elements; bodies = bodies }) }
         ensures parts { result ≡ record { types = types; funcs = funcs; table = table; memory = memory; globals = globals; exports = exports; elements = elements; bodies = bodies } }
     {
         Module {

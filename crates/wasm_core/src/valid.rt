@@ -27,7 +27,7 @@ impl Model for Valid {
 impl Valid {
     /// The valid module of a module that has a typing. It takes no memory.
     pub fn of(m: Module) -> Valid
-        requires { IsValid m }
+        requires is_valid { IsValid m }
         ensures module { result ≡ m }
     {
         Valid { module: m }
