@@ -1,7 +1,7 @@
 -- Where the pass over a body stops, its typing fails.
-use Rattle.std.proofs.Common.{◌≡◌, ℕ, List, [], ◌∷◌, ◌++◌, Option, Some, None, false, refl, ap, sym, ◌∙◌, subst, append_assoc, ◌+◌, ◌<◌, length, take, drop, arith, inl, inr, length-append, ⊎_elim}
+use Rattle.std.proofs.Common.{◌≡◌, ℕ, List, [], ◌∷◌, ◌++◌, Option, Some, None, false, refl, ap, sym, ◌∙◌, subst, append_assoc, ◌+◌, ◌<◌, length, take, drop, arith, inl, inr, get_or, length-append, ⊎_elim}
 use Rattle.std.specs.Prelude.{◌⊎◌}
-use Rattle.std.proofs.lemmas.List.{append-nil, take-append-drop}
+use Rattle.std.proofs.lemmas.List.{append-nil, take-append-drop, drop_all, drop_more}
 use Rattle.std.proofs.Math.Seq.{take-append_seam}
 use Rattle.wasm_core.specs.declared.instrs.Instr.{Instr}
 use Rattle.wasm_core.specs.Parts.{Parts}
@@ -84,3 +84,29 @@ module _ (m : Parts) (ls rs : Types) where
 
   pub stops_says : (code : List Instr) → IsClosed (false ∷ []) code → SaysOfCode code (stops m ls rs outset 0 code)
   stops_says code c = settled code c (stops m ls rs outset 0 code) (walk code [] outset refl)
+
+  -- ---- one instruction after another, by its place in the code
+
+  -- what the pass does with the code from a place on
+  abbrev from_here : Option Check → ℕ → List Instr → Option ℕ
+  from_here o at rest = stops_after o at rest (λ b. stops m ls rs b (at + 1) rest)
+
+  opened : (code : List Instr) (at : ℕ) (a : Place) (i : Instr) (o : Option Check) → at < length code → i ≡ get_or code at i → check m ls rs i a ≡ o → stops m ls rs a at (drop at code) ≡ from_here o at (drop (at + 1) code)
+  opened code at a i o lt e h =
+      ap (stops m ls rs a at) (drop_more code at i lt ∙ ap (λ x. x ∷ drop (at + 1) code) (sym e))
+      ∙ ap (λ x. from_here x at (drop (at + 1) code)) h
+
+  pub stops_next : (code : List Instr) (at : ℕ) (a b : Place) (i : Instr) → at < length code → i ≡ get_or code at i → check m ls rs i a ≡ Some (More b) → stops m ls rs a at (drop at code) ≡ stops m ls rs b (at + 1) (drop (at + 1) code)
+  stops_next code at a b i lt e h = opened code at a i (Some (More b)) lt e h
+
+  pub stops_stuck : (code : List Instr) (at : ℕ) (a : Place) (i : Instr) → at < length code → i ≡ get_or code at i → check m ls rs i a ≡ None → stops m ls rs a at (drop at code) ≡ Some at
+  stops_stuck code at a i lt e h = opened code at a i None lt e h
+
+  pub stops_end : (code : List Instr) (at : ℕ) (a : Place) (i : Instr) → at < length code → i ≡ get_or code at i → check m ls rs i a ≡ Some Finished → length code ≤ at + 1 → stops m ls rs a at (drop at code) ≡ None
+  stops_end code at a i lt e h le = opened code at a i (Some Finished) lt e h ∙ ap (from_here (Some Finished) at) (drop_all (at + 1) code le)
+
+  pub stops_past : (code : List Instr) (at : ℕ) (a : Place) (i : Instr) → at < length code → i ≡ get_or code at i → check m ls rs i a ≡ Some Finished → at + 1 < length code → stops m ls rs a at (drop at code) ≡ Some (at + 1)
+  stops_past code at a i lt e h more = opened code at a i (Some Finished) lt e h ∙ ap (from_here (Some Finished) at) (drop_more code (at + 1) i more)
+
+  pub stops_over : (code : List Instr) (at : ℕ) (a : Place) → length code ≤ at → stops m ls rs a at (drop at code) ≡ Some at
+  stops_over code at a le = ap (stops m ls rs a at) (drop_all at code le)

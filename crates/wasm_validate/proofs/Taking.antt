@@ -4,7 +4,9 @@ use Rattle.std.proofs.lemmas.List.{take_more, reverse-append}
 use Rattle.wasm_core.specs.declared.types.ValType.{ValType}
 use Rattle.wasm_core.specs.MachineStep.{on_some}
 use Rattle.wasm_core.specs.ModuleTyping.{Types}
-use Rattle.wasm_core.specs.Pass.{Known, knowing, off, only, same, take_off}
+use Rattle.std.specs.Prelude.{MatchBool}
+use Rattle.wasm_core.specs.Pass.{Known, Ctl, Place, Check, More, knowing, off, only, put_on, same, take_off}
+use Rattle.wasm_validate.specs.Applied.{applied}
 
 only_on : (b : Bool) (k : Known) (ps : Types) → only b (off ps k) ≡ on_some (only b (Some k)) (off ps)
 only_on true k ps = refl
@@ -55,3 +57,18 @@ off_none ps at k d some le e l = ap (λ xs. off xs k) (last_first ps at d some l
     by [] false e l = refl
     by [] true e l = cc
     by (v ∷ vals) loose e l = cc
+
+-- the answer where no operand is known
+pub off_where_empty : (ps : Types) (at : ℕ) (k : Known) (d : ValType) → 0 < at → at ≤ length ps → k.vals ≡ [] → (b : Bool) → b ≡ k.loose → (o : Option Known) → off (reverse (take at ps)) k ≡ o → MatchBool b (o ≡ Some k) (o ≡ None)
+off_where_empty ps at k d some le e true l o h = sym h ∙ off_loose ps at k d some le e (sym l)
+off_where_empty ps at k d some le e false l o h = sym h ∙ off_none ps at k d some le e (sym l)
+
+-- an effect whose first operand has been taken off
+pub applied_more : (p : ValType) (ps rs : Types) (a b : Place) → off (p ∷ []) a.now ≡ Some b.now → b.ctls ≡ a.ctls → applied (Some (p ∷ ps, rs)) a ≡ applied (Some (ps, rs)) b
+applied_more p ps rs a b h e =
+    ap (λ (o : Option Known). on_some o (λ k. Some (More (record a { now = put_on rs k })))) (off_cons p ps a.now.vals a.now.loose ∙ ap (λ (o : Option Known). on_some o (off ps)) h)
+    ∙ ap (λ (cs : List Ctl). on_some (off ps b.now) (λ k. Some (More (record { now = put_on rs k; ctls = cs })))) (sym e)
+
+pub applied_none : (p : ValType) (ps rs : Types) (a : Place) → off (p ∷ []) a.now ≡ None → applied (Some (p ∷ ps, rs)) a ≡ None
+applied_none p ps rs a h =
+    ap (λ (o : Option Known). on_some o (λ k. Some (More (record a { now = put_on rs k })))) (off_cons p ps a.now.vals a.now.loose ∙ ap (λ (o : Option Known). on_some o (off ps)) h)

@@ -14,7 +14,8 @@ pub(crate) fn names_are_distinct(alloc: Global, exports: &[Export]) -> Result<bo
     let mut before = BTreeSet::new(alloc);
     for at in 0..exports.len() {
         let export = &exports[at];
-        if !before.insert(export.name.as_slice())? {
+        let added = before.insert(export.name.as_slice())?;
+        if !added {
             return Ok(false);
         }
     }

@@ -5,7 +5,7 @@ ghost use Rattle.std.specs.Option.{option_to_list, option_map, option_and_then};
 ghost use Rattle.wasm_core.specs.declared.types.ValType.TheVariants.{I32 as Word};
 ghost use Rattle.wasm_core.specs.declared.instrs.Instr.TheVariants.{Call, CallIndirect, GlobalGet, GlobalSet, MemorySize, MemoryGrow};
 ghost use Rattle.wasm_core.specs.Arithmetic.{is_unary as takes_one};
-ghost use Rattle.wasm_core.specs.ModuleTyping.{accessing, effect, getting, keeping, operating, setting};
+ghost use Rattle.wasm_core.specs.ModuleTyping.{accessing, calling, calling_entry, effect, getting, keeping, operating, setting};
 ghost use Rattle.wasm_core.specs.Pass.{off};
 ghost use Rattle.wasm_validate.specs.Applied.{applied};
 ghost use Rattle.wasm_validate.specs.Progress.{shows};
@@ -51,13 +51,23 @@ fn take_params(checker: &mut Checker, params: &[ValType]) -> bool
 
 // A call of a function of this type.
 fn check_callee(checker: &mut Checker, of: &FuncType) -> Result<Progress, AllocError>
-    ensures is { IfOk result (λ p. applied (Some (reverse of.now.params, option_to_list of.now.result)) checker.old ≡ shows p checker.new) }
+    ensures is { IfOk result (λ p. applied (Some (calling of.now)) checker.old ≡ shows p checker.new) }
 {
     if !take_params(checker, of.params.as_slice()) {
         return Ok(Progress::Stuck);
     }
     checker.put_if(of.result)?;
     Ok(Progress::Goes)
+}
+
+// A call of a table's entry with this type, whose index lies above the arguments.
+fn check_entry(checker: &mut Checker, of: &FuncType) -> Result<Progress, AllocError>
+    ensures is { IfOk result (λ p. applied (Some (calling_entry of.now)) checker.old ≡ shows p checker.new) }
+{
+    if !checker.take(ValType::I32) {
+        return Ok(Progress::Stuck);
+    }
+    check_callee(checker, of)
 }
 
 /// `call`.
@@ -92,10 +102,7 @@ pub(crate) fn check_call_indirect(
     if table != 0 || m.table().is_none() {
         return Ok(Progress::Stuck);
     }
-    if !checker.take(ValType::I32) {
-        return Ok(Progress::Stuck);
-    }
-    check_callee(checker, of)
+    check_entry(checker, of)
 }
 
 // The type of a local, the parameters being the first; `None` where there is no such local.
