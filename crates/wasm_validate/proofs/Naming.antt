@@ -27,39 +27,29 @@ pub record Listed (es : List Export) (n : ℕ) (s : BTreeSet (Bor (List ℕ))) :
   pub every : (q : Bor (List ℕ)) (i : ℕ) (e : Export) → i < n → slice_get es i ≡ Some e → e.name ≡ q.now → contains text_order s q ≡ true
   pub distinct : (i j : ℕ) (e f : Export) → i < j → j < n → slice_get es i ≡ Some e → slice_get es j ≡ Some f → e.name ≢ f.name
 
-pub listed_none : (es : List Export) (s : BTreeSet (Bor (List ℕ))) → s.keys ≡ [] → Listed es 0 s
-listed_none es s e = record {
-  only = λ q h. false_is_true (sym (empty q) ∙ h);
-  every = λ q i e lt h n. absurd (omega arith);
-  distinct = λ i j e f l lt he hf n. absurd (omega arith);
-}
-  where
-    empty : (q : Bor (List ℕ)) → contains text_order s q ≡ false
-    empty q = ap (λ ks. contains text_order (record { keys = ks }) q) e
-
 -- by whether two texts are the same
 by_text : {A : Type 0} (xs ys : List ℕ) → ((xs ≡ ys) → is_eq (slice_cmp nat_cmp xs ys) ≡ true → A) → (((xs ≡ ys) → ⊥) → is_eq (slice_cmp nat_cmp xs ys) ≡ false → A) → A
-by_text {A = A} xs ys yes no = on (bytes_eq xs ys) refl
+by_text {A = A} xs ys if_same if_other = on (bytes_eq xs ys) refl
   where
     on : (b : Bool) → bytes_eq xs ys ≡ b → A
-    on true e = yes ((bytes_eq-Decides xs ys).0 e) (is_eq-slice_cmp xs ys ∙ e)
-    on false e = no (λ s. false_is_true (sym e ∙ (bytes_eq-Decides xs ys).1 s)) (is_eq-slice_cmp xs ys ∙ e)
+    on true e = if_same ((bytes_eq-Decides xs ys).0 e) (is_eq-slice_cmp xs ys ∙ e)
+    on false e = if_other (λ s. false_is_true (sym e ∙ (bytes_eq-Decides xs ys).1 s)) (is_eq-slice_cmp xs ys ∙ e)
 
 pub listed_more : (es : List Export) (n : ℕ) (s t : BTreeSet (Bor (List ℕ))) (e : Export) (k : Bor (List ℕ)) → Listed es n s → slice_get es n ≡ Some e → k.now ≡ e.name → contains text_order s k ≡ false → ((q : Bor (List ℕ)) → contains text_order t q ≡ cond (is_eq (text_order k q)) true (contains text_order s q)) → Listed es (n + 1) t
 listed_more es n s t e k l he hk new put = record { only = only_next; every = every_next; distinct = distinct_next }
   where
     only_next : (q : Bor (List ℕ)) → contains text_order t q ≡ true → NamedBefore es (n + 1) q.now
     only_next q h =
-        by_text k.now q.now (λ same yes. (n, e, omega arith, he, sym hk ∙ same))
-        (λ other no.
-        let old : contains text_order s q ≡ true = sym (ap (λ b. cond b true (contains text_order s q)) no) ∙ sym (put q) ∙ h in
+        by_text k.now q.now (λ same is. (n, e, omega arith, he, sym hk ∙ same))
+        (λ other isnt.
+        let old : contains text_order s q ≡ true = sym (ap (λ b. cond b true (contains text_order s q)) isnt) ∙ sym (put q) ∙ h in
         let (i, f, lt, hf, hn) = l.only q old in (i, f, omega arith, hf, hn))
 
     every_next : (q : Bor (List ℕ)) (i : ℕ) (f : Export) → i < n + 1 → slice_get es i ≡ Some f → f.name ≡ q.now → contains text_order t q ≡ true
     every_next q i f lt hf hn =
-        by_text k.now q.now (λ same yes. put q ∙ ap (λ b. cond b true (contains text_order s q)) yes)
-        (λ other no.
-        put q ∙ ap (λ b. cond b true (contains text_order s q)) no
+        by_text k.now q.now (λ same is. put q ∙ ap (λ b. cond b true (contains text_order s q)) is)
+        (λ other isnt.
+        put q ∙ ap (λ b. cond b true (contains text_order s q)) isnt
         ∙ before_next (λ j (g : Export). g.name ≡ q.now → contains text_order s q ≡ true) es n e (λ j g lt hg hn. l.every q j g lt hg hn) he (λ m. absurd (other (hk ∙ m))) i f lt hf hn)
 
     distinct_next : (i j : ℕ) (f g : Export) → i < j → j < n + 1 → slice_get es i ≡ Some f → slice_get es j ≡ Some g → f.name ≢ g.name

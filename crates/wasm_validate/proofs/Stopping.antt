@@ -1,5 +1,5 @@
 -- Where the pass over a body stops, its typing fails.
-use Rattle.std.proofs.Common.{◌≡◌, ℕ, List, [], ◌∷◌, ◌++◌, Option, Some, None, false, refl, ap, sym, ◌∙◌, subst, append_assoc, ◌+◌, ◌<◌, length, take, drop, arith, inl, inr, get_or, length-append, ⊎_elim}
+use Rattle.std.proofs.Common.{◌≡◌, ℕ, List, [], ◌∷◌, ◌++◌, Option, Some, None, false, refl, ap, sym, ◌∙◌, subst, append_assoc, ◌+◌, ◌<◌, ◌≤◌, length, take, drop, arith, inl, inr, get_or, length-append, ⊎_elim}
 use Rattle.std.specs.Prelude.{◌⊎◌}
 use Rattle.std.proofs.lemmas.List.{append-nil, take-append-drop, drop_all, drop_more}
 use Rattle.std.proofs.Math.Seq.{take-append_seam}
