@@ -115,12 +115,7 @@ pub(crate) fn check_br_if(
 }
 
 // Whether a label is there, takes along as many operands as `along` has, and the operands fit it.
-fn fits(
-    checker: &Checker,
-    own: Option<ValType>,
-    along: Option<ValType>,
-    label: u32,
-) -> bool
+fn fits(checker: &Checker, own: Option<ValType>, along: Option<ValType>, label: u32) -> bool
     ensures is { result ≡ fits_label (slice_get (labels_of (option_to_list own) checker.now.ctls) label) (length (option_to_list along)) checker.now.now }
 {
     let Some(wanted) = checker.label(label, own) else {
@@ -130,12 +125,7 @@ fn fits(
 }
 
 // Whether all these labels fit.
-fn all_fit(
-    checker: &Checker,
-    own: Option<ValType>,
-    along: Option<ValType>,
-    labels: &[u32],
-) -> bool
+fn all_fit(checker: &Checker, own: Option<ValType>, along: Option<ValType>, labels: &[u32]) -> bool
     ensures is { result ≡ fit_labels (labels_of (option_to_list own) checker.now.ctls) (length (option_to_list along)) checker.now.now labels.now }
 {
     for at in 0..labels.len() {

@@ -4,7 +4,7 @@ use Rattle.wasm_validate.proofs.Naming.{listed_more, listed_twice, listed_all}
 use Rattle.wasm_validate.proofs.names.names_are_distinct.Goals as goal
 
 not_true : (b : Bool) → true ≡ not b → b ≡ false
-not_true true e = sym e
+not_true true e = e
 not_true false e = refl
 
 not_false : (b : Bool) → false ≡ not b → b ≡ true
