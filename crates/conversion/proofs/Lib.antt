@@ -1,7 +1,5 @@
 pub mod Listing
-pub mod Collected
 pub mod Parts
 pub mod Defaults
 pub mod Comparing
 pub mod Sound
-pub mod Stepping

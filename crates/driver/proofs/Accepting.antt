@@ -27,7 +27,8 @@ use Rattle.pc_rules.specs.DirectedRun.{Run, done, refused, make, ticked, noted, 
 use Rattle.pc_rules.specs.DirectedWeakHead.{kept_at, whole_block}
 use Rattle.pc_rules.specs.DirectedComparison.{Test, Comparison, compare}
 use Rattle.pc_rules.specs.DirectedTyping.{Typing, infer, sorts_of, check_all, undeclared_in, levels_declared, find_family, family_number, constructor_number, construct_rule}
-use Rattle.pc_rules.specs.DirectedDeclarations.{Accepts, has_name, distinct_names, heads_rule, arguments_rule, constructor_rule, with_constructors, constructors_rule, families_rule, with_families, with_heads, block_rule, fresh_name, declaration_rule, placed, declarations_rule, main_rule, environment_rule}
+use Rattle.pc_rules.specs.DirectedPlaces.{and_then}
+use Rattle.pc_rules.specs.DirectedDeclarations.{accepts, has_name, distinct_names, heads_rule, arguments_rule, constructor_rule, with_constructors, constructors_rule, families_rule, with_families, with_heads, block_rule, fresh_name, declaration_rule, placed, declarations_rule, main_rule, environment_rule}
 use Rattle.dump_reader.specs.declared.declaration.RawCtor.{RawCtor}
 use Rattle.dump_reader.specs.declared.declaration.RawFamily.{RawFamily}
 use Rattle.dump_reader.specs.declared.declaration.RawDecl.{RawDecl}
@@ -241,7 +242,7 @@ one_passes E q n d u new h p =
 declarations_pass : (levels : ℕ) (cs : List Constraint) (q : Test) (n i : ℕ) (ks : List Kept) (ds : List RawDecl) (main : Term) (u : Account) →
     AreNew ks ds → All IsEnumerationBlock ds → All HasDistinctNames ds →
     declarations_rule levels cs q n i ks (map given_of ds) main u ≡ main_rule (env levels cs (all_kept ds ks)) q n main u
-unfolding declarations_rule placed
+unfolding declarations_rule and_then
 declarations_pass levels cs q n i ks [] main u new h p = refl
 declarations_pass levels cs q n i ks (d ∷ ds) main u new h p =
     ap (λ r. placed (AtDeclaration i) r (λ k v. declarations_rule levels cs q n (suc i) (k ∷ ks) (map given_of ds) main v))
@@ -280,9 +281,9 @@ module _ (E : Env) (q : Test) (m : ℕ) (f : FamilyId) (n : ℕ) (l : Name) (cs 
   infer_passes u left is = ap (λ x. paid x (construct_rule E f n (noted 9 (ticked u)))) is ∙ construct_passes (noted 9 (ticked u))
 
   main_passes : (u : Account) (left : ℕ) → u.left ≡ suc left →
-      main_rule E q (suc m) (Construct f n) u ≡ record { outcome = Accepts E (Ind f) (noted 9 (ticked u)); deep = false }
-  unfolding placed
-  main_passes u left is = ap (λ r. placed AtMain r (λ T v. record { outcome = Accepts E T v; deep = false })) (infer_passes u left is)
+      main_rule E q (suc m) (Construct f n) u ≡ accepts E (Ind f) (noted 9 (ticked u))
+  unfolding and_then
+  main_passes u left is = ap (λ r. placed AtMain r (λ T v. accepts E T v)) (infer_passes u left is)
 
 -- the whole
 
@@ -329,7 +330,7 @@ main_is ds f n h new d =
 
 accepted : (ds : List RawDecl) (f : FamilyId) (n : ℕ) (q : Test) → All IsEnumerationBlock ds → All HasDistinctNames ds → AllPairs IsOther ds →
     DeclaresConstructor ds f n →
-    declarations_rule 0 [] q 2048 0 [] (map given_of ds) (Construct f n) start ≡ record { outcome = Accepts (env 0 [] (all_kept ds [])) (Ind f) (noted 9 (ticked start)); deep = false }
+    declarations_rule 0 [] q 2048 0 [] (map given_of ds) (Construct f n) start ≡ accepts (env 0 [] (all_kept ds [])) (Ind f) (noted 9 (ticked start))
 accepted ds f n q h p distinct d =
     let new = are_new [] ds (none_new ds) distinct in
     let a = main_is ds f n h new d in
@@ -348,7 +349,7 @@ consistent e none = (
 
 pub answerable_ends : (e : RawEnv) → IsAnswerable e → EndsWith e 0
 answerable_ends e a =
-    let is : rules_of e None 2048 start ≡ record { outcome = Accepts (env 0 [] (all_kept e.decls [])) (Ind a.id) (noted 9 (ticked start)); deep = false } =
+    let is : rules_of e None 2048 start ≡ accepts (env 0 [] (all_kept e.decls [])) (Ind a.id) (noted 9 (ticked start)) =
     ap (λ ls. environment_rule ls e.constraints None (entailed_by (length ls) e.constraints) 2048 (givens e) e.main start) a.plain.no_level
     ∙ ap (λ cs. environment_rule [] cs None (entailed_by 0 cs) 2048 (givens e) e.main start) a.plain.no_constraint
     ∙ ap (λ t. declarations_rule 0 [] (entailed_by 0 []) 2048 0 [] (givens e) t start) a.plain.main_is

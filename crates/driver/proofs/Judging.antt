@@ -18,7 +18,8 @@ use Rattle.pc_rules.specs.Accepted.{env}
 use Rattle.pc_rules.specs.DirectedRun as run
 use Rattle.pc_rules.specs.DirectedComparison.{Test}
 use Rattle.pc_rules.specs.DirectedTyping.{infer}
-use Rattle.pc_rules.specs.DirectedDeclarations.{Given, Outcome, Accepts, Breaks, Checked, placed_end, placed, first_repeated, first_undeclared_end, declarations_rule, declaration_rule, main_rule, IsCycle, graph_rule, constraints_rule, levels_rule}
+use Rattle.pc_rules.specs.DirectedPlaces.{and_then}
+use Rattle.pc_rules.specs.DirectedDeclarations.{Given, Outcome, Accepts, Breaks, Checked, placed_end, first_repeated, first_undeclared_end, declarations_rule, declaration_rule, main_rule, IsCycle, graph_rule, constraints_rule, levels_rule}
 use Rattle.dump_reader.specs.declared.environment.RawEnv.{RawEnv}
 use Rattle.inductive_check.specs.Given.{given_of}
 use Rattle.env_check.specs.Rules.{rules_of, givens, IsFound}
@@ -74,19 +75,19 @@ judged_alike e d d' h k =
 
 -- the place of a broken rule
 
-BreaksAt : Outcome → ℕ → Type 0
+BreaksAt : Outcome (Env × Term) → ℕ → Type 0
 BreaksAt (Breaks (AtDeclaration j) b v) i = i ≡ j
 BreaksAt _ i = ⊥
 
-breaks_at : (o : Outcome) (i : ℕ) (b : Broken) (v : Account) → o ≡ Breaks (AtDeclaration i) b v → BreaksAt o i
+breaks_at : (o : Outcome (Env × Term)) (i : ℕ) (b : Broken) (v : Account) → o ≡ Breaks (AtDeclaration i) b v → BreaksAt o i
 unfolding BreaksAt
 breaks_at o i b v e = subst (λ x. BreaksAt x i) (sym e) refl
 
-data AtEnd {A : Type 0} (p : Place) (k : A → Account → Outcome) (i : ℕ) : Type 0 where
+data AtEnd {A : Type 0} (p : Place) (k : A → Account → Outcome (Env × Term)) (i : ℕ) : Type 0 where
   AtPlace : p ≡ AtDeclaration i → AtEnd p k i
   AtRest : (a : A) (u : Account) → BreaksAt (k a u) i → AtEnd p k i
 
-placed_at : {A : Type 0} (p : Place) (r : run.End A) (k : A → Account → Outcome) (i : ℕ) → BreaksAt (placed_end p r k) i → AtEnd p k i
+placed_at : {A : Type 0} (p : Place) (r : run.End A) (k : A → Account → Outcome (Env × Term)) (i : ℕ) → BreaksAt (placed_end p r k) i → AtEnd p k i
 unfolding BreaksAt
 placed_at p (run.Done a u) k i h = AtRest a u h
 placed_at (AtDeclaration j) (run.Refused b u) k i h = AtPlace (ap AtDeclaration (sym h))
@@ -97,7 +98,7 @@ placed_at p run.NoUnit k i h = absurd h
 placed_at p run.Nested k i h = absurd h
 
 main_at : (E : Env) (q : Test) (n : ℕ) (main : Term) (u : Account) (i : ℕ) → BreaksAt (main_rule E q n main u).outcome i → ⊥
-unfolding BreaksAt placed
+unfolding BreaksAt and_then
 main_at E q n main u i h =
     elim (placed_at AtMain (infer E q n [] main u).end (λ T v. Accepts E T v) i h) [
       | AtPlace e ↦ absurd cc
@@ -106,7 +107,7 @@ main_at E q n main u i h =
 
 declarations_at : (levels : ℕ) (cs : List Constraint) (q : Test) (n i : ℕ) (ds : List Kept) (rest : List Given) (main : Term) (u : Account) (j : ℕ) →
     BreaksAt (declarations_rule levels cs q n i ds rest main u).outcome j → j < i + length rest
-unfolding declarations_rule placed
+unfolding declarations_rule and_then
 declarations_at levels cs q n i ds [] main u j h = absurd (main_at (env levels cs ds) q n main u j h)
 declarations_at levels cs q n i ds (d ∷ rest) main u j h =
     elim (placed_at (AtDeclaration i) (declaration_rule (env levels cs ds) q n d u).end (λ k v. (declarations_rule levels cs q n (suc i) (k ∷ ds) rest main v).outcome) j h) [

@@ -8,7 +8,7 @@ use Rattle.pc_rules.specs.declared.broken.Place.{Place}
 use Rattle.pc_rules.specs.declared.broken.Place.TheVariants as at
 use Rattle.pc_rules.specs.declared.meter.Account.{Account}
 use Rattle.pc_rules.specs.Environment.{Env}
-use Rattle.pc_rules.specs.DirectedDeclarations.{Checked, Outcome, Accepts, Breaks, Spends, Nests}
+use Rattle.pc_rules.specs.DirectedDeclarations.{Checked, Outcome, Gives, Breaks, Spends, Nests, Accepts}
 use Rattle.dump_reader.specs.declared.declaration.RawDecl.{RawDecl}
 use Rattle.dump_reader.specs.declared.declaration.RawDecl.TheVariants.{Constant, Block}
 use Rattle.dump_reader.specs.declared.environment.RawEnv.{RawEnv}
@@ -94,8 +94,8 @@ pub record IsBrokenBy (e : RawEnv) (number : ℕ) (told : Where) : Type 0 where
 
 -- the rules accept it, or don't, and have passed no limit till then: the status is determined but for want of memory
 
-abbrev pub status_by : Outcome → ℕ
-status_by (Accepts E T u) = 0
+abbrev pub status_by : Outcome (Env × Term) → ℕ
+status_by (Gives p u) = 0
 status_by (Breaks p b u) = 9
 status_by Spends = 8
 status_by Nests = 7

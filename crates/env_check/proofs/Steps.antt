@@ -17,7 +17,8 @@ use Rattle.pc_rules.specs.DirectedRun as run
 use Rattle.pc_rules.specs.DirectedRun.{Run}
 use Rattle.pc_rules.specs.DirectedComparison.{Test}
 use Rattle.pc_rules.specs.DirectedTyping.{infer}
-use Rattle.pc_rules.specs.DirectedDeclarations.{Given, declaration_rule, Accepts, Checked, placed_end, placed, main_rule, declarations_rule}
+use Rattle.pc_rules.specs.DirectedPlaces.{and_then}
+use Rattle.pc_rules.specs.DirectedDeclarations.{Given, declaration_rule, Accepts, accepts, Checked, placed_end, placed, main_rule, declarations_rule}
 use Rattle.pc_rules.proofs.Following.{or_left, or_right}
 use Rattle.env_check.specs.declared.refusal.Refusal.{Refusal}
 use Rattle.env_check.specs.declared.refusal.Refusal.TheVariants.{Broken, Spent, TooDeep, Memory}
@@ -45,12 +46,12 @@ leads_answers whole rest (Err Memory) u l h = tt
 -- what is done at a place
 
 pub placed_done : {A : Type 0} (p : Place) (d : Run A) (k : A → Account → Checked) (a : A) (u : Account) → d.end ≡ run.Done a u → LeadsTo (placed p d k) (k a u)
-unfolding placed
+unfolding and_then
 placed_done p d k a u e =
     record { outcome = ap (λ x. placed_end p x (λ a u. (k a u).outcome)) e; deep = λ h. or_right d.deep _ (rw e h) }
 
 pub placed_halted : {A : Type 0} (p : Place) (d : Run A) (k : A → Account → Checked) (h : Halt) (u : Account) → Halts d h u → Answers (placed p d k) (Err (refusal_at p h)) u
-unfolding placed
+unfolding and_then
 placed_halted p d k (halts.Stop stops.Spent) u h = (ap (λ x. placed_end p x (λ a u. (k a u).outcome)) h.0, h.1)
 placed_halted p d k (halts.Stop stops.TooDeep) u h = or_left d.deep _ h
 placed_halted p d k (halts.Stop stops.Memory) u h = tt
@@ -81,10 +82,10 @@ declarations_end levels cs q n i ds main u = leads_refl (main_rule (env levels c
 
 pub main_done : (E : Env) (q : Test) (n : ℕ) (main T : Term) (u v : Account) → (infer E q n [] main u).end ≡ run.Done T v → (main_rule E q n main u).outcome ≡ Accepts E T v
 main_done E q n main T u v e =
-    let k : Term → Account → Checked = λ T v. record { outcome = Accepts E T v; deep = false } in
+    let k : Term → Account → Checked = λ T v. accepts E T v in
     (placed_done AtMain (infer E q n [] main u) k T v e).outcome
 
 pub main_halted : (E : Env) (q : Test) (n : ℕ) (main : Term) (u v : Account) (h : Halt) → Halts (infer E q n [] main u) h v → Answers (main_rule E q n main u) (Err (refusal_at AtMain h)) v
 main_halted E q n main u v h e =
-    let k : Term → Account → Checked = λ T v. record { outcome = Accepts E T v; deep = false } in
+    let k : Term → Account → Checked = λ T v. accepts E T v in
     placed_halted AtMain (infer E q n [] main u) k h v e

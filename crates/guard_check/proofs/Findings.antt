@@ -8,10 +8,11 @@ use Rattle.pc_rules.specs.Environment.{Env}
 use Rattle.pc_rules.specs.Context.{Values, under}
 use Rattle.pc_rules.specs.Guardedness.{Mark, Recursive, Argument, Smaller, Other, Marks}
 use Rattle.pc_rules.specs.DirectedRun.{Run, done, no_unit, passing, is_beyond, bind, ticked}
-use Rattle.pc_rules.specs.DirectedWeakHead.{weak_next, family_of, stuck_step, after_step, steps, whnf}
+use Rattle.pc_rules.specs.DirectedWeakHead.{weak_next, family_of, steps, whnf}
 use Rattle.pc_rules.specs.DirectedGuard.{Finding, found_at, applied, constructors_of, step_on, if_smaller, if_opened, first_marks, later, look, look_branches, find}
 use Rattle.pc_rules.proofs.Following.{ticking-more, ticking-none, bind_done}
-use Rattle.guard_check.proofs.Agreeing.{Agrees, agrees_none, agrees_done, agrees_at, agrees_from, agrees_bind, agrees_ticking, agrees_passing, passed_first, pass_same}
+use Rattle.pc_rules.proofs.WholeSteps.{stays_same, stuck_same, step_same}
+use Rattle.pc_rules.proofs.SameWithin.{Agrees, agrees_none, agrees_done, agrees_at, agrees_from, agrees_bind, agrees_ticking, agrees_passing, passed_first, pass_same}
 
 pub agrees_step : (n : ℕ) (o : Option Term) (stay stay' : Account → Run Mark) (go go' : Term → Account → Run Mark) → Agrees (suc n) stay stay' →
     ((t : Term) → Agrees n (go t) (go' t)) → Agrees (suc n) (λ u. step_on o (stay u) go u) (λ u. step_on o (stay' u) go' u)
@@ -108,22 +109,6 @@ module _ (E : Env) where
     falls = λ u l. (agrees_find n n n (omega arith) (omega arith) V M t).falls u l;
   }
 
-  -- steps, by the next term
-  module _ (V : Values) where
-    pub stays_same : (k : ℕ) (t : Term) (u : Account) → weak_next E V t ≡ None → steps E V k t u ≡ done t u
-    unfolding steps
-    stays_same zero t u e = ap (λ o. stuck_step o (done t u)) e
-    stays_same (suc k) t u e = ap (λ o. after_step o (done t u) (λ next. steps E V k next (ticked u))) e
-
-    pub stuck_same : (t x : Term) (u : Account) → weak_next E V t ≡ Some x → steps E V zero t u ≡ no_unit
-    unfolding steps
-    stuck_same t x u e = ap (λ o. stuck_step o (done t u)) e
-
-    pub step_same : (k : ℕ) (t x : Term) (u : Account) → weak_next E V t ≡ Some x →
-        steps E V (suc k) t u ≡ record { end = (steps E V k x (ticked u)).end; deep = is_beyond x || (steps E V k x (ticked u)).deep }
-    unfolding steps
-    step_same k t x u e = ap (λ o. after_step o (done t u) (λ next. steps E V k next (ticked u))) e
-
   -- a term is reduced, and then its weak-head normal form is looked at
   module _ (V : Values) (M : Marks) where
     no_unit_then : (k : Term → Account → Run Mark) → bind no_unit k ≡ no_unit
@@ -133,18 +118,18 @@ module _ (E : Env) where
     by_steps : (k n : ℕ) (t : Term) (u : Account) (o : Option Term) → weak_next E V t ≡ o → u.left ≡ k → k ≤ n →
         find E n V M t u ≡ bind (steps E V k t u) (λ W v. found_in V M W v)
     by_steps k n t u None e p l =
-        find_fuel n V M t u (omega arith) ∙ sym (ap (λ d. bind d (λ W v. found_in V M W v)) (stays_same V k t u e) ∙ bind_done t u (λ W v. found_in V M W v))
+        find_fuel n V M t u (omega arith) ∙ sym (ap (λ d. bind d (λ W v. found_in V M W v)) (stays_same E V k t u e) ∙ bind_done t u (λ W v. found_in V M W v))
     by_steps zero n t u (Some x) e p l =
         find_is n V M t u ∙ ap (λ o. step_on o (look E (after n) V M t u) (after n V M) u) e
         ∙ ticking-none u (λ v. bind (passing (is_beyond x) v) (λ _ w. after n V M x w)) p
-        ∙ sym (ap (λ d. bind d (λ W v. found_in V M W v)) (stuck_same V t x u e) ∙ no_unit_then (λ W v. found_in V M W v))
+        ∙ sym (ap (λ d. bind d (λ W v. found_in V M W v)) (stuck_same E V t x u e) ∙ no_unit_then (λ W v. found_in V M W v))
     by_steps (suc k) zero t u (Some x) e p l = absurd (omega arith)
     by_steps (suc k) (suc n) t u (Some x) e p l =
         find_is (suc n) V M t u ∙ ap (λ o. step_on o (look E (after (suc n)) V M t u) (after (suc n) V M) u) e
         ∙ ticking-more u (λ v. bind (passing (is_beyond x) v) (λ _ w. find E n V M x w)) (omega arith)
         ∙ pass_same (is_beyond x) (ticked u) (λ _ w. find E n V M x w) (λ _ v. bind (steps E V k x (ticked u)) (λ W v. found_in V M W v))
         (by_steps k n x (ticked u) (weak_next E V x) refl (omega arith) (omega arith))
-        ∙ sym (ap (λ d. bind d (λ W v. found_in V M W v)) (step_same V k t x u e) ∙ passed_first (is_beyond x) (steps E V k x (ticked u)) (λ W v. found_in V M W v) (ticked u))
+        ∙ sym (ap (λ d. bind d (λ W v. found_in V M W v)) (step_same E V k t x u e) ∙ passed_first (is_beyond x) (steps E V k x (ticked u)) (λ W v. found_in V M W v) (ticked u))
 
     pub find_by_whnf : (t : Term) (u : Account) → found_in V M t u ≡ bind (whnf E V t u) (λ W v. found_in V M W v)
     find_by_whnf t u = by_steps u.left u.left t u (weak_next E V t) refl refl (omega arith)

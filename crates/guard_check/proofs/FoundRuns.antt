@@ -15,14 +15,14 @@ use Rattle.pc_rules.specs.DirectedWeakHead.{weak_next, steps, whnf}
 use Rattle.pc_rules.specs.DirectedGuard.{if_smaller, find, smaller_argument, call_argument, call_rule}
 use Rattle.pc_rules.specs.Follows.{Follows}
 use Rattle.pc_rules.proofs.Following.{follows_bind, follows_err, follows_done, follows_refused, follows_memory}
-use Rattle.rule_laws.proofs.Runs.{done_value, unit_done}
+use Rattle.rule_laws.proofs.Settled.{settled}
 use Rattle.guard_check.specs.declared.mark.Mark.{Mark as Kept}
 use Rattle.guard_check.specs.declared.mark.Mark.TheVariants as kept
 use Rattle.guard_check.specs.declared.tasks.Task.{Task}
 use Rattle.guard_check.specs.Marks.{mark_of, marks_of, values_in, marks_in}
 use Rattle.guard_check.specs.Tasks.{ToFind, to_find, head_mark, branches_to_find, each_smaller}
-use Rattle.guard_check.proofs.Agreeing.{bind_assoc}
-use Rattle.guard_check.proofs.Findings.{found_in, stays_same, stuck_same, step_same, find_by_whnf}
+use Rattle.pc_rules.proofs.SameWithin.{bind_assoc}
+use Rattle.guard_check.proofs.Findings.{found_in, find_by_whnf}
 use Rattle.guard_check.proofs.Heads.{each_append, concluded, normal_concluded, next_then, normal_next}
 use Rattle.guard_check.proofs.Bodies.{map-push}
 
@@ -30,17 +30,6 @@ pub same_run : {A : Type 0} (d d' : Run A) (r : Result A Halt) (m0 m1 : Meter) �
 same_run d d' r m0 m1 e f = subst (λ x. Follows x r m0 m1) (sym e) f
 
 module _ (E : Env) (V : Values) where
-  settled_by : (k : ℕ) (t : Term) (u : Account) (o : Option Term) (W : Term) (v : Account) → weak_next E V t ≡ o → (steps E V k t u).end ≡ Done W v →
-      weak_next E V W ≡ None
-  settled_by k t u None W v e h = subst (λ x. weak_next E V x ≡ None) (done_value (sym (ap (λ d. d.end) (stays_same E V k t u e)) ∙ h)) e
-  settled_by zero t u (Some x) W v e h = absurd (unit_done (sym (ap (λ d. d.end) (stuck_same E V t x u e)) ∙ h))
-  settled_by (suc k) t u (Some x) W v e h =
-      settled_by k x (ticked u) (weak_next E V x) W v refl (sym (ap (λ d. d.end) (step_same E V k t x u e)) ∙ h)
-
-  -- a weak-head normal form has no step
-  pub settled : (t W : Term) (m0 m1 : Meter) → Follows (whnf E V t m0.account) (Ok W) m0 m1 → weak_next E V W ≡ None
-  settled t W m0 m1 f = settled_by m0.account.left t m0.account (weak_next E V t) W m1.account refl f.answer
-
   alone : (a : Kept) (xs : List ToFind) (m : Meter) → (a ≡ kept.Smaller → ⊥) → Follows (concluded E (mark_of a) xs m.account) (Ok (mark_of a)) m m
   alone kept.Smaller xs m n = absurd (n refl)
   alone kept.Argument xs m n = follows_done Argument m

@@ -12,7 +12,7 @@ use Rattle.pc_rules.specs.DirectedRun.{Run, done, bind}
 use Rattle.pc_rules.specs.DirectedWeakHead.{weak_next, family_of, case_step, app_step}
 use Rattle.pc_rules.specs.DirectedGuard.{found_at, applied, opens, constructors_of, step_on, if_smaller, if_opened, first_marks, later, look, look_branches, find}
 use Rattle.guard_check.specs.Tasks.{ToFind, head_mark, bodies_to_find, branches_to_find, smaller_then, each_then, each_smaller}
-use Rattle.guard_check.proofs.Agreeing.{Agrees, agrees_done, agrees_at, agrees_from, agrees_bind, bind_assoc}
+use Rattle.pc_rules.proofs.SameWithin.{Agrees, agrees_done, agrees_at, agrees_from, agrees_bind, bind_assoc}
 use Rattle.guard_check.proofs.Findings.{agrees_opened, agrees_smaller, after, find_is, found_in, agrees_found}
 use Rattle.pc_rules.proofs.Following.{bind_done}
 use Rattle.rule_laws.proofs.SimpleRules.{some_none}

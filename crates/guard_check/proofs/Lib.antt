@@ -1,5 +1,4 @@
 pub mod Bodies
-pub mod Agreeing
 pub mod Findings
 pub mod Heads
 pub mod FoundRuns

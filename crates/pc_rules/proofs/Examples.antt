@@ -20,7 +20,8 @@ use Rattle.pc_rules.specs.DirectedWeakHead.{whnf, steps}
 use Rattle.pc_rules.specs.DirectedComparison.{compare, Test}
 use Rattle.pc_rules.specs.DirectedTyping.{infer, sort_of, check, retype, conv, check_all, sorts_of, branches_rule, types_rule, definitions_rule}
 use Rattle.pc_rules.specs.DirectedGuard.{find, body_guard}
-use Rattle.pc_rules.specs.DirectedDeclarations.{Given, GivenConstant, GivenBlock, environment_rule, Outcome, Accepts, Breaks, Spends, Nests, declarations_rule, placed, arguments_rule, constructors_rule, families_rule}
+use Rattle.pc_rules.specs.DirectedPlaces.{and_then}
+use Rattle.pc_rules.specs.DirectedDeclarations.{Given, GivenConstant, GivenBlock, environment_rule, Outcome, Gives, Breaks, Spends, Nests, Accepts, declarations_rule, arguments_rule, constructors_rule, families_rule}
 use Rattle.pc_rules.specs.DirectedEvaluation.{Value, Stuck, evaluate, evaluation}
 use Rattle.pc_rules.specs.DirectedFirstOrder.{Found, NotFirstOrder, TooManyTypes, shape, put_arguments, put_constructors, argument_types, work_on, search_within}
 use Rattle.pc_rules.specs.Same.{same}
@@ -141,8 +142,8 @@ data Verdict : Type 0 where
   Bad : Place → Broken → Verdict
   Short : Verdict
 
-verdict : Outcome → Verdict
-verdict (Accepts E T u) = Fine T u.left
+verdict : Outcome (Env × Term) → Verdict
+verdict (Gives p u) = Fine p.1 u.left
 verdict (Breaks p b u) = Bad p b
 verdict Spends = Short
 verdict Nests = Short
@@ -158,27 +159,27 @@ checked ds main n = verdict (environment_rule [] [] None below_test 2048 ds main
 constant_false : (environment_rule [] [] None below_test 2048 (GivenBlock block_bool ∷ GivenConstant n_add BoolT (Some ff') ∷ []) (Const n_add) (units 3)).outcome
     ≡ Accepts (record { levels = 0; constraints = []; declarations = Constant n_add BoolT (Some ff') ∷ Whole block_bool ∷ [] }) BoolT
     (record { left = 0; uses = 0 ∷ 0 ∷ 0 ∷ 0 ∷ 0 ∷ 0 ∷ 1 ∷ 1 ∷ 1 ∷ 0 ∷ 0 ∷ 0 ∷ [] })
-unfolding verdict infer ticking bind sort_of check retype conv check_all sorts_of branches_rule steps compare same run_all declarations_rule placed arguments_rule constructors_rule families_rule types_rule definitions_rule find body_guard
+unfolding verdict infer ticking bind sort_of check retype conv check_all sorts_of branches_rule steps compare same run_all declarations_rule and_then arguments_rule constructors_rule families_rule types_rule definitions_rule find body_guard
 constant_false = refl
 
 constant_short : checked (GivenBlock block_bool ∷ GivenConstant n_add BoolT (Some ff') ∷ []) (Const n_add) 2 ≡ Short
-unfolding verdict infer ticking bind sort_of check retype conv check_all sorts_of branches_rule steps compare same run_all declarations_rule placed arguments_rule constructors_rule families_rule types_rule definitions_rule find body_guard
+unfolding verdict infer ticking bind sort_of check retype conv check_all sorts_of branches_rule steps compare same run_all declarations_rule and_then arguments_rule constructors_rule families_rule types_rule definitions_rule find body_guard
 constant_short = refl
 
 lambda_over_false : checked (GivenBlock block_bool ∷ []) (Lambda ff' (Rel 0)) 50 ≡ Bad Main (NotASort BoolT)
-unfolding verdict infer ticking bind sort_of check retype conv check_all sorts_of branches_rule steps compare same run_all declarations_rule placed arguments_rule constructors_rule families_rule types_rule definitions_rule find body_guard
+unfolding verdict infer ticking bind sort_of check retype conv check_all sorts_of branches_rule steps compare same run_all declarations_rule and_then arguments_rule constructors_rule families_rule types_rule definitions_rule find body_guard
 lambda_over_false = refl
 
 false_applied : checked (GivenBlock block_bool ∷ []) (App ff' ff') 50 ≡ Bad Main (NotAProduct BoolT)
-unfolding verdict infer ticking bind sort_of check retype conv check_all sorts_of branches_rule steps compare same run_all declarations_rule placed arguments_rule constructors_rule families_rule types_rule definitions_rule find body_guard
+unfolding verdict infer ticking bind sort_of check retype conv check_all sorts_of branches_rule steps compare same run_all declarations_rule and_then arguments_rule constructors_rule families_rule types_rule definitions_rule find body_guard
 false_applied = refl
 
 bool_twice : checked (GivenBlock block_bool ∷ GivenBlock block_bool ∷ []) ff' 50 ≡ Bad (Declaration 1) (DuplicateName 1)
-unfolding verdict infer ticking bind sort_of check retype conv check_all sorts_of branches_rule steps compare same run_all declarations_rule placed arguments_rule constructors_rule families_rule types_rule definitions_rule find body_guard
+unfolding verdict infer ticking bind sort_of check retype conv check_all sorts_of branches_rule steps compare same run_all declarations_rule and_then arguments_rule constructors_rule families_rule types_rule definitions_rule find body_guard
 bool_twice = refl
 
 match_of_nat : checked (GivenBlock block_nat ∷ GivenBlock block_bool ∷ []) (Case fbool Done 1 BoolT O (Next 0 tt' (Next 0 ff' Done))) 50 ≡ Bad Main (NotTheFamily NatT)
-unfolding verdict infer ticking bind sort_of check retype conv check_all sorts_of branches_rule steps compare same run_all declarations_rule placed arguments_rule constructors_rule families_rule types_rule definitions_rule find body_guard
+unfolding verdict infer ticking bind sort_of check retype conv check_all sorts_of branches_rule steps compare same run_all declarations_rule and_then arguments_rule constructors_rule families_rule types_rule definitions_rule find body_guard
 match_of_nat = refl
 
 -- a constructor that holds a set
@@ -195,7 +196,7 @@ block_box = record {
 }
 
 too_small : checked (GivenBlock block_box ∷ []) ff' 50 ≡ Bad (Declaration 0) (SortTooSmall (Of (record { level = record { 0 = 0 }; add = 1 } ∷ [])) set)
-unfolding verdict infer ticking bind sort_of check retype conv check_all sorts_of branches_rule steps compare same run_all declarations_rule placed arguments_rule constructors_rule families_rule types_rule definitions_rule find body_guard
+unfolding verdict infer ticking bind sort_of check retype conv check_all sorts_of branches_rule steps compare same run_all declarations_rule and_then arguments_rule constructors_rule families_rule types_rule definitions_rule find body_guard
 too_small = refl
 
 -- a constructor of functions from the family
@@ -215,19 +216,19 @@ block_negative = record {
 }
 
 not_positive : checked (GivenBlock block_negative ∷ []) ff' 50 ≡ Bad (Declaration 0) (NotPositive 0 0)
-unfolding verdict infer ticking bind sort_of check retype conv check_all sorts_of branches_rule steps compare same run_all declarations_rule placed arguments_rule constructors_rule families_rule types_rule definitions_rule find body_guard
+unfolding verdict infer ticking bind sort_of check retype conv check_all sorts_of branches_rule steps compare same run_all declarations_rule and_then arguments_rule constructors_rule families_rule types_rule definitions_rule find body_guard
 not_positive = refl
 
 -- a fixpoint over sets
 over_sets : checked (GivenBlock block_nat ∷ []) (Fix 0 (0 ∷ []) (Next 0 (Prod (SortT set) NatT) Done) (Next 1 (Lambda (SortT set) O) Done)) 50
     ≡ Bad Main (RecArgNotInductive (SortT set))
-unfolding verdict infer ticking bind sort_of check retype conv check_all sorts_of branches_rule steps compare same run_all declarations_rule placed arguments_rule constructors_rule families_rule types_rule definitions_rule find body_guard
+unfolding verdict infer ticking bind sort_of check retype conv check_all sorts_of branches_rule steps compare same run_all declarations_rule and_then arguments_rule constructors_rule families_rule types_rule definitions_rule find body_guard
 over_sets = refl
 
 -- a fixpoint that calls itself on its own argument
 loops : checked (GivenBlock block_nat ∷ []) (Fix 0 (0 ∷ []) (Next 0 (Prod NatT NatT) Done) (Next 1 (Lambda NatT (App (Rel 1) (Rel 0))) Done)) 50
     ≡ Bad Main (NotGuarded (Rel 0))
-unfolding verdict infer ticking bind sort_of check retype conv check_all sorts_of branches_rule steps compare same run_all declarations_rule placed arguments_rule constructors_rule families_rule types_rule definitions_rule find body_guard
+unfolding verdict infer ticking bind sort_of check retype conv check_all sorts_of branches_rule steps compare same run_all declarations_rule and_then arguments_rule constructors_rule families_rule types_rule definitions_rule find body_guard
 loops = refl
 
 -- addition is accepted
@@ -236,7 +237,7 @@ is_fine (Fine T n) = true
 is_fine v = false
 
 adding : is_fine (checked (GivenBlock block_nat ∷ GivenConstant n_add NN (Some add_fix) ∷ []) (App (App (Const n_add) (S (S O))) (S (S (S O)))) 200) ≡ true
-unfolding verdict infer ticking bind sort_of check retype conv check_all sorts_of branches_rule steps compare same run_all declarations_rule placed arguments_rule constructors_rule families_rule types_rule definitions_rule find body_guard
+unfolding verdict infer ticking bind sort_of check retype conv check_all sorts_of branches_rule steps compare same run_all declarations_rule and_then arguments_rule constructors_rule families_rule types_rule definitions_rule find body_guard
 adding = refl
 
 -- a function is applied to a value, in four nodes

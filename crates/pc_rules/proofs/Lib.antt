@@ -20,3 +20,7 @@ pub mod EvaluationReached
 pub mod SearchRuns
 pub mod ListSteps
 pub mod Shifts
+pub mod SameWithin
+pub mod WholeSteps
+pub mod EvaluationNext
+pub mod Collected

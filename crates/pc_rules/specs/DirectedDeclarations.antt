@@ -24,8 +24,8 @@ use Rattle.pc_rules.specs.Environment.{Env, heads_of}
 use Rattle.pc_rules.specs.Context.{Context, extend}
 use Rattle.pc_rules.specs.Accepted.{env}
 use Rattle.pc_rules.specs.Same.{same_names}
-use Rattle.pc_rules.specs.DirectedRun as run
 use Rattle.pc_rules.specs.DirectedRun.{Run, Act, done, refused, bind}
+pub use Rattle.pc_rules.specs.DirectedPlaces.{Outcome, Gives, Breaks, Spends, Nests, Placed, gives, breaks, placed_end, placed}
 use Rattle.pc_rules.specs.DirectedWeakHead.{kept_at}
 use Rattle.pc_rules.specs.DirectedComparison.{Test, Comparison, compare, sort_below}
 use Rattle.pc_rules.specs.DirectedTyping.{Typing, infer, sort_of, sorts_of, check, check_all, counted, undeclared_in, levels_declared}
@@ -173,31 +173,15 @@ declaration_rule E q n (GivenConstant k T b) u =
 declaration_rule E q n (GivenBlock B) u =
     bind (fresh_name (kept_at E.declarations B.name) B.name u) (λ _ v. bind (block_rule E q n B v) (λ D w. done (Whole D) w))
 
--- how the check of a whole environment ends
-pub data Outcome : Type 0 where
-  Accepts : Env → Term → Account → Outcome  -- the environment, and main's type
-  Breaks : Place → Broken → Account → Outcome
-  Spends Nests : Outcome
+-- how the check of a whole environment ends: with the environment, and main's type
+abbrev pub Checked : Type 0
+Checked = Placed (Env × Term)
 
-pub record Checked : Type 0 where
-  pub outcome : Outcome
-  pub deep : Bool
+abbrev pub Accepts : Env → Term → Account → Outcome (Env × Term)
+Accepts E T u = Gives (E, T) u
 
-abbrev pub placed_end : {A : Type 0} → Place → run.End A → (A → Account → Outcome) → Outcome
-placed_end p (run.Done a u) k = k a u
-placed_end p (run.Refused b u) k = Breaks p b u
-placed_end p run.NoUnit k = Spends
-placed_end p run.Nested k = Nests
-
--- what is done at a place, and then the rest
-unfoldable pub placed : {A : Type 0} → Place → Run A → (A → Account → Checked) → Checked
-placed p r k = record {
-  outcome = placed_end p r.end (λ a u. (k a u).outcome);
-  deep = r.deep || run.deep_then r.end (λ a u. (k a u).deep);
-}
-
-abbrev pub breaks : Place → Broken → Account → Checked
-breaks p b u = record { outcome = Breaks p b u; deep = false }
+abbrev pub accepts : Env → Term → Account → Checked
+accepts E T u = gives (E, T) u
 
 -- levels, as they are listed: none is listed twice
 abbrev pub has_level : Level → List Level → Bool
@@ -222,7 +206,7 @@ first_undeclared_end n i (c ∷ cs) = first_end i (undeclared_end n c) (first_un
 
 -- main
 abbrev pub main_rule : Env → Test → ℕ → Term → Account → Checked
-main_rule E q n main u = placed AtMain (infer E q n [] main u) (λ T v. record { outcome = Accepts E T v; deep = false })
+main_rule E q n main u = placed AtMain (infer E q n [] main u) (λ T v. accepts E T v)
 
 -- declarations, from place i on; and then main
 unfoldable pub declarations_rule : ℕ → List Constraint → Test → ℕ → ℕ → List Kept → List Given → Term → Account → Checked

@@ -1,12 +1,13 @@
 -- Environments: universes and declarations (PCUIC, POPL 2020, section 2: global environments and their constraints).
 -- An environment declares levels 1 to `levels` (level 0 is Set), keeps constraints between levels, and keeps declarations, the newest
 -- first. While a block is being declared its heads are kept: they make its families known by their types alone.
-use Rattle.std.specs.Prelude.{ℕ, ◌≡◌, ◌≢◌, List, [], ◌∷◌, ◌⊎◌, map, Option, Some, slice_get, option_map}
+use Rattle.std.specs.Prelude.{ℕ, ◌≡◌, ◌≢◌, List, [], ◌⊎◌, map, Option, Some, slice_get, option_map}
 use Rattle.universe_levels.specs.declared.constraint.Constraint.{Constraint}
 use Rattle.universe_levels.specs.declared.sort.Sort.{Sort}
 use Rattle.universe_levels.specs.declared.sort.Sort.TheVariants.{Prop, Of}
 use Rattle.universe_levels.specs.Consistency.{IsOver}
 use Rattle.universe_levels.specs.Consistency as universes
+pub use Rattle.trees.specs.Membership.{Has, here, there}
 use Rattle.pc_terms.specs.declared.leaf.Name.{Name}
 use Rattle.pc_terms.specs.declared.leaf.FamilyId.{FamilyId}
 use Rattle.pc_terms.specs.Syntax.{Term}
@@ -20,11 +21,6 @@ pub record Env : Type 0 where
   pub levels : ℕ
   pub constraints : List Constraint
   pub declarations : List Kept
-
--- membership, which is all that the rules ask of declarations
-pub data Has {A : Type 0} : List A → A → Type 0 where
-  here : {x : A} {xs : List A} → Has (x ∷ xs) x
-  there : {x y : A} {xs : List A} → Has xs x → Has (y ∷ xs) x
 
 abbrev pub name_of : Kept → Name
 name_of (Constant k T b) = k

@@ -5,6 +5,8 @@ use Rattle.universe_levels.specs.declared.sort.Sort.TheVariants.{Prop}
 use Rattle.pc_terms.specs.declared.leaf.FamilyId.{FamilyId}
 use Rattle.pc_terms.specs.Syntax.{Term, Terms, SortT, Construct, Case, terms_of}
 use Rattle.pc_rules.specs.declared.declaration.Constructor.{Constructor}
+use Rattle.pc_rules.specs.declared.evidence.Evidence.{Evidence}
+use Rattle.pc_rules.specs.declared.evidence.Evidence.TheVariants.{Arity, Proof, PropMatch, PropConstructor}
 use Rattle.pc_rules.specs.Environment.{FamilyDecl, Env, KeepsFamily}
 use Rattle.pc_rules.specs.Context.{Context, values, extend}
 use Rattle.pc_rules.specs.Instances.{products, predicate_entries}
@@ -24,11 +26,8 @@ pub data Erasable (E : Env) : Context → Term → Type 0 where
   prop_constructor : {c : Context} {f : FamilyId} {F : FamilyDecl} {C : Constructor} {k : ℕ} → KeepsFamily E f F → F.sort ≡ Prop →
       slice_get F.constructors k ≡ Some C → Erasable E c (Construct f k)
 
--- the kinds of evidence
-pub data Kind : Type 0 where
-  Arity Proof PropMatch PropConstructor : Kind
-
-abbrev pub kind_of : {E : Env} {c : Context} {t : Term} → Erasable E c t → Kind
+-- which kind it is
+abbrev pub kind_of : {E : Env} {c : Context} {t : Term} → Erasable E c t → Evidence
 kind_of (arity As s p e) = Arity
 kind_of (proof p q) = Proof
 kind_of (prop_match ps k n l p) = PropMatch

@@ -1,6 +1,7 @@
 -- First-order types, and data: what a value is read as. They are this project's own.
 use Rattle.std.specs.Prelude.{ℕ, suc, ◌≡◌, ◌≢◌, List, [], ◌∷◌, ◌++◌, Some, length, slice_get}
 use Rattle.universe_levels.specs.declared.sort.Sort.TheVariants.{Prop}
+pub use Rattle.trees.specs.Data.{Data}
 use Rattle.pc_terms.specs.declared.leaf.FamilyId.{FamilyId}
 use Rattle.pc_terms.specs.Syntax.{Term, Ind, apply, shift}
 use Rattle.pc_rules.specs.declared.declaration.Constructor.{Constructor}
@@ -47,10 +48,6 @@ pub record IsMember (E : Env) (S : List Shape) (h : Shape) : Type 0 where
 pub record IsFirstOrder (E : Env) (T : Term) (S : List Shape) : Type 0 where
   pub first : IsAt E S T 0
   pub members : (j : ℕ) (h : Shape) → slice_get S j ≡ Some h → IsMember E S h
-
--- data: a tree of constructor numbers, without parameters, as the list of its nodes in preorder, each with its number of arguments
-abbrev pub Data : Type 0
-Data = List (ℕ × ℕ)
 
 -- at type i of the set the value is a constructor of that family with all its arguments, and so all the way down
 mutual

@@ -20,6 +20,7 @@ pub mod DirectedWeakHead
 pub mod DirectedComparison
 pub mod DirectedGuard
 pub mod DirectedTyping
+pub mod DirectedPlaces
 pub mod DirectedDeclarations
 pub mod DirectedErasable
 pub mod DirectedEvaluation

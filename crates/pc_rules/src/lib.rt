@@ -8,8 +8,8 @@
 //!
 //! The directed rules say what a checker does, step by step: which unit it takes, which refusal comes first and what it keeps, and which
 //! uses of rules are counted. They are total functions: `DirectedRun` (how a run ends), `DirectedWeakHead`, `DirectedComparison`,
-//! `DirectedGuard`, `DirectedTyping`, `DirectedDeclarations`, `DirectedFirstOrder`, `DirectedEvaluation` and `DirectedErasable`. `Entailment`
-//! is their test of universes.
+//! `DirectedGuard`, `DirectedTyping`, `DirectedPlaces` (what follows each other at places of an environment), `DirectedDeclarations`,
+//! `DirectedFirstOrder`, `DirectedEvaluation` and `DirectedErasable`. `Entailment` is their test of universes.
 //!
 //! The traits `Reducer`, `Converter`, `Guarder` and `Typer` say of each implementation that it follows the directed rules (`follows`, by
 //! `Follows`): its results and refusals are theirs with the units that are left and the uses of rules; it stops for want of units exactly
@@ -19,7 +19,7 @@
 //!
 //! The types: `Env` finds what is kept by a name (`kept`), keeps declarations (`kept`, `as_before`) and heads of blocks, and decides
 //! entailment (`test`, `entailed`); `Ctx` is extended without copying (`longer`); `Meter` takes units, counts uses of rules and bounds the
-//! rules that stand in one another (`account`, `nest`).
+//! rules that stand in one another (`account`, `nest`); `Evidence` says why a term is erasable.
 //!
 //! What is promised besides (`laws`, `directed_laws`): equality is a congruence and an equivalence, below a preorder (`reflexive`,
 //! `symmetric`, `transitive`, `steps`, `equality`, `prop` and one clause for each former); evaluation is deterministic, its count of nodes
@@ -43,6 +43,7 @@ mod declarations;
 pub mod directed_laws;
 pub mod entry;
 pub mod environment;
+pub mod evidence;
 pub mod guarder;
 pub mod laws;
 pub mod meter;

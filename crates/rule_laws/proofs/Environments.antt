@@ -27,7 +27,8 @@ use Rattle.pc_rules.specs.DirectedRun.{Run, End, done, bind}
 use Rattle.pc_rules.specs.DirectedWeakHead.{kept_at}
 use Rattle.pc_rules.specs.DirectedComparison.{Test, IsTest, compare}
 use Rattle.pc_rules.specs.DirectedTyping.{infer, sort_of}
-use Rattle.pc_rules.specs.DirectedDeclarations.{block_rule, body_rule, constant_rule, fresh_name, Given, GivenConstant, GivenBlock, declaration_rule, Outcome, Accepts, Breaks, Checked, placed_end, placed, has_level, first_repeated, undeclared_end, first_end, first_undeclared_end, declarations_rule, graph_rule, constraints_rule, levels_rule, environment_rule}
+use Rattle.pc_rules.specs.DirectedPlaces.{and_then}
+use Rattle.pc_rules.specs.DirectedDeclarations.{block_rule, body_rule, constant_rule, fresh_name, Given, GivenConstant, GivenBlock, declaration_rule, Outcome, Gives, Breaks, Accepts, accepts, Checked, placed_end, placed, has_level, first_repeated, undeclared_end, first_end, first_undeclared_end, declarations_rule, graph_rule, constraints_rule, levels_rule, environment_rule}
 use Rattle.pc_rules.specs.WellCounted.{IsCountedBody, HasCountedDeclarations}
 use Rattle.rule_laws.specs.Declarations.{plain, plain_given, IsCheckedDeclaration, IsCheckedEnvironment, BodyFormed, GivenFormed, AllGivenFormed}
 use Rattle.rule_laws.proofs.Runs.{bind_both, refused_done, done_value}
@@ -101,12 +102,12 @@ module _ (levels : ℕ) (cs : List Constraint) (q : Test) (test : IsTest levels 
 
 -- what is placed
 
-environment_of : Outcome → Env → Env
-environment_of (Accepts E T u) o = E
+environment_of : Outcome (Env × Term) → Env → Env
+environment_of (Gives p u) o = p.0
 environment_of _ o = o
 
-type_of_main : Outcome → Term → Term
-type_of_main (Accepts E T u) o = T
+type_of_main : Outcome (Env × Term) → Term → Term
+type_of_main (Gives p u) o = p.1
 type_of_main _ o = o
 
 one_environment : {E E' : Env} {T T' : Term} {u u' : Account} → Accepts E T u ≡ Accepts E' T' u' → E ≡ E'
@@ -120,7 +121,7 @@ one_type {T = T} e = ap (λ r. type_of_main r T) e
 breaks_accepts : {E : Env} {T : Term} {p : Place} {b : Broken} {u v : Account} → Breaks p b u ≡ Accepts E T v → ⊥
 breaks_accepts e = cc
 
-end_placed : {A : Type 0} (p : Place) (e : End A) (k : A → Account → Outcome) (E : Env) (T : Term) (v : Account) → placed_end p e k ≡ Accepts E T v →
+end_placed : {A : Type 0} (p : Place) (e : End A) (k : A → Account → Outcome (Env × Term)) (E : Env) (T : Term) (v : Account) → placed_end p e k ≡ Accepts E T v →
     (a : A) × (u : Account) × (e ≡ run.Done a u) × (k a u ≡ Accepts E T v)
 end_placed p (run.Done a u) k E T v h = (a, u, refl, h)
 end_placed p (run.Refused b u) k E T v h = absurd (breaks_accepts h)
@@ -129,7 +130,7 @@ end_placed p run.Nested k E T v h = absurd (cc)
 
 placed_both : {A : Type 0} (p : Place) (r : Run A) (k : A → Account → Checked) (E : Env) (T : Term) (v : Account) → (placed p r k).outcome ≡ Accepts E T v →
     (a : A) × (u : Account) × (r.end ≡ run.Done a u) × ((k a u).outcome ≡ Accepts E T v)
-unfolding placed
+unfolding and_then
 placed_both p r k E T v h = end_placed p r.end (λ a u. (k a u).outcome) E T v h
 
 -- the declarations, and main
@@ -148,7 +149,7 @@ module _ (levels : ℕ) (cs : List Constraint) (q : Test) (test : IsTest levels 
   unfolding declarations_rule
   declarations_sound n i ds [] main T E u v a w fs fm h =
       let D : Env = env levels cs ds in
-      let p = placed_both AtMain (infer D q n [] main u) (λ T v. record { outcome = Accepts D T v; deep = false }) E T v h in
+      let p = placed_both AtMain (infer D q n [] main u) (λ T v. accepts D T v) E T v h in
       record {
         kept = ds;
         is = one_environment p.3;

@@ -13,7 +13,9 @@ use Rattle.pc_rules.specs.Instances.{products, predicate_entries}
 use Rattle.pc_rules.specs.Conversion.{Equal, same, chain}
 use Rattle.pc_rules.specs.WeakHead.{then_step, no_step}
 use Rattle.pc_rules.specs.Typing.{bare, Types}
-use Rattle.pc_rules.specs.Erasable.{arity, proof, prop_match, prop_constructor, Kind, Proof, PropMatch, PropConstructor}
+use Rattle.pc_rules.specs.declared.evidence.Evidence.{Evidence}
+use Rattle.pc_rules.specs.declared.evidence.Evidence.TheVariants.{Proof, PropMatch, PropConstructor}
+use Rattle.pc_rules.specs.Erasable.{arity, proof, prop_match, prop_constructor}
 use Rattle.pc_rules.specs.DirectedRun as run
 use Rattle.pc_rules.specs.DirectedRun.{Run, done, no_unit, passing, is_beyond, any_beyond, bind, ticked}
 use Rattle.pc_rules.specs.DirectedWeakHead.{weak_next, family_of}
@@ -36,7 +38,7 @@ use Rattle.rule_laws.proofs.SimpleRules.{Infers, formed, sort_sound}
 use Rattle.rule_laws.proofs.MatchRule.{terms_are}
 use Rattle.pc_rules.proofs.SameTrees.{false_true}
 
-one_kind : {k l : Kind} → Some k ≡ Some l → k ≡ l
+one_kind : {k l : Evidence} → Some k ≡ Some l → k ≡ l
 one_kind e = one_item e
 
 module _ (E : Env) where
@@ -79,11 +81,11 @@ module _ (E : Env) where
       (end_sound (ends_in_sort E n) (ends_sound n) c T u v) (λ X y h. ends_sound n c X y v h) h
 
   module _ (w : HasCountedDeclarations E) (inf : Typing) (si : Infers E inf) where
-    prop_found : (s : Sort) (k : Kind) → (if is_prop s then Some Proof else None) ≡ Some k → (s ≡ Prop) × (Proof ≡ k)
+    prop_found : (s : Sort) (k : Evidence) → (if is_prop s then Some Proof else None) ≡ Some k → (s ≡ Prop) × (Proof ≡ k)
     prop_found Prop k e = (refl, one_kind e)
     prop_found (Of x) k e = absurd (none_some e)
 
-    arity_sound : (c : Context) (t T : Term) (b : Bool) (k : Kind) (u v : Account) → IsCountedContext E c → Types bare E c t T → IsCounted E T →
+    arity_sound : (c : Context) (t T : Term) (b : Bool) (k : Evidence) (u v : Account) → IsCountedContext E c → Types bare E c t T → IsCounted E T →
         (b ≡ true → IsArity c T) → (arity_found E inf c T b u).end ≡ run.Done (Some k) v → HasEvidence E c t k
     arity_sound c t T true k u v kc p wT f h = let a = f refl in (arity a.0 a.1 p a.2, one_kind (done_value h))
     arity_sound c t T false k u v kc p wT f h =
@@ -92,10 +94,10 @@ module _ (E : Env) where
         let q = prop_found r.0 k (done_value r.3) in
         (proof p (subst (λ s. Types bare E c T (SortT s)) q.0 (bare_types s.0)), q.1)
 
-    type_sound : (c : Context) (t : Term) (k : Kind) (u v : Account) → IsCountedContext E c → IsCounted E t → (type_test E inf c t u).end ≡ run.Done (Some k) v →
+    type_sound : (c : Context) (t : Term) (k : Evidence) (u v : Account) → IsCountedContext E c → IsCounted E t → (type_test E inf c t u).end ≡ run.Done (Some k) v →
         HasEvidence E c t k
     type_sound c t k u v kc wt h =
-        let k1 : Term → Account → Run (Option Kind) = λ T v. bind (ends_in_sort E v.left c T v) (λ b w. arity_found E inf c T b w) in
+        let k1 : Term → Account → Run (Option Evidence) = λ T v. bind (ends_in_sort E v.left c T v) (λ b w. arity_found E inf c T b w) in
         let p1 = bind_both (inf c t u) k1 (Some k) v h in
         let T : Term = p1.0 in
         let p2 = bind_both (ends_in_sort E p1.1.left c T p1.1) (λ b w. arity_found E inf c T b w) (Some k) v p1.3 in
@@ -103,27 +105,27 @@ module _ (E : Env) where
         arity_sound c t T p2.0 k p2.1 v kc (bare_types i.typed) i.classifier
         (λ e. ends_sound p1.1.left c T p1.1 p2.1 (subst (λ b. (ends_in_sort E p1.1.left c T p1.1).end ≡ run.Done b p2.1) e p2.2)) p2.3
 
-    constructor_prop : (c : Context) (f : FamilyId) (n : ℕ) (F : FamilyDecl) (C : Constructor) (s : Sort) (k : Kind) (u v : Account) → IsCountedContext E c → family_of E f ≡ Some F →
+    constructor_prop : (c : Context) (f : FamilyId) (n : ℕ) (F : FamilyDecl) (C : Constructor) (s : Sort) (k : Evidence) (u v : Account) → IsCountedContext E c → family_of E f ≡ Some F →
         F.sort ≡ s → slice_get F.constructors n ≡ Some C → (if is_prop s then done (Some PropConstructor) u else type_test E inf c (Construct f n) u).end ≡ run.Done (Some k) v → HasEvidence E c (Construct f n) k
     constructor_prop c f n F C Prop k u v kc e s is h = (prop_constructor (family_found E f F e) s is, one_kind (done_value h))
     constructor_prop c f n F C (Of x) k u v kc e s is h = type_sound c (Construct f n) k u v kc (((tt, tt), tt), tt) h
 
-    numbered_sound : (c : Context) (f : FamilyId) (n : ℕ) (F : FamilyDecl) (o : Option Constructor) (k : Kind) (u v : Account) → IsCountedContext E c → family_of E f ≡ Some F →
+    numbered_sound : (c : Context) (f : FamilyId) (n : ℕ) (F : FamilyDecl) (o : Option Constructor) (k : Evidence) (u v : Account) → IsCountedContext E c → family_of E f ≡ Some F →
         slice_get F.constructors n ≡ o → (numbered_test E inf c (Construct f n) F.sort o u).end ≡ run.Done (Some k) v → HasEvidence E c (Construct f n) k
     numbered_sound c f n F None k u v kc e is h = type_sound c (Construct f n) k u v kc (((tt, tt), tt), tt) h
     numbered_sound c f n F (Some C) k u v kc e is h = constructor_prop c f n F C F.sort k u v kc e refl is h
 
-    constructor_sound : (c : Context) (f : FamilyId) (n : ℕ) (o : Option FamilyDecl) (k : Kind) (u v : Account) → IsCountedContext E c → family_of E f ≡ o →
+    constructor_sound : (c : Context) (f : FamilyId) (n : ℕ) (o : Option FamilyDecl) (k : Evidence) (u v : Account) → IsCountedContext E c → family_of E f ≡ o →
         (constructor_test E inf c (Construct f n) n o u).end ≡ run.Done (Some k) v → HasEvidence E c (Construct f n) k
     constructor_sound c f n None k u v kc e h = type_sound c (Construct f n) k u v kc (((tt, tt), tt), tt) h
     constructor_sound c f n (Some F) k u v kc e h = numbered_sound c f n F (slice_get F.constructors n) k u v kc e refl h
 
-    match_prop : (c : Context) (t : Term) (s : Sort) (k : Kind) (u v : Account) → IsCountedContext E c → IsCounted E t → (s ≡ Prop → HasEvidence E c t PropMatch) →
+    match_prop : (c : Context) (t : Term) (s : Sort) (k : Evidence) (u v : Account) → IsCountedContext E c → IsCounted E t → (s ≡ Prop → HasEvidence E c t PropMatch) →
         (match_sort E inf c t s u).end ≡ run.Done (Some k) v → HasEvidence E c t k
     match_prop c t Prop k u v kc wt f h = let e = f refl in (e.0, e.1 ∙ one_kind (done_value h))
     match_prop c t (Of x) k u v kc wt f h = type_sound c t k u v kc wt h
 
-    match_sound : (c : Context) (f : FamilyId) (ps : Terms) (n : ℕ) (ret s : Term) (bs : Terms) (o : Option FamilyDecl) (k : Kind) (u v : Account) → IsCountedContext E c →
+    match_sound : (c : Context) (f : FamilyId) (ps : Terms) (n : ℕ) (ret s : Term) (bs : Terms) (o : Option FamilyDecl) (k : Evidence) (u v : Account) → IsCountedContext E c →
         IsCounted E (Case f ps n ret s bs) → family_of E f ≡ o → (match_test E inf c (Case f ps n ret s bs) f (list_of ps) ret o u).end ≡ run.Done (Some k) v →
         HasEvidence E c (Case f ps n ret s bs) k
     match_sound c f ps n ret s bs None k u v kc wt e h = type_sound c (Case f ps n ret s bs) k u v kc wt h
@@ -145,7 +147,7 @@ module _ (E : Env) where
         (λ q. subst (λ ps. HasEvidence E c (Case f ps n ret s bs) PropMatch) (terms_are ps wt.0.0.0)
         (prop_match qs keeps variables long (subst (λ s. Types bare E D ret (SortT s)) q (bare_types r.0)), refl)) p.3
 
-    pub evidence_sound : (c : Context) (t : Term) (k : Kind) (u v : Account) → IsCountedContext E c → IsCounted E t →
+    pub evidence_sound : (c : Context) (t : Term) (k : Evidence) (u v : Account) → IsCountedContext E c → IsCounted E t →
         (erasable_test E inf c t u).end ≡ run.Done (Some k) v → HasEvidence E c t k
     evidence_sound c (Construct f n) k u v kc wt h = constructor_sound c f n (family_of E f) k u v kc refl h
     evidence_sound c (Case f ps n ret s bs) k u v kc wt h = match_sound c f ps n ret s bs (family_of E f) k u v kc wt refl h

@@ -3,6 +3,7 @@ pub mod NoStep
 pub mod Counted
 pub mod KeepCounts
 pub mod Runs
+pub mod Settled
 pub mod Comparing
 pub mod CountedParts
 pub mod SimpleRules

@@ -121,7 +121,7 @@ elimination_is E f F (Of u) s e q h = inl (λ p. of_not_prop e p)
 elimination_is E f F Prop Prop e q h = inr (inl refl)
 elimination_is E f F Prop (Of x) e q h = inr (inr (single_is E f F (kept_at E.declarations f.block) refl q h))
 
-eliminated_is : (E : Env) (f : FamilyId) (F : FamilyDecl) (s : Sort) (u v : Account) → family_of E f ≡ Some F →
+pub eliminated_is : (E : Env) (f : FamilyId) (F : FamilyDecl) (s : Sort) (u v : Account) → family_of E f ≡ Some F →
     (eliminated (whole_block (kept_at E.declarations f.block)) f F s u).end ≡ run.Done tt v → MayEliminate E f F s
 eliminated_is E f F s u v q h =
     elimination_is E f F F.sort s refl q (tested (may_eliminate (whole_block (kept_at E.declarations f.block)) F F.sort s) (done tt u) (ElimNotAllowed f) u tt v h).0

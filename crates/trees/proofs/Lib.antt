@@ -6,3 +6,4 @@ pub mod Exchange
 pub mod Bounds
 pub mod Operations
 pub mod Shape
+pub mod Every

@@ -5,3 +5,5 @@ pub mod Shape
 pub mod Measures
 pub mod Parallel
 pub mod Code
+pub mod Membership
+pub mod Data

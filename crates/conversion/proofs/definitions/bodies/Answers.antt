@@ -1,5 +1,5 @@
 use Rattle.std.proofs.Common.{◌<◌, length, arith}
-use Rattle.conversion.proofs.Collected.{bodies_next}
+use Rattle.pc_rules.proofs.Collected.{bodies_next}
 use Rattle.conversion.proofs.definitions.bodies.Goals as goal
 
 pub loop-i-preserved : goal.loop-i-preserved

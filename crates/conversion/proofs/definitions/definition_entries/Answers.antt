@@ -1,6 +1,6 @@
 use Rattle.std.proofs.Common.{◌<◌, length, arith}
 use Rattle.std.proofs.lemmas.Result.{err_from_is_err_and}
-use Rattle.conversion.proofs.Collected.{lifted_next, lifted_beyond}
+use Rattle.pc_rules.proofs.Collected.{lifted_next, lifted_beyond}
 use Rattle.conversion.proofs.definitions.definition_entries.Goals as goal
 
 pub returns-in_err-ty-clause-too_deep : goal.returns-in_err-ty-clause-too_deep

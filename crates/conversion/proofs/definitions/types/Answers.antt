@@ -1,5 +1,5 @@
 use Rattle.std.proofs.Common.{◌<◌, length, arith}
-use Rattle.conversion.proofs.Collected.{types_next}
+use Rattle.pc_rules.proofs.Collected.{types_next}
 use Rattle.conversion.proofs.definitions.types.Goals as goal
 
 pub loop-i-preserved : goal.loop-i-preserved

@@ -1,5 +1,5 @@
 use Rattle.std.proofs.Common.{◌<◌, length, arith}
-use Rattle.conversion.proofs.Collected.{extend_next}
+use Rattle.pc_rules.proofs.Collected.{extend_next}
 use Rattle.conversion.proofs.entries.extended.Goals as goal
 
 pub loop-i-preserved : goal.loop-i-preserved

@@ -1,7 +1,7 @@
 use Rattle.std.proofs.Common.{rules}
 use Rattle.pc_rules.proofs.Following.{follows_bind, follows_err, follows_done}
 use Rattle.guard_check.specs.Marks.{mark_of}
-use Rattle.guard_check.proofs.FoundRuns.{settled}
+use Rattle.rule_laws.proofs.Settled.{settled}
 use Rattle.guard_check.proofs.guard.Guard.normal_found.Goals as goal
 
 pub returns-in_err-whnf : goal.returns-in_err-whnf
