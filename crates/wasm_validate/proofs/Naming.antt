@@ -1,5 +1,5 @@
 -- A set of the names of exports.
-use Rattle.std.proofs.Common.{◌≡◌, ℕ, ◌+◌, ◌<◌, ◌≤◌, List, [], Bool, true, false, cond, Some, refl, ap, sym, ◌∙◌, subst, length, arith, Ordering}
+use Rattle.std.proofs.Common.{◌≡◌, ℕ, ◌+◌, ◌<◌, ◌≤◌, List, Bool, true, false, cond, Some, refl, ap, sym, ◌∙◌, length, arith, Ordering}
 use Rattle.std.specs.Prelude.{slice_get, ◌≢◌}
 use Rattle.std.specs.Borrow.{Bor}
 use Rattle.std.specs.Ordering.{nat_cmp, is_eq}

@@ -1,5 +1,5 @@
 -- The parts outside the bodies, in the order of their sections.
-use Rattle.std.proofs.Common.{◌≡◌, ℕ, ◌<◌, ◌≤◌, Bool, true, false, refl, arith}
+use Rattle.std.proofs.Common.{ℕ, ◌<◌, ◌≤◌, true, false, refl, arith}
 use Rattle.std.specs.Prelude.{IsTrue, ◌↔◌}
 use Rattle.wasm_core.specs.Parts.{Parts}
 use Rattle.wasm_core.specs.ModuleTyping.{Part, Functions, Tables, Memories, Globals, Exported, Elements, Codes, id_of, IsSound}

@@ -9,8 +9,8 @@ use Rattle.wasm_core.specs.ModuleTyping.{Types, TypedBody}
 use Rattle.wasm_core.specs.ModuleCondition.{IsClosed}
 use Rattle.wasm_core.specs.FirstFault.{CanGoOn, IsFaultAt}
 use Rattle.wasm_core.specs.Pass.{Place, Check, More, Finished, check, outset, one, run}
-use Rattle.wasm_core.proofs.Small.{inj, no}
-use Rattle.wasm_core.proofs.Passing.{run_none, run-append, run_typed, typed_run, viable_run, run_viable}
+use Rattle.wasm_core.proofs.Small.{inj}
+use Rattle.wasm_core.proofs.Passing.{run-append, run_typed, typed_run, viable_run, run_viable}
 use Rattle.wasm_core.proofs.FaultUnique.{front_goes_on}
 use Rattle.wasm_core.proofs.Judged.{bodies_are_judged}
 use Rattle.wasm_validate.specs.BodyPass.{stops, stops_after}

@@ -1,11 +1,11 @@
 -- Operands that are taken off one after another.
-use Rattle.std.proofs.Common.{◌≡◌, ℕ, zero, suc, ◌+◌, ◌-◌, ◌<◌, ◌≤◌, List, [], ◌∷◌, ◌++◌, length, take, reverse, get_or, Option, Some, None, Bool, true, false, refl, ap, sym, ◌∙◌, arith}
+use Rattle.std.proofs.Common.{◌≡◌, ℕ, ◌+◌, ◌-◌, ◌<◌, ◌≤◌, List, [], ◌∷◌, length, take, reverse, get_or, Option, Some, None, Bool, true, false, refl, ap, sym, ◌∙◌, arith}
 use Rattle.std.proofs.lemmas.List.{take_more, reverse-append}
 use Rattle.wasm_core.specs.declared.types.ValType.{ValType}
 use Rattle.wasm_core.specs.MachineStep.{on_some}
 use Rattle.wasm_core.specs.ModuleTyping.{Types}
 use Rattle.std.specs.Prelude.{MatchBool}
-use Rattle.wasm_core.specs.Pass.{Known, Ctl, Place, Check, More, knowing, off, only, put_on, same, take_off}
+use Rattle.wasm_core.specs.Pass.{Known, Ctl, Place, More, knowing, off, only, put_on, same, take_off}
 use Rattle.wasm_validate.specs.Applied.{applied}
 
 only_on : (b : Bool) (k : Known) (ps : Types) → only b (off ps k) ≡ on_some (only b (Some k)) (off ps)

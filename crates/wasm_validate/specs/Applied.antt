@@ -1,5 +1,5 @@
 -- What an effect does at a place of the pass.
-use Rattle.std.specs.Prelude.{Option, Some, None}
+use Rattle.std.specs.Prelude.{Option, Some}
 use Rattle.wasm_core.specs.MachineStep.{on_some}
 use Rattle.wasm_core.specs.ModuleTyping.{Effect}
 use Rattle.wasm_core.specs.Pass.{Place, Check, More, off, put_on}

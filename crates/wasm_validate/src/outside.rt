@@ -1,7 +1,7 @@
 //! Whether the parts of a module outside its bodies are sound.
 
 ghost use Rattle.std.specs.Prelude.{◌≡◌, ◌↔◌, IfOk, IsTrue};
-ghost use Rattle.wasm_core.specs.ModuleTyping.{AreLimits, AreOrdered, EachIsThere, Elements, Exported, Functions, Globals, IsSegment, IsSound, IsThere, Memories, Tables};
+ghost use Rattle.wasm_core.specs.ModuleTyping.{AreLimits, AreOrdered, EachIsThere, Elements, Functions, Globals, IsSegment, IsSound, IsThere, Memories, Tables};
 ghost use Rattle.wasm_core.specs.ModuleTyping.{type_of as type_of_value};
 ghost use Rattle.wasm_validate.specs.Verdicts.{SaysOutside};
 

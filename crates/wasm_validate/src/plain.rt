@@ -1,7 +1,7 @@
 //! Instructions that take operands off and put their results on, and change no block.
 
-ghost use Rattle.std.specs.Prelude.{◌≡◌, ◌++◌, ◌≤◌, [], ◌∷◌, reverse, IfOk, MatchBool, Some, None, slice_get, is_some, nat_le, ◌&&◌};
-ghost use Rattle.std.specs.Option.{option_to_list, option_map, option_and_then};
+ghost use Rattle.std.specs.Prelude.{◌≡◌, ◌++◌, [], ◌∷◌, reverse, IfOk, MatchBool, Some, None, slice_get, is_some, nat_le, ◌&&◌};
+ghost use Rattle.std.specs.Option.{option_to_list, option_map};
 ghost use Rattle.wasm_core.specs.declared.types.ValType.TheVariants.{I32 as Word};
 ghost use Rattle.wasm_core.specs.declared.instrs.Instr.TheVariants.{Call, CallIndirect, GlobalGet, GlobalSet, MemorySize, MemoryGrow};
 ghost use Rattle.wasm_core.specs.Arithmetic.{is_unary as takes_one};

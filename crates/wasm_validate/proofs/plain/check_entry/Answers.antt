@@ -1,4 +1,4 @@
-use Rattle.std.proofs.Common.{◌≡◌, ◌∷◌, ◌∙◌, reverse, Some}
+use Rattle.std.proofs.Common.{◌≡◌, ◌∙◌, reverse, Some}
 use Rattle.wasm_core.specs.declared.types.ValType.TheVariants.{I32}
 use Rattle.wasm_core.specs.ModuleTyping.{calling, calling_entry, results_of}
 use Rattle.wasm_validate.specs.Applied.{applied}
