@@ -1,0 +1,5 @@
+pub mod Progress
+pub mod Checkers
+pub mod Applied
+pub mod BodyPass
+pub mod Verdicts
