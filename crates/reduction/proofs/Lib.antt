@@ -1,11 +1,9 @@
-pub mod Stacks
 pub mod Beyond
 pub mod Steps
 pub mod Plugging
 pub mod Entering
 pub mod Running
 pub mod Entries
-pub mod Reading
 pub mod Unfolding
 pub mod Nodes
 pub mod InFrames

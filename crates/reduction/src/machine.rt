@@ -10,10 +10,10 @@ ghost use Rattle.reduction.specs.Sought.{whole, load, IsSettled, KeepsWhole, IsS
 use crate::frames::Frame;
 use crate::heads::head_step;
 use crate::meeting::{Met, Value};
-use crate::redexes::Redex;
 use pc_rules::context::Ctx;
 use pc_rules::environment::Env;
 use pc_terms::term::{MakeFault, Node, Term};
+use redexes::redexes::Redex;
 use std::alloc::Global;
 
 /// A term that is taken apart: a part of it, and the frames around that part, the outermost first.

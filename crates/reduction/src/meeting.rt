@@ -9,16 +9,16 @@ ghost use Rattle.pc_rules.specs.Context.{Values};
 ghost use Rattle.pc_rules.specs.Environment.{Env};
 ghost use Rattle.pc_rules.specs.DirectedWeakHead.{weak_next, built};
 ghost use Rattle.reduction.specs.Frames.{around, missing, one_less, with_scrutinee, work, weight, IsMatch, IsHead, IsFrame};
-ghost use Rattle.reduction.specs.Redexes.{contractum, unfold_next};
+ghost use Rattle.redexes.specs.Redexes.{contractum, unfold_next};
 ghost use Rattle.reduction.specs.Met.{Lacks, Keeps, IsMet};
 
-use crate::constructors::{Built, branch};
 use crate::frames::Frame;
-use crate::lookup::definition_at;
-use crate::redexes::Redex;
-use crate::spine::Spine;
 use pc_rules::environment::Env;
 use pc_terms::term::{Branch, Branches, MakeFault, Match, Node, Term, Terms};
+use redexes::constructors::{Built, branch};
+use redexes::lookup::definition_at;
+use redexes::redexes::Redex;
+use redexes::spine::Spine;
 use std::alloc::Global;
 
 /// A term without a step, and how many arguments it lacks before its recursive one, where it is a fixpoint with at most so many.
