@@ -1,0 +1,2 @@
+pub mod NodeByNode
+pub mod DataRead

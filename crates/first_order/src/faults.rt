@@ -1,0 +1,83 @@
+//! Why a type has no first-order set, and why a value is no data or has no text.
+use pc_rules::stop::Stop;
+use pc_terms::term::{MakeFault, Term};
+use std::alloc::AllocError;
+
+/// Why a type has no first-order set.
+#[derive(Drop)]
+pub enum ShapeRefusal {
+    /// The first type that the search works and that is no family of a first-order set.
+    NotFirstOrder { ty: Term },
+    /// A type number 1,025 would be put in.
+    Types,
+    /// No unit is left.
+    Spent,
+    /// A term of the search is beyond the limits of terms in memory.
+    TooDeep,
+    /// There is no memory.
+    Memory,
+}
+
+/// Why a value is no data, or data has no text.
+#[derive(Drop)]
+pub enum TextFault {
+    /// The node, by its number in preorder from 0, is no constructor of the type that stands there with its number of arguments.
+    NotOfShape { node: u32 },
+    /// There are more than 4,000,000 nodes.
+    AnswerNodes,
+    /// There is no memory.
+    Memory,
+}
+
+impl From<Stop> for ShapeRefusal {
+    ghost use Rattle.std.specs.Prelude.{◌≡◌};
+    ghost use Rattle.first_order.specs.Searching.{refusal_of};
+
+    ghost from_gives = { λ s r. r ≡ refusal_of s };
+
+    fn from(s: Stop) -> ShapeRefusal {
+        match s {
+            Stop::Spent => ShapeRefusal::Spent,
+            Stop::TooDeep => ShapeRefusal::TooDeep,
+            Stop::Memory => ShapeRefusal::Memory,
+        }
+    }
+}
+
+impl From<MakeFault> for ShapeRefusal {
+    ghost use Rattle.std.specs.Prelude.{◌≡◌};
+    ghost use Rattle.pc_rules.specs.Stops.{stop_of};
+    ghost use Rattle.first_order.specs.Searching.{refusal_of};
+
+    ghost from_gives = { λ f r. r ≡ refusal_of (stop_of f) };
+
+    fn from(f: MakeFault) -> ShapeRefusal {
+        match f {
+            MakeFault::TooDeep => ShapeRefusal::TooDeep,
+            MakeFault::Memory => ShapeRefusal::Memory,
+        }
+    }
+}
+
+impl From<MakeFault> for TextFault {
+    ghost use Rattle.std.specs.Prelude.{◌≡◌};
+    ghost use Rattle.first_order.specs.declared.faults.TextFault.TheVariants.{Memory};
+
+    ghost from_gives = { λ _ t. t ≡ Memory };
+
+    /// Only want of memory is met here: no term is made.
+    fn from(_f: MakeFault) -> TextFault {
+        TextFault::Memory
+    }
+}
+
+impl From<AllocError> for TextFault {
+    ghost use Rattle.std.specs.Prelude.{◌≡◌};
+    ghost use Rattle.first_order.specs.declared.faults.TextFault.TheVariants.{Memory};
+
+    ghost from_gives = { λ _ t. t ≡ Memory };
+
+    fn from(_e: AllocError) -> TextFault {
+        TextFault::Memory
+    }
+}

@@ -1,0 +1,5 @@
+pub mod Leading
+pub mod Nodes
+pub mod Settling
+pub mod Ending
+pub mod Unfolded
