@@ -48,7 +48,7 @@ pub data Enter : Value → Env → BoxTerm → Type 0 where
   en_box : {e : Env} → Enter VBox e Box
   en_fix : {e : Env} {i : ℕ} {rargs : List ℕ} {bs : BoxTerms} {b : BoxTerm} → term_at bs i ≡ Some (length rargs, b) → Enter (VFix e i rargs bs) (BindFix rargs bs e) b
 
-record Entry (P : BoxProgram) (t : BoxTerm) (v : Value) : Type 0 where
+pub record Entry (P : BoxProgram) (t : BoxTerm) (v : Value) : Type 0 where
   pub n : ℕ
   pub e : Env
   pub b : BoxTerm
@@ -86,7 +86,7 @@ part_shape (part_app p g) = less (part_shape p)
 part_shape (part_box p g) = boxed
 
 -- what a fixpoint's body evaluates to
-data LambdaBody (P : BoxProgram) (n : ℕ) (e : Env) (b : BoxTerm) : BoxTerm → ℕ → Type 0 where
+pub data LambdaBody (P : BoxProgram) (n : ℕ) (e : Env) (b : BoxTerm) : BoxTerm → ℕ → Type 0 where
   lambda_body : {c : BoxTerm} → StandBody P n 1 e c b → LambdaBody P n e b (BLambda c) 0
 
 pub data LastBody (P : BoxProgram) (e : Env) (b : BoxTerm) : BoxTerm → ℕ → Type 0 where
@@ -119,7 +119,7 @@ pub box_unfolds_not : {v u : BoxTerm} → BoxUnfolds Box v u → ⊥
 box_unfolds_not (unfolds i rargs bodies xs r l at e) = let h = fix_head xs e in absurd (cc)
 
 -- some term is the body and evaluates to the value in no more nodes
-record Opened (P : BoxProgram) (n : ℕ) (e : Env) (b w : BoxTerm) (k m : ℕ) : Type 0 where
+pub record Opened (P : BoxProgram) (n : ℕ) (e : Env) (b w : BoxTerm) (k m : ℕ) : Type 0 where
   pub t : BoxTerm
   pub k' : ℕ
   pub m' : ℕ
@@ -137,7 +137,7 @@ module _ (P : BoxProgram) (closed : (k : Name) (b : BoxTerm) → KeepsBoxConstan
       BoxEvaluates P u v k2 m2 → BoxEvaluates P (substitute (put v) c) w k3 m3 → Opened P n (Bind val e) b w (suc (k1 + k2 + k3)) (m1 + m2 + m3)
   opened_beta k1 {n} {m' = m'} {k2} {k3} {m1} {m2} {m3} {e} {b} {u} {v} {w} {c} {val = val} g st ev eq d2 d3 = go (lambda_body_of st ev) eq
     where
-      pub go : {j : ℕ} → LambdaBody P n e b (BLambda c) j → (Bare P → j ≡ m1) → Opened P n (Bind val e) b w (suc (k1 + k2 + k3)) (m1 + m2 + m3)
+      go : {j : ℕ} → LambdaBody P n e b (BLambda c) j → (Bare P → j ≡ m1) → Opened P n (Bind val e) b w (suc (k1 + k2 + k3)) (m1 + m2 + m3)
       go (lambda_body h) q =
           record { t = _; k' = _; m' = _; stands = body_one (self P closed g d2) h; gives = d3; within = omega arith; matches = λ bare. omega (arith, q bare, quiet P closed bare g d2) }
 
@@ -148,11 +148,11 @@ module _ (P : BoxProgram) (closed : (k : Name) (b : BoxTerm) → KeepsBoxConstan
   opened_app g rec (box_app d1 d2) = let o = rec _ _ _ d1 in elim (lambda_body_of o.stands o.gives) [ ]
   opened_app g rec (extend d1 d2 m) = let o = rec _ _ _ d1 in absurd (no (lambda_body_of o.stands o.gives) m)
     where
-      pub no : {n j : ℕ} {e : Env} {b w : BoxTerm} → LambdaBody P n e b w j → BoxTakesMore P w → ⊥
+      no : {n j : ℕ} {e : Env} {b w : BoxTerm} → LambdaBody P n e b w j → BoxTakesMore P w → ⊥
       no (lambda_body h) m = lambda_takes_none m
   opened_app g rec (unfold_fix d1 d2 x d3) = let o = rec _ _ _ d1 in absurd (no (lambda_body_of o.stands o.gives) x)
     where
-      pub no : {n j : ℕ} {e : Env} {b w v u : BoxTerm} → LambdaBody P n e b w j → BoxUnfolds w v u → ⊥
+      no : {n j : ℕ} {e : Env} {b w v u : BoxTerm} → LambdaBody P n e b w j → BoxUnfolds w v u → ⊥
       no (lambda_body h) x = lambda_unfolds_not x
 
   opened_box : {n k m : ℕ} {e : Env} {s u w : BoxTerm} {val : Value} → IsValue P u val → ((w' : BoxTerm) (k' m' : ℕ) → BoxEvaluates P s w' k' m' → Opened P (suc n) e Box w' k' m') →
@@ -166,11 +166,11 @@ module _ (P : BoxProgram) (closed : (k : Name) (b : BoxTerm) → KeepsBoxConstan
       zero_of box_body = refl
   opened_box g rec (extend d1 d2 m) = let o = rec _ _ _ d1 in absurd (no (box_body_of o.stands o.gives) m)
     where
-      pub no : {w : BoxTerm} {j : ℕ} → BoxBody w j → BoxTakesMore P w → ⊥
+      no : {w : BoxTerm} {j : ℕ} → BoxBody w j → BoxTakesMore P w → ⊥
       no box_body m = box_takes_none m
   opened_box g rec (unfold_fix d1 d2 x d3) = let o = rec _ _ _ d1 in absurd (no (box_body_of o.stands o.gives) x)
     where
-      pub no : {w v u : BoxTerm} {j : ℕ} → BoxBody w j → BoxUnfolds w v u → ⊥
+      no : {w v u : BoxTerm} {j : ℕ} → BoxBody w j → BoxUnfolds w v u → ⊥
       no box_body x = box_unfolds_not x
 
   -- an unfolded fixpoint with its values

@@ -138,7 +138,7 @@ module _ (P Q : BoxProgram) where
   sat_length sat_none = refl
   sat_length (sat_one h hs) = ap suc (sat_length hs)
 
-  record SatAt (ts : BoxTerms) (i n : ℕ) (t : BoxTerm) : Type 0 where
+  pub record SatAt (ts : BoxTerms) (i n : ℕ) (t : BoxTerm) : Type 0 where
     pub t' : BoxTerm
     pub at : term_at ts i ≡ Some (n, t')
     pub is : Sat P Q t t'

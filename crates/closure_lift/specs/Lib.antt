@@ -1,5 +1,0 @@
-pub mod Lifted
-pub mod Lift
-pub mod LiftedForm
-pub mod LiftKeeps
-pub mod CapturedLimit
