@@ -1,0 +1,4 @@
+pub mod Fewer
+pub mod Fewest
+pub mod Locals
+pub mod Putting

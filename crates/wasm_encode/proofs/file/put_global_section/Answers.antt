@@ -1,0 +1,9 @@
+use Rattle.std.proofs.Common.{rules, ◌<◌, ◌∙◌, length}
+use Rattle.wasm_core.specs.ShortestBytes as shortest
+use Rattle.wasm_encode.proofs.Putting.{list_from, section_puts}
+use Rattle.wasm_encode.proofs.file.put_global_section.Goals as goal
+
+pub returns : goal.returns
+returns c =
+    let some : 0 < length c.args.gs.now = search rules in
+    record { puts = section_puts 6 shortest.put_global c.args.gs.now _ _ _ _ some (c.deref.ensures.value ∙ list_from shortest.put_global c.args.gs.now _ _ _ c.new-part.ensures.items c.in_ok-put_u32.ensures.puts c.in_ok-put_globals.ensures.puts) c.put_section.ensures.puts }
