@@ -1,4 +1,4 @@
-// The exports that a host asks for.
+//! The exports that a host asks for.
 
 ghost use Rattle.std.specs.Prelude.{◌≡◌};
 ghost use Rattle.std.specs.Str.{bytes_eq};
@@ -25,7 +25,7 @@ pub fn name_of(entry: Entry) -> &'static [u8]
     }
 }
 
-// The index of a function from nothing to nothing.
+/// The index of a function from nothing to nothing.
 fn typed_func(m: &Module, func: u32) -> Option<u32>
     ensures is { result ≡ Entries.typed_func m.now func }
 {
@@ -43,7 +43,7 @@ fn typed_func(m: &Module, func: u32) -> Option<u32>
     None
 }
 
-// The index of a mutable i32 global.
+/// The index of a mutable i32 global.
 fn typed_global(m: &Module, global: u32) -> Option<u32>
     ensures is { result ≡ Entries.typed_global m.now global }
 {
@@ -57,7 +57,7 @@ fn typed_global(m: &Module, global: u32) -> Option<u32>
     }
 }
 
-// The index that an export gives out, where it is of the entry's kind and type.
+/// The index that an export gives out, where it is of the entry's kind and type.
 fn fitting(m: &Module, entry: Entry, export: &Export) -> Option<u32>
     ensures is { result ≡ Entries.fitting entry m.now export.now }
 {

@@ -1,4 +1,4 @@
-// One step of a run.
+//! One step of a run (WebAssembly Core Specification, section 4.4).
 
 ghost use Rattle.std.specs.Prelude.{◌≡◌, ◌+◌, ◌*◌, ◌≤◌, ◌<◌, ◌++◌, ◌∷◌, length, take, drop, reverse, map, Some, None, IsSome, IfOk, IfSome, OnOk, slice_get, slice_set, true, false, ◌^◌};
 ghost use Rattle.wasm_core.specs.declared.instrs.Instr.TheVariants.{End, MemoryGrow, I32Load, I32Load8U, I32Store, I32Store8, GlobalGet, GlobalSet, MemorySize, BrTable, CallIndirect};
@@ -13,14 +13,14 @@ ghost use Rattle.wasm_run.specs.Targets.{IsTarget};
 
 use crate::frame::Frame;
 use crate::inside::{pop_i32, run_inside};
+use crate::memory::{load, load_byte, store, store_byte};
 use crate::program::Program;
 use crate::thread::Thread;
-use crate::{load, load_byte, store, store_byte};
 use std::alloc::{AllocError, Global};
 use std::mem;
 use wasm_core::{Access, ConstValue, Ended, FuncType, Instr, Limits, Numbers, TrapKind, ValType};
 
-// Leaves the function that runs.
+/// Leaves the function that runs.
 fn run_leave(program: &Program, thread: &mut Thread) -> Result<Option<Ended>, AllocError>
     requires some { IsSome (leave (conf_of program.now thread.old) (conf_of program.now thread.old).current.operands) }
     ensures is { IfOk result (λ e. leave (conf_of program.now thread.old) (conf_of program.now thread.old).current.operands ≡ Some (state_of program.now e thread.new)) }
@@ -46,7 +46,7 @@ fn run_leave(program: &Program, thread: &mut Thread) -> Result<Option<Ended>, Al
     }
 }
 
-// Branches to an open block, or out of the function.
+/// Branches to an open block, or out of the function.
 fn run_branch(
     program: &Program,
     thread: &mut Thread,
@@ -62,14 +62,14 @@ fn run_branch(
     Ok(None)
 }
 
-// Takes the arguments of a call off, and makes the locals of them.
+/// Takes the arguments of a call off, and makes the locals of them.
 fn take_locals(
     alloc: Global,
     frame: &mut Frame,
     params: usize,
     others: &[ValType],
 ) -> Result<Vec<ConstValue>, AllocError>
-    requires { params ≤ length frame.old.vals }
+    requires few { params ≤ length frame.old.vals }
     ensures locals { IfOk result (λ v. v.items ≡ reverse (take params frame.old.vals) ++ map zero_of others.now) }
     ensures frame { OnOk result (frame.new ≡ record frame.old { vals = drop params frame.old.vals }) }
 {
@@ -94,7 +94,7 @@ pub fn zero(of: ValType) -> ConstValue
     }
 }
 
-// Calls a function.
+/// Calls a function.
 fn run_call(
     alloc: Global,
     program: &Program,
@@ -123,7 +123,7 @@ fn run_call(
     Ok(None)
 }
 
-// Two types are the same.
+/// Two types are the same.
 fn same_type(x: ValType, y: ValType) -> bool
     ensures is { result ≡ is_same_type x y }
 {
@@ -135,6 +135,7 @@ fn same_type(x: ValType, y: ValType) -> bool
     }
 }
 
+/// Two lists of types are the same.
 #[tactic(auto, using(crate::proofs::Threads::lengths_differ))]
 fn same_types(xs: &[ValType], ys: &[ValType]) -> bool
     ensures is { result ≡ are_same_types xs.now ys.now }
@@ -150,6 +151,7 @@ fn same_types(xs: &[ValType], ys: &[ValType]) -> bool
     true
 }
 
+/// Two results are the same: there is none, or their types are the same.
 fn same_result(x: Option<ValType>, y: Option<ValType>) -> bool
     ensures is { result ≡ is_same_result x y }
 {
@@ -160,14 +162,14 @@ fn same_result(x: Option<ValType>, y: Option<ValType>) -> bool
     }
 }
 
-// Two function types are the same.
+/// Two function types are the same.
 fn same_func_type(s: &FuncType, t: &FuncType) -> bool
     ensures is { result ≡ is_same_func_type s.now t.now }
 {
     same_types(s.params.as_slice(), t.params.as_slice()) && same_result(s.result, t.result)
 }
 
-// Calls an entry of the table.
+/// Calls an entry of the table.
 fn run_indirect(
     alloc: Global,
     program: &Program,
@@ -195,7 +197,7 @@ fn run_indirect(
     }
 }
 
-// An end: of the function, or of the innermost block.
+/// An end: of the function, or of the innermost block.
 fn run_end(program: &Program, thread: &mut Thread, next: usize) -> Result<Option<Ended>, AllocError>
     requires next { next ≡ thread.old.current.at + 1 }
     requires some { IsSome (acting program.now true End thread.old) }
@@ -209,7 +211,7 @@ fn run_end(program: &Program, thread: &mut Thread, next: usize) -> Result<Option
     Ok(None)
 }
 
-// A branch to the label that the topmost operand picks.
+/// A branch to the label that the topmost operand picks.
 fn run_table(
     program: &Program,
     thread: &mut Thread,
@@ -229,7 +231,7 @@ fn run_table(
     run_branch(program, thread, label)
 }
 
-// The most pages that a memory may have.
+/// The most pages that a memory may have.
 fn most_pages(limits: Option<Limits>) -> u32
     ensures is { result ≡ greatest_pages limits }
 {
@@ -242,7 +244,7 @@ fn most_pages(limits: Option<Limits>) -> u32
     }
 }
 
-// More pages of zeros.
+/// More pages of zeros.
 #[tactic(auto, unfolding(wasm_core::specs::Memory::zeroed))]
 fn grow_bytes(memory: &mut Vec<u8>, more: usize) -> Result<(), AllocError>
     requires few { length memory.old.items + 65536 * more < 2 ^ 60 }
@@ -252,7 +254,7 @@ fn grow_bytes(memory: &mut Vec<u8>, more: usize) -> Result<(), AllocError>
     memory.resize(len, 0)
 }
 
-// Memory grows, or doesn't.
+/// Memory grows, or doesn't.
 fn run_grow(
     program: &Program,
     cap: u32,
@@ -280,7 +282,7 @@ fn run_grow(
     Ok(None)
 }
 
-// A word of memory is read.
+/// A word of memory is read.
 fn run_load(
     program: &Program,
     thread: &mut Thread,
@@ -292,7 +294,7 @@ fn run_load(
     ensures is { IfOk result (λ e. acting program.now true (I32Load access) thread.old ≡ Some (state_of program.now e thread.new)) }
 {
     let at = pop_i32(&mut thread.current) as usize + access.offset as usize;
-    if thread.memory.len() < at + 4 {
+    if at + 4 > thread.memory.len() {
         return Ok(Some(Ended::Trapped(TrapKind::OutOfBounds)));
     }
     thread
@@ -302,7 +304,7 @@ fn run_load(
     Ok(None)
 }
 
-// A byte of memory is read.
+/// A byte of memory is read.
 fn run_load_byte(
     program: &Program,
     thread: &mut Thread,
@@ -324,7 +326,7 @@ fn run_load_byte(
     Ok(None)
 }
 
-// A word is put into memory.
+/// A word is put into memory.
 fn run_store(program: &Program, thread: &mut Thread, access: Access, next: usize) -> Option<Ended>
     requires next { next ≡ thread.old.current.at + 1 }
     requires some { IsSome (acting program.now true (I32Store access) thread.old) }
@@ -340,7 +342,7 @@ fn run_store(program: &Program, thread: &mut Thread, access: Access, next: usize
     None
 }
 
-// A byte is put into memory.
+/// A byte is put into memory.
 fn run_store_byte(
     program: &Program,
     thread: &mut Thread,
@@ -361,7 +363,7 @@ fn run_store_byte(
     None
 }
 
-// The value of a global.
+/// The value of a global.
 fn global_at(globals: &Vec<ConstValue>, index: usize) -> ConstValue
     requires there { index < length globals.now.items }
     ensures is { slice_get globals.now.items index ≡ Some result }
@@ -369,7 +371,7 @@ fn global_at(globals: &Vec<ConstValue>, index: usize) -> ConstValue
     globals[index]
 }
 
-// A global's value is another one.
+/// A global's value is another one.
 fn set_global(globals: &mut Vec<ConstValue>, index: usize, value: ConstValue)
     requires there { index < length globals.old.items }
     ensures is { globals.new.items ≡ slice_set globals.old.items index value }
@@ -377,7 +379,7 @@ fn set_global(globals: &mut Vec<ConstValue>, index: usize, value: ConstValue)
     globals[index] = value;
 }
 
-// A global is read.
+/// A global is read.
 fn run_global_get(
     program: &Program,
     thread: &mut Thread,
@@ -394,7 +396,7 @@ fn run_global_get(
     Ok(None)
 }
 
-// A global is set.
+/// A global is set.
 fn run_global_set(program: &Program, thread: &mut Thread, index: u32, next: usize)
     requires next { next ≡ thread.old.current.at + 1 }
     requires some { IsSome (acting program.now true (GlobalSet index) thread.old) }
@@ -405,7 +407,7 @@ fn run_global_set(program: &Program, thread: &mut Thread, index: u32, next: usiz
     thread.current.go(next);
 }
 
-// The instruction at the place of the function that runs.
+/// Executes the instruction at the place of the function that runs.
 fn run_instr(
     alloc: Global,
     program: &Program,
@@ -462,7 +464,7 @@ fn run_instr(
     }
 }
 
-// The instruction at the place of the function that runs.
+/// The instruction at the place of the function that runs.
 fn instr_at<'c>(program: &Program, code: &'c [Instr], thread: &Thread, cap: u32) -> &'c Instr
     requires code { code.now ≡ code_of program.now thread.now.current.func }
     requires some { IsSome (step program.now (grants cap (conf_of program.now thread.now)) (conf_of program.now thread.now)) }

@@ -1,4 +1,4 @@
-// The frame of a function that runs: its locals, its operands and its open blocks.
+//! The frame of a function that runs: its locals, its operands and its open blocks.
 
 ghost use Rattle.std.specs.Prelude.{◌≡◌, ℕ, ◌+◌, ◌-◌, ◌<◌, ◌≤◌, List, [], ◌∷◌, ◌++◌, length, drop, slice_get, slice_set, IsTrue, OnOk, OnErr, IsSome, Some, reverse, true};
 ghost use Rattle.wasm_run.specs.Inside.{kept, below};
@@ -42,7 +42,7 @@ impl Model for Frame {
 impl Frame {
     /// A frame at the start of a function.
     pub fn new(alloc: Global, func: usize, keeps: bool, locals: Vec<ConstValue>) -> Frame
-        ensures { result ≡ record { func = func; keeps = keeps; at = 0; locals = locals.items; vals = []; labels = [] } }
+        ensures is { result ≡ record { func = func; keeps = keeps; at = 0; locals = locals.items; vals = []; labels = [] } }
     {
         Frame {
             func,
@@ -56,42 +56,42 @@ impl Frame {
 
     /// The function.
     pub fn func(&self) -> usize
-        ensures { result ≡ self.now.func }
+        ensures is { result ≡ self.now.func }
     {
         self.func
     }
 
     /// Whether the function has a result.
     pub fn keeps(&self) -> bool
-        ensures { result ≡ self.now.keeps }
+        ensures is { result ≡ self.now.keeps }
     {
         self.keeps
     }
 
     /// Where it stands in the function's body.
     pub fn at(&self) -> usize
-        ensures { result ≡ self.now.at }
+        ensures is { result ≡ self.now.at }
     {
         self.at
     }
 
     /// Goes to another place of the body.
     pub fn go(&mut self, at: usize)
-        ensures { self.new ≡ record self.old { at = at } }
+        ensures is { self.new ≡ record self.old { at = at } }
     {
         self.at = at;
     }
 
     /// How many blocks are open.
     pub fn depth(&self) -> usize
-        ensures { result ≡ length self.now.labels }
+        ensures is { result ≡ length self.now.labels }
     {
         self.controls.len()
     }
 
     /// Puts a value on top.
     pub fn push(&mut self, value: ConstValue) -> Result<(), AllocError>
-        ensures { OnOk result (self.new ≡ record self.old { vals = value ∷ self.old.vals }) }
+        ensures is { OnOk result (self.new ≡ record self.old { vals = value ∷ self.old.vals }) }
     {
         self.stack.push(value)?;
         Ok(())
@@ -99,8 +99,8 @@ impl Frame {
 
     /// Takes the value on top.
     pub fn pop(&mut self) -> ConstValue
-        requires { 0 < length self.old.vals }
-        ensures { self.old ≡ record self.new { vals = result ∷ self.new.vals } }
+        requires some { 0 < length self.old.vals }
+        ensures is { self.old ≡ record self.new { vals = result ∷ self.new.vals } }
     {
         match self.stack.pop() {
             Some(value) => value,
@@ -110,23 +110,23 @@ impl Frame {
 
     /// The value of a local.
     pub fn local(&self, index: usize) -> ConstValue
-        requires { index < length self.now.locals }
-        ensures { slice_get self.now.locals index ≡ Some result }
+        requires there { index < length self.now.locals }
+        ensures is { slice_get self.now.locals index ≡ Some result }
     {
         self.locals[index]
     }
 
     /// Sets a local.
     pub fn set_local(&mut self, index: usize, value: ConstValue)
-        requires { index < length self.old.locals }
-        ensures { self.new ≡ record self.old { locals = slice_set self.old.locals index value } }
+        requires there { index < length self.old.locals }
+        ensures is { self.new ≡ record self.old { locals = slice_set self.old.locals index value } }
     {
         self.locals[index] = value;
     }
 
     /// Opens a block.
     pub fn open(&mut self, keeps: bool, target: usize) -> Result<(), AllocError>
-        ensures { OnOk result (self.new ≡ record self.old { vals = []; labels = open_at keeps target self.old.vals ∷ self.old.labels }) }
+        ensures is { OnOk result (self.new ≡ record self.old { vals = []; labels = open_at keeps target self.old.vals ∷ self.old.labels }) }
     {
         let height = self.stack.len();
         self.controls.push(Control {
@@ -139,8 +139,8 @@ impl Frame {
 
     /// Leaves the innermost open block, and says where a branch to it would go.
     pub fn close(&mut self) -> usize
-        requires { 0 < length self.old.labels }
-        ensures { closed self.old ≡ Some (self.new, result) }
+        requires some { 0 < length self.old.labels }
+        ensures is { closed self.old ≡ Some (self.new, result) }
     {
         match self.controls.pop() {
             Some(control) => control.target,
@@ -150,8 +150,8 @@ impl Frame {
 
     /// Branches to an open block, counted from the inside.
     pub fn branch(&mut self, index: usize)
-        requires { IsSome (branched index self.old) }
-        ensures { branched index self.old ≡ Some self.new }
+        requires some { IsSome (branched index self.old) }
+        ensures is { branched index self.old ≡ Some self.new }
     {
         let place = self.controls.len() - 1 - index;
         let control = self.controls[place];
@@ -161,11 +161,11 @@ impl Frame {
     }
 }
 
-// Takes off the operands above a height, but keeps the topmost if it is asked to.
+/// Takes off the operands above a height, but keeps the topmost if it is asked to.
 fn unwind(stack: &mut Vec<ConstValue>, height: usize, keeps: bool)
     requires within { height ≤ length stack.old.items }
     requires some { keeps ≡ true → height < length stack.old.items }
-    ensures { reverse stack.new.items ≡ kept keeps (reverse stack.old.items) ++ below height (reverse stack.old.items) }
+    ensures is { reverse stack.new.items ≡ kept keeps (reverse stack.old.items) ++ below height (reverse stack.old.items) }
 {
     if keeps {
         let top = stack[stack.len() - 1];

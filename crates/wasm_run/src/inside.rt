@@ -8,14 +8,15 @@ ghost use Rattle.wasm_run.specs.View.{frame_at, HasI32};
 ghost use Rattle.wasm_run.specs.Frames.{inside};
 ghost use Rattle.wasm_run.specs.Targets.{IsTarget};
 
-use crate::binary;
 use crate::frame::Frame;
+use crate::numeric::binary;
 use crate::targets::Target;
 use std::alloc::AllocError;
 use wasm_core::{BlockType, ConstValue, I32Op, Instr};
 
+/// Whether a block leaves a value.
 fn has_value(of: BlockType) -> bool
-    ensures { result ≡ machine.has_value of }
+    ensures is { result ≡ machine.has_value of }
 {
     match of {
         BlockType::Empty => false,
@@ -25,8 +26,8 @@ fn has_value(of: BlockType) -> bool
 
 /// Takes the i32 on top.
 pub fn pop_i32(frame: &mut Frame) -> u32
-    requires { HasI32 frame.old.vals }
-    ensures { frame.old ≡ record frame.new { vals = I32 result ∷ frame.new.vals } }
+    requires some { HasI32 frame.old.vals }
+    ensures is { frame.old ≡ record frame.new { vals = I32 result ∷ frame.new.vals } }
 {
     match frame.pop() {
         ConstValue::I32(n) => n,
@@ -34,7 +35,7 @@ pub fn pop_i32(frame: &mut Frame) -> u32
     }
 }
 
-/// Runs the instruction at the frame's place.
+/// Executes the instruction at the frame's place.
 #[tactic(auto, using(crate::proofs::Bodies::drop_here))]
 pub fn run_inside(
     code: &[Instr],

@@ -57,7 +57,7 @@ pub struct Entries {
     status: u32,
 }
 
-// The places of the entries, or the first that is missing.
+/// The places of the entries, or the first that is missing.
 fn entries_of(m: &Module) -> Result<Entries, Entry>
     ensures is { MatchResult result (HasEntries m.now) (λ e. missing m.now ≡ Some e) }
 {
@@ -80,7 +80,7 @@ fn entries_of(m: &Module) -> Result<Entries, Entry>
     })
 }
 
-// Whether a segment fits a table of this size.
+/// Whether a segment fits a table of this size.
 fn fits(size: u32, segment: &Segment) -> bool
     ensures is { result ≡ segment_fits size segment.now }
 {
@@ -88,7 +88,7 @@ fn fits(size: u32, segment: &Segment) -> bool
         && segment.funcs.as_slice().len() <= size as usize - segment.offset as usize
 }
 
-// The first segment that doesn't fit a table of this size.
+/// The first segment that doesn't fit a table of this size.
 fn past(size: u32, segments: &[Segment]) -> Option<u32>
     requires few { length segments.now < 2 ^ 32 }
     ensures is { result ≡ first_past 0 size segments.now }
@@ -101,7 +101,7 @@ fn past(size: u32, segments: &[Segment]) -> Option<u32>
     None
 }
 
-// So many pages of zeros.
+/// So many pages of zeros.
 #[tactic(auto, unfolding(wasm_core::specs::Memory::zeroed))]
 fn zeros(alloc: Global, pages: u32) -> Result<Vec<u8>, AllocError>
     ensures is { IfOk result (λ v. v.items ≡ zeroed pages) }
@@ -110,7 +110,7 @@ fn zeros(alloc: Global, pages: u32) -> Result<Vec<u8>, AllocError>
     vec![in alloc; 0; count]
 }
 
-// The first values of the globals.
+/// The first values of the globals.
 fn first_globals(alloc: Global, m: &Module) -> Result<Vec<ConstValue>, AllocError>
     ensures is { IfOk result (λ v. v.items ≡ map (λ g. g.init) m.now.globals) }
 {
@@ -121,7 +121,7 @@ fn first_globals(alloc: Global, m: &Module) -> Result<Vec<ConstValue>, AllocErro
     Ok(values)
 }
 
-// The first values of further locals.
+/// The first values of further locals.
 fn first_locals(alloc: Global, types: &[ValType]) -> Result<Vec<ConstValue>, AllocError>
     ensures is { IfOk result (λ v. v.items ≡ map zero_of types.now) }
 {
@@ -132,7 +132,7 @@ fn first_locals(alloc: Global, types: &[ValType]) -> Result<Vec<ConstValue>, All
     Ok(values)
 }
 
-// The value of an i32 global.
+/// The value of an i32 global.
 fn i32_at(globals: &[ConstValue], place: u32) -> u32
     ensures is { (n : ℕ) → slice_get globals.now place ≡ Some (ConstValue.I32 n) → result ≡ n }
 {
@@ -176,7 +176,7 @@ impl<'m> Machine<'m> {
         }
     }
 
-    // A machine at the start of a run of `main`, with its first pages, its globals and its table.
+    /// A machine at the start of a run of `main`, with its first pages, its globals and its table.
     fn start(
         alloc: Global,
         m: &'m Module,
@@ -219,14 +219,14 @@ impl<'m> Machine<'m> {
         })
     }
 
-    // How the run ended, if it has.
+    /// How the run ended, if it has.
     fn end(&self) -> Option<Ended>
         ensures is { MatchOption result (GoesOn self.now.state) (λ e. IsOver e self.now.state) }
     {
         self.ended
     }
 
-    // One step.
+    /// One step.
     fn advance(&mut self) -> Result<(), AllocError>
         requires sound { self.old.failed ≡ false }
         requires goes_on { GoesOn self.old.state }

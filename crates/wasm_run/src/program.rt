@@ -1,4 +1,4 @@
-// A module that is ready to run: with its table, and with the ends of its blocks.
+//! A module that is ready to run: with its table, and with the ends of its blocks.
 
 ghost use Rattle.std.specs.Prelude.{◌≡◌, ◌+◌, ◌<◌, ◌≤◌, IfOk, IsSome, Some, None, length, drop, slice_get, true, replicate};
 ghost use Rattle.wasm_core.specs.Instance.{func_of, table_of, put_funcs, put_segments, segments_fit, all_fit, least};
@@ -40,7 +40,7 @@ pub fn least_of(limits: Option<Limits>) -> u32
     }
 }
 
-// Functions are put into a table from a place on.
+/// Functions are put into a table from a place on.
 fn put(table: &mut Vec<Option<u32>>, offset: usize, funcs: &[u32])
     requires fit { offset + length funcs.now ≤ length table.old.items }
     ensures is { table.new.items ≡ put_funcs table.old.items offset funcs.now }
@@ -51,7 +51,7 @@ fn put(table: &mut Vec<Option<u32>>, offset: usize, funcs: &[u32])
     }
 }
 
-// A table of this size, with these segments.
+/// A table of this size, with these segments.
 fn fill(alloc: Global, size: u32, segments: &[Segment]) -> Result<Vec<Option<u32>>, AllocError>
     requires fit { all_fit size segments.now ≡ true }
     ensures is { IfOk result (λ t. t.items ≡ put_segments (replicate size None) segments.now) }
@@ -68,7 +68,7 @@ fn fill(alloc: Global, size: u32, segments: &[Segment]) -> Result<Vec<Option<u32
     Ok(table)
 }
 
-// The table of a module.
+/// The table of a module.
 #[tactic(auto, unfolding(wasm_core::specs::Instance::table_of))]
 fn table_for(alloc: Global, program: &Module) -> Result<Vec<Option<u32>>, AllocError>
     requires fit { segments_fit program.now ≡ true }
@@ -81,7 +81,7 @@ fn table_for(alloc: Global, program: &Module) -> Result<Vec<Option<u32>>, AllocE
     )
 }
 
-// The code of a function that is there.
+/// The code of a function that is there.
 fn body_code(program: &Module, func: usize) -> &[Instr]
     requires there { func < length program.now.bodies }
     ensures is { code_of program.now func ≡ result.now }
@@ -89,7 +89,7 @@ fn body_code(program: &Module, func: usize) -> &[Instr]
     program.bodies().as_slice()[func].code.as_slice()
 }
 
-// The targets of a function.
+/// The targets of a function.
 fn of_func(all: &Vec<Targets>, func: usize) -> &Targets
     requires there { func < length all.now.items }
     ensures is { slice_get all.now.items func ≡ Some result.now }

@@ -1,4 +1,4 @@
-// Where the blocks of a body end, for each place of the body.
+//! Where the blocks of a body end, for each place of the body.
 
 ghost use Rattle.std.specs.Prelude.{◌≡◌, ◌+◌, ◌<◌, ◌∷◌, IfOk, OnOk, Some, drop, length, reverse, slice_get};
 ghost use Rattle.wasm_core.specs.MachineStep.{bracket};
@@ -41,9 +41,9 @@ impl Targets {
     }
 }
 
-// Of a block that is never closed.
+/// Of a block that is never closed.
 fn never(code: &[Instr]) -> Target
-    ensures { (result.end ≡ length code.now) × (result.other ≡ length code.now) }
+    ensures is { (result.end ≡ length code.now) × (result.other ≡ length code.now) }
 {
     Target {
         end: code.len(),
@@ -51,7 +51,7 @@ fn never(code: &[Instr]) -> Target
     }
 }
 
-// The target of the innermost open block.
+/// The target of the innermost open block.
 fn innermost(code: &[Instr], open: &Vec<Target>) -> Target
     ensures is { result ≡ target_at code.now (reverse open.now.items) 0 }
 {
@@ -61,14 +61,14 @@ fn innermost(code: &[Instr], open: &Vec<Target>) -> Target
     }
 }
 
-// The innermost open block is put aside.
+/// The innermost open block is put aside.
 fn shut(open: &mut Vec<Target>)
     ensures is { reverse open.new.items ≡ tail_of (reverse open.old.items) }
 {
     open.pop();
 }
 
-// One more block is open.
+/// One more block is open.
 fn put(open: &mut Vec<Target>, target: Target) -> Result<(), AllocError>
     ensures is { OnOk result (reverse open.new.items ≡ target ∷ reverse open.old.items) }
 {
@@ -85,6 +85,7 @@ pub enum Kind {
     Plain,
 }
 
+/// How an instruction stands to the blocks around it.
 fn kind_of(instr: &Instr) -> Kind
     ensures is { bracket instr.now ≡ bracket_of result }
 {
@@ -96,7 +97,7 @@ fn kind_of(instr: &Instr) -> Kind
     }
 }
 
-// The open blocks before one more instruction.
+/// The open blocks before one more instruction.
 fn step_back(code: &[Instr], at: usize, open: &mut Vec<Target>) -> Result<(), AllocError>
     requires here { at < length code.now }
     requires after { Opened code.now (drop (at + 1) code.now) (reverse open.old.items) }
@@ -131,7 +132,7 @@ fn step_back(code: &[Instr], at: usize, open: &mut Vec<Target>) -> Result<(), Al
 
 /// The targets of all places of a body.
 pub fn find_targets(alloc: Global, code: &[Instr]) -> Result<Targets, AllocError>
-    ensures { IfOk result (λ ts. AreTargets code.now ts) }
+    ensures is { IfOk result (λ ts. AreTargets code.now ts) }
 {
     let mut found: Vec<Target> = Vec::new(alloc);
     let mut open: Vec<Target> = Vec::new(alloc);

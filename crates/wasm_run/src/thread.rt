@@ -1,4 +1,4 @@
-// What a run changes.
+//! What a run changes.
 
 use crate::frame::Frame;
 use wasm_core::ConstValue;

@@ -33,7 +33,7 @@ invariant_of-result c =
     let (g, is, params, none) = main_found m c.requires.valid f c.requires.entries.main in
     let lo = inj (sym c.locals.ensures.is ∙ ap (λ (x : Parts). locals_at x f) pe ∙ ap (option_map (λ (g : Func). g.body.locals)) is) in
     let t : Thread = record { current = c.new-current.result; callers = c.new-callers.result; pages = c.least_of-pages.result; memory = c.in_ok-memory.memory; globals = c.in_ok-globals.globals; refused = false; by_choice = false } in
-    let cur = c.new-current.ensures ∙ ap (λ (ls : List ConstValue). record { func = f; keeps = false; at = 0; locals = ls; vals = []; labels = [] }) (c.in_ok-locals.ensures.is ∙ ap (map zero_of) lo) in
+    let cur = c.new-current.ensures.is ∙ ap (λ (ls : List ConstValue). record { func = f; keeps = false; at = 0; locals = ls; vals = []; labels = [] }) (c.in_ok-locals.ensures.is ∙ ap (map zero_of) lo) in
     let size = c.least_of-pages.ensures.is ∙ ap least c.memory.ensures.is in
     let store = first_is m g t size (c.in_ok-memory.ensures.is ∙ ap zeroed size) c.in_ok-globals.ensures.is refl refl in
     let e = fresh m g f is params none t cur c.new-callers.ensures.items store in
@@ -52,7 +52,7 @@ returns c =
     let (g, is, params, none) = main_found m c.requires.valid f c.requires.entries.main in
     let lo = inj (sym c.locals.ensures.is ∙ ap (λ (x : Parts). locals_at x f) pe ∙ ap (option_map (λ (g : Func). g.body.locals)) is) in
     let t : Thread = record { current = c.new-current.result; callers = c.new-callers.result; pages = c.least_of-pages.result; memory = c.in_ok-memory.memory; globals = c.in_ok-globals.globals; refused = false; by_choice = false } in
-    let cur = c.new-current.ensures ∙ ap (λ (ls : List ConstValue). record { func = f; keeps = false; at = 0; locals = ls; vals = []; labels = [] }) (c.in_ok-locals.ensures.is ∙ ap (map zero_of) lo) in
+    let cur = c.new-current.ensures.is ∙ ap (λ (ls : List ConstValue). record { func = f; keeps = false; at = 0; locals = ls; vals = []; labels = [] }) (c.in_ok-locals.ensures.is ∙ ap (map zero_of) lo) in
     let size = c.least_of-pages.ensures.is ∙ ap least c.memory.ensures.is in
     let store = first_is m g t size (c.in_ok-memory.ensures.is ∙ ap zeroed size) c.in_ok-globals.ensures.is refl refl in
     let e = fresh m g f is params none t cur c.new-callers.ensures.items store in
