@@ -1,0 +1,317 @@
+//! A machine that runs a valid module.
+
+ghost use Rattle.std.specs.Prelude.{◌≡◌, ◌+◌, ◌-◌, ◌^◌, ◌<◌, IfOk, OnOk, OnErr, MatchOption, MatchResult, Some, false, length, map, min, slice_get, true, ℕ};
+ghost use Rattle.wasm_core.specs.Answer.{global_of};
+ghost use Rattle.wasm_core.specs.Entries.{missing};
+ghost use Rattle.wasm_core.specs.Instance.{segments_fit, segment_fits, zero_of};
+ghost use Rattle.wasm_core.specs.MachineRun.{GoesOn, IsFresh, IsOver, Makes, Says, first_past};
+ghost use Rattle.wasm_core.specs.Memory.{zeroed};
+ghost use Rattle.wasm_core.specs.ModuleTyping.{IsValid};
+ghost use Rattle.wasm_core.specs.Runs.{Move, store_of};
+ghost use Rattle.wasm_core.specs.Words.{HasWords};
+ghost use Rattle.wasm_run.specs.MachineEntries.{HasEntries};
+
+use crate::entries::index_of;
+use crate::exec::{run_step, zero};
+use crate::frame::Frame;
+use crate::program::{Program, least_of};
+use crate::thread::Thread;
+use std::alloc::{AllocError, Global};
+use std::marker::Model;
+use wasm_core::{
+    ConstValue, Ended, Entry, Module, NewFault, RunFault, Segment, ValType, Valid,
+    entries_are_there, modules_have_words, never_stuck, words_stay,
+};
+
+/// A machine that runs `main` of a valid module (WebAssembly Core Specification, chapter 4).
+#[derive(Drop)]
+pub struct Machine<'m> {
+    alloc: Global,
+    program: Program<'m>,
+    thread: Thread,
+    cap: u32,
+    result_at: u32,
+    status_at: u32,
+    made: u64,
+    ended: Option<Ended>,
+    failed: bool,
+}
+
+impl<'m> Model for Machine<'m> {
+    ghost use Rattle.wasm_core.specs.MachineRun.{Shown};
+
+    ghost Value = { Shown };
+
+    ghost use Rattle.wasm_run.specs.Machines.{IsMachine, shown};
+
+    ghost view = { shown };
+
+    ghost invariant = { IsMachine };
+}
+
+/// The places of the entries.
+#[derive(Clone, Copy)]
+pub struct Entries {
+    main: u32,
+    result: u32,
+    status: u32,
+}
+
+/// The places of the entries, or the first that is missing.
+fn entries_of(m: &Module) -> Result<Entries, Entry>
+    ensures is { MatchResult result (HasEntries m.now) (λ e. missing m.now ≡ Some e) }
+{
+    let Some(main) = index_of(m, Entry::Main) else {
+        return Err(Entry::Main);
+    };
+    if index_of(m, Entry::Memory).is_none() {
+        return Err(Entry::Memory);
+    }
+    let Some(result) = index_of(m, Entry::Result) else {
+        return Err(Entry::Result);
+    };
+    let Some(status) = index_of(m, Entry::Status) else {
+        return Err(Entry::Status);
+    };
+    Ok(Entries {
+        main,
+        result,
+        status,
+    })
+}
+
+/// Whether a segment fits a table of this size.
+fn fits(size: u32, segment: &Segment) -> bool
+    ensures is { result ≡ segment_fits size segment.now }
+{
+    segment.offset as usize <= size as usize
+        && segment.funcs.as_slice().len() <= size as usize - segment.offset as usize
+}
+
+/// The first segment that doesn't fit a table of this size.
+fn past(size: u32, segments: &[Segment]) -> Option<u32>
+    requires few { length segments.now < 2 ^ 32 }
+    ensures is { result ≡ first_past 0 size segments.now }
+{
+    for i in 0..segments.len() {
+        if !fits(size, &segments[i]) {
+            return Some(i as u32);
+        }
+    }
+    None
+}
+
+/// So many pages of zeros.
+#[tactic(auto, unfolding(wasm_core::specs::Memory::zeroed))]
+fn zeros(alloc: Global, pages: u32) -> Result<Vec<u8>, AllocError>
+    ensures is { IfOk result (λ v. v.items ≡ zeroed pages) }
+{
+    let count = 65_536 * pages as usize;
+    vec![in alloc; 0; count]
+}
+
+/// The first values of the globals.
+fn first_globals(alloc: Global, m: &Module) -> Result<Vec<ConstValue>, AllocError>
+    ensures is { IfOk result (λ v. v.items ≡ map (λ g. g.init) m.now.globals) }
+{
+    let mut values = Vec::new(alloc);
+    for def in m.globals().as_slice() {
+        values.push(def.init)?;
+    }
+    Ok(values)
+}
+
+/// The first values of further locals.
+fn first_locals(alloc: Global, types: &[ValType]) -> Result<Vec<ConstValue>, AllocError>
+    ensures is { IfOk result (λ v. v.items ≡ map zero_of types.now) }
+{
+    let mut values = Vec::new(alloc);
+    for i in 0..types.len() {
+        values.push(zero(types[i]))?;
+    }
+    Ok(values)
+}
+
+/// The value of an i32 global.
+fn i32_at(globals: &[ConstValue], place: u32) -> u32
+    ensures is { (n : ℕ) → slice_get globals.now place ≡ Some (ConstValue.I32 n) → result ≡ n }
+{
+    match globals.get(place as usize) {
+        Some(ConstValue::I32(n)) => *n,
+        _ => 0,
+    }
+}
+
+impl<'m> Machine<'m> {
+    /// A machine at the start of a run of `main`, whose memory grows to `cap` pages of 65,536 bytes at most, or to the module's maximum where that
+    /// is smaller.
+    ///
+    /// `NoEntry` names the first of `main`, `memory`, `result` and `status` that the module doesn't export as asked.
+    /// `Pages` comes where the entries are there and the memory's least pages pass `cap`; `Table` where also these don't pass it, and the
+    /// table has over 65,536 entries; `ElementPastTable` names the first element segment that doesn't fit the table where nothing else is refused.
+    #[tactic(auto, using(crate::proofs::Starts::all_held))]
+    pub fn new(alloc: Global, valid: &'m Valid, cap: u32) -> Result<Machine<'m>, NewFault>
+        ensures makes { Makes valid.now cap result }
+    {
+        let module = valid.module();
+        module.spelled();
+        let entries = match entries_of(module) {
+            Ok(entries) => entries,
+            Err(entry) => return Err(NewFault::NoEntry(entry)),
+        };
+        if cap < least_of(module.memory()) {
+            return Err(NewFault::Pages);
+        }
+        let size = least_of(module.table());
+        if size > 65_536 {
+            return Err(NewFault::Table);
+        }
+        if let Some(segment) = past(size, module.elements().as_slice()) {
+            return Err(NewFault::ElementPastTable { segment });
+        }
+        modules_have_words();
+        match Machine::start(alloc, module, cap, entries) {
+            Ok(machine) => Ok(machine),
+            Err(_) => Err(NewFault::Memory),
+        }
+    }
+
+    /// A machine at the start of a run of `main`, with its first pages, its globals and its table.
+    fn start(
+        alloc: Global,
+        m: &'m Module,
+        cap: u32,
+        entries: Entries,
+    ) -> Result<Machine<'m>, AllocError>
+        requires words { HasWords m.now }
+        requires valid { IsValid m.now }
+        requires entries { HasEntries m.now entries }
+        requires fit { segments_fit m.now ≡ true }
+        ensures is { IfOk result (λ a. IsFresh m.now cap a) }
+    {
+        let pages = least_of(m.memory());
+        let program = Program::new(alloc, m)?;
+        let main = entries.main as usize;
+        let locals = first_locals(alloc, program.locals(main))?;
+        let current = Frame::new(alloc, main, false, locals);
+        let callers: Vec<Frame> = Vec::new(alloc);
+        let memory = zeros(alloc, pages)?;
+        let globals = first_globals(alloc, m)?;
+        let thread = Thread {
+            current,
+            callers,
+            pages,
+            memory,
+            globals,
+            refused: false,
+            by_choice: false,
+        };
+        Ok(Machine {
+            alloc,
+            program,
+            thread,
+            cap,
+            result_at: entries.result,
+            status_at: entries.status,
+            made: 0,
+            ended: None,
+            failed: false,
+        })
+    }
+
+    /// How the run ended, if it has.
+    fn end(&self) -> Option<Ended>
+        ensures is { MatchOption result (GoesOn self.now.state) (λ e. IsOver e self.now.state) }
+    {
+        self.ended
+    }
+
+    /// One step.
+    fn advance(&mut self) -> Result<(), AllocError>
+        requires sound { self.old.failed ≡ false }
+        requires goes_on { GoesOn self.old.state }
+        ensures ok { OnOk result (Move self.old.program self.old.cap self.old.state self.new.state) }
+        ensures kept { (self.new.program ≡ self.old.program) × (self.new.cap ≡ self.old.cap) }
+        ensures made { OnOk result (self.new.made ≡ min (self.old.made + 1) (2 ^ 64 - 1)) }
+        ensures sound { OnOk result (self.new.failed ≡ false) }
+        ensures err { OnErr result (self.new.failed ≡ true) }
+    {
+        never_stuck();
+        words_stay();
+        match run_step(self.alloc, &self.program, self.cap, &mut self.thread) {
+            Ok(ended) => {
+                self.ended = ended;
+                self.made = self.made.saturating_add(1);
+                Ok(())
+            }
+            Err(error) => {
+                self.failed = true;
+                Err(error)
+            }
+        }
+    }
+
+    /// Makes at most `steps` steps, up to the run's end.
+    ///
+    /// `StepsSpent` comes exactly where that many were made and the run hadn't ended; a later call goes on. After the end the
+    /// same end is answered again. After `Memory` every call answers `Failed`.
+    pub fn run(&mut self, steps: u64) -> Result<Ended, RunFault>
+        ensures kept { (self.new.program ≡ self.old.program) × (self.new.cap ≡ self.old.cap) }
+        ensures says { Says self.old self.new steps result }
+    {
+        if self.failed {
+            return Err(RunFault::Failed);
+        }
+        let _before = self.steps();
+        for _made in 0..steps {
+            if let Some(ended) = self.end() {
+                return Ok(ended);
+            }
+            match self.advance() {
+                Ok(()) => {}
+                Err(_) => return Err(RunFault::Memory),
+            }
+        }
+        match self.end() {
+            Some(ended) => Ok(ended),
+            None => Err(RunFault::StepsSpent),
+        }
+    }
+
+    /// The value of the global `result`.
+    pub fn result(&self) -> u32
+        ensures is { self.now.failed ≡ false → global_of Entry.Result self.now.program (store_of self.now.state) ≡ Some result }
+    {
+        entries_are_there();
+        i32_at(self.thread.globals.as_slice(), self.result_at)
+    }
+
+    /// The value of the global `status`.
+    pub fn status(&self) -> u32
+        ensures is { self.now.failed ≡ false → global_of Entry.Status self.now.program (store_of self.now.state) ≡ Some result }
+    {
+        entries_are_there();
+        i32_at(self.thread.globals.as_slice(), self.status_at)
+    }
+
+    /// The pages of memory, of 65,536 bytes each.
+    pub fn pages(&self) -> u32
+        ensures is { result ≡ (store_of self.now.state).pages }
+    {
+        self.thread.pages
+    }
+
+    /// The bytes of memory.
+    pub fn memory(&self) -> &[u8]
+        ensures is { result.now ≡ (store_of self.now.state).memory }
+    {
+        self.thread.memory.as_slice()
+    }
+
+    /// The steps made so far, which stop at u64's last value.
+    pub fn steps(&self) -> u64
+        ensures is { result ≡ self.now.made }
+    {
+        self.made
+    }
+}
