@@ -5,7 +5,8 @@ use crate::shown::{put_level, put_term};
 use dump_parser::environment::EnvTree;
 use dump_parser::parse;
 use dump_printer::print_env;
-use dump_reader::environment::RawEnv;
+use dump_reader::declaration::{RawCtors, RawDecls, RawFamilies};
+use dump_reader::environment::{Constraints, Levels, RawEnv};
 use dump_reader::names::Names;
 use dump_reader::reading::read_env;
 use dump_reader::{Foreign, Limit, ReadRefusal};
@@ -20,6 +21,7 @@ pub fn run(case: &Case, out: &mut String) -> Result<(), Fault> {
         "parse each prefix" => run_prefixes(case, out),
         "read" => run_read(case, out),
         "print" => run_print(case, out),
+        "lists" => run_lists(case.alloc, out),
         _ => Err(Fault::Faulty("no such call")),
     }
 }
@@ -178,5 +180,19 @@ fn run_print(case: &Case, out: &mut String) -> Result<(), Fault> {
         write!(out, "write fault after {}: ", fault.written)?;
     }
     put_printed(out, text.as_slice(), sink.bytes())?;
+    Ok(())
+}
+
+/// Whether the lists of an environment are empty that are made of the vectors of empty ones.
+fn run_lists(alloc: Global, out: &mut String) -> Result<(), Fault> {
+    let ctors = RawCtors::of(RawCtors::new(alloc).into_vec()).is_empty();
+    let families = RawFamilies::of(RawFamilies::new(alloc).into_vec()).is_empty();
+    let decls = RawDecls::of(RawDecls::new(alloc).into_vec()).is_empty();
+    let levels = Levels::of(Levels::new(alloc).into_vec()).is_empty();
+    let constraints = Constraints::of(Constraints::new(alloc).into_vec()).is_empty();
+    write!(
+        out,
+        "empty: constructors {ctors}, families {families}, declarations {decls}, levels {levels}, constraints {constraints}"
+    )?;
     Ok(())
 }
