@@ -1,4 +1,6 @@
 //! The layer of the text: `parse`, `read` and `print`.
+ghost use Rattle.dump_reader.specs.Spelled.{IsSpelled};
+
 use crate::case::Case;
 use crate::fault::Fault;
 use crate::shown::{put_level, put_term};
@@ -124,20 +126,25 @@ fn put_read(out: &mut String, env: &RawEnv) -> Result<(), AllocError> {
     put_term(out, env, &env.main)
 }
 
+/// What was read, and the text that is printed of it.
+fn put_whole(case: &Case, out: &mut String, text: &[u8], env: &RawEnv) -> Result<(), AllocError>
+    requires spelled { IsSpelled env.now }
+{
+    put_read(out, env)?;
+    let mut sink = MemSink::new(case.alloc, 4096, Vec::new(case.alloc));
+    let printed = print_env(env, &mut sink);
+    out.push_str(if printed.is_ok() {
+        "\n  printed: "
+    } else {
+        "\n  write fault: "
+    })?;
+    put_printed(out, text, sink.bytes())
+}
+
 fn run_read(case: &Case, out: &mut String) -> Result<(), Fault> {
     let text = case.environment()?;
     match read_env(case.alloc, text.as_slice()) {
-        Ok(env) => {
-            put_read(out, &env)?;
-            let mut sink = MemSink::new(case.alloc, 4096, Vec::new(case.alloc));
-            let printed = print_env(&env, &mut sink);
-            out.push_str(if printed.is_ok() {
-                "\n  printed: "
-            } else {
-                "\n  write fault: "
-            })?;
-            put_printed(out, text.as_slice(), sink.bytes())?;
-        }
+        Ok(env) => put_whole(case, out, text.as_slice(), &env)?,
         Err(refusal) => put_refusal(out, &refusal)?,
     }
     Ok(())
@@ -171,9 +178,7 @@ pub fn failing(case: &Case, key: &str) -> Result<Vec<u64>, Fault> {
 /// Reads a text, and prints the environment to a sink that takes at most 5 bytes in a call, or `most`, and fails at the call `failing write`.
 fn run_print(case: &Case, out: &mut String) -> Result<(), Fault> {
     let text = case.environment()?;
-    let Ok(env) = read_env(case.alloc, text.as_slice()) else {
-        return Err(Fault::Faulty("the text is not read"));
-    };
+    let env = case.read()?;
     let most = case.row.number("most", 5)?.max(1) as usize;
     let mut sink = MemSink::new(case.alloc, most, failing(case, "failing write")?);
     if let Err(fault) = print_env(&env, &mut sink) {
