@@ -1,7 +1,12 @@
 //! A row with what its values stand for.
+ghost use Rattle.std.specs.Prelude.{IfOk};
+ghost use Rattle.dump_reader.specs.Spelled.{IsSpelled};
+
 use crate::fault::Fault;
 use crate::named::Named;
 use crate::row::Row;
+use dump_reader::environment::RawEnv;
+use dump_reader::reading::read_env;
 use std::alloc::Global;
 
 /// A row to be run, with the memory and the named texts for it.
@@ -64,7 +69,18 @@ impl Case<'_> {
         Ok(text)
     }
 
-    /// The same with each term of the row, in order, as the type of one more constant: names and levels keep their numbers.
+    /// The row's environment, read.
+    pub fn read(&self) -> Result<RawEnv, Fault>
+        ensures spelled { IfOk result IsSpelled }
+    {
+        let text = self.environment()?;
+        match read_env(self.alloc, text.as_slice()) {
+            Ok(raw) => Ok(raw),
+            Err(_) => Err(Fault::Faulty("the text is not read")),
+        }
+    }
+
+    /// The text of the row's environment with each term of the row, in order, as the type of one more constant: names and levels keep their numbers.
     pub fn environment_with_terms(&self) -> Result<Vec<u8>, Fault> {
         let mut text = Vec::new(self.alloc);
         self.put_front(&mut text)?;

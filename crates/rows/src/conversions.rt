@@ -9,7 +9,6 @@ use crate::fault::Fault;
 use crate::halts::put_halt;
 use crate::opened::Opened;
 use conversion::comparison::Compare;
-use dump_reader::reading::read_env;
 use env_check::check::check_env;
 use guard_check::guard::Guard;
 use pc_rules::context::Ctx;
@@ -40,10 +39,7 @@ pub fn run(case: &Case, out: &mut String) -> Result<(), Fault> {
 fn checked(case: &Case) -> Result<Env, Fault>
     ensures accepted { IfOk result IsAccepted }
 {
-    let text = case.environment()?;
-    let Ok(raw) = read_env(case.alloc, text.as_slice()) else {
-        return Err(Fault::Faulty("the text is not read"));
-    };
+    let raw = case.read()?;
     match check_env(case.alloc, &Subst, &raw, &mut Meter::new(UNITS)) {
         Ok(accepted) => Ok(accepted.env),
         Err(_) => Err(Fault::Faulty("the environment is not accepted")),

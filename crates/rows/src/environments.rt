@@ -4,7 +4,6 @@ use crate::fault::Fault;
 use crate::halts::{put_account, put_broken, put_place};
 use crate::shown::{put_name, put_sort, put_term};
 use dump_reader::environment::RawEnv;
-use dump_reader::reading::read_env;
 use env_check::check::check_env;
 use env_check::refusal::Refusal;
 use pc_rules::declaration::{Block, Constructor, Kept};
@@ -41,10 +40,7 @@ fn put_refusal(out: &mut String, env: &RawEnv, refusal: &Refusal) -> Result<(), 
 
 /// Reads an environment, and checks it with `units`, or as many as a job has. With `units`, what is left and the uses of rules are told.
 fn run_check(case: &Case, out: &mut String) -> Result<(), Fault> {
-    let text = case.environment()?;
-    let Ok(raw) = read_env(case.alloc, text.as_slice()) else {
-        return Err(Fault::Faulty("the text is not read"));
-    };
+    let raw = case.read()?;
     let mut m = Meter::new(case.row.number("units", UNITS)?);
     let tells_units = case.row.value("units").is_some();
     match check_env(case.alloc, &Subst, &raw, &mut m) {
@@ -114,10 +110,7 @@ fn put_kept(out: &mut String, raw: &RawEnv, env: &Env) -> Result<(), AllocError>
 
 /// Reads an environment, checks it, and tells what is kept: blocks with their families, constructors and the sorts of their arguments.
 fn run_kept(case: &Case, out: &mut String) -> Result<(), Fault> {
-    let text = case.environment()?;
-    let Ok(raw) = read_env(case.alloc, text.as_slice()) else {
-        return Err(Fault::Faulty("the text is not read"));
-    };
+    let raw = case.read()?;
     let mut m = Meter::new(UNITS);
     match check_env(case.alloc, &Subst, &raw, &mut m) {
         Ok(accepted) => {

@@ -32,7 +32,9 @@ fn put_unread(
     input: &[u8],
 ) -> Result<(), AllocError> {
     match read_all(alloc, src, 16_777_216) {
-        Ok(rest) if rest.as_slice() == input => out.push_str(", nothing read"),
+        Ok(rest) if !input.is_empty() && rest.as_slice() == input => {
+            out.push_str(", nothing read")
+        }
         _ => Ok(()),
     }
 }

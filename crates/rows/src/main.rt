@@ -15,7 +15,7 @@
 //!
 //! | Table | Calls |
 //! |---|---|
-//! | `texts` | `parse`, `parse each prefix`, `read`, `print` (`most:`, `failing write:`) |
+//! | `texts` | `parse`, `parse each prefix`, `read`, `print` (`most:`, `failing write:`), `lists` |
 //! | `terms` | `lift` (`by:`, `from:`), `subst` (`at:`), `subst_list`, `subst_list_at` (`at:`), `apply`, `measures`, `same`, `doubled`, `put in again` (`times:`), `lists` |
 //! | `rules` | `meter` (`units:`, `tick:`, `note:`, `uses:`, `enter:`, `leave:`), `context`, `long context` (`times:`), `keep`, `heads` (`number:`) |
 //! | `forms` | `ind_type`, `pred_entries`, `construct_type`, `branch_entries` (`parameter:`), `branch_type` (`branch:`), `pred_at` (`index:`, `scrutinee:`), `fix_unfold` (`definition:`) |

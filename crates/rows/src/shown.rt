@@ -60,89 +60,43 @@ pub fn put_sort(out: &mut String, env: &RawEnv, sort: &Sort) -> Result<(), Alloc
     }
 }
 
-/// A term.
-#[cycle(shown)]
+/// What is still to be put of a term.
+#[derive(Clone, Copy)]
+enum Piece<'a> {
+    Text(&'static str),
+    Number(u32),
+    Name(Name),
+    Family(FamilyId),
+    Sort(&'a Sort),
+    /// So many names of binders in brackets.
+    Binders(u32),
+    Term(&'a Term),
+    /// The function of a run of applications, with its arguments.
+    Run(&'a Term),
+}
+
+/// Puts pieces on the stack, the first on top.
+fn push<'a>(stack: &mut Vec<Piece<'a>>, pieces: &[Piece<'a>]) -> Result<(), AllocError> {
+    for piece in pieces.iter().rev() {
+        stack.push(*piece)?;
+    }
+    Ok(())
+}
+
+/// A term: what is still to be put stands on a stack, so that the deepest term is put without calls in one another.
 pub fn put_term(out: &mut String, env: &RawEnv, term: &Term) -> Result<(), AllocError> {
-    out.push_str("(")?;
-    put_node(out, env, term.view())?;
-    out.push_str(")")
-}
-
-#[cycle(shown)]
-fn put_node(out: &mut String, env: &RawEnv, node: &Node) -> Result<(), AllocError> {
-    match node {
-        Node::Rel(index) => write!(out, "tRel {index}"),
-        Node::Sort(sort) => {
-            out.push_str("tSort ")?;
-            put_sort(out, env, sort)
+    let alloc = *out.allocator();
+    let mut stack = Vec::new(alloc);
+    stack.push(Piece::Term(term))?;
+    for _ in 0..u64::MAX {
+        let Some(piece) = stack.pop() else {
+            return Ok(());
+        };
+        match piece {
+            Piece::Term(term) => open_node(&mut stack, term.view())?,
+            Piece::Run(term) => open_run(&mut stack, term)?,
+            _ => put_piece(out, env, piece)?,
         }
-        Node::Prod(domain, codomain) => put_two(out, env, "tProd _", domain, codomain),
-        Node::Lambda(domain, body) => put_two(out, env, "tLambda _", domain, body),
-        Node::LetIn(value, ty, body) => {
-            put_two(out, env, "tLetIn _", value, ty)?;
-            put_next(out, env, body)
-        }
-        Node::App(function, argument) => {
-            out.push_str("tApp")?;
-            put_run(out, env, function)?;
-            put_next(out, env, argument)
-        }
-        Node::Const(name) => {
-            out.push_str("tConst ")?;
-            put_name(out, env, *name)
-        }
-        Node::Ind(id) => {
-            out.push_str("tInd ")?;
-            put_family(out, env, *id)
-        }
-        Node::Construct(id, constructor) => {
-            out.push_str("tConstruct ")?;
-            put_family(out, env, *id)?;
-            write!(out, " {constructor}")
-        }
-        Node::Case(whole) => put_match(out, env, whole),
-        Node::Fix(defs, index) => put_fix(out, env, defs, *index),
-    }
-}
-
-/// A blank and a term.
-#[cycle(shown)]
-fn put_next(out: &mut String, env: &RawEnv, term: &Term) -> Result<(), AllocError> {
-    out.push_str(" ")?;
-    put_term(out, env, term)
-}
-
-/// A former with two terms.
-#[cycle(shown)]
-fn put_two(
-    out: &mut String,
-    env: &RawEnv,
-    former: &str,
-    first: &Term,
-    second: &Term,
-) -> Result<(), AllocError> {
-    out.push_str(former)?;
-    put_next(out, env, first)?;
-    put_next(out, env, second)
-}
-
-/// The head of a run of applications, and the run's arguments so far.
-#[cycle(shown)]
-fn put_run(out: &mut String, env: &RawEnv, term: &Term) -> Result<(), AllocError> {
-    match term.view() {
-        Node::App(function, argument) => {
-            put_run(out, env, function)?;
-            put_next(out, env, argument)
-        }
-        _ => put_next(out, env, term),
-    }
-}
-
-/// Terms, with a blank before each.
-#[cycle(shown)]
-fn put_each(out: &mut String, env: &RawEnv, terms: &Terms) -> Result<(), AllocError> {
-    for term in terms.as_slice() {
-        put_next(out, env, term)?;
     }
     Ok(())
 }
@@ -156,41 +110,182 @@ fn put_binders(out: &mut String, count: u32) -> Result<(), AllocError> {
     out.push_str(")")
 }
 
-#[cycle(shown)]
-fn put_match(out: &mut String, env: &RawEnv, whole: &Match) -> Result<(), AllocError> {
-    out.push_str("tCase (")?;
-    put_family(out, env, whole.family)?;
-    out.push_str(") (params")?;
-    put_each(out, env, &whole.params)?;
-    out.push_str(") (pred ")?;
-    put_binders(out, whole.binders)?;
-    put_next(out, env, &whole.ret)?;
-    out.push_str(")")?;
-    put_next(out, env, &whole.scrut)?;
-    put_branches(out, env, &whole.branches)
+/// A piece that is no term.
+fn put_piece(out: &mut String, env: &RawEnv, piece: Piece) -> Result<(), AllocError> {
+    match piece {
+        Piece::Text(text) => out.push_str(text),
+        Piece::Number(number) => write!(out, "{number}"),
+        Piece::Name(name) => put_name(out, env, name),
+        Piece::Family(id) => put_family(out, env, id),
+        Piece::Sort(sort) => put_sort(out, env, sort),
+        Piece::Binders(count) => put_binders(out, count),
+        Piece::Term(_) | Piece::Run(_) => Ok(()),
+    }
 }
 
-#[cycle(shown)]
-fn put_branches(out: &mut String, env: &RawEnv, branches: &Branches) -> Result<(), AllocError> {
-    for branch in branches.as_slice() {
-        out.push_str(" (br ")?;
-        put_binders(out, branch.binders)?;
-        put_next(out, env, &branch.body)?;
-        out.push_str(")")?;
+/// The function of a run of applications, with its arguments.
+fn open_run<'a>(stack: &mut Vec<Piece<'a>>, term: &'a Term) -> Result<(), AllocError> {
+    match term.view() {
+        Node::App(function, argument) => push(
+            stack,
+            &[
+                Piece::Run(function),
+                Piece::Text(" "),
+                Piece::Term(argument),
+            ],
+        ),
+        _ => push(stack, &[Piece::Term(term)]),
+    }
+}
+
+/// The pieces of a node.
+fn open_node<'a>(stack: &mut Vec<Piece<'a>>, node: &'a Node) -> Result<(), AllocError> {
+    match node {
+        Node::Rel(index) => open_leaf(stack, "(tRel ", Piece::Number(*index)),
+        Node::Sort(sort) => open_leaf(stack, "(tSort ", Piece::Sort(sort)),
+        Node::Const(name) => open_leaf(stack, "(tConst ", Piece::Name(*name)),
+        Node::Ind(id) => open_leaf(stack, "(tInd ", Piece::Family(*id)),
+        Node::Construct(id, constructor) => push(
+            stack,
+            &[
+                Piece::Text("(tConstruct "),
+                Piece::Family(*id),
+                Piece::Text(" "),
+                Piece::Number(*constructor),
+                Piece::Text(")"),
+            ],
+        ),
+        Node::Prod(domain, codomain) => open_two(stack, "(tProd _ ", domain, codomain),
+        Node::Lambda(domain, body) => open_two(stack, "(tLambda _ ", domain, body),
+        Node::LetIn(value, ty, body) => push(
+            stack,
+            &[
+                Piece::Text("(tLetIn _ "),
+                Piece::Term(value),
+                Piece::Text(" "),
+                Piece::Term(ty),
+                Piece::Text(" "),
+                Piece::Term(body),
+                Piece::Text(")"),
+            ],
+        ),
+        Node::App(function, argument) => push(
+            stack,
+            &[
+                Piece::Text("(tApp "),
+                Piece::Run(function),
+                Piece::Text(" "),
+                Piece::Term(argument),
+                Piece::Text(")"),
+            ],
+        ),
+        Node::Case(whole) => open_match(stack, whole),
+        Node::Fix(defs, index) => open_fix(stack, defs, *index),
+    }
+}
+
+/// A node without subterms.
+fn open_leaf<'a>(
+    stack: &mut Vec<Piece<'a>>,
+    front: &'static str,
+    inside: Piece<'a>,
+) -> Result<(), AllocError> {
+    push(stack, &[Piece::Text(front), inside, Piece::Text(")")])
+}
+
+/// A node of two terms.
+fn open_two<'a>(
+    stack: &mut Vec<Piece<'a>>,
+    front: &'static str,
+    first: &'a Term,
+    second: &'a Term,
+) -> Result<(), AllocError> {
+    push(
+        stack,
+        &[
+            Piece::Text(front),
+            Piece::Term(first),
+            Piece::Text(" "),
+            Piece::Term(second),
+            Piece::Text(")"),
+        ],
+    )
+}
+
+/// The branches of a match.
+fn open_branches<'a>(stack: &mut Vec<Piece<'a>>, branches: &'a Branches) -> Result<(), AllocError> {
+    for branch in branches.as_slice().iter().rev() {
+        push(
+            stack,
+            &[
+                Piece::Text(" (br "),
+                Piece::Binders(branch.binders),
+                Piece::Text(" "),
+                Piece::Term(&branch.body),
+                Piece::Text(")"),
+            ],
+        )?;
     }
     Ok(())
 }
 
-#[cycle(shown)]
-fn put_fix(out: &mut String, env: &RawEnv, defs: &Defs, index: u32) -> Result<(), AllocError> {
-    out.push_str("tFix (")?;
-    let mut is_first = true;
-    for def in defs.as_slice() {
-        out.push_str(if is_first { "(def _" } else { " (def _" })?;
-        is_first = false;
-        put_next(out, env, &def.ty)?;
-        put_next(out, env, &def.body)?;
-        write!(out, " {})", def.rarg)?;
+/// Terms, with a blank before each.
+fn open_each<'a>(stack: &mut Vec<Piece<'a>>, terms: &'a Terms) -> Result<(), AllocError> {
+    for term in terms.as_slice().iter().rev() {
+        push(stack, &[Piece::Text(" "), Piece::Term(term)])?;
     }
-    write!(out, ") {index}")
+    Ok(())
+}
+
+fn open_match<'a>(stack: &mut Vec<Piece<'a>>, whole: &'a Match) -> Result<(), AllocError> {
+    push(stack, &[Piece::Text(")")])?;
+    open_branches(stack, &whole.branches)?;
+    push(
+        stack,
+        &[
+            Piece::Text(") (pred "),
+            Piece::Binders(whole.binders),
+            Piece::Text(" "),
+            Piece::Term(&whole.ret),
+            Piece::Text(") "),
+            Piece::Term(&whole.scrut),
+        ],
+    )?;
+    open_each(stack, &whole.params)?;
+    push(
+        stack,
+        &[
+            Piece::Text("(tCase ("),
+            Piece::Family(whole.family),
+            Piece::Text(") (params"),
+        ],
+    )
+}
+
+/// The definitions of a fixpoint.
+fn open_definitions<'a>(stack: &mut Vec<Piece<'a>>, defs: &'a Defs) -> Result<(), AllocError> {
+    for (place, def) in defs.as_slice().iter().enumerate().rev() {
+        push(
+            stack,
+            &[
+                Piece::Text(if place == 0 { "(def _ " } else { " (def _ " }),
+                Piece::Term(&def.ty),
+                Piece::Text(" "),
+                Piece::Term(&def.body),
+                Piece::Text(" "),
+                Piece::Number(def.rarg),
+                Piece::Text(")"),
+            ],
+        )?;
+    }
+    Ok(())
+}
+
+fn open_fix<'a>(stack: &mut Vec<Piece<'a>>, defs: &'a Defs, index: u32) -> Result<(), AllocError> {
+    push(
+        stack,
+        &[Piece::Text(") "), Piece::Number(index), Piece::Text(")")],
+    )?;
+    open_definitions(stack, defs)?;
+    push(stack, &[Piece::Text("(tFix (")])
 }

@@ -1,11 +1,14 @@
 //! The layer of the text: `parse`, `read` and `print`.
+ghost use Rattle.dump_reader.specs.Spelled.{IsSpelled};
+
 use crate::case::Case;
 use crate::fault::Fault;
 use crate::shown::{put_level, put_term};
 use dump_parser::environment::EnvTree;
 use dump_parser::parse;
 use dump_printer::print_env;
-use dump_reader::environment::RawEnv;
+use dump_reader::declaration::{RawCtors, RawDecls, RawFamilies};
+use dump_reader::environment::{Constraints, Levels, RawEnv};
 use dump_reader::names::Names;
 use dump_reader::reading::read_env;
 use dump_reader::{Foreign, Limit, ReadRefusal};
@@ -20,6 +23,7 @@ pub fn run(case: &Case, out: &mut String) -> Result<(), Fault> {
         "parse each prefix" => run_prefixes(case, out),
         "read" => run_read(case, out),
         "print" => run_print(case, out),
+        "lists" => run_lists(case.alloc, out),
         _ => Err(Fault::Faulty("no such call")),
     }
 }
@@ -122,20 +126,25 @@ fn put_read(out: &mut String, env: &RawEnv) -> Result<(), AllocError> {
     put_term(out, env, &env.main)
 }
 
+/// What was read, and the text that is printed of it.
+fn put_whole(case: &Case, out: &mut String, text: &[u8], env: &RawEnv) -> Result<(), AllocError>
+    requires spelled { IsSpelled env.now }
+{
+    put_read(out, env)?;
+    let mut sink = MemSink::new(case.alloc, 4096, Vec::new(case.alloc));
+    let printed = print_env(env, &mut sink);
+    out.push_str(if printed.is_ok() {
+        "\n  printed: "
+    } else {
+        "\n  write fault: "
+    })?;
+    put_printed(out, text, sink.bytes())
+}
+
 fn run_read(case: &Case, out: &mut String) -> Result<(), Fault> {
     let text = case.environment()?;
     match read_env(case.alloc, text.as_slice()) {
-        Ok(env) => {
-            put_read(out, &env)?;
-            let mut sink = MemSink::new(case.alloc, 4096, Vec::new(case.alloc));
-            let printed = print_env(&env, &mut sink);
-            out.push_str(if printed.is_ok() {
-                "\n  printed: "
-            } else {
-                "\n  write fault: "
-            })?;
-            put_printed(out, text.as_slice(), sink.bytes())?;
-        }
+        Ok(env) => put_whole(case, out, text.as_slice(), &env)?,
         Err(refusal) => put_refusal(out, &refusal)?,
     }
     Ok(())
@@ -169,14 +178,26 @@ pub fn failing(case: &Case, key: &str) -> Result<Vec<u64>, Fault> {
 /// Reads a text, and prints the environment to a sink that takes at most 5 bytes in a call, or `most`, and fails at the call `failing write`.
 fn run_print(case: &Case, out: &mut String) -> Result<(), Fault> {
     let text = case.environment()?;
-    let Ok(env) = read_env(case.alloc, text.as_slice()) else {
-        return Err(Fault::Faulty("the text is not read"));
-    };
+    let env = case.read()?;
     let most = case.row.number("most", 5)?.max(1) as usize;
     let mut sink = MemSink::new(case.alloc, most, failing(case, "failing write")?);
     if let Err(fault) = print_env(&env, &mut sink) {
         write!(out, "write fault after {}: ", fault.written)?;
     }
     put_printed(out, text.as_slice(), sink.bytes())?;
+    Ok(())
+}
+
+/// Whether the lists of an environment are empty that are made of the vectors of empty ones.
+fn run_lists(alloc: Global, out: &mut String) -> Result<(), Fault> {
+    let ctors = RawCtors::of(RawCtors::new(alloc).into_vec()).is_empty();
+    let families = RawFamilies::of(RawFamilies::new(alloc).into_vec()).is_empty();
+    let decls = RawDecls::of(RawDecls::new(alloc).into_vec()).is_empty();
+    let levels = Levels::of(Levels::new(alloc).into_vec()).is_empty();
+    let constraints = Constraints::of(Constraints::new(alloc).into_vec()).is_empty();
+    write!(
+        out,
+        "empty: constructors {ctors}, families {families}, declarations {decls}, levels {levels}, constraints {constraints}"
+    )?;
     Ok(())
 }

@@ -1,5 +1,6 @@
 //! An environment that keeps what was read, unchecked, without the sorts of constructors' arguments. Reduction and the instances ask for no
 //! check, so that open and ill-typed terms can stand in rows.
+ghost use Rattle.std.specs.Prelude.{IfOk};
 ghost use Rattle.pc_rules.specs.Lookup.{AreHeads};
 
 use crate::fault::Fault;
