@@ -24,10 +24,10 @@ passed=0 failed=0 skipped=0
 pass() { passed=$((passed + 1)); }
 fail() { failed=$((failed + 1)); echo "coq-dump: FAILED $1"; }
 
-make -s -C "$here" >"$here/tests/build.log" 2>&1 || { echo "coq-dump: the plugin doesn't build"; tail -5 "$here/tests/build.log"; exit 1; }
 rm -rf "$here/tests/out"
 mkdir -p "$here/tests/out"
 cd "$here/tests" || exit 2
+make -s -C "$here" >out/build.log 2>&1 || { echo "coq-dump: the plugin doesn't build"; tail -5 out/build.log; exit 1; }
 for file in *.v; do
   if timeout 300 coqc -R ../theories ErasecDump -I ../src "$file" >out/coqc.log 2>&1; then pass; else fail "$file: coqc"; tail -5 out/coqc.log; fi
 done
