@@ -1,0 +1,9 @@
+pub mod Scopes
+pub mod Words
+pub mod Levels
+pub mod Widths
+pub mod Bindings
+pub mod Follows
+pub mod Forms
+pub mod Preorder
+pub mod BoxForms

@@ -1,0 +1,10 @@
+pub mod Anf
+pub mod Captured
+pub mod AnfEvaluation
+pub mod AnfForm
+pub mod AnfData
+pub mod ToAnf
+pub mod ToAnfKeeps
+pub mod TermForm
+pub mod Preorder
+pub mod BoxForms

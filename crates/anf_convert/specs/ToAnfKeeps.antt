@@ -1,0 +1,72 @@
+-- The translation to A-normal form keeps data and counts.
+use Rattle.std.specs.Prelude.{◌≡◌, ℕ, ◌≤◌, true, List, [], ◌∷◌, length, AllPairs, ◌≢◌}
+use Rattle.trees.specs.Tree.{Slot, Rel, Node, Places, End, Child, Group, Done, Next}
+use Rattle.pc_terms.specs.declared.leaf.Name.{Name}
+use Rattle.pc_terms.specs.declared.leaf.FamilyId.{FamilyId}
+use Rattle.pc_terms.specs.BoxSyntax.{BoxLabel, box_slots, BoxTerm, BoxTerms, BApp, BCase, BFix}
+use Rattle.lambda_box.specs.BoxProgram.{BoxFamily, BoxProgram, KeepsBoxConstant, KeepsBoxFamily}
+use Rattle.lambda_box.specs.ClosureEvaluation.{Value, VConstruct, Values, NoValue, Then, Empty, Bind, Counts, ◌⊕◌, Run}
+use Rattle.anf_convert.specs.Anf.{AnfProgram}
+use Rattle.anf_convert.specs.AnfEvaluation.{AnfVal, AnfVals, AnfAnswers}
+use Rattle.anf_convert.specs.AnfData.{Data, Made, Datas, DNil, DCons, AnfIsData, AnfAreData}
+use Rattle.anf_convert.specs.ToAnf.{to_anf}
+
+-- one definition for each recursive argument, each under all n of them
+abbrev pub AreUnder : ℕ → List ℕ → BoxTerms → Type 0
+AreUnder n [] Done = Unit {0}
+AreUnder n (r ∷ rs) (Next m b bs) = (m ≡ n) × AreUnder n rs bs
+AreUnder n rs bs = ⊥
+
+-- no match is left on a propositional family that has a constructor
+abbrev pub ReadyAt : BoxProgram → BoxTerm → Type 0
+ReadyAt P (BCase f s (Next n b bs)) = (F : BoxFamily) → KeepsBoxFamily P f F → F.propositional ≡ true → ⊥
+ReadyAt P (BFix i rargs bodies) = AreUnder (length rargs) rargs bodies
+ReadyAt P t = Unit {0}
+
+abbrev mutual
+  pub Ready : BoxProgram → BoxTerm → Type 0
+  Ready P (Rel i) = Unit {0}
+  Ready P (Node l ts) = ReadyAt P (Node l ts) × ReadyChildren P ts
+
+  pub ReadyChildren : BoxProgram → {ss : List Slot} → Places BoxLabel box_slots ss → Type 0
+  ReadyChildren P End = Unit {0}
+  ReadyChildren P (Child t ts) = Ready P t × ReadyChildren P ts
+  ReadyChildren P (Group us ts) = ReadyTerms P us × ReadyChildren P ts
+
+  pub ReadyTerms : BoxProgram → BoxTerms → Type 0
+  ReadyTerms P Done = Unit {0}
+  ReadyTerms P (Next n t ts) = Ready P t × ReadyTerms P ts
+
+mutual
+  pub data ValueIs : Value → Data → Type 0 where
+    value_is : {f : FamilyId} {c : ℕ} {vs : Values} {ds : Datas} → ValuesAre vs ds → ValueIs (VConstruct f c vs) (Made c ds)
+
+  pub data ValuesAre : Values → Datas → Type 0 where
+    no_values : ValuesAre NoValue DNil
+    and_value : {v : Value} {vs : Values} {d : Data} {ds : Datas} → ValueIs v d → ValuesAre vs ds → ValuesAre (Then v vs) (DCons d ds)
+
+-- main, applied to these values, the last one first
+pub data BoxAnswers (P : BoxProgram) : Values → Value → Counts → Type 0 where
+  box_alone : {v : Value} {c : Counts} → Run P Empty P.main v c → BoxAnswers P NoValue v c
+  box_applied : {args : Values} {a v r : Value} {c d : Counts} → BoxAnswers P args v c → Run P (Bind a (Bind v Empty)) (BApp (Rel 1) (Rel 0)) r d → BoxAnswers P (Then a args) r (c ⊕ d)
+
+-- main of the program in A-normal form, applied to these values, gives the data, with as many matches and blocks as these counts, no more contractions and no
+-- wider block
+pub record AnfGivesData (Q : AnfProgram) (args : AnfVals) (d : Data) (c : Counts) : Type 0 where
+  pub v : AnfVal
+  pub contractions : ℕ
+  pub words : ℕ
+  pub answers : AnfAnswers Q c.greatest args v contractions c.matches c.blocks words
+  pub is : AnfIsData v d
+  pub no_more : contractions ≤ c.contractions
+
+-- what the translation asks of a program
+pub record IsReady (P : BoxProgram) : Type 0 where
+  pub distinct : AllPairs (λ c d. c.name ≢ d.name) P.constants
+  pub constants : (k : Name) (b : BoxTerm) → KeepsBoxConstant P k b → Ready P b
+  pub main : Ready P P.main
+
+-- where main of a program of which constructors stand with all their arguments, and matches on propositional families are gone, applied to values that are data,
+-- gives data, so does main of the program in A-normal form, applied to the same data
+abbrev pub ToAnfKeeps : Type 0
+ToAnfKeeps = (P : BoxProgram) (args : Values) (args' : AnfVals) (ds : Datas) (v : Value) (d : Data) (c : Counts) → IsReady P → ValuesAre args ds → AnfAreData args' ds → BoxAnswers P args v c → ValueIs v d → AnfGivesData (to_anf P) args' d c

@@ -1,0 +1,5 @@
+pub mod Lifted
+pub mod Lift
+pub mod LiftedForm
+pub mod LiftKeeps
+pub mod CapturedLimit
