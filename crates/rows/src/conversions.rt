@@ -51,9 +51,10 @@ fn typed(case: &Case, env: &Env, term: &Term) -> Result<Term, Fault>
     requires accepted { IsAccepted env.now }
     ensures counted { IfOk result (IsCounted env.now) }
 {
+    let same = term.share()?;
     let typer = Inference::new(Subst, Compare::new(Subst), Guard::new(Subst));
     match typer.infer(case.alloc, env, &Ctx::new(), term, &mut Meter::new(UNITS)) {
-        Ok(_) => Ok(term.share()?),
+        Ok(_) => Ok(same),
         Err(_) => Err(Fault::Faulty("a term without a type")),
     }
 }

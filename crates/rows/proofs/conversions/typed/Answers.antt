@@ -1,0 +1,13 @@
+use Rattle.std.proofs.Common.{subst, sym}
+use Rattle.pc_rules.specs.WellCounted.{IsCounted}
+use Rattle.rule_laws.proofs.Names.{accepted_once}
+use Rattle.rule_laws.proofs.TypedCounts.{typed_counted, accepted_counted}
+use Rattle.rows.proofs.conversions.typed.Goals as goal
+
+pub infer-requires-clause-env : goal.infer-requires-clause-env
+infer-requires-clause-env c = accepted_counted c.args.env.now c.requires.accepted
+
+pub returns-in-Ok : goal.returns-in-Ok
+returns-in-Ok c =
+    let E = c.args.env.now in
+    record { counted = subst (IsCounted E) (sym c.in_ok-same.ensures.ok) (typed_counted E (accepted_once E c.requires.accepted) c.in-Ok.ensures.typed) }
