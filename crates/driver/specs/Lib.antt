@@ -4,5 +4,6 @@ pub mod Answerable
 pub mod Texts
 pub mod Lines
 pub mod CommandLine
+pub mod Program
 pub mod Serve
 pub mod Served
