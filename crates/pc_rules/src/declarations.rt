@@ -89,6 +89,7 @@ impl Declarations {
 }
 
 /// A walk over declarations. Contracts see it as the declarations that are still to come, the newest first.
+#[derive(Drop)]
 pub struct Walk<'a> {
     rest: &'a SharedList<Rc<Kept>>,
 }
