@@ -1,4 +1,5 @@
 //! Runs of a module, whole and cut into runs of one step.
+use crate::answers::put_answer;
 use crate::fault::Fault;
 use crate::row::Row;
 use std::alloc::{AllocError, Global};
@@ -48,16 +49,17 @@ fn put_end(out: &mut String, end: Result<Ended, RunFault>) -> Result<(), AllocEr
     }
 }
 
+/// Prints a number behind some words.
+fn put_number(out: &mut String, words: &str, number: u64) -> Result<(), AllocError> {
+    write!(out, "{words}{number}")
+}
+
 /// What a machine shows.
 fn put_machine(out: &mut String, machine: &Machine) -> Result<(), AllocError> {
-    write!(
-        out,
-        " after {} steps, {} pages, result {}, status {}",
-        machine.steps(),
-        machine.pages(),
-        machine.result(),
-        machine.status()
-    )
+    put_number(out, " after ", machine.steps())?;
+    put_number(out, " steps, ", machine.pages() as u64)?;
+    put_number(out, " pages, result ", machine.result() as u64)?;
+    put_number(out, ", status ", machine.status() as u64)
 }
 
 /// Runs a machine step by step, as long as `steps` calls of one step don't end the run.
@@ -81,26 +83,60 @@ fn show_the_same(left: &Machine, right: &Machine) -> bool {
         && left.memory() == right.memory()
 }
 
+/// Runs a fresh machine step by step, and prints what it shows where this isn't what the whole run ended with and shows.
+fn compare_in_steps(
+    out: &mut String,
+    cut: &mut Machine,
+    steps: u64,
+    whole: &Machine,
+    end: Result<Ended, RunFault>,
+) -> Result<(), AllocError> {
+    if run_in_steps(cut, steps) == end && show_the_same(whole, cut) {
+        return Ok(());
+    }
+    out.push_str(", but cut into steps")?;
+    put_machine(out, cut)
+}
+
+/// Makes a run with one of two fresh machines, and that run again step by step with the other one.
+fn put_run(
+    alloc: Global,
+    machine: &mut Machine,
+    cut: &mut Machine,
+    steps: u64,
+    out: &mut String,
+) -> Result<(), Fault> {
+    let end = machine.run(steps);
+    put_end(out, end)?;
+    put_machine(out, machine)?;
+    compare_in_steps(out, cut, steps, machine, end)?;
+    if end == Ok(Ended::Returned) {
+        put_answer(alloc, machine, out)?;
+    }
+    Ok(())
+}
+
+/// Makes a run with a fresh machine, and again with another one.
+fn put_runs(
+    alloc: Global,
+    valid: &Valid,
+    machine: &mut Machine,
+    cap: u32,
+    steps: u64,
+    out: &mut String,
+) -> Result<(), Fault> {
+    match Machine::new(alloc, valid, cap) {
+        Ok(mut cut) => put_run(alloc, machine, &mut cut, steps, out),
+        Err(fault) => Ok(put_refusal(out, fault)?),
+    }
+}
+
 /// Runs `main` of a module with at most `cap` pages and at most `steps` steps, whole and cut into steps, which must show the same.
 pub fn run(alloc: Global, valid: &Valid, row: &Row, out: &mut String) -> Result<(), Fault> {
     let cap = row.index("cap")?;
     let steps = row.number("steps", 1_000_000)?;
-    let (mut machine, mut cut) = match (
-        Machine::new(alloc, valid, cap),
-        Machine::new(alloc, valid, cap),
-    ) {
-        (Ok(machine), Ok(cut)) => (machine, cut),
-        (Err(fault), _) | (_, Err(fault)) => {
-            put_refusal(out, fault)?;
-            return Ok(());
-        }
-    };
-    let end = machine.run(steps);
-    put_end(out, end)?;
-    put_machine(out, &machine)?;
-    if run_in_steps(&mut cut, steps) != end || !show_the_same(&machine, &cut) {
-        out.push_str(", but cut into steps")?;
-        put_machine(out, &cut)?;
+    match Machine::new(alloc, valid, cap) {
+        Ok(mut machine) => put_runs(alloc, valid, &mut machine, cap, steps, out),
+        Err(fault) => Ok(put_refusal(out, fault)?),
     }
-    Ok(())
 }
