@@ -1,5 +1,5 @@
 -- Runs of the module of a constructor, as a machine makes them.
-use Rattle.std.proofs.Common.{◌≡◌, ℕ, ◌≤◌, ◌<◌, List, [], ◌∷◌, length, Some, None, Ok, Err, refl, sym, ap, subst, ◌∙◌, arith, lit<}
+use Rattle.std.proofs.Common.{◌≡◌, ℕ, ◌≤◌, [], ◌∷◌, length, Some, None, Ok, Err, sym, ap, subst, ◌∙◌, arith}
 use Rattle.std.specs.Prelude.{Result}
 use Rattle.wasm_core.specs.declared.ended.Ended.{Ended}
 use Rattle.wasm_core.specs.declared.ended.Ended.TheVariants.{Returned, Trapped}
@@ -9,7 +9,7 @@ use Rattle.wasm_core.specs.declared.ended.NewFault.{NewFault}
 use Rattle.wasm_core.specs.declared.entries.Entry.TheVariants as entry
 use Rattle.wasm_core.specs.Parts.{Parts}
 use Rattle.wasm_core.specs.MachineStep.{State, At, Over, Reach}
-use Rattle.wasm_core.specs.Runs.{Moves, main_start, store_of}
+use Rattle.wasm_core.specs.Runs.{store_of}
 use Rattle.wasm_core.specs.MachineRun.{Shown, Ran, IsFresh, IsOver, GoesOn, Says, refusal}
 use Rattle.wasm_core.specs.Answer.{Answers, answers, IsAnswer, IsAtEnd, global_of}
 use Rattle.wasm_core.specs.WordData.{Data, StandsFor}
@@ -18,7 +18,7 @@ use Rattle.wasm_core.proofs.Trees.{moves_are_steps}
 use Rattle.wasm_core.proofs.DataUnique.{data_unique}
 use Rattle.mem_value.specs.declared.fault.AnswerFault.{AnswerFault}
 use Rattle.mem_value.specs.declared.fault.AnswerFault.TheVariants as answer_faults
-use Rattle.mem_value.specs.Tells.{Tells, Reads}
+use Rattle.mem_value.specs.Tells.{Tells}
 use Rattle.enumeration_code.specs.Returning.{AlwaysReturns}
 use Rattle.enumeration_code.proofs.Enumeration.{enumeration_returns}
 use Rattle.driver.specs.Program.{HasAnswered, module_for}
