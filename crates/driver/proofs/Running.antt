@@ -1,31 +1,20 @@
 -- Runs of the module of a constructor, as a machine makes them.
-use Rattle.std.proofs.Common.{◌≡◌, ℕ, ◌≤◌, [], ◌∷◌, length, Some, None, Ok, Err, sym, ap, subst, ◌∙◌, arith}
-use Rattle.std.specs.Prelude.{Result}
+use Rattle.std.proofs.Common.{◌≡◌, ℕ, ◌≤◌, [], ◌∷◌, Ok, Err, sym, ap, subst, ◌∙◌, arith}
 use Rattle.wasm_core.specs.declared.ended.Ended.{Ended}
 use Rattle.wasm_core.specs.declared.ended.Ended.TheVariants.{Returned, Trapped}
 use Rattle.wasm_core.specs.declared.ended.TrapKind.{TrapKind}
 use Rattle.wasm_core.specs.declared.ended.RunFault.TheVariants as faults
-use Rattle.wasm_core.specs.declared.ended.NewFault.{NewFault}
-use Rattle.wasm_core.specs.declared.entries.Entry.TheVariants as entry
 use Rattle.wasm_core.specs.Parts.{Parts}
 use Rattle.wasm_core.specs.MachineStep.{State, At, Over, Reach}
 use Rattle.wasm_core.specs.Runs.{store_of}
-use Rattle.wasm_core.specs.MachineRun.{Shown, Ran, IsFresh, IsOver, GoesOn, Says, refusal}
-use Rattle.wasm_core.specs.Answer.{Answers, answers, IsAnswer, IsAtEnd, global_of}
-use Rattle.wasm_core.specs.WordData.{Data, StandsFor}
+use Rattle.wasm_core.specs.MachineRun.{Shown, Ran, IsFresh, IsOver, Says}
+use Rattle.wasm_core.specs.Answer.{Answers, answers, IsAnswer, IsAtEnd}
+use Rattle.wasm_core.specs.WordData.{Data}
 use Rattle.wasm_core.proofs.Small.{inj}
 use Rattle.wasm_core.proofs.Trees.{moves_are_steps}
-use Rattle.wasm_core.proofs.DataUnique.{data_unique}
-use Rattle.mem_value.specs.declared.fault.AnswerFault.{AnswerFault}
-use Rattle.mem_value.specs.declared.fault.AnswerFault.TheVariants as answer_faults
-use Rattle.mem_value.specs.Tells.{Tells}
 use Rattle.enumeration_code.specs.Returning.{AlwaysReturns}
 use Rattle.enumeration_code.proofs.Enumeration.{enumeration_returns}
 use Rattle.driver.specs.Program.{HasAnswered, module_for}
-
--- nothing is refused
-pub never_refused : (c : ℕ) (m : Parts) (f : NewFault) → m ≡ module_for c → refusal m 1024 ≡ Some f → ⊥
-never_refused c m f is h = let q : None ≡ Some f = subst (λ p. refusal p 1024 ≡ Some f) is h in absurd cc
 
 at_end : (m : Parts) (e : Ended) (s : State) → IsOver e s → IsAtEnd m s
 at_end m e (At c) h = absurd h
@@ -36,10 +25,6 @@ store_answers m d t (answers h) = h
 
 never_traps : (m : Parts) (d : Data) (k : TrapKind) (s : State) → Answers m d s → IsOver (Trapped k) s → ⊥
 never_traps m d k t (answers h) over = absurd cc
-
-not_over : (e : Ended) (s : State) → IsOver e s → GoesOn s → ⊥
-not_over e (At c) h g = h
-not_over e (Over f store) h g = g
 
 module _ (c : ℕ) (old new : Shown) (fresh : IsFresh (module_for c) 1024 old) where
   returns : AlwaysReturns (module_for c) 3 ((c, 0) ∷ [])
@@ -69,26 +54,3 @@ module _ (c : ℕ) (old new : Shown) (fresh : IsFresh (module_for c) 1024 old) w
   never_spent (old_sound, sound, ran, on) =
       let few : 100000000 ≤ 3 = returns.bounded 100000000 new.state (reached 100000000 ran) in
       omega (arith, few)
-
-  pub never_failed : (n : ℕ) → Says old new n (Err faults.Failed) → ⊥
-  never_failed n (failed, same) = let sound = ap (λ (o : Shown). o.failed) fresh.2 in absurd cc
-
-module _ (c : ℕ) (a : Shown) (h : HasAnswered c a) where
-  -- the word that is read stands for the constructor
-  word_stands : {r : Result Data AnswerFault} (t : Tells a r) → StandsFor (store_of a.state).memory t.word ((c, 0) ∷ [])
-  word_stands t =
-      let read = subst (λ p. global_of entry.Result p (store_of a.state) ≡ Some t.word) h.program (t.is_result h.sound) in
-      subst (λ w. StandsFor (store_of a.state).memory w ((c, 0) ∷ [])) (inj (sym h.answer.result ∙ read)) h.answer.stands
-
-  pub is_constructor : (d : Data) → Tells a (Ok d) → d ≡ (c, 0) ∷ []
-  is_constructor d t = data_unique (store_of a.state).memory t.word d ((c, 0) ∷ []) t.reads.0 (word_stands t)
-
-  pub never_not_a_value : (w : ℕ) → Tells a (Err (answer_faults.NotAValue w)) → ⊥
-  never_not_a_value w t = t.reads.1 ((c, 0) ∷ [], word_stands t)
-
-  pub never_many : Tells a (Err answer_faults.AnswerNodes) → ⊥
-  never_many t =
-      let (d, stands, many) = t.reads in
-      let one : d ≡ (c, 0) ∷ [] = data_unique (store_of a.state).memory t.word d ((c, 0) ∷ []) stands (word_stands t) in
-      let few : length d ≡ 1 = ap (λ x. length x) one in
-      omega (arith, few, many)
