@@ -1,4 +1,10 @@
 pub mod Anf
+pub mod AnfView
+pub mod AnfWeight
+pub mod AnfFalls
+pub mod AnfCode
+pub mod ConstantCode
+pub mod Renumbering
 pub mod Captured
 pub mod AnfEvaluation
 pub mod AnfForm

@@ -7,6 +7,9 @@
 //! Below stand `box_terms` and `lambda_box`; above, `closure_lift` gives each lambda a function.
 #![tactic(auto)]
 
+pub mod lists;
+pub mod program;
+
 ghost use Rattle.anf_convert.specs.AnfEvaluation.{WordsBound};
 ghost use Rattle.anf_convert.specs.ToAnfKeeps.{ToAnfKeeps};
 ghost use Rattle.anf_convert.specs.TermForm.{ToAnfForms};
