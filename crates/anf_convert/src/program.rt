@@ -127,9 +127,10 @@ impl Model for AnfBlock {
 
     ghost size = { block_weight };
 
+    ghost use Rattle.std.proofs.Common.{arith};
     ghost use Rattle.anf_convert.specs.AnfFalls.{block_falls};
 
-    ghost size_decreases = { λ b h. block_falls b.bindings b.tail };
+    ghost size_decreases = { λ b h. let f = block_falls b.bindings b.tail in omega (arith, f.0, f.1) };
 }
 
 impl Model for Ops {
@@ -149,9 +150,10 @@ impl Model for Ops {
 
     ghost size = { bindings_weight };
 
+    ghost use Rattle.std.proofs.Common.{arith};
     ghost use Rattle.anf_convert.specs.AnfFalls.{bindings_fall};
 
-    ghost size_decreases = { λ a h. bindings_fall a.items.items };
+    ghost size_decreases = { λ a h. omega (arith, bindings_fall a.items.items) };
 }
 
 impl Model for AnfBranches {
@@ -169,9 +171,10 @@ impl Model for AnfBranches {
 
     ghost size = { branches_weight };
 
+    ghost use Rattle.std.proofs.Common.{arith};
     ghost use Rattle.anf_convert.specs.AnfFalls.{branches_fall};
 
-    ghost size_decreases = { λ a h. branches_fall a.items.items };
+    ghost size_decreases = { λ a h. omega (arith, branches_fall a.items.items) };
 }
 
 impl Model for AnfDefs {
@@ -189,7 +192,8 @@ impl Model for AnfDefs {
 
     ghost size = { defs_weight };
 
+    ghost use Rattle.std.proofs.Common.{arith};
     ghost use Rattle.anf_convert.specs.AnfFalls.{defs_fall};
 
-    ghost size_decreases = { λ a h. defs_fall a.items.items };
+    ghost size_decreases = { λ a h. omega (arith, defs_fall a.items.items) };
 }
