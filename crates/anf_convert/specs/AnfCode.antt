@@ -98,3 +98,6 @@ coded_defs = record { code = code_defs; inj = code_defs-inj }
 
 abbrev pub coded_binding : Coded Binding
 coded_binding = record { code = code_binding; inj = code_binding-inj }
+
+abbrev pub coded_op : Coded AnfOp
+coded_op = record { code = code_op; inj = code_op-inj }

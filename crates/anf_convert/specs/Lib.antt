@@ -10,6 +10,9 @@ pub mod AnfEvaluation
 pub mod AnfForm
 pub mod AnfData
 pub mod ToAnf
+pub mod OperationView
+pub mod Writing
+pub mod NamedProgram
 pub mod ToAnfKeeps
 pub mod TermForm
 pub mod Preorder

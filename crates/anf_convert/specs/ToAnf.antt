@@ -9,10 +9,8 @@ use Rattle.anf_convert.specs.Anf.{Atom, AVar, ABox, AEmpty, AnfOp, ConstOp, AppO
 pub use Rattle.anf_convert.specs.Anf.{Binding, AtomIs, OpIs, tail_of, block_of}
 
 -- an atom whose variable is counted from the outside, so that it stays what it is under more binders
-pub data Level : Type 0 where
-  LVar : (x : ℕ) → Level
-  LBoxed : Level
-  LEmpty : (c : ℕ) → Level
+pub use Rattle.anf_convert.specs.declared.level.Level.{Level}
+pub use Rattle.anf_convert.specs.declared.level.Level.TheVariants.{Var as LVar, Box as LBoxed, Empty as LEmpty}
 
 -- what a term becomes after its bindings: an atom, a constructor with its atoms so far (the last one first), or an operation
 pub data Res : Type 0 where

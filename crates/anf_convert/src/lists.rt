@@ -106,6 +106,7 @@ impl AnfConstants {
     }
 }
 
+#[tactic(auto, using(crate::proofs::ViewLists::view_laws))]
 impl Ops {
     /// The empty list, which grows by `alloc`.
     pub fn new(alloc: Global) -> Ops
@@ -156,6 +157,7 @@ impl Ops {
     }
 }
 
+#[tactic(auto, using(crate::proofs::ViewLists::view_laws))]
 impl AnfBranches {
     /// The list of the items of a vector. It takes no memory.
     pub fn of(items: Vec<AnfBranch>) -> AnfBranches
@@ -186,6 +188,7 @@ impl AnfBranches {
     }
 }
 
+#[tactic(auto, using(crate::proofs::ViewLists::view_laws))]
 impl AnfDefs {
     /// The list of the items of a vector. It takes no memory.
     pub fn of(items: Vec<AnfDef>) -> AnfDefs
