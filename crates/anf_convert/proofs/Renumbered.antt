@@ -3,7 +3,7 @@ use Rattle.std.proofs.Common.{◌≡◌, ℕ, zero, suc, ◌+◌, nat_eq, if◌t
 use Rattle.trees.specs.Tree.{Rel, Node, Done, Next}
 use Rattle.pc_terms.specs.declared.leaf.Name.{Name}
 use Rattle.pc_terms.specs.BoxSyntax.{BoxTerm, BoxTerms, Box, BLambda, BLetIn, BApp, BConst, BConstruct, BCase, BFix}
-use Rattle.lambda_box.specs.BoxProgram.{BoxConstant, BoxProgram}
+use Rattle.lambda_box.specs.BoxProgram.{BoxConstant, BoxFamily, BoxProgram}
 use Rattle.anf_convert.specs.Anf.{AnfOp, AnfBlock, TailAtom, Tail, BindAtom, Bind, AnfBranches, NoBranch, Branch, AnfDefs, NoDef, LamDef, BoxDef, AppOp, LamOp, FixOp, CaseOp, Binding, AtomIs, OpIs, tail_of, block_of}
 use Rattle.anf_convert.specs.ToAnf.{Level, LVar, LBoxed, LEmpty, Res, RAtom, RCon, ROp, Norm, Named, at_depth, binding_of, sealed, with_variable, named, nth, levels, call, name_at, then_arg, then_body, then_case, just, norm, norm_branches, norm_defs, code_of, number_in, to_anf}
 use Rattle.anf_convert.specs.Renumbering.{renumber, renumber_op, renumber_branches, renumber_defs, place_in, anf_of}
@@ -176,3 +176,8 @@ named_is P =
     let same = place_is P.constants in
     ap (λ ts. record { constants = ts; main = renumber place (code_of number_of P.main) }) (constants_are (number_in P.constants) place same P.constants)
     ∙ ap (λ t. record { constants = map (λ (c : BoxConstant). code_of (number_in P.constants) c.body) P.constants; main = t }) (sym (codes_are (number_in P.constants) place same P.main))
+
+-- so is a program of these parts
+pub parts_are : (P : BoxProgram) (cs : List AnfConstant) (fs : List BoxFamily) (main : AnfBlock) → cs ≡ map named_constant P.constants → fs ≡ P.families → main ≡ code_of number_of P.main →
+    anf_of (record { constants = cs; families = fs; main = main }) ≡ to_anf P
+parts_are P cs fs main c f m = (λ i. anf_of (record { constants = c i; families = f i; main = m i })) ∙ named_is P

@@ -136,7 +136,8 @@ fn argument(
     ensures only_memory { IfErr result (λ e. e ≡ Memory) }
 {
     let made = result(alloc, levels, out, t)?;
-    out.name(alloc, made)
+    let level = out.name(alloc, made)?;
+    Ok(level)
 }
 
 /// The block of a term under `n` more variables, at a place of `depth` variables. `Memory` as with `result`.
