@@ -35,6 +35,11 @@ pub record FollowsAt {A : Type 0} (d : Placed A) (r : Result A HaltAt) (old new 
   pub answer : AnswersAt d r new.account
   pub after : IsAfter old new
 
+-- an answer without its place
+abbrev pub halted_at : {A : Type 0} → Result A HaltAt → Result A Halt
+halted_at (Ok a) = Ok a
+halted_at (Err x) = Err x.halt
+
 -- what erasure answers, as an answer of the directed rules: the axiom that is reached is one
 abbrev pub answered : Result BoxProgram EraseRefusal → Result Answer HaltAt
 answered (Ok P) = Ok (Program P)

@@ -2,12 +2,13 @@
 ghost use Rattle.std.specs.Prelude.{◌≡◌, ◌+◌, [], ◌∷◌, length, IfOk, IfErr};
 ghost use Rattle.pc_rules.specs.Entailment.{test_of};
 ghost use Rattle.pc_rules.specs.DirectedTyping.{infer};
-ghost use Rattle.pc_rules.specs.DirectedPlaces.{at_place};
+ghost use Rattle.pc_rules.specs.Follows.{Follows};
 ghost use Rattle.pc_rules.specs.WellCounted.{IsCounted, IsCountedEnv};
 ghost use Rattle.pc_rules.specs.declared.stop.Stop.TheVariants.{Memory};
 ghost use Rattle.erase_rules.specs.DirectedErasure.{erased};
 ghost use Rattle.erase_rules.specs.DirectedProgram.{erased_constants};
-ghost use Rattle.erase.specs.AtPlaces.{FollowsAt};
+ghost use Rattle.erase.specs.AtPlaces.{FollowsAt, halted_at};
+ghost use Rattle.erase.specs.HaltPlaces.{IsAtBody, HaltsIn};
 ghost use Rattle.erase.specs.ReachedSoFar.{reached_in};
 
 use crate::names::add_names;
@@ -64,7 +65,8 @@ pub(crate) fn erased_at<T: Typer + Drop, R: Reducer + Drop>(
     requires nest { room + m.old.nest ≡ 2048 }
     requires env { IsCountedEnv env.now }
     requires counted { IsCounted env.now t.now }
-    ensures follows { FollowsAt (at_place place (erased env.now (infer env.now (test_of env.now) room) [] t.now m.old.account)) result m.old m.new }
+    ensures follows { Follows (erased env.now (infer env.now (test_of env.now) room) [] t.now m.old.account) (halted_at result) m.old m.new }
+    ensures place { IfErr result (λ x. x.place ≡ place) }
 {
     match eraser.erased(alloc, env, &Ctx::new(), room, t, m) {
         Ok(t) => Ok(t),
@@ -85,6 +87,7 @@ pub(crate) fn reach_constants<T: Typer + Drop, R: Reducer + Drop>(
     requires nest { room + m.old.nest ≡ 2048 }
     requires env { IsCountedEnv env.now }
     ensures follows { FollowsAt (erased_constants env.now (infer env.now (test_of env.now) room) (main.now ∷ []) env.now.declarations m.old.account) (reached_in result) m.old m.new }
+    ensures halted { IfErr result (λ x. HaltsIn (IsAtBody env.now (infer env.now (test_of env.now) room) (main.now ∷ []) env.now.declarations m.old.account) x.place x.halt m.new.account) }
 {
     let Ok(mut place) = count(env) else {
         return Err(no_memory(Place::Main));

@@ -7,11 +7,13 @@ ghost use Rattle.pc_rules.specs.Accepted.{IsAccepted};
 ghost use Rattle.pc_rules.specs.Environment.{KeepsConstant};
 ghost use Rattle.pc_rules.specs.Typing.{Types, guarded};
 ghost use Rattle.pc_rules.specs.Entailment.{test_of};
+ghost use Rattle.pc_rules.specs.DirectedTyping.{infer};
 ghost use Rattle.lambda_box.specs.BoxForm.{IsBoxProgram};
 ghost use Rattle.erase_laws.specs.ErasedProgram.{HasErased, IsErased};
 ghost use Rattle.erase_rules.specs.DirectedProgram.{erased_program};
 ghost use Rattle.erase_rules.specs.Laws.{AreFewCounts, program_nodes, body_nodes};
 ghost use Rattle.erase.specs.AtPlaces.{FollowsAt, answered};
+ghost use Rattle.erase.specs.HaltPlaces.{HaltsAtPlace};
 ghost use Rattle.erase.specs.Kept.{AreNoGreater, KeepsValue};
 ghost use Rattle.erase.specs.declared.refusal.EraseRefusal.TheVariants.{AxiomReached};
 
@@ -47,6 +49,7 @@ pub fn erase<T: Typer, R: Reducer>(
     requires typed { Types guarded acc.now.env [] acc.now.main acc.now.main_type }
     requires few { AreFewCounts acc.now.env }
     ensures follows { FollowsAt (erased_program acc.now.env (test_of acc.now.env) (2048 - m.old.nest) acc.now.main m.old.account) (answered result) m.old m.new }
+    ensures halted { IfErr result (λ e. HaltsAtPlace acc.now.env (infer acc.now.env (test_of acc.now.env) (2048 - m.old.nest)) acc.now.main m.old.account e m.new.account) }
     ensures erased { IfOk result (IsErased acc.now.env acc.now.main) }
     ensures sources { IfOk result (HasErased acc.now.env) }
     ensures form { IfOk result IsBoxProgram }
