@@ -128,7 +128,7 @@ module _ (E : Env) (inf : Typing) (ts : List BoxTerm) where
     with_body b' v = and_then (erased_constants E inf (b' ∷ ts) ds v) (λ r w. gives (with_constant k b' r) w)
 
     with_rest : (r : Result Reached HaltAt) (m0 m1 : Meter) → FollowsAt (and_then (body_run m0.account) with_body) r m0 m1 → FollowsAt (walked (Constant k T (Some b) ∷ ds) m0.account) r m0 m1
-    unfolding erased_constants, with_body
+    unfolding erased_constants with_body
     with_rest r m0 m1 f =
         subst (λ s. FollowsAt
         (if s

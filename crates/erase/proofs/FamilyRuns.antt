@@ -24,8 +24,11 @@ module _ (B : Block) (Fs : List Family) where
       out ++ (counts_of (record { block = B.name; family = i }) (with_parameters B.params F) ∷ []) ≡ first ++ reverse (from_family i)
   families_back first out i F l e h =
       let G : BoxFamily = counts_of (record { block = B.name; family = i }) (with_parameters B.params F) in
-      ap (λ xs. xs ++ (G ∷ [])) h ∙ append_assoc first (reverse (from_family (i + 1))) (G ∷ [])
-      ∙ ap (λ xs. first ++ xs) (sym (reverse-append (G ∷ []) (families_from B (i + 1) (drop (i + 1) Fs))))
+      let next : i + 1 ≡ suc i = omega arith in
+      let X : List BoxFamily = families_from B (suc i) (drop (i + 1) Fs) in
+      let h' : out ≡ first ++ reverse X = h ∙ ap (λ n. first ++ reverse (families_from B n (drop (i + 1) Fs))) next in
+      let turned : reverse (G ∷ X) ≡ reverse X ++ (G ∷ []) = reverse-append (G ∷ []) X in
+      ap (λ xs. xs ++ (G ∷ [])) h' ∙ append_assoc first (reverse X) (G ∷ []) ∙ ap (λ xs. first ++ xs) (sym turned)
       ∙ ap (λ Gs. first ++ reverse (families_from B i Gs)) (sym (next_is Fs i F l e))
 
 -- one more block is behind those that are declared later

@@ -1,5 +1,5 @@
 -- How answers follow rules that are done one after the other at places.
-use Rattle.std.proofs.Common.{◌≡◌, ◌∙◌, ap, ◌||◌, Result, Ok, Err, IsTrue, refl}
+use Rattle.std.proofs.Common.{◌≡◌, ◌∙◌, ap, sym, subst, ◌||◌, Result, Ok, Err, IsTrue, refl}
 use Rattle.pc_rules.specs.declared.broken.Place.{Place}
 use Rattle.pc_rules.specs.declared.meter.Account.{Account}
 use Rattle.pc_rules.specs.declared.meter.Meter.{Meter}
@@ -69,3 +69,13 @@ module _ {A B : Type 0} (d : Placed A) (k : A → Account → Placed B) where
   -- the first part is refused or stops
   pub then_halts : (x : HaltAt) (m0 m1 : Meter) → FollowsAt d (Err x) m0 m1 → FollowsAt (and_then d k) (Err x) m0 m1
   then_halts x m0 m1 f = record { answer = first_halts x.place x.halt m1.account f.answer; after = f.after }
+
+-- a halt that names its place, and want of memory wherever it is said to stand
+
+pub at_halted_by : {A : Type 0} (p : Place) (d : Run A) (x : HaltAt) (m0 m1 : Meter) → x.place ≡ p → Follows d (Err x.halt) m0 m1 → FollowsAt (at_place p d) (Err x) m0 m1
+at_halted_by p d x m0 m1 e f =
+    subst (λ q. FollowsAt (at_place p d) (Err (record { place = q; halt = x.halt })) m0 m1) (sym e) (at_halted p d x.halt m0 m1 f)
+
+pub no_room_by : {A : Type 0} (d : Placed A) (x : HaltAt) (m0 m1 : Meter) → x.halt ≡ Stop Memory → IsAfter m0 m1 → FollowsAt d (Err x) m0 m1
+no_room_by d x m0 m1 e a =
+    subst (λ h. FollowsAt d (Err (record { place = x.place; halt = h })) m0 m1) (sym e) (no_room d x.place m0 m1 a)

@@ -32,14 +32,14 @@ module _ (E : Env) (q : Test) (n : ℕ) (main : Term) where
   walk_then main' v = and_then (erased_constants E (infer E q n) (main' ∷ []) E.declarations v) (answered_then main')
 
   pub main_halts : (x : HaltAt) (m0 m1 : Meter) → x.place ≡ AtMain → Follows (erased E (infer E q n) [] main m0.account) (Err x.halt) m0 m1 → FollowsAt (whole m0.account) (Err x) m0 m1
-  unfolding walk_then, answered_then
+  unfolding walk_then answered_then
   main_halts x m0 m1 e f =
       subst (λ p. FollowsAt (whole m0.account) (Err (record { place = p; halt = x.halt })) m0 m1) (sym e)
       (then_halts (main_run m0.account) walk_then (record { place = AtMain; halt = x.halt }) m0 m1 (at_halted AtMain (erased E (infer E q n) [] main m0.account) x.halt m0 m1 f))
 
   module _ (main' : BoxTerm) (m0 m1 m2 : Meter) (f : Follows (erased E (infer E q n) [] main m0.account) (Ok main') m0 m1) where
     main_goes : (r : Result Answer HaltAt) → FollowsAt (walk_then main' m1.account) r m1 m2 → FollowsAt (whole m0.account) r m0 m2
-    unfolding walk_then, answered_then
+    unfolding walk_then answered_then
     main_goes r g = then_goes (main_run m0.account) walk_then main' r m0 m1 m2 (at_done AtMain (erased E (infer E q n) [] main m0.account) main' m0 m1 f) g
 
     pub walk_halts : (x : HaltAt) → FollowsAt (erased_constants E (infer E q n) (main' ∷ []) E.declarations m1.account) (Err x) m1 m2 → FollowsAt (whole m0.account) (Err x) m0 m2
@@ -48,7 +48,7 @@ module _ (E : Env) (q : Test) (n : ℕ) (main : Term) where
 
     walk_goes : (r : Reached) (a : Answer) → answer E main' r r.without_body ≡ a → FollowsAt (erased_constants E (infer E q n) (main' ∷ []) E.declarations m1.account) (Ok r) m1 m2 →
         FollowsAt (whole m0.account) (Ok a) m0 m2
-    unfolding walk_then, answered_then
+    unfolding walk_then answered_then
     walk_goes r a e g =
         main_goes (Ok a)
         (then_goes (erased_constants E (infer E q n) (main' ∷ []) E.declarations m1.account) (answered_then main') r (Ok a) m1 m2 m2 g

@@ -26,6 +26,7 @@ pub(crate) fn short(items: usize) -> Result<u32, Stop>
 }
 
 /// How many arguments each constructor has. Only `Memory`.
+#[tactic(auto, using(std::proofs::lemmas::Grind::common_steps))]
 fn arities(alloc: Global, ctors: &Constructors) -> Result<Numbers, Stop>
     ensures ok { IfOk result (λ ns. ns ≡ map arguments_of ctors.now) }
     ensures only_memory { IfErr result (λ s. s ≡ Memory) }

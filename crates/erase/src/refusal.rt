@@ -1,7 +1,7 @@
 //! Why an accepted environment is not erased.
 ghost use Rattle.std.specs.Prelude.{◌≡◌};
 ghost use Rattle.pc_rules.specs.declared.stop.Stop.TheVariants.{Memory};
-ghost use Rattle.pc_rules.specs.declared.stop.Halt.TheVariants.{Stop};
+ghost use Rattle.pc_rules.specs.declared.stop.Halt.TheVariants.{Stop as Stopped};
 
 use pc_rules::broken::Place;
 use pc_rules::stop::{Halt, Stop};
@@ -38,7 +38,7 @@ impl From<HaltAt> for EraseRefusal {
 /// Want of memory at a place.
 pub(crate) fn no_memory(place: Place) -> HaltAt
     ensures place { result.place ≡ place }
-    ensures memory { result.halt ≡ Stop Memory }
+    ensures memory { result.halt ≡ Stopped Memory }
 {
     HaltAt {
         place,
