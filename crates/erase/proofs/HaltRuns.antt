@@ -1,5 +1,5 @@
 -- What halts erasure, with its place.
-use Rattle.std.proofs.Common.{◌≡◌, subst, sym, true, false, List, [], ◌∷◌, ◌++◌, Option, Some, None}
+use Rattle.std.proofs.Common.{◌≡◌, subst, sym, true, false, List, [], ◌∷◌, ◌++◌, Option, Some, None, refl}
 use Rattle.pc_terms.specs.declared.leaf.Name.{Name}
 use Rattle.pc_terms.specs.Syntax.{Term}
 use Rattle.pc_terms.specs.BoxSyntax.{BoxTerm}
@@ -19,6 +19,10 @@ use Rattle.erase_rules.specs.DirectedErasure.{erased}
 use Rattle.erase_rules.specs.DirectedProgram.{is_reached}
 use Rattle.erase.specs.HaltPlaces.{IsPassed, IsAtBody, now, later, passed, HaltsIn}
 use Rattle.erase.proofs.ConstantRuns.{onto, onto_more}
+
+pub none_by : {A : Type 0} (o : Option A) → ((a : A) → o ≡ Some a → ⊥) → o ≡ None
+none_by None h = refl
+none_by (Some a) h = absurd (h a refl)
 
 abbrev pub Coming : Type 1
 Coming = Place → Run BoxTerm → Type 0

@@ -12,12 +12,8 @@ use Rattle.erase.specs.AtPlaces.{FollowsAt}
 use Rattle.erase.specs.HaltPlaces.{IsAtBody, now, passed}
 use Rattle.erase.proofs.PlacedRuns.{at_done, at_halted_by, no_room_by}
 use Rattle.erase.proofs.ConstantRuns.{onto, onto_more, after_met, constant_met, axiom_met, after_constant, after_axiom, after_all, nothing_met, walk_ends, walk_passes_block, walk_passes, walk_meets_axiom, body_halts, body_goes}
-use Rattle.erase.proofs.HaltRuns.{halts_in, no_constant_passed, unreached_passed, axiom_passed, comes_later}
+use Rattle.erase.proofs.HaltRuns.{none_by, halts_in, no_constant_passed, unreached_passed, axiom_passed, comes_later}
 use Rattle.erase.proofs.constants.reach_constants.Goals as goal
-
-none_by : {A : Type 0} (o : Option A) → ((a : A) → o ≡ Some a → ⊥) → o ≡ None
-none_by None h = refl
-none_by (Some a) h = absurd (h a refl)
 
 pub loop-kept-preserved-in_default-kept : goal.loop-kept-preserved-in_default-kept
 loop-kept-preserved-in_default-kept g c =
