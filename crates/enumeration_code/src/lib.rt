@@ -48,9 +48,9 @@ fn export_of(
     })
 }
 
-/// The exports of the module.
+/// The exports, which are those of each such module.
 fn exports_of(alloc: Global) -> Result<Exports, AllocError>
-    ensures is { IfOk result (λ es. es ≡ export Entry.Main ExportKind.Func 0 ∷ export Entry.Memory ExportKind.Memory 0 ∷ export Entry.Result ExportKind.Global 0 ∷ export Entry.Status ExportKind.Global 1 ∷ []) }
+    ensures is { IfOk result (λ es. es ≡ (enumeration_module 0 0).exports) }
 {
     let main = export_of(alloc, Entry::Main, ExportKind::Func, 0)?;
     let memory = export_of(alloc, Entry::Memory, ExportKind::Memory, 0)?;
