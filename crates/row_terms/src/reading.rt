@@ -1,5 +1,5 @@
 //! The environment of a row, and terms that are made for it.
-ghost use Rattle.std.specs.Prelude.{IfOk};
+ghost use Rattle.std.specs.Prelude.{◌≡◌, Ok, IfOk};
 ghost use Rattle.dump_reader.specs.Spelled.{IsSpelled};
 
 use dump_reader::environment::RawEnv;
@@ -19,10 +19,10 @@ pub fn read(case: &Case) -> Result<RawEnv, Fault>
 }
 
 /// What was made; a term that is too deep is a fault of the row.
-pub fn made<T>(made: Result<T, MakeFault>) -> Result<T, Fault>
-    ensures same { IfOk result (λ t. made ≡ Ok t) }
+pub fn made<T>(came: Result<T, MakeFault>) -> Result<T, Fault>
+    ensures same { IfOk result (λ t. came ≡ Ok t) }
 {
-    match made {
+    match came {
         Ok(made) => Ok(made),
         Err(MakeFault::TooDeep) => Err(Fault::Faulty("a term is too deep")),
         Err(MakeFault::Memory) => Err(Fault::Memory),

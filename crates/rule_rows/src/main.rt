@@ -1,0 +1,64 @@
+//! The rows of the rules below the checker: what they stand on, what they form, and how they reduce, with what the calls are to answer.
+//! `row_files` has the format of rows, `row_terms` that of their terms.
+//!
+//! Environments are kept unchecked here, so that open and ill-typed terms can stand in rows.
+//!
+//! | Table | Calls |
+//! |---|---|
+//! | `rules` | `meter` (`units:`, `tick:`, `note:`, `uses:`, `enter:`, `leave:`), `context`, `long context` (`times:`), `keep`, `heads` (`number:`) |
+//! | `forms` | `ind_type`, `pred_entries`, `construct_type`, `branch_entries` (`parameter:`), `branch_type` (`branch:`), `pred_at` (`index:`, `scrutinee:`), `fix_unfold` (`definition:`) |
+//! | `reductions` | `whnf`, `whnf nested` (`times:`), with `units:` |
+#![tactic(auto)]
+
+mod contexts;
+mod forms;
+mod keeping;
+mod known;
+mod metering;
+mod reductions;
+mod unchecked;
+
+use row_files::{Case, Fault, Table, run_tables};
+use std::io;
+
+/// The layers, each with a table.
+#[derive(Clone, Copy)]
+enum Layer {
+    Rules,
+    Forms,
+    Reductions,
+}
+
+/// Runs a row of the layer below the rules.
+fn run_rules(case: &Case, out: &mut String) -> Result<(), Fault> {
+    match case.row.given("call")? {
+        "meter" => metering::run_meter(case, out),
+        "context" => contexts::run_context(case, out),
+        "long context" => contexts::run_long_context(case, out),
+        "keep" => keeping::run_keep(case, out),
+        "heads" => keeping::run_heads(case, out),
+        _ => Err(Fault::Faulty("no such call")),
+    }
+}
+
+impl Table for Layer {
+    fn file(&self) -> &str {
+        match self {
+            Layer::Rules => "rules.rows",
+            Layer::Forms => "forms.rows",
+            Layer::Reductions => "reductions.rows",
+        }
+    }
+
+    fn run(&self, case: &Case, out: &mut String) -> Result<(), Fault> {
+        match self {
+            Layer::Rules => run_rules(case, out),
+            Layer::Forms => forms::run(case, out),
+            Layer::Reductions => reductions::run(case, out),
+        }
+    }
+}
+
+fn main(rt: HostRuntime) -> io::Result<()> {
+    run_tables(&rt, &[Layer::Rules, Layer::Forms, Layer::Reductions])
+}
