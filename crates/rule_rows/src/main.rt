@@ -1,20 +1,23 @@
-//! The rows of the rules below the checker: what they stand on, what they form, and how they reduce, with what the calls are to answer.
+//! The rows of the rules: what they stand on, what they form, how they reduce and compare, with what the calls are to answer.
 //! `row_files` has the format of rows, `row_terms` that of their terms.
 //!
-//! Environments are kept unchecked here, so that open and ill-typed terms can stand in rows.
+//! Environments are kept unchecked, so that open and ill-typed terms can stand in rows; but for comparison, which asks for what is checked.
 //!
 //! | Table | Calls |
 //! |---|---|
 //! | `rules` | `meter` (`units:`, `tick:`, `note:`, `uses:`, `enter:`, `leave:`), `context`, `long context` (`times:`), `keep`, `heads` (`number:`) |
 //! | `forms` | `ind_type`, `pred_entries`, `construct_type`, `branch_entries` (`parameter:`), `branch_type` (`branch:`), `pred_at` (`index:`, `scrutinee:`), `fix_unfold` (`definition:`) |
 //! | `reductions` | `whnf`, `whnf nested` (`times:`), with `units:` |
+//! | `conversions` | `below`, `equal` (`other:`), `below doubled`, `equal doubled` (`doublings:`), each with `units:`, `products:` and `entered:` |
 #![tactic(auto)]
 
 mod contexts;
+mod conversions;
 mod forms;
 mod keeping;
 mod known;
 mod metering;
+mod products;
 mod reductions;
 mod unchecked;
 
@@ -27,6 +30,7 @@ enum Layer {
     Rules,
     Forms,
     Reductions,
+    Conversions,
 }
 
 /// Runs a row of the layer below the rules.
@@ -47,6 +51,7 @@ impl Table for Layer {
             Layer::Rules => "rules.rows",
             Layer::Forms => "forms.rows",
             Layer::Reductions => "reductions.rows",
+            Layer::Conversions => "conversions.rows",
         }
     }
 
@@ -55,10 +60,19 @@ impl Table for Layer {
             Layer::Rules => run_rules(case, out),
             Layer::Forms => forms::run(case, out),
             Layer::Reductions => reductions::run(case, out),
+            Layer::Conversions => conversions::run(case, out),
         }
     }
 }
 
 fn main(rt: HostRuntime) -> io::Result<()> {
-    run_tables(&rt, &[Layer::Rules, Layer::Forms, Layer::Reductions])
+    run_tables(
+        &rt,
+        &[
+            Layer::Rules,
+            Layer::Forms,
+            Layer::Reductions,
+            Layer::Conversions,
+        ],
+    )
 }

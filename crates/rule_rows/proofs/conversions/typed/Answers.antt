@@ -1,6 +1,6 @@
 use Rattle.rule_laws.proofs.Names.{accepted_once}
 use Rattle.rule_laws.proofs.TypedCounts.{typed_counted, accepted_counted}
-use Rattle.check_rows.proofs.conversions.typed.Goals as goal
+use Rattle.rule_rows.proofs.conversions.typed.Goals as goal
 
 pub infer-requires-clause-env : goal.infer-requires-clause-env
 infer-requires-clause-env c = accepted_counted c.args.env.now c.requires.accepted

@@ -1,8 +1,9 @@
 //! Broken rules with what they keep.
+use crate::shown::put_term;
+use crate::sorts::{put_family, put_level, put_name, put_sort};
 use dump_reader::environment::RawEnv;
 use pc_rules::broken::{Broken, Clash};
 use pc_terms::term::Term;
-use row_terms::{put_family, put_level, put_name, put_sort, put_term};
 use std::alloc::AllocError;
 use universe_levels::sort::Sort;
 

@@ -3,7 +3,6 @@ ghost use Rattle.std.specs.Prelude.{IfOk};
 ghost use Rattle.pc_rules.specs.Accepted.{IsAccepted};
 ghost use Rattle.pc_rules.specs.WellCounted.{IsCounted, IsCountedEnv};
 
-use crate::broken::put_broken;
 use crate::products::{doubled, products};
 use conversion::comparison::Compare;
 use dump_reader::environment::RawEnv;
@@ -18,7 +17,7 @@ use pc_rules::typer::Typer;
 use pc_terms::term::Term;
 use reduction::substitution::Subst;
 use row_files::{Case, Fault};
-use row_terms::{Opened, made, put_stop, read};
+use row_terms::{Opened, made, put_broken, put_stop, read};
 use std::alloc::{AllocError, Global};
 use type_infer::inference::Inference;
 

@@ -1,5 +1,4 @@
 //! The layer of whole environments: `check` and `kept`.
-use crate::broken::put_broken;
 use crate::kept::put_kept;
 use dump_reader::environment::RawEnv;
 use env_check::check::check_env;
@@ -10,7 +9,7 @@ use pc_rules::meter::Meter;
 use pc_rules::stop::Stop;
 use reduction::substitution::Subst;
 use row_files::{Case, Fault};
-use row_terms::{put_stop, put_term, read};
+use row_terms::{put_broken, put_stop, put_term, read};
 use std::alloc::AllocError;
 
 /// As many units as a job gives where it is not told.
