@@ -1,4 +1,6 @@
 //! The layer of whole environments: `check` and `kept`.
+ghost use Rattle.dump_reader.specs.Spelled.{IsSpelled};
+
 use crate::kept::put_kept;
 use dump_reader::environment::RawEnv;
 use env_check::check::check_env;
@@ -78,27 +80,50 @@ fn put_checked(
     }
 }
 
-/// Reads an environment, and checks it with `units`, or as many as a job has. With `units`, what is left and the uses of rules are told.
+/// The units that are left, where the row tells how many there were, and the uses of rules where the environment was accepted.
+fn put_units(
+    case: &Case,
+    out: &mut String,
+    checked: &Result<Accepted, Refusal>,
+    m: &Meter,
+) -> Result<(), AllocError> {
+    if case.row.value("units").is_none() {
+        Ok(())
+    } else if checked.is_ok() {
+        put_account(out, m)
+    } else {
+        put_left(out, m)
+    }
+}
+
+/// Checks an environment with `units`, or as many as a job has. With `units`, what is left and the uses of rules are told.
+fn check_raw(case: &Case, raw: &RawEnv, out: &mut String) -> Result<(), Fault>
+    requires spelled { IsSpelled raw.now }
+{
+    let mut m = Meter::new(case.row.number("units", UNITS)?);
+    let checked = check_env(case.alloc, &Subst, raw, &mut m);
+    put_checked(out, raw, &checked)?;
+    Ok(put_units(case, out, &checked, &m)?)
+}
+
+/// Reads an environment, and checks it.
 fn run_check(case: &Case, out: &mut String) -> Result<(), Fault> {
     let raw = read(case)?;
-    let mut m = Meter::new(case.row.number("units", UNITS)?);
-    let checked = check_env(case.alloc, &Subst, &raw, &mut m);
-    put_checked(out, &raw, &checked)?;
-    if case.row.value("units").is_none() {
-        return Ok(());
-    }
-    if checked.is_ok() {
-        Ok(put_account(out, &m)?)
-    } else {
-        Ok(put_left(out, &m)?)
+    check_raw(case, &raw, out)
+}
+
+/// Checks an environment, and tells what is kept.
+fn keep_raw(case: &Case, raw: &RawEnv, out: &mut String) -> Result<(), AllocError>
+    requires spelled { IsSpelled raw.now }
+{
+    match check_env(case.alloc, &Subst, raw, &mut Meter::new(UNITS)) {
+        Ok(accepted) => put_kept(out, raw, &accepted.env),
+        Err(refusal) => put_refusal(out, raw, &refusal),
     }
 }
 
 /// Reads an environment, checks it, and tells what is kept: blocks with their families, constructors and the sorts of their arguments.
 fn run_kept(case: &Case, out: &mut String) -> Result<(), Fault> {
     let raw = read(case)?;
-    match check_env(case.alloc, &Subst, &raw, &mut Meter::new(UNITS)) {
-        Ok(accepted) => Ok(put_kept(out, &raw, &accepted.env)?),
-        Err(refusal) => Ok(put_refusal(out, &raw, &refusal)?),
-    }
+    Ok(keep_raw(case, &raw, out)?)
 }

@@ -65,15 +65,19 @@ fn put_entries(out: &mut String, ctx: &Ctx, shared: &Ctx) -> Result<(), AllocErr
     put_entry(out, ctx, length)
 }
 
-/// The entries of the row's context, of a context that shares it, and one number more.
-pub fn run_context(case: &Case, out: &mut String) -> Result<(), Fault> {
-    let opened = Opened::of(case)?;
-    let ctx = context(case, &opened)?;
+/// The entries of a context, of one that shares it, and one number more.
+fn put_shared(out: &mut String, ctx: &Ctx) -> Result<(), Fault> {
     let shared = done(ctx.share())?;
-    put_entries(out, &ctx, &shared)?;
+    put_entries(out, ctx, &shared)?;
     let empty = Ctx::new().len();
     write!(out, ", the empty one has {empty}")?;
     Ok(())
+}
+
+/// The entries of the row's context, of a context that shares it, and one number more.
+pub fn run_context(case: &Case, opened: &Opened, out: &mut String) -> Result<(), Fault> {
+    let ctx = context(case, opened)?;
+    put_shared(out, &ctx)
 }
 
 /// A context of so many variables of a type.
@@ -85,13 +89,18 @@ fn repeated(alloc: Global, ty: &Term, times: u32) -> Result<Ctx, Stop> {
     Ok(ctx)
 }
 
-/// A context of `times` entries, which is let go of in the end: level by level it would not fit the stack.
-pub fn run_long_context(case: &Case, out: &mut String) -> Result<(), Fault> {
-    let opened = Opened::of(case)?;
-    let times = case.row.index("times")?;
-    let ctx = done(repeated(case.alloc, opened.term(case, "assumed")?, times))?;
+/// The length of a context, its last entry, and one number more.
+fn put_long(out: &mut String, ctx: &Ctx, times: u32) -> Result<(), AllocError> {
     let length = ctx.len();
     write!(out, "length {length}")?;
-    put_entry(out, &ctx, times.saturating_sub(1))?;
-    Ok(put_entry(out, &ctx, times)?)
+    put_entry(out, ctx, times.saturating_sub(1))?;
+    put_entry(out, ctx, times)
+}
+
+/// A context of `times` entries, which is let go of in the end: level by level it would not fit the stack.
+pub fn run_long_context(case: &Case, opened: &Opened, out: &mut String) -> Result<(), Fault> {
+    let times = case.row.index("times")?;
+    let ty = opened.term(case, "assumed")?;
+    let ctx = done(repeated(case.alloc, ty, times))?;
+    Ok(put_long(out, &ctx, times)?)
 }

@@ -1,5 +1,6 @@
 //! The layer of comparison: `below` and `equal`, in a checked environment and the empty context, of terms that have types there.
 ghost use Rattle.std.specs.Prelude.{IfOk};
+ghost use Rattle.dump_reader.specs.Spelled.{IsSpelled};
 ghost use Rattle.pc_rules.specs.Accepted.{IsAccepted};
 ghost use Rattle.pc_rules.specs.WellCounted.{IsCounted, IsCountedEnv};
 
@@ -33,11 +34,25 @@ enum Comparison {
 
 /// Runs a row of the layer.
 pub fn run(case: &Case, out: &mut String) -> Result<(), Fault> {
+    let opened = Opened::of(case)?;
+    run_opened(case, &opened, out)
+}
+
+/// Runs a row in its environment, checked.
+fn run_opened(case: &Case, opened: &Opened, out: &mut String) -> Result<(), Fault> {
+    let env = checked(case)?;
+    run_in(case, opened, &env, out)
+}
+
+/// Makes the call of a row.
+fn run_in(case: &Case, opened: &Opened, env: &Env, out: &mut String) -> Result<(), Fault>
+    requires accepted { IsAccepted env.now }
+{
     match case.row.given("call")? {
-        "below" => run_two(case, Comparison::Below, out),
-        "equal" => run_two(case, Comparison::Equal, out),
-        "below doubled" => run_doubled(case, Comparison::Below, out),
-        "equal doubled" => run_doubled(case, Comparison::Equal, out),
+        "below" => run_two(case, opened, env, Comparison::Below, out),
+        "equal" => run_two(case, opened, env, Comparison::Equal, out),
+        "below doubled" => run_doubled(case, opened, env, Comparison::Below, out),
+        "equal doubled" => run_doubled(case, opened, env, Comparison::Equal, out),
         _ => Err(Fault::Faulty("no such call")),
     }
 }
@@ -47,7 +62,15 @@ fn checked(case: &Case) -> Result<Env, Fault>
     ensures accepted { IfOk result IsAccepted }
 {
     let raw = read(case)?;
-    match check_env(case.alloc, &Subst, &raw, &mut Meter::new(UNITS)) {
+    checked_of(case.alloc, &raw)
+}
+
+/// An environment, checked.
+fn checked_of(alloc: Global, raw: &RawEnv) -> Result<Env, Fault>
+    requires spelled { IsSpelled raw.now }
+    ensures accepted { IfOk result IsAccepted }
+{
+    match check_env(alloc, &Subst, raw, &mut Meter::new(UNITS)) {
         Ok(accepted) => Ok(accepted.env),
         Err(_) => Err(Fault::Faulty("the environment is not accepted")),
     }
@@ -85,13 +108,13 @@ fn side(case: &Case, opened: &Opened, env: &Env, key: &str) -> Result<Term, Faul
     under(case.alloc, env, term, count)
 }
 
-/// A meter of so many units, where so many rules stand already.
-fn metered(units: u64, rules: u64) -> Meter {
-    let mut m = Meter::new(units);
-    for _ in 0..rules {
+/// A meter of `units`, where `entered` rules stand already.
+fn metered(case: &Case) -> Result<Meter, Fault> {
+    let mut m = Meter::new(case.row.number("units", UNITS)?);
+    for _ in 0..case.row.number("entered", 0)? {
         let _ = m.enter();
     }
-    m
+    Ok(m)
 }
 
 /// Compares two terms in the empty context.
@@ -133,43 +156,115 @@ fn put_compared(
 /// Compares two terms with `units`, where `entered` rules stand already, and tells the units that are left.
 fn compare(
     case: &Case,
-    comparison: Comparison,
+    opened: &Opened,
     env: &Env,
-    sides: (&Term, &Term),
-    raw: &RawEnv,
+    comparison: Comparison,
+    a: &Term,
+    b: &Term,
     out: &mut String,
 ) -> Result<(), Fault>
     requires accepted { IsAccepted env.now }
-    requires left { IsCounted env.now sides.0.now }
-    requires right { IsCounted env.now sides.1.now }
+    requires left { IsCounted env.now a.now }
+    requires right { IsCounted env.now b.now }
 {
-    let mut m = metered(
-        case.row.number("units", UNITS)?,
-        case.row.number("entered", 0)?,
-    );
-    let (a, b) = sides;
+    let mut m = metered(case)?;
     let came = compared(case.alloc, comparison, env, a, b, &mut m);
-    Ok(put_compared(out, raw, came, &m)?)
+    Ok(put_compared(out, &opened.raw, came, &m)?)
+}
+
+/// Compares a term with `other`.
+fn compare_other(
+    case: &Case,
+    opened: &Opened,
+    env: &Env,
+    comparison: Comparison,
+    a: &Term,
+    out: &mut String,
+) -> Result<(), Fault>
+    requires accepted { IsAccepted env.now }
+    requires left { IsCounted env.now a.now }
+{
+    let b = side(case, opened, env, "other")?;
+    compare(case, opened, env, comparison, a, &b, out)
 }
 
 /// Compares `term` with `other`.
-fn run_two(case: &Case, comparison: Comparison, out: &mut String) -> Result<(), Fault> {
-    let opened = Opened::of(case)?;
-    let env = checked(case)?;
-    let a = side(case, &opened, &env, "term")?;
-    let b = side(case, &opened, &env, "other")?;
-    compare(case, comparison, &env, (&a, &b), &opened.raw, out)
+fn run_two(
+    case: &Case,
+    opened: &Opened,
+    env: &Env,
+    comparison: Comparison,
+    out: &mut String,
+) -> Result<(), Fault>
+    requires accepted { IsAccepted env.now }
+{
+    let a = side(case, opened, env, "term")?;
+    compare_other(case, opened, env, comparison, &a, out)
+}
+
+/// The product of a term and itself.
+fn once_doubled(alloc: Global, env: &Env, term: &Term) -> Result<Term, Fault>
+    requires counted { IsCounted env.now term.now }
+    ensures counted { IfOk result (IsCounted env.now) }
+{
+    let same = made(term.share())?;
+    made(doubled(alloc, 1, same))
+}
+
+/// `term`, doubled `doublings` times.
+fn doubled_term(case: &Case, opened: &Opened, env: &Env) -> Result<Term, Fault>
+    requires accepted { IsAccepted env.now }
+    ensures counted { IfOk result (IsCounted env.now) }
+{
+    let doublings = case.row.number("doublings", 0)?;
+    let term = side(case, opened, env, "term")?;
+    made(doubled(case.alloc, doublings, term))
+}
+
+/// Compares the product of a term and itself, `a`, with one that is made anew.
+fn compare_anew(
+    case: &Case,
+    opened: &Opened,
+    env: &Env,
+    comparison: Comparison,
+    whole: &Term,
+    a: &Term,
+    out: &mut String,
+) -> Result<(), Fault>
+    requires accepted { IsAccepted env.now }
+    requires counted { IsCounted env.now whole.now }
+    requires left { IsCounted env.now a.now }
+{
+    let b = once_doubled(case.alloc, env, whole)?;
+    compare(case, opened, env, comparison, a, &b, out)
+}
+
+/// Compares two products of a term and itself.
+fn compare_doubled(
+    case: &Case,
+    opened: &Opened,
+    env: &Env,
+    comparison: Comparison,
+    whole: &Term,
+    out: &mut String,
+) -> Result<(), Fault>
+    requires accepted { IsAccepted env.now }
+    requires counted { IsCounted env.now whole.now }
+{
+    let a = once_doubled(case.alloc, env, whole)?;
+    compare_anew(case, opened, env, comparison, whole, &a, out)
 }
 
 /// Compares two products of `term`, doubled `doublings` times, with itself: no walk over so many leaves would come to an end.
-fn run_doubled(case: &Case, comparison: Comparison, out: &mut String) -> Result<(), Fault> {
-    let opened = Opened::of(case)?;
-    let env = checked(case)?;
-    let term = side(case, &opened, &env, "term")?;
-    let doublings = case.row.number("doublings", 0)?;
-    let whole = made(doubled(case.alloc, doublings, term))?;
-    let again = made(whole.share())?;
-    let a = made(doubled(case.alloc, 1, again))?;
-    let b = made(doubled(case.alloc, 1, whole))?;
-    compare(case, comparison, &env, (&a, &b), &opened.raw, out)
+fn run_doubled(
+    case: &Case,
+    opened: &Opened,
+    env: &Env,
+    comparison: Comparison,
+    out: &mut String,
+) -> Result<(), Fault>
+    requires accepted { IsAccepted env.now }
+{
+    let whole = doubled_term(case, opened, env)?;
+    compare_doubled(case, opened, env, comparison, &whole, out)
 }

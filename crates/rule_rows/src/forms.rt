@@ -5,6 +5,7 @@ use crate::unchecked::unchecked;
 use instances::instantiations::{
     branch_entries, branch_type, construct_type, fix_unfold, ind_type, pred_at, pred_entries,
 };
+use pc_rules::environment::Env;
 use pc_rules::stop::Stop;
 use pc_terms::lists::Telescope;
 use pc_terms::term::{Node, Term};
@@ -14,15 +15,26 @@ use row_terms::{Opened, put_stop, put_term};
 /// Runs a row of the layer.
 pub fn run(case: &Case, out: &mut String) -> Result<(), Fault> {
     let opened = Opened::of(case)?;
+    run_opened(case, &opened, out)
+}
+
+/// Runs a row in the environment that keeps what was read.
+fn run_opened(case: &Case, opened: &Opened, out: &mut String) -> Result<(), Fault> {
+    let env = unchecked(case.alloc, opened)?;
+    run_on(case, opened, &env, out)
+}
+
+/// Makes the call of a row on its `term`.
+fn run_on(case: &Case, opened: &Opened, env: &Env, out: &mut String) -> Result<(), Fault> {
     let term = opened.term(case, "term")?;
     match case.row.given("call")? {
-        "ind_type" => run_ind_type(case, &opened, term, out),
-        "pred_entries" => run_pred_entries(case, &opened, term, out),
-        "construct_type" => run_construct_type(case, &opened, term, out),
-        "branch_entries" => run_branch_entries(case, &opened, term, out),
-        "branch_type" => run_branch_type(case, &opened, term, out),
-        "pred_at" => run_pred_at(case, &opened, term, out),
-        "fix_unfold" => run_fix_unfold(case, &opened, term, out),
+        "ind_type" => run_ind_type(case, opened, env, term, out),
+        "pred_entries" => run_pred_entries(case, opened, env, term, out),
+        "construct_type" => run_construct_type(case, opened, env, term, out),
+        "branch_entries" => run_branch_entries(case, opened, env, term, out),
+        "branch_type" => run_branch_type(case, opened, env, term, out),
+        "pred_at" => run_pred_at(case, opened, term, out),
+        "fix_unfold" => run_fix_unfold(case, opened, term, out),
         _ => Err(Fault::Faulty("no such call")),
     }
 }
@@ -58,67 +70,68 @@ fn put_entries(
     }
 }
 
-fn run_ind_type(case: &Case, opened: &Opened, term: &Term, out: &mut String) -> Result<(), Fault> {
-    let env = unchecked(case.alloc, opened)?;
+fn run_ind_type(
+    case: &Case,
+    opened: &Opened,
+    env: &Env,
+    term: &Term,
+    out: &mut String,
+) -> Result<(), Fault> {
     let id = family(term)?;
-    known(&env, id)?;
-    put_formed(out, opened, ind_type(case.alloc, &env, id))
+    known(env, id)?;
+    put_formed(out, opened, ind_type(case.alloc, env, id))
 }
 
 fn run_pred_entries(
     case: &Case,
     opened: &Opened,
+    env: &Env,
     term: &Term,
     out: &mut String,
 ) -> Result<(), Fault> {
-    let env = unchecked(case.alloc, opened)?;
     let params = opened.terms(case, "parameter")?;
     let id = family(term)?;
-    known(&env, id)?;
-    put_entries(out, opened, pred_entries(case.alloc, &env, id, &params))
+    known(env, id)?;
+    put_entries(out, opened, pred_entries(case.alloc, env, id, &params))
 }
 
 fn run_construct_type(
     case: &Case,
     opened: &Opened,
+    env: &Env,
     term: &Term,
     out: &mut String,
 ) -> Result<(), Fault> {
-    let env = unchecked(case.alloc, opened)?;
     let (id, c) = constructor(term)?;
-    known_constructor(&env, id, c)?;
-    put_formed(out, opened, construct_type(case.alloc, &env, id, c))
+    known_constructor(env, id, c)?;
+    put_formed(out, opened, construct_type(case.alloc, env, id, c))
 }
 
 fn run_branch_entries(
     case: &Case,
     opened: &Opened,
+    env: &Env,
     term: &Term,
     out: &mut String,
 ) -> Result<(), Fault> {
-    let env = unchecked(case.alloc, opened)?;
     let params = opened.terms(case, "parameter")?;
     let (id, c) = constructor(term)?;
-    known_constructor(&env, id, c)?;
-    put_entries(
-        out,
-        opened,
-        branch_entries(case.alloc, &env, id, c, &params),
-    )
+    known_constructor(env, id, c)?;
+    put_entries(out, opened, branch_entries(case.alloc, env, id, c, &params))
 }
 
 /// The type of the branch `branch` of the match `term`.
 fn run_branch_type(
     case: &Case,
     opened: &Opened,
+    env: &Env,
     term: &Term,
     out: &mut String,
 ) -> Result<(), Fault> {
-    let env = unchecked(case.alloc, opened)?;
     let c = case.row.index("branch")?;
     let whole = matched(term)?;
-    known_constructor(&env, whole.family, c)?;
-    put_formed(out, opened, branch_type(case.alloc, &env, whole, c))
+    known_constructor(env, whole.family, c)?;
+    put_formed(out, opened, branch_type(case.alloc, env, whole, c))
 }
 
 /// The predicate of the match `term` at indices and a scrutinee.

@@ -64,9 +64,8 @@ fn put_environment(out: &mut String, env: &Env, names: u32) -> Result<(), AllocE
 }
 
 /// Keeps the row's declarations, and looks them up.
-pub fn run_keep(case: &Case, out: &mut String) -> Result<(), Fault> {
-    let opened = Opened::of(case)?;
-    let env = unchecked(case.alloc, &opened)?;
+pub fn run_keep(case: &Case, opened: &Opened, out: &mut String) -> Result<(), Fault> {
+    let env = unchecked(case.alloc, opened)?;
     Ok(put_environment(out, &env, opened.raw.names.len() as u32)?)
 }
 
@@ -98,15 +97,24 @@ fn with_heads(alloc: Global, env: &Env, name: Name) -> Result<Env, Fault> {
     done(env.heads(alloc, block))
 }
 
-/// Keeps the row's declarations, and the heads of a block whose name has the number `number`; looks both up, and then in the environment before.
-pub fn run_heads(case: &Case, out: &mut String) -> Result<(), Fault> {
-    let opened = Opened::of(case)?;
-    let env = unchecked(case.alloc, &opened)?;
-    let number = case.row.index("number")?;
-    let under = with_heads(case.alloc, &env, Name(number))?;
+/// What is shown with the heads of a block whose name has a number, and then without.
+fn put_heads(out: &mut String, env: &Env, under: &Env, number: u32) -> Result<(), AllocError> {
     out.push_str("with heads:")?;
-    put_shown(out, &under, 0)?;
-    put_shown(out, &under, number)?;
+    put_shown(out, under, 0)?;
+    put_shown(out, under, number)?;
     out.push_str("\n  without:")?;
-    Ok(put_shown(out, &env, number)?)
+    put_shown(out, env, number)
+}
+
+/// Looks up the heads of a block whose name has the number `number`, with them and without.
+fn look_up_heads(case: &Case, env: &Env, out: &mut String) -> Result<(), Fault> {
+    let number = case.row.index("number")?;
+    let under = with_heads(case.alloc, env, Name(number))?;
+    Ok(put_heads(out, env, &under, number)?)
+}
+
+/// Keeps the row's declarations, and the heads of a block whose name has the number `number`; looks both up, and then in the environment before.
+pub fn run_heads(case: &Case, opened: &Opened, out: &mut String) -> Result<(), Fault> {
+    let env = unchecked(case.alloc, opened)?;
+    look_up_heads(case, &env, out)
 }

@@ -22,6 +22,7 @@ mod reductions;
 mod unchecked;
 
 use row_files::{Case, Fault, Table, run_tables};
+use row_terms::Opened;
 use std::io;
 
 /// The layers, each with a table.
@@ -33,15 +34,28 @@ enum Layer {
     Conversions,
 }
 
+/// Runs a row of contexts or of environments.
+fn run_opened(case: &Case, opened: &Opened, out: &mut String) -> Result<(), Fault> {
+    match case.row.given("call")? {
+        "context" => contexts::run_context(case, opened, out),
+        "long context" => contexts::run_long_context(case, opened, out),
+        "keep" => keeping::run_keep(case, opened, out),
+        "heads" => keeping::run_heads(case, opened, out),
+        _ => Err(Fault::Faulty("no such call")),
+    }
+}
+
+/// Reads a row of contexts or of environments, and runs it.
+fn run_with_terms(case: &Case, out: &mut String) -> Result<(), Fault> {
+    let opened = Opened::of(case)?;
+    run_opened(case, &opened, out)
+}
+
 /// Runs a row of the layer below the rules.
 fn run_rules(case: &Case, out: &mut String) -> Result<(), Fault> {
     match case.row.given("call")? {
         "meter" => metering::run_meter(case, out),
-        "context" => contexts::run_context(case, out),
-        "long context" => contexts::run_long_context(case, out),
-        "keep" => keeping::run_keep(case, out),
-        "heads" => keeping::run_heads(case, out),
-        _ => Err(Fault::Faulty("no such call")),
+        _ => run_with_terms(case, out),
     }
 }
 

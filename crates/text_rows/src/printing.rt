@@ -94,24 +94,59 @@ fn put_read(case: &Case, out: &mut String, text: &[u8], env: &RawEnv) -> Result<
     put_printed(out, text, sink.bytes())
 }
 
+/// What reading a text gives, and what is printed of that.
+fn put_reading(case: &Case, out: &mut String, text: &[u8]) -> Result<(), AllocError> {
+    match read_env(case.alloc, text) {
+        Ok(env) => put_read(case, out, text, &env),
+        Err(refusal) => put_refusal(out, &refusal),
+    }
+}
+
 /// Reads a text; what was read is told, and printed.
 pub fn run_read(case: &Case, out: &mut String) -> Result<(), Fault> {
     let text = case.environment()?;
-    match read_env(case.alloc, text.as_slice()) {
-        Ok(env) => Ok(put_read(case, out, text.as_slice(), &env)?),
-        Err(refusal) => Ok(put_refusal(out, &refusal)?),
+    Ok(put_reading(case, out, text.as_slice())?)
+}
+
+/// Prints an environment to a sink, and tells what went out, and the fault if one came.
+fn put_print(
+    out: &mut String,
+    text: &[u8],
+    env: &RawEnv,
+    sink: &mut MemSink,
+) -> Result<(), AllocError>
+    requires spelled { IsSpelled env.now }
+{
+    if let Err(fault) = print_env(env, sink) {
+        let written = fault.written;
+        write!(out, "write fault after {written}: ")?;
     }
+    put_printed(out, text, sink.bytes())
+}
+
+/// A sink that takes at most 5 bytes in a call, or `most`, and fails at the call `failing write`.
+fn sink(case: &Case) -> Result<MemSink, Fault> {
+    let most = case.row.number("most", 5)?.max(1) as usize;
+    let failing = case.failing("failing write")?;
+    Ok(MemSink::new(case.alloc, most, failing))
+}
+
+/// Prints an environment to the sink of the row.
+fn print_text(case: &Case, out: &mut String, text: &[u8], env: &RawEnv) -> Result<(), Fault>
+    requires spelled { IsSpelled env.now }
+{
+    let mut sink = sink(case)?;
+    Ok(put_print(out, text, env, &mut sink)?)
+}
+
+/// Reads a text, and prints the environment to the sink of the row.
+fn read_and_print(case: &Case, out: &mut String, text: &[u8]) -> Result<(), Fault> {
+    let env = read(case)?;
+    print_text(case, out, text, &env)
 }
 
 /// Reads a text, and prints the environment to a sink that takes at most 5 bytes in a call, or `most`, and fails at the call `failing write`.
 pub fn run_print(case: &Case, out: &mut String) -> Result<(), Fault> {
     let text = case.environment()?;
-    let env = read(case)?;
-    let most = case.row.number("most", 5)?.max(1) as usize;
-    let mut sink = MemSink::new(case.alloc, most, case.failing("failing write")?);
-    if let Err(fault) = print_env(&env, &mut sink) {
-        let written = fault.written;
-        write!(out, "write fault after {written}: ")?;
-    }
-    Ok(put_printed(out, text.as_slice(), sink.bytes())?)
+    read_and_print(case, out, text.as_slice())
 }

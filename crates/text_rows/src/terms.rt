@@ -9,17 +9,22 @@ use std::alloc::{AllocError, Global};
 /// Runs a row of the layer.
 pub fn run(case: &Case, out: &mut String) -> Result<(), Fault> {
     let opened = Opened::of(case)?;
+    run_opened(case, &opened, out)
+}
+
+/// Makes the call of a row on its `term`.
+fn run_opened(case: &Case, opened: &Opened, out: &mut String) -> Result<(), Fault> {
     let term = opened.term(case, "term")?;
     match case.row.given("call")? {
-        "lift" => run_lift(case, &opened, term, out),
-        "subst" => run_subst(case, &opened, term, out),
-        "subst_list" => run_subst_list(case, &opened, term, out),
-        "subst_list_at" => run_subst_list_at(case, &opened, term, out),
-        "apply" => run_apply(case, &opened, term, out),
+        "lift" => run_lift(case, opened, term, out),
+        "subst" => run_subst(case, opened, term, out),
+        "subst_list" => run_subst_list(case, opened, term, out),
+        "subst_list_at" => run_subst_list_at(case, opened, term, out),
+        "apply" => run_apply(case, opened, term, out),
         "measures" => run_measures(term, out),
-        "same" => run_same(case, &opened, term, out),
+        "same" => run_same(case, opened, term, out),
         "doubled" => run_doubled(case, term, out),
-        "put in again" => run_put_in_again(case, &opened, term, out),
+        "put in again" => run_put_in_again(case, opened, term, out),
         "lists" => put_term_lists(case.alloc, out, term),
         _ => Err(Fault::Faulty("no such call")),
     }
