@@ -137,18 +137,23 @@ fn compared(
     }
 }
 
+/// What a comparison came to.
+fn put_came(out: &mut String, raw: &RawEnv, came: &Result<(), Halt>) -> Result<(), AllocError> {
+    match came {
+        Ok(()) => out.push_str("holds"),
+        Err(Halt::Stop(stop)) => put_stop(out, *stop),
+        Err(Halt::Broken(rule)) => put_broken(out, raw, rule),
+    }
+}
+
 /// What a comparison came to, and the units that are left.
 fn put_compared(
     out: &mut String,
     raw: &RawEnv,
-    compared: Result<(), Halt>,
+    came: &Result<(), Halt>,
     m: &Meter,
 ) -> Result<(), AllocError> {
-    match compared {
-        Ok(()) => out.push_str("holds")?,
-        Err(Halt::Stop(stop)) => put_stop(out, stop)?,
-        Err(Halt::Broken(rule)) => put_broken(out, raw, &rule)?,
-    }
+    put_came(out, raw, came)?;
     let left = m.left();
     write!(out, "\n  units left {left}")
 }
@@ -169,7 +174,7 @@ fn compare(
 {
     let mut m = metered(case)?;
     let came = compared(case.alloc, comparison, env, a, b, &mut m);
-    Ok(put_compared(out, &opened.raw, came, &m)?)
+    Ok(put_compared(out, &opened.raw, &came, &m)?)
 }
 
 /// Compares a term with `other`.
