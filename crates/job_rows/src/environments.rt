@@ -96,14 +96,25 @@ fn put_units(
     }
 }
 
+/// What a check came to. Where the row tells units, what is left and the uses of rules too.
+fn put_answer(
+    case: &Case,
+    out: &mut String,
+    raw: &RawEnv,
+    checked: &Result<Accepted, Refusal>,
+    m: &Meter,
+) -> Result<(), AllocError> {
+    put_checked(out, raw, checked)?;
+    put_units(case, out, checked, m)
+}
+
 /// Checks an environment with `units`, or as many as a job has. With `units`, what is left and the uses of rules are told.
 fn check_raw(case: &Case, raw: &RawEnv, out: &mut String) -> Result<(), Fault>
     requires spelled { IsSpelled raw.now }
 {
     let mut m = Meter::new(case.row.number("units", UNITS)?);
     let checked = check_env(case.alloc, &Subst, raw, &mut m);
-    put_checked(out, raw, &checked)?;
-    Ok(put_units(case, out, &checked, &m)?)
+    Ok(put_answer(case, out, raw, &checked, &m)?)
 }
 
 /// Reads an environment, and checks it.

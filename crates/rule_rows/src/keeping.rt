@@ -1,7 +1,6 @@
 //! What environments keep: `keep` and `heads`.
-ghost use Rattle.std.specs.Prelude.{◌≡◌, [], All, IfOk};
-ghost use Rattle.pc_rules.specs.declared.declaration.Family.{Family};
-ghost use Rattle.pc_rules.specs.Lookup.{IsNew, HasNoConstructors};
+ghost use Rattle.std.specs.Prelude.{◌≡◌, IfOk};
+ghost use Rattle.pc_rules.specs.Lookup.{HasNoConstructors};
 
 use crate::unchecked::unchecked;
 use pc_rules::declaration::{Block, Constructors, Families, Family, Kept};
