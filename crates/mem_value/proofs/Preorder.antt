@@ -78,7 +78,8 @@ reading_starts memory w (d, s) = record { room = omega arith; rest = d; stand = 
 pub next_stands : (memory : List ℕ) (w x : ℕ) (nodes : Data) (ws : List ℕ) → IsReading memory w nodes (x ∷ ws) → HasData memory x
 next_stands memory w x nodes ws r = (r.stand.0, r.stand.3)
 
-pub reading_goes : (memory : List ℕ) (w x number arity : ℕ) (nodes : Data) (ws : List ℕ) → IsReading memory w nodes (x ∷ ws) → ((d : Data) → StandsFor memory x d → IsNode memory x d number arity) → length nodes + 1 + length ws + arity ≤ most_nodes → IsReading memory w (nodes ++ (number, arity) ∷ []) (words memory (x + 4) arity ++ ws)
+pub reading_goes : (memory : List ℕ) (w x number arity : ℕ) (nodes : Data) (ws : List ℕ) → IsReading memory w nodes (x ∷ ws) → ((d : Data) → StandsFor memory x d → IsNode memory x d number arity) →
+    length nodes + 1 + length ws + arity ≤ most_nodes → IsReading memory w (nodes ++ (number, arity) ∷ []) (words memory (x + 4) arity ++ ws)
 reading_goes memory w x number arity nodes ws r node few =
     let (first, others, is, s, rest) = r.stand in
     let n = node first s in

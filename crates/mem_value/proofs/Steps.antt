@@ -9,7 +9,8 @@ use Rattle.mem_value.proofs.Preorder.{reading_starts, reading_ends}
 
 -- ---- words are put on those that wait
 
-pub words_put : (memory : List ℕ) (address count i x : ℕ) (old now new : List ℕ) → i < count → reverse now ≡ words memory (address + 4 * (count - i)) i ++ old → x ≡ word memory (address + 4 * (count - 1 - i)) → new ≡ now ++ x ∷ [] → reverse new ≡ words memory (address + 4 * (count - (i + 1))) (i + 1) ++ old
+pub words_put : (memory : List ℕ) (address count i x : ℕ) (old now new : List ℕ) → i < count → reverse now ≡ words memory (address + 4 * (count - i)) i ++ old →
+    x ≡ word memory (address + 4 * (count - 1 - i)) → new ≡ now ++ x ∷ [] → reverse new ≡ words memory (address + 4 * (count - (i + 1))) (i + 1) ++ old
 words_put memory address count i x old now new lt h is e =
     let here : address + 4 * (count - 1 - i) ≡ address + 4 * (count - (i + 1)) = omega arith in
     let after : address + 4 * (count - i) ≡ address + 4 * (count - (i + 1)) + 4 = omega arith in

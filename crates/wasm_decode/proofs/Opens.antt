@@ -27,7 +27,8 @@ pub record Instructing (old now : Cursor) (opens : List Bool) (code : List Instr
 pub begun : (c : Cursor) (opens : List Bool) → opens ≡ false ∷ [] → Instructing c c (reverse opens) []
 begun c opens e = record { same = refl; goes = λ n h k ws. (n, h, ap (λ os. judged c (instrs n os [] k) ws) (sym (ap reverse e))) }
 
-step : (now new : Cursor) (m : ℕ) (may : Bool) (os : List Bool) (code : List Instr) (k : List Instr → Spelling) (ws : List (List ℕ)) → length new.rest.now < length now.rest.now → length now.rest.now ≤ m → (p : ℕ) × (length new.rest.now ≤ p) × (judged now (instrs m (may ∷ os) code k) ws ≡ judged now (instr may (λ i. instrs p (opens_after i (may ∷ os)) (code ++ i ∷ []) k)) ws)
+step : (now new : Cursor) (m : ℕ) (may : Bool) (os : List Bool) (code : List Instr) (k : List Instr → Spelling) (ws : List (List ℕ)) → length new.rest.now < length now.rest.now →
+    length now.rest.now ≤ m → (p : ℕ) × (length new.rest.now ≤ p) × (judged now (instrs m (may ∷ os) code k) ws ≡ judged now (instr may (λ i. instrs p (opens_after i (may ∷ os)) (code ++ i ∷ []) k)) ws)
 unfolding instrs
 step now new zero may os code k ws s h = absurd (omega (arith, s, h))
 step now new (suc m) may os code k ws s h = (m, omega (arith, s, h), refl)
@@ -56,7 +57,8 @@ unfolding instrs judge instr
 stuck now (suc m) may os code k ws h = (_, refl)
 stuck now zero may os code k ws h = (λ i. k code, empty_stuck now.at now.rest.now may os code k ws h)
 
-pub failed : {X Y : Type 0} (old now new : Cursor) (may : Bool) (os : List Bool) (code : List Instr) (seen : X → Instr) (seen' : Y → List Instr) (e : DecodeFault) → Instructing old now (may ∷ os) code → Reads {X = X} {Y = Instr} (Err e) now new (instr may) seen → ReadsInstrs {X = Y} (Err e) old new seen'
+pub failed : {X Y : Type 0} (old now new : Cursor) (may : Bool) (os : List Bool) (code : List Instr) (seen : X → Instr) (seen' : Y → List Instr) (e : DecodeFault) → Instructing old now (may ∷ os) code →
+    Reads {X = X} {Y = Instr} (Err e) now new (instr may) seen → ReadsInstrs {X = Y} (Err e) old new seen'
 failed old now new may os code seen seen' e g r = record {
   same = tt;
   goes = λ n h k ws.

@@ -31,7 +31,8 @@ number_missing s bits w e at fits next ws = rw (← e) refl
 le_true : (n m : ℕ) → n ≤ m → nat_le n m ≡ true
 le_true n m h = le-leb n m h
 
-pub size_taken : (w : List ℕ) (n k : ℕ) → Some (n, k) ≡ number_at false 32 w → (at : ℕ) → (rest inside after : List ℕ) → rest ≡ drop k w → n ≤ length rest → inside ≡ take n rest → after ≡ drop n rest → length inside ≡ n → (next : ℕ → Spelling) (ws : List (List ℕ)) → judge (Size next) at w ws ≡ judge (next (length inside)) (at + k) inside (after ∷ ws)
+pub size_taken : (w : List ℕ) (n k : ℕ) → Some (n, k) ≡ number_at false 32 w → (at : ℕ) → (rest inside after : List ℕ) → rest ≡ drop k w → n ≤ length rest → inside ≡ take n rest → after ≡ drop n rest →
+    length inside ≡ n → (next : ℕ → Spelling) (ws : List (List ℕ)) → judge (Size next) at w ws ≡ judge (next (length inside)) (at + k) inside (after ∷ ws)
 unfolding judge
 size_taken w n k e at rest inside after r h i a l next ws =
     let fits : nat_le n (length (drop k w)) ≡ true = le_true n _ (subst (λ r. n ≤ length r) r h) in
@@ -59,7 +60,8 @@ part_open (b ∷ w) e at k ws = refl
 
 -- ---- names
 
-pub name_taken : (w : List ℕ) (n k : ℕ) → Some (n, k) ≡ number_at false 32 w → (at : ℕ) → (rest text after : List ℕ) → rest ≡ drop k w → n ≤ length rest → text ≡ take n rest → after ≡ drop n rest → IsUtf8 text → (next : List ℕ → Spelling) (ws : List (List ℕ)) → judge (Name next) at w ws ≡ judge (next text) (at + k + n) after ws
+pub name_taken : (w : List ℕ) (n k : ℕ) → Some (n, k) ≡ number_at false 32 w → (at : ℕ) → (rest text after : List ℕ) → rest ≡ drop k w → n ≤ length rest → text ≡ take n rest → after ≡ drop n rest →
+    IsUtf8 text → (next : List ℕ → Spelling) (ws : List (List ℕ)) → judge (Name next) at w ws ≡ judge (next text) (at + k + n) after ws
 unfolding judge name_at
 name_taken w n k e at rest text after r h t a u next ws =
     let fits : nat_le n (length (drop k w)) ≡ true = le_true n _ (subst (λ r. n ≤ length r) r h) in

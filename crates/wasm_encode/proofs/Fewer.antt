@@ -9,8 +9,11 @@ use Rattle.wasm_core.specs.Parts.{Parts}
 use Rattle.wasm_core.specs.ModuleCondition.{All, opens_after}
 use Rattle.wasm_core.specs.Format.{Name, Number}
 use Rattle.wasm_core.specs.Spelling.{IsByte, IsNumber, IsSize, SpellsNumber, Spells}
-use Rattle.wasm_core.specs.ModuleGrammar.{Spelling, byte, u32, s32, s64, on, coded, find, finish, times, val_type, val_types, value_types, func_result, func_type, limits_flag, limits_flags, limits, mutability, mutabilities, block_type, block_kinds, access, row, Row, Plain, Typed, Index, Accessing, Pair, Table, Zeroed, Bits, LongBits, opcodes, operations, operation_row, row_or, opcode, instr, instrs, constant_of, constant_opcodes, constant, table_type, table, segment, groups, locals, body, indices, memory, global, export_kind, export_kinds, exported}
-use Rattle.wasm_core.specs.ShortestBytes.{is_low, is_high, unsigned, signed, put_u32, put_s32, put_s64, put_all, put_list, put_sized, val_type_code, put_val_type, put_result, put_func_type, put_limits, flag, put_constant, put_global, put_name, kind_code, put_export, block_type_code, put_access, put_instr, same_type, add_local, runs, put_run, put_locals, body_bytes, put_body, sizes, put_table_type, put_segment}
+use Rattle.wasm_core.specs.ModuleGrammar.{Spelling, byte, u32, s32, s64, on, coded, find, finish, times, val_type, val_types, value_types, func_result, func_type, limits_flag, limits_flags, limits, mutability, mutabilities, block_type, block_kinds, access, row, Row, Plain, Typed}
+use Rattle.wasm_core.specs.ModuleGrammar.{Index, Accessing, Pair, Table, Zeroed, Bits, LongBits, opcodes, operations, operation_row, row_or, opcode, instr, instrs, constant_of, constant_opcodes, constant, table_type, table, segment, groups, locals, body, indices, memory, global}
+use Rattle.wasm_core.specs.ModuleGrammar.{export_kind, export_kinds, exported}
+use Rattle.wasm_core.specs.ShortestBytes.{is_low, is_high, unsigned, signed, put_u32, put_s32, put_s64, put_all, put_list, put_sized, val_type_code, put_val_type, put_result, put_func_type, put_limits, flag, put_constant, put_global, put_name, kind_code, put_export}
+use Rattle.wasm_core.specs.ShortestBytes.{block_type_code, put_access, put_instr, same_type, add_local, runs, put_run, put_locals, body_bytes, put_body, sizes, put_table_type, put_segment}
 use Rattle.wasm_core.specs.declared.types.ValType.{ValType}
 use Rattle.wasm_core.specs.declared.types.ValType.TheVariants.{I32, I64}
 use Rattle.wasm_core.specs.declared.types.Limits.{Limits}
@@ -238,7 +241,9 @@ name_spends k w ws m (s, j, (n, i, (l, p), r, t, u, e), h) =
 
 -- ---- lists
 
-pub times_spend : {A : Type 0} (one : (A → Spelling) → Spelling) (put : A → List ℕ → List ℕ) → Spends one put → (n : ℕ) (done : List A) (k : List A → Spelling) (w : List ℕ) (ws : List (List ℕ)) (m : Parts) → Spells (times n one done k) w ws m → (xs : List A) × (length xs ≡ n) × (v : List ℕ) × Less (put_all put xs) w v × Spells (k (done ++ xs)) v ws m
+pub times_spend : {A : Type 0} (one : (A → Spelling) → Spelling) (put : A → List ℕ → List ℕ) → Spends one put →
+    (n : ℕ) (done : List A) (k : List A → Spelling) (w : List ℕ) (ws : List (List ℕ)) (m : Parts) → Spells (times n one done k) w ws m →
+    (xs : List A) × (length xs ≡ n) × (v : List ℕ) × Less (put_all put xs) w v × Spells (k (done ++ xs)) v ws m
 unfolding times put_all
 times_spend one put f zero done k w ws m h = ([], refl, w, (λ u. omega arith), subst (λ xs. Spells (k xs) w ws m) (sym (append-nil done)) h)
 times_spend one put f (suc n) done k w ws m h =
@@ -263,7 +268,8 @@ unfolding val_types
 val_types_spend k w ws m h = list_spends val_type put_val_type val_type_spends k w ws m h
 
 -- at most one of them
-optional_spends : {A : Type 0} (one : (A → Spelling) → Spelling) (put : A → List ℕ → List ℕ) (all : Option A → List ℕ → List ℕ) → ((u : List ℕ) → all None u ≡ 0 ∷ u) → ((x : A) (u : List ℕ) → all (Some x) u ≡ 1 ∷ put x u) → Spends one put → Spends (λ k. Number false 32 (λ n. nat_le n 1) (λ n. if nat_eq n 0 then k None else one (λ x. k (Some x)))) all
+optional_spends : {A : Type 0} (one : (A → Spelling) → Spelling) (put : A → List ℕ → List ℕ) (all : Option A → List ℕ → List ℕ) → ((u : List ℕ) → all None u ≡ 0 ∷ u) →
+    ((x : A) (u : List ℕ) → all (Some x) u ≡ 1 ∷ put x u) → Spends one put → Spends (λ k. Number false 32 (λ n. nat_le n 1) (λ n. if nat_eq n 0 then k None else one (λ x. k (Some x)))) all
 optional_spends {A = A} one put all at_none at_some f k w ws m (n, j, (i, q), h) =
     let left = number_left false 32 w n j i in
     let goal : (c : Bool) → Spells (if c then k None else one (λ x. k (Some x))) (drop j w) ws m → (x : Option A) × (v : List ℕ) × Less (all x) w v × Spells (k x) v ws m =
@@ -403,7 +409,9 @@ row_spends (LongBits i) p k w0 w ws m l h = let (n, w1, l1, h1) = s64_spends (λ
 
 opcodes_few : All (λ (r : ℕ × Row). IsFew r.1) opcodes
 unfolding IsFew put_instr
-opcodes_few = ((λ u. omega arith), ((λ u. omega arith), ((λ t u. omega arith), ((λ t u. omega arith), ((λ t u. omega arith), ((λ u. omega arith), ((λ u. omega arith), ((λ n u. omega arith), ((λ n u. omega arith), ((λ ls l u. omega arith), ((λ u. omega arith), ((λ n u. omega arith), ((λ a b u. omega arith), ((λ u. omega arith), ((λ n u. omega arith), ((λ n u. omega arith), ((λ n u. omega arith), ((λ n u. omega arith), ((λ n u. omega arith), ((λ a u. omega arith), ((λ a u. omega arith), ((λ a u. omega arith), ((λ a u. omega arith), ((λ u. omega arith), ((λ u. omega arith), ((λ n u. omega arith), ((λ n u. omega arith), tt)))))))))))))))))))))))))))
+opcodes_few = ((λ u. omega arith), ((λ u. omega arith), ((λ t u. omega arith), ((λ t u. omega arith), ((λ t u. omega arith), ((λ u. omega arith), ((λ u. omega arith), ((λ n u. omega arith), ((λ n u. omega arith), ((λ ls l u. omega arith),
+    ((λ u. omega arith), ((λ n u. omega arith), ((λ a b u. omega arith), ((λ u. omega arith), ((λ n u. omega arith), ((λ n u. omega arith), ((λ n u. omega arith), ((λ n u. omega arith), ((λ n u. omega arith), ((λ a u. omega arith),
+    ((λ a u. omega arith), ((λ a u. omega arith), ((λ a u. omega arith), ((λ u. omega arith), ((λ u. omega arith), ((λ n u. omega arith), ((λ n u. omega arith), tt)))))))))))))))))))))))))))
 
 operation_few : (o : Option I32Op) (r : Row) → operation_row o ≡ Some r → IsFew r
 unfolding IsFew put_instr

@@ -5,14 +5,16 @@ use Rattle.std.proofs.lemmas.List.{length-drop}
 use Rattle.wasm_core.specs.Parts.{Parts}
 use Rattle.wasm_core.specs.Format.{Name, Skip}
 use Rattle.wasm_core.specs.Spelling.{IsSize, Spells}
-use Rattle.wasm_core.specs.ModuleGrammar.{SpellsModule, Spelling, byte, finish, times, func_type, func_types, u32, indices, table, memory, global, globals, exported, exports, segment, segments, body, bodies, contents, section, section_id, next_section, last_after, is_whole, sections, header, file, empty}
+use Rattle.wasm_core.specs.ModuleGrammar.{SpellsModule, Spelling, byte, finish, times, func_type, func_types, u32, indices, table, memory, global, globals, exported, exports, segment, segments, body, bodies, contents, section, section_id, next_section, last_after, is_whole}
+use Rattle.wasm_core.specs.ModuleGrammar.{sections, header, file, empty}
 use Rattle.wasm_core.specs.ShortestBytes.{put_u32, put_all, put_list, put_sized, put_func_type, put_table_type, put_limits, put_global, put_export, put_segment, put_body, put_section, sizes, put_sections, module_bytes}
 use Rattle.wasm_core.specs.declared.sections.Section.{Section}
 use Rattle.wasm_core.specs.declared.sections.Section.TheVariants as sec
 use Rattle.wasm_core.proofs.Inversion.{on_makes, take_few, is_module}
 use Rattle.wasm_core.proofs.Whole.{printed}
 use Rattle.wasm_encode.specs.Shortest.{NoneIsShorter}
-use Rattle.wasm_encode.proofs.Fewer.{Less, Spends, size, unsigned_adds, less_unsigned, less_sized, byte_spends, byte_left, finish_spends, times_spend, list_spends, name_spends, u32_spends, func_type_spends, indices_spend, table_spends, memory_spends, global_spends, exported_spends, segment_spends, body_spends}
+use Rattle.wasm_encode.proofs.Fewer.{Less, Spends, size, unsigned_adds, less_unsigned, less_sized, byte_spends, byte_left, finish_spends, times_spend, list_spends, name_spends, u32_spends, func_type_spends, indices_spend, table_spends, memory_spends, global_spends}
+use Rattle.wasm_encode.proofs.Fewer.{exported_spends, segment_spends, body_spends}
 
 -- ---- how many bytes sections take
 

@@ -153,7 +153,8 @@ puts_next one xs i d x old now new all h e f p = record {
 }
 
 -- what is put next passes the limit, and so does the whole
-pub next_passes : {A : Type 0} (one : A → List ℕ → List ℕ) (xs : List A) (i : ℕ) (d x : A) (old now : List ℕ) (all : List ℕ → List ℕ) → i < length xs → x ≡ get_or xs i d → PutsFrom old now (put_all one (drop i xs)) all → ((w : List ℕ) → most_bytes < length (one x w)) → (w : List ℕ) → most_bytes < length (all w)
+pub next_passes : {A : Type 0} (one : A → List ℕ → List ℕ) (xs : List A) (i : ℕ) (d x : A) (old now : List ℕ) (all : List ℕ → List ℕ) → i < length xs → x ≡ get_or xs i d →
+    PutsFrom old now (put_all one (drop i xs)) all → ((w : List ℕ) → most_bytes < length (one x w)) → (w : List ℕ) → most_bytes < length (all w)
 next_passes one xs i d x old now all h e f p w =
     let more = put_all one (drop i xs) w in
     let rest = put_all one (drop (i + 1) xs) w in
@@ -165,7 +166,8 @@ next_passes one xs i d x old now all h e f p w =
     let l = p rest in
     omega (arith, a, b, c, g, q, l)
 
-pub fails_next : {A : Type 0} (one : A → List ℕ → List ℕ) (xs : List A) (i : ℕ) (d x : A) (old now new out : List ℕ) (all : List ℕ → List ℕ) (e : EncodeFault) → i < length xs → x ≡ get_or xs i d → PutsFrom old now (put_all one (drop i xs)) all → PutsUnless (Err e) now new (one x) → PutsUnless (Err e) old out all
+pub fails_next : {A : Type 0} (one : A → List ℕ → List ℕ) (xs : List A) (i : ℕ) (d x : A) (old now new out : List ℕ) (all : List ℕ → List ℕ) (e : EncodeFault) → i < length xs → x ≡ get_or xs i d →
+    PutsFrom old now (put_all one (drop i xs)) all → PutsUnless (Err e) now new (one x) → PutsUnless (Err e) old out all
 fails_next one xs i d x old now new out all faults.ModuleBytes h q f p = next_passes one xs i d x old now all h q f p
 fails_next one xs i d x old now new out all faults.Memory h q f p = tt
 
