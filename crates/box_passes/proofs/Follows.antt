@@ -1,5 +1,5 @@
 -- Evaluation with environments of a saturated program follows evaluation by substitution of the program before.
-use Rattle.std.proofs.Common.{◌≡◌, ℕ, zero, suc, ◌+◌, ◌*◌, ◌<◌, ◌≤◌, List, [], ◌∷◌, ◌++◌, length, true, Some, refl, sym, ap, ◌∙◌, subst, ⊎_elim, arith, length-append}
+use Rattle.std.proofs.Common.{◌≡◌, ℕ, zero, suc, ◌+◌, ◌<◌, ◌≤◌, List, [], ◌++◌, length, true, Some, refl, sym, ap, ◌∙◌, subst, ⊎_elim, arith, length-append}
 use Rattle.std.proofs.lemmas.Bool.{cases_lt}
 use Rattle.std.specs.Prelude.{slice_get}
 use Rattle.trees.specs.Tree.{Rel, Done, Next, term_at}
@@ -8,18 +8,19 @@ use Rattle.trees.specs.Closed.{Closed}
 use Rattle.pc_terms.specs.declared.leaf.Name.{Name}
 use Rattle.pc_terms.specs.declared.leaf.FamilyId.{FamilyId}
 use Rattle.pc_terms.specs.BoxSyntax.{BoxTerm, BoxTerms, Box, BLambda, BApp, BConstruct, BCase, BFix}
-use Rattle.lambda_box.specs.BoxProgram.{BoxFamily, BoxProgram, Has, KeepsBoxConstant, KeepsBoxFamily, box_apply, boxes}
+use Rattle.lambda_box.specs.BoxProgram.{BoxFamily, BoxProgram, KeepsBoxConstant, KeepsBoxFamily, box_apply, boxes}
 use Rattle.lambda_box.specs.BoxForm.{IsFixBody, boxed, last, more}
-use Rattle.lambda_box.specs.BoxEvaluation.{box_is, IsBoxConstructor, is_box_constructor, BoxTakesMore, constructor, fixpoint, box_unfolded, BoxUnfolds, unfolds, BoxEvaluates, value, constant, let_in, beta, box_app, extend, unfold_fix, enter, enter_only}
+use Rattle.lambda_box.specs.BoxEvaluation.{IsBoxConstructor, is_box_constructor, BoxTakesMore, constructor, fixpoint, box_unfolded, BoxUnfolds, unfolds, BoxEvaluates, value, constant, let_in, beta, box_app, extend, unfold_fix, enter, enter_only}
 use Rattle.box_passes.specs.Saturate.{innermost, lambdas, constructor_function}
-use Rattle.lambda_box.specs.ClosureEvaluation.{Value, VBox, VConstruct, VClosure, VFix, Values, NoValue, Then, Env, Empty, Bind, BindFix, bind_all, box_values, size, Held, Holds, Defines, held_value, Finds, found, later, Counts, nothing, constructor_block, ◌⊕◌, Run, run_box, run_value, run_definition, run_lambda, run_fix, run_constant, run_let, run_app, run_box_app, run_fix_app, run_fix_box, run_construct, run_match, run_only, RunArgs, run_head, run_arg}
-use Rattle.lambda_box.proofs.Spines.{head_of, arguments, arguments_before, constructor_head, constructor_arguments, fix_head, fix_arguments, closed_evaluates, one_item}
+use Rattle.lambda_box.specs.ClosureEvaluation.{Value, VBox, VConstruct, VClosure, VFix, Values, NoValue, Then, Env, Empty, Bind, bind_all, box_values, size, Held, Holds, Defines, held_value, Finds, found, later, Counts, nothing, constructor_block, ◌⊕◌, Run, run_box, run_value, run_definition}
+use Rattle.lambda_box.specs.ClosureEvaluation.{run_lambda, run_fix, run_constant, run_let, run_app, run_box_app, run_construct, run_match, run_only, RunArgs, run_head, run_arg}
+use Rattle.lambda_box.proofs.Spines.{head_of, arguments, constructor_head, constructor_arguments, fix_head, fix_arguments, closed_evaluates, one_item}
 use Rattle.box_passes.proofs.Standing as standing
-use Rattle.box_passes.proofs.Standing.{IsValue, is_box, is_lambda, is_fix, is_part, is_part_box, is_construct, is_waiting, Stands, StandTerms, none, next, StandBody, body_boxed, body_last, body_more, StandDefs, StandArgs, args_head, args_dropped, args_kept, Made, made_head, made_dropped, made_kept, Waits, waits_head, waits_more, Part, part_fix, part_app, part_box, closed_value, closed_stands}
-use Rattle.box_passes.proofs.Selves.{made_is, made_count, waits_is, waits_count, part_is, part_no_construct, index_of, rargs_of, bodies_of, no_fix, no_lambda, no_box, construct_not_unfolded, unfolded_now, self, quiet}
-use Rattle.box_passes.proofs.Filling.{stands_one, body_one, stands_boxes, made_size, stands_made, def_at, slice_found, body_unfolded}
-use Rattle.lambda_box.proofs.Spines.{same_body}
-use Rattle.box_passes.proofs.Opening.{Bare, BoxBody, Enter, Gives, GivesArgs, LastBody, box_body, box_body_of, box_takes_none, box_unfolds_not, en_box, en_closure, en_fix, fix_entry, lambda_takes_none, lambda_unfolds_not, last_body, last_body_of, opened_at, part_shape, part_waits, Entered, enter_run, enter_box}
+use Rattle.box_passes.proofs.Standing.{IsValue, is_box, is_lambda, is_fix, is_part, is_part_box, is_construct, is_waiting, Stands, StandTerms, none, next, StandBody, StandArgs, args_head, args_dropped, args_kept, Made, made_head, made_dropped, made_kept, Waits, waits_head, waits_more, Part}
+use Rattle.box_passes.proofs.Standing.{part_app, part_box, closed_value, closed_stands}
+use Rattle.box_passes.proofs.Selves.{made_is, made_count, waits_is, waits_count, part_no_construct, no_fix, no_lambda, no_box, construct_not_unfolded, unfolded_now, self, quiet}
+use Rattle.box_passes.proofs.Filling.{stands_one, stands_boxes, made_size, stands_made}
+use Rattle.box_passes.proofs.Opening.{Bare, BoxBody, Enter, Gives, GivesArgs, LastBody, box_body, box_body_of, box_takes_none, box_unfolds_not, fix_entry, lambda_takes_none, lambda_unfolds_not, last_body, last_body_of, opened_at, part_shape, part_waits, enter_run, enter_box}
 
 -- a constructor's function at its last argument
 record Taken (P : BoxProgram) (f : FamilyId) (c p j : ℕ) (t : BoxTerm) (e : Env) : Type 0 where

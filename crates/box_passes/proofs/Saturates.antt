@@ -23,7 +23,8 @@ use Rattle.box_passes.proofs.Follows.{family_name, constructor_number}
 use Rattle.box_passes.proofs.Filling.{drop_first, drop_before}
 use Rattle.box_passes.proofs.Keeping.{drop_everything}
 use Rattle.box_passes.proofs.Results.{IsResult, result_value, result_more, result_of, itself, same}
-use Rattle.box_passes.proofs.SaturateRelation.{sat_put, sat_variables, Sat, SatArgs, SatList, SatTerms, SatWaits, args_count, args_count', args_dropped, args_is, args_is', args_kept, args_none, sat_all, sat_app, sat_apply, sat_at, sat_box, sat_boxes, sat_case, sat_constant, sat_done, sat_first, sat_fix, sat_fixpoints, sat_full, sat_lambda, sat_length, sat_let, sat_next, sat_none, sat_one, sat_rel, sat_waits, waiting, waits_count, waits_dropped, waits_is, waits_kept, waits_none, waits_values}
+use Rattle.box_passes.proofs.SaturateRelation.{sat_put, sat_variables, Sat, SatArgs, SatList, SatTerms, SatWaits, args_count, args_count', args_dropped, args_is, args_is', args_kept, args_none, sat_all, sat_app, sat_apply, sat_at, sat_box, sat_boxes, sat_case, sat_constant}
+use Rattle.box_passes.proofs.SaturateRelation.{sat_done, sat_first, sat_fix, sat_fixpoints, sat_full, sat_lambda, sat_length, sat_let, sat_next, sat_none, sat_one, sat_rel, sat_waits, waiting, waits_count, waits_dropped, waits_is, waits_kept, waits_none, waits_values}
 
 spine_is : (t : BoxTerm) (xs : List BoxTerm) → box_apply (head_of t) (arguments t xs) ≡ box_apply t xs
 spine_is (BApp f a) xs = spine_is f (a ∷ xs)

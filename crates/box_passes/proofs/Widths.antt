@@ -8,7 +8,9 @@ use Rattle.pc_terms.specs.declared.leaf.FamilyId.{FamilyId}
 use Rattle.pc_terms.specs.BoxSyntax.{BoxTerm, BoxTerms, Box, BLambda, BLetIn, BApp, BConst, BConstruct, BCase, BFix}
 use Rattle.lambda_box.specs.BoxProgram.{BoxFamily, BoxProgram, KeepsBoxConstant, KeepsBoxFamily, box_apply}
 use Rattle.box_passes.specs.Saturate.{innermost, lambdas}
-use Rattle.lambda_box.specs.ClosureEvaluation.{names, names_terms, Value, VBox, VConstruct, VClosure, VFix, Values, NoValue, Then, Env, Empty, Bind, BindFix, bind_all, box_values, size, Held, held_value, Finds, found, later, found_fix, past_fix, one_if, any_below, words, closure_words, Counts, constructor_block, Run, run_box, run_value, run_definition, run_lambda, run_fix, run_constant, run_let, run_app, run_box_app, run_fix_app, run_fix_box, run_construct, run_match, run_only, RunArgs, run_head, run_arg}
+use Rattle.lambda_box.specs.ClosureEvaluation.{names, names_terms, Value, VBox, VConstruct, VClosure, VFix, Values, NoValue, Then, Env, Empty, Bind, BindFix, bind_all, box_values, size, Held, held_value, Finds, found, later, found_fix, past_fix, one_if, any_below, words}
+use Rattle.lambda_box.specs.ClosureEvaluation.{closure_words, Counts, constructor_block, Run, run_box, run_value, run_definition, run_lambda, run_fix, run_constant, run_let, run_app, run_box_app, run_fix_app, run_fix_box, run_construct, run_match, run_only, RunArgs, run_head}
+use Rattle.lambda_box.specs.ClosureEvaluation.{run_arg}
 use Rattle.lambda_box.proofs.Spines.{one_item}
 
 -- the number of values in an environment
@@ -150,7 +152,8 @@ module _ (D A : ℕ) where
   -- the body of a constructor's function
   function_code : {e : Env} {v : Value} (m n : ℕ) (f : FamilyId) (c : ℕ) → n ≤ A → PlainFirst (n - suc m) e → Code D A (Bind v e) (lambdas m (box_apply (BConstruct f c) (innermost n)))
   function_code zero n f c l p = spine (spine_of n (BConstruct f c) spine_head)
-  function_code {e} {v} (suc m) n f c l p = function m n f c l (⊎_elim (λ lt. let q : suc (n - suc (suc m)) ≡ n - suc m = omega arith in subst (λ k. PlainFirst k (Bind v e)) q (first_one p)) (λ le. let q : 0 ≡ n - suc m = omega arith in subst (λ k. PlainFirst k (Bind v e)) q first_none) (cases_lt (suc m) n)) refl
+  function_code {e} {v} (suc m) n f c l p = function m n f c l
+    (⊎_elim (λ lt. let q : suc (n - suc (suc m)) ≡ n - suc m = omega arith in subst (λ k. PlainFirst k (Bind v e)) q (first_one p)) (λ le. let q : 0 ≡ n - suc m = omega arith in subst (λ k. PlainFirst k (Bind v e)) q first_none) (cases_lt (suc m) n)) refl
 
   inner : {b d : BoxTerm} → BLambda b ≡ BLambda d → b ≡ d
   inner e = ap body e
