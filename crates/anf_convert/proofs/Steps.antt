@@ -1,17 +1,16 @@
--- The steps of the walk over a term: what each former's parts write is what the former writes.
-use Rattle.std.proofs.Common.{◌≡◌, ℕ, zero, suc, ◌+◌, List, [], ◌∷◌, ◌++◌, length, map, reverse, refl, sym, ap, ◌∙◌, subst, arith, append-nil, length-append}
-use Rattle.std.proofs.lemmas.List.{append_assoc, reverse-append}
-use Rattle.trees.specs.Tree.{Rel, Done, Next}
+-- The steps of the walk over a term: what is written one after another, and what an argument, branches and definitions become.
+use Rattle.std.proofs.Common.{◌≡◌, ℕ, suc, ◌+◌, List, [], ◌∷◌, ◌++◌, length, map, refl, sym, ap, ◌∙◌, arith, append-nil, length-append}
+use Rattle.std.proofs.lemmas.List.{append_assoc}
+use Rattle.trees.specs.Tree.{Rel, Next}
 use Rattle.pc_terms.specs.BoxSyntax.{BoxTerm, BoxTerms, Box, BLambda, BLetIn, BApp, BConst, BConstruct, BCase, BFix}
-use Rattle.pc_terms.specs.declared.leaf.FamilyId.{FamilyId}
 use Rattle.box_terms.specs.BoxLists.{arms_of, bodies_of, rargs_of}
 use Rattle.box_terms.specs.declared.term.BoxBranch.{BoxBranch}
 use Rattle.box_terms.specs.declared.term.BoxDef.{BoxDef}
-use Rattle.anf_convert.specs.Anf.{AppOp, LamOp, AnfBlock, CaseOp, FixOp, AnfBranches, NoBranch, Branch, AnfDefs, NoDef, LamDef, BoxDef as boxed}
+use Rattle.anf_convert.specs.Anf.{FixOp, Branch, AnfDefs, LamDef, BoxDef as boxed}
 use Rattle.anf_convert.specs.AnfView.{branches_of, defs_of}
 use Rattle.anf_convert.specs.declared.program.AnfDef.{AnfDef}
-use Rattle.anf_convert.specs.ToAnf.{Level, LVar, LBoxed, LEmpty, Binding, AtomIs, OpIs, Res, RAtom, RCon, ROp, Norm, Named, at_depth, binding_of, sealed, with_variable, named, nth, levels, call, name_at, then_arg, then_body, then_case, just, norm, norm_branches, norm_defs}
-use Rattle.anf_convert.specs.Writing.{number_of, res_of, written, named_at, called_at, applied_at, branch_code, term_def, def_code}
+use Rattle.anf_convert.specs.ToAnf.{Level, LVar, LEmpty, Binding, Res, RAtom, RCon, ROp, Norm, sealed, named, levels, name_at, norm, norm_branches, norm_defs}
+use Rattle.anf_convert.specs.Writing.{number_of, written, named_at, branch_code, term_def, def_code}
 use Rattle.anf_convert.specs.declared.builder.Builder.{Builder}
 use Rattle.anf_convert.proofs.LevelLists.{drop_levels}
 
@@ -36,18 +35,7 @@ named_split d ops (RCon c []) = ap (λ ps. record { ops = ps; atom = LEmpty c })
 named_split d ops (RCon c (x ∷ xs)) = refl
 named_split d ops (ROp op) = refl
 
-then_arg_split : (d : ℕ) (ops : List Binding) (r : Res) (arg : ℕ → Norm) → then_arg d ops r arg ≡ record { ops = ops ++ (applied_at (d + length ops) r (name_at arg)).ops; res = (applied_at (d + length ops) r (name_at arg)).res }
-then_arg_split d ops (RCon c xs) arg = refl
-then_arg_split d ops (RAtom f) arg = refl
-then_arg_split d ops (ROp op) arg =
-    let more = ops ++ OpIs op ∷ [] in
-    let deep : d + length more ≡ d + length ops + 1 = omega (arith, length-append ops (OpIs op ∷ [])) in
-    let f = LVar (d + length ops) in
-    let at : ℕ → Named → Norm = λ k a. record { ops = more ++ a.ops; res = ROp (AppOp (at_depth (k + length a.ops) f) (at_depth (k + length a.ops) a.atom)) } in
-    ap (λ k. at k (name_at arg k)) deep
-    ∙ ap (λ ps. record { ops = ps; res = (at (d + length ops + 1) (name_at arg (d + length ops + 1))).res }) (append_assoc ops (OpIs op ∷ []) (name_at arg (d + length ops + 1)).ops)
-
-module _ (env env1 : List Level) (b b1 b2 : Builder) where
+module _ (env : List Level) (b b1 b2 : Builder) where
   -- an argument: a term, and then its name
   module _ (t : BoxTerm) (r : Res) (w : b1 ≡ written b (N env b.depth t).ops) (e : r ≡ (N env b.depth t).res) where
     pub argument_written : b2 ≡ written b1 (named_at b1.depth r).ops → b2 ≡ written b (name_at (λ d. N env d t) b.depth).ops
