@@ -1,8 +1,8 @@
 -- What stands for the variables at a place.
-use Rattle.std.proofs.Common.{◌≡◌, ℕ, zero, suc, ◌+◌, ◌-◌, ◌<◌, ◌≤◌, List, [], ◌∷◌, ◌++◌, length, reverse, take, drop, get_or, refl, sym, ap, ◌∙◌, arith, ⊎_elim}
+use Rattle.std.proofs.Common.{◌≡◌, ℕ, zero, suc, ◌-◌, ◌<◌, ◌≤◌, List, [], ◌∷◌, ◌++◌, length, reverse, take, drop, get_or, refl, sym, ap, ◌∙◌, arith, ⊎_elim}
 use Rattle.std.proofs.lemmas.Bool.{cases_lt}
 use Rattle.std.proofs.lemmas.List.{reverse-append, length-reverse}
-use Rattle.anf_convert.specs.ToAnf.{Level, LVar, LBoxed, nth, levels}
+use Rattle.anf_convert.specs.ToAnf.{Level, LBoxed, nth, levels}
 
 nth_end : (ls : List Level) (i : ℕ) → length ls ≤ i → nth ls i ≡ LBoxed
 nth_end [] i h = refl

@@ -1,5 +1,5 @@
 -- What the passes before leave is what the translation takes.
-use Rattle.std.proofs.Common.{◌≡◌, ℕ, zero, suc, ◌+◌, ◌≤◌, true, List, [], ◌∷◌, ◌++◌, reverse, ap, ◌∙◌, subst, sym, arith, length}
+use Rattle.std.proofs.Common.{◌≡◌, ℕ, zero, suc, ◌≤◌, true, List, [], ◌∷◌, ◌++◌, reverse, ap, ◌∙◌, subst, sym, arith}
 use Rattle.std.proofs.lemmas.List.{reverse-append}
 use Rattle.trees.specs.Tree.{Rel, Done, Next}
 use Rattle.trees.specs.Measures.{depth, depth_trees}
@@ -10,7 +10,7 @@ use Rattle.lambda_box.specs.BoxForm.{IsBoxProgram}
 use Rattle.lambda_box.specs.OrdinaryForm.{family_of, propositional_of, IsOrdinary, AreOrdinary, IsOrdinaryProgram}
 use Rattle.lambda_box.proofs.Families.{family_found, unique_family}
 use Rattle.anf_convert.specs.Anf.{AnfProgram}
-use Rattle.anf_convert.specs.AnfForm.{fields, AnfFormed}
+use Rattle.anf_convert.specs.AnfForm.{AnfFormed}
 use Rattle.anf_convert.specs.TermForm.{constructor_args, more_args, ProgramFits}
 use Rattle.anf_convert.specs.ToAnf.{to_anf}
 use Rattle.anf_convert.specs.ToAnfKeeps.{IsReady, KeepsAnswers}

@@ -1,11 +1,11 @@
 -- Translation and then other numbers for constants is translation by those numbers.
-use Rattle.std.proofs.Common.{◌≡◌, ℕ, zero, suc, ◌+◌, nat_eq, if◌then◌else◌, List, [], ◌∷◌, ◌++◌, length, map, refl, sym, ap, ◌∙◌}
-use Rattle.trees.specs.Tree.{Rel, Node, Done, Next}
+use Rattle.std.proofs.Common.{◌≡◌, ℕ, suc, ◌+◌, nat_eq, if◌then◌else◌, List, [], ◌∷◌, ◌++◌, length, map, refl, sym, ap, ◌∙◌}
+use Rattle.trees.specs.Tree.{Rel, Done, Next}
 use Rattle.pc_terms.specs.declared.leaf.Name.{Name}
 use Rattle.pc_terms.specs.BoxSyntax.{BoxTerm, BoxTerms, Box, BLambda, BLetIn, BApp, BConst, BConstruct, BCase, BFix}
 use Rattle.lambda_box.specs.BoxProgram.{BoxConstant, BoxFamily, BoxProgram}
-use Rattle.anf_convert.specs.Anf.{AnfOp, AnfBlock, TailAtom, Tail, BindAtom, Bind, AnfBranches, NoBranch, Branch, AnfDefs, NoDef, LamDef, BoxDef, AppOp, LamOp, FixOp, CaseOp, Binding, AtomIs, OpIs, tail_of, block_of}
-use Rattle.anf_convert.specs.ToAnf.{Level, LVar, LBoxed, LEmpty, Res, RAtom, RCon, ROp, Norm, Named, at_depth, binding_of, sealed, with_variable, named, nth, levels, call, name_at, then_arg, then_body, then_case, just, norm, norm_branches, norm_defs, code_of, number_in, to_anf}
+use Rattle.anf_convert.specs.Anf.{AnfOp, AnfBlock, BindAtom, Bind, AnfBranches, Branch, LamDef, BoxDef, AppOp, LamOp, FixOp, CaseOp, Binding, AtomIs, OpIs, tail_of, block_of}
+use Rattle.anf_convert.specs.ToAnf.{Level, LVar, Res, RAtom, RCon, ROp, Norm, Named, at_depth, binding_of, sealed, with_variable, named, levels, call, name_at, then_arg, then_body, then_case, just, norm, norm_branches, norm_defs, code_of, number_in, to_anf}
 use Rattle.anf_convert.specs.Renumbering.{renumber, renumber_op, renumber_branches, renumber_defs, place_in, anf_of}
 use Rattle.anf_convert.specs.Writing.{number_of}
 use Rattle.anf_convert.specs.NamedProgram.{named_constant, named_anf}

@@ -1,6 +1,6 @@
 -- What lists in memory are seen as.
-use Rattle.std.proofs.Common.{◌≡◌, ℕ, zero, suc, ◌+◌, ◌-◌, ◌<◌, ◌≤◌, List, [], ◌∷◌, ◌++◌, length, map, reverse, take, drop, refl, sym, ap, ◌∙◌, arith}
-use Rattle.anf_convert.specs.Anf.{Binding, def_count}
+use Rattle.std.proofs.Common.{◌≡◌, suc, List, [], ◌∷◌, ◌++◌, length, refl, ap}
+use Rattle.anf_convert.specs.Anf.{def_count}
 use Rattle.anf_convert.specs.AnfForm.{branch_count}
 use Rattle.anf_convert.specs.AnfView.{seen, bindings_of, branches_of, defs_of}
 use Rattle.anf_convert.specs.declared.program.Op.{Op}

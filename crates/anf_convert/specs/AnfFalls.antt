@@ -1,9 +1,9 @@
 -- Each part of a program in A-normal form is lighter than the whole.
-use Rattle.std.specs.Prelude.{ℕ, suc, ◌+◌, ◌≤◌, ◌<◌, ◌≡◌, List, [], ◌∷◌}
+use Rattle.std.specs.Prelude.{suc, ◌+◌, ◌≤◌, ◌≡◌, List, [], ◌∷◌}
 use Rattle.std.proofs.Common.{arith}
-use Rattle.anf_convert.specs.Anf.{AnfBlock, TailAtom, Tail, Binding, AtomIs, OpIs, block_of, tail_of}
+use Rattle.anf_convert.specs.Anf.{AnfBlock, Binding, AtomIs, OpIs, block_of, tail_of}
 use Rattle.anf_convert.specs.AnfView.{seen, bindings_of, whole, branches_of, defs_of}
-use Rattle.anf_convert.specs.AnfWeight.{op_weight, block_weight, branches_weight, defs_weight, binding_weight, bindings_weight}
+use Rattle.anf_convert.specs.AnfWeight.{block_weight, branches_weight, defs_weight, binding_weight, bindings_weight}
 use Rattle.anf_convert.specs.declared.program.Op.{Op}
 use Rattle.anf_convert.specs.declared.program.Op.TheVariants as op
 use Rattle.anf_convert.specs.declared.program.AnfBranch.{AnfBranch}

@@ -1,7 +1,6 @@
 -- What the types of programs in A-normal form are seen as. In a block a constant stands by the number of its name; `Renumbering` has the program in
 -- which it stands by its place.
-use Rattle.std.specs.Prelude.{ℕ, suc, nat_eq, if◌then◌else◌, List, [], ◌∷◌, map}
-use Rattle.anf_convert.specs.Anf as anf
+use Rattle.std.specs.Prelude.{List, [], ◌∷◌}
 use Rattle.anf_convert.specs.Anf.{AnfBlock, AnfBranches, NoBranch, Branch, AnfDefs, NoDef, LamDef, BoxDef, ConstOp, AppOp, ConOp, LamOp, FixOp, CaseOp, Binding, AtomIs, OpIs, tail_of, block_of}
 use Rattle.anf_convert.specs.declared.program.Op.{Op}
 use Rattle.anf_convert.specs.declared.program.Op.TheVariants as op

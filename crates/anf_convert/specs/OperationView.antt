@@ -1,5 +1,4 @@
 -- What an operation that is no atom is seen as.
-use Rattle.std.specs.Prelude.{◌≡◌}
 use Rattle.anf_convert.specs.Anf.{AnfOp, ConstOp, Binding, AtomIs, OpIs}
 
 -- an atom stands for nothing here

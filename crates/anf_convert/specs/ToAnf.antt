@@ -5,9 +5,8 @@ use Rattle.trees.specs.Tree.{Rel, Done, Next}
 use Rattle.pc_terms.specs.declared.leaf.Name.{Name}
 use Rattle.lambda_box.specs.BoxProgram.{BoxConstant, BoxProgram}
 use Rattle.pc_terms.specs.BoxSyntax.{BoxTerm, BoxTerms, Box, BLambda, BLetIn, BApp, BConst, BConstruct, BCase, BFix}
-use Rattle.anf_convert.specs.Anf.{Atom, AVar, ABox, AEmpty, AnfOp, ConstOp, AppOp, ConOp, LamOp, FixOp, CaseOp, AnfBlock, TailAtom, Tail, BindAtom, Bind, AnfBranches, NoBranch, Branch, AnfDefs, NoDef, LamDef, BoxDef, AnfProgram}
+use Rattle.anf_convert.specs.Anf.{Atom, AVar, ABox, AEmpty, AnfOp, ConstOp, AppOp, ConOp, LamOp, FixOp, CaseOp, AnfBlock, AnfBranches, NoBranch, Branch, AnfDefs, NoDef, LamDef, BoxDef, AnfProgram}
 pub use Rattle.anf_convert.specs.Anf.{Binding, AtomIs, OpIs, tail_of, block_of}
-
 -- an atom whose variable is counted from the outside, so that it stays what it is under more binders
 pub use Rattle.anf_convert.specs.declared.level.Level.{Level}
 pub use Rattle.anf_convert.specs.declared.level.Level.TheVariants.{Var as LVar, Box as LBoxed, Empty as LEmpty}

@@ -1,8 +1,14 @@
 //! From programs after erasure to A-normal form (Flanagan et al., "The Essence of Compiling with Continuations", PLDI 1993).
 //!
-//! `specs/ToAnf.antt` is the translation. Its program keeps data and counts (`anf_law`, clause `keeps`) and has its names in scope (`form_law`,
-//! clause `form`). The definitions of A-normal form stand here too: `specs/Anf.antt` (the language), `Captured` (captured words),
-//! `AnfEvaluation` (evaluation with environments, with its counts), `AnfForm` (names in scope, counts within the limits).
+//! `to_anf` answers exactly the program of the function on trees in `specs/ToAnf.antt` (`exact` with the constants' names, `is` with their
+//! places). Its laws are clauses of the call: data and counts (`data_kept`), names in scope and counts within the limits (`form`). `Memory` is
+//! the only refusal (`only_memory`). The laws about the function stand apart too (`anf_law`, `form_law`, `box_form_law`). The walk looks at each
+//! node once, writes each block from front to back, and recurses no deeper than its term.
+//!
+//! The definitions of A-normal form stand here: `specs/Anf.antt` (the language), `Captured` (captured words), `AnfEvaluation` (evaluation with
+//! environments, with its counts), `AnfForm` (names in scope, counts within the limits). `program` has the types; contracts see a block as the
+//! tree of `Anf` (`AnfView`), in which a constant stands by its name's number, and `anf_of` of `Renumbering` as the program, in which it stands
+//! by its place.
 //!
 //! Below stand `box_terms` and `lambda_box`; above, `closure_lift` gives each lambda a function.
 #![tactic(auto)]

@@ -29,10 +29,7 @@ fn boxed(alloc: Global, block: AnfBlock) -> Result<Box<AnfBlock>, PassFault>
 fn call(depth: u32, function: Level, argument: Level) -> Made
     ensures is { res_of result ≡ ROp (AppOp (at_depth depth function) (at_depth depth argument)) }
 {
-    Made::operation(Op::App(
-        function.at_depth(depth),
-        argument.at_depth(depth),
-    ))
+    Made::operation(Op::App(function.at_depth(depth), argument.at_depth(depth)))
 }
 
 /// Writes the bindings of a term at the end of `out`, and gives what the term becomes after them. It calls itself for subterms alone.

@@ -11,7 +11,7 @@ use Rattle.anf_convert.proofs.norm.+norm.Goals as goal
 
 pub argument-returns-clause-written : goal.argument-returns-clause-written
 argument-returns-clause-written t c =
-    argument_written c.args.levels.now c.args.levels.now c.args.out.now _ _ c.args.t.now _ c.in_ok-made.ensures.written c.in_ok-made.ensures.ok c.in_ok-level.ensures.written
+    argument_written c.args.levels.now c.args.out.now _ _ c.args.t.now _ c.in_ok-made.ensures.written c.in_ok-made.ensures.ok c.in_ok-level.ensures.written
 
 pub branches-block-requires : goal.branches-block-requires
 branches-block-requires t c =

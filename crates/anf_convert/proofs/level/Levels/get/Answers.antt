@@ -1,4 +1,4 @@
-use Rattle.std.proofs.Common.{rules, ◌≡◌, arith, ap, ◌∙◌}
+use Rattle.std.proofs.Common.{rules, arith, ap, ◌∙◌}
 use Rattle.anf_convert.proofs.LevelLists.{level_there, level_past}
 use Rattle.anf_convert.specs.ToAnf.{nth}
 use Rattle.anf_convert.proofs.level.Levels.get.Goals as goal
