@@ -6,3 +6,9 @@ pub mod Follows
 pub mod Forms
 pub mod Examples
 pub mod CapturedLimit
+pub mod FreeWords
+pub mod Backwards
+pub mod Counted
+pub mod Noting
+pub mod Lighter
+pub mod Noted

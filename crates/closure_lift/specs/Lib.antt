@@ -1,5 +1,13 @@
 pub mod Lifted
+pub mod LiftedView
+pub mod LiftedWeight
+pub mod LiftedFalls
+pub mod LiftedCode
+pub mod ConstantCode
+pub mod LiftedProgram
 pub mod Lift
 pub mod LiftedForm
 pub mod LiftKeeps
 pub mod CapturedLimit
+pub mod Noting
+pub mod FreeVariables

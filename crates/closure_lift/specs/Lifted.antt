@@ -1,7 +1,8 @@
 -- Lifted programs (closure conversion; Appel, "Compiling with Continuations", chapter 10), and their big-step evaluation. A closure is the
 -- number of a function with the captured words.
 use Rattle.std.specs.Prelude.{◌≡◌, ℕ, zero, suc, ◌+◌, ◌<◌, List, [], ◌∷◌, length, Option, Some, None, slice_get}
-use Rattle.anf_convert.specs.Anf.{Atom, AVar, ABox, AEmpty}
+use Rattle.anf_convert.specs.declared.program.Atom.{Atom}
+use Rattle.anf_convert.specs.declared.program.Atom.TheVariants.{Var as AVar, Box as ABox, Empty as AEmpty}
 
 mutual
   pub data Op : Type 0 where
@@ -20,6 +21,21 @@ mutual
   pub data Branches : Type 0 where
     BNil : Branches
     BCons : (binders : ℕ) → (body : Block) → (rest : Branches) → Branches
+
+-- what a block binds, or ends in
+pub data Bound : Type 0 where
+  AtomBound : (a : Atom) → Bound
+  OpBound : (op : Op) → Bound
+
+abbrev pub ret_of : Bound → Block
+ret_of (AtomBound a) = RetAtom a
+ret_of (OpBound op) = Ret op
+
+-- the block that binds these one after another, and then goes on
+abbrev pub lets_of : List Bound → Block → Block
+lets_of [] t = t
+lets_of (AtomBound a ∷ ps) t = LetAtom a (lets_of ps t)
+lets_of (OpBound op ∷ ps) t = Let op (lets_of ps t)
 
 -- variable 0 of the body is the argument; the captured words stand outside it, the last one innermost
 pub record Fn : Type 0 where

@@ -1,8 +1,23 @@
 //! Lifting of programs in A-normal form: functions are numbered, and closures hold captured words.
+//!
+//! `specs/Lift.antt` is the translation. Its program keeps data and counts (`lift_law`, clause `keeps`), has its names in scope (`form_law`,
+//! clause `form`), and its functions take as many words as lambdas and fixpoints have captured ones (`captured_law`, clause `exactly`).
+//! `program` has lifted programs as they are in memory. `free` finds the free variables of each lambda and fixpoint in one walk
+//! (`note_block`, clauses `names` and `notes`), and `words` the words among names that are bound outside (`captured_words`, clause `is`).
+//!
+//! Below stands `anf_convert`, whose programs are lifted; the emission of modules stands above.
 #![tactic(auto)]
+
+mod fault;
+mod free;
+pub mod lists;
+pub mod program;
+mod words;
 
 ghost use Rattle.closure_lift.specs.LiftKeeps.{LiftKeeps, LiftForms};
 ghost use Rattle.closure_lift.specs.CapturedLimit.{CapturedExactly};
+
+pub use fault::LiftFault;
 
 /// The lifted program has the data of the program in A-normal form, with as many matches and blocks, no more contractions and no wider
 /// block, whatever data main is applied to.
