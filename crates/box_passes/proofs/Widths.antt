@@ -153,7 +153,7 @@ module _ (D A : ℕ) where
   function_code : {e : Env} {v : Value} (m n : ℕ) (f : FamilyId) (c : ℕ) → n ≤ A → PlainFirst (n - suc m) e → Code D A (Bind v e) (lambdas m (box_apply (BConstruct f c) (innermost n)))
   function_code zero n f c l p = spine (spine_of n (BConstruct f c) spine_head)
   function_code {e} {v} (suc m) n f c l p = function m n f c l
-    (⊎_elim (λ lt. let q : suc (n - suc (suc m)) ≡ n - suc m = omega arith in subst (λ k. PlainFirst k (Bind v e)) q (first_one p)) (λ le. let q : 0 ≡ n - suc m = omega arith in subst (λ k. PlainFirst k (Bind v e)) q first_none) (cases_lt (suc m) n)) refl
+      (⊎_elim (λ lt. let q : suc (n - suc (suc m)) ≡ n - suc m = omega arith in subst (λ k. PlainFirst k (Bind v e)) q (first_one p)) (λ le. let q : 0 ≡ n - suc m = omega arith in subst (λ k. PlainFirst k (Bind v e)) q first_none) (cases_lt (suc m) n)) refl
 
   inner : {b d : BoxTerm} → BLambda b ≡ BLambda d → b ≡ d
   inner e = ap body e

@@ -55,8 +55,17 @@ whole P pages w m D v d c k b s pos small some g is =
     let M = module_of P pages in
     let cap : Limits = record { frames = D + 1; bytes = 8 + 4 * s; more = [] } in
     let Q = Finished M (preorder d) (8 + 4 * s) in
-    let y = (follows P (main_function P) [] [] pages small w m some cap Q g).sim (zeroed 1) 1 8 (zeros (top 0 P.main)) 0 [] (record { long = zeroed_length 1; q = 2; aligned = refl; above = omega arith; fits = omega arith; inside = omega
-        (arith, zeroed_length 1); tight = omega arith; pages = omega arith }) zeroed_word env_nil (omega (arith, zeros_length (top 0 P.main))) (omega arith) in
+    let y = (follows P (main_function P) [] [] pages small w m some cap Q g).sim (zeroed 1) 1 8 (zeros (top 0 P.main)) 0 [] (record {
+      long = zeroed_length 1;
+      q = 2;
+      aligned = refl;
+      above = omega arith;
+      fits = omega arith;
+      inside = omega
+          (arith, zeroed_length 1);
+      tight = omega arith;
+      pages = omega arith;
+    }) zeroed_word env_nil (omega (arith, zeros_length (top 0 P.main))) (omega arith) in
     looser M cap Q (y.run (record { keeps = false; labels = []; callers = [] }) [] (GlobalSet 0 ∷ End ∷ []) 0 2 (64 * (w + m) * (c + b) + 4) (omega arith) (omega arith)
     (λ m' p' h' ls' w' e room same keeps st.
     looser M cap Q {l = 2} {u = 2} (rule.r_set_global M cap.frames Q (Spent M cap.bytes) {x = 0} {old = I32 0} {v = I32 w'} (omega arith) refl

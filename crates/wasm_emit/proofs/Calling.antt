@@ -57,15 +57,15 @@ ends m bytes frames least n d t (ran_out e) last = inr (is_exhausted m bytes t e
 -- the tree of all runs
 whole : (P : Program) (pages w m D : ℕ) (args : Vals) (ds : Datas) (v : Val) (d : Data) (c k b s : ℕ) (memory : Mem) (pages_now heap address : ℕ) → 0 < pages → pages ≤ 16384 → 0 < m → Applies P w m D args v c k b s → AreData args ds → IsData v d → IsHosted pages memory pages_now heap address ds →
     Within (module_of_call P (count ds) pages) (record { frames = D + 1; bytes = heap + 4 * s; more = I32 address ∷ [] }) (Finished (module_of_call P (count ds) pages) (preorder d) (heap + 4 * s)) k (64 * (b + c + 1) * (w + m))
-        (call_start (record { type = type_main; body = call_function P (count ds) }) (hosted memory pages_now heap address))
+    (call_start (record { type = type_main; body = call_function P (count ds) }) (hosted memory pages_now heap address))
 whole P pages w m D args ds v d c k b s memory pages_now heap address pos small some g are is host =
     let M = module_of_call P (count ds) pages in
     let cap : Limits = record { frames = D + 1; bytes = heap + 4 * s; more = I32 address ∷ [] } in
     let Q = Finished M (preorder d) (heap + 4 * s) in
     let n = max 2 (top 0 P.main) in
     let y = applies P (call_function P (count ds)) call_globals call_exports pages small w m some cap Q {a = address} refl g memory pages_now heap (zeros n)
-        (record { long = host.whole; q = host.quarter; aligned = host.aligned; above = host.above; fits = omega (arith, host.inside, host.whole); inside = host.inside; tight = host.fewest; pages = host.most_pages }) host.zero (args_of are host.arguments)
-        (omega (arith, zeros_length n)) (omega (arith, zeros_length n)) (omega arith) in
+    (record { long = host.whole; q = host.quarter; aligned = host.aligned; above = host.above; fits = omega (arith, host.inside, host.whole); inside = host.inside; tight = host.fewest; pages = host.most_pages }) host.zero (args_of are host.arguments)
+    (omega (arith, zeros_length n)) (omega (arith, zeros_length n)) (omega arith) in
     subst (λ (j : ℕ). Within M cap Q k (64 * (b + c + 1) * (w + m)) (rule.here (record { keeps = false; labels = []; callers = [] }) (hosted memory pages_now heap address) (zeros n) [] (applied P j (GlobalSet 0 ∷ End ∷ [])))) (sym (all_count are))
     (looser M cap Q (y.run (record { keeps = false; labels = []; callers = [] }) [] (GlobalSet 0 ∷ End ∷ []) 0 2 (64 * (w + m) * (c + b) + 4) (omega arith) (omega arith)
     (λ m' p' h' ls' w' e room same keeps st.

@@ -153,8 +153,10 @@ module _ (P : Program) (main : Body) (gs : List GlobalDef) (es : List Export) (p
       (m : Mem) (p h : ℕ) (ls : List ConstValue) (d w : ℕ) (ps : List Place) → Room M m p h → word m 0 ≡ 0 → Env m h ls (suc d) ps e → top (suc d) t ≤ length ls → h + 4 * s ≤ cap.bytes → slice_get ls d ≡ Some (I32 w) → Stands m h w (VCon i vs) →
       Yields P M cap Q m p h ls d r tail D k s (11 * N + (cost c b + 2)) (λ rest. empties P ps d 0 bs (heads P ps d 0 bs) rest)
   chosen {tail} {bs = bs} few at body m p h ls d w ps room nil env has needed is (s_empty lt e) =
-      record { run = λ f vals rest l u bound deep fits go out. (take_empty P M cap Q is ps 0 (heads P ps d 0 bs) refl (omega arith) (λ j r. skip_heads_end P ps d 0 bs j r) at
-          (fewer_kept P M cap Q (body.sim m p h ls (suc d) ps room nil env has needed))).run f vals rest l u bound deep (omega arith) go out }
+      record {
+        run = λ f vals rest l u bound deep fits go out. (take_empty P M cap Q is ps 0 (heads P ps d 0 bs) refl (omega arith) (λ j r. skip_heads_end P ps d 0 bs j r) at
+            (fewer_kept P M cap Q (body.sim m p h ls (suc d) ps room nil env has needed))).run f vals rest l u bound deep (omega arith) go out;
+      }
   chosen {tail} {bs = bs} {vs = vs} few at body m p h ls d w ps room nil env has needed is (s_con q lt e pos some' within head fs) =
       let y = fewer_kept P M cap Q (body.sim m p h ls (suc d) (fields_of d (size vs) ps) room nil (fields_env d w (omega arith) is within fs env) has needed) in
       let z = take_head P M cap Q is ps 0 some' (omega (arith, room.inside)) (omega (arith, head)) (omega arith) at y in

@@ -46,7 +46,7 @@ module _ (M : Parts) (fixed : HasRunTime M) (cap : Limits) (Q : State → Type 0
   filled {m = m} deep are_none at env fits pages long pos k = looser M cap Q (k m (λ a x. refl) (λ a x. refl) long no_field) (omega arith) (omega arith)
   filled {f = f} {m} {p} {h} {ls} {vals} {rest} {l} {u} {d} {q} {ps} deep (are_more {a = a} {v = v} {as' = as'} {vs = vs} is hs) at env fits pages long pos k =
       looser M cap Q (r_get M cap Q (omega arith) at (put_atom (omega arith) (omega arith) env is (λ w s. r_store M cap Q (omega arith) (omega arith)
-          (filled {m = put_word m (q + 4 * suc (length as')) w} deep hs at (env_on (omega arith) (λ x lt. put_other m _ w x (inl (omega arith))) (omega arith) (keeps_same d ls) env) (omega arith) pages (put_length m _ w ∙ long) pos (λ m' low high long' fs. k m'
+      (filled {m = put_word m (q + 4 * suc (length as')) w} deep hs at (env_on (omega arith) (λ x lt. put_other m _ w x (inl (omega arith))) (omega arith) (keeps_same d ls) env) (omega arith) pages (put_length m _ w ∙ long) pos (λ m' low high long' fs. k m'
       (λ x lt. low x lt ∙ put_other m _ w x (inl (omega arith)))
       (λ x le. high x (omega arith) ∙ put_other m _ w x (inr (omega arith)))
       long' (field (subst (λ x. Stands m' q x v) (sym (stored w s m' high)) (stands_on m m' q (omega arith) (λ x lt. low x (omega arith) ∙ put_other m _ w x (inl (omega arith))) s)) (subst (IsBelow q) (sym (stored w s m' high)) (address_below pos s)) fs)))))) (omega arith) (omega arith)

@@ -114,8 +114,18 @@ module _ (P : Program) (m : ℕ) (counts : CountsFit P m) (limits : Limits P) wh
         let r4 = Else ∷ empties P ps d (suc c) bs others (End ∷ rest) in
         let r3 = code P ps (suc d) t r4 in
         let r2 = Operation op32.Eq ∷ IfWord ∷ r3 in
-        omega (arith, z_get (Const (2 * c + 1) ∷ r2) d (omega arith), z_const r2 (2 * c + 1), z_op (IfWord ∷ r3) op32.Eq, z_if r3 (Value I32), code_size (0 + n) (suc d) ps t r4 (omega arith) h fit.1, z_else
-        (empties P ps d (suc c) bs others (End ∷ rest)), empties_size n d ps (suc c) bs others (End ∷ rest) k (omega arith) h fit.2 o, z_end rest)
+        omega (
+          arith,
+          z_get (Const (2 * c + 1) ∷ r2) d (omega arith),
+          z_const r2 (2 * c + 1),
+          z_op (IfWord ∷ r3) op32.Eq,
+          z_if r3 (Value I32),
+          code_size (0 + n) (suc d) ps t r4 (omega arith) h fit.1,
+          z_else
+              (empties P ps d (suc c) bs others (End ∷ rest)),
+          empties_size n d ps (suc c) bs others (End ∷ rest) k (omega arith) h fit.2 o,
+          z_end rest,
+        )
     empties_size n d ps c (BCons (suc j) t bs) others rest k le h fit o = empties_size n d ps (suc c) bs others rest k (omega arith) h fit.2 o
 
     heads_size : (n d : ℕ) (ps : List Place) (c : ℕ) (bs : Branches) (rest : List Instr) → max (suc d) (top_branches (suc d) bs) < 100000 → All Near ps → BranchesFit P.functions (length P.constants) m n bs → size (heads P ps d c bs rest) ≤ 1 + heads_weight bs + size rest
@@ -127,8 +137,19 @@ module _ (P : Program) (m : ℕ) (counts : CountsFit P m) (limits : Limits P) wh
         let r4 = code P (fields_of d (suc j) ps) (suc d) t r5 in
         let r3 = Operation op32.Eq ∷ IfWord ∷ r4 in
         let r2 = Const (suc j * 65536 + c) ∷ r3 in
-        omega (arith, z_get (Load 0 ∷ r2) d (omega arith), z_load r2 0 (omega arith), z_const r3 (suc j * 65536 + c), z_op (IfWord ∷ r4) op32.Eq, z_if r4 (Value I32), code_size (suc j + n) (suc d) (fields_of d (suc j) ps) t r5 (omega arith)
-        (fields_near d (suc j) ps (omega arith) (omega (arith, low)) h) fit.1, z_else (heads P ps d (suc c) bs (End ∷ rest)), heads_size n d ps (suc c) bs (End ∷ rest) (omega arith) h fit.2, z_end rest)
+        omega (
+          arith,
+          z_get (Load 0 ∷ r2) d (omega arith),
+          z_load r2 0 (omega arith),
+          z_const r3 (suc j * 65536 + c),
+          z_op (IfWord ∷ r4) op32.Eq,
+          z_if r4 (Value I32),
+          code_size (suc j + n) (suc d) (fields_of d (suc j) ps) t r5 (omega arith)
+              (fields_near d (suc j) ps (omega arith) (omega (arith, low)) h) fit.1,
+          z_else (heads P ps d (suc c) bs (End ∷ rest)),
+          heads_size n d ps (suc c) bs (End ∷ rest) (omega arith) h fit.2,
+          z_end rest,
+        )
 
 no_bytes : size [] ≡ 0
 unfolding put_all

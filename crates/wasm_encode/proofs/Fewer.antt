@@ -409,9 +409,67 @@ row_spends (LongBits i) p k w0 w ws m l h = let (n, w1, l1, h1) = s64_spends (λ
 
 opcodes_few : All (λ (r : ℕ × Row). IsFew r.1) opcodes
 unfolding IsFew put_instr
-opcodes_few = ((λ u. omega arith), ((λ u. omega arith), ((λ t u. omega arith), ((λ t u. omega arith), ((λ t u. omega arith), ((λ u. omega arith), ((λ u. omega arith), ((λ n u. omega arith), ((λ n u. omega arith), ((λ ls l u. omega arith),
-    ((λ u. omega arith), ((λ n u. omega arith), ((λ a b u. omega arith), ((λ u. omega arith), ((λ n u. omega arith), ((λ n u. omega arith), ((λ n u. omega arith), ((λ n u. omega arith), ((λ n u. omega arith), ((λ a u. omega arith),
-    ((λ a u. omega arith), ((λ a u. omega arith), ((λ a u. omega arith), ((λ u. omega arith), ((λ u. omega arith), ((λ n u. omega arith), ((λ n u. omega arith), tt)))))))))))))))))))))))))))
+opcodes_few = (
+  (λ u. omega arith),
+  (
+    (λ u. omega arith),
+    (
+      (λ t u. omega arith),
+      (
+        (λ t u. omega arith),
+        (
+          (λ t u. omega arith),
+          (
+            (λ u. omega arith),
+            (
+              (λ u. omega arith),
+              (
+                (λ n u. omega arith),
+                (
+                  (λ n u. omega arith),
+                  (
+                    (λ ls l u. omega arith),
+                    (
+                      (λ u. omega arith),
+                      (
+                        (λ n u. omega arith),
+                        (
+                          (λ a b u. omega arith),
+                          (
+                            (λ u. omega arith),
+                            (
+                              (λ n u. omega arith),
+                              (
+                                (λ n u. omega arith),
+                                (
+                                  (λ n u. omega arith),
+                                  (
+                                    (λ n u. omega arith),
+                                    (
+                                      (λ n u. omega arith),
+                                      (
+                                        (λ a u. omega arith),
+                                        ((λ a u. omega arith), ((λ a u. omega arith), ((λ a u. omega arith), ((λ u. omega arith), ((λ u. omega arith), ((λ n u. omega arith), ((λ n u. omega arith), tt))))))),
+                                      ),
+                                    ),
+                                  ),
+                                ),
+                              ),
+                            ),
+                          ),
+                        ),
+                      ),
+                    ),
+                  ),
+                ),
+              ),
+            ),
+          ),
+        ),
+      ),
+    ),
+  ),
+)
 
 operation_few : (o : Option I32Op) (r : Row) → operation_row o ≡ Some r → IsFew r
 unfolding IsFew put_instr
