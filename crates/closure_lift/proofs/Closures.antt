@@ -2,7 +2,9 @@
 use Rattle.std.proofs.Common.{◌≡◌, ℕ, zero, suc, ◌+◌, ◌<◌, ◌≤◌, List, [], ◌∷◌, map, length, Some, Bool, true, false, refl, sym, ap, ◌∙◌, subst as transport, arith}
 use Rattle.std.proofs.lemmas.Bool.{eq-eqb, eqb-true}
 use Rattle.std.specs.Prelude.{get_or, nat_eq}
-use Rattle.anf_convert.specs.Anf.{Atom, AVar, def_count}
+use Rattle.anf_convert.specs.Anf.{def_count}
+use Rattle.anf_convert.specs.declared.program.Atom.{Atom}
+use Rattle.anf_convert.specs.declared.program.Atom.TheVariants.{Var as AVar}
 use Rattle.anf_convert.specs.Captured.{Scope, Outside, Plain, Shared, depth, Unbound, Word, Words, entry, words_of, atom_words, atoms_words, defs_words, shares, fix_captured}
 use Rattle.anf_convert.specs.AnfEvaluation.{AnfVal, AnfVals, WCons, find, Gives, give_word, give_fix, give_box, give_empty, GivesAll, give_none, give_more}
 use Rattle.closure_lift.specs.Lifted.{Block, Program, Val, VBox, VCon, VClos, Vals, VNil, VCons, lookup, size, Is, is_var, is_box, is_empty, AllAre, are_none, are_more, do_clos, Gets, gets_let}

@@ -1,6 +1,7 @@
 -- Lifted programs, computed.
 use Rattle.std.proofs.Common.{◌≡◌, ℕ, [], ◌∷◌, refl}
-use Rattle.anf_convert.specs.Anf.{AVar, ABox, AppOp, LamOp, FixOp, AnfBlock, Tail, Bind, NoDef, LamDef, BoxDef, AnfProgram}
+use Rattle.anf_convert.specs.Anf.{AppOp, LamOp, FixOp, AnfBlock, Tail, Bind, NoDef, LamDef, BoxDef, AnfProgram}
+use Rattle.anf_convert.specs.declared.program.Atom.TheVariants.{Var as AVar, Box as ABox}
 use Rattle.closure_lift.specs.Lifted.{OApp, OClos, Block, RetAtom, Ret, Let, Fn}
 use Rattle.closure_lift.specs.Lift.{lift}
 

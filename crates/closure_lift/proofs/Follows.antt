@@ -1,6 +1,8 @@
 -- The lifted program follows the evaluation of the program in A-normal form.
 use Rattle.std.proofs.Common.{◌≡◌, ℕ, suc, ◌+◌, ◌<◌, ◌≤◌, List, [], ◌∷◌, map, length, Some, refl, sym, ap, ◌∙◌, subst as transport, arith}
-use Rattle.anf_convert.specs.Anf.{Atom, AVar, AnfOp, AppOp, CaseOp, AnfBlock, TailAtom, BindAtom, Bind, AnfBranches, AnfDefs, AnfProgram, def_count}
+use Rattle.anf_convert.specs.Anf.{AnfOp, AppOp, CaseOp, AnfBlock, TailAtom, BindAtom, Bind, AnfBranches, AnfDefs, AnfProgram, def_count}
+use Rattle.anf_convert.specs.declared.program.Atom.{Atom}
+use Rattle.anf_convert.specs.declared.program.Atom.TheVariants.{Var as AVar}
 use Rattle.anf_convert.specs.Captured.{Scope, Outside, Plain, depth, Word, Words, plains, shares, atom_words, atoms_words, op_words, block_words, branches_words, defs_words, lam_captured, fix_captured}
 use Rattle.anf_convert.specs.AnfEvaluation.{AnfVal, WBox, WCon, WClos, WFix, AnfVals, WNil, WCons, count, ◌+w◌, fixes, LamAt, BoxAt, AnfBranchAt, at_branch, after_branch, Gives, give_word, give_fix, give_none, give_more, AnfDoes, op_const, op_app, op_app_box, op_app_fix, op_app_fix_box, op_con, op_lam, op_fix, op_case, AnfGets, block_atom, block_op, block_let, block_bind, AnfAnswers, main_alone, main_applied}
 use Rattle.closure_lift.specs.Lifted.{OApp, Block, RetAtom, LetAtom, Ret, Let, Program, Val, VBox, VCon, VClos, Vals, VNil, VCons, size, ◌+v◌, BranchAt, Is, is_var, is_box, AllAre, are_none, are_more, Does, do_const, do_app, do_box_app, do_con, do_clos, do_case, Gets, gets_atom, gets_let_atom, gets_ret, gets_let, Answers, answers_alone, answers_applied}

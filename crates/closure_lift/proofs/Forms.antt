@@ -2,7 +2,9 @@
 use Rattle.std.proofs.Common.{◌≡◌, ℕ, zero, suc, ◌+◌, ◌<◌, List, [], ◌∷◌, ◌++◌, map, length, Some, None, Bool, true, false, refl, sym, ap, ◌∙◌, subst, subst as transport, arith}
 use Rattle.std.proofs.lemmas.Bool.{eq-eqb}
 use Rattle.std.specs.Prelude.{slice_get, get_or, if◌then◌else◌}
-use Rattle.anf_convert.specs.Anf.{Atom, AVar, ABox, AEmpty, AnfOp, ConstOp, AppOp, ConOp, LamOp, FixOp, CaseOp, AnfBlock, TailAtom, Tail, BindAtom, Bind, AnfBranches, NoBranch, Branch, AnfDefs, NoDef, LamDef, BoxDef, def_count}
+use Rattle.anf_convert.specs.Anf.{AnfOp, ConstOp, AppOp, ConOp, LamOp, FixOp, CaseOp, AnfBlock, TailAtom, Tail, BindAtom, Bind, AnfBranches, NoBranch, Branch, AnfDefs, NoDef, LamDef, BoxDef, def_count}
+use Rattle.anf_convert.specs.declared.program.Atom.{Atom}
+use Rattle.anf_convert.specs.declared.program.Atom.TheVariants.{Var as AVar, Box as ABox, Empty as AEmpty}
 use Rattle.anf_convert.specs.AnfEvaluation.{LamAt, lam_here, lam_after_lam, lam_after_box}
 use Rattle.anf_convert.specs.Captured.{Scope, Outside, Plain, Shared, depth, Entry, Unbound, Word, Words, entry, plains, shares, words_of, atom_words, atoms_words, op_words, block_words, branches_words, defs_words, lam_captured, fix_captured}
 use Rattle.closure_lift.specs.Lifted.{Block, Fn, many}

@@ -5,7 +5,7 @@ use Rattle.anf_convert.specs.Anf.{AnfOp, ConstOp, AppOp, ConOp, LamOp, FixOp, Ca
 use Rattle.anf_convert.specs.AnfEvaluation.{LamAt, lam_here, lam_after_lam, lam_after_box, BoxAt, box_here, box_after_lam, box_after_box, AnfBranchAt, at_branch, after_branch}
 use Rattle.anf_convert.specs.Captured.{Scope, Outside, Plain, plains, shares, fix_captured}
 use Rattle.closure_lift.specs.Lifted.{Block, RetAtom, Fn, Program, BranchAt, branch_here, branch_after}
-use Rattle.anf_convert.specs.Anf.{ABox}
+use Rattle.anf_convert.specs.declared.program.Atom.TheVariants.{Box as ABox}
 use Rattle.closure_lift.specs.Lift.{Slot, op_functions, block_functions, branches_functions, defs_functions, unnumbered, numbered, holding, lift_block, lift_branches, lambda_function, def_functions, functions_op, functions_block, functions_branches, functions_defs, constants_functions, lift_constants, functions_constants, lift}
 
 -- these functions stand from number g on

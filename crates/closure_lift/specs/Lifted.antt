@@ -1,7 +1,8 @@
 -- Lifted programs (closure conversion; Appel, "Compiling with Continuations", chapter 10), and their big-step evaluation. A closure is the
 -- number of a function with the captured words.
 use Rattle.std.specs.Prelude.{◌≡◌, ℕ, zero, suc, ◌+◌, ◌<◌, List, [], ◌∷◌, length, Option, Some, None, slice_get}
-use Rattle.anf_convert.specs.Anf.{Atom, AVar, ABox, AEmpty}
+use Rattle.anf_convert.specs.declared.program.Atom.{Atom}
+use Rattle.anf_convert.specs.declared.program.Atom.TheVariants.{Var as AVar, Box as ABox, Empty as AEmpty}
 
 mutual
   pub data Op : Type 0 where
