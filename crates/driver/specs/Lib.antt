@@ -4,5 +4,8 @@ pub mod Answerable
 pub mod Texts
 pub mod Lines
 pub mod CommandLine
+pub mod SourceEnds
+pub mod SourceSays
+pub mod EvaluatedSource
 pub mod Serve
 pub mod Served

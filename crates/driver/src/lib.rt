@@ -22,6 +22,7 @@
 mod check;
 mod command_line;
 mod err_line;
+mod eval;
 mod exec;
 mod plain;
 mod program;

@@ -74,7 +74,7 @@ node_is S x b e =
 
 -- places and values of the fields
 
-places_of_fields : (js : List ℕ) (xs : List Term) → length xs ≡ length js → map place_of (fields js xs) ≡ js
+pub places_of_fields : (js : List ℕ) (xs : List Term) → length xs ≡ length js → map place_of (fields js xs) ≡ js
 places_of_fields [] xs e = refl
 places_of_fields (j ∷ js) [] e = absurd (omega (arith, e))
 places_of_fields (j ∷ js) (x ∷ xs) e = ap (◌∷◌ j) (places_of_fields js xs (omega (arith, e)))
@@ -165,7 +165,7 @@ nothing_read : (E : Env) (hs : List Shape) (ds : Data) → Read [] ≡ Read ds �
 nothing_read E hs [] e = record { all = no_field }
 nothing_read E hs (d ∷ ds) e = absurd (cc)
 
-node_of_some : (o : Option Taken) (k : ℕ) (go : Taken → Reading) (ds : Data) → on_node o k go ≡ Read ds →
+pub node_of_some : (o : Option Taken) (k : ℕ) (go : Taken → Reading) (ds : Data) → on_node o k go ≡ Read ds →
     (b : Taken) × (es : Data) × (o ≡ Some b) × (ds ≡ (b.0, length b.1) ∷ es) × (go b ≡ Read es)
 node_of_some None k go ds e = absurd (cc)
 node_of_some (Some b) k go ds e = let p = put_read (b.0, length b.1) (go b) ds e in (b, p.0, refl, p.1, p.2)

@@ -1,2 +1,6 @@
 pub mod NodeByNode
 pub mod DataRead
+pub mod Searches
+pub mod Working
+pub mod Written
+pub mod ReadTexts

@@ -10,7 +10,10 @@
 //! Below stand `pc_terms`, `pc_rules` and `data_trees`.
 #![tactic(auto)]
 
+mod arguments;
 pub mod faults;
 pub mod reading;
+pub mod searching;
 pub mod shapes;
+pub mod texts;
 mod vectors;
