@@ -50,6 +50,21 @@ let opaque_body name constant =
   | Some (body, _, _) -> body
   | None -> refuse "%s: an opaque proof that can't be read" name
 
+(* The body with its fixpoints reduced. Where something was contracted, Coq's kernel types the new body, guard included, finds the old one's type, and finds the two bodies
+   convertible: so a reduction changes nothing but by conversion. *)
+let reduced_body closure name body =
+  let before = !Guarding.contractions in
+  let reduced = Guarding.for_written_guard closure.env ~unfolds:!Options.unfold_constants body in
+  if !Guarding.contractions > before then begin
+    let kernel_says what f =
+      try ignore (f ()) with e when CErrors.noncritical e -> refuse "%s: its reduced body: the kernel refuses the %s" name what in
+    let typed body = (Typeops.infer closure.env body).Environ.uj_type in
+    kernel_says "term" (fun () -> typed reduced);
+    kernel_says "type" (fun () -> Reduction.conv closure.env (typed body) (typed reduced));
+    kernel_says "conversion" (fun () -> Reduction.conv closure.env body reduced)
+  end;
+  reduced
+
 let body_of closure c constant u =
   let name = Constant.to_string c in
   let instantiated body = Block.simple (Vars.subst_instance_constr u body) in
@@ -60,7 +75,7 @@ let body_of closure c constant u =
     | OpaqueDef _ when !Options.opaque_axioms && not (KerName.equal closure.root (Constant.canonical c)) -> None
     | OpaqueDef _ -> Some (instantiated (opaque_body name constant)) in
   if not !Options.reduce_fixpoints then body
-  else Option.map (Guarding.for_written_guard closure.env ~unfolds:!Options.unfold_constants) body
+  else Option.map (reduced_body closure name) body
 
 let type_of constant u = Block.simple (Vars.subst_instance_constr u constant.const_type)
 

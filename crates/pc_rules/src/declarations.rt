@@ -79,4 +79,47 @@ impl Declarations {
         let names = self.names.with(alloc, name.0, rc)?;
         Ok(Declarations { kept, names })
     }
+
+    /// A walk over the declarations, which begins at the newest. Takes no memory.
+    pub fn walk(&self) -> Walk<'_>
+        ensures whole { result ≡ self.now }
+    {
+        Walk { rest: &self.kept }
+    }
+}
+
+/// A walk over declarations. Contracts see it as the declarations that are still to come, the newest first.
+#[derive(Drop)]
+pub struct Walk<'a> {
+    rest: &'a SharedList<Rc<Kept>>,
+}
+
+impl<'a> Model for Walk<'a> {
+    ghost use Rattle.std.specs.Prelude.{List, map};
+    ghost use Rattle.pc_rules.specs.declared.declaration.Kept.{Kept};
+    ghost use Rattle.std.specs.Coded.{codes};
+    ghost use Rattle.pc_terms.specs.Code.{coded_term};
+
+    ghost Value = { List Kept };
+
+    ghost coded = { Prim.hlevel (codes, coded_term) };
+
+    ghost use Rattle.pc_rules.specs.Lookup.{shared};
+
+    ghost view = { λ w. map shared w.rest.now };
+}
+
+impl<'a> Walk<'a> {
+    /// The next declaration; none exactly where the walk is at its end. Takes no memory.
+    pub fn next(&mut self) -> Option<&'a Kept>
+        ensures next { MatchOption result ((self.old ≡ []) × (self.new ≡ [])) (λ k. self.old ≡ k.now ∷ self.new) }
+    {
+        match self.rest.parts() {
+            None => None,
+            Some((kept, rest)) => {
+                self.rest = rest;
+                Some(&**kept)
+            }
+        }
+    }
 }

@@ -10,7 +10,7 @@ ghost use Rattle.pc_rules.specs.DirectedWeakHead.{kept_at, known_block, whole_bl
 ghost use Rattle.pc_rules.specs.Lookup.{IsNew, AreHeads, HasNoConstructors, family_kept, with_kept};
 
 use crate::declaration::{Block, Family, Kept};
-use crate::declarations::Declarations;
+use crate::declarations::{Declarations, Walk};
 use crate::stop::Stop;
 use pc_terms::leaf::{FamilyId, Name};
 use std::alloc::Global;
@@ -102,6 +102,13 @@ impl Env {
         ensures at { MatchOption result (slice_get self.now.declarations place ≡ None) (λ k. slice_get self.now.declarations place ≡ Some k.now) }
     {
         self.declarations.get(place)
+    }
+
+    /// A walk over the declarations, which begins at the newest. Takes no memory.
+    pub fn walk(&self) -> Walk<'_>
+        ensures whole { result ≡ self.now.declarations }
+    {
+        self.declarations.walk()
     }
 
     /// The block that is kept by a name, whole or as heads; none exactly where there is none. Takes no memory.

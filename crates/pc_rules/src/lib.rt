@@ -39,7 +39,7 @@ pub mod broken;
 pub mod context;
 pub mod converter;
 pub mod declaration;
-mod declarations;
+pub mod declarations;
 pub mod directed_laws;
 pub mod entry;
 pub mod environment;

@@ -96,4 +96,14 @@ impl<T: Drop> SharedList<T> {
             }
         }
     }
+
+    /// The newest item and the list of all others; none exactly where the list is empty. Takes no memory.
+    pub fn parts(&self) -> Option<(&T, &SharedList<T>)>
+        ensures parts { MatchOption result (self.now ≡ []) (λ p. self.now ≡ p.0.now ∷ p.1.now) }
+    {
+        match &self.first {
+            None => None,
+            Some(cell) => Some((&cell.item, &cell.below)),
+        }
+    }
 }
