@@ -6,6 +6,7 @@ pub mod Accepting
 mod Examples
 pub mod CheckCauses
 pub mod SourceCauses
+pub mod SourceSaying
 pub mod TextCauses
 pub mod Checking
 pub mod Serving

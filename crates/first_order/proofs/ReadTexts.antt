@@ -1,7 +1,7 @@
 -- Data that is read at types has a text at them.
 use Rattle.std.proofs.Common.{◌≡◌, ◌∙◌, ℕ, zero, suc, ◌+◌, ◌<◌, ◌==◌, List, [], ◌∷◌, ◌++◌, map, length, drop, Option, Some, None, slice_get, if◌then◌else◌, refl, sym, ap, subst as along, arith}
 use Rattle.std.proofs.lemmas.Bool.{eq-eqb, eqb-true}
-use Rattle.std.proofs.lemmas.List.{map-append}
+use Rattle.std.proofs.lemmas.List.{map-append, length-replicate}
 use Rattle.std.proofs.lemmas.Option.{slice_get-get_or}
 use Rattle.pc_terms.specs.Syntax.{Term, args}
 use Rattle.pc_rules.specs.FirstOrder.{Data}
@@ -13,7 +13,7 @@ use Rattle.first_order.specs.declared.shapes.ShapeCtor.{ShapeCtor}
 use Rattle.first_order.specs.declared.reading.Field.{Field}
 use Rattle.first_order.specs.declared.texts.Slot.{Slot}
 use Rattle.first_order.specs.Reading.{field, fields, Taken, node_of, Reading, Read, NotAt, TooMany, put_first, on_node, read_on, read}
-use Rattle.first_order.specs.Texts.{Naming, counted_ctor, constructor_in, named_ctor, by_shapes, HasNames, slot, slot_behind, slots, piece, Writing, Written, NotOf, NoTree, before, on_name, write_on, write}
+use Rattle.first_order.specs.Texts.{Naming, counted_ctor, constructor_in, named_ctor, by_shapes, by_tags, HasNames, slot, slot_behind, slots, piece, Writing, Written, NotOf, NoTree, before, on_name, write_on, write}
 use Rattle.first_order.proofs.NodeByNode.{fields_length, drop_length, read_none, read_past, read_next, many_read}
 use Rattle.first_order.proofs.DataRead.{IsNode, node_is, node_of_some, places_of_fields}
 use Rattle.first_order.proofs.Written.{written_node, nothing_written, too_many, IsCounted}
@@ -97,3 +97,12 @@ shapes_count S names i d e h =
     let s = if_some_is (slice_get S i) (λ h. if_some (slice_get h.ctors d.0) (λ k. counted_ctor d.1 k)) r.1 in
     let t = if_some_is (slice_get (s.0).ctors d.0) (λ k. counted_ctor d.1 k) s.2 in
     ap length (named_is names r.0 e r.2) ∙ (counted_is t.0 r.0 d.1 t.2).1
+
+pub tags_count : IsCounted by_tags
+tags_count i d e h = ap (λ x. length x.1) (sym (one_item h)) ∙ length-replicate d.1 0
+
+-- a node's constructor, and its name
+pub named_at : (S : List Shape) (names : List (List ℕ)) (i : ℕ) (d : ℕ × ℕ) (k : ShapeCtor) (name : List ℕ) → constructor_in S i d.0 d.1 ≡ Some k → Some name ≡ slice_get names k.name.0 →
+    by_shapes S names i d ≡ Some (name, k.args)
+named_at S names i d k name e f =
+    ap (λ o. if_some o (λ k. named_ctor names k)) e ∙ ap (λ o. if_some o (λ name. Some (name, k.args))) (sym f)

@@ -71,7 +71,7 @@ follows_lost r k v w Deep m0 m1 f = follows_err r (λ s u. on_found s u k) (Stop
 follows_lost r k v w NoMemory m0 m1 f = follows_err r (λ s u. on_found s u k) (Stop Memory) m0 m1 f
 
 -- the same refusal, however results are seen
-pub lost_alike : {A B C D : Type 0} (r : Run (Searched D)) (v : A → D) (w : C → D) (e : ShapeRefusal) (m0 m1 : Meter) →
+pub lost_alike : {A C D : Type 0} (r : Run (Searched D)) (v : A → D) (w : C → D) (e : ShapeRefusal) (m0 m1 : Meter) →
     Follows r (searched v (Err e)) m0 m1 → Follows r (searched w (Err e)) m0 m1
 lost_alike r v w (Without T) m0 m1 f = f
 lost_alike r v w ManyTypes m0 m1 f = f

@@ -9,12 +9,12 @@ use Rattle.first_order.specs.Texts.{Naming, IsText, alone, with_arguments, AreTe
 
 -- ---- one node at a time
 
-written_node : (N : Naming) (s : Slot) (ss : List Slot) (d : ℕ × ℕ) (ds : Data) (k : ℕ) →
+pub written_node : (N : Naming) (s : Slot) (ss : List Slot) (d : ℕ × ℕ) (ds : Data) (k : ℕ) →
     write_on N (s ∷ ss) (d ∷ ds) k ≡ on_name (N s.place d) k (λ e. before (piece k e.0 d.1 s.closes) (write_on N (slots e.1 s.closes ++ ss) ds (suc k)))
 unfolding write_on
 written_node N s ss d ds k = refl
 
-nothing_written : (N : Naming) (k : ℕ) → write_on N [] [] k ≡ Written []
+pub nothing_written : (N : Naming) (k : ℕ) → write_on N [] [] k ≡ Written []
 unfolding write_on
 nothing_written N k = refl
 
@@ -22,7 +22,7 @@ too_few : (N : Naming) (d : ℕ × ℕ) (ds : Data) (k : ℕ) → write_on N [] 
 unfolding write_on
 too_few N d ds k = refl
 
-too_many : (N : Naming) (s : Slot) (ss : List Slot) (k : ℕ) → write_on N (s ∷ ss) [] k ≡ NoTree
+pub too_many : (N : Naming) (s : Slot) (ss : List Slot) (k : ℕ) → write_on N (s ∷ ss) [] k ≡ NoTree
 unfolding write_on
 too_many N s ss k = refl
 
@@ -57,11 +57,11 @@ module _ (N : Naming) (whole : Writing) (t : List ℕ) (ws vs : List Slot) (s : 
   writes_not n = here ∙ ap (λ o. before t (on_name o k (λ e. before (piece k e.0 d.1 s.closes) (write_on N (slots e.1 s.closes ++ reverse vs) es (suc k))))) n
 
   pub writes_next : (e : List ℕ × List ℕ) (u : List ℕ) (us : List Slot) → N s.place d ≡ Some e → u ≡ t ++ piece k e.0 d.1 s.closes →
-      reverse us ≡ slots e.1 s.closes ++ reverse vs → Writes N whole u us es (suc k)
-  writes_next e u us n x y =
+      reverse us ≡ slots e.1 s.closes ++ reverse vs → (j : ℕ) → j ≡ suc k → Writes N whole u us es j
+  writes_next e u us n x y j l =
       here ∙ ap (λ o. before t (on_name o k (λ e. before (piece k e.0 d.1 s.closes) (write_on N (slots e.1 s.closes ++ reverse vs) es (suc k))))) n
       ∙ before_both t (piece k e.0 d.1 s.closes) (write_on N (slots e.1 s.closes ++ reverse vs) es (suc k))
-      ∙ sym (λ i. before (x i) (write_on N (y i) es (suc k)))
+      ∙ sym (λ i. before (x i) (write_on N (y i) es (l i)))
 
 none_wait : (ws : List Slot) → IsForest (length ws) [] → ws ≡ []
 none_wait [] f = refl

@@ -36,25 +36,19 @@ fn variables(alloc: Global, count: u32) -> Result<Terms, MakeFault>
     Ok(out)
 }
 
-/// A term that is no deeper than one that is there: the makers of terms find only that there is no memory.
-fn no_deeper(made: Result<Term, MakeFault>) -> Result<Term, MakeFault>
-    ensures ok { IfOk result (λ t. IfOk made (λ u. t ≡ u) × IfErr made (λ _. ⊥)) }
-    ensures only_memory { IfErr result (λ e. e ≡ Memory) }
-{
-    match made {
-        Ok(term) => Ok(term),
-        Err(_) => Err(MakeFault::Memory),
-    }
-}
-
 /// A type behind `count` arguments, without them: none exactly where it mentions one of them. Only `Memory`.
 fn without(alloc: Global, count: u32, ty: &Term) -> Result<Option<Term>, MakeFault>
     ensures ok { IfOk result (λ o. o ≡ without count ty.now) }
     ensures only_memory { IfErr result (λ e. e ≡ Memory) }
 {
     let before = variables(alloc, count)?;
-    let lowered = no_deeper(ty.subst_list(alloc, &before))?;
-    let lifted = no_deeper(lowered.lift(alloc, count, 0))?;
+    // Variables that are put in for variables make no term deeper: what is met here is that there is no memory.
+    let Ok(lowered) = ty.subst_list(alloc, &before) else {
+        return Err(MakeFault::Memory);
+    };
+    let Ok(lifted) = lowered.lift(alloc, count, 0) else {
+        return Err(MakeFault::Memory);
+    };
     if lifted.same(ty) {
         return Ok(Some(lowered));
     }

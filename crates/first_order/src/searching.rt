@@ -43,7 +43,7 @@ fn place_in(types: &[Term], ty: &Term) -> Option<u32>
 fn put_behind(types: &mut Vec<Term>, ty: Term, m: &mut Meter) -> Result<u32, ShapeRefusal>
     requires few { length types.old.items ≤ 1024 }
     ensures follows { Follows (put_behind 1024 types.old.items ty m.old.account) (searched (found_at types.new.items) result) m.old m.new }
-    ensures few { length types.new.items ≤ 1024 }
+    ensures few { IfOk result (λ _. length types.new.items ≤ 1024) }
 {
     let place = types.len();
     if place == MOST_TYPES {
@@ -67,7 +67,7 @@ fn put_in<R: Reducer>(
 ) -> Result<u32, ShapeRefusal>
     requires few { length types.old.items ≤ 1024 }
     ensures follows { Follows (put_in env.now 1024 types.old.items ty.now m.old.account) (searched (found_at types.new.items) result) m.old m.new }
-    ensures few { length types.new.items ≤ 1024 }
+    ensures few { IfOk result (λ _. length types.new.items ≤ 1024) }
 {
     let ctx = Ctx::new();
     let whnf = reducer.whnf(alloc, env, &ctx, ty, m)?;
@@ -88,7 +88,7 @@ fn put_arguments<R: Reducer>(
 ) -> Result<Numbers, ShapeRefusal>
     requires few { length types.old.items ≤ 1024 }
     ensures follows { Follows (put_arguments env.now 1024 types.old.items args.now m.old.account) (searched (found_at types.new.items) result) m.old m.new }
-    ensures few { length types.new.items ≤ 1024 }
+    ensures few { IfOk result (λ _. length types.new.items ≤ 1024) }
 {
     let mut places = Vec::new(alloc);
     for ty in args.as_slice() {
@@ -110,7 +110,7 @@ fn put_constructors<R: Reducer>(
 ) -> Result<Vec<ShapeCtor>, ShapeRefusal>
     requires few { length types.old.items ≤ 1024 }
     ensures follows { Follows (put_constructors env.now 1024 types.old.items (map (λ a. a.types) ctors.now) m.old.account) (searched (found_places types.new.items) result) m.old m.new }
-    ensures few { length types.new.items ≤ 1024 }
+    ensures few { IfOk result (λ _. length types.new.items ≤ 1024) }
     ensures named { IfOk result (λ ks. map ctor_name ks.items ≡ map name_in ctors.now) }
 {
     let mut out = Vec::new(alloc);
@@ -172,7 +172,7 @@ fn work_type<R: Reducer>(
 ) -> Result<Shape, ShapeRefusal>
     requires few { length types.old.items ≤ 1024 }
     ensures follows { Follows (work_type env.now 1024 types.old.items ty m.old.account) (searched (found_shape types.new.items) result) m.old m.new }
-    ensures few { length types.new.items ≤ 1024 }
+    ensures few { IfOk result (λ _. length types.new.items ≤ 1024) }
     ensures named { IfOk result (λ h. IsNamed env.now h) }
 {
     let (head, params) = ty.spine(alloc)?;
