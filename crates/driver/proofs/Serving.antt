@@ -244,7 +244,7 @@ module _ {V S K E : Type 0} (view : V → List ℕ) (status : ℕ) (words : List
         ]
 
     complete : (a : Result V Refusal) → Before a → After a → (e : RawEnv) → length bytes ≤ input_limit → SpellsWithin bytes e → IsAnswerableBy job e → ¬ Rose out.faults out'.faults → (status ≡ 0) ⊎ (status ≡ 1)
-    complete a s c e short spelled h calm = judged a s c 0 short (e, spelled, answerable_judged job e h) (λ _. calm)
+    complete a s c e short spelled h calm = (let j = answerable_judged job e h in judged a s c 0 short (e, spelled, j.0, j.1) (λ _. calm))
 
     refuses_text : (a : Result V Refusal) → Before a → After a → (r : Refusal) → length bytes ≤ input_limit → IsTextCause job r bytes → IsSure r → (status ≡ status_of r) ⊎ (status ≡ 1)
     refuses_text (Ok v) s c r short cause sure = absurd (no_cause_of_answers job bytes (view v) r (answer_of v s).1 cause sure)

@@ -1,11 +1,11 @@
 -- What comes after the check of an environment in `eval`: its run is one, and the statuses of the run's refusals.
-use Rattle.std.proofs.Common.{◌≡◌, ℕ, List, length, Option, Some, None, ◌⊎◌, inl, inr, false, refl, sym, ap, ◌∙◌}
+use Rattle.std.proofs.Common.{◌≡◌, ℕ, List, [], length, Option, Some, None, ◌⊎◌, inl, inr, false, refl, sym, ap, ◌∙◌}
 use Rattle.universe_levels.specs.declared.level.Level.{Level}
 use Rattle.pc_terms.specs.Syntax.{Term}
 use Rattle.pc_rules.specs.declared.meter.Account.{Account}
 use Rattle.pc_rules.specs.Environment.{Env}
 use Rattle.pc_rules.specs.DirectedRun.{Run, End}
-use Rattle.pc_rules.specs.DirectedDeclarations.{Checked, Accepts, first_repeated, first_undeclared_end, graph_rule, constraints_rule, levels_rule}
+use Rattle.pc_rules.specs.DirectedDeclarations.{Checked, Outcome, Gives, Accepts, first_repeated, first_undeclared_end, graph_rule, constraints_rule, levels_rule}
 use Rattle.dump_reader.specs.declared.environment.RawEnv.{RawEnv}
 use Rattle.env_check.specs.Rules.{rules_of}
 use Rattle.driver.specs.declared.command_line.Job.{Job}
@@ -35,8 +35,12 @@ accepts_plainly e (Some q) E T u h =
 plainly : (e : RawEnv) (E : Env) (T : Term) (u : Account) → IsAcceptedWith e E T u → (rules_of e None 2048 start).outcome ≡ Accepts E T u
 plainly e E T u a = accepts_plainly e a.judged.cycle E T u (ap (λ d. d.outcome) (sym a.judged.is) ∙ a.accepts)
 
+accepted_in : Outcome (Env × Term) → Env × Term → Env × Term
+accepted_in (Gives p u) q = p
+accepted_in o q = q
+
 accepts_inj : (E F : Env) (T U : Term) (u v : Account) → Accepts E T u ≡ Accepts F U v → (E ≡ F) × (T ≡ U) × (u ≡ v)
-accepts_inj E F T U u v e = (cc, cc, cc)
+accepts_inj E F T U u v e = (ap (λ o. (accepted_in o (E, T)).0) e, ap (λ o. (accepted_in o (E, T)).1) e, cc)
 
 pub same_run : (e : RawEnv) (r s : Run Ended) → IsSourceRun e r → IsSourceRun e s → r ≡ s
 same_run e r s h k =

@@ -1,6 +1,6 @@
 -- What the stages of `eval` say, as what its run shows.
-use Rattle.std.proofs.Common.{◌≡◌, ◌<◌, ℕ, List, map, Some, slice_get, IsTrue, Ok, Err, ◌⊎◌, inl, inr, refl, sym, ap, subst, ◌∙◌}
-use Rattle.std.specs.Prelude.{All, option_map}
+use Rattle.std.proofs.Common.{◌≡◌, ◌<◌, ℕ, List, map, Some, slice_get, IsTrue, Result, Ok, Err, ◌⊎◌, inl, inr, refl, sym, ap, subst, ◌∙◌}
+use Rattle.std.specs.Prelude.{All, option_map, IfOk, IfErr}
 use Rattle.std.proofs.lemmas.Option.{slice_get-map, slice_get_within, get_or_from_slice_get}
 use Rattle.pc_terms.specs.Syntax.{Term}
 use Rattle.pc_rules.specs.declared.meter.Account.{Account}
@@ -190,3 +190,9 @@ evaluated bytes text e E t T u v w s a m checked hs named set found x valued (n,
   line_is = line.1;
   text_is = line.2;
 }
+
+-- a line that is made of the answer, or want of memory
+pub line_says : {V : Type 0} (view : V → List ℕ) (r : Result V Refusal) (bytes : List ℕ) (hs : List Shape) (names : List (List ℕ)) (ds : List (ℕ × ℕ)) →
+    ((text : List ℕ) → IsLine hs names ds text → IsEvaluated bytes text) → IfOk r (λ v. IsLine hs names ds (view v)) → IfErr r (λ e. e ≡ refusals.Memory) → JobSays Eval view r bytes
+line_says view (Ok v) bytes hs names ds answer line memory = answer (view v) line
+line_says {V = V} view (Err e) bytes hs names ds answer line memory = subst (λ x. JobSays {V = V} Eval view (Err x) bytes) (sym memory) tt

@@ -189,16 +189,16 @@ JobSays job view (Ok v) bytes = IsAnswerOf job bytes (view v)
 JobSays job view (Err refusals.Memory) bytes = Unit {0}
 JobSays job view (Err r) bytes = IsTextCause job r bytes
 
--- what the check of an environment says, where so many units are left
-abbrev pub AcceptSays : Result Accepted Refusal → RawEnv → Account → Type 0
-AcceptSays (Ok a) e u = IsAcceptedWith e a.env a.main_type u × (a.main ≡ e.main) × IsCheckedEnvironment e.levels e.constraints (givens e) e.main a.env a.main_type
-AcceptSays (Err refusals.Memory) e u = Unit {0}
-AcceptSays (Err r) e u = IsCheckCause r e
-
+-- what the check of an environment says
 abbrev pub CheckSays : Result Accepted Refusal → RawEnv → Type 0
 CheckSays (Ok a) e = IsAcceptedBy e × IsCheckedEnvironment e.levels e.constraints (givens e) e.main a.env a.main_type
 CheckSays (Err refusals.Memory) e = Unit {0}
 CheckSays (Err r) e = IsCheckCause r e
+
+-- and so many units are left
+abbrev pub AcceptSays : Result Accepted Refusal → RawEnv → Account → Type 0
+AcceptSays (Ok a) e u = IsAcceptedWith e a.env a.main_type u × (a.main ≡ e.main) × IsCheckedEnvironment e.levels e.constraints (givens e) e.main a.env a.main_type
+AcceptSays (Err r) e u = CheckSays (Err r) e
 
 -- A line goes to err whole, or a prefix of it where err's count of faults rose.
 pub record TakesLine (old new : Option (List ℕ)) (before now : ℕ) (line : List ℕ) : Type 0 where
