@@ -1,11 +1,14 @@
 -- The form of programs after erasure, and what `to_anf` takes.
-use Rattle.std.specs.Prelude.{◌≡◌, ℕ, ◌≤◌, true, List, length}
+use Rattle.std.specs.Prelude.{◌≡◌, ℕ, ◌≤◌, true, List, [], ◌∷◌, length}
 use Rattle.trees.specs.Tree.{Slot, Rel, Node, Places, End, Child, Group, Done, Next}
 use Rattle.pc_terms.specs.BoxSyntax.{BoxLabel, box_slots, BoxTerm, BoxTerms, BApp, BCase}
 use Rattle.lambda_box.specs.BoxProgram.{BoxConstant, BoxFamily, BoxProgram, Has, KeepsBoxFamily}
+use Rattle.trees.specs.Measures.{depth}
 use Rattle.lambda_box.specs.BoxForm.{IsBoxProgram}
-use Rattle.anf_convert.specs.AnfForm.{fields}
-use Rattle.anf_convert.specs.ToAnfKeeps.{IsReady}
+use Rattle.lambda_box.specs.OrdinaryForm.{IsOrdinaryProgram}
+use Rattle.anf_convert.specs.Anf.{AnfProgram}
+use Rattle.anf_convert.specs.AnfForm.{fields, AnfFormed}
+use Rattle.anf_convert.specs.ToAnfKeeps.{IsReady, KeepsAnswers}
 use Rattle.anf_convert.specs.TermForm.{constructor_args, ProgramFits}
 
 -- what the passes before leave: no constructor has more arguments than a block has fields, and no match is on a propositional family that has a constructor
@@ -33,3 +36,19 @@ abbrev pub FormSuffices : Type 0
 FormSuffices =
     (P : BoxProgram) (m : ℕ) → IsBoxProgram P → ((d : BoxConstant) → Has P.constants d → Prepared P d.body) → Prepared P P.main → ((F : BoxFamily) → Has P.families F → length F.args ≤ m) →
     IsReady P × ProgramFits P m
+
+-- no term is deeper than terms are
+abbrev pub AreShallow : List BoxConstant → Type 0
+AreShallow [] = Unit {0}
+AreShallow (c ∷ cs) = (depth c.body ≤ 2048) × AreShallow cs
+
+-- no family has over m constructors
+abbrev pub ConstructorsWithin : BoxProgram → ℕ → Type 0
+ConstructorsWithin P m = (F : BoxFamily) → Has P.families F → length F.args ≤ m
+
+-- what `to_anf` promises of its program
+abbrev pub KeepsData : BoxProgram → AnfProgram → Type 0
+KeepsData P Q = IsBoxProgram P → IsOrdinaryProgram P → IsReady P × KeepsAnswers P Q
+
+abbrev pub HasAnfForm : BoxProgram → AnfProgram → Type 0
+HasAnfForm P Q = IsBoxProgram P → IsOrdinaryProgram P → (m : ℕ) → ConstructorsWithin P m → AnfFormed Q m

@@ -6,16 +6,11 @@ use Rattle.pc_terms.specs.declared.leaf.Name.{Name}
 use Rattle.lambda_box.specs.BoxProgram.{BoxConstant, BoxProgram}
 use Rattle.pc_terms.specs.BoxSyntax.{BoxTerm, BoxTerms, Box, BLambda, BLetIn, BApp, BConst, BConstruct, BCase, BFix}
 use Rattle.anf_convert.specs.Anf.{Atom, AVar, ABox, AEmpty, AnfOp, ConstOp, AppOp, ConOp, LamOp, FixOp, CaseOp, AnfBlock, TailAtom, Tail, BindAtom, Bind, AnfBranches, NoBranch, Branch, AnfDefs, NoDef, LamDef, BoxDef, AnfProgram}
+pub use Rattle.anf_convert.specs.Anf.{Binding, AtomIs, OpIs, tail_of, block_of}
 
 -- an atom whose variable is counted from the outside, so that it stays what it is under more binders
-pub data Level : Type 0 where
-  LVar : (x : ℕ) → Level
-  LBoxed : Level
-  LEmpty : (c : ℕ) → Level
-
-pub data Binding : Type 0 where
-  AtomIs : (a : Atom) → Binding
-  OpIs : (op : AnfOp) → Binding
+pub use Rattle.anf_convert.specs.declared.level.Level.{Level}
+pub use Rattle.anf_convert.specs.declared.level.Level.TheVariants.{Var as LVar, Box as LBoxed, Empty as LEmpty}
 
 -- what a term becomes after its bindings: an atom, a constructor with its atoms so far (the last one first), or an operation
 pub data Res : Type 0 where
@@ -42,15 +37,6 @@ binding_of d (RAtom a) = AtomIs (at_depth d a)
 binding_of d (RCon c []) = AtomIs (AEmpty c)
 binding_of d (RCon c (x ∷ xs)) = OpIs (ConOp c (map (at_depth d) (x ∷ xs)))
 binding_of d (ROp op) = OpIs op
-
-abbrev pub tail_of : Binding → AnfBlock
-tail_of (AtomIs a) = TailAtom a
-tail_of (OpIs op) = Tail op
-
-abbrev pub block_of : List Binding → AnfBlock → AnfBlock
-block_of [] t = t
-block_of (AtomIs a ∷ ps) t = BindAtom a (block_of ps t)
-block_of (OpIs op ∷ ps) t = Bind op (block_of ps t)
 
 abbrev pub sealed : ℕ → Norm → AnfBlock
 sealed d n = block_of n.ops (tail_of (binding_of (d + length n.ops) n.res))

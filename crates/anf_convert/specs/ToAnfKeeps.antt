@@ -66,7 +66,10 @@ pub record IsReady (P : BoxProgram) : Type 0 where
   pub constants : (k : Name) (b : BoxTerm) → KeepsBoxConstant P k b → Ready P b
   pub main : Ready P P.main
 
--- where main of a program of which constructors stand with all their arguments, and matches on propositional families are gone, applied to values that are data,
--- gives data, so does main of the program in A-normal form, applied to the same data
+-- where main of the one, applied to values that are data, gives data, so does main of the other, applied to the same data
+abbrev pub KeepsAnswers : BoxProgram → AnfProgram → Type 0
+KeepsAnswers P Q = (args : Values) (args' : AnfVals) (ds : Datas) (v : Value) (d : Data) (c : Counts) → IsReady P → ValuesAre args ds → AnfAreData args' ds → BoxAnswers P args v c → ValueIs v d → AnfGivesData Q args' d c
+
+-- so it is with the translation of a program of which constructors stand with all their arguments, and matches on propositional families are gone
 abbrev pub ToAnfKeeps : Type 0
-ToAnfKeeps = (P : BoxProgram) (args : Values) (args' : AnfVals) (ds : Datas) (v : Value) (d : Data) (c : Counts) → IsReady P → ValuesAre args ds → AnfAreData args' ds → BoxAnswers P args v c → ValueIs v d → AnfGivesData (to_anf P) args' d c
+ToAnfKeeps = (P : BoxProgram) → KeepsAnswers P (to_anf P)

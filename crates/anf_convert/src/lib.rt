@@ -7,11 +7,21 @@
 //! Below stand `box_terms` and `lambda_box`; above, `closure_lift` gives each lambda a function.
 #![tactic(auto)]
 
+mod builder;
+mod convert;
+mod level;
+pub mod lists;
+mod norm;
+pub mod program;
+
 ghost use Rattle.anf_convert.specs.AnfEvaluation.{WordsBound};
 ghost use Rattle.anf_convert.specs.ToAnfKeeps.{ToAnfKeeps};
 ghost use Rattle.anf_convert.specs.TermForm.{ToAnfForms};
 ghost use Rattle.anf_convert.specs.Preorder.{ReadsTree};
 ghost use Rattle.anf_convert.specs.BoxForms.{FormSuffices};
+
+pub use convert::to_anf;
+pub use lambda_box::PassFault;
 
 /// The program in A-normal form has the data of the program after erasure, with as many matches and blocks, no more contractions and no
 /// wider block.

@@ -1,11 +1,11 @@
 -- The answers of `exec` and `check`, from what their stages say.
-use Rattle.std.proofs.Common.{◌≡◌, ℕ, suc, ◌+◌, ◌*◌, ◌/◌, ◌<◌, length, take, get_or, List, [], ◌∷◌, ◌++◌, Some, Result, Ok, Err, ◌⊎◌, inl, inr, refl, sym, ap, subst, ◌∙◌, arith, lit≤}
+use Rattle.std.proofs.Common.{◌≡◌, ℕ, suc, ◌<◌, length, take, get_or, List, [], ◌∷◌, ◌++◌, Some, Result, Ok, Err, ◌⊎◌, inl, inr, refl, sym, ap, subst, ◌∙◌, lit≤}
 use Rattle.std.specs.Prelude.{All, IfOk, IfErr, slice_get}
 use Rattle.std.proofs.Math.Seq.{take-suc}
 use Rattle.std.proofs.lemmas.List.Elements.{All-nil, All-cons, All-append}
-use Rattle.enumeration_modules.specs.ModuleGrammar.{SpellsModule}
-use Rattle.enumeration_modules.specs.EnumerationModule.{enumeration_module}
-use Rattle.enumeration_modules.proofs.Enumeration.{enumeration_valid, enumeration_answers}
+use Rattle.wasm_core.specs.ModuleGrammar.{SpellsModule}
+use Rattle.wasm_core.specs.ShortestBytes.{module_bytes}
+use Rattle.enumeration_code.proofs.Enumeration.{enumeration_valid, enumeration_returns}
 use Rattle.pc_terms.specs.declared.leaf.FamilyId.{FamilyId}
 use Rattle.pc_terms.specs.Syntax.{Term, Construct}
 use Rattle.pc_rules.specs.declared.declaration.Constructor.{Constructor}
@@ -24,14 +24,11 @@ use Rattle.driver.specs.declared.command_line.Job.TheVariants.{Exec, Check, Eval
 use Rattle.driver.specs.declared.refusal.Refusal.{Refusal}
 use Rattle.driver.specs.declared.refusal.Refusal.TheVariants as refusals
 use Rattle.driver.specs.Plain.{IsPlainOf}
+use Rattle.driver.specs.Program.{module_for}
 use Rattle.driver.specs.Texts.{SpellsWithin}
 use Rattle.driver.specs.Judged.{IsAcceptedBy, IsNamed}
 use Rattle.driver.specs.Serve.{IsAnswer, IsAnswerOf, CheckSays, IsCheckCause, IsJobCause, JobSays, Takes}
 use Rattle.driver.proofs.Kept.{kept_constructor, was_read, named_ctor, from_map}
-
--- the constructor's number, from its word
-pub half : (w n : ℕ) → w ≡ 2 * n + 1 → w / 2 ≡ n
-half w n e = omega (arith, e)
 
 -- ---- main's constructor
 
@@ -76,10 +73,10 @@ some_inj e = cc
 
 -- ---- the answer of `exec`
 
-pub answer : (bytes text file name : List ℕ) (e : RawEnv) (E : Env) (T : Term) (f : FamilyId) (n : ℕ) (G : Family) (C : Constructor) → SpellsWithin bytes e → IsAcceptedBy e →
-    IsCheckedEnvironment e.levels e.constraints (givens e) e.main E T → IsPlainOf e f n → SpellsModule file (enumeration_module 1024 n) →
+pub answer : (bytes text name : List ℕ) (e : RawEnv) (E : Env) (T : Term) (f : FamilyId) (n : ℕ) (G : Family) (C : Constructor) → SpellsWithin bytes e → IsAcceptedBy e →
+    IsCheckedEnvironment e.levels e.constraints (givens e) e.main E T → IsPlainOf e f n → SpellsModule (module_bytes (module_for n)) (module_for n) →
     family_kept E f ≡ Some G → slice_get G.ctors n ≡ Some C → IsNamed e C.name.0 name → text ≡ name ++ 10 ∷ [] → IsAnswer bytes text
-answer bytes text file name e E T f n G C spelled accepted checked plain module_is found at named text_is =
+answer bytes text name e E T f n G C spelled accepted checked plain module_is found at named text_is =
     let m = main_is bytes e E T f n spelled checked plain in
     let same : m.family ≡ G = some_inj (sym m.found ∙ found) in
     record {
@@ -90,11 +87,14 @@ answer bytes text file name e E T f n G C spelled accepted checked plain module_
       id = f;
       number = n;
       plain = plain;
-      program = enumeration_module 1024 n;
-      file = file;
+      program = module_for n;
+      program_is = refl;
+      file = module_bytes (module_for n);
+      file_is = refl;
       module_is = module_is;
       valid = enumeration_valid 1024 n (lit≤ tt) (lit≤ tt);
-      answers = (3, enumeration_answers 1024 n);
+      steps = 3;
+      answers = enumeration_returns 1024 n;
       family = with_parameters m.params G;
       keeps = subst (λ F. KeepsFamily E f (with_parameters m.params F)) same m.keeps;
       constructor = C;

@@ -7,5 +7,6 @@ pub mod CommandLine
 pub mod SourceEnds
 pub mod SourceSays
 pub mod EvaluatedSource
+pub mod Program
 pub mod Serve
 pub mod Served

@@ -12,10 +12,11 @@ use Rattle.pc_rules.specs.declared.meter.Account.{Account}
 use Rattle.pc_rules.specs.Environment.{Env, FamilyDecl, KeepsFamily}
 use Rattle.rule_laws.specs.Declarations.{IsCheckedEnvironment}
 use Rattle.env_check.specs.Rules.{givens}
-use Rattle.enumeration_modules.specs.Parts.{Parts}
-use Rattle.enumeration_modules.specs.ModuleGrammar.{SpellsModule}
-use Rattle.enumeration_modules.specs.ModuleTyping.{IsValid}
-use Rattle.enumeration_modules.specs.Answer.{AlwaysAnswers}
+use Rattle.wasm_core.specs.Parts.{Parts}
+use Rattle.wasm_core.specs.ModuleGrammar.{SpellsModule}
+use Rattle.wasm_core.specs.ModuleTyping.{IsValid}
+use Rattle.wasm_core.specs.ShortestBytes.{module_bytes}
+use Rattle.enumeration_code.specs.Returning.{AlwaysReturns}
 use Rattle.driver.specs.declared.refusal.Refusal.{Refusal}
 use Rattle.driver.specs.declared.refusal.Refusal.TheVariants as refusals
 use Rattle.driver.specs.declared.command_line.Job.{Job}
@@ -27,6 +28,7 @@ use Rattle.driver.specs.Plain.{IsPlainOf, IsPlain}
 use Rattle.driver.specs.Texts.{SpellsWithin, Refuses}
 use Rattle.driver.specs.SourceEnds.{IsAcceptedWith, IsSourceCause, SourceEndsWith, EvalEndsWith}
 use Rattle.driver.specs.EvaluatedSource.{IsEvaluated}
+use Rattle.driver.specs.Program.{module_for}
 use Rattle.driver.specs.Judged.{IsNamed, IsAcceptedBy, IsSpentBy, IsTooDeepFor, IsBrokenBy, EndsWith}
 
 -- the most bytes of an input
@@ -60,13 +62,16 @@ pub record IsAnswer (bytes text : List ℕ) : Type 0 where
   pub id : FamilyId
   pub number : ℕ
   pub plain : IsPlainOf environment id number
-  -- the module of this call: its bytes, its typing and its runs, each of which answers main's constructor, whichever grows of
-  -- memory are refused
+  -- the module of this call: what it is, its bytes, its typing and its runs, each of which returns after so many steps and answers main's
+  -- constructor, whichever grows of memory are refused
   pub program : Parts
+  pub program_is : program ≡ module_for number
   pub file : List ℕ
+  pub file_is : file ≡ module_bytes program
   pub module_is : SpellsModule file program
   pub valid : IsValid program
-  pub answers : AlwaysAnswers program ((number, 0) ∷ [])
+  pub steps : ℕ
+  pub answers : AlwaysReturns program steps ((number, 0) ∷ [])
   -- main's constructor, its name, and LF
   pub family : FamilyDecl
   pub keeps : KeepsFamily well.kept id family

@@ -4,10 +4,11 @@ ghost use Rattle.std.specs.Prelude.{◌≡◌, ◌<◌, ◌∷◌, ◌++◌, ℕ
 ghost use Rattle.pc_rules.specs.declared.declaration.Family.{Family};
 ghost use Rattle.pc_rules.specs.declared.declaration.Constructor.{Constructor};
 ghost use Rattle.pc_rules.specs.Lookup.{family_kept};
-ghost use Rattle.enumeration_modules.specs.EnumerationModule.{enumeration_module};
-ghost use Rattle.enumeration_modules.specs.ModuleGrammar.{SpellsModule};
+ghost use Rattle.wasm_core.specs.ModuleGrammar.{SpellsModule};
+ghost use Rattle.wasm_core.specs.ShortestBytes.{module_bytes};
 ghost use Rattle.driver.specs.declared.command_line.Job.TheVariants.{Exec};
 ghost use Rattle.driver.specs.Judged.{IsNamed};
+ghost use Rattle.driver.specs.Program.{module_for};
 ghost use Rattle.driver.specs.Serve.{JobSays};
 
 use crate::check::accept;
@@ -31,18 +32,19 @@ fn text_of(alloc: Global, name: &[u8]) -> Result<Vec<u8>, Refusal>
     Ok(text)
 }
 
-/// The number of the constructor that a run of the constructor's module answers: the module is made, written, read back, checked and run.
+/// The number of the constructor in the data that a run of the constructor's module answers: the module is made, written, read back, checked and run.
 fn answer_of(alloc: Global, number: u32) -> Result<u32, Refusal>
     requires few { number < 1024 }
     ensures same { IfOk result (λ n. n ≡ number) }
-    ensures spelled { IfOk result (λ _. (file : List ℕ) × SpellsModule file (enumeration_module 1024 number)) }
+    ensures spelled { IfOk result (λ _. SpellsModule (module_bytes (module_for number)) (module_for number)) }
     ensures only_memory { IfErr result (λ r. r ≡ Refusal.Memory) }
 {
     let program = compile(alloc, number)?;
     let file = write(alloc, &program)?;
     let loaded = load(alloc, file.as_slice())?;
-    let word = run(alloc, &loaded)?;
-    Ok(word / 2)
+    let data = run(alloc, &loaded)?;
+    let (constructor, _arguments) = data.node(0);
+    Ok(constructor)
 }
 
 /// The name of constructor `number` of a family that is kept; none where there is no such constructor, or its name is not in the table.

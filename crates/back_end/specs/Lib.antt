@@ -1,0 +1,3 @@
+pub mod BackEnd
+pub mod StepsAtLeast
+pub mod StepsAndMemory

@@ -1,0 +1,33 @@
+//! The back end as a whole: the passes from programs after erasure to modules in their order, and what their laws say together.
+//!
+//! `passed` of `specs/BackEnd.antt` is the list of the passes: matches on propositional families are dropped, constructors saturated, the program
+//! brought into A-normal form and lifted; `module_of` of `wasm_emit` is its module. Where main of a program of the form evaluates by substitution to data,
+//! every run of that module answers the data or is exhausted after a refused grow (`modules_answer`, clause `runs`), within bounds on steps and memory that
+//! the number of nodes of the evaluation gives (`steps_and_memory_are_bounded`), and no sooner than after as many steps as there are matches
+//! (`answers_take_as_many_steps_as_matches`). Nothing is asked of the program's source.
+//!
+//! Below stand the crates of the passes, `lambda_box` and `wasm_emit`.
+#![tactic(auto)]
+
+ghost use Rattle.back_end.specs.BackEnd.{ModulesAnswer, ModulesAreValid, ModulesCanBeSpelled};
+ghost use Rattle.back_end.specs.StepsAndMemory.{StepsAndMemoryAreBounded};
+ghost use Rattle.back_end.specs.StepsAtLeast.{AnswersTakeAsManySteps};
+
+/// Where main evaluates by substitution to data, every run of the module that all passes make answers that data or is exhausted, within a bound on
+/// steps and on words of memory; the module is valid, and can be spelled where no function has too many locals.
+pub fn modules_answer()
+    ensures runs { ModulesAnswer }
+    ensures valid { ModulesAreValid }
+    ensures spelled { ModulesCanBeSpelled }
+{}
+
+/// No run makes more steps than `1,024 * n * (W + m)`, where n is the number of nodes of the evaluation by substitution, W the program's words and m the
+/// greatest number of constructors; and where `32 * n * W + 8` bytes are within the maximum, a run traps only where a grow within the maximum was refused.
+pub fn steps_and_memory_are_bounded()
+    ensures bounded { StepsAndMemoryAreBounded }
+{}
+
+/// Each run of the module of a saturated program that returns has made at least as many steps as the evaluation of main by substitution has matches.
+pub fn answers_take_as_many_steps_as_matches()
+    ensures least { AnswersTakeAsManySteps }
+{}

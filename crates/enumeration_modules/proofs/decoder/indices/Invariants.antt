@@ -1,9 +1,0 @@
-use Rattle.enumeration_modules.specs.ModuleGrammar as grammar
-use Rattle.enumeration_modules.proofs.Listing.{Listing}
-use Rattle.enumeration_modules.proofs.decoder.indices.Given as goal
-
-abbrev pub decreases-loop-left : goal.decreases-loop-left
-decreases-loop-left l = l.left
-
-abbrev pub invariant-loop-left : goal.invariant-loop-left
-invariant-loop-left l = Listing l.fn.c l.c grammar.indices l.left grammar.u32 l.found.items (λ xs. xs)

@@ -1,4 +1,0 @@
-use Rattle.enumeration_modules.proofs.encoder.+put_signed.Given as goal
-
-abbrev pub decreases-put_signed : goal.decreases-put_signed
-decreases-put_signed l = l.groups

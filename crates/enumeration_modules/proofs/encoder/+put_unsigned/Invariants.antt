@@ -1,4 +1,0 @@
-use Rattle.enumeration_modules.proofs.encoder.+put_unsigned.Given as goal
-
-abbrev pub decreases-put_unsigned : goal.decreases-put_unsigned
-decreases-put_unsigned l = l.groups

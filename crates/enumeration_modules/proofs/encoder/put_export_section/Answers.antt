@@ -1,9 +1,0 @@
-use Rattle.std.proofs.Common.{rules, ◌<◌, ◌∙◌, length}
-use Rattle.enumeration_modules.specs.ShortestBytes as shortest
-use Rattle.enumeration_modules.proofs.Putting.{list_from, section_puts}
-use Rattle.enumeration_modules.proofs.encoder.put_export_section.Goals as goal
-
-pub returns : goal.returns
-returns c =
-    let some : 0 < length c.args.es.now = search rules in
-    record { puts = section_puts 7 shortest.put_export c.args.es.now _ _ _ _ some (c.deref.ensures.value ∙ list_from shortest.put_export c.args.es.now _ _ _ c.new-part.ensures.items c.in_ok-put_u32.ensures.puts c.in_ok-put_exports.ensures.puts) c.put_section.ensures.puts }

@@ -1,7 +1,0 @@
-use Rattle.std.proofs.Common.{drop}
-use Rattle.enumeration_modules.specs.ShortestBytes as shortest
-use Rattle.enumeration_modules.proofs.Putting.{PutsFrom}
-use Rattle.enumeration_modules.proofs.encoder.put_func_types.Given as goal
-
-abbrev pub invariant-loop-t : goal.invariant-loop-t
-invariant-loop-t l = PutsFrom l.fn.out.items l.out.items (shortest.put_all shortest.put_func_type (drop l.t-index l.ts)) (shortest.put_all shortest.put_func_type l.ts)

@@ -1,9 +1,0 @@
-use Rattle.std.proofs.Common.{rules, ◌<◌, ◌∙◌, length}
-use Rattle.enumeration_modules.specs.ShortestBytes as shortest
-use Rattle.enumeration_modules.proofs.Putting.{list_from, section_puts}
-use Rattle.enumeration_modules.proofs.encoder.put_function_section.Goals as goal
-
-pub returns : goal.returns
-returns c =
-    let some : 0 < length c.args.ns.now = search rules in
-    record { puts = section_puts 3 shortest.put_u32 c.args.ns.now _ _ _ _ some (c.deref.ensures.value ∙ list_from shortest.put_u32 c.args.ns.now _ _ _ c.new-part.ensures.items c.in_ok-put_u32.ensures.puts c.in_ok-put_indices.ensures.puts) c.put_section.ensures.puts }

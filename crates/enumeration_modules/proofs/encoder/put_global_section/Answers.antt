@@ -1,9 +1,0 @@
-use Rattle.std.proofs.Common.{rules, ◌<◌, ◌∙◌, length}
-use Rattle.enumeration_modules.specs.ShortestBytes as shortest
-use Rattle.enumeration_modules.proofs.Putting.{list_from, section_puts}
-use Rattle.enumeration_modules.proofs.encoder.put_global_section.Goals as goal
-
-pub returns : goal.returns
-returns c =
-    let some : 0 < length c.args.gs.now = search rules in
-    record { puts = section_puts 6 shortest.put_global c.args.gs.now _ _ _ _ some (c.deref.ensures.value ∙ list_from shortest.put_global c.args.gs.now _ _ _ c.new-part.ensures.items c.in_ok-put_u32.ensures.puts c.in_ok-put_globals.ensures.puts) c.put_section.ensures.puts }

@@ -1,7 +1,0 @@
-use Rattle.std.proofs.Common.{drop}
-use Rattle.enumeration_modules.specs.ShortestBytes as shortest
-use Rattle.enumeration_modules.proofs.Putting.{PutsFrom}
-use Rattle.enumeration_modules.proofs.encoder.put_indices.Given as goal
-
-abbrev pub invariant-loop-n : goal.invariant-loop-n
-invariant-loop-n l = PutsFrom l.fn.out.items l.out.items (shortest.put_all shortest.put_u32 (drop l.n-index l.ns)) (shortest.put_all shortest.put_u32 l.ns)

@@ -1,6 +1,0 @@
-use Rattle.std.proofs.Common.{◌≡◌, drop}
-use Rattle.enumeration_modules.specs.Entries.{named, name_of}
-use Rattle.enumeration_modules.proofs.entries.index_of.Given as goal
-
-abbrev pub invariant-loop-at : goal.invariant-loop-at
-invariant-loop-at l = named (name_of l.entry) l.m.exports ≡ named (name_of l.entry) (drop l.at l.m.exports)

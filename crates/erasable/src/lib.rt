@@ -1,0 +1,13 @@
+//! Which terms are erasable (PCUIC: Sozeau et al., "Coq Coq Correct!", POPL 2020, section 4: erasable terms).
+//!
+//! `test::test` gives exactly what the directed test gives, with its units, uses of rules, refusals and nesting (`follows`): the first of the
+//! four kinds of evidence that there is, or none. Evidence is answered only where there is evidence of that kind (`evidence`). The test of a
+//! type, `endings::ends_in_sort`, goes through products in a loop.
+//!
+//! Below stand `pc_rules` (the definitions, the traits `Typer` and `Reducer`), `rule_laws` (what evidence that is found means), `instances`
+//! (entries of predicates) and `contexts`; above, the crate that erases.
+#![tactic(auto)]
+
+mod endings;
+mod families;
+pub mod test;

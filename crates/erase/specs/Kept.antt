@@ -1,0 +1,23 @@
+-- What a program that is erased from an environment keeps of it.
+use Rattle.std.specs.Prelude.{ℕ, ◌≡◌, ◌≤◌, List, [], Option, Some, None}
+use Rattle.pc_terms.specs.declared.leaf.Name.{Name}
+use Rattle.pc_terms.specs.Syntax.{Term}
+use Rattle.pc_terms.specs.BoxSyntax.{BoxTerm}
+use Rattle.pc_rules.specs.Environment.{Env, KeepsConstant}
+use Rattle.pc_rules.specs.Evaluation.{Evaluates}
+use Rattle.pc_rules.specs.FirstOrder.{Shape, IsFirstOrder, Reads, FitsShapes}
+use Rattle.pc_rules.specs.Lawful.{IsLawfulEvaluation}
+use Rattle.lambda_box.specs.BoxProgram.{BoxProgram, KeepsBoxConstant}
+use Rattle.lambda_box.specs.BoxEvaluation.{BoxEvaluates}
+use Rattle.lambda_box.specs.BoxData.{BoxReads}
+use Rattle.erase_rules.specs.Laws.{IsNoGreater}
+
+-- main and each constant are no greater than their sources, by nodes, depth and greatest variable
+pub record AreNoGreater (E : Env) (main : Term) (P : BoxProgram) : Type 0 where
+  pub main_no_greater : IsNoGreater main P.main
+  pub bodies : (k : Name) (b' : BoxTerm) → KeepsBoxConstant P k b' → (T : Term) × (b : Term) × KeepsConstant E k T (Some b) × IsNoGreater b b'
+
+-- where main evaluates lawfully to data, the program evaluates to that data, in no more nodes
+abbrev pub KeepsValue : Env → Term → Term → BoxProgram → Type 0
+KeepsValue E main T P = (v : Term) (k : ℕ) (e : Evaluates E main v k) → (h : IsLawfulEvaluation E T e) → (S : List Shape) → IsFirstOrder E T S →
+    (w : BoxTerm) × (i : ℕ) × (j : ℕ) × (i ≤ k) × BoxEvaluates P P.main w i j × Reads E S 0 v h.main.answer × BoxReads P w h.main.answer × FitsShapes S 0 h.main.answer

@@ -1,0 +1,42 @@
+//! The rows of the checker and of the jobs: whole environments, and the top call, with the words of a command line, an input, and calls of it
+//! that fail. `row_files` has the format of rows.
+//!
+//! | Table | Calls |
+//! |---|---|
+//! | `environments` | `check` (`units:`, then the units that are left are told, and the uses of the rules), `kept` |
+//! | `jobs` | `serve`, `serve each prefix` (`words:`, `failing read:`, `failing write:`) |
+#![tactic(auto)]
+
+mod environments;
+mod jobs;
+mod kept;
+
+use row_files::{Case, Fault, Table, run_tables};
+use std::io;
+
+/// The layers, each with a table.
+#[derive(Clone, Copy)]
+enum Layer {
+    Environments,
+    Jobs,
+}
+
+impl Table for Layer {
+    fn file(&self) -> &str {
+        match self {
+            Layer::Environments => "environments.rows",
+            Layer::Jobs => "jobs.rows",
+        }
+    }
+
+    fn run(&self, case: &Case, out: &mut String) -> Result<(), Fault> {
+        match self {
+            Layer::Environments => environments::run(case, out),
+            Layer::Jobs => jobs::run(case, out),
+        }
+    }
+}
+
+fn main(rt: HostRuntime) -> io::Result<()> {
+    run_tables(&rt, &[Layer::Environments, Layer::Jobs])
+}

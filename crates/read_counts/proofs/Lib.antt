@@ -1,0 +1,2 @@
+mod FewBlocks
+mod KeptBlocks

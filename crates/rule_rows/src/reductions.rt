@@ -1,0 +1,106 @@
+//! The layer of reduction: `whnf`, in an environment that is not checked.
+use crate::contexts::context;
+use crate::unchecked::unchecked;
+use pc_rules::environment::Env;
+use pc_rules::meter::Meter;
+use pc_rules::reducer::Reducer;
+use pc_rules::stop::Stop;
+use pc_terms::term::{Branch, Branches, MakeFault, Match, Node, Term, Terms};
+use reduction::substitution::Subst;
+use row_files::{Case, Fault};
+use row_terms::{Opened, made, put_stop, put_term};
+use std::alloc::{AllocError, Global};
+
+/// Runs a row of the layer.
+pub fn run(case: &Case, out: &mut String) -> Result<(), Fault> {
+    let opened = Opened::of(case)?;
+    run_opened(case, &opened, out)
+}
+
+/// Makes the call of a row on its `term`.
+fn run_opened(case: &Case, opened: &Opened, out: &mut String) -> Result<(), Fault> {
+    let term = opened.term(case, "term")?;
+    match case.row.given("call")? {
+        "whnf" => put_whnf(case, opened, term, out),
+        "whnf nested" => run_nested(case, opened, term, out),
+        _ => Err(Fault::Faulty("no such call")),
+    }
+}
+
+/// The weak-head normal form of a term in the row's context, with `units`, and the units that are left.
+fn put_whnf(case: &Case, opened: &Opened, term: &Term, out: &mut String) -> Result<(), Fault> {
+    let env = unchecked(case.alloc, opened)?;
+    put_whnf_in(case, opened, &env, term, out)
+}
+
+/// The same, in an environment.
+fn put_whnf_in(
+    case: &Case,
+    opened: &Opened,
+    env: &Env,
+    term: &Term,
+    out: &mut String,
+) -> Result<(), Fault> {
+    let mut m = Meter::new(case.row.number("units", 1_000_000)?);
+    let ctx = context(case, opened)?;
+    put_reduced(out, opened, Subst.whnf(case.alloc, env, &ctx, term, &mut m))?;
+    let left = m.left();
+    write!(out, "\n  units left {left}")?;
+    Ok(())
+}
+
+/// A weak-head normal form, or why there is none.
+fn put_reduced(
+    out: &mut String,
+    opened: &Opened,
+    reduced: Result<Term, Stop>,
+) -> Result<(), AllocError> {
+    match reduced {
+        Ok(whnf) => put_term(out, &opened.raw, &whnf),
+        Err(stop) => put_stop(out, stop),
+    }
+}
+
+fn branches(alloc: Global, whole: &Match) -> Result<Branches, MakeFault> {
+    let mut list = Branches::new(alloc);
+    for branch in whole.branches.as_slice() {
+        let body = branch.body.share()?;
+        let binders = branch.binders;
+        list.push(Branch { binders, body })?;
+    }
+    Ok(list)
+}
+
+/// A match without parameters on another scrutinee.
+fn match_on(alloc: Global, whole: &Match, scrut: Term) -> Result<Term, MakeFault> {
+    let ret = whole.ret.share()?;
+    let branches = branches(alloc, whole)?;
+    let node = Node::Case(Match {
+        family: whole.family,
+        params: Terms::new(alloc),
+        binders: whole.binders,
+        ret,
+        scrut,
+        branches,
+    });
+    Term::make(alloc, node)
+}
+
+/// A match, which has no parameters, around itself, so that so many matches stand in one another.
+fn nested(alloc: Global, whole: &Match, times: u64) -> Result<Term, MakeFault> {
+    let mut term = whole.scrut.share()?;
+    for _ in 0..times {
+        term = match_on(alloc, whole, term)?;
+    }
+    Ok(term)
+}
+
+/// The weak-head normal form of the match `term`, which has no parameters, around itself, so that `times` matches stand in one another.
+fn run_nested(case: &Case, opened: &Opened, term: &Term, out: &mut String) -> Result<(), Fault> {
+    let Node::Case(whole) = term.view() else {
+        return Err(Fault::Faulty("no match"));
+    };
+    let times = case.row.number("times", 0)?;
+    let term = made(nested(case.alloc, whole, times))?;
+    put_whnf(case, opened, &term, out)
+}

@@ -1,0 +1,132 @@
+-- An evaluation of a lifted program of the form has the limits that emission asks for, and a call depth.
+use Rattle.std.proofs.Common.{ℕ, zero, suc, ◌+◌, ◌≤◌, List, [], ◌∷◌, length, Bool, true, false, arith}
+use Rattle.std.proofs.lemmas.Option.{slice_get_within}
+use Rattle.std.specs.Prelude.{max}
+use Rattle.anf_convert.specs.Anf.{Atom, AVar, ABox, AEmpty}
+use Rattle.closure_lift.specs.Lifted.{Op, OConst, OApp, OCon, OClos, OCase, Block, RetAtom, LetAtom, Ret, Let, Branches, BNil, BCons, Fn, Program, Val, VBox, VCon, VClos, Vals, VNil, VCons, size, ◌+v◌, many, BranchAt, branch_here, branch_after}
+use Rattle.closure_lift.specs.Lifted as lifted
+use Rattle.anf_convert.specs.AnfForm.{AtomFits, AtomsFit}
+use Rattle.closure_lift.specs.LiftedForm.{OpFits, BlockFits, BranchesFit, Formed, Limits}
+use Rattle.wasm_emit.proofs.Source.{Applies, applies_alone, applies_more, Is, is_var, is_box, is_empty, AllAre, are_none, are_more, Does, do_const, do_app, do_box_app, do_con, do_clos, do_case, Gets, gets_atom, gets_let_atom, gets_ret, gets_let}
+use Rattle.wasm_emit.proofs.Scoped.{AtomOk, AtomsOk, OpOk, BlockOk, BranchesOk, ProgramOk}
+
+pub atom_is : (n : ℕ) {e : Vals} {a : Atom} {v : Val} → AtomFits n a → lifted.Is e a v → Is e a v
+atom_is n fit (lifted.is_var at) = is_var at
+atom_is n fit lifted.is_box = is_box
+atom_is n fit lifted.is_empty = is_empty fit
+
+atoms_are : (n : ℕ) {e : Vals} {as' : List Atom} {vs : Vals} → AtomsFit n as' → lifted.AllAre e as' vs → AllAre e as' vs
+atoms_are n fit lifted.are_none = are_none
+atoms_are n fit (lifted.are_more h hs) = are_more (atom_is n fit.0 h) (atoms_are n fit.1 hs)
+
+module _ (P : Program) (w m : ℕ) where
+  -- a greater depth
+  mutual
+    pub raise_op : {tail : Bool} {D : ℕ} {e : Vals} {op : Op} {v : Val} {c k b s : ℕ} → Does P w m tail D e op v c k b s → (D' : ℕ) → D ≤ D' → Does P w m tail D' e op v c k b s
+    raise_op (do_const {tail = true} at g) zero le = absurd (omega arith)
+    raise_op (do_const {tail = true} at g) (suc D') le = do_const {tail = true} at (raise g D' (omega arith))
+    raise_op (do_app {tail = true} isf isa at sz g) zero le = absurd (omega arith)
+    raise_op (do_app {tail = true} isf isa at sz g) (suc D') le = do_app {tail = true} isf isa at sz (raise g D' (omega arith))
+    raise_op (do_const {tail = false} at g) zero le = absurd (omega arith)
+    raise_op (do_const {tail = false} at g) (suc D') le = do_const {tail = false} at (raise g D' (omega arith))
+    raise_op (do_app {tail = false} isf isa at sz g) zero le = absurd (omega arith)
+    raise_op (do_app {tail = false} isf isa at sz g) (suc D') le = do_app {tail = false} isf isa at sz (raise g D' (omega arith))
+    raise_op (do_box_app isf isa) D' le = do_box_app isf isa
+    raise_op (do_con lt pos few narrow all) D' le = do_con lt pos few narrow all
+    raise_op (do_clos lt few narrow all) D' le = do_clos lt few narrow all
+    raise_op (do_case isa few at g) D' le = do_case isa few at (raise g D' le)
+
+    pub raise : {tail : Bool} {D : ℕ} {e : Vals} {t : Block} {v : Val} {c k b s : ℕ} → Gets P w m tail D e t v c k b s → (D' : ℕ) → D ≤ D' → Gets P w m tail D' e t v c k b s
+    raise (gets_atom is) D' le = gets_atom is
+    raise (gets_let_atom is g) D' le = gets_let_atom is (raise g D' le)
+    raise (gets_ret d) D' le = gets_ret (raise_op d D' le)
+    raise (gets_let d g) D' le = gets_let (raise_op d D' le) (raise g D' le)
+
+  pub record Staged (tail : Bool) (e : Vals) (t : Block) (v : Val) (c k b s : ℕ) : Type 0 where
+    pub D : ℕ
+    pub gets : Gets P w m tail D e t v c k b s
+
+  pub record StagedOp (tail : Bool) (e : Vals) (op : Op) (v : Val) (c k b s : ℕ) : Type 0 where
+    pub D : ℕ
+    pub does : Does P w m tail D e op v c k b s
+
+  branch_fits : (n : ℕ) {i j : ℕ} {bs : Branches} {t : Block} → BranchesFit P.functions (length P.constants) m n bs → BranchAt bs i j t → BlockFits P.functions (length P.constants) m (j + n) t
+  branch_fits n fit branch_here = fit.1
+  branch_fits n fit (branch_after at) = branch_fits n fit.2 at
+
+  joined : {tail : Bool} {e : Vals} {op : Op} {t : Block} {v r : Val} {c c' k k' b b' s s' : ℕ} → StagedOp false e op v c k b s → Staged tail (VCons v e) t r c' k' b' s' → Staged tail e (Let op t) r (c + c') (k + k') (b + b') (s + s')
+  joined h g = record { D = max h.D g.D; gets = gets_let (raise_op h.does (max h.D g.D) (omega arith)) (raise g.gets (max h.D g.D) (omega arith)) }
+
+  module _ (ok : Formed P m) (limits : Limits P) where
+    mutual
+      pub staged_op : {e : Vals} {op : Op} {v : Val} {c k b s : ℕ} (n : ℕ) (tail : Bool) → OpFits P.functions (length P.constants) m n op → lifted.Does P w e op v c k b s → StagedOp tail e op v c k b s
+      staged_op n tail fit (lifted.do_const {x = x} {t = t} at g) = let h = staged 0 true (ok.constants x t at) g in record { D = _; does = do_const at h.gets }
+      staged_op n tail fit (lifted.do_app {g = g} {fn = fn} isf isa at sz d) = let h = staged (suc fn.captured) true (ok.functions g fn at) d in record { D = _; does = do_app (atom_is n fit.0 isf) (atom_is n fit.1 isa) at sz h.gets }
+      staged_op n tail fit (lifted.do_box_app isf isa) = record { D = 0; does = do_box_app (atom_is n fit.0 isf) (atom_is n fit.1 isa) }
+      staged_op n tail fit (lifted.do_con narrow all) = record { D = 0; does = do_con fit.0 fit.1 fit.2 narrow (atoms_are n fit.3 all) }
+      staged_op n tail fit (lifted.do_clos {g = g} narrow all) =
+          let takes = fit.0 in
+          let small = limits.captured g takes.fn takes.at in
+          let within = slice_get_within P.functions g takes.fn takes.at in
+          let few = limits.few in
+          let words = takes.words in
+          record { D = 0; does = do_clos (omega arith) (omega arith) narrow (atoms_are n fit.1 all) }
+      staged_op n tail fit (lifted.do_case isa at d) = let h = staged (_ + n) tail (branch_fits n fit.2 at) d in record { D = _; does = do_case (atom_is n fit.0 isa) fit.1 at h.gets }
+
+      pub staged : {e : Vals} {t : Block} {v : Val} {c k b s : ℕ} (n : ℕ) (tail : Bool) → BlockFits P.functions (length P.constants) m n t → lifted.Gets P w e t v c k b s → Staged tail e t v c k b s
+      staged n tail fit (lifted.gets_atom is) = record { D = 0; gets = gets_atom (atom_is n fit is) }
+      staged n tail fit (lifted.gets_let_atom is g) = let h = staged (suc n) tail fit.1 g in record { D = _; gets = gets_let_atom (atom_is n fit.0 is) h.gets }
+      staged n tail fit (lifted.gets_ret d) = let h = staged_op n tail fit d in record { D = _; gets = gets_ret h.does }
+      staged n tail fit (lifted.gets_let d g) = joined (staged_op n false fit.0 d) (staged (suc n) tail fit.1 g)
+
+module _ (P : Program) (w m : ℕ) (ok : Formed P m) (limits : Limits P) where
+  pub record StagedCall (args : Vals) (v : Val) (c k b s : ℕ) : Type 0 where
+    pub D : ℕ
+    pub applies : Applies P w m D args v c k b s
+
+  raise_all : {D : ℕ} {args : Vals} {v : Val} {c k b s : ℕ} → Applies P w m D args v c k b s → (D' : ℕ) → D ≤ D' → Applies P w m D' args v c k b s
+  raise_all (applies_alone g) D' le = applies_alone (raise P w m g D' le)
+  raise_all (applies_more h d) D' le = applies_more (raise_all h D' le) (raise_op P w m d D' le)
+
+  pub staged_all : {args : Vals} {v : Val} {c k b s : ℕ} → lifted.Answers P w args v c k b s → StagedCall args v c k b s
+  staged_all (lifted.answers_alone g) = let h = staged P w m ok limits 0 false ok.main g in record { D = h.D; applies = applies_alone h.gets }
+  staged_all (lifted.answers_applied h d) =
+      let x = staged_all h in
+      let y = staged_op P w m ok limits 2 false (omega arith, omega arith) d in
+      record { D = max x.D y.D; applies = applies_more (raise_all x.applies (max x.D y.D) (omega arith)) (raise_op P w m y.does (max x.D y.D) (omega arith)) }
+
+-- names in scope
+atom_scoped : (n : ℕ) (a : Atom) → AtomFits n a → AtomOk n a
+atom_scoped n (AVar i) h = h
+atom_scoped n ABox h = tt
+atom_scoped n (AEmpty c) h = tt
+
+atoms_scoped : (n : ℕ) (as' : List Atom) → AtomsFit n as' → AtomsOk n as'
+atoms_scoped n [] h = tt
+atoms_scoped n (a ∷ as') h = (atom_scoped n a h.0, atoms_scoped n as' h.1)
+
+module _ (P : Program) (m : ℕ) where
+  mutual
+    op_scoped : (n : ℕ) (op : Op) → OpFits P.functions (length P.constants) m n op → OpOk P n op
+    op_scoped n (OConst x) h = h
+    op_scoped n (OApp f a) h = (atom_scoped n f h.0, atom_scoped n a h.1)
+    op_scoped n (OCon c as') h = atoms_scoped n as' h.3
+    op_scoped n (OClos g as') h = atoms_scoped n as' h.1
+    op_scoped n (OCase a bs) h = (atom_scoped n a h.0, branches_scoped n bs h.2)
+
+    pub block_scoped : (n : ℕ) (t : Block) → BlockFits P.functions (length P.constants) m n t → BlockOk P n t
+    block_scoped n (RetAtom a) h = atom_scoped n a h
+    block_scoped n (LetAtom a t) h = (atom_scoped n a h.0, block_scoped (suc n) t h.1)
+    block_scoped n (Ret op) h = op_scoped n op h
+    block_scoped n (Let op t) h = (op_scoped n op h.0, block_scoped (suc n) t h.1)
+
+    branches_scoped : (n : ℕ) (bs : Branches) → BranchesFit P.functions (length P.constants) m n bs → BranchesOk P n bs
+    branches_scoped n BNil h = tt
+    branches_scoped n (BCons j t bs) h = (block_scoped (j + n) t h.1, branches_scoped n bs h.2)
+
+pub scoped : (P : Program) (m : ℕ) → Formed P m → ProgramOk P
+scoped P m ok = record {
+  functions = λ g fn at. block_scoped P m (suc fn.captured) fn.body (ok.functions g fn at);
+  constants = λ x t at. block_scoped P m 0 t (ok.constants x t at);
+  main = block_scoped P m 0 P.main ok.main;
+}

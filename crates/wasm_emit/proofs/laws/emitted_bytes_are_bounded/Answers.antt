@@ -1,0 +1,8 @@
+use Rattle.wasm_emit.proofs.Sized.{emit_sized, locals_bound}
+use Rattle.wasm_emit.proofs.laws.emitted_bytes_are_bounded.Goals as goal
+
+pub returns-clause-bytes : goal.returns-clause-bytes
+returns-clause-bytes c = emit_sized
+
+pub returns-clause-locals : goal.returns-clause-locals
+returns-clause-locals c = locals_bound

@@ -1,0 +1,96 @@
+-- The instructions of a block of a lifted program. Each function here puts its instructions in front of `rest`. A binding gets the local whose
+-- number is how many stand before it, a block leaves its word on the operand stack, and what a match binds is read from the matched block.
+use Rattle.std.specs.Prelude.{ℕ, zero, suc, ◌+◌, ◌*◌, List, [], ◌∷◌, length, Option, Some, None, slice_get}
+use Rattle.anf_convert.specs.Anf.{Atom, AVar, ABox, AEmpty}
+use Rattle.closure_lift.specs.Lifted.{Op, OConst, OApp, OCon, OClos, OCase, Block, RetAtom, LetAtom, Ret, Let, Branches, BNil, BCons, Program}
+use Rattle.wasm_core.specs.declared.types.ValType.TheVariants as type
+use Rattle.wasm_core.specs.declared.instrs.BlockType.TheVariants.{Empty, Value}
+use Rattle.wasm_core.specs.declared.instrs.Access.{Access}
+use Rattle.wasm_core.specs.declared.instrs.I32Op.TheVariants as op32
+use Rattle.wasm_core.specs.declared.instrs.Instr.{Instr}
+use Rattle.wasm_core.specs.declared.instrs.Instr.TheVariants.{Unreachable, If, Else, End, Call, CallIndirect, LocalGet, LocalSet, I32Load, I32Store, I32Const, I32 as Operation}
+
+-- words in memory stand at multiples of 4
+abbrev pub at_offset : ℕ → Access
+at_offset o = record { align = 2; offset = o }
+
+abbrev pub Load : ℕ → Instr
+Load o = I32Load (at_offset o)
+
+abbrev pub Store : ℕ → Instr
+Store o = I32Store (at_offset o)
+
+abbrev pub Const : ℕ → Instr
+Const n = I32Const n
+
+-- a test whose arms leave a word, and one whose arm leaves nothing
+abbrev pub IfWord : Instr
+IfWord = If (Value type.I32)
+
+abbrev pub IfOnly : Instr
+IfOnly = If Empty
+
+-- a call of a closure's function, by its entry of table 0; all have the type with number 3
+abbrev pub CallClosure : Instr
+CallClosure = CallIndirect 3 0
+
+-- where a variable's word is: in a local, or in a field of the block whose address is in a local
+pub data Place : Type 0 where
+  InLocal : (x : ℕ) → Place
+  InField : (x offset : ℕ) → Place
+
+-- the n fields of a block, the last one first
+abbrev pub fields_of : ℕ → ℕ → List Place → List Place
+fields_of x zero env = env
+fields_of x (suc n) env = InField x (4 * suc n) ∷ fields_of x n env
+
+abbrev pub read : Option Place → List Instr → List Instr
+read None rest = Unreachable ∷ rest
+read (Some (InLocal x)) rest = LocalGet x ∷ rest
+read (Some (InField x o)) rest = LocalGet x ∷ Load o ∷ rest
+
+abbrev pub atom : List Place → Atom → List Instr → List Instr
+atom env (AVar i) rest = read (slice_get env i) rest
+atom env ABox rest = Const 0 ∷ rest
+atom env (AEmpty c) rest = Const (2 * c + 1) ∷ rest
+
+-- the words of a block, whose address is in local d
+abbrev pub fill : List Place → ℕ → List Atom → List Instr → List Instr
+fill env d [] rest = rest
+fill env d (a ∷ as') rest = LocalGet d ∷ atom env a (Store (4 * suc (length as')) ∷ fill env d as' rest)
+
+-- function 0 takes a number of bytes and gives the address of as many
+abbrev pub block : List Place → ℕ → ℕ → List Atom → List Instr → List Instr
+block env d header as' rest =
+    Const (4 * suc (length as')) ∷ Call 0 ∷ LocalSet d ∷ LocalGet d ∷ Const header ∷ Store 0 ∷ fill env d as' (LocalGet d ∷ rest)
+
+-- functions 0 and 1 are of the run time; then come the program's functions, and its constants, and main
+abbrev pub constant_index : Program → ℕ → ℕ
+constant_index P x = suc (suc (length P.functions + x))
+
+module _ (P : Program) where
+  abbrev mutual
+    pub op : List Place → ℕ → Op → List Instr → List Instr
+    op env d (OConst x) rest = Call (constant_index P x) ∷ rest
+    op env d (OApp f a) rest = atom env f (atom env a (atom env f (Load 0 ∷ CallClosure ∷ rest)))
+    op env d (OCon c as') rest = block env d (length as' * 65536 + c) as' rest
+    op env d (OClos g as') rest = block env d (suc g) as' rest
+    op env d (OCase a bs) rest = atom env a (LocalSet d ∷ empties env d 0 bs (heads env d 0 bs) rest)
+
+    pub code : List Place → ℕ → Block → List Instr → List Instr
+    code env d (RetAtom a) rest = atom env a rest
+    code env d (LetAtom a t) rest = atom env a (LocalSet d ∷ code (InLocal d ∷ env) (suc d) t rest)
+    code env d (Ret p) rest = op env d p rest
+    code env d (Let p t) rest = op env d p (LocalSet d ∷ code (InLocal d ∷ env) (suc d) t rest)
+
+    -- the branches without binders, and then `others`
+    pub empties : List Place → ℕ → ℕ → Branches → (List Instr → List Instr) → List Instr → List Instr
+    empties env d c BNil others rest = others rest
+    empties env d c (BCons zero t bs) others rest = LocalGet d ∷ Const (2 * c + 1) ∷ Operation op32.Eq ∷ IfWord ∷ code env (suc d) t (Else ∷ empties env d (suc c) bs others (End ∷ rest))
+    empties env d c (BCons (suc n) t bs) others rest = empties env d (suc c) bs others rest
+
+    -- the branches with binders
+    pub heads : List Place → ℕ → ℕ → Branches → List Instr → List Instr
+    heads env d c BNil rest = Unreachable ∷ rest
+    heads env d c (BCons zero t bs) rest = heads env d (suc c) bs rest
+    heads env d c (BCons (suc n) t bs) rest = LocalGet d ∷ Load 0 ∷ Const (suc n * 65536 + c) ∷ Operation op32.Eq ∷ IfWord ∷ code (fields_of d (suc n) env) (suc d) t (Else ∷ heads env d (suc c) bs (End ∷ rest))
