@@ -5,9 +5,10 @@ use Rattle.pc_terms.specs.Syntax.{Term}
 use Rattle.pc_rules.specs.declared.meter.Account.{Account}
 use Rattle.pc_rules.specs.Environment.{Env}
 use Rattle.pc_rules.specs.DirectedRun.{Run, End}
-use Rattle.pc_rules.specs.DirectedDeclarations.{Checked, Outcome, Gives, Accepts, first_repeated, first_undeclared_end, graph_rule, constraints_rule, levels_rule}
+use Rattle.pc_rules.specs.DirectedDeclarations.{Checked, Outcome, Gives, Accepts, first_repeated, first_undeclared_end, declarations_rule, graph_rule, constraints_rule, levels_rule}
 use Rattle.dump_reader.specs.declared.environment.RawEnv.{RawEnv}
-use Rattle.env_check.specs.Rules.{rules_of}
+use Rattle.pc_rules.specs.Entailment.{entailed_by}
+use Rattle.env_check.specs.Rules.{rules_of, givens}
 use Rattle.driver.specs.declared.command_line.Job.{Job}
 use Rattle.driver.specs.declared.command_line.Job.TheVariants.{Exec, Check, Eval}
 use Rattle.driver.specs.declared.refusal.Refusal.{Refusal}
@@ -30,12 +31,13 @@ accepts_plainly : (e : RawEnv) (c : Option (List ℕ)) (E : Env) (T : Term) (u :
     (rules_of e None 2048 start).outcome ≡ Accepts E T u
 accepts_plainly e None E T u h = h
 accepts_plainly e (Some q) E T u h =
-    absurd (no_cycle_accepts (first_repeated 0 [] e.levels) (first_undeclared_end (length e.levels) 0 e.constraints) q _ start u E T h)
+    absurd (no_cycle_accepts (first_repeated 0 [] e.levels) (first_undeclared_end (length e.levels) 0 e.constraints) q
+    (declarations_rule (length e.levels) e.constraints (entailed_by (length e.levels) e.constraints) 2048 0 [] (givens e) e.main start) start u E T h)
 
 plainly : (e : RawEnv) (E : Env) (T : Term) (u : Account) → IsAcceptedWith e E T u → (rules_of e None 2048 start).outcome ≡ Accepts E T u
 plainly e E T u a = accepts_plainly e a.judged.cycle E T u (ap (λ d. d.outcome) (sym a.judged.is) ∙ a.accepts)
 
-accepted_in : Outcome (Env × Term) → Env × Term → Env × Term
+abbrev accepted_in : Outcome (Env × Term) → Env × Term → Env × Term
 accepted_in (Gives p u) q = p
 accepted_in o q = q
 
