@@ -1,5 +1,5 @@
 -- The statuses of the check's refusals.
-use Rattle.std.proofs.Common.{◌≡◌, ℕ, Bool, true, false, IsTrue, refl, sym, ap, ◌∙◌, arith}
+use Rattle.std.proofs.Common.{◌≡◌, ℕ, Bool, true, false, IsTrue, sym, ap, ◌∙◌, arith}
 use Rattle.dump_reader.specs.declared.environment.RawEnv.{RawEnv}
 use Rattle.driver.specs.declared.refusal.Refusal.{Refusal}
 use Rattle.driver.specs.declared.refusal.Refusal.TheVariants as refusals
@@ -33,7 +33,6 @@ cause_status refusals.TurnsSpent e status c n h =
 cause_status (refusals.Broken k p) e status c n h =
     let same = judged_alike e h.rules c.rules h.judged c.judged in
     h.status_is ∙ same.status ∙ ap status_by c.breaks
-
 cause_status refusals.Types e status c n h = absurd c
 cause_status refusals.AnswerNodes e status c n h = absurd c
 cause_status refusals.NotFirstOrder e status c n h = absurd c
@@ -56,7 +55,6 @@ not_zero refusals.Types e = omega (arith, e)
 not_zero refusals.AnswerNodes e = omega (arith, e)
 not_zero refusals.NotFirstOrder e = omega (arith, e)
 not_zero refusals.Stuck e = omega (arith, e)
-
 
 -- an environment that the rules accept ends with 0 alone
 pub accepted_status : (e : RawEnv) (status : ℕ) → IsAcceptedBy e → EndsWith e status → status ≡ 0

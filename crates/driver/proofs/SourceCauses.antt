@@ -1,5 +1,5 @@
 -- What comes after the check of an environment in `eval`: its run is one, and the statuses of the run's refusals.
-use Rattle.std.proofs.Common.{◌≡◌, ℕ, List, [], length, Option, Some, None, ◌⊎◌, inl, inr, false, refl, sym, ap, ◌∙◌}
+use Rattle.std.proofs.Common.{◌≡◌, ℕ, List, [], length, Option, Some, None, ◌⊎◌, inl, inr, false, sym, ap, ◌∙◌}
 use Rattle.universe_levels.specs.declared.level.Level.{Level}
 use Rattle.pc_terms.specs.Syntax.{Term}
 use Rattle.pc_rules.specs.declared.meter.Account.{Account}

@@ -55,6 +55,7 @@ data Of (job : Job) (bytes : List ℕ) (r : Refusal) : Type 0 where
   OfRefusal : (q : ReadRefusal) → verdict_on bytes ≡ Refuse q → r ≡ refusal_of q → Of job bytes r
   OfForm : (e : RawEnv) → SpellsWithin bytes e → (Takes job e → ⊥) → r ≡ refusals.Form → Of job bytes r
   OfCheck : (e : RawEnv) → SpellsWithin bytes e → Takes job e → IsJobCause job r e → (IsSure r → ⊥) → Of job bytes r
+
 of : (job : Job) (bytes : List ℕ) (r : Refusal) → IsTextCause job r bytes → Of job bytes r
 of job bytes refusals.Memory h = absurd h
 of job bytes refusals.Usage h = absurd h

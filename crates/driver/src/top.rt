@@ -108,12 +108,16 @@ fn serve_whole<S: Source, K: Sink, E: Sink>(
 /// Does the job that the words after the program's name ask for, and answers the program's status.
 ///
 /// The input is the text of an environment. `check` accepts it only where every declaration and main have a derivation by the typing rules,
-/// and writes `ok` with LF to `out`. `exec` takes plain environments, whose declarations are blocks of constructors without arguments, with
+/// and writes `ok` with LF to `out`. `eval` accepts it so, finds the first-order types of main's type, evaluates main by the source's own
+/// evaluation, and writes the text of the data that the value is, with LF. `exec` takes plain environments, whose declarations are blocks of constructors without arguments, with
 /// a constructor as main: it checks the environment, makes a module of it, which is encoded, decoded, validated and run, and writes the
 /// answer, the constructor's name with LF. Statuses: 0 done; 1 want of memory; 2 the words aren't one word that is a job, and then nothing
 /// is read; 3 a read fault; 4 a write fault; 5 the text's first refusal is a syntax fault; 6 its first refusal is a form that is known and
 /// not read, or the text spells an environment within the limits that `exec` doesn't take; 7 its first refusal is a limit of the text, or
-/// more than 16,777,216 bytes came, or the check passed a limit; 8 the check has no end within 1,000,000 units; 9 a rule is broken.
+/// more than 16,777,216 bytes came, or the check passed a limit, or by `eval` the search or the evaluation did, main's type needs more than
+/// 1,024 types, or the value has more than 4,000,000 nodes; 8 the check, and by `eval` the search and the evaluation with it, has no end within
+/// 1,000,000 units; 9 a rule is broken; 10 by `eval`, main's type has no first-order set; 15 by `eval`, main has no value, or its value is no
+/// data of its type.
 ///
 /// A refusal writes one line to `err`, which takes no memory; a fault on `err` changes no status. Nothing goes to `out` before
 /// the whole answer is there, so a refusal other than a write fault leaves it as it was.
@@ -124,7 +128,8 @@ pub fn serve<S: Source, K: Sink, E: Sink>(
     out: &mut K,
     err: &mut E,
 ) -> u8
-    // The answer: the text spells an environment that is well formed; out takes `ok`, or the name of the constructor that its module answers.
+    // The answer: the text spells an environment that is well formed; out takes `ok`, the text of main's value, or the name of the constructor
+    // that its module answers.
     ensures done { result ≡ 0 → (text : List ℕ) × Answered (words_of words.now) (S.left src.old) text × Appends (K.taken out.old) (K.taken out.new) text }
     ensures statuses { Contains (0 ∷ 1 ∷ 2 ∷ 3 ∷ 4 ∷ 5 ∷ 6 ∷ 7 ∷ 8 ∷ 9 ∷ 10 ∷ 15 ∷ []) result }
 

@@ -19,7 +19,7 @@ use Rattle.pc_rules.specs.FirstOrder.{Shape as Member, IsFirstOrder}
 use Rattle.pc_rules.specs.DirectedRun.{Run, Done, done, passing, any_beyond, bind}
 use Rattle.pc_rules.specs.DirectedErasable.{is_prop}
 use Rattle.pc_rules.specs.DirectedWeakHead.{family_of, whnf}
-use Rattle.pc_rules.specs.DirectedFirstOrder.{Searched, Found, NotFirstOrder, TooManyTypes, on_found, with_found, place_in, put_behind, put_in_at, put_in, put_constructors, member_family, member_of, independent, or_not_first_order, argument_types, shape, work_type, first_order_search}
+use Rattle.pc_rules.specs.DirectedFirstOrder.{Searched, Found, NotFirstOrder, on_found, with_found, place_in, put_behind, put_in_at, put_in, put_constructors, member_family, member_of, independent, or_not_first_order, argument_types, shape, work_type, first_order_search}
 use Rattle.pc_rules.specs.Follows.{Follows, Answers}
 use Rattle.pc_rules.proofs.Following.{bind_end, or_left, follows_bind, follows_err, follows_done}
 use Rattle.pc_rules.proofs.SearchRuns.{search_is}
@@ -28,7 +28,6 @@ use Rattle.pc_rules.proofs.WeakNext.{if_some_is, if_is, family_found, none_some}
 use Rattle.first_order.specs.declared.shapes.Shape.{Shape}
 use Rattle.first_order.specs.declared.shapes.ShapeCtor.{ShapeCtor}
 use Rattle.first_order.specs.declared.faults.ShapeRefusal.{ShapeRefusal}
-use Rattle.first_order.specs.declared.faults.ShapeRefusal.TheVariants.{NotFirstOrder as Without}
 use Rattle.first_order.specs.Searching.{refusal_of, searched, as_is, one_constructor, family_in, places, member, ctor_name, constructor_name, IsNamed}
 use Rattle.first_order.proofs.Searches.{follows_found, follows_lost}
 

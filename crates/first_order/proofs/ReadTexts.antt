@@ -1,19 +1,19 @@
 -- Data that is read at types has a text at them.
-use Rattle.std.proofs.Common.{◌≡◌, ◌∙◌, ℕ, zero, suc, ◌+◌, ◌<◌, ◌==◌, List, [], ◌∷◌, ◌++◌, map, length, drop, Option, Some, None, slice_get, if◌then◌else◌, refl, sym, ap, subst as along, arith}
+use Rattle.std.proofs.Common.{◌≡◌, ◌∙◌, ℕ, zero, suc, ◌<◌, ◌==◌, List, [], ◌∷◌, ◌++◌, map, length, drop, Some, None, slice_get, if◌then◌else◌, refl, sym, ap}
 use Rattle.std.proofs.lemmas.Bool.{eq-eqb, eqb-true}
 use Rattle.std.proofs.lemmas.List.{map-append, length-replicate}
 use Rattle.std.proofs.lemmas.Option.{slice_get-get_or}
 use Rattle.pc_terms.specs.Syntax.{Term, args}
 use Rattle.pc_rules.specs.FirstOrder.{Data}
 use Rattle.pc_rules.specs.DirectedWeakHead.{if_some}
-use Rattle.pc_rules.proofs.WeakNext.{none_some, if_some_is, if_is}
+use Rattle.pc_rules.proofs.WeakNext.{if_some_is, if_is}
 use Rattle.pc_rules.proofs.Spines.{one_item}
 use Rattle.first_order.specs.declared.shapes.Shape.{Shape}
 use Rattle.first_order.specs.declared.shapes.ShapeCtor.{ShapeCtor}
 use Rattle.first_order.specs.declared.reading.Field.{Field}
 use Rattle.first_order.specs.declared.texts.Slot.{Slot}
-use Rattle.first_order.specs.Reading.{field, fields, Taken, node_of, Reading, Read, NotAt, TooMany, put_first, on_node, read_on, read}
-use Rattle.first_order.specs.Texts.{Naming, counted_ctor, constructor_in, named_ctor, by_shapes, by_tags, HasNames, slot, slot_behind, slots, piece, Writing, Written, NotOf, NoTree, before, on_name, write_on, write}
+use Rattle.first_order.specs.Reading.{field, Taken, node_of, Read, read_on, read}
+use Rattle.first_order.specs.Texts.{counted_ctor, constructor_in, named_ctor, by_shapes, by_tags, HasNames, slot, slots, piece, Writing, Written, NotOf, NoTree, before, on_name, write_on, write}
 use Rattle.first_order.proofs.NodeByNode.{fields_length, drop_length, read_none, read_past, read_next, many_read}
 use Rattle.first_order.proofs.DataRead.{IsNode, node_is, node_of_some, places_of_fields}
 use Rattle.first_order.proofs.Written.{written_node, nothing_written, too_many, IsCounted}

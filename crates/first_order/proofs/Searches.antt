@@ -10,7 +10,7 @@ use Rattle.pc_rules.specs.DirectedRun.{Run, End, Done, Refused, NoUnit, Nested, 
 use Rattle.pc_rules.specs.DirectedFirstOrder.{Searched, Found, NotFirstOrder, TooManyTypes, on_found, with_found}
 use Rattle.pc_rules.specs.Follows.{Follows, IsAfter, Answers}
 use Rattle.pc_rules.specs.Leads.{Leads}
-use Rattle.pc_rules.proofs.Meters.{after-refl, after-trans}
+use Rattle.pc_rules.proofs.Meters.{after-trans}
 use Rattle.pc_rules.proofs.Following.{bind_end, bind_deep, bind_done, follows_bind, follows_err, follows_done}
 use Rattle.pc_rules.proofs.SameWithin.{bind_assoc}
 use Rattle.first_order.specs.declared.faults.ShapeRefusal.{ShapeRefusal}

@@ -1,9 +1,10 @@
 -- The parts of the search, one item of a list at a time.
-use Rattle.std.proofs.Common.{◌≡◌, ◌∙◌, sym, ap, refl, subst as along, ℕ, zero, suc, ◌+◌, ◌-◌, ◌<◌, ◌≤◌, ◌==◌, ◌&&◌, ◌↔◌, ◌⊎◌, inl, inr, Bool, true, false, if◌then◌else◌, IsTrue, List, [], ◌∷◌, ◌++◌, length, map, take, drop, get_or, Option, Some, None, slice_get, Ok, Err, append_assoc, append-nil, length-append, arith}
+use Rattle.std.proofs.Common.{◌≡◌, ◌∙◌, sym, ap, refl, subst as along, ℕ, zero, suc, ◌+◌, ◌-◌, ◌<◌, ◌≤◌, ◌==◌, ◌&&◌, ◌↔◌, ◌⊎◌, inl, inr, Bool, true}
+use Rattle.std.proofs.Common.{false, if◌then◌else◌, IsTrue, List, [], ◌∷◌, ◌++◌, length, map, take, drop, get_or, Option, Some, None, slice_get, Ok, Err, append_assoc, append-nil, length-append, arith}
 use Rattle.std.specs.Prelude.{option_map}
 use Rattle.std.proofs.lemmas.Bool.{eq-eqb, eqb-true}
 use Rattle.std.proofs.lemmas.List.{map-append, take_all}
-use Rattle.pc_terms.specs.Syntax.{Term, Rel, Ind, variables, shift, substitute, put_all}
+use Rattle.pc_terms.specs.Syntax.{Term, Rel, Ind, variables, shift}
 use Rattle.pc_terms.specs.declared.leaf.FamilyId.{FamilyId}
 use Rattle.pc_rules.specs.declared.declaration.Constructor.{Constructor}
 use Rattle.pc_rules.specs.declared.declaration.Family.{Family}
@@ -16,10 +17,11 @@ use Rattle.pc_rules.specs.Environment.{Env, FamilyDecl, with_parameters, family_
 use Rattle.pc_rules.specs.Instances.{branch_entries}
 use Rattle.pc_rules.specs.Same.{same}
 use Rattle.pc_rules.specs.FirstOrder.{Shape as Member}
-use Rattle.pc_rules.specs.DirectedRun.{Run, Done, done, passing, any_beyond, bind, ticking, ticked}
+use Rattle.pc_rules.specs.DirectedRun.{Run, Done, done, passing, any_beyond, ticking, ticked}
 use Rattle.pc_rules.specs.DirectedErasable.{is_prop}
 use Rattle.pc_rules.specs.DirectedWeakHead.{if_some, kept_at, whole_block, family_of}
-use Rattle.pc_rules.specs.DirectedFirstOrder.{Searched, Found, NotFirstOrder, TooManyTypes, on_found, with_found, next_place, place_in, put_behind, put_in_at, put_in, put_arguments, put_constructors, member_family, member_of, lowered, without, independent, or_not_first_order, argument_types, work_type, work_on, first_order_search}
+use Rattle.pc_rules.specs.DirectedFirstOrder.{Searched, Found, TooManyTypes, on_found, with_found, next_place, place_in, put_behind, put_in, put_arguments}
+use Rattle.pc_rules.specs.DirectedFirstOrder.{put_constructors, member_family, member_of, lowered, without, independent, or_not_first_order, argument_types, work_type, work_on, first_order_search}
 use Rattle.pc_rules.specs.Follows.{Follows, IsAfter}
 use Rattle.pc_rules.specs.Leads.{Leads}
 use Rattle.pc_rules.proofs.ListSteps.{next_is, none_left, take_next}
@@ -28,7 +30,7 @@ use Rattle.pc_rules.proofs.Following.{follows_then, follows_else, follows_tick, 
 use Rattle.pc_rules.proofs.SameWithin.{bind_assoc}
 use Rattle.first_order.specs.declared.faults.ShapeRefusal.{ShapeRefusal}
 use Rattle.first_order.specs.Searching.{searched, one_constructor, is_whole}
-use Rattle.first_order.proofs.Searches.{then_done, collect_start, collect_next, collect_lost, collect_end, leads_along, leads_found, leads_same, found_unit}
+use Rattle.first_order.proofs.Searches.{then_done, collect_next, collect_lost, collect_end, leads_along, leads_found, leads_same, found_unit}
 
 -- ---- the place of a type in a list
 

@@ -1,11 +1,11 @@
 -- What is written of data, node by node, is its text.
-use Rattle.std.proofs.Common.{◌≡◌, ◌∙◌, ℕ, zero, suc, ◌+◌, ◌<◌, ◌≤◌, List, [], ◌∷◌, ◌++◌, map, length, drop, reverse, Option, Some, None, slice_get, refl, sym, ap, subst as along, arith, length-append, append_assoc, append-nil}
+use Rattle.std.proofs.Common.{◌≡◌, ◌∙◌, ℕ, zero, suc, ◌+◌, List, [], ◌∷◌, ◌++◌, length, reverse, Option, Some, None, refl, sym, ap, subst as along, arith, length-append, append_assoc, append-nil}
 use Rattle.std.specs.Prelude.{replicate}
 use Rattle.std.proofs.lemmas.List.{reverse-append, length-reverse}
 use Rattle.pc_rules.specs.FirstOrder.{Data}
-use Rattle.data_trees.specs.Preorder.{IsForest, IsTree}
+use Rattle.data_trees.specs.Preorder.{IsForest}
 use Rattle.first_order.specs.declared.texts.Slot.{Slot}
-use Rattle.first_order.specs.Texts.{Naming, IsText, alone, with_arguments, AreTexts, no_text, one_text, slot, slot_behind, slots, blank, piece, Writing, Written, NotOf, NoTree, before, on_name, write_on, write}
+use Rattle.first_order.specs.Texts.{Naming, IsText, alone, with_arguments, AreTexts, no_text, one_text, slot, slots, blank, piece, Writing, Written, NotOf, NoTree, before, on_name, write_on, write}
 
 -- ---- one node at a time
 
@@ -184,7 +184,7 @@ headed N i c ss k name (j ∷ js) x (suc n) ds t e l r =
       data_is = ap (λ y. (x, suc n) ∷ y) a.data_is;
       text_is = append_assoc (blank k) (40 ∷ name) t
           ∙ ap (λ y. blank k ++ (40 ∷ y))
-              (ap (λ y. name ++ y) (a.text_is ∙ sym (append_assoc a.texts (41 ∷ []) (replicate c 41 ++ a.rest))) ∙ sym (append_assoc name (a.texts ++ (41 ∷ [])) (replicate c 41 ++ a.rest)));
+          (ap (λ y. name ++ y) (a.text_is ∙ sym (append_assoc a.texts (41 ∷ []) (replicate c 41 ++ a.rest))) ∙ sym (append_assoc name (a.texts ++ (41 ∷ [])) (replicate c 41 ++ a.rest)));
       is = with_arguments e a.are;
       left = a.left;
     }

@@ -78,5 +78,7 @@ returns c =
     let v = c.shapes_of.new.m.account in
     let w = c.value_of.new.m.account in
     let hs = c.in_ok-shapes.shapes.types in
-    record { says = line_says (λ v. v.items) c.line_of.result bytes hs e.names c.in_ok-tree.tree (λ text line. evaluated bytes text e a.env a.main a.main_type u v w s known.0 known.1 known.2 hs c.in_ok-shapes.ensures.named
-        c.in_ok-shapes.ensures.set c.in_ok-shapes.ensures.says c.in_ok-value.value c.in_ok-value.ensures.says c.in_ok-value.ensures.value c.in_ok-tree.tree c.in_ok-tree.ensures.says line) c.line_of.ensures.line c.line_of.ensures.only_memory }
+    record {
+      says = line_says (λ v. v.items) c.line_of.result bytes hs e.names c.in_ok-tree.tree (λ text line. evaluated bytes text e a.env a.main a.main_type u v w s known.0 known.1 known.2 hs c.in_ok-shapes.ensures.named
+          c.in_ok-shapes.ensures.set c.in_ok-shapes.ensures.says c.in_ok-value.value c.in_ok-value.ensures.says c.in_ok-value.ensures.value c.in_ok-tree.tree c.in_ok-tree.ensures.says line) c.line_of.ensures.line c.line_of.ensures.only_memory;
+    }

@@ -4,7 +4,7 @@ use Rattle.std.proofs.lemmas.Result.{err_from_is_err_and}
 use Rattle.pc_rules.specs.DirectedFirstOrder.{argument_types}
 use Rattle.pc_rules.proofs.Following.{follows_still}
 use Rattle.pc_rules.proofs.Meters.{after-refl}
-use Rattle.first_order.specs.Searching.{as_is, listed, types_in, name_in, constructor_name, one_constructor, searched}
+use Rattle.first_order.specs.Searching.{as_is, listed, types_in, name_in, constructor_name}
 use Rattle.first_order.proofs.Searches.{collect_start}
 use Rattle.first_order.proofs.Working.{meter_at, types_next, types_lost, types_end, mapped_next, mapped_end}
 use Rattle.first_order.proofs.arguments.argument_types.Goals as goal

@@ -1,4 +1,4 @@
-use Rattle.std.proofs.Common.{◌≡◌, ◌≤◌, ◌-◌, length}
+use Rattle.std.proofs.Common.{◌≤◌, ◌-◌, length}
 use Rattle.pc_rules.specs.DirectedFirstOrder.{first_order_search}
 use Rattle.pc_rules.specs.Follows.{IsAfter}
 use Rattle.pc_rules.specs.Leads.{Leads}

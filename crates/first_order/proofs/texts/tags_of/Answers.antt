@@ -1,11 +1,11 @@
-use Rattle.std.proofs.Common.{◌≡◌, ◌∙◌, ◌+◌, ◌<◌, ◌≤◌, ◌∷◌, ◌++◌, [], Some, None, decimal, length, drop, reverse, refl, sym, ap, subst, arith, length-append}
+use Rattle.std.proofs.Common.{◌≡◌, ◌∙◌, ◌+◌, ◌<◌, ◌≤◌, ◌∷◌, ◌++◌, [], decimal, length, drop, reverse, refl, sym, ap, subst, arith}
 use Rattle.std.specs.Prelude.{replicate}
 use Rattle.std.proofs.lemmas.List.{length-replicate}
 use Rattle.std.proofs.lemmas.Option.{get_or_from_slice_get}
 use Rattle.pc_rules.proofs.ListSteps.{next_is, none_left}
 use Rattle.data_trees.specs.Preorder.{IsForest}
 use Rattle.first_order.specs.Texts.{by_tags, slot, slots, piece, write}
-use Rattle.first_order.proofs.Written.{writes_start, writes_not, writes_next, writes_end, forest_next, some_waits, is_text}
+use Rattle.first_order.proofs.Written.{writes_start, writes_next, writes_end, forest_next, some_waits, is_text}
 use Rattle.first_order.proofs.ReadTexts.{tags_count}
 use Rattle.first_order.proofs.texts.tags_of.Goals as goal
 

@@ -1,5 +1,4 @@
-use Rattle.std.proofs.Common.{◌≡◌, ◌∙◌, ◌+◌, ◌<◌, ◌≤◌, ◌∷◌, ◌++◌, [], Some, None, decimal, length, drop, reverse, refl, sym, ap, subst, arith, length-append}
-use Rattle.std.specs.Prelude.{replicate}
+use Rattle.std.proofs.Common.{◌≡◌, ◌∙◌, ◌+◌, ◌<◌, ◌≤◌, ◌∷◌, ◌++◌, [], length, drop, reverse, sym, ap, subst, arith}
 use Rattle.std.proofs.lemmas.Option.{get_or_from_slice_get}
 use Rattle.pc_rules.proofs.ListSteps.{next_is, none_left}
 use Rattle.data_trees.specs.Preorder.{IsForest}
@@ -86,6 +85,7 @@ loop-i-preserved c =
     let h = c.loop-i.invariant in
     let count = shapes_count c.args.shapes.now.types c.args.names.now s.place d (name, k.args) n in
     record {
-      writes = writes_next (by_shapes c.args.shapes.now.types c.args.names.now) (write (by_shapes c.args.shapes.now.types c.args.names.now) ds) text ws vs s d (drop i ds) (drop (i + 1) ds) i h.writes p q (name, k.args) c.write_node.new.text.items c.put_slots.new.waiting.items n x y (i + 1) (omega arith);
+      writes = writes_next (by_shapes c.args.shapes.now.types c.args.names.now) (write (by_shapes c.args.shapes.now.types c.args.names.now) ds) text ws vs s d (drop i ds) (drop (i + 1) ds) i h.writes p q
+          (name, k.args) c.write_node.new.text.items c.put_slots.new.waiting.items n x y (i + 1) (omega arith);
       forest = forest_next ws vs c.put_slots.new.waiting.items s d (drop i ds) (drop (i + 1) ds) k.args p q h.forest count y;
     }
