@@ -40,9 +40,10 @@ impl Data {
         Data { nodes }
     }
 
-    /// The number of nodes. Takes no memory.
+    /// The number of nodes, which are one tree. Takes no memory.
     pub fn len(&self) -> u32
         ensures is { result ≡ length self.now }
+        ensures tree { IsTree self.now }
     {
         self.nodes.len() as u32
     }

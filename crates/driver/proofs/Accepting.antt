@@ -38,8 +38,7 @@ use Rattle.inductive_check.specs.Given.{ctor_of, family_of, block_of, given_of}
 use Rattle.pc_rules.proofs.WeakNext.{same_names_is}
 use Rattle.rule_laws.proofs.SimpleRules.{some_none}
 use Rattle.env_check.specs.Rules.{rules_of, givens}
-use Rattle.driver.specs.declared.command_line.Job.{Job}
-use Rattle.driver.specs.declared.command_line.Job.TheVariants.{Exec, Check}
+use Rattle.driver.specs.declared.command_line.Job.TheVariants.{Exec}
 use Rattle.driver.specs.Judged.{name_of, start, status_by, EndsWith}
 use Rattle.driver.specs.Serve.{Takes}
 use Rattle.driver.specs.Plain.{set_sort, IsConstant, IsEnumeration, IsEnumerationBlock}
@@ -361,7 +360,6 @@ answerable_ends e a =
       status_is = ap (λ d. status_by d.outcome) (sym is);
     }
 
--- each job takes it
-pub answerable_taken : (job : Job) (e : RawEnv) → IsAnswerable e → Takes job e
-answerable_taken Exec e a = (a.id, a.number, a.plain)
-answerable_taken Check e a = tt
+-- `exec` takes it
+pub answerable_taken : (e : RawEnv) → IsAnswerable e → Takes Exec e
+answerable_taken e a = (a.id, a.number, a.plain)

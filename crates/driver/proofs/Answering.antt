@@ -20,13 +20,14 @@ use Rattle.rule_laws.proofs.Names.{accepted_once, kept_once}
 use Rattle.env_check.specs.Rules.{givens}
 use Rattle.dump_reader.specs.declared.environment.RawEnv.{RawEnv}
 use Rattle.driver.specs.declared.command_line.Job.{Job}
+use Rattle.driver.specs.declared.command_line.Job.TheVariants.{Exec, Check, Eval}
 use Rattle.driver.specs.declared.refusal.Refusal.{Refusal}
 use Rattle.driver.specs.declared.refusal.Refusal.TheVariants as refusals
 use Rattle.driver.specs.Plain.{IsPlainOf}
 use Rattle.driver.specs.Program.{module_for}
 use Rattle.driver.specs.Texts.{SpellsWithin}
 use Rattle.driver.specs.Judged.{IsAcceptedBy, IsNamed}
-use Rattle.driver.specs.Serve.{IsAnswer, IsAnswerOf, CheckSays, IsCheckCause, JobSays, Takes}
+use Rattle.driver.specs.Serve.{IsAnswer, IsAnswerOf, CheckSays, IsCheckCause, IsJobCause, JobSays, Takes}
 use Rattle.driver.proofs.Kept.{kept_constructor, was_read, named_ctor, from_map}
 
 -- ---- main's constructor
@@ -110,6 +111,11 @@ says view job (Ok v) bytes wanted answer text memory = answer (view v) text
 says {V = V} view job (Err e) bytes wanted answer text memory = subst (λ x. JobSays {V = V} job view (Err x) bytes) (sym memory) tt
 
 -- a refusal of the check, as one of the text
+of_check : (job : Job) (r : Refusal) (e : RawEnv) → IsCheckCause r e → IsJobCause job r e
+of_check Exec r e h = h
+of_check Check r e h = h
+of_check Eval r e h = inl h
+
 pub checked_says : {V : Type 0} (view : V → List ℕ) (job : Job) (r : Refusal) (bytes : List ℕ) (e : RawEnv) → SpellsWithin bytes e → Takes job e →
     (r ≡ refusals.Memory) ⊎ IsCheckCause r e → JobSays {V = V} job view (Err r) bytes
 checked_says {V = V} view job r bytes e s takes (inl m) = subst (λ x. JobSays {V = V} job view (Err x) bytes) (sym m) tt
@@ -122,9 +128,13 @@ checked_says view job (refusals.Unsupported w o) bytes e s takes (inr h) = absur
 checked_says view job refusals.Form bytes e s takes (inr h) = absurd h
 checked_says view job (refusals.Limit l) bytes e s takes (inr h) = absurd h
 checked_says view job refusals.InputBytes bytes e s takes (inr h) = absurd h
-checked_says view job refusals.Depth bytes e s takes (inr h) = (e, s, takes, h)
-checked_says view job refusals.TurnsSpent bytes e s takes (inr h) = (e, s, takes, h)
-checked_says view job (refusals.Broken n p) bytes e s takes (inr h) = (e, s, takes, h)
+checked_says view job refusals.Depth bytes e s takes (inr h) = (e, s, takes, of_check job refusals.Depth e h)
+checked_says view job refusals.TurnsSpent bytes e s takes (inr h) = (e, s, takes, of_check job refusals.TurnsSpent e h)
+checked_says view job (refusals.Broken n p) bytes e s takes (inr h) = (e, s, takes, of_check job (refusals.Broken n p) e h)
+checked_says view job refusals.Types bytes e s takes (inr h) = absurd h
+checked_says view job refusals.AnswerNodes bytes e s takes (inr h) = absurd h
+checked_says view job refusals.NotFirstOrder bytes e s takes (inr h) = absurd h
+checked_says view job refusals.Stuck bytes e s takes (inr h) = absurd h
 
 pub cause_of : (r : Refusal) (e : RawEnv) → CheckSays (Err r) e → (r ≡ refusals.Memory) ⊎ IsCheckCause r e
 cause_of refusals.Memory e h = inl refl
@@ -139,6 +149,10 @@ cause_of refusals.InputBytes e h = inr h
 cause_of refusals.Depth e h = inr h
 cause_of refusals.TurnsSpent e h = inr h
 cause_of (refusals.Broken n p) e h = inr h
+cause_of refusals.Types e h = inr h
+cause_of refusals.AnswerNodes e h = inr h
+cause_of refusals.NotFirstOrder e h = inr h
+cause_of refusals.Stuck e h = inr h
 
 -- one item more of a list of which each item so far has a property
 pub all_more : {X : Type 0} (P : X → Type 0) (xs : List X) (i n : ℕ) (x : X) → n ≡ suc i → i < length xs → x ≡ get_or xs i x → All P (take i xs) → P x → All P (take n xs)

@@ -1,5 +1,5 @@
 -- What the check of an environment says, with the units of a job.
-use Rattle.std.proofs.Common.{◌≡◌, ℕ, ◌<◌, ◌-◌, List, length, Option, Some, None, Ok, Err, refl, sym, ap, subst, ◌∙◌}
+use Rattle.std.proofs.Common.{◌≡◌, ℕ, ◌<◌, ◌-◌, List, length, Option, Some, None, Result, Ok, Err, refl, sym, ap, subst, ◌∙◌}
 use Rattle.std.specs.Prelude.{replicate, slice_get}
 use Rattle.std.proofs.Common.{get_or}
 use Rattle.std.proofs.lemmas.Option.{slice_get_read}
@@ -16,8 +16,12 @@ use Rattle.env_check.specs.declared.refusal.Refusal.TheVariants.{Broken, Spent, 
 use Rattle.env_check.specs.Answers.{AnswersFound}
 use Rattle.env_check.specs.Rules.{rules_of}
 use Rattle.driver.specs.declared.refusal.Where.{Where}
-use Rattle.driver.specs.Judged.{start, IsAcceptedBy, IsSpentBy, IsTooDeepFor, IsBrokenBy, IsTold, IsNamed, name_of, number_of}
+use Rattle.driver.specs.SourceEnds.{IsAcceptedWith}
+use Rattle.driver.specs.Serve.{AcceptSays, CheckSays}
+use Rattle.driver.specs.declared.refusal.Refusal.{Refusal}
+use Rattle.driver.specs.Judged.{start, IsSpentBy, IsTooDeepFor, IsBrokenBy, IsTold, IsNamed, name_of, number_of}
 use Rattle.driver.proofs.Judging.{place_within}
+use Rattle.driver.proofs.SourceCauses.{accepted_by}
 use Rattle.driver.proofs.Kept.{name_there}
 use Rattle.driver.proofs.TextCauses.{within_limits}
 
@@ -29,13 +33,10 @@ module _ (e : RawEnv) (n : ℕ) (u v : Account) (none : n ≡ 0) (fresh : u ≡ 
   judged : (c : Option (List ℕ)) → rules_of e c (2048 - n) u ≡ rules_of e c 2048 start
   judged c = (λ i. rules_of e c (2048 - none i) u) ∙ ap (rules_of e c 2048) fresh
 
-  pub accepted_by : (a : Accepted) → AnswersFound e (2048 - n) u (Ok a) v → IsAcceptedBy e
-  accepted_by a h = record {
+  pub accepted_with : (a : Accepted) → AnswersFound e (2048 - n) u (Ok a) v → IsAcceptedWith e a.env a.main_type v
+  accepted_with a h = record {
     rules = rules_of e h.cycle (2048 - n) u;
     judged = record { cycle = h.cycle; found = h.found; is = judged h.cycle };
-    kept = a.env;
-    type = a.main_type;
-    left = v;
     accepts = h.answers;
   }
 
@@ -80,3 +81,8 @@ place_read xs ys i x same within is =
 
 pub no_name : (names : List (List ℕ)) (n : ℕ) (name : List ℕ) → None ≡ slice_get names n → slice_get names n ≡ Some name → ⊥
 no_name names n name e f = let q : None ≡ Some name = e ∙ f in absurd cc
+
+-- what is said with the units that are left, without them
+pub check_from : (r : Result Accepted Refusal) (e : RawEnv) (u : Account) → AcceptSays r e u → CheckSays r e
+check_from (Ok a) e u h = (accepted_by e a.env a.main_type u h.0, h.2)
+check_from (Err r) e u h = h

@@ -10,10 +10,10 @@ use Rattle.driver.specs.declared.command_line.Job.{Job}
 use Rattle.driver.specs.CommandLine.{job_of}
 use Rattle.driver.specs.Lines.{status_of}
 use Rattle.driver.specs.Served.{Seen, IsKept, Served}
-use Rattle.driver.specs.Serve.{Answered, Concludes, IsAnswerOf, IsAsked, IsCause, IsForJob, IsInput, IsJudgedWith, IsOfText, IsRefused, IsSure, IsTextCause, IsTooLong, Says, TakesPrefix, input_limit}
+use Rattle.driver.specs.Serve.{Answered, Concludes, IsAnswerableBy, IsAnswerOf, IsAsked, IsCause, IsForJob, IsInput, IsJudgedWith, IsOfText, IsRefused, IsSure, IsTextCause, IsTooLong, Says, TakesPrefix, input_limit}
 use Rattle.driver.specs.Texts.{SpellsWithin}
-use Rattle.driver.specs.Answerable.{IsAnswerable}
-use Rattle.driver.proofs.Accepting.{answerable_ends, answerable_taken}
+use Rattle.driver.proofs.CheckCauses.{not_zero}
+use Rattle.driver.proofs.SourceCauses.{answerable_judged}
 use Rattle.driver.proofs.TextCauses.{one_cause, judged_cause, no_cause_of_answers, judged_answer}
 
 zero_or : (n : ℕ) → (n ≡ 0) ⊎ (n ≢ 0)
@@ -38,20 +38,6 @@ long-is (Some l) told h e = let q : l ≡ told = cc in subst (λ x. input_limit 
 
 -- ---- statuses of refusals
 
-not_zero : (r : Refusal) → status_of r ≡ 0 → ⊥
-not_zero refusals.Memory e = omega (arith, e)
-not_zero refusals.Usage e = omega (arith, e)
-not_zero refusals.ReadFault e = omega (arith, e)
-not_zero refusals.WriteFault e = omega (arith, e)
-not_zero (refusals.Syntax o) e = omega (arith, e)
-not_zero (refusals.Unsupported w o) e = omega (arith, e)
-not_zero refusals.Form e = omega (arith, e)
-not_zero (refusals.Limit l) e = omega (arith, e)
-not_zero refusals.InputBytes e = omega (arith, e)
-not_zero refusals.Depth e = omega (arith, e)
-not_zero refusals.TurnsSpent e = omega (arith, e)
-not_zero (refusals.Broken n p) e = omega (arith, e)
-
 of_usage : (r : Refusal) → status_of r ≡ 2 → r ≡ refusals.Usage
 of_usage refusals.Memory e = absurd (omega (arith, e))
 of_usage refusals.Usage e = refl
@@ -65,6 +51,10 @@ of_usage refusals.InputBytes e = absurd (omega (arith, e))
 of_usage refusals.Depth e = absurd (omega (arith, e))
 of_usage refusals.TurnsSpent e = absurd (omega (arith, e))
 of_usage (refusals.Broken n p) e = absurd (omega (arith, e))
+of_usage refusals.Types e = absurd (omega (arith, e))
+of_usage refusals.AnswerNodes e = absurd (omega (arith, e))
+of_usage refusals.NotFirstOrder e = absurd (omega (arith, e))
+of_usage refusals.Stuck e = absurd (omega (arith, e))
 
 of_write_fault : (r : Refusal) → status_of r ≡ 4 → r ≡ refusals.WriteFault
 of_write_fault refusals.Memory e = absurd (omega (arith, e))
@@ -79,9 +69,13 @@ of_write_fault refusals.InputBytes e = absurd (omega (arith, e))
 of_write_fault refusals.Depth e = absurd (omega (arith, e))
 of_write_fault refusals.TurnsSpent e = absurd (omega (arith, e))
 of_write_fault (refusals.Broken n p) e = absurd (omega (arith, e))
+of_write_fault refusals.Types e = absurd (omega (arith, e))
+of_write_fault refusals.AnswerNodes e = absurd (omega (arith, e))
+of_write_fault refusals.NotFirstOrder e = absurd (omega (arith, e))
+of_write_fault refusals.Stuck e = absurd (omega (arith, e))
 
 abbrev all_statuses : List ℕ
-all_statuses = 0 ∷ 1 ∷ 2 ∷ 3 ∷ 4 ∷ 5 ∷ 6 ∷ 7 ∷ 8 ∷ 9 ∷ []
+all_statuses = 0 ∷ 1 ∷ 2 ∷ 3 ∷ 4 ∷ 5 ∷ 6 ∷ 7 ∷ 8 ∷ 9 ∷ 10 ∷ 15 ∷ []
 
 module _ {V S K E : Type 0} (view : V → List ℕ) (status : ℕ) (words : List (List ℕ)) (src src' : Seen S) (out out' : Seen K) (err err' : Seen E) where
   -- what a job's result says, before anything is written
@@ -106,6 +100,10 @@ module _ {V S K E : Type 0} (view : V → List ℕ) (status : ℕ) (words : List
   says_cause refusals.Depth s = s
   says_cause refusals.TurnsSpent s = s
   says_cause (refusals.Broken n p) s = s
+  says_cause refusals.Types s = s
+  says_cause refusals.AnswerNodes s = s
+  says_cause refusals.NotFirstOrder s = s
+  says_cause refusals.Stuck s = s
 
   -- All refusals but usage come of a job.
   of_job : (r : Refusal) → IsOfText r words src.told → IsForJob words
@@ -124,6 +122,10 @@ module _ {V S K E : Type 0} (view : V → List ℕ) (status : ℕ) (words : List
   says_job refusals.Depth s = inr (of_job refusals.Depth s)
   says_job refusals.TurnsSpent s = inr (of_job refusals.TurnsSpent s)
   says_job (refusals.Broken n p) s = inr (of_job (refusals.Broken n p) s)
+  says_job refusals.Types s = inr (of_job refusals.Types s)
+  says_job refusals.AnswerNodes s = inr (of_job refusals.AnswerNodes s)
+  says_job refusals.NotFirstOrder s = inr (of_job refusals.NotFirstOrder s)
+  says_job refusals.Stuck s = inr (of_job refusals.Stuck s)
 
   says_no_write_fault : (r : Refusal) → Before (Err r) → r ≡ refusals.WriteFault → ⊥
   says_no_write_fault r s e = subst (λ x. Says {V = V} view (Err x) words src.told src.faults src'.faults) e s
@@ -179,6 +181,10 @@ module _ {V S K E : Type 0} (view : V → List ℕ) (status : ℕ) (words : List
   listed refusals.Depth e = (7, lit< tt, sym e)
   listed refusals.TurnsSpent e = (8, lit< tt, sym e)
   listed (refusals.Broken n p) e = (9, lit< tt, sym e)
+  listed refusals.Types e = (7, lit< tt, sym e)
+  listed refusals.AnswerNodes e = (7, lit< tt, sym e)
+  listed refusals.NotFirstOrder e = (10, lit< tt, sym e)
+  listed refusals.Stuck e = (11, lit< tt, sym e)
 
   statuses : (a : Result V Refusal) → Before a → After a → Contains all_statuses status
   statuses (Ok v) s c = elim (answered v c) [ inl z ↦ (0, lit< tt, sym z) | inr z ↦ (4, lit< tt, sym z) ]
@@ -212,6 +218,10 @@ module _ {V S K E : Type 0} (view : V → List ℕ) (status : ℕ) (words : List
     told refusals.Depth s = of_text refusals.Depth s
     told refusals.TurnsSpent s = of_text refusals.TurnsSpent s
     told (refusals.Broken n p) s = of_text (refusals.Broken n p) s
+    told refusals.Types s = of_text refusals.Types s
+    told refusals.AnswerNodes s = of_text refusals.AnswerNodes s
+    told refusals.NotFirstOrder s = of_text refusals.NotFirstOrder s
+    told refusals.Stuck s = of_text refusals.Stuck s
 
     -- the answer is that of the bytes told
     answer_of : (v : V) → Before (Ok v) → (length bytes ≤ input_limit) × IsAnswerOf job bytes (view v)
@@ -233,8 +243,8 @@ module _ {V S K E : Type 0} (view : V → List ℕ) (status : ℕ) (words : List
           | OfLength q long ↦ absurd (omega (arith, long, short))
         ]
 
-    complete : (a : Result V Refusal) → Before a → After a → (e : RawEnv) → length bytes ≤ input_limit → SpellsWithin bytes e → IsAnswerable e → ¬ Rose out.faults out'.faults → (status ≡ 0) ⊎ (status ≡ 1)
-    complete a s c e short spelled h calm = judged a s c 0 short (e, spelled, answerable_taken job e h, answerable_ends e h) (λ _. calm)
+    complete : (a : Result V Refusal) → Before a → After a → (e : RawEnv) → length bytes ≤ input_limit → SpellsWithin bytes e → IsAnswerableBy job e → ¬ Rose out.faults out'.faults → (status ≡ 0) ⊎ (status ≡ 1)
+    complete a s c e short spelled h calm = (let j = answerable_judged job e h in judged a s c 0 short (e, spelled, j.0, j.1) (λ _. calm))
 
     refuses_text : (a : Result V Refusal) → Before a → After a → (r : Refusal) → length bytes ≤ input_limit → IsTextCause job r bytes → IsSure r → (status ≡ status_of r) ⊎ (status ≡ 1)
     refuses_text (Ok v) s c r short cause sure = absurd (no_cause_of_answers job bytes (view v) r (answer_of v s).1 cause sure)

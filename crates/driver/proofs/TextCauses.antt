@@ -1,5 +1,5 @@
 -- The cause of a refusal of the text is one, and shows that the text has no answer.
-use Rattle.std.proofs.Common.{◌≡◌, ℕ, List, [], ◌∷◌, length, Bool, true, false, IsTrue, Ok, refl, sym, ap, subst, ◌∙◌}
+use Rattle.std.proofs.Common.{◌≡◌, ℕ, List, [], ◌∷◌, length, Ok, inl, inr, refl, sym, ap, subst, ◌∙◌}
 use Rattle.sexp_reader.specs.Lex.{tokens_of}
 use Rattle.dump_grammar.specs.declared.refusal.ReadRefusal.{ReadRefusal}
 use Rattle.dump_grammar.specs.declared.refusal.ReadRefusal.TheVariants as reads
@@ -17,12 +17,14 @@ use Rattle.driver.specs.declared.refusal.Refusal.{Refusal}
 use Rattle.driver.specs.declared.refusal.Refusal.TheVariants as refusals
 use Rattle.driver.specs.Lines.{refusal_of}
 use Rattle.driver.specs.declared.command_line.Job.{Job}
-use Rattle.driver.specs.declared.command_line.Job.TheVariants.{Exec, Check}
+use Rattle.driver.specs.declared.command_line.Job.TheVariants.{Exec, Check, Eval}
 use Rattle.driver.specs.Lines.{status_of}
 use Rattle.driver.specs.Texts.{SpellsWithin, Refuses}
-use Rattle.driver.specs.Judged.{IsAcceptedBy, EndsWith, status_by}
-use Rattle.driver.specs.Serve.{IsAnswerOf, Takes, IsCheckCause, IsTextCause, IsSure, IsJudgedWith}
-use Rattle.driver.proofs.Judging.{judged_alike}
+use Rattle.driver.specs.Judged.{IsAcceptedBy, EndsWith}
+use Rattle.driver.specs.SourceEnds.{IsSourceRun, source_status}
+use Rattle.driver.specs.Serve.{IsAnswerOf, Takes, IsJobCause, IsTextCause, IsSure, IsJudgedWith}
+use Rattle.driver.proofs.CheckCauses.{accepted_status}
+use Rattle.driver.proofs.SourceCauses.{accepted_by, same_run, job_status}
 
 abbrev pub verdict_on : List ℕ → Verdict
 verdict_on bytes = verdict (length bytes) (tokens_of bytes)
@@ -32,10 +34,6 @@ refuses bytes r h = first_refusal.refused (length bytes) (tokens_of bytes) r h
 
 pub fine : (bytes : List ℕ) (e : RawEnv) (s : SpellsWithin bytes e) → verdict_on bytes ≡ Fine (VEnv (env_of s.form) ∷ [])
 fine bytes e s = limited.within (length bytes) (tokens_of bytes) s.form s.tokens s.within
-
-deep_or_not : (b : Bool) → IsTrue b → b ≡ false → ⊥
-deep_or_not true h e = absurd cc
-deep_or_not false h e = absurd cc
 
 refuse-inj : (q r : ReadRefusal) → Refuse q ≡ Refuse r → q ≡ r
 refuse-inj q r e = cc
@@ -56,7 +54,7 @@ never_both bytes e q s h = let c : Refuse q ≡ Fine (VEnv (env_of s.form) ∷ [
 data Of (job : Job) (bytes : List ℕ) (r : Refusal) : Type 0 where
   OfRefusal : (q : ReadRefusal) → verdict_on bytes ≡ Refuse q → r ≡ refusal_of q → Of job bytes r
   OfForm : (e : RawEnv) → SpellsWithin bytes e → (Takes job e → ⊥) → r ≡ refusals.Form → Of job bytes r
-  OfCheck : (e : RawEnv) → SpellsWithin bytes e → Takes job e → IsCheckCause r e → (IsSure r → ⊥) → Of job bytes r
+  OfCheck : (e : RawEnv) → SpellsWithin bytes e → Takes job e → IsJobCause job r e → (IsSure r → ⊥) → Of job bytes r
 
 of : (job : Job) (bytes : List ℕ) (r : Refusal) → IsTextCause job r bytes → Of job bytes r
 of job bytes refusals.Memory h = absurd h
@@ -71,6 +69,10 @@ of job bytes refusals.InputBytes h = absurd h
 of job bytes refusals.Depth h = OfCheck h.0 h.1 h.2 h.3 (λ x. x)
 of job bytes refusals.TurnsSpent h = OfCheck h.0 h.1 h.2 h.3 (λ x. x)
 of job bytes (refusals.Broken n p) h = OfCheck h.0 h.1 h.2 h.3 (λ x. x)
+of job bytes refusals.Types h = OfCheck h.0 h.1 h.2 h.3 (λ x. x)
+of job bytes refusals.AnswerNodes h = OfCheck h.0 h.1 h.2 h.3 (λ x. x)
+of job bytes refusals.NotFirstOrder h = OfCheck h.0 h.1 h.2 h.3 (λ x. x)
+of job bytes refusals.Stuck h = OfCheck h.0 h.1 h.2 h.3 (λ x. x)
 
 -- a cause that the text itself shows is the only one
 pub one_cause : (job : Job) (bytes : List ℕ) (q r : Refusal) → IsTextCause job q bytes → IsTextCause job r bytes → IsSure r → q ≡ r
@@ -89,35 +91,13 @@ one_cause job bytes q r h k sure =
       | OfCheck f t takes c n ↦ absurd (n sure)
     ]
 
--- the status of the check's refusals is that of its end by the rules
-
-cause_status : (r : Refusal) (e : RawEnv) (status : ℕ) → IsCheckCause r e → (IsSure r → ⊥) → EndsWith e status → status ≡ status_of r
-cause_status refusals.Memory e status c n h = absurd c
-cause_status refusals.Usage e status c n h = absurd c
-cause_status refusals.ReadFault e status c n h = absurd c
-cause_status refusals.WriteFault e status c n h = absurd c
-cause_status (refusals.Syntax o) e status c n h = absurd c
-cause_status (refusals.Unsupported w o) e status c n h = absurd c
-cause_status refusals.Form e status c n h = absurd c
-cause_status (refusals.Limit l) e status c n h = absurd c
-cause_status refusals.InputBytes e status c n h = absurd c
-cause_status refusals.Depth e status c n h =
-    let same = judged_alike e h.rules c.rules h.judged c.judged in
-    absurd (deep_or_not c.rules.deep c.deep (sym same.deep ∙ h.within))
-cause_status refusals.TurnsSpent e status c n h =
-    let same = judged_alike e h.rules c.rules h.judged c.judged in
-    h.status_is ∙ same.status ∙ ap status_by c.spends
-cause_status (refusals.Broken k p) e status c n h =
-    let same = judged_alike e h.rules c.rules h.judged c.judged in
-    h.status_is ∙ same.status ∙ ap status_by c.breaks
-
 -- a text whose environment is judged has no other cause than one of its status
 pub judged_cause : (job : Job) (bytes : List ℕ) (status : ℕ) (r : Refusal) → IsJudgedWith job status bytes → IsTextCause job r bytes → status ≡ status_of r
 judged_cause job bytes status r (e, s, takes, ends) h =
     elim (of job bytes r h) [
       | OfRefusal q v k ↦ absurd (never_both bytes e q s v)
       | OfForm f t n k ↦ absurd (n (subst (Takes job) (one_environment bytes e f s t) takes))
-      | OfCheck f t take c n ↦ cause_status r e status (subst (IsCheckCause r) (one_environment bytes f e t s) c) n ends
+      | OfCheck f t take c n ↦ job_status job r e status (subst (IsJobCause job r) (one_environment bytes f e t s) c) n ends
     ]
 
 -- what an answer is of
@@ -125,6 +105,7 @@ judged_cause job bytes status r (e, s, takes, ends) h =
 answer_spells : (job : Job) (bytes text : List ℕ) → IsAnswerOf job bytes text → (e : RawEnv) × SpellsWithin bytes e × Takes job e × IsAcceptedBy e
 answer_spells Exec bytes text a = (a.environment, a.spelled, (a.id, a.number, a.plain), a.accepted)
 answer_spells Check bytes text a = (a.environment, a.spelled, tt, a.accepted)
+answer_spells Eval bytes text a = (a.environment, a.spelled, tt, accepted_by a.environment a.kept a.type a.left a.accepted)
 
 pub no_cause_of_answers : (job : Job) (bytes text : List ℕ) (r : Refusal) → IsAnswerOf job bytes text → IsTextCause job r bytes → IsSure r → ⊥
 no_cause_of_answers job bytes text r a h sure =
@@ -135,13 +116,18 @@ no_cause_of_answers job bytes text r a h sure =
       | OfCheck f t take c n ↦ n sure
     ]
 
--- an answer of a text whose environment is judged is an acceptance
+-- an answer of a text whose environment is judged is that of an acceptance
+check_judged : (bytes : List ℕ) (e f : RawEnv) (status : ℕ) → SpellsWithin bytes e → EndsWith e status → SpellsWithin bytes f → IsAcceptedBy f → status ≡ 0
+check_judged bytes e f status s ends t accepted = accepted_status e status (subst IsAcceptedBy (one_environment bytes f e t s) accepted) ends
+
 pub judged_answer : (job : Job) (bytes text : List ℕ) (status : ℕ) → IsJudgedWith job status bytes → IsAnswerOf job bytes text → status ≡ 0
-judged_answer job bytes text status (e, s, takes, ends) a =
-    let (f, t, take, accepted) = answer_spells job bytes text a in
-    let there = subst IsAcceptedBy (one_environment bytes f e t s) accepted in
-    let same = judged_alike e ends.rules there.rules ends.judged there.judged in
-    ends.status_is ∙ same.status ∙ ap status_by there.accepts
+judged_answer Exec bytes text status (e, s, takes, ends) a = check_judged bytes e a.environment status s ends a.spelled a.accepted
+judged_answer Check bytes text status (e, s, takes, ends) a = check_judged bytes e a.environment status s ends a.spelled a.accepted
+judged_answer Eval bytes text status (e, s, takes, inl ends) a =
+    check_judged bytes e a.environment status s ends.0 a.spelled (accepted_by a.environment a.kept a.type a.left a.accepted)
+judged_answer Eval bytes text status (e, s, takes, inr ends) a =
+    let there = subst (λ x. IsSourceRun x a.run) (one_environment bytes a.environment e a.spelled s) a.ran in
+    ends.status_is ∙ ap (λ r. source_status r.end) (same_run e ends.run a.run ends.of there) ∙ a.ends
 
 -- What the reader gives is spelled within the limits.
 pub within_limits : (bytes : List ℕ) (e : RawEnv) → IsVerdict bytes (Ok e) → SpellsWithin bytes e

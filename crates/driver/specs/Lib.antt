@@ -4,6 +4,9 @@ pub mod Answerable
 pub mod Texts
 pub mod Lines
 pub mod CommandLine
+pub mod SourceEnds
+pub mod SourceSays
+pub mod EvaluatedSource
 pub mod Program
 pub mod Serve
 pub mod Served

@@ -30,6 +30,10 @@ status_of refusals.InputBytes = 7
 status_of refusals.Depth = 7
 status_of refusals.TurnsSpent = 8
 status_of (refusals.Broken n p) = 9
+status_of refusals.Types = 7
+status_of refusals.AnswerNodes = 7
+status_of refusals.NotFirstOrder = 10
+status_of refusals.Stuck = 15
 
 unfoldable pub front_of_foreign : Foreign → List ℕ
 front_of_foreign foreigns.Var = codes "unsupported Var at "
@@ -75,6 +79,10 @@ front_of refusals.InputBytes = codes "limit InputBytes"
 front_of refusals.Depth = codes "limit Depth"
 front_of refusals.TurnsSpent = codes "turns spent"
 front_of (refusals.Broken n p) = codes "broken "
+front_of refusals.Types = codes "limit Types"
+front_of refusals.AnswerNodes = codes "limit AnswerNodes"
+front_of refusals.NotFirstOrder = codes "main is not first-order"
+front_of refusals.Stuck = codes "stuck"
 
 -- the number in a line: an offset, or that of a broken rule
 abbrev pub number_in : Refusal → Option ℕ

@@ -8,6 +8,7 @@ use Rattle.pc_terms.specs.declared.leaf.FamilyId.{FamilyId}
 use Rattle.pc_terms.specs.Syntax.{Term}
 use Rattle.pc_rules.specs.declared.accepted.Accepted.{Accepted}
 use Rattle.pc_rules.specs.declared.declaration.Constructor.{Constructor}
+use Rattle.pc_rules.specs.declared.meter.Account.{Account}
 use Rattle.pc_rules.specs.Environment.{Env, FamilyDecl, KeepsFamily}
 use Rattle.rule_laws.specs.Declarations.{IsCheckedEnvironment}
 use Rattle.env_check.specs.Rules.{givens}
@@ -19,11 +20,14 @@ use Rattle.enumeration_code.specs.Returning.{AlwaysReturns}
 use Rattle.driver.specs.declared.refusal.Refusal.{Refusal}
 use Rattle.driver.specs.declared.refusal.Refusal.TheVariants as refusals
 use Rattle.driver.specs.declared.command_line.Job.{Job}
-use Rattle.driver.specs.declared.command_line.Job.TheVariants.{Exec, Check}
+use Rattle.driver.specs.declared.command_line.Job.TheVariants.{Exec, Check, Eval}
+use Rattle.driver.specs.Answerable.{IsAnswerable}
 use Rattle.driver.specs.CommandLine.{job_of}
 use Rattle.driver.specs.Lines.{status_of, line_of}
 use Rattle.driver.specs.Plain.{IsPlainOf, IsPlain}
 use Rattle.driver.specs.Texts.{SpellsWithin, Refuses}
+use Rattle.driver.specs.SourceEnds.{IsAcceptedWith, IsSourceCause, SourceEndsWith, EvalEndsWith}
+use Rattle.driver.specs.EvaluatedSource.{IsEvaluated}
 use Rattle.driver.specs.Program.{module_for}
 use Rattle.driver.specs.Judged.{IsNamed, IsAcceptedBy, IsSpentBy, IsTooDeepFor, IsBrokenBy, EndsWith}
 
@@ -88,6 +92,7 @@ pub record IsAccepted (bytes text : List ℕ) : Type 0 where
 abbrev pub IsAnswerOf : Job → (bytes text : List ℕ) → Type 0
 IsAnswerOf Exec bytes text = IsAnswer bytes text
 IsAnswerOf Check bytes text = IsAccepted bytes text
+IsAnswerOf Eval bytes text = IsEvaluated bytes text
 
 -- The input, and the answer on it of the job that the words ask for.
 pub record Answered (words : List (List ℕ)) (left : Option (List ℕ)) (text : List ℕ) : Type 0 where
@@ -101,6 +106,7 @@ pub record Answered (words : List (List ℕ)) (left : Option (List ℕ)) (text :
 abbrev pub Takes : Job → RawEnv → Type 0
 Takes Exec e = IsPlain e
 Takes Check e = Unit {0}
+Takes Eval e = Unit {0}
 
 -- what of an environment shows a refusal of its check
 abbrev pub IsCheckCause : Refusal → RawEnv → Type 0
@@ -109,9 +115,15 @@ IsCheckCause refusals.Depth e = IsTooDeepFor e
 IsCheckCause (refusals.Broken n p) e = IsBrokenBy e n p
 IsCheckCause _ e = ⊥
 
+-- what of an environment shows a refusal of a job: its check, and with `eval` what comes after it
+abbrev pub IsJobCause : Job → Refusal → RawEnv → Type 0
+IsJobCause Exec r e = IsCheckCause r e
+IsJobCause Check r e = IsCheckCause r e
+IsJobCause Eval r e = IsCheckCause r e ⊎ IsSourceCause r e
+
 -- the environment that the text spells, which the job takes, shows it
 abbrev pub IsOfCheck : Job → Refusal → List ℕ → Type 0
-IsOfCheck job r bytes = (e : RawEnv) × SpellsWithin bytes e × Takes job e × IsCheckCause r e
+IsOfCheck job r bytes = (e : RawEnv) × SpellsWithin bytes e × Takes job e × IsJobCause job r e
 
 -- the text spells an environment that the job doesn't take
 abbrev pub IsOfForm : Job → List ℕ → Type 0
@@ -135,6 +147,10 @@ abbrev pub IsSure : Refusal → Type 0
 IsSure refusals.TurnsSpent = ⊥
 IsSure refusals.Depth = ⊥
 IsSure (refusals.Broken n p) = ⊥
+IsSure refusals.Types = ⊥
+IsSure refusals.AnswerNodes = ⊥
+IsSure refusals.NotFirstOrder = ⊥
+IsSure refusals.Stuck = ⊥
 IsSure _ = Unit {0}
 
 -- The words ask for a job, and the refusal is that of the input's text.
@@ -184,6 +200,11 @@ CheckSays (Ok a) e = IsAcceptedBy e × IsCheckedEnvironment e.levels e.constrain
 CheckSays (Err refusals.Memory) e = Unit {0}
 CheckSays (Err r) e = IsCheckCause r e
 
+-- and so many units are left
+abbrev pub AcceptSays : Result Accepted Refusal → RawEnv → Account → Type 0
+AcceptSays (Ok a) e u = IsAcceptedWith e a.env a.main_type u × (a.main ≡ e.main) × IsCheckedEnvironment e.levels e.constraints (givens e) e.main a.env a.main_type
+AcceptSays (Err r) e u = CheckSays (Err r) e
+
 -- A line goes to err whole, or a prefix of it where err's count of faults rose.
 pub record TakesLine (old new : Option (List ℕ)) (before now : ℕ) (line : List ℕ) : Type 0 where
   pub count : before ≤ now
@@ -211,6 +232,18 @@ pub record IsAsked (job : Job) (words : List (List ℕ)) (left : Option (List �
   pub bytes_are : left ≡ Some bytes
   pub no_fault : Rose before now → ⊥
 
--- the text spells an environment that the job takes, and by the directed rules its check ends with this status, within the limits
+-- by the directed rules the job ends with this status, within the limits
+abbrev pub JobEndsWith : Job → RawEnv → ℕ → Type 0
+JobEndsWith Exec e status = EndsWith e status
+JobEndsWith Check e status = EndsWith e status
+JobEndsWith Eval e status = EvalEndsWith e status
+
+-- the text spells an environment that the job takes, and the job ends with this status
 abbrev pub IsJudgedWith : Job → ℕ → List ℕ → Type 0
-IsJudgedWith job status bytes = (e : RawEnv) × SpellsWithin bytes e × Takes job e × EndsWith e status
+IsJudgedWith job status bytes = (e : RawEnv) × SpellsWithin bytes e × Takes job e × JobEndsWith job e status
+
+-- an environment on which the job has an answer: a plain one that keeps all rules, or one whose main has a value that is data
+abbrev pub IsAnswerableBy : Job → RawEnv → Type 0
+IsAnswerableBy Exec e = IsAnswerable e
+IsAnswerableBy Check e = IsAnswerable e
+IsAnswerableBy Eval e = SourceEndsWith e 0

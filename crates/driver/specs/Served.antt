@@ -8,9 +8,8 @@ use Rattle.driver.specs.declared.refusal.Refusal.{Refusal}
 use Rattle.driver.specs.declared.command_line.Job.{Job}
 use Rattle.driver.specs.CommandLine.{job_of}
 use Rattle.driver.specs.Lines.{status_of}
-use Rattle.driver.specs.Answerable.{IsAnswerable}
 use Rattle.driver.specs.Texts.{SpellsWithin}
-use Rattle.driver.specs.Serve.{Answered, IsAsked, IsJudgedWith, IsRefused, IsSure, IsTextCause, TakesPrefix, input_limit}
+use Rattle.driver.specs.Serve.{Answered, IsAnswerableBy, IsAsked, IsJudgedWith, IsRefused, IsSure, IsTextCause, TakesPrefix, input_limit}
 
 -- An object as a call meets it: itself, the bytes that it tells, its count of faults.
 pub record Seen (X : Type 0) : Type 0 where
@@ -25,13 +24,13 @@ pub record IsKept {X : Type 0} (old new : Seen X) : Type 0 where
 
 pub record Served {S K E : Type 0} (status : ℕ) (words : List (List ℕ)) (src src' : Seen S) (out out' : Seen K) (err err' : Seen E) : Type 0 where
   pub done : status ≡ 0 → (text : List ℕ) × Answered words src.told text × Appends out.told out'.told text
-  pub statuses : Contains (0 ∷ 1 ∷ 2 ∷ 3 ∷ 4 ∷ 5 ∷ 6 ∷ 7 ∷ 8 ∷ 9 ∷ []) status
+  pub statuses : Contains (0 ∷ 1 ∷ 2 ∷ 3 ∷ 4 ∷ 5 ∷ 6 ∷ 7 ∷ 8 ∷ 9 ∷ 10 ∷ 15 ∷ []) status
   pub refused : status ≢ 0 → IsRefused status words src.told src.faults src'.faults out.faults out'.faults err.told err'.told err.faults err'.faults
   pub usage : (status ≡ 2) ↔ (job_of words ≡ None)
   pub nothing_read : status ≡ 2 → src'.object ≡ src.object
   pub prefix : status ≡ 4 → (text : List ℕ) × Answered words src.told text × TakesPrefix out.told out'.told text
   pub judged : (job : Job) (bytes : List ℕ) (wanted : ℕ) → IsAsked job words src.told bytes src.faults src'.faults → length bytes ≤ input_limit → IsJudgedWith job wanted bytes → (wanted ≡ 0 → ¬ Rose out.faults out'.faults) → (status ≡ wanted) ⊎ (status ≡ 1)
-  pub complete : (job : Job) (bytes : List ℕ) (e : RawEnv) → IsAsked job words src.told bytes src.faults src'.faults → length bytes ≤ input_limit → SpellsWithin bytes e → IsAnswerable e → ¬ Rose out.faults out'.faults → (status ≡ 0) ⊎ (status ≡ 1)
+  pub complete : (job : Job) (bytes : List ℕ) (e : RawEnv) → IsAsked job words src.told bytes src.faults src'.faults → length bytes ≤ input_limit → SpellsWithin bytes e → IsAnswerableBy job e → ¬ Rose out.faults out'.faults → (status ≡ 0) ⊎ (status ≡ 1)
   pub refuses_text : (job : Job) (bytes : List ℕ) (r : Refusal) → IsAsked job words src.told bytes src.faults src'.faults → length bytes ≤ input_limit → IsTextCause job r bytes → IsSure r → (status ≡ status_of r) ⊎ (status ≡ 1)
   pub refuses_length : (job : Job) (bytes : List ℕ) → IsAsked job words src.told bytes src.faults src'.faults → input_limit < length bytes → (status ≡ 7) ⊎ (status ≡ 1)
   pub nothing_out : status ≢ 0 → status ≢ 4 → out'.object ≡ out.object

@@ -4,8 +4,8 @@ ghost use Rattle.std.specs.Prelude.{◌≡◌, ◌<◌, ℕ, IfOk, IfErr, length
 ghost use Rattle.dump_reader.specs.Spelled.{IsSpelled};
 ghost use Rattle.pc_rules.specs.declared.broken.Place.TheVariants.{Declaration};
 ghost use Rattle.driver.specs.declared.command_line.Job.TheVariants.{Check};
-ghost use Rattle.driver.specs.Judged.{IsTold, name_of, number_of};
-ghost use Rattle.driver.specs.Serve.{CheckSays, JobSays};
+ghost use Rattle.driver.specs.Judged.{IsTold, name_of, number_of, start};
+ghost use Rattle.driver.specs.Serve.{AcceptSays, CheckSays, JobSays};
 
 use crate::refusal::{Refusal, Where};
 use dump_reader::declaration::RawDecl;
@@ -82,13 +82,27 @@ fn told(alloc: Global, raw: &RawEnv, place: Place) -> Result<Where, Refusal>
     }
 }
 
-/// The environment with the sorts that its check finds, main and main's type; or why it is not accepted with the units of a job.
-pub(crate) fn accept(alloc: Global, raw: &RawEnv) -> Result<Accepted, Refusal>
-    requires spelled { IsSpelled raw.now }
-    ensures says { CheckSays result raw.now }
+/// A meter of the units of a job.
+pub(crate) fn units() -> Meter
+    ensures account { result.account ≡ start }
+    ensures nest { result.nest ≡ 0 }
 {
-    let mut meter = Meter::new(TURNS);
-    match check_env(alloc, &Subst, raw, &mut meter) {
+    Meter::new(TURNS)
+}
+
+/// The environment with the sorts that its check finds, main and main's type; or why it is not accepted with the units of a meter, which are
+/// those of a job.
+pub(crate) fn accept_within(
+    alloc: Global,
+    raw: &RawEnv,
+    meter: &mut Meter,
+) -> Result<Accepted, Refusal>
+    requires spelled { IsSpelled raw.now }
+    requires units { meter.old.account ≡ start }
+    requires nest { meter.old.nest ≡ 0 }
+    ensures says { AcceptSays result raw.now meter.new.account }
+{
+    match check_env(alloc, &Subst, raw, meter) {
         Ok(accepted) => Ok(accepted),
         Err(Fault::Memory) => Err(Refusal::Memory),
         Err(Fault::Spent) => Err(Refusal::TurnsSpent),
@@ -101,6 +115,15 @@ pub(crate) fn accept(alloc: Global, raw: &RawEnv) -> Result<Accepted, Refusal>
             })
         }
     }
+}
+
+/// The environment with the sorts that its check finds, main and main's type; or why it is not accepted with the units of a job.
+pub(crate) fn accept(alloc: Global, raw: &RawEnv) -> Result<Accepted, Refusal>
+    requires spelled { IsSpelled raw.now }
+    ensures says { CheckSays result raw.now }
+{
+    let mut meter = units();
+    accept_within(alloc, raw, &mut meter)
 }
 
 /// The text of an acceptance.

@@ -8,6 +8,7 @@ ghost use Rattle.driver.specs.CommandLine.{job_of, words_of};
 pub(crate) enum Job {
     Exec,
     Check,
+    Eval,
 }
 
 /// The job that the words name: exactly one word, a job that is there.
@@ -17,6 +18,7 @@ pub(crate) fn read_words(words: &Vec<String>) -> Option<Job>
     match words.as_slice() {
         [word] if word.as_str() == "exec" => Some(Job::Exec),
         [word] if word.as_str() == "check" => Some(Job::Check),
+        [word] if word.as_str() == "eval" => Some(Job::Eval),
         _ => None,
     }
 }

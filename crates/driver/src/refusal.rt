@@ -32,6 +32,14 @@ pub(crate) enum Refusal {
     Depth,
     /// The check has no end within the units of a job.
     TurnsSpent,
+    /// More types than the limit would be put in the list of a first-order search.
+    Types,
+    /// The answer has more nodes than the limit.
+    AnswerNodes,
+    /// Main's type has no first-order set.
+    NotFirstOrder,
+    /// Main has no value, or its value is no data of main's type.
+    Stuck,
     /// The rule of this number is broken at a place of the environment.
     Broken { number: u8, place: Where },
 }
@@ -48,8 +56,11 @@ pub(crate) fn status(refusal: &Refusal) -> u8
         Refusal::Syntax { .. } => 5,
         Refusal::Unsupported { .. } | Refusal::Form => 6,
         Refusal::Limit { .. } | Refusal::InputBytes | Refusal::Depth => 7,
+        Refusal::Types | Refusal::AnswerNodes => 7,
         Refusal::TurnsSpent => 8,
         Refusal::Broken { .. } => 9,
+        Refusal::NotFirstOrder => 10,
+        Refusal::Stuck => 15,
     }
 }
 
@@ -113,6 +124,10 @@ pub(crate) fn front(refusal: &Refusal) -> &'static [u8]
         Refusal::Limit { which } => limit_front(*which),
         Refusal::InputBytes => b"limit InputBytes",
         Refusal::Depth => b"limit Depth",
+        Refusal::Types => b"limit Types",
+        Refusal::AnswerNodes => b"limit AnswerNodes",
+        Refusal::NotFirstOrder => b"main is not first-order",
+        Refusal::Stuck => b"stuck",
         Refusal::TurnsSpent => b"turns spent",
         Refusal::Broken { .. } => b"broken ",
     }

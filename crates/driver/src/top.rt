@@ -8,14 +8,14 @@ ghost use Rattle.dump_reader.specs.declared.environment.RawEnv.{RawEnv};
 ghost use Rattle.driver.specs.CommandLine.{job_of, words_of};
 ghost use Rattle.driver.specs.Lines.{status_of, line_of};
 ghost use Rattle.driver.specs.declared.command_line.Job.{Job as Asked};
-ghost use Rattle.driver.specs.Answerable.{IsAnswerable};
 ghost use Rattle.driver.specs.Texts.{SpellsWithin};
 ghost use Rattle.driver.specs.Served.{Served};
-ghost use Rattle.driver.specs.Serve.{Answered, Concludes, IsAsked, IsJudgedWith, IsRefused, IsSure, IsTextCause, JobSays, ReadSays, Says, TakesLine, TakesPrefix, input_limit};
+ghost use Rattle.driver.specs.Serve.{Answered, Concludes, IsAnswerableBy, IsAsked, IsJudgedWith, IsRefused, IsSure, IsTextCause, JobSays, ReadSays, Says, TakesLine, TakesPrefix, input_limit};
 
 use crate::check::check;
 use crate::command_line::{Job, read_words};
 use crate::err_line::write_line;
+use crate::eval::eval;
 use crate::exec::exec;
 use crate::refusal::{Refusal, status};
 use kio::{ReadAll, Sink, Source, read_all, write_all};
@@ -45,6 +45,7 @@ fn answer_on(alloc: Global, job: Job, bytes: &[u8]) -> Result<Vec<u8>, Refusal>
     match job {
         Job::Exec => exec(alloc, bytes),
         Job::Check => check(alloc, bytes),
+        Job::Eval => eval(alloc, bytes),
     }
 }
 
@@ -107,12 +108,16 @@ fn serve_whole<S: Source, K: Sink, E: Sink>(
 /// Does the job that the words after the program's name ask for, and answers the program's status.
 ///
 /// The input is the text of an environment. `check` accepts it only where every declaration and main have a derivation by the typing rules,
-/// and writes `ok` with LF to `out`. `exec` takes plain environments, whose declarations are blocks of constructors without arguments, with
+/// and writes `ok` with LF to `out`. `eval` accepts it so, finds the first-order types of main's type, evaluates main by the source's own
+/// evaluation, and writes the text of the data that the value is, with LF. `exec` takes plain environments, whose declarations are blocks of constructors without arguments, with
 /// a constructor as main: it checks the environment, makes a module of it, which is encoded, decoded, validated and run, and writes the
 /// answer, the constructor's name with LF. Statuses: 0 done; 1 want of memory; 2 the words aren't one word that is a job, and then nothing
 /// is read; 3 a read fault; 4 a write fault; 5 the text's first refusal is a syntax fault; 6 its first refusal is a form that is known and
 /// not read, or the text spells an environment within the limits that `exec` doesn't take; 7 its first refusal is a limit of the text, or
-/// more than 16,777,216 bytes came, or the check passed a limit; 8 the check has no end within 1,000,000 units; 9 a rule is broken.
+/// more than 16,777,216 bytes came, or the check passed a limit, or by `eval` the search or the evaluation did, main's type needs more than
+/// 1,024 types, or the value has more than 4,000,000 nodes; 8 the check, and by `eval` the search and the evaluation with it, has no end within
+/// 1,000,000 units; 9 a rule is broken; 10 by `eval`, main's type has no first-order set; 15 by `eval`, main has no value, or its value is no
+/// data of its type.
 ///
 /// A refusal writes one line to `err`, which takes no memory; a fault on `err` changes no status. Nothing goes to `out` before
 /// the whole answer is there, so a refusal other than a write fault leaves it as it was.
@@ -123,9 +128,10 @@ pub fn serve<S: Source, K: Sink, E: Sink>(
     out: &mut K,
     err: &mut E,
 ) -> u8
-    // The answer: the text spells an environment that is well formed; out takes `ok`, or the name of the constructor that its module answers.
+    // The answer: the text spells an environment that is well formed; out takes `ok`, the text of main's value, or the name of the constructor
+    // that its module answers.
     ensures done { result ≡ 0 → (text : List ℕ) × Answered (words_of words.now) (S.left src.old) text × Appends (K.taken out.old) (K.taken out.new) text }
-    ensures statuses { Contains (0 ∷ 1 ∷ 2 ∷ 3 ∷ 4 ∷ 5 ∷ 6 ∷ 7 ∷ 8 ∷ 9 ∷ []) result }
+    ensures statuses { Contains (0 ∷ 1 ∷ 2 ∷ 3 ∷ 4 ∷ 5 ∷ 6 ∷ 7 ∷ 8 ∷ 9 ∷ 10 ∷ 15 ∷ []) result }
 
     // Each refusal has its cause, and its line goes to err.
     ensures refused { result ≢ 0 → IsRefused result (words_of words.now) (S.left src.old) (S.faults src.old) (S.faults src.new) (K.faults out.old) (K.faults out.new) (E.taken err.old) (E.taken err.new) (E.faults err.old) (E.faults err.new) }
@@ -135,7 +141,7 @@ pub fn serve<S: Source, K: Sink, E: Sink>(
 
     // Where the source's count doesn't rise, nor out's where something is written, and the rules pass no limit, want of memory is the only other answer.
     ensures judged { (job : Asked) (bytes : List ℕ) (status : ℕ) → IsAsked job (words_of words.now) (S.left src.old) bytes (S.faults src.old) (S.faults src.new) → length bytes ≤ input_limit → IsJudgedWith job status bytes → (status ≡ 0 → ¬ Rose (K.faults out.old) (K.faults out.new)) → (result ≡ status) ⊎ (result ≡ 1) }
-    ensures complete { (job : Asked) (bytes : List ℕ) (e : RawEnv) → IsAsked job (words_of words.now) (S.left src.old) bytes (S.faults src.old) (S.faults src.new) → length bytes ≤ input_limit → SpellsWithin bytes e → IsAnswerable e → ¬ Rose (K.faults out.old) (K.faults out.new) → (result ≡ 0) ⊎ (result ≡ 1) }
+    ensures complete { (job : Asked) (bytes : List ℕ) (e : RawEnv) → IsAsked job (words_of words.now) (S.left src.old) bytes (S.faults src.old) (S.faults src.new) → length bytes ≤ input_limit → SpellsWithin bytes e → IsAnswerableBy job e → ¬ Rose (K.faults out.old) (K.faults out.new) → (result ≡ 0) ⊎ (result ≡ 1) }
     ensures refuses_text { (job : Asked) (bytes : List ℕ) (r : Refusal) → IsAsked job (words_of words.now) (S.left src.old) bytes (S.faults src.old) (S.faults src.new) → length bytes ≤ input_limit → IsTextCause job r bytes → IsSure r → (result ≡ status_of r) ⊎ (result ≡ 1) }
     ensures refuses_length { (job : Asked) (bytes : List ℕ) → IsAsked job (words_of words.now) (S.left src.old) bytes (S.faults src.old) (S.faults src.new) → input_limit < length bytes → (result ≡ 7) ⊎ (result ≡ 1) }
 

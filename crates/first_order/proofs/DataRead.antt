@@ -1,16 +1,15 @@
 -- What is read of a value is its data, by the meaning of first-order sets; and names of constructors don't matter.
-use Rattle.std.proofs.Common.{◌≡◌, ◌∙◌, ℕ, zero, suc, ◌+◌, ◌≤◌, ◌==◌, Bool, true, false, if◌then◌else◌, List, [], ◌∷◌, ◌++◌, length, map, take, drop, Option, Some, None, option_map, slice_get, refl, sym, ap, subst as along, arith, length-append, append_assoc, append-nil}
+use Rattle.std.proofs.Common.{◌≡◌, ◌∙◌, ℕ, zero, suc, ◌+◌, ◌≤◌, ◌==◌, true, if◌then◌else◌, List, [], ◌∷◌, ◌++◌, length, map, take, drop, Option, Some, None, option_map, slice_get, refl, sym, ap, subst as along, arith, append_assoc, append-nil}
 use Rattle.std.specs.Prelude.{All}
-use Rattle.std.proofs.lemmas.Bool.{eqb-true, eq-eqb}
+use Rattle.std.proofs.lemmas.Bool.{eqb-true}
 use Rattle.std.proofs.lemmas.List.{map-append, take-append-drop, length-take-le}
 use Rattle.std.proofs.lemmas.List.Elements.{All-head, All-tail}
 use Rattle.std.proofs.lemmas.Option.{slice_get-map}
 use Rattle.pc_terms.specs.declared.leaf.FamilyId.{FamilyId}
 use Rattle.pc_terms.specs.Syntax.{Term, Rel, Ind, Construct, apply, head, args, over, put_all}
 use Rattle.pc_rules.specs.declared.declaration.Constructor.{Constructor}
-use Rattle.pc_rules.specs.Environment.{Env, FamilyDecl, KeepsFamily}
+use Rattle.pc_rules.specs.Environment.{Env}
 use Rattle.pc_rules.specs.Instances.{entries_at, branch_entries}
-use Rattle.pc_rules.specs.Same.{same_families}
 use Rattle.pc_rules.specs.Step.{IsConstructor, is_constructor}
 use Rattle.pc_rules.specs.FirstOrder.{Shape as Member, shape_type, ArgumentsAt, no_argument, an_argument, ConstructorsAt, no_constructor, a_constructor, IsMember, IsFirstOrder, Data, Reads, reads, ReadsAll, no_field, field as field_read}
 use Rattle.pc_rules.specs.DirectedWeakHead.{if_some}
@@ -20,7 +19,7 @@ use Rattle.first_order.specs.declared.shapes.Shape.{Shape}
 use Rattle.first_order.specs.declared.shapes.ShapeCtor.{ShapeCtor}
 use Rattle.first_order.specs.declared.reading.Field.{Field}
 use Rattle.first_order.specs.Searching.{family_in, places, member, members, IsNamed}
-use Rattle.first_order.specs.Reading.{field, fields, is_family, Taken, arguments_of, node_in, node_of, Reading, Read, NotAt, TooMany, put_first, on_node, read_on, read, plain_ctor, plain_type, reading}
+use Rattle.first_order.specs.Reading.{field, fields, is_family, Taken, arguments_of, node_in, node_of, Reading, Read, on_node, read_on, read, plain_ctor, plain_type, reading}
 use Rattle.first_order.proofs.NodeByNode.{fields_length, drop_length, put_read, read_none, read_past, read_next, many_read}
 
 abbrev place_of : Field → ℕ
@@ -74,7 +73,7 @@ node_is S x b e =
 
 -- places and values of the fields
 
-places_of_fields : (js : List ℕ) (xs : List Term) → length xs ≡ length js → map place_of (fields js xs) ≡ js
+pub places_of_fields : (js : List ℕ) (xs : List Term) → length xs ≡ length js → map place_of (fields js xs) ≡ js
 places_of_fields [] xs e = refl
 places_of_fields (j ∷ js) [] e = absurd (omega (arith, e))
 places_of_fields (j ∷ js) (x ∷ xs) e = ap (◌∷◌ j) (places_of_fields js xs (omega (arith, e)))
@@ -165,7 +164,7 @@ nothing_read : (E : Env) (hs : List Shape) (ds : Data) → Read [] ≡ Read ds �
 nothing_read E hs [] e = record { all = no_field }
 nothing_read E hs (d ∷ ds) e = absurd (cc)
 
-node_of_some : (o : Option Taken) (k : ℕ) (go : Taken → Reading) (ds : Data) → on_node o k go ≡ Read ds →
+pub node_of_some : (o : Option Taken) (k : ℕ) (go : Taken → Reading) (ds : Data) → on_node o k go ≡ Read ds →
     (b : Taken) × (es : Data) × (o ≡ Some b) × (ds ≡ (b.0, length b.1) ∷ es) × (go b ≡ Read es)
 node_of_some None k go ds e = absurd (cc)
 node_of_some (Some b) k go ds e = let p = put_read (b.0, length b.1) (go b) ds e in (b, p.0, refl, p.1, p.2)

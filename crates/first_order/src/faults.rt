@@ -1,7 +1,7 @@
 //! Why a type has no first-order set, and why a value is no data or has no text.
 use pc_rules::stop::Stop;
 use pc_terms::term::{MakeFault, Term};
-use std::alloc::AllocError;
+use std::alloc::{AllocError, AllocFailed};
 
 /// Why a type has no first-order set.
 #[derive(Drop)]
@@ -78,6 +78,17 @@ impl From<AllocError> for TextFault {
     ghost from_gives = { λ _ t. t ≡ Memory };
 
     fn from(_e: AllocError) -> TextFault {
+        TextFault::Memory
+    }
+}
+
+impl<T: Drop> From<AllocFailed<T>> for TextFault {
+    ghost use Rattle.std.specs.Prelude.{◌≡◌};
+    ghost use Rattle.first_order.specs.declared.faults.TextFault.TheVariants.{Memory};
+
+    ghost from_gives = { λ _ t. t ≡ Memory };
+
+    fn from(_e: AllocFailed<T>) -> TextFault {
         TextFault::Memory
     }
 }

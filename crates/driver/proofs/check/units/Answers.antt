@@ -1,0 +1,5 @@
+use Rattle.driver.proofs.Checking.{begins}
+use Rattle.driver.proofs.check.units.Goals as goal
+
+pub returns-clause-account : goal.returns-clause-account
+returns-clause-account c = begins c.new.result.account c.new.ensures.left c.new.ensures.uses

@@ -1,0 +1,16 @@
+use Rattle.std.proofs.Common.{◌≡◌, length, arith}
+use Rattle.first_order.proofs.Working.{no_unit_left, behind_spent, behind_done}
+use Rattle.first_order.proofs.searching.put_behind.Goals as goal
+
+pub returns-then-not-tick-clause-follows : goal.returns-then-not-tick-clause-follows
+returns-then-not-tick-clause-follows c =
+    let room : length c.args.types.now.items ≡ 1024 → ⊥ = λ e. omega (arith, e) in
+    behind_spent c.args.types.now.items c.args.ty c.args.m.now c.tick.new.self room c.tick.ensures.account c.tick.ensures.nest
+    (no_unit_left c.tick.result c.args.m.now.account.left c.tick.ensures.was c.if-not-tick.true)
+
+pub returns-clause-follows : goal.returns-clause-follows
+returns-clause-follows c =
+    let room : length c.args.types.now.items ≡ 1024 → ⊥ = λ e. omega (arith, e) in
+    let place : c.len-place.result ≡ length c.args.types.now.items = omega arith in
+    behind_done c.args.types.now.items c.args.ty c.args.m.now c.tick.new.self room c.tick.ensures.account c.tick.ensures.nest
+    (c.tick.ensures.was.0 c.if-not-tick.false) c.put.new.items.items c.len-place.result c.in_ok-put.ensures.ok place
