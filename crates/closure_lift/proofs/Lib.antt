@@ -12,3 +12,4 @@ pub mod Counted
 pub mod Noting
 pub mod Lighter
 pub mod Noted
+pub mod Scoped
