@@ -13,3 +13,4 @@ pub mod Noting
 pub mod Lighter
 pub mod Noted
 pub mod Scoped
+pub mod Renumbered

@@ -13,3 +13,4 @@ pub mod Noting
 pub mod FreeVariables
 pub mod ScopeCode
 pub mod Variables
+pub mod Renumbers

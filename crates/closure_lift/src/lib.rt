@@ -18,6 +18,7 @@ mod words;
 
 ghost use Rattle.closure_lift.specs.LiftKeeps.{LiftKeeps, LiftForms};
 ghost use Rattle.closure_lift.specs.CapturedLimit.{CapturedExactly};
+ghost use Rattle.closure_lift.specs.Renumbers.{Renumbers};
 
 pub use fault::LiftFault;
 
@@ -35,4 +36,9 @@ pub fn form_law()
 /// The functions of a lifted program take as many words as the lambdas and fixpoints have captured ones.
 pub fn captured_law()
     ensures exactly { CapturedExactly }
+{}
+
+/// Lifting looks at no constant: where constants have other numbers, so have those of the lifted block.
+pub fn constants_law()
+    ensures same { Renumbers }
 {}
