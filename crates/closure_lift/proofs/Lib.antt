@@ -12,3 +12,5 @@ pub mod Counted
 pub mod Noting
 pub mod Lighter
 pub mod Noted
+pub mod Scoped
+pub mod Renumbered

@@ -11,3 +11,6 @@ pub mod LiftKeeps
 pub mod CapturedLimit
 pub mod Noting
 pub mod FreeVariables
+pub mod ScopeCode
+pub mod Variables
+pub mod Renumbers

@@ -4,6 +4,7 @@
 //! clause `form`), and its functions take as many words as lambdas and fixpoints have captured ones (`captured_law`, clause `exactly`).
 //! `program` has lifted programs as they are in memory. `free` finds the free variables of each lambda and fixpoint in one walk
 //! (`note_block`, clauses `names` and `notes`), and `words` the words among names that are bound outside (`captured_words`, clause `is`).
+//! `variables` has the scope at a place of a program: what stands for a variable (`find`, clauses `entry` and `number`).
 //!
 //! Below stands `anf_convert`, whose programs are lifted; the emission of modules stands above.
 #![tactic(auto)]
@@ -12,10 +13,12 @@ mod fault;
 mod free;
 pub mod lists;
 pub mod program;
+mod variables;
 mod words;
 
 ghost use Rattle.closure_lift.specs.LiftKeeps.{LiftKeeps, LiftForms};
 ghost use Rattle.closure_lift.specs.CapturedLimit.{CapturedExactly};
+ghost use Rattle.closure_lift.specs.Renumbers.{Renumbers};
 
 pub use fault::LiftFault;
 
@@ -33,4 +36,9 @@ pub fn form_law()
 /// The functions of a lifted program take as many words as the lambdas and fixpoints have captured ones.
 pub fn captured_law()
     ensures exactly { CapturedExactly }
+{}
+
+/// Lifting looks at no constant: where constants have other numbers, so have those of the lifted block.
+pub fn constants_law()
+    ensures same { Renumbers }
 {}

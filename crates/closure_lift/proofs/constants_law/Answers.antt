@@ -1,0 +1,5 @@
+use Rattle.closure_lift.proofs.Renumbered.{lift_block_renumbered}
+use Rattle.closure_lift.proofs.constants_law.Goals as goal
+
+pub returns : goal.returns
+returns c = record { same = lift_block_renumbered }
