@@ -16,7 +16,7 @@ use Rattle.wasm_core.specs.Memory.{word}
 use Rattle.wasm_core.specs.Instance.{zero_of}
 use Rattle.wasm_core.specs.MachineStep.{State}
 use Rattle.closure_lift.specs.Lifted.{Op, OConst, OApp, OCon, OClos, OCase, Block, RetAtom, LetAtom, Ret, Let, Branches, Program, Fn, Val, VBox, VCon, VClos, Vals, VNil, VCons, size, ◌+v◌, many, BranchAt, branch_here, branch_after}
-use Rattle.anf_convert.specs.Anf.{Atom}
+use Rattle.anf_convert.specs.declared.program.Atom.{Atom}
 use Rattle.wasm_core.proofs.Rules as rule
 use Rattle.wasm_emit.specs.EmitLaws.{Spent}
 use Rattle.wasm_emit.specs.CallModule.{applied}

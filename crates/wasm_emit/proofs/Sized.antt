@@ -12,7 +12,8 @@ use Rattle.wasm_core.specs.declared.exports.ExportKind.TheVariants as kind
 use Rattle.wasm_core.specs.Parts.{Parts}
 use Rattle.wasm_core.specs.ModuleCondition.{All}
 use Rattle.wasm_core.specs.ShortestBytes.{put_u32, put_all, put_list, put_body, put_section, put_segment, put_sections, put_func_type, put_table_type, put_limits, put_global, put_export, kind_code, put_instr, unsigned, signed, sizes, module_bytes}
-use Rattle.anf_convert.specs.Anf.{Atom, AVar, ABox, AEmpty}
+use Rattle.anf_convert.specs.declared.program.Atom.{Atom}
+use Rattle.anf_convert.specs.declared.program.Atom.TheVariants.{Var as AVar, Box as ABox, Empty as AEmpty}
 use Rattle.closure_lift.specs.Lifted.{Op, OConst, OApp, OCon, OClos, OCase, Block, RetAtom, LetAtom, Ret, Let, Branches, BNil, BCons, Program, Fn}
 use Rattle.closure_lift.specs.LiftedForm.{OpFits, BlockFits, BranchesFit, Formed, Limits}
 use Rattle.wasm_emit.specs.EmittedModule.{type_main, type_constant, type_alloc, type_function, word_global, body, alloc_code, main_index, function, constant, main_function, entries, module_of}

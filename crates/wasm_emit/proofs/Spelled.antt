@@ -11,7 +11,8 @@ use Rattle.wasm_core.specs.Parts.{Parts}
 use Rattle.wasm_core.specs.ModuleTyping.{TypedFunc, results_of}
 use Rattle.wasm_core.specs.ModuleCondition.{All, IsU32, IsInstr, IsBody}
 use Rattle.wasm_core.proofs.Closed.{typed_is_closed}
-use Rattle.anf_convert.specs.Anf.{Atom, AVar, ABox, AEmpty}
+use Rattle.anf_convert.specs.declared.program.Atom.{Atom}
+use Rattle.anf_convert.specs.declared.program.Atom.TheVariants.{Var as AVar, Box as ABox, Empty as AEmpty}
 use Rattle.closure_lift.specs.Lifted.{Op, OConst, OApp, OCon, OClos, OCase, Block, RetAtom, LetAtom, Ret, Let, Branches, BNil, BCons, Program, many}
 use Rattle.anf_convert.specs.AnfForm.{AtomFits, AtomsFit}
 use Rattle.closure_lift.specs.LiftedForm.{OpFits, BlockFits, BranchesFit, Limits}

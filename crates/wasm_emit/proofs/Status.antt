@@ -13,7 +13,8 @@ use Rattle.wasm_core.specs.MachineStep.{State, At, Over}
 use Rattle.wasm_core.specs.Runs.{store_of}
 use Rattle.wasm_core.specs.Answer.{i32_of}
 use Rattle.wasm_core.proofs.Small.{inj, no, some_of}
-use Rattle.anf_convert.specs.Anf.{Atom, AVar, ABox, AEmpty}
+use Rattle.anf_convert.specs.declared.program.Atom.{Atom}
+use Rattle.anf_convert.specs.declared.program.Atom.TheVariants.{Var as AVar, Box as ABox, Empty as AEmpty}
 use Rattle.closure_lift.specs.Lifted.{Op, OConst, OApp, OCon, OClos, OCase, Block, RetAtom, LetAtom, Ret, Let, Branches, BNil, BCons, Program}
 use Rattle.wasm_core.specs.declared.types.GlobalDef.{GlobalDef}
 use Rattle.wasm_core.specs.declared.exports.Export.{Export}

@@ -13,7 +13,8 @@ use Rattle.wasm_core.specs.declared.instrs.Body.{Body}
 use Rattle.wasm_core.specs.Parts.{Parts}
 use Rattle.wasm_core.specs.ModuleTyping.{Types, Operands, Of, Effect, getting, setting, calling as calling_type, Typed, done, unreachable}
 use Rattle.wasm_core.proofs.TypedRules.{t_plain, t_two_arms}
-use Rattle.anf_convert.specs.Anf.{Atom, AVar, ABox, AEmpty}
+use Rattle.anf_convert.specs.declared.program.Atom.{Atom}
+use Rattle.anf_convert.specs.declared.program.Atom.TheVariants.{Var as AVar, Box as ABox, Empty as AEmpty}
 use Rattle.closure_lift.specs.Lifted.{Op, OConst, OApp, OCon, OClos, OCase, Block, RetAtom, LetAtom, Ret, Let, Branches, BNil, BCons, Program}
 use Rattle.wasm_emit.specs.EmittedCode.{Load, Store, IfWord, Place, InLocal, InField, fields_of, read, atom, fill, block, op, code, empties, heads}
 use Rattle.wasm_emit.specs.EmittedLocals.{top, top_op, top_branches}

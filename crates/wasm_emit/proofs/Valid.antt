@@ -15,7 +15,7 @@ use Rattle.wasm_core.proofs.Small.{inj, no}
 use Rattle.wasm_core.proofs.TypedRules.{t_plain, t_one_arm, t_body}
 use Rattle.closure_lift.specs.Lifted.{OApp, Block, Program, Fn}
 use Rattle.wasm_emit.specs.CallLaws.{CallValid}
-use Rattle.anf_convert.specs.Anf.{AVar}
+use Rattle.anf_convert.specs.declared.program.Atom.TheVariants.{Var as AVar}
 use Rattle.wasm_emit.specs.EmittedCode.{Load, Const, IfOnly, InLocal, fields_of, code}
 use Rattle.wasm_emit.specs.EmittedModule.{module_with, alloc, box_function, function, constant, main_function, type_main, type_constant, type_alloc, type_function, entries, module_of}
 use Rattle.wasm_emit.specs.CallModule.{applied, call_function, call_globals, call_exports, module_of_call}

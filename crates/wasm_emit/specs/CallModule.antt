@@ -1,6 +1,6 @@
 -- The module whose main applies the program's main to arguments that a host puts into memory before the run.
 use Rattle.std.specs.Prelude.{ℕ, zero, suc, ◌*◌, List, [], ◌∷◌, max, codes}
-use Rattle.anf_convert.specs.Anf.{AVar}
+use Rattle.anf_convert.specs.declared.program.Atom.TheVariants.{Var as AVar}
 use Rattle.closure_lift.specs.Lifted.{OApp, Program}
 use Rattle.wasm_core.specs.declared.types.GlobalDef.{GlobalDef}
 use Rattle.wasm_core.specs.declared.exports.Export.{Export}
