@@ -1,7 +1,5 @@
 //! The test of erasable terms.
 ghost use Rattle.std.specs.Prelude.{◌≡◌, ◌-◌, Some, IfOk};
-ghost use Rattle.trees.specs.Tree.{terms_of};
-ghost use Rattle.pc_terms.specs.Lists.{arms_of};
 ghost use Rattle.pc_terms.specs.View.{tree_of};
 ghost use Rattle.pc_terms.specs.declared.term.Node.TheVariants.{Case};
 ghost use Rattle.pc_rules.specs.Entailment.{test_of};
