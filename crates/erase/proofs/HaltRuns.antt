@@ -1,5 +1,5 @@
 -- What halts erasure, with its place.
-use Rattle.std.proofs.Common.{◌≡◌, subst, sym, true, false, List, [], ◌∷◌, ◌++◌, Option, Some, None, refl}
+use Rattle.std.proofs.Common.{◌≡◌, subst, true, false, List, [], ◌∷◌, ◌++◌, Option, Some, None, refl}
 use Rattle.pc_terms.specs.declared.leaf.Name.{Name}
 use Rattle.pc_terms.specs.Syntax.{Term}
 use Rattle.pc_terms.specs.BoxSyntax.{BoxTerm}
@@ -17,7 +17,7 @@ use Rattle.pc_rules.specs.Follows.{Halts}
 use Rattle.lambda_box.specs.BoxProgram.{BoxConstant}
 use Rattle.erase_rules.specs.DirectedErasure.{erased}
 use Rattle.erase_rules.specs.DirectedProgram.{is_reached}
-use Rattle.erase.specs.HaltPlaces.{IsPassed, IsAtBody, now, later, passed, HaltsIn}
+use Rattle.erase.specs.HaltPlaces.{IsPassed, IsAtBody, later, HaltsIn}
 use Rattle.erase.proofs.ConstantRuns.{onto, onto_more}
 
 pub none_by : {A : Type 0} (o : Option A) → ((a : A) → o ≡ Some a → ⊥) → o ≡ None

@@ -1,5 +1,5 @@
 -- How answers follow rules that are done one after the other at places.
-use Rattle.std.proofs.Common.{◌≡◌, ◌∙◌, ap, sym, subst, ◌||◌, Result, Ok, Err, IsTrue, refl}
+use Rattle.std.proofs.Common.{◌≡◌, ◌∙◌, ap, sym, subst, Result, Ok, Err, IsTrue, refl}
 use Rattle.pc_rules.specs.declared.broken.Place.{Place}
 use Rattle.pc_rules.specs.declared.meter.Account.{Account}
 use Rattle.pc_rules.specs.declared.meter.Meter.{Meter}
@@ -7,7 +7,7 @@ use Rattle.pc_rules.specs.declared.stop.Stop.TheVariants.{Spent, TooDeep, Memory
 use Rattle.pc_rules.specs.declared.stop.Halt.{Halt}
 use Rattle.pc_rules.specs.declared.stop.Halt.TheVariants.{Stop, Broken as Refusal}
 use Rattle.pc_rules.specs.DirectedRun.{Run}
-use Rattle.pc_rules.specs.DirectedPlaces.{Placed, Outcome, Gives, gives, outcome_at, at_place, outcome_then, outcome_deep, and_then}
+use Rattle.pc_rules.specs.DirectedPlaces.{Placed, Gives, gives, outcome_at, at_place, outcome_then, and_then}
 use Rattle.pc_rules.specs.Follows.{Follows, IsAfter}
 use Rattle.pc_rules.proofs.Following.{or_left, or_right}
 use Rattle.pc_rules.proofs.Meters.{after-refl, after-trans}

@@ -1,5 +1,5 @@
 -- Each constant of a program that directed erasure gives is no greater than its source.
-use Rattle.std.proofs.Common.{◌≡◌, ap, subst, Bool, true, false, if◌then◌else◌, ℕ, List, [], ◌∷◌, length, Option, Some, None}
+use Rattle.std.proofs.Common.{◌≡◌, subst, Bool, true, false, if◌then◌else◌, ℕ, List, [], ◌∷◌, length, Some, None}
 use Rattle.pc_terms.specs.declared.leaf.Name.{Name}
 use Rattle.pc_terms.specs.Syntax.{Term}
 use Rattle.pc_terms.specs.BoxSyntax.{BoxTerm}

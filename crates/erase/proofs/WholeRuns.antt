@@ -1,12 +1,11 @@
 -- The whole follows the directed rules: main, then the walk over declarations, then the answer.
-use Rattle.std.proofs.Common.{◌≡◌, ap, subst, sym, ℕ, List, [], ◌∷◌, Option, Some, None, Result, Ok, Err}
+use Rattle.std.proofs.Common.{◌≡◌, ap, subst, sym, ℕ, [], ◌∷◌, Some, None, Result, Ok, Err}
 use Rattle.pc_terms.specs.declared.leaf.Name.{Name}
 use Rattle.pc_terms.specs.Syntax.{Term}
 use Rattle.pc_terms.specs.BoxSyntax.{BoxTerm}
 use Rattle.pc_rules.specs.declared.broken.Place.TheVariants.{Main as AtMain}
 use Rattle.pc_rules.specs.declared.meter.Account.{Account}
 use Rattle.pc_rules.specs.declared.meter.Meter.{Meter}
-use Rattle.pc_rules.specs.declared.stop.Halt.{Halt}
 use Rattle.pc_rules.specs.Environment.{Env}
 use Rattle.pc_rules.specs.Follows.{Follows}
 use Rattle.pc_rules.specs.DirectedComparison.{Test}

@@ -19,7 +19,7 @@ ghost use Rattle.erase.specs.declared.refusal.EraseRefusal.TheVariants.{AxiomRea
 
 use crate::constants::{erased_at, reach_constants};
 use crate::families::families;
-use crate::refusal::{EraseRefusal, HaltAt, no_memory};
+use crate::refusal::{EraseRefusal, no_memory};
 use crate::terms::Eraser;
 use box_terms::program::{BoxConstants, BoxProgram};
 use pc_rules::accepted::Accepted;

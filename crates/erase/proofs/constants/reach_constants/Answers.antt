@@ -1,4 +1,4 @@
-use Rattle.std.proofs.Common.{rules, arith, ◌≡◌, ◌∙◌, ◌-◌, ◌||◌, ap, sym, subst, ℕ, true, false, [], ◌∷◌, ◌++◌, length, Option, Some, None, refl, Ok, Err}
+use Rattle.std.proofs.Common.{arith, ◌≡◌, ◌∙◌, ◌-◌, ◌||◌, ap, sym, subst, true, false, [], ◌∷◌, ◌++◌, length, Some, None, Ok, Err}
 use Rattle.std.proofs.lemmas.Result.{err_from_is_err_and}
 use Rattle.pc_rules.specs.declared.declaration.Kept.{Kept}
 use Rattle.pc_rules.specs.declared.declaration.Kept.TheVariants.{Constant}

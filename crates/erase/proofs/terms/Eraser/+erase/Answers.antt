@@ -117,7 +117,10 @@ application-returns g t c =
 pub case-returns-in_err-scrut : goal.case-returns-in_err-scrut
 case-returns-in_err-scrut g t c =
     let p = err_from_is_err_and c.from_residual.result c.from_residual.ensures.1 in
-    record { follows = rw (p.1, p.2) (scrutinee_err c.args.env.now (infer c.args.env.now (test_of c.args.env.now) c.args.room) c.args.ctx.now c.args.x.now.family c.args.x.now.params c.args.x.now.binders c.args.x.now.ret c.args.x.now.scrut c.args.x.now.branches _ c.args.m.now c.erased.new.m c.in_err-scrut.ensures.follows) }
+    record {
+      follows = rw (p.1, p.2) (scrutinee_err c.args.env.now (infer c.args.env.now (test_of c.args.env.now) c.args.room) c.args.ctx.now c.args.x.now.family c.args.x.now.params c.args.x.now.binders c.args.x.now.ret c.args.x.now.scrut
+          c.args.x.now.branches _ c.args.m.now c.erased.new.m c.in_err-scrut.ensures.follows);
+    }
 
 pub case-branches-requires : goal.case-branches-requires
 case-branches-requires g t c =
@@ -131,7 +134,8 @@ case-returns-in_err-branches g t c =
     let p = err_from_is_err_and c.from_residual-in_err-branches.result c.from_residual-in_err-branches.ensures.1 in
     record {
       follows = rw (p.1, p.2)
-          (arms_err c.args.env.now (infer c.args.env.now (test_of c.args.env.now) c.args.room) c.args.ctx.now c.args.x.now.family c.args.x.now.params c.args.x.now.binders c.args.x.now.ret c.args.x.now.scrut c.args.x.now.branches c.in_ok-scrut.scrut c.args.m.now c.erased.new.m c.in_ok-scrut.ensures.follows (with_parameters k.0 c.in-Some.family.now) k.1 _ c.branches.new.m
+          (arms_err c.args.env.now (infer c.args.env.now (test_of c.args.env.now) c.args.room) c.args.ctx.now c.args.x.now.family c.args.x.now.params c.args.x.now.binders c.args.x.now.ret c.args.x.now.scrut c.args.x.now.branches c.in_ok-scrut.scrut
+          c.args.m.now c.erased.new.m c.in_ok-scrut.ensures.follows (with_parameters k.0 c.in-Some.family.now) k.1 _ c.branches.new.m
           c.in_err-branches.ensures.follows);
     }
 
@@ -139,7 +143,8 @@ pub case-made-requires : goal.case-made-requires
 case-made-requires g t c =
     let k = c.in-Some.ensures.kept in
     record {
-      within = case_within c.args.env.now (infer c.args.env.now (test_of c.args.env.now) c.args.room) c.args.ctx.now c.args.x.now.family c.args.x.now.params c.args.x.now.binders c.args.x.now.ret c.args.x.now.scrut c.args.x.now.branches c.in_ok-scrut.scrut c.args.m.now c.erased.new.m c.in_ok-scrut.ensures.follows (with_parameters k.0 c.in-Some.family.now) k.1
+      within = case_within c.args.env.now (infer c.args.env.now (test_of c.args.env.now) c.args.room) c.args.ctx.now c.args.x.now.family c.args.x.now.params c.args.x.now.binders c.args.x.now.ret c.args.x.now.scrut c.args.x.now.branches c.in_ok-scrut.scrut
+          c.args.m.now c.erased.new.m c.in_ok-scrut.ensures.follows (with_parameters k.0 c.in-Some.family.now) k.1
           (box_arms c.in_ok-branches.branches) c.branches.new.m c.in_ok-branches.ensures.follows c.requires.within;
     }
 
@@ -148,7 +153,8 @@ case-returns g t c =
     let k = c.in-Some.ensures.kept in
     record {
       follows = rw c.in_ok-made.ensures.ok
-          (case_done c.args.env.now (infer c.args.env.now (test_of c.args.env.now) c.args.room) c.args.ctx.now c.args.x.now.family c.args.x.now.params c.args.x.now.binders c.args.x.now.ret c.args.x.now.scrut c.args.x.now.branches c.in_ok-scrut.scrut c.args.m.now c.erased.new.m c.in_ok-scrut.ensures.follows (with_parameters k.0 c.in-Some.family.now) k.1
+          (case_done c.args.env.now (infer c.args.env.now (test_of c.args.env.now) c.args.room) c.args.ctx.now c.args.x.now.family c.args.x.now.params c.args.x.now.binders c.args.x.now.ret c.args.x.now.scrut c.args.x.now.branches c.in_ok-scrut.scrut
+          c.args.m.now c.erased.new.m c.in_ok-scrut.ensures.follows (with_parameters k.0 c.in-Some.family.now) k.1
           (box_arms c.in_ok-branches.branches) c.branches.new.m c.in_ok-branches.ensures.follows);
     }
 
@@ -173,7 +179,8 @@ branches-returns-in_err-body g t c =
     let l : c.loop-i.i < length c.as_slice-xs.result.now = grind arith in
     let p = err_from_is_err_and c.from_residual.result c.from_residual.ensures.1 in
     let f = c.in_err-body.ensures.follows in
-    let whole = c.loop-i.invariant.rest _ _ (arms_stop c.args.env.now (infer c.args.env.now (test_of c.args.env.now) c.args.room) c.args.ctx.now c.args.x.now.params c.as_slice-listed.result.now c.as_slice-xs.result.now c.loop-i.i c.index-listed-i.result c.index-xs-i.result k l c.index-listed-i.is c.index-xs-i.is _ c.loop-i.m c.branch-self.new.m f) in
+    let whole = c.loop-i.invariant.rest _ _ (arms_stop c.args.env.now (infer c.args.env.now (test_of c.args.env.now) c.args.room) c.args.ctx.now c.args.x.now.params c.as_slice-listed.result.now c.as_slice-xs.result.now c.loop-i.i c.index-listed-i.result
+    c.index-xs-i.result k l c.index-listed-i.is c.index-xs-i.is _ c.loop-i.m c.branch-self.new.m f) in
     record { follows = rw (p.1, p.2) (rw (c.as_slice-listed.ensures.is, c.as_slice-xs.ensures.is) at whole) }
 
 pub branches-returns-in_err-push : goal.branches-returns-in_err-push
@@ -182,7 +189,8 @@ branches-returns-in_err-push g t c =
     let l : c.loop-i.i < length c.as_slice-xs.result.now = grind arith in
     let p = err_from_is_err_and c.from_residual-in_err-push.result c.from_residual-in_err-push.ensures.1 in
     let f = c.in_ok-body.ensures.follows in
-    let whole = c.loop-i.invariant.rest _ _ (arms_memory c.args.env.now (infer c.args.env.now (test_of c.args.env.now) c.args.room) c.args.ctx.now c.args.x.now.params c.as_slice-listed.result.now c.as_slice-xs.result.now c.loop-i.i c.index-listed-i.result c.index-xs-i.result k l c.index-listed-i.is c.index-xs-i.is _ c.loop-i.m c.branch-self.new.m f) in
+    let whole = c.loop-i.invariant.rest _ _ (arms_memory c.args.env.now (infer c.args.env.now (test_of c.args.env.now) c.args.room) c.args.ctx.now c.args.x.now.params c.as_slice-listed.result.now c.as_slice-xs.result.now c.loop-i.i c.index-listed-i.result
+    c.index-xs-i.result k l c.index-listed-i.is c.index-xs-i.is _ c.loop-i.m c.branch-self.new.m f) in
     record { follows = rw (p.1, p.2, c.in_err-push.ensures.only_memory.0) (rw (c.as_slice-listed.ensures.is, c.as_slice-xs.ensures.is) at whole) }
 
 pub branches-loop-i-preserved : goal.branches-loop-i-preserved
@@ -192,7 +200,8 @@ branches-loop-i-preserved g t c =
     let f = c.in_ok-body.ensures.follows in
     record {
       rest = λ r n x.
-          let y = c.loop-i.invariant.rest _ n (arms_next c.args.env.now (infer c.args.env.now (test_of c.args.env.now) c.args.room) c.args.ctx.now c.args.x.now.params c.as_slice-listed.result.now c.as_slice-xs.result.now c.loop-i.i c.index-listed-i.result c.index-xs-i.result k l c.index-listed-i.is c.index-xs-i.is c.in_ok-body.body r c.loop-i.m c.branch-self.new.m n f x) in
+          let y = c.loop-i.invariant.rest _ n (arms_next c.args.env.now (infer c.args.env.now (test_of c.args.env.now) c.args.room) c.args.ctx.now c.args.x.now.params c.as_slice-listed.result.now c.as_slice-xs.result.now c.loop-i.i c.index-listed-i.result
+          c.index-xs-i.result k l c.index-listed-i.is c.index-xs-i.is c.in_ok-body.body r c.loop-i.m c.branch-self.new.m n f x) in
           rw c.in_ok-push.ensures.ok (rw (after_more c.loop-i.out (record { binders = c.index-xs-i.result.binders; body = c.in_ok-body.body }) r) at y);
       nest = c.in_ok-body.ensures.follows.after.nest ∙ c.loop-i.invariant.nest;
     }
@@ -272,7 +281,8 @@ pub bodies-returns-in_err-body-clause-follows : goal.bodies-returns-in_err-body-
 bodies-returns-in_err-body-clause-follows g t c =
     let l : c.loop-i.i < length c.as_slice-items.result.now = grind arith in
     let p = err_from_is_err_and c.from_residual.result c.from_residual.ensures.1 in
-    let whole = c.loop-i.invariant.rest _ _ (bodies_stop c.args.env.now (infer c.args.env.now (test_of c.args.env.now) c.args.room) c.args.ctx.now (length c.as_slice-items.result.now) c.as_slice-items.result.now c.loop-i.i c.index-items-i.result l c.index-items-i.is _ c.loop-i.m c.erased.new.m c.in_err-body.ensures.follows) in
+    let whole = c.loop-i.invariant.rest _ _ (bodies_stop c.args.env.now (infer c.args.env.now (test_of c.args.env.now) c.args.room) c.args.ctx.now (length c.as_slice-items.result.now) c.as_slice-items.result.now c.loop-i.i c.index-items-i.result l
+    c.index-items-i.is _ c.loop-i.m c.erased.new.m c.in_err-body.ensures.follows) in
     rw (p.1, p.2) (rw c.as_slice-items.ensures.is at whole)
 
 pub bodies-loop-i-preserved : goal.bodies-loop-i-preserved
@@ -281,7 +291,8 @@ bodies-loop-i-preserved g t c =
     let b : BoxDef = record { body = c.in_ok-body.body; rarg = c.index-items-i.result.rarg } in
     record {
       rest = λ r n x.
-          let y = c.loop-i.invariant.rest _ n (bodies_next c.args.env.now (infer c.args.env.now (test_of c.args.env.now) c.args.room) c.args.ctx.now (length c.as_slice-items.result.now) c.as_slice-items.result.now c.loop-i.i c.index-items-i.result l c.index-items-i.is c.in_ok-body.body r c.loop-i.m c.erased.new.m n c.in_ok-body.ensures.follows x) in
+          let y = c.loop-i.invariant.rest _ n (bodies_next c.args.env.now (infer c.args.env.now (test_of c.args.env.now) c.args.room) c.args.ctx.now (length c.as_slice-items.result.now) c.as_slice-items.result.now c.loop-i.i c.index-items-i.result l
+          c.index-items-i.is c.in_ok-body.body r c.loop-i.m c.erased.new.m n c.in_ok-body.ensures.follows x) in
           rw c.in_ok-push.ensures.ok (rw (after_body (length c.as_slice-items.result.now) c.loop-i.out b r) at y);
       rargs = rw c.in_ok-push.ensures.ok (rargs_next c.as_slice-items.result.now c.loop-i.i c.index-items-i.result c.loop-i.out c.in_ok-body.body l c.index-items-i.is c.loop-i.invariant.rargs);
       nest = c.in_ok-body.ensures.follows.after.nest ∙ c.loop-i.invariant.nest;
