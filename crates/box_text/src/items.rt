@@ -36,11 +36,7 @@ pub(crate) fn put_name(out: &mut Vec<u8>, names: &Names, name: Name) -> Result<(
 }
 
 /// A family: its block's name and its place in the block.
-pub(crate) fn put_family(
-    out: &mut Vec<u8>,
-    names: &Names,
-    id: FamilyId,
-) -> Result<(), AllocError>
+pub(crate) fn put_family(out: &mut Vec<u8>, names: &Names, id: FamilyId) -> Result<(), AllocError>
     ensures ok { OnOk result (out.new.items ≡ out.old.items ++ family_text names.now id) }
 {
     put_name(out, names, id.block)?;

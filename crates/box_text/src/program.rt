@@ -68,11 +68,7 @@ fn put_constant_line(
 }
 
 /// The lines of families.
-fn put_families(
-    out: &mut Vec<u8>,
-    names: &Names,
-    families: &BoxFamilies,
-) -> Result<(), AllocError>
+fn put_families(out: &mut Vec<u8>, names: &Names, families: &BoxFamilies) -> Result<(), AllocError>
     ensures ok { OnOk result (out.new.items ≡ out.old.items ++ each_text (line_of_family names.now) families.now) }
 {
     let items = families.as_slice();

@@ -89,11 +89,7 @@ fn put_branch(out: &mut Vec<u8>, names: &Names, branch: &BoxBranch) -> Result<()
 
 /// The branches of a match.
 #[cycle(term)]
-fn put_branches(
-    out: &mut Vec<u8>,
-    names: &Names,
-    branches: &BoxBranches,
-) -> Result<(), AllocError>
+fn put_branches(out: &mut Vec<u8>, names: &Names, branches: &BoxBranches) -> Result<(), AllocError>
     ensures ok { OnOk result (out.new.items ≡ out.old.items ++ arms_text names.now (arms_of branches.now)) }
 {
     let items = branches.as_slice();
