@@ -1,7 +1,7 @@
 -- Lifted programs, and their evaluation with the limits and the call depth that emission asks for.
 use Rattle.std.specs.Prelude.{◌≡◌, ℕ, suc, ◌+◌, ◌<◌, ◌≤◌, List, [], ◌∷◌, length, Some, Bool, true, false, slice_get}
 pub use Rattle.anf_convert.specs.declared.program.Atom.{Atom}
-use Rattle.anf_convert.specs.declared.program.Atom.TheVariants.{Var as AVar, Box as ABox, Empty as AEmpty}
+pub use Rattle.anf_convert.specs.declared.program.Atom.TheVariants.{Var as AVar, Box as ABox, Empty as AEmpty}
 pub use Rattle.closure_lift.specs.Lifted.{Op, OConst, OApp, OCon, OClos, OCase, Block, RetAtom, LetAtom, Ret, Let, Branches, BNil, BCons, Fn, Program, Val, VBox, VCon, VClos, Vals, VNil, VCons, lookup, size, ◌+v◌, many, BranchAt, branch_here, branch_after}
 
 pub data Is (e : Vals) : Atom → Val → Type 0 where
