@@ -1,8 +1,10 @@
 //! The bodies of the functions of a module: the run time's, the program's, and main's.
-ghost use Rattle.std.specs.Prelude.{◌≡◌, ◌-◌, ◌≤◌, IfOk, IfErr};
+ghost use Rattle.std.specs.Prelude.{◌≡◌, ◌-◌, ◌++◌, ◌≤◌, IfOk, IfErr, OnOk, map};
 ghost use Rattle.closure_lift.specs.LiftedProgram.{renumber, place_in, lifted_of};
+ghost use Rattle.wasm_core.specs.ModuleCondition.{All};
 ghost use Rattle.wasm_emit.specs.EmittedLocals.{top};
 ghost use Rattle.wasm_emit.specs.EmittedModule.{alloc as allocator_body, body, box_function, function, constant, main_function};
+ghost use Rattle.wasm_emit.specs.EmittedBodies.{bodies_of, FewInFunction, FewInBlock, FewLocals, MemoryOrNot};
 ghost use Rattle.wasm_emit.specs.Pushed.{function_in, MemoryOrLocals};
 ghost use Rattle.wasm_emit.specs.declared.fault.EmitFault.TheVariants.{Memory};
 
@@ -120,4 +122,51 @@ pub(crate) fn main_body(alloc: Global, p: &Lifted) -> Result<Body, EmitFault>
     push(&mut code, Instr::GlobalSet(0))?;
     push(&mut code, Instr::End)?;
     body_of(alloc, count, code)
+}
+
+/// Puts the bodies of the program's functions behind those that are there.
+fn push_functions(alloc: Global, p: &Lifted, bodies: &mut Vec<Body>) -> Result<(), EmitFault>
+    ensures pushed { OnOk result (bodies.new.items ≡ bodies.old.items ++ map (function (lifted_of p.now)) ((lifted_of p.now).functions)) }
+    ensures few { OnOk result (All FewInFunction ((lifted_of p.now).functions)) }
+    ensures refused { IfErr result (λ e. MemoryOrNot e (All FewInFunction ((lifted_of p.now).functions))) }
+{
+    for f in p.functions.as_slice() {
+        let body = function_body(alloc, p, f)?;
+        bodies.push(body)?;
+    }
+    Ok(())
+}
+
+/// Puts the bodies of the constants' functions behind those that are there.
+fn push_constants(alloc: Global, p: &Lifted, bodies: &mut Vec<Body>) -> Result<(), EmitFault>
+    ensures pushed { OnOk result (bodies.new.items ≡ bodies.old.items ++ map (constant (lifted_of p.now)) ((lifted_of p.now).constants)) }
+    ensures few { OnOk result (All FewInBlock ((lifted_of p.now).constants)) }
+    ensures refused { IfErr result (λ e. MemoryOrNot e (All FewInBlock ((lifted_of p.now).constants))) }
+{
+    let constants = p.constants.as_slice();
+    let n = constants.len();
+    for k in 0..n {
+        let c = &constants[n - 1 - k];
+        let body = constant_body(alloc, p, &c.body)?;
+        bodies.push(body)?;
+    }
+    Ok(())
+}
+
+/// The bodies of all functions, in the order of their indices. `Locals` exactly where a function would have over 50,000 locals.
+pub(crate) fn all_bodies(alloc: Global, p: &Lifted) -> Result<Vec<Body>, EmitFault>
+    ensures is { IfOk result (λ v. v.items ≡ bodies_of (lifted_of p.now)) }
+    ensures few { IfOk result (λ _. FewLocals (lifted_of p.now)) }
+    ensures refused { IfErr result (λ e. MemoryOrNot e (FewLocals (lifted_of p.now))) }
+{
+    let mut bodies = Vec::new(alloc);
+    let first = allocator(alloc)?;
+    bodies.push(first)?;
+    let second = box_body(alloc)?;
+    bodies.push(second)?;
+    push_functions(alloc, p, &mut bodies)?;
+    push_constants(alloc, p, &mut bodies)?;
+    let main = main_body(alloc, p)?;
+    bodies.push(main)?;
+    Ok(bodies)
 }
