@@ -7,3 +7,4 @@ pub mod AnfLaws
 pub mod Weight
 pub mod CallLaws
 pub mod Pushed
+pub mod EmittedBodies

@@ -1,11 +1,24 @@
-//! The bodies of the run time's functions of a module.
-ghost use Rattle.std.specs.Prelude.{◌≡◌, IfOk, IfErr};
-ghost use Rattle.wasm_emit.specs.EmittedModule.{alloc as allocator_body, body, box_function};
+//! The bodies of the functions of a module: the run time's, the program's, and main's.
+ghost use Rattle.std.specs.Prelude.{◌≡◌, ◌-◌, ◌++◌, ◌≤◌, IfOk, IfErr, OnOk, map};
+ghost use Rattle.closure_lift.specs.LiftedProgram.{renumber, place_in, lifted_of};
+ghost use Rattle.wasm_core.specs.ModuleCondition.{All};
+ghost use Rattle.wasm_emit.specs.EmittedLocals.{top};
+ghost use Rattle.wasm_emit.specs.EmittedModule.{alloc as allocator_body, body, box_function, function, constant, main_function};
+ghost use Rattle.wasm_emit.specs.EmittedBodies.{bodies_of, FewInFunction, FewInBlock, FewLocals, MemoryOrNot};
+ghost use Rattle.wasm_emit.specs.Pushed.{function_in, MemoryOrLocals};
 ghost use Rattle.wasm_emit.specs.declared.fault.EmitFault.TheVariants.{Memory};
 
+use crate::blocks::{push_block, push_field_places};
 use crate::fault::EmitFault;
+use crate::instructions::push;
+use crate::locals::locals_of_block;
+use crate::places::Place;
+use closure_lift::program::{Function, Lifted, LiftedBlock};
 use std::alloc::Global;
 use wasm_core::{BlockType, Body, I32Op, Instr, Instrs, ValType, ValTypes};
+
+/// The greatest number of locals of a function besides its parameters.
+const MOST_LOCALS: u32 = 50_000;
 
 /// A body of so many locals, all words.
 fn body_of(alloc: Global, locals: u32, code: Vec<Instr>) -> Result<Body, EmitFault>
@@ -64,4 +77,96 @@ pub(crate) fn box_body(alloc: Global) -> Result<Body, EmitFault>
 {
     let code = vec![in alloc; Instr::I32Const(0), Instr::End]?;
     body_of(alloc, 0, code)
+}
+
+/// The body of a function of the program, which has its closure in local 0 and its argument in local 1.
+pub(crate) fn function_body(alloc: Global, p: &Lifted, f: &Function) -> Result<Body, EmitFault>
+    ensures is { IfOk result (λ b. b ≡ function (lifted_of p.now) (function_in p.now f.now)) }
+    ensures few { IfOk result (λ _. top 2 f.now.body - 2 ≤ 50000) }
+    ensures refused { IfErr result (λ e. MemoryOrLocals e (top 2 f.now.body - 2)) }
+{
+    let count = locals_of_block(2, MOST_LOCALS + 2, &f.body)?;
+    let mut places = Vec::new(alloc);
+    push_field_places(&mut places, 0, f.captured)?;
+    places.push(Place::Local(1))?;
+    let mut code = Vec::new(alloc);
+    push_block(p, &mut places, 2, &f.body, &mut code)?;
+    push(&mut code, Instr::End)?;
+    body_of(alloc, count - 2, code)
+}
+
+/// The body of a constant's function.
+pub(crate) fn constant_body(alloc: Global, p: &Lifted, b: &LiftedBlock) -> Result<Body, EmitFault>
+    ensures is { IfOk result (λ x. x ≡ constant (lifted_of p.now) (renumber (place_in p.now.constants) b.now)) }
+    ensures few { IfOk result (λ _. top 0 b.now ≤ 50000) }
+    ensures refused { IfErr result (λ e. MemoryOrLocals e (top 0 b.now)) }
+{
+    let count = locals_of_block(0, MOST_LOCALS, b)?;
+    let mut places = Vec::new(alloc);
+    let mut code = Vec::new(alloc);
+    push_block(p, &mut places, 0, b, &mut code)?;
+    push(&mut code, Instr::End)?;
+    body_of(alloc, count, code)
+}
+
+/// The body of main, which puts its answer into the global `result`.
+pub(crate) fn main_body(alloc: Global, p: &Lifted) -> Result<Body, EmitFault>
+    ensures is { IfOk result (λ x. x ≡ main_function (lifted_of p.now)) }
+    ensures few { IfOk result (λ _. top 0 p.now.main ≤ 50000) }
+    ensures refused { IfErr result (λ e. MemoryOrLocals e (top 0 p.now.main)) }
+{
+    let count = locals_of_block(0, MOST_LOCALS, &p.main)?;
+    let mut places = Vec::new(alloc);
+    let mut code = Vec::new(alloc);
+    push_block(p, &mut places, 0, &p.main, &mut code)?;
+    push(&mut code, Instr::GlobalSet(0))?;
+    push(&mut code, Instr::End)?;
+    body_of(alloc, count, code)
+}
+
+/// Puts the bodies of the program's functions behind those that are there.
+fn push_functions(alloc: Global, p: &Lifted, bodies: &mut Vec<Body>) -> Result<(), EmitFault>
+    ensures pushed { OnOk result (bodies.new.items ≡ bodies.old.items ++ map (function (lifted_of p.now)) ((lifted_of p.now).functions)) }
+    ensures few { OnOk result (All FewInFunction ((lifted_of p.now).functions)) }
+    ensures refused { IfErr result (λ e. MemoryOrNot e (All FewInFunction ((lifted_of p.now).functions))) }
+{
+    for f in p.functions.as_slice() {
+        let body = function_body(alloc, p, f)?;
+        bodies.push(body)?;
+    }
+    Ok(())
+}
+
+/// Puts the bodies of the constants' functions behind those that are there.
+fn push_constants(alloc: Global, p: &Lifted, bodies: &mut Vec<Body>) -> Result<(), EmitFault>
+    ensures pushed { OnOk result (bodies.new.items ≡ bodies.old.items ++ map (constant (lifted_of p.now)) ((lifted_of p.now).constants)) }
+    ensures few { OnOk result (All FewInBlock ((lifted_of p.now).constants)) }
+    ensures refused { IfErr result (λ e. MemoryOrNot e (All FewInBlock ((lifted_of p.now).constants))) }
+{
+    let constants = p.constants.as_slice();
+    let n = constants.len();
+    for k in 0..n {
+        let c = &constants[n - 1 - k];
+        let body = constant_body(alloc, p, &c.body)?;
+        bodies.push(body)?;
+    }
+    Ok(())
+}
+
+/// The bodies of all functions, in the order of their indices. `Locals` exactly where a function would have over 50,000 locals.
+pub(crate) fn all_bodies(alloc: Global, p: &Lifted) -> Result<Vec<Body>, EmitFault>
+    ensures is { IfOk result (λ v. v.items ≡ bodies_of (lifted_of p.now)) }
+    ensures few { IfOk result (λ _. FewLocals (lifted_of p.now)) }
+    ensures refused { IfErr result (λ e. MemoryOrNot e (FewLocals (lifted_of p.now))) }
+{
+    let mut bodies = Vec::new(alloc);
+    let first = allocator(alloc)?;
+    bodies.push(first)?;
+    let second = box_body(alloc)?;
+    bodies.push(second)?;
+    push_functions(alloc, p, &mut bodies)?;
+    push_constants(alloc, p, &mut bodies)?;
+    let main = main_body(alloc, p)?;
+    bodies.push(main)?;
+    Ok(bodies)
 }
