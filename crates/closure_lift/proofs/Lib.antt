@@ -14,3 +14,6 @@ pub mod Lighter
 pub mod Noted
 pub mod Scoped
 pub mod Renumbered
+pub mod RenumberedFunctions
+pub mod Placing
+pub mod Making

@@ -10,7 +10,7 @@ use Rattle.closure_lift.specs.Lift.{Slot, Holds, held, atom, closure_for, closur
 use Rattle.closure_lift.specs.LiftedProgram.{renumber_op, renumber, renumber_branches}
 
 module _ (f : ℕ → ℕ) where
-  count_same : (ds : AnfDefs) → def_count (anf.renumber_defs f ds) ≡ def_count ds
+  pub count_same : (ds : AnfDefs) → def_count (anf.renumber_defs f ds) ≡ def_count ds
   count_same NoDef = refl
   count_same (LamDef b rest) = ap suc (count_same rest)
   count_same (BoxDef rest) = ap suc (count_same rest)
@@ -77,10 +77,10 @@ module _ (f : ℕ → ℕ) where
   atoms_same (FixOp ds i) = refl
   atoms_same (CaseOp a bs) = refl
 
-  lam_same : (s : Scope) (b : AnfBlock) → lam_captured s (anf.renumber f b) ≡ lam_captured s b
+  pub lam_same : (s : Scope) (b : AnfBlock) → lam_captured s (anf.renumber f b) ≡ lam_captured s b
   lam_same s b = ap (captured (depth s)) (block_words_same (Plain s) b)
 
-  fix_same : (s : Scope) (ds : AnfDefs) → fix_captured s (anf.renumber_defs f ds) ≡ fix_captured s ds
+  pub fix_same : (s : Scope) (ds : AnfDefs) → fix_captured s (anf.renumber_defs f ds) ≡ fix_captured s ds
   fix_same s ds = ap (captured (depth s)) (op_words_same s (FixOp ds 0))
 
   entry_goes : (fr : List Slot) (i g : ℕ) (e : Entry) (next next' : List Slot → Block) → ((fr : List Slot) → next' fr ≡ renumber f (next fr)) → closure_for fr i g e next' ≡ renumber f (closure_for fr i g e next)

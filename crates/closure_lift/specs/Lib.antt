@@ -14,3 +14,5 @@ pub mod FreeVariables
 pub mod ScopeCode
 pub mod Variables
 pub mod Renumbers
+pub mod Frames
+pub mod Lifting

@@ -23,7 +23,7 @@ use std::alloc::{AllocError, Global};
 use type_infer::inference::Inference;
 
 /// As many units as a call has where the row doesn't tell.
-const UNITS: u64 = 1_000_000;
+pub const UNITS: u64 = 1_000_000;
 
 /// Runs a row of the layer.
 pub fn run(case: &Case, out: &mut String) -> Result<(), Fault> {
@@ -53,7 +53,7 @@ fn run_in(case: &Case, raw: &RawEnv, accepted: &Accepted, out: &mut String) -> R
 }
 
 /// An environment, checked.
-fn checked_of(alloc: Global, raw: &RawEnv) -> Result<Accepted, Fault>
+pub fn checked_of(alloc: Global, raw: &RawEnv) -> Result<Accepted, Fault>
     requires spelled { IsSpelled raw.now }
     ensures accepted { IfOk result (λ a. IsAccepted a.env) }
     ensures typed { IfOk result (λ a. Types guarded a.env [] a.main a.main_type) }

@@ -26,7 +26,7 @@ use Rattle.wasm_emit.specs.EmitLaws.{Finished, finished, Spent, spent, EmitAnswe
 use Rattle.wasm_emit.proofs.Bytes.{zeroed_word, zeroed_length}
 use Rattle.wasm_emit.proofs.Holds.{env_nil}
 use Rattle.wasm_emit.proofs.Rules.{Limits, Within, zeros, looser}
-use Rattle.wasm_emit.proofs.Places.{main_in, main_at, entries_length}
+use Rattle.wasm_emit.proofs.Indices.{main_in, main_at, entries_length}
 use Rattle.wasm_emit.proofs.Read.{reads}
 use Rattle.wasm_emit.proofs.Staged.{staged}
 use Rattle.wasm_emit.proofs.Source.{Gets}

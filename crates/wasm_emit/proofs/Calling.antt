@@ -25,7 +25,7 @@ use Rattle.wasm_emit.specs.CallLaws.{Stored, stored_odd, stored_block, FieldsSto
 use Rattle.wasm_emit.proofs.Bytes.{Mem}
 use Rattle.wasm_emit.proofs.Values.{Stands, s_empty, s_con, Fields, no_field, field, ArgsAt, args_none, args_more}
 use Rattle.wasm_emit.proofs.Rules.{Limits, Within, zeros, looser}
-use Rattle.wasm_emit.proofs.Places.{main_in, main_at}
+use Rattle.wasm_emit.proofs.Indices.{main_in, main_at}
 use Rattle.wasm_emit.proofs.Read.{reads, all_count}
 use Rattle.wasm_emit.proofs.Source.{Applies}
 use Rattle.wasm_emit.proofs.Staged.{staged_all}

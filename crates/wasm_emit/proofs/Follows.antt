@@ -31,7 +31,7 @@ use Rattle.wasm_emit.proofs.Rules.{Limits, Within, here, callee, zeros, looser, 
 use Rattle.wasm_emit.proofs.Alloc.{Room, HasRunTime}
 use Rattle.wasm_emit.proofs.Making.{all_size, put_atom, made}
 use Rattle.wasm_emit.proofs.Balance.{skip_heads_end}
-use Rattle.wasm_emit.proofs.Places.{length_map, constant_at, function_at, entry_at}
+use Rattle.wasm_emit.proofs.Indices.{length_map, constant_at, function_at, entry_at}
 use Rattle.wasm_emit.proofs.Cases.{Yields, pass_empties, take_empty, take_head, fewer_kept, at_zero}
 
 pub zeros_length : (n : ℕ) → length (zeros n) ≡ n

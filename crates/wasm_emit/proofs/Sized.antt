@@ -21,7 +21,7 @@ use Rattle.wasm_emit.specs.EmittedCode.{Load, Store, Const, IfWord, Place, InLoc
 use Rattle.wasm_emit.specs.EmittedLocals.{top, top_op, top_branches}
 use Rattle.wasm_emit.specs.EmitLaws.{CountsFit}
 use Rattle.wasm_emit.specs.Weight.{op_weight, weight, branches_weight, functions_weight, constants_weight, program_weight, EmitSized, LocalsBound}
-use Rattle.wasm_emit.proofs.Places.{row_length, entries_length}
+use Rattle.wasm_emit.proofs.Indices.{row_length, entries_length}
 use Rattle.wasm_emit.proofs.Lengths.{u_any, s_any, size, z_unreachable, z_if, z_else, z_end, z_op, z_call, z_indirect, z_get, z_set, z_global, z_load, z_store, z_const, body_size}
 
 abbrev Near : Place → Type 0

@@ -21,7 +21,7 @@ use Rattle.wasm_emit.specs.EmittedModule.{alloc_code, function, constant, main_f
 use Rattle.wasm_emit.specs.EmittedLocals.{top, top_op, top_branches}
 use Rattle.wasm_emit.specs.EmitLaws.{CountsFit, EmitSpelled}
 use Rattle.wasm_emit.proofs.Staged.{scoped}
-use Rattle.wasm_emit.proofs.Places.{row_length, entries_length}
+use Rattle.wasm_emit.proofs.Indices.{row_length, entries_length}
 use Rattle.wasm_emit.proofs.Valid.{function_typed, constant_typed, main_typed, box_typed, alloc_typed}
 
 -- instructions whose immediates have their bits

@@ -20,7 +20,7 @@ use Rattle.wasm_emit.specs.EmittedCode.{Load, Store, IfWord, Place, InLocal, InF
 use Rattle.wasm_emit.specs.EmittedLocals.{top, top_op, top_branches}
 use Rattle.wasm_emit.specs.EmittedModule.{module_with}
 use Rattle.wasm_emit.proofs.Scoped.{AtomOk, AtomsOk, OpOk, BlockOk, BranchesOk}
-use Rattle.wasm_emit.proofs.Places.{constant_in}
+use Rattle.wasm_emit.proofs.Indices.{constant_in}
 
 -- what is emitted stands in front of the rest
 read_front : (o : Option Place) (rest : List Instr) → read o rest ≡ read o [] ++ rest

@@ -23,7 +23,7 @@ use Rattle.wasm_emit.specs.EmittedLocals.{top}
 use Rattle.wasm_emit.specs.EmitLaws.{EmitValid}
 use Rattle.wasm_emit.proofs.Scoped.{BlockOk, ProgramOk}
 use Rattle.wasm_emit.proofs.Staged.{scoped}
-use Rattle.wasm_emit.proofs.Places.{row_length}
+use Rattle.wasm_emit.proofs.Indices.{row_length}
 use Rattle.wasm_emit.proofs.Typed.{AllWords, all_i32, Places, none, local, places_fields, add_zero, front_code, cons_front, ◌then◌, t_code, t_set, t_op, Front, front_op}
 
 -- a number by which the four names differ, and these numbers

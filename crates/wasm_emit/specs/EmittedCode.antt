@@ -10,6 +10,9 @@ use Rattle.wasm_core.specs.declared.instrs.Access.{Access}
 use Rattle.wasm_core.specs.declared.instrs.I32Op.TheVariants as op32
 use Rattle.wasm_core.specs.declared.instrs.Instr.{Instr}
 use Rattle.wasm_core.specs.declared.instrs.Instr.TheVariants.{Unreachable, If, Else, End, Call, CallIndirect, LocalGet, LocalSet, I32Load, I32Store, I32Const, I32 as Operation}
+-- where a variable's word is: in a local, or in a field of the block whose address is in a local
+pub use Rattle.wasm_emit.specs.declared.places.Place.{Place}
+pub use Rattle.wasm_emit.specs.declared.places.Place.TheVariants.{Local as InLocal, Field as InField}
 
 -- words in memory stand at multiples of 4
 abbrev pub at_offset : ℕ → Access
@@ -34,11 +37,6 @@ IfOnly = If Empty
 -- a call of a closure's function, by its entry of table 0; all have the type with number 3
 abbrev pub CallClosure : Instr
 CallClosure = CallIndirect 3 0
-
--- where a variable's word is: in a local, or in a field of the block whose address is in a local
-pub data Place : Type 0 where
-  InLocal : (x : ℕ) → Place
-  InField : (x offset : ℕ) → Place
 
 -- the n fields of a block, the last one first
 abbrev pub fields_of : ℕ → ℕ → List Place → List Place
@@ -65,6 +63,14 @@ abbrev pub block : List Place → ℕ → ℕ → List Atom → List Instr → L
 block env d header as' rest =
     Const (4 * suc (length as')) ∷ Call 0 ∷ LocalSet d ∷ LocalGet d ∷ Const header ∷ Store 0 ∷ fill env d as' (LocalGet d ∷ rest)
 
+-- a closure's function, whose entry of the table is the first word of its block, is called with the closure and the argument
+abbrev pub application : List Place → Atom → Atom → List Instr → List Instr
+application env f a rest = atom env f (atom env a (atom env f (Load 0 ∷ CallClosure ∷ rest)))
+
+-- a constructor with arguments
+abbrev pub construct : List Place → ℕ → ℕ → List Atom → List Instr → List Instr
+construct env d c as' rest = block env d (length as' * 65536 + c) as' rest
+
 -- functions 0 and 1 are of the run time; then come the program's functions, and its constants, and main
 abbrev pub constant_index : Program → ℕ → ℕ
 constant_index P x = suc (suc (length P.functions + x))
@@ -73,8 +79,8 @@ module _ (P : Program) where
   abbrev mutual
     pub op : List Place → ℕ → Op → List Instr → List Instr
     op env d (OConst x) rest = Call (constant_index P x) ∷ rest
-    op env d (OApp f a) rest = atom env f (atom env a (atom env f (Load 0 ∷ CallClosure ∷ rest)))
-    op env d (OCon c as') rest = block env d (length as' * 65536 + c) as' rest
+    op env d (OApp f a) rest = application env f a rest
+    op env d (OCon c as') rest = construct env d c as' rest
     op env d (OClos g as') rest = block env d (suc g) as' rest
     op env d (OCase a bs) rest = atom env a (LocalSet d ∷ empties env d 0 bs (heads env d 0 bs) rest)
 

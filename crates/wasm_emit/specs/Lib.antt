@@ -6,3 +6,4 @@ pub mod EmitLaws
 pub mod AnfLaws
 pub mod Weight
 pub mod CallLaws
+pub mod Pushed

@@ -9,8 +9,15 @@
 //! Below stand `closure_lift` (lifted programs and their evaluation) and `wasm_core` (modules, validity, runs).
 #![tactic(auto)]
 
+mod blocks;
+mod bodies;
+mod fault;
+mod instructions;
 mod laws;
+mod locals;
+mod places;
 
+pub use fault::EmitFault;
 pub use laws::{
     calls_of_main_answer, emitted_bytes_are_bounded, emitted_modules_are_valid,
     emitted_modules_can_be_spelled, emitted_runs_answer, programs_in_normal_form_answer,

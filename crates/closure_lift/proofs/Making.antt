@@ -1,0 +1,58 @@
+-- Closures that are made, and functions that are put in their places.
+use Rattle.std.proofs.Common.{◌≡◌, ℕ, zero, suc, ◌+◌, ◌-◌, ◌<◌, List, [], ◌∷◌, ◌++◌, length, take, drop, map, reverse, get_or, refl, sym, ap, ◌∙◌, arith, append_assoc}
+use Rattle.std.specs.Prelude.{slice_set}
+use Rattle.std.proofs.lemmas.List.{take_more, append-nil}
+use Rattle.anf_convert.specs.declared.program.Atom.{Atom}
+use Rattle.anf_convert.specs.declared.program.Atom.TheVariants.{Var as AVar, Box as ABox}
+use Rattle.anf_convert.specs.Captured.{Scope, Entry, Words, entry}
+use Rattle.closure_lift.specs.Lifted.{OClos, RetAtom, Bound, OpBound, Fn}
+use Rattle.closure_lift.specs.Lift.{Slot, held}
+use Rattle.closure_lift.specs.LiftedView.{seen, bounds_of, fn_of, functions_of}
+use Rattle.closure_lift.specs.FreeVariables.{all_words}
+use Rattle.closure_lift.specs.Lifting.{code_for, closure_frame, closure_code, closures_frame, closures_code, blanks}
+use Rattle.closure_lift.specs.declared.program.LiftedOp.{LiftedOp}
+use Rattle.closure_lift.specs.declared.program.Function.{Function}
+use Rattle.closure_lift.proofs.Backwards.{turned_step}
+use Rattle.closure_lift.proofs.Noting.{part_more}
+
+pub bounds_append : (xs ys : List LiftedOp) → bounds_of (xs ++ ys) ≡ bounds_of xs ++ bounds_of ys
+bounds_append [] ys = refl
+bounds_append (x ∷ xs) ys = ap (λ zs. seen x ∷ zs) (bounds_append xs ys)
+
+pub functions_append : (xs ys : List Function) → functions_of (xs ++ ys) ≡ functions_of xs ++ functions_of ys
+functions_append [] ys = refl
+functions_append (x ∷ xs) ys = ap (λ zs. fn_of x ∷ zs) (functions_append xs ys)
+
+pub functions_set : (fs : List Function) (at : ℕ) (f : Function) → functions_of (slice_set fs at f) ≡ slice_set (functions_of fs) at (fn_of f)
+functions_set [] zero f = refl
+functions_set [] (suc at) f = refl
+functions_set (x ∷ fs) zero f = refl
+functions_set (x ∷ fs) (suc at) f = ap (λ zs. fn_of x ∷ zs) (functions_set fs at f)
+
+pub blanks_more : (n : ℕ) → blanks (n + 1) ≡ blanks n ++ record { captured = 0; body = RetAtom ABox } ∷ []
+blanks_more zero = refl
+blanks_more (suc n) = ap blanks (let e : suc n + 1 ≡ suc (n + 1) = omega arith in e) ∙ ap (λ zs. record { captured = 0; body = RetAtom ABox } ∷ zs) (blanks_more n)
+
+words_end : (f : ℕ → List ℕ) (xs : List ℕ) (x : ℕ) → all_words f (xs ++ x ∷ []) ≡ all_words f xs ++ f x
+words_end f [] x = append-nil (f x)
+words_end f (y ∷ xs) x = ap (λ zs. f y ++ zs) (words_end f xs x) ∙ sym (append_assoc (f y) (all_words f xs) (f x))
+
+pub words_more : (f : ℕ → List ℕ) (xs : List ℕ) (i : ℕ) → i < length xs → all_words f (take (i + 1) xs) ≡ all_words f (take i xs) ++ f (get_or xs i 0)
+words_more f xs i lt = ap (all_words f) (take_more xs i 0 lt) ∙ words_end f (take i xs) (get_or xs i 0)
+
+-- the code that makes a fixpoint's closure
+pub closure_made : (s : Scope) (gs : List ℕ) (fr : List Slot) (i g n : ℕ) (ws : List ℕ) (as' : List Atom) → Words ws ≡ entry s i → g ≡ get_or gs i 0 → n ≡ g → as' ≡ map (held fr) ws → OpBound (OClos n as') ∷ [] ≡ closure_code s gs fr (AVar i)
+closure_made s gs fr i g n ws as' e eg en ea =
+    ap (λ k. OpBound (OClos k as') ∷ []) (en ∙ eg) ∙ ap (λ zs. OpBound (OClos (get_or gs i 0) zs) ∷ []) ea ∙ ap (code_for fr (get_or gs i 0)) e
+
+-- closures for one more atom, from the last on
+pub frame_on : (s : Scope) (fr : List Slot) (xs : List Atom) (p : ℕ) (d : Atom) {fr1 to : List Slot} → p < length xs → fr1 ≡ closure_frame s fr (get_or xs (length xs - 1 - p) d) →
+    closures_frame s fr (drop p (reverse xs)) ≡ to → closures_frame s fr1 (drop (p + 1) (reverse xs)) ≡ to
+frame_on s fr xs p d lt e inv = ap (λ z. closures_frame s z (drop (p + 1) (reverse xs))) e ∙ sym (ap (closures_frame s fr) (turned_step xs p d lt)) ∙ inv
+
+pub code_on : (s : Scope) (gs : List ℕ) (fr : List Slot) (xs : List Atom) (p : ℕ) (d : Atom) {fr1 : List Slot} (code : List Bound) {code1 to : List Bound} → p < length xs → fr1 ≡ closure_frame s fr (get_or xs (length xs - 1 - p) d) →
+    code1 ≡ code ++ closure_code s gs fr (get_or xs (length xs - 1 - p) d) → code ++ closures_code s gs fr (drop p (reverse xs)) ≡ to → code1 ++ closures_code s gs fr1 (drop (p + 1) (reverse xs)) ≡ to
+code_on s gs fr xs p d {fr1} code lt e ec inv =
+    let a = get_or xs (length xs - 1 - p) d in
+    let rest = drop (p + 1) (reverse xs) in
+    part_more code (closure_code s gs fr a) (closures_code s gs fr1 rest) ec (ap (closures_code s gs fr) (turned_step xs p d lt) ∙ ap (λ z. closure_code s gs fr a ++ closures_code s gs z rest) (sym e)) inv
