@@ -1,0 +1,42 @@
+//! The rows of the passes to closures. `row_files` has the format of rows.
+//!
+//! | Table | Calls |
+//! |---|---|
+//! | `closures` | `to_anf` of what the row's environment is erased to, without matches on proofs, and saturated |
+//!
+//! A program is printed one item a line, what stands inside indented. A variable is named by how many others are around it: `x0` is the
+//! outermost. What a block binds stands before its tail, as `x2 = App(x1, x0)`; a binding's variable is in scope only below. A fixpoint names its
+//! definitions, and which of them it is.
+#![tactic(auto)]
+
+mod anf;
+mod closures;
+mod erasing;
+mod items;
+
+use row_files::{Case, Fault, Table, run_tables};
+use std::io;
+
+/// The layers, each with a table.
+#[derive(Clone, Copy)]
+enum Layer {
+    Closures,
+}
+
+impl Table for Layer {
+    fn file(&self) -> &str {
+        match self {
+            Layer::Closures => "closures.rows",
+        }
+    }
+
+    fn run(&self, case: &Case, out: &mut String) -> Result<(), Fault> {
+        match self {
+            Layer::Closures => closures::run(case, out),
+        }
+    }
+}
+
+fn main(rt: HostRuntime) -> io::Result<()> {
+    run_tables(&rt, &[Layer::Closures])
+}
