@@ -5,7 +5,7 @@
 #
 # ERASEC is the program; without it the one that `rt ci` left in crates/erasec/out. Each tests/out/NAME.check.dump and NAME.run.dump must be accepted by
 # `check`; each NAME.run.dump with a NAME.value must have that value by `eval` and by `exec`, where the program has these jobs for it. A job that it hasn't yet
-# is told as skipped. Without coqc the whole is skipped.
+# is told as skipped, and a run that takes more turns than a job has is told apart: it says nothing of the value. Without coqc the whole is skipped.
 set -uo pipefail
 here=$(cd "$(dirname "$0")" && pwd)
 erasec=${1:-}
@@ -20,7 +20,7 @@ if [ ! -x "$erasec" ]; then
   echo "coq-dump: no erasec at '$erasec'; build it by rt run or rt ci, or name it"
   exit 2
 fi
-passed=0 failed=0 skipped=0
+passed=0 failed=0 skipped=0 spent=0
 pass() { passed=$((passed + 1)); }
 fail() { failed=$((failed + 1)); echo "coq-dump: FAILED $1"; }
 
@@ -44,6 +44,9 @@ for dump in out/*.dump; do
     run_job "$job" "$dump"
     if [ "$status" = 2 ] || grep -q '^unsupported Form' out/err; then
       skipped=$((skipped + 1))
+    elif [ "$status" = 8 ]; then
+      spent=$((spent + 1))
+      echo "coq-dump: $job $dump takes more turns than a job has"
     elif [ "$status" = 0 ] && [ "$answer" = "$(cat "$value")" ]; then
       pass
     else
@@ -52,5 +55,5 @@ for dump in out/*.dump; do
   done
 done
 [ "$skipped" = 0 ] || echo "coq-dump: $skipped runs skipped: the program has no such job for them yet"
-echo "coq-dump: $passed passed, $failed failed"
+echo "coq-dump: $passed passed, $failed failed, $spent without an answer within the turns"
 [ "$failed" = 0 ]
