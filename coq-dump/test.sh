@@ -5,7 +5,7 @@
 #
 # ERASEC is the program; without it the one that `rt ci` left in crates/erasec/out. Each tests/out/NAME.check.dump and NAME.run.dump must be accepted by
 # `check`; each NAME.run.dump with a NAME.value must have that value by `eval` and by `exec`, where the program has these jobs for it. A job that it hasn't yet
-# is told as skipped, and a run that takes more turns than a job has is told apart: it says nothing of the value. Without coqc the whole is skipped.
+# is told as skipped, and the one run that is known to take more turns than a job has is told apart: it says nothing of the value. Without coqc the whole is skipped.
 set -uo pipefail
 here=$(cd "$(dirname "$0")" && pwd)
 erasec=${1:-}
@@ -44,7 +44,7 @@ for dump in out/*.dump; do
     run_job "$job" "$dump"
     if [ "$status" = 2 ] || grep -q '^unsupported Form' out/err; then
       skipped=$((skipped + 1))
-    elif [ "$status" = 8 ]; then
+    elif [ "$status" = 8 ] && [ "$job $dump" = "eval out/well_founded.run.dump" ]; then
       spent=$((spent + 1))
       echo "coq-dump: $job $dump takes more turns than a job has"
     elif [ "$status" = 0 ] && [ "$answer" = "$(cat "$value")" ]; then
