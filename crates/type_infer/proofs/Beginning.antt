@@ -38,7 +38,9 @@ module _ (E : Env) (q : Test) (c : Context) (t : Term) where
   infer_nested zero m0 m1 m2 z h e n e' n' = follows_nested m0 m1 m2 h e n e' n'
   infer_nested (suc k) m0 m1 m2 z h e n e' n' = absurd (omega arith)
 
-  pub infer_entered : (n k : ℕ) (r : Result Term Halt) (m0 m1 m2 m3 m4 m5 : Meter) → n ≡ suc k → 0 < m0.account.left → m1.account ≡ ticked m0.account → m1.nest ≡ m0.nest → m2.account ≡ m1.account → m2.nest ≡ m1.nest + 1 → m3.account ≡ noted (rule_number t) m2.account → m3.nest ≡ m2.nest → Follows (rule E (infer E q k) (compare E q k) c t m3.account) r m3 m4 → m5.account ≡ m4.account → m5.nest ≡ m4.nest - 1 → Follows (infer E q n c t m0.account) r m0 m5
+  pub infer_entered : (n k : ℕ) (r : Result Term Halt) (m0 m1 m2 m3 m4 m5 : Meter) → n ≡ suc k → 0 < m0.account.left → m1.account ≡ ticked m0.account → m1.nest ≡ m0.nest →
+      m2.account ≡ m1.account → m2.nest ≡ m1.nest + 1 → m3.account ≡ noted (rule_number t) m2.account → m3.nest ≡ m2.nest →
+      Follows (rule E (infer E q k) (compare E q k) c t m3.account) r m3 m4 → m5.account ≡ m4.account → m5.nest ≡ m4.nest - 1 → Follows (infer E q n c t m0.account) r m0 m5
   unfolding infer
   infer_entered zero k r m0 m1 m2 m3 m4 m5 z h e n e' n' e2 n2 f e3 n3 = absurd (omega arith)
   infer_entered (suc j) k r m0 m1 m2 m3 m4 m5 z h e n e' n' e2 n2 f e3 n3 =

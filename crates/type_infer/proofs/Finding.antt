@@ -1,5 +1,5 @@
 -- Answers of the parts of rules, by what is found.
-use Rattle.std.proofs.Common.{◌≡◌, true, false, Result, Ok, Err, IfOk, IsTrue, refl, sym, ap, subst as transport}
+use Rattle.std.proofs.Common.{◌≡◌, ℕ, true, false, Result, Ok, Err, IfOk, IsTrue, refl, sym, ap, subst as transport}
 use Rattle.universe_levels.specs.declared.sort.Sort.{Sort}
 use Rattle.trees.specs.Measures.{IsBeyond}
 use Rattle.trees.proofs.Cutoffs.{subst-substitute}
@@ -19,7 +19,8 @@ use Rattle.pc_rules.specs.Same.{same}
 use Rattle.pc_rules.specs.Follows.{Follows, Answers, Halts}
 use Rattle.pc_rules.specs.DirectedRun.{Run, Done, is_beyond, bind, end_then, done, refused, make}
 use Rattle.pc_rules.specs.DirectedComparison.{Comparison}
-use Rattle.pc_rules.specs.DirectedTyping.{Typing, conv, sort_found, check, retype, app_found}
+use Rattle.pc_rules.specs.DirectedTyping.{Typing, infer, conv, sort_found, check, retype, app_found}
+use Rattle.pc_rules.specs.Entailment.{test_of}
 use Rattle.pc_rules.proofs.Following.{or_left, follows_done, follows_then, follows_else}
 
 pub bind_refused : {A B : Type 0} (b : Broken) (u : Account) (k : A → Account → Run B) → bind (refused b u) k ≡ refused b u
@@ -56,22 +57,25 @@ put_beyond a B f h e = transport (λ X. IsBeyond X) (subst-substitute a 0 B) (h 
 
 -- a type's weak-head normal form, where it is a sort
 
-module _ (inf : Typing) (c : Context) (T W : Term) (s : Sort) where
-  pub sort_found_same : (s' : Sort) (m : Meter) → SortT s ≡ W → same T W ≡ true → s' ≡ s → Follows (sort_found inf c T W m.account) (Ok s') m m
-  sort_found_same s' m e q p =
+module _ (E : Env) (n : ℕ) (c : Context) (T W : Term) (s : Sort) where
+  abbrev inf : Typing
+  inf = infer E (test_of E) n
+
+  pub sort_found_same : {s' : Sort} {m : Meter} → SortT s ≡ W → same T W ≡ true → s' ≡ s → Follows (sort_found inf c T W m.account) (Ok s') m m
+  sort_found_same {s' = s'} {m = m} e q p =
       transport (λ W. same T W ≡ true → Follows (sort_found inf c T W m.account) (Ok s') m m) e
       (λ q. follows_then (same T (SortT s)) _ _ (Ok s') m m q (follows_is s' s m p)) q
 
-  pub sort_found_goes : (r : Result Sort Halt) (m0 m1 : Meter) → SortT s ≡ W → same T W ≡ false →
+  pub sort_found_goes : {r : Result Sort Halt} {m0 m1 : Meter} → SortT s ≡ W → same T W ≡ false →
       Follows (bind (conv m0.account) (λ _ v. bind (inf c W v) (λ _ w. done s w))) r m0 m1 → Follows (sort_found inf c T W m0.account) r m0 m1
-  sort_found_goes r m0 m1 e q f =
+  sort_found_goes {r = r} {m0 = m0} {m1 = m1} e q f =
       transport (λ W. same T W ≡ false → Follows (bind (conv m0.account) (λ _ v. bind (inf c W v) (λ _ w. done s w))) r m0 m1 → Follows (sort_found inf c T W m0.account) r m0 m1) e
       (λ q f. follows_else (same T (SortT s)) _ _ r m0 m1 q f) q f
 
 -- and where it is a product
-pub product_found : (E : Env) (inf : Typing) (cmp : Comparison) (c : Context) (a T W A B : Term) (r : Result Term Halt) (m0 m1 : Meter) → Prod A B ≡ W →
+pub product_found : (E : Env) (inf : Typing) (cmp : Comparison) (c : Context) (a T : Term) {W A B : Term} {r : Result Term Halt} {m0 m1 : Meter} → Prod A B ≡ W →
     Follows (bind (retype E inf c T W m0.account) (λ _ v. bind (check E inf cmp c a A v) (λ _ w. make (substitute (put a) B) w))) r m0 m1 →
     Follows (app_found E inf cmp c a T W m0.account) r m0 m1
-product_found E inf cmp c a T W A B r m0 m1 e f =
+product_found E inf cmp c a T {A = A} {B = B} {r = r} {m0 = m0} {m1 = m1} e f =
     transport (λ W. Follows (bind (retype E inf c T W m0.account) (λ _ v. bind (check E inf cmp c a A v) (λ _ w. make (substitute (put a) B) w))) r m0 m1 →
     Follows (app_found E inf cmp c a T W m0.account) r m0 m1) e (λ f. f) f

@@ -85,9 +85,11 @@ module _ (E : Env) (inf : Typing) (c : Context) where
           Follows (types_rule E inf c i (list_of (types_of (drop i ds))) m.account) (Err (Stop (stop_of f))) m m
       types_fault f m p = rw (next_is ds i d h e) (type_fault i d.ty (list_of (types_of (drop (suc i) ds))) f m p)
 
-      -- the context under them
-      pub definitions_next : (S : Term) → S ≡ shift i 0 d.ty → definitions c i (types_of (drop i ds)) ≡ definitions (Assumed S ∷ c) (i + 1) (types_of (drop (i + 1) ds))
-      definitions_next S p = rw (next_is ds i d h e, p, add-one) refl
+-- the context under them
+
+pub definitions_next : (c : Context) (ds : List Def) (i : ℕ) (d : Def) → i < length ds → d ≡ get_or ds i d → (S : Term) → S ≡ shift i 0 d.ty →
+    definitions c i (types_of (drop i ds)) ≡ definitions (Assumed S ∷ c) (i + 1) (types_of (drop (i + 1) ds))
+definitions_next c ds i d h e S p = rw (next_is ds i d h e, p, add-one) refl
 
 pub definitions_done : (c : Context) (ds : List Def) (i : ℕ) → length ds ≤ i → definitions c i (types_of (drop i ds)) ≡ c
 definitions_done c ds i h = rw (drop_all i ds h) refl
@@ -97,15 +99,15 @@ definitions_done c ds i h = rw (drop_all i ds h) refl
 pub lift_beyond : (n : ℕ) (T : Term) (f : MakeFault) → (f ≡ DeepTerm → IsBeyond (lift n 0 T)) → f ≡ DeepTerm → IsBeyond (shift n 0 T)
 lift_beyond n T f h e = transport (λ X. IsBeyond X) (lift-shift n 0 T) (h e)
 
-module _ (E : Env) (inf : Typing) (cmp : Comparison) (c : Context) (n d rarg : ℕ) (T body : Term) where
-  pub few_lambdas : (m : Meter) → recursive_domain c rarg body ≡ None →
-      Follows (definition_rule E inf cmp c n d rarg T body m.account) (Err (Refusal (NotEnoughAbstractions d))) m m
-  few_lambdas m e = rw e (follows_err _ _ _ m m (follows_refused (NotEnoughAbstractions d) m))
+module _ (D : Def) (E : Env) (inf : Typing) (cmp : Comparison) (c : Context) (n d : ℕ) where
+  pub few_lambdas : {m : Meter} → recursive_domain c D.rarg D.body ≡ None →
+      Follows (definition_rule E inf cmp c n d D.rarg D.ty D.body m.account) (Err (Refusal (NotEnoughAbstractions d))) m m
+  few_lambdas {m = m} e = rw e (follows_err _ _ _ m m (follows_refused (NotEnoughAbstractions d) m))
 
-  pub lambdas_found : (q : Context × Term) (r : Result (Unit {0}) Halt) (m0 m1 : Meter) → recursive_domain c rarg body ≡ Some q →
-      Follows (bind (make (shift n 0 T) m0.account) (λ S w. bind (check E inf cmp c body S w) (λ _ x. bind (whnf E (values q.0) q.1 x) (λ W y. family_found W y)))) r m0 m1 →
-      Follows (definition_rule E inf cmp c n d rarg T body m0.account) r m0 m1
-  lambdas_found q r m0 m1 e f = rw e (follows_bind _ _ q r m0 m0 m1 (follows_done q m0) f)
+  pub lambdas_found : {q : Context × Term} {r : Result (Unit {0}) Halt} {m0 m1 : Meter} → recursive_domain c D.rarg D.body ≡ Some q →
+      Follows (bind (make (shift n 0 D.ty) m0.account) (λ S w. bind (check E inf cmp c D.body S w) (λ _ x. bind (whnf E (values q.0) q.1 x) (λ W y. family_found W y)))) r m0 m1 →
+      Follows (definition_rule E inf cmp c n d D.rarg D.ty D.body m0.account) r m0 m1
+  lambdas_found {q = q} {r = r} {m0 = m0} {m1 = m1} e f = rw e (follows_bind _ _ q r m0 m0 m1 (follows_done q m0) f)
 
 pub is_family : (W : Term) (b : Bool) (m : Meter) → b ≡ is_a_family (head W) → b ≡ true → Follows (family_found W m.account) (Ok tt) m m
 is_family W b m e p = follows_then (is_a_family (head W)) _ _ _ m m (sym e ∙ p) (follows_done tt m)

@@ -7,3 +7,4 @@ pub mod GuardConditions
 mod Answering
 mod MatchLists
 mod Matching
+mod Steps

@@ -6,6 +6,7 @@ use Rattle.trees.specs.Measures.{IsBeyond}
 use Rattle.trees.proofs.Cutoffs.{subst_list-substitute}
 use Rattle.pc_terms.specs.declared.leaf.FamilyId.{FamilyId}
 use Rattle.pc_terms.specs.declared.term.Branch.{Branch}
+use Rattle.pc_terms.specs.declared.term.Match.{Match}
 use Rattle.pc_terms.specs.declared.term.MakeFault.{MakeFault}
 use Rattle.pc_terms.specs.declared.term.MakeFault.TheVariants.{TooDeep as DeepTerm, Memory as NoTerm}
 use Rattle.pc_terms.specs.Lists.{arms_of}
@@ -35,6 +36,7 @@ use Rattle.rule_laws.proofs.Counted.{apply_counted, appended_counted, args_count
 use Rattle.rule_laws.proofs.CountedParts.{ind_counted}
 use Rattle.rule_laws.proofs.KeepCounts.{values_counted, steps_counted}
 use Rattle.type_infer.specs.Ready.{IsReady}
+use Rattle.type_infer.proofs.Steps.{and_then, halts, still}
 use Rattle.type_infer.specs.Entering.{entries_entered}
 use Rattle.pc_rules.proofs.ListSteps.{next_is, none_left, min_either, listed}
 use Rattle.rule_laws.proofs.MatchRule.{dropped_counted}
@@ -231,42 +233,43 @@ module _ (E : Env) (inf : Typing) (cmp : Comparison) (c : Context) (f : FamilyId
   branches_end i m h =
       subst (λ x. Follows x (Ok tt) m m) (sym (branches_short i m.account (min_either (length Cs) (length bs) i h))) (follows_done tt m)
 
--- the whole rule, by the block that is kept and the lists of the match
-module _ (E : Env) (inf : Typing) (cmp : Comparison) (c : Context) (f : FamilyId) (ps : List Term) (n : ℕ) (ret t : Term) (bs : List Branch) where
+-- the whole rule, by the block that is kept
+module _ (x : Match) (E : Env) (inf : Typing) (cmp : Comparison) (c : Context) where
+  abbrev whole : Account → Run Term
+  whole u = case_rule E inf cmp c x.family (terms_of x.params) x.binders x.ret x.scrut (arms_of x.branches) u
+
   abbrev after_branches : List Term → Unit {0} → Account → Run Term
-  after_branches is _ r = make (predicate_at ret is t) r
+  after_branches is _ r = make (predicate_at x.ret is x.scrut) r
 
   abbrev after_scrutinee : FamilyDecl → List Term → List Term → Account → Run Term
-  after_scrutinee F ps is z = bind (branches_rule E inf cmp c f 0 F.constructors ps ret (list_of (arms_of bs)) z) (after_branches is)
+  after_scrutinee F ps is z = bind (branches_rule E inf cmp c x.family 0 F.constructors ps x.ret (list_of (arms_of x.branches)) z) (after_branches is)
 
   abbrev after_predicate : FamilyDecl → List Term → Unit {0} → Account → Run Term
-  after_predicate F ps _ y = bind (scrutinee_rule E inf cmp c f F ps t y) (after_scrutinee F ps)
+  after_predicate F ps _ y = bind (scrutinee_rule E inf cmp c x.family F ps x.scrut y) (after_scrutinee F ps)
 
   abbrev after_parameters : Option Block → FamilyDecl → List Term → Unit {0} → Account → Run Term
-  after_parameters o F ps _ x = bind (predicate_rule E inf c o f F ps ret x) (after_predicate F ps)
+  after_parameters o F ps _ w = bind (predicate_rule E inf c o x.family F ps x.ret w) (after_predicate F ps)
 
   abbrev after_counts : Option Block → FamilyDecl → List Term → Unit {0} → Account → Run Term
   after_counts o F ps _ w = bind (check_all E inf cmp c Rel ps F.parameters w) (after_parameters o F ps)
 
   abbrev after_family : Option Block → List Term → FamilyDecl → Account → Run Term
-  after_family o qs F v = bind (match_counted F (terms_of ps) n (arms_of bs) v) (after_counts o F qs)
+  after_family o ps F v = bind (match_counted F (terms_of x.params) x.binders (arms_of x.branches) v) (after_counts o F ps)
 
   abbrev kept_block : Option Block
-  kept_block = whole_block (kept_at E.declarations f.block)
+  kept_block = whole_block (kept_at E.declarations x.family.block)
 
   -- from the family on
-  pub case_goes : (B : Block) (F : FamilyDecl) (r : Result Term Halt) (m0 m1 : Meter) → kept_block ≡ Some B → Answers (find_family f kept_block m0.account) (Ok F) m0.account →
-      Follows (after_family (Some B) ps F m0.account) r m0 m1 → Follows (case_rule E inf cmp c f (terms_of ps) n ret t (arms_of bs) m0.account) r m0 m1
-  case_goes B F r m0 m1 e k h =
-      let h1 : Follows (after_family kept_block ps F m0.account) r m0 m1 = subst (λ o. Follows (after_family o ps F m0.account) r m0 m1) (sym e) h in
-      let h2 : Follows (after_family kept_block (list_of (terms_of ps)) F m0.account) r m0 m1 =
-      subst (λ qs. Follows (after_family kept_block qs F m0.account) r m0 m1) (sym (listed ps)) h1 in
-      follows_bind (find_family f kept_block m0.account) (after_family kept_block (list_of (terms_of ps))) F r m0 m0 m1 (follows_still (find_family f kept_block m0.account) (Ok F) m0 k) h2
+  pub case_goes : {B : Block} {F : FamilyDecl} {r : Result Term Halt} {m0 m1 : Meter} → kept_block ≡ Some B → Answers (find_family x.family kept_block m0.account) (Ok F) m0.account →
+      Follows (after_family (Some B) x.params F m0.account) r m0 m1 → Follows (whole m0.account) r m0 m1
+  case_goes {F = F} {r = r} {m0 = m0} {m1 = m1} e k h =
+      let h1 : Follows (after_family kept_block x.params F m0.account) r m0 m1 = subst (λ o. Follows (after_family o x.params F m0.account) r m0 m1) (sym e) h in
+      let h2 : Follows (after_family kept_block (list_of (terms_of x.params)) F m0.account) r m0 m1 =
+      subst (λ qs. Follows (after_family kept_block qs F m0.account) r m0 m1) (sym (listed x.params)) h1 in
+      and_then (after_family kept_block (list_of (terms_of x.params))) (still k) h2
 
-  pub case_unknown : (x : Halt) (m : Meter) → Halts (find_family f kept_block m.account) x m.account →
-      Follows (case_rule E inf cmp c f (terms_of ps) n ret t (arms_of bs) m.account) (Err x) m m
-  case_unknown x m h =
-      follows_err (find_family f kept_block m.account) (after_family kept_block (list_of (terms_of ps))) x m m (follows_still (find_family f kept_block m.account) (Err x) m h)
+  pub case_unknown : {h : Halt} {m : Meter} → Halts (find_family x.family kept_block m.account) h m.account → Follows (whole m.account) (Err h) m m
+  case_unknown h = halts (after_family kept_block (list_of (terms_of x.params))) (still h)
 
 -- the predicate at indices and a scrutinee is beyond the limits, or there is no memory for it
 pub pred_fault : (ret : Term) (is : List Term) (t : Term) (f : MakeFault) (m : Meter) → (f ≡ DeepTerm → IsTrue (is_beyond (predicate_at ret is t))) →

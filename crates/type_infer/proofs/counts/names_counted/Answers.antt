@@ -16,7 +16,10 @@ returns-in_err-counted c =
     let k : c.loop-i.i < length c.as_slice-bodies.result.now = grind arith in
     let p = err_from_is_err_and c.from_residual.result c.from_residual.ensures.1 in
     let f = rw (c.len.ensures.is, ← c.index-listed-i.is, ← c.index-bodies-i.is) at c.in_err-counted.ensures.answers in
-    rw (p.1, p.2) (record { answers = λ u. rw (← c.as_slice-listed.ensures.is, ← c.as_slice-bodies.ensures.is) (c.loop-i.invariant u (Err c.in_err-counted.field-0.0) (names_stop _ _ c.loop-i.i c.index-listed-i.result c.index-bodies-i.result u c.in_err-counted.field-0.0 h k c.index-listed-i.is c.index-bodies-i.is (f u))) })
+    rw (p.1, p.2) (record {
+      answers = λ u. rw (← c.as_slice-listed.ensures.is, ← c.as_slice-bodies.ensures.is) (c.loop-i.invariant u (Err c.in_err-counted.field-0.0)
+          (names_stop _ _ c.loop-i.i c.index-listed-i.result c.index-bodies-i.result u c.in_err-counted.field-0.0 h k c.index-listed-i.is c.index-bodies-i.is (f u)));
+    })
 
 pub returns : goal.returns
 returns c =
