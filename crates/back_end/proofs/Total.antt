@@ -110,7 +110,7 @@ module _ (P : BoxProgram) (form : IsBoxProgram P) where
     prepared_all Done h few = tt
     prepared_all (Next n t ts) h few = (prepared t h.0 few.0, prepared_all ts h.1 few.1)
 
-suffices : (P : BoxProgram) (m : ℕ) → IsWithin P m → IsReady (saturated_program P) × ProgramFits (saturated_program P) m
+pub suffices : (P : BoxProgram) (m : ℕ) → IsWithin P m → IsReady (saturated_program P) × ProgramFits (saturated_program P) m
 suffices P m ok =
     let S = saturated_program P in
     let form = passes_form P ok.form in

@@ -1,3 +1,4 @@
 pub mod BackEnd
 pub mod StepsAtLeast
 pub mod StepsAndMemory
+pub mod ModuleSizes

@@ -4,12 +4,13 @@
 //! brought into A-normal form and lifted; `module_of` of `wasm_emit` is its module. Where main of a program of the form evaluates by substitution to data,
 //! every run of that module answers the data or is exhausted after a refused grow (`modules_answer`, clause `runs`), within bounds on steps and memory that
 //! the number of nodes of the evaluation gives (`steps_and_memory_are_bounded`), and no sooner than after as many steps as there are matches
-//! (`answers_take_as_many_steps_as_matches`). Nothing is asked of the program's source.
+//! (`answers_take_as_many_steps_as_matches`). Its shortest bytes and its locals are bounded by the nodes of the saturated program (`modules_are_small`). Nothing is asked of the program's source.
 //!
 //! Below stand the crates of the passes, `lambda_box` and `wasm_emit`.
 #![tactic(auto)]
 
 ghost use Rattle.back_end.specs.BackEnd.{ModulesAnswer, ModulesAreValid, ModulesCanBeSpelled};
+ghost use Rattle.back_end.specs.ModuleSizes.{LocalsAreFew, ModulesAreSmall};
 ghost use Rattle.back_end.specs.StepsAndMemory.{StepsAndMemoryAreBounded};
 ghost use Rattle.back_end.specs.StepsAtLeast.{AnswersTakeAsManySteps};
 
@@ -30,4 +31,13 @@ pub fn steps_and_memory_are_bounded()
 /// Each run of the module of a saturated program that returns has made at least as many steps as the evaluation of main by substitution has matches.
 pub fn answers_take_as_many_steps_as_matches()
     ensures least { AnswersTakeAsManySteps }
+{}
+
+/// The shortest bytes of the module are at most `64 * s * W + 4,096`, where s is the number of nodes of the saturated program and W the program's words. So
+/// a module has over 16,777,216 bytes only where that number is greater.
+///
+/// A function of it has over 50,000 locals besides its parameters only where s is over 50,000.
+pub fn modules_are_small()
+    ensures bytes { ModulesAreSmall }
+    ensures locals { LocalsAreFew }
 {}

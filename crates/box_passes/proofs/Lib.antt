@@ -24,3 +24,4 @@ pub mod Finding
 pub mod Dropping
 pub mod Heading
 pub mod PassResults
+pub mod Narrow

@@ -1,25 +1,22 @@
 -- How values are entered, and fixpoints opened, on both sides of saturation.
-use Rattle.std.proofs.Common.{◌≡◌, ℕ, zero, suc, ◌+◌, ◌*◌, ◌<◌, ◌≤◌, List, [], ◌∷◌, ◌++◌, length, true, Some, refl, sym, ap, ◌∙◌, subst, ⊎_elim, arith, length-append}
-use Rattle.std.proofs.lemmas.Bool.{cases_lt}
+use Rattle.std.proofs.Common.{◌≡◌, ℕ, suc, ◌+◌, ◌*◌, ◌<◌, ◌≤◌, List, [], ◌∷◌, ◌++◌, length, Some, refl, sym, ap, ◌∙◌, subst, arith}
 use Rattle.std.specs.Prelude.{slice_get}
-use Rattle.trees.specs.Tree.{Rel, Done, Next, term_at}
-use Rattle.trees.specs.Parallel.{put, put_all, substitute}
+use Rattle.trees.specs.Tree.{term_at}
+use Rattle.trees.specs.Parallel.{put, substitute}
 use Rattle.trees.specs.Closed.{Closed}
 use Rattle.pc_terms.specs.declared.leaf.Name.{Name}
 use Rattle.pc_terms.specs.declared.leaf.FamilyId.{FamilyId}
-use Rattle.pc_terms.specs.BoxSyntax.{BoxTerm, BoxTerms, Box, BLambda, BApp, BConstruct, BCase, BFix}
-use Rattle.lambda_box.specs.BoxProgram.{BoxFamily, BoxProgram, Has, KeepsBoxConstant, KeepsBoxFamily, box_apply, boxes}
+use Rattle.pc_terms.specs.BoxSyntax.{BoxTerm, BoxTerms, Box, BLambda, BApp, BFix}
+use Rattle.lambda_box.specs.BoxProgram.{BoxFamily, BoxProgram, Has, KeepsBoxConstant, box_apply}
 use Rattle.lambda_box.specs.BoxForm.{IsFixBody, boxed, last, more}
-use Rattle.lambda_box.specs.BoxEvaluation.{box_is, IsBoxConstructor, is_box_constructor, BoxTakesMore, constructor, fixpoint, box_unfolded, BoxUnfolds, unfolds, BoxEvaluates, value, constant, let_in, beta, box_app, extend, unfold_fix, enter, enter_only}
-use Rattle.box_passes.specs.Saturate.{innermost, lambdas, constructor_function}
-use Rattle.lambda_box.specs.ClosureEvaluation.{Value, VBox, VConstruct, VClosure, VFix, Values, NoValue, Then, Env, Empty, Bind, BindFix, bind_all, box_values, size, Held, Holds, Defines, held_value, Finds, found, later, Counts, nothing, constructor_block, ◌⊕◌, Run, run_box}
-use Rattle.lambda_box.specs.ClosureEvaluation.{run_value, run_definition, run_lambda, run_fix, run_constant, run_let, run_app, run_box_app, run_fix_app, run_fix_box, run_construct, run_match, run_only, RunArgs, run_head, run_arg}
-use Rattle.lambda_box.proofs.Spines.{head_of, arguments, arguments_before, constructor_head, constructor_arguments, fix_head, fix_arguments, closed_evaluates, one_item}
-use Rattle.box_passes.proofs.Standing as standing
-use Rattle.box_passes.proofs.Standing.{IsValue, is_box, is_lambda, is_fix, is_part, is_part_box, is_construct, is_waiting, Stands, StandTerms, none, next, StandBody, body_boxed, body_last, body_more, StandDefs, StandArgs, args_head, args_dropped, args_kept, Made, made_head}
-use Rattle.box_passes.proofs.Standing.{made_dropped, made_kept, Waits, waits_head, waits_more, Part, part_fix, part_app, part_box, closed_value, closed_stands}
-use Rattle.box_passes.proofs.Selves.{made_is, made_count, waits_is, waits_count, part_is, part_no_construct, index_of, rargs_of, bodies_of, no_fix, no_lambda, no_box, construct_not_unfolded, unfolded_now, self, quiet}
-use Rattle.box_passes.proofs.Filling.{stands_one, body_one, stands_boxes, made_size, stands_made, def_at, slice_found, body_unfolded}
+use Rattle.lambda_box.specs.BoxEvaluation.{box_is, BoxTakesMore, constructor, fixpoint, box_unfolded, BoxUnfolds, unfolds, BoxEvaluates, value, beta, box_app, extend, unfold_fix}
+use Rattle.lambda_box.specs.ClosureEvaluation.{Value, VBox, VClosure, VFix, Values, Env, Bind, BindFix, Counts, ◌⊕◌, Run}
+use Rattle.lambda_box.specs.ClosureEvaluation.{run_app, run_box_app, run_fix_app, run_fix_box, RunArgs}
+use Rattle.lambda_box.proofs.Spines.{head_of, arguments, arguments_before, constructor_head, fix_head, fix_arguments, one_item}
+use Rattle.box_passes.proofs.Standing.{IsValue, is_box, is_lambda, is_fix, is_part, is_part_box, is_construct, is_waiting, Stands, StandBody, body_boxed, body_last, body_more, Made}
+use Rattle.box_passes.proofs.Standing.{Part, part_fix, part_app, part_box}
+use Rattle.box_passes.proofs.Selves.{made_is, waits_is, part_is, index_of, rargs_of, bodies_of, no_fix, no_lambda, no_box, self, quiet}
+use Rattle.box_passes.proofs.Filling.{body_one, def_at, slice_found, body_unfolded}
 use Rattle.lambda_box.proofs.Spines.{same_body}
 
 abbrev pub Bare : BoxProgram → Type 0

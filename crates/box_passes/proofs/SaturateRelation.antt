@@ -1,28 +1,19 @@
 -- The relation between terms before and after saturation, by substitution on both sides.
-use Rattle.std.proofs.Common.{◌≡◌, ℕ, zero, suc, ◌+◌, ◌-◌, ◌<◌, ◌≤◌, List, [], ◌∷◌, ◌++◌, length, map, drop, true, Some, refl, sym, ap, ◌∙◌, subst, ⊎_elim, arith, length-append, append_assoc, append-nil}
-use Rattle.std.proofs.lemmas.Bool.{cases_lt}
+use Rattle.std.proofs.Common.{◌≡◌, ℕ, zero, suc, ◌+◌, ◌-◌, ◌<◌, ◌≤◌, List, [], ◌∷◌, ◌++◌, length, Some, refl, sym, ap, ◌∙◌, subst, arith, length-append}
 use Rattle.std.specs.Prelude.{slice_get}
 use Rattle.trees.specs.Tree.{Rel, Done, Next, term_at}
-use Rattle.trees.specs.Parallel.{ups, rename, over, overs, first, put, put_all, substitute, substitute_terms, rename_terms}
-use Rattle.trees.specs.Closed.{Closed, ClosedEach}
-use Rattle.trees.proofs.Bounds.{closed_at}
-use Rattle.trees.proofs.Cutoffs.{overs_below, overs_past}
-use Rattle.trees.proofs.Put.{each_append, substitute_whole, overs_over}
+use Rattle.trees.specs.Parallel.{ups, rename, over, overs, first, put_all, substitute, substitute_terms, rename_terms}
+use Rattle.trees.specs.Closed.{Closed}
+use Rattle.trees.proofs.Put.{substitute_whole}
 use Rattle.pc_terms.specs.declared.leaf.Name.{Name}
 use Rattle.pc_terms.specs.declared.leaf.FamilyId.{FamilyId}
 use Rattle.pc_terms.specs.BoxSyntax.{BoxTerm, BoxTerms, Box, BLambda, BLetIn, BApp, BConst, BConstruct, BCase, BFix}
-use Rattle.lambda_box.specs.BoxProgram.{BoxFamily, BoxProgram, KeepsBoxConstant, KeepsBoxFamily, box_apply, boxes, box_fixpoints}
-use Rattle.lambda_box.specs.BoxEvaluation.{box_is, lambda_is, construct_is, fix_is, IsBoxConstructor, is_box_constructor, BoxTakesMore, constructor, fixpoint, box_unfolded, BoxUnfolds, unfolds, BoxEvaluates, value, constant, let_in, beta, box_app, extend, unfold_fix, enter, enter_only}
-use Rattle.lambda_box.specs.BoxData.{Data, BoxReads, BoxReadsAll, box_reads, no_box_field, box_field}
+use Rattle.lambda_box.specs.BoxProgram.{BoxFamily, BoxProgram, KeepsBoxFamily, box_apply, boxes, box_fixpoints}
 use Rattle.box_passes.specs.Saturate.{innermost, lambdas}
-use Rattle.lambda_box.proofs.Spines.{head_of, arguments, arguments_before, constructor_head, constructor_arguments, one_item, closed_put, closed_put_all, of_closed_apply, of_closed_append, closed_term_at, closed_evaluates, closed_unfolds, closed_boxes, boxes_number}
+use Rattle.lambda_box.proofs.Spines.{head_of, arguments, one_item}
 use Rattle.box_passes.proofs.Standing.{rename_whole}
-use Rattle.box_passes.proofs.Selves.{one_more, no_fix, no_lambda, no_box, construct_not_unfolded}
-use Rattle.box_passes.proofs.Opening.{apply_last, lambda_takes_none}
-use Rattle.box_passes.proofs.Follows.{family_name, constructor_number}
-use Rattle.box_passes.proofs.Filling.{drop_first, drop_before}
-use Rattle.box_passes.proofs.Keeping.{drop_everything}
-use Rattle.box_passes.proofs.Results.{IsResult, result_value, result_more, result_of, itself, same}
+use Rattle.box_passes.proofs.Selves.{one_more}
+use Rattle.box_passes.proofs.Results.{IsResult}
 
 -- the function that a constructor is when it waits for suc m more, with the arguments that it has
 abbrev pub waiting : ℕ → ℕ → FamilyId → ℕ → List BoxTerm → BoxTerm

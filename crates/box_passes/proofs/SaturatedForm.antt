@@ -1,5 +1,5 @@
 -- The saturated program has the form of programs, and is saturated.
-use Rattle.std.proofs.Common.{◌≡◌, ◌≢◌, ℕ, zero, suc, ◌+◌, ◌<◌, ◌≤◌, if◌then◌else◌, List, [], ◌∷◌, length, drop, map, get_or, AllPairs, Some, refl, sym, ap, ◌∙◌, subst, ⊎_elim, arith, length-drop}
+use Rattle.std.proofs.Common.{◌≡◌, ℕ, zero, suc, ◌+◌, ◌<◌, ◌≤◌, if◌then◌else◌, List, [], ◌∷◌, length, drop, map, Some, refl, sym, ap, ◌∙◌, subst, ⊎_elim, arith, length-drop}
 use Rattle.std.proofs.lemmas.Bool.{cases_lt, le-leb, lt-leb}
 use Rattle.std.specs.Prelude.{slice_get}
 use Rattle.trees.specs.Tree.{Rel, Done, Next}
@@ -9,7 +9,7 @@ use Rattle.trees.proofs.Bounds.{closed_at}
 use Rattle.pc_terms.specs.declared.leaf.Name.{Name}
 use Rattle.pc_terms.specs.declared.leaf.FamilyId.{FamilyId}
 use Rattle.pc_terms.specs.BoxSyntax.{BoxTerm, BoxTerms, Box, BLambda, BLetIn, BApp, BConst, BConstruct, BCase, BFix}
-use Rattle.lambda_box.specs.BoxProgram.{BoxConstant, BoxFamily, BoxProgram, Has, here, there, Named, NamesKept, box_apply}
+use Rattle.lambda_box.specs.BoxProgram.{BoxConstant, BoxFamily, BoxProgram, Has, Named, NamesKept, box_apply}
 use Rattle.lambda_box.specs.BoxForm.{IsFixBody, boxed, last, more, AreFixBodies, HasBoxForm, HasBoxFormTerms, IsBoxBody, AreOrdered, HasFewCounts, IsBoxProgram}
 use Rattle.trees.specs.Closed.{EveryTerm}
 use Rattle.lambda_box.specs.OrdinaryForm.{family_of}

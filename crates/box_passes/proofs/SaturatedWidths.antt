@@ -5,7 +5,7 @@ use Rattle.std.specs.Prelude.{slice_get}
 use Rattle.trees.specs.Tree.{Rel, Done, Next}
 use Rattle.pc_terms.specs.declared.leaf.FamilyId.{FamilyId}
 use Rattle.pc_terms.specs.BoxSyntax.{BoxTerm, BoxTerms, Box, BLambda, BLetIn, BApp, BConst, BConstruct, BCase, BFix}
-use Rattle.lambda_box.specs.BoxProgram.{BoxConstant, BoxFamily, Has, here, there, box_apply}
+use Rattle.lambda_box.specs.BoxProgram.{BoxConstant, BoxFamily, BoxProgram, Has, here, there, box_apply}
 use Rattle.lambda_box.specs.DataTerms.{binder_depth, binder_depth_terms, binder_depth_constants, greatest_arguments}
 use Rattle.lambda_box.specs.OrdinaryForm.{family_of}
 use Rattle.box_passes.specs.Saturate.{innermost, lambdas, constructor_function, saturate_counted, saturate_arguments, saturate_family, saturate_applied, saturate_terms, saturate_term, saturate_constant, without_parameters, saturate_program}
@@ -75,14 +75,20 @@ constant_small [] d h = elim h [ ]
 constant_small (e ∷ cs) d here = omega arith
 constant_small (e ∷ cs) d (there h) = omega (arith, constant_small cs d h)
 
+abbrev pub most_depth : BoxProgram → ℕ
+most_depth P = max (binder_depth P.main) (binder_depth_constants P.constants)
+
+-- the terms of the saturated program
+pub main_fits : (P : BoxProgram) → FitsTerm (greatest_arguments P.families) (most_depth P) (saturate_program P).main
+main_fits P = fits_applied (greatest_arguments P.families) P.families (arguments_small P.families) (most_depth P) P.main [] (omega arith) tt
+
+pub constant_fits : (P : BoxProgram) (d : BoxConstant) → Has (saturate_program P).constants d → FitsTerm (greatest_arguments P.families) (most_depth P) d.body
+constant_fits P d at =
+    let r = of_has_map (saturate_constant P.families) P.constants at in
+    subst (λ e. FitsTerm (greatest_arguments P.families) (most_depth P) e.body) r.2 (fits_applied (greatest_arguments P.families) P.families (arguments_small P.families) (most_depth P) r.0.body [] (omega (arith, constant_small P.constants r.0 r.1)) tt)
+
 pub saturated_widths : SaturatedWidths
 saturated_widths P ok v c run =
-    let A = greatest_arguments P.families in
-    let D = max (binder_depth P.main) (binder_depth_constants P.constants) in
-    main_small D A (saturate_program P)
-    (λ k b at.
-    let r = of_has_map (saturate_constant P.families) P.constants at in
-    let fits = fits_applied A P.families (arguments_small P.families) D r.0.body [] (omega (arith, constant_small P.constants r.0 r.1)) tt in
-    subst (λ d. FitsTerm A D d.body) r.2 fits)
+    main_small (most_depth P) (greatest_arguments P.families) (saturate_program P) (λ k b at. constant_fits P (record { name = k; body = b }) at)
     (λ f F i n kept at. let r = of_has_map without_parameters P.families kept.0 in arguments_small P.families r.0 i n r.1 (ap (λ F. slice_get F.args i) r.2 ∙ at))
-    run (fits_applied A P.families (arguments_small P.families) D P.main [] (omega arith) tt)
+    run (main_fits P)

@@ -1,6 +1,6 @@
 -- The saturated term is what its term stands for.
-use Rattle.std.proofs.Common.{◌≡◌, ◌≢◌, ℕ, zero, suc, ◌+◌, ◌-◌, ◌<◌, ◌≤◌, Bool, true, false, ◌&&◌, ◌==◌, if◌then◌else◌, List, [], ◌∷◌, length, drop, map, get_or, AllPairs, Some, refl, sym, ap, ◌∙◌, subst, ⊎_elim, arith}
-use Rattle.std.proofs.lemmas.Bool.{cases_lt, le-leb, lt-leb, eqb-true, eq-eqb}
+use Rattle.std.proofs.Common.{◌≡◌, ℕ, zero, suc, ◌+◌, ◌-◌, ◌<◌, ◌≤◌, if◌then◌else◌, List, [], ◌∷◌, length, drop, Some, refl, sym, ap, subst, ⊎_elim, arith}
+use Rattle.std.proofs.lemmas.Bool.{cases_lt, le-leb, lt-leb}
 use Rattle.std.specs.Prelude.{slice_get}
 use Rattle.trees.specs.Tree.{Rel, Done, Next}
 use Rattle.trees.specs.Closed.{Closed, ClosedTerms}
@@ -8,12 +8,12 @@ use Rattle.trees.proofs.Bounds.{closed_at}
 use Rattle.pc_terms.specs.declared.leaf.Name.{Name}
 use Rattle.pc_terms.specs.declared.leaf.FamilyId.{FamilyId}
 use Rattle.pc_terms.specs.BoxSyntax.{BoxTerm, BoxTerms, Box, BLambda, BLetIn, BApp, BConst, BConstruct, BCase, BFix}
-use Rattle.lambda_box.specs.BoxProgram.{BoxFamily, BoxProgram, Has, here, there, KeepsBoxConstant, KeepsBoxFamily, box_apply}
+use Rattle.lambda_box.specs.BoxProgram.{BoxFamily, BoxProgram, Has, KeepsBoxConstant, KeepsBoxFamily, box_apply}
 use Rattle.lambda_box.specs.BoxForm.{IsFixBody, boxed, last, more, AreFixBodies, HasBoxForm, HasBoxFormTerms, IsBoxProgram}
-use Rattle.lambda_box.specs.OrdinaryForm.{same_family, family_of}
+use Rattle.lambda_box.specs.OrdinaryForm.{family_of}
 use Rattle.box_passes.specs.Saturate.{constructor_function, saturate_counted, saturate_arguments, saturate_family, saturate_applied, saturate_terms, saturate_term, saturate_constant, without_parameters, saturate_program}
 use Rattle.lambda_box.specs.ClosureEvaluation.{Env}
-use Rattle.lambda_box.proofs.Families.{has_at, one_of_name, unique_family, has_map, same_family_is, one_family, FamilyFound, family_found}
+use Rattle.lambda_box.proofs.Families.{unique_family, has_map, family_found}
 use Rattle.lambda_box.proofs.Naming.{ordered_body}
 use Rattle.box_passes.proofs.Standing as standing
 use Rattle.box_passes.proofs.Standing.{Stands, StandTerms, none, next, StandBody, body_boxed, body_last, body_more, StandDefs, no_defs, one_def, StandArgs, args_head, args_dropped, args_kept, closed_stands}

@@ -23,7 +23,7 @@ one_if_small : (b : Bool) → one_if b ≤ 1
 one_if_small true = omega arith
 one_if_small false = omega arith
 
-words_plain : (e : Env) (N : ℕ → Bool) → words e N ≤ plain e
+pub words_plain : (e : Env) (N : ℕ → Bool) → words e N ≤ plain e
 words_plain Empty N = omega arith
 words_plain (Bind v e) N = omega (arith, one_if_small (N zero), words_plain e (λ i. N (suc i)))
 words_plain (BindFix rargs bodies e) N = words_plain e (λ i. N (length rargs + i) || (any_below (length rargs) N && names_terms bodies i))
@@ -176,7 +176,7 @@ module _ (D A : ℕ) where
   constructed_values : {f : FamilyId} {c : ℕ} {vs : Values} → FitsValue D A (VConstruct f c vs) → FitsValues D A vs
   constructed_values (value_construct h) = h
 
-  function_words : {e : Env} (m n : ℕ) (f : FamilyId) (c : ℕ) → PlainFirst (n - suc m) e → words e (λ i. names (lambdas m (box_apply (BConstruct f c) (innermost n))) (suc i)) ≤ n
+  pub function_words : {e : Env} (m n : ℕ) (f : FamilyId) (c : ℕ) → PlainFirst (n - suc m) e → words e (λ i. names (lambdas m (box_apply (BConstruct f c) (innermost n))) (suc i)) ≤ n
   function_words {e} m n f c p =
       let few = words_few (λ i. names (lambdas m (box_apply (BConstruct f c) (innermost n))) (suc i)) p (λ i l. function_names m n f c (suc i) (omega arith)) in
       omega (arith, few)

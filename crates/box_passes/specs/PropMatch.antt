@@ -1,12 +1,12 @@
 -- Matches on propositional families, dropped. Such a match with one branch becomes the branch with boxes for its names; one with several
 -- branches becomes box; one without branches stays.
-use Rattle.std.specs.Prelude.{ℕ, ◌≤◌, ◌≡◌, Bool, true, false, List, map, Option, Some, None}
+use Rattle.std.specs.Prelude.{ℕ, ◌≤◌, Bool, true, false, List, map}
 use Rattle.trees.specs.Tree.{Rel, Done, Next}
 use Rattle.trees.specs.Parallel.{put_all, substitute}
 use Rattle.trees.specs.Measures.{nodes, depth}
 use Rattle.pc_terms.specs.declared.leaf.FamilyId.{FamilyId}
 use Rattle.pc_terms.specs.BoxSyntax.{BoxTerm, BoxTerms, Box, BLambda, BLetIn, BApp, BConst, BConstruct, BCase, BFix}
-use Rattle.lambda_box.specs.BoxProgram.{BoxConstant, BoxFamily, BoxProgram, Has, box_apply, boxes}
+use Rattle.lambda_box.specs.BoxProgram.{BoxConstant, BoxFamily, BoxProgram, box_apply, boxes}
 use Rattle.lambda_box.specs.BoxForm.{IsBoxProgram}
 use Rattle.lambda_box.specs.BoxEvaluation.{BoxEvaluates}
 use Rattle.lambda_box.specs.BoxData.{Data, BoxReads}

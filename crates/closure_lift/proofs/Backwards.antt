@@ -1,5 +1,5 @@
 -- Lists that are gone through from the end.
-use Rattle.std.proofs.Common.{◌≡◌, ℕ, suc, ◌+◌, ◌-◌, ◌<◌, List, ◌∷◌, length, drop, reverse, get_or, sym, ap, ◌∙◌, arith, drop-cons}
+use Rattle.std.proofs.Common.{◌≡◌, ℕ, suc, ◌+◌, ◌-◌, ◌<◌, List, ◌∷◌, length, drop, reverse, get_or, ap, ◌∙◌, arith, drop-cons}
 use Rattle.std.proofs.lemmas.List.{get_or-reverse, length-reverse}
 
 -- one more element, the one before

@@ -1,12 +1,12 @@
 -- The functions of a lifted program take the captured words.
 use Rattle.std.proofs.Common.{◌≡◌, ℕ, zero, suc, ◌+◌, ◌<◌, List, [], ◌∷◌, ◌++◌, length, Some, None, refl, subst as transport, arith}
 use Rattle.std.specs.Prelude.{slice_get}
-use Rattle.anf_convert.specs.Anf.{AnfOp, ConstOp, AppOp, ConOp, LamOp, FixOp, CaseOp, AnfBlock, TailAtom, Tail, BindAtom, Bind, AnfBranches, NoBranch, Branch, AnfDefs, NoDef, LamDef, BoxDef, def_count}
+use Rattle.anf_convert.specs.Anf.{AnfOp, ConstOp, AppOp, ConOp, LamOp, FixOp, CaseOp, AnfBlock, TailAtom, Tail, BindAtom, Bind, AnfBranches, NoBranch, Branch, AnfDefs, NoDef, LamDef, BoxDef, AnfProgram, def_count}
 use Rattle.anf_convert.specs.Captured.{Scope, Outside, Plain, plains, shares, fix_captured}
 use Rattle.closure_lift.specs.Lifted.{Fn}
 use Rattle.closure_lift.specs.Lift.{op_functions, block_functions, unnumbered, numbered, def_functions, functions_op, functions_block, functions_branches, functions_defs, constants_functions, functions_constants, lift}
 use Rattle.anf_convert.specs.AnfForm.{AnfOpFits, AnfFits, AnfBranchesFit, DefsFit}
-use Rattle.closure_lift.specs.CapturedLimit.{OpCaptures, BlockCaptures, BranchesCapture, DefsCapture, BlocksCapture, CapturedExactly}
+use Rattle.closure_lift.specs.CapturedLimit.{OpCaptures, BlockCaptures, BranchesCapture, DefsCapture, BlocksCapture, ProgramCaptures, CapturedExactly}
 
 module _ (most : ℕ) where
   abbrev Few : List Fn → Type 0
@@ -113,11 +113,17 @@ module _ (most : ℕ) where
       let r = few_split (functions_block Outside [] g t) _ h in
       (block_back k m 0 Outside [] g t (fit 0 t refl) r.0, constants_back k m (g + block_functions t) ts (λ x u e. fit (suc x) u e) r.1)
 
+-- where lambdas and fixpoints have few captured words, functions take few
+pub functions_few : (P : AnfProgram) (most : ℕ) → ProgramCaptures most P → (g : ℕ) (fn : Fn) → slice_get (lift P).functions g ≡ Some fn → fn.captured < most
+functions_few P most h g fn e =
+    let from = constants_functions P.constants in
+    few_at most (lift P).functions g fn (few_join most (functions_constants 0 P.constants) (functions_block Outside [] from P.main) (constants_few most 0 P.constants h.constants) (block_few most Outside [] from P.main h.main)) e
+
 pub captured_exactly : CapturedExactly
 captured_exactly P most m ok =
     let from = constants_functions P.constants in
     let k = length P.constants in (
-      λ h g fn e. few_at most (lift P).functions g fn (few_join most (functions_constants 0 P.constants) (functions_block Outside [] from P.main) (constants_few most 0 P.constants h.constants) (block_few most Outside [] from P.main h.main)) e,
+      functions_few P most,
       λ h. let r = few_split most (functions_constants 0 P.constants) (functions_block Outside [] from P.main) (few_all most (lift P).functions h) in
           record { constants = constants_back most k m 0 P.constants ok.constants r.0; main = block_back most k m 0 Outside [] from P.main ok.main r.1 },
     )

@@ -279,7 +279,7 @@ module _ (fs : List Fn) (k m : ℕ) where
       same e = cc
   constant_fits g (u ∷ ts) fit p (suc x) t e = constant_fits (g + block_functions u) ts (λ x u e. fit (suc x) u e) (back _ _ (omega (arith, block_length Outside [] g u)) p) x t e
 
-constants_number : (g : ℕ) (ts : List AnfBlock) → length (lift_constants g ts) ≡ length ts
+pub constants_number : (g : ℕ) (ts : List AnfBlock) → length (lift_constants g ts) ≡ length ts
 constants_number g [] = refl
 constants_number g (t ∷ ts) = ap suc (constants_number (g + block_functions t) ts)
 

@@ -1,13 +1,13 @@
 -- The captured words are those that stand for the free variables.
-use Rattle.std.proofs.Common.{◌≡◌, ℕ, zero, suc, ◌+◌, ◌-◌, ◌<◌, ◌≤◌, List, [], ◌∷◌, ◌++◌, Bool, true, false, refl, sym, ap, ◌∙◌, subst as transport, ⊎_elim, arith, append_assoc}
+use Rattle.std.proofs.Common.{◌≡◌, ℕ, zero, suc, ◌+◌, ◌-◌, ◌<◌, ◌≤◌, List, [], ◌∷◌, ◌++◌, Bool, true, false, refl, sym, ap, ◌∙◌, subst as transport, arith, append_assoc}
 use Rattle.std.proofs.lemmas.List.{append-nil}
-use Rattle.std.proofs.lemmas.Bool.{lt-ltb, le-ltb, ltb-true, ltb-false, eq-eqb, eqb-true, ne_eqb, cases_lt, cases_eq}
+use Rattle.std.proofs.lemmas.Bool.{lt-ltb, ltb-true, ltb-false, eq-eqb, eqb-true, ne_eqb}
 use Rattle.std.specs.Prelude.{nat_eq, nat_lt, if◌then◌else◌}
 use Rattle.anf_convert.specs.Anf.{AnfOp, ConstOp, AppOp, ConOp, LamOp, FixOp, CaseOp, AnfBlock, TailAtom, Tail, BindAtom, Bind, AnfBranches, NoBranch, Branch, AnfDefs, NoDef, LamDef, BoxDef, def_count}
 use Rattle.anf_convert.specs.declared.program.Atom.{Atom}
 use Rattle.anf_convert.specs.declared.program.Atom.TheVariants.{Var as AVar, Box as ABox, Empty as AEmpty}
 use Rattle.anf_convert.specs.Captured.{Scope, Outside, Plain, Shared, depth, entry, plains, shares, words_of, atom_words, atoms_words, op_words, block_words, branches_words, defs_words, is_in, add_word, captured, lam_captured, fix_captured}
-use Rattle.anf_convert.proofs.Scopes.{Each, each_all, each_map, depth_shares}
+use Rattle.anf_convert.proofs.Scopes.{Each, each_map, depth_shares}
 use Rattle.closure_lift.specs.FreeVariables.{free_atom, free_atoms, free_op, free_block, free_branches, free_defs, size, level_words, all_words}
 
 pub all_words_join : (f : ℕ → List ℕ) (xs ys : List ℕ) → all_words f (xs ++ ys) ≡ all_words f xs ++ all_words f ys

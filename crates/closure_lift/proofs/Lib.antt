@@ -15,5 +15,11 @@ pub mod Noted
 pub mod Scoped
 pub mod Renumbered
 pub mod RenumberedFunctions
+pub mod Going
 pub mod Placing
+pub mod Steps
 pub mod Making
+pub mod Walking
+pub mod Written
+pub mod WholeProgram
+pub mod Converting

@@ -1,8 +1,8 @@
 -- Parts of a block are lighter than it.
-use Rattle.std.proofs.Common.{◌≡◌, ℕ, zero, suc, ◌+◌, ◌<◌, ◌≤◌, List, [], ◌∷◌, length, get_or, ap, sym, subst as transport, arith}
-use Rattle.anf_convert.specs.Anf.{AnfBlock, Binding, AtomIs, OpIs, tail_of, block_of}
+use Rattle.std.proofs.Common.{◌≡◌, ℕ, zero, suc, ◌<◌, ◌≤◌, List, [], ◌∷◌, length, get_or, ap, sym, subst as transport, arith}
+use Rattle.anf_convert.specs.Anf.{Binding, AtomIs, OpIs, tail_of, block_of}
 use Rattle.anf_convert.specs.AnfView.{seen, bindings_of, branches_of, defs_of}
-use Rattle.anf_convert.specs.AnfWeight.{op_weight, block_weight, branches_weight, defs_weight, binding_weight, bindings_weight}
+use Rattle.anf_convert.specs.AnfWeight.{block_weight, branches_weight, defs_weight, binding_weight, bindings_weight}
 use Rattle.anf_convert.specs.AnfFalls.{block_weight_is}
 use Rattle.anf_convert.specs.declared.program.Op.{Op}
 use Rattle.anf_convert.specs.declared.program.AnfBranch.{AnfBranch}

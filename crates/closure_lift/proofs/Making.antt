@@ -4,8 +4,8 @@ use Rattle.std.specs.Prelude.{slice_set}
 use Rattle.std.proofs.lemmas.List.{take_more, append-nil}
 use Rattle.anf_convert.specs.declared.program.Atom.{Atom}
 use Rattle.anf_convert.specs.declared.program.Atom.TheVariants.{Var as AVar, Box as ABox}
-use Rattle.anf_convert.specs.Captured.{Scope, Entry, Words, entry}
-use Rattle.closure_lift.specs.Lifted.{OClos, RetAtom, Bound, OpBound, Fn}
+use Rattle.anf_convert.specs.Captured.{Scope, Words, entry}
+use Rattle.closure_lift.specs.Lifted.{OClos, RetAtom, Bound, OpBound}
 use Rattle.closure_lift.specs.Lift.{Slot, held}
 use Rattle.closure_lift.specs.LiftedView.{seen, bounds_of, fn_of, functions_of}
 use Rattle.closure_lift.specs.FreeVariables.{all_words}
@@ -32,6 +32,10 @@ functions_set (x ∷ fs) (suc at) f = ap (λ zs. fn_of x ∷ zs) (functions_set 
 pub blanks_more : (n : ℕ) → blanks (n + 1) ≡ blanks n ++ record { captured = 0; body = RetAtom ABox } ∷ []
 blanks_more zero = refl
 blanks_more (suc n) = ap blanks (let e : suc n + 1 ≡ suc (n + 1) = omega arith in e) ∙ ap (λ zs. record { captured = 0; body = RetAtom ABox } ∷ zs) (blanks_more n)
+
+pub blanks_length : (n : ℕ) → length (blanks n) ≡ n
+blanks_length zero = refl
+blanks_length (suc n) = ap suc (blanks_length n)
 
 words_end : (f : ℕ → List ℕ) (xs : List ℕ) (x : ℕ) → all_words f (xs ++ x ∷ []) ≡ all_words f xs ++ f x
 words_end f [] x = append-nil (f x)

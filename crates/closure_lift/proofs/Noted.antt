@@ -1,6 +1,5 @@
 -- The free variables of a lambda or fixpoint come to their place once the names in it are known.
-use Rattle.std.proofs.Common.{◌≡◌, ℕ, zero, suc, ◌+◌, List, [], ◌∷◌, ◌++◌, length, take, drop, refl, sym, ap, ◌∙◌, append_assoc}
-use Rattle.anf_convert.specs.Captured.{captured}
+use Rattle.std.proofs.Common.{◌≡◌, ℕ, List, [], ◌∷◌, ◌++◌, length, take, drop, refl, ap, ◌∙◌, append_assoc}
 use Rattle.closure_lift.specs.FreeVariables.{nothing, at_first}
 use Rattle.closure_lift.specs.Noting.{put_first}
 use Rattle.closure_lift.proofs.Noting.{put_there}

@@ -1,17 +1,15 @@
 -- Names and notes of a block, of branches and of definitions, one after another.
-use Rattle.std.proofs.Common.{◌≡◌, ℕ, zero, suc, ◌+◌, ◌<◌, List, [], ◌∷◌, ◌++◌, length, take, drop, get_or, refl, sym, ap, ◌∙◌, subst as transport, arith, append_assoc, drop-cons, length-append, ◌≤◌}
+use Rattle.std.proofs.Common.{◌≡◌, ℕ, zero, suc, ◌+◌, ◌<◌, List, [], ◌∷◌, ◌++◌, length, drop, get_or, refl, sym, ap, ◌∙◌, arith, append_assoc, drop-cons, length-append, ◌≤◌}
 use Rattle.std.proofs.lemmas.List.{append-nil, set_at}
-use Rattle.std.specs.Prelude.{slice_set}
-use Rattle.anf_convert.specs.Anf.{AnfOp, LamOp, FixOp, AnfBlock, AnfBranches, NoBranch, Branch, AnfDefs, NoDef, LamDef, BoxDef, Binding, AtomIs, OpIs, tail_of, block_of, def_count}
+use Rattle.anf_convert.specs.Anf.{AnfBlock, Binding, AtomIs, OpIs, tail_of, block_of, def_count}
 use Rattle.anf_convert.specs.declared.program.Atom.{Atom}
 use Rattle.anf_convert.specs.AnfView.{seen, bindings_of, branches_of, defs_of}
-use Rattle.anf_convert.specs.Captured.{captured}
 use Rattle.anf_convert.specs.declared.program.Op.{Op}
 use Rattle.anf_convert.specs.declared.program.AnfBranch.{AnfBranch}
 use Rattle.anf_convert.specs.declared.program.AnfDef.{AnfDef}
 use Rattle.anf_convert.specs.declared.program.AnfDef.TheVariants as def
-use Rattle.closure_lift.specs.FreeVariables.{free_atom, free_atoms, free_op, free_block, free_branches, free_defs, nothing, at_first, notes_op, notes_block, notes_branches, notes_defs}
-use Rattle.closure_lift.specs.Noting.{free_bound, notes_bound, put_first}
+use Rattle.closure_lift.specs.FreeVariables.{free_atom, free_atoms, free_block, free_branches, free_defs, nothing, at_first, notes_block, notes_branches, notes_defs}
+use Rattle.closure_lift.specs.Noting.{free_bound, notes_bound, free_def, notes_def, put_first}
 
 -- one more part of a list that is put together
 pub part_more : {A : Type 0} (xs more rest : List A) {ys all old : List A} → ys ≡ xs ++ more → all ≡ more ++ rest → xs ++ all ≡ old → ys ++ rest ≡ old
@@ -64,19 +62,11 @@ pub notes_arm : (n m : ℕ) (arms : List AnfBranch) (i : ℕ) (b : AnfBranch) �
 notes_arm n m arms i b lt is e = ap (λ zs. notes_branches n (branches_of zs)) (next_of arms i b lt is) ∙ ap (λ k. notes_block k b.body ++ notes_branches n (branches_of (drop (i + 1) arms))) (sym e)
 
 -- a definition
-abbrev pub free_def : ℕ → AnfDef → List ℕ
-free_def n (def.Lambda b) = free_block (suc n) b
-free_def n def.Box = []
-
-abbrev pub notes_def : ℕ → AnfDef → List (List ℕ)
-notes_def n (def.Lambda b) = notes_block (suc n) b
-notes_def n def.Box = []
-
 def_step : (n : ℕ) (d : AnfDef) (ds : List AnfDef) → free_defs n (defs_of (d ∷ ds)) ≡ free_def n d ++ free_defs n (defs_of ds)
 def_step n (def.Lambda b) ds = refl
 def_step n def.Box ds = refl
 
-def_notes_step : (n : ℕ) (d : AnfDef) (ds : List AnfDef) → notes_defs n (defs_of (d ∷ ds)) ≡ notes_def n d ++ notes_defs n (defs_of ds)
+pub def_notes_step : (n : ℕ) (d : AnfDef) (ds : List AnfDef) → notes_defs n (defs_of (d ∷ ds)) ≡ notes_def n d ++ notes_defs n (defs_of ds)
 def_notes_step n (def.Lambda b) ds = refl
 def_notes_step n def.Box ds = refl
 
@@ -104,7 +94,7 @@ pub put_there : (ls : List (List ℕ)) (count : ℕ) (xs : List ℕ) (inside : L
 put_there ls zero xs inside = refl
 put_there ls (suc n) xs inside = set_at ls [] (nothing n ++ inside) xs (length ls) refl
 
-nothing_length : (n : ℕ) → length (nothing n) ≡ n
+pub nothing_length : (n : ℕ) → length (nothing n) ≡ n
 nothing_length zero = refl
 nothing_length (suc n) = ap suc (nothing_length n)
 

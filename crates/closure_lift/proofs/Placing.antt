@@ -1,7 +1,7 @@
 -- Where the words are among what the variables of a block hold.
-use Rattle.std.proofs.Common.{◌≡◌, ℕ, zero, suc, ◌+◌, ◌-◌, ◌<◌, ◌≤◌, List, drop, [], ◌∷◌, length, Option, Some, None, Bool, true, false, refl, sym, ap, ◌∙◌, arith}
+use Rattle.std.proofs.Common.{◌≡◌, ℕ, zero, suc, ◌+◌, ◌-◌, ◌<◌, List, drop, [], ◌∷◌, length, Some, None, Bool, true, false, refl, sym, ap, ◌∙◌, arith}
 use Rattle.std.specs.Prelude.{nat_eq, if◌then◌else◌}
-use Rattle.closure_lift.specs.Lift.{Slot, Holds, Made, position, same_slot}
+use Rattle.closure_lift.specs.Lift.{Holds, Made, position, same_slot}
 use Rattle.std.specs.HashMap.{HashMap, get}
 use Rattle.closure_lift.specs.Frames.{slot_of, slots_of, place_of, uncovered, ArePlaced}
 use Rattle.closure_lift.specs.declared.frame.Held.{Held}

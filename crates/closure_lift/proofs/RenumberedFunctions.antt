@@ -1,14 +1,13 @@
 -- With other numbers for the constants, the functions of a lifted program have the other numbers, and captured words are as many.
-use Rattle.std.proofs.Common.{◌≡◌, ℕ, zero, suc, ◌+◌, ◌<◌, List, [], ◌∷◌, ◌++◌, map, length, refl, sym, ap, ◌∙◌, subst as transport}
-use Rattle.std.specs.Prelude.{◌↔◌}
+use Rattle.std.proofs.Common.{◌≡◌, ℕ, suc, ◌+◌, ◌<◌, List, [], ◌∷◌, ◌++◌, map, length, refl, sym, ap, ◌∙◌}
 use Rattle.anf_convert.specs.Anf.{AnfOp, ConstOp, AppOp, ConOp, LamOp, FixOp, CaseOp, AnfBlock, TailAtom, Tail, BindAtom, Bind, AnfBranches, NoBranch, Branch, AnfDefs, NoDef, LamDef, BoxDef, def_count}
 use Rattle.anf_convert.specs.Renumbering as anf
-use Rattle.anf_convert.specs.Captured.{Scope, Outside, Plain, depth, plains, shares, lam_captured, fix_captured}
+use Rattle.anf_convert.specs.Captured.{Scope, Plain, depth, plains, shares, lam_captured, fix_captured}
 use Rattle.anf_convert.specs.declared.program.Atom.TheVariants.{Box as ABox}
 use Rattle.closure_lift.specs.Lifted.{Block, RetAtom, Fn}
-use Rattle.closure_lift.specs.Lift.{Holds, op_functions, block_functions, branches_functions, defs_functions, unnumbered, numbered, lift_block, lambda_function, def_functions, functions_op, functions_block, functions_branches, functions_defs, constants_functions, lift_constants, functions_constants}
+use Rattle.closure_lift.specs.Lift.{Holds, op_functions, block_functions, unnumbered, numbered, lambda_function, def_functions, functions_op, functions_block, functions_branches, functions_defs}
 use Rattle.closure_lift.specs.LiftedProgram.{renumber, renumber_functions}
-use Rattle.closure_lift.specs.CapturedLimit.{OpCaptures, BlockCaptures, BranchesCapture, DefsCapture, BlocksCapture}
+use Rattle.closure_lift.specs.CapturedLimit.{OpCaptures, BlockCaptures, BranchesCapture, DefsCapture}
 use Rattle.closure_lift.proofs.Renumbered.{count_same, lam_same, fix_same, block_functions_same, op_functions_same, lift_block_renumbered}
 
 module _ (f : ℕ → ℕ) where

@@ -16,3 +16,4 @@ pub mod Variables
 pub mod Renumbers
 pub mod Frames
 pub mod Lifting
+pub mod NamedLift

@@ -27,11 +27,17 @@ pub record GivesData (P : Program) (w : ℕ) (args : Vals) (d : Data) (c k b l :
 
 -- where main of the program in A-normal form, applied to values that are data, gives data, so does the lifted program's, applied to values that are
 -- the same data: with as many matches and blocks, no more contractions and no wider block
-abbrev pub LiftKeeps : Type 0
-LiftKeeps =
-    (P : AnfProgram) (w : ℕ) (args : AnfVals) (args' : Vals) (ds : Datas) (v : AnfVal) (d : Data) (c k b l : ℕ) →
-    AnfAreData args ds → AreData args' ds → AnfAnswers P w args v c k b l → AnfIsData v d → GivesData (lift P) w args' d c k b l
+abbrev pub KeepsLifted : AnfProgram → Program → Type 0
+KeepsLifted P Q =
+    (w : ℕ) (args : AnfVals) (args' : Vals) (ds : Datas) (v : AnfVal) (d : Data) (c k b l : ℕ) →
+    AnfAreData args ds → AreData args' ds → AnfAnswers P w args v c k b l → AnfIsData v d → GivesData Q w args' d c k b l
 
--- a program whose names are in scope is lifted to one whose names are in scope
+-- where the names of the one are in scope, so are those of the other
+abbrev pub HasLiftedForm : AnfProgram → Program → Type 0
+HasLiftedForm P Q = (m : ℕ) → AnfFormed P m → Formed Q m
+
+abbrev pub LiftKeeps : Type 0
+LiftKeeps = (P : AnfProgram) → KeepsLifted P (lift P)
+
 abbrev pub LiftForms : Type 0
-LiftForms = (P : AnfProgram) (m : ℕ) → AnfFormed P m → Formed (lift P) m
+LiftForms = (P : AnfProgram) → HasLiftedForm P (lift P)

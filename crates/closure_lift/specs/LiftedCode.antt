@@ -1,10 +1,9 @@
 -- How the logic stores lifted programs.
-use Rattle.std.specs.Prelude.{◌≡◌, ℕ, List, [], ◌∷◌}
+use Rattle.std.specs.Prelude.{◌≡◌, ℕ}
 use Rattle.std.proofs.Common.{refl}
 use Rattle.std.specs.Coded.{Coded, coded×, coded_ℕ, code_by}
 use base.Stored.{Gv, gnil, gnum, gcons}
 use Rattle.trees.specs.Code.{t0, t1, t2, t3, t4}
-use Rattle.anf_convert.specs.declared.program.Atom.{Atom}
 use Rattle.anf_convert.specs.AnfCode.{code_atom, code_atoms, code_atom-inj, code_atoms-inj}
 use Rattle.closure_lift.specs.Lifted.{Op, OConst, OApp, OCon, OClos, OCase, Block, RetAtom, LetAtom, Ret, Let, Branches, BNil, BCons, Fn, Bound, AtomBound, OpBound}
 

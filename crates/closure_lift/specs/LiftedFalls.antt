@@ -1,9 +1,9 @@
 -- Each part of a lifted program is lighter than the whole.
-use Rattle.std.specs.Prelude.{ℕ, suc, ◌+◌, ◌≤◌, ◌<◌, ◌≡◌, List, [], ◌∷◌}
+use Rattle.std.specs.Prelude.{suc, ◌+◌, ◌≤◌, ◌≡◌, List, [], ◌∷◌}
 use Rattle.std.proofs.Common.{arith}
 use Rattle.closure_lift.specs.Lifted.{Block, Bound, AtomBound, OpBound, ret_of, lets_of}
 use Rattle.closure_lift.specs.LiftedView.{seen, bounds_of, whole, branches_of}
-use Rattle.closure_lift.specs.LiftedWeight.{op_weight, block_weight, branches_weight, bound_weight, bounds_weight}
+use Rattle.closure_lift.specs.LiftedWeight.{block_weight, branches_weight, bound_weight, bounds_weight}
 use Rattle.closure_lift.specs.declared.program.LiftedOp.{LiftedOp}
 use Rattle.closure_lift.specs.declared.program.LiftedOp.TheVariants as op
 use Rattle.closure_lift.specs.declared.program.LiftedBranch.{LiftedBranch}

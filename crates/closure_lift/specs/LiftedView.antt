@@ -1,7 +1,6 @@
 -- What the types of lifted programs are seen as. In a block a constant stands by the number of its name, and in `lifted_of` by its place.
-use Rattle.std.specs.Prelude.{ℕ, suc, nat_eq, if◌then◌else◌, List, [], ◌∷◌, map}
-use Rattle.closure_lift.specs.Lifted as lifted
-use Rattle.closure_lift.specs.Lifted.{Op, OConst, OApp, OCon, OClos, OCase, Block, RetAtom, LetAtom, Ret, Let, Branches, BNil, BCons, Fn, Bound, AtomBound, OpBound, ret_of, lets_of}
+use Rattle.std.specs.Prelude.{List, [], ◌∷◌}
+use Rattle.closure_lift.specs.Lifted.{OConst, OApp, OCon, OClos, OCase, Block, Branches, BNil, BCons, Fn, Bound, AtomBound, OpBound, ret_of, lets_of}
 use Rattle.closure_lift.specs.declared.program.LiftedOp.{LiftedOp}
 use Rattle.closure_lift.specs.declared.program.LiftedOp.TheVariants as op
 use Rattle.closure_lift.specs.declared.program.LiftedBranch.{LiftedBranch}

@@ -1,15 +1,18 @@
 -- Lifting step by step: the closures before an operation, the operation, and the functions in it.
-use Rattle.std.specs.Prelude.{◌≡◌, ℕ, zero, suc, ◌+◌, ◌<◌, List, [], ◌∷◌, ◌++◌, map, take, drop, get_or, length}
+use Rattle.std.specs.Prelude.{◌≡◌, ℕ, zero, suc, ◌<◌, List, [], ◌∷◌, ◌++◌, map, take, drop, get_or, length}
 use Rattle.anf_convert.specs.Anf.{AnfBlock, AnfDefs, Binding, AtomIs, OpIs}
 use Rattle.anf_convert.specs.declared.program.Atom.{Atom}
 use Rattle.anf_convert.specs.declared.program.Atom.TheVariants.{Var as AVar, Box as ABox, Empty as AEmpty}
-use Rattle.anf_convert.specs.Captured.{Scope, Plain, depth, Entry, Unbound, Word, Words, entry, captured}
+use Rattle.anf_convert.specs.declared.program.AnfDef.{AnfDef}
+use Rattle.anf_convert.specs.declared.program.AnfDef.TheVariants as def
+use Rattle.anf_convert.specs.Captured.{Scope, Plain, plains, depth, Entry, Unbound, Word, Words, entry, captured}
 use Rattle.closure_lift.specs.Lifted.{OClos, Block, RetAtom, Fn, Bound, AtomBound, OpBound}
 use Rattle.closure_lift.specs.LiftedView.{functions_of}
-use Rattle.closure_lift.specs.Lift.{Slot, Holds, Made, held, atom, atoms_of, lift_op, lift_block, op_functions, functions_op, def_functions, functions_defs}
+use Rattle.closure_lift.specs.Lift.{Slot, Holds, Made, held, atom, atoms_of, unnumbered, holding, lift_op, lift_block, op_functions, functions_op, functions_block, def_functions, functions_defs}
 use Rattle.closure_lift.specs.FreeVariables.{level_words, all_words}
 use Rattle.closure_lift.specs.declared.program.Function.{Function}
-use Rattle.closure_lift.specs.CapturedLimit.{OpCaptures}
+use Rattle.closure_lift.specs.declared.program.LiftedBranch.{LiftedBranch}
+use Rattle.closure_lift.specs.CapturedLimit.{OpCaptures, BlockCaptures}
 use Rattle.closure_lift.specs.declared.fault.LiftFault.{LiftFault}
 use Rattle.closure_lift.specs.declared.fault.LiftFault.TheVariants.{Captured, Functions, Memory}
 
@@ -112,3 +115,24 @@ definitions v ws g ds = def_functions v.0 v.1 ws g ds ++ functions_defs v.0 v.1 
 -- n places for functions, the last ones, begin with this number
 abbrev pub PlacesFor : ℕ → ℕ → List Fn → Type 0
 PlacesFor at n fs = (fs ≡ take at fs ++ blanks n) × (length (take at fs) ≡ at)
+
+-- the body of the function of a fixpoint's definition, the functions inside it, and their captured words
+abbrev pub def_body : (Scope × List ℕ) → List ℕ → ℕ → AnfDef → Block
+def_body v ws g (def.Lambda b) = function_body v ws g b
+def_body v ws g def.Box = RetAtom ABox
+
+abbrev pub functions_def : (Scope × List ℕ) → ℕ → AnfDef → List Fn
+functions_def v g (def.Lambda b) = functions_block (Plain v.0) (0 ∷ v.1) g b
+functions_def v g def.Box = []
+
+abbrev pub DefCaptures : Scope → AnfDef → Type 0
+DefCaptures s (def.Lambda b) = BlockCaptures most_words (Plain s) b
+DefCaptures s def.Box = Unit {0}
+
+-- the lifted branch with n arguments and this block, and the functions inside it
+pub record IsArm (v : Scope × List ℕ) (fr : List Slot) (g n : ℕ) (t : AnfBlock) (b : LiftedBranch) : Type 0 where
+  pub binders : b.binders ≡ n
+  pub body : b.body ≡ lift_block (plains n v.0) (unnumbered n v.1) (holding n v.0 fr) g t
+
+abbrev pub arm_functions : (Scope × List ℕ) → ℕ → ℕ → AnfBlock → List Fn
+arm_functions v g n t = functions_block (plains n v.0) (unnumbered n v.1) g t

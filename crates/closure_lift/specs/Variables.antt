@@ -1,6 +1,6 @@
 -- The variables at a place of a program, as they are kept: as a scope, and the functions of those that are a fixpoint's.
 use Rattle.std.specs.Prelude.{◌≡◌, ℕ, zero, suc, List, [], ◌∷◌}
-use Rattle.anf_convert.specs.Captured.{Scope, Outside, Plain, Shared, depth, Entry, Unbound, Word, Words}
+use Rattle.anf_convert.specs.Captured.{Scope, Outside, Plain, Shared, Entry, Unbound, Word, Words}
 use Rattle.closure_lift.specs.declared.variables.Variable.{Variable}
 use Rattle.closure_lift.specs.declared.variables.Variable.TheVariants as variable
 use Rattle.closure_lift.specs.declared.variables.Found.{Found}

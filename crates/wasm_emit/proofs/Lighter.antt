@@ -1,5 +1,5 @@
 -- Parts of a lifted block are lighter than it.
-use Rattle.std.proofs.Common.{◌≡◌, ℕ, zero, suc, ◌+◌, ◌*◌, ◌<◌, ◌≤◌, List, [], ◌∷◌, length, get_or, ap, sym, subst as transport, arith}
+use Rattle.std.proofs.Common.{◌≡◌, ℕ, zero, suc, ◌+◌, ◌*◌, ◌<◌, ◌≤◌, List, [], ◌∷◌, length, get_or, ap, arith}
 use Rattle.closure_lift.specs.Lifted.{Block, Bound, AtomBound, OpBound, ret_of, lets_of}
 use Rattle.closure_lift.specs.LiftedView.{seen, bounds_of, branches_of}
 use Rattle.closure_lift.specs.LiftedWeight.{block_weight, branches_weight, bound_weight, bounds_weight}

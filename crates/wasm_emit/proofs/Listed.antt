@@ -1,7 +1,7 @@
 -- The bodies of all functions, one after another.
 use Rattle.std.proofs.Common.{◌≡◌, ℕ, ◌+◌, ◌-◌, ◌<◌, ◌≤◌, List, [], ◌∷◌, ◌++◌, length, map, drop, get_or, reverse, ap, sym, subst, inl, inr, ◌∙◌, arith}
 use Rattle.std.proofs.Math.ListN.{drop_of_length-le}
-use Rattle.std.proofs.lemmas.List.{append_assoc, length-reverse, get_or-reverse}
+use Rattle.std.proofs.lemmas.List.{append_assoc, length-reverse}
 use Rattle.closure_lift.specs.Lifted.{Block, Fn, Program}
 use Rattle.closure_lift.specs.LiftedProgram.{renumber, renumber_functions, place_in, lifted_of}
 use Rattle.closure_lift.specs.LiftedView.{functions_of}
@@ -15,7 +15,7 @@ use Rattle.wasm_emit.specs.EmittedModule.{alloc, box_function, function, constan
 use Rattle.wasm_emit.specs.EmittedBodies.{bodies_of, FewInFunction, FewInBlock, FewLocals, MemoryOrNot}
 use Rattle.wasm_emit.specs.Pushed.{function_in, MemoryOrLocals}
 use Rattle.wasm_emit.specs.declared.fault.EmitFault.{EmitFault}
-use Rattle.wasm_emit.proofs.Pushing.{top_renumbered, next_of}
+use Rattle.wasm_emit.proofs.Pushing.{top_renumbered, constant_next, next_of}
 
 -- the functions and constants of parts of a program in memory
 abbrev pub functions_in : Lifted → List Function → List Fn
@@ -57,9 +57,7 @@ module _ (Q : Lifted) (items : List Function) (i : ℕ) (f : Function) (lt : i <
 -- the next constant of a program
 module _ (Q : Lifted) (slice : List LiftedConstant) (k : ℕ) (c : LiftedConstant) (same : reverse slice ≡ Q.constants) (lt : k < length slice) (is : c ≡ get_or slice (length slice - 1 - k) c) where
   next_constant : constants_in Q (drop k Q.constants) ≡ renumber (place_in Q.constants) c.body ∷ constants_in Q (drop (k + 1) Q.constants)
-  next_constant =
-      let size : length Q.constants ≡ length slice = sym (ap length same) ∙ length-reverse slice in
-      ap (λ (cs : List LiftedConstant). constants_in Q cs) (next_of Q.constants k c (omega arith) (is ∙ sym (get_or-reverse slice k c lt) ∙ ap (λ (xs : List LiftedConstant). get_or xs k c) same))
+  next_constant = ap (λ (cs : List LiftedConstant). constants_in Q cs) (constant_next slice Q.constants k c 0 same lt is)
 
   pub constants_more : (a : Body) (v w out : List Body) → a ≡ constant (lifted_of Q) (renumber (place_in Q.constants) c.body) → w ≡ v ++ a ∷ [] → v ++ map (constant (lifted_of Q)) (constants_in Q (drop k Q.constants)) ≡ out → w ++ map (constant (lifted_of Q)) (constants_in Q (drop (k + 1) Q.constants)) ≡ out
   constants_more a v w out e more inv =

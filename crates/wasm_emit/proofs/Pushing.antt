@@ -1,11 +1,11 @@
 -- Steps of the functions that push instructions.
-use Rattle.std.proofs.Common.{◌≡◌, ℕ, zero, suc, ◌+◌, ◌-◌, ◌*◌, ◌<◌, ◌≤◌, List, [], ◌∷◌, ◌++◌, length, append-nil, reverse, drop, take, get_or, max, Bool, true, false, refl, ap, sym, ◌∙◌, subst, arith}
+use Rattle.std.proofs.Common.{◌≡◌, ℕ, zero, suc, ◌+◌, ◌-◌, ◌*◌, ◌<◌, ◌≤◌, List, [], ◌∷◌, ◌++◌, length, append-nil, reverse, drop, get_or, max, Bool, true, false, refl, ap, sym, ◌∙◌, arith}
 use Rattle.std.proofs.Math.ListN.{drop_of_length-le}
 use Rattle.std.proofs.lemmas.Bool.{eq-eqb, ne_eqb}
 use Rattle.std.proofs.lemmas.List.{drop_more, length-drop, get_or-reverse, length-reverse, reverse-append}
 use Rattle.std.specs.Prelude.{nat_eq, if◌then◌else◌, Result, Ok, Err, IfOk, OnOk}
 use Rattle.anf_convert.specs.declared.program.Atom.{Atom}
-use Rattle.closure_lift.specs.Lifted.{Op, OConst, OApp, OCon, OClos, OCase, Block, RetAtom, LetAtom, Ret, Let, Branches, BNil, BCons, Fn, Program, Bound, AtomBound, OpBound, ret_of, lets_of, many}
+use Rattle.closure_lift.specs.Lifted.{Op, OConst, OApp, OCon, OClos, OCase, Block, RetAtom, LetAtom, Ret, Let, Branches, BNil, BCons, Fn, Program, Bound, AtomBound, OpBound, ret_of, lets_of}
 use Rattle.closure_lift.specs.LiftedProgram.{renumber_op, renumber, renumber_branches, renumber_functions, place_in, lifted_of}
 use Rattle.closure_lift.specs.LiftedView.{seen, bounds_of, branches_of, functions_of}
 use Rattle.closure_lift.specs.declared.program.Function.{Function}
@@ -115,7 +115,7 @@ passed true n e = cc
 passed false n e = refl
 
 module _ (slice cs : List LiftedConstant) (k : ℕ) (c : LiftedConstant) (x : ℕ) (same : reverse slice ≡ cs) (lt : k < length slice) (is : c ≡ get_or slice (length slice - 1 - k) c) where
-  constant_next : drop k cs ≡ c ∷ drop (k + 1) cs
+  pub constant_next : drop k cs ≡ c ∷ drop (k + 1) cs
   constant_next =
       let size : length cs ≡ length slice = sym (ap length same) ∙ length-reverse slice in
       next_of cs k c (omega arith) (is ∙ sym (get_or-reverse slice k c lt) ∙ ap (λ (xs : List LiftedConstant). get_or xs k c) same)

@@ -1,5 +1,5 @@
 -- An emitted module is valid.
-use Rattle.std.proofs.Common.{◌*◌, max, ◌≡◌, ℕ, zero, suc, ◌+◌, ◌-◌, ◌^◌, ◌<◌, ◌≤◌, List, [], ◌∷◌, ◌++◌, length, map, replicate, Option, Some, true, false, refl, ap, subst, arith, get_or}
+use Rattle.std.proofs.Common.{◌*◌, max, ◌≡◌, ℕ, zero, suc, ◌+◌, ◌-◌, ◌^◌, ◌<◌, ◌≤◌, List, [], ◌∷◌, ◌++◌, length, map, replicate, Option, Some, refl, ap, subst, arith, get_or}
 use Rattle.std.specs.Option.{option_map}
 use Rattle.std.specs.Prelude.{slice_get}
 use Rattle.wasm_core.specs.declared.types.ValType.TheVariants.{I32}

@@ -8,3 +8,5 @@ pub mod Weight
 pub mod CallLaws
 pub mod Pushed
 pub mod EmittedBodies
+pub mod Emission
+pub mod NormalWeight

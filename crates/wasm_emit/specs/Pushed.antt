@@ -1,5 +1,5 @@
 -- What the functions that push instructions have pushed: the instructions that the definitions put in front of any rest.
-use Rattle.std.specs.Prelude.{◌≡◌, ◌≤◌, ◌<◌, ◌⊎◌, ℕ, zero, suc, List, [], ◌∷◌, ◌++◌}
+use Rattle.std.specs.Prelude.{◌≡◌, ◌≤◌, ◌<◌, ◌⊎◌, ℕ, zero, suc, List, ◌∷◌, ◌++◌}
 use Rattle.closure_lift.specs.Lifted.{Block, Branches, BCons, Fn, Program, Bound, AtomBound, OpBound}
 use Rattle.closure_lift.specs.LiftedProgram.{renumber_op, renumber, renumber_branches, place_in, lifted_of}
 use Rattle.closure_lift.specs.declared.program.Function.{Function}

@@ -3,6 +3,8 @@
 ghost use Rattle.wasm_emit.specs.CallLaws.{CallStatus, CallValid, EmitCalls};
 ghost use Rattle.wasm_emit.specs.AnfLaws.{AnfEmits, AnfValid};
 ghost use Rattle.wasm_emit.specs.EmitLaws.{EmitAnswers, EmitSpelled, EmitValid, StatusTells};
+ghost use Rattle.wasm_emit.specs.Emission.{LiftedCanBeEmitted};
+ghost use Rattle.wasm_emit.specs.NormalWeight.{LiftedWeight};
 ghost use Rattle.wasm_emit.specs.Weight.{EmitSized, LocalsBound};
 
 /// Where main of a lifted program evaluates to data, every run of the program's module answers that data or is exhausted after a refused grow,
@@ -33,10 +35,17 @@ pub fn programs_in_normal_form_answer()
     ensures valid { AnfValid }
 {}
 
-/// The bytes of an emitted module, and the locals of its functions, are bounded by the size of the program.
+/// A lifted program is one that `emit` takes, where the program in A-normal form has its names in scope and is within the limits of lifting.
+pub fn lifted_programs_can_be_emitted()
+    ensures emits { LiftedCanBeEmitted }
+{}
+
+/// The bytes of an emitted module, and the locals of its functions, are bounded by the size of the lifted program, and so by that of the program in A-normal
+/// form.
 pub fn emitted_bytes_are_bounded()
     ensures bytes { EmitSized }
     ensures locals { LocalsBound }
+    ensures lifted { LiftedWeight }
 {}
 
 /// Every run of the module for a call, on arguments that a host has stored, answers main's data or is exhausted; such a module is valid; and its

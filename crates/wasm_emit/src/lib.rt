@@ -1,8 +1,11 @@
 //! Emission: the WebAssembly module of a lifted program.
 //!
-//! `specs/EmittedModule.antt` says which module that is, and `EmittedCode` its instructions; `docs/EMISSION.md` tells it with a program's module
-//! written out. The laws are public functions with empty bodies: every run of the module answers the data to which main evaluates, or is exhausted after
-//! a refused grow (`emitted_runs_answer`); the status tells of a refused grow (`status_tells_of_a_refused_grow`); the module is valid
+//! `emit` makes the module of a lifted program (clause `is`), which is valid (`valid`), and refuses exactly where a function would have over 50,000 locals
+//! (`few`, `refused`). It takes every program that lifting gives (`lifted_programs_can_be_emitted`, clause `emits`). `specs/EmittedModule.antt` says which
+//! module that is, and `EmittedCode` its instructions; `docs/EMISSION.md` tells it with a program's module written out.
+//!
+//! The laws are public functions with empty bodies: every run of the module answers the data to which main evaluates, or is exhausted after a refused grow
+//! (`emitted_runs_answer`); the status tells of a refused grow (`status_tells_of_a_refused_grow`); the module of `module_of` is valid
 //! (`emitted_modules_are_valid`) and can be spelled (`emitted_modules_can_be_spelled`); its bytes and locals are bounded by the program's size
 //! (`emitted_bytes_are_bounded`). `CallModule` is the same for a main that takes arguments from memory (`calls_of_main_answer`).
 //!
@@ -11,15 +14,17 @@
 
 mod blocks;
 mod bodies;
+mod emission;
 mod fault;
 mod instructions;
 mod laws;
 mod locals;
 mod places;
 
+pub use emission::emit;
 pub use fault::EmitFault;
 pub use laws::{
     calls_of_main_answer, emitted_bytes_are_bounded, emitted_modules_are_valid,
-    emitted_modules_can_be_spelled, emitted_runs_answer, programs_in_normal_form_answer,
-    status_tells_of_a_refused_grow,
+    emitted_modules_can_be_spelled, emitted_runs_answer, lifted_programs_can_be_emitted,
+    programs_in_normal_form_answer, status_tells_of_a_refused_grow,
 };

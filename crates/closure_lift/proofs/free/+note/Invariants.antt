@@ -1,4 +1,4 @@
-use Rattle.std.proofs.Common.{◌≡◌, ◌+◌, ◌*◌, ◌++◌, drop}
+use Rattle.std.proofs.Common.{◌≡◌, ◌++◌, drop}
 use Rattle.anf_convert.specs.Anf.{block_of, tail_of}
 use Rattle.anf_convert.specs.AnfView.{seen, bindings_of, branches_of, defs_of}
 use Rattle.anf_convert.specs.AnfWeight.{binding_weight, block_weight, branches_weight, defs_weight}

@@ -1,7 +1,6 @@
 use Rattle.std.proofs.Common.{rules, ◌≡◌, length, ap, ◌∙◌}
 use Rattle.std.specs.Prelude.{slice_set}
 use Rattle.closure_lift.specs.LiftedView.{functions_of}
-use Rattle.closure_lift.specs.Lifted.{Fn}
 use Rattle.closure_lift.proofs.Making.{functions_set}
 use Rattle.closure_lift.proofs.lift.put.Goals as goal
 

@@ -1,4 +1,4 @@
-use Rattle.std.proofs.Common.{rules, arith, ◌≡◌, ◌<◌, ◌++◌, length, sym, ap, ◌∙◌, get_or}
+use Rattle.std.proofs.Common.{arith, ◌<◌, ◌++◌, length, sym, ap, ◌∙◌, get_or}
 use Rattle.closure_lift.specs.FreeVariables.{level_words}
 use Rattle.closure_lift.proofs.Making.{words_more}
 use Rattle.closure_lift.proofs.lift.words_at.Goals as goal

@@ -1,4 +1,4 @@
-use Rattle.std.proofs.Common.{◌≡◌, ◌+◌, ◌*◌, ◌++◌, ◌∷◌, ◌≤◌, suc, drop, take, length, reverse, List}
+use Rattle.std.proofs.Common.{◌≡◌, ◌+◌, ◌*◌, ◌++◌, ◌≤◌, drop, take, length, reverse, List}
 use Rattle.closure_lift.specs.Lifted.{ret_of, lets_of}
 use Rattle.closure_lift.specs.LiftedProgram.{renumber_branches, place_in, lifted_of}
 use Rattle.closure_lift.specs.LiftedView.{seen, bounds_of, branches_of}

@@ -1,5 +1,4 @@
 use Rattle.std.proofs.Common.{length, ap, arith}
-use Rattle.closure_lift.specs.Lifted.{Fn}
 use Rattle.closure_lift.specs.LiftedProgram.{place_in}
 use Rattle.wasm_emit.proofs.Pushing.{renumbered_count, functions_count}
 use Rattle.wasm_emit.proofs.blocks.function_index.Goals as goal

@@ -1,4 +1,4 @@
-use Rattle.std.proofs.Common.{rules, ◌≡◌, ap, ◌∙◌, sym, drop}
+use Rattle.std.proofs.Common.{ap, ◌∙◌, sym, drop}
 use Rattle.closure_lift.proofs.Placing.{drop_twice}
 use Rattle.closure_lift.proofs.frame.Frame.shrink.Goals as goal
 

@@ -1,10 +1,9 @@
-use Rattle.std.proofs.Common.{rules, arith, ◌≡◌, ◌-◌, ◌≤◌, length, reverse, Some, None, sym, ap, ◌∙◌}
+use Rattle.std.proofs.Common.{rules, arith, ◌≡◌, ◌-◌, length, reverse, Some, None, sym, ap, ◌∙◌}
 use Rattle.std.specs.Prelude.{nat_eq}
 use Rattle.std.specs.HashMap.{get}
 use Rattle.std.proofs.lemmas.Grind.{common_steps}
 use Rattle.std.proofs.lemmas.List.{length-reverse}
 use Rattle.closure_lift.specs.Lift.{Holds, position}
-use Rattle.closure_lift.specs.Frames.{place_of}
 use Rattle.closure_lift.proofs.Placing.{place_is, place_none}
 use Rattle.closure_lift.proofs.frame.Frame.word_place.Goals as goal
 

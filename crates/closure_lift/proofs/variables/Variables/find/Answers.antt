@@ -1,8 +1,6 @@
-use Rattle.std.proofs.Common.{rules, arith, ◌≡◌, ◌+◌, ◌-◌, ◌<◌, ◌≤◌, ◌++◌, [], length, get_or, refl, sym, ap, ◌∙◌}
-use Rattle.std.proofs.lemmas.List.{append-nil}
-use Rattle.anf_convert.specs.Captured.{Words, entry, words_of}
-use Rattle.closure_lift.specs.FreeVariables.{level_words}
-use Rattle.closure_lift.proofs.Scoped.{entry_of, number_of, found_entry, found_number, found_level, beyond_entry, beyond_number, beyond_level}
+use Rattle.std.proofs.Common.{rules, arith, ◌≡◌, ◌<◌, ◌≤◌, length, get_or, sym, ap, ◌∙◌}
+use Rattle.anf_convert.specs.Captured.{Words, entry}
+use Rattle.closure_lift.proofs.Scoped.{entry_of, number_of, found_entry, found_number, beyond_entry, beyond_number}
 use Rattle.closure_lift.proofs.variables.Variables.find.Goals as goal
 
 pub returns-then-i-count-clause-entry : goal.returns-then-i-count-clause-entry

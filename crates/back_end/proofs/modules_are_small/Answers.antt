@@ -1,0 +1,8 @@
+use Rattle.back_end.proofs.Sizes.{locals_are_few, modules_are_small}
+use Rattle.back_end.proofs.modules_are_small.Goals as goal
+
+pub returns-clause-bytes : goal.returns-clause-bytes
+returns-clause-bytes c = modules_are_small
+
+pub returns-clause-locals : goal.returns-clause-locals
+returns-clause-locals c = locals_are_few

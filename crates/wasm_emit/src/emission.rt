@@ -1,0 +1,183 @@
+//! The module of a lifted program.
+ghost use Rattle.std.specs.Prelude.{◌≡◌, ◌+◌, ◌++◌, ◌∷◌, ◌≤◌, [], IfOk, IfErr, OnOk, replicate, length};
+ghost use Rattle.closure_lift.specs.LiftedProgram.{lifted_of};
+ghost use Rattle.wasm_core.specs.declared.types.ValType.TheVariants as type;
+ghost use Rattle.wasm_core.specs.ModuleTyping.{IsValid};
+ghost use Rattle.wasm_emit.specs.EmittedModule.{module_of, entries, type_main, type_constant, type_alloc, type_function, word_global as global_word};
+ghost use Rattle.wasm_emit.specs.Emission.{Emits, exports_with};
+ghost use Rattle.wasm_emit.specs.EmittedBodies.{FewLocals, MemoryOrNot};
+ghost use Rattle.wasm_emit.specs.declared.fault.EmitFault.TheVariants.{Memory};
+
+use crate::blocks::function_index;
+use crate::bodies::all_bodies;
+use crate::fault::EmitFault;
+use closure_lift::program::Lifted;
+use std::alloc::Global;
+use wasm_core::{
+    Bodies, Bytes, ConstValue, Export, ExportKind, Exports, FuncType, FuncTypes, GlobalDef,
+    GlobalDefs, Limits, Module, Numbers, Segment, Segments, ValType, ValTypes, Valid,
+};
+
+/// A function type of so many words that gives a word or nothing.
+fn type_of(alloc: Global, params: u32, gives: Option<ValType>) -> Result<FuncType, EmitFault>
+    ensures is { IfOk result (λ t. t ≡ record { params = replicate params type.I32; result = gives }) }
+    ensures only_memory { IfErr result (λ e. e ≡ Memory) }
+{
+    let mut types = Vec::new(alloc);
+    for _ in 0..params {
+        types.push(ValType::I32)?;
+    }
+    Ok(FuncType {
+        params: ValTypes::of(types),
+        result: gives,
+    })
+}
+
+/// The types of main, of a constant's function, of the function that gives memory, and of the program's functions.
+fn types_of(alloc: Global) -> Result<FuncTypes, EmitFault>
+    ensures is { IfOk result (λ ts. ts ≡ type_main ∷ type_constant ∷ type_alloc ∷ type_function ∷ []) }
+    ensures only_memory { IfErr result (λ e. e ≡ Memory) }
+{
+    let main = type_of(alloc, 0, None)?;
+    let constant = type_of(alloc, 0, Some(ValType::I32))?;
+    let allocator = type_of(alloc, 1, Some(ValType::I32))?;
+    let function = type_of(alloc, 2, Some(ValType::I32))?;
+    let items = vec![in alloc; main, constant, allocator, function]?;
+    Ok(FuncTypes::of(items))
+}
+
+/// So many times the same number, behind those that are there.
+fn push_times(items: &mut Vec<u32>, n: usize, x: u32) -> Result<(), EmitFault>
+    ensures pushed { OnOk result (items.new.items ≡ items.old.items ++ replicate n x) }
+    ensures only_memory { IfErr result (λ e. e ≡ Memory) }
+{
+    for _ in 0..n {
+        items.push(x)?;
+    }
+    Ok(())
+}
+
+/// The type index of each function.
+fn funcs_of(alloc: Global, p: &Lifted) -> Result<Numbers, EmitFault>
+    ensures is { IfOk result (λ ns. ns ≡ ((module_of (lifted_of p.now) 0).funcs)) }
+    ensures only_memory { IfErr result (λ e. e ≡ Memory) }
+{
+    let mut items = vec![in alloc; 2, 3]?;
+    push_times(&mut items, p.functions.as_slice().len(), 3)?;
+    push_times(&mut items, p.constants.len(), 1)?;
+    items.push(0)?;
+    Ok(Numbers::of(items))
+}
+
+/// An export.
+fn export_of(alloc: Global, name: &[u8], kind: ExportKind, index: u32) -> Result<Export, EmitFault>
+    ensures is { IfOk result (λ e. e ≡ record { name = name.now; kind = kind; index = index }) }
+    ensures only_memory { IfErr result (λ e. e ≡ Memory) }
+{
+    let name = Vec::from_slice(alloc, name)?;
+    Ok(Export {
+        name: Bytes::of(name),
+        kind,
+        index,
+    })
+}
+
+/// The exports, with the index of main.
+fn exports_of(alloc: Global, main: u32) -> Result<Exports, EmitFault>
+    ensures is { IfOk result (λ es. es ≡ exports_with main) }
+    ensures only_memory { IfErr result (λ e. e ≡ Memory) }
+{
+    let main = export_of(alloc, b"main", ExportKind::Func, main)?;
+    let memory = export_of(alloc, b"memory", ExportKind::Memory, 0)?;
+    let result = export_of(alloc, b"result", ExportKind::Global, 0)?;
+    let status = export_of(alloc, b"status", ExportKind::Global, 1)?;
+    let items = vec![in alloc; main, memory, result, status]?;
+    Ok(Exports::of(items))
+}
+
+/// A global that can be set, with its first word.
+fn word_global(word: u32) -> GlobalDef
+    ensures is { result ≡ global_word word }
+{
+    GlobalDef {
+        mutable: true,
+        ty: ValType::I32,
+        init: ConstValue::I32(word),
+    }
+}
+
+/// The table's only segment: from its start on the functions from 1 on, so many.
+fn elements_of(alloc: Global, n: u32) -> Result<Segments, EmitFault>
+    ensures is { IfOk result (λ ss. ss ≡ record { offset = 0; funcs = entries 1 n } ∷ []) }
+    ensures only_memory { IfErr result (λ e. e ≡ Memory) }
+{
+    let mut funcs = Vec::new(alloc);
+    for k in 0..n {
+        funcs.push(k + 1)?;
+    }
+    let segment = Segment {
+        offset: 0,
+        funcs: Numbers::of(funcs),
+    };
+    let items = vec![in alloc; segment]?;
+    Ok(Segments::of(items))
+}
+
+/// The globals: the result and the status, which are 0 at first, and the end of the heap, which begins at byte 8.
+fn globals_of(alloc: Global) -> Result<GlobalDefs, EmitFault>
+    ensures is { IfOk result (λ gs. gs ≡ global_word 0 ∷ global_word 0 ∷ global_word 8 ∷ []) }
+    ensures only_memory { IfErr result (λ e. e ≡ Memory) }
+{
+    let items = vec![in alloc; word_global(0), word_global(0), word_global(8)]?;
+    Ok(GlobalDefs::of(items))
+}
+
+/// The number of the table's entries: one for box, and one for each function of the program.
+fn entry_count(p: &Lifted) -> u32
+    requires few { length ((lifted_of p.now).functions) ≤ 32768 }
+    ensures is { result ≡ length ((lifted_of p.now).functions) + 1 }
+{
+    p.functions.as_slice().len() as u32 + 1
+}
+
+/// The module of a lifted program, which is valid. Its memory has one page of 65,536 bytes at first, and `pages` at most. What its runs answer, and within
+/// which bounds, is `emitted_runs_answer`.
+///
+/// `Locals` exactly where a function would have over 50,000 locals besides its parameters.
+pub fn emit(alloc: Global, p: &Lifted, pages: u32) -> Result<Valid, EmitFault>
+    requires form { Emits (lifted_of p.now) }
+    requires least { 1 ≤ pages }
+    requires greatest { pages ≤ 16384 }
+    ensures is { IfOk result (λ v. v ≡ module_of (lifted_of p.now) pages) }
+    ensures valid { IfOk result IsValid }
+    ensures few { IfOk result (λ _. FewLocals (lifted_of p.now)) }
+    ensures refused { IfErr result (λ e. MemoryOrNot e (FewLocals (lifted_of p.now))) }
+{
+    let bodies = all_bodies(alloc, p)?;
+    let entries = entry_count(p);
+    let main = function_index(p, p.constants.len())?;
+    let types = types_of(alloc)?;
+    let funcs = funcs_of(alloc, p)?;
+    let globals = globals_of(alloc)?;
+    let exports = exports_of(alloc, main)?;
+    let elements = elements_of(alloc, entries)?;
+    let table = Limits {
+        min: entries,
+        max: Some(entries),
+    };
+    let memory = Limits {
+        min: 1,
+        max: Some(pages),
+    };
+    let module = Module::new(
+        types,
+        funcs,
+        Some(table),
+        Some(memory),
+        globals,
+        exports,
+        elements,
+        Bodies::of(bodies),
+    );
+    Ok(Valid::of(module))
+}
