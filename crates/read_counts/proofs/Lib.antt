@@ -1,2 +1,2 @@
-mod FewBlocks
-mod KeptBlocks
+pub mod FewBlocks
+pub mod KeptBlocks

@@ -1,0 +1,36 @@
+//! The list of the passes.
+ghost use Rattle.std.specs.Prelude.{◌≡◌, ◌≤◌, IfOk, IfErr};
+ghost use Rattle.lambda_box.specs.BoxForm.{IsBoxProgram};
+ghost use Rattle.back_end.specs.BackEnd.{passed};
+ghost use Rattle.wasm_emit.specs.EmittedModule.{module_of};
+ghost use Rattle.compile.specs.Passes.{Fits, IsRefused};
+
+use crate::fault::CompileFault;
+use anf_convert::to_anf;
+use box_passes::{prop_match, saturate};
+use box_terms::program::BoxProgram;
+use closure_lift::lift_program;
+use std::alloc::Global;
+use wasm_core::Valid;
+use wasm_emit::emit;
+
+/// The module of a program, whose memory has at most `pages` pages of 65,536 bytes (1 to 16,384): the passes in their order.
+///
+/// `Depth` exactly where the saturated program has a term over the depth limit of 2,048; else `Captured` exactly where a lambda or fixpoint has over 1,000
+/// captured words; else `Functions` exactly where the constants, the definitions of fixpoints and the other lambdas are together over 32,768; else `Locals`
+/// exactly where a function would have over 50,000 locals besides its parameters.
+pub fn compile(alloc: Global, p: &BoxProgram, pages: u32) -> Result<Valid, CompileFault>
+    requires form { IsBoxProgram p.now }
+    requires least { 1 ≤ pages }
+    requires greatest { pages ≤ 16384 }
+    ensures is { IfOk result (λ v. v ≡ module_of (passed p.now) pages) }
+    ensures fits { IfOk result (λ _. Fits p.now) }
+    ensures refused { IfErr result (IsRefused p.now) }
+{
+    let ordinary = prop_match(alloc, p)?;
+    let saturated = saturate(alloc, &ordinary)?;
+    let normal = to_anf(alloc, &saturated)?;
+    let lifted = lift_program(alloc, &normal)?;
+    let module = emit(alloc, &lifted, pages)?;
+    Ok(module)
+}

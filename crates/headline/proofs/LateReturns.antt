@@ -1,0 +1,53 @@
+-- A run that returns has made at least as many steps as the evaluation of the saturated program has matches.
+use Rattle.std.proofs.Common.{◌∙◌, ℕ, ◌≤◌, List, [], ◌∷◌, refl, sym, subst, arith}
+use Rattle.trees.specs.Measures.{depth}
+use Rattle.lambda_box.specs.BoxProgram.{BoxConstant, Has, here, there}
+use Rattle.lambda_box.specs.ClosureEvaluation.{Empty, NoValue, bind_all, Run}
+use Rattle.lambda_box.specs.DataTerms.{no_data}
+use Rattle.box_passes.specs.PassLaws.{saturated_program}
+use Rattle.box_passes.proofs.Matches.{same_matches}
+use Rattle.box_passes.proofs.Passes.{passes_form}
+use Rattle.anf_convert.specs.AnfData.{DNil, anf_data_none}
+use Rattle.anf_convert.specs.AnfEvaluation.{WNil}
+use Rattle.anf_convert.specs.AnfForm.{AnfFormed}
+use Rattle.anf_convert.specs.BoxForms.{AreShallow}
+use Rattle.anf_convert.specs.ToAnf.{to_anf}
+use Rattle.anf_convert.specs.ToAnfKeeps.{box_alone}
+use Rattle.anf_convert.specs.ToAnfKeeps as anf
+use Rattle.anf_convert.proofs.Follows.{to_anf_keeps}
+use Rattle.anf_convert.proofs.Preorder.{reads_tree}
+use Rattle.anf_convert.proofs.Prepared.{data_kept, form_kept}
+use Rattle.wasm_core.specs.declared.ended.Ended.TheVariants.{Returned}
+use Rattle.wasm_core.specs.Parts.{Parts}
+use Rattle.wasm_core.specs.MachineStep.{State, Store, Over, Reach}
+use Rattle.wasm_core.specs.RunTree.{Fate, ended, ran_out}
+use Rattle.wasm_core.proofs.Small.{inj}
+use Rattle.wasm_emit.specs.EmitLaws.{Spent}
+use Rattle.wasm_emit.proofs.Composition.{anf_emits}
+use Rattle.back_end.proofs.Whole.{families, no_values}
+use Rattle.headline.specs.EveryRun.{module_for, ReturnsTakeMatches}
+
+pub returned_late : {M : Parts} {frames bytes : ℕ} {Q : State → Type 0} {least k : ℕ} {s : Store} → Fate M frames Q (Spent M bytes) least k (Over Returned s) → least ≤ k
+returned_late (ended q le) = le
+returned_late (ran_out x) = elim x [ ]
+
+all_shallow : (cs : List BoxConstant) → ((d : BoxConstant) → Has cs d → depth d.body ≤ 2048) → AreShallow cs
+all_shallow [] h = tt
+all_shallow (c ∷ cs) h = (h c here, all_shallow cs (λ d m. h d (there m)))
+
+pub late_returns : ReturnsTakeMatches
+late_returns P pages b pos small some ok value tree nodes matches evaluates reads first k s starts reach =
+    let S = saturated_program P in
+    let kept = passes_form P ok.form in
+    let shallow = all_shallow S.constants ok.constants in
+    let formed : AnfFormed (to_anf S) b = form_kept S (to_anf S) refl shallow ok.main kept.form kept.ordinary b (families P.families b ok.constructors) in
+    let ready = (data_kept S (to_anf S) refl shallow ok.main kept.form kept.ordinary).0 in
+    let x = same_matches S kept.form kept.saturated [] [] no_data value tree nodes matches evaluates reads in
+    let r = x.2 in
+    let run = subst (λ vs. Run S (bind_all vs Empty) S.main r.v r.counts) (no_values x.1 refl) r.run in
+    let d = reads_tree r.v tree r.reads in
+    let c = r.counts in
+    let y = to_anf_keeps S NoValue WNil DNil r.v d.0 c ready anf.no_values anf_data_none (box_alone run) d.1 in
+    let z = anf_emits (to_anf S) pages c.greatest b y.v d.0 y.contractions c.matches c.blocks y.words pos small some formed ok.limits y.answers y.is in
+    let least = returned_late (z.run k (Over Returned s) (subst (λ (f : State). Reach (module_for P pages) k f (Over Returned s)) (inj (sym starts ∙ z.starts)) reach)).1 in
+    omega (arith, r.matches, least)

@@ -1,0 +1,8 @@
+pub mod PastMaximum
+pub mod LateReturns
+pub mod EachRun
+pub mod ReadFormed
+pub mod Derived
+pub mod SourceSizes
+pub mod Writing
+pub mod Composed

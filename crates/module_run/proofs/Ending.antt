@@ -1,0 +1,67 @@
+-- From what the last steps of an answer say to how it ends.
+use Rattle.std.proofs.Common.{◌≡◌, ℕ, ◌≤◌, length, Some, Result, Ok, Err, refl, sym, ap, subst, ◌∙◌}
+use Rattle.wasm_core.specs.declared.ended.Ended.TheVariants.{Returned}
+use Rattle.wasm_core.specs.declared.entries.Entry.TheVariants as entry
+use Rattle.wasm_core.specs.Parts.{Parts}
+use Rattle.wasm_core.specs.MachineStep.{State, Store, Over}
+use Rattle.wasm_core.specs.MachineRun.{Shown}
+use Rattle.wasm_core.specs.Runs.{store_of}
+use Rattle.wasm_core.specs.Answer.{global_of}
+use Rattle.wasm_core.specs.WordData.{StandsFor}
+use Rattle.mem_value.specs.Tells.{HasData, HasMany, most_nodes}
+use Rattle.module_run.specs.declared.answer.Answer.{Answer}
+use Rattle.module_run.specs.declared.refusal.RunRefusal.{RunRefusal}
+use Rattle.module_run.specs.declared.refusal.RunRefusal.TheVariants as refusals
+use Rattle.module_run.specs.Ends.{Ends, IsSmall, IsReturned, IsTold, HasReturned, RunSays, AnswerSays}
+
+module _ (m : Parts) (cap n : ℕ) (small : IsSmall m) (a : Shown) where
+  pub run_ends : (r : RunRefusal) → RunSays m cap n a (Err r) → Ends m cap n (Err r)
+  run_ends refusals.ModuleBytes h = absurd h
+  run_ends refusals.StepsSpent h = (small, h)
+  run_ends refusals.Exhausted h = (small, h)
+  run_ends (refusals.Trapped kind) h = (small, h)
+  run_ends (refusals.NoValue word) h = absurd h
+  run_ends refusals.AnswerNodes h = absurd h
+  run_ends refusals.Memory h = tt
+
+  -- the exit of a `?`
+  pub exit_ends : (r : Result Answer RunRefusal) (x : RunRefusal) → (y : RunRefusal) × (r ≡ Err y) × (y ≡ x) → RunSays m cap n a (Err x) → Ends m cap n r
+  exit_ends r x (y, is, same) h = subst (Ends m cap n) (sym (is ∙ ap Err same)) (run_ends x h)
+
+  module _ (back : HasReturned m cap n a) where
+    store_is : store_of a.state ≡ back.store
+    store_is = ap store_of back.at
+
+    -- the word in `result` of the run that returned
+    abbrev returned : {Stands : ℕ → Type 0} → (t : IsTold a Stands) (w : ℕ) → t.word ≡ w → IsReturned m cap n w
+    returned t w same = record {
+      store = back.store;
+      run = back.run;
+      word_is = subst (λ (s : Store). global_of entry.Result m s ≡ Some w) store_is (subst (λ (p : Parts). global_of entry.Result p (store_of a.state) ≡ Some w) back.program (t.is_result back.sound ∙ ap (λ (v : ℕ). Some v) same));
+    }
+
+    pub answer_ends : (r : Result Answer RunRefusal) → AnswerSays a r → Ends m cap n r
+    answer_ends (Ok x) t =
+        let (word, stands, few) = t.stands in
+        let same = word back.sound in (
+          small,
+          record {
+            returned = returned t x.word same;
+            stands = subst (λ (s : Store). StandsFor s.memory x.word x.tree) store_is (subst (λ w. StandsFor (store_of a.state).memory w x.tree) same stands);
+            few = few;
+          },
+        )
+    answer_ends (Err (refusals.NoValue x)) t =
+        let (same, none) = t.stands in (
+          small,
+          record {
+            returned = returned t x (sym same);
+            none = λ d. none (subst (HasData (store_of a.state).memory) same (subst (λ (s : Store). HasData s.memory x) (sym store_is) d));
+          },
+        )
+    answer_ends (Err refusals.AnswerNodes) t = (small, record { word = t.word; returned = returned t t.word refl; many = subst (λ (s : Store). HasMany s.memory t.word) store_is t.stands })
+    answer_ends (Err refusals.Memory) t = tt
+    answer_ends (Err refusals.ModuleBytes) t = absurd t
+    answer_ends (Err refusals.StepsSpent) t = absurd t
+    answer_ends (Err refusals.Exhausted) t = absurd t
+    answer_ends (Err (refusals.Trapped kind)) t = absurd t

@@ -1,0 +1,3 @@
+pub mod OneRun
+pub mod OneEnd
+pub mod Ending

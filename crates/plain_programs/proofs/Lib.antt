@@ -1,0 +1,4 @@
+pub mod Searched
+pub mod Erased
+pub mod Passed
+pub mod Runs

@@ -1,0 +1,3 @@
+pub mod PlainEnvironment
+pub mod PlainProgram
+pub mod Laws
