@@ -22,10 +22,10 @@ use Rattle.first_order.specs.Searching.{family_in, places, member, members, IsNa
 use Rattle.first_order.specs.Reading.{field, fields, is_family, Taken, arguments_of, node_in, node_of, Reading, Read, on_node, read_on, read, plain_ctor, plain_type, reading}
 use Rattle.first_order.proofs.NodeByNode.{fields_length, drop_length, put_read, read_none, read_past, read_next, many_read}
 
-abbrev place_of : Field → ℕ
+abbrev pub place_of : Field → ℕ
 place_of x = x.place
 
-abbrev value_of : Field → Term
+abbrev pub value_of : Field → Term
 value_of x = x.value
 
 -- a node that is taken, taken apart
@@ -78,7 +78,7 @@ places_of_fields [] xs e = refl
 places_of_fields (j ∷ js) [] e = absurd (omega (arith, e))
 places_of_fields (j ∷ js) (x ∷ xs) e = ap (◌∷◌ j) (places_of_fields js xs (omega (arith, e)))
 
-values_of_fields : (js : List ℕ) (xs : List Term) → length xs ≡ length js → map value_of (fields js xs) ≡ xs
+pub values_of_fields : (js : List ℕ) (xs : List Term) → length xs ≡ length js → map value_of (fields js xs) ≡ xs
 values_of_fields [] [] e = refl
 values_of_fields [] (x ∷ xs) e = absurd (omega (arith, e))
 values_of_fields (j ∷ js) [] e = absurd (omega (arith, e))

@@ -5,3 +5,5 @@ pub mod Working
 pub mod Parts
 pub mod Written
 pub mod ReadTexts
+pub mod Lowered
+pub mod AllRead

@@ -4,6 +4,9 @@ use Rattle.std.proofs.Common.{false, if◌then◌else◌, IsTrue, List, [], ◌�
 use Rattle.std.specs.Prelude.{option_map}
 use Rattle.std.proofs.lemmas.Bool.{eq-eqb, eqb-true}
 use Rattle.std.proofs.lemmas.List.{map-append, take_all}
+use Rattle.trees.specs.Substitution.{lift}
+use Rattle.trees.specs.Measures.{IsWithin, IsBeyond}
+use Rattle.trees.proofs.Cutoffs.{lift-shift}
 use Rattle.pc_terms.specs.Syntax.{Term, Rel, Ind, variables, shift}
 use Rattle.pc_terms.specs.declared.leaf.FamilyId.{FamilyId}
 use Rattle.pc_rules.specs.declared.declaration.Constructor.{Constructor}
@@ -30,6 +33,7 @@ use Rattle.pc_rules.proofs.Following.{follows_then, follows_else, follows_tick, 
 use Rattle.pc_rules.proofs.SameWithin.{bind_assoc}
 use Rattle.first_order.specs.declared.faults.ShapeRefusal.{ShapeRefusal}
 use Rattle.first_order.specs.Searching.{searched, one_constructor, is_whole}
+use Rattle.first_order.proofs.Lowered.{not_both}
 use Rattle.first_order.proofs.Searches.{then_done, collect_next, collect_lost, collect_end, leads_along, leads_found, leads_same, found_unit}
 
 -- ---- the place of a type in a list
@@ -153,6 +157,11 @@ pub mentions_it : (n : ℕ) (B L S : Term) → L ≡ lowered n B → S ≡ shift
 mentions_it n B L S l s differs =
     let other : same (shift n 0 (lowered n B)) B ≡ false = other_tree (shift n 0 (lowered n B)) B (λ e. differs (s ∙ ap (shift n 0) l ∙ e)) (same (shift n 0 (lowered n B)) B) refl in
     sym (ap (λ b. if b then Some (lowered n B) else None) other)
+
+-- where the type without the arguments, lifted over them, is beyond the limits, it is another one than the type
+pub beyond_mentions : (n : ℕ) (B L : Term) → L ≡ lowered n B → IsWithin B → IsBeyond (lift n 0 L) → None ≡ without n B
+beyond_mentions n B L l h b =
+    mentions_it n B L (shift n 0 L) l refl (λ e. not_both (lift n 0 L) (along IsWithin (sym (lift-shift n 0 L ∙ e)) h) b)
 
 -- those found so far, before the rest
 abbrev pub behind : List Term → Option (List Term) → Option (List Term)

@@ -1,3 +1,4 @@
 pub mod Reading
 pub mod Searching
 pub mod Texts
+pub mod Laws

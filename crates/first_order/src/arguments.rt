@@ -42,12 +42,14 @@ fn without(alloc: Global, count: u32, ty: &Term) -> Result<Option<Term>, MakeFau
     ensures only_memory { IfErr result (λ e. e ≡ Memory) }
 {
     let before = variables(alloc, count)?;
-    // Variables that are put in for variables make no term deeper: what is met here is that there is no memory.
-    let Ok(lowered) = ty.subst_list(alloc, &before) else {
-        return Err(MakeFault::Memory);
-    };
-    let Ok(lifted) = lowered.lift(alloc, count, 0) else {
-        return Err(MakeFault::Memory);
+    // Variables that are put in for variables make no term deeper, and raise no variable's number: only `Memory` is met.
+    let whole = ty.share()?;
+    let lowered = whole.subst_list(alloc, &before)?;
+    let lifted = match lowered.lift(alloc, count, 0) {
+        Ok(lifted) => lifted,
+        // A term beyond the limits is another one than the type.
+        Err(MakeFault::TooDeep) => return Ok(None),
+        Err(MakeFault::Memory) => return Err(MakeFault::Memory),
     };
     if lifted.same(ty) {
         return Ok(Some(lowered));

@@ -15,6 +15,7 @@
 
 mod arguments;
 pub mod faults;
+pub mod laws;
 pub mod reading;
 pub mod searching;
 pub mod shapes;

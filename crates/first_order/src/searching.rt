@@ -1,5 +1,5 @@
 //! The search for the types of a first-order set.
-ghost use Rattle.std.specs.Prelude.{◌≡◌, ◌≤◌, map, length, slice_get, IfOk, IfErr, MatchOption, Some, None};
+ghost use Rattle.std.specs.Prelude.{◌≡◌, ◌↔◌, ◌≤◌, IsTrue, map, length, slice_get, IfOk, IfErr, MatchOption, Some, None};
 ghost use Rattle.pc_terms.specs.declared.term.MakeFault.TheVariants.{Memory};
 ghost use Rattle.pc_rules.specs.Environment.{with_parameters};
 ghost use Rattle.pc_rules.specs.FirstOrder.{IsFirstOrder};
@@ -26,13 +26,24 @@ use universe_levels::sort::Sort;
 /// The most types of a first-order set.
 pub const MOST_TYPES: usize = 1024;
 
+/// Whether two types are one tree. Those of two depths aren't, which needs no walk. Takes no memory.
+fn is_same(ty: &Term, other: &Term) -> bool
+    ensures is { IsTrue result ↔ (ty.now ≡ other.now) }
+{
+    let depth = ty.depth();
+    if depth != other.depth() {
+        return false;
+    }
+    ty.same(other)
+}
+
 /// The place of a type in a list; none where it isn't there. Takes no memory.
 fn place_in(types: &[Term], ty: &Term) -> Option<u32>
     requires few { length types.now ≤ 1024 }
     ensures is { result ≡ place_in ty.now types.now }
 {
     for i in 0..types.len() {
-        if types[i].same(ty) {
+        if is_same(&types[i], ty) {
             return Some(i as u32);
         }
     }

@@ -4,7 +4,7 @@ ghost use Rattle.pc_rules.specs.Evaluation.{Evaluates};
 ghost use Rattle.pc_rules.specs.DirectedEvaluation.{evaluation};
 ghost use Rattle.pc_rules.specs.DirectedLaws.{more};
 ghost use Rattle.pc_rules.specs.Follows.{Follows};
-ghost use Rattle.source_eval.specs.Evaluated.{evaluated, StuckHasNoValue};
+ghost use Rattle.source_eval.specs.Evaluated.{evaluated, GivesTheValue, SpentIsTooMany, StuckHasNoValue};
 
 use crate::entering::enter;
 use crate::machine::{Machine, Settled};
@@ -40,12 +40,8 @@ impl From<MakeFault> for EvalStop {
     }
 }
 
-/// The value of a closed term (PCUIC, POPL 2020, section 4: weak call-by-value evaluation), for which each node of its evaluation takes a
-/// unit, when its term is entered.
-///
-/// `Spent` exactly where the evaluation enters more terms than units are left and `TooDeep` did not come. `Stuck` exactly where it enters
-/// the kept term, for which there is no rule; over an accepted environment the whole term has no value then. `TooDeep` only where a term of the evaluation is beyond the limits of terms in memory.
-pub fn eval(alloc: Global, env: &Env, t: &Term, m: &mut Meter) -> Result<Term, EvalStop>
+/// The value of a term, or why there is none: the nodes of its evaluation, one after the other.
+fn run(alloc: Global, env: &Env, t: &Term, m: &mut Meter) -> Result<Term, EvalStop>
     ensures follows { Follows (evaluation env.now t.now m.old.account) (evaluated result) m.old m.new }
     ensures value { IfOk result (λ v. (n : ℕ) × Evaluates env.now t.now v n × (m.old.account ≡ more n m.new.account)) }
     ensures stuck { StuckHasNoValue env.now t.now result }
@@ -64,4 +60,21 @@ pub fn eval(alloc: Global, env: &Env, t: &Term, m: &mut Meter) -> Result<Term, E
             Settled::Stuck(term) => return Err(EvalStop::Stuck { term }),
         }
     }
+}
+
+/// The value of a closed term (PCUIC, POPL 2020, section 4: weak call-by-value evaluation), for which each node of its evaluation takes a
+/// unit, when its term is entered.
+///
+/// `Spent` exactly where the evaluation enters more terms than units are left and `TooDeep` did not come. `Stuck` exactly where it enters
+/// the kept term, for which there is no rule. `TooDeep` only where a term of the evaluation is beyond the limits of terms in memory. Over an accepted environment: where the term
+/// has a value with a node for each unit at most, and what its evaluation makes is within the limits, the value is given, but for want of memory; after `Spent` each value has more
+/// nodes than there were units; after `Stuck` there is no value.
+pub fn eval(alloc: Global, env: &Env, t: &Term, m: &mut Meter) -> Result<Term, EvalStop>
+    ensures follows { Follows (evaluation env.now t.now m.old.account) (evaluated result) m.old m.new }
+    ensures value { IfOk result (λ v. (n : ℕ) × Evaluates env.now t.now v n × (m.old.account ≡ more n m.new.account)) }
+    ensures complete { GivesTheValue env.now t.now m.old.account.left result }
+    ensures spent { SpentIsTooMany env.now t.now m.old.account.left result }
+    ensures stuck { StuckHasNoValue env.now t.now result }
+{
+    run(alloc, env, t, m)
 }
