@@ -1,0 +1,5 @@
+mod Rules
+pub mod Ranges
+mod Options
+mod Numerals
+mod Commands

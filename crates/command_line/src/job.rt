@@ -1,0 +1,33 @@
+//! The jobs of the program.
+
+ghost use Rattle.std.specs.Prelude.{◌≡◌};
+ghost use Rattle.command_line.specs.Jobs.{job_named};
+
+/// A job of the program.
+#[derive(Clone, Copy, Debug, PartialEq, Eq)]
+pub enum Job {
+    /// An environment is checked and compiled, and its module is run.
+    Exec,
+    /// An environment is checked.
+    Check,
+    /// An environment is checked, and main is evaluated.
+    Eval,
+    /// A module is run.
+    Run,
+    /// An environment is checked and compiled, and its module is written.
+    Compile,
+}
+
+/// The job of this name.
+pub(crate) fn job_of(name: &str) -> Option<Job>
+    ensures is { result ≡ job_named name.now }
+{
+    match name {
+        "exec" => Some(Job::Exec),
+        "check" => Some(Job::Check),
+        "eval" => Some(Job::Eval),
+        "run" => Some(Job::Run),
+        "compile" => Some(Job::Compile),
+        _ => None,
+    }
+}

@@ -1,0 +1,2 @@
+pub mod OneFileEnd
+pub mod Stages
