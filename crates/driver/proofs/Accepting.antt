@@ -28,7 +28,26 @@ use Rattle.pc_rules.specs.DirectedWeakHead.{kept_at, whole_block}
 use Rattle.pc_rules.specs.DirectedComparison.{Test, Comparison, compare}
 use Rattle.pc_rules.specs.DirectedTyping.{Typing, infer, sorts_of, check_all, undeclared_in, levels_declared, find_family, family_number, constructor_number, construct_rule}
 use Rattle.pc_rules.specs.DirectedPlaces.{and_then}
-use Rattle.pc_rules.specs.DirectedDeclarations.{accepts, has_name, distinct_names, heads_rule, arguments_rule, constructor_rule, with_constructors, constructors_rule, families_rule, with_families, with_heads, block_rule, fresh_name, declaration_rule, placed, declarations_rule, main_rule, environment_rule}
+use Rattle.pc_rules.specs.DirectedDeclarations.{
+  accepts,
+  has_name,
+  distinct_names,
+  heads_rule,
+  arguments_rule,
+  constructor_rule,
+  with_constructors,
+  constructors_rule,
+  families_rule,
+  with_families,
+  with_heads,
+  block_rule,
+  fresh_name,
+  declaration_rule,
+  placed,
+  declarations_rule,
+  main_rule,
+  environment_rule,
+}
 use Rattle.dump_reader.specs.declared.declaration.RawCtor.{RawCtor}
 use Rattle.dump_reader.specs.declared.declaration.RawFamily.{RawFamily}
 use Rattle.dump_reader.specs.declared.declaration.RawDecl.{RawDecl}
@@ -38,10 +57,9 @@ use Rattle.inductive_check.specs.Given.{ctor_of, family_of, block_of, given_of}
 use Rattle.pc_rules.proofs.WeakNext.{same_names_is}
 use Rattle.rule_laws.proofs.SimpleRules.{some_none}
 use Rattle.env_check.specs.Rules.{rules_of, givens}
-use Rattle.driver.specs.declared.command_line.Job.TheVariants.{Exec}
 use Rattle.driver.specs.Judged.{name_of, start, status_by, EndsWith}
-use Rattle.driver.specs.Serve.{Takes}
 use Rattle.driver.specs.Plain.{set_sort, IsConstant, IsEnumeration, IsEnumerationBlock}
+use Rattle.plain_programs.specs.PlainEnvironment.{AreConstants, ArePlainBlocks, KeepsPlain}
 use Rattle.driver.specs.Answerable.{HasDistinctConstructors, HasDistinctNames, DeclaresConstructor, IsAnswerable}
 
 -- the first of a list against each later one
@@ -63,10 +81,10 @@ differs k l n = differ k l (same_names k l) refl n
 
 -- the names of a family's constructors: none of those before
 
-abbrev IsNone : List Constructor → RawCtor → Type 0
+abbrev pub IsNone : List Constructor → RawCtor → Type 0
 IsNone before c = has_name c.name before ≡ false
 
-abbrev IsOtherCtor : RawCtor → RawCtor → Type 0
+abbrev pub IsOtherCtor : RawCtor → RawCtor → Type 0
 IsOtherCtor a b = a.name ≢ b.name
 
 none_beside : (x : RawCtor) (before : List Constructor) (cs : List RawCtor) → All (IsOtherCtor x) cs → All (IsNone before) cs → All (IsNone (ctor_of x ∷ before)) cs
@@ -121,7 +139,7 @@ abbrev pub enumeration_block : Name → Name → List RawCtor → RawDecl
 enumeration_block k l cs = raw.Block k [] (enumeration l cs ∷ [])
 
 -- what is kept of it: it has no sorts of arguments
-abbrev keep : RawDecl → Kept
+abbrev pub keep : RawDecl → Kept
 keep d = Whole (block_of d)
 
 module _ (E : Env) (q : Test) (n : ℕ) (k l : Name) (cs : List RawCtor) where
@@ -156,17 +174,17 @@ module _ (E : Env) (q : Test) (n : ℕ) (k l : Name) (cs : List RawCtor) where
 -- declarations in order
 
 -- their names are new: none is kept, and each is kept before the next
-abbrev AreNew : List Kept → List RawDecl → Type 0
+abbrev pub AreNew : List Kept → List RawDecl → Type 0
 AreNew ks [] = Unit {0}
 AreNew ks (d ∷ ds) = (kept_at ks (name_of d) ≡ None) × AreNew (keep d ∷ ks) ds
 
-abbrev IsOther : RawDecl → RawDecl → Type 0
+abbrev pub IsOther : RawDecl → RawDecl → Type 0
 IsOther a b = name_of a ≢ name_of b
 
-abbrev IsNewIn : List Kept → RawDecl → Type 0
+abbrev pub IsNewIn : List Kept → RawDecl → Type 0
 IsNewIn ks d = kept_at ks (name_of d) ≡ None
 
-kept_name : (d : RawDecl) → (block_of d).name ≡ name_of d
+pub kept_name : (d : RawDecl) → (block_of d).name ≡ name_of d
 kept_name (raw.Constant k A b) = refl
 kept_name (raw.Block k ps fs) = refl
 
@@ -189,7 +207,7 @@ are_new ks (d ∷ ds) h p = (
 )
 
 -- what is kept after all of them
-abbrev all_kept : List RawDecl → List Kept → List Kept
+abbrev pub all_kept : List RawDecl → List Kept → List Kept
 all_kept [] ks = ks
 all_kept (d ∷ ds) ks = all_kept ds (keep d ∷ ks)
 
@@ -213,14 +231,14 @@ found_kept ks (x ∷ xs) zero d at n =
 found_kept ks (x ∷ xs) (suc i) d at n = found_kept (keep x ∷ ks) xs i d at n.1
 
 -- a block that is one of an enumeration
-record IsBlockOf (d : RawDecl) : Type 0 where
-  name : Name
-  family : Name
-  ctors : List RawCtor
-  is : d ≡ enumeration_block name family ctors
-  constants : All IsConstant ctors
+pub record IsBlockOf (d : RawDecl) : Type 0 where
+  pub name : Name
+  pub family : Name
+  pub ctors : List RawCtor
+  pub is : d ≡ enumeration_block name family ctors
+  pub constants : All IsConstant ctors
 
-block_is : (d : RawDecl) → IsEnumerationBlock d → IsBlockOf d
+pub block_is : (d : RawDecl) → IsEnumerationBlock d → IsBlockOf d
 block_is d h = record {
   name = h.name;
   family = h.family.name;
@@ -229,7 +247,7 @@ block_is d h = record {
   constants = h.enumeration.constants;
 }
 
-one_passes : (E : Env) (q : Test) (n : ℕ) (d : RawDecl) (u : Account) → kept_at E.declarations (name_of d) ≡ None → IsEnumerationBlock d → HasDistinctNames d →
+pub one_passes : (E : Env) (q : Test) (n : ℕ) (d : RawDecl) (u : Account) → kept_at E.declarations (name_of d) ≡ None → IsEnumerationBlock d → HasDistinctNames d →
     declaration_rule E q n (given_of d) u ≡ done (keep d) u
 one_passes E q n d u new h p =
     let b = block_is d h in
@@ -286,13 +304,13 @@ module _ (E : Env) (q : Test) (m : ℕ) (f : FamilyId) (n : ℕ) (l : Name) (cs 
 
 -- the whole
 
-at_place : {X : Type 0} (P : X → Type 0) (xs : List X) (i : ℕ) (x : X) → slice_get xs i ≡ Some x → All P xs → P x
+pub at_place : {X : Type 0} (P : X → Type 0) (xs : List X) (i : ℕ) (x : X) → slice_get xs i ≡ Some x → All P xs → P x
 at_place P xs i x e h = subst P (get_or_from_slice_get xs i x x e) (h i x (slice_get_within xs i x e))
 
 none_new : (ds : List RawDecl) → All (IsNewIn []) ds
 none_new ds = λ i d lt. refl
 
-only_one : {X : Type 0} (x y : X) (i : ℕ) → slice_get (x ∷ []) i ≡ Some y → (i ≡ 0) × (x ≡ y)
+pub only_one : {X : Type 0} (x y : X) (i : ℕ) → slice_get (x ∷ []) i ≡ Some y → (i ≡ 0) × (x ≡ y)
 only_one x y zero e = (refl, cc)
 only_one x y (suc i) e = absurd cc
 
@@ -300,6 +318,7 @@ only_one x y (suc i) e = absurd cc
 record IsMainOf (ds : List RawDecl) (f : FamilyId) (n : ℕ) : Type 0 where
   family : Name
   ctors : List RawCtor
+  constants : All IsConstant ctors
   kept : kept_at (all_kept ds []) f.block ≡ Some (keep (enumeration_block f.block family ctors))
   first : f.family ≡ 0
   ctor : RawCtor
@@ -320,6 +339,7 @@ main_is ds f n h new d =
     record {
       family = b.family;
       ctors = b.ctors;
+      constants = b.constants;
       kept = found_kept [] ds d.place (raw.Block f.block d.params d.families) d.is_block new ∙ ap (λ x. Some (keep x)) (b.is ∙ ap (λ k. enumeration_block k b.family b.ctors) block);
       first = one.0;
       ctor = c;
@@ -327,14 +347,15 @@ main_is ds f n h new d =
       no_argument = at_place IsConstant b.ctors n c is_ctor b.constants;
     }
 
-accepted : (ds : List RawDecl) (f : FamilyId) (n : ℕ) (q : Test) → All IsEnumerationBlock ds → All HasDistinctNames ds → AllPairs IsOther ds →
+accepted : (turns : ℕ) → 0 < turns → (ds : List RawDecl) (f : FamilyId) (n : ℕ) (q : Test) → All IsEnumerationBlock ds → All HasDistinctNames ds → AllPairs IsOther ds →
     DeclaresConstructor ds f n →
-    declarations_rule 0 [] q 2048 0 [] (map given_of ds) (Construct f n) start ≡ accepts (env 0 [] (all_kept ds [])) (Ind f) (noted 9 (ticked start))
-accepted ds f n q h p distinct d =
+    declarations_rule 0 [] q 2048 0 [] (map given_of ds) (Construct f n) (start turns) ≡ accepts (env 0 [] (all_kept ds [])) (Ind f) (noted 9 (ticked (start turns)))
+accepted zero some ds f n q h p distinct d = absurd (omega (arith, some))
+accepted (suc t) some ds f n q h p distinct d =
     let new = are_new [] ds (none_new ds) distinct in
     let a = main_is ds f n h new d in
-    declarations_pass 0 [] q 2048 0 [] ds (Construct f n) start new h p
-    ∙ main_passes (env 0 [] (all_kept ds [])) q 2047 f n a.family a.ctors a.ctor a.kept a.first a.is_ctor a.no_argument start 999999 refl
+    declarations_pass 0 [] q 2048 0 [] ds (Construct f n) (start (suc t)) new h p
+    ∙ main_passes (env 0 [] (all_kept ds [])) q 2047 f n a.family a.ctors a.ctor a.kept a.first a.is_ctor a.no_argument (start (suc t)) t refl
 
 -- every environment over no level and no constraint is consistent
 consistent : (e : RawEnv) → e.constraints ≡ [] → IsConsistent (length e.levels) e.constraints
@@ -346,20 +367,48 @@ consistent e none = (
   },
 )
 
-pub answerable_ends : (e : RawEnv) → IsAnswerable e → EndsWith e 0
-answerable_ends e a =
-    let is : rules_of e None 2048 start ≡ accepts (env 0 [] (all_kept e.decls [])) (Ind a.id) (noted 9 (ticked start)) =
-    ap (λ ls. environment_rule ls e.constraints None (entailed_by (length ls) e.constraints) 2048 (givens e) e.main start) a.plain.no_level
-    ∙ ap (λ cs. environment_rule [] cs None (entailed_by 0 cs) 2048 (givens e) e.main start) a.plain.no_constraint
-    ∙ ap (λ t. declarations_rule 0 [] (entailed_by 0 []) 2048 0 [] (givens e) t start) a.plain.main_is
-    ∙ accepted e.decls a.id a.number (entailed_by 0 []) a.plain.blocks a.constructors a.distinct a.main_declared in
+-- how its check ends
+pub answerable_rules : (turns : ℕ) (e : RawEnv) → 0 < turns → (a : IsAnswerable e) → rules_of e None 2048 (start turns) ≡ accepts (env 0 [] (all_kept e.decls [])) (Ind a.id) (noted 9 (ticked (start turns)))
+answerable_rules turns e some a =
+    ap (λ ls. environment_rule ls e.constraints None (entailed_by (length ls) e.constraints) 2048 (givens e) e.main (start turns)) a.plain.no_level
+    ∙ ap (λ cs. environment_rule [] cs None (entailed_by 0 cs) 2048 (givens e) e.main (start turns)) a.plain.no_constraint
+    ∙ ap (λ t. declarations_rule 0 [] (entailed_by 0 []) 2048 0 [] (givens e) t (start turns)) a.plain.main_is
+    ∙ accepted turns some e.decls a.id a.number (entailed_by 0 []) a.plain.blocks a.constructors a.distinct a.main_declared
+
+pub answerable_ends : (turns : ℕ) (e : RawEnv) → 0 < turns → IsAnswerable e → EndsWith turns e 0
+answerable_ends turns e some a =
+    let is = answerable_rules turns e some a in
     record {
-      rules = rules_of e None 2048 start;
+      rules = rules_of e None 2048 (start turns);
       judged = record { cycle = None; found = λ once declared. consistent e a.plain.no_constraint; is = refl };
       within = ap (λ d. d.deep) is;
       status_is = ap (λ d. status_by d.outcome) (sym is);
     }
 
--- `exec` takes it
-pub answerable_taken : (e : RawEnv) → IsAnswerable e → Takes Exec e
-answerable_taken e a = (a.id, a.number, a.plain)
+-- and what is kept of it
+
+kept_constants : (cs : List RawCtor) → All IsConstant cs → AreConstants (map ctor_of cs)
+kept_constants [] h = tt
+kept_constants (c ∷ cs) h = let x = All-head IsConstant c cs h in (x.0, x.1, kept_constants cs (All-tail IsConstant c cs h))
+
+kept_plain : (d : RawDecl) (ks : List Kept) → IsEnumerationBlock d → ArePlainBlocks ks → ArePlainBlocks (keep d ∷ ks)
+kept_plain d ks h k = let b = block_is d h in subst (λ x. ArePlainBlocks (keep x ∷ ks)) (sym b.is) (refl, (kept_constants b.ctors b.constants, tt), k)
+
+all_plain : (ds : List RawDecl) (ks : List Kept) → All IsEnumerationBlock ds → ArePlainBlocks ks → ArePlainBlocks (all_kept ds ks)
+all_plain [] ks h k = k
+all_plain (d ∷ ds) ks h k = all_plain ds (keep d ∷ ks) (All-tail IsEnumerationBlock d ds h) (kept_plain d ks (All-head IsEnumerationBlock d ds h) k)
+
+pub answerable_keeps : (e : RawEnv) (a : IsAnswerable e) → KeepsPlain (env 0 [] (all_kept e.decls [])) a.id a.number
+answerable_keeps e a =
+    let m = main_is e.decls a.id a.number a.plain.blocks (are_new [] e.decls (none_new e.decls) a.distinct) a.main_declared in
+    let block = block_of (enumeration_block a.id.block m.family m.ctors) in
+    record {
+      blocks = all_plain e.decls [] a.plain.blocks tt;
+      block = block;
+      kept = m.kept;
+      ctors = map ctor_of m.ctors;
+      at = ap (family_at block) m.first;
+      constants = kept_constants m.ctors m.constants;
+      ctor = ctor_of m.ctor;
+      is_ctor = slice_get-map ctor_of m.ctors a.number ∙ ap (option_map ctor_of) m.is_ctor;
+    }

@@ -26,35 +26,35 @@ use Rattle.driver.proofs.Kept.{name_there}
 use Rattle.driver.proofs.TextCauses.{within_limits}
 
 -- the account of a meter that is new
-pub begins : (u : Account) → u.left ≡ 1000000 → u.uses ≡ replicate 12 0 → u ≡ start
-begins u e f = λ i. record { left = e i; uses = f i }
+pub begins : (turns : ℕ) (u : Account) → u.left ≡ turns → u.uses ≡ replicate 12 0 → u ≡ start turns
+begins turns u e f = λ i. record { left = e i; uses = f i }
 
-module _ (e : RawEnv) (n : ℕ) (u v : Account) (none : n ≡ 0) (fresh : u ≡ start) where
-  judged : (c : Option (List ℕ)) → rules_of e c (2048 - n) u ≡ rules_of e c 2048 start
+module _ (turns : ℕ) (e : RawEnv) (n : ℕ) (u v : Account) (none : n ≡ 0) (fresh : u ≡ start turns) where
+  judged : (c : Option (List ℕ)) → rules_of e c (2048 - n) u ≡ rules_of e c 2048 (start turns)
   judged c = (λ i. rules_of e c (2048 - none i) u) ∙ ap (rules_of e c 2048) fresh
 
-  pub accepted_with : (a : Accepted) → AnswersFound e (2048 - n) u (Ok a) v → IsAcceptedWith e a.env a.main_type v
+  pub accepted_with : (a : Accepted) → AnswersFound e (2048 - n) u (Ok a) v → IsAcceptedWith turns e a.env a.main_type v
   accepted_with a h = record {
     rules = rules_of e h.cycle (2048 - n) u;
     judged = record { cycle = h.cycle; found = h.found; is = judged h.cycle };
     accepts = h.answers;
   }
 
-  pub spent_by : AnswersFound e (2048 - n) u (Err Spent) v → IsSpentBy e
+  pub spent_by : AnswersFound e (2048 - n) u (Err Spent) v → IsSpentBy turns e
   spent_by h = record {
     rules = rules_of e h.cycle (2048 - n) u;
     judged = record { cycle = h.cycle; found = h.found; is = judged h.cycle };
     spends = h.answers.0;
   }
 
-  pub too_deep_for : AnswersFound e (2048 - n) u (Err TooDeep) v → IsTooDeepFor e
+  pub too_deep_for : AnswersFound e (2048 - n) u (Err TooDeep) v → IsTooDeepFor turns e
   too_deep_for h = record {
     rules = rules_of e h.cycle (2048 - n) u;
     judged = record { cycle = h.cycle; found = h.found; is = judged h.cycle };
     deep = h.answers;
   }
 
-  pub broken_by : (p : Place) (b : Rule) (number : ℕ) (told : Where) → AnswersFound e (2048 - n) u (Err (Broken p b)) v → number ≡ number_of b → IsTold e p told → IsBrokenBy e number told
+  pub broken_by : (p : Place) (b : Rule) (number : ℕ) (told : Where) → AnswersFound e (2048 - n) u (Err (Broken p b)) v → number ≡ number_of b → IsTold e p told → IsBrokenBy turns e number told
   broken_by p b number told h is t = record {
     rules = rules_of e h.cycle (2048 - n) u;
     judged = record { cycle = h.cycle; found = h.found; is = judged h.cycle };
@@ -83,6 +83,6 @@ pub no_name : (names : List (List ℕ)) (n : ℕ) (name : List ℕ) → None ≡
 no_name names n name e f = let q : None ≡ Some name = e ∙ f in absurd cc
 
 -- what is said with the units that are left, without them
-pub check_from : (r : Result Accepted Refusal) (e : RawEnv) (u : Account) → AcceptSays r e u → CheckSays r e
-check_from (Ok a) e u h = (accepted_by e a.env a.main_type u h.0, h.2)
-check_from (Err r) e u h = h
+pub check_from : (turns : ℕ) → (r : Result Accepted Refusal) (e : RawEnv) (u : Account) → AcceptSays turns r e u → CheckSays turns r e
+check_from turns (Ok a) e u h = (accepted_by turns e a.env a.main_type u h.0, h.2)
+check_from turns (Err r) e u h = h

@@ -65,8 +65,8 @@ rules_alike e a b n u h k =
     constraints_alike (first_undeclared_end (length e.levels) 0 e.constraints) _ _ u (λ declared.
     graph_alike (length e.levels) e.constraints a b _ u (h once declared) (k once declared)))
 
-pub judged_alike : (e : RawEnv) (d d' : Checked) → IsJudged e d → IsJudged e d' → AreAlike d d'
-judged_alike e d d' h k =
+pub judged_alike : (turns : ℕ) → (e : RawEnv) (d d' : Checked) → IsJudged turns e d → IsJudged turns e d' → AreAlike d d'
+judged_alike turns e d d' h k =
     let both = rules_alike e h.cycle k.cycle 2048 _ h.found k.found in
     record {
       status = ap (λ x. status_by x.outcome) h.is ∙ both.status ∙ sym (ap (λ x. status_by x.outcome) k.is);

@@ -47,7 +47,7 @@ kept_constructor (conv p b q) = kept_constructor p
 
 -- members of lists
 
-has_mapped : {X Y : Type 0} (g : X → Y) {xs : List X} {x : X} → Has xs x → Has (map g xs) (g x)
+pub has_mapped : {X Y : Type 0} (g : X → Y) {xs : List X} {x : X} → Has xs x → Has (map g xs) (g x)
 has_mapped g here = here
 has_mapped g (there h) = there (has_mapped g h)
 
@@ -60,7 +60,7 @@ one_of : {X : Type 0} {x z : X} {P : Type 0} → Has (x ∷ []) z → (x ≡ z �
 one_of here k = k refl
 one_of (there h) k = elim h [ ]
 
-has_reversed : {X : Type 0} (xs : List X) (z : X) → Has (reverse xs) z → Has xs z
+pub has_reversed : {X : Type 0} (xs : List X) (z : X) → Has (reverse xs) z → Has xs z
 has_reversed [] z h = h
 has_reversed (x ∷ xs) z h =
     elim (has_parts (reverse xs) (x ∷ []) (subst (λ ys. Has ys z) (reverse-append (x ∷ []) xs) h)) [
@@ -68,7 +68,7 @@ has_reversed (x ∷ xs) z h =
       | inr r ↦ one_of r (λ e. subst (Has (x ∷ xs)) e here)
     ]
 
-has_place : {X Y : Type 0} (g : X → Y) (xs : List X) {y : Y} → Has (map g xs) y → (i : ℕ) × (x : X) × (slice_get xs i ≡ Some x) × (g x ≡ y)
+pub has_place : {X Y : Type 0} (g : X → Y) (xs : List X) {y : Y} → Has (map g xs) y → (i : ℕ) × (x : X) × (slice_get xs i ≡ Some x) × (g x ≡ y)
 has_place g [] h = elim h [ ]
 has_place g (x ∷ xs) here = (0, x, refl, refl)
 has_place g (x ∷ xs) (there h) = let r = has_place g xs h in (suc r.0, r.1, r.2, r.3)

@@ -19,9 +19,10 @@ use Rattle.first_order.specs.Reading.{Reading, Read, NotAt, TooMany, reading, re
 use Rattle.first_order.specs.Texts.{HasNames}
 use Rattle.first_order.proofs.DataRead.{read_is_data, reading_is}
 use Rattle.dump_reader.specs.declared.environment.RawEnv.{RawEnv}
+use Rattle.command_line.specs.declared.line.Request.{Request}
 use Rattle.driver.specs.declared.refusal.Refusal.{Refusal}
 use Rattle.driver.specs.declared.refusal.Refusal.TheVariants as refusals
-use Rattle.driver.specs.declared.command_line.Job.TheVariants.{Eval}
+use Rattle.command_line.specs.declared.job.Job.TheVariants.{Eval}
 use Rattle.driver.specs.Texts.{SpellsWithin}
 use Rattle.driver.specs.SourceEnds.{Ended, IsRead, read_value, with_set, source_rule, ShowsEnd, IsAcceptedWith, IsSourceCause, source_status}
 use Rattle.driver.specs.SourceSays.{ShapesSay, ValueSays, DataSays, IsLine}
@@ -54,12 +55,15 @@ module _ (E : Env) (t T : Term) (u : Account) where
   of_shapes refusals.WriteFault w h = absurd h
   of_shapes (refusals.Syntax o) w h = absurd h
   of_shapes (refusals.Unsupported x o) w h = absurd h
-  of_shapes refusals.Form w h = absurd h
   of_shapes (refusals.Limit l) w h = absurd h
   of_shapes refusals.InputBytes w h = absurd h
   of_shapes (refusals.Broken n p) w h = absurd h
   of_shapes refusals.AnswerNodes w h = absurd h
   of_shapes refusals.Stuck w h = absurd h
+  of_shapes (refusals.Axiom name) w h = absurd h
+  of_shapes (refusals.Program l) w h = absurd h
+  of_shapes (refusals.Run x) w h = absurd h
+  of_shapes (refusals.Module x) w h = absurd h
 
   module _ (S : List Member) (v : Account) (found : search.end ≡ Done (Found S) v) where
     abbrev value : Run Evaluated
@@ -78,13 +82,16 @@ module _ (E : Env) (t T : Term) (u : Account) where
     of_value refusals.WriteFault w h = absurd h
     of_value (refusals.Syntax o) w h = absurd h
     of_value (refusals.Unsupported x o) w h = absurd h
-    of_value refusals.Form w h = absurd h
     of_value (refusals.Limit l) w h = absurd h
     of_value refusals.InputBytes w h = absurd h
     of_value (refusals.Broken n p) w h = absurd h
     of_value refusals.Types w h = absurd h
     of_value refusals.AnswerNodes w h = absurd h
     of_value refusals.NotFirstOrder w h = absurd h
+    of_value (refusals.Axiom name) w h = absurd h
+    of_value (refusals.Program l) w h = absurd h
+    of_value (refusals.Run x) w h = absurd h
+    of_value (refusals.Module x) w h = absurd h
 
     pub whole : (x : Term) (w : Account) → value.end ≡ Done (Value x) w → (source_rule E t T u).end ≡ Done (IsRead (reading S x)) w
     whole x w e = rest ∙ bind_end value (read_value S) (Value x) w e
@@ -107,12 +114,15 @@ module _ (E : Env) (t T : Term) (u v w : Account) (hs : List Shape) (named : Are
   of_data refusals.WriteFault h = absurd h
   of_data (refusals.Syntax o) h = absurd h
   of_data (refusals.Unsupported y o) h = absurd h
-  of_data refusals.Form h = absurd h
   of_data (refusals.Limit l) h = absurd h
   of_data refusals.InputBytes h = absurd h
   of_data (refusals.Broken n p) h = absurd h
   of_data refusals.Types h = absurd h
   of_data refusals.NotFirstOrder h = absurd h
+  of_data (refusals.Axiom name) h = absurd h
+  of_data (refusals.Program l) h = absurd h
+  of_data (refusals.Run y) h = absurd h
+  of_data (refusals.Module y) h = absurd h
 
   pub ends_well : (ds : List (ℕ × ℕ)) → read hs x ≡ Read ds → source_status (source_rule E t T u).end ≡ 0
   ends_well ds e = ap source_status (read_as (Read ds) e)
@@ -134,40 +144,45 @@ names_there bytes e E T s checked hs named i c h k at at' =
 
 -- ---- the answers of `eval`
 
-pub source_says : {V : Type 0} (view : V → List ℕ) (r : Refusal) (bytes : List ℕ) (e : RawEnv) (E : Env) (t T : Term) (u w : Account) → SpellsWithin bytes e →
-    IsAcceptedWith e E T u → t ≡ e.main → (r ≡ refusals.Memory) ⊎ ShowsEnd r (source_rule E t T u) w → JobSays {V = V} Eval view (Err r) bytes
-source_says {V = V} view r bytes e E t T u w s a m (inl q) = subst (λ x. JobSays {V = V} Eval view (Err x) bytes) (sym q) tt
-source_says {V = V} view r bytes e E t T u w s a m (inr h) =
-    caused {V = V} view r bytes e s w (source_rule E t T u) h (record {
+pub source_says : {V : Type 0} (view : V → List ℕ) (q : Request) (r : Refusal) (bytes : List ℕ) (e : RawEnv) (E : Env) (t T : Term) (u w : Account) → SpellsWithin bytes e →
+    IsAcceptedWith q.turns e E T u → t ≡ e.main → IsCheckedEnvironment e.levels e.constraints (givens e) e.main E T → (r ≡ refusals.Memory) ⊎ ShowsEnd r (source_rule E t T u) w →
+    JobSays {V = V} Eval q view (Err r) bytes
+source_says {V = V} view q r bytes e E t T u w s a m checked (inl none) = subst (λ x. JobSays {V = V} Eval q view (Err x) bytes) (sym none) tt
+source_says {V = V} view q r bytes e E t T u w s a m checked (inr h) =
+    caused {V = V} view q r bytes e s w (source_rule E t T u) h (record {
       run = source_rule E t T u;
       of = record { kept = E; type = T; left = u; accepted = a; is = ap (λ x. source_rule E x T u) m };
+      well = checked;
       left = w;
       shows = h;
     })
   where
-    caused : {V : Type 0} (view : V → List ℕ) (r : Refusal) (bytes : List ℕ) (e : RawEnv) → SpellsWithin bytes e → (w : Account) (run : Run Ended) → ShowsEnd r run w → IsSourceCause r e → JobSays {V = V} Eval view (Err r) bytes
-    caused view refusals.TurnsSpent bytes e s w run h c = (e, s, tt, inr c)
-    caused view refusals.Depth bytes e s w run h c = (e, s, tt, inr c)
-    caused view refusals.NotFirstOrder bytes e s w run h c = (e, s, tt, inr c)
-    caused view refusals.Types bytes e s w run h c = (e, s, tt, inr c)
-    caused view refusals.Stuck bytes e s w run h c = (e, s, tt, inr c)
-    caused view refusals.AnswerNodes bytes e s w run h c = (e, s, tt, inr c)
-    caused view refusals.Memory bytes e s w run h c = absurd h
-    caused view refusals.Usage bytes e s w run h c = absurd h
-    caused view refusals.ReadFault bytes e s w run h c = absurd h
-    caused view refusals.WriteFault bytes e s w run h c = absurd h
-    caused view (refusals.Syntax o) bytes e s w run h c = absurd h
-    caused view (refusals.Unsupported x o) bytes e s w run h c = absurd h
-    caused view refusals.Form bytes e s w run h c = absurd h
-    caused view (refusals.Limit l) bytes e s w run h c = absurd h
-    caused view refusals.InputBytes bytes e s w run h c = absurd h
-    caused view (refusals.Broken n p) bytes e s w run h c = absurd h
+    caused : {V : Type 0} (view : V → List ℕ) (q : Request) (r : Refusal) (bytes : List ℕ) (e : RawEnv) → SpellsWithin bytes e → (w : Account) (run : Run Ended) → ShowsEnd r run w → IsSourceCause q.turns r e → JobSays {V = V} Eval q view (Err r) bytes
+    caused view q refusals.TurnsSpent bytes e s w run h c = (e, s, inr c)
+    caused view q refusals.Depth bytes e s w run h c = (e, s, inr c)
+    caused view q refusals.NotFirstOrder bytes e s w run h c = (e, s, inr c)
+    caused view q refusals.Types bytes e s w run h c = (e, s, inr c)
+    caused view q refusals.Stuck bytes e s w run h c = (e, s, inr c)
+    caused view q refusals.AnswerNodes bytes e s w run h c = (e, s, inr c)
+    caused view q refusals.Memory bytes e s w run h c = absurd h
+    caused view q refusals.Usage bytes e s w run h c = absurd h
+    caused view q refusals.ReadFault bytes e s w run h c = absurd h
+    caused view q refusals.WriteFault bytes e s w run h c = absurd h
+    caused view q (refusals.Syntax o) bytes e s w run h c = absurd h
+    caused view q (refusals.Unsupported x o) bytes e s w run h c = absurd h
+    caused view q (refusals.Limit l) bytes e s w run h c = absurd h
+    caused view q refusals.InputBytes bytes e s w run h c = absurd h
+    caused view q (refusals.Broken n p) bytes e s w run h c = absurd h
+    caused view q (refusals.Axiom name) bytes e s w run h c = absurd h
+    caused view q (refusals.Program l) bytes e s w run h c = absurd h
+    caused view q (refusals.Run x) bytes e s w run h c = absurd h
+    caused view q (refusals.Module x) bytes e s w run h c = absurd h
 
-pub evaluated : (bytes text : List ℕ) (e : RawEnv) (E : Env) (t T : Term) (u v w : Account) → SpellsWithin bytes e → IsAcceptedWith e E T u → t ≡ e.main →
+pub evaluated : (turns : ℕ) (bytes text : List ℕ) (e : RawEnv) (E : Env) (t T : Term) (u v w : Account) → SpellsWithin bytes e → IsAcceptedWith turns e E T u → t ≡ e.main →
     IsCheckedEnvironment e.levels e.constraints (givens e) e.main E T → (hs : List Shape) → AreNamed E hs → IsFirstOrder E T (members hs) →
     (first_order_search E T u).end ≡ Done (Found (members hs)) v → (x : Term) → (evaluation E t v).end ≡ Done (Value x) w → ((n : ℕ) × Evaluates E t x n) →
-    (ds : List (ℕ × ℕ)) → read hs x ≡ Read ds → IsLine hs e.names ds text → IsEvaluated bytes text
-evaluated bytes text e E t T u v w s a m checked hs named set found x valued (n, ev) ds read_is line = record {
+    (ds : List (ℕ × ℕ)) → read hs x ≡ Read ds → IsLine hs e.names ds text → IsEvaluated turns bytes text
+evaluated turns bytes text e E t T u v w s a m checked hs named set found x valued (n, ev) ds read_is line = record {
   environment = e;
   spelled = s;
   kept = E;
@@ -192,7 +207,7 @@ evaluated bytes text e E t T u v w s a m checked hs named set found x valued (n,
 }
 
 -- a line that is made of the answer, or want of memory
-pub line_says : {V : Type 0} (view : V → List ℕ) (r : Result V Refusal) (bytes : List ℕ) (hs : List Shape) (names : List (List ℕ)) (ds : List (ℕ × ℕ)) →
-    ((text : List ℕ) → IsLine hs names ds text → IsEvaluated bytes text) → IfOk r (λ v. IsLine hs names ds (view v)) → IfErr r (λ e. e ≡ refusals.Memory) → JobSays Eval view r bytes
-line_says view (Ok v) bytes hs names ds answer line memory = answer (view v) line
-line_says {V = V} view (Err e) bytes hs names ds answer line memory = subst (λ x. JobSays {V = V} Eval view (Err x) bytes) (sym memory) tt
+pub line_says : {V : Type 0} (view : V → List ℕ) (q : Request) (r : Result V Refusal) (bytes : List ℕ) (hs : List Shape) (names : List (List ℕ)) (ds : List (ℕ × ℕ)) →
+    ((text : List ℕ) → IsLine hs names ds text → IsEvaluated q.turns bytes text) → IfOk r (λ v. IsLine hs names ds (view v)) → IfErr r (λ e. e ≡ refusals.Memory) → JobSays Eval q view r bytes
+line_says view q (Ok v) bytes hs names ds answer line memory = answer (view v) line
+line_says {V = V} view q (Err e) bytes hs names ds answer line memory = subst (λ x. JobSays {V = V} Eval q view (Err x) bytes) (sym memory) tt

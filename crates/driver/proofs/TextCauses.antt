@@ -1,5 +1,5 @@
 -- The cause of a refusal of the text is one, and shows that the text has no answer.
-use Rattle.std.proofs.Common.{◌≡◌, ℕ, List, [], ◌∷◌, length, Ok, inl, inr, refl, sym, ap, subst, ◌∙◌}
+use Rattle.std.proofs.Common.{◌≡◌, ℕ, ◌≤◌, List, [], ◌∷◌, length, Option, Some, Result, Ok, Err, inl, inr, refl, sym, ap, subst, ◌∙◌}
 use Rattle.sexp_reader.specs.Lex.{tokens_of}
 use Rattle.dump_grammar.specs.declared.refusal.ReadRefusal.{ReadRefusal}
 use Rattle.dump_grammar.specs.declared.refusal.ReadRefusal.TheVariants as reads
@@ -16,15 +16,26 @@ use Rattle.dump_reader.specs.Spelling.{IsVerdict}
 use Rattle.driver.specs.declared.refusal.Refusal.{Refusal}
 use Rattle.driver.specs.declared.refusal.Refusal.TheVariants as refusals
 use Rattle.driver.specs.Lines.{refusal_of}
-use Rattle.driver.specs.declared.command_line.Job.{Job}
-use Rattle.driver.specs.declared.command_line.Job.TheVariants.{Exec, Check, Eval}
+use Rattle.command_line.specs.declared.job.Job.{Job}
+use Rattle.command_line.specs.declared.job.Job.TheVariants.{Exec, Check, Eval, Run, Compile}
 use Rattle.driver.specs.Lines.{status_of}
 use Rattle.driver.specs.Texts.{SpellsWithin, Refuses}
 use Rattle.driver.specs.Judged.{IsAcceptedBy, EndsWith}
 use Rattle.driver.specs.SourceEnds.{IsSourceRun, source_status}
-use Rattle.driver.specs.Serve.{IsAnswerOf, Takes, IsJobCause, IsTextCause, IsSure, IsJudgedWith}
-use Rattle.driver.proofs.CheckCauses.{accepted_status}
-use Rattle.driver.proofs.SourceCauses.{accepted_by, same_run, job_status}
+use Rattle.driver.specs.ExecEnds.{ExecEnds}
+use Rattle.driver.specs.Executed.{IsExecuted}
+use Rattle.driver.specs.MadeModule.{MakeEndsWith}
+use Rattle.command_line.specs.declared.line.Request.{Request}
+use Rattle.command_line.specs.Line.{request_of}
+use Rattle.wasm_core.specs.ShortestBytes.{most_bytes}
+use Rattle.driver.specs.RunFile.{IsRunCause}
+use Rattle.driver.specs.Serve.{IsAnswerableBy, IsAnswerOf, HasWell, IsLate, IsDumpCause, IsDumpJudgedWith, IsInput, IsJobCause, IsTextCause, IsSure, IsJudgedWith, JobSays, Says}
+use Rattle.driver.proofs.RunCauses.{run_judged_answer, run_judged_cause, run_not_sure}
+use Rattle.driver.proofs.CheckCauses.{accepted_status, not_zero}
+use Rattle.driver.proofs.SourceCauses.{accepted_by, same_run}
+use Rattle.driver.proofs.ExecCauses.{executed_status, check_early, text_early, well_of}
+use Rattle.driver.proofs.JobCauses.{answerable_status, job_status}
+use Rattle.driver.proofs.MadeCauses.{made_status, made_well_of}
 
 abbrev pub verdict_on : List ℕ → Verdict
 verdict_on bytes = verdict (length bytes) (tokens_of bytes)
@@ -44,90 +55,145 @@ fine-inj a b e = cc
 env-inj : (a b : NamedEnv) → VEnv a ∷ [] ≡ VEnv b ∷ [] → a ≡ b
 env-inj a b e = cc
 
-one_environment : (bytes : List ℕ) (a b : RawEnv) → SpellsWithin bytes a → SpellsWithin bytes b → a ≡ b
+pub one_environment : (bytes : List ℕ) (a b : RawEnv) → SpellsWithin bytes a → SpellsWithin bytes b → a ≡ b
 one_environment bytes a b s t = s.means ∙ ap numbered (fine-inj (env_of s.form) (env_of t.form) (sym (fine bytes a s) ∙ fine bytes b t)) ∙ sym t.means
 
 never_both : (bytes : List ℕ) (e : RawEnv) (q : ReadRefusal) → SpellsWithin bytes e → verdict_on bytes ≡ Refuse q → ⊥
 never_both bytes e q s h = let c : Refuse q ≡ Fine (VEnv (env_of s.form) ∷ []) = sym h ∙ fine bytes e s in absurd cc
 
--- What a cause is of: the first refusal of the text; an environment that the job doesn't take; or the check of one that it takes.
-data Of (job : Job) (bytes : List ℕ) (r : Refusal) : Type 0 where
-  OfRefusal : (q : ReadRefusal) → verdict_on bytes ≡ Refuse q → r ≡ refusal_of q → Of job bytes r
-  OfForm : (e : RawEnv) → SpellsWithin bytes e → (Takes job e → ⊥) → r ≡ refusals.Form → Of job bytes r
-  OfCheck : (e : RawEnv) → SpellsWithin bytes e → Takes job e → IsJobCause job r e → (IsSure r → ⊥) → Of job bytes r
+-- What a cause is of: the first refusal of the text, or the environment that it spells.
+data Of (job : Job) (q : Request) (bytes : List ℕ) (r : Refusal) : Type 0 where
+  OfRefusal : (x : ReadRefusal) → verdict_on bytes ≡ Refuse x → r ≡ refusal_of x → Of job q bytes r
+  OfCheck : (e : RawEnv) → SpellsWithin bytes e → IsJobCause job q r e → (IsSure r → ⊥) → Of job q bytes r
 
-of : (job : Job) (bytes : List ℕ) (r : Refusal) → IsTextCause job r bytes → Of job bytes r
-of job bytes refusals.Memory h = absurd h
-of job bytes refusals.Usage h = absurd h
-of job bytes refusals.ReadFault h = absurd h
-of job bytes refusals.WriteFault h = absurd h
-of job bytes (refusals.Syntax o) h = OfRefusal (reads.Syntax o) (refuses bytes (reads.Syntax o) h) refl
-of job bytes (refusals.Unsupported w o) h = OfRefusal (reads.Unsupported w o) (refuses bytes (reads.Unsupported w o) h) refl
-of job bytes refusals.Form h = OfForm h.0 h.1 h.2 refl
-of job bytes (refusals.Limit l) h = OfRefusal (reads.Limit l h.0) (refuses bytes (reads.Limit l h.0) h.1) refl
-of job bytes refusals.InputBytes h = absurd h
-of job bytes refusals.Depth h = OfCheck h.0 h.1 h.2 h.3 (λ x. x)
-of job bytes refusals.TurnsSpent h = OfCheck h.0 h.1 h.2 h.3 (λ x. x)
-of job bytes (refusals.Broken n p) h = OfCheck h.0 h.1 h.2 h.3 (λ x. x)
-of job bytes refusals.Types h = OfCheck h.0 h.1 h.2 h.3 (λ x. x)
-of job bytes refusals.AnswerNodes h = OfCheck h.0 h.1 h.2 h.3 (λ x. x)
-of job bytes refusals.NotFirstOrder h = OfCheck h.0 h.1 h.2 h.3 (λ x. x)
-of job bytes refusals.Stuck h = OfCheck h.0 h.1 h.2 h.3 (λ x. x)
+of : (job : Job) (q : Request) (bytes : List ℕ) (r : Refusal) → IsDumpCause job q r bytes → Of job q bytes r
+of job q bytes refusals.Memory h = absurd h
+of job q bytes refusals.Usage h = absurd h
+of job q bytes refusals.ReadFault h = absurd h
+of job q bytes refusals.WriteFault h = absurd h
+of job q bytes (refusals.Syntax o) h = OfRefusal (reads.Syntax o) (refuses bytes (reads.Syntax o) h) refl
+of job q bytes (refusals.Unsupported w o) h = OfRefusal (reads.Unsupported w o) (refuses bytes (reads.Unsupported w o) h) refl
+of job q bytes (refusals.Limit l) h = OfRefusal (reads.Limit l h.0) (refuses bytes (reads.Limit l h.0) h.1) refl
+of job q bytes refusals.InputBytes h = absurd h
+of job q bytes refusals.Depth h = OfCheck h.0 h.1 h.2 (λ x. x)
+of job q bytes refusals.TurnsSpent h = OfCheck h.0 h.1 h.2 (λ x. x)
+of job q bytes (refusals.Broken n p) h = OfCheck h.0 h.1 h.2 (λ x. x)
+of job q bytes refusals.Types h = OfCheck h.0 h.1 h.2 (λ x. x)
+of job q bytes refusals.AnswerNodes h = OfCheck h.0 h.1 h.2 (λ x. x)
+of job q bytes refusals.NotFirstOrder h = OfCheck h.0 h.1 h.2 (λ x. x)
+of job q bytes refusals.Stuck h = OfCheck h.0 h.1 h.2 (λ x. x)
+of job q bytes (refusals.Axiom name) h = OfCheck h.0 h.1 h.2 (λ x. x)
+of job q bytes (refusals.Program l) h = OfCheck h.0 h.1 h.2 (λ x. x)
+of job q bytes (refusals.Run w) h = OfCheck h.0 h.1 h.2 (λ x. x)
+of job q bytes (refusals.Module w) h = OfCheck h.0 h.1 h.2 (λ x. x)
 
 -- a cause that the text itself shows is the only one
-pub one_cause : (job : Job) (bytes : List ℕ) (q r : Refusal) → IsTextCause job q bytes → IsTextCause job r bytes → IsSure r → q ≡ r
-one_cause job bytes q r h k sure =
-    elim (of job bytes r k) [
-      | OfRefusal b vb eb ↦ elim (of job bytes q h) [
-        | OfRefusal a va ea ↦ ea ∙ ap refusal_of (refuse-inj a b (sym va ∙ vb)) ∙ sym eb
-        | OfForm e s n ea ↦ absurd (never_both bytes e b s vb)
-        | OfCheck e s takes c n ↦ absurd (never_both bytes e b s vb)
+dump_one_cause : (job : Job) (q : Request) (bytes : List ℕ) (a r : Refusal) → IsDumpCause job q a bytes → IsDumpCause job q r bytes → IsSure r → a ≡ r
+dump_one_cause job q bytes a r h k sure =
+    elim (of job q bytes r k) [
+      | OfRefusal b vb eb ↦ elim (of job q bytes a h) [
+        | OfRefusal x va ea ↦ ea ∙ ap refusal_of (refuse-inj x b (sym va ∙ vb)) ∙ sym eb
+        | OfCheck e s c n ↦ absurd (never_both bytes e b s vb)
       ]
-      | OfForm f t m eb ↦ elim (of job bytes q h) [
-        | OfRefusal a va ea ↦ absurd (never_both bytes f a t va)
-        | OfForm e s n ea ↦ ea ∙ sym eb
-        | OfCheck e s takes c n ↦ absurd (m (subst (Takes job) (one_environment bytes e f s t) takes))
-      ]
-      | OfCheck f t takes c n ↦ absurd (n sure)
+      | OfCheck f t c n ↦ absurd (n sure)
     ]
 
 -- a text whose environment is judged has no other cause than one of its status
-pub judged_cause : (job : Job) (bytes : List ℕ) (status : ℕ) (r : Refusal) → IsJudgedWith job status bytes → IsTextCause job r bytes → status ≡ status_of r
-judged_cause job bytes status r (e, s, takes, ends) h =
-    elim (of job bytes r h) [
-      | OfRefusal q v k ↦ absurd (never_both bytes e q s v)
-      | OfForm f t n k ↦ absurd (n (subst (Takes job) (one_environment bytes e f s t) takes))
-      | OfCheck f t take c n ↦ job_status job r e status (subst (IsJobCause job r) (one_environment bytes f e t s) c) n ends
+dump_judged_cause : (job : Job) (q : Request) (bytes : List ℕ) (status : ℕ) (r : Refusal) → IsDumpJudgedWith job q status bytes → IsDumpCause job q r bytes → status ≡ status_of r
+dump_judged_cause job q bytes status r (e, s, ends) h =
+    elim (of job q bytes r h) [
+      | OfRefusal x v k ↦ absurd (never_both bytes e x s v)
+      | OfCheck f t c n ↦ job_status job q r e status (subst (IsJobCause job q r) (one_environment bytes f e t s) c) n ends
     ]
 
--- what an answer is of
+-- a cause, as one of the environment that the text spells
+pub cause_on : (job : Job) (q : Request) (bytes : List ℕ) (e : RawEnv) (r : Refusal) → SpellsWithin bytes e → IsDumpCause job q r bytes → IsJobCause job q r e
+cause_on job q bytes e r s h =
+    elim (of job q bytes r h) [
+      | OfRefusal x v k ↦ absurd (never_both bytes e x s v)
+      | OfCheck f t c n ↦ subst (IsJobCause job q r) (one_environment bytes f e t s) c
+    ]
 
-answer_spells : (job : Job) (bytes text : List ℕ) → IsAnswerOf job bytes text → (e : RawEnv) × SpellsWithin bytes e × Takes job e × IsAcceptedBy e
-answer_spells Exec bytes text a = (a.environment, a.spelled, (a.id, a.number, a.plain), a.accepted)
-answer_spells Check bytes text a = (a.environment, a.spelled, tt, a.accepted)
-answer_spells Eval bytes text a = (a.environment, a.spelled, tt, accepted_by a.environment a.kept a.type a.left a.accepted)
+-- a text whose environment has an answer has no cause
+dump_answerable : (job : Job) (q : Request) (bytes : List ℕ) (r : Refusal) (e : RawEnv) → SpellsWithin bytes e → IsAnswerableBy job q e → IsDumpCause job q r bytes → ⊥
+dump_answerable job q bytes r e s answerable h =
+    elim (of job q bytes r h) [
+      | OfRefusal x v k ↦ never_both bytes e x s v
+      | OfCheck f t c n ↦ not_zero r (sym (answerable_status job q r e answerable (subst (IsJobCause job q r) (one_environment bytes f e t s) c) n))
+    ]
 
-pub no_cause_of_answers : (job : Job) (bytes text : List ℕ) (r : Refusal) → IsAnswerOf job bytes text → IsTextCause job r bytes → IsSure r → ⊥
-no_cause_of_answers job bytes text r a h sure =
-    let (e, s, takes, accepted) = answer_spells job bytes text a in
-    elim (of job bytes r h) [
-      | OfRefusal q v k ↦ never_both bytes e q s v
-      | OfForm f t n k ↦ n (subst (Takes job) (one_environment bytes e f s t) takes)
-      | OfCheck f t take c n ↦ n sure
+pub answerable_cause : (job : Job) (q : Request) (bytes : List ℕ) (r : Refusal) (e : RawEnv) → SpellsWithin bytes e → IsAnswerableBy job q e → IsTextCause job q r bytes → ⊥
+answerable_cause Exec q bytes r e s answerable h = dump_answerable Exec q bytes r e s answerable h
+answerable_cause Check q bytes r e s answerable h = dump_answerable Check q bytes r e s answerable h
+answerable_cause Eval q bytes r e s answerable h = dump_answerable Eval q bytes r e s answerable h
+answerable_cause Compile q bytes r e s answerable h = dump_answerable Compile q bytes r e s answerable h
+answerable_cause Run q bytes r e s answerable h = answerable
+
+-- where `exec` refuses after the check the text spells an environment that is well formed
+pub well_on : (q : Request) (bytes : List ℕ) (r : Refusal) → IsDumpCause Exec q r bytes → IsLate (status_of r) → HasWell bytes
+well_on q bytes r h late =
+    elim (of Exec q bytes r h) [
+      | OfRefusal x v k ↦ absurd (text_early x (subst (λ y. IsLate (status_of y)) k late))
+      | OfCheck f t c n ↦ elim c [ inl x ↦ absurd (check_early q.turns r f x late) | inr x ↦ (f, t, well_of q.turns f q.pages q.steps r x.1) ]
+    ]
+
+pub made_well_on : (q : Request) (bytes : List ℕ) (r : Refusal) → IsDumpCause Compile q r bytes → IsLate (status_of r) → HasWell bytes
+made_well_on q bytes r h late =
+    elim (of Compile q bytes r h) [
+      | OfRefusal x v k ↦ absurd (text_early x (subst (λ y. IsLate (status_of y)) k late))
+      | OfCheck f t c n ↦ elim c [ inl x ↦ absurd (check_early q.turns r f x late) | inr x ↦ (f, t, made_well_of q.turns f q.pages r x.1) ]
+    ]
+
+-- a text that spells an environment has no sure cause
+pub dump_not_sure : (job : Job) (q : Request) (bytes : List ℕ) (e : RawEnv) (r : Refusal) → SpellsWithin bytes e → IsDumpCause job q r bytes → IsSure r → ⊥
+dump_not_sure job q bytes e r s h sure =
+    elim (of job q bytes r h) [
+      | OfRefusal x v k ↦ never_both bytes e x s v
+      | OfCheck f t c n ↦ n sure
     ]
 
 -- an answer of a text whose environment is judged is that of an acceptance
-check_judged : (bytes : List ℕ) (e f : RawEnv) (status : ℕ) → SpellsWithin bytes e → EndsWith e status → SpellsWithin bytes f → IsAcceptedBy f → status ≡ 0
-check_judged bytes e f status s ends t accepted = accepted_status e status (subst IsAcceptedBy (one_environment bytes f e t s) accepted) ends
+check_judged : (turns : ℕ) (bytes : List ℕ) (e f : RawEnv) (status : ℕ) → SpellsWithin bytes e → EndsWith turns e status → SpellsWithin bytes f → IsAcceptedBy turns f → status ≡ 0
+check_judged turns bytes e f status s ends t accepted = accepted_status turns e status (subst (IsAcceptedBy turns) (one_environment bytes f e t s) accepted) ends
 
-pub judged_answer : (job : Job) (bytes text : List ℕ) (status : ℕ) → IsJudgedWith job status bytes → IsAnswerOf job bytes text → status ≡ 0
-judged_answer Exec bytes text status (e, s, takes, ends) a = check_judged bytes e a.environment status s ends a.spelled a.accepted
-judged_answer Check bytes text status (e, s, takes, ends) a = check_judged bytes e a.environment status s ends a.spelled a.accepted
-judged_answer Eval bytes text status (e, s, takes, inl ends) a =
-    check_judged bytes e a.environment status s ends.0 a.spelled (accepted_by a.environment a.kept a.type a.left a.accepted)
-judged_answer Eval bytes text status (e, s, takes, inr ends) a =
-    let there = subst (λ x. IsSourceRun x a.run) (one_environment bytes a.environment e a.spelled s) a.ran in
-    ends.status_is ∙ ap (λ r. source_status r.end) (same_run e ends.run a.run ends.of there) ∙ a.ends
+-- an answer of `exec` on the environment that its text spells
+pub executed_on : (q : Request) (bytes text : List ℕ) (e : RawEnv) → SpellsWithin bytes e → (a : IsExecuted q.turns q.pages q.steps bytes text) → ExecEnds q.turns e q.pages q.steps (Ok text)
+executed_on q bytes text e s a = subst (λ x. ExecEnds q.turns x q.pages q.steps (Ok text)) (one_environment bytes a.environment e a.spelled s) (a.stages, a.text_is)
+
+-- ---- the same of any job's input
+
+pub one_cause : (job : Job) (q : Request) (bytes : List ℕ) (a r : Refusal) → IsTextCause job q a bytes → IsTextCause job q r bytes → IsSure r → a ≡ r
+one_cause Exec q bytes a r h k sure = dump_one_cause Exec q bytes a r h k sure
+one_cause Check q bytes a r h k sure = dump_one_cause Check q bytes a r h k sure
+one_cause Eval q bytes a r h k sure = dump_one_cause Eval q bytes a r h k sure
+one_cause Compile q bytes a r h k sure = dump_one_cause Compile q bytes a r h k sure
+one_cause Run q bytes a r h k sure = absurd (run_not_sure q.pages q.steps r bytes k sure)
+
+pub judged_cause : (job : Job) (q : Request) (bytes : List ℕ) (status : ℕ) (r : Refusal) → length bytes ≤ most_bytes → IsJudgedWith job q status bytes → IsTextCause job q r bytes → status ≡ status_of r
+judged_cause Exec q bytes status r short h k = dump_judged_cause Exec q bytes status r h k
+judged_cause Check q bytes status r short h k = dump_judged_cause Check q bytes status r h k
+judged_cause Eval q bytes status r short h k = dump_judged_cause Eval q bytes status r h k
+judged_cause Compile q bytes status r short h k = dump_judged_cause Compile q bytes status r h k
+judged_cause Run q bytes status r short h k = run_judged_cause q.pages q.steps bytes status r short h k
+
+pub no_cause_of_answers : (job : Job) (q : Request) (bytes text : List ℕ) (r : Refusal) → IsAnswerOf job q bytes text → IsTextCause job q r bytes → IsSure r → ⊥
+no_cause_of_answers Exec q bytes text r a h sure = dump_not_sure Exec q bytes a.environment r a.spelled h sure
+no_cause_of_answers Check q bytes text r a h sure = dump_not_sure Check q bytes a.environment r a.spelled h sure
+no_cause_of_answers Eval q bytes text r a h sure = dump_not_sure Eval q bytes a.environment r a.spelled h sure
+no_cause_of_answers Compile q bytes text r a h sure = dump_not_sure Compile q bytes a.environment r a.spelled h sure
+no_cause_of_answers Run q bytes text r a h sure = run_not_sure q.pages q.steps r bytes h sure
+
+pub judged_answer : (job : Job) (q : Request) (bytes text : List ℕ) (status : ℕ) → length bytes ≤ most_bytes → IsJudgedWith job q status bytes → IsAnswerOf job q bytes text → status ≡ 0
+judged_answer Exec q bytes text status short (e, s, ends) a = executed_status q.turns e q.pages q.steps text status (executed_on q bytes text e s a) ends
+judged_answer Check q bytes text status short (e, s, ends) a = check_judged q.turns bytes e a.environment status s ends a.spelled a.accepted
+judged_answer Eval q bytes text status short (e, s, inl ends) a =
+    check_judged q.turns bytes e a.environment status s ends.0 a.spelled (accepted_by q.turns a.environment a.kept a.type a.left a.accepted)
+judged_answer Eval q bytes text status short (e, s, inr ends) a =
+    let there = subst (λ x. IsSourceRun q.turns x a.run) (one_environment bytes a.environment e a.spelled s) a.ran in
+    ends.status_is ∙ ap (λ r. source_status r.end) (same_run q.turns e ends.run a.run ends.of there) ∙ a.ends
+judged_answer Compile q bytes text status short (e, s, ends) a =
+    made_status q.turns a.environment q.pages status a.stages a.small (subst (λ x. MakeEndsWith q.turns x q.pages status) (one_environment bytes e a.environment s a.spelled) ends)
+judged_answer Run q bytes text status short h a = run_judged_answer q.pages q.steps bytes text status short h a
 
 -- What the reader gives is spelled within the limits.
 pub within_limits : (bytes : List ℕ) (e : RawEnv) → IsVerdict bytes (Ok e) → SpellsWithin bytes e

@@ -16,7 +16,7 @@ use Rattle.driver.specs.Texts.{SpellsWithin}
 use Rattle.driver.specs.SourceEnds.{Ended, IsAcceptedWith, IsSourceRun, source_status}
 
 -- The text is the answer of `eval` on the input.
-pub record IsEvaluated (bytes text : List ℕ) : Type 0 where
+pub record IsEvaluated (turns : ℕ) (bytes text : List ℕ) : Type 0 where
   pub environment : RawEnv
   pub spelled : SpellsWithin bytes environment
   -- the environment is well formed, by a derivation for every declaration and for main, of which this is the type
@@ -24,10 +24,10 @@ pub record IsEvaluated (bytes text : List ℕ) : Type 0 where
   pub type : Term
   pub checked : IsCheckedEnvironment environment.levels environment.constraints (givens environment) environment.main kept type
   pub left : Account
-  pub accepted : IsAcceptedWith environment kept type left
+  pub accepted : IsAcceptedWith turns environment kept type left
   -- the rules of the search, the evaluation and the reading end with it
   pub run : Run Ended
-  pub ran : IsSourceRun environment run
+  pub ran : IsSourceRun turns environment run
   pub ends : source_status run.end ≡ 0
   -- a first-order set of main's type, with the names of its constructors
   pub shapes : List Shape

@@ -16,15 +16,15 @@ use Rattle.env_check.specs.Rules.{rules_of, IsFound}
 use Rattle.driver.specs.declared.refusal.Where.{Where}
 use Rattle.driver.specs.declared.refusal.Where.TheVariants as tells
 
--- the units of a job, none of which is taken, and no rule is used
-abbrev pub start : Account
-start = record { left = 1000000; uses = replicate 12 0 }
+-- so many units of a job, none of which is taken, and no rule is used
+abbrev pub start : (turns : ℕ) → Account
+start turns = record { left = turns; uses = replicate 12 0 }
 
 -- how the check of the environment ends by the directed rules, with the cycle that is found of the graph
-pub record IsJudged (e : RawEnv) (d : Checked) : Type 0 where
+pub record IsJudged (turns : ℕ) (e : RawEnv) (d : Checked) : Type 0 where
   pub cycle : Option (List ℕ)
   pub found : IsFound e cycle
-  pub is : d ≡ rules_of e cycle 2048 start
+  pub is : d ≡ rules_of e cycle 2048 (start turns)
 
 -- the numbers of the rules that may be broken
 abbrev pub number_of : Broken → ℕ
@@ -64,27 +64,27 @@ IsTold e _ _ = ⊥
 
 -- the rules accept it; they have no end within the units; they pass a limit; they break the rule of that number at that place
 
-pub record IsAcceptedBy (e : RawEnv) : Type 0 where
+pub record IsAcceptedBy (turns : ℕ) (e : RawEnv) : Type 0 where
   pub rules : Checked
-  pub judged : IsJudged e rules
+  pub judged : IsJudged turns e rules
   pub kept : Env
   pub type : Term
   pub left : Account
   pub accepts : rules.outcome ≡ Accepts kept type left
 
-pub record IsSpentBy (e : RawEnv) : Type 0 where
+pub record IsSpentBy (turns : ℕ) (e : RawEnv) : Type 0 where
   pub rules : Checked
-  pub judged : IsJudged e rules
+  pub judged : IsJudged turns e rules
   pub spends : rules.outcome ≡ Spends
 
-pub record IsTooDeepFor (e : RawEnv) : Type 0 where
+pub record IsTooDeepFor (turns : ℕ) (e : RawEnv) : Type 0 where
   pub rules : Checked
-  pub judged : IsJudged e rules
+  pub judged : IsJudged turns e rules
   pub deep : IsTrue rules.deep
 
-pub record IsBrokenBy (e : RawEnv) (number : ℕ) (told : Where) : Type 0 where
+pub record IsBrokenBy (turns : ℕ) (e : RawEnv) (number : ℕ) (told : Where) : Type 0 where
   pub rules : Checked
-  pub judged : IsJudged e rules
+  pub judged : IsJudged turns e rules
   pub place : Place
   pub rule : Broken
   pub left : Account
@@ -100,8 +100,8 @@ status_by (Breaks p b u) = 9
 status_by Spends = 8
 status_by Nests = 7
 
-pub record EndsWith (e : RawEnv) (status : ℕ) : Type 0 where
+pub record EndsWith (turns : ℕ) (e : RawEnv) (status : ℕ) : Type 0 where
   pub rules : Checked
-  pub judged : IsJudged e rules
+  pub judged : IsJudged turns e rules
   pub within : rules.deep ≡ false
   pub status_is : status ≡ status_by rules.outcome

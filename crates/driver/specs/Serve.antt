@@ -1,35 +1,32 @@
 -- What the top call promises: of the answer, of each refusal's cause, and of what it leaves.
-use Rattle.std.specs.Prelude.{◌≡◌, ◌≢◌, ℕ, ◌≤◌, ◌<◌, List, [], ◌∷◌, ◌++◌, length, take, slice_get, codes, Option, Some, None, Result, Ok, Err, ◌⊎◌}
+use Rattle.std.specs.Prelude.{◌≡◌, ◌≢◌, ℕ, ◌≤◌, ◌<◌, List, length, take, codes, Option, Some, None, Result, Ok, Err, ◌⊎◌}
 use Rattle.std.specs.Io.KnownBytes.{Appends}
 use Rattle.kio.specs.Causes.{Rose}
 use Rattle.dump_grammar.specs.declared.refusal.ReadRefusal.TheVariants as reads
 use Rattle.dump_reader.specs.declared.environment.RawEnv.{RawEnv}
-use Rattle.pc_terms.specs.declared.leaf.FamilyId.{FamilyId}
 use Rattle.pc_terms.specs.Syntax.{Term}
 use Rattle.pc_rules.specs.declared.accepted.Accepted.{Accepted}
-use Rattle.pc_rules.specs.declared.declaration.Constructor.{Constructor}
 use Rattle.pc_rules.specs.declared.meter.Account.{Account}
-use Rattle.pc_rules.specs.Environment.{Env, FamilyDecl, KeepsFamily}
+use Rattle.pc_rules.specs.Environment.{Env}
 use Rattle.rule_laws.specs.Declarations.{IsCheckedEnvironment}
 use Rattle.env_check.specs.Rules.{givens}
-use Rattle.wasm_core.specs.Parts.{Parts}
-use Rattle.wasm_core.specs.ModuleGrammar.{SpellsModule}
-use Rattle.wasm_core.specs.ModuleTyping.{IsValid}
-use Rattle.wasm_core.specs.ShortestBytes.{module_bytes}
-use Rattle.enumeration_code.specs.Returning.{AlwaysReturns}
 use Rattle.driver.specs.declared.refusal.Refusal.{Refusal}
 use Rattle.driver.specs.declared.refusal.Refusal.TheVariants as refusals
-use Rattle.driver.specs.declared.command_line.Job.{Job}
-use Rattle.driver.specs.declared.command_line.Job.TheVariants.{Exec, Check, Eval}
+use Rattle.command_line.specs.declared.job.Job.{Job}
+use Rattle.command_line.specs.declared.job.Job.TheVariants.{Exec, Check, Eval, Run, Compile}
+use Rattle.command_line.specs.declared.line.Request.{Request}
+use Rattle.command_line.specs.Line.{request_of}
 use Rattle.driver.specs.Answerable.{IsAnswerable}
-use Rattle.driver.specs.CommandLine.{job_of}
 use Rattle.driver.specs.Lines.{status_of, line_of}
-use Rattle.driver.specs.Plain.{IsPlainOf, IsPlain}
 use Rattle.driver.specs.Texts.{SpellsWithin, Refuses}
-use Rattle.driver.specs.SourceEnds.{IsAcceptedWith, IsSourceCause, SourceEndsWith, EvalEndsWith}
+use Rattle.driver.specs.SourceEnds.{IsAcceptedWith, IsSourceCause, EvalEndsWith}
+use Rattle.driver.specs.Evaluable.{IsEvaluable}
 use Rattle.driver.specs.EvaluatedSource.{IsEvaluated}
-use Rattle.driver.specs.Program.{module_for}
-use Rattle.driver.specs.Judged.{IsNamed, IsAcceptedBy, IsSpentBy, IsTooDeepFor, IsBrokenBy, EndsWith}
+use Rattle.driver.specs.ExecEnds.{IsCompilable, IsExecCause, ExecEndsWith, RestEndsWith}
+use Rattle.driver.specs.Executed.{IsExecuted}
+use Rattle.driver.specs.MadeModule.{IsMade, IsMakeCause, MakeEndsWith}
+use Rattle.driver.specs.RunFile.{IsRunAnswer, IsRunCause, RunEndsWith}
+use Rattle.driver.specs.Judged.{IsAcceptedBy, IsSpentBy, IsTooDeepFor, IsBrokenBy, EndsWith}
 
 -- the most bytes of an input
 abbrev pub input_limit : ℕ
@@ -52,97 +49,70 @@ pub record IsWell (e : RawEnv) : Type 0 where
   pub type : Term
   pub checked : IsCheckedEnvironment e.levels e.constraints (givens e) e.main kept type
 
--- The text is the answer of `exec` on the input.
-pub record IsAnswer (bytes text : List ℕ) : Type 0 where
-  pub environment : RawEnv
-  pub spelled : SpellsWithin bytes environment
-  pub accepted : IsAcceptedBy environment
-  pub well : IsWell environment
-  -- the family and the number of main's constructor
-  pub id : FamilyId
-  pub number : ℕ
-  pub plain : IsPlainOf environment id number
-  -- the module of this call: what it is, its bytes, its typing and its runs, each of which returns after so many steps and answers main's
-  -- constructor, whichever grows of memory are refused
-  pub program : Parts
-  pub program_is : program ≡ module_for number
-  pub file : List ℕ
-  pub file_is : file ≡ module_bytes program
-  pub module_is : SpellsModule file program
-  pub valid : IsValid program
-  pub steps : ℕ
-  pub answers : AlwaysReturns program steps ((number, 0) ∷ [])
-  -- main's constructor, its name, and LF
-  pub family : FamilyDecl
-  pub keeps : KeepsFamily well.kept id family
-  pub constructor : Constructor
-  pub is_main : slice_get family.constructors number ≡ Some constructor
-  pub name : List ℕ
-  pub named : IsNamed environment constructor.name.0 name
-  pub text_is : text ≡ name ++ 10 ∷ []
-
 -- The text is the answer of `check` on the input.
-pub record IsAccepted (bytes text : List ℕ) : Type 0 where
+pub record IsAccepted (turns : ℕ) (bytes text : List ℕ) : Type 0 where
   pub environment : RawEnv
   pub spelled : SpellsWithin bytes environment
-  pub accepted : IsAcceptedBy environment
+  pub accepted : IsAcceptedBy turns environment
   pub well : IsWell environment
   pub text_is : text ≡ codes "ok\n"
 
-abbrev pub IsAnswerOf : Job → (bytes text : List ℕ) → Type 0
-IsAnswerOf Exec bytes text = IsAnswer bytes text
-IsAnswerOf Check bytes text = IsAccepted bytes text
-IsAnswerOf Eval bytes text = IsEvaluated bytes text
+-- The text is the answer on the input of a job with the numbers of a request.
+abbrev pub IsAnswerOf : Job → Request → (bytes text : List ℕ) → Type 0
+IsAnswerOf Exec q bytes text = IsExecuted q.turns q.pages q.steps bytes text
+IsAnswerOf Check q bytes text = IsAccepted q.turns bytes text
+IsAnswerOf Eval q bytes text = IsEvaluated q.turns bytes text
+IsAnswerOf Run q bytes text = IsRunAnswer q.pages q.steps bytes text
+IsAnswerOf Compile q bytes text = IsMade q.turns q.pages bytes text
 
 -- The input, and the answer on it of the job that the words ask for.
 pub record Answered (words : List (List ℕ)) (left : Option (List ℕ)) (text : List ℕ) : Type 0 where
-  pub job : Job
-  pub asked : job_of words ≡ Some job
+  pub request : Request
+  pub asked : request_of words ≡ Some request
   pub bytes : List ℕ
   pub input : IsInput left bytes
-  pub answer : IsAnswerOf job bytes text
-
--- the environments that a job takes
-abbrev pub Takes : Job → RawEnv → Type 0
-Takes Exec e = IsPlain e
-Takes Check e = Unit {0}
-Takes Eval e = Unit {0}
+  pub answer : IsAnswerOf request.job request bytes text
 
 -- what of an environment shows a refusal of its check
-abbrev pub IsCheckCause : Refusal → RawEnv → Type 0
-IsCheckCause refusals.TurnsSpent e = IsSpentBy e
-IsCheckCause refusals.Depth e = IsTooDeepFor e
-IsCheckCause (refusals.Broken n p) e = IsBrokenBy e n p
-IsCheckCause _ e = ⊥
+abbrev pub IsCheckCause : (turns : ℕ) → Refusal → RawEnv → Type 0
+IsCheckCause turns refusals.TurnsSpent e = IsSpentBy turns e
+IsCheckCause turns refusals.Depth e = IsTooDeepFor turns e
+IsCheckCause turns (refusals.Broken n p) e = IsBrokenBy turns e n p
+IsCheckCause turns _ e = ⊥
 
--- what of an environment shows a refusal of a job: its check, and with `eval` what comes after it
-abbrev pub IsJobCause : Job → Refusal → RawEnv → Type 0
-IsJobCause Exec r e = IsCheckCause r e
-IsJobCause Check r e = IsCheckCause r e
-IsJobCause Eval r e = IsCheckCause r e ⊎ IsSourceCause r e
+-- what of an environment shows a refusal of a job: its check, and with `eval`, `exec` and `compile` what comes after it
+abbrev pub IsJobCause : Job → Request → Refusal → RawEnv → Type 0
+IsJobCause Exec q r e = IsCheckCause q.turns r e ⊎ IsExecCause q.turns q.pages q.steps r e
+IsJobCause Check q r e = IsCheckCause q.turns r e
+IsJobCause Eval q r e = IsCheckCause q.turns r e ⊎ IsSourceCause q.turns r e
+IsJobCause Run q r e = ⊥
+IsJobCause Compile q r e = IsCheckCause q.turns r e ⊎ IsMakeCause q.turns q.pages r e
 
--- the environment that the text spells, which the job takes, shows it
-abbrev pub IsOfCheck : Job → Refusal → List ℕ → Type 0
-IsOfCheck job r bytes = (e : RawEnv) × SpellsWithin bytes e × Takes job e × IsJobCause job r e
+-- the environment that the text spells shows it
+abbrev pub IsOfCheck : Job → Request → Refusal → List ℕ → Type 0
+IsOfCheck job q r bytes = (e : RawEnv) × SpellsWithin bytes e × IsJobCause job q r e
 
--- the text spells an environment that the job doesn't take
-abbrev pub IsOfForm : Job → List ℕ → Type 0
-IsOfForm job bytes = (e : RawEnv) × SpellsWithin bytes e × (Takes job e → ⊥)
+-- what of a dump shows a refusal of a job
+abbrev pub IsDumpCause : Job → Request → Refusal → List ℕ → Type 0
+IsDumpCause job q (refusals.Syntax o) bytes = Refuses bytes (reads.Syntax o)
+IsDumpCause job q (refusals.Unsupported w o) bytes = Refuses bytes (reads.Unsupported w o)
+IsDumpCause job q (refusals.Limit l) bytes = (o : ℕ) × Refuses bytes (reads.Limit l o)
+IsDumpCause job q refusals.Memory bytes = ⊥
+IsDumpCause job q refusals.Usage bytes = ⊥
+IsDumpCause job q refusals.ReadFault bytes = ⊥
+IsDumpCause job q refusals.WriteFault bytes = ⊥
+IsDumpCause job q refusals.InputBytes bytes = ⊥
+IsDumpCause job q r bytes = IsOfCheck job q r bytes
 
--- what of a text shows a refusal of a job
-abbrev pub IsTextCause : Job → Refusal → List ℕ → Type 0
-IsTextCause job (refusals.Syntax o) bytes = Refuses bytes (reads.Syntax o)
-IsTextCause job (refusals.Unsupported w o) bytes = Refuses bytes (reads.Unsupported w o)
-IsTextCause job (refusals.Limit l) bytes = (o : ℕ) × Refuses bytes (reads.Limit l o)
-IsTextCause job refusals.Form bytes = IsOfForm job bytes
-IsTextCause job refusals.Memory bytes = ⊥
-IsTextCause job refusals.Usage bytes = ⊥
-IsTextCause job refusals.ReadFault bytes = ⊥
-IsTextCause job refusals.WriteFault bytes = ⊥
-IsTextCause job refusals.InputBytes bytes = ⊥
-IsTextCause job r bytes = IsOfCheck job r bytes
+-- what of an input, a dump or a module, shows a refusal of a job
+abbrev pub IsTextCause : Job → Request → Refusal → List ℕ → Type 0
+IsTextCause Exec q r bytes = IsDumpCause Exec q r bytes
+IsTextCause Check q r bytes = IsDumpCause Check q r bytes
+IsTextCause Eval q r bytes = IsDumpCause Eval q r bytes
+IsTextCause Run q r bytes = IsRunCause q.pages q.steps r bytes
+IsTextCause Compile q r bytes = IsDumpCause Compile q r bytes
 
--- the text itself refuses, or is of a form that the job doesn't take: there the answer is determined but for want of memory
+-- the text itself refuses: there the answer is determined but for want of memory
 abbrev pub IsSure : Refusal → Type 0
 IsSure refusals.TurnsSpent = ⊥
 IsSure refusals.Depth = ⊥
@@ -151,20 +121,23 @@ IsSure refusals.Types = ⊥
 IsSure refusals.AnswerNodes = ⊥
 IsSure refusals.NotFirstOrder = ⊥
 IsSure refusals.Stuck = ⊥
+IsSure (refusals.Axiom name) = ⊥
+IsSure (refusals.Program l) = ⊥
+IsSure (refusals.Run w) = ⊥
+IsSure (refusals.Module w) = ⊥
 IsSure _ = Unit {0}
 
 -- The words ask for a job, and the refusal is that of the input's text.
 abbrev pub IsOfText : Refusal → (words : List (List ℕ)) → (left : Option (List ℕ)) → Type 0
-IsOfText r words left = (job : Job) × (job_of words ≡ Some job) × ((bytes : List ℕ) × IsInput left bytes × IsTextCause job r bytes)
+IsOfText r words left = (q : Request) × (request_of words ≡ Some q) × ((bytes : List ℕ) × IsInput left bytes × IsTextCause q.job q r bytes)
 
 abbrev pub IsForJob : List (List ℕ) → Type 0
-IsForJob words = (job : Job) × (job_of words ≡ Some job)
+IsForJob words = (q : Request) × (request_of words ≡ Some q)
 
--- What shows a refusal: the words, the source's count of faults, out's count of faults, the input's text or its length. Nothing shows want of memory but
--- that a job was asked for.
+-- What shows a refusal: the words, the source's count of faults, out's count of faults, the input's text or its length. Nothing shows want of memory.
 abbrev pub IsCause : Refusal → (words : List (List ℕ)) → (left : Option (List ℕ)) → (before now faults faults' : ℕ) → Type 0
-IsCause refusals.Memory words left before now faults faults' = IsForJob words
-IsCause refusals.Usage words left before now faults faults' = job_of words ≡ None
+IsCause refusals.Memory words left before now faults faults' = Unit {0}
+IsCause refusals.Usage words left before now faults faults' = request_of words ≡ None
 IsCause refusals.ReadFault words left before now faults faults' = IsForJob words × Rose before now
 IsCause refusals.WriteFault words left before now faults faults' = IsForJob words × Rose faults faults'
 IsCause refusals.InputBytes words left before now faults faults' = IsForJob words × IsTooLong left
@@ -180,6 +153,12 @@ Says view (Ok v) words left before now = Answered words left (view v)
 Says view (Err refusals.WriteFault) words left before now = ⊥
 Says view (Err r) words left before now = IsCause r words left before now 0 0
 
+-- what reading the words says of a refusal; want of memory says nothing
+abbrev pub RequestSays : Refusal → (words : List (List ℕ)) → Type 0
+RequestSays refusals.Usage words = request_of words ≡ None
+RequestSays refusals.Memory words = Unit {0}
+RequestSays _ words = ⊥
+
 -- what reading the input says
 abbrev pub ReadSays : {V : Type 0} → (V → List ℕ) → Result V Refusal → (left : Option (List ℕ)) → (before now : ℕ) → Type 0
 ReadSays view (Ok v) left before now = IsInput left (view v)
@@ -189,21 +168,21 @@ ReadSays view (Err refusals.InputBytes) left before now = IsTooLong left
 ReadSays view (Err _) left before now = ⊥
 
 -- what a job says of its input
-abbrev pub JobSays : {V : Type 0} → Job → (V → List ℕ) → Result V Refusal → List ℕ → Type 0
-JobSays job view (Ok v) bytes = IsAnswerOf job bytes (view v)
-JobSays job view (Err refusals.Memory) bytes = Unit {0}
-JobSays job view (Err r) bytes = IsTextCause job r bytes
+abbrev pub JobSays : {V : Type 0} → Job → Request → (V → List ℕ) → Result V Refusal → List ℕ → Type 0
+JobSays job q view (Ok v) bytes = IsAnswerOf job q bytes (view v)
+JobSays job q view (Err refusals.Memory) bytes = Unit {0}
+JobSays job q view (Err r) bytes = IsTextCause job q r bytes
 
 -- what the check of an environment says
-abbrev pub CheckSays : Result Accepted Refusal → RawEnv → Type 0
-CheckSays (Ok a) e = IsAcceptedBy e × IsCheckedEnvironment e.levels e.constraints (givens e) e.main a.env a.main_type
-CheckSays (Err refusals.Memory) e = Unit {0}
-CheckSays (Err r) e = IsCheckCause r e
+abbrev pub CheckSays : (turns : ℕ) → Result Accepted Refusal → RawEnv → Type 0
+CheckSays turns (Ok a) e = IsAcceptedBy turns e × IsCheckedEnvironment e.levels e.constraints (givens e) e.main a.env a.main_type
+CheckSays turns (Err refusals.Memory) e = Unit {0}
+CheckSays turns (Err r) e = IsCheckCause turns r e
 
 -- and so many units are left
-abbrev pub AcceptSays : Result Accepted Refusal → RawEnv → Account → Type 0
-AcceptSays (Ok a) e u = IsAcceptedWith e a.env a.main_type u × (a.main ≡ e.main) × IsCheckedEnvironment e.levels e.constraints (givens e) e.main a.env a.main_type
-AcceptSays (Err r) e u = CheckSays (Err r) e
+abbrev pub AcceptSays : (turns : ℕ) → Result Accepted Refusal → RawEnv → Account → Type 0
+AcceptSays turns (Ok a) e u = IsAcceptedWith turns e a.env a.main_type u × (a.main ≡ e.main) × IsCheckedEnvironment e.levels e.constraints (givens e) e.main a.env a.main_type
+AcceptSays turns (Err r) e u = CheckSays turns (Err r) e
 
 -- A line goes to err whole, or a prefix of it where err's count of faults rose.
 pub record TakesLine (old new : Option (List ℕ)) (before now : ℕ) (line : List ℕ) : Type 0 where
@@ -226,24 +205,44 @@ pub record IsRefused (status : ℕ) (words : List (List ℕ)) (left : Option (Li
   pub cause : IsCause refusal words left before now faults faults'
   pub told : TakesLine line line' errs errs' (line_of refusal)
 
--- The words ask for the job, the source tells these bytes, and its count of faults doesn't rise.
-pub record IsAsked (job : Job) (words : List (List ℕ)) (left : Option (List ℕ)) (bytes : List ℕ) (before now : ℕ) : Type 0 where
-  pub words_are : job_of words ≡ Some job
+-- The words ask for this, the source tells these bytes, and its count of faults doesn't rise.
+pub record IsAsked (q : Request) (words : List (List ℕ)) (left : Option (List ℕ)) (bytes : List ℕ) (before now : ℕ) : Type 0 where
+  pub words_are : request_of words ≡ Some q
   pub bytes_are : left ≡ Some bytes
   pub no_fault : Rose before now → ⊥
 
 -- by the directed rules the job ends with this status, within the limits
-abbrev pub JobEndsWith : Job → RawEnv → ℕ → Type 0
-JobEndsWith Exec e status = EndsWith e status
-JobEndsWith Check e status = EndsWith e status
-JobEndsWith Eval e status = EvalEndsWith e status
+abbrev pub JobEndsWith : Job → Request → RawEnv → ℕ → Type 0
+JobEndsWith Exec q e status = ExecEndsWith q.turns e q.pages q.steps status
+JobEndsWith Check q e status = EndsWith q.turns e status
+JobEndsWith Eval q e status = EvalEndsWith q.turns e status
+JobEndsWith Run q e status = ⊥
+JobEndsWith Compile q e status = MakeEndsWith q.turns e q.pages status
 
--- the text spells an environment that the job takes, and the job ends with this status
-abbrev pub IsJudgedWith : Job → ℕ → List ℕ → Type 0
-IsJudgedWith job status bytes = (e : RawEnv) × SpellsWithin bytes e × Takes job e × JobEndsWith job e status
+-- the text spells an environment, and the job ends with this status
+abbrev pub IsDumpJudgedWith : Job → Request → ℕ → List ℕ → Type 0
+IsDumpJudgedWith job q status bytes = (e : RawEnv) × SpellsWithin bytes e × JobEndsWith job q e status
 
--- an environment on which the job has an answer: a plain one that keeps all rules, or one whose main has a value that is data
-abbrev pub IsAnswerableBy : Job → RawEnv → Type 0
-IsAnswerableBy Exec e = IsAnswerable e
-IsAnswerableBy Check e = IsAnswerable e
-IsAnswerableBy Eval e = SourceEndsWith e 0
+-- so of a dump, or the run of a module ends with this status
+abbrev pub IsJudgedWith : Job → Request → ℕ → List ℕ → Type 0
+IsJudgedWith Exec q status bytes = IsDumpJudgedWith Exec q status bytes
+IsJudgedWith Check q status bytes = IsDumpJudgedWith Check q status bytes
+IsJudgedWith Eval q status bytes = IsDumpJudgedWith Eval q status bytes
+IsJudgedWith Run q status bytes = RunEndsWith q.pages q.steps bytes status
+IsJudgedWith Compile q status bytes = IsDumpJudgedWith Compile q status bytes
+
+-- an environment on which the job has an answer: by `exec` one whose main's module answers data of main's type, by `check` a plain one that keeps all rules, by `eval` one whose main has a value that is data, by `compile` one whose main has a module within 16 MiB
+abbrev pub IsAnswerableBy : Job → Request → RawEnv → Type 0
+IsAnswerableBy Exec q e = RestEndsWith q.turns e q.pages q.steps 0
+IsAnswerableBy Check q e = (0 < q.turns) × IsAnswerable e
+IsAnswerableBy Eval q e = IsEvaluable q.turns e
+IsAnswerableBy Run q e = ⊥
+IsAnswerableBy Compile q e = IsCompilable q.turns e q.pages
+
+-- a status that comes after the check: 0, 4 and those from 10 on
+abbrev pub IsLate : ℕ → Type 0
+IsLate status = (status ≡ 0) ⊎ ((status ≡ 4) ⊎ (10 ≤ status))
+
+-- the text spells an environment that is well formed
+abbrev pub HasWell : List ℕ → Type 0
+HasWell bytes = (e : RawEnv) × SpellsWithin bytes e × IsWell e

@@ -1,15 +1,25 @@
 -- All that the top call promises, as one record over the objects that it is lent.
-use Rattle.std.specs.Prelude.{◌≡◌, ◌≢◌, ◌↔◌, ◌⊎◌, ◌<◌, ◌≤◌, ℕ, List, [], ◌∷◌, length, Contains, Option, None}
+use Rattle.std.specs.Prelude.{◌≡◌, ◌≢◌, ◌⊎◌, ◌<◌, ◌≤◌, ℕ, List, [], ◌∷◌, ◌++◌, length, Contains, Option, None}
 use Rattle.std.specs.Io.KnownBytes.{Appends}
 use Rattle.kio.specs.Causes.{Rose}
 use Rattle.kio.specs.Known.{StillTells}
+use Rattle.pc_rules.specs.FirstOrder.{Data}
 use Rattle.dump_reader.specs.declared.environment.RawEnv.{RawEnv}
 use Rattle.driver.specs.declared.refusal.Refusal.{Refusal}
-use Rattle.driver.specs.declared.command_line.Job.{Job}
-use Rattle.driver.specs.CommandLine.{job_of}
+use Rattle.command_line.specs.declared.job.Job.TheVariants.{Compile, Exec}
+use Rattle.command_line.specs.declared.line.Request.{Request}
+use Rattle.command_line.specs.Line.{request_of}
 use Rattle.driver.specs.Lines.{status_of}
 use Rattle.driver.specs.Texts.{SpellsWithin}
-use Rattle.driver.specs.Serve.{Answered, IsAnswerableBy, IsAsked, IsJudgedWith, IsRefused, IsSure, IsTextCause, TakesPrefix, input_limit}
+use Rattle.driver.specs.ExecEnds.{IsCompilable, Finishes}
+use Rattle.pc_terms.specs.declared.leaf.FamilyId.{FamilyId}
+use Rattle.driver.specs.Plain.{IsPlainOf}
+use Rattle.driver.specs.Answerable.{IsAnswerable}
+use Rattle.driver.specs.PlainAnswer.{AnswersConstructor, NamesConstructor}
+use Rattle.driver.specs.MadeModule.{TakesModule}
+use Rattle.driver.specs.Executed.{AnswersData, HasErasedData}
+use Rattle.driver.specs.Headline.{HasLawfulValue, AnswersValue, EvaluatesErased, IsBoundedBy, HasMatches}
+use Rattle.driver.specs.Serve.{HasWell, IsLate, Answered, IsAnswerableBy, IsAsked, IsJudgedWith, IsRefused, IsSure, IsTextCause, TakesPrefix, input_limit}
 
 -- An object as a call meets it: itself, the bytes that it tells, its count of faults.
 pub record Seen (X : Type 0) : Type 0 where
@@ -24,15 +34,25 @@ pub record IsKept {X : Type 0} (old new : Seen X) : Type 0 where
 
 pub record Served {S K E : Type 0} (status : ℕ) (words : List (List ℕ)) (src src' : Seen S) (out out' : Seen K) (err err' : Seen E) : Type 0 where
   pub done : status ≡ 0 → (text : List ℕ) × Answered words src.told text × Appends out.told out'.told text
-  pub statuses : Contains (0 ∷ 1 ∷ 2 ∷ 3 ∷ 4 ∷ 5 ∷ 6 ∷ 7 ∷ 8 ∷ 9 ∷ 10 ∷ 15 ∷ []) status
+  pub statuses : Contains (0 ∷ 1 ∷ 2 ∷ 3 ∷ 4 ∷ 5 ∷ 6 ∷ 7 ∷ 8 ∷ 9 ∷ 10 ∷ 11 ∷ 12 ∷ 13 ∷ 14 ∷ 15 ∷ []) status
   pub refused : status ≢ 0 → IsRefused status words src.told src.faults src'.faults out.faults out'.faults err.told err'.told err.faults err'.faults
-  pub usage : (status ≡ 2) ↔ (job_of words ≡ None)
-  pub nothing_read : status ≡ 2 → src'.object ≡ src.object
+  pub usage : status ≡ 2 → request_of words ≡ None
+  pub faulty : request_of words ≡ None → (src'.object ≡ src.object) × ((status ≡ 2) ⊎ (status ≡ 1))
   pub prefix : status ≡ 4 → (text : List ℕ) × Answered words src.told text × TakesPrefix out.told out'.told text
-  pub judged : (job : Job) (bytes : List ℕ) (wanted : ℕ) → IsAsked job words src.told bytes src.faults src'.faults → length bytes ≤ input_limit → IsJudgedWith job wanted bytes → (wanted ≡ 0 → ¬ Rose out.faults out'.faults) → (status ≡ wanted) ⊎ (status ≡ 1)
-  pub complete : (job : Job) (bytes : List ℕ) (e : RawEnv) → IsAsked job words src.told bytes src.faults src'.faults → length bytes ≤ input_limit → SpellsWithin bytes e → IsAnswerableBy job e → ¬ Rose out.faults out'.faults → (status ≡ 0) ⊎ (status ≡ 1)
-  pub refuses_text : (job : Job) (bytes : List ℕ) (r : Refusal) → IsAsked job words src.told bytes src.faults src'.faults → length bytes ≤ input_limit → IsTextCause job r bytes → IsSure r → (status ≡ status_of r) ⊎ (status ≡ 1)
-  pub refuses_length : (job : Job) (bytes : List ℕ) → IsAsked job words src.told bytes src.faults src'.faults → input_limit < length bytes → (status ≡ 7) ⊎ (status ≡ 1)
+  pub judged : (q : Request) (bytes : List ℕ) (wanted : ℕ) → IsAsked q words src.told bytes src.faults src'.faults → length bytes ≤ input_limit → IsJudgedWith q.job q wanted bytes → (wanted ≡ 0 → ¬ Rose out.faults out'.faults) → (status ≡ wanted) ⊎ (status ≡ 1)
+  pub complete : (q : Request) (bytes : List ℕ) (e : RawEnv) → IsAsked q words src.told bytes src.faults src'.faults → length bytes ≤ input_limit → SpellsWithin bytes e → IsAnswerableBy q.job q e → ¬ Rose out.faults out'.faults → (status ≡ 0) ⊎ (status ≡ 1)
+  pub values : (q : Request) (bytes : List ℕ) (e : RawEnv) (ds : Data) (n k : ℕ) → IsAsked q words src.told bytes src.faults src'.faults → q.job ≡ Exec → length bytes ≤ input_limit → SpellsWithin bytes e → HasErasedData q.turns e ds n k → AnswersData q e ds status out.told out'.told
+  pub plain : (q : Request) (bytes : List ℕ) (e : RawEnv) (a : IsAnswerable e) → IsAsked q words src.told bytes src.faults src'.faults → q.job ≡ Exec → 4 ≤ q.turns → 1052672 ≤ q.steps → length bytes ≤ input_limit → SpellsWithin bytes e → AnswersConstructor q.turns e a status out.faults out'.faults out.told out'.told
+  pub named : (q : Request) (bytes : List ℕ) (e : RawEnv) (f : FamilyId) (n : ℕ) → IsAsked q words src.told bytes src.faults src'.faults → q.job ≡ Exec → 4 ≤ q.turns → 1052672 ≤ q.steps → length bytes ≤ input_limit → SpellsWithin bytes e → IsPlainOf e f n → status ≡ 0 → (name : List ℕ) × NamesConstructor e f n name × Appends out.told out'.told (name ++ 10 ∷ [])
+  pub finishes : (q : Request) (bytes : List ℕ) (e : RawEnv) → IsAsked q words src.told bytes src.faults src'.faults → q.job ≡ Exec → length bytes ≤ input_limit → SpellsWithin bytes e → IsCompilable q.turns e q.pages → ¬ Rose out.faults out'.faults → Finishes q.turns e q.pages q.steps status
+  pub made : (q : Request) (bytes : List ℕ) (e : RawEnv) (ds : Data) (n k : ℕ) → IsAsked q words src.told bytes src.faults src'.faults → q.job ≡ Compile → length bytes ≤ input_limit → SpellsWithin bytes e → HasErasedData q.turns e ds n k → status ≡ 0 → TakesModule ds out.told out'.told
+  pub made_well : (q : Request) (bytes : List ℕ) → IsAsked q words src.told bytes src.faults src'.faults → q.job ≡ Compile → IsLate status → HasWell bytes
+  pub well : (q : Request) (bytes : List ℕ) → IsAsked q words src.told bytes src.faults src'.faults → q.job ≡ Exec → IsLate status → HasWell bytes
+  pub headline : (q : Request) (bytes : List ℕ) (e : RawEnv) (n : ℕ) → IsAsked q words src.told bytes src.faults src'.faults → q.job ≡ Exec → length bytes ≤ input_limit → SpellsWithin bytes e → (h : HasLawfulValue q.turns e n) → AnswersValue q e n status h out.told out'.told
+  pub bounded : (q : Request) (bytes : List ℕ) (e : RawEnv) (n : ℕ) → IsAsked q words src.told bytes src.faults src'.faults → q.job ≡ Exec → length bytes ≤ input_limit → SpellsWithin bytes e → (h : EvaluatesErased q.turns e n) → IsBoundedBy h q.pages q.steps status
+  pub matched : (q : Request) (bytes : List ℕ) (e : RawEnv) (matches : ℕ) → IsAsked q words src.told bytes src.faults src'.faults → q.job ≡ Exec → length bytes ≤ input_limit → SpellsWithin bytes e → HasMatches q.turns e matches → q.steps < matches → status ≢ 0
+  pub refuses_text : (q : Request) (bytes : List ℕ) (r : Refusal) → IsAsked q words src.told bytes src.faults src'.faults → length bytes ≤ input_limit → IsTextCause q.job q r bytes → IsSure r → (status ≡ status_of r) ⊎ (status ≡ 1)
+  pub refuses_length : (q : Request) (bytes : List ℕ) → IsAsked q words src.told bytes src.faults src'.faults → input_limit < length bytes → (status ≡ 7) ⊎ (status ≡ 1)
   pub nothing_out : status ≢ 0 → status ≢ 4 → out'.object ≡ out.object
   pub quiet : status ≡ 0 → err'.object ≡ err.object
   pub source : IsKept src src'

@@ -10,6 +10,8 @@ use Rattle.pc_rules.specs.DirectedDeclarations.{Checked, Accepts}
 use Rattle.pc_rules.specs.DirectedEvaluation.{Evaluated, Value, Stuck, evaluation}
 use Rattle.pc_rules.specs.DirectedFirstOrder.{Searched, Found, NotFirstOrder, TooManyTypes, first_order_search}
 use Rattle.first_order.specs.Reading.{Reading, Read, NotAt, TooMany, reading}
+use Rattle.rule_laws.specs.Declarations.{IsCheckedEnvironment}
+use Rattle.env_check.specs.Rules.{givens}
 use Rattle.dump_reader.specs.declared.environment.RawEnv.{RawEnv}
 use Rattle.driver.specs.declared.refusal.Refusal.{Refusal}
 use Rattle.driver.specs.declared.refusal.Refusal.TheVariants as refusals
@@ -37,17 +39,17 @@ abbrev pub source_rule : Env → Term → Term → Account → Run Ended
 source_rule E t T u = bind (first_order_search E T u) (with_set E t)
 
 -- the rules accept the environment, with main's type, and so many units are left
-pub record IsAcceptedWith (e : RawEnv) (E : Env) (T : Term) (u : Account) : Type 0 where
+pub record IsAcceptedWith (turns : ℕ) (e : RawEnv) (E : Env) (T : Term) (u : Account) : Type 0 where
   pub rules : Checked
-  pub judged : IsJudged e rules
+  pub judged : IsJudged turns e rules
   pub accepts : rules.outcome ≡ Accepts E T u
 
 -- the run of an environment that the rules accept
-pub record IsSourceRun (e : RawEnv) (r : Run Ended) : Type 0 where
+pub record IsSourceRun (turns : ℕ) (e : RawEnv) (r : Run Ended) : Type 0 where
   pub kept : Env
   pub type : Term
   pub left : Account
-  pub accepted : IsAcceptedWith e kept type left
+  pub accepted : IsAcceptedWith turns e kept type left
   pub is : r ≡ source_rule kept e.main type left
 
 -- what of the run shows a refusal
@@ -63,9 +65,11 @@ ShowsEnd refusals.Stuck r w = IsStuck r.end w
 ShowsEnd refusals.AnswerNodes r w = r.end ≡ Done (IsRead TooMany) w
 ShowsEnd _ r w = ⊥
 
-pub record IsSourceCause (r : Refusal) (e : RawEnv) : Type 0 where
+pub record IsSourceCause (turns : ℕ) (r : Refusal) (e : RawEnv) : Type 0 where
   pub run : Run Ended
-  pub of : IsSourceRun e run
+  pub of : IsSourceRun turns e run
+  -- the environment is well formed, by a derivation for every declaration and for main
+  pub well : IsCheckedEnvironment e.levels e.constraints (givens e) e.main of.kept of.type
   pub left : Account
   pub shows : ShowsEnd r run left
 
@@ -89,13 +93,13 @@ source_status NoUnit = 8
 source_status Nested = 7
 
 -- the check accepts, and the run ends with this status; no limit is passed
-pub record SourceEndsWith (e : RawEnv) (status : ℕ) : Type 0 where
-  pub check : EndsWith e 0
+pub record SourceEndsWith (turns : ℕ) (e : RawEnv) (status : ℕ) : Type 0 where
+  pub check : EndsWith turns e 0
   pub run : Run Ended
-  pub of : IsSourceRun e run
+  pub of : IsSourceRun turns e run
   pub within : run.deep ≡ false
   pub status_is : status ≡ source_status run.end
 
 -- the check doesn't accept, or it does and the run ends with this status; no limit is passed
-abbrev pub EvalEndsWith : RawEnv → ℕ → Type 0
-EvalEndsWith e status = (EndsWith e status × (status ≢ 0)) ⊎ SourceEndsWith e status
+abbrev pub EvalEndsWith : (turns : ℕ) → RawEnv → ℕ → Type 0
+EvalEndsWith turns e status = (EndsWith turns e status × (status ≢ 0)) ⊎ SourceEndsWith turns e status

@@ -3,11 +3,12 @@
 ghost use Rattle.std.specs.Prelude.{◌≡◌, ◌<◌, ℕ, IfOk, IfErr, length, codes};
 ghost use Rattle.dump_reader.specs.Spelled.{IsSpelled};
 ghost use Rattle.pc_rules.specs.declared.broken.Place.TheVariants.{Declaration};
-ghost use Rattle.driver.specs.declared.command_line.Job.TheVariants.{Check};
+ghost use Rattle.command_line.specs.declared.job.Job.TheVariants.{Check};
 ghost use Rattle.driver.specs.Judged.{IsTold, name_of, number_of, start};
 ghost use Rattle.driver.specs.Serve.{AcceptSays, CheckSays, JobSays};
 
 use crate::refusal::{Refusal, Where};
+use command_line::Request;
 use dump_reader::declaration::RawDecl;
 use dump_reader::environment::RawEnv;
 use dump_reader::reading::read_env;
@@ -20,11 +21,8 @@ use pc_terms::leaf::Name;
 use reduction::substitution::Subst;
 use std::alloc::Global;
 
-/// The units of a job.
-const TURNS: u64 = 1_000_000;
-
 /// The number of a rule that may be broken, from 1 on.
-fn number(rule: &Broken) -> u8
+pub(crate) fn number(rule: &Broken) -> u8
     ensures is { result ≡ number_of rule.now }
 {
     match rule {
@@ -59,7 +57,7 @@ fn declared_name(decl: &RawDecl) -> Name
 }
 
 /// How a line tells a place, which is one of the environment. Only `Memory`.
-fn told(alloc: Global, raw: &RawEnv, place: Place) -> Result<Where, Refusal>
+pub(crate) fn told(alloc: Global, raw: &RawEnv, place: Place) -> Result<Where, Refusal>
     requires spelled { IsSpelled raw.now }
     requires within { (i : ℕ) → place ≡ Declaration i → i < length raw.now.decls }
     ensures told { IfOk result (λ w. IsTold raw.now place w) }
@@ -82,26 +80,30 @@ fn told(alloc: Global, raw: &RawEnv, place: Place) -> Result<Where, Refusal>
     }
 }
 
-/// A meter of the units of a job.
-pub(crate) fn units() -> Meter
-    ensures account { result.account ≡ start }
+/// A meter of so many units.
+pub(crate) fn units(turns: u32) -> Meter
+    ensures account { result.account ≡ start turns }
     ensures nest { result.nest ≡ 0 }
 {
-    Meter::new(TURNS)
+    Meter::new(u64::from(turns))
 }
 
 /// The environment with the sorts that its check finds, main and main's type; or why it is not accepted with the units of a meter, which are
-/// those of a job.
+/// those of a job, `turns` in number.
 pub(crate) fn accept_within(
     alloc: Global,
+    turns: u32,
     raw: &RawEnv,
     meter: &mut Meter,
 ) -> Result<Accepted, Refusal>
     requires spelled { IsSpelled raw.now }
-    requires units { meter.old.account ≡ start }
+    requires units { meter.old.account ≡ start turns }
     requires nest { meter.old.nest ≡ 0 }
-    ensures says { AcceptSays result raw.now meter.new.account }
+    ensures says { AcceptSays turns result raw.now meter.new.account }
+    ensures nest { meter.new.nest ≡ 0 }
 {
+    // The turns are of the contract alone.
+    let _ = turns;
     match check_env(alloc, &Subst, raw, meter) {
         Ok(accepted) => Ok(accepted),
         Err(Fault::Memory) => Err(Refusal::Memory),
@@ -117,13 +119,13 @@ pub(crate) fn accept_within(
     }
 }
 
-/// The environment with the sorts that its check finds, main and main's type; or why it is not accepted with the units of a job.
-pub(crate) fn accept(alloc: Global, raw: &RawEnv) -> Result<Accepted, Refusal>
+/// The environment with the sorts that its check finds, main and main's type; or why it is not accepted with so many units.
+pub(crate) fn accept(alloc: Global, turns: u32, raw: &RawEnv) -> Result<Accepted, Refusal>
     requires spelled { IsSpelled raw.now }
-    ensures says { CheckSays result raw.now }
+    ensures says { CheckSays turns result raw.now }
 {
-    let mut meter = units();
-    accept_within(alloc, raw, &mut meter)
+    let mut meter = units(turns);
+    accept_within(alloc, turns, raw, &mut meter)
 }
 
 /// The text of an acceptance.
@@ -136,10 +138,10 @@ fn accepted_text(alloc: Global) -> Result<Vec<u8>, Refusal>
 }
 
 /// The text of the answer on a dump: `ok`, with LF, where its environment is accepted.
-pub(crate) fn check(alloc: Global, bytes: &[u8]) -> Result<Vec<u8>, Refusal>
-    ensures says { JobSays Check (λ v. v.items) result bytes.now }
+pub(crate) fn check(alloc: Global, request: Request, bytes: &[u8]) -> Result<Vec<u8>, Refusal>
+    ensures says { JobSays Check request (λ v. v.items) result bytes.now }
 {
     let environment = read_env(alloc, bytes)?;
-    accept(alloc, &environment)?;
+    accept(alloc, request.turns, &environment)?;
     accepted_text(alloc)
 }

@@ -5,7 +5,7 @@ ghost use Rattle.kio.specs.Known.{StillTells};
 ghost use Rattle.driver.specs.Lines.{line_of, number_text};
 ghost use Rattle.driver.specs.Serve.{TakesLine};
 
-use crate::refusal::{Refusal, front, name, number, place};
+use crate::refusal::{Refusal, front, name, number, place, second};
 use itoa::Buffer;
 use kio::{Sink, WriteFault, write_all};
 
@@ -38,12 +38,10 @@ pub(crate) fn write_line<E: Sink>(err: &mut E, refusal: &Refusal)
         Some(n) => buffer.format(n).as_bytes(),
         None => b"".as_slice(),
     };
-    let _ = write_parts(
-        err,
-        front(refusal),
-        digits,
-        place(refusal),
-        name(refusal),
-        b"\n",
-    );
+    let mut other = Buffer::new();
+    let name = match second(refusal) {
+        Some(n) => other.format(n).as_bytes(),
+        None => name(refusal),
+    };
+    let _ = write_parts(err, front(refusal), digits, place(refusal), name, b"\n");
 }

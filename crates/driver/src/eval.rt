@@ -6,12 +6,13 @@ ghost use Rattle.pc_rules.specs.FirstOrder.{IsFirstOrder};
 ghost use Rattle.first_order.specs.Reading.{read, Read};
 ghost use Rattle.first_order.specs.Searching.{members, AreNamed};
 ghost use Rattle.first_order.specs.Texts.{HasNames};
-ghost use Rattle.driver.specs.declared.command_line.Job.TheVariants.{Eval};
+ghost use Rattle.command_line.specs.declared.job.Job.TheVariants.{Eval};
 ghost use Rattle.driver.specs.Serve.{JobSays};
 ghost use Rattle.driver.specs.SourceSays.{ShapesSay, ValueSays, DataSays, IsLine};
 
 use crate::check::{accept_within, units};
 use crate::refusal::Refusal;
+use command_line::Request;
 use data_trees::Data;
 use dump_reader::environment::RawEnv;
 use dump_reader::names::Names;
@@ -29,10 +30,15 @@ use source_eval::evaluation::{EvalStop, eval as evaluate};
 use std::alloc::Global;
 
 /// The types of a first-order set of main's type.
-fn shapes_of(alloc: Global, accepted: &Accepted, m: &mut Meter) -> Result<Shapes, Refusal>
+pub(crate) fn shapes_of(
+    alloc: Global,
+    accepted: &Accepted,
+    m: &mut Meter,
+) -> Result<Shapes, Refusal>
     ensures says { ShapesSay accepted.now.env accepted.now.main_type m.old.account result m.new.account }
     ensures set { IfOk result (λ s. IsFirstOrder accepted.now.env accepted.now.main_type (members s.types)) }
     ensures named { IfOk result (λ s. AreNamed accepted.now.env s.types) }
+    ensures nest { m.new.nest ≡ m.old.nest }
 {
     match first_order(alloc, &Subst, &accepted.env, &accepted.main_type, m) {
         Ok(shapes) => Ok(shapes),
@@ -98,12 +104,12 @@ fn line_of(
 
 /// The text of the answer on a dump: the stages from its bytes to the text of main's value. One meter serves the check, the search for the types and
 /// the evaluation.
-pub(crate) fn eval(alloc: Global, bytes: &[u8]) -> Result<Vec<u8>, Refusal>
-    ensures says { JobSays Eval (λ v. v.items) result bytes.now }
+pub(crate) fn eval(alloc: Global, request: Request, bytes: &[u8]) -> Result<Vec<u8>, Refusal>
+    ensures says { JobSays Eval request (λ v. v.items) result bytes.now }
 {
     let environment = read_env(alloc, bytes)?;
-    let mut meter = units();
-    let accepted = accept_within(alloc, &environment, &mut meter)?;
+    let mut meter = units(request.turns);
+    let accepted = accept_within(alloc, request.turns, &environment, &mut meter)?;
     let shapes = shapes_of(alloc, &accepted, &mut meter)?;
     let value = value_of(alloc, &accepted, &mut meter)?;
     let tree = data_at(alloc, &value, &shapes)?;

@@ -1,75 +1,125 @@
-//! The job `exec`: from the bytes of a dump to the text of main's answer.
-
-ghost use Rattle.std.specs.Prelude.{◌≡◌, ◌<◌, ◌∷◌, ◌++◌, ℕ, List, [], IfOk, IfErr, IfSome, IfNone, Some, slice_get};
-ghost use Rattle.pc_rules.specs.declared.declaration.Family.{Family};
-ghost use Rattle.pc_rules.specs.declared.declaration.Constructor.{Constructor};
-ghost use Rattle.pc_rules.specs.Lookup.{family_kept};
-ghost use Rattle.wasm_core.specs.ModuleGrammar.{SpellsModule};
-ghost use Rattle.wasm_core.specs.ShortestBytes.{module_bytes};
-ghost use Rattle.driver.specs.declared.command_line.Job.TheVariants.{Exec};
-ghost use Rattle.driver.specs.Judged.{IsNamed};
-ghost use Rattle.driver.specs.Program.{module_for};
+//! The job `exec`: from the bytes of a dump to the text of what main's module answers. Its stages, in order: read (`exec`), check (`environment_answer`), first-order types
+//! (`accepted_answer`), erase (`erased_answer`), compile and run (`module_answer`), text (`line_of`).
+ghost use Rattle.std.specs.Prelude.{◌≡◌};
+ghost use Rattle.dump_reader.specs.Spelled.{IsSpelled};
+ghost use Rattle.rule_laws.specs.Declarations.{IsCheckedEnvironment};
+ghost use Rattle.env_check.specs.Rules.{givens};
+ghost use Rattle.lambda_box.specs.BoxForm.{IsBoxProgram};
+ghost use Rattle.first_order.specs.Texts.{HasNames};
+ghost use Rattle.command_line.specs.declared.job.Job.TheVariants.{Exec};
+ghost use Rattle.command_line.specs.Line.{IsInRange};
+ghost use Rattle.driver.specs.SourceEnds.{IsAcceptedWith};
+ghost use Rattle.driver.specs.ExecEnds.{TextSays};
+ghost use Rattle.driver.specs.ExecParts.{AnswerSays, ModuleSays, RestSays, StagesSay};
 ghost use Rattle.driver.specs.Serve.{JobSays};
 
-use crate::check::accept;
-use crate::plain::plain_main;
-use crate::program::{compile, load, run, write};
-use crate::refusal::Refusal;
+use crate::check::{accept_within, units};
+use crate::erasing::erased;
+use crate::eval::shapes_of;
+use crate::refusal::{Refusal, RunEnd};
+use crate::running::{answered, compiled};
+use box_terms::program::BoxProgram;
+use command_line::Request;
 use dump_reader::environment::RawEnv;
+use dump_reader::names::Names;
 use dump_reader::reading::read_env;
-use pc_rules::environment::Env;
-use pc_terms::leaf::FamilyId;
+use first_order::faults::TextFault;
+use first_order::shapes::Shapes;
+use first_order::texts::text_of;
+use module_run::Answer;
+use pc_rules::accepted::Accepted;
+use pc_rules::meter::Meter;
 use std::alloc::Global;
 
-/// The name, and LF.
-fn text_of(alloc: Global, name: &[u8]) -> Result<Vec<u8>, Refusal>
-    ensures text { IfOk result (λ v. v.items ≡ name.now ++ 10 ∷ []) }
-    ensures only_memory { IfErr result (λ r. r ≡ Refusal.Memory) }
+/// The text of the data at the types, and LF.
+fn line_of(
+    alloc: Global,
+    answer: &Answer,
+    shapes: &Shapes,
+    names: &Names,
+) -> Result<Vec<u8>, Refusal>
+    requires named { HasNames shapes.now.types names.now }
+    ensures says { TextSays (λ v. v.items) shapes.now.types names.now answer.now result }
 {
-    let mut text = Vec::new(alloc);
-    text.extend_from_slice(name)?;
-    text.push(b'\n')?;
-    Ok(text)
+    match text_of(alloc, &answer.tree, shapes, names) {
+        Ok(mut text) => {
+            text.push(b'\n')?;
+            Ok(text)
+        }
+        Err(TextFault::Memory) => Err(Refusal::Memory),
+        Err(TextFault::NotOfShape { .. }) => Err(Refusal::Run {
+            why: RunEnd::NoValue { word: answer.word },
+        }),
+        Err(TextFault::AnswerNodes) => unreachable!(),
+    }
 }
 
-/// The number of the constructor in the data that a run of the constructor's module answers: the module is made, written, read back, checked and run.
-fn answer_of(alloc: Global, number: u32) -> Result<u32, Refusal>
-    requires few { number < 1024 }
-    ensures same { IfOk result (λ n. n ≡ number) }
-    ensures spelled { IfOk result (λ _. SpellsModule (module_bytes (module_for number)) (module_for number)) }
-    ensures only_memory { IfErr result (λ r. r ≡ Refusal.Memory) }
+/// What a program's module answers: the passes to the module, and its run.
+fn module_answer(alloc: Global, request: Request, program: &BoxProgram) -> Result<Answer, Refusal>
+    requires range { IsInRange request }
+    requires form { IsBoxProgram program.now }
+    ensures says { ModuleSays request program.now result }
 {
-    let program = compile(alloc, number)?;
-    let file = write(alloc, &program)?;
-    let loaded = load(alloc, file.as_slice())?;
-    let data = run(alloc, &loaded)?;
-    let (constructor, _arguments) = data.node(0);
-    Ok(constructor)
+    let module = compiled(alloc, request.pages, program)?;
+    answered(alloc, request.pages, request.steps, &module)
 }
 
-/// The name of constructor `number` of a family that is kept; none where there is no such constructor, or its name is not in the table.
-fn name_of<'a>(raw: &'a RawEnv, env: &Env, id: FamilyId, number: u32) -> Option<&'a str>
-    ensures found { IfSome result (λ text. (f : Family) × (c : Constructor) × (family_kept env.now id ≡ Some f) × (slice_get f.ctors number ≡ Some c) × IsNamed raw.now c.name.0 text.now) }
-    ensures none { IfNone result ((f : Family) (c : Constructor) (name : List ℕ) → family_kept env.now id ≡ Some f → slice_get f.ctors number ≡ Some c → IsNamed raw.now c.name.0 name → ⊥) }
+/// What main's module answers, of an accepted environment: erasure, then the program's module.
+fn erased_answer(
+    alloc: Global,
+    request: Request,
+    raw: &RawEnv,
+    accepted: &Accepted,
+    m: &mut Meter,
+) -> Result<Answer, Refusal>
+    requires range { IsInRange request }
+    requires spelled { IsSpelled raw.now }
+    requires checked { IsCheckedEnvironment raw.now.levels raw.now.constraints (givens raw.now) raw.now.main accepted.now.env accepted.now.main_type }
+    requires main { accepted.now.main ≡ raw.now.main }
+    requires nest { m.old.nest ≡ 0 }
+    ensures says { AnswerSays request raw.now accepted.now.env accepted.now.main m.old.account result }
 {
-    let family = env.family(id)?;
-    let ctor = family.ctors.as_slice().get(number as usize)?;
-    raw.names.text(ctor.name.0)
+    let program = erased(alloc, raw, accepted, m)?;
+    module_answer(alloc, request, &program)
 }
 
-/// The text of the answer on a dump: the stages from its bytes to the name of the constructor that the module's run answers.
-pub(crate) fn exec(alloc: Global, bytes: &[u8]) -> Result<Vec<u8>, Refusal>
-    ensures says { JobSays Exec (λ v. v.items) result bytes.now }
+/// The text of the answer on an accepted environment: the types of main, what its module answers, and the text of that.
+fn accepted_answer(
+    alloc: Global,
+    request: Request,
+    raw: &RawEnv,
+    accepted: &Accepted,
+    m: &mut Meter,
+) -> Result<Vec<u8>, Refusal>
+    requires range { IsInRange request }
+    requires spelled { IsSpelled raw.now }
+    requires accepted { IsAcceptedWith request.turns raw.now accepted.now.env accepted.now.main_type m.old.account }
+    requires checked { IsCheckedEnvironment raw.now.levels raw.now.constraints (givens raw.now) raw.now.main accepted.now.env accepted.now.main_type }
+    requires main { accepted.now.main ≡ raw.now.main }
+    requires nest { m.old.nest ≡ 0 }
+    ensures says { RestSays (λ v. v.items) request raw.now result }
+{
+    let shapes = shapes_of(alloc, accepted, m)?;
+    let answer = erased_answer(alloc, request, raw, accepted, m)?;
+    line_of(alloc, &answer, &shapes, &raw.names)
+}
+
+/// The text of the answer on an environment: its check, and what comes after. One meter serves the check, the search for the types and erasure.
+fn environment_answer(alloc: Global, request: Request, raw: &RawEnv) -> Result<Vec<u8>, Refusal>
+    requires range { IsInRange request }
+    requires spelled { IsSpelled raw.now }
+    ensures says { StagesSay (λ v. v.items) request raw.now result }
+{
+    let mut meter = units(request.turns);
+    let accepted = accept_within(alloc, request.turns, raw, &mut meter)?;
+    accepted_answer(alloc, request, raw, &accepted, &mut meter)
+}
+
+/// The text of the answer on a dump: the stages from its bytes to the text of the data that main's module answers.
+pub(crate) fn exec(alloc: Global, request: Request, bytes: &[u8]) -> Result<Vec<u8>, Refusal>
+    requires range { IsInRange request }
+    ensures says { JobSays Exec request (λ v. v.items) result bytes.now }
 {
     let environment = read_env(alloc, bytes)?;
-    let main = match plain_main(&environment) {
-        Some(main) => main,
-        None => return Err(Refusal::Form),
-    };
-    let accepted = accept(alloc, &environment)?;
-    let number = answer_of(alloc, main.number)?;
-    match name_of(&environment, &accepted.env, main.family, number) {
-        Some(name) => text_of(alloc, name.as_bytes()),
-        None => unreachable!(),
-    }
+    environment_answer(alloc, request, &environment)
 }

@@ -1,10 +1,11 @@
 //! The refusals of a job, each with its status and the parts of its line.
 
 ghost use Rattle.std.specs.Prelude.{◌≡◌, Some, None};
-ghost use Rattle.driver.specs.Lines.{status_of, front_of, front_of_foreign, front_of_limit, number_in, place_of, name_in};
+ghost use Rattle.driver.specs.Lines.{status_of, status_of_module, status_of_run, front_of, front_of_foreign, front_of_entry, front_of_limit, front_of_module, front_of_program, front_of_run, front_of_trap, number_in, place_of, name_in, second_in};
 
 use dump_grammar::{Foreign, Limit, ReadRefusal};
 use std::alloc::{AllocError, AllocFailed};
+use wasm_core::{Entry, TrapKind};
 
 /// Where in an environment a rule is broken, as a line tells it: a declaration by the bytes of its name.
 #[derive(Drop)]
@@ -13,6 +14,49 @@ pub(crate) enum Where {
     Constraints,
     Declaration(Vec<u8>),
     Main,
+}
+
+/// A limit of a program after erasure, or of its module.
+#[derive(Clone, Copy, Debug, PartialEq, Eq)]
+pub(crate) enum ProgramLimit {
+    /// A lambda or fixpoint has over 1,000 captured words.
+    Captured,
+    /// The constants, the definitions of fixpoints and the other lambdas are together over 32,768.
+    Functions,
+    /// A function would have over 50,000 locals.
+    Locals,
+    /// The module's bytes pass 16 MiB (16,777,216 bytes).
+    ModuleBytes,
+}
+
+/// Why the run of a module gave no answer.
+#[derive(Clone, Copy, Debug, PartialEq, Eq)]
+pub(crate) enum RunEnd {
+    /// It trapped with the value 1 in `status`, which by `exec` tells of a refused grow.
+    Exhausted,
+    /// It hadn't ended after the most steps.
+    StepsSpent,
+    /// It trapped with another status.
+    Trapped { kind: TrapKind },
+    /// The word in `result` stands for no data, or, by `exec`, for data that isn't of main's type.
+    NoValue { word: u32 },
+}
+
+/// Why a module that is given as bytes isn't run. Offsets are bytes from the start of the input.
+#[derive(Clone, Copy, Debug, PartialEq, Eq)]
+pub(crate) enum ModuleFault {
+    /// The bytes spell no module: the first item without a spelling in its place begins at the offset.
+    Bad { offset: usize },
+    /// The module first fails to have a typing at this place of this function.
+    Invalid { func: u32, place: u32 },
+    /// An entry is no export, or one of another type.
+    NoEntry { entry: Entry },
+    /// The least pages of memory pass the bound.
+    Pages,
+    /// The table has over 65,536 entries.
+    Table,
+    /// An element segment doesn't fit the table.
+    ElementPastTable,
 }
 
 /// Why a job gives no answer. Offsets are bytes from the start of the input.
@@ -24,13 +68,11 @@ pub(crate) enum Refusal {
     WriteFault,
     Syntax { offset: usize },
     Unsupported { what: Foreign, offset: usize },
-    /// The text spells an environment that `exec` doesn't take.
-    Form,
     Limit { which: Limit },
     InputBytes,
-    /// A limit was passed in the check: the depth of a term, a number, or the rules that stand in one another.
+    /// A limit was passed in the check, or in what comes after it: the depth of a term, a number, or the rules that stand in one another; or a term of the saturated program is too deep.
     Depth,
-    /// The check has no end within the units of a job.
+    /// The check, or what comes after it with the same units, has no end within the units of a job.
     TurnsSpent,
     /// More types than the limit would be put in the list of a first-order search.
     Types,
@@ -38,10 +80,41 @@ pub(crate) enum Refusal {
     AnswerNodes,
     /// Main's type has no first-order set.
     NotFirstOrder,
-    /// Main has no value, or its value is no data of main's type.
+    /// By `eval`: main has no value, or its value is no data of main's type.
     Stuck,
     /// The rule of this number is broken at a place of the environment.
     Broken { number: u8, place: Where },
+    /// The erased program would name a constant without a body: the first declared of these, by the bytes of its name.
+    Axiom { name: Vec<u8> },
+    /// The erased program, or its module, passes a limit.
+    Program { which: ProgramLimit },
+    /// The run of a module gave no answer.
+    Run { why: RunEnd },
+    /// A module isn't run.
+    Module { why: ModuleFault },
+}
+
+/// The status of a run without an answer.
+fn run_status(why: &RunEnd) -> u8
+    ensures value { result ≡ status_of_run why.now }
+{
+    match why {
+        RunEnd::Exhausted => 11,
+        RunEnd::StepsSpent => 12,
+        RunEnd::Trapped { .. } | RunEnd::NoValue { .. } => 15,
+    }
+}
+
+/// The status of a module that isn't run.
+fn module_status(why: &ModuleFault) -> u8
+    ensures value { result ≡ status_of_module why.now }
+{
+    match why {
+        ModuleFault::Bad { .. } => 13,
+        ModuleFault::Invalid { .. } => 14,
+        ModuleFault::NoEntry { .. } | ModuleFault::ElementPastTable => 15,
+        ModuleFault::Pages | ModuleFault::Table => 7,
+    }
 }
 
 /// The program's status.
@@ -54,13 +127,15 @@ pub(crate) fn status(refusal: &Refusal) -> u8
         Refusal::ReadFault => 3,
         Refusal::WriteFault => 4,
         Refusal::Syntax { .. } => 5,
-        Refusal::Unsupported { .. } | Refusal::Form => 6,
+        Refusal::Unsupported { .. } => 6,
         Refusal::Limit { .. } | Refusal::InputBytes | Refusal::Depth => 7,
-        Refusal::Types | Refusal::AnswerNodes => 7,
+        Refusal::Types | Refusal::AnswerNodes | Refusal::Program { .. } => 7,
         Refusal::TurnsSpent => 8,
         Refusal::Broken { .. } => 9,
-        Refusal::NotFirstOrder => 10,
+        Refusal::NotFirstOrder | Refusal::Axiom { .. } => 10,
         Refusal::Stuck => 15,
+        Refusal::Run { why } => run_status(why),
+        Refusal::Module { why } => module_status(why),
     }
 }
 
@@ -108,7 +183,75 @@ fn limit_front(which: Limit) -> &'static [u8]
     }
 }
 
-/// What the line on err begins with: all of it but for a number, a place and its LF.
+/// The line of a limit of a program, but for its LF.
+#[tactic(auto, unfolding(crate::specs::Lines::front_of_program))]
+fn program_front(which: ProgramLimit) -> &'static [u8]
+    ensures bytes { result.now ≡ front_of_program which }
+{
+    match which {
+        ProgramLimit::Captured => b"limit Captured",
+        ProgramLimit::Functions => b"limit Functions",
+        ProgramLimit::Locals => b"limit Locals",
+        ProgramLimit::ModuleBytes => b"limit ModuleBytes",
+    }
+}
+
+/// The line of a trap, but for its LF.
+#[tactic(auto, unfolding(crate::specs::Lines::front_of_trap))]
+fn trap_front(kind: TrapKind) -> &'static [u8]
+    ensures bytes { result.now ≡ front_of_trap kind }
+{
+    match kind {
+        TrapKind::Unreachable => b"trapped Unreachable",
+        TrapKind::OutOfBounds => b"trapped OutOfBounds",
+        TrapKind::UndefinedElement => b"trapped UndefinedElement",
+        TrapKind::UninitializedElement => b"trapped UninitializedElement",
+        TrapKind::IndirectType => b"trapped IndirectType",
+    }
+}
+
+/// What the line of a run without an answer begins with.
+#[tactic(auto, unfolding(crate::specs::Lines::front_of_run))]
+fn run_front(why: RunEnd) -> &'static [u8]
+    ensures bytes { result.now ≡ front_of_run why }
+{
+    match why {
+        RunEnd::Exhausted => b"memory exhausted",
+        RunEnd::StepsSpent => b"steps spent",
+        RunEnd::Trapped { kind } => trap_front(kind),
+        RunEnd::NoValue { .. } => b"no value at ",
+    }
+}
+
+/// The line of an entry that isn't there, but for its LF.
+#[tactic(auto, unfolding(crate::specs::Lines::front_of_entry))]
+fn entry_front(entry: Entry) -> &'static [u8]
+    ensures bytes { result.now ≡ front_of_entry entry }
+{
+    match entry {
+        Entry::Main => b"no entry main",
+        Entry::Memory => b"no entry memory",
+        Entry::Result => b"no entry result",
+        Entry::Status => b"no entry status",
+    }
+}
+
+/// What the line of a module that isn't run begins with.
+#[tactic(auto, unfolding(crate::specs::Lines::front_of_module))]
+fn module_front(why: ModuleFault) -> &'static [u8]
+    ensures bytes { result.now ≡ front_of_module why }
+{
+    match why {
+        ModuleFault::Bad { .. } => b"bad module at ",
+        ModuleFault::Invalid { .. } => b"invalid module in function ",
+        ModuleFault::NoEntry { entry } => entry_front(entry),
+        ModuleFault::Pages => b"limit Pages",
+        ModuleFault::Table => b"limit Table",
+        ModuleFault::ElementPastTable => b"element past table",
+    }
+}
+
+/// What the line on err begins with: all of it but for numbers, a place, a name and its LF.
 #[tactic(auto, unfolding(crate::specs::Lines::front_of))]
 pub(crate) fn front(refusal: &Refusal) -> &'static [u8]
     ensures bytes { result.now ≡ front_of refusal.now }
@@ -120,7 +263,6 @@ pub(crate) fn front(refusal: &Refusal) -> &'static [u8]
         Refusal::WriteFault => b"write fault",
         Refusal::Syntax { .. } => b"syntax at ",
         Refusal::Unsupported { what, .. } => foreign_front(*what),
-        Refusal::Form => b"unsupported Form at 0",
         Refusal::Limit { which } => limit_front(*which),
         Refusal::InputBytes => b"limit InputBytes",
         Refusal::Depth => b"limit Depth",
@@ -130,10 +272,14 @@ pub(crate) fn front(refusal: &Refusal) -> &'static [u8]
         Refusal::Stuck => b"stuck",
         Refusal::TurnsSpent => b"turns spent",
         Refusal::Broken { .. } => b"broken ",
+        Refusal::Axiom { .. } => b"axiom ",
+        Refusal::Program { which } => program_front(*which),
+        Refusal::Run { why } => run_front(*why),
+        Refusal::Module { why } => module_front(*why),
     }
 }
 
-/// The number in the line, if it tells one: an offset, or that of a broken rule.
+/// The number in the line, if it tells one: an offset, that of a broken rule, or a word that stands for no data.
 pub(crate) fn number(refusal: &Refusal) -> Option<usize>
     ensures value { result ≡ number_in refusal.now }
 {
@@ -141,6 +287,15 @@ pub(crate) fn number(refusal: &Refusal) -> Option<usize>
         Refusal::Syntax { offset } => Some(*offset),
         Refusal::Unsupported { offset, .. } => Some(*offset),
         Refusal::Broken { number, .. } => Some(*number as usize),
+        Refusal::Run {
+            why: RunEnd::NoValue { word },
+        } => Some(*word as usize),
+        Refusal::Module {
+            why: ModuleFault::Bad { offset },
+        } => Some(*offset),
+        Refusal::Module {
+            why: ModuleFault::Invalid { func, .. },
+        } => Some(*func as usize),
         _ => None,
     }
 }
@@ -157,11 +312,14 @@ pub(crate) fn place(refusal: &Refusal) -> &'static [u8]
             Where::Declaration(_) => b" in declaration ",
             Where::Main => b" in main",
         },
+        Refusal::Module {
+            why: ModuleFault::Invalid { .. },
+        } => b" at ",
         _ => b"",
     }
 }
 
-/// The name in the line, if it tells one.
+/// The name in the line, if it tells one: that of a declaration.
 pub(crate) fn name(refusal: &Refusal) -> &[u8]
     ensures bytes { result.now ≡ name_in refusal.now }
 {
@@ -170,7 +328,20 @@ pub(crate) fn name(refusal: &Refusal) -> &[u8]
             place: Where::Declaration(name),
             ..
         } => name.as_slice(),
+        Refusal::Axiom { name } => name.as_slice(),
         _ => b"",
+    }
+}
+
+/// The second number in the line, if it tells one: the place in a function.
+pub(crate) fn second(refusal: &Refusal) -> Option<usize>
+    ensures value { result ≡ second_in refusal.now }
+{
+    match refusal {
+        Refusal::Module {
+            why: ModuleFault::Invalid { place, .. },
+        } => Some(*place as usize),
+        _ => None,
     }
 }
 

@@ -1,23 +1,35 @@
 //! The top call.
 
-ghost use Rattle.std.specs.Prelude.{◌≡◌, ◌≢◌, ◌↔◌, ◌⊎◌, ◌<◌, ◌≤◌, ℕ, List, [], ◌∷◌, length, Contains, IfErr, None};
+ghost use Rattle.std.specs.Prelude.{◌≡◌, ◌≢◌, ◌⊎◌, ◌<◌, ◌≤◌, ℕ, List, [], ◌∷◌, ◌++◌, length, Contains, IfErr, IfOk, None, Some};
 ghost use Rattle.std.specs.Io.KnownBytes.{Appends};
 ghost use Rattle.kio.specs.Causes.{Rose};
 ghost use Rattle.kio.specs.Known.{StillTells};
+ghost use Rattle.pc_rules.specs.FirstOrder.{Data};
 ghost use Rattle.dump_reader.specs.declared.environment.RawEnv.{RawEnv};
-ghost use Rattle.driver.specs.CommandLine.{job_of, words_of};
+ghost use Rattle.command_line.specs.Line.{IsInRange, request_of, words_of};
+ghost use Rattle.command_line.specs.declared.line.Request.{Request as Asked};
 ghost use Rattle.driver.specs.Lines.{status_of, line_of};
-ghost use Rattle.driver.specs.declared.command_line.Job.{Job as Asked};
+ghost use Rattle.command_line.specs.declared.job.Job.TheVariants.{Compile, Exec};
+ghost use Rattle.driver.specs.ExecEnds.{Finishes, IsCompilable};
+ghost use Rattle.driver.specs.Executed.{AnswersData, HasErasedData};
+ghost use Rattle.driver.specs.Answerable.{IsAnswerable};
+ghost use Rattle.driver.specs.PlainAnswer.{AnswersConstructor, NamesConstructor};
+ghost use Rattle.driver.specs.Plain.{IsPlainOf};
+ghost use Rattle.pc_terms.specs.declared.leaf.FamilyId.{FamilyId};
+ghost use Rattle.driver.specs.Headline.{AnswersValue, EvaluatesErased, HasLawfulValue, HasMatches, IsBoundedBy};
+ghost use Rattle.driver.specs.MadeModule.{TakesModule};
 ghost use Rattle.driver.specs.Texts.{SpellsWithin};
 ghost use Rattle.driver.specs.Served.{Served};
-ghost use Rattle.driver.specs.Serve.{Answered, Concludes, IsAnswerableBy, IsAsked, IsJudgedWith, IsRefused, IsSure, IsTextCause, JobSays, ReadSays, Says, TakesLine, TakesPrefix, input_limit};
+ghost use Rattle.driver.specs.Serve.{Answered, Concludes, HasWell, IsLate, IsAnswerableBy, IsAsked, IsJudgedWith, IsRefused, IsSure, IsTextCause, JobSays, ReadSays, RequestSays, Says, TakesLine, TakesPrefix, input_limit};
 
 use crate::check::check;
-use crate::command_line::{Job, read_words};
 use crate::err_line::write_line;
 use crate::eval::eval;
 use crate::exec::exec;
+use crate::object::object;
 use crate::refusal::{Refusal, status};
+use crate::run::run;
+use command_line::{Job, LineFault, Request, read_line};
 use kio::{ReadAll, Sink, Source, read_all, write_all};
 use std::alloc::Global;
 
@@ -39,30 +51,42 @@ fn read_input<S: Source>(alloc: Global, src: &mut S) -> Result<Vec<u8>, Refusal>
 }
 
 /// The text of the answer of a job on the bytes of its input.
-fn answer_on(alloc: Global, job: Job, bytes: &[u8]) -> Result<Vec<u8>, Refusal>
-    ensures says { JobSays job (λ v. v.items) result bytes.now }
+fn answer_on(alloc: Global, request: Request, bytes: &[u8]) -> Result<Vec<u8>, Refusal>
+    requires range { IsInRange request }
+    ensures says { JobSays request.job request (λ v. v.items) result bytes.now }
 {
-    match job {
-        Job::Exec => exec(alloc, bytes),
-        Job::Check => check(alloc, bytes),
-        Job::Eval => eval(alloc, bytes),
+    match request.job {
+        Job::Exec => exec(alloc, request, bytes),
+        Job::Check => check(alloc, request, bytes),
+        Job::Eval => eval(alloc, request, bytes),
+        Job::Run => run(alloc, request, bytes),
+        Job::Compile => object(alloc, request, bytes),
     }
 }
 
-/// The text of the answer of the job that the words name.
+/// What the words ask for.
+fn request_from(alloc: Global, words: &Vec<String>) -> Result<Request, Refusal>
+    ensures reads { IfOk result (λ q. request_of (words_of words.now) ≡ Some q) }
+    ensures in_range { IfOk result IsInRange }
+    ensures says { IfErr result (λ r. RequestSays r (words_of words.now)) }
+{
+    match read_line(alloc, words) {
+        Ok(request) => Ok(request),
+        Err(LineFault::Usage) => Err(Refusal::Usage),
+        Err(LineFault::Memory) => Err(Refusal::Memory),
+    }
+}
+
+/// The text of the answer of the job that the words ask for.
 fn answer<S: Source>(alloc: Global, words: &Vec<String>, src: &mut S) -> Result<Vec<u8>, Refusal>
     ensures says { Says (λ v. v.items) result (words_of words.now) (S.left src.old) (S.faults src.old) (S.faults src.new) }
-    ensures unread { IfErr result (λ r. r ≡ Refusal.Usage → src.new ≡ src.old) }
+    ensures unread { request_of (words_of words.now) ≡ None → src.new ≡ src.old }
     ensures later { S.faults src.old ≤ S.faults src.new }
     ensures tells { StillTells (S.left src.old) (S.left src.new) }
 {
-    match read_words(words) {
-        None => Err(Refusal::Usage),
-        Some(job) => {
-            let bytes = read_input(alloc, src)?;
-            answer_on(alloc, job, bytes.as_slice())
-        }
-    }
+    let request = request_from(alloc, words)?;
+    let bytes = read_input(alloc, src)?;
+    answer_on(alloc, request, bytes.as_slice())
 }
 
 /// Writes the refusal's line, and gives its status.
@@ -107,17 +131,18 @@ fn serve_whole<S: Source, K: Sink, E: Sink>(
 
 /// Does the job that the words after the program's name ask for, and answers the program's status.
 ///
-/// The input is the text of an environment. `check` accepts it only where every declaration and main have a derivation by the typing rules,
-/// and writes `ok` with LF to `out`. `eval` accepts it so, finds the first-order types of main's type, evaluates main by the source's own
-/// evaluation, and writes the text of the data that the value is, with LF. `exec` takes plain environments, whose declarations are blocks of constructors without arguments, with
-/// a constructor as main: it checks the environment, makes a module of it, which is encoded, decoded, validated and run, and writes the
-/// answer, the constructor's name with LF. Statuses: 0 done; 1 want of memory; 2 the words aren't one word that is a job, and then nothing
-/// is read; 3 a read fault; 4 a write fault; 5 the text's first refusal is a syntax fault; 6 its first refusal is a form that is known and
-/// not read, or the text spells an environment within the limits that `exec` doesn't take; 7 its first refusal is a limit of the text, or
-/// more than 16,777,216 bytes came, or the check passed a limit, or by `eval` the search or the evaluation did, main's type needs more than
-/// 1,024 types, or the value has more than 4,000,000 nodes; 8 the check, and by `eval` the search and the evaluation with it, has no end within
-/// 1,000,000 units; 9 a rule is broken; 10 by `eval`, main's type has no first-order set; 15 by `eval`, main has no value, or its value is no
-/// data of its type.
+/// The words are one simple command of `clap`: JOB and the options `--turns`, `--pages`, `--steps` and `--size`, each a number in its range with a default. The input is the text of
+/// an environment, by `run` the bytes of a module. `check` accepts an environment only where every declaration and main have a derivation by the typing rules, and writes `ok` with
+/// LF to `out`. `eval` accepts it so, finds the first-order types of main's type, evaluates main by the source's own evaluation, and writes the text of the data that the value is, with LF.
+/// `exec` accepts it so and finds these types, erases main, makes a module of that, which is encoded, decoded, validated and run, and writes the text of the data that it answers, with LF.
+/// `compile` does the same up to the module, and writes its bytes.
+/// `run` decodes, validates and runs a module, and writes the data that it answers by the numbers of constructors, with LF.
+///
+/// Statuses: 0 done; 1 want of memory; 2 the line is at fault, and then nothing is read; 3 a read fault; 4 a write fault; 5 the text's first refusal is a syntax fault; 6 its first refusal is
+/// a form that is known and not read; 7 a limit is passed: of the text, of the input's 16,777,216 bytes, of depth, types or nodes, of a program or its module, or by `run` of pages
+/// or of a table; 8 the directed rules have no end within the turns; 9 a rule is broken; 10 main's type has no first-order set, or by `exec` a constant without a body is reached; 11 memory is
+/// exhausted; 12 the steps are spent; 13 the bytes spell no module; 14 the module is invalid; 15 the run trapped, an entry is missing, a segment passes the table, the result is no
+/// data, or by `eval` main has no value or its value is no data of its type.
 ///
 /// A refusal writes one line to `err`, which takes no memory; a fault on `err` changes no status. Nothing goes to `out` before
 /// the whole answer is there, so a refusal other than a write fault leaves it as it was.
@@ -128,22 +153,41 @@ pub fn serve<S: Source, K: Sink, E: Sink>(
     out: &mut K,
     err: &mut E,
 ) -> u8
-    // The answer: the text spells an environment that is well formed; out takes `ok`, the text of main's value, or the name of the constructor
-    // that its module answers.
+    // The answer: the text spells an environment that is well formed, and out takes `ok`, the text of main's value, or of what main's module answers; by `run` of what the
+    // module of the input answers.
     ensures done { result ≡ 0 → (text : List ℕ) × Answered (words_of words.now) (S.left src.old) text × Appends (K.taken out.old) (K.taken out.new) text }
-    ensures statuses { Contains (0 ∷ 1 ∷ 2 ∷ 3 ∷ 4 ∷ 5 ∷ 6 ∷ 7 ∷ 8 ∷ 9 ∷ 10 ∷ 15 ∷ []) result }
+    ensures statuses { Contains (0 ∷ 1 ∷ 2 ∷ 3 ∷ 4 ∷ 5 ∷ 6 ∷ 7 ∷ 8 ∷ 9 ∷ 10 ∷ 11 ∷ 12 ∷ 13 ∷ 14 ∷ 15 ∷ []) result }
 
     // Each refusal has its cause, and its line goes to err.
     ensures refused { result ≢ 0 → IsRefused result (words_of words.now) (S.left src.old) (S.faults src.old) (S.faults src.new) (K.faults out.old) (K.faults out.new) (E.taken err.old) (E.taken err.new) (E.faults err.old) (E.faults err.new) }
-    ensures usage { (result ≡ 2) ↔ (job_of (words_of words.now) ≡ None) }
-    ensures nothing_read { result ≡ 2 → src.new ≡ src.old }
+    ensures usage { result ≡ 2 → request_of (words_of words.now) ≡ None }
+    ensures faulty { request_of (words_of words.now) ≡ None → (src.new ≡ src.old) × ((result ≡ 2) ⊎ (result ≡ 1)) }
     ensures prefix { result ≡ 4 → (text : List ℕ) × Answered (words_of words.now) (S.left src.old) text × TakesPrefix (K.taken out.old) (K.taken out.new) text }
 
     // Where the source's count doesn't rise, nor out's where something is written, and the rules pass no limit, want of memory is the only other answer.
-    ensures judged { (job : Asked) (bytes : List ℕ) (status : ℕ) → IsAsked job (words_of words.now) (S.left src.old) bytes (S.faults src.old) (S.faults src.new) → length bytes ≤ input_limit → IsJudgedWith job status bytes → (status ≡ 0 → ¬ Rose (K.faults out.old) (K.faults out.new)) → (result ≡ status) ⊎ (result ≡ 1) }
-    ensures complete { (job : Asked) (bytes : List ℕ) (e : RawEnv) → IsAsked job (words_of words.now) (S.left src.old) bytes (S.faults src.old) (S.faults src.new) → length bytes ≤ input_limit → SpellsWithin bytes e → IsAnswerableBy job e → ¬ Rose (K.faults out.old) (K.faults out.new) → (result ≡ 0) ⊎ (result ≡ 1) }
-    ensures refuses_text { (job : Asked) (bytes : List ℕ) (r : Refusal) → IsAsked job (words_of words.now) (S.left src.old) bytes (S.faults src.old) (S.faults src.new) → length bytes ≤ input_limit → IsTextCause job r bytes → IsSure r → (result ≡ status_of r) ⊎ (result ≡ 1) }
-    ensures refuses_length { (job : Asked) (bytes : List ℕ) → IsAsked job (words_of words.now) (S.left src.old) bytes (S.faults src.old) (S.faults src.new) → input_limit < length bytes → (result ≡ 7) ⊎ (result ≡ 1) }
+    ensures judged { (q : Asked) (bytes : List ℕ) (status : ℕ) → IsAsked q (words_of words.now) (S.left src.old) bytes (S.faults src.old) (S.faults src.new) → length bytes ≤ input_limit → IsJudgedWith q.job q status bytes → (status ≡ 0 → ¬ Rose (K.faults out.old) (K.faults out.new)) → (result ≡ status) ⊎ (result ≡ 1) }
+    ensures complete { (q : Asked) (bytes : List ℕ) (e : RawEnv) → IsAsked q (words_of words.now) (S.left src.old) bytes (S.faults src.old) (S.faults src.new) → length bytes ≤ input_limit → SpellsWithin bytes e → IsAnswerableBy q.job q e → ¬ Rose (K.faults out.old) (K.faults out.new) → (result ≡ 0) ⊎ (result ≡ 1) }
+    // By `exec`, where main's erased program evaluates to data of main's type: that data's text, or a status that is neither 0 nor 15; and every long enough run of its module answers that data or is
+    // exhausted.
+    ensures values { (q : Asked) (bytes : List ℕ) (e : RawEnv) (ds : Data) (n k : ℕ) → IsAsked q (words_of words.now) (S.left src.old) bytes (S.faults src.old) (S.faults src.new) → q.job ≡ Exec → length bytes ≤ input_limit → SpellsWithin bytes e → HasErasedData q.turns e ds n k → AnswersData q e ds result (K.taken out.old) (K.taken out.new) }
+    // By `exec`, on a plain environment that keeps all rules, given four turns and 1,052,672 steps: the name of main's constructor, and 0 or 1 where out's count doesn't rise.
+    ensures plain { (q : Asked) (bytes : List ℕ) (e : RawEnv) (a : IsAnswerable e) → IsAsked q (words_of words.now) (S.left src.old) bytes (S.faults src.old) (S.faults src.new) → q.job ≡ Exec → 4 ≤ q.turns → 1052672 ≤ q.steps → length bytes ≤ input_limit → SpellsWithin bytes e → AnswersConstructor q.turns e a result (K.faults out.old) (K.faults out.new) (K.taken out.old) (K.taken out.new) }
+    // So on status 0 on each plain environment.
+    ensures named { (q : Asked) (bytes : List ℕ) (e : RawEnv) (f : FamilyId) (n : ℕ) → IsAsked q (words_of words.now) (S.left src.old) bytes (S.faults src.old) (S.faults src.new) → q.job ≡ Exec → 4 ≤ q.turns → 1052672 ≤ q.steps → length bytes ≤ input_limit → SpellsWithin bytes e → IsPlainOf e f n → result ≡ 0 → (name : List ℕ) × NamesConstructor e f n name × Appends (K.taken out.old) (K.taken out.new) (name ++ 10 ∷ []) }
+    // By `exec`, where main has a module: an answer or want of memory, or what the run shows.
+    ensures finishes { (q : Asked) (bytes : List ℕ) (e : RawEnv) → IsAsked q (words_of words.now) (S.left src.old) bytes (S.faults src.old) (S.faults src.new) → q.job ≡ Exec → length bytes ≤ input_limit → SpellsWithin bytes e → IsCompilable q.turns e q.pages → ¬ Rose (K.faults out.old) (K.faults out.new) → Finishes q.turns e q.pages q.steps result }
+    // By `compile`, where main's erased program evaluates to data of main's type: on status 0 out takes the bytes of a valid module, whose every long enough run answers that data or is exhausted.
+    ensures made { (q : Asked) (bytes : List ℕ) (e : RawEnv) (ds : Data) (n k : ℕ) → IsAsked q (words_of words.now) (S.left src.old) bytes (S.faults src.old) (S.faults src.new) → q.job ≡ Compile → length bytes ≤ input_limit → SpellsWithin bytes e → HasErasedData q.turns e ds n k → result ≡ 0 → TakesModule ds (K.taken out.old) (K.taken out.new) }
+    ensures made_well { (q : Asked) (bytes : List ℕ) → IsAsked q (words_of words.now) (S.left src.old) bytes (S.faults src.old) (S.faults src.new) → q.job ≡ Compile → IsLate result → HasWell bytes }
+    // By `exec`, on each status that comes after the check the environment is well formed.
+    ensures well { (q : Asked) (bytes : List ℕ) → IsAsked q (words_of words.now) (S.left src.old) bytes (S.faults src.old) (S.faults src.new) → q.job ≡ Exec → IsLate result → HasWell bytes }
+    // The headline: where main's evaluation lawfully gives a value, every long enough run of the module that `exec` makes answers it or is exhausted, and `exec` writes that value's text or
+    // shows a cause; with the bounds on memory and on steps, and at least as many steps as matches.
+    ensures headline { (q : Asked) (bytes : List ℕ) (e : RawEnv) (n : ℕ) → IsAsked q (words_of words.now) (S.left src.old) bytes (S.faults src.old) (S.faults src.new) → q.job ≡ Exec → length bytes ≤ input_limit → SpellsWithin bytes e → (h : HasLawfulValue q.turns e n) → AnswersValue q e n result h (K.taken out.old) (K.taken out.new) }
+    ensures bounded { (q : Asked) (bytes : List ℕ) (e : RawEnv) (n : ℕ) → IsAsked q (words_of words.now) (S.left src.old) bytes (S.faults src.old) (S.faults src.new) → q.job ≡ Exec → length bytes ≤ input_limit → SpellsWithin bytes e → (h : EvaluatesErased q.turns e n) → IsBoundedBy h q.pages q.steps result }
+    ensures matched { (q : Asked) (bytes : List ℕ) (e : RawEnv) (matches : ℕ) → IsAsked q (words_of words.now) (S.left src.old) bytes (S.faults src.old) (S.faults src.new) → q.job ≡ Exec → length bytes ≤ input_limit → SpellsWithin bytes e → HasMatches q.turns e matches → q.steps < matches → result ≢ 0 }
+    ensures refuses_text { (q : Asked) (bytes : List ℕ) (r : Refusal) → IsAsked q (words_of words.now) (S.left src.old) bytes (S.faults src.old) (S.faults src.new) → length bytes ≤ input_limit → IsTextCause q.job q r bytes → IsSure r → (result ≡ status_of r) ⊎ (result ≡ 1) }
+    ensures refuses_length { (q : Asked) (bytes : List ℕ) → IsAsked q (words_of words.now) (S.left src.old) bytes (S.faults src.old) (S.faults src.new) → input_limit < length bytes → (result ≡ 7) ⊎ (result ≡ 1) }
 
     // What is left behind.
     ensures nothing_out { result ≢ 0 → result ≢ 4 → out.new ≡ out.old }

@@ -6,14 +6,16 @@ use Rattle.driver.proofs.check.accept_within.Goals as goal
 pub told-requires-clause-within : goal.told-requires-clause-within
 told-requires-clause-within c =
     let m = c.args.meter.now in
-    λ i is. broken_within c.args.raw.now m.nest m.account c.check_env.new.m.account c.requires.nest c.requires.units c.in-Err-Broken.place c.in-Err-Broken.rule i (subst (λ x. FollowsRules c.args.raw.now (Err x) m c.check_env.new.m) c.in-Err-Broken.field-0-is c.in-Err-Broken.ensures.follows) is
+    λ i is. broken_within c.args.turns c.args.raw.now m.nest m.account c.check_env.new.m.account c.requires.nest c.requires.units c.in-Err-Broken.place c.in-Err-Broken.rule i (subst (λ x. FollowsRules c.args.raw.now
+    (Err x) m c.check_env.new.m) c.in-Err-Broken.field-0-is c.in-Err-Broken.ensures.follows) is
 
-pub returns-in-Ok : goal.returns-in-Ok
-returns-in-Ok c =
+pub returns-in-Ok-clause-says : goal.returns-in-Ok-clause-says
+returns-in-Ok-clause-says c =
     let m = c.args.meter.now in
-    record { says = (accepted_with c.args.raw.now m.nest m.account c.check_env.new.m.account c.requires.nest c.requires.units c.in-Ok.accepted c.in-Ok.ensures.follows, c.in-Ok.ensures.main, c.in-Ok.ensures.well_formed) }
+    (accepted_with c.args.turns c.args.raw.now m.nest m.account c.check_env.new.m.account c.requires.nest c.requires.units c.in-Ok.accepted c.in-Ok.ensures.follows, c.in-Ok.ensures.main, c.in-Ok.ensures.well_formed)
 
-pub returns-in_ok-place-in-Err-Broken : goal.returns-in_ok-place-in-Err-Broken
-returns-in_ok-place-in-Err-Broken c =
+pub returns-in_ok-place-in-Err-Broken-clause-says : goal.returns-in_ok-place-in-Err-Broken-clause-says
+returns-in_ok-place-in-Err-Broken-clause-says c =
     let m = c.args.meter.now in
-    record { says = broken_by c.args.raw.now m.nest m.account c.check_env.new.m.account c.requires.nest c.requires.units c.in-Err-Broken.place c.in-Err-Broken.rule c.number.result c.in_ok-place-in-Err-Broken.place (subst (λ x. FollowsRules c.args.raw.now (Err x) m c.check_env.new.m) c.in-Err-Broken.field-0-is c.in-Err-Broken.ensures.follows) c.number.ensures.is c.in_ok-place-in-Err-Broken.ensures.told }
+    broken_by c.args.turns c.args.raw.now m.nest m.account c.check_env.new.m.account c.requires.nest c.requires.units c.in-Err-Broken.place c.in-Err-Broken.rule c.number.result c.in_ok-place-in-Err-Broken.place (subst
+    (λ x. FollowsRules c.args.raw.now (Err x) m c.check_env.new.m) c.in-Err-Broken.field-0-is c.in-Err-Broken.ensures.follows) c.number.ensures.is c.in_ok-place-in-Err-Broken.ensures.told

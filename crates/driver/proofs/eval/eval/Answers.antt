@@ -3,7 +3,7 @@ use Rattle.std.specs.Prelude.{Vec}
 use Rattle.std.specs.declared.alloc.Global.{Global}
 use Rattle.std.proofs.lemmas.Result.{err_from_is_err_and}
 use Rattle.first_order.specs.Searching.{members}
-use Rattle.driver.specs.declared.command_line.Job.TheVariants.{Eval}
+use Rattle.command_line.specs.declared.job.Job.TheVariants.{Eval}
 use Rattle.driver.proofs.Answering.{cause_of, checked_says, exit_says}
 use Rattle.driver.proofs.SourceSaying.{of_shapes, of_value, of_data, names_there, source_says, evaluated, line_says}
 use Rattle.driver.proofs.TextCauses.{within_limits}
@@ -16,7 +16,7 @@ returns-in_err-accepted c =
     let s = within_limits bytes e c.in_ok-environment.ensures.exact in
     let r = c.in_err-accepted.field-0.0 in
     let exit = err_from_is_err_and c.from_residual-in_err-accepted.result c.from_residual-in_err-accepted.ensures.1 in
-    record { says = exit_says (λ v. v.items) Eval c.from_residual-in_err-accepted.result r bytes exit (checked_says {V = Vec ℕ Global} (λ v. v.items) Eval r bytes e s tt (cause_of r e c.in_err-accepted.ensures.says)) }
+    record { says = exit_says (λ v. v.items) Eval c.args.request c.from_residual-in_err-accepted.result r bytes exit (checked_says {V = Vec ℕ Global} (λ v. v.items) Eval c.args.request r bytes e s tt (cause_of c.args.request.turns r e c.in_err-accepted.ensures.says)) }
 
 pub returns-in_err-shapes : goal.returns-in_err-shapes
 returns-in_err-shapes c =
@@ -29,7 +29,10 @@ returns-in_err-shapes c =
     let v = c.shapes_of.new.m.account in
     let r = c.in_err-shapes.field-0.0 in
     let exit = err_from_is_err_and c.from_residual-in_err-shapes.result c.from_residual-in_err-shapes.ensures.1 in
-    record { says = exit_says (λ v. v.items) Eval c.from_residual-in_err-shapes.result r bytes exit (source_says {V = Vec ℕ Global} (λ v. v.items) r bytes e a.env a.main a.main_type u v s known.0 known.1 (of_shapes a.env a.main a.main_type u r v c.in_err-shapes.ensures.says)) }
+    record {
+      says = exit_says (λ v. v.items) Eval c.args.request c.from_residual-in_err-shapes.result r bytes exit (source_says {V = Vec ℕ Global}
+          (λ v. v.items) c.args.request r bytes e a.env a.main a.main_type u v s known.0 known.1 known.2 (of_shapes a.env a.main a.main_type u r v c.in_err-shapes.ensures.says));
+    }
 
 pub returns-in_err-value : goal.returns-in_err-value
 returns-in_err-value c =
@@ -43,7 +46,10 @@ returns-in_err-value c =
     let w = c.value_of.new.m.account in
     let r = c.in_err-value.field-0.0 in
     let exit = err_from_is_err_and c.from_residual-in_err-value.result c.from_residual-in_err-value.ensures.1 in
-    record { says = exit_says (λ v. v.items) Eval c.from_residual-in_err-value.result r bytes exit (source_says {V = Vec ℕ Global} (λ v. v.items) r bytes e a.env a.main a.main_type u w s known.0 known.1 (of_value a.env a.main a.main_type u (members c.in_ok-shapes.shapes.types) v c.in_ok-shapes.ensures.says r w c.in_err-value.ensures.says)) }
+    record {
+      says = exit_says (λ v. v.items) Eval c.args.request c.from_residual-in_err-value.result r bytes exit (source_says {V = Vec ℕ Global} (λ v. v.items) c.args.request r bytes e a.env a.main a.main_type u w s known.0 known.1 known.2
+          (of_value a.env a.main a.main_type u (members c.in_ok-shapes.shapes.types) v c.in_ok-shapes.ensures.says r w c.in_err-value.ensures.says));
+    }
 
 pub returns-in_err-tree : goal.returns-in_err-tree
 returns-in_err-tree c =
@@ -57,7 +63,10 @@ returns-in_err-tree c =
     let w = c.value_of.new.m.account in
     let r = c.in_err-tree.field-0.0 in
     let exit = err_from_is_err_and c.from_residual-in_err-tree.result c.from_residual-in_err-tree.ensures.1 in
-    record { says = exit_says (λ v. v.items) Eval c.from_residual-in_err-tree.result r bytes exit (source_says {V = Vec ℕ Global} (λ v. v.items) r bytes e a.env a.main a.main_type u w s known.0 known.1 (of_data a.env a.main a.main_type u v w c.in_ok-shapes.shapes.types c.in_ok-shapes.ensures.named c.in_ok-shapes.ensures.says c.in_ok-value.value c.in_ok-value.ensures.says r c.in_err-tree.ensures.says)) }
+    record {
+      says = exit_says (λ v. v.items) Eval c.args.request c.from_residual-in_err-tree.result r bytes exit (source_says {V = Vec ℕ Global} (λ v. v.items) c.args.request r bytes e a.env a.main a.main_type u w s known.0 known.1 known.2
+          (of_data a.env a.main a.main_type u v w c.in_ok-shapes.shapes.types c.in_ok-shapes.ensures.named c.in_ok-shapes.ensures.says c.in_ok-value.value c.in_ok-value.ensures.says r c.in_err-tree.ensures.says));
+    }
 
 pub line_of-requires-clause-named : goal.line_of-requires-clause-named
 line_of-requires-clause-named c =
@@ -79,6 +88,6 @@ returns c =
     let w = c.value_of.new.m.account in
     let hs = c.in_ok-shapes.shapes.types in
     record {
-      says = line_says (λ v. v.items) c.line_of.result bytes hs e.names c.in_ok-tree.tree (λ text line. evaluated bytes text e a.env a.main a.main_type u v w s known.0 known.1 known.2 hs c.in_ok-shapes.ensures.named
+      says = line_says (λ v. v.items) c.args.request c.line_of.result bytes hs e.names c.in_ok-tree.tree (λ text line. evaluated c.args.request.turns bytes text e a.env a.main a.main_type u v w s known.0 known.1 known.2 hs c.in_ok-shapes.ensures.named
           c.in_ok-shapes.ensures.set c.in_ok-shapes.ensures.says c.in_ok-value.value c.in_ok-value.ensures.says c.in_ok-value.ensures.value c.in_ok-tree.tree c.in_ok-tree.ensures.says line) c.line_of.ensures.line c.line_of.ensures.only_memory;
     }

@@ -13,8 +13,8 @@ returns-clause-refused g c = c.serve_whole.ensures.served.refused
 pub returns-clause-usage : goal.returns-clause-usage
 returns-clause-usage g c = c.serve_whole.ensures.served.usage
 
-pub returns-clause-nothing_read : goal.returns-clause-nothing_read
-returns-clause-nothing_read g c = c.serve_whole.ensures.served.nothing_read
+pub returns-clause-faulty : goal.returns-clause-faulty
+returns-clause-faulty g c = c.serve_whole.ensures.served.faulty
 
 pub returns-clause-prefix : goal.returns-clause-prefix
 returns-clause-prefix g c = c.serve_whole.ensures.served.prefix
@@ -24,6 +24,36 @@ returns-clause-judged g c = c.serve_whole.ensures.served.judged
 
 pub returns-clause-complete : goal.returns-clause-complete
 returns-clause-complete g c = c.serve_whole.ensures.served.complete
+
+pub returns-clause-values : goal.returns-clause-values
+returns-clause-values g c = c.serve_whole.ensures.served.values
+
+pub returns-clause-plain : goal.returns-clause-plain
+returns-clause-plain g c = c.serve_whole.ensures.served.plain
+
+pub returns-clause-named : goal.returns-clause-named
+returns-clause-named g c = c.serve_whole.ensures.served.named
+
+pub returns-clause-finishes : goal.returns-clause-finishes
+returns-clause-finishes g c = c.serve_whole.ensures.served.finishes
+
+pub returns-clause-made : goal.returns-clause-made
+returns-clause-made g c = c.serve_whole.ensures.served.made
+
+pub returns-clause-made_well : goal.returns-clause-made_well
+returns-clause-made_well g c = c.serve_whole.ensures.served.made_well
+
+pub returns-clause-well : goal.returns-clause-well
+returns-clause-well g c = c.serve_whole.ensures.served.well
+
+pub returns-clause-headline : goal.returns-clause-headline
+returns-clause-headline g c = c.serve_whole.ensures.served.headline
+
+pub returns-clause-bounded : goal.returns-clause-bounded
+returns-clause-bounded g c = c.serve_whole.ensures.served.bounded
+
+pub returns-clause-matched : goal.returns-clause-matched
+returns-clause-matched g c = c.serve_whole.ensures.served.matched
 
 pub returns-clause-refuses_text : goal.returns-clause-refuses_text
 returns-clause-refuses_text g c = c.serve_whole.ensures.served.refuses_text

@@ -1,0 +1,128 @@
+-- What erasure's refusals tell of the environment that was read: the name of a constant without a body, and the place of a broken rule.
+use Rattle.std.proofs.Common.{◌≡◌, ℕ, ◌<◌, ◌-◌, List, length, map, Option, Result, Err, refl, sym, ap, subst, ◌∙◌, arith}
+use Rattle.std.specs.Prelude.{slice_get}
+use Rattle.std.proofs.lemmas.List.{length-reverse}
+use Rattle.std.proofs.lemmas.Option.{slice_get-map}
+use Rattle.pc_terms.specs.declared.leaf.Name.{Name}
+use Rattle.pc_terms.specs.Syntax.{Term}
+use Rattle.pc_terms.specs.BoxSyntax.{BoxTerm}
+use Rattle.pc_rules.specs.declared.broken.Broken.{Broken as Rule}
+use Rattle.pc_rules.specs.declared.broken.Place.{Place}
+use Rattle.pc_rules.specs.declared.broken.Place.TheVariants.{Declaration}
+use Rattle.pc_rules.specs.declared.declaration.Kept.{Kept}
+use Rattle.pc_rules.specs.declared.declaration.Kept.TheVariants.{Constant}
+use Rattle.pc_rules.specs.declared.meter.Account.{Account}
+use Rattle.pc_rules.specs.declared.stop.Halt.{Halt}
+use Rattle.pc_rules.specs.declared.stop.Halt.TheVariants as halts
+use Rattle.pc_rules.specs.Environment.{Env, Has, KeepsConstant, name_of as kept_name}
+use Rattle.pc_rules.specs.Entailment.{test_of}
+use Rattle.pc_rules.specs.DirectedRun.{Run}
+use Rattle.pc_rules.specs.DirectedPlaces.{Gives}
+use Rattle.pc_rules.specs.DirectedTyping.{Typing}
+use Rattle.rule_laws.specs.Declarations.{plain, plain_given, IsCheckedEnvironment}
+use Rattle.inductive_check.specs.Given.{given_of}
+use Rattle.env_check.specs.Rules.{givens}
+use Rattle.lambda_box.specs.BoxProgram.{BoxProgram}
+use Rattle.erase_rules.specs.DirectedProgram.{ReachesAxiom, erased_program}
+use Rattle.erase.specs.AtPlaces.{AnswersAt, HaltsAt, answered}
+use Rattle.erase.specs.HaltPlaces.{IsAtBody, now, later, passed, IsAt, at_main, at_body, HaltsAtPlace}
+use Rattle.erase.specs.declared.refusal.EraseRefusal.{EraseRefusal}
+use Rattle.erase.specs.declared.refusal.EraseRefusal.TheVariants.{Halt as Halted}
+use Rattle.dump_reader.specs.declared.declaration.RawDecl.{RawDecl}
+use Rattle.dump_reader.specs.declared.declaration.RawDecl.TheVariants as raw
+use Rattle.dump_reader.specs.declared.environment.RawEnv.{RawEnv}
+use Rattle.dump_reader.specs.Spelled.{IsSpelled}
+use Rattle.driver.specs.declared.refusal.Refusal.{Refusal}
+use Rattle.driver.specs.declared.refusal.Refusal.TheVariants as refusals
+use Rattle.driver.specs.Judged.{IsNamed, name_of}
+use Rattle.driver.specs.ErasureParts.{AxiomSays, HaltSays}
+use Rattle.driver.specs.ExecEnds.{erasure_of, ErasureSays}
+use Rattle.driver.proofs.Checking.{declared_name_there}
+use Rattle.driver.proofs.Limited.{length-map}
+use Rattle.driver.proofs.Kept.{has_mapped, has_reversed, has_place, from_map}
+
+-- a constant that is kept was read, and its name stands in the table
+
+given_name : (d : RawDecl) → kept_name (plain_given (given_of d)) ≡ name_of d
+given_name (raw.Constant k T b) = refl
+given_name (raw.Block k ps fs) = refl
+
+pub constant_name_there : (e : RawEnv) → IsSpelled e → (E : Env) (T : Term) → IsCheckedEnvironment e.levels e.constraints (givens e) e.main E T →
+    (k : Name) (A : Term) (b : Option Term) → KeepsConstant E k A b → (text : List ℕ) × IsNamed e k.0 text
+constant_name_there e spelled E T checked k A b has =
+    let given = has_place plain_given (givens e) (has_reversed (map plain_given (givens e)) (Constant k A b) (subst (λ xs. Has xs (Constant k A b)) checked.declarations (has_mapped plain has))) in
+    let decl = from_map given_of (slice_get e.decls given.0) given.1 (sym (slice_get-map given_of e.decls given.0) ∙ given.2) in
+    let same : name_of decl.0 ≡ k = sym (given_name decl.0) ∙ ap (λ x. kept_name (plain_given x)) (sym decl.2) ∙ ap kept_name given.3 in
+    let there = declared_name_there e spelled given.0 decl.0 decl.1 in
+    (there.0, subst (λ x. IsNamed e x.0 there.0) same there.1)
+
+-- a halt at a declaration is at one that was read
+
+body_within : {E : Env} {inf : Typing} {ts : List BoxTerm} {ds : List Kept} {u : Account} {p : Place} {d : Run BoxTerm} (i : ℕ) → IsAtBody E inf ts ds u p d → p ≡ Declaration i → i < length ds
+body_within i (now {ds = ds} r) e = (let same : length ds ≡ i = cc in omega (arith, same))
+body_within i (later r f h) e = (let le = body_within i h e in omega (arith, le))
+body_within i (passed n h) e = (let le = body_within i h e in omega (arith, le))
+
+place_within : {E : Env} {inf : Typing} {main : Term} {u : Account} {p : Place} {d : Run BoxTerm} (i : ℕ) → IsAt E inf main u p d → p ≡ Declaration i → i < length E.declarations
+place_within i at_main e = absurd cc
+place_within i (at_body f h) e = body_within i h e
+
+as_many : (e : RawEnv) (E : Env) (T : Term) → IsCheckedEnvironment e.levels e.constraints (givens e) e.main E T → length E.declarations ≡ length e.decls
+as_many e E T checked =
+    sym (length-map plain E.declarations) ∙ ap length checked.declarations ∙ length-reverse (map plain_given (givens e)) ∙ length-map plain_given (givens e) ∙ length-map given_of e.decls
+
+pub halt_within : (e : RawEnv) (E : Env) (T : Term) (inf : Typing) (main : Term) (u v : Account) (p : Place) (h : Halt) (b : Rule) (i : ℕ) → IsCheckedEnvironment e.levels e.constraints (givens e) e.main E T →
+    HaltsAtPlace E inf main u (Halted p h) v → h ≡ halts.Broken b → p ≡ Declaration i → i < length e.decls
+halt_within e E T inf main u v p (halts.Broken c) b i checked at is place =
+    (let less = place_within i at.1 place in omega (arith, less, as_many e E T checked))
+halt_within e E T inf main u v p (halts.Stop s) b i checked at is place = absurd cc
+
+-- what a halt says, as what erasure says
+
+module _ (e : RawEnv) (E : Env) (t : Term) (u w : Account) where
+  pub halt_says : (p : Place) (h : Halt) (r : Refusal) → HaltSays e p h r → HaltsAt (erasure_of E t u) p h w → ErasureSays e E t u (Err r) w
+  halt_says p h refusals.Memory x y = tt
+  halt_says p h refusals.TurnsSpent x y = (subst (λ z. HaltsAt (erasure_of E t u) p z w) x y).0
+  halt_says p h refusals.Depth x y = subst (λ z. HaltsAt (erasure_of E t u) p z w) x y
+  halt_says p h (refusals.Broken n told) (b, is, number, place) y = (p, b, subst (λ z. HaltsAt (erasure_of E t u) p z w) is y, number, place)
+  halt_says p h (refusals.Axiom name) x y = absurd x
+  halt_says p h refusals.Usage x y = absurd x
+  halt_says p h refusals.ReadFault x y = absurd x
+  halt_says p h refusals.WriteFault x y = absurd x
+  halt_says p h (refusals.Syntax o) x y = absurd x
+  halt_says p h (refusals.Unsupported c o) x y = absurd x
+  halt_says p h (refusals.Limit l) x y = absurd x
+  halt_says p h refusals.InputBytes x y = absurd x
+  halt_says p h refusals.Types x y = absurd x
+  halt_says p h refusals.AnswerNodes x y = absurd x
+  halt_says p h refusals.NotFirstOrder x y = absurd x
+  halt_says p h refusals.Stuck x y = absurd x
+  halt_says p h (refusals.Program l) x y = absurd x
+  halt_says p h (refusals.Run c) x y = absurd x
+  halt_says p h (refusals.Module c) x y = absurd x
+
+  pub axiom_says : (k : Name) (r : Refusal) → AxiomSays e k r → (erasure_of E t u).outcome ≡ Gives (ReachesAxiom k) w → ErasureSays e E t u (Err r) w
+  axiom_says k refusals.Memory x y = tt
+  axiom_says k (refusals.Axiom name) x y = (k, y, x)
+  axiom_says k refusals.TurnsSpent x y = absurd x
+  axiom_says k refusals.Depth x y = absurd x
+  axiom_says k (refusals.Broken n told) x y = absurd x
+  axiom_says k refusals.Usage x y = absurd x
+  axiom_says k refusals.ReadFault x y = absurd x
+  axiom_says k refusals.WriteFault x y = absurd x
+  axiom_says k (refusals.Syntax o) x y = absurd x
+  axiom_says k (refusals.Unsupported c o) x y = absurd x
+  axiom_says k (refusals.Limit l) x y = absurd x
+  axiom_says k refusals.InputBytes x y = absurd x
+  axiom_says k refusals.Types x y = absurd x
+  axiom_says k refusals.AnswerNodes x y = absurd x
+  axiom_says k refusals.NotFirstOrder x y = absurd x
+  axiom_says k refusals.Stuck x y = absurd x
+  axiom_says k (refusals.Program l) x y = absurd x
+  axiom_says k (refusals.Run c) x y = absurd x
+  axiom_says k (refusals.Module c) x y = absurd x
+
+-- the rules for nothing that stands around, as those of a job
+pub as_of_job : (E : Env) (t : Term) (n : ℕ) (u w : Account) (r : Result BoxProgram EraseRefusal) → n ≡ 0 → AnswersAt (erased_program E (test_of E) (2048 - n) t u) (answered r) w →
+    AnswersAt (erasure_of E t u) (answered r) w
+as_of_job E t n u w r none h = subst (λ k. AnswersAt (erased_program E (test_of E) (2048 - k) t u) (answered r) w) none h

@@ -1,0 +1,283 @@
+-- What `exec` answers where main's evaluation lawfully gives a value, and the bounds within which it answers data.
+use Rattle.std.proofs.Common.{◌≡◌, ◌∙◌, ℕ, ◌+◌, ◌*◌, ◌<◌, ◌≤◌, List, Ok, Err, ◌⊎◌, inl, inr, false, refl, sym, ap, subst, arith}
+use Rattle.pc_terms.specs.Syntax.{Term}
+use Rattle.pc_rules.specs.declared.meter.Account.{Account}
+use Rattle.pc_rules.specs.Environment.{Env}
+use Rattle.pc_rules.specs.FirstOrder.{Data, IsFirstOrder}
+use Rattle.first_order.specs.Searching.{members, AreNamed}
+use Rattle.lambda_box.specs.BoxProgram.{BoxProgram}
+use Rattle.lambda_box.specs.BoxEvaluation.{BoxEvaluates}
+use Rattle.lambda_box.specs.BoxData.{BoxReads}
+use Rattle.lambda_box.specs.DataTerms.{greatest_words}
+use Rattle.box_passes.specs.PassLaws.{saturated_program}
+use Rattle.wasm_core.specs.declared.ended.Ended.TheVariants.{Returned, Trapped}
+use Rattle.wasm_core.specs.declared.ended.TrapKind.{TrapKind}
+use Rattle.wasm_core.specs.ModuleTyping.{IsValid}
+use Rattle.wasm_core.specs.Parts.{Parts}
+use Rattle.wasm_core.specs.MachineStep.{State, Store, Over, Reach}
+use Rattle.wasm_core.specs.Answer.{Answers}
+use Rattle.wasm_core.proofs.Small.{inj}
+use Rattle.wasm_core.proofs.Trees.{moves_are_steps}
+use Rattle.wasm_emit.specs.EmittedModule.{module_of}
+use Rattle.back_end.specs.BackEnd.{passed, IsWithin}
+use Rattle.compile.proofs.Within.{fits_within}
+use Rattle.module_run.specs.Ends.{IsTrapped}
+use Rattle.module_run.specs.declared.refusal.RunRefusal.TheVariants as running
+use Rattle.module_run.proofs.OneEnd.{ends_answer}
+use Rattle.headline.specs.AcceptedProgram.{IsAcceptedAs, IsErasedTo, FitsPasses, IsWithinSource}
+use Rattle.headline.specs.EveryRun.{EvaluatesTo, EveryRunAnswers}
+use Rattle.headline.specs.Headline.{AnswersValue as AnswersByLaw}
+use Rattle.headline.specs.SourceWords.{source_words, source_branches}
+use Rattle.headline.proofs.Composed.{headline}
+use Rattle.headline.proofs.EachRun.{each_run}
+use Rattle.headline.proofs.LateReturns.{late_returns}
+use Rattle.headline.proofs.PastMaximum.{past_maximum}
+use Rattle.headline.proofs.SourceSizes.{of_source}
+use Rattle.command_line.specs.declared.line.Request.{Request}
+use Rattle.command_line.specs.Line.{IsInRange}
+use Rattle.dump_grammar.specs.Environments.{env_of}
+use Rattle.dump_reader.specs.declared.environment.RawEnv.{RawEnv}
+use Rattle.driver.specs.declared.refusal.Refusal.{Refusal}
+use Rattle.driver.specs.declared.refusal.Refusal.TheVariants as refusals
+use Rattle.driver.specs.declared.refusal.RunEnd.{RunEnd}
+use Rattle.driver.specs.declared.refusal.RunEnd.TheVariants as ends
+use Rattle.driver.specs.Lines.{status_of}
+use Rattle.driver.specs.Judged.{start}
+use Rattle.driver.specs.Texts.{SpellsWithin}
+use Rattle.driver.specs.SourceEnds.{IsAcceptedWith}
+use Rattle.driver.specs.SourceSays.{IsLine}
+use Rattle.driver.specs.Serve.{IsCheckCause}
+use Rattle.driver.specs.ExecEnds.{Erasing, Compiling, Answering, Refuses, in_search, in_erasure, in_passes, in_run, in_text, IsExecCause, ExecEnds, RunSays, TextRefuses, its_module, its_shapes, its_environment, its_type}
+use Rattle.driver.specs.Executed.{HasErasedData}
+use Rattle.driver.specs.Headline.{HasLawfulValue, value_data, IsTextOfValue, EvaluatesErased, HasMatches}
+use Rattle.driver.proofs.SourceCauses.{accepts_inj, plainly}
+use Rattle.driver.proofs.TextCauses.{fine}
+use Rattle.driver.proofs.ExecCauses.{one_program}
+use Rattle.driver.proofs.ExecSaying.{no_module, no_stuck}
+use Rattle.driver.proofs.ExecValues.{no_other}
+
+-- ---- the refusals of a run, of which the statuses 11, 12 and 15 are
+
+data Late (request : Request) (e : RawEnv) (why : RunEnd) : Type 0 where
+  of_run : (x : Compiling request.turns e) → RunSays (its_module request.pages x) request.pages request.steps (Err (refusals.Run why)) → Late request e why
+  of_text : (x : Answering request.turns e request.pages request.steps) → TextRefuses (its_shapes x.before.before) x.answer (refusals.Run why) → Late request e why
+
+record IsLate (request : Request) (e : RawEnv) (r : Refusal) : Type 0 where
+  why : RunEnd
+  is : r ≡ refusals.Run why
+  late : Late request e why
+
+run_late : (request : Request) (e : RawEnv) (why : RunEnd) → Refuses request.turns e request.pages request.steps (refusals.Run why) → Late request e why
+run_late request e why (in_search x w y) = absurd y
+run_late request e why (in_erasure x w y) = absurd y
+run_late request e why (in_passes x y) = absurd y
+run_late request e why (in_run x valid y) = of_run x y
+run_late request e why (in_text x valid y) = of_text x y
+
+late_of : (request : Request) (e : RawEnv) (r : Refusal) → IsCheckCause request.turns r e ⊎ IsExecCause request.turns request.pages request.steps r e → 11 ≤ status_of r → IsLate request e r
+late_of request e (refusals.Run why) (inl c) le = absurd c
+late_of request e (refusals.Run why) (inr c) le = record { why = why; is = refl; late = run_late request e why c.1 }
+late_of request e refusals.Stuck (inl c) le = absurd c
+late_of request e refusals.Stuck (inr c) le = absurd (no_stuck request.turns e request.pages request.steps c.1)
+late_of request e (refusals.Module w) (inl c) le = absurd c
+late_of request e (refusals.Module w) (inr c) le = absurd (no_module request.turns e request.pages request.steps w c.1)
+late_of request e refusals.Memory c le = absurd (omega (arith, le))
+late_of request e refusals.Usage c le = absurd (omega (arith, le))
+late_of request e refusals.ReadFault c le = absurd (omega (arith, le))
+late_of request e refusals.WriteFault c le = absurd (omega (arith, le))
+late_of request e (refusals.Syntax o) c le = absurd (omega (arith, le))
+late_of request e (refusals.Unsupported w o) c le = absurd (omega (arith, le))
+late_of request e (refusals.Limit l) c le = absurd (omega (arith, le))
+late_of request e refusals.InputBytes c le = absurd (omega (arith, le))
+late_of request e refusals.Depth c le = absurd (omega (arith, le))
+late_of request e refusals.TurnsSpent c le = absurd (omega (arith, le))
+late_of request e (refusals.Broken n p) c le = absurd (omega (arith, le))
+late_of request e refusals.Types c le = absurd (omega (arith, le))
+late_of request e refusals.AnswerNodes c le = absurd (omega (arith, le))
+late_of request e refusals.NotFirstOrder c le = absurd (omega (arith, le))
+late_of request e (refusals.Axiom name) c le = absurd (omega (arith, le))
+late_of request e (refusals.Program l) c le = absurd (omega (arith, le))
+
+compiled : {request : Request} {e : RawEnv} {why : RunEnd} → Late request e why → Compiling request.turns e
+compiled (of_run x y) = x
+compiled (of_text x y) = x.before
+
+-- ---- where every run of the module answers data
+
+trap_answers : {M : Parts} {d : Data} {k : TrapKind} {s : Store} → Answers M d (Over (Trapped k) s) → ⊥
+trap_answers a = elim a [ ]
+
+module _ (pages steps : ℕ) (P : BoxProgram) (w b n : ℕ) (ds : Data) (r : EveryRunAnswers P pages w b n ds) where
+  abbrev M : Parts
+  M = module_of (passed P) pages
+
+  -- no run traps where the bytes are within the maximum
+  not_trapped : (kind : TrapKind) → IsTrapped M pages steps kind 1 → 32 * n * w + 8 ≤ 65536 * pages → ⊥
+  not_trapped kind x big =
+      let run = x.run in
+      let t : State = Over (Trapped kind) x.store in
+      let same : pages ≤ pages = omega arith in
+      let choice : x.store.by_choice ≡ false = past_maximum M pages run.steps run.first t same run.starts run.moves in
+      let reach : Reach M run.steps r.answers.first t = subst (λ (f : State). Reach M run.steps f t) (inj (sym run.starts ∙ r.answers.starts)) (moves_are_steps M pages run.steps run.first t run.moves) in
+      trap_answers (r.enough big run.steps t reach (λ granted s st. st) choice)
+
+-- ---- the stages, as the headline takes them
+
+module _ (request : Request) (range : IsInRange request) (bytes : List ℕ) (e : RawEnv) (s : SpellsWithin bytes e) where
+  pos : 0 < request.pages
+  pos = omega (arith, range.pages.0)
+
+  small : request.pages ≤ 16384
+  small = omega (arith, range.pages.1)
+
+  accepted_as : (E : Env) (T : Term) (u : Account) → IsAcceptedWith request.turns e E T u → IsAcceptedAs e E T
+  accepted_as E T u a = record {
+    spelled = (bytes, env_of s.form, fine bytes e s, s.means);
+    cycle = a.judged.cycle;
+    found = a.judged.found;
+    room = 2048;
+    before = start request.turns;
+    after = u;
+    accepts = ap (λ d. d.outcome) (sym a.judged.is) ∙ a.accepts;
+  }
+
+  erased_to : (x : Erasing request.turns e) → IsErasedTo (its_environment x) e.main x.program
+  erased_to x = record { room = 2048; before = x.before.left; after = x.left; gives = x.erased }
+
+  fits_passes : (x : Compiling request.turns e) → FitsPasses x.before.program
+  fits_passes x =
+      let w = fits_within x.before.program 1024 x.before.form x.fits (λ F has. (x.before.form.counts F has).constructors) in
+      record { constants = w.constants; main = w.main; limits = w.limits }
+
+  within_source : (x : Compiling request.turns e) → IsWithinSource (its_environment x.before) e.main x.before.program
+  within_source x =
+      let a = x.before.before.before in
+      of_source e a.kept a.type x.before.program (accepted_as a.kept a.type a.left a.accepted) (erased_to x.before) (fits_passes x)
+
+  -- the runs where the erased program evaluates to data
+  -- the environment of a stage is that of any acceptance
+  one_kept : (E : Env) (T : Term) (u : Account) → IsAcceptedWith request.turns e E T u → (x : Erasing request.turns e) → (E ≡ its_environment x) × (T ≡ its_type x)
+  one_kept E T u h x =
+      let a = x.before.before in
+      let q = accepts_inj E a.kept T a.type u a.left (sym (plainly request.turns e E T u h) ∙ plainly request.turns e a.kept a.type a.left a.accepted) in
+      (q.0, q.1)
+
+  pub data_runs : (n : ℕ) (h : EvaluatesErased request.turns e n) (x : Compiling request.turns e) → EveryRunAnswers x.before.program request.pages (greatest_words h.stages.program) (source_branches (its_environment h.stages)) n h.tree
+  data_runs n h x =
+      let P = x.before.program in
+      let a = h.stages.before.before in
+      let same : h.stages.program ≡ P = one_program request.turns e h.stages x.before in
+      let there : a.kept ≡ its_environment x.before = (one_kept a.kept a.type a.left a.accepted x.before).0 in
+      let within : IsWithin P (source_branches a.kept) = subst (λ E. IsWithin P (source_branches E)) (sym there) (within_source x).within in
+      let kept : EvaluatesTo P h.tree n = record {
+        value = h.value;
+        nodes = n;
+        matches = h.matches;
+        few = omega arith;
+        evaluates = subst (λ (P : BoxProgram). BoxEvaluates P P.main h.value n h.matches) same h.evaluates;
+        reads = subst (λ P. BoxReads P h.value h.tree) same h.reads;
+      } in
+      let words : greatest_words h.stages.program ≡ greatest_words P = ap greatest_words same in
+      each_run P request.pages (greatest_words h.stages.program) (source_branches a.kept) n h.tree pos small (omega arith) (omega (arith, words)) within kept
+
+  module _ (n : ℕ) (h : HasLawfulValue request.turns e n) where
+    types_there : (x : Erasing request.turns e) → IsFirstOrder h.kept h.type (members (its_shapes x))
+    types_there x =
+        let q = one_kept h.kept h.type h.left h.accepted x in
+        subst (λ E. IsFirstOrder E h.type (members (its_shapes x))) (sym q.0) (subst (λ T. IsFirstOrder (its_environment x) T (members (its_shapes x))) (sym q.1) x.before.set)
+
+    -- the law at the stages of a run
+
+    law : (x : Compiling request.turns e) → IsValid (its_module request.pages x) × AnswersByLaw h.kept e.main (its_shapes x.before) x.before.program request.pages h.value n (value_data h)
+    law x =
+        let P = x.before.program in
+        let erased : IsErasedTo h.kept e.main P = subst (λ E. IsErasedTo E e.main P) (sym (one_kept h.kept h.type h.left h.accepted x.before).0) (erased_to x.before) in
+        let l = (headline e h.kept h.type (accepted_as h.kept h.type h.left h.accepted)).1 (its_shapes x.before) P request.pages (types_there x.before) erased (fits_passes x) pos small in
+        (l.0, l.1 h.value n h.given)
+
+    pub value_valid : (x : Compiling request.turns e) → IsValid (its_module request.pages x)
+    value_valid x = (law x).0
+
+    pub value_runs : (x : Compiling request.turns e) → EveryRunAnswers x.before.program request.pages (source_words h.kept e.main) (source_branches h.kept) n (value_data h)
+    value_runs x = (law x).1.runs
+
+    -- so the erased program has that data
+    erased_data : (x : Compiling request.turns e) → HasErasedData request.turns e (value_data h) (law x).1.kept.nodes (law x).1.kept.matches
+    erased_data x = let l = (law x).1 in record { stages = x.before; value = l.kept.value; evaluates = l.kept.evaluates; reads = l.kept.reads; fits = l.fits }
+
+    -- the text is the value's
+    pub value_text : (text : List ℕ) → ExecEnds request.turns e request.pages request.steps (Ok text) → IsTextOfValue request.turns e n h text
+    value_text text (x, line) =
+        let l = (law x.before).1 in
+        let z = x.before.before in
+        let same : x.answer.tree ≡ value_data h = ends_answer (its_module request.pages x.before) request.pages (1024 * n * (source_words h.kept e.main + source_branches h.kept)) request.steps (value_data h) (Ok x.answer) l.runs.answers x.ends in
+        record {
+          shapes = its_shapes z;
+          set = types_there z;
+          named = subst (λ E. AreNamed E (its_shapes z)) (sym (one_kept h.kept h.type h.left h.accepted z).0) z.before.named;
+          exactly = l.exactly;
+          line = subst (λ d. IsLine (its_shapes z) e.names d text) same line;
+        }
+
+    -- no run traps but for want of memory, nor gives another value
+    pub no_fault : (r : Refusal) → IsCheckCause request.turns r e ⊎ IsExecCause request.turns request.pages request.steps r e → status_of r ≡ 15 → ⊥
+    no_fault r c q =
+        let x = compiled (late_of request e r c (omega (arith, q))).late in
+        let l = (law x).1 in
+        no_other request range e (value_data h) l.kept.nodes l.kept.matches (erased_data x) r c q
+
+  -- ---- bounds, where every run of the module that this call makes answers data
+
+  module _ (ds : Data) (w b n : ℕ) (runs : (x : Compiling request.turns e) → EveryRunAnswers x.before.program request.pages w b n ds) where
+    unexhausted : (why : RunEnd) → Late request e why → status_of (refusals.Run why) ≡ 11 → 32 * n * w + 8 ≤ 65536 * request.pages → ⊥
+    unexhausted ends.Exhausted (of_run x (brief, (kind, t, refused))) q big = not_trapped request.pages request.steps x.before.program w b n ds (runs x) kind t big
+    unexhausted ends.Exhausted (of_text x y) q big = y
+    unexhausted ends.StepsSpent l q big = absurd (omega (arith, q))
+    unexhausted (ends.Trapped k) l q big = absurd (omega (arith, q))
+    unexhausted (ends.NoValue v) l q big = absurd (omega (arith, q))
+
+    unspent : (why : RunEnd) → Late request e why → status_of (refusals.Run why) ≡ 12 → 1024 * n * (w + b) ≤ request.steps → ⊥
+    unspent ends.StepsSpent (of_run x y) q few = (let more = ends_answer (its_module request.pages x) request.pages (1024 * n * (w + b)) request.steps ds (Err running.StepsSpent) (runs x).answers y in omega (arith, more, few))
+    unspent ends.StepsSpent (of_text x y) q few = y
+    unspent ends.Exhausted l q few = absurd (omega (arith, q))
+    unspent (ends.Trapped k) l q few = absurd (omega (arith, q))
+    unspent (ends.NoValue v) l q few = absurd (omega (arith, q))
+
+    pub enough_memory : (r : Refusal) → IsCheckCause request.turns r e ⊎ IsExecCause request.turns request.pages request.steps r e → status_of r ≡ 11 → 32 * n * w + 8 ≤ 65536 * request.pages → ⊥
+    enough_memory r c q big = let l = late_of request e r c (omega (arith, q)) in unexhausted l.why l.late (ap status_of (sym l.is) ∙ q) big
+
+    pub enough_steps : (r : Refusal) → IsCheckCause request.turns r e ⊎ IsExecCause request.turns request.pages request.steps r e → status_of r ≡ 12 → 1024 * n * (w + b) ≤ request.steps → ⊥
+    enough_steps r c q few = let l = late_of request e r c (omega (arith, q)) in unspent l.why l.late (ap status_of (sym l.is) ∙ q) few
+
+  -- so where the erased program evaluates to data, and where main's evaluation lawfully gives a value
+
+  pub data_memory : (n : ℕ) (h : EvaluatesErased request.turns e n) (r : Refusal) → IsCheckCause request.turns r e ⊎ IsExecCause request.turns request.pages request.steps r e → status_of r ≡ 11 →
+      32 * n * greatest_words h.stages.program + 8 ≤ 65536 * request.pages → ⊥
+  data_memory n h = enough_memory h.tree (greatest_words h.stages.program) (source_branches (its_environment h.stages)) n (data_runs n h)
+
+  pub data_steps : (n : ℕ) (h : EvaluatesErased request.turns e n) (r : Refusal) → IsCheckCause request.turns r e ⊎ IsExecCause request.turns request.pages request.steps r e → status_of r ≡ 12 →
+      1024 * n * (greatest_words h.stages.program + source_branches (its_environment h.stages)) ≤ request.steps → ⊥
+  data_steps n h = enough_steps h.tree (greatest_words h.stages.program) (source_branches (its_environment h.stages)) n (data_runs n h)
+
+  pub value_memory : (n : ℕ) (h : HasLawfulValue request.turns e n) (r : Refusal) → IsCheckCause request.turns r e ⊎ IsExecCause request.turns request.pages request.steps r e → status_of r ≡ 11 →
+      32 * n * source_words h.kept e.main + 8 ≤ 65536 * request.pages → ⊥
+  value_memory n h = enough_memory (value_data h) (source_words h.kept e.main) (source_branches h.kept) n (value_runs n h)
+
+  pub value_steps : (n : ℕ) (h : HasLawfulValue request.turns e n) (r : Refusal) → IsCheckCause request.turns r e ⊎ IsExecCause request.turns request.pages request.steps r e → status_of r ≡ 12 →
+      1024 * n * (source_words h.kept e.main + source_branches h.kept) ≤ request.steps → ⊥
+  value_steps n h = enough_steps (value_data h) (source_words h.kept e.main) (source_branches h.kept) n (value_runs n h)
+
+  -- a run that returns has made as many steps as there are matches
+  pub answered_late : (matches : ℕ) → HasMatches request.turns e matches → (text : List ℕ) → ExecEnds request.turns e request.pages request.steps (Ok text) → matches ≤ request.steps
+  answered_late matches h text (x, line) =
+      let c = x.before in
+      let P = c.before.program in
+      let same : h.stages.program ≡ P = one_program request.turns e h.stages c.before in
+      let back = x.ends.1.returned in
+      let run = back.run in
+      let evaluates = subst (λ P. BoxEvaluates (saturated_program P) (saturated_program P).main h.value h.nodes matches) same h.evaluates in
+      let reads = subst (λ P. BoxReads (saturated_program P) h.value h.tree) same h.reads in
+      let reach = moves_are_steps (its_module request.pages c) request.pages run.steps run.first (Over Returned back.store) run.moves in
+      let few = run.few in
+      let late = late_returns P request.pages (source_branches (its_environment c.before)) pos small (omega arith) (within_source c).within h.value h.tree h.nodes matches evaluates reads run.first run.steps back.store run.starts reach in
+      omega (arith, late, few)

@@ -1,0 +1,98 @@
+-- The causes of the refusals of `run`: its answer ends in one way.
+use Rattle.std.proofs.Common.{◌≡◌, ◌≢◌, ℕ, ◌≤◌, List, [], ◌∷◌, ◌++◌, length, Result, Ok, Err, refl, sym, ap, subst, ◌∙◌}
+use Rattle.std.specs.Prelude.{IfOk, IfErr}
+use Rattle.first_order.specs.Texts.{IsText, by_tags}
+use Rattle.wasm_core.specs.ShortestBytes.{most_bytes}
+use Rattle.wasm_core.specs.WordData.{Data}
+use Rattle.file_run.specs.declared.refusal.FileRefusal.{FileRefusal}
+use Rattle.file_run.specs.declared.refusal.FileRefusal.TheVariants as files
+use Rattle.file_run.specs.FileEnds.{FileEnds}
+use Rattle.file_run.proofs.OneFileEnd.{file_end_is_one}
+use Rattle.driver.specs.declared.refusal.Refusal.{Refusal}
+use Rattle.driver.specs.declared.refusal.Refusal.TheVariants as refusals
+use Rattle.driver.specs.Lines.{status_of}
+use Rattle.driver.specs.RunFile.{IsFileCause, IsRunAnswer, IsRunCause, RunEndsWith, refusal_of_file, status_of_run_end}
+use Rattle.command_line.specs.declared.job.Job.TheVariants.{Run}
+use Rattle.command_line.specs.declared.line.Request.{Request}
+use Rattle.driver.specs.Serve.{IsSure, JobSays}
+
+not_sure : (why : FileRefusal) (r : Refusal) → r ≡ refusal_of_file why → why ≢ files.Memory → IsSure r → ⊥
+not_sure (files.Bad o) r e n sure = subst IsSure e sure
+not_sure (files.Invalid f p) r e n sure = subst IsSure e sure
+not_sure (files.NoEntry x) r e n sure = subst IsSure e sure
+not_sure files.Pages r e n sure = subst IsSure e sure
+not_sure files.Table r e n sure = subst IsSure e sure
+not_sure files.ElementPastTable r e n sure = subst IsSure e sure
+not_sure files.Exhausted r e n sure = subst IsSure e sure
+not_sure files.StepsSpent r e n sure = subst IsSure e sure
+not_sure (files.Trapped k) r e n sure = subst IsSure e sure
+not_sure (files.NoValue w) r e n sure = subst IsSure e sure
+not_sure files.AnswerNodes r e n sure = subst IsSure e sure
+not_sure files.Memory r e n sure = n refl
+
+-- a cause of `run` is that of the file's end
+of_run : (pages steps : ℕ) (r : Refusal) (bytes : List ℕ) → IsRunCause pages steps r bytes → IsFileCause pages steps r bytes
+of_run pages steps refusals.Memory bytes h = absurd h
+of_run pages steps refusals.Usage bytes h = absurd h
+of_run pages steps refusals.ReadFault bytes h = absurd h
+of_run pages steps refusals.WriteFault bytes h = absurd h
+of_run pages steps refusals.InputBytes bytes h = absurd h
+of_run pages steps (refusals.Syntax o) bytes h = h
+of_run pages steps (refusals.Unsupported w o) bytes h = h
+of_run pages steps (refusals.Limit l) bytes h = h
+of_run pages steps refusals.Depth bytes h = h
+of_run pages steps refusals.TurnsSpent bytes h = h
+of_run pages steps (refusals.Broken n p) bytes h = h
+of_run pages steps refusals.Types bytes h = h
+of_run pages steps refusals.AnswerNodes bytes h = h
+of_run pages steps refusals.NotFirstOrder bytes h = h
+of_run pages steps refusals.Stuck bytes h = h
+of_run pages steps (refusals.Axiom name) bytes h = h
+of_run pages steps (refusals.Program l) bytes h = h
+of_run pages steps (refusals.Run w) bytes h = h
+of_run pages steps (refusals.Module w) bytes h = h
+
+pub run_not_sure : (pages steps : ℕ) (r : Refusal) (bytes : List ℕ) → IsRunCause pages steps r bytes → IsSure r → ⊥
+run_not_sure pages steps r bytes h sure = (let c = of_run pages steps r bytes h in not_sure c.why r c.is c.other sure)
+
+abbrev file_stops : FileRefusal → Result Data FileRefusal
+file_stops why = Err why
+
+other_end : (why : FileRefusal) → why ≢ files.Memory → file_stops why ≢ file_stops files.Memory
+other_end why n e = n cc
+
+pub run_judged_cause : (pages steps : ℕ) (bytes : List ℕ) (status : ℕ) (r : Refusal) → length bytes ≤ most_bytes → RunEndsWith pages steps bytes status → IsRunCause pages steps r bytes → status ≡ status_of r
+run_judged_cause pages steps bytes status r short h k =
+    let c = of_run pages steps r bytes k in
+    let one = file_end_is_one bytes pages steps h.end (Err c.why) short h.ends c.ends h.other (other_end c.why c.other) in
+    h.status_is ∙ ap status_of_run_end one ∙ ap status_of (sym c.is)
+
+answered : (tree : Data) → Ok tree ≢ Err files.Memory
+answered tree e = cc
+
+pub run_judged_answer : (pages steps : ℕ) (bytes text : List ℕ) (status : ℕ) → length bytes ≤ most_bytes → RunEndsWith pages steps bytes status → IsRunAnswer pages steps bytes text → status ≡ 0
+run_judged_answer pages steps bytes text status short h a =
+    h.status_is ∙ ap status_of_run_end (file_end_is_one bytes pages steps h.end (Ok a.tree) short h.ends a.ends h.other (answered a.tree))
+
+-- ---- what the job says
+
+-- the refusal of a file's end is a cause, or want of memory
+pub run_says : {V : Type 0} (view : V → List ℕ) (q : Request) (why : FileRefusal) (bytes : List ℕ) → FileEnds bytes q.pages q.steps (Err why) → JobSays {V = V} Run q view (Err (refusal_of_file why)) bytes
+run_says view q (files.Bad o) bytes h = record { why = (files.Bad o); ends = h; other = λ e. cc; is = refl }
+run_says view q (files.Invalid f p) bytes h = record { why = (files.Invalid f p); ends = h; other = λ e. cc; is = refl }
+run_says view q (files.NoEntry n) bytes h = record { why = (files.NoEntry n); ends = h; other = λ e. cc; is = refl }
+run_says view q files.Pages bytes h = record { why = files.Pages; ends = h; other = λ e. cc; is = refl }
+run_says view q files.Table bytes h = record { why = files.Table; ends = h; other = λ e. cc; is = refl }
+run_says view q files.ElementPastTable bytes h = record { why = files.ElementPastTable; ends = h; other = λ e. cc; is = refl }
+run_says view q files.Exhausted bytes h = record { why = files.Exhausted; ends = h; other = λ e. cc; is = refl }
+run_says view q files.StepsSpent bytes h = record { why = files.StepsSpent; ends = h; other = λ e. cc; is = refl }
+run_says view q (files.Trapped k) bytes h = record { why = (files.Trapped k); ends = h; other = λ e. cc; is = refl }
+run_says view q (files.NoValue w) bytes h = record { why = (files.NoValue w); ends = h; other = λ e. cc; is = refl }
+run_says view q files.AnswerNodes bytes h = record { why = files.AnswerNodes; ends = h; other = λ e. cc; is = refl }
+run_says view q files.Memory bytes h = tt
+
+-- a text that is made of the answer, or want of memory
+pub tags_says : {V : Type 0} (view : V → List ℕ) (q : Request) (r : Result V Refusal) (bytes : List ℕ) (tree : Data) → FileEnds bytes q.pages q.steps (Ok tree) →
+    IfOk r (λ v. (line : List ℕ) × IsText by_tags 0 tree line × (view v ≡ line ++ 10 ∷ [])) → IfErr r (λ e. e ≡ refusals.Memory) → JobSays Run q view r bytes
+tags_says view q (Ok v) bytes tree ends line memory = record { tree = tree; ends = ends; line = line.0; line_is = line.1; text_is = line.2 }
+tags_says {V = V} view q (Err e) bytes tree ends line memory = subst (λ x. JobSays {V = V} Run q view (Err x) bytes) (sym memory) tt

@@ -1,0 +1,82 @@
+-- The headline on the top call: what `exec` answers where main's evaluation lawfully gives a value, what every run of its module answers, and within which
+-- bounds.
+use Rattle.std.specs.Prelude.{◌≡◌, ◌≢◌, ℕ, ◌+◌, ◌*◌, ◌≤◌, List, Option}
+use Rattle.std.specs.Io.KnownBytes.{Appends}
+use Rattle.pc_terms.specs.Syntax.{Term}
+use Rattle.pc_terms.specs.BoxSyntax.{BoxTerm}
+use Rattle.pc_rules.specs.declared.meter.Account.{Account}
+use Rattle.pc_rules.specs.Environment.{Env}
+use Rattle.pc_rules.specs.FirstOrder.{Data, IsFirstOrder}
+use Rattle.first_order.specs.declared.shapes.Shape.{Shape}
+use Rattle.first_order.specs.Searching.{members, AreNamed}
+use Rattle.lambda_box.specs.BoxEvaluation.{BoxEvaluates}
+use Rattle.lambda_box.specs.BoxData.{BoxReads}
+use Rattle.lambda_box.specs.DataTerms.{greatest_words}
+use Rattle.box_passes.specs.PassLaws.{saturated_program}
+use Rattle.wasm_core.specs.ModuleTyping.{IsValid}
+use Rattle.headline.specs.EveryRun.{EveryRunAnswers}
+use Rattle.headline.specs.Headline.{GivesLawfully, IsExactly}
+use Rattle.headline.specs.SourceWords.{source_words, source_branches}
+use Rattle.command_line.specs.declared.line.Request.{Request}
+use Rattle.dump_reader.specs.declared.environment.RawEnv.{RawEnv}
+use Rattle.driver.specs.SourceEnds.{IsAcceptedWith}
+use Rattle.driver.specs.SourceSays.{IsLine}
+use Rattle.driver.specs.ExecEnds.{Erasing, Compiling, its_environment, its_module}
+
+-- the rules accept the environment, and main's weak call-by-value evaluation, which has n nodes, lawfully gives a value
+pub record HasLawfulValue (turns : ℕ) (e : RawEnv) (n : ℕ) : Type 0 where
+  pub kept : Env
+  pub type : Term
+  pub left : Account
+  pub accepted : IsAcceptedWith turns e kept type left
+  pub value : Term
+  pub given : GivesLawfully kept e.main type value n
+
+-- the data that the value is
+abbrev pub value_data : {turns : ℕ} {e : RawEnv} {n : ℕ} → HasLawfulValue turns e n → Data
+value_data h = h.given.lawful.main.answer
+
+-- along a first-order set of main's type, whose constructors have their names, the value is exactly that data; and this is the data's text, and LF
+pub record IsTextOfValue (turns : ℕ) (e : RawEnv) (n : ℕ) (h : HasLawfulValue turns e n) (text : List ℕ) : Type 0 where
+  pub shapes : List Shape
+  pub set : IsFirstOrder h.kept h.type (members shapes)
+  pub named : AreNamed h.kept shapes
+  pub exactly : IsExactly h.kept shapes h.value (value_data h)
+  pub line : IsLine shapes e.names (value_data h) text
+
+-- of an evaluation with n nodes, w words and b branches of a match at most: where so many bytes are within the pages memory isn't exhausted, and where so many
+-- steps may be made they aren't spent
+pub record IsBounded (pages steps n w b status : ℕ) : Type 0 where
+  pub not_exhausted : 32 * n * w + 8 ≤ 65536 * pages → status ≢ 11
+  pub not_spent : 1024 * n * (w + b) ≤ steps → status ≢ 12
+
+-- the module of this call validates, and every long enough run of it answers the value or is exhausted; on status 0 out takes the value's text and LF; the status is
+-- neither that of a trap nor that of another value; and the bounds, with the source's words and branches
+pub record AnswersValue (q : Request) (e : RawEnv) (n status : ℕ) (h : HasLawfulValue q.turns e n) (taken taken' : Option (List ℕ)) : Type 0 where
+  pub valid : (x : Compiling q.turns e) → IsValid (its_module q.pages x)
+  pub runs : (x : Compiling q.turns e) → EveryRunAnswers x.before.program q.pages (source_words h.kept e.main) (source_branches h.kept) n (value_data h)
+  pub text : status ≡ 0 → (text : List ℕ) × IsTextOfValue q.turns e n h text × Appends taken taken' text
+  pub answers : status ≢ 15
+  pub bounded : IsBounded q.pages q.steps n (source_words h.kept e.main) (source_branches h.kept) status
+
+-- the erased program evaluates to data with n nodes, however that comes, and of whichever type
+pub record EvaluatesErased (turns : ℕ) (e : RawEnv) (n : ℕ) : Type 0 where
+  pub stages : Erasing turns e
+  pub value : BoxTerm
+  pub tree : Data
+  pub matches : ℕ
+  pub evaluates : BoxEvaluates stages.program stages.program.main value n matches
+  pub reads : BoxReads stages.program value tree
+
+-- its words, and the branches of its source, bound `exec`
+abbrev pub IsBoundedBy : {turns : ℕ} {e : RawEnv} {n : ℕ} → EvaluatesErased turns e n → (pages steps status : ℕ) → Type 0
+IsBoundedBy {n = n} h pages steps status = IsBounded pages steps n (greatest_words h.stages.program) (source_branches (its_environment h.stages)) status
+
+-- the saturated program, which the first two passes make of the erased one, evaluates to data with so many matches
+pub record HasMatches (turns : ℕ) (e : RawEnv) (matches : ℕ) : Type 0 where
+  pub stages : Erasing turns e
+  pub value : BoxTerm
+  pub tree : Data
+  pub nodes : ℕ
+  pub evaluates : BoxEvaluates (saturated_program stages.program) (saturated_program stages.program).main value nodes matches
+  pub reads : BoxReads (saturated_program stages.program) value tree

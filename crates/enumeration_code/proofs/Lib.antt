@@ -1,2 +1,0 @@
-pub mod Enumeration
-pub mod Small
