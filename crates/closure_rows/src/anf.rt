@@ -95,7 +95,7 @@ fn put_op<'a>(
 }
 
 /// A constant.
-fn put_const(out: &mut String, raw: &RawEnv, name: Name) -> Result<(), AllocError> {
+pub fn put_const(out: &mut String, raw: &RawEnv, name: Name) -> Result<(), AllocError> {
     out.push_str("Const ")?;
     put_name(out, raw, name)
 }

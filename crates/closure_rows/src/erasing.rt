@@ -22,10 +22,10 @@ use std::alloc::Global;
 use type_infer::inference::Inference;
 
 /// As many units as a check may take, and the call of a row where it doesn't tell.
-pub const UNITS: u64 = 1_000_000;
+const UNITS: u64 = 1_000_000;
 
 /// The environment, checked.
-pub fn accepted(alloc: Global, raw: &RawEnv) -> Result<Accepted, Fault>
+fn accepted(alloc: Global, raw: &RawEnv) -> Result<Accepted, Fault>
     requires spelled { IsSpelled raw.now }
     ensures accepted { IfOk result (λ a. IsAccepted a.env) }
     ensures typed { IfOk result (λ a. Types guarded a.env [] a.main a.main_type) }
@@ -39,7 +39,7 @@ pub fn accepted(alloc: Global, raw: &RawEnv) -> Result<Accepted, Fault>
 }
 
 /// What an accepted environment is erased to.
-pub fn erased(alloc: Global, accepted: &Accepted, m: &mut Meter) -> Result<BoxProgram, EraseRefusal>
+fn erased(alloc: Global, accepted: &Accepted, m: &mut Meter) -> Result<BoxProgram, EraseRefusal>
     requires accepted { IsAccepted accepted.now.env }
     requires typed { Types guarded accepted.now.env [] accepted.now.main accepted.now.main_type }
     requires few { AreFewCounts accepted.now.env }
@@ -47,4 +47,16 @@ pub fn erased(alloc: Global, accepted: &Accepted, m: &mut Meter) -> Result<BoxPr
 {
     let typer = Inference::new(Subst, Compare::new(Subst), Guard::new(Subst));
     erase(alloc, &typer, &Subst, accepted, m)
+}
+
+/// What an environment is erased to.
+pub fn program_of(alloc: Global, raw: &RawEnv) -> Result<BoxProgram, Fault>
+    requires spelled { IsSpelled raw.now }
+    ensures form { IfOk result IsBoxProgram }
+{
+    let accepted = accepted(alloc, raw)?;
+    match erased(alloc, &accepted, &mut Meter::new(UNITS)) {
+        Ok(program) => Ok(program),
+        Err(_) => Err(Fault::Faulty("the environment is not erased")),
+    }
 }

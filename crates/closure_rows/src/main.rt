@@ -1,8 +1,10 @@
-//! The rows of the passes to closures. `row_files` has the format of rows.
+//! The rows of the passes to closures and to modules. `row_files` has the format of rows.
 //!
 //! | Table | Calls |
 //! |---|---|
-//! | `closures` | `to_anf` of what the row's environment is erased to, without matches on proofs, and saturated |
+//! | `closures` | `to_anf`, `lift_program`, of what the row's environment is erased to, without matches on proofs, and saturated |
+//! | | `lift_nest`: the sizes of what a nest of `lambdas:` lambdas is lifted to; `lift_functions`: so of constants that are functions, `count:` of both in all |
+//! | `modules` | `compile`, of what the row's environment is erased to, with `pages:`: the size of the module, and a run of at most `steps:` steps (1,000,000 where it isn't told) |
 //!
 //! A program is printed one item a line, what stands inside indented. A variable is named by how many others are around it: `x0` is the
 //! outermost. What a block binds stands before its tail, as `x2 = App(x1, x0)`; a binding's variable is in scope only below. A fixpoint names its
@@ -13,6 +15,9 @@ mod anf;
 mod closures;
 mod erasing;
 mod items;
+mod lifted;
+mod made;
+mod modules;
 
 use row_files::{Case, Fault, Table, run_tables};
 use std::io;
@@ -21,22 +26,25 @@ use std::io;
 #[derive(Clone, Copy)]
 enum Layer {
     Closures,
+    Modules,
 }
 
 impl Table for Layer {
     fn file(&self) -> &str {
         match self {
             Layer::Closures => "closures.rows",
+            Layer::Modules => "modules.rows",
         }
     }
 
     fn run(&self, case: &Case, out: &mut String) -> Result<(), Fault> {
         match self {
             Layer::Closures => closures::run(case, out),
+            Layer::Modules => modules::run(case, out),
         }
     }
 }
 
 fn main(rt: HostRuntime) -> io::Result<()> {
-    run_tables(&rt, &[Layer::Closures])
+    run_tables(&rt, &[Layer::Closures, Layer::Modules])
 }

@@ -5,11 +5,15 @@
 //! |---|---|
 //! | `environments` | `check` (`units:`, then the units that are left are told, and the uses of the rules), `kept` |
 //! | `jobs` | `serve`, `serve each prefix` (`words:`, `failing read:`, `failing write:`) |
+//! | `executions` | the same, of the job `exec` |
+//! | `runs` | the same, of the job `run` and of options |
+//! | `lines` | `line` (`words:`) |
 #![tactic(auto)]
 
 mod environments;
 mod jobs;
 mod kept;
+mod lines;
 
 use row_files::{Case, Fault, Table, run_tables};
 use std::io;
@@ -19,6 +23,9 @@ use std::io;
 enum Layer {
     Environments,
     Jobs,
+    Executions,
+    Runs,
+    Lines,
 }
 
 impl Table for Layer {
@@ -26,17 +33,30 @@ impl Table for Layer {
         match self {
             Layer::Environments => "environments.rows",
             Layer::Jobs => "jobs.rows",
+            Layer::Executions => "executions.rows",
+            Layer::Runs => "runs.rows",
+            Layer::Lines => "lines.rows",
         }
     }
 
     fn run(&self, case: &Case, out: &mut String) -> Result<(), Fault> {
         match self {
             Layer::Environments => environments::run(case, out),
-            Layer::Jobs => jobs::run(case, out),
+            Layer::Jobs | Layer::Executions | Layer::Runs => jobs::run(case, out),
+            Layer::Lines => lines::run(case, out),
         }
     }
 }
 
 fn main(rt: HostRuntime) -> io::Result<()> {
-    run_tables(&rt, &[Layer::Environments, Layer::Jobs])
+    run_tables(
+        &rt,
+        &[
+            Layer::Environments,
+            Layer::Jobs,
+            Layer::Executions,
+            Layer::Runs,
+            Layer::Lines,
+        ],
+    )
 }

@@ -1,6 +1,5 @@
 //! Bytes written in hexadecimal.
-use crate::fault::Fault;
-use crate::row::Row;
+use row_files::{Fault, Row};
 use std::alloc::{AllocError, Global};
 
 /// The value of a hexadecimal digit.

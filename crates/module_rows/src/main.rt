@@ -14,14 +14,11 @@
 #![tactic(auto)]
 
 mod answers;
-mod fault;
 mod hex;
-mod row;
 mod running;
 
-use fault::Fault;
 use hex::{module_bytes, put_hex};
-use row::{Row, rows_of};
+use row_files::{Fault, Row, rows_of};
 use std::alloc::{AllocError, Global};
 use std::{env, fs, io};
 use wasm_core::{DecodeFault, EncodeFault, Limits, Module, Valid};

@@ -1,7 +1,6 @@
 //! Runs of a module, whole and cut into runs of one step.
 use crate::answers::put_answer;
-use crate::fault::Fault;
-use crate::row::Row;
+use row_files::{Fault, Row};
 use std::alloc::{AllocError, Global};
 use wasm_core::{Ended, Entry, NewFault, RunFault, TrapKind, Valid};
 use wasm_run::Machine;

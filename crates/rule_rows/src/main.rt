@@ -8,11 +8,13 @@
 //! | `rules` | `meter` (`units:`, `tick:`, `note:`, `uses:`, `enter:`, `leave:`), `context`, `long context` (`times:`), `keep`, `heads` (`number:`) |
 //! | `forms` | `ind_type`, `pred_entries`, `construct_type`, `branch_entries` (`parameter:`), `branch_type` (`branch:`), `pred_at` (`index:`, `scrutinee:`), `fix_unfold` (`definition:`) |
 //! | `reductions` | `whnf`, `whnf nested` (`times:`), with `units:` |
+//! | `evaluations` | `eval` (`units:`), `data` (`value:`, `type:`), `data doubled` (`doublings:`) |
 //! | `conversions` | `below`, `equal` (`other:`), `below doubled`, `equal doubled` (`doublings:`), each with `units:`, `products:` and `entered:` |
 #![tactic(auto)]
 
 mod contexts;
 mod conversions;
+mod evaluations;
 mod forms;
 mod keeping;
 mod known;
@@ -32,6 +34,7 @@ enum Layer {
     Forms,
     Reductions,
     Conversions,
+    Evaluations,
 }
 
 /// Runs a row of contexts or of environments.
@@ -66,6 +69,7 @@ impl Table for Layer {
             Layer::Forms => "forms.rows",
             Layer::Reductions => "reductions.rows",
             Layer::Conversions => "conversions.rows",
+            Layer::Evaluations => "evaluations.rows",
         }
     }
 
@@ -75,6 +79,7 @@ impl Table for Layer {
             Layer::Forms => forms::run(case, out),
             Layer::Reductions => reductions::run(case, out),
             Layer::Conversions => conversions::run(case, out),
+            Layer::Evaluations => evaluations::run(case, out),
         }
     }
 }
@@ -87,6 +92,7 @@ fn main(rt: HostRuntime) -> io::Result<()> {
             Layer::Forms,
             Layer::Reductions,
             Layer::Conversions,
+            Layer::Evaluations,
         ],
     )
 }
