@@ -1,6 +1,8 @@
 //! Values that are applied to values.
-ghost use Rattle.std.specs.Prelude.{◌≡◌, ℕ, IfOk, IfErr, MatchOption, Some, None, slice_get};
+ghost use Rattle.std.specs.Prelude.{◌≡◌, ℕ, IfOk, IfErr, IsTrue, MatchOption, Some, None, slice_get};
+ghost use Rattle.trees.specs.Measures.{IsBeyond};
 ghost use Rattle.pc_terms.specs.declared.term.MakeFault.TheVariants.{TooDeep};
+ghost use Rattle.pc_terms.specs.Syntax.{App};
 ghost use Rattle.pc_terms.specs.Lists.{rargs_of};
 ghost use Rattle.pc_rules.specs.DirectedWeakHead.{family_of};
 ghost use Rattle.pc_rules.specs.DirectedEvaluation.{lacks_arguments, is_below, takes_more, unfolding_at, applied, evaluation};
@@ -8,6 +10,7 @@ ghost use Rattle.redexes.specs.Redexes.{contractum};
 ghost use Rattle.source_eval.specs.Waiting.{Comes, Passes, applied_other};
 
 use crate::found::Found;
+use crate::frames::Since;
 use pc_rules::environment::Env;
 use pc_terms::leaf::FamilyId;
 use pc_terms::term::{Defs, MakeFault, Node, Term};
@@ -84,6 +87,39 @@ fn unfolding(head: Term, before: Spine, argument: Term) -> Option<Redex>
     })
 }
 
+/// Whether an application is that of this function to this argument. It takes no memory, and no walk where they are the nodes that it has.
+fn is_of(application: &Term, function: &Term, argument: &Term) -> bool
+    ensures is { IsTrue result → application.now ≡ App function.now argument.now }
+{
+    match application.view() {
+        Node::App(f, a) => f.same(function) && a.same(argument),
+        _ => false,
+    }
+}
+
+/// A value that takes more, with one argument more. It is the application itself where only parts of that were entered since: so a value that
+/// is evaluated again is not made again. `TooDeep` only where it is beyond the limits of terms.
+fn extend(
+    alloc: Global,
+    application: Term,
+    function: Term,
+    value: Term,
+    since: Since,
+) -> Result<Term, MakeFault>
+    ensures ok { IfOk result (λ t. t ≡ App function value) }
+    ensures too_deep { IfErr result (λ e. e ≡ TooDeep → IsBeyond (App function value)) }
+{
+    let whole = match since {
+        Since::Parts => is_of(&application, &function, &value),
+        // The comparison might walk over both for nothing.
+        Since::Contracta => false,
+    };
+    if whole {
+        return Ok(application);
+    }
+    Term::make(alloc, Node::App(function, value))
+}
+
 /// What comes of an application whose function's value is no lambda.
 fn apply_other(
     alloc: Global,
@@ -91,6 +127,7 @@ fn apply_other(
     application: Term,
     function: Term,
     value: Term,
+    since: Since,
 ) -> Result<Found, MakeFault>
     ensures ok { IfOk result (Comes env.now (λ u. applied_other env.now (evaluation env.now) application function value u)) }
     ensures too_deep { IfErr result (λ e. e ≡ TooDeep → Passes (λ u. applied_other env.now (evaluation env.now) application function value u)) }
@@ -99,7 +136,7 @@ fn apply_other(
     let count = spine.len();
     let more = is_extended(env, &head, count);
     if more {
-        let extended = Term::make(alloc, Node::App(function, value))?;
+        let extended = extend(alloc, application, function, value, since)?;
         return Ok(Found::Value(extended));
     }
     let Some(redex) = unfolding(head, spine, value) else {
@@ -116,6 +153,7 @@ pub(crate) fn apply(
     application: Term,
     function: Term,
     value: Term,
+    since: Since,
 ) -> Result<Found, MakeFault>
     ensures ok { IfOk result (Comes env.now (λ u. applied env.now (evaluation env.now) application function value u)) }
     ensures too_deep { IfErr result (λ e. e ≡ TooDeep → Passes (λ u. applied env.now (evaluation env.now) application function value u)) }
@@ -125,5 +163,5 @@ pub(crate) fn apply(
         let contractum = Redex::Bound { body, value }.contract(alloc)?;
         return Ok(Found::Enter(contractum));
     }
-    apply_other(alloc, env, application, function, value)
+    apply_other(alloc, env, application, function, value, since)
 }

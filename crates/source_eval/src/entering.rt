@@ -44,8 +44,8 @@ fn constant(env: &Env, whole: Term, name: Name) -> Result<Found, MakeFault>
     Ok(Found::Enter(body))
 }
 
-/// What comes of a term that is entered, for which a unit has been taken.
-pub(crate) fn enter(env: &Env, t: &Term) -> Result<Found, MakeFault>
+/// What comes of a term that is entered, for which a unit has been taken, after so many contracta.
+pub(crate) fn enter(env: &Env, t: &Term, contracta: u64) -> Result<Found, MakeFault>
     ensures ok { IfOk result (Comes env.now (λ u. node env.now (evaluation env.now) t.now u)) }
     ensures only_memory { IfErr result (λ e. e ≡ Memory) }
 {
@@ -68,6 +68,7 @@ pub(crate) fn enter(env: &Env, t: &Term) -> Result<Found, MakeFault>
                 frame: Frame::Argument {
                     application: whole,
                     argument,
+                    contracta,
                 },
                 term,
             })

@@ -52,7 +52,7 @@ fn run(alloc: Global, env: &Env, t: &Term, m: &mut Meter) -> Result<Term, EvalSt
         if !m.tick() {
             return Err(EvalStop::Spent);
         }
-        let found = enter(env, &next)?;
+        let found = enter(env, &next, machine.contracta)?;
         let settled = machine.settle(alloc, env, found)?;
         match settled {
             Settled::Enter(term) => next = term,

@@ -9,10 +9,11 @@ use pc_rules::environment::Env;
 use pc_terms::term::{MakeFault, Term};
 use std::alloc::Global;
 
-/// What waits for values, the outermost first.
+/// What waits for values, the outermost first; and how many contracta were entered, a number that is only compared, and may turn over.
 #[derive(Drop)]
 pub(crate) struct Machine {
     pub(crate) frames: Vec<Frame>,
+    pub(crate) contracta: u64,
 }
 
 /// What comes of all that waits.
@@ -33,6 +34,7 @@ impl Machine {
     {
         Machine {
             frames: Vec::new(alloc),
+            contracta: 0,
         }
     }
 
@@ -68,7 +70,10 @@ impl Machine {
         let mut now = found;
         'outward: loop {
             match now {
-                Found::Enter(term) => return Ok(Settled::Enter(term)),
+                Found::Enter(term) => {
+                    self.contracta = self.contracta.wrapping_add(1);
+                    return Ok(Settled::Enter(term));
+                }
                 Found::Inward { frame, term } => {
                     self.push(frame)?;
                     return Ok(Settled::Enter(term));
@@ -78,7 +83,7 @@ impl Machine {
                     let Some(frame) = self.pop() else {
                         return Ok(Settled::Value(value));
                     };
-                    now = frame.meet(alloc, env, value)?;
+                    now = frame.meet(alloc, env, value, self.contracta)?;
                 }
             }
         }

@@ -7,7 +7,7 @@ ghost use Rattle.source_eval.specs.Waiting.{meeting, branch_in, Comes, Passes};
 
 use crate::applying::apply;
 use crate::found::Found;
-use crate::frames::Frame;
+use crate::frames::{Frame, Since};
 use pc_rules::environment::Env;
 use pc_terms::term::{MakeFault, Node, Term};
 use redexes::constructors::branch;
@@ -40,9 +40,23 @@ fn bound(alloc: Global, env: &Env, body: Term, value: Term) -> Result<Found, Mak
     Ok(Found::Enter(contractum))
 }
 
+/// What was entered since an application was, before which there were so many contracta, and now there are so many.
+fn entered_since(before: u64, now: u64) -> Since {
+    if before == now {
+        return Since::Parts;
+    }
+    Since::Contracta
+}
+
 impl Frame {
-    /// What comes of a value that is waited for. `TooDeep` only where what it makes is beyond the limits of terms.
-    pub(crate) fn meet(self, alloc: Global, env: &Env, value: Term) -> Result<Found, MakeFault>
+    /// What comes of a value that is waited for, after so many contracta. `TooDeep` only where what it makes is beyond the limits of terms.
+    pub(crate) fn meet(
+        self,
+        alloc: Global,
+        env: &Env,
+        value: Term,
+        now: u64,
+    ) -> Result<Found, MakeFault>
         ensures ok { IfOk result (Comes env.now (λ u. meeting env.now self value u)) }
         ensures too_deep { IfErr result (λ e. e ≡ TooDeep → Passes (λ u. meeting env.now self value u)) }
     {
@@ -51,17 +65,23 @@ impl Frame {
             Frame::Argument {
                 application,
                 argument,
+                contracta,
             } => Ok(Found::Inward {
                 frame: Frame::Function {
                     application,
                     function: value,
+                    contracta,
                 },
                 term: argument,
             }),
             Frame::Function {
                 application,
                 function,
-            } => apply(alloc, env, application, function, value),
+                contracta,
+            } => {
+                let since = entered_since(contracta, now);
+                apply(alloc, env, application, function, value, since)
+            }
             Frame::Scrutinee(around) => choose(alloc, env, around, &value),
         }
     }
