@@ -13,7 +13,7 @@ use Rattle.wasm_emit.proofs.Indices.{main_in, entries_length}
 
 module _ (P : Program) (pages : ℕ) where
   exported : index_of Main (module_of P pages) ≡ Some (main_index P)
-  exported = ap (λ (o : Option ℕ). option_and_then (λ index. option_and_then (λ t. from_nothing t.params t.result (main_index P)) (slice_get (module_of P pages).types index)) o) (main_in P (λ f. 3) (λ t. 1) 0)
+  exported = ap (λ (o : Option ℕ). option_and_then (λ index. option_and_then (λ t. from_nothing t.params t.result (main_index P)) (slice_get (module_of P pages).types index)) o) (main_in P (λ f. 2) (λ t. 1) 0)
 
   none_missing : missing (module_of P pages) ≡ None
   none_missing = ap (λ (o : Option ℕ). or_missing Main o None) exported

@@ -1,4 +1,4 @@
--- The function that gives memory.
+-- The function that makes sure that memory reaches the heap's end.
 use Rattle.std.proofs.Common.{◌≡◌, ℕ, suc, ◌+◌, ◌-◌, ◌*◌, ◌^◌, ◌<◌, ◌≤◌, List, ◌∷◌, Option, Some, Bool, false, refl, ap, arith}
 use Rattle.std.proofs.lemmas.Bool.{cases_lt}
 use Rattle.std.specs.Prelude.{slice_get, ◌⊎◌}
@@ -25,8 +25,8 @@ use Rattle.wasm_core.proofs.Rules.{Around}
 use Rattle.wasm_core.proofs.Rules as rule
 use Rattle.wasm_emit.specs.EmitLaws.{spent}
 use Rattle.wasm_emit.specs.EmittedCode.{Const, IfOnly}
-use Rattle.wasm_emit.specs.EmittedModule.{alloc_code, type_alloc, type_function}
-use Rattle.wasm_emit.proofs.Rules.{Limits, Within, here, refusing, func, looser, dying, r_const, r_get, r_heap, r_set_heap, r_set_status, r_get_status, r_size, r_eq_no, r_gt_yes, r_gt_no, r_add, r_mul, r_if, r_if_not, r_end, r_back, r_call_1, r_grow}
+use Rattle.wasm_emit.specs.EmittedModule.{room_code, type_main, type_function}
+use Rattle.wasm_emit.proofs.Rules.{Limits, Within, here, refusing, func, looser, dying, r_const, r_heap, r_set_status, r_get_status, r_size, r_eq_no, r_gt_yes, r_gt_no, r_mul, r_if, r_if_not, r_end, r_back_nothing, r_call_nothing, r_grow}
 
 -- the heap ends at an aligned address within memory
 pub record Room (M : Parts) (m : Mem) (p h : ℕ) : Type 0 where
@@ -42,8 +42,8 @@ pub record Room (M : Parts) (m : Mem) (p h : ℕ) : Type 0 where
 -- what the run time of a module gives
 pub record HasRunTime (M : Parts) : Type 0 where
   pub small : greatest_pages M.memory ≤ 16384
-  pub alloc : func_of M 0 ≡ Some (func type_alloc 0 alloc_code)
-  pub function : slice_get M.types 3 ≡ Some type_function
+  pub room : func_of M 0 ≡ Some (func type_main 0 room_code)
+  pub function : slice_get M.types 2 ≡ Some type_function
   pub status : index_of Status M ≡ Some 1
 
 module _ (M : Parts) (fixed : HasRunTime M) (cap : Limits) (Q : State → Type 0) where
@@ -53,24 +53,22 @@ module _ (M : Parts) (fixed : HasRunTime M) (cap : Limits) (Q : State → Type 0
       (dying M cap Q (omega arith) (λ g. refl) (dying M cap Q (omega arith) (λ g. refl) (dying M cap Q (omega arith) (λ g. refl) (dying M cap Q (omega arith) (λ g. refl)
       (gone (spent (record { status = ap (λ (o : Option ℕ). option_and_then (λ (x : ℕ). option_and_then i32_of (slice_get (I32 0 ∷ I32 1 ∷ I32 h ∷ cap.more) x)) o) fixed.status; refused = refl }) short)))))))) (omega arith) big
 
+  -- the heap's end has moved past n bytes more
   pub allocated : {f : Around} {m : Mem} {p h n : ℕ} {ls vals : List ConstValue} {rest : List Instr} {l u : ℕ} → suc (length f.callers) ≤ cap.frames → h + n ≤ cap.bytes → n ≤ 65536 → Room M m p h →
-      ((m' : Mem) (p' : ℕ) → Same h m m' → length m' ≡ 65536 * p' → p' ≤ greatest_pages M.memory → h + n ≤ 65536 * p' → 65536 * p' < h + n + 65536 → Within M cap Q l u (here cap f m' p' (h + n) ls (I32 h ∷ vals) rest)) → Within M cap Q l (30 + u) (here cap f m p h ls (I32 n ∷ vals) (Call 0 ∷ rest))
+      ((m' : Mem) (p' : ℕ) → Same h m m' → length m' ≡ 65536 * p' → p' ≤ greatest_pages M.memory → h + n ≤ 65536 * p' → 65536 * p' < h + n + 65536 → Within M cap Q l u (here cap f m' p' (h + n) ls vals rest)) → Within M cap Q l (25 + u) (here cap f m p (h + n) ls vals (Call 0 ∷ rest))
   allocated {f} {m} {p} {h} {n} {ls} {vals} {rest} {l} {u} deep needed small_n room k = cases (cases_lt (65536 * p) (h + n))
     where
-      cases : (65536 * p < h + n) ⊎ (h + n ≤ 65536 * p) → Within M cap Q l (30 + u) (here cap f m p h ls (I32 n ∷ vals) (Call 0 ∷ rest))
+      cases : (65536 * p < h + n) ⊎ (h + n ≤ 65536 * p) → Within M cap Q l (25 + u) (here cap f m p (h + n) ls vals (Call 0 ∷ rest))
       cases (inl over) = looser M cap Q
-          (r_call_1 M cap Q 0 (omega arith) fixed.alloc (r_heap M cap Q (omega arith) (r_get M cap Q (omega arith) refl (r_add M cap Q (omega arith) (omega (arith, room.fits, room.pages, fixed.small))
-          (r_const M cap Q (omega arith) 65536 (r_size M cap Q (omega arith) (r_mul M cap Q (omega arith) (omega (arith, room.pages, fixed.small)) (r_gt_yes M cap Q (omega arith) over (r_if M cap Q (omega arith)
+          (r_call_nothing M cap Q 0 (omega arith) fixed.room (r_heap M cap Q (omega arith) (r_const M cap Q (omega arith) 65536 (r_size M cap Q (omega arith) (r_mul M cap Q (omega arith) (omega (arith, room.pages, fixed.small))
+          (r_gt_yes M cap Q (omega arith) over (r_if M cap Q (omega arith)
           (r_const M cap Q (omega arith) 1 (r_grow M cap Q (omega arith) (λ in_max.
           (r_const M cap Q (omega arith) (2 ^ 32 - 1) (r_eq_no M cap Q (omega arith) (λ e. omega (arith, room.pages, fixed.small)) (r_set_status M cap Q (omega arith) (r_get_status M cap Q (omega arith) (r_if_not M cap Q (omega arith) (r_end M cap Q (omega arith) (r_end M cap Q (omega arith)
-          (r_heap M cap Q (omega arith) (r_heap M cap Q (omega arith) (r_get M cap Q (omega arith) refl (r_add M cap Q (omega arith) (omega (arith, room.fits, room.pages, fixed.small))
-          (r_set_heap M cap Q (omega arith) (r_back M cap Q (omega arith) (k (m ++ zeroed 1) (p + 1) (λ x lt. more_same m 1 x (omega (arith, room.long, room.fits))) (omega (arith, room.long, length-append m (zeroed 1), zeroed_length 1)) in_max (omega (arith, room.fits))
-          (omega (arith, over)))))))))))))))))
-          (λ x short. stopped (λ z. omega (arith, short z, room.pages, fixed.small)) (omega arith) (omega arith)))))))))))))
+          (r_back_nothing M cap Q (omega arith) (k (m ++ zeroed 1) (p + 1) (λ x lt. more_same m 1 x (omega (arith, room.long, room.fits))) (omega (arith, room.long, length-append m (zeroed 1), zeroed_length 1)) in_max (omega (arith, room.fits))
+          (omega (arith, over))))))))))))
+          (λ x short. stopped (λ z. omega (arith, short z, room.pages, fixed.small)) (omega arith) (omega arith)))))))))))
           (omega arith) (omega arith)
       cases (inr enough) = looser M cap Q
-          (r_call_1 M cap Q 0 (omega arith) fixed.alloc (r_heap M cap Q (omega arith) (r_get M cap Q (omega arith) refl (r_add M cap Q (omega arith) (omega (arith, room.fits, room.pages, fixed.small))
-          (r_const M cap Q (omega arith) 65536 (r_size M cap Q (omega arith) (r_mul M cap Q (omega arith) (omega (arith, room.pages, fixed.small)) (r_gt_no M cap Q (omega arith) enough (r_if_not M cap Q (omega arith) (r_end M cap Q (omega arith)
-          (r_heap M cap Q (omega arith) (r_heap M cap Q (omega arith) (r_get M cap Q (omega arith) refl (r_add M cap Q (omega arith) (omega (arith, room.fits, room.pages, fixed.small))
-          (r_set_heap M cap Q (omega arith) (r_back M cap Q (omega arith) (k m p (λ x lt. refl) room.long room.pages enough (omega (arith, room.tight)))))))))))))))))))
+          (r_call_nothing M cap Q 0 (omega arith) fixed.room (r_heap M cap Q (omega arith) (r_const M cap Q (omega arith) 65536 (r_size M cap Q (omega arith) (r_mul M cap Q (omega arith) (omega (arith, room.pages, fixed.small))
+          (r_gt_no M cap Q (omega arith) enough (r_if_not M cap Q (omega arith) (r_end M cap Q (omega arith) (r_back_nothing M cap Q (omega arith) (k m p (λ x lt. refl) room.long room.pages enough (omega (arith, room.tight))))))))))))
           (omega arith) (omega arith)

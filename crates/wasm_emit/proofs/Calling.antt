@@ -82,7 +82,7 @@ emit_calls P pages w m args ds v d c k b s memory pages_now heap address pos sma
     record {
       index = main_index P;
       main = record { type = type_main; body = call_function P (count ds) };
-      exported = ap (λ (o : Option ℕ). option_and_then (λ index. option_and_then (λ t. from_nothing t.params t.result (main_index P)) (slice_get M.types index)) o) (main_in P (λ f. 3) (λ t. 1) 0);
+      exported = ap (λ (o : Option ℕ). option_and_then (λ index. option_and_then (λ t. from_nothing t.params t.result (main_index P)) (slice_get M.types index)) o) (main_in P (λ f. 2) (λ t. 1) 0);
       is = main_at P (call_function P (count ds)) call_globals call_exports pages;
       depth = y.D;
       run = λ n t r. tree_tells M (y.D + 1) k (64 * (b + c + 1) * (w + m)) (Finished M (preorder d) (heap + 4 * s)) (Spent M (heap + 4 * s)) first (at_end M (heap + 4 * s) (preorder d)) tree n t r;

@@ -50,17 +50,17 @@ times x [] = refl
 times {A} x (y ∷ ys) = ap (λ (zs : List ℕ). x ∷ zs) (times x ys)
 
 -- the type indices of all functions
-pub funcs_made : (Q : Lifted) (items : List Function) (n k : ℕ) (v0 v1 v2 v3 : List ℕ) → functions_of items ≡ Q.functions → n ≡ length items → k ≡ length Q.constants → v0 ≡ 2 ∷ 3 ∷ [] → v1 ≡ v0 ++ replicate n 3 → v2 ≡ v1 ++ replicate k 1 → v3 ≡ v2 ++ 0 ∷ [] →
+pub funcs_made : (Q : Lifted) (items : List Function) (n k : ℕ) (v0 v1 v2 v3 : List ℕ) → functions_of items ≡ Q.functions → n ≡ length items → k ≡ length Q.constants → v0 ≡ 0 ∷ 2 ∷ [] → v1 ≡ v0 ++ replicate n 2 → v2 ≡ v1 ++ replicate k 1 → v3 ≡ v2 ++ 0 ∷ [] →
     v3 ≡ (module_of (lifted_of Q) 0).funcs
 funcs_made Q items n k v0 v1 v2 v3 same en ek e0 e1 e2 e3 =
     let P = lifted_of Q in
     let cn : n ≡ length P.functions = en ∙ sym (functions_count items) ∙ ap length same ∙ sym (renumbered_count (place_in Q.constants) Q.functions) in
     let ck : k ≡ length P.constants = ek ∙ sym (length_map (λ (c : LiftedConstant). renumber (place_in Q.constants) c.body) Q.constants) in
-    let fs : replicate n 3 ≡ map (λ (f : Fn). 3) P.functions = ap (λ (j : ℕ). replicate j 3) cn ∙ times 3 P.functions in
+    let fs : replicate n 2 ≡ map (λ (f : Fn). 2) P.functions = ap (λ (j : ℕ). replicate j 2) cn ∙ times 2 P.functions in
     let cs : replicate k 1 ≡ map (λ (t : Block). 1) P.constants = ap (λ (j : ℕ). replicate j 1) ck ∙ times 1 P.constants in
-    let w1 : v1 ≡ 2 ∷ 3 ∷ map (λ (f : Fn). 3) P.functions = e1 ∙ ap (λ (zs : List ℕ). zs ++ replicate n 3) e0 ∙ ap (λ (zs : List ℕ). 2 ∷ 3 ∷ zs) fs in
-    let w2 : v2 ≡ (2 ∷ 3 ∷ map (λ (f : Fn). 3) P.functions) ++ map (λ (t : Block). 1) P.constants = e2 ∙ ap (λ (zs : List ℕ). zs ++ replicate k 1) w1 ∙ ap (λ (zs : List ℕ). (2 ∷ 3 ∷ map (λ (f : Fn). 3) P.functions) ++ zs) cs in
-    e3 ∙ ap (λ (zs : List ℕ). zs ++ 0 ∷ []) w2 ∙ ap (λ (zs : List ℕ). 2 ∷ 3 ∷ zs) (append_assoc (map (λ (f : Fn). 3) P.functions) (map (λ (t : Block). 1) P.constants) (0 ∷ []))
+    let w1 : v1 ≡ 0 ∷ 2 ∷ map (λ (f : Fn). 2) P.functions = e1 ∙ ap (λ (zs : List ℕ). zs ++ replicate n 2) e0 ∙ ap (λ (zs : List ℕ). 0 ∷ 2 ∷ zs) fs in
+    let w2 : v2 ≡ (0 ∷ 2 ∷ map (λ (f : Fn). 2) P.functions) ++ map (λ (t : Block). 1) P.constants = e2 ∙ ap (λ (zs : List ℕ). zs ++ replicate k 1) w1 ∙ ap (λ (zs : List ℕ). (0 ∷ 2 ∷ map (λ (f : Fn). 2) P.functions) ++ zs) cs in
+    e3 ∙ ap (λ (zs : List ℕ). zs ++ 0 ∷ []) w2 ∙ ap (λ (zs : List ℕ). 0 ∷ 2 ∷ zs) (append_assoc (map (λ (f : Fn). 2) P.functions) (map (λ (t : Block). 1) P.constants) (0 ∷ []))
 
 all_at : {A : Type 0} (F : A → Type 0) (xs : List A) → All F xs → (i : ℕ) (x : A) → slice_get xs i ≡ Some x → F x
 all_at F [] a i x e = cc

@@ -74,7 +74,7 @@ module _ (P : Program) (main : Body) (gs : List GlobalDef) (es : List Export) (p
   M = module_with P main gs es pages
 
   fixed : HasRunTime (module_with P main gs es pages)
-  fixed = record { small = small; alloc = refl; function = refl; status = refl }
+  fixed = record { small = small; room = refl; function = refl; status = refl }
 
   abbrev cost : ℕ → ℕ → ℕ
   cost c b = 64 * (W + N) * (c + b)
@@ -127,7 +127,7 @@ module _ (P : Program) (main : Body) (gs : List GlobalDef) (es : List Export) (p
           let locals : List ConstValue = I32 w1 ∷ I32 wa ∷ zeros (top 2 fn.body - 2) in
           let inner : Env m h locals 2 (fields_of 0 fn.captured []) e' = subst (λ (i : ℕ). Env m h locals 2 (fields_of 0 i []) e') sz (subst (Env m h locals 2 (fields_of 0 (size e') [])) (append_nil e') (fields_env 0 w1 (omega arith) refl c1.within c1.fields env_nil)) in
           r_load M cap Q (omega arith) (omega (arith, room.inside, c2.within))
-          (subst (λ (x : ℕ). Within M cap Q (suc (k + l)) (suc (cost c b + 2 + suc u)) (here cap f m p h ls (I32 x ∷ I32 wa ∷ I32 w1 ∷ vals) (CallIndirect 3 0 ∷ rest))) (sym (at_zero m w2 ∙ c2.head))
+          (subst (λ (x : ℕ). Within M cap Q (suc (k + l)) (suc (cost c b + 2 + suc u)) (here cap f m p h ls (I32 x ∷ I32 wa ∷ I32 w1 ∷ vals) (CallIndirect 2 0 ∷ rest))) (sym (at_zero m w2 ∙ c2.head))
           (r_indirect M cap Q (top 2 fn.body - 2) {y = suc (suc g)} (omega arith) refl (entry_at P main gs es pages (suc g) (omega (arith, slice_get_within P.functions g fn at))) (function_at P main gs es pages g fn at)
           ((body.sim m p h locals 2 (InLocal 1 ∷ fields_of 0 fn.captured []) room nil (env_cons wa (in_local (omega arith) refl) sa inner) (omega (arith, zeros_length (top 2 fn.body - 2))) needed).run (callee f ls vals rest) [] (End ∷ []) l (suc u) (cost c b + 2 + suc u) (omega arith) (omega arith)
           (λ m' p' h' ls' w e room' same keeps st. looser M cap Q (r_back M cap Q (omega arith) (go m' p' h' ls w e room' same (keeps_same d ls) st)) (omega arith) (omega arith))
@@ -142,7 +142,7 @@ module _ (P : Program) (main : Body) (gs : List GlobalDef) (es : List Export) (p
       run = λ f vals rest l u bound deep fits go out.
           looser M cap Q (put_atom M fixed cap Q (omega arith) room.inside env isf (λ w1 s1. put_atom M fixed cap Q (omega arith) room.inside env isa (λ wa sa. put_atom M fixed cap Q (omega arith) room.inside env isf (λ w2 s2.
           r_load M cap Q (omega arith) (omega (arith, room.inside, room.above, box_word s2))
-          (subst (λ (x : ℕ). Within M cap Q (suc (suc (suc l))) (suc (suc (suc u))) (here cap f m p h ls (I32 x ∷ I32 wa ∷ I32 w1 ∷ vals) (CallIndirect 3 0 ∷ rest))) (sym (at_zero m w2 ∙ ap (word m) (box_word s2) ∙ nil))
+          (subst (λ (x : ℕ). Within M cap Q (suc (suc (suc l))) (suc (suc (suc u))) (here cap f m p h ls (I32 x ∷ I32 wa ∷ I32 w1 ∷ vals) (CallIndirect 2 0 ∷ rest))) (sym (at_zero m w2 ∙ ap (word m) (box_word s2) ∙ nil))
           (r_indirect M cap Q 0 {x = 0} {y = 1} (omega arith) refl (entry_at P main gs es pages 0 (omega arith)) refl (r_const M cap Q (omega arith) 0 (r_back M cap Q (omega arith) (go m p h ls 0 (omega arith) room (λ x y. refl) (keeps_same d ls) (s_box refl))))))))))
           (omega arith) (omega arith);
     };

@@ -25,6 +25,7 @@ NotStatus (Call f) = Unit {0}
 NotStatus (CallIndirect index table) = Unit {0}
 NotStatus (LocalGet x) = Unit {0}
 NotStatus (LocalSet x) = Unit {0}
+NotStatus (LocalTee x) = Unit {0}
 NotStatus (GlobalGet x) = Unit {0}
 NotStatus (GlobalSet x) = x ≡ 1 → ⊥
 NotStatus (I32Load a) = Unit {0}
@@ -189,6 +190,8 @@ module _ (m : Parts) (funcs : (f : ℕ) (g : Func) → func_of m f ≡ Some g �
     honest_act (LocalGet x) vals rest all n w = some_ok (slice_get ls x) _ (λ y e. on w)
     honest_act (LocalSet x) [] rest all n w = tt
     honest_act (LocalSet x) (y ∷ vals) rest all n w = some_ok (slice_get ls x) _ (λ z e. on w)
+    honest_act (LocalTee x) [] rest all n w = tt
+    honest_act (LocalTee x) (y ∷ vals) rest all n w = some_ok (slice_get ls x) _ (λ z e. on w)
     honest_act (GlobalGet x) vals rest all n w = some_ok (slice_get s.globals x) _ (λ y e. on w)
     honest_act (GlobalSet x) [] rest all n w = tt
     honest_act (GlobalSet x) (y ∷ vals) rest all n w = some_ok (slice_get s.globals x) _ (λ z e. record { now = at_wary w; labels = lw; callers = cw; status = λ q. st (sym (other_global s.globals x y n) ∙ q); pages = pg })
@@ -211,7 +214,6 @@ module _ (m : Parts) (funcs : (f : ℕ) (g : Func) → func_of m f ≡ Some g �
     honest_act (BrTable xs x) vals rest all n w = absurd n
     honest_act Return vals rest all n w = absurd n
     honest_act Drop vals rest all n w = absurd n
-    honest_act (LocalTee x) vals rest all n w = absurd n
     honest_act (I32Load8U a) vals rest all n w = absurd n
     honest_act (I32Store8 a) vals rest all n w = absurd n
     honest_act MemoryGrow vals rest all n w = absurd n

@@ -61,15 +61,15 @@ func_is m f index t b e et eb =
 
 pub constant_at : (P : Program) (main : Body) (gs : List GlobalDef) (es : List Export) (pages x : ℕ) (t : Block) → slice_get P.constants x ≡ Some t → func_of (module_with P main gs es pages) (constant_index P x) ≡ Some (record { type = type_constant; body = constant P t })
 constant_at P main gs es pages x t e =
-    func_is (module_with P main gs es pages) (constant_index P x) 1 type_constant (constant P t) (constant_in P (λ f. 3) (λ t. 1) 0 x t e) refl (constant_in P (function P) (constant P) main x t e)
+    func_is (module_with P main gs es pages) (constant_index P x) 1 type_constant (constant P t) (constant_in P (λ f. 2) (λ t. 1) 0 x t e) refl (constant_in P (function P) (constant P) main x t e)
 
 pub function_at : (P : Program) (main : Body) (gs : List GlobalDef) (es : List Export) (pages g : ℕ) (fn : Fn) → slice_get P.functions g ≡ Some fn → func_of (module_with P main gs es pages) (suc (suc g)) ≡ Some (record { type = type_function; body = function P fn })
 function_at P main gs es pages g fn e =
-    func_is (module_with P main gs es pages) (suc (suc g)) 3 type_function (function P fn) (function_in P (λ f. 3) (λ t. 1) 0 g fn e) refl (function_in P (function P) (constant P) main g fn e)
+    func_is (module_with P main gs es pages) (suc (suc g)) 2 type_function (function P fn) (function_in P (λ f. 2) (λ t. 1) 0 g fn e) refl (function_in P (function P) (constant P) main g fn e)
 
 pub main_at : (P : Program) (main : Body) (gs : List GlobalDef) (es : List Export) (pages : ℕ) → func_of (module_with P main gs es pages) (main_index P) ≡ Some (record { type = type_main; body = main })
 main_at P main gs es pages =
-    func_is (module_with P main gs es pages) (main_index P) 0 type_main main (main_in P (λ f. 3) (λ t. 1) 0) refl (main_in P (function P) (constant P) main)
+    func_is (module_with P main gs es pages) (main_index P) 0 type_main main (main_in P (λ f. 2) (λ t. 1) 0) refl (main_in P (function P) (constant P) main)
 
 -- the table
 pub entry : (i n g : ℕ) → g < n → slice_get (entries i n) g ≡ Some (i + g)

@@ -1,13 +1,13 @@
 -- How long the bytes of numbers, instructions and bodies are.
 use Rattle.std.proofs.Common.{◌≡◌, ℕ, zero, suc, ◌+◌, ◌-◌, ◌/◌, ◌%◌, ◌^◌, ◌<◌, ◌≤◌, List, [], ◌∷◌, ◌++◌, length, length-append, replicate, Bool, true, false, refl, ap, sym, ◌∙◌, subst, arith}
-use Rattle.std.proofs.lemmas.Bool.{ltb-false}
-use Rattle.std.specs.Prelude.{nat_lt, if◌then◌else◌}
+use Rattle.std.proofs.lemmas.Bool.{lt-ltb, ltb-false}
+use Rattle.std.specs.Prelude.{nat_lt, if◌then◌else◌, ◌&&◌}
 use Rattle.wasm_core.specs.declared.types.ValType.{ValType}
 use Rattle.wasm_core.specs.declared.types.ValType.TheVariants.{I32}
 use Rattle.wasm_core.specs.declared.instrs.BlockType.{BlockType}
 use Rattle.wasm_core.specs.declared.instrs.I32Op.{I32Op}
 use Rattle.wasm_core.specs.declared.instrs.Instr.{Instr}
-use Rattle.wasm_core.specs.declared.instrs.Instr.TheVariants.{Unreachable, If, Else, End, Call, CallIndirect, LocalGet, LocalSet, GlobalSet, I32 as Operation}
+use Rattle.wasm_core.specs.declared.instrs.Instr.TheVariants.{Unreachable, If, Else, End, Call, CallIndirect, LocalGet, LocalSet, LocalTee, GlobalGet, GlobalSet, I32 as Operation}
 use Rattle.wasm_core.specs.ShortestBytes.{unsigned, signed, is_low, is_high, add_local, put_u32, put_all, put_list, put_instr, runs, put_run, put_locals, body_bytes, put_body}
 use Rattle.wasm_emit.specs.EmittedCode.{Load, Store, Const}
 use Rattle.wasm_emit.specs.EmittedModule.{body}
@@ -39,6 +39,29 @@ s_any zero bits n w = omega arith
 s_any (suc g) bits n w =
     chosen (is_low bits n) (n ∷ w) (if is_high bits n then (128 - (2 ^ bits - n)) ∷ w else (n % 128 + 128) ∷ signed g (bits - 7) (n / 128) w) (suc g + length w) (λ e. omega arith)
     (λ e. chosen (is_high bits n) ((128 - (2 ^ bits - n)) ∷ w) ((n % 128 + 128) ∷ signed g (bits - 7) (n / 128) w) (suc g + length w) (λ e. omega arith) (λ e. omega (arith, s_any g (bits - 7) (n / 128) w)))
+
+-- small signed numbers of 32 bits
+both : (a b : Bool) → a ≡ true → b ≡ true → (a && b) ≡ true
+both true b e f = f
+both false b e f = cc
+
+s_1 : (g n : ℕ) (w : List ℕ) → n < 64 → length (signed (suc g) 18 n w) ≤ 1 + length w
+unfolding signed
+s_1 g n w h =
+    let low : is_low 18 n ≡ true = both (nat_lt n 64) (nat_lt n (2 ^ 17)) (lt-ltb n 64 h) (lt-ltb n (2 ^ 17) (omega arith)) in
+    chosen (is_low 18 n) (n ∷ w) (if is_high 18 n then (128 - (2 ^ 18 - n)) ∷ w else (n % 128 + 128) ∷ signed g (18 - 7) (n / 128) w) (1 + length w) (λ e. omega arith) (λ e. cc)
+
+s_2 : (g n : ℕ) (w : List ℕ) → n < 8192 → length (signed (suc (suc g)) 25 n w) ≤ 2 + length w
+unfolding signed
+s_2 g n w h =
+    chosen (is_low 25 n) (n ∷ w) (if is_high 25 n then (128 - (2 ^ 25 - n)) ∷ w else (n % 128 + 128) ∷ signed (suc g) (25 - 7) (n / 128) w) (2 + length w) (λ e. omega arith)
+    (λ e. chosen (is_high 25 n) ((128 - (2 ^ 25 - n)) ∷ w) ((n % 128 + 128) ∷ signed (suc g) (25 - 7) (n / 128) w) (2 + length w) (λ e. omega arith) (λ e. omega (arith, s_1 g (n / 128) w (omega arith))))
+
+s_3 : (g n : ℕ) (w : List ℕ) → n < 1048576 → length (signed (suc (suc (suc g))) 32 n w) ≤ 3 + length w
+unfolding signed
+s_3 g n w h =
+    chosen (is_low 32 n) (n ∷ w) (if is_high 32 n then (128 - (2 ^ 32 - n)) ∷ w else (n % 128 + 128) ∷ signed (suc (suc g)) (32 - 7) (n / 128) w) (3 + length w) (λ e. omega arith)
+    (λ e. chosen (is_high 32 n) ((128 - (2 ^ 32 - n)) ∷ w) ((n % 128 + 128) ∷ signed (suc (suc g)) (32 - 7) (n / 128) w) (3 + length w) (λ e. omega arith) (λ e. omega (arith, s_2 g (n / 128) w (omega arith))))
 
 -- the bytes of code
 abbrev pub bytes_of : List Instr → List ℕ
@@ -79,9 +102,9 @@ module _ (rest : List Instr) where
   unfolding put_instr
   z_call f h = plain (Call f) rest 4 (omega (arith, u_3 2 f (bytes_of rest) h))
 
-  pub z_indirect : size (CallIndirect 3 0 ∷ rest) ≤ 3 + size rest
+  pub z_indirect : size (CallIndirect 2 0 ∷ rest) ≤ 3 + size rest
   unfolding put_instr
-  z_indirect = plain (CallIndirect 3 0) rest 3 (omega (arith, u_1 4 3 (put_u32 0 (bytes_of rest)) (omega arith), u_1 4 0 (bytes_of rest) (omega arith)))
+  z_indirect = plain (CallIndirect 2 0) rest 3 (omega (arith, u_1 4 2 (put_u32 0 (bytes_of rest)) (omega arith), u_1 4 0 (bytes_of rest) (omega arith)))
 
   pub z_get : (x : ℕ) → x < 2097152 → size (LocalGet x ∷ rest) ≤ 4 + size rest
   unfolding put_instr
@@ -94,6 +117,27 @@ module _ (rest : List Instr) where
   pub z_global : (x : ℕ) → x < 128 → size (GlobalSet x ∷ rest) ≤ 2 + size rest
   unfolding put_instr
   z_global x h = plain (GlobalSet x) rest 2 (omega (arith, u_1 4 x (bytes_of rest) h))
+
+  pub z_tee : (x : ℕ) → x < 2097152 → size (LocalTee x ∷ rest) ≤ 4 + size rest
+  unfolding put_instr
+  z_tee x h = plain (LocalTee x) rest 4 (omega (arith, u_3 2 x (bytes_of rest) h))
+
+  -- the end of the heap, a call of the function that makes room, a small number, and the header of a block
+  pub z_heap : size (GlobalGet 2 ∷ rest) ≤ 2 + size rest
+  unfolding put_instr
+  z_heap = plain (GlobalGet 2) rest 2 (omega (arith, u_1 4 2 (bytes_of rest) (omega arith)))
+
+  pub z_room : size (Call 0 ∷ rest) ≤ 2 + size rest
+  unfolding put_instr
+  z_room = plain (Call 0) rest 2 (omega (arith, u_1 4 0 (bytes_of rest) (omega arith)))
+
+  pub z_small : (n : ℕ) → n < 1048576 → size (Const n ∷ rest) ≤ 4 + size rest
+  unfolding put_instr
+  z_small n h = plain (Const n) rest 4 (omega (arith, s_3 2 n (bytes_of rest) h))
+
+  pub z_header : size (Store 0 ∷ rest) ≤ 3 + size rest
+  unfolding put_instr
+  z_header = plain (Store 0) rest 3 (omega (arith, u_1 4 2 (put_u32 0 (bytes_of rest)) (omega arith), u_1 4 0 (bytes_of rest) (omega arith)))
 
   pub z_load : (o : ℕ) → o < 16384 → size (Load o ∷ rest) ≤ 4 + size rest
   unfolding put_instr

@@ -11,7 +11,7 @@ use Rattle.closure_lift.specs.declared.program.LiftedConstant.{LiftedConstant}
 use Rattle.wasm_core.specs.ModuleCondition.{All}
 use Rattle.wasm_core.specs.declared.instrs.Body.{Body}
 use Rattle.wasm_emit.specs.EmittedLocals.{top}
-use Rattle.wasm_emit.specs.EmittedModule.{alloc, box_function, function, constant, main_function}
+use Rattle.wasm_emit.specs.EmittedModule.{room_function, box_function, function, constant, main_function}
 use Rattle.wasm_emit.specs.EmittedBodies.{bodies_of, FewInFunction, FewInBlock, FewLocals, MemoryOrNot}
 use Rattle.wasm_emit.specs.Pushed.{function_in, MemoryOrLocals}
 use Rattle.wasm_emit.specs.declared.fault.EmitFault.{EmitFault}
@@ -57,7 +57,7 @@ module _ (Q : Lifted) (items : List Function) (i : ℕ) (f : Function) (lt : i <
 -- the next constant of a program
 module _ (Q : Lifted) (slice : List LiftedConstant) (k : ℕ) (c : LiftedConstant) (same : reverse slice ≡ Q.constants) (lt : k < length slice) (is : c ≡ get_or slice (length slice - 1 - k) c) where
   next_constant : constants_in Q (drop k Q.constants) ≡ renumber (place_in Q.constants) c.body ∷ constants_in Q (drop (k + 1) Q.constants)
-  next_constant = ap (λ (cs : List LiftedConstant). constants_in Q cs) (constant_next slice Q.constants k c 0 same lt is)
+  next_constant = ap (λ (cs : List LiftedConstant). constants_in Q cs) (constant_next slice Q.constants k c same lt is)
 
   pub constants_more : (a : Body) (v w out : List Body) → a ≡ constant (lifted_of Q) (renumber (place_in Q.constants) c.body) → w ≡ v ++ a ∷ [] → v ++ map (constant (lifted_of Q)) (constants_in Q (drop k Q.constants)) ≡ out → w ++ map (constant (lifted_of Q)) (constants_in Q (drop (k + 1) Q.constants)) ≡ out
   constants_more a v w out e more inv =
@@ -88,12 +88,12 @@ main_refused Q e (inl x) = inl x
 main_refused Q e (inr x) = inr (x.0, λ few. let h : top 0 (renumber (place_in Q.constants) Q.main) ≤ 50000 = few.main in omega (arith, h, x.1, top_renumbered (place_in Q.constants) 0 Q.main))
 
 -- the bodies of all functions, one part after another
-pub bodies_made : (P : Program) (v0 v1 v2 v3 v4 v5 : List Body) (a b m : Body) → v0 ≡ [] → v1 ≡ v0 ++ a ∷ [] → a ≡ alloc → v2 ≡ v1 ++ b ∷ [] → b ≡ box_function → v3 ≡ v2 ++ map (function P) P.functions → v4 ≡ v3 ++ map (constant P) P.constants →
+pub bodies_made : (P : Program) (v0 v1 v2 v3 v4 v5 : List Body) (a b m : Body) → v0 ≡ [] → v1 ≡ v0 ++ a ∷ [] → a ≡ room_function → v2 ≡ v1 ++ b ∷ [] → b ≡ box_function → v3 ≡ v2 ++ map (function P) P.functions → v4 ≡ v3 ++ map (constant P) P.constants →
     v5 ≡ v4 ++ m ∷ [] → m ≡ main_function P → v5 ≡ bodies_of P
 bodies_made P v0 v1 v2 v3 v4 v5 a b m e0 e1 ea e2 eb e3 e4 e5 em =
     let fs : List Body = map (function P) P.functions in
     let cs : List Body = map (constant P) P.constants in
-    let w2 : v2 ≡ alloc ∷ box_function ∷ [] =
+    let w2 : v2 ≡ room_function ∷ box_function ∷ [] =
     e2 ∙ ap (λ (zs : List Body). zs ++ b ∷ []) (e1 ∙ ap (λ (zs : List Body). zs ++ a ∷ []) e0) ∙ ap (λ (x : Body). a ∷ x ∷ []) eb ∙ ap (λ (x : Body). x ∷ box_function ∷ []) ea in
     e5 ∙ ap (λ (zs : List Body). zs ++ m ∷ []) (e4 ∙ ap (λ (zs : List Body). zs ++ cs) (e3 ∙ ap (λ (zs : List Body). zs ++ fs) w2))
-    ∙ ap (λ (zs : List Body). alloc ∷ box_function ∷ zs) (append_assoc fs cs (m ∷ [])) ∙ ap (λ (x : Body). alloc ∷ box_function ∷ (fs ++ (cs ++ x ∷ []))) em
+    ∙ ap (λ (zs : List Body). room_function ∷ box_function ∷ zs) (append_assoc fs cs (m ∷ [])) ∙ ap (λ (x : Body). room_function ∷ box_function ∷ (fs ++ (cs ++ x ∷ []))) em

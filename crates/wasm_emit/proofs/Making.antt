@@ -17,7 +17,7 @@ use Rattle.wasm_emit.proofs.Values.{Stands, s_box, s_empty, Fields, no_field, fi
 use Rattle.wasm_emit.proofs.Bytes.{word_same, word_put, word_put_at, put_other, put_length}
 use Rattle.wasm_core.specs.WordData.{IsBelow}
 use Rattle.wasm_emit.proofs.Holds.{address_below, fields_up, Same, Reads, in_local, in_field, Env, Keeps, keeps_same, keeps_set, set_this, stands_on, env_on, stands_small, found}
-use Rattle.wasm_emit.proofs.Rules.{Limits, Within, here, looser, r_const, r_get, r_set, r_load, r_store}
+use Rattle.wasm_emit.proofs.Rules.{Limits, Within, here, looser, r_const, r_get, r_tee, r_heap, r_set_heap, r_add, r_load, r_store}
 use Rattle.wasm_emit.proofs.Alloc.{Room, HasRunTime, allocated}
 
 pub all_size : {e : Vals} {as' : List Atom} {vs : Vals} → AllAre e as' vs → size vs ≡ length as'
@@ -64,10 +64,10 @@ module _ (M : Parts) (fixed : HasRunTime M) (cap : Limits) (Q : State → Type 0
       let ls' = slice_set ls d (I32 h) in
       let at : slice_get ls' d ≡ Some (I32 h) = set_this ls d (I32 h) has in
       let kept : Keeps d ls ls' = keeps_set ls d (I32 h) in
-      looser M cap Q (r_const M cap Q (omega arith) _ (allocated M fixed cap Q deep needed (omega arith) room (λ m0 p' kept_mem long in_max fits tight. r_set M cap Q (omega arith) (slice_get-get_or ls d (I32 0) has)
-      (r_get M cap Q (omega arith) at (r_const M cap Q (omega arith) header (r_store M cap Q (omega arith) (omega arith)
+      looser M cap Q (r_heap M cap Q (omega arith) (r_tee M cap Q (omega arith) (slice_get-get_or ls d (I32 0) has) (r_const M cap Q (omega arith) (4 * suc (length as')) (r_add M cap Q (omega arith) (omega (arith, room.fits, room.pages, fixed.small)) (r_set_heap M cap Q (omega arith)
+      (allocated M fixed cap Q deep needed (omega arith) room (λ m0 p' kept_mem long in_max fits tight. r_get M cap Q (omega arith) at (r_const M cap Q (omega arith) header (r_store M cap Q (omega arith) (omega arith)
       (filled (omega arith) all at (env_on (omega arith) (λ x lt. put_other m0 _ header x (inl (omega arith)) ∙ kept_mem x lt) (omega arith) kept env) (omega arith) in_max (put_length m0 _ header ∙ long) (omega (arith, room.above)) (λ m' low high long' fs.
       r_get M cap Q (omega arith) at (k m' p' ls' (record { long = long'; q = room.q + suc (length as'); aligned = omega (arith, room.aligned); above = omega (arith, room.above); fits = omega arith; inside = omega arith; tight = omega (arith, tight); pages = in_max })
       (λ x lt. low x (omega arith) ∙ put_other m0 _ header x (inl (omega arith)) ∙ kept_mem x lt) kept
-      (word_same (put_word m0 (h + 0) header) m' h (λ x a b. low x (omega arith)) ∙ word_put_at m0 (h + 0) h header (omega arith) (omega arith) fits_word) (fields_up (h + 4 * suc (length as')) (omega arith) fs))))))))))
+      (word_same (put_word m0 (h + 0) header) m' h (λ x a b. low x (omega arith)) ∙ word_put_at m0 (h + 0) h header (omega arith) (omega arith) fits_word) (fields_up (h + 4 * suc (length as')) (omega arith) fs)))))))))))))
       (omega arith) (omega arith)

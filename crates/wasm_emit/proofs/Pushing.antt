@@ -1,9 +1,8 @@
 -- Steps of the functions that push instructions.
-use Rattle.std.proofs.Common.{◌≡◌, ℕ, zero, suc, ◌+◌, ◌-◌, ◌*◌, ◌<◌, ◌≤◌, List, [], ◌∷◌, ◌++◌, length, append-nil, reverse, drop, get_or, max, Bool, true, false, refl, ap, sym, ◌∙◌, arith}
+use Rattle.std.proofs.Common.{◌≡◌, ℕ, zero, suc, ◌+◌, ◌-◌, ◌*◌, ◌<◌, ◌≤◌, List, [], ◌∷◌, ◌++◌, length, append-nil, reverse, drop, get_or, max, refl, ap, sym, ◌∙◌, arith}
 use Rattle.std.proofs.Math.ListN.{drop_of_length-le}
-use Rattle.std.proofs.lemmas.Bool.{eq-eqb, ne_eqb}
 use Rattle.std.proofs.lemmas.List.{drop_more, length-drop, get_or-reverse, length-reverse, reverse-append}
-use Rattle.std.specs.Prelude.{nat_eq, if◌then◌else◌, Result, Ok, Err, IfOk, OnOk}
+use Rattle.std.specs.Prelude.{Result, Ok, Err, IfOk, OnOk}
 use Rattle.anf_convert.specs.declared.program.Atom.{Atom}
 use Rattle.closure_lift.specs.Lifted.{Op, OConst, OApp, OCon, OClos, OCase, Block, RetAtom, LetAtom, Ret, Let, Branches, BNil, BCons, Fn, Program, Bound, AtomBound, OpBound, ret_of, lets_of}
 use Rattle.closure_lift.specs.LiftedProgram.{renumber_op, renumber, renumber_branches, renumber_functions, place_in, lifted_of}
@@ -16,7 +15,7 @@ use Rattle.closure_lift.specs.declared.program.LiftedOp.{LiftedOp}
 use Rattle.closure_lift.specs.declared.program.LiftedOp.TheVariants as lifted
 use Rattle.wasm_core.specs.declared.instrs.I32Op.TheVariants as op32
 use Rattle.wasm_core.specs.declared.instrs.Instr.{Instr}
-use Rattle.wasm_core.specs.declared.instrs.Instr.TheVariants.{Else, End, Call, LocalGet, LocalSet, I32 as Operation}
+use Rattle.wasm_core.specs.declared.instrs.Instr.TheVariants.{Else, End, Call, LocalGet, LocalSet, LocalTee, GlobalGet, GlobalSet, I32 as Operation}
 use Rattle.wasm_emit.specs.EmittedCode.{Place, InLocal, Const, Load, Store, IfWord, fields_of, atom, fill, block, code, empties, heads}
 use Rattle.wasm_emit.specs.EmittedLocals.{top, top_op, top_branches}
 use Rattle.wasm_emit.specs.Pushed.{Pushed, EmptyArm, BlockArm, ends, bound_code, bound_locals, renumber_bound, op_code, block_code}
@@ -105,26 +104,12 @@ fill_step env d slice atoms k a rest same lt is =
     let bytes : 4 * suc (length (drop (k + 1) atoms)) ≡ 4 * (length slice - k) = omega arith in
     ap (λ (xs : List Atom). fill env d xs rest) more ∙ ap (λ (o : ℕ). LocalGet d ∷ atom env a (Store o ∷ fill env d (drop (k + 1) atoms) rest)) bytes
 
--- a constant's place
-chosen : (b : Bool) (n : ℕ) → b ≡ true → (if b then 0 else suc n) ≡ 0
-chosen true n e = refl
-chosen false n e = cc
-
-passed : (b : Bool) (n : ℕ) → b ≡ false → (if b then 0 else suc n) ≡ suc n
-passed true n e = cc
-passed false n e = refl
-
-module _ (slice cs : List LiftedConstant) (k : ℕ) (c : LiftedConstant) (x : ℕ) (same : reverse slice ≡ cs) (lt : k < length slice) (is : c ≡ get_or slice (length slice - 1 - k) c) where
+-- the next constant
+module _ (slice cs : List LiftedConstant) (k : ℕ) (c : LiftedConstant) (same : reverse slice ≡ cs) (lt : k < length slice) (is : c ≡ get_or slice (length slice - 1 - k) c) where
   pub constant_next : drop k cs ≡ c ∷ drop (k + 1) cs
   constant_next =
       let size : length cs ≡ length slice = sym (ap length same) ∙ length-reverse slice in
       next_of cs k c (omega arith) (is ∙ sym (get_or-reverse slice k c lt) ∙ ap (λ (xs : List LiftedConstant). get_or xs k c) same)
-
-  pub place_here : c.name.0 ≡ x → place_in (drop k cs) x ≡ 0
-  place_here e = ap (λ (ds : List LiftedConstant). place_in ds x) constant_next ∙ chosen (nat_eq x c.name.0) (place_in (drop (k + 1) cs) x) (eq-eqb x c.name.0 (sym e))
-
-  pub place_after : (c.name.0 ≡ x → ⊥) → place_in (drop k cs) x ≡ suc (place_in (drop (k + 1) cs) x)
-  place_after e = ap (λ (ds : List LiftedConstant). place_in ds x) constant_next ∙ passed (nat_eq x c.name.0) (place_in (drop (k + 1) cs) x) (ne_eqb x c.name.0 (λ z. e (sym z)))
 
 -- a binding of a block was pushed
 pub block_more : (Q : Lifted) (items : List LiftedOp) (i : ℕ) (o : LiftedOp) (t : Block) (ps ps1 ps2 : List Place) (at next : ℕ) (old mid new out : List Instr) (g : List Instr → List Instr) → i < length items → o ≡ get_or items i o → ps1 ≡ ps →
@@ -250,22 +235,20 @@ on_ok (Ok x) f h = f h
 on_ok (Err e) f h = h
 
 -- a block of memory was made
-pub block_pushed : (env : List Place) (d header bytes words : ℕ) (as' : List Atom) (o0 o1 o2 o3 o4 o5 o6 o7 o8 : List Instr) → bytes ≡ 4 * words → words ≡ length as' + 1 →
-    Pushed o0 o1 (λ rest. Const bytes ∷ rest) → Pushed o1 o2 (λ rest. Call 0 ∷ rest) → Pushed o2 o3 (λ rest. LocalSet d ∷ rest) → Pushed o3 o4 (λ rest. LocalGet d ∷ rest) → Pushed o4 o5 (λ rest. Const header ∷ rest) →
-    Pushed o5 o6 (λ rest. Store 0 ∷ rest) → Pushed o6 o7 (fill env d as') → Pushed o7 o8 (λ rest. LocalGet d ∷ rest) → Pushed o0 o8 (block env d header as')
-block_pushed env d header bytes words as' o0 o1 o2 o3 o4 o5 o6 o7 o8 eb ew x0 x1 x2 x3 x4 x5 x6 x7 = record { is = is }
+pub block_pushed : (env : List Place) (d header bytes words : ℕ) (as' : List Atom) (o0 o1 o2 o3 o4 o5 o6 : List Instr) → bytes ≡ 4 * words → words ≡ length as' + 1 →
+    Pushed o0 o1 (λ rest. GlobalGet 2 ∷ LocalTee d ∷ Const bytes ∷ Operation op32.Add ∷ GlobalSet 2 ∷ Call 0 ∷ rest) → Pushed o1 o2 (λ rest. LocalGet d ∷ rest) → Pushed o2 o3 (λ rest. Const header ∷ rest) →
+    Pushed o3 o4 (λ rest. Store 0 ∷ rest) → Pushed o4 o5 (fill env d as') → Pushed o5 o6 (λ rest. LocalGet d ∷ rest) → Pushed o0 o6 (block env d header as')
+block_pushed env d header bytes words as' o0 o1 o2 o3 o4 o5 o6 eb ew x0 x1 x2 x3 x4 x5 = record { is = is }
   where
-    is : (rest : List Instr) → o8 ++ rest ≡ o0 ++ block env d header as' rest
+    is : (rest : List Instr) → o6 ++ rest ≡ o0 ++ block env d header as' rest
     is rest =
         let e : bytes ≡ 4 * suc (length as') = omega arith in
-        let i6 : List Instr = LocalGet d ∷ rest in
-        let i5 : List Instr = fill env d as' i6 in
-        let i4 : List Instr = Store 0 ∷ i5 in
-        let i3 : List Instr = Const header ∷ i4 in
-        let i2 : List Instr = LocalGet d ∷ i3 in
-        let i1 : List Instr = LocalSet d ∷ i2 in
-        let i0 : List Instr = Call 0 ∷ i1 in
-        x7.is rest ∙ x6.is i6 ∙ x5.is i5 ∙ x4.is i4 ∙ x3.is i3 ∙ x2.is i2 ∙ x1.is i1 ∙ x0.is i0 ∙ ap (λ (k : ℕ). o0 ++ (Const k ∷ i0)) e
+        let i4 : List Instr = LocalGet d ∷ rest in
+        let i3 : List Instr = fill env d as' i4 in
+        let i2 : List Instr = Store 0 ∷ i3 in
+        let i1 : List Instr = Const header ∷ i2 in
+        let i0 : List Instr = LocalGet d ∷ i1 in
+        x5.is rest ∙ x4.is i4 ∙ x3.is i3 ∙ x2.is i2 ∙ x1.is i1 ∙ x0.is i0 ∙ ap (λ (k : ℕ). o0 ++ (GlobalGet 2 ∷ LocalTee d ∷ Const k ∷ Operation op32.Add ∷ GlobalSet 2 ∷ Call 0 ∷ i0)) e
 
 -- a field of a block of memory was stored
 pub field_pushed : {a : Atom} (env : List Place) (d : ℕ) (slice atoms : List Atom) (k offset : ℕ) (o0 o1 o2 o3 out : List Instr) (g : List Instr → List Instr) → reverse slice ≡ atoms → k < length slice → offset ≡ 4 * (length slice - k) →

@@ -8,7 +8,7 @@ use Rattle.wasm_core.specs.declared.types.ConstValue.TheVariants.{I32}
 use Rattle.wasm_core.specs.declared.instrs.BlockType.{BlockType}
 use Rattle.wasm_core.specs.declared.instrs.I32Op.TheVariants as op32
 use Rattle.wasm_core.specs.declared.instrs.Instr.{Instr}
-use Rattle.wasm_core.specs.declared.instrs.Instr.TheVariants.{If, Else, End, Call, CallIndirect, LocalGet, LocalSet, GlobalGet, GlobalSet, MemorySize, MemoryGrow, I32 as Operation}
+use Rattle.wasm_core.specs.declared.instrs.Instr.TheVariants.{If, Else, End, Call, CallIndirect, LocalGet, LocalSet, LocalTee, GlobalGet, GlobalSet, MemorySize, MemoryGrow, I32 as Operation}
 use Rattle.wasm_core.specs.Parts.{Parts}
 use Rattle.wasm_core.specs.Memory.{word, put_word, zeroed}
 use Rattle.wasm_core.specs.Instance.{Func, func_of, table_of, greatest_pages, zero_of}
@@ -17,7 +17,7 @@ use Rattle.wasm_core.specs.RunTree.{Within as Tree}
 use Rattle.wasm_core.proofs.Rules.{Around}
 use Rattle.wasm_core.proofs.Rules as rule
 use Rattle.wasm_emit.specs.EmittedCode.{Load, Store as Put, Const}
-use Rattle.wasm_emit.specs.EmittedModule.{body, type_constant, type_alloc, type_function}
+use Rattle.wasm_emit.specs.EmittedModule.{body, type_main, type_constant, type_function}
 use Rattle.wasm_emit.specs.EmitLaws.{Spent}
 use Rattle.wasm_emit.proofs.Bytes.{Mem}
 
@@ -47,6 +47,10 @@ in_block k f = record f { labels = k ∷ f.labels }
 -- around a function that this one calls
 abbrev pub callee : Around → List ConstValue → List ConstValue → List Instr → Around
 callee f ls vals rest = record { keeps = true; labels = []; callers = record { keeps = f.keeps; locals = ls; labels = f.labels; operands = vals; rest = rest } ∷ f.callers }
+
+-- which gives nothing
+abbrev pub quiet : Around → Around
+quiet f = record f { keeps = false }
 
 -- a function returns a word
 abbrev pub returned : Limits → List Frame → Mem → ℕ → ℕ → ℕ → State
@@ -80,6 +84,9 @@ module _ (M : Parts) (cap : Limits) (Q : State → Type 0) where
 
     pub r_set : {x : ℕ} {old v : ConstValue} → length f.callers ≤ cap.frames → slice_get ls x ≡ Some old → Within M cap Q l u (here cap f m p h (slice_set ls x v) vals rest) → Within M cap Q (suc l) (suc u) (here cap f m p h ls (v ∷ vals) (LocalSet x ∷ rest))
     r_set deep e k = rule.r_set M cap.frames Q E deep e k
+
+    pub r_tee : {x : ℕ} {old v : ConstValue} → length f.callers ≤ cap.frames → slice_get ls x ≡ Some old → Within M cap Q l u (here cap f m p h (slice_set ls x v) (v ∷ vals) rest) → Within M cap Q (suc l) (suc u) (here cap f m p h ls (v ∷ vals) (LocalTee x ∷ rest))
+    r_tee deep e k = rule.r_tee M cap.frames Q E deep e k
 
     pub r_load : {a o : ℕ} → length f.callers ≤ cap.frames → a + o + 4 ≤ length m → Within M cap Q l u (here cap f m p h ls (I32 (word m (a + o)) ∷ vals) rest) → Within M cap Q (suc l) (suc u) (here cap f m p h ls (I32 a ∷ vals) (Load o ∷ rest))
     r_load deep e k = rule.r_load M cap.frames Q E deep e k
@@ -141,13 +148,16 @@ module _ (M : Parts) (cap : Limits) (Q : State → Type 0) where
     pub r_call_0 : (n : ℕ) {x : ℕ} {code : List Instr} → length f.callers ≤ cap.frames → func_of M x ≡ Some (func type_constant n code) → Within M cap Q l u (here cap (callee f ls vals rest) m p h (zeros n) [] code) → Within M cap Q (suc l) (suc u) (here cap f m p h ls vals (Call x ∷ rest))
     r_call_0 n {x} {code} deep e k = rule.r_call M cap.frames Q E {x = x} {h = func type_constant n code} deep e (omega arith) k
 
-    pub r_call_1 : (n : ℕ) {x : ℕ} {a : ConstValue} {code : List Instr} → length f.callers ≤ cap.frames → func_of M x ≡ Some (func type_alloc n code) → Within M cap Q l u (here cap (callee f ls vals rest) m p h (a ∷ zeros n) [] code) →
-        Within M cap Q (suc l) (suc u) (here cap f m p h ls (a ∷ vals) (Call x ∷ rest))
-    r_call_1 n {x} {a} {code} deep e k = rule.r_call M cap.frames Q E {x = x} {h = func type_alloc n code} deep e (omega arith) k
+    -- a function without parameters and result is called, and returns
+    pub r_call_nothing : (n : ℕ) {x : ℕ} {code : List Instr} → length f.callers ≤ cap.frames → func_of M x ≡ Some (func type_main n code) → Within M cap Q l u (here cap (quiet (callee f ls vals rest)) m p h (zeros n) [] code) → Within M cap Q (suc l) (suc u) (here cap f m p h ls vals (Call x ∷ rest))
+    r_call_nothing n {x} {code} deep e k = rule.r_call M cap.frames Q E {x = x} {h = func type_main n code} deep e (omega arith) k
 
-    pub r_indirect : (n : ℕ) {x y : ℕ} {a b : ConstValue} {code : List Instr} → length f.callers ≤ cap.frames → slice_get M.types 3 ≡ Some type_function → slice_get (table_of M) x ≡ Some (Some y) → func_of M y ≡ Some (func type_function n code) →
-        Within M cap Q l u (here cap (callee f ls vals rest) m p h (a ∷ b ∷ zeros n) [] code) → Within M cap Q (suc l) (suc u) (here cap f m p h ls (I32 x ∷ b ∷ a ∷ vals) (CallIndirect 3 0 ∷ rest))
-    r_indirect n {x} {y} {a} {b} {code} deep et d e k = rule.r_indirect M cap.frames Q E {x = x} {y = y} {index = 3} {t = type_function} {h = func type_function n code} deep et d e refl (omega arith) k
+    pub r_back_nothing : {ls' vals' : List ConstValue} {rest' : List Instr} → suc (length f.callers) ≤ cap.frames → Within M cap Q l u (here cap f m p h ls vals rest) → Within M cap Q (suc l) (suc u) (here cap (quiet (callee f ls vals rest)) m p h ls' vals' (End ∷ rest'))
+    r_back_nothing deep k = rule.one M cap.frames Q E deep (λ g. refl) k
+
+    pub r_indirect : (n : ℕ) {x y : ℕ} {a b : ConstValue} {code : List Instr} → length f.callers ≤ cap.frames → slice_get M.types 2 ≡ Some type_function → slice_get (table_of M) x ≡ Some (Some y) → func_of M y ≡ Some (func type_function n code) →
+        Within M cap Q l u (here cap (callee f ls vals rest) m p h (a ∷ b ∷ zeros n) [] code) → Within M cap Q (suc l) (suc u) (here cap f m p h ls (I32 x ∷ b ∷ a ∷ vals) (CallIndirect 2 0 ∷ rest))
+    r_indirect n {x} {y} {a} {b} {code} deep et d e k = rule.r_indirect M cap.frames Q E {x = x} {y = y} {index = 2} {t = type_function} {h = func type_function n code} deep et d e refl (omega arith) k
 
     -- a grow: granted within the maximum, or refused
     pub r_grow : {n : ℕ} → length f.callers ≤ cap.frames → (p + n ≤ greatest_pages M.memory → Within M cap Q l u (here cap f (m ++ zeroed n) (p + n) h ls (I32 p ∷ vals) rest)) →

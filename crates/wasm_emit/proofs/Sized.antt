@@ -5,7 +5,7 @@ use Rattle.wasm_core.specs.declared.instrs.I32Op.TheVariants as op32
 use Rattle.wasm_core.specs.declared.instrs.BlockType.TheVariants.{Value}
 use Rattle.wasm_core.specs.declared.types.ValType.TheVariants.{I32}
 use Rattle.wasm_core.specs.declared.instrs.Instr.{Instr}
-use Rattle.wasm_core.specs.declared.instrs.Instr.TheVariants.{Else, End, Call, CallIndirect, LocalGet, LocalSet, GlobalSet, I32 as Operation}
+use Rattle.wasm_core.specs.declared.instrs.Instr.TheVariants.{Else, End, Call, CallIndirect, LocalGet, LocalSet, LocalTee, GlobalGet, GlobalSet, I32 as Operation}
 use Rattle.wasm_core.specs.declared.instrs.Body.{Body}
 use Rattle.wasm_core.specs.declared.exports.Export.{Export}
 use Rattle.wasm_core.specs.declared.exports.ExportKind.TheVariants as kind
@@ -16,13 +16,13 @@ use Rattle.anf_convert.specs.declared.program.Atom.{Atom}
 use Rattle.anf_convert.specs.declared.program.Atom.TheVariants.{Var as AVar, Box as ABox, Empty as AEmpty}
 use Rattle.closure_lift.specs.Lifted.{Op, OConst, OApp, OCon, OClos, OCase, Block, RetAtom, LetAtom, Ret, Let, Branches, BNil, BCons, Program, Fn}
 use Rattle.closure_lift.specs.LiftedForm.{OpFits, BlockFits, BranchesFit, Formed, Limits}
-use Rattle.wasm_emit.specs.EmittedModule.{type_main, type_constant, type_alloc, type_function, word_global, body, alloc_code, main_index, function, constant, main_function, entries, module_of}
+use Rattle.wasm_emit.specs.EmittedModule.{type_main, type_constant, type_function, word_global, body, room_code, main_index, function, constant, main_function, entries, module_of}
 use Rattle.wasm_emit.specs.EmittedCode.{Load, Store, Const, IfWord, Place, InLocal, InField, fields_of, read, atom, fill, block, op, code, empties, heads, constant_index}
 use Rattle.wasm_emit.specs.EmittedLocals.{top, top_op, top_branches}
 use Rattle.wasm_emit.specs.EmitLaws.{CountsFit}
 use Rattle.wasm_emit.specs.Weight.{op_weight, weight, branches_weight, functions_weight, constants_weight, program_weight, EmitSized, LocalsBound}
 use Rattle.wasm_emit.proofs.Indices.{row_length, entries_length}
-use Rattle.wasm_emit.proofs.Lengths.{u_any, s_any, size, z_unreachable, z_if, z_else, z_end, z_op, z_call, z_indirect, z_get, z_set, z_global, z_load, z_store, z_const, body_size}
+use Rattle.wasm_emit.proofs.Lengths.{u_any, s_any, size, z_unreachable, z_if, z_else, z_end, z_op, z_call, z_indirect, z_get, z_set, z_tee, z_heap, z_room, z_small, z_header, z_global, z_load, z_store, z_const, body_size}
 
 abbrev Near : Place → Type 0
 Near (InLocal x) = x < 100000
@@ -51,12 +51,17 @@ fill_size ps d (a ∷ as') rest hd few h =
 
 block_size : (ps : List Place) (d header : ℕ) (as' : List Atom) (rest : List Instr) → d < 100000 → length as' < 2049 → All Near ps → size (block ps d header as' rest) ≤ 32 + 16 * length as' + size rest
 block_size ps d header as' rest hd few h =
-    let r6 = fill ps d as' (LocalGet d ∷ rest) in
-    let r5 = Store 0 ∷ r6 in
-    let r4 = Const header ∷ r5 in
-    let r3 = LocalGet d ∷ r4 in
-    let r2 = LocalSet d ∷ r3 in
-    omega (arith, z_const (Call 0 ∷ r2) (4 * suc (length as')), z_call r2 0 (omega arith), z_set r3 d (omega arith), z_get r4 d (omega arith), z_const r5 header, z_store r6 0 (omega arith), fill_size ps d as' (LocalGet d ∷ rest) hd few h, z_get rest d (omega arith))
+    let n = 4 * suc (length as') in
+    let r8 = fill ps d as' (LocalGet d ∷ rest) in
+    let r7 = Store 0 ∷ r8 in
+    let r6 = Const header ∷ r7 in
+    let r5 = LocalGet d ∷ r6 in
+    let r4 = Call 0 ∷ r5 in
+    let r3 = GlobalSet 2 ∷ r4 in
+    let r2 = Operation op32.Add ∷ r3 in
+    let r1 = Const n ∷ r2 in
+    let start : size (GlobalGet 2 ∷ LocalTee d ∷ r1) ≤ 15 + size r5 = omega (arith, z_heap (LocalTee d ∷ r1), z_tee r1 d (omega arith), z_small r2 n (omega arith), z_op r3 op32.Add, z_global r4 2 (omega arith), z_room r5) in
+    omega (arith, start, z_get r6 d (omega arith), z_const r7 header, z_header r8, fill_size ps d as' (LocalGet d ∷ rest) hd few h, z_get rest d (omega arith))
 
 -- what each of the two chains makes of a match's branches
 abbrev empties_weight : Branches → ℕ
@@ -79,7 +84,7 @@ module _ (P : Program) (m : ℕ) (counts : CountsFit P m) (limits : Limits P) wh
     op_size : (n d : ℕ) (ps : List Place) (x : Op) (rest : List Instr) → top_op d x < 100000 → All Near ps → OpFits P.functions (length P.constants) m n x → size (op P ps d x rest) ≤ op_weight x + size rest
     op_size n d ps (OConst x) rest le h fit = omega (arith, z_call rest (constant_index P x) (omega (arith, limits.few, counts.constants)))
     op_size n d ps (OApp f a) rest le h fit =
-        let r4 = CallIndirect 3 0 ∷ rest in
+        let r4 = CallIndirect 2 0 ∷ rest in
         let r3 = atom ps f (Load 0 ∷ r4) in
         let r2 = atom ps a r3 in
         omega (arith, atom_size ps f r2 h, atom_size ps a r3 h, atom_size ps f (Load 0 ∷ r4) h, z_load r4 0 (omega arith), z_indirect rest)
@@ -217,15 +222,15 @@ module _ (P : Program) (m : ℕ) (form : Formed P m) (counts : CountsFit P m) (l
   constants_size (t ∷ ts) bs w h = omega (arith, h 0 t (put_all put_body (map (constant P) ts ++ bs) w) refl, constants_size ts bs w (λ i t w e. h (suc i) t w e))
 
 -- the parts that are the same in all modules
-alloc_size : size alloc_code ≤ 100
+room_size : size room_code ≤ 100
 unfolding put_all put_instr unsigned signed
-alloc_size = omega arith
+room_size = omega arith
 
 box_size : size (Const 0 ∷ End ∷ []) ≤ 10
 unfolding put_all put_instr unsigned signed
 box_size = omega arith
 
-types_size : length (put_all put_func_type (type_main ∷ type_constant ∷ type_alloc ∷ type_function ∷ []) []) ≤ 40
+types_size : length (put_all put_func_type (type_main ∷ type_constant ∷ type_function ∷ []) []) ≤ 40
 unfolding put_all put_func_type unsigned
 types_size = omega arith
 
@@ -263,9 +268,9 @@ segment_size : (n : ℕ) (fs : List ℕ) → length (put_all put_segment (record
 unfolding put_all put_segment
 segment_size n fs = omega (arith, s_any 5 32 n (11 ∷ put_list put_u32 fs []), u_any 5 (length fs) (put_all put_u32 fs []), items_size 5 put_u32 fs [] (λ x w. u_any 5 x w))
 
-first_bodies : (bs : List Body) → length (put_all put_body (body 0 alloc_code ∷ body 0 (Const 0 ∷ End ∷ []) ∷ bs) []) ≤ 144 + length (put_all put_body bs [])
+first_bodies : (bs : List Body) → length (put_all put_body (body 0 room_code ∷ body 0 (Const 0 ∷ End ∷ []) ∷ bs) []) ≤ 144 + length (put_all put_body bs [])
 unfolding put_all
-first_bodies bs = omega (arith, body_size 0 alloc_code (put_body (body 0 (Const 0 ∷ End ∷ [])) (put_all put_body bs [])), alloc_size, body_size 0 (Const 0 ∷ End ∷ []) (put_all put_body bs []), box_size)
+first_bodies bs = omega (arith, body_size 0 room_code (put_body (body 0 (Const 0 ∷ End ∷ [])) (put_all put_body bs [])), room_size, body_size 0 (Const 0 ∷ End ∷ []) (put_all put_body bs []), box_size)
 
 last_body : (b : Body) → length (put_all put_body (b ∷ []) []) ≡ length (put_body b [])
 unfolding put_all
@@ -303,7 +308,7 @@ emit_sized P pages m form limits counts =
       types_size,
       section_size 3 put_u32 M.funcs s4,
       items_size 5 put_u32 M.funcs [] (λ x w. u_any 5 x w),
-      row_length {A = ℕ} P (λ f. 3) (λ t. 1) 0,
+      row_length {A = ℕ} P (λ f. 2) (λ t. 1) 0,
       section_size 4 put_table_type (sizes M.table) s5,
       table_size (suc n),
       section_size 5 put_limits (sizes M.memory) s6,

@@ -17,12 +17,12 @@ use Rattle.closure_lift.specs.Lifted.{Op, OConst, OApp, OCon, OClos, OCase, Bloc
 use Rattle.anf_convert.specs.AnfForm.{AtomFits, AtomsFit}
 use Rattle.closure_lift.specs.LiftedForm.{OpFits, BlockFits, BranchesFit, Limits}
 use Rattle.wasm_emit.specs.EmittedCode.{Const, Place, InLocal, InField, fields_of, read, atom, fill, block, op, code, empties, heads}
-use Rattle.wasm_emit.specs.EmittedModule.{alloc_code, function, constant, main_function, entries, module_of}
+use Rattle.wasm_emit.specs.EmittedModule.{room_code, function, constant, main_function, entries, module_of}
 use Rattle.wasm_emit.specs.EmittedLocals.{top, top_op, top_branches}
 use Rattle.wasm_emit.specs.EmitLaws.{CountsFit, EmitSpelled}
 use Rattle.wasm_emit.proofs.Staged.{scoped}
 use Rattle.wasm_emit.proofs.Indices.{row_length, entries_length}
-use Rattle.wasm_emit.proofs.Valid.{function_typed, constant_typed, main_typed, box_typed, alloc_typed}
+use Rattle.wasm_emit.proofs.Valid.{function_typed, constant_typed, main_typed, box_typed, room_typed}
 
 -- instructions whose immediates have their bits
 data Good : List Instr → Type 0 where
@@ -57,7 +57,7 @@ f_fill n ps d [] hd few h fit k = k
 f_fill n ps d (a ∷ as') hd few h fit k = fits (omega arith) (f_atom n ps a h fit.0 (fits (omega arith, omega arith) (f_fill n ps d as' hd (omega arith) h fit.1 k)))
 
 f_block : {rest : List Instr} (n : ℕ) (ps : List Place) (d header : ℕ) (as' : List Atom) → d < 100000 → header < 4294967296 → length as' < 2049 → All FitsPlace ps → AtomsFit n as' → Good rest → Good (block ps d header as' rest)
-f_block n ps d header as' hd hh few h fit k = fits (omega arith) (fits (omega arith) (fits (omega arith) (fits (omega arith) (fits hh (fits (omega arith, omega arith) (f_fill n ps d as' hd few h fit (fits (omega arith) k)))))))
+f_block n ps d header as' hd hh few h fit k = fits (omega arith) (fits (omega arith) (fits (omega arith) (fits tt (fits (omega arith) (fits (omega arith) (fits (omega arith) (fits hh (fits (omega arith, omega arith) (f_fill n ps d as' hd few h fit (fits (omega arith) k))))))))))
 
 module _ (P : Program) (m : ℕ) (counts : CountsFit P m) (limits : Limits P) where
   abbrev Fits : ℕ → Op → Type 0
@@ -107,19 +107,19 @@ entries_fit i (suc n) h = (omega arith, entries_fit (suc i) n (omega arith))
 body_fits : (M : Parts) (index n : ℕ) (is : List Instr) → n ≤ 50000 → TypedFunc M index (record { locals = replicate n I32; code = is }) → Good is → IsBody (record { locals = replicate n I32; code = is })
 body_fits M index n is few t all = (omega (arith, length-replicate {A = ValType} n I32), typed_is_closed M (t.type.params ++ replicate n I32) (results_of t.type) is t.typed (all_of all))
 
-alloc_good : Good alloc_code
-alloc_good = fits (omega arith) (fits (omega arith) (fits tt (fits (omega arith) (fits tt (fits tt (fits tt (fits tt (fits (omega arith)
-    (fits tt (fits (omega arith) (fits tt (fits (omega arith) (fits (omega arith) (fits tt (fits tt (fits tt (fits tt (fits (omega arith) (fits (omega arith) (fits (omega arith) (fits tt (fits (omega arith) (fits tt good)))))))))))))))))))))))
+room_good : Good room_code
+room_good = fits (omega arith) (fits (omega arith) (fits tt (fits tt (fits tt (fits tt (fits (omega arith)
+    (fits tt (fits (omega arith) (fits tt (fits (omega arith) (fits (omega arith) (fits tt (fits tt (fits tt (fits tt (fits tt good))))))))))))))))
 
 pub emit_spelled : EmitSpelled
 emit_spelled P pages m pos small form limits counts =
     let M = module_of P pages in
     let ok = scoped P m form in
-    let size = row_length {A = ℕ} P (λ f. 3) (λ t. 1) 0 in
+    let size = row_length {A = ℕ} P (λ f. 2) (λ t. 1) 0 in
     let bodies = row_length P (function P) (constant P) (main_function P) in
     record {
-      types = (omega arith, (omega arith, (omega arith, (omega arith, (omega arith, tt)))));
-      funcs = (omega (arith, size, limits.few, counts.constants), (omega arith, (omega arith, all_then IsU32 (λ f. 3) P.functions _ (λ i x e. omega arith) (all_then IsU32 (λ t. 1) P.constants _ (λ i x e. omega arith) (omega arith, tt)))));
+      types = (omega arith, (omega arith, (omega arith, (omega arith, tt))));
+      funcs = (omega (arith, size, limits.few, counts.constants), (omega arith, (omega arith, all_then IsU32 (λ f. 2) P.functions _ (λ i x e. omega arith) (all_then IsU32 (λ t. 1) P.constants _ (λ i x e. omega arith) (omega arith, tt)))));
       table = (omega (arith, limits.few), omega (arith, limits.few));
       memory = (omega arith, omega arith);
       globals = (omega arith, (omega arith, (omega arith, (omega arith, tt))));
@@ -128,11 +128,11 @@ emit_spelled P pages m pos small form limits counts =
       bodies = (
         omega (arith, bodies, limits.few, counts.constants),
         (
-          body_fits M 2 0 alloc_code (omega arith) (alloc_typed P (main_function P) [] [] pages) alloc_good,
+          body_fits M 0 0 room_code (omega arith) (room_typed P (main_function P) [] [] pages) room_good,
           (
-            body_fits M 3 0 (Const 0 ∷ End ∷ []) (omega arith) (box_typed P (main_function P) [] [] pages) (fits (omega arith) (fits tt good)),
+            body_fits M 2 0 (Const 0 ∷ End ∷ []) (omega arith) (box_typed P (main_function P) [] [] pages) (fits (omega arith) (fits tt good)),
             all_then IsBody (function P) P.functions _ (λ i fn at.
-                body_fits M 3 (top 2 fn.body - 2) (code P (InLocal 1 ∷ fields_of 0 fn.captured []) 2 fn.body (End ∷ [])) (counts.functions i fn at) (function_typed P (main_function P) [] [] pages fn (ok.functions i fn at))
+                body_fits M 2 (top 2 fn.body - 2) (code P (InLocal 1 ∷ fields_of 0 fn.captured []) 2 fn.body (End ∷ [])) (counts.functions i fn at) (function_typed P (main_function P) [] [] pages fn (ok.functions i fn at))
                 (f_code P m counts limits (suc fn.captured) 2 (InLocal 1 ∷ fields_of 0 fn.captured []) fn.body (omega (arith, counts.functions i fn at)) (omega arith, fields_fit 0 fn.captured [] (omega arith) (limits.captured i fn at) tt) (form.functions i fn at) (fits tt good)))
                 (all_then IsBody (constant P) P.constants _ (λ i t at.
                 body_fits M 1 (top 0 t) (code P [] 0 t (End ∷ [])) (counts.bodies i t at) (constant_typed P (main_function P) [] [] pages t (ok.constants i t at))

@@ -41,7 +41,7 @@ w_fill env d [] w = w
 w_fill env d (a ∷ as') w = w_cons tt (w_atom env a (w_cons tt (w_fill env d as' w)))
 
 w_block : {rest : List Instr} (env : List Place) (d header : ℕ) (as' : List Atom) → Wary rest → Wary (block env d header as' rest)
-w_block env d header as' w = w_cons tt (w_cons tt (w_cons tt (w_cons tt (w_cons tt (w_cons tt (w_fill env d as' (w_cons tt w)))))))
+w_block env d header as' w = w_cons tt (w_cons tt (w_cons tt (w_cons tt (w_cons (λ z. omega arith) (w_cons tt (w_cons tt (w_cons tt (w_cons tt (w_fill env d as' (w_cons tt w))))))))))
 
 module _ (P : Program) where
   mutual
@@ -88,8 +88,8 @@ mapped_then h (x ∷ xs) bs a r zero g e = wary_body e (a x)
 mapped_then h (x ∷ xs) bs a r (suc f) g e = mapped_then h xs bs a r f g e
 
 all_wary : (P : Program) (main : Body) (gs : List GlobalDef) (es : List Export) (pages : ℕ) → Wary main.code → AllWary (module_with P main gs es pages).bodies
-all_wary P main gs es pages wm zero g e = wary_body e (w_cons tt (w_cons tt (w_cons tt (w_cons tt (w_cons tt (w_cons tt (w_cons tt (w_cons tt
-    (w_cons tt (w_grow refl (w_cons tt (w_cons tt (w_cons tt (w_cons tt (w_cons tt (w_cons tt (w_cons tt (w_cons tt (w_cons tt (w_cons (λ z. omega arith) (w_cons tt w_nil)))))))))))))))))))))
+all_wary P main gs es pages wm zero g e = wary_body e (w_cons tt (w_cons tt (w_cons tt (w_cons tt (w_cons tt (w_cons tt (w_cons tt (w_grow refl
+    (w_cons tt (w_cons tt (w_cons tt (w_cons tt (w_cons tt (w_cons tt w_nil))))))))))))))
 all_wary P main gs es pages wm (suc zero) g e = wary_body e (w_cons tt (w_cons tt w_nil))
 all_wary P main gs es pages wm (suc (suc f)) g e =
     mapped_then (function P) P.functions (map (constant P) P.constants ++ main ∷ []) (λ x. w_code P _ 2 x.body (w_cons tt w_nil))

@@ -6,12 +6,12 @@ use Rattle.std.proofs.lemmas.Option.{slice_get-get_or}
 use Rattle.wasm_core.specs.declared.types.ValType.TheVariants.{I32}
 use Rattle.wasm_core.specs.declared.instrs.BlockType.TheVariants.{Value}
 use Rattle.wasm_core.specs.declared.instrs.Instr.{Instr}
-use Rattle.wasm_core.specs.declared.instrs.Instr.TheVariants.{Unreachable, Else, End, CallIndirect, LocalGet, LocalSet}
+use Rattle.wasm_core.specs.declared.instrs.Instr.TheVariants.{Unreachable, Else, End, CallIndirect, LocalGet, LocalSet, LocalTee}
 use Rattle.wasm_core.specs.declared.types.GlobalDef.{GlobalDef}
 use Rattle.wasm_core.specs.declared.exports.Export.{Export}
 use Rattle.wasm_core.specs.declared.instrs.Body.{Body}
 use Rattle.wasm_core.specs.Parts.{Parts}
-use Rattle.wasm_core.specs.ModuleTyping.{Types, Operands, Of, Effect, getting, setting, calling as calling_type, Typed, done, unreachable}
+use Rattle.wasm_core.specs.ModuleTyping.{Types, Operands, Of, Effect, getting, setting, keeping, calling as calling_type, Typed, done, unreachable}
 use Rattle.wasm_core.proofs.TypedRules.{t_plain, t_two_arms}
 use Rattle.anf_convert.specs.declared.program.Atom.{Atom}
 use Rattle.anf_convert.specs.declared.program.Atom.TheVariants.{Var as AVar, Box as ABox, Empty as AEmpty}
@@ -55,13 +55,13 @@ front_fill env d [] = same_front
 front_fill env d (a ∷ as') = cons_front (LocalGet d) then (front_atom env a then (cons_front (Store (4 * suc (length as'))) then front_fill env d as'))
 
 front_block : (env : List Place) (d header : ℕ) (as' : List Atom) → Front (block env d header as')
-front_block env d header as' = cons_front _ then (cons_front _ then (cons_front _ then (cons_front _ then (cons_front _ then (cons_front _ then (front_fill env d as' then cons_front (LocalGet d)))))))
+front_block env d header as' = cons_front _ then (cons_front _ then (cons_front _ then (cons_front _ then (cons_front _ then (cons_front _ then (cons_front _ then (cons_front _ then (cons_front _ then (front_fill env d as' then cons_front (LocalGet d))))))))))
 
 module _ (P : Program) where
   mutual
     pub front_op : (env : List Place) (d : ℕ) (x : Op) → Front (op P env d x)
     front_op env d (OConst x) = cons_front _
-    front_op env d (OApp f a) = front_atom env f then (front_atom env a then (front_atom env f then (cons_front (Load 0) then cons_front (CallIndirect 3 0))))
+    front_op env d (OApp f a) = front_atom env f then (front_atom env a then (front_atom env f then (cons_front (Load 0) then cons_front (CallIndirect 2 0))))
     front_op env d (OCon c as') = front_block env d _ as'
     front_op env d (OClos g as') = front_block env d _ as'
     front_op env d (OCase a bs) = front_atom env a then (cons_front (LocalSet d) then front_empties env d 0 bs (heads P env d 0 bs) (front_heads env d 0 bs))
@@ -124,6 +124,9 @@ module _ (P : Program) (main : Body) (gs : List GlobalDef) (es : List Export) (p
     pub t_set : {x : ℕ} → x < size → Typed m ls rs labels ts rest us → Typed m ls rs labels (Of I32 ∷ ts) (LocalSet x ∷ rest) us
     t_set {x} lt k = t_plain ts (ap (option_map {U = Effect} setting) (all x lt)) k
 
+    t_tee : {x : ℕ} → x < size → Typed m ls rs labels (Of I32 ∷ ts) rest us → Typed m ls rs labels (Of I32 ∷ ts) (LocalTee x ∷ rest) us
+    t_tee {x} lt k = t_plain ts (ap (option_map {U = Effect} keeping) (all x lt)) k
+
     t_read : {d n : ℕ} {ps : List Place} (i : ℕ) → d ≤ size → Places d ps n → i < n → Typed m ls rs labels (Of I32 ∷ ts) rest us → Typed m ls rs labels ts (read (slice_get ps i) rest) us
     t_read i le none lt k = absurd (omega arith)
     t_read zero le (local b h) lt k = t_get (omega arith) k
@@ -142,7 +145,7 @@ module _ (P : Program) (main : Body) (gs : List GlobalDef) (es : List Export) (p
     t_fill {ts = ts} (a ∷ as') le h lt k = t_get (omega arith) (t_atom a (omega arith) h lt.0 (t_plain ts refl (t_fill as' le h lt.1 k)))
 
     t_block : {d n : ℕ} {ps : List Place} {ts : Operands} {rest : List Instr} (header : ℕ) (as' : List Atom) → suc d ≤ size → Places d ps n → AtomsOk n as' → Typed m ls rs labels (Of I32 ∷ ts) rest us → Typed m ls rs labels ts (block ps d header as' rest) us
-    t_block {ts = ts} header as' le h lt k = t_plain ts refl (t_plain ts refl (t_set (omega arith) (t_get (omega arith) (t_plain (Of I32 ∷ ts) refl (t_plain ts refl (t_fill as' le h lt (t_get (omega arith) k)))))))
+    t_block {ts = ts} header as' le h lt k = t_plain ts refl (t_tee (omega arith) (t_plain (Of I32 ∷ ts) refl (t_plain ts refl (t_plain ts refl (t_plain ts refl (t_get (omega arith) (t_plain (Of I32 ∷ ts) refl (t_plain ts refl (t_fill as' le h lt (t_get (omega arith) k))))))))))
 
   arms : {labels : List Types} {ts us : Operands} {rest : List Instr} {g1 g2 : List Instr → List Instr} → Front g1 → Front g2 → Typed m ls rs ((I32 ∷ []) ∷ labels) [] (g1 []) (Of I32 ∷ []) → Typed m ls rs ((I32 ∷ []) ∷ labels) [] (g2 []) (Of I32 ∷ []) →
       Typed m ls rs labels (Of I32 ∷ ts) rest us → Typed m ls rs labels (Of I32 ∷ ts) (IfWord ∷ g1 (Else ∷ g2 (End ∷ rest))) us
@@ -151,7 +154,7 @@ module _ (P : Program) (main : Body) (gs : List GlobalDef) (es : List Export) (p
 
   mutual
     pub t_op : {labels : List Types} {ts us : Operands} {rest : List Instr} {n : ℕ} (d : ℕ) (ps : List Place) (x : Op) → top_op d x ≤ size → Places d ps n → OpOk P n x → Typed m ls rs labels (Of I32 ∷ ts) rest us → Typed m ls rs labels ts (op P ps d x rest) us
-    t_op {ts = ts} d ps (OConst x) le h ok k = t_plain ts (ap (λ (o : Option ℕ). option_map {U = Effect} calling_type (option_and_then (λ index. slice_get m.types index) o)) (constant_in P (λ f. 3) (λ t. 1) 0 x (get_or P.constants x P.main) (slice_get-get_or P.constants x P.main ok))) k
+    t_op {ts = ts} d ps (OConst x) le h ok k = t_plain ts (ap (λ (o : Option ℕ). option_map {U = Effect} calling_type (option_and_then (λ index. slice_get m.types index) o)) (constant_in P (λ f. 2) (λ t. 1) 0 x (get_or P.constants x P.main) (slice_get-get_or P.constants x P.main ok))) k
     t_op {ts = ts} d ps (OApp f a) le h ok k = t_atom f le h ok.0 (t_atom a le h ok.1 (t_atom f le h ok.0 (t_plain (Of I32 ∷ Of I32 ∷ ts) refl (t_plain ts refl k))))
     t_op d ps (OCon c as') le h ok k = t_block _ as' le h ok k
     t_op d ps (OClos g as') le h ok k = t_block _ as' le h ok k

@@ -6,7 +6,7 @@ use Rattle.wasm_core.specs.declared.types.ValType.TheVariants.{I32}
 use Rattle.wasm_core.specs.declared.types.GlobalDef.{GlobalDef}
 use Rattle.wasm_core.specs.declared.exports.Export.{Export}
 use Rattle.wasm_core.specs.declared.instrs.I32Op.TheVariants as op32
-use Rattle.wasm_core.specs.declared.instrs.Instr.TheVariants.{Unreachable, End, GlobalGet, GlobalSet, LocalGet, LocalSet, MemorySize, MemoryGrow, I32 as Operation}
+use Rattle.wasm_core.specs.declared.instrs.Instr.TheVariants.{Unreachable, End, GlobalGet, GlobalSet, LocalSet, MemorySize, MemoryGrow, I32 as Operation}
 use Rattle.wasm_core.specs.declared.instrs.Body.{Body}
 use Rattle.wasm_core.specs.declared.instrs.Instr.{Instr}
 use Rattle.wasm_core.specs.Parts.{Parts}
@@ -17,7 +17,7 @@ use Rattle.closure_lift.specs.Lifted.{OApp, Block, Program, Fn}
 use Rattle.wasm_emit.specs.CallLaws.{CallValid}
 use Rattle.anf_convert.specs.declared.program.Atom.TheVariants.{Var as AVar}
 use Rattle.wasm_emit.specs.EmittedCode.{Load, Const, IfOnly, InLocal, fields_of, code}
-use Rattle.wasm_emit.specs.EmittedModule.{module_with, alloc, box_function, function, constant, main_function, type_main, type_constant, type_alloc, type_function, entries, module_of}
+use Rattle.wasm_emit.specs.EmittedModule.{module_with, room_function, box_function, function, constant, main_function, type_main, type_constant, type_function, entries, module_of}
 use Rattle.wasm_emit.specs.CallModule.{applied, call_function, call_globals, call_exports, module_of_call}
 use Rattle.wasm_emit.specs.EmittedLocals.{top}
 use Rattle.wasm_emit.specs.EmitLaws.{EmitValid}
@@ -83,7 +83,7 @@ module _ (P : Program) (main : Body) (gs : List GlobalDef) (es : List Export) (p
   two_more n (suc zero) h = refl
   two_more n (suc (suc x)) h = all_i32 n x (omega arith)
 
-  pub function_typed : (fn : Fn) → BlockOk P (suc fn.captured) fn.body → TypedFunc M 3 (function P fn)
+  pub function_typed : (fn : Fn) → BlockOk P (suc fn.captured) fn.body → TypedFunc M 2 (function P fn)
   function_typed fn ok =
       let n = top 2 fn.body - 2 in
       let ps = InLocal 1 ∷ fields_of 0 fn.captured [] in
@@ -125,20 +125,18 @@ module _ (P : Program) (main : Body) (gs : List GlobalDef) (es : List Export) (p
     };
   }
 
-  pub box_typed : TypedFunc M 3 box_function
+  pub box_typed : TypedFunc M 2 box_function
   box_typed = record { type = type_function; found = refl; typed = t_body M (I32 ∷ I32 ∷ []) (I32 ∷ []) (Const 0 ∷ []) (t_plain [] refl done) }
 
-  pub alloc_typed : TypedFunc M 2 alloc
-  alloc_typed = record {
-    type = type_alloc;
+  pub room_typed : TypedFunc M 0 room_function
+  room_typed = record {
+    type = type_main;
     found = refl;
-    typed = t_body M (I32 ∷ []) (I32 ∷ []) (GlobalGet 2 ∷ LocalGet 0 ∷ Operation op32.Add ∷ Const 65536 ∷ MemorySize ∷ Operation op32.Mul ∷ Operation op32.GtU ∷ IfOnly ∷
-        Const 1 ∷ MemoryGrow ∷ Const (2 ^ 32 - 1) ∷ Operation op32.Eq ∷ GlobalSet 1 ∷ GlobalGet 1 ∷ IfOnly ∷ Unreachable ∷ End ∷ End ∷
-        GlobalGet 2 ∷ GlobalGet 2 ∷ LocalGet 0 ∷ Operation op32.Add ∷ GlobalSet 2 ∷ [])
-        (t_plain [] refl (t_plain (Of I32 ∷ []) refl (t_plain [] refl (t_plain (Of I32 ∷ []) refl (t_plain (Of I32 ∷ Of I32 ∷ []) refl (t_plain (Of I32 ∷ []) refl (t_plain [] refl
+    typed = t_body M [] [] (GlobalGet 2 ∷ Const 65536 ∷ MemorySize ∷ Operation op32.Mul ∷ Operation op32.GtU ∷ IfOnly ∷
+        Const 1 ∷ MemoryGrow ∷ Const (2 ^ 32 - 1) ∷ Operation op32.Eq ∷ GlobalSet 1 ∷ GlobalGet 1 ∷ IfOnly ∷ Unreachable ∷ End ∷ End ∷ [])
+        (t_plain [] refl (t_plain (Of I32 ∷ []) refl (t_plain (Of I32 ∷ Of I32 ∷ []) refl (t_plain (Of I32 ∷ []) refl (t_plain [] refl
         (t_one_arm {body = Const 1 ∷ MemoryGrow ∷ Const (2 ^ 32 - 1) ∷ Operation op32.Eq ∷ GlobalSet 1 ∷ GlobalGet 1 ∷ IfOnly ∷ Unreachable ∷ End ∷ []}
-        (t_plain [] refl (t_plain [] refl (t_plain (Of I32 ∷ []) refl (t_plain [] refl (t_plain [] refl (t_plain [] refl (t_one_arm {body = Unreachable ∷ []} (unreachable done) done)))))))
-        (t_plain [] refl (t_plain (Of I32 ∷ []) refl (t_plain (Of I32 ∷ Of I32 ∷ []) refl (t_plain (Of I32 ∷ []) refl (t_plain (Of I32 ∷ []) refl done)))))))))))));
+        (t_plain [] refl (t_plain [] refl (t_plain (Of I32 ∷ []) refl (t_plain [] refl (t_plain [] refl (t_plain [] refl (t_one_arm {body = Unreachable ∷ []} (unreachable done) done))))))) done))))));
   }
 
   -- two lists of functions, one of type indices and one of bodies, side by side
@@ -158,24 +156,24 @@ module _ (P : Program) (main : Body) (gs : List GlobalDef) (es : List Export) (p
   one_typed ok (suc f) i b e d = no e
 
   bodies_typed : ProgramOk P → TypedFunc M 0 main → AllTyped M.funcs M.bodies
-  bodies_typed ok last zero i b e d = same_typed alloc_typed e d
+  bodies_typed ok last zero i b e d = same_typed room_typed e d
   bodies_typed ok last (suc zero) i b e d = same_typed box_typed e d
   bodies_typed ok last (suc (suc f)) i b e d =
-      mapped_then 3 (function P) P.functions (map (λ t. 1) P.constants ++ 0 ∷ []) (map (constant P) P.constants ++ main ∷ []) (λ j x at. function_typed x (ok.functions j x at))
+      mapped_then 2 (function P) P.functions (map (λ t. 1) P.constants ++ 0 ∷ []) (map (constant P) P.constants ++ main ∷ []) (λ j x at. function_typed x (ok.functions j x at))
       (mapped_then 1 (constant P) P.constants (0 ∷ []) (main ∷ []) (λ j x at. constant_typed x (ok.constants j x at)) (one_typed last)) f i b e d
 
   -- the parts outside the bodies
-  few_types : (xs : List Fn) (ys : List Block) (f index : ℕ) → slice_get (map (λ x. 3) xs ++ (map (λ y. 1) ys ++ 0 ∷ [])) f ≡ Some index → index < 4
+  few_types : (xs : List Fn) (ys : List Block) (f index : ℕ) → slice_get (map (λ x. 2) xs ++ (map (λ y. 1) ys ++ 0 ∷ [])) f ≡ Some index → index < 3
   few_types [] [] zero index e = let p : 0 ≡ index = inj e in omega (arith, p)
   few_types [] [] (suc f) index e = no e
   few_types [] (y ∷ ys) zero index e = let p : 1 ≡ index = inj e in omega (arith, p)
   few_types [] (y ∷ ys) (suc f) index e = few_types [] ys f index e
-  few_types (x ∷ xs) ys zero index e = let p : 3 ≡ index = inj e in omega (arith, p)
+  few_types (x ∷ xs) ys zero index e = let p : 2 ≡ index = inj e in omega (arith, p)
   few_types (x ∷ xs) ys (suc f) index e = few_types xs ys f index e
 
   funcs_sound : IsSound Functions M
-  funcs_sound zero index e = let p : 2 ≡ index = inj e in omega (arith, p)
-  funcs_sound (suc zero) index e = let p : 3 ≡ index = inj e in omega (arith, p)
+  funcs_sound zero index e = let p : 0 ≡ index = inj e in omega (arith, p)
+  funcs_sound (suc zero) index e = let p : 2 ≡ index = inj e in omega (arith, p)
   funcs_sound (suc (suc f)) index e = few_types P.functions P.constants f index e
 
   globals_sound : ((x : ℕ) (g : GlobalDef) → slice_get gs x ≡ Some g → type_of g.init ≡ g.ty) → IsSound Globals M
@@ -190,11 +188,11 @@ module _ (P : Program) (main : Body) (gs : List GlobalDef) (es : List Export) (p
   entry_low i (suc n) (suc x) f e = let h = entry_low (suc i) n x f e in omega (arith, h)
 
   segment_sound : IsSound Elements M
-  segment_sound zero s e = subst (IsSegment M) (inj e) (record { table = refl; funcs = λ x f h. omega (arith, entry_low 1 (suc (length P.functions)) x f h, row_length {A = ℕ} P (λ f. 3) (λ t. 1) 0) })
+  segment_sound zero s e = subst (IsSegment M) (inj e) (record { table = refl; funcs = λ x f h. omega (arith, entry_low 1 (suc (length P.functions)) x f h, row_length {A = ℕ} P (λ f. 2) (λ t. 1) 0) })
   segment_sound (suc i) s e = no e
 
   exports_there : ((i : ℕ) (e : Export) → slice_get es i ≡ Some e → IsThere M e.kind e.index) → EachIsThere M
-  exports_there more zero e h = subst (λ (e : Export). IsThere M e.kind e.index) (inj h) (omega (arith, row_length {A = ℕ} P (λ f. 3) (λ t. 1) 0))
+  exports_there more zero e h = subst (λ (e : Export). IsThere M e.kind e.index) (inj h) (omega (arith, row_length {A = ℕ} P (λ f. 2) (λ t. 1) 0))
   exports_there more (suc zero) e h = subst (λ (e : Export). IsThere M e.kind e.index) (inj h) (refl, refl)
   exports_there more (suc (suc zero)) e h = subst (λ (e : Export). IsThere M e.kind e.index) (inj h) (omega arith)
   exports_there more (suc (suc (suc zero))) e h = subst (λ (e : Export). IsThere M e.kind e.index) (inj h) (omega arith)
@@ -207,7 +205,7 @@ module _ (P : Program) (main : Body) (gs : List GlobalDef) (es : List Export) (p
   all_sound pos small globals names there Globals = globals
   all_sound pos small globals names there Exported = (names, there)
   all_sound pos small globals names there Elements = segment_sound
-  all_sound pos small globals names there Codes = omega (arith, row_length {A = ℕ} P (λ f. 3) (λ t. 1) 0, row_length P (function P) (constant P) main)
+  all_sound pos small globals names there Codes = omega (arith, row_length {A = ℕ} P (λ f. 2) (λ t. 1) 0, row_length P (function P) (constant P) main)
 
 module _ (P : Program) (pages : ℕ) where
   key_at : (i : ℕ) (e : Export) → slice_get (module_of P pages).exports i ≡ Some e → slice_get keys i ≡ Some (key e.name)

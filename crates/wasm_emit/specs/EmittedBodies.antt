@@ -4,13 +4,13 @@ use Rattle.closure_lift.specs.Lifted.{Block, Fn, Program}
 use Rattle.wasm_core.specs.ModuleCondition.{All}
 use Rattle.wasm_core.specs.declared.instrs.Body.{Body}
 use Rattle.wasm_emit.specs.EmittedLocals.{top}
-use Rattle.wasm_emit.specs.EmittedModule.{alloc, box_function, function, constant, main_function}
+use Rattle.wasm_emit.specs.EmittedModule.{room_function, box_function, function, constant, main_function}
 use Rattle.wasm_emit.specs.declared.fault.EmitFault.{EmitFault}
 use Rattle.wasm_emit.specs.declared.fault.EmitFault.TheVariants as fault
 
 -- the bodies of all functions, in the order of their indices
 abbrev pub bodies_of : Program → List Body
-bodies_of P = alloc ∷ box_function ∷ (map (function P) P.functions ++ (map (constant P) P.constants ++ main_function P ∷ []))
+bodies_of P = room_function ∷ box_function ∷ (map (function P) P.functions ++ (map (constant P) P.constants ++ main_function P ∷ []))
 
 -- a function has at most 50,000 locals besides its parameters
 abbrev pub FewInFunction : Fn → Type 0

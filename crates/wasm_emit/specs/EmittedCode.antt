@@ -9,7 +9,7 @@ use Rattle.wasm_core.specs.declared.instrs.BlockType.TheVariants.{Empty, Value}
 use Rattle.wasm_core.specs.declared.instrs.Access.{Access}
 use Rattle.wasm_core.specs.declared.instrs.I32Op.TheVariants as op32
 use Rattle.wasm_core.specs.declared.instrs.Instr.{Instr}
-use Rattle.wasm_core.specs.declared.instrs.Instr.TheVariants.{Unreachable, If, Else, End, Call, CallIndirect, LocalGet, LocalSet, I32Load, I32Store, I32Const, I32 as Operation}
+use Rattle.wasm_core.specs.declared.instrs.Instr.TheVariants.{Unreachable, If, Else, End, Call, CallIndirect, LocalGet, LocalSet, LocalTee, GlobalGet, GlobalSet, I32Load, I32Store, I32Const, I32 as Operation}
 -- where a variable's word is: in a local, or in a field of the block whose address is in a local
 pub use Rattle.wasm_emit.specs.declared.places.Place.{Place}
 pub use Rattle.wasm_emit.specs.declared.places.Place.TheVariants.{Local as InLocal, Field as InField}
@@ -34,9 +34,9 @@ IfWord = If (Value type.I32)
 abbrev pub IfOnly : Instr
 IfOnly = If Empty
 
--- a call of a closure's function, by its entry of table 0; all have the type with number 3
+-- a call of a closure's function, by its entry of table 0; all have the type with number 2
 abbrev pub CallClosure : Instr
-CallClosure = CallIndirect 3 0
+CallClosure = CallIndirect 2 0
 
 -- the n fields of a block, the last one first
 abbrev pub fields_of : ℕ → ℕ → List Place → List Place
@@ -58,10 +58,10 @@ abbrev pub fill : List Place → ℕ → List Atom → List Instr → List Instr
 fill env d [] rest = rest
 fill env d (a ∷ as') rest = LocalGet d ∷ atom env a (Store (4 * suc (length as')) ∷ fill env d as' rest)
 
--- function 0 takes a number of bytes and gives the address of as many
+-- a block begins at the end of the heap, which is global 2 and moves past the block; function 0 makes sure that memory reaches it
 abbrev pub block : List Place → ℕ → ℕ → List Atom → List Instr → List Instr
 block env d header as' rest =
-    Const (4 * suc (length as')) ∷ Call 0 ∷ LocalSet d ∷ LocalGet d ∷ Const header ∷ Store 0 ∷ fill env d as' (LocalGet d ∷ rest)
+    GlobalGet 2 ∷ LocalTee d ∷ Const (4 * suc (length as')) ∷ Operation op32.Add ∷ GlobalSet 2 ∷ Call 0 ∷ LocalGet d ∷ Const header ∷ Store 0 ∷ fill env d as' (LocalGet d ∷ rest)
 
 -- a closure's function, whose entry of the table is the first word of its block, is called with the closure and the argument
 abbrev pub application : List Place → Atom → Atom → List Instr → List Instr

@@ -9,40 +9,36 @@ use Rattle.wasm_core.specs.declared.exports.Export.{Export}
 use Rattle.wasm_core.specs.declared.exports.ExportKind.TheVariants as kind
 use Rattle.wasm_core.specs.declared.instrs.I32Op.TheVariants as op32
 use Rattle.wasm_core.specs.declared.instrs.Instr.{Instr}
-use Rattle.wasm_core.specs.declared.instrs.Instr.TheVariants.{Unreachable, End, LocalGet, GlobalGet, GlobalSet, MemorySize, MemoryGrow, I32 as Operation}
+use Rattle.wasm_core.specs.declared.instrs.Instr.TheVariants.{Unreachable, End, GlobalGet, GlobalSet, MemorySize, MemoryGrow, I32 as Operation}
 use Rattle.wasm_core.specs.declared.instrs.Body.{Body}
 use Rattle.wasm_core.specs.Parts.{Parts}
 use Rattle.wasm_emit.specs.EmittedCode.{Const, IfOnly, InLocal, fields_of, code}
 use Rattle.wasm_emit.specs.EmittedLocals.{top}
 
--- types of functions: main's, a constant's, that of the function that gives memory, and that of the program's functions, which take their closure and an argument
+-- types of functions: that of main and of the function that makes room, a constant's, and that of the program's functions, which take their closure and an argument
 abbrev pub type_main : FuncType
 type_main = record { params = []; result = None }
 
 abbrev pub type_constant : FuncType
 type_constant = record { params = []; result = Some type.I32 }
 
-abbrev pub type_alloc : FuncType
-type_alloc = record { params = type.I32 ∷ []; result = Some type.I32 }
-
 abbrev pub type_function : FuncType
 type_function = record { params = type.I32 ∷ type.I32 ∷ []; result = Some type.I32 }
 
 -- global 0 is the result, global 1 the status, global 2 the end of the heap
 
--- n bytes of memory, or a trap with status 1
-abbrev pub alloc_code : List Instr
-alloc_code =
-    GlobalGet 2 ∷ LocalGet 0 ∷ Operation op32.Add ∷ Const 65536 ∷ MemorySize ∷ Operation op32.Mul ∷ Operation op32.GtU ∷ IfOnly ∷
-    Const 1 ∷ MemoryGrow ∷ Const (2 ^ 32 - 1) ∷ Operation op32.Eq ∷ GlobalSet 1 ∷ GlobalGet 1 ∷ IfOnly ∷ Unreachable ∷ End ∷ End ∷
-    GlobalGet 2 ∷ GlobalGet 2 ∷ LocalGet 0 ∷ Operation op32.Add ∷ GlobalSet 2 ∷ End ∷ []
+-- memory grows by a page where the heap's end is past it; where that is refused, a trap with status 1
+abbrev pub room_code : List Instr
+room_code =
+    GlobalGet 2 ∷ Const 65536 ∷ MemorySize ∷ Operation op32.Mul ∷ Operation op32.GtU ∷ IfOnly ∷
+    Const 1 ∷ MemoryGrow ∷ Const (2 ^ 32 - 1) ∷ Operation op32.Eq ∷ GlobalSet 1 ∷ GlobalGet 1 ∷ IfOnly ∷ Unreachable ∷ End ∷ End ∷ End ∷ []
 
 -- a body with so many locals, all words
 abbrev pub body : ℕ → List Instr → Body
 body n is = record { locals = replicate n type.I32; code = is }
 
-abbrev pub alloc : Body
-alloc = body 0 alloc_code
+abbrev pub room_function : Body
+room_function = body 0 room_code
 
 abbrev pub box_function : Body
 box_function = body 0 (Const 0 ∷ End ∷ [])
@@ -70,8 +66,8 @@ word_global n = record { mutable = true; ty = type.I32; init = value.I32 n }
 -- the module with this main, with further globals and exports, whose memory may have at most so many pages
 abbrev pub module_with : Program → Body → List GlobalDef → List Export → ℕ → Parts
 module_with P main gs es pages = record {
-  types = type_main ∷ type_constant ∷ type_alloc ∷ type_function ∷ [];
-  funcs = 2 ∷ 3 ∷ (map (λ f. 3) P.functions ++ (map (λ t. 1) P.constants ++ 0 ∷ []));
+  types = type_main ∷ type_constant ∷ type_function ∷ [];
+  funcs = 0 ∷ 2 ∷ (map (λ f. 2) P.functions ++ (map (λ t. 1) P.constants ++ 0 ∷ []));
   table = Some (record { min = suc (length P.functions); max = Some (suc (length P.functions)) });
   memory = Some (record { min = 1; max = Some pages });
   globals = word_global 0 ∷ word_global 0 ∷ word_global 8 ∷ gs;
@@ -79,7 +75,7 @@ module_with P main gs es pages = record {
       record { name = codes "main"; kind = kind.Func; index = main_index P } ∷ record { name = codes "memory"; kind = kind.Memory; index = 0 } ∷
       record { name = codes "result"; kind = kind.Global; index = 0 } ∷ record { name = codes "status"; kind = kind.Global; index = 1 } ∷ es;
   elements = record { offset = 0; funcs = entries 1 (suc (length P.functions)) } ∷ [];
-  bodies = alloc ∷ box_function ∷ (map (function P) P.functions ++ (map (constant P) P.constants ++ main ∷ []));
+  bodies = room_function ∷ box_function ∷ (map (function P) P.functions ++ (map (constant P) P.constants ++ main ∷ []));
 }
 
 abbrev pub module_of : Program → ℕ → Parts

@@ -1,4 +1,5 @@
 pub mod EmittedCode
+pub mod ConstantNumbers
 pub mod EmittedLocals
 pub mod EmittedModule
 pub mod CallModule

@@ -7,6 +7,7 @@ ghost use Rattle.closure_lift.specs.LiftedView.{seen, branches_of};
 ghost use Rattle.closure_lift.specs.LiftedProgram.{place_in, lifted_of};
 ghost use Rattle.wasm_core.specs.declared.instrs.I32Op.TheVariants as op32;
 ghost use Rattle.wasm_core.specs.declared.instrs.Instr.TheVariants.{I32 as Operation};
+ghost use Rattle.wasm_emit.specs.ConstantNumbers.{AreNumbered};
 ghost use Rattle.wasm_emit.specs.EmittedCode.{IfWord, constant_index, fields_of, application, construct};
 ghost use Rattle.wasm_emit.specs.Pushed.{Pushed, EmptyArms, EmptyArm, BlockArms, BlockArm, ends, op_code, block_code, branches_code, empty_arms, block_arms};
 ghost use Rattle.wasm_emit.specs.declared.fault.EmitFault.TheVariants.{Memory};
@@ -18,22 +19,24 @@ use anf_convert::lists::Atoms;
 use anf_convert::program::Atom;
 use closure_lift::program::{Lifted, LiftedBlock, LiftedBranch, LiftedBranches, LiftedOp};
 use pc_terms::leaf::Name;
+use std::collections::HashMap;
 use wasm_core::{BlockType, I32Op, Instr, ValType};
 
-/// The index of a constant's function. An index past 32 bits is `Memory`: so many constants have no room.
-pub(crate) fn index_of_constant(p: &Lifted, name: Name) -> Result<u32, EmitFault>
+/// The index of a constant's function; `numbers` are those of the program's constants. An index past 32 bits is `Memory`: so many constants have no room.
+fn index_of_constant(
+    p: &Lifted,
+    numbers: &HashMap<u32, usize>,
+    name: Name,
+) -> Result<u32, EmitFault>
+    requires numbered { AreNumbered numbers.now p.now.constants }
     ensures is { IfOk result (λ i. i ≡ constant_index (lifted_of p.now) (place_in p.now.constants name.0)) }
     ensures only_memory { IfErr result (λ e. e ≡ Memory) }
 {
-    let constants = p.constants.as_slice();
-    let n = constants.len();
-    for k in 0..n {
-        let c = &constants[n - 1 - k];
-        if c.name.0 == name.0 {
-            return function_index(p, k);
-        }
-    }
-    function_index(p, n)
+    let number = match numbers.get(&name.0) {
+        Some(number) => *number,
+        None => p.constants.len(),
+    };
+    function_index(p, number)
 }
 
 /// The index of the function after the run time's two, the program's functions, and so many more. An index past 32 bits is `Memory`.
@@ -57,11 +60,13 @@ pub(crate) fn function_index(p: &Lifted, after: usize) -> Result<u32, EmitFault>
 #[cycle(blocks)]
 pub(crate) fn push_block(
     p: &Lifted,
+    numbers: &HashMap<u32, usize>,
     places: &mut Vec<Place>,
     d: u32,
     b: &LiftedBlock,
     out: &mut Vec<Instr>,
 ) -> Result<(), EmitFault>
+    requires numbered { AreNumbered numbers.now p.now.constants }
     ensures pushed { OnOk result (Pushed out.old.items out.new.items (block_code p.now (reverse places.old.items) d b.now)) }
     ensures same { OnOk result (places.new.items ≡ places.old.items) }
     ensures only_memory { IfErr result (λ e. e ≡ Memory) }
@@ -69,7 +74,7 @@ pub(crate) fn push_block(
     let outer = places.len();
     let mut at = d;
     for op in b.bindings.as_slice() {
-        push_op(p, places, at, op, out)?;
+        push_op(p, numbers, places, at, op, out)?;
         push(out, Instr::LocalSet(at))?;
         places.push(Place::Local(at))?;
         let Some(next) = at.checked_add(1) else {
@@ -77,7 +82,7 @@ pub(crate) fn push_block(
         };
         at = next;
     }
-    push_op(p, places, at, &b.tail, out)?;
+    push_op(p, numbers, places, at, &b.tail, out)?;
     places.truncate(outer);
     Ok(())
 }
@@ -86,11 +91,13 @@ pub(crate) fn push_block(
 #[cycle(blocks)]
 fn push_op(
     p: &Lifted,
+    numbers: &HashMap<u32, usize>,
     places: &mut Vec<Place>,
     d: u32,
     op: &LiftedOp,
     out: &mut Vec<Instr>,
 ) -> Result<(), EmitFault>
+    requires numbered { AreNumbered numbers.now p.now.constants }
     ensures pushed { OnOk result (Pushed out.old.items out.new.items (op_code p.now (reverse places.old.items) d (seen op.now))) }
     ensures same { OnOk result (places.new.items ≡ places.old.items) }
     ensures only_memory { IfErr result (λ e. e ≡ Memory) }
@@ -98,7 +105,7 @@ fn push_op(
     match op {
         LiftedOp::Atom(a) => push_atom(places.as_slice(), *a, out),
         LiftedOp::Const(name) => {
-            let index = index_of_constant(p, *name)?;
+            let index = index_of_constant(p, numbers, *name)?;
             push(out, Instr::Call(index))
         }
         LiftedOp::App(f, a) => push_application(places.as_slice(), *f, *a, out),
@@ -112,7 +119,7 @@ fn push_op(
         LiftedOp::Case(a, bs) => {
             push_atom(places.as_slice(), *a, out)?;
             push(out, Instr::LocalSet(d))?;
-            push_branches(p, places, d, bs, out)
+            push_branches(p, numbers, places, d, bs, out)
         }
     }
 }
@@ -131,7 +138,7 @@ fn push_application(
     push_atom(places, a, out)?;
     push_atom(places, f, out)?;
     push_load(out, 0)?;
-    push(out, Instr::CallIndirect(3, 0))
+    push(out, Instr::CallIndirect(2, 0))
 }
 
 /// Makes the block of a constructor with arguments. Only `Memory`.
@@ -156,17 +163,19 @@ fn push_construct(
 #[cycle(blocks)]
 fn push_branches(
     p: &Lifted,
+    numbers: &HashMap<u32, usize>,
     places: &mut Vec<Place>,
     d: u32,
     bs: &LiftedBranches,
     out: &mut Vec<Instr>,
 ) -> Result<(), EmitFault>
+    requires numbered { AreNumbered numbers.now p.now.constants }
     ensures pushed { OnOk result (Pushed out.old.items out.new.items (branches_code p.now (reverse places.old.items) d bs.now)) }
     ensures same { OnOk result (places.new.items ≡ places.old.items) }
     ensures only_memory { IfErr result (λ e. e ≡ Memory) }
 {
-    let empties = push_empty_branches(p, places, d, bs.as_slice(), out)?;
-    let blocks = push_block_branches(p, places, d, bs.as_slice(), out)?;
+    let empties = push_empty_branches(p, numbers, places, d, bs.as_slice(), out)?;
+    let blocks = push_block_branches(p, numbers, places, d, bs.as_slice(), out)?;
     push(out, Instr::Unreachable)?;
     push_ends(blocks, out)?;
     push_ends(empties, out)
@@ -196,18 +205,20 @@ fn push_test(out: &mut Vec<Instr>) -> Result<(), EmitFault>
 #[cycle(blocks)]
 fn push_empty_branches(
     p: &Lifted,
+    numbers: &HashMap<u32, usize>,
     places: &mut Vec<Place>,
     d: u32,
     bs: &[LiftedBranch],
     out: &mut Vec<Instr>,
 ) -> Result<usize, EmitFault>
+    requires numbered { AreNumbered numbers.now p.now.constants }
     ensures pushed { IfOk result (λ n. EmptyArms out.old.items out.new.items (empty_arms p.now (reverse places.old.items) d (branches_of bs.now)) n) }
     ensures same { OnOk result (places.new.items ≡ places.old.items) }
     ensures only_memory { IfErr result (λ e. e ≡ Memory) }
 {
     let mut begun = 0;
     for c in 0..bs.len() {
-        let arms = push_empty_arm(p, places, d, c, &bs[c], out)?;
+        let arms = push_empty_arm(p, numbers, places, d, c, &bs[c], out)?;
         begun += arms;
     }
     Ok(begun)
@@ -218,12 +229,14 @@ fn push_empty_branches(
 #[cycle(blocks)]
 fn push_empty_arm(
     p: &Lifted,
+    numbers: &HashMap<u32, usize>,
     places: &mut Vec<Place>,
     d: u32,
     c: usize,
     b: &LiftedBranch,
     out: &mut Vec<Instr>,
 ) -> Result<usize, EmitFault>
+    requires numbered { AreNumbered numbers.now p.now.constants }
     ensures pushed { IfOk result (λ n. EmptyArm p.now (reverse places.old.items) d c b.now out.old.items out.new.items n) }
     ensures same { OnOk result (places.new.items ≡ places.old.items) }
     ensures only_memory { IfErr result (λ e. e ≡ Memory) }
@@ -241,7 +254,7 @@ fn push_empty_arm(
     push(out, Instr::LocalGet(d))?;
     push(out, Instr::I32Const(word))?;
     push_test(out)?;
-    push_block(p, places, first, &b.body, out)?;
+    push_block(p, numbers, places, first, &b.body, out)?;
     push(out, Instr::Else)?;
     Ok(1)
 }
@@ -250,18 +263,20 @@ fn push_empty_arm(
 #[cycle(blocks)]
 fn push_block_branches(
     p: &Lifted,
+    numbers: &HashMap<u32, usize>,
     places: &mut Vec<Place>,
     d: u32,
     bs: &[LiftedBranch],
     out: &mut Vec<Instr>,
 ) -> Result<usize, EmitFault>
+    requires numbered { AreNumbered numbers.now p.now.constants }
     ensures pushed { IfOk result (λ n. BlockArms out.old.items out.new.items (block_arms p.now (reverse places.old.items) d (branches_of bs.now)) n) }
     ensures same { OnOk result (places.new.items ≡ places.old.items) }
     ensures only_memory { IfErr result (λ e. e ≡ Memory) }
 {
     let mut begun = 0;
     for c in 0..bs.len() {
-        let arms = push_block_arm(p, places, d, c, &bs[c], out)?;
+        let arms = push_block_arm(p, numbers, places, d, c, &bs[c], out)?;
         begun += arms;
     }
     Ok(begun)
@@ -272,12 +287,14 @@ fn push_block_branches(
 #[cycle(blocks)]
 fn push_block_arm(
     p: &Lifted,
+    numbers: &HashMap<u32, usize>,
     places: &mut Vec<Place>,
     d: u32,
     c: usize,
     b: &LiftedBranch,
     out: &mut Vec<Instr>,
 ) -> Result<usize, EmitFault>
+    requires numbered { AreNumbered numbers.now p.now.constants }
     ensures pushed { IfOk result (λ n. BlockArm p.now (reverse places.old.items) d c b.now out.old.items out.new.items n) }
     ensures same { OnOk result (places.new.items ≡ places.old.items) }
     ensures only_memory { IfErr result (λ e. e ≡ Memory) }
@@ -293,7 +310,7 @@ fn push_block_arm(
     push_load(out, 0)?;
     push(out, Instr::I32Const(header))?;
     push_test(out)?;
-    push_fielded(p, places, d, b, out)?;
+    push_fielded(p, numbers, places, d, b, out)?;
     push(out, Instr::Else)?;
     Ok(1)
 }
@@ -302,11 +319,13 @@ fn push_block_arm(
 #[cycle(blocks)]
 fn push_fielded(
     p: &Lifted,
+    numbers: &HashMap<u32, usize>,
     places: &mut Vec<Place>,
     d: u32,
     b: &LiftedBranch,
     out: &mut Vec<Instr>,
 ) -> Result<(), EmitFault>
+    requires numbered { AreNumbered numbers.now p.now.constants }
     ensures pushed { OnOk result (Pushed out.old.items out.new.items (block_code p.now (fields_of d b.now.binders (reverse places.old.items)) (d + 1) b.now.body)) }
     ensures same { OnOk result (places.new.items ≡ places.old.items) }
     ensures only_memory { IfErr result (λ e. e ≡ Memory) }
@@ -316,7 +335,7 @@ fn push_fielded(
     };
     let outer = places.len();
     push_field_places(places, d, b.binders)?;
-    push_block(p, places, first, &b.body, out)?;
+    push_block(p, numbers, places, first, &b.body, out)?;
     places.truncate(outer);
     Ok(())
 }

@@ -2,8 +2,9 @@
 ghost use Rattle.std.specs.Prelude.{◌≡◌, ◌-◌, ◌++◌, ◌≤◌, IfOk, IfErr, OnOk, map};
 ghost use Rattle.closure_lift.specs.LiftedProgram.{renumber, place_in, lifted_of};
 ghost use Rattle.wasm_core.specs.ModuleCondition.{All};
+ghost use Rattle.wasm_emit.specs.ConstantNumbers.{AreNumbered};
 ghost use Rattle.wasm_emit.specs.EmittedLocals.{top};
-ghost use Rattle.wasm_emit.specs.EmittedModule.{alloc as allocator_body, body, box_function, function, constant, main_function};
+ghost use Rattle.wasm_emit.specs.EmittedModule.{room_function, body, box_function, function, constant, main_function};
 ghost use Rattle.wasm_emit.specs.EmittedBodies.{bodies_of, FewInFunction, FewInBlock, FewLocals, MemoryOrNot};
 ghost use Rattle.wasm_emit.specs.Pushed.{function_in, MemoryOrLocals};
 ghost use Rattle.wasm_emit.specs.declared.fault.EmitFault.TheVariants.{Memory};
@@ -12,9 +13,11 @@ use crate::blocks::{push_block, push_field_places};
 use crate::fault::EmitFault;
 use crate::instructions::push;
 use crate::locals::locals_of_block;
+use crate::numbers::numbers_of;
 use crate::places::Place;
 use closure_lift::program::{Function, Lifted, LiftedBlock};
 use std::alloc::Global;
+use std::collections::HashMap;
 use wasm_core::{BlockType, Body, I32Op, Instr, Instrs, ValType, ValTypes};
 
 /// The greatest number of locals of a function besides its parameters.
@@ -35,16 +38,14 @@ fn body_of(alloc: Global, locals: u32, code: Vec<Instr>) -> Result<Body, EmitFau
     })
 }
 
-/// The function that gives the address of so many bytes of new memory: the heap's end, which moves past them. Where they pass the end of memory it grows by a
-/// page, and where that is refused the status is 1 and the run traps.
-pub(crate) fn allocator(alloc: Global) -> Result<Body, EmitFault>
-    ensures is { IfOk result (λ b. b ≡ allocator_body) }
+/// The function that makes sure that memory reaches the heap's end: where it doesn't it grows by a page, and where that is refused the status is 1 and the run
+/// traps.
+pub(crate) fn room_body(alloc: Global) -> Result<Body, EmitFault>
+    ensures is { IfOk result (λ b. b ≡ room_function) }
     ensures only_memory { IfErr result (λ e. e ≡ Memory) }
 {
     let code = vec![in alloc;
         Instr::GlobalGet(2),
-        Instr::LocalGet(0),
-        Instr::I32(I32Op::Add),
         Instr::I32Const(65_536),
         Instr::MemorySize,
         Instr::I32(I32Op::Mul),
@@ -60,11 +61,6 @@ pub(crate) fn allocator(alloc: Global) -> Result<Body, EmitFault>
         Instr::Unreachable,
         Instr::End,
         Instr::End,
-        Instr::GlobalGet(2),
-        Instr::GlobalGet(2),
-        Instr::LocalGet(0),
-        Instr::I32(I32Op::Add),
-        Instr::GlobalSet(2),
         Instr::End,
     ]?;
     body_of(alloc, 0, code)
@@ -80,7 +76,13 @@ pub(crate) fn box_body(alloc: Global) -> Result<Body, EmitFault>
 }
 
 /// The body of a function of the program, which has its closure in local 0 and its argument in local 1.
-pub(crate) fn function_body(alloc: Global, p: &Lifted, f: &Function) -> Result<Body, EmitFault>
+pub(crate) fn function_body(
+    alloc: Global,
+    p: &Lifted,
+    numbers: &HashMap<u32, usize>,
+    f: &Function,
+) -> Result<Body, EmitFault>
+    requires numbered { AreNumbered numbers.now p.now.constants }
     ensures is { IfOk result (λ b. b ≡ function (lifted_of p.now) (function_in p.now f.now)) }
     ensures few { IfOk result (λ _. top 2 f.now.body - 2 ≤ 50000) }
     ensures refused { IfErr result (λ e. MemoryOrLocals e (top 2 f.now.body - 2)) }
@@ -90,13 +92,19 @@ pub(crate) fn function_body(alloc: Global, p: &Lifted, f: &Function) -> Result<B
     push_field_places(&mut places, 0, f.captured)?;
     places.push(Place::Local(1))?;
     let mut code = Vec::new(alloc);
-    push_block(p, &mut places, 2, &f.body, &mut code)?;
+    push_block(p, numbers, &mut places, 2, &f.body, &mut code)?;
     push(&mut code, Instr::End)?;
     body_of(alloc, count - 2, code)
 }
 
 /// The body of a constant's function.
-pub(crate) fn constant_body(alloc: Global, p: &Lifted, b: &LiftedBlock) -> Result<Body, EmitFault>
+pub(crate) fn constant_body(
+    alloc: Global,
+    p: &Lifted,
+    numbers: &HashMap<u32, usize>,
+    b: &LiftedBlock,
+) -> Result<Body, EmitFault>
+    requires numbered { AreNumbered numbers.now p.now.constants }
     ensures is { IfOk result (λ x. x ≡ constant (lifted_of p.now) (renumber (place_in p.now.constants) b.now)) }
     ensures few { IfOk result (λ _. top 0 b.now ≤ 50000) }
     ensures refused { IfErr result (λ e. MemoryOrLocals e (top 0 b.now)) }
@@ -104,13 +112,18 @@ pub(crate) fn constant_body(alloc: Global, p: &Lifted, b: &LiftedBlock) -> Resul
     let count = locals_of_block(0, MOST_LOCALS, b)?;
     let mut places = Vec::new(alloc);
     let mut code = Vec::new(alloc);
-    push_block(p, &mut places, 0, b, &mut code)?;
+    push_block(p, numbers, &mut places, 0, b, &mut code)?;
     push(&mut code, Instr::End)?;
     body_of(alloc, count, code)
 }
 
 /// The body of main, which puts its answer into the global `result`.
-pub(crate) fn main_body(alloc: Global, p: &Lifted) -> Result<Body, EmitFault>
+pub(crate) fn main_body(
+    alloc: Global,
+    p: &Lifted,
+    numbers: &HashMap<u32, usize>,
+) -> Result<Body, EmitFault>
+    requires numbered { AreNumbered numbers.now p.now.constants }
     ensures is { IfOk result (λ x. x ≡ main_function (lifted_of p.now)) }
     ensures few { IfOk result (λ _. top 0 p.now.main ≤ 50000) }
     ensures refused { IfErr result (λ e. MemoryOrLocals e (top 0 p.now.main)) }
@@ -118,27 +131,39 @@ pub(crate) fn main_body(alloc: Global, p: &Lifted) -> Result<Body, EmitFault>
     let count = locals_of_block(0, MOST_LOCALS, &p.main)?;
     let mut places = Vec::new(alloc);
     let mut code = Vec::new(alloc);
-    push_block(p, &mut places, 0, &p.main, &mut code)?;
+    push_block(p, numbers, &mut places, 0, &p.main, &mut code)?;
     push(&mut code, Instr::GlobalSet(0))?;
     push(&mut code, Instr::End)?;
     body_of(alloc, count, code)
 }
 
 /// Puts the bodies of the program's functions behind those that are there.
-fn push_functions(alloc: Global, p: &Lifted, bodies: &mut Vec<Body>) -> Result<(), EmitFault>
+fn push_functions(
+    alloc: Global,
+    p: &Lifted,
+    numbers: &HashMap<u32, usize>,
+    bodies: &mut Vec<Body>,
+) -> Result<(), EmitFault>
+    requires numbered { AreNumbered numbers.now p.now.constants }
     ensures pushed { OnOk result (bodies.new.items ≡ bodies.old.items ++ map (function (lifted_of p.now)) ((lifted_of p.now).functions)) }
     ensures few { OnOk result (All FewInFunction ((lifted_of p.now).functions)) }
     ensures refused { IfErr result (λ e. MemoryOrNot e (All FewInFunction ((lifted_of p.now).functions))) }
 {
     for f in p.functions.as_slice() {
-        let body = function_body(alloc, p, f)?;
+        let body = function_body(alloc, p, numbers, f)?;
         bodies.push(body)?;
     }
     Ok(())
 }
 
 /// Puts the bodies of the constants' functions behind those that are there.
-fn push_constants(alloc: Global, p: &Lifted, bodies: &mut Vec<Body>) -> Result<(), EmitFault>
+fn push_constants(
+    alloc: Global,
+    p: &Lifted,
+    numbers: &HashMap<u32, usize>,
+    bodies: &mut Vec<Body>,
+) -> Result<(), EmitFault>
+    requires numbered { AreNumbered numbers.now p.now.constants }
     ensures pushed { OnOk result (bodies.new.items ≡ bodies.old.items ++ map (constant (lifted_of p.now)) ((lifted_of p.now).constants)) }
     ensures few { OnOk result (All FewInBlock ((lifted_of p.now).constants)) }
     ensures refused { IfErr result (λ e. MemoryOrNot e (All FewInBlock ((lifted_of p.now).constants))) }
@@ -147,7 +172,7 @@ fn push_constants(alloc: Global, p: &Lifted, bodies: &mut Vec<Body>) -> Result<(
     let n = constants.len();
     for k in 0..n {
         let c = &constants[n - 1 - k];
-        let body = constant_body(alloc, p, &c.body)?;
+        let body = constant_body(alloc, p, numbers, &c.body)?;
         bodies.push(body)?;
     }
     Ok(())
@@ -159,14 +184,15 @@ pub(crate) fn all_bodies(alloc: Global, p: &Lifted) -> Result<Vec<Body>, EmitFau
     ensures few { IfOk result (λ _. FewLocals (lifted_of p.now)) }
     ensures refused { IfErr result (λ e. MemoryOrNot e (FewLocals (lifted_of p.now))) }
 {
+    let numbers = numbers_of(alloc, p)?;
     let mut bodies = Vec::new(alloc);
-    let first = allocator(alloc)?;
+    let first = room_body(alloc)?;
     bodies.push(first)?;
     let second = box_body(alloc)?;
     bodies.push(second)?;
-    push_functions(alloc, p, &mut bodies)?;
-    push_constants(alloc, p, &mut bodies)?;
-    let main = main_body(alloc, p)?;
+    push_functions(alloc, p, &numbers, &mut bodies)?;
+    push_constants(alloc, p, &numbers, &mut bodies)?;
+    let main = main_body(alloc, p, &numbers)?;
     bodies.push(main)?;
     Ok(bodies)
 }

@@ -3,7 +3,7 @@ ghost use Rattle.std.specs.Prelude.{◌≡◌, ◌+◌, ◌++◌, ◌∷◌, ◌
 ghost use Rattle.closure_lift.specs.LiftedProgram.{lifted_of};
 ghost use Rattle.wasm_core.specs.declared.types.ValType.TheVariants as type;
 ghost use Rattle.wasm_core.specs.ModuleTyping.{IsValid};
-ghost use Rattle.wasm_emit.specs.EmittedModule.{module_of, entries, type_main, type_constant, type_alloc, type_function, word_global as global_word};
+ghost use Rattle.wasm_emit.specs.EmittedModule.{module_of, entries, type_main, type_constant, type_function, word_global as global_word};
 ghost use Rattle.wasm_emit.specs.Emission.{Emits, exports_with};
 ghost use Rattle.wasm_emit.specs.EmittedBodies.{FewLocals, MemoryOrNot};
 ghost use Rattle.wasm_emit.specs.declared.fault.EmitFault.TheVariants.{Memory};
@@ -33,16 +33,15 @@ fn type_of(alloc: Global, params: u32, gives: Option<ValType>) -> Result<FuncTyp
     })
 }
 
-/// The types of main, of a constant's function, of the function that gives memory, and of the program's functions.
+/// The types of main and of the function that makes room, of a constant's function, and of the program's functions.
 fn types_of(alloc: Global) -> Result<FuncTypes, EmitFault>
-    ensures is { IfOk result (λ ts. ts ≡ type_main ∷ type_constant ∷ type_alloc ∷ type_function ∷ []) }
+    ensures is { IfOk result (λ ts. ts ≡ type_main ∷ type_constant ∷ type_function ∷ []) }
     ensures only_memory { IfErr result (λ e. e ≡ Memory) }
 {
     let main = type_of(alloc, 0, None)?;
     let constant = type_of(alloc, 0, Some(ValType::I32))?;
-    let allocator = type_of(alloc, 1, Some(ValType::I32))?;
     let function = type_of(alloc, 2, Some(ValType::I32))?;
-    let items = vec![in alloc; main, constant, allocator, function]?;
+    let items = vec![in alloc; main, constant, function]?;
     Ok(FuncTypes::of(items))
 }
 
@@ -62,8 +61,8 @@ fn funcs_of(alloc: Global, p: &Lifted) -> Result<Numbers, EmitFault>
     ensures is { IfOk result (λ ns. ns ≡ ((module_of (lifted_of p.now) 0).funcs)) }
     ensures only_memory { IfErr result (λ e. e ≡ Memory) }
 {
-    let mut items = vec![in alloc; 2, 3]?;
-    push_times(&mut items, p.functions.as_slice().len(), 3)?;
+    let mut items = vec![in alloc; 0, 2]?;
+    push_times(&mut items, p.functions.as_slice().len(), 2)?;
     push_times(&mut items, p.constants.len(), 1)?;
     items.push(0)?;
     Ok(Numbers::of(items))

@@ -1,5 +1,6 @@
 //! Instructions in front of what comes after them: atoms, and blocks of memory.
 ghost use Rattle.std.specs.Prelude.{◌≡◌, ◌∷◌, ◌+◌, ◌*◌, IfOk, IfErr, OnOk, length, reverse};
+ghost use Rattle.wasm_core.specs.declared.instrs.I32Op.TheVariants as op32;
 ghost use Rattle.wasm_core.specs.declared.instrs.Instr.TheVariants as instr;
 ghost use Rattle.wasm_emit.specs.EmittedCode.{Load, Store, Const, read, atom, fill, block};
 ghost use Rattle.wasm_emit.specs.Pushed.{Pushed};
@@ -9,7 +10,7 @@ use crate::fault::EmitFault;
 use crate::places::{Place, place_of};
 use anf_convert::lists::Atoms;
 use anf_convert::program::Atom;
-use wasm_core::{Access, Instr};
+use wasm_core::{Access, I32Op, Instr};
 
 /// One instruction more. Only `Memory`.
 pub(crate) fn push(out: &mut Vec<Instr>, i: Instr) -> Result<(), EmitFault>
@@ -124,6 +125,19 @@ fn push_fields(
     Ok(())
 }
 
+/// Puts the end of the heap into local d, and moves it on by so many bytes, where memory is or is made. Only `Memory`.
+fn push_address(d: u32, bytes: u32, out: &mut Vec<Instr>) -> Result<(), EmitFault>
+    ensures pushed { OnOk result (Pushed out.old.items out.new.items (λ rest. instr.GlobalGet 2 ∷ instr.LocalTee d ∷ Const bytes ∷ instr.I32 op32.Add ∷ instr.GlobalSet 2 ∷ instr.Call 0 ∷ rest)) }
+    ensures only_memory { IfErr result (λ e. e ≡ Memory) }
+{
+    push(out, Instr::GlobalGet(2))?;
+    push(out, Instr::LocalTee(d))?;
+    push(out, Instr::I32Const(bytes))?;
+    push(out, Instr::I32(I32Op::Add))?;
+    push(out, Instr::GlobalSet(2))?;
+    push(out, Instr::Call(0))
+}
+
 /// Makes a block of a header and the words of atoms, puts its address into local d and on the operands. Only `Memory`.
 pub(crate) fn push_new_block(
     places: &[Place],
@@ -139,9 +153,7 @@ pub(crate) fn push_new_block(
         return Err(EmitFault::Memory);
     };
     let bytes = bytes_of(words)?;
-    push(out, Instr::I32Const(bytes))?;
-    push(out, Instr::Call(0))?;
-    push(out, Instr::LocalSet(d))?;
+    push_address(d, bytes, out)?;
     push(out, Instr::LocalGet(d))?;
     push(out, Instr::I32Const(header))?;
     push_store(out, 0)?;

@@ -19,6 +19,7 @@ mod fault;
 mod instructions;
 mod laws;
 mod locals;
+mod numbers;
 mod places;
 
 pub use emission::emit;

@@ -1,15 +1,21 @@
-use Rattle.std.proofs.Common.{◌≡◌, IfOk, subst, arith}
+use Rattle.std.proofs.Common.{◌≡◌, IfOk, Some, None, length, ap, sym, subst, ◌∙◌, arith}
+use Rattle.std.proofs.lemmas.Grind.{common_steps}
+use Rattle.std.specs.Prelude.{nat_eq}
+use Rattle.std.specs.HashMap.{get}
+use Rattle.std.specs.Option.{unwrap_or}
 use Rattle.closure_lift.specs.LiftedProgram.{place_in, lifted_of}
 use Rattle.wasm_emit.specs.EmittedCode.{constant_index}
-use Rattle.wasm_emit.proofs.Pushing.{place_here, place_after}
 use Rattle.wasm_emit.proofs.blocks.index_of_constant.Goals as goal
+use Rattle.wasm_emit.proofs.blocks.index_of_constant.Goals.{in-Some, in-None}
 
-pub returns-then-c-name-clause-is : goal.returns-then-c-name-clause-is
-returns-then-c-name-clause-is c =
-    let none = place_here c.as_slice-constants.result.now c.args.p.now.constants c.loop-k.k c.index-constants-n.result c.args.name.0 c.as_slice-constants.ensures.is c.loop-k-test.true c.index-constants-n.is c.if-c-name.true in
-    let e : c.loop-k.k ≡ place_in c.args.p.now.constants c.args.name.0 = omega (arith, none, c.loop-k.invariant) in
+pub returns-clause-is : goal.returns-clause-is
+returns-clause-is c =
+    let cs = c.args.p.now.constants in
+    let at = c.requires.numbered.at c.args.name.0 in
+    let e : c.match-get.number ≡ place_in cs c.args.name.0 = elim c.match-get.branch [
+      | in-Some w ↦ (let f : get nat_eq c.args.numbers.now c.args.name.0 ≡ Some c.match-get.number = grind (arith, common_steps) in sym (ap (λ o. unwrap_or o (length cs)) f) ∙ at)
+      | in-None w ↦ (let f : get nat_eq c.args.numbers.now c.args.name.0 ≡ None = grind (arith, common_steps) in
+          let n : c.match-get.number ≡ length cs = grind (arith, common_steps) in
+          n ∙ sym (ap (λ o. unwrap_or o (length cs)) f) ∙ at)
+    ] in
     subst (λ j. IfOk c.function_index.result (λ i. i ≡ constant_index (lifted_of c.args.p.now) j)) e c.function_index.ensures.is
-
-pub loop-k-preserved : goal.loop-k-preserved
-loop-k-preserved c =
-    omega (arith, c.loop-k.invariant, place_after c.as_slice-constants.result.now c.args.p.now.constants c.loop-k.k c.index-constants-n.result c.args.name.0 c.as_slice-constants.ensures.is c.loop-k-test.true c.index-constants-n.is c.if-c-name.false)
