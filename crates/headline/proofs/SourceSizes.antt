@@ -18,9 +18,10 @@ use Rattle.pc_rules.proofs.Entailing.{entailed_decides}
 use Rattle.pc_rules.specs.declared.broken.Place.TheVariants.{Main as AtMain}
 use Rattle.pc_rules.specs.declared.meter.Account.{Account}
 use Rattle.lambda_box.specs.BoxProgram.{BoxConstant, BoxFamily, BoxProgram, Has}
-use Rattle.lambda_box.specs.DataTerms.{binder_depth, binder_depth_terms, binder_depth_constants, greatest_of, greatest_arguments}
+use Rattle.lambda_box.specs.BoxForm.{IsBoxProgram}
+use Rattle.lambda_box.specs.DataTerms.{binder_depth, binder_depth_terms, binder_depth_constants, greatest_of, greatest_arguments, greatest_words}
 use Rattle.erase_laws.specs.Erases.{Erases, box, ErasesBranches, ErasesBodies, body}
-use Rattle.erase_laws.specs.ErasedProgram.{arguments_of, AreErased, none_erased, not_reached, reached}
+use Rattle.erase_laws.specs.ErasedProgram.{arguments_of, AreErased, none_erased, not_reached, reached, IsErased}
 use Rattle.erase_laws.proofs.AcceptedClosed.{mapped}
 use Rattle.erase_rules.specs.DirectedErasure.{erased}
 use Rattle.erase_rules.specs.DirectedProgram.{Reached, Answer, Program, answer, box_families, families_from, erased_constants}
@@ -29,8 +30,9 @@ use Rattle.erase_rules.proofs.Families.{family_back}
 use Rattle.erase_rules.proofs.Together.{program_has_form}
 use Rattle.read_counts.proofs.KeptBlocks.{few_counts}
 use Rattle.headline.proofs.Derived.{derived}
-use Rattle.headline.specs.SourceWords.{binders_over, binders_over_terms, binders_in, most_arguments, most_in_families, most_in_blocks, most_constructors, most_alternatives, source_branches}
-use Rattle.headline.specs.AcceptedProgram.{IsErasedTo, ErasedProgramsAreWithin}
+use Rattle.dump_reader.specs.declared.environment.RawEnv.{RawEnv}
+use Rattle.headline.specs.SourceWords.{source_words, binders_over, binders_over_terms, binders_in, most_arguments, most_in_families, most_in_blocks, most_constructors, most_alternatives, source_branches}
+use Rattle.headline.specs.AcceptedProgram.{IsAcceptedAs, IsErasedTo, ErasedProgramsAreWithin}
 
 -- binders
 
@@ -67,7 +69,7 @@ constant_binders (reached p h) = let a = erased_binders p in let b = constant_bi
 
 -- arguments of constructors
 
-counted_arguments : (Cs : List Constructor) → greatest_of (map arguments_of Cs) ≤ most_arguments Cs
+pub counted_arguments : (Cs : List Constructor) → greatest_of (map arguments_of Cs) ≤ most_arguments Cs
 counted_arguments [] = omega arith
 counted_arguments (C ∷ Cs) = let a = counted_arguments Cs in omega arith
 
@@ -115,7 +117,7 @@ few_constructors E X h =
     omega (arith, args, ctors, a, c)
 
 -- the families of a program are all that are kept
-families_are : (E : Env) (main : Term) (P : BoxProgram) → IsErasedTo E main P → P.families ≡ box_families E.declarations
+pub families_are : (E : Env) (main : Term) (P : BoxProgram) → IsErasedTo E main P → P.families ≡ box_families E.declarations
 families_are E main P h =
     let q = test_of E in
     let n = h.room in
@@ -128,27 +130,38 @@ families_are E main P h =
     let is = program_is E p1.0 p2.0 p2.0.without_body P (given_value p2.3) in
     sym (ap (λ (x : BoxProgram). x.families) is.1)
 
+module _ (e : RawEnv) (E : Env) (T : Term) (P : BoxProgram) (accepted : IsAcceptedAs e E T) (h : IsErasedTo E e.main P) where
+  is_formed : IsErased E e.main P × IsBoxProgram P
+  is_formed =
+      let d = derived e E T accepted in
+      let f = d.formed in
+      let a = f.accepted in
+      let test = entailed_decides E.levels E.constraints a.consistent a.over in
+      let counts = few_counts e accepted.spelled E T d in (
+        program_is_erased E a counts (test_of E) test h.room e.main T f.typed P h.before h.after h.gives,
+        (program_has_form E a counts (test_of E) test h.room e.main T f.typed P h.before h.after h.gives).0,
+      )
+
+  pub erased_form : IsBoxProgram P
+  erased_form = is_formed.1
+
+  pub erased_words : greatest_words P ≤ source_words E e.main
+  erased_words =
+      let is = is_formed.0 in
+      let x = erased_binders is.main in
+      let y = constant_binders is.constants in
+      let z : greatest_arguments P.families ≤ most_in_blocks E.declarations = subst (λ Fs. greatest_arguments Fs ≤ most_in_blocks E.declarations) (sym (families_are E e.main P h)) (all_arguments E.declarations) in
+      omega (arith, x, y, z)
+
 -- it has the form of programs, and the numbers of its source
 pub of_source : ErasedProgramsAreWithin
-of_source e E T P accepted h fits =
-    let d = derived e E T accepted in
-    let f = d.formed in
-    let a = f.accepted in
-    let test = entailed_decides E.levels E.constraints a.consistent a.over in
-    let counts = few_counts e accepted.spelled E T d in
-    let is = program_is_erased E a counts (test_of E) test h.room e.main T f.typed P h.before h.after h.gives in
-    let form = program_has_form E a counts (test_of E) test h.room e.main T f.typed P h.before h.after h.gives in
-    let same = families_are E e.main P h in
-    let x = erased_binders is.main in
-    let y = constant_binders is.constants in
-    let z : greatest_arguments P.families ≤ most_in_blocks E.declarations = subst (λ Fs. greatest_arguments Fs ≤ most_in_blocks E.declarations) (sym same) (all_arguments E.declarations) in
-    record {
-      within = record {
-        form = form.0;
-        constructors = λ F m. few_constructors E F (subst (λ Fs. Has Fs F) same m);
-        constants = fits.constants;
-        main = fits.main;
-        limits = fits.limits;
-      };
-      words = omega (arith, x, y, z);
-    }
+of_source e E T P accepted h fits = record {
+  within = record {
+    form = erased_form e E T P accepted h;
+    constructors = λ F m. few_constructors E F (subst (λ Fs. Has Fs F) (families_are E e.main P h) m);
+    constants = fits.constants;
+    main = fits.main;
+    limits = fits.limits;
+  };
+  words = erased_words e E T P accepted h;
+}

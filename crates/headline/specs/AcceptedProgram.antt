@@ -43,7 +43,8 @@ pub record IsErasedTo (E : Env) (main : Term) (P : BoxProgram) : Type 0 where
   pub after : Account
   pub gives : (erased_program E (test_of E) room main before).outcome ≡ Gives (Program P) after
 
--- what the passes refuse doesn't stand in the program's way: terms that are too deep after saturation, too many captured words, too many functions
+-- the program is within what the laws of the passes ask: after saturation no term is too deep, and the lifted program is within the limits of emission. Lifting refuses some of these programs besides; none
+-- that has a module (`Fits` of `compile`) is outside
 pub record FitsPasses (P : BoxProgram) : Type 0 where
   pub constants : (d : BoxConstant) → Has (saturated_program P).constants d → depth d.body ≤ deepest
   pub main : depth (saturated_program P).main ≤ deepest

@@ -1,0 +1,5 @@
+pub mod LambdaBinders
+pub mod NormalBinders
+pub mod SourceNodes
+pub mod PassedSizes
+pub mod Laws
