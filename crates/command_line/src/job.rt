@@ -16,6 +16,8 @@ pub enum Job {
     Run,
     /// An environment is checked and compiled, and its module is written.
     Compile,
+    /// As `Exec`, on an environment that the program makes, with the run's figures.
+    Bench,
 }
 
 /// The job of this name.
@@ -28,6 +30,7 @@ pub(crate) fn job_of(name: &str) -> Option<Job>
         "eval" => Some(Job::Eval),
         "run" => Some(Job::Run),
         "compile" => Some(Job::Compile),
+        "bench" => Some(Job::Bench),
         _ => None,
     }
 }

@@ -3,6 +3,7 @@ use Rattle.std.proofs.Common.{◌≡◌, ℕ, ◌≤◌, length, Some, Result, O
 use Rattle.wasm_core.specs.declared.ended.Ended.TheVariants.{Returned}
 use Rattle.wasm_core.specs.declared.entries.Entry.TheVariants as entry
 use Rattle.wasm_core.specs.Parts.{Parts}
+use Rattle.wasm_core.specs.ShortestBytes.{module_bytes}
 use Rattle.wasm_core.specs.MachineStep.{State, Store, Over}
 use Rattle.wasm_core.specs.MachineRun.{Shown}
 use Rattle.wasm_core.specs.Runs.{store_of}
@@ -12,7 +13,9 @@ use Rattle.mem_value.specs.Tells.{HasData, HasMany, most_nodes}
 use Rattle.module_run.specs.declared.answer.Answer.{Answer}
 use Rattle.module_run.specs.declared.refusal.RunRefusal.{RunRefusal}
 use Rattle.module_run.specs.declared.refusal.RunRefusal.TheVariants as refusals
+use Rattle.module_run.specs.declared.answer.Measured.{Measured}
 use Rattle.module_run.specs.Ends.{Ends, IsSmall, IsReturned, IsTold, HasReturned, RunSays, AnswerSays}
+use Rattle.module_run.specs.Figures.{IsMeasured, FigureSays}
 
 module _ (m : Parts) (cap n : ℕ) (small : IsSmall m) (a : Shown) where
   pub run_ends : (r : RunRefusal) → RunSays m cap n a (Err r) → Ends m cap n (Err r)
@@ -25,8 +28,8 @@ module _ (m : Parts) (cap n : ℕ) (small : IsSmall m) (a : Shown) where
   run_ends refusals.Memory h = tt
 
   -- the exit of a `?`
-  pub exit_ends : (r : Result Answer RunRefusal) (x : RunRefusal) → (y : RunRefusal) × (r ≡ Err y) × (y ≡ x) → RunSays m cap n a (Err x) → Ends m cap n r
-  exit_ends r x (y, is, same) h = subst (Ends m cap n) (sym (is ∙ ap Err same)) (run_ends x h)
+  pub exit_ends : (r : Result Measured RunRefusal) (x : RunRefusal) → (y : RunRefusal) × (r ≡ Err y) × (y ≡ x) → RunSays m cap n a (Err x) → FigureSays m cap n r
+  exit_ends r x (y, is, same) h = subst (FigureSays m cap n) (sym (is ∙ ap Err same)) (run_ends x h)
 
   module _ (back : HasReturned m cap n a) where
     store_is : store_of a.state ≡ back.store
@@ -40,18 +43,26 @@ module _ (m : Parts) (cap n : ℕ) (small : IsSmall m) (a : Shown) where
       word_is = subst (λ (s : Store). global_of entry.Result m s ≡ Some w) store_is (subst (λ (p : Parts). global_of entry.Result p (store_of a.state) ≡ Some w) back.program (t.is_result back.sound ∙ ap (λ (v : ℕ). Some v) same));
     }
 
-    pub answer_ends : (r : Result Answer RunRefusal) → AnswerSays a r → Ends m cap n r
-    answer_ends (Ok x) t =
+    -- the machine's word, and the data that it stands for
+    pub answer_measured : (x : Answer) → AnswerSays a (Ok x) → (bytes steps pages : ℕ) → bytes ≡ length (module_bytes m) → steps ≡ a.made → pages ≡ (store_of a.state).pages →
+        IsMeasured m cap n (record { answer = x; bytes = bytes; steps = steps; pages = pages })
+    answer_measured x t bytes steps pages b s p =
         let (word, stands, few) = t.stands in
-        let same = word back.sound in (
-          small,
-          record {
+        let same = word back.sound in
+        record {
+          small = small;
+          answered = record {
             returned = returned t x.word same;
             stands = subst (λ (s : Store). StandsFor s.memory x.word x.tree) store_is (subst (λ w. StandsFor (store_of a.state).memory w x.tree) same stands);
             few = few;
-          },
-        )
-    answer_ends (Err (refusals.NoValue x)) t =
+          };
+          bytes_are = b;
+          steps_are = s ∙ back.made;
+          pages_are = p ∙ ap (λ (s : Store). s.pages) store_is;
+        }
+
+    no_answer : (x : RunRefusal) → AnswerSays a (Err x) → Ends m cap n (Err x)
+    no_answer (refusals.NoValue x) t =
         let (same, none) = t.stands in (
           small,
           record {
@@ -59,9 +70,13 @@ module _ (m : Parts) (cap n : ℕ) (small : IsSmall m) (a : Shown) where
             none = λ d. none (subst (HasData (store_of a.state).memory) same (subst (λ (s : Store). HasData s.memory x) (sym store_is) d));
           },
         )
-    answer_ends (Err refusals.AnswerNodes) t = (small, record { word = t.word; returned = returned t t.word refl; many = subst (λ (s : Store). HasMany s.memory t.word) store_is t.stands })
-    answer_ends (Err refusals.Memory) t = tt
-    answer_ends (Err refusals.ModuleBytes) t = absurd t
-    answer_ends (Err refusals.StepsSpent) t = absurd t
-    answer_ends (Err refusals.Exhausted) t = absurd t
-    answer_ends (Err (refusals.Trapped kind)) t = absurd t
+    no_answer refusals.AnswerNodes t = (small, record { word = t.word; returned = returned t t.word refl; many = subst (λ (s : Store). HasMany s.memory t.word) store_is t.stands })
+    no_answer refusals.Memory t = tt
+    no_answer refusals.ModuleBytes t = absurd t
+    no_answer refusals.StepsSpent t = absurd t
+    no_answer refusals.Exhausted t = absurd t
+    no_answer (refusals.Trapped kind) t = absurd t
+
+    -- the exit of a `?` after the machine's word
+    pub exit_answer : (r : Result Measured RunRefusal) (x : RunRefusal) → (y : RunRefusal) × (r ≡ Err y) × (y ≡ x) → AnswerSays a (Err x) → FigureSays m cap n r
+    exit_answer r x (y, is, same) h = subst (FigureSays m cap n) (sym (is ∙ ap Err same)) (no_answer x h)

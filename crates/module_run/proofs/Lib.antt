@@ -1,3 +1,4 @@
 pub mod OneRun
 pub mod OneEnd
 pub mod Ending
+pub mod Returning

@@ -91,6 +91,7 @@ pub record HasReturned (m : Parts) (cap n : ℕ) (a : Shown) : Type 0 where
   pub store : Store
   pub at : a.state ≡ Over Returned store
   pub run : IsRun m cap n (Over Returned store)
+  pub made : a.made ≡ run.steps
 
 abbrev pub RunSays : Parts → (cap n : ℕ) → Shown → Result (Unit {0}) RunRefusal → Type 0
 RunSays m cap n a (Ok x) = HasReturned m cap n a

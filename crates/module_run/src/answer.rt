@@ -1,4 +1,4 @@
-//! What a module answers.
+//! What a module answers, and the figures of its run.
 
 use data_trees::Data;
 
@@ -7,4 +7,16 @@ use data_trees::Data;
 pub struct Answer {
     pub word: u32,
     pub tree: Data,
+}
+
+/// An answer, with the figures of the run that gave it.
+#[derive(Drop)]
+pub struct Measured {
+    pub answer: Answer,
+    /// The length of the module's shortest bytes.
+    pub bytes: u64,
+    /// The steps of the run.
+    pub steps: u64,
+    /// The pages of memory at its end, of 65,536 bytes each.
+    pub pages: u32,
 }

@@ -1,14 +1,15 @@
 //! Writing, reading, checking and running of a module, and its answer.
-ghost use Rattle.std.specs.Prelude.{◌≡◌, ℕ, None, IfOk, IfErr};
+ghost use Rattle.std.specs.Prelude.{◌≡◌, ℕ, length, None, IfOk, IfErr};
 ghost use Rattle.wasm_core.specs.Parts.{Parts};
 ghost use Rattle.wasm_core.specs.ModuleGrammar.{SpellsModule};
 ghost use Rattle.wasm_core.specs.ModuleTyping.{IsValid};
 ghost use Rattle.wasm_core.specs.ShortestBytes.{module_bytes};
 ghost use Rattle.wasm_core.specs.MachineRun.{IsFresh, refusal};
-ghost use Rattle.module_run.specs.Ends.{AnswerSays, Ends, IsSmall, RunSays, WriteSays};
+ghost use Rattle.module_run.specs.Ends.{AnswerSays, IsSmall, RunSays, WriteSays};
+ghost use Rattle.module_run.specs.Figures.{FigureSays};
 ghost use Rattle.module_run.specs.declared.refusal.RunRefusal.TheVariants.{Memory};
 
-use crate::answer::Answer;
+use crate::answer::{Answer, Measured};
 use crate::refusal::RunRefusal;
 use mem_value::{AnswerFault, answer_tree};
 use std::alloc::Global;
@@ -120,30 +121,43 @@ pub fn answered(alloc: Global, machine: &Machine) -> Result<Answer, RunRefusal>
     }
 }
 
-/// The word and the data that a run of the module answers, in at most so many steps.
-fn run(alloc: Global, program: &Valid, cap: u32, steps: u64) -> Result<Answer, RunRefusal>
+/// The word and the data that a run of the module answers, in at most so many steps, with the run's figures. Its shortest bytes are so many.
+fn run(
+    alloc: Global,
+    program: &Valid,
+    bytes: usize,
+    cap: u32,
+    steps: u64,
+) -> Result<Measured, RunRefusal>
     requires starts { refusal program.now cap ≡ None }
     requires small { IsSmall program.now }
-    ensures says { Ends program.now cap steps result }
+    requires length { bytes ≡ length (module_bytes program.now) }
+    ensures says { FigureSays program.now cap steps result }
 {
     let mut machine = started(alloc, program, cap)?;
     returned(&mut machine, steps)?;
-    answered(alloc, &machine)
+    let answer = answered(alloc, &machine)?;
+    Ok(Measured {
+        answer,
+        bytes: bytes as u64,
+        steps: machine.steps(),
+        pages: machine.pages(),
+    })
 }
 
-/// What a module's run of `main` answers, the word in `result` and the data that it stands for: the module is written as its shortest bytes, these are read and checked again, and that module is run by a machine whose memory grows to at most `cap` pages of 65,536 bytes, in at most
+/// What a module's run of `main` answers, the word in `result` and the data that it stands for, with the run's figures: the module is written as its shortest bytes, these are read and checked again, and that module is run by a machine whose memory grows to at most `cap` pages of 65,536 bytes, in at most
 /// `steps` steps.
 ///
 /// `ModuleBytes` exactly where the bytes pass 16 MiB; `StepsSpent` exactly where the run hadn't ended after so many steps; `Exhausted` exactly where it trapped with
 /// the status 1, and `Trapped` exactly where it trapped with another; `NoValue` exactly where it returned and the word in `result` stands for no data, with that
 /// word; `AnswerNodes` exactly where the data has over 4,000,000 nodes.
-pub fn answer_of(alloc: Global, m: &Valid, cap: u32, steps: u64) -> Result<Answer, RunRefusal>
+pub fn answer_of(alloc: Global, m: &Valid, cap: u32, steps: u64) -> Result<Measured, RunRefusal>
     requires starts { refusal m.now cap ≡ None }
-    ensures says { Ends m.now cap steps result }
+    ensures says { FigureSays m.now cap steps result }
     ensures spelled { IfOk result (λ _. SpellsModule (module_bytes m.now) m.now) }
 {
     let _module = m.module();
     let bytes = written(alloc, m)?;
     let program = loaded(alloc, bytes.as_slice())?;
-    run(alloc, &program, cap, steps)
+    run(alloc, &program, bytes.len(), cap, steps)
 }

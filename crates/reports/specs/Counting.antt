@@ -1,5 +1,5 @@
 -- What a report counts.
-use Rattle.std.specs.Prelude.{ℕ, ◌+◌, min, Bool, true, false, List, [], ◌∷◌}
+use Rattle.std.specs.Prelude.{ℕ, ◌+◌, min, Bool, true, false, List, count_by}
 use Rattle.reports.specs.declared.fact.Fact.{Fact}
 use Rattle.reports.specs.declared.fact.Fact.TheVariants.{DeclKept, AxiomKept, RuleUsed}
 
@@ -12,10 +12,9 @@ abbrev pub after : Bool → ℕ → ℕ
 after true n = min (n + 1) last
 after false n = n
 
--- the count after facts in order
+-- the count after facts: one more for each that is wanted, up to the last value
 abbrev pub after_all : (Fact → Bool) → List Fact → ℕ → ℕ
-after_all wanted [] n = n
-after_all wanted (f ∷ fs) n = after_all wanted fs (after (wanted f) n)
+after_all wanted facts n = min (n + count_by wanted facts) last
 
 abbrev pub is_declaration : Fact → Bool
 is_declaration DeclKept = true

@@ -25,18 +25,14 @@ pub struct DeclReport {
 impl DeclReport {
     /// A report that has seen nothing.
     pub fn new() -> DeclReport
-        ensures none { ⟦<DeclReport as Report>⟧.counted result ≡ 0 }
+        ensures none { (⟦<DeclReport as Report>⟧.shown result).counted ≡ 0 }
     {
         DeclReport { count: 0 }
     }
 }
 
 impl Report for DeclReport {
-    ghost wanted = { λ it f. is_declaration f };
-
-    ghost counted = { λ it. it.count };
-
-    ghost named = { λ it. 1 };
+    ghost shown = { λ it. record { wanted = is_declaration; counted = it.count; named = 1 } };
 
     fn wants(&self, f: Fact) -> bool {
         matches!(f, Fact::DeclKept)
@@ -64,18 +60,14 @@ pub struct AxiomReport {
 impl AxiomReport {
     /// A report that has seen nothing.
     pub fn new() -> AxiomReport
-        ensures none { ⟦<AxiomReport as Report>⟧.counted result ≡ 0 }
+        ensures none { (⟦<AxiomReport as Report>⟧.shown result).counted ≡ 0 }
     {
         AxiomReport { count: 0 }
     }
 }
 
 impl Report for AxiomReport {
-    ghost wanted = { λ it f. is_axiom f };
-
-    ghost counted = { λ it. it.count };
-
-    ghost named = { λ it. 2 };
+    ghost shown = { λ it. record { wanted = is_axiom; counted = it.count; named = 2 } };
 
     fn wants(&self, f: Fact) -> bool {
         matches!(f, Fact::AxiomKept)
@@ -103,18 +95,14 @@ pub struct RuleReport {
 impl RuleReport {
     /// A report that has seen nothing.
     pub fn new() -> RuleReport
-        ensures none { ⟦<RuleReport as Report>⟧.counted result ≡ 0 }
+        ensures none { (⟦<RuleReport as Report>⟧.shown result).counted ≡ 0 }
     {
         RuleReport { count: 0 }
     }
 }
 
 impl Report for RuleReport {
-    ghost wanted = { λ it f. is_rule f };
-
-    ghost counted = { λ it. it.count };
-
-    ghost named = { λ it. 3 };
+    ghost shown = { λ it. record { wanted = is_rule; counted = it.count; named = 3 } };
 
     fn wants(&self, f: Fact) -> bool {
         matches!(f, Fact::RuleUsed(_))

@@ -1,34 +1,30 @@
 //! What a report promises.
-ghost use Rattle.std.specs.Prelude.{◌≡◌, ℕ, Bool};
+ghost use Rattle.std.specs.Prelude.{◌≡◌};
 ghost use Rattle.reports.specs.Counting.{after};
-ghost use Rattle.reports.specs.declared.fact.Fact.{Fact as TheFact};
+ghost use Rattle.reports.specs.Shown.{Shown};
 
 use crate::fact::Fact;
 
 /// An object that is told facts and counts those that it wants.
 pub trait Report: Drop {
-    /// Whether it wants a fact.
-    ghost wanted: { Self → TheFact → Bool };
-    /// How many facts that it wanted it has seen, with what it began with, up to the last value of u64.
-    ghost counted: { Self → ℕ };
-    /// Its name.
-    ghost named: { Self → ℕ };
+    /// Which facts it wants; how many of them it has seen, with what it began with, up to the last value of u64; and its name.
+    ghost shown: { Self → Shown };
 
     /// Whether it counts a fact.
     fn wants(&self, f: Fact) -> bool
-        ensures is { result ≡ wanted self.now f };
+        ensures is { result ≡ (shown self.now).wanted f };
 
     /// Tells it a fact: one more in its count where it wants the fact and the count isn't the last value of u64. Nothing else that it shows changes.
     fn see(&mut self, f: Fact)
-        ensures counted { counted self.new ≡ after (wanted self.old f) (counted self.old) }
-        ensures wanted { (g : TheFact) → wanted self.new g ≡ wanted self.old g }
-        ensures named { named self.new ≡ named self.old };
+        ensures counted { (shown self.new).counted ≡ after ((shown self.old).wanted f) (shown self.old).counted }
+        ensures wanted { (shown self.new).wanted ≡ (shown self.old).wanted }
+        ensures named { (shown self.new).named ≡ (shown self.old).named };
 
     /// Its count.
     fn count(&self) -> u64
-        ensures is { result ≡ counted self.now };
+        ensures is { result ≡ (shown self.now).counted };
 
     /// Its name, a number.
     fn name(&self) -> u8
-        ensures is { result ≡ named self.now };
+        ensures is { result ≡ (shown self.now).named };
 }

@@ -1,0 +1,30 @@
+-- A machine that has returned, by what its run says.
+use Rattle.std.proofs.Common.{◌≡◌, ℕ, ◌≤◌, ◌+◌, ◌-◌, ◌^◌, Ok, subst, arith}
+use Rattle.std.specs.Prelude.{min}
+use Rattle.wasm_core.specs.declared.ended.Ended.{Ended}
+use Rattle.wasm_core.specs.declared.ended.Ended.TheVariants.{Returned}
+use Rattle.wasm_core.specs.Parts.{Parts}
+use Rattle.wasm_core.specs.MachineStep.{State, Store, At, Over}
+use Rattle.wasm_core.specs.MachineRun.{Shown, IsFresh, IsOver, Says}
+use Rattle.wasm_core.specs.Runs.{Moves}
+use Rattle.module_run.specs.Ends.{HasReturned}
+
+over_is : (e : Ended) (t : State) → IsOver e t → (store : Store) × (t ≡ Over e store)
+over_is e (At c) h = absurd h
+over_is e (Over f store) h = (store, λ i. Over (h i) store)
+
+counted : (made k n : ℕ) → made ≡ min (0 + k) (2 ^ 64 - 1) → k ≤ n → n ≤ 18446744073709551615 → made ≡ k
+counted made k n e le few = omega (arith, e, le, few)
+
+pub has_returned : (m : Parts) (cap n : ℕ) (old new : Shown) → IsFresh m cap old → n ≤ 18446744073709551615 → Says old new n (Ok Returned) → HasReturned m cap n new
+has_returned m cap n old new (s, starts, is) few says =
+    let (sound, still, (k, le, ran, over)) = subst (λ o. Says o new n (Ok Returned)) is says in
+    let (store, at) = over_is Returned new.state over in
+    record {
+      sound = still;
+      program = ran.same_program;
+      store = store;
+      at = at;
+      run = record { first = s; starts = starts; steps = k; few = le; moves = subst (λ t. Moves m cap k s t) at ran.moves };
+      made = counted new.made k n ran.counted le few;
+    }
