@@ -1,6 +1,6 @@
 -- What the check of an environment says, with the units of a job.
 use Rattle.std.proofs.Common.{◌≡◌, ℕ, ◌<◌, ◌-◌, List, length, Option, Some, None, Result, Ok, Err, refl, sym, ap, subst, ◌∙◌}
-use Rattle.std.specs.Prelude.{replicate, slice_get}
+use Rattle.std.specs.Prelude.{replicate, slice_get, OnOk}
 use Rattle.std.proofs.Common.{get_or}
 use Rattle.std.proofs.lemmas.Option.{slice_get_read}
 use Rattle.dump_reader.specs.declared.declaration.RawDecl.{RawDecl}
@@ -11,12 +11,16 @@ use Rattle.pc_rules.specs.declared.broken.Broken.{Broken as Rule}
 use Rattle.pc_rules.specs.declared.broken.Place.{Place}
 use Rattle.pc_rules.specs.declared.broken.Place.TheVariants.{Declaration}
 use Rattle.pc_rules.specs.declared.meter.Account.{Account}
+use Rattle.pc_rules.specs.Environment.{Env}
+use Rattle.pc_terms.specs.Syntax.{Term}
 use Rattle.pc_rules.specs.DirectedDeclarations.{Breaks}
 use Rattle.env_check.specs.declared.refusal.Refusal.TheVariants.{Broken, Spent, TooDeep}
 use Rattle.env_check.specs.Answers.{AnswersFound}
 use Rattle.env_check.specs.Rules.{rules_of}
 use Rattle.driver.specs.declared.refusal.Where.{Where}
 use Rattle.driver.specs.SourceEnds.{IsAcceptedWith}
+use Rattle.report_lines.specs.declared.facts.Facts.{Facts}
+use Rattle.driver.specs.CheckFacts.{HasCheckFacts, facts_of_check}
 use Rattle.driver.specs.Serve.{AcceptSays, CheckSays}
 use Rattle.driver.specs.declared.refusal.Refusal.{Refusal}
 use Rattle.driver.specs.Judged.{start, IsSpentBy, IsTooDeepFor, IsBrokenBy, IsTold, IsNamed, name_of, number_of}
@@ -86,3 +90,11 @@ no_name names n name e f = let q : None ≡ Some name = e ∙ f in absurd cc
 pub check_from : (turns : ℕ) → (r : Result Accepted Refusal) (e : RawEnv) (u : Account) → AcceptSays turns r e u → CheckSays turns r e
 check_from turns (Ok a) e u h = (accepted_by turns e a.env a.main_type u h.0, h.2)
 check_from turns (Err r) e u h = h
+
+pub facts_given : (turns : ℕ) (e : RawEnv) (E : Env) (T : Term) (u : Account) (facts : Facts) → IsAcceptedWith turns e E T u → facts ≡ facts_of_check e u → HasCheckFacts turns e facts
+facts_given turns e E T u facts accepted is = record { kept = E; type = T; left = u; accepted = accepted; facts_are = is }
+
+-- the facts of a check that accepts
+pub check_facts_from : (turns : ℕ) (r : Result Accepted Refusal) (e : RawEnv) (u : Account) (facts : Facts) → AcceptSays turns r e u → OnOk r (facts ≡ facts_of_check e u) → OnOk r (HasCheckFacts turns e facts)
+check_facts_from turns (Ok a) e u facts says is = record { kept = a.env; type = a.main_type; left = u; accepted = says.0; facts_are = is }
+check_facts_from turns (Err r) e u facts says is = tt

@@ -442,6 +442,9 @@ text_early (reads.Unsupported w o) h = early 6 h (lit≤ tt) (lit≤ tt) (λ q. 
 text_early (reads.Limit l o) h = early 7 h (lit≤ tt) (lit≤ tt) (λ q. omega (arith, q))
 text_early reads.Memory h = early 1 h (lit≤ tt) (lit≤ tt) (λ q. omega (arith, q))
 
+pub fault_early : IsLate 3 → ⊥
+fault_early h = early 3 h (lit≤ tt) (lit≤ tt) (λ q. omega (arith, q))
+
 pub memory_early : IsLate 1 → ⊥
 memory_early h = early 1 h (lit≤ tt) (lit≤ tt) (λ q. omega (arith, q))
 

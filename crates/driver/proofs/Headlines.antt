@@ -1,5 +1,5 @@
 -- What `exec` answers where main's evaluation lawfully gives a value, and the bounds within which it answers data.
-use Rattle.std.proofs.Common.{◌≡◌, ◌∙◌, ℕ, ◌+◌, ◌*◌, ◌<◌, ◌≤◌, List, Ok, Err, ◌⊎◌, inl, inr, false, refl, sym, ap, subst, arith}
+use Rattle.std.proofs.Common.{◌≡◌, ◌∙◌, ℕ, ◌+◌, ◌*◌, ◌<◌, ◌≤◌, List, Some, Ok, Err, ◌⊎◌, inl, inr, false, refl, sym, ap, subst, arith}
 use Rattle.pc_terms.specs.Syntax.{Term}
 use Rattle.pc_rules.specs.declared.meter.Account.{Account}
 use Rattle.pc_rules.specs.Environment.{Env}
@@ -16,6 +16,7 @@ use Rattle.wasm_core.specs.ModuleTyping.{IsValid}
 use Rattle.wasm_core.specs.Parts.{Parts}
 use Rattle.wasm_core.specs.MachineStep.{State, Store, Over, Reach}
 use Rattle.wasm_core.specs.Answer.{Answers}
+use Rattle.wasm_core.specs.Runs.{main_start}
 use Rattle.wasm_core.proofs.Small.{inj}
 use Rattle.wasm_core.proofs.Trees.{moves_are_steps}
 use Rattle.wasm_emit.specs.EmittedModule.{module_of}
@@ -24,7 +25,7 @@ use Rattle.compile.proofs.Within.{fits_within}
 use Rattle.module_run.specs.Ends.{IsTrapped}
 use Rattle.module_run.specs.declared.refusal.RunRefusal.TheVariants as running
 use Rattle.module_run.proofs.OneEnd.{ends_answer}
-use Rattle.headline.specs.AcceptedProgram.{IsAcceptedAs, IsErasedTo, FitsPasses, IsWithinSource}
+use Rattle.headline.specs.AcceptedProgram.{IsErasedTo, FitsPasses, IsWithinSource}
 use Rattle.headline.specs.EveryRun.{EvaluatesTo, EveryRunAnswers}
 use Rattle.headline.specs.Headline.{AnswersValue as AnswersByLaw}
 use Rattle.headline.specs.SourceWords.{source_words, source_branches}
@@ -35,23 +36,23 @@ use Rattle.headline.proofs.PastMaximum.{past_maximum}
 use Rattle.headline.proofs.SourceSizes.{of_source}
 use Rattle.command_line.specs.declared.line.Request.{Request}
 use Rattle.command_line.specs.Line.{IsInRange}
-use Rattle.dump_grammar.specs.Environments.{env_of}
 use Rattle.dump_reader.specs.declared.environment.RawEnv.{RawEnv}
 use Rattle.driver.specs.declared.refusal.Refusal.{Refusal}
 use Rattle.driver.specs.declared.refusal.Refusal.TheVariants as refusals
 use Rattle.driver.specs.declared.refusal.RunEnd.{RunEnd}
 use Rattle.driver.specs.declared.refusal.RunEnd.TheVariants as ends
 use Rattle.driver.specs.Lines.{status_of}
-use Rattle.driver.specs.Judged.{start}
 use Rattle.driver.specs.Texts.{SpellsWithin}
 use Rattle.driver.specs.SourceEnds.{IsAcceptedWith}
 use Rattle.driver.specs.SourceSays.{IsLine}
 use Rattle.driver.specs.Serve.{IsCheckCause}
+use Rattle.driver.specs.Bench.{steps_of}
 use Rattle.driver.specs.ExecEnds.{Erasing, Compiling, Answering, Refuses, in_search, in_erasure, in_passes, in_run, in_text, IsExecCause, ExecEnds, RunSays, TextRefuses, its_module, its_shapes, its_environment, its_type}
 use Rattle.driver.specs.Executed.{HasErasedData}
 use Rattle.driver.specs.Headline.{HasLawfulValue, value_data, IsTextOfValue, EvaluatesErased, HasMatches}
 use Rattle.driver.proofs.SourceCauses.{accepts_inj, plainly}
-use Rattle.driver.proofs.TextCauses.{fine}
+use Rattle.driver.proofs.AcceptedAs.{accepted_as, erased_to}
+use Rattle.driver.proofs.TextCauses.{is_spelled}
 use Rattle.driver.proofs.ExecCauses.{one_program}
 use Rattle.driver.proofs.ExecSaying.{no_module, no_stuck}
 use Rattle.driver.proofs.ExecValues.{no_other}
@@ -130,20 +131,6 @@ module _ (request : Request) (range : IsInRange request) (bytes : List ℕ) (e :
   small : request.pages ≤ 16384
   small = omega (arith, range.pages.1)
 
-  accepted_as : (E : Env) (T : Term) (u : Account) → IsAcceptedWith request.turns e E T u → IsAcceptedAs e E T
-  accepted_as E T u a = record {
-    spelled = (bytes, env_of s.form, fine bytes e s, s.means);
-    cycle = a.judged.cycle;
-    found = a.judged.found;
-    room = 2048;
-    before = start request.turns;
-    after = u;
-    accepts = ap (λ d. d.outcome) (sym a.judged.is) ∙ a.accepts;
-  }
-
-  erased_to : (x : Erasing request.turns e) → IsErasedTo (its_environment x) e.main x.program
-  erased_to x = record { room = 2048; before = x.before.left; after = x.left; gives = x.erased }
-
   fits_passes : (x : Compiling request.turns e) → FitsPasses x.before.program
   fits_passes x =
       let w = fits_within x.before.program 1024 x.before.form x.fits (λ F has. (x.before.form.counts F has).constructors) in
@@ -152,7 +139,7 @@ module _ (request : Request) (range : IsInRange request) (bytes : List ℕ) (e :
   within_source : (x : Compiling request.turns e) → IsWithinSource (its_environment x.before) e.main x.before.program
   within_source x =
       let a = x.before.before.before in
-      of_source e a.kept a.type x.before.program (accepted_as a.kept a.type a.left a.accepted) (erased_to x.before) (fits_passes x)
+      of_source e a.kept a.type x.before.program (accepted_as request.turns e (is_spelled bytes e s) a.kept a.type a.left a.accepted) (erased_to request.turns e x.before) (fits_passes x)
 
   -- the runs where the erased program evaluates to data
   -- the environment of a stage is that of any acceptance
@@ -191,8 +178,8 @@ module _ (request : Request) (range : IsInRange request) (bytes : List ℕ) (e :
     law : (x : Compiling request.turns e) → IsValid (its_module request.pages x) × AnswersByLaw h.kept e.main (its_shapes x.before) x.before.program request.pages h.value n (value_data h)
     law x =
         let P = x.before.program in
-        let erased : IsErasedTo h.kept e.main P = subst (λ E. IsErasedTo E e.main P) (sym (one_kept h.kept h.type h.left h.accepted x.before).0) (erased_to x.before) in
-        let l = (headline e h.kept h.type (accepted_as h.kept h.type h.left h.accepted)).1 (its_shapes x.before) P request.pages (types_there x.before) erased (fits_passes x) pos small in
+        let erased : IsErasedTo h.kept e.main P = subst (λ E. IsErasedTo E e.main P) (sym (one_kept h.kept h.type h.left h.accepted x.before).0) (erased_to request.turns e x.before) in
+        let l = (headline e h.kept h.type (accepted_as request.turns e (is_spelled bytes e s) h.kept h.type h.left h.accepted)).1 (its_shapes x.before) P request.pages (types_there x.before) erased (fits_passes x) pos small in
         (l.0, l.1 h.value n h.given)
 
     pub value_valid : (x : Compiling request.turns e) → IsValid (its_module request.pages x)
@@ -268,16 +255,24 @@ module _ (request : Request) (range : IsInRange request) (bytes : List ℕ) (e :
   value_steps n h = enough_steps (value_data h) (source_words h.kept e.main) (source_branches h.kept) n (value_runs n h)
 
   -- a run that returns has made as many steps as there are matches
-  pub answered_late : (matches : ℕ) → HasMatches request.turns e matches → (text : List ℕ) → ExecEnds request.turns e request.pages request.steps (Ok text) → matches ≤ request.steps
-  answered_late matches h text (x, line) =
-      let c = x.before in
-      let P = c.before.program in
-      let same : h.stages.program ≡ P = one_program request.turns e h.stages c.before in
-      let back = x.ends.1.returned in
-      let run = back.run in
+  pub late_runs : (matches : ℕ) → HasMatches request.turns e matches → (x : Compiling request.turns e) (first : State) (k : ℕ) (s : Store) → main_start (its_module request.pages x) ≡ Some first →
+      Reach (its_module request.pages x) k first (Over Returned s) → matches ≤ k
+  late_runs matches h x first k s starts reach =
+      let P = x.before.program in
+      let same : h.stages.program ≡ P = one_program request.turns e h.stages x.before in
       let evaluates = subst (λ P. BoxEvaluates (saturated_program P) (saturated_program P).main h.value h.nodes matches) same h.evaluates in
       let reads = subst (λ P. BoxReads (saturated_program P) h.value h.tree) same h.reads in
-      let reach = moves_are_steps (its_module request.pages c) request.pages run.steps run.first (Over Returned back.store) run.moves in
-      let few = run.few in
-      let late = late_returns P request.pages (source_branches (its_environment c.before)) pos small (omega arith) (within_source c).within h.value h.tree h.nodes matches evaluates reads run.first run.steps back.store run.starts reach in
+      late_returns P request.pages (source_branches (its_environment x.before)) pos small (omega arith) (within_source x).within h.value h.tree h.nodes matches evaluates reads first k s starts reach
+
+  -- a run that answers
+  pub answering_late : (matches : ℕ) → HasMatches request.turns e matches → (x : Answering request.turns e request.pages request.steps) → matches ≤ steps_of x
+  answering_late matches h x =
+      let back = x.ends.1.returned in
+      let run = back.run in
+      late_runs matches h x.before run.first run.steps back.store run.starts (moves_are_steps (its_module request.pages x.before) request.pages run.steps run.first (Over Returned back.store) run.moves)
+
+  pub answered_late : (matches : ℕ) → HasMatches request.turns e matches → (text : List ℕ) → ExecEnds request.turns e request.pages request.steps (Ok text) → matches ≤ request.steps
+  answered_late matches h text (x, line) =
+      let few = x.ends.1.returned.run.few in
+      let late : matches ≤ x.ends.1.returned.run.steps = answering_late matches h x in
       omega (arith, late, few)

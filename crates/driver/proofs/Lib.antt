@@ -10,14 +10,17 @@ pub mod SourceSaying
 pub mod Evaluable
 pub mod TextFits
 pub mod ExecCauses
+pub mod AcceptedAs
+pub mod Sizes
 pub mod MadeCauses
 pub mod JobCauses
 pub mod Erased
 pub mod ModuleRuns
 pub mod ExecSaying
+pub mod FigureLines
+pub mod BenchSaying
 pub mod MadeSaying
 pub mod ExecValues
-pub mod MadeRuns
 pub mod RunCauses
 pub mod PlainAccepted
 pub mod PlainCauses
@@ -26,4 +29,4 @@ pub mod Headlines
 pub mod Checking
 pub mod Serving
 pub mod Answering
-pub mod Lines
+pub mod Inputs

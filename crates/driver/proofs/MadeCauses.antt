@@ -7,12 +7,12 @@ use Rattle.driver.specs.declared.refusal.Refusal.{Refusal}
 use Rattle.driver.specs.declared.refusal.Refusal.TheVariants as refusals
 use Rattle.driver.specs.declared.refusal.ProgramLimit.TheVariants as limits
 use Rattle.driver.specs.Lines.{status_of}
-use Rattle.driver.specs.Serve.{IsCheckCause, IsSure, IsWell}
-use Rattle.driver.specs.ExecEnds.{Accepting, Searching, Erasing, Compiling, IsCompilable, PassesSay, ErasureSays, RunSays, Refuses, in_search, in_erasure, in_passes, in_run, its_module}
+use Rattle.driver.specs.Serve.{IsCheckCause, IsSure}
+use Rattle.driver.specs.ExecEnds.{Accepting, Searching, Erasing, Compiling, IsCompilable, PassesSay, ErasureSays, RunSays, Refuses, in_search, in_erasure, in_passes, in_run, IsExecCause, its_module}
 use Rattle.driver.specs.MadeModule.{BytesRefuse, MakesNone, by_search, by_erasure, by_passes, by_bytes, IsMakeCause, IsStopped, MakeEndsWith}
 use Rattle.driver.proofs.CheckCauses.{cause_status, not_zero, accepted_status}
 use Rattle.driver.proofs.SourceCauses.{accepted_by}
-use Rattle.driver.proofs.ExecCauses.{exec_status, well_of, no_search, no_erasure, no_passes, one_module}
+use Rattle.driver.proofs.ExecCauses.{exec_status, no_search, no_erasure, no_passes, one_module}
 
 -- a module that isn't written, as one that isn't run
 bytes_run : (m : Parts) (pages steps : ℕ) (r : Refusal) → BytesRefuse m r → RunSays m pages steps (Err r)
@@ -39,15 +39,19 @@ bytes_run m pages steps (refusals.Program limits.Locals) h = absurd h
 bytes_run m pages steps (refusals.Run w) h = absurd h
 bytes_run m pages steps (refusals.Module w) h = absurd h
 
--- so a refusal of `compile` is one of `exec` in no steps
-abbrev as_exec : (turns : ℕ) (e : RawEnv) (pages : ℕ) (r : Refusal) → MakesNone turns e pages r → Refuses turns e pages 0 r
-as_exec turns e pages r (by_search x w h) = in_search x w h
-as_exec turns e pages r (by_erasure x w h) = in_erasure x w h
-as_exec turns e pages r (by_passes x h) = in_passes x h
-as_exec turns e pages r (by_bytes x valid h) = in_run x valid (bytes_run (its_module pages x) pages 0 r h)
+-- so a refusal of `compile` is one of `exec`, in however many steps
+pub as_exec : (turns : ℕ) (e : RawEnv) (pages steps : ℕ) (r : Refusal) → MakesNone turns e pages r → Refuses turns e pages steps r
+as_exec turns e pages steps r (by_search x w h) = in_search x w h
+as_exec turns e pages steps r (by_erasure x w h) = in_erasure x w h
+as_exec turns e pages steps r (by_passes x h) = in_passes x h
+as_exec turns e pages steps r (by_bytes x valid h) = in_run x valid (bytes_run (its_module pages x) pages steps r h)
+
+pub make_cause : (turns pages steps : ℕ) (r : Refusal) (e : RawEnv) → IsCheckCause turns r e ⊎ IsMakeCause turns pages r e → IsCheckCause turns r e ⊎ IsExecCause turns pages steps r e
+make_cause turns pages steps r e (inl c) = inl c
+make_cause turns pages steps r e (inr c) = inr (c.0, as_exec turns e pages steps r c.1)
 
 -- a module within 16 MiB is written
-is_written : (m : Parts) (r : Refusal) → BytesRefuse m r → r ≢ refusals.Memory → IsSmall m → ⊥
+pub is_written : (m : Parts) (r : Refusal) → BytesRefuse m r → r ≢ refusals.Memory → IsSmall m → ⊥
 is_written m refusals.Memory h n small = n refl
 is_written m refusals.Usage h n small = h
 is_written m refusals.ReadFault h n small = h
@@ -83,12 +87,12 @@ pub make_status : (turns : ℕ) (r : Refusal) (e : RawEnv) (pages status : ℕ) 
 make_status turns r e pages status (inl c) n (inl h) = cause_status turns r e status c n h.0
 make_status turns r e pages status (inl c) n (inr (inl h)) = absurd (not_zero r (sym (cause_status turns r e 0 c n h.0.check)))
 make_status turns r e pages status (inl c) n (inr (inr h)) = absurd (not_zero r (sym (cause_status turns r e 0 c n h.check)))
-make_status turns r e pages status (inr c) n (inl h) = exec_status turns r e pages 0 status (inr (c.0, as_exec turns e pages r c.1)) n (inl h)
+make_status turns r e pages status (inr c) n (inl h) = exec_status turns r e pages 0 status (make_cause turns pages 0 r e (inr c)) n (inl h)
 make_status turns r e pages status (inr c) n (inr (inl h)) = absurd (no_stop turns e pages h.0 r c.1 c.0)
-make_status turns r e pages status (inr c) n (inr (inr h)) = exec_status turns r e pages 0 status (inr (c.0, as_exec turns e pages r c.1)) n (inr (record {
+make_status turns r e pages status (inr c) n (inr (inr h)) = exec_status turns r e pages 0 status (make_cause turns pages 0 r e (inr c)) n (inr (record {
   check = h.check;
   end = Err h.refusal;
-  ends = (h.cause.0, as_exec turns e pages h.refusal h.cause.1);
+  ends = (h.cause.0, as_exec turns e pages 0 h.refusal h.cause.1);
   search_within = h.search_within;
   erasure_within = h.erasure_within;
   status_is = h.status_is;
@@ -99,7 +103,3 @@ made_status turns e pages status x small (inl h) = (let a = x.before.before.befo
 made_status turns e pages status x small (inr (inl h)) = h.1
 made_status turns e pages status x small (inr (inr h)) =
     absurd (no_stop turns e pages (record { check = h.check; stages = x; small = small; search_within = h.search_within; erasure_within = h.erasure_within }) h.refusal h.cause.1 h.cause.0)
-
--- what stops after the check stands in an environment that is well formed
-pub made_well_of : (turns : ℕ) (e : RawEnv) (pages : ℕ) (r : Refusal) → MakesNone turns e pages r → IsWell e
-made_well_of turns e pages r h = well_of turns e pages 0 r (as_exec turns e pages r h)

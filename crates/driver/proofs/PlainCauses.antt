@@ -25,7 +25,7 @@ use Rattle.plain_programs.specs.PlainEnvironment.{KeepsPlain, empties, plain_set
 use Rattle.plain_programs.specs.PlainProgram.{IsPlainProgram, plain_program}
 use Rattle.plain_programs.proofs.Searched.{types_are_found}
 use Rattle.plain_programs.proofs.Erased.{mains_are_erased}
-use Rattle.plain_programs.proofs.Passed.{programs_evaluate, programs_fit}
+use Rattle.plain_programs.proofs.Passed.{modules_are_small, programs_evaluate, programs_fit}
 use Rattle.plain_programs.proofs.Runs.{runs_answer}
 use Rattle.command_line.specs.declared.line.Request.{Request}
 use Rattle.command_line.specs.Line.{IsInRange}
@@ -34,13 +34,16 @@ use Rattle.driver.specs.declared.refusal.Refusal.{Refusal}
 use Rattle.driver.specs.declared.refusal.Refusal.TheVariants as refusals
 use Rattle.driver.specs.Answerable.{IsAnswerable}
 use Rattle.driver.specs.Judged.{start}
-use Rattle.driver.specs.ExecEnds.{erasure_of, Accepting, Searching, Erasing, Answering, its_module, its_shapes, Refuses, in_search, in_erasure, in_passes, in_run, in_text, IsExecCause, ExecEnds}
+use Rattle.driver.specs.ExecEnds.{erasure_of, Accepting, Searching, Erasing, Answering, ErasureSays, PassesSay, its_module, its_shapes, Refuses, in_search, in_erasure, in_passes, in_run, in_text, IsExecCause, ExecEnds}
 use Rattle.driver.specs.Executed.{HasErasedData}
+use Rattle.driver.specs.MadeModule.{MakesNone, by_search, by_erasure, by_passes, by_bytes, IsMakeCause}
 use Rattle.driver.specs.PlainAnswer.{NamesConstructor}
+use Rattle.driver.specs.SourceSays.{ShapesSay}
 use Rattle.driver.specs.Serve.{IsCheckCause, IsSure}
 use Rattle.driver.proofs.Accepting.{all_kept, at_place, answerable_rules, answerable_ends, answerable_keeps}
 use Rattle.driver.proofs.CheckCauses.{cause_status, not_zero}
 use Rattle.driver.proofs.Kept.{from_map}
+use Rattle.driver.proofs.MadeCauses.{is_written}
 use Rattle.driver.proofs.SourceCauses.{plainly, accepts_inj}
 use Rattle.driver.proofs.ExecCauses.{search_status, shapes_status, erasure_status, erased_status, not_passed, refused, of_run, no_text_of, set_in, account_in, program_in}
 
@@ -148,15 +151,38 @@ module _ (request : Request) (rest : ℕ) (four : request.turns ≡ suc (suc (su
       let v = programs_evaluate x.program a.id a.number (is_plain x) in
       record { stages = x; value = x.program.main; evaluates = v.0; reads = v.1; fits = fits_set x.before }
 
+  -- no stage to the module refuses
+
+  no_search : (x : Accepting request.turns e) (w : Account) (r : Refusal) → ShapesSay x.kept x.type x.left (Err r) w → r ≢ refusals.Memory → ⊥
+  no_search x w r h n = not_zero r (shapes_status x.kept x.type x.left r w h n (ap (λ z. z.deep) (search x)) ∙ ap (λ z. search_status z.end) (search x))
+
+  no_erasure : (x : Searching request.turns e) (w : Account) (r : Refusal) → ErasureSays e x.before.kept e.main x.left (Err r) w → r ≢ refusals.Memory → ⊥
+  no_erasure x w r h n = not_zero r (erased_status e x.before.kept e.main x.left r w h n (ap (λ z. z.deep) (erasure x)) ∙ ap (λ z. erasure_status z.outcome) (erasure x))
+
+  no_passes : (x : Erasing request.turns e) (r : Refusal) → PassesSay request.pages x.program (Err r) → r ≢ refusals.Memory → ⊥
+  no_passes x r h n = (not_passed request.pages x.program r h n).1 (programs_fit x.program a.id a.number (is_plain x)).0
+
+  -- so `compile` has no refusal but want of memory
+
+  no_stop : (r : Refusal) → r ≢ refusals.Memory → MakesNone request.turns e request.pages r → ⊥
+  no_stop r n (by_search x w h) = no_search x w r h n
+  no_stop r n (by_erasure x w h) = no_erasure x w r h n
+  no_stop r n (by_passes x h) = no_passes x r h n
+  no_stop r n (by_bytes x valid h) = is_written (its_module request.pages x) r h n (modules_are_small x.before.program a.id a.number request.pages x.before.form (is_plain x.before))
+
+  pub not_stopped : (r : Refusal) → IsCheckCause request.turns r e ⊎ IsMakeCause request.turns request.pages r e → (IsSure r → ⊥) → ⊥
+  not_stopped r (inl c) n = not_zero r (sym (cause_status request.turns r e 0 c n (answerable_ends request.turns e some a)))
+  not_stopped r (inr (m, c)) n = no_stop r m c
+
   module _ (range : IsInRange request) (enough : 1052672 ≤ request.steps) where
     -- the run answers it
     answer_is : (x : Answering request.turns e request.pages request.steps) → x.answer.tree ≡ tree
     answer_is x = runs_answer x.before.before.program a.id a.number request.pages request.steps (Ok x.answer) (omega (arith, range.pages.0)) (omega (arith, range.pages.1)) enough x.before.before.form (is_plain x.before.before) x.ends
 
     no_refusal : (r : Refusal) → r ≢ refusals.Memory → Refuses request.turns e request.pages request.steps r → ⊥
-    no_refusal r n (in_search x w h) = not_zero r (shapes_status x.kept x.type x.left r w h n (ap (λ z. z.deep) (search x)) ∙ ap (λ z. search_status z.end) (search x))
-    no_refusal r n (in_erasure x w h) = not_zero r (erased_status e x.before.kept e.main x.left r w h n (ap (λ z. z.deep) (erasure x)) ∙ ap (λ z. erasure_status z.outcome) (erasure x))
-    no_refusal r n (in_passes x h) = (not_passed request.pages x.program r h n).1 (programs_fit x.program a.id a.number (is_plain x)).0
+    no_refusal r n (in_search x w h) = no_search x w r h n
+    no_refusal r n (in_erasure x w h) = no_erasure x w r h n
+    no_refusal r n (in_passes x h) = no_passes x r h n
     no_refusal r n (in_run x valid h) =
         let o = of_run (its_module request.pages x) request.pages request.steps r h n in
         let s = runs_answer x.before.program a.id a.number request.pages request.steps (Err o.why) (omega (arith, range.pages.0)) (omega (arith, range.pages.1)) enough x.before.form (is_plain x.before) o.ends in

@@ -14,7 +14,7 @@ use Rattle.driver.specs.Lines.{status_of}
 use Rattle.driver.specs.RunFile.{IsFileCause, IsRunAnswer, IsRunCause, RunEndsWith, refusal_of_file, status_of_run_end}
 use Rattle.command_line.specs.declared.job.Job.TheVariants.{Run}
 use Rattle.command_line.specs.declared.line.Request.{Request}
-use Rattle.driver.specs.Serve.{IsSure, JobSays}
+use Rattle.driver.specs.Serve.{IsSure, JobSays, RefusalSays}
 
 not_sure : (why : FileRefusal) (r : Refusal) → r ≡ refusal_of_file why → why ≢ files.Memory → IsSure r → ⊥
 not_sure (files.Bad o) r e n sure = subst IsSure e sure
@@ -77,19 +77,19 @@ run_judged_answer pages steps bytes text status short h a =
 -- ---- what the job says
 
 -- the refusal of a file's end is a cause, or want of memory
-pub run_says : {V : Type 0} (view : V → List ℕ) (q : Request) (why : FileRefusal) (bytes : List ℕ) → FileEnds bytes q.pages q.steps (Err why) → JobSays {V = V} Run q view (Err (refusal_of_file why)) bytes
-run_says view q (files.Bad o) bytes h = record { why = (files.Bad o); ends = h; other = λ e. cc; is = refl }
-run_says view q (files.Invalid f p) bytes h = record { why = (files.Invalid f p); ends = h; other = λ e. cc; is = refl }
-run_says view q (files.NoEntry n) bytes h = record { why = (files.NoEntry n); ends = h; other = λ e. cc; is = refl }
-run_says view q files.Pages bytes h = record { why = files.Pages; ends = h; other = λ e. cc; is = refl }
-run_says view q files.Table bytes h = record { why = files.Table; ends = h; other = λ e. cc; is = refl }
-run_says view q files.ElementPastTable bytes h = record { why = files.ElementPastTable; ends = h; other = λ e. cc; is = refl }
-run_says view q files.Exhausted bytes h = record { why = files.Exhausted; ends = h; other = λ e. cc; is = refl }
-run_says view q files.StepsSpent bytes h = record { why = files.StepsSpent; ends = h; other = λ e. cc; is = refl }
-run_says view q (files.Trapped k) bytes h = record { why = (files.Trapped k); ends = h; other = λ e. cc; is = refl }
-run_says view q (files.NoValue w) bytes h = record { why = (files.NoValue w); ends = h; other = λ e. cc; is = refl }
-run_says view q files.AnswerNodes bytes h = record { why = files.AnswerNodes; ends = h; other = λ e. cc; is = refl }
-run_says view q files.Memory bytes h = tt
+pub run_says : (q : Request) (why : FileRefusal) (bytes : List ℕ) → FileEnds bytes q.pages q.steps (Err why) → RefusalSays Run q (refusal_of_file why) bytes
+run_says q (files.Bad o) bytes h = record { why = (files.Bad o); ends = h; other = λ e. cc; is = refl }
+run_says q (files.Invalid f p) bytes h = record { why = (files.Invalid f p); ends = h; other = λ e. cc; is = refl }
+run_says q (files.NoEntry n) bytes h = record { why = (files.NoEntry n); ends = h; other = λ e. cc; is = refl }
+run_says q files.Pages bytes h = record { why = files.Pages; ends = h; other = λ e. cc; is = refl }
+run_says q files.Table bytes h = record { why = files.Table; ends = h; other = λ e. cc; is = refl }
+run_says q files.ElementPastTable bytes h = record { why = files.ElementPastTable; ends = h; other = λ e. cc; is = refl }
+run_says q files.Exhausted bytes h = record { why = files.Exhausted; ends = h; other = λ e. cc; is = refl }
+run_says q files.StepsSpent bytes h = record { why = files.StepsSpent; ends = h; other = λ e. cc; is = refl }
+run_says q (files.Trapped k) bytes h = record { why = (files.Trapped k); ends = h; other = λ e. cc; is = refl }
+run_says q (files.NoValue w) bytes h = record { why = (files.NoValue w); ends = h; other = λ e. cc; is = refl }
+run_says q files.AnswerNodes bytes h = record { why = files.AnswerNodes; ends = h; other = λ e. cc; is = refl }
+run_says q files.Memory bytes h = tt
 
 -- a text that is made of the answer, or want of memory
 pub tags_says : {V : Type 0} (view : V → List ℕ) (q : Request) (r : Result V Refusal) (bytes : List ℕ) (tree : Data) → FileEnds bytes q.pages q.steps (Ok tree) →

@@ -27,7 +27,7 @@ use Rattle.driver.specs.Texts.{SpellsWithin}
 use Rattle.driver.specs.SourceEnds.{Ended, IsRead, read_value, with_set, source_rule, ShowsEnd, IsAcceptedWith, IsSourceCause, source_status}
 use Rattle.driver.specs.SourceSays.{ShapesSay, ValueSays, DataSays, IsLine}
 use Rattle.driver.specs.EvaluatedSource.{IsEvaluated}
-use Rattle.driver.specs.Serve.{JobSays}
+use Rattle.driver.specs.Serve.{JobSays, RefusalSays}
 use Rattle.driver.proofs.Kept.{was_read, named_ctor, from_map}
 
 -- the first of two runs has no unit left, or passes a limit
@@ -144,12 +144,12 @@ names_there bytes e E T s checked hs named i c h k at at' =
 
 -- ---- the answers of `eval`
 
-pub source_says : {V : Type 0} (view : V → List ℕ) (q : Request) (r : Refusal) (bytes : List ℕ) (e : RawEnv) (E : Env) (t T : Term) (u w : Account) → SpellsWithin bytes e →
+pub source_says : (q : Request) (r : Refusal) (bytes : List ℕ) (e : RawEnv) (E : Env) (t T : Term) (u w : Account) → SpellsWithin bytes e →
     IsAcceptedWith q.turns e E T u → t ≡ e.main → IsCheckedEnvironment e.levels e.constraints (givens e) e.main E T → (r ≡ refusals.Memory) ⊎ ShowsEnd r (source_rule E t T u) w →
-    JobSays {V = V} Eval q view (Err r) bytes
-source_says {V = V} view q r bytes e E t T u w s a m checked (inl none) = subst (λ x. JobSays {V = V} Eval q view (Err x) bytes) (sym none) tt
-source_says {V = V} view q r bytes e E t T u w s a m checked (inr h) =
-    caused {V = V} view q r bytes e s w (source_rule E t T u) h (record {
+    RefusalSays Eval q r bytes
+source_says q r bytes e E t T u w s a m checked (inl none) = subst (λ x. RefusalSays Eval q x bytes) (sym none) tt
+source_says q r bytes e E t T u w s a m checked (inr h) =
+    caused q r bytes e s w (source_rule E t T u) h (record {
       run = source_rule E t T u;
       of = record { kept = E; type = T; left = u; accepted = a; is = ap (λ x. source_rule E x T u) m };
       well = checked;
@@ -157,26 +157,26 @@ source_says {V = V} view q r bytes e E t T u w s a m checked (inr h) =
       shows = h;
     })
   where
-    caused : {V : Type 0} (view : V → List ℕ) (q : Request) (r : Refusal) (bytes : List ℕ) (e : RawEnv) → SpellsWithin bytes e → (w : Account) (run : Run Ended) → ShowsEnd r run w → IsSourceCause q.turns r e → JobSays {V = V} Eval q view (Err r) bytes
-    caused view q refusals.TurnsSpent bytes e s w run h c = (e, s, inr c)
-    caused view q refusals.Depth bytes e s w run h c = (e, s, inr c)
-    caused view q refusals.NotFirstOrder bytes e s w run h c = (e, s, inr c)
-    caused view q refusals.Types bytes e s w run h c = (e, s, inr c)
-    caused view q refusals.Stuck bytes e s w run h c = (e, s, inr c)
-    caused view q refusals.AnswerNodes bytes e s w run h c = (e, s, inr c)
-    caused view q refusals.Memory bytes e s w run h c = absurd h
-    caused view q refusals.Usage bytes e s w run h c = absurd h
-    caused view q refusals.ReadFault bytes e s w run h c = absurd h
-    caused view q refusals.WriteFault bytes e s w run h c = absurd h
-    caused view q (refusals.Syntax o) bytes e s w run h c = absurd h
-    caused view q (refusals.Unsupported x o) bytes e s w run h c = absurd h
-    caused view q (refusals.Limit l) bytes e s w run h c = absurd h
-    caused view q refusals.InputBytes bytes e s w run h c = absurd h
-    caused view q (refusals.Broken n p) bytes e s w run h c = absurd h
-    caused view q (refusals.Axiom name) bytes e s w run h c = absurd h
-    caused view q (refusals.Program l) bytes e s w run h c = absurd h
-    caused view q (refusals.Run x) bytes e s w run h c = absurd h
-    caused view q (refusals.Module x) bytes e s w run h c = absurd h
+    caused : (q : Request) (r : Refusal) (bytes : List ℕ) (e : RawEnv) → SpellsWithin bytes e → (w : Account) (run : Run Ended) → ShowsEnd r run w → IsSourceCause q.turns r e → RefusalSays Eval q r bytes
+    caused q refusals.TurnsSpent bytes e s w run h c = (e, s, inr c)
+    caused q refusals.Depth bytes e s w run h c = (e, s, inr c)
+    caused q refusals.NotFirstOrder bytes e s w run h c = (e, s, inr c)
+    caused q refusals.Types bytes e s w run h c = (e, s, inr c)
+    caused q refusals.Stuck bytes e s w run h c = (e, s, inr c)
+    caused q refusals.AnswerNodes bytes e s w run h c = (e, s, inr c)
+    caused q refusals.Memory bytes e s w run h c = absurd h
+    caused q refusals.Usage bytes e s w run h c = absurd h
+    caused q refusals.ReadFault bytes e s w run h c = absurd h
+    caused q refusals.WriteFault bytes e s w run h c = absurd h
+    caused q (refusals.Syntax o) bytes e s w run h c = absurd h
+    caused q (refusals.Unsupported x o) bytes e s w run h c = absurd h
+    caused q (refusals.Limit l) bytes e s w run h c = absurd h
+    caused q refusals.InputBytes bytes e s w run h c = absurd h
+    caused q (refusals.Broken n p) bytes e s w run h c = absurd h
+    caused q (refusals.Axiom name) bytes e s w run h c = absurd h
+    caused q (refusals.Program l) bytes e s w run h c = absurd h
+    caused q (refusals.Run x) bytes e s w run h c = absurd h
+    caused q (refusals.Module x) bytes e s w run h c = absurd h
 
 pub evaluated : (turns : ℕ) (bytes text : List ℕ) (e : RawEnv) (E : Env) (t T : Term) (u v w : Account) → SpellsWithin bytes e → IsAcceptedWith turns e E T u → t ≡ e.main →
     IsCheckedEnvironment e.levels e.constraints (givens e) e.main E T → (hs : List Shape) → AreNamed E hs → IsFirstOrder E T (members hs) →

@@ -1,5 +1,5 @@
 -- The cause of a refusal of the text is one, and shows that the text has no answer.
-use Rattle.std.proofs.Common.{◌≡◌, ℕ, ◌≤◌, List, [], ◌∷◌, length, Option, Some, Result, Ok, Err, inl, inr, refl, sym, ap, subst, ◌∙◌}
+use Rattle.std.proofs.Common.{◌≡◌, ℕ, ◌≤◌, List, [], ◌∷◌, length, Option, Some, Result, Ok, Err, ◌⊎◌, inl, inr, refl, sym, ap, subst, ◌∙◌}
 use Rattle.sexp_reader.specs.Lex.{tokens_of}
 use Rattle.dump_grammar.specs.declared.refusal.ReadRefusal.{ReadRefusal}
 use Rattle.dump_grammar.specs.declared.refusal.ReadRefusal.TheVariants as reads
@@ -12,30 +12,35 @@ use Rattle.dump_grammar.proofs.Law.{judged}
 use Rattle.dump_grammar.proofs.Within.{limited}
 use Rattle.dump_reader.specs.declared.environment.RawEnv.{RawEnv}
 use Rattle.dump_reader.specs.NumberedEnvironment.{numbered}
+use Rattle.dump_reader.specs.Spelled.{IsSpelled}
 use Rattle.dump_reader.specs.Spelling.{IsVerdict}
 use Rattle.driver.specs.declared.refusal.Refusal.{Refusal}
 use Rattle.driver.specs.declared.refusal.Refusal.TheVariants as refusals
 use Rattle.driver.specs.Lines.{refusal_of}
 use Rattle.command_line.specs.declared.job.Job.{Job}
-use Rattle.command_line.specs.declared.job.Job.TheVariants.{Exec, Check, Eval, Run, Compile}
+use Rattle.command_line.specs.declared.job.Job.TheVariants.{Exec, Check, Eval, Run, Compile, Bench}
 use Rattle.driver.specs.Lines.{status_of}
 use Rattle.driver.specs.Texts.{SpellsWithin, Refuses}
 use Rattle.driver.specs.Judged.{IsAcceptedBy, EndsWith}
 use Rattle.driver.specs.SourceEnds.{IsSourceRun, source_status}
-use Rattle.driver.specs.ExecEnds.{ExecEnds}
+use Rattle.driver.specs.ExecEnds.{Answering, Compiling, ExecEnds, IsExecCause, its_module, its_shapes}
 use Rattle.driver.specs.Executed.{IsExecuted}
-use Rattle.driver.specs.MadeModule.{MakeEndsWith}
+use Rattle.driver.specs.Benched.{IsBenched}
+use Rattle.driver.specs.Bench.{lines_of}
+use Rattle.driver.specs.SourceSays.{IsLine}
+use Rattle.driver.specs.MadeModule.{IsMade, MakeEndsWith}
 use Rattle.command_line.specs.declared.line.Request.{Request}
 use Rattle.command_line.specs.Line.{request_of}
+use Rattle.wasm_core.specs.ModuleGrammar.{SpellsModule}
 use Rattle.wasm_core.specs.ShortestBytes.{most_bytes}
 use Rattle.driver.specs.RunFile.{IsRunCause}
-use Rattle.driver.specs.Serve.{IsAnswerableBy, IsAnswerOf, HasWell, IsLate, IsDumpCause, IsDumpJudgedWith, IsInput, IsJobCause, IsTextCause, IsSure, IsJudgedWith, JobSays, Says}
+use Rattle.driver.specs.Serve.{IsAnswerableBy, IsAnswerOf, HasWell, IsLate, IsCheckCause, IsDumpCause, IsDumpJudgedWith, IsJobCause, IsTextCause, IsSure, IsJudgedWith, MakesModule}
 use Rattle.driver.proofs.RunCauses.{run_judged_answer, run_judged_cause, run_not_sure}
 use Rattle.driver.proofs.CheckCauses.{accepted_status, not_zero}
 use Rattle.driver.proofs.SourceCauses.{accepted_by, same_run}
 use Rattle.driver.proofs.ExecCauses.{executed_status, check_early, text_early, well_of}
-use Rattle.driver.proofs.JobCauses.{answerable_status, job_status}
-use Rattle.driver.proofs.MadeCauses.{made_status, made_well_of}
+use Rattle.driver.proofs.JobCauses.{answerable_status, compile_cause, exec_cause, job_status}
+use Rattle.driver.proofs.MadeCauses.{made_status, make_cause}
 
 abbrev pub verdict_on : List ℕ → Verdict
 verdict_on bytes = verdict (length bytes) (tokens_of bytes)
@@ -45,6 +50,9 @@ refuses bytes r h = first_refusal.refused (length bytes) (tokens_of bytes) r h
 
 pub fine : (bytes : List ℕ) (e : RawEnv) (s : SpellsWithin bytes e) → verdict_on bytes ≡ Fine (VEnv (env_of s.form) ∷ [])
 fine bytes e s = limited.within (length bytes) (tokens_of bytes) s.form s.tokens s.within
+
+pub is_spelled : (bytes : List ℕ) (e : RawEnv) → SpellsWithin bytes e → IsSpelled e
+is_spelled bytes e s = (bytes, env_of s.form, fine bytes e s, s.means)
 
 refuse-inj : (q r : ReadRefusal) → Refuse q ≡ Refuse r → q ≡ r
 refuse-inj q r e = cc
@@ -119,7 +127,7 @@ dump_answerable : (job : Job) (q : Request) (bytes : List ℕ) (r : Refusal) (e 
 dump_answerable job q bytes r e s answerable h =
     elim (of job q bytes r h) [
       | OfRefusal x v k ↦ never_both bytes e x s v
-      | OfCheck f t c n ↦ not_zero r (sym (answerable_status job q r e answerable (subst (IsJobCause job q r) (one_environment bytes f e t s) c) n))
+      | OfCheck f t c n ↦ not_zero r (sym (answerable_status job q r e (is_spelled bytes e s) answerable (subst (IsJobCause job q r) (one_environment bytes f e t s) c) n))
     ]
 
 pub answerable_cause : (job : Job) (q : Request) (bytes : List ℕ) (r : Refusal) (e : RawEnv) → SpellsWithin bytes e → IsAnswerableBy job q e → IsTextCause job q r bytes → ⊥
@@ -127,22 +135,42 @@ answerable_cause Exec q bytes r e s answerable h = dump_answerable Exec q bytes 
 answerable_cause Check q bytes r e s answerable h = dump_answerable Check q bytes r e s answerable h
 answerable_cause Eval q bytes r e s answerable h = dump_answerable Eval q bytes r e s answerable h
 answerable_cause Compile q bytes r e s answerable h = dump_answerable Compile q bytes r e s answerable h
+answerable_cause Bench q bytes r e s answerable h = dump_answerable Bench q bytes r e s answerable h
 answerable_cause Run q bytes r e s answerable h = answerable
 
--- where `exec` refuses after the check the text spells an environment that is well formed
-pub well_on : (q : Request) (bytes : List ℕ) (r : Refusal) → IsDumpCause Exec q r bytes → IsLate (status_of r) → HasWell bytes
-well_on q bytes r h late =
-    elim (of Exec q bytes r h) [
+-- ---- a job that makes main's module
+
+-- a cause of it is one of `exec`
+pub module_cause : (q : Request) (bytes : List ℕ) (e : RawEnv) (r : Refusal) → SpellsWithin bytes e → MakesModule q.job → IsTextCause q.job q r bytes → IsCheckCause q.turns r e ⊎ IsExecCause q.turns q.pages q.steps r e
+module_cause q bytes e r s (inl is) h = exec_cause q r e (cause_on Exec q bytes e r s (subst (λ j. IsTextCause j q r bytes) is h))
+module_cause q bytes e r s (inr (inl is)) h = make_cause q.turns q.pages q.steps r e (compile_cause q r e (cause_on Compile q bytes e r s (subst (λ j. IsTextCause j q r bytes) is h)))
+module_cause q bytes e r s (inr (inr is)) h = exec_cause q r e (cause_on Bench q bytes e r s (subst (λ j. IsTextCause j q r bytes) is h))
+
+-- where it refuses after the check the text spells an environment that is well formed
+
+well_of_dump : (job : Job) (q : Request) (bytes : List ℕ) (r : Refusal) → ((e : RawEnv) → IsJobCause job q r e → IsCheckCause q.turns r e ⊎ IsExecCause q.turns q.pages q.steps r e) → IsDumpCause job q r bytes →
+    IsLate (status_of r) → HasWell bytes
+well_of_dump job q bytes r causes h late =
+    elim (of job q bytes r h) [
       | OfRefusal x v k ↦ absurd (text_early x (subst (λ y. IsLate (status_of y)) k late))
-      | OfCheck f t c n ↦ elim c [ inl x ↦ absurd (check_early q.turns r f x late) | inr x ↦ (f, t, well_of q.turns f q.pages q.steps r x.1) ]
+      | OfCheck f t c n ↦ elim (causes f c) [ inl x ↦ absurd (check_early q.turns r f x late) | inr x ↦ (f, t, well_of q.turns f q.pages q.steps r x.1) ]
     ]
 
-pub made_well_on : (q : Request) (bytes : List ℕ) (r : Refusal) → IsDumpCause Compile q r bytes → IsLate (status_of r) → HasWell bytes
-made_well_on q bytes r h late =
-    elim (of Compile q bytes r h) [
-      | OfRefusal x v k ↦ absurd (text_early x (subst (λ y. IsLate (status_of y)) k late))
-      | OfCheck f t c n ↦ elim c [ inl x ↦ absurd (check_early q.turns r f x late) | inr x ↦ (f, t, made_well_of q.turns f q.pages r x.1) ]
-    ]
+pub well_on : (q : Request) (bytes : List ℕ) (r : Refusal) → MakesModule q.job → IsTextCause q.job q r bytes → IsLate (status_of r) → HasWell bytes
+well_on q bytes r (inl is) h late = well_of_dump Exec q bytes r (exec_cause q r) (subst (λ j. IsTextCause j q r bytes) is h) late
+well_on q bytes r (inr (inl is)) h late = well_of_dump Compile q bytes r (λ e c. make_cause q.turns q.pages q.steps r e (compile_cause q r e c)) (subst (λ j. IsTextCause j q r bytes) is h) late
+well_on q bytes r (inr (inr is)) h late = well_of_dump Bench q bytes r (exec_cause q r) (subst (λ j. IsTextCause j q r bytes) is h) late
+
+-- and where it has an answer
+
+well_before : (bytes : List ℕ) (turns : ℕ) (e : RawEnv) → SpellsWithin bytes e → Compiling turns e → HasWell bytes
+well_before bytes turns e s x = let k = x.before.before.before in (e, s, record { kept = k.kept; type = k.type; checked = k.checked })
+
+pub well_answered : (q : Request) (bytes text : List ℕ) → MakesModule q.job → IsAnswerOf q.job q bytes text → HasWell bytes
+well_answered q bytes text (inl is) a = (let x : IsExecuted q.turns q.pages q.steps bytes text = subst (λ j. IsAnswerOf j q bytes text) is a in well_before bytes q.turns x.environment x.spelled x.stages.before)
+well_answered q bytes text (inr (inl is)) a = (let x : IsMade q.turns q.pages bytes text = subst (λ j. IsAnswerOf j q bytes text) is a in well_before bytes q.turns x.environment x.spelled x.stages)
+well_answered q bytes text (inr (inr is)) a =
+    (let b : IsBenched q.turns q.pages q.steps bytes text = subst (λ j. IsAnswerOf j q bytes text) is a in well_before bytes q.turns b.executed.environment b.executed.spelled b.executed.stages.before)
 
 -- a text that spells an environment has no sure cause
 pub dump_not_sure : (job : Job) (q : Request) (bytes : List ℕ) (e : RawEnv) (r : Refusal) → SpellsWithin bytes e → IsDumpCause job q r bytes → IsSure r → ⊥
@@ -160,6 +188,17 @@ check_judged turns bytes e f status s ends t accepted = accepted_status turns e 
 pub executed_on : (q : Request) (bytes text : List ℕ) (e : RawEnv) → SpellsWithin bytes e → (a : IsExecuted q.turns q.pages q.steps bytes text) → ExecEnds q.turns e q.pages q.steps (Ok text)
 executed_on q bytes text e s a = subst (λ x. ExecEnds q.turns x q.pages q.steps (Ok text)) (one_environment bytes a.environment e a.spelled s) (a.stages, a.text_is)
 
+-- and of `compile`
+pub made_on : (q : Request) (bytes text : List ℕ) (e : RawEnv) → SpellsWithin bytes e → (a : IsMade q.turns q.pages bytes text) → (x : Compiling q.turns e) × SpellsModule text (its_module q.pages x)
+made_on q bytes text e s a = subst (λ y. (x : Compiling q.turns y) × SpellsModule text (its_module q.pages x)) (one_environment bytes a.environment e a.spelled s) (a.stages, a.module_is)
+
+-- and of `bench`
+pub benched_on : (q : Request) (bytes text : List ℕ) (e : RawEnv) → SpellsWithin bytes e → IsBenched q.turns q.pages q.steps bytes text →
+    (answer : List ℕ) × (x : Answering q.turns e q.pages q.steps) × IsLine (its_shapes x.before.before) e.names x.answer.tree answer × (text ≡ lines_of x answer)
+benched_on q bytes text e s b =
+    subst (λ y. (answer : List ℕ) × (x : Answering q.turns y q.pages q.steps) × IsLine (its_shapes x.before.before) y.names x.answer.tree answer × (text ≡ lines_of x answer))
+    (one_environment bytes b.executed.environment e b.executed.spelled s) (b.answer, b.executed.stages, b.executed.text_is, b.text_is)
+
 -- ---- the same of any job's input
 
 pub one_cause : (job : Job) (q : Request) (bytes : List ℕ) (a r : Refusal) → IsTextCause job q a bytes → IsTextCause job q r bytes → IsSure r → a ≡ r
@@ -167,6 +206,7 @@ one_cause Exec q bytes a r h k sure = dump_one_cause Exec q bytes a r h k sure
 one_cause Check q bytes a r h k sure = dump_one_cause Check q bytes a r h k sure
 one_cause Eval q bytes a r h k sure = dump_one_cause Eval q bytes a r h k sure
 one_cause Compile q bytes a r h k sure = dump_one_cause Compile q bytes a r h k sure
+one_cause Bench q bytes a r h k sure = dump_one_cause Bench q bytes a r h k sure
 one_cause Run q bytes a r h k sure = absurd (run_not_sure q.pages q.steps r bytes k sure)
 
 pub judged_cause : (job : Job) (q : Request) (bytes : List ℕ) (status : ℕ) (r : Refusal) → length bytes ≤ most_bytes → IsJudgedWith job q status bytes → IsTextCause job q r bytes → status ≡ status_of r
@@ -174,6 +214,7 @@ judged_cause Exec q bytes status r short h k = dump_judged_cause Exec q bytes st
 judged_cause Check q bytes status r short h k = dump_judged_cause Check q bytes status r h k
 judged_cause Eval q bytes status r short h k = dump_judged_cause Eval q bytes status r h k
 judged_cause Compile q bytes status r short h k = dump_judged_cause Compile q bytes status r h k
+judged_cause Bench q bytes status r short h k = dump_judged_cause Bench q bytes status r h k
 judged_cause Run q bytes status r short h k = run_judged_cause q.pages q.steps bytes status r short h k
 
 pub no_cause_of_answers : (job : Job) (q : Request) (bytes text : List ℕ) (r : Refusal) → IsAnswerOf job q bytes text → IsTextCause job q r bytes → IsSure r → ⊥
@@ -181,6 +222,7 @@ no_cause_of_answers Exec q bytes text r a h sure = dump_not_sure Exec q bytes a.
 no_cause_of_answers Check q bytes text r a h sure = dump_not_sure Check q bytes a.environment r a.spelled h sure
 no_cause_of_answers Eval q bytes text r a h sure = dump_not_sure Eval q bytes a.environment r a.spelled h sure
 no_cause_of_answers Compile q bytes text r a h sure = dump_not_sure Compile q bytes a.environment r a.spelled h sure
+no_cause_of_answers Bench q bytes text r a h sure = dump_not_sure Bench q bytes a.executed.environment r a.executed.spelled h sure
 no_cause_of_answers Run q bytes text r a h sure = run_not_sure q.pages q.steps r bytes h sure
 
 pub judged_answer : (job : Job) (q : Request) (bytes text : List ℕ) (status : ℕ) → length bytes ≤ most_bytes → IsJudgedWith job q status bytes → IsAnswerOf job q bytes text → status ≡ 0
@@ -193,6 +235,7 @@ judged_answer Eval q bytes text status short (e, s, inr ends) a =
     ends.status_is ∙ ap (λ r. source_status r.end) (same_run q.turns e ends.run a.run ends.of there) ∙ a.ends
 judged_answer Compile q bytes text status short (e, s, ends) a =
     made_status q.turns a.environment q.pages status a.stages a.small (subst (λ x. MakeEndsWith q.turns x q.pages status) (one_environment bytes e a.environment s a.spelled) ends)
+judged_answer Bench q bytes text status short (e, s, ends) a = executed_status q.turns e q.pages q.steps a.answer status (executed_on q bytes a.answer e s a.executed) ends
 judged_answer Run q bytes text status short h a = run_judged_answer q.pages q.steps bytes text status short h a
 
 -- What the reader gives is spelled within the limits.

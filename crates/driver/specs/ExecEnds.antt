@@ -1,6 +1,6 @@
 -- How `exec` ends after the check: the search for a first-order set of main's type, erasure, the passes, the run of the module, and the text of its answer. Each stage
 -- says by the definitions of its layer why it stops, or what it hands on.
-use Rattle.std.specs.Prelude.{ℕ, ◌≡◌, ◌≢◌, ◌⊎◌, List, [], ◌∷◌, Contains, IsTrue, false, Result, Ok, Err}
+use Rattle.std.specs.Prelude.{ℕ, ◌≡◌, ◌≢◌, ◌<◌, ◌⊎◌, List, [], ◌∷◌, Contains, IsTrue, false, Result, Ok, Err}
 use Rattle.pc_terms.specs.declared.leaf.Name.{Name}
 use Rattle.pc_terms.specs.Syntax.{Term}
 use Rattle.pc_rules.specs.declared.broken.Broken.{Broken}
@@ -18,6 +18,7 @@ use Rattle.first_order.specs.declared.shapes.Shape.{Shape}
 use Rattle.first_order.specs.Searching.{members, AreNamed}
 use Rattle.lambda_box.specs.BoxProgram.{BoxProgram}
 use Rattle.lambda_box.specs.BoxForm.{IsBoxProgram}
+use Rattle.lambda_box.specs.DataTerms.{greatest_words}
 use Rattle.erase_laws.specs.ErasedProgram.{HasErased, IsErased}
 use Rattle.erase_rules.specs.DirectedProgram.{Answer, Program, ReachesAxiom, erased_program}
 use Rattle.wasm_core.specs.declared.ended.TrapKind.{TrapKind}
@@ -28,8 +29,12 @@ use Rattle.back_end.specs.BackEnd.{passed}
 use Rattle.compile.specs.Passes.{Fits, IsRefused}
 use Rattle.compile.specs.declared.fault.CompileFault.TheVariants as compiling
 use Rattle.module_run.specs.declared.answer.Answer.{Answer as Answered}
+use Rattle.module_run.specs.declared.answer.Measured.{Measured}
 use Rattle.module_run.specs.declared.refusal.RunRefusal.TheVariants as running
 use Rattle.module_run.specs.Ends.{Ends, IsLarge, IsSmall, IsTrapped}
+use Rattle.module_run.specs.Figures.{IsMeasured}
+use Rattle.headline.specs.SourceWords.{source_words}
+use Rattle.source_limits.specs.PassedSizes.{saturated_nodes, most_bytes, bytes_bound, IsSmallProgram, ShowsSize}
 use Rattle.dump_reader.specs.declared.environment.RawEnv.{RawEnv}
 use Rattle.driver.specs.declared.refusal.Refusal.{Refusal}
 use Rattle.driver.specs.declared.refusal.Refusal.TheVariants as refusals
@@ -80,6 +85,11 @@ RunSays m pages steps (Err (refusals.Run (ends.NoValue word))) = Ends m pages st
 RunSays m pages steps (Err refusals.AnswerNodes) = Ends m pages steps (Err running.AnswerNodes)
 RunSays m pages steps (Err refusals.Memory) = Unit {0}
 RunSays m pages steps (Err _) = ⊥
+
+-- so, with the figures of a run that answers
+abbrev pub MeasuredSays : Parts → (pages steps : ℕ) → Result Measured Refusal → Type 0
+MeasuredSays m pages steps (Ok x) = IsMeasured m pages steps x
+MeasuredSays m pages steps (Err r) = RunSays m pages steps (Err r)
 
 -- the data isn't of main's type, which the word in `result` shows
 abbrev pub TextRefuses : List Shape → Answered → Refusal → Type 0
@@ -159,6 +169,17 @@ pub data Refuses (turns : ℕ) (e : RawEnv) (pages steps : ℕ) (r : Refusal) : 
 abbrev pub IsExecCause : (turns pages steps : ℕ) → Refusal → RawEnv → Type 0
 IsExecCause turns pages steps r e = (r ≢ refusals.Memory) × Refuses turns e pages steps r
 
+-- by a refusal for the program or for its module, the program is large after saturation: it has lambdas under over 1,000 binders, too many nodes, or too many nodes and words for its module's bytes
+abbrev pub ShowsLarge : BoxProgram → Refusal → Type 0
+ShowsLarge P (refusals.Program limits.Captured) = ShowsSize P compiling.Captured
+ShowsLarge P (refusals.Program limits.Functions) = ShowsSize P compiling.Functions
+ShowsLarge P (refusals.Program limits.Locals) = ShowsSize P compiling.Locals
+ShowsLarge P (refusals.Program limits.ModuleBytes) = most_bytes < bytes_bound (saturated_nodes P) (greatest_words P)
+ShowsLarge P r = Unit {0}
+
+abbrev pub IsLargeFor : (turns : ℕ) → Refusal → RawEnv → Type 0
+IsLargeFor turns r e = (x : Erasing turns e) → ShowsLarge x.program r
+
 -- the text of the answer, or a refusal other than want of memory
 abbrev pub ExecEnds : (turns : ℕ) → RawEnv → (pages steps : ℕ) → Result (List ℕ) Refusal → Type 0
 ExecEnds turns e pages steps (Ok text) = (x : Answering turns e pages steps) × IsLine (its_shapes x.before.before) e.names x.answer.tree text
@@ -190,6 +211,18 @@ pub record IsCompilable (turns : ℕ) (e : RawEnv) (pages : ℕ) : Type 0 where
   pub small : IsSmall (its_module pages stages)
   pub search_within : (x : Accepting turns e) → (first_order_search x.kept x.type x.left).deep ≡ false
   pub erasure_within : (x : Searching turns e) → (erasure_of x.before.kept e.main x.left).deep ≡ false
+
+-- the same, and the program is small, by the source's words: no term of it is too deep after saturation, no lambda under over 1,000 binders, and its nodes are few, alone and with the words
+pub record IsSmallSource (turns : ℕ) (e : RawEnv) : Type 0 where
+  pub check : EndsWith turns e 0
+  pub stages : Erasing turns e
+  pub sizes : IsSmallProgram stages.program (source_words (its_environment stages) e.main)
+  pub search_within : (x : Accepting turns e) → (first_order_search x.kept x.type x.left).deep ≡ false
+  pub erasure_within : (x : Searching turns e) → (erasure_of x.before.kept e.main x.left).deep ≡ false
+
+-- main has a module, as the passes or the sizes show
+abbrev pub HasModule : (turns : ℕ) → RawEnv → (pages : ℕ) → Type 0
+HasModule turns e pages = IsCompilable turns e pages ⊎ IsSmallSource turns e
 
 -- then there is an answer, or want of memory; or the run's answer has too many nodes, the run is exhausted, or longer, or its answer is no data of main's type
 pub record Finishes (turns : ℕ) (e : RawEnv) (pages steps status : ℕ) : Type 0 where

@@ -1,4 +1,4 @@
--- The answer of `exec`: the text of the data that main's module answers; and the data of the erased program.
+-- The answer of `exec`: the text of the data that main's module answers; and what `exec` and `compile` owe the data of the erased program.
 use Rattle.std.specs.Prelude.{◌≡◌, ◌≢◌, ℕ, List, Option}
 use Rattle.std.specs.Io.KnownBytes.{Appends}
 use Rattle.pc_terms.specs.BoxSyntax.{BoxTerm}
@@ -11,10 +11,13 @@ use Rattle.wasm_core.specs.ModuleTyping.{IsValid}
 use Rattle.wasm_core.specs.Answer.{AnswersWithin}
 use Rattle.wasm_core.specs.ShortestBytes.{module_bytes}
 use Rattle.dump_reader.specs.declared.environment.RawEnv.{RawEnv}
+use Rattle.command_line.specs.declared.job.Job.TheVariants.{Bench, Compile, Exec}
 use Rattle.command_line.specs.declared.line.Request.{Request}
 use Rattle.driver.specs.Texts.{SpellsWithin}
 use Rattle.driver.specs.SourceSays.{IsLine}
 use Rattle.driver.specs.ExecEnds.{Erasing, Compiling, Answering, its_module, its_shapes}
+use Rattle.driver.specs.MadeModule.{TakesModule}
+use Rattle.driver.specs.Bench.{TakesFigures}
 
 -- The text is the answer of `exec` on the input.
 pub record IsExecuted (turns pages steps : ℕ) (bytes text : List ℕ) : Type 0 where
@@ -41,9 +44,11 @@ pub record IsTextOf (turns : ℕ) (e : RawEnv) (ds : Data) (text : List ℕ) : T
   pub stages : Erasing turns e
   pub line : IsLine (its_shapes stages) e.names ds text
 
--- on status 0 out takes the text of this data and LF, and the status is never 15; and each module that main has is valid, no run of it is longer than some number of steps, whichever grows of memory are
--- refused, and each run that can go no further answers this data or is exhausted
+-- each module that main has is valid, no run of it is longer than some number of steps, whichever grows of memory are refused, and each run that can go no further
+-- answers this data or is exhausted; on status 0 out takes by `exec` the data's text and LF, by `bench` that behind the figures, and by `compile` that module; and the status isn't 15
 pub record AnswersData (q : Request) (e : RawEnv) (ds : Data) (status : ℕ) (taken taken' : Option (List ℕ)) : Type 0 where
-  pub text : status ≡ 0 → (text : List ℕ) × IsTextOf q.turns e ds text × Appends taken taken' text
-  pub answers : status ≢ 15
   pub runs : (x : Compiling q.turns e) → IsValid (its_module q.pages x) × ((most : ℕ) × AnswersWithin (its_module q.pages x) most ds)
+  pub text : q.job ≡ Exec → status ≡ 0 → (text : List ℕ) × IsTextOf q.turns e ds text × Appends taken taken' text
+  pub figures : q.job ≡ Bench → status ≡ 0 → (text : List ℕ) × IsTextOf q.turns e ds text × TakesFigures q e text taken taken'
+  pub object : q.job ≡ Compile → status ≡ 0 → TakesModule q e taken taken'
+  pub answers : status ≢ 15

@@ -1,6 +1,6 @@
--- The headline on the top call: what `exec` answers where main's evaluation lawfully gives a value, what every run of its module answers, and within which
--- bounds.
-use Rattle.std.specs.Prelude.{◌≡◌, ◌≢◌, ℕ, ◌+◌, ◌*◌, ◌≤◌, List, Option}
+-- The headline on the top call: where main's evaluation lawfully gives a value, what every run of the module that `exec` runs and `compile` writes answers, within which
+-- bounds, and what is written.
+use Rattle.std.specs.Prelude.{◌≡◌, ◌≢◌, ℕ, ◌+◌, ◌*◌, ◌<◌, ◌≤◌, List, Option, Some}
 use Rattle.std.specs.Io.KnownBytes.{Appends}
 use Rattle.pc_terms.specs.Syntax.{Term}
 use Rattle.pc_terms.specs.BoxSyntax.{BoxTerm}
@@ -14,14 +14,20 @@ use Rattle.lambda_box.specs.BoxData.{BoxReads}
 use Rattle.lambda_box.specs.DataTerms.{greatest_words}
 use Rattle.box_passes.specs.PassLaws.{saturated_program}
 use Rattle.wasm_core.specs.ModuleTyping.{IsValid}
+use Rattle.wasm_core.specs.declared.ended.Ended.TheVariants.{Returned}
+use Rattle.wasm_core.specs.MachineStep.{State, Store, Over, Reach}
+use Rattle.wasm_core.specs.Runs.{main_start}
 use Rattle.headline.specs.EveryRun.{EveryRunAnswers}
 use Rattle.headline.specs.Headline.{GivesLawfully, IsExactly}
 use Rattle.headline.specs.SourceWords.{source_words, source_branches}
+use Rattle.command_line.specs.declared.job.Job.TheVariants.{Bench, Compile, Exec}
 use Rattle.command_line.specs.declared.line.Request.{Request}
 use Rattle.dump_reader.specs.declared.environment.RawEnv.{RawEnv}
 use Rattle.driver.specs.SourceEnds.{IsAcceptedWith}
 use Rattle.driver.specs.SourceSays.{IsLine}
-use Rattle.driver.specs.ExecEnds.{Erasing, Compiling, its_environment, its_module}
+use Rattle.driver.specs.ExecEnds.{Erasing, Compiling, Answering, its_environment, its_module}
+use Rattle.driver.specs.MadeModule.{TakesModule}
+use Rattle.driver.specs.Bench.{RunsModule, TakesFigures, steps_of}
 
 -- the rules accept the environment, and main's weak call-by-value evaluation, which has n nodes, lawfully gives a value
 pub record HasLawfulValue (turns : ℕ) (e : RawEnv) (n : ℕ) : Type 0 where
@@ -50,12 +56,14 @@ pub record IsBounded (pages steps n w b status : ℕ) : Type 0 where
   pub not_exhausted : 32 * n * w + 8 ≤ 65536 * pages → status ≢ 11
   pub not_spent : 1024 * n * (w + b) ≤ steps → status ≢ 12
 
--- the module of this call validates, and every long enough run of it answers the value or is exhausted; on status 0 out takes the value's text and LF; the status is
--- neither that of a trap nor that of another value; and the bounds, with the source's words and branches
+-- the module of this call validates, and every long enough run of it answers the value or is exhausted, within the bounds of the source's words and branches; on status 0 out
+-- takes by `exec` the value's text and LF, by `bench` that behind the figures, and by `compile` that module; the status is neither that of a trap nor that of another value; and the bounds of `exec`
 pub record AnswersValue (q : Request) (e : RawEnv) (n status : ℕ) (h : HasLawfulValue q.turns e n) (taken taken' : Option (List ℕ)) : Type 0 where
   pub valid : (x : Compiling q.turns e) → IsValid (its_module q.pages x)
   pub runs : (x : Compiling q.turns e) → EveryRunAnswers x.before.program q.pages (source_words h.kept e.main) (source_branches h.kept) n (value_data h)
-  pub text : status ≡ 0 → (text : List ℕ) × IsTextOfValue q.turns e n h text × Appends taken taken' text
+  pub text : q.job ≡ Exec → status ≡ 0 → (text : List ℕ) × IsTextOfValue q.turns e n h text × Appends taken taken' text
+  pub figures : q.job ≡ Bench → status ≡ 0 → (text : List ℕ) × IsTextOfValue q.turns e n h text × TakesFigures q e text taken taken'
+  pub object : q.job ≡ Compile → status ≡ 0 → TakesModule q e taken taken'
   pub answers : status ≢ 15
   pub bounded : IsBounded q.pages q.steps n (source_words h.kept e.main) (source_branches h.kept) status
 
@@ -68,9 +76,10 @@ pub record EvaluatesErased (turns : ℕ) (e : RawEnv) (n : ℕ) : Type 0 where
   pub evaluates : BoxEvaluates stages.program stages.program.main value n matches
   pub reads : BoxReads stages.program value tree
 
--- its words, and the branches of its source, bound `exec`
-abbrev pub IsBoundedBy : {turns : ℕ} {e : RawEnv} {n : ℕ} → EvaluatesErased turns e n → (pages steps status : ℕ) → Type 0
-IsBoundedBy {n = n} h pages steps status = IsBounded pages steps n (greatest_words h.stages.program) (source_branches (its_environment h.stages)) status
+-- every run of the module of this call answers the data or is exhausted, within the bounds of the program's words and of the branches of its source; and so is `exec` bounded
+pub record IsBoundedBy (q : Request) (e : RawEnv) (n : ℕ) (h : EvaluatesErased q.turns e n) (status : ℕ) : Type 0 where
+  pub runs : (x : Compiling q.turns e) → EveryRunAnswers x.before.program q.pages (greatest_words h.stages.program) (source_branches (its_environment h.stages)) n h.tree
+  pub bounded : IsBounded q.pages q.steps n (greatest_words h.stages.program) (source_branches (its_environment h.stages)) status
 
 -- the saturated program, which the first two passes make of the erased one, evaluates to data with so many matches
 pub record HasMatches (turns : ℕ) (e : RawEnv) (matches : ℕ) : Type 0 where
@@ -80,3 +89,9 @@ pub record HasMatches (turns : ℕ) (e : RawEnv) (matches : ℕ) : Type 0 where
   pub nodes : ℕ
   pub evaluates : BoxEvaluates (saturated_program stages.program) (saturated_program stages.program).main value nodes matches
   pub reads : BoxReads (saturated_program stages.program) value tree
+
+-- each run of the module of this call that returns has made at least as many steps, and so has the one whose steps `bench` writes; so `exec` and `bench`, given fewer, have no answer
+pub record TakesMatches (q : Request) (e : RawEnv) (matches status : ℕ) : Type 0 where
+  pub runs : (x : Compiling q.turns e) (first : State) (k : ℕ) (s : Store) → main_start (its_module q.pages x) ≡ Some first → Reach (its_module q.pages x) k first (Over Returned s) → matches ≤ k
+  pub figure : (x : Answering q.turns e q.pages q.steps) → matches ≤ steps_of x
+  pub late : RunsModule q.job → q.steps < matches → status ≢ 0

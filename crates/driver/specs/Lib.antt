@@ -15,6 +15,9 @@ pub mod MadeModule
 pub mod RunFile
 pub mod Serve
 pub mod PlainAnswer
-pub mod ExecParts
-pub mod MadeParts
+pub mod MainModule
 pub mod Served
+pub mod CheckFacts
+pub mod Bench
+pub mod Benched
+pub mod Figures

@@ -2,15 +2,14 @@
 use Rattle.std.specs.Prelude.{ℕ, ◌≡◌, ◌≢◌, ◌⊎◌, ◌<◌, List, length, false, Option, Result, Ok, Err}
 use Rattle.std.specs.Io.KnownBytes.{Appends}
 use Rattle.pc_rules.specs.declared.meter.Account.{Account}
-use Rattle.pc_rules.specs.FirstOrder.{Data}
 use Rattle.pc_rules.specs.DirectedFirstOrder.{first_order_search}
 use Rattle.wasm_core.specs.Parts.{Parts}
 use Rattle.wasm_core.specs.ModuleGrammar.{SpellsModule}
 use Rattle.wasm_core.specs.ModuleTyping.{IsValid}
 use Rattle.wasm_core.specs.ShortestBytes.{module_bytes, most_bytes}
-use Rattle.wasm_core.specs.Answer.{AnswersWithin}
 use Rattle.module_run.specs.Ends.{IsSmall}
 use Rattle.dump_reader.specs.declared.environment.RawEnv.{RawEnv}
+use Rattle.command_line.specs.declared.line.Request.{Request}
 use Rattle.driver.specs.declared.refusal.Refusal.{Refusal}
 use Rattle.driver.specs.declared.refusal.Refusal.TheVariants as refusals
 use Rattle.driver.specs.declared.refusal.ProgramLimit.TheVariants as limits
@@ -65,12 +64,9 @@ pub record IsStopped (turns : ℕ) (e : RawEnv) (pages status : ℕ) : Type 0 wh
 abbrev pub MakeEndsWith : (turns : ℕ) → RawEnv → (pages status : ℕ) → Type 0
 MakeEndsWith turns e pages status = (EndsWith turns e status × (status ≢ 0)) ⊎ ((IsCompilable turns e pages × (status ≡ 0)) ⊎ IsStopped turns e pages status)
 
--- the bytes that out takes spell a module with a typing, of which each run ends within some number of steps, whichever grows of memory are refused, and answers this data or is exhausted
-pub record TakesModule (ds : Data) (taken taken' : Option (List ℕ)) : Type 0 where
+-- out takes bytes that spell main's module
+pub record TakesModule (q : Request) (e : RawEnv) (taken taken' : Option (List ℕ)) : Type 0 where
+  pub stages : Compiling q.turns e
   pub text : List ℕ
   pub takes : Appends taken taken' text
-  pub object : Parts
-  pub spells : SpellsModule text object
-  pub valid : IsValid object
-  pub most : ℕ
-  pub runs : AnswersWithin object most ds
+  pub spells : SpellsModule text (its_module q.pages stages)

@@ -1,5 +1,5 @@
 -- What the top call promises: of the answer, of each refusal's cause, and of what it leaves.
-use Rattle.std.specs.Prelude.{◌≡◌, ◌≢◌, ℕ, ◌≤◌, ◌<◌, List, length, take, codes, Option, Some, None, Result, Ok, Err, ◌⊎◌}
+use Rattle.std.specs.Prelude.{◌≡◌, ◌≢◌, ℕ, ◌≤◌, ◌<◌, List, [], length, codes, Option, Some, None, Result, Ok, Err, ◌⊎◌}
 use Rattle.std.specs.Io.KnownBytes.{Appends}
 use Rattle.kio.specs.Causes.{Rose}
 use Rattle.dump_grammar.specs.declared.refusal.ReadRefusal.TheVariants as reads
@@ -13,7 +13,7 @@ use Rattle.env_check.specs.Rules.{givens}
 use Rattle.driver.specs.declared.refusal.Refusal.{Refusal}
 use Rattle.driver.specs.declared.refusal.Refusal.TheVariants as refusals
 use Rattle.command_line.specs.declared.job.Job.{Job}
-use Rattle.command_line.specs.declared.job.Job.TheVariants.{Exec, Check, Eval, Run, Compile}
+use Rattle.command_line.specs.declared.job.Job.TheVariants.{Exec, Check, Eval, Run, Compile, Bench}
 use Rattle.command_line.specs.declared.line.Request.{Request}
 use Rattle.command_line.specs.Line.{request_of}
 use Rattle.driver.specs.Answerable.{IsAnswerable}
@@ -22,8 +22,13 @@ use Rattle.driver.specs.Texts.{SpellsWithin, Refuses}
 use Rattle.driver.specs.SourceEnds.{IsAcceptedWith, IsSourceCause, EvalEndsWith}
 use Rattle.driver.specs.Evaluable.{IsEvaluable}
 use Rattle.driver.specs.EvaluatedSource.{IsEvaluated}
-use Rattle.driver.specs.ExecEnds.{IsCompilable, IsExecCause, ExecEndsWith, RestEndsWith}
+use Rattle.driver.specs.ExecEnds.{HasModule, IsExecCause, IsLargeFor, ExecEndsWith, RestEndsWith}
+use Rattle.workload.specs.WorkloadText.{text_of}
+use Rattle.report_lines.specs.declared.facts.Facts.{Facts}
+use Rattle.report_lines.specs.Takes.{TakesLine, TakesPrefix}
+use Rattle.driver.specs.CheckFacts.{HasFacts, no_facts}
 use Rattle.driver.specs.Executed.{IsExecuted}
+use Rattle.driver.specs.Benched.{IsBenched}
 use Rattle.driver.specs.MadeModule.{IsMade, IsMakeCause, MakeEndsWith}
 use Rattle.driver.specs.RunFile.{IsRunAnswer, IsRunCause, RunEndsWith}
 use Rattle.driver.specs.Judged.{IsAcceptedBy, IsSpentBy, IsTooDeepFor, IsBrokenBy, EndsWith}
@@ -37,6 +42,15 @@ abbrev pub IsInput : Option (List ℕ) → List ℕ → Type 0
 IsInput None bytes = length bytes ≤ input_limit
 IsInput (Some left) bytes = (bytes ≡ left) × (length bytes ≤ input_limit)
 
+-- The bytes that a job works on: the whole input; by `bench` the text of the request's number, which it makes.
+abbrev pub IsInputOf : Job → Request → Option (List ℕ) → List ℕ → Type 0
+IsInputOf Exec q left bytes = IsInput left bytes
+IsInputOf Check q left bytes = IsInput left bytes
+IsInputOf Eval q left bytes = IsInput left bytes
+IsInputOf Run q left bytes = IsInput left bytes
+IsInputOf Compile q left bytes = IsInput left bytes
+IsInputOf Bench q left bytes = bytes ≡ text_of q.size
+
 -- The input passes the limit, where the source tells it.
 abbrev pub IsTooLong : Option (List ℕ) → Type 0
 IsTooLong None = Unit {0}
@@ -48,6 +62,10 @@ pub record IsWell (e : RawEnv) : Type 0 where
   pub kept : Env
   pub type : Term
   pub checked : IsCheckedEnvironment e.levels e.constraints (givens e) e.main kept type
+
+-- The words ask for no job, or for `bench`.
+abbrev pub ReadsNothing : List (List ℕ) → Type 0
+ReadsNothing words = (q : Request) → request_of words ≡ Some q → q.job ≡ Bench
 
 -- The text is the answer of `check` on the input.
 pub record IsAccepted (turns : ℕ) (bytes text : List ℕ) : Type 0 where
@@ -64,13 +82,14 @@ IsAnswerOf Check q bytes text = IsAccepted q.turns bytes text
 IsAnswerOf Eval q bytes text = IsEvaluated q.turns bytes text
 IsAnswerOf Run q bytes text = IsRunAnswer q.pages q.steps bytes text
 IsAnswerOf Compile q bytes text = IsMade q.turns q.pages bytes text
+IsAnswerOf Bench q bytes text = IsBenched q.turns q.pages q.steps bytes text
 
 -- The input, and the answer on it of the job that the words ask for.
 pub record Answered (words : List (List ℕ)) (left : Option (List ℕ)) (text : List ℕ) : Type 0 where
   pub request : Request
   pub asked : request_of words ≡ Some request
   pub bytes : List ℕ
-  pub input : IsInput left bytes
+  pub input : IsInputOf request.job request left bytes
   pub answer : IsAnswerOf request.job request bytes text
 
 -- what of an environment shows a refusal of its check
@@ -82,11 +101,12 @@ IsCheckCause turns _ e = ⊥
 
 -- what of an environment shows a refusal of a job: its check, and with `eval`, `exec` and `compile` what comes after it
 abbrev pub IsJobCause : Job → Request → Refusal → RawEnv → Type 0
-IsJobCause Exec q r e = IsCheckCause q.turns r e ⊎ IsExecCause q.turns q.pages q.steps r e
+IsJobCause Exec q r e = IsCheckCause q.turns r e ⊎ (IsExecCause q.turns q.pages q.steps r e × IsLargeFor q.turns r e)
 IsJobCause Check q r e = IsCheckCause q.turns r e
 IsJobCause Eval q r e = IsCheckCause q.turns r e ⊎ IsSourceCause q.turns r e
 IsJobCause Run q r e = ⊥
-IsJobCause Compile q r e = IsCheckCause q.turns r e ⊎ IsMakeCause q.turns q.pages r e
+IsJobCause Compile q r e = IsCheckCause q.turns r e ⊎ (IsMakeCause q.turns q.pages r e × IsLargeFor q.turns r e)
+IsJobCause Bench q r e = IsCheckCause q.turns r e ⊎ (IsExecCause q.turns q.pages q.steps r e × IsLargeFor q.turns r e)
 
 -- the environment that the text spells shows it
 abbrev pub IsOfCheck : Job → Request → Refusal → List ℕ → Type 0
@@ -111,6 +131,7 @@ IsTextCause Check q r bytes = IsDumpCause Check q r bytes
 IsTextCause Eval q r bytes = IsDumpCause Eval q r bytes
 IsTextCause Run q r bytes = IsRunCause q.pages q.steps r bytes
 IsTextCause Compile q r bytes = IsDumpCause Compile q r bytes
+IsTextCause Bench q r bytes = IsDumpCause Bench q r bytes
 
 -- the text itself refuses: there the answer is determined but for want of memory
 abbrev pub IsSure : Refusal → Type 0
@@ -129,23 +150,23 @@ IsSure _ = Unit {0}
 
 -- The words ask for a job, and the refusal is that of the input's text.
 abbrev pub IsOfText : Refusal → (words : List (List ℕ)) → (left : Option (List ℕ)) → Type 0
-IsOfText r words left = (q : Request) × (request_of words ≡ Some q) × ((bytes : List ℕ) × IsInput left bytes × IsTextCause q.job q r bytes)
+IsOfText r words left = (q : Request) × (request_of words ≡ Some q) × ((bytes : List ℕ) × IsInputOf q.job q left bytes × IsTextCause q.job q r bytes)
 
 abbrev pub IsForJob : List (List ℕ) → Type 0
 IsForJob words = (q : Request) × (request_of words ≡ Some q)
+
+-- and that job reads an input
+abbrev pub IsForReader : List (List ℕ) → Type 0
+IsForReader words = (q : Request) × (request_of words ≡ Some q) × (q.job ≢ Bench)
 
 -- What shows a refusal: the words, the source's count of faults, out's count of faults, the input's text or its length. Nothing shows want of memory.
 abbrev pub IsCause : Refusal → (words : List (List ℕ)) → (left : Option (List ℕ)) → (before now faults faults' : ℕ) → Type 0
 IsCause refusals.Memory words left before now faults faults' = Unit {0}
 IsCause refusals.Usage words left before now faults faults' = request_of words ≡ None
-IsCause refusals.ReadFault words left before now faults faults' = IsForJob words × Rose before now
+IsCause refusals.ReadFault words left before now faults faults' = IsForReader words × Rose before now
 IsCause refusals.WriteFault words left before now faults faults' = IsForJob words × Rose faults faults'
-IsCause refusals.InputBytes words left before now faults faults' = IsForJob words × IsTooLong left
+IsCause refusals.InputBytes words left before now faults faults' = IsForReader words × IsTooLong left
 IsCause r words left before now faults faults' = IsOfText r words left
-
--- A prefix of the text went out.
-abbrev pub TakesPrefix : Option (List ℕ) → Option (List ℕ) → List ℕ → Type 0
-TakesPrefix old new text = (n : ℕ) × (n ≤ length text) × Appends old new (take n text)
 
 -- what a job's result says, before anything is written
 abbrev pub Says : {V : Type 0} → (V → List ℕ) → Result V Refusal → (words : List (List ℕ)) → (left : Option (List ℕ)) → (before now : ℕ) → Type 0
@@ -167,11 +188,40 @@ ReadSays view (Err refusals.ReadFault) left before now = Rose before now
 ReadSays view (Err refusals.InputBytes) left before now = IsTooLong left
 ReadSays view (Err _) left before now = ⊥
 
+-- what getting the bytes of a job says
+abbrev pub InputSays : {V : Type 0} → (V → List ℕ) → Result V Refusal → Request → (left : Option (List ℕ)) → (before now : ℕ) → Type 0
+InputSays view (Ok v) q left before now = IsInputOf q.job q left (view v)
+InputSays view (Err refusals.Memory) q left before now = Unit {0}
+InputSays view (Err refusals.ReadFault) q left before now = (q.job ≢ Bench) × Rose before now
+InputSays view (Err refusals.InputBytes) q left before now = (q.job ≢ Bench) × IsTooLong left
+InputSays view (Err _) q left before now = ⊥
+
+-- what a refusal of a job says of its input; want of memory says nothing
+abbrev pub RefusalSays : Job → Request → Refusal → List ℕ → Type 0
+RefusalSays job q refusals.Memory bytes = Unit {0}
+RefusalSays job q r bytes = IsTextCause job q r bytes
+
 -- what a job says of its input
 abbrev pub JobSays : {V : Type 0} → Job → Request → (V → List ℕ) → Result V Refusal → List ℕ → Type 0
 JobSays job q view (Ok v) bytes = IsAnswerOf job q bytes (view v)
-JobSays job q view (Err refusals.Memory) bytes = Unit {0}
-JobSays job q view (Err r) bytes = IsTextCause job q r bytes
+JobSays job q view (Err r) bytes = RefusalSays job q r bytes
+
+-- the facts of a job on its bytes: those of its check; `run` makes none
+abbrev pub AreFacts : Job → Request → List ℕ → Facts → Type 0
+AreFacts Exec q bytes facts = HasFacts q.turns bytes facts
+AreFacts Check q bytes facts = HasFacts q.turns bytes facts
+AreFacts Eval q bytes facts = HasFacts q.turns bytes facts
+AreFacts Run q bytes facts = facts ≡ no_facts
+AreFacts Compile q bytes facts = HasFacts q.turns bytes facts
+AreFacts Bench q bytes facts = HasFacts q.turns bytes facts
+
+-- those of the job that the words ask for
+pub record HasJobFacts (words : List (List ℕ)) (left : Option (List ℕ)) (facts : Facts) : Type 0 where
+  pub request : Request
+  pub asked : request_of words ≡ Some request
+  pub bytes : List ℕ
+  pub input : IsInputOf request.job request left bytes
+  pub are : AreFacts request.job request bytes facts
 
 -- what the check of an environment says
 abbrev pub CheckSays : (turns : ℕ) → Result Accepted Refusal → RawEnv → Type 0
@@ -184,19 +234,15 @@ abbrev pub AcceptSays : (turns : ℕ) → Result Accepted Refusal → RawEnv →
 AcceptSays turns (Ok a) e u = IsAcceptedWith turns e a.env a.main_type u × (a.main ≡ e.main) × IsCheckedEnvironment e.levels e.constraints (givens e) e.main a.env a.main_type
 AcceptSays turns (Err r) e u = CheckSays turns (Err r) e
 
--- A line goes to err whole, or a prefix of it where err's count of faults rose.
-pub record TakesLine (old new : Option (List ℕ)) (before now : ℕ) (line : List ℕ) : Type 0 where
-  pub count : before ≤ now
-  pub line_or_prefix : Appends old new line ⊎ (Rose before now × TakesPrefix old new line)
-
--- What is written of a job's result: its text to out, or the line of its refusal to err; a write fault's line too.
-pub record Written (status : ℕ) (text : List ℕ) (taken taken' : Option (List ℕ)) (faults faults' : ℕ) {E : Type 0} (err err' : E) (line line' : Option (List ℕ)) (errs errs' : ℕ) : Type 0 where
-  pub whole : status ≡ 0 → Appends taken taken' text × (err' ≡ err)
+-- What is written of a job's result: its text to out and the lines of reports to err, or the line of its refusal to err; a write fault's line too.
+pub record Written (status : ℕ) (text lines : List ℕ) (taken taken' : Option (List ℕ)) (faults faults' : ℕ) {E : Type 0} (err err' : E) (line line' : Option (List ℕ)) (errs errs' : ℕ) : Type 0 where
+  pub whole : status ≡ 0 → Appends taken taken' text × TakesLine line line' errs errs' lines × (lines ≡ [] → err' ≡ err)
   pub part : status ≢ 0 → (status ≡ 4) × Rose faults faults' × TakesPrefix taken taken' text × TakesLine line line' errs errs' (line_of refusals.WriteFault)
 
-abbrev pub Concludes : {V K E : Type 0} → (V → List ℕ) → Result V Refusal → (status : ℕ) → (out out' : K) (taken taken' : Option (List ℕ)) (faults faults' : ℕ) (err err' : E) (line line' : Option (List ℕ)) (errs errs' : ℕ) → Type 0
-Concludes view (Ok v) status out out' taken taken' faults faults' err err' line line' errs errs' = Written status (view v) taken taken' faults faults' err err' line line' errs errs'
-Concludes view (Err r) status out out' taken taken' faults faults' err err' line line' errs errs' = (status ≡ status_of r) × (out' ≡ out) × TakesLine line line' errs errs' (line_of r)
+abbrev pub Concludes : {V K E : Type 0} → (V → List ℕ) → Result V Refusal → (lines : List ℕ) → (status : ℕ) → (out out' : K) (taken taken' : Option (List ℕ)) (faults faults' : ℕ)
+    (err err' : E) (line line' : Option (List ℕ)) (errs errs' : ℕ) → Type 0
+Concludes view (Ok v) lines status out out' taken taken' faults faults' err err' line line' errs errs' = Written status (view v) lines taken taken' faults faults' err err' line line' errs errs'
+Concludes view (Err r) lines status out out' taken taken' faults faults' err err' line line' errs errs' = (status ≡ status_of r) × (out' ≡ out) × TakesLine line line' errs errs' (line_of r)
 
 -- The status is that of a refusal that has its cause, and whose line goes to err, with the cause's own offset or word.
 pub record IsRefused (status : ℕ) (words : List (List ℕ)) (left : Option (List ℕ)) (before now faults faults' : ℕ) (line line' : Option (List ℕ)) (errs errs' : ℕ) : Type 0 where
@@ -205,11 +251,42 @@ pub record IsRefused (status : ℕ) (words : List (List ℕ)) (left : Option (Li
   pub cause : IsCause refusal words left before now faults faults'
   pub told : TakesLine line line' errs errs' (line_of refusal)
 
--- The words ask for this, the source tells these bytes, and its count of faults doesn't rise.
-pub record IsAsked (q : Request) (words : List (List ℕ)) (left : Option (List ℕ)) (bytes : List ℕ) (before now : ℕ) : Type 0 where
+-- a source tells these bytes; by `bench` they are those that it makes
+abbrev pub Tells : Job → Request → Option (List ℕ) → List ℕ → Type 0
+Tells Exec q left bytes = left ≡ Some bytes
+Tells Check q left bytes = left ≡ Some bytes
+Tells Eval q left bytes = left ≡ Some bytes
+Tells Run q left bytes = left ≡ Some bytes
+Tells Compile q left bytes = left ≡ Some bytes
+Tells Bench q left bytes = bytes ≡ text_of q.size
+
+-- The words ask for this, and the source tells these bytes; or they ask for `bench`, which makes these bytes.
+pub record IsAsked (q : Request) (words : List (List ℕ)) (left : Option (List ℕ)) (bytes : List ℕ) : Type 0 where
   pub words_are : request_of words ≡ Some q
-  pub bytes_are : left ≡ Some bytes
-  pub no_fault : Rose before now → ⊥
+  pub bytes_are : Tells q.job q left bytes
+
+-- And the bytes are within the limit of an input.
+abbrev pub IsAskedWithin : (q : Request) (words : List (List ℕ)) (left : Option (List ℕ)) (bytes : List ℕ) → Type 0
+IsAskedWithin q words left bytes = IsAsked q words left bytes × (length bytes ≤ input_limit)
+
+-- The words ask for this, and the source tells bytes within the limit, which spell this environment.
+pub record IsAskedOn (q : Request) (e : RawEnv) (words : List (List ℕ)) (left : Option (List ℕ)) : Type 0 where
+  pub bytes : List ℕ
+  pub asked : IsAsked q words left bytes
+  pub short : length bytes ≤ input_limit
+  pub spelled : SpellsWithin bytes e
+
+-- The source's count of faults doesn't rise, where the job reads.
+abbrev pub ReadsWell : Job → (before now : ℕ) → Type 0
+ReadsWell job before now = job ≢ Bench → ¬ Rose before now
+
+-- Nor does out's.
+abbrev pub MeetsNoFault : Job → (before now faults faults' : ℕ) → Type 0
+MeetsNoFault job before now faults faults' = ReadsWell job before now × ¬ Rose faults faults'
+
+-- a job that makes main's module: `exec` and `bench` run it, and `compile` writes it
+abbrev pub MakesModule : Job → Type 0
+MakesModule job = (job ≡ Exec) ⊎ ((job ≡ Compile) ⊎ (job ≡ Bench))
 
 -- by the directed rules the job ends with this status, within the limits
 abbrev pub JobEndsWith : Job → Request → RawEnv → ℕ → Type 0
@@ -218,6 +295,7 @@ JobEndsWith Check q e status = EndsWith q.turns e status
 JobEndsWith Eval q e status = EvalEndsWith q.turns e status
 JobEndsWith Run q e status = ⊥
 JobEndsWith Compile q e status = MakeEndsWith q.turns e q.pages status
+JobEndsWith Bench q e status = ExecEndsWith q.turns e q.pages q.steps status
 
 -- the text spells an environment, and the job ends with this status
 abbrev pub IsDumpJudgedWith : Job → Request → ℕ → List ℕ → Type 0
@@ -230,14 +308,17 @@ IsJudgedWith Check q status bytes = IsDumpJudgedWith Check q status bytes
 IsJudgedWith Eval q status bytes = IsDumpJudgedWith Eval q status bytes
 IsJudgedWith Run q status bytes = RunEndsWith q.pages q.steps bytes status
 IsJudgedWith Compile q status bytes = IsDumpJudgedWith Compile q status bytes
+IsJudgedWith Bench q status bytes = IsDumpJudgedWith Bench q status bytes
 
--- an environment on which the job has an answer: by `exec` one whose main's module answers data of main's type, by `check` a plain one that keeps all rules, by `eval` one whose main has a value that is data, by `compile` one whose main has a module within 16 MiB
+-- an environment on which the job has an answer: by `exec` one whose main's module answers data of main's type, by `check` a plain one that keeps all rules,
+-- by `eval` one whose main has a value that is data, by `compile` one whose main has a module within 16 MiB, as the passes or its sizes show
 abbrev pub IsAnswerableBy : Job → Request → RawEnv → Type 0
 IsAnswerableBy Exec q e = RestEndsWith q.turns e q.pages q.steps 0
 IsAnswerableBy Check q e = (0 < q.turns) × IsAnswerable e
 IsAnswerableBy Eval q e = IsEvaluable q.turns e
 IsAnswerableBy Run q e = ⊥
-IsAnswerableBy Compile q e = IsCompilable q.turns e q.pages
+IsAnswerableBy Compile q e = HasModule q.turns e q.pages
+IsAnswerableBy Bench q e = RestEndsWith q.turns e q.pages q.steps 0
 
 -- a status that comes after the check: 0, 4 and those from 10 on
 abbrev pub IsLate : ℕ → Type 0

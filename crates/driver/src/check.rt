@@ -1,12 +1,14 @@
 //! The check of an environment that is read, with the units of a job; and the job `check`.
 
-ghost use Rattle.std.specs.Prelude.{◌≡◌, ◌<◌, ℕ, IfOk, IfErr, length, codes};
+ghost use Rattle.std.specs.Prelude.{◌≡◌, ◌<◌, ℕ, IfOk, IfErr, OnOk, length, codes};
 ghost use Rattle.dump_reader.specs.Spelled.{IsSpelled};
 ghost use Rattle.pc_rules.specs.declared.broken.Place.TheVariants.{Declaration};
 ghost use Rattle.command_line.specs.declared.job.Job.TheVariants.{Check};
+ghost use Rattle.driver.specs.CheckFacts.{HasCheckFacts, HasFacts, facts_of_check};
 ghost use Rattle.driver.specs.Judged.{IsTold, name_of, number_of, start};
 ghost use Rattle.driver.specs.Serve.{AcceptSays, CheckSays, JobSays};
 
+use crate::facts::check_facts;
 use crate::refusal::{Refusal, Where};
 use command_line::Request;
 use dump_reader::declaration::RawDecl;
@@ -19,6 +21,7 @@ use pc_rules::broken::{Broken, Place};
 use pc_rules::meter::Meter;
 use pc_terms::leaf::Name;
 use reduction::substitution::Subst;
+use report_lines::Facts;
 use std::alloc::Global;
 
 /// The number of a rule that may be broken, from 1 on.
@@ -89,23 +92,28 @@ pub(crate) fn units(turns: u32) -> Meter
 }
 
 /// The environment with the sorts that its check finds, main and main's type; or why it is not accepted with the units of a meter, which are
-/// those of a job, `turns` in number.
+/// those of a job, `turns` in number. Where it is accepted, `facts` becomes the facts of its check.
 pub(crate) fn accept_within(
     alloc: Global,
     turns: u32,
     raw: &RawEnv,
     meter: &mut Meter,
+    facts: &mut Facts,
 ) -> Result<Accepted, Refusal>
     requires spelled { IsSpelled raw.now }
     requires units { meter.old.account ≡ start turns }
     requires nest { meter.old.nest ≡ 0 }
     ensures says { AcceptSays turns result raw.now meter.new.account }
     ensures nest { meter.new.nest ≡ 0 }
+    ensures facts { OnOk result (facts.new ≡ facts_of_check raw.now meter.new.account) }
 {
     // The turns are of the contract alone.
     let _ = turns;
     match check_env(alloc, &Subst, raw, meter) {
-        Ok(accepted) => Ok(accepted),
+        Ok(accepted) => {
+            *facts = check_facts(raw, meter);
+            Ok(accepted)
+        }
         Err(Fault::Memory) => Err(Refusal::Memory),
         Err(Fault::Spent) => Err(Refusal::TurnsSpent),
         Err(Fault::TooDeep) => Err(Refusal::Depth),
@@ -120,12 +128,18 @@ pub(crate) fn accept_within(
 }
 
 /// The environment with the sorts that its check finds, main and main's type; or why it is not accepted with so many units.
-pub(crate) fn accept(alloc: Global, turns: u32, raw: &RawEnv) -> Result<Accepted, Refusal>
+pub(crate) fn accept(
+    alloc: Global,
+    turns: u32,
+    raw: &RawEnv,
+    facts: &mut Facts,
+) -> Result<Accepted, Refusal>
     requires spelled { IsSpelled raw.now }
     ensures says { CheckSays turns result raw.now }
+    ensures facts { OnOk result (HasCheckFacts turns raw.now facts.new) }
 {
     let mut meter = units(turns);
-    accept_within(alloc, turns, raw, &mut meter)
+    accept_within(alloc, turns, raw, &mut meter, facts)
 }
 
 /// The text of an acceptance.
@@ -138,10 +152,16 @@ fn accepted_text(alloc: Global) -> Result<Vec<u8>, Refusal>
 }
 
 /// The text of the answer on a dump: `ok`, with LF, where its environment is accepted.
-pub(crate) fn check(alloc: Global, request: Request, bytes: &[u8]) -> Result<Vec<u8>, Refusal>
+pub(crate) fn check(
+    alloc: Global,
+    request: Request,
+    bytes: &[u8],
+    facts: &mut Facts,
+) -> Result<Vec<u8>, Refusal>
     ensures says { JobSays Check request (λ v. v.items) result bytes.now }
+    ensures facts { OnOk result (HasFacts request.turns bytes.now facts.new) }
 {
     let environment = read_env(alloc, bytes)?;
-    accept(alloc, request.turns, &environment)?;
+    accept(alloc, request.turns, &environment, facts)?;
     accepted_text(alloc)
 }

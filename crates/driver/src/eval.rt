@@ -1,12 +1,13 @@
 //! The job `eval`: from the bytes of a dump to the text of main's value, by the source's own evaluation.
 
-ghost use Rattle.std.specs.Prelude.{◌≡◌, ℕ, IfOk, IfErr};
+ghost use Rattle.std.specs.Prelude.{◌≡◌, ℕ, IfOk, IfErr, OnOk};
 ghost use Rattle.pc_rules.specs.Evaluation.{Evaluates};
 ghost use Rattle.pc_rules.specs.FirstOrder.{IsFirstOrder};
 ghost use Rattle.first_order.specs.Reading.{read, Read};
 ghost use Rattle.first_order.specs.Searching.{members, AreNamed};
 ghost use Rattle.first_order.specs.Texts.{HasNames};
 ghost use Rattle.command_line.specs.declared.job.Job.TheVariants.{Eval};
+ghost use Rattle.driver.specs.CheckFacts.{HasFacts};
 ghost use Rattle.driver.specs.Serve.{JobSays};
 ghost use Rattle.driver.specs.SourceSays.{ShapesSay, ValueSays, DataSays, IsLine};
 
@@ -26,6 +27,7 @@ use pc_rules::accepted::Accepted;
 use pc_rules::meter::Meter;
 use pc_terms::term::Term;
 use reduction::substitution::Subst;
+use report_lines::Facts;
 use source_eval::evaluation::{EvalStop, eval as evaluate};
 use std::alloc::Global;
 
@@ -104,12 +106,18 @@ fn line_of(
 
 /// The text of the answer on a dump: the stages from its bytes to the text of main's value. One meter serves the check, the search for the types and
 /// the evaluation.
-pub(crate) fn eval(alloc: Global, request: Request, bytes: &[u8]) -> Result<Vec<u8>, Refusal>
+pub(crate) fn eval(
+    alloc: Global,
+    request: Request,
+    bytes: &[u8],
+    facts: &mut Facts,
+) -> Result<Vec<u8>, Refusal>
     ensures says { JobSays Eval request (λ v. v.items) result bytes.now }
+    ensures facts { OnOk result (HasFacts request.turns bytes.now facts.new) }
 {
     let environment = read_env(alloc, bytes)?;
     let mut meter = units(request.turns);
-    let accepted = accept_within(alloc, request.turns, &environment, &mut meter)?;
+    let accepted = accept_within(alloc, request.turns, &environment, &mut meter, facts)?;
     let shapes = shapes_of(alloc, &accepted, &mut meter)?;
     let value = value_of(alloc, &accepted, &mut meter)?;
     let tree = data_at(alloc, &value, &shapes)?;

@@ -7,12 +7,12 @@ ghost use Rattle.wasm_core.specs.ShortestBytes.{module_bytes};
 ghost use Rattle.wasm_emit.specs.EmittedModule.{module_of};
 ghost use Rattle.back_end.specs.BackEnd.{passed};
 ghost use Rattle.compile.specs.Passes.{Fits};
-ghost use Rattle.driver.specs.ExecEnds.{PassesSay, RunSays};
+ghost use Rattle.driver.specs.ExecEnds.{MeasuredSays, PassesSay};
 
 use crate::refusal::{ProgramLimit, Refusal, RunEnd};
 use box_terms::program::BoxProgram;
 use compile::{CompileFault, compile};
-use module_run::{Answer, RunRefusal, answer_of};
+use module_run::{Measured, RunRefusal, answer_of};
 use std::alloc::Global;
 use wasm_core::Valid;
 use wasm_emit::status_tells_of_a_refused_grow;
@@ -39,21 +39,21 @@ pub(crate) fn compiled(alloc: Global, pages: u32, program: &BoxProgram) -> Resul
     }
 }
 
-/// What a program's module answers, in at most so many steps.
-pub(crate) fn answered(
+/// What a program's module answers, in at most so many steps, with the figures of its run.
+pub(crate) fn measured(
     alloc: Global,
     pages: u32,
     steps: u32,
     module: &Valid,
-) -> Result<Answer, Refusal>
+) -> Result<Measured, Refusal>
     requires range { (0 < pages) × (pages ≤ 16384) }
     requires compiled { (P : Program) × IsBoxProgram P × Fits P × (module.now ≡ module_of (passed P) pages) }
-    ensures says { RunSays module.now pages steps result }
+    ensures says { MeasuredSays module.now pages steps result }
     ensures spelled { IfOk result (λ _. SpellsModule (module_bytes module.now) module.now) }
 {
     status_tells_of_a_refused_grow();
     match answer_of(alloc, module, pages, u64::from(steps)) {
-        Ok(answer) => Ok(answer),
+        Ok(run) => Ok(run),
         Err(RunRefusal::ModuleBytes) => Err(Refusal::Program {
             which: ProgramLimit::ModuleBytes,
         }),

@@ -1,6 +1,6 @@
 //! The top call.
 
-ghost use Rattle.std.specs.Prelude.{◌≡◌, ◌≢◌, ◌⊎◌, ◌<◌, ◌≤◌, ℕ, List, [], ◌∷◌, ◌++◌, length, Contains, IfErr, IfOk, None, Some};
+ghost use Rattle.std.specs.Prelude.{◌≡◌, ◌≢◌, ◌⊎◌, ◌<◌, ◌≤◌, ℕ, List, [], ◌∷◌, ◌++◌, length, Contains, IfErr, IfOk, OnOk, map, None, Some};
 ghost use Rattle.std.specs.Io.KnownBytes.{Appends};
 ghost use Rattle.kio.specs.Causes.{Rose};
 ghost use Rattle.kio.specs.Known.{StillTells};
@@ -9,28 +9,36 @@ ghost use Rattle.dump_reader.specs.declared.environment.RawEnv.{RawEnv};
 ghost use Rattle.command_line.specs.Line.{IsInRange, request_of, words_of};
 ghost use Rattle.command_line.specs.declared.line.Request.{Request as Asked};
 ghost use Rattle.driver.specs.Lines.{status_of, line_of};
-ghost use Rattle.command_line.specs.declared.job.Job.TheVariants.{Compile, Exec};
-ghost use Rattle.driver.specs.ExecEnds.{Finishes, IsCompilable};
+ghost use Rattle.command_line.specs.declared.job.Job.TheVariants.{Bench, Compile, Exec};
+ghost use Rattle.driver.specs.Bench.{RunsModule};
+ghost use Rattle.driver.specs.ExecEnds.{Finishes, HasModule};
 ghost use Rattle.driver.specs.Executed.{AnswersData, HasErasedData};
 ghost use Rattle.driver.specs.Answerable.{IsAnswerable};
 ghost use Rattle.driver.specs.PlainAnswer.{AnswersConstructor, NamesConstructor};
 ghost use Rattle.driver.specs.Plain.{IsPlainOf};
 ghost use Rattle.pc_terms.specs.declared.leaf.FamilyId.{FamilyId};
-ghost use Rattle.driver.specs.Headline.{AnswersValue, EvaluatesErased, HasLawfulValue, HasMatches, IsBoundedBy};
-ghost use Rattle.driver.specs.MadeModule.{TakesModule};
-ghost use Rattle.driver.specs.Texts.{SpellsWithin};
+ghost use Rattle.driver.specs.Headline.{AnswersValue, EvaluatesErased, HasLawfulValue, HasMatches, IsBoundedBy, TakesMatches};
 ghost use Rattle.driver.specs.Served.{Served};
-ghost use Rattle.driver.specs.Serve.{Answered, Concludes, HasWell, IsLate, IsAnswerableBy, IsAsked, IsJudgedWith, IsRefused, IsSure, IsTextCause, JobSays, ReadSays, RequestSays, Says, TakesLine, TakesPrefix, input_limit};
+ghost use Rattle.report_lines.specs.CheckFacts.{facts_of};
+ghost use Rattle.report_lines.specs.Lines.{told_lines};
+ghost use Rattle.report_lines.specs.Takes.{TakesLine, TakesPrefix};
+ghost use Rattle.report_lines.specs.declared.facts.Facts.{Facts as CheckFacts};
+ghost use Rattle.driver.specs.CheckFacts.{no_facts as none};
+ghost use Rattle.driver.specs.Serve.{Answered, AreFacts, Concludes, HasJobFacts, HasWell, input_limit, InputSays, IsAnswerableBy, IsAsked, IsAskedOn, IsAskedWithin, IsJudgedWith, IsLate, IsRefused, IsSure, IsTextCause, JobSays, MakesModule, MeetsNoFault, ReadsWell, ReadSays, ReadsNothing, RequestSays, Says};
 
+use crate::bench::{bench, made_text};
 use crate::check::check;
 use crate::err_line::write_line;
 use crate::eval::eval;
 use crate::exec::exec;
+use crate::facts::no_facts;
 use crate::object::object;
 use crate::refusal::{Refusal, status};
 use crate::run::run;
 use command_line::{Job, LineFault, Request, read_line};
 use kio::{ReadAll, Sink, Source, read_all, write_all};
+use report_lines::{Facts, tell_and_write};
+use reports::Report;
 use std::alloc::Global;
 
 /// The most bytes of an input.
@@ -50,17 +58,38 @@ fn read_input<S: Source>(alloc: Global, src: &mut S) -> Result<Vec<u8>, Refusal>
     }
 }
 
-/// The text of the answer of a job on the bytes of its input.
-fn answer_on(alloc: Global, request: Request, bytes: &[u8]) -> Result<Vec<u8>, Refusal>
-    requires range { IsInRange request }
-    ensures says { JobSays request.job request (λ v. v.items) result bytes.now }
+/// The bytes that a job works on: the whole input; by `bench` the text of the request's number, and then nothing is read.
+fn input_of<S: Source>(alloc: Global, request: Request, src: &mut S) -> Result<Vec<u8>, Refusal>
+    ensures says { InputSays (λ v. v.items) result request (S.left src.old) (S.faults src.old) (S.faults src.new) }
+    ensures unread { request.job ≡ Bench → src.new ≡ src.old }
+    ensures later { S.faults src.old ≤ S.faults src.new }
+    ensures tells { StillTells (S.left src.old) (S.left src.new) }
 {
     match request.job {
-        Job::Exec => exec(alloc, request, bytes),
-        Job::Check => check(alloc, request, bytes),
-        Job::Eval => eval(alloc, request, bytes),
+        Job::Bench => made_text(alloc, request.size),
+        Job::Exec | Job::Check | Job::Eval | Job::Run | Job::Compile => read_input(alloc, src),
+    }
+}
+
+/// The text of the answer of a job on its bytes. Where there is one, `facts` becomes the facts of the job's check; `run` makes none.
+fn answer_on(
+    alloc: Global,
+    request: Request,
+    bytes: &[u8],
+    facts: &mut Facts,
+) -> Result<Vec<u8>, Refusal>
+    requires range { IsInRange request }
+    requires none { facts.old ≡ none }
+    ensures says { JobSays request.job request (λ v. v.items) result bytes.now }
+    ensures facts { OnOk result (AreFacts request.job request bytes.now facts.new) }
+{
+    match request.job {
+        Job::Exec => exec(alloc, request, bytes, facts),
+        Job::Check => check(alloc, request, bytes, facts),
+        Job::Eval => eval(alloc, request, bytes, facts),
         Job::Run => run(alloc, request, bytes),
-        Job::Compile => object(alloc, request, bytes),
+        Job::Compile => object(alloc, request, bytes, facts),
+        Job::Bench => bench(alloc, request, bytes, facts),
     }
 }
 
@@ -77,16 +106,23 @@ fn request_from(alloc: Global, words: &Vec<String>) -> Result<Request, Refusal>
     }
 }
 
-/// The text of the answer of the job that the words ask for.
-fn answer<S: Source>(alloc: Global, words: &Vec<String>, src: &mut S) -> Result<Vec<u8>, Refusal>
+/// The text of the answer of the job that the words ask for. Where there is one, `facts` becomes the facts of the job's check.
+fn answer<S: Source>(
+    alloc: Global,
+    words: &Vec<String>,
+    src: &mut S,
+    facts: &mut Facts,
+) -> Result<Vec<u8>, Refusal>
+    requires none { facts.old ≡ none }
     ensures says { Says (λ v. v.items) result (words_of words.now) (S.left src.old) (S.faults src.old) (S.faults src.new) }
-    ensures unread { request_of (words_of words.now) ≡ None → src.new ≡ src.old }
+    ensures facts { OnOk result (HasJobFacts (words_of words.now) (S.left src.old) facts.new) }
+    ensures unread { ReadsNothing (words_of words.now) → src.new ≡ src.old }
     ensures later { S.faults src.old ≤ S.faults src.new }
     ensures tells { StillTells (S.left src.old) (S.left src.new) }
 {
     let request = request_from(alloc, words)?;
-    let bytes = read_input(alloc, src)?;
-    answer_on(alloc, request, bytes.as_slice())
+    let bytes = input_of(alloc, request, src)?;
+    answer_on(alloc, request, bytes.as_slice(), facts)
 }
 
 /// Writes the refusal's line, and gives its status.
@@ -99,16 +135,26 @@ fn refuse<E: Sink>(err: &mut E, refusal: Refusal) -> u8
     status(&refusal)
 }
 
-/// Writes the text of the answer to out, or the refusal's line to err, and gives the status.
-#[tactic(auto, using(crate::proofs::Lines::tells_same))]
-fn conclude<K: Sink, E: Sink>(out: &mut K, err: &mut E, answered: Result<Vec<u8>, Refusal>) -> u8
-    ensures concludes { Concludes (λ v. v.items) answered result out.old out.new (K.taken out.old) (K.taken out.new) (K.faults out.old) (K.faults out.new) err.old err.new (E.taken err.old) (E.taken err.new) (E.faults err.old) (E.faults err.new) }
+/// Writes the text of the answer to out, and then the lines of the reports to err, which are told the facts before; or the refusal's line to err. Gives the status, and drops the reports.
+#[tactic(auto, using(report_lines::proofs::PartByPart::tells_same))]
+fn conclude<K: Sink, E: Sink>(
+    out: &mut K,
+    err: &mut E,
+    answered: Result<Vec<u8>, Refusal>,
+    facts: &Facts,
+    reports: Vec<Box<dyn Report>>,
+) -> u8
+    ensures concludes { Concludes (λ v. v.items) answered (told_lines (facts_of facts.now) (map (λ b. shown b) reports.items)) result out.old out.new (K.taken out.old) (K.taken out.new) (K.faults out.old) (K.faults out.new)
+        err.old err.new (E.taken err.old) (E.taken err.new) (E.faults err.old) (E.faults err.new) }
     ensures tells { StillTells (K.taken out.old) (K.taken out.new) × StillTells (E.taken err.old) (E.taken err.new) }
     ensures counts { (K.faults out.old ≤ K.faults out.new) × (E.faults err.old ≤ E.faults err.new) }
 {
     match answered {
         Ok(text) => match write_all(out, text.as_slice()) {
-            Ok(()) => 0,
+            Ok(()) => {
+                tell_and_write(err, reports, facts);
+                0
+            }
             Err(_) => refuse(err, Refusal::WriteFault),
         },
         Err(refusal) => refuse(err, refusal),
@@ -122,11 +168,16 @@ fn serve_whole<S: Source, K: Sink, E: Sink>(
     src: &mut S,
     out: &mut K,
     err: &mut E,
+    reports: Vec<Box<dyn Report>>,
 ) -> u8
-    ensures served { Served result (words_of words.now) (record { object = src.old; told = S.left src.old; faults = S.faults src.old }) (record { object = src.new; told = S.left src.new; faults = S.faults src.new }) (record { object = out.old; told = K.taken out.old; faults = K.faults out.old }) (record { object = out.new; told = K.taken out.new; faults = K.faults out.new }) (record { object = err.old; told = E.taken err.old; faults = E.faults err.old }) (record { object = err.new; told = E.taken err.new; faults = E.faults err.new }) }
+    ensures served { Served result (words_of words.now) (map (λ b. shown b) reports.items)
+        (record { object = src.old; told = S.left src.old; faults = S.faults src.old }) (record { object = src.new; told = S.left src.new; faults = S.faults src.new })
+        (record { object = out.old; told = K.taken out.old; faults = K.faults out.old }) (record { object = out.new; told = K.taken out.new; faults = K.faults out.new })
+        (record { object = err.old; told = E.taken err.old; faults = E.faults err.old }) (record { object = err.new; told = E.taken err.new; faults = E.faults err.new }) }
 {
-    let answered = answer(alloc, words, src);
-    conclude(out, err, answered)
+    let mut facts = no_facts();
+    let answered = answer(alloc, words, src, &mut facts);
+    conclude(out, err, answered, &facts, reports)
 }
 
 /// Does the job that the words after the program's name ask for, and answers the program's status.
@@ -135,14 +186,18 @@ fn serve_whole<S: Source, K: Sink, E: Sink>(
 /// an environment, by `run` the bytes of a module. `check` accepts an environment only where every declaration and main have a derivation by the typing rules, and writes `ok` with
 /// LF to `out`. `eval` accepts it so, finds the first-order types of main's type, evaluates main by the source's own evaluation, and writes the text of the data that the value is, with LF.
 /// `exec` accepts it so and finds these types, erases main, makes a module of that, which is encoded, decoded, validated and run, and writes the text of the data that it answers, with LF.
-/// `compile` does the same up to the module, and writes its bytes.
+/// `compile` does the same up to the module, and writes its bytes. `bench` reads nothing: it makes the text of `--size`, does with it what `exec` does, and writes five lines, the
+/// declarations, the module's bytes, the run's steps and pages, and the answer.
 /// `run` decodes, validates and runs a module, and writes the data that it answers by the numbers of constructors, with LF.
 ///
 /// Statuses: 0 done; 1 want of memory; 2 the line is at fault, and then nothing is read; 3 a read fault; 4 a write fault; 5 the text's first refusal is a syntax fault; 6 its first refusal is
 /// a form that is known and not read; 7 a limit is passed: of the text, of the input's 16,777,216 bytes, of depth, types or nodes, of a program or its module, or by `run` of pages
-/// or of a table; 8 the directed rules have no end within the turns; 9 a rule is broken; 10 main's type has no first-order set, or by `exec` a constant without a body is reached; 11 memory is
+/// or of a table; 8 the directed rules have no end within the turns; 9 a rule is broken; 10 main's type has no first-order set, or by `exec`, `bench` and `compile` a constant without a body is reached; 11 memory is
 /// exhausted; 12 the steps are spent; 13 the bytes spell no module; 14 the module is invalid; 15 the run trapped, an entry is missing, a segment passes the table, the result is no
 /// data, or by `eval` main has no value or its value is no data of its type.
+///
+/// On status 0 each report is told the facts of the check: a declaration each, a constant without a body each, a use of a rule each, up to the end of main's check; then `err` takes a line
+/// `report NAME COUNT` for each, in order. By `run` there are none. On another status the reports are dropped untold.
 ///
 /// A refusal writes one line to `err`, which takes no memory; a fault on `err` changes no status. Nothing goes to `out` before
 /// the whole answer is there, so a refusal other than a write fault leaves it as it was.
@@ -152,6 +207,7 @@ pub fn serve<S: Source, K: Sink, E: Sink>(
     src: &mut S,
     out: &mut K,
     err: &mut E,
+    reports: Vec<Box<dyn Report>>,
 ) -> u8
     // The answer: the text spells an environment that is well formed, and out takes `ok`, the text of main's value, or of what main's module answers; by `run` of what the
     // module of the input answers.
@@ -159,42 +215,58 @@ pub fn serve<S: Source, K: Sink, E: Sink>(
     ensures statuses { Contains (0 ∷ 1 ∷ 2 ∷ 3 ∷ 4 ∷ 5 ∷ 6 ∷ 7 ∷ 8 ∷ 9 ∷ 10 ∷ 11 ∷ 12 ∷ 13 ∷ 14 ∷ 15 ∷ []) result }
 
     // Each refusal has its cause, and its line goes to err.
-    ensures refused { result ≢ 0 → IsRefused result (words_of words.now) (S.left src.old) (S.faults src.old) (S.faults src.new) (K.faults out.old) (K.faults out.new) (E.taken err.old) (E.taken err.new) (E.faults err.old) (E.faults err.new) }
+    ensures refused { result ≢ 0 → IsRefused result (words_of words.now) (S.left src.old) (S.faults src.old) (S.faults src.new)
+        (K.faults out.old) (K.faults out.new) (E.taken err.old) (E.taken err.new) (E.faults err.old) (E.faults err.new) }
     ensures usage { result ≡ 2 → request_of (words_of words.now) ≡ None }
     ensures faulty { request_of (words_of words.now) ≡ None → (src.new ≡ src.old) × ((result ≡ 2) ⊎ (result ≡ 1)) }
     ensures prefix { result ≡ 4 → (text : List ℕ) × Answered (words_of words.now) (S.left src.old) text × TakesPrefix (K.taken out.old) (K.taken out.new) text }
 
     // Where the source's count doesn't rise, nor out's where something is written, and the rules pass no limit, want of memory is the only other answer.
-    ensures judged { (q : Asked) (bytes : List ℕ) (status : ℕ) → IsAsked q (words_of words.now) (S.left src.old) bytes (S.faults src.old) (S.faults src.new) → length bytes ≤ input_limit → IsJudgedWith q.job q status bytes → (status ≡ 0 → ¬ Rose (K.faults out.old) (K.faults out.new)) → (result ≡ status) ⊎ (result ≡ 1) }
-    ensures complete { (q : Asked) (bytes : List ℕ) (e : RawEnv) → IsAsked q (words_of words.now) (S.left src.old) bytes (S.faults src.old) (S.faults src.new) → length bytes ≤ input_limit → SpellsWithin bytes e → IsAnswerableBy q.job q e → ¬ Rose (K.faults out.old) (K.faults out.new) → (result ≡ 0) ⊎ (result ≡ 1) }
-    // By `exec`, where main's erased program evaluates to data of main's type: that data's text, or a status that is neither 0 nor 15; and every long enough run of its module answers that data or is
-    // exhausted.
-    ensures values { (q : Asked) (bytes : List ℕ) (e : RawEnv) (ds : Data) (n k : ℕ) → IsAsked q (words_of words.now) (S.left src.old) bytes (S.faults src.old) (S.faults src.new) → q.job ≡ Exec → length bytes ≤ input_limit → SpellsWithin bytes e → HasErasedData q.turns e ds n k → AnswersData q e ds result (K.taken out.old) (K.taken out.new) }
-    // By `exec`, on a plain environment that keeps all rules, given four turns and 1,052,672 steps: the name of main's constructor, and 0 or 1 where out's count doesn't rise.
-    ensures plain { (q : Asked) (bytes : List ℕ) (e : RawEnv) (a : IsAnswerable e) → IsAsked q (words_of words.now) (S.left src.old) bytes (S.faults src.old) (S.faults src.new) → q.job ≡ Exec → 4 ≤ q.turns → 1052672 ≤ q.steps → length bytes ≤ input_limit → SpellsWithin bytes e → AnswersConstructor q.turns e a result (K.faults out.old) (K.faults out.new) (K.taken out.old) (K.taken out.new) }
-    // So on status 0 on each plain environment.
-    ensures named { (q : Asked) (bytes : List ℕ) (e : RawEnv) (f : FamilyId) (n : ℕ) → IsAsked q (words_of words.now) (S.left src.old) bytes (S.faults src.old) (S.faults src.new) → q.job ≡ Exec → 4 ≤ q.turns → 1052672 ≤ q.steps → length bytes ≤ input_limit → SpellsWithin bytes e → IsPlainOf e f n → result ≡ 0 → (name : List ℕ) × NamesConstructor e f n name × Appends (K.taken out.old) (K.taken out.new) (name ++ 10 ∷ []) }
-    // By `exec`, where main has a module: an answer or want of memory, or what the run shows.
-    ensures finishes { (q : Asked) (bytes : List ℕ) (e : RawEnv) → IsAsked q (words_of words.now) (S.left src.old) bytes (S.faults src.old) (S.faults src.new) → q.job ≡ Exec → length bytes ≤ input_limit → SpellsWithin bytes e → IsCompilable q.turns e q.pages → ¬ Rose (K.faults out.old) (K.faults out.new) → Finishes q.turns e q.pages q.steps result }
-    // By `compile`, where main's erased program evaluates to data of main's type: on status 0 out takes the bytes of a valid module, whose every long enough run answers that data or is exhausted.
-    ensures made { (q : Asked) (bytes : List ℕ) (e : RawEnv) (ds : Data) (n k : ℕ) → IsAsked q (words_of words.now) (S.left src.old) bytes (S.faults src.old) (S.faults src.new) → q.job ≡ Compile → length bytes ≤ input_limit → SpellsWithin bytes e → HasErasedData q.turns e ds n k → result ≡ 0 → TakesModule ds (K.taken out.old) (K.taken out.new) }
-    ensures made_well { (q : Asked) (bytes : List ℕ) → IsAsked q (words_of words.now) (S.left src.old) bytes (S.faults src.old) (S.faults src.new) → q.job ≡ Compile → IsLate result → HasWell bytes }
-    // By `exec`, on each status that comes after the check the environment is well formed.
-    ensures well { (q : Asked) (bytes : List ℕ) → IsAsked q (words_of words.now) (S.left src.old) bytes (S.faults src.old) (S.faults src.new) → q.job ≡ Exec → IsLate result → HasWell bytes }
-    // The headline: where main's evaluation lawfully gives a value, every long enough run of the module that `exec` makes answers it or is exhausted, and `exec` writes that value's text or
-    // shows a cause; with the bounds on memory and on steps, and at least as many steps as matches.
-    ensures headline { (q : Asked) (bytes : List ℕ) (e : RawEnv) (n : ℕ) → IsAsked q (words_of words.now) (S.left src.old) bytes (S.faults src.old) (S.faults src.new) → q.job ≡ Exec → length bytes ≤ input_limit → SpellsWithin bytes e → (h : HasLawfulValue q.turns e n) → AnswersValue q e n result h (K.taken out.old) (K.taken out.new) }
-    ensures bounded { (q : Asked) (bytes : List ℕ) (e : RawEnv) (n : ℕ) → IsAsked q (words_of words.now) (S.left src.old) bytes (S.faults src.old) (S.faults src.new) → q.job ≡ Exec → length bytes ≤ input_limit → SpellsWithin bytes e → (h : EvaluatesErased q.turns e n) → IsBoundedBy h q.pages q.steps result }
-    ensures matched { (q : Asked) (bytes : List ℕ) (e : RawEnv) (matches : ℕ) → IsAsked q (words_of words.now) (S.left src.old) bytes (S.faults src.old) (S.faults src.new) → q.job ≡ Exec → length bytes ≤ input_limit → SpellsWithin bytes e → HasMatches q.turns e matches → q.steps < matches → result ≢ 0 }
-    ensures refuses_text { (q : Asked) (bytes : List ℕ) (r : Refusal) → IsAsked q (words_of words.now) (S.left src.old) bytes (S.faults src.old) (S.faults src.new) → length bytes ≤ input_limit → IsTextCause q.job q r bytes → IsSure r → (result ≡ status_of r) ⊎ (result ≡ 1) }
-    ensures refuses_length { (q : Asked) (bytes : List ℕ) → IsAsked q (words_of words.now) (S.left src.old) bytes (S.faults src.old) (S.faults src.new) → input_limit < length bytes → (result ≡ 7) ⊎ (result ≡ 1) }
+    ensures judged { (q : Asked) (bytes : List ℕ) (wanted : ℕ) → IsAskedWithin q (words_of words.now) (S.left src.old) bytes →
+        ReadsWell q.job (S.faults src.old) (S.faults src.new) → IsJudgedWith q.job q wanted bytes → (wanted ≡ 0 → ¬ Rose (K.faults out.old) (K.faults out.new)) → (result ≡ wanted) ⊎ (result ≡ 1) }
+    ensures complete { (q : Asked) (e : RawEnv) → IsAskedOn q e (words_of words.now) (S.left src.old) →
+        IsAnswerableBy q.job q e → MeetsNoFault q.job (S.faults src.old) (S.faults src.new) (K.faults out.old) (K.faults out.new) → (result ≡ 0) ⊎ (result ≡ 1) }
+    // By `exec`, `bench` and `compile`, where main's erased program evaluates to data of main's type: every long enough run of the module answers that data or is exhausted; `exec` writes the
+    // data's text, and `bench` that behind the figures, or ends with a status that is neither 0 nor 15, and `compile` writes that module, or has another status.
+    ensures values { (q : Asked) (e : RawEnv) (ds : Data) (n k : ℕ) → IsAskedOn q e (words_of words.now) (S.left src.old) →
+        MakesModule q.job → HasErasedData q.turns e ds n k → AnswersData q e ds result (K.taken out.old) (K.taken out.new) }
+    // By these jobs (the text that `bench` makes is never plain), on a plain environment that keeps all rules, given four turns and 1,052,672 steps: the name of main's constructor, or its module, and 0 or 1 where out's
+    // count doesn't rise.
+    ensures plain { (q : Asked) (e : RawEnv) (a : IsAnswerable e) → IsAskedOn q e (words_of words.now) (S.left src.old) →
+        MakesModule q.job → 4 ≤ q.turns → (q.job ≢ Compile → 1052672 ≤ q.steps) →
+        AnswersConstructor q e a result (MeetsNoFault q.job (S.faults src.old) (S.faults src.new) (K.faults out.old) (K.faults out.new)) (K.taken out.old) (K.taken out.new) }
+    // So by `exec` on status 0 on each plain environment.
+    ensures named { (q : Asked) (e : RawEnv) (f : FamilyId) (n : ℕ) → IsAskedOn q e (words_of words.now) (S.left src.old) →
+        q.job ≡ Exec → 4 ≤ q.turns → 1052672 ≤ q.steps → IsPlainOf e f n → result ≡ 0 → (name : List ℕ) × NamesConstructor e f n name × Appends (K.taken out.old) (K.taken out.new) (name ++ 10 ∷ []) }
+    // By `exec` and `bench`, where main has a module: an answer or want of memory, or what the run shows.
+    ensures finishes { (q : Asked) (e : RawEnv) → IsAskedOn q e (words_of words.now) (S.left src.old) →
+        RunsModule q.job → HasModule q.turns e q.pages → MeetsNoFault q.job (S.faults src.old) (S.faults src.new) (K.faults out.old) (K.faults out.new) → Finishes q.turns e q.pages q.steps result }
+    // By `exec`, `bench` and `compile`, on each status that comes after the check the environment is well formed.
+    ensures well { (q : Asked) (bytes : List ℕ) → IsAsked q (words_of words.now) (S.left src.old) bytes → MakesModule q.job → IsLate result → HasWell bytes }
+    // The headline: where main's evaluation lawfully gives a value, every long enough run of the module that `exec` and `bench` run or `compile` writes answers it or is exhausted, and
+    // `exec` writes that value's text, `bench` that behind the figures, or shows a cause; with the bounds on memory and on steps, and at least as many steps as matches.
+    ensures headline { (q : Asked) (e : RawEnv) (n : ℕ) → IsAskedOn q e (words_of words.now) (S.left src.old) →
+        MakesModule q.job → (h : HasLawfulValue q.turns e n) → AnswersValue q e n result h (K.taken out.old) (K.taken out.new) }
+    ensures bounded { (q : Asked) (e : RawEnv) (n : ℕ) → IsAskedOn q e (words_of words.now) (S.left src.old) →
+        MakesModule q.job → (h : EvaluatesErased q.turns e n) → IsBoundedBy q e n h result }
+    ensures matched { (q : Asked) (e : RawEnv) (matches : ℕ) → IsAskedOn q e (words_of words.now) (S.left src.old) →
+        MakesModule q.job → HasMatches q.turns e matches → TakesMatches q e matches result }
+    ensures refuses_text { (q : Asked) (bytes : List ℕ) (r : Refusal) → IsAskedWithin q (words_of words.now) (S.left src.old) bytes →
+        ReadsWell q.job (S.faults src.old) (S.faults src.new) → IsTextCause q.job q r bytes → IsSure r → (result ≡ status_of r) ⊎ (result ≡ 1) }
+    ensures refuses_length { (q : Asked) (bytes : List ℕ) → IsAsked q (words_of words.now) (S.left src.old) bytes →
+        q.job ≢ Bench → ¬ Rose (S.faults src.old) (S.faults src.new) → input_limit < length bytes → (result ≡ 7) ⊎ (result ≡ 1) }
+
+    // The reports: on status 0 err takes the line of each, in order, with its count at entry and the number of facts of the check that it wants; `run` has none. No other clause knows of them.
+    ensures reported { result ≡ 0 → (facts : CheckFacts) × HasJobFacts (words_of words.now) (S.left src.old) facts ×
+        TakesLine (E.taken err.old) (E.taken err.new) (E.faults err.old) (E.faults err.new) (told_lines (facts_of facts) (map (λ b. shown b) reports.items)) }
 
     // What is left behind.
+    ensures unread { ReadsNothing (words_of words.now) → src.new ≡ src.old }
     ensures nothing_out { result ≢ 0 → result ≢ 4 → out.new ≡ out.old }
-    ensures quiet { result ≡ 0 → err.new ≡ err.old }
+    ensures quiet { result ≡ 0 → reports.items ≡ [] → err.new ≡ err.old }
     // No count falls, and each object tells its bytes where it did.
     ensures counts { (S.faults src.old ≤ S.faults src.new) × (K.faults out.old ≤ K.faults out.new) × (E.faults err.old ≤ E.faults err.new) }
     ensures tells { StillTells (S.left src.old) (S.left src.new) × StillTells (K.taken out.old) (K.taken out.new) × StillTells (E.taken err.old) (E.taken err.new) }
 {
-    serve_whole(alloc, words, src, out, err)
+    serve_whole(alloc, words, src, out, err, reports)
 }

@@ -1,8 +1,9 @@
-//! The program `erasec`: standard input, output and error for the top call of `driver`, whose status is the program's.
+//! The program `erasec`: standard input, output and error, and three reports, for the top call of `driver`, whose status is the program's.
 #![tactic(auto)]
 
 use driver::serve;
 use kio::{ReaderSource, WriterSink, write_all};
+use reports::{AxiomReport, DeclReport, Report, RuleReport};
 use std::process::ExitCode;
 use std::{env, io};
 
@@ -21,14 +22,25 @@ fn words(rt: &HostRuntime) -> io::Result<Vec<String>> {
     }
 }
 
-fn main(rt: HostRuntime) -> ExitCode {
+/// Does the job of the words, with reports of the declarations, of the axioms and of the uses of rules, and answers its status.
+fn status(rt: &HostRuntime) -> io::Result<u8> {
+    let alloc = rt.alloc();
+    let words = words(rt)?;
+    let mut reports: Vec<Box<dyn Report>> = Vec::new(alloc);
+    reports.push(Box::new(alloc, DeclReport::new())?)?;
+    reports.push(Box::new(alloc, AxiomReport::new())?)?;
+    reports.push(Box::new(alloc, RuleReport::new())?)?;
     let mut src = ReaderSource::new(rt.stdin());
     let mut out = WriterSink::new(rt.stdout());
     let mut err = WriterSink::new(rt.stderr());
-    match words(&rt) {
-        Ok(words) => ExitCode::from(serve(rt.alloc(), &words, &mut src, &mut out, &mut err)),
+    Ok(serve(alloc, &words, &mut src, &mut out, &mut err, reports))
+}
+
+fn main(rt: HostRuntime) -> ExitCode {
+    match status(&rt) {
+        Ok(status) => ExitCode::from(status),
         Err(_) => {
-            let _ = write_all(&mut err, b"out of memory\n");
+            let _ = write_all(&mut WriterSink::new(rt.stderr()), b"out of memory\n");
             ExitCode::from(1)
         }
     }

@@ -1,25 +1,23 @@
-use Rattle.std.proofs.Common.{ℕ}
-use Rattle.std.specs.Prelude.{Vec}
-use Rattle.std.specs.declared.alloc.Global.{Global}
 use Rattle.std.proofs.lemmas.Result.{err_from_is_err_and}
 use Rattle.first_order.specs.Searching.{members}
 use Rattle.command_line.specs.declared.job.Job.TheVariants.{Eval}
-use Rattle.driver.proofs.Answering.{cause_of, checked_says, exit_says}
+use Rattle.driver.proofs.Answering.{cause_of, checked_says, exit_says, ok_anyway}
 use Rattle.driver.proofs.SourceSaying.{of_shapes, of_value, of_data, names_there, source_says, evaluated, line_says}
+use Rattle.driver.proofs.Checking.{facts_given}
 use Rattle.driver.proofs.TextCauses.{within_limits}
 use Rattle.driver.proofs.eval.eval.Goals as goal
 
-pub returns-in_err-accepted : goal.returns-in_err-accepted
-returns-in_err-accepted c =
+pub returns-in_err-accepted-clause-says : goal.returns-in_err-accepted-clause-says
+returns-in_err-accepted-clause-says c =
     let e = c.in_ok-environment.environment in
     let bytes = c.args.bytes.now in
     let s = within_limits bytes e c.in_ok-environment.ensures.exact in
     let r = c.in_err-accepted.field-0.0 in
     let exit = err_from_is_err_and c.from_residual-in_err-accepted.result c.from_residual-in_err-accepted.ensures.1 in
-    record { says = exit_says (λ v. v.items) Eval c.args.request c.from_residual-in_err-accepted.result r bytes exit (checked_says {V = Vec ℕ Global} (λ v. v.items) Eval c.args.request r bytes e s tt (cause_of c.args.request.turns r e c.in_err-accepted.ensures.says)) }
+    exit_says (λ v. v.items) Eval c.args.request c.from_residual-in_err-accepted.result r bytes exit (checked_says Eval c.args.request r bytes e s tt (cause_of c.args.request.turns r e c.in_err-accepted.ensures.says))
 
-pub returns-in_err-shapes : goal.returns-in_err-shapes
-returns-in_err-shapes c =
+pub returns-in_err-shapes-clause-says : goal.returns-in_err-shapes-clause-says
+returns-in_err-shapes-clause-says c =
     let e = c.in_ok-environment.environment in
     let bytes = c.args.bytes.now in
     let s = within_limits bytes e c.in_ok-environment.ensures.exact in
@@ -29,13 +27,10 @@ returns-in_err-shapes c =
     let v = c.shapes_of.new.m.account in
     let r = c.in_err-shapes.field-0.0 in
     let exit = err_from_is_err_and c.from_residual-in_err-shapes.result c.from_residual-in_err-shapes.ensures.1 in
-    record {
-      says = exit_says (λ v. v.items) Eval c.args.request c.from_residual-in_err-shapes.result r bytes exit (source_says {V = Vec ℕ Global}
-          (λ v. v.items) c.args.request r bytes e a.env a.main a.main_type u v s known.0 known.1 known.2 (of_shapes a.env a.main a.main_type u r v c.in_err-shapes.ensures.says));
-    }
+    exit_says (λ v. v.items) Eval c.args.request c.from_residual-in_err-shapes.result r bytes exit (source_says c.args.request r bytes e a.env a.main a.main_type u v s known.0 known.1 known.2 (of_shapes a.env a.main a.main_type u r v c.in_err-shapes.ensures.says))
 
-pub returns-in_err-value : goal.returns-in_err-value
-returns-in_err-value c =
+pub returns-in_err-value-clause-says : goal.returns-in_err-value-clause-says
+returns-in_err-value-clause-says c =
     let e = c.in_ok-environment.environment in
     let bytes = c.args.bytes.now in
     let s = within_limits bytes e c.in_ok-environment.ensures.exact in
@@ -46,13 +41,11 @@ returns-in_err-value c =
     let w = c.value_of.new.m.account in
     let r = c.in_err-value.field-0.0 in
     let exit = err_from_is_err_and c.from_residual-in_err-value.result c.from_residual-in_err-value.ensures.1 in
-    record {
-      says = exit_says (λ v. v.items) Eval c.args.request c.from_residual-in_err-value.result r bytes exit (source_says {V = Vec ℕ Global} (λ v. v.items) c.args.request r bytes e a.env a.main a.main_type u w s known.0 known.1 known.2
-          (of_value a.env a.main a.main_type u (members c.in_ok-shapes.shapes.types) v c.in_ok-shapes.ensures.says r w c.in_err-value.ensures.says));
-    }
+    exit_says (λ v. v.items) Eval c.args.request c.from_residual-in_err-value.result r bytes exit (source_says c.args.request r bytes e a.env a.main a.main_type u w s known.0 known.1 known.2
+    (of_value a.env a.main a.main_type u (members c.in_ok-shapes.shapes.types) v c.in_ok-shapes.ensures.says r w c.in_err-value.ensures.says))
 
-pub returns-in_err-tree : goal.returns-in_err-tree
-returns-in_err-tree c =
+pub returns-in_err-tree-clause-says : goal.returns-in_err-tree-clause-says
+returns-in_err-tree-clause-says c =
     let e = c.in_ok-environment.environment in
     let bytes = c.args.bytes.now in
     let s = within_limits bytes e c.in_ok-environment.ensures.exact in
@@ -63,10 +56,8 @@ returns-in_err-tree c =
     let w = c.value_of.new.m.account in
     let r = c.in_err-tree.field-0.0 in
     let exit = err_from_is_err_and c.from_residual-in_err-tree.result c.from_residual-in_err-tree.ensures.1 in
-    record {
-      says = exit_says (λ v. v.items) Eval c.args.request c.from_residual-in_err-tree.result r bytes exit (source_says {V = Vec ℕ Global} (λ v. v.items) c.args.request r bytes e a.env a.main a.main_type u w s known.0 known.1 known.2
-          (of_data a.env a.main a.main_type u v w c.in_ok-shapes.shapes.types c.in_ok-shapes.ensures.named c.in_ok-shapes.ensures.says c.in_ok-value.value c.in_ok-value.ensures.says r c.in_err-tree.ensures.says));
-    }
+    exit_says (λ v. v.items) Eval c.args.request c.from_residual-in_err-tree.result r bytes exit (source_says c.args.request r bytes e a.env a.main a.main_type u w s known.0 known.1 known.2
+    (of_data a.env a.main a.main_type u v w c.in_ok-shapes.shapes.types c.in_ok-shapes.ensures.named c.in_ok-shapes.ensures.says c.in_ok-value.value c.in_ok-value.ensures.says r c.in_err-tree.ensures.says))
 
 pub line_of-requires-clause-named : goal.line_of-requires-clause-named
 line_of-requires-clause-named c =
@@ -76,8 +67,8 @@ line_of-requires-clause-named c =
     let a = c.in_ok-accepted.accepted in
     names_there bytes e a.env a.main_type s c.in_ok-accepted.ensures.says.2 c.in_ok-shapes.shapes.types c.in_ok-shapes.ensures.named
 
-pub returns : goal.returns
-returns c =
+pub returns-clause-says : goal.returns-clause-says
+returns-clause-says c =
     let e = c.in_ok-environment.environment in
     let bytes = c.args.bytes.now in
     let s = within_limits bytes e c.in_ok-environment.ensures.exact in
@@ -87,7 +78,13 @@ returns c =
     let v = c.shapes_of.new.m.account in
     let w = c.value_of.new.m.account in
     let hs = c.in_ok-shapes.shapes.types in
-    record {
-      says = line_says (λ v. v.items) c.args.request c.line_of.result bytes hs e.names c.in_ok-tree.tree (λ text line. evaluated c.args.request.turns bytes text e a.env a.main a.main_type u v w s known.0 known.1 known.2 hs c.in_ok-shapes.ensures.named
-          c.in_ok-shapes.ensures.set c.in_ok-shapes.ensures.says c.in_ok-value.value c.in_ok-value.ensures.says c.in_ok-value.ensures.value c.in_ok-tree.tree c.in_ok-tree.ensures.says line) c.line_of.ensures.line c.line_of.ensures.only_memory;
-    }
+    line_says (λ v. v.items) c.args.request c.line_of.result bytes hs e.names c.in_ok-tree.tree (λ text line. evaluated c.args.request.turns bytes text e a.env a.main a.main_type u v w s known.0 known.1 known.2 hs c.in_ok-shapes.ensures.named
+    c.in_ok-shapes.ensures.set c.in_ok-shapes.ensures.says c.in_ok-value.value c.in_ok-value.ensures.says c.in_ok-value.ensures.value c.in_ok-tree.tree c.in_ok-tree.ensures.says line) c.line_of.ensures.line c.line_of.ensures.only_memory
+
+pub returns-clause-facts : goal.returns-clause-facts
+returns-clause-facts c =
+    let e = c.in_ok-environment.environment in
+    let a = c.in_ok-accepted.accepted in
+    let known = c.in_ok-accepted.ensures.says in
+    let facts = facts_given c.args.request.turns e a.env a.main_type c.accept_within.new.meter.account c.accept_within.new.facts known.0 c.in_ok-accepted.ensures.facts in
+    ok_anyway c.line_of.result (e, within_limits c.args.bytes.now e c.in_ok-environment.ensures.exact, facts)

@@ -1,9 +1,9 @@
-use Rattle.driver.proofs.MadeSaying.{object_says}
-use Rattle.driver.proofs.TextCauses.{within_limits}
+use Rattle.driver.proofs.Answering.{ok_anyway}
+use Rattle.driver.proofs.MadeSaying.{bytes_say}
 use Rattle.driver.proofs.object.object.Goals as goal
 
-pub returns : goal.returns
-returns c =
-    let e = c.in_ok-environment.environment in
-    let bytes = c.args.bytes.now in
-    record { says = object_says (λ v. v.items) c.args.request c.requires.range bytes e c.environment_object.result (within_limits bytes e c.in_ok-environment.ensures.exact) c.environment_object.ensures.says }
+pub returns-clause-says : goal.returns-clause-says
+returns-clause-says c = bytes_say c.args.request c.requires.range c.args.bytes.now c.in_ok-main.main c.in_ok-main.ensures.says (λ v. v.items) c.written.result c.written.ensures.says
+
+pub returns-clause-facts : goal.returns-clause-facts
+returns-clause-facts c = ok_anyway c.written.result c.in_ok-main.ensures.facts

@@ -1,4 +1,5 @@
 -- Each clause is a part of what `serve_whole` promises.
+use Rattle.std.proofs.Common.{ap, map}
 use Rattle.driver.proofs.top.serve.Goals as goal
 
 pub returns-clause-done : goal.returns-clause-done
@@ -37,12 +38,6 @@ returns-clause-named g c = c.serve_whole.ensures.served.named
 pub returns-clause-finishes : goal.returns-clause-finishes
 returns-clause-finishes g c = c.serve_whole.ensures.served.finishes
 
-pub returns-clause-made : goal.returns-clause-made
-returns-clause-made g c = c.serve_whole.ensures.served.made
-
-pub returns-clause-made_well : goal.returns-clause-made_well
-returns-clause-made_well g c = c.serve_whole.ensures.served.made_well
-
 pub returns-clause-well : goal.returns-clause-well
 returns-clause-well g c = c.serve_whole.ensures.served.well
 
@@ -61,11 +56,17 @@ returns-clause-refuses_text g c = c.serve_whole.ensures.served.refuses_text
 pub returns-clause-refuses_length : goal.returns-clause-refuses_length
 returns-clause-refuses_length g c = c.serve_whole.ensures.served.refuses_length
 
+pub returns-clause-reported : goal.returns-clause-reported
+returns-clause-reported g c = c.serve_whole.ensures.served.reported
+
+pub returns-clause-unread : goal.returns-clause-unread
+returns-clause-unread g c = c.serve_whole.ensures.served.unread
+
 pub returns-clause-nothing_out : goal.returns-clause-nothing_out
 returns-clause-nothing_out g c = c.serve_whole.ensures.served.nothing_out
 
 pub returns-clause-quiet : goal.returns-clause-quiet
-returns-clause-quiet g c = c.serve_whole.ensures.served.quiet
+returns-clause-quiet g c = λ z none. c.serve_whole.ensures.served.quiet z (ap (λ xs. map (λ b. (goal.Report-dyn g (b.vtable, b.value)).shown b.value) xs) none)
 
 pub returns-clause-counts : goal.returns-clause-counts
 returns-clause-counts g c = let s = c.serve_whole.ensures.served in (s.source.count, s.sinks.0.count, s.sinks.1.count)

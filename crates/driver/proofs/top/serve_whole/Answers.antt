@@ -1,4 +1,6 @@
 -- All that the top call promises, by one lemma from its two halves.
+use Rattle.std.proofs.Common.{refl}
+use Rattle.std.proofs.lemmas.Result.{on_ok_weaker}
 use Rattle.driver.proofs.Serving.{served}
 use Rattle.driver.proofs.top.serve_whole.Goals as goal
 
@@ -7,7 +9,7 @@ returns g c =
     let a = c.answer-answered.ensures in
     let e = c.conclude.ensures in
     record {
-      served = served (λ v. v.items) _ _ _ _ _ _ _ _ c.answer-answered.result a.says e.concludes a.unread
+      served = served (λ v. v.items) _ _ _ _ _ _ _ _ _ c.answer-answered.result a.says e.concludes _ (on_ok_weaker c.answer-answered.result (λ h. (_, h, refl)) a.facts) a.unread
           (record { count = a.later; tells = a.tells })
           (record { count = e.counts.0; tells = e.tells.0 })
           (record { count = e.counts.1; tells = e.tells.1 });

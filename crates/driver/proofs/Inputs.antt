@@ -1,0 +1,169 @@
+-- The bytes of a job and the answer on them, from what reading and the job say.
+use Rattle.std.proofs.Common.{◌≡◌, ◌≢◌, ℕ, List, [], Option, Some, Result, Ok, Err, refl, sym, subst}
+use Rattle.std.specs.Prelude.{IfOk, IfErr, OnOk}
+use Rattle.std.proofs.lemmas.Result.{on_ok_weaker}
+use Rattle.std.specs.Io.KnownBytes.{Appends}
+use Rattle.report_lines.specs.Takes.{TakesLine}
+use Rattle.workload.specs.WorkloadText.{text_of}
+use Rattle.report_lines.specs.declared.facts.Facts.{Facts}
+use Rattle.command_line.specs.declared.job.Job.{Job}
+use Rattle.command_line.specs.declared.job.Job.TheVariants.{Exec, Check, Eval, Run, Compile, Bench}
+use Rattle.command_line.specs.declared.line.Request.{Request}
+use Rattle.command_line.specs.Line.{request_of}
+use Rattle.driver.specs.declared.refusal.Refusal.{Refusal}
+use Rattle.driver.specs.declared.refusal.Refusal.TheVariants as refusals
+use Rattle.driver.specs.Serve.{AreFacts, Concludes, HasJobFacts, InputSays, IsInput, IsInputOf, IsTextCause, JobSays, ReadSays, RefusalSays, RequestSays, Says}
+
+of_reader : (job : Job) (q : Request) (left : Option (List ℕ)) (bytes : List ℕ) → job ≢ Bench → IsInput left bytes → IsInputOf job q left bytes
+of_reader Exec q left bytes n h = h
+of_reader Check q left bytes n h = h
+of_reader Eval q left bytes n h = h
+of_reader Run q left bytes n h = h
+of_reader Compile q left bytes n h = h
+of_reader Bench q left bytes n h = absurd (n refl)
+
+-- the text that is made
+pub input_made : {V : Type 0} (view : V → List ℕ) (q : Request) (r : Result V Refusal) (left : Option (List ℕ)) (before now : ℕ) → q.job ≡ Bench → IfOk r (λ v. view v ≡ text_of q.size) → IfErr r (λ x. x ≡ refusals.Memory) → InputSays view r q left before now
+input_made view q (Ok v) left before now bench is memory = subst (λ j. IsInputOf j q left (view v)) (sym bench) is
+input_made {V = V} view q (Err x) left before now bench is memory = subst (λ y. InputSays {V = V} view (Err y) q left before now) (sym memory) tt
+
+-- the input that is read
+pub input_read : {V : Type 0} (view : V → List ℕ) (q : Request) (r : Result V Refusal) (left : Option (List ℕ)) (before now : ℕ) → q.job ≢ Bench → ReadSays view r left before now → InputSays view r q left before now
+input_read view q (Ok v) left before now n h = of_reader q.job q left (view v) n h
+input_read view q (Err refusals.Memory) left before now n h = tt
+input_read view q (Err refusals.ReadFault) left before now n h = (n, h)
+input_read view q (Err refusals.InputBytes) left before now n h = (n, h)
+input_read view q (Err refusals.Usage) left before now n h = absurd h
+input_read view q (Err refusals.WriteFault) left before now n h = absurd h
+input_read view q (Err (refusals.Syntax o)) left before now n h = absurd h
+input_read view q (Err (refusals.Unsupported w o)) left before now n h = absurd h
+input_read view q (Err (refusals.Limit l)) left before now n h = absurd h
+input_read view q (Err refusals.Depth) left before now n h = absurd h
+input_read view q (Err refusals.TurnsSpent) left before now n h = absurd h
+input_read view q (Err (refusals.Broken k p)) left before now n h = absurd h
+input_read view q (Err refusals.Types) left before now n h = absurd h
+input_read view q (Err refusals.AnswerNodes) left before now n h = absurd h
+input_read view q (Err refusals.NotFirstOrder) left before now n h = absurd h
+input_read view q (Err refusals.Stuck) left before now n h = absurd h
+input_read view q (Err (refusals.Axiom name)) left before now n h = absurd h
+input_read view q (Err (refusals.Program l)) left before now n h = absurd h
+input_read view q (Err (refusals.Run w)) left before now n h = absurd h
+input_read view q (Err (refusals.Module w)) left before now n h = absurd h
+
+-- no text shows a refusal of the words, of reading or of writing
+
+no_usage : (job : Job) (q : Request) (bytes : List ℕ) → IsTextCause job q refusals.Usage bytes → ⊥
+no_usage Exec q bytes h = h
+no_usage Check q bytes h = h
+no_usage Eval q bytes h = h
+no_usage Run q bytes h = h
+no_usage Compile q bytes h = h
+no_usage Bench q bytes h = h
+
+no_read_fault : (job : Job) (q : Request) (bytes : List ℕ) → IsTextCause job q refusals.ReadFault bytes → ⊥
+no_read_fault Exec q bytes h = h
+no_read_fault Check q bytes h = h
+no_read_fault Eval q bytes h = h
+no_read_fault Run q bytes h = h
+no_read_fault Compile q bytes h = h
+no_read_fault Bench q bytes h = h
+
+no_write_fault : (job : Job) (q : Request) (bytes : List ℕ) → IsTextCause job q refusals.WriteFault bytes → ⊥
+no_write_fault Exec q bytes h = h
+no_write_fault Check q bytes h = h
+no_write_fault Eval q bytes h = h
+no_write_fault Run q bytes h = h
+no_write_fault Compile q bytes h = h
+no_write_fault Bench q bytes h = h
+
+no_length : (job : Job) (q : Request) (bytes : List ℕ) → IsTextCause job q refusals.InputBytes bytes → ⊥
+no_length Exec q bytes h = h
+no_length Check q bytes h = h
+no_length Eval q bytes h = h
+no_length Run q bytes h = h
+no_length Compile q bytes h = h
+no_length Bench q bytes h = h
+
+module _ {V : Type 0} (view : V → List ℕ) (words : List (List ℕ)) (left : Option (List ℕ)) (before now : ℕ) where
+  -- a refusal of the words
+  pub request_says : (r : Refusal) → RequestSays r words → Says {V = V} view (Err r) words left before now
+  request_says refusals.Memory h = tt
+  request_says refusals.Usage h = h
+  request_says refusals.ReadFault h = absurd h
+  request_says refusals.WriteFault h = absurd h
+  request_says (refusals.Syntax o) h = absurd h
+  request_says (refusals.Unsupported w o) h = absurd h
+  request_says (refusals.Limit l) h = absurd h
+  request_says refusals.InputBytes h = absurd h
+  request_says refusals.Depth h = absurd h
+  request_says refusals.TurnsSpent h = absurd h
+  request_says (refusals.Broken n p) h = absurd h
+  request_says refusals.Types h = absurd h
+  request_says refusals.AnswerNodes h = absurd h
+  request_says refusals.NotFirstOrder h = absurd h
+  request_says refusals.Stuck h = absurd h
+  request_says (refusals.Axiom name) h = absurd h
+  request_says (refusals.Program l) h = absurd h
+  request_says (refusals.Run w) h = absurd h
+  request_says (refusals.Module w) h = absurd h
+
+  module _ (q : Request) (asked : request_of words ≡ Some q) where
+    -- a refusal of reading
+    pub input_says : (r : Refusal) → InputSays {V = V} view (Err r) q left before now → Says {V = V} view (Err r) words left before now
+    input_says refusals.Memory h = tt
+    input_says refusals.ReadFault h = ((q, asked, h.0), h.1)
+    input_says refusals.InputBytes h = ((q, asked, h.0), h.1)
+    input_says refusals.Usage h = absurd h
+    input_says refusals.WriteFault h = absurd h
+    input_says (refusals.Syntax o) h = absurd h
+    input_says (refusals.Unsupported w o) h = absurd h
+    input_says (refusals.Limit l) h = absurd h
+    input_says refusals.Depth h = absurd h
+    input_says refusals.TurnsSpent h = absurd h
+    input_says (refusals.Broken n p) h = absurd h
+    input_says refusals.Types h = absurd h
+    input_says refusals.AnswerNodes h = absurd h
+    input_says refusals.NotFirstOrder h = absurd h
+    input_says refusals.Stuck h = absurd h
+    input_says (refusals.Axiom name) h = absurd h
+    input_says (refusals.Program l) h = absurd h
+    input_says (refusals.Run w) h = absurd h
+    input_says (refusals.Module w) h = absurd h
+
+    module _ (bytes : List ℕ) (input : IsInputOf q.job q left bytes) where
+      refused : (r : Refusal) → RefusalSays q.job q r bytes → Says {V = V} view (Err r) words left before now
+      refused refusals.Memory h = tt
+      refused refusals.Usage h = absurd (no_usage q.job q bytes h)
+      refused refusals.ReadFault h = absurd (no_read_fault q.job q bytes h)
+      refused refusals.WriteFault h = absurd (no_write_fault q.job q bytes h)
+      refused refusals.InputBytes h = absurd (no_length q.job q bytes h)
+      refused (refusals.Syntax o) h = (q, asked, (bytes, input, h))
+      refused (refusals.Unsupported w o) h = (q, asked, (bytes, input, h))
+      refused (refusals.Limit l) h = (q, asked, (bytes, input, h))
+      refused refusals.Depth h = (q, asked, (bytes, input, h))
+      refused refusals.TurnsSpent h = (q, asked, (bytes, input, h))
+      refused (refusals.Broken n p) h = (q, asked, (bytes, input, h))
+      refused refusals.Types h = (q, asked, (bytes, input, h))
+      refused refusals.AnswerNodes h = (q, asked, (bytes, input, h))
+      refused refusals.NotFirstOrder h = (q, asked, (bytes, input, h))
+      refused refusals.Stuck h = (q, asked, (bytes, input, h))
+      refused (refusals.Axiom name) h = (q, asked, (bytes, input, h))
+      refused (refusals.Program l) h = (q, asked, (bytes, input, h))
+      refused (refusals.Run w) h = (q, asked, (bytes, input, h))
+      refused (refusals.Module w) h = (q, asked, (bytes, input, h))
+
+      -- the job's answer on the bytes, or its refusal
+      pub answer_says : (r : Result V Refusal) → JobSays q.job q view r bytes → Says view r words left before now
+      answer_says (Ok v) h = record { request = q; asked = asked; bytes = bytes; input = input; answer = h }
+      answer_says (Err r) h = refused r h
+
+      -- and its facts
+      pub job_facts : (r : Result V Refusal) (facts : Facts) → OnOk r (AreFacts q.job q bytes facts) → OnOk r (HasJobFacts words left facts)
+      job_facts r facts h = on_ok_weaker r (λ are. record { request = q; asked = asked; bytes = bytes; input = input; are = are }) h
+
+-- an answer that is written, with the lines of the reports
+pub concluded : {V K E : Type 0} (view : V → List ℕ) (a : Result V Refusal) (v : V) → a ≡ Ok v → (lines : List ℕ) (out out' : K) (taken taken' : Option (List ℕ)) (faults faults' : ℕ)
+    (err err' : E) (line line' : Option (List ℕ)) (errs errs' : ℕ) → Appends taken taken' (view v) → TakesLine line line' errs errs' lines → (lines ≡ [] → err' ≡ err) →
+    Concludes view a lines 0 out out' taken taken' faults faults' err err' line line' errs errs'
+concluded view a v is lines out out' taken taken' faults faults' err err' line line' errs errs' h t none =
+    subst (λ x. Concludes view x lines 0 out out' taken taken' faults faults' err err' line line' errs errs') (sym is) (record { whole = λ z. (h, t, none); part = λ n. absurd (n refl) })

@@ -1,0 +1,20 @@
+use Rattle.std.proofs.Common.{◌∙◌}
+use Rattle.std.proofs.lemmas.Result.{err_from_is_err_and}
+use Rattle.command_line.specs.declared.job.Job.TheVariants.{Bench}
+use Rattle.driver.proofs.Answering.{exit_says}
+use Rattle.driver.proofs.BenchSaying.{bench_says, lines_are}
+use Rattle.driver.proofs.bench.bench.Goals as goal
+
+pub returns-in_err-executed-clause-says : goal.returns-in_err-executed-clause-says
+returns-in_err-executed-clause-says c =
+    let q = c.args.request in
+    let bytes = c.args.bytes.now in
+    let r = c.in_err-executed.field-0.0 in
+    let exit = err_from_is_err_and c.from_residual.result c.from_residual.ensures.1 in
+    exit_says (λ v. v.items) Bench q c.from_residual.result r bytes exit (bench_says q r bytes c.in_err-executed.ensures.says)
+
+pub returns-clause-says : goal.returns-clause-says
+returns-clause-says c =
+    let x = c.in_ok-executed.executed in
+    let says = c.in_ok-executed.ensures.says in
+    record { answer = x.line.items; executed = says.executed; text_is = c.in_ok-lines_of.ensures.is ∙ lines_are c.args.request c.args.bytes.now x says }

@@ -1,9 +1,0 @@
-use Rattle.driver.proofs.ExecSaying.{job_says}
-use Rattle.driver.proofs.TextCauses.{within_limits}
-use Rattle.driver.proofs.exec.exec.Goals as goal
-
-pub returns : goal.returns
-returns c =
-    let e = c.in_ok-environment.environment in
-    let bytes = c.args.bytes.now in
-    record { says = job_says (λ v. v.items) c.args.request c.requires.range bytes e c.environment_answer.result (within_limits bytes e c.in_ok-environment.ensures.exact) c.environment_answer.ensures.says }

@@ -1,0 +1,52 @@
+use Rattle.std.proofs.Common.{subst, arith}
+use Rattle.std.proofs.lemmas.Result.{err_from_is_err_and}
+use Rattle.first_order.specs.Texts.{HasNames}
+use Rattle.driver.specs.Figures.{ExecutedSays}
+use Rattle.driver.proofs.ExecSaying.{figures_say, line_refused, run_refused, shared_says}
+use Rattle.driver.proofs.MadeSaying.{exit_at}
+use Rattle.driver.proofs.SourceSaying.{names_there}
+use Rattle.driver.proofs.exec.execute.Goals as goal
+
+pub returns-in_err-main-clause-says : goal.returns-in_err-main-clause-says
+returns-in_err-main-clause-says c =
+    let q = c.args.request in
+    let bytes = c.args.bytes.now in
+    let r = c.in_err-main.field-0.0 in
+    let exit = err_from_is_err_and c.from_residual.result c.from_residual.ensures.1 in
+    exit_at (λ x. ExecutedSays q x bytes) c.from_residual.result r exit (shared_says q r bytes c.in_err-main.ensures.says)
+
+pub measured-requires : goal.measured-requires
+measured-requires c =
+    let made = c.in_ok-main.ensures.says in
+    let x = made.stages in
+    let pages = c.requires.range.pages in
+    record { range = (omega (arith, pages.0), omega (arith, pages.1)); compiled = (x.before.program, x.before.form, x.fits, made.module_is) }
+
+pub returns-in_err-run-clause-says : goal.returns-in_err-run-clause-says
+returns-in_err-run-clause-says c =
+    let q = c.args.request in
+    let bytes = c.args.bytes.now in
+    let r = c.in_err-run.field-0.0 in
+    let exit = err_from_is_err_and c.from_residual-in_err-run.result c.from_residual-in_err-run.ensures.1 in
+    exit_at (λ x. ExecutedSays q x bytes) c.from_residual-in_err-run.result r exit (run_refused q c.requires.range bytes c.in_ok-main.main c.in_ok-main.ensures.says r c.in_err-run.ensures.says)
+
+pub line_of-requires : goal.line_of-requires
+line_of-requires c =
+    let M = c.in_ok-main.main in
+    let made = c.in_ok-main.ensures.says in
+    let x = made.stages.before.before in
+    let k = x.before in
+    record { named = subst (λ hs. HasNames hs M.environment.names) made.shapes_are (names_there c.args.bytes.now M.environment k.kept k.type made.spelled k.checked x.shapes x.named) }
+
+pub returns-in_err-line-clause-says : goal.returns-in_err-line-clause-says
+returns-in_err-line-clause-says c =
+    let q = c.args.request in
+    let bytes = c.args.bytes.now in
+    let r = c.in_err-line.field-0.0 in
+    let exit = err_from_is_err_and c.from_residual-in_err-line.result c.from_residual-in_err-line.ensures.1 in
+    exit_at (λ x. ExecutedSays q x bytes) c.from_residual-in_err-line.result r exit
+    (line_refused q c.requires.range bytes c.in_ok-main.main c.in_ok-main.ensures.says c.in_ok-run.run' c.in_ok-run.ensures.says r c.in_err-line.ensures.says)
+
+pub returns-clause-says : goal.returns-clause-says
+returns-clause-says c =
+    figures_say c.args.request c.requires.range c.args.bytes.now c.in_ok-main.main c.in_ok-main.ensures.says c.in_ok-run.run' c.in_ok-run.ensures.says c.in_ok-run.ensures.spelled c.in_ok-line.line c.in_ok-line.ensures.says _ _ _ _ (grind arith) (grind arith) (grind arith) (grind arith)
