@@ -1,6 +1,10 @@
 //! The layer of the jobs: `serve`, with the words of a command line, an input, and calls of it that fail.
+use crate::piped::run_piped;
+use crate::reporting::RowReport;
+use crate::wanting::Wanted;
 use driver::serve;
 use kio::{MemSink, MemSource, read_all};
+use reports::{AxiomReport, DeclReport, Report, RuleReport};
 use row_files::{Case, Fault, put_bytes};
 use std::alloc::{AllocError, Global};
 
@@ -9,12 +13,13 @@ pub fn run(case: &Case, out: &mut String) -> Result<(), Fault> {
     match case.row.given("call")? {
         "serve" => run_serve(case, out),
         "serve each prefix" => run_prefixes(case, out),
+        "serve twice" => run_piped(case, out),
         _ => Err(Fault::Faulty("no such call")),
     }
 }
 
 /// The words of a command line.
-fn words_of(alloc: Global, line: &str) -> Result<Vec<String>, AllocError> {
+pub fn words_of(alloc: Global, line: &str) -> Result<Vec<String>, AllocError> {
     let mut words = Vec::new(alloc);
     for word in line.split_whitespace() {
         words.push(String::from_str(alloc, word)?)?;
@@ -30,25 +35,82 @@ fn is_unread(alloc: Global, src: &mut MemSource, input: &[u8]) -> bool {
     }
 }
 
+/// The count of bytes, the first 20 and the last 20; fewer whole.
+fn put_ends(out: &mut String, bytes: &[u8]) -> Result<(), AllocError> {
+    let count = bytes.len();
+    if count < 20 {
+        return put_bytes(out, bytes);
+    }
+    write!(out, "{count} bytes, ")?;
+    put_bytes(out, &bytes[..20])?;
+    out.push_str(" .. ")?;
+    put_bytes(out, &bytes[count - 20..])
+}
+
+/// Bytes: of over 4,096 the count and the ends alone.
+fn put_shown(out: &mut String, bytes: &[u8]) -> Result<(), AllocError> {
+    if bytes.len() <= 4096 {
+        put_bytes(out, bytes)
+    } else {
+        put_ends(out, bytes)
+    }
+}
+
 /// The status of a job, and what went to out and to err.
-fn put_served(out: &mut String, status: u8, answer: &[u8], line: &[u8]) -> Result<(), AllocError> {
+pub fn put_served(
+    out: &mut String,
+    status: u8,
+    answer: &[u8],
+    line: &[u8],
+) -> Result<(), AllocError> {
     write!(out, "status {status}, out ")?;
-    put_bytes(out, answer)?;
+    put_shown(out, answer)?;
     out.push_str(", err ")?;
     put_bytes(out, line)
 }
 
-/// Does a job: out takes at most 3 bytes in a call.
+/// A report by its word: one that wants everything from the last count on, nothing from 7 on, or the uses of one rule from 7 on.
+fn row_report(kind: &str) -> RowReport {
+    let (name, count, wanted) = match kind {
+        "last" => (4, u64::MAX, Wanted::Everything),
+        "nothing" => (5, 7, Wanted::Nothing),
+        "rule7" => (7, 0, Wanted::Rule(7)),
+        "rule8" => (8, 0, Wanted::Rule(8)),
+        "rule9" => (9, 0, Wanted::Rule(9)),
+        "rule10" => (10, 0, Wanted::Rule(10)),
+        "rule11" => (11, 0, Wanted::Rule(11)),
+        "rule12" => (12, 0, Wanted::Rule(12)),
+        _ => (255, 0, Wanted::Nothing),
+    };
+    RowReport {
+        name,
+        count,
+        wanted,
+    }
+}
+
+/// Does a job with the reports that are named: out takes at most 3 bytes in a call.
 fn put_job(
     out: &mut String,
-    alloc: Global,
+    case: &Case,
     words: &Vec<String>,
     src: &mut MemSource,
     answer: &mut MemSink,
-) -> Result<(), AllocError> {
-    let mut line = MemSink::new(alloc, 4096, Vec::new(alloc));
-    let status = serve(alloc, words, src, answer, &mut line);
-    put_served(out, status, answer.bytes(), line.bytes())
+) -> Result<(), Fault> {
+    let alloc = case.alloc;
+    let mut reports: Vec<Box<dyn Report>> = Vec::new(alloc);
+    for kind in case.row.value("reports").unwrap_or("").split_whitespace() {
+        match kind {
+            "declarations" => reports.push(Box::new(alloc, DeclReport::new())?)?,
+            "axioms" => reports.push(Box::new(alloc, AxiomReport::new())?)?,
+            "rules" => reports.push(Box::new(alloc, RuleReport::new())?)?,
+            _ => reports.push(Box::new(alloc, row_report(kind))?)?,
+        }
+    }
+    let failing = case.failing("failing report")?;
+    let mut line = MemSink::new(alloc, 4096, failing);
+    let status = serve(alloc, words, src, answer, &mut line, reports);
+    Ok(put_served(out, status, answer.bytes(), line.bytes())?)
 }
 
 /// Does a job on a source, where the row says which write to out fails.
@@ -60,7 +122,7 @@ fn serve_from(
 ) -> Result<(), Fault> {
     let failing = case.failing("failing write")?;
     let mut answer = MemSink::new(case.alloc, 3, failing);
-    Ok(put_job(out, case.alloc, words, src, &mut answer)?)
+    put_job(out, case, words, src, &mut answer)
 }
 
 /// A source of an input, where the row says which read fails.
@@ -102,7 +164,14 @@ fn is_refused(alloc: Global, words: &Vec<String>, bytes: Vec<u8>) -> bool {
     let mut src = MemSource::new(bytes, Vec::new(alloc));
     let mut answer = MemSink::new(alloc, 3, Vec::new(alloc));
     let mut line = MemSink::new(alloc, 4096, Vec::new(alloc));
-    let status = serve(alloc, words, &mut src, &mut answer, &mut line);
+    let status = serve(
+        alloc,
+        words,
+        &mut src,
+        &mut answer,
+        &mut line,
+        Vec::new(alloc),
+    );
     status == 5 && answer.bytes().is_empty()
 }
 

@@ -19,6 +19,7 @@ fn name_of(job: Job) -> &'static str {
         Job::Eval => "eval",
         Job::Run => "run",
         Job::Compile => "compile",
+        Job::Bench => "bench",
     }
 }
 

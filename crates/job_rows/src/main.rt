@@ -4,16 +4,24 @@
 //! | Table | Calls |
 //! |---|---|
 //! | `environments` | `check` (`units:`, then the units that are left are told, and the uses of the rules), `kept` |
-//! | `jobs` | `serve`, `serve each prefix` (`words:`, `failing read:`, `failing write:`) |
+//! | `jobs` | `serve`, `serve each prefix` (`words:`, `failing read:`, `failing write:`; `reports:` of the kinds `declarations`, `axioms`, `rules`, `last`, `nothing`, `rule7` to `rule12`, `failing report:` for a write to err that fails) |
 //! | `executions` | the same, of the job `exec` |
 //! | `runs` | the same, of the job `run` and of options |
+//! | `reports` | the same, with reports, and of the job `bench` |
+//! | `limits` | the same, of the job `exec` at the limits of the compiler |
+//! | `compiled` | `serve twice`: the job of `words:`, and then that of `then:` on what it wrote |
 //! | `lines` | `line` (`words:`) |
+//! | `faults` | `serve at each prefix`, `serve with each fault` (`failing:` says whose calls, `calls:` how many), `serve` |
 #![tactic(auto)]
 
 mod environments;
+mod faults;
 mod jobs;
 mod kept;
 mod lines;
+mod piped;
+mod reporting;
+mod wanting;
 
 use row_files::{Case, Fault, Table, run_tables};
 use std::io;
@@ -25,7 +33,11 @@ enum Layer {
     Jobs,
     Executions,
     Runs,
+    Reports,
+    Limits,
+    Compiled,
     Lines,
+    Faults,
 }
 
 impl Table for Layer {
@@ -35,15 +47,25 @@ impl Table for Layer {
             Layer::Jobs => "jobs.rows",
             Layer::Executions => "executions.rows",
             Layer::Runs => "runs.rows",
+            Layer::Reports => "reports.rows",
+            Layer::Limits => "limits.rows",
+            Layer::Compiled => "compiled.rows",
             Layer::Lines => "lines.rows",
+            Layer::Faults => "faults.rows",
         }
     }
 
     fn run(&self, case: &Case, out: &mut String) -> Result<(), Fault> {
         match self {
             Layer::Environments => environments::run(case, out),
-            Layer::Jobs | Layer::Executions | Layer::Runs => jobs::run(case, out),
+            Layer::Jobs
+            | Layer::Executions
+            | Layer::Runs
+            | Layer::Reports
+            | Layer::Limits
+            | Layer::Compiled => { jobs::run(case, out) }
             Layer::Lines => lines::run(case, out),
+            Layer::Faults => faults::run(case, out),
         }
     }
 }
@@ -56,7 +78,11 @@ fn main(rt: HostRuntime) -> io::Result<()> {
             Layer::Jobs,
             Layer::Executions,
             Layer::Runs,
+            Layer::Reports,
+            Layer::Limits,
+            Layer::Compiled,
             Layer::Lines,
+            Layer::Faults,
         ],
     )
 }
