@@ -4,8 +4,9 @@
 #     coq-dump/test.sh [ERASEC]
 #
 # ERASEC is the program; without it the one that `rt ci` left in crates/erasec/out. Each tests/out/NAME.check.dump and NAME.run.dump must be accepted by
-# `check`; each NAME.run.dump with a NAME.value must have that value by `eval` and by `exec`, where the program has these jobs for it. A job that it hasn't yet
-# is told as skipped, and the one run that is known to take more turns than a job has is told apart: it says nothing of the value. Without coqc the whole is skipped.
+# `check`, and each NAME.refused.dump be refused by a rule of typing; each NAME.run.dump with a NAME.value must have that value by `eval` and by `exec`, where the
+# program has these jobs for it. A job that it hasn't yet is told as skipped, and the one run that is known to take more turns than a job has is told apart: it says
+# nothing of the value. Without coqc the whole is skipped.
 set -uo pipefail
 here=$(cd "$(dirname "$0")" && pwd)
 erasec=${1:-}
@@ -37,7 +38,8 @@ run_job() { answer=$(timeout 300 "$erasec" "$1" <"$2" 2>out/err); status=$?; }
 
 for dump in out/*.dump; do
   run_job check "$dump"
-  if [ "$status" = 0 ]; then pass; else fail "check $dump: status $status, $(cat out/err)"; fi
+  case $dump in *.refused.dump) due=9 ;; *) due=0 ;; esac
+  if [ "$status" = "$due" ]; then pass; else fail "check $dump: status $status, $(cat out/err)"; fi
   value=${dump%.run.dump}.value
   [ -f "$value" ] || continue
   for job in eval exec; do

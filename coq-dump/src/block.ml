@@ -4,24 +4,6 @@ open Constr
 open Declarations
 open Context.Rel.Declaration
 
-(* max (Set, u) is u, since each level is above Set. *)
-let simple_sort = function
-  | Sorts.Type u as s ->
-    let parts = Univ.Universe.repr u in
-    let others = List.filter (fun (l, n) -> not (Univ.Level.is_set l && n = 0)) parts in
-    if others = [] || List.length others = List.length parts then s
-    else
-      let raised (l, n) =
-        let rec up u n = if n = 0 then u else up (Univ.Universe.super u) (n - 1) in
-        up (Univ.Universe.make l) n in
-      Sorts.sort_of_univ (List.fold_left Univ.Universe.sup (raised (List.hd others)) (List.map raised (List.tl others)))
-  | s -> s
-
-let rec simple t =
-  match kind t with
-  | Sort s -> let s' = simple_sort s in if s == s' then t else mkSort s'
-  | _ -> Constr.map simple t
-
 (* A template polymorphic family is written once, at copies of its declared levels: in the global graph those levels have got every constraint of every
    use, and the copies start free. *)
 type copies = {
@@ -53,33 +35,38 @@ let template_context copies template =
   let levels = Univ.Level.Set.fold (fun l s -> Univ.Level.Set.add (copy_of copies l) s) (fst template.template_context) Univ.Level.Set.empty in
   levels, Univ.subst_univs_level_constraints (template_subst copies template) (snd template.template_context)
 
-let with_terms block ~term ~context ~sort =
+(* A family squashed into SProp may be eliminated into Prop where it is read as one in Prop. *)
+let elimination = function Sorts.InSProp when !Options.strict_propositions -> Sorts.InProp | into -> into
+
+(* The block with each of its terms, contexts and sorts changed. *)
+let with_terms block ~term ~sort =
+  let context = Context.Rel.map term in
+  let arity = function
+    | RegularArity a -> RegularArity { mind_user_arity = term a.mind_user_arity; mind_sort = sort a.mind_sort }
+    | TemplateArity { template_level = s } -> TemplateArity { template_level = sort s } in
+  let family it =
+    { it with
+      mind_arity_ctxt = context it.mind_arity_ctxt;
+      mind_arity = arity it.mind_arity;
+      mind_kelim = elimination it.mind_kelim;
+      mind_user_lc = Array.map term it.mind_user_lc;
+      mind_nf_lc = Array.map (fun (ctx, t) -> context ctx, term t) it.mind_nf_lc } in
   { block with
     mind_params_ctxt = context block.mind_params_ctxt;
-    mind_packets = Array.map (fun family -> { family with
-      mind_arity_ctxt = context family.mind_arity_ctxt;
-      mind_arity = (match family.mind_arity with
-        | RegularArity a -> RegularArity { mind_user_arity = term a.mind_user_arity; mind_sort = sort a.mind_sort }
-        | TemplateArity { template_level = s } -> TemplateArity { template_level = sort s });
-      mind_nf_lc = Array.map (fun (ctx, t) -> context ctx, term t) family.mind_nf_lc }) block.mind_packets }
+    mind_packets = Array.map family block.mind_packets }
 
 (* The block at an instance; a template at its copied levels. *)
 let at copies env m u =
   let block = Environ.lookup_mind m env in
+  let changed in_term in_universe =
+    let sort = function Sorts.Type v -> Sorts.sort_of_univ (in_universe v) | s -> s in
+    with_terms block ~term:(fun t -> Sortform.term (in_term t)) ~sort:(fun s -> Sortform.sort (sort s)) in
   match block.mind_template with
   | Some template ->
     let subst = template_subst copies template in
-    let term t = simple (Vars.subst_univs_level_constr subst t) in
-    let sort = function
-      | Sorts.Type v -> simple_sort (Sorts.sort_of_univ (Univ.subst_univs_level_universe subst v))
-      | s -> s in
-    with_terms block ~term ~context:(Context.Rel.map term) ~sort
-  | None when Univ.Instance.is_empty u -> block
-  | None ->
-    let sort = function
-      | Sorts.Type v -> Sorts.sort_of_univ (Univ.subst_instance_universe u v)
-      | s -> s in
-    with_terms block ~term:(Vars.subst_instance_constr u) ~context:(Vars.subst_instance_context u) ~sort
+    changed (Vars.subst_univs_level_constr subst) (Univ.subst_univs_level_universe subst)
+  | None when Univ.Instance.is_empty u && not !Options.strict_propositions -> block
+  | None -> changed (Vars.subst_instance_constr u) (Univ.subst_instance_universe u)
 
 let has_lets context = List.exists is_local_def context
 

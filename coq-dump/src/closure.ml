@@ -9,39 +9,43 @@ type declaration =
   | Constant of { constant : Constant.t; instance : Univ.Instance.t; ty : constr; body : constr option }
   | Block of { block : MutInd.t; instance : Univ.Instance.t }
 
+(* A canonical name at an instance of its universes. *)
+module Key = Hashtbl.Make (struct
+  type t = KerName.t * Univ.Instance.t
+  let equal (name, u) (name', u') = KerName.equal name name' && Univ.Instance.equal u u'
+  let hash (name, u) = Hashset.Combine.combine (KerName.hash name) (Univ.Instance.hash u)
+end)
+
 type t = {
   env : Environ.env;
   root : KerName.t;                              (* the dumped constant, which keeps its body whatever the options say *)
   copies : Block.copies;
   mutable declarations : declaration list;       (* the newest first *)
-  constants : (string, string) Hashtbl.t;        (* the key of a canonical name and an instance, and the name in the dump *)
-  blocks : (string, string) Hashtbl.t;
-  entered : (string, unit) Hashtbl.t;
+  constants : string Key.t;                      (* the names in the dump *)
+  blocks : string Key.t;
+  entered : unit Key.t;
   taken : taken;
   mutable templates : MutInd.t list;             (* the newest first *)
+  mutable other_constants : Cset_env.t;          (* names in the closure's terms that stand for canonical ones *)
+  mutable other_blocks : unit Mindmap_env.t;
 }
 
 let start env root =
-  { env; root; copies = Block.no_copies (); declarations = []; constants = Hashtbl.create 97; blocks = Hashtbl.create 97;
-    entered = Hashtbl.create 97; taken = Hashtbl.create 97; templates = [] }
-
-let key name instance =
-  if Univ.Instance.is_empty instance then KerName.to_string name
-  else
-    let levels = Array.to_list (Univ.Instance.to_array instance) in
-    KerName.to_string name ^ "@" ^ String.concat "," (List.map Univ.Level.to_string levels)
+  { env; root; copies = Block.no_copies (); declarations = []; constants = Key.create 97; blocks = Key.create 97;
+    entered = Key.create 97; taken = Hashtbl.create 97; templates = [];
+    other_constants = Cset_env.empty; other_blocks = Mindmap_env.empty }
 
 (* A name that a module alias or an Include made stands for its canonical one, where that is there. *)
 let canonical_constant env c =
   let c' = Constant.make1 (Constant.canonical c) in
-  if Environ.mem_constant c' env then c' else c
+  if Constant.UserOrd.equal c c' || not (Environ.mem_constant c' env) then c else c'
 
 let canonical_block env m =
   let m' = MutInd.make1 (MutInd.canonical m) in
-  if Environ.mem_mind m' env then m' else m
+  if MutInd.UserOrd.equal m m' || not (Environ.mem_mind m' env) then m else m'
 
-let constant_name closure c u = Hashtbl.find closure.constants (key (Constant.canonical c) u)
-let block_name closure m u = Hashtbl.find closure.blocks (key (MutInd.canonical m) u)
+let constant_name closure c u = Key.find closure.constants (Constant.canonical c, u)
+let block_name closure m u = Key.find closure.blocks (MutInd.canonical m, u)
 
 let opaque_body name constant =
   match Global.body_of_constant_body Library.indirect_accessor constant with
@@ -67,20 +71,20 @@ let reduced_body closure name body =
 
 let body_of closure c constant u =
   let name = Constant.to_string c in
-  let instantiated body = Block.simple (Vars.subst_instance_constr u body) in
-  let body = match constant.const_body with
-    | Undef _ -> None
-    | Primitive _ -> refuse "%s: a primitive operation" name
-    | Def body -> Some (instantiated body)
-    | OpaqueDef _ when !Options.opaque_axioms && not (KerName.equal closure.root (Constant.canonical c)) -> None
-    | OpaqueDef _ -> Some (instantiated (opaque_body name constant)) in
-  if not !Options.reduce_fixpoints then body
-  else Option.map (reduced_body closure name) body
+  let written body =
+    let body = Vars.subst_instance_constr u body in
+    Sortform.term (if !Options.reduce_fixpoints then reduced_body closure name body else body) in
+  match constant.const_body with
+  | Undef _ -> None
+  | Primitive _ -> refuse "%s: a primitive operation" name
+  | Def body -> Some (written body)
+  | OpaqueDef _ when !Options.opaque_axioms && not (KerName.equal closure.root (Constant.canonical c)) -> None
+  | OpaqueDef _ -> Some (written (opaque_body name constant))
 
-let type_of constant u = Block.simple (Vars.subst_instance_constr u constant.const_type)
+let type_of constant u = Sortform.term (Vars.subst_instance_constr u constant.const_type)
 
 let check_sort where = function
-  | Sorts.SProp -> refuse "%s: SProp" where
+  | Sorts.SProp -> refuse "%s: SProp (Set Dump Strict Propositions writes it as Prop)" where
   | _ -> ()
 
 let rec visit closure where t =
@@ -106,13 +110,14 @@ let rec visit closure where t =
   | Array _ -> refuse "%s: a primitive array" where
   | Fix _ | Prod _ | Lambda _ | LetIn _ | App _ -> Constr.iter (visit closure where) t
 
-and visit_constant closure c u =
-  let c = canonical_constant closure.env c in
-  let key = key (Constant.canonical c) u in
-  if not (Hashtbl.mem closure.constants key) then begin
+and visit_constant closure named u =
+  let c = canonical_constant closure.env named in
+  if c != named then closure.other_constants <- Cset_env.add named closure.other_constants;
+  let key = Constant.canonical c, u in
+  if not (Key.mem closure.constants key) then begin
     let where = Constant.to_string c in
-    if Hashtbl.mem closure.entered key then refuse "%s: it is part of its own closure" where;
-    Hashtbl.add closure.entered key ();
+    if Key.mem closure.entered key then refuse "%s: it is part of its own closure" where;
+    Key.add closure.entered key ();
     let constant = try Environ.lookup_constant c closure.env with Not_found -> refuse "%s: no such constant" where in
     if constant.const_hyps <> [] then refuse "%s: it stands on section variables: close the section first" where;
     if Environ.is_primitive_type closure.env c then refuse "%s: a primitive type" where;
@@ -120,15 +125,16 @@ and visit_constant closure c u =
     let body = body_of closure c constant u in
     visit closure where ty;
     Option.iter (visit closure where) body;
-    Hashtbl.add closure.constants key (fresh closure.taken (KerName.to_string (Constant.user c)));
+    Key.add closure.constants key (fresh closure.taken (KerName.to_string (Constant.user c)));
     closure.declarations <- Constant { constant = c; instance = u; ty; body } :: closure.declarations
   end
 
-and visit_block closure m u =
-  let m = canonical_block closure.env m in
-  let key = key (MutInd.canonical m) u in
-  if not (Hashtbl.mem closure.entered key) then begin
-    Hashtbl.add closure.entered key ();
+and visit_block closure named u =
+  let m = canonical_block closure.env named in
+  if m != named then closure.other_blocks <- Mindmap_env.add named () closure.other_blocks;
+  let key = MutInd.canonical m, u in
+  if not (Key.mem closure.entered key) then begin
+    Key.add closure.entered key ();
     let where = MutInd.to_string m in
     let block = Block.at closure.copies closure.env m u in
     if block.mind_hyps <> [] then refuse "%s: it stands on section variables: close the section first" where;
@@ -137,7 +143,7 @@ and visit_block closure m u =
     if block.mind_variance <> None then refuse "%s: a cumulative inductive type" where;
     if block.mind_template <> None then closure.templates <- m :: closure.templates;
     Array.iteri (visit_family closure where block) block.mind_packets;
-    Hashtbl.add closure.blocks key (fresh closure.taken (KerName.to_string (MutInd.user m)));
+    Key.add closure.blocks key (fresh closure.taken (KerName.to_string (MutInd.user m)));
     closure.declarations <- Block { block = m; instance = u } :: closure.declarations
   end
 

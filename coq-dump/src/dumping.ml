@@ -10,8 +10,9 @@ let comment c =
   let reduced =
     if !Guarding.contractions = 0 then ""
     else Printf.sprintf "; bodies of fixpoints reduced for the guard: %d contractions" !Guarding.contractions in
+  let sprops = if !Sortform.met_sprop then "; SProp is written as Prop" else "" in
   let axioms = if !Options.opaque_axioms then "; opaque proofs other than its own are axioms" else "" in
-  Printf.sprintf "%s, from Coq %s%s%s" (atom (Constant.to_string c)) Coq_config.version reduced axioms
+  Printf.sprintf "%s, from Coq %s%s%s%s" (atom (Constant.to_string c)) Coq_config.version reduced sprops axioms
 
 let is_monomorphic constant =
   match constant.Declarations.const_universes with Declarations.Monomorphic -> true | Declarations.Polymorphic _ -> false
@@ -25,6 +26,7 @@ let dump put env c main =
   if not (is_monomorphic constant) then
     refuse "%s: it is universe polymorphic itself: dump a monomorphic instance" (Constant.to_string c);
   Guarding.contractions := 0;
+  Sortform.met_sprop := false;
   let closure = Closure.start env (Constant.canonical c) in
   let main = match main with
     | Itself -> Closure.visit_constant closure c Univ.Instance.empty; Constr.mkConst c
@@ -36,11 +38,17 @@ let dump put env c main =
   let levels = Levels.of_closure closure main in
   Writing.environment put closure levels ~comment:(comment c) main
 
+(* Coq's minor heap has 256 MB, all of which are touched before anything in it is collected. A dump makes much and keeps little: it runs in a heap of 2 MB. *)
+let in_small_heap f =
+  let usual = Gc.get () in
+  Gc.set { usual with Gc.minor_heap_size = min usual.Gc.minor_heap_size 262_144 };
+  Fun.protect ~finally:(fun () -> Gc.set usual) f
+
 (* Writes a file by way of one beside it, so that a refusal leaves no half of a dump. *)
 let to_file file write =
   let part = file ^ ".part" in
   let channel = open_out_bin part in
-  match write (output_string channel) with
+  match in_small_heap (fun () -> write (output_string channel)) with
   | () -> close_out channel; Sys.rename part file
   | exception e -> close_out_noerr channel; (try Sys.remove part with Sys_error _ -> ()); raise e
 
@@ -66,13 +74,11 @@ let write_value reference file =
 let try_dump reference file =
   let c = constant_of reference in
   let name = Constant.to_string c in
-  (try
-     to_file file (fun put -> dump put (Global.env ()) c Itself);
-     Printf.printf "dumped %s\n" name
-   with
-   | Refused reason -> Printf.printf "refused %s: %s\n" name reason
-   | e when CErrors.noncritical e -> Printf.printf "failed %s: %s\n" name (Pp.string_of_ppcmds (CErrors.print e)));
-  flush stdout
+  let told = match to_file file (fun put -> dump put (Global.env ()) c Itself) with
+    | () -> Pp.str ("dumped " ^ name)
+    | exception Refused reason -> Pp.str (Printf.sprintf "refused %s: %s" name reason)
+    | exception e when CErrors.noncritical e -> Pp.(str (Printf.sprintf "failed %s: " name) ++ CErrors.print e) in
+  Feedback.msg_notice told
 
 (* The full names of all monomorphic constants of the loaded files that have a body, one a line. *)
 let write_names file =

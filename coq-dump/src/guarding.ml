@@ -90,8 +90,7 @@ let rec reduced env ~unfolds marks t =
     let bodies = Array.mapi (fun i body -> body_reduced env ~unfolds inner (fst places).(i) body) bodies in
     mkFix (places, (names, types, bodies))
   | App (f, args) when is_inside marks -> application env ~unfolds marks (strip f) args
-  | LetIn (na, v, ty, b) when is_inside marks && is_hidden marks v ->
-    ignore na; ignore ty;
+  | LetIn (_, v, _, b) when is_inside marks && is_hidden marks v ->
     incr contractions;
     go marks (Vars.subst1 v b)
   | Case (ci, u, params, (names, ret), iv, scrutinee, branches) ->

@@ -26,21 +26,31 @@ let monomorphic_family family =
     let arity = { mind_user_arity = Term.it_mkProd_or_LetIn (mkSort s) family.mind_arity_ctxt; mind_sort = s } in
     { family with mind_arity = RegularArity arity }
 
-(* The environment with each template of the closure monomorphic at its copied levels. *)
-let monomorphic_env (closure : Closure.t) =
+(* The environment with the closure as it is written: sorts in their form, each template monomorphic at its copied levels, and other names for what they stand for. *)
+let written_env (closure : Closure.t) =
+  let with_constant env c =
+    let old = Environ.lookup_constant c env in
+    let const_type = Sortform.term old.const_type in
+    let const_body = match old.const_body with
+      | Def body -> let body' = Sortform.term body in if body' == body then old.const_body else Def body'
+      | other -> other in
+    if const_type == old.const_type && const_body == old.const_body then env
+    else Environ.add_constant c { old with const_type; const_body } env in
   let with_block env m =
-    let block = Block.at closure.Closure.copies env m Univ.Instance.empty in
-    Environ.add_mind m { block with mind_template = None; mind_packets = Array.map monomorphic_family block.mind_packets } env in
-  let env = List.fold_left with_block closure.Closure.env (List.rev closure.Closure.templates) in
-  let with_type env = function
-    | Closure.Constant { constant; instance; ty; _ } when Univ.Instance.is_empty instance ->
-      Environ.add_constant constant { (Environ.lookup_constant constant env) with const_type = ty } env
-    | _ -> env in
-  List.fold_left with_type env closure.Closure.declarations
+    let old = Environ.lookup_mind m env in
+    let own_instance = Univ.make_abstract_instance (Declareops.inductive_polymorphic_context old) in
+    let block = Block.at closure.Closure.copies closure.Closure.env m own_instance in
+    if block == old then env
+    else Environ.add_mind m { block with mind_template = None; mind_packets = Array.map monomorphic_family block.mind_packets } env in
+  let with_declaration env = function
+    | Closure.Constant { constant; _ } -> with_constant env constant
+    | Closure.Block { block; _ } -> with_block env block in
+  let other_constant c env = Environ.add_constant c (Environ.lookup_constant (Closure.canonical_constant env c) env) env in
+  let other_block m () env = Environ.add_mind m (Environ.lookup_mind (Closure.canonical_block env m) env) env in
+  let env = List.fold_left with_declaration closure.Closure.env (List.rev closure.Closure.declarations) in
+  Names.Cset_env.fold other_constant closure.Closure.other_constants (Names.Mindmap_env.fold other_block closure.Closure.other_blocks env)
 
-let raised (l, n) =
-  let rec up u n = if n = 0 then u else up (Univ.Universe.super u) (n - 1) in
-  Sorts.sort_of_univ (up (Univ.Universe.make l) n)
+let raised part = Sorts.sort_of_univ (Sortform.raised part)
 
 let parts_of = function Sorts.Type u -> Univ.Universe.repr u | _ -> [Univ.Level.set, 0]
 
@@ -117,10 +127,10 @@ let template_of (closure : Closure.t) m = (Environ.lookup_mind m closure.Closure
 
 (* The evaluation map after all uses of the closure and of main. *)
 let typed_again (closure : Closure.t) main =
-  let env = monomorphic_env closure in
-  let sigma = Evd.from_env env in
-  if closure.Closure.templates = [] then sigma
+  if closure.Closure.templates = [] then Evd.from_env closure.Closure.env
   else begin
+    let env = written_env closure in
+    let sigma = Evd.from_env env in
     (* the copies are local, so that one of them can still become Set *)
     let merge sigma m = match template_of closure m with
       | None -> sigma

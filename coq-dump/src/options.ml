@@ -15,3 +15,6 @@ let reduce_fixpoints = declare ["Dump"; "Reduce"; "Fixpoints"]
 
 (* With the option above: a constant that is handed the fixpoint's variable is unfolded too. *)
 let unfold_constants = declare ["Dump"; "Unfold"; "Constants"]
+
+(* Strict propositions are dumped too: SProp is written as Prop. *)
+let strict_propositions = declare ["Dump"; "Strict"; "Propositions"]

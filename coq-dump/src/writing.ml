@@ -5,7 +5,9 @@ open Textname
 
 type sink = { put : string -> unit; levels : Levels.t; closure : Closure.t }
 
-let print sink fmt = Printf.ksprintf sink.put fmt
+let put_all sink pieces = List.iter sink.put pieces
+
+let number = string_of_int
 
 let separated sink items write = List.iter (fun item -> sink.put " "; write item) items
 
@@ -25,7 +27,7 @@ let sort sink = function
   | Sorts.Type u ->
     (match parts_of sink u with
      | ["Set", 0] -> sink.put "Set"
-     | parts -> sink.put "(Type"; separated sink parts (fun (l, n) -> print sink "(%s %d)" l n); sink.put ")")
+     | parts -> sink.put "(Type"; separated sink parts (fun (l, n) -> put_all sink ["("; l; " "; number n; ")"]); sink.put ")")
 
 (* A match with its binders written out, where its family has lets in telescopes. *)
 let without_lets closure case =
@@ -41,54 +43,54 @@ let without_lets closure case =
 
 let rec term sink t =
   match kind t with
-  | Rel n -> print sink "(tRel %d)" (n - 1)
+  | Rel n -> put_all sink ["(tRel "; number (n - 1); ")"]
   | Sort s -> sink.put "(tSort "; sort sink s; sink.put ")"
   | Cast (c, _, _) -> term sink c
   | Prod (na, a, b) -> binder_form sink "tProd" na [a; b]
   | Lambda (na, a, b) -> binder_form sink "tLambda" na [a; b]
   | LetIn (na, v, a, b) -> binder_form sink "tLetIn" na [v; a; b]
   | App (f, args) -> sink.put "(tApp "; term sink f; separated sink (Array.to_list args) (term sink); sink.put ")"
-  | Const (c, u) -> print sink "(tConst %s)" (Closure.constant_name sink.closure c u)
-  | Ind ((m, i), u) -> print sink "(tInd %s %d)" (Closure.block_name sink.closure m u) i
-  | Construct (((m, i), j), u) -> print sink "(tConstruct %s %d %d)" (Closure.block_name sink.closure m u) i (j - 1)
+  | Const (c, u) -> put_all sink ["(tConst "; Closure.constant_name sink.closure c u; ")"]
+  | Ind ((m, i), u) -> put_all sink ["(tInd "; Closure.block_name sink.closure m u; " "; number i; ")"]
+  | Construct (((m, i), j), u) -> put_all sink ["(tConstruct "; Closure.block_name sink.closure m u; " "; number i; " "; number (j - 1); ")"]
   | Case (ci, u, params, (names, ret), inversion, scrutinee, branches) ->
     case sink (ci, u, params, (names, ret), inversion, scrutinee, branches)
   | Fix ((places, i), (names, types, bodies)) ->
     sink.put "(tFix (";
     Array.iteri (fun k na ->
       if k > 0 then sink.put " ";
-      print sink "(def %s " (binder na);
+      put_all sink ["(def "; binder na; " "];
       term sink types.(k); sink.put " "; term sink bodies.(k);
-      print sink " %d)" places.(k)) names;
-    print sink ") %d)" i
+      put_all sink [" "; number places.(k); ")"]) names;
+    put_all sink [") "; number i; ")"]
   | _ -> refuse "a term that the format leaves out"
 
 and binder_form sink word na parts =
-  print sink "(%s %s" word (binder na);
+  put_all sink ["("; word; " "; binder na];
   separated sink parts (term sink);
   sink.put ")"
 
 and case sink ((ci, u, params, _, _, scrutinee, _) as whole) =
   let names_of names = String.concat " " (List.map binder names) in
   let (names, ret), branches = without_lets sink.closure whole in
-  print sink "(tCase (%s %d) (params" (Closure.block_name sink.closure (fst ci.ci_ind) u) (snd ci.ci_ind);
+  put_all sink ["(tCase ("; Closure.block_name sink.closure (fst ci.ci_ind) u; " "; number (snd ci.ci_ind); ") (params"];
   separated sink (Array.to_list params) (term sink);
-  print sink ") (pred (%s) " (names_of names);
+  put_all sink [") (pred ("; names_of names; ") "];
   term sink ret; sink.put ") "; term sink scrutinee;
-  Array.iter (fun (names, body) -> print sink " (br (%s) " (names_of names); term sink body; sink.put ")") branches;
+  Array.iter (fun (names, body) -> put_all sink [" (br ("; names_of names; ") "]; term sink body; sink.put ")") branches;
   sink.put ")"
 
 let telescope sink entries =
-  List.iter (fun (na, ty) -> print sink " (%s " (binder na); term sink ty; sink.put ")") entries
+  List.iter (fun (na, ty) -> put_all sink [" ("; binder na; " "]; term sink ty; sink.put ")") entries
 
 let constructor sink block place i name =
   let args, result = Block.constructor_parts block place i in
-  print sink "\n    (ctor %s (args" (atom (Names.Id.to_string name));
+  put_all sink ["\n    (ctor "; atom (Names.Id.to_string name); " (args"];
   telescope sink args;
   sink.put ") (result"; separated sink result (term sink); sink.put "))"
 
 let family sink block place family =
-  print sink "\n  (family %s (sort " (atom (Names.Id.to_string family.mind_typename));
+  put_all sink ["\n  (family "; atom (Names.Id.to_string family.mind_typename); " (sort "];
   sort sink (Block.sort_of_family family);
   sink.put ") (indices";
   telescope sink (snd (Block.family_parts block place));
@@ -98,13 +100,13 @@ let family sink block place family =
 
 let declaration sink = function
   | Closure.Constant { constant; instance; ty; body } ->
-    print sink "(ConstantDecl %s " (Closure.constant_name sink.closure constant instance);
+    put_all sink ["(ConstantDecl "; Closure.constant_name sink.closure constant instance; " "];
     term sink ty; sink.put " ";
     (match body with None -> sink.put "None" | Some body -> term sink body);
     sink.put ")\n"
   | Closure.Block { block = m; instance } ->
     let block = Block.at sink.closure.Closure.copies sink.closure.Closure.env m instance in
-    print sink "(InductiveDecl %s (params" (Closure.block_name sink.closure m instance);
+    put_all sink ["(InductiveDecl "; Closure.block_name sink.closure m instance; " (params"];
     telescope sink (fst (Block.family_parts block 0));
     sink.put ")";
     Array.iteri (family sink block) block.mind_packets;
@@ -118,10 +120,10 @@ let body sink closure main =
 let environment put closure levels ~comment main =
   body { put = ignore; levels; closure } closure main;
   let sink = { put; levels; closure } in
-  print sink "; %s\n(env 1 (levels" comment;
+  put_all sink ["; "; comment; "\n(env 1 (levels"];
   let constraints = Levels.constraints levels in
   separated sink (Levels.listed levels) sink.put;
   sink.put ")\n(constraints";
-  separated sink constraints (fun (word, a, b) -> print sink "(%s %s %s)" word a b);
+  separated sink constraints (fun (word, a, b) -> put_all sink ["("; word; " "; a; " "; b; ")"]);
   sink.put ")\n";
   body sink closure main
