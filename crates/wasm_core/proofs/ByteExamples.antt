@@ -54,47 +54,61 @@ with_body r code = record {
 }
 
 -- a `main` that does nothing
-does_nothing : outcome (0 ∷ 97 ∷ 115 ∷ 109 ∷ 1 ∷ 0 ∷ 0 ∷ 0 ∷ 1 ∷ 4 ∷ 1 ∷ 96 ∷ 0 ∷ 0 ∷ 3 ∷ 2 ∷ 1 ∷ 0 ∷ 5 ∷ 3 ∷ 1 ∷ 0 ∷ 1 ∷ 6 ∷ 11 ∷ 2 ∷ 127 ∷ 1 ∷ 65 ∷ 3 ∷ 11 ∷ 127 ∷ 1 ∷ 65 ∷ 0 ∷ 11 ∷ 7 ∷ 35 ∷ 4 ∷ 4 ∷ 109 ∷ 97 ∷ 105 ∷ 110 ∷ 0 ∷ 0 ∷ 6 ∷ 109 ∷ 101 ∷ 109 ∷ 111 ∷ 114 ∷ 121 ∷ 2 ∷ 0 ∷ 6 ∷ 114 ∷ 101 ∷ 115 ∷ 117 ∷ 108 ∷ 116 ∷ 3 ∷ 0 ∷ 6 ∷ 115 ∷ 116 ∷ 97 ∷ 116 ∷ 117 ∷ 115 ∷ 3 ∷ 1 ∷ 10 ∷ 5 ∷ 1 ∷ 3 ∷ 0 ∷ 1 ∷ 11 ∷ []) ≡ Accepted (with_body 3 (Nop ∷ End ∷ []))
-unfolding file header sections next_section section contents func_types func_type val_types val_type func_result indices table table_type limits limits_flag memory globals global mutability constant exports exported export_kind segments segment bodies body locals groups instrs instr row access block_type byte u32 s32 s64 finish times judge number_at name_at
+does_nothing : outcome (0 ∷ 97 ∷ 115 ∷ 109 ∷ 1 ∷ 0 ∷ 0 ∷ 0 ∷ 1 ∷ 4 ∷ 1 ∷ 96 ∷ 0 ∷ 0 ∷ 3 ∷ 2 ∷ 1 ∷ 0 ∷ 5 ∷ 3 ∷ 1 ∷ 0 ∷ 1 ∷ 6 ∷ 11 ∷ 2 ∷ 127 ∷ 1 ∷ 65 ∷ 3 ∷ 11 ∷ 127 ∷ 1 ∷ 65 ∷ 0 ∷ 11 ∷ 7 ∷ 35 ∷ 4 ∷ 4 ∷ 109 ∷ 97 ∷ 105 ∷ 110 ∷ 0 ∷ 0 ∷ 6 ∷ 109 ∷ 101 ∷ 109 ∷ 111 ∷ 114 ∷ 121 ∷ 2 ∷ 0 ∷
+    6 ∷ 114 ∷ 101 ∷ 115 ∷ 117 ∷ 108 ∷ 116 ∷ 3 ∷ 0 ∷ 6 ∷ 115 ∷ 116 ∷ 97 ∷ 116 ∷ 117 ∷ 115 ∷ 3 ∷ 1 ∷ 10 ∷ 5 ∷ 1 ∷ 3 ∷ 0 ∷ 1 ∷ 11 ∷ []) ≡ Accepted (with_body 3 (Nop ∷ End ∷ []))
+unfolding file header sections next_section section contents func_types func_type val_types val_type func_result indices table table_type limits limits_flag memory globals global mutability constant exports exported export_kind
+    segments segment bodies body locals groups instrs instr row access block_type byte u32 s32 s64 finish times judge number_at name_at
 does_nothing = rw (utf8_main, utf8_memory, utf8_result, utf8_status) refl
 
 -- a `main` that stores a header and a field
-stores_words : outcome (0 ∷ 97 ∷ 115 ∷ 109 ∷ 1 ∷ 0 ∷ 0 ∷ 0 ∷ 1 ∷ 4 ∷ 1 ∷ 96 ∷ 0 ∷ 0 ∷ 3 ∷ 2 ∷ 1 ∷ 0 ∷ 5 ∷ 3 ∷ 1 ∷ 0 ∷ 1 ∷ 6 ∷ 11 ∷ 2 ∷ 127 ∷ 1 ∷ 65 ∷ 8 ∷ 11 ∷ 127 ∷ 1 ∷ 65 ∷ 0 ∷ 11 ∷ 7 ∷ 35 ∷ 4 ∷ 4 ∷ 109 ∷ 97 ∷ 105 ∷ 110 ∷ 0 ∷ 0 ∷ 6 ∷ 109 ∷ 101 ∷ 109 ∷ 111 ∷ 114 ∷ 121 ∷ 2 ∷ 0 ∷ 6 ∷ 114 ∷ 101 ∷ 115 ∷ 117 ∷ 108 ∷ 116 ∷ 3 ∷ 0 ∷ 6 ∷ 115 ∷ 116 ∷ 97 ∷ 116 ∷ 117 ∷ 115 ∷ 3 ∷ 1 ∷ 10 ∷ 20 ∷ 1 ∷ 18 ∷ 0 ∷ 65 ∷ 8 ∷ 65 ∷ 128 ∷ 128 ∷ 4 ∷ 54 ∷ 2 ∷ 0 ∷ 65 ∷ 12 ∷ 65 ∷ 8 ∷ 54 ∷ 2 ∷ 0 ∷ 11 ∷ []) ≡ Accepted (with_body 8 (I32Const 8 ∷ I32Const 65536 ∷ I32Store (record { align = 2; offset = 0 }) ∷ I32Const 12 ∷ I32Const 8 ∷ I32Store (record { align = 2; offset = 0 }) ∷ End ∷ []))
-unfolding file header sections next_section section contents func_types func_type val_types val_type func_result indices table table_type limits limits_flag memory globals global mutability constant exports exported export_kind segments segment bodies body locals groups instrs instr row access block_type byte u32 s32 s64 finish times judge number_at name_at
+stores_words : outcome (0 ∷ 97 ∷ 115 ∷ 109 ∷ 1 ∷ 0 ∷ 0 ∷ 0 ∷ 1 ∷ 4 ∷ 1 ∷ 96 ∷ 0 ∷ 0 ∷ 3 ∷ 2 ∷ 1 ∷ 0 ∷ 5 ∷ 3 ∷ 1 ∷ 0 ∷ 1 ∷ 6 ∷ 11 ∷ 2 ∷ 127 ∷ 1 ∷ 65 ∷ 8 ∷ 11 ∷ 127 ∷ 1 ∷ 65 ∷ 0 ∷ 11 ∷ 7 ∷ 35 ∷ 4 ∷ 4 ∷ 109 ∷ 97 ∷ 105 ∷ 110 ∷ 0 ∷ 0 ∷ 6 ∷ 109 ∷ 101 ∷ 109 ∷ 111 ∷ 114 ∷ 121 ∷ 2 ∷ 0 ∷
+    6 ∷ 114 ∷ 101 ∷ 115 ∷ 117 ∷ 108 ∷ 116 ∷ 3 ∷ 0 ∷ 6 ∷ 115 ∷ 116 ∷ 97 ∷ 116 ∷ 117 ∷ 115 ∷ 3 ∷ 1 ∷ 10 ∷ 20 ∷ 1 ∷ 18 ∷ 0 ∷ 65 ∷ 8 ∷ 65 ∷ 128 ∷ 128 ∷ 4 ∷ 54 ∷ 2 ∷ 0 ∷ 65 ∷ 12 ∷ 65 ∷ 8 ∷ 54 ∷ 2 ∷ 0 ∷ 11 ∷ []) ≡ Accepted (with_body 8
+    (I32Const 8 ∷ I32Const 65536 ∷ I32Store (record { align = 2; offset = 0 }) ∷ I32Const 12 ∷ I32Const 8 ∷ I32Store (record { align = 2; offset = 0 }) ∷ End ∷ []))
+unfolding file header sections next_section section contents func_types func_type val_types val_type func_result indices table table_type limits limits_flag memory globals global mutability constant exports exported export_kind
+    segments segment bodies body locals groups instrs instr row access block_type byte u32 s32 s64 finish times judge number_at name_at
 stores_words = rw (utf8_main, utf8_memory, utf8_result, utf8_status) refl
 
 -- a section that comes twice is refused at its id
 section_twice : outcome (0 ∷ 97 ∷ 115 ∷ 109 ∷ 1 ∷ 0 ∷ 0 ∷ 0 ∷ 1 ∷ 1 ∷ 0 ∷ 1 ∷ 1 ∷ 0 ∷ []) ≡ Refused 11
-unfolding file header sections next_section section contents func_types func_type val_types val_type func_result indices table table_type limits limits_flag memory globals global mutability constant exports exported export_kind segments segment bodies body locals groups instrs instr row access block_type byte u32 s32 s64 finish times judge number_at name_at
+unfolding file header sections next_section section contents func_types func_type val_types val_type func_result indices table table_type limits limits_flag memory globals global mutability constant exports exported export_kind
+    segments segment bodies body locals groups instrs instr row access block_type byte u32 s32 s64 finish times judge number_at name_at
 section_twice = refl
 
 -- a module with a table, a segment, blocks and branches
-whole : outcome (0 ∷ 97 ∷ 115 ∷ 109 ∷ 1 ∷ 0 ∷ 0 ∷ 0 ∷ 1 ∷ 8 ∷ 2 ∷ 96 ∷ 0 ∷ 0 ∷ 96 ∷ 0 ∷ 1 ∷ 127 ∷ 3 ∷ 3 ∷ 2 ∷ 0 ∷ 1 ∷ 4 ∷ 4 ∷ 1 ∷ 112 ∷ 0 ∷ 2 ∷ 5 ∷ 4 ∷ 1 ∷ 1 ∷ 0 ∷ 1 ∷ 6 ∷ 6 ∷ 1 ∷ 127 ∷ 1 ∷ 65 ∷ 0 ∷ 11 ∷ 9 ∷ 7 ∷ 1 ∷ 0 ∷ 65 ∷ 1 ∷ 11 ∷ 1 ∷ 1 ∷ 10 ∷ 34 ∷ 2 ∷ 27 ∷ 1 ∷ 1 ∷ 127 ∷ 65 ∷ 2 ∷ 33 ∷ 0 ∷ 3 ∷ 64 ∷ 32 ∷ 0 ∷ 65 ∷ 1 ∷ 107 ∷ 34 ∷ 0 ∷ 13 ∷ 0 ∷ 11 ∷ 65 ∷ 1 ∷ 17 ∷ 1 ∷ 0 ∷ 36 ∷ 0 ∷ 11 ∷ 4 ∷ 0 ∷ 65 ∷ 7 ∷ 11 ∷ []) ≡ Accepted (module_of rounds)
-unfolding file header sections next_section section contents func_types func_type val_types val_type func_result indices table table_type limits limits_flag memory globals global mutability constant exports exported export_kind segments segment bodies body locals groups instrs instr row access block_type byte u32 s32 s64 finish times judge number_at name_at
+whole : outcome (0 ∷ 97 ∷ 115 ∷ 109 ∷ 1 ∷ 0 ∷ 0 ∷ 0 ∷ 1 ∷ 8 ∷ 2 ∷ 96 ∷ 0 ∷ 0 ∷ 96 ∷ 0 ∷ 1 ∷ 127 ∷ 3 ∷ 3 ∷ 2 ∷ 0 ∷ 1 ∷ 4 ∷ 4 ∷ 1 ∷ 112 ∷ 0 ∷ 2 ∷ 5 ∷ 4 ∷ 1 ∷ 1 ∷ 0 ∷ 1 ∷ 6 ∷ 6 ∷ 1 ∷ 127 ∷ 1 ∷ 65 ∷ 0 ∷ 11 ∷ 9 ∷ 7 ∷ 1 ∷ 0 ∷ 65 ∷ 1 ∷ 11 ∷ 1 ∷ 1 ∷ 10 ∷ 34 ∷ 2 ∷ 27 ∷ 1 ∷ 1 ∷ 127 ∷ 65 ∷
+    2 ∷ 33 ∷ 0 ∷ 3 ∷ 64 ∷ 32 ∷ 0 ∷ 65 ∷ 1 ∷ 107 ∷ 34 ∷ 0 ∷ 13 ∷ 0 ∷ 11 ∷ 65 ∷ 1 ∷ 17 ∷ 1 ∷ 0 ∷ 36 ∷ 0 ∷ 11 ∷ 4 ∷ 0 ∷ 65 ∷ 7 ∷ 11 ∷ []) ≡ Accepted (module_of rounds)
+unfolding file header sections next_section section contents func_types func_type val_types val_type func_result indices table table_type limits limits_flag memory globals global mutability constant exports exported export_kind
+    segments segment bodies body locals groups instrs instr row access block_type byte u32 s32 s64 finish times judge number_at name_at
 whole = refl
 
 -- custom sections are dropped
-custom_sections : outcome (0 ∷ 97 ∷ 115 ∷ 109 ∷ 1 ∷ 0 ∷ 0 ∷ 0 ∷ 0 ∷ 3 ∷ 1 ∷ 97 ∷ 255 ∷ 1 ∷ 8 ∷ 2 ∷ 96 ∷ 0 ∷ 0 ∷ 96 ∷ 0 ∷ 1 ∷ 127 ∷ 0 ∷ 2 ∷ 1 ∷ 98 ∷ 3 ∷ 3 ∷ 2 ∷ 0 ∷ 1 ∷ 4 ∷ 4 ∷ 1 ∷ 112 ∷ 0 ∷ 2 ∷ 5 ∷ 4 ∷ 1 ∷ 1 ∷ 0 ∷ 1 ∷ 6 ∷ 6 ∷ 1 ∷ 127 ∷ 1 ∷ 65 ∷ 0 ∷ 11 ∷ 9 ∷ 7 ∷ 1 ∷ 0 ∷ 65 ∷ 1 ∷ 11 ∷ 1 ∷ 1 ∷ 10 ∷ 34 ∷ 2 ∷ 27 ∷ 1 ∷ 1 ∷ 127 ∷ 65 ∷ 2 ∷ 33 ∷ 0 ∷ 3 ∷ 64 ∷ 32 ∷ 0 ∷ 65 ∷ 1 ∷ 107 ∷ 34 ∷ 0 ∷ 13 ∷ 0 ∷ 11 ∷ 65 ∷ 1 ∷ 17 ∷ 1 ∷ 0 ∷ 36 ∷ 0 ∷ 11 ∷ 4 ∷ 0 ∷ 65 ∷ 7 ∷ 11 ∷ []) ≡ Accepted (module_of rounds)
-unfolding file header sections next_section section contents func_types func_type val_types val_type func_result indices table table_type limits limits_flag memory globals global mutability constant exports exported export_kind segments segment bodies body locals groups instrs instr row access block_type byte u32 s32 s64 finish times judge number_at name_at
+custom_sections : outcome (0 ∷ 97 ∷ 115 ∷ 109 ∷ 1 ∷ 0 ∷ 0 ∷ 0 ∷ 0 ∷ 3 ∷ 1 ∷ 97 ∷ 255 ∷ 1 ∷ 8 ∷ 2 ∷ 96 ∷ 0 ∷ 0 ∷ 96 ∷ 0 ∷ 1 ∷ 127 ∷ 0 ∷ 2 ∷ 1 ∷ 98 ∷ 3 ∷ 3 ∷ 2 ∷ 0 ∷ 1 ∷ 4 ∷ 4 ∷ 1 ∷ 112 ∷ 0 ∷ 2 ∷ 5 ∷ 4 ∷ 1 ∷ 1 ∷ 0 ∷ 1 ∷ 6 ∷ 6 ∷ 1 ∷ 127 ∷ 1 ∷ 65 ∷ 0 ∷ 11 ∷ 9 ∷ 7 ∷ 1 ∷ 0 ∷ 65 ∷ 1 ∷
+    11 ∷ 1 ∷ 1 ∷ 10 ∷ 34 ∷ 2 ∷ 27 ∷ 1 ∷ 1 ∷ 127 ∷ 65 ∷ 2 ∷ 33 ∷ 0 ∷ 3 ∷ 64 ∷ 32 ∷ 0 ∷ 65 ∷ 1 ∷ 107 ∷ 34 ∷ 0 ∷ 13 ∷ 0 ∷ 11 ∷ 65 ∷ 1 ∷ 17 ∷ 1 ∷ 0 ∷ 36 ∷ 0 ∷ 11 ∷ 4 ∷ 0 ∷ 65 ∷ 7 ∷ 11 ∷ []) ≡ Accepted (module_of rounds)
+unfolding file header sections next_section section contents func_types func_type val_types val_type func_result indices table table_type limits limits_flag memory globals global mutability constant exports exported export_kind
+    segments segment bodies body locals groups instrs instr row access block_type byte u32 s32 s64 finish times judge number_at name_at
 custom_sections = rw (utf8_a, utf8_b) refl
 
 -- the least signed number of 64 bits
 long_number : outcome (0 ∷ 97 ∷ 115 ∷ 109 ∷ 1 ∷ 0 ∷ 0 ∷ 0 ∷ 6 ∷ 15 ∷ 1 ∷ 126 ∷ 0 ∷ 66 ∷ 128 ∷ 128 ∷ 128 ∷ 128 ∷ 128 ∷ 128 ∷ 128 ∷ 128 ∷ 128 ∷ 127 ∷ 11 ∷ []) ≡ Accepted (record empty { globals = record { mutable = false; ty = type.I64; init = I64 (2 ^ 63) } ∷ [] })
-unfolding file header sections next_section section contents func_types func_type val_types val_type func_result indices table table_type limits limits_flag memory globals global mutability constant exports exported export_kind segments segment bodies body locals groups instrs instr row access block_type byte u32 s32 s64 finish times judge number_at name_at
+unfolding file header sections next_section section contents func_types func_type val_types val_type func_result indices table table_type limits limits_flag memory globals global mutability constant exports exported export_kind
+    segments segment bodies body locals groups instrs instr row access block_type byte u32 s32 s64 finish times judge number_at name_at
 long_number = refl
 
 -- an `else` outside an `if` is refused at its opcode
 stray_else : outcome (0 ∷ 97 ∷ 115 ∷ 109 ∷ 1 ∷ 0 ∷ 0 ∷ 0 ∷ 1 ∷ 4 ∷ 1 ∷ 96 ∷ 0 ∷ 0 ∷ 3 ∷ 2 ∷ 1 ∷ 0 ∷ 10 ∷ 5 ∷ 1 ∷ 3 ∷ 0 ∷ 5 ∷ 11 ∷ []) ≡ Refused 23
-unfolding file header sections next_section section contents func_types func_type val_types val_type func_result indices table table_type limits limits_flag memory globals global mutability constant exports exported export_kind segments segment bodies body locals groups instrs instr row access block_type byte u32 s32 s64 finish times judge number_at name_at
+unfolding file header sections next_section section contents func_types func_type val_types val_type func_result indices table table_type limits limits_flag memory globals global mutability constant exports exported export_kind
+    segments segment bodies body locals groups instrs instr row access block_type byte u32 s32 s64 finish times judge number_at name_at
 stray_else = refl
 
 -- functions without code are refused at the end of the file
 no_codes : outcome (0 ∷ 97 ∷ 115 ∷ 109 ∷ 1 ∷ 0 ∷ 0 ∷ 0 ∷ 1 ∷ 4 ∷ 1 ∷ 96 ∷ 0 ∷ 0 ∷ 3 ∷ 2 ∷ 1 ∷ 0 ∷ []) ≡ Refused 18
-unfolding file header sections next_section section contents func_types func_type val_types val_type func_result indices table table_type limits limits_flag memory globals global mutability constant exports exported export_kind segments segment bodies body locals groups instrs instr row access block_type byte u32 s32 s64 finish times judge number_at name_at
+unfolding file header sections next_section section contents func_types func_type val_types val_type func_result indices table table_type limits limits_flag memory globals global mutability constant exports exported export_kind
+    segments segment bodies body locals groups instrs instr row access block_type byte u32 s32 s64 finish times judge number_at name_at
 no_codes = refl
 
 -- the shortest bytes of that module
-shortest : module_bytes (module_of rounds) ≡ 0 ∷ 97 ∷ 115 ∷ 109 ∷ 1 ∷ 0 ∷ 0 ∷ 0 ∷ 1 ∷ 8 ∷ 2 ∷ 96 ∷ 0 ∷ 0 ∷ 96 ∷ 0 ∷ 1 ∷ 127 ∷ 3 ∷ 3 ∷ 2 ∷ 0 ∷ 1 ∷ 4 ∷ 4 ∷ 1 ∷ 112 ∷ 0 ∷ 2 ∷ 5 ∷ 4 ∷ 1 ∷ 1 ∷ 0 ∷ 1 ∷ 6 ∷ 6 ∷ 1 ∷ 127 ∷ 1 ∷ 65 ∷ 0 ∷ 11 ∷ 9 ∷ 7 ∷ 1 ∷ 0 ∷ 65 ∷ 1 ∷ 11 ∷ 1 ∷ 1 ∷ 10 ∷ 34 ∷ 2 ∷ 27 ∷ 1 ∷ 1 ∷ 127 ∷ 65 ∷ 2 ∷ 33 ∷ 0 ∷ 3 ∷ 64 ∷ 32 ∷ 0 ∷ 65 ∷ 1 ∷ 107 ∷ 34 ∷ 0 ∷ 13 ∷ 0 ∷ 11 ∷ 65 ∷ 1 ∷ 17 ∷ 1 ∷ 0 ∷ 36 ∷ 0 ∷ 11 ∷ 4 ∷ 0 ∷ 65 ∷ 7 ∷ 11 ∷ []
+shortest : module_bytes (module_of rounds) ≡ 0 ∷ 97 ∷ 115 ∷ 109 ∷ 1 ∷ 0 ∷ 0 ∷ 0 ∷ 1 ∷ 8 ∷ 2 ∷ 96 ∷ 0 ∷ 0 ∷ 96 ∷ 0 ∷ 1 ∷ 127 ∷ 3 ∷ 3 ∷ 2 ∷ 0 ∷ 1 ∷ 4 ∷ 4 ∷ 1 ∷ 112 ∷ 0 ∷ 2 ∷ 5 ∷ 4 ∷ 1 ∷ 1 ∷ 0 ∷ 1 ∷ 6 ∷ 6 ∷ 1 ∷ 127 ∷ 1 ∷ 65 ∷ 0 ∷ 11 ∷ 9 ∷ 7 ∷ 1 ∷ 0 ∷ 65 ∷ 1 ∷
+    11 ∷ 1 ∷ 1 ∷ 10 ∷ 34 ∷ 2 ∷ 27 ∷ 1 ∷ 1 ∷ 127 ∷ 65 ∷ 2 ∷ 33 ∷ 0 ∷ 3 ∷ 64 ∷ 32 ∷ 0 ∷ 65 ∷ 1 ∷ 107 ∷ 34 ∷ 0 ∷ 13 ∷ 0 ∷ 11 ∷ 65 ∷ 1 ∷ 17 ∷ 1 ∷ 0 ∷ 36 ∷ 0 ∷ 11 ∷ 4 ∷ 0 ∷ 65 ∷ 7 ∷ 11 ∷ []
 unfolding module_bytes put_section put_all put_func_type put_limits put_table_type put_global put_export put_segment put_instr put_locals runs body_bytes unsigned signed
 shortest = refl
 

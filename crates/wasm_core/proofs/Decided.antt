@@ -244,7 +244,8 @@ func_judged m i all f h below =
     let hb : slice_get m.bodies f ≡ Some b = slice_get-get_or m.bodies f empty (omega (arith, h, same)) in
     by index type b hf ht hb (bodies_are_judged m (type.params ++ b.locals) (results_of type) b.code (closed_at m.bodies i.bodies.1 f b hb))
   where
-    by : (index : ℕ) (type : FuncType) (b : Body) → slice_get m.funcs f ≡ Some index → slice_get m.types index ≡ Some type → slice_get m.bodies f ≡ Some b → TypedBody m (type.params ++ b.locals) (results_of type) b.code ⊎ ((p : ℕ) × IsFaultAt m (type.params ++ b.locals) (results_of type) b.code p) → TypedBelow m (f + 1) ⊎ ((g p : ℕ) × FirstFault m g p)
+    by : (index : ℕ) (type : FuncType) (b : Body) → slice_get m.funcs f ≡ Some index → slice_get m.types index ≡ Some type → slice_get m.bodies f ≡ Some b → TypedBody m (type.params ++ b.locals) (results_of type) b.code ⊎ ((p : ℕ) × IsFaultAt m (type.params ++ b.locals)
+        (results_of type) b.code p) → TypedBelow m (f + 1) ⊎ ((g p : ℕ) × FirstFault m g p)
     by index type b hf ht hb (inr (p, w)) = inr (_, _, inside f p index type b all below hf ht hb w)
     by index type b hf ht hb (inl t) = inl below_more
       where

@@ -99,7 +99,7 @@ return_out = refl
 
 -- the topmost operand alone goes along with a branch
 abbrev carried : List Instr
-carried = Block (Value type.I32) ∷ I32Const 4 ∷ I32Const 5 ∷ I32Const 1 ∷ BrTable (1 ∷ 0 ∷ []) 1 ∷ End ∷ GlobalSet 0 ∷ End ∷ []
+carried = Block (Value type.I32) ∷ I32Const 4 ∷ I32Const 5 ∷ I32Const 1 ∷ BrTable 1 (1 ∷ 0 ∷ []) ∷ End ∷ GlobalSet 0 ∷ End ∷ []
 
 table_branch : steps (module_of carried) 7 (start (module_of carried) (main carried)) ≡ Some (Over Returned (left (I32 5) false false))
 table_branch = refl
@@ -148,15 +148,15 @@ word_of_bytes = refl
 
 -- in unreachable code the labels of `br_table` may have different types
 abbrev dead : List Instr
-dead = Block (Value type.I64) ∷ (Block (Value type.I32) ∷ (Unreachable ∷ BrTable (0 ∷ []) 1 ∷ []) ++ End ∷ Drop ∷ I64Const 0 ∷ []) ++ End ∷ Drop ∷ []
+dead = Block (Value type.I64) ∷ (Block (Value type.I32) ∷ (Unreachable ∷ BrTable 1 (0 ∷ []) ∷ []) ++ End ∷ Drop ∷ I64Const 0 ∷ []) ++ End ∷ Drop ∷ []
 
 dead_table : TypedBody (module_of []) [] [] (dead ++ End ∷ [])
 dead_table = record {
   body = dead;
   ends = refl;
   left = [];
-  typed = block {ends = Of type.I64 ∷ []} {body = Block (Value type.I32) ∷ (Unreachable ∷ BrTable (0 ∷ []) 1 ∷ []) ++ End ∷ Drop ∷ I64Const 0 ∷ []} {rest = Drop ∷ []}
-      (block {ends = Of type.I32 ∷ []} {body = Unreachable ∷ BrTable (0 ∷ []) 1 ∷ []} {rest = Drop ∷ I64Const 0 ∷ []}
+  typed = block {ends = Of type.I64 ∷ []} {body = Block (Value type.I32) ∷ (Unreachable ∷ BrTable 1 (0 ∷ []) ∷ []) ++ End ∷ Drop ∷ I64Const 0 ∷ []} {rest = Drop ∷ []}
+      (block {ends = Of type.I32 ∷ []} {body = Unreachable ∷ BrTable 1 (0 ∷ []) ∷ []} {rest = Drop ∷ I64Const 0 ∷ []}
       (unreachable {any = Of type.I32 ∷ Bottom ∷ []} (br_table {any = Of type.I32 ∷ []} (Bottom ∷ []) [] (match_same match_none) first (record { wanted = type.I64 ∷ []; found = refl; matched = match_bottom match_none }) done))
       (match_same match_none)
       (drop (plain [] [] refl match_none done)))

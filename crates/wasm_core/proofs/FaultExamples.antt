@@ -33,17 +33,17 @@ no_second_arm = record {
 }
 
 -- in code that is reached the labels of `br_table` have one type
-reached_table : IsFaultAt (module_of []) [] [] (Block (Value type.I64) ∷ Block (Value type.I32) ∷ I32Const 0 ∷ I32Const 0 ∷ BrTable (0 ∷ []) 1 ∷ End ∷ Drop ∷ I64Const 0 ∷ End ∷ Drop ∷ End ∷ []) 4
+reached_table : IsFaultAt (module_of []) [] [] (Block (Value type.I64) ∷ Block (Value type.I32) ∷ I32Const 0 ∷ I32Const 0 ∷ BrTable 1 (0 ∷ []) ∷ End ∷ Drop ∷ I64Const 0 ∷ End ∷ Drop ∷ End ∷ []) 4
 reached_table = record {
   within = omega arith;
   before = run_viable (module_of []) [] [] (Block (Value type.I64) ∷ Block (Value type.I32) ∷ I32Const 0 ∷ I32Const 0 ∷ []) _ refl;
-  here = λ v. viable_run (module_of []) [] [] (Block (Value type.I64) ∷ Block (Value type.I32) ∷ I32Const 0 ∷ I32Const 0 ∷ BrTable (0 ∷ []) 1 ∷ []) v refl;
+  here = λ v. viable_run (module_of []) [] [] (Block (Value type.I64) ∷ Block (Value type.I32) ∷ I32Const 0 ∷ I32Const 0 ∷ BrTable 1 (0 ∷ []) ∷ []) v refl;
 }
 
 -- in code that isn't, their counts of values must agree all the same
-dead_counts : IsFaultAt (module_of []) [] [] (Block (Value type.I32) ∷ Unreachable ∷ BrTable (0 ∷ []) 1 ∷ End ∷ Drop ∷ End ∷ []) 2
+dead_counts : IsFaultAt (module_of []) [] [] (Block (Value type.I32) ∷ Unreachable ∷ BrTable 1 (0 ∷ []) ∷ End ∷ Drop ∷ End ∷ []) 2
 dead_counts = record {
   within = omega arith;
   before = run_viable (module_of []) [] [] (Block (Value type.I32) ∷ Unreachable ∷ []) _ refl;
-  here = λ v. viable_run (module_of []) [] [] (Block (Value type.I32) ∷ Unreachable ∷ BrTable (0 ∷ []) 1 ∷ []) v refl;
+  here = λ v. viable_run (module_of []) [] [] (Block (Value type.I32) ∷ Unreachable ∷ BrTable 1 (0 ∷ []) ∷ []) v refl;
 }

@@ -44,7 +44,8 @@ outside_unique : (m : Parts) (p q : Part) → (IsSound p m → ⊥) → (IsSound
 outside_unique m p q np nq sp sq =
     ⊎_elim (λ lt. absurd (np (sq p lt))) (λ le. ⊎_elim (λ lt. absurd (nq (sp q lt))) (λ ge. omega arith) (cases_lt (id_of q) (id_of p))) (cases_lt (id_of p) (id_of q))
 
-inside_unique : (m : Parts) (f g i j p q : ℕ) (t u : FuncType) (b c : Body) → TypedBelow m f → TypedBelow m g → slice_get m.funcs f ≡ Some i → slice_get m.funcs g ≡ Some j → slice_get m.types i ≡ Some t → slice_get m.types j ≡ Some u → slice_get m.bodies f ≡ Some b → slice_get m.bodies g ≡ Some c → IsFaultAt m (t.params ++ b.locals) (results_of t) b.code p → IsFaultAt m (u.params ++ c.locals) (results_of u) c.code q → (f ≡ g) × (p ≡ q)
+inside_unique : (m : Parts) (f g i j p q : ℕ) (t u : FuncType) (b c : Body) → TypedBelow m f → TypedBelow m g → slice_get m.funcs f ≡ Some i → slice_get m.funcs g ≡ Some j → slice_get m.types i ≡ Some t → slice_get m.types j ≡ Some u → slice_get m.bodies f ≡ Some b →
+    slice_get m.bodies g ≡ Some c → IsFaultAt m (t.params ++ b.locals) (results_of t) b.code p → IsFaultAt m (u.params ++ c.locals) (results_of u) c.code q → (f ≡ g) × (p ≡ q)
 inside_unique m f g i j p q t u b c sf sg hf hg ht hu hb hc af ag =
     ⊎_elim (λ lt. absurd (untyped_func m p i t b ht af (sg f i b lt hf hb))) (λ le. ⊎_elim (λ lt. absurd (untyped_func m q j u c hu ag (sf g j c lt hg hc))) (λ ge. let e : f ≡ g = omega arith in (e, places e)) (cases_lt g f)) (cases_lt f g)
   where

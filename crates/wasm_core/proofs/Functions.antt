@@ -66,7 +66,8 @@ funcs_sound n [] entries i h s x g e = s x g e
 funcs_sound n (f ∷ fs) entries i h s x g e =
     funcs_sound n fs (slice_set entries i (Some f)) (suc i) (λ j f e. h (suc j) f e) (λ x g e. set_sound n entries i f (h 0 f refl) s x g e) x g e
 
-segments_sound : (n : ℕ) (segments : List Segment) (entries : Entries) → ((k : ℕ) (s : Segment) → slice_get segments k ≡ Some s → (j f : ℕ) → slice_get s.funcs j ≡ Some f → f < n) → ((x g : ℕ) → slice_get entries x ≡ Some (Some g) → g < n) → (x g : ℕ) → slice_get (put_segments entries segments) x ≡ Some (Some g) → g < n
+segments_sound : (n : ℕ) (segments : List Segment) (entries : Entries) → ((k : ℕ) (s : Segment) → slice_get segments k ≡ Some s → (j f : ℕ) → slice_get s.funcs j ≡ Some f → f < n) → ((x g : ℕ) → slice_get entries x ≡ Some (Some g) → g < n) → (x g : ℕ) → slice_get (put_segments
+    entries segments) x ≡ Some (Some g) → g < n
 segments_sound n [] entries h s x g e = s x g e
 segments_sound n (y ∷ segments) entries h s x g e =
     segments_sound n segments (put_funcs entries y.offset y.funcs) (λ k z e. h (suc k) z e) (λ x g e. funcs_sound n y.funcs entries y.offset (h 0 y refl) s x g e) x g e

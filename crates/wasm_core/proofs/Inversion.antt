@@ -246,7 +246,55 @@ Allowed may b r = (nat_eq b 5 && not may) ≡ false → IsRow may r
 
 opcodes_meet : (may : Bool) (b : ℕ) (r : Row) → find b opcodes ≡ Some r → (nat_eq b 5 && not may) ≡ false → IsRow may r
 unfolding IsRow
-opcodes_meet may b r e f = found_by_key (Allowed may) b opcodes (λ f. (tt, tt), (λ f. (tt, tt), (λ f t. (tt, tt), (λ f t. (tt, tt), (λ f t. (tt, tt), (λ f. (is_not may f, tt), (λ f. (tt, tt), (λ f n l. (tt, l), (λ f n l. (tt, l), (λ f ls l v u. (tt, (v, u)), (λ f. (tt, tt), (λ f n l. (tt, l), (λ f a b l q. (tt, (l, q)), (λ f. (tt, tt), (λ f n l. (tt, l), (λ f n l. (tt, l), (λ f n l. (tt, l), (λ f n l. (tt, l), (λ f n l. (tt, l), (λ f a l. (tt, l), (λ f a l. (tt, l), (λ f a l. (tt, l), (λ f a l. (tt, l), (λ f. (tt, tt), (λ f. (tt, tt), (λ f n l. (tt, l), (λ f n l. (tt, l), tt))))))))))))))))))))))))))) r e f
+opcodes_meet may b r e f = found_by_key (Allowed may) b opcodes (
+  λ f. (tt, tt),
+  (
+    λ f. (tt, tt),
+    (
+      λ f t. (tt, tt),
+      (
+        λ f t. (tt, tt),
+        (
+          λ f t. (tt, tt),
+          (
+            λ f. (is_not may f, tt),
+            (
+              λ f. (tt, tt),
+              (
+                λ f n l. (tt, l),
+                (
+                  λ f n l. (tt, l),
+                  (
+                    λ f ls l v u. (tt, (v, u)),
+                    (
+                      λ f. (tt, tt),
+                      (
+                        λ f n l. (tt, l),
+                        (
+                          λ f a b l q. (tt, (l, q)),
+                          (
+                            λ f. (tt, tt),
+                            (
+                              λ f n l. (tt, l),
+                              (
+                                λ f n l. (tt, l),
+                                (λ f n l. (tt, l), (λ f n l. (tt, l), (λ f n l. (tt, l), (λ f a l. (tt, l), (λ f a l. (tt, l), (λ f a l. (tt, l), (λ f a l. (tt, l), (λ f. (tt, tt), (λ f. (tt, tt), (λ f n l. (tt, l), (λ f n l. (tt, l), tt))))))))))),
+                              ),
+                            ),
+                          ),
+                        ),
+                      ),
+                    ),
+                  ),
+                ),
+              ),
+            ),
+          ),
+        ),
+      ),
+    ),
+  ),
+) r e f
 
 operation_meets : (may : Bool) (o : Option I32Op) (r : Row) → operation_row o ≡ Some r → IsRow may r
 unfolding IsRow
@@ -387,14 +435,54 @@ record Partial (m : Parts) : Type 0 where
 contents_make : (s : Section) (p : Parts) → Partial p → Makes (contents s p) Partial
 unfolding contents func_types globals exports segments
 contents_make sec.Custom p g k w ws m h = let (s, u, (w1, ws1, h1)) = name_makes (λ s. Skip (k p)) w ws m h in (p, g, ([], ws1, h1))
-contents_make sec.Types p g k w ws m h = let (xs, v, r) = vector_makes func_type IsFuncType func_type_makes (λ ts. k (record p { types = ts })) w ws m h in (record p { types = xs }, record { types = v; funcs = g.funcs; table = g.table; memory = g.memory; globals = g.globals; exports = g.exports; elements = g.elements; bodies = g.bodies }, r)
-contents_make sec.Functions p g k w ws m h = let (xs, v, r) = indices_make (λ ts. k (record p { funcs = ts })) w ws m h in (record p { funcs = xs }, record { types = g.types; funcs = v; table = g.table; memory = g.memory; globals = g.globals; exports = g.exports; elements = g.elements; bodies = g.bodies }, r)
-contents_make sec.Tables p g k w ws m h = let (xs, v, r) = table_makes (λ ts. k (record p { table = ts })) w ws m h in (record p { table = xs }, record { types = g.types; funcs = g.funcs; table = v; memory = g.memory; globals = g.globals; exports = g.exports; elements = g.elements; bodies = g.bodies }, r)
-contents_make sec.Memories p g k w ws m h = let (xs, v, r) = memory_makes (λ ts. k (record p { memory = ts })) w ws m h in (record p { memory = xs }, record { types = g.types; funcs = g.funcs; table = g.table; memory = v; globals = g.globals; exports = g.exports; elements = g.elements; bodies = g.bodies }, r)
-contents_make sec.Globals p g k w ws m h = let (xs, v, r) = vector_makes global IsGlobal global_makes (λ ts. k (record p { globals = ts })) w ws m h in (record p { globals = xs }, record { types = g.types; funcs = g.funcs; table = g.table; memory = g.memory; globals = v; exports = g.exports; elements = g.elements; bodies = g.bodies }, r)
-contents_make sec.Exports p g k w ws m h = let (xs, v, r) = vector_makes exported IsExport exported_makes (λ ts. k (record p { exports = ts })) w ws m h in (record p { exports = xs }, record { types = g.types; funcs = g.funcs; table = g.table; memory = g.memory; globals = g.globals; exports = v; elements = g.elements; bodies = g.bodies }, r)
-contents_make sec.Elements p g k w ws m h = let (xs, v, r) = vector_makes segment IsSegment segment_makes (λ ts. k (record p { elements = ts })) w ws m h in (record p { elements = xs }, record { types = g.types; funcs = g.funcs; table = g.table; memory = g.memory; globals = g.globals; exports = g.exports; elements = v; bodies = g.bodies }, r)
-contents_make sec.Codes p g k w ws m h = let (xs, v, r) = bodies_make (length p.funcs) (λ ts. k (record p { bodies = ts })) w ws m h in (record p { bodies = xs }, record { types = g.types; funcs = g.funcs; table = g.table; memory = g.memory; globals = g.globals; exports = g.exports; elements = g.elements; bodies = v }, r)
+contents_make sec.Types p g k w ws m h = let (xs, v, r) = vector_makes func_type IsFuncType func_type_makes (λ ts. k (record p { types = ts })) w ws m h in (
+  record p { types = xs },
+  record
+      { types = v; funcs = g.funcs; table = g.table; memory = g.memory; globals = g.globals; exports = g.exports; elements = g.elements; bodies = g.bodies },
+  r,
+)
+contents_make sec.Functions p g k w ws m h = let (xs, v, r) = indices_make (λ ts. k (record p { funcs = ts })) w ws m h in (
+  record p { funcs = xs },
+  record
+      { types = g.types; funcs = v; table = g.table; memory = g.memory; globals = g.globals; exports = g.exports; elements = g.elements; bodies = g.bodies },
+  r,
+)
+contents_make sec.Tables p g k w ws m h = let (xs, v, r) = table_makes (λ ts. k (record p { table = ts })) w ws m h in (
+  record p { table = xs },
+  record
+      { types = g.types; funcs = g.funcs; table = v; memory = g.memory; globals = g.globals; exports = g.exports; elements = g.elements; bodies = g.bodies },
+  r,
+)
+contents_make sec.Memories p g k w ws m h = let (xs, v, r) = memory_makes (λ ts. k (record p { memory = ts })) w ws m h in (
+  record p { memory = xs },
+  record
+      { types = g.types; funcs = g.funcs; table = g.table; memory = v; globals = g.globals; exports = g.exports; elements = g.elements; bodies = g.bodies },
+  r,
+)
+contents_make sec.Globals p g k w ws m h = let (xs, v, r) = vector_makes global IsGlobal global_makes (λ ts. k (record p { globals = ts })) w ws m h in (
+  record p { globals = xs },
+  record
+      { types = g.types; funcs = g.funcs; table = g.table; memory = g.memory; globals = v; exports = g.exports; elements = g.elements; bodies = g.bodies },
+  r,
+)
+contents_make sec.Exports p g k w ws m h = let (xs, v, r) = vector_makes exported IsExport exported_makes (λ ts. k (record p { exports = ts })) w ws m h in (
+  record p { exports = xs },
+  record
+      { types = g.types; funcs = g.funcs; table = g.table; memory = g.memory; globals = g.globals; exports = v; elements = g.elements; bodies = g.bodies },
+  r,
+)
+contents_make sec.Elements p g k w ws m h = let (xs, v, r) = vector_makes segment IsSegment segment_makes (λ ts. k (record p { elements = ts })) w ws m h in (
+  record p { elements = xs },
+  record
+      { types = g.types; funcs = g.funcs; table = g.table; memory = g.memory; globals = g.globals; exports = g.exports; elements = v; bodies = g.bodies },
+  r,
+)
+contents_make sec.Codes p g k w ws m h = let (xs, v, r) = bodies_make (length p.funcs) (λ ts. k (record p { bodies = ts })) w ws m h in (
+  record p { bodies = xs },
+  record
+      { types = g.types; funcs = g.funcs; table = g.table; memory = g.memory; globals = g.globals; exports = g.exports; elements = g.elements; bodies = v },
+  r,
+)
 
 section_makes : (s : Section) (p : Parts) → Partial p → Makes (section s p) Partial
 unfolding section

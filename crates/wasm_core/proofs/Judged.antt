@@ -60,7 +60,7 @@ module _ (m : Parts) (ls rs : Types) where
       s_some (suc (length os)) (slice_get (labels_of rs a.ctls) l) (λ lt. on_some (off (I32 ∷ []) a.now) (λ k. on_some (off lt k) (λ j. Some (More (record a { now = put_on lt j })))))
       (λ lt. s_some (suc (length os)) (off (I32 ∷ []) a.now) (λ k. on_some (off lt k) (λ j. Some (More (record a { now = put_on lt j }))))
       (λ k. s_some (suc (length os)) (off lt k) (λ j. Some (More (record a { now = put_on lt j }))) (λ j. ap suc (sym h))))
-  sized (BrTable js l) a o os h =
+  sized (BrTable l js) a o os h =
       s_some (suc (length os)) (slice_get (labels_of rs a.ctls) l) (λ lt. on_some (off (I32 ∷ []) a.now) (λ k. on_some (off lt k) (λ j. only (fit_labels (labels_of rs a.ctls) (length lt) k js) (Some (dead a)))))
       (λ lt. s_some (suc (length os)) (off (I32 ∷ []) a.now) (λ k. on_some (off lt k) (λ j. only (fit_labels (labels_of rs a.ctls) (length lt) k js) (Some (dead a))))
       (λ k. s_some (suc (length os)) (off lt k) (λ j. only (fit_labels (labels_of rs a.ctls) (length lt) k js) (Some (dead a)))

@@ -1,142 +1,36 @@
 -- Memory never shrinks in a step.
-use Rattle.std.proofs.Common.{◌≡◌, ℕ, zero, suc, ◌+◌, ◌-◌, ◌^◌, List, [], ◌∷◌, ◌++◌, length, drop, Option, Some, None, Bool, true, false, refl, subst, arith, length-append}
-use Rattle.std.specs.Prelude.{slice_get, slice_set, if◌then◌else◌, nat_le, nat_eq, ◌&&◌}
-use Rattle.std.specs.Option.{unwrap_or}
-use Rattle.wasm_core.specs.declared.types.FuncType.{FuncType}
+use Rattle.std.proofs.Common.{ℕ, zero, suc, ◌+◌, ◌-◌, ◌^◌, List, ◌∷◌, ◌++◌, Bool, true, refl, subst, arith, length-append}
+use Rattle.std.specs.Prelude.{nat_le, ◌&&◌}
 use Rattle.wasm_core.specs.declared.types.ConstValue.{ConstValue}
 use Rattle.wasm_core.specs.declared.types.ConstValue.TheVariants.{I32}
-use Rattle.wasm_core.specs.declared.instrs.I32Op.{I32Op}
 use Rattle.wasm_core.specs.declared.instrs.Instr.{Instr}
-use Rattle.wasm_core.specs.declared.instrs.Instr.TheVariants.{Unreachable, Nop, Block, Loop, If, Else, End, Br, BrIf, BrTable, Return, Call, CallIndirect, Drop, LocalGet, LocalSet, LocalTee, GlobalGet, GlobalSet, I32Load, I32Load8U, I32Store, I32Store8, MemorySize, MemoryGrow, I32Const, I64Const, I32 as Operation}
-use Rattle.wasm_core.specs.declared.ended.TrapKind.TheVariants as kind
 use Rattle.wasm_core.specs.Parts.{Parts}
-use Rattle.wasm_core.specs.Memory.{byte, word, put_byte, put_word, zeroed}
-use Rattle.wasm_core.specs.Arithmetic.{is_unary, unary, binary}
-use Rattle.wasm_core.specs.Instance.{Func, func_of, greatest_pages, table_of}
-use Rattle.wasm_core.specs.MachineStep.{after_end, Label, Frame, Store, Conf, State, At, Over, step, act, arm, branch, jump, leave, back, leave_block, at_end, call, call_entry, same_func_type, frame_of, has_value, enter, on_some, on_i32, going_on, storing, within, operation, unless_zero, trap, grown, next, Step}
+use Rattle.wasm_core.specs.Memory.{zeroed}
+use Rattle.wasm_core.specs.Instance.{greatest_pages}
+use Rattle.wasm_core.specs.MachineStep.{Store, Conf, State, At, Over, step, storing, grown, Step}
 use Rattle.wasm_core.specs.Runs.{store_of}
 use Rattle.wasm_core.specs.Laws.{Grows, MemoryGrows}
-use Rattle.wasm_core.proofs.Bits.{put_byte_length, put_word_length}
-use Rattle.wasm_core.proofs.Gives.{Gives, gives_at, g_some, g_if, a_i32, a_one, a_taking}
+use Rattle.wasm_core.proofs.Gives.{Gives, gives_at, g_if, a_i32}
+use Rattle.wasm_core.proofs.StoreSteps.{Keeps, next_keeps}
 
-module _ (m : Parts) (g : Bool) (c : Conf) where
-  abbrev P : State → Type 0
-  P s = Grows c.store (store_of s)
-
-  same : Grows c.store c.store
-  same = record { pages = omega arith; bytes = omega arith; refused = λ e. e }
-
-  returned : (callers : List Frame) (top : List ConstValue) → Gives P (back c callers top)
-  returned [] top = same
-  returned (f ∷ callers) top = same
-
-  leaves : (vals : List ConstValue) → Gives P (leave c vals)
-  leaves vals = a_taking P c.current.keeps vals (λ top. back c c.callers top) (λ top. returned c.callers top)
-
-  left : (ks : List Label) (rest : Label → List Instr) → Gives P (leave_block ks c rest)
-  left [] rest = tt
-  left (k ∷ ks) rest = same
-
-  at_ends : (ks : List Label) (rest : List Instr) → Gives P (at_end ks rest c)
-  at_ends [] rest = leaves c.current.operands
-  at_ends (k ∷ ks) rest = same
-
-  jumps : (l : ℕ) (vals : List ConstValue) (o : Option Label) → Gives P (jump c l vals o)
-  jumps l vals None = g_if P (nat_eq l (length c.current.labels)) (leave c vals) None (λ e. leaves vals) tt
-  jumps l vals (Some k) = a_taking P k.keeps vals (λ top. Some (At (record c { current = record c.current { labels = drop (l + 1) c.current.labels; operands = top ++ k.below; rest = k.goes_on } }))) (λ top. same)
-
-  calls : (k : Func) (vals : List ConstValue) (rest : List Instr) → Gives P (call c k vals rest)
-  calls k vals rest = g_if P (nat_le (length k.type.params) (length vals)) (Some (At (record { store = c.store; current = frame_of k vals; callers = record c.current { operands = drop (length k.type.params) vals; rest = rest } ∷ c.callers }))) None (λ e. same) tt
-
-  entries : (t : FuncType) (o : Option (Option ℕ)) (vals : List ConstValue) (rest : List Instr) → Gives P (call_entry m t o vals rest c)
-  entries t None vals rest = same
-  entries t (Some None) vals rest = same
-  entries t (Some (Some f)) vals rest =
-      g_some P (func_of m f) (λ k. if same_func_type t k.type then call c k vals rest else trap kind.IndirectType c)
-      (λ k e. g_if P (same_func_type t k.type) (call c k vals rest) (trap kind.IndirectType c) (λ s. calls k vals rest) same)
-
-  grows : (n : ℕ) (vals : List ConstValue) (rest : List Instr) → Gives P (grown m g n vals rest c)
-  grows n vals rest =
-      g_if P (g && nat_le (c.store.pages + n) (greatest_pages m.memory))
-      (storing c (record c.store { pages = c.store.pages + n; memory = c.store.memory ++ zeroed n }) (I32 c.store.pages ∷ vals) rest)
-      (storing c (record c.store { refused = true; by_choice = nat_le (c.store.pages + n) (greatest_pages m.memory) }) (I32 (2 ^ 32 - 1) ∷ vals) rest)
-      (λ e. record { pages = omega arith; bytes = omega (arith, length-append c.store.memory (zeroed n)); refused = λ h. h })
-      (record { pages = omega arith; bytes = omega arith; refused = λ h. refl })
-
-  accesses : (end : ℕ) (go : Option State) → Gives P go → Gives P (within end c go)
-  accesses end go k = g_if P (nat_le end (length c.store.memory)) go (trap kind.OutOfBounds c) (λ e. k) same
-
-  writes : (memory : List ℕ) → length memory ≡ length c.store.memory → Grows c.store (record c.store { memory = memory })
-  writes memory len = record { pages = omega arith; bytes = omega arith; refused = λ h. h }
-
-  operates : (b : Bool) (op : I32Op) (rest : List Instr) → Gives P (operation b op rest c)
-  operates true op rest = a_i32 P c.current.operands (λ x operands. going_on c (I32 (unary op x) ∷ operands) rest) (λ x vals. same)
-  operates false op rest =
-      a_i32 P c.current.operands (λ y more. on_i32 more (λ x operands. going_on c (I32 (binary op x y) ∷ operands) rest))
-      (λ y more. a_i32 P more (λ x operands. going_on c (I32 (binary op x y) ∷ operands) rest) (λ x vals. same))
-
-  zero_or : (n : ℕ) (s t : Option State) → Gives P s → Gives P t → Gives P (unless_zero n s t)
-  zero_or zero s t a b = b
-  zero_or (suc n) s t a b = a
-
-  acts : (i : Instr) (rest : List Instr) → Gives P (act m g i rest c)
-  acts Unreachable rest = same
-  acts Nop rest = same
-  acts (Block t) rest = same
-  acts (Loop t) rest = same
-  acts (If t) rest = a_i32 P c.current.operands (λ x operands. enter (has_value t) (after_end 0 rest) operands (arm x rest) c) (λ x vals. same)
-  acts Else rest = left c.current.labels (λ k. k.goes_on)
-  acts End rest = at_ends c.current.labels rest
-  acts (Br l) rest = jumps l c.current.operands (slice_get c.current.labels l)
-  acts (BrIf l) rest =
-      a_i32 P c.current.operands (λ x operands. unless_zero x (branch c l operands) (going_on c operands rest))
-      (λ x vals. zero_or x (branch c l vals) (going_on c vals rest) (jumps l vals (slice_get c.current.labels l)) same)
-  acts (BrTable ls l) rest =
-      a_i32 P c.current.operands (λ x operands. branch c (unwrap_or (slice_get ls x) l) operands)
-      (λ x vals. jumps (unwrap_or (slice_get ls x) l) vals (slice_get c.current.labels (unwrap_or (slice_get ls x) l)))
-  acts Return rest = leaves c.current.operands
-  acts (Call f) rest = g_some P (func_of m f) (λ k. call c k c.current.operands rest) (λ k e. calls k c.current.operands rest)
-  acts (CallIndirect index table) rest =
-      g_some P (slice_get m.types index) (λ t. on_i32 c.current.operands (λ x operands. call_entry m t (slice_get (table_of m) x) operands rest c))
-      (λ t e. a_i32 P c.current.operands (λ x operands. call_entry m t (slice_get (table_of m) x) operands rest c) (λ x vals. entries t (slice_get (table_of m) x) vals rest))
-  acts Drop rest = a_one P c.current.operands (λ x operands. going_on c operands rest) (λ x vals. same)
-  acts (LocalGet x) rest = g_some P (slice_get c.current.locals x) (λ v. going_on c (v ∷ c.current.operands) rest) (λ y e. same)
-  acts (LocalSet x) rest =
-      a_one P c.current.operands (λ v operands. on_some (slice_get c.current.locals x) (λ old. Some (At (record c { current = record c.current { locals = slice_set c.current.locals x v; operands = operands; rest = rest } }))))
-      (λ y vals. g_some P (slice_get c.current.locals x) (λ old. Some (At (record c { current = record c.current { locals = slice_set c.current.locals x y; operands = vals; rest = rest } }))) (λ old e. same))
-  acts (LocalTee x) rest =
-      a_one P c.current.operands (λ v operands. on_some (slice_get c.current.locals x) (λ old. Some (At (record c { current = record c.current { locals = slice_set c.current.locals x v; operands = v ∷ operands; rest = rest } }))))
-      (λ y vals. g_some P (slice_get c.current.locals x) (λ old. Some (At (record c { current = record c.current { locals = slice_set c.current.locals x y; operands = y ∷ vals; rest = rest } }))) (λ old e. same))
-  acts (GlobalGet x) rest = g_some P (slice_get c.store.globals x) (λ v. going_on c (v ∷ c.current.operands) rest) (λ y e. same)
-  acts (GlobalSet x) rest =
-      a_one P c.current.operands (λ v operands. on_some (slice_get c.store.globals x) (λ old. storing c (record c.store { globals = slice_set c.store.globals x v }) operands rest))
-      (λ y vals. g_some P (slice_get c.store.globals x) (λ old. storing c (record c.store { globals = slice_set c.store.globals x y }) vals rest) (λ old e. record { pages = omega arith; bytes = omega arith; refused = λ h. h }))
-  acts (I32Load a) rest =
-      a_i32 P c.current.operands (λ i operands. within (i + a.offset + 4) c (going_on c (I32 (word c.store.memory (i + a.offset)) ∷ operands) rest))
-      (λ i vals. accesses (i + a.offset + 4) (going_on c (I32 (word c.store.memory (i + a.offset)) ∷ vals) rest) same)
-  acts (I32Load8U a) rest =
-      a_i32 P c.current.operands (λ i operands. within (i + a.offset + 1) c (going_on c (I32 (byte c.store.memory (i + a.offset)) ∷ operands) rest))
-      (λ i vals. accesses (i + a.offset + 1) (going_on c (I32 (byte c.store.memory (i + a.offset)) ∷ vals) rest) same)
-  acts (I32Store a) rest =
-      a_i32 P c.current.operands (λ n more. on_i32 more (λ i operands. within (i + a.offset + 4) c (storing c (record c.store { memory = put_word c.store.memory (i + a.offset) n }) operands rest)))
-      (λ n more. a_i32 P more (λ i operands. within (i + a.offset + 4) c (storing c (record c.store { memory = put_word c.store.memory (i + a.offset) n }) operands rest))
-      (λ i vals. accesses (i + a.offset + 4) (storing c (record c.store { memory = put_word c.store.memory (i + a.offset) n }) vals rest) (writes (put_word c.store.memory (i + a.offset) n) (put_word_length c.store.memory (i + a.offset) n))))
-  acts (I32Store8 a) rest =
-      a_i32 P c.current.operands (λ n more. on_i32 more (λ i operands. within (i + a.offset + 1) c (storing c (record c.store { memory = put_byte c.store.memory (i + a.offset) n }) operands rest)))
-      (λ n more. a_i32 P more (λ i operands. within (i + a.offset + 1) c (storing c (record c.store { memory = put_byte c.store.memory (i + a.offset) n }) operands rest))
-      (λ i vals. accesses (i + a.offset + 1) (storing c (record c.store { memory = put_byte c.store.memory (i + a.offset) n }) vals rest) (writes (put_byte c.store.memory (i + a.offset) n) (put_byte_length c.store.memory (i + a.offset) n))))
-  acts MemorySize rest = same
-  acts MemoryGrow rest = a_i32 P c.current.operands (λ n operands. grown m g n operands rest c) (λ n vals. grows n vals rest)
-  acts (I32Const n) rest = same
-  acts (I64Const n) rest = same
-  acts (Operation op) rest = operates (is_unary op) op rest
-
-  next_grows : (code : List Instr) → Gives P (next m g code c)
-  next_grows [] = tt
-  next_grows (i ∷ rest) = acts i rest
+keeps : (m : Parts) (g : Bool) (c : Conf) → Keeps m g c (Grows c.store)
+keeps m g c = record {
+  same = record { pages = omega arith; bytes = omega arith; refused = λ e. e };
+  sets = λ globals. record { pages = omega arith; bytes = omega arith; refused = λ e. e };
+  writes = λ memory len. record { pages = omega arith; bytes = omega arith; refused = λ e. e };
+  grows = λ rest. a_i32 (λ s. Grows c.store (store_of s)) c.current.operands (λ n operands. grown m g n operands rest c) (λ n vals. grows n vals rest);
+}
+  where
+    grows : (n : ℕ) (vals : List ConstValue) (rest : List Instr) → Gives (λ s. Grows c.store (store_of s)) (grown m g n vals rest c)
+    grows n vals rest =
+        g_if (λ s. Grows c.store (store_of s)) (g && nat_le (c.store.pages + n) (greatest_pages m.memory))
+        (storing c (record c.store { pages = c.store.pages + n; memory = c.store.memory ++ zeroed n }) (I32 c.store.pages ∷ vals) rest)
+        (storing c (record c.store { refused = true; by_choice = nat_le (c.store.pages + n) (greatest_pages m.memory) }) (I32 (2 ^ 32 - 1) ∷ vals) rest)
+        (λ e. record { pages = omega arith; bytes = omega (arith, length-append c.store.memory (zeroed n)); refused = λ h. h })
+        (record { pages = omega arith; bytes = omega arith; refused = λ h. refl })
 
 grow_step : (m : Parts) (granted : Bool) (s t : State) → Step m granted s t → Grows (store_of s) (store_of t)
-grow_step m granted (At c) t e = gives_at (λ s. Grows c.store (store_of s)) (step m granted c) t (next_grows m granted c c.current.rest) e
+grow_step m granted (At c) t e = gives_at (λ s. Grows c.store (store_of s)) (step m granted c) t (next_keeps m granted c (Grows c.store) (keeps m granted c) c.current.rest) e
 grow_step m granted (Over end store) t e = absurd e
 
 after : {r s t : Store} → Grows r s → Grows s t → Grows r t

@@ -202,11 +202,14 @@ module _ (m : Parts) (ls rs : Types) where
   -- the code has a typing from these operands on, within these open blocks
   data Rests : List Ctl → Operands → List Instr → Type 0 where
     last : {ts us : Operands} {body : List Instr} → Typed m ls rs (rs ∷ []) ts body us → Match us rs → Rests [] ts (body ++ End ∷ [])
-    ended : {c : Ctl} {cs : List Ctl} {ts us : Operands} {body after : List Instr} (below : Operands) → Rep c.below below → may_end c.one_arm c.ends ≡ true → Typed m ls rs (labels_of rs (c ∷ cs)) ts body us → Match us c.ends → Rests cs (known c.ends ++ below) after → Rests (c ∷ cs) ts (body ++ End ∷ after)
-    elsed : {c : Ctl} {cs : List Ctl} {ts us vs : Operands} {body second after : List Instr} (below : Operands) → Rep c.below below → c.one_arm ≡ true → Typed m ls rs (labels_of rs (c ∷ cs)) ts body us → Match us c.ends → Typed m ls rs (labels_of rs (c ∷ cs)) [] second vs → Match vs c.ends → Rests cs (known c.ends ++ below) after → Rests (c ∷ cs) ts (body ++ Else ∷ (second ++ End ∷ after))
+    ended : {c : Ctl} {cs : List Ctl} {ts us : Operands} {body after : List Instr} (below : Operands) → Rep c.below below → may_end c.one_arm c.ends ≡ true → Typed m ls rs (labels_of rs (c ∷ cs)) ts body us → Match us c.ends → Rests cs (known c.ends ++ below) after → Rests (c ∷
+        cs) ts (body ++ End ∷ after)
+    elsed : {c : Ctl} {cs : List Ctl} {ts us vs : Operands} {body second after : List Instr} (below : Operands) → Rep c.below below → c.one_arm ≡ true → Typed m ls rs (labels_of rs (c ∷ cs)) ts body us → Match us c.ends → Typed m ls rs (labels_of rs
+        (c ∷ cs)) [] second vs → Match vs c.ends → Rests cs (known c.ends ++ below) after → Rests (c ∷ cs) ts (body ++ Else ∷ (second ++ End ∷ after))
 
   -- something typed in front
-  prepend : {cs : List Ctl} {ts : Operands} {code : List Instr} (to : Operands) (f : List Instr → List Instr) → ((x y : List Instr) → f (x ++ y) ≡ f x ++ y) → ((us : Operands) (rest : List Instr) → Typed m ls rs (labels_of rs cs) ts rest us → Typed m ls rs (labels_of rs cs) to (f rest) us) → Rests cs ts code → Rests cs to (f code)
+  prepend : {cs : List Ctl} {ts : Operands} {code : List Instr} (to : Operands) (f : List Instr → List Instr) → ((x y : List Instr) → f (x ++ y) ≡ f x ++ y) → ((us : Operands) (rest : List Instr) → Typed m ls rs (labels_of rs cs) ts rest us → Typed m ls rs (labels_of rs cs) to
+      (f rest) us) → Rests cs ts code → Rests cs to (f code)
   prepend to f assoc by (last {us = us} {body = body} t k) = subst (Rests [] to) (sym (assoc body (End ∷ []))) (last (by us body t) k)
   prepend to f assoc by (ended {c = c} {cs = cs} {us = us} {body = body} {after = after} below r e t k q) = subst (Rests (c ∷ cs) to) (sym (assoc body (End ∷ after))) (ended below r e (by us body t) k q)
   prepend to f assoc by (elsed {c = c} {cs = cs} {us = us} {body = body} {second = second} {after = after} below r e t k u n q) = subst (Rests (c ∷ cs) to) (sym (assoc body (Else ∷ (second ++ End ∷ after)))) (elsed below r e (by us body t) k u n q)
@@ -249,7 +252,8 @@ module _ (m : Parts) (ls rs : Types) where
         prepend (known e.0 ++ below) (λ x. i ∷ x) (λ x y. refl) (λ us y t. plain (known e.0) below he (match_known e.0) (subst (λ z. Typed m ls rs (labels_of rs a.ctls) z y us) is t)) d,
       )
 
-  from_block : (f : Instr) (label ends : Types) (rest : List Instr) (a : Place) → ((inner r : List Instr) (ts left us : Operands) → Typed m ls rs (label ∷ labels_of rs a.ctls) [] inner left → Match left ends → Typed m ls rs (labels_of rs a.ctls) (known ends ++ ts) r us → Typed m ls rs (labels_of rs a.ctls) ts (f ∷ (inner ++ End ∷ r)) us) → Held rest → Accepts m ls rs (record { now = knowing [] false; ctls = record { label = label; ends = ends; one_arm = false; below = a.now } ∷ a.ctls }) rest → Found a (f ∷ rest)
+  from_block : (f : Instr) (label ends : Types) (rest : List Instr) (a : Place) → ((inner r : List Instr) (ts left us : Operands) → Typed m ls rs (label ∷ labels_of rs a.ctls) [] inner left → Match left ends → Typed m ls rs (labels_of rs a.ctls) (known ends ++ ts) r us → Typed m
+      ls rs (labels_of rs a.ctls) ts (f ∷ (inner ++ End ∷ r)) us) → Held rest → Accepts m ls rs (record { now = knowing [] false; ctls = record { label = label; ends = ends; one_arm = false; below = a.now } ∷ a.ctls }) rest → Found a (f ∷ rest)
   from_block f label ends rest a by ih h =
       let c : Ctl = record { label = label; ends = ends; one_arm = false; below = a.now } in
       let (ts, r, d) = ih (record { now = knowing [] false; ctls = c ∷ a.ctls }) h in
@@ -262,11 +266,19 @@ module _ (m : Parts) (ls rs : Types) where
   no_ends match_none = refl
 
   from_if : (b : BlockType) (k : Known) (rest : List Instr) (cs : List Ctl) (ts : Operands) → ts ≡ [] → Rests (record { label = left_by b; ends = left_by b; one_arm = true; below = k } ∷ cs) ts rest → (below : Operands) × Rep k below × Rests cs (Of I32 ∷ below) (If b ∷ rest)
-  from_if Empty k rest cs ts r (ended {us = us} {body = body} {after = after} below rb e t n q) =
-      (below, rb, prepend (Of I32 ∷ below) (λ x. If Empty ∷ (body ++ End ∷ x)) (λ x y. ap (λ z. If Empty ∷ z) (sym (append_assoc body (End ∷ x) y))) (λ vs y u. one_arm (match_same match_none) (subst (λ z. Typed m ls rs ([] ∷ labels_of rs cs) [] body z) (no_ends n) (subst (λ z. Typed m ls rs ([] ∷ labels_of rs cs) z body us) r t)) u) q)
+  from_if Empty k rest cs ts r (ended {us = us} {body = body} {after = after} below rb e t n q) = (
+    below,
+    rb,
+    prepend (Of I32 ∷ below) (λ x. If Empty ∷ (body ++ End ∷ x)) (λ x y. ap (λ z. If Empty ∷ z) (sym (append_assoc body (End ∷ x) y)))
+        (λ vs y u. one_arm (match_same match_none) (subst (λ z. Typed m ls rs ([] ∷ labels_of rs cs) [] body z) (no_ends n) (subst (λ z. Typed m ls rs ([] ∷ labels_of rs cs) z body us) r t)) u) q,
+  )
   from_if (Value v) k rest cs ts r (ended below rb e t n q) = cc
-  from_if b k rest cs ts r (elsed {us = us} {body = body} {second = second} {after = after} below rb e t n u o q) =
-      (below, rb, prepend (Of I32 ∷ below) (λ x. If b ∷ (body ++ Else ∷ (second ++ End ∷ x))) (λ x y. ap (λ z. If b ∷ z) (ap (λ z. body ++ Else ∷ z) (sym (append_assoc second (End ∷ x) y)) ∙ sym (append_assoc body (Else ∷ (second ++ End ∷ x)) y))) (λ vs y w. two_arms (match_same match_none) (subst (λ z. Typed m ls rs (left_by b ∷ labels_of rs cs) z body us) r t) n u o w) q)
+  from_if b k rest cs ts r (elsed {us = us} {body = body} {second = second} {after = after} below rb e t n u o q) = (
+    below,
+    rb,
+    prepend (Of I32 ∷ below) (λ x. If b ∷ (body ++ Else ∷ (second ++ End ∷ x))) (λ x y. ap (λ z. If b ∷ z) (ap (λ z. body ++ Else ∷ z) (sym (append_assoc second (End ∷ x) y)) ∙ sym (append_assoc body (Else ∷ (second ++ End ∷ x)) y)))
+        (λ vs y w. two_arms (match_same match_none) (subst (λ z. Typed m ls rs (left_by b ∷ labels_of rs cs) z body us) r t) n u o w) q,
+  )
 
   from_else : (now : Known) (cs : List Ctl) (rest : List Instr) → Held rest → passes (check_else now cs) (goes_on rest) (rest ≡ []) → Found (record { now = now; ctls = cs }) (Else ∷ rest)
   from_else now [] rest ih h = absurd h
@@ -312,7 +324,8 @@ module _ (m : Parts) (ls rs : Types) where
   sound (Br l ∷ rest) a h =
       let (lt, hl, h1) = found (slice_get (labels_of rs a.ctls) l) (λ lt. on_some (off lt a.now) (λ k. Some (dead a))) (goes_on rest) (rest ≡ []) h in
       let (k, hk, h2) = found (off lt a.now) (λ k. Some (dead a)) (goes_on rest) (rest ≡ []) h1 in
-      from_dead (Br l) rest a (known lt ++ known k.vals) (off_sound lt a.now.vals a.now.loose k (known k.vals) hk (rep_vals k.loose k.vals)) (λ ts us r t. br (known lt) (known k.vals) (record { wanted = lt; found = hl; matched = match_known lt }) t) (sound rest (record a { now = knowing [] true }) h2)
+      from_dead (Br l) rest a (known lt ++ known k.vals) (off_sound lt a.now.vals a.now.loose k (known k.vals) hk (rep_vals k.loose k.vals)) (λ ts us r t. br (known lt) (known k.vals) (record { wanted = lt; found = hl; matched = match_known lt }) t) (sound rest
+      (record a { now = knowing [] true }) h2)
   sound (BrIf l ∷ rest) a h =
       let (lt, hl, h1) = found (slice_get (labels_of rs a.ctls) l) (λ lt. on_some (off (I32 ∷ []) a.now) (λ k. on_some (off lt k) (λ j. Some (More (record a { now = put_on lt j }))))) (goes_on rest) (rest ≡ []) h in
       let (k, hk, h2) = found (off (I32 ∷ []) a.now) (λ k. on_some (off lt k) (λ j. Some (More (record a { now = put_on lt j })))) (goes_on rest) (rest ≡ []) h1 in
@@ -323,14 +336,14 @@ module _ (m : Parts) (ls rs : Types) where
         off_sound (I32 ∷ []) a.now.vals a.now.loose k (known lt ++ below) hk (off_sound lt k.vals k.loose j below hj rb),
         prepend (Of I32 ∷ (known lt ++ below)) (λ x. BrIf l ∷ x) (λ x y. refl) (λ us y t. br_if (known lt) below (match_same match_none) (record { wanted = lt; found = hl; matched = match_known lt }) (subst (λ z. Typed m ls rs (labels_of rs a.ctls) z y us) is t)) d,
       )
-  sound (BrTable js l ∷ rest) a h =
+  sound (BrTable l js ∷ rest) a h =
       let labels = labels_of rs a.ctls in
       let (lt, hl, h1) = found (slice_get labels l) (λ lt. on_some (off (I32 ∷ []) a.now) (λ k. on_some (off lt k) (λ j. only (fit_labels labels (length lt) k js) (Some (dead a))))) (goes_on rest) (rest ≡ []) h in
       let (k, hk, h2) = found (off (I32 ∷ []) a.now) (λ k. on_some (off lt k) (λ j. only (fit_labels labels (length lt) k js) (Some (dead a)))) (goes_on rest) (rest ≡ []) h1 in
       let (j, hj, h3) = found (off lt k) (λ j. only (fit_labels labels (length lt) k js) (Some (dead a))) (goes_on rest) (rest ≡ []) h2 in
       let (fit, h4) = allowed (fit_labels labels (length lt) k js) (Some (dead a)) (goes_on rest) (rest ≡ []) h3 in
       let os = pad (length lt) k.vals in
-      from_dead (BrTable js l) rest a (Of I32 ∷ (os ++ known j.vals)) (off_sound (I32 ∷ []) a.now.vals a.now.loose k (os ++ known j.vals) hk (pad_rep lt k.vals k.loose j hj))
+      from_dead (BrTable l js) rest a (Of I32 ∷ (os ++ known j.vals)) (off_sound (I32 ∷ []) a.now.vals a.now.loose k (os ++ known j.vals) hk (pad_rep lt k.vals k.loose j hj))
       (λ ts us r t. br_table os (known j.vals) (match_same match_none) (labels_sound labels (length lt) k js fit) (record { wanted = lt; found = hl; matched = pad_match lt k.vals k.loose j hj }) t)
       (sound rest (record a { now = knowing [] true }) h4)
   sound (Return ∷ rest) a h =
@@ -438,7 +451,8 @@ module _ (m : Parts) (ls rs : Types) where
       let (k, hk, rk) = off_complete co a.now.vals a.now.loose (os ++ ts) r in
       let (j, hj, rj) = off_complete rc.matched k.vals k.loose ts rk in
       let last = λ (lt : Types) (j : Known). Some (More (record a { now = put_on lt j })) in
-      let p = ap (λ (ss : List Types). on_some (slice_get ss l) (λ lt. on_some (off (I32 ∷ []) a.now) (λ k. on_some (off lt k) (last lt)))) e ∙ ap (λ (o : Option Types). on_some o (λ lt. on_some (off (I32 ∷ []) a.now) (λ k. on_some (off lt k) (last lt)))) hl ∙ ap (λ (o : Option Known). on_some o (λ k. on_some (off lt k) (last lt))) hk ∙ ap (λ (o : Option Known). on_some o (last lt)) hj in
+      let p = ap (λ (ss : List Types). on_some (slice_get ss l) (λ lt. on_some (off (I32 ∷ []) a.now) (λ k. on_some (off lt k) (last lt)))) e ∙ ap (λ (o : Option Types). on_some o (λ lt. on_some (off (I32 ∷ []) a.now) (λ k. on_some (off lt k) (last lt)))) hl ∙ ap (λ
+      (o : Option Known). on_some o (λ k. on_some (off lt k) (last lt))) hk ∙ ap (λ (o : Option Known). on_some o (last lt)) hj in
       subst (λ (o : Option Check). passes o (goes_on (rest ++ tail)) (rest ++ tail ≡ [])) (sym p) (forward t (record a { now = put_on lt j }) e (rep_put j.loose lt j.vals ts rj) tail on)
   forward (br_table {labels = labels} {any = any} os ts {ls = js} {l = l} {rest = rest} co rl rc t) a e r tail on =
       let lt = rc.wanted in

@@ -325,10 +325,11 @@ module _ (ws : List (List ℕ)) (m : Parts) where
   instr_printed may instructions.End q f k w h = op_printed may 11 (Plain (instructions.End)) (λ c. refl) k _ h
   instr_printed may (instructions.Br n) q f k w h = op_printed may 12 (Index instructions.Br) (λ c. refl) k _ (u32_printed (λ n. k (instructions.Br n)) n w f h)
   instr_printed may (instructions.BrIf n) q f k w h = op_printed may 13 (Index instructions.BrIf) (λ c. refl) k _ (u32_printed (λ n. k (instructions.BrIf n)) n w f h)
-  instr_printed may (instructions.BrTable ls l) q f k w h = op_printed may 14 (Table instructions.BrTable) (λ c. refl) k _ (indices_printed ls f.0 (λ ls. u32 (λ l. k (instructions.BrTable ls l))) (put_u32 l w) (u32_printed (λ l. k (instructions.BrTable ls l)) l w f.1 h))
+  instr_printed may (instructions.BrTable l ls) q f k w h = op_printed may 14 (Table (λ ls l. instructions.BrTable l ls)) (λ c. refl) k _ (indices_printed ls f.0 (λ ls. u32 (λ l. k (instructions.BrTable l ls))) (put_u32 l w) (u32_printed (λ l. k (instructions.BrTable l ls)) l w f.1 h))
   instr_printed may instructions.Return q f k w h = op_printed may 15 (Plain (instructions.Return)) (λ c. refl) k _ h
   instr_printed may (instructions.Call n) q f k w h = op_printed may 16 (Index instructions.Call) (λ c. refl) k _ (u32_printed (λ n. k (instructions.Call n)) n w f h)
-  instr_printed may (instructions.CallIndirect index table) q f k w h = op_printed may 17 (Pair instructions.CallIndirect) (λ c. refl) k _ (u32_printed (λ a. u32 (λ b. k (instructions.CallIndirect a b))) index (put_u32 table w) f.0 (u32_printed (λ b. k (instructions.CallIndirect index b)) table w f.1 h))
+  instr_printed may (instructions.CallIndirect index table) q f k w h = op_printed may 17 (Pair instructions.CallIndirect) (λ c. refl) k _ (u32_printed (λ a. u32 (λ b. k (instructions.CallIndirect a b))) index (put_u32 table w) f.0
+      (u32_printed (λ b. k (instructions.CallIndirect index b)) table w f.1 h))
   instr_printed may instructions.Drop q f k w h = op_printed may 26 (Plain (instructions.Drop)) (λ c. refl) k _ h
   instr_printed may (instructions.LocalGet n) q f k w h = op_printed may 32 (Index instructions.LocalGet) (λ c. refl) k _ (u32_printed (λ n. k (instructions.LocalGet n)) n w f h)
   instr_printed may (instructions.LocalSet n) q f k w h = op_printed may 33 (Index instructions.LocalSet) (λ c. refl) k _ (u32_printed (λ n. k (instructions.LocalSet n)) n w f h)

@@ -90,7 +90,8 @@ module _ (M : Parts) (frames : ℕ) (Q E : State → Type 0) where
     pub r_load : {i : ℕ} {a : Access} → length f.callers ≤ frames → i + a.offset + 4 ≤ length s.memory → Within M frames Q E l u (here f s ls (I32 (word s.memory (i + a.offset)) ∷ vals) rest) → Within M frames Q E (suc l) (suc u) (here f s ls (I32 i ∷ vals) (I32Load a ∷ rest))
     r_load {i} {a} deep e k = one deep (λ g. ap (λ (b : Bool). if b then Some (here f s ls (I32 (word s.memory (i + a.offset)) ∷ vals) rest) else Some (Over (Trapped kind.OutOfBounds) s)) (le-leb _ _ e)) k
 
-    pub r_store : {i n : ℕ} {a : Access} → length f.callers ≤ frames → i + a.offset + 4 ≤ length s.memory → Within M frames Q E l u (here f (record s { memory = put_word s.memory (i + a.offset) n }) ls vals rest) → Within M frames Q E (suc l) (suc u) (here f s ls (I32 n ∷ I32 i ∷ vals) (I32Store a ∷ rest))
+    pub r_store : {i n : ℕ} {a : Access} → length f.callers ≤ frames → i + a.offset + 4 ≤ length s.memory → Within M frames Q E l u (here f (record s { memory = put_word s.memory (i + a.offset) n }) ls vals rest) → Within M frames Q E (suc l) (suc u) (here f s ls
+        (I32 n ∷ I32 i ∷ vals) (I32Store a ∷ rest))
     r_store {i} {n} {a} deep e k = one deep (λ g. ap (λ (b : Bool). if b then Some (here f (record s { memory = put_word s.memory (i + a.offset) n }) ls vals rest) else Some (Over (Trapped kind.OutOfBounds) s)) (le-leb _ _ e)) k
 
     pub r_global : {x : ℕ} {v : ConstValue} → length f.callers ≤ frames → slice_get s.globals x ≡ Some v → Within M frames Q E l u (here f s ls (v ∷ vals) rest) → Within M frames Q E (suc l) (suc u) (here f s ls vals (GlobalGet x ∷ rest))
@@ -158,7 +159,8 @@ module _ (M : Parts) (frames : ℕ) (Q E : State → Type 0) where
         (λ g. ap (λ (o : Option Func). on_some o (λ h. call (conf f s ls vals (Call x ∷ rest)) h vals rest)) e
         ∙ ap (λ (b : Bool). if b then Some (called f s ls (drop (length h.type.params) vals) rest h vals) else None) (le-leb _ _ few)) k
 
-    pub r_indirect : {x y index : ℕ} {t : FuncType} {h : Func} → length f.callers ≤ frames → slice_get M.types index ≡ Some t → slice_get (table_of M) x ≡ Some (Some y) → func_of M y ≡ Some h → same_func_type t h.type ≡ true → length h.type.params ≤ length vals → Within M frames Q E l u (called f s ls (drop (length h.type.params) vals) rest h vals) → Within M frames Q E (suc l) (suc u) (here f s ls (I32 x ∷ vals) (CallIndirect index 0 ∷ rest))
+    pub r_indirect : {x y index : ℕ} {t : FuncType} {h : Func} → length f.callers ≤ frames → slice_get M.types index ≡ Some t → slice_get (table_of M) x ≡ Some (Some
+        y) → func_of M y ≡ Some h → same_func_type t h.type ≡ true → length h.type.params ≤ length vals → Within M frames Q E l u (called f s ls (drop (length h.type.params) vals) rest h vals) → Within M frames Q E (suc l) (suc u) (here f s ls (I32 x ∷ vals) (CallIndirect index 0 ∷ rest))
     r_indirect {x} {y} {index} {t} {h} deep et d e is few k =
         let c = conf f s ls (I32 x ∷ vals) (CallIndirect index 0 ∷ rest) in
         one {c = c} deep
@@ -169,7 +171,8 @@ module _ (M : Parts) (frames : ℕ) (Q E : State → Type 0) where
         ∙ ap (λ (b : Bool). if b then Some (called f s ls (drop (length h.type.params) vals) rest h vals) else None) (le-leb _ _ few)) k
 
     -- a grow: granted within the maximum, or refused
-    pub r_grow : {n : ℕ} → length f.callers ≤ frames → (s.pages + n ≤ greatest_pages M.memory → Within M frames Q E l u (here f (record s { pages = s.pages + n; memory = s.memory ++ zeroed n }) ls (I32 s.pages ∷ vals) rest)) → ((b : Bool) → (b ≡ false → greatest_pages M.memory < s.pages + n) → Within M frames Q E l u (here f (record s { refused = true; by_choice = b }) ls (I32 (2 ^ 32 - 1) ∷ vals) rest)) → Within M frames Q E (suc l) (suc u) (here f s ls (I32 n ∷ vals) (MemoryGrow ∷ rest))
+    pub r_grow : {n : ℕ} → length f.callers ≤ frames → (s.pages + n ≤ greatest_pages M.memory → Within M frames Q E l u (here f (record s { pages = s.pages + n; memory = s.memory ++ zeroed n }) ls (I32 s.pages ∷ vals) rest)) → ((b : Bool) →
+        (b ≡ false → greatest_pages M.memory < s.pages + n) → Within M frames Q E l u (here f (record s { refused = true; by_choice = b }) ls (I32 (2 ^ 32 - 1) ∷ vals) rest)) → Within M frames Q E (suc l) (suc u) (here f s ls (I32 n ∷ vals) (MemoryGrow ∷ rest))
     r_grow {n} deep go stop = cases (nat_le (s.pages + n) (greatest_pages M.memory)) refl
       where
         yes : State
@@ -183,7 +186,8 @@ module _ (M : Parts) (frames : ℕ) (Q E : State → Type 0) where
         cases false e = moves {l = l} (not false) (not false) deep (omega arith) (ap (λ (b : Bool). if b then Some yes else Some (not b)) e) (ap (λ (b : Bool). Some (not b)) e) (stop false (λ z. leb-false _ _ e)) (stop false (λ z. leb-false _ _ e))
 
   -- a function returns, whoever called it
-  pub r_return : {s : Store} {ls vals : List ConstValue} {rest : List Instr} {l u : ℕ} {w : ConstValue} (callers : List Frame) → length callers ≤ frames → Within M frames Q E l u (returned callers s w) → Within M frames Q E (suc l) (suc u) (here (record { keeps = true; labels = []; callers = callers }) s ls (w ∷ vals) (End ∷ rest))
+  pub r_return : {s : Store} {ls vals : List ConstValue} {rest : List Instr} {l u : ℕ} {w : ConstValue} (callers : List Frame) → length callers ≤ frames → Within M frames Q E l u (returned callers s w) → Within M frames Q E (suc l) (suc u) (here
+      (record { keeps = true; labels = []; callers = callers }) s ls (w ∷ vals) (End ∷ rest))
   r_return [] deep k = one deep (λ g. refl) k
   r_return (a ∷ callers) deep k = one deep (λ g. refl) k
 

@@ -96,7 +96,8 @@ module _ (m : Parts) (valid : IsValid m) (g : Bool) (store : Store) (gl : HaveTy
   conf ks vals code = record { store = store; current = record { keeps = keeps; locals = locals; labels = ks; operands = vals; rest = code }; callers = callers }
 
   -- the function goes on, with this store and these locals
-  on_with : (store' : Store) (locals' : List ConstValue) → HaveTypes store'.globals (global_types m) → HaveTypes locals' (known ls) → {ks : List Label} {labels : List Types} {code : List Instr} (ts : Operands) (vals : List ConstValue) → HaveTypes vals ts → Goes m ls rs ks labels ts code → Sound m (Some (At (record { store = store'; current = record { keeps = keeps; locals = locals'; labels = ks; operands = vals; rest = code }; callers = callers })))
+  on_with : (store' : Store) (locals' : List ConstValue) → HaveTypes store'.globals (global_types m) → HaveTypes locals' (known ls) → {ks : List Label} {labels : List Types} {code : List Instr} (ts : Operands) (vals : List
+      ConstValue) → HaveTypes vals ts → Goes m ls rs ks labels ts code → Sound m (Some (At (record { store = store'; current = record { keeps = keeps; locals = locals'; labels = ks; operands = vals; rest = code }; callers = callers })))
   on_with store' locals' gs hl {labels = labels} ts vals lv go = (
     At _,
     refl,
@@ -128,7 +129,8 @@ module _ (m : Parts) (valid : IsValid m) (g : Bool) (store : Store) (gl : HaveTy
       (λ top ltop. on {labels = drop (suc l) labels} (known lt ++ below) (top ++ k.below) (have_append ltop lb) (rw add-one go)))
 
   -- a block is entered: its inside is typed, and what comes after its end goes on well
-  inner : {ks : List Label} {labels : List Types} {us : Operands} (tail : List Instr) (k : Label) (ts : Operands) (lt ends : Types) (body rest : List Instr) → Takes k.keeps lt → HaveTypes k.below ts → Goes m ls rs ks labels (known lt ++ ts) k.goes_on → Typed m ls rs (lt ∷ labels) [] body us → Match us ends → Goes m ls rs ks labels (known ends ++ ts) (rest ++ tail) → Goes m ls rs (k ∷ ks) (lt ∷ labels) [] ((body ++ End ∷ rest) ++ tail)
+  inner : {ks : List Label} {labels : List Types} {us : Operands} (tail : List Instr) (k : Label) (ts : Operands) (lt ends : Types) (body rest : List Instr) → Takes k.keeps lt → HaveTypes k.below ts → Goes m ls rs ks labels (known lt ++ ts) k.goes_on → Typed m ls rs (lt ∷
+      labels) [] body us → Match us ends → Goes m ls rs ks labels (known ends ++ ts) (rest ++ tail) → Goes m ls rs (k ∷ ks) (lt ∷ labels) [] ((body ++ End ∷ rest) ++ tail)
   inner {ks = ks} {labels = labels} tail k ts lt ends body rest t lb gs typed ma go =
       subst (Goes m ls rs (k ∷ ks) (lt ∷ labels) []) (sym (append_assoc body (End ∷ rest) tail)) (goes typed (by_end ts t lb gs ma go))
 
@@ -139,18 +141,21 @@ module _ (m : Parts) (valid : IsValid m) (g : Bool) (store : Store) (gl : HaveTy
   past_else : {labels : List Types} {ts us : Operands} (body rest tail : List Instr) → Typed m ls rs labels ts body us → else_arm 0 ((body ++ End ∷ rest) ++ tail) ≡ End ∷ (rest ++ tail)
   past_else body rest tail t = ap (else_arm 0) (append_assoc body (End ∷ rest) tail) ∙ skips_else m ls rs t 0 (End ∷ (rest ++ tail))
 
-  sound_block : {ks : List Label} {labels : List Types} {ends us : Operands} {tail : List Instr} (ts : Operands) (vals : List ConstValue) (b : BlockType) (body rest : List Instr) → HaveTypes vals ts → Typed m ls rs (left_by b ∷ labels) [] body ends → Match ends (left_by b) → Typed m ls rs labels (known (left_by b) ++ ts) rest us → Tail m ls rs ks labels us tail → Sound m (step m g (conf ks vals (Block b ∷ ((body ++ End ∷ rest) ++ tail))))
+  sound_block : {ks : List Label} {labels : List Types} {ends us : Operands} {tail : List Instr} (ts : Operands) (vals : List ConstValue) (b : BlockType) (body rest : List Instr) → HaveTypes vals ts → Typed m ls rs (left_by b ∷ labels) [] body ends → Match ends (left_by
+      b) → Typed m ls rs labels (known (left_by b) ++ ts) rest us → Tail m ls rs ks labels us tail → Sound m (step m g (conf ks vals (Block b ∷ ((body ++ End ∷ rest) ++ tail))))
   sound_block {ks = ks} {labels = labels} {tail = tail} ts vals b body rest lv tb ma td tl =
       let k : Label = record { keeps = has_value b; goes_on = after_end 0 ((body ++ End ∷ rest) ++ tail); below = vals } in
       let on_after = subst (Goes m ls rs ks labels (known (left_by b) ++ ts)) (sym (past body rest tail tb)) (goes td tl) in
       on [] [] no_values (inner tail k ts (left_by b) (left_by b) body rest (left_takes b) lv on_after tb ma (goes td tl))
 
-  sound_loop : {ks : List Label} {labels : List Types} {ends us : Operands} {tail : List Instr} (ts : Operands) (vals : List ConstValue) (b : BlockType) (body rest : List Instr) → HaveTypes vals ts → Typed m ls rs ([] ∷ labels) [] body ends → Match ends (left_by b) → Typed m ls rs labels (known (left_by b) ++ ts) rest us → Tail m ls rs ks labels us tail → Sound m (step m g (conf ks vals (Loop b ∷ ((body ++ End ∷ rest) ++ tail))))
+  sound_loop : {ks : List Label} {labels : List Types} {ends us : Operands} {tail : List Instr} (ts : Operands) (vals : List ConstValue) (b : BlockType) (body rest : List Instr) → HaveTypes vals ts → Typed m ls rs ([] ∷ labels) [] body ends → Match ends (left_by
+      b) → Typed m ls rs labels (known (left_by b) ++ ts) rest us → Tail m ls rs ks labels us tail → Sound m (step m g (conf ks vals (Loop b ∷ ((body ++ End ∷ rest) ++ tail))))
   sound_loop {ks = ks} {labels = labels} {tail = tail} ts vals b body rest lv tb ma td tl =
       let k : Label = record { keeps = false; goes_on = Loop b ∷ ((body ++ End ∷ rest) ++ tail); below = vals } in
       on [] [] no_values (inner tail k ts [] (left_by b) body rest takes_none lv (goes (loop tb ma td) tl) tb ma (goes td tl))
 
-  sound_one_arm : {ks : List Label} {labels : List Types} {us : Operands} {tail : List Instr} (ts : Operands) (x : ℕ) (vals : List ConstValue) (body rest : List Instr) → HaveTypes vals ts → Typed m ls rs ([] ∷ labels) [] body [] → Typed m ls rs labels ts rest us → Tail m ls rs ks labels us tail → Sound m (step m g (conf ks (I32 x ∷ vals) (If Empty ∷ ((body ++ End ∷ rest) ++ tail))))
+  sound_one_arm : {ks : List Label} {labels : List Types} {us : Operands} {tail : List Instr} (ts : Operands) (x : ℕ) (vals : List ConstValue) (body rest : List Instr) → HaveTypes vals ts → Typed m ls rs ([] ∷
+      labels) [] body [] → Typed m ls rs labels ts rest us → Tail m ls rs ks labels us tail → Sound m (step m g (conf ks (I32 x ∷ vals) (If Empty ∷ ((body ++ End ∷ rest) ++ tail))))
   sound_one_arm {ks = ks} {labels = labels} {tail = tail} ts zero vals body rest lv tb td tl =
       let k : Label = record { keeps = false; goes_on = after_end 0 ((body ++ End ∷ rest) ++ tail); below = vals } in
       let on_after = subst (Goes m ls rs ks labels ts) (sym (past body rest tail tb)) (goes td tl) in
@@ -160,7 +165,9 @@ module _ (m : Parts) (valid : IsValid m) (g : Bool) (store : Store) (gl : HaveTy
       let on_after = subst (Goes m ls rs ks labels ts) (sym (past body rest tail tb)) (goes td tl) in
       on [] [] no_values (inner tail k ts [] [] body rest takes_none lv on_after tb typing.match_none (goes td tl))
 
-  sound_two_arms : {ks : List Label} {labels : List Types} {ends other_ends us : Operands} {tail : List Instr} (ts : Operands) (x : ℕ) (vals : List ConstValue) (b : BlockType) (first second rest : List Instr) → HaveTypes vals ts → Typed m ls rs (left_by b ∷ labels) [] first ends → Match ends (left_by b) → Typed m ls rs (left_by b ∷ labels) [] second other_ends → Match other_ends (left_by b) → Typed m ls rs labels (known (left_by b) ++ ts) rest us → Tail m ls rs ks labels us tail → Sound m (step m g (conf ks (I32 x ∷ vals) (If b ∷ ((first ++ Else ∷ (second ++ End ∷ rest)) ++ tail))))
+  sound_two_arms : {ks : List Label} {labels : List Types} {ends other_ends us : Operands} {tail : List Instr} (ts : Operands) (x : ℕ) (vals : List ConstValue) (b : BlockType) (first second rest : List Instr) → HaveTypes vals ts → Typed m ls rs (left_by b ∷
+      labels) [] first ends → Match ends (left_by b) → Typed m ls rs (left_by b ∷ labels) [] second other_ends → Match other_ends (left_by b) → Typed m ls rs labels (known (left_by b) ++ ts) rest us → Tail m ls rs ks labels us tail → Sound m (step m g
+      (conf ks (I32 x ∷ vals) (If b ∷ ((first ++ Else ∷ (second ++ End ∷ rest)) ++ tail))))
   sound_two_arms {ks = ks} {labels = labels} {tail = tail} ts x vals b first second rest lv ta ma tb mb td tl = arm x
     where
       split : (first ++ Else ∷ (second ++ End ∷ rest)) ++ tail ≡ first ++ (Else ∷ ((second ++ End ∷ rest) ++ tail))
@@ -183,7 +190,8 @@ module _ (m : Parts) (valid : IsValid m) (g : Bool) (store : Store) (gl : HaveTy
       arm (suc x) = on {labels = left_by b ∷ labels} [] [] no_values (subst (Goes m ls rs (k ∷ ks) (left_by b ∷ labels) []) (sym split) (goes ta (by_else ts (left_takes b) lv on_after ma)))
 
   -- a function is called
-  sound_call : (ks : List Label) (labels : List Types) (before : List ConstValue) (whole : List Instr) (f : Func) → TypedBody m (f.type.params ++ f.body.locals) (results_of f.type) f.body.code → (ts : Operands) (vals : List ConstValue) (code : List Instr) → HaveTypes vals (known (reverse f.type.params) ++ ts) → Goes m ls rs ks labels (known (results_of f.type) ++ ts) code → Sound m (call (conf ks before whole) f vals code)
+  sound_call : (ks : List Label) (labels : List Types) (before : List ConstValue) (whole : List Instr) (f : Func) → TypedBody m (f.type.params ++ f.body.locals) (results_of f.type) f.body.code → (ts : Operands) (vals : List ConstValue) (code : List Instr) → HaveTypes vals (known
+      (reverse f.type.params) ++ ts) → Goes m ls rs ks labels (known (results_of f.type) ++ ts) code → Sound m (call (conf ks before whole) f vals code)
   sound_call ks labels before whole f typed ts vals code lv go =
       let n : ℕ = length f.type.params in
       let c = conf ks before whole in
@@ -211,7 +219,8 @@ module _ (m : Parts) (valid : IsValid m) (g : Bool) (store : Store) (gl : HaveTy
   sound_trap : (k : TrapKind) (ks : List Label) (before : List ConstValue) (whole : List Instr) → Sound m (trap k (conf ks before whole))
   sound_trap k ks before whole = (Over (Trapped k) store, refl, gl)
 
-  sound_entry : (ks : List Label) (labels : List Types) (before : List ConstValue) (whole : List Instr) (t : FuncType) (ts : Operands) (vals : List ConstValue) (code : List Instr) → HaveTypes vals (known (reverse t.params) ++ ts) → Goes m ls rs ks labels (known (results_of t) ++ ts) code → (x : ℕ) (o : Option (Option ℕ)) → slice_get (table_of m) x ≡ o → Sound m (call_entry m t o vals code (conf ks before whole))
+  sound_entry : (ks : List Label) (labels : List Types) (before : List ConstValue) (whole : List Instr) (t : FuncType) (ts : Operands) (vals : List ConstValue) (code : List Instr) → HaveTypes vals (known (reverse t.params) ++ ts) → Goes m ls rs ks labels (known (results_of t) ++
+      ts) code → (x : ℕ) (o : Option (Option ℕ)) → slice_get (table_of m) x ≡ o → Sound m (call_entry m t o vals code (conf ks before whole))
   sound_entry ks labels before whole t ts vals code lv go x None e = sound_trap kind.UndefinedElement ks before whole
   sound_entry ks labels before whole t ts vals code lv go x (Some None) e = sound_trap kind.UninitializedElement ks before whole
   sound_entry ks labels before whole t ts vals code lv go x (Some (Some f)) e =
@@ -227,12 +236,14 @@ module _ (m : Parts) (valid : IsValid m) (g : Bool) (store : Store) (gl : HaveTy
       by_type f typed false e = sound_trap kind.IndirectType ks before whole
 
   -- what an instruction's effect says
-  given : (ts : Operands) {pops pushes : Types} {ks : List Label} {labels : List Types} {code : List Instr} (a b : Types) (vals : List ConstValue) → ◌≡◌ {A = Effect} (a, b) (pops, pushes) → HaveTypes vals (known pops ++ ts) → Goes m ls rs ks labels (known pushes ++ ts) code → HaveTypes vals (known a ++ ts) × Goes m ls rs ks labels (known b ++ ts) code
+  given : (ts : Operands) {pops pushes : Types} {ks : List Label} {labels : List Types} {code : List Instr} (a b : Types) (vals : List ConstValue) → ◌≡◌ {A = Effect} (a, b) (pops, pushes) → HaveTypes vals (known pops ++ ts) → Goes m ls rs ks labels (known pushes ++
+      ts) code → HaveTypes vals (known a ++ ts) × Goes m ls rs ks labels (known b ++ ts) code
   given ts {ks = ks} {labels = labels} {code = code} a b vals e lv go =
       let q = sym e in
       (subst (λ (x : Effect). HaveTypes vals (known x.0 ++ ts)) q lv, subst (λ (x : Effect). Goes m ls rs ks labels (known x.1 ++ ts) code) q go)
 
-  sound_plain : {ks : List Label} {labels : List Types} {pops pushes : Types} {code : List Instr} (i : Instr) (ts : Operands) (vals : List ConstValue) → effect m ls i ≡ Some (pops, pushes) → HaveTypes vals (known pops ++ ts) → Goes m ls rs ks labels (known pushes ++ ts) code → Sound m (step m g (conf ks vals (i ∷ code)))
+  sound_plain : {ks : List Label} {labels : List Types} {pops pushes : Types} {code : List Instr} (i : Instr) (ts : Operands) (vals : List ConstValue) → effect m ls i ≡ Some (pops, pushes) → HaveTypes vals (known pops ++ ts) → Goes m ls rs ks labels (known pushes ++
+      ts) code → Sound m (step m g (conf ks vals (i ∷ code)))
   sound_plain Nop ts vals e lv go = let d = given ts [] [] vals (inj e) lv go in on ts vals d.0 d.1
   sound_plain (I32Const n) ts vals e lv go = let d = given ts [] (type.I32 ∷ []) vals (inj e) lv go in on (Of type.I32 ∷ ts) (I32 n ∷ vals) (values is_i32 d.0) d.1
   sound_plain (I64Const n) ts vals e lv go = let d = given ts [] (type.I64 ∷ []) vals (inj e) lv go in on (Of type.I64 ∷ ts) (I64 n ∷ vals) (values is_i64 d.0) d.1
@@ -346,12 +357,13 @@ module _ (m : Parts) (valid : IsValid m) (g : Bool) (store : Store) (gl : HaveTy
   sound_plain End ts vals e lv go = no e
   sound_plain (Br l) ts vals e lv go = no e
   sound_plain (BrIf l) ts vals e lv go = no e
-  sound_plain (BrTable ks l) ts vals e lv go = no e
+  sound_plain (BrTable l ks) ts vals e lv go = no e
   sound_plain Return ts vals e lv go = no e
   sound_plain Drop ts vals e lv go = no e
 
   -- a branch to a label that the operands reach
-  sound_reach : {ks : List Label} {labels : List Types} {us : Operands} {tail : List Instr} → Tail m ls rs ks labels us tail → (os ts : Operands) (l : ℕ) → Reaches labels l os → (before vals : List ConstValue) (rest : List Instr) → HaveTypes vals (os ++ ts) → Sound m (branch (conf ks before rest) l vals)
+  sound_reach : {ks : List Label} {labels : List Types} {us : Operands} {tail : List Instr} → Tail m ls rs ks labels us tail → (os ts : Operands) (l : ℕ) → Reaches labels l os → (before vals : List ConstValue) (rest : List Instr) → HaveTypes vals (os ++ ts) → Sound m (branch
+      (conf ks before rest) l vals)
   sound_reach {ks = ks} {labels = labels} tl os ts l r before vals rest lv =
       sound_branch ks labels before vals rest ts r.wanted l (have_matched ts r.matched lv) (target m ls rs tl l r.found)
 
@@ -377,11 +389,11 @@ module _ (m : Parts) (valid : IsValid m) (g : Bool) (store : Store) (gl : HaveTy
       choose zero q h = on (known r.wanted ++ ts) q (have_matched ts r.matched h) (goes t tl)
       choose (suc x) q h = sound_reach tl os ts l r (I32 (suc x) ∷ q) q (BrIf l ∷ (rest ++ tail)) h
   sound_code {ks = ks} {labels = labels} {tail = tail} (br_table os ts {ls = js} {l = l} {rest = rest} k rl r t) tl vals lv =
-      popped_test (λ v. Sound m (step m g (conf ks v (BrTable js l ∷ (rest ++ tail))))) k lv (λ x q h. choose x (slice_get js x) refl q h)
+      popped_test (λ v. Sound m (step m g (conf ks v (BrTable l js ∷ (rest ++ tail))))) k lv (λ x q h. choose x (slice_get js x) refl q h)
     where
-      choose : (x : ℕ) (o : Option ℕ) → slice_get js x ≡ o → (q : List ConstValue) → HaveTypes q (os ++ ts) → Sound m (branch (conf ks (I32 x ∷ q) (BrTable js l ∷ (rest ++ tail))) (unwrap_or o l) q)
-      choose x None e q h = sound_reach tl os ts l r (I32 x ∷ q) q (BrTable js l ∷ (rest ++ tail)) h
-      choose x (Some j) e q h = sound_reach tl os ts j (rl x j e) (I32 x ∷ q) q (BrTable js l ∷ (rest ++ tail)) h
+      choose : (x : ℕ) (o : Option ℕ) → slice_get js x ≡ o → (q : List ConstValue) → HaveTypes q (os ++ ts) → Sound m (branch (conf ks (I32 x ∷ q) (BrTable l js ∷ (rest ++ tail))) (unwrap_or o l) q)
+      choose x None e q h = sound_reach tl os ts l r (I32 x ∷ q) q (BrTable l js ∷ (rest ++ tail)) h
+      choose x (Some j) e q h = sound_reach tl os ts j (rl x j e) (I32 x ∷ q) q (BrTable l js ∷ (rest ++ tail)) h
   sound_code {ks = ks} {tail = tail} (return os ts {rest = rest} ma t) tl vals lv = sound_out ks vals vals (Return ∷ (rest ++ tail)) ts (have_matched ts ma lv)
 
 -- in a valid module a run that has not ended has a step, whether a grow is granted or not, and it leads on to such a state

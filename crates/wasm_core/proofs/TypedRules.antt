@@ -19,7 +19,8 @@ module _ {m : Parts} {ls rs : Types} {labels : List Types} {us : Operands} where
   pub t_one_arm : {ts : Operands} {body rest : List Instr} → Typed m ls rs ([] ∷ labels) [] body [] → Typed m ls rs labels ts rest us → Typed m ls rs labels (Of I32 ∷ ts) (If Empty ∷ (body ++ End ∷ rest)) us
   t_one_arm b t = one_arm (match_same match_none) b t
 
-  pub t_two_arms : {ts : Operands} {b : BlockType} {first second rest : List Instr} → Typed m ls rs (left_by b ∷ labels) [] first (known (left_by b)) → Typed m ls rs (left_by b ∷ labels) [] second (known (left_by b)) → Typed m ls rs labels (known (left_by b) ++ ts) rest us → Typed m ls rs labels (Of I32 ∷ ts) (If b ∷ (first ++ Else ∷ (second ++ End ∷ rest))) us
+  pub t_two_arms : {ts : Operands} {b : BlockType} {first second rest : List Instr} → Typed m ls rs (left_by b ∷ labels) [] first (known (left_by b)) → Typed m ls rs (left_by b ∷ labels) [] second (known (left_by b)) → Typed m ls rs labels (known (left_by b) ++
+      ts) rest us → Typed m ls rs labels (Of I32 ∷ ts) (If b ∷ (first ++ Else ∷ (second ++ End ∷ rest))) us
   t_two_arms {b = b} f s t = two_arms (match_same match_none) f (match_known (left_by b)) s (match_known (left_by b)) t
 
 -- a body that leaves the results

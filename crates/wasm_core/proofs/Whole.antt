@@ -77,7 +77,7 @@ instr_longer instructions.Else w = omega arith
 instr_longer instructions.End w = omega arith
 instr_longer (instructions.Br n) w = let h = u32_longer n w in omega (arith, h)
 instr_longer (instructions.BrIf n) w = let h = u32_longer n w in omega (arith, h)
-instr_longer (instructions.BrTable ls l) w = let h = u32_longer l w in let g = list_longer ls (put_u32 l w) in omega (arith, h, g)
+instr_longer (instructions.BrTable l ls) w = let h = u32_longer l w in let g = list_longer ls (put_u32 l w) in omega (arith, h, g)
 instr_longer instructions.Return w = omega arith
 instr_longer (instructions.Call n) w = let h = u32_longer n w in omega (arith, h)
 instr_longer (instructions.CallIndirect index table) w = let h = u32_longer table w in let g = u32_longer index (put_u32 table w) in omega (arith, h, g)
@@ -161,7 +161,8 @@ bodies_printed ws m funcs bs e l a k w h =
 abbrev Later : Parts → Parts → ℕ → ℕ → List ℕ → Type 0
 Later x m hi n w = (f last : ℕ) → n ≤ f → last < hi → Spells (sections f last m) w [] x
 
-section_printed : (x m m1 : Parts) (which : Section) (id f last : ℕ) (part w : List ℕ) → section_id last id ≡ Some which → IsU32 (length part) → ((k : Parts → Spelling) → Spells (k m1) [] (w ∷ []) x → Spells (contents which m k) part (w ∷ []) x) → Spells (sections f (last_after last id) m1) w [] x → Spells (sections (suc f) last m) (id ∷ put_sized part w) [] x
+section_printed : (x m m1 : Parts) (which : Section) (id f last : ℕ) (part w : List ℕ) → section_id last id ≡ Some which → IsU32 (length part) → ((k : Parts → Spelling) → Spells (k m1) [] (w ∷ []) x → Spells (contents which m k) part (w ∷ []) x) → Spells (sections f
+    (last_after last id) m1) w [] x → Spells (sections (suc f) last m) (id ∷ put_sized part w) [] x
 unfolding sections next_section section
 section_printed x m m1 which id f last part w e l c h =
     let inside : Spells (section which m (λ m'. sections f (last_after last id) m')) (put_sized part w) [] x =
@@ -186,13 +187,15 @@ later_id last id which l e = subst (λ (b : Bool). (if b then find id sections_b
 last_is : (last id : ℕ) → last < id → last_after last id ≡ id
 last_is last id l = ap (λ (b : Bool). if b then last else id) (ne_eqb id 0 (λ e. omega arith))
 
-more_printed : (x m m1 : Parts) (which : Section) (id hi n : ℕ) (part w : List ℕ) → find id sections_by_id ≡ Some which → hi ≤ id → IsU32 (length part) → ((k : Parts → Spelling) → Spells (k m1) [] (w ∷ []) x → Spells (contents which m k) part (w ∷ []) x) → Later x m1 (id + 1) n w → (f last : ℕ) → n + 1 ≤ f → last < hi → Spells (sections f last m) (id ∷ put_sized part w) [] x
+more_printed : (x m m1 : Parts) (which : Section) (id hi n : ℕ) (part w : List ℕ) → find id sections_by_id ≡ Some which → hi ≤ id → IsU32 (length part) → ((k : Parts → Spelling) → Spells (k m1) [] (w ∷ []) x → Spells (contents which m k) part (w ∷ []) x) → Later x m1 (id +
+    1) n w → (f last : ℕ) → n + 1 ≤ f → last < hi → Spells (sections f last m) (id ∷ put_sized part w) [] x
 more_printed x m m1 which id hi n part w e g l c later zero last a b = absurd (omega (arith, a))
 more_printed x m m1 which id hi n part w e g l c later (suc f) last a b =
     let s : section_id last id ≡ Some which = later_id last id which (omega (arith, b, g)) e in
     section_printed x m m1 which id f last part w s l c (subst (λ i. Spells (sections f i m1) w [] x) (sym (last_is last id (omega (arith, b, g)))) (later f id (omega (arith, a)) (omega arith)))
 
-step_printed : {A : Type 0} (x m m1 : Parts) (which : Section) (id hi n : ℕ) (put : A → List ℕ → List ℕ) (xs : List A) (w : List ℕ) → find id sections_by_id ≡ Some which → hi ≤ id → IsU32 (length (put_list put xs [])) → (xs ≡ [] → m1 ≡ m) → ((k : Parts → Spelling) → Spells (k m1) [] (w ∷ []) x → Spells (contents which m k) (put_list put xs []) (w ∷ []) x) → Later x m1 (id + 1) n w → Later x m hi (n + 1) (put_section id put xs w)
+step_printed : {A : Type 0} (x m m1 : Parts) (which : Section) (id hi n : ℕ) (put : A → List ℕ → List ℕ) (xs : List A) (w : List ℕ) → find id sections_by_id ≡ Some which → hi ≤ id → IsU32 (length (put_list put xs [])) → (xs ≡ [] → m1 ≡ m) → ((k : Parts → Spelling) → Spells (k m1)
+    [] (w ∷ []) x → Spells (contents which m k) (put_list put xs []) (w ∷ []) x) → Later x m1 (id + 1) n w → Later x m hi (n + 1) (put_section id put xs w)
 unfolding put_section
 step_printed x m m1 which id hi n put [] w e g s none c later = λ f last a b. subst (λ m. Spells (sections f last m) w [] x) (none refl) (later f last (omega (arith, a)) (omega (arith, b, g)))
 step_printed x m m1 which id hi n put (y ∷ ys) w e g s none c later = more_printed x m m1 which id hi n (put_list put (y ∷ ys) []) w e g s c later
@@ -246,14 +249,22 @@ sections_printed x i l1 =
     let l8 : IsU32 (length w8) = rest_small 9 put_segment x.elements w8 l7 in
     let sN : IsU32 (length (put_list put_body x.bodies [])) = part_small 10 put_body x.bodies [] l8 in
     let tN : IsU32 (length (put_all put_body x.bodies [])) = (let a = u32_longer (length x.bodies) (put_all put_body x.bodies []) in omega (arith, a, sN)) in
-    let g8 : Later x m7 10 1 w8 = step_printed x m7 x sec.Codes 10 10 0 put_body x.bodies [] refl (omega arith) sN (λ e. rw e refl) (λ k h. bodies_printed ([] ∷ []) x (length x.funcs) x.bodies (sym i.whole) i.bodies.0 (bodies_sized x.bodies [] i.bodies.1 tN) (λ bs. k (record m7 { bodies = bs })) [] h) (λ f last a b. whole_at x f last i.whole) in
-    let g7 : Later x m6 9 2 w7 = step_printed x m6 m7 sec.Elements 9 9 1 put_segment x.elements w8 refl (omega arith) (part_small 9 put_segment x.elements w8 l7) (λ e. rw e refl) (λ k h. list_printed (w8 ∷ []) x IsSegment segment put_segment (λ e p. segment_printed (w8 ∷ []) x e p) x.elements i.elements (λ es. k (record m6 { elements = es })) [] h) (lower x m7 10 10 1 w8 (omega arith) g8) in
-    let g6 : Later x m5 7 3 w6 = step_printed x m5 m6 sec.Exports 7 7 2 put_export x.exports w7 refl (omega arith) (part_small 7 put_export x.exports w7 l6) (λ e. rw e refl) (λ k h. list_printed (w7 ∷ []) x IsExport exported put_export (λ e p. exported_printed (w7 ∷ []) x e p) x.exports i.exports (λ es. k (record m5 { exports = es })) [] h) (lower x m6 8 9 2 w7 (omega arith) g7) in
-    let g5 : Later x m4 6 4 w5 = step_printed x m4 m5 sec.Globals 6 6 3 put_global x.globals w6 refl (omega arith) (part_small 6 put_global x.globals w6 l5) (λ e. rw e refl) (λ k h. list_printed (w6 ∷ []) x IsGlobal global put_global (λ g p. global_printed (w6 ∷ []) x g p) x.globals i.globals (λ es. k (record m4 { globals = es })) [] h) (lower x m5 7 7 3 w6 (omega arith) g6) in
-    let g4 : Later x m3 5 5 w4 = step_printed x m3 m4 sec.Memories 5 5 4 put_limits (sizes x.memory) w5 refl (omega arith) (part_small 5 put_limits (sizes x.memory) w5 l4) (λ e. ap (λ (o : Option Limits). record m3 { memory = o }) (no_memory x.memory e)) (λ k h. memory_printed (w5 ∷ []) x x.memory i.memory (λ l. k (record m3 { memory = l })) [] h) (lower x m4 6 6 4 w5 (omega arith) g5) in
-    let g3 : Later x m2 4 6 w3 = step_printed x m2 m3 sec.Tables 4 4 5 put_table_type (sizes x.table) w4 refl (omega arith) (part_small 4 put_table_type (sizes x.table) w4 l3) (λ e. ap (λ (o : Option Limits). record m2 { table = o }) (no_memory x.table e)) (λ k h. table_printed (w4 ∷ []) x x.table i.table (λ l. k (record m2 { table = l })) [] h) (lower x m3 5 5 5 w4 (omega arith) g4) in
-    let g2 : Later x m1 3 7 w2 = step_printed x m1 m2 sec.Functions 3 3 6 put_u32 x.funcs w3 refl (omega arith) (part_small 3 put_u32 x.funcs w3 l2) (λ e. rw e refl) (λ k h. list_printed (w3 ∷ []) x IsU32 u32 put_u32 (λ n p k w h. u32_printed (w3 ∷ []) x k n w p h) x.funcs i.funcs (λ es. k (record m1 { funcs = es })) [] h) (lower x m2 4 4 6 w3 (omega arith) g3) in
-    step_printed x empty m1 sec.Types 1 1 7 put_func_type x.types w2 refl (omega arith) (part_small 1 put_func_type x.types w2 l1) (λ e. rw e refl) (λ k h. list_printed (w2 ∷ []) x IsFuncType func_type put_func_type (λ t p. func_type_printed (w2 ∷ []) x t p) x.types i.types (λ es. k (record empty { types = es })) [] h) (lower x m1 2 3 7 w2 (omega arith) g2)
+    let g8 : Later x m7 10 1 w8 = step_printed x m7 x sec.Codes 10 10 0 put_body x.bodies [] refl (omega arith) sN (λ e. rw e refl) (λ k h. bodies_printed ([] ∷ []) x (length x.funcs) x.bodies (sym i.whole) i.bodies.0 (bodies_sized x.bodies [] i.bodies.1 tN)
+    (λ bs. k (record m7 { bodies = bs })) [] h) (λ f last a b. whole_at x f last i.whole) in
+    let g7 : Later x m6 9 2 w7 = step_printed x m6 m7 sec.Elements 9 9 1 put_segment x.elements w8 refl (omega arith) (part_small 9 put_segment x.elements w8 l7) (λ e. rw e refl) (λ k h. list_printed (w8 ∷ []) x IsSegment segment put_segment
+    (λ e p. segment_printed (w8 ∷ []) x e p) x.elements i.elements (λ es. k (record m6 { elements = es })) [] h) (lower x m7 10 10 1 w8 (omega arith) g8) in
+    let g6 : Later x m5 7 3 w6 = step_printed x m5 m6 sec.Exports 7 7 2 put_export x.exports w7 refl (omega arith) (part_small 7 put_export x.exports w7 l6) (λ e. rw e refl) (λ k h. list_printed (w7 ∷ []) x IsExport exported put_export (λ e p. exported_printed (w7 ∷ []) x e p)
+    x.exports i.exports (λ es. k (record m5 { exports = es })) [] h) (lower x m6 8 9 2 w7 (omega arith) g7) in
+    let g5 : Later x m4 6 4 w5 = step_printed x m4 m5 sec.Globals 6 6 3 put_global x.globals w6 refl (omega arith) (part_small 6 put_global x.globals w6 l5) (λ e. rw e refl) (λ k h. list_printed (w6 ∷ []) x IsGlobal global put_global (λ g p. global_printed (w6 ∷ []) x g p)
+    x.globals i.globals (λ es. k (record m4 { globals = es })) [] h) (lower x m5 7 7 3 w6 (omega arith) g6) in
+    let g4 : Later x m3 5 5 w4 = step_printed x m3 m4 sec.Memories 5 5 4 put_limits (sizes x.memory) w5 refl (omega arith) (part_small 5 put_limits (sizes x.memory) w5 l4) (λ e. ap (λ (o : Option Limits). record m3 { memory = o }) (no_memory x.memory e)) (λ k h. memory_printed
+    (w5 ∷ []) x x.memory i.memory (λ l. k (record m3 { memory = l })) [] h) (lower x m4 6 6 4 w5 (omega arith) g5) in
+    let g3 : Later x m2 4 6 w3 = step_printed x m2 m3 sec.Tables 4 4 5 put_table_type (sizes x.table) w4 refl (omega arith) (part_small 4 put_table_type (sizes x.table) w4 l3) (λ e. ap (λ (o : Option Limits). record m2 { table = o }) (no_memory x.table e)) (λ k h. table_printed
+    (w4 ∷ []) x x.table i.table (λ l. k (record m2 { table = l })) [] h) (lower x m3 5 5 5 w4 (omega arith) g4) in
+    let g2 : Later x m1 3 7 w2 = step_printed x m1 m2 sec.Functions 3 3 6 put_u32 x.funcs w3 refl (omega arith) (part_small 3 put_u32 x.funcs w3 l2) (λ e. rw e refl) (λ k h. list_printed (w3 ∷ []) x IsU32 u32 put_u32 (λ n p k w h. u32_printed (w3 ∷ []) x k n w p h) x.funcs
+    i.funcs (λ es. k (record m1 { funcs = es })) [] h) (lower x m2 4 4 6 w3 (omega arith) g3) in
+    step_printed x empty m1 sec.Types 1 1 7 put_func_type x.types w2 refl (omega arith) (part_small 1 put_func_type x.types w2 l1) (λ e. rw e refl) (λ k h. list_printed (w2 ∷ []) x IsFuncType func_type put_func_type (λ t p. func_type_printed (w2 ∷ []) x t p) x.types i.types
+    (λ es. k (record empty { types = es })) [] h) (lower x m1 2 3 7 w2 (omega arith) g2)
 
 pub printed : (x : Parts) → IsModule x → IsU32 (length (module_bytes x)) → SpellsModule (module_bytes x) x
 unfolding module_bytes file

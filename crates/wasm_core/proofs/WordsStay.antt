@@ -155,7 +155,8 @@ module _ (m : Parts) (hm : HasWords m) (g : Bool) where
       (λ t. record {
         store = h.store;
         current = record {
-          locals = each_append IsWord (reverse (take (length k.type.params) vals)) (map zero_of k.body.locals) (each_reverse IsWord (take (length k.type.params) vals) (each_take IsWord (length k.type.params) vals v)) (each_map IsWord zero_of k.body.locals (each_all (λ t. IsWord (zero_of t)) zero_word k.body.locals));
+          locals = each_append IsWord (reverse (take (length k.type.params) vals)) (map zero_of k.body.locals) (each_reverse IsWord (take (length k.type.params) vals) (each_take IsWord (length k.type.params) vals v)) (each_map IsWord zero_of k.body.locals
+              (each_all (λ t. IsWord (zero_of t)) zero_word k.body.locals));
           labels = tt;
           operands = tt;
           rest = hm.bodies f k.body (body_of m f k e);
@@ -223,7 +224,7 @@ module _ (m : Parts) (hm : HasWords m) (g : Bool) where
   acts (BrIf l) rest c h p r =
       g_i32 IsWordy c.current.operands (λ x operands. unless_zero x (branch c l operands) (going_on c operands rest)) h.current.operands
       (λ x vals q v. zero_or x (branch c l vals) (going_on c vals rest) (branches c h l vals v) (goes_on c h vals rest v r))
-  acts (BrTable ls l) rest c h p r =
+  acts (BrTable l ls) rest c h p r =
       g_i32 IsWordy c.current.operands (λ x operands. branch c (unwrap_or (slice_get ls x) l) operands) h.current.operands (λ x vals q v. branches c h (unwrap_or (slice_get ls x) l) vals v)
   acts Return rest c h p r = leaves c h c.current.operands h.current.operands
   acts (Call f) rest c h p r = g_some IsWordy (func_of m f) (λ k. call c k c.current.operands rest) (λ k e. calls c h f k e c.current.operands rest h.current.operands r)
@@ -296,7 +297,8 @@ start_words m hm f g e = record {
     globals = first_words m.globals hm.globals;
   };
   current = record {
-    locals = each_append IsWord (reverse (take (length g.type.params) [])) (map zero_of g.body.locals) (each_reverse IsWord (take (length g.type.params) []) (each_take IsWord (length g.type.params) [] tt)) (each_map IsWord zero_of g.body.locals (each_all (λ t. IsWord (zero_of t)) zero_word g.body.locals));
+    locals = each_append IsWord (reverse (take (length g.type.params) [])) (map zero_of g.body.locals) (each_reverse IsWord (take (length g.type.params) []) (each_take IsWord (length g.type.params) [] tt)) (each_map IsWord zero_of g.body.locals
+        (each_all (λ t. IsWord (zero_of t)) zero_word g.body.locals));
     labels = tt;
     operands = tt;
     rest = hm.bodies f g.body (body_of m f g e);

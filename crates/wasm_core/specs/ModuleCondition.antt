@@ -66,7 +66,7 @@ IsAccess a = IsU32 a.align × IsU32 a.offset
 abbrev pub IsInstr : Instr → Type 0
 IsInstr (instrs.Br n) = IsU32 n
 IsInstr (instrs.BrIf n) = IsU32 n
-IsInstr (instrs.BrTable ls l) = IsVector IsU32 ls × IsU32 l
+IsInstr (instrs.BrTable l ls) = IsVector IsU32 ls × IsU32 l
 IsInstr (instrs.Call n) = IsU32 n
 IsInstr (instrs.CallIndirect index table) = IsU32 index × IsU32 table
 IsInstr (instrs.LocalGet n) = IsU32 n

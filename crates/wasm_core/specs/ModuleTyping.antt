@@ -132,7 +132,7 @@ pub data Typed (m : Parts) (locals results : Types) : List Types → Operands �
   two_arms : {labels : List Types} {o : OperandType} {ts first_ends second_ends us : Operands} {b : BlockType} {first second rest : List Instr} → Match (o ∷ []) (I32 ∷ []) → Typed m locals results (left_by b ∷ labels) [] first first_ends → Match first_ends (left_by b) → Typed m locals results (left_by b ∷ labels) [] second second_ends → Match second_ends (left_by b) → Typed m locals results labels (known (left_by b) ++ ts) rest us → Typed m locals results labels (o ∷ ts) (If b ∷ (first ++ Else ∷ (second ++ End ∷ rest))) us
   br : {labels : List Types} {any us : Operands} (os ts : Operands) {l : ℕ} {rest : List Instr} → Reaches labels l os → Typed m locals results labels any rest us → Typed m locals results labels (os ++ ts) (Br l ∷ rest) us
   br_if : {labels : List Types} {o : OperandType} {us : Operands} (os ts : Operands) {l : ℕ} {rest : List Instr} → Match (o ∷ []) (I32 ∷ []) → (r : Reaches labels l os) → Typed m locals results labels (known r.wanted ++ ts) rest us → Typed m locals results labels (o ∷ (os ++ ts)) (BrIf l ∷ rest) us
-  br_table : {labels : List Types} {o : OperandType} {any us : Operands} (os ts : Operands) {ls : List ℕ} {l : ℕ} {rest : List Instr} → Match (o ∷ []) (I32 ∷ []) → ((i k : ℕ) → slice_get ls i ≡ Some k → Reaches labels k os) → Reaches labels l os → Typed m locals results labels any rest us → Typed m locals results labels (o ∷ (os ++ ts)) (BrTable ls l ∷ rest) us
+  br_table : {labels : List Types} {o : OperandType} {any us : Operands} (os ts : Operands) {ls : List ℕ} {l : ℕ} {rest : List Instr} → Match (o ∷ []) (I32 ∷ []) → ((i k : ℕ) → slice_get ls i ≡ Some k → Reaches labels k os) → Reaches labels l os → Typed m locals results labels any rest us → Typed m locals results labels (o ∷ (os ++ ts)) (BrTable l ls ∷ rest) us
   return : {labels : List Types} {any us : Operands} (os ts : Operands) {rest : List Instr} → Match os results → Typed m locals results labels any rest us → Typed m locals results labels (os ++ ts) (Return ∷ rest) us
 
 -- a body: instructions that lead from no operands to the results, where a branch out of the body takes the results along, and its own end

@@ -117,7 +117,7 @@ check m ls rs End a = check_end rs a.now a.ctls
 check m ls rs (Br l) a = on_some (slice_get (labels_of rs a.ctls) l) (λ lt. on_some (off lt a.now) (λ k. Some (dead a)))
 check m ls rs (BrIf l) a =
     on_some (slice_get (labels_of rs a.ctls) l) (λ lt. on_some (off (I32 ∷ []) a.now) (λ k. on_some (off lt k) (λ j. Some (More (record a { now = put_on lt j })))))
-check m ls rs (BrTable js l) a =
+check m ls rs (BrTable l js) a =
     on_some (slice_get (labels_of rs a.ctls) l) (λ lt. on_some (off (I32 ∷ []) a.now) (λ k. on_some (off lt k) (λ j. only (fit_labels (labels_of rs a.ctls) (length lt) k js) (Some (dead a)))))
 check m ls rs Return a = on_some (off rs a.now) (λ k. Some (dead a))
 check m ls rs i a = on_some (effect m ls i) (λ e. on_some (off e.0 a.now) (λ k. Some (More (record a { now = put_on e.1 k }))))

@@ -2,7 +2,7 @@
 
 ghost use Rattle.std.specs.Prelude.{◌≡◌};
 
-use crate::numbers::Numbers;
+use crate::numbers::Labels;
 use crate::types::{ValType, ValTypes};
 use std::marker::Model;
 
@@ -46,7 +46,8 @@ pub enum I32Op {
 }
 
 /// An instruction, under the standard's name. Indices count from 0 in the module's order. A constant keeps its bits.
-/// `BrTable` has the labels for the indices from 0 up, and then the one for all others; `CallIndirect` a type index and then a table index.
+/// `BrTable` has the labels for the indices from 0 up, and before them the one for all others, since fields lie in memory in the order of the
+/// source; `CallIndirect` has a type index and then a table index.
 #[derive(Drop)]
 pub enum Instr {
     Unreachable,
@@ -58,7 +59,7 @@ pub enum Instr {
     End,
     Br(u32),
     BrIf(u32),
-    BrTable(Numbers, u32),
+    BrTable(u32, Labels),
     Return,
     Call(u32),
     CallIndirect(u32, u32),

@@ -11,7 +11,7 @@ use crate::declarations::indices;
 use crate::items::{byte, finish, part, s32, s64, take, take_number, u32};
 use crate::types::{block_type, val_type};
 use std::alloc::{AllocError, Global};
-use wasm_core::{Access, Body, DecodeFault, I32Op, Instr, Instrs, Numbers, ValType, ValTypes};
+use wasm_core::{Access, Body, DecodeFault, I32Op, Instr, Instrs, Labels, ValType, ValTypes};
 
 /// How an instruction accesses memory.
 #[tactic(auto, unfolding(wasm_core::specs::ModuleGrammar::access))]
@@ -71,7 +71,7 @@ fn instr(alloc: Global, c: &mut Cursor, may_else: bool) -> Result<Instr, DecodeF
         0x0E => {
             let labels = indices(alloc, c)?;
             let otherwise = u32(c)?;
-            Ok(Instr::BrTable(Numbers::of(labels), otherwise))
+            Ok(Instr::BrTable(otherwise, Labels::of(alloc, labels)?))
         }
         0x0F => Ok(Instr::Return),
         0x10 => Ok(Instr::Call(u32(c)?)),
@@ -135,6 +135,7 @@ fn locals(alloc: Global, c: &mut Cursor) -> Result<Vec<ValType>, DecodeFault>
         push_all(&mut found, count, t)?;
         left -= 1;
     }
+    found.shrink_to_fit();
     Ok(found)
 }
 
@@ -176,6 +177,7 @@ fn instrs(alloc: Global, c: &mut Cursor) -> Result<Vec<Instr>, DecodeFault>
         follow(&mut opens, may_else, &i)?;
         code.push(i)?;
     }
+    code.shrink_to_fit();
     Ok(code)
 }
 
@@ -210,5 +212,6 @@ pub fn bodies(alloc: Global, c: &mut Cursor, funcs: usize) -> Result<Vec<Body>, 
         found.push(one)?;
         left -= 1;
     }
+    found.shrink_to_fit();
     Ok(found)
 }

@@ -25,6 +25,7 @@ pub fn func_types(alloc: Global, c: &mut Cursor) -> Result<Vec<FuncType>, Decode
         found.push(one)?;
         left -= 1;
     }
+    found.shrink_to_fit();
     Ok(found)
 }
 
@@ -40,6 +41,7 @@ pub fn indices(alloc: Global, c: &mut Cursor) -> Result<Vec<u32>, DecodeFault>
         found.push(one)?;
         left -= 1;
     }
+    found.shrink_to_fit();
     Ok(found)
 }
 
@@ -132,6 +134,7 @@ pub fn globals(alloc: Global, c: &mut Cursor) -> Result<Vec<GlobalDef>, DecodeFa
         found.push(one)?;
         left -= 1;
     }
+    found.shrink_to_fit();
     Ok(found)
 }
 
@@ -177,6 +180,7 @@ pub fn exports(alloc: Global, c: &mut Cursor) -> Result<Vec<Export>, DecodeFault
         found.push(one)?;
         left -= 1;
     }
+    found.shrink_to_fit();
     Ok(found)
 }
 
@@ -211,5 +215,6 @@ pub fn segments(alloc: Global, c: &mut Cursor) -> Result<Vec<Segment>, DecodeFau
         found.push(one)?;
         left -= 1;
     }
+    found.shrink_to_fit();
     Ok(found)
 }

@@ -48,6 +48,7 @@ fn val_types(alloc: Global, c: &mut Cursor) -> Result<Vec<ValType>, DecodeFault>
         found.push(one)?;
         left -= 1;
     }
+    found.shrink_to_fit();
     Ok(found)
 }
 

@@ -211,7 +211,7 @@ module _ (m : Parts) (funcs : (f : ℕ) (g : Func) → func_of m f ≡ Some g �
     honest_act (Loop t) vals rest all n w = absurd n
     honest_act (Br x) vals rest all n w = absurd n
     honest_act (BrIf x) vals rest all n w = absurd n
-    honest_act (BrTable xs x) vals rest all n w = absurd n
+    honest_act (BrTable x xs) vals rest all n w = absurd n
     honest_act Return vals rest all n w = absurd n
     honest_act Drop vals rest all n w = absurd n
     honest_act (I32Load8U a) vals rest all n w = absurd n

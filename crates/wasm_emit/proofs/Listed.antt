@@ -59,7 +59,8 @@ module _ (Q : Lifted) (slice : List LiftedConstant) (k : ℕ) (c : LiftedConstan
   next_constant : constants_in Q (drop k Q.constants) ≡ renumber (place_in Q.constants) c.body ∷ constants_in Q (drop (k + 1) Q.constants)
   next_constant = ap (λ (cs : List LiftedConstant). constants_in Q cs) (constant_next slice Q.constants k c same lt is)
 
-  pub constants_more : (a : Body) (v w out : List Body) → a ≡ constant (lifted_of Q) (renumber (place_in Q.constants) c.body) → w ≡ v ++ a ∷ [] → v ++ map (constant (lifted_of Q)) (constants_in Q (drop k Q.constants)) ≡ out → w ++ map (constant (lifted_of Q)) (constants_in Q (drop (k + 1) Q.constants)) ≡ out
+  pub constants_more : (a : Body) (v w out : List Body) → a ≡ constant (lifted_of Q) (renumber (place_in Q.constants) c.body) → w ≡ v ++ a ∷ [] → v ++ map (constant (lifted_of Q)) (constants_in Q (drop k Q.constants)) ≡ out → w ++ map (constant (lifted_of Q)) (constants_in Q
+      (drop (k + 1) Q.constants)) ≡ out
   constants_more a v w out e more inv =
       one_more v w a (constant (lifted_of Q) (renumber (place_in Q.constants) c.body)) (map (constant (lifted_of Q)) (constants_in Q (drop (k + 1) Q.constants))) out more e
       (sym (ap (λ (ts : List Block). v ++ map (constant (lifted_of Q)) ts) next_constant) ∙ inv)

@@ -25,7 +25,8 @@ pub ends_step : (n k : ℕ) (rest : List Instr) → k < n → ends (n - k) rest 
 ends_step n k rest h = let e : n - k ≡ suc (n - (k + 1)) = omega arith in ap (λ (j : ℕ). ends j rest) e
 
 -- a binding of a block, and its end
-pub code_step : (P : Program) (f : ℕ → ℕ) (env : List Place) (d : ℕ) (x : Bound) (xs : List Bound) (t : Block) (rest : List Instr) → code P env d (renumber f (lets_of (x ∷ xs) t)) rest ≡ bound_code P env d (renumber_bound f x) (LocalSet d ∷ code P (InLocal d ∷ env) (suc d) (renumber f (lets_of xs t)) rest)
+pub code_step : (P : Program) (f : ℕ → ℕ) (env : List Place) (d : ℕ) (x : Bound) (xs : List Bound) (t : Block) (rest : List Instr) → code P env d (renumber f (lets_of (x ∷ xs) t)) rest ≡ bound_code P env d (renumber_bound f x) (LocalSet d ∷ code P (InLocal d ∷ env) (suc d)
+    (renumber f (lets_of xs t)) rest)
 code_step P f env d (AtomBound a) xs t rest = refl
 code_step P f env d (OpBound x) xs t rest = refl
 

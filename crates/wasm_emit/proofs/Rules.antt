@@ -149,7 +149,8 @@ module _ (M : Parts) (cap : Limits) (Q : State → Type 0) where
     r_call_0 n {x} {code} deep e k = rule.r_call M cap.frames Q E {x = x} {h = func type_constant n code} deep e (omega arith) k
 
     -- a function without parameters and result is called, and returns
-    pub r_call_nothing : (n : ℕ) {x : ℕ} {code : List Instr} → length f.callers ≤ cap.frames → func_of M x ≡ Some (func type_main n code) → Within M cap Q l u (here cap (quiet (callee f ls vals rest)) m p h (zeros n) [] code) → Within M cap Q (suc l) (suc u) (here cap f m p h ls vals (Call x ∷ rest))
+    pub r_call_nothing : (n : ℕ) {x : ℕ} {code : List Instr} → length f.callers ≤ cap.frames → func_of M x ≡ Some (func type_main n code) → Within M cap Q l u (here cap (quiet (callee f ls vals rest)) m p h (zeros n) [] code) → Within M cap Q (suc l) (suc u) (here cap f m p h ls
+        vals (Call x ∷ rest))
     r_call_nothing n {x} {code} deep e k = rule.r_call M cap.frames Q E {x = x} {h = func type_main n code} deep e (omega arith) k
 
     pub r_back_nothing : {ls' vals' : List ConstValue} {rest' : List Instr} → suc (length f.callers) ≤ cap.frames → Within M cap Q l u (here cap f m p h ls vals rest) → Within M cap Q (suc l) (suc u) (here cap (quiet (callee f ls vals rest)) m p h ls' vals' (End ∷ rest'))

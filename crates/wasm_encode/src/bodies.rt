@@ -95,7 +95,7 @@ fn put_instr(out: &mut Vec<u8>, i: &Instr) -> Result<(), AllocError>
         Instr::End => put(out, 0x0B),
         Instr::Br(n) => put_indexed(out, 0x0C, *n),
         Instr::BrIf(n) => put_indexed(out, 0x0D, *n),
-        Instr::BrTable(labels, otherwise) => put_table(out, labels.as_slice(), *otherwise),
+        Instr::BrTable(otherwise, labels) => put_table(out, labels.as_slice(), *otherwise),
         Instr::Return => put(out, 0x0F),
         Instr::Call(n) => put_indexed(out, 0x10, *n),
         Instr::CallIndirect(ty, table) => {

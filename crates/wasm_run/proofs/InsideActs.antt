@@ -29,7 +29,8 @@ module _ (m : Parts) (g : Bool) (s : Store) (callers : List Frame) where
   set_at f h None e = no e
   set_at f h (Some v) e = some_at e
 
-  operation_at : (b : Bool) (op : I32Op) (rest : List Instr) (keeps : Bool) (locals : List ConstValue) (labels : List Label) (operands : List ConstValue) (code : List Instr) (h : Frame) → operating b op rest (record { keeps = keeps; locals = locals; labels = labels; operands = operands; rest = code }) ≡ Some h → operation b op rest (at (record { keeps = keeps; locals = locals; labels = labels; operands = operands; rest = code })) ≡ Some (At (at h))
+  operation_at : (b : Bool) (op : I32Op) (rest : List Instr) (keeps : Bool) (locals : List ConstValue) (labels : List Label) (operands : List ConstValue) (code : List Instr) (h : Frame) → operating b op rest (record
+      { keeps = keeps; locals = locals; labels = labels; operands = operands; rest = code }) ≡ Some h → operation b op rest (at (record { keeps = keeps; locals = locals; labels = labels; operands = operands; rest = code })) ≡ Some (At (at h))
   operation_at true op rest keeps locals labels [] code h e = no e
   operation_at true op rest keeps locals labels (I32 x ∷ r) code h e = some_at e
   operation_at true op rest keeps locals labels (I64 x ∷ r) code h e = no e
@@ -39,7 +40,8 @@ module _ (m : Parts) (g : Bool) (s : Store) (callers : List Frame) where
   operation_at false op rest keeps locals labels (I32 y ∷ I32 x ∷ r) code h e = some_at e
   operation_at false op rest keeps locals labels (I32 y ∷ I64 x ∷ r) code h e = no e
 
-  acts : (i : Instr) (rest : List Instr) (keeps : Bool) (locals : List ConstValue) (labels : List Label) (operands : List ConstValue) (code : List Instr) (h : Frame) → inside i rest (record { keeps = keeps; locals = locals; labels = labels; operands = operands; rest = code }) ≡ Some h → act m g i rest (at (record { keeps = keeps; locals = locals; labels = labels; operands = operands; rest = code })) ≡ Some (At (at h))
+  acts : (i : Instr) (rest : List Instr) (keeps : Bool) (locals : List ConstValue) (labels : List Label) (operands : List ConstValue) (code : List Instr) (h : Frame) → inside i rest (record
+      { keeps = keeps; locals = locals; labels = labels; operands = operands; rest = code }) ≡ Some h → act m g i rest (at (record { keeps = keeps; locals = locals; labels = labels; operands = operands; rest = code })) ≡ Some (At (at h))
   acts Nop rest keeps locals labels operands code h e = some_at e
   acts (Block t) rest keeps locals labels operands code h e = some_at e
   acts (Loop t) rest keeps locals labels operands code h e = some_at e

@@ -95,7 +95,8 @@ abbrev pub Unwound : Bool → ℕ → ℕ → List ConstValue → List ConstValu
 Unwound false h low s t = t ≡ below low s
 Unwound true h low s t = (x : ConstValue) × (r : List ConstValue) × (s ≡ x ∷ r) × (t ≡ x ∷ below low s) × (h ≤ length r)
 
-keep_view : (func : ℕ) (result : Bool) (at : ℕ) (locals : List ConstValue) (c : Control) (cs ds : List Control) (s t : List ConstValue) (keeps : Bool) → height_of ds ≤ length s → c.height ≤ length s → height_of cs ≤ c.height → Unwound keeps (height_of ds) c.height s t → keeping keeps (above (height_of ds) s) (λ top. Some (record { func = func; keeps = result; at = at; locals = locals; vals = top ++ above (height_of cs) (below c.height s); labels = opens cs (below c.height s) })) ≡ Some (shape func result at locals cs t)
+keep_view : (func : ℕ) (result : Bool) (at : ℕ) (locals : List ConstValue) (c : Control) (cs ds : List Control) (s t : List ConstValue) (keeps : Bool) → height_of ds ≤ length s → c.height ≤ length s → height_of cs ≤ c.height → Unwound keeps (height_of
+    ds) c.height s t → keeping keeps (above (height_of ds) s) (λ top. Some (record { func = func; keeps = result; at = at; locals = locals; vals = top ++ above (height_of cs) (below c.height s); labels = opens cs (below c.height s) })) ≡ Some (shape func result at locals cs t)
 keep_view func result at locals c cs ds s t false le lt ld u = rw u refl
 keep_view func result at locals c cs ds s t true le lt ld (x, r, e, et, h) =
     let v : above (height_of ds) s ≡ x ∷ above (height_of ds) r = ap (above (height_of ds)) e ∙ above-cons (height_of ds) x r h in
@@ -103,7 +104,8 @@ keep_view func result at locals c cs ds s t true le lt ld (x, r, e, et, h) =
     rw (v, et, above-cons (height_of cs) x (below c.height s) l, opens-cons cs x (below c.height s) l)
 
 -- a branch past some open blocks
-pub branch_view : (func : ℕ) (result : Bool) (at : ℕ) (locals : List ConstValue) (front : List Control) (c : Control) (cs : List Control) (s t : List ConstValue) → Fall (front ++ c ∷ cs) (length s) → Unwound c.keeps (height_of (front ++ c ∷ cs)) c.height s t → branched (length front) (shape func result at locals (front ++ c ∷ cs) s) ≡ Some (shape func result c.target locals cs t)
+pub branch_view : (func : ℕ) (result : Bool) (at : ℕ) (locals : List ConstValue) (front : List Control) (c : Control) (cs : List Control) (s t : List ConstValue) → Fall (front ++ c ∷ cs) (length s) → Unwound c.keeps (height_of (front ++ c ∷ cs)) c.height s t → branched (length
+    front) (shape func result at locals (front ++ c ∷ cs) s) ≡ Some (shape func result c.target locals cs t)
 unfolding open_of
 branch_view func result at locals front c cs s t f u =
     let r = opens-mid front c cs s f in
@@ -147,7 +149,8 @@ chosen all i n c l lt e =
     let w : n - 1 - i < length all = omega arith in
     let d : drop (n - 1 - i) all ≡ c ∷ drop (n - 1 - i + 1) all = drop_more all (n - 1 - i) c w ∙ ap (λ x. x ∷ drop (n - 1 - i + 1) all) (sym e) in
     record {
-      split = ap reverse (sym (take-append-drop (n - 1 - i) all) ∙ ap (λ r. take (n - 1 - i) all ++ r) d) ∙ reverse-append (take (n - 1 - i) all) (c ∷ drop (n - 1 - i + 1) all) ∙ ap (λ r. r ++ reverse (take (n - 1 - i) all)) (reverse_cons c (drop (n - 1 - i + 1) all)) ∙ append_assoc (reverse (drop (n - 1 - i + 1) all)) (c ∷ []) (reverse (take (n - 1 - i) all));
+      split = ap reverse (sym (take-append-drop (n - 1 - i) all) ∙ ap (λ r. take (n - 1 - i) all ++ r) d) ∙ reverse-append (take (n - 1 - i) all) (c ∷ drop (n - 1 - i + 1) all) ∙ ap (λ r. r ++ reverse (take (n - 1 - i) all)) (reverse_cons c
+          (drop (n - 1 - i + 1) all)) ∙ append_assoc (reverse (drop (n - 1 - i + 1) all)) (c ∷ []) (reverse (take (n - 1 - i) all));
       len = simp (length-reverse, length-drop) (omega arith);
     }
   where
@@ -182,7 +185,8 @@ unwound_le : (keeps : Bool) (h low : ℕ) (s t : List ConstValue) → low ≤ le
 unwound_le false h low s t le u = rw (u, length-below low s le) (omega arith)
 unwound_le true h low s t le (x, r, e, et, lt) = rw (et, length-below low s le) (omega arith)
 
-module _ (func : ℕ) (result : Bool) (at : ℕ) (locals : List ConstValue) (all : List Control) (s : List ConstValue) (i n : ℕ) (c : Control) (l : n ≡ length all) (fall : Fall (reverse all) (length s)) (some : is_some (branched i (shape func result at locals (reverse all) (reverse s))) ≡ true) (e : c ≡ get_or all (n - 1 - i) c) where
+module _ (func : ℕ) (result : Bool) (at : ℕ) (locals : List ConstValue) (all : List Control) (s : List ConstValue) (i n : ℕ) (c : Control) (l : n ≡ length all) (fall : Fall (reverse all) (length s)) (some : is_some
+    (branched i (shape func result at locals (reverse all) (reverse s))) ≡ true) (e : c ≡ get_or all (n - 1 - i) c) where
   low : List Control
   low = reverse (take (n - 1 - i) all)
 
@@ -213,12 +217,14 @@ module _ (func : ℕ) (result : Bool) (at : ℕ) (locals : List ConstValue) (all
       let m = fall-mid front c low (length (reverse s)) falls in
       (omega (arith, m.0, length-reverse s), λ k. omega (arith, high k, m.3))
 
-  pub branch_done : (t : List ConstValue) (down : List Control) → down ≡ take (n - 1 - i) all → reverse t ≡ kept c.keeps (reverse s) ++ below c.height (reverse s) → Fall (reverse down) (length t) × (branched i (shape func result at locals (reverse all) (reverse s)) ≡ Some (shape func result c.target locals (reverse down) (reverse t)))
+  pub branch_done : (t : List ConstValue) (down : List Control) → down ≡ take (n - 1 - i) all → reverse t ≡ kept c.keeps (reverse s) ++ below c.height (reverse s) → Fall (reverse down) (length t) × (branched i (shape func result at locals (reverse all) (reverse s)) ≡ Some
+      (shape func result c.target locals (reverse down) (reverse t)))
   unfolding low front
   branch_done t down d u =
       let w = kept_unwound c.keeps (height_of (front ++ c ∷ low)) c.height (reverse s) (reverse t) (λ k. rw length-reverse (high k)) u in
       let m = fall-mid front c low (length (reverse s)) falls in
       let len : length t ≡ length (reverse t) = sym (length-reverse t) in (
         rw (d, len) (fall_up low c.height (length (reverse t)) m.1 (unwound_le c.keeps (height_of (front ++ c ∷ low)) c.height (reverse s) (reverse t) m.0 w)),
-        ap (λ cs. branched i (shape func result at locals cs (reverse s))) split.split ∙ ap (λ k. branched k (shape func result at locals (front ++ c ∷ low) (reverse s))) (sym split.len) ∙ branch_view func result at locals front c low (reverse s) (reverse t) falls w ∙ ap (λ x. Some (shape func result c.target locals (reverse x) (reverse t))) (sym d),
+        ap (λ cs. branched i (shape func result at locals cs (reverse s))) split.split ∙ ap (λ k. branched k (shape func result at locals (front ++ c ∷ low) (reverse s))) (sym split.len) ∙ branch_view func result at locals front c low (reverse s) (reverse t) falls w ∙ ap (λ x.
+            Some (shape func result c.target locals (reverse x) (reverse t))) (sym d),
       )

@@ -77,7 +77,14 @@ module _ (m : Parts) (g : Func) where
   pub first_is : (t : Thread) → t.pages ≡ least m.memory → t.memory.items ≡ zeroed (least m.memory) → t.globals.items ≡ map (λ (d : GlobalDef). d.init) m.globals → t.refused ≡ false → t.by_choice ≡ false → store_in t ≡ first_store m
   first_is t ep em eg er eb = cc
 
-  pub fresh : (f : ℕ) → func_of m f ≡ Some g → g.type.params ≡ [] → g.type.result ≡ None → (t : Thread) → t.current ≡ record { func = f; keeps = false; at = 0; locals = map zero_of g.body.locals; vals = []; labels = [] } → t.callers.items ≡ [] → store_in t ≡ first_store m → state_of m None t ≡ start m g
+  pub fresh : (f : ℕ) → func_of m f ≡ Some g → g.type.params ≡ [] → g.type.result ≡ None → (t : Thread) → t.current ≡ record {
+    func = f;
+    keeps = false;
+    at = 0;
+    locals = map zero_of g.body.locals;
+    vals = [];
+    labels = [];
+  } → t.callers.items ≡ [] → store_in t ≡ first_store m → state_of m None t ≡ start m g
   unfolding at_start begun
   fresh f is params result t cur none store =
       ap (λ s. at_start s t.callers.items t.current (code_of m t.current.func)) store

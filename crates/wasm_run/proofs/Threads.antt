@@ -46,12 +46,14 @@ module _ (m : Parts) (store : Store) (callers : List Frame) where
       f : Open → Label
       f = label_of (code_of m s.func)
 
-      moved : (k : Open) (top : List ConstValue) → record s { at = k.target; vals = top ++ k.below; labels = drop (l + 1) s.labels } ≡ s' → ◌≡◌ {A = Option State} (Some (At (record { store = store; current = record (frame_in m s) { labels = drop (l + 1) (map f s.labels); operands = top ++ k.below; rest = drop k.target (code_of m s.func) }; callers = callers }))) (Some (At (conf_at s')))
+      moved : (k : Open) (top : List ConstValue) → record s { at = k.target; vals = top ++ k.below; labels = drop (l + 1) s.labels } ≡ s' → ◌≡◌ {A = Option State} (Some
+          (At (record { store = store; current = record (frame_in m s) { labels = drop (l + 1) (map f s.labels); operands = top ++ k.below; rest = drop k.target (code_of m s.func) }; callers = callers }))) (Some (At (conf_at s')))
       moved k top e' =
           ap (λ (ls : List Label). Some (At (record { store = store; current = record (frame_in m s) { labels = ls; operands = top ++ k.below; rest = drop k.target (code_of m s.func) }; callers = callers }))) (drop-map f (l + 1) s.labels)
           ∙ ap (λ (x : Shape). Some (At (conf_at x))) e'
 
-      taken : (k : Open) (b : Bool) (vals : List ConstValue) → keeping b vals (leave_with l s k) ≡ Some s' → taking b vals (λ top. Some (At (record { store = store; current = record (frame_in m s) { labels = drop (l + 1) (map f s.labels); operands = top ++ k.below; rest = drop k.target (code_of m s.func) }; callers = callers }))) ≡ Some (At (conf_at s'))
+      taken : (k : Open) (b : Bool) (vals : List ConstValue) → keeping b vals (leave_with l s k) ≡ Some s' → taking b vals (λ top. Some
+          (At (record { store = store; current = record (frame_in m s) { labels = drop (l + 1) (map f s.labels); operands = top ++ k.below; rest = drop k.target (code_of m s.func) }; callers = callers }))) ≡ Some (At (conf_at s'))
       taken k false vals h = moved k [] (inj h)
       taken k true [] h = cc
       taken k true (x ∷ vals) h = moved k (x ∷ []) (inj h)
@@ -91,7 +93,10 @@ lengths_differ (x ∷ xs) [] h = refl
 lengths_differ (x ∷ xs) (y ∷ ys) h = ap (λ b. same_type x y && b) (lengths_differ xs ys (λ e. h (ap suc e))) ∙ and_no (same_type x y)
 
 -- a function is called
-pub call_is : (m : Parts) (store : Store) (cs : List Shape) (s : Shape) (f : ℕ) (g : Func) → func_of m f ≡ Some g → is_some (call (record { store = store; current = frame_in m s; callers = map (frame_in m) (reverse cs) }) g s.vals (drop (s.at + 1) (code_of m s.func))) ≡ true → (new : Shape) → new ≡ record { func = f; keeps = is_some g.type.result; at = 0; locals = reverse (take (length g.type.params) s.vals) ++ map zero_of g.body.locals; vals = []; labels = [] } → (cs' : List Shape) → cs' ≡ cs ++ record s { at = s.at + 1; vals = drop (length g.type.params) s.vals } ∷ [] → call (record { store = store; current = frame_in m s; callers = map (frame_in m) (reverse cs) }) g s.vals (drop (s.at + 1) (code_of m s.func)) ≡ Some (At (record { store = store; current = frame_in m new; callers = map (frame_in m) (reverse cs') }))
+pub call_is : (m : Parts) (store : Store) (cs : List Shape) (s : Shape) (f : ℕ) (g : Func) → func_of m f ≡ Some g → is_some (call (record { store = store; current = frame_in m s; callers = map (frame_in m) (reverse cs) }) g s.vals
+    (drop (s.at + 1) (code_of m s.func))) ≡ true → (new : Shape) → new ≡ record { func = f; keeps = is_some g.type.result; at = 0; locals = reverse (take (length g.type.params) s.vals) ++ map zero_of g.body.locals; vals = []; labels = [] } → (cs' : List
+    Shape) → cs' ≡ cs ++ record s { at = s.at + 1; vals = drop (length g.type.params) s.vals } ∷ [] → call (record { store = store; current = frame_in m s; callers = map (frame_in m) (reverse cs) }) g s.vals (drop (s.at + 1) (code_of m s.func)) ≡ Some (At
+    (record { store = store; current = frame_in m new; callers = map (frame_in m) (reverse cs') }))
 call_is m store cs s f g is some new hn cs' hc = by (nat_le (length g.type.params) (length s.vals)) some
   where
     rest : List Instr
@@ -117,7 +122,12 @@ call_is m store cs s f g is some new hn cs' hc = by (nat_le (length g.type.param
     by false h = cc
 
 -- the same where the function's type and its further locals were read
-pub call_some : (m : Parts) (store : Store) (cs : List Shape) (s : Shape) (f : ℕ) (o : Option Func) → func_of m f ≡ o → is_some o ≡ true → IfSome o (λ g. is_some (call (record { store = store; current = frame_in m s; callers = map (frame_in m) (reverse cs) }) g s.vals (drop (s.at + 1) (code_of m s.func))) ≡ true) → (of : FuncType) → option_map (λ (g : Func). g.type) o ≡ Some of → (others : List ValType) → option_map (λ (g : Func). g.body.locals) o ≡ Some others → (new : Shape) → new ≡ record { func = f; keeps = is_some of.result; at = 0; locals = reverse (take (length of.params) s.vals) ++ map zero_of others; vals = []; labels = [] } → (cs' : List Shape) → cs' ≡ cs ++ record s { at = s.at + 1; vals = drop (length of.params) s.vals } ∷ [] → IfSome o (λ g. call (record { store = store; current = frame_in m s; callers = map (frame_in m) (reverse cs) }) g s.vals (drop (s.at + 1) (code_of m s.func)) ≡ Some (At (record { store = store; current = frame_in m new; callers = map (frame_in m) (reverse cs') })))
+pub call_some : (m : Parts) (store : Store) (cs : List Shape) (s : Shape) (f : ℕ) (o : Option Func) → func_of m f ≡ o → is_some o ≡ true →
+    IfSome o (λ g. is_some (call (record { store = store; current = frame_in m s; callers = map (frame_in m) (reverse cs) }) g s.vals (drop (s.at + 1) (code_of m s.func))) ≡ true) →
+    (of : FuncType) → option_map (λ (g : Func). g.type) o ≡ Some of → (others : List ValType) → option_map (λ (g : Func). g.body.locals) o ≡ Some others →
+    (new : Shape) → new ≡ record { func = f; keeps = is_some of.result; at = 0; locals = reverse (take (length of.params) s.vals) ++ map zero_of others; vals = []; labels = [] } →
+    (cs' : List Shape) → cs' ≡ cs ++ record s { at = s.at + 1; vals = drop (length of.params) s.vals } ∷ [] →
+    IfSome o (λ g. call (record { store = store; current = frame_in m s; callers = map (frame_in m) (reverse cs) }) g s.vals (drop (s.at + 1) (code_of m s.func)) ≡ Some (At (record { store = store; current = frame_in m new; callers = map (frame_in m) (reverse cs') })))
 call_some m store cs s f None is some h of ht others hl new hn cs' hc = cc
 call_some m store cs s f (Some g) is some h of ht others hl new hn cs' hc =
     let t : of ≡ g.type = sym (inj ht) in

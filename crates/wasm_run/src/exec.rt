@@ -18,7 +18,7 @@ use crate::program::Program;
 use crate::thread::Thread;
 use std::alloc::{AllocError, Global};
 use std::mem;
-use wasm_core::{Access, ConstValue, Ended, FuncType, Instr, Limits, Numbers, TrapKind, ValType};
+use wasm_core::{Access, ConstValue, Ended, FuncType, Instr, Labels, Limits, TrapKind, ValType};
 
 /// Leaves the function that runs.
 fn run_leave(program: &Program, thread: &mut Thread) -> Result<Option<Ended>, AllocError>
@@ -215,11 +215,11 @@ fn run_end(program: &Program, thread: &mut Thread, next: usize) -> Result<Option
 fn run_table(
     program: &Program,
     thread: &mut Thread,
-    labels: &Numbers,
+    labels: &Labels,
     other: u32,
 ) -> Result<Option<Ended>, AllocError>
-    requires some { IsSome (acting program.now true (BrTable labels.now other) thread.old) }
-    ensures is { IfOk result (λ e. acting program.now true (BrTable labels.now other) thread.old ≡ Some (state_of program.now e thread.new)) }
+    requires some { IsSome (acting program.now true (BrTable other labels.now) thread.old) }
+    ensures is { IfOk result (λ e. acting program.now true (BrTable other labels.now) thread.old ≡ Some (state_of program.now e thread.new)) }
 {
     let picks = labels.as_slice();
     let place = pop_i32(&mut thread.current) as usize;
@@ -435,7 +435,7 @@ fn run_instr(
             }
             run_branch(program, thread, *label)
         }
-        Instr::BrTable(labels, other) => run_table(program, thread, labels, *other),
+        Instr::BrTable(other, labels) => run_table(program, thread, labels, *other),
         Instr::Return => run_leave(program, thread),
         Instr::Call(index) => run_call(alloc, program, thread, *index, next),
         Instr::CallIndirect(index, table) => {

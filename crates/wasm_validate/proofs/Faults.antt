@@ -34,7 +34,8 @@ closed_at (c ∷ bs) (suc f) b (p, a) e = closed_at bs f b a e
 pub body_closed : (m : Parts) (bs : List Body) (func : ℕ) (b : Body) → IsModule m → bs ≡ m.bodies → func < length bs → b ≡ get_or bs func b → IsClosed (false ∷ []) b.code
 body_closed m bs func b i eb lt e = closed_at m.bodies func b i.bodies.1 (ap (λ xs. slice_get xs func) (sym eb) ∙ here bs func b e lt)
 
-pub says : (m : Parts) (fs : List ℕ) (ts : List FuncType) (bs : List Body) (func : ℕ) (type : FuncType) (b : Body) (o : Option ℕ) → AllSound m → fs ≡ m.funcs → ts ≡ m.types → bs ≡ m.bodies → func < length m.funcs → type ≡ get_or ts (get_or fs func 0) type → b ≡ get_or bs func b → SaysOfBody m type b o → SaysOfFunc m func o
+pub says : (m : Parts) (fs : List ℕ) (ts : List FuncType) (bs : List Body) (func : ℕ) (type : FuncType) (b : Body) (o : Option ℕ) → AllSound m → fs ≡ m.funcs → ts ≡ m.types → bs ≡ m.bodies → func < length m.funcs → type ≡ get_or ts (get_or fs func
+    0) type → b ≡ get_or bs func b → SaysOfBody m type b o → SaysOfFunc m func o
 says m fs ts bs func type b o sound ef et eb lt ht hb s = (
   get_or fs func 0,
   type,

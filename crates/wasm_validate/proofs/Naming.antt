@@ -35,7 +35,8 @@ by_text {A = A} xs ys if_same if_other = on (bytes_eq xs ys) refl
     on true e = if_same ((bytes_eq-Decides xs ys).0 e) (is_eq-slice_cmp xs ys ∙ e)
     on false e = if_other (λ s. false_is_true (sym e ∙ (bytes_eq-Decides xs ys).1 s)) (is_eq-slice_cmp xs ys ∙ e)
 
-pub listed_more : (es : List Export) (n : ℕ) (s t : BTreeSet (Bor (List ℕ))) (e : Export) (k : Bor (List ℕ)) → Listed es n s → slice_get es n ≡ Some e → k.now ≡ e.name → contains text_order s k ≡ false → ((q : Bor (List ℕ)) → contains text_order t q ≡ cond (is_eq (text_order k q)) true (contains text_order s q)) → Listed es (n + 1) t
+pub listed_more : (es : List Export) (n : ℕ) (s t : BTreeSet (Bor (List ℕ))) (e : Export) (k : Bor (List ℕ)) → Listed es n s → slice_get es n ≡ Some e → k.now ≡ e.name → contains text_order s k ≡ false → ((q : Bor (List ℕ)) → contains text_order t q ≡ cond
+    (is_eq (text_order k q)) true (contains text_order s q)) → Listed es (n + 1) t
 listed_more es n s t e k l he hk new put = record { only = only_next; every = every_next; distinct = distinct_next }
   where
     only_next : (q : Bor (List ℕ)) → contains text_order t q ≡ true → NamedBefore es (n + 1) q.now

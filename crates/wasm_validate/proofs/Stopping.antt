@@ -48,7 +48,8 @@ module _ (m : Parts) (ls rs : Types) where
       let len : length (front ++ i ∷ []) ≡ length front + 1 = length-append front (i ∷ []) in
       inl (subst (λ code. IsFaultAt m ls rs code (length front + 1)) (append_assoc front (i ∷ []) (j ∷ rest)) (subst (IsFaultAt m ls rs ((front ++ i ∷ []) ++ j ∷ rest)) len f))
 
-  next : (front : List Instr) (i : Instr) (rest : List Instr) (a : Place) → run m ls rs start front ≡ Some (More a) → ((f : List Instr) (b : Place) → run m ls rs start f ≡ Some (More b) → Judges (f ++ rest) (stops m ls rs b (length f) rest)) → (o : Option Check) → check m ls rs i a ≡ o → Judges (front ++ i ∷ rest) (stops_after o (length front) rest (λ b. stops m ls rs b (length front + 1) rest))
+  next : (front : List Instr) (i : Instr) (rest : List Instr) (a : Place) → run m ls rs start front ≡ Some (More a) → ((f : List Instr) (b : Place) → run m ls rs start f ≡ Some (More b) → Judges (f ++ rest) (stops m ls rs b (length f) rest)) → (o : Option
+      Check) → check m ls rs i a ≡ o → Judges (front ++ i ∷ rest) (stops_after o (length front) rest (λ b. stops m ls rs b (length front + 1) rest))
   next front i rest a e go None h = inl (fault_at front i rest (More a) e h)
   next front i rest a e go (Some Finished) h = finished front i rest a e h (λ b. stops m ls rs b (length front + 1) rest)
   next front i rest a e go (Some (More b)) h =

@@ -42,7 +42,7 @@ fn check_instr(
         Instr::End => checker.end(func.result),
         Instr::Br(label) => Ok(check_br(checker, func.result, *label)),
         Instr::BrIf(label) => check_br_if(checker, func.result, *label),
-        Instr::BrTable(labels, last) => Ok(check_br_table(
+        Instr::BrTable(last, labels) => Ok(check_br_table(
             checker,
             func.result,
             labels.as_slice(),

@@ -17,4 +17,4 @@ loop-may_else-preserved c =
 pub returns : goal.returns
 returns c =
     let l : length c.loop-may_else.opens.items ≡ 0 = search rules in
-    record { reads = ended _ _ _ _ (λ v. v.items) c.loop-may_else.code c.loop-may_else.invariant (none_open _ l) refl }
+    record { reads = ended _ _ _ _ (λ v. v.items) c.shrink_to_fit.new.self c.loop-may_else.invariant (none_open _ l) (sym c.shrink_to_fit.ensures.items) }

@@ -21,7 +21,8 @@ push_block-push_op-requires-2 t c =
 
 pub push_block-loop-op-preserved : goal.push_block-loop-op-preserved
 push_block-loop-op-preserved t c = record {
-  pushed = block_more c.args.p.now c.as_slice-op-items.result.now c.loop-op.op-index c.op-item.result (ret_of (seen c.b.inside.tail)) c.loop-op.places.items c.push_op.new.places.items c.push-in-loop-op.new.self.items c.loop-op.at c.in-Some.next c.loop-op.out.items c.push_op.new.out.items c.push.new.out.items c.args.out.now.items
+  pushed = block_more c.args.p.now c.as_slice-op-items.result.now c.loop-op.op-index c.op-item.result (ret_of (seen c.b.inside.tail)) c.loop-op.places.items
+      c.push_op.new.places.items c.push-in-loop-op.new.self.items c.loop-op.at c.in-Some.next c.loop-op.out.items c.push_op.new.out.items c.push.new.out.items c.args.out.now.items
       (block_code c.args.p.now (reverse c.args.places.now.items) c.args.d c.args.b.now) c.loop-op-test.true c.op-item.is c.in_ok-push_op.ensures.same c.in_ok-push-2.ensures.items (omega (arith, c.in-Some.ensures)) c.in_ok-push_op.ensures.pushed c.in_ok-push.ensures.pushed c.loop-op.invariant.pushed;
   kept = rw (c.in_ok-push-2.ensures.items, c.in_ok-push_op.ensures.same) (take-append-le c.len-outer.result c.loop-op.places.items (InLocal c.loop-op.at ∷ []) c.loop-op.invariant.more ∙ c.loop-op.invariant.kept);
   more = omega (arith, ap length c.in_ok-push-2.ensures.items, length-append c.push_op.new.places.items (InLocal c.loop-op.at ∷ []), ap length c.in_ok-push_op.ensures.same, c.loop-op.invariant.more);

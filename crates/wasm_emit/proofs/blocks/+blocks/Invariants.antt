@@ -41,14 +41,16 @@ invariant-push_block-loop-op l = record {
 
 abbrev pub invariant-push_empty_branches-loop-c : goal.invariant-push_empty_branches-loop-c
 invariant-push_empty_branches-loop-c l = record {
-  pushed : (others : List Instr → List Instr) (rest : List Instr) → l.out.items ++ empties (lifted_of l.p) (reverse l.initial.places.items) l.d l.c (renumber_branches (place_in l.p.constants) (branches_of (drop l.c l.bs))) others (ends l.begun rest) ≡ l.initial.out.items ++ empty_arms l.p (reverse l.initial.places.items) l.d (branches_of l.bs) others rest;
+  pushed : (others : List Instr → List Instr) (rest : List Instr) → l.out.items ++ empties (lifted_of l.p) (reverse l.initial.places.items) l.d l.c (renumber_branches (place_in l.p.constants) (branches_of (drop l.c l.bs))) others (ends l.begun
+      rest) ≡ l.initial.out.items ++ empty_arms l.p (reverse l.initial.places.items) l.d (branches_of l.bs) others rest;
   same : l.places.items ≡ l.initial.places.items;
   few : l.begun ≤ l.c;
 }
 
 abbrev pub invariant-push_block_branches-loop-c : goal.invariant-push_block_branches-loop-c
 invariant-push_block_branches-loop-c l = record {
-  pushed : (rest : List Instr) → l.out.items ++ heads (lifted_of l.p) (reverse l.initial.places.items) l.d l.c (renumber_branches (place_in l.p.constants) (branches_of (drop l.c l.bs))) (ends l.begun rest) ≡ l.initial.out.items ++ block_arms l.p (reverse l.initial.places.items) l.d (branches_of l.bs) rest;
+  pushed : (rest : List Instr) → l.out.items ++ heads (lifted_of l.p) (reverse l.initial.places.items) l.d l.c (renumber_branches (place_in l.p.constants) (branches_of (drop l.c l.bs))) (ends l.begun rest) ≡ l.initial.out.items ++ block_arms l.p (reverse
+      l.initial.places.items) l.d (branches_of l.bs) rest;
   same : l.places.items ≡ l.initial.places.items;
   few : l.begun ≤ l.c;
 }

@@ -25,6 +25,7 @@ pub returns : goal.returns
 returns c =
     record {
       is = if_ok (SaysOfBody c.args.m.now c.index-as_slice-index.result c.index-as_slice-func.result) (SaysOfFunc c.args.m.now c.args.func) c.body_fault.result
-          (λ o s. says c.args.m.now c.as_slice.result.now c.as_slice-2.result.now c.as_slice-3.result.now c.args.func c.index-as_slice-index.result c.index-as_slice-func.result o c.requires.sound (c.as_slice.ensures.items ∙ c.funcs.ensures.is) (c.as_slice-2.ensures.items ∙ c.types.ensures.is) (c.as_slice-3.ensures.items ∙ c.bodies.ensures.is) c.requires.within c.index-as_slice-index.is c.index-as_slice-func.is s)
+          (λ o s. says c.args.m.now c.as_slice.result.now c.as_slice-2.result.now c.as_slice-3.result.now c.args.func c.index-as_slice-index.result c.index-as_slice-func.result o c.requires.sound (c.as_slice.ensures.items ∙ c.funcs.ensures.is)
+          (c.as_slice-2.ensures.items ∙ c.types.ensures.is) (c.as_slice-3.ensures.items ∙ c.bodies.ensures.is) c.requires.within c.index-as_slice-index.is c.index-as_slice-func.is s)
           c.body_fault.ensures.is;
     }
