@@ -56,7 +56,8 @@ module _ (Q : AnfProgram) (W : ℕ) where
   binds_block (binds_op x bs) h = gets_as (omega arith) (omega arith) (omega arith) (omega arith) (block_bind x (binds_block bs h))
 
   -- a constructor's block
-  made : {s : Scope} {w : AnfVals} {c : ℕ} {x : Level} {xs : List Level} {us : AnfVals} {b l : ℕ} (d : ℕ) → d ≡ count w → AllLevels W s w (x ∷ xs) us b l → (0 < length (x ∷ xs) → length (x ∷ xs) < W) → AnfDoes Q W s w (ConOp c (map (at_depth d) (x ∷ xs))) (WCon c us) 0 0 (b + 1) (l + suc (length (map (at_depth d) (x ∷ xs))))
+  made : {s : Scope} {w : AnfVals} {c : ℕ} {x : Level} {xs : List Level} {us : AnfVals} {b l : ℕ} (d : ℕ) → d ≡ count w → AllLevels W s w (x ∷ xs) us b l → (0 < length (x ∷ xs) → length (x ∷ xs) < W) → AnfDoes Q W s w (ConOp c (map (at_depth d) (x ∷ xs))) (WCon c us) 0 0 (b +
+      1) (l + suc (length (map (at_depth d) (x ∷ xs))))
   made {x = x} {xs = xs} d eq all few = let long = length_levels (at_depth d) (x ∷ xs) in let narrow = few (omega arith) in op_con (gives_all d eq all) (omega arith)
 
   -- a variable for a result

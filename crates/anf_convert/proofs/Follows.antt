@@ -142,7 +142,8 @@ module _ (P : BoxProgram) (K : Name → ℕ) (Q : AnfProgram) (W : ℕ) where
     matches : k1 ≡ k
     blocks : b1 + (b2 + b3) ≡ b
 
-  called : {s g : Scope} {w f : AnfVals} {ops : List Binding} {a : Level} {u : AnfVal} {v : Value} {c3 : Counts} {c1 k1 b1 l1 b2 l2 : ℕ} (d : ℕ) (arg : ℕ → Norm) → d ≡ count w → Binds Q W s w ops g f c1 k1 b1 l1 → AtLevel W g f a u b2 l2 → DoneTerm g f (arg (d + length ops)) v c3 → Applied s w (call d ops a (name_at arg (d + length ops))) u v (c1 + c3.contractions) (k1 + c3.matches) (b1 + b2 + c3.blocks)
+  called : {s g : Scope} {w f : AnfVals} {ops : List Binding} {a : Level} {u : AnfVal} {v : Value} {c3 : Counts} {c1 k1 b1 l1 b2 l2 : ℕ} (d : ℕ) (arg : ℕ → Norm) → d ≡ count w → Binds Q W s w ops g f c1 k1 b1 l1 → AtLevel W g f a u b2 l2 → DoneTerm g f (arg
+      (d + length ops)) v c3 → Applied s w (call d ops a (name_at arg (d + length ops))) u v (c1 + c3.contractions) (k1 + c3.matches) (b1 + b2 + c3.blocks)
   called {f = f} {ops = ops} {a = a} {c3 = c3} {c1 = c1} {k1 = k1} {b1 = b1} {b2 = b2} {l2 = l2} d arg eq bs at h =
       let deep : d + length ops ≡ count f = omega (arith, binds_size Q W bs) in
       let n = name_done Q W (d + length ops) deep h.binds h.stands in
@@ -175,16 +176,41 @@ module _ (P : BoxProgram) (K : Name → ℕ) (Q : AnfProgram) (W : ℕ) where
   binds_matches {s} {g} {w} {f} {ps} {c} {b = b} {l = l} ek h = transport (λ z. Binds Q W s w ps g f c z b l) ek h
 
   applied_as : {s : Scope} {w : AnfVals} {n : Norm} {u : AnfVal} {v : Value} {c c' k k' b b' : ℕ} → c ≤ c' → k ≡ k' → b ≡ b' → Applied s w n u v c k b → Applied s w n u v c' k' b'
-  applied_as lc ek eb h = record { g = h.g; f = h.f; c1 = h.c1; k1 = h.k1; b1 = h.b1; l1 = h.l1; binds = h.binds; p = h.p; q = h.q; res_is = h.res_is; x = h.x; b2 = h.b2; b3 = h.b3; l2 = h.l2; l3 = h.l3; fun = h.fun; arg = h.arg; is = h.is; le_c = omega (arith, h.le_c); matches = h.matches ∙ ek; blocks = h.blocks ∙ eb }
+  applied_as lc ek eb h = record {
+    g = h.g;
+    f = h.f;
+    c1 = h.c1;
+    k1 = h.k1;
+    b1 = h.b1;
+    l1 = h.l1;
+    binds = h.binds;
+    p = h.p;
+    q = h.q;
+    res_is = h.res_is;
+    x = h.x;
+    b2 = h.b2;
+    b3 = h.b3;
+    l2 = h.l2;
+    l3 = h.l3;
+    fun = h.fun;
+    arg = h.arg;
+    is = h.is;
+    le_c = omega (arith, h.le_c);
+    matches =
+        h.matches ∙ ek;
+    blocks = h.blocks ∙ eb;
+  }
 
   -- what the argument of a function becomes, wherever it stands
   abbrev ArgDone : Scope → AnfVals → (ℕ → Norm) → Value → Counts → Type 0
   ArgDone s w arg v c = (g : Scope) (f : AnfVals) (d' : ℕ) → Ext s w g f → d' ≡ count f → DoneTerm g f (arg d') v c
 
-  applied : {s : Scope} {w : AnfVals} {fn : Norm} {v1 v : Value} {c c3 : Counts} (d : ℕ) (arg : ℕ → Norm) → d ≡ count w → (h : DoneTerm s w fn v1 c) → NotCon h.u → ArgDone s w arg v c3 → Applied s w (then_arg d fn.ops fn.res arg) h.u v (c.contractions + c3.contractions) (c.matches + c3.matches) (c.blocks + c3.blocks)
+  applied : {s : Scope} {w : AnfVals} {fn : Norm} {v1 v : Value} {c c3 : Counts} (d : ℕ) (arg : ℕ → Norm) → d ≡ count w → (h : DoneTerm s w fn v1 c) → NotCon h.u → ArgDone s w arg v c3 → Applied s w (then_arg d fn.ops fn.res arg) h.u v (c.contractions +
+      c3.contractions) (c.matches + c3.matches) (c.blocks + c3.blocks)
   applied {s} {w} {fn} {v1} {v} {c} {c3} d arg eq h other next = go h.binds h.stands other h.le_c h.matches h.blocks
     where
-      go : {g : Scope} {f : AnfVals} {ops : List Binding} {res : Res} {u : AnfVal} {c1 c2 k1 k2 b1 b2 l1 : ℕ} → Binds Q W s w ops g f c1 k1 b1 l1 → Stands Q W g f res u c2 k2 b2 → NotCon u → c1 + c2 ≤ c.contractions → k1 + k2 ≡ c.matches → b1 + b2 ≡ c.blocks → Applied s w (then_arg d ops res arg) u v (c.contractions + c3.contractions) (c.matches + c3.matches) (c.blocks + c3.blocks)
+      go : {g : Scope} {f : AnfVals} {ops : List Binding} {res : Res} {u : AnfVal} {c1 c2 k1 k2 b1 b2 l1 : ℕ} → Binds Q W s w ops g f c1 k1 b1 l1 → Stands Q W g f res u c2 k2 b2 → NotCon u → c1 + c2 ≤ c.contractions → k1 + k2 ≡ c.matches → b1 + b2 ≡ c.blocks →
+          Applied s w (then_arg d ops res arg) u v (c.contractions + c3.contractions) (c.matches + c3.matches) (c.blocks + c3.blocks)
       go {g} {f} {ops} bs (st_atom at) other cl km bm =
           applied_as (omega arith) (omega arith) (omega arith) (called d arg eq bs at (next g f (d + length ops) (binds_ext Q W bs) (omega (arith, binds_size Q W bs))))
       go bs (st_con hs few) other cl km bm = absurd other
@@ -203,15 +229,35 @@ module _ (P : BoxProgram) (K : Name → ℕ) (Q : AnfProgram) (W : ℕ) where
   not_con_fix (vr_fix d eq under ok er) = tt
 
   -- an application
-  applied_done : {s : Scope} {w : AnfVals} {n : Norm} {u y : AnfVal} {v r : Value} {c k b c4 k4 b4 l4 : ℕ} {c' : Counts} (h : Applied s w n u v c k b) → AnfDoes Q W h.g h.f (AppOp h.p h.q) y c4 k4 b4 l4 → VR P K r y → c + c4 ≤ c'.contractions → k + k4 ≡ c'.matches → b + b4 ≡ c'.blocks + (h.b2 + h.b3) → DoneTerm s w n r c'
+  applied_done : {s : Scope} {w : AnfVals} {n : Norm} {u y : AnfVal} {v r : Value} {c k b c4 k4 b4 l4 : ℕ} {c' : Counts} (h : Applied s w n u v c k b) → AnfDoes Q W h.g h.f (AppOp h.p
+      h.q) y c4 k4 b4 l4 → VR P K r y → c + c4 ≤ c'.contractions → k + k4 ≡ c'.matches → b + b4 ≡ c'.blocks + (h.b2 + h.b3) → DoneTerm s w n r c'
   applied_done {y = y} {c4 = c4} {k4 = k4} {b4 = b4} h does is lc km bm =
-      record { g = h.g; f = h.f; u = y; c1 = h.c1; c2 = c4; k1 = h.k1; k2 = k4; b1 = h.b1; b2 = b4; l1 = h.l1; binds = h.binds; stands = transport (λ z. Stands Q W h.g h.f z y c4 k4 b4) (sym h.res_is) (st_op does); is = is; le_c = omega (arith, h.le_c); matches = omega (arith, h.matches); blocks = omega (arith, h.blocks) }
+      record {
+        g = h.g;
+        f = h.f;
+        u = y;
+        c1 = h.c1;
+        c2 = c4;
+        k1 = h.k1;
+        k2 = k4;
+        b1 = h.b1;
+        b2 = b4;
+        l1 = h.l1;
+        binds = h.binds;
+        stands = transport (λ z. Stands Q W h.g h.f z y c4 k4 b4) (sym h.res_is) (st_op does);
+        is = is;
+        le_c = omega (arith, h.le_c);
+        matches = omega
+            (arith, h.matches);
+        blocks = omega (arith, h.blocks);
+      }
 
   -- what is known of a term, wherever it stands
   abbrev Follows : Env → BoxTerm → Value → Counts → Type 0
   Follows e t v c = (env : List Level) (ys : List ℕ) (s : Scope) (w : AnfVals) (d : ℕ) → d ≡ count w → ER P K e env ys s w → DoneTerm s w (norm K env d t) v c
 
-  app_clos : {s : Scope} {w : AnfVals} {n : Norm} {u : AnfVal} {e : Env} {t : BoxTerm} {v r : Value} {c k b : ℕ} {c3 c' : Counts} → VR P K (VClosure e t) u → Applied s w n u v c k b → (Ready P t → Follows (Bind v e) t r c3) → suc (c + c3.contractions) ≤ c'.contractions → k + c3.matches ≡ c'.matches → b + c3.blocks ≡ c'.blocks → DoneTerm s w n r c'
+  app_clos : {s : Scope} {w : AnfVals} {n : Norm} {u : AnfVal} {e : Env} {t : BoxTerm} {v r : Value} {c k b : ℕ} {c3 c' : Counts} → VR P K (VClosure e t) u → Applied s w n u v c k b → (Ready P t → Follows (Bind v e) t r c3) → suc (c +
+      c3.contractions) ≤ c'.contractions → k + c3.matches ≡ c'.matches → b + c3.blocks ≡ c'.blocks → DoneTerm s w n r c'
   app_clos (vr_clos {env = env} {ys = ys} {s = s'} {w = w'} d eq ok er) h next lc km bm =
       let x = next ok (LVar d ∷ env) (depth s' ∷ ys) (Plain s') (WCons h.x w') (suc d) (ap suc eq) (er_bind h.is (top_word s' w' h.x d eq) (er_ext (ext_push ext_same) er)) in
       let g = got (suc d) (ap suc eq) x in
@@ -220,7 +266,11 @@ module _ (P : BoxProgram) (K : Name → ℕ) (Q : AnfProgram) (W : ℕ) where
   app_box : {s : Scope} {w : AnfVals} {n : Norm} {u : AnfVal} {v : Value} {c k b : ℕ} {c' : Counts} → VR P K VBox u → Applied s w n u v c k b → suc c ≤ c'.contractions → k ≡ c'.matches → b ≡ c'.blocks → DoneTerm s w n VBox c'
   app_box vr_box h lc km bm = applied_done h (op_app_box h.fun h.arg) vr_box (omega arith) (omega arith) (omega arith)
 
-  app_fix : {s : Scope} {w : AnfVals} {n : Norm} {u : AnfVal} {e : Env} {rargs : List ℕ} {i : ℕ} {bodies : BoxTerms} {t : BoxTerm} {v r : Value} {c k b : ℕ} {c3 c' : Counts} → VR P K (VFix e i rargs bodies) u → term_at bodies i ≡ Some (length rargs, BLambda t) → Applied s w n u v c k b → (Ready P t → Follows (Bind v (BindFix rargs bodies e)) t r c3) → suc (suc (c + c3.contractions)) ≤ c'.contractions → k + c3.matches ≡ c'.matches → b + c3.blocks ≡ c'.blocks → DoneTerm s w n r c'
+  app_fix : {s : Scope} {w : AnfVals} {n : Norm} {u : AnfVal} {e : Env} {rargs : List ℕ} {i : ℕ} {bodies : BoxTerms} {t : BoxTerm} {v r : Value} {c k b : ℕ} {c3 c' : Counts} → VR P K (VFix e i rargs bodies) u → term_at bodies i ≡ Some (
+    length rargs,
+    BLambda
+        t,
+  ) → Applied s w n u v c k b → (Ready P t → Follows (Bind v (BindFix rargs bodies e)) t r c3) → suc (suc (c + c3.contractions)) ≤ c'.contractions → k + c3.matches ≡ c'.matches → b + c3.blocks ≡ c'.blocks → DoneTerm s w n r c'
   app_fix {rargs = rargs} {i = i} {bodies = bodies} {t = t} {c3 = c3} (vr_fix {env = env} {ys = ys} {s = s'} {w = w'} d eq under ok er) at h next lc km bm =
       let m = length rargs in
       let ds = norm_defs K env d m bodies in
@@ -234,11 +284,13 @@ module _ (P : BoxProgram) (K : Name → ℕ) (Q : AnfProgram) (W : ℕ) where
       let run = transport (λ z. AnfGets Q W (Plain (shares cs z s')) (WCons h.x (fixes s' w' ds z +w w')) (sealed (suc (d + m)) (norm K (LVar (d + m) ∷ levels d m env) (suc (d + m)) t)) g.u g.c' c3.matches c3.blocks g.l') (sym (count_is K env d m m rargs bodies under)) g.gets in
       applied_done h (op_app_fix h.fun h.arg (lam_at K env d m bodies i m t at) run) g.is (omega (arith, g.le_c)) km (omega arith)
 
-  app_fix_box : {s : Scope} {w : AnfVals} {n : Norm} {u : AnfVal} {e : Env} {rargs : List ℕ} {i : ℕ} {bodies : BoxTerms} {v : Value} {c k b : ℕ} {c' : Counts} → VR P K (VFix e i rargs bodies) u → term_at bodies i ≡ Some (length rargs, Box) → Applied s w n u v c k b → suc (suc c) ≤ c'.contractions → k ≡ c'.matches → b ≡ c'.blocks → DoneTerm s w n VBox c'
+  app_fix_box : {s : Scope} {w : AnfVals} {n : Norm} {u : AnfVal} {e : Env} {rargs : List ℕ} {i : ℕ} {bodies : BoxTerms} {v : Value} {c k b : ℕ} {c' : Counts} → VR P K (VFix e i rargs bodies) u → term_at bodies i ≡ Some (length rargs, Box) → Applied s w n u v c k b → suc (suc
+      c) ≤ c'.contractions → k ≡ c'.matches → b ≡ c'.blocks → DoneTerm s w n VBox c'
   app_fix_box {rargs = rargs} {i = i} {bodies = bodies} (vr_fix {env = env} d eq under ok er) at h lc km bm =
       applied_done h (op_app_fix_box h.fun h.arg (box_at K env d (length rargs) bodies i (length rargs) at)) vr_box (omega arith) (omega arith) (omega arith)
 
-  let_done : {s : Scope} {w : AnfVals} {n : Norm} {v r : Value} {c1 c2 c' : Counts} (d : ℕ) (body : ℕ → Level → Norm) → d ≡ count w → DoneTerm s w n v c1 → ((g : Scope) (f : AnfVals) (u : AnfVal) (d' : ℕ) → Ext s w g f → d' ≡ count f → VR P K v u → DoneTerm (Plain g) (WCons u f) (body (suc d') (LVar d')) r c2) → suc (c1.contractions + c2.contractions) ≤ c'.contractions → c1.matches + c2.matches ≡ c'.matches → c1.blocks + c2.blocks ≡ c'.blocks → DoneTerm s w (then_body d (with_variable d n.ops n.res) body) r c'
+  let_done : {s : Scope} {w : AnfVals} {n : Norm} {v r : Value} {c1 c2 c' : Counts} (d : ℕ) (body : ℕ → Level → Norm) → d ≡ count w → DoneTerm s w n v c1 → ((g : Scope) (f : AnfVals) (u : AnfVal) (d' : ℕ) → Ext s w g f → d' ≡ count f → VR P K v u → DoneTerm (Plain g) (WCons u f)
+      (body (suc d') (LVar d')) r c2) → suc (c1.contractions + c2.contractions) ≤ c'.contractions → c1.matches + c2.matches ≡ c'.matches → c1.blocks + c2.blocks ≡ c'.blocks → DoneTerm s w (then_body d (with_variable d n.ops n.res) body) r c'
   let_done {n = n} {r = r} {c2 = c2} d body eq h next lc km bm =
       let deep : d + length n.ops ≡ count h.f = omega (arith, binds_size Q W h.binds) in
       let p = bound Q W (d + length n.ops) deep h.stands in
@@ -263,12 +315,15 @@ module _ (P : BoxProgram) (K : Name → ℕ) (Q : AnfProgram) (W : ℕ) where
         blocks = omega (arith, h.blocks, x.blocks);
       }
 
-  case_done : {s : Scope} {w : AnfVals} {n : Norm} {e : Env} {env : List Level} {ys : List ℕ} {f : FamilyId} {i : ℕ} {vs : Values} {t : BoxTerm} {r : Value} {c1 c2 c' : Counts} (bs : BoxTerms) (d : ℕ) → d ≡ count w → ER P K e env ys s w → DoneTerm s w n (VConstruct f i vs) c1 → term_at bs i ≡ Some (size vs, t) → Follows (bind_all vs e) t r c2 → suc (c1.contractions + c2.contractions) ≤ c'.contractions → suc (c1.matches + c2.matches) ≡ c'.matches → c1.blocks + c2.blocks ≡ c'.blocks → DoneTerm s w (then_case d (named d n.ops n.res) (λ d'. norm_branches K env d' bs)) r c'
+  case_done : {s : Scope} {w : AnfVals} {n : Norm} {e : Env} {env : List Level} {ys : List ℕ} {f : FamilyId} {i : ℕ} {vs : Values} {t : BoxTerm} {r : Value} {c1 c2 c' : Counts} (bs : BoxTerms) (d : ℕ) → d ≡ count w → ER P K e env ys s w → DoneTerm s w n (VConstruct f i
+      vs) c1 → term_at bs i ≡ Some (size vs, t) → Follows (bind_all vs e) t r c2 → suc (c1.contractions + c2.contractions) ≤ c'.contractions → suc (c1.matches + c2.matches) ≡ c'.matches → c1.blocks + c2.blocks ≡ c'.blocks → DoneTerm s w (then_case d (named d n.ops n.res)
+      (λ d'. norm_branches K env d' bs)) r c'
   case_done {s} {w} {n} {e} {env} {ys} {f} {i} {vs} {t} {r} {c1} {c2} {c'} bs d eq er h at next lc km bm =
       let a = name_done Q W d eq h.binds h.stands in
       go a.binds a.at h.is (omega (arith, a.le_c, h.le_c)) (omega (arith, h.matches)) (omega (arith, a.blocks, h.blocks))
     where
-      go : {g : Scope} {fe : AnfVals} {u : AnfVal} {x1 y1 z1 l1 z2 l2 : ℕ} → Binds Q W s w (named d n.ops n.res).ops g fe x1 y1 z1 l1 → AtLevel W g fe (named d n.ops n.res).atom u z2 l2 → VR P K (VConstruct f i vs) u → x1 ≤ c1.contractions → y1 ≡ c1.matches → z1 + z2 ≡ c1.blocks → DoneTerm s w (then_case d (named d n.ops n.res) (λ d'. norm_branches K env d' bs)) r c'
+      go : {g : Scope} {fe : AnfVals} {u : AnfVal} {x1 y1 z1 l1 z2 l2 : ℕ} → Binds Q W s w (named d n.ops n.res).ops g fe x1 y1 z1 l1 → AtLevel W g fe (named d n.ops n.res).atom u z2 l2 → VR P K (VConstruct f i
+          vs) u → x1 ≤ c1.contractions → y1 ≡ c1.matches → z1 + z2 ≡ c1.blocks → DoneTerm s w (then_case d (named d n.ops n.res) (λ d'. norm_branches K env d' bs)) r c'
       go {g} {fe} bds al (vr_con {ws = ws} gs) cl km' bm' =
           let d1 = d + length (named d n.ops n.res).ops in
           let deep : d1 ≡ count fe = omega (arith, binds_size Q W bds) in
@@ -299,7 +354,8 @@ module _ (P : BoxProgram) (K : Name → ℕ) (Q : AnfProgram) (W : ℕ) where
     le_c : c1 ≤ c.contractions
     blocks : b1 + b2 ≡ c.blocks
 
-  arg_done : {s : Scope} {w : AnfVals} {n : Norm} {i : ℕ} {vs : Values} {v : Value} {c c2 c' : Counts} (d : ℕ) (arg : ℕ → Norm) → d ≡ count w → DoneArgs s w n i vs c → ArgDone s w arg v c2 → c.contractions + c2.contractions ≤ c'.contractions → c.matches + c2.matches ≡ c'.matches → c.blocks + c2.blocks ≡ c'.blocks → DoneArgs s w (then_arg d n.ops n.res arg) i (Then v vs) c'
+  arg_done : {s : Scope} {w : AnfVals} {n : Norm} {i : ℕ} {vs : Values} {v : Value} {c c2 c' : Counts} (d : ℕ) (arg : ℕ →
+      Norm) → d ≡ count w → DoneArgs s w n i vs c → ArgDone s w arg v c2 → c.contractions + c2.contractions ≤ c'.contractions → c.matches + c2.matches ≡ c'.matches → c.blocks + c2.blocks ≡ c'.blocks → DoneArgs s w (then_arg d n.ops n.res arg) i (Then v vs) c'
   arg_done {s} {w} {n} {i} {vs} {v} {c} {c2} {c'} d arg eq h next lc km bm = transport (λ z. DoneArgs s w (then_arg d n.ops z arg) i (Then v vs) c') (sym h.res_is) made
     where
       deep : d + length n.ops ≡ count h.f
@@ -393,7 +449,8 @@ module _ (P : BoxProgram) (K : Name → ℕ) (Q : AnfProgram) (W : ℕ) where
           let g = got 0 refl h in
           at_once (st_op (op_const (constants k b keeps) g.gets)) g.is (omega (arith, g.le_c)) (omega arith) (omega arith)
       anf (run_let {t = t} r1 r2) ok le env ys s w d eq er =
-          let_done d (λ d' x. norm K (x ∷ env) d' t) eq (anf r1 ok.1.0 (omega arith) env ys s w d eq er) (λ g f u d' x eq' is. anf r2 ok.1.1.0 (omega arith) (LVar d' ∷ env) (depth g ∷ ys) (Plain g) (WCons u f) (suc d') (ap suc eq') (er_bind is (top_word g f u d' eq') (er_ext (ext_trans x (ext_push ext_same)) er))) (omega arith) (omega arith) (omega arith)
+          let_done d (λ d' x. norm K (x ∷ env) d' t) eq (anf r1 ok.1.0 (omega arith) env ys s w d eq er) (λ g f u d' x eq' is. anf r2 ok.1.1.0 (omega arith) (LVar d' ∷ env) (depth g ∷ ys) (Plain g) (WCons u f) (suc d') (ap suc eq')
+          (er_bind is (top_word g f u d' eq') (er_ext (ext_trans x (ext_push ext_same)) er))) (omega arith) (omega arith) (omega arith)
       anf (run_app {a = a} r1 r2 r3) ok le env ys s w d eq er =
           let h = anf r1 ok.1.0 (omega arith) env ys s w d eq er in
           app_clos h.is (applied d (λ d'. norm K env d' a) eq h (not_con_clos h.is) (λ g f d' x eq'. anf r2 ok.1.1.0 (omega arith) env ys g f d' eq' (er_ext x er))) (λ ok'. anf r3 ok' (omega arith)) (omega arith) (omega arith) (omega arith)

@@ -84,7 +84,8 @@ mutual
     vr_box : VR P K VBox WBox
     vr_con : {f : FamilyId} {c : ℕ} {vs : Values} {ws : AnfVals} → VRs P K vs ws → VR P K (VConstruct f c vs) (WCon c ws)
     vr_clos : {e : Env} {env : List Level} {ys : List ℕ} {s : Scope} {w : AnfVals} {b : BoxTerm} (d : ℕ) → d ≡ count w → Ready P b → ER P K e env ys s w → VR P K (VClosure e b) (WClos s w (sealed (suc d) (norm K (LVar d ∷ env) (suc d) b)))
-    vr_fix : {e : Env} {env : List Level} {ys : List ℕ} {s : Scope} {w : AnfVals} {rargs : List ℕ} {i : ℕ} {bodies : BoxTerms} (d : ℕ) → d ≡ count w → AreUnder (length rargs) rargs bodies → ReadyTerms P bodies → ER P K e env ys s w → VR P K (VFix e i rargs bodies) (WFix s w (norm_defs K env d (length rargs) bodies) i)
+    vr_fix : {e : Env} {env : List Level} {ys : List ℕ} {s : Scope} {w : AnfVals} {rargs : List ℕ} {i : ℕ} {bodies : BoxTerms} (d : ℕ) → d ≡ count w → AreUnder (length rargs) rargs bodies → ReadyTerms P bodies → ER P K e env ys s w → VR P K (VFix e i rargs bodies) (WFix s w
+        (norm_defs K env d (length rargs) bodies) i)
 
   pub data VRs (P : BoxProgram) (K : Name → ℕ) : Values → AnfVals → Type 0 where
     vrs_nil : VRs P K NoValue WNil
@@ -170,7 +171,8 @@ pub plains_size : (vs w : AnfVals) → count (vs +w w) ≡ count w + count vs
 plains_size WNil w = omega arith
 plains_size (WCons v vs) w = omega (arith, plains_size vs w)
 
-pub er_args : {P : BoxProgram} {K : Name → ℕ} {e : Env} {env : List Level} {ys : List ℕ} {s : Scope} {w : AnfVals} {vs : Values} {ws : AnfVals} (d : ℕ) → d ≡ count w → VRs P K vs ws → ER P K e env ys s w → (zs : List ℕ) × ER P K (bind_all vs e) (levels d (size vs) env) zs (plains (size vs) s) (ws +w w)
+pub er_args : {P : BoxProgram} {K : Name → ℕ} {e : Env} {env : List Level} {ys : List ℕ} {s : Scope} {w : AnfVals} {vs : Values} {ws : AnfVals} (d : ℕ) → d ≡ count w → VRs P K vs ws → ER P K e env ys s w → (zs : List ℕ) × ER P K (bind_all vs e) (levels d (size vs) env) zs (plains
+    (size vs) s) (ws +w w)
 er_args {ys = ys} d eq vrs_nil er = (ys, er)
 er_args {s = s} {w = w} {vs = Then v vs} d eq (vrs_cons {w = u} {ws = ws} g gs) er =
     let r = er_args d eq gs er in

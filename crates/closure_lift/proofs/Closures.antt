@@ -112,7 +112,15 @@ module _ (P : Program) (w : ℕ) where
 
   one : {s : Scope} {gs : List ℕ} {e : AnfVals} {a : Atom} {v : AnfVal} {b l : ℕ} (fr : List Slot) (le : Vals) → Gives w s e a v b l → ER P (word_in fr le) s gs e → size le ≡ length fr → Covers fr (depth s) (atom_words s a) → One s gs e fr le a v b l
   one {s} {gs} {e} {v = v} fr le (give_word {i = i} {x = x} is at) er eq cov =
-      record { fr' = fr; le' = le; grown = grown_same; kept = λ j v' h g. g; later = λ fr'' le'' g kept. go fr'' le'' g; wrap = λ next r c k b' l' g. transport (λ z. Gets P w le (closure_for fr i (get_or gs i 0) z next) r c k (0 + b') (0 + l')) (sym is) (counted refl refl (omega arith) (omega arith) g) }
+      record {
+        fr' = fr;
+        le' = le;
+        grown = grown_same;
+        kept = λ j v' h g. g;
+        later = λ fr'' le'' g kept. go fr'' le'' g;
+        wrap = λ next r c k b' l' g. transport (λ z. Gets P w le (closure_for fr i (get_or gs i 0) z next) r c k (0 + b') (0 + l')) (sym is)
+            (counted refl refl (omega arith) (omega arith) g);
+      }
     where
       known : Covers fr (depth s) (x ∷ [])
       known = transport (λ z. Covers fr (depth s) (words_of z)) is cov
@@ -150,7 +158,8 @@ module _ (P : Program) (w : ℕ) where
     pub kept : (j : ℕ) (v' : AnfVal) → find e j ≡ Some v' → Good fr le j v' → Good fr' le' j v'
     pub wrap : (next : List Slot → Block) (r : Val) (c k b' l' : ℕ) → Gets P w le' (next fr') r c k b' l' → Gets P w le (closures s gs fr as' next) r c k (b + b') (l + l')
 
-  joined : {s : Scope} {gs : List ℕ} {e : AnfVals} {fr : List Slot} {le : Vals} {a : Atom} {v : AnfVal} {as' : List Atom} {vs : AnfVals} {b l b' l' : ℕ} (x : One s gs e fr le a v b l) (y : Ready s gs e x.fr' x.le' as' vs b' l') (u : Val) → Is y.le' (atom s y.fr' a) u → VR P v u → Ready s gs e fr le (a ∷ as') (WCons v vs) (b + b') (l + l')
+  joined : {s : Scope} {gs : List ℕ} {e : AnfVals} {fr : List Slot} {le : Vals} {a : Atom} {v : AnfVal} {as' : List Atom} {vs : AnfVals} {b l b' l' : ℕ} (x : One s gs e fr le a v b l) (y : Ready s gs e x.fr' x.le' as' vs b' l') (u : Val) → Is y.le' (atom s y.fr'
+      a) u → VR P v u → Ready s gs e fr le (a ∷ as') (WCons v vs) (b + b') (l + l')
   joined {s} {gs} {as' = as'} {b' = b'} {l' = l'} x y u is g = record {
     fr' = y.fr';
     le' = y.le';

@@ -90,7 +90,8 @@ module _ (Q : AnfProgram) (w : ℕ) where
   Follows s e t v c k b l = (gs : List ℕ) (fr : List Slot) (le : Vals) (g : ℕ) → ER P (word_in fr le) s gs e → size le ≡ length fr → Covers fr (depth s) (block_words s t) → Placed (functions_block s gs g t) g P.functions → Got le (lift_block s gs fr g t) v c k b l
 
   -- an application after the closures for its atoms
-  app_did : {s : Scope} {gs : List ℕ} {e : AnfVals} {fr : List Slot} {le : Vals} {f a : Atom} {v1 v2 r : AnfVal} {c k b l : ℕ} (b1 b2 l1 l2 g : ℕ) (y : Ready P w s gs e fr le (f ∷ a ∷ []) (WCons v1 (WCons v2 WNil)) (b1 + (b2 + 0)) (l1 + (l2 + 0))) → ((le' : Vals) (f' a' : Atom) (u1 u2 : Val) → Is le' f' u1 → Is le' a' u2 → VR P v1 u1 → VR P v2 u2 → Called le' f' a' r c k b l) → Did s gs fr le g (AppOp f a) r c k (b1 + b2 + b) (l1 + l2 + l)
+  app_did : {s : Scope} {gs : List ℕ} {e : AnfVals} {fr : List Slot} {le : Vals} {f a : Atom} {v1 v2 r : AnfVal} {c k b l : ℕ} (b1 b2 l1 l2 g : ℕ) (y : Ready P w s gs e fr le (f ∷ a ∷ []) (WCons v1 (WCons v2 WNil)) (b1 + (b2 + 0)) (l1 + (l2 + 0))) → ((le' : Vals) (f' a' : Atom)
+      (u1 u2 : Val) → Is le' f' u1 → Is le' a' u2 → VR P v1 u1 → VR P v2 u2 → Called le' f' a' r c k b l) → Did s gs fr le g (AppOp f a) r c k (b1 + b2 + b) (l1 + l2 + l)
   app_did {s} {f = f} {a = a} {v1 = v1} {v2 = v2} {r = r} {c = c} {k = k} {b = b} {l = l} b1 b2 l1 l2 g y call =
       let d = go y.all y.related in
       record { fr' = y.fr'; le' = y.le'; grown = y.grown; u = d.u; is = d.is; c' = d.c'; b1 = b1 + (b2 + 0); b2 = b; l1 = l1 + (l2 + 0); l2 = l; does = d.does; wrap = y.wrap; le_c = d.le_c; blocks = omega arith; words = omega arith }
@@ -107,7 +108,8 @@ module _ (Q : AnfProgram) (w : ℕ) where
   call_box : {v : AnfVal} (le : Vals) (f a : Atom) (u1 u2 : Val) → Is le f u1 → Is le a u2 → VR P WBox u1 → VR P v u2 → Called le f a WBox 1 0 0 0
   call_box le f a u1 u2 is1 is2 vr_box g2 = record { u = VBox; is = vr_box; c' = 1; does = do_box_app is1 is2; le_c = omega arith }
 
-  call_fix : {s : Scope} {e : AnfVals} {ds : AnfDefs} {i : ℕ} {t : AnfBlock} {v r : AnfVal} {c k b l : ℕ} → LamAt ds i t → Follows (Plain (shares (fix_captured s ds) (def_count ds) s)) (WCons v (fixes s e ds (def_count ds) +w e)) t r c k b l → (le : Vals) (f a : Atom) (u1 u2 : Val) → Is le f u1 → Is le a u2 → VR P (WFix s e ds i) u1 → VR P v u2 → Called le f a r (suc (suc c)) k b l
+  call_fix : {s : Scope} {e : AnfVals} {ds : AnfDefs} {i : ℕ} {t : AnfBlock} {v r : AnfVal} {c k b l : ℕ} → LamAt ds i t → Follows (Plain (shares (fix_captured s ds) (def_count ds) s)) (WCons v (fixes s e ds (def_count ds) +w e)) t r c k b l → (le : Vals) (f a : Atom) (u1 u2 :
+      Val) → Is le f u1 → Is le a u2 → VR P (WFix s e ds i) u1 → VR P v u2 → Called le f a r (suc (suc c)) k b l
   call_fix {s} {ds = ds} {t = t} at next le f a u1 u2 is1 is2 (vr_fix {gs = gs} {us = us} {g = g} {n = j} er sz p num) g2 =
       let cs = fix_captured s ds in
       let n = def_count ds in
@@ -123,7 +125,9 @@ module _ (Q : AnfProgram) (w : ℕ) where
       let n = def_count ds in
       record { u = VBox; is = vr_box; c' = 1; does = do_app is1 is2 (box_placed (shares cs n s) (numbered g n gs) cs g (g + n) j num at (front _ _ p)) sz (gets_atom is_box); le_c = omega arith }
 
-  case_did : {s : Scope} {gs : List ℕ} {e : AnfVals} {fr : List Slot} {le : Vals} {a : Atom} {i : ℕ} {vs : AnfVals} {t : AnfBlock} {r : AnfVal} {c k b l : ℕ} (bs : AnfBranches) (b1 l1 g : ℕ) (y : Ready P w s gs e fr le (a ∷ []) (WCons (WCon i vs) WNil) (b1 + 0) (l1 + 0)) → ER P (word_in y.fr' y.le') s gs e → size y.le' ≡ length y.fr' → Covers y.fr' (depth s) (branches_words s bs) → AnfBranchAt bs i (count vs) t → Placed (functions_branches s gs g bs) g P.functions → Follows (plains (count vs) s) (vs +w e) t r c k b l → Did s gs fr le g (CaseOp a bs) r (suc c) (suc k) (b1 + b) (l1 + l)
+  case_did : {s : Scope} {gs : List ℕ} {e : AnfVals} {fr : List Slot} {le : Vals} {a : Atom} {i : ℕ} {vs : AnfVals} {t : AnfBlock} {r : AnfVal} {c k b l : ℕ} (bs : AnfBranches) (b1 l1 g : ℕ) (y : Ready P w s gs e fr le (a ∷ []) (WCons (WCon i vs) WNil) (b1 + 0)
+      (l1 + 0)) → ER P (word_in y.fr' y.le') s gs e → size y.le' ≡ length y.fr' → Covers y.fr' (depth s) (branches_words s bs) → AnfBranchAt bs i (count vs) t → Placed (functions_branches s gs g bs) g P.functions → Follows (plains (count vs) s) (vs +w
+      e) t r c k b l → Did s gs fr le g (CaseOp a bs) r (suc c) (suc k) (b1 + b) (l1 + l)
   case_did {s} {gs} {e} {fr} {le} {a = a} {i = i} {vs = vs} {t = t} {r = r} {c = c} {k = k} {b = b} {l = l} bs b1 l1 g y er eq cov at p next = go y.all y.related
     where
       go : {us : Vals} → AllAre y.le' (atom s y.fr' a ∷ []) us → VRs P (WCons (WCon i vs) WNil) us → Did s gs fr le g (CaseOp a bs) r (suc c) (suc k) (b1 + b) (l1 + l)
@@ -148,7 +152,8 @@ module _ (Q : AnfProgram) (w : ℕ) where
       go (are_more {v = u} isa are_none) (vrs_cons related vrs_nil) =
           record { u = u; is = related; c' = 0; gets = counted refl refl (omega arith) (omega arith) (y.wrap (λ fr'. RetAtom (atom s fr' a)) u 0 0 0 0 (gets_atom isa)); le_c = omega arith }
 
-  let_got : {s : Scope} {gs : List ℕ} {e : AnfVals} {fr : List Slot} {le : Vals} {a : Atom} {v r : AnfVal} {c k b l : ℕ} (t : AnfBlock) (b1 l1 g : ℕ) (y : Ready P w s gs e fr le (a ∷ []) (WCons v WNil) (b1 + 0) (l1 + 0)) → ER P (word_in y.fr' y.le') s gs e → size y.le' ≡ length y.fr' → Covers y.fr' (depth s) (block_words (Plain s) t) → Placed (functions_block (Plain s) (0 ∷ gs) g t) g P.functions → Follows (Plain s) (WCons v e) t r c k b l → Got le (lift_block s gs fr g (BindAtom a t)) r (suc c) k (b1 + b) (l1 + l)
+  let_got : {s : Scope} {gs : List ℕ} {e : AnfVals} {fr : List Slot} {le : Vals} {a : Atom} {v r : AnfVal} {c k b l : ℕ} (t : AnfBlock) (b1 l1 g : ℕ) (y : Ready P w s gs e fr le (a ∷ []) (WCons v WNil) (b1 + 0) (l1 + 0)) → ER P (word_in y.fr'
+      y.le') s gs e → size y.le' ≡ length y.fr' → Covers y.fr' (depth s) (block_words (Plain s) t) → Placed (functions_block (Plain s) (0 ∷ gs) g t) g P.functions → Follows (Plain s) (WCons v e) t r c k b l → Got le (lift_block s gs fr g (BindAtom a t)) r (suc c) k (b1 + b) (l1 + l)
   let_got {s} {gs} {fr = fr} {le = le} {a = a} {v = v} {r = r} {c = c} {k = k} {b = b} {l = l} t b1 l1 g y er eq cov p next = go y.all y.related
     where
       go : {us : Vals} → AllAre y.le' (atom s y.fr' a ∷ []) us → VRs P (WCons v WNil) us → Got le (lift_block s gs fr g (BindAtom a t)) r (suc c) k (b1 + b) (l1 + l)
@@ -156,12 +161,21 @@ module _ (Q : AnfProgram) (w : ℕ) where
           let x = next (0 ∷ gs) (Holds (depth s) ∷ y.fr') (VCons u y.le') g (er_push y.fr' y.le' er related) (ap suc eq) (covers_bind s y.fr' (block_words (Plain s) t) cov) p in
           record { u = x.u; is = x.is; c' = suc x.c'; gets = counted refl refl (omega arith) (omega arith) (y.wrap (λ fr'. LetAtom (atom s fr' a) (lift_block (Plain s) (0 ∷ gs) (Holds (depth s) ∷ fr') g t)) x.u (suc x.c') k b l (gets_let_atom isa x.gets)); le_c = omega (arith, x.le_c) }
 
-  bind_got : {s : Scope} {gs : List ℕ} {fr : List Slot} {le : Vals} {g : ℕ} {op : AnfOp} {v r : AnfVal} {c c1 k k1 b b1 l l1 : ℕ} (t : AnfBlock) (h : Did s gs fr le g op v c1 k1 b1 l1) → Got (VCons h.u h.le') (lift_block (Plain s) (0 ∷ gs) (Holds (depth s) ∷ h.fr') (g + op_functions op) t) r c k b l → Got le (lift_block s gs fr g (Bind op t)) r (c1 + c) (k1 + k) (b1 + b) (l1 + l)
+  bind_got : {s : Scope} {gs : List ℕ} {fr : List Slot} {le : Vals} {g : ℕ} {op : AnfOp} {v r : AnfVal} {c c1 k k1 b b1 l l1 : ℕ} (t : AnfBlock) (h : Did s gs fr le g op v c1 k1 b1 l1) → Got (VCons h.u h.le') (lift_block (Plain s) (0 ∷ gs) (Holds (depth s) ∷ h.fr')
+      (g + op_functions op) t) r c k b l → Got le (lift_block s gs fr g (Bind op t)) r (c1 + c) (k1 + k) (b1 + b) (l1 + l)
   bind_got {s} {gs} {fr} {le} {g} {op} {k = k} {k1 = k1} {b = b} {l = l} t h x =
-      record { u = x.u; is = x.is; c' = h.c' + x.c'; gets = counted refl refl (omega (arith, h.blocks)) (omega (arith, h.words)) (h.wrap (λ fr'. Let (lift_op s gs fr' g op) (lift_block (Plain s) (0 ∷ gs) (Holds (depth s) ∷ fr') (g + op_functions op) t)) x.u (h.c' + x.c') (k1 + k) (h.b2 + b) (h.l2 + l) (gets_let h.does x.gets)); le_c = omega (arith, h.le_c, x.le_c) }
+      record {
+        u = x.u;
+        is = x.is;
+        c' = h.c' + x.c';
+        gets = counted refl refl (omega (arith, h.blocks)) (omega (arith, h.words))
+            (h.wrap (λ fr'. Let (lift_op s gs fr' g op) (lift_block (Plain s) (0 ∷ gs) (Holds (depth s) ∷ fr') (g + op_functions op) t)) x.u (h.c' + x.c') (k1 + k) (h.b2 + b) (h.l2 + l) (gets_let h.does x.gets));
+        le_c = omega (arith, h.le_c, x.le_c);
+      }
 
   mutual
-    follows_op : {s : Scope} {e : AnfVals} {op : AnfOp} {v : AnfVal} {c k b l : ℕ} → AnfDoes Q w s e op v c k b l → (gs : List ℕ) (fr : List Slot) (le : Vals) (g : ℕ) → ER P (word_in fr le) s gs e → size le ≡ length fr → Covers fr (depth s) (op_words s op) → Placed (functions_op s gs g op) g P.functions → Did s gs fr le g op v c k b l
+    follows_op : {s : Scope} {e : AnfVals} {op : AnfOp} {v : AnfVal} {c k b l : ℕ} → AnfDoes Q w s e op v c k b l → (gs : List ℕ) (fr : List Slot) (le : Vals) (g : ℕ) → ER P (word_in fr le) s gs e → size le ≡ length fr → Covers fr (depth s) (op_words s op) → Placed (functions_op
+        s gs g op) g P.functions → Did s gs fr le g op v c k b l
     follows_op (op_const {x = x} {t = t} at d) gs fr le g er eq cov p =
         let q = constant_placed Q x t at in
         let h = follows d [] [] VNil q.from er_nil refl (covers_none (block_words Outside t)) q.placed in
@@ -182,18 +196,52 @@ module _ (Q : AnfProgram) (w : ℕ) where
         let cs = lam_captured s t in
         let x = capture fr le eq cs (captured_each (λ x. In (Holds x) fr) (depth s) (block_words (Plain s) t) cov) in
         let long = length_map (held fr) cs in
-        record { fr' = fr; le' = le; grown = grown_same; u = VClos g x.us; is = vr_clos (er_captured x.carries er) (carries_size x.carries) p; c' = 0; b1 = 0; b2 = 1; l1 = 0; l2 = _; does = do_clos (omega arith) x.all; wrap = λ next r c k b' l' z. no_wrap z; le_c = omega arith; blocks = omega arith; words = omega arith }
+        record {
+          fr' = fr;
+          le' = le;
+          grown = grown_same;
+          u = VClos g x.us;
+          is = vr_clos (er_captured x.carries er) (carries_size x.carries) p;
+          c' = 0;
+          b1 = 0;
+          b2 = 1;
+          l1 = 0;
+          l2 = _;
+          does = do_clos (omega arith) x.all;
+          wrap = λ next r c k b' l' z. no_wrap z;
+          le_c = omega arith;
+          blocks = omega arith;
+          words = omega arith;
+        }
     follows_op {s} (op_fix {ds = ds} {i = i} few) gs fr le g er eq cov p =
         let cs = fix_captured s ds in
         let x = capture fr le eq cs (captured_each (λ x. In (Holds x) fr) (depth s) (defs_words (shares [] (def_count ds) s) ds) cov) in
         let long = length_map (held fr) cs in
-        record { fr' = fr; le' = le; grown = grown_same; u = VClos (g + i) x.us; is = vr_fix (er_captured x.carries er) (carries_size x.carries) p refl; c' = 0; b1 = 0; b2 = 1; l1 = 0; l2 = _; does = do_clos (omega arith) x.all; wrap = λ next r c k b' l' z. no_wrap z; le_c = omega arith; blocks = omega arith; words = omega arith }
+        record {
+          fr' = fr;
+          le' = le;
+          grown = grown_same;
+          u = VClos (g + i) x.us;
+          is = vr_fix (er_captured x.carries er) (carries_size x.carries) p refl;
+          c' = 0;
+          b1 = 0;
+          b2 = 1;
+          l1 = 0;
+          l2 = _;
+          does = do_clos (omega arith) x.all;
+          wrap = λ next r c k b' l' z. no_wrap z;
+          le_c =
+              omega arith;
+          blocks = omega arith;
+          words = omega arith;
+        }
     follows_op {s} (op_case {a = a} {bs = bs} {b1 = b1} {l1 = l1} h at d) gs fr le g er eq cov p =
         let parts = each_split (λ x. x < depth s → In (Holds x) fr) (atom_words s a) _ cov in
         let y = ready P w fr le (give_more h give_none) er eq (one_atom fr s a parts.0) in
         case_did bs b1 l1 g y (grown_er y.grown er) (grown_size y.grown eq) (grown_covers (depth s) (branches_words s bs) y.grown parts.1) at p (follows d)
 
-    pub follows : {s : Scope} {e : AnfVals} {t : AnfBlock} {v : AnfVal} {c k b l : ℕ} → AnfGets Q w s e t v c k b l → (gs : List ℕ) (fr : List Slot) (le : Vals) (g : ℕ) → ER P (word_in fr le) s gs e → size le ≡ length fr → Covers fr (depth s) (block_words s t) → Placed (functions_block s gs g t) g P.functions → Got le (lift_block s gs fr g t) v c k b l
+    pub follows : {s : Scope} {e : AnfVals} {t : AnfBlock} {v : AnfVal} {c k b l : ℕ} → AnfGets Q w s e t v c k b l → (gs : List ℕ) (fr : List Slot) (le : Vals) (g : ℕ) → ER P (word_in fr le) s gs e → size le ≡ length fr → Covers fr (depth s) (block_words s
+        t) → Placed (functions_block s gs g t) g P.functions → Got le (lift_block s gs fr g t) v c k b l
     follows {s} (block_atom {a = a} h) gs fr le g er eq cov p = atom_got g (ready P w fr le (give_more h give_none) er eq (one_atom fr s a cov))
     follows {s} (block_op {op = op} {k = k} d) gs fr le g er eq cov p =
         let h = follows_op d gs fr le g er eq cov p in

@@ -160,7 +160,8 @@ module _ (fs : List Fn) (k m : ℕ) where
   fix_known s gs g ds i p known = known_fixes (fix_captured s ds) g (def_count ds) (fix_takes s gs g ds i p) (captured_below (depth s) (defs_words (shares [] (def_count ds) s) ds)) known
 
   mutual
-    op_fits : {s : Scope} {gs : List ℕ} (n : ℕ) (fr : List Slot) (g : ℕ) (op : AnfOp) → Known fs s gs → Covers fr (depth s) (op_words s op) → AnfOpFits k m n op → Placed (functions_op s gs g op) g fs → AtomsFit (length fr) (map (atom s fr) (atoms_of op)) → OpFits fs k m (length fr) (lift_op s gs fr g op)
+    op_fits : {s : Scope} {gs : List ℕ} (n : ℕ) (fr : List Slot) (g : ℕ) (op : AnfOp) → Known fs s gs → Covers fr (depth s) (op_words s op) → AnfOpFits k m n op → Placed (functions_op s gs g op) g fs → AtomsFit (length fr) (map (atom s fr) (atoms_of op)) → OpFits fs k m (length
+        fr) (lift_op s gs fr g op)
     op_fits n fr g (ConstOp x) known cov fit p fits = fit
     op_fits n fr g (AppOp f a) known cov fit p fits = (fits.0, fits.1.0)
     op_fits {s} n fr g (ConOp c as') known cov fit p fits = let long = kept_length (atom s fr) as' in let pos = fit.1 in let few = fit.2 in (fit.0, omega arith, omega arith, fits)
@@ -184,7 +185,11 @@ module _ (fs : List Fn) (k m : ℕ) where
         closed_atoms n fr (a ∷ []) _ known (one_atom fr s a parts.0) (fit.0, tt) (λ fr' kept fits. (fits.0, block_fits (suc n) (Holds (depth s) ∷ fr') g t (known_plain known) (covers_bind s fr' (block_words (Plain s) t) (kept_covers (depth s) (block_words (Plain s) t) kept parts.1)) fit.1 p))
     block_fits {s} {gs} n fr g (Bind op t) known cov fit p =
         let parts = each_split (λ x. x < depth s → In (Holds x) fr) (op_words s op) _ cov in
-        closed_atoms n fr (atoms_of op) _ known (op_atoms fr s op parts.0) (op_atoms_fit k m n op fit.0) (λ fr' kept fits. (op_fits n fr' g op known (kept_covers (depth s) (op_words s op) kept parts.0) fit.0 (front _ _ p) fits, block_fits (suc n) (Holds (depth s) ∷ fr') (g + op_functions op) t (known_plain known) (covers_bind s fr' (block_words (Plain s) t) (kept_covers (depth s) (block_words (Plain s) t) kept parts.1)) fit.1 (then_block s gs g op t p)))
+        closed_atoms n fr (atoms_of op) _ known (op_atoms fr s op parts.0) (op_atoms_fit k m n op fit.0) (λ fr' kept fits. (
+          op_fits n fr' g op known (kept_covers (depth s) (op_words s op) kept parts.0) fit.0 (front _ _ p) fits,
+          block_fits (suc n) (Holds (depth s) ∷ fr') (g + op_functions op) t (known_plain known)
+              (covers_bind s fr' (block_words (Plain s) t) (kept_covers (depth s) (block_words (Plain s) t) kept parts.1)) fit.1 (then_block s gs g op t p),
+        ))
 
     branches_fit : {s : Scope} {gs : List ℕ} (n : ℕ) (fr : List Slot) (g : ℕ) (bs : AnfBranches) → Known fs s gs → Covers fr (depth s) (branches_words s bs) → AnfBranchesFit k m n bs → Placed (functions_branches s gs g bs) g fs → BranchesFit fs k m (length fr) (lift_branches s gs fr g bs)
     branches_fit n fr g NoBranch known cov fit p = tt
@@ -222,7 +227,8 @@ module _ (fs : List Fn) (k m : ℕ) where
   lambda_fits {s} {gs} n ws g b known cov fit p =
       transport (λ z. BlockFits fs k m (suc z) (lift_block (Plain s) (0 ∷ gs) (Holds (depth s) ∷ holds_all ws) g b)) (holds_length ws) (block_fits n (Holds (depth s) ∷ holds_all ws) g b (known_plain known) cov fit p)
 
-  defs_fit : {s : Scope} {gs : List ℕ} (n : ℕ) (ws : List ℕ) (g : ℕ) (ds : AnfDefs) → Known fs s gs → ((i : ℕ) (b : AnfBlock) → LamAt ds i b → Covers (Holds (depth s) ∷ holds_all ws) (suc (depth s)) (block_words (Plain s) b)) → DefsFit k m n ds → Placed (functions_defs s gs g ds) g fs → Every (def_functions s gs ws g ds)
+  defs_fit : {s : Scope} {gs : List ℕ} (n : ℕ) (ws : List ℕ) (g : ℕ) (ds : AnfDefs) → Known fs s gs → ((i : ℕ) (b : AnfBlock) → LamAt ds i b → Covers (Holds (depth s) ∷ holds_all ws) (suc (depth s)) (block_words (Plain s) b)) → DefsFit k m n ds → Placed (functions_defs s gs g
+      ds) g fs → Every (def_functions s gs ws g ds)
   defs_fit n ws g NoDef known cov fit p = tt
   defs_fit {s} {gs} n ws g (LamDef b rest') known cov fit p =
       (lambda_fits (suc n) ws g b known (cov 0 b lam_here) fit.0 (front _ _ p), defs_fit n ws (g + block_functions b) rest' known (λ i b' at. cov (suc i) b' (lam_after_lam at)) fit.1 (back _ _ (omega (arith, block_length (Plain s) (0 ∷ gs) g b)) p))

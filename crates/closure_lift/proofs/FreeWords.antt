@@ -179,7 +179,8 @@ module _ (d : ℕ) where
   atom_alike : (s : Scope) (a : Atom) → Alike d (atom_words s a) (scope_words s (free_atom (size s) a))
   atom_alike s a zs = ap (λ ws. captured d (ws ++ zs)) (atom_same s a)
 
-  fix_step : (s : Scope) (ds : AnfDefs) → Alike d (defs_words (shares [] (def_count ds) s) ds) (scope_words (shares [] (def_count ds) s) (free_defs (size (shares [] (def_count ds) s)) ds)) → Alike d (defs_words (shares [] (def_count ds) s) ds) (scope_words s (captured (size s) (free_defs (def_count ds + size s) ds)))
+  fix_step : (s : Scope) (ds : AnfDefs) → Alike d (defs_words (shares [] (def_count ds) s) ds) (scope_words (shares [] (def_count ds) s) (free_defs (size (shares [] (def_count ds) s)) ds)) → Alike d (defs_words (shares [] (def_count ds) s) ds) (scope_words s
+      (captured (size s) (free_defs (def_count ds + size s) ds)))
   fix_step s ds h =
       moved_once s (shares [] (def_count ds) s) (defs_words (shares [] (def_count ds) s) ds) (free_defs (def_count ds + size s) ds) (out_shares (def_count ds) s)
       (transport (λ n. Alike d (defs_words (shares [] (def_count ds) s) ds) (scope_words (shares [] (def_count ds) s) (free_defs n ds))) (size_shares [] (def_count ds) s) h)

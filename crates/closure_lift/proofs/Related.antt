@@ -32,7 +32,8 @@ mutual
     er_nil : {W : ℕ → Option Val} → ER P W Outside [] WNil
     er_in : {W : ℕ → Option Val} {s : Scope} {gs : List ℕ} {e : AnfVals} {n : ℕ} {v : AnfVal} {u : Val} → W (depth s) ≡ Some u → VR P v u → ER P W s gs e → ER P W (Plain s) (n ∷ gs) (WCons v e)
     er_out : {W : ℕ → Option Val} {s : Scope} {gs : List ℕ} {e : AnfVals} {n : ℕ} {v : AnfVal} → W (depth s) ≡ None → ER P W s gs e → ER P W (Plain s) (n ∷ gs) (WCons v e)
-    er_fix : {W : ℕ → Option Val} {s s' : Scope} {gs gs' : List ℕ} {e e' : AnfVals} {ds : AnfDefs} {i g n : ℕ} {ws : List ℕ} → ws ≡ fix_captured s' ds → depth s' ≤ depth s → ER P W s' gs' e' → Placed (functions_op s' gs' g (FixOp ds i)) g P.functions → n ≡ g + i → ER P W s gs e → ER P W (Shared ws s) (n ∷ gs) (WCons (WFix s' e' ds i) e)
+    er_fix : {W : ℕ → Option Val} {s s' : Scope} {gs gs' : List ℕ} {e e' : AnfVals} {ds : AnfDefs} {i g n : ℕ} {ws : List ℕ} → ws ≡ fix_captured s' ds → depth s' ≤ depth s → ER P W s' gs' e' → Placed (functions_op s' gs' g
+        (FixOp ds i)) g P.functions → n ≡ g + i → ER P W s gs e → ER P W (Shared ws s) (n ∷ gs) (WCons (WFix s' e' ds i) e)
 
 pub vrs_size : {P : Program} {ws : AnfVals} {vs : Vals} → VRs P ws vs → size vs ≡ count ws
 vrs_size vrs_nil = refl

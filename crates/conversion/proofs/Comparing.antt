@@ -41,7 +41,8 @@ module _ (E : Env) (q : Test) (c : Context) (equal : Bool) (a b : Term) where
   compare_nested zero m0 m1 m2 z h e n e' n' = follows_nested m0 m1 m2 h e n e' n'
   compare_nested (suc k) m0 m1 m2 z h e n e' n' = absurd (omega arith)
 
-  pub compare_entered : (n k : ℕ) (r : Result (Unit {0}) Halt) (m0 m1 m2 m3 m4 : Meter) → n ≡ suc k → 0 < m0.account.left → m1.account ≡ ticked m0.account → m1.nest ≡ m0.nest → m2.account ≡ m1.account → m2.nest ≡ m1.nest + 1 → Follows (entered E q (compare E q k) c equal a b m2.account) r m2 m3 → m4.account ≡ m3.account → m4.nest ≡ m3.nest - 1 → Follows (compare E q n c equal a b m0.account) r m0 m4
+  pub compare_entered : (n k : ℕ) (r : Result (Unit {0}) Halt) (m0 m1 m2 m3 m4 : Meter) → n ≡ suc k → 0 < m0.account.left → m1.account ≡ ticked m0.account → m1.nest ≡ m0.nest → m2.account ≡ m1.account → m2.nest ≡ m1.nest + 1 → Follows (entered E q (compare E q k) c equal a b
+      m2.account) r m2 m3 → m4.account ≡ m3.account → m4.nest ≡ m3.nest - 1 → Follows (compare E q n c equal a b m0.account) r m0 m4
   unfolding compare
   compare_entered zero k r m0 m1 m2 m3 m4 z h e n e' n' f e'' n'' = absurd (omega arith)
   compare_entered (suc j) k r m0 m1 m2 m3 m4 z h e n e' n' f e'' n'' =

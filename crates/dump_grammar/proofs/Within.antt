@@ -112,7 +112,8 @@ mutual
   branches-passed NoBranchForm k vs r = simp passed-step
   branches-passed (BranchForm ns b more) k vs r = simp (passed-step, word-is, do-passed, names-passed, form-passed b, branches-passed more, first-first)
 
-  definitions-passed : {m : ℕ} (more : Definitions m) (ds : List NamedDef) (k : List Item) (vs : List Value) (r : List Text) → passed (IList DefinitionList ∷ k) (VDefs ds ∷ vs) (definitions more (Close ∷ r)) ≡ first (definitions_over (length ds) more) (passed k (VDefs (ds ++ definition_meanings more) ∷ vs) r)
+  definitions-passed : {m : ℕ} (more : Definitions m) (ds : List NamedDef) (k : List Item) (vs : List Value) (r : List Text) → passed (IList DefinitionList ∷ k) (VDefs ds ∷ vs) (definitions more (Close ∷ r)) ≡ first (definitions_over (length ds) more) (passed k
+      (VDefs (ds ++ definition_meanings more) ∷ vs) r)
   definitions-passed NoDefinition ds k vs r = simp (passed-step, append-nil)
   definitions-passed (Definition na A b n more) ds k vs r =
       let def : NamedDef = record { type = meaning A; body = meaning b; rarg = n.value } in
@@ -131,7 +132,8 @@ constructors-passed [] ds k vs r = simp (passed-step, append-nil)
 constructors-passed (c ∷ more) ds k vs r =
     simp (passed-step, word-is, do-passed, bindings-passed c.args [], terms-passed, terms-value, constructors-passed more (ds ++ constructor_meaning c ∷ []), length-append, append_assoc, first-first)
 
-families-passed : (fs : List FamilyForm) (gs : List NamedFamily) (k : List Item) (vs : List Value) (r : List Text) → passed (IList Families ∷ k) (VFamilies gs ∷ vs) (families fs (Close ∷ r)) ≡ first (families_over (length gs) fs) (passed k (act AddBlock (VFamilies (gs ++ map family_meaning fs) ∷ vs)) r)
+families-passed : (fs : List FamilyForm) (gs : List NamedFamily) (k : List Item) (vs : List Value) (r : List Text) → passed (IList Families ∷ k) (VFamilies gs ∷ vs) (families fs (Close ∷ r)) ≡ first (families_over (length gs) fs) (passed k
+    (act AddBlock (VFamilies (gs ++ map family_meaning fs) ∷ vs)) r)
 unfolding families families_over
 families-passed [] gs k vs r = simp passed-step (ap (λ xs. passed k (act AddBlock (VFamilies xs ∷ vs)) r) (sym (append-nil gs)))
 families-passed (f ∷ more) gs k vs r =
@@ -144,7 +146,8 @@ unfolding body
 body-passed NoneForm k vs r = simp (passed-step, word-is)
 body-passed (SomeForm f) k vs r = simp (passed-step, form-passed)
 
-constraints-passed : (cs : List ConstraintForm) (ds : List NamedConstraint) (k : List Item) (vs : List Value) (r : List Text) → passed (IList Constraints ∷ k) (VConstraints ds ∷ vs) (constraints cs (Close ∷ r)) ≡ first (constraints_over (length ds) cs) (passed k (VConstraints (ds ++ map constraint_meaning cs) ∷ vs) r)
+constraints-passed : (cs : List ConstraintForm) (ds : List NamedConstraint) (k : List Item) (vs : List Value) (r : List Text) → passed (IList Constraints ∷ k) (VConstraints ds ∷ vs) (constraints cs (Close ∷ r)) ≡ first (constraints_over (length ds) cs) (passed k
+    (VConstraints (ds ++ map constraint_meaning cs) ∷ vs) r)
 unfolding constraints constraints_over
 constraints-passed [] ds k vs r = simp (passed-step, append-nil)
 constraints-passed (c ∷ more) ds k vs r = simp (passed-step, comparison-is c.relation, constraints-passed more (ds ++ constraint_meaning c ∷ []), length-append, append_assoc, first-first)
@@ -178,7 +181,8 @@ declaration-passed (ConstantForm c A (SomeForm f)) ds k vs r = simp (passed-step
 declaration-passed (BlockForm c ps f more) ds k vs r =
     simp (passed-step, opening-is openings.Block, word-is, do-passed, bindings-passed ps [], sort-passed, bindings-passed f.indices [], constructors-passed f.ctors [], families-passed more (family_meaning f ∷ []), first-first)
 
-declarations-passed : (fs : List DeclForm) (t : Form) (ds : List NamedDecl) (k : List Item) (vs : List Value) (r : List Text) → passed (IDecls ∷ k) (VDecls ds ∷ vs) (Open ∷ declarations fs t r) ≡ first (declarations_over (length ds) fs t) (passed k (VTerm (meaning t) ∷ VDecls (ds ++ map declaration_meaning fs) ∷ vs) r)
+declarations-passed : (fs : List DeclForm) (t : Form) (ds : List NamedDecl) (k : List Item) (vs : List Value) (r : List Text) → passed (IDecls ∷ k) (VDecls ds ∷ vs) (Open ∷ declarations fs t r) ≡ first (declarations_over (length ds) fs t) (passed k
+    (VTerm (meaning t) ∷ VDecls (ds ++ map declaration_meaning fs) ∷ vs) r)
 unfolding declarations declarations_over
 declarations-passed [] t ds k vs r = simp (passed-step, main-is_declaration, opening-is openings.Main, form-passed, append-nil)
 declarations-passed (d ∷ more) t ds k vs r =

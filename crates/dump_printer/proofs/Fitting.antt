@@ -184,7 +184,8 @@ module _ (ns ls : List (List ℕ)) where
         let on_more = branches-fit more x.1 us vs on_b.1 on_b.2 in
         ((on_b.0, on_more.0), on_more.1, on_more.2)
 
-    definitions-fit : {m : ℕ} (n : ℕ) (ds : Definitions m) → definitions_over n ds ≡ None → (us vs : List (List ℕ)) → AreIn (names_of_defs (defs_of (definition_meanings ds)) us) ns → AreIn (levels_of_defs (defs_of (definition_meanings ds)) vs) ls → All (FitDefs ns ls (defs_of (definition_meanings ds))) us vs
+    definitions-fit : {m : ℕ} (n : ℕ) (ds : Definitions m) → definitions_over n ds ≡ None → (us vs : List (List ℕ)) → AreIn (names_of_defs (defs_of (definition_meanings ds)) us) ns → AreIn (levels_of_defs (defs_of (definition_meanings ds)) vs) ls → All (FitDefs ns ls
+        (defs_of (definition_meanings ds))) us vs
     definitions-fit n NoDefinition o us vs u v = (tt, u, v)
     definitions-fit n (Definition na A b r more) o us vs u v =
         let x = both _ _ o in

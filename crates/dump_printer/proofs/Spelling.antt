@@ -50,7 +50,8 @@ module _ (e : RawEnv) (h : IsFormed e) where
   tokens-good =
       let d = h.form in
       let uses = uses-good d h.good in
-      let fine = environment-good (name_table (env_of d)) (level_table (env_of d)) (firsts-good (name_uses (env_of d)) uses.0) (firsts-good (spelling words.Set ∷ level_uses (env_of d)) (good-more (spelling words.Set) (level_uses (env_of d)) (word-good words.Set) uses.1)) (env_of d) (dump-fit d h.within.1) in
+      let fine = environment-good (name_table (env_of d)) (level_table (env_of d)) (firsts-good (name_uses (env_of d)) uses.0) (firsts-good (spelling words.Set ∷ level_uses (env_of d)) (good-more (spelling words.Set) (level_uses (env_of d)) (word-good words.Set) uses.1)) (env_of
+      d) (dump-fit d h.within.1) in
       subst (λ r. AreGood (canonical_tokens r)) (sym h.meant) fine
 
   pub tokens-are : canonical_tokens e ≡ dump (canonical_dump h.form h.within.1) []

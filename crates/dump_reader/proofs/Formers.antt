@@ -113,7 +113,8 @@ pub case-term : {t0 t1 t2 t3 t4 t5 : Tables} (k : List ℕ) (n : ℕ) (ps : List
 unfolding names levels numbered_term
 case-term k n ps b r s bs p q u v w = record {
   numbers =
-      restated (both {X = List Arm → terms.Term} (both {X = terms.Term → List Arm → terms.Term} (both {X = terms.Term → terms.Term → List Arm → terms.Term} (both p (λ a c d e f. terms.Case (record { block = a; family = n }) (trees.terms_of c) b d e (arms_of f)) q.numbers) (λ g d. g d) u.numbers) (λ g e. g e) v.numbers) (λ g f. g f) w.numbers)
+      restated (both {X = List Arm → terms.Term} (both {X = terms.Term → List Arm → terms.Term} (both {X = terms.Term → terms.Term → List Arm → terms.Term} (both p (λ a c d e f. terms.Case (record { block = a; family = n }) (trees.terms_of c) b d e (arms_of f)) q.numbers)
+      (λ g d. g d) u.numbers) (λ g e. g e) v.numbers) (λ g f. g f) w.numbers)
       (λ after. ap (λ more. k ∷ more) (term-names ps (names r (names s (names_of_branches (branches_of (map named_branch bs)) after))) ∙ ap (λ more. each names ps (names r (names s more))) (branch-names bs after)))
       (λ after. term-levels ps (levels r (levels s (levels_of_branches (branches_of (map named_branch bs)) after))) ∙ ap (λ more. each levels ps (levels r (levels s more))) (branch-levels bs after))
       (λ ns ls. λ i. terms.Case (record { block = name_number ns k; family = n }) (term-values ns ls ps i) b (numbered_term ns ls r) (numbered_term ns ls s) (branch-values ns ls bs i)) refl;

@@ -101,7 +101,8 @@ follows_nested m0 m1 m2 h e n e' n' =
     rw (ticking-more m0.account (λ v. too_nested) h) (record { answer = refl; after = after-tick m0 m2 (e' ∙ e) (n' ∙ n) })
 
 -- a unit, one more rule that stands, the rest, and the rule is left
-pub follows_entered : {A : Type 0} (go : Account → Run A) (r : Result A Halt) (m0 m1 m2 m3 m4 : Meter) → 0 < m0.account.left → m1.account ≡ ticked m0.account → m1.nest ≡ m0.nest → m2.account ≡ m1.account → m2.nest ≡ m1.nest + 1 → Follows (go m2.account) r m2 m3 → m4.account ≡ m3.account → m4.nest ≡ m3.nest - 1 → Follows (ticking m0.account go) r m0 m4
+pub follows_entered : {A : Type 0} (go : Account → Run A) (r : Result A Halt) (m0 m1 m2 m3 m4 : Meter) → 0 < m0.account.left → m1.account ≡ ticked m0.account → m1.nest ≡ m0.nest → m2.account ≡ m1.account → m2.nest ≡ m1.nest + 1 → Follows (go
+    m2.account) r m2 m3 → m4.account ≡ m3.account → m4.nest ≡ m3.nest - 1 → Follows (ticking m0.account go) r m0 m4
 follows_entered go r m0 m1 m2 m3 m4 h e n e' n' f e'' n'' =
     let q = f.after.nest in
     let s : IsAfter m0 m4 = record {

@@ -13,7 +13,10 @@ lift_code-requires c =
     let cs = c.args.constants.now in
     let p = c.loop-past.past in
     let e = next_constant cs p c.index-constants-constants.result c.loop-past-test.true c.index-constants-constants.is in
-    record { notes = next_stands c.args.notes.now c.args.functions.now.items (reverse cs) c.loop-past.functions.items c.loop-past.items.items c.index-constants-constants.result (drop (p + 1) (reverse cs)) (subst (ConstantsGo c.args.notes.now c.args.functions.now.items (reverse cs) c.loop-past.functions.items c.loop-past.items.items) e c.loop-past.invariant) }
+    record {
+      notes = next_stands c.args.notes.now c.args.functions.now.items (reverse cs) c.loop-past.functions.items c.loop-past.items.items c.index-constants-constants.result (drop (p + 1) (reverse cs))
+          (subst (ConstantsGo c.args.notes.now c.args.functions.now.items (reverse cs) c.loop-past.functions.items c.loop-past.items.items) e c.loop-past.invariant);
+    }
 
 pub returns-in_err-body-clause-refused : goal.returns-in_err-body-clause-refused
 returns-in_err-body-clause-refused c =

@@ -59,7 +59,8 @@ pub returns : goal.returns
 returns c =
     let P = c.args.p.now in
     record {
-      is = c.in_ok-module.ensures.is ∙ ap (λ x. module_of x c.args.pages) (lifted_is P c.in_ok-ordinary.ordinary c.in_ok-saturated.saturated (anf_of c.in_ok-normal.normal) c.in_ok-ordinary.ensures.is c.in_ok-saturated.ensures.is c.in_ok-normal.ensures.is (lifted_of c.in_ok-lifted.lifted) c.in_ok-lifted.ensures.is);
+      is = c.in_ok-module.ensures.is ∙ ap (λ x. module_of x c.args.pages) (lifted_is P c.in_ok-ordinary.ordinary c.in_ok-saturated.saturated (anf_of c.in_ok-normal.normal) c.in_ok-ordinary.ensures.is c.in_ok-saturated.ensures.is c.in_ok-normal.ensures.is
+          (lifted_of c.in_ok-lifted.lifted) c.in_ok-lifted.ensures.is);
       fits = all_fit P c.in_ok-ordinary.ordinary c.in_ok-saturated.saturated (anf_of c.in_ok-normal.normal) c.in_ok-ordinary.ensures.is c.in_ok-saturated.ensures.is c.in_ok-normal.ensures.is (lifted_of c.in_ok-lifted.lifted) c.in_ok-lifted.ensures.is
           c.in_ok-saturated.ensures.shallow c.in_ok-lifted.ensures.captures c.in_ok-lifted.ensures.functions c.in_ok-module.ensures.few;
       refused = tt;

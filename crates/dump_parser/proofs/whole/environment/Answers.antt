@@ -27,7 +27,8 @@ returns-in_err-close c =
     let cs = map named_constraint c.in_ok-constraints.constraints.items in
     let ds = map named_decl c.in_ok-declarations.declarations.items in
     record {
-      reads = reads-err {X = EnvTree} {Y = Unit {0}} c.from_residual-in_err-close.result c.in_err-close.field-0.0 q c.args.tokens.now c.last_term.new.tokens c.close.new.tokens start (IClose ∷ []) [] [] (λ (e : EnvTree) (vs : List Value). VEnv (env_named e) ∷ vs) (λ (x : Unit {0}) (vs : List Value). vs)
+      reads = reads-err {X = EnvTree} {Y = Unit {0}} c.from_residual-in_err-close.result c.in_err-close.field-0.0 q c.args.tokens.now c.last_term.new.tokens c.close.new.tokens start (IClose ∷ []) [] [] (λ (e : EnvTree) (vs : List Value). VEnv (env_named e) ∷ vs) (λ (x : Unit {0})
+          (vs : List Value). vs)
           (c.in_ok-main.ensures.reads.same ∙ c.in_ok-declarations.ensures.leads.same ∙ c.in_ok-constraints.ensures.reads.same ∙ c.in_ok-levels.ensures.reads.same ∙ c.in_ok-header.ensures.reads.same)
           (λ k vs. (
             k,

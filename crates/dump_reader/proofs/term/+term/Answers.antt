@@ -64,7 +64,8 @@ pub term-returns-in_ok-block-in-Ind-clause-made : goal.term-returns-in_ok-block-
 term-returns-in_ok-block-in-Ind-clause-made t c = term-result (of-tree (seen c.node.ensures.is c.in-Ind.is) (ind-term c.in-Ind.block.now c.in_ok-block-in-Ind.block c.in_ok-block-in-Ind.ensures.made c.in-Ind.family)) c.made-in-Ind.result c.made-in-Ind.ensures.ok
 
 pub term-returns-in_ok-block-in-Construct-clause-made : goal.term-returns-in_ok-block-in-Construct-clause-made
-term-returns-in_ok-block-in-Construct-clause-made t c = term-result (of-tree (seen c.node.ensures.is c.in-Construct.is) (construct-term c.in-Construct.block.now c.in_ok-block-in-Construct.block c.in_ok-block-in-Construct.ensures.made c.in-Construct.family c.in-Construct.place)) c.made-in-Construct.result c.made-in-Construct.ensures.ok
+term-returns-in_ok-block-in-Construct-clause-made t c = term-result (of-tree (seen c.node.ensures.is c.in-Construct.is) (construct-term c.in-Construct.block.now c.in_ok-block-in-Construct.block c.in_ok-block-in-Construct.ensures.made c.in-Construct.family
+    c.in-Construct.place)) c.made-in-Construct.result c.made-in-Construct.ensures.ok
 
 pub term-term-requires : goal.term-term-requires
 term-term-requires t c = (let p = prod-parts c.args.tree.now c.in-Prod.domain c.in-Prod.codomain (seen c.node.ensures.is c.in-Prod.is) c.requires in (omega (arith, p.0), p.2))
@@ -93,26 +94,36 @@ term-returns-in_ok-body-in-Lambda-clause-made t c = term-result (of-tree (seen c
 pub case-terms-requires : goal.case-terms-requires
 case-terms-requires t c =
     let d = case-depths c.args.m.now.block.now c.args.m.now.family c.args.m.now.params.items c.args.m.now.binders c.args.m.now.ret c.args.m.now.scrut c.args.m.now.branches.items in
-    let same : depth_terms (terms_of c.as_slice.result.now) ≡ depth_terms (terms_of c.args.m.now.params.items) = ap (λ ts. depth_terms (terms_of ts)) c.as_slice.ensures.value in
-    (omega (arith, d.0), subst (λ ts. Each IsFormed ts) (sym c.as_slice.ensures.value) (each-formed c.args.m.now.params.items (case-parts c.args.m.now.block.now c.args.m.now.family c.args.m.now.params.items c.args.m.now.binders c.args.m.now.ret c.args.m.now.scrut c.args.m.now.branches.items c.requires.formed).3))
+    let same : depth_terms (terms_of c.as_slice.result.now) ≡ depth_terms (terms_of c.args.m.now.params.items) = ap (λ ts. depth_terms (terms_of ts)) c.as_slice.ensures.value in (
+      omega (arith, d.0),
+      subst (λ ts. Each IsFormed ts) (sym c.as_slice.ensures.value) (each-formed c.args.m.now.params.items
+          (case-parts c.args.m.now.block.now c.args.m.now.family c.args.m.now.params.items c.args.m.now.binders c.args.m.now.ret c.args.m.now.scrut c.args.m.now.branches.items c.requires.formed).3),
+    )
 
 pub case-term-requires : goal.case-term-requires
-case-term-requires t c = (let d = case-depths c.args.m.now.block.now c.args.m.now.family c.args.m.now.params.items c.args.m.now.binders c.args.m.now.ret c.args.m.now.scrut c.args.m.now.branches.items in (omega (arith, d.1), (case-parts c.args.m.now.block.now c.args.m.now.family c.args.m.now.params.items c.args.m.now.binders c.args.m.now.ret c.args.m.now.scrut c.args.m.now.branches.items c.requires.formed).1))
+case-term-requires t c = (let d = case-depths c.args.m.now.block.now c.args.m.now.family c.args.m.now.params.items c.args.m.now.binders c.args.m.now.ret c.args.m.now.scrut c.args.m.now.branches.items in
+    (omega (arith, d.1), (case-parts c.args.m.now.block.now c.args.m.now.family c.args.m.now.params.items c.args.m.now.binders c.args.m.now.ret c.args.m.now.scrut c.args.m.now.branches.items c.requires.formed).1))
 
 pub case-term-requires-2 : goal.case-term-requires-2
-case-term-requires-2 t c = (let d = case-depths c.args.m.now.block.now c.args.m.now.family c.args.m.now.params.items c.args.m.now.binders c.args.m.now.ret c.args.m.now.scrut c.args.m.now.branches.items in (omega (arith, d.2), (case-parts c.args.m.now.block.now c.args.m.now.family c.args.m.now.params.items c.args.m.now.binders c.args.m.now.ret c.args.m.now.scrut c.args.m.now.branches.items c.requires.formed).2))
+case-term-requires-2 t c = (let d = case-depths c.args.m.now.block.now c.args.m.now.family c.args.m.now.params.items c.args.m.now.binders c.args.m.now.ret c.args.m.now.scrut c.args.m.now.branches.items in
+    (omega (arith, d.2), (case-parts c.args.m.now.block.now c.args.m.now.family c.args.m.now.params.items c.args.m.now.binders c.args.m.now.ret c.args.m.now.scrut c.args.m.now.branches.items c.requires.formed).2))
 
 pub case-branches-requires : goal.case-branches-requires
 case-branches-requires t c =
     let d = case-depths c.args.m.now.block.now c.args.m.now.family c.args.m.now.params.items c.args.m.now.binders c.args.m.now.ret c.args.m.now.scrut c.args.m.now.branches.items in
-    let same : depth_branches (branches_of (map named_branch c.as_slice-2.result.now)) ≡ depth_branches (branches_of (map named_branch c.args.m.now.branches.items)) = ap (λ bs. depth_branches (branches_of (map named_branch bs))) c.as_slice-2.ensures.value in
-    (omega (arith, d.3), subst (λ bs. AreFormedBranches (branches_of (map named_branch bs))) (sym c.as_slice-2.ensures.value) (case-parts c.args.m.now.block.now c.args.m.now.family c.args.m.now.params.items c.args.m.now.binders c.args.m.now.ret c.args.m.now.scrut c.args.m.now.branches.items c.requires.formed).4)
+    let same : depth_branches (branches_of (map named_branch c.as_slice-2.result.now)) ≡ depth_branches (branches_of (map named_branch c.args.m.now.branches.items)) = ap (λ bs. depth_branches (branches_of (map named_branch bs))) c.as_slice-2.ensures.value in (
+      omega (arith, d.3),
+      subst (λ bs. AreFormedBranches (branches_of (map named_branch bs))) (sym c.as_slice-2.ensures.value)
+          (case-parts c.args.m.now.block.now c.args.m.now.family c.args.m.now.params.items c.args.m.now.binders c.args.m.now.ret c.args.m.now.scrut c.args.m.now.branches.items c.requires.formed).4,
+    )
 
 pub case-made-requires-clause-within : goal.case-made-requires-clause-within
-case-made-requires-clause-within t c = term-within (case-term c.args.m.now.block.now c.args.m.now.family c.args.m.now.params.items c.args.m.now.binders c.args.m.now.ret c.args.m.now.scrut c.args.m.now.branches.items c.in_ok-block.ensures.made (terms-along c.as_slice.ensures.value c.of.ensures.is c.in_ok-params.ensures.made) c.in_ok-ret.ensures.made c.in_ok-scrut.ensures.made (branches-along c.as_slice-2.ensures.value c.of-2.ensures.is c.in_ok-branches.ensures.made)) c.requires.within
+case-made-requires-clause-within t c = term-within (case-term c.args.m.now.block.now c.args.m.now.family c.args.m.now.params.items c.args.m.now.binders c.args.m.now.ret c.args.m.now.scrut c.args.m.now.branches.items c.in_ok-block.ensures.made
+    (terms-along c.as_slice.ensures.value c.of.ensures.is c.in_ok-params.ensures.made) c.in_ok-ret.ensures.made c.in_ok-scrut.ensures.made (branches-along c.as_slice-2.ensures.value c.of-2.ensures.is c.in_ok-branches.ensures.made)) c.requires.within
 
 pub case-returns-clause-made : goal.case-returns-clause-made
-case-returns-clause-made t c = as-term c.in_ok-whole.ensures.ok (case-term c.args.m.now.block.now c.args.m.now.family c.args.m.now.params.items c.args.m.now.binders c.args.m.now.ret c.args.m.now.scrut c.args.m.now.branches.items c.in_ok-block.ensures.made (terms-along c.as_slice.ensures.value c.of.ensures.is c.in_ok-params.ensures.made) c.in_ok-ret.ensures.made c.in_ok-scrut.ensures.made (branches-along c.as_slice-2.ensures.value c.of-2.ensures.is c.in_ok-branches.ensures.made))
+case-returns-clause-made t c = as-term c.in_ok-whole.ensures.ok (case-term c.args.m.now.block.now c.args.m.now.family c.args.m.now.params.items c.args.m.now.binders c.args.m.now.ret c.args.m.now.scrut c.args.m.now.branches.items c.in_ok-block.ensures.made
+    (terms-along c.as_slice.ensures.value c.of.ensures.is c.in_ok-params.ensures.made) c.in_ok-ret.ensures.made c.in_ok-scrut.ensures.made (branches-along c.as_slice-2.ensures.value c.of-2.ensures.is c.in_ok-branches.ensures.made))
 
 pub case-name-requires : goal.case-name-requires
 case-name-requires t c = (case-parts c.args.m.now.block.now c.args.m.now.family c.args.m.now.params.items c.args.m.now.binders c.args.m.now.ret c.args.m.now.scrut c.args.m.now.branches.items c.requires.formed).0
@@ -175,7 +186,8 @@ fixpoint-definitions-requires t c =
     (omega (arith, p.0), subst (λ ds. AreFormedDefs (defs_of (map named_def ds))) (sym c.as_slice.ensures.value) p.2)
 
 pub fixpoint-made-requires-clause-indexed : goal.fixpoint-made-requires-clause-indexed
-fixpoint-made-requires-clause-indexed t c = fix-index c.args.defs.now.items c.args.index c.of.result (defs-along c.as_slice.ensures.value c.of.ensures.is c.in_ok-items.ensures.made) (fix-parts (Fix (defs_of (map named_def c.args.defs.now.items)) c.args.index) c.args.defs.now.items c.args.index refl c.requires.formed).1
+fixpoint-made-requires-clause-indexed t c = fix-index c.args.defs.now.items c.args.index c.of.result (defs-along c.as_slice.ensures.value c.of.ensures.is c.in_ok-items.ensures.made) (fix-parts (Fix (defs_of (map named_def c.args.defs.now.items)) c.args.index)
+    c.args.defs.now.items c.args.index refl c.requires.formed).1
 
 pub fixpoint-made-requires-clause-within : goal.fixpoint-made-requires-clause-within
 fixpoint-made-requires-clause-within t c = term-within (fix-term c.args.defs.now.items c.args.index c.of.result (defs-along c.as_slice.ensures.value c.of.ensures.is c.in_ok-items.ensures.made)) c.requires.within

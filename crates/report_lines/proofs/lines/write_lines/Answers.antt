@@ -32,7 +32,8 @@ loop-report-preserved g c =
     let before = c.loop-report.invariant in
     let w = c.in_ok-write_line.ensures in
     record {
-      gone = appends_as (g.E.Sink.taken c.args.err.now) (g.E.Sink.taken c.write_line.new.err) _ _ (lines_more (λ b. (goal.Report-dyn g (b.vtable, b.value)).shown b.value) xs i (i + 1) x lt is (omega arith)) (appends_both (g.E.Sink.taken c.args.err.now) (g.E.Sink.taken c.loop-report.err) (g.E.Sink.taken c.write_line.new.err) _ _ before.gone w.all);
+      gone = appends_as (g.E.Sink.taken c.args.err.now) (g.E.Sink.taken c.write_line.new.err) _ _ (lines_more (λ b. (goal.Report-dyn g (b.vtable, b.value)).shown b.value) xs i (i + 1) x lt is (omega arith)) (appends_both (g.E.Sink.taken c.args.err.now)
+          (g.E.Sink.taken c.loop-report.err) (g.E.Sink.taken c.write_line.new.err) _ _ before.gone w.all);
       tells = tells_then _ _ _ before.tells w.tells;
       later = omega (arith, before.later, w.line.count);
       still = λ e. absurd (omega (arith, e));

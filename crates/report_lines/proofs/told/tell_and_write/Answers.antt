@@ -7,4 +7,5 @@ use Rattle.report_lines.proofs.told.tell_and_write.Goals as goal
 
 pub returns-clause-line : goal.returns-clause-line
 returns-clause-line g c =
-    takes_as _ _ _ _ _ _ (ap (λ xs. lines (map (λ b. (goal.Report-dyn g (b.vtable, b.value)).shown b.value) xs)) c.as_slice.ensures.value ∙ lines_told (λ b. (goal.Report-dyn g (b.vtable, b.value)).shown b.value) (facts_of c.args.facts.now) c.args.reports.items c.tell.new.reports.items c.tell.ensures.told) c.write_lines.ensures.line
+    takes_as _ _ _ _ _ _ (ap (λ xs. lines (map (λ b. (goal.Report-dyn g (b.vtable, b.value)).shown b.value) xs)) c.as_slice.ensures.value ∙ lines_told (λ b. (goal.Report-dyn g (b.vtable, b.value)).shown b.value) (facts_of c.args.facts.now) c.args.reports.items
+    c.tell.new.reports.items c.tell.ensures.told) c.write_lines.ensures.line

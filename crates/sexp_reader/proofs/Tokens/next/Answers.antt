@@ -36,7 +36,8 @@ pub returns-then-b-eq41-clause-ok : goal.returns-then-b-eq41-clause-ok
 returns-then-b-eq41-clause-ok c = rw c.skip-start.ensures.same (let h = close-after c.args.self.now.bytes.now c.args.self.now.nesting c.skip-start.result (omega arith) c.if-b-eq41.true in (h.0, c.saturating_sub-self.ensures ∙ h.1))
 
 pub returns-clause-answer : goal.returns-clause-answer
-returns-clause-answer c = let stops = c.skip-start.ensures.stops (omega arith) in rw c.skip-start.ensures.same (stray-answer c.args.self.now.bytes.now c.args.self.now.nesting c.skip-start.result (omega arith) (sym c.is_atom_byte.ensures.atom ∙ c.if-is_atom_byte.false) stops.1 stops.0 c.if-b-eq40.false c.if-b-eq41.false)
+returns-clause-answer c = let stops = c.skip-start.ensures.stops (omega arith) in rw c.skip-start.ensures.same (stray-answer c.args.self.now.bytes.now c.args.self.now.nesting c.skip-start.result (omega arith) (sym c.is_atom_byte.ensures.atom ∙ c.if-is_atom_byte.false) stops.1
+    stops.0 c.if-b-eq40.false c.if-b-eq41.false)
 
 pub returns-then-start-self-clause-gave : goal.returns-then-start-self-clause-gave
 returns-then-start-self-clause-gave c =

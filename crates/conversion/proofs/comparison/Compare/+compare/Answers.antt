@@ -37,7 +37,10 @@ compare-returns g t c =
     let h : 0 < c.args.m.now.account.left = search rules in
     let k : c.enter.new.self.nest ≡ c.tick.new.self.nest + 1 = search rules in
     let z : c.args.room ≡ suc (c.args.room - 1) = search rules in
-    record { follows = compare_entered _ _ _ _ _ _ c.args.room (c.args.room - 1) _ c.args.m.now c.tick.new.self c.enter.new.self c.entered-answer.new.m c.leave.new.self z h c.tick.ensures.account c.tick.ensures.nest c.enter.ensures.account k c.entered-answer.ensures.follows c.leave.ensures.account c.leave.ensures.nest }
+    record {
+      follows = compare_entered _ _ _ _ _ _ c.args.room (c.args.room - 1) _ c.args.m.now c.tick.new.self c.enter.new.self c.entered-answer.new.m c.leave.new.self z h c.tick.ensures.account c.tick.ensures.nest c.enter.ensures.account k c.entered-answer.ensures.follows
+          c.leave.ensures.account c.leave.ensures.nest;
+    }
 
 -- equal trees, or both weak-head normal forms
 
@@ -151,13 +154,25 @@ pub pair-returns-in_default : goal.pair-returns-in_default
 pair-returns-in_default g t c =
     elim c.in_default.branch [
       | pair-in_default-via-in-Sort+in_default w ↦
-          record { follows = rw (sort_and_other c.args.env.now (test_of c.args.env.now) (at_room c.args.env.now c.args.room) c.args.ctx.now c.args.equal c.args.m.now.account _ _ _ _ c.view.ensures.is c.view-2.ensures.is w.in_default.field-0-0 w.in_default.is-0 w.in_default.not-Sort-1) c.spines.ensures.follows }
+          record {
+            follows = rw (sort_and_other c.args.env.now (test_of c.args.env.now) (at_room c.args.env.now c.args.room) c.args.ctx.now c.args.equal c.args.m.now.account _ _ _ _ c.view.ensures.is c.view-2.ensures.is w.in_default.field-0-0 w.in_default.is-0
+                w.in_default.not-Sort-1) c.spines.ensures.follows;
+          }
       | pair-in_default-via-in-Prod+in_default w ↦
-          record { follows = rw (product_and_other c.args.env.now (test_of c.args.env.now) (at_room c.args.env.now c.args.room) c.args.ctx.now c.args.equal c.args.m.now.account _ _ _ _ c.view.ensures.is c.view-2.ensures.is w.in_default.field-0-0 w.in_default.field-1-0 w.in_default.is-0 w.in_default.not-Prod-1) c.spines.ensures.follows }
+          record {
+            follows = rw (product_and_other c.args.env.now (test_of c.args.env.now) (at_room c.args.env.now c.args.room) c.args.ctx.now c.args.equal c.args.m.now.account _ _ _ _ c.view.ensures.is c.view-2.ensures.is w.in_default.field-0-0 w.in_default.field-1-0
+                w.in_default.is-0 w.in_default.not-Prod-1) c.spines.ensures.follows;
+          }
       | pair-in_default-via-in-Lambda+in_default w ↦
-          record { follows = rw (lambda_and_other c.args.env.now (test_of c.args.env.now) (at_room c.args.env.now c.args.room) c.args.ctx.now c.args.equal c.args.m.now.account _ _ _ _ c.view.ensures.is c.view-2.ensures.is w.in_default.field-0-0 w.in_default.field-1-0 w.in_default.is-0 w.in_default.not-Lambda-1) c.spines.ensures.follows }
+          record {
+            follows = rw (lambda_and_other c.args.env.now (test_of c.args.env.now) (at_room c.args.env.now c.args.room) c.args.ctx.now c.args.equal c.args.m.now.account _ _ _ _ c.view.ensures.is c.view-2.ensures.is w.in_default.field-0-0 w.in_default.field-1-0
+                w.in_default.is-0 w.in_default.not-Lambda-1) c.spines.ensures.follows;
+          }
       | pair-in_default-via-in_default w ↦
-          record { follows = rw (other_first c.args.env.now (test_of c.args.env.now) (at_room c.args.env.now c.args.room) c.args.ctx.now c.args.equal c.args.m.now.account _ _ _ _ c.view.ensures.is c.view-2.ensures.is w.in_default.not-Sort-0 w.in_default.not-Prod-0 w.in_default.not-Lambda-0) c.spines.ensures.follows }
+          record {
+            follows = rw (other_first c.args.env.now (test_of c.args.env.now) (at_room c.args.env.now c.args.room) c.args.ctx.now c.args.equal c.args.m.now.account _ _ _ _ c.view.ensures.is c.view-2.ensures.is w.in_default.not-Sort-0 w.in_default.not-Prod-0
+                w.in_default.not-Lambda-0) c.spines.ensures.follows;
+          }
     ]
 
 -- spines
@@ -206,7 +221,8 @@ each-loop-i-preserved g t c =
     let k : c.loop-i.i < length c.as_slice-rights.result.now = grind arith in
     let f = c.in_ok-compare.ensures.follows in
     record {
-      rest = λ r n x. c.loop-i.invariant.rest r n (each_next (at_room c.args.env.now c.args.room) c.args.ctx.now c.as_slice-lefts.result.now c.as_slice-rights.result.now c.loop-i.i c.index-lefts-i.result c.index-rights-i.result r c.loop-i.m c.compare.new.m n l k c.index-lefts-i.is c.index-rights-i.is f x);
+      rest = λ r n x. c.loop-i.invariant.rest r n (each_next (at_room c.args.env.now c.args.room) c.args.ctx.now c.as_slice-lefts.result.now c.as_slice-rights.result.now c.loop-i.i c.index-lefts-i.result c.index-rights-i.result r c.loop-i.m c.compare.new.m n l k
+          c.index-lefts-i.is c.index-rights-i.is f x);
       nest = c.in_ok-compare.ensures.follows.after.nest ∙ c.loop-i.invariant.nest;
     }
 
@@ -274,7 +290,10 @@ predicates-under-requires g t c =
 pub predicates-returns-in_err-entries : goal.predicates-returns-in_err-entries
 predicates-returns-in_err-entries g t c =
     let p = err_from_is_err_and c.from_residual.result c.from_residual.ensures.1 in
-    record { follows = λ Ps. rw (p.1, p.2) (entering_fault c.args.ctx.now (predicate_entries c.args.x.now.family (with_parameters Ps c.args.family.now) c.args.x.now.params) (λ d. at_room c.args.env.now c.args.room d true c.args.x.now.ret c.args.y.now.ret) _ c.args.m.now (λ e. c.in_err-entries.ensures.too_deep e Ps)) }
+    record {
+      follows = λ Ps. rw (p.1, p.2) (entering_fault c.args.ctx.now (predicate_entries c.args.x.now.family (with_parameters Ps c.args.family.now) c.args.x.now.params) (λ d. at_room c.args.env.now c.args.room d true c.args.x.now.ret c.args.y.now.ret) _ c.args.m.now
+          (λ e. c.in_err-entries.ensures.too_deep e Ps));
+    }
 
 pub predicates-returns : goal.predicates-returns
 predicates-returns g t c = record { follows = λ Ps. rw (c.in_ok-entries.ensures.ok Ps) at c.under.ensures.follows }
@@ -295,7 +314,8 @@ branches-returns-in_err-entries g t c =
     let k : c.loop-i.i < length c.as_slice-xs.result.now = grind arith in
     let l : c.loop-i.i < length c.as_slice-ys.result.now = grind arith in
     let f = entering_fault c.args.ctx.now (branch_entries c.index-listed-i.result c.args.x.now.params) (λ d. at_room c.args.env.now c.args.room d true c.index-xs-i.result.body c.index-ys-i.result.body) _ c.loop-i.m c.in_err-entries.ensures.too_deep in
-    let whole = c.loop-i.invariant.rest _ _ (branches_stops (at_room c.args.env.now c.args.room) c.args.ctx.now c.args.x.now.params c.as_slice-listed.result.now c.as_slice-xs.result.now c.as_slice-ys.result.now c.loop-i.i c.index-listed-i.result c.index-xs-i.result c.index-ys-i.result _ c.loop-i.m c.loop-i.m h k l c.index-listed-i.is c.index-xs-i.is c.index-ys-i.is f) in
+    let whole = c.loop-i.invariant.rest _ _ (branches_stops (at_room c.args.env.now c.args.room) c.args.ctx.now c.args.x.now.params c.as_slice-listed.result.now c.as_slice-xs.result.now c.as_slice-ys.result.now c.loop-i.i c.index-listed-i.result c.index-xs-i.result
+    c.index-ys-i.result _ c.loop-i.m c.loop-i.m h k l c.index-listed-i.is c.index-xs-i.is c.index-ys-i.is f) in
     record { follows = rw (p.1, p.2) (rw (c.as_slice-listed.ensures.is, c.as_slice-xs.ensures.is, c.as_slice-ys.ensures.is) at whole) }
 
 pub branches-loop-i-preserved : goal.branches-loop-i-preserved
@@ -305,7 +325,8 @@ branches-loop-i-preserved g t c =
     let l : c.loop-i.i < length c.as_slice-ys.result.now = grind arith in
     let f = rw (c.in_ok-entries.ensures.ok, ← c.index-xs-i.is, ← c.index-ys-i.is) at c.in_ok-under.ensures.follows in
     record {
-      rest = λ r n x. c.loop-i.invariant.rest r n (branches_next (at_room c.args.env.now c.args.room) c.args.ctx.now c.args.x.now.params c.as_slice-listed.result.now c.as_slice-xs.result.now c.as_slice-ys.result.now c.loop-i.i c.index-listed-i.result c.index-xs-i.result c.index-ys-i.result r c.loop-i.m c.under.new.m n h k l c.index-listed-i.is c.index-xs-i.is c.index-ys-i.is f x);
+      rest = λ r n x. c.loop-i.invariant.rest r n (branches_next (at_room c.args.env.now c.args.room) c.args.ctx.now c.args.x.now.params c.as_slice-listed.result.now c.as_slice-xs.result.now c.as_slice-ys.result.now c.loop-i.i c.index-listed-i.result c.index-xs-i.result
+          c.index-ys-i.result r c.loop-i.m c.under.new.m n h k l c.index-listed-i.is c.index-xs-i.is c.index-ys-i.is f x);
       nest = c.in_ok-under.ensures.follows.after.nest ∙ c.loop-i.invariant.nest;
     }
 
@@ -316,7 +337,8 @@ branches-returns-in_err-under g t c =
     let k : c.loop-i.i < length c.as_slice-xs.result.now = grind arith in
     let l : c.loop-i.i < length c.as_slice-ys.result.now = grind arith in
     let f = rw (c.in_ok-entries.ensures.ok, ← c.index-xs-i.is, ← c.index-ys-i.is) at c.in_err-under.ensures.follows in
-    let whole = c.loop-i.invariant.rest _ _ (branches_stops (at_room c.args.env.now c.args.room) c.args.ctx.now c.args.x.now.params c.as_slice-listed.result.now c.as_slice-xs.result.now c.as_slice-ys.result.now c.loop-i.i c.index-listed-i.result c.index-xs-i.result c.index-ys-i.result _ c.loop-i.m c.under.new.m h k l c.index-listed-i.is c.index-xs-i.is c.index-ys-i.is f) in
+    let whole = c.loop-i.invariant.rest _ _ (branches_stops (at_room c.args.env.now c.args.room) c.args.ctx.now c.args.x.now.params c.as_slice-listed.result.now c.as_slice-xs.result.now c.as_slice-ys.result.now c.loop-i.i c.index-listed-i.result c.index-xs-i.result
+    c.index-ys-i.result _ c.loop-i.m c.under.new.m h k l c.index-listed-i.is c.index-xs-i.is c.index-ys-i.is f) in
     record { follows = rw (p.1, p.2) (rw (c.as_slice-listed.ensures.is, c.as_slice-xs.ensures.is, c.as_slice-ys.ensures.is) at whole) }
 
 pub branches-returns : goal.branches-returns
@@ -381,12 +403,18 @@ compare_bodies-each-requires g t c =
 pub compare_bodies-returns-in_err-entries : goal.compare_bodies-returns-in_err-entries
 compare_bodies-returns-in_err-entries g t c =
     let p = err_from_is_err_and c.from_residual.result c.from_residual.ensures.1 in
-    record { follows = rw (p.1, p.2) (entering_fault c.args.ctx.now (lifted_types 0 (list_of (types_of c.args.ds.now))) (λ d. run_all (each_equal (at_room c.args.env.now c.args.room) d (list_of (bodies_of (length c.args.ds.now) c.args.ds.now)) (list_of (bodies_of (length c.args.es.now) c.args.es.now)))) _ c.args.m.now c.in_err-entries.ensures.too_deep) }
+    record {
+      follows = rw (p.1, p.2) (entering_fault c.args.ctx.now (lifted_types 0 (list_of (types_of c.args.ds.now))) (λ d. run_all
+          (each_equal (at_room c.args.env.now c.args.room) d (list_of (bodies_of (length c.args.ds.now) c.args.ds.now)) (list_of (bodies_of (length c.args.es.now) c.args.es.now)))) _ c.args.m.now c.in_err-entries.ensures.too_deep);
+    }
 
 pub compare_bodies-returns : goal.compare_bodies-returns
 compare_bodies-returns g t c =
     let f = rw (c.in_ok-inner.ensures.longer, c.in_ok-entries.ensures.ok, c.in_ok-left.ensures.ok, c.in_ok-right.ensures.ok) at c.each.ensures.follows in
-    record { follows = entering_goes c.args.ctx.now (lifted_types 0 (list_of (types_of c.args.ds.now))) (λ d. run_all (each_equal (at_room c.args.env.now c.args.room) d (list_of (bodies_of (length c.args.ds.now) c.args.ds.now)) (list_of (bodies_of (length c.args.es.now) c.args.es.now)))) _ c.args.m.now _ f }
+    record {
+      follows = entering_goes c.args.ctx.now (lifted_types 0 (list_of (types_of c.args.ds.now))) (λ d. run_all (each_equal (at_room c.args.env.now c.args.room) d (list_of (bodies_of (length c.args.ds.now) c.args.ds.now))
+          (list_of (bodies_of (length c.args.es.now) c.args.es.now)))) _ c.args.m.now _ f;
+    }
 
 pub matches-returns-in_err-each : goal.matches-returns-in_err-each
 matches-returns-in_err-each g t c =
@@ -407,4 +435,7 @@ matches-returns-in_err-compare g t c =
     let p = err_from_is_err_and c.from_residual-in_err-compare.result c.from_residual-in_err-compare.ensures.1 in
     let f1 = c.in_ok-each.ensures.follows in
     let f2 = c.in_ok-predicates.ensures.follows e.0 in
-    record { follows = rw (p.1, p.2) (matched c.args.env.now c.args.room c.args.ctx.now c.args.x.now c.args.y.now (with_parameters e.0 c.in-Some.family.now) _ c.args.m.now _ e.1 (follows_bind _ _ _ _ _ _ _ f1 (follows_bind _ _ _ _ _ _ _ f2 (follows_err _ _ _ _ _ c.in_err-compare.ensures.follows)))) }
+    record {
+      follows = rw (p.1, p.2) (matched c.args.env.now c.args.room c.args.ctx.now c.args.x.now c.args.y.now (with_parameters e.0 c.in-Some.family.now) _ c.args.m.now _ e.1
+          (follows_bind _ _ _ _ _ _ _ f1 (follows_bind _ _ _ _ _ _ _ f2 (follows_err _ _ _ _ _ c.in_err-compare.ensures.follows))));
+    }
