@@ -1,0 +1,10 @@
+pub mod Reducing
+pub mod Roots
+pub mod Substituted
+pub mod Spines
+pub mod Confluence
+pub mod Convertible
+pub mod Cumulative
+pub mod FromEquality
+pub mod ToEquality
+pub mod Formers
