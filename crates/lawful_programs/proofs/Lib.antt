@@ -1,0 +1,3 @@
+pub mod Constructors
+pub mod Tables
+pub mod Bindings

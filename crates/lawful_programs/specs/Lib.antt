@@ -1,0 +1,3 @@
+pub mod Enumerations
+pub mod Tables
+pub mod Laws
