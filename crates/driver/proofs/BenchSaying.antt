@@ -1,5 +1,5 @@
 -- What the stages of `exec` say, as an answer or a refusal of `bench`.
-use Rattle.std.proofs.Common.{◌≡◌, ℕ, List, ap}
+use Rattle.std.proofs.Common.{◌≡◌, ℕ, List}
 use Rattle.command_line.specs.declared.job.Job.TheVariants.{Bench, Exec}
 use Rattle.command_line.specs.declared.line.Request.{Request}
 use Rattle.driver.specs.declared.exec.Executed.{Executed}
@@ -12,24 +12,7 @@ use Rattle.driver.specs.Serve.{RefusalSays}
 -- a refusal of `exec` is one of `bench`
 pub bench_says : (q : Request) (r : Refusal) (bytes : List ℕ) → RefusalSays Exec q r bytes → RefusalSays Bench q r bytes
 bench_says q refusals.Memory bytes h = h
-bench_says q refusals.Usage bytes h = h
-bench_says q refusals.ReadFault bytes h = h
-bench_says q refusals.WriteFault bytes h = h
-bench_says q (refusals.Syntax o) bytes h = h
-bench_says q (refusals.Unsupported w o) bytes h = h
-bench_says q (refusals.Limit l) bytes h = h
-bench_says q refusals.InputBytes bytes h = h
-bench_says q refusals.Depth bytes h = h
-bench_says q refusals.TurnsSpent bytes h = h
-bench_says q (refusals.Broken n p) bytes h = h
-bench_says q refusals.Types bytes h = h
-bench_says q refusals.AnswerNodes bytes h = h
-bench_says q refusals.NotFirstOrder bytes h = h
-bench_says q refusals.Stuck bytes h = h
-bench_says q (refusals.Axiom name) bytes h = h
-bench_says q (refusals.Program l) bytes h = h
-bench_says q (refusals.Run w) bytes h = h
-bench_says q (refusals.Module w) bytes h = h
+bench_says q _ bytes h = h
 
 -- its lines are those of the run
 pub lines_are : (q : Request) (bytes : List ℕ) (x : Executed) (h : HasFigures q bytes x) → five_lines x.declarations x.bytes x.steps x.pages x.line.items ≡ lines_of h.executed.stages x.line.items

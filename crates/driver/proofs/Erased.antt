@@ -85,42 +85,12 @@ module _ (e : RawEnv) (E : Env) (t : Term) (u w : Account) where
   halt_says p h refusals.TurnsSpent x y = (subst (λ z. HaltsAt (erasure_of E t u) p z w) x y).0
   halt_says p h refusals.Depth x y = subst (λ z. HaltsAt (erasure_of E t u) p z w) x y
   halt_says p h (refusals.Broken n told) (b, is, number, place) y = (p, b, subst (λ z. HaltsAt (erasure_of E t u) p z w) is y, number, place)
-  halt_says p h (refusals.Axiom name) x y = absurd x
-  halt_says p h refusals.Usage x y = absurd x
-  halt_says p h refusals.ReadFault x y = absurd x
-  halt_says p h refusals.WriteFault x y = absurd x
-  halt_says p h (refusals.Syntax o) x y = absurd x
-  halt_says p h (refusals.Unsupported c o) x y = absurd x
-  halt_says p h (refusals.Limit l) x y = absurd x
-  halt_says p h refusals.InputBytes x y = absurd x
-  halt_says p h refusals.Types x y = absurd x
-  halt_says p h refusals.AnswerNodes x y = absurd x
-  halt_says p h refusals.NotFirstOrder x y = absurd x
-  halt_says p h refusals.Stuck x y = absurd x
-  halt_says p h (refusals.Program l) x y = absurd x
-  halt_says p h (refusals.Run c) x y = absurd x
-  halt_says p h (refusals.Module c) x y = absurd x
+  halt_says p h _ x y = absurd x
 
   pub axiom_says : (k : Name) (r : Refusal) → AxiomSays e k r → (erasure_of E t u).outcome ≡ Gives (ReachesAxiom k) w → ErasureSays e E t u (Err r) w
   axiom_says k refusals.Memory x y = tt
   axiom_says k (refusals.Axiom name) x y = (k, y, x)
-  axiom_says k refusals.TurnsSpent x y = absurd x
-  axiom_says k refusals.Depth x y = absurd x
-  axiom_says k (refusals.Broken n told) x y = absurd x
-  axiom_says k refusals.Usage x y = absurd x
-  axiom_says k refusals.ReadFault x y = absurd x
-  axiom_says k refusals.WriteFault x y = absurd x
-  axiom_says k (refusals.Syntax o) x y = absurd x
-  axiom_says k (refusals.Unsupported c o) x y = absurd x
-  axiom_says k (refusals.Limit l) x y = absurd x
-  axiom_says k refusals.InputBytes x y = absurd x
-  axiom_says k refusals.Types x y = absurd x
-  axiom_says k refusals.AnswerNodes x y = absurd x
-  axiom_says k refusals.NotFirstOrder x y = absurd x
-  axiom_says k refusals.Stuck x y = absurd x
-  axiom_says k (refusals.Program l) x y = absurd x
-  axiom_says k (refusals.Run c) x y = absurd x
-  axiom_says k (refusals.Module c) x y = absurd x
+  axiom_says k _ x y = absurd x
 
 -- the rules for nothing that stands around, as those of a job
 pub as_of_job : (E : Env) (t : Term) (n : ℕ) (u w : Account) (r : Result BoxProgram EraseRefusal) → n ≡ 0 → AnswersAt (erased_program E (test_of E) (2048 - n) t u) (answered r) w →

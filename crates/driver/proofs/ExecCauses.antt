@@ -80,20 +80,7 @@ shapes_status E T u refusals.Types w h n d = ap search_status (sym h)
 shapes_status E T u refusals.TurnsSpent w h n d = ap search_status (sym h)
 shapes_status E T u refusals.Depth w h n d = absurd (deep_or_not (first_order_search E T u).deep h d)
 shapes_status E T u refusals.Memory w h n d = absurd (n refl)
-shapes_status E T u refusals.Usage w h n d = absurd h
-shapes_status E T u refusals.ReadFault w h n d = absurd h
-shapes_status E T u refusals.WriteFault w h n d = absurd h
-shapes_status E T u (refusals.Syntax o) w h n d = absurd h
-shapes_status E T u (refusals.Unsupported x o) w h n d = absurd h
-shapes_status E T u (refusals.Limit l) w h n d = absurd h
-shapes_status E T u refusals.InputBytes w h n d = absurd h
-shapes_status E T u (refusals.Broken k p) w h n d = absurd h
-shapes_status E T u refusals.AnswerNodes w h n d = absurd h
-shapes_status E T u refusals.Stuck w h n d = absurd h
-shapes_status E T u (refusals.Axiom name) w h n d = absurd h
-shapes_status E T u (refusals.Program l) w h n d = absurd h
-shapes_status E T u (refusals.Run x) w h n d = absurd h
-shapes_status E T u (refusals.Module x) w h n d = absurd h
+shapes_status E T u _ w h n d = absurd h
 
 -- ---- erasure
 
@@ -111,20 +98,7 @@ erased_status e E t u refusals.TurnsSpent w h n d = ap erasure_status (sym h)
 erased_status e E t u refusals.Depth w h n d = absurd (deep_or_not (erasure_of E t u).deep h d)
 erased_status e E t u (refusals.Broken k p) w h n d = ap erasure_status (sym h.2)
 erased_status e E t u refusals.Memory w h n d = absurd (n refl)
-erased_status e E t u refusals.Usage w h n d = absurd h
-erased_status e E t u refusals.ReadFault w h n d = absurd h
-erased_status e E t u refusals.WriteFault w h n d = absurd h
-erased_status e E t u (refusals.Syntax o) w h n d = absurd h
-erased_status e E t u (refusals.Unsupported x o) w h n d = absurd h
-erased_status e E t u (refusals.Limit l) w h n d = absurd h
-erased_status e E t u refusals.InputBytes w h n d = absurd h
-erased_status e E t u refusals.Types w h n d = absurd h
-erased_status e E t u refusals.AnswerNodes w h n d = absurd h
-erased_status e E t u refusals.NotFirstOrder w h n d = absurd h
-erased_status e E t u refusals.Stuck w h n d = absurd h
-erased_status e E t u (refusals.Program l) w h n d = absurd h
-erased_status e E t u (refusals.Run x) w h n d = absurd h
-erased_status e E t u (refusals.Module x) w h n d = absurd h
+erased_status e E t u _ w h n d = absurd h
 
 -- ---- the passes: all their limits have one status
 
@@ -133,24 +107,8 @@ not_passed pages P refusals.Depth h n = (refl, causes_are_one.fits P compiling.D
 not_passed pages P (refusals.Program limits.Captured) h n = (refl, causes_are_one.fits P compiling.Captured h (λ e. cc))
 not_passed pages P (refusals.Program limits.Functions) h n = (refl, causes_are_one.fits P compiling.Functions h (λ e. cc))
 not_passed pages P (refusals.Program limits.Locals) h n = (refl, causes_are_one.fits P compiling.Locals h (λ e. cc))
-not_passed pages P (refusals.Program limits.ModuleBytes) h n = absurd h
 not_passed pages P refusals.Memory h n = absurd (n refl)
-not_passed pages P refusals.Usage h n = absurd h
-not_passed pages P refusals.ReadFault h n = absurd h
-not_passed pages P refusals.WriteFault h n = absurd h
-not_passed pages P (refusals.Syntax o) h n = absurd h
-not_passed pages P (refusals.Unsupported x o) h n = absurd h
-not_passed pages P (refusals.Limit l) h n = absurd h
-not_passed pages P refusals.InputBytes h n = absurd h
-not_passed pages P refusals.TurnsSpent h n = absurd h
-not_passed pages P (refusals.Broken k p) h n = absurd h
-not_passed pages P refusals.Types h n = absurd h
-not_passed pages P refusals.AnswerNodes h n = absurd h
-not_passed pages P refusals.NotFirstOrder h n = absurd h
-not_passed pages P refusals.Stuck h n = absurd h
-not_passed pages P (refusals.Axiom name) h n = absurd h
-not_passed pages P (refusals.Run x) h n = absurd h
-not_passed pages P (refusals.Module x) h n = absurd h
+not_passed pages P _ h n = absurd h
 
 -- ---- the run
 
@@ -181,52 +139,16 @@ of_run m pages steps (refusals.Run ends.StepsSpent) h n = record { why = running
 of_run m pages steps (refusals.Run (ends.Trapped kind)) h n = record { why = running.Trapped kind; ends = h; other = λ e. cc; status = refl }
 of_run m pages steps (refusals.Run (ends.NoValue word)) h n = record { why = running.NoValue word; ends = h; other = λ e. cc; status = refl }
 of_run m pages steps refusals.AnswerNodes h n = record { why = running.AnswerNodes; ends = h; other = λ e. cc; status = refl }
-of_run m pages steps (refusals.Program limits.Captured) h n = absurd h
-of_run m pages steps (refusals.Program limits.Functions) h n = absurd h
-of_run m pages steps (refusals.Program limits.Locals) h n = absurd h
 of_run m pages steps refusals.Memory h n = absurd (n refl)
-of_run m pages steps refusals.Usage h n = absurd h
-of_run m pages steps refusals.ReadFault h n = absurd h
-of_run m pages steps refusals.WriteFault h n = absurd h
-of_run m pages steps (refusals.Syntax o) h n = absurd h
-of_run m pages steps (refusals.Unsupported x o) h n = absurd h
-of_run m pages steps (refusals.Limit l) h n = absurd h
-of_run m pages steps refusals.InputBytes h n = absurd h
-of_run m pages steps refusals.Depth h n = absurd h
-of_run m pages steps refusals.TurnsSpent h n = absurd h
-of_run m pages steps (refusals.Broken k p) h n = absurd h
-of_run m pages steps refusals.Types h n = absurd h
-of_run m pages steps refusals.NotFirstOrder h n = absurd h
-of_run m pages steps refusals.Stuck h n = absurd h
-of_run m pages steps (refusals.Axiom name) h n = absurd h
-of_run m pages steps (refusals.Module w) h n = absurd h
+of_run m pages steps _ h n = absurd h
 
 -- ---- the text
 
 pub no_text_of : (hs : List Shape) (a : Answered) (r : Refusal) → TextRefuses hs a r → r ≢ refusals.Memory →
     (status_of r ≡ 15) × (FitsShapes (members hs) 0 a.tree → ⊥)
 no_text_of hs a (refusals.Run (ends.NoValue word)) h n = (refl, h.1)
-no_text_of hs a (refusals.Run ends.Exhausted) h n = absurd h
-no_text_of hs a (refusals.Run ends.StepsSpent) h n = absurd h
-no_text_of hs a (refusals.Run (ends.Trapped kind)) h n = absurd h
 no_text_of hs a refusals.Memory h n = absurd (n refl)
-no_text_of hs a refusals.Usage h n = absurd h
-no_text_of hs a refusals.ReadFault h n = absurd h
-no_text_of hs a refusals.WriteFault h n = absurd h
-no_text_of hs a (refusals.Syntax o) h n = absurd h
-no_text_of hs a (refusals.Unsupported x o) h n = absurd h
-no_text_of hs a (refusals.Limit l) h n = absurd h
-no_text_of hs a refusals.InputBytes h n = absurd h
-no_text_of hs a refusals.Depth h n = absurd h
-no_text_of hs a refusals.TurnsSpent h n = absurd h
-no_text_of hs a (refusals.Broken k p) h n = absurd h
-no_text_of hs a refusals.Types h n = absurd h
-no_text_of hs a refusals.AnswerNodes h n = absurd h
-no_text_of hs a refusals.NotFirstOrder h n = absurd h
-no_text_of hs a refusals.Stuck h n = absurd h
-no_text_of hs a (refusals.Axiom name) h n = absurd h
-no_text_of hs a (refusals.Program l) h n = absurd h
-no_text_of hs a (refusals.Module w) h n = absurd h
+no_text_of hs a _ h n = absurd h
 
 -- ---- each stage hands on one thing
 
@@ -418,29 +340,12 @@ pub check_early : (turns : ℕ) (r : Refusal) (e : RawEnv) → IsCheckCause turn
 check_early turns refusals.TurnsSpent e c h = early 8 h (lit≤ tt) (lit≤ tt) (λ q. omega (arith, q))
 check_early turns refusals.Depth e c h = early 7 h (lit≤ tt) (lit≤ tt) (λ q. omega (arith, q))
 check_early turns (refusals.Broken k p) e c h = early 9 h (lit≤ tt) (lit≤ tt) (λ q. omega (arith, q))
-check_early turns refusals.Memory e c h = c
-check_early turns refusals.Usage e c h = c
-check_early turns refusals.ReadFault e c h = c
-check_early turns refusals.WriteFault e c h = c
-check_early turns (refusals.Syntax o) e c h = c
-check_early turns (refusals.Unsupported w o) e c h = c
-check_early turns (refusals.Limit l) e c h = c
-check_early turns refusals.InputBytes e c h = c
-check_early turns refusals.Types e c h = c
-check_early turns refusals.AnswerNodes e c h = c
-check_early turns refusals.NotFirstOrder e c h = c
-check_early turns refusals.Stuck e c h = c
-check_early turns (refusals.Axiom name) e c h = c
-check_early turns (refusals.Program l) e c h = c
-check_early turns (refusals.Run w) e c h = c
-check_early turns (refusals.Module w) e c h = c
+check_early turns _ e c h = c
 
 -- nor is one of the text
 pub text_early : (q : ReadRefusal) → IsLate (status_of (refusal_of q)) → ⊥
-text_early (reads.Syntax o) h = early 5 h (lit≤ tt) (lit≤ tt) (λ q. omega (arith, q))
-text_early (reads.Unsupported w o) h = early 6 h (lit≤ tt) (lit≤ tt) (λ q. omega (arith, q))
-text_early (reads.Limit l o) h = early 7 h (lit≤ tt) (lit≤ tt) (λ q. omega (arith, q))
-text_early reads.Memory h = early 1 h (lit≤ tt) (lit≤ tt) (λ q. omega (arith, q))
+text_early (reads.Limit l o) h = early 7 h (lit≤ tt) (lit≤ tt) (λ z. omega (arith, z))
+text_early q h = early (status_of (refusal_of q)) h (lit≤ tt) (lit≤ tt) (λ z. omega (arith, z))
 
 pub fault_early : IsLate 3 → ⊥
 fault_early h = early 3 h (lit≤ tt) (lit≤ tt) (λ q. omega (arith, q))

@@ -1,5 +1,5 @@
 -- What the stages of `exec` say, as what its end shows.
-use Rattle.std.proofs.Common.{◌≡◌, ◌∙◌, ℕ, List, length, Ok, Err, inl, inr, sym, subst, arith}
+use Rattle.std.proofs.Common.{◌≡◌, ◌∙◌, ℕ, List, length, Err, inl, inr, sym, subst, arith}
 use Rattle.std.specs.Prelude.{Vec}
 use Rattle.std.specs.declared.alloc.Global.{Global}
 use Rattle.compile.proofs.Within.{fits_valid}
@@ -29,42 +29,7 @@ module _ (turns : ℕ) (e : RawEnv) (pages steps : ℕ) where
   abbrev Stops : Refusal → Type 0
   Stops r = Refuses turns e pages steps r
 
-  -- no stage refuses as the text does, nor for the words, the source or out
-
-  no_usage : Stops refusals.Usage → ⊥
-  no_usage (in_search x w h) = h
-  no_usage (in_erasure x w h) = h
-  no_usage (in_passes x h) = h
-  no_usage (in_run x a h) = h
-  no_usage (in_text x a h) = h
-
-  no_read_fault : Stops refusals.ReadFault → ⊥
-  no_read_fault (in_search x w h) = h
-  no_read_fault (in_erasure x w h) = h
-  no_read_fault (in_passes x h) = h
-  no_read_fault (in_run x a h) = h
-  no_read_fault (in_text x a h) = h
-
-  no_write_fault : Stops refusals.WriteFault → ⊥
-  no_write_fault (in_search x w h) = h
-  no_write_fault (in_erasure x w h) = h
-  no_write_fault (in_passes x h) = h
-  no_write_fault (in_run x a h) = h
-  no_write_fault (in_text x a h) = h
-
-  no_syntax : (o : ℕ) → Stops (refusals.Syntax o) → ⊥
-  no_syntax o (in_search x w h) = h
-  no_syntax o (in_erasure x w h) = h
-  no_syntax o (in_passes x h) = h
-  no_syntax o (in_run x a h) = h
-  no_syntax o (in_text x a h) = h
-
-  no_length : Stops refusals.InputBytes → ⊥
-  no_length (in_search x w h) = h
-  no_length (in_erasure x w h) = h
-  no_length (in_passes x h) = h
-  no_length (in_run x a h) = h
-  no_length (in_text x a h) = h
+  -- no stage refuses so
 
   pub no_stuck : Stops refusals.Stuck → ⊥
   no_stuck (in_search x w h) = h
@@ -83,24 +48,16 @@ module _ (turns : ℕ) (e : RawEnv) (pages steps : ℕ) where
 -- a refusal of some stage, or want of memory, is a cause
 exec_says : (q : Request) (r : Refusal) (bytes : List ℕ) (e : RawEnv) → SpellsWithin bytes e → Refuses q.turns e q.pages q.steps r → RefusalSays Exec q r bytes
 exec_says q refusals.Memory bytes e s h = tt
-exec_says q refusals.Usage bytes e s h = absurd (no_usage q.turns e q.pages q.steps h)
-exec_says q refusals.ReadFault bytes e s h = absurd (no_read_fault q.turns e q.pages q.steps h)
-exec_says q refusals.WriteFault bytes e s h = absurd (no_write_fault q.turns e q.pages q.steps h)
-exec_says q (refusals.Syntax o) bytes e s h = absurd (no_syntax q.turns e q.pages q.steps o h)
-exec_says q (refusals.Unsupported w o) bytes e s h = absurd (elim h [ in_search x w k ↦ k | in_erasure x w k ↦ k | in_passes x k ↦ k | in_run x a k ↦ k | in_text x a k ↦ k ])
-exec_says q (refusals.Limit l) bytes e s h = absurd (elim h [ in_search x w k ↦ k | in_erasure x w k ↦ k | in_passes x k ↦ k | in_run x a k ↦ k | in_text x a k ↦ k ])
-exec_says q refusals.InputBytes bytes e s h = absurd (no_length q.turns e q.pages q.steps h)
 exec_says q refusals.Depth bytes e s h = (e, s, inr (((λ x. cc), h), λ x. tt))
 exec_says q refusals.TurnsSpent bytes e s h = (e, s, inr (((λ x. cc), h), λ x. tt))
 exec_says q (refusals.Broken n p) bytes e s h = (e, s, inr (((λ x. cc), h), λ x. tt))
 exec_says q refusals.Types bytes e s h = (e, s, inr (((λ x. cc), h), λ x. tt))
 exec_says q refusals.AnswerNodes bytes e s h = (e, s, inr (((λ x. cc), h), λ x. tt))
 exec_says q refusals.NotFirstOrder bytes e s h = (e, s, inr (((λ x. cc), h), λ x. tt))
-exec_says q refusals.Stuck bytes e s h = absurd (no_stuck q.turns e q.pages q.steps h)
 exec_says q (refusals.Axiom name) bytes e s h = (e, s, inr (((λ x. cc), h), λ x. tt))
-exec_says q (refusals.Program l) bytes e s h = (e, s, inr (((λ x. cc), h), shows_large q.turns e q.pages q.steps l h))
 exec_says q (refusals.Run w) bytes e s h = (e, s, inr (((λ x. cc), h), λ x. tt))
-exec_says q (refusals.Module w) bytes e s h = absurd (no_module q.turns e q.pages q.steps w h)
+exec_says q (refusals.Program l) bytes e s h = (e, s, inr (((λ x. cc), h), shows_large q.turns e q.pages q.steps l h))
+exec_says q _ bytes e s h = absurd (elim h [ in_search x w k ↦ k | in_erasure x w k ↦ k | in_passes x k ↦ k | in_run x a k ↦ k | in_text x a k ↦ k ])
 
 -- a refusal of `compile` is one of `exec`
 
@@ -117,17 +74,7 @@ shared_says q (refusals.Syntax o) bytes h = h
 shared_says q (refusals.Unsupported w o) bytes h = h
 shared_says q (refusals.Limit l) bytes h = h
 shared_says q refusals.InputBytes bytes h = h
-shared_says q refusals.Depth bytes h = shared_cause q refusals.Depth bytes h
-shared_says q refusals.TurnsSpent bytes h = shared_cause q refusals.TurnsSpent bytes h
-shared_says q (refusals.Broken n p) bytes h = shared_cause q (refusals.Broken n p) bytes h
-shared_says q refusals.Types bytes h = shared_cause q refusals.Types bytes h
-shared_says q refusals.AnswerNodes bytes h = shared_cause q refusals.AnswerNodes bytes h
-shared_says q refusals.NotFirstOrder bytes h = shared_cause q refusals.NotFirstOrder bytes h
-shared_says q refusals.Stuck bytes h = shared_cause q refusals.Stuck bytes h
-shared_says q (refusals.Axiom name) bytes h = shared_cause q (refusals.Axiom name) bytes h
-shared_says q (refusals.Program l) bytes h = shared_cause q (refusals.Program l) bytes h
-shared_says q (refusals.Run w) bytes h = shared_cause q (refusals.Run w) bytes h
-shared_says q (refusals.Module w) bytes h = shared_cause q (refusals.Module w) bytes h
+shared_says q r bytes h = shared_cause q r bytes h
 
 -- ---- after main's module
 

@@ -1,9 +1,10 @@
--- What `exec` answers where main's evaluation lawfully gives a value, and the bounds within which it answers data.
+-- What `exec` answers where main, of a first-order type, evaluates to a value, and the bounds within which it answers data.
 use Rattle.std.proofs.Common.{◌≡◌, ◌∙◌, ℕ, ◌+◌, ◌*◌, ◌<◌, ◌≤◌, List, Some, Ok, Err, ◌⊎◌, inl, inr, false, refl, sym, ap, subst, arith}
 use Rattle.pc_terms.specs.Syntax.{Term}
 use Rattle.pc_rules.specs.declared.meter.Account.{Account}
 use Rattle.pc_rules.specs.Environment.{Env}
 use Rattle.pc_rules.specs.FirstOrder.{Data, IsFirstOrder}
+use Rattle.pc_rules.specs.Lawful.{IsLawfulEvaluation}
 use Rattle.first_order.specs.Searching.{members, AreNamed}
 use Rattle.lambda_box.specs.BoxProgram.{BoxProgram}
 use Rattle.lambda_box.specs.BoxEvaluation.{BoxEvaluates}
@@ -21,15 +22,16 @@ use Rattle.wasm_core.proofs.Small.{inj}
 use Rattle.wasm_core.proofs.Trees.{moves_are_steps}
 use Rattle.wasm_emit.specs.EmittedModule.{module_of}
 use Rattle.back_end.specs.BackEnd.{passed, IsWithin}
+use Rattle.back_end.proofs.Total.{total_valid}
 use Rattle.compile.proofs.Within.{fits_within}
 use Rattle.module_run.specs.Ends.{IsTrapped}
 use Rattle.module_run.specs.declared.refusal.RunRefusal.TheVariants as running
 use Rattle.module_run.proofs.OneEnd.{ends_answer}
-use Rattle.headline.specs.AcceptedProgram.{IsErasedTo, FitsPasses, IsWithinSource}
+use Rattle.headline.specs.AcceptedProgram.{IsAcceptedAs, IsErasedTo, FitsPasses, IsWithinSource}
 use Rattle.headline.specs.EveryRun.{EvaluatesTo, EveryRunAnswers}
-use Rattle.headline.specs.Headline.{AnswersValue as AnswersByLaw}
+use Rattle.headline.specs.Headline.{IsExactly, AnswersValue as AnswersByLaw}
 use Rattle.headline.specs.SourceWords.{source_words, source_branches}
-use Rattle.headline.proofs.Composed.{headline}
+use Rattle.headline.proofs.Composed.{lawful_evaluation, value_exactly, value_answered}
 use Rattle.headline.proofs.EachRun.{each_run}
 use Rattle.headline.proofs.LateReturns.{late_returns}
 use Rattle.headline.proofs.PastMaximum.{past_maximum}
@@ -49,7 +51,7 @@ use Rattle.driver.specs.Serve.{IsCheckCause}
 use Rattle.driver.specs.Bench.{steps_of}
 use Rattle.driver.specs.ExecEnds.{Erasing, Compiling, Answering, Refuses, in_search, in_erasure, in_passes, in_run, in_text, IsExecCause, ExecEnds, RunSays, TextRefuses, its_module, its_shapes, its_environment, its_type}
 use Rattle.driver.specs.Executed.{HasErasedData}
-use Rattle.driver.specs.Headline.{HasLawfulValue, value_data, IsTextOfValue, EvaluatesErased, HasMatches}
+use Rattle.driver.specs.Headline.{HasValue, IsTextOfValue, EvaluatesErased, HasMatches}
 use Rattle.driver.proofs.SourceCauses.{accepts_inj, plainly}
 use Rattle.driver.proofs.AcceptedAs.{accepted_as, erased_to}
 use Rattle.driver.proofs.TextCauses.{is_spelled}
@@ -82,22 +84,7 @@ late_of request e refusals.Stuck (inl c) le = absurd c
 late_of request e refusals.Stuck (inr c) le = absurd (no_stuck request.turns e request.pages request.steps c.1)
 late_of request e (refusals.Module w) (inl c) le = absurd c
 late_of request e (refusals.Module w) (inr c) le = absurd (no_module request.turns e request.pages request.steps w c.1)
-late_of request e refusals.Memory c le = absurd (omega (arith, le))
-late_of request e refusals.Usage c le = absurd (omega (arith, le))
-late_of request e refusals.ReadFault c le = absurd (omega (arith, le))
-late_of request e refusals.WriteFault c le = absurd (omega (arith, le))
-late_of request e (refusals.Syntax o) c le = absurd (omega (arith, le))
-late_of request e (refusals.Unsupported w o) c le = absurd (omega (arith, le))
-late_of request e (refusals.Limit l) c le = absurd (omega (arith, le))
-late_of request e refusals.InputBytes c le = absurd (omega (arith, le))
-late_of request e refusals.Depth c le = absurd (omega (arith, le))
-late_of request e refusals.TurnsSpent c le = absurd (omega (arith, le))
-late_of request e (refusals.Broken n p) c le = absurd (omega (arith, le))
-late_of request e refusals.Types c le = absurd (omega (arith, le))
-late_of request e refusals.AnswerNodes c le = absurd (omega (arith, le))
-late_of request e refusals.NotFirstOrder c le = absurd (omega (arith, le))
-late_of request e (refusals.Axiom name) c le = absurd (omega (arith, le))
-late_of request e (refusals.Program l) c le = absurd (omega (arith, le))
+late_of request e _ c le = absurd (omega (arith, le))
 
 compiled : {request : Request} {e : RawEnv} {why : RunEnd} → Late request e why → Compiling request.turns e
 compiled (of_run x y) = x
@@ -167,37 +154,48 @@ module _ (request : Request) (range : IsInRange request) (bytes : List ℕ) (e :
       let words : greatest_words h.stages.program ≡ greatest_words P = ap greatest_words same in
       each_run P request.pages (greatest_words h.stages.program) (source_branches a.kept) n h.tree pos small (omega arith) (omega (arith, words)) within kept
 
-  module _ (n : ℕ) (h : HasLawfulValue request.turns e n) where
+  module _ (n : ℕ) (h : HasValue request.turns e n) where
     types_there : (x : Erasing request.turns e) → IsFirstOrder h.kept h.type (members (its_shapes x))
     types_there x =
         let q = one_kept h.kept h.type h.left h.accepted x in
         subst (λ E. IsFirstOrder E h.type (members (its_shapes x))) (sym q.0) (subst (λ T. IsFirstOrder (its_environment x) T (members (its_shapes x))) (sym q.1) x.before.set)
 
-    -- the law at the stages of a run
+    there : IsAcceptedAs e h.kept h.type
+    there = accepted_as request.turns e (is_spelled bytes e s) h.kept h.type h.left h.accepted
 
-    law : (x : Compiling request.turns e) → IsValid (its_module request.pages x) × AnswersByLaw h.kept e.main (its_shapes x.before) x.before.program request.pages h.value n (value_data h)
+    -- the evaluation is lawful, so its value is data
+    pub given : IsLawfulEvaluation h.kept h.type h.evaluation
+    given = lawful_evaluation e h.kept h.type there h.value n h.evaluation h.types h.first_order
+
+    abbrev pub value_data : Data
+    value_data = given.main.answer
+
+    pub value_exact : IsExactly h.kept h.types h.value value_data
+    value_exact = value_exactly e h.kept h.type there h.value n h.evaluation given h.types h.first_order
+
+    -- the law at the stages of a run
+    law : (x : Compiling request.turns e) → AnswersByLaw h.kept e.main (its_shapes x.before) x.before.program request.pages h.value n value_data
     law x =
         let P = x.before.program in
         let erased : IsErasedTo h.kept e.main P = subst (λ E. IsErasedTo E e.main P) (sym (one_kept h.kept h.type h.left h.accepted x.before).0) (erased_to request.turns e x.before) in
-        let l = (headline e h.kept h.type (accepted_as request.turns e (is_spelled bytes e s) h.kept h.type h.left h.accepted)).1 (its_shapes x.before) P request.pages (types_there x.before) erased (fits_passes x) pos small in
-        (l.0, l.1 h.value n h.given)
+        value_answered e h.kept h.type there h.value n h.evaluation given (its_shapes x.before) P request.pages (types_there x.before) erased (fits_passes x) pos small
 
     pub value_valid : (x : Compiling request.turns e) → IsValid (its_module request.pages x)
-    value_valid x = (law x).0
+    value_valid x = total_valid x.before.program request.pages (source_branches (its_environment x.before)) pos small (within_source x).within
 
-    pub value_runs : (x : Compiling request.turns e) → EveryRunAnswers x.before.program request.pages (source_words h.kept e.main) (source_branches h.kept) n (value_data h)
-    value_runs x = (law x).1.runs
+    pub value_runs : (x : Compiling request.turns e) → EveryRunAnswers x.before.program request.pages (source_words h.kept e.main) (source_branches h.kept) n value_data
+    value_runs x = (law x).runs
 
     -- so the erased program has that data
-    erased_data : (x : Compiling request.turns e) → HasErasedData request.turns e (value_data h) (law x).1.kept.nodes (law x).1.kept.matches
-    erased_data x = let l = (law x).1 in record { stages = x.before; value = l.kept.value; evaluates = l.kept.evaluates; reads = l.kept.reads; fits = l.fits }
+    erased_data : (x : Compiling request.turns e) → HasErasedData request.turns e value_data (law x).kept.nodes (law x).kept.matches
+    erased_data x = let l = law x in record { stages = x.before; value = l.kept.value; evaluates = l.kept.evaluates; reads = l.kept.reads; fits = l.fits }
 
     -- the text is the value's
-    pub value_text : (text : List ℕ) → ExecEnds request.turns e request.pages request.steps (Ok text) → IsTextOfValue request.turns e n h text
+    pub value_text : (text : List ℕ) → ExecEnds request.turns e request.pages request.steps (Ok text) → IsTextOfValue request.turns e n h value_data text
     value_text text (x, line) =
-        let l = (law x.before).1 in
+        let l = law x.before in
         let z = x.before.before in
-        let same : x.answer.tree ≡ value_data h = ends_answer (its_module request.pages x.before) request.pages (1024 * n * (source_words h.kept e.main + source_branches h.kept)) request.steps (value_data h) (Ok x.answer) l.runs.answers x.ends in
+        let same : x.answer.tree ≡ value_data = ends_answer (its_module request.pages x.before) request.pages (1024 * n * (source_words h.kept e.main + source_branches h.kept)) request.steps value_data (Ok x.answer) l.runs.answers x.ends in
         record {
           shapes = its_shapes z;
           set = types_there z;
@@ -210,8 +208,8 @@ module _ (request : Request) (range : IsInRange request) (bytes : List ℕ) (e :
     pub no_fault : (r : Refusal) → IsCheckCause request.turns r e ⊎ IsExecCause request.turns request.pages request.steps r e → status_of r ≡ 15 → ⊥
     no_fault r c q =
         let x = compiled (late_of request e r c (omega (arith, q))).late in
-        let l = (law x).1 in
-        no_other request range e (value_data h) l.kept.nodes l.kept.matches (erased_data x) r c q
+        let l = law x in
+        no_other request range e value_data l.kept.nodes l.kept.matches (erased_data x) r c q
 
   -- ---- bounds, where every run of the module that this call makes answers data
 
@@ -219,16 +217,12 @@ module _ (request : Request) (range : IsInRange request) (bytes : List ℕ) (e :
     unexhausted : (why : RunEnd) → Late request e why → status_of (refusals.Run why) ≡ 11 → 32 * n * w + 8 ≤ 65536 * request.pages → ⊥
     unexhausted ends.Exhausted (of_run x (brief, (kind, t, refused))) q big = not_trapped request.pages request.steps x.before.program w b n ds (runs x) kind t big
     unexhausted ends.Exhausted (of_text x y) q big = y
-    unexhausted ends.StepsSpent l q big = absurd (omega (arith, q))
-    unexhausted (ends.Trapped k) l q big = absurd (omega (arith, q))
-    unexhausted (ends.NoValue v) l q big = absurd (omega (arith, q))
+    unexhausted _ l q big = absurd (omega (arith, q))
 
     unspent : (why : RunEnd) → Late request e why → status_of (refusals.Run why) ≡ 12 → 1024 * n * (w + b) ≤ request.steps → ⊥
     unspent ends.StepsSpent (of_run x y) q few = (let more = ends_answer (its_module request.pages x) request.pages (1024 * n * (w + b)) request.steps ds (Err running.StepsSpent) (runs x).answers y in omega (arith, more, few))
     unspent ends.StepsSpent (of_text x y) q few = y
-    unspent ends.Exhausted l q few = absurd (omega (arith, q))
-    unspent (ends.Trapped k) l q few = absurd (omega (arith, q))
-    unspent (ends.NoValue v) l q few = absurd (omega (arith, q))
+    unspent _ l q few = absurd (omega (arith, q))
 
     pub enough_memory : (r : Refusal) → IsCheckCause request.turns r e ⊎ IsExecCause request.turns request.pages request.steps r e → status_of r ≡ 11 → 32 * n * w + 8 ≤ 65536 * request.pages → ⊥
     enough_memory r c q big = let l = late_of request e r c (omega (arith, q)) in unexhausted l.why l.late (ap status_of (sym l.is) ∙ q) big
@@ -236,7 +230,7 @@ module _ (request : Request) (range : IsInRange request) (bytes : List ℕ) (e :
     pub enough_steps : (r : Refusal) → IsCheckCause request.turns r e ⊎ IsExecCause request.turns request.pages request.steps r e → status_of r ≡ 12 → 1024 * n * (w + b) ≤ request.steps → ⊥
     enough_steps r c q few = let l = late_of request e r c (omega (arith, q)) in unspent l.why l.late (ap status_of (sym l.is) ∙ q) few
 
-  -- so where the erased program evaluates to data, and where main's evaluation lawfully gives a value
+  -- so where the erased program evaluates to data, and where main evaluates to a value
 
   pub data_memory : (n : ℕ) (h : EvaluatesErased request.turns e n) (r : Refusal) → IsCheckCause request.turns r e ⊎ IsExecCause request.turns request.pages request.steps r e → status_of r ≡ 11 →
       32 * n * greatest_words h.stages.program + 8 ≤ 65536 * request.pages → ⊥
@@ -246,13 +240,13 @@ module _ (request : Request) (range : IsInRange request) (bytes : List ℕ) (e :
       1024 * n * (greatest_words h.stages.program + source_branches (its_environment h.stages)) ≤ request.steps → ⊥
   data_steps n h = enough_steps h.tree (greatest_words h.stages.program) (source_branches (its_environment h.stages)) n (data_runs n h)
 
-  pub value_memory : (n : ℕ) (h : HasLawfulValue request.turns e n) (r : Refusal) → IsCheckCause request.turns r e ⊎ IsExecCause request.turns request.pages request.steps r e → status_of r ≡ 11 →
+  pub value_memory : (n : ℕ) (h : HasValue request.turns e n) (r : Refusal) → IsCheckCause request.turns r e ⊎ IsExecCause request.turns request.pages request.steps r e → status_of r ≡ 11 →
       32 * n * source_words h.kept e.main + 8 ≤ 65536 * request.pages → ⊥
-  value_memory n h = enough_memory (value_data h) (source_words h.kept e.main) (source_branches h.kept) n (value_runs n h)
+  value_memory n h = enough_memory (value_data n h) (source_words h.kept e.main) (source_branches h.kept) n (value_runs n h)
 
-  pub value_steps : (n : ℕ) (h : HasLawfulValue request.turns e n) (r : Refusal) → IsCheckCause request.turns r e ⊎ IsExecCause request.turns request.pages request.steps r e → status_of r ≡ 12 →
+  pub value_steps : (n : ℕ) (h : HasValue request.turns e n) (r : Refusal) → IsCheckCause request.turns r e ⊎ IsExecCause request.turns request.pages request.steps r e → status_of r ≡ 12 →
       1024 * n * (source_words h.kept e.main + source_branches h.kept) ≤ request.steps → ⊥
-  value_steps n h = enough_steps (value_data h) (source_words h.kept e.main) (source_branches h.kept) n (value_runs n h)
+  value_steps n h = enough_steps (value_data n h) (source_words h.kept e.main) (source_branches h.kept) n (value_runs n h)
 
   -- a run that returns has made as many steps as there are matches
   pub late_runs : (matches : ℕ) → HasMatches request.turns e matches → (x : Compiling request.turns e) (first : State) (k : ℕ) (s : Store) → main_start (its_module request.pages x) ≡ Some first →

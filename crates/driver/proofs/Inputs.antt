@@ -7,7 +7,7 @@ use Rattle.report_lines.specs.Takes.{TakesLine}
 use Rattle.workload.specs.WorkloadText.{text_of}
 use Rattle.report_lines.specs.declared.facts.Facts.{Facts}
 use Rattle.command_line.specs.declared.job.Job.{Job}
-use Rattle.command_line.specs.declared.job.Job.TheVariants.{Exec, Check, Eval, Run, Compile, Bench}
+use Rattle.command_line.specs.declared.job.Job.TheVariants.{Exec, Bench}
 use Rattle.command_line.specs.declared.line.Request.{Request}
 use Rattle.command_line.specs.Line.{request_of}
 use Rattle.driver.specs.declared.refusal.Refusal.{Refusal}
@@ -15,12 +15,8 @@ use Rattle.driver.specs.declared.refusal.Refusal.TheVariants as refusals
 use Rattle.driver.specs.Serve.{AreFacts, Concludes, HasJobFacts, InputSays, IsInput, IsInputOf, IsTextCause, JobSays, ReadSays, RefusalSays, RequestSays, Says}
 
 of_reader : (job : Job) (q : Request) (left : Option (List ℕ)) (bytes : List ℕ) → job ≢ Bench → IsInput left bytes → IsInputOf job q left bytes
-of_reader Exec q left bytes n h = h
-of_reader Check q left bytes n h = h
-of_reader Eval q left bytes n h = h
-of_reader Run q left bytes n h = h
-of_reader Compile q left bytes n h = h
 of_reader Bench q left bytes n h = absurd (n refl)
+of_reader _ q left bytes n h = h
 
 -- the text that is made
 pub input_made : {V : Type 0} (view : V → List ℕ) (q : Request) (r : Result V Refusal) (left : Option (List ℕ)) (before now : ℕ) → q.job ≡ Bench → IfOk r (λ v. view v ≡ text_of q.size) → IfErr r (λ x. x ≡ refusals.Memory) → InputSays view r q left before now
@@ -33,79 +29,32 @@ input_read view q (Ok v) left before now n h = of_reader q.job q left (view v) n
 input_read view q (Err refusals.Memory) left before now n h = tt
 input_read view q (Err refusals.ReadFault) left before now n h = (n, h)
 input_read view q (Err refusals.InputBytes) left before now n h = (n, h)
-input_read view q (Err refusals.Usage) left before now n h = absurd h
-input_read view q (Err refusals.WriteFault) left before now n h = absurd h
-input_read view q (Err (refusals.Syntax o)) left before now n h = absurd h
-input_read view q (Err (refusals.Unsupported w o)) left before now n h = absurd h
-input_read view q (Err (refusals.Limit l)) left before now n h = absurd h
-input_read view q (Err refusals.Depth) left before now n h = absurd h
-input_read view q (Err refusals.TurnsSpent) left before now n h = absurd h
-input_read view q (Err (refusals.Broken k p)) left before now n h = absurd h
-input_read view q (Err refusals.Types) left before now n h = absurd h
-input_read view q (Err refusals.AnswerNodes) left before now n h = absurd h
-input_read view q (Err refusals.NotFirstOrder) left before now n h = absurd h
-input_read view q (Err refusals.Stuck) left before now n h = absurd h
-input_read view q (Err (refusals.Axiom name)) left before now n h = absurd h
-input_read view q (Err (refusals.Program l)) left before now n h = absurd h
-input_read view q (Err (refusals.Run w)) left before now n h = absurd h
-input_read view q (Err (refusals.Module w)) left before now n h = absurd h
+input_read view q _ left before now n h = absurd h
 
 -- no text shows a refusal of the words, of reading or of writing
 
 no_usage : (job : Job) (q : Request) (bytes : List ℕ) → IsTextCause job q refusals.Usage bytes → ⊥
 no_usage Exec q bytes h = h
-no_usage Check q bytes h = h
-no_usage Eval q bytes h = h
-no_usage Run q bytes h = h
-no_usage Compile q bytes h = h
-no_usage Bench q bytes h = h
+no_usage _ q bytes h = h
 
 no_read_fault : (job : Job) (q : Request) (bytes : List ℕ) → IsTextCause job q refusals.ReadFault bytes → ⊥
 no_read_fault Exec q bytes h = h
-no_read_fault Check q bytes h = h
-no_read_fault Eval q bytes h = h
-no_read_fault Run q bytes h = h
-no_read_fault Compile q bytes h = h
-no_read_fault Bench q bytes h = h
+no_read_fault _ q bytes h = h
 
 no_write_fault : (job : Job) (q : Request) (bytes : List ℕ) → IsTextCause job q refusals.WriteFault bytes → ⊥
 no_write_fault Exec q bytes h = h
-no_write_fault Check q bytes h = h
-no_write_fault Eval q bytes h = h
-no_write_fault Run q bytes h = h
-no_write_fault Compile q bytes h = h
-no_write_fault Bench q bytes h = h
+no_write_fault _ q bytes h = h
 
 no_length : (job : Job) (q : Request) (bytes : List ℕ) → IsTextCause job q refusals.InputBytes bytes → ⊥
 no_length Exec q bytes h = h
-no_length Check q bytes h = h
-no_length Eval q bytes h = h
-no_length Run q bytes h = h
-no_length Compile q bytes h = h
-no_length Bench q bytes h = h
+no_length _ q bytes h = h
 
 module _ {V : Type 0} (view : V → List ℕ) (words : List (List ℕ)) (left : Option (List ℕ)) (before now : ℕ) where
   -- a refusal of the words
   pub request_says : (r : Refusal) → RequestSays r words → Says {V = V} view (Err r) words left before now
   request_says refusals.Memory h = tt
   request_says refusals.Usage h = h
-  request_says refusals.ReadFault h = absurd h
-  request_says refusals.WriteFault h = absurd h
-  request_says (refusals.Syntax o) h = absurd h
-  request_says (refusals.Unsupported w o) h = absurd h
-  request_says (refusals.Limit l) h = absurd h
-  request_says refusals.InputBytes h = absurd h
-  request_says refusals.Depth h = absurd h
-  request_says refusals.TurnsSpent h = absurd h
-  request_says (refusals.Broken n p) h = absurd h
-  request_says refusals.Types h = absurd h
-  request_says refusals.AnswerNodes h = absurd h
-  request_says refusals.NotFirstOrder h = absurd h
-  request_says refusals.Stuck h = absurd h
-  request_says (refusals.Axiom name) h = absurd h
-  request_says (refusals.Program l) h = absurd h
-  request_says (refusals.Run w) h = absurd h
-  request_says (refusals.Module w) h = absurd h
+  request_says _ h = absurd h
 
   module _ (q : Request) (asked : request_of words ≡ Some q) where
     -- a refusal of reading
@@ -113,22 +62,7 @@ module _ {V : Type 0} (view : V → List ℕ) (words : List (List ℕ)) (left : 
     input_says refusals.Memory h = tt
     input_says refusals.ReadFault h = ((q, asked, h.0), h.1)
     input_says refusals.InputBytes h = ((q, asked, h.0), h.1)
-    input_says refusals.Usage h = absurd h
-    input_says refusals.WriteFault h = absurd h
-    input_says (refusals.Syntax o) h = absurd h
-    input_says (refusals.Unsupported w o) h = absurd h
-    input_says (refusals.Limit l) h = absurd h
-    input_says refusals.Depth h = absurd h
-    input_says refusals.TurnsSpent h = absurd h
-    input_says (refusals.Broken n p) h = absurd h
-    input_says refusals.Types h = absurd h
-    input_says refusals.AnswerNodes h = absurd h
-    input_says refusals.NotFirstOrder h = absurd h
-    input_says refusals.Stuck h = absurd h
-    input_says (refusals.Axiom name) h = absurd h
-    input_says (refusals.Program l) h = absurd h
-    input_says (refusals.Run w) h = absurd h
-    input_says (refusals.Module w) h = absurd h
+    input_says _ h = absurd h
 
     module _ (bytes : List ℕ) (input : IsInputOf q.job q left bytes) where
       refused : (r : Refusal) → RefusalSays q.job q r bytes → Says {V = V} view (Err r) words left before now
@@ -137,20 +71,7 @@ module _ {V : Type 0} (view : V → List ℕ) (words : List (List ℕ)) (left : 
       refused refusals.ReadFault h = absurd (no_read_fault q.job q bytes h)
       refused refusals.WriteFault h = absurd (no_write_fault q.job q bytes h)
       refused refusals.InputBytes h = absurd (no_length q.job q bytes h)
-      refused (refusals.Syntax o) h = (q, asked, (bytes, input, h))
-      refused (refusals.Unsupported w o) h = (q, asked, (bytes, input, h))
-      refused (refusals.Limit l) h = (q, asked, (bytes, input, h))
-      refused refusals.Depth h = (q, asked, (bytes, input, h))
-      refused refusals.TurnsSpent h = (q, asked, (bytes, input, h))
-      refused (refusals.Broken n p) h = (q, asked, (bytes, input, h))
-      refused refusals.Types h = (q, asked, (bytes, input, h))
-      refused refusals.AnswerNodes h = (q, asked, (bytes, input, h))
-      refused refusals.NotFirstOrder h = (q, asked, (bytes, input, h))
-      refused refusals.Stuck h = (q, asked, (bytes, input, h))
-      refused (refusals.Axiom name) h = (q, asked, (bytes, input, h))
-      refused (refusals.Program l) h = (q, asked, (bytes, input, h))
-      refused (refusals.Run w) h = (q, asked, (bytes, input, h))
-      refused (refusals.Module w) h = (q, asked, (bytes, input, h))
+      refused _ h = (q, asked, (bytes, input, h))
 
       -- the job's answer on the bytes, or its refusal
       pub answer_says : (r : Result V Refusal) → JobSays q.job q view r bytes → Says view r words left before now

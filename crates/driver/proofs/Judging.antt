@@ -10,7 +10,7 @@ use Rattle.universe_graph.specs.Listed.{MeetsAt, Clashes}
 use Rattle.pc_terms.specs.Syntax.{Term}
 use Rattle.pc_rules.specs.declared.broken.Broken.{Broken}
 use Rattle.pc_rules.specs.declared.broken.Place.{Place}
-use Rattle.pc_rules.specs.declared.broken.Place.TheVariants.{Level as AtLevel, Constraint as AtConstraint, Declaration as AtDeclaration, Main as AtMain}
+use Rattle.pc_rules.specs.declared.broken.Place.TheVariants.{Declaration as AtDeclaration, Main as AtMain}
 use Rattle.pc_rules.specs.declared.declaration.Kept.{Kept}
 use Rattle.pc_rules.specs.declared.meter.Account.{Account}
 use Rattle.pc_rules.specs.Environment.{Env}
@@ -91,11 +91,9 @@ placed_at : {A : Type 0} (p : Place) (r : run.End A) (k : A → Account → Outc
 unfolding BreaksAt
 placed_at p (run.Done a u) k i h = AtRest a u h
 placed_at (AtDeclaration j) (run.Refused b u) k i h = AtPlace (ap AtDeclaration (sym h))
-placed_at (AtLevel j) (run.Refused b u) k i h = absurd h
-placed_at (AtConstraint j) (run.Refused b u) k i h = absurd h
-placed_at AtMain (run.Refused b u) k i h = absurd h
 placed_at p run.NoUnit k i h = absurd h
 placed_at p run.Nested k i h = absurd h
+placed_at _ (run.Refused b u) k i h = absurd h
 
 main_at : (E : Env) (q : Test) (n : ℕ) (main : Term) (u : Account) (i : ℕ) → BreaksAt (main_rule E q n main u).outcome i → ⊥
 unfolding BreaksAt and_then

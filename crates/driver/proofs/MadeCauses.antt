@@ -1,5 +1,5 @@
 -- How `compile` ends after the check is determined, but for want of memory and limits of depth; so the statuses of its refusals are.
-use Rattle.std.proofs.Common.{◌≡◌, ◌≢◌, ℕ, ◌≤◌, arith, List, Result, Ok, Err, ◌⊎◌, inl, inr, refl, sym, subst, ◌∙◌}
+use Rattle.std.proofs.Common.{◌≡◌, ◌≢◌, ℕ, arith, Err, ◌⊎◌, inl, inr, refl, sym, subst}
 use Rattle.wasm_core.specs.Parts.{Parts}
 use Rattle.module_run.specs.Ends.{IsSmall}
 use Rattle.dump_reader.specs.declared.environment.RawEnv.{RawEnv}
@@ -8,8 +8,8 @@ use Rattle.driver.specs.declared.refusal.Refusal.TheVariants as refusals
 use Rattle.driver.specs.declared.refusal.ProgramLimit.TheVariants as limits
 use Rattle.driver.specs.Lines.{status_of}
 use Rattle.driver.specs.Serve.{IsCheckCause, IsSure}
-use Rattle.driver.specs.ExecEnds.{Accepting, Searching, Erasing, Compiling, IsCompilable, PassesSay, ErasureSays, RunSays, Refuses, in_search, in_erasure, in_passes, in_run, IsExecCause, its_module}
-use Rattle.driver.specs.MadeModule.{BytesRefuse, MakesNone, by_search, by_erasure, by_passes, by_bytes, IsMakeCause, IsStopped, MakeEndsWith}
+use Rattle.driver.specs.ExecEnds.{Compiling, IsCompilable, RunSays, Refuses, in_search, in_erasure, in_passes, in_run, IsExecCause, its_module}
+use Rattle.driver.specs.MadeModule.{BytesRefuse, MakesNone, by_search, by_erasure, by_passes, by_bytes, IsMakeCause, MakeEndsWith}
 use Rattle.driver.proofs.CheckCauses.{cause_status, not_zero, accepted_status}
 use Rattle.driver.proofs.SourceCauses.{accepted_by}
 use Rattle.driver.proofs.ExecCauses.{exec_status, no_search, no_erasure, no_passes, one_module}
@@ -17,27 +17,8 @@ use Rattle.driver.proofs.ExecCauses.{exec_status, no_search, no_erasure, no_pass
 -- a module that isn't written, as one that isn't run
 bytes_run : (m : Parts) (pages steps : ℕ) (r : Refusal) → BytesRefuse m r → RunSays m pages steps (Err r)
 bytes_run m pages steps refusals.Memory h = tt
-bytes_run m pages steps refusals.Usage h = absurd h
-bytes_run m pages steps refusals.ReadFault h = absurd h
-bytes_run m pages steps refusals.WriteFault h = absurd h
-bytes_run m pages steps (refusals.Syntax o) h = absurd h
-bytes_run m pages steps (refusals.Unsupported w o) h = absurd h
-bytes_run m pages steps (refusals.Limit l) h = absurd h
-bytes_run m pages steps refusals.InputBytes h = absurd h
-bytes_run m pages steps refusals.Depth h = absurd h
-bytes_run m pages steps refusals.TurnsSpent h = absurd h
-bytes_run m pages steps (refusals.Broken n p) h = absurd h
-bytes_run m pages steps refusals.Types h = absurd h
-bytes_run m pages steps refusals.AnswerNodes h = absurd h
-bytes_run m pages steps refusals.NotFirstOrder h = absurd h
-bytes_run m pages steps refusals.Stuck h = absurd h
-bytes_run m pages steps (refusals.Axiom name) h = absurd h
 bytes_run m pages steps (refusals.Program limits.ModuleBytes) h = h
-bytes_run m pages steps (refusals.Program limits.Captured) h = absurd h
-bytes_run m pages steps (refusals.Program limits.Functions) h = absurd h
-bytes_run m pages steps (refusals.Program limits.Locals) h = absurd h
-bytes_run m pages steps (refusals.Run w) h = absurd h
-bytes_run m pages steps (refusals.Module w) h = absurd h
+bytes_run m pages steps _ h = absurd h
 
 -- so a refusal of `compile` is one of `exec`, in however many steps
 pub as_exec : (turns : ℕ) (e : RawEnv) (pages steps : ℕ) (r : Refusal) → MakesNone turns e pages r → Refuses turns e pages steps r
@@ -53,27 +34,8 @@ make_cause turns pages steps r e (inr c) = inr (c.0, as_exec turns e pages steps
 -- a module within 16 MiB is written
 pub is_written : (m : Parts) (r : Refusal) → BytesRefuse m r → r ≢ refusals.Memory → IsSmall m → ⊥
 is_written m refusals.Memory h n small = n refl
-is_written m refusals.Usage h n small = h
-is_written m refusals.ReadFault h n small = h
-is_written m refusals.WriteFault h n small = h
-is_written m (refusals.Syntax o) h n small = h
-is_written m (refusals.Unsupported w o) h n small = h
-is_written m (refusals.Limit l) h n small = h
-is_written m refusals.InputBytes h n small = h
-is_written m refusals.Depth h n small = h
-is_written m refusals.TurnsSpent h n small = h
-is_written m (refusals.Broken k p) h n small = h
-is_written m refusals.Types h n small = h
-is_written m refusals.AnswerNodes h n small = h
-is_written m refusals.NotFirstOrder h n small = h
-is_written m refusals.Stuck h n small = h
-is_written m (refusals.Axiom name) h n small = h
 is_written m (refusals.Program limits.ModuleBytes) h n small = omega (arith, h, small)
-is_written m (refusals.Program limits.Captured) h n small = h
-is_written m (refusals.Program limits.Functions) h n small = h
-is_written m (refusals.Program limits.Locals) h n small = h
-is_written m (refusals.Run w) h n small = h
-is_written m (refusals.Module w) h n small = h
+is_written m _ h n small = h
 
 -- where main has a module within 16 MiB no stage refuses
 pub no_stop : (turns : ℕ) (e : RawEnv) (pages : ℕ) → IsCompilable turns e pages → (r : Refusal) → MakesNone turns e pages r → r ≢ refusals.Memory → ⊥

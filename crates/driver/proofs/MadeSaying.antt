@@ -1,5 +1,5 @@
 -- What the stages to main's module say, as what the end of `compile` shows; and the writing of the module.
-use Rattle.std.proofs.Common.{◌≡◌, ◌∙◌, ap, sym, inr, ℕ, List, Result, Ok, Err, subst, arith}
+use Rattle.std.proofs.Common.{◌≡◌, inr, ℕ, List, Result, Ok, Err, subst, arith}
 use Rattle.pc_terms.specs.Syntax.{Term}
 use Rattle.pc_rules.specs.declared.meter.Account.{Account}
 use Rattle.pc_rules.specs.Environment.{Env}
@@ -26,14 +26,10 @@ use Rattle.driver.specs.Texts.{SpellsWithin}
 use Rattle.driver.specs.SourceEnds.{IsAcceptedWith}
 use Rattle.driver.specs.ExecEnds.{ErasureSays, Accepting, Searching, Erasing, its_module}
 use Rattle.driver.specs.MadeModule.{BytesSay, BytesRefuse, MakesNone, by_search, by_erasure, by_passes, by_bytes}
-use Rattle.driver.specs.MainModule.{IsMainModule, MakesSay}
+use Rattle.driver.specs.MainModule.{IsMainModule}
 use Rattle.driver.specs.Serve.{JobSays, RefusalSays}
 use Rattle.driver.proofs.MadeCauses.{as_exec}
 use Rattle.driver.proofs.Sizes.{shows_large}
-
--- the exit of a `?`
-pub exit_at : {V : Type 0} (Q : Result V Refusal → Type 0) (r : Result V Refusal) (x : Refusal) → (y : Refusal) × (r ≡ Err y) × (y ≡ x) → Q (Err x) → Q r
-exit_at Q r x (y, is, same) h = subst Q (sym (is ∙ ap Err same)) h
 
 -- ---- what is known after each stage
 
@@ -60,24 +56,14 @@ module _ (q : Request) (e : RawEnv) (E : Env) (main T : Term) (u : Account) (acc
 -- a refusal of some stage, or want of memory, is a cause
 pub make_says : (q : Request) (r : Refusal) (bytes : List ℕ) (e : RawEnv) → SpellsWithin bytes e → MakesNone q.turns e q.pages r → RefusalSays Compile q r bytes
 make_says q refusals.Memory bytes e s h = tt
-make_says q refusals.Usage bytes e s h = absurd (elim h [ by_search x w k ↦ k | by_erasure x w k ↦ k | by_passes x k ↦ k | by_bytes x v k ↦ k ])
-make_says q refusals.ReadFault bytes e s h = absurd (elim h [ by_search x w k ↦ k | by_erasure x w k ↦ k | by_passes x k ↦ k | by_bytes x v k ↦ k ])
-make_says q refusals.WriteFault bytes e s h = absurd (elim h [ by_search x w k ↦ k | by_erasure x w k ↦ k | by_passes x k ↦ k | by_bytes x v k ↦ k ])
-make_says q (refusals.Syntax o) bytes e s h = absurd (elim h [ by_search x w k ↦ k | by_erasure x w k ↦ k | by_passes x k ↦ k | by_bytes x v k ↦ k ])
-make_says q (refusals.Unsupported w o) bytes e s h = absurd (elim h [ by_search x z k ↦ k | by_erasure x z k ↦ k | by_passes x k ↦ k | by_bytes x v k ↦ k ])
-make_says q (refusals.Limit l) bytes e s h = absurd (elim h [ by_search x w k ↦ k | by_erasure x w k ↦ k | by_passes x k ↦ k | by_bytes x v k ↦ k ])
-make_says q refusals.InputBytes bytes e s h = absurd (elim h [ by_search x w k ↦ k | by_erasure x w k ↦ k | by_passes x k ↦ k | by_bytes x v k ↦ k ])
 make_says q refusals.Depth bytes e s h = (e, s, inr (((λ x. cc), h), λ x. tt))
 make_says q refusals.TurnsSpent bytes e s h = (e, s, inr (((λ x. cc), h), λ x. tt))
 make_says q (refusals.Broken n p) bytes e s h = (e, s, inr (((λ x. cc), h), λ x. tt))
 make_says q refusals.Types bytes e s h = (e, s, inr (((λ x. cc), h), λ x. tt))
-make_says q refusals.AnswerNodes bytes e s h = absurd (elim h [ by_search x w k ↦ k | by_erasure x w k ↦ k | by_passes x k ↦ k | by_bytes x v k ↦ k ])
 make_says q refusals.NotFirstOrder bytes e s h = (e, s, inr (((λ x. cc), h), λ x. tt))
-make_says q refusals.Stuck bytes e s h = absurd (elim h [ by_search x w k ↦ k | by_erasure x w k ↦ k | by_passes x k ↦ k | by_bytes x v k ↦ k ])
 make_says q (refusals.Axiom name) bytes e s h = (e, s, inr (((λ x. cc), h), λ x. tt))
 make_says q (refusals.Program l) bytes e s h = (e, s, inr (((λ x. cc), h), shows_large q.turns e q.pages q.steps l (as_exec q.turns e q.pages q.steps (refusals.Program l) h)))
-make_says q (refusals.Run w) bytes e s h = absurd (elim h [ by_search x z k ↦ k | by_erasure x z k ↦ k | by_passes x k ↦ k | by_bytes x v k ↦ k ])
-make_says q (refusals.Module w) bytes e s h = absurd (elim h [ by_search x z k ↦ k | by_erasure x z k ↦ k | by_passes x k ↦ k | by_bytes x v k ↦ k ])
+make_says q _ bytes e s h = absurd (elim h [ by_search x w k ↦ k | by_erasure x w k ↦ k | by_passes x k ↦ k | by_bytes x v k ↦ k ])
 
 -- ---- the writing of the module
 

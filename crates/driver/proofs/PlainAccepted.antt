@@ -12,7 +12,7 @@ use Rattle.pc_rules.specs.declared.declaration.Constructor.{Constructor}
 use Rattle.pc_rules.specs.declared.declaration.Family.{Family}
 use Rattle.pc_rules.specs.declared.declaration.Block.{Block}
 use Rattle.pc_rules.specs.declared.declaration.Kept.{Kept}
-use Rattle.pc_rules.specs.declared.declaration.Kept.TheVariants.{Constant, Heads, Block as Whole}
+use Rattle.pc_rules.specs.declared.declaration.Kept.TheVariants.{Block as Whole}
 use Rattle.pc_rules.specs.declared.broken.Broken.TheVariants.{DuplicateName}
 use Rattle.pc_rules.specs.declared.broken.Place.TheVariants.{Declaration as AtDeclaration, Main as AtMain}
 use Rattle.pc_rules.specs.declared.meter.Account.{Account}
@@ -207,10 +207,8 @@ main_there E q m f c G T u v h =
 -- ---- the whole
 
 whole_is : (o : Option Kept) (B : Block) → whole_block o ≡ Some B → o ≡ Some (Whole B)
-whole_is None B h = absurd (none_some h)
 whole_is (Some (Whole C)) B h = ap (λ x. Some (Whole x)) (one_item h)
-whole_is (Some (Heads C)) B h = absurd (none_some h)
-whole_is (Some (Constant k T b)) B h = absurd (none_some h)
+whole_is _ B h = absurd (none_some h)
 
 whole_block_is : (B C : Block) → Whole B ≡ Whole C → B ≡ C
 whole_block_is B C e = cc

@@ -17,18 +17,8 @@ use Rattle.command_line.specs.declared.line.Request.{Request}
 use Rattle.driver.specs.Serve.{IsSure, JobSays, RefusalSays}
 
 not_sure : (why : FileRefusal) (r : Refusal) → r ≡ refusal_of_file why → why ≢ files.Memory → IsSure r → ⊥
-not_sure (files.Bad o) r e n sure = subst IsSure e sure
-not_sure (files.Invalid f p) r e n sure = subst IsSure e sure
-not_sure (files.NoEntry x) r e n sure = subst IsSure e sure
-not_sure files.Pages r e n sure = subst IsSure e sure
-not_sure files.Table r e n sure = subst IsSure e sure
-not_sure files.ElementPastTable r e n sure = subst IsSure e sure
-not_sure files.Exhausted r e n sure = subst IsSure e sure
-not_sure files.StepsSpent r e n sure = subst IsSure e sure
-not_sure (files.Trapped k) r e n sure = subst IsSure e sure
-not_sure (files.NoValue w) r e n sure = subst IsSure e sure
-not_sure files.AnswerNodes r e n sure = subst IsSure e sure
 not_sure files.Memory r e n sure = n refl
+not_sure _ r e n sure = subst IsSure e sure
 
 -- a cause of `run` is that of the file's end
 of_run : (pages steps : ℕ) (r : Refusal) (bytes : List ℕ) → IsRunCause pages steps r bytes → IsFileCause pages steps r bytes
@@ -37,20 +27,7 @@ of_run pages steps refusals.Usage bytes h = absurd h
 of_run pages steps refusals.ReadFault bytes h = absurd h
 of_run pages steps refusals.WriteFault bytes h = absurd h
 of_run pages steps refusals.InputBytes bytes h = absurd h
-of_run pages steps (refusals.Syntax o) bytes h = h
-of_run pages steps (refusals.Unsupported w o) bytes h = h
-of_run pages steps (refusals.Limit l) bytes h = h
-of_run pages steps refusals.Depth bytes h = h
-of_run pages steps refusals.TurnsSpent bytes h = h
-of_run pages steps (refusals.Broken n p) bytes h = h
-of_run pages steps refusals.Types bytes h = h
-of_run pages steps refusals.AnswerNodes bytes h = h
-of_run pages steps refusals.NotFirstOrder bytes h = h
-of_run pages steps refusals.Stuck bytes h = h
-of_run pages steps (refusals.Axiom name) bytes h = h
-of_run pages steps (refusals.Program l) bytes h = h
-of_run pages steps (refusals.Run w) bytes h = h
-of_run pages steps (refusals.Module w) bytes h = h
+of_run pages steps _ bytes h = h
 
 pub run_not_sure : (pages steps : ℕ) (r : Refusal) (bytes : List ℕ) → IsRunCause pages steps r bytes → IsSure r → ⊥
 run_not_sure pages steps r bytes h sure = (let c = of_run pages steps r bytes h in not_sure c.why r c.is c.other sure)
@@ -78,18 +55,8 @@ run_judged_answer pages steps bytes text status short h a =
 
 -- the refusal of a file's end is a cause, or want of memory
 pub run_says : (q : Request) (why : FileRefusal) (bytes : List ℕ) → FileEnds bytes q.pages q.steps (Err why) → RefusalSays Run q (refusal_of_file why) bytes
-run_says q (files.Bad o) bytes h = record { why = (files.Bad o); ends = h; other = λ e. cc; is = refl }
-run_says q (files.Invalid f p) bytes h = record { why = (files.Invalid f p); ends = h; other = λ e. cc; is = refl }
-run_says q (files.NoEntry n) bytes h = record { why = (files.NoEntry n); ends = h; other = λ e. cc; is = refl }
-run_says q files.Pages bytes h = record { why = files.Pages; ends = h; other = λ e. cc; is = refl }
-run_says q files.Table bytes h = record { why = files.Table; ends = h; other = λ e. cc; is = refl }
-run_says q files.ElementPastTable bytes h = record { why = files.ElementPastTable; ends = h; other = λ e. cc; is = refl }
-run_says q files.Exhausted bytes h = record { why = files.Exhausted; ends = h; other = λ e. cc; is = refl }
-run_says q files.StepsSpent bytes h = record { why = files.StepsSpent; ends = h; other = λ e. cc; is = refl }
-run_says q (files.Trapped k) bytes h = record { why = (files.Trapped k); ends = h; other = λ e. cc; is = refl }
-run_says q (files.NoValue w) bytes h = record { why = (files.NoValue w); ends = h; other = λ e. cc; is = refl }
-run_says q files.AnswerNodes bytes h = record { why = files.AnswerNodes; ends = h; other = λ e. cc; is = refl }
 run_says q files.Memory bytes h = tt
+run_says q why bytes h = record { why = why; ends = h; other = λ e. cc; is = refl }
 
 -- a text that is made of the answer, or want of memory
 pub tags_says : {V : Type 0} (view : V → List ℕ) (q : Request) (r : Result V Refusal) (bytes : List ℕ) (tree : Data) → FileEnds bytes q.pages q.steps (Ok tree) →

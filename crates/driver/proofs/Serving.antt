@@ -11,7 +11,7 @@ use Rattle.driver.specs.declared.refusal.RunEnd.TheVariants as runs
 use Rattle.driver.specs.declared.refusal.ModuleFault.TheVariants as modules
 use Rattle.command_line.specs.declared.line.Request.{Request}
 use Rattle.command_line.specs.declared.job.Job.{Job}
-use Rattle.command_line.specs.declared.job.Job.TheVariants.{Bench, Check, Compile, Eval, Exec, Run}
+use Rattle.command_line.specs.declared.job.Job.TheVariants.{Bench, Compile, Exec}
 use Rattle.command_line.specs.Line.{IsInRange, request_of}
 use Rattle.command_line.proofs.Ranges.{requests_lie_in_range}
 use Rattle.driver.specs.Lines.{status_of}
@@ -26,9 +26,9 @@ use Rattle.driver.specs.Served.{Seen, IsKept, Served}
 use Rattle.driver.specs.Executed.{AnswersData, HasErasedData}
 use Rattle.driver.specs.MadeModule.{TakesModule}
 use Rattle.driver.specs.Serve.{Answered, Concludes, HasJobFacts, HasWell, input_limit, IsAnswerableBy, IsAnswerOf, IsAsked, IsAskedOn, IsCause, IsCheckCause, IsForJob, IsForReader, IsInput, IsInputOf, IsJudgedWith, IsLate, IsOfText, IsRefused, IsSure, IsTextCause, IsTooLong, MakesModule, MeetsNoFault, ReadsWell, ReadsNothing, Says, Tells}
-use Rattle.driver.specs.Headline.{HasLawfulValue, AnswersValue, EvaluatesErased, IsBoundedBy, HasMatches, TakesMatches}
-use Rattle.driver.proofs.CheckCauses.{module_late, not_zero}
-use Rattle.driver.proofs.Headlines.{value_valid, value_runs, value_text, no_fault, value_memory, value_steps, data_runs, data_memory, data_steps, late_runs, answered_late, answering_late}
+use Rattle.driver.specs.Headline.{HasValue, AnswersValue, EvaluatesErased, IsBoundedBy, HasMatches, TakesMatches}
+use Rattle.driver.proofs.CheckCauses.{not_zero}
+use Rattle.driver.proofs.Headlines.{value_data, value_exact, value_valid, value_runs, value_text, no_fault, value_memory, value_steps, data_runs, data_memory, data_steps, late_runs, answered_late, answering_late}
 use Rattle.driver.specs.ExecEnds.{ExecEnds, HasModule, IsExecCause, Finishes, Answering, its_shapes}
 use Rattle.driver.proofs.ExecCauses.{finishes, memory_early, length_early, fault_early}
 use Rattle.pc_terms.specs.declared.leaf.FamilyId.{FamilyId}
@@ -43,11 +43,8 @@ use Rattle.driver.proofs.ExecValues.{text_is, runs as every_run, no_other}
 use Rattle.driver.proofs.TextCauses.{answerable_cause, cause_on, dump_not_sure, is_spelled, module_cause, well_on, well_answered, benched_on, executed_on, made_on, one_cause, judged_cause, no_cause_of_answers, judged_answer}
 
 four_of : (n : ℕ) → 4 ≤ n → (rest : ℕ) × (n ≡ suc (suc (suc (suc rest))))
-four_of zero le = absurd (omega (arith, le))
-four_of (suc zero) le = absurd (omega (arith, le))
-four_of (suc (suc zero)) le = absurd (omega (arith, le))
-four_of (suc (suc (suc zero))) le = absurd (omega (arith, le))
 four_of (suc (suc (suc (suc n)))) le = (n, refl)
+four_of _ le = absurd (omega (arith, le))
 
 zero_or : (n : ℕ) → (n ≡ 0) ⊎ (n ≢ 0)
 zero_or zero = inl refl
@@ -67,21 +64,13 @@ input-is (Some l) bytes told h e = let q : l ≡ told = cc in (h.0 ∙ q, h.1)
 
 -- the bytes of a job are those that are told; an input is within the limit
 input-of : (job : Job) (q : Request) (left : Option (List ℕ)) (bytes told : List ℕ) → IsInputOf job q left bytes → Tells job q left told → (bytes ≡ told) × (job ≢ Bench → length bytes ≤ input_limit)
-input-of Exec q left bytes told h e = let x = input-is left bytes told h e in (x.0, λ n. x.1)
-input-of Check q left bytes told h e = let x = input-is left bytes told h e in (x.0, λ n. x.1)
-input-of Eval q left bytes told h e = let x = input-is left bytes told h e in (x.0, λ n. x.1)
-input-of Run q left bytes told h e = let x = input-is left bytes told h e in (x.0, λ n. x.1)
-input-of Compile q left bytes told h e = let x = input-is left bytes told h e in (x.0, λ n. x.1)
 input-of Bench q left bytes told h e = (h ∙ sym e, λ n. absurd (n refl))
+input-of _ q left bytes told h e = let x = input-is left bytes told h e in (x.0, λ n. x.1)
 
 -- a job that reads an input reads the source's
 of-source : (job : Job) (q : Request) (left : Option (List ℕ)) (told : List ℕ) → job ≢ Bench → Tells job q left told → left ≡ Some told
-of-source Exec q left told n e = e
-of-source Check q left told n e = e
-of-source Eval q left told n e = e
-of-source Run q left told n e = e
-of-source Compile q left told n e = e
 of-source Bench q left told n e = absurd (n refl)
+of-source _ q left told n e = e
 
 long-is : (left : Option (List ℕ)) (told : List ℕ) → IsTooLong left → left ≡ Some told → input_limit < length told
 long-is None told h e = absurd cc
@@ -90,52 +79,16 @@ long-is (Some l) told h e = let q : l ≡ told = cc in subst (λ x. input_limit 
 -- ---- statuses of refusals
 
 of_usage : (r : Refusal) → status_of r ≡ 2 → r ≡ refusals.Usage
-of_usage refusals.Memory e = absurd (omega (arith, e))
 of_usage refusals.Usage e = refl
-of_usage refusals.ReadFault e = absurd (omega (arith, e))
-of_usage refusals.WriteFault e = absurd (omega (arith, e))
-of_usage (refusals.Syntax o) e = absurd (omega (arith, e))
-of_usage (refusals.Unsupported w o) e = absurd (omega (arith, e))
-of_usage (refusals.Limit l) e = absurd (omega (arith, e))
-of_usage refusals.InputBytes e = absurd (omega (arith, e))
-of_usage refusals.Depth e = absurd (omega (arith, e))
-of_usage refusals.TurnsSpent e = absurd (omega (arith, e))
-of_usage (refusals.Broken n p) e = absurd (omega (arith, e))
-of_usage refusals.Types e = absurd (omega (arith, e))
-of_usage refusals.AnswerNodes e = absurd (omega (arith, e))
-of_usage refusals.NotFirstOrder e = absurd (omega (arith, e))
-of_usage refusals.Stuck e = absurd (omega (arith, e))
-of_usage (refusals.Axiom name) e = absurd (omega (arith, e))
-of_usage (refusals.Program l) e = absurd (omega (arith, e))
 of_usage (refusals.Run runs.Exhausted) e = absurd (omega (arith, e))
-of_usage (refusals.Run runs.StepsSpent) e = absurd (omega (arith, e))
-of_usage (refusals.Run (runs.Trapped k)) e = absurd (omega (arith, e))
-of_usage (refusals.Run (runs.NoValue w)) e = absurd (omega (arith, e))
-of_usage (refusals.Module w) e = (let late = module_late w in absurd (omega (arith, e, late)))
+of_usage (refusals.Module modules.Pages) e = absurd (omega (arith, e))
+of_usage _ e = absurd (omega (arith, e))
 
 of_write_fault : (r : Refusal) → status_of r ≡ 4 → r ≡ refusals.WriteFault
-of_write_fault refusals.Memory e = absurd (omega (arith, e))
-of_write_fault refusals.Usage e = absurd (omega (arith, e))
-of_write_fault refusals.ReadFault e = absurd (omega (arith, e))
 of_write_fault refusals.WriteFault e = refl
-of_write_fault (refusals.Syntax o) e = absurd (omega (arith, e))
-of_write_fault (refusals.Unsupported w o) e = absurd (omega (arith, e))
-of_write_fault (refusals.Limit l) e = absurd (omega (arith, e))
-of_write_fault refusals.InputBytes e = absurd (omega (arith, e))
-of_write_fault refusals.Depth e = absurd (omega (arith, e))
-of_write_fault refusals.TurnsSpent e = absurd (omega (arith, e))
-of_write_fault (refusals.Broken n p) e = absurd (omega (arith, e))
-of_write_fault refusals.Types e = absurd (omega (arith, e))
-of_write_fault refusals.AnswerNodes e = absurd (omega (arith, e))
-of_write_fault refusals.NotFirstOrder e = absurd (omega (arith, e))
-of_write_fault refusals.Stuck e = absurd (omega (arith, e))
-of_write_fault (refusals.Axiom name) e = absurd (omega (arith, e))
-of_write_fault (refusals.Program l) e = absurd (omega (arith, e))
 of_write_fault (refusals.Run runs.Exhausted) e = absurd (omega (arith, e))
-of_write_fault (refusals.Run runs.StepsSpent) e = absurd (omega (arith, e))
-of_write_fault (refusals.Run (runs.Trapped k)) e = absurd (omega (arith, e))
-of_write_fault (refusals.Run (runs.NoValue w)) e = absurd (omega (arith, e))
-of_write_fault (refusals.Module w) e = (let late = module_late w in absurd (omega (arith, e, late)))
+of_write_fault (refusals.Module modules.Pages) e = absurd (omega (arith, e))
+of_write_fault _ e = absurd (omega (arith, e))
 
 abbrev all_statuses : List ℕ
 all_statuses = 0 ∷ 1 ∷ 2 ∷ 3 ∷ 4 ∷ 5 ∷ 6 ∷ 7 ∷ 8 ∷ 9 ∷ 10 ∷ 11 ∷ 12 ∷ 13 ∷ 14 ∷ 15 ∷ []
@@ -151,25 +104,8 @@ module _ {V S K E : Type 0} (view : V → List ℕ) (lines : List ℕ) (status :
 
   -- What a refusal before anything is written says.
   says_cause : (r : Refusal) → Before (Err r) → IsCause r words src.told src.faults src'.faults out.faults out'.faults
-  says_cause refusals.Memory s = s
-  says_cause refusals.Usage s = s
-  says_cause refusals.ReadFault s = s
   says_cause refusals.WriteFault s = absurd s
-  says_cause (refusals.Syntax o) s = s
-  says_cause (refusals.Unsupported w o) s = s
-  says_cause (refusals.Limit l) s = s
-  says_cause refusals.InputBytes s = s
-  says_cause refusals.Depth s = s
-  says_cause refusals.TurnsSpent s = s
-  says_cause (refusals.Broken n p) s = s
-  says_cause refusals.Types s = s
-  says_cause refusals.AnswerNodes s = s
-  says_cause refusals.NotFirstOrder s = s
-  says_cause refusals.Stuck s = s
-  says_cause (refusals.Axiom name) s = s
-  says_cause (refusals.Program l) s = s
-  says_cause (refusals.Run w) s = s
-  says_cause (refusals.Module w) s = s
+  says_cause _ s = s
 
   -- All refusals but usage come of a job.
   of_job : (r : Refusal) → IsOfText r words src.told → IsForJob words
@@ -183,21 +119,8 @@ module _ {V S K E : Type 0} (view : V → List ℕ) (lines : List ℕ) (status :
   says_job refusals.Usage s = inl refl
   says_job refusals.ReadFault s = inr (inr (for_job s.0))
   says_job refusals.WriteFault s = absurd s
-  says_job (refusals.Syntax o) s = inr (inr ((of_job (refusals.Syntax o) s)))
-  says_job (refusals.Unsupported w o) s = inr (inr ((of_job (refusals.Unsupported w o) s)))
-  says_job (refusals.Limit l) s = inr (inr ((of_job (refusals.Limit l) s)))
   says_job refusals.InputBytes s = inr (inr (for_job s.0))
-  says_job refusals.Depth s = inr (inr ((of_job refusals.Depth s)))
-  says_job refusals.TurnsSpent s = inr (inr ((of_job refusals.TurnsSpent s)))
-  says_job (refusals.Broken n p) s = inr (inr ((of_job (refusals.Broken n p) s)))
-  says_job refusals.Types s = inr (inr ((of_job refusals.Types s)))
-  says_job refusals.AnswerNodes s = inr (inr ((of_job refusals.AnswerNodes s)))
-  says_job refusals.NotFirstOrder s = inr (inr ((of_job refusals.NotFirstOrder s)))
-  says_job refusals.Stuck s = inr (inr ((of_job refusals.Stuck s)))
-  says_job (refusals.Axiom name) s = inr (inr ((of_job (refusals.Axiom name) s)))
-  says_job (refusals.Program l) s = inr (inr ((of_job (refusals.Program l) s)))
-  says_job (refusals.Run w) s = inr (inr ((of_job (refusals.Run w) s)))
-  says_job (refusals.Module w) s = inr (inr ((of_job (refusals.Module w) s)))
+  says_job r s = inr (inr (of_job r s))
 
   says_no_write_fault : (r : Refusal) → Before (Err r) → r ≡ refusals.WriteFault → ⊥
   says_no_write_fault r s e = subst (λ x. Says {V = V} view (Err x) words src.told src.faults src'.faults) e s
@@ -254,33 +177,9 @@ module _ {V S K E : Type 0} (view : V → List ℕ) (lines : List ℕ) (status :
   )
 
   listed : (r : Refusal) → status ≡ status_of r → Contains all_statuses status
-  listed refusals.Memory e = (1, lit< tt, sym e)
-  listed refusals.Usage e = (2, lit< tt, sym e)
-  listed refusals.ReadFault e = (3, lit< tt, sym e)
-  listed refusals.WriteFault e = (4, lit< tt, sym e)
-  listed (refusals.Syntax o) e = (5, lit< tt, sym e)
-  listed (refusals.Unsupported w o) e = (6, lit< tt, sym e)
-  listed (refusals.Limit l) e = (7, lit< tt, sym e)
-  listed refusals.InputBytes e = (7, lit< tt, sym e)
-  listed refusals.Depth e = (7, lit< tt, sym e)
-  listed refusals.TurnsSpent e = (8, lit< tt, sym e)
-  listed (refusals.Broken n p) e = (9, lit< tt, sym e)
-  listed refusals.Types e = (7, lit< tt, sym e)
-  listed refusals.AnswerNodes e = (7, lit< tt, sym e)
-  listed refusals.NotFirstOrder e = (10, lit< tt, sym e)
-  listed refusals.Stuck e = (15, lit< tt, sym e)
-  listed (refusals.Axiom name) e = (10, lit< tt, sym e)
-  listed (refusals.Program l) e = (7, lit< tt, sym e)
   listed (refusals.Run runs.Exhausted) e = (11, lit< tt, sym e)
-  listed (refusals.Run runs.StepsSpent) e = (12, lit< tt, sym e)
-  listed (refusals.Run (runs.Trapped k)) e = (15, lit< tt, sym e)
-  listed (refusals.Run (runs.NoValue w)) e = (15, lit< tt, sym e)
-  listed (refusals.Module (modules.Bad o)) e = (13, lit< tt, sym e)
-  listed (refusals.Module (modules.Invalid f p)) e = (14, lit< tt, sym e)
-  listed (refusals.Module (modules.NoEntry n)) e = (15, lit< tt, sym e)
   listed (refusals.Module modules.Pages) e = (7, lit< tt, sym e)
-  listed (refusals.Module modules.Table) e = (7, lit< tt, sym e)
-  listed (refusals.Module modules.ElementPastTable) e = (15, lit< tt, sym e)
+  listed r e = (status_of r, lit< tt, sym e)
 
   statuses : (a : Result V Refusal) → Before a → After a → Contains all_statuses status
   statuses (Ok v) s c = elim (answered v c) [ inl z ↦ (0, lit< tt, sym z) | inr z ↦ (4, lit< tt, sym z) ]
@@ -315,21 +214,8 @@ module _ {V S K E : Type 0} (view : V → List ℕ) (lines : List ℕ) (status :
     told refusals.Usage s = absurd (clash words (q, asked.words_are) s)
     told refusals.ReadFault s = OfFault refl (reads s.0) s.1
     told refusals.WriteFault s = absurd s
-    told (refusals.Syntax o) s = of_text (refusals.Syntax o) s
-    told (refusals.Unsupported w o) s = of_text (refusals.Unsupported w o) s
-    told (refusals.Limit l) s = of_text (refusals.Limit l) s
     told refusals.InputBytes s = OfLength refl (long-is src.told bytes s.1 (of-source q.job q src.told bytes (reads s.0) asked.bytes_are))
-    told refusals.Depth s = of_text refusals.Depth s
-    told refusals.TurnsSpent s = of_text refusals.TurnsSpent s
-    told (refusals.Broken n p) s = of_text (refusals.Broken n p) s
-    told refusals.Types s = of_text refusals.Types s
-    told refusals.AnswerNodes s = of_text refusals.AnswerNodes s
-    told refusals.NotFirstOrder s = of_text refusals.NotFirstOrder s
-    told refusals.Stuck s = of_text refusals.Stuck s
-    told (refusals.Axiom name) s = of_text (refusals.Axiom name) s
-    told (refusals.Program l) s = of_text (refusals.Program l) s
-    told (refusals.Run w) s = of_text (refusals.Run w) s
-    told (refusals.Module w) s = of_text (refusals.Module w) s
+    told r s = of_text r s
 
     -- the answer is that of the bytes told
     answer_of : (v : V) → Before (Ok v) → (q.job ≢ Bench → length bytes ≤ input_limit) × IsAnswerOf q.job q bytes (view v)
@@ -530,9 +416,11 @@ module _ {V S K E : Type 0} (view : V → List ℕ) (lines : List ℕ) (status :
           | NoRead m reader rose ↦ absurd (calm.0 reader rose)
         ]
 
-    -- where main's evaluation lawfully gives a value
-    lawful : (a : Result V Refusal) → Before a → After a → (n : ℕ) → MakesModule q.job → (h : HasLawfulValue q.turns e n) → AnswersValue q e n status h out.told out'.told
-    lawful (Ok v) s c n makes h = record {
+    -- where main, of a first-order type, evaluates to a value
+    valued : (a : Result V Refusal) → Before a → After a → (n : ℕ) → MakesModule q.job → (h : HasValue q.turns e n) → AnswersValue q e n status h out.told out'.told
+    valued (Ok v) s c n makes h = record {
+      tree = value_data q in_range d.bytes e d.spelled n h;
+      exactly = value_exact q in_range d.bytes e d.spelled n h;
       valid = value_valid q in_range d.bytes e d.spelled n h;
       runs = value_runs q in_range d.bytes e d.spelled n h;
       text = λ exec z. (view v, value_text q in_range d.bytes e d.spelled n h (view v) (executed v s exec), (c.whole z).0);
@@ -541,7 +429,9 @@ module _ {V S K E : Type 0} (view : V → List ℕ) (lines : List ℕ) (status :
       answers = not_answered v c 15 (lit< tt);
       bounded = record { not_exhausted = λ big. not_answered v c 11 (lit< tt); not_spent = λ few. not_answered v c 12 (lit< tt) };
     }
-    lawful (Err r) s c n makes h = record {
+    valued (Err r) s c n makes h = record {
+      tree = value_data q in_range d.bytes e d.spelled n h;
+      exactly = value_exact q in_range d.bytes e d.spelled n h;
       valid = value_valid q in_range d.bytes e d.spelled n h;
       runs = value_runs q in_range d.bytes e d.spelled n h;
       text = λ exec z. absurd (not_zero r (sym c.0 ∙ z));
@@ -601,14 +491,14 @@ module _ {V S K E : Type 0} (view : V → List ℕ) (lines : List ℕ) (status :
     prefix = prefix a s c;
     judged = λ q bytes wanted (asked, short) well h calm. judged q bytes asked a s c wanted short well h calm;
     complete = λ q e d h calm. complete q e d a s c h calm;
-    values = λ q e ds n k d makes h. values q e d a s c ds n k makes h;
-    plain = λ q e h d makes four enough. plain q e d a s c h makes four enough;
+    values = λ q e ds n k (d, makes) h. values q e d a s c ds n k makes h;
+    plain = λ q e h (d, makes) four enough. plain q e d a s c h makes four enough;
     named = λ q e f n d exec four enough p z. named q e d a s c f n exec four enough p z;
     finishes = λ q e d runs h calm. finishing q e d a s c runs h calm;
     well = well a s c;
-    headline = λ q e n d makes h. lawful q e d a s c n makes h;
-    bounded = λ q e n d makes h. bounded q e d a s c n makes h;
-    matched = λ q e matches d makes h. matched q e d a s c matches h;
+    headline = λ q e n (d, makes) h. valued q e d a s c n makes h;
+    bounded = λ q e n (d, makes) h. bounded q e d a s c n makes h;
+    matched = λ q e matches (d, makes) h. matched q e d a s c matches h;
     refuses_text = λ q bytes r (asked, short) well cause sure. refuses_text q bytes asked a s c r short well cause sure;
     refuses_length = λ q bytes asked n well long. refuses_length q bytes asked a s c n well long;
     nothing_out = nothing_out a s c;

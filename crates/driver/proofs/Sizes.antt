@@ -1,5 +1,5 @@
 -- Small programs have modules; and programs that are refused for themselves or for their modules are large.
-use Rattle.std.proofs.Common.{ℕ, Err, inl, inr, subst}
+use Rattle.std.proofs.Common.{ℕ, inl, inr, subst}
 use Rattle.source_limits.proofs.Sizes.{refusals_show_sizes, large_modules_show_sizes}
 use Rattle.source_limits.proofs.Sources.{small_sources_fit}
 use Rattle.compile.specs.declared.fault.CompileFault.TheVariants as compiling
@@ -29,11 +29,9 @@ module _ (turns : ℕ) (e : RawEnv) (pages steps : ℕ) where
   its_size limits.Functions (in_passes x h) = (x, refusals_show_sizes x.program compiling.Functions x.form h)
   its_size limits.Locals (in_passes x h) = (x, refusals_show_sizes x.program compiling.Locals x.form h)
   its_size limits.ModuleBytes (in_passes x h) = absurd h
-  its_size limits.Captured (in_run x valid h) = absurd h
-  its_size limits.Functions (in_run x valid h) = absurd h
-  its_size limits.Locals (in_run x valid h) = absurd h
   its_size limits.ModuleBytes (in_run x valid h) = (x.before, large_modules_show_sizes x.before.program pages x.before.form x.fits h)
   its_size l (in_text x valid h) = absurd h
+  its_size _ (in_run x valid h) = absurd h
 
   -- and there is one program
   pub shows_large : (l : ProgramLimit) → Refuses turns e pages steps (refusals.Program l) → IsLargeFor turns (refusals.Program l) e

@@ -67,19 +67,7 @@ end_status refusals.NotFirstOrder run w h d = ap source_status h.1
 end_status refusals.Types run w h d = ap source_status h
 end_status refusals.Stuck run w h d = stuck_status run.end w h
 end_status refusals.AnswerNodes run w h d = ap source_status h
-end_status refusals.Memory run w h d = absurd h
-end_status refusals.Usage run w h d = absurd h
-end_status refusals.ReadFault run w h d = absurd h
-end_status refusals.WriteFault run w h d = absurd h
-end_status (refusals.Syntax o) run w h d = absurd h
-end_status (refusals.Unsupported x o) run w h d = absurd h
-end_status (refusals.Limit l) run w h d = absurd h
-end_status refusals.InputBytes run w h d = absurd h
-end_status (refusals.Broken n p) run w h d = absurd h
-end_status (refusals.Axiom name) run w h d = absurd h
-end_status (refusals.Program l) run w h d = absurd h
-end_status (refusals.Run x) run w h d = absurd h
-end_status (refusals.Module x) run w h d = absurd h
+end_status _ run w h d = absurd h
 
 source_cause_status : (turns : ℕ) → (r : Refusal) (e : RawEnv) (status : ℕ) → IsSourceCause turns r e → SourceEndsWith turns e status → status ≡ status_of r
 source_cause_status turns r e status c h =

@@ -50,20 +50,7 @@ module _ (E : Env) (t T : Term) (u : Account) where
   of_shapes refusals.TurnsSpent w e = inr (no_unit_first search (with_set E t) e)
   of_shapes refusals.Depth w h = inr (deep_first search (with_set E t) h)
   of_shapes refusals.Memory w h = inl refl
-  of_shapes refusals.Usage w h = absurd h
-  of_shapes refusals.ReadFault w h = absurd h
-  of_shapes refusals.WriteFault w h = absurd h
-  of_shapes (refusals.Syntax o) w h = absurd h
-  of_shapes (refusals.Unsupported x o) w h = absurd h
-  of_shapes (refusals.Limit l) w h = absurd h
-  of_shapes refusals.InputBytes w h = absurd h
-  of_shapes (refusals.Broken n p) w h = absurd h
-  of_shapes refusals.AnswerNodes w h = absurd h
-  of_shapes refusals.Stuck w h = absurd h
-  of_shapes (refusals.Axiom name) w h = absurd h
-  of_shapes (refusals.Program l) w h = absurd h
-  of_shapes (refusals.Run x) w h = absurd h
-  of_shapes (refusals.Module x) w h = absurd h
+  of_shapes _ w h = absurd h
 
   module _ (S : List Member) (v : Account) (found : search.end ≡ Done (Found S) v) where
     abbrev value : Run Evaluated
@@ -77,21 +64,7 @@ module _ (E : Env) (t T : Term) (u : Account) where
     of_value refusals.TurnsSpent w e = inr (rest ∙ no_unit_first value (read_value S) e)
     of_value refusals.Depth w h = inr (bind_deep search (with_set E t) (Found S) v found (deep_first value (read_value S) h))
     of_value refusals.Memory w h = inl refl
-    of_value refusals.Usage w h = absurd h
-    of_value refusals.ReadFault w h = absurd h
-    of_value refusals.WriteFault w h = absurd h
-    of_value (refusals.Syntax o) w h = absurd h
-    of_value (refusals.Unsupported x o) w h = absurd h
-    of_value (refusals.Limit l) w h = absurd h
-    of_value refusals.InputBytes w h = absurd h
-    of_value (refusals.Broken n p) w h = absurd h
-    of_value refusals.Types w h = absurd h
-    of_value refusals.AnswerNodes w h = absurd h
-    of_value refusals.NotFirstOrder w h = absurd h
-    of_value (refusals.Axiom name) w h = absurd h
-    of_value (refusals.Program l) w h = absurd h
-    of_value (refusals.Run x) w h = absurd h
-    of_value (refusals.Module x) w h = absurd h
+    of_value _ w h = absurd h
 
     pub whole : (x : Term) (w : Account) → value.end ≡ Done (Value x) w → (source_rule E t T u).end ≡ Done (IsRead (reading S x)) w
     whole x w e = rest ∙ bind_end value (read_value S) (Value x) w e
@@ -107,22 +80,7 @@ module _ (E : Env) (t T : Term) (u v w : Account) (hs : List Shape) (named : Are
   of_data refusals.Stuck (k, e) = inr (inr (k, read_as (NotAt k) e))
   of_data refusals.AnswerNodes e = inr (read_as TooMany e)
   of_data refusals.Memory h = inl refl
-  of_data refusals.TurnsSpent h = absurd h
-  of_data refusals.Depth h = absurd h
-  of_data refusals.Usage h = absurd h
-  of_data refusals.ReadFault h = absurd h
-  of_data refusals.WriteFault h = absurd h
-  of_data (refusals.Syntax o) h = absurd h
-  of_data (refusals.Unsupported y o) h = absurd h
-  of_data (refusals.Limit l) h = absurd h
-  of_data refusals.InputBytes h = absurd h
-  of_data (refusals.Broken n p) h = absurd h
-  of_data refusals.Types h = absurd h
-  of_data refusals.NotFirstOrder h = absurd h
-  of_data (refusals.Axiom name) h = absurd h
-  of_data (refusals.Program l) h = absurd h
-  of_data (refusals.Run y) h = absurd h
-  of_data (refusals.Module y) h = absurd h
+  of_data _ h = absurd h
 
   pub ends_well : (ds : List (ℕ × ℕ)) → read hs x ≡ Read ds → source_status (source_rule E t T u).end ≡ 0
   ends_well ds e = ap source_status (read_as (Read ds) e)
@@ -164,19 +122,7 @@ source_says q r bytes e E t T u w s a m checked (inr h) =
     caused q refusals.Types bytes e s w run h c = (e, s, inr c)
     caused q refusals.Stuck bytes e s w run h c = (e, s, inr c)
     caused q refusals.AnswerNodes bytes e s w run h c = (e, s, inr c)
-    caused q refusals.Memory bytes e s w run h c = absurd h
-    caused q refusals.Usage bytes e s w run h c = absurd h
-    caused q refusals.ReadFault bytes e s w run h c = absurd h
-    caused q refusals.WriteFault bytes e s w run h c = absurd h
-    caused q (refusals.Syntax o) bytes e s w run h c = absurd h
-    caused q (refusals.Unsupported x o) bytes e s w run h c = absurd h
-    caused q (refusals.Limit l) bytes e s w run h c = absurd h
-    caused q refusals.InputBytes bytes e s w run h c = absurd h
-    caused q (refusals.Broken n p) bytes e s w run h c = absurd h
-    caused q (refusals.Axiom name) bytes e s w run h c = absurd h
-    caused q (refusals.Program l) bytes e s w run h c = absurd h
-    caused q (refusals.Run x) bytes e s w run h c = absurd h
-    caused q (refusals.Module x) bytes e s w run h c = absurd h
+    caused q _ bytes e s w run h c = absurd h
 
 pub evaluated : (turns : ℕ) (bytes text : List ℕ) (e : RawEnv) (E : Env) (t T : Term) (u v w : Account) → SpellsWithin bytes e → IsAcceptedWith turns e E T u → t ≡ e.main →
     IsCheckedEnvironment e.levels e.constraints (givens e) e.main E T → (hs : List Shape) → AreNamed E hs → IsFirstOrder E T (members hs) →

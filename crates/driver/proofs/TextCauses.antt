@@ -1,5 +1,5 @@
 -- The cause of a refusal of the text is one, and shows that the text has no answer.
-use Rattle.std.proofs.Common.{◌≡◌, ℕ, ◌≤◌, List, [], ◌∷◌, length, Option, Some, Result, Ok, Err, ◌⊎◌, inl, inr, refl, sym, ap, subst, ◌∙◌}
+use Rattle.std.proofs.Common.{◌≡◌, ℕ, ◌≤◌, List, [], ◌∷◌, length, Ok, ◌⊎◌, inl, inr, refl, sym, ap, subst, ◌∙◌}
 use Rattle.sexp_reader.specs.Lex.{tokens_of}
 use Rattle.dump_grammar.specs.declared.refusal.ReadRefusal.{ReadRefusal}
 use Rattle.dump_grammar.specs.declared.refusal.ReadRefusal.TheVariants as reads
@@ -30,10 +30,8 @@ use Rattle.driver.specs.Bench.{lines_of}
 use Rattle.driver.specs.SourceSays.{IsLine}
 use Rattle.driver.specs.MadeModule.{IsMade, MakeEndsWith}
 use Rattle.command_line.specs.declared.line.Request.{Request}
-use Rattle.command_line.specs.Line.{request_of}
 use Rattle.wasm_core.specs.ModuleGrammar.{SpellsModule}
 use Rattle.wasm_core.specs.ShortestBytes.{most_bytes}
-use Rattle.driver.specs.RunFile.{IsRunCause}
 use Rattle.driver.specs.Serve.{IsAnswerableBy, IsAnswerOf, HasWell, IsLate, IsCheckCause, IsDumpCause, IsDumpJudgedWith, IsJobCause, IsTextCause, IsSure, IsJudgedWith, MakesModule}
 use Rattle.driver.proofs.RunCauses.{run_judged_answer, run_judged_cause, run_not_sure}
 use Rattle.driver.proofs.CheckCauses.{accepted_status, not_zero}
@@ -83,17 +81,7 @@ of job q bytes (refusals.Syntax o) h = OfRefusal (reads.Syntax o) (refuses bytes
 of job q bytes (refusals.Unsupported w o) h = OfRefusal (reads.Unsupported w o) (refuses bytes (reads.Unsupported w o) h) refl
 of job q bytes (refusals.Limit l) h = OfRefusal (reads.Limit l h.0) (refuses bytes (reads.Limit l h.0) h.1) refl
 of job q bytes refusals.InputBytes h = absurd h
-of job q bytes refusals.Depth h = OfCheck h.0 h.1 h.2 (λ x. x)
-of job q bytes refusals.TurnsSpent h = OfCheck h.0 h.1 h.2 (λ x. x)
-of job q bytes (refusals.Broken n p) h = OfCheck h.0 h.1 h.2 (λ x. x)
-of job q bytes refusals.Types h = OfCheck h.0 h.1 h.2 (λ x. x)
-of job q bytes refusals.AnswerNodes h = OfCheck h.0 h.1 h.2 (λ x. x)
-of job q bytes refusals.NotFirstOrder h = OfCheck h.0 h.1 h.2 (λ x. x)
-of job q bytes refusals.Stuck h = OfCheck h.0 h.1 h.2 (λ x. x)
-of job q bytes (refusals.Axiom name) h = OfCheck h.0 h.1 h.2 (λ x. x)
-of job q bytes (refusals.Program l) h = OfCheck h.0 h.1 h.2 (λ x. x)
-of job q bytes (refusals.Run w) h = OfCheck h.0 h.1 h.2 (λ x. x)
-of job q bytes (refusals.Module w) h = OfCheck h.0 h.1 h.2 (λ x. x)
+of job q bytes _ h = OfCheck h.0 h.1 h.2 (λ x. x)
 
 -- a cause that the text itself shows is the only one
 dump_one_cause : (job : Job) (q : Request) (bytes : List ℕ) (a r : Refusal) → IsDumpCause job q a bytes → IsDumpCause job q r bytes → IsSure r → a ≡ r
@@ -131,12 +119,8 @@ dump_answerable job q bytes r e s answerable h =
     ]
 
 pub answerable_cause : (job : Job) (q : Request) (bytes : List ℕ) (r : Refusal) (e : RawEnv) → SpellsWithin bytes e → IsAnswerableBy job q e → IsTextCause job q r bytes → ⊥
-answerable_cause Exec q bytes r e s answerable h = dump_answerable Exec q bytes r e s answerable h
-answerable_cause Check q bytes r e s answerable h = dump_answerable Check q bytes r e s answerable h
-answerable_cause Eval q bytes r e s answerable h = dump_answerable Eval q bytes r e s answerable h
-answerable_cause Compile q bytes r e s answerable h = dump_answerable Compile q bytes r e s answerable h
-answerable_cause Bench q bytes r e s answerable h = dump_answerable Bench q bytes r e s answerable h
 answerable_cause Run q bytes r e s answerable h = answerable
+answerable_cause job q bytes r e s answerable h = dump_answerable job q bytes r e s answerable h
 
 -- ---- a job that makes main's module
 
@@ -202,28 +186,17 @@ benched_on q bytes text e s b =
 -- ---- the same of any job's input
 
 pub one_cause : (job : Job) (q : Request) (bytes : List ℕ) (a r : Refusal) → IsTextCause job q a bytes → IsTextCause job q r bytes → IsSure r → a ≡ r
-one_cause Exec q bytes a r h k sure = dump_one_cause Exec q bytes a r h k sure
-one_cause Check q bytes a r h k sure = dump_one_cause Check q bytes a r h k sure
-one_cause Eval q bytes a r h k sure = dump_one_cause Eval q bytes a r h k sure
-one_cause Compile q bytes a r h k sure = dump_one_cause Compile q bytes a r h k sure
-one_cause Bench q bytes a r h k sure = dump_one_cause Bench q bytes a r h k sure
 one_cause Run q bytes a r h k sure = absurd (run_not_sure q.pages q.steps r bytes k sure)
+one_cause job q bytes a r h k sure = dump_one_cause job q bytes a r h k sure
 
 pub judged_cause : (job : Job) (q : Request) (bytes : List ℕ) (status : ℕ) (r : Refusal) → length bytes ≤ most_bytes → IsJudgedWith job q status bytes → IsTextCause job q r bytes → status ≡ status_of r
-judged_cause Exec q bytes status r short h k = dump_judged_cause Exec q bytes status r h k
-judged_cause Check q bytes status r short h k = dump_judged_cause Check q bytes status r h k
-judged_cause Eval q bytes status r short h k = dump_judged_cause Eval q bytes status r h k
-judged_cause Compile q bytes status r short h k = dump_judged_cause Compile q bytes status r h k
-judged_cause Bench q bytes status r short h k = dump_judged_cause Bench q bytes status r h k
 judged_cause Run q bytes status r short h k = run_judged_cause q.pages q.steps bytes status r short h k
+judged_cause job q bytes status r short h k = dump_judged_cause job q bytes status r h k
 
 pub no_cause_of_answers : (job : Job) (q : Request) (bytes text : List ℕ) (r : Refusal) → IsAnswerOf job q bytes text → IsTextCause job q r bytes → IsSure r → ⊥
-no_cause_of_answers Exec q bytes text r a h sure = dump_not_sure Exec q bytes a.environment r a.spelled h sure
-no_cause_of_answers Check q bytes text r a h sure = dump_not_sure Check q bytes a.environment r a.spelled h sure
-no_cause_of_answers Eval q bytes text r a h sure = dump_not_sure Eval q bytes a.environment r a.spelled h sure
-no_cause_of_answers Compile q bytes text r a h sure = dump_not_sure Compile q bytes a.environment r a.spelled h sure
 no_cause_of_answers Bench q bytes text r a h sure = dump_not_sure Bench q bytes a.executed.environment r a.executed.spelled h sure
 no_cause_of_answers Run q bytes text r a h sure = run_not_sure q.pages q.steps r bytes h sure
+no_cause_of_answers job q bytes text r a h sure = dump_not_sure job q bytes a.environment r a.spelled h sure
 
 pub judged_answer : (job : Job) (q : Request) (bytes text : List ℕ) (status : ℕ) → length bytes ≤ most_bytes → IsJudgedWith job q status bytes → IsAnswerOf job q bytes text → status ≡ 0
 judged_answer Exec q bytes text status short (e, s, ends) a = executed_status q.turns e q.pages q.steps text status (executed_on q bytes text e s a) ends

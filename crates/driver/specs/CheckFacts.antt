@@ -1,5 +1,5 @@
 -- The facts of the check that accepts an environment.
-use Rattle.std.specs.Prelude.{ℕ, ◌≡◌, List, length, replicate, Option, Some, None, Bool, true, false, count_by}
+use Rattle.std.specs.Prelude.{ℕ, ◌≡◌, List, length, replicate, Some, None, Bool, true, false, count_by}
 use Rattle.pc_terms.specs.Syntax.{Term}
 use Rattle.pc_rules.specs.declared.meter.Account.{Account}
 use Rattle.pc_rules.specs.Environment.{Env}

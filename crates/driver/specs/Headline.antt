@@ -1,12 +1,13 @@
--- The headline on the top call: where main's evaluation lawfully gives a value, what every run of the module that `exec` runs and `compile` writes answers, within which
--- bounds, and what is written.
+-- The headline on the top call: where main, of a first-order type, evaluates to a value, what every run of the module that `exec` and `bench` run and `compile` writes
+-- answers, within which bounds, and what is written.
 use Rattle.std.specs.Prelude.{◌≡◌, ◌≢◌, ℕ, ◌+◌, ◌*◌, ◌<◌, ◌≤◌, List, Option, Some}
 use Rattle.std.specs.Io.KnownBytes.{Appends}
 use Rattle.pc_terms.specs.Syntax.{Term}
 use Rattle.pc_terms.specs.BoxSyntax.{BoxTerm}
 use Rattle.pc_rules.specs.declared.meter.Account.{Account}
 use Rattle.pc_rules.specs.Environment.{Env}
-use Rattle.pc_rules.specs.FirstOrder.{Data, IsFirstOrder}
+use Rattle.pc_rules.specs.Evaluation.{Evaluates}
+use Rattle.pc_rules.specs.FirstOrder.{Shape as Member, Data, IsFirstOrder}
 use Rattle.first_order.specs.declared.shapes.Shape.{Shape}
 use Rattle.first_order.specs.Searching.{members, AreNamed}
 use Rattle.lambda_box.specs.BoxEvaluation.{BoxEvaluates}
@@ -18,7 +19,7 @@ use Rattle.wasm_core.specs.declared.ended.Ended.TheVariants.{Returned}
 use Rattle.wasm_core.specs.MachineStep.{State, Store, Over, Reach}
 use Rattle.wasm_core.specs.Runs.{main_start}
 use Rattle.headline.specs.EveryRun.{EveryRunAnswers}
-use Rattle.headline.specs.Headline.{GivesLawfully, IsExactly}
+use Rattle.headline.specs.Headline.{IsExactly}
 use Rattle.headline.specs.SourceWords.{source_words, source_branches}
 use Rattle.command_line.specs.declared.job.Job.TheVariants.{Bench, Compile, Exec}
 use Rattle.command_line.specs.declared.line.Request.{Request}
@@ -29,26 +30,24 @@ use Rattle.driver.specs.ExecEnds.{Erasing, Compiling, Answering, its_environment
 use Rattle.driver.specs.MadeModule.{TakesModule}
 use Rattle.driver.specs.Bench.{RunsModule, TakesFigures, steps_of}
 
--- the rules accept the environment, and main's weak call-by-value evaluation, which has n nodes, lawfully gives a value
-pub record HasLawfulValue (turns : ℕ) (e : RawEnv) (n : ℕ) : Type 0 where
+-- the rules accept the environment, main's type is first-order, and main's weak call-by-value evaluation, which has n nodes, gives a value
+pub record HasValue (turns : ℕ) (e : RawEnv) (n : ℕ) : Type 0 where
   pub kept : Env
   pub type : Term
   pub left : Account
   pub accepted : IsAcceptedWith turns e kept type left
+  pub types : List Member
+  pub first_order : IsFirstOrder kept type types
   pub value : Term
-  pub given : GivesLawfully kept e.main type value n
+  pub evaluation : Evaluates kept e.main value n
 
--- the data that the value is
-abbrev pub value_data : {turns : ℕ} {e : RawEnv} {n : ℕ} → HasLawfulValue turns e n → Data
-value_data h = h.given.lawful.main.answer
-
--- along a first-order set of main's type, whose constructors have their names, the value is exactly that data; and this is the data's text, and LF
-pub record IsTextOfValue (turns : ℕ) (e : RawEnv) (n : ℕ) (h : HasLawfulValue turns e n) (text : List ℕ) : Type 0 where
+-- along a first-order set of main's type, whose constructors have their names, the value is exactly this data; and this is the data's text, and LF
+pub record IsTextOfValue (turns : ℕ) (e : RawEnv) (n : ℕ) (h : HasValue turns e n) (tree : Data) (text : List ℕ) : Type 0 where
   pub shapes : List Shape
   pub set : IsFirstOrder h.kept h.type (members shapes)
   pub named : AreNamed h.kept shapes
-  pub exactly : IsExactly h.kept shapes h.value (value_data h)
-  pub line : IsLine shapes e.names (value_data h) text
+  pub exactly : IsExactly h.kept (members shapes) h.value tree
+  pub line : IsLine shapes e.names tree text
 
 -- of an evaluation with n nodes, w words and b branches of a match at most: where so many bytes are within the pages memory isn't exhausted, and where so many
 -- steps may be made they aren't spent
@@ -56,13 +55,15 @@ pub record IsBounded (pages steps n w b status : ℕ) : Type 0 where
   pub not_exhausted : 32 * n * w + 8 ≤ 65536 * pages → status ≢ 11
   pub not_spent : 1024 * n * (w + b) ≤ steps → status ≢ 12
 
--- the module of this call validates, and every long enough run of it answers the value or is exhausted, within the bounds of the source's words and branches; on status 0 out
+-- the value is this data; the module of this call validates, and every long enough run of it answers the data or is exhausted, within the bounds of the source's words and branches; on status 0 out
 -- takes by `exec` the value's text and LF, by `bench` that behind the figures, and by `compile` that module; the status is neither that of a trap nor that of another value; and the bounds of `exec`
-pub record AnswersValue (q : Request) (e : RawEnv) (n status : ℕ) (h : HasLawfulValue q.turns e n) (taken taken' : Option (List ℕ)) : Type 0 where
+pub record AnswersValue (q : Request) (e : RawEnv) (n status : ℕ) (h : HasValue q.turns e n) (taken taken' : Option (List ℕ)) : Type 0 where
+  pub tree : Data
+  pub exactly : IsExactly h.kept h.types h.value tree
   pub valid : (x : Compiling q.turns e) → IsValid (its_module q.pages x)
-  pub runs : (x : Compiling q.turns e) → EveryRunAnswers x.before.program q.pages (source_words h.kept e.main) (source_branches h.kept) n (value_data h)
-  pub text : q.job ≡ Exec → status ≡ 0 → (text : List ℕ) × IsTextOfValue q.turns e n h text × Appends taken taken' text
-  pub figures : q.job ≡ Bench → status ≡ 0 → (text : List ℕ) × IsTextOfValue q.turns e n h text × TakesFigures q e text taken taken'
+  pub runs : (x : Compiling q.turns e) → EveryRunAnswers x.before.program q.pages (source_words h.kept e.main) (source_branches h.kept) n tree
+  pub text : q.job ≡ Exec → status ≡ 0 → (text : List ℕ) × IsTextOfValue q.turns e n h tree text × Appends taken taken' text
+  pub figures : q.job ≡ Bench → status ≡ 0 → (text : List ℕ) × IsTextOfValue q.turns e n h tree text × TakesFigures q e text taken taken'
   pub object : q.job ≡ Compile → status ≡ 0 → TakesModule q e taken taken'
   pub answers : status ≢ 15
   pub bounded : IsBounded q.pages q.steps n (source_words h.kept e.main) (source_branches h.kept) status

@@ -16,6 +16,7 @@ pub mod RunFile
 pub mod Serve
 pub mod PlainAnswer
 pub mod MainModule
+pub mod Promises
 pub mod Served
 pub mod CheckFacts
 pub mod Bench

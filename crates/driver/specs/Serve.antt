@@ -44,12 +44,8 @@ IsInput (Some left) bytes = (bytes ≡ left) × (length bytes ≤ input_limit)
 
 -- The bytes that a job works on: the whole input; by `bench` the text of the request's number, which it makes.
 abbrev pub IsInputOf : Job → Request → Option (List ℕ) → List ℕ → Type 0
-IsInputOf Exec q left bytes = IsInput left bytes
-IsInputOf Check q left bytes = IsInput left bytes
-IsInputOf Eval q left bytes = IsInput left bytes
-IsInputOf Run q left bytes = IsInput left bytes
-IsInputOf Compile q left bytes = IsInput left bytes
 IsInputOf Bench q left bytes = bytes ≡ text_of q.size
+IsInputOf _ q left bytes = IsInput left bytes
 
 -- The input passes the limit, where the source tells it.
 abbrev pub IsTooLong : Option (List ℕ) → Type 0
@@ -126,12 +122,8 @@ IsDumpCause job q r bytes = IsOfCheck job q r bytes
 
 -- what of an input, a dump or a module, shows a refusal of a job
 abbrev pub IsTextCause : Job → Request → Refusal → List ℕ → Type 0
-IsTextCause Exec q r bytes = IsDumpCause Exec q r bytes
-IsTextCause Check q r bytes = IsDumpCause Check q r bytes
-IsTextCause Eval q r bytes = IsDumpCause Eval q r bytes
 IsTextCause Run q r bytes = IsRunCause q.pages q.steps r bytes
-IsTextCause Compile q r bytes = IsDumpCause Compile q r bytes
-IsTextCause Bench q r bytes = IsDumpCause Bench q r bytes
+IsTextCause job q r bytes = IsDumpCause job q r bytes
 
 -- the text itself refuses: there the answer is determined but for want of memory
 abbrev pub IsSure : Refusal → Type 0
@@ -208,12 +200,8 @@ JobSays job q view (Err r) bytes = RefusalSays job q r bytes
 
 -- the facts of a job on its bytes: those of its check; `run` makes none
 abbrev pub AreFacts : Job → Request → List ℕ → Facts → Type 0
-AreFacts Exec q bytes facts = HasFacts q.turns bytes facts
-AreFacts Check q bytes facts = HasFacts q.turns bytes facts
-AreFacts Eval q bytes facts = HasFacts q.turns bytes facts
 AreFacts Run q bytes facts = facts ≡ no_facts
-AreFacts Compile q bytes facts = HasFacts q.turns bytes facts
-AreFacts Bench q bytes facts = HasFacts q.turns bytes facts
+AreFacts _ q bytes facts = HasFacts q.turns bytes facts
 
 -- those of the job that the words ask for
 pub record HasJobFacts (words : List (List ℕ)) (left : Option (List ℕ)) (facts : Facts) : Type 0 where
@@ -244,6 +232,12 @@ abbrev pub Concludes : {V K E : Type 0} → (V → List ℕ) → Result V Refusa
 Concludes view (Ok v) lines status out out' taken taken' faults faults' err err' line line' errs errs' = Written status (view v) lines taken taken' faults faults' err err' line line' errs errs'
 Concludes view (Err r) lines status out out' taken taken' faults faults' err err' line line' errs errs' = (status ≡ status_of r) × (out' ≡ out) × TakesLine line line' errs errs' (line_of r)
 
+-- so of objects whose bytes and counts these functions tell
+abbrev pub ConcludesOn : {V K E : Type 0} → (V → List ℕ) → Result V Refusal → (lines : List ℕ) → (status : ℕ) → (taken : K → Option (List ℕ)) (writes : K → ℕ) (out out' : K)
+    (told : E → Option (List ℕ)) (errs : E → ℕ) (err err' : E) → Type 0
+ConcludesOn view a lines status taken writes out out' told errs err err' =
+    Concludes view a lines status out out' (taken out) (taken out') (writes out) (writes out') err err' (told err) (told err') (errs err) (errs err')
+
 -- The status is that of a refusal that has its cause, and whose line goes to err, with the cause's own offset or word.
 pub record IsRefused (status : ℕ) (words : List (List ℕ)) (left : Option (List ℕ)) (before now faults faults' : ℕ) (line line' : Option (List ℕ)) (errs errs' : ℕ) : Type 0 where
   pub refusal : Refusal
@@ -253,12 +247,8 @@ pub record IsRefused (status : ℕ) (words : List (List ℕ)) (left : Option (Li
 
 -- a source tells these bytes; by `bench` they are those that it makes
 abbrev pub Tells : Job → Request → Option (List ℕ) → List ℕ → Type 0
-Tells Exec q left bytes = left ≡ Some bytes
-Tells Check q left bytes = left ≡ Some bytes
-Tells Eval q left bytes = left ≡ Some bytes
-Tells Run q left bytes = left ≡ Some bytes
-Tells Compile q left bytes = left ≡ Some bytes
 Tells Bench q left bytes = bytes ≡ text_of q.size
+Tells _ q left bytes = left ≡ Some bytes
 
 -- The words ask for this, and the source tells these bytes; or they ask for `bench`, which makes these bytes.
 pub record IsAsked (q : Request) (words : List (List ℕ)) (left : Option (List ℕ)) (bytes : List ℕ) : Type 0 where
@@ -288,6 +278,10 @@ MeetsNoFault job before now faults faults' = ReadsWell job before now × ¬ Rose
 abbrev pub MakesModule : Job → Type 0
 MakesModule job = (job ≡ Exec) ⊎ ((job ≡ Compile) ⊎ (job ≡ Bench))
 
+-- the words ask for such a job, on this environment
+abbrev pub AsksModule : (q : Request) (e : RawEnv) (words : List (List ℕ)) (left : Option (List ℕ)) → Type 0
+AsksModule q e words left = IsAskedOn q e words left × MakesModule q.job
+
 -- by the directed rules the job ends with this status, within the limits
 abbrev pub JobEndsWith : Job → Request → RawEnv → ℕ → Type 0
 JobEndsWith Exec q e status = ExecEndsWith q.turns e q.pages q.steps status
@@ -303,12 +297,8 @@ IsDumpJudgedWith job q status bytes = (e : RawEnv) × SpellsWithin bytes e × Jo
 
 -- so of a dump, or the run of a module ends with this status
 abbrev pub IsJudgedWith : Job → Request → ℕ → List ℕ → Type 0
-IsJudgedWith Exec q status bytes = IsDumpJudgedWith Exec q status bytes
-IsJudgedWith Check q status bytes = IsDumpJudgedWith Check q status bytes
-IsJudgedWith Eval q status bytes = IsDumpJudgedWith Eval q status bytes
 IsJudgedWith Run q status bytes = RunEndsWith q.pages q.steps bytes status
-IsJudgedWith Compile q status bytes = IsDumpJudgedWith Compile q status bytes
-IsJudgedWith Bench q status bytes = IsDumpJudgedWith Bench q status bytes
+IsJudgedWith job q status bytes = IsDumpJudgedWith job q status bytes
 
 -- an environment on which the job has an answer: by `exec` one whose main's module answers data of main's type, by `check` a plain one that keeps all rules,
 -- by `eval` one whose main has a value that is data, by `compile` one whose main has a module within 16 MiB, as the passes or its sizes show

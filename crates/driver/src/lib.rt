@@ -11,22 +11,22 @@
 //! What `serve` promises: on status 0 the input spells an environment that is well formed, and out takes `ok`, or, by `eval`, the text of main's value, or, by `exec`, the text of the
 //! data that the run of a valid module answers, which is made of an erasure of main, or, by `compile`, that module's bytes (`done`). By `exec`, `bench` and `compile`: the environment is well
 //! formed on each status after the check (`well`); where main's erased program evaluates to data of main's type, every long enough run of the module answers it or is exhausted, and
-//! `exec` prints it or ends with a status that is neither 0 nor 15 (`values`); where main's evaluation lawfully gives a value, the same of that value, with bounds on memory and on steps
+//! `exec` prints it or ends with a status that is neither 0 nor 15 (`values`); where main, of a first-order type, evaluates to a value, the same of that value, with bounds on memory and on steps
 //! (`headline`, `bounded`, `matched`); on a plain environment that keeps the rules that its text shows, main's constructor or its module, given four turns and 1,052,672 steps (`plain`,
 //! `named`). By `exec`, where main has a module, the status is one that a run shows (`finishes`). Each other status has its cause, and the line of that refusal goes to err (`refused`, `usage`,
 //! `prefix`); where the line is at fault nothing is read, and the status is 2 but for want of memory (`faulty`), and no other status comes (`statuses`). Where no count of faults rises,
 //! the answer up to want of memory (`judged`, `complete`, `refuses_text`, `refuses_length`). On status 0 err takes the lines of the reports (`reported`). And what is left behind (`unread`, `nothing_out`, `quiet`, `counts`, `tells`).
 //!
-//! The definitions in `specs/`: `Lines` (statuses and lines; what words ask for is a definition of `command_line`), `Texts` (what a text spells within the limits), `Judged` (what the
-//! directed rules say of an environment), `Plain` and `Answerable` (small environments that keep all rules), `PlainAnswer` (what `exec` answers on them), `SourceEnds` (how `eval` ends
-//! after the check), `SourceSays` (what its stages say), `EvaluatedSource` (its answer), `ExecEnds` (what the stages of `exec` say, and how it ends), `Executed` (its answer), `MadeModule`
-//! (the answer of `compile`, and how it ends), `MainModule` (what the stages of both hand on), `Headline` (what both owe a lawful evaluation), `RunFile` (the answer of `run` and its
-//! refusals), `Serve` (answers and causes). Which bytes spell which environment, and what a text's first refusal is, are definitions of `dump_grammar` and `dump_reader`; which
-//! environments are well formed is one of `rule_laws` over those of `pc_rules`; what erasure and the passes give is defined in `erase_rules` and `back_end`; what modules, their bytes,
-//! typings and runs are, in `wasm_core`.
+//! The definitions in `specs/`: `Serve` (answers, causes, and when a call is asked for what), `Promises` (the long clauses of `serve` by name), `Served` (all its clauses as one record), `Lines` (statuses and lines; what
+//! words ask for is a definition of `command_line`), `Texts` (what a text spells within the limits), `Judged` (what the directed rules say of an environment), `Plain` and `Answerable` (small environments that keep all
+//! rules), `PlainAnswer` (what is answered on them), `SourceEnds` (how `eval` ends after the check), `SourceSays` (what its stages say), `EvaluatedSource` (its answer), `Evaluable` (where it has one), `ExecEnds` (what the
+//! stages of `exec` say, and how it ends), `Executed` (its answer), `ErasureParts` (what the code of erasure says), `MainModule` (what the stages to main's module hand on), `MadeModule` (the answer of `compile`, and how it
+//! ends), `Headline` (what is owed to an evaluation of main), `RunFile` (the answer of `run` and its refusals), `Bench`, `Figures` and `Benched` (the lines of `bench`, and its answer), `CheckFacts` (the facts of a check). Which
+//! bytes spell which environment, and what a text's first refusal is, are definitions of `dump_grammar` and `dump_reader`; which environments are well formed is one of `rule_laws` over those of `pc_rules`; what erasure and
+//! the passes give is defined in `erase_rules` and `back_end`; what modules, their bytes, typings and runs are, in `wasm_core`; what a report's line is, in `report_lines`.
 //!
-//! Below stand `kio`, `dump_reader`, `env_check`, `source_eval`, `first_order`, `erase`, `compile`, `module_run`, `file_run` and `command_line`; above stands the program
-//! `erasec`.
+//! Below stand `kio`, `dump_reader`, `env_check`, `source_eval`, `first_order`, `erase`, `compile`, `module_run`, `file_run`, `workload`, `report_lines` and `command_line`; above stand the program `erasec` and the law
+//! `serve_laws`.
 #![tactic(auto)]
 
 mod bench;

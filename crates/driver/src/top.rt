@@ -1,30 +1,23 @@
 //! The top call.
 
-ghost use Rattle.std.specs.Prelude.{◌≡◌, ◌≢◌, ◌⊎◌, ◌<◌, ◌≤◌, ℕ, List, [], ◌∷◌, ◌++◌, length, Contains, IfErr, IfOk, OnOk, map, None, Some};
+ghost use Rattle.std.specs.Prelude.{◌≡◌, ◌≢◌, ◌⊎◌, ◌≤◌, ℕ, List, [], ◌∷◌, Contains, IfErr, IfOk, OnOk, map, None, Some};
 ghost use Rattle.std.specs.Io.KnownBytes.{Appends};
-ghost use Rattle.kio.specs.Causes.{Rose};
 ghost use Rattle.kio.specs.Known.{StillTells};
 ghost use Rattle.pc_rules.specs.FirstOrder.{Data};
 ghost use Rattle.dump_reader.specs.declared.environment.RawEnv.{RawEnv};
 ghost use Rattle.command_line.specs.Line.{IsInRange, request_of, words_of};
 ghost use Rattle.command_line.specs.declared.line.Request.{Request as Asked};
-ghost use Rattle.driver.specs.Lines.{status_of, line_of};
-ghost use Rattle.command_line.specs.declared.job.Job.TheVariants.{Bench, Compile, Exec};
-ghost use Rattle.driver.specs.Bench.{RunsModule};
-ghost use Rattle.driver.specs.ExecEnds.{Finishes, HasModule};
-ghost use Rattle.driver.specs.Executed.{AnswersData, HasErasedData};
-ghost use Rattle.driver.specs.Answerable.{IsAnswerable};
-ghost use Rattle.driver.specs.PlainAnswer.{AnswersConstructor, NamesConstructor};
-ghost use Rattle.driver.specs.Plain.{IsPlainOf};
-ghost use Rattle.pc_terms.specs.declared.leaf.FamilyId.{FamilyId};
-ghost use Rattle.driver.specs.Headline.{AnswersValue, EvaluatesErased, HasLawfulValue, HasMatches, IsBoundedBy, TakesMatches};
-ghost use Rattle.driver.specs.Served.{Served};
+ghost use Rattle.command_line.specs.declared.job.Job.TheVariants.{Bench};
 ghost use Rattle.report_lines.specs.CheckFacts.{facts_of};
 ghost use Rattle.report_lines.specs.Lines.{told_lines};
 ghost use Rattle.report_lines.specs.Takes.{TakesLine, TakesPrefix};
-ghost use Rattle.report_lines.specs.declared.facts.Facts.{Facts as CheckFacts};
 ghost use Rattle.driver.specs.CheckFacts.{no_facts as none};
-ghost use Rattle.driver.specs.Serve.{Answered, AreFacts, Concludes, HasJobFacts, HasWell, input_limit, InputSays, IsAnswerableBy, IsAsked, IsAskedOn, IsAskedWithin, IsJudgedWith, IsLate, IsRefused, IsSure, IsTextCause, JobSays, MakesModule, MeetsNoFault, ReadsWell, ReadSays, ReadsNothing, RequestSays, Says};
+ghost use Rattle.driver.specs.Lines.{status_of, line_of};
+ghost use Rattle.driver.specs.Executed.{AnswersData, HasErasedData};
+ghost use Rattle.driver.specs.Headline.{AnswersValue, EvaluatesErased, HasMatches, HasValue, IsBoundedBy, TakesMatches};
+ghost use Rattle.driver.specs.Serve.{Answered, AreFacts, AsksModule, ConcludesOn, HasJobFacts, HasWell, InputSays, IsAsked, IsLate, JobSays, MakesModule, ReadSays, ReadsNothing, RequestSays, Says};
+ghost use Rattle.driver.specs.Promises.{AnswersPlain, AnswersWhereItCan, EndsAsJudged, EndsAsLength, EndsAsRun, EndsAsText, NamesPlain, ShowsCause, TellsReports};
+ghost use Rattle.driver.specs.Served.{ServedOn};
 
 use crate::bench::{bench, made_text};
 use crate::check::check;
@@ -144,8 +137,8 @@ fn conclude<K: Sink, E: Sink>(
     facts: &Facts,
     reports: Vec<Box<dyn Report>>,
 ) -> u8
-    ensures concludes { Concludes (λ v. v.items) answered (told_lines (facts_of facts.now) (map (λ b. shown b) reports.items)) result out.old out.new (K.taken out.old) (K.taken out.new) (K.faults out.old) (K.faults out.new)
-        err.old err.new (E.taken err.old) (E.taken err.new) (E.faults err.old) (E.faults err.new) }
+    ensures concludes { ConcludesOn (λ v. v.items) answered (told_lines (facts_of facts.now) (map (λ b. shown b) reports.items)) result
+        K.taken K.faults out.old out.new E.taken E.faults err.old err.new }
     ensures tells { StillTells (K.taken out.old) (K.taken out.new) × StillTells (E.taken err.old) (E.taken err.new) }
     ensures counts { (K.faults out.old ≤ K.faults out.new) × (E.faults err.old ≤ E.faults err.new) }
 {
@@ -170,10 +163,7 @@ fn serve_whole<S: Source, K: Sink, E: Sink>(
     err: &mut E,
     reports: Vec<Box<dyn Report>>,
 ) -> u8
-    ensures served { Served result (words_of words.now) (map (λ b. shown b) reports.items)
-        (record { object = src.old; told = S.left src.old; faults = S.faults src.old }) (record { object = src.new; told = S.left src.new; faults = S.faults src.new })
-        (record { object = out.old; told = K.taken out.old; faults = K.faults out.old }) (record { object = out.new; told = K.taken out.new; faults = K.faults out.new })
-        (record { object = err.old; told = E.taken err.old; faults = E.faults err.old }) (record { object = err.new; told = E.taken err.new; faults = E.faults err.new }) }
+    ensures served { ServedOn result (words_of words.now) (map (λ b. shown b) reports.items) S.left S.faults src.old src.new K.taken K.faults out.old out.new E.taken E.faults err.old err.new }
 {
     let mut facts = no_facts();
     let answered = answer(alloc, words, src, &mut facts);
@@ -215,50 +205,38 @@ pub fn serve<S: Source, K: Sink, E: Sink>(
     ensures statuses { Contains (0 ∷ 1 ∷ 2 ∷ 3 ∷ 4 ∷ 5 ∷ 6 ∷ 7 ∷ 8 ∷ 9 ∷ 10 ∷ 11 ∷ 12 ∷ 13 ∷ 14 ∷ 15 ∷ []) result }
 
     // Each refusal has its cause, and its line goes to err.
-    ensures refused { result ≢ 0 → IsRefused result (words_of words.now) (S.left src.old) (S.faults src.old) (S.faults src.new)
-        (K.faults out.old) (K.faults out.new) (E.taken err.old) (E.taken err.new) (E.faults err.old) (E.faults err.new) }
+    ensures refused { ShowsCause result (words_of words.now) S.left S.faults src.old src.new K.faults out.old out.new E.taken E.faults err.old err.new }
     ensures usage { result ≡ 2 → request_of (words_of words.now) ≡ None }
     ensures faulty { request_of (words_of words.now) ≡ None → (src.new ≡ src.old) × ((result ≡ 2) ⊎ (result ≡ 1)) }
     ensures prefix { result ≡ 4 → (text : List ℕ) × Answered (words_of words.now) (S.left src.old) text × TakesPrefix (K.taken out.old) (K.taken out.new) text }
 
     // Where the source's count doesn't rise, nor out's where something is written, and the rules pass no limit, want of memory is the only other answer.
-    ensures judged { (q : Asked) (bytes : List ℕ) (wanted : ℕ) → IsAskedWithin q (words_of words.now) (S.left src.old) bytes →
-        ReadsWell q.job (S.faults src.old) (S.faults src.new) → IsJudgedWith q.job q wanted bytes → (wanted ≡ 0 → ¬ Rose (K.faults out.old) (K.faults out.new)) → (result ≡ wanted) ⊎ (result ≡ 1) }
-    ensures complete { (q : Asked) (e : RawEnv) → IsAskedOn q e (words_of words.now) (S.left src.old) →
-        IsAnswerableBy q.job q e → MeetsNoFault q.job (S.faults src.old) (S.faults src.new) (K.faults out.old) (K.faults out.new) → (result ≡ 0) ⊎ (result ≡ 1) }
+    ensures judged { EndsAsJudged result (words_of words.now) (S.left src.old) (S.faults src.old) (S.faults src.new) (K.faults out.old) (K.faults out.new) }
+    ensures complete { AnswersWhereItCan result (words_of words.now) (S.left src.old) (S.faults src.old) (S.faults src.new) (K.faults out.old) (K.faults out.new) }
+    ensures refuses_text { EndsAsText result (words_of words.now) (S.left src.old) (S.faults src.old) (S.faults src.new) }
+    ensures refuses_length { EndsAsLength result (words_of words.now) (S.left src.old) (S.faults src.old) (S.faults src.new) }
     // By `exec`, `bench` and `compile`, where main's erased program evaluates to data of main's type: every long enough run of the module answers that data or is exhausted; `exec` writes the
     // data's text, and `bench` that behind the figures, or ends with a status that is neither 0 nor 15, and `compile` writes that module, or has another status.
-    ensures values { (q : Asked) (e : RawEnv) (ds : Data) (n k : ℕ) → IsAskedOn q e (words_of words.now) (S.left src.old) →
-        MakesModule q.job → HasErasedData q.turns e ds n k → AnswersData q e ds result (K.taken out.old) (K.taken out.new) }
+    ensures values { (q : Asked) (e : RawEnv) (ds : Data) (n k : ℕ) → AsksModule q e (words_of words.now) (S.left src.old) →
+        HasErasedData q.turns e ds n k → AnswersData q e ds result (K.taken out.old) (K.taken out.new) }
     // By these jobs (the text that `bench` makes is never plain), on a plain environment that keeps all rules, given four turns and 1,052,672 steps: the name of main's constructor, or its module, and 0 or 1 where out's
     // count doesn't rise.
-    ensures plain { (q : Asked) (e : RawEnv) (a : IsAnswerable e) → IsAskedOn q e (words_of words.now) (S.left src.old) →
-        MakesModule q.job → 4 ≤ q.turns → (q.job ≢ Compile → 1052672 ≤ q.steps) →
-        AnswersConstructor q e a result (MeetsNoFault q.job (S.faults src.old) (S.faults src.new) (K.faults out.old) (K.faults out.new)) (K.taken out.old) (K.taken out.new) }
+    ensures plain { AnswersPlain result (words_of words.now) (S.left src.old) (S.faults src.old) (S.faults src.new) (K.faults out.old) (K.faults out.new) (K.taken out.old) (K.taken out.new) }
     // So by `exec` on status 0 on each plain environment.
-    ensures named { (q : Asked) (e : RawEnv) (f : FamilyId) (n : ℕ) → IsAskedOn q e (words_of words.now) (S.left src.old) →
-        q.job ≡ Exec → 4 ≤ q.turns → 1052672 ≤ q.steps → IsPlainOf e f n → result ≡ 0 → (name : List ℕ) × NamesConstructor e f n name × Appends (K.taken out.old) (K.taken out.new) (name ++ 10 ∷ []) }
+    ensures named { NamesPlain result (words_of words.now) (S.left src.old) (K.taken out.old) (K.taken out.new) }
     // By `exec` and `bench`, where main has a module: an answer or want of memory, or what the run shows.
-    ensures finishes { (q : Asked) (e : RawEnv) → IsAskedOn q e (words_of words.now) (S.left src.old) →
-        RunsModule q.job → HasModule q.turns e q.pages → MeetsNoFault q.job (S.faults src.old) (S.faults src.new) (K.faults out.old) (K.faults out.new) → Finishes q.turns e q.pages q.steps result }
+    ensures finishes { EndsAsRun result (words_of words.now) (S.left src.old) (S.faults src.old) (S.faults src.new) (K.faults out.old) (K.faults out.new) }
     // By `exec`, `bench` and `compile`, on each status that comes after the check the environment is well formed.
     ensures well { (q : Asked) (bytes : List ℕ) → IsAsked q (words_of words.now) (S.left src.old) bytes → MakesModule q.job → IsLate result → HasWell bytes }
-    // The headline: where main's evaluation lawfully gives a value, every long enough run of the module that `exec` and `bench` run or `compile` writes answers it or is exhausted, and
+    // The headline: where main, of a first-order type, evaluates to a value, every long enough run of the module that `exec` and `bench` run or `compile` writes answers it or is exhausted, and
     // `exec` writes that value's text, `bench` that behind the figures, or shows a cause; with the bounds on memory and on steps, and at least as many steps as matches.
-    ensures headline { (q : Asked) (e : RawEnv) (n : ℕ) → IsAskedOn q e (words_of words.now) (S.left src.old) →
-        MakesModule q.job → (h : HasLawfulValue q.turns e n) → AnswersValue q e n result h (K.taken out.old) (K.taken out.new) }
-    ensures bounded { (q : Asked) (e : RawEnv) (n : ℕ) → IsAskedOn q e (words_of words.now) (S.left src.old) →
-        MakesModule q.job → (h : EvaluatesErased q.turns e n) → IsBoundedBy q e n h result }
-    ensures matched { (q : Asked) (e : RawEnv) (matches : ℕ) → IsAskedOn q e (words_of words.now) (S.left src.old) →
-        MakesModule q.job → HasMatches q.turns e matches → TakesMatches q e matches result }
-    ensures refuses_text { (q : Asked) (bytes : List ℕ) (r : Refusal) → IsAskedWithin q (words_of words.now) (S.left src.old) bytes →
-        ReadsWell q.job (S.faults src.old) (S.faults src.new) → IsTextCause q.job q r bytes → IsSure r → (result ≡ status_of r) ⊎ (result ≡ 1) }
-    ensures refuses_length { (q : Asked) (bytes : List ℕ) → IsAsked q (words_of words.now) (S.left src.old) bytes →
-        q.job ≢ Bench → ¬ Rose (S.faults src.old) (S.faults src.new) → input_limit < length bytes → (result ≡ 7) ⊎ (result ≡ 1) }
+    ensures headline { (q : Asked) (e : RawEnv) (n : ℕ) → AsksModule q e (words_of words.now) (S.left src.old) →
+        (h : HasValue q.turns e n) → AnswersValue q e n result h (K.taken out.old) (K.taken out.new) }
+    ensures bounded { (q : Asked) (e : RawEnv) (n : ℕ) → AsksModule q e (words_of words.now) (S.left src.old) → (h : EvaluatesErased q.turns e n) → IsBoundedBy q e n h result }
+    ensures matched { (q : Asked) (e : RawEnv) (matches : ℕ) → AsksModule q e (words_of words.now) (S.left src.old) → HasMatches q.turns e matches → TakesMatches q e matches result }
 
-    // The reports: on status 0 err takes the line of each, in order, with its count at entry and the number of facts of the check that it wants; `run` has none. No other clause knows of them.
-    ensures reported { result ≡ 0 → (facts : CheckFacts) × HasJobFacts (words_of words.now) (S.left src.old) facts ×
-        TakesLine (E.taken err.old) (E.taken err.new) (E.faults err.old) (E.faults err.new) (told_lines (facts_of facts) (map (λ b. shown b) reports.items)) }
+    // The reports: on status 0 err takes the line of each, in order, with its count at entry and the number of facts of the check that it wants; `run` has none. But for `quiet`, no other clause knows of them.
+    ensures reported { TellsReports result (words_of words.now) (S.left src.old) (map (λ b. shown b) reports.items) (E.taken err.old) (E.taken err.new) (E.faults err.old) (E.faults err.new) }
 
     // What is left behind.
     ensures unread { ReadsNothing (words_of words.now) → src.new ≡ src.old }

@@ -15,7 +15,7 @@ use Rattle.lambda_box.specs.BoxProgram.{BoxProgram}
 use Rattle.erase_rules.specs.DirectedErasure.{erased}
 use Rattle.pc_rules.specs.DirectedPlaces.{Gives, Placed, gives, at_place, and_then}
 use Rattle.erase_rules.specs.DirectedProgram.{is_reached, Reached, with_constant, with_axiom, erased_constants, Answer, Program, answer, erased_program}
-use Rattle.erase_rules.specs.Laws.{constant_nodes, program_nodes, body_nodes}
+use Rattle.erase_rules.specs.ProgramNodes.{constant_nodes, program_nodes, body_nodes}
 use Rattle.erase_rules.proofs.Sizes.{erased_strips, strips_nodes}
 use Rattle.erase_rules.proofs.Program.{gives_both, outcome_done, given_value, program_is}
 

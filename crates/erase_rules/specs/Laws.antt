@@ -1,5 +1,5 @@
 -- The laws of directed erasure, as statements.
-use Rattle.std.specs.Prelude.{◌≡◌, ◌≢◌, ◌≤◌, ℕ, ◌+◌, true, List, [], ◌∷◌, length, Option, Some, None}
+use Rattle.std.specs.Prelude.{◌≡◌, ◌≢◌, ◌≤◌, ℕ, ◌+◌, true, List, [], ◌∷◌, length, Option, None}
 use Rattle.universe_levels.specs.declared.level.Level.{Level}
 use Rattle.universe_levels.specs.declared.constraint.Constraint.{Constraint}
 use Rattle.universe_levels.specs.declared.sort.Sort.TheVariants.{Prop}
@@ -11,8 +11,6 @@ use Rattle.pc_terms.specs.declared.leaf.FamilyId.{FamilyId}
 use Rattle.pc_terms.specs.Syntax.{Term, SortT, Prod, Ind, Construct, Case}
 use Rattle.pc_terms.specs.Formed.{IsFormed}
 use Rattle.pc_terms.specs.BoxSyntax.{BoxTerm}
-use Rattle.pc_rules.specs.declared.declaration.Kept.{Kept}
-use Rattle.pc_rules.specs.declared.declaration.Kept.TheVariants.{Constant}
 use Rattle.pc_rules.specs.declared.meter.Account.{Account}
 use Rattle.pc_rules.specs.Environment.{Env, FamilyDecl, KeepsConstant, KeepsFamily}
 use Rattle.pc_rules.specs.Context.{Context}
@@ -40,6 +38,7 @@ use Rattle.erase_laws.specs.ErasedProgram.{counts_of, HasErased, IsErased}
 use Rattle.agreeing.specs.Agreement.{Agree, AgreeAtPlaces}
 use Rattle.erase_rules.specs.DirectedErasure.{erased}
 use Rattle.erase_rules.specs.DirectedProgram.{is_reached, Program, ReachesAxiom, erased_program}
+use Rattle.erase_rules.specs.ProgramNodes.{program_nodes, body_nodes}
 
 -- in a well-counted environment and context, what directed erasure makes of a well-counted term is an erasure of it
 abbrev pub ErasureIsSound : Type 0
@@ -95,20 +94,6 @@ ProgramsKeepValues = (E : Env) → IsAccepted E → AreFewCounts E → (q : Test
     (P : BoxProgram) (x y : Account) → (erased_program E q n main x).outcome ≡ Gives (Program P) y → (v : Term) (k : ℕ) (e : Evaluates E main v k) → (h : IsLawfulEvaluation E T e) →
     (S : List Shape) → IsFirstOrder E T S →
     (w : BoxTerm) × (i : ℕ) × (j : ℕ) × (i ≤ k) × BoxEvaluates P P.main w i j × Reads E S 0 v h.main.answer × BoxReads P w h.main.answer × FitsShapes S 0 h.main.answer
-
--- the nodes of constants after erasure, of a program, and of the bodies of declared constants
-
-abbrev pub constant_nodes : List BoxConstant → ℕ
-constant_nodes [] = 0
-constant_nodes (d ∷ cs) = nodes d.body + constant_nodes cs
-
-abbrev pub program_nodes : BoxProgram → ℕ
-program_nodes P = nodes P.main + constant_nodes P.constants
-
-abbrev pub body_nodes : List Kept → ℕ
-body_nodes [] = 0
-body_nodes (Constant k T (Some b) ∷ ds) = nodes b + body_nodes ds
-body_nodes (d ∷ ds) = body_nodes ds
 
 -- a program has at most as many nodes as main and the bodies of constants
 abbrev pub ProgramsAreNoGreater : Type 0

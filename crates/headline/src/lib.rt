@@ -1,17 +1,17 @@
 //! The headline as a law: from an accepted environment to every run of its module.
 //!
-//! `lawful_values_are_answered` (clause `headline`, `specs/Headline.antt`) is the sentence that the product is for. What the directed rules accept is derived by the
-//! typing rules; erasure makes a program of it, and the passes and emission a module, which is valid; and where main's weak call-by-value evaluation lawfully gives
-//! a value, every long enough run of the module answers exactly that value or is exhausted after a refused grow of memory, within bounds on steps and on memory
-//! that the evaluation's nodes give.
+//! `values_are_answered` (clause `headline`, `specs/Headline.antt`) is the sentence that the product is for. What the directed rules accept is derived by the
+//! typing rules; erasure makes a program of it, and the passes and emission a module, which is valid; and where main, of a first-order type, evaluates to a value by
+//! weak call by value, every long enough run of the module answers exactly that value or is exhausted after a refused grow of memory, within bounds on steps and on
+//! memory that the evaluation's nodes give.
 //!
-//! What needs no lawful evaluation stands apart: acceptance (`accepted_environments_are_derived`, `derived`); that the erased program has the form and is no larger
+//! What needs no evaluation of main stands apart: acceptance (`accepted_environments_are_derived`, `derived`); that the erased program has the form and is no larger
 //! than its source (`erased_programs_are_within`, `within`); the runs of a program that evaluates to data (`evaluated_programs_answer`, `runs`; `returns_take_matches`,
 //! `matches`); the text of data (`fitting_data_is_written`, `text`); and that a machine with the maximum as its bound is exhausted for want of maximum alone
 //! (`machines_refuse_past_maximum`, `past`).
 //!
-//! Below stand the laws of the layers: `rule_laws`, `read_counts`, `erase_laws`, `erase_rules`, `lambda_box`, `box_passes`, `back_end`, and the texts of `first_order`;
-//! above stands `driver`.
+//! Below stand the laws of the layers: `rule_laws`, `type_laws`, `read_counts`, `erase_laws`, `erase_rules`, `lambda_box`, `box_passes`, `back_end`, and the texts of
+//! `first_order`; above stands `driver`.
 #![tactic(auto)]
 
 ghost use Rattle.headline.specs.AcceptedProgram.{AcceptedAreDerived, ErasedProgramsAreWithin};
@@ -52,8 +52,8 @@ pub fn machines_refuse_past_maximum()
     ensures past { MachinesRefusePastMaximum }
 {}
 
-/// The headline: of an accepted environment the module validates, and where main's evaluation lawfully gives a value, every long enough run of the module answers
-/// exactly that value or is exhausted.
-pub fn lawful_values_are_answered()
+/// The headline: of an accepted environment the module validates, and where main, of a first-order type, evaluates to a value, that is data, and every long enough
+/// run of the module answers exactly that or is exhausted.
+pub fn values_are_answered()
     ensures headline { Headline }
 {}

@@ -1,15 +1,15 @@
-//! A law of what the top call promises: its answer doesn't depend on the reports.
+//! A law of what the top call promises: reports break no promise of it.
 //!
-//! `driver`'s contract of `serve` is one record, `Served`, over the objects that the call is lent and what its reports show. Whatever a call with reports may answer, write
-//! to out and leave of the source, a call without reports may too (`reports_change_no_answer`, clause `same`): the lines of the reports are on err, and nowhere else.
+//! `driver`'s contract of `serve` is one record, `Served`, over the objects that the call is lent and what its reports show. With reports the top call keeps all that it promises without: the status,
+//! out and what is left of the source meet the promises of a call without reports, with the lines of the reports taken off err (`reports_break_no_promise`, clause `kept`). It says nothing of two runs,
+//! since want of memory is free.
 //!
 //! Below stand `driver`, `report_lines` and `reports`; nothing stands above.
 #![tactic(auto)]
 
-ghost use Rattle.serve_laws.specs.Laws.{ReportsChangeNoAnswer};
+ghost use Rattle.serve_laws.specs.Laws.{ReportsBreakNoPromise};
 
-/// A call of `serve` with any reports has the status, takes the bytes on out and leaves the source as a call without reports may. On status 0 that call leaves err as it was; on any other the
-/// two leave it alike.
-pub fn reports_change_no_answer<S, K, E>()
-    ensures same { ReportsChangeNoAnswer S K E }
+/// With reports a call of `serve` keeps all that one without promises, where err counts on status 0 as it was before the lines of the reports, and on any other as it is left.
+pub fn reports_break_no_promise<S, K, E>()
+    ensures kept { ReportsBreakNoPromise S K E }
 {}

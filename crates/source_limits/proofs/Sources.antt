@@ -12,7 +12,7 @@ use Rattle.lambda_box.specs.BoxProgram.{BoxConstant, BoxFamily, BoxProgram}
 use Rattle.lambda_box.specs.DataTerms.{greatest_words}
 use Rattle.lambda_box.specs.SaturatedForm.{nodes_of_constants, program_nodes, greatest_counts}
 use Rattle.box_passes.proofs.Passes.{passes_form}
-use Rattle.erase_rules.specs.Laws.{constant_nodes}
+use Rattle.erase_rules.specs.ProgramNodes.{constant_nodes}
 use Rattle.erase_rules.specs.DirectedProgram.{box_families, families_from}
 use Rattle.erase_rules.proofs.ProgramSize.{program_is_small}
 use Rattle.back_end.proofs.Whole.{product_le}

@@ -5,7 +5,7 @@ use Rattle.pc_terms.specs.Syntax.{Term}
 use Rattle.pc_rules.specs.declared.declaration.Kept.{Kept}
 use Rattle.pc_rules.specs.declared.declaration.Kept.TheVariants.{Block as Whole}
 use Rattle.pc_rules.specs.Environment.{Env}
-use Rattle.erase_rules.specs.Laws.{body_nodes}
+use Rattle.erase_rules.specs.ProgramNodes.{body_nodes}
 use Rattle.headline.specs.SourceWords.{most_in_families}
 
 abbrev pub source_nodes : Env → Term → ℕ

@@ -1,5 +1,4 @@
 use Rattle.std.proofs.Common.{◌∙◌}
-use Rattle.std.proofs.lemmas.Result.{err_from_is_err_and}
 use Rattle.command_line.specs.declared.job.Job.TheVariants.{Bench}
 use Rattle.driver.proofs.Answering.{exit_says}
 use Rattle.driver.proofs.BenchSaying.{bench_says, lines_are}
@@ -10,8 +9,7 @@ returns-in_err-executed-clause-says c =
     let q = c.args.request in
     let bytes = c.args.bytes.now in
     let r = c.in_err-executed.field-0.0 in
-    let exit = err_from_is_err_and c.from_residual.result c.from_residual.ensures.1 in
-    exit_says (λ v. v.items) Bench q c.from_residual.result r bytes exit (bench_says q r bytes c.in_err-executed.ensures.says)
+    exit_says (λ v. v.items) Bench q c.from_residual.result r bytes c.from_residual.ensures.1 (bench_says q r bytes c.in_err-executed.ensures.says)
 
 pub returns-clause-says : goal.returns-clause-says
 returns-clause-says c =

@@ -1,5 +1,4 @@
 use Rattle.std.specs.Prelude.{codes}
-use Rattle.std.proofs.lemmas.Result.{err_from_is_err_and}
 use Rattle.command_line.specs.declared.job.Job.TheVariants.{Check}
 use Rattle.driver.proofs.Answering.{cause_of, checked_says, exit_says, ok_anyway, says}
 use Rattle.driver.proofs.TextCauses.{within_limits}
@@ -10,8 +9,7 @@ returns-in_err-accept-clause-says c =
     let e = c.in_ok-environment.environment in
     let bytes = c.args.bytes.now in
     let r = c.in_err-accept.field-0.0 in
-    let exit = err_from_is_err_and c.from_residual-in_err-accept.result c.from_residual-in_err-accept.ensures.1 in
-    exit_says (λ v. v.items) Check c.args.request c.from_residual-in_err-accept.result r bytes exit (checked_says Check c.args.request r bytes e
+    exit_says (λ v. v.items) Check c.args.request c.from_residual-in_err-accept.result r bytes c.from_residual-in_err-accept.ensures.1 (checked_says Check c.args.request r bytes e
     (within_limits bytes e c.in_ok-environment.ensures.exact) tt (cause_of c.args.request.turns r e c.in_err-accept.ensures.says))
 
 pub returns-clause-says : goal.returns-clause-says

@@ -1,4 +1,3 @@
-use Rattle.std.proofs.lemmas.Result.{err_from_is_err_and}
 use Rattle.first_order.specs.Searching.{members}
 use Rattle.command_line.specs.declared.job.Job.TheVariants.{Eval}
 use Rattle.driver.proofs.Answering.{cause_of, checked_says, exit_says, ok_anyway}
@@ -13,8 +12,7 @@ returns-in_err-accepted-clause-says c =
     let bytes = c.args.bytes.now in
     let s = within_limits bytes e c.in_ok-environment.ensures.exact in
     let r = c.in_err-accepted.field-0.0 in
-    let exit = err_from_is_err_and c.from_residual-in_err-accepted.result c.from_residual-in_err-accepted.ensures.1 in
-    exit_says (λ v. v.items) Eval c.args.request c.from_residual-in_err-accepted.result r bytes exit (checked_says Eval c.args.request r bytes e s tt (cause_of c.args.request.turns r e c.in_err-accepted.ensures.says))
+    exit_says (λ v. v.items) Eval c.args.request c.from_residual-in_err-accepted.result r bytes c.from_residual-in_err-accepted.ensures.1 (checked_says Eval c.args.request r bytes e s tt (cause_of c.args.request.turns r e c.in_err-accepted.ensures.says))
 
 pub returns-in_err-shapes-clause-says : goal.returns-in_err-shapes-clause-says
 returns-in_err-shapes-clause-says c =
@@ -26,8 +24,7 @@ returns-in_err-shapes-clause-says c =
     let u = c.accept_within.new.meter.account in
     let v = c.shapes_of.new.m.account in
     let r = c.in_err-shapes.field-0.0 in
-    let exit = err_from_is_err_and c.from_residual-in_err-shapes.result c.from_residual-in_err-shapes.ensures.1 in
-    exit_says (λ v. v.items) Eval c.args.request c.from_residual-in_err-shapes.result r bytes exit (source_says c.args.request r bytes e a.env a.main a.main_type u v s known.0 known.1 known.2 (of_shapes a.env a.main a.main_type u r v c.in_err-shapes.ensures.says))
+    exit_says (λ v. v.items) Eval c.args.request c.from_residual-in_err-shapes.result r bytes c.from_residual-in_err-shapes.ensures.1 (source_says c.args.request r bytes e a.env a.main a.main_type u v s known.0 known.1 known.2 (of_shapes a.env a.main a.main_type u r v c.in_err-shapes.ensures.says))
 
 pub returns-in_err-value-clause-says : goal.returns-in_err-value-clause-says
 returns-in_err-value-clause-says c =
@@ -40,8 +37,7 @@ returns-in_err-value-clause-says c =
     let v = c.shapes_of.new.m.account in
     let w = c.value_of.new.m.account in
     let r = c.in_err-value.field-0.0 in
-    let exit = err_from_is_err_and c.from_residual-in_err-value.result c.from_residual-in_err-value.ensures.1 in
-    exit_says (λ v. v.items) Eval c.args.request c.from_residual-in_err-value.result r bytes exit (source_says c.args.request r bytes e a.env a.main a.main_type u w s known.0 known.1 known.2
+    exit_says (λ v. v.items) Eval c.args.request c.from_residual-in_err-value.result r bytes c.from_residual-in_err-value.ensures.1 (source_says c.args.request r bytes e a.env a.main a.main_type u w s known.0 known.1 known.2
     (of_value a.env a.main a.main_type u (members c.in_ok-shapes.shapes.types) v c.in_ok-shapes.ensures.says r w c.in_err-value.ensures.says))
 
 pub returns-in_err-tree-clause-says : goal.returns-in_err-tree-clause-says
@@ -55,8 +51,7 @@ returns-in_err-tree-clause-says c =
     let v = c.shapes_of.new.m.account in
     let w = c.value_of.new.m.account in
     let r = c.in_err-tree.field-0.0 in
-    let exit = err_from_is_err_and c.from_residual-in_err-tree.result c.from_residual-in_err-tree.ensures.1 in
-    exit_says (λ v. v.items) Eval c.args.request c.from_residual-in_err-tree.result r bytes exit (source_says c.args.request r bytes e a.env a.main a.main_type u w s known.0 known.1 known.2
+    exit_says (λ v. v.items) Eval c.args.request c.from_residual-in_err-tree.result r bytes c.from_residual-in_err-tree.ensures.1 (source_says c.args.request r bytes e a.env a.main a.main_type u w s known.0 known.1 known.2
     (of_data a.env a.main a.main_type u v w c.in_ok-shapes.shapes.types c.in_ok-shapes.ensures.named c.in_ok-shapes.ensures.says c.in_ok-value.value c.in_ok-value.ensures.says r c.in_err-tree.ensures.says))
 
 pub line_of-requires-clause-named : goal.line_of-requires-clause-named

@@ -1,9 +1,8 @@
 use Rattle.std.proofs.Common.{subst, arith}
-use Rattle.std.proofs.lemmas.Result.{err_from_is_err_and}
 use Rattle.first_order.specs.Texts.{HasNames}
 use Rattle.driver.specs.Figures.{ExecutedSays}
 use Rattle.driver.proofs.ExecSaying.{figures_say, line_refused, run_refused, shared_says}
-use Rattle.driver.proofs.MadeSaying.{exit_at}
+use Rattle.driver.proofs.Answering.{exit_at}
 use Rattle.driver.proofs.SourceSaying.{names_there}
 use Rattle.driver.proofs.exec.execute.Goals as goal
 
@@ -12,8 +11,7 @@ returns-in_err-main-clause-says c =
     let q = c.args.request in
     let bytes = c.args.bytes.now in
     let r = c.in_err-main.field-0.0 in
-    let exit = err_from_is_err_and c.from_residual.result c.from_residual.ensures.1 in
-    exit_at (λ x. ExecutedSays q x bytes) c.from_residual.result r exit (shared_says q r bytes c.in_err-main.ensures.says)
+    exit_at (λ x. ExecutedSays q x bytes) c.from_residual.result r c.from_residual.ensures.1 (shared_says q r bytes c.in_err-main.ensures.says)
 
 pub measured-requires : goal.measured-requires
 measured-requires c =
@@ -27,8 +25,7 @@ returns-in_err-run-clause-says c =
     let q = c.args.request in
     let bytes = c.args.bytes.now in
     let r = c.in_err-run.field-0.0 in
-    let exit = err_from_is_err_and c.from_residual-in_err-run.result c.from_residual-in_err-run.ensures.1 in
-    exit_at (λ x. ExecutedSays q x bytes) c.from_residual-in_err-run.result r exit (run_refused q c.requires.range bytes c.in_ok-main.main c.in_ok-main.ensures.says r c.in_err-run.ensures.says)
+    exit_at (λ x. ExecutedSays q x bytes) c.from_residual-in_err-run.result r c.from_residual-in_err-run.ensures.1 (run_refused q c.requires.range bytes c.in_ok-main.main c.in_ok-main.ensures.says r c.in_err-run.ensures.says)
 
 pub line_of-requires : goal.line_of-requires
 line_of-requires c =
@@ -43,8 +40,7 @@ returns-in_err-line-clause-says c =
     let q = c.args.request in
     let bytes = c.args.bytes.now in
     let r = c.in_err-line.field-0.0 in
-    let exit = err_from_is_err_and c.from_residual-in_err-line.result c.from_residual-in_err-line.ensures.1 in
-    exit_at (λ x. ExecutedSays q x bytes) c.from_residual-in_err-line.result r exit
+    exit_at (λ x. ExecutedSays q x bytes) c.from_residual-in_err-line.result r c.from_residual-in_err-line.ensures.1
     (line_refused q c.requires.range bytes c.in_ok-main.main c.in_ok-main.ensures.says c.in_ok-run.run' c.in_ok-run.ensures.says r c.in_err-line.ensures.says)
 
 pub returns-clause-says : goal.returns-clause-says

@@ -1,11 +1,10 @@
 use Rattle.std.proofs.Common.{Err, refl, subst, arith}
-use Rattle.std.proofs.lemmas.Result.{err_from_is_err_and}
 use Rattle.command_line.specs.declared.job.Job.TheVariants.{Compile}
 use Rattle.driver.specs.ExecEnds.{ErasureSays}
 use Rattle.driver.specs.MadeModule.{by_search, by_erasure, by_passes}
 use Rattle.driver.specs.MainModule.{MakesSay}
-use Rattle.driver.proofs.Answering.{cause_of, checked_says}
-use Rattle.driver.proofs.MadeSaying.{accepting, searching, erasing, exit_at, make_says}
+use Rattle.driver.proofs.Answering.{cause_of, checked_says, exit_at}
+use Rattle.driver.proofs.MadeSaying.{accepting, searching, erasing, make_says}
 use Rattle.driver.proofs.Checking.{facts_given}
 use Rattle.driver.proofs.TextCauses.{within_limits}
 use Rattle.driver.proofs.main_module.main_module.Goals as goal
@@ -17,8 +16,7 @@ returns-in_err-accepted-clause-says c =
     let bytes = c.args.bytes.now in
     let s = within_limits bytes e c.in_ok-environment.ensures.exact in
     let r = c.in_err-accepted.field-0.0 in
-    let exit = err_from_is_err_and c.from_residual-in_err-accepted.result c.from_residual-in_err-accepted.ensures.1 in
-    exit_at (λ x. MakesSay q x bytes) c.from_residual-in_err-accepted.result r exit (checked_says Compile q r bytes e s tt (cause_of q.turns r e c.in_err-accepted.ensures.says))
+    exit_at (λ x. MakesSay q x bytes) c.from_residual-in_err-accepted.result r c.from_residual-in_err-accepted.ensures.1 (checked_says Compile q r bytes e s tt (cause_of q.turns r e c.in_err-accepted.ensures.says))
 
 pub returns-in_err-shapes-clause-says : goal.returns-in_err-shapes-clause-says
 returns-in_err-shapes-clause-says c =
@@ -30,8 +28,7 @@ returns-in_err-shapes-clause-says c =
     let known = c.in_ok-accepted.ensures.says in
     let u = c.accept_within.new.meter.account in
     let r = c.in_err-shapes.field-0.0 in
-    let exit = err_from_is_err_and c.from_residual-in_err-shapes.result c.from_residual-in_err-shapes.ensures.1 in
-    exit_at (λ x. MakesSay q x bytes) c.from_residual-in_err-shapes.result r exit
+    exit_at (λ x. MakesSay q x bytes) c.from_residual-in_err-shapes.result r c.from_residual-in_err-shapes.ensures.1
     (make_says q r bytes e s (by_search (accepting q e a.env a.main a.main_type u known.0 known.1 known.2) c.shapes_of.new.m.account c.in_err-shapes.ensures.says))
 
 pub erased-requires-clause-checked : goal.erased-requires-clause-checked
@@ -54,8 +51,7 @@ returns-in_err-program-clause-says c =
     let f = c.in_ok-shapes.ensures in
     let there = searching q e a.env a.main a.main_type u known.0 known.1 known.2 c.in_ok-shapes.shapes.types f.set f.named v f.says in
     let r = c.in_err-program.field-0.0 in
-    let exit = err_from_is_err_and c.from_residual-in_err-program.result c.from_residual-in_err-program.ensures.1 in
-    exit_at (λ x. MakesSay q x bytes) c.from_residual-in_err-program.result r exit
+    exit_at (λ x. MakesSay q x bytes) c.from_residual-in_err-program.result r c.from_residual-in_err-program.ensures.1
     (make_says q r bytes e s (by_erasure there w (subst (λ t. ErasureSays e a.env t v (Err r) w) known.1 c.in_err-program.ensures.says)))
 
 pub compiled-requires : goal.compiled-requires
@@ -74,8 +70,7 @@ returns-in_err-module-clause-says c =
     let g = c.in_ok-program.ensures in
     let there = erasing q e a.env a.main a.main_type u known.0 known.1 known.2 c.in_ok-shapes.shapes.types f.set f.named c.shapes_of.new.m.account f.says c.in_ok-program.program g.form g.sources g.erased c.erased.new.m.account g.says in
     let r = c.in_err-module.field-0.0 in
-    let exit = err_from_is_err_and c.from_residual-in_err-module.result c.from_residual-in_err-module.ensures.1 in
-    exit_at (λ x. MakesSay q x bytes) c.from_residual-in_err-module.result r exit (make_says q r bytes e s (by_passes there c.in_err-module.ensures.says))
+    exit_at (λ x. MakesSay q x bytes) c.from_residual-in_err-module.result r c.from_residual-in_err-module.ensures.1 (make_says q r bytes e s (by_passes there c.in_err-module.ensures.says))
 
 pub returns-clause-says : goal.returns-clause-says
 returns-clause-says c =

@@ -1,25 +1,22 @@
 use Rattle.std.proofs.Common.{ℕ, sym, subst}
 use Rattle.std.specs.Prelude.{Vec}
 use Rattle.std.specs.declared.alloc.Global.{Global}
-use Rattle.std.proofs.lemmas.Result.{err_from_is_err_and}
 use Rattle.driver.specs.Serve.{IsInputOf, Says}
 use Rattle.command_line.specs.Line.{words_of}
-use Rattle.driver.proofs.MadeSaying.{exit_at}
+use Rattle.driver.proofs.Answering.{exit_at}
 use Rattle.driver.proofs.Inputs.{answer_says, input_says, job_facts, request_says}
 use Rattle.driver.proofs.top.answer.Goals as goal
 
 pub returns-in_err-request-clause-says : goal.returns-in_err-request-clause-says
 returns-in_err-request-clause-says g c =
     let r = c.in_err-request.field-0.0 in
-    let exit = err_from_is_err_and c.from_residual.result c.from_residual.ensures.1 in
-    exit_at (λ x. Says {V = Vec ℕ Global} (λ v. v.items) x (words_of c.args.words.now) (g.S.Source.left c.args.src.now) (g.S.Source.faults c.args.src.now) (g.S.Source.faults c.args.src.now)) c.from_residual.result r exit
+    exit_at (λ x. Says {V = Vec ℕ Global} (λ v. v.items) x (words_of c.args.words.now) (g.S.Source.left c.args.src.now) (g.S.Source.faults c.args.src.now) (g.S.Source.faults c.args.src.now)) c.from_residual.result r c.from_residual.ensures.1
     (request_says {V = Vec ℕ Global} (λ v. v.items) (words_of c.args.words.now) (g.S.Source.left c.args.src.now) (g.S.Source.faults c.args.src.now) (g.S.Source.faults c.args.src.now) r c.in_err-request.ensures.says)
 
 pub returns-in_err-bytes-clause-says : goal.returns-in_err-bytes-clause-says
 returns-in_err-bytes-clause-says g c =
     let r = c.in_err-bytes.field-0.0 in
-    let exit = err_from_is_err_and c.from_residual-in_err-bytes.result c.from_residual-in_err-bytes.ensures.1 in
-    exit_at (λ x. Says {V = Vec ℕ Global} (λ v. v.items) x (words_of c.args.words.now) (g.S.Source.left c.args.src.now) (g.S.Source.faults c.args.src.now) (g.S.Source.faults c.input_of.new.src)) c.from_residual-in_err-bytes.result r exit
+    exit_at (λ x. Says {V = Vec ℕ Global} (λ v. v.items) x (words_of c.args.words.now) (g.S.Source.left c.args.src.now) (g.S.Source.faults c.args.src.now) (g.S.Source.faults c.input_of.new.src)) c.from_residual-in_err-bytes.result r c.from_residual-in_err-bytes.ensures.1
     (input_says {V = Vec ℕ Global} (λ v. v.items) (words_of c.args.words.now) (g.S.Source.left c.args.src.now) (g.S.Source.faults c.args.src.now) (g.S.Source.faults c.input_of.new.src) c.in_ok-request.request c.in_ok-request.ensures.reads r c.in_err-bytes.ensures.says)
 
 pub returns-clause-says : goal.returns-clause-says

@@ -1,10 +1,10 @@
--- A call with reports, with the lines of the reports left out.
+-- What a call with reports promises, with the lines of the reports taken off err.
 use Rattle.std.proofs.Common.{ℕ, zero, suc, List, Option, Some, None, inl, refl, le_refl}
 use Rattle.kio.specs.Known.{StillTells}
 use Rattle.reports.specs.Shown.{Shown}
 use Rattle.report_lines.proofs.PartByPart.{appends_none}
 use Rattle.driver.specs.Served.{Seen, Served, IsKept}
-use Rattle.serve_laws.specs.Laws.{HasQuietCall}
+use Rattle.serve_laws.specs.Laws.{KeepsPromises}
 
 tells_itself : (t : Option (List ℕ)) → StillTells t t
 tells_itself None = tt
@@ -13,9 +13,9 @@ tells_itself (Some x) = tt
 kept : {X : Type 0} (x : Seen X) → IsKept x x
 kept x = record { count = le_refl x.faults; tells = tells_itself x.told }
 
-pub quiet_call : {S K E : Type 0} (status : ℕ) (words : List (List ℕ)) (reports : List Shown) (src src' : Seen S) (out out' : Seen K) (err err' : Seen E) →
-    Served status words reports src src' out out' err err' → HasQuietCall status words src src' out out' err err'
-quiet_call zero words reports src src' out out' err err' s = record {
+pub without_reports : {S K E : Type 0} (status : ℕ) (words : List (List ℕ)) (reports : List Shown) (src src' : Seen S) (out out' : Seen K) (err err' : Seen E) →
+    Served status words reports src src' out out' err err' → KeepsPromises status words src src' out out' err err'
+without_reports zero words reports src src' out out' err err' s = record {
   left = err;
   served = record {
     done = s.done;
@@ -46,7 +46,7 @@ quiet_call zero words reports src src' out out' err err' s = record {
   untouched = λ z. refl;
   alike = λ n. absurd (n refl);
 }
-quiet_call (suc n) words reports src src' out out' err err' s = record {
+without_reports (suc n) words reports src src' out out' err err' s = record {
   left = err';
   served = record {
     done = s.done;

@@ -1,0 +1,2 @@
+pub mod ReadableValues
+pub mod StuckRuns
