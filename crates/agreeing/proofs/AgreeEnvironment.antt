@@ -4,17 +4,17 @@ use Rattle.universe_levels.specs.declared.level.Level.{Level}
 use Rattle.universe_levels.specs.declared.constraint.Constraint.{Constraint}
 use Rattle.pc_terms.specs.declared.leaf.Name.{Name}
 use Rattle.pc_terms.specs.Syntax.{Term}
-use Rattle.pc_rules.specs.declared.declaration.Kept.{Kept}
-use Rattle.pc_rules.specs.declared.declaration.Kept.TheVariants.{Constant, Block as Whole}
+use Rattle.calculus_rules.specs.declared.declaration.Kept.{Kept}
+use Rattle.calculus_rules.specs.declared.declaration.Kept.TheVariants.{Constant, Block as Whole}
 use Rattle.pc_rules.specs.declared.broken.Broken.TheVariants.{DuplicateName}
 use Rattle.pc_rules.specs.declared.broken.Place.{Place}
 use Rattle.pc_rules.specs.declared.broken.Place.TheVariants.{Declaration as AtDeclaration, Main as AtMain}
 use Rattle.pc_rules.specs.declared.meter.Account.{Account}
-use Rattle.pc_rules.specs.Environment.{Env}
-use Rattle.pc_rules.specs.Accepted.{env}
+use Rattle.calculus_rules.specs.Environment.{Env}
+use Rattle.calculus_rules.specs.Accepted.{env}
 use Rattle.pc_rules.specs.DirectedRun as run
 use Rattle.pc_rules.specs.DirectedRun.{Run}
-use Rattle.pc_rules.specs.DirectedWeakHead.{kept_at}
+use Rattle.calculus_rules.specs.Lookups.{kept_at}
 use Rattle.pc_rules.specs.DirectedComparison.{Test, Comparison, compare}
 use Rattle.pc_rules.specs.DirectedTyping.{Typing, infer}
 use Rattle.pc_rules.specs.DirectedPlaces.{Outcome, Gives, Breaks, Spends, Nests, Placed, gives, outcome_at, at_place, outcome_then, and_then}

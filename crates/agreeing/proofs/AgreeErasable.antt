@@ -4,18 +4,20 @@ use Rattle.universe_levels.specs.declared.sort.Sort.{Sort}
 use Rattle.pc_terms.specs.declared.leaf.FamilyId.{FamilyId}
 use Rattle.pc_terms.specs.Syntax.{Term, SortT, Prod, Construct, Case}
 use Rattle.std.specs.Prelude.{List}
-use Rattle.pc_rules.specs.declared.declaration.Constructor.{Constructor}
-use Rattle.pc_rules.specs.declared.entry.Entry.TheVariants.{Assumed}
+use Rattle.calculus_rules.specs.declared.declaration.Constructor.{Constructor}
+use Rattle.calculus_rules.specs.declared.entry.Entry.TheVariants.{Assumed}
 use Rattle.pc_rules.specs.declared.meter.Account.{Account}
-use Rattle.pc_rules.specs.Environment.{Env, FamilyDecl}
-use Rattle.pc_rules.specs.Context.{Context, values, extend}
-use Rattle.pc_rules.specs.Instances.{predicate_entries}
-use Rattle.pc_rules.specs.declared.evidence.Evidence.TheVariants.{Arity, PropMatch, PropConstructor}
+use Rattle.calculus_rules.specs.Environment.{Env, FamilyDecl}
+use Rattle.calculus_rules.specs.Context.{Context, values, extend}
+use Rattle.calculus_rules.specs.Instances.{predicate_entries}
+use Rattle.calculus_rules.specs.declared.evidence.Evidence.TheVariants.{Arity, PropMatch, PropConstructor}
 use Rattle.pc_rules.specs.DirectedRun.{Run, no_unit, is_beyond, any_beyond}
-use Rattle.pc_rules.specs.DirectedWeakHead.{weak_next, family_of}
-use Rattle.pc_rules.specs.DirectedComparison.{list_of}
+use Rattle.calculus_rules.specs.Lookups.{family_of}
+use Rattle.pc_rules.specs.DirectedWeakHead.{weak_next}
+use Rattle.calculus_rules.specs.Listed.{list_of}
 use Rattle.pc_rules.specs.DirectedTyping.{Typing}
-use Rattle.pc_rules.specs.DirectedErasable.{is_prop, Ending, ending_on, end_of, ends_in_sort, arity_found, type_test, numbered_test, constructor_test, match_test, erasable_test}
+use Rattle.pc_rules.specs.DirectedErasable.{Ending, ending_on, end_of, ends_in_sort, arity_found, type_test, numbered_test, constructor_test, match_test, erasable_test}
+use Rattle.calculus_rules.specs.PropSorts.{is_prop}
 use Rattle.agreeing.proofs.Agree.{IsAgreeing, agree_done, agree_passing, agree_spent, agree_with_spent, agree_if, agree_bind, agree_ticking}
 use Rattle.agreeing.proofs.AgreeTyping.{AgreeTyping, agree_sort_of}
 

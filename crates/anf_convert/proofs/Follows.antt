@@ -11,7 +11,7 @@ use Rattle.lambda_box.specs.ClosureEvaluation.{Value, VBox, VConstruct, VClosure
 use Rattle.anf_convert.specs.Anf.{Atom, AnfOp, AppOp, AnfBlock, Bind, AnfProgram, def_count}
 use Rattle.anf_convert.specs.Captured.{Scope, Outside, Plain, depth, plains, shares, fix_captured}
 use Rattle.anf_convert.specs.AnfEvaluation.{AnfVal, WBox, WCon, WClos, WFix, AnfVals, WNil, WCons, count, ◌+w◌, fixes, LamAt, lam_here, lam_after_lam, lam_after_box, BoxAt, box_here, box_after_lam, box_after_box, AnfBranchAt, at_branch, after_branch, Gives, AnfDoes, op_const, op_app, op_app_box, op_app_fix, op_app_fix_box, op_lam, op_fix, op_case, AnfGets, AnfAnswers, main_alone, main_applied}
-use Rattle.anf_convert.specs.AnfData.{Data, Datas, AnfIsData, anf_data, AnfAreData, anf_data_none, anf_data_more}
+use Rattle.anf_convert.specs.AnfData.{DataTree, DataTrees, AnfIsData, anf_data, AnfAreData, anf_data_none, anf_data_more}
 use Rattle.anf_convert.specs.ToAnf.{Level, LVar, Binding, OpIs, Res, RAtom, RCon, ROp, Norm, binding_of, sealed, with_variable, named, levels, call, name_at, then_arg, then_body, then_case, just, norm, norm_branches, norm_defs, code_of, number_in, to_anf}
 use Rattle.anf_convert.specs.ToAnfKeeps.{AreUnder, Ready, ReadyTerms, BoxAnswers, box_alone, box_applied, ValueIs, value_is, ValuesAre, no_values, and_value, ToAnfKeeps}
 use Rattle.anf_convert.proofs.Levels.{Ext, ext_same, ext_push, ext_trans, top_word, VR, vr_box, vr_con, vr_clos, vr_fix, VRs, vrs_nil, vrs_cons, ER, er_empty, er_bind, er_fix, vrs_size, er_ext, HeldAt, holds_word, holds_fix, held_at, AtLevel, l_word, l_fix, l_box, AllLevels, ls_none, ls_more, level_ext, levels_ext, gives, levels_size, plains_size, er_args, fixes_size, fixes_ext, fixes_at}
@@ -474,22 +474,22 @@ module _ (P : BoxProgram) (K : Name → ℕ) (Q : AnfProgram) (W : ℕ) where
           arg_done d (λ d'. norm K env d' a) eq (anf_args r1 ok.1.0 (omega arith) env ys s w d eq er) (λ g f d' x eq'. anf r2 ok.1.1.0 (omega arith) env ys g f d' eq' (er_ext x er)) (omega arith) (omega arith) (omega arith)
 
   mutual
-    keeps_data : {v : Value} {u : AnfVal} {d : Data} → VR P K v u → ValueIs v d → AnfIsData u d
+    keeps_data : {v : Value} {u : AnfVal} {d : DataTree} → VR P K v u → ValueIs v d → AnfIsData u d
     keeps_data (vr_con gs) (value_is hs) = anf_data (keeps_all gs hs)
     keeps_data vr_box h = elim h [ ]
     keeps_data (vr_clos d eq ok er) h = elim h [ ]
     keeps_data (vr_fix d eq under ok er) h = elim h [ ]
 
-    keeps_all : {vs : Values} {us : AnfVals} {ds : Datas} → VRs P K vs us → ValuesAre vs ds → AnfAreData us ds
+    keeps_all : {vs : Values} {us : AnfVals} {ds : DataTrees} → VRs P K vs us → ValuesAre vs ds → AnfAreData us ds
     keeps_all vrs_nil no_values = anf_data_none
     keeps_all (vrs_cons g gs) (and_value h hs) = anf_data_more (keeps_data g h) (keeps_all gs hs)
 
   -- data is the same
   mutual
-    data_related : {v : Value} {u : AnfVal} {d : Data} → ValueIs v d → AnfIsData u d → VR P K v u
+    data_related : {v : Value} {u : AnfVal} {d : DataTree} → ValueIs v d → AnfIsData u d → VR P K v u
     data_related (value_is hs) (anf_data gs) = vr_con (data_all hs gs)
 
-    data_all : {vs : Values} {us : AnfVals} {ds : Datas} → ValuesAre vs ds → AnfAreData us ds → VRs P K vs us
+    data_all : {vs : Values} {us : AnfVals} {ds : DataTrees} → ValuesAre vs ds → AnfAreData us ds → VRs P K vs us
     data_all no_values anf_data_none = vrs_nil
     data_all (and_value h hs) (anf_data_more g gs) = vrs_cons (data_related h g) (data_all hs gs)
 

@@ -1,18 +1,18 @@
 -- Values as data.
 use Rattle.std.proofs.Common.{◌≡◌, ℕ, suc, List, ◌∷◌, ◌++◌, refl, ap, ◌∙◌}
 use Rattle.lambda_box.specs.ClosureEvaluation.{Value, Values, size, ValueReads, value_reads, ValuesRead, no_values, and_then}
-use Rattle.anf_convert.specs.AnfData.{Data, Made, Datas, DNil, DCons}
+use Rattle.anf_convert.specs.AnfData.{DataTree, Made, DataTrees, DNil, DCons}
 use Rattle.anf_convert.specs.ToAnfKeeps.{ValueIs, value_is, ValuesAre, and_value}
 use Rattle.anf_convert.specs.ToAnfKeeps as keeps
 use Rattle.anf_convert.specs.Preorder.{fields_of, preorder, preorders, ReadsTree}
 
 record Tree (v : Value) (ns : List (ℕ × ℕ)) : Type 0 where
-  d : Data
+  d : DataTree
   is : ValueIs v d
   same : preorder d ≡ ns
 
 record Trees (vs : Values) (ns : List (ℕ × ℕ)) : Type 0 where
-  ds : Datas
+  ds : DataTrees
   are : ValuesAre vs ds
   size : fields_of ds ≡ size vs
   same : preorders ds ≡ ns

@@ -8,7 +8,7 @@ use Rattle.lambda_box.specs.BoxProgram.{BoxFamily, BoxProgram, KeepsBoxConstant,
 use Rattle.lambda_box.specs.ClosureEvaluation.{Value, VConstruct, Values, NoValue, Then, Empty, Bind, Counts, ◌⊕◌, Run}
 use Rattle.anf_convert.specs.Anf.{AnfProgram}
 use Rattle.anf_convert.specs.AnfEvaluation.{AnfVal, AnfVals, AnfAnswers}
-use Rattle.anf_convert.specs.AnfData.{Data, Made, Datas, DNil, DCons, AnfIsData, AnfAreData}
+use Rattle.anf_convert.specs.AnfData.{DataTree, Made, DataTrees, DNil, DCons, AnfIsData, AnfAreData}
 use Rattle.anf_convert.specs.ToAnf.{to_anf}
 
 -- one definition for each recursive argument, each under all n of them
@@ -38,12 +38,12 @@ abbrev mutual
   ReadyTerms P (Next n t ts) = Ready P t × ReadyTerms P ts
 
 mutual
-  pub data ValueIs : Value → Data → Type 0 where
-    value_is : {f : FamilyId} {c : ℕ} {vs : Values} {ds : Datas} → ValuesAre vs ds → ValueIs (VConstruct f c vs) (Made c ds)
+  pub data ValueIs : Value → DataTree → Type 0 where
+    value_is : {f : FamilyId} {c : ℕ} {vs : Values} {ds : DataTrees} → ValuesAre vs ds → ValueIs (VConstruct f c vs) (Made c ds)
 
-  pub data ValuesAre : Values → Datas → Type 0 where
+  pub data ValuesAre : Values → DataTrees → Type 0 where
     no_values : ValuesAre NoValue DNil
-    and_value : {v : Value} {vs : Values} {d : Data} {ds : Datas} → ValueIs v d → ValuesAre vs ds → ValuesAre (Then v vs) (DCons d ds)
+    and_value : {v : Value} {vs : Values} {d : DataTree} {ds : DataTrees} → ValueIs v d → ValuesAre vs ds → ValuesAre (Then v vs) (DCons d ds)
 
 -- main, applied to these values, the last one first
 pub data BoxAnswers (P : BoxProgram) : Values → Value → Counts → Type 0 where
@@ -52,7 +52,7 @@ pub data BoxAnswers (P : BoxProgram) : Values → Value → Counts → Type 0 wh
 
 -- main of the program in A-normal form, applied to these values, gives the data, with as many matches and blocks as these counts, no more contractions and no
 -- wider block
-pub record AnfGivesData (Q : AnfProgram) (args : AnfVals) (d : Data) (c : Counts) : Type 0 where
+pub record AnfGivesData (Q : AnfProgram) (args : AnfVals) (d : DataTree) (c : Counts) : Type 0 where
   pub v : AnfVal
   pub contractions : ℕ
   pub words : ℕ
@@ -68,7 +68,7 @@ pub record IsReady (P : BoxProgram) : Type 0 where
 
 -- where main of the one, applied to values that are data, gives data, so does main of the other, applied to the same data
 abbrev pub KeepsAnswers : BoxProgram → AnfProgram → Type 0
-KeepsAnswers P Q = (args : Values) (args' : AnfVals) (ds : Datas) (v : Value) (d : Data) (c : Counts) → IsReady P → ValuesAre args ds → AnfAreData args' ds → BoxAnswers P args v c → ValueIs v d → AnfGivesData Q args' d c
+KeepsAnswers P Q = (args : Values) (args' : AnfVals) (ds : DataTrees) (v : Value) (d : DataTree) (c : Counts) → IsReady P → ValuesAre args ds → AnfAreData args' ds → BoxAnswers P args v c → ValueIs v d → AnfGivesData Q args' d c
 
 -- so it is with the translation of a program of which constructors stand with all their arguments, and matches on propositional families are gone
 abbrev pub ToAnfKeeps : Type 0

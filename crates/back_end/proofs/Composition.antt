@@ -2,7 +2,7 @@
 use Rattle.std.proofs.Common.{ℕ, ◌+◌, ◌*◌, ◌≤◌, arith, ◌<◌}
 use Rattle.lambda_box.specs.ClosureEvaluation.{NoValue, Value, Empty, Counts, Run}
 use Rattle.anf_convert.specs.AnfEvaluation.{WNil}
-use Rattle.anf_convert.specs.AnfData.{DNil, anf_data_none, Data}
+use Rattle.anf_convert.specs.AnfData.{DNil, anf_data_none, DataTree}
 use Rattle.anf_convert.proofs.Words.{words_bound}
 use Rattle.anf_convert.specs.ToAnf.{to_anf}
 use Rattle.anf_convert.specs.ToAnfKeeps.{box_alone, no_values, IsReady, ValueIs}
@@ -18,13 +18,13 @@ use Rattle.wasm_emit.specs.EmittedModule.{module_of}
 use Rattle.wasm_emit.specs.EmitLaws.{Emitted}
 
 -- what every run of the module does, by the counts of the evaluation; the blocks take no more words than their number times the words of the greatest
-pub record Runs (P : BoxProgram) (pages m : ℕ) (d : Data) (c : Counts) : Type 0 where
+pub record Runs (P : BoxProgram) (pages m : ℕ) (d : DataTree) (c : Counts) : Type 0 where
   pub words : ℕ
   pub few : words ≤ c.blocks * c.greatest
   pub runs : Emitted (lift (to_anf P)) pages c.greatest m d c.contractions c.matches c.blocks words
 
 abbrev pub BackEnd : Type 0
-BackEnd = (P : BoxProgram) (pages m : ℕ) (v : Value) (d : Data) (c : Counts) → 0 < pages → pages ≤ 16384 → 0 < m → IsReady P → ProgramFits P m → Limits (lift (to_anf P)) → Run P Empty P.main v c → ValueIs v d → Runs P pages m d c
+BackEnd = (P : BoxProgram) (pages m : ℕ) (v : Value) (d : DataTree) (c : Counts) → 0 < pages → pages ≤ 16384 → 0 < m → IsReady P → ProgramFits P m → Limits (lift (to_anf P)) → Run P Empty P.main v c → ValueIs v d → Runs P pages m d c
 
 abbrev pub BackEndValid : Type 0
 BackEndValid = (P : BoxProgram) (pages m : ℕ) → 0 < pages → pages ≤ 16384 → ProgramFits P m → IsValid (module_of (lift (to_anf P)) pages)

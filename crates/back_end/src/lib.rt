@@ -6,7 +6,7 @@
 //! the number of nodes of the evaluation gives (`steps_and_memory_are_bounded`), and no sooner than after as many steps as there are matches
 //! (`answers_take_as_many_steps_as_matches`). Its shortest bytes and its locals are bounded by the nodes of the saturated program (`modules_are_small`). Nothing is asked of the program's source.
 //!
-//! Below stand the crates of the passes, `lambda_box` and `wasm_emit`.
+//! Below stand the crates of the passes, `lambda_box` and `wasm_emit`; above stand `compile`, whose code makes that module, and `headline`.
 #![tactic(auto)]
 
 ghost use Rattle.back_end.specs.BackEnd.{ModulesAnswer, ModulesAreValid, ModulesCanBeSpelled};

@@ -10,7 +10,7 @@
 //!
 //! `program_text` gives exactly the text that `specs/BoxText.antt` defines (`is`), and has no refusal but want of memory.
 //!
-//! Below stand `box_terms` (programs) and `dump_reader` (names by number); no crate stands above.
+//! Below stand `box_terms` (programs) and `dump_reader` (names by number); above stands `erase_rows`, whose rows are programs after erasure.
 #![tactic(auto)]
 
 mod items;

@@ -7,7 +7,7 @@ use Rattle.anf_convert.specs.Captured.{Scope, Outside, Plain, depth, Word, Words
 use Rattle.anf_convert.specs.AnfEvaluation.{AnfVal, WBox, WCon, WClos, WFix, AnfVals, WNil, WCons, count, ◌+w◌, fixes, LamAt, BoxAt, AnfBranchAt, at_branch, after_branch, Gives, give_word, give_fix, give_none, give_more, AnfDoes, op_const, op_app, op_app_box, op_app_fix, op_app_fix_box, op_con, op_lam, op_fix, op_case, AnfGets, block_atom, block_op, block_let, block_bind, AnfAnswers, main_alone, main_applied}
 use Rattle.closure_lift.specs.Lifted.{OApp, Block, RetAtom, LetAtom, Ret, Let, Program, Val, VBox, VCon, VClos, Vals, VNil, VCons, size, ◌+v◌, BranchAt, Is, is_var, is_box, AllAre, are_none, are_more, Does, do_const, do_app, do_box_app, do_con, do_clos, do_case, Gets, gets_atom, gets_let_atom, gets_ret, gets_let, Answers, answers_alone, answers_applied}
 use Rattle.closure_lift.specs.Lift.{Slot, Holds, held, atom, closures, atoms_of, op_functions, unnumbered, numbered, holding, lift_op, lift_block, lift_branches, functions_op, functions_block, functions_branches, constants_functions, lift}
-use Rattle.anf_convert.specs.AnfData.{Data, Datas, AnfIsData, anf_data, AnfAreData, anf_data_none, anf_data_more}
+use Rattle.anf_convert.specs.AnfData.{DataTree, DataTrees, AnfIsData, anf_data, AnfAreData, anf_data_none, anf_data_more}
 use Rattle.closure_lift.specs.LiftKeeps.{IsData, is_data, AreData, are_data_none, are_data_more, LiftKeeps}
 use Rattle.closure_lift.proofs.Covering.{In, Covers, holds_all, covers_bind, covers_plains, lam_covers, fix_covers}
 use Rattle.anf_convert.proofs.Scopes.{Each, each_split, each_join, each_all, captured_each}
@@ -259,21 +259,21 @@ module _ (Q : AnfProgram) (w : ℕ) where
 
   -- data is the same
   mutual
-    pub data_related : {v : AnfVal} {u : Val} {d : Data} → AnfIsData v d → IsData u d → VR P v u
+    pub data_related : {v : AnfVal} {u : Val} {d : DataTree} → AnfIsData v d → IsData u d → VR P v u
     data_related (anf_data hs) (is_data gs) = vr_con (data_all hs gs)
 
-    data_all : {vs : AnfVals} {us : Vals} {ds : Datas} → AnfAreData vs ds → AreData us ds → VRs P vs us
+    data_all : {vs : AnfVals} {us : Vals} {ds : DataTrees} → AnfAreData vs ds → AreData us ds → VRs P vs us
     data_all anf_data_none are_data_none = vrs_nil
     data_all (anf_data_more h hs) (are_data_more g gs) = vrs_cons (data_related h g) (data_all hs gs)
 
   mutual
-    pub keeps_data : {v : AnfVal} {u : Val} {d : Data} → VR P v u → AnfIsData v d → IsData u d
+    pub keeps_data : {v : AnfVal} {u : Val} {d : DataTree} → VR P v u → AnfIsData v d → IsData u d
     keeps_data (vr_con gs) (anf_data hs) = is_data (keeps_all gs hs)
     keeps_data vr_box h = elim h [ ]
     keeps_data (vr_clos er sz p) h = elim h [ ]
     keeps_data (vr_fix er sz p n) h = elim h [ ]
 
-    keeps_all : {vs : AnfVals} {us : Vals} {ds : Datas} → VRs P vs us → AnfAreData vs ds → AreData us ds
+    keeps_all : {vs : AnfVals} {us : Vals} {ds : DataTrees} → VRs P vs us → AnfAreData vs ds → AreData us ds
     keeps_all vrs_nil anf_data_none = are_data_none
     keeps_all (vrs_cons g gs) (anf_data_more h hs) = are_data_more (keeps_data g h) (keeps_all gs hs)
 

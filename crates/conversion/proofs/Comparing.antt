@@ -7,24 +7,26 @@ use Rattle.pc_terms.specs.declared.term.Branch.{Branch}
 use Rattle.pc_terms.specs.declared.term.Match.{Match}
 use Rattle.pc_terms.specs.declared.term.MakeFault.{MakeFault}
 use Rattle.pc_terms.specs.declared.term.MakeFault.TheVariants.{TooDeep as DeepTerm, Memory as NoTerm}
-use Rattle.pc_rules.specs.declared.declaration.Constructor.{Constructor}
+use Rattle.calculus_rules.specs.declared.declaration.Constructor.{Constructor}
 use Rattle.pc_rules.specs.declared.meter.Meter.{Meter}
 use Rattle.pc_rules.specs.declared.stop.Stop.TheVariants.{Spent, TooDeep}
 use Rattle.pc_rules.specs.declared.stop.Halt.{Halt}
 use Rattle.pc_rules.specs.declared.stop.Halt.TheVariants.{Stop, Broken as Refusal}
 use Rattle.pc_rules.specs.declared.broken.Broken.TheVariants.{NotBelow}
 use Rattle.pc_rules.specs.declared.broken.Clash.TheVariants.{Terms as ClashOfTerms}
-use Rattle.pc_rules.specs.Environment.{Env, FamilyDecl}
-use Rattle.pc_rules.specs.Context.{Context, extend}
-use Rattle.pc_rules.specs.Instances.{predicate_entries, branch_entries}
+use Rattle.calculus_rules.specs.Environment.{Env, FamilyDecl}
+use Rattle.calculus_rules.specs.Context.{Context, extend}
+use Rattle.calculus_rules.specs.Instances.{predicate_entries, branch_entries}
 use Rattle.pc_rules.specs.Stops.{stop_of}
 use Rattle.pc_rules.specs.Entailment.{test_of}
 use Rattle.pc_rules.specs.Follows.{Follows}
 use Rattle.pc_rules.specs.DirectedRun.{Act, ticked, too_nested, passing, any_beyond, refused, bind, run_all}
-use Rattle.pc_rules.specs.DirectedWeakHead.{family_of}
-use Rattle.pc_rules.specs.DirectedComparison.{Test, Comparison, compare, entered, entering, each_equal, branches_equal, matches_equal, heads_equal, spines_equal, alike, list_of}
+use Rattle.calculus_rules.specs.Lookups.{family_of}
+use Rattle.calculus_rules.specs.Listed.{list_of}
+use Rattle.pc_rules.specs.DirectedComparison.{Test, Comparison, compare, entered, entering, each_equal, branches_equal, matches_equal, heads_equal, spines_equal, alike}
 use Rattle.pc_rules.proofs.Following.{follows_spent, follows_nested, follows_entered, follows_bind, follows_err, follows_deep, follows_memory, follows_passing, follows_none, follows_next, follows_first_err, follows_then, follows_else, follows_refused}
-use Rattle.pc_rules.proofs.ListSteps.{next_is, none_left, min_either, listed}
+use Rattle.pc_rules.proofs.ListSteps.{next_is, none_left, min_either}
+use Rattle.calculus_rules.proofs.Listing.{listed}
 
 -- the comparison with room for so many rules
 abbrev pub at_room : Env → ℕ → Comparison

@@ -7,8 +7,8 @@ use Rattle.pc_terms.specs.View.{tree_of}
 use Rattle.pc_terms.specs.declared.term.Node.{Node}
 use Rattle.pc_terms.specs.declared.term.Node.TheVariants.{Sort, Prod, Lambda}
 use Rattle.pc_rules.specs.declared.meter.Account.{Account}
-use Rattle.pc_rules.specs.Environment.{Env}
-use Rattle.pc_rules.specs.Context.{Context}
+use Rattle.calculus_rules.specs.Environment.{Env}
+use Rattle.calculus_rules.specs.Context.{Context}
 use Rattle.pc_rules.specs.DirectedComparison.{Test, Comparison, pair, spines_equal}
 
 module _ (E : Env) (q : Test) (cmp : Comparison) (c : Context) (equal : Bool) (u : Account) where

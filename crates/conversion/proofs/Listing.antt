@@ -9,7 +9,7 @@ use Rattle.pc_terms.specs.declared.term.Branch.{Branch}
 use Rattle.pc_terms.specs.declared.term.Def.{Def}
 use Rattle.pc_terms.specs.declared.term.Match.{Match}
 use Rattle.pc_terms.specs.declared.term.Node.TheVariants.{Case}
-use Rattle.pc_rules.specs.Same.{same_numbers, same_families}
+use Rattle.calculus_rules.specs.Same.{same_numbers, same_families}
 use Rattle.pc_rules.specs.DirectedComparison.{alike}
 use Rattle.pc_rules.proofs.ListSteps.{next_is}
 

@@ -7,16 +7,16 @@ use Rattle.pc_terms.specs.Syntax.{Term, Terms, SortT, Prod, Lambda, Case, Fix, h
 use Rattle.pc_terms.specs.Lists.{arms_of}
 use Rattle.pc_terms.specs.declared.leaf.FamilyId.{FamilyId}
 use Rattle.pc_terms.specs.declared.term.Branch.{Branch}
-use Rattle.pc_rules.specs.declared.entry.Entry.TheVariants.{Assumed}
-use Rattle.pc_rules.specs.Environment.{Env}
-use Rattle.pc_rules.specs.Context.{Context, Values, values, extend}
-use Rattle.pc_rules.specs.WeakHead.{WeakSteps}
+use Rattle.calculus_rules.specs.declared.entry.Entry.TheVariants.{Assumed}
+use Rattle.calculus_rules.specs.Environment.{Env}
+use Rattle.calculus_rules.specs.Context.{Context, Values, values, extend}
+use Rattle.calculus_rules.specs.WeakHead.{WeakSteps}
 use Rattle.pc_rules.specs.WellCounted.{IsCounted, AreCounted, AreCountedValues}
-use Rattle.pc_rules.specs.DirectedComparison.{list_of}
+use Rattle.calculus_rules.specs.Listed.{list_of}
 use Rattle.rule_laws.proofs.Counted.{head_counted, args_counted, list_counted}
 use Rattle.rule_laws.proofs.KeepCounts.{steps_counted}
 use Rattle.conversion.specs.Comparable.{AreComparable}
-use Rattle.pc_rules.proofs.ListSteps.{listed}
+use Rattle.calculus_rules.proofs.Listing.{listed}
 
 -- the entries of a telescope have no values
 pub extended_values : (E : Env) (c : Context) (As : List Term) → AreCountedValues E (values c) → AreCountedValues E (values (extend c As))

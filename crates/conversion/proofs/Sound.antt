@@ -2,13 +2,13 @@
 use Rattle.std.proofs.Common.{◌≡◌, ℕ, Result, Ok, Err, IfOk, Bool, true, false, [], ◌∷◌}
 use Rattle.universe_levels.specs.Consistency.{IsConsistent}
 use Rattle.pc_terms.specs.Syntax.{Term}
-use Rattle.pc_rules.specs.declared.entry.Entry.TheVariants.{Assumed, Defined}
+use Rattle.calculus_rules.specs.declared.entry.Entry.TheVariants.{Assumed, Defined}
 use Rattle.pc_rules.specs.declared.meter.Account.{Account}
 use Rattle.pc_rules.specs.declared.meter.Meter.{Meter}
 use Rattle.pc_rules.specs.declared.stop.Halt.{Halt}
-use Rattle.pc_rules.specs.Environment.{Env}
-use Rattle.pc_rules.specs.Context.{Context, values}
-use Rattle.pc_rules.specs.Conversion.{Equal, Below}
+use Rattle.calculus_rules.specs.Environment.{Env}
+use Rattle.calculus_rules.specs.Context.{Context, values}
+use Rattle.calculus_rules.specs.Conversion.{Equal, Below}
 use Rattle.pc_rules.specs.Entailment.{test_of}
 use Rattle.pc_rules.specs.Follows.{Follows}
 use Rattle.pc_rules.specs.WellCounted.{IsCounted, AreCountedValues, IsCountedContext, IsCountedEnv}

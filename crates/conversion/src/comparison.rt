@@ -1,15 +1,15 @@
 //! Comparison by weak-head normal forms.
 ghost use Rattle.std.specs.Prelude.{◌≡◌, ◌+◌, [], ◌∷◌};
-ghost use Rattle.pc_rules.specs.Context.{values};
+ghost use Rattle.calculus_rules.specs.Context.{values};
 ghost use Rattle.pc_rules.specs.Entailment.{test_of};
 ghost use Rattle.pc_rules.specs.Follows.{Follows};
 ghost use Rattle.pc_rules.specs.DirectedComparison.{compare, entered, pair};
 ghost use Rattle.conversion.specs.Comparable.{AreComparable};
 
 use crate::sorts::compare_sorts;
+use calculus_rules::entry::Entry;
 use pc_rules::context::Ctx;
 use pc_rules::converter::Converter;
-use pc_rules::entry::Entry;
 use pc_rules::environment::Env;
 use pc_rules::meter::Meter;
 use pc_rules::reducer::Reducer;

@@ -1,11 +1,9 @@
 //! The parts of the definitions of a fixpoint.
-ghost use Rattle.std.specs.Prelude.{◌≡◌, IfOk, IfErr, IsTrue, length};
+ghost use Rattle.std.specs.Prelude.{◌≡◌, IfOk, IfErr, length};
 ghost use Rattle.pc_terms.specs.Lists.{types_of, bodies_of};
-ghost use Rattle.pc_terms.specs.declared.term.MakeFault.TheVariants.{TooDeep, Memory};
-ghost use Rattle.pc_rules.specs.DirectedRun.{any_beyond};
-ghost use Rattle.pc_rules.specs.DirectedComparison.{list_of, lifted_types};
+ghost use Rattle.pc_terms.specs.declared.term.MakeFault.TheVariants.{Memory};
+ghost use Rattle.calculus_rules.specs.Listed.{list_of};
 
-use pc_terms::lists::Telescope;
 use pc_terms::term::{Defs, MakeFault, Terms};
 use std::alloc::Global;
 
@@ -33,25 +31,6 @@ pub(crate) fn bodies(alloc: Global, defs: &Defs) -> Result<Terms, MakeFault>
     for i in 0..items.len() {
         let body = items[i].body.share()?;
         out.push(body)?;
-    }
-    Ok(out)
-}
-
-/// The entries of the definitions: their types, each lifted over those before it. `TooDeep` only where one of them is beyond the limits
-/// of terms, and else only `Memory`.
-pub(crate) fn definition_entries(alloc: Global, defs: &Defs) -> Result<Telescope, MakeFault>
-    ensures ok { IfOk result (λ out. out ≡ lifted_types 0 (list_of (types_of defs.now))) }
-    ensures too_deep { IfErr result (λ e. e ≡ TooDeep → IsTrue (any_beyond (lifted_types 0 (list_of (types_of defs.now))))) }
-{
-    let mut out = Telescope::new(alloc);
-    let items = defs.as_slice();
-    // No memory holds more definitions than numbers of 32 bits.
-    let Ok(count) = u32::try_from(items.len()) else {
-        return Err(MakeFault::Memory);
-    };
-    for i in 0..count {
-        let ty = items[i as usize].ty.lift(alloc, i, 0)?;
-        out.push(ty)?;
     }
     Ok(out)
 }

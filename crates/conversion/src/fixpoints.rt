@@ -1,16 +1,17 @@
 //! Fixpoints: the types of their definitions, then the bodies.
 ghost use Rattle.std.specs.Prelude.{◌≡◌, ◌+◌, length};
 ghost use Rattle.pc_terms.specs.Lists.{types_of, bodies_of};
-ghost use Rattle.pc_rules.specs.Context.{values};
+ghost use Rattle.calculus_rules.specs.Context.{values};
 ghost use Rattle.pc_rules.specs.Entailment.{test_of};
 ghost use Rattle.pc_rules.specs.Follows.{Follows};
 ghost use Rattle.pc_rules.specs.DirectedRun.{run_all};
-ghost use Rattle.pc_rules.specs.DirectedComparison.{compare, fixpoints_equal, each_equal, entering, lifted_types, list_of};
+ghost use Rattle.calculus_rules.specs.Listed.{list_of};
+ghost use Rattle.pc_rules.specs.DirectedComparison.{compare, fixpoints_equal, each_equal, entering, lifted_types};
 ghost use Rattle.conversion.specs.Comparable.{AreComparable};
 
 use crate::comparison::Compare;
-use crate::definitions::{bodies, definition_entries, types};
-use crate::entries::extended;
+use crate::definitions::{bodies, types};
+use instances::contexts::{definition_entries, extended};
 use pc_rules::context::Ctx;
 use pc_rules::environment::Env;
 use pc_rules::meter::Meter;

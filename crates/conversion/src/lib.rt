@@ -13,7 +13,6 @@
 
 pub mod comparison;
 mod definitions;
-mod entries;
 mod fixpoints;
 mod matches;
 mod sorts;

@@ -1,45 +1,36 @@
 //! Matches: parameters, predicates, scrutinees and branches.
-ghost use Rattle.std.specs.Prelude.{◌≡◌, ◌+◌, [], ◌∷◌, true, List, MatchOption, None, Some};
+ghost use Rattle.std.specs.Prelude.{◌≡◌, ◌+◌, [], ◌∷◌, true, List};
 ghost use Rattle.trees.specs.Tree.{terms_of};
 ghost use Rattle.pc_terms.specs.Syntax.{Term};
 ghost use Rattle.pc_terms.specs.Lists.{arms_of};
 ghost use Rattle.pc_terms.specs.View.{tree_of};
 ghost use Rattle.pc_terms.specs.declared.term.Node.TheVariants.{Case};
-ghost use Rattle.pc_rules.specs.Context.{values};
-ghost use Rattle.pc_rules.specs.Environment.{with_parameters};
-ghost use Rattle.pc_rules.specs.Instances.{predicate_entries};
+ghost use Rattle.calculus_rules.specs.Context.{values};
+ghost use Rattle.calculus_rules.specs.Environment.{with_parameters};
+ghost use Rattle.calculus_rules.specs.Instances.{predicate_entries};
 ghost use Rattle.pc_rules.specs.Entailment.{test_of};
 ghost use Rattle.pc_rules.specs.Follows.{Follows};
 ghost use Rattle.pc_rules.specs.DirectedRun.{run_all};
-ghost use Rattle.pc_rules.specs.DirectedWeakHead.{family_of};
-ghost use Rattle.pc_rules.specs.DirectedComparison.{compare, matches_equal, branches_equal, entering, list_of};
+ghost use Rattle.calculus_rules.specs.Lookups.{family_of};
+ghost use Rattle.calculus_rules.specs.Listed.{list_of};
+ghost use Rattle.pc_rules.specs.DirectedComparison.{compare, matches_equal, branches_equal, entering};
 ghost use Rattle.conversion.specs.Comparable.{AreComparable};
 
 use crate::comparison::Compare;
-use crate::entries::extended;
+use calculus_rules::declaration::{Constructors, Family};
+use instances::contexts::extended;
 use instances::instances::branches::branch_entries;
 use instances::instances::predicates::predicate_entries;
+use instances::kept::kept_family;
 use pc_rules::broken::Broken;
 use pc_rules::context::Ctx;
-use pc_rules::declaration::{Constructors, Family};
 use pc_rules::environment::Env;
 use pc_rules::meter::Meter;
 use pc_rules::reducer::Reducer;
 use pc_rules::stop::Halt;
-use pc_terms::leaf::FamilyId;
 use pc_terms::lists::Telescope;
 use pc_terms::term::{Match, Term};
 use std::alloc::Global;
-
-// A family of a whole block that is kept.
-fn kept_family(env: &Env, id: FamilyId) -> Option<&Family>
-    ensures kept { MatchOption result (family_of env.now id ≡ None) (λ F. (Ps : List Term) × (family_of env.now id ≡ Some (with_parameters Ps F.now))) }
-{
-    match env.whole_block(id.block) {
-        Some(block) => block.families.as_slice().get(id.family as usize),
-        None => None,
-    }
-}
 
 impl<R: Reducer + Drop> Compare<R> {
     // The parts of two matches: parameters, predicates, scrutinees, branches.

@@ -2,7 +2,7 @@
 ghost use Rattle.std.specs.Prelude.{◌≡◌, ◌==◌, ◌&&◌, length};
 ghost use Rattle.pc_terms.specs.Formed.{binders_of};
 ghost use Rattle.pc_terms.specs.Lists.{arms_of, rargs_of};
-ghost use Rattle.pc_rules.specs.Same.{same_families, same_numbers};
+ghost use Rattle.calculus_rules.specs.Same.{same_families, same_numbers};
 ghost use Rattle.pc_rules.specs.DirectedComparison.{alike};
 
 use pc_terms::leaf::FamilyId;

@@ -3,7 +3,7 @@ ghost use Rattle.std.specs.Prelude.{◌≡◌, ◌+◌, [], ◌∷◌, true, len
 ghost use Rattle.pc_terms.specs.View.{tree_of};
 ghost use Rattle.pc_terms.specs.declared.term.MakeFault.TheVariants.{Memory};
 ghost use Rattle.pc_rules.specs.declared.broken.Clash.TheVariants.{Terms as ClashOfTerms};
-ghost use Rattle.pc_rules.specs.Context.{values};
+ghost use Rattle.calculus_rules.specs.Context.{values};
 ghost use Rattle.pc_rules.specs.Entailment.{test_of};
 ghost use Rattle.pc_rules.specs.Follows.{Follows};
 ghost use Rattle.pc_rules.specs.DirectedRun.{run_all};

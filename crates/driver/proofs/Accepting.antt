@@ -10,21 +10,21 @@ use Rattle.universe_levels.specs.Consistency.{IsConsistent}
 use Rattle.pc_terms.specs.declared.leaf.Name.{Name}
 use Rattle.pc_terms.specs.declared.leaf.FamilyId.{FamilyId}
 use Rattle.pc_terms.specs.Syntax.{Term, Ind, Construct}
-use Rattle.pc_rules.specs.declared.declaration.Constructor.{Constructor}
-use Rattle.pc_rules.specs.declared.declaration.Family.{Family}
-use Rattle.pc_rules.specs.declared.declaration.Block.{Block}
-use Rattle.pc_rules.specs.declared.declaration.Kept.{Kept}
-use Rattle.pc_rules.specs.declared.declaration.Kept.TheVariants.{Block as Whole}
+use Rattle.calculus_rules.specs.declared.declaration.Constructor.{Constructor}
+use Rattle.calculus_rules.specs.declared.declaration.Family.{Family}
+use Rattle.calculus_rules.specs.declared.declaration.Block.{Block}
+use Rattle.calculus_rules.specs.declared.declaration.Kept.{Kept}
+use Rattle.calculus_rules.specs.declared.declaration.Kept.TheVariants.{Block as Whole}
 use Rattle.pc_rules.specs.declared.broken.Place.TheVariants.{Declaration as AtDeclaration, Main as AtMain}
 use Rattle.pc_rules.specs.declared.meter.Account.{Account}
-use Rattle.pc_rules.specs.Environment.{Env, FamilyDecl, with_parameters, family_at}
-use Rattle.pc_rules.specs.Instances.{constructor_type}
-use Rattle.pc_rules.specs.Accepted.{env}
-use Rattle.pc_rules.specs.Same.{same_names}
+use Rattle.calculus_rules.specs.Environment.{Env, FamilyDecl, with_parameters, family_at}
+use Rattle.calculus_rules.specs.Instances.{constructor_type}
+use Rattle.calculus_rules.specs.Accepted.{env}
+use Rattle.calculus_rules.specs.Same.{same_names}
 use Rattle.pc_rules.specs.Entailment.{entailed_by}
 use Rattle.pc_rules.specs.declared.broken.Broken.TheVariants.{DuplicateName}
 use Rattle.pc_rules.specs.DirectedRun.{Run, done, refused, make, ticked, noted, paid, ticking, bind}
-use Rattle.pc_rules.specs.DirectedWeakHead.{kept_at, whole_block}
+use Rattle.calculus_rules.specs.Lookups.{kept_at, whole_block}
 use Rattle.pc_rules.specs.DirectedComparison.{Test, Comparison, compare}
 use Rattle.pc_rules.specs.DirectedTyping.{Typing, infer, sorts_of, check_all, undeclared_in, levels_declared, find_family, family_number, constructor_number, construct_rule}
 use Rattle.pc_rules.specs.DirectedPlaces.{and_then}

@@ -11,7 +11,7 @@ use Rattle.pc_rules.specs.declared.broken.Broken.{Broken as Rule}
 use Rattle.pc_rules.specs.declared.broken.Place.{Place}
 use Rattle.pc_rules.specs.declared.broken.Place.TheVariants.{Declaration}
 use Rattle.pc_rules.specs.declared.meter.Account.{Account}
-use Rattle.pc_rules.specs.Environment.{Env}
+use Rattle.calculus_rules.specs.Environment.{Env}
 use Rattle.pc_terms.specs.Syntax.{Term}
 use Rattle.pc_rules.specs.DirectedDeclarations.{Breaks}
 use Rattle.env_check.specs.declared.refusal.Refusal.TheVariants.{Broken, Spent, TooDeep}
@@ -19,7 +19,7 @@ use Rattle.env_check.specs.Answers.{AnswersFound}
 use Rattle.env_check.specs.Rules.{rules_of}
 use Rattle.driver.specs.declared.refusal.Where.{Where}
 use Rattle.driver.specs.SourceEnds.{IsAcceptedWith}
-use Rattle.report_lines.specs.declared.facts.Facts.{Facts}
+use Rattle.driver.specs.declared.reporting.facts.Facts.{Facts}
 use Rattle.driver.specs.CheckFacts.{HasCheckFacts, facts_of_check}
 use Rattle.driver.specs.Serve.{AcceptSays, CheckSays}
 use Rattle.driver.specs.declared.refusal.Refusal.{Refusal}

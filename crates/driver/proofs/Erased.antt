@@ -9,12 +9,12 @@ use Rattle.pc_terms.specs.BoxSyntax.{BoxTerm}
 use Rattle.pc_rules.specs.declared.broken.Broken.{Broken as Rule}
 use Rattle.pc_rules.specs.declared.broken.Place.{Place}
 use Rattle.pc_rules.specs.declared.broken.Place.TheVariants.{Declaration}
-use Rattle.pc_rules.specs.declared.declaration.Kept.{Kept}
-use Rattle.pc_rules.specs.declared.declaration.Kept.TheVariants.{Constant}
+use Rattle.calculus_rules.specs.declared.declaration.Kept.{Kept}
+use Rattle.calculus_rules.specs.declared.declaration.Kept.TheVariants.{Constant}
 use Rattle.pc_rules.specs.declared.meter.Account.{Account}
 use Rattle.pc_rules.specs.declared.stop.Halt.{Halt}
 use Rattle.pc_rules.specs.declared.stop.Halt.TheVariants as halts
-use Rattle.pc_rules.specs.Environment.{Env, Has, KeepsConstant, name_of as kept_name}
+use Rattle.calculus_rules.specs.Environment.{Env, Has, KeepsConstant, name_of as kept_name}
 use Rattle.pc_rules.specs.Entailment.{test_of}
 use Rattle.pc_rules.specs.DirectedRun.{Run}
 use Rattle.pc_rules.specs.DirectedPlaces.{Gives}

@@ -1,7 +1,7 @@
 -- Where an environment has an answer of `eval` by the relation of evaluation, the run of the directed rules ends with one, within the limits.
 use Rattle.std.proofs.Common.{ℕ, ◌≡◌, ◌||◌, false, refl, sym, ap, ◌∙◌}
 use Rattle.pc_rules.specs.declared.meter.Account.{Account}
-use Rattle.pc_rules.specs.Accepted.{IsAccepted}
+use Rattle.calculus_rules.specs.Accepted.{IsAccepted}
 use Rattle.pc_rules.specs.DirectedRun.{Run, Done, bind, deep_then}
 use Rattle.pc_rules.specs.DirectedEvaluation.{Value, evaluation}
 use Rattle.pc_rules.specs.DirectedFirstOrder.{Found, first_order_search}

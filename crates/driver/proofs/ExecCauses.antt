@@ -2,8 +2,8 @@
 use Rattle.std.proofs.Common.{◌≡◌, ◌≢◌, ℕ, ◌≤◌, arith, lit<, lit≤, List, false, Result, Ok, Err, ◌⊎◌, inl, inr, refl, sym, ap, subst, ◌∙◌}
 use Rattle.pc_terms.specs.Syntax.{Term}
 use Rattle.pc_rules.specs.declared.meter.Account.{Account}
-use Rattle.pc_rules.specs.Environment.{Env}
-use Rattle.pc_rules.specs.FirstOrder.{Shape as Member, FitsShapes}
+use Rattle.calculus_rules.specs.Environment.{Env}
+use Rattle.calculus_rules.specs.FirstOrder.{Shape as Member, FitsShapes}
 use Rattle.pc_rules.specs.DirectedRun.{Run, End, Done, Refused, NoUnit, Nested}
 use Rattle.pc_rules.specs.DirectedPlaces.{Placed, Outcome, Gives, Breaks, Spends, Nests}
 use Rattle.pc_rules.specs.DirectedFirstOrder.{Searched, Found, NotFirstOrder, TooManyTypes, first_order_search}

@@ -1,6 +1,6 @@
 -- Where main's erased program evaluates to data of main's type, the answer of `exec` is that data, and no run traps but for want of memory or gives another value.
 use Rattle.std.proofs.Common.{◌≡◌, ℕ, List, Ok, Err, inl, inr, sym, subst, arith, lit<, ◌⊎◌}
-use Rattle.pc_rules.specs.FirstOrder.{Data, FitsShapes}
+use Rattle.calculus_rules.specs.FirstOrder.{Data, FitsShapes}
 use Rattle.first_order.specs.Searching.{members}
 use Rattle.lambda_box.specs.BoxProgram.{BoxProgram}
 use Rattle.lambda_box.specs.BoxEvaluation.{BoxEvaluates}

@@ -2,9 +2,9 @@
 use Rattle.std.proofs.Common.{◌≡◌, ◌∙◌, ℕ, ◌+◌, ◌*◌, ◌<◌, ◌≤◌, List, Some, Ok, Err, ◌⊎◌, inl, inr, false, refl, sym, ap, subst, arith}
 use Rattle.pc_terms.specs.Syntax.{Term}
 use Rattle.pc_rules.specs.declared.meter.Account.{Account}
-use Rattle.pc_rules.specs.Environment.{Env}
-use Rattle.pc_rules.specs.FirstOrder.{Data, IsFirstOrder}
-use Rattle.pc_rules.specs.Lawful.{IsLawfulEvaluation}
+use Rattle.calculus_rules.specs.Environment.{Env}
+use Rattle.calculus_rules.specs.FirstOrder.{Data, IsFirstOrder}
+use Rattle.calculus_rules.specs.Lawful.{IsLawfulEvaluation}
 use Rattle.first_order.specs.Searching.{members, AreNamed}
 use Rattle.lambda_box.specs.BoxProgram.{BoxProgram}
 use Rattle.lambda_box.specs.BoxEvaluation.{BoxEvaluates}

@@ -3,9 +3,9 @@ use Rattle.std.proofs.Common.{◌≡◌, ◌≢◌, ℕ, List, [], Option, Some,
 use Rattle.std.specs.Prelude.{IfOk, IfErr, OnOk}
 use Rattle.std.proofs.lemmas.Result.{on_ok_weaker}
 use Rattle.std.specs.Io.KnownBytes.{Appends}
-use Rattle.report_lines.specs.Takes.{TakesLine}
+use Rattle.driver.specs.Takes.{TakesLine}
 use Rattle.workload.specs.WorkloadText.{text_of}
-use Rattle.report_lines.specs.declared.facts.Facts.{Facts}
+use Rattle.driver.specs.declared.reporting.facts.Facts.{Facts}
 use Rattle.command_line.specs.declared.job.Job.{Job}
 use Rattle.command_line.specs.declared.job.Job.TheVariants.{Exec, Bench}
 use Rattle.command_line.specs.declared.line.Request.{Request}

@@ -11,14 +11,14 @@ use Rattle.dump_grammar.specs.Within.{levels_over, constraints_over, declaration
 use Rattle.pc_terms.specs.declared.leaf.Name.{Name}
 use Rattle.pc_terms.specs.declared.leaf.FamilyId.{FamilyId}
 use Rattle.pc_terms.specs.Syntax.{Term, Construct}
-use Rattle.pc_rules.specs.declared.declaration.Constructor.{Constructor}
-use Rattle.pc_rules.specs.declared.declaration.Family.{Family}
-use Rattle.pc_rules.specs.declared.declaration.Block.{Block as KeptBlock}
-use Rattle.pc_rules.specs.declared.declaration.Kept.{Kept}
-use Rattle.pc_rules.specs.declared.declaration.Kept.TheVariants.{Constant, Heads, Block as Whole}
-use Rattle.pc_rules.specs.Environment.{Env, Has, here, there, FamilyDecl, KeepsFamily, with_parameters}
-use Rattle.pc_rules.specs.Context.{Context}
-use Rattle.pc_rules.specs.Typing.{Mode, Types, construct, conv}
+use Rattle.calculus_rules.specs.declared.declaration.Constructor.{Constructor}
+use Rattle.calculus_rules.specs.declared.declaration.Family.{Family}
+use Rattle.calculus_rules.specs.declared.declaration.Block.{Block as KeptBlock}
+use Rattle.calculus_rules.specs.declared.declaration.Kept.{Kept}
+use Rattle.calculus_rules.specs.declared.declaration.Kept.TheVariants.{Constant, Heads, Block as Whole}
+use Rattle.calculus_rules.specs.Environment.{Env, Has, here, there, FamilyDecl, KeepsFamily, with_parameters}
+use Rattle.calculus_rules.specs.Context.{Context}
+use Rattle.calculus_rules.specs.Typing.{Mode, Types, construct, conv}
 use Rattle.rule_laws.specs.Declarations.{plain, plain_given, plain_block, plain_family, plain_constructor, IsCheckedEnvironment}
 use Rattle.inductive_check.specs.Given.{given_of, family_of, ctor_of}
 use Rattle.env_check.specs.Rules.{givens}

@@ -30,3 +30,5 @@ pub mod Checking
 pub mod Serving
 pub mod Answering
 pub mod Inputs
+pub mod PartByPart
+pub mod FactByFact

@@ -2,8 +2,8 @@
 use Rattle.std.proofs.Common.{◌≡◌, inr, ℕ, List, Result, Ok, Err, subst, arith}
 use Rattle.pc_terms.specs.Syntax.{Term}
 use Rattle.pc_rules.specs.declared.meter.Account.{Account}
-use Rattle.pc_rules.specs.Environment.{Env}
-use Rattle.pc_rules.specs.FirstOrder.{IsFirstOrder}
+use Rattle.calculus_rules.specs.Environment.{Env}
+use Rattle.calculus_rules.specs.FirstOrder.{IsFirstOrder}
 use Rattle.pc_rules.specs.DirectedRun.{Done}
 use Rattle.pc_rules.specs.DirectedFirstOrder.{Found, first_order_search}
 use Rattle.rule_laws.specs.Declarations.{IsCheckedEnvironment}

@@ -8,28 +8,28 @@ use Rattle.universe_levels.specs.declared.constraint.Constraint.{Constraint}
 use Rattle.pc_terms.specs.declared.leaf.Name.{Name}
 use Rattle.pc_terms.specs.declared.leaf.FamilyId.{FamilyId}
 use Rattle.pc_terms.specs.Syntax.{Term, Construct}
-use Rattle.pc_rules.specs.declared.declaration.Constructor.{Constructor}
-use Rattle.pc_rules.specs.declared.declaration.Family.{Family}
-use Rattle.pc_rules.specs.declared.declaration.Block.{Block}
-use Rattle.pc_rules.specs.declared.declaration.Kept.{Kept}
-use Rattle.pc_rules.specs.declared.declaration.Kept.TheVariants.{Block as Whole}
+use Rattle.calculus_rules.specs.declared.declaration.Constructor.{Constructor}
+use Rattle.calculus_rules.specs.declared.declaration.Family.{Family}
+use Rattle.calculus_rules.specs.declared.declaration.Block.{Block}
+use Rattle.calculus_rules.specs.declared.declaration.Kept.{Kept}
+use Rattle.calculus_rules.specs.declared.declaration.Kept.TheVariants.{Block as Whole}
 use Rattle.pc_rules.specs.declared.broken.Broken.TheVariants.{DuplicateName}
 use Rattle.pc_rules.specs.declared.broken.Place.TheVariants.{Declaration as AtDeclaration, Main as AtMain}
 use Rattle.pc_rules.specs.declared.meter.Account.{Account}
-use Rattle.pc_rules.specs.Accepted.{env}
-use Rattle.pc_rules.specs.Environment.{Env, FamilyDecl, family_at, with_parameters}
-use Rattle.pc_rules.specs.Same.{same_names}
+use Rattle.calculus_rules.specs.Accepted.{env}
+use Rattle.calculus_rules.specs.Environment.{Env, FamilyDecl, family_at, with_parameters}
+use Rattle.calculus_rules.specs.Same.{same_names}
 use Rattle.pc_rules.specs.DirectedRun as run
 use Rattle.pc_rules.specs.DirectedRun.{Run, done, refused, make, ticked, noted, bind}
-use Rattle.pc_rules.specs.DirectedWeakHead.{kept_at, whole_block, family_of}
+use Rattle.calculus_rules.specs.Lookups.{kept_at, whole_block, family_of}
 use Rattle.pc_rules.specs.DirectedComparison.{Test, compare}
 use Rattle.pc_rules.specs.DirectedTyping.{Typing, infer, rule, rule_number, sorts_of, undeclared_in, levels_declared, find_family, constructor_number}
 use Rattle.pc_rules.specs.DirectedPlaces.{and_then, at_place as run_at}
 use Rattle.pc_rules.specs.DirectedDeclarations.{Checked, Accepts, accepts, has_name, distinct_names, family_head, family_heads, heads_rule, families_rule, with_families, with_heads, block_rule, fresh_name, declaration_rule, placed, declarations_rule, main_rule, environment_rule}
-use Rattle.pc_rules.specs.Instances.{constructor_type}
+use Rattle.calculus_rules.specs.Instances.{constructor_type}
 use Rattle.pc_rules.specs.Entailment.{entailed_by}
 use Rattle.pc_rules.proofs.WeakNext.{same_names_is, none_some, if_some_is}
-use Rattle.pc_rules.proofs.Spines.{one_item}
+use Rattle.calculus_rules.proofs.Spines.{one_item}
 use Rattle.rule_laws.proofs.Runs.{bind_both, ticking_done, refused_done, done_value}
 use Rattle.rule_laws.proofs.SimpleRules.{some_none, whole_family}
 use Rattle.erase_rules.proofs.Program.{gives_both, outcome_done}

@@ -5,16 +5,16 @@ use Rattle.std.proofs.lemmas.Option.{slice_get-map}
 use Rattle.pc_terms.specs.declared.leaf.Name.{Name}
 use Rattle.pc_terms.specs.Syntax.{Ind, Construct}
 use Rattle.pc_rules.specs.declared.meter.Account.{Account}
-use Rattle.pc_rules.specs.Accepted.{env}
+use Rattle.calculus_rules.specs.Accepted.{env}
 use Rattle.pc_rules.specs.Entailment.{test_of}
-use Rattle.pc_rules.specs.Environment.{Env, KeepsFamily}
-use Rattle.pc_rules.specs.FirstOrder.{Data, Shape as Member, FitsShapes}
+use Rattle.calculus_rules.specs.Environment.{Env, KeepsFamily}
+use Rattle.calculus_rules.specs.FirstOrder.{Data, Shape as Member, FitsShapes}
 use Rattle.pc_rules.specs.DirectedRun.{Done, done, ticked, noted}
-use Rattle.pc_rules.specs.DirectedWeakHead.{if_some}
+use Rattle.calculus_rules.specs.Lookups.{if_some}
 use Rattle.pc_rules.specs.DirectedPlaces.{Gives, gives}
 use Rattle.pc_rules.specs.DirectedFirstOrder.{Found, first_order_search}
 use Rattle.pc_rules.proofs.WeakNext.{if_some_is, if_is}
-use Rattle.pc_rules.proofs.Spines.{one_item}
+use Rattle.calculus_rules.proofs.Spines.{one_item}
 use Rattle.first_order.specs.declared.shapes.Shape.{Shape}
 use Rattle.first_order.specs.declared.shapes.ShapeCtor.{ShapeCtor}
 use Rattle.first_order.specs.Searching.{family_in, member, members, ctor_name, constructor_name, IsNamed as HasNames}

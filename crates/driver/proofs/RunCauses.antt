@@ -4,10 +4,10 @@ use Rattle.std.specs.Prelude.{IfOk, IfErr}
 use Rattle.first_order.specs.Texts.{IsText, by_tags}
 use Rattle.wasm_core.specs.ShortestBytes.{most_bytes}
 use Rattle.wasm_core.specs.WordData.{Data}
-use Rattle.file_run.specs.declared.refusal.FileRefusal.{FileRefusal}
-use Rattle.file_run.specs.declared.refusal.FileRefusal.TheVariants as files
-use Rattle.file_run.specs.FileEnds.{FileEnds}
-use Rattle.file_run.proofs.OneFileEnd.{file_end_is_one}
+use Rattle.module_run.specs.declared.file_refusal.FileRefusal.{FileRefusal}
+use Rattle.module_run.specs.declared.file_refusal.FileRefusal.TheVariants as files
+use Rattle.module_run.specs.FileEnds.{FileEnds}
+use Rattle.module_run.proofs.OneFileEnd.{file_end_is_one}
 use Rattle.driver.specs.declared.refusal.Refusal.{Refusal}
 use Rattle.driver.specs.declared.refusal.Refusal.TheVariants as refusals
 use Rattle.driver.specs.Lines.{status_of}

@@ -3,7 +3,7 @@ use Rattle.std.proofs.Common.{◌≡◌, ◌≢◌, ℕ, zero, suc, ◌<◌, ◌
 use Rattle.std.specs.Prelude.{Contains, OnOk}
 use Rattle.std.specs.Io.KnownBytes.{Appends}
 use Rattle.kio.specs.Causes.{Rose}
-use Rattle.pc_rules.specs.FirstOrder.{Data}
+use Rattle.calculus_rules.specs.FirstOrder.{Data}
 use Rattle.dump_reader.specs.declared.environment.RawEnv.{RawEnv}
 use Rattle.driver.specs.declared.refusal.Refusal.{Refusal}
 use Rattle.driver.specs.declared.refusal.Refusal.TheVariants as refusals
@@ -16,17 +16,17 @@ use Rattle.command_line.specs.Line.{IsInRange, request_of}
 use Rattle.command_line.proofs.Ranges.{requests_lie_in_range}
 use Rattle.driver.specs.Lines.{status_of}
 use Rattle.reports.specs.Shown.{Shown}
-use Rattle.report_lines.specs.declared.facts.Facts.{Facts}
-use Rattle.report_lines.specs.CheckFacts.{facts_of}
-use Rattle.report_lines.specs.Lines.{told_lines}
-use Rattle.report_lines.specs.Takes.{TakesLine, TakesPrefix}
+use Rattle.driver.specs.declared.reporting.facts.Facts.{Facts}
+use Rattle.driver.specs.ReportedFacts.{facts_of}
+use Rattle.driver.specs.ReportLines.{told_lines}
+use Rattle.driver.specs.Takes.{TakesLine, TakesPrefix}
 use Rattle.driver.specs.Bench.{RunsModule, TakesFigures, lines_of}
 use Rattle.driver.specs.SourceSays.{IsLine}
 use Rattle.driver.specs.Served.{Seen, IsKept, Served}
 use Rattle.driver.specs.Executed.{AnswersData, HasErasedData}
 use Rattle.driver.specs.MadeModule.{TakesModule}
-use Rattle.driver.specs.Serve.{Answered, Concludes, HasJobFacts, HasWell, input_limit, IsAnswerableBy, IsAnswerOf, IsAsked, IsAskedOn, IsCause, IsCheckCause, IsForJob, IsForReader, IsInput, IsInputOf, IsJudgedWith, IsLate, IsOfText, IsRefused, IsSure, IsTextCause, IsTooLong, MakesModule, MeetsNoFault, ReadsWell, ReadsNothing, Says, Tells}
-use Rattle.driver.specs.Headline.{HasValue, AnswersValue, EvaluatesErased, IsBoundedBy, HasMatches, TakesMatches}
+use Rattle.driver.specs.Serve.{HasAnswer, Concludes, HasJobFacts, HasWell, input_limit, IsAnswerableBy, IsAnswerOf, IsAsked, IsAskedOn, IsCause, IsCheckCause, IsForJob, IsForReader, IsInput, IsInputOf, IsJudgedWith, IsLate, IsOfText, IsRefused, IsSure, IsTextCause, IsTooLong, MakesModule, MeetsNoFault, ReadsWell, ReadsNothing, Says, Tells}
+use Rattle.driver.specs.Headline.{HasValue, ServesValue, EvaluatesErased, IsBoundedBy, HasMatches, TakesMatches}
 use Rattle.driver.proofs.CheckCauses.{not_zero}
 use Rattle.driver.proofs.Headlines.{value_data, value_exact, value_valid, value_runs, value_text, no_fault, value_memory, value_steps, data_runs, data_memory, data_steps, late_runs, answered_late, answering_late}
 use Rattle.driver.specs.ExecEnds.{ExecEnds, HasModule, IsExecCause, Finishes, Answering, its_shapes}
@@ -125,11 +125,11 @@ module _ {V S K E : Type 0} (view : V → List ℕ) (lines : List ℕ) (status :
   says_no_write_fault : (r : Refusal) → Before (Err r) → r ≡ refusals.WriteFault → ⊥
   says_no_write_fault r s e = subst (λ x. Says {V = V} view (Err x) words src.told src.faults src'.faults) e s
 
-  done : (a : Result V Refusal) → Before a → After a → status ≡ 0 → (text : List ℕ) × Answered words src.told text × Appends out.told out'.told text
+  done : (a : Result V Refusal) → Before a → After a → status ≡ 0 → (text : List ℕ) × HasAnswer words src.told text × Appends out.told out'.told text
   done (Ok v) s c e = (view v, s, (c.whole e).0)
   done (Err r) s c e = absurd (not_zero r (sym c.0 ∙ e))
 
-  prefix : (a : Result V Refusal) → Before a → After a → status ≡ 4 → (text : List ℕ) × Answered words src.told text × TakesPrefix out.told out'.told text
+  prefix : (a : Result V Refusal) → Before a → After a → status ≡ 4 → (text : List ℕ) × HasAnswer words src.told text × TakesPrefix out.told out'.told text
   prefix (Ok v) s c e = let w = c.part (λ z. omega (arith, e, z)) in (view v, s, w.2)
   prefix (Err r) s c e = absurd (says_no_write_fault r s (of_write_fault r (sym c.0 ∙ e)))
 
@@ -417,7 +417,7 @@ module _ {V S K E : Type 0} (view : V → List ℕ) (lines : List ℕ) (status :
         ]
 
     -- where main, of a first-order type, evaluates to a value
-    valued : (a : Result V Refusal) → Before a → After a → (n : ℕ) → MakesModule q.job → (h : HasValue q.turns e n) → AnswersValue q e n status h out.told out'.told
+    valued : (a : Result V Refusal) → Before a → After a → (n : ℕ) → MakesModule q.job → (h : HasValue q.turns e n) → ServesValue q e n status h out.told out'.told
     valued (Ok v) s c n makes h = record {
       tree = value_data q in_range d.bytes e d.spelled n h;
       exactly = value_exact q in_range d.bytes e d.spelled n h;

@@ -3,8 +3,8 @@ use Rattle.std.proofs.Common.{◌≡◌, ℕ, List, [], length, Option, Some, No
 use Rattle.universe_levels.specs.declared.level.Level.{Level}
 use Rattle.pc_terms.specs.Syntax.{Term}
 use Rattle.pc_rules.specs.declared.meter.Account.{Account}
-use Rattle.pc_rules.specs.Environment.{Env}
-use Rattle.pc_rules.specs.Accepted.{IsAccepted}
+use Rattle.calculus_rules.specs.Environment.{Env}
+use Rattle.calculus_rules.specs.Accepted.{IsAccepted}
 use Rattle.pc_rules.specs.DirectedRun.{Run, End}
 use Rattle.pc_rules.specs.DirectedDeclarations.{Checked, Outcome, Gives, Accepts, first_repeated, first_undeclared_end, declarations_rule, graph_rule, constraints_rule, levels_rule}
 use Rattle.dump_reader.specs.declared.environment.RawEnv.{RawEnv}

@@ -4,9 +4,9 @@ use Rattle.std.specs.Prelude.{All, option_map, IfOk, IfErr}
 use Rattle.std.proofs.lemmas.Option.{slice_get-map, slice_get_within, get_or_from_slice_get}
 use Rattle.pc_terms.specs.Syntax.{Term}
 use Rattle.pc_rules.specs.declared.meter.Account.{Account}
-use Rattle.pc_rules.specs.Environment.{Env}
-use Rattle.pc_rules.specs.Evaluation.{Evaluates}
-use Rattle.pc_rules.specs.FirstOrder.{Shape as Member, IsFirstOrder}
+use Rattle.calculus_rules.specs.Environment.{Env}
+use Rattle.calculus_rules.specs.Evaluation.{Evaluates}
+use Rattle.calculus_rules.specs.FirstOrder.{Shape as Member, IsFirstOrder}
 use Rattle.pc_rules.specs.DirectedRun.{Run, Done, NoUnit, bind, end_then}
 use Rattle.pc_rules.specs.DirectedEvaluation.{Evaluated, Value, Stuck, evaluation}
 use Rattle.pc_rules.specs.DirectedFirstOrder.{Searched, Found, NotFirstOrder, TooManyTypes, first_order_search}

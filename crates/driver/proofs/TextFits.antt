@@ -3,10 +3,10 @@ use Rattle.std.proofs.Common.{Err, ◌≡◌, ◌∙◌, ℕ, suc, ◌==◌, Lis
 use Rattle.std.specs.Prelude.{option_map}
 use Rattle.std.proofs.lemmas.Bool.{eqb-true}
 use Rattle.std.proofs.lemmas.Option.{slice_get-map}
-use Rattle.pc_rules.specs.FirstOrder.{Data, FitsShapes, fits, FieldsFit, no_field_fits, field_fits}
-use Rattle.pc_rules.specs.DirectedWeakHead.{if_some}
+use Rattle.calculus_rules.specs.FirstOrder.{Data, FitsShapes, fits, FieldsFit, no_field_fits, field_fits}
+use Rattle.calculus_rules.specs.Lookups.{if_some}
 use Rattle.pc_rules.proofs.WeakNext.{if_some_is, if_is}
-use Rattle.pc_rules.proofs.Spines.{one_item}
+use Rattle.calculus_rules.proofs.Spines.{one_item}
 use Rattle.first_order.specs.declared.shapes.Shape.{Shape}
 use Rattle.first_order.specs.declared.shapes.ShapeCtor.{ShapeCtor}
 use Rattle.first_order.specs.Searching.{member, members, places}

@@ -2,11 +2,11 @@
 use Rattle.std.specs.Prelude.{ℕ, ◌≡◌, List, length, replicate, Some, None, Bool, true, false, count_by}
 use Rattle.pc_terms.specs.Syntax.{Term}
 use Rattle.pc_rules.specs.declared.meter.Account.{Account}
-use Rattle.pc_rules.specs.Environment.{Env}
+use Rattle.calculus_rules.specs.Environment.{Env}
 use Rattle.dump_reader.specs.declared.declaration.RawDecl.{RawDecl}
 use Rattle.dump_reader.specs.declared.declaration.RawDecl.TheVariants.{Constant, Block}
 use Rattle.dump_reader.specs.declared.environment.RawEnv.{RawEnv}
-use Rattle.report_lines.specs.declared.facts.Facts.{Facts}
+use Rattle.driver.specs.declared.reporting.facts.Facts.{Facts}
 use Rattle.driver.specs.Texts.{SpellsWithin}
 use Rattle.driver.specs.SourceEnds.{IsAcceptedWith}
 

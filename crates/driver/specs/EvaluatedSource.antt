@@ -2,10 +2,10 @@
 use Rattle.std.specs.Prelude.{◌≡◌, ℕ, List, [], ◌∷◌, ◌++◌}
 use Rattle.pc_terms.specs.Syntax.{Term}
 use Rattle.pc_rules.specs.declared.meter.Account.{Account}
-use Rattle.pc_rules.specs.Environment.{Env}
-use Rattle.pc_rules.specs.Evaluation.{Evaluates}
+use Rattle.calculus_rules.specs.Environment.{Env}
+use Rattle.calculus_rules.specs.Evaluation.{Evaluates}
 use Rattle.pc_rules.specs.DirectedRun.{Run}
-use Rattle.pc_rules.specs.FirstOrder.{IsFirstOrder, Data, Reads}
+use Rattle.calculus_rules.specs.FirstOrder.{IsFirstOrder, Data, Reads}
 use Rattle.rule_laws.specs.Declarations.{IsCheckedEnvironment}
 use Rattle.env_check.specs.Rules.{givens}
 use Rattle.first_order.specs.declared.shapes.Shape.{Shape}

@@ -6,9 +6,9 @@ use Rattle.pc_terms.specs.Syntax.{Term}
 use Rattle.pc_rules.specs.declared.broken.Broken.{Broken}
 use Rattle.pc_rules.specs.declared.broken.Place.{Place}
 use Rattle.pc_rules.specs.declared.meter.Account.{Account}
-use Rattle.pc_rules.specs.Environment.{Env}
+use Rattle.calculus_rules.specs.Environment.{Env}
 use Rattle.pc_rules.specs.Entailment.{test_of}
-use Rattle.pc_rules.specs.FirstOrder.{FitsShapes, IsFirstOrder}
+use Rattle.calculus_rules.specs.FirstOrder.{FitsShapes, IsFirstOrder}
 use Rattle.pc_rules.specs.DirectedRun.{Done}
 use Rattle.pc_rules.specs.DirectedPlaces.{Placed, Gives, Breaks, Spends}
 use Rattle.pc_rules.specs.DirectedFirstOrder.{Found, first_order_search}

@@ -2,7 +2,7 @@
 use Rattle.std.specs.Prelude.{◌≡◌, ◌≢◌, ℕ, List, Option}
 use Rattle.std.specs.Io.KnownBytes.{Appends}
 use Rattle.pc_terms.specs.BoxSyntax.{BoxTerm}
-use Rattle.pc_rules.specs.FirstOrder.{Data, FitsShapes}
+use Rattle.calculus_rules.specs.FirstOrder.{Data, FitsShapes}
 use Rattle.first_order.specs.Searching.{members}
 use Rattle.lambda_box.specs.BoxEvaluation.{BoxEvaluates}
 use Rattle.lambda_box.specs.BoxData.{BoxReads}

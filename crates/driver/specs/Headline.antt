@@ -5,9 +5,9 @@ use Rattle.std.specs.Io.KnownBytes.{Appends}
 use Rattle.pc_terms.specs.Syntax.{Term}
 use Rattle.pc_terms.specs.BoxSyntax.{BoxTerm}
 use Rattle.pc_rules.specs.declared.meter.Account.{Account}
-use Rattle.pc_rules.specs.Environment.{Env}
-use Rattle.pc_rules.specs.Evaluation.{Evaluates}
-use Rattle.pc_rules.specs.FirstOrder.{Shape as Member, Data, IsFirstOrder}
+use Rattle.calculus_rules.specs.Environment.{Env}
+use Rattle.calculus_rules.specs.Evaluation.{Evaluates}
+use Rattle.calculus_rules.specs.FirstOrder.{Shape as Member, Data, IsFirstOrder}
 use Rattle.first_order.specs.declared.shapes.Shape.{Shape}
 use Rattle.first_order.specs.Searching.{members, AreNamed}
 use Rattle.lambda_box.specs.BoxEvaluation.{BoxEvaluates}
@@ -57,7 +57,7 @@ pub record IsBounded (pages steps n w b status : ℕ) : Type 0 where
 
 -- the value is this data; the module of this call validates, and every long enough run of it answers the data or is exhausted, within the bounds of the source's words and branches; on status 0 out
 -- takes by `exec` the value's text and LF, by `bench` that behind the figures, and by `compile` that module; the status is neither that of a trap nor that of another value; and the bounds of `exec`
-pub record AnswersValue (q : Request) (e : RawEnv) (n status : ℕ) (h : HasValue q.turns e n) (taken taken' : Option (List ℕ)) : Type 0 where
+pub record ServesValue (q : Request) (e : RawEnv) (n status : ℕ) (h : HasValue q.turns e n) (taken taken' : Option (List ℕ)) : Type 0 where
   pub tree : Data
   pub exactly : IsExactly h.kept h.types h.value tree
   pub valid : (x : Compiling q.turns e) → IsValid (its_module q.pages x)

@@ -7,7 +7,7 @@ use Rattle.pc_rules.specs.declared.broken.Broken.TheVariants as broken
 use Rattle.pc_rules.specs.declared.broken.Place.{Place}
 use Rattle.pc_rules.specs.declared.broken.Place.TheVariants as at
 use Rattle.pc_rules.specs.declared.meter.Account.{Account}
-use Rattle.pc_rules.specs.Environment.{Env}
+use Rattle.calculus_rules.specs.Environment.{Env}
 use Rattle.pc_rules.specs.DirectedDeclarations.{Checked, Outcome, Gives, Breaks, Spends, Nests, Accepts}
 use Rattle.dump_reader.specs.declared.declaration.RawDecl.{RawDecl}
 use Rattle.dump_reader.specs.declared.declaration.RawDecl.TheVariants.{Constant, Block}

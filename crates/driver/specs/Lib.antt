@@ -22,3 +22,6 @@ pub mod CheckFacts
 pub mod Bench
 pub mod Benched
 pub mod Figures
+pub mod ReportedFacts
+pub mod ReportLines
+pub mod Takes

@@ -40,5 +40,5 @@ pub record IsPlainOf (e : RawEnv) (f : FamilyId) (c : ℕ) : Type 0 where
   pub blocks : All IsEnumerationBlock e.decls
   pub main_is : e.main ≡ Construct f c
 
-abbrev pub IsPlain : RawEnv → Type 0
-IsPlain e = (f : FamilyId) × (c : ℕ) × IsPlainOf e f c
+abbrev pub IsPlainEnvironment : RawEnv → Type 0
+IsPlainEnvironment e = (f : FamilyId) × (c : ℕ) × IsPlainOf e f c

@@ -2,8 +2,8 @@
 use Rattle.std.specs.Prelude.{◌≡◌, ℕ, ◌⊎◌, List, [], ◌∷◌, ◌++◌, Some, slice_get, Option}
 use Rattle.std.specs.Io.KnownBytes.{Appends}
 use Rattle.pc_terms.specs.declared.leaf.FamilyId.{FamilyId}
-use Rattle.pc_rules.specs.declared.declaration.Constructor.{Constructor}
-use Rattle.pc_rules.specs.Environment.{FamilyDecl, KeepsFamily}
+use Rattle.calculus_rules.specs.declared.declaration.Constructor.{Constructor}
+use Rattle.calculus_rules.specs.Environment.{FamilyDecl, KeepsFamily}
 use Rattle.dump_reader.specs.declared.environment.RawEnv.{RawEnv}
 use Rattle.command_line.specs.declared.job.Job.TheVariants.{Compile, Exec}
 use Rattle.command_line.specs.declared.line.Request.{Request}

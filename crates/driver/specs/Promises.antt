@@ -7,10 +7,10 @@ use Rattle.dump_reader.specs.declared.environment.RawEnv.{RawEnv}
 use Rattle.command_line.specs.declared.job.Job.TheVariants.{Bench, Compile, Exec}
 use Rattle.command_line.specs.declared.line.Request.{Request}
 use Rattle.reports.specs.Shown.{Shown}
-use Rattle.report_lines.specs.declared.facts.Facts.{Facts}
-use Rattle.report_lines.specs.CheckFacts.{facts_of}
-use Rattle.report_lines.specs.Lines.{told_lines}
-use Rattle.report_lines.specs.Takes.{TakesLine}
+use Rattle.driver.specs.declared.reporting.facts.Facts.{Facts}
+use Rattle.driver.specs.ReportedFacts.{facts_of}
+use Rattle.driver.specs.ReportLines.{told_lines}
+use Rattle.driver.specs.Takes.{TakesLine}
 use Rattle.driver.specs.declared.refusal.Refusal.{Refusal}
 use Rattle.driver.specs.Lines.{status_of}
 use Rattle.driver.specs.Bench.{RunsModule}

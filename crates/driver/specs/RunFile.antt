@@ -2,9 +2,9 @@
 use Rattle.std.specs.Prelude.{ℕ, ◌≡◌, ◌≢◌, List, [], ◌∷◌, ◌++◌, Result, Ok, Err}
 use Rattle.wasm_core.specs.WordData.{Data}
 use Rattle.first_order.specs.Texts.{IsText, by_tags}
-use Rattle.file_run.specs.declared.refusal.FileRefusal.{FileRefusal}
-use Rattle.file_run.specs.declared.refusal.FileRefusal.TheVariants as files
-use Rattle.file_run.specs.FileEnds.{FileEnds}
+use Rattle.module_run.specs.declared.file_refusal.FileRefusal.{FileRefusal}
+use Rattle.module_run.specs.declared.file_refusal.FileRefusal.TheVariants as files
+use Rattle.module_run.specs.FileEnds.{FileEnds}
 use Rattle.driver.specs.declared.refusal.Refusal.{Refusal}
 use Rattle.driver.specs.declared.refusal.Refusal.TheVariants as refusals
 use Rattle.driver.specs.declared.refusal.RunEnd.TheVariants as runs

@@ -7,7 +7,7 @@ use Rattle.dump_reader.specs.declared.environment.RawEnv.{RawEnv}
 use Rattle.pc_terms.specs.Syntax.{Term}
 use Rattle.pc_rules.specs.declared.accepted.Accepted.{Accepted}
 use Rattle.pc_rules.specs.declared.meter.Account.{Account}
-use Rattle.pc_rules.specs.Environment.{Env}
+use Rattle.calculus_rules.specs.Environment.{Env}
 use Rattle.rule_laws.specs.Declarations.{IsCheckedEnvironment}
 use Rattle.env_check.specs.Rules.{givens}
 use Rattle.driver.specs.declared.refusal.Refusal.{Refusal}
@@ -24,8 +24,8 @@ use Rattle.driver.specs.Evaluable.{IsEvaluable}
 use Rattle.driver.specs.EvaluatedSource.{IsEvaluated}
 use Rattle.driver.specs.ExecEnds.{HasModule, IsExecCause, IsLargeFor, ExecEndsWith, RestEndsWith}
 use Rattle.workload.specs.WorkloadText.{text_of}
-use Rattle.report_lines.specs.declared.facts.Facts.{Facts}
-use Rattle.report_lines.specs.Takes.{TakesLine, TakesPrefix}
+use Rattle.driver.specs.declared.reporting.facts.Facts.{Facts}
+use Rattle.driver.specs.Takes.{TakesLine, TakesPrefix}
 use Rattle.driver.specs.CheckFacts.{HasFacts, no_facts}
 use Rattle.driver.specs.Executed.{IsExecuted}
 use Rattle.driver.specs.Benched.{IsBenched}
@@ -64,7 +64,7 @@ abbrev pub ReadsNothing : List (List ℕ) → Type 0
 ReadsNothing words = (q : Request) → request_of words ≡ Some q → q.job ≡ Bench
 
 -- The text is the answer of `check` on the input.
-pub record IsAccepted (turns : ℕ) (bytes text : List ℕ) : Type 0 where
+pub record IsCheckAnswer (turns : ℕ) (bytes text : List ℕ) : Type 0 where
   pub environment : RawEnv
   pub spelled : SpellsWithin bytes environment
   pub accepted : IsAcceptedBy turns environment
@@ -74,14 +74,14 @@ pub record IsAccepted (turns : ℕ) (bytes text : List ℕ) : Type 0 where
 -- The text is the answer on the input of a job with the numbers of a request.
 abbrev pub IsAnswerOf : Job → Request → (bytes text : List ℕ) → Type 0
 IsAnswerOf Exec q bytes text = IsExecuted q.turns q.pages q.steps bytes text
-IsAnswerOf Check q bytes text = IsAccepted q.turns bytes text
+IsAnswerOf Check q bytes text = IsCheckAnswer q.turns bytes text
 IsAnswerOf Eval q bytes text = IsEvaluated q.turns bytes text
 IsAnswerOf Run q bytes text = IsRunAnswer q.pages q.steps bytes text
 IsAnswerOf Compile q bytes text = IsMade q.turns q.pages bytes text
 IsAnswerOf Bench q bytes text = IsBenched q.turns q.pages q.steps bytes text
 
 -- The input, and the answer on it of the job that the words ask for.
-pub record Answered (words : List (List ℕ)) (left : Option (List ℕ)) (text : List ℕ) : Type 0 where
+pub record HasAnswer (words : List (List ℕ)) (left : Option (List ℕ)) (text : List ℕ) : Type 0 where
   pub request : Request
   pub asked : request_of words ≡ Some request
   pub bytes : List ℕ
@@ -162,7 +162,7 @@ IsCause r words left before now faults faults' = IsOfText r words left
 
 -- what a job's result says, before anything is written
 abbrev pub Says : {V : Type 0} → (V → List ℕ) → Result V Refusal → (words : List (List ℕ)) → (left : Option (List ℕ)) → (before now : ℕ) → Type 0
-Says view (Ok v) words left before now = Answered words left (view v)
+Says view (Ok v) words left before now = HasAnswer words left (view v)
 Says view (Err refusals.WriteFault) words left before now = ⊥
 Says view (Err r) words left before now = IsCause r words left before now 0 0
 

@@ -2,15 +2,15 @@
 use Rattle.std.specs.Prelude.{◌≡◌, ◌≢◌, ◌⊎◌, ◌≤◌, ℕ, List, [], ◌∷◌, Contains, Option, None}
 use Rattle.std.specs.Io.KnownBytes.{Appends}
 use Rattle.kio.specs.Known.{StillTells}
-use Rattle.pc_rules.specs.FirstOrder.{Data}
+use Rattle.calculus_rules.specs.FirstOrder.{Data}
 use Rattle.dump_reader.specs.declared.environment.RawEnv.{RawEnv}
 use Rattle.reports.specs.Shown.{Shown}
-use Rattle.report_lines.specs.Takes.{TakesPrefix}
+use Rattle.driver.specs.Takes.{TakesPrefix}
 use Rattle.command_line.specs.declared.line.Request.{Request}
 use Rattle.command_line.specs.Line.{request_of}
 use Rattle.driver.specs.Executed.{AnswersData, HasErasedData}
-use Rattle.driver.specs.Headline.{HasValue, AnswersValue, EvaluatesErased, IsBoundedBy, HasMatches, TakesMatches}
-use Rattle.driver.specs.Serve.{Answered, AsksModule, HasWell, IsAsked, IsLate, IsRefused, MakesModule, ReadsNothing}
+use Rattle.driver.specs.Headline.{HasValue, ServesValue, EvaluatesErased, IsBoundedBy, HasMatches, TakesMatches}
+use Rattle.driver.specs.Serve.{HasAnswer, AsksModule, HasWell, IsAsked, IsLate, IsRefused, MakesModule, ReadsNothing}
 use Rattle.driver.specs.Promises.{AnswersPlain, AnswersWhereItCan, EndsAsJudged, EndsAsLength, EndsAsRun, EndsAsText, NamesPlain, TellsReports}
 
 -- An object as a call meets it: itself, the bytes that it tells, its count of faults.
@@ -28,12 +28,12 @@ pub record IsKept {X : Type 0} (old new : Seen X) : Type 0 where
   pub tells : StillTells old.told new.told
 
 pub record Served {S K E : Type 0} (status : ℕ) (words : List (List ℕ)) (reports : List Shown) (src src' : Seen S) (out out' : Seen K) (err err' : Seen E) : Type 0 where
-  pub done : status ≡ 0 → (text : List ℕ) × Answered words src.told text × Appends out.told out'.told text
+  pub done : status ≡ 0 → (text : List ℕ) × HasAnswer words src.told text × Appends out.told out'.told text
   pub statuses : Contains (0 ∷ 1 ∷ 2 ∷ 3 ∷ 4 ∷ 5 ∷ 6 ∷ 7 ∷ 8 ∷ 9 ∷ 10 ∷ 11 ∷ 12 ∷ 13 ∷ 14 ∷ 15 ∷ []) status
   pub refused : status ≢ 0 → IsRefused status words src.told src.faults src'.faults out.faults out'.faults err.told err'.told err.faults err'.faults
   pub usage : status ≡ 2 → request_of words ≡ None
   pub faulty : request_of words ≡ None → (src'.object ≡ src.object) × ((status ≡ 2) ⊎ (status ≡ 1))
-  pub prefix : status ≡ 4 → (text : List ℕ) × Answered words src.told text × TakesPrefix out.told out'.told text
+  pub prefix : status ≡ 4 → (text : List ℕ) × HasAnswer words src.told text × TakesPrefix out.told out'.told text
   pub judged : EndsAsJudged status words src.told src.faults src'.faults out.faults out'.faults
   pub complete : AnswersWhereItCan status words src.told src.faults src'.faults out.faults out'.faults
   pub values : (q : Request) (e : RawEnv) (ds : Data) (n k : ℕ) → AsksModule q e words src.told → HasErasedData q.turns e ds n k → AnswersData q e ds status out.told out'.told
@@ -41,7 +41,7 @@ pub record Served {S K E : Type 0} (status : ℕ) (words : List (List ℕ)) (rep
   pub named : NamesPlain status words src.told out.told out'.told
   pub finishes : EndsAsRun status words src.told src.faults src'.faults out.faults out'.faults
   pub well : (q : Request) (bytes : List ℕ) → IsAsked q words src.told bytes → MakesModule q.job → IsLate status → HasWell bytes
-  pub headline : (q : Request) (e : RawEnv) (n : ℕ) → AsksModule q e words src.told → (h : HasValue q.turns e n) → AnswersValue q e n status h out.told out'.told
+  pub headline : (q : Request) (e : RawEnv) (n : ℕ) → AsksModule q e words src.told → (h : HasValue q.turns e n) → ServesValue q e n status h out.told out'.told
   pub bounded : (q : Request) (e : RawEnv) (n : ℕ) → AsksModule q e words src.told → (h : EvaluatesErased q.turns e n) → IsBoundedBy q e n h status
   pub matched : (q : Request) (e : RawEnv) (matches : ℕ) → AsksModule q e words src.told → HasMatches q.turns e matches → TakesMatches q e matches status
   pub refuses_text : EndsAsText status words src.told src.faults src'.faults

@@ -10,9 +10,9 @@ ghost use Rattle.driver.specs.Serve.{JobSays};
 
 use crate::exec::{Executed, execute};
 use crate::refusal::Refusal;
+use crate::reporting::Facts;
 use command_line::Request;
 use itoa::Buffer;
-use report_lines::Facts;
 use std::alloc::{AllocError, Global};
 use workload::{MakeTextFault, make};
 

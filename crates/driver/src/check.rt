@@ -10,6 +10,7 @@ ghost use Rattle.driver.specs.Serve.{AcceptSays, CheckSays, JobSays};
 
 use crate::facts::check_facts;
 use crate::refusal::{Refusal, Where};
+use crate::reporting::Facts;
 use command_line::Request;
 use dump_reader::declaration::RawDecl;
 use dump_reader::environment::RawEnv;
@@ -21,7 +22,6 @@ use pc_rules::broken::{Broken, Place};
 use pc_rules::meter::Meter;
 use pc_terms::leaf::Name;
 use reduction::substitution::Subst;
-use report_lines::Facts;
 use std::alloc::Global;
 
 /// The number of a rule that may be broken, from 1 on.

@@ -3,12 +3,12 @@
 ghost use Rattle.std.specs.Prelude.{◌≡◌, ◌∷◌, ◌++◌, []};
 ghost use Rattle.kio.specs.Known.{StillTells};
 ghost use Rattle.driver.specs.Lines.{line_of, number_text};
-ghost use Rattle.report_lines.specs.Takes.{TakesLine};
+ghost use Rattle.driver.specs.Takes.{TakesLine};
 
 use crate::refusal::{Refusal, front, name, number, place, second};
+use crate::reporting::write_parts;
 use itoa::Buffer;
 use kio::Sink;
-use report_lines::write_parts;
 
 /// Writes the refusal's line, as far as err takes it. It takes no memory.
 pub(crate) fn write_line<E: Sink>(err: &mut E, refusal: &Refusal)

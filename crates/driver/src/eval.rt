@@ -1,8 +1,8 @@
 //! The job `eval`: from the bytes of a dump to the text of main's value, by the source's own evaluation.
 
 ghost use Rattle.std.specs.Prelude.{◌≡◌, ℕ, IfOk, IfErr, OnOk};
-ghost use Rattle.pc_rules.specs.Evaluation.{Evaluates};
-ghost use Rattle.pc_rules.specs.FirstOrder.{IsFirstOrder};
+ghost use Rattle.calculus_rules.specs.Evaluation.{Evaluates};
+ghost use Rattle.calculus_rules.specs.FirstOrder.{IsFirstOrder};
 ghost use Rattle.first_order.specs.Reading.{read, Read};
 ghost use Rattle.first_order.specs.Searching.{members, AreNamed};
 ghost use Rattle.first_order.specs.Texts.{HasNames};
@@ -13,6 +13,7 @@ ghost use Rattle.driver.specs.SourceSays.{ShapesSay, ValueSays, DataSays, IsLine
 
 use crate::check::{accept_within, units};
 use crate::refusal::Refusal;
+use crate::reporting::Facts;
 use command_line::Request;
 use data_trees::Data;
 use dump_reader::environment::RawEnv;
@@ -27,7 +28,6 @@ use pc_rules::accepted::Accepted;
 use pc_rules::meter::Meter;
 use pc_terms::term::Term;
 use reduction::substitution::Subst;
-use report_lines::Facts;
 use source_eval::evaluation::{EvalStop, eval as evaluate};
 use std::alloc::Global;
 

@@ -11,6 +11,7 @@ ghost use Rattle.driver.specs.Serve.{JobSays};
 
 use crate::main_module::main_module;
 use crate::refusal::{Refusal, RunEnd};
+use crate::reporting::Facts;
 use crate::running::measured;
 use command_line::Request;
 use dump_reader::names::Names;
@@ -18,7 +19,6 @@ use first_order::faults::TextFault;
 use first_order::shapes::Shapes;
 use first_order::texts::text_of;
 use module_run::Answer;
-use report_lines::Facts;
 use std::alloc::Global;
 
 /// What main's module answers, with the figures of its environment and its run.

@@ -2,10 +2,10 @@
 ghost use Rattle.std.specs.Prelude.{◌≡◌, count_by};
 ghost use Rattle.driver.specs.CheckFacts.{facts_of_check, is_axiom as is_bodiless, no_facts as none};
 
+use crate::reporting::Facts;
 use dump_reader::declaration::RawDecl;
 use dump_reader::environment::RawEnv;
 use pc_rules::meter::Meter;
-use report_lines::Facts;
 
 /// No fact, as of a job that makes no check.
 pub(crate) fn no_facts() -> Facts

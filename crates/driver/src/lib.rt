@@ -6,7 +6,7 @@
 //! `main_module.rt` lists the stages to main's module, that `exec` and `compile` share: read, check, first-order types, erasure (`erasing.rt`), the passes (`running.rt`). `exec` (in
 //! `exec.rt`) goes on to that module's answer (`running.rt`) and its text; `compile` (in `object.rt`) writes its bytes. `run` (in `run.rt`) gives the text of the answer of the module
 //! that is its input. `bench` (in `bench.rt`) does on its text what `exec` does, and writes the figures of that. After the check its facts are noted (`facts.rt`), which the caller's
-//! reports are told where the status is 0.
+//! reports are told where the status is 0 (`reporting.rt`).
 //!
 //! What `serve` promises: on status 0 the input spells an environment that is well formed, and out takes `ok`, or, by `eval`, the text of main's value, or, by `exec`, the text of the
 //! data that the run of a valid module answers, which is made of an erasure of main, or, by `compile`, that module's bytes (`done`). By `exec`, `bench` and `compile`: the environment is well
@@ -23,10 +23,10 @@
 //! stages of `exec` say, and how it ends), `Executed` (its answer), `ErasureParts` (what the code of erasure says), `MainModule` (what the stages to main's module hand on), `MadeModule` (the answer of `compile`, and how it
 //! ends), `Headline` (what is owed to an evaluation of main), `RunFile` (the answer of `run` and its refusals), `Bench`, `Figures` and `Benched` (the lines of `bench`, and its answer), `CheckFacts` (the facts of a check). Which
 //! bytes spell which environment, and what a text's first refusal is, are definitions of `dump_grammar` and `dump_reader`; which environments are well formed is one of `rule_laws` over those of `pc_rules`; what erasure and
-//! the passes give is defined in `erase_rules` and `back_end`; what modules, their bytes, typings and runs are, in `wasm_core`; what a report's line is, in `report_lines`.
+//! the passes give is defined in `erase_rules` and `back_end`; what modules, their bytes, typings and runs are, in `wasm_core`; what a report's line is, in `ReportLines`.
 //!
-//! Below stand `kio`, `dump_reader`, `env_check`, `source_eval`, `first_order`, `erase`, `compile`, `module_run`, `file_run`, `workload`, `report_lines` and `command_line`; above stand the program `erasec` and the law
-//! `serve_laws`.
+//! Below stand `kio`, `dump_reader`, `env_check`, `source_eval`, `first_order`, `erase`, `compile`, `module_run`, `workload`, `reports` and `command_line`; above stand the program `erasec` and the laws
+//! of `job_laws`.
 #![tactic(auto)]
 
 mod bench;
@@ -39,6 +39,7 @@ mod facts;
 mod main_module;
 mod object;
 mod refusal;
+mod reporting;
 mod run;
 mod running;
 mod top;

@@ -8,12 +8,12 @@ use crate::check::{accept_within, units};
 use crate::erasing::erased;
 use crate::eval::shapes_of;
 use crate::refusal::Refusal;
+use crate::reporting::Facts;
 use crate::running::compiled;
 use command_line::Request;
 use dump_reader::environment::RawEnv;
 use dump_reader::reading::read_env;
 use first_order::shapes::Shapes;
-use report_lines::Facts;
 use std::alloc::Global;
 use wasm_core::Valid;
 

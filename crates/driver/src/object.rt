@@ -8,8 +8,8 @@ ghost use Rattle.driver.specs.Serve.{JobSays};
 
 use crate::main_module::main_module;
 use crate::refusal::{ProgramLimit, Refusal};
+use crate::reporting::Facts;
 use command_line::Request;
-use report_lines::Facts;
 use std::alloc::Global;
 use wasm_core::{EncodeFault, Valid};
 use wasm_encode::encode;

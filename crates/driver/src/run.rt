@@ -8,9 +8,9 @@ ghost use Rattle.driver.specs.Serve.{JobSays};
 use crate::refusal::{ModuleFault, Refusal, RunEnd};
 use command_line::Request;
 use data_trees::Data;
-use file_run::{FileRefusal, answer_of_file};
 use first_order::faults::TextFault;
 use first_order::texts::tags_of;
+use module_run::{FileRefusal, answer_of_file};
 use std::alloc::Global;
 
 /// The refusal of a module's answer, as one of the job.

@@ -3,19 +3,19 @@
 ghost use Rattle.std.specs.Prelude.{◌≡◌, ◌≢◌, ◌⊎◌, ◌≤◌, ℕ, List, [], ◌∷◌, Contains, IfErr, IfOk, OnOk, map, None, Some};
 ghost use Rattle.std.specs.Io.KnownBytes.{Appends};
 ghost use Rattle.kio.specs.Known.{StillTells};
-ghost use Rattle.pc_rules.specs.FirstOrder.{Data};
+ghost use Rattle.calculus_rules.specs.FirstOrder.{Data};
 ghost use Rattle.dump_reader.specs.declared.environment.RawEnv.{RawEnv};
 ghost use Rattle.command_line.specs.Line.{IsInRange, request_of, words_of};
 ghost use Rattle.command_line.specs.declared.line.Request.{Request as Asked};
 ghost use Rattle.command_line.specs.declared.job.Job.TheVariants.{Bench};
-ghost use Rattle.report_lines.specs.CheckFacts.{facts_of};
-ghost use Rattle.report_lines.specs.Lines.{told_lines};
-ghost use Rattle.report_lines.specs.Takes.{TakesLine, TakesPrefix};
+ghost use Rattle.driver.specs.ReportedFacts.{facts_of};
+ghost use Rattle.driver.specs.ReportLines.{told_lines};
+ghost use Rattle.driver.specs.Takes.{TakesLine, TakesPrefix};
 ghost use Rattle.driver.specs.CheckFacts.{no_facts as none};
 ghost use Rattle.driver.specs.Lines.{status_of, line_of};
 ghost use Rattle.driver.specs.Executed.{AnswersData, HasErasedData};
-ghost use Rattle.driver.specs.Headline.{AnswersValue, EvaluatesErased, HasMatches, HasValue, IsBoundedBy, TakesMatches};
-ghost use Rattle.driver.specs.Serve.{Answered, AreFacts, AsksModule, ConcludesOn, HasJobFacts, HasWell, InputSays, IsAsked, IsLate, JobSays, MakesModule, ReadSays, ReadsNothing, RequestSays, Says};
+ghost use Rattle.driver.specs.Headline.{ServesValue, EvaluatesErased, HasMatches, HasValue, IsBoundedBy, TakesMatches};
+ghost use Rattle.driver.specs.Serve.{HasAnswer, AreFacts, AsksModule, ConcludesOn, HasJobFacts, HasWell, InputSays, IsAsked, IsLate, JobSays, MakesModule, ReadSays, ReadsNothing, RequestSays, Says};
 ghost use Rattle.driver.specs.Promises.{AnswersPlain, AnswersWhereItCan, EndsAsJudged, EndsAsLength, EndsAsRun, EndsAsText, NamesPlain, ShowsCause, TellsReports};
 ghost use Rattle.driver.specs.Served.{ServedOn};
 
@@ -27,10 +27,10 @@ use crate::exec::exec;
 use crate::facts::no_facts;
 use crate::object::object;
 use crate::refusal::{Refusal, status};
+use crate::reporting::{Facts, tell_and_write};
 use crate::run::run;
 use command_line::{Job, LineFault, Request, read_line};
 use kio::{ReadAll, Sink, Source, read_all, write_all};
-use report_lines::{Facts, tell_and_write};
 use reports::Report;
 use std::alloc::Global;
 
@@ -129,7 +129,7 @@ fn refuse<E: Sink>(err: &mut E, refusal: Refusal) -> u8
 }
 
 /// Writes the text of the answer to out, and then the lines of the reports to err, which are told the facts before; or the refusal's line to err. Gives the status, and drops the reports.
-#[tactic(auto, using(report_lines::proofs::PartByPart::tells_same))]
+#[tactic(auto, using(crate::proofs::PartByPart::tells_same))]
 fn conclude<K: Sink, E: Sink>(
     out: &mut K,
     err: &mut E,
@@ -201,14 +201,14 @@ pub fn serve<S: Source, K: Sink, E: Sink>(
 ) -> u8
     // The answer: the text spells an environment that is well formed, and out takes `ok`, the text of main's value, or of what main's module answers; by `run` of what the
     // module of the input answers.
-    ensures done { result ≡ 0 → (text : List ℕ) × Answered (words_of words.now) (S.left src.old) text × Appends (K.taken out.old) (K.taken out.new) text }
+    ensures done { result ≡ 0 → (text : List ℕ) × HasAnswer (words_of words.now) (S.left src.old) text × Appends (K.taken out.old) (K.taken out.new) text }
     ensures statuses { Contains (0 ∷ 1 ∷ 2 ∷ 3 ∷ 4 ∷ 5 ∷ 6 ∷ 7 ∷ 8 ∷ 9 ∷ 10 ∷ 11 ∷ 12 ∷ 13 ∷ 14 ∷ 15 ∷ []) result }
 
     // Each refusal has its cause, and its line goes to err.
     ensures refused { ShowsCause result (words_of words.now) S.left S.faults src.old src.new K.faults out.old out.new E.taken E.faults err.old err.new }
     ensures usage { result ≡ 2 → request_of (words_of words.now) ≡ None }
     ensures faulty { request_of (words_of words.now) ≡ None → (src.new ≡ src.old) × ((result ≡ 2) ⊎ (result ≡ 1)) }
-    ensures prefix { result ≡ 4 → (text : List ℕ) × Answered (words_of words.now) (S.left src.old) text × TakesPrefix (K.taken out.old) (K.taken out.new) text }
+    ensures prefix { result ≡ 4 → (text : List ℕ) × HasAnswer (words_of words.now) (S.left src.old) text × TakesPrefix (K.taken out.old) (K.taken out.new) text }
 
     // Where the source's count doesn't rise, nor out's where something is written, and the rules pass no limit, want of memory is the only other answer.
     ensures judged { EndsAsJudged result (words_of words.now) (S.left src.old) (S.faults src.old) (S.faults src.new) (K.faults out.old) (K.faults out.new) }
@@ -231,7 +231,7 @@ pub fn serve<S: Source, K: Sink, E: Sink>(
     // The headline: where main, of a first-order type, evaluates to a value, every long enough run of the module that `exec` and `bench` run or `compile` writes answers it or is exhausted, and
     // `exec` writes that value's text, `bench` that behind the figures, or shows a cause; with the bounds on memory and on steps, and at least as many steps as matches.
     ensures headline { (q : Asked) (e : RawEnv) (n : ℕ) → AsksModule q e (words_of words.now) (S.left src.old) →
-        (h : HasValue q.turns e n) → AnswersValue q e n result h (K.taken out.old) (K.taken out.new) }
+        (h : HasValue q.turns e n) → ServesValue q e n result h (K.taken out.old) (K.taken out.new) }
     ensures bounded { (q : Asked) (e : RawEnv) (n : ℕ) → AsksModule q e (words_of words.now) (S.left src.old) → (h : EvaluatesErased q.turns e n) → IsBoundedBy q e n h result }
     ensures matched { (q : Asked) (e : RawEnv) (matches : ℕ) → AsksModule q e (words_of words.now) (S.left src.old) → HasMatches q.turns e matches → TakesMatches q e matches result }
 

@@ -14,8 +14,8 @@
 //! (`text`). The proofs have the same text as a form of the grammar: its tokens and its meaning, names and levels in the same first-use order,
 //! and the limits.
 //!
-//! Below stand `kio` (sinks), `dump_reader` (environments, and which text spells one), `dump_grammar`, `pc_terms` and `universe_levels`. No crate
-//! stands above.
+//! Below stand `kio` (sinks), `dump_reader` (environments, and which text spells one), `dump_grammar`, `pc_terms` and `universe_levels`. Above stands
+//! `text_rows`, whose rows are printed and read again.
 #![tactic(auto)]
 
 ghost use Rattle.std.specs.Prelude.{OnOk, IfErr, Ok, ◌≤◌};

@@ -5,18 +5,18 @@ use Rattle.pc_terms.specs.Syntax.{Term}
 use Rattle.dump_reader.specs.declared.declaration.RawFamily.{RawFamily}
 use Rattle.dump_reader.specs.declared.declaration.RawDecl.{RawDecl}
 use Rattle.dump_reader.specs.declared.declaration.RawDecl.TheVariants.{Block as RawBlock}
-use Rattle.pc_rules.specs.declared.declaration.Block.{Block}
-use Rattle.pc_rules.specs.declared.declaration.Kept.{Kept}
-use Rattle.pc_rules.specs.declared.declaration.Kept.TheVariants.{Block as Whole}
+use Rattle.calculus_rules.specs.declared.declaration.Block.{Block}
+use Rattle.calculus_rules.specs.declared.declaration.Kept.{Kept}
+use Rattle.calculus_rules.specs.declared.declaration.Kept.TheVariants.{Block as Whole}
 use Rattle.pc_rules.specs.declared.meter.Account.{Account}
 use Rattle.pc_rules.specs.declared.meter.Meter.{Meter}
 use Rattle.pc_rules.specs.declared.stop.Halt.{Halt}
-use Rattle.pc_rules.specs.Environment.{Env}
+use Rattle.calculus_rules.specs.Environment.{Env}
 use Rattle.pc_rules.specs.Lookup.{IsNew}
-use Rattle.pc_rules.specs.Accepted.{IsFresh, block, IsAccepted}
+use Rattle.calculus_rules.specs.Accepted.{IsFresh, block, IsAccepted}
 use Rattle.pc_rules.specs.Follows.{Answers, Follows}
 use Rattle.pc_rules.specs.DirectedRun.{Run, done, bind}
-use Rattle.pc_rules.specs.DirectedWeakHead.{kept_at}
+use Rattle.calculus_rules.specs.Lookups.{kept_at}
 use Rattle.pc_rules.specs.DirectedComparison.{Test}
 use Rattle.pc_rules.specs.DirectedDeclarations.{fresh_name, constant_rule, block_rule, GivenConstant, GivenBlock, declaration_rule}
 use Rattle.pc_rules.proofs.Following.{follows_bind, follows_err, follows_done, follows_still}

@@ -6,18 +6,18 @@ use Rattle.universe_levels.specs.declared.level.Level.{Level}
 use Rattle.universe_levels.specs.declared.constraint.Constraint.{Constraint}
 use Rattle.pc_terms.specs.Syntax.{Term}
 use Rattle.dump_reader.specs.declared.declaration.RawDecl.{RawDecl}
-use Rattle.pc_rules.specs.declared.declaration.Kept.{Kept}
+use Rattle.calculus_rules.specs.declared.declaration.Kept.{Kept}
 use Rattle.pc_rules.specs.declared.meter.Account.{Account}
 use Rattle.pc_rules.specs.declared.meter.Meter.{Meter}
 use Rattle.pc_rules.specs.declared.broken.Place.TheVariants.{Declaration as AtDeclaration}
 use Rattle.pc_rules.specs.declared.stop.Halt.{Halt}
-use Rattle.pc_rules.specs.Environment.{Env, name_of}
+use Rattle.calculus_rules.specs.Environment.{Env, name_of}
 use Rattle.pc_rules.specs.Lookup.{IsNew, with_kept}
-use Rattle.pc_rules.specs.Accepted.{IsFresh, Accepted, constant, block, IsAccepted}
-use Rattle.pc_rules.specs.Typing.{Types, guarded}
+use Rattle.calculus_rules.specs.Accepted.{IsFresh, Accepted, constant, block, IsAccepted}
+use Rattle.calculus_rules.specs.Typing.{Types, guarded}
 use Rattle.pc_rules.specs.Entailment.{test_of}
 use Rattle.pc_rules.specs.Follows.{Halts, IsAfter, Follows}
-use Rattle.pc_rules.specs.DirectedWeakHead.{kept_at}
+use Rattle.calculus_rules.specs.Lookups.{kept_at}
 use Rattle.pc_rules.specs.DirectedRun as run
 use Rattle.pc_rules.specs.DirectedDeclarations.{Given, declaration_rule, declarations_rule, main_rule, first_repeated}
 use Rattle.rule_laws.specs.Declarations.{plain, plain_given, IsCheckedDeclaration, IsCheckedEnvironment}

@@ -11,9 +11,9 @@ use Rattle.pc_rules.specs.declared.accepted.Accepted.{Accepted}
 use Rattle.pc_rules.specs.declared.broken.Broken.TheVariants.{UniverseCycle}
 use Rattle.pc_rules.specs.declared.meter.Account.{Account}
 use Rattle.pc_rules.specs.declared.meter.Meter.{Meter}
-use Rattle.pc_rules.specs.Environment.{Env}
-use Rattle.pc_rules.specs.Accepted.{Accepted as Accepts, empty, IsAccepted}
-use Rattle.pc_rules.specs.Typing.{Types, guarded}
+use Rattle.calculus_rules.specs.Environment.{Env}
+use Rattle.calculus_rules.specs.Accepted.{Accepted as Accepts, empty, IsAccepted}
+use Rattle.calculus_rules.specs.Typing.{Types, guarded}
 use Rattle.pc_rules.specs.Entailment.{entailed_by, test_of}
 use Rattle.pc_rules.specs.Follows.{IsAfter}
 use Rattle.pc_rules.specs.DirectedDeclarations.{Checked, first_repeated, first_undeclared_end, place_of, main_rule, declarations_rule, graph_rule, constraints_rule, levels_rule}

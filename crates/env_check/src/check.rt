@@ -1,10 +1,10 @@
 //! The check of a whole environment.
 ghost use Rattle.std.specs.Prelude.{◌≡◌, ◌-◌, [], IfOk};
 ghost use Rattle.dump_reader.specs.Spelled.{IsSpelled};
-ghost use Rattle.pc_rules.specs.Accepted.{IsAccepted};
+ghost use Rattle.calculus_rules.specs.Accepted.{IsAccepted};
 ghost use Rattle.pc_rules.specs.Entailment.{test_of};
 ghost use Rattle.pc_rules.specs.Follows.{IsAfter};
-ghost use Rattle.pc_rules.specs.Typing.{Types, guarded};
+ghost use Rattle.calculus_rules.specs.Typing.{Types, guarded};
 ghost use Rattle.pc_rules.specs.DirectedDeclarations.{main_rule};
 ghost use Rattle.rule_laws.specs.Declarations.{IsCheckedEnvironment};
 ghost use Rattle.env_check.specs.Rules.{givens};

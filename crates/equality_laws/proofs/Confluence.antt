@@ -1,9 +1,9 @@
 -- Parallel reduction has the diamond property, so several steps are confluent.
 use Rattle.std.proofs.Common.{List, [], length, refl, sym, ◌∙◌}
 use Rattle.pc_terms.specs.Syntax.{Slot, slots, Term, Terms, Children, End, Child, Group, Done, Next, Label, Node, SortT, Rel, App, put, put_all, substitute, apply}
-use Rattle.pc_rules.specs.Environment.{Env}
-use Rattle.pc_rules.specs.Instances.{unfolded}
-use Rattle.pc_rules.specs.Step.{Root, beta, zeta, constant, matched, fixpoint}
+use Rattle.calculus_rules.specs.Environment.{Env}
+use Rattle.calculus_rules.specs.Instances.{unfolded}
+use Rattle.calculus_rules.specs.Step.{Root, beta, zeta, constant, matched, fixpoint}
 use Rattle.equality_laws.proofs.Reducing.{Par, ParIn, ParTerms, Steps, rel, sorts, inside, contract, end, and, group, done, next, none, more}
 use Rattle.equality_laws.proofs.Roots.{Settled, root_one}
 use Rattle.equality_laws.proofs.Substituted.{par_same, par_is, item_reduced, par_put, par_put_all, par_unfolded, par_app, par_apply}

@@ -1,7 +1,7 @@
 -- Convertibility is an equivalence, a congruence, and kept by substitution.
 use Rattle.std.proofs.Common.{◌≡◌, ℕ, List, [], ◌∷◌, subst}
 use Rattle.pc_terms.specs.Syntax.{Slot, Under, Lists, slots, Term, Terms, Children, End, Child, Group, Done, Next, Node, Label, substitute}
-use Rattle.pc_rules.specs.Environment.{Env}
+use Rattle.calculus_rules.specs.Environment.{Env}
 use Rattle.equality_laws.proofs.Roots.{Settled}
 use Rattle.equality_laws.proofs.Reducing.{Par, inside, ParIn, ParTerms, Steps, none, more, Convertible}
 use Rattle.equality_laws.proofs.Substituted.{par_same, par_in_same, par_terms_same, par_substituted}

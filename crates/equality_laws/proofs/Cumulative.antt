@@ -2,7 +2,7 @@
 use Rattle.std.proofs.Common.{◌≡◌, List, refl, sym, ap, subst, ◌∙◌}
 use Rattle.universe_levels.specs.declared.sort.Sort.{Sort}
 use Rattle.pc_terms.specs.Syntax.{Term, End, Child, ProdOf, SortT, Prod, head, args}
-use Rattle.pc_rules.specs.Environment.{Env, Entails}
+use Rattle.calculus_rules.specs.Environment.{Env, Entails}
 use Rattle.equality_laws.proofs.Reducing.{Par, ParEach, sorts, inside, contract, end, and, Steps, none, more, Convertible}
 use Rattle.equality_laws.proofs.Roots.{Settled, entails_same, entails_then}
 use Rattle.equality_laws.proofs.Spines.{Stays, stays}

@@ -4,11 +4,11 @@ use Rattle.std.proofs.Common.{◌≡◌, ℕ, List, [], ◌∷◌, map, None, sy
 use Rattle.universe_levels.specs.declared.sort.Sort.{Sort}
 use Rattle.pc_terms.specs.declared.leaf.FamilyId.{FamilyId}
 use Rattle.pc_terms.specs.Syntax.{Term, SortT, Prod, Ind, Construct, apply, head, args, substitute}
-use Rattle.pc_rules.specs.Environment.{Env, Entails}
-use Rattle.pc_rules.specs.Context.{Values}
-use Rattle.pc_rules.specs.Conversion.{Equal, Below, back, chain, equal, same}
-use Rattle.pc_rules.proofs.Spines.{head-apply, args-apply}
-use Rattle.erase_laws.proofs.Telescopes.{substitute-apply}
+use Rattle.calculus_rules.specs.Environment.{Env, Entails}
+use Rattle.calculus_rules.specs.Context.{Values}
+use Rattle.calculus_rules.specs.Conversion.{Equal, Below, back, chain, equal, same}
+use Rattle.calculus_rules.proofs.Spines.{head-apply, args-apply}
+use Rattle.typing_laws.proofs.Telescopes.{substitute-apply}
 use Rattle.equality_laws.specs.Laws.{EqualEach, no_terms, a_term}
 use Rattle.equality_laws.proofs.Reducing.{ParEach, each_none, each_one, Convertible}
 use Rattle.equality_laws.proofs.Roots.{Settled}

@@ -2,14 +2,14 @@
 use Rattle.std.proofs.Common.{ℕ, zero, suc, ◌≡◌, List, ◌∷◌, Some, None, refl, sym, ap, ◌∙◌, subst}
 use mathlib.Core.Path.{fun_ext}
 use Rattle.pc_terms.specs.Syntax.{Slot, Term, Terms, Children, Rel, LetIn, rename, substitute, substitute_children, substitute_terms, over, overs, first, put}
-use Rattle.pc_rules.specs.Environment.{Env}
-use Rattle.pc_rules.specs.Context.{Values, value_at, under}
-use Rattle.pc_rules.specs.Step.{Root}
-use Rattle.pc_rules.specs.Conversion.{Equal, step, sorts, same, back, chain, inside, let_body, EqualChildren, end, and, group, EqualTerms, done, next, Below, equal, product}
-use Rattle.pc_rules.proofs.Spines.{one_item}
+use Rattle.calculus_rules.specs.Environment.{Env}
+use Rattle.calculus_rules.specs.Context.{Values, value_at, under}
+use Rattle.calculus_rules.specs.Step.{Root}
+use Rattle.calculus_rules.specs.Conversion.{Equal, step, sorts, same, back, chain, inside, let_body, EqualChildren, end, and, group, EqualTerms, done, next, Below, equal, product}
+use Rattle.calculus_rules.proofs.Spines.{one_item}
 use Rattle.trees.proofs.Fusion.{substitute-rename, substitute-substitute}
 use Rattle.trees.proofs.Put.{substitute_same}
-use Rattle.erase_laws.proofs.RenamingAndPutting.{swap, lifted_some, later_is}
+use Rattle.typing_laws.proofs.RenamingAndPutting.{swap, lifted_some, later_is}
 use Rattle.equality_laws.proofs.Reducing.{Convertible}
 use Rattle.equality_laws.proofs.Roots.{Settled, StepOf, contraction, value, step_of, root_substituted}
 use Rattle.equality_laws.proofs.Substituted.{of_root}

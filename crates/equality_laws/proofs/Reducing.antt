@@ -2,8 +2,8 @@
 use Rattle.std.specs.Prelude.{ℕ, List, [], ◌∷◌}
 use Rattle.universe_levels.specs.declared.sort.Sort.{Sort}
 use Rattle.pc_terms.specs.Syntax.{Slot, Under, Lists, slots, Term, Terms, Children, End, Child, Group, Done, Next, Label, Rel, Node, SortT}
-use Rattle.pc_rules.specs.Environment.{Env, Entails}
-use Rattle.pc_rules.specs.Step.{Root}
+use Rattle.calculus_rules.specs.Environment.{Env, Entails}
+use Rattle.calculus_rules.specs.Step.{Root}
 
 mutual
   pub data Par (E : Env) : Term → Term → Type 0 where

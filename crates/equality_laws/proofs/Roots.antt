@@ -3,20 +3,20 @@ use Rattle.std.proofs.Common.{◌≡◌, ℕ, [], map, Some, sym, ap, ◌∙◌,
 use Rattle.universe_levels.specs.declared.sort.Sort.{Sort}
 use Rattle.universe_levels.specs.declared.sort.Sort.TheVariants.{Prop, Of}
 use Rattle.pc_terms.specs.Syntax.{Term, Rel, App, Fix, overs, substitute, substitute_terms, put_all, apply}
-use Rattle.pc_rules.specs.Environment.{Env, Entails}
-use Rattle.pc_rules.specs.Context.{Values, value_at}
-use Rattle.pc_rules.specs.Instances.{unfolded}
-use Rattle.pc_rules.specs.Step.{Root, beta, zeta, constant, variable, matched, fixpoint}
-use Rattle.pc_rules.specs.Laws.{OneEach}
-use Rattle.pc_rules.specs.Accepted.{IsAccepted}
-use Rattle.pc_rules.specs.WeakHead.{at_root}
-use Rattle.pc_rules.proofs.OneEach.{one_of_each}
-use Rattle.pc_rules.proofs.WeakHead.{weak_determined}
+use Rattle.calculus_rules.specs.Environment.{Env, Entails}
+use Rattle.calculus_rules.specs.Context.{Values, value_at}
+use Rattle.calculus_rules.specs.Instances.{unfolded}
+use Rattle.calculus_rules.specs.Step.{Root, beta, zeta, constant, variable, matched, fixpoint}
+use Rattle.calculus_rules.specs.Laws.{OneEach}
+use Rattle.calculus_rules.specs.Accepted.{IsAccepted}
+use Rattle.calculus_rules.specs.WeakHead.{at_root}
+use Rattle.calculus_rules.proofs.OneEach.{one_of_each}
+use Rattle.calculus_rules.proofs.WeakHead.{weak_determined}
 use Rattle.trees.proofs.Put.{each_length, substitute_whole, substitute-put, substitute-put_all_in, substituted_term, term_at-substitute}
-use Rattle.erase_laws.proofs.ClosedEnv.{ClosedEnv}
-use Rattle.erase_laws.proofs.AcceptedClosed.{accepted_closed}
-use Rattle.erase_laws.proofs.Telescopes.{substitute-apply, substitute-unfolding}
-use Rattle.erase_laws.proofs.Traversal.{substitute_constructor}
+use Rattle.typing_laws.proofs.ClosedEnv.{ClosedEnv}
+use Rattle.typing_laws.proofs.AcceptedClosed.{accepted_closed}
+use Rattle.typing_laws.proofs.Telescopes.{substitute-apply, substitute-unfolding}
+use Rattle.typing_laws.proofs.Traversal.{substitute_constructor}
 
 -- what the proofs ask of an environment: each name is declared once, and the declarations are closed
 pub record Settled (E : Env) : Type 0 where

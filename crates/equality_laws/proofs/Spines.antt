@@ -2,9 +2,9 @@
 use Rattle.std.proofs.Common.{◌≡◌, ℕ, suc, ◌+◌, ◌≤◌, List, [], ◌∷◌, ◌++◌, length, Some, refl, sym, ap, ◌∙◌, subst, arith, length-append, slice_get}
 use Rattle.pc_terms.specs.declared.leaf.FamilyId.{FamilyId}
 use Rattle.pc_terms.specs.Syntax.{Term, Terms, App, Ind, Construct, Fix, SortOf, ProdOf, LambdaOf, LetInOf, AppOf, ConstOf, IndOf, ConstructOf, CaseOf, FixOf, apply, head, args}
-use Rattle.pc_rules.specs.Environment.{Env}
-use Rattle.pc_rules.specs.Step.{IsConstructor, is_constructor, Root, beta, fixpoint}
-use Rattle.pc_rules.proofs.Spines.{head-apply, args-apply, one_item, index_of, rargs_of, types_of, bodies_of}
+use Rattle.calculus_rules.specs.Environment.{Env}
+use Rattle.calculus_rules.specs.Step.{IsConstructor, is_constructor, Root, beta, fixpoint}
+use Rattle.calculus_rules.proofs.Spines.{head-apply, args-apply, one_item, index_of, rargs_of, types_of, bodies_of}
 use Rattle.term_laws.proofs.Arguments.{spine-whole}
 use Rattle.equality_laws.proofs.Reducing.{Par, ParTerms, ParEach, rel, sorts, inside, contract, end, and, group, each_none, each_one}
 

@@ -1,9 +1,9 @@
 -- Parallel reduction is reflexive, is kept by renaming and substitution, and finds each item of a list.
 use Rattle.std.proofs.Common.{◌≡◌, ℕ, zero, suc, ◌+◌, List, [], Option, Some, length, refl, ap, subst}
 use Rattle.pc_terms.specs.Syntax.{Slot, slots, Term, Terms, Children, End, Child, Group, Done, Next, Rel, Node, App, rename, overs, substitute, substitute_children, substitute_terms, first, put, put_all, term_at, apply}
-use Rattle.pc_rules.specs.Environment.{Env}
-use Rattle.pc_rules.specs.Instances.{unfolded, fixpoints}
-use Rattle.pc_rules.specs.Step.{Root, variable}
+use Rattle.calculus_rules.specs.Environment.{Env}
+use Rattle.calculus_rules.specs.Instances.{unfolded, fixpoints}
+use Rattle.calculus_rules.specs.Step.{Root, variable}
 use Rattle.trees.proofs.Fusion.{substitute_rel}
 use Rattle.trees.proofs.Cutoffs.{overs_sum}
 use Rattle.equality_laws.proofs.Reducing.{Par, ParIn, ParTerms, ParEach, rel, sorts, inside, contract, end, and, group, done, next, each_none, each_one}

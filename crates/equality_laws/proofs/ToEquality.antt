@@ -1,14 +1,14 @@
 -- Reduction is equality again, with any values; and a term is equal to itself with the values put in.
 use Rattle.std.proofs.Common.{ℕ, zero, suc, ◌≡◌, List, [], ◌∷◌, Some, None, refl, sym, ap, ◌∙◌}
 use Rattle.pc_terms.specs.Syntax.{Slot, Term, Terms, Children, End, Child, Group, Done, Next, Rel, Node, rename, substitute, substitute_children, substitute_terms, over, overs, first}
-use Rattle.pc_rules.specs.Environment.{Env}
-use Rattle.pc_rules.specs.Context.{Values, value_at, under}
-use Rattle.pc_rules.specs.Step.{variable}
-use Rattle.pc_rules.specs.Conversion.{Equal, step, sorts, same, back, chain, inside, EqualChildren, EqualTerms, Below, equal}
-use Rattle.pc_rules.specs.Conversion as equality
-use Rattle.pc_rules.proofs.Spines.{one_item}
-use Rattle.erase_laws.proofs.RenamingAndPutting.{lifted_some, weaken_equal}
-use Rattle.erase_laws.proofs.Traversal.{equal_at}
+use Rattle.calculus_rules.specs.Environment.{Env}
+use Rattle.calculus_rules.specs.Context.{Values, value_at, under}
+use Rattle.calculus_rules.specs.Step.{variable}
+use Rattle.calculus_rules.specs.Conversion.{Equal, step, sorts, same, back, chain, inside, EqualChildren, EqualTerms, Below, equal}
+use Rattle.calculus_rules.specs.Conversion as equality
+use Rattle.calculus_rules.proofs.Spines.{one_item}
+use Rattle.typing_laws.proofs.RenamingAndPutting.{lifted_some, weaken_equal}
+use Rattle.typing_laws.proofs.Traversal.{equal_at}
 use Rattle.trees.proofs.Put.{substitute_same}
 use Rattle.trees.proofs.Fusion.{substitute-rename, rename-substitute}
 use Rattle.equality_laws.proofs.Reducing.{Par, ParIn, ParTerms, Steps, none, more, Convertible, rel, contract, end, and, group, done, next}

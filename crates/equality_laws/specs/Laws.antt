@@ -3,10 +3,10 @@ use Rattle.std.specs.Prelude.{ℕ, ◌≡◌, List, [], ◌∷◌, None}
 use Rattle.universe_levels.specs.declared.sort.Sort.{Sort}
 use Rattle.pc_terms.specs.declared.leaf.FamilyId.{FamilyId}
 use Rattle.pc_terms.specs.Syntax.{Term, SortT, Prod, Ind, Construct, apply}
-use Rattle.pc_rules.specs.Environment.{Env, Entails}
-use Rattle.pc_rules.specs.Context.{Values}
-use Rattle.pc_rules.specs.Conversion.{Equal, Below}
-use Rattle.pc_rules.specs.Accepted.{IsAccepted}
+use Rattle.calculus_rules.specs.Environment.{Env, Entails}
+use Rattle.calculus_rules.specs.Context.{Values}
+use Rattle.calculus_rules.specs.Conversion.{Equal, Below}
+use Rattle.calculus_rules.specs.Accepted.{IsAccepted}
 
 -- two lists of terms, as many and each equal to the one at its place
 pub data EqualEach (E : Env) (V : Values) : List Term → List Term → Type 0 where

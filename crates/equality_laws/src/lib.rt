@@ -1,7 +1,7 @@
 //! What equality and cumulativity tell of their two sides (PCUIC: Sozeau et al., "Coq Coq Correct!", POPL 2020: confluence, and what follows from
 //! it).
 //!
-//! Equality and cumulativity of `pc_rules` are closed under chains, so what two terms that are below each other have in common isn't to be seen. In an accepted
+//! Equality and cumulativity of `calculus_rules` are closed under chains, so what two terms that are below each other have in common isn't to be seen. In an accepted
 //! environment and a context of any values:
 //! - `products_are_injective`: equal products have equal domains and equal codomains (`equal`), and those of which one is below the other have equal domains, with the
 //!   codomain below the other's (`below`);
@@ -11,9 +11,9 @@
 //! - `formers_are_apart`: no product is below a sort or an applied family, nor the other way round, and no sort is below an applied family or it below a sort.
 //!
 //! They follow from confluence of parallel reduction, in which a term's parts take a step each and then the term itself may take one of the steps of
-//! `pc_rules` (`proofs/Reducing`, `Confluence`). It knows no values of a context: equality is carried to it with the values put in (`FromEquality`), and back (`ToEquality`).
+//! `calculus_rules` (`proofs/Reducing`, `Confluence`). It knows no values of a context: equality is carried to it with the values put in (`FromEquality`), and back (`ToEquality`).
 //!
-//! Below stand `pc_rules` with the definitions and `erase_laws` with weakening of equality; above stands `type_laws`.
+//! Below stand `calculus_rules` with the definitions and `typing_laws` with weakening of equality; above stands `type_laws`.
 #![tactic(auto)]
 
 ghost use Rattle.equality_laws.specs.Laws.{

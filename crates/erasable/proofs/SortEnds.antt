@@ -2,10 +2,10 @@
 use Rattle.std.proofs.Common.{◌≡◌, ℕ, zero, suc, ◌≤◌, Bool, true, false, Option, Some, None, ◌∷◌, refl, sym, ap, ◌∙◌, arith}
 use Rattle.universe_levels.specs.declared.sort.Sort.{Sort}
 use Rattle.pc_terms.specs.Syntax.{Term, SortT, Prod}
-use Rattle.pc_rules.specs.declared.entry.Entry.TheVariants.{Assumed}
+use Rattle.calculus_rules.specs.declared.entry.Entry.TheVariants.{Assumed}
 use Rattle.pc_rules.specs.declared.meter.Account.{Account}
-use Rattle.pc_rules.specs.Environment.{Env}
-use Rattle.pc_rules.specs.Context.{Context, values}
+use Rattle.calculus_rules.specs.Environment.{Env}
+use Rattle.calculus_rules.specs.Context.{Context, values}
 use Rattle.pc_rules.specs.DirectedRun.{Run, done, no_unit, passing, is_beyond, bind, ticked}
 use Rattle.pc_rules.specs.DirectedWeakHead.{weak_next, steps, whnf}
 use Rattle.pc_rules.specs.DirectedErasable.{Ending, ending_on, end_of, ends_in_sort}

@@ -10,18 +10,20 @@ use Rattle.pc_rules.specs.declared.meter.Account.{Account}
 use Rattle.pc_rules.specs.declared.meter.Meter.{Meter}
 use Rattle.pc_rules.specs.declared.stop.Halt.{Halt}
 use Rattle.pc_rules.specs.declared.stop.Halt.TheVariants.{Stop}
-use Rattle.pc_rules.specs.Environment.{Env, FamilyDecl}
-use Rattle.pc_rules.specs.Context.{Context, extend}
-use Rattle.pc_rules.specs.Instances.{predicate_entries}
-use Rattle.pc_rules.specs.declared.evidence.Evidence.{Evidence}
-use Rattle.pc_rules.specs.declared.evidence.Evidence.TheVariants.{Arity, Proof, PropMatch}
+use Rattle.calculus_rules.specs.Environment.{Env, FamilyDecl}
+use Rattle.calculus_rules.specs.Context.{Context, extend}
+use Rattle.calculus_rules.specs.Instances.{predicate_entries}
+use Rattle.calculus_rules.specs.declared.evidence.Evidence.{Evidence}
+use Rattle.calculus_rules.specs.declared.evidence.Evidence.TheVariants.{Arity, Proof, PropMatch}
 use Rattle.pc_rules.specs.Stops.{stop_of}
 use Rattle.pc_rules.specs.Follows.{Follows}
 use Rattle.pc_rules.specs.DirectedRun.{Run, done, passing, any_beyond, bind}
-use Rattle.pc_rules.specs.DirectedWeakHead.{family_of}
-use Rattle.pc_rules.specs.DirectedComparison.{Test, list_of}
+use Rattle.calculus_rules.specs.Lookups.{family_of}
+use Rattle.calculus_rules.specs.Listed.{list_of}
+use Rattle.pc_rules.specs.DirectedComparison.{Test}
 use Rattle.pc_rules.specs.DirectedTyping.{infer, sort_of}
-use Rattle.pc_rules.specs.DirectedErasable.{is_prop, ends_in_sort, proof_found, arity_found, type_test, match_sort, match_test, erasable_test}
+use Rattle.pc_rules.specs.DirectedErasable.{ends_in_sort, proof_found, arity_found, type_test, match_sort, match_test, erasable_test}
+use Rattle.calculus_rules.specs.PropSorts.{is_prop}
 use Rattle.pc_rules.specs.WellCounted.{IsCountedNode, IsCounted, AreCounted, HasCountedDeclarations, IsCountedContext}
 use Rattle.pc_rules.proofs.Following.{follows_bind, follows_err, follows_done, follows_memory, follows_deep, follows_passing}
 use Rattle.pc_rules.proofs.WeakNext.{family_found}
@@ -35,11 +37,7 @@ use Rattle.pc_rules.proofs.Entailing.{entailed_decides}
 use Rattle.rule_laws.specs.Erasability.{HasEvidence}
 use Rattle.rule_laws.proofs.Inferring.{infer_sound}
 use Rattle.rule_laws.proofs.Evidence.{evidence_sound}
-
--- a list as a list of terms, and back
-pub list_is : (ps : List Term) → list_of (terms_of ps) ≡ ps
-list_is [] = refl
-list_is (p ∷ ps) = ap (λ qs. p ∷ qs) (list_is ps)
+use Rattle.calculus_rules.proofs.Listing.{listed}
 
 are_counted : (E : Env) (ps : List Term) → EachTerm (IsCountedNode E) (terms_of ps) → AreCounted E ps
 are_counted E [] h = tt
@@ -172,7 +170,7 @@ pub match_tested : (E : Env) (q : Test) (c : Context) (t : Term) (f : FamilyId) 
 match_tested E q c t f ps n ret s bs r m0 m1 e =
     subst (λ t. Follows (match_test E (infer E q (2048 - m0.nest)) c t f ps ret (family_of E f) m0.account) r m0 m1
     → Follows (erasable_test E (infer E q (2048 - m0.nest)) c t m0.account) r m0 m1) e
-    (λ h. subst (λ qs. Follows (match_test E (infer E q (2048 - m0.nest)) c (Case f (terms_of ps) n ret s bs) f qs ret (family_of E f) m0.account) r m0 m1) (sym (list_is ps)) h)
+    (λ h. subst (λ qs. Follows (match_test E (infer E q (2048 - m0.nest)) c (Case f (terms_of ps) n ret s bs) f qs ret (family_of E f) m0.account) r m0 m1) (sym (listed ps)) h)
 
 -- the evidence that is found is there
 pub evidence_from : (E : Env) (c : Context) (t : Term) → IsCountedEnv E → IsConsistent E.levels E.constraints → IsCountedContext E c → IsCounted E t → (n : ℕ) (r : Result (Option Evidence) Halt) (m0 m1 : Meter) →

@@ -1,10 +1,10 @@
 -- Whether a constructor is one of a family in Prop.
 use Rattle.std.specs.Prelude.{ℕ, Bool, false, Option, Some, None, slice_get}
 use Rattle.pc_terms.specs.declared.leaf.FamilyId.{FamilyId}
-use Rattle.pc_rules.specs.declared.declaration.Constructor.{Constructor}
-use Rattle.pc_rules.specs.Environment.{Env, FamilyDecl}
-use Rattle.pc_rules.specs.DirectedWeakHead.{family_of}
-use Rattle.pc_rules.specs.DirectedErasable.{is_prop}
+use Rattle.calculus_rules.specs.declared.declaration.Constructor.{Constructor}
+use Rattle.calculus_rules.specs.Environment.{Env, FamilyDecl}
+use Rattle.calculus_rules.specs.Lookups.{family_of}
+use Rattle.calculus_rules.specs.PropSorts.{is_prop}
 
 abbrev pub is_there : FamilyDecl → Option Constructor → Bool
 is_there F None = false

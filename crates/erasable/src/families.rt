@@ -1,9 +1,9 @@
 //! Families in `Prop`.
 ghost use Rattle.std.specs.Prelude.{◌≡◌};
-ghost use Rattle.pc_rules.specs.DirectedErasable.{is_prop};
+ghost use Rattle.calculus_rules.specs.PropSorts.{is_prop};
 ghost use Rattle.erasable.specs.PropConstructors.{is_prop_constructor};
 
-use contexts::families::kept_family;
+use instances::kept::kept_family;
 use pc_rules::environment::Env;
 use pc_terms::leaf::FamilyId;
 use universe_levels::sort::Sort;

@@ -5,7 +5,7 @@
 //! type, `endings::ends_in_sort`, goes through products in a loop.
 //!
 //! Below stand `pc_rules` (the definitions, the traits `Typer` and `Reducer`), `rule_laws` (what evidence that is found means), `instances`
-//! (entries of predicates) and `contexts`; above, the crate that erases.
+//! (entries of predicates, contexts under binders); above, the crate that erases.
 #![tactic(auto)]
 
 mod endings;

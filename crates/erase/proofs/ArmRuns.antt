@@ -10,21 +10,21 @@ use Rattle.pc_terms.specs.Lists.{arms_of}
 use Rattle.pc_terms.specs.Formed.{EachTerm}
 use Rattle.pc_terms.specs.Syntax.{Term, Case}
 use Rattle.pc_terms.specs.BoxSyntax.{BoxTerm, BoxTerms, BCase}
-use Rattle.pc_rules.specs.declared.declaration.Constructor.{Constructor}
+use Rattle.calculus_rules.specs.declared.declaration.Constructor.{Constructor}
 use Rattle.pc_rules.specs.declared.broken.Broken.TheVariants.{UnknownName}
 use Rattle.pc_rules.specs.declared.meter.Account.{Account}
 use Rattle.pc_rules.specs.declared.meter.Meter.{Meter}
 use Rattle.pc_rules.specs.declared.stop.Stop.TheVariants.{Memory}
 use Rattle.pc_rules.specs.declared.stop.Halt.{Halt}
 use Rattle.pc_rules.specs.declared.stop.Halt.TheVariants.{Stop, Broken as Refusal}
-use Rattle.pc_rules.specs.Environment.{Env, FamilyDecl}
-use Rattle.pc_rules.specs.Context.{Context, extend}
-use Rattle.pc_rules.specs.Instances.{branch_entries}
+use Rattle.calculus_rules.specs.Environment.{Env, FamilyDecl}
+use Rattle.calculus_rules.specs.Context.{Context, extend}
+use Rattle.calculus_rules.specs.Instances.{branch_entries}
 use Rattle.pc_rules.specs.Stops.{stop_of}
 use Rattle.pc_rules.specs.Follows.{Follows}
 use Rattle.pc_rules.specs.DirectedRun.{Run, done, passing, any_beyond, bind}
-use Rattle.pc_rules.specs.DirectedWeakHead.{family_of}
-use Rattle.pc_rules.specs.DirectedComparison.{list_of}
+use Rattle.calculus_rules.specs.Lookups.{family_of}
+use Rattle.calculus_rules.specs.Listed.{list_of}
 use Rattle.pc_rules.specs.DirectedTyping.{Typing}
 use Rattle.pc_rules.specs.WellCounted.{IsCountedNode, IsCounted, AreCounted, AreCountedConstructors, IsCountedContext, HasCountedDeclarations}
 use Rattle.pc_rules.proofs.Following.{follows_bind, follows_err, follows_done, follows_memory, follows_deep, follows_passing, follows_refused}
@@ -35,7 +35,7 @@ use Rattle.rule_laws.proofs.KeepCounts.{kept_counted}
 use Rattle.rule_laws.proofs.CountedParts.{branch_entries_counted, context_extended}
 use Rattle.box_terms.specs.declared.term.BoxBranch.{BoxBranch}
 use Rattle.box_terms.specs.BoxLists.{arms_of as box_arms}
-use Rattle.erasable.proofs.TestRuns.{list_is}
+use Rattle.calculus_rules.proofs.Listing.{listed}
 use Rattle.erase_rules.specs.DirectedErasure.{in_family, kept, kept_branches, erased}
 use Rattle.erase_rules.proofs.Sizes.{Strips, erased_strips, branches_strip}
 use Rattle.erase.specs.Arms.{arms_before, after_arms, under_entries}
@@ -165,7 +165,7 @@ module _ (E : Env) (inf : Typing) (c : Context) (f : FamilyId) (ps : List Term) 
     unfolding then_arms
     scrutinee_goes r m2 o e h =
         follows_bind (erased E inf c s m0.account) (then_arms (list_of (terms_of ps)) (family_of E f)) s' r m0 m1 m2 g
-        (subst (λ qs. Follows (then_arms qs (family_of E f) s' m1.account) r m1 m2) (sym (list_is ps)) (subst (λ o. Follows (then_arms ps o s' m1.account) r m1 m2) (sym e) h))
+        (subst (λ qs. Follows (then_arms qs (family_of E f) s' m1.account) r m1 m2) (sym (listed ps)) (subst (λ o. Follows (then_arms ps o s' m1.account) r m1 m2) (sym e) h))
 
     pub case_unknown : family_of E f ≡ None → Follows (case_erased m0.account) (Err (Refusal (UnknownName f.block))) m0 m1
     unfolding then_arms

@@ -9,19 +9,20 @@ use Rattle.pc_terms.specs.Lists.{types_of, bodies_of, rargs_of}
 use Rattle.pc_terms.specs.Formed.{EachTerm}
 use Rattle.pc_terms.specs.Syntax.{Term, Terms, Fix, shift}
 use Rattle.pc_terms.specs.BoxSyntax.{BoxTerm, BoxTerms, BFix}
-use Rattle.pc_rules.specs.declared.entry.Entry.TheVariants.{Assumed}
+use Rattle.calculus_rules.specs.declared.entry.Entry.TheVariants.{Assumed}
 use Rattle.pc_rules.specs.declared.meter.Account.{Account}
 use Rattle.pc_rules.specs.declared.meter.Meter.{Meter}
 use Rattle.pc_rules.specs.declared.stop.Stop.TheVariants.{Memory}
 use Rattle.pc_rules.specs.declared.stop.Halt.{Halt}
 use Rattle.pc_rules.specs.declared.stop.Halt.TheVariants.{Stop}
-use Rattle.pc_rules.specs.Environment.{Env}
-use Rattle.pc_rules.specs.Context.{Context, extend}
-use Rattle.pc_rules.specs.Instances.{definitions}
+use Rattle.calculus_rules.specs.Environment.{Env}
+use Rattle.calculus_rules.specs.Context.{Context, extend}
+use Rattle.calculus_rules.specs.Instances.{definitions}
 use Rattle.pc_rules.specs.Stops.{stop_of}
 use Rattle.pc_rules.specs.Follows.{Follows}
 use Rattle.pc_rules.specs.DirectedRun.{Run, done, passing, any_beyond, bind}
-use Rattle.pc_rules.specs.DirectedComparison.{list_of, lifted_types}
+use Rattle.calculus_rules.specs.Listed.{list_of}
+use Rattle.pc_rules.specs.DirectedComparison.{lifted_types}
 use Rattle.pc_rules.specs.DirectedTyping.{Typing}
 use Rattle.pc_rules.specs.WellCounted.{IsCountedNode, IsCounted, IsCountedContext}
 use Rattle.pc_rules.proofs.Following.{follows_bind, follows_err, follows_done, follows_memory, follows_deep, follows_passing}

@@ -3,15 +3,15 @@ use Rattle.std.proofs.Common.{◌≡◌, ap, sym, subst, refl, true, false, if�
 use Rattle.pc_terms.specs.declared.leaf.Name.{Name}
 use Rattle.pc_terms.specs.Syntax.{Term}
 use Rattle.pc_terms.specs.BoxSyntax.{BoxTerm}
-use Rattle.pc_rules.specs.declared.declaration.Kept.{Kept}
-use Rattle.pc_rules.specs.declared.declaration.Kept.TheVariants.{Constant, Heads, Block as Whole}
+use Rattle.calculus_rules.specs.declared.declaration.Kept.{Kept}
+use Rattle.calculus_rules.specs.declared.declaration.Kept.TheVariants.{Constant, Heads, Block as Whole}
 use Rattle.pc_rules.specs.declared.broken.Place.{Place}
 use Rattle.pc_rules.specs.declared.broken.Place.TheVariants.{Declaration as AtDeclaration}
 use Rattle.pc_rules.specs.declared.meter.Account.{Account}
 use Rattle.pc_rules.specs.declared.meter.Meter.{Meter}
 use Rattle.pc_rules.specs.declared.stop.Stop.TheVariants.{Memory}
 use Rattle.pc_rules.specs.declared.stop.Halt.TheVariants.{Stop}
-use Rattle.pc_rules.specs.Environment.{Env}
+use Rattle.calculus_rules.specs.Environment.{Env}
 use Rattle.pc_rules.specs.DirectedTyping.{Typing}
 use Rattle.pc_rules.specs.DirectedPlaces.{Placed, gives, at_place, and_then}
 use Rattle.lambda_box.specs.BoxProgram.{BoxConstant}

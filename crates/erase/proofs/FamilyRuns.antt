@@ -1,11 +1,11 @@
 -- The families of blocks, from the last one back.
 use Rattle.std.proofs.Common.{◌≡◌, ◌∙◌, ◌+◌, ◌<◌, ap, sym, subst, refl, ◌≤◌, ℕ, suc, List, [], ◌∷◌, ◌++◌, length, drop, get_or, reverse, arith}
 use Rattle.std.proofs.lemmas.List.{reverse-append, reverse-reverse, append_assoc, append-nil}
-use Rattle.pc_rules.specs.declared.declaration.Block.{Block}
-use Rattle.pc_rules.specs.declared.declaration.Family.{Family}
-use Rattle.pc_rules.specs.declared.declaration.Kept.{Kept}
-use Rattle.pc_rules.specs.declared.declaration.Kept.TheVariants.{Constant, Heads, Block as Whole}
-use Rattle.pc_rules.specs.Environment.{with_parameters}
+use Rattle.calculus_rules.specs.declared.declaration.Block.{Block}
+use Rattle.calculus_rules.specs.declared.declaration.Family.{Family}
+use Rattle.calculus_rules.specs.declared.declaration.Kept.{Kept}
+use Rattle.calculus_rules.specs.declared.declaration.Kept.TheVariants.{Constant, Heads, Block as Whole}
+use Rattle.calculus_rules.specs.Environment.{with_parameters}
 use Rattle.pc_rules.proofs.ListSteps.{next_is, none_left}
 use Rattle.lambda_box.specs.BoxProgram.{BoxFamily}
 use Rattle.erase_laws.specs.ErasedProgram.{counts_of}

@@ -3,15 +3,15 @@ use Rattle.std.proofs.Common.{◌∷◌, Option, Some, None, Result, Ok, Err, ar
 use Rattle.trees.specs.Measures.{IsWithin}
 use Rattle.pc_terms.specs.Syntax.{Term, Lambda, LetIn, App}
 use Rattle.pc_terms.specs.BoxSyntax.{BoxTerm, Box, BLambda, BLetIn, BApp}
-use Rattle.pc_rules.specs.declared.entry.Entry.TheVariants.{Assumed, Defined}
+use Rattle.calculus_rules.specs.declared.entry.Entry.TheVariants.{Assumed, Defined}
 use Rattle.pc_rules.specs.declared.meter.Account.{Account}
 use Rattle.pc_rules.specs.declared.meter.Meter.{Meter}
 use Rattle.pc_rules.specs.declared.stop.Stop.TheVariants.{Memory}
 use Rattle.pc_rules.specs.declared.stop.Halt.{Halt}
 use Rattle.pc_rules.specs.declared.stop.Halt.TheVariants.{Stop}
-use Rattle.pc_rules.specs.Environment.{Env}
-use Rattle.pc_rules.specs.Context.{Context}
-use Rattle.pc_rules.specs.declared.evidence.Evidence.{Evidence}
+use Rattle.calculus_rules.specs.Environment.{Env}
+use Rattle.calculus_rules.specs.Context.{Context}
+use Rattle.calculus_rules.specs.declared.evidence.Evidence.{Evidence}
 use Rattle.pc_rules.specs.Follows.{Follows}
 use Rattle.pc_rules.specs.DirectedRun.{Run, done, bind}
 use Rattle.pc_rules.specs.DirectedTyping.{Typing}

@@ -3,10 +3,10 @@ use Rattle.std.specs.Prelude.{ℕ, ◌≤◌, List, Some}
 use Rattle.pc_terms.specs.declared.leaf.Name.{Name}
 use Rattle.pc_terms.specs.Syntax.{Term}
 use Rattle.pc_terms.specs.BoxSyntax.{BoxTerm}
-use Rattle.pc_rules.specs.Environment.{Env, KeepsConstant}
-use Rattle.pc_rules.specs.Evaluation.{Evaluates}
-use Rattle.pc_rules.specs.FirstOrder.{Shape, IsFirstOrder, Reads, FitsShapes}
-use Rattle.pc_rules.specs.Lawful.{IsLawfulEvaluation}
+use Rattle.calculus_rules.specs.Environment.{Env, KeepsConstant}
+use Rattle.calculus_rules.specs.Evaluation.{Evaluates}
+use Rattle.calculus_rules.specs.FirstOrder.{Shape, IsFirstOrder, Reads, FitsShapes}
+use Rattle.calculus_rules.specs.Lawful.{IsLawfulEvaluation}
 use Rattle.lambda_box.specs.BoxProgram.{BoxProgram, KeepsBoxConstant}
 use Rattle.lambda_box.specs.BoxEvaluation.{BoxEvaluates}
 use Rattle.lambda_box.specs.BoxData.{BoxReads}

@@ -1,12 +1,12 @@
 //! The counts of families.
 ghost use Rattle.std.specs.Prelude.{◌≡◌, ◌++◌, ◌-◌, map, reverse, IfOk, IfErr};
-ghost use Rattle.pc_rules.specs.Environment.{with_parameters};
+ghost use Rattle.calculus_rules.specs.Environment.{with_parameters};
 ghost use Rattle.pc_rules.specs.declared.stop.Stop.TheVariants.{Memory};
 ghost use Rattle.erase_laws.specs.ErasedProgram.{arguments_of, counts_of};
 ghost use Rattle.erase_rules.specs.DirectedProgram.{families_from, box_families};
 
 use box_terms::program::{BoxFamilies, BoxFamily};
-use pc_rules::declaration::{Block, Constructors, Family, Kept};
+use calculus_rules::declaration::{Block, Constructors, Family, Kept};
 use pc_rules::environment::Env;
 use pc_rules::stop::Stop;
 use pc_terms::leaf::FamilyId;

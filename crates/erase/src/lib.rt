@@ -9,7 +9,7 @@
 //! The code is in layers: terms of box that are made within the limits (`making`), erasure of a term (`terms`), the set of the names that
 //! erased terms name (`names`), the walk over declarations (`constants`), the counts of families (`families`), and the whole (`program`).
 //!
-//! Below stand `erasable` (the test), `contexts` and `instances` (contexts under binders), `box_terms` (terms and programs after erasure),
+//! Below stand `erasable` (the test), `instances` (contexts under binders), `box_terms` (terms and programs after erasure),
 //! and the definitions and laws of `erase_rules`, `erase_laws` and `lambda_box`; above, the passes on box programs.
 #![tactic(auto)]
 

@@ -3,9 +3,9 @@ ghost use Rattle.std.specs.Prelude.{◌≡◌, ◌≤◌, ◌+◌, ◌-◌, [], 
 ghost use Rattle.trees.specs.Measures.{nodes};
 ghost use Rattle.pc_terms.specs.declared.leaf.Name.{Name};
 ghost use Rattle.pc_terms.specs.Syntax.{Term};
-ghost use Rattle.pc_rules.specs.Accepted.{IsAccepted};
-ghost use Rattle.pc_rules.specs.Environment.{KeepsConstant};
-ghost use Rattle.pc_rules.specs.Typing.{Types, guarded};
+ghost use Rattle.calculus_rules.specs.Accepted.{IsAccepted};
+ghost use Rattle.calculus_rules.specs.Environment.{KeepsConstant};
+ghost use Rattle.calculus_rules.specs.Typing.{Types, guarded};
 ghost use Rattle.pc_rules.specs.Entailment.{test_of};
 ghost use Rattle.pc_rules.specs.DirectedTyping.{infer};
 ghost use Rattle.lambda_box.specs.BoxForm.{IsBoxProgram};

@@ -1,10 +1,10 @@
 -- Applications to several arguments, and what they erase to.
 use Rattle.std.proofs.Common.{◌≡◌, ◌≢◌, ℕ, suc, List, [], ◌∷◌, ◌++◌, length, ◌⊎◌, inl, inr, refl, sym, ap, ◌∙◌, subst}
 use Rattle.pc_terms.specs.Syntax.{Term, Rel, App, apply}
-use Rattle.pc_rules.specs.Environment.{Env}
-use Rattle.pc_rules.specs.Context.{Context}
+use Rattle.calculus_rules.specs.Environment.{Env}
+use Rattle.calculus_rules.specs.Context.{Context}
 use Rattle.pc_terms.specs.BoxSyntax.{BoxTerm, Box, BLambda, BLetIn, BApp, BConst, BConstruct, BCase, BFix}
-use Rattle.pc_rules.specs.Erasable.{Erasable}
+use Rattle.calculus_rules.specs.Erasable.{Erasable}
 use Rattle.erase_laws.specs.Erases.{Erases, box, app, ErasesAll, none, one}
 use Rattle.lambda_box.specs.BoxProgram.{BoxProgram, box_apply}
 use Rattle.lambda_box.proofs.Spines.{constructor_head, fix_head}

@@ -7,26 +7,26 @@ use Rattle.pc_terms.specs.declared.leaf.Name.{Name}
 use Rattle.pc_terms.specs.declared.leaf.FamilyId.{FamilyId}
 use Rattle.pc_terms.specs.Syntax.{Label, ConstOf, Term, Terms, terms_of}
 use Rattle.pc_terms.specs.BoxSyntax.{BoxLabel, BoxOf, BLambdaOf, BLetInOf, BAppOf, BConstOf, BConstructOf, BCaseOf, BFixOf, BoxTerm, BoxTerms}
-use Rattle.pc_rules.specs.declared.declaration.Constructor.{Constructor}
-use Rattle.pc_rules.specs.declared.declaration.Kept.{Kept}
-use Rattle.pc_rules.specs.declared.declaration.Kept.TheVariants.{Constant}
-use Rattle.pc_rules.specs.Environment.{Env}
-use Rattle.pc_rules.specs.Context.{Context}
-use Rattle.pc_rules.specs.Typing.{Mode, bare, Types, rel, sort, prod, lambda, let_in, app, const, ind, construct, case, fix, conv, TypesAll, no_terms, term, Branches, no_branches, branch, Sorts, no_types, a_type, Bodies, no_bodies, a_body}
-use Rattle.pc_rules.specs.Accepted.{Accepted, empty, constant, block, IsFresh, env}
-use Rattle.pc_rules.proofs.Bare.{bare_types}
-use Rattle.pc_rules.proofs.OneEach.{one_of_each}
+use Rattle.calculus_rules.specs.declared.declaration.Constructor.{Constructor}
+use Rattle.calculus_rules.specs.declared.declaration.Kept.{Kept}
+use Rattle.calculus_rules.specs.declared.declaration.Kept.TheVariants.{Constant}
+use Rattle.calculus_rules.specs.Environment.{Env}
+use Rattle.calculus_rules.specs.Context.{Context}
+use Rattle.calculus_rules.specs.Typing.{Mode, bare, Types, rel, sort, prod, lambda, let_in, app, const, ind, construct, case, fix, conv, TypesAll, no_terms, term, Branches, no_branches, branch, Sorts, no_types, a_type, Bodies, no_bodies, a_body}
+use Rattle.calculus_rules.specs.Accepted.{Accepted, empty, constant, block, IsFresh, env}
+use Rattle.calculus_rules.proofs.Bare.{bare_types}
+use Rattle.calculus_rules.proofs.OneEach.{one_of_each}
 use Rattle.lambda_box.specs.BoxProgram.{BoxConstant, BoxFamily, Has, here, there, NamesKept, Named}
 use Rattle.lambda_box.specs.BoxForm.{IsBoxBody, AreOrdered}
 use Rattle.trees.proofs.Every.{every_more, every_before, every_both}
 use Rattle.erase_laws.specs.Erases.{Erases, box, Erases.rel, Erases.lambda, Erases.let_in, Erases.app, Erases.const, Erases.construct, Erases.case, Erases.fix, ErasesBranches, ErasesBranches.no_branches, ErasesBranches.branch, ErasesBodies, ErasesBodies.no_bodies, body}
 use Rattle.erase_laws.specs.ErasedProgram.{AreErased, none_erased, not_reached, reached}
 use Rattle.erase_laws.specs.Laws.{ErasedProgramsHaveForm, ErasedProgramsKeepValues}
-use Rattle.erase_laws.proofs.Declarations.{one_more, extends_types}
-use Rattle.erase_laws.proofs.AcceptedClosed.{accepted_closed}
+use Rattle.typing_laws.proofs.Declarations.{one_more, extends_types}
+use Rattle.typing_laws.proofs.AcceptedClosed.{accepted_closed}
 use Rattle.erase_laws.proofs.ErasedData.{values_are_kept}
 use Rattle.erase_laws.proofs.ErasedForm.{erased_form, erased_closed}
-use Rattle.erase_laws.proofs.TypedClosed.{types_closed}
+use Rattle.typing_laws.proofs.TypedClosed.{types_closed}
 
 -- a label names a declared constant, before and after erasure
 

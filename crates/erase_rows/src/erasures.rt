@@ -1,8 +1,8 @@
 //! The layer of erasure: `test` and `erase`.
 ghost use Rattle.std.specs.Prelude.{[], IfOk};
 ghost use Rattle.dump_reader.specs.Spelled.{IsSpelled};
-ghost use Rattle.pc_rules.specs.Accepted.{IsAccepted};
-ghost use Rattle.pc_rules.specs.Typing.{Types, guarded};
+ghost use Rattle.calculus_rules.specs.Accepted.{IsAccepted};
+ghost use Rattle.calculus_rules.specs.Typing.{Types, guarded};
 ghost use Rattle.erase_rules.specs.Laws.{AreFewCounts};
 
 use crate::told::{put_evidence, put_halt, put_program, put_refusal};

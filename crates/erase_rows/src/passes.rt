@@ -1,8 +1,8 @@
 //! The layer of passes on erased programs: `prop_match` and `saturate`.
 ghost use Rattle.std.specs.Prelude.{[]};
 ghost use Rattle.dump_reader.specs.Spelled.{IsSpelled};
-ghost use Rattle.pc_rules.specs.Accepted.{IsAccepted};
-ghost use Rattle.pc_rules.specs.Typing.{Types, guarded};
+ghost use Rattle.calculus_rules.specs.Accepted.{IsAccepted};
+ghost use Rattle.calculus_rules.specs.Typing.{Types, guarded};
 ghost use Rattle.erase_rules.specs.Laws.{AreFewCounts};
 
 use crate::erasures::{UNITS, checked_of};

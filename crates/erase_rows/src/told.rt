@@ -1,10 +1,10 @@
 //! Evidence, programs and refusals as text.
 use box_terms::program::BoxProgram;
 use box_text::program_text;
+use calculus_rules::evidence::Evidence;
 use dump_reader::environment::RawEnv;
 use erase::refusal::EraseRefusal;
 use pc_rules::broken::Place;
-use pc_rules::evidence::Evidence;
 use pc_rules::stop::Halt;
 use row_files::Fault;
 use row_terms::{put_broken, put_name, put_stop};

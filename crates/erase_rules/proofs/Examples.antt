@@ -6,20 +6,20 @@ use Rattle.pc_terms.specs.declared.leaf.Name.{Name}
 use Rattle.pc_terms.specs.declared.leaf.FamilyId.{FamilyId}
 use Rattle.pc_terms.specs.Syntax.{Term, Done, Next, Rel, SortT, Prod, Lambda, App, Const, Ind, Construct, Case, Fix}
 use Rattle.pc_terms.specs.BoxSyntax.{Box, BLambda, BApp, BConst, BConstruct, BCase, BFix}
-use Rattle.pc_rules.specs.declared.declaration.Block.{Block}
-use Rattle.pc_rules.specs.declared.declaration.Kept.{Kept}
-use Rattle.pc_rules.specs.declared.declaration.Kept.TheVariants.{Constant, Block as Whole}
+use Rattle.calculus_rules.specs.declared.declaration.Block.{Block}
+use Rattle.calculus_rules.specs.declared.declaration.Kept.{Kept}
+use Rattle.calculus_rules.specs.declared.declaration.Kept.TheVariants.{Constant, Block as Whole}
 use Rattle.pc_rules.specs.declared.broken.Broken.TheVariants.{NotAProduct}
 use Rattle.pc_rules.specs.declared.broken.Place.TheVariants.{Declaration as AtDeclaration}
 use Rattle.pc_rules.specs.declared.meter.Account.{Account}
-use Rattle.pc_rules.specs.Environment.{Env}
+use Rattle.calculus_rules.specs.Environment.{Env}
 use Rattle.pc_rules.specs.DirectedRun.{ticking, bind, run_all}
 use Rattle.pc_rules.specs.DirectedWeakHead.{steps}
 use Rattle.pc_rules.specs.DirectedComparison.{compare, Test}
 use Rattle.pc_rules.specs.DirectedTyping.{infer, sort_of, check, retype, conv, check_all, sorts_of, branches_rule, types_rule, definitions_rule}
 use Rattle.pc_rules.specs.DirectedGuard.{find, body_guard}
 use Rattle.pc_rules.specs.DirectedErasable.{ends_in_sort}
-use Rattle.pc_rules.specs.Same.{same}
+use Rattle.calculus_rules.specs.Same.{same}
 use Rattle.lambda_box.specs.BoxProgram.{BoxFamily}
 use Rattle.erase_rules.specs.DirectedErasure.{tested}
 use Rattle.pc_rules.specs.DirectedPlaces.{Outcome, Gives, Breaks, and_then}

@@ -5,20 +5,23 @@ use Rattle.pc_terms.specs.declared.leaf.FamilyId.{FamilyId}
 use Rattle.pc_terms.specs.Syntax.{Term, Terms, Next, Rel, SortT, Prod, Lambda, LetIn, App, Const, Construct, Case, Fix}
 use Rattle.pc_terms.specs.Syntax as syntax
 use Rattle.pc_terms.specs.BoxSyntax.{BoxTerm, BoxTerms, Box, BLambda, BLetIn, BApp, BConst, BConstruct, BCase, BFix}
-use Rattle.pc_rules.specs.declared.declaration.Constructor.{Constructor}
-use Rattle.pc_rules.specs.declared.entry.Entry.TheVariants.{Assumed, Defined}
+use Rattle.calculus_rules.specs.declared.declaration.Constructor.{Constructor}
+use Rattle.calculus_rules.specs.declared.entry.Entry.TheVariants.{Assumed, Defined}
 use Rattle.pc_rules.specs.declared.broken.Broken.TheVariants.{UnknownName}
 use Rattle.pc_rules.specs.declared.meter.Account.{Account}
-use Rattle.pc_rules.specs.Environment.{Env, FamilyDecl}
-use Rattle.pc_rules.specs.Context.{Context, values, extend}
-use Rattle.pc_rules.specs.Instances.{predicate_entries, branch_entries, definitions}
-use Rattle.pc_rules.specs.declared.evidence.Evidence.{Evidence}
-use Rattle.pc_rules.specs.declared.evidence.Evidence.TheVariants.{Arity, PropMatch, PropConstructor}
+use Rattle.calculus_rules.specs.Environment.{Env, FamilyDecl}
+use Rattle.calculus_rules.specs.Context.{Context, values, extend}
+use Rattle.calculus_rules.specs.Instances.{predicate_entries, branch_entries, definitions}
+use Rattle.calculus_rules.specs.declared.evidence.Evidence.{Evidence}
+use Rattle.calculus_rules.specs.declared.evidence.Evidence.TheVariants.{Arity, PropMatch, PropConstructor}
 use Rattle.pc_rules.specs.DirectedRun.{Run, no_unit, is_beyond, any_beyond}
-use Rattle.pc_rules.specs.DirectedWeakHead.{weak_next, family_of}
-use Rattle.pc_rules.specs.DirectedComparison.{list_of, lifted_types}
+use Rattle.calculus_rules.specs.Lookups.{family_of}
+use Rattle.pc_rules.specs.DirectedWeakHead.{weak_next}
+use Rattle.calculus_rules.specs.Listed.{list_of}
+use Rattle.pc_rules.specs.DirectedComparison.{lifted_types}
 use Rattle.pc_rules.specs.DirectedTyping.{Typing}
-use Rattle.pc_rules.specs.DirectedErasable.{is_prop, Ending, ending_on, end_of, ends_in_sort, arity_found, type_test, numbered_test, constructor_test, match_test, erasable_test}
+use Rattle.pc_rules.specs.DirectedErasable.{Ending, ending_on, end_of, ends_in_sort, arity_found, type_test, numbered_test, constructor_test, match_test, erasable_test}
+use Rattle.calculus_rules.specs.PropSorts.{is_prop}
 use Rattle.pc_rules.proofs.Fair.{IsFair, fair_done, fair_refused, fair_passing, fair_spent, fair_if, fair_bind, fair_ticking_less, fair_less}
 use Rattle.pc_rules.proofs.FairTyping.{FairTyping, fair_sort_of}
 use Rattle.erase_rules.specs.DirectedErasure.{box_or, tested, in_family, kept, kept_branches, kept_bodies, erased}

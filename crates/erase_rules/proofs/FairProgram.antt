@@ -2,12 +2,12 @@
 use Rattle.std.proofs.Common.{ℕ, ◌≤◌, Bool, true, false, if◌then◌else◌, List, [], ◌∷◌, length, Some, None, refl, sym, ap, subst, arith}
 use Rattle.pc_terms.specs.Syntax.{Term}
 use Rattle.pc_terms.specs.BoxSyntax.{BoxTerm}
-use Rattle.pc_rules.specs.declared.declaration.Kept.{Kept}
-use Rattle.pc_rules.specs.declared.declaration.Kept.TheVariants.{Constant, Heads, Block as Whole}
+use Rattle.calculus_rules.specs.declared.declaration.Kept.{Kept}
+use Rattle.calculus_rules.specs.declared.declaration.Kept.TheVariants.{Constant, Heads, Block as Whole}
 use Rattle.pc_rules.specs.declared.broken.Place.{Place}
 use Rattle.pc_rules.specs.declared.broken.Place.TheVariants.{Declaration as AtDeclaration, Main as AtMain}
 use Rattle.pc_rules.specs.declared.meter.Account.{Account}
-use Rattle.pc_rules.specs.Environment.{Env}
+use Rattle.calculus_rules.specs.Environment.{Env}
 use Rattle.pc_rules.specs.DirectedRun as run
 use Rattle.pc_rules.specs.DirectedRun.{Run}
 use Rattle.pc_rules.specs.DirectedComparison.{Test}

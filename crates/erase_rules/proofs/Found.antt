@@ -6,24 +6,27 @@ use Rattle.universe_levels.specs.declared.sort.Sort.TheVariants.{Prop, Of}
 use Rattle.universe_levels.specs.Sorts.{super_sort, product_sort}
 use Rattle.pc_terms.specs.declared.leaf.FamilyId.{FamilyId}
 use Rattle.pc_terms.specs.Syntax.{Term, Terms, Rel, SortT, Prod, Ind, Construct, Case}
-use Rattle.pc_rules.specs.declared.declaration.Constructor.{Constructor}
-use Rattle.pc_rules.specs.declared.declaration.Block.{Block}
-use Rattle.pc_rules.specs.declared.evidence.Evidence.{Evidence}
-use Rattle.pc_rules.specs.declared.evidence.Evidence.TheVariants.{PropConstructor}
-use Rattle.pc_rules.specs.declared.entry.Entry.TheVariants.{Assumed}
+use Rattle.calculus_rules.specs.declared.declaration.Constructor.{Constructor}
+use Rattle.calculus_rules.specs.declared.declaration.Block.{Block}
+use Rattle.calculus_rules.specs.declared.evidence.Evidence.{Evidence}
+use Rattle.calculus_rules.specs.declared.evidence.Evidence.TheVariants.{PropConstructor}
+use Rattle.calculus_rules.specs.declared.entry.Entry.TheVariants.{Assumed}
 use Rattle.pc_rules.specs.declared.meter.Account.{Account}
-use Rattle.pc_rules.specs.Environment.{Env, FamilyDecl}
-use Rattle.pc_rules.specs.Context.{Context, values, extend}
-use Rattle.pc_rules.specs.Instances.{products, family_type, constructor_type, predicate_entries, predicate_at}
-use Rattle.pc_rules.specs.Elimination.{MayEliminate, MayErase}
+use Rattle.calculus_rules.specs.Environment.{Env, FamilyDecl}
+use Rattle.calculus_rules.specs.Context.{Context, values, extend}
+use Rattle.calculus_rules.specs.Instances.{products, family_type, constructor_type, predicate_entries, predicate_at}
+use Rattle.calculus_rules.specs.Elimination.{MayEliminate, MayErase}
 use Rattle.pc_rules.specs.DirectedRun as run
 use Rattle.pc_rules.specs.DirectedRun.{Run, done, make, made, no_unit, any_beyond, bind, noted, ticked, too_nested}
-use Rattle.pc_rules.specs.DirectedWeakHead.{weak_next, kept_at, known_block, whole_block, family_of}
-use Rattle.pc_rules.specs.DirectedComparison.{Test, Comparison, compare, list_of}
+use Rattle.calculus_rules.specs.Lookups.{kept_at, known_block, whole_block, family_of}
+use Rattle.pc_rules.specs.DirectedWeakHead.{weak_next}
+use Rattle.calculus_rules.specs.Listed.{list_of}
+use Rattle.pc_rules.specs.DirectedComparison.{Test, Comparison, compare}
 use Rattle.pc_rules.specs.DirectedTyping.{Typing, rule, rule_number, infer, sort_of, sorts_of, levels_declared, undeclared_in, raises_past, find_family, constructor_number, match_counted, check_all, eliminated, predicate_rule, scrutinee_rule, branches_rule}
-use Rattle.pc_rules.specs.DirectedErasable.{is_prop, Ending, ending_on, end_of, ends_in_sort, arity_found, type_test, numbered_test, constructor_test, match_sort, match_test}
+use Rattle.pc_rules.specs.DirectedErasable.{Ending, ending_on, end_of, ends_in_sort, arity_found, type_test, numbered_test, constructor_test, match_sort, match_test}
+use Rattle.calculus_rules.specs.PropSorts.{is_prop}
 use Rattle.pc_rules.proofs.WeakNext.{none_some}
-use Rattle.pc_rules.proofs.Spines.{one_item}
+use Rattle.calculus_rules.proofs.Spines.{one_item}
 use Rattle.pc_rules.proofs.SameTrees.{false_true}
 use Rattle.rule_laws.proofs.Runs.{bind_both, ticking_done, refused_done, nested_done, done_value, pass_then}
 use Rattle.rule_laws.proofs.SimpleRules.{whole_family, some_none}

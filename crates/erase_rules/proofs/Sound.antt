@@ -4,17 +4,18 @@ use Rattle.pc_terms.specs.Syntax.{Term, Terms, Next, Rel, SortT, Prod, Lambda, L
 use Rattle.pc_terms.specs.Syntax as syntax
 use Rattle.pc_terms.specs.Formed.{binders_of, EachTerm, AreAll}
 use Rattle.pc_terms.specs.BoxSyntax.{BoxTerm, BoxTerms, BLambda, BLetIn, BApp, BCase, BFix}
-use Rattle.pc_rules.specs.declared.declaration.Constructor.{Constructor}
-use Rattle.pc_rules.specs.declared.entry.Entry.TheVariants.{Assumed, Defined}
+use Rattle.calculus_rules.specs.declared.declaration.Constructor.{Constructor}
+use Rattle.calculus_rules.specs.declared.entry.Entry.TheVariants.{Assumed, Defined}
 use Rattle.pc_rules.specs.declared.meter.Account.{Account}
-use Rattle.pc_rules.specs.Environment.{Env, FamilyDecl, KeepsFamily}
-use Rattle.pc_rules.specs.Context.{Context, extend}
-use Rattle.pc_rules.specs.Instances.{branch_entries, definitions}
-use Rattle.pc_rules.specs.declared.evidence.Evidence.{Evidence}
+use Rattle.calculus_rules.specs.Environment.{Env, FamilyDecl, KeepsFamily}
+use Rattle.calculus_rules.specs.Context.{Context, extend}
+use Rattle.calculus_rules.specs.Instances.{branch_entries, definitions}
+use Rattle.calculus_rules.specs.declared.evidence.Evidence.{Evidence}
 use Rattle.pc_rules.specs.DirectedRun as run
 use Rattle.pc_rules.specs.DirectedRun.{Run, done, any_beyond, bind}
-use Rattle.pc_rules.specs.DirectedWeakHead.{family_of}
-use Rattle.pc_rules.specs.DirectedComparison.{Test, IsTest, list_of, lifted_types}
+use Rattle.calculus_rules.specs.Lookups.{family_of}
+use Rattle.calculus_rules.specs.Listed.{list_of}
+use Rattle.pc_rules.specs.DirectedComparison.{Test, IsTest, lifted_types}
 use Rattle.pc_rules.specs.DirectedTyping.{infer}
 use Rattle.pc_rules.specs.DirectedErasable.{erasable_test}
 use Rattle.pc_rules.specs.WellCounted.{IsCountedNode, arities, IsCounted, AreCounted, AreCountedConstructors, HasCountedDeclarations, IsCountedContext}

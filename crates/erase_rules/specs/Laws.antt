@@ -12,10 +12,10 @@ use Rattle.pc_terms.specs.Syntax.{Term, SortT, Prod, Ind, Construct, Case}
 use Rattle.pc_terms.specs.Formed.{IsFormed}
 use Rattle.pc_terms.specs.BoxSyntax.{BoxTerm}
 use Rattle.pc_rules.specs.declared.meter.Account.{Account}
-use Rattle.pc_rules.specs.Environment.{Env, FamilyDecl, KeepsConstant, KeepsFamily}
-use Rattle.pc_rules.specs.Context.{Context}
-use Rattle.pc_rules.specs.Typing.{guarded, Types}
-use Rattle.pc_rules.specs.Accepted.{IsAccepted}
+use Rattle.calculus_rules.specs.Environment.{Env, FamilyDecl, KeepsConstant, KeepsFamily}
+use Rattle.calculus_rules.specs.Context.{Context}
+use Rattle.calculus_rules.specs.Typing.{guarded, Types}
+use Rattle.calculus_rules.specs.Accepted.{IsAccepted}
 use Rattle.pc_rules.specs.WellCounted.{IsCounted, HasCountedDeclarations, IsCountedContext}
 use Rattle.pc_rules.specs.DirectedRun.{Done}
 use Rattle.pc_rules.specs.DirectedComparison.{Test, IsTest}
@@ -23,10 +23,10 @@ use Rattle.pc_rules.specs.DirectedTyping.{Typing, infer}
 use Rattle.pc_rules.specs.DirectedErasable.{erasable_test}
 use Rattle.pc_rules.specs.DirectedPlaces.{Outcome, Gives, Breaks, Spends, Nests, Placed}
 use Rattle.pc_rules.specs.DirectedDeclarations.{Given, Accepts, environment_rule}
-use Rattle.pc_rules.specs.Elimination.{MayErase}
-use Rattle.pc_rules.specs.Evaluation.{Evaluates}
-use Rattle.pc_rules.specs.FirstOrder.{Shape, IsFirstOrder, Reads, FitsShapes}
-use Rattle.pc_rules.specs.Lawful.{IsLawfulEvaluation}
+use Rattle.calculus_rules.specs.Elimination.{MayErase}
+use Rattle.calculus_rules.specs.Evaluation.{Evaluates}
+use Rattle.calculus_rules.specs.FirstOrder.{Shape, IsFirstOrder, Reads, FitsShapes}
+use Rattle.calculus_rules.specs.Lawful.{IsLawfulEvaluation}
 use Rattle.rule_laws.specs.Declarations.{AllGivenFormed}
 use Rattle.lambda_box.specs.BoxEvaluation.{BoxEvaluates}
 use Rattle.lambda_box.specs.BoxData.{BoxReads}

@@ -1,8 +1,8 @@
 -- The nodes of a program after erasure, and of the bodies of declared constants before it.
 use Rattle.std.specs.Prelude.{ℕ, ◌+◌, List, [], ◌∷◌, Some}
 use Rattle.trees.specs.Measures.{nodes}
-use Rattle.pc_rules.specs.declared.declaration.Kept.{Kept}
-use Rattle.pc_rules.specs.declared.declaration.Kept.TheVariants.{Constant}
+use Rattle.calculus_rules.specs.declared.declaration.Kept.{Kept}
+use Rattle.calculus_rules.specs.declared.declaration.Kept.TheVariants.{Constant}
 use Rattle.lambda_box.specs.BoxProgram.{BoxConstant, BoxProgram}
 
 abbrev pub constant_nodes : List BoxConstant → ℕ

@@ -4,14 +4,14 @@ use Rattle.std.proofs.lemmas.Bool.{eq-eqb}
 use Rattle.std.proofs.lemmas.List.{map-append}
 use Rattle.std.proofs.lemmas.Option.{slice_get-map}
 use Rattle.pc_terms.specs.Syntax.{Term, Ind, Construct, apply, head, args}
-use Rattle.pc_rules.specs.Environment.{Env}
-use Rattle.pc_rules.specs.Accepted.{IsAccepted}
-use Rattle.pc_rules.specs.Step.{IsConstructor, is_constructor}
-use Rattle.pc_rules.specs.FirstOrder.{Shape as Member, shape_type, IsMember, IsFirstOrder, Data, Reads, reads, ReadsAll, no_field, field as field_read}
-use Rattle.pc_rules.specs.DirectedWeakHead.{if_some}
+use Rattle.calculus_rules.specs.Environment.{Env}
+use Rattle.calculus_rules.specs.Accepted.{IsAccepted}
+use Rattle.calculus_rules.specs.Step.{IsConstructor, is_constructor}
+use Rattle.calculus_rules.specs.FirstOrder.{Shape as Member, shape_type, IsMember, IsFirstOrder, Data, Reads, reads, ReadsAll, no_field, field as field_read}
+use Rattle.calculus_rules.specs.Lookups.{if_some}
 use Rattle.pc_rules.proofs.EvaluationReached.{family_there}
 use Rattle.pc_rules.proofs.SameTrees.{one_family}
-use Rattle.pc_rules.proofs.Spines.{head-apply, args-apply, drop_past, one_item}
+use Rattle.calculus_rules.proofs.Spines.{head-apply, args-apply, drop_past, one_item}
 use Rattle.first_order.specs.declared.shapes.Shape.{Shape}
 use Rattle.first_order.specs.declared.reading.Field.{Field}
 use Rattle.first_order.specs.Reading.{field, fields, is_family, arguments_of, node_in, node_of, Read, put_first, on_node, read_on, plain_ctor, plain_type, reading}

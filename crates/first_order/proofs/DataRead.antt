@@ -7,14 +7,15 @@ use Rattle.std.proofs.lemmas.List.Elements.{All-head, All-tail}
 use Rattle.std.proofs.lemmas.Option.{slice_get-map}
 use Rattle.pc_terms.specs.declared.leaf.FamilyId.{FamilyId}
 use Rattle.pc_terms.specs.Syntax.{Term, Rel, Ind, Construct, apply, head, args, over, put_all}
-use Rattle.pc_rules.specs.declared.declaration.Constructor.{Constructor}
-use Rattle.pc_rules.specs.Environment.{Env}
-use Rattle.pc_rules.specs.Instances.{entries_at, branch_entries}
-use Rattle.pc_rules.specs.Step.{IsConstructor, is_constructor}
-use Rattle.pc_rules.specs.FirstOrder.{Shape as Member, shape_type, ArgumentsAt, no_argument, an_argument, ConstructorsAt, no_constructor, a_constructor, IsMember, IsFirstOrder, Data, Reads, reads, ReadsAll, no_field, field as field_read}
-use Rattle.pc_rules.specs.DirectedWeakHead.{if_some}
-use Rattle.pc_rules.proofs.Spines.{head-apply, args-apply, one_item}
-use Rattle.pc_rules.proofs.WeakNext.{none_some, if_some_is, if_is, spine_is, same_families_is}
+use Rattle.calculus_rules.specs.declared.declaration.Constructor.{Constructor}
+use Rattle.calculus_rules.specs.Environment.{Env}
+use Rattle.calculus_rules.specs.Instances.{entries_at, branch_entries}
+use Rattle.calculus_rules.specs.Step.{IsConstructor, is_constructor}
+use Rattle.calculus_rules.specs.FirstOrder.{Shape as Member, shape_type, ArgumentsAt, no_argument, an_argument, ConstructorsAt, no_constructor, a_constructor, IsMember, IsFirstOrder, Data, Reads, reads, ReadsAll, no_field, field as field_read}
+use Rattle.calculus_rules.specs.Lookups.{if_some}
+use Rattle.calculus_rules.proofs.Spines.{head-apply, args-apply, one_item}
+use Rattle.pc_rules.proofs.WeakNext.{none_some, if_some_is, if_is, same_families_is}
+use Rattle.calculus_rules.proofs.Spines.{spine_is}
 use Rattle.first_order.specs.declared.shapes.Shape.{Shape}
 use Rattle.first_order.specs.declared.shapes.ShapeCtor.{ShapeCtor}
 use Rattle.first_order.specs.declared.reading.Field.{Field}

@@ -4,8 +4,8 @@ use Rattle.pc_terms.specs.declared.leaf.FamilyId.{FamilyId}
 use Rattle.pc_terms.specs.declared.term.MakeFault.{MakeFault}
 use Rattle.pc_terms.specs.declared.term.MakeFault.TheVariants.{TooDeep as DeepTerm, Memory as NoTerm}
 use Rattle.pc_terms.specs.Syntax.{Term, Ind, head, args}
-use Rattle.pc_rules.specs.declared.declaration.Constructor.{Constructor}
-use Rattle.pc_rules.specs.declared.declaration.Family.{Family}
+use Rattle.calculus_rules.specs.declared.declaration.Constructor.{Constructor}
+use Rattle.calculus_rules.specs.declared.declaration.Family.{Family}
 use Rattle.pc_rules.specs.declared.meter.Account.{Account}
 use Rattle.pc_rules.specs.declared.meter.Meter.{Meter}
 use Rattle.pc_rules.specs.declared.stop.Stop.{Stop as StopKind}
@@ -13,17 +13,18 @@ use Rattle.pc_rules.specs.declared.stop.Stop.TheVariants.{Spent, TooDeep, Memory
 use Rattle.pc_rules.specs.declared.stop.Halt.{Halt}
 use Rattle.pc_rules.specs.declared.stop.Halt.TheVariants.{Stop}
 use Rattle.pc_rules.specs.Stops.{stop_of}
-use Rattle.pc_rules.specs.Environment.{Env, FamilyDecl, KeepsFamily, with_parameters}
-use Rattle.pc_rules.specs.Instances.{branch_entries}
-use Rattle.pc_rules.specs.FirstOrder.{Shape as Member, IsFirstOrder}
+use Rattle.calculus_rules.specs.Environment.{Env, FamilyDecl, KeepsFamily, with_parameters}
+use Rattle.calculus_rules.specs.Instances.{branch_entries}
+use Rattle.calculus_rules.specs.FirstOrder.{Shape as Member, IsFirstOrder}
 use Rattle.pc_rules.specs.DirectedRun.{Run, Done, done, passing, any_beyond, bind}
-use Rattle.pc_rules.specs.DirectedErasable.{is_prop}
-use Rattle.pc_rules.specs.DirectedWeakHead.{family_of, whnf}
+use Rattle.calculus_rules.specs.PropSorts.{is_prop}
+use Rattle.calculus_rules.specs.Lookups.{family_of}
+use Rattle.pc_rules.specs.DirectedWeakHead.{whnf}
 use Rattle.pc_rules.specs.DirectedFirstOrder.{Searched, Found, NotFirstOrder, on_found, with_found, place_in, put_behind, put_in_at, put_in, put_constructors, member_family, member_of, independent, or_not_first_order, argument_types, shape, work_type, first_order_search}
 use Rattle.pc_rules.specs.Follows.{Follows, Answers}
 use Rattle.pc_rules.proofs.Following.{bind_end, or_left, follows_bind, follows_err, follows_done}
 use Rattle.pc_rules.proofs.SearchRuns.{search_is}
-use Rattle.pc_rules.proofs.Spines.{one_item}
+use Rattle.calculus_rules.proofs.Spines.{one_item}
 use Rattle.pc_rules.proofs.WeakNext.{if_some_is, if_is, family_found, none_some}
 use Rattle.first_order.specs.declared.shapes.Shape.{Shape}
 use Rattle.first_order.specs.declared.shapes.ShapeCtor.{ShapeCtor}

@@ -9,20 +9,20 @@ use Rattle.trees.specs.Measures.{IsWithin, IsBeyond}
 use Rattle.trees.proofs.Cutoffs.{lift-shift}
 use Rattle.pc_terms.specs.Syntax.{Term, Rel, Ind, variables, shift}
 use Rattle.pc_terms.specs.declared.leaf.FamilyId.{FamilyId}
-use Rattle.pc_rules.specs.declared.declaration.Constructor.{Constructor}
-use Rattle.pc_rules.specs.declared.declaration.Family.{Family}
-use Rattle.pc_rules.specs.declared.declaration.Block.{Block}
+use Rattle.calculus_rules.specs.declared.declaration.Constructor.{Constructor}
+use Rattle.calculus_rules.specs.declared.declaration.Family.{Family}
+use Rattle.calculus_rules.specs.declared.declaration.Block.{Block}
 use Rattle.pc_rules.specs.declared.stop.Stop.TheVariants.{Spent}
 use Rattle.pc_rules.specs.declared.stop.Halt.TheVariants.{Stop}
 use Rattle.pc_rules.specs.declared.meter.Account.{Account}
 use Rattle.pc_rules.specs.declared.meter.Meter.{Meter}
-use Rattle.pc_rules.specs.Environment.{Env, FamilyDecl, with_parameters, family_at}
-use Rattle.pc_rules.specs.Instances.{branch_entries}
-use Rattle.pc_rules.specs.Same.{same}
-use Rattle.pc_rules.specs.FirstOrder.{Shape as Member}
+use Rattle.calculus_rules.specs.Environment.{Env, FamilyDecl, with_parameters, family_at}
+use Rattle.calculus_rules.specs.Instances.{branch_entries}
+use Rattle.calculus_rules.specs.Same.{same}
+use Rattle.calculus_rules.specs.FirstOrder.{Shape as Member}
 use Rattle.pc_rules.specs.DirectedRun.{Run, Done, done, passing, any_beyond, ticking, ticked}
-use Rattle.pc_rules.specs.DirectedErasable.{is_prop}
-use Rattle.pc_rules.specs.DirectedWeakHead.{if_some, kept_at, whole_block, family_of}
+use Rattle.calculus_rules.specs.PropSorts.{is_prop}
+use Rattle.calculus_rules.specs.Lookups.{if_some, kept_at, whole_block, family_of}
 use Rattle.pc_rules.specs.DirectedFirstOrder.{Searched, Found, TooManyTypes, on_found, with_found, next_place, place_in, put_behind, put_in, put_arguments}
 use Rattle.pc_rules.specs.DirectedFirstOrder.{put_constructors, member_family, member_of, lowered, without, independent, or_not_first_order, argument_types, work_type, work_on, first_order_search}
 use Rattle.pc_rules.specs.Follows.{Follows, IsAfter}

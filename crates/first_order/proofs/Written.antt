@@ -2,7 +2,7 @@
 use Rattle.std.proofs.Common.{◌≡◌, ◌∙◌, ℕ, zero, suc, ◌+◌, List, [], ◌∷◌, ◌++◌, length, reverse, Option, Some, None, refl, sym, ap, subst as along, arith, length-append, append_assoc, append-nil}
 use Rattle.std.specs.Prelude.{replicate}
 use Rattle.std.proofs.lemmas.List.{reverse-append, length-reverse}
-use Rattle.pc_rules.specs.FirstOrder.{Data}
+use Rattle.calculus_rules.specs.FirstOrder.{Data}
 use Rattle.data_trees.specs.Preorder.{IsForest}
 use Rattle.first_order.specs.declared.texts.Slot.{Slot}
 use Rattle.first_order.specs.Texts.{Naming, IsText, alone, with_arguments, AreTexts, no_text, one_text, slot, slots, blank, piece, Writing, Written, NotOf, NoTree, before, on_name, write_on, write}

@@ -1,9 +1,9 @@
 -- What reading means by the relation, as statements: data of a value along a first-order set.
 use Rattle.std.specs.Prelude.{◌≡◌, ◌≤◌, List, length}
 use Rattle.pc_terms.specs.Syntax.{Term}
-use Rattle.pc_rules.specs.Environment.{Env}
-use Rattle.pc_rules.specs.Accepted.{IsAccepted}
-use Rattle.pc_rules.specs.FirstOrder.{Shape as Member, IsFirstOrder, Data, Reads}
+use Rattle.calculus_rules.specs.Environment.{Env}
+use Rattle.calculus_rules.specs.Accepted.{IsAccepted}
+use Rattle.calculus_rules.specs.FirstOrder.{Shape as Member, IsFirstOrder, Data, Reads}
 use Rattle.first_order.specs.declared.shapes.Shape.{Shape}
 use Rattle.first_order.specs.Searching.{members}
 use Rattle.first_order.specs.Reading.{Read, read, reading}

@@ -3,9 +3,9 @@
 use Rattle.std.specs.Prelude.{ℕ, zero, suc, ◌+◌, ◌==◌, ◌≡◌, Bool, false, if◌then◌else◌, List, [], ◌∷◌, ◌++◌, length, drop, map, reverse, Option, Some, None, slice_get, Result, Ok, Err}
 use Rattle.pc_terms.specs.declared.leaf.FamilyId.{FamilyId}
 use Rattle.pc_terms.specs.Syntax.{Term, Ind, Construct, head, args}
-use Rattle.pc_rules.specs.FirstOrder.{Shape as Member, shape_type}
-use Rattle.pc_rules.specs.Same.{same_families}
-use Rattle.pc_rules.specs.DirectedWeakHead.{if_some}
+use Rattle.calculus_rules.specs.FirstOrder.{Shape as Member, shape_type}
+use Rattle.calculus_rules.specs.Same.{same_families}
+use Rattle.calculus_rules.specs.Lookups.{if_some}
 use Rattle.first_order.specs.declared.shapes.Shape.{Shape}
 use Rattle.first_order.specs.declared.shapes.ShapeCtor.{ShapeCtor}
 use Rattle.first_order.specs.declared.reading.Field.{Field}

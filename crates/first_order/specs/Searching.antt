@@ -9,13 +9,13 @@ use Rattle.pc_rules.specs.declared.stop.Stop.{Stop as StopKind}
 use Rattle.pc_rules.specs.declared.stop.Stop.TheVariants.{Spent, TooDeep, Memory}
 use Rattle.pc_rules.specs.declared.stop.Halt.{Halt}
 use Rattle.pc_rules.specs.declared.stop.Halt.TheVariants.{Stop}
-use Rattle.pc_rules.specs.declared.declaration.Constructor.{Constructor}
-use Rattle.pc_rules.specs.declared.declaration.Family.{Family}
+use Rattle.calculus_rules.specs.declared.declaration.Constructor.{Constructor}
+use Rattle.calculus_rules.specs.declared.declaration.Family.{Family}
 use Rattle.pc_rules.specs.declared.meter.Account.{Account}
-use Rattle.pc_rules.specs.Environment.{Env, FamilyDecl, KeepsFamily, with_parameters}
-use Rattle.pc_rules.specs.Instances.{branch_entries}
-use Rattle.pc_rules.specs.FirstOrder.{Shape as Member}
-use Rattle.pc_rules.specs.DirectedErasable.{is_prop}
+use Rattle.calculus_rules.specs.Environment.{Env, FamilyDecl, KeepsFamily, with_parameters}
+use Rattle.calculus_rules.specs.Instances.{branch_entries}
+use Rattle.calculus_rules.specs.FirstOrder.{Shape as Member}
+use Rattle.calculus_rules.specs.PropSorts.{is_prop}
 use Rattle.pc_rules.specs.DirectedRun.{Run, passing, any_beyond, bind}
 use Rattle.pc_rules.specs.DirectedFirstOrder.{Searched, Found, NotFirstOrder, TooManyTypes, independent, member_of, or_not_first_order}
 use Rattle.first_order.specs.declared.arguments.Arguments.{Arguments}

@@ -2,8 +2,8 @@
 -- called at a place, and at which places its arguments stand; none where no such node stands there.
 use Rattle.std.specs.Prelude.{ℕ, zero, suc, ◌==◌, ◌<◌, ◌≡◌, if◌then◌else◌, List, [], ◌∷◌, ◌++◌, length, replicate, decimal, Option, Some, None, slice_get, Result, Ok, Err, Vec}
 use Rattle.std.specs.declared.alloc.Global.{Global}
-use Rattle.pc_rules.specs.FirstOrder.{Data}
-use Rattle.pc_rules.specs.DirectedWeakHead.{if_some}
+use Rattle.calculus_rules.specs.FirstOrder.{Data}
+use Rattle.calculus_rules.specs.Lookups.{if_some}
 use Rattle.first_order.specs.declared.shapes.Shape.{Shape}
 use Rattle.first_order.specs.declared.shapes.ShapeCtor.{ShapeCtor}
 use Rattle.first_order.specs.declared.texts.Slot.{Slot}

@@ -9,8 +9,8 @@ ghost use Rattle.first_order.specs.Searching.{searched, as_is, one_constructor, 
 
 use crate::faults::ShapeRefusal;
 use crate::vectors::put;
+use calculus_rules::declaration::{Constructor, Constructors};
 use instances::instances::branches::branch_entries;
-use pc_rules::declaration::{Constructor, Constructors};
 use pc_terms::leaf::Name;
 use pc_terms::lists::Telescope;
 use pc_terms::term::{MakeFault, Node, Term, Terms};

@@ -1,9 +1,9 @@
 //! The search for the types of a first-order set.
 ghost use Rattle.std.specs.Prelude.{◌≡◌, ◌↔◌, ◌≤◌, IsTrue, map, length, slice_get, IfOk, IfErr, MatchOption, Some, None};
 ghost use Rattle.pc_terms.specs.declared.term.MakeFault.TheVariants.{Memory};
-ghost use Rattle.pc_rules.specs.Environment.{with_parameters};
-ghost use Rattle.pc_rules.specs.FirstOrder.{IsFirstOrder};
-ghost use Rattle.pc_rules.specs.DirectedErasable.{is_prop};
+ghost use Rattle.calculus_rules.specs.Environment.{with_parameters};
+ghost use Rattle.calculus_rules.specs.FirstOrder.{IsFirstOrder};
+ghost use Rattle.calculus_rules.specs.PropSorts.{is_prop};
 ghost use Rattle.pc_rules.specs.DirectedFirstOrder.{place_in, put_behind, put_in, put_arguments, put_constructors, member_of, work_type, first_order_search};
 ghost use Rattle.pc_rules.specs.Follows.{Follows, IsAfter};
 ghost use Rattle.first_order.specs.Searching.{searched, member, members, listed, name_in, ctor_name, places, IsNamed, IsMemberFamily, is_whole, found_at, found_places, found_shape, AreNamed};
@@ -12,8 +12,8 @@ use crate::arguments::{Arguments, argument_types};
 use crate::faults::ShapeRefusal;
 use crate::shapes::{Shape, ShapeCtor, ShapeCtors, ShapeTypes, Shapes};
 use crate::vectors::put;
+use calculus_rules::declaration::{Block, Family};
 use pc_rules::context::Ctx;
-use pc_rules::declaration::{Block, Family};
 use pc_rules::environment::Env;
 use pc_rules::meter::Meter;
 use pc_rules::reducer::Reducer;

@@ -1,11 +1,10 @@
 -- The bodies of branches, as they are put into a list from the last to the first.
 use Rattle.std.proofs.Common.{◌≡◌, ℕ, zero, suc, ◌+◌, ◌-◌, ◌<◌, List, [], ◌∷◌, ◌++◌, length, map, drop, get_or, slice_get, append_assoc, refl, sym, ap, ◌∙◌, arith}
-use Rattle.pc_terms.specs.declared.leaf.Name.{Name}
 use Rattle.pc_terms.specs.declared.term.Branch.{Branch}
 use Rattle.pc_terms.specs.Lists.{arms_of}
-use Rattle.pc_rules.specs.declared.declaration.Constructor.{Constructor}
-use Rattle.pc_rules.specs.Context.{Values, under}
-use Rattle.pc_rules.specs.Guardedness.{Marks}
+use Rattle.calculus_rules.specs.declared.declaration.Constructor.{Constructor}
+use Rattle.calculus_rules.specs.Context.{Values, under}
+use Rattle.calculus_rules.specs.Guardedness.{Marks, Ending}
 use Rattle.pc_rules.specs.DirectedGuard.{first_marks, later}
 use Rattle.guard_check.specs.declared.tasks.Task.{Task}
 use Rattle.guard_check.specs.Marks.{values_in, marks_in}
@@ -17,7 +16,7 @@ later_drop [] (suc j) = refl
 later_drop (C ∷ Cs) zero = refl
 later_drop (C ∷ Cs) (suc j) = later_drop Cs j
 
-pub first_opened : (k : Name) (Cs : List Constructor) (j n : ℕ) (M : Marks) → first_marks k (drop j Cs) n M ≡ opened_marks k (slice_get Cs j) n M
+pub first_opened : (k : Ending) (Cs : List Constructor) (j n : ℕ) (M : Marks) → first_marks k (drop j Cs) n M ≡ opened_marks k (slice_get Cs j) n M
 first_opened k [] zero n M = refl
 first_opened k [] (suc j) n M = refl
 first_opened k (C ∷ Cs) zero n M = refl
@@ -27,7 +26,7 @@ pub map-push : (xs : List Task) (a : Task) → map to_find (xs ++ (a ∷ [])) �
 map-push [] a = refl
 map-push (x ∷ xs) a = ap (λ ys. to_find x ∷ ys) (map-push xs a)
 
-module _ (V : Values) (M : Marks) (k : Name) (Cs : List Constructor) where
+module _ (V : Values) (M : Marks) (k : Ending) (Cs : List Constructor) where
   -- the branch at a place
   abbrev pub at_place : ℕ → Branch → ToFind
   at_place j b = record { values = under b.binders V; marks = opened_marks k (slice_get Cs j) b.binders M; term = b.body }

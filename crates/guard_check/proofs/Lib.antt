@@ -5,3 +5,5 @@ pub mod FoundRuns
 pub mod WalkRuns
 pub mod Depths
 pub mod Guarded
+mod BlockRuns
+mod Endings

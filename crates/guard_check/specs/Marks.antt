@@ -1,8 +1,8 @@
 -- Marks as the code keeps them.
 use Rattle.std.specs.Prelude.{List, map, Result, Ok, Err}
 use Rattle.pc_terms.specs.Syntax.{Term}
-use Rattle.pc_rules.specs.Guardedness as guard
-use Rattle.pc_rules.specs.Context.{Values, values}
+use Rattle.calculus_rules.specs.Guardedness as guard
+use Rattle.calculus_rules.specs.Context.{Values, values}
 use Rattle.pc_rules.specs.declared.stop.Halt.{Halt}
 use Rattle.guard_check.specs.declared.mark.Mark.{Mark}
 use Rattle.guard_check.specs.declared.mark.Mark.TheVariants.{Recursive, Argument, Smaller, Other}

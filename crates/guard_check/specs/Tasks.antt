@@ -3,13 +3,13 @@ use Rattle.std.specs.Prelude.{ℕ, List, [], ◌∷◌, ◌++◌, Option, Some, 
 use Rattle.pc_terms.specs.declared.leaf.Name.{Name}
 use Rattle.pc_terms.specs.Syntax.{Term, Terms, Rel, App, Case}
 use Rattle.pc_terms.specs.Syntax as syntax
-use Rattle.pc_rules.specs.declared.declaration.Constructor.{Constructor}
+use Rattle.calculus_rules.specs.declared.declaration.Constructor.{Constructor}
 use Rattle.pc_rules.specs.declared.meter.Account.{Account}
-use Rattle.pc_rules.specs.Environment.{Env}
-use Rattle.pc_rules.specs.Context.{Values, under}
-use Rattle.pc_rules.specs.Guardedness.{Mark, Smaller, Other, Marks, others, branch_marks}
+use Rattle.calculus_rules.specs.Environment.{Env}
+use Rattle.calculus_rules.specs.Context.{Values, under}
+use Rattle.calculus_rules.specs.Guardedness.{Mark, Smaller, Other, Marks, Ending, ending, others, branch_marks}
 use Rattle.pc_rules.specs.DirectedRun.{Run, done, bind}
-use Rattle.pc_rules.specs.DirectedWeakHead.{family_of}
+use Rattle.calculus_rules.specs.Lookups.{family_of}
 use Rattle.pc_rules.specs.DirectedGuard.{found_at, applied, opens, constructors_of, first_marks, later, if_smaller, find}
 use Rattle.guard_check.specs.declared.tasks.Task.{Task}
 use Rattle.guard_check.specs.Marks.{values_in, marks_in}
@@ -31,31 +31,31 @@ abbrev pub to_find : Task → ToFind
 to_find a = record { values = values_in a.scope; marks = marks_in a.scope; term = a.body }
 
 -- the marks of the variables of a branch in a match that is opened
-abbrev pub opened_marks : Name → Option Constructor → ℕ → Marks → Marks
-opened_marks k None n M = others n M
-opened_marks k (Some C) n M = branch_marks k C.args M
+abbrev pub opened_marks : Ending → Option Constructor → ℕ → Marks → Marks
+opened_marks q None n M = others n M
+opened_marks q (Some C) n M = branch_marks q 0 C.args M
 
 -- the bodies of branches, the last first
-abbrev pub bodies_to_find : Values → Marks → Name → List Constructor → Terms → List ToFind
-bodies_to_find V M k Cs syntax.Done = []
-bodies_to_find V M k Cs (syntax.Next n b bs) =
-    bodies_to_find V M k (later Cs) bs ++ (record { values = under n V; marks = first_marks k Cs n M; term = b } ∷ [])
+abbrev pub bodies_to_find : Values → Marks → Ending → List Constructor → Terms → List ToFind
+bodies_to_find V M q Cs syntax.Done = []
+bodies_to_find V M q Cs (syntax.Next n b bs) =
+    bodies_to_find V M q (later Cs) bs ++ (record { values = under n V; marks = first_marks q Cs n M; term = b } ∷ [])
 
 -- those of the matches at the head of a term in weak-head normal form, of the outermost match first
-abbrev pub branches_to_find : Env → Values → Marks → Term → List ToFind
-branches_to_find E V M (App f a) = branches_to_find E V M f
-branches_to_find E V M (Case f ps n ret s bs) =
-    bodies_to_find V M f.block (constructors_of (family_of E f)) bs ++ branches_to_find E V M s
-branches_to_find E V M t = []
+abbrev pub branches_to_find : Env → Option Name → Values → Marks → Term → List ToFind
+branches_to_find E r V M (App f a) = branches_to_find E r V M f
+branches_to_find E r V M (Case f ps n ret s bs) =
+    bodies_to_find V M (ending E r f ps) (constructors_of (family_of E f)) bs ++ branches_to_find E r V M s
+branches_to_find E r V M t = []
 
 -- a term is found smaller, and then comes the rest; or it is not, and nothing comes
-abbrev pub smaller_then : Env → ToFind → (Account → Run Mark) → Account → Run Mark
-smaller_then E x k u = bind (find E u.left x.values x.marks x.term u) (λ m v. if_smaller m (k v) v)
+abbrev pub smaller_then : Env → Option Name → ToFind → (Account → Run Mark) → Account → Run Mark
+smaller_then E r x k u = bind (find E r u.left x.values x.marks x.term u) (λ m v. if_smaller m (k v) v)
 
 -- each term of a list, the last first
-abbrev pub each_then : Env → List ToFind → (Account → Run Mark) → Account → Run Mark
-each_then E [] k = k
-each_then E (x ∷ xs) k = each_then E xs (smaller_then E x k)
+abbrev pub each_then : Env → Option Name → List ToFind → (Account → Run Mark) → Account → Run Mark
+each_then E r [] k = k
+each_then E r (x ∷ xs) k = each_then E r xs (smaller_then E r x k)
 
-abbrev pub each_smaller : Env → List ToFind → Account → Run Mark
-each_smaller E xs = each_then E xs (λ u. done Smaller u)
+abbrev pub each_smaller : Env → Option Name → List ToFind → Account → Run Mark
+each_smaller E r xs = each_then E r xs (λ u. done Smaller u)

@@ -14,6 +14,7 @@ use pc_rules::environment::Env;
 use pc_rules::meter::Meter;
 use pc_rules::reducer::Reducer;
 use pc_rules::stop::{Halt, Stop};
+use pc_terms::leaf::Name;
 use pc_terms::term::Term;
 use std::alloc::Global;
 
@@ -23,14 +24,15 @@ impl<R: Reducer + Drop> Guard<R> {
         &self,
         alloc: Global,
         env: &Env,
+        recursive: Option<Name>,
         scope: &Scope,
         t: &Term,
         m: &mut Meter,
     ) -> Result<(Term, Mark), Halt>
-        ensures follows { Follows (normal_found env.now (values_in scope.now) (marks_in scope.now) t.now m.old.account) (marked_term result) m.old m.new }
+        ensures follows { Follows (normal_found env.now recursive (values_in scope.now) (marks_in scope.now) t.now m.old.account) (marked_term result) m.old m.new }
     {
         let whnf = self.reducer.whnf(alloc, env, &scope.ctx, t, m)?;
-        let mark = self.found(alloc, env, scope, &whnf, m)?;
+        let mark = self.found(alloc, env, recursive, scope, &whnf, m)?;
         Ok((whnf, mark))
     }
 
@@ -39,20 +41,21 @@ impl<R: Reducer + Drop> Guard<R> {
         &self,
         alloc: Global,
         env: &Env,
+        recursive: Option<Name>,
         scope: &Scope,
         t: &Term,
         m: &mut Meter,
     ) -> Result<Mark, Halt>
         requires normal { weak_next env.now (values_in scope.now) t.now ≡ None }
-        ensures follows { Follows (find env.now m.old.account.left (values_in scope.now) (marks_in scope.now) t.now m.old.account) (marked result) m.old m.new }
+        ensures follows { Follows (find env.now recursive m.old.account.left (values_in scope.now) (marks_in scope.now) t.now m.old.account) (marked result) m.old m.new }
     {
         let mark = head_mark(&scope.marks, t);
         let Mark::Smaller = mark else {
             return Ok(mark);
         };
         let mut tasks = Vec::new(alloc);
-        push_branches(alloc, env, scope, t, &mut tasks)?;
-        self.all_smaller(alloc, env, tasks, m)
+        push_branches(alloc, env, recursive, scope, t, &mut tasks)?;
+        self.all_smaller(alloc, env, recursive, tasks, m)
     }
 
     /// `Smaller` where each of some terms is, the last first, and `Other` at the first that is not.
@@ -63,10 +66,11 @@ impl<R: Reducer + Drop> Guard<R> {
         &self,
         alloc: Global,
         env: &Env,
+        recursive: Option<Name>,
         mut tasks: Vec<Task>,
         m: &mut Meter,
     ) -> Result<Mark, Halt>
-        ensures follows { Follows (each_smaller env.now (map to_find tasks.items) m.old.account) (marked result) m.old m.new }
+        ensures follows { Follows (each_smaller env.now recursive (map to_find tasks.items) m.old.account) (marked result) m.old m.new }
     {
         for _ in 0..u64::MAX {
             let Some(task) = tasks.pop() else {
@@ -78,7 +82,7 @@ impl<R: Reducer + Drop> Guard<R> {
             let Mark::Smaller = head_mark(&task.scope.marks, &whnf) else {
                 return Ok(Mark::Other);
             };
-            push_branches(alloc, env, &task.scope, &whnf, &mut tasks)?;
+            push_branches(alloc, env, recursive, &task.scope, &whnf, &mut tasks)?;
         }
         // No memory holds so many bodies.
         Err(Halt::Stop(Stop::Memory))

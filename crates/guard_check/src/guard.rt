@@ -1,13 +1,14 @@
 //! The guard of fixpoints by a walk over their definitions' bodies.
 ghost use Rattle.std.specs.Prelude.{◌≡◌, [], IfOk, IfErr, length};
 ghost use Rattle.pc_terms.specs.Lists.{rargs_of, bodies_of};
-ghost use Rattle.pc_rules.specs.Context.{values, under};
-ghost use Rattle.pc_rules.specs.Guardedness.{definition_marks};
-ghost use Rattle.pc_rules.specs.DirectedGuard.{body_guard, fix_guard};
-ghost use Rattle.pc_rules.specs.Follows.{Follows};
+ghost use Rattle.calculus_rules.specs.Context.{values, under};
+ghost use Rattle.calculus_rules.specs.Guardedness.{definition_marks};
+ghost use Rattle.pc_rules.specs.DirectedGuard.{recursive_block, body_guard, fix_guard};
+ghost use Rattle.pc_rules.specs.Follows.{Follows, halted};
 ghost use Rattle.pc_rules.specs.declared.stop.Stop.TheVariants.{Memory};
 ghost use Rattle.guard_check.specs.Marks.{values_in, marks_in};
 
+use crate::families::head_block;
 use crate::mark::Mark;
 use crate::scope::Scope;
 use pc_rules::context::Ctx;
@@ -16,6 +17,7 @@ use pc_rules::guarder::Guarder;
 use pc_rules::meter::Meter;
 use pc_rules::reducer::Reducer;
 use pc_rules::stop::{Halt, Stop};
+use pc_terms::leaf::Name;
 use pc_terms::term::{Def, Node, Term};
 use std::alloc::Global;
 
@@ -80,7 +82,31 @@ impl<R: Reducer + Drop> Guard<R> {
         Ok(())
     }
 
-    /// The body of a definition: the domains of its lambdas up to that of the recursive argument, and then what is under them.
+    /// The recursive block of a body: that of the family at the head of the weak-head normal form of the domain of lambda number rarg.
+    fn recursive_block(
+        &self,
+        alloc: Global,
+        env: &Env,
+        scope: &Scope,
+        rarg: u32,
+        t: &Term,
+        m: &mut Meter,
+    ) -> Result<Option<Name>, Stop>
+        ensures follows { Follows (recursive_block env.now (values_in scope.now) rarg t.now m.old.account) (halted result) m.old m.new }
+    {
+        let Node::Lambda(domain, body) = t.view() else {
+            return Ok(None);
+        };
+        if rarg == 0 {
+            let whnf = self.reducer.whnf(alloc, env, &scope.ctx, domain, m)?;
+            return Ok(head_block(&whnf));
+        }
+        let inner = scope.assumed(alloc, domain, Mark::Other)?;
+        self.recursive_block(alloc, env, &inner, rarg - 1, body, m)
+    }
+
+    /// The body of a definition: the recursive block, then the domains of its lambdas up to that of the recursive argument, and then what is
+    /// under them.
     fn body(
         &self,
         alloc: Global,
@@ -92,15 +118,7 @@ impl<R: Reducer + Drop> Guard<R> {
     ) -> Result<(), Halt>
         ensures follows { Follows (body_guard env.now (values_in scope.now) (marks_in scope.now) rarg t.now m.old.account) result m.old m.new }
     {
-        let Node::Lambda(domain, body) = t.view() else {
-            return Ok(());
-        };
-        self.walk(alloc, env, scope, domain, m)?;
-        if rarg == 0 {
-            let inner = scope.assumed(alloc, domain, Mark::Argument)?;
-            return self.walk(alloc, env, &inner, body, m);
-        }
-        let inner = scope.assumed(alloc, domain, Mark::Other)?;
-        self.body(alloc, env, &inner, rarg - 1, body, m)
+        let recursive = self.recursive_block(alloc, env, scope, rarg, t, m)?;
+        self.under(alloc, env, recursive, scope, Mark::Argument, rarg, t, m)
     }
 }

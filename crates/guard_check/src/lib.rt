@@ -6,6 +6,9 @@
 //! its weak-head normal form, or is refused; in a match on the argument or on a smaller term the variables of branches may be smaller.
 //! A fixpoint that it lets pass is guarded by the definition of the condition (`guarded`).
 //!
+//! Through nested families: the recursive block of a definition is found first; a match in it may have smaller variables of other families' types,
+//! and a match of another family smaller variables of a parameter's type; and a fixpoint on a smaller argument has a smaller variable itself.
+//!
 //! How it goes: `scope` keeps the variables in scope with their marks (`mark`), `families` and `branches` say which variables of a branch
 //! are smaller, `tasks` and `finding` find out what a term is, `walking` walks over a body, and `guard` over the definitions.
 //!

@@ -1,18 +1,21 @@
 //! The variables in scope.
-ghost use Rattle.std.specs.Prelude.{◌≡◌, ◌∷◌, [], IfOk, IfErr, Some, None};
-ghost use Rattle.pc_rules.specs.Context.{values, under};
-ghost use Rattle.pc_rules.specs.Guardedness.{others, branch_marks};
+ghost use Rattle.std.specs.Prelude.{◌≡◌, ◌∷◌, [], IfOk, IfErr, Some, None, if◌then◌else◌};
+ghost use Rattle.guard_check.specs.Marks.{mark_of};
+ghost use Rattle.calculus_rules.specs.Context.{values, under};
+ghost use Rattle.trees.specs.Tree.{terms_of};
+ghost use Rattle.calculus_rules.specs.Guardedness.{Smaller, Other, others, branch_marks, ending};
 ghost use Rattle.pc_rules.specs.declared.stop.Stop.TheVariants.{Memory};
 
-use crate::families::ends_in_block;
+use crate::families::ends_smaller;
 use crate::mark::Mark;
+use calculus_rules::declaration::Constructor;
+use calculus_rules::entry::Entry;
 use pc_rules::context::Ctx;
-use pc_rules::declaration::Constructor;
-use pc_rules::entry::Entry;
+use pc_rules::environment::Env;
 use pc_rules::shared_list::SharedList;
 use pc_rules::stop::Stop;
 use pc_terms::leaf::Name;
-use pc_terms::term::Term;
+use pc_terms::term::{Match, Term};
 use std::alloc::Global;
 
 /// The variables in scope: their entries, and their marks, the innermost first. Nothing is known of the variables past the marks.
@@ -24,9 +27,30 @@ pub(crate) struct Scope {
     pub marks: SharedList<Mark>,
 }
 
+/// The mark of a branch's variable, by the place and the type of the constructor's argument, in a match that is opened. Only `Memory`.
+#[tactic(auto, using(crate::proofs::Endings::ending_is))]
+fn branch_mark(
+    alloc: Global,
+    env: &Env,
+    recursive: Option<Name>,
+    x: &Match,
+    place: usize,
+    ty: &Term,
+) -> Result<Mark, Stop>
+    ensures is { IfOk result (λ k. mark_of k ≡ (if ending env.now recursive x.now.family (terms_of x.now.params) place ty.now then Smaller else Other)) }
+    ensures only_memory { IfErr result (λ e. e ≡ Memory) }
+{
+    let Ok(under) = u32::try_from(place) else {
+        return Err(Stop::Memory);
+    };
+    if ends_smaller(alloc, env, recursive, x.family.block, &x.params, under, ty)? {
+        return Ok(Mark::Smaller);
+    }
+    Ok(Mark::Other)
+}
+
 impl Scope {
-    ghost use Rattle.pc_rules.specs.Guardedness.{Other};
-    ghost use Rattle.guard_check.specs.Marks.{mark_of, values_in, marks_in};
+    ghost use Rattle.guard_check.specs.Marks.{values_in, marks_in};
 
     /// The scope of a context, of whose variables nothing is known. Only `Memory`.
     pub fn of(ctx: &Ctx) -> Result<Scope, Stop>
@@ -80,27 +104,26 @@ impl Scope {
     }
 
     /// This scope with the variables of the branch of a constructor, in a match that is opened: a variable is smaller where its type, as the
-    /// constructor declares it, is products that end in a family of the match's block. Only `Memory`.
+    /// constructor declares it, makes it so. Only `Memory`.
+    #[tactic(auto, using(crate::proofs::Endings::marks_next, std::proofs::lemmas::Grind::common_steps))]
     pub fn opened(
         &self,
         alloc: Global,
+        env: &Env,
+        recursive: Option<Name>,
         count: usize,
-        ty: &Term,
-        block: Name,
+        x: &Match,
         ctor: &Constructor,
     ) -> Result<Scope, Stop>
         ensures values { IfOk result (λ s. values_in s ≡ under count (values_in self.now)) }
-        ensures marks { IfOk result (λ s. marks_in s ≡ branch_marks block ctor.now.args (marks_in self.now)) }
+        ensures marks { IfOk result (λ s. marks_in s ≡ branch_marks (ending env.now recursive x.now.family (terms_of x.now.params)) 0 ctor.now.args (marks_in self.now)) }
         ensures only_memory { IfErr result (λ e. e ≡ Memory) }
     {
-        let ctx = self.entries(alloc, count, ty)?;
+        let ctx = self.entries(alloc, count, &x.ret)?;
         let mut marks = self.marks.share()?;
-        for arg in ctor.args.as_slice() {
-            let mark = if ends_in_block(block, arg) {
-                Mark::Smaller
-            } else {
-                Mark::Other
-            };
+        let args = ctor.args.as_slice();
+        for i in 0..args.len() {
+            let mark = branch_mark(alloc, env, recursive, x, i, &args[i])?;
             marks = marks.with(alloc, mark)?;
         }
         Ok(Scope { ctx, marks })

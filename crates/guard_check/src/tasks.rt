@@ -1,7 +1,9 @@
 //! What terms in weak-head normal form are, and the terms that this depends on.
 ghost use Rattle.std.specs.Prelude.{◌≡◌, ◌++◌, IfOk, IfErr, map};
+ghost use Rattle.trees.specs.Tree.{terms_of};
 ghost use Rattle.pc_terms.specs.Lists.{arms_of};
-ghost use Rattle.pc_rules.specs.DirectedWeakHead.{family_of};
+ghost use Rattle.calculus_rules.specs.Guardedness.{ending};
+ghost use Rattle.calculus_rules.specs.Lookups.{family_of};
 ghost use Rattle.pc_rules.specs.DirectedGuard.{constructors_of};
 ghost use Rattle.pc_rules.specs.declared.stop.Stop.TheVariants.{Memory};
 ghost use Rattle.guard_check.specs.Marks.{mark_of, marks_of, values_in, marks_in};
@@ -13,6 +15,7 @@ use crate::scope::Scope;
 use pc_rules::environment::Env;
 use pc_rules::shared_list::SharedList;
 use pc_rules::stop::Stop;
+use pc_terms::leaf::Name;
 use pc_terms::term::{Match, Node, Term};
 use std::alloc::Global;
 
@@ -50,11 +53,12 @@ pub(crate) fn head_mark(marks: &SharedList<Mark>, t: &Term) -> Mark
 fn push_bodies(
     alloc: Global,
     env: &Env,
+    recursive: Option<Name>,
     scope: &Scope,
     x: &Match,
     tasks: &mut Vec<Task>,
 ) -> Result<(), Stop>
-    ensures pushed { IfOk result (λ _. map to_find tasks.new.items ≡ map to_find tasks.old.items ++ bodies_to_find (values_in scope.now) (marks_in scope.now) x.now.family.block (constructors_of (family_of env.now x.now.family)) (arms_of x.now.branches)) }
+    ensures pushed { IfOk result (λ _. map to_find tasks.new.items ≡ map to_find tasks.old.items ++ bodies_to_find (values_in scope.now) (marks_in scope.now) (ending env.now recursive x.now.family (terms_of x.now.params)) (constructors_of (family_of env.now x.now.family)) (arms_of x.now.branches)) }
     ensures only_memory { IfErr result (λ e. e ≡ Memory) }
 {
     let branches = x.branches.as_slice();
@@ -62,7 +66,7 @@ fn push_bodies(
     for i in 0..count {
         let place = count - 1 - i;
         let branch = &branches[place];
-        let inner = branch_scope(alloc, env, scope, true, x, place, branch)?;
+        let inner = branch_scope(alloc, env, recursive, scope, true, x, place, branch)?;
         let body = branch.body.share()?;
         let task = Task { scope: inner, body };
         if tasks.push(task).is_err() {
@@ -77,18 +81,19 @@ fn push_bodies(
 pub(crate) fn push_branches(
     alloc: Global,
     env: &Env,
+    recursive: Option<Name>,
     scope: &Scope,
     t: &Term,
     tasks: &mut Vec<Task>,
 ) -> Result<(), Stop>
-    ensures pushed { IfOk result (λ _. map to_find tasks.new.items ≡ map to_find tasks.old.items ++ branches_to_find env.now (values_in scope.now) (marks_in scope.now) t.now) }
+    ensures pushed { IfOk result (λ _. map to_find tasks.new.items ≡ map to_find tasks.old.items ++ branches_to_find env.now recursive (values_in scope.now) (marks_in scope.now) t.now) }
     ensures only_memory { IfErr result (λ e. e ≡ Memory) }
 {
     match t.view() {
-        Node::App(f, _) => push_branches(alloc, env, scope, f, tasks),
+        Node::App(f, _) => push_branches(alloc, env, recursive, scope, f, tasks),
         Node::Case(x) => {
-            push_bodies(alloc, env, scope, x, tasks)?;
-            push_branches(alloc, env, scope, &x.scrut, tasks)
+            push_bodies(alloc, env, recursive, scope, x, tasks)?;
+            push_branches(alloc, env, recursive, scope, &x.scrut, tasks)
         }
         _ => Ok(()),
     }

@@ -1,19 +1,19 @@
 -- The headline, from the laws of the layers.
 use Rattle.std.proofs.Common.{◌<◌, ◌≤◌, ℕ, List, arith}
 use Rattle.pc_terms.specs.Syntax.{Term}
-use Rattle.pc_rules.specs.Accepted.{IsAccepted}
-use Rattle.pc_rules.specs.Environment.{Env}
-use Rattle.pc_rules.specs.Evaluation.{Evaluates}
+use Rattle.calculus_rules.specs.Accepted.{IsAccepted}
+use Rattle.calculus_rules.specs.Environment.{Env}
+use Rattle.calculus_rules.specs.Evaluation.{Evaluates}
 use Rattle.pc_rules.specs.Entailment.{test_of}
-use Rattle.pc_rules.specs.FirstOrder.{Shape as Member, IsFirstOrder}
-use Rattle.pc_rules.specs.Lawful.{IsLawfulEvaluation}
-use Rattle.pc_rules.proofs.Bare.{bare_types}
+use Rattle.calculus_rules.specs.FirstOrder.{Shape as Member, IsFirstOrder}
+use Rattle.calculus_rules.specs.Lawful.{IsLawfulEvaluation}
+use Rattle.calculus_rules.proofs.Bare.{bare_types}
 use Rattle.pc_rules.proofs.Entailing.{entailed_decides}
 use Rattle.dump_reader.specs.declared.environment.RawEnv.{RawEnv}
 use Rattle.first_order.specs.declared.shapes.Shape.{Shape}
 use Rattle.first_order.specs.Searching.{members}
 use Rattle.lambda_box.specs.BoxProgram.{BoxProgram}
-use Rattle.erase_laws.proofs.ErasedData.{data_is_along_each, reading_is_determined}
+use Rattle.typing_laws.proofs.DataAlong.{data_is_along_each, reading_is_determined}
 use Rattle.erase_rules.proofs.Together.{program_keeps_values}
 use Rattle.read_counts.proofs.KeptBlocks.{few_counts}
 use Rattle.back_end.proofs.Total.{total_valid}

@@ -4,7 +4,7 @@ use Rattle.universe_levels.specs.declared.level.Level.{Level}
 use Rattle.universe_levels.specs.Consistency.{IsConsistent}
 use Rattle.pc_terms.specs.Syntax.{Term}
 use Rattle.pc_rules.specs.declared.meter.Account.{Account}
-use Rattle.pc_rules.specs.Environment.{Env}
+use Rattle.calculus_rules.specs.Environment.{Env}
 use Rattle.pc_rules.specs.Entailment.{entailed_by}
 use Rattle.pc_rules.specs.DirectedDeclarations.{Checked, IsCycle, Accepts, first_repeated, first_undeclared_end, levels_rule, constraints_rule, graph_rule, declarations_rule}
 use Rattle.pc_rules.proofs.Entailing.{entailed_decides}

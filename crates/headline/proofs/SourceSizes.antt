@@ -3,14 +3,14 @@ use Rattle.std.proofs.Common.{◌≡◌, ℕ, zero, suc, ◌≤◌, max, List, [
 use Rattle.std.proofs.lemmas.List.{length-map}
 use Rattle.pc_terms.specs.Syntax.{Term, Terms}
 use Rattle.pc_terms.specs.BoxSyntax.{BoxTerm, BoxTerms}
-use Rattle.pc_rules.specs.declared.declaration.Constructor.{Constructor}
-use Rattle.pc_rules.specs.declared.declaration.Family.{Family}
-use Rattle.pc_rules.specs.declared.declaration.Block.{Block}
-use Rattle.pc_rules.specs.declared.declaration.Kept.{Kept}
-use Rattle.pc_rules.specs.declared.declaration.Kept.TheVariants.{Constant, Heads, Block as Whole}
-use Rattle.pc_rules.specs.Environment.{Env, FamilyDecl, with_parameters}
-use Rattle.pc_rules.specs.Environment as source
-use Rattle.pc_rules.specs.Context.{Context}
+use Rattle.calculus_rules.specs.declared.declaration.Constructor.{Constructor}
+use Rattle.calculus_rules.specs.declared.declaration.Family.{Family}
+use Rattle.calculus_rules.specs.declared.declaration.Block.{Block}
+use Rattle.calculus_rules.specs.declared.declaration.Kept.{Kept}
+use Rattle.calculus_rules.specs.declared.declaration.Kept.TheVariants.{Constant, Heads, Block as Whole}
+use Rattle.calculus_rules.specs.Environment.{Env, FamilyDecl, with_parameters}
+use Rattle.calculus_rules.specs.Environment as source
+use Rattle.calculus_rules.specs.Context.{Context}
 use Rattle.pc_rules.specs.DirectedPlaces.{Placed, gives, at_place, and_then}
 use Rattle.pc_rules.specs.DirectedTyping.{infer}
 use Rattle.pc_rules.specs.Entailment.{test_of}
@@ -22,7 +22,7 @@ use Rattle.lambda_box.specs.BoxForm.{IsBoxProgram}
 use Rattle.lambda_box.specs.DataTerms.{binder_depth, binder_depth_terms, binder_depth_constants, greatest_of, greatest_arguments, greatest_words}
 use Rattle.erase_laws.specs.Erases.{Erases, box, ErasesBranches, ErasesBodies, body}
 use Rattle.erase_laws.specs.ErasedProgram.{arguments_of, AreErased, none_erased, not_reached, reached, IsErased}
-use Rattle.erase_laws.proofs.AcceptedClosed.{mapped}
+use Rattle.typing_laws.proofs.AcceptedClosed.{mapped}
 use Rattle.erase_rules.specs.DirectedErasure.{erased}
 use Rattle.erase_rules.specs.DirectedProgram.{Reached, Answer, Program, answer, box_families, families_from, erased_constants}
 use Rattle.erase_rules.proofs.Program.{gives_both, given_value, program_is, program_is_erased}

@@ -3,9 +3,9 @@ use Rattle.std.proofs.Common.{◌≡◌, ◌∙◌, ℕ, zero, suc, List, [], �
 use Rattle.std.specs.Prelude.{get_or}
 use Rattle.std.proofs.lemmas.Bool.{eq-eqb}
 use Rattle.std.proofs.lemmas.Option.{slice_get-get_or, slice_get-map}
-use Rattle.pc_rules.specs.FirstOrder.{Shape as Member, Data, FitsShapes, fits, FieldsFit, no_field_fits, field_fits}
-use Rattle.pc_rules.specs.DirectedWeakHead.{if_some}
-use Rattle.erase_laws.proofs.AcceptedClosed.{mapped}
+use Rattle.calculus_rules.specs.FirstOrder.{Shape as Member, Data, FitsShapes, fits, FieldsFit, no_field_fits, field_fits}
+use Rattle.calculus_rules.specs.Lookups.{if_some}
+use Rattle.typing_laws.proofs.AcceptedClosed.{mapped}
 use Rattle.first_order.specs.declared.shapes.Shape.{Shape}
 use Rattle.first_order.specs.declared.shapes.ShapeCtor.{ShapeCtor}
 use Rattle.first_order.specs.Searching.{member, members, places}

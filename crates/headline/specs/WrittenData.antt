@@ -1,6 +1,6 @@
 -- Texts of data that fits the types of a first-order set.
 use Rattle.std.specs.Prelude.{◌≡◌, ℕ, List}
-use Rattle.pc_rules.specs.FirstOrder.{Data, FitsShapes}
+use Rattle.calculus_rules.specs.FirstOrder.{Data, FitsShapes}
 use Rattle.first_order.specs.declared.shapes.Shape.{Shape}
 use Rattle.first_order.specs.Searching.{members}
 use Rattle.first_order.specs.Texts.{IsText, HasNames, Written, by_shapes, write}

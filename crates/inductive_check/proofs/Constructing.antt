@@ -2,13 +2,13 @@
 use Rattle.std.proofs.Common.{◌≡◌, ◌∙◌, sym, ap, refl, subst, ℕ, ◌+◌, ◌<◌, ◌≤◌, Err, List, [], ◌∷◌, ◌++◌, map, length, get_or, drop, take, add-one}
 use Rattle.dump_reader.specs.declared.declaration.RawCtor.{RawCtor}
 use Rattle.dump_reader.specs.declared.declaration.RawFamily.{RawFamily}
-use Rattle.pc_rules.specs.declared.declaration.Constructor.{Constructor}
-use Rattle.pc_rules.specs.declared.declaration.Family.{Family}
-use Rattle.pc_rules.specs.declared.declaration.Block.{Block}
+use Rattle.calculus_rules.specs.declared.declaration.Constructor.{Constructor}
+use Rattle.calculus_rules.specs.declared.declaration.Family.{Family}
+use Rattle.calculus_rules.specs.declared.declaration.Block.{Block}
 use Rattle.pc_rules.specs.declared.meter.Account.{Account}
 use Rattle.pc_rules.specs.declared.meter.Meter.{Meter}
 use Rattle.pc_rules.specs.declared.stop.Halt.{Halt}
-use Rattle.pc_rules.specs.Environment.{Env, head_of}
+use Rattle.calculus_rules.specs.Environment.{Env, head_of}
 use Rattle.pc_rules.specs.DirectedRun.{Run, Done, bind, done}
 use Rattle.pc_rules.specs.DirectedComparison.{Test, Comparison}
 use Rattle.pc_rules.specs.DirectedTyping.{Typing}

@@ -4,14 +4,14 @@ use Rattle.universe_levels.specs.Consistency.{IsConsistent}
 use Rattle.dump_reader.specs.declared.declaration.RawFamily.{RawFamily}
 use Rattle.pc_terms.specs.declared.leaf.Name.{Name}
 use Rattle.pc_terms.specs.Syntax.{Term}
-use Rattle.pc_rules.specs.declared.declaration.Block.{Block}
-use Rattle.pc_rules.specs.declared.declaration.Kept.TheVariants.{Heads}
-use Rattle.pc_rules.specs.declared.entry.Entry.TheVariants.{Assumed, Defined}
+use Rattle.calculus_rules.specs.declared.declaration.Block.{Block}
+use Rattle.calculus_rules.specs.declared.declaration.Kept.TheVariants.{Heads}
+use Rattle.calculus_rules.specs.declared.entry.Entry.TheVariants.{Assumed, Defined}
 use Rattle.pc_rules.specs.declared.meter.Account.{Account}
 use Rattle.pc_rules.specs.declared.meter.Meter.{Meter}
 use Rattle.pc_rules.specs.declared.stop.Halt.{Halt}
-use Rattle.pc_rules.specs.Environment.{Env, head_of, heads_of}
-use Rattle.pc_rules.specs.Context.{Context}
+use Rattle.calculus_rules.specs.Environment.{Env, head_of, heads_of}
+use Rattle.calculus_rules.specs.Context.{Context}
 use Rattle.pc_rules.specs.Lookup.{IsNew}
 use Rattle.pc_rules.specs.DirectedRun.{Run, done, bind}
 use Rattle.pc_rules.specs.DirectedComparison.{Test, compare}

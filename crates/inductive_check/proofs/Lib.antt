@@ -7,3 +7,10 @@ pub mod Leading
 pub mod Naming
 pub mod Sound
 pub mod Telescopes
+pub mod Nesting
+pub mod InTurn
+pub mod Going
+pub mod Own
+pub mod Looping
+pub mod EachItem
+pub mod SoundPositivity

@@ -6,8 +6,8 @@ use Rattle.pc_terms.specs.Syntax.{Term}
 use Rattle.pc_terms.specs.Formed.{IsFormed}
 use Rattle.pc_rules.specs.declared.meter.Meter.{Meter}
 use Rattle.pc_rules.specs.declared.stop.Halt.{Halt}
-use Rattle.pc_rules.specs.Environment.{Env}
-use Rattle.pc_rules.specs.Context.{Context}
+use Rattle.calculus_rules.specs.Environment.{Env}
+use Rattle.calculus_rules.specs.Context.{Context}
 use Rattle.pc_rules.specs.DirectedComparison.{IsTest, compare}
 use Rattle.pc_rules.specs.DirectedTyping.{infer, sort_of, check}
 use Rattle.pc_rules.specs.Entailment.{test_of}

@@ -3,12 +3,12 @@ use Rattle.std.proofs.Common.{◌≡◌, ◌∙◌, sym, ap, refl, subst, ℕ, �
 use Rattle.universe_levels.specs.declared.sort.Sort.{Sort}
 use Rattle.pc_terms.specs.declared.leaf.Name.{Name}
 use Rattle.pc_terms.specs.Syntax.{Term}
-use Rattle.pc_rules.specs.declared.entry.Entry.TheVariants.{Assumed}
+use Rattle.calculus_rules.specs.declared.entry.Entry.TheVariants.{Assumed}
 use Rattle.pc_rules.specs.declared.meter.Account.{Account}
 use Rattle.pc_rules.specs.declared.meter.Meter.{Meter}
 use Rattle.pc_rules.specs.declared.stop.Halt.{Halt}
-use Rattle.pc_rules.specs.Environment.{Env}
-use Rattle.pc_rules.specs.Context.{Context, extend}
+use Rattle.calculus_rules.specs.Environment.{Env}
+use Rattle.calculus_rules.specs.Context.{Context, extend}
 use Rattle.pc_rules.specs.DirectedRun.{Run, Done, done, bind}
 use Rattle.pc_rules.specs.DirectedComparison.{Test}
 use Rattle.pc_rules.specs.DirectedTyping.{Typing, sort_of, sorts_of}
@@ -54,12 +54,12 @@ module _ (H : Env) (q : Test) (inf : Typing) (k : Name) (f n : ℕ) (r : Sort) w
       arguments_rule H q inf k f n r c (A ∷ As) u ≡ bind (argument_rule H q inf k f n r c A u) (more_arguments c A As)
   unfolding arguments_rule
   arguments_split c A As u =
-      let k3 : Sort → Account → Run Sort = λ s w. bind (positive_rule k f n A w) (λ _ x. done s x) in
+      let k3 : Sort → Account → Run Sort = λ s w. bind (positive_rule H k f n A w) (λ _ x. done s x) in
       let k2 : Sort → Account → Run Sort = λ s v. bind (fits_sort q r s v) (λ _ w. k3 s w) in
-      let m3 : Sort → Account → Run (List Sort) = λ s w. bind (positive_rule k f n A w) (λ _ x. more_arguments c A As s x) in
+      let m3 : Sort → Account → Run (List Sort) = λ s w. bind (positive_rule H k f n A w) (λ _ x. more_arguments c A As s x) in
       let e3 : (s : Sort) (w : Account) → bind (k3 s w) (more_arguments c A As) ≡ m3 s w =
-      λ s w. bind_assoc (positive_rule k f n A w) (λ _ x. done s x) (more_arguments c A As)
-      ∙ (λ i. bind (positive_rule k f n A w) (λ _ x. bind_done s x (more_arguments c A As) i)) in
+      λ s w. bind_assoc (positive_rule H k f n A w) (λ _ x. done s x) (more_arguments c A As)
+      ∙ (λ i. bind (positive_rule H k f n A w) (λ _ x. bind_done s x (more_arguments c A As) i)) in
       let e2 : (s : Sort) (v : Account) → bind (k2 s v) (more_arguments c A As) ≡ bind (fits_sort q r s v) (λ _ w. m3 s w) =
       λ s v. bind_assoc (fits_sort q r s v) (λ _ w. k3 s w) (more_arguments c A As) ∙ (λ i. bind (fits_sort q r s v) (λ _ w. e3 s w i)) in
       sym (bind_assoc (sort_of H inf c A u) k2 (more_arguments c A As) ∙ (λ i. bind (sort_of H inf c A u) (λ s v. e2 s v i)))

@@ -6,9 +6,9 @@ use Rattle.dump_reader.specs.declared.declaration.RawCtor.{RawCtor}
 use Rattle.dump_reader.specs.declared.declaration.RawFamily.{RawFamily}
 use Rattle.dump_reader.specs.declared.declaration.RawDecl.{RawDecl}
 use Rattle.dump_reader.specs.declared.declaration.RawDecl.TheVariants as raw
-use Rattle.pc_rules.specs.declared.declaration.Constructor.{Constructor as Ctor}
-use Rattle.pc_rules.specs.declared.declaration.Family.{Family as FamilyOf}
-use Rattle.pc_rules.specs.declared.declaration.Block.{Block as BlockOf}
+use Rattle.calculus_rules.specs.declared.declaration.Constructor.{Constructor as Ctor}
+use Rattle.calculus_rules.specs.declared.declaration.Family.{Family as FamilyOf}
+use Rattle.calculus_rules.specs.declared.declaration.Block.{Block as BlockOf}
 use Rattle.pc_rules.specs.DirectedDeclarations.{Given, GivenConstant, GivenBlock}
 
 abbrev pub ctor_of : RawCtor → Ctor

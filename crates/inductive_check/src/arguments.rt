@@ -2,7 +2,7 @@
 ghost use Rattle.std.specs.Prelude.{◌≡◌, ◌+◌, IfOk};
 ghost use Rattle.universe_levels.specs.Consistency.{IsSortOver, AreOver};
 ghost use Rattle.pc_rules.specs.declared.meter.Account.{Account};
-ghost use Rattle.pc_rules.specs.Context.{extend};
+ghost use Rattle.calculus_rules.specs.Context.{extend};
 ghost use Rattle.pc_rules.specs.DirectedTyping.{infer};
 ghost use Rattle.pc_rules.specs.DirectedDeclarations.{fits_sort, positive_rule, arguments_rule};
 ghost use Rattle.pc_rules.specs.Entailment.{test_of};
@@ -14,9 +14,9 @@ use crate::listing::push;
 use crate::positivity::is_positive;
 use crate::telescope::assume;
 use crate::types::sort_of;
+use calculus_rules::declaration::Sorts;
 use pc_rules::broken::Broken;
 use pc_rules::context::Ctx;
-use pc_rules::declaration::Sorts;
 use pc_rules::environment::Env;
 use pc_rules::meter::Meter;
 use pc_rules::stop::Halt;
@@ -53,11 +53,18 @@ fn fits_sort(alloc: Global, env: &Env, argument: &Sort, family: &Sort) -> Result
     Err(Halt::Broken(Broken::SortTooSmall { argument, family }))
 }
 
-/// Whether a type is strictly positive in the block. `NotPositive` with the constructor's place. Takes no memory.
-pub(crate) fn positive_at(block: Name, at: CtorPlace, ty: &Term) -> Result<(), Halt>
-    ensures answers { (u : Account) → Answers (positive_rule block at.family at.ctor ty.now u) result u }
+/// Whether a type is strictly positive in the block. `NotPositive` with the constructor's place.
+fn positive_at(
+    alloc: Global,
+    env: &Env,
+    block: Name,
+    at: CtorPlace,
+    ty: &Term,
+    m: &mut Meter,
+) -> Result<(), Halt>
+    ensures follows { Follows (positive_rule env.now block at.family at.ctor ty.now m.old.account) result m.old m.new }
 {
-    if is_positive(block, ty) {
+    if is_positive(alloc, env, block, ty, m)? {
         return Ok(());
     }
     let CtorPlace { family, ctor } = at;
@@ -87,7 +94,7 @@ fn argument<T: Typer>(
 {
     let sort = sort_of(alloc, typer, env, room, ctx, ty, m)?;
     fits_sort(alloc, env, &sort, family)?;
-    positive_at(block, at, ty)?;
+    positive_at(alloc, env, block, at, ty, m)?;
     Ok(sort)
 }
 

@@ -1,11 +1,11 @@
 //! The constructors of a block's families, over the environment that knows the families by their types alone.
 ghost use Rattle.std.specs.Prelude.{◌≡◌, ◌+◌, [], map, IfOk, IfErr};
 ghost use Rattle.universe_levels.specs.Consistency.{IsSortOver};
-ghost use Rattle.pc_rules.specs.declared.declaration.Block.{Block};
+ghost use Rattle.calculus_rules.specs.declared.declaration.Block.{Block};
 ghost use Rattle.pc_rules.specs.declared.meter.Account.{Account};
 ghost use Rattle.pc_rules.specs.declared.stop.Stop.TheVariants.{Memory};
-ghost use Rattle.pc_rules.specs.Context.{extend};
-ghost use Rattle.pc_rules.specs.Environment.{head_of};
+ghost use Rattle.calculus_rules.specs.Context.{extend};
+ghost use Rattle.calculus_rules.specs.Environment.{head_of};
 ghost use Rattle.pc_rules.specs.DirectedComparison.{compare};
 ghost use Rattle.pc_rules.specs.DirectedTyping.{infer};
 ghost use Rattle.pc_rules.specs.DirectedDeclarations.{constructor_rule, constructors_rule, families_rule, with_sorts, with_constructors, result_names};
@@ -16,16 +16,17 @@ ghost use Rattle.rule_laws.specs.Declarations.{ConstructorsFormed, FamiliesForme
 ghost use Rattle.inductive_check.specs.Given.{ctor_of, family_of};
 
 use crate::arguments::{CtorPlace, arguments};
-use crate::listing::push;
-use crate::positivity::some_names;
+use crate::listing::{number, push};
 use crate::results::{check_results, counted};
 use crate::sharing::{shared_telescope, shared_terms};
+use calculus_rules::declaration::{Constructor, Constructors, Families, Family, Sorts};
+use calculus_rules::target::Target;
 use dump_reader::declaration::{RawCtor, RawFamilies, RawFamily};
 use pc_rules::broken::Broken;
 use pc_rules::context::Ctx;
-use pc_rules::declaration::{Constructor, Constructors, Families, Family, Sorts};
 use pc_rules::environment::Env;
 use pc_rules::meter::Meter;
+use pc_rules::naming::some_names;
 use pc_rules::stop::{Halt, Stop};
 use pc_rules::typer::Typer;
 use pc_terms::leaf::Name;
@@ -36,7 +37,7 @@ use std::alloc::Global;
 fn names_none(block: Name, at: CtorPlace, result_terms: &Terms) -> Result<(), Halt>
     ensures answers { (u : Account) → Answers (result_names block at.family at.ctor result_terms.now u) result u }
 {
-    if !some_names(block, result_terms.as_slice()) {
+    if !some_names(Target::Families(block), 0, result_terms.as_slice()) {
         return Ok(());
     }
     let CtorPlace { family, ctor } = at;
@@ -54,17 +55,6 @@ fn with_sorts(alloc: Global, ctor: &RawCtor, arg_sorts: Sorts) -> Result<Constru
         arg_sorts,
         result: shared_terms(alloc, ctor.result.as_slice())?,
     })
-}
-
-/// The number of items as a number of 32 bits. `Memory` where it is none.
-fn number(items: usize) -> Result<u32, Stop>
-    ensures is { IfOk result (λ n. n ≡ items) }
-    ensures only_memory { IfErr result (λ s. s ≡ Memory) }
-{
-    match u32::try_from(items) {
-        Ok(n) => Ok(n),
-        Err(_) => Err(Stop::Memory),
-    }
 }
 
 /// Checks a constructor of the block, which stands at a place in it, in a family; the block's parameters are the context `ctx`. The refusals

@@ -1,9 +1,9 @@
 //! The heads of a block: what is known of its families before its constructors are.
 ghost use Rattle.std.specs.Prelude.{◌≡◌, ◌+◌, [], ◌∷◌, map, IfOk, IfErr};
-ghost use Rattle.pc_rules.specs.declared.declaration.Block.{Block};
+ghost use Rattle.calculus_rules.specs.declared.declaration.Block.{Block};
 ghost use Rattle.pc_rules.specs.declared.stop.Stop.TheVariants.{Memory};
-ghost use Rattle.pc_rules.specs.Context.{extend};
-ghost use Rattle.pc_rules.specs.Environment.{head_of};
+ghost use Rattle.calculus_rules.specs.Context.{extend};
+ghost use Rattle.calculus_rules.specs.Environment.{head_of};
 ghost use Rattle.pc_rules.specs.DirectedTyping.{infer};
 ghost use Rattle.pc_rules.specs.DirectedDeclarations.{family_head, family_heads};
 ghost use Rattle.pc_rules.specs.Entailment.{test_of};
@@ -16,9 +16,9 @@ use crate::listing::push;
 use crate::names::are_distinct;
 use crate::sharing::shared_telescope;
 use crate::telescope::enter;
+use calculus_rules::declaration::{Constructors, Families, Family};
 use dump_reader::declaration::{RawFamilies, RawFamily};
 use pc_rules::context::Ctx;
-use pc_rules::declaration::{Constructors, Families, Family};
 use pc_rules::environment::Env;
 use pc_rules::meter::Meter;
 use pc_rules::stop::{Halt, Stop};

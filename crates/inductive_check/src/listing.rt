@@ -1,4 +1,4 @@
-//! Lists that are made item by item.
+//! Lists that are made item by item, and the numbers of their items.
 ghost use Rattle.std.specs.Prelude.{◌≡◌, ◌++◌, ◌∷◌, [], IfOk, IfErr};
 ghost use Rattle.pc_rules.specs.declared.stop.Stop.TheVariants.{Memory};
 
@@ -11,6 +11,17 @@ pub(crate) fn push<X: Drop>(items: &mut Vec<X>, item: X) -> Result<(), Stop>
 {
     match items.push(item) {
         Ok(()) => Ok(()),
+        Err(_) => Err(Stop::Memory),
+    }
+}
+
+/// The number of items as a number of 32 bits. `Memory` where it is none.
+pub(crate) fn number(items: usize) -> Result<u32, Stop>
+    ensures is { IfOk result (λ n. n ≡ items) }
+    ensures only_memory { IfErr result (λ s. s ≡ Memory) }
+{
+    match u32::try_from(items) {
+        Ok(n) => Ok(n),
         Err(_) => Err(Stop::Memory),
     }
 }

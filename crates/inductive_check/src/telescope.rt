@@ -1,6 +1,6 @@
 //! Telescopes: the types of their entries in turn, each under the entries before it.
 ghost use Rattle.std.specs.Prelude.{◌≡◌, ◌+◌, [], ◌∷◌, IfOk, IfErr};
-ghost use Rattle.pc_rules.specs.Context.{extend};
+ghost use Rattle.calculus_rules.specs.Context.{extend};
 ghost use Rattle.pc_rules.specs.DirectedTyping.{infer};
 ghost use Rattle.pc_rules.specs.Entailment.{test_of};
 ghost use Rattle.pc_rules.specs.Follows.{Follows};
@@ -9,8 +9,8 @@ ghost use Rattle.pc_rules.specs.declared.stop.Stop.TheVariants.{Memory};
 ghost use Rattle.inductive_check.specs.Arguments.{entries_rule};
 
 use crate::types::sort_of;
+use calculus_rules::entry::Entry;
 use pc_rules::context::Ctx;
-use pc_rules::entry::Entry;
 use pc_rules::environment::Env;
 use pc_rules::meter::Meter;
 use pc_rules::stop::{Halt, Stop};

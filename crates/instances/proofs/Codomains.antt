@@ -3,7 +3,7 @@ use Rattle.std.proofs.Common.{◌≡◌, ℕ, ◌+◌, ◌-◌, ◌<◌, ◌≤�
 use Rattle.std.proofs.lemmas.List.{take_more}
 use Rattle.trees.specs.Measures.{depth, IsBeyond}
 use Rattle.pc_terms.specs.Syntax.{Term, Prod}
-use Rattle.pc_rules.specs.Instances.{products}
+use Rattle.calculus_rules.specs.Instances.{products}
 
 pub products-append : (As Bs : List Term) (T : Term) → products (As ++ Bs) T ≡ products As (products Bs T)
 products-append [] Bs T = refl

@@ -7,7 +7,7 @@ use Rattle.pc_terms.specs.Syntax.{Term, Terms, Rel, Fix, term_at, put_all, subst
 use Rattle.pc_terms.specs.Lists.{rargs_of, types_of, bodies_of}
 use Rattle.pc_terms.proofs.Parts.{rargs_length}
 use Rattle.pc_terms.specs.declared.term.Def.{Def}
-use Rattle.pc_rules.specs.Instances.{fixpoints}
+use Rattle.calculus_rules.specs.Instances.{fixpoints}
 use Rattle.pc_rules.specs.DirectedRun.{is_beyond}
 use Rattle.instances.specs.Unfolding.{fixpoint_at, unfolding_of, some_beyond, unfolding_beyond}
 use Rattle.pc_rules.proofs.Following.{beyond_is, or_right}

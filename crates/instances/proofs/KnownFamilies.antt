@@ -3,10 +3,10 @@ use Rattle.std.proofs.Common.{◌≡◌, get_or, Option, Some, None, slice_get, 
 use Rattle.std.specs.Option.{option_map}
 use Rattle.std.proofs.lemmas.Option.{get_or_from_slice_get}
 use Rattle.pc_terms.specs.declared.leaf.FamilyId.{FamilyId}
-use Rattle.pc_rules.specs.declared.declaration.Family.{Family}
-use Rattle.pc_rules.specs.declared.declaration.Block.{Block}
-use Rattle.pc_rules.specs.Environment.{Env, FamilyDecl, with_parameters, family_at}
-use Rattle.pc_rules.specs.DirectedWeakHead.{if_some, kept_at, whole_block, family_of}
+use Rattle.calculus_rules.specs.declared.declaration.Family.{Family}
+use Rattle.calculus_rules.specs.declared.declaration.Block.{Block}
+use Rattle.calculus_rules.specs.Environment.{Env, FamilyDecl, with_parameters, family_at}
+use Rattle.calculus_rules.specs.Lookups.{if_some, kept_at, whole_block, family_of}
 use Rattle.pc_rules.specs.Stops.{stop_of}
 use Rattle.pc_rules.specs.declared.stop.Stop.TheVariants.{TooDeep}
 use Rattle.pc_terms.specs.declared.term.MakeFault.{MakeFault}

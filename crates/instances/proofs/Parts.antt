@@ -5,10 +5,10 @@ use Rattle.trees.specs.Measures.{IsBeyond}
 use Rattle.trees.proofs.Cutoffs.{subst_list-substitute}
 use Rattle.pc_terms.specs.declared.leaf.FamilyId.{FamilyId}
 use Rattle.pc_terms.specs.Syntax.{Term, Rel, SortT, Ind, Construct, subst_list, apply, variables, shift, put_all, substitute}
-use Rattle.pc_rules.specs.declared.declaration.Constructor.{Constructor}
-use Rattle.pc_rules.specs.declared.declaration.Family.{Family}
-use Rattle.pc_rules.specs.Environment.{with_parameters}
-use Rattle.pc_rules.specs.Instances.{products, entries_at, family_type, constructor_type, predicate_entries, predicate_at, result_at, built_at, branch_type}
+use Rattle.calculus_rules.specs.declared.declaration.Constructor.{Constructor}
+use Rattle.calculus_rules.specs.declared.declaration.Family.{Family}
+use Rattle.calculus_rules.specs.Environment.{with_parameters}
+use Rattle.calculus_rules.specs.Instances.{products, entries_at, family_type, constructor_type, predicate_entries, predicate_at, result_at, built_at, branch_type}
 use Rattle.pc_rules.specs.DirectedRun.{is_beyond, any_beyond}
 use Rattle.pc_rules.specs.DirectedTyping.{branch_beyond}
 use Rattle.instances.proofs.Beyond.{any_beyond-left, any_beyond-last}

@@ -8,7 +8,7 @@ use Rattle.trees.proofs.Closed.{subst_list-closed, loose_le_above}
 use Rattle.trees.proofs.Cutoffs.{subst_list-substitute}
 use Rattle.trees.proofs.Put.{overs_over}
 use Rattle.pc_terms.specs.Syntax.{Term, Rel, over, overs, substitute, put_all}
-use Rattle.pc_rules.specs.Instances.{entries_at}
+use Rattle.calculus_rules.specs.Instances.{entries_at}
 use Rattle.pc_rules.specs.DirectedRun.{is_beyond, any_beyond}
 use Rattle.pc_rules.proofs.Following.{beyond_is, or_left, or_right}
 

@@ -1,9 +1,9 @@
 -- What the instantiations look up in an environment: the newest declaration of a block's name is the block.
 use Rattle.std.specs.Prelude.{ℕ, Option, slice_get}
 use Rattle.pc_terms.specs.declared.leaf.FamilyId.{FamilyId}
-use Rattle.pc_rules.specs.declared.declaration.Constructor.{Constructor}
-use Rattle.pc_rules.specs.Environment.{Env, FamilyDecl, family_at}
-use Rattle.pc_rules.specs.DirectedWeakHead.{if_some, kept_at, known_block, family_of}
+use Rattle.calculus_rules.specs.declared.declaration.Constructor.{Constructor}
+use Rattle.calculus_rules.specs.Environment.{Env, FamilyDecl, family_at}
+use Rattle.calculus_rules.specs.Lookups.{if_some, kept_at, known_block, family_of}
 
 -- a family of a whole block, or of one that is being declared
 abbrev pub known_family : Env → FamilyId → Option FamilyDecl

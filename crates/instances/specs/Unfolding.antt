@@ -3,7 +3,7 @@ use Rattle.std.specs.Prelude.{ℕ, ◌||◌, Bool, false, List, length, Option, 
 use Rattle.pc_terms.specs.declared.term.Def.{Def}
 use Rattle.pc_terms.specs.Syntax.{Term, Fix, term_at}
 use Rattle.pc_terms.specs.Lists.{rargs_of, types_of, bodies_of}
-use Rattle.pc_rules.specs.Instances.{unfolded}
+use Rattle.calculus_rules.specs.Instances.{unfolded}
 use Rattle.pc_rules.specs.DirectedRun.{is_beyond}
 
 -- definition i as a fixpoint

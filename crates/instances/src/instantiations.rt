@@ -8,13 +8,13 @@
 //! Each call gives the term or the entries of its definition (`ok`). It answers `TooDeep` only where a term that the asked one is made of
 //! is beyond the limits of terms (`too_deep`), and else only `Memory` (`unspent`).
 ghost use Rattle.std.specs.Prelude.{◌≡◌, ◌≢◌, ◌<◌, Some, IsSome, IfOk, IfErr, IsTrue, length, slice_get};
-ghost use Rattle.pc_rules.specs.declared.declaration.Constructor.{Constructor};
+ghost use Rattle.calculus_rules.specs.declared.declaration.Constructor.{Constructor};
 ghost use Rattle.pc_rules.specs.declared.stop.Stop.TheVariants.{TooDeep, Spent};
-ghost use Rattle.pc_rules.specs.Environment.{FamilyDecl};
-ghost use Rattle.pc_rules.specs.Instances.{family_type, constructor_type, predicate_entries, predicate_at, branch_entries, branch_type};
+ghost use Rattle.calculus_rules.specs.Environment.{FamilyDecl};
+ghost use Rattle.calculus_rules.specs.Instances.{family_type, constructor_type, predicate_entries, predicate_at, branch_entries, branch_type};
 ghost use Rattle.pc_rules.specs.DirectedRun.{is_beyond, any_beyond};
 ghost use Rattle.pc_rules.specs.DirectedTyping.{branch_beyond};
-ghost use Rattle.pc_rules.specs.DirectedWeakHead.{family_of};
+ghost use Rattle.calculus_rules.specs.Lookups.{family_of};
 ghost use Rattle.instances.specs.Known.{known_family, constructor_of};
 ghost use Rattle.instances.specs.Unfolding.{unfolding_of, unfolding_beyond};
 
@@ -22,7 +22,7 @@ use crate::instances::constructors::constructor_type;
 use crate::instances::families::family_type;
 use crate::instances::predicates::{self, predicate_entries};
 use crate::instances::{branches, fixpoints};
-use pc_rules::declaration::Constructor;
+use calculus_rules::declaration::Constructor;
 use pc_rules::environment::Env;
 use pc_rules::stop::Stop;
 use pc_terms::leaf::FamilyId;

@@ -1,6 +1,6 @@
 //! What an environment keeps.
+use calculus_rules::declaration::{Block, Constructor, Family, Kept};
 use dump_reader::environment::RawEnv;
-use pc_rules::declaration::{Block, Constructor, Family, Kept};
 use pc_rules::environment::Env;
 use pc_terms::leaf::Name;
 use row_terms::{put_name, put_sort};

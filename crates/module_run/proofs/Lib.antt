@@ -2,3 +2,5 @@ pub mod OneRun
 pub mod OneEnd
 pub mod Ending
 pub mod Returning
+pub mod OneFileEnd
+pub mod FileStages

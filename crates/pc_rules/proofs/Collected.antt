@@ -6,10 +6,11 @@ use Rattle.trees.proofs.Cutoffs.{lift-shift}
 use Rattle.pc_terms.specs.Syntax.{Term, lift, shift}
 use Rattle.pc_terms.specs.Lists.{types_of, bodies_of}
 use Rattle.pc_terms.specs.declared.term.Def.{Def}
-use Rattle.pc_rules.specs.declared.entry.Entry.TheVariants.{Assumed}
-use Rattle.pc_rules.specs.Context.{Context, extend}
+use Rattle.calculus_rules.specs.declared.entry.Entry.TheVariants.{Assumed}
+use Rattle.calculus_rules.specs.Context.{Context, extend}
 use Rattle.pc_rules.specs.DirectedRun.{is_beyond, any_beyond}
-use Rattle.pc_rules.specs.DirectedComparison.{list_of, lifted_types}
+use Rattle.calculus_rules.specs.Listed.{list_of}
+use Rattle.pc_rules.specs.DirectedComparison.{lifted_types}
 use Rattle.pc_rules.proofs.Following.{or_left, or_right, beyond_is}
 use Rattle.pc_rules.proofs.ListSteps.{take_next}
 

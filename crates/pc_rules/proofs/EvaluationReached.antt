@@ -5,22 +5,23 @@ use Rattle.universe_levels.specs.declared.constraint.Constraint.{Constraint}
 use Rattle.pc_terms.specs.declared.leaf.Name.{Name}
 use Rattle.pc_terms.specs.declared.leaf.FamilyId.{FamilyId}
 use Rattle.pc_terms.specs.Syntax.{Term, Terms, Rel, Lambda, App, Ind, Construct, Fix, put, put_all, substitute, apply, head, args, term_at}
-use Rattle.pc_rules.specs.declared.declaration.Constructor.{Constructor}
-use Rattle.pc_rules.specs.declared.declaration.Kept.{Kept}
-use Rattle.pc_rules.specs.declared.declaration.Kept.TheVariants.{Constant, Block as Whole}
+use Rattle.calculus_rules.specs.declared.declaration.Constructor.{Constructor}
+use Rattle.calculus_rules.specs.declared.declaration.Kept.{Kept}
+use Rattle.calculus_rules.specs.declared.declaration.Kept.TheVariants.{Constant, Block as Whole}
 use Rattle.pc_rules.specs.declared.meter.Account.{Account}
-use Rattle.pc_rules.specs.Environment.{Env, FamilyDecl, Has, here, there, name_of, family_at, KeepsConstant, KeepsFamily}
-use Rattle.pc_rules.specs.Accepted.{Accepted, empty, constant as constant_declared, block, IsAccepted}
-use Rattle.pc_rules.specs.Instances.{unfolded}
-use Rattle.pc_rules.specs.Step.{IsConstructor, is_constructor}
-use Rattle.pc_rules.specs.Evaluation.{IsValue, sort_is, prod_is, lambda_is, ind_is, construct_is, fix_is, TakesMore, family, constructor, fixpoint, Unfolds, unfolds, Evaluates, value, constant, let_in, beta, extend, unfold_fix, enter}
-use Rattle.pc_rules.specs.Same.{same_names}
+use Rattle.calculus_rules.specs.Environment.{Env, FamilyDecl, Has, here, there, name_of, family_at, KeepsConstant, KeepsFamily}
+use Rattle.calculus_rules.specs.Accepted.{Accepted, empty, constant as constant_declared, block, IsAccepted}
+use Rattle.calculus_rules.specs.Instances.{unfolded}
+use Rattle.calculus_rules.specs.Step.{IsConstructor, is_constructor}
+use Rattle.calculus_rules.specs.Evaluation.{IsValue, sort_is, prod_is, lambda_is, ind_is, construct_is, fix_is, TakesMore, family, constructor, fixpoint, Unfolds, unfolds, Evaluates, value, constant, let_in, beta, extend, unfold_fix, enter}
+use Rattle.calculus_rules.specs.Same.{same_names}
 use Rattle.pc_rules.specs.DirectedRun.{Run, Done, done, ticked, ticking, end_then, bind}
-use Rattle.pc_rules.specs.DirectedWeakHead.{if_some, kept_at, body_of, whole_block, family_of, arguments_at, built_arguments, built, branch_of, unfold_at}
+use Rattle.calculus_rules.specs.Lookups.{if_some, kept_at, body_of, whole_block, family_of}
+use Rattle.pc_rules.specs.DirectedWeakHead.{arguments_at, built_arguments, built, branch_of, unfold_at}
 use Rattle.pc_rules.specs.DirectedEvaluation.{Evaluated, Value, Evaluating, on_value, with_value, contracted, contracts, is_missing, lacks_arguments, is_below, takes_more, unfolding_at, extended, applied, node, evaluate}
 use Rattle.pc_rules.specs.DirectedLaws.{more}
-use Rattle.pc_rules.proofs.Spines.{head-apply, args-apply, drop_past}
-use Rattle.pc_rules.proofs.Determined.{not_more, not_unfolds}
+use Rattle.calculus_rules.proofs.Spines.{head-apply, args-apply, drop_past}
+use Rattle.calculus_rules.proofs.Determined.{not_more, not_unfolds}
 use Rattle.pc_rules.proofs.SameTrees.{one_family}
 use Rattle.pc_rules.proofs.WeakNext.{same_names_is}
 use Rattle.pc_rules.proofs.EvaluationRuns.{more_none, more_more}

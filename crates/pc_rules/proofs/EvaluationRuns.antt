@@ -3,19 +3,21 @@ use Rattle.std.proofs.Common.{◌≡◌, ℕ, zero, suc, ◌+◌, ◌<◌, ◌==
 use Rattle.std.proofs.lemmas.Bool.{eqb-true, ltb-true}
 use Rattle.pc_terms.specs.declared.leaf.FamilyId.{FamilyId}
 use Rattle.pc_terms.specs.Syntax.{Term, Terms, Rel, SortT, Prod, Lambda, LetIn, App, Const, Ind, Construct, Case, Fix, put, put_all, substitute, apply, head, args, term_at}
-use Rattle.pc_rules.specs.declared.declaration.Constructor.{Constructor}
+use Rattle.calculus_rules.specs.declared.declaration.Constructor.{Constructor}
 use Rattle.pc_rules.specs.declared.meter.Account.{Account}
-use Rattle.pc_rules.specs.Environment.{Env, FamilyDecl, KeepsFamily}
-use Rattle.pc_rules.specs.Instances.{unfolded}
-use Rattle.pc_rules.specs.Step.{IsConstructor}
-use Rattle.pc_rules.specs.Evaluation.{IsValue, sort_is, prod_is, lambda_is, ind_is, construct_is, fix_is, TakesMore, family, constructor, fixpoint, Unfolds, unfolds, Evaluates, value, constant, let_in, beta, extend, unfold_fix, enter}
-use Rattle.pc_rules.specs.Same.{same_families}
+use Rattle.calculus_rules.specs.Environment.{Env, FamilyDecl, KeepsFamily}
+use Rattle.calculus_rules.specs.Instances.{unfolded}
+use Rattle.calculus_rules.specs.Step.{IsConstructor}
+use Rattle.calculus_rules.specs.Evaluation.{IsValue, sort_is, prod_is, lambda_is, ind_is, construct_is, fix_is, TakesMore, family, constructor, fixpoint, Unfolds, unfolds, Evaluates, value, constant, let_in, beta, extend, unfold_fix, enter}
+use Rattle.calculus_rules.specs.Same.{same_families}
 use Rattle.pc_rules.specs.DirectedRun.{Run, End, Done, Refused, NoUnit, Nested, ticked, paid, ticking, end_then, bind}
-use Rattle.pc_rules.specs.DirectedWeakHead.{if_some, kept_at, body_of, family_of, built, branch_of, unfold_at}
+use Rattle.calculus_rules.specs.Lookups.{if_some, kept_at, body_of, family_of}
+use Rattle.pc_rules.specs.DirectedWeakHead.{built, branch_of, unfold_at}
 use Rattle.pc_rules.specs.DirectedEvaluation.{Evaluated, Value, Stuck, Evaluating, on_value, with_value, contracted, contracts, is_missing, lacks_arguments, is_below, takes_more, unfolding_at, extended, applied, node, evaluate}
 use Rattle.pc_rules.specs.DirectedLaws.{more}
-use Rattle.pc_rules.proofs.Spines.{one_item}
-use Rattle.pc_rules.proofs.WeakNext.{none_some, if_some_is, if_is, body_found, family_found, built_found, same_families_is, spine_is}
+use Rattle.calculus_rules.proofs.Spines.{one_item}
+use Rattle.pc_rules.proofs.WeakNext.{none_some, if_some_is, if_is, body_found, family_found, built_found, same_families_is}
+use Rattle.calculus_rules.proofs.Spines.{spine_is}
 
 -- where runs come from
 

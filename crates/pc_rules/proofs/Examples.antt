@@ -5,15 +5,15 @@ use Rattle.universe_levels.specs.declared.sort.Sort.TheVariants.{Prop, Of}
 use Rattle.pc_terms.specs.declared.leaf.Name.{Name}
 use Rattle.pc_terms.specs.declared.leaf.FamilyId.{FamilyId}
 use Rattle.pc_terms.specs.Syntax.{Term, Done, Next, Rel, SortT, Prod, Lambda, App, Const, Ind, Construct, Case, Fix}
-use Rattle.pc_rules.specs.declared.declaration.Block.{Block}
-use Rattle.pc_rules.specs.declared.declaration.Kept.TheVariants.{Constant, Block as Whole}
+use Rattle.calculus_rules.specs.declared.declaration.Block.{Block}
+use Rattle.calculus_rules.specs.declared.declaration.Kept.TheVariants.{Constant, Block as Whole}
 use Rattle.pc_rules.specs.declared.meter.Account.{Account}
 use Rattle.pc_rules.specs.declared.broken.Broken.{Broken}
 use Rattle.pc_rules.specs.declared.broken.Place.{Place}
 use Rattle.pc_rules.specs.declared.broken.Place.TheVariants.{Main, Declaration}
 use Rattle.pc_rules.specs.declared.broken.Broken.TheVariants.{NotAProduct, NotBelow, CountWrong, NotTheFamily, SortTooSmall, NotGuarded, NotPositive, DuplicateName, NotASort, RecArgNotInductive}
 use Rattle.pc_rules.specs.declared.broken.Clash.TheVariants.{Sorts as ClashOfSorts}
-use Rattle.pc_rules.specs.Environment.{Env}
+use Rattle.calculus_rules.specs.Environment.{Env}
 use Rattle.pc_rules.specs.DirectedRun as run
 use Rattle.pc_rules.specs.DirectedRun.{ticking, bind, run_all}
 use Rattle.pc_rules.specs.DirectedWeakHead.{whnf, steps}
@@ -24,7 +24,7 @@ use Rattle.pc_rules.specs.DirectedPlaces.{and_then}
 use Rattle.pc_rules.specs.DirectedDeclarations.{Given, GivenConstant, GivenBlock, environment_rule, Outcome, Gives, Breaks, Spends, Nests, Accepts, declarations_rule, arguments_rule, constructors_rule, families_rule}
 use Rattle.pc_rules.specs.DirectedEvaluation.{Value, Stuck, evaluate, evaluation}
 use Rattle.pc_rules.specs.DirectedFirstOrder.{Found, NotFirstOrder, TooManyTypes, shape, put_arguments, put_constructors, argument_types, work_on, search_within}
-use Rattle.pc_rules.specs.Same.{same}
+use Rattle.calculus_rules.specs.Same.{same}
 
 abbrev n_nat : Name
 n_nat = record { 0 = 0 }

@@ -2,19 +2,21 @@
 use Rattle.std.proofs.Common.{◌≡◌, ℕ, zero, suc, ◌+◌, ◌-◌, ◌==◌, ◌&&◌, Bool, true, List, [], ◌∷◌, length, Option, Some, None, refl, sym, ap, ◌∙◌, subst, arith}
 use Rattle.pc_terms.specs.declared.leaf.FamilyId.{FamilyId}
 use Rattle.pc_terms.specs.Syntax.{Term, Terms, SortT, Prod, Lambda, Case, Fix, head, args}
-use Rattle.pc_rules.specs.declared.declaration.Constructor.{Constructor}
-use Rattle.pc_rules.specs.declared.entry.Entry.TheVariants.{Assumed}
+use Rattle.calculus_rules.specs.declared.declaration.Constructor.{Constructor}
+use Rattle.calculus_rules.specs.declared.entry.Entry.TheVariants.{Assumed}
 use Rattle.pc_rules.specs.declared.broken.Broken.TheVariants.{NotBelow, UnknownName}
 use Rattle.pc_rules.specs.declared.broken.Clash.TheVariants.{Terms as ClashOfTerms, Sorts as ClashOfSorts}
 use Rattle.pc_rules.specs.declared.meter.Account.{Account}
-use Rattle.pc_rules.specs.Environment.{Env, FamilyDecl}
-use Rattle.pc_rules.specs.Context.{Context, Values, extend, values}
-use Rattle.pc_rules.specs.Instances.{predicate_entries, branch_entries}
-use Rattle.pc_rules.specs.Same.{same}
-use Rattle.pc_rules.specs.WeakHead.{WeakSteps, no_step, then_step}
+use Rattle.calculus_rules.specs.Environment.{Env, FamilyDecl}
+use Rattle.calculus_rules.specs.Context.{Context, Values, extend, values}
+use Rattle.calculus_rules.specs.Instances.{predicate_entries, branch_entries}
+use Rattle.calculus_rules.specs.Same.{same}
+use Rattle.calculus_rules.specs.WeakHead.{WeakSteps, no_step, then_step}
 use Rattle.pc_rules.specs.DirectedRun.{Run, End, Done, Act, done, ticked, any_beyond, run_all}
-use Rattle.pc_rules.specs.DirectedWeakHead.{weak_next, after_step, stuck_step, steps, whnf, family_of}
-use Rattle.pc_rules.specs.DirectedComparison.{Test, Comparison, sorts_stand, alike, each_equal, entering, branches_equal, matches_equal, lifted_types, fixpoints_equal, heads_equal, spines_equal, pair, entered, compare, list_of}
+use Rattle.calculus_rules.specs.Lookups.{family_of}
+use Rattle.pc_rules.specs.DirectedWeakHead.{weak_next, after_step, stuck_step, steps, whnf}
+use Rattle.calculus_rules.specs.Listed.{list_of}
+use Rattle.pc_rules.specs.DirectedComparison.{Test, Comparison, sorts_stand, alike, each_equal, entering, branches_equal, matches_equal, lifted_types, fixpoints_equal, heads_equal, spines_equal, pair, entered, compare}
 use Rattle.pc_rules.specs.DirectedLaws.{more, Leaves, Stays}
 use Rattle.pc_rules.proofs.Fair.{IsFair, AreFair, no_act, an_act, fair_done, fair_refused, fair_passing, fair_nested, fair_if, fair_bind, fair_ticking, fair_all}
 use Rattle.pc_rules.proofs.WeakNext.{weak_next_found}

@@ -1,16 +1,17 @@
 -- The guard, inference and blocks never go back on units, and more units change no result.
 use Rattle.std.proofs.Common.{ℕ, zero, suc, ◌+◌, ◌≤◌, Bool, true, false, List, [], ◌∷◌, ◌++◌, length, Option, Some, None, arith, slice_get}
 use Rattle.pc_terms.specs.declared.leaf.Name.{Name}
-use Rattle.pc_terms.specs.Syntax.{Slot, Term, Terms, Children, End, Child, Group, Done, Next, Rel, Node, Lambda, LetIn, App, Case, Fix}
-use Rattle.pc_rules.specs.declared.declaration.Constructor.{Constructor}
+use Rattle.pc_terms.specs.Syntax.{Slot, Term, Terms, Children, End, Child, Group, Done, Next, Rel, Node, Lambda, LetIn, App, Case, Fix, head}
+use Rattle.calculus_rules.specs.declared.declaration.Constructor.{Constructor}
 use Rattle.pc_rules.specs.declared.broken.Broken.TheVariants.{NotGuarded}
 use Rattle.pc_rules.specs.declared.meter.Account.{Account}
-use Rattle.pc_rules.specs.Environment.{Env}
-use Rattle.pc_rules.specs.Context.{Values, under}
-use Rattle.pc_rules.specs.Guardedness.{Mark, Recursive, Argument, Smaller, Other, Marks, others, definition_marks}
+use Rattle.calculus_rules.specs.Environment.{Env}
+use Rattle.calculus_rules.specs.Context.{Values, under}
+use Rattle.calculus_rules.specs.Guardedness.{Mark, Recursive, Argument, Smaller, Other, Marks, Ending, ending, others, head_block, definition_marks}
 use Rattle.pc_rules.specs.DirectedRun.{Run, Act, no_unit, is_beyond}
-use Rattle.pc_rules.specs.DirectedWeakHead.{weak_next, family_of}
-use Rattle.pc_rules.specs.DirectedGuard.{Finding, found_at, applied, opens, constructors_of, step_on, if_smaller, if_opened, first_marks, later, look, look_branches, find, normal_found, smaller_argument, call_argument, call_rule, interleaved, walk, walk_children, walk_terms, walk_branches, body_guard, bodies_guard, fix_guard}
+use Rattle.calculus_rules.specs.Lookups.{family_of}
+use Rattle.pc_rules.specs.DirectedWeakHead.{weak_next}
+use Rattle.pc_rules.specs.DirectedGuard.{Finding, found_at, applied, opens, constructors_of, step_on, if_smaller, if_opened, first_marks, later, look, look_branches, find, normal_found, smaller_argument, call_argument, call_rule, interleaved, passed_argument, argument_found, if_passed, walk, walk_children, walk_terms, walk_branches, walk_passed, walk_under, recursive_block, body_guard, bodies_guard, fix_guard}
 use Rattle.pc_rules.proofs.Fair.{IsFair, AreFair, no_act, an_act, fair_done, fair_refused, fair_passing, fair_spent, fair_if, fair_bind, fair_ticking, fair_ticking_less, fair_less, fair_all}
 use Rattle.pc_rules.proofs.FairReduction.{fair_whnf}
 
@@ -29,57 +30,57 @@ fair_if_smaller Smaller f g p = p
 fair_if_smaller m f g p = fair_done Other
 
 mutual
-  fair_look : {m k : ℕ} (E : Env) (go go' : Finding) → ((V : Values) (M : Marks) (t : Term) → IsFair m k (go V M t) (go' V M t)) →
-      (V : Values) (M : Marks) (t : Term) → IsFair (suc m) k (λ u. look E go V M t u) (λ u. look E go' V M t u)
-  fair_look E go go' h V M (Rel i) = fair_done (found_at (slice_get M i))
-  fair_look E go go' h V M (App f a) = fair_bind _ _ _ _ (fair_look E go go' h V M f) (λ m. fair_done (applied m))
-  fair_look E go go' h V M (Case f ps n ret s bs) =
-      fair_bind _ _ _ _ (fair_step_on (weak_next E V s) _ _ _ _ (fair_look E go go' h V M s) (h V M))
-      (λ m. fair_if_opened m _ _ (fair_look_branches E go go' h V M f.block (constructors_of (family_of E f)) bs))
-  fair_look E go go' h V M t = fair_done Other
+  fair_look : {m k : ℕ} (E : Env) (r : Option Name) (go go' : Finding) → ((V : Values) (M : Marks) (t : Term) → IsFair m k (go V M t) (go' V M t)) →
+      (V : Values) (M : Marks) (t : Term) → IsFair (suc m) k (λ u. look E r go V M t u) (λ u. look E r go' V M t u)
+  fair_look E r go go' h V M (Rel i) = fair_done (found_at (slice_get M i))
+  fair_look E r go go' h V M (App f a) = fair_bind _ _ _ _ (fair_look E r go go' h V M f) (λ m. fair_done (applied m))
+  fair_look E r go go' h V M (Case f ps n ret s bs) =
+      fair_bind _ _ _ _ (fair_step_on (weak_next E V s) _ _ _ _ (fair_look E r go go' h V M s) (h V M))
+      (λ m. fair_if_opened m _ _ (fair_look_branches E r go go' h V M (ending E r f ps) (constructors_of (family_of E f)) bs))
+  fair_look E r go go' h V M t = fair_done Other
 
-  fair_look_branches : {m k : ℕ} (E : Env) (go go' : Finding) → ((V : Values) (M : Marks) (t : Term) → IsFair m k (go V M t) (go' V M t)) →
-      (V : Values) (M : Marks) (b : Name) (Cs : List Constructor) (bs : Terms) →
-      IsFair (suc m) k (λ u. look_branches E go V M b Cs bs u) (λ u. look_branches E go' V M b Cs bs u)
-  fair_look_branches E go go' h V M b Cs Done = fair_done Smaller
-  fair_look_branches E go go' h V M b Cs (Next n body bs) =
-      fair_bind _ _ _ _ (fair_step_on (weak_next E (under n V) body) _ _ _ _ (fair_look E go go' h (under n V) (first_marks b Cs n M) body) (h (under n V) (first_marks b Cs n M)))
-      (λ m. fair_if_smaller m _ _ (fair_look_branches E go go' h V M b (later Cs) bs))
+  fair_look_branches : {m k : ℕ} (E : Env) (r : Option Name) (go go' : Finding) → ((V : Values) (M : Marks) (t : Term) → IsFair m k (go V M t) (go' V M t)) →
+      (V : Values) (M : Marks) (q : Ending) (Cs : List Constructor) (bs : Terms) →
+      IsFair (suc m) k (λ u. look_branches E r go V M q Cs bs u) (λ u. look_branches E r go' V M q Cs bs u)
+  fair_look_branches E r go go' h V M q Cs Done = fair_done Smaller
+  fair_look_branches E r go go' h V M q Cs (Next n body bs) =
+      fair_bind _ _ _ _ (fair_step_on (weak_next E (under n V) body) _ _ _ _ (fair_look E r go go' h (under n V) (first_marks q Cs n M) body) (h (under n V) (first_marks q Cs n M)))
+      (λ m. fair_if_smaller m _ _ (fair_look_branches E r go go' h V M q (later Cs) bs))
 
 spent : Finding
 spent W N r v = no_unit
 
 -- with more fuel than units, fuel changes nothing
-fair_find : {k : ℕ} (E : Env) (m j : ℕ) → m ≤ j → (V : Values) (M : Marks) (t : Term) → IsFair m k (λ u. find E m V M t u) (λ u. find E j V M t u)
+fair_find : {k : ℕ} (E : Env) (r : Option Name) (m j : ℕ) → m ≤ j → (V : Values) (M : Marks) (t : Term) → IsFair m k (λ u. find E r m V M t u) (λ u. find E r j V M t u)
 unfolding find
-fair_find E zero zero l V M t =
-    fair_less 1 _ _ (omega arith) (fair_step_on (weak_next E V t) _ _ _ _ (fair_look E (λ W N r v. no_unit) (λ W N r v. no_unit) (λ W N r. fair_spent _) V M t) (λ r. fair_spent _))
-fair_find E zero (suc j) l V M t =
-    fair_less 1 _ _ (omega arith) (fair_step_on (weak_next E V t) _ _ _ _ (fair_look E (λ W N r v. no_unit) (find E j) (λ W N r. fair_spent _) V M t) (λ r. fair_spent _))
-fair_find E (suc m) zero l V M t = absurd (omega arith)
-fair_find E (suc m) (suc j) l V M t =
-    fair_step_on (weak_next E V t) _ _ _ _ (fair_look E (find E m) (find E j) (fair_find E m j (omega arith)) V M t) (fair_find E m j (omega arith) V M)
+fair_find E r zero zero l V M t =
+    fair_less 1 _ _ (omega arith) (fair_step_on (weak_next E V t) _ _ _ _ (fair_look E r (λ W N r v. no_unit) (λ W N r v. no_unit) (λ W N r. fair_spent _) V M t) (λ r. fair_spent _))
+fair_find E r zero (suc j) l V M t =
+    fair_less 1 _ _ (omega arith) (fair_step_on (weak_next E V t) _ _ _ _ (fair_look E r (λ W N r v. no_unit) (find E r j) (λ W N r. fair_spent _) V M t) (λ r. fair_spent _))
+fair_find E r (suc m) zero l V M t = absurd (omega arith)
+fair_find E r (suc m) (suc j) l V M t =
+    fair_step_on (weak_next E V t) _ _ _ _ (fair_look E r (find E r m) (find E r j) (fair_find E r m j (omega arith)) V M t) (fair_find E r m j (omega arith) V M)
 
-fair_found : {n k : ℕ} (E : Env) (V : Values) (M : Marks) (t : Term) → IsFair n k (λ u. find E u.left V M t u) (λ u. find E u.left V M t u)
-fair_found {k = k} E V M t = record {
-  falls = λ u. (fair_find {k = k} E u.left u.left (omega arith) V M t).falls u;
-  stays = λ u l. (fair_find {k = k} E u.left (u.left + k) (omega arith) V M t).stays u (omega arith);
+fair_found : {n k : ℕ} (E : Env) (r : Option Name) (V : Values) (M : Marks) (t : Term) → IsFair n k (λ u. find E r u.left V M t u) (λ u. find E r u.left V M t u)
+fair_found {k = k} E r V M t = record {
+  falls = λ u. (fair_find {k = k} E r u.left u.left (omega arith) V M t).falls u;
+  stays = λ u l. (fair_find {k = k} E r u.left (u.left + k) (omega arith) V M t).stays u (omega arith);
 }
 
-fair_normal : {n k : ℕ} (E : Env) (V : Values) (M : Marks) (t : Term) → IsFair n k (λ u. normal_found E V M t u) (λ u. normal_found E V M t u)
-fair_normal E V M t = fair_bind _ _ _ _ (fair_whnf E V t) (λ W. fair_bind _ _ _ _ (fair_found E V M W) (λ m. fair_done (W, m)))
+fair_normal : {n k : ℕ} (E : Env) (r : Option Name) (V : Values) (M : Marks) (t : Term) → IsFair n k (λ u. normal_found E r V M t u) (λ u. normal_found E r V M t u)
+fair_normal E r V M t = fair_bind _ _ _ _ (fair_whnf E V t) (λ W. fair_bind _ _ _ _ (fair_found E r V M W) (λ m. fair_done (W, m)))
 
 fair_smaller : {n k : ℕ} (W : Term) (m : Mark) → IsFair n k (λ u. smaller_argument W m u) (λ u. smaller_argument W m u)
 fair_smaller W Smaller = fair_done tt
 fair_smaller W m = fair_refused (NotGuarded W)
 
-fair_argument : {n k : ℕ} (E : Env) (V : Values) (M : Marks) (i : ℕ) (o : Option Term) → IsFair n k (λ u. call_argument E V M i o u) (λ u. call_argument E V M i o u)
-fair_argument E V M i None = fair_refused (NotGuarded (Rel i))
-fair_argument E V M i (Some a) = fair_ticking _ _ (fair_bind _ _ _ _ (fair_normal E V M a) (λ p. fair_smaller p.0 p.1))
+fair_argument : {n k : ℕ} (E : Env) (r : Option Name) (V : Values) (M : Marks) (i : ℕ) (o : Option Term) → IsFair n k (λ u. call_argument E r V M i o u) (λ u. call_argument E r V M i o u)
+fair_argument E r V M i None = fair_refused (NotGuarded (Rel i))
+fair_argument E r V M i (Some a) = fair_ticking _ _ (fair_bind _ _ _ _ (fair_normal E r V M a) (λ p. fair_smaller p.0 p.1))
 
-fair_call : {n k : ℕ} (E : Env) (V : Values) (M : Marks) (i : ℕ) (xs : List Term) (o : Option Mark) → IsFair n k (λ u. call_rule E V M i xs o u) (λ u. call_rule E V M i xs o u)
-fair_call E V M i xs (Some (Recursive r)) = fair_argument E V M i (slice_get xs r)
-fair_call E V M i xs m = fair_done tt
+fair_call : {n k : ℕ} (E : Env) (r : Option Name) (V : Values) (M : Marks) (i : ℕ) (xs : List Term) (o : Option Mark) → IsFair n k (λ u. call_rule E r V M i xs o u) (λ u. call_rule E r V M i xs o u)
+fair_call E r V M i xs (Some (Recursive rarg)) = fair_argument E r V M i (slice_get xs rarg)
+fair_call E r V M i xs m = fair_done tt
 
 fair_interleaved : {n k : ℕ} {fs fs' gs gs' : List Act} → AreFair n k fs fs' → AreFair n k gs gs' → AreFair n k (interleaved fs gs) (interleaved fs' gs')
 fair_interleaved no_act q = q
@@ -90,41 +91,64 @@ fair_append : {n k : ℕ} {fs fs' gs gs' : List Act} → AreFair n k fs fs' → 
 fair_append no_act q = q
 fair_append (an_act p ps) q = an_act p (fair_append ps q)
 
+fair_argument_found : {n k : ℕ} (E : Env) (r : Option Name) (V : Values) (M : Marks) (o : Option Term) → IsFair n k (λ u. argument_found E r V M o u) (λ u. argument_found E r V M o u)
+fair_argument_found E r V M None = fair_done Other
+fair_argument_found E r V M (Some a) = fair_bind _ _ _ _ (fair_normal E r V M a) (λ p. fair_done p.1)
+
+fair_if_passed : {n k : ℕ} {fs fs' gs gs' : List Act} (m : Mark) → AreFair n k fs fs' → AreFair n k gs gs' → AreFair n k (if_passed m fs gs) (if_passed m fs' gs')
+fair_if_passed Smaller p q = p
+fair_if_passed m p q = q
+
 mutual
-  fair_walk : {n k : ℕ} (E : Env) (V : Values) (M : Marks) (xs : List Term) (t : Term) → IsFair n k (λ u. walk E V M xs t u) (λ u. walk E V M xs t u)
-  fair_walk E V M xs (Rel i) = fair_call E V M i xs (slice_get M i)
-  fair_walk E V M xs (App f a) = fair_bind _ _ _ _ (fair_walk E V M (a ∷ xs) f) (λ x. fair_walk E V M [] a)
-  fair_walk E V M xs (LetIn b B t) =
-      fair_bind _ _ _ _ (fair_walk E V M [] b) (λ x. fair_bind _ _ _ _ (fair_walk E V M [] B) (λ y. fair_walk E (Some b ∷ V) (Other ∷ M) [] t))
-  fair_walk E V M xs (Case f ps m ret s bs) =
-      fair_bind _ _ _ _ (fair_normal E V M s) (λ p.
-      fair_bind _ _ _ _ (fair_walk E V M [] s) (λ x.
-      fair_bind _ _ _ _ (fair_all (fair_walk_terms E V M ps)) (λ y.
-      fair_bind _ _ _ _ (fair_walk E (under m V) (others m M) [] ret) (λ z.
-      fair_all (fair_walk_branches E V M f.block (opens p.1) (constructors_of (family_of E f)) bs)))))
-  fair_walk E V M xs (Fix i rargs types bodies) = fair_all (fair_interleaved (fair_walk_terms E V M types) (fair_walk_terms E V M bodies))
-  fair_walk E V M xs (Node l ts) = fair_all (fair_walk_children E V M ts)
+  fair_walk : {n k : ℕ} (E : Env) (r : Option Name) (V : Values) (M : Marks) (xs : List Term) (t : Term) → IsFair n k (λ u. walk E r V M xs t u) (λ u. walk E r V M xs t u)
+  fair_walk E r V M xs (Rel i) = fair_call E r V M i xs (slice_get M i)
+  fair_walk E r V M xs (App f a) = fair_bind _ _ _ _ (fair_walk E r V M (a ∷ xs) f) (λ x. fair_walk E r V M [] a)
+  fair_walk E r V M xs (LetIn b B t) =
+      fair_bind _ _ _ _ (fair_walk E r V M [] b) (λ x. fair_bind _ _ _ _ (fair_walk E r V M [] B) (λ y. fair_walk E r (Some b ∷ V) (Other ∷ M) [] t))
+  fair_walk E r V M xs (Case f ps m ret s bs) =
+      fair_bind _ _ _ _ (fair_normal E r V M s) (λ p.
+      fair_bind _ _ _ _ (fair_walk E r V M [] s) (λ x.
+      fair_bind _ _ _ _ (fair_all (fair_walk_terms E r V M ps)) (λ y.
+      fair_bind _ _ _ _ (fair_walk E r (under m V) (others m M) [] ret) (λ z.
+      fair_all (fair_walk_branches E r V M (ending E r f ps) (opens p.1) (constructors_of (family_of E f)) bs)))))
+  fair_walk E r V M xs (Fix i rargs types bodies) =
+      fair_bind _ _ _ _ (fair_argument_found E r V M (passed_argument rargs xs)) (λ m.
+      fair_all (fair_interleaved (fair_walk_terms E r V M types) (fair_if_passed m (fair_walk_passed E r V M rargs bodies) (fair_walk_terms E r V M bodies))))
+  fair_walk E r V M xs (Node l ts) = fair_all (fair_walk_children E r V M ts)
 
-  fair_walk_children : {n k : ℕ} (E : Env) (V : Values) (M : Marks) {ss : List Slot} (ts : Children ss) → AreFair n k (walk_children E V M ts) (walk_children E V M ts)
-  fair_walk_children E V M End = no_act
-  fair_walk_children E V M (Child {n} t ts) = an_act (fair_walk E (under n V) (others n M) [] t) (fair_walk_children E V M ts)
-  fair_walk_children E V M (Group us ts) = fair_append (fair_walk_terms E V M us) (fair_walk_children E V M ts)
+  fair_walk_children : {n k : ℕ} (E : Env) (r : Option Name) (V : Values) (M : Marks) {ss : List Slot} (ts : Children ss) → AreFair n k (walk_children E r V M ts) (walk_children E r V M ts)
+  fair_walk_children E r V M End = no_act
+  fair_walk_children E r V M (Child {n} t ts) = an_act (fair_walk E r (under n V) (others n M) [] t) (fair_walk_children E r V M ts)
+  fair_walk_children E r V M (Group us ts) = fair_append (fair_walk_terms E r V M us) (fair_walk_children E r V M ts)
 
-  fair_walk_terms : {n k : ℕ} (E : Env) (V : Values) (M : Marks) (ts : Terms) → AreFair n k (walk_terms E V M ts) (walk_terms E V M ts)
-  fair_walk_terms E V M Done = no_act
-  fair_walk_terms E V M (Next n t ts) = an_act (fair_walk E (under n V) (others n M) [] t) (fair_walk_terms E V M ts)
+  fair_walk_terms : {n k : ℕ} (E : Env) (r : Option Name) (V : Values) (M : Marks) (ts : Terms) → AreFair n k (walk_terms E r V M ts) (walk_terms E r V M ts)
+  fair_walk_terms E r V M Done = no_act
+  fair_walk_terms E r V M (Next n t ts) = an_act (fair_walk E r (under n V) (others n M) [] t) (fair_walk_terms E r V M ts)
 
-  fair_walk_branches : {n k : ℕ} (E : Env) (V : Values) (M : Marks) (b : Name) (opened : Bool) (Cs : List Constructor) (bs : Terms) →
-      AreFair n k (walk_branches E V M b opened Cs bs) (walk_branches E V M b opened Cs bs)
-  fair_walk_branches E V M b opened Cs Done = no_act
-  fair_walk_branches E V M b true Cs (Next n t ts) = an_act (fair_walk E (under n V) (first_marks b Cs n M) [] t) (fair_walk_branches E V M b true (later Cs) ts)
-  fair_walk_branches E V M b false Cs (Next n t ts) = an_act (fair_walk E (under n V) (others n M) [] t) (fair_walk_branches E V M b false (later Cs) ts)
+  fair_walk_branches : {n k : ℕ} (E : Env) (r : Option Name) (V : Values) (M : Marks) (q : Ending) (opened : Bool) (Cs : List Constructor) (bs : Terms) →
+      AreFair n k (walk_branches E r V M q opened Cs bs) (walk_branches E r V M q opened Cs bs)
+  fair_walk_branches E r V M q opened Cs Done = no_act
+  fair_walk_branches E r V M q true Cs (Next n t ts) = an_act (fair_walk E r (under n V) (first_marks q Cs n M) [] t) (fair_walk_branches E r V M q true (later Cs) ts)
+  fair_walk_branches E r V M q false Cs (Next n t ts) = an_act (fair_walk E r (under n V) (others n M) [] t) (fair_walk_branches E r V M q false (later Cs) ts)
 
-fair_body : {n k : ℕ} (E : Env) (V : Values) (M : Marks) (r : ℕ) (t : Term) → IsFair n k (λ u. body_guard E V M r t u) (λ u. body_guard E V M r t u)
+  fair_walk_passed : {n k : ℕ} (E : Env) (r : Option Name) (V : Values) (M : Marks) (rargs : List ℕ) (bs : Terms) → AreFair n k (walk_passed E r V M rargs bs) (walk_passed E r V M rargs bs)
+  fair_walk_passed E r V M [] bs = no_act
+  fair_walk_passed E r V M (rarg ∷ rargs) Done = no_act
+  fair_walk_passed E r V M (rarg ∷ rargs) (Next n b bs) = an_act (fair_walk_under E r (under n V) (others n M) Smaller rarg b) (fair_walk_passed E r V M rargs bs)
+
+  fair_walk_under : {n k : ℕ} (E : Env) (r : Option Name) (V : Values) (M : Marks) (m : Mark) (rarg : ℕ) (t : Term) → IsFair n k (λ u. walk_under E r V M m rarg t u) (λ u. walk_under E r V M m rarg t u)
+  fair_walk_under E r V M m zero (Lambda A b) = fair_bind _ _ _ _ (fair_walk E r V M [] A) (λ x. fair_walk E r (None ∷ V) (m ∷ M) [] b)
+  fair_walk_under E r V M m (suc rarg) (Lambda A b) = fair_bind _ _ _ _ (fair_walk E r V M [] A) (λ x. fair_walk_under E r (None ∷ V) (Other ∷ M) m rarg b)
+  fair_walk_under E r V M m rarg t = fair_done tt
+
+fair_block : {n k : ℕ} (E : Env) (V : Values) (rarg : ℕ) (t : Term) → IsFair n k (λ u. recursive_block E V rarg t u) (λ u. recursive_block E V rarg t u)
+fair_block E V zero (Lambda A b) = fair_bind _ _ _ _ (fair_whnf E V A) (λ W. fair_done (head_block (head W)))
+fair_block E V (suc rarg) (Lambda A b) = fair_block E (None ∷ V) rarg b
+fair_block E V rarg t = fair_done None
+
+fair_body : {n k : ℕ} (E : Env) (V : Values) (M : Marks) (rarg : ℕ) (t : Term) → IsFair n k (λ u. body_guard E V M rarg t u) (λ u. body_guard E V M rarg t u)
 unfolding body_guard
-fair_body E V M zero (Lambda A b) = fair_bind _ _ _ _ (fair_walk E V M [] A) (λ x. fair_walk E (None ∷ V) (Argument ∷ M) [] b)
-fair_body E V M (suc r) (Lambda A b) = fair_bind _ _ _ _ (fair_walk E V M [] A) (λ x. fair_body E (None ∷ V) (Other ∷ M) r b)
-fair_body E V M r t = fair_done tt
+fair_body E V M rarg t = fair_bind _ _ _ _ (fair_block E V rarg t) (λ r. fair_walk_under E r V M Argument rarg t)
 
 fair_bodies : {n k : ℕ} (E : Env) (V : Values) (M : Marks) (rargs : List ℕ) (bs : Terms) → AreFair n k (bodies_guard E V M rargs bs) (bodies_guard E V M rargs bs)
 fair_bodies E V M [] bs = no_act

@@ -1,12 +1,13 @@
 -- Evaluation and the first-order search never go back on units, and more units change no result.
 use Rattle.std.proofs.Common.{◌≡◌, ℕ, zero, suc, ◌+◌, ◌==◌, List, [], ◌∷◌, ◌++◌, length, Option, Some, None, slice_get, subst, arith}
 use Rattle.pc_terms.specs.Syntax.{Term, Rel, Lambda, LetIn, App, Const, Case, put, substitute, head, args}
-use Rattle.pc_rules.specs.declared.declaration.Constructor.{Constructor}
+use Rattle.calculus_rules.specs.declared.declaration.Constructor.{Constructor}
 use Rattle.pc_rules.specs.declared.meter.Account.{Account}
-use Rattle.pc_rules.specs.Environment.{Env}
-use Rattle.pc_rules.specs.Instances.{branch_entries}
+use Rattle.calculus_rules.specs.Environment.{Env}
+use Rattle.calculus_rules.specs.Instances.{branch_entries}
 use Rattle.pc_rules.specs.DirectedRun.{Run, is_beyond, any_beyond}
-use Rattle.pc_rules.specs.DirectedWeakHead.{kept_at, body_of, built, branch_of}
+use Rattle.calculus_rules.specs.Lookups.{kept_at, body_of}
+use Rattle.pc_rules.specs.DirectedWeakHead.{built, branch_of}
 use Rattle.pc_rules.specs.DirectedEvaluation.{Evaluated, Value, Stuck, Evaluating, on_value, with_value, contracted, contracts, takes_more, unfolding_at, applied, node, evaluate, evaluation}
 use Rattle.pc_rules.specs.DirectedFirstOrder.{Searched, Found, NotFirstOrder, TooManyTypes, on_found, with_found, place_in, put_in_at, put_in, put_arguments, put_constructors, independent, member_of, or_not_first_order, argument_types, shape, work_type, work_on, search_within}
 use Rattle.pc_rules.specs.DirectedLaws.{IsSteady}

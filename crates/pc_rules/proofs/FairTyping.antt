@@ -8,25 +8,29 @@ use Rattle.pc_terms.specs.declared.leaf.Name.{Name}
 use Rattle.pc_terms.specs.declared.leaf.FamilyId.{FamilyId}
 use Rattle.pc_terms.specs.Syntax.{Term, Terms, Rel, SortT, Prod, Lambda, LetIn, App, Const, Ind, Construct, Case, Fix, first, put, substitute, shift, apply, head, args, number, term_at}
 use Rattle.pc_terms.specs.Formed.{binders_of}
-use Rattle.pc_rules.specs.declared.declaration.Constructor.{Constructor}
-use Rattle.pc_rules.specs.declared.declaration.Family.{Family}
-use Rattle.pc_rules.specs.declared.declaration.Block.{Block}
-use Rattle.pc_rules.specs.declared.declaration.Kept.{Kept}
-use Rattle.pc_rules.specs.declared.declaration.Kept.TheVariants.{Constant}
-use Rattle.pc_rules.specs.declared.entry.Entry.TheVariants.{Assumed, Defined}
+use Rattle.calculus_rules.specs.declared.declaration.Constructor.{Constructor}
+use Rattle.calculus_rules.specs.declared.declaration.Family.{Family}
+use Rattle.calculus_rules.specs.declared.declaration.Block.{Block}
+use Rattle.calculus_rules.specs.declared.declaration.Kept.{Kept}
+use Rattle.calculus_rules.specs.declared.declaration.Kept.TheVariants.{Constant}
+use Rattle.calculus_rules.specs.declared.entry.Entry.TheVariants.{Assumed, Defined}
 use Rattle.pc_rules.specs.declared.broken.Broken.TheVariants.{UnboundRel, UnknownName, BadNumber, LevelUndeclared, NotASort, NotAProduct, CountWrong, NotTheFamily, ElimNotAllowed, NotEnoughAbstractions, RecArgNotInductive, NotPositive, SortTooSmall, DuplicateName}
-use Rattle.pc_rules.specs.Environment.{Env, FamilyDecl, family_at}
-use Rattle.pc_rules.specs.Context.{Context, values, extend, type_at}
-use Rattle.pc_rules.specs.Instances.{family_type, constructor_type, predicate_entries, branch_entries, predicate_at, branch_type, definitions}
-use Rattle.pc_rules.specs.Same.{same}
+use Rattle.calculus_rules.specs.Environment.{Env, FamilyDecl, family_at}
+use Rattle.calculus_rules.specs.Context.{Context, values, extend, type_at}
+use Rattle.calculus_rules.specs.Instances.{family_type, constructor_type, predicate_entries, branch_entries, predicate_at, branch_type, definitions}
+use Rattle.calculus_rules.specs.Same.{same}
 use Rattle.pc_rules.specs.DirectedRun.{done, make, is_beyond, any_beyond}
-use Rattle.pc_rules.specs.DirectedWeakHead.{kept_at, known_block, whole_block}
-use Rattle.pc_rules.specs.DirectedComparison.{Test, Comparison, compare, list_of, sort_below}
+use Rattle.calculus_rules.specs.Lookups.{kept_at, known_block, whole_block}
+use Rattle.calculus_rules.specs.Listed.{list_of}
+use Rattle.pc_rules.specs.DirectedComparison.{Test, Comparison, compare, sort_below}
 use Rattle.pc_rules.specs.DirectedTyping.{Typing, conv, sort_found, sort_of, check, retype, rel_rule, undeclared_in, raises_past, levels_declared, sort_rule, app_found, const_rule, family_number, find_family, constructor_number, counted, names_counted, match_counted, check_all, sorts_of, may_eliminate, eliminated, is_the_family, found_family, scrutinee_fits, scrutinee_rule, branch_beyond, branch_rule, branches_rule, predicate_rule, case_rule, types_rule, recursive_domain, enough_abstractions, is_a_family, family_found, definition_rule, definitions_rule, definition_type, rule, rule_number, infer}
-use Rattle.pc_rules.specs.DirectedDeclarations.{has_name, distinct_names, family_heads, fits_sort, is_positive, arguments_rule, some_names, with_sorts, constructor_rule, constructors_rule, with_constructors, families_rule, with_families, with_heads, block_rule}
+use Rattle.calculus_rules.specs.declared.target.Target.TheVariants.{Families}
+use Rattle.calculus_rules.specs.Naming.{some_names}
+use Rattle.pc_rules.specs.DirectedDeclarations.{has_name, distinct_names, family_heads, fits_sort, arguments_rule, with_sorts, constructor_rule, constructors_rule, with_constructors, families_rule, with_families, with_heads, block_rule}
 use Rattle.pc_rules.proofs.Fair.{IsFair, fair_done, fair_refused, fair_made, fair_passing, fair_nested, fair_if, fair_noted, fair_bind, fair_ticking}
 use Rattle.pc_rules.proofs.FairReduction.{fair_whnf, fair_compare}
 use Rattle.pc_rules.proofs.FairRules.{fair_guard}
+use Rattle.pc_rules.proofs.FairPositivity.{fair_positive}
 
 -- an inference and a comparison that are fair wherever they are asked
 pub record FairTyping (n k : ℕ) (inf : Typing) : Type 0 where
@@ -270,7 +274,7 @@ fair_arguments H q inf h l f m r c [] = fair_done []
 fair_arguments H q inf h l f m r c (A ∷ As) =
     fair_bind _ _ _ _ (fair_sort_of H inf h c A) (λ s.
     fair_bind _ _ _ _ (fair_fits_sort q r s) (λ x.
-    fair_bind _ _ _ _ (fair_if (is_positive l A) _ _ _ _ (fair_done tt) (fair_refused (NotPositive f m))) (λ y.
+    fair_bind _ _ _ _ (fair_bind _ _ _ _ (fair_positive H l A) (λ b. fair_if b _ _ _ _ (fair_done tt) (fair_refused (NotPositive f m)))) (λ y.
     fair_bind _ _ _ _ (fair_arguments H q inf h l f m r (Assumed A ∷ c) As) (λ ss. fair_done (s ∷ ss)))))
 
 fair_constructor_rule : {n k : ℕ} (H : Env) (q : Test) (inf : Typing) (cmp : Comparison) → FairTyping n k inf → FairComparison n k cmp → (B : Block) (F : Family) (f m : ℕ)
@@ -279,7 +283,7 @@ fair_constructor_rule H q inf cmp h g B F f m C =
     fair_bind _ _ _ _ (fair_arguments H q inf h B.name f m F.sort (extend [] B.params) C.args) (λ ss.
     fair_bind _ _ _ _ (fair_counted (length F.indices) (length C.result)) (λ x.
     fair_bind _ _ _ _ (fair_check_all H inf cmp h g (extend (extend [] B.params) C.args) (λ i. Rel (length C.args + i)) C.result F.indices) (λ y.
-    fair_bind _ _ _ _ (fair_if (some_names B.name C.result) _ _ _ _ (fair_refused (NotPositive f m)) (fair_done tt)) (λ z. fair_done (with_sorts C ss)))))
+    fair_bind _ _ _ _ (fair_if (some_names (Families B.name) 0 C.result) _ _ _ _ (fair_refused (NotPositive f m)) (fair_done tt)) (λ z. fair_done (with_sorts C ss)))))
 
 fair_constructors : {n k : ℕ} (H : Env) (q : Test) (inf : Typing) (cmp : Comparison) → FairTyping n k inf → FairComparison n k cmp → (B : Block) (F : Family) (f m : ℕ)
     (Cs : List Constructor) → IsFair n k (λ u. constructors_rule H q inf cmp B F f m Cs u) (λ u. constructors_rule H q inf cmp B F f m Cs u)

@@ -12,8 +12,8 @@ use Rattle.pc_rules.specs.declared.stop.Stop.TheVariants.{Spent, TooDeep, Memory
 use Rattle.pc_rules.specs.declared.stop.Halt.{Halt}
 use Rattle.pc_rules.specs.declared.stop.Halt.TheVariants.{Stop, Broken as Refusal}
 use Rattle.pc_rules.specs.Stops.{stop_of}
-use Rattle.pc_rules.specs.Environment.{Env}
-use Rattle.pc_rules.specs.Context.{Values}
+use Rattle.calculus_rules.specs.Environment.{Env}
+use Rattle.calculus_rules.specs.Context.{Values}
 use Rattle.pc_rules.specs.DirectedWeakHead.{weak_next, stuck_step, after_step, steps, whnf}
 use Rattle.pc_rules.specs.DirectedRun.{Run, Done, Act, ticked, noted, is_beyond, done, refused, no_unit, too_nested, made, passing, make, bind, end_then, paid, ticking, run_all}
 use Rattle.pc_rules.specs.Follows.{Follows, IsAfter, Answers, Halts}

@@ -1,15 +1,11 @@
-pub mod Congruence
-pub mod Bare
-pub mod Spines
-pub mod OneEach
-pub mod Determined
-pub mod WeakHead
 pub mod WeakNext
 pub mod Fair
 pub mod FairReduction
+pub mod FairPositivity
 pub mod FairRules
 pub mod FairTyping
 pub mod Examples
+mod NestedExamples
 pub mod SameTrees
 pub mod Entailing
 pub mod Meters
@@ -19,8 +15,8 @@ pub mod EvaluationRuns
 pub mod EvaluationReached
 pub mod SearchRuns
 pub mod ListSteps
-pub mod Shifts
 pub mod SameWithin
 pub mod WholeSteps
 pub mod EvaluationNext
 pub mod Collected
+pub mod Variables

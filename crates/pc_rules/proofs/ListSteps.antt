@@ -2,9 +2,6 @@
 use Rattle.std.proofs.Common.{◌≡◌, ◌∙◌, sym, ap, ℕ, zero, suc, ◌<◌, ◌≤◌, ◌+◌, min, ◌⊎◌, inl, inr, List, [], ◌∷◌, ◌++◌, length, drop, take, get_or, add-one, arith, refl}
 use Rattle.std.proofs.Math.Seq.{drop-cons}
 use Rattle.std.proofs.lemmas.List.{drop_all, take_more}
-use Rattle.trees.specs.Tree.{terms_of}
-use Rattle.pc_terms.specs.Syntax.{Term}
-use Rattle.pc_rules.specs.DirectedComparison.{list_of}
 
 -- item i and those after it
 pub next_is : {A : Type 0} (xs : List A) (i : ℕ) (a : A) → i < length xs → a ≡ get_or xs i a → drop i xs ≡ a ∷ drop (i + 1) xs
@@ -12,11 +9,6 @@ next_is xs i a h e = rw (add-one, drop-cons xs i a h, ← e) refl
 
 pub none_left : {A : Type 0} (xs : List A) (i : ℕ) → length xs ≤ i → drop i xs ≡ []
 none_left xs i h = drop_all i xs h
-
--- terms without their numbers of variables
-pub listed : (ts : List Term) → list_of (terms_of ts) ≡ ts
-listed [] = refl
-listed (t ∷ ts) = ap (◌∷◌ t) (listed ts)
 
 -- the items before one, and it
 pub take_next : {A : Type 0} (xs : List A) (i : ℕ) (a : A) → i < length xs → a ≡ get_or xs i a → take (i + 1) xs ≡ take i xs ++ (a ∷ [])

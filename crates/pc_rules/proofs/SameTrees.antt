@@ -7,7 +7,7 @@ use Rattle.universe_levels.specs.declared.sort.Sort.{Sort}
 use Rattle.universe_levels.specs.declared.sort.Sort.TheVariants.{Prop, Of}
 use Rattle.pc_terms.specs.declared.leaf.FamilyId.{FamilyId}
 use Rattle.pc_terms.specs.Syntax.{Slot, slots, Term, Terms, Children, End, Child, Group, Done, Next, Rel, Node, Label, SortOf, ProdOf, LambdaOf, LetInOf, AppOf, ConstOf, IndOf, ConstructOf, CaseOf, FixOf}
-use Rattle.pc_rules.specs.Same.{same_numbers, same_parts, same_sorts, same_names, same_families, same_labels, same, same_children, same_terms}
+use Rattle.calculus_rules.specs.Same.{same_numbers, same_parts, same_sorts, same_names, same_families, same_labels, same, same_children, same_terms}
 use Rattle.pc_rules.proofs.WeakNext.{same_names_is, same_families_is, both_true}
 
 pub and_true : (a b : Bool) → a ≡ true → b ≡ true → (a && b) ≡ true

@@ -6,20 +6,22 @@ use Rattle.universe_levels.specs.declared.sort.Sort.TheVariants.{Prop}
 use Rattle.pc_terms.specs.declared.leaf.FamilyId.{FamilyId}
 use Rattle.pc_terms.specs.Syntax.{Term, Rel, Ind, head, args, apply, put_all, substitute, shift, variables}
 use Rattle.trees.proofs.Exchange.{put_all-shifted_by}
-use Rattle.pc_rules.specs.declared.declaration.Constructor.{Constructor}
+use Rattle.calculus_rules.specs.declared.declaration.Constructor.{Constructor}
 use Rattle.pc_rules.specs.declared.meter.Account.{Account}
-use Rattle.pc_rules.specs.Environment.{Env, FamilyDecl, KeepsFamily}
-use Rattle.pc_rules.specs.Instances.{branch_entries}
-use Rattle.pc_rules.specs.Same.{same}
-use Rattle.pc_rules.specs.WeakHead.{WeakSteps}
-use Rattle.pc_rules.specs.FirstOrder.{Shape, shape_type, IsAt, ArgumentsAt, no_argument, an_argument, ConstructorsAt, no_constructor, a_constructor, IsMember, IsFirstOrder}
+use Rattle.calculus_rules.specs.Environment.{Env, FamilyDecl, KeepsFamily}
+use Rattle.calculus_rules.specs.Instances.{branch_entries}
+use Rattle.calculus_rules.specs.Same.{same}
+use Rattle.calculus_rules.specs.WeakHead.{WeakSteps}
+use Rattle.calculus_rules.specs.FirstOrder.{Shape, shape_type, IsAt, ArgumentsAt, no_argument, an_argument, ConstructorsAt, no_constructor, a_constructor, IsMember, IsFirstOrder}
 use Rattle.pc_rules.specs.DirectedRun.{Run, End, Done, done, passing, any_beyond, ticking}
-use Rattle.pc_rules.specs.DirectedWeakHead.{family_of, whnf}
-use Rattle.pc_rules.specs.DirectedErasable.{is_prop}
+use Rattle.calculus_rules.specs.Lookups.{family_of}
+use Rattle.pc_rules.specs.DirectedWeakHead.{whnf}
+use Rattle.calculus_rules.specs.PropSorts.{is_prop}
 use Rattle.pc_rules.specs.DirectedFirstOrder.{Searched, Found, NotFirstOrder, TooManyTypes, on_found, with_found, next_place, place_in, put_in_at, put_in, put_arguments, put_constructors, lowered, without, independent, member_family, member_of, or_not_first_order, argument_types, shape, work_type, work_on, search_within}
-use Rattle.pc_rules.proofs.Spines.{one_item}
+use Rattle.calculus_rules.proofs.Spines.{one_item}
 use Rattle.pc_rules.proofs.SameTrees.{same_is, same_itself}
-use Rattle.pc_rules.proofs.WeakNext.{none_some, if_some_is, if_is, family_found, spine_is, both_true}
+use Rattle.pc_rules.proofs.WeakNext.{none_some, if_some_is, if_is, family_found, both_true}
+use Rattle.calculus_rules.proofs.Spines.{spine_is}
 use Rattle.pc_rules.proofs.FairReduction.{steps_lead}
 use Rattle.pc_rules.proofs.EvaluationRuns.{bind_came, ticking_came}
 

@@ -4,18 +4,20 @@ use Rattle.std.proofs.lemmas.Bool.{eqb-true}
 use Rattle.pc_terms.specs.declared.leaf.Name.{Name}
 use Rattle.pc_terms.specs.declared.leaf.FamilyId.{FamilyId}
 use Rattle.pc_terms.specs.Syntax.{Term, Terms, Rel, Lambda, LetIn, App, Const, Construct, Case, Fix, put_all, substitute, apply, head, args, term_at}
-use Rattle.pc_rules.specs.declared.declaration.Constructor.{Constructor}
-use Rattle.pc_rules.specs.declared.declaration.Block.{Block}
-use Rattle.pc_rules.specs.declared.declaration.Kept.{Kept}
-use Rattle.pc_rules.specs.declared.declaration.Kept.TheVariants.{Constant, Heads, Block as Whole}
-use Rattle.pc_rules.specs.Environment.{Env, FamilyDecl, Has, here, there, name_of, family_at, KeepsFamily}
-use Rattle.pc_rules.specs.Context.{Values}
-use Rattle.pc_rules.specs.Instances.{unfolded}
-use Rattle.pc_rules.specs.Step.{IsConstructor, is_constructor, beta, zeta, constant, variable, matched, fixpoint}
-use Rattle.pc_rules.specs.WeakHead.{WeakStep, at_root, in_function, in_scrutinee, in_argument}
-use Rattle.pc_rules.specs.Same.{same_names, same_families}
-use Rattle.pc_rules.specs.DirectedWeakHead.{if_some, kept_at, body_of, whole_block, family_of, arguments_at, built_arguments, built, branch_of, case_step, unfold_at, recursive_step, fix_step, app_step, weak_next}
-use Rattle.pc_rules.proofs.Spines.{one_item}
+use Rattle.calculus_rules.specs.declared.declaration.Constructor.{Constructor}
+use Rattle.calculus_rules.specs.declared.declaration.Block.{Block}
+use Rattle.calculus_rules.specs.declared.declaration.Kept.{Kept}
+use Rattle.calculus_rules.specs.declared.declaration.Kept.TheVariants.{Constant, Heads, Block as Whole}
+use Rattle.calculus_rules.specs.Environment.{Env, FamilyDecl, Has, here, there, name_of, family_at, KeepsFamily}
+use Rattle.calculus_rules.specs.Context.{Values}
+use Rattle.calculus_rules.specs.Instances.{unfolded}
+use Rattle.calculus_rules.specs.Step.{IsConstructor, is_constructor, beta, zeta, constant, variable, matched, fixpoint}
+use Rattle.calculus_rules.specs.WeakHead.{WeakStep, at_root, in_function, in_scrutinee, in_argument}
+use Rattle.calculus_rules.specs.Same.{same_names, same_families}
+use Rattle.calculus_rules.specs.Lookups.{if_some, kept_at, body_of, whole_block, family_of}
+use Rattle.pc_rules.specs.DirectedWeakHead.{arguments_at, built_arguments, built, branch_of, case_step, unfold_at, recursive_step, fix_step, app_step, weak_next}
+use Rattle.calculus_rules.proofs.Spines.{one_item}
+use Rattle.calculus_rules.proofs.Spines.{spine_is}
 
 pub none_some : {A : Type 0} {x : A} → None ≡ Some x → ⊥
 none_some e = cc
@@ -59,7 +61,7 @@ body_found E k (Some (Constant l T o)) b e p =
 body_found E k (Some (Heads B)) b e p = absurd (none_some p)
 body_found E k (Some (Whole B)) b e p = absurd (none_some p)
 
-block_found : (E : Env) (k : Name) (o : Option Kept) (B : Block) → kept_at E.declarations k ≡ o → whole_block o ≡ Some B →
+pub block_found : (E : Env) (k : Name) (o : Option Kept) (B : Block) → kept_at E.declarations k ≡ o → whole_block o ≡ Some B →
     Has E.declarations (Whole B) × (B.name ≡ k)
 block_found E k None B e p = absurd (none_some p)
 block_found E k (Some (Constant l T o)) B e p = absurd (none_some p)
@@ -71,15 +73,6 @@ family_found E f F e =
     let r = if_some_is (whole_block (kept_at E.declarations f.block)) (λ B. family_at B f.family) e in
     let h = block_found E f.block (kept_at E.declarations f.block) r.0 refl r.1 in
     (r.0, h.0, h.1, r.2)
-
-pub apply_one_more : (h a : Term) (xs : List Term) → apply h (xs ++ (a ∷ [])) ≡ App (apply h xs) a
-apply_one_more h a [] = refl
-apply_one_more h a (x ∷ xs) = apply_one_more (App h x) a xs
-
--- a term is its head applied to its arguments
-pub spine_is : (t : Term) → t ≡ apply (head t) (args t)
-spine_is (App f a) = ap (λ g. App g a) (spine_is f) ∙ sym (apply_one_more (head f) a (args f))
-spine_is t = refl
 
 take_long : {A : Type 0} (n m : ℕ) (xs : List A) → length xs ≡ n + m → length (take n xs) ≡ n
 take_long zero m xs e = refl

@@ -1,9 +1,9 @@
 -- Weak-head steps with units, by the next term.
-use Rattle.std.proofs.Common.{◌≡◌, ℕ, zero, suc, ◌||◌, Option, Some, None, ap}
+use Rattle.std.proofs.Common.{◌≡◌, ℕ, zero, suc, ◌||◌, Some, None, ap}
 use Rattle.pc_terms.specs.Syntax.{Term}
 use Rattle.pc_rules.specs.declared.meter.Account.{Account}
-use Rattle.pc_rules.specs.Environment.{Env}
-use Rattle.pc_rules.specs.Context.{Values}
+use Rattle.calculus_rules.specs.Environment.{Env}
+use Rattle.calculus_rules.specs.Context.{Values}
 use Rattle.pc_rules.specs.DirectedRun.{done, no_unit, is_beyond, ticked}
 use Rattle.pc_rules.specs.DirectedWeakHead.{weak_next, stuck_step, after_step, steps}
 

@@ -10,16 +10,18 @@ use Rattle.pc_terms.specs.declared.leaf.FamilyId.{FamilyId}
 use Rattle.pc_terms.specs.Syntax.{Term, Terms, Next, Rel, SortT, Prod, Lambda, Const, Ind, Construct, Case, Fix, head, args, number, shift}
 use Rattle.pc_terms.specs.Syntax as syntax
 use Rattle.pc_terms.specs.Formed.{binders_of}
-use Rattle.pc_rules.specs.declared.declaration.Constructor.{Constructor}
-use Rattle.pc_rules.specs.declared.entry.Entry.TheVariants.{Assumed}
+use Rattle.calculus_rules.specs.declared.declaration.Constructor.{Constructor}
+use Rattle.calculus_rules.specs.declared.entry.Entry.TheVariants.{Assumed}
 use Rattle.pc_rules.specs.declared.broken.Broken.TheVariants.{NotBelow, UnknownName}
 use Rattle.pc_rules.specs.declared.broken.Clash.TheVariants.{Terms as ClashOfTerms, Sorts as ClashOfSorts}
-use Rattle.pc_rules.specs.Environment.{Env, FamilyDecl}
-use Rattle.pc_rules.specs.Context.{Context, values, extend}
-use Rattle.pc_rules.specs.Instances.{predicate_entries, branch_entries}
-use Rattle.pc_rules.specs.Same.{same, same_numbers, same_names, same_families}
+use Rattle.calculus_rules.specs.Environment.{Env, FamilyDecl}
+use Rattle.calculus_rules.specs.Context.{Context, values, extend}
+use Rattle.calculus_rules.specs.Instances.{predicate_entries, branch_entries}
+use Rattle.calculus_rules.specs.Same.{same, same_numbers, same_names, same_families}
 use Rattle.pc_rules.specs.DirectedRun.{Act, done, refused, too_nested, passing, bind, ticking, any_beyond, run_all}
-use Rattle.pc_rules.specs.DirectedWeakHead.{whnf, family_of}
+use Rattle.calculus_rules.specs.Lookups.{family_of}
+use Rattle.pc_rules.specs.DirectedWeakHead.{whnf}
+use Rattle.calculus_rules.specs.Listed.{list_of}
 
 -- a test of entailment between universes, which decides the meaning of entailment under the constraints, for universes of declared levels
 abbrev pub Test : Type 0
@@ -41,11 +43,6 @@ sorts_stand q equal s s' = if equal then sort_below q s s' && sort_below q s' s 
 -- a comparison in a context: equal where the test is true, and else below
 abbrev pub Comparison : Type 0
 Comparison = Context → Bool → Term → Term → Act
-
--- the terms of a list, without their numbers of variables
-abbrev pub list_of : Terms → List Term
-list_of syntax.Done = []
-list_of (Next n t ts) = t ∷ list_of ts
 
 -- two heads of one kind, with the same numbers
 abbrev pub alike : Term → Term → Bool

@@ -1,5 +1,5 @@
 -- The directed rules of levels, constraints, the graph, declarations and main, in this order.
-use Rattle.std.specs.Prelude.{ℕ, suc, ◌+◌, ◌==◌, ◌||◌, ◌&&◌, not, Bool, false, if◌then◌else◌, nat_le, List, [], ◌∷◌, length, Option, Some, None}
+use Rattle.std.specs.Prelude.{ℕ, suc, ◌+◌, ◌==◌, ◌||◌, Bool, false, if◌then◌else◌, nat_le, List, [], ◌∷◌, length, Option, Some, None}
 use Rattle.universe_levels.specs.declared.level.Level.{Level}
 use Rattle.universe_levels.specs.declared.sort.Sort.{Sort}
 use Rattle.universe_levels.specs.declared.sort.Sort.TheVariants.{Prop, Of}
@@ -7,62 +7,29 @@ use Rattle.universe_levels.specs.declared.constraint.Constraint.{Constraint}
 use Rattle.universe_levels.specs.Consistency.{IsConsistent}
 use Rattle.universe_graph.specs.Listed.{Clashes}
 use Rattle.pc_terms.specs.declared.leaf.Name.{Name}
-use Rattle.pc_terms.specs.Syntax.{Slot, Label, IndOf, ConstructOf, CaseOf, Term, Terms, Children, End, Child, Group, Next, Node, Rel, Prod, Ind, head, args}
-use Rattle.pc_terms.specs.Syntax as syntax
-use Rattle.pc_rules.specs.declared.declaration.Constructor.{Constructor}
-use Rattle.pc_rules.specs.declared.declaration.Family.{Family}
-use Rattle.pc_rules.specs.declared.declaration.Block.{Block}
-use Rattle.pc_rules.specs.declared.declaration.Kept.{Kept}
-use Rattle.pc_rules.specs.declared.declaration.Kept.TheVariants.{Constant, Heads, Block as Whole}
-use Rattle.pc_rules.specs.declared.entry.Entry.TheVariants.{Assumed}
-use Rattle.pc_rules.specs.declared.broken.Broken.{Broken}
+use Rattle.pc_terms.specs.Syntax.{Term, Rel}
+use Rattle.calculus_rules.specs.declared.declaration.Constructor.{Constructor}
+use Rattle.calculus_rules.specs.declared.declaration.Family.{Family}
+use Rattle.calculus_rules.specs.declared.declaration.Block.{Block}
+use Rattle.calculus_rules.specs.declared.declaration.Kept.{Kept}
+use Rattle.calculus_rules.specs.declared.declaration.Kept.TheVariants.{Constant, Heads, Block as Whole}
+use Rattle.calculus_rules.specs.declared.entry.Entry.TheVariants.{Assumed}
 use Rattle.pc_rules.specs.declared.broken.Broken.TheVariants.{LevelUndeclared, UniverseCycle, NotPositive, SortTooSmall, DuplicateName}
 use Rattle.pc_rules.specs.declared.broken.Place.{Place}
 use Rattle.pc_rules.specs.declared.broken.Place.TheVariants.{Level as AtLevel, Constraint as AtConstraint, Declaration as AtDeclaration, Main as AtMain}
 use Rattle.pc_rules.specs.declared.meter.Account.{Account}
-use Rattle.pc_rules.specs.Environment.{Env, heads_of}
-use Rattle.pc_rules.specs.Context.{Context, extend}
-use Rattle.pc_rules.specs.Accepted.{env}
-use Rattle.pc_rules.specs.Same.{same_names}
+use Rattle.calculus_rules.specs.declared.target.Target.TheVariants.{Families}
+use Rattle.calculus_rules.specs.Environment.{Env, heads_of}
+use Rattle.calculus_rules.specs.Context.{Context, extend}
+use Rattle.calculus_rules.specs.Accepted.{env}
+use Rattle.calculus_rules.specs.Same.{same_names}
+use Rattle.calculus_rules.specs.Naming.{some_names}
 use Rattle.pc_rules.specs.DirectedRun.{Run, Act, done, refused, bind}
 pub use Rattle.pc_rules.specs.DirectedPlaces.{Outcome, Gives, Breaks, Spends, Nests, Placed, gives, breaks, placed_end, placed}
-use Rattle.pc_rules.specs.DirectedWeakHead.{kept_at}
+use Rattle.calculus_rules.specs.Lookups.{kept_at}
 use Rattle.pc_rules.specs.DirectedComparison.{Test, Comparison, compare, sort_below}
+use Rattle.pc_rules.specs.DirectedPositivity.{is_positive}
 use Rattle.pc_rules.specs.DirectedTyping.{Typing, infer, sort_of, sorts_of, check, check_all, counted, undeclared_in, levels_declared}
-
--- positivity, as a test
-
-abbrev pub names_label : Name → Label → Bool
-names_label k (IndOf f) = same_names f.block k
-names_label k (ConstructOf f c) = same_names f.block k
-names_label k (CaseOf f n) = same_names f.block k
-names_label k _ = false
-
-abbrev mutual
-  pub names_block : Name → Term → Bool
-  names_block k (Rel i) = false
-  names_block k (Node l ts) = names_label k l || names_block_children k ts
-
-  pub names_block_children : Name → {ss : List Slot} → Children ss → Bool
-  names_block_children k End = false
-  names_block_children k (Child t ts) = names_block k t || names_block_children k ts
-  names_block_children k (Group us ts) = names_block_terms k us || names_block_children k ts
-
-  pub names_block_terms : Name → Terms → Bool
-  names_block_terms k syntax.Done = false
-  names_block_terms k (Next n t ts) = names_block k t || names_block_terms k ts
-
-abbrev pub some_names : Name → List Term → Bool
-some_names k [] = false
-some_names k (t ∷ ts) = names_block k t || some_names k ts
-
-abbrev pub is_of_block : Name → Term → Bool
-is_of_block k (Ind f) = same_names f.block k
-is_of_block k _ = false
-
-abbrev pub is_positive : Name → Term → Bool
-is_positive k (Prod A B) = not (names_block k A) && is_positive k B
-is_positive k A = not (names_block k A) || (is_of_block k (head A) && not (some_names k (args A)))
 
 -- a block's heads
 
@@ -94,19 +61,19 @@ abbrev pub fits_sort : Test → Sort → Sort → Act
 fits_sort q Prop s u = done tt u
 fits_sort q (Of w) s u = if sort_below q s (Of w) then done tt u else refused (SortTooSmall s (Of w)) u
 
-abbrev pub positive_rule : Name → ℕ → ℕ → Term → Act
-positive_rule k f n A u = if is_positive k A then done tt u else refused (NotPositive f n) u
+abbrev pub positive_rule : Env → Name → ℕ → ℕ → Term → Act
+positive_rule H k f n A u = bind (is_positive H k A u) (λ b v. if b then done tt v else refused (NotPositive f n) v)
 
 unfoldable pub arguments_rule : Env → Test → Typing → Name → ℕ → ℕ → Sort → Context → List Term → Account → Run (List Sort)
 arguments_rule H q inf k f n r c [] u = done [] u
 arguments_rule H q inf k f n r c (A ∷ As) u =
     bind (sort_of H inf c A u) (λ s v.
     bind (fits_sort q r s v) (λ _ w.
-    bind (positive_rule k f n A w) (λ _ x.
+    bind (positive_rule H k f n A w) (λ _ x.
     bind (arguments_rule H q inf k f n r (Assumed A ∷ c) As x) (λ ss y. done (s ∷ ss) y))))
 
 abbrev pub result_names : Name → ℕ → ℕ → List Term → Act
-result_names k f n ts u = if some_names k ts then refused (NotPositive f n) u else done tt u
+result_names k f n ts u = if some_names (Families k) 0 ts then refused (NotPositive f n) u else done tt u
 
 -- the constructor with the sorts of its arguments
 abbrev pub with_sorts : Constructor → List Sort → Constructor

@@ -2,11 +2,12 @@
 -- with the value, or is stuck with the first term entered for which there is no rule.
 use Rattle.std.specs.Prelude.{ℕ, zero, suc, ◌+◌, ◌==◌, Bool, true, false, nat_lt, if◌then◌else◌, List, Option, Some, None, length, slice_get}
 use Rattle.pc_terms.specs.Syntax.{Term, Rel, Lambda, LetIn, App, Const, Ind, Construct, Case, Fix, put, substitute, head, args}
-use Rattle.pc_rules.specs.declared.declaration.Constructor.{Constructor}
+use Rattle.calculus_rules.specs.declared.declaration.Constructor.{Constructor}
 use Rattle.pc_rules.specs.declared.meter.Account.{Account}
-use Rattle.pc_rules.specs.Environment.{Env, FamilyDecl}
+use Rattle.calculus_rules.specs.Environment.{Env, FamilyDecl}
 use Rattle.pc_rules.specs.DirectedRun.{Run, done, no_unit, make, bind, ticking}
-use Rattle.pc_rules.specs.DirectedWeakHead.{if_some, kept_at, body_of, family_of, built, branch_of, unfold_at}
+use Rattle.calculus_rules.specs.Lookups.{if_some, kept_at, body_of, family_of}
+use Rattle.pc_rules.specs.DirectedWeakHead.{built, branch_of, unfold_at}
 
 pub data Evaluated : Type 0 where
   Value Stuck : Term → Evaluated

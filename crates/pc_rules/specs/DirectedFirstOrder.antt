@@ -3,15 +3,16 @@
 use Rattle.std.specs.Prelude.{ℕ, zero, suc, ◌==◌, ◌&&◌, if◌then◌else◌, List, [], ◌∷◌, ◌++◌, length, Option, Some, None, slice_get, option_map}
 use Rattle.pc_terms.specs.declared.leaf.FamilyId.{FamilyId}
 use Rattle.pc_terms.specs.Syntax.{Term, Rel, Ind, head, args, put_all, substitute, shift, variables}
-use Rattle.pc_rules.specs.declared.declaration.Constructor.{Constructor}
+use Rattle.calculus_rules.specs.declared.declaration.Constructor.{Constructor}
 use Rattle.pc_rules.specs.declared.meter.Account.{Account}
-use Rattle.pc_rules.specs.Environment.{Env, FamilyDecl}
-use Rattle.pc_rules.specs.Instances.{branch_entries}
-use Rattle.pc_rules.specs.Same.{same}
-use Rattle.pc_rules.specs.FirstOrder.{Shape}
+use Rattle.calculus_rules.specs.Environment.{Env, FamilyDecl}
+use Rattle.calculus_rules.specs.Instances.{branch_entries}
+use Rattle.calculus_rules.specs.Same.{same}
+use Rattle.calculus_rules.specs.FirstOrder.{Shape}
 use Rattle.pc_rules.specs.DirectedRun.{Run, done, passing, any_beyond, bind, ticking}
-use Rattle.pc_rules.specs.DirectedWeakHead.{if_some, family_of, whnf}
-use Rattle.pc_rules.specs.DirectedErasable.{is_prop}
+use Rattle.calculus_rules.specs.Lookups.{if_some, family_of}
+use Rattle.pc_rules.specs.DirectedWeakHead.{whnf}
+use Rattle.calculus_rules.specs.PropSorts.{is_prop}
 
 -- how a search ends: with what is found, with the first type that is no such family, or with more types than the limit
 pub data Searched (A : Type 0) : Type 0 where

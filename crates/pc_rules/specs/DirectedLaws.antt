@@ -3,16 +3,16 @@ use Rattle.std.specs.Prelude.{ℕ, ◌+◌, ◌≤◌, ◌≡◌, ◌↔◌, Boo
 use Rattle.universe_levels.specs.declared.constraint.Constraint.{Constraint}
 use Rattle.universe_levels.specs.Consistency.{IsConsistent}
 use Rattle.pc_terms.specs.Syntax.{Term, Terms, shift}
-use Rattle.pc_rules.specs.declared.declaration.Block.{Block}
+use Rattle.calculus_rules.specs.declared.declaration.Block.{Block}
 use Rattle.pc_rules.specs.declared.meter.Account.{Account}
-use Rattle.pc_rules.specs.Environment.{Env}
-use Rattle.pc_rules.specs.Context.{Context, Values}
-use Rattle.pc_rules.specs.Step.{Step}
-use Rattle.pc_rules.specs.WeakHead.{WeakStep, WeakSteps}
-use Rattle.pc_rules.specs.Accepted.{IsAccepted}
-use Rattle.pc_rules.specs.Evaluation.{Evaluates}
-use Rattle.pc_rules.specs.FirstOrder.{Shape, IsFirstOrder}
-use Rattle.pc_rules.specs.Same.{same}
+use Rattle.calculus_rules.specs.Environment.{Env}
+use Rattle.calculus_rules.specs.Context.{Context, Values}
+use Rattle.calculus_rules.specs.Step.{Step}
+use Rattle.calculus_rules.specs.WeakHead.{WeakStep, WeakSteps}
+use Rattle.calculus_rules.specs.Accepted.{IsAccepted}
+use Rattle.calculus_rules.specs.Evaluation.{Evaluates}
+use Rattle.calculus_rules.specs.FirstOrder.{Shape, IsFirstOrder}
+use Rattle.calculus_rules.specs.Same.{same}
 use Rattle.pc_rules.specs.DirectedRun.{Run, End, Done, Refused, NoUnit, Nested}
 use Rattle.pc_rules.specs.DirectedWeakHead.{weak_next, whnf}
 use Rattle.pc_rules.specs.DirectedComparison.{Test, compare}

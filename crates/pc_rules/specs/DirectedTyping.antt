@@ -9,20 +9,22 @@ use Rattle.pc_terms.specs.declared.leaf.Name.{Name}
 use Rattle.pc_terms.specs.declared.leaf.FamilyId.{FamilyId}
 use Rattle.pc_terms.specs.Syntax.{Term, Terms, Rel, SortT, Prod, Lambda, LetIn, App, Const, Ind, Construct, Case, Fix, first, put, substitute, shift, apply, head, args, number, term_at}
 use Rattle.pc_terms.specs.Formed.{binders_of}
-use Rattle.pc_rules.specs.declared.declaration.Constructor.{Constructor}
-use Rattle.pc_rules.specs.declared.declaration.Block.{Block}
-use Rattle.pc_rules.specs.declared.declaration.Kept.{Kept}
-use Rattle.pc_rules.specs.declared.declaration.Kept.TheVariants.{Constant}
-use Rattle.pc_rules.specs.declared.entry.Entry.TheVariants.{Assumed, Defined}
+use Rattle.calculus_rules.specs.declared.declaration.Constructor.{Constructor}
+use Rattle.calculus_rules.specs.declared.declaration.Block.{Block}
+use Rattle.calculus_rules.specs.declared.declaration.Kept.{Kept}
+use Rattle.calculus_rules.specs.declared.declaration.Kept.TheVariants.{Constant}
+use Rattle.calculus_rules.specs.declared.entry.Entry.TheVariants.{Assumed, Defined}
 use Rattle.pc_rules.specs.declared.broken.Broken.TheVariants.{UnboundRel, UnknownName, BadNumber, LevelUndeclared, NotASort, NotAProduct, CountWrong, NotTheFamily, ElimNotAllowed, NotEnoughAbstractions, RecArgNotInductive}
 use Rattle.pc_rules.specs.declared.meter.Account.{Account}
-use Rattle.pc_rules.specs.Environment.{Env, FamilyDecl, family_at}
-use Rattle.pc_rules.specs.Context.{Context, values, type_at, extend}
-use Rattle.pc_rules.specs.Instances.{family_type, constructor_type, predicate_entries, branch_entries, predicate_at, result_at, built_at, branch_type, definitions}
-use Rattle.pc_rules.specs.Same.{same, same_families}
+use Rattle.calculus_rules.specs.Environment.{Env, FamilyDecl, family_at}
+use Rattle.calculus_rules.specs.Context.{Context, values, type_at, extend}
+use Rattle.calculus_rules.specs.Instances.{family_type, constructor_type, predicate_entries, branch_entries, predicate_at, result_at, built_at, branch_type, definitions}
+use Rattle.calculus_rules.specs.Same.{same, same_families}
 use Rattle.pc_rules.specs.DirectedRun.{Run, Act, done, refused, too_nested, passing, made, make, noted, bind, ticking, is_beyond, any_beyond}
-use Rattle.pc_rules.specs.DirectedWeakHead.{whnf, kept_at, known_block, whole_block}
-use Rattle.pc_rules.specs.DirectedComparison.{Test, Comparison, compare, list_of}
+use Rattle.calculus_rules.specs.Lookups.{kept_at, known_block, whole_block}
+use Rattle.pc_rules.specs.DirectedWeakHead.{whnf}
+use Rattle.calculus_rules.specs.Listed.{list_of}
+use Rattle.pc_rules.specs.DirectedComparison.{Test, Comparison, compare}
 use Rattle.pc_rules.specs.DirectedGuard.{fix_guard}
 
 abbrev pub Typing : Type 0

@@ -3,41 +3,16 @@ use Rattle.std.specs.Prelude.{ℕ, zero, suc, ◌+◌, ◌==◌, ◌||◌, if◌
 use Rattle.pc_terms.specs.declared.leaf.Name.{Name}
 use Rattle.pc_terms.specs.declared.leaf.FamilyId.{FamilyId}
 use Rattle.pc_terms.specs.Syntax.{Term, Terms, Rel, Lambda, LetIn, App, Const, Construct, Case, Fix, put, put_all, substitute, apply, head, args, term_at}
-use Rattle.pc_rules.specs.declared.declaration.Block.{Block}
-use Rattle.pc_rules.specs.declared.declaration.Kept.{Kept}
-use Rattle.pc_rules.specs.declared.declaration.Kept.TheVariants.{Constant, Heads, Block as Whole}
+use Rattle.calculus_rules.specs.declared.declaration.Block.{Block}
+use Rattle.calculus_rules.specs.declared.declaration.Kept.{Kept}
+use Rattle.calculus_rules.specs.declared.declaration.Kept.TheVariants.{Constant, Heads, Block as Whole}
 use Rattle.pc_rules.specs.declared.meter.Account.{Account}
-use Rattle.pc_rules.specs.Environment.{Env, FamilyDecl, name_of, family_at}
-use Rattle.pc_rules.specs.Context.{Values, value_at}
-use Rattle.pc_rules.specs.Instances.{unfolded}
-use Rattle.pc_rules.specs.Same.{same_names, same_families}
+use Rattle.calculus_rules.specs.Environment.{Env, FamilyDecl, name_of, family_at}
+use Rattle.calculus_rules.specs.Context.{Values, value_at}
+use Rattle.calculus_rules.specs.Instances.{unfolded}
+use Rattle.calculus_rules.specs.Same.{same_names, same_families}
 use Rattle.pc_rules.specs.DirectedRun.{Run, done, no_unit, is_beyond, ticked}
-
-abbrev pub if_some : {A B : Type 0} → Option A → (A → Option B) → Option B
-if_some None k = None
-if_some (Some a) k = k a
-
--- the newest declaration of a name
-abbrev pub kept_at : List Kept → Name → Option Kept
-kept_at [] k = None
-kept_at (d ∷ ds) k = if same_names (name_of d) k then Some d else kept_at ds k
-
-abbrev pub body_of : Option Kept → Option Term
-body_of (Some (Constant k T b)) = b
-body_of _ = None
-
--- a whole block, or one that is being declared
-abbrev pub known_block : Option Kept → Option Block
-known_block (Some (Whole B)) = Some B
-known_block (Some (Heads B)) = Some B
-known_block _ = None
-
-abbrev pub whole_block : Option Kept → Option Block
-whole_block (Some (Whole B)) = Some B
-whole_block _ = None
-
-abbrev pub family_of : Env → FamilyId → Option FamilyDecl
-family_of E f = if_some (whole_block (kept_at E.declarations f.block)) (λ B. family_at B f.family)
+use Rattle.calculus_rules.specs.Lookups.{if_some, kept_at, body_of, family_of}
 
 -- the arguments of constructor c of the family, where there are n terms in all, parameters first, and that is the right number
 abbrev pub arguments_at : FamilyDecl → ℕ → List Term → Option (List Term)

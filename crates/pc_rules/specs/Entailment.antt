@@ -6,7 +6,7 @@ use Rattle.universe_levels.specs.declared.constraint.Constraint.{Constraint}
 use Rattle.universe_levels.specs.declared.constraint.Relation.{Relation}
 use Rattle.universe_levels.specs.declared.constraint.Relation.TheVariants.{Lt, Le, Eq}
 use Rattle.universe_graph.specs.Spans.{chained, through}
-use Rattle.pc_rules.specs.Environment.{Env}
+use Rattle.calculus_rules.specs.Environment.{Env}
 use Rattle.pc_rules.specs.DirectedComparison.{Test}
 
 -- i and j are the two ends

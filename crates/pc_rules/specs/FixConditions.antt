@@ -4,10 +4,10 @@ use Rattle.std.specs.Prelude.{ℕ, zero, suc, List, [], ◌∷◌, length, None}
 use Rattle.pc_terms.specs.declared.leaf.FamilyId.{FamilyId}
 use Rattle.pc_terms.specs.Syntax.{Slot, Term, Terms, Children, End, Child, Group, Next, Rel, Node, Lambda, Ind, Fix, apply}
 use Rattle.pc_terms.specs.Syntax as syntax
-use Rattle.pc_rules.specs.Environment.{Env}
-use Rattle.pc_rules.specs.Context.{Values, under}
-use Rattle.pc_rules.specs.WeakHead.{IsWhnf}
-use Rattle.pc_rules.specs.Guardedness.{IsGuarded}
+use Rattle.calculus_rules.specs.Environment.{Env}
+use Rattle.calculus_rules.specs.Context.{Values, under}
+use Rattle.calculus_rules.specs.WeakHead.{IsWhnf}
+use Rattle.calculus_rules.specs.Guardedness.{IsGuarded}
 use Rattle.pc_rules.specs.DirectedRun.{Act, done}
 use Rattle.pc_rules.specs.DirectedGuard.{fix_guard}
 

@@ -6,16 +6,16 @@ use Rattle.universe_levels.specs.declared.sort.Sort.{Sort}
 use Rattle.universe_levels.specs.Consistency.{IsSortOver, AreOver}
 use Rattle.pc_terms.specs.Syntax.{Label, SortOf, CaseOf, Term}
 use Rattle.pc_terms.specs.Formed.{EachNode, HasForm}
-use Rattle.pc_rules.specs.declared.declaration.Constructor.{Constructor}
-use Rattle.pc_rules.specs.declared.declaration.Family.{Family}
-use Rattle.pc_rules.specs.declared.declaration.Block.{Block}
-use Rattle.pc_rules.specs.declared.declaration.Kept.{Kept}
-use Rattle.pc_rules.specs.declared.declaration.Kept.TheVariants.{Constant, Heads, Block as Whole}
-use Rattle.pc_rules.specs.declared.entry.Entry.{Entry}
-use Rattle.pc_rules.specs.declared.entry.Entry.TheVariants.{Assumed, Defined}
-use Rattle.pc_rules.specs.Environment.{Env, FamilyDecl, Has}
-use Rattle.pc_rules.specs.Context.{Context, Values}
-use Rattle.pc_rules.specs.DirectedWeakHead.{family_of}
+use Rattle.calculus_rules.specs.declared.declaration.Constructor.{Constructor}
+use Rattle.calculus_rules.specs.declared.declaration.Family.{Family}
+use Rattle.calculus_rules.specs.declared.declaration.Block.{Block}
+use Rattle.calculus_rules.specs.declared.declaration.Kept.{Kept}
+use Rattle.calculus_rules.specs.declared.declaration.Kept.TheVariants.{Constant, Heads, Block as Whole}
+use Rattle.calculus_rules.specs.declared.entry.Entry.{Entry}
+use Rattle.calculus_rules.specs.declared.entry.Entry.TheVariants.{Assumed, Defined}
+use Rattle.calculus_rules.specs.Environment.{Env, FamilyDecl, Has}
+use Rattle.calculus_rules.specs.Context.{Context, Values}
+use Rattle.calculus_rules.specs.Lookups.{family_of}
 
 -- the number of arguments of each constructor
 abbrev pub arities : List Constructor → List ℕ

@@ -2,9 +2,9 @@
 ghost use Rattle.std.specs.Prelude.{◌≡◌, ◌<◌, ◌^◌, [], ◌∷◌, length, slice_get, IfOk, IfErr, MatchOption, Some, None};
 ghost use Rattle.pc_rules.specs.declared.stop.Stop.TheVariants.{Memory};
 
-use crate::entry::Entry;
 use crate::shared_list::SharedList;
 use crate::stop::Stop;
+use calculus_rules::entry::Entry;
 use std::alloc::Global;
 use std::marker::Model;
 
@@ -20,7 +20,7 @@ pub struct Ctx {
 
 impl Model for Ctx {
     ghost use Rattle.std.specs.Prelude.{◌≡◌, List, length};
-    ghost use Rattle.pc_rules.specs.declared.entry.Entry.{Entry};
+    ghost use Rattle.calculus_rules.specs.declared.entry.Entry.{Entry};
     ghost use Rattle.std.specs.Coded.{codes};
     ghost use Rattle.pc_terms.specs.Code.{coded_term};
 

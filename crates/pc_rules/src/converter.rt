@@ -1,7 +1,7 @@
 //! Comparison of terms by conversion.
 ghost use Rattle.std.specs.Prelude.{true, false, ◌-◌, IfOk};
-ghost use Rattle.pc_rules.specs.Context.{values};
-ghost use Rattle.pc_rules.specs.Conversion.{Equal, Below};
+ghost use Rattle.calculus_rules.specs.Context.{values};
+ghost use Rattle.calculus_rules.specs.Conversion.{Equal, Below};
 ghost use Rattle.pc_rules.specs.DirectedComparison.{compare};
 ghost use Rattle.pc_rules.specs.Entailment.{test_of};
 ghost use Rattle.pc_rules.specs.Follows.{Follows};

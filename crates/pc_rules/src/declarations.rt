@@ -1,12 +1,12 @@
 //! Declarations, in their order and by their names.
 ghost use Rattle.std.specs.Prelude.{◌≡◌, [], ◌∷◌, slice_get, IfOk, IfErr, MatchOption, Some, None};
 ghost use Rattle.pc_rules.specs.declared.stop.Stop.TheVariants.{Memory};
-ghost use Rattle.pc_rules.specs.DirectedWeakHead.{kept_at};
+ghost use Rattle.calculus_rules.specs.Lookups.{kept_at};
 
-use crate::declaration::Kept;
 use crate::number_map::NumberMap;
 use crate::shared_list::SharedList;
 use crate::stop::Stop;
+use calculus_rules::declaration::Kept;
 use pc_terms::leaf::Name;
 use std::alloc::Global;
 use std::marker::Model;
@@ -23,7 +23,7 @@ pub struct Declarations {
 
 impl Model for Declarations {
     ghost use Rattle.std.specs.Prelude.{List, map};
-    ghost use Rattle.pc_rules.specs.declared.declaration.Kept.{Kept};
+    ghost use Rattle.calculus_rules.specs.declared.declaration.Kept.{Kept};
     ghost use Rattle.std.specs.Coded.{codes};
     ghost use Rattle.pc_terms.specs.Code.{coded_term};
 
@@ -96,7 +96,7 @@ pub struct Walk<'a> {
 
 impl<'a> Model for Walk<'a> {
     ghost use Rattle.std.specs.Prelude.{List, map};
-    ghost use Rattle.pc_rules.specs.declared.declaration.Kept.{Kept};
+    ghost use Rattle.calculus_rules.specs.declared.declaration.Kept.{Kept};
     ghost use Rattle.std.specs.Coded.{codes};
     ghost use Rattle.pc_terms.specs.Code.{coded_term};
 

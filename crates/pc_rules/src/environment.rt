@@ -4,14 +4,14 @@ ghost use Rattle.universe_levels.specs.Consistency.{IsConsistent, AreOver, IsOve
 ghost use Rattle.pc_rules.specs.DirectedComparison.{sort_below};
 ghost use Rattle.pc_rules.specs.Entailment.{test_of};
 ghost use Rattle.pc_rules.specs.declared.stop.Stop.TheVariants.{Memory};
-ghost use Rattle.pc_rules.specs.declared.declaration.Kept.TheVariants.{Heads};
-ghost use Rattle.pc_rules.specs.Environment.{name_of, Entails};
-ghost use Rattle.pc_rules.specs.DirectedWeakHead.{kept_at, known_block, whole_block};
+ghost use Rattle.calculus_rules.specs.declared.declaration.Kept.TheVariants.{Heads};
+ghost use Rattle.calculus_rules.specs.Environment.{name_of, Entails};
+ghost use Rattle.calculus_rules.specs.Lookups.{kept_at, known_block, whole_block};
 ghost use Rattle.pc_rules.specs.Lookup.{IsNew, AreHeads, HasNoConstructors, family_kept, with_kept};
 
-use crate::declaration::{Block, Family, Kept};
 use crate::declarations::{Declarations, Walk};
 use crate::stop::Stop;
+use calculus_rules::declaration::{Block, Family, Kept};
 use pc_terms::leaf::{FamilyId, Name};
 use std::alloc::Global;
 use std::marker::Model;
@@ -30,7 +30,7 @@ pub struct Env {
 }
 
 impl Model for Env {
-    ghost use Rattle.pc_rules.specs.Environment.{Env};
+    ghost use Rattle.calculus_rules.specs.Environment.{Env};
     ghost use Rattle.std.specs.Coded.{codes};
     ghost use Rattle.pc_terms.specs.Code.{coded_term};
 

@@ -1,6 +1,6 @@
 //! The guard of fixpoints.
 ghost use Rattle.std.specs.Prelude.{IfOk};
-ghost use Rattle.pc_rules.specs.Context.{values};
+ghost use Rattle.calculus_rules.specs.Context.{values};
 ghost use Rattle.pc_rules.specs.FixConditions.{HasLambdas, RecursesOnFamilies, guard_rule, IsGuardedFix};
 ghost use Rattle.pc_rules.specs.Follows.{Follows};
 ghost use Rattle.pc_rules.specs.WellCounted.{IsCounted, IsCountedContext, IsCountedEnv};

@@ -1,14 +1,10 @@
-//! The rules of the calculus: PCUIC (Sozeau et al., "Coq Coq Correct!", POPL 2020) in this project's profile, as definitions; and the types
-//! and traits of the crates that reduce, compare, guard and infer by them.
-//!
-//! The declarative definitions say what is meant. In the order in which they stand on each other: `specs/Environment.antt`, `Context`,
-//! `Instances` (types and entries formed from declarations), `Step` (reduction), `Conversion` (equality and cumulativity), `Elimination`,
-//! `Guardedness`, `Typing` (rules 1 to 12, guarded and bare), `Positivity`, `Accepted` (well-formed environments), `WeakHead`,
-//! `Evaluation`, `Erasable`, `FirstOrder` (first-order types and data) and `Lawful`. No code and no order of rules is in them.
+//! The directed rules: what a checker by the rules of the calculus (`calculus_rules`) does, as definitions; and the types and traits of the crates that reduce,
+//! compare, guard and infer by them.
 //!
 //! The directed rules say what a checker does, step by step: which unit it takes, which refusal comes first and what it keeps, and which
 //! uses of rules are counted. They are total functions: `DirectedRun` (how a run ends), `DirectedWeakHead`, `DirectedComparison`,
-//! `DirectedGuard`, `DirectedTyping`, `DirectedPlaces` (what follows each other at places of an environment), `DirectedDeclarations`,
+//! `DirectedGuard`, `DirectedTyping`, `DirectedPositivity`, `DirectedPlaces` (what follows each other at places of an environment),
+//! `DirectedDeclarations`,
 //! `DirectedFirstOrder`, `DirectedEvaluation` and `DirectedErasable`. `Entailment` is their test of universes.
 //!
 //! The traits `Reducer`, `Converter`, `Guarder` and `Typer` say of each implementation that it follows the directed rules (`follows`, by
@@ -19,34 +15,28 @@
 //!
 //! The types: `Env` finds what is kept by a name (`kept`), keeps declarations (`kept`, `as_before`) and heads of blocks, and decides
 //! entailment (`test`, `entailed`); `Ctx` is extended without copying (`longer`); `Meter` takes units, counts uses of rules and bounds the
-//! rules that stand in one another (`account`, `nest`); `Evidence` says why a term is erasable.
+//! rules that stand in one another (`account`, `nest`); `Evidence` says why a term is erasable; `naming` tests whether terms name a `Target` (`is`).
 //!
-//! What is promised besides (`laws`, `directed_laws`): equality is a congruence and an equivalence, below a preorder (`reflexive`,
-//! `symmetric`, `transitive`, `steps`, `equality`, `prop` and one clause for each former); evaluation is deterministic, its count of nodes
-//! too (`determined`); a term has one weak-head normal form at most (`unique`); what has a type has it as a bare type (`bare`); directed
-//! weak-head steps are steps (`steps`, `weak_steps`, `reached`); the directed rules never go back on units, and more units change no
-//! result (`weak_head`, `comparison`, `guard`, `inference`, `blocks`, `evaluation`, `search`); evaluation with units is evaluation (`sound`,
-//! `complete`); what the first-order search finds is a first-order set (`found`, `without`); and there is no cycle exactly where the
-//! constraints have a valuation (`none`).
+//! What is promised besides (`directed_laws`): directed weak-head steps are steps (`steps`, `weak_steps`, `reached`); the directed rules never go back on units,
+//! and more units change no result (`weak_head`, `comparison`, `guard`, `inference`, `blocks`, `evaluation`, `search`); evaluation with units is evaluation
+//! (`sound`, `complete`); what the first-order search finds is a first-order set (`found`, `without`); and there is no cycle exactly where the constraints have a
+//! valuation (`none`).
 //!
-//! Below stand `trees` and `pc_terms` (terms, lifting, substitution), `universe_levels` (sorts, valuations) and `universe_graph`
-//! (constraints and entailment), above the crates that reduce, compare, infer, check, evaluate and erase, and those that prove laws of
-//! typing and erasure.
+//! Below stand `calculus_rules` (the declarative rules), `trees` and `pc_terms` (terms, lifting, substitution), `universe_levels` (sorts, valuations) and
+//! `universe_graph` (constraints and entailment), above the crates that reduce, compare, infer, check, evaluate and erase, and those that prove laws of the
+//! directed rules and of erasure.
 #![tactic(auto)]
 
 pub mod accepted;
 pub mod broken;
 pub mod context;
 pub mod converter;
-pub mod declaration;
 pub mod declarations;
 pub mod directed_laws;
-pub mod entry;
 pub mod environment;
-pub mod evidence;
 pub mod guarder;
-pub mod laws;
 pub mod meter;
+pub mod naming;
 mod number_map;
 pub mod reducer;
 pub mod shared_list;

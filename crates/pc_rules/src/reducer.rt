@@ -1,7 +1,7 @@
 //! Reduction to weak-head normal form.
 ghost use Rattle.std.specs.Prelude.{IfOk};
-ghost use Rattle.pc_rules.specs.Context.{values};
-ghost use Rattle.pc_rules.specs.WeakHead.{WeakSteps};
+ghost use Rattle.calculus_rules.specs.Context.{values};
+ghost use Rattle.calculus_rules.specs.WeakHead.{WeakSteps};
 ghost use Rattle.pc_rules.specs.DirectedWeakHead.{whnf};
 ghost use Rattle.pc_rules.specs.Follows.{Follows, halted};
 

@@ -1,8 +1,8 @@
 //! Inference of types.
 ghost use Rattle.std.specs.Prelude.{◌-◌, IfOk};
 ghost use Rattle.pc_terms.specs.Syntax.{SortT};
-ghost use Rattle.pc_rules.specs.Context.{values};
-ghost use Rattle.pc_rules.specs.Typing.{Types, guarded};
+ghost use Rattle.calculus_rules.specs.Context.{values};
+ghost use Rattle.calculus_rules.specs.Typing.{Types, guarded};
 ghost use Rattle.pc_rules.specs.DirectedComparison.{compare};
 ghost use Rattle.pc_rules.specs.DirectedTyping.{infer, sort_of, check};
 ghost use Rattle.pc_rules.specs.Entailment.{test_of};

@@ -5,19 +5,20 @@ use Rattle.std.proofs.lemmas.Option.{slice_get-map}
 use Rattle.pc_terms.specs.declared.leaf.FamilyId.{FamilyId}
 use Rattle.pc_terms.specs.Syntax.{Term, SortT, Ind, Construct}
 use Rattle.pc_terms.specs.BoxSyntax.{BoxTerm, BConstruct}
-use Rattle.pc_rules.specs.declared.declaration.Constructor.{Constructor}
-use Rattle.pc_rules.specs.declared.declaration.Family.{Family}
-use Rattle.pc_rules.specs.declared.declaration.Block.{Block}
-use Rattle.pc_rules.specs.declared.declaration.Kept.{Kept}
-use Rattle.pc_rules.specs.declared.declaration.Kept.TheVariants.{Constant, Heads, Block as Whole}
+use Rattle.calculus_rules.specs.declared.declaration.Constructor.{Constructor}
+use Rattle.calculus_rules.specs.declared.declaration.Family.{Family}
+use Rattle.calculus_rules.specs.declared.declaration.Block.{Block}
+use Rattle.calculus_rules.specs.declared.declaration.Kept.{Kept}
+use Rattle.calculus_rules.specs.declared.declaration.Kept.TheVariants.{Constant, Heads, Block as Whole}
 use Rattle.pc_rules.specs.declared.broken.Place.TheVariants.{Main as AtMain}
 use Rattle.pc_rules.specs.declared.meter.Account.{Account}
-use Rattle.pc_rules.specs.Environment.{Env, FamilyDecl}
-use Rattle.pc_rules.specs.Context.{Values, values}
-use Rattle.pc_rules.specs.Instances.{family_type, constructor_type}
-use Rattle.pc_rules.specs.Same.{same}
+use Rattle.calculus_rules.specs.Environment.{Env, FamilyDecl}
+use Rattle.calculus_rules.specs.Context.{Values, values}
+use Rattle.calculus_rules.specs.Instances.{family_type, constructor_type}
+use Rattle.calculus_rules.specs.Same.{same}
 use Rattle.pc_rules.specs.DirectedRun.{Run, done, make, ticked, noted, paid, ticking, bind}
-use Rattle.pc_rules.specs.DirectedWeakHead.{known_block, whole_block, steps, whnf}
+use Rattle.calculus_rules.specs.Lookups.{known_block, whole_block}
+use Rattle.pc_rules.specs.DirectedWeakHead.{steps, whnf}
 use Rattle.pc_rules.specs.DirectedComparison.{Test}
 use Rattle.pc_rules.specs.DirectedTyping.{Typing, infer, sort_of, sort_found, find_family, family_number, constructor_number, construct_rule, ind_rule}
 use Rattle.pc_rules.specs.DirectedErasable.{ends_in_sort, proof_found, arity_found, type_test, numbered_test, constructor_test, erasable_test}

@@ -4,13 +4,14 @@ use Rattle.std.specs.Prelude.{slice_get, option_map}
 use Rattle.std.proofs.lemmas.Option.{slice_get-map}
 use Rattle.pc_terms.specs.declared.leaf.FamilyId.{FamilyId}
 use Rattle.pc_terms.specs.Syntax.{Term, Rel, Ind, put_all}
-use Rattle.pc_rules.specs.declared.declaration.Constructor.{Constructor}
+use Rattle.calculus_rules.specs.declared.declaration.Constructor.{Constructor}
 use Rattle.pc_rules.specs.declared.meter.Account.{Account}
-use Rattle.pc_rules.specs.Environment.{Env, FamilyDecl, family_at}
-use Rattle.pc_rules.specs.Instances.{entries_at}
-use Rattle.pc_rules.specs.FirstOrder.{Shape, FitsShapes, fits, no_field_fits}
+use Rattle.calculus_rules.specs.Environment.{Env, FamilyDecl, family_at}
+use Rattle.calculus_rules.specs.Instances.{entries_at}
+use Rattle.calculus_rules.specs.FirstOrder.{Shape, FitsShapes, fits, no_field_fits}
 use Rattle.pc_rules.specs.DirectedRun.{Run, done, ticked, paid, ticking, passing, any_beyond, bind}
-use Rattle.pc_rules.specs.DirectedWeakHead.{if_some, family_of, whole_block, steps}
+use Rattle.calculus_rules.specs.Lookups.{if_some, family_of, whole_block}
+use Rattle.pc_rules.specs.DirectedWeakHead.{steps}
 use Rattle.pc_rules.specs.DirectedFirstOrder.{Searched, Found, with_found, place_in, put_in_at, put_in, put_arguments, put_constructors, independent, member_family, member_of, or_not_first_order, argument_types, shape, work_type, work_on, first_order_search}
 use Rattle.plain_programs.specs.PlainEnvironment.{AreConstants, enumeration_of, KeepsPlain, empties, plain_set}
 use Rattle.plain_programs.specs.Laws.{PlainTypesAreFound}

@@ -3,14 +3,14 @@ use Rattle.std.specs.Prelude.{◌≡◌, ℕ, List, [], ◌∷◌, Some, slice_g
 use Rattle.universe_levels.specs.declared.sort.Sort.{Sort}
 use Rattle.universe_levels.specs.declared.sort.Sort.TheVariants.{Of}
 use Rattle.pc_terms.specs.declared.leaf.FamilyId.{FamilyId}
-use Rattle.pc_rules.specs.declared.declaration.Constructor.{Constructor}
-use Rattle.pc_rules.specs.declared.declaration.Family.{Family}
-use Rattle.pc_rules.specs.declared.declaration.Block.{Block}
-use Rattle.pc_rules.specs.declared.declaration.Kept.{Kept}
-use Rattle.pc_rules.specs.declared.declaration.Kept.TheVariants.{Block as Whole}
-use Rattle.pc_rules.specs.Environment.{Env, FamilyDecl, family_at}
-use Rattle.pc_rules.specs.DirectedWeakHead.{kept_at}
-use Rattle.pc_rules.specs.FirstOrder.{Shape}
+use Rattle.calculus_rules.specs.declared.declaration.Constructor.{Constructor}
+use Rattle.calculus_rules.specs.declared.declaration.Family.{Family}
+use Rattle.calculus_rules.specs.declared.declaration.Block.{Block}
+use Rattle.calculus_rules.specs.declared.declaration.Kept.{Kept}
+use Rattle.calculus_rules.specs.declared.declaration.Kept.TheVariants.{Block as Whole}
+use Rattle.calculus_rules.specs.Environment.{Env, FamilyDecl, family_at}
+use Rattle.calculus_rules.specs.Lookups.{kept_at}
+use Rattle.calculus_rules.specs.FirstOrder.{Shape}
 
 -- the sort Set: the types of the level Set with nothing added
 abbrev pub set_sort : Sort

@@ -4,13 +4,13 @@ use Rattle.pc_terms.specs.declared.leaf.Name.{Name}
 use Rattle.pc_terms.specs.declared.leaf.FamilyId.{FamilyId}
 use Rattle.pc_terms.specs.Syntax.{Term, Const, Ind, apply}
 use Rattle.pc_rules.specs.declared.meter.Account.{Account}
-use Rattle.pc_rules.specs.Environment.{Env}
-use Rattle.pc_rules.specs.Accepted.{IsAccepted}
-use Rattle.pc_rules.specs.Conversion.{equal}
+use Rattle.calculus_rules.specs.Environment.{Env}
+use Rattle.calculus_rules.specs.Accepted.{IsAccepted}
+use Rattle.calculus_rules.specs.Conversion.{equal}
 use Rattle.pc_rules.specs.DirectedRun.{End, Done}
 use Rattle.pc_rules.specs.DirectedEvaluation.{Evaluated, Stuck, evaluation}
-use Rattle.pc_rules.proofs.Bare.{bare_types}
-use Rattle.pc_rules.proofs.WeakHead.{weak_equal}
+use Rattle.calculus_rules.proofs.Bare.{bare_types}
+use Rattle.calculus_rules.proofs.WeakHead.{weak_equal}
 use Rattle.pc_rules.proofs.EvaluationRuns.{evaluate_sound}
 use Rattle.type_laws.proofs.Results.{result}
 use Rattle.type_laws.proofs.Canonical.{values_are_constructors}

@@ -3,17 +3,17 @@ use Rattle.std.proofs.Common.{◌≡◌, ℕ, suc, ◌+◌, ◌<◌, ◌≤◌, 
 use Rattle.std.proofs.Math.Nat.{eq-or-lt_of_le}
 use Rattle.pc_terms.specs.declared.leaf.FamilyId.{FamilyId}
 use Rattle.pc_terms.specs.Syntax.{Term, Terms, Prod, Lambda, App, Ind, Construct, Fix, shift, substitute, apply, variables}
-use Rattle.pc_rules.specs.declared.declaration.Constructor.{Constructor}
-use Rattle.pc_rules.specs.Environment.{Env, FamilyDecl, KeepsFamily}
-use Rattle.pc_rules.specs.Conversion.{Below}
-use Rattle.pc_rules.specs.Instances.{products}
-use Rattle.pc_rules.specs.Evaluation.{sort_is, prod_is, lambda_is, ind_is, construct_is, fix_is, family, constructor, fixpoint}
-use Rattle.pc_rules.specs.Typing.{bare, Types}
-use Rattle.pc_rules.specs.Accepted.{IsAccepted}
-use Rattle.pc_rules.proofs.WeakNext.{apply_one_more}
-use Rattle.erase_laws.proofs.Generating.{of_sort, of_prod, of_construct, of_apply}
-use Rattle.erase_laws.proofs.Telescopes.{substitute-apply, products_append}
-use Rattle.erase_laws.proofs.Traversal.{types_at, below_at}
+use Rattle.calculus_rules.specs.declared.declaration.Constructor.{Constructor}
+use Rattle.calculus_rules.specs.Environment.{Env, FamilyDecl, KeepsFamily}
+use Rattle.calculus_rules.specs.Conversion.{Below}
+use Rattle.calculus_rules.specs.Instances.{products}
+use Rattle.calculus_rules.specs.Evaluation.{sort_is, prod_is, lambda_is, ind_is, construct_is, fix_is, family, constructor, fixpoint}
+use Rattle.calculus_rules.specs.Typing.{bare, Types}
+use Rattle.calculus_rules.specs.Accepted.{IsAccepted}
+use Rattle.calculus_rules.proofs.Spines.{apply_one_more}
+use Rattle.typing_laws.proofs.Generating.{of_sort, of_prod, of_construct, of_apply}
+use Rattle.typing_laws.proofs.Telescopes.{substitute-apply, products_append}
+use Rattle.typing_laws.proofs.Traversal.{types_at, below_at}
 use Rattle.type_laws.proofs.Apart.{sort_not_product, family_not_product}
 use Rattle.type_laws.proofs.MatchesKeep.{above_declared}
 use Rattle.type_laws.proofs.Results.{IsResult, plain, extended, rest, Rest, fixpoint_body}

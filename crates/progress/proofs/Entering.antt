@@ -2,15 +2,15 @@
 use Rattle.std.proofs.Common.{◌≡◌, ℕ, zero, suc, List, [], length, Some, slice_get, sym, ap, ◌∙◌}
 use Rattle.pc_terms.specs.declared.leaf.FamilyId.{FamilyId}
 use Rattle.pc_terms.specs.Syntax.{Term, Terms, Case, term_at}
-use Rattle.pc_rules.specs.declared.declaration.Constructor.{Constructor}
-use Rattle.pc_rules.specs.Environment.{Env}
-use Rattle.pc_rules.specs.Context.{Context}
-use Rattle.pc_rules.specs.Step.{IsConstructor, is_constructor}
-use Rattle.pc_rules.specs.Typing.{bare, Types, Branches, no_branches, branch}
-use Rattle.pc_rules.specs.Accepted.{IsAccepted}
-use Rattle.pc_rules.proofs.OneEach.{one_of_each}
-use Rattle.pc_rules.proofs.Spines.{one_item}
-use Rattle.erase_laws.proofs.Generating.{of_case}
+use Rattle.calculus_rules.specs.declared.declaration.Constructor.{Constructor}
+use Rattle.calculus_rules.specs.Environment.{Env}
+use Rattle.calculus_rules.specs.Context.{Context}
+use Rattle.calculus_rules.specs.Step.{IsConstructor, is_constructor}
+use Rattle.calculus_rules.specs.Typing.{bare, Types, Branches, no_branches, branch}
+use Rattle.calculus_rules.specs.Accepted.{IsAccepted}
+use Rattle.calculus_rules.proofs.OneEach.{one_of_each}
+use Rattle.calculus_rules.proofs.Spines.{one_item}
+use Rattle.typing_laws.proofs.Generating.{of_case}
 
 branch_with : {E : Env} {c : Context} {f : FamilyId} {ps : List Term} {ret : Term} {k : ℕ} {Cs : List Constructor} {bs : Terms} → Branches bare E c f ps ret k Cs bs →
     (n : ℕ) (C : Constructor) → slice_get Cs n ≡ Some C → (body : Term) × (term_at bs n ≡ Some (length C.args, body))

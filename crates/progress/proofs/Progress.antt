@@ -4,17 +4,18 @@ use Rattle.pc_terms.specs.declared.leaf.Name.{Name}
 use Rattle.pc_terms.specs.declared.leaf.FamilyId.{FamilyId}
 use Rattle.pc_terms.specs.Syntax.{Term, Terms, Rel, SortT, Prod, Lambda, LetIn, App, Const, Ind, Construct, Case, Fix, put, substitute, head, args}
 use Rattle.pc_rules.specs.declared.meter.Account.{Account}
-use Rattle.pc_rules.specs.Environment.{Env, KeepsConstant}
-use Rattle.pc_rules.specs.Step.{IsConstructor}
-use Rattle.pc_rules.specs.Typing.{bare, Types}
-use Rattle.pc_rules.specs.Accepted.{IsAccepted}
-use Rattle.pc_rules.specs.Evaluation.{sort_is, prod_is, lambda_is, ind_is, construct_is, fix_is, Evaluates, value, let_in, beta, extend, unfold_fix, enter}
+use Rattle.calculus_rules.specs.Environment.{Env, KeepsConstant}
+use Rattle.calculus_rules.specs.Step.{IsConstructor}
+use Rattle.calculus_rules.specs.Typing.{bare, Types}
+use Rattle.calculus_rules.specs.Accepted.{IsAccepted}
+use Rattle.calculus_rules.specs.Evaluation.{sort_is, prod_is, lambda_is, ind_is, construct_is, fix_is, Evaluates, value, let_in, beta, extend, unfold_fix, enter}
 use Rattle.pc_rules.specs.DirectedRun.{Run, End, Done, ticked, paid, ticking, end_then, bind}
-use Rattle.pc_rules.specs.DirectedWeakHead.{kept_at, body_of, built, branch_of}
+use Rattle.calculus_rules.specs.Lookups.{kept_at, body_of}
+use Rattle.pc_rules.specs.DirectedWeakHead.{built, branch_of}
 use Rattle.pc_rules.specs.DirectedEvaluation.{Evaluated, Stuck, Evaluating, on_value, with_value, contracted, contracts, takes_more, unfolding_at, extended, applied, node, evaluate}
 use Rattle.pc_rules.proofs.WeakNext.{none_some, body_found}
 use Rattle.pc_rules.proofs.EvaluationReached.{kept_there}
-use Rattle.erase_laws.proofs.Generating.{of_rel, of_let_in, of_app, of_const, of_case}
+use Rattle.typing_laws.proofs.Generating.{of_rel, of_let_in, of_app, of_const, of_case}
 use Rattle.type_laws.specs.Contexts.{IsContext}
 use Rattle.type_laws.proofs.RootsKeep.{constant_keeps}
 use Rattle.type_laws.proofs.Results.{result}

@@ -3,15 +3,16 @@ use Rattle.std.proofs.Common.{◌≡◌, ℕ, ◌+◌, ◌<◌, ◌≤◌, ◌==
 use Rattle.std.proofs.lemmas.Bool.{eq-eqb, lt-ltb, le-ltb}
 use Rattle.pc_terms.specs.declared.leaf.FamilyId.{FamilyId}
 use Rattle.pc_terms.specs.Syntax.{Term, Terms, Rel, App, Ind, Construct, Fix, put_all, substitute, apply, head, args, term_at}
-use Rattle.pc_rules.specs.declared.declaration.Constructor.{Constructor}
-use Rattle.pc_rules.specs.Environment.{Env, FamilyDecl, KeepsFamily}
-use Rattle.pc_rules.specs.Accepted.{IsAccepted}
-use Rattle.pc_rules.specs.Instances.{unfolded}
-use Rattle.pc_rules.specs.Step.{IsConstructor}
-use Rattle.pc_rules.specs.Evaluation.{TakesMore, family, constructor, fixpoint, Unfolds, unfolds}
-use Rattle.pc_rules.specs.DirectedWeakHead.{if_some, built, branch_of, unfold_at}
+use Rattle.calculus_rules.specs.declared.declaration.Constructor.{Constructor}
+use Rattle.calculus_rules.specs.Environment.{Env, FamilyDecl, KeepsFamily}
+use Rattle.calculus_rules.specs.Accepted.{IsAccepted}
+use Rattle.calculus_rules.specs.Instances.{unfolded}
+use Rattle.calculus_rules.specs.Step.{IsConstructor}
+use Rattle.calculus_rules.specs.Evaluation.{TakesMore, family, constructor, fixpoint, Unfolds, unfolds}
+use Rattle.calculus_rules.specs.Lookups.{if_some}
+use Rattle.pc_rules.specs.DirectedWeakHead.{built, branch_of, unfold_at}
 use Rattle.pc_rules.specs.DirectedEvaluation.{is_missing, lacks_arguments, is_below, takes_more, unfolding_at}
-use Rattle.pc_rules.proofs.Spines.{head-apply, args-apply}
+use Rattle.calculus_rules.proofs.Spines.{head-apply, args-apply}
 use Rattle.pc_rules.proofs.SameTrees.{one_family}
 use Rattle.pc_rules.proofs.EvaluationReached.{family_there, built_there}
 

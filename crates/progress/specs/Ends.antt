@@ -4,10 +4,10 @@ use Rattle.pc_terms.specs.declared.leaf.Name.{Name}
 use Rattle.pc_terms.specs.declared.leaf.FamilyId.{FamilyId}
 use Rattle.pc_terms.specs.Syntax.{Term, Const}
 use Rattle.pc_rules.specs.declared.meter.Account.{Account}
-use Rattle.pc_rules.specs.Environment.{Env, KeepsConstant}
-use Rattle.pc_rules.specs.Step.{IsConstructor}
-use Rattle.pc_rules.specs.Typing.{bare, Types}
-use Rattle.pc_rules.specs.Evaluation.{Evaluates}
+use Rattle.calculus_rules.specs.Environment.{Env, KeepsConstant}
+use Rattle.calculus_rules.specs.Step.{IsConstructor}
+use Rattle.calculus_rules.specs.Typing.{bare, Types}
+use Rattle.calculus_rules.specs.Evaluation.{Evaluates}
 use Rattle.pc_rules.specs.DirectedRun.{End, Done, NoUnit}
 use Rattle.pc_rules.specs.DirectedEvaluation.{Evaluated, Value, Stuck}
 

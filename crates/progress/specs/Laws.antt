@@ -5,10 +5,10 @@ use Rattle.pc_terms.specs.declared.leaf.Name.{Name}
 use Rattle.pc_terms.specs.declared.leaf.FamilyId.{FamilyId}
 use Rattle.pc_terms.specs.Syntax.{Term, Const, Ind, apply}
 use Rattle.pc_rules.specs.declared.meter.Account.{Account}
-use Rattle.pc_rules.specs.Environment.{Env}
-use Rattle.pc_rules.specs.Typing.{bare, Types}
-use Rattle.pc_rules.specs.Accepted.{IsAccepted, IsWellFormed}
-use Rattle.pc_rules.specs.FirstOrder.{Shape, Data, IsFirstOrder, Reads}
+use Rattle.calculus_rules.specs.Environment.{Env}
+use Rattle.calculus_rules.specs.Typing.{bare, Types}
+use Rattle.calculus_rules.specs.Accepted.{IsAccepted, IsWellFormed}
+use Rattle.calculus_rules.specs.FirstOrder.{Shape, Data, IsFirstOrder, Reads}
 use Rattle.pc_rules.specs.DirectedRun.{Done}
 use Rattle.pc_rules.specs.DirectedEvaluation.{Value, Stuck, evaluation}
 use Rattle.progress.specs.Ends.{IsAxiom, HasNoAxioms, Progresses, Builds}

@@ -5,8 +5,8 @@
 //! where each constant has a body nothing is stuck (`nothing_is_stuck`) and a term of a family gives one of its constructors, where the units suffice
 //! (`families_are_built`). A value of first-order type is data (`first_order_values_are_data`). That evaluation ends isn't claimed.
 //!
-//! Below stand `pc_rules` with the directed evaluation, and `type_laws`, by which evaluation keeps types and closed values of a family are constructors; nothing stands
-//! above.
+//! Below stand `pc_rules` with the directed evaluation, and `type_laws`, by which evaluation keeps types and closed values of a family are constructors; above stands
+//! `job_laws`, at what the job `eval` is stuck.
 #![tactic(auto)]
 
 ghost use Rattle.progress.specs.Laws.{EvaluationProgresses, MainProgresses, StuckAtAxioms, NothingIsStuck, FamiliesAreBuilt, FirstOrderValuesAreData};

@@ -19,12 +19,12 @@ use Rattle.dump_reader.specs.NumberedEnvironment.{numbered_decl, numbered}
 use Rattle.dump_reader.specs.Spelled.{IsSpelled}
 use Rattle.pc_terms.specs.declared.leaf.FamilyId.{FamilyId}
 use Rattle.pc_terms.specs.Syntax.{Term}
-use Rattle.pc_rules.specs.declared.declaration.Constructor.{Constructor}
-use Rattle.pc_rules.specs.declared.declaration.Family.{Family}
-use Rattle.pc_rules.specs.declared.declaration.Block.{Block}
-use Rattle.pc_rules.specs.declared.declaration.Kept.{Kept}
-use Rattle.pc_rules.specs.declared.declaration.Kept.TheVariants.{Block as Whole}
-use Rattle.pc_rules.specs.Environment.{Env, Has, here, there, FamilyDecl, KeepsFamily, with_parameters}
+use Rattle.calculus_rules.specs.declared.declaration.Constructor.{Constructor}
+use Rattle.calculus_rules.specs.declared.declaration.Family.{Family}
+use Rattle.calculus_rules.specs.declared.declaration.Block.{Block}
+use Rattle.calculus_rules.specs.declared.declaration.Kept.{Kept}
+use Rattle.calculus_rules.specs.declared.declaration.Kept.TheVariants.{Block as Whole}
+use Rattle.calculus_rules.specs.Environment.{Env, Has, here, there, FamilyDecl, KeepsFamily, with_parameters}
 use Rattle.rule_laws.specs.Declarations.{plain, plain_given, plain_block, IsCheckedEnvironment}
 use Rattle.inductive_check.specs.Given.{given_of}
 use Rattle.env_check.specs.Rules.{givens}

@@ -1,6 +1,6 @@
 -- The counts of environments that are read, as a statement.
 use Rattle.pc_terms.specs.Syntax.{Term}
-use Rattle.pc_rules.specs.Environment.{Env}
+use Rattle.calculus_rules.specs.Environment.{Env}
 use Rattle.dump_reader.specs.declared.environment.RawEnv.{RawEnv}
 use Rattle.dump_reader.specs.Spelled.{IsSpelled}
 use Rattle.rule_laws.specs.Declarations.{IsCheckedEnvironment}

@@ -3,7 +3,7 @@ ghost use Rattle.std.specs.Prelude.{◌≡◌, IfOk, IfErr, MatchOption, Some, N
 ghost use Rattle.pc_terms.specs.declared.term.MakeFault.TheVariants.{Memory};
 ghost use Rattle.pc_terms.specs.Lists.{arms_of};
 ghost use Rattle.pc_rules.specs.DirectedWeakHead.{built, branch_of};
-ghost use Rattle.pc_rules.specs.Same.{same_families};
+ghost use Rattle.calculus_rules.specs.Same.{same_families};
 ghost use Rattle.redexes.specs.Redexes.{contractum};
 
 use crate::lookup::{branch_at, constructor_at, family_at};

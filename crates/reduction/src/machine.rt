@@ -2,7 +2,7 @@
 ghost use Rattle.std.specs.Prelude.{◌≡◌, ◌≤◌, ◌<◌, [], ◌∷◌, ◌++◌, true, false, IfOk, IfErr, IfNone, MatchOption};
 ghost use Rattle.trees.specs.Measures.{IsBeyond};
 ghost use Rattle.pc_terms.specs.declared.term.MakeFault.TheVariants.{TooDeep, Memory};
-ghost use Rattle.pc_rules.specs.Context.{Values, values};
+ghost use Rattle.calculus_rules.specs.Context.{Values, values};
 ghost use Rattle.pc_rules.specs.DirectedWeakHead.{weak_next};
 ghost use Rattle.reduction.specs.Frames.{AreFrames, IsHead, work};
 ghost use Rattle.reduction.specs.Sought.{whole, load, IsSettled, KeepsWhole, IsSought};

@@ -7,26 +7,29 @@ use Rattle.universe_levels.specs.declared.sort.Sort.{Sort}
 use Rattle.universe_levels.specs.declared.sort.Sort.TheVariants.{Prop, Of}
 use Rattle.pc_terms.specs.declared.leaf.Name.{Name}
 use Rattle.pc_terms.specs.Syntax.{Term, Rel}
-use Rattle.pc_rules.specs.declared.declaration.Constructor.{Constructor}
-use Rattle.pc_rules.specs.declared.declaration.Family.{Family}
-use Rattle.pc_rules.specs.declared.declaration.Block.{Block}
-use Rattle.pc_rules.specs.declared.declaration.Kept.TheVariants.{Heads, Block as Whole}
-use Rattle.pc_rules.specs.declared.entry.Entry.TheVariants.{Assumed}
+use Rattle.calculus_rules.specs.declared.declaration.Constructor.{Constructor}
+use Rattle.calculus_rules.specs.declared.declaration.Family.{Family}
+use Rattle.calculus_rules.specs.declared.declaration.Block.{Block}
+use Rattle.calculus_rules.specs.declared.declaration.Kept.TheVariants.{Heads, Block as Whole}
+use Rattle.calculus_rules.specs.declared.entry.Entry.TheVariants.{Assumed}
 use Rattle.pc_rules.specs.declared.broken.Broken.TheVariants.{SortTooSmall, NotPositive, DuplicateName}
 use Rattle.pc_rules.specs.declared.meter.Account.{Account}
-use Rattle.pc_rules.specs.Environment.{Env, Has, here, there, head_of, heads_of, Entails, IsDeclared}
-use Rattle.pc_rules.specs.Context.{Context, extend}
-use Rattle.pc_rules.specs.Typing.{guarded, Entries, EntrySorts, no_sorts, a_sort}
-use Rattle.pc_rules.specs.Positivity.{ArePositive, NameNone}
-use Rattle.pc_rules.specs.Accepted.{IsFresh, AllAtMost, ConstructorFits, FamilyFits, BlockFits, env}
-use Rattle.pc_rules.specs.Same.{same_names}
+use Rattle.calculus_rules.specs.Environment.{Env, Has, here, there, head_of, heads_of, Entails, IsDeclared}
+use Rattle.calculus_rules.specs.Context.{Context, extend}
+use Rattle.calculus_rules.specs.Typing.{guarded, Entries, EntrySorts, no_sorts, a_sort}
+use Rattle.calculus_rules.specs.declared.target.Target.TheVariants.{Families}
+use Rattle.calculus_rules.specs.Naming.{some_names}
+use Rattle.calculus_rules.specs.Positivity.{ArePositive, IsGood}
+use Rattle.pc_rules.specs.DirectedPositivity.{is_positive}
+use Rattle.calculus_rules.specs.Accepted.{IsFresh, AllAtMost, ConstructorFits, FamilyFits, BlockFits, env}
+use Rattle.calculus_rules.specs.Same.{same_names}
 use Rattle.pc_rules.specs.DirectedRun as run
 use Rattle.pc_rules.specs.DirectedRun.{Run, done, bind}
 use Rattle.pc_rules.specs.DirectedComparison.{Test, IsTest, Comparison, compare, sort_below}
 use Rattle.pc_rules.specs.DirectedTyping.{Typing, infer, sort_of, sorts_of, check_all, counted, undeclared_in, levels_declared}
-use Rattle.pc_rules.specs.DirectedDeclarations.{is_positive, some_names, has_name, distinct_names, family_head, family_heads, heads_rule, fits_sort, positive_rule, arguments_rule, result_names, with_sorts, constructor_rule, constructors_rule, with_constructors, families_rule, with_families, with_heads, block_rule}
+use Rattle.pc_rules.specs.DirectedDeclarations.{has_name, distinct_names, family_head, family_heads, heads_rule, fits_sort, positive_rule, arguments_rule, result_names, with_sorts, constructor_rule, constructors_rule, with_constructors, families_rule, with_families, with_heads, block_rule}
 use Rattle.pc_rules.specs.WellCounted.{AreSortsOver, AreCounted, AreCountedConstructors, AreCountedFamilies, HasCountedDeclarations, IsCountedContext}
-use Rattle.pc_rules.proofs.Spines.{one_item}
+use Rattle.calculus_rules.proofs.Spines.{one_item}
 use Rattle.rule_laws.specs.Inference.{AllFormed}
 use Rattle.rule_laws.specs.Declarations.{plain_constructor, plain_family, ConstructorsFormed, FamiliesFormed, BlockFormed, IsCheckedBlock}
 use Rattle.rule_laws.proofs.Runs.{bind_both, tested, refused_done, done_value}
@@ -36,7 +39,7 @@ use Rattle.rule_laws.proofs.SimpleRules.{Infers, declared_over, levels_are_decla
 use Rattle.rule_laws.proofs.MatchRule.{count_is, entries_sound, all_sound}
 use Rattle.rule_laws.proofs.Inferring.{infer_sound}
 use Rattle.rule_laws.proofs.Extending.{FindsAs, all_more, constructors_more, finds_more, finds_without, env_more}
-use Rattle.rule_laws.proofs.Positive.{or_false, other_name, positive_is, list_names_none}
+use Rattle.rule_laws.proofs.Positive.{or_false, other_name, positive_is}
 use Rattle.pc_rules.proofs.WeakNext.{none_some}
 
 -- the names of constructors are distinct
@@ -123,10 +126,16 @@ module _ (H : Env) (w : HasCountedDeclarations H) (inf : Typing) (si : Infers H 
   fits Prop s u v h n = absurd (n refl)
   fits (Of x) s u v h n = entails H q test w s (Of x) (tested (sort_below q s (Of x)) (done tt u) (SortTooSmall s (Of x)) u tt v h).0
 
+  type_positive : (k : Name) (f n : ℕ) (A : Term) (u v : Account) → (positive_rule H k f n A u).end ≡ run.Done tt v → IsGood H (Families k) 0 A
+  type_positive k f n A u v h =
+      let p = bind_both (is_positive H k A u) (λ b v. if b then done tt v else run.refused (NotPositive f n) v) tt v h in
+      let q = tested p.0 (done tt p.1) (NotPositive f n) p.1 tt v p.3 in
+      positive_is H k A u p.1 (subst (λ b. (is_positive H k A u).end ≡ run.Done b p.1) q.0 p.2)
+
   record AreArguments (k : Name) (r : Sort) (c : Context) (As : List Term) (ss : List Sort) : Type 0 where
     sorts : EntrySorts guarded H c As ss
     small : r ≢ Prop → AllAtMost H ss r
-    positive : ArePositive k As
+    positive : ArePositive H k As
     all : AreCounted H As
     over : AreSortsOver H.levels ss
 
@@ -138,12 +147,12 @@ module _ (H : Env) (w : HasCountedDeclarations H) (inf : Typing) (si : Infers H 
   arguments_sound k f n r c (A ∷ As) ss u v kc fs h =
       let k4 : Sort → List Sort → Account → Run (List Sort) = λ s ss y. done (s ∷ ss) y in
       let k3 : Sort → Unit {0} → Account → Run (List Sort) = λ s _ x. bind (arguments_rule H q inf k f n r (Assumed A ∷ c) As x) (k4 s) in
-      let k2 : Sort → Unit {0} → Account → Run (List Sort) = λ s _ w. bind (positive_rule k f n A w) (k3 s) in
+      let k2 : Sort → Unit {0} → Account → Run (List Sort) = λ s _ w. bind (positive_rule H k f n A w) (k3 s) in
       let k1 : Sort → Account → Run (List Sort) = λ s v. bind (fits_sort q r s v) (k2 s) in
       let p1 = bind_both (sort_of H inf c A u) k1 ss v h in
       let s : Sort = p1.0 in
       let p2 = bind_both (fits_sort q r s p1.1) (k2 s) ss v p1.3 in
-      let p3 = bind_both (positive_rule k f n A p2.1) (k3 s) ss v p2.3 in
+      let p3 = bind_both (positive_rule H k f n A p2.1) (k3 s) ss v p2.3 in
       let p4 = bind_both (arguments_rule H q inf k f n r (Assumed A ∷ c) As p3.1) (k4 s) ss v p3.3 in
       let a = sort_sound H w inf si c A s u p1.1 kc fs.0 p1.2 in
       let rest = arguments_sound k f n r (Assumed A ∷ c) As p4.0 p3.1 p4.1 (a.1, kc) fs.1 p4.2 in
@@ -151,15 +160,15 @@ module _ (H : Env) (w : HasCountedDeclarations H) (inf : Typing) (si : Infers H 
       (record {
         sorts = a_sort a.0 rest.sorts;
         small = λ p. (fits r s p1.1 p2.1 p2.2 p, rest.small p);
-        positive = (positive_is k A (tested (is_positive k A) (done tt p2.1) (NotPositive f n) p2.1 tt p3.1 p3.2).0, rest.positive);
+        positive = (type_positive k f n A p2.1 p3.1 p3.2, rest.positive);
         all = (a.1, rest.all);
         over = (a.2, rest.over);
       })
 
-  names_tested : (k : Name) (f n : ℕ) (ts : List Term) (b : Bool) (u v : Account) → some_names k ts ≡ b →
-      (if b then run.refused {A = Unit {0}} (NotPositive f n) u else done tt u).end ≡ run.Done tt v → NameNone k ts
+  names_tested : (k : Name) (f n : ℕ) (ts : List Term) (b : Bool) (u v : Account) → some_names (Families k) 0 ts ≡ b →
+      (if b then run.refused {A = Unit {0}} (NotPositive f n) u else done tt u).end ≡ run.Done tt v → some_names (Families k) 0 ts ≡ false
   names_tested k f n ts true u v e h = absurd (refused_done h)
-  names_tested k f n ts false u v e h = list_names_none k ts e
+  names_tested k f n ts false u v e h = e
 
   module _ (B : Block) (params : AreCounted H B.params) where
     record IsConstructor (F : Family) (C D : Constructor) : Type 0 where
@@ -194,7 +203,7 @@ module _ (H : Env) (w : HasCountedDeclarations H) (inf : Typing) (si : Infers H 
             small = as'.small;
             positive = as'.positive;
             result = rs.0;
-            names_none = names_tested B.name f n C.result (some_names B.name C.result) p3.1 p4.1 refl p4.2;
+            names_none = names_tested B.name f n C.result (some_names (Families B.name) 0 C.result) p3.1 p4.1 refl p4.2;
           };
           name = refl;
           same = refl;

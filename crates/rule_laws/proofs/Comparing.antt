@@ -6,27 +6,30 @@ use Rattle.universe_levels.specs.declared.sort.Sort.TheVariants.{Prop, Of}
 use Rattle.pc_terms.specs.declared.leaf.FamilyId.{FamilyId}
 use Rattle.pc_terms.specs.Syntax.{Term, Terms, Done, Next, Rel, SortT, Prod, Lambda, App, Const, Ind, Construct, Case, Fix, apply, head, args, number}
 use Rattle.pc_terms.specs.Formed.{binders_of, EachTerm, AreAll}
-use Rattle.pc_rules.specs.declared.declaration.Constructor.{Constructor}
-use Rattle.pc_rules.specs.declared.entry.Entry.TheVariants.{Assumed}
+use Rattle.calculus_rules.specs.declared.declaration.Constructor.{Constructor}
+use Rattle.calculus_rules.specs.declared.entry.Entry.TheVariants.{Assumed}
 use Rattle.pc_rules.specs.declared.broken.Broken.TheVariants.{NotBelow}
 use Rattle.pc_rules.specs.declared.broken.Clash.TheVariants.{Terms as ClashOfTerms, Sorts as ClashOfSorts}
 use Rattle.pc_rules.specs.declared.meter.Account.{Account}
-use Rattle.pc_rules.specs.Environment.{Env, FamilyDecl, Entails}
-use Rattle.pc_rules.specs.Context.{Context, Values, values, under, extend}
-use Rattle.pc_rules.specs.Instances.{entries_at, predicate_entries, branch_entries}
-use Rattle.pc_rules.specs.Conversion.{Equal, EqualTerms, same as the_same, back, chain, sorts, Below, equal as of_equal, sort as of_sorts, product}
-use Rattle.pc_rules.specs.Conversion as conversion
-use Rattle.pc_rules.specs.Same.{same, same_numbers, same_families}
+use Rattle.calculus_rules.specs.Environment.{Env, FamilyDecl, Entails}
+use Rattle.calculus_rules.specs.Context.{Context, Values, values, under, extend}
+use Rattle.calculus_rules.specs.Instances.{entries_at, predicate_entries, branch_entries}
+use Rattle.calculus_rules.specs.Conversion.{Equal, EqualTerms, same as the_same, back, chain, sorts, Below, equal as of_equal, sort as of_sorts, product}
+use Rattle.calculus_rules.specs.Conversion as conversion
+use Rattle.calculus_rules.specs.Same.{same, same_numbers, same_families}
 use Rattle.pc_rules.specs.DirectedRun as run
 use Rattle.pc_rules.specs.DirectedRun.{Run, done, too_nested, passing, any_beyond, ticked, bind, run_all}
-use Rattle.pc_rules.specs.DirectedWeakHead.{whnf, family_of}
-use Rattle.pc_rules.specs.DirectedComparison.{Test, IsTest, sort_below, sorts_stand, Comparison, list_of, alike, each_equal, entering, branches_equal, matches_equal, lifted_types, fixpoints_equal, heads_equal, spines_equal, pair, entered, compare}
+use Rattle.calculus_rules.specs.Lookups.{family_of}
+use Rattle.pc_rules.specs.DirectedWeakHead.{whnf}
+use Rattle.calculus_rules.specs.Listed.{list_of}
+use Rattle.pc_rules.specs.DirectedComparison.{Test, IsTest, sort_below, sorts_stand, Comparison, alike, each_equal, entering, branches_equal, matches_equal, lifted_types, fixpoints_equal, heads_equal, spines_equal, pair, entered, compare}
 use Rattle.pc_rules.specs.WellCounted.{arities, IsCounted, AreCounted, HasCountedDeclarations, AreCountedValues, IsCountedNode}
-use Rattle.pc_rules.proofs.WeakNext.{same_names_is, same_families_is, spine_is, both_true}
+use Rattle.pc_rules.proofs.WeakNext.{same_names_is, same_families_is, both_true}
+use Rattle.calculus_rules.proofs.Spines.{spine_is}
 use Rattle.pc_rules.proofs.SameTrees.{same_is, same_numbers_is, false_true}
-use Rattle.pc_rules.proofs.WeakHead.{weak_equal}
+use Rattle.calculus_rules.proofs.WeakHead.{weak_equal}
 use Rattle.pc_rules.proofs.FairReduction.{steps_lead}
-use Rattle.pc_rules.proofs.Congruence.{equal_products, equal_lambdas, equal_applications, equal_matches, equal_fixpoints}
+use Rattle.calculus_rules.proofs.Congruence.{equal_products, equal_lambdas, equal_applications, equal_matches, equal_fixpoints}
 use Rattle.rule_laws.specs.Comparison.{Compares}
 use Rattle.rule_laws.proofs.Runs.{bind_both, ticking_done, if_done, tested, nested_done, run_both}
 use Rattle.rule_laws.proofs.Counted.{head_counted, args_counted, list_counted}

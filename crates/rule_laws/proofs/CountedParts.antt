@@ -5,13 +5,13 @@ use Rattle.universe_levels.specs.Consistency.{IsSortOver}
 use Rattle.trees.proofs.Shape.{overs_each}
 use Rattle.pc_terms.specs.declared.leaf.FamilyId.{FamilyId}
 use Rattle.pc_terms.specs.Syntax.{Term, Rel, SortT, Prod, Ind, Construct, over, overs, put_all, substitute, shift, variables}
-use Rattle.pc_rules.specs.declared.declaration.Constructor.{Constructor}
-use Rattle.pc_rules.specs.declared.entry.Entry.TheVariants.{Assumed, Defined}
-use Rattle.pc_rules.specs.Environment.{Env, FamilyDecl}
-use Rattle.pc_rules.specs.Context.{Context, type_at, lifted, extend}
-use Rattle.pc_rules.specs.Instances.{entries_at, products, family_type, constructor_type, predicate_entries, branch_entries, predicate_at, result_at, built_at, branch_type}
+use Rattle.calculus_rules.specs.declared.declaration.Constructor.{Constructor}
+use Rattle.calculus_rules.specs.declared.entry.Entry.TheVariants.{Assumed, Defined}
+use Rattle.calculus_rules.specs.Environment.{Env, FamilyDecl}
+use Rattle.calculus_rules.specs.Context.{Context, type_at, lifted, extend}
+use Rattle.calculus_rules.specs.Instances.{entries_at, products, family_type, constructor_type, predicate_entries, branch_entries, predicate_at, result_at, built_at, branch_type}
 use Rattle.pc_rules.specs.WellCounted.{IsCounted, AreCounted, IsCountedNode, AreCountedConstructors, IsCountedContext}
-use Rattle.pc_rules.proofs.Spines.{one_item}
+use Rattle.calculus_rules.proofs.Spines.{one_item}
 use Rattle.rule_laws.proofs.Counted.{PutsCounted, rel_counted, put_all_counted, substituted_counted, renamed_counted, shifted_counted, apply_counted, appended_counted}
 use Rattle.rule_laws.proofs.KeepCounts.{IsCountedFamilyDecl}
 use Rattle.pc_rules.proofs.WeakNext.{none_some}

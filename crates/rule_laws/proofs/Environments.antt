@@ -12,19 +12,19 @@ use Rattle.pc_terms.specs.declared.leaf.Name.{Name}
 use Rattle.pc_terms.specs.Syntax.{Term}
 use Rattle.pc_terms.specs.Formed.{IsFormed}
 use Rattle.universe_levels.specs.declared.sort.Sort.{Sort}
-use Rattle.pc_rules.specs.declared.declaration.Block.{Block}
-use Rattle.pc_rules.specs.declared.declaration.Kept.{Kept}
-use Rattle.pc_rules.specs.declared.declaration.Kept.TheVariants.{Constant, Block as Whole}
+use Rattle.calculus_rules.specs.declared.declaration.Block.{Block}
+use Rattle.calculus_rules.specs.declared.declaration.Kept.{Kept}
+use Rattle.calculus_rules.specs.declared.declaration.Kept.TheVariants.{Constant, Block as Whole}
 use Rattle.pc_rules.specs.declared.broken.Broken.{Broken}
 use Rattle.pc_rules.specs.declared.broken.Place.{Place}
 use Rattle.pc_rules.specs.declared.broken.Place.TheVariants.{Declaration as AtDeclaration, Main as AtMain}
 use Rattle.pc_rules.specs.declared.meter.Account.{Account}
-use Rattle.pc_rules.specs.Environment.{Env, Has, here, there}
-use Rattle.pc_rules.specs.Typing.{guarded, Types}
-use Rattle.pc_rules.specs.Accepted.{IsFresh, BodyFits, Accepted, empty, constant, block, env, IsWellFormed}
+use Rattle.calculus_rules.specs.Environment.{Env, Has, here, there}
+use Rattle.calculus_rules.specs.Typing.{guarded, Types}
+use Rattle.calculus_rules.specs.Accepted.{IsFresh, BodyFits, Accepted, empty, constant, block, env, IsWellFormed}
 use Rattle.pc_rules.specs.DirectedRun as run
 use Rattle.pc_rules.specs.DirectedRun.{Run, End, done, bind}
-use Rattle.pc_rules.specs.DirectedWeakHead.{kept_at}
+use Rattle.calculus_rules.specs.Lookups.{kept_at}
 use Rattle.pc_rules.specs.DirectedComparison.{Test, IsTest, compare}
 use Rattle.pc_rules.specs.DirectedTyping.{infer, sort_of}
 use Rattle.pc_rules.specs.DirectedPlaces.{and_then}

@@ -1,33 +1,35 @@
 -- Where the test of erasable terms finds evidence there is evidence of that kind.
 use Rattle.std.proofs.Common.{◌≡◌, ℕ, zero, suc, Bool, true, false, if◌then◌else◌, List, [], ◌∷◌, length, Option, Some, None, slice_get, refl, sym, ap, ◌∙◌, subst}
-use Rattle.pc_rules.specs.declared.declaration.Constructor.{Constructor}
+use Rattle.calculus_rules.specs.declared.declaration.Constructor.{Constructor}
 use Rattle.universe_levels.specs.declared.sort.Sort.{Sort}
 use Rattle.universe_levels.specs.declared.sort.Sort.TheVariants.{Prop, Of}
 use Rattle.pc_terms.specs.declared.leaf.FamilyId.{FamilyId}
 use Rattle.pc_terms.specs.Syntax.{Term, Terms, SortT, Prod, Construct, Case}
-use Rattle.pc_rules.specs.declared.entry.Entry.TheVariants.{Assumed}
+use Rattle.calculus_rules.specs.declared.entry.Entry.TheVariants.{Assumed}
 use Rattle.pc_rules.specs.declared.meter.Account.{Account}
-use Rattle.pc_rules.specs.Environment.{Env, FamilyDecl, KeepsFamily}
-use Rattle.pc_rules.specs.Context.{Context, values, extend}
-use Rattle.pc_rules.specs.Instances.{products, predicate_entries}
-use Rattle.pc_rules.specs.Conversion.{Equal, same, chain}
-use Rattle.pc_rules.specs.WeakHead.{then_step, no_step}
-use Rattle.pc_rules.specs.Typing.{bare, Types}
-use Rattle.pc_rules.specs.declared.evidence.Evidence.{Evidence}
-use Rattle.pc_rules.specs.declared.evidence.Evidence.TheVariants.{Proof, PropMatch, PropConstructor}
-use Rattle.pc_rules.specs.Erasable.{arity, proof, prop_match, prop_constructor}
+use Rattle.calculus_rules.specs.Environment.{Env, FamilyDecl, KeepsFamily}
+use Rattle.calculus_rules.specs.Context.{Context, values, extend}
+use Rattle.calculus_rules.specs.Instances.{products, predicate_entries}
+use Rattle.calculus_rules.specs.Conversion.{Equal, same, chain}
+use Rattle.calculus_rules.specs.WeakHead.{then_step, no_step}
+use Rattle.calculus_rules.specs.Typing.{bare, Types}
+use Rattle.calculus_rules.specs.declared.evidence.Evidence.{Evidence}
+use Rattle.calculus_rules.specs.declared.evidence.Evidence.TheVariants.{Proof, PropMatch, PropConstructor}
+use Rattle.calculus_rules.specs.Erasable.{arity, proof, prop_match, prop_constructor}
 use Rattle.pc_rules.specs.DirectedRun as run
 use Rattle.pc_rules.specs.DirectedRun.{Run, done, no_unit, passing, is_beyond, any_beyond, bind, ticked}
-use Rattle.pc_rules.specs.DirectedWeakHead.{weak_next, family_of}
-use Rattle.pc_rules.specs.DirectedComparison.{list_of}
+use Rattle.calculus_rules.specs.Lookups.{family_of}
+use Rattle.pc_rules.specs.DirectedWeakHead.{weak_next}
+use Rattle.calculus_rules.specs.Listed.{list_of}
 use Rattle.pc_rules.specs.DirectedTyping.{Typing, sort_of}
-use Rattle.pc_rules.specs.DirectedErasable.{is_prop, Ending, ending_on, end_of, ends_in_sort, proof_found, arity_found, type_test, constructor_test, numbered_test, match_sort, match_test, erasable_test}
+use Rattle.pc_rules.specs.DirectedErasable.{Ending, ending_on, end_of, ends_in_sort, proof_found, arity_found, type_test, constructor_test, numbered_test, match_sort, match_test, erasable_test}
+use Rattle.calculus_rules.specs.PropSorts.{is_prop}
 use Rattle.pc_rules.specs.WellCounted.{IsCounted, HasCountedDeclarations, IsCountedContext}
-use Rattle.pc_rules.proofs.Spines.{one_item}
+use Rattle.calculus_rules.proofs.Spines.{one_item}
 use Rattle.pc_rules.proofs.WeakNext.{weak_next_found, family_found, none_some}
-use Rattle.pc_rules.proofs.WeakHead.{weak_equal}
-use Rattle.pc_rules.proofs.Congruence.{equal_products}
-use Rattle.pc_rules.proofs.Bare.{bare_types}
+use Rattle.calculus_rules.proofs.WeakHead.{weak_equal}
+use Rattle.calculus_rules.proofs.Congruence.{equal_products}
+use Rattle.calculus_rules.proofs.Bare.{bare_types}
 use Rattle.rule_laws.specs.Erasability.{HasEvidence}
 use Rattle.rule_laws.proofs.Runs.{bind_both, ticking_done, unit_done, done_value, pass_then}
 use Rattle.rule_laws.proofs.Counted.{list_counted}

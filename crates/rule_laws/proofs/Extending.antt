@@ -7,15 +7,15 @@ use Rattle.trees.proofs.Shape.{each_weaker}
 use Rattle.pc_terms.specs.declared.leaf.Name.{Name}
 use Rattle.pc_terms.specs.declared.leaf.FamilyId.{FamilyId}
 use Rattle.pc_terms.specs.Syntax.{Label, SortOf, CaseOf, Term}
-use Rattle.pc_rules.specs.declared.declaration.Constructor.{Constructor}
-use Rattle.pc_rules.specs.declared.declaration.Family.{Family}
-use Rattle.pc_rules.specs.declared.declaration.Block.{Block}
-use Rattle.pc_rules.specs.declared.declaration.Kept.{Kept}
-use Rattle.pc_rules.specs.declared.declaration.Kept.TheVariants.{Constant, Heads, Block as Whole}
-use Rattle.pc_rules.specs.Environment.{Env, FamilyDecl, here, there, name_of, family_at}
-use Rattle.pc_rules.specs.Accepted.{IsFresh, env}
-use Rattle.pc_rules.specs.Same.{same_names}
-use Rattle.pc_rules.specs.DirectedWeakHead.{if_some, kept_at, whole_block, family_of}
+use Rattle.calculus_rules.specs.declared.declaration.Constructor.{Constructor}
+use Rattle.calculus_rules.specs.declared.declaration.Family.{Family}
+use Rattle.calculus_rules.specs.declared.declaration.Block.{Block}
+use Rattle.calculus_rules.specs.declared.declaration.Kept.{Kept}
+use Rattle.calculus_rules.specs.declared.declaration.Kept.TheVariants.{Constant, Heads, Block as Whole}
+use Rattle.calculus_rules.specs.Environment.{Env, FamilyDecl, here, there, name_of, family_at}
+use Rattle.calculus_rules.specs.Accepted.{IsFresh, env}
+use Rattle.calculus_rules.specs.Same.{same_names}
+use Rattle.calculus_rules.specs.Lookups.{if_some, kept_at, whole_block, family_of}
 use Rattle.pc_rules.specs.WellCounted.{AreSortsOver, IsCountedNode, HasCounts, IsCounted, AreCounted, AreCountedConstructors, AreCountedFamilies, IsCountedBlock, IsCountedBody, IsCountedKept, HasCountedDeclarations}
 use Rattle.pc_rules.proofs.WeakNext.{same_names_is, kept_is, none_some}
 use Rattle.rule_laws.proofs.Names.{kept_there}

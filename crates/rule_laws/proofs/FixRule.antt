@@ -4,23 +4,25 @@ use Rattle.trees.proofs.Shape.{each_renamed}
 use Rattle.pc_terms.specs.declared.leaf.FamilyId.{FamilyId}
 use Rattle.pc_terms.specs.Syntax.{Term, Terms, Done, Next, Lambda, Ind, Fix, shift, apply, head, args, term_at}
 use Rattle.pc_terms.specs.Formed.{binders_of, EachTerm, AreAll, HasForm, IsFormed}
-use Rattle.pc_rules.specs.declared.entry.Entry.TheVariants.{Assumed}
+use Rattle.calculus_rules.specs.declared.entry.Entry.TheVariants.{Assumed}
 use Rattle.pc_rules.specs.declared.broken.Broken.TheVariants.{RecArgNotInductive}
 use Rattle.pc_rules.specs.declared.meter.Account.{Account}
-use Rattle.pc_rules.specs.Environment.{Env}
-use Rattle.pc_rules.specs.Context.{Context, values}
-use Rattle.pc_rules.specs.Instances.{definitions}
-use Rattle.pc_rules.specs.Conversion.{Equal}
-use Rattle.pc_rules.specs.Guardedness.{IsGuarded}
-use Rattle.pc_rules.specs.Typing.{guarded, Types, fix, Recurses, recurses_here, recurses_later, Sorts, no_types, a_type, Bodies, no_bodies, a_body}
+use Rattle.calculus_rules.specs.Environment.{Env}
+use Rattle.calculus_rules.specs.Context.{Context, values}
+use Rattle.calculus_rules.specs.Instances.{definitions}
+use Rattle.calculus_rules.specs.Conversion.{Equal}
+use Rattle.calculus_rules.specs.Guardedness.{IsGuarded}
+use Rattle.calculus_rules.specs.Typing.{guarded, Types, fix, Recurses, recurses_here, recurses_later, Sorts, no_types, a_type, Bodies, no_bodies, a_body}
 use Rattle.pc_rules.specs.DirectedRun as run
 use Rattle.pc_rules.specs.DirectedRun.{Run, done, make, bind}
 use Rattle.pc_rules.specs.DirectedWeakHead.{whnf}
-use Rattle.pc_rules.specs.DirectedComparison.{Comparison, list_of}
+use Rattle.calculus_rules.specs.Listed.{list_of}
+use Rattle.pc_rules.specs.DirectedComparison.{Comparison}
 use Rattle.pc_rules.specs.DirectedGuard.{fix_guard}
 use Rattle.pc_rules.specs.DirectedTyping.{Typing, sort_of, check, types_rule, recursive_domain, enough_abstractions, is_a_family, family_found, definition_rule, definitions_rule, definition_type, fix_rule}
-use Rattle.pc_rules.proofs.Spines.{one_item}
-use Rattle.pc_rules.proofs.WeakNext.{spine_is, none_some}
+use Rattle.calculus_rules.proofs.Spines.{one_item}
+use Rattle.pc_rules.proofs.WeakNext.{none_some}
+use Rattle.calculus_rules.proofs.Spines.{spine_is}
 use Rattle.pc_rules.specs.FixConditions.{BeginsWith, HaveLambdas}
 use Rattle.pc_rules.specs.WellCounted.{IsCountedNode, IsCounted, HasCountedDeclarations, IsCountedContext}
 use Rattle.rule_laws.specs.Inference.{IsInferred}
@@ -30,6 +32,7 @@ use Rattle.rule_laws.proofs.KeepCounts.{values_counted}
 use Rattle.rule_laws.proofs.Comparing.{IsSound, names_long, whnf_equal}
 use Rattle.rule_laws.proofs.SimpleRules.{Infers, formed, sort_sound, check_sound}
 use Rattle.rule_laws.proofs.Guarding.{guard_sound}
+use Rattle.rule_laws.proofs.TypedLambdas.{bodies_lambdas}
 use Rattle.pc_rules.proofs.SameTrees.{false_true}
 
 -- the recursive argument's domain
@@ -162,7 +165,7 @@ module _ (E : Env) (w : HasCountedDeclarations E) (inf : Typing) (si : Infers E 
         let ts = types_sound c 0 types u p1.1 k shape.1 ff.1.0 p1.2 in
         let bs = bodies_sound D n 0 rargs types bodies p1.1 p2.1 ts.context shape.1 shape.3 shape.0 shape.2 ts.all ff.1.1.0 p2.2 in
         let guards : IsGuarded E (values c) rargs bodies =
-        guard_sound E w (values c) (values_counted E c k) rargs bodies p2.1 p3.1 bs.all bs.begin p3.2 in
+        guard_sound E w (values c) (values_counted E c k) rargs bodies p2.1 p3.1 bs.all bs.begin (bodies_lambdas E bs.typed) p3.2 in
         let at = named_type i n (term_at types i) T p3.1 v p3.3 in
         let name : at.0 ≡ 0 = name_at types i 0 at.0 T shape.1 at.1 in
         record {

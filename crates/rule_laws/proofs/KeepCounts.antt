@@ -3,17 +3,17 @@ use Rattle.std.proofs.Common.{◌≡◌, ℕ, zero, suc, ◌+◌, ◌<◌, List,
 use Rattle.universe_levels.specs.Consistency.{IsSortOver}
 use Rattle.pc_terms.specs.declared.leaf.FamilyId.{FamilyId}
 use Rattle.pc_terms.specs.Syntax.{Term, Terms, Rel, Construct, Fix, put, put_all, apply}
-use Rattle.pc_rules.specs.declared.declaration.Family.{Family}
-use Rattle.pc_rules.specs.declared.declaration.Block.{Block}
-use Rattle.pc_rules.specs.declared.declaration.Kept.TheVariants.{Constant, Heads, Block as Whole}
-use Rattle.pc_rules.specs.declared.entry.Entry.TheVariants.{Assumed, Defined}
-use Rattle.pc_rules.specs.Environment.{Env, FamilyDecl, with_parameters, family_at, KnowsFamily, KeepsFamily}
-use Rattle.pc_rules.specs.Context.{Context, Values, values, value_at, lifted, under, extend}
-use Rattle.pc_rules.specs.Instances.{fixpoints, unfolded}
-use Rattle.pc_rules.specs.Step.{IsConstructor, is_constructor, Root, beta, zeta, constant, variable, matched, fixpoint}
-use Rattle.pc_rules.specs.WeakHead.{WeakStep, at_root, in_function, in_scrutinee, in_argument, WeakSteps, no_step, then_step}
+use Rattle.calculus_rules.specs.declared.declaration.Family.{Family}
+use Rattle.calculus_rules.specs.declared.declaration.Block.{Block}
+use Rattle.calculus_rules.specs.declared.declaration.Kept.TheVariants.{Constant, Heads, Block as Whole}
+use Rattle.calculus_rules.specs.declared.entry.Entry.TheVariants.{Assumed, Defined}
+use Rattle.calculus_rules.specs.Environment.{Env, FamilyDecl, with_parameters, family_at, KnowsFamily, KeepsFamily}
+use Rattle.calculus_rules.specs.Context.{Context, Values, values, value_at, lifted, under, extend}
+use Rattle.calculus_rules.specs.Instances.{fixpoints, unfolded}
+use Rattle.calculus_rules.specs.Step.{IsConstructor, is_constructor, Root, beta, zeta, constant, variable, matched, fixpoint}
+use Rattle.calculus_rules.specs.WeakHead.{WeakStep, at_root, in_function, in_scrutinee, in_argument, WeakSteps, no_step, then_step}
 use Rattle.pc_rules.specs.WellCounted.{IsCounted, AreCounted, AreCountedConstructors, AreCountedFamilies, HasCountedDeclarations, IsCountedContext, AreCountedValues}
-use Rattle.pc_rules.proofs.Spines.{one_item}
+use Rattle.calculus_rules.proofs.Spines.{one_item}
 use Rattle.rule_laws.proofs.Counted.{rel_counted, put_counted, put_all_counted, substituted_counted, renamed_counted, app_counted, apply_counted, function_counted, parts_counted, term_counted}
 use Rattle.pc_rules.proofs.WeakNext.{none_some}
 

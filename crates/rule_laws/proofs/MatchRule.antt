@@ -7,24 +7,26 @@ use Rattle.universe_levels.specs.declared.sort.Sort.TheVariants.{Prop, Of}
 use Rattle.pc_terms.specs.declared.leaf.FamilyId.{FamilyId}
 use Rattle.pc_terms.specs.Syntax.{Term, Terms, Done, Next, Rel, SortT, Ind, Case, first, substitute, apply, head, args, number, terms_of}
 use Rattle.pc_terms.specs.Formed.{binders_of, EachTerm, AreAll, HasForm, IsFormed}
-use Rattle.pc_rules.specs.declared.declaration.Constructor.{Constructor}
-use Rattle.pc_rules.specs.declared.declaration.Family.{Family}
-use Rattle.pc_rules.specs.declared.declaration.Block.{Block}
-use Rattle.pc_rules.specs.declared.declaration.Kept.{Kept}
-use Rattle.pc_rules.specs.declared.declaration.Kept.TheVariants.{Constant, Heads, Block as Whole}
-use Rattle.pc_rules.specs.declared.entry.Entry.TheVariants.{Assumed}
+use Rattle.calculus_rules.specs.declared.declaration.Constructor.{Constructor}
+use Rattle.calculus_rules.specs.declared.declaration.Family.{Family}
+use Rattle.calculus_rules.specs.declared.declaration.Block.{Block}
+use Rattle.calculus_rules.specs.declared.declaration.Kept.{Kept}
+use Rattle.calculus_rules.specs.declared.declaration.Kept.TheVariants.{Constant, Heads, Block as Whole}
+use Rattle.calculus_rules.specs.declared.entry.Entry.TheVariants.{Assumed}
 use Rattle.pc_rules.specs.declared.broken.Broken.TheVariants.{CountWrong, ElimNotAllowed, NotTheFamily}
 use Rattle.pc_rules.specs.declared.meter.Account.{Account}
-use Rattle.pc_rules.specs.Environment.{Env, FamilyDecl, family_at, KeepsFamily}
-use Rattle.pc_rules.specs.Context.{Context, values, extend}
-use Rattle.pc_rules.specs.Instances.{predicate_entries, branch_entries, predicate_at, branch_type}
-use Rattle.pc_rules.specs.Elimination.{AllProp, IsSingle, MayEliminate}
-use Rattle.pc_rules.specs.Typing.{guarded, Types, case, conv as convert, TypesAll, no_terms, term, Entries, no_entries, entry, Branches, no_branches, branch, EntrySorts, no_sorts, a_sort}
-use Rattle.pc_rules.specs.Same.{same}
+use Rattle.calculus_rules.specs.Environment.{Env, FamilyDecl, family_at, KeepsFamily}
+use Rattle.calculus_rules.specs.Context.{Context, values, extend}
+use Rattle.calculus_rules.specs.Instances.{predicate_entries, branch_entries, predicate_at, branch_type}
+use Rattle.calculus_rules.specs.Elimination.{AllProp, IsSingle, MayEliminate}
+use Rattle.calculus_rules.specs.Typing.{guarded, Types, case, conv as convert, TypesAll, no_terms, term, Entries, no_entries, entry, Branches, no_branches, branch, EntrySorts, no_sorts, a_sort}
+use Rattle.calculus_rules.specs.Same.{same}
 use Rattle.pc_rules.specs.DirectedRun as run
 use Rattle.pc_rules.specs.DirectedRun.{Run, done, make, passing, any_beyond, bind}
-use Rattle.pc_rules.specs.DirectedWeakHead.{if_some, kept_at, whole_block, family_of, whnf}
-use Rattle.pc_rules.specs.DirectedComparison.{Comparison, list_of}
+use Rattle.calculus_rules.specs.Lookups.{if_some, kept_at, whole_block, family_of}
+use Rattle.pc_rules.specs.DirectedWeakHead.{whnf}
+use Rattle.calculus_rules.specs.Listed.{list_of}
+use Rattle.pc_rules.specs.DirectedComparison.{Comparison}
 use Rattle.pc_rules.specs.DirectedTyping.{Typing, conv, sort_of, check, retype, find_family, counted, names_counted, match_counted, check_all, sorts_of, all_prop, few_constructors, is_single, may_eliminate, eliminated, is_the_family, found_family, scrutinee_fits, scrutinee_rule, branch_beyond, branch_rule, branches_rule, predicate_rule, case_rule}
 use Rattle.pc_rules.specs.WellCounted.{IsCountedNode, arities, IsCounted, AreCounted, AreCountedConstructors, HasCountedDeclarations, IsCountedContext}
 use Rattle.pc_rules.proofs.WeakNext.{kept_is, same_families_is, family_found, drop_long, both_true}

@@ -4,17 +4,17 @@ use Rattle.std.proofs.lemmas.Bool.{eq-eqb}
 use Rattle.universe_levels.specs.declared.constraint.Constraint.{Constraint}
 use Rattle.pc_terms.specs.declared.leaf.Name.{Name}
 use Rattle.pc_terms.specs.declared.leaf.FamilyId.{FamilyId}
-use Rattle.pc_rules.specs.declared.declaration.Block.{Block}
-use Rattle.pc_rules.specs.declared.declaration.Kept.{Kept}
-use Rattle.pc_rules.specs.declared.declaration.Kept.TheVariants.{Heads, Block as Whole}
-use Rattle.pc_rules.specs.Environment.{Env, FamilyDecl, Has, here, there, name_of, heads_of, family_at, KeepsFamily}
-use Rattle.pc_rules.specs.Accepted.{Accepted, IsAccepted, IsFresh, env}
-use Rattle.pc_rules.specs.Same.{same_names}
-use Rattle.pc_rules.specs.DirectedWeakHead.{if_some, kept_at, whole_block, family_of}
+use Rattle.calculus_rules.specs.declared.declaration.Block.{Block}
+use Rattle.calculus_rules.specs.declared.declaration.Kept.{Kept}
+use Rattle.calculus_rules.specs.declared.declaration.Kept.TheVariants.{Heads, Block as Whole}
+use Rattle.calculus_rules.specs.Environment.{Env, FamilyDecl, Has, here, there, name_of, heads_of, family_at, KeepsFamily}
+use Rattle.calculus_rules.specs.Accepted.{Accepted, IsAccepted, IsFresh, env}
+use Rattle.calculus_rules.specs.Same.{same_names}
+use Rattle.calculus_rules.specs.Lookups.{if_some, kept_at, whole_block, family_of}
 use Rattle.pc_rules.specs.DirectedDeclarations.{with_heads}
 use Rattle.pc_rules.proofs.WeakNext.{kept_is}
 use Rattle.rule_laws.specs.Reduction.{HasNamesOnce}
-use Rattle.pc_rules.proofs.OneEach.{one_declaration}
+use Rattle.calculus_rules.proofs.OneEach.{one_declaration}
 
 pub once_accepted : (levels : ℕ) (cs : List Constraint) (ds : List Kept) → Accepted levels cs ds → HasNamesOnce (env levels cs ds)
 once_accepted levels cs ds a d d' h h' e = one_declaration a h h' e

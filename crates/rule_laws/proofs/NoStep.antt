@@ -3,16 +3,17 @@ use Rattle.std.proofs.Common.{◌≡◌, ℕ, zero, suc, ◌==◌, if◌then◌e
 use Rattle.std.proofs.lemmas.Bool.{eq-eqb}
 use Rattle.pc_terms.specs.declared.leaf.FamilyId.{FamilyId}
 use Rattle.pc_terms.specs.Syntax.{Term, Terms, Lambda, App, Construct, Fix, apply, head, args, term_at, substitute, put_all, Rel}
-use Rattle.pc_rules.specs.declared.declaration.Kept.TheVariants.{Constant}
+use Rattle.calculus_rules.specs.declared.declaration.Kept.TheVariants.{Constant}
 use Rattle.pc_rules.specs.declared.meter.Account.{Account}
-use Rattle.pc_rules.specs.Environment.{Env}
-use Rattle.pc_rules.specs.Context.{Values}
-use Rattle.pc_rules.specs.Instances.{unfolded}
-use Rattle.pc_rules.specs.Step.{IsConstructor, is_constructor, Root, beta, zeta, constant, variable, matched, fixpoint}
-use Rattle.pc_rules.specs.WeakHead.{WeakStep, at_root, in_function, in_scrutinee, in_argument, IsWeakNormal, IsWhnf}
+use Rattle.calculus_rules.specs.Environment.{Env}
+use Rattle.calculus_rules.specs.Context.{Values}
+use Rattle.calculus_rules.specs.Instances.{unfolded}
+use Rattle.calculus_rules.specs.Step.{IsConstructor, is_constructor, Root, beta, zeta, constant, variable, matched, fixpoint}
+use Rattle.calculus_rules.specs.WeakHead.{WeakStep, at_root, in_function, in_scrutinee, in_argument, IsWeakNormal, IsWhnf}
 use Rattle.pc_rules.specs.DirectedRun.{Run, End, Done, NoUnit, done, ticked}
-use Rattle.pc_rules.specs.DirectedWeakHead.{if_some, body_of, arguments_at, built_arguments, built, branch_of, case_step, unfold_at, recursive_step, fix_step, app_step, weak_next, after_step, stuck_step, steps, whnf}
-use Rattle.pc_rules.proofs.Spines.{head-apply, args-apply}
+use Rattle.calculus_rules.specs.Lookups.{if_some, body_of}
+use Rattle.pc_rules.specs.DirectedWeakHead.{arguments_at, built_arguments, built, branch_of, case_step, unfold_at, recursive_step, fix_step, app_step, weak_next, after_step, stuck_step, steps, whnf}
+use Rattle.calculus_rules.proofs.Spines.{head-apply, args-apply}
 use Rattle.pc_rules.proofs.FairReduction.{steps_lead, done_is}
 use Rattle.rule_laws.specs.Reduction.{HasNamesOnce}
 use Rattle.rule_laws.proofs.Names.{kept_once, family_once}

@@ -14,21 +14,22 @@ use Rattle.pc_terms.specs.declared.leaf.Name.{Name}
 use Rattle.pc_terms.specs.declared.leaf.FamilyId.{FamilyId}
 use Rattle.pc_terms.specs.Syntax.{Term, Rel, SortT, Prod, Lambda, LetIn, App, Const, Ind, Construct, put, substitute}
 use Rattle.pc_terms.specs.Formed.{HasForm, IsFormed}
-use Rattle.pc_rules.specs.declared.declaration.Constructor.{Constructor}
-use Rattle.pc_rules.specs.declared.declaration.Block.{Block}
-use Rattle.pc_rules.specs.declared.declaration.Kept.{Kept}
-use Rattle.pc_rules.specs.declared.declaration.Kept.TheVariants.{Constant, Heads, Block as Whole}
-use Rattle.pc_rules.specs.declared.entry.Entry.TheVariants.{Assumed, Defined}
+use Rattle.calculus_rules.specs.declared.declaration.Constructor.{Constructor}
+use Rattle.calculus_rules.specs.declared.declaration.Block.{Block}
+use Rattle.calculus_rules.specs.declared.declaration.Kept.{Kept}
+use Rattle.calculus_rules.specs.declared.declaration.Kept.TheVariants.{Constant, Heads, Block as Whole}
+use Rattle.calculus_rules.specs.declared.entry.Entry.TheVariants.{Assumed, Defined}
 use Rattle.pc_rules.specs.declared.meter.Account.{Account}
-use Rattle.pc_rules.specs.Environment.{Env, FamilyDecl, family_at, KeepsConstant, KnowsFamily, KeepsFamily, IsDeclared}
-use Rattle.pc_rules.specs.Context.{Context, values, type_at}
-use Rattle.pc_rules.specs.Instances.{family_type, constructor_type}
-use Rattle.pc_rules.specs.Conversion.{Equal, equal as of_equal}
-use Rattle.pc_rules.specs.Typing.{Mode, guarded, Types, rel, sort, prod, lambda, let_in, app, const, ind, construct, conv as convert}
-use Rattle.pc_rules.specs.Same.{same}
+use Rattle.calculus_rules.specs.Environment.{Env, FamilyDecl, family_at, KeepsConstant, KnowsFamily, KeepsFamily, IsDeclared}
+use Rattle.calculus_rules.specs.Context.{Context, values, type_at}
+use Rattle.calculus_rules.specs.Instances.{family_type, constructor_type}
+use Rattle.calculus_rules.specs.Conversion.{Equal, equal as of_equal}
+use Rattle.calculus_rules.specs.Typing.{Mode, guarded, Types, rel, sort, prod, lambda, let_in, app, const, ind, construct, conv as convert}
+use Rattle.calculus_rules.specs.Same.{same}
 use Rattle.pc_rules.specs.DirectedRun as run
 use Rattle.pc_rules.specs.DirectedRun.{Run, done, make, made, bind}
-use Rattle.pc_rules.specs.DirectedWeakHead.{if_some, kept_at, known_block, whole_block, family_of, whnf}
+use Rattle.calculus_rules.specs.Lookups.{if_some, kept_at, known_block, whole_block, family_of}
+use Rattle.pc_rules.specs.DirectedWeakHead.{whnf}
 use Rattle.pc_rules.specs.DirectedComparison.{Comparison}
 use Rattle.pc_rules.specs.DirectedTyping.{Typing, conv, sort_found, sort_of, check, retype, rel_rule, first_undeclared, undeclared_in, raises_past, levels_declared, sort_rule, prod_rule, lambda_rule, let_rule, app_found, app_rule, const_rule, family_number, find_family, ind_rule, constructor_number, construct_rule}
 use Rattle.pc_rules.specs.WellCounted.{IsCountedNode, IsCounted, HasCountedDeclarations, IsCountedContext}

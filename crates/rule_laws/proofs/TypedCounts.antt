@@ -3,8 +3,8 @@ use Rattle.std.proofs.Common.{◌≡◌, ℕ, zero, suc, ◌<◌, List, [], ◌�
 use Rattle.universe_levels.proofs.OverLemmas.{over-super_sort, over-product_sort}
 use Rattle.universe_levels.specs.Sorts.{super_sort, product_sort}
 use Rattle.pc_terms.specs.Syntax.{Ind, put}
-use Rattle.pc_rules.specs.declared.declaration.Kept.TheVariants.{Heads}
-use Rattle.pc_rules.specs.Environment.{head_of, heads_of}
+use Rattle.calculus_rules.specs.declared.declaration.Kept.TheVariants.{Heads}
+use Rattle.calculus_rules.specs.Environment.{head_of, heads_of}
 use Rattle.rule_laws.proofs.Counted.{put_counted, substituted_counted, function_counted, parts_counted, term_counted}
 use Rattle.rule_laws.proofs.KeepCounts.{known_counted, kept_counted}
 use Rattle.rule_laws.proofs.CountedParts.{prod_counted, sort_counted, family_type_counted, slice_counted, constructor_type_counted, predicate_at_counted, type_counted, context_extended}
@@ -15,15 +15,15 @@ use Rattle.universe_levels.specs.declared.sort.Sort.{Sort}
 use Rattle.pc_terms.specs.declared.leaf.FamilyId.{FamilyId}
 use Rattle.pc_terms.specs.Syntax.{Term, Terms, Done, Next, terms_of, term_at, number}
 use Rattle.pc_terms.specs.Formed.{binders_of, EachTerm, AreAll}
-use Rattle.pc_rules.specs.declared.declaration.Constructor.{Constructor}
-use Rattle.pc_rules.specs.declared.declaration.Family.{Family}
-use Rattle.pc_rules.specs.declared.declaration.Block.{Block}
-use Rattle.pc_rules.specs.declared.declaration.Kept.{Kept}
-use Rattle.pc_rules.specs.declared.declaration.Kept.TheVariants.{Constant, Block as Whole}
-use Rattle.pc_rules.specs.Environment.{Env}
-use Rattle.pc_rules.specs.Context.{Context}
-use Rattle.pc_rules.specs.Typing.{Mode, Types, rel, sort, prod, lambda, let_in, app, const, ind, construct, case, fix, conv, TypesAll, no_terms, term, Entries, no_entries, entry, Branches, no_branches, branch, Sorts, no_types, a_type, Bodies, no_bodies, a_body, EntrySorts, no_sorts, a_sort}
-use Rattle.pc_rules.specs.Accepted.{BodyFits, ConstructorFits, FamilyFits, Accepted, empty, constant, block, env, IsAccepted}
+use Rattle.calculus_rules.specs.declared.declaration.Constructor.{Constructor}
+use Rattle.calculus_rules.specs.declared.declaration.Family.{Family}
+use Rattle.calculus_rules.specs.declared.declaration.Block.{Block}
+use Rattle.calculus_rules.specs.declared.declaration.Kept.{Kept}
+use Rattle.calculus_rules.specs.declared.declaration.Kept.TheVariants.{Constant, Block as Whole}
+use Rattle.calculus_rules.specs.Environment.{Env}
+use Rattle.calculus_rules.specs.Context.{Context}
+use Rattle.calculus_rules.specs.Typing.{Mode, Types, rel, sort, prod, lambda, let_in, app, const, ind, construct, case, fix, conv, TypesAll, no_terms, term, Entries, no_entries, entry, Branches, no_branches, branch, Sorts, no_types, a_type, Bodies, no_bodies, a_body, EntrySorts, no_sorts, a_sort}
+use Rattle.calculus_rules.specs.Accepted.{BodyFits, ConstructorFits, FamilyFits, Accepted, empty, constant, block, env, IsAccepted}
 use Rattle.pc_rules.specs.DirectedDeclarations.{with_heads}
 use Rattle.pc_rules.specs.WellCounted.{AreSortsOver, IsCountedContext, IsCountedNode, arities, IsCounted, AreCounted, AreCountedConstructors, AreCountedFamilies, IsCountedBody, HasCountedDeclarations, IsCountedEnv}
 use Rattle.rule_laws.specs.Reduction.{HasNamesOnce}

@@ -2,11 +2,11 @@
 use Rattle.std.proofs.Common.{ℕ, zero, suc, ◌+◌, List, [], ◌∷◌}
 use Rattle.pc_terms.specs.declared.leaf.FamilyId.{FamilyId}
 use Rattle.pc_terms.specs.Syntax.{Slot, SortOf, ProdOf, LambdaOf, LetInOf, AppOf, ConstOf, IndOf, ConstructOf, CaseOf, Term, Terms, Children, Rel, Node, End, Child, Group, Done, Next, Lambda, Fix, terms_of, rename, rename_children, rename_terms, ups}
-use Rattle.pc_rules.specs.declared.declaration.Constructor.{Constructor}
-use Rattle.pc_rules.specs.Environment.{Env}
-use Rattle.pc_rules.specs.Context.{Context, Values}
+use Rattle.calculus_rules.specs.declared.declaration.Constructor.{Constructor}
+use Rattle.calculus_rules.specs.Environment.{Env}
+use Rattle.calculus_rules.specs.Context.{Context, Values}
 use Rattle.pc_rules.specs.FixConditions.{BeginsWith, HaveLambdas, HasLambdas, ChildrenHaveLambdas, AllHaveLambdas}
-use Rattle.pc_rules.specs.Typing.{Mode, Types, rel, sort, prod, lambda, let_in, app, const, ind, construct, case, fix, conv, Recurses, recurses_here, recurses_later, TypesAll, no_terms, term, Branches, no_branches, branch, Sorts, no_types, a_type, Bodies, no_bodies, a_body}
+use Rattle.calculus_rules.specs.Typing.{Mode, Types, rel, sort, prod, lambda, let_in, app, const, ind, construct, case, fix, conv, Recurses, recurses_here, recurses_later, TypesAll, no_terms, term, Branches, no_branches, branch, Sorts, no_types, a_type, Bodies, no_bodies, a_body}
 
 -- before a renaming
 
@@ -81,6 +81,6 @@ module _ (E : Env) where
     types_lambdas no_types = tt
     types_lambdas {n = n} (a_type {T = T} p ps) = (lambdas_before T (λ i. n + i) (typed_lambdas p), types_lambdas ps)
 
-    bodies_lambdas : {m : Mode} {c : Context} {n : ℕ} {rargs : List ℕ} {types bodies : Terms} → Bodies m E c n rargs types bodies → AllHaveLambdas bodies
+    pub bodies_lambdas : {m : Mode} {c : Context} {n : ℕ} {rargs : List ℕ} {types bodies : Terms} → Bodies m E c n rargs types bodies → AllHaveLambdas bodies
     bodies_lambdas no_bodies = tt
     bodies_lambdas (a_body r p ps) = (typed_lambdas p, bodies_lambdas ps)

@@ -2,10 +2,10 @@
 use Rattle.std.specs.Prelude.{◌≡◌, ℕ, Bool, true, false}
 use Rattle.pc_terms.specs.Syntax.{Term}
 use Rattle.pc_rules.specs.declared.meter.Account.{Account}
-use Rattle.pc_rules.specs.Environment.{Env}
-use Rattle.pc_rules.specs.Context.{Context, Values, values}
-use Rattle.pc_rules.specs.Conversion.{Equal, Below}
-use Rattle.pc_rules.specs.WeakHead.{WeakSteps}
+use Rattle.calculus_rules.specs.Environment.{Env}
+use Rattle.calculus_rules.specs.Context.{Context, Values, values}
+use Rattle.calculus_rules.specs.Conversion.{Equal, Below}
+use Rattle.calculus_rules.specs.WeakHead.{WeakSteps}
 use Rattle.pc_rules.specs.DirectedRun.{Done}
 use Rattle.pc_rules.specs.DirectedComparison.{Test, IsTest, compare}
 use Rattle.pc_rules.specs.WellCounted.{IsCounted, HasCountedDeclarations, AreCountedValues}

@@ -1,9 +1,9 @@
 -- What has a type is well counted, and so is what is accepted: the statements.
 use Rattle.pc_terms.specs.Syntax.{Term}
-use Rattle.pc_rules.specs.Environment.{Env}
-use Rattle.pc_rules.specs.Context.{Context}
-use Rattle.pc_rules.specs.Typing.{Mode, Types}
-use Rattle.pc_rules.specs.Accepted.{IsAccepted}
+use Rattle.calculus_rules.specs.Environment.{Env}
+use Rattle.calculus_rules.specs.Context.{Context}
+use Rattle.calculus_rules.specs.Typing.{Mode, Types}
+use Rattle.calculus_rules.specs.Accepted.{IsAccepted}
 use Rattle.pc_rules.specs.WellCounted.{IsCounted, HasCountedDeclarations, IsCountedContext, IsCountedEnv}
 use Rattle.rule_laws.specs.Reduction.{HasNamesOnce}
 

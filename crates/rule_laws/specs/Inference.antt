@@ -4,9 +4,9 @@ use Rattle.universe_levels.specs.declared.sort.Sort.{Sort}
 use Rattle.pc_terms.specs.Syntax.{Term, SortT}
 use Rattle.pc_terms.specs.Formed.{IsFormed}
 use Rattle.pc_rules.specs.declared.meter.Account.{Account}
-use Rattle.pc_rules.specs.Environment.{Env}
-use Rattle.pc_rules.specs.Context.{Context}
-use Rattle.pc_rules.specs.Typing.{Types, guarded}
+use Rattle.calculus_rules.specs.Environment.{Env}
+use Rattle.calculus_rules.specs.Context.{Context}
+use Rattle.calculus_rules.specs.Typing.{Types, guarded}
 use Rattle.pc_rules.specs.DirectedRun.{Done}
 use Rattle.pc_rules.specs.DirectedComparison.{Test, IsTest, compare}
 use Rattle.pc_rules.specs.DirectedTyping.{infer, sort_of, check}

@@ -1,8 +1,8 @@
 -- What has a type has, in each fixpoint inside it, as many lambdas as the recursive arguments ask for: the statement.
 use Rattle.pc_terms.specs.Syntax.{Term}
-use Rattle.pc_rules.specs.Environment.{Env}
-use Rattle.pc_rules.specs.Context.{Context}
-use Rattle.pc_rules.specs.Typing.{Mode, Types}
+use Rattle.calculus_rules.specs.Environment.{Env}
+use Rattle.calculus_rules.specs.Context.{Context}
+use Rattle.calculus_rules.specs.Typing.{Mode, Types}
 use Rattle.pc_rules.specs.FixConditions.{HasLambdas}
 
 abbrev pub TypedHasLambdas : Type 0

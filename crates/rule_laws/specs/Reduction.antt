@@ -1,13 +1,13 @@
 -- Laws of directed reduction, as statements.
 use Rattle.std.specs.Prelude.{◌≡◌, None}
 use Rattle.pc_terms.specs.Syntax.{Term}
-use Rattle.pc_rules.specs.declared.declaration.Block.{Block}
-use Rattle.pc_rules.specs.declared.declaration.Kept.{Kept}
+use Rattle.calculus_rules.specs.declared.declaration.Block.{Block}
+use Rattle.calculus_rules.specs.declared.declaration.Kept.{Kept}
 use Rattle.pc_rules.specs.declared.meter.Account.{Account}
-use Rattle.pc_rules.specs.Environment.{Env, Has, name_of}
-use Rattle.pc_rules.specs.Context.{Values}
-use Rattle.pc_rules.specs.WeakHead.{IsWeakNormal, IsWhnf}
-use Rattle.pc_rules.specs.Accepted.{IsAccepted, IsFresh}
+use Rattle.calculus_rules.specs.Environment.{Env, Has, name_of}
+use Rattle.calculus_rules.specs.Context.{Values}
+use Rattle.calculus_rules.specs.WeakHead.{IsWeakNormal, IsWhnf}
+use Rattle.calculus_rules.specs.Accepted.{IsAccepted, IsFresh}
 use Rattle.pc_rules.specs.DirectedRun.{Done}
 use Rattle.pc_rules.specs.DirectedWeakHead.{weak_next, whnf}
 use Rattle.pc_rules.specs.DirectedDeclarations.{with_heads}

@@ -1,6 +1,6 @@
 //! Contexts: `context` and `long context`.
+use calculus_rules::entry::Entry;
 use pc_rules::context::Ctx;
-use pc_rules::entry::Entry;
 use pc_rules::stop::Stop;
 use pc_terms::term::{MakeFault, Term};
 use row_files::{Case, Fault};

@@ -1,7 +1,7 @@
 //! The layer of comparison: `below` and `equal`, in a checked environment and the empty context, of terms that have types there.
 ghost use Rattle.std.specs.Prelude.{IfOk};
 ghost use Rattle.dump_reader.specs.Spelled.{IsSpelled};
-ghost use Rattle.pc_rules.specs.Accepted.{IsAccepted};
+ghost use Rattle.calculus_rules.specs.Accepted.{IsAccepted};
 ghost use Rattle.pc_rules.specs.WellCounted.{IsCounted, IsCountedEnv};
 
 use crate::products::{doubled, products};

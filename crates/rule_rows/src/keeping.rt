@@ -3,7 +3,7 @@ ghost use Rattle.std.specs.Prelude.{◌≡◌, IfOk};
 ghost use Rattle.pc_rules.specs.Lookup.{HasNoConstructors};
 
 use crate::unchecked::unchecked;
-use pc_rules::declaration::{Block, Constructors, Families, Family, Kept};
+use calculus_rules::declaration::{Block, Constructors, Families, Family, Kept};
 use pc_rules::environment::Env;
 use pc_terms::leaf::{FamilyId, Name};
 use pc_terms::lists::Telescope;

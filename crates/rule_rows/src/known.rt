@@ -1,6 +1,6 @@
 //! What rows name: families, constructors and matches, and whether an environment keeps them.
 ghost use Rattle.std.specs.Prelude.{IsSome, IfOk};
-ghost use Rattle.pc_rules.specs.DirectedWeakHead.{family_of};
+ghost use Rattle.calculus_rules.specs.Lookups.{family_of};
 ghost use Rattle.instances.specs.Known.{known_family, constructor_of};
 
 use pc_rules::environment::Env;

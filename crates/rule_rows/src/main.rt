@@ -5,7 +5,7 @@
 //!
 //! | Table | Calls |
 //! |---|---|
-//! | `rules` | `meter` (`units:`, `tick:`, `note:`, `uses:`, `enter:`, `leave:`), `context`, `long context` (`times:`), `keep`, `heads` (`number:`) |
+//! | `rules` | `meter` (`units:`, `tick:`, `note:`, `uses:`, `enter:`, `leave:`), `context`, `long context` (`times:`), `keep`, `heads` (`number:`), `positive` (`units:`; the last declaration is tested, over those before it) |
 //! | `forms` | `ind_type`, `pred_entries`, `construct_type`, `branch_entries` (`parameter:`), `branch_type` (`branch:`), `pred_at` (`index:`, `scrutinee:`), `fix_unfold` (`definition:`) |
 //! | `reductions` | `whnf`, `whnf nested` (`times:`), with `units:` |
 //! | `evaluations` | `eval` (`units:`), `data` (`value:`, `type:`), `data doubled` (`doublings:`) |
@@ -19,6 +19,7 @@ mod forms;
 mod keeping;
 mod known;
 mod metering;
+mod positivity;
 mod products;
 mod reductions;
 mod unchecked;
@@ -44,6 +45,7 @@ fn run_opened(case: &Case, opened: &Opened, out: &mut String) -> Result<(), Faul
         "long context" => contexts::run_long_context(case, opened, out),
         "keep" => keeping::run_keep(case, opened, out),
         "heads" => keeping::run_heads(case, opened, out),
+        "positive" => positivity::run_positive(case, opened, out),
         _ => Err(Fault::Faulty("no such call")),
     }
 }

@@ -1,6 +1,6 @@
 //! Products that stand in one another.
 ghost use Rattle.std.specs.Prelude.{IfOk};
-ghost use Rattle.pc_rules.specs.Environment.{Env};
+ghost use Rattle.calculus_rules.specs.Environment.{Env};
 ghost use Rattle.pc_rules.specs.WellCounted.{IsCounted};
 
 use pc_terms::term::{MakeFault, Node, Term};

@@ -3,8 +3,10 @@
 ghost use Rattle.std.specs.Prelude.{IfOk};
 ghost use Rattle.pc_rules.specs.Lookup.{AreHeads};
 
+use calculus_rules::declaration::{
+    Block, Constructor, Constructors, Families, Family, Kept, Sorts,
+};
 use dump_reader::declaration::{RawCtor, RawDecl, RawFamily};
-use pc_rules::declaration::{Block, Constructor, Constructors, Families, Family, Kept, Sorts};
 use pc_rules::environment::Env;
 use pc_rules::stop::Stop;
 use pc_terms::lists::Telescope;
@@ -146,13 +148,18 @@ fn keep(env: &mut Env, kept: Kept) -> Result<(), Fault>
     done(env.keep(kept))
 }
 
-/// The environment that keeps the row's declarations.
-pub fn unchecked(alloc: Global, opened: &Opened) -> Result<Env, Fault> {
+/// The environment that keeps the first of the row's declarations, as many as `count`.
+pub fn first_kept(alloc: Global, opened: &Opened, count: usize) -> Result<Env, Fault> {
     let mut env = empty(alloc, opened)?;
     for (place, decl) in opened.raw.decls.as_slice().iter().enumerate() {
-        if place < opened.declared {
+        if place < count {
             keep(&mut env, done(kept(alloc, decl))?)?;
         }
     }
     Ok(env)
+}
+
+/// The environment that keeps the row's declarations.
+pub fn unchecked(alloc: Global, opened: &Opened) -> Result<Env, Fault> {
+    first_kept(alloc, opened, opened.declared)
 }

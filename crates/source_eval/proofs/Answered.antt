@@ -2,9 +2,9 @@
 use Rattle.std.proofs.Common.{◌≡◌, ℕ, zero, suc, ◌+◌, ◌-◌, ◌<◌, ◌≤◌, ◌⊎◌, inl, inr, Bool, true, false, IsTrue, Result, Ok, Err, sym, ap, ◌∙◌, arith}
 use Rattle.pc_terms.specs.Syntax.{Term}
 use Rattle.pc_rules.specs.declared.meter.Account.{Account}
-use Rattle.pc_rules.specs.Environment.{Env}
-use Rattle.pc_rules.specs.Accepted.{IsAccepted}
-use Rattle.pc_rules.specs.Evaluation.{Evaluates}
+use Rattle.calculus_rules.specs.Environment.{Env}
+use Rattle.calculus_rules.specs.Accepted.{IsAccepted}
+use Rattle.calculus_rules.specs.Evaluation.{Evaluates}
 use Rattle.pc_rules.specs.Follows.{Answers}
 use Rattle.pc_rules.specs.DirectedRun.{End, Done, NoUnit}
 use Rattle.pc_rules.specs.DirectedEvaluation.{Evaluated, Value, Stuck, evaluation}

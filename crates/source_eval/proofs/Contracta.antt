@@ -4,16 +4,17 @@ use Rattle.std.proofs.lemmas.Bool.{eq-eqb, lt-ltb, le-ltb}
 use Rattle.pc_terms.specs.declared.leaf.Name.{Name}
 use Rattle.pc_terms.specs.declared.leaf.FamilyId.{FamilyId}
 use Rattle.pc_terms.specs.Syntax.{Term, Terms, Rel, App, Ind, Construct, Fix, put_all, substitute, apply, head, args, term_at}
-use Rattle.pc_rules.specs.declared.declaration.Constructor.{Constructor}
-use Rattle.pc_rules.specs.Environment.{Env, FamilyDecl, KeepsConstant}
-use Rattle.pc_rules.specs.Accepted.{IsAccepted}
-use Rattle.pc_rules.specs.Instances.{unfolded}
-use Rattle.pc_rules.specs.Step.{IsConstructor, is_constructor}
-use Rattle.pc_rules.specs.Evaluation.{TakesMore, family, constructor, fixpoint, Unfolds, unfolds}
-use Rattle.pc_rules.specs.DirectedWeakHead.{if_some, kept_at, body_of, arguments_at, built_arguments, built, branch_of, unfold_at}
+use Rattle.calculus_rules.specs.declared.declaration.Constructor.{Constructor}
+use Rattle.calculus_rules.specs.Environment.{Env, FamilyDecl, KeepsConstant}
+use Rattle.calculus_rules.specs.Accepted.{IsAccepted}
+use Rattle.calculus_rules.specs.Instances.{unfolded}
+use Rattle.calculus_rules.specs.Step.{IsConstructor, is_constructor}
+use Rattle.calculus_rules.specs.Evaluation.{TakesMore, family, constructor, fixpoint, Unfolds, unfolds}
+use Rattle.calculus_rules.specs.Lookups.{if_some, kept_at, body_of}
+use Rattle.pc_rules.specs.DirectedWeakHead.{arguments_at, built_arguments, built, branch_of, unfold_at}
 use Rattle.pc_rules.specs.DirectedEvaluation.{is_missing, lacks_arguments, is_below, takes_more, unfolding_at}
 use Rattle.pc_rules.proofs.EvaluationReached.{kept_there, family_there}
-use Rattle.pc_rules.proofs.Spines.{head-apply, args-apply, drop_past}
+use Rattle.calculus_rules.proofs.Spines.{head-apply, args-apply, drop_past}
 use Rattle.pc_rules.proofs.SameTrees.{one_family}
 
 pub body_there : (E : Env) → IsAccepted E → (k : Name) (T b : Term) → KeepsConstant E k T (Some b) → body_of (kept_at E.declarations k) ≡ Some b

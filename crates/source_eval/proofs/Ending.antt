@@ -6,8 +6,8 @@ use Rattle.pc_terms.specs.declared.term.MakeFault.{MakeFault}
 use Rattle.pc_terms.specs.declared.term.MakeFault.TheVariants.{TooDeep as DeepTerm, Memory as NoTerm}
 use Rattle.pc_rules.specs.declared.meter.Account.{Account}
 use Rattle.pc_rules.specs.declared.meter.Meter.{Meter}
-use Rattle.pc_rules.specs.Environment.{Env}
-use Rattle.pc_rules.specs.Evaluation.{Evaluates}
+use Rattle.calculus_rules.specs.Environment.{Env}
+use Rattle.calculus_rules.specs.Evaluation.{Evaluates}
 use Rattle.pc_rules.specs.Follows.{Follows, IsAfter}
 use Rattle.pc_rules.specs.Leads.{Leads}
 use Rattle.pc_rules.specs.DirectedRun.{Run, End, Done, NoUnit, done, no_unit, ticked, ticking, end_then, bind}

@@ -4,14 +4,15 @@ use Rattle.std.proofs.lemmas.Bool.{le-ltb}
 use Rattle.trees.specs.Measures.{depth, above, IsWithin}
 use Rattle.pc_terms.specs.Syntax.{Term, Rel, Lambda, App, put, put_all, substitute, head, args}
 use Rattle.pc_rules.specs.declared.meter.Account.{Account}
-use Rattle.pc_rules.specs.Environment.{Env}
-use Rattle.pc_rules.specs.Accepted.{IsAccepted}
-use Rattle.pc_rules.specs.Evaluation.{IsValue, sort_is, prod_is, lambda_is, ind_is, construct_is, fix_is, TakesMore, Unfolds, Evaluates, value, constant, let_in, beta, extend, unfold_fix, enter}
+use Rattle.calculus_rules.specs.Environment.{Env}
+use Rattle.calculus_rules.specs.Accepted.{IsAccepted}
+use Rattle.calculus_rules.specs.Evaluation.{IsValue, sort_is, prod_is, lambda_is, ind_is, construct_is, fix_is, TakesMore, Unfolds, Evaluates, value, constant, let_in, beta, extend, unfold_fix, enter}
 use Rattle.pc_rules.specs.DirectedRun.{Run, done, made, make, bind, is_beyond, ticked}
-use Rattle.pc_rules.specs.DirectedWeakHead.{kept_at, body_of, built, branch_of}
+use Rattle.calculus_rules.specs.Lookups.{kept_at, body_of}
+use Rattle.pc_rules.specs.DirectedWeakHead.{built, branch_of}
 use Rattle.pc_rules.specs.DirectedEvaluation.{Evaluated, Value, on_value, with_value, contracted, contracts, unfolding_at, extended, applied, node, evaluation}
 use Rattle.pc_rules.specs.DirectedLaws.{more}
-use Rattle.pc_rules.proofs.Determined.{not_more, not_unfolds}
+use Rattle.calculus_rules.proofs.Determined.{not_more, not_unfolds}
 use Rattle.pc_rules.proofs.EvaluationNext.{evaluation_next}
 use Rattle.pc_rules.proofs.EvaluationRuns.{more_none, more_more}
 use Rattle.pc_rules.proofs.Following.{bind_done, ticking-more}

@@ -2,8 +2,8 @@
 use Rattle.std.specs.Prelude.{ℕ}
 use Rattle.trees.specs.Measures.{IsWithin}
 use Rattle.pc_terms.specs.Syntax.{Term, Rel, put, put_all, substitute}
-use Rattle.pc_rules.specs.Environment.{Env}
-use Rattle.pc_rules.specs.Evaluation.{Evaluates, value, constant, let_in, beta, extend, unfold_fix, enter}
+use Rattle.calculus_rules.specs.Environment.{Env}
+use Rattle.calculus_rules.specs.Evaluation.{Evaluates, value, constant, let_in, beta, extend, unfold_fix, enter}
 
 -- at each node, by recursion on the evaluation: its contractum, or the value that is extended by one more argument. Other terms of an
 -- evaluation are parts of these or of the term that it starts from

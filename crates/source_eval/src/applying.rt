@@ -4,7 +4,7 @@ ghost use Rattle.trees.specs.Measures.{IsBeyond};
 ghost use Rattle.pc_terms.specs.declared.term.MakeFault.TheVariants.{TooDeep};
 ghost use Rattle.pc_terms.specs.Syntax.{App};
 ghost use Rattle.pc_terms.specs.Lists.{rargs_of};
-ghost use Rattle.pc_rules.specs.DirectedWeakHead.{family_of};
+ghost use Rattle.calculus_rules.specs.Lookups.{family_of};
 ghost use Rattle.pc_rules.specs.DirectedEvaluation.{lacks_arguments, is_below, takes_more, unfolding_at, applied, evaluation};
 ghost use Rattle.redexes.specs.Redexes.{contractum};
 ghost use Rattle.source_eval.specs.Waiting.{Comes, Passes, applied_other};

@@ -2,13 +2,13 @@
 ghost use Rattle.std.specs.Prelude.{◌≡◌, IfOk, IfErr, MatchOption, Some, None};
 ghost use Rattle.pc_terms.specs.declared.term.MakeFault.TheVariants.{Memory};
 ghost use Rattle.pc_terms.specs.Syntax.{Const};
-ghost use Rattle.pc_rules.specs.DirectedWeakHead.{kept_at, body_of};
+ghost use Rattle.calculus_rules.specs.Lookups.{kept_at, body_of};
 ghost use Rattle.pc_rules.specs.DirectedEvaluation.{node, evaluation};
 ghost use Rattle.source_eval.specs.Waiting.{Comes};
 
 use crate::found::Found;
 use crate::frames::Frame;
-use pc_rules::declaration::Kept;
+use calculus_rules::declaration::Kept;
 use pc_rules::environment::Env;
 use pc_terms::leaf::Name;
 use pc_terms::term::{MakeFault, Node, Term};

@@ -1,6 +1,6 @@
 //! Evaluation to a value.
 ghost use Rattle.std.specs.Prelude.{◌≡◌, ℕ, IfOk};
-ghost use Rattle.pc_rules.specs.Evaluation.{Evaluates};
+ghost use Rattle.calculus_rules.specs.Evaluation.{Evaluates};
 ghost use Rattle.pc_rules.specs.DirectedEvaluation.{evaluation};
 ghost use Rattle.pc_rules.specs.DirectedLaws.{more};
 ghost use Rattle.pc_rules.specs.Follows.{Follows};

@@ -1,7 +1,7 @@
 -- The limits of the passes by the sizes of programs: captured words are at most the binders outside a lambda, functions fewer than nodes, and bytes bounded by nodes and words.
 use Rattle.std.specs.Prelude.{ℕ, suc, ◌+◌, ◌<◌, ◌≤◌, length}
 use Rattle.pc_terms.specs.Syntax.{Term}
-use Rattle.pc_rules.specs.Environment.{Env}
+use Rattle.calculus_rules.specs.Environment.{Env}
 use Rattle.dump_reader.specs.declared.environment.RawEnv.{RawEnv}
 use Rattle.lambda_box.specs.BoxProgram.{BoxProgram}
 use Rattle.lambda_box.specs.BoxForm.{IsBoxProgram}

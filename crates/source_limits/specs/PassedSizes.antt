@@ -1,7 +1,7 @@
 -- Sizes of a program after saturation by which no pass refuses it, and what the refusal of a pass says of them.
 use Rattle.std.specs.Prelude.{ℕ, ◌+◌, ◌*◌, ◌<◌, ◌≤◌, length}
 use Rattle.pc_terms.specs.Syntax.{Term}
-use Rattle.pc_rules.specs.Environment.{Env}
+use Rattle.calculus_rules.specs.Environment.{Env}
 use Rattle.lambda_box.specs.BoxProgram.{BoxProgram}
 use Rattle.lambda_box.specs.DataTerms.{greatest_words}
 use Rattle.lambda_box.specs.SaturatedForm.{program_nodes}

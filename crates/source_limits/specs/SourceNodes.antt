@@ -2,9 +2,9 @@
 use Rattle.std.specs.Prelude.{ℕ, ◌+◌, ◌*◌, max, List, [], ◌∷◌, length}
 use Rattle.trees.specs.Measures.{nodes}
 use Rattle.pc_terms.specs.Syntax.{Term}
-use Rattle.pc_rules.specs.declared.declaration.Kept.{Kept}
-use Rattle.pc_rules.specs.declared.declaration.Kept.TheVariants.{Block as Whole}
-use Rattle.pc_rules.specs.Environment.{Env}
+use Rattle.calculus_rules.specs.declared.declaration.Kept.{Kept}
+use Rattle.calculus_rules.specs.declared.declaration.Kept.TheVariants.{Block as Whole}
+use Rattle.calculus_rules.specs.Environment.{Env}
 use Rattle.erase_rules.specs.ProgramNodes.{body_nodes}
 use Rattle.headline.specs.SourceWords.{most_in_families}
 

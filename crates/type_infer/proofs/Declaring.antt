@@ -6,18 +6,18 @@ use Rattle.pc_terms.specs.declared.term.MakeFault.TheVariants.{TooDeep as DeepTe
 use Rattle.pc_terms.specs.Syntax.{Term}
 use Rattle.pc_rules.specs.declared.broken.Broken.{Broken}
 use Rattle.pc_rules.specs.declared.broken.Broken.TheVariants.{UnknownName, BadNumber}
-use Rattle.pc_rules.specs.declared.declaration.Constructor.{Constructor}
-use Rattle.pc_rules.specs.declared.declaration.Block.{Block}
+use Rattle.calculus_rules.specs.declared.declaration.Constructor.{Constructor}
+use Rattle.calculus_rules.specs.declared.declaration.Block.{Block}
 use Rattle.pc_rules.specs.declared.meter.Account.{Account}
 use Rattle.pc_rules.specs.declared.stop.Stop.TheVariants.{Memory}
 use Rattle.pc_rules.specs.declared.stop.Halt.{Halt}
 use Rattle.pc_rules.specs.declared.stop.Halt.TheVariants.{Stop, Broken as Refusal}
-use Rattle.pc_rules.specs.Environment.{Env, FamilyDecl, family_at}
-use Rattle.pc_rules.specs.Instances.{family_type, constructor_type}
+use Rattle.calculus_rules.specs.Environment.{Env, FamilyDecl, family_at}
+use Rattle.calculus_rules.specs.Instances.{family_type, constructor_type}
 use Rattle.pc_rules.specs.Stops.{stop_of}
 use Rattle.pc_rules.specs.Follows.{Answers, Halts}
 use Rattle.pc_rules.specs.DirectedRun.{Run, Refused, is_beyond}
-use Rattle.pc_rules.specs.DirectedWeakHead.{kept_at, known_block, whole_block}
+use Rattle.calculus_rules.specs.Lookups.{kept_at, known_block, whole_block}
 use Rattle.pc_rules.specs.DirectedTyping.{family_number, ind_rule, construct_rule}
 use Rattle.type_infer.proofs.Finding.{bind_refused, halts_first, answers_made, beyond_fault}
 use Rattle.pc_rules.proofs.Following.{bind_done}

@@ -17,18 +17,18 @@ use Rattle.pc_terms.specs.declared.term.MakeFault.{MakeFault}
 use Rattle.pc_terms.specs.declared.term.MakeFault.TheVariants.{TooDeep as DeepTerm}
 use Rattle.pc_terms.specs.Syntax.{Term, SortT, shift}
 use Rattle.pc_rules.specs.declared.broken.Broken.TheVariants.{UnboundRel, LevelUndeclared}
-use Rattle.pc_rules.specs.declared.entry.Entry.{Entry}
+use Rattle.calculus_rules.specs.declared.entry.Entry.{Entry}
 use Rattle.pc_rules.specs.declared.meter.Account.{Account}
 use Rattle.pc_rules.specs.declared.stop.Halt.TheVariants.{Stop, Broken as Refusal}
-use Rattle.pc_rules.specs.Environment.{Env}
-use Rattle.pc_rules.specs.Context.{Context, type_of, lifted, type_at}
+use Rattle.calculus_rules.specs.Environment.{Env}
+use Rattle.calculus_rules.specs.Context.{Context, type_of, lifted, type_at}
 use Rattle.pc_rules.specs.Stops.{stop_of, universe_stop}
 use Rattle.pc_rules.specs.Follows.{Answers}
 use Rattle.pc_rules.specs.DirectedRun.{made}
 use Rattle.pc_rules.specs.DirectedTyping.{first_undeclared, undeclared_in, passes_limit, raises_past, sort_rule, rel_rule}
 use Rattle.pc_rules.proofs.Following.{or_left, or_right, answers_fault, bind_done}
 use Rattle.type_infer.proofs.Finding.{bind_refused, answers_made}
-use Rattle.pc_rules.proofs.Shifts.{once, once_more}
+use Rattle.calculus_rules.proofs.Shifts.{once, once_more}
 use Rattle.pc_rules.proofs.SameTrees.{false_true}
 
 abbrev shifted : ℕ → Option Entry → Option Term

@@ -13,9 +13,9 @@ use Rattle.pc_rules.specs.declared.stop.Stop.TheVariants.{Spent, TooDeep, Memory
 use Rattle.pc_rules.specs.declared.stop.Halt.{Halt}
 use Rattle.pc_rules.specs.declared.stop.Halt.TheVariants.{Stop, Broken as Refusal}
 use Rattle.pc_rules.specs.Stops.{stop_of}
-use Rattle.pc_rules.specs.Environment.{Env}
-use Rattle.pc_rules.specs.Context.{Context}
-use Rattle.pc_rules.specs.Same.{same}
+use Rattle.calculus_rules.specs.Environment.{Env}
+use Rattle.calculus_rules.specs.Context.{Context}
+use Rattle.calculus_rules.specs.Same.{same}
 use Rattle.pc_rules.specs.Follows.{Follows, Answers, Halts}
 use Rattle.pc_rules.specs.DirectedRun.{Run, Done, is_beyond, bind, end_then, done, refused, make}
 use Rattle.pc_rules.specs.DirectedComparison.{Comparison}

@@ -12,20 +12,21 @@ use Rattle.pc_terms.specs.declared.term.Def.{Def}
 use Rattle.pc_terms.specs.declared.term.MakeFault.{MakeFault}
 use Rattle.pc_terms.specs.declared.term.MakeFault.TheVariants.{TooDeep as DeepTerm}
 use Rattle.pc_rules.specs.declared.broken.Broken.TheVariants.{BadNumber, NotEnoughAbstractions, RecArgNotInductive}
-use Rattle.pc_rules.specs.declared.entry.Entry.TheVariants.{Assumed}
+use Rattle.calculus_rules.specs.declared.entry.Entry.TheVariants.{Assumed}
 use Rattle.pc_rules.specs.declared.meter.Account.{Account}
 use Rattle.pc_rules.specs.declared.meter.Meter.{Meter}
 use Rattle.pc_rules.specs.declared.stop.Stop.TheVariants.{Memory}
 use Rattle.pc_rules.specs.declared.stop.Halt.{Halt}
 use Rattle.pc_rules.specs.declared.stop.Halt.TheVariants.{Stop, Broken as Refusal}
-use Rattle.pc_rules.specs.Environment.{Env}
-use Rattle.pc_rules.specs.Context.{Context, values}
-use Rattle.pc_rules.specs.Instances.{definitions}
+use Rattle.calculus_rules.specs.Environment.{Env}
+use Rattle.calculus_rules.specs.Context.{Context, values}
+use Rattle.calculus_rules.specs.Instances.{definitions}
 use Rattle.pc_rules.specs.Stops.{stop_of}
 use Rattle.pc_rules.specs.Follows.{Follows, Answers}
 use Rattle.pc_rules.specs.DirectedRun.{Run, make, bind}
 use Rattle.pc_rules.specs.DirectedWeakHead.{whnf}
-use Rattle.pc_rules.specs.DirectedComparison.{Comparison, list_of}
+use Rattle.calculus_rules.specs.Listed.{list_of}
+use Rattle.pc_rules.specs.DirectedComparison.{Comparison}
 use Rattle.pc_rules.specs.DirectedTyping.{Typing, sort_of, check, types_rule, recursive_domain, is_a_family, family_found, definition_rule, definitions_rule, definition_type}
 use Rattle.pc_rules.proofs.Following.{follows_bind, follows_err, follows_made, follows_fault, follows_done, follows_refused, follows_then, follows_else}
 use Rattle.type_infer.proofs.Declaring.{halts_either}

@@ -4,15 +4,15 @@ use Rattle.pc_terms.specs.declared.leaf.FamilyId.{FamilyId}
 use Rattle.pc_terms.specs.Formed.{binders_of, AreAll, IsFormed}
 use Rattle.pc_terms.specs.Syntax.{Term, Terms, Done, Next, Lambda, Ind, Fix, apply, head, args, number, term_at, shift}
 use Rattle.pc_rules.specs.declared.broken.Broken.TheVariants.{RecArgNotInductive}
-use Rattle.pc_rules.specs.declared.entry.Entry.TheVariants.{Assumed}
+use Rattle.calculus_rules.specs.declared.entry.Entry.TheVariants.{Assumed}
 use Rattle.pc_rules.specs.declared.meter.Account.{Account}
 use Rattle.pc_rules.specs.declared.meter.Meter.{Meter}
-use Rattle.pc_rules.specs.Environment.{Env}
-use Rattle.pc_rules.specs.Context.{Context, Values, values, under}
-use Rattle.pc_rules.specs.Instances.{definitions}
-use Rattle.pc_rules.specs.Step.{Root, beta, zeta, constant, variable, matched, fixpoint}
-use Rattle.pc_rules.specs.WeakHead.{WeakStep, at_root, in_function, in_scrutinee, in_argument, IsWhnf}
-use Rattle.pc_rules.specs.Typing.{Types, bare, fix}
+use Rattle.calculus_rules.specs.Environment.{Env}
+use Rattle.calculus_rules.specs.Context.{Context, Values, values, under}
+use Rattle.calculus_rules.specs.Instances.{definitions}
+use Rattle.calculus_rules.specs.Step.{Root, beta, zeta, constant, variable, matched, fixpoint}
+use Rattle.calculus_rules.specs.WeakHead.{WeakStep, at_root, in_function, in_scrutinee, in_argument, IsWhnf}
+use Rattle.calculus_rules.specs.Typing.{Types, bare, fix}
 use Rattle.pc_rules.specs.FixConditions.{HasLambdas, DomainIsFamily, DomainsAreFamilies, RecursesOnFamilies}
 use Rattle.pc_rules.specs.WellCounted.{IsCounted}
 use Rattle.pc_rules.specs.Entailment.{test_of}
@@ -20,12 +20,14 @@ use Rattle.pc_rules.specs.Follows.{Follows}
 use Rattle.pc_rules.specs.DirectedRun as run
 use Rattle.pc_rules.specs.DirectedRun.{Run, done, make, bind}
 use Rattle.pc_rules.specs.DirectedWeakHead.{whnf}
-use Rattle.pc_rules.specs.DirectedComparison.{Comparison, compare, list_of}
+use Rattle.calculus_rules.specs.Listed.{list_of}
+use Rattle.pc_rules.specs.DirectedComparison.{Comparison, compare}
 use Rattle.pc_rules.specs.DirectedTyping.{Typing, infer, check, types_rule, recursive_domain, enough_abstractions, is_a_family, family_found, definition_rule, definitions_rule}
-use Rattle.pc_rules.proofs.Bare.{bare_sorts, bare_bodies}
+use Rattle.calculus_rules.proofs.Bare.{bare_sorts, bare_bodies}
 use Rattle.pc_rules.proofs.FairReduction.{steps_lead}
-use Rattle.pc_rules.proofs.Spines.{head-apply, one_item}
-use Rattle.pc_rules.proofs.WeakNext.{spine_is, none_some}
+use Rattle.calculus_rules.proofs.Spines.{head-apply, one_item}
+use Rattle.pc_rules.proofs.WeakNext.{none_some}
+use Rattle.calculus_rules.proofs.Spines.{spine_is}
 use Rattle.rule_laws.proofs.Runs.{bind_both, make_then, tested}
 use Rattle.rule_laws.proofs.Comparing.{names_long, compare_sound}
 use Rattle.rule_laws.proofs.KeepCounts.{assumed_under}

@@ -10,10 +10,10 @@ use Rattle.pc_terms.specs.Syntax.{Term, App, apply}
 use Rattle.pc_terms.specs.Lists.{arms_of}
 use Rattle.pc_terms.specs.declared.term.Branch.{Branch}
 use Rattle.pc_terms.proofs.Applied.{beyond-apply}
-use Rattle.pc_rules.specs.declared.declaration.Constructor.{Constructor}
+use Rattle.calculus_rules.specs.declared.declaration.Constructor.{Constructor}
 use Rattle.pc_rules.specs.declared.meter.Account.{Account}
 use Rattle.pc_rules.specs.declared.stop.Halt.{Halt}
-use Rattle.pc_rules.specs.Environment.{FamilyDecl}
+use Rattle.calculus_rules.specs.Environment.{FamilyDecl}
 use Rattle.pc_rules.specs.DirectedRun as run
 use Rattle.pc_rules.specs.DirectedTyping.{counted, names_counted, match_counted, all_prop}
 use Rattle.pc_rules.specs.Follows.{Answers, Halts}

@@ -11,23 +11,24 @@ use Rattle.pc_terms.specs.declared.term.MakeFault.{MakeFault}
 use Rattle.pc_terms.specs.declared.term.MakeFault.TheVariants.{TooDeep as DeepTerm, Memory as NoTerm}
 use Rattle.pc_terms.specs.Lists.{arms_of}
 use Rattle.pc_terms.specs.Syntax.{Term, Rel, Ind, apply, args, first, put_all, substitute, subst_list}
-use Rattle.pc_rules.specs.declared.declaration.Constructor.{Constructor}
-use Rattle.pc_rules.specs.declared.declaration.Block.{Block}
-use Rattle.pc_rules.specs.declared.entry.Entry.TheVariants.{Assumed}
+use Rattle.calculus_rules.specs.declared.declaration.Constructor.{Constructor}
+use Rattle.calculus_rules.specs.declared.declaration.Block.{Block}
+use Rattle.calculus_rules.specs.declared.entry.Entry.TheVariants.{Assumed}
 use Rattle.pc_rules.specs.declared.meter.Account.{Account}
 use Rattle.pc_rules.specs.declared.meter.Meter.{Meter}
 use Rattle.pc_rules.specs.declared.stop.Stop.TheVariants.{TooDeep}
 use Rattle.pc_rules.specs.declared.stop.Halt.{Halt}
 use Rattle.pc_rules.specs.declared.stop.Halt.TheVariants.{Stop}
 use Rattle.pc_rules.specs.Stops.{stop_of}
-use Rattle.pc_rules.specs.Environment.{Env, FamilyDecl}
-use Rattle.pc_rules.specs.Context.{Context, values, extend}
-use Rattle.pc_rules.specs.Instances.{predicate_at}
+use Rattle.calculus_rules.specs.Environment.{Env, FamilyDecl}
+use Rattle.calculus_rules.specs.Context.{Context, values, extend}
+use Rattle.calculus_rules.specs.Instances.{predicate_at}
 use Rattle.pc_rules.specs.DirectedRun.{Run, End, Done, Refused, NoUnit, Nested, Act, done, make, passing, is_beyond, deep_then, bind}
-use Rattle.pc_rules.specs.DirectedComparison.{Comparison, list_of}
-use Rattle.pc_rules.specs.DirectedWeakHead.{kept_at, whole_block}
+use Rattle.calculus_rules.specs.Listed.{list_of}
+use Rattle.pc_rules.specs.DirectedComparison.{Comparison}
+use Rattle.calculus_rules.specs.Lookups.{kept_at, whole_block}
 use Rattle.pc_rules.specs.DirectedTyping.{Typing, sort_of, check, sorts_of, check_all, find_family, match_counted, predicate_rule, scrutinee_rule, branch_rule, branches_rule, case_rule}
-use Rattle.pc_rules.specs.WeakHead.{WeakSteps}
+use Rattle.calculus_rules.specs.WeakHead.{WeakSteps}
 use Rattle.pc_rules.specs.Follows.{Follows, Answers, Halts}
 use Rattle.pc_rules.specs.WellCounted.{IsCounted, AreCounted}
 use Rattle.pc_rules.proofs.Following.{follows_bind, follows_err, follows_done, follows_memory, follows_deep, follows_passing, follows_still, follows_fault, bind_done}
@@ -38,7 +39,8 @@ use Rattle.rule_laws.proofs.KeepCounts.{values_counted, steps_counted}
 use Rattle.type_infer.specs.Ready.{IsReady}
 use Rattle.type_infer.proofs.Steps.{and_then, halts, still}
 use Rattle.type_infer.specs.Entering.{entries_entered}
-use Rattle.pc_rules.proofs.ListSteps.{next_is, none_left, min_either, listed}
+use Rattle.pc_rules.proofs.ListSteps.{next_is, none_left, min_either}
+use Rattle.calculus_rules.proofs.Listing.{listed}
 use Rattle.rule_laws.proofs.MatchRule.{dropped_counted}
 
 -- runs, one after the other

@@ -2,8 +2,8 @@
 use Rattle.std.specs.Prelude.{Result, Ok, Err}
 use Rattle.universe_levels.specs.Consistency.{IsConsistent}
 use Rattle.pc_rules.specs.declared.stop.Halt.{Halt}
-use Rattle.pc_rules.specs.Environment.{Env}
-use Rattle.pc_rules.specs.Context.{Context}
+use Rattle.calculus_rules.specs.Environment.{Env}
+use Rattle.calculus_rules.specs.Context.{Context}
 use Rattle.pc_rules.specs.WellCounted.{IsCountedContext, IsCountedEnv}
 
 pub record IsReady (E : Env) (c : Context) : Type 0 where

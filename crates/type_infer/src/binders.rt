@@ -7,9 +7,9 @@ ghost use Rattle.pc_rules.specs.DirectedTyping.{infer, prod_rule, lambda_rule, l
 ghost use Rattle.type_infer.specs.Ready.{IsReady};
 
 use crate::inference::Inference;
+use calculus_rules::entry::Entry;
 use pc_rules::context::Ctx;
 use pc_rules::converter::Converter;
-use pc_rules::entry::Entry;
 use pc_rules::environment::Env;
 use pc_rules::guarder::Guarder;
 use pc_rules::meter::Meter;

@@ -3,15 +3,16 @@ ghost use Rattle.std.specs.Prelude.{◌≡◌, ◌+◌};
 ghost use Rattle.pc_terms.specs.Lists.{arms_of};
 ghost use Rattle.pc_rules.specs.Entailment.{test_of};
 ghost use Rattle.pc_rules.specs.Follows.{Follows};
-ghost use Rattle.pc_rules.specs.DirectedComparison.{compare, list_of};
+ghost use Rattle.calculus_rules.specs.Listed.{list_of};
+ghost use Rattle.pc_rules.specs.DirectedComparison.{compare};
 ghost use Rattle.pc_rules.specs.DirectedTyping.{infer, branch_rule, branches_rule};
 ghost use Rattle.type_infer.specs.Ready.{IsReady};
 
 use crate::inference::Inference;
+use calculus_rules::declaration::{Constructor, Constructors};
 use instances::instances::branches::{branch_entries, branch_type};
 use pc_rules::context::Ctx;
 use pc_rules::converter::Converter;
-use pc_rules::declaration::{Constructor, Constructors};
 use pc_rules::environment::Env;
 use pc_rules::guarder::Guarder;
 use pc_rules::meter::Meter;

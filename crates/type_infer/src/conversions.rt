@@ -1,6 +1,6 @@
 //! Conversion: the sort of a term, a term against a type, and a type in place of another.
 ghost use Rattle.std.specs.Prelude.{◌≡◌, ◌+◌, false, IfOk};
-ghost use Rattle.pc_rules.specs.Context.{values};
+ghost use Rattle.calculus_rules.specs.Context.{values};
 ghost use Rattle.pc_rules.specs.Entailment.{test_of};
 ghost use Rattle.pc_rules.specs.Follows.{Follows};
 ghost use Rattle.pc_rules.specs.WellCounted.{IsCounted};

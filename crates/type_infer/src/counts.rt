@@ -4,12 +4,12 @@ ghost use Rattle.trees.specs.Tree.{terms_of};
 ghost use Rattle.trees.specs.Shape.{binders_of};
 ghost use Rattle.pc_terms.specs.Lists.{arms_of};
 ghost use Rattle.pc_rules.specs.declared.meter.Account.{Account};
-ghost use Rattle.pc_rules.specs.Environment.{with_parameters};
+ghost use Rattle.calculus_rules.specs.Environment.{with_parameters};
 ghost use Rattle.pc_rules.specs.DirectedTyping.{counted, names_counted, match_counted};
 ghost use Rattle.pc_rules.specs.Follows.{Answers};
 
+use calculus_rules::declaration::{Block, Constructors, Family};
 use pc_rules::broken::Broken;
-use pc_rules::declaration::{Block, Constructors, Family};
 use pc_rules::stop::{Halt, Stop};
 use pc_terms::term::{Branches, Match};
 

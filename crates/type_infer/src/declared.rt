@@ -1,15 +1,15 @@
 //! Constants, families and constructors: rules 7 to 9.
 ghost use Rattle.std.specs.Prelude.{◌≡◌, ◌⊎◌, IfOk, IfErr, MatchOption, None, Some, slice_get};
 ghost use Rattle.pc_rules.specs.declared.meter.Account.{Account};
-ghost use Rattle.pc_rules.specs.Environment.{with_parameters, family_at};
+ghost use Rattle.calculus_rules.specs.Environment.{with_parameters, family_at};
 ghost use Rattle.pc_rules.specs.Follows.{Halts, Answers};
-ghost use Rattle.pc_rules.specs.DirectedWeakHead.{kept_at};
+ghost use Rattle.calculus_rules.specs.Lookups.{kept_at};
 ghost use Rattle.pc_rules.specs.DirectedTyping.{const_rule, family_number, ind_rule, construct_rule};
 
+use calculus_rules::declaration::{Block, Constructor, Family, Kept};
 use instances::instances::constructors::constructor_type;
 use instances::instances::families::family_type;
 use pc_rules::broken::Broken;
-use pc_rules::declaration::{Block, Constructor, Family, Kept};
 use pc_rules::environment::Env;
 use pc_rules::stop::{Halt, Stop};
 use pc_terms::leaf::{FamilyId, Name};

@@ -1,12 +1,12 @@
 //! Elimination: into which sorts a match on a family may go.
 ghost use Rattle.std.specs.Prelude.{◌≡◌, Some};
 ghost use Rattle.pc_rules.specs.declared.meter.Account.{Account};
-ghost use Rattle.pc_rules.specs.Environment.{with_parameters};
+ghost use Rattle.calculus_rules.specs.Environment.{with_parameters};
 ghost use Rattle.pc_rules.specs.DirectedTyping.{all_prop, few_constructors, is_single, may_eliminate, eliminated};
 ghost use Rattle.pc_rules.specs.Follows.{Answers};
 
+use calculus_rules::declaration::{Block, Constructor, Family, Sorts};
 use pc_rules::broken::Broken;
-use pc_rules::declaration::{Block, Constructor, Family, Sorts};
 use pc_rules::stop::Halt;
 use pc_terms::leaf::FamilyId;
 use universe_levels::sort::Sort;

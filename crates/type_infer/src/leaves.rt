@@ -1,13 +1,13 @@
 //! Variables and sorts: rules 1 and 2.
 ghost use Rattle.std.specs.Prelude.{◌≡◌, MatchOption, None, Some};
 ghost use Rattle.pc_rules.specs.declared.meter.Account.{Account};
-ghost use Rattle.pc_rules.specs.Context.{type_at};
+ghost use Rattle.calculus_rules.specs.Context.{type_at};
 ghost use Rattle.pc_rules.specs.Follows.{Answers};
 ghost use Rattle.pc_rules.specs.DirectedTyping.{first_undeclared, undeclared_in, rel_rule, sort_rule};
 
+use calculus_rules::entry::Entry;
 use pc_rules::broken::Broken;
 use pc_rules::context::Ctx;
-use pc_rules::entry::Entry;
 use pc_rules::environment::Env;
 use pc_rules::stop::Halt;
 use pc_terms::term::{Node, Term};

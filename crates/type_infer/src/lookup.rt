@@ -1,14 +1,14 @@
 //! Families of whole blocks that are looked up in an environment.
 ghost use Rattle.std.specs.Prelude.{◌≡◌, IfOk, IfErr, Ok, Some};
 ghost use Rattle.pc_rules.specs.declared.meter.Account.{Account};
-ghost use Rattle.pc_rules.specs.Environment.{with_parameters, family_at};
+ghost use Rattle.calculus_rules.specs.Environment.{with_parameters, family_at};
 ghost use Rattle.pc_rules.specs.DirectedTyping.{find_family};
-ghost use Rattle.pc_rules.specs.DirectedWeakHead.{kept_at, whole_block};
+ghost use Rattle.calculus_rules.specs.Lookups.{kept_at, whole_block};
 ghost use Rattle.pc_rules.specs.Follows.{Answers, Halts};
 
 use crate::declared::family_in;
+use calculus_rules::declaration::{Block, Family};
 use pc_rules::broken::Broken;
-use pc_rules::declaration::{Block, Family};
 use pc_rules::environment::Env;
 use pc_rules::stop::Halt;
 use pc_terms::leaf::FamilyId;

@@ -1,7 +1,7 @@
 //! Telescopes: the sorts of their entries, and terms against their types.
 ghost use Rattle.std.specs.Prelude.{◌≡◌, ◌+◌, IfOk, length};
 ghost use Rattle.pc_terms.specs.Syntax.{Rel};
-ghost use Rattle.pc_rules.specs.Context.{extend};
+ghost use Rattle.calculus_rules.specs.Context.{extend};
 ghost use Rattle.pc_rules.specs.Entailment.{test_of};
 ghost use Rattle.pc_rules.specs.Follows.{Follows};
 ghost use Rattle.pc_rules.specs.WellCounted.{AreCounted};
@@ -11,9 +11,9 @@ ghost use Rattle.type_infer.specs.Entering.{entries_entered};
 ghost use Rattle.type_infer.specs.Ready.{IsReady};
 
 use crate::inference::Inference;
+use calculus_rules::entry::Entry;
 use pc_rules::context::Ctx;
 use pc_rules::converter::Converter;
-use pc_rules::entry::Entry;
 use pc_rules::environment::Env;
 use pc_rules::guarder::Guarder;
 use pc_rules::meter::Meter;

@@ -3,9 +3,9 @@ use Rattle.std.proofs.Common.{◌≡◌, ℕ, zero, suc, ◌+◌, List, [], ◌�
 use Rattle.universe_levels.specs.declared.sort.Sort.{Sort}
 use Rattle.pc_terms.specs.declared.leaf.FamilyId.{FamilyId}
 use Rattle.pc_terms.specs.Syntax.{Slot, Under, Lists, slots, Term, Terms, Children, End, Child, Group, Done, Next, Label, Rel, Node, SortT, App, Construct, Fix, rename, overs, substitute, substitute_children, substitute_terms, first, put, put_all, term_at, apply}
-use Rattle.pc_rules.specs.Environment.{Env}
-use Rattle.pc_rules.specs.Instances.{unfolded, fixpoints}
-use Rattle.pc_rules.specs.Step.{IsConstructor, is_constructor, Root, beta, zeta, constant, matched, fixpoint}
+use Rattle.calculus_rules.specs.Environment.{Env}
+use Rattle.calculus_rules.specs.Instances.{unfolded, fixpoints}
+use Rattle.calculus_rules.specs.Step.{IsConstructor, is_constructor, Root, beta, zeta, constant, matched, fixpoint}
 use Rattle.trees.proofs.Fusion.{substitute_rel}
 use Rattle.trees.proofs.Cutoffs.{overs_sum}
 use Rattle.equality_laws.proofs.Substituted.{same_item}

@@ -3,11 +3,11 @@ use Rattle.std.proofs.Common.{◌≡◌, List, ◌∷◌, None, refl, sym, ap, s
 use Rattle.universe_levels.specs.declared.sort.Sort.{Sort}
 use Rattle.pc_terms.specs.declared.leaf.FamilyId.{FamilyId}
 use Rattle.pc_terms.specs.Syntax.{Term, SortT, Prod, Ind, apply, head, args, substitute}
-use Rattle.pc_rules.specs.Environment.{Env, Entails}
-use Rattle.pc_rules.specs.Context.{Values}
-use Rattle.pc_rules.specs.Conversion.{Equal, Below}
-use Rattle.pc_rules.specs.Accepted.{IsAccepted}
-use Rattle.pc_rules.proofs.Congruence.{step_equal}
+use Rattle.calculus_rules.specs.Environment.{Env, Entails}
+use Rattle.calculus_rules.specs.Context.{Values}
+use Rattle.calculus_rules.specs.Conversion.{Equal, Below}
+use Rattle.calculus_rules.specs.Accepted.{IsAccepted}
+use Rattle.calculus_rules.proofs.Congruence.{step_equal}
 use Rattle.equality_laws.specs.Laws.{EqualEach}
 use Rattle.equality_laws.proofs.Reducing.{Steps}
 use Rattle.equality_laws.proofs.Roots.{Settled, settled}

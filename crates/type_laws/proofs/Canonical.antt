@@ -4,18 +4,18 @@ use Rattle.std.proofs.lemmas.List.{length-take-le, take-append-drop}
 use Rattle.universe_levels.specs.declared.sort.Sort.{Sort}
 use Rattle.pc_terms.specs.declared.leaf.FamilyId.{FamilyId}
 use Rattle.pc_terms.specs.Syntax.{Term, Terms, SortT, App, Ind, Construct, Fix, substitute, shift, variables, apply}
-use Rattle.pc_rules.specs.declared.declaration.Constructor.{Constructor}
-use Rattle.pc_rules.specs.Environment.{Env, FamilyDecl, KeepsFamily}
-use Rattle.pc_rules.specs.Conversion.{Equal, Below, equal}
-use Rattle.pc_rules.specs.Instances.{products}
-use Rattle.pc_rules.specs.Step.{IsConstructor, is_constructor}
-use Rattle.pc_rules.specs.Evaluation.{sort_is, prod_is, lambda_is, ind_is, construct_is, fix_is, family, constructor, fixpoint, Evaluates, Unfolds, unfolds, IsBuilt}
-use Rattle.pc_rules.specs.Typing.{bare, Types, Recurses, recurses_here, recurses_later}
-use Rattle.pc_rules.specs.Accepted.{IsAccepted}
-use Rattle.pc_rules.proofs.WeakNext.{apply_one_more}
-use Rattle.erase_laws.proofs.Generating.{of_sort, of_prod, of_lambda, of_construct}
-use Rattle.erase_laws.proofs.Telescopes.{substitute-apply, products_append}
-use Rattle.erase_laws.proofs.Traversal.{types_at, below_at}
+use Rattle.calculus_rules.specs.declared.declaration.Constructor.{Constructor}
+use Rattle.calculus_rules.specs.Environment.{Env, FamilyDecl, KeepsFamily}
+use Rattle.calculus_rules.specs.Conversion.{Equal, Below, equal}
+use Rattle.calculus_rules.specs.Instances.{products}
+use Rattle.calculus_rules.specs.Step.{IsConstructor, is_constructor}
+use Rattle.calculus_rules.specs.Evaluation.{sort_is, prod_is, lambda_is, ind_is, construct_is, fix_is, family, constructor, fixpoint, Evaluates, Unfolds, unfolds, IsBuilt}
+use Rattle.calculus_rules.specs.Typing.{bare, Types, Recurses, recurses_here, recurses_later}
+use Rattle.calculus_rules.specs.Accepted.{IsAccepted}
+use Rattle.calculus_rules.proofs.Spines.{apply_one_more}
+use Rattle.typing_laws.proofs.Generating.{of_sort, of_prod, of_lambda, of_construct}
+use Rattle.typing_laws.proofs.Telescopes.{substitute-apply, products_append}
+use Rattle.typing_laws.proofs.Traversal.{types_at, below_at}
 use Rattle.type_laws.specs.Contexts.{IsContext}
 use Rattle.type_laws.specs.Laws.{ValuesAreConstructors}
 use Rattle.type_laws.proofs.Apart.{sort_not_family, product_not_family, families_below}

@@ -9,19 +9,19 @@ use Rattle.universe_levels.specs.Valuation.{value_of}
 use Rattle.universe_levels.proofs.MaximumLemmas.{value_of-with_parts, with_parts-append}
 use Rattle.pc_terms.specs.declared.leaf.FamilyId.{FamilyId}
 use Rattle.pc_terms.specs.Syntax.{Term, SortT, Prod, LetIn, App, Ind, put, substitute, apply}
-use Rattle.pc_rules.specs.declared.entry.Entry.TheVariants.{Assumed, Defined}
-use Rattle.pc_rules.specs.Environment.{Env, Entails}
-use Rattle.pc_rules.specs.Context.{Context, values}
-use Rattle.pc_rules.specs.Conversion.{same, step, back, Below, equal, product}
-use Rattle.pc_rules.specs.Step.{zeta}
-use Rattle.pc_rules.specs.Instances.{family_type, predicate_at}
-use Rattle.pc_rules.specs.Typing.{bare, Types, rel, sort, prod, lambda, let_in, app, const, ind, construct, case, fix, conv}
-use Rattle.pc_rules.specs.Accepted.{IsAccepted}
-use Rattle.pc_rules.proofs.Spines.{one_item}
-use Rattle.erase_laws.proofs.ErasedRedexes.{same_list}
-use Rattle.erase_laws.proofs.Generating.{of_rel, of_sort, of_prod, of_lambda, of_let_in, of_app, of_const, of_ind, of_case, of_fix}
-use Rattle.erase_laws.proofs.MiddleEntries.{substitution_of_below}
-use Rattle.erase_laws.proofs.Traversal.{below_at}
+use Rattle.calculus_rules.specs.declared.entry.Entry.TheVariants.{Assumed, Defined}
+use Rattle.calculus_rules.specs.Environment.{Env, Entails}
+use Rattle.calculus_rules.specs.Context.{Context, values}
+use Rattle.calculus_rules.specs.Conversion.{same, step, back, Below, equal, product}
+use Rattle.calculus_rules.specs.Step.{zeta}
+use Rattle.calculus_rules.specs.Instances.{family_type, predicate_at}
+use Rattle.calculus_rules.specs.Typing.{bare, Types, rel, sort, prod, lambda, let_in, app, const, ind, construct, case, fix, conv}
+use Rattle.calculus_rules.specs.Accepted.{IsAccepted}
+use Rattle.calculus_rules.proofs.Spines.{one_item}
+use Rattle.calculus_rules.proofs.Listing.{same_list}
+use Rattle.typing_laws.proofs.Generating.{of_rel, of_sort, of_prod, of_lambda, of_let_in, of_app, of_const, of_ind, of_case, of_fix}
+use Rattle.typing_laws.proofs.MiddleEntries.{substitution_of_below}
+use Rattle.typing_laws.proofs.Traversal.{below_at}
 use Rattle.type_laws.specs.Contexts.{IsContext, assume, define}
 use Rattle.type_laws.specs.Laws.{TypesHaveACommonOne}
 use Rattle.equality_laws.specs.Laws.{EqualEach, no_terms, a_term}

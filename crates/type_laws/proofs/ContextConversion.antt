@@ -3,23 +3,23 @@ use Rattle.std.proofs.Common.{ℕ, zero, suc, ◌≡◌, List, [], ◌∷◌, Op
 use mathlib.Core.Path.{fun_ext}
 use Rattle.pc_terms.specs.Syntax.{Slot, Label, slots, Term, Terms, Children, Rel, rename, over}
 use Rattle.pc_terms.specs.declared.leaf.FamilyId.{FamilyId}
-use Rattle.pc_rules.specs.declared.declaration.Constructor.{Constructor}
-use Rattle.pc_rules.specs.declared.entry.Entry.{Entry}
-use Rattle.pc_rules.specs.declared.entry.Entry.TheVariants.{Assumed, Defined}
-use Rattle.pc_rules.specs.Environment.{Env}
-use Rattle.pc_rules.specs.Context.{Context, Values, values, value_of, value_at, type_at, lifted, under, extend}
-use Rattle.pc_rules.specs.Instances.{branch_entries}
-use Rattle.pc_rules.specs.Conversion.{Equal, step, chain, same, Below, equal}
-use Rattle.pc_rules.specs.Step.{Root, beta, zeta, constant, variable, matched, fixpoint, Step, root, inside, let_body, StepIn, in_child, in_group, past_child, past_group, StepTerms, in_first, in_rest}
-use Rattle.pc_rules.specs.Typing.{bare, Types, rel, conv, TypesAll, no_terms, term, Entries, no_entries, entry, Branches, no_branches, branch, Sorts, no_types, a_type, Bodies, no_bodies, a_body, Recurses}
-use Rattle.pc_rules.specs.Accepted.{IsAccepted}
-use Rattle.pc_rules.proofs.Spines.{one_item}
+use Rattle.calculus_rules.specs.declared.declaration.Constructor.{Constructor}
+use Rattle.calculus_rules.specs.declared.entry.Entry.{Entry}
+use Rattle.calculus_rules.specs.declared.entry.Entry.TheVariants.{Assumed, Defined}
+use Rattle.calculus_rules.specs.Environment.{Env}
+use Rattle.calculus_rules.specs.Context.{Context, Values, values, value_of, value_at, type_at, lifted, under, extend}
+use Rattle.calculus_rules.specs.Instances.{branch_entries}
+use Rattle.calculus_rules.specs.Conversion.{Equal, step, chain, same, Below, equal}
+use Rattle.calculus_rules.specs.Step.{Root, beta, zeta, constant, variable, matched, fixpoint, Step, root, inside, let_body, StepIn, in_child, in_group, past_child, past_group, StepTerms, in_first, in_rest}
+use Rattle.calculus_rules.specs.Typing.{bare, Types, rel, conv, TypesAll, no_terms, term, Entries, no_entries, entry, Branches, no_branches, branch, Sorts, no_types, a_type, Bodies, no_bodies, a_body, Recurses}
+use Rattle.calculus_rules.specs.Accepted.{IsAccepted}
+use Rattle.calculus_rules.proofs.Spines.{one_item}
 use Rattle.trees.proofs.Exchange.{overs_same}
 use Rattle.trees.proofs.Put.{substitute_same}
-use Rattle.erase_laws.proofs.AcceptedClosed.{accepted_closed}
-use Rattle.erase_laws.proofs.ClosedEnv.{ClosedEnv}
-use Rattle.erase_laws.proofs.Traversal.{substituted_entry, equal_at, below_at, types_at, substitute_equal, substitute_below, substitute_recurses, substitute_types}
-use Rattle.erase_laws.proofs.RenamingAndPutting.{PutsEntries, putting, put_entries_over, lifted_some, renaming_values, later, later_is, later_values, weaken_equal, weaken_types}
+use Rattle.typing_laws.proofs.AcceptedClosed.{accepted_closed}
+use Rattle.typing_laws.proofs.ClosedEnv.{ClosedEnv}
+use Rattle.typing_laws.proofs.Traversal.{substituted_entry, equal_at, below_at, types_at, substitute_equal, substitute_below, substitute_recurses, substitute_types}
+use Rattle.typing_laws.proofs.RenamingAndPutting.{PutsEntries, putting, put_entries_over, lifted_some, renaming_values, later, later_is, later_values, weaken_equal, weaken_types}
 use Rattle.type_laws.specs.Contexts.{HasSort, IsContext}
 use Rattle.type_laws.specs.Contexts as contexts
 

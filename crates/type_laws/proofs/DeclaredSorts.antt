@@ -13,21 +13,21 @@ use Rattle.universe_levels.proofs.OverLemmas.{over-super_sort, over-product_sort
 use Rattle.trees.proofs.Every.{every_rename, every_substitute, every_before}
 use Rattle.pc_terms.specs.declared.leaf.FamilyId.{FamilyId}
 use Rattle.pc_terms.specs.Syntax.{Term, Terms, Done, Next, Rel, Label, SortOf, SortT, App, Ind, ups, over, substitute, shift, first, put, put_all, apply, variables, terms_of, term_at, Every, EveryTerm}
-use Rattle.pc_rules.specs.declared.declaration.Block.{Block}
-use Rattle.pc_rules.specs.declared.declaration.Constructor.{Constructor}
-use Rattle.pc_rules.specs.declared.declaration.Family.{Family}
-use Rattle.pc_rules.specs.declared.declaration.Kept.{Kept}
-use Rattle.pc_rules.specs.declared.declaration.Kept.TheVariants.{Constant, Heads, Block as Whole}
-use Rattle.pc_rules.specs.declared.entry.Entry.{Entry}
-use Rattle.pc_rules.specs.declared.entry.Entry.TheVariants.{Assumed, Defined}
-use Rattle.pc_rules.specs.Environment.{Env, FamilyDecl, Has, here, there, with_parameters, head_of, heads_of, KeepsFamily, KnowsFamily, IsDeclared}
-use Rattle.pc_rules.specs.Context.{Context, type_of, type_at, extend}
-use Rattle.pc_rules.specs.Instances.{products, entries_at, predicate_entries, branch_entries, constructor_type, definitions}
-use Rattle.pc_rules.specs.Typing.{Mode, bare, Types, rel, sort, prod, lambda, let_in, app, const, ind, construct, case, fix, conv, TypesAll, no_terms, term, Entries, no_entries, entry, Branches, no_branches, branch, Sorts, no_types, a_type, Bodies, no_bodies, a_body, EntrySorts, no_sorts, a_sort}
-use Rattle.pc_rules.specs.Accepted.{Accepted, empty, constant, block, BlockFits, ConstructorFits, IsAccepted, env}
-use Rattle.pc_rules.proofs.Spines.{one_item}
-use Rattle.erase_laws.proofs.AcceptedClosed.{mapped}
-use Rattle.erase_laws.proofs.RenamingAndPutting.{lifted_some}
+use Rattle.calculus_rules.specs.declared.declaration.Block.{Block}
+use Rattle.calculus_rules.specs.declared.declaration.Constructor.{Constructor}
+use Rattle.calculus_rules.specs.declared.declaration.Family.{Family}
+use Rattle.calculus_rules.specs.declared.declaration.Kept.{Kept}
+use Rattle.calculus_rules.specs.declared.declaration.Kept.TheVariants.{Constant, Heads, Block as Whole}
+use Rattle.calculus_rules.specs.declared.entry.Entry.{Entry}
+use Rattle.calculus_rules.specs.declared.entry.Entry.TheVariants.{Assumed, Defined}
+use Rattle.calculus_rules.specs.Environment.{Env, FamilyDecl, Has, here, there, with_parameters, head_of, heads_of, KeepsFamily, KnowsFamily, IsDeclared}
+use Rattle.calculus_rules.specs.Context.{Context, type_of, type_at, extend}
+use Rattle.calculus_rules.specs.Instances.{products, entries_at, predicate_entries, branch_entries, constructor_type, definitions}
+use Rattle.calculus_rules.specs.Typing.{Mode, bare, Types, rel, sort, prod, lambda, let_in, app, const, ind, construct, case, fix, conv, TypesAll, no_terms, term, Entries, no_entries, entry, Branches, no_branches, branch, Sorts, no_types, a_type, Bodies, no_bodies, a_body, EntrySorts, no_sorts, a_sort}
+use Rattle.calculus_rules.specs.Accepted.{Accepted, empty, constant, block, BlockFits, ConstructorFits, IsAccepted, env}
+use Rattle.calculus_rules.proofs.Spines.{one_item}
+use Rattle.typing_laws.proofs.AcceptedClosed.{mapped}
+use Rattle.typing_laws.proofs.RenamingAndPutting.{lifted_some}
 use Rattle.type_laws.specs.Contexts.{IsContext, IsContext.empty, assume, define}
 use Rattle.type_laws.proofs.EnvironmentSorts.{kept_is_known}
 

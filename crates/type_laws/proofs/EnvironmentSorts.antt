@@ -1,6 +1,5 @@
 -- The types of constants, families and constructors have sorts, in every context; so have the telescopes of families and constructors.
-use Rattle.std.proofs.Common.{ℕ, zero, suc, ◌+◌, ◌≡◌, List, [], ◌∷◌, ◌++◌, length, map, Option, Some, inl, inr, refl, sym, ap, ◌∙◌, subst, arith, slice_get, option_map}
-use Rattle.std.proofs.lemmas.Option.{slice_get-map}
+use Rattle.std.proofs.Common.{ℕ, zero, suc, ◌+◌, ◌≡◌, List, [], ◌∷◌, ◌++◌, length, map, Option, Some, inl, inr, refl, sym, ap, ◌∙◌, subst, arith, slice_get}
 use mathlib.Core.Path.{fun_ext}
 use Rattle.universe_levels.specs.declared.constraint.Constraint.{Constraint}
 use Rattle.universe_levels.specs.declared.sort.Sort.{Sort}
@@ -9,30 +8,31 @@ use Rattle.universe_levels.specs.Sorts.{super_sort}
 use Rattle.pc_terms.specs.declared.leaf.Name.{Name}
 use Rattle.pc_terms.specs.declared.leaf.FamilyId.{FamilyId}
 use Rattle.pc_terms.specs.Syntax.{Term, Rel, SortT, Ind, rename, first, put_all, substitute, apply, variables, shift}
-use Rattle.pc_rules.specs.declared.declaration.Constructor.{Constructor}
-use Rattle.pc_rules.specs.declared.declaration.Family.{Family}
-use Rattle.pc_rules.specs.declared.declaration.Block.{Block}
-use Rattle.pc_rules.specs.declared.declaration.Kept.{Kept}
-use Rattle.pc_rules.specs.declared.declaration.Kept.TheVariants.{Constant, Heads, Block as Whole}
-use Rattle.pc_rules.specs.declared.entry.Entry.TheVariants.{Assumed}
-use Rattle.pc_rules.specs.Environment.{Env, FamilyDecl, Has, here, there, with_parameters, family_at, head_of, heads_of, KeepsConstant, KeepsFamily, KnowsFamily}
-use Rattle.pc_rules.specs.Context.{Context, type_at, lifted, extend}
-use Rattle.pc_rules.specs.Instances.{products, family_type, constructor_type}
-use Rattle.pc_rules.specs.Typing.{bare, Types, rel, sort, prod, ind, TypesAll, no_terms, term, Entries, no_entries, entry, EntrySorts, no_sorts, a_sort}
-use Rattle.pc_rules.specs.Accepted.{Accepted, empty, constant, block, IsAccepted, env}
-use Rattle.pc_rules.proofs.Bare.{bare_types, bare_all, bare_entries}
+use Rattle.calculus_rules.specs.declared.declaration.Constructor.{Constructor}
+use Rattle.calculus_rules.specs.declared.declaration.Family.{Family}
+use Rattle.calculus_rules.specs.declared.declaration.Block.{Block}
+use Rattle.calculus_rules.specs.declared.declaration.Kept.{Kept}
+use Rattle.calculus_rules.specs.declared.declaration.Kept.TheVariants.{Constant, Heads, Block as Whole}
+use Rattle.calculus_rules.specs.declared.entry.Entry.TheVariants.{Assumed}
+use Rattle.calculus_rules.specs.Environment.{Env, FamilyDecl, Has, here, there, with_parameters, KeepsConstant, KeepsFamily, KnowsFamily}
+use Rattle.calculus_rules.specs.Context.{Context, type_at, lifted, extend}
+use Rattle.calculus_rules.specs.Instances.{products, family_type, constructor_type}
+use Rattle.calculus_rules.specs.Typing.{bare, Types, rel, sort, prod, ind, TypesAll, no_terms, term, Entries, no_entries, entry, EntrySorts, no_sorts, a_sort}
+use Rattle.calculus_rules.specs.Accepted.{Accepted, empty, constant, block, IsAccepted, env}
+use Rattle.calculus_rules.proofs.Bare.{bare_types, bare_all, bare_entries}
 use Rattle.trees.proofs.Fusion.{rename-rename, rename_same, substitute_rel}
 use Rattle.trees.proofs.Put.{substitute_whole}
-use Rattle.erase_laws.proofs.AcceptedClosed.{accepted_closed, mapped}
-use Rattle.erase_laws.proofs.AcceptedReady.{accepted_ready}
-use Rattle.erase_laws.proofs.ClosedTypes.{closed_family_type}
-use Rattle.erase_laws.proofs.Declarations.{Extends, KnowsType, one_more, extends_types, extends_all, extends_entries}
-use Rattle.erase_laws.proofs.Telescopes.{products_append}
-use Rattle.erase_laws.proofs.Traversal.{types_at}
+use Rattle.typing_laws.proofs.AcceptedClosed.{accepted_closed, mapped}
+use Rattle.typing_laws.proofs.KeptSorts.{argument_sorts}
+use Rattle.typing_laws.proofs.ClosedTypes.{closed_family_type}
+use Rattle.typing_laws.proofs.Declarations.{Extends, one_more, extends_types, extends_all, extends_entries}
+use Rattle.typing_laws.proofs.Telescopes.{products_append}
+use Rattle.typing_laws.proofs.Traversal.{types_at}
 use Rattle.type_laws.specs.Contexts.{HasSort}
 use Rattle.type_laws.proofs.Spines.{typed_from}
 use Rattle.type_laws.proofs.TelescopeParts.{all_append}
 use Rattle.type_laws.proofs.ContextConversion.{Widens, widens_extend, widens_types, widens_entries}
+use Rattle.typing_laws.proofs.DeclaredBlock.{declared}
 
 -- each context widens the empty one
 pub widens_none : {E : Env} (c : Context) → Widens E [] c
@@ -74,38 +74,6 @@ extends_sorts x s = record {
   sort = extends_types x s.sort;
   results = λ n C e. extends_all x (s.results n C e);
 }
-
--- the block that was being declared is kept
-declared : (levels : ℕ) (cs : List Constraint) (ds : List Kept) (B : Block) → Extends (env levels cs (Heads (heads_of B) ∷ ds)) (env levels cs (Whole B ∷ ds))
-declared levels cs ds B = record {
-  levels = refl;
-  constraints = refl;
-  constants = constants;
-  blocks = blocks;
-  known = known;
-}
-  where
-    constants : (k : Name) (T : Term) (b : Option Term) → Has (Heads (heads_of B) ∷ ds) (Constant k T b) → Has (Whole B ∷ ds) (Constant k T b)
-    constants k T b (there h) = there h
-
-    blocks : (D : Block) → Has (Heads (heads_of B) ∷ ds) (Whole D) → Has (Whole B ∷ ds) (Whole D)
-    blocks D (there h) = there h
-
-    -- a family of the heads is one of the block, with the same type
-    from_heads : (f : FamilyId) (D : FamilyDecl) (A : Block) → Has (Heads (heads_of B) ∷ ds) (Heads A) → A.name ≡ f.block → family_at A f.family ≡ Some D →
-        KnowsType (env levels cs (Whole B ∷ ds)) f D
-    from_heads f D A (there h) q i = (D, (A, inr (there h), q, i), refl)
-    from_heads f D A here q i =
-        let (H, at, e) = mapped (with_parameters B.params) (slice_get (map head_of B.families) f.family) D i in
-        let (G, there_it, e') = mapped head_of (slice_get B.families f.family) H (sym (slice_get-map head_of B.families f.family) ∙ at) in (
-          with_parameters B.params G,
-          (B, inl here, q, ap (option_map (with_parameters B.params)) there_it),
-          ap (λ H. family_type (with_parameters B.params H)) e' ∙ ap family_type e,
-        )
-
-    known : (f : FamilyId) (D : FamilyDecl) → KnowsFamily (env levels cs (Heads (heads_of B) ∷ ds)) f D → KnowsType (env levels cs (Whole B ∷ ds)) f D
-    known f D (A, inl h, q, i) = (D, (A, inl (blocks A h), q, i), refl)
-    known f D (A, inr h, q, i) = from_heads f D A h q i
 
 kept_sorts : {levels : ℕ} {cs : List Constraint} {ds : List Kept} {B : Block} (n : ℕ) (G : Family) → Accepted levels cs ds → Has ds (Whole B) → slice_get B.families n ≡ Some G →
     FamilySorts (env levels cs ds) (with_parameters B.params G)
@@ -154,7 +122,7 @@ entries_of (a_sort p ps) = entry p (entries_of ps)
 
 pub arguments_sorted : (E : Env) → IsAccepted E → (c : Context) (f : FamilyId) (F : FamilyDecl) (n : ℕ) (C : Constructor) → KeepsFamily E f F → slice_get F.constructors n ≡ Some C →
     Entries bare E (extend c F.parameters) C.args
-arguments_sorted E h c f F n C q e = widens_entries (accepted_closed E h) (widens_parameters E h c F) (entries_of ((accepted_ready E h).sorts f F n C q e))
+arguments_sorted E h c f F n C q e = widens_entries (accepted_closed E h) (widens_parameters E h c F) (entries_of (argument_sorts E h f F n C q e))
 
 -- products over a telescope of entries with sorts
 

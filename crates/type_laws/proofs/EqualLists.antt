@@ -1,11 +1,11 @@
 -- Lists of equal terms, cut and joined, put in, and as arguments.
 use Rattle.std.proofs.Common.{◌≡◌, List, [], ◌∷◌, ◌++◌, map, length, arith}
 use Rattle.pc_terms.specs.Syntax.{Term, Rel, App, substitute, put_all, apply}
-use Rattle.pc_rules.specs.Environment.{Env}
-use Rattle.pc_rules.specs.Context.{Context, Values, values}
-use Rattle.pc_rules.specs.Conversion.{Equal}
-use Rattle.pc_rules.specs.Accepted.{IsAccepted}
-use Rattle.pc_rules.proofs.Congruence.{equal_applications}
+use Rattle.calculus_rules.specs.Environment.{Env}
+use Rattle.calculus_rules.specs.Context.{Context, Values, values}
+use Rattle.calculus_rules.specs.Conversion.{Equal}
+use Rattle.calculus_rules.specs.Accepted.{IsAccepted}
+use Rattle.calculus_rules.proofs.Congruence.{equal_applications}
 use Rattle.equality_laws.specs.Laws.{EqualEach, no_terms, a_term}
 pub use Rattle.equality_laws.proofs.Formers.{each_equal_same, each_equal_back, each_equal_chain}
 use Rattle.type_laws.proofs.Spines.{put_equal}

@@ -2,21 +2,21 @@
 use Rattle.std.proofs.Common.{◌≡◌, ℕ, List, [], ◌∷◌, ◌++◌, length, Some, refl, sym, ap, ◌∙◌, subst}
 use Rattle.pc_terms.specs.declared.leaf.FamilyId.{FamilyId}
 use Rattle.pc_terms.specs.Syntax.{Term, Terms, Rel, Lambda, LetIn, App, Case, Fix, put, put_all, substitute, term_at}
-use Rattle.pc_rules.specs.declared.entry.Entry.TheVariants.{Defined}
-use Rattle.pc_rules.specs.Environment.{Env}
-use Rattle.pc_rules.specs.Conversion.{Equal, Below, equal, step, same, back, chain, inside, end, and, group}
-use Rattle.pc_rules.specs.Instances.{unfolded, predicate_at}
-use Rattle.pc_rules.specs.Step.{IsConstructor, Root, zeta, matched}
-use Rattle.pc_rules.specs.Evaluation.{Evaluates, value, constant, let_in, beta, extend, unfold_fix, enter, Unfolds, unfolds, IsBuilt}
-use Rattle.pc_rules.specs.Typing.{bare, Types, app, case}
-use Rattle.pc_rules.specs.Accepted.{IsAccepted}
-use Rattle.pc_rules.specs.Lawful.{KeepsTypes}
-use Rattle.pc_rules.proofs.Congruence.{same_terms, equal_applications}
-use Rattle.pc_rules.proofs.Spines.{one_item}
-use Rattle.pc_rules.proofs.WeakNext.{apply_one_more}
-use Rattle.erase_laws.proofs.Generating.{of_app, of_case, of_let_in}
-use Rattle.erase_laws.proofs.MiddleEntries.{substitution}
-use Rattle.erase_laws.proofs.Traversal.{types_at}
+use Rattle.calculus_rules.specs.declared.entry.Entry.TheVariants.{Defined}
+use Rattle.calculus_rules.specs.Environment.{Env}
+use Rattle.calculus_rules.specs.Conversion.{Equal, Below, equal, step, same, back, chain, inside, end, and, group}
+use Rattle.calculus_rules.specs.Instances.{unfolded, predicate_at}
+use Rattle.calculus_rules.specs.Step.{IsConstructor, Root, zeta, matched}
+use Rattle.calculus_rules.specs.Evaluation.{Evaluates, value, constant, let_in, beta, extend, unfold_fix, enter, Unfolds, unfolds, IsBuilt}
+use Rattle.calculus_rules.specs.Typing.{bare, Types, app, case}
+use Rattle.calculus_rules.specs.Accepted.{IsAccepted}
+use Rattle.calculus_rules.specs.Lawful.{KeepsTypes}
+use Rattle.calculus_rules.proofs.Congruence.{same_terms, equal_applications}
+use Rattle.calculus_rules.proofs.Spines.{one_item}
+use Rattle.calculus_rules.proofs.Spines.{apply_one_more}
+use Rattle.typing_laws.proofs.Generating.{of_app, of_case, of_let_in}
+use Rattle.typing_laws.proofs.MiddleEntries.{substitution}
+use Rattle.typing_laws.proofs.Traversal.{types_at}
 use Rattle.type_laws.specs.Contexts.{IsContext}
 use Rattle.equality_laws.specs.Laws.{no_terms, a_term}
 use Rattle.type_laws.proofs.Spines.{put_equal}

@@ -2,22 +2,22 @@
 use Rattle.std.proofs.Common.{◌≡◌, ℕ, zero, suc, ◌+◌, List, [], ◌∷◌, ◌++◌, length, Some, refl, sym, ap, ◌∙◌, subst, arith, slice_get, append-nil}
 use mathlib.Core.Path.{fun_ext}
 use Rattle.pc_terms.specs.Syntax.{Term, Rel, Construct, over, substitute, first, put_all, args}
-use Rattle.pc_rules.specs.declared.declaration.Constructor.{Constructor}
-use Rattle.pc_rules.specs.Environment.{Env}
-use Rattle.pc_rules.specs.Conversion.{Equal, Below, equal, chain}
-use Rattle.pc_rules.specs.Instances.{entries_at, branch_entries}
-use Rattle.pc_rules.specs.Step.{IsConstructor, is_constructor}
-use Rattle.pc_rules.specs.Evaluation.{sort_is, prod_is, lambda_is, ind_is, construct_is, fix_is}
-use Rattle.pc_rules.specs.FirstOrder.{Shape, shape_type, ArgumentsAt, no_argument, an_argument, ConstructorsAt, no_constructor, a_constructor, IsMember, Data, Reads, reads, ReadsAll, no_field, field, NothingErasable, NothingErasableInside}
-use Rattle.pc_rules.specs.Typing.{bare, Types, TypesAll, no_terms, term}
-use Rattle.pc_rules.specs.Accepted.{IsAccepted}
-use Rattle.pc_rules.proofs.OneEach.{one_of_each}
-use Rattle.pc_rules.proofs.Spines.{args-apply, one_item}
-use Rattle.pc_rules.proofs.WeakHead.{weak_equal}
+use Rattle.calculus_rules.specs.declared.declaration.Constructor.{Constructor}
+use Rattle.calculus_rules.specs.Environment.{Env}
+use Rattle.calculus_rules.specs.Conversion.{Equal, Below, equal, chain}
+use Rattle.calculus_rules.specs.Instances.{entries_at, branch_entries}
+use Rattle.calculus_rules.specs.Step.{IsConstructor, is_constructor}
+use Rattle.calculus_rules.specs.Evaluation.{sort_is, prod_is, lambda_is, ind_is, construct_is, fix_is}
+use Rattle.calculus_rules.specs.FirstOrder.{Shape, shape_type, ArgumentsAt, no_argument, an_argument, ConstructorsAt, no_constructor, a_constructor, IsMember, Data, Reads, reads, ReadsAll, no_field, field, NothingErasable, NothingErasableInside}
+use Rattle.calculus_rules.specs.Typing.{bare, Types, TypesAll, no_terms, term}
+use Rattle.calculus_rules.specs.Accepted.{IsAccepted}
+use Rattle.calculus_rules.proofs.OneEach.{one_of_each}
+use Rattle.calculus_rules.proofs.Spines.{args-apply, one_item}
+use Rattle.calculus_rules.proofs.WeakHead.{weak_equal}
 use Rattle.trees.proofs.Fusion.{substitute-rename, substitute-substitute}
 use Rattle.trees.proofs.Put.{substitute_same}
-use Rattle.erase_laws.proofs.DataAlong.{Members}
-use Rattle.erase_laws.proofs.Traversal.{equal_at}
+use Rattle.typing_laws.proofs.DataAlong.{Members}
+use Rattle.typing_laws.proofs.Traversal.{equal_at}
 use Rattle.type_laws.specs.Contexts.{IsContext}
 use Rattle.equality_laws.specs.Laws.{EqualEach}
 use Rattle.type_laws.proofs.Apart.{families_below}

@@ -2,22 +2,22 @@
 use Rattle.std.proofs.Common.{ℕ, zero, suc, ◌+◌, ◌≡◌, List, [], ◌∷◌, Some, length, slice_get, refl, sym, ap, ◌∙◌, subst, arith}
 use mathlib.Core.Path.{fun_ext}
 use Rattle.pc_terms.specs.Syntax.{Term, Terms, Rel, App, Fix, substitute, shift, first, put_all, apply, number, term_at}
-use Rattle.pc_rules.specs.Environment.{Env}
-use Rattle.pc_rules.specs.Context.{Context, values}
-use Rattle.pc_rules.specs.Instances.{definitions, fixpoints, unfolded}
-use Rattle.pc_rules.specs.Typing.{bare, Types, app, fix, conv, Recurses, Sorts, no_types, a_type, Bodies, no_bodies, a_body}
-use Rattle.pc_rules.specs.Accepted.{IsAccepted}
-use Rattle.pc_rules.proofs.Spines.{one_item}
+use Rattle.calculus_rules.specs.Environment.{Env}
+use Rattle.calculus_rules.specs.Context.{Context, values}
+use Rattle.calculus_rules.specs.Instances.{definitions, fixpoints, unfolded}
+use Rattle.calculus_rules.specs.Typing.{bare, Types, app, fix, conv, Recurses, Sorts, no_types, a_type, Bodies, no_bodies, a_body}
+use Rattle.calculus_rules.specs.Accepted.{IsAccepted}
+use Rattle.calculus_rules.proofs.Spines.{one_item}
 use Rattle.trees.proofs.Fusion.{substitute-rename}
 use Rattle.trees.proofs.Cutoffs.{put_all-past}
 use Rattle.trees.proofs.Put.{substitute_same}
-use Rattle.erase_laws.specs.TypedParts.{OfFix}
-use Rattle.erase_laws.proofs.AcceptedClosed.{accepted_closed}
-use Rattle.erase_laws.proofs.ClosedTypes.{fixpoints_length}
-use Rattle.erase_laws.proofs.Generating.{of_fix}
-use Rattle.erase_laws.proofs.Traversal.{types_at, substitute_types, substitute_recurses}
-use Rattle.erase_laws.proofs.RenamingAndPutting.{PutsEntries, putting, putting_values}
-use Rattle.erase_laws.proofs.ErasingArguments.{puts_first, puts_none}
+use Rattle.typing_laws.specs.TypedParts.{OfFix}
+use Rattle.typing_laws.proofs.AcceptedClosed.{accepted_closed}
+use Rattle.typing_laws.proofs.ClosedTypes.{fixpoints_length}
+use Rattle.typing_laws.proofs.Generating.{of_fix}
+use Rattle.typing_laws.proofs.Traversal.{types_at, substitute_types, substitute_recurses}
+use Rattle.typing_laws.proofs.RenamingAndPutting.{PutsEntries, putting, putting_values}
+use Rattle.typing_laws.proofs.PuttingAll.{puts_first, puts_none}
 use Rattle.type_laws.specs.Contexts.{IsContext}
 use Rattle.type_laws.proofs.RootsKeep.{carried}
 

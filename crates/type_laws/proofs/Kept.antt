@@ -2,18 +2,18 @@
 use Rattle.std.specs.Prelude.{ℕ, zero, suc, ◌≡◌, List, [], ◌∷◌, Option, Some, None, length}
 use Rattle.std.proofs.Common.{refl, sym, ap, ◌∙◌, subst}
 use Rattle.pc_terms.specs.Syntax.{Slot, Children, Term, Terms, Next, Prod, Lambda, LetIn, App}
-use Rattle.pc_rules.specs.declared.entry.Entry.TheVariants.{Assumed, Defined}
-use Rattle.pc_rules.specs.Environment.{Env}
-use Rattle.pc_rules.specs.Context.{Context, Values, values, value_at, lifted, under, extend}
-use Rattle.pc_rules.specs.Conversion.{Equal, Below, same, back, inside, let_body, end, and, equal}
-use Rattle.pc_rules.specs.Conversion as conversion
-use Rattle.pc_rules.specs.Step.{Root, Step, StepIn, StepTerms}
-use Rattle.pc_rules.specs.Step as steps
-use Rattle.pc_rules.specs.Typing.{bare, Types, prod, lambda, let_in, app, conv}
-use Rattle.pc_rules.specs.Accepted.{IsAccepted}
-use Rattle.pc_rules.proofs.Congruence.{step_equal}
-use Rattle.erase_laws.proofs.RenamingAndPutting.{lifted_some}
-use Rattle.erase_laws.proofs.Generating.{of_prod, of_lambda, of_let_in, of_app}
+use Rattle.calculus_rules.specs.declared.entry.Entry.TheVariants.{Assumed, Defined}
+use Rattle.calculus_rules.specs.Environment.{Env}
+use Rattle.calculus_rules.specs.Context.{Context, Values, values, value_at, lifted, under, extend}
+use Rattle.calculus_rules.specs.Conversion.{Equal, Below, same, back, inside, let_body, end, and, equal}
+use Rattle.calculus_rules.specs.Conversion as conversion
+use Rattle.calculus_rules.specs.Step.{Root, Step, StepIn, StepTerms}
+use Rattle.calculus_rules.specs.Step as steps
+use Rattle.calculus_rules.specs.Typing.{bare, Types, prod, lambda, let_in, app, conv}
+use Rattle.calculus_rules.specs.Accepted.{IsAccepted}
+use Rattle.calculus_rules.proofs.Congruence.{step_equal}
+use Rattle.typing_laws.proofs.RenamingAndPutting.{lifted_some}
+use Rattle.typing_laws.proofs.Generating.{of_prod, of_lambda, of_let_in, of_app}
 use Rattle.type_laws.specs.Contexts.{HasSort, IsContext, assume, define}
 use Rattle.equality_laws.specs.Laws.{no_terms, a_term}
 use Rattle.type_laws.proofs.ContextConversion.{ContextBelow, context_same, types_in}

@@ -3,20 +3,20 @@ use Rattle.std.proofs.Common.{◌≡◌, ℕ, zero, suc, List, [], ◌∷◌, re
 use mathlib.Core.Path.{fun_ext}
 use Rattle.pc_terms.specs.declared.leaf.FamilyId.{FamilyId}
 use Rattle.pc_terms.specs.Syntax.{Term, Terms, Rel, Lambda, App, Const, Case, over, first, put_all, substitute}
-use Rattle.pc_rules.specs.Environment.{Env}
-use Rattle.pc_rules.specs.Context.{Context}
-use Rattle.pc_rules.specs.Conversion.{equal}
-use Rattle.pc_rules.specs.Instances.{entries_at}
-use Rattle.pc_rules.specs.Step.{IsConstructor}
-use Rattle.pc_rules.specs.Evaluation.{Evaluates, value, constant, let_in, beta, extend, unfold_fix, enter}
-use Rattle.pc_rules.specs.Typing.{bare, Types, TypesAll, no_terms, term}
-use Rattle.pc_rules.specs.Accepted.{IsAccepted}
-use Rattle.pc_rules.specs.Lawful.{KeepsTypes, Kept, ArgumentsFit, IsLawful}
-use Rattle.pc_rules.proofs.WeakHead.{weak_equal}
+use Rattle.calculus_rules.specs.Environment.{Env}
+use Rattle.calculus_rules.specs.Context.{Context}
+use Rattle.calculus_rules.specs.Conversion.{equal}
+use Rattle.calculus_rules.specs.Instances.{entries_at}
+use Rattle.calculus_rules.specs.Step.{IsConstructor}
+use Rattle.calculus_rules.specs.Evaluation.{Evaluates, value, constant, let_in, beta, extend, unfold_fix, enter}
+use Rattle.calculus_rules.specs.Typing.{bare, Types, TypesAll, no_terms, term}
+use Rattle.calculus_rules.specs.Accepted.{IsAccepted}
+use Rattle.calculus_rules.specs.Lawful.{KeepsTypes, Kept, ArgumentsFit, IsLawful}
+use Rattle.calculus_rules.proofs.WeakHead.{weak_equal}
 use Rattle.trees.proofs.Fusion.{substitute-rename, substitute-substitute}
 use Rattle.trees.proofs.Put.{substitute_same}
-use Rattle.erase_laws.proofs.Generating.{of_app, of_case, of_let_in}
-use Rattle.erase_laws.proofs.Traversal.{types_at}
+use Rattle.typing_laws.proofs.Generating.{of_app, of_case, of_let_in}
+use Rattle.typing_laws.proofs.Traversal.{types_at}
 use Rattle.type_laws.specs.Contexts.{IsContext}
 use Rattle.type_laws.specs.Laws.{EvaluationsAreLawful, WholeEvaluationsAreLawful}
 use Rattle.type_laws.proofs.RootsKeep.{beta_keeps, beta_argument, constant_keeps}

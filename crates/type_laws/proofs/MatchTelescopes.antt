@@ -7,22 +7,22 @@ use Rattle.pc_terms.specs.declared.leaf.FamilyId.{FamilyId}
 use Rattle.pc_terms.specs.Syntax.{Term, Rel, SortT, Prod, App, Ind, Construct, rename, up, over, overs, first, put, put_all, substitute, shift, apply, variables}
 use Rattle.trees.proofs.Fusion.{rename_same, rename-rename, substitute-rename, substitute-substitute, substitute_rel}
 use Rattle.trees.proofs.Put.{each_append, each_length, substitute_same, overs_over, agree_none}
-use Rattle.pc_rules.specs.declared.entry.Entry.TheVariants.{Assumed}
-use Rattle.pc_rules.specs.declared.declaration.Constructor.{Constructor}
-use Rattle.pc_rules.specs.Environment.{Env, FamilyDecl, KeepsFamily}
-use Rattle.pc_rules.specs.Context.{Context, values, extend}
-use Rattle.pc_rules.specs.Instances.{products, entries_at, predicate_entries, branch_entries, result_at, built_at, branch_type}
-use Rattle.pc_rules.specs.Conversion.{Equal, step}
-use Rattle.pc_rules.specs.Step.{variable}
-use Rattle.pc_rules.specs.Typing.{bare, Types, rel, app, ind, construct, TypesAll, no_terms, term, Entries, no_entries, entry}
-use Rattle.pc_rules.specs.Accepted.{IsAccepted}
-use Rattle.erase_laws.proofs.ClosedEnv.{ClosedFamily}
-use Rattle.erase_laws.proofs.AcceptedClosed.{accepted_closed}
-use Rattle.erase_laws.proofs.Generating.{of_prod}
-use Rattle.erase_laws.proofs.Telescopes.{substitute-apply, substituted_entries, entries_at_length, each_lift-substitute, substitute_predicate_entries}
-use Rattle.erase_laws.proofs.Traversal.{types_at, equal_at, substitute_types, substitute_types_all, substitute_equal}
-use Rattle.erase_laws.proofs.RenamingAndPutting.{weaken_types, PutsEntries, putting, putting_values}
-use Rattle.erase_laws.proofs.ErasingArguments.{puts_all}
+use Rattle.calculus_rules.specs.declared.entry.Entry.TheVariants.{Assumed}
+use Rattle.calculus_rules.specs.declared.declaration.Constructor.{Constructor}
+use Rattle.calculus_rules.specs.Environment.{Env, FamilyDecl, KeepsFamily}
+use Rattle.calculus_rules.specs.Context.{Context, values, extend}
+use Rattle.calculus_rules.specs.Instances.{products, entries_at, predicate_entries, branch_entries, result_at, built_at, branch_type}
+use Rattle.calculus_rules.specs.Conversion.{Equal, step}
+use Rattle.calculus_rules.specs.Step.{variable}
+use Rattle.calculus_rules.specs.Typing.{bare, Types, rel, app, ind, construct, TypesAll, no_terms, term, Entries, no_entries, entry}
+use Rattle.calculus_rules.specs.Accepted.{IsAccepted}
+use Rattle.typing_laws.proofs.ClosedEnv.{ClosedFamily}
+use Rattle.typing_laws.proofs.AcceptedClosed.{accepted_closed}
+use Rattle.typing_laws.proofs.Generating.{of_prod}
+use Rattle.typing_laws.proofs.Telescopes.{substitute-apply, substituted_entries, entries_at_length, each_lift-substitute, substitute_predicate_entries}
+use Rattle.typing_laws.proofs.Traversal.{types_at, equal_at, substitute_types, substitute_types_all, substitute_equal}
+use Rattle.typing_laws.proofs.RenamingAndPutting.{weaken_types, PutsEntries, putting, putting_values}
+use Rattle.typing_laws.proofs.PuttingAll.{puts_all}
 use Rattle.type_laws.specs.Contexts.{HasSort, IsContext}
 use Rattle.type_laws.proofs.ContextConversion.{context_extended}
 use Rattle.type_laws.proofs.EnvironmentSorts.{kept_is_known}

@@ -2,22 +2,22 @@
 use Rattle.std.proofs.Common.{ℕ, zero, suc, ◌+◌, ◌≡◌, List, [], ◌∷◌, ◌++◌, Some, length, map, slice_get, refl, sym, ap, ◌∙◌, subst, arith, length-append}
 use Rattle.pc_terms.specs.declared.leaf.FamilyId.{FamilyId}
 use Rattle.pc_terms.specs.Syntax.{Term, Terms, Rel, Ind, Construct, Case, put_all, shift, substitute, apply, variables, term_at, terms_of}
-use Rattle.pc_rules.specs.declared.declaration.Constructor.{Constructor}
-use Rattle.pc_rules.specs.Environment.{Env, FamilyDecl, KeepsFamily}
-use Rattle.pc_rules.specs.Context.{Context, values, extend}
-use Rattle.pc_rules.specs.Conversion.{same, Below, equal}
-use Rattle.pc_rules.specs.Instances.{constructor_type, branch_entries, branch_type}
-use Rattle.pc_rules.specs.Step.{IsConstructor, is_constructor}
-use Rattle.pc_rules.specs.Typing.{bare, Types, TypesAll, Entries, Branches, no_branches, branch}
-use Rattle.pc_rules.specs.Accepted.{IsAccepted}
-use Rattle.pc_rules.proofs.OneEach.{one_of_each}
-use Rattle.pc_rules.proofs.Spines.{one_item}
+use Rattle.calculus_rules.specs.declared.declaration.Constructor.{Constructor}
+use Rattle.calculus_rules.specs.Environment.{Env, FamilyDecl, KeepsFamily}
+use Rattle.calculus_rules.specs.Context.{Context, values, extend}
+use Rattle.calculus_rules.specs.Conversion.{same, Below, equal}
+use Rattle.calculus_rules.specs.Instances.{constructor_type, branch_entries, branch_type}
+use Rattle.calculus_rules.specs.Step.{IsConstructor, is_constructor}
+use Rattle.calculus_rules.specs.Typing.{bare, Types, TypesAll, Entries, Branches, no_branches, branch}
+use Rattle.calculus_rules.specs.Accepted.{IsAccepted}
+use Rattle.calculus_rules.proofs.OneEach.{one_of_each}
+use Rattle.calculus_rules.proofs.Spines.{one_item}
 use Rattle.trees.proofs.Put.{each_length}
-use Rattle.erase_laws.proofs.AcceptedClosed.{accepted_closed}
-use Rattle.erase_laws.proofs.Telescopes.{products_append}
-use Rattle.erase_laws.proofs.Traversal.{types_at, equal_at, below_at}
-use Rattle.erase_laws.proofs.Generating.{of_construct, of_case}
-use Rattle.erase_laws.proofs.ErasedRedexes.{same_list}
+use Rattle.typing_laws.proofs.AcceptedClosed.{accepted_closed}
+use Rattle.typing_laws.proofs.Telescopes.{products_append}
+use Rattle.typing_laws.proofs.Traversal.{types_at, equal_at, below_at}
+use Rattle.typing_laws.proofs.Generating.{of_construct, of_case}
+use Rattle.calculus_rules.proofs.Listing.{same_list}
 use Rattle.type_laws.specs.Contexts.{IsContext}
 use Rattle.equality_laws.specs.Laws.{EqualEach, no_terms, a_term}
 use Rattle.type_laws.proofs.Apart.{families_below}

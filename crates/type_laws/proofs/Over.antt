@@ -2,14 +2,14 @@
 use Rattle.std.specs.Prelude.{ℕ, suc, ◌+◌, ◌≡◌, List, [], ◌∷◌, ◌++◌, length}
 use Rattle.std.proofs.Common.{refl, ap, subst, arith}
 use Rattle.pc_terms.specs.Syntax.{Term, shift}
-use Rattle.pc_rules.specs.declared.entry.Entry.{Entry}
-use Rattle.pc_rules.specs.declared.entry.Entry.TheVariants.{Assumed}
-use Rattle.pc_rules.specs.Environment.{Env}
-use Rattle.pc_rules.specs.Context.{Context, values, extend}
-use Rattle.pc_rules.specs.Conversion.{Equal}
-use Rattle.pc_rules.specs.Typing.{bare, Types}
-use Rattle.pc_rules.specs.Accepted.{IsAccepted}
-use Rattle.erase_laws.proofs.MiddleEntries.{weakening, weakening_of_equality}
+use Rattle.calculus_rules.specs.declared.entry.Entry.{Entry}
+use Rattle.calculus_rules.specs.declared.entry.Entry.TheVariants.{Assumed}
+use Rattle.calculus_rules.specs.Environment.{Env}
+use Rattle.calculus_rules.specs.Context.{Context, values, extend}
+use Rattle.calculus_rules.specs.Conversion.{Equal}
+use Rattle.calculus_rules.specs.Typing.{bare, Types}
+use Rattle.calculus_rules.specs.Accepted.{IsAccepted}
+use Rattle.typing_laws.proofs.MiddleEntries.{weakening, weakening_of_equality}
 use Rattle.type_laws.specs.Contexts.{HasSort}
 
 -- a context with n more entries

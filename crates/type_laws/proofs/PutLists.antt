@@ -7,9 +7,9 @@ use Rattle.trees.proofs.Put.{each_append, put_all_agree, agree_none, substitute_
 use Rattle.trees.proofs.Exchange.{put_all-shifted_by}
 use Rattle.pc_terms.specs.Syntax.{Term, Rel, Ind, Construct, first, overs, substitute, put_all, shift, apply, variables}
 use Rattle.pc_terms.specs.declared.leaf.FamilyId.{FamilyId}
-use Rattle.pc_rules.specs.declared.declaration.Constructor.{Constructor}
-use Rattle.pc_rules.specs.Instances.{result_at, built_at, branch_type}
-use Rattle.erase_laws.proofs.Telescopes.{substitute-apply}
+use Rattle.calculus_rules.specs.declared.declaration.Constructor.{Constructor}
+use Rattle.calculus_rules.specs.Instances.{result_at, built_at, branch_type}
+use Rattle.typing_laws.proofs.Telescopes.{substitute-apply}
 
 -- two lists put in one after the other
 pub put_all_append : (xs ys : List Term) (s : ℕ → Term) → put_all (xs ++ ys) s ≡ put_all ys (put_all xs s)

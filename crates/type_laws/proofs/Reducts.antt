@@ -1,12 +1,12 @@
 -- Several steps: they are taken in parts, kept by renaming, and put the values of a context in.
 use Rattle.std.proofs.Common.{ℕ, zero, suc, ◌≡◌, List, [], ◌∷◌, Option, Some, None, refl, sym, subst}
 use Rattle.pc_terms.specs.Syntax.{Slot, Term, Terms, Children, End, Child, Group, Done, Next, Rel, Node, rename, substitute, substitute_children, substitute_terms, over, overs}
-use Rattle.pc_rules.specs.Environment.{Env}
-use Rattle.pc_rules.specs.Context.{Values, under}
-use Rattle.pc_rules.specs.Step.{variable, Step, StepIn, StepTerms, root, inside, let_body, in_child, in_group, past_child, past_group, in_first, in_rest}
+use Rattle.calculus_rules.specs.Environment.{Env}
+use Rattle.calculus_rules.specs.Context.{Values, under}
+use Rattle.calculus_rules.specs.Step.{variable, Step, StepIn, StepTerms, root, inside, let_body, in_child, in_group, past_child, past_group, in_first, in_rest}
 use Rattle.trees.proofs.Put.{substitute_same}
-use Rattle.erase_laws.proofs.Traversal.{good_under}
-use Rattle.erase_laws.proofs.RenamingAndPutting.{RenamesValues, renaming_values, renames_over, later, later_is, later_values}
+use Rattle.typing_laws.proofs.Traversal.{good_under}
+use Rattle.typing_laws.proofs.RenamingAndPutting.{RenamesValues, renaming_values, renames_over, later, later_is, later_values}
 use Rattle.equality_laws.proofs.Roots.{Settled, StepOf, contraction, value, step_of, root_anywhere, root_substituted}
 use Rattle.equality_laws.proofs.ToEquality.{expanding}
 use Rattle.type_laws.specs.Contexts.{Reduces, none, more}

@@ -3,22 +3,22 @@ use Rattle.std.proofs.Common.{◌≡◌, ℕ, zero, suc, ◌+◌, ◌≤◌, Lis
 use Rattle.universe_levels.specs.declared.sort.Sort.{Sort}
 use Rattle.pc_terms.specs.declared.leaf.FamilyId.{FamilyId}
 use Rattle.pc_terms.specs.Syntax.{Term, Terms, Rel, SortT, Prod, Lambda, App, Ind, Fix, overs, put, substitute, apply, term_at}
-use Rattle.pc_rules.specs.declared.entry.Entry.TheVariants.{Assumed}
-use Rattle.pc_rules.specs.Environment.{Env, FamilyDecl, KeepsFamily}
-use Rattle.pc_rules.specs.Context.{Context}
-use Rattle.pc_rules.specs.Conversion.{Below}
-use Rattle.pc_rules.specs.Instances.{products, entries_at, unfolded}
-use Rattle.pc_rules.specs.Evaluation.{IsValue, TakesMore, Evaluates, value, let_in, beta, extend, unfold_fix, enter}
-use Rattle.pc_rules.specs.Typing.{bare, Types, Recurses, recurses_here, recurses_later, Bodies, no_bodies, a_body}
-use Rattle.pc_rules.specs.Accepted.{IsAccepted}
+use Rattle.calculus_rules.specs.declared.entry.Entry.TheVariants.{Assumed}
+use Rattle.calculus_rules.specs.Environment.{Env, FamilyDecl, KeepsFamily}
+use Rattle.calculus_rules.specs.Context.{Context}
+use Rattle.calculus_rules.specs.Conversion.{Below}
+use Rattle.calculus_rules.specs.Instances.{products, entries_at, unfolded}
+use Rattle.calculus_rules.specs.Evaluation.{IsValue, TakesMore, Evaluates, value, let_in, beta, extend, unfold_fix, enter}
+use Rattle.calculus_rules.specs.Typing.{bare, Types, Recurses, recurses_here, recurses_later, Bodies, no_bodies, a_body}
+use Rattle.calculus_rules.specs.Accepted.{IsAccepted}
 use Rattle.trees.proofs.Put.{substitute_same}
 use Rattle.trees.proofs.Fusion.{substitute-substitute}
-use Rattle.erase_laws.proofs.AcceptedClosed.{accepted_closed}
-use Rattle.erase_laws.proofs.Generating.{of_app, of_ind, of_fix, of_apply}
-use Rattle.erase_laws.proofs.MiddleEntries.{substitution_of_below}
-use Rattle.erase_laws.proofs.RenamingAndPutting.{putting_values, puts_one}
-use Rattle.erase_laws.proofs.Telescopes.{entries_at_length}
-use Rattle.erase_laws.proofs.Traversal.{below_at, substitute_recurses}
+use Rattle.typing_laws.proofs.AcceptedClosed.{accepted_closed}
+use Rattle.typing_laws.proofs.Generating.{of_app, of_ind, of_fix, of_apply}
+use Rattle.typing_laws.proofs.MiddleEntries.{substitution_of_below}
+use Rattle.typing_laws.proofs.RenamingAndPutting.{putting_values, puts_one}
+use Rattle.typing_laws.proofs.Telescopes.{entries_at_length}
+use Rattle.typing_laws.proofs.Traversal.{below_at, substitute_recurses}
 use Rattle.type_laws.specs.Contexts.{IsContext}
 use Rattle.type_laws.proofs.Apart.{products_below, sort_not_product}
 use Rattle.type_laws.proofs.EnvironmentSorts.{known_is_kept}

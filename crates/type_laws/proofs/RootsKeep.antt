@@ -2,24 +2,24 @@
 use Rattle.std.proofs.Common.{ℕ, zero, suc, ◌≡◌, [], Option, Some, None, refl, sym, ap, subst}
 use Rattle.pc_terms.specs.declared.leaf.Name.{Name}
 use Rattle.pc_terms.specs.Syntax.{Term, Rel, Lambda, LetIn, App, Const, put, substitute}
-use Rattle.pc_rules.specs.declared.declaration.Kept.{Kept}
-use Rattle.pc_rules.specs.declared.declaration.Kept.TheVariants.{Constant}
-use Rattle.pc_rules.specs.declared.entry.Entry.TheVariants.{Assumed, Defined}
-use Rattle.pc_rules.specs.Environment.{Env, KeepsConstant}
-use Rattle.pc_rules.specs.Context.{Context, values, value_at, type_at}
-use Rattle.pc_rules.specs.Conversion.{Equal, step, same, back, Below, equal}
-use Rattle.pc_rules.specs.Step.{zeta}
-use Rattle.pc_rules.specs.Typing.{bare, Types, conv}
-use Rattle.pc_rules.specs.Accepted.{IsAccepted}
-use Rattle.pc_rules.proofs.OneEach.{one_declaration}
-use Rattle.pc_rules.proofs.Spines.{one_item}
-use Rattle.erase_laws.specs.Substituting.{Fits}
-use Rattle.erase_laws.proofs.ClosedEnv.{ClosedEnv}
-use Rattle.erase_laws.proofs.AcceptedClosed.{accepted_closed}
-use Rattle.erase_laws.proofs.Generating.{of_rel, of_lambda, of_let_in, of_app, of_const}
-use Rattle.erase_laws.proofs.RenamingAndPutting.{lifted_some, weaken_types}
-use Rattle.erase_laws.proofs.MiddleEntries.{substitution, substitution_of_below}
-use Rattle.erase_laws.proofs.Traversal.{types_at}
+use Rattle.calculus_rules.specs.declared.declaration.Kept.{Kept}
+use Rattle.calculus_rules.specs.declared.declaration.Kept.TheVariants.{Constant}
+use Rattle.calculus_rules.specs.declared.entry.Entry.TheVariants.{Assumed, Defined}
+use Rattle.calculus_rules.specs.Environment.{Env, KeepsConstant}
+use Rattle.calculus_rules.specs.Context.{Context, values, value_at, type_at}
+use Rattle.calculus_rules.specs.Conversion.{Equal, step, same, back, Below, equal}
+use Rattle.calculus_rules.specs.Step.{zeta}
+use Rattle.calculus_rules.specs.Typing.{bare, Types, conv}
+use Rattle.calculus_rules.specs.Accepted.{IsAccepted}
+use Rattle.calculus_rules.proofs.OneEach.{one_declaration}
+use Rattle.calculus_rules.proofs.Spines.{one_item}
+use Rattle.typing_laws.specs.Substituting.{Fits}
+use Rattle.typing_laws.proofs.ClosedEnv.{ClosedEnv}
+use Rattle.typing_laws.proofs.AcceptedClosed.{accepted_closed}
+use Rattle.typing_laws.proofs.Generating.{of_rel, of_lambda, of_let_in, of_app, of_const}
+use Rattle.typing_laws.proofs.RenamingAndPutting.{lifted_some, weaken_types}
+use Rattle.typing_laws.proofs.MiddleEntries.{substitution, substitution_of_below}
+use Rattle.typing_laws.proofs.Traversal.{types_at}
 use Rattle.type_laws.specs.Contexts.{IsContext}
 use Rattle.type_laws.proofs.Apart.{products_below}
 use Rattle.type_laws.proofs.EnvironmentSorts.{constant_typed}

@@ -1,9 +1,9 @@
 -- Parallel reduction, which also changes sorts, is followed by steps in a context of any values, up to the sorts.
 use Rattle.std.specs.Prelude.{List}
 use Rattle.pc_terms.specs.Syntax.{Slot, Term, Terms, Children, End, Child, Group, Done, Next, Node}
-use Rattle.pc_rules.specs.Environment.{Env}
-use Rattle.pc_rules.specs.Context.{Values, under}
-use Rattle.pc_rules.specs.Step.{Step, StepIn, StepTerms, root, in_child, in_group, past_child, past_group, in_first, in_rest}
+use Rattle.calculus_rules.specs.Environment.{Env}
+use Rattle.calculus_rules.specs.Context.{Values, under}
+use Rattle.calculus_rules.specs.Step.{Step, StepIn, StepTerms, root, in_child, in_group, past_child, past_group, in_first, in_rest}
 use Rattle.equality_laws.proofs.Reducing.{Par, ParIn, ParTerms, Steps, contract}
 use Rattle.equality_laws.proofs.Roots.{root_anywhere}
 use Rattle.type_laws.specs.Contexts.{Reduces, none, more}

@@ -5,25 +5,25 @@ use Rattle.universe_levels.specs.declared.sort.Sort.TheVariants.{Prop, Of}
 use Rattle.universe_levels.specs.Sorts.{product_sort}
 use Rattle.pc_terms.specs.declared.leaf.FamilyId.{FamilyId}
 use Rattle.pc_terms.specs.Syntax.{Term, Terms, SortT, Prod, App, Ind, Construct, Case, put, substitute, apply, terms_of, head}
-use Rattle.pc_rules.specs.declared.entry.Entry.TheVariants.{Assumed}
-use Rattle.pc_rules.specs.Environment.{Env, Entails, FamilyDecl, KeepsFamily}
-use Rattle.pc_rules.specs.Context.{Values, extend}
-use Rattle.pc_rules.specs.Conversion.{Equal, Below, equal, back, chain, same}
-use Rattle.pc_rules.specs.Instances.{products, entries_at, predicate_entries}
-use Rattle.pc_rules.specs.Step.{is_constructor}
-use Rattle.pc_rules.specs.Erasable.{Erasable, arity, proof, prop_match, prop_constructor}
-use Rattle.pc_rules.specs.Evaluation.{Evaluates}
-use Rattle.pc_rules.specs.Typing.{bare, Types, app, case, construct, conv}
-use Rattle.pc_rules.specs.Accepted.{IsAccepted}
-use Rattle.pc_rules.specs.Lawful.{KeepsTypes}
-use Rattle.pc_rules.proofs.Congruence.{equal_products}
-use Rattle.pc_rules.proofs.OneEach.{one_of_each}
-use Rattle.pc_rules.proofs.Spines.{head-apply}
-use Rattle.erase_laws.specs.TypedParts.{OfCase}
-use Rattle.erase_laws.proofs.ErasedRedexes.{same_list}
-use Rattle.erase_laws.proofs.Generating.{of_app, of_case, of_prod}
-use Rattle.erase_laws.proofs.MiddleEntries.{substitution, substitution_of_equality}
-use Rattle.erase_laws.proofs.Traversal.{equal_at, types_at}
+use Rattle.calculus_rules.specs.declared.entry.Entry.TheVariants.{Assumed}
+use Rattle.calculus_rules.specs.Environment.{Env, Entails, FamilyDecl, KeepsFamily}
+use Rattle.calculus_rules.specs.Context.{Values, extend}
+use Rattle.calculus_rules.specs.Conversion.{Equal, Below, equal, back, chain, same}
+use Rattle.calculus_rules.specs.Instances.{products, entries_at, predicate_entries}
+use Rattle.calculus_rules.specs.Step.{is_constructor}
+use Rattle.calculus_rules.specs.Erasable.{Erasable, arity, proof, prop_match, prop_constructor}
+use Rattle.calculus_rules.specs.Evaluation.{Evaluates}
+use Rattle.calculus_rules.specs.Typing.{bare, Types, app, case, construct, conv}
+use Rattle.calculus_rules.specs.Accepted.{IsAccepted}
+use Rattle.calculus_rules.specs.Lawful.{KeepsTypes}
+use Rattle.calculus_rules.proofs.Congruence.{equal_products}
+use Rattle.calculus_rules.proofs.OneEach.{one_of_each}
+use Rattle.calculus_rules.proofs.Spines.{head-apply}
+use Rattle.typing_laws.specs.TypedParts.{OfCase}
+use Rattle.calculus_rules.proofs.Listing.{same_list}
+use Rattle.typing_laws.proofs.Generating.{of_app, of_case, of_prod}
+use Rattle.typing_laws.proofs.MiddleEntries.{substitution, substitution_of_equality}
+use Rattle.typing_laws.proofs.Traversal.{equal_at, types_at}
 use Rattle.type_laws.specs.Contexts.{IsContext}
 use Rattle.type_laws.specs.Laws.{FamiliesStay}
 use Rattle.type_laws.proofs.Apart.{reduces_equal, products_below, sorts_below, below_product, above_product, below_sort, above_family, product_not_sort, family_not_product, family_not_sort}

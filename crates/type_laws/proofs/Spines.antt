@@ -4,20 +4,20 @@ use mathlib.Core.Path.{fun_ext}
 use Rattle.trees.proofs.Fusion.{substitute-rename, substitute-substitute}
 use Rattle.trees.proofs.Put.{substitute_same}
 use Rattle.pc_terms.specs.Syntax.{Slot, Term, Children, Terms, Rel, Node, End, Child, Group, Done, Next, Prod, App, over, overs, first, put, put_all, substitute, substitute_children, substitute_terms, apply, slots}
-use Rattle.pc_rules.specs.Environment.{Env}
-use Rattle.pc_rules.specs.declared.entry.Entry.TheVariants.{Assumed}
-use Rattle.pc_rules.specs.Context.{Context, Values, values, under, extend}
-use Rattle.pc_rules.specs.Conversion.{Equal, same, back, inside, EqualChildren, end, and, group, EqualTerms, done, next, Below, equal}
-use Rattle.pc_rules.specs.Instances.{products, entries_at}
-use Rattle.pc_rules.specs.Typing.{bare, Types, app, conv, TypesAll, no_terms, term, Entries, no_entries, entry}
-use Rattle.pc_rules.specs.Accepted.{IsAccepted}
-use Rattle.erase_laws.specs.Substituting.{Fits}
-use Rattle.erase_laws.proofs.ClosedEnv.{ClosedEnv}
-use Rattle.erase_laws.proofs.AcceptedClosed.{accepted_closed}
-use Rattle.erase_laws.proofs.Traversal.{below_at, equal_at, types_at, substitute_types, substitute_below}
-use Rattle.erase_laws.proofs.RenamingAndPutting.{PutsEntries, putting, puts_one, weaken_equal}
-use Rattle.erase_laws.proofs.ErasingArguments.{puts_first, puts_all, puts_none}
-use Rattle.erase_laws.proofs.Generating.{of_app, of_apply}
+use Rattle.calculus_rules.specs.Environment.{Env}
+use Rattle.calculus_rules.specs.declared.entry.Entry.TheVariants.{Assumed}
+use Rattle.calculus_rules.specs.Context.{Context, Values, values, under, extend}
+use Rattle.calculus_rules.specs.Conversion.{Equal, same, back, inside, EqualChildren, end, and, group, EqualTerms, done, next, Below, equal}
+use Rattle.calculus_rules.specs.Instances.{products, entries_at}
+use Rattle.calculus_rules.specs.Typing.{bare, Types, app, conv, TypesAll, no_terms, term, Entries, no_entries, entry}
+use Rattle.calculus_rules.specs.Accepted.{IsAccepted}
+use Rattle.typing_laws.specs.Substituting.{Fits}
+use Rattle.typing_laws.proofs.ClosedEnv.{ClosedEnv}
+use Rattle.typing_laws.proofs.AcceptedClosed.{accepted_closed}
+use Rattle.typing_laws.proofs.Traversal.{below_at, equal_at, types_at, substitute_types, substitute_below}
+use Rattle.typing_laws.proofs.RenamingAndPutting.{PutsEntries, putting, puts_one, weaken_equal}
+use Rattle.typing_laws.proofs.PuttingAll.{puts_first, puts_all, puts_none}
+use Rattle.typing_laws.proofs.Generating.{of_app, of_apply}
 use Rattle.type_laws.specs.Contexts.{HasSort, IsContext}
 use Rattle.equality_laws.specs.Laws.{EqualEach, no_terms, a_term}
 use Rattle.type_laws.proofs.Apart.{products_below}

@@ -2,17 +2,17 @@
 use Rattle.std.specs.Prelude.{ℕ, zero, suc, ◌+◌, ◌≡◌, List, ◌∷◌, Some, None, length}
 use Rattle.std.proofs.Common.{refl, ap, ◌∙◌, subst, arith}
 use Rattle.pc_terms.specs.Syntax.{Term, Terms, Done, Next, SortT, Fix, number, term_at, shift}
-use Rattle.pc_rules.specs.declared.entry.Entry.TheVariants.{Assumed}
-use Rattle.pc_rules.specs.Environment.{Env}
-use Rattle.pc_rules.specs.Context.{Context, Values, values, under}
-use Rattle.pc_rules.specs.Instances.{definitions}
-use Rattle.pc_rules.specs.Conversion.{Equal, same, back, chain, equal}
-use Rattle.pc_rules.specs.Step.{Step, root, inside, in_child, past_child}
-use Rattle.pc_rules.specs.Typing.{bare, fix, conv, Sorts, no_types, a_type, Bodies, no_bodies, a_body, Recurses, recurses_here, recurses_later}
-use Rattle.pc_rules.specs.Accepted.{IsAccepted}
-use Rattle.pc_rules.proofs.Congruence.{step_equal}
-use Rattle.erase_laws.specs.TypedParts.{OfFix}
-use Rattle.erase_laws.proofs.Generating.{of_fix}
+use Rattle.calculus_rules.specs.declared.entry.Entry.TheVariants.{Assumed}
+use Rattle.calculus_rules.specs.Environment.{Env}
+use Rattle.calculus_rules.specs.Context.{Context, Values, values, under}
+use Rattle.calculus_rules.specs.Instances.{definitions}
+use Rattle.calculus_rules.specs.Conversion.{Equal, same, back, chain, equal}
+use Rattle.calculus_rules.specs.Step.{Step, root, inside, in_child, past_child}
+use Rattle.calculus_rules.specs.Typing.{bare, fix, conv, Sorts, no_types, a_type, Bodies, no_bodies, a_body, Recurses, recurses_here, recurses_later}
+use Rattle.calculus_rules.specs.Accepted.{IsAccepted}
+use Rattle.calculus_rules.proofs.Congruence.{step_equal}
+use Rattle.typing_laws.specs.TypedParts.{OfFix}
+use Rattle.typing_laws.proofs.Generating.{of_fix}
 use Rattle.type_laws.specs.Contexts.{HasSort, IsContext, assume}
 use Rattle.type_laws.proofs.ContextConversion.{ContextBelow, context_same, types_in}
 use Rattle.type_laws.proofs.ContextConversion as below

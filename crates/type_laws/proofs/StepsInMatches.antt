@@ -6,23 +6,23 @@ use Rattle.universe_levels.specs.declared.sort.Sort.{Sort}
 use Rattle.pc_terms.specs.declared.leaf.FamilyId.{FamilyId}
 use Rattle.pc_terms.specs.Syntax.{Term, Terms, Next, Rel, SortT, App, Ind, Construct, Case, rename, over, put_all, substitute, shift, apply, variables, terms_of}
 use Rattle.trees.proofs.Fusion.{rename-rename}
-use Rattle.pc_rules.specs.declared.entry.Entry.TheVariants.{Assumed}
-use Rattle.pc_rules.specs.declared.declaration.Constructor.{Constructor}
-use Rattle.pc_rules.specs.Environment.{Env, FamilyDecl, KeepsFamily}
-use Rattle.pc_rules.specs.Context.{Context, Values, values, under, extend}
-use Rattle.pc_rules.specs.Instances.{products, entries_at, predicate_entries, branch_entries, predicate_at, result_at, built_at, branch_type}
-use Rattle.pc_rules.specs.Conversion.{Equal, Below, equal, same, back}
-use Rattle.pc_rules.specs.Step.{Step}
-use Rattle.pc_rules.specs.Elimination.{MayEliminate}
-use Rattle.pc_rules.specs.Typing.{bare, Types, case, conv, TypesAll, Entries, no_entries, entry, Branches, no_branches, branch}
-use Rattle.pc_rules.specs.Accepted.{IsAccepted}
-use Rattle.erase_laws.proofs.ClosedEnv.{ClosedEnv}
-use Rattle.erase_laws.proofs.AcceptedClosed.{accepted_closed}
-use Rattle.erase_laws.proofs.Generating.{of_case}
-use Rattle.erase_laws.proofs.Telescopes.{entries_at_length, products_append}
-use Rattle.erase_laws.proofs.Traversal.{types_at, equal_at, below_at, predicate_length, substitute_equal}
-use Rattle.erase_laws.proofs.RenamingAndPutting.{weaken_equal, putting_values}
-use Rattle.erase_laws.proofs.ErasingArguments.{puts_none, puts_all}
+use Rattle.calculus_rules.specs.declared.entry.Entry.TheVariants.{Assumed}
+use Rattle.calculus_rules.specs.declared.declaration.Constructor.{Constructor}
+use Rattle.calculus_rules.specs.Environment.{Env, FamilyDecl, KeepsFamily}
+use Rattle.calculus_rules.specs.Context.{Context, Values, values, under, extend}
+use Rattle.calculus_rules.specs.Instances.{products, entries_at, predicate_entries, branch_entries, predicate_at, result_at, built_at, branch_type}
+use Rattle.calculus_rules.specs.Conversion.{Equal, Below, equal, same, back}
+use Rattle.calculus_rules.specs.Step.{Step}
+use Rattle.calculus_rules.specs.Elimination.{MayEliminate}
+use Rattle.calculus_rules.specs.Typing.{bare, Types, case, conv, TypesAll, Entries, no_entries, entry, Branches, no_branches, branch}
+use Rattle.calculus_rules.specs.Accepted.{IsAccepted}
+use Rattle.typing_laws.proofs.ClosedEnv.{ClosedEnv}
+use Rattle.typing_laws.proofs.AcceptedClosed.{accepted_closed}
+use Rattle.typing_laws.proofs.Generating.{of_case}
+use Rattle.typing_laws.proofs.Telescopes.{entries_at_length, products_append}
+use Rattle.typing_laws.proofs.Traversal.{types_at, equal_at, below_at, predicate_length, substitute_equal}
+use Rattle.typing_laws.proofs.RenamingAndPutting.{weaken_equal, putting_values}
+use Rattle.typing_laws.proofs.PuttingAll.{puts_none, puts_all}
 use Rattle.type_laws.specs.Contexts.{IsContext}
 use Rattle.equality_laws.specs.Laws.{EqualEach, no_terms, a_term}
 use Rattle.type_laws.proofs.EqualLists.{each_equal_same, each_equal_append, equal_apply}

@@ -2,15 +2,15 @@
 use Rattle.std.specs.Prelude.{[], ◌∷◌, ◌++◌}
 use Rattle.std.proofs.Common.{refl, sym, ◌∙◌}
 use Rattle.pc_terms.specs.Syntax.{Term, Terms, Child, Group, End, SortOf, ProdOf, LambdaOf, LetInOf, AppOf, ConstOf, IndOf, ConstructOf, CaseOf, FixOf, App, Fix}
-use Rattle.pc_rules.specs.Environment.{Env}
-use Rattle.pc_rules.specs.Context.{Context, Values, values}
-use Rattle.pc_rules.specs.Instances.{unfolded}
-use Rattle.pc_rules.specs.Step.{Root, beta, zeta, constant, variable, matched, fixpoint, Step, root, inside, let_body, in_child, in_group, past_child, past_group, StepTerms, in_first, in_rest}
-use Rattle.pc_rules.specs.Typing.{bare, Types}
-use Rattle.pc_rules.specs.Accepted.{IsAccepted}
+use Rattle.calculus_rules.specs.Environment.{Env}
+use Rattle.calculus_rules.specs.Context.{Context, Values, values}
+use Rattle.calculus_rules.specs.Instances.{unfolded}
+use Rattle.calculus_rules.specs.Step.{Root, beta, zeta, constant, variable, matched, fixpoint, Step, root, inside, let_body, in_child, in_group, past_child, past_group, StepTerms, in_first, in_rest}
+use Rattle.calculus_rules.specs.Typing.{bare, Types}
+use Rattle.calculus_rules.specs.Accepted.{IsAccepted}
 use Rattle.type_laws.specs.Contexts.{IsContext, Reduces, none, more}
 use Rattle.type_laws.specs.Laws.{ReductionKeepsTypes}
-use Rattle.erase_laws.proofs.Traversal.{types_at}
+use Rattle.typing_laws.proofs.Traversal.{types_at}
 use Rattle.type_laws.proofs.RootsKeep.{beta_keeps, zeta_keeps, constant_keeps, variable_keeps}
 use Rattle.type_laws.proofs.MatchesKeep.{matched_keeps}
 use Rattle.type_laws.proofs.FixpointsKeep.{unfolded_typed, head_replaced}

@@ -1,10 +1,10 @@
 -- Telescopes and the terms put in for them, taken apart and put together.
 use Rattle.std.proofs.Common.{◌≡◌, ℕ, suc, List, [], ◌∷◌, ◌++◌, length, refl, ap, arith}
 use Rattle.pc_terms.specs.Syntax.{Term, first, put_all}
-use Rattle.pc_rules.specs.Environment.{Env}
-use Rattle.pc_rules.specs.declared.entry.Entry.TheVariants.{Assumed}
-use Rattle.pc_rules.specs.Context.{Context, extend}
-use Rattle.pc_rules.specs.Typing.{bare, TypesAll, no_terms, term, Entries, no_entries, entry}
+use Rattle.calculus_rules.specs.Environment.{Env}
+use Rattle.calculus_rules.specs.declared.entry.Entry.TheVariants.{Assumed}
+use Rattle.calculus_rules.specs.Context.{Context, extend}
+use Rattle.calculus_rules.specs.Typing.{bare, TypesAll, no_terms, term, Entries, no_entries, entry}
 
 -- as many terms as entries
 pub all_length : {E : Env} {c : Context} {s : ℕ → Term} {ts As : List Term} → TypesAll bare E c s ts As → length ts ≡ length As

@@ -6,24 +6,24 @@ use Rattle.trees.proofs.Fusion.{substitute-rename}
 use Rattle.trees.proofs.Put.{each_append, substitute_same}
 use Rattle.pc_terms.specs.declared.leaf.FamilyId.{FamilyId}
 use Rattle.pc_terms.specs.Syntax.{Term, Terms, Rel, SortT, Ind, Fix, first, put, put_all, substitute, shift, apply, variables, term_at}
-use Rattle.pc_rules.specs.declared.entry.Entry.{Entry}
-use Rattle.pc_rules.specs.declared.entry.Entry.TheVariants.{Assumed, Defined}
-use Rattle.pc_rules.specs.Environment.{Env, FamilyDecl, KeepsFamily, KnowsFamily}
-use Rattle.pc_rules.specs.Context.{Context, values, type_of, type_at}
-use Rattle.pc_rules.specs.Conversion.{step, Below, equal}
-use Rattle.pc_rules.specs.Step.{zeta}
-use Rattle.pc_rules.specs.Instances.{products, predicate_entries, family_type}
-use Rattle.pc_rules.specs.Typing.{bare, Types, rel, sort, prod, lambda, let_in, app, const, ind, construct, case, fix, conv, TypesAll, no_terms, term, Sorts, no_types, a_type}
-use Rattle.pc_rules.specs.Accepted.{IsAccepted}
-use Rattle.pc_rules.proofs.Spines.{one_item}
-use Rattle.pc_rules.proofs.OneEach.{one_of_each}
-use Rattle.erase_laws.specs.Substituting.{Fits}
-use Rattle.erase_laws.proofs.AcceptedClosed.{accepted_closed}
-use Rattle.erase_laws.proofs.Telescopes.{substitute-apply, products_append}
-use Rattle.erase_laws.proofs.Traversal.{types_at, substitute_types}
-use Rattle.erase_laws.proofs.RenamingAndPutting.{PutsEntries, putting, puts_one, lifted_some, weaken_types}
-use Rattle.erase_laws.proofs.ErasingArguments.{puts_first, puts_none, types_entries}
-use Rattle.erase_laws.proofs.Generating.{of_prod, of_ind}
+use Rattle.calculus_rules.specs.declared.entry.Entry.{Entry}
+use Rattle.calculus_rules.specs.declared.entry.Entry.TheVariants.{Assumed, Defined}
+use Rattle.calculus_rules.specs.Environment.{Env, FamilyDecl, KeepsFamily, KnowsFamily}
+use Rattle.calculus_rules.specs.Context.{Context, values, type_of, type_at}
+use Rattle.calculus_rules.specs.Conversion.{step, Below, equal}
+use Rattle.calculus_rules.specs.Step.{zeta}
+use Rattle.calculus_rules.specs.Instances.{products, predicate_entries, family_type}
+use Rattle.calculus_rules.specs.Typing.{bare, Types, rel, sort, prod, lambda, let_in, app, const, ind, construct, case, fix, conv, TypesAll, no_terms, term, Sorts, no_types, a_type}
+use Rattle.calculus_rules.specs.Accepted.{IsAccepted}
+use Rattle.calculus_rules.proofs.Spines.{one_item}
+use Rattle.calculus_rules.proofs.OneEach.{one_of_each}
+use Rattle.typing_laws.specs.Substituting.{Fits}
+use Rattle.typing_laws.proofs.AcceptedClosed.{accepted_closed}
+use Rattle.typing_laws.proofs.Telescopes.{substitute-apply, products_append}
+use Rattle.typing_laws.proofs.Traversal.{types_at, substitute_types}
+use Rattle.typing_laws.proofs.RenamingAndPutting.{PutsEntries, putting, puts_one, lifted_some, weaken_types}
+use Rattle.typing_laws.proofs.PuttingAll.{puts_first, puts_none, types_entries}
+use Rattle.typing_laws.proofs.Generating.{of_prod, of_ind}
 use Rattle.type_laws.specs.Contexts.{HasSort, IsContext, assume, define}
 use Rattle.type_laws.specs.Laws.{TypesHaveSorts}
 use Rattle.type_laws.proofs.EnvironmentSorts.{kept_is_known, known_is_kept, constant_sorted, family_sorted, constructor_sorted, parameters_sorted, indices_sorted}

@@ -2,11 +2,11 @@
 use Rattle.std.specs.Prelude.{[], ◌∷◌}
 use Rattle.universe_levels.specs.declared.sort.Sort.{Sort}
 use Rattle.pc_terms.specs.Syntax.{Term, SortT}
-use Rattle.pc_rules.specs.declared.entry.Entry.TheVariants.{Assumed, Defined}
-use Rattle.pc_rules.specs.Environment.{Env}
-use Rattle.pc_rules.specs.Context.{Context, Values}
-use Rattle.pc_rules.specs.Step.{Step}
-use Rattle.pc_rules.specs.Typing.{bare, Types}
+use Rattle.calculus_rules.specs.declared.entry.Entry.TheVariants.{Assumed, Defined}
+use Rattle.calculus_rules.specs.Environment.{Env}
+use Rattle.calculus_rules.specs.Context.{Context, Values}
+use Rattle.calculus_rules.specs.Step.{Step}
+use Rattle.calculus_rules.specs.Typing.{bare, Types}
 
 -- the term has a sort
 abbrev pub HasSort : Env → Context → Term → Type 0

@@ -4,16 +4,16 @@ use Rattle.std.specs.Prelude.{ℕ, List, [], ◌≢◌}
 use Rattle.universe_levels.specs.declared.sort.Sort.TheVariants.{Prop}
 use Rattle.pc_terms.specs.declared.leaf.FamilyId.{FamilyId}
 use Rattle.pc_terms.specs.Syntax.{Term, Ind, apply}
-use Rattle.pc_rules.specs.Environment.{Env, FamilyDecl, KeepsFamily}
-use Rattle.pc_rules.specs.Context.{Context, values}
-use Rattle.pc_rules.specs.Conversion.{Below}
-use Rattle.pc_rules.specs.Step.{Step, IsConstructor}
-use Rattle.pc_rules.specs.Typing.{bare, Types}
-use Rattle.pc_rules.specs.Accepted.{IsAccepted}
-use Rattle.pc_rules.specs.Erasable.{Erasable}
-use Rattle.pc_rules.specs.Evaluation.{Evaluates}
-use Rattle.pc_rules.specs.FirstOrder.{Shape, IsFirstOrder}
-use Rattle.pc_rules.specs.Lawful.{IsLawful, IsLawfulEvaluation}
+use Rattle.calculus_rules.specs.Environment.{Env, FamilyDecl, KeepsFamily}
+use Rattle.calculus_rules.specs.Context.{Context, values}
+use Rattle.calculus_rules.specs.Conversion.{Below}
+use Rattle.calculus_rules.specs.Step.{Step, IsConstructor}
+use Rattle.calculus_rules.specs.Typing.{bare, Types}
+use Rattle.calculus_rules.specs.Accepted.{IsAccepted}
+use Rattle.calculus_rules.specs.Erasable.{Erasable}
+use Rattle.calculus_rules.specs.Evaluation.{Evaluates}
+use Rattle.calculus_rules.specs.FirstOrder.{Shape, IsFirstOrder}
+use Rattle.calculus_rules.specs.Lawful.{IsLawful, IsLawfulEvaluation}
 use Rattle.type_laws.specs.Contexts.{HasSort, IsContext}
 
 -- validity

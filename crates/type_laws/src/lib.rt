@@ -4,9 +4,9 @@
 //! (`types_have_a_common_one`), and what evaluation leaves of a family is a constructor (`values_are_constructors`). So each evaluation of a typed closed term is
 //! lawful, which is the premise of the simulation by erased programs (`evaluations_are_lawful`).
 //!
-//! Below stand `pc_rules` with the definitions, `equality_laws` with confluence and `erase_laws` with generation, weakening and substitution; above stand
-//! `headline`, which by these laws asks of main's evaluation nothing more, `progress`, which says where evaluation may
-//! get stuck, and `lawful_programs` with small examples.
+//! Below stand `calculus_rules` with the definitions, `equality_laws` with confluence and `typing_laws` with generation, weakening and substitution; above stand
+//! `headline`, which by these laws asks of main's evaluation nothing more, and `progress`, which says where evaluation
+//! may get stuck.
 #![tactic(auto)]
 
 ghost use Rattle.type_laws.specs.Laws.{

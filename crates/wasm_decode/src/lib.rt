@@ -8,7 +8,7 @@
 //! (`leb`), names and parts, each against the item of the same name in the definition; `types`, `declarations` and `bodies` have one function
 //! for each production of the grammar; `file` goes over the sections.
 //!
-//! `wasm_core` stands below; `wasm_run` and `driver` stand above.
+//! `wasm_core` stands below; `module_run` stands above.
 #![tactic(auto)]
 
 mod bodies;

@@ -17,7 +17,7 @@ use Rattle.wasm_core.proofs.Rules as rule
 use Rattle.wasm_core.proofs.Trees.{tree_tells, tree_answers}
 use Rattle.closure_lift.specs.Lifted.{Program, Val, Vals, VNil, Answers as Evaluates, answers_alone}
 use Rattle.closure_lift.specs.Lifted as lifted
-use Rattle.anf_convert.specs.AnfData.{Data}
+use Rattle.anf_convert.specs.AnfData.{DataTree}
 use Rattle.closure_lift.specs.LiftKeeps.{IsData}
 use Rattle.wasm_emit.specs.EmittedLocals.{top}
 use Rattle.wasm_emit.specs.EmittedModule.{type_main, main_function, main_index, module_of}
@@ -49,7 +49,7 @@ alone : {P : Program} {w : ℕ} {v : Val} {c k b l : ℕ} → Evaluates P w VNil
 alone (answers_alone g) = g
 
 -- the tree of all runs
-whole : (P : Program) (pages w m D : ℕ) (v : Val) (d : Data) (c k b s : ℕ) → 0 < pages → pages ≤ 16384 → 0 < m → Gets P w m false D VNil P.main v c k b s → IsData v d →
+whole : (P : Program) (pages w m D : ℕ) (v : Val) (d : DataTree) (c k b s : ℕ) → 0 < pages → pages ≤ 16384 → 0 < m → Gets P w m false D VNil P.main v c k b s → IsData v d →
     Within (module_of P pages) (record { frames = D + 1; bytes = 8 + 4 * s; more = [] }) (Finished (module_of P pages) (preorder d) (8 + 4 * s)) k (64 * (b + c + 1) * (w + m)) (first_of P pages)
 whole P pages w m D v d c k b s pos small some g is =
     let M = module_of P pages in

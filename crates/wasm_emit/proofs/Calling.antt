@@ -14,7 +14,7 @@ use Rattle.wasm_core.specs.RunTree.{Fate, goes_on, ended, ran_out, now}
 use Rattle.wasm_core.proofs.Rules as rule
 use Rattle.wasm_core.proofs.Trees.{tree_tells}
 use Rattle.closure_lift.specs.Lifted.{Program, Val, Vals, size}
-use Rattle.anf_convert.specs.AnfData.{Data, Datas}
+use Rattle.anf_convert.specs.AnfData.{DataTree, DataTrees}
 use Rattle.closure_lift.specs.LiftKeeps.{IsData, is_data, AreData, are_data_none, are_data_more}
 use Rattle.wasm_emit.specs.EmittedLocals.{top}
 use Rattle.wasm_emit.specs.EmittedModule.{type_main, main_index}
@@ -33,17 +33,17 @@ use Rattle.wasm_emit.proofs.Follows.{zeros_length, applies}
 use Rattle.wasm_emit.proofs.Answering.{at_end, has_answered, is_exhausted}
 
 mutual
-  stands_of : {m : Mem} {h w : ℕ} {v : Val} {d : Data} → IsData v d → Stored m h w d → Stands m h w v
+  stands_of : {m : Mem} {h w : ℕ} {v : Val} {d : DataTree} → IsData v d → Stored m h w d → Stands m h w v
   stands_of (is_data are_data_none) (stored_odd lt e) = s_empty lt e
   stands_of (is_data hs) (stored_block b within fs) = s_con b.quarter b.small b.aligned b.there (omega (arith, b.some, all_count hs)) (omega (arith, all_count hs)) (omega (arith, b.header, all_count hs)) (fields_of hs fs)
 
-  fields_of : {m : Mem} {h w : ℕ} {vs : Vals} {ds : Datas} → AreData vs ds → FieldsStored m h w ds → Fields m h w vs
+  fields_of : {m : Mem} {h w : ℕ} {vs : Vals} {ds : DataTrees} → AreData vs ds → FieldsStored m h w ds → Fields m h w vs
   fields_of are_data_none no_fields = no_field
   fields_of {m} {h} {w} (are_data_more {v = v} {vs = vs} {ds = ds} x hs) (last_field s low fs) =
       let same : word m (w + 4 * suc (count ds)) ≡ word m (w + 4 * suc (size vs)) = ap (λ n. word m (w + 4 * suc n)) (all_count hs) in
       field (subst (λ z. Stands m h z v) same (stands_of x s)) (subst (IsBelow w) same low) (fields_of hs fs)
 
-args_of : {m : Mem} {h a : ℕ} {vs : Vals} {ds : Datas} → AreData vs ds → ArgumentsStored m h a ds → ArgsAt m h a vs
+args_of : {m : Mem} {h a : ℕ} {vs : Vals} {ds : DataTrees} → AreData vs ds → ArgumentsStored m h a ds → ArgsAt m h a vs
 args_of are_data_none no_arguments = args_none
 args_of {m} {h} {a} (are_data_more {v = v} {vs = vs} {ds = ds} x hs) (last_argument s within fs) =
     let same : word m (a + 4 * count ds) ≡ word m (a + 4 * size vs) = ap (λ n. word m (a + 4 * n)) (all_count hs) in
@@ -55,7 +55,7 @@ ends m bytes frames least n d t (ended q h) last = inl (has_answered m bytes d t
 ends m bytes frames least n d t (ran_out e) last = inr (is_exhausted m bytes t e)
 
 -- the tree of all runs
-whole : (P : Program) (pages w m D : ℕ) (args : Vals) (ds : Datas) (v : Val) (d : Data) (c k b s : ℕ) (memory : Mem) (pages_now heap address : ℕ) → 0 < pages → pages ≤ 16384 → 0 < m → Applies P w m D args v c k b s → AreData args ds → IsData v d → IsHosted pages memory pages_now heap address ds →
+whole : (P : Program) (pages w m D : ℕ) (args : Vals) (ds : DataTrees) (v : Val) (d : DataTree) (c k b s : ℕ) (memory : Mem) (pages_now heap address : ℕ) → 0 < pages → pages ≤ 16384 → 0 < m → Applies P w m D args v c k b s → AreData args ds → IsData v d → IsHosted pages memory pages_now heap address ds →
     Within (module_of_call P (count ds) pages) (record { frames = D + 1; bytes = heap + 4 * s; more = I32 address ∷ [] }) (Finished (module_of_call P (count ds) pages) (preorder d) (heap + 4 * s)) k (64 * (b + c + 1) * (w + m))
     (call_start (record { type = type_main; body = call_function P (count ds) }) (hosted memory pages_now heap address))
 whole P pages w m D args ds v d c k b s memory pages_now heap address pos small some g are is host =

@@ -6,7 +6,7 @@ use Rattle.wasm_core.specs.Parts.{Parts}
 use Rattle.closure_lift.specs.Lifted.{Program, VNil}
 use Rattle.anf_convert.specs.AnfEvaluation.{WNil}
 use Rattle.closure_lift.specs.Lift.{lift}
-use Rattle.anf_convert.specs.AnfData.{Data, anf_data_none}
+use Rattle.anf_convert.specs.AnfData.{DataTree, anf_data_none}
 use Rattle.closure_lift.specs.LiftKeeps.{are_data_none}
 use Rattle.closure_lift.proofs.Follows.{lift_keeps}
 use Rattle.closure_lift.proofs.Forms.{lift_forms}
@@ -23,7 +23,7 @@ pub longer : {m : Parts} {l u : ℕ} {d : Nodes} → l ≤ u → AnswersWithin m
 longer le a = record { first = a.first; starts = a.starts; bounded = λ k t r. omega (arith, a.bounded k t r); answers = a.answers }
 
 -- more contractions
-pub looser_emitted : {P : Program} {pages w m : ℕ} {d : Data} {c c' k b s : ℕ} → c' ≤ c → Emitted P pages w m d c' k b s → Emitted P pages w m d c k b s
+pub looser_emitted : {P : Program} {pages w m : ℕ} {d : DataTree} {c c' k b s : ℕ} → c' ≤ c → Emitted P pages w m d c' k b s → Emitted P pages w m d c k b s
 looser_emitted {w = w} {m = m} {c = c} {c' = c'} {b = b} le h =
     let z : c ≡ c' + (c - c') = omega arith in
     let bound : 64 * (b + c' + 1) * (w + m) ≤ 64 * (b + c + 1) * (w + m) = subst (λ q. 64 * (b + c' + 1) * (w + m) ≤ 64 * (b + q + 1) * (w + m)) (sym z) (steps b c' (c - c') (w + m)) in

@@ -1,7 +1,7 @@
 -- A word that stands for a value that is data stands for the list of the data's nodes.
 use Rattle.std.proofs.Common.{◌≡◌, ℕ, suc, ◌+◌, ◌*◌, ◌≤◌, List, [], ◌∷◌, ◌++◌, length, refl, ap, sym, subst, append_assoc, arith}
 use Rattle.closure_lift.specs.Lifted.{Val, Vals, size}
-use Rattle.anf_convert.specs.AnfData.{Data, Datas}
+use Rattle.anf_convert.specs.AnfData.{DataTree, DataTrees}
 use Rattle.closure_lift.specs.LiftKeeps.{IsData, is_data, AreData, are_data_none, are_data_more}
 use Rattle.wasm_core.specs.Memory.{word}
 use Rattle.wasm_core.specs.WordData.{IsBelow, StandsFor, odd, block, FieldsStand, no_field, field}
@@ -10,7 +10,7 @@ use Rattle.wasm_emit.proofs.Bytes.{Mem}
 use Rattle.wasm_emit.proofs.Values.{Stands, s_box, s_empty, s_con, s_clos, Fields}
 use Rattle.wasm_emit.proofs.Values as value
 
-pub all_count : {vs : Vals} {ds : Datas} → AreData vs ds → count ds ≡ size vs
+pub all_count : {vs : Vals} {ds : DataTrees} → AreData vs ds → count ds ≡ size vs
 all_count are_data_none = refl
 all_count (are_data_more h hs) = ap suc (all_count hs)
 
@@ -29,14 +29,14 @@ one_more {m} {base} {at} {n = n} {d = d} x e (field {left = left} {first = first
     subst (FieldsStand m base at (suc n)) (sym (append_assoc first others d)) (field h b (one_more x (omega arith) fs s low))
 
 mutual
-  pub reads : {m : Mem} {limit w : ℕ} {v : Val} {d : Data} → limit ≤ length m → Stands m limit w v → IsData v d → StandsFor m w (preorder d)
+  pub reads : {m : Mem} {limit w : ℕ} {v : Val} {d : DataTree} → limit ≤ length m → Stands m limit w v → IsData v d → StandsFor m w (preorder d)
   reads le (s_empty lt e) (is_data are_data_none) = odd e
   reads le (s_box e) h = elim h [ ]
   reads le (s_clos q lt e pos within head fs) h = elim h [ ]
   reads {w = w} le (s_con q lt e pos some within head fs) (is_data {ds = ds} hs) =
       block (record { quarter = q; aligned = e; there = pos; some = omega (arith, all_count hs); small = lt; header = omega (arith, head, all_count hs); inside = omega (arith, all_count hs) }) (reads_all w le fs hs)
 
-  reads_all : {m : Mem} {limit : ℕ} (w : ℕ) {vs : Vals} {ds : Datas} → limit ≤ length m → Fields m limit w vs → AreData vs ds → FieldsStand m w (w + 4) (count ds) (preorders ds)
+  reads_all : {m : Mem} {limit : ℕ} (w : ℕ) {vs : Vals} {ds : DataTrees} → limit ≤ length m → Fields m limit w vs → AreData vs ds → FieldsStand m w (w + 4) (count ds) (preorders ds)
   reads_all w le value.no_field are_data_none = no_field
   reads_all {m} w le (value.field {v = v} {vs = vs} s low fs) (are_data_more {d = d} {ds = ds} h hs) =
       one_more (w + 4 * suc (size vs)) (omega (arith, all_count hs)) (reads_all w le fs hs) (reads le s h) low

@@ -2,7 +2,7 @@
 use Rattle.std.specs.Prelude.{◌≡◌, ℕ, suc, ◌+◌, ◌*◌, ◌<◌, ◌≤◌, ◌⊎◌, List, [], ◌∷◌, length, slice_get, true, false, Some}
 use Rattle.closure_lift.specs.Lifted.{Program, Val, Vals, Answers as Evaluates}
 use Rattle.closure_lift.specs.LiftedForm.{Formed, Limits as IsWithin}
-use Rattle.anf_convert.specs.AnfData.{Data, Made, Datas, DNil, DCons}
+use Rattle.anf_convert.specs.AnfData.{DataTree, Made, DataTrees, DNil, DCons}
 use Rattle.closure_lift.specs.LiftKeeps.{IsData, AreData}
 use Rattle.wasm_core.specs.declared.types.ConstValue.TheVariants.{I32}
 use Rattle.wasm_core.specs.declared.entries.Entry.TheVariants.{Main, Status}
@@ -22,22 +22,22 @@ use Rattle.anf_convert.specs.Preorder.{fields_of as count, preorder}
 
 mutual
   -- the word stands for the data, whose blocks lie below the end of the heap
-  pub data Stored (memory : List ℕ) (heap : ℕ) : ℕ → Data → Type 0 where
+  pub data Stored (memory : List ℕ) (heap : ℕ) : ℕ → DataTree → Type 0 where
     stored_odd : {c w : ℕ} → c < 65536 → w ≡ 2 * c + 1 → Stored memory heap w (Made c DNil)
-    stored_block : {c w : ℕ} {ds : Datas} → IsBlock memory w (count ds) c → w + 4 * suc (count ds) ≤ heap → FieldsStored memory heap w ds → Stored memory heap w (Made c ds)
+    stored_block : {c w : ℕ} {ds : DataTrees} → IsBlock memory w (count ds) c → w + 4 * suc (count ds) ≤ heap → FieldsStored memory heap w ds → Stored memory heap w (Made c ds)
 
   -- the fields of a block, the last one first
-  pub data FieldsStored (memory : List ℕ) (heap : ℕ) : ℕ → Datas → Type 0 where
+  pub data FieldsStored (memory : List ℕ) (heap : ℕ) : ℕ → DataTrees → Type 0 where
     no_fields : {block : ℕ} → FieldsStored memory heap block DNil
-    last_field : {block : ℕ} {d : Data} {ds : Datas} → Stored memory heap (word memory (block + 4 * suc (count ds))) d → IsBelow block (word memory (block + 4 * suc (count ds))) → FieldsStored memory heap block ds → FieldsStored memory heap block (DCons d ds)
+    last_field : {block : ℕ} {d : DataTree} {ds : DataTrees} → Stored memory heap (word memory (block + 4 * suc (count ds))) d → IsBelow block (word memory (block + 4 * suc (count ds))) → FieldsStored memory heap block ds → FieldsStored memory heap block (DCons d ds)
 
 -- the words at an address stand for the arguments, the last one first
-pub data ArgumentsStored (memory : List ℕ) (heap address : ℕ) : Datas → Type 0 where
+pub data ArgumentsStored (memory : List ℕ) (heap address : ℕ) : DataTrees → Type 0 where
   no_arguments : ArgumentsStored memory heap address DNil
-  last_argument : {d : Data} {ds : Datas} → Stored memory heap (word memory (address + 4 * count ds)) d → address + 4 * suc (count ds) ≤ heap → ArgumentsStored memory heap address ds → ArgumentsStored memory heap address (DCons d ds)
+  last_argument : {d : DataTree} {ds : DataTrees} → Stored memory heap (word memory (address + 4 * count ds)) d → address + 4 * suc (count ds) ≤ heap → ArgumentsStored memory heap address ds → ArgumentsStored memory heap address (DCons d ds)
 
 -- what a host has made of the module's memory of at most so many pages: whole pages, the fewest that the heap takes; the word at 0 is as it was
-pub record IsHosted (most : ℕ) (memory : List ℕ) (pages heap address : ℕ) (ds : Datas) : Type 0 where
+pub record IsHosted (most : ℕ) (memory : List ℕ) (pages heap address : ℕ) (ds : DataTrees) : Type 0 where
   pub whole : length memory ≡ 65536 * pages
   pub most_pages : pages ≤ most
   pub fewest : 65536 * pages < heap + 65536
@@ -56,7 +56,7 @@ abbrev pub call_start : Func → Store → State
 call_start g store = At (record { store = store; current = frame_of g []; callers = [] })
 
 -- what every run of the module with k arguments does, from the host's memory
-pub record Called (P : Program) (pages w m : ℕ) (ds : Datas) (d : Data) (c k b s : ℕ) (store : Store) (heap : ℕ) : Type 0 where
+pub record Called (P : Program) (pages w m : ℕ) (ds : DataTrees) (d : DataTree) (c k b s : ℕ) (store : Store) (heap : ℕ) : Type 0 where
   pub index : ℕ
   pub main : Func
   pub exported : index_of Main (module_of_call P (count ds) pages) ≡ Some index
@@ -69,7 +69,7 @@ pub record Called (P : Program) (pages w m : ℕ) (ds : Datas) (d : Data) (c k b
 -- where main, applied to values that are the stored data, evaluates to data, every long enough run of the module answers that data or is exhausted
 abbrev pub EmitCalls : Type 0
 EmitCalls =
-    (P : Program) (pages w m : ℕ) (args : Vals) (ds : Datas) (v : Val) (d : Data) (c k b s : ℕ) (memory : List ℕ) (now heap address : ℕ) → 0 < pages → pages ≤ 16384 → 0 < m → Formed P m → IsWithin P →
+    (P : Program) (pages w m : ℕ) (args : Vals) (ds : DataTrees) (v : Val) (d : DataTree) (c k b s : ℕ) (memory : List ℕ) (now heap address : ℕ) → 0 < pages → pages ≤ 16384 → 0 < m → Formed P m → IsWithin P →
     AreData args ds → Evaluates P w args v c k b s → IsData v d → IsHosted pages memory now heap address ds → Called P pages w m ds d c k b s (hosted memory now heap address) heap
 
 -- such a module is valid, for any number of arguments

@@ -2,7 +2,7 @@
 use Rattle.std.specs.Prelude.{◌≡◌, ℕ, ◌+◌, ◌-◌, ◌*◌, ◌<◌, ◌≤◌, length, slice_get, false, true, Some}
 use Rattle.closure_lift.specs.Lifted.{Block, Fn, Program, Val, VNil, Answers as Evaluates}
 use Rattle.closure_lift.specs.LiftedForm.{Formed, Limits as IsWithin}
-use Rattle.anf_convert.specs.AnfData.{Data}
+use Rattle.anf_convert.specs.AnfData.{DataTree}
 use Rattle.closure_lift.specs.LiftKeeps.{IsData}
 use Rattle.wasm_core.specs.declared.entries.Entry.TheVariants.{Status}
 use Rattle.wasm_core.specs.declared.ended.Ended.TheVariants.{Returned, Trapped}
@@ -49,7 +49,7 @@ EmitSpelled = (P : Program) (pages m : ℕ) → 0 < pages → pages ≤ 16384 �
 
 -- What every run of the module does, whichever grows are refused: it has a bounded number of steps; and it goes on, within a bounded depth of
 -- calls, or has returned and answers the data, after at least k steps, with its blocks of s words in all on the heap, or has spent its memory.
-pub record Emitted (P : Program) (pages w m : ℕ) (d : Data) (c k b s : ℕ) : Type 0 where
+pub record Emitted (P : Program) (pages w m : ℕ) (d : DataTree) (c k b s : ℕ) : Type 0 where
   pub first : State
   pub starts : main_start (module_of P pages) ≡ Some first
   pub depth : ℕ
@@ -60,7 +60,7 @@ pub record Emitted (P : Program) (pages w m : ℕ) (d : Data) (c k b s : ℕ) : 
 -- words, and no match has over m branches
 abbrev pub EmitAnswers : Type 0
 EmitAnswers =
-    (P : Program) (pages w m : ℕ) (v : Val) (d : Data) (c k b s : ℕ) → 0 < pages → pages ≤ 16384 → 0 < m → Formed P m → IsWithin P →
+    (P : Program) (pages w m : ℕ) (v : Val) (d : DataTree) (c k b s : ℕ) → 0 < pages → pages ≤ 16384 → 0 < m → Formed P m → IsWithin P →
     Evaluates P w VNil v c k b s → IsData v d → Emitted P pages w m d c k b s
 
 -- of every program, whether main has a value or not: in every run the status is 1 only after a refused grow of that run

@@ -9,7 +9,8 @@
 //! (`emitted_modules_are_valid`) and can be spelled (`emitted_modules_can_be_spelled`); its bytes and locals are bounded by the program's size
 //! (`emitted_bytes_are_bounded`). `CallModule` is the same for a main that takes arguments from memory (`calls_of_main_answer`).
 //!
-//! Below stand `closure_lift` (lifted programs and their evaluation) and `wasm_core` (modules, validity, runs).
+//! Below stand `closure_lift` (lifted programs and their evaluation) and `wasm_core` (modules, validity, runs); above stand
+//! `back_end`, with the laws of all passes together, and `compile`, which calls it.
 #![tactic(auto)]
 
 mod blocks;

@@ -7,7 +7,7 @@
 //! The code puts each thing after what is there, by a function with the name of the definition's: `numbers`, `types`, `declarations`,
 //! `bodies`, `file`. A section and a body are put together on their own first, since their size comes before them.
 //!
-//! `wasm_core` stands below; `driver` stands above.
+//! `wasm_core` stands below; `module_run` and `driver` stand above.
 #![tactic(auto)]
 
 mod bodies;

@@ -11,7 +11,7 @@
 //!   what that says of typing (`body_fault`).
 //!
 //! The definition `BodyPass` says where the pass stops, and `proofs/Stopping` that this is where typing fails. The time is linear in the
-//! module, but for the order of export names; nothing recurses over nests. `wasm_core` stands below; `wasm_encode`, `wasm_run` and `driver` above.
+//! module, but for the order of export names; nothing recurses over nests. `wasm_core` stands below; `module_run` stands above.
 #![tactic(auto)]
 
 mod body;

@@ -1,6 +1,6 @@
 //! Branches of matches: their entries, and their types.
 ghost use Rattle.std.specs.Prelude.{◌≡◌, IfOk, IfErr, IsTrue, length};
-ghost use Rattle.pc_rules.specs.Instances.{branch_entries, result_at, branch_type};
+ghost use Rattle.calculus_rules.specs.Instances.{branch_entries, result_at, branch_type};
 ghost use Rattle.pc_rules.specs.DirectedRun.{any_beyond};
 ghost use Rattle.pc_rules.specs.DirectedTyping.{branch_beyond};
 ghost use Rattle.pc_terms.specs.declared.term.MakeFault.TheVariants.{TooDeep};
@@ -9,7 +9,7 @@ use crate::instances::applied::apply_under;
 use crate::instances::counted::short_length;
 use crate::instances::entries::telescope_at;
 use crate::instances::replacing::replace;
-use pc_rules::declaration::Constructor;
+use calculus_rules::declaration::Constructor;
 use pc_terms::lists::Telescope;
 use pc_terms::term::{MakeFault, Match, Node, Term, Terms};
 use std::alloc::Global;

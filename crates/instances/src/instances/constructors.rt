@@ -2,16 +2,16 @@
 ghost use Rattle.std.specs.Prelude.{◌≡◌, ◌++◌, ◌≤◌, IfOk, IfErr, IsTrue, map};
 ghost use Rattle.trees.specs.Measures.{IsBeyond};
 ghost use Rattle.pc_terms.specs.Syntax.{Ind, shift, apply, variables};
-ghost use Rattle.pc_rules.specs.declared.declaration.Family.{Family};
-ghost use Rattle.pc_rules.specs.Environment.{with_parameters};
-ghost use Rattle.pc_rules.specs.Instances.{constructor_type};
+ghost use Rattle.calculus_rules.specs.declared.declaration.Family.{Family};
+ghost use Rattle.calculus_rules.specs.Environment.{with_parameters};
+ghost use Rattle.calculus_rules.specs.Instances.{constructor_type};
 ghost use Rattle.pc_rules.specs.DirectedRun.{is_beyond};
 ghost use Rattle.pc_terms.specs.declared.term.MakeFault.TheVariants.{TooDeep};
 
 use crate::instances::applied::{push_shared, push_variables};
 use crate::instances::counted::short_length;
 use crate::instances::products::product_over;
-use pc_rules::declaration::{Block, Constructor};
+use calculus_rules::declaration::{Block, Constructor};
 use pc_terms::leaf::FamilyId;
 use pc_terms::term::{MakeFault, Node, Term, Terms};
 use std::alloc::Global;

@@ -4,7 +4,7 @@ ghost use Rattle.trees.specs.Tree.{Rel as variable};
 ghost use Rattle.trees.specs.Substitution.{subst_list};
 ghost use Rattle.trees.specs.Parallel.{put_all};
 ghost use Rattle.trees.specs.Measures.{IsBeyond};
-ghost use Rattle.pc_rules.specs.Instances.{entries_at};
+ghost use Rattle.calculus_rules.specs.Instances.{entries_at};
 ghost use Rattle.pc_rules.specs.DirectedRun.{any_beyond};
 ghost use Rattle.pc_terms.specs.declared.term.MakeFault.TheVariants.{TooDeep};
 

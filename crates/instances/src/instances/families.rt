@@ -1,14 +1,14 @@
 //! Types of families.
 ghost use Rattle.std.specs.Prelude.{◌≡◌, IfOk, IfErr, IsTrue};
-ghost use Rattle.pc_rules.specs.Environment.{with_parameters};
-ghost use Rattle.pc_rules.specs.Instances.{family_type};
+ghost use Rattle.calculus_rules.specs.Environment.{with_parameters};
+ghost use Rattle.calculus_rules.specs.Instances.{family_type};
 ghost use Rattle.pc_rules.specs.DirectedRun.{is_beyond};
 ghost use Rattle.pc_terms.specs.declared.term.MakeFault.TheVariants.{TooDeep, Memory};
 ghost use Rattle.universe_levels.specs.declared.sort.Sort.{Sort};
 ghost use Rattle.pc_terms.specs.Syntax.{SortT};
 
 use crate::instances::products::product_over;
-use pc_rules::declaration::{Block, Family};
+use calculus_rules::declaration::{Block, Family};
 use pc_terms::term::{MakeFault, Node, Term};
 use std::alloc::Global;
 use universe_levels::sort::Sort;

@@ -1,7 +1,7 @@
 //! Fixpoints unfolded.
 ghost use Rattle.std.specs.Prelude.{◌≡◌, ◌<◌, Some, IfOk, IfErr, IsTrue, length};
 ghost use Rattle.pc_terms.specs.Lists.{rargs_of, types_of, bodies_of};
-ghost use Rattle.pc_rules.specs.Instances.{fixpoints};
+ghost use Rattle.calculus_rules.specs.Instances.{fixpoints};
 ghost use Rattle.pc_rules.specs.DirectedRun.{is_beyond};
 ghost use Rattle.instances.specs.Unfolding.{fixpoint_at, unfolding_of, unfolding_beyond};
 ghost use Rattle.pc_terms.specs.declared.term.MakeFault.TheVariants.{TooDeep, Memory};

@@ -1,15 +1,15 @@
 //! Predicates of matches: their entries, and their values.
 ghost use Rattle.std.specs.Prelude.{◌≡◌, List, IfOk, IfErr, IsTrue};
 ghost use Rattle.pc_terms.specs.Syntax.{Term};
-ghost use Rattle.pc_rules.specs.Environment.{with_parameters};
-ghost use Rattle.pc_rules.specs.Instances.{predicate_entries, predicate_at};
+ghost use Rattle.calculus_rules.specs.Environment.{with_parameters};
+ghost use Rattle.calculus_rules.specs.Instances.{predicate_entries, predicate_at};
 ghost use Rattle.pc_rules.specs.DirectedRun.{is_beyond, any_beyond};
 ghost use Rattle.pc_terms.specs.declared.term.MakeFault.TheVariants.{TooDeep};
 
 use crate::instances::applied::{apply_under, push_shared};
 use crate::instances::counted::short_length;
 use crate::instances::entries::telescope_at;
-use pc_rules::declaration::Family;
+use calculus_rules::declaration::Family;
 use pc_terms::leaf::FamilyId;
 use pc_terms::lists::Telescope;
 use pc_terms::term::{MakeFault, Match, Node, Term, Terms};

@@ -1,7 +1,7 @@
 //! Products over telescopes.
 ghost use Rattle.std.specs.Prelude.{◌≡◌, IfOk, IfErr};
 ghost use Rattle.trees.specs.Measures.{IsBeyond};
-ghost use Rattle.pc_rules.specs.Instances.{products};
+ghost use Rattle.calculus_rules.specs.Instances.{products};
 ghost use Rattle.pc_terms.specs.declared.term.MakeFault.TheVariants.{TooDeep};
 
 use pc_terms::lists::Telescope;

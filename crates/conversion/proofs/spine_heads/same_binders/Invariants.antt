@@ -1,7 +1,7 @@
 use Rattle.std.proofs.Common.{◌≡◌, drop}
 use Rattle.pc_terms.specs.Formed.{binders_of}
 use Rattle.pc_terms.specs.Lists.{arms_of}
-use Rattle.pc_rules.specs.Same.{same_numbers}
+use Rattle.calculus_rules.specs.Same.{same_numbers}
 use Rattle.conversion.proofs.spine_heads.same_binders.Given as goal
 
 -- the rest decides

@@ -1,6 +1,6 @@
 use Rattle.std.proofs.Common.{◌≡◌, drop}
 use Rattle.pc_terms.specs.Lists.{rargs_of}
-use Rattle.pc_rules.specs.Same.{same_numbers}
+use Rattle.calculus_rules.specs.Same.{same_numbers}
 use Rattle.conversion.proofs.spine_heads.same_recursive_arguments.Given as goal
 
 -- the rest decides

@@ -1,6 +1,6 @@
 use Rattle.std.proofs.Common.{Ok, Err, None, [], ◌-◌, sym, subst}
 use Rattle.pc_rules.specs.Entailment.{test_of}
-use Rattle.pc_rules.specs.Typing.{Types, guarded}
+use Rattle.calculus_rules.specs.Typing.{Types, guarded}
 use Rattle.pc_rules.specs.DirectedTyping.{infer}
 use Rattle.erase_rules.specs.DirectedProgram.{erased_program}
 use Rattle.erase.specs.AtPlaces.{FollowsAt, answered}

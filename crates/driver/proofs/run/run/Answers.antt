@@ -1,6 +1,6 @@
 use Rattle.std.proofs.Common.{Ok, Err, subst, sym}
 use Rattle.command_line.specs.declared.job.Job.TheVariants.{Run}
-use Rattle.file_run.specs.FileEnds.{FileEnds}
+use Rattle.module_run.specs.FileEnds.{FileEnds}
 use Rattle.driver.specs.Serve.{RefusalSays}
 use Rattle.driver.proofs.RunCauses.{run_says, tags_says}
 use Rattle.driver.proofs.run.run.Goals as goal

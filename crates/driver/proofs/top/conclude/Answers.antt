@@ -1,9 +1,9 @@
 use Rattle.std.proofs.Common.{ℕ}
 use Rattle.std.specs.Prelude.{Vec}
 use Rattle.std.specs.declared.alloc.Global.{Global}
-use Rattle.report_lines.specs.CheckFacts.{facts_of}
-use Rattle.report_lines.proofs.FactByFact.{no_lines}
-use Rattle.report_lines.proofs.PartByPart.{appends_as}
+use Rattle.driver.specs.ReportedFacts.{facts_of}
+use Rattle.driver.proofs.FactByFact.{no_lines}
+use Rattle.driver.proofs.PartByPart.{appends_as}
 use Rattle.driver.proofs.Inputs.{concluded}
 use Rattle.driver.proofs.top.conclude.Goals as goal
 

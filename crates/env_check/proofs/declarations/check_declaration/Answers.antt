@@ -1,5 +1,5 @@
 use Rattle.std.proofs.Common.{rules, ◌-◌, map}
-use Rattle.pc_rules.specs.declared.declaration.Block.{Block as BlockOf}
+use Rattle.calculus_rules.specs.declared.declaration.Block.{Block as BlockOf}
 use Rattle.pc_rules.specs.Entailment.{test_of}
 use Rattle.rule_laws.proofs.TypedCounts.{accepted_counted}
 use Rattle.inductive_check.specs.Given.{family_of}

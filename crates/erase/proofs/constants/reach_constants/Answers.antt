@@ -1,10 +1,10 @@
 use Rattle.std.proofs.Common.{arith, ◌≡◌, ◌∙◌, ◌-◌, ◌||◌, ap, sym, subst, true, false, [], ◌∷◌, ◌++◌, length, Some, None, Ok, Err}
 use Rattle.std.proofs.lemmas.Result.{err_from_is_err_and}
-use Rattle.pc_rules.specs.declared.declaration.Kept.{Kept}
-use Rattle.pc_rules.specs.declared.declaration.Kept.TheVariants.{Constant}
+use Rattle.calculus_rules.specs.declared.declaration.Kept.{Kept}
+use Rattle.calculus_rules.specs.declared.declaration.Kept.TheVariants.{Constant}
 use Rattle.pc_rules.specs.declared.broken.Place.TheVariants.{Declaration as AtDeclaration}
 use Rattle.pc_rules.specs.Entailment.{test_of}
-use Rattle.pc_rules.specs.Environment.{Has, here, there}
+use Rattle.calculus_rules.specs.Environment.{Has, here, there}
 use Rattle.pc_rules.specs.DirectedTyping.{infer}
 use Rattle.erase_rules.specs.DirectedErasure.{erased}
 use Rattle.erase_rules.specs.DirectedProgram.{names_constant, is_reached, erased_constants}

@@ -1,10 +1,10 @@
 use Rattle.std.proofs.Common.{◌≡◌, ℕ, nat_eq, [], ◌∷◌, length, Result}
 use Rattle.std.specs.HashSet.{contains}
-use Rattle.pc_rules.specs.declared.declaration.Kept.{Kept}
+use Rattle.calculus_rules.specs.declared.declaration.Kept.{Kept}
 use Rattle.pc_rules.specs.declared.broken.Place.{Place}
 use Rattle.pc_rules.specs.declared.meter.Meter.{Meter}
 use Rattle.pc_rules.specs.Entailment.{test_of}
-use Rattle.pc_rules.specs.Environment.{Has}
+use Rattle.calculus_rules.specs.Environment.{Has}
 use Rattle.pc_rules.specs.DirectedRun.{Run}
 use Rattle.pc_rules.specs.DirectedTyping.{infer}
 use Rattle.pc_terms.specs.BoxSyntax.{BoxTerm}

@@ -1,5 +1,5 @@
 use Rattle.std.proofs.Common.{[], sym, subst}
-use Rattle.pc_rules.specs.Typing.{Types, guarded}
+use Rattle.calculus_rules.specs.Typing.{Types, guarded}
 use Rattle.erase_rows.proofs.erasures.checked_of.Goals as goal
 
 pub returns-in-Ok : goal.returns-in-Ok

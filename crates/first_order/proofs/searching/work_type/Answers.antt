@@ -1,6 +1,6 @@
 use Rattle.std.proofs.Common.{rules, ◌≡◌, ◌∙◌, map, length, Ok, ap, subst}
 use Rattle.pc_terms.specs.Syntax.{head, args}
-use Rattle.pc_rules.specs.Environment.{with_parameters}
+use Rattle.calculus_rules.specs.Environment.{with_parameters}
 use Rattle.pc_rules.specs.Follows.{Follows}
 use Rattle.pc_rules.specs.DirectedFirstOrder.{Found, work_type}
 use Rattle.pc_rules.proofs.Following.{follows_still}

@@ -2,7 +2,7 @@ use Rattle.std.proofs.Common.{◌≡◌, ◌∙◌, ◌+◌, ◌<◌, ◌≤◌,
 use Rattle.std.proofs.lemmas.Option.{get_or_from_slice_get}
 use Rattle.pc_rules.proofs.ListSteps.{next_is, none_left}
 use Rattle.data_trees.specs.Preorder.{IsForest}
-use Rattle.pc_rules.specs.DirectedWeakHead.{if_some}
+use Rattle.calculus_rules.specs.Lookups.{if_some}
 use Rattle.first_order.specs.Texts.{by_shapes, named_ctor, slot, slots, piece, write}
 use Rattle.first_order.proofs.Written.{writes_start, writes_not, writes_next, writes_end, forest_next, some_waits, is_text}
 use Rattle.first_order.proofs.ReadTexts.{shapes_count, read_has_text, named_at}

@@ -1,7 +1,7 @@
 use Rattle.std.proofs.Common.{◌≡◌, [], drop}
 use Rattle.pc_terms.specs.Lists.{rargs_of}
-use Rattle.pc_rules.specs.Context.{values, under}
-use Rattle.pc_rules.specs.Guardedness.{definition_marks}
+use Rattle.calculus_rules.specs.Context.{values, under}
+use Rattle.calculus_rules.specs.Guardedness.{definition_marks}
 use Rattle.guard_check.specs.Marks.{values_in, marks_in}
 use Rattle.guard_check.proofs.guard.definitions_scope.Given as goal
 

@@ -1,5 +1,5 @@
 use Rattle.std.proofs.Common.{rules}
-use Rattle.pc_rules.specs.DirectedDeclarations.{fits_sort, positive_rule}
+use Rattle.pc_rules.specs.DirectedDeclarations.{fits_sort}
 use Rattle.pc_rules.specs.Entailment.{test_of}
 use Rattle.pc_rules.proofs.Following.{follows_bind, follows_err, follows_done}
 use Rattle.inductive_check.proofs.Leading.{still_bind, still_stops}
@@ -17,13 +17,12 @@ returns-in_err-fits_sort-clause-follows g c =
 pub returns-in_err-positive_at-clause-follows : goal.returns-in_err-positive_at-clause-follows
 returns-in_err-positive_at-clause-follows g c =
     let m = c.sort_of.new.m in
-    let at = c.args.at in
-    let f = still_stops (positive_rule c.args.block at.family at.ctor c.args.ty.now m.account) c.in_err-positive_at.field-0.0 m (c.in_err-positive_at.ensures.answers m.account) in
     follows_bind _ _ _ _ _ _ _ c.in_ok-sort.ensures.follows
-    (still_bind _ _ _ _ m m (c.in_ok-fits_sort.ensures.answers m.account) (search (rules, follows_err)))
+    (still_bind _ _ _ _ m c.positive_at.new.m (c.in_ok-fits_sort.ensures.answers m.account) (search (rules, follows_err)))
 
 pub returns-clause-follows : goal.returns-clause-follows
 returns-clause-follows g c =
     let m = c.sort_of.new.m in
     follows_bind _ _ _ _ _ _ _ c.in_ok-sort.ensures.follows
-    (still_bind _ _ _ _ m m (c.in_ok-fits_sort.ensures.answers m.account) (still_bind _ _ _ _ m m (c.in_ok-positive_at.ensures.answers m.account) (follows_done _ m)))
+    (still_bind _ _ _ _ m c.positive_at.new.m (c.in_ok-fits_sort.ensures.answers m.account)
+    (follows_bind _ _ _ _ _ _ _ c.in_ok-positive_at.ensures.follows (follows_done _ c.positive_at.new.m)))

@@ -1,5 +1,5 @@
 use Rattle.std.proofs.Common.{◌≡◌, ◌++◌, drop}
-use Rattle.pc_rules.specs.Context.{extend}
+use Rattle.calculus_rules.specs.Context.{extend}
 use Rattle.pc_rules.specs.DirectedRun.{done, bind}
 use Rattle.pc_rules.specs.DirectedTyping.{infer}
 use Rattle.pc_rules.specs.DirectedDeclarations.{arguments_rule}

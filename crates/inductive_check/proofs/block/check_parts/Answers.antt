@@ -1,5 +1,5 @@
 use Rattle.std.proofs.Common.{rules, ◌≡◌, ◌∙◌, [], ap, sym, refl}
-use Rattle.pc_rules.specs.Context.{extend}
+use Rattle.calculus_rules.specs.Context.{extend}
 use Rattle.pc_rules.specs.Entailment.{test_of}
 use Rattle.pc_rules.proofs.Following.{follows_bind, follows_err, follows_done}
 use Rattle.rule_laws.proofs.MatchRule.{all_formed}

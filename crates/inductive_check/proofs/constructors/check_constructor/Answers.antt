@@ -1,5 +1,5 @@
 use Rattle.std.proofs.Common.{rules, ◌∙◌, length, ap}
-use Rattle.pc_rules.specs.Context.{extend}
+use Rattle.calculus_rules.specs.Context.{extend}
 use Rattle.pc_rules.specs.DirectedTyping.{counted}
 use Rattle.pc_rules.specs.DirectedDeclarations.{result_names}
 use Rattle.pc_rules.proofs.Following.{follows_bind, follows_err, follows_done}

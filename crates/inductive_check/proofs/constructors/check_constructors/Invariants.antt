@@ -1,6 +1,6 @@
 use Rattle.std.proofs.Common.{◌≡◌, ◌++◌, [], take, drop, map}
-use Rattle.pc_rules.specs.declared.declaration.Block.{Block}
-use Rattle.pc_rules.specs.Context.{extend}
+use Rattle.calculus_rules.specs.declared.declaration.Block.{Block}
+use Rattle.calculus_rules.specs.Context.{extend}
 use Rattle.pc_rules.specs.DirectedRun.{bind, done}
 use Rattle.pc_rules.specs.DirectedComparison.{compare}
 use Rattle.pc_rules.specs.DirectedTyping.{infer}

@@ -2,7 +2,7 @@ use Rattle.std.proofs.Common.{rules, [], ◌∷◌, map}
 use Rattle.std.proofs.lemmas.Result.{IfOk-weaker}
 use Rattle.pc_rules.specs.DirectedTyping.{levels_declared, undeclared_in}
 use Rattle.pc_rules.specs.DirectedDeclarations.{distinct_names}
-use Rattle.pc_rules.specs.Environment.{head_of}
+use Rattle.calculus_rules.specs.Environment.{head_of}
 use Rattle.pc_rules.specs.WellCounted.{AreCounted, AreCountedFamilies}
 use Rattle.pc_rules.proofs.Following.{follows_err}
 use Rattle.rule_laws.proofs.SimpleRules.{levels_are_declared, declared_over}

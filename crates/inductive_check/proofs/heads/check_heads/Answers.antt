@@ -1,6 +1,6 @@
 use Rattle.std.proofs.Common.{rules, ◌≡◌, ◌<◌, ◌≤◌, [], ◌∷◌, map, sym, subst, length, get_or, take, arith}
 use Rattle.std.proofs.lemmas.List.{take_all}
-use Rattle.pc_rules.specs.Environment.{head_of}
+use Rattle.calculus_rules.specs.Environment.{head_of}
 use Rattle.pc_rules.specs.DirectedTyping.{infer}
 use Rattle.pc_rules.specs.DirectedDeclarations.{family_head}
 use Rattle.pc_rules.specs.Entailment.{test_of}

@@ -1,7 +1,7 @@
 use Rattle.std.proofs.Common.{◌≡◌, [], take, drop, map}
-use Rattle.pc_rules.specs.declared.declaration.Block.{Block}
-use Rattle.pc_rules.specs.Context.{extend}
-use Rattle.pc_rules.specs.Environment.{head_of}
+use Rattle.calculus_rules.specs.declared.declaration.Block.{Block}
+use Rattle.calculus_rules.specs.Context.{extend}
+use Rattle.calculus_rules.specs.Environment.{head_of}
 use Rattle.pc_rules.specs.DirectedTyping.{infer}
 use Rattle.pc_rules.specs.DirectedDeclarations.{family_heads}
 use Rattle.pc_rules.specs.Entailment.{test_of}

@@ -1,5 +1,5 @@
 use Rattle.std.proofs.Common.{◌≡◌, take, map}
-use Rattle.pc_rules.specs.Environment.{head_of}
+use Rattle.calculus_rules.specs.Environment.{head_of}
 use Rattle.inductive_check.specs.Given.{family_of}
 use Rattle.inductive_check.proofs.heads.heads.Given as goal
 

@@ -1,5 +1,5 @@
 use Rattle.std.proofs.Common.{◌≡◌, drop}
-use Rattle.pc_rules.specs.Context.{extend}
+use Rattle.calculus_rules.specs.Context.{extend}
 use Rattle.pc_rules.specs.DirectedTyping.{infer}
 use Rattle.pc_rules.specs.Entailment.{test_of}
 use Rattle.pc_rules.specs.Follows.{IsAfter}

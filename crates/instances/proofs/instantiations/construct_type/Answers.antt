@@ -1,6 +1,6 @@
 use Rattle.std.proofs.Common.{rules, ◌≡◌, Some}
 use Rattle.std.proofs.lemmas.Result.{err_from_is_err_and}
-use Rattle.pc_rules.specs.DirectedWeakHead.{kept_at, whole_block}
+use Rattle.calculus_rules.specs.Lookups.{kept_at, whole_block}
 use Rattle.instances.proofs.KnownFamilies.{family_of-block, stop_of-deep}
 use Rattle.instances.proofs.instantiations.construct_type.Goals as goal
 

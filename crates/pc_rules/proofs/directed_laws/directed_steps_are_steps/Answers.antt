@@ -1,4 +1,4 @@
-use Rattle.pc_rules.proofs.WeakHead.{weak_step}
+use Rattle.calculus_rules.proofs.WeakHead.{weak_step}
 use Rattle.pc_rules.proofs.WeakNext.{weak_next_found}
 use Rattle.pc_rules.proofs.FairReduction.{steps_lead}
 use Rattle.pc_rules.proofs.directed_laws.directed_steps_are_steps.Goals as goal

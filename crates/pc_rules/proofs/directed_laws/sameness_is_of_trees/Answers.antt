@@ -1,5 +1,5 @@
 use Rattle.std.proofs.Common.{true, subst, ◌≡◌}
-use Rattle.pc_rules.specs.Same.{same}
+use Rattle.calculus_rules.specs.Same.{same}
 use Rattle.pc_rules.proofs.SameTrees.{same_is, same_itself}
 use Rattle.pc_rules.proofs.directed_laws.sameness_is_of_trees.Goals as goal
 

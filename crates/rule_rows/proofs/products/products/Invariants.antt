@@ -1,4 +1,4 @@
-use Rattle.pc_rules.specs.Environment.{Env}
+use Rattle.calculus_rules.specs.Environment.{Env}
 use Rattle.pc_rules.specs.WellCounted.{IsCounted}
 use Rattle.rule_rows.proofs.products.products.Given as goal
 

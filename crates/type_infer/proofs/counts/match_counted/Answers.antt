@@ -1,5 +1,5 @@
 use Rattle.std.proofs.lemmas.Result.{err_from_is_err_and}
-use Rattle.pc_rules.specs.Environment.{FamilyDecl, with_parameters}
+use Rattle.calculus_rules.specs.Environment.{FamilyDecl, with_parameters}
 use Rattle.type_infer.proofs.MatchLists.{parameters_stop, indices_stop, branches_stop, names_go}
 use Rattle.type_infer.proofs.counts.match_counted.Goals as goal
 

@@ -1,5 +1,5 @@
 use Rattle.std.proofs.Common.{◌≡◌, ap, arith}
-use Rattle.pc_rules.specs.Environment.{with_parameters}
+use Rattle.calculus_rules.specs.Environment.{with_parameters}
 use Rattle.type_infer.proofs.Declaring.{no_family}
 use Rattle.type_infer.proofs.declared.family_in.Goals as goal
 

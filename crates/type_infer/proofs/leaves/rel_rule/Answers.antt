@@ -1,7 +1,7 @@
 use Rattle.std.proofs.Common.{◌≤◌, ◌≡◌, ◌∙◌, sym, ap, length, arith, refl}
 use Rattle.std.proofs.lemmas.Option.{slice_get_past}
 use Rattle.std.proofs.lemmas.Result.{err_from_is_err_and}
-use Rattle.pc_rules.specs.Context.{type_of}
+use Rattle.calculus_rules.specs.Context.{type_of}
 use Rattle.type_infer.proofs.Entries.{unbound, bound, bound_fault}
 use Rattle.type_infer.proofs.leaves.rel_rule.Goals as goal
 

@@ -1,14 +1,15 @@
 use Rattle.std.proofs.Common.{rules, arith, ◌≡◌, ◌∙◌, sym, ap, ◌<◌, ◌≤◌, ◌-◌, ◌+◌, true, false, suc, min, length, List, ◌∷◌}
 use Rattle.pc_terms.specs.Syntax.{Term}
-use Rattle.pc_rules.specs.declared.entry.Entry.TheVariants.{Assumed}
-use Rattle.pc_rules.specs.Context.{extend}
-use Rattle.pc_rules.specs.DirectedComparison.{list_of, lifted_types, each_equal}
+use Rattle.calculus_rules.specs.declared.entry.Entry.TheVariants.{Assumed}
+use Rattle.calculus_rules.specs.Context.{extend}
+use Rattle.calculus_rules.specs.Listed.{list_of}
+use Rattle.pc_rules.specs.DirectedComparison.{lifted_types, each_equal}
 use Rattle.pc_rules.specs.DirectedRun.{run_all}
-use Rattle.pc_rules.specs.Environment.{with_parameters}
+use Rattle.calculus_rules.specs.Environment.{with_parameters}
 use Rattle.pc_rules.specs.Entailment.{test_of}
-use Rattle.pc_rules.specs.Instances.{predicate_entries, branch_entries}
+use Rattle.calculus_rules.specs.Instances.{predicate_entries, branch_entries}
 use Rattle.pc_terms.specs.Lists.{types_of, bodies_of}
-use Rattle.pc_rules.specs.Same.{same}
+use Rattle.calculus_rules.specs.Same.{same}
 use Rattle.pc_rules.proofs.Following.{follows_bind, follows_err, follows_still}
 use Rattle.std.proofs.lemmas.Result.{err_from_is_err_and}
 use Rattle.conversion.proofs.Defaults.{sort_and_other, product_and_other, lambda_and_other, other_first}

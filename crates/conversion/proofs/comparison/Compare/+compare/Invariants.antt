@@ -5,7 +5,8 @@ use Rattle.pc_rules.specs.declared.stop.Halt.{Halt}
 use Rattle.pc_rules.specs.Entailment.{test_of}
 use Rattle.pc_rules.specs.Follows.{Follows}
 use Rattle.pc_rules.specs.DirectedRun.{run_all}
-use Rattle.pc_rules.specs.DirectedComparison.{compare, each_equal, branches_equal, list_of}
+use Rattle.calculus_rules.specs.Listed.{list_of}
+use Rattle.pc_rules.specs.DirectedComparison.{compare, each_equal, branches_equal}
 use Rattle.conversion.proofs.comparison.Compare.+compare.Given as goal
 
 abbrev pub decreases-compare : goal.decreases-compare

@@ -7,8 +7,8 @@ use Rattle.std.proofs.lemmas.Result.{err_from_is_err_and}
 use Rattle.pc_rules.specs.Entailment.{test_of}
 use Rattle.pc_rules.specs.DirectedTyping.{infer}
 use Rattle.erase.proofs.Runs.{test_err, test_boxes, test_goes, lambda_err, lambda_done, lambda_within, let_err, let_err_second, let_done, let_within, app_err, app_err_second, app_done, app_within}
-use Rattle.pc_rules.specs.Instances.{branch_entries}
-use Rattle.pc_rules.specs.Environment.{with_parameters}
+use Rattle.calculus_rules.specs.Instances.{branch_entries}
+use Rattle.calculus_rules.specs.Environment.{with_parameters}
 use Rattle.box_terms.specs.BoxLists.{arms_of as box_arms}
 use Rattle.erase.proofs.ArmRuns.{entries_err, entries_go, branch_context, arms_all, after_more, arms_stop, arms_memory, arms_next, arms_end, scrutinee_err, arms_err, case_done, case_within, constructors_counted, arm_is_less, arm_counted, args_counted, are_counted}
 use Rattle.box_terms.specs.declared.term.BoxDef.{BoxDef}

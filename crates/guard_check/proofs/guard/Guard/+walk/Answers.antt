@@ -1,11 +1,13 @@
-use Rattle.std.proofs.Common.{rules, arith, ◌≤◌, ◌<◌, length}
+use Rattle.std.proofs.Common.{rules, arith, ◌≡◌, ◌≤◌, ◌<◌, ◌-◌, suc, length}
 use Rattle.std.proofs.lemmas.Result.{err_from_is_err_and}
 use Rattle.pc_rules.proofs.Following.{follows_bind, follows_err, follows_next, follows_first_err}
 use Rattle.trees.specs.Tree.{terms_of}
 use Rattle.trees.specs.Measures.{depth, depth_trees}
-use Rattle.pc_terms.specs.Lists.{arms_of, depth_defs}
+use Rattle.pc_terms.specs.Lists.{arms_of, rargs_of, types_of, bodies_of, depth_defs}
+use Rattle.calculus_rules.specs.Guardedness.{Smaller}
+use Rattle.guard_check.specs.Marks.{mark_of, values_in, marks_in}
 use Rattle.guard_check.proofs.Depths.{term_in, body_in, type_in, definition_in}
-use Rattle.guard_check.proofs.WalkRuns.{walk_leaf, walk_in, follows_last, terms_next, terms_stop, terms_end, branches_next, branches_stop, branches_end, definitions_next, definitions_type, definitions_body, definitions_end}
+use Rattle.guard_check.proofs.WalkRuns.{walk_leaf, walk_in, follows_last, terms_next, terms_stop, terms_end, branches_next, branches_stop, branches_end, definitions_next, definitions_type, definitions_body, definitions_end, passed_next, passed_type, passed_body, passed_end, fix_smaller, fix_other, under_in, under_other, under_stops, under_last, under_more}
 use Rattle.guard_check.proofs.guard.Guard.+walk.Goals as goal
 
 -- under a binder
@@ -15,7 +17,7 @@ binder-returns-in_err-walk g t c = record { follows = search (rules, follows_fir
 
 pub binder-returns : goal.binder-returns
 binder-returns g t c =
-    let f = walk_in c.args.env.now _ _ _ _ c.args.body.now _ _ _ c.in_ok-inner.ensures.values c.in_ok-inner.ensures.marks c.walk-2.ensures.follows in
+    let f = walk_in c.args.env.now c.args.recursive _ _ _ _ c.args.body.now _ _ _ c.in_ok-inner.ensures.values c.in_ok-inner.ensures.marks c.walk-2.ensures.follows in
     record { follows = follows_next _ _ _ _ _ _ c.in_ok-walk.ensures.follows (follows_last _ _ _ _ f) }
 
 -- branches
@@ -31,20 +33,20 @@ pub branches-returns-in_err-walk : goal.branches-returns-in_err-walk
 branches-returns-in_err-walk g t c =
     let l : c.loop-place.place < length c.as_slice-branches.result.now = grind arith in
     let p = err_from_is_err_and c.from_residual-in_err-walk.result c.from_residual-in_err-walk.ensures.1 in
-    let f = walk_in c.args.env.now _ _ _ _ c.index-branches-place.result.body _ _ _ c.in_ok-inner.ensures.values c.in_ok-inner.ensures.marks c.in_err-walk.ensures.follows in
-    let whole = c.loop-place.invariant _ _ (branches_stop _ _ _ _ _ _ c.as_slice-branches.result.now c.loop-place.place c.index-branches-place.result _ c.loop-place.m c.walk.new.m l c.index-branches-place.is f) in
+    let f = walk_in c.args.env.now c.args.recursive _ _ _ _ c.index-branches-place.result.body _ _ _ c.in_ok-inner.ensures.values c.in_ok-inner.ensures.marks c.in_err-walk.ensures.follows in
+    let whole = c.loop-place.invariant _ _ (branches_stop _ _ _ _ _ _ _ c.as_slice-branches.result.now c.loop-place.place c.index-branches-place.result _ c.loop-place.m c.walk.new.m l c.index-branches-place.is f) in
     record { follows = rw (p.1, p.2) (rw c.as_slice-branches.ensures.is at whole) }
 
 pub branches-loop-place-preserved : goal.branches-loop-place-preserved
 branches-loop-place-preserved g t c = λ r n x.
     let l : c.loop-place.place < length c.as_slice-branches.result.now = grind arith in
-    let f = walk_in c.args.env.now _ _ _ _ c.index-branches-place.result.body _ _ _ c.in_ok-inner.ensures.values c.in_ok-inner.ensures.marks c.in_ok-walk.ensures.follows in
-    c.loop-place.invariant r n (branches_next _ _ _ _ _ _ c.as_slice-branches.result.now c.loop-place.place c.index-branches-place.result r c.loop-place.m c.walk.new.m n l c.index-branches-place.is f x)
+    let f = walk_in c.args.env.now c.args.recursive _ _ _ _ c.index-branches-place.result.body _ _ _ c.in_ok-inner.ensures.values c.in_ok-inner.ensures.marks c.in_ok-walk.ensures.follows in
+    c.loop-place.invariant r n (branches_next _ _ _ _ _ _ _ c.as_slice-branches.result.now c.loop-place.place c.index-branches-place.result r c.loop-place.m c.walk.new.m n l c.index-branches-place.is f x)
 
 pub branches-returns : goal.branches-returns
 branches-returns g t c =
     let l : length c.as_slice-branches.result.now ≤ c.loop-place.place = grind arith in
-    let whole = c.loop-place.invariant _ _ (branches_end _ _ _ _ _ _ c.as_slice-branches.result.now c.loop-place.place c.loop-place.m l) in
+    let whole = c.loop-place.invariant _ _ (branches_end _ _ _ _ _ _ _ c.as_slice-branches.result.now c.loop-place.place c.loop-place.m l) in
     record { follows = rw c.as_slice-branches.ensures.is at whole }
 
 -- a match
@@ -63,53 +65,140 @@ pub case-returns-in_err-walk-2 : goal.case-returns-in_err-walk-2
 case-returns-in_err-walk-2 g t c =
     let p = err_from_is_err_and c.from_residual-in_err-walk-2.result c.from_residual-in_err-walk-2.ensures.1 in
     let ft = rw c.as_slice.ensures.is at c.in_ok-terms.ensures.follows in
-    let fr = walk_in c.args.env.now _ _ _ _ c.args.x.now.ret _ _ _ c.in_ok-inner.ensures.values c.in_ok-inner.ensures.marks c.in_err-walk-2.ensures.follows in
+    let fr = walk_in c.args.env.now c.args.recursive _ _ _ _ c.args.x.now.ret _ _ _ c.in_ok-inner.ensures.values c.in_ok-inner.ensures.marks c.in_err-walk-2.ensures.follows in
     record { follows = rw (p.1, p.2) (follows_bind _ _ _ _ _ _ _ c.in_ok-mark.ensures.follows (follows_bind _ _ _ _ _ _ _ c.in_ok-walk.ensures.follows (follows_bind _ _ _ _ _ _ _ ft (follows_err _ _ _ _ _ fr)))) }
 
 pub case-returns : goal.case-returns
 case-returns g t c =
     let ft = rw c.as_slice.ensures.is at c.in_ok-terms.ensures.follows in
-    let fr = walk_in c.args.env.now _ _ _ _ c.args.x.now.ret _ _ _ c.in_ok-inner.ensures.values c.in_ok-inner.ensures.marks c.in_ok-walk-2.ensures.follows in
+    let fr = walk_in c.args.env.now c.args.recursive _ _ _ _ c.args.x.now.ret _ _ _ c.in_ok-inner.ensures.values c.in_ok-inner.ensures.marks c.in_ok-walk-2.ensures.follows in
     let fb = rw c.opens.ensures.is at c.branches.ensures.follows in
     record { follows = follows_bind _ _ _ _ _ _ _ c.in_ok-mark.ensures.follows (follows_bind _ _ _ _ _ _ _ c.in_ok-walk.ensures.follows (follows_bind _ _ _ _ _ _ _ ft (follows_bind _ _ _ _ _ _ _ fr fb))) }
 
--- definitions
+-- a fixpoint
 
-pub definitions-walk-requires : goal.definitions-walk-requires
-definitions-walk-requires g t c κs within =
+pub definitions-returns-in_err-mark : goal.definitions-returns-in_err-mark
+definitions-returns-in_err-mark g t c = record { follows = search (rules, follows_err) }
+
+pub definitions-returns-in-Smaller : goal.definitions-returns-in-Smaller
+definitions-returns-in-Smaller g t c =
+    let f = rw c.in-Smaller.is at c.in_ok-mark.ensures.follows in
+    record { follows = follows_bind _ _ _ _ _ _ _ f (fix_smaller c.args.env.now c.args.recursive (values_in c.args.scope.now) (marks_in c.args.scope.now) (rargs_of c.args.defs.now) (types_of c.args.defs.now) (bodies_of (length c.args.defs.now) c.args.defs.now) _ _ _ c.passed.ensures.follows) }
+
+pub definitions-returns : goal.definitions-returns
+definitions-returns g t c =
+    record { follows = follows_bind _ _ _ _ _ _ _ c.in_ok-mark.ensures.follows (fix_other c.args.env.now c.args.recursive (values_in c.args.scope.now) (marks_in c.args.scope.now) c.in_ok-mark.mark (rargs_of c.args.defs.now) (types_of c.args.defs.now) (bodies_of (length c.args.defs.now) c.args.defs.now) _ _ _ c.in_default.not-Smaller c.others.ensures.follows) }
+
+-- definitions of a fixpoint whose recursive argument is not smaller
+
+pub others-walk-requires : goal.others-walk-requires
+others-walk-requires g t c κs within =
     let l : c.loop-def.def-index < length c.args.defs.now = grind arith in
     let less : depth c.def-item.result.ty ≤ depth_defs c.args.defs.now = type_in c.args.defs.now c.loop-def.def-index c.def-item.result l c.def-item.is in
     (omega arith, search rules)
 
-pub definitions-returns-in_err-walk : goal.definitions-returns-in_err-walk
-definitions-returns-in_err-walk g t c =
+pub others-returns-in_err-walk : goal.others-returns-in_err-walk
+others-returns-in_err-walk g t c =
     let l : c.loop-def.def-index < length c.args.defs.now = grind arith in
-    let p = err_from_is_err_and c.from_residual-in_err-walk.result c.from_residual-in_err-walk.ensures.1 in
-    record { follows = rw (p.1, p.2) (c.loop-def.invariant _ _ (definitions_type _ _ _ (length c.args.defs.now) c.args.defs.now c.loop-def.def-index c.def-item.result l c.def-item.is _ c.loop-def.m c.walk.new.m c.in_err-walk.ensures.follows)) }
+    let p = err_from_is_err_and c.from_residual.result c.from_residual.ensures.1 in
+    record { follows = rw (p.1, p.2) (c.loop-def.invariant _ _ (definitions_type _ _ _ _ (length c.args.defs.now) c.args.defs.now c.loop-def.def-index c.def-item.result l c.def-item.is _ c.loop-def.m c.walk.new.m c.in_err-walk.ensures.follows)) }
 
-pub definitions-walk-requires-in-loop-def : goal.definitions-walk-requires-in-loop-def
-definitions-walk-requires-in-loop-def g t c κs within =
+pub others-walk-requires-in-loop-def : goal.others-walk-requires-in-loop-def
+others-walk-requires-in-loop-def g t c κs within =
     let l : c.loop-def.def-index < length c.args.defs.now = grind arith in
     let less : depth c.def-item.result.body ≤ depth_defs c.args.defs.now = definition_in c.args.defs.now c.loop-def.def-index c.def-item.result l c.def-item.is in
     (omega arith, search rules)
 
-pub definitions-returns-in_err-walk-2 : goal.definitions-returns-in_err-walk-2
-definitions-returns-in_err-walk-2 g t c =
+pub others-returns-in_err-walk-2 : goal.others-returns-in_err-walk-2
+others-returns-in_err-walk-2 g t c =
     let l : c.loop-def.def-index < length c.args.defs.now = grind arith in
     let p = err_from_is_err_and c.from_residual-in_err-walk-2.result c.from_residual-in_err-walk-2.ensures.1 in
-    let f = walk_in c.args.env.now _ _ _ _ c.def-item.result.body _ _ _ c.in_ok-inner.ensures.values c.in_ok-inner.ensures.marks c.in_err-walk-2.ensures.follows in
-    record { follows = rw (p.1, p.2) (c.loop-def.invariant _ _ (definitions_body _ _ _ (length c.args.defs.now) c.args.defs.now c.loop-def.def-index c.def-item.result l c.def-item.is _ c.loop-def.m c.walk.new.m c.walk-in-loop-def.new.m c.in_ok-walk.ensures.follows f)) }
+    let f = walk_in c.args.env.now c.args.recursive _ _ _ _ c.def-item.result.body _ _ _ c.requires.values c.requires.marks c.in_err-walk-2.ensures.follows in
+    record { follows = rw (p.1, p.2) (c.loop-def.invariant _ _ (definitions_body _ _ _ _ (length c.args.defs.now) c.args.defs.now c.loop-def.def-index c.def-item.result l c.def-item.is _ c.loop-def.m c.walk.new.m c.walk-in-loop-def.new.m c.in_ok-walk.ensures.follows f)) }
 
-pub definitions-loop-def-preserved : goal.definitions-loop-def-preserved
-definitions-loop-def-preserved g t c = λ r n x.
+pub others-loop-def-preserved : goal.others-loop-def-preserved
+others-loop-def-preserved g t c = λ r n x.
     let l : c.loop-def.def-index < length c.args.defs.now = grind arith in
-    let f = walk_in c.args.env.now _ _ _ _ c.def-item.result.body _ _ _ c.in_ok-inner.ensures.values c.in_ok-inner.ensures.marks c.in_ok-walk-2.ensures.follows in
-    c.loop-def.invariant r n (definitions_next _ _ _ (length c.args.defs.now) c.args.defs.now c.loop-def.def-index c.def-item.result l c.def-item.is r c.loop-def.m c.walk.new.m c.walk-in-loop-def.new.m n c.in_ok-walk.ensures.follows f x)
+    let f = walk_in c.args.env.now c.args.recursive _ _ _ _ c.def-item.result.body _ _ _ c.requires.values c.requires.marks c.in_ok-walk-2.ensures.follows in
+    c.loop-def.invariant r n (definitions_next _ _ _ _ (length c.args.defs.now) c.args.defs.now c.loop-def.def-index c.def-item.result l c.def-item.is r c.loop-def.m c.walk.new.m c.walk-in-loop-def.new.m n c.in_ok-walk.ensures.follows f x)
 
-pub definitions-returns : goal.definitions-returns
-definitions-returns g t c =
+pub others-returns : goal.others-returns
+others-returns g t c =
     let l : length c.args.defs.now ≤ c.loop-def.def-index = grind arith in
-    record { follows = c.loop-def.invariant _ _ (definitions_end _ _ _ (length c.args.defs.now) c.args.defs.now c.loop-def.def-index c.loop-def.m l) }
+    record { follows = c.loop-def.invariant _ _ (definitions_end _ _ _ _ (length c.args.defs.now) c.args.defs.now c.loop-def.def-index c.loop-def.m l) }
+
+-- definitions of a fixpoint whose recursive argument is smaller
+
+pub passed-walk-requires : goal.passed-walk-requires
+passed-walk-requires g t c κs within =
+    let l : c.loop-def.def-index < length c.args.defs.now = grind arith in
+    let less : depth c.def-item.result.ty ≤ depth_defs c.args.defs.now = type_in c.args.defs.now c.loop-def.def-index c.def-item.result l c.def-item.is in
+    (omega arith, search rules)
+
+pub passed-returns-in_err-walk : goal.passed-returns-in_err-walk
+passed-returns-in_err-walk g t c =
+    let l : c.loop-def.def-index < length c.args.defs.now = grind arith in
+    let p = err_from_is_err_and c.from_residual.result c.from_residual.ensures.1 in
+    record { follows = rw (p.1, p.2) (c.loop-def.invariant _ _ (passed_type _ _ _ _ (length c.args.defs.now) c.args.defs.now c.loop-def.def-index c.def-item.result l c.def-item.is _ c.loop-def.m c.walk.new.m c.in_err-walk.ensures.follows)) }
+
+pub passed-under-requires : goal.passed-under-requires
+passed-under-requires g t c κs within =
+    let l : c.loop-def.def-index < length c.args.defs.now = grind arith in
+    let less : depth c.def-item.result.body ≤ depth_defs c.args.defs.now = definition_in c.args.defs.now c.loop-def.def-index c.def-item.result l c.def-item.is in
+    (omega arith, search rules)
+
+pub passed-returns-in_err-under : goal.passed-returns-in_err-under
+passed-returns-in_err-under g t c =
+    let l : c.loop-def.def-index < length c.args.defs.now = grind arith in
+    let p = err_from_is_err_and c.from_residual-in_err-under.result c.from_residual-in_err-under.ensures.1 in
+    let f = under_in c.args.env.now c.args.recursive _ _ _ _ Smaller c.def-item.result.rarg c.def-item.result.body _ _ _ c.requires.values c.requires.marks c.in_err-under.ensures.follows in
+    record { follows = rw (p.1, p.2) (c.loop-def.invariant _ _ (passed_body _ _ _ _ (length c.args.defs.now) c.args.defs.now c.loop-def.def-index c.def-item.result l c.def-item.is _ c.loop-def.m c.walk.new.m c.under.new.m c.in_ok-walk.ensures.follows f)) }
+
+pub passed-loop-def-preserved : goal.passed-loop-def-preserved
+passed-loop-def-preserved g t c = λ r n x.
+    let l : c.loop-def.def-index < length c.args.defs.now = grind arith in
+    let f = under_in c.args.env.now c.args.recursive _ _ _ _ Smaller c.def-item.result.rarg c.def-item.result.body _ _ _ c.requires.values c.requires.marks c.in_ok-under.ensures.follows in
+    c.loop-def.invariant r n (passed_next _ _ _ _ (length c.args.defs.now) c.args.defs.now c.loop-def.def-index c.def-item.result l c.def-item.is r c.loop-def.m c.walk.new.m c.under.new.m n c.in_ok-walk.ensures.follows f x)
+
+pub passed-returns : goal.passed-returns
+passed-returns g t c =
+    let l : length c.args.defs.now ≤ c.loop-def.def-index = grind arith in
+    record { follows = c.loop-def.invariant _ _ (passed_end _ _ _ _ (length c.args.defs.now) c.args.defs.now c.loop-def.def-index c.loop-def.m l) }
+
+-- a body under its lambdas
+
+pub under-returns-in_default : goal.under-returns-in_default
+under-returns-in_default g t c = record {
+  follows = under_other c.args.env.now c.args.recursive (values_in c.args.scope.now) (marks_in c.args.scope.now) c.view.result.now (mark_of c.args.mark) c.args.t.now c.args.rarg c.args.m.now c.view.ensures.is c.in_default.not-Lambda;
+}
+
+pub under-returns-in_err-walk : goal.under-returns-in_err-walk
+under-returns-in_err-walk g t c =
+    let e = rw c.in-Lambda.is at c.view.ensures.is in
+    let p = err_from_is_err_and c.from_residual.result c.from_residual.ensures.1 in
+    record {
+      follows = rw (← e, p.1, p.2) (under_stops c.args.env.now c.args.recursive (values_in c.args.scope.now) (marks_in c.args.scope.now) c.in-Lambda.domain c.in-Lambda.body (mark_of c.args.mark) c.args.rarg _ c.args.m.now c.walk.new.m c.in_err-walk.ensures.follows);
+    }
+
+pub under-returns-then-rarg-eq0 : goal.under-returns-then-rarg-eq0
+under-returns-then-rarg-eq0 g t c =
+    let e = rw c.in-Lambda.is at c.view.ensures.is in
+    let f = walk_in c.args.env.now c.args.recursive _ _ _ _ c.in-Lambda.body _ _ _ c.in_ok-inner.ensures.values c.in_ok-inner.ensures.marks c.walk-then-rarg-eq0.ensures.follows in
+    record {
+      follows = rw (← e) (under_last c.args.env.now c.args.recursive (values_in c.args.scope.now) (marks_in c.args.scope.now) c.in-Lambda.domain c.in-Lambda.body (mark_of c.args.mark) c.args.rarg _ c.args.m.now c.walk.new.m c.walk-then-rarg-eq0.new.m c.if-rarg-eq0.true
+          c.in_ok-walk.ensures.follows f);
+    }
+
+pub under-returns : goal.under-returns
+under-returns g t c =
+    let e = rw c.in-Lambda.is at c.view.ensures.is in
+    let z : c.args.rarg ≡ suc (c.args.rarg - 1) = grind arith in
+    let f = under_in c.args.env.now c.args.recursive _ _ _ _ (mark_of c.args.mark) (c.args.rarg - 1) c.in-Lambda.body _ c.walk.new.m c.under.new.m
+    c.in_ok-inner-2.ensures.values c.in_ok-inner-2.ensures.marks c.under.ensures.follows in
+    record {
+      follows = rw (← e) (under_more c.args.env.now c.args.recursive (values_in c.args.scope.now) (marks_in c.args.scope.now) c.in-Lambda.domain c.in-Lambda.body (mark_of c.args.mark) c.args.rarg (c.args.rarg - 1) _ c.args.m.now c.walk.new.m c.under.new.m z
+          c.in_ok-walk.ensures.follows f);
+    }
 
 -- terms
 
@@ -123,17 +212,17 @@ pub terms-returns-in_err-walk : goal.terms-returns-in_err-walk
 terms-returns-in_err-walk g t c =
     let l : c.loop-t.t-index < length c.args.ts.now = grind arith in
     let p = err_from_is_err_and c.from_residual.result c.from_residual.ensures.1 in
-    record { follows = rw (p.1, p.2) (c.loop-t.invariant _ _ (terms_stop _ _ _ c.args.ts.now c.loop-t.t-index c.t-item.result l c.t-item.is _ c.loop-t.m c.walk.new.m c.in_err-walk.ensures.follows)) }
+    record { follows = rw (p.1, p.2) (c.loop-t.invariant _ _ (terms_stop _ _ _ _ c.args.ts.now c.loop-t.t-index c.t-item.result l c.t-item.is _ c.loop-t.m c.walk.new.m c.in_err-walk.ensures.follows)) }
 
 pub terms-loop-t-preserved : goal.terms-loop-t-preserved
 terms-loop-t-preserved g t c = λ r n x.
     let l : c.loop-t.t-index < length c.args.ts.now = grind arith in
-    c.loop-t.invariant r n (terms_next _ _ _ c.args.ts.now c.loop-t.t-index c.t-item.result l c.t-item.is r c.loop-t.m c.walk.new.m n c.in_ok-walk.ensures.follows x)
+    c.loop-t.invariant r n (terms_next _ _ _ _ c.args.ts.now c.loop-t.t-index c.t-item.result l c.t-item.is r c.loop-t.m c.walk.new.m n c.in_ok-walk.ensures.follows x)
 
 pub terms-returns : goal.terms-returns
 terms-returns g t c =
     let l : length c.args.ts.now ≤ c.loop-t.t-index = grind arith in
-    record { follows = c.loop-t.invariant _ _ (terms_end _ _ _ c.args.ts.now c.loop-t.t-index c.loop-t.m l) }
+    record { follows = c.loop-t.invariant _ _ (terms_end _ _ _ _ c.args.ts.now c.loop-t.t-index c.loop-t.m l) }
 
 -- terms by their formers
 
@@ -172,8 +261,8 @@ walk_applied-returns-in-Lambda g t c =
 pub walk_applied-returns-in_ok-inner-in-LetIn : goal.walk_applied-returns-in_ok-inner-in-LetIn
 walk_applied-returns-in_ok-inner-in-LetIn g t c =
     let e = rw c.in-LetIn.is at c.view.ensures.is in
-    let f = walk_in c.args.env.now _ _ _ _ c.in-LetIn.body _ _ _ c.in_ok-inner-in-LetIn.ensures.values c.in_ok-inner-in-LetIn.ensures.marks c.walk-in-LetIn-3.ensures.follows in
+    let f = walk_in c.args.env.now c.args.recursive _ _ _ _ c.in-LetIn.body _ _ _ c.in_ok-inner-in-LetIn.ensures.values c.in_ok-inner-in-LetIn.ensures.marks c.walk-in-LetIn-3.ensures.follows in
     record { follows = rw (← e) (follows_bind _ _ _ _ _ _ _ c.in_ok-walk-in-LetIn.ensures.follows (follows_bind _ _ _ _ _ _ _ c.in_ok-walk-in-LetIn-2.ensures.follows f)) }
 
 pub walk_applied-returns-in-Sort : goal.walk_applied-returns-in-Sort
-walk_applied-returns-in-Sort g t c = record { follows = walk_leaf _ _ _ _ _ _ c.args.m.now c.view.ensures.is c.in-Sort.is }
+walk_applied-returns-in-Sort g t c = record { follows = walk_leaf _ _ _ _ _ _ _ c.args.m.now c.view.ensures.is c.in-Sort.is }

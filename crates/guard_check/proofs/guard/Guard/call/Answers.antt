@@ -9,7 +9,7 @@ returns-then-not-tick g c =
     let e = mark_at c.args.scope.now.marks c.args.index _ _ c.in-Some-Recursive.ensures.at c.in-Some-Recursive.field-0-is in
     let z : c.args.m.now.account.left ≡ 0 = search rules in
     record {
-      follows = call_with c.args.env.now (values_in c.args.scope.now) (marks_in c.args.scope.now) c.args.index c.in-Some-Recursive.place c.args.args.now c.in-Some.argument.now e c.in-Some.ensures.at _ c.args.m.now c.tick.new.self
+      follows = call_with c.args.env.now c.args.recursive (values_in c.args.scope.now) (marks_in c.args.scope.now) c.args.index c.in-Some-Recursive.place c.args.args.now c.in-Some.argument.now e c.in-Some.ensures.at _ c.args.m.now c.tick.new.self
           (follows_spent _ c.args.m.now c.tick.new.self z c.tick.ensures.account c.tick.ensures.nest);
     }
 
@@ -18,7 +18,7 @@ returns-in_err-argument-2 g c =
     let e = mark_at c.args.scope.now.marks c.args.index _ _ c.in-Some-Recursive.ensures.at c.in-Some-Recursive.field-0-is in
     let h : 0 < c.args.m.now.account.left = search rules in
     record {
-      follows = call_with c.args.env.now (values_in c.args.scope.now) (marks_in c.args.scope.now) c.args.index c.in-Some-Recursive.place c.args.args.now c.in-Some.argument.now e c.in-Some.ensures.at _ c.args.m.now c.normal_found.new.m (follows_tick _ _ c.args.m.now
+      follows = call_with c.args.env.now c.args.recursive (values_in c.args.scope.now) (marks_in c.args.scope.now) c.args.index c.in-Some-Recursive.place c.args.args.now c.in-Some.argument.now e c.in-Some.ensures.at _ c.args.m.now c.normal_found.new.m (follows_tick _ _ c.args.m.now
           c.tick.new.self c.normal_found.new.m h c.tick.ensures.account c.tick.ensures.nest
           (search (rules, follows_err)));
     }
@@ -29,7 +29,7 @@ returns-in-Smaller g c =
     let h : 0 < c.args.m.now.account.left = search rules in
     let f = rw c.in-Smaller.is at c.in_ok-argument-2.ensures.follows in
     record {
-      follows = call_with c.args.env.now (values_in c.args.scope.now) (marks_in c.args.scope.now) c.args.index c.in-Some-Recursive.place c.args.args.now c.in-Some.argument.now e c.in-Some.ensures.at _ c.args.m.now c.normal_found.new.m (follows_tick _ _ c.args.m.now
+      follows = call_with c.args.env.now c.args.recursive (values_in c.args.scope.now) (marks_in c.args.scope.now) c.args.index c.in-Some-Recursive.place c.args.args.now c.in-Some.argument.now e c.in-Some.ensures.at _ c.args.m.now c.normal_found.new.m (follows_tick _ _ c.args.m.now
           c.tick.new.self c.normal_found.new.m h c.tick.ensures.account c.tick.ensures.nest
           (follows_bind _ _ _ _ _ _ _ f (follows_done tt c.normal_found.new.m)));
     }
@@ -39,7 +39,7 @@ returns-in_default-mark g c =
     let e = mark_at c.args.scope.now.marks c.args.index _ _ c.in-Some-Recursive.ensures.at c.in-Some-Recursive.field-0-is in
     let h : 0 < c.args.m.now.account.left = search rules in
     record {
-      follows = call_with c.args.env.now (values_in c.args.scope.now) (marks_in c.args.scope.now) c.args.index c.in-Some-Recursive.place c.args.args.now c.in-Some.argument.now e c.in-Some.ensures.at _ c.args.m.now c.normal_found.new.m (follows_tick _ _ c.args.m.now
+      follows = call_with c.args.env.now c.args.recursive (values_in c.args.scope.now) (marks_in c.args.scope.now) c.args.index c.in-Some-Recursive.place c.args.args.now c.in-Some.argument.now e c.in-Some.ensures.at _ c.args.m.now c.normal_found.new.m (follows_tick _ _ c.args.m.now
           c.tick.new.self c.normal_found.new.m h c.tick.ensures.account c.tick.ensures.nest
           (follows_bind _ _ _ _ _ _ _ c.in_ok-argument-2.ensures.follows (argument_refused c.in_ok-argument-2.argument c.in_ok-argument-2.mark c.normal_found.new.m c.in_default-mark.not-Smaller)));
     }

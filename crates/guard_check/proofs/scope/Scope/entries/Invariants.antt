@@ -1,5 +1,5 @@
 use Rattle.std.proofs.Common.{◌≡◌}
-use Rattle.pc_rules.specs.Context.{values, under}
+use Rattle.calculus_rules.specs.Context.{values, under}
 use Rattle.guard_check.proofs.scope.Scope.entries.Given as goal
 
 abbrev pub invariant-loop : goal.invariant-loop

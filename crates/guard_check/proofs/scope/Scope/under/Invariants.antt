@@ -1,5 +1,5 @@
 use Rattle.std.proofs.Common.{◌≡◌}
-use Rattle.pc_rules.specs.Guardedness.{others}
+use Rattle.calculus_rules.specs.Guardedness.{others}
 use Rattle.guard_check.specs.Marks.{marks_of}
 use Rattle.guard_check.proofs.scope.Scope.under.Given as goal
 

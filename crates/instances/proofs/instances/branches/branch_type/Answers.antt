@@ -1,7 +1,7 @@
 use Rattle.std.proofs.Common.{◌∷◌, [], ◌++◌, map, ap, ◌∙◌}
 use Rattle.std.proofs.lemmas.Result.{err_from_is_err_and}
 use Rattle.pc_terms.specs.Syntax.{apply, shift, variables, Construct}
-use Rattle.pc_rules.specs.Instances.{result_at}
+use Rattle.calculus_rules.specs.Instances.{result_at}
 use Rattle.instances.proofs.Parts.{branch-count, branch-type}
 use Rattle.instances.proofs.instances.branches.branch_type.Goals as goal
 

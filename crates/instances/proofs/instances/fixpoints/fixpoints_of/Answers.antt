@@ -1,7 +1,7 @@
 use Rattle.std.proofs.Common.{◌∷◌, [], ◌++◌, length, ap, sym, ◌∙◌, arith}
 use Rattle.pc_terms.specs.Lists.{rargs_of, types_of, bodies_of}
 use Rattle.pc_terms.proofs.Parts.{rargs_length}
-use Rattle.pc_rules.specs.Instances.{fixpoints}
+use Rattle.calculus_rules.specs.Instances.{fixpoints}
 use Rattle.instances.specs.Unfolding.{fixpoint_at}
 use Rattle.instances.proofs.Definitions.{fixpoints-next}
 use Rattle.instances.proofs.instances.fixpoints.fixpoints_of.Goals as goal

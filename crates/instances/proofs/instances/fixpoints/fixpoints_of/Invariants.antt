@@ -1,6 +1,6 @@
 use Rattle.std.proofs.Common.{◌≡◌, length}
 use Rattle.pc_terms.specs.Lists.{rargs_of, types_of, bodies_of}
-use Rattle.pc_rules.specs.Instances.{fixpoints}
+use Rattle.calculus_rules.specs.Instances.{fixpoints}
 use Rattle.instances.proofs.instances.fixpoints.fixpoints_of.Given as goal
 
 abbrev pub invariant-loop-i : goal.invariant-loop-i

@@ -2,7 +2,7 @@ use Rattle.std.proofs.Common.{◌+◌, ◌-◌, ◌<◌, length, take, refl, ap,
 use Rattle.std.proofs.lemmas.Result.{err_from_is_err_and}
 use Rattle.trees.specs.Measures.{IsBeyond}
 use Rattle.pc_terms.specs.Syntax.{Term, Prod}
-use Rattle.pc_rules.specs.Instances.{products}
+use Rattle.calculus_rules.specs.Instances.{products}
 use Rattle.instances.proofs.Codomains.{products-next, products-beyond}
 use Rattle.instances.proofs.instances.products.product_over.Goals as goal
 

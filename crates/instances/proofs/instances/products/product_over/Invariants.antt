@@ -1,5 +1,5 @@
 use Rattle.std.proofs.Common.{◌≡◌, ◌-◌, take}
-use Rattle.pc_rules.specs.Instances.{products}
+use Rattle.calculus_rules.specs.Instances.{products}
 use Rattle.instances.proofs.instances.products.product_over.Given as goal
 
 abbrev pub invariant-loop-i : goal.invariant-loop-i

@@ -2,7 +2,7 @@ use Rattle.std.proofs.Common.{◌≡◌, subst}
 use Rattle.universe_levels.specs.Consistency.{AreOver, IsSortOver}
 use Rattle.pc_rules.specs.DirectedComparison.{sort_below}
 use Rattle.pc_rules.specs.Entailment.{test_of}
-use Rattle.pc_rules.specs.Environment.{Env}
+use Rattle.calculus_rules.specs.Environment.{Env}
 use Rattle.pc_rules.proofs.Entailing.{test_is}
 use Rattle.pc_rules.proofs.environment.Env.entails.Goals as goal
 

@@ -9,7 +9,7 @@ use Rattle.type_infer.proofs.GuardConditions.{guardable}
 use Rattle.type_infer.specs.Ready.{IsReady}
 use Rattle.type_infer.proofs.Finding.{follows_is, if_ok, put_beyond, sort_found_same, sort_found_goes, product_found}
 use Rattle.type_infer.proofs.Beginning.{infer_spent, infer_nested, infer_entered, inferred_from, assumed_ready, defined_ready}
-use Rattle.pc_rules.specs.Context.{extend}
+use Rattle.calculus_rules.specs.Context.{extend}
 use Rattle.type_infer.proofs.Matching.{entered_next, entered_stop, entered_end, longer_next, all_next, all_stop, all_fault, all_end, pass_fault, pass_go, entered_then, entered_err, whnf_is_counted, asked_counted, branches_next, branches_stop, branches_end, case_goes, case_unknown, pred_fault}
 use Rattle.std.proofs.lemmas.List.{take_all}
 use Rattle.pc_rules.specs.WellCounted.{IsCounted}

@@ -1,0 +1,52 @@
+-- The head and the arguments of an application to a list, and what tells heads apart.
+use Rattle.std.proofs.Common.{◌≡◌, ℕ, List, [], ◌∷◌, ◌++◌, length, drop, Some, refl, sym, ap, ◌∙◌, arith, append_assoc, append-nil}
+use Rattle.pc_terms.specs.Syntax.{Term, Terms, Done, App, Lambda, Construct, Fix, apply, head, args}
+
+pub head-apply : (f : Term) (xs : List Term) → head (apply f xs) ≡ head f
+head-apply f [] = refl
+head-apply f (a ∷ xs) = head-apply (App f a) xs
+
+pub args-apply : (f : Term) (xs : List Term) → args (apply f xs) ≡ args f ++ xs
+args-apply f [] = sym (append-nil (args f))
+args-apply f (a ∷ xs) = args-apply (App f a) xs ∙ append_assoc (args f) (a ∷ []) xs
+
+pub drop_past : {A : Type 0} (xs ys : List A) → drop (length xs) (xs ++ ys) ≡ ys
+drop_past [] ys = refl
+drop_past (x ∷ xs) ys = drop_past xs ys
+
+pub one_item : {A : Type 0} {x y : A} → Some x ≡ Some y → x ≡ y
+one_item e = grind arith
+
+-- parts of heads
+abbrev pub constructor_of : Term → ℕ
+constructor_of (Construct f c) = c
+constructor_of t = 0
+
+abbrev pub body_of : Term → Term
+body_of (Lambda A b) = b
+body_of t = t
+
+abbrev pub index_of : Term → ℕ
+index_of (Fix i rargs types bodies) = i
+index_of t = 0
+
+abbrev pub rargs_of : Term → List ℕ
+rargs_of (Fix i rargs types bodies) = rargs
+rargs_of t = []
+
+abbrev pub types_of : Term → Terms
+types_of (Fix i rargs types bodies) = types
+types_of t = Done
+
+abbrev pub bodies_of : Term → Terms
+bodies_of (Fix i rargs types bodies) = bodies
+bodies_of t = Done
+
+pub apply_one_more : (h a : Term) (xs : List Term) → apply h (xs ++ (a ∷ [])) ≡ App (apply h xs) a
+apply_one_more h a [] = refl
+apply_one_more h a (x ∷ xs) = apply_one_more (App h x) a xs
+
+-- a term is its head applied to its arguments
+pub spine_is : (t : Term) → t ≡ apply (head t) (args t)
+spine_is (App f a) = ap (λ g. App g a) (spine_is f) ∙ sym (apply_one_more (head f) a (args f))
+spine_is t = refl

@@ -1,0 +1,3 @@
+pub mod EmptyFamilies
+pub mod CheckedFalse
+pub mod InferredTypes

@@ -1,6 +1,0 @@
-use Rattle.std.proofs.Common.{◌≡◌, take}
-use Rattle.pc_rules.specs.Context.{extend}
-use Rattle.conversion.proofs.entries.extended.Given as goal
-
-abbrev pub invariant-loop-i : goal.invariant-loop-i
-invariant-loop-i l = l.out ≡ extend l.ctx (take l.i l.items)

@@ -1,0 +1,79 @@
+use Rattle.std.proofs.Common.{◌++◌}
+use Rattle.std.proofs.lemmas.Result.{on_ok_weaker}
+use Rattle.driver.proofs.PartByPart.{appends_both, err_anyway, fault_later, line_ends, line_stops, line_then, rose_later, tells_then}
+use Rattle.driver.proofs.reporting.parts.write_parts.Goals as goal
+
+pub returns-in_err-write_all-clause-line : goal.returns-in_err-write_all-clause-line
+returns-in_err-write_all-clause-line g c =
+    let e = c.in_err-write_all.ensures in
+    line_stops _ _ _ _ _ c.args.front.now (c.args.digits.now ++ (c.args.place.now ++ (c.args.name.now ++ c.args.end.now))) e.part.0 e.part.1 e.cause.later e.cause.failed
+
+pub returns-in_err-write_all-clause-fault : goal.returns-in_err-write_all-clause-fault
+returns-in_err-write_all-clause-fault g c = err_anyway _ c.in_err-write_all.ensures.cause.failed
+
+pub returns-in_err-write_all-2-clause-fault : goal.returns-in_err-write_all-2-clause-fault
+returns-in_err-write_all-2-clause-fault g c = err_anyway _ (rose_later _ _ _ c.in_ok-write_all.ensures.cause.later c.in_err-write_all-2.ensures.cause.failed)
+
+pub returns-in_err-write_all-3-clause-fault : goal.returns-in_err-write_all-3-clause-fault
+returns-in_err-write_all-3-clause-fault g c =
+    err_anyway _ (rose_later _ _ _ c.in_ok-write_all.ensures.cause.later (rose_later _ _ _ c.in_ok-write_all-2.ensures.cause.later c.in_err-write_all-3.ensures.cause.failed))
+
+pub returns-in_err-write_all-4-clause-fault : goal.returns-in_err-write_all-4-clause-fault
+returns-in_err-write_all-4-clause-fault g c =
+    err_anyway _ (rose_later _ _ _ c.in_ok-write_all.ensures.cause.later (rose_later _ _ _ c.in_ok-write_all-2.ensures.cause.later
+    (rose_later _ _ _ c.in_ok-write_all-3.ensures.cause.later c.in_err-write_all-4.ensures.cause.failed)))
+
+pub returns-in_err-write_all-2-clause-line : goal.returns-in_err-write_all-2-clause-line
+returns-in_err-write_all-2-clause-line g c =
+    let w = c.in_ok-write_all.ensures in
+    let e = c.in_err-write_all-2.ensures in
+    let rest = c.args.place.now ++ (c.args.name.now ++ c.args.end.now) in
+    line_then _ _ _ _ _ _ c.args.front.now (c.args.digits.now ++ rest) w.all w.cause.later (line_stops _ _ _ _ _ c.args.digits.now rest e.part.0 e.part.1 e.cause.later e.cause.failed)
+
+pub returns-in_err-write_all-2-clause-tells : goal.returns-in_err-write_all-2-clause-tells
+returns-in_err-write_all-2-clause-tells g c = tells_then _ _ _ c.in_ok-write_all.ensures.tells c.in_err-write_all-2.ensures.tells
+
+pub returns-in_err-write_all-3-clause-line : goal.returns-in_err-write_all-3-clause-line
+returns-in_err-write_all-3-clause-line g c =
+    let w = c.in_ok-write_all.ensures in
+    let x = c.in_ok-write_all-2.ensures in
+    let e = c.in_err-write_all-3.ensures in
+    let rest = c.args.name.now ++ c.args.end.now in
+    line_then _ _ _ _ _ _ c.args.front.now (c.args.digits.now ++ (c.args.place.now ++ rest)) w.all w.cause.later (line_then _ _ _ _ _ _ c.args.digits.now (c.args.place.now ++ rest) x.all x.cause.later
+    (line_stops _ _ _ _ _ c.args.place.now rest e.part.0 e.part.1 e.cause.later e.cause.failed))
+
+pub returns-in_err-write_all-3-clause-tells : goal.returns-in_err-write_all-3-clause-tells
+returns-in_err-write_all-3-clause-tells g c = tells_then _ _ _ c.in_ok-write_all.ensures.tells (tells_then _ _ _ c.in_ok-write_all-2.ensures.tells c.in_err-write_all-3.ensures.tells)
+
+pub returns-in_err-write_all-4-clause-line : goal.returns-in_err-write_all-4-clause-line
+returns-in_err-write_all-4-clause-line g c =
+    let w = c.in_ok-write_all.ensures in
+    let x = c.in_ok-write_all-2.ensures in
+    let y = c.in_ok-write_all-3.ensures in
+    let e = c.in_err-write_all-4.ensures in
+    let rest = c.args.name.now ++ c.args.end.now in
+    line_then _ _ _ _ _ _ c.args.front.now (c.args.digits.now ++ (c.args.place.now ++ rest)) w.all w.cause.later (line_then _ _ _ _ _ _ c.args.digits.now (c.args.place.now ++ rest) x.all x.cause.later
+    (line_then _ _ _ _ _ _ c.args.place.now rest y.all y.cause.later (line_stops _ _ _ _ _ c.args.name.now c.args.end.now e.part.0 e.part.1 e.cause.later e.cause.failed)))
+
+pub returns-in_err-write_all-4-clause-tells : goal.returns-in_err-write_all-4-clause-tells
+returns-in_err-write_all-4-clause-tells g c =
+    tells_then _ _ _ c.in_ok-write_all.ensures.tells (tells_then _ _ _ c.in_ok-write_all-2.ensures.tells (tells_then _ _ _ c.in_ok-write_all-3.ensures.tells c.in_err-write_all-4.ensures.tells))
+
+pub returns : goal.returns
+returns g c =
+    let w = c.in_ok-write_all.ensures in
+    let x = c.in_ok-write_all-2.ensures in
+    let y = c.in_ok-write_all-3.ensures in
+    let z = c.in_ok-write_all-4.ensures in
+    let e = c.write_all-5.ensures in
+    let rest = c.args.name.now ++ c.args.end.now in
+    record {
+      all = on_ok_weaker c.write_all-5.result
+          (λ h. appends_both _ _ _ c.args.front.now (c.args.digits.now ++ (c.args.place.now ++ rest)) w.all
+          (appends_both _ _ _ c.args.digits.now (c.args.place.now ++ rest) x.all (appends_both _ _ _ c.args.place.now rest y.all (appends_both _ _ _ c.args.name.now c.args.end.now z.all h)))) e.all;
+      fault = fault_later _ _ _ _ w.cause.later (fault_later _ _ _ _ x.cause.later (fault_later _ _ _ _ y.cause.later (fault_later _ _ _ _ z.cause.later e.cause.failed)));
+      line = line_then _ _ _ _ _ _ c.args.front.now (c.args.digits.now ++ (c.args.place.now ++ rest)) w.all w.cause.later (line_then _ _ _ _ _ _ c.args.digits.now (c.args.place.now ++ rest) x.all x.cause.later
+          (line_then _ _ _ _ _ _ c.args.place.now rest y.all y.cause.later (line_then _ _ _ _ _ _ c.args.name.now c.args.end.now z.all z.cause.later (line_ends _ _ _ _ c.args.end.now c.write_all-5.result e.all e.part e.cause))));
+      tells =
+          tells_then _ _ _ w.tells (tells_then _ _ _ x.tells (tells_then _ _ _ y.tells (tells_then _ _ _ z.tells e.tells)));
+    }

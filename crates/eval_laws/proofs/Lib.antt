@@ -1,2 +1,0 @@
-pub mod ReadableValues
-pub mod StuckRuns

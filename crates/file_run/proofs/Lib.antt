@@ -1,2 +1,0 @@
-pub mod OneFileEnd
-pub mod Stages

@@ -1,2 +1,0 @@
-pub mod FileEnds
-pub mod FileLaws

@@ -1,0 +1,3 @@
+pub mod ReadableValues
+pub mod StuckRuns
+pub mod WithoutReports

@@ -1,3 +1,0 @@
-pub mod Constructors
-pub mod Tables
-pub mod Bindings

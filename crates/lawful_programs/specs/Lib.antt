@@ -1,3 +1,0 @@
-pub mod Enumerations
-pub mod Tables
-pub mod Laws

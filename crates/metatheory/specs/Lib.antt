@@ -1,0 +1,4 @@
+pub mod EmptyFamilies
+pub mod ChurchRosser
+pub mod PrincipalTypes
+pub mod Untypable

@@ -1,5 +1,0 @@
-use Rattle.pc_rules.proofs.Determined.{determined}
-use Rattle.pc_rules.proofs.laws.evaluation_is_deterministic.Goals as goal
-
-pub returns : goal.returns
-returns c = record { determined = λ E o t v w n m e e'. determined o e e' }

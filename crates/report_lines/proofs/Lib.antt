@@ -1,2 +1,0 @@
-pub mod PartByPart
-pub mod FactByFact

@@ -1,3 +1,0 @@
-pub mod CheckFacts
-pub mod Lines
-pub mod Takes

@@ -1,5 +1,0 @@
-use Rattle.serve_laws.proofs.WithoutReports.{without_reports}
-use Rattle.serve_laws.proofs.reports_break_no_promise.Goals as goal
-
-pub returns : goal.returns
-returns g c = record { kept = without_reports }

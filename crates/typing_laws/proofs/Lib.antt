@@ -1,0 +1,15 @@
+pub mod ClosedEnv
+pub mod ClosedTypes
+pub mod Telescopes
+pub mod Traversal
+pub mod RenamingAndPutting
+pub mod Generating
+pub mod LawfulEquality
+pub mod Declarations
+pub mod TypedClosed
+pub mod AcceptedClosed
+pub mod MiddleEntries
+pub mod DataAlong
+pub mod PuttingAll
+pub mod DeclaredBlock
+pub mod KeptSorts

@@ -1,0 +1,3 @@
+pub mod TypedParts
+pub mod Substituting
+pub mod Laws
