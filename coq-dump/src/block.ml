@@ -1,72 +1,38 @@
-(* Blocks of inductive families as the format has them: at one instance of their universes, with lets of telescopes put in. *)
-open Names
+(* Blocks of inductive families as the format has them, with lets of telescopes put in. *)
 open Constr
 open Declarations
 open Context.Rel.Declaration
 
-(* A template polymorphic family is written once, at copies of its declared levels: in the global graph those levels have got every constraint of every
-   use, and the copies start free. *)
-type copies = {
-  copied : (string, Univ.Level.t) Hashtbl.t;
-  originals : (string, Univ.Level.t) Hashtbl.t;
-}
-
-let no_copies () = { copied = Hashtbl.create 17; originals = Hashtbl.create 17 }
-
-let copy_of copies l =
-  let key = Univ.Level.to_string l in
-  match Hashtbl.find_opt copies.copied key with
-  | Some copy -> copy
-  | None ->
-    let place = Hashtbl.length copies.copied + 1 in
-    let copy = Univ.Level.make (Univ.UGlobal.make (DirPath.make [Id.of_string "ErasecDump"]) "" place) in
-    Hashtbl.add copies.copied key copy;
-    Hashtbl.add copies.originals (Univ.Level.to_string copy) l;
-    copy
-
-let original_of copies l =
-  match Hashtbl.find_opt copies.originals (Univ.Level.to_string l) with Some original -> original | None -> l
-
-let template_subst copies template =
-  Univ.Level.Set.fold (fun l m -> Univ.Level.Map.add l (copy_of copies l) m) (fst template.template_context) Univ.Level.Map.empty
-
-(* The copies of a template's levels, with its own constraints on them. *)
-let template_context copies template =
-  let levels = Univ.Level.Set.fold (fun l s -> Univ.Level.Set.add (copy_of copies l) s) (fst template.template_context) Univ.Level.Set.empty in
-  levels, Univ.subst_univs_level_constraints (template_subst copies template) (snd template.template_context)
-
 (* A family squashed into SProp may be eliminated into Prop where it is read as one in Prop. *)
-let elimination = function Sorts.InSProp when !Options.strict_propositions -> Sorts.InProp | into -> into
+let elimination = function Sorts.InSProp when Sortform.is_strict_chosen () -> Sorts.InProp | into -> into
 
-(* The block with each of its terms, contexts and sorts changed. *)
-let with_terms block ~term ~sort =
-  let context = Context.Rel.map term in
-  let arity = function
+(* The block with each of its terms, contexts and sorts changed; its families get kept arities. *)
+let with_terms block ~term ~context ~sort ~constructor =
+  let arity family = function
     | RegularArity a -> RegularArity { mind_user_arity = term a.mind_user_arity; mind_sort = sort a.mind_sort }
-    | TemplateArity { template_level = s } -> TemplateArity { template_level = sort s } in
+    | TemplateArity { template_level = s } ->
+      let s = sort s in
+      RegularArity { mind_user_arity = Term.it_mkProd_or_LetIn (mkSort s) (context family.mind_arity_ctxt); mind_sort = s } in
   let family it =
+    let kept = Array.map constructor it.mind_nf_lc in
     { it with
       mind_arity_ctxt = context it.mind_arity_ctxt;
-      mind_arity = arity it.mind_arity;
+      mind_arity = arity it it.mind_arity;
       mind_kelim = elimination it.mind_kelim;
-      mind_user_lc = Array.map term it.mind_user_lc;
-      mind_nf_lc = Array.map (fun (ctx, t) -> context ctx, term t) it.mind_nf_lc } in
+      mind_user_lc = Array.map (fun (ctx, t) -> Term.it_mkProd_or_LetIn t ctx) kept;
+      mind_nf_lc = kept } in
   { block with
     mind_params_ctxt = context block.mind_params_ctxt;
     mind_packets = Array.map family block.mind_packets }
 
-(* The block at an instance; a template at its copied levels. *)
-let at copies env m u =
-  let block = Environ.lookup_mind m env in
-  let changed in_term in_universe =
-    let sort = function Sorts.Type v -> Sorts.sort_of_univ (in_universe v) | s -> s in
-    with_terms block ~term:(fun t -> Sortform.term (in_term t)) ~sort:(fun s -> Sortform.sort (sort s)) in
-  match block.mind_template with
-  | Some template ->
-    let subst = template_subst copies template in
-    changed (Vars.subst_univs_level_constr subst) (Univ.subst_univs_level_universe subst)
-  | None when Univ.Instance.is_empty u && not !Options.strict_propositions -> block
-  | None -> changed (Vars.subst_instance_constr u) (Univ.subst_instance_universe u)
+(* The block at an instance of its universes. *)
+let at block u =
+  if Univ.Instance.is_empty u then block
+  else
+    let term = Vars.subst_instance_constr u in
+    let sort = function Sorts.Type v -> Sorts.sort_of_univ (Univ.subst_instance_universe u v) | s -> s in
+    let context = Vars.subst_instance_context u in
+    with_terms block ~term ~context ~sort ~constructor:(fun (ctx, t) -> context ctx, term t)
 
 let has_lets context = List.exists is_local_def context
 

@@ -1,4 +1,4 @@
-(* The transitive closure of a constant: what its dump declares, in the order of dependency. *)
+(* The transitive closure of constants: what their dump declares, in the order of dependency. *)
 open Names
 open Constr
 open Declarations
@@ -17,75 +17,52 @@ module Key = Hashtbl.Make (struct
 end)
 
 type t = {
-  env : Environ.env;
-  root : KerName.t;                              (* the dumped constant, which keeps its body whatever the options say *)
-  copies : Block.copies;
-  mutable declarations : declaration list;       (* the newest first *)
-  constants : string Key.t;                      (* the names in the dump *)
+  written : Written.t;
+  canonical_level : Univ.Level.t -> Univ.Level.t; (* one level of those that are equal *)
+  on_refusal : (string -> unit) option;           (* where refusals are only told, and the closure goes on *)
+  mutable declarations : declaration list;        (* the newest first *)
+  constants : string Key.t;                       (* the names in the dump *)
   blocks : string Key.t;
   entered : unit Key.t;
+  refused : string Key.t;                         (* declarations that can't be written, with the reason *)
   taken : taken;
-  mutable templates : MutInd.t list;             (* the newest first *)
-  mutable other_constants : Cset_env.t;          (* names in the closure's terms that stand for canonical ones *)
+  mutable templates : MutInd.t list;              (* the newest first *)
+  mutable other_constants : Cset_env.t;           (* names in the closure's terms that stand for canonical ones *)
   mutable other_blocks : unit Mindmap_env.t;
 }
 
-let start env root =
-  { env; root; copies = Block.no_copies (); declarations = []; constants = Key.create 97; blocks = Key.create 97;
-    entered = Key.create 97; taken = Hashtbl.create 97; templates = [];
+let start ?on_refusal ?(canonical_level = fun l -> l) written =
+  { written; canonical_level; on_refusal; declarations = []; constants = Key.create 97; blocks = Key.create 97;
+    entered = Key.create 97; refused = Key.create 7; taken = Hashtbl.create 97; templates = [];
     other_constants = Cset_env.empty; other_blocks = Mindmap_env.empty }
 
-(* A name that a module alias or an Include made stands for its canonical one, where that is there. *)
-let canonical_constant env c =
-  let c' = Constant.make1 (Constant.canonical c) in
-  if Constant.UserOrd.equal c c' || not (Environ.mem_constant c' env) then c else c'
+let env closure = closure.written.Written.env
 
-let canonical_block env m =
-  let m' = MutInd.make1 (MutInd.canonical m) in
-  if MutInd.UserOrd.equal m m' || not (Environ.mem_mind m' env) then m else m'
+let canonical_instance closure u =
+  if Univ.Instance.is_empty u then u else Univ.Instance.of_array (Array.map closure.canonical_level (Univ.Instance.to_array u))
 
-let constant_name closure c u = Key.find closure.constants (Constant.canonical c, u)
-let block_name closure m u = Key.find closure.blocks (MutInd.canonical m, u)
+let constant_name closure c u = Key.find closure.constants (Constant.canonical c, canonical_instance closure u)
+let block_name closure m u = Key.find closure.blocks (MutInd.canonical m, canonical_instance closure u)
 
-let opaque_body name constant =
-  match Global.body_of_constant_body Library.indirect_accessor constant with
-  | Some (_, Opaqueproof.PrivatePolymorphic context, _) when not (Univ.ContextSet.is_empty context) ->
-    refuse "%s: private universes of an opaque polymorphic proof" name
-  | Some (body, _, _) -> body
-  | None -> refuse "%s: an opaque proof that can't be read" name
+let block_at closure m u = Block.at (Written.block closure.written m) (canonical_instance closure u)
 
-(* The body with its fixpoints reduced. Where something was contracted, Coq's kernel types the new body, guard included, finds the old one's type, and finds the two bodies
-   convertible: so a reduction changes nothing but by conversion. *)
-let reduced_body closure name body =
-  let before = !Guarding.contractions in
-  let reduced = Guarding.for_written_guard closure.env ~unfolds:!Options.unfold_constants body in
-  if !Guarding.contractions > before then begin
-    let kernel_says what f =
-      try ignore (f ()) with e when CErrors.noncritical e -> refuse "%s: its reduced body: the kernel refuses the %s" name what in
-    let typed body = (Typeops.infer closure.env body).Environ.uj_type in
-    kernel_says "term" (fun () -> typed reduced);
-    kernel_says "type" (fun () -> Reduction.conv closure.env (typed body) (typed reduced));
-    kernel_says "conversion" (fun () -> Reduction.conv closure.env body reduced)
-  end;
-  reduced
-
-let body_of closure c constant u =
-  let name = Constant.to_string c in
-  let written body =
-    let body = Vars.subst_instance_constr u body in
-    Sortform.term (if !Options.reduce_fixpoints then reduced_body closure name body else body) in
-  match constant.const_body with
-  | Undef _ -> None
-  | Primitive _ -> refuse "%s: a primitive operation" name
-  | Def body -> Some (written body)
-  | OpaqueDef _ when !Options.opaque_axioms && not (KerName.equal closure.root (Constant.canonical c)) -> None
-  | OpaqueDef _ -> Some (written (opaque_body name constant))
-
-let type_of constant u = Sortform.term (Vars.subst_instance_constr u constant.const_type)
+let is_strict () = !Options.current.Options.strict
 
 let check_sort where = function
   | Sorts.SProp -> refuse "%s: SProp (Set Dump Strict Propositions writes it as Prop)" where
   | _ -> ()
+
+(* Visits a declaration once. A refusal is kept, and comes again where the declaration is met again. *)
+let once closure key where visit_it =
+  match Key.find_opt closure.refused key with
+  | Some reason -> raise (Refused reason)
+  | None when Key.mem closure.entered key -> ()
+  | None ->
+    Key.add closure.entered key ();
+    try visit_it () with Refused reason ->
+      (match closure.on_refusal with
+       | Some tell -> tell reason
+       | None -> Key.add closure.refused key reason; raise (Refused reason))
 
 let rec visit closure where t =
   match kind t with
@@ -111,41 +88,45 @@ let rec visit closure where t =
   | Fix _ | Prod _ | Lambda _ | LetIn _ | App _ -> Constr.iter (visit closure where) t
 
 and visit_constant closure named u =
-  let c = canonical_constant closure.env named in
+  let c = Written.canonical_constant closure.written named in
   if c != named then closure.other_constants <- Cset_env.add named closure.other_constants;
+  let u = canonical_instance closure u in
   let key = Constant.canonical c, u in
-  if not (Key.mem closure.constants key) then begin
-    let where = Constant.to_string c in
-    if Key.mem closure.entered key then refuse "%s: it is part of its own closure" where;
-    Key.add closure.entered key ();
-    let constant = try Environ.lookup_constant c closure.env with Not_found -> refuse "%s: no such constant" where in
+  let where = Constant.to_string c in
+  once closure key where (fun () ->
+    let constant = try Environ.lookup_constant c (env closure) with Not_found -> refuse "%s: no such constant" where in
     if constant.const_hyps <> [] then refuse "%s: it stands on section variables: close the section first" where;
-    if Environ.is_primitive_type closure.env c then refuse "%s: a primitive type" where;
-    let ty = type_of constant u in
-    let body = body_of closure c constant u in
+    if Environ.is_primitive_type (env closure) c then refuse "%s: a primitive type" where;
+    let written = Written.constant closure.written c in
+    let ty = Written.type_at written u and body = Written.body_at written u in
     visit closure where ty;
     Option.iter (visit closure where) body;
     Key.add closure.constants key (fresh closure.taken (KerName.to_string (Constant.user c)));
-    closure.declarations <- Constant { constant = c; instance = u; ty; body } :: closure.declarations
-  end
+    closure.declarations <- Constant { constant = c; instance = u; ty; body } :: closure.declarations)
 
 and visit_block closure named u =
-  let m = canonical_block closure.env named in
+  let m = Written.canonical_block closure.written named in
   if m != named then closure.other_blocks <- Mindmap_env.add named () closure.other_blocks;
+  let u = canonical_instance closure u in
   let key = MutInd.canonical m, u in
-  if not (Key.mem closure.entered key) then begin
-    Key.add closure.entered key ();
-    let where = MutInd.to_string m in
-    let block = Block.at closure.copies closure.env m u in
-    if block.mind_hyps <> [] then refuse "%s: it stands on section variables: close the section first" where;
-    if block.mind_finite = CoFinite then refuse "%s: a coinductive type" where;
-    (match block.mind_record with PrimRecord _ -> refuse "%s: a record with primitive projections" where | _ -> ());
-    if block.mind_variance <> None then refuse "%s: a cumulative inductive type" where;
-    if block.mind_template <> None then closure.templates <- m :: closure.templates;
+  let where = MutInd.to_string m in
+  once closure key where (fun () ->
+    check_block closure where (Environ.lookup_mind m (env closure)) m;
+    let block = block_at closure m u in
     Array.iteri (visit_family closure where block) block.mind_packets;
     Key.add closure.blocks key (fresh closure.taken (KerName.to_string (MutInd.user m)));
-    closure.declarations <- Block { block = m; instance = u } :: closure.declarations
-  end
+    closure.declarations <- Block { block = m; instance = u } :: closure.declarations)
+
+(* What the format can't take of a block as Coq has it, and what is told of the rest. *)
+and check_block closure where block m =
+  let choice = !Options.current in
+  if block.mind_hyps <> [] then refuse "%s: it stands on section variables: close the section first" where;
+  if block.mind_finite = CoFinite then refuse "%s: a coinductive type" where;
+  if Written.is_primitive_record block && not choice.Options.projections then
+    refuse "%s: a record with primitive projections (Set Dump Match Projections writes it as a plain family)" where;
+  if Written.is_cumulative block && not choice.Options.cumulative then
+    refuse "%s: a cumulative inductive type (Set Dump Plain Cumulative writes it as a plain one)" where;
+  if block.mind_template <> None then closure.templates <- m :: closure.templates
 
 and visit_family closure where block place family =
   check_sort where (Block.sort_of_family family);

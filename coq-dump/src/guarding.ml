@@ -11,9 +11,6 @@ type mark =
   | Smaller          (* the recursive argument, or a branch's variable that may be smaller than it *)
   | Recursive of int (* a variable of the fixpoint, with the place of its recursive argument *)
 
-(* How many contractions were made since the count was last set to 0. *)
-let contractions = ref 0
-
 let mark_of marks i = match List.nth_opt marks (i - 1) with Some mark -> mark | None -> Other
 
 let rec under n marks = if n = 0 then marks else under (n - 1) (Other :: marks)
@@ -72,7 +69,7 @@ let rec leading_lambdas t = match kind (strip t) with Lambda (_, _, b) -> 1 + le
 let rec contract n f args =
   if n = 0 then f, args
   else match kind (strip f), args with
-    | Lambda (_, _, b), a :: rest -> incr contractions; contract (n - 1) (Vars.subst1 a b) rest
+    | Lambda (_, _, b), a :: rest -> incr Notes.contractions; contract (n - 1) (Vars.subst1 a b) rest
     | _ -> f, args
 
 let body_of_constant env c u =
@@ -91,7 +88,7 @@ let rec reduced env ~unfolds marks t =
     mkFix (places, (names, types, bodies))
   | App (f, args) when is_inside marks -> application env ~unfolds marks (strip f) args
   | LetIn (_, v, _, b) when is_inside marks && is_hidden marks v ->
-    incr contractions;
+    incr Notes.contractions;
     go marks (Vars.subst1 v b)
   | Case (ci, u, params, (names, ret), iv, scrutinee, branches) ->
     let scrutinee = go marks scrutinee in
@@ -110,12 +107,13 @@ and application env ~unfolds marks f args =
       go marks (Term.applist (f, rest))
   | App (g, before) -> application env ~unfolds marks (strip g) (Array.append before args)
   | LetIn (_, v, _, b) when is_hidden marks v ->
-    incr contractions;
+    incr Notes.contractions;
     go marks (mkApp (Vars.subst1 v b, args))
   | Const (c, u) when unfolds && Array.exists (uses_freely marks) args ->
     (match body_of_constant env c u with
      | Some body when leading_lambdas body > 0 ->
-       incr contractions;
+       incr Notes.contractions;
+       incr Notes.unfolded;
        application env ~unfolds marks (strip body) args
      | _ -> mkApp (f, Array.map (go marks) args))
   | _ -> mkApp (go marks f, Array.map (go marks) args)
@@ -132,3 +130,15 @@ and body_reduced env ~unfolds marks place t =
 
 (* The closed term with its fixpoints' bodies reduced so. *)
 let for_written_guard env ~unfolds t = reduced env ~unfolds [] t
+
+(* The closed term, changed only as far as the written guard needs it: not at all, else reduced, else with constants unfolded too. *)
+let where_needed env t =
+  if Written_guard.accepts env t then t
+  else
+    let before = !Notes.contractions in
+    let reduced = for_written_guard env ~unfolds:false t in
+    if Written_guard.accepts env reduced then reduced
+    else begin
+      Notes.contractions := before;
+      for_written_guard env ~unfolds:true t
+    end

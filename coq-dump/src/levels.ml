@@ -1,8 +1,7 @@
 (* Universe levels of a dump, and the constraints between them.
 
-   The global graph has the constraints of everything but template polymorphic families, which the dump writes once at copies of their levels. What the uses of
-   such a family ask of the copies is found by typing the whole closure again with the family made monomorphic. *)
-open Constr
+   The global graph has the constraints of everything but what the dump writes otherwise: template polymorphic families at copies of their levels, Set as a level, cumulative families as plain
+   ones. What the closure asks of these is found by typing it again as it is written. *)
 open Declarations
 open Context.Rel.Declaration
 open Textname
@@ -17,37 +16,28 @@ type t = {
   mutable listed : (Univ.Level.t * string) list;   (* the newest first *)
 }
 
-(* ------------------------------------------------------------------ typing again, with monomorphic templates *)
+(* The closure as it is written has no typing that was found. *)
+exception Conflict of string
 
-let monomorphic_family family =
-  match family.mind_arity with
-  | RegularArity _ -> family
-  | TemplateArity { template_level = s } ->
-    let arity = { mind_user_arity = Term.it_mkProd_or_LetIn (mkSort s) family.mind_arity_ctxt; mind_sort = s } in
-    { family with mind_arity = RegularArity arity }
+let conflict fmt = Printf.ksprintf (fun reason -> raise (Conflict reason)) fmt
 
-(* The environment with the closure as it is written: sorts in their form, each template monomorphic at its copied levels, and other names for what they stand for. *)
+(* ------------------------------------------------------------------ typing again *)
+
+(* The environment with the closure as it is written, and other names for what they stand for. *)
 let written_env (closure : Closure.t) =
+  let written = closure.Closure.written in
   let with_constant env c =
     let old = Environ.lookup_constant c env in
-    let const_type = Sortform.term old.const_type in
-    let const_body = match old.const_body with
-      | Def body -> let body' = Sortform.term body in if body' == body then old.const_body else Def body'
-      | other -> other in
-    if const_type == old.const_type && const_body == old.const_body then env
-    else Environ.add_constant c { old with const_type; const_body } env in
-  let with_block env m =
-    let old = Environ.lookup_mind m env in
-    let own_instance = Univ.make_abstract_instance (Declareops.inductive_polymorphic_context old) in
-    let block = Block.at closure.Closure.copies closure.Closure.env m own_instance in
-    if block == old then env
-    else Environ.add_mind m { block with mind_template = None; mind_packets = Array.map monomorphic_family block.mind_packets } env in
+    let { Written.ty; body; _ } = Written.constant written c in
+    let const_body = match old.const_body, body with Def old_body, Some body when old_body != body -> Def body | kept, _ -> kept in
+    if ty == old.const_type && const_body == old.const_body then env
+    else Environ.add_constant c { old with const_type = ty; const_body } env in
   let with_declaration env = function
     | Closure.Constant { constant; _ } -> with_constant env constant
-    | Closure.Block { block; _ } -> with_block env block in
-  let other_constant c env = Environ.add_constant c (Environ.lookup_constant (Closure.canonical_constant env c) env) env in
-  let other_block m () env = Environ.add_mind m (Environ.lookup_mind (Closure.canonical_block env m) env) env in
-  let env = List.fold_left with_declaration closure.Closure.env (List.rev closure.Closure.declarations) in
+    | Closure.Block { block; _ } -> Environ.add_mind block (Written.block written block) env in
+  let other_constant c env = Environ.add_constant c (Environ.lookup_constant (Written.canonical_constant written c) env) env in
+  let other_block m () env = Environ.add_mind m (Environ.lookup_mind (Written.canonical_block written m) env) env in
+  let env = List.fold_left with_declaration (Closure.env closure) (List.rev closure.Closure.declarations) in
   Names.Cset_env.fold other_constant closure.Closure.other_constants (Names.Mindmap_env.fold other_block closure.Closure.other_blocks env)
 
 let raised part = Sorts.sort_of_univ (Sortform.raised part)
@@ -63,7 +53,7 @@ let below env sigma a b =
   else
     let part sigma (l, n) =
       if List.exists (fun right -> Evd.check_leq sigma (raised (l, n)) (raised right)) (parts_of b) then sigma
-      else match List.find_opt (fun (r, m) -> m = n && not (Univ.Level.is_set r)) (parts_of b) with
+      else match List.find_opt (fun (r, m) -> m >= n && not (Univ.Level.is_set r)) (parts_of b) with
         | Some (r, _) -> Evd.set_leq_level sigma l r
         | None -> Evd.set_leq_sort env sigma a b in
     List.fold_left part sigma (parts_of a)
@@ -88,8 +78,7 @@ let type_constant env sigma ty body =
         | None -> Typing.check env sigma body ty)
      | _ -> Typing.check env sigma body ty)
 
-let type_block copies env sigma m u =
-  let block = Block.at copies env m u in
+let type_block env sigma block =
   let sigma = ref sigma in
   let sort_of env t =
     let found, s = Typing.sort_of env !sigma (EConstr.of_constr t) in
@@ -109,82 +98,157 @@ let type_block copies env sigma m u =
   Array.iteri type_family block.mind_packets;
   !sigma
 
-let needs_template name reason = refuse "%s: template polymorphism is needed at two levels (%s)" name reason
+let loses_eta = function
+  | 0 -> ""
+  | _ -> "; records with primitive projections are written without eta"
 
 let guarded name f =
   try f () with
-  | UGraph.UniverseInconsistency _ -> needs_template name "one copy of a template's levels can't serve all its uses"
+  | UGraph.UniverseInconsistency _ -> conflict "%s: template polymorphism is needed at two levels (one copy of a template's levels can't serve all its uses)" name
   | Refused _ as e -> raise e
-  | e when CErrors.noncritical e -> needs_template name (Pp.string_of_ppcmds (CErrors.print e))
+  | e when CErrors.noncritical e ->
+    conflict "%s: as it is written it has no type%s (%s)" name (loses_eta !Notes.records) (String.concat " " (String.split_on_char '\n' (Pp.string_of_ppcmds (CErrors.print e))))
 
-let type_declaration copies env sigma = function
+let add_own_constraints (closure : Closure.t) sigma m u =
+  let templates = closure.Closure.written.Written.templates in
+  if Template.is_copied templates m then Evd.add_constraints sigma (Template.own_constraints templates m u) else sigma
+
+let type_declaration closure env sigma = function
   | Closure.Constant { constant; ty; body; _ } ->
     guarded (Names.Constant.to_string constant) (fun () -> type_constant env sigma ty body)
   | Closure.Block { block; instance } ->
-    guarded (Names.MutInd.to_string block) (fun () -> type_block copies env sigma block instance)
+    guarded (Names.MutInd.to_string block) (fun () ->
+      type_block env (add_own_constraints closure sigma block instance) (Closure.block_at closure block instance))
 
-let template_of (closure : Closure.t) m = (Environ.lookup_mind m closure.Closure.env).mind_template
+let template_of closure m = (Environ.lookup_mind m (Closure.env closure)).mind_template
+
+(* The constraints that templates of one copy ask of it. *)
+let constraints_of_copies (closure : Closure.t) =
+  let add found m = match template_of closure m with
+    | None -> found
+    | Some template -> Univ.Constraints.union found (Template.copied_constraints closure.Closure.written.Written.templates template) in
+  List.fold_left add Univ.Constraints.empty closure.Closure.templates
+
+(* The evaluation map with the levels that the dump makes: the copies are flexible, so that one of them can still become Set or another level. *)
+let with_made_levels (closure : Closure.t) sigma =
+  let templates = closure.Closure.written.Written.templates in
+  let sigma =
+    if not (Sortform.is_small_chosen ()) then sigma
+    else Evd.merge_context_set UState.univ_rigid sigma
+      (Univ.Level.Set.singleton Sortform.small, Univ.Constraints.singleton (Univ.Level.set, Univ.Lt, Sortform.small)) in
+  let constraints = if Template.has_copies templates then Univ.Constraints.empty else constraints_of_copies closure in
+  Evd.merge_context_set UState.univ_flexible sigma (templates.Template.fresh, constraints)
+
+let has_own_constraints () = !Options.current.Options.own_constraints
+
+let needs_typing (closure : Closure.t) =
+  closure.Closure.templates <> [] || not closure.Closure.written.Written.is_plain || Sortform.is_small_chosen () || has_own_constraints ()
+
+(* The environment with all its levels, and no constraint between them but that each is above Set. *)
+let without_constraints env =
+  let add l graph = if Univ.Level.is_set l then graph else UGraph.add_universe l ~lbound:UGraph.Bound.Set ~strict:true graph in
+  let graph = Environ.universes env in
+  Environ.set_universes (Univ.Level.Set.fold add (UGraph.domain graph) (UGraph.initial_universes_with graph)) env
+
+let has_instances (closure : Closure.t) =
+  let is_at_instance = function
+    | Closure.Constant { instance; _ } | Closure.Block { instance; _ } -> not (Univ.Instance.is_empty instance) in
+  List.exists is_at_instance closure.Closure.declarations
 
 (* The evaluation map after all uses of the closure and of main. *)
 let typed_again (closure : Closure.t) main =
-  if closure.Closure.templates = [] then Evd.from_env closure.Closure.env
+  if not (needs_typing closure) then Evd.from_env (Closure.env closure)
   else begin
     let env = written_env closure in
-    let sigma = Evd.from_env env in
-    (* the copies are local, so that one of them can still become Set *)
-    let merge sigma m = match template_of closure m with
-      | None -> sigma
-      | Some template -> Evd.merge_context_set UState.univ_flexible sigma (Block.template_context closure.Closure.copies template) in
-    let sigma = List.fold_left merge sigma closure.Closure.templates in
-    let sigma = List.fold_left (type_declaration closure.Closure.copies env) sigma (List.rev closure.Closure.declarations) in
+    let env = if has_own_constraints () then without_constraints env else env in
+    let sigma = with_made_levels closure (Evd.from_env env) in
+    let sigma = List.fold_left (type_declaration closure env) sigma (List.rev closure.Closure.declarations) in
     guarded "main" (fun () -> fst (Typing.type_of env sigma (EConstr.of_constr main)))
   end
 
-(* What the copies had to become. *)
+(* ------------------------------------------------------------------ copies that can be one *)
+
+(* What a level had to become. *)
+let rec final subst l =
+  match Univ.Level.Map.find_opt l subst with
+  | Some (Some u) -> (match Univ.Universe.level u with
+    | Some l' -> final subst l'
+    | None -> refuse "a level of a template that is no single level")
+  | _ -> l
+
+(* The instances at which the closure has the family, each once. *)
+let instances_of (closure : Closure.t) sigma m =
+  let subst = Evd.universe_subst sigma in
+  let add found = function
+    | Closure.Block { block; instance } when Names.MutInd.CanOrd.equal block m ->
+      let u = Univ.Instance.of_array (Array.map (final subst) (Univ.Instance.to_array instance)) in
+      if List.exists (Univ.Instance.equal u) found then found else u :: found
+    | _ -> found in
+  List.rev (List.fold_left add [] (List.rev closure.Closure.declarations))
+
+(* Joins the levels u with the first of the kept instances with which they can be one. *)
+let joined_with (sigma, kept) u =
+  let join other = try Some (Evd.set_eq_instances sigma u other) with e when CErrors.noncritical e -> None in
+  match List.find_map join kept with
+  | Some sigma -> sigma, kept
+  | None -> sigma, kept @ [u]
+
+let with_copies_joined (closure : Closure.t) sigma =
+  let families = CList.uniquize (List.map Names.MutInd.canonical closure.Closure.templates) in
+  let join sigma name =
+    let m = Names.MutInd.make1 name in
+    let sigma, kept = List.fold_left joined_with (sigma, []) (instances_of closure sigma m) in
+    Notes.copies := !Notes.copies + List.length kept - 1;
+    sigma in
+  List.fold_left join sigma families
+
+(* ------------------------------------------------------------------ the levels *)
+
 let settled (closure : Closure.t) sigma =
   let graph = Evd.universes sigma in
   let subst = Evd.universe_subst sigma in
-  let rec final l =
-    match Univ.Level.Map.find_opt l subst with
-    | Some (Some u) -> (match Univ.Universe.level u with
-      | Some l' -> final l'
-      | None -> refuse "a level of a template that is no single level")
-    | _ -> l in
   let settle l (set, joined) =
-    let l' = final l in
+    let l' = final subst l in
     if Univ.Level.is_set l' || UGraph.check_leq graph (Univ.Universe.make l') Univ.Universe.type0 then Univ.Level.Set.add l set, joined
     else if Univ.Level.equal l l' then set, joined
     else set, Univ.Level.Map.add l l' joined in
-  let template found m = match template_of closure m with
-    | None -> found
-    | Some t -> Univ.Level.Set.fold settle (fst (Block.template_context closure.Closure.copies t)) found in
-  List.fold_left template (Univ.Level.Set.empty, Univ.Level.Map.empty) closure.Closure.templates
+  Univ.Level.Set.fold settle closure.Closure.written.Written.templates.Template.fresh (Univ.Level.Set.empty, Univ.Level.Map.empty)
 
-let of_closure closure main =
+(* The closure again, with one level for those that had to be equal, so that a family is written once for each instance that is left. *)
+let with_equal_levels_one (closure : Closure.t) sigma visit_roots =
+  let graph = Reach.of_graph (Evd.universes sigma) in
+  let subst = Evd.universe_subst sigma in
+  let canonical_level l = Reach.canonical graph (final subst l) in
+  let again = Closure.start ~canonical_level closure.Closure.written in
+  visit_roots again;
+  again
+
+let of_closure closure ~visit_roots main =
   let sigma = typed_again closure main in
+  let has_copies = Template.has_copies closure.Closure.written.Written.templates in
+  let sigma = if has_copies then with_copies_joined closure sigma else sigma in
+  let closure = if has_instances closure then with_equal_levels_one closure sigma visit_roots else closure in
   let set, joined = settled closure sigma in
   { closure; graph = Evd.universes sigma; set; joined; names = Hashtbl.create 97; taken = Hashtbl.create 97; listed = [] }
 
 (* ------------------------------------------------------------------ names *)
 
 let coq_name levels l =
-  let original = Block.original_of levels.closure.Closure.copies l in
-  match UnivNames.qualid_of_level UnivNames.empty_binders original with
+  let original = Template.original_of levels.closure.Closure.written.Written.templates l in
+  if Univ.Level.equal original Sortform.small then "small"
+  else match UnivNames.qualid_of_level UnivNames.empty_binders original with
   | Some q -> atom (Libnames.string_of_qualid q)
   | None -> (match Univ.Level.name original with
     | Some global ->
       let path, _, i = Univ.UGlobal.repr global in
       let last = match Names.DirPath.repr path with [] -> "U" | id :: _ -> Names.Id.to_string id in
       atom (Printf.sprintf "%s.%d" last i)
-    | None -> refuse "a universe variable")
+    | None -> "level")
 
 let fresh_name levels l =
   let base = coq_name levels l in
-  let rec go n =
-    let name = if n = 0 then base else Printf.sprintf "%s-%d" base n in
-    if Hashtbl.mem levels.taken name || name = "Set" then go (n + 1) else name in
-  let name = go 0 in
-  Hashtbl.add levels.taken name ();
+  let name = if is_taken levels.taken base || base = "Set" then numbered levels.taken base else base in
+  Hashtbl.add levels.taken name 1;
   name
 
 (* A level's name in the dump; a level that is met for the first time is listed. *)
@@ -221,11 +285,8 @@ let without_implied constraints =
 
 let word = function Univ.Lt -> "lt" | Univ.Le -> "le" | Univ.Eq -> "eq"
 
-(* The constraints between listed levels, as the format's words. What holds of Set in every valuation is left out. *)
+(* The constraints between listed levels, as the format's words. That each of them is above Set holds in every valuation. *)
 let constraints levels =
-  let kept = List.fold_left (fun kept (l, _) -> Univ.Level.Set.add l kept) (Univ.Level.Set.singleton Univ.Level.set) levels.listed in
-  let written (a, relation, b) =
-    let a = name_of levels a and b = name_of levels b in
-    let holds = a = "Set" && (b = "Set" || relation <> Univ.Eq) && not (b = "Set" && relation = Univ.Lt) in
-    if holds then None else Some (word relation, a, b) in
-  CList.map_filter written (without_implied (UGraph.constraints_for ~kept levels.graph))
+  let kept = List.fold_left (fun kept (l, _) -> Univ.Level.Set.add l kept) Univ.Level.Set.empty levels.listed in
+  let written (a, relation, b) = word relation, name_of levels a, name_of levels b in
+  List.map written (without_implied (Reach.constraints_for ~kept levels.graph))

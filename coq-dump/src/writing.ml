@@ -5,6 +5,17 @@ open Textname
 
 type sink = { put : string -> unit; levels : Levels.t; closure : Closure.t }
 
+(* How large a text is, and where its brackets nest deepest. *)
+type size = { mutable bytes : int; mutable depth : int; mutable deepest : int; mutable deepest_in : string }
+
+let no_size () = { bytes = 0; depth = 0; deepest = 0; deepest_in = "" }
+
+let count size name piece =
+  size.bytes <- size.bytes + String.length piece;
+  String.iter (fun c ->
+    if c = '(' then size.depth <- size.depth + 1 else if c = ')' then size.depth <- size.depth - 1;
+    if size.depth > size.deepest then begin size.deepest <- size.depth; size.deepest_in <- name () end) piece
+
 let put_all sink pieces = List.iter sink.put pieces
 
 let number = string_of_int
@@ -32,12 +43,13 @@ let sort sink = function
 (* A match with its binders written out, where its family has lets in telescopes. *)
 let without_lets closure case =
   let ci, _, _, (names, ret), _, _, branches = case in
-  let family = (Environ.lookup_mind (fst ci.ci_ind) closure.Closure.env).mind_packets.(snd ci.ci_ind) in
+  let block = Written.block closure.Closure.written (Written.canonical_block closure.Closure.written (fst ci.ci_ind)) in
+  let family = block.mind_packets.(snd ci.ci_ind) in
   let has_lets = Block.has_lets family.mind_arity_ctxt || Array.exists (fun (context, _) -> Block.has_lets context) family.mind_nf_lc in
   if not has_lets then
     (Array.to_list names, ret), Array.map (fun (names, body) -> Array.to_list names, body) branches
   else
-    let _, full_ret, _, _, full_branches = Inductive.expand_case closure.Closure.env case in
+    let _, full_ret, _, _, full_branches = Inductive.expand_case_specif block case in
     let opened n t = let entries, rest = Block.telescope n t in List.map fst entries, rest in
     opened (Array.length names) full_ret, Array.mapi (fun i body -> opened (Array.length (fst branches.(i))) body) full_branches
 
@@ -105,25 +117,33 @@ let declaration sink = function
     (match body with None -> sink.put "None" | Some body -> term sink body);
     sink.put ")\n"
   | Closure.Block { block = m; instance } ->
-    let block = Block.at sink.closure.Closure.copies sink.closure.Closure.env m instance in
+    let block = Closure.block_at sink.closure m instance in
     put_all sink ["(InductiveDecl "; Closure.block_name sink.closure m instance; " (params"];
     telescope sink (fst (Block.family_parts block 0));
     sink.put ")";
     Array.iteri (family sink block) block.mind_packets;
     sink.put ")\n"
 
-let body sink closure main =
-  List.iter (declaration sink) (List.rev closure.Closure.declarations);
+let name_of_declaration = function
+  | Closure.Constant { constant; _ } -> Names.Constant.to_string constant
+  | Closure.Block { block; _ } -> Names.MutInd.to_string block
+
+let body sink closure ~entering main =
+  List.iter (fun it -> entering (name_of_declaration it); declaration sink it) (List.rev closure.Closure.declarations);
+  entering "main";
   sink.put "(main "; term sink main; sink.put "))\n"
 
-(* Writes the environment with its head comment. *)
+(* Writes the environment with its head comment, and tells its size. *)
 let environment put closure levels ~comment main =
-  body { put = ignore; levels; closure } closure main;
+  body { put = ignore; levels; closure } closure ~entering:ignore main;
+  let size = no_size () and current = ref "" in
+  let put piece = count size (fun () -> !current) piece; put piece in
   let sink = { put; levels; closure } in
-  put_all sink ["; "; comment; "\n(env 1 (levels"];
+  put_all sink ["; "; String.map (function '(' -> '[' | ')' -> ']' | c -> c) comment; "\n(env 1 (levels"];
   let constraints = Levels.constraints levels in
   separated sink (Levels.listed levels) sink.put;
   sink.put ")\n(constraints";
   separated sink constraints (fun (word, a, b) -> put_all sink ["("; word; " "; a; " "; b; ")"]);
   sink.put ")\n";
-  body sink closure main
+  body sink closure ~entering:(fun name -> current := name) main;
+  size

@@ -1,0 +1,138 @@
+(* `Erasec Check`, `Erasec Compute` and `Erasec Compile`: the program run on a dump from inside Coq, and its answer shown with Coq's own names. *)
+open Names
+
+(* Of --turns; none leaves the program's own number. *)
+let turns = ref None
+
+let () = Goptions.(declare_int_option {
+  optdepr = false; optkey = ["Erasec"; "Turns"];
+  optread = (fun () -> !turns); optwrite = (fun n -> turns := n) })
+
+(* ------------------------------------------------------------------ programs *)
+
+let is_program file = try Unix.access file [Unix.X_OK]; not (Sys.is_directory file) with Unix.Unix_error _ | Sys_error _ -> false
+
+let on_path name =
+  let folders = String.split_on_char ':' (Option.default "" (Sys.getenv_opt "PATH")) in
+  List.find_opt is_program (List.map (fun folder -> Filename.concat folder name) folders)
+
+(* A program that a variable of the environment names, or one on the path. *)
+let program ~variable ~name =
+  match Sys.getenv_opt variable with Some file when is_program file -> Some file | _ -> on_path name
+
+let erasec () =
+  match program ~variable:"ERASEC" ~name:"erasec" with
+  | Some file -> file
+  | None -> CErrors.user_err Pp.(str "erasec isn't found: set ERASEC to its path before coqc is started, or put it on the path")
+
+let text_of file = let channel = open_in_bin file in Fun.protect ~finally:(fun () -> close_in channel) (fun () -> really_input_string channel (in_channel_length channel))
+
+let rec wait process = try snd (Unix.waitpid [] process) with Unix.Unix_error (Unix.EINTR, _, _) -> Control.check_for_interrupt (); wait process
+
+(* Runs a program with its input and output in files; its status and what it wrote on standard error. *)
+let run words ~input ~output =
+  let said = Filename.temp_file "erasec" ".said" in
+  let opened file flags = Unix.openfile file flags 0o644 in
+  let write = [Unix.O_WRONLY; Unix.O_CREAT; Unix.O_TRUNC] in
+  let ends = [opened input [Unix.O_RDONLY]; opened output write; opened said write] in
+  let process = match ends with
+    | [i; o; e] -> Unix.create_process (List.hd words) (Array.of_list words) i o e
+    | _ -> assert false in
+  List.iter Unix.close ends;
+  let ended =
+    try wait process with e -> (try Unix.kill process Sys.sigterm; ignore (wait process) with Unix.Unix_error _ -> ()); raise e in
+  let text = String.trim (text_of said) in
+  Sys.remove said;
+  match ended with
+  | Unix.WEXITED status -> status, text
+  | Unix.WSIGNALED n | Unix.WSTOPPED n -> 128 + n, Printf.sprintf "stopped by signal %d" n
+
+(* ------------------------------------------------------------------ what a refusal means *)
+
+(* Of the numbers of broken rules, what a user of Coq can make of each. *)
+let meaning = function
+  | 5 -> "the universe constraints have no solution"
+  | 8 -> "a term's type isn't below the one that is asked for; for Coq it may be by eta, by the irrelevance of a strict proposition, or by primitive projections"
+  | 12 -> "a fixpoint's body doesn't begin with its lambdas"
+  | 13 -> "a recursive call isn't on a smaller argument, as the written guard sees it"
+  | 14 -> "a constructor isn't strictly positive, as the written condition sees it"
+  | 15 -> "a constructor's argument has a larger sort than its family"
+  | _ -> "docs/STATUSES.md says what the number means"
+
+(* The names of a dump and Coq's full ones. *)
+let full_names closure =
+  let table = Hashtbl.create 97 in
+  Closure.Key.iter (fun (name, _) written -> Hashtbl.replace table written (KerName.to_string name)) closure.Closure.constants;
+  Closure.Key.iter (fun (name, _) written -> Hashtbl.replace table written (KerName.to_string name)) closure.Closure.blocks;
+  table
+
+(* A line of the program with the last word, where it is a name of the dump, as Coq has it. *)
+let with_full_name names line =
+  match List.rev (String.split_on_char ' ' line) with
+  | last :: ("declaration" | "axiom" as before) :: rest ->
+    String.concat " " (List.rev (Option.default last (Hashtbl.find_opt names last) :: before :: rest))
+  | _ -> line
+
+let explained names line =
+  let told = with_full_name names line in
+  match String.split_on_char ' ' line with
+  | "broken" :: number :: _ -> Printf.sprintf "%s: %s" told (meaning (int_of_string number))
+  | "turns" :: _ -> told ^ " (Set Erasec Turns 4294967295 allows the most; Set Dump Opaque Axioms checks less)"
+  | _ -> told
+
+(* ------------------------------------------------------------------ the commands *)
+
+let with_dump c main use =
+  let dump = Filename.temp_file "erasec" ".dump" and answer = Filename.temp_file "erasec" ".answer" in
+  Fun.protect ~finally:(fun () -> List.iter Dumping.remove [dump; answer]) (fun () ->
+    Dumping.or_error (fun () ->
+      let prepared = Dumping.to_file dump (fun put -> Dumping.dump put (Global.env ()) c main) in
+      use prepared dump answer))
+
+let words job = erasec () :: job :: (match !turns with None -> [] | Some n -> ["--turns"; string_of_int n])
+
+(* Runs the job; an answer other than status 0 is an error that names the constant. *)
+let asked job c prepared ~dump ~answer =
+  let status, said = run (words job) ~input:dump ~output:answer in
+  if status <> 0 then
+    let line = explained (full_names prepared.Preparing.closure) (List.hd (String.split_on_char '\n' said)) in
+    CErrors.user_err Pp.(str (Printf.sprintf "Erasec %s of %s ends with status %d: %s" job (Constant.to_string c) status line))
+
+let axioms_told closure =
+  match Explaining.axioms closure with
+  | [] -> "no axiom"
+  | axioms -> Printf.sprintf "%d axioms: %s" (List.length axioms) (String.concat ", " axioms)
+
+let check reference =
+  let c = Dumping.constant_of reference in
+  with_dump c Preparing.Itself (fun prepared dump answer ->
+    asked "check" c prepared ~dump ~answer;
+    let closure = prepared.Preparing.closure in
+    let notes = String.concat "" (List.map (fun phrase -> "\n  " ^ phrase) (Notes.phrases ())) in
+    Dumping.notice "%s is checked: %s, with its closure of %d declarations, %s%s"
+      (Constant.to_string c) (String.trim (text_of answer)) (List.length closure.Closure.declarations) (axioms_told closure) notes)
+
+let compute reference =
+  let c = Dumping.constant_of reference in
+  with_dump c Preparing.Body (fun prepared dump answer ->
+    asked "exec" c prepared ~dump ~answer;
+    Dumping.notice "%s = %s" (Constant.to_string c) (String.trim (text_of answer)))
+
+(* The constructors that a reader of the module's answer needs, by the repository's tools/types-of; what is told of them. *)
+let write_types dump types =
+  Dumping.remove types;
+  match program ~variable:"ERASEC_TYPES_OF" ~name:"types-of" with
+  | None -> "its types aren't written: types-of isn't found (set ERASEC_TYPES_OF to the path of tools/types-of, or put it on the path)"
+  | Some tool ->
+    let status, said = run [tool] ~input:dump ~output:types in
+    if status = 0 then Printf.sprintf "%s: %s" types (String.concat " " (String.split_on_char '\n' (String.trim (text_of types))))
+    else begin Dumping.remove types; "its types aren't written: " ^ said end
+
+let compile reference file =
+  let c = Dumping.constant_of reference in
+  with_dump c Preparing.Body (fun prepared dump answer ->
+    Dumping.remove file;
+    asked "compile" c prepared ~dump ~answer;
+    let bytes = text_of answer in
+    Dumping.to_file file (fun put -> put bytes);
+    Dumping.notice "%s: %d bytes\n%s" file (String.length bytes) (write_types dump (Filename.remove_extension file ^ ".types")))
