@@ -5,7 +5,7 @@
 #
 # ERASEC is the program; without it the one that `rt ci` left in crates/erasec/out. Each tests/out/NAME.check.dump and NAME.run.dump must be accepted by
 # `check`, and each NAME.refused.dump be refused by a rule of typing; each NAME.run.dump with a NAME.value must have that value by `eval` and by `exec`, where the
-# program has these jobs for it, and each NAME.exec.dump by `exec` alone. A job that it hasn't yet is told as skipped, and the two runs that are known to take more turns than a job has are told
+# program has these jobs for it, and each NAME.exec.dump by `exec` alone. A job that it hasn't yet is told as skipped, and the one run that is known to take more turns than a job has is told
 # apart: it says nothing of the value. Without coqc the whole is skipped. The files of tests/packages need a package that their first line names, and are told as skipped where it isn't there, or where
 # COQ_DUMP_PACKAGES is no; their dumps, NAME.exec.dump and NAME.long.dump (for `check`), get all turns.
 set -uo pipefail
@@ -87,7 +87,7 @@ compare() {
   run_job "$job" "$dump" "${@:4}"
   if [ "$status" = 2 ] || grep -q '^unsupported Form' out/err; then
     skipped=$((skipped + 1))
-  elif [ "$status" = 8 ] && [[ "$job $dump" =~ ^eval\ out/(well_founded|automatic).run.dump$ ]]; then
+  elif [ "$status" = 8 ] && [ "$job $dump" = "eval out/well_founded.run.dump" ]; then
     spent=$((spent + 1))
     echo "coq-dump: $job $dump takes more turns than a job has"
   elif [ "$status" = 0 ] && [ "$answer" = "$(cat "$value")" ]; then
@@ -107,7 +107,7 @@ for dump in out/*.check.dump out/*.long.dump out/*.run.dump out/*.refused.dump o
   if [ "$status" = "$due" ]; then pass; else fail "check $dump: status $status, $(cat out/err)"; fi
   value=${dump%.run.dump}.value
   [ -f "$value" ] || continue
-  compare eval "$dump" "$value"
+  case $dump in */automatic.run.dump) compare eval "$dump" "$value" --turns 4294967295 ;; *) compare eval "$dump" "$value" ;; esac
   compare exec "$dump" "$value"
 done
 
