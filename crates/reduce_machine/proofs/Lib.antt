@@ -1,0 +1,14 @@
+pub mod Standing
+pub mod Memos
+pub mod Falling
+pub mod Plugging
+pub mod Entering
+pub mod Layering
+pub mod Normals
+pub mod Bodies
+pub mod Seen
+pub mod Meetings
+pub mod Opens
+pub mod Ending
+pub mod Arms
+pub mod Binding

@@ -1,0 +1,13 @@
+pub mod Bound
+pub mod Cells
+pub mod Reads
+pub mod Memos
+pub mod Found
+pub mod Layered
+pub mod Layers
+pub mod Steps
+pub mod Arms
+pub mod Met
+pub mod Sought
+pub mod Payment
+pub mod Normal

@@ -1,0 +1,197 @@
+//! Terms whose variables are bound to terms.
+ghost use Rattle.std.specs.Prelude.{◌≡◌, ◌<◌, ◌≤◌, ◌^◌, ◌↔◌, [], ◌∷◌, IfOk, IfErr, IsTrue};
+ghost use Rattle.pc_terms.specs.declared.term.MakeFault.TheVariants.{Memory};
+ghost use Rattle.pc_terms.specs.Syntax.{substitute};
+ghost use Rattle.reduce_machine.specs.Reads.{stands, read};
+ghost use Rattle.reduce_machine.specs.Found.{IsFound};
+
+use crate::memo::{Memo, memo_of};
+use pc_terms::term::{MakeFault, Node, Term};
+use std::alloc::Global;
+use std::marker::Model;
+use std::rc::Rc;
+
+/// What the innermost variables of a term are bound to, variable 0 first. Bindings with one more share the others with it. Contracts see
+/// the terms, and how deep bindings lie in one another.
+#[cycle(bindings)]
+#[derive(Drop)]
+pub(crate) struct Bindings {
+    first: Option<Rc<Cell>>,
+}
+
+/// What one variable is bound to, and the bindings of the variables behind it. `rank` is above that of all bindings that it leads to. A
+/// binding that is no term as it is has a place for the term that it is read to.
+#[cycle(bindings)]
+#[derive(Drop)]
+struct Cell {
+    rank: u32,
+    item: Lazy,
+    below: Bindings,
+    memo: Option<Memo>,
+}
+
+/// A term under bindings.
+#[cycle(bindings)]
+#[derive(Drop)]
+pub(crate) struct Lazy {
+    pub(crate) term: Term,
+    pub(crate) env: Bindings,
+}
+
+impl Model for Bindings {
+    ghost use Rattle.reduce_machine.specs.Bound.{Bound};
+    ghost use Rattle.std.specs.Coded.{codes};
+    ghost use Rattle.pc_terms.specs.Code.{coded_term};
+
+    ghost Value = { Bound };
+
+    ghost coded = { Prim.hlevel (codes, coded_term) };
+
+    ghost use Rattle.reduce_machine.specs.Cells.{bound_of, IsRanked};
+
+    ghost view = { λ b. bound_of b.first };
+
+    ghost invariant = { λ b. IsRanked b.first };
+
+    ghost size = { λ v. v.rank };
+}
+
+/// What a variable stands for.
+#[derive(Drop)]
+pub(crate) enum Found<'a> {
+    /// An item, and the place for the term that it is read to.
+    Item(&'a Lazy, &'a Option<Memo>),
+    /// The variable of this number behind all items.
+    Past(u32),
+}
+
+impl Bindings {
+    /// No bindings.
+    pub(crate) fn new() -> Bindings
+        ensures items { result.items ≡ [] }
+        ensures rank { result.rank ≡ 0 }
+    {
+        Bindings { first: None }
+    }
+
+    /// How deep bindings lie in one another here.
+    pub(crate) fn rank(&self) -> u32
+        ensures is { result ≡ self.now.rank }
+        ensures small { self.now.rank < 2 ^ 32 }
+    {
+        match &self.first {
+            None => 0,
+            Some(cell) => cell.rank,
+        }
+    }
+
+    /// Whether there is no binding.
+    pub(crate) fn is_empty(&self) -> bool
+        ensures is { IsTrue result ↔ (self.now.items ≡ []) }
+    {
+        match &self.first {
+            None => true,
+            Some(_) => false,
+        }
+    }
+
+    /// The same bindings.
+    pub(crate) fn share(&self) -> Result<Bindings, MakeFault>
+        ensures ok { IfOk result (λ b. b ≡ self.now) }
+        ensures only_memory { IfErr result (λ e. e ≡ Memory) }
+    {
+        match &self.first {
+            None => Ok(Bindings { first: None }),
+            Some(cell) => match cell.clone() {
+                Ok(cell) => Ok(Bindings { first: Some(cell) }),
+                Err(_) => Err(MakeFault::Memory),
+            },
+        }
+    }
+
+    /// What variable i stands for.
+    pub(crate) fn find(&self, i: u32) -> Found<'_>
+        ensures found { IsFound self.now i result }
+    {
+        let mut list = self;
+        let mut left = i;
+        loop {
+            match &list.first {
+                None => return Found::Past(left),
+                Some(cell) => {
+                    if left == 0 {
+                        return Found::Item(&cell.item, &cell.memo);
+                    }
+                    left -= 1;
+                    list = &cell.below;
+                }
+            }
+        }
+    }
+
+    /// One more binding, which is that of variable 0.
+    pub(crate) fn with(self, alloc: Global, item: Lazy) -> Result<Bindings, MakeFault>
+        ensures items { IfOk result (λ b. b.items ≡ read item ∷ self.items) }
+        ensures only_memory { IfErr result (λ e. e ≡ Memory) }
+    {
+        let rank = self.rank().max(item.env.rank());
+        if rank == u32::MAX {
+            return Err(MakeFault::Memory);
+        }
+        let memo = memo_of(alloc, &item)?;
+        let cell = Cell {
+            rank: rank + 1,
+            item,
+            below: self,
+            memo,
+        };
+        match Rc::new(alloc, cell) {
+            Ok(cell) => Ok(Bindings { first: Some(cell) }),
+            Err(_) => Err(MakeFault::Memory),
+        }
+    }
+}
+
+impl Lazy {
+    /// A term as it is.
+    pub(crate) fn plain(term: Term) -> Lazy
+        ensures term { result.term ≡ term }
+        ensures items { result.env.items ≡ [] }
+        ensures rank { result.env.rank ≡ 0 }
+    {
+        Lazy {
+            term,
+            env: Bindings::new(),
+        }
+    }
+
+    /// The same term under the same bindings.
+    pub(crate) fn share(&self) -> Result<Lazy, MakeFault>
+        ensures ok { IfOk result (λ l. l ≡ self.now) }
+        ensures only_memory { IfErr result (λ e. e ≡ Memory) }
+    {
+        let term = self.term.share()?;
+        let env = self.env.share()?;
+        Ok(Lazy { term, env })
+    }
+
+    /// A part of a term under the term's bindings: nothing is kept of them that is seen to be of no use.
+    pub(crate) fn part(part: &Term, env: &Bindings) -> Result<Lazy, MakeFault>
+        ensures ok { IfOk result (λ l. read l ≡ substitute (stands env.now.items) part.now) }
+        ensures rank { IfOk result (λ l. l.env.rank ≤ env.now.rank) }
+        ensures only_memory { IfErr result (λ e. e ≡ Memory) }
+    {
+        if part.loose() == 0 {
+            let term = part.share()?;
+            return Ok(Lazy::plain(term));
+        }
+        if let Node::Rel(i) = part.view() {
+            if let Found::Item(item, _) = env.find(*i) {
+                return item.share();
+            }
+        }
+        let term = part.share()?;
+        let env = env.share()?;
+        Ok(Lazy { term, env })
+    }
+}

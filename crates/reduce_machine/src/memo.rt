@@ -1,0 +1,106 @@
+//! Terms that bindings were read to.
+ghost use Rattle.std.specs.Prelude.{◌≡◌, IfOk, IfErr, IfSome};
+ghost use Rattle.pc_terms.specs.Counted.{number_of};
+ghost use Rattle.pc_terms.specs.declared.term.MakeFault.TheVariants.{Memory};
+ghost use Rattle.reduce_machine.specs.Memos.{IsMemo};
+ghost use Rattle.reduce_machine.specs.Reads.{read};
+
+use crate::bindings::Lazy;
+use pc_terms::term::{MakeFault, Term};
+use stamps::Stamp;
+use std::alloc::Global;
+use std::cell::OnceCell;
+use std::marker::Model;
+use std::rc::Rc;
+
+/// A term that was read, with the stamp of the place for which it was. Contracts see the term.
+#[derive(Drop)]
+struct Kept {
+    stamp: Rc<Stamp>,
+    term: Term,
+}
+
+impl Model for Kept {
+    ghost use Rattle.std.specs.Prelude.{◌≡◌};
+    ghost use Rattle.pc_terms.specs.Syntax.{Term};
+    ghost use Rattle.pc_terms.specs.Code.{coded_term};
+    ghost use Rattle.pc_terms.specs.Counted.{number_of};
+
+    ghost Value = { Term };
+
+    ghost coded = { coded_term };
+
+    ghost view = { λ k. k.term };
+
+    ghost invariant = { λ k. k.stamp.value ≡ number_of k.term };
+}
+
+/// A place for one term, which is written at most once. Contracts see the number of the only term that it can have.
+#[derive(Drop)]
+pub(crate) struct Memo {
+    stamp: Rc<Stamp>,
+    kept: OnceCell<Kept>,
+}
+
+impl Model for Memo {
+    ghost use Rattle.std.specs.Prelude.{ℕ};
+
+    ghost Value = { ℕ };
+
+    ghost view = { λ m. m.stamp.value };
+}
+
+impl Memo {
+    /// The term, where it was written.
+    pub(crate) fn term(&self) -> Option<&Term>
+        ensures is { IfSome result (λ t. number_of t.now ≡ self.now) }
+    {
+        match self.kept.get() {
+            Some(kept) => {
+                if kept.stamp.same(&self.stamp) {
+                    return Some(&kept.term);
+                }
+                None
+            }
+            None => None,
+        }
+    }
+
+    /// Writes the term, if there is memory for that.
+    pub(crate) fn keep(&self, term: &Term)
+        requires is { self.now ≡ number_of term.now }
+    {
+        let Ok(term) = term.share() else {
+            return;
+        };
+        let Ok(stamp) = self.stamp.clone() else {
+            return;
+        };
+        let _ = self.kept.set(Kept { stamp, term });
+    }
+}
+
+/// A place for the term that an item is; none where that term is at hand.
+pub(crate) fn memo_of(alloc: Global, item: &Lazy) -> Result<Option<Memo>, MakeFault>
+    ensures ok { IfOk result (λ m. IsMemo m (read item.now)) }
+    ensures only_memory { IfErr result (λ e. e ≡ Memory) }
+{
+    if item.env.is_empty() {
+        return Ok(None);
+    }
+    let stamp = stamp_of(item);
+    match Rc::new(alloc, stamp) {
+        Ok(stamp) => Ok(Some(Memo {
+            stamp,
+            kept: OnceCell::new(),
+        })),
+        Err(_) => Err(MakeFault::Memory),
+    }
+}
+
+/// A stamp for the term that an item is.
+fn stamp_of(_item: &Lazy) -> Stamp
+    ensures is { result ≡ number_of (read _item.now) }
+{
+    Stamp::new()
+}
