@@ -1,0 +1,71 @@
+// The types of erasec.mjs.
+
+export declare const MAX_NODES: 4_000_000;
+
+export declare class ErasecError extends Error {}
+export declare class BadTypes extends ErasecError {}
+export declare class BadModule extends ErasecError {}
+export declare class MemoryExhausted extends ErasecError {}
+export declare class StackExhausted extends ErasecError {}
+export declare class Trapped extends ErasecError {}
+export declare class NotData extends ErasecError {}
+export declare class TooLarge extends ErasecError {}
+export declare class NotConvertible extends ErasecError {}
+export declare class OutOfTime extends ErasecError {}
+
+export interface Constructor {
+  readonly name: string;
+  readonly args: readonly string[];
+}
+
+export declare class Types {
+  constructor(text: string | readonly string[]);
+  readonly main: string;
+  readonly constructors: ReadonlyMap<string, readonly Constructor[]>;
+}
+
+export declare class Data {
+  constructor(name: string, number: number, args?: Data[]);
+  readonly name: string;
+  readonly number: number;
+  readonly args: Data[];
+  toString(): string;
+}
+
+/** Text of types, in the form of `tools/types-of`, or types read of it. */
+export type TypesText = Types | string | readonly string[];
+
+export interface Raw {
+  readonly buffer: ArrayBuffer;
+  readonly word: number;
+}
+
+export declare function readData(buffer: ArrayBuffer, word: number, types: TypesText, type?: string): Data;
+
+export declare class Program {
+  constructor(module: WebAssembly.Module, types: TypesText);
+  readonly module: WebAssembly.Module;
+  readonly types: Types;
+  runRaw(): Raw;
+  run(): Data;
+}
+
+export declare function load(bytes: BufferSource, types: TypesText): Promise<Program>;
+
+/** Between data and values of JavaScript. */
+export interface Conversion<Value, Given = Value> {
+  of(data: Data): Value;
+  data(value: Given): Data;
+}
+
+export declare const bool: Conversion<boolean>;
+export declare const nat: Conversion<number, number | bigint>;
+export declare const positive: Conversion<bigint, number | bigint>;
+export declare const N: Conversion<bigint, number | bigint>;
+export declare const Z: Conversion<bigint, number | bigint>;
+export declare const ascii: Conversion<number>;
+export declare const bytes: Conversion<Uint8Array, Iterable<number>>;
+export declare const string: Conversion<string>;
+export declare function list<V, G>(item: Conversion<V, G>): Conversion<V[], G[]>;
+export declare function option<V, G>(item: Conversion<V, G>): Conversion<{ some: V } | null, { some: G } | null>;
+export declare function prod<V, G, W, H>(first: Conversion<V, G>, second: Conversion<W, H>): Conversion<[V, W], [G, H]>;

@@ -1,0 +1,337 @@
+// Runs modules that `erasec compile` wrote, and reads their answers along main's types. Without dependencies, for node and browsers.
+//
+// A program's types are those that `tools/types-of` writes of its dump: 'list=nil,cons:nat+list' and 'nat=O,S:nat', main's first. docs/RUNNING.md has the layout of values, README.md beside
+// this file an example of each call, erasec.d.mts the types of TypeScript.
+
+/** Data are read, told and stored up to this many nodes, as by `erasec run`. A part that is shared counts at each place. */
+export const MAX_NODES = 4_000_000;
+
+// ------------------------------------------------------------------ errors
+
+/** What the program, its module or its types are refused for; each cause is a class of its own. */
+export class ErasecError extends Error {
+  constructor(message, options) {
+    super(message, options);
+    this.name = new.target.name;
+  }
+}
+
+/** The text of types isn't in the form of `tools/types-of`. */
+export class BadTypes extends ErasecError {}
+
+/** The bytes are no module that an engine takes, or one without the entries of `erasec compile`. */
+export class BadModule extends ErasecError {}
+
+/** The run ended since its memory was used up. */
+export class MemoryExhausted extends ErasecError {}
+
+/** The run ended since the engine's stack is too small for its recursion: the program may still have an answer. */
+export class StackExhausted extends ErasecError {}
+
+/** The run trapped otherwise, which no module of a program with data as its value does. */
+export class Trapped extends ErasecError {}
+
+/** What the run left isn't data of the given types: the types aren't this module's, or the module isn't by `erasec compile`. */
+export class NotData extends ErasecError {}
+
+/** The answer has more than MAX_NODES nodes. */
+export class TooLarge extends ErasecError {}
+
+/** A value has no data of the type that is asked for, or data isn't of a conversion's form. */
+export class NotConvertible extends ErasecError {}
+
+/** The time limit of a run in a Worker was reached. */
+export class OutOfTime extends ErasecError {}
+
+// ------------------------------------------------------------------ types
+
+/** The types of an answer: each type's constructors by their numbers, with the types of their arguments. */
+export class Types {
+  /** Of lines or words in the form of `tools/types-of`: one string, or several. */
+  constructor(text) {
+    const given = (Array.isArray(text) ? text : [text]).join("\n").split(/\s+/).filter(Boolean);
+    if (!given.length) throw new BadTypes("no type is given");
+    this.constructors = new Map();
+    for (const line of given) this.#add(line);
+    this.main = given[0].slice(0, given[0].indexOf("="));
+    for (const [type, constructors] of this.constructors) {
+      for (const { name, args } of constructors) {
+        const missing = args.find((it) => !this.constructors.has(it));
+        if (missing !== undefined) throw new BadTypes(`${name} of ${type} has an argument of the type ${missing}, which isn't given`);
+      }
+    }
+  }
+
+  #add(line) {
+    const [name, listed, ...further] = line.split("=");
+    if (!name || listed === undefined || further.length) throw new BadTypes(`'${line}' isn't NAME=CONSTRUCTOR,..`);
+    if (this.constructors.has(name)) throw new BadTypes(`the type ${name} is given twice`);
+    const constructors = (listed ? listed.split(",") : []).map((it) => {
+      const [constructor, args, ...more] = it.split(":");
+      if (!constructor || args === "" || more.length) throw new BadTypes(`'${it}' isn't CONSTRUCTOR or CONSTRUCTOR:TYPE+..`);
+      return { name: constructor, args: args ? args.split("+") : [] };
+    });
+    this.constructors.set(name, constructors);
+  }
+}
+
+const typesOf = (types) => (types instanceof Types ? types : new Types(types));
+
+// ------------------------------------------------------------------ data
+
+/** A constructor with its arguments, which are data again. `number` is its place among its type's constructors. */
+export class Data {
+  constructor(name, number, args = []) {
+    this.name = name;
+    this.number = number;
+    this.args = args;
+  }
+
+  /** The text in which erasec writes data. */
+  toString() {
+    const out = [];
+    const todo = [this];
+    let nodes = 0;
+    while (todo.length) {
+      const next = todo.pop();
+      if (typeof next === "string") { out.push(next); continue; }
+      if (++nodes > MAX_NODES) throw new TooLarge(`more than ${MAX_NODES} nodes`);
+      out.push(next.args.length ? `(${next.name}` : next.name);
+      if (next.args.length) todo.push(")");
+      for (let i = next.args.length; i > 0; i--) todo.push(next.args[i - 1], " ");
+    }
+    return out.join("");
+  }
+}
+
+/** Reads the data that a word stands for in a memory, along the types. Every block's address, constructor and number of arguments is compared with them. */
+export function readData(buffer, word, types, type) {
+  const { constructors, main } = typesOf(types);
+  const view = new DataView(buffer);
+  const root = [null];
+  const todo = [{ into: root, at: 0, word: word >>> 0, type: type ?? main }];
+  let nodes = 0;
+  while (todo.length) {
+    const next = todo.pop();
+    if (++nodes > MAX_NODES) throw new TooLarge(`the answer has more than ${MAX_NODES} nodes`);
+    const { number, count } = headOf(view, next.word);
+    const constructor = constructors.get(next.type)?.[number];
+    if (!constructor) throw new NotData(`constructor ${number} of ${next.type} is met, which has ${constructors.get(next.type)?.length ?? "none"}`);
+    if (constructor.args.length !== count) throw new NotData(`${constructor.name} of ${next.type} is met with ${count} arguments, and has ${constructor.args.length}`);
+    const data = new Data(constructor.name, number, new Array(count));
+    next.into[next.at] = data;
+    for (let i = 0; i < count; i++) todo.push({ into: data.args, at: i, word: view.getUint32(next.word + 4 + 4 * i, true), type: constructor.args[i] });
+  }
+  return root[0];
+}
+
+/** The constructor's number and the count of arguments that a word has; a block lies in memory as a whole. */
+function headOf(view, word) {
+  if (word & 1) return { number: word >>> 1, count: 0 };
+  if (word === 0 || word % 4 || word + 4 > view.byteLength) throw new NotData(`no value at ${word}`);
+  const header = view.getUint32(word, true);
+  const count = header >>> 16;
+  if (count === 0 || word + 4 + 4 * count > view.byteLength) throw new NotData(`no value at ${word}`);
+  return { number: header & 65535, count };
+}
+
+// ------------------------------------------------------------------ programs
+
+const ENTRIES = [["main", (it) => typeof it === "function"], ["memory", (it) => it instanceof WebAssembly.Memory],
+  ["result", (it) => it instanceof WebAssembly.Global], ["status", (it) => it instanceof WebAssembly.Global]];
+
+/** A compiled program: its module, and the types of its answer. */
+export class Program {
+  constructor(module, types) {
+    this.module = module;
+    this.types = typesOf(types);
+  }
+
+  /** Runs main in a new instance; what stands in the memory afterwards, and the word of the answer. */
+  runRaw() {
+    const entries = this.#instance();
+    try {
+      entries.main();
+    } catch (trap) {
+      throw causeOf(trap, entries.status.value);
+    }
+    return { buffer: entries.memory.buffer, word: entries.result.value >>> 0 };
+  }
+
+  /** Runs main in a new instance, and reads its answer. */
+  run() {
+    const { buffer, word } = this.runRaw();
+    return readData(buffer, word, this.types);
+  }
+
+  #instance() {
+    let entries;
+    try {
+      entries = new WebAssembly.Instance(this.module, {}).exports;
+    } catch (cause) {
+      throw new BadModule(`the module has no instance: ${cause.message}`, { cause });
+    }
+    for (const [name, isEntry] of ENTRIES) {
+      if (!isEntry(entries[name])) throw new BadModule(`the module has no entry ${name}`);
+    }
+    return entries;
+  }
+}
+
+/** Which error a trap of main stands for. */
+function causeOf(trap, status) {
+  if (status === 1) return new MemoryExhausted("the program's memory is used up", { cause: trap });
+  // V8 and JavaScriptCore throw a RangeError, SpiderMonkey an InternalError
+  if (trap instanceof RangeError || trap?.name === "InternalError") return new StackExhausted(`the engine's stack is too small: ${trap.message}`, { cause: trap });
+  return new Trapped(`the program trapped: ${trap?.message ?? trap}`, { cause: trap });
+}
+
+/** The program of a module's bytes. */
+export async function load(bytes, types) {
+  const parsed = typesOf(types);
+  try {
+    return new Program(await WebAssembly.compile(bytes), parsed);
+  } catch (cause) {
+    throw new BadModule(`no module: ${cause.message}`, { cause });
+  }
+}
+
+// ------------------------------------------------------------------ conversions
+
+const refuse = (what, value) => { throw new NotConvertible(`${value instanceof Data ? value.name : String(value)} isn't ${what}`); };
+
+/** A constructor's number, where the data is one of a type with as many arguments for each constructor as listed. */
+function numberOf(data, what, counts) {
+  if (!(data instanceof Data) || counts[data.number] !== data.args.length) refuse(what, data);
+  return data.number;
+}
+
+const natural = (value, what) => {
+  const big = typeof value === "bigint" ? value : Number.isSafeInteger(value) ? BigInt(value) : refuse(what, value);
+  return big >= 0n ? big : refuse(what, value);
+};
+
+/** Coq's bool, as true and false. */
+export const bool = {
+  of: (data) => numberOf(data, "a bool", [0, 0]) === 0,
+  data: (value) => (typeof value === "boolean" ? new Data(value ? "true" : "false", value ? 0 : 1) : refuse("a bool", value)),
+};
+
+/** Coq's nat, as a number. */
+export const nat = {
+  of(data) {
+    let value = 0;
+    for (let at = data; numberOf(at, "a nat", [0, 1]) === 1; at = at.args[0]) value++;
+    return value;
+  },
+  data(value) {
+    let left = natural(value, "a nat");
+    if (left >= BigInt(MAX_NODES)) throw new TooLarge(`${value} in unary has more than ${MAX_NODES} nodes`);
+    let data = new Data("O", 0);
+    for (; left > 0n; left--) data = new Data("S", 1, [data]);
+    return data;
+  },
+};
+
+/** Coq's positive, as a bigint from 1. */
+export const positive = {
+  of(data) {
+    let bits = "";
+    for (let at = data; ; at = at.args[0]) {
+      const number = numberOf(at, "a positive", [1, 1, 0]);
+      if (number === 2) return BigInt(`0b1${bits ? [...bits].reverse().join("") : ""}`);
+      bits += number === 0 ? "1" : "0";
+    }
+  },
+  data(value) {
+    const bits = natural(value, "a positive").toString(2);
+    if (bits === "0") refuse("a positive", value);
+    let data = new Data("xH", 2);
+    for (const bit of bits.slice(1)) data = bit === "1" ? new Data("xI", 0, [data]) : new Data("xO", 1, [data]);
+    return data;
+  },
+};
+
+/** Coq's N, as a bigint from 0. */
+export const N = {
+  of: (data) => (numberOf(data, "an N", [0, 1]) === 0 ? 0n : positive.of(data.args[0])),
+  data: (value) => (natural(value, "an N") === 0n ? new Data("N0", 0) : new Data("Npos", 1, [positive.data(value)])),
+};
+
+/** Coq's Z, as a bigint. */
+export const Z = {
+  of(data) {
+    const number = numberOf(data, "a Z", [0, 1, 1]);
+    return number === 0 ? 0n : number === 1 ? positive.of(data.args[0]) : -positive.of(data.args[0]);
+  },
+  data(value) {
+    const big = typeof value === "bigint" ? value : Number.isSafeInteger(value) ? BigInt(value) : refuse("a Z", value);
+    if (big === 0n) return new Data("Z0", 0);
+    return big > 0n ? new Data("Zpos", 1, [positive.data(big)]) : new Data("Zneg", 2, [positive.data(-big)]);
+  },
+};
+
+/** Coq's list of a converted type, as an array. */
+export const list = (item) => ({
+  of(data) {
+    const values = [];
+    for (let at = data; numberOf(at, "a list", [0, 2]) === 1; at = at.args[1]) values.push(item.of(at.args[0]));
+    return values;
+  },
+  data(values) {
+    if (!Array.isArray(values)) refuse("a list", values);
+    return values.reduceRight((rest, value) => new Data("cons", 1, [item.data(value), rest]), new Data("nil", 0));
+  },
+});
+
+/** Coq's option of a converted type, as { some: value } or null. */
+export const option = (item) => ({
+  of: (data) => (numberOf(data, "an option", [1, 0]) === 0 ? { some: item.of(data.args[0]) } : null),
+  data: (value) => (value === null ? new Data("None", 1) : "some" in Object(value) ? new Data("Some", 0, [item.data(value.some)]) : refuse("an option", value)),
+});
+
+/** Coq's pair of converted types, as an array of two. */
+export const prod = (first, second) => ({
+  of(data) {
+    numberOf(data, "a pair", [2]);
+    return [first.of(data.args[0]), second.of(data.args[1])];
+  },
+  data(value) {
+    if (!Array.isArray(value) || value.length !== 2) refuse("a pair", value);
+    return new Data("pair", 0, [first.data(value[0]), second.data(value[1])]);
+  },
+});
+
+/** Coq's ascii, as a byte: a number below 256. */
+export const ascii = {
+  of(data) {
+    numberOf(data, "an ascii", [8]);
+    return data.args.reduceRight((byte, bit) => 2 * byte + (bool.of(bit) ? 1 : 0), 0);
+  },
+  data(value) {
+    if (!Number.isInteger(value) || value < 0 || value > 255) refuse("an ascii", value);
+    return new Data("Ascii", 0, Array.from({ length: 8 }, (_, i) => bool.data(((value >> i) & 1) === 1)));
+  },
+};
+
+/** Coq's string, as the text that its bytes are in UTF-8; `bytes` has them as they are. */
+export const bytes = {
+  of(data) {
+    const values = [];
+    for (let at = data; numberOf(at, "a string", [0, 2]) === 1; at = at.args[1]) values.push(ascii.of(at.args[0]));
+    return Uint8Array.from(values);
+  },
+  data: (values) => Array.from(values).reduceRight((rest, byte) => new Data("String", 1, [ascii.data(byte), rest]), new Data("EmptyString", 0)),
+};
+
+export const string = {
+  of(data) {
+    try {
+      return new TextDecoder("utf-8", { fatal: true, ignoreBOM: true }).decode(bytes.of(data));
+    } catch (cause) {
+      if (cause instanceof ErasecError) throw cause;
+      throw new NotConvertible("the string's bytes aren't UTF-8: use bytes", { cause });
+    }
+  },
+  data: (value) => (typeof value === "string" ? bytes.data(new TextEncoder().encode(value)) : refuse("a string", value)),
+};

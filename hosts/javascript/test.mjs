@@ -1,0 +1,153 @@
+// Tests of the reader: `node --test hosts/javascript/test.mjs`. Modules that are written out here show each error; with ERASEC, the program, its modules of examples/ and of the folders of
+// ERASEC_CASES are run too, and each text is compared with that of `erasec exec`.
+import { test } from "node:test";
+import assert from "node:assert/strict";
+import { execFileSync, spawnSync } from "node:child_process";
+import { existsSync, readFileSync, readdirSync } from "node:fs";
+import { basename, join } from "node:path";
+import { fileURLToPath } from "node:url";
+import * as erasec from "./erasec.mjs";
+import { runLimited } from "./limited.mjs";
+
+const { Data, N, Z, ascii, bool, bytes, list, load, nat, option, positive, prod, readData, string } = erasec;
+const TOP = fileURLToPath(new URL("../..", import.meta.url));
+const NAT = "nat=O,S:nat";
+const LIST = `list=nil,cons:nat+list ${NAT}`;
+
+// ------------------------------------------------------------------ modules written out
+
+const number = (n) => { const out = []; do { out.push((n & 127) | (n > 127 ? 128 : 0)); n >>>= 7; } while (n); return out; };
+const signed = (n) => { const out = []; for (;;) { const low = n & 127; n >>= 7; if ((n === 0 && !(low & 64)) || (n === -1 && low & 64)) return [...out, low]; out.push(low | 128); } };
+const named = (name) => [name.length, ...Buffer.from(name)];
+const section = (id, items) => { const body = [...number(items.length), ...items.flat()]; return [id, ...number(body.length), ...body]; };
+const constant = (n) => [0x41, ...signed(n)];
+
+/** A module whose main has this code, with words in memory from address 4 and a word in result. */
+function written({ code = [], words = [], result = 1, entries = ["main", "memory", "result", "status"] }) {
+  const exports = { main: [0, 0], memory: [2, 0], result: [3, 0], status: [3, 1] };
+  const data = words.flatMap((w) => [w & 255, (w >>> 8) & 255, (w >>> 16) & 255, w >>> 24]);
+  const body = [0, ...code, 0x0b];
+  return Uint8Array.from([0, 0x61, 0x73, 0x6d, 1, 0, 0, 0,
+    ...section(1, [[0x60, 0, 0]]), ...section(3, [[0]]), ...section(5, [[0, 1]]),
+    ...section(6, [result, 0].map((it) => [0x7f, 1, ...constant(it), 0x0b])),
+    ...section(7, entries.map((it) => [...named(it), ...exports[it]])),
+    ...section(10, [[...number(body.length), ...body]]),
+    ...section(11, [[0, ...constant(4), 0x0b, ...number(data.length), ...data]])]);
+}
+
+const UNREACHABLE = [0x00], CALL_ITSELF = [0x10, 0], FOREVER = [0x03, 0x40, 0x0c, 0, 0x0b];
+const EXHAUSTED = [...constant(1), 0x24, 1, ...UNREACHABLE];
+// cons 1 nil at 4, S O at 16
+const ONE_IN_A_LIST = { words: [2 * 65536 + 1, 16, 1, 65536 + 1, 1], result: 4 };
+
+const answerOf = async (module, types) => (await load(written(module), types)).run();
+
+test("an answer is read along its types", async () => {
+  const answer = await answerOf(ONE_IN_A_LIST, LIST);
+  assert.equal(String(answer), "(cons (S O) nil)");
+  assert.deepEqual(list(nat).of(answer), [1]);
+  assert.equal(String(await answerOf({ result: 3 }, "color=red,green,blue")), "green");
+});
+
+test("each run has an instance of its own", async () => {
+  const program = await load(written(ONE_IN_A_LIST), LIST);
+  assert.equal(String(program.run()), String(program.run()));
+});
+
+test("types that aren't the module's are found", async () => {
+  for (const types of [NAT, "list=nil,cons:list", "list=nil,cons:nat+list nat=O,S:nat+nat", "pair=pair:nat+nat nat=O,S:nat", "list=nil,cons:list+list", "empty="]) {
+    await assert.rejects(answerOf(ONE_IN_A_LIST, types), erasec.NotData, types);
+  }
+});
+
+test("addresses, headers and cycles are looked at", async () => {
+  for (const result of [0, 2, 6, 65_532, 65_536, -4]) await assert.rejects(answerOf({ result }, NAT), erasec.NotData, String(result));
+  await assert.rejects(answerOf({ words: [1], result: 4 }, NAT), erasec.NotData);
+  await assert.rejects(answerOf({ words: [65536 + 1, 4], result: 4 }, NAT), erasec.TooLarge);
+});
+
+test("each fault of a run has its own error", async () => {
+  await assert.rejects(answerOf({ code: EXHAUSTED }, NAT), erasec.MemoryExhausted);
+  await assert.rejects(answerOf({ code: CALL_ITSELF }, NAT), erasec.StackExhausted);
+  await assert.rejects(answerOf({ code: UNREACHABLE }, NAT), erasec.Trapped);
+});
+
+test("other modules are refused", async () => {
+  await assert.rejects(load(Uint8Array.of(1, 2, 3), NAT), erasec.BadModule);
+  await assert.rejects(answerOf({ entries: ["main", "memory", "result"] }, NAT), erasec.BadModule);
+});
+
+test("a text of types is checked", () => {
+  for (const text of ["", "nat", "=O", "nat=O,S:nat nat=O", "nat=O,S:", "nat=O,,S", "list=nil,cons:nat+list", "a=b=c", "nat=O,S:nat:nat"]) {
+    assert.throws(() => new erasec.Types(text), erasec.BadTypes, text);
+  }
+  assert.equal(new erasec.Types(["list=nil,cons:nat+list\n", NAT]).main, "list");
+});
+
+test("a Worker has a time limit", async () => {
+  assert.equal(String(await runLimited(written(ONE_IN_A_LIST), LIST, 10_000)), "(cons (S O) nil)");
+  await assert.rejects(runLimited(written({ code: FOREVER }), NAT, 500), erasec.OutOfTime);
+  await assert.rejects(runLimited(written({ code: EXHAUSTED }), NAT, 10_000), erasec.MemoryExhausted);
+  await assert.rejects(runLimited(written({ code: CALL_ITSELF }), NAT, 10_000), erasec.StackExhausted);
+  await assert.rejects(runLimited(written(ONE_IN_A_LIST), NAT, 10_000), erasec.NotData);
+});
+
+test("conversions go both ways", () => {
+  const pairs = [[bool, true, "true"], [bool, false, "false"], [nat, 3, "(S (S (S O)))"], [positive, 6n, "(xO (xI xH))"], [N, 0n, "N0"], [N, 2n, "(Npos (xO xH))"], [Z, 0n, "Z0"], [Z, 1n, "(Zpos xH)"],
+    [Z, -3n, "(Zneg (xI xH))"], [list(nat), [1, 0], "(cons (S O) (cons O nil))"], [option(bool), null, "None"], [option(bool), { some: true }, "(Some true)"], [prod(nat, bool), [0, false], "(pair O false)"],
+    [ascii, 5, "(Ascii true false true false false false false false)"], [string, "a", "(String (Ascii true false false false false true true false) EmptyString)"]];
+  for (const [conversion, value, text] of pairs) {
+    const data = conversion.data(value);
+    assert.equal(String(data), text);
+    assert.deepEqual(conversion.of(data), value);
+  }
+  for (const value of [1n << 200n, 12_345_678_901_234_567_890n]) {
+    assert.equal(N.of(N.data(value)), value);
+    assert.equal(Z.of(Z.data(-value)), -value);
+  }
+  assert.equal(string.of(string.data("grüße, \ud83d\ude42")), "grüße, \ud83d\ude42");
+  assert.equal(nat.of(nat.data(300_000)), 300_000);
+  assert.equal(list(bool).of(list(bool).data(new Array(100_000).fill(true))).length, 100_000);
+});
+
+test("what can't be converted is refused", () => {
+  for (const [conversion, value] of [[nat, -1], [nat, 1.5], [positive, 0], [Z, "1"], [ascii, 256], [bool, 1], [list(nat), 1], [prod(nat, nat), [1]], [option(nat), 1], [string, 1]]) {
+    assert.throws(() => conversion.data(value), erasec.NotConvertible, String(value));
+  }
+  for (const [conversion, data] of [[nat, new Data("cons", 1, [nat.data(0), nat.data(0)])], [bool, nat.data(1)], [list(nat), new Data("nil", 2)], [prod(nat, nat), nat.data(1)], [ascii, nat.data(0)]]) {
+    assert.throws(() => conversion.of(data), erasec.NotConvertible, String(data));
+  }
+  assert.throws(() => string.of(bytes.data([255])), erasec.NotConvertible);
+  assert.throws(() => nat.data(4_000_000), erasec.TooLarge);
+});
+
+test("tools/read-answer.mjs tells causes by its status", () => {
+  const run = (...words) => spawnSync(process.execPath, [join(TOP, "tools/read-answer.mjs"), ...words], { encoding: "utf8" });
+  assert.equal(run().status, 2);
+  assert.equal(run(join(TOP, "examples/one.wasm"), "nat").status, 2);
+  const read = run(join(TOP, "examples/one.wasm"), "two=a,b");
+  assert.deepEqual([read.status, read.stdout], [0, "b\n"]);
+  assert.equal(run(join(TOP, "examples/one.wasm"), "one=a").status, 15);
+});
+
+// ------------------------------------------------------------------ modules of the program
+
+const program = process.env.ERASEC ?? join(TOP, "crates/erasec/out/erasec");
+const folders = [join(TOP, "examples"), ...(process.env.ERASEC_CASES ?? "").split(":").filter(Boolean)];
+const dumps = folders.flatMap((folder) => readdirSync(folder).filter((it) => it.endsWith(".dump")).map((it) => join(folder, it)));
+
+test("each example and case gives the text of exec", { skip: existsSync(program) ? false : "the program isn't built" }, async () => {
+  const ran = (job, input) => spawnSync(program, [job, "--turns", "4294967295", "--steps", "4294967295"], { input, maxBuffer: 1 << 28 });
+  let answered = 0;
+  for (const dump of dumps) {
+    const input = readFileSync(dump);
+    const wanted = ran("exec", input);
+    if (wanted.status === 10) continue;
+    assert.equal(wanted.status, 0, basename(dump));
+    const types = execFileSync(join(TOP, "tools/types-of"), [dump], { encoding: "utf8" });
+    const answer = (await load(ran("compile", input).stdout, types)).run();
+    assert.equal(`${answer}\n`, wanted.stdout.toString(), basename(dump));
+    answered++;
+  }
+  console.log(`${answered} of ${dumps.length} dumps have an answer`);
+});
