@@ -18,6 +18,10 @@ let unknown na = LocalAssum (na, mkProp)
 
 let under mark na place = { place with env = Environ.push_rel (unknown na) place.env; marks = mark :: place.marks }
 
+let under_let na v a place = { place with env = Environ.push_rel (LocalDef (na, v, a)) place.env; marks = Other :: place.marks }
+
+let under_all mark names place = Array.fold_left (fun place na -> under mark na place) place names
+
 let whole place t = Reduction.whd_all place.env t
 
 let names_block block t =
@@ -68,6 +72,10 @@ let rec is_small place t =
 and opens place scrutinee =
   is_small place scrutinee || (match kind (whole place scrutinee) with Rel i -> mark_of place i = Argument | _ -> false)
 
+(* Whether a fixpoint inside a body, of one definition, stands before its recursive argument, and that is smaller: then its own recursive variable is. *)
+let passes place ((places, _), (_, _, bodies)) arguments =
+  Array.length bodies = 1 && places.(0) < Array.length arguments && is_small place arguments.(places.(0))
+
 let rec is_guarded place t =
   match kind t with
   | Rel i -> (match mark_of place i with Recursive _ -> false | _ -> true)
@@ -77,13 +85,12 @@ let rec is_guarded place t =
     let is_opened = opens place scrutinee in
     let branch constructor (names, body) = is_guarded (in_branch place ci.ci_ind constructor params is_opened names) body in
     is_guarded place scrutinee && CArray.for_all (is_guarded place) params
-    && is_guarded (Array.fold_left (fun place na -> under Other na place) place names) ret
+    && is_guarded (under_all Other names place) ret
     && CArray.for_all (fun holds -> holds) (Array.mapi branch branches)
   | Fix fix -> is_guarded_fixpoint place fix [||]
   | Lambda (na, a, b) | Prod (na, a, b) -> is_guarded place a && is_guarded (under Other na place) b
   | LetIn (na, v, a, b) ->
-    let inner = { place with env = Environ.push_rel (LocalDef (na, v, a)) place.env; marks = Other :: place.marks } in
-    is_guarded place v && is_guarded place a && is_guarded inner b
+    is_guarded place v && is_guarded place a && is_guarded (under_let na v a place) b
   | _ -> Constr.fold (fun holds t -> holds && is_guarded place t) true t
 
 and is_guarded_application place f arguments =
@@ -98,12 +105,11 @@ and is_guarded_application place f arguments =
   | Cast (f, _, _) -> is_guarded_application place f arguments
   | _ -> is_guarded place f && parts ()
 
-(* A fixpoint inside a body: its own recursive variable is smaller where it is applied to something smaller. *)
-and is_guarded_fixpoint place ((places, _), (names, types, bodies)) arguments =
-  let passes = Array.length bodies = 1 && places.(0) < Array.length arguments && is_small place arguments.(places.(0)) in
-  let inner = Array.fold_left (fun place na -> under Other na place) place names in
+and is_guarded_fixpoint place (((places, _), (names, types, bodies)) as fix) arguments =
+  let mark = if passes place fix arguments then Small else Other in
+  let inner = under_all Other names place in
   CArray.for_all (is_guarded place) types
-  && CArray.for_all (fun holds -> holds) (Array.mapi (fun i body -> is_guarded_body inner places.(i) (if passes then Small else Other) body) bodies)
+  && CArray.for_all (fun holds -> holds) (Array.mapi (fun i body -> is_guarded_body inner places.(i) mark body) bodies)
 
 and is_guarded_body place n mark t =
   match kind t with
@@ -121,24 +127,27 @@ let rec block_of_argument env n t =
   | Cast (c, _, _) -> block_of_argument env n c
   | _ -> None
 
-let is_own_guarded env ((places, _), (names, _, bodies)) =
+(* Under the variables of a fixpoint, at its definition i. *)
+let in_definition env ((places, _), (names, _, bodies)) i =
   let add place (na, n) = under (Recursive n) na place in
-  let start = { env; marks = []; block = None } in
-  let inner = Array.fold_left add start (CArray.combine names places) in
-  let guarded i body = is_guarded_body { inner with block = block_of_argument inner.env places.(i) body } places.(i) Argument body in
+  let inner = Array.fold_left add { env; marks = []; block = None } (CArray.combine names places) in
+  { inner with block = block_of_argument inner.env places.(i) bodies.(i) }
+
+let is_own_guarded env (((places, _), (_, _, bodies)) as fix) =
+  let guarded i body = is_guarded_body (in_definition env fix i) places.(i) Argument body in
   CArray.for_all (fun holds -> holds) (Array.mapi guarded bodies)
+
+let unknown_all names env = Array.fold_left (fun env na -> Environ.push_rel (unknown na) env) env names
 
 (* Whether each fixpoint of the term is guarded as it is written. *)
 let rec accepts env t =
   let under na = Environ.push_rel (unknown na) env in
   match kind t with
   | Fix ((_, (names, types, bodies)) as fix) ->
-    let inner = Array.fold_left (fun env na -> Environ.push_rel (unknown na) env) env names in
-    is_own_guarded env fix && CArray.for_all (accepts env) types && CArray.for_all (accepts inner) bodies
+    is_own_guarded env fix && CArray.for_all (accepts env) types && CArray.for_all (accepts (unknown_all names env)) bodies
   | Lambda (na, a, b) | Prod (na, a, b) -> accepts env a && accepts (under na) b
   | LetIn (na, v, a, b) -> accepts env v && accepts env a && accepts (Environ.push_rel (LocalDef (na, v, a)) env) b
   | Case (_, _, params, (names, ret), _, scrutinee, branches) ->
-    let bound names = Array.fold_left (fun env na -> Environ.push_rel (unknown na) env) env names in
-    CArray.for_all (accepts env) params && accepts (bound names) ret && accepts env scrutinee
-    && CArray.for_all (fun (names, body) -> accepts (bound names) body) branches
+    CArray.for_all (accepts env) params && accepts (unknown_all names env) ret && accepts env scrutinee
+    && CArray.for_all (fun (names, body) -> accepts (unknown_all names env) body) branches
   | _ -> Constr.fold (fun holds t -> holds && accepts env t) true t
