@@ -76,6 +76,20 @@ for file in lia.v mergesort.v gmap.v flocq.v menhir.v; do
 done
 cd .. || exit 2
 
+# ------------------------------------------------------------------ examples
+
+# The dumps of examples/ that come from here, and their values by Coq, are those that are written today.
+cd ../examples || exit 2
+ln -sfn ../tests/out out
+for file in *.v; do
+  compile "$file"
+  for text in "${file%.v}.dump" "${file%.v}.value"; do
+    [ -e "../../examples/$text" ] || [ -e "out/$text" ] || continue
+    if cmp -s "out/$text" "../../examples/$text"; then pass; else fail "examples/$text isn't what $file gives now"; fi
+  done
+done
+cd ../tests || exit 2
+
 # ------------------------------------------------------------------ the program's answers
 
 # The status and the text that a job gives on a dump; further words go on the line.
