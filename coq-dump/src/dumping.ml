@@ -36,8 +36,9 @@ let notice fmt = Printf.ksprintf (fun text -> Feedback.msg_notice (Pp.str text))
 
 let warning fmt = Printf.ksprintf (fun text -> Feedback.msg_warning (Pp.str text)) fmt
 
+let most_bytes = Preparing.most_bytes
+
 (* What erasec takes. *)
-let most_bytes = 16_777_216
 let most_nesting = 1_000
 
 let warn_of_size name size =

@@ -24,8 +24,11 @@ let propositional = ref 0
 (* Copies of template polymorphic families beyond the first of each. *)
 let copies = ref 0
 
+(* Lets that bind terms which repeat. *)
+let shared = ref 0
+
 let reset () =
-  List.iter (fun count -> count := 0) [contractions; unfolded; records; cumulative; arguments; propositional; copies];
+  List.iter (fun count -> count := 0) [contractions; unfolded; records; cumulative; arguments; propositional; copies; shared];
   sprop := false
 
 let counted count text = if !count = 0 then [] else [Printf.sprintf "%s: %d" text !count]
@@ -46,4 +49,5 @@ let phrases () =
     if_so choice.Options.own_constraints "levels have the constraints of this closure alone";
     counted propositional "template polymorphic families at propositions written as families in Prop";
     counted copies "further copies of template polymorphic families";
+    counted shared "terms that repeat bound by lets";
     if_so choice.Options.axioms "opaque proofs other than its own are axioms" ]

@@ -53,6 +53,9 @@ let copy_families = declare ["Copy"; "Families"]
 (* A template polymorphic family at propositions is written as a family of its own in Prop. *)
 let copy_propositions = declare ["Copy"; "Propositions"]
 
+(* Terms that repeat are bound by lets, so that the text is smaller. *)
+let share_terms = declare ["Share"; "Terms"]
+
 (* How many copies of a template polymorphic family a dump begins with; copies that can be one are joined. *)
 type sharing =
   | One              (* one copy for the whole dump *)
@@ -76,6 +79,7 @@ type choice = {
   own_constraints : bool;
   propositional : bool;
   sharing : sharing;
+  lets : bool;
 }
 
 let guard_as_set () =
@@ -94,7 +98,8 @@ let as_set ~axioms =
     small = !small_level;
     own_constraints = !own_constraints;
     propositional = !copy_propositions;
-    sharing = if !copy_families then Each_declaration else One }
+    sharing = if !copy_families then Each_declaration else One;
+    lets = !share_terms }
 
 (* The choices that are tried, one after another, where the levels of one can't be had: each beside what is set. *)
 let tries choice =

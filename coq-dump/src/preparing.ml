@@ -48,9 +48,18 @@ let rec first_that_goes make = function
     | made -> made
     | exception Levels.Conflict reason -> if further = [] then refuse "%s" reason else first_that_goes make further
 
+(* What erasec takes. *)
+let most_bytes = 16_777_216
+
 let choices_for main = Options.tries (Options.as_set ~axioms:(main = Body))
 
-let constant env c main = first_that_goes (fun () -> of_constant env c main) (choices_for main)
+(* A text that would be too large is made smaller, by the choice that went. *)
+let constant env c main =
+  let make () = of_constant env c main in
+  let prepared = first_that_goes make (choices_for main) in
+  let choice = !Options.current in
+  if choice.Options.lets || not !Options.automatic || Writing.bytes_of prepared.closure prepared.levels prepared.main <= most_bytes then prepared
+  else first_that_goes make [{ choice with Options.lets = true }]
 
 let head_comment what =
   let phrases = List.map (fun phrase -> "; " ^ phrase) (Notes.phrases ()) in

@@ -133,13 +133,33 @@ let body sink closure ~entering main =
   entering "main";
   sink.put "(main "; term sink main; sink.put "))\n"
 
+(* Leaves out each blank that doesn't stand between two atoms. *)
+let without_blanks put =
+  let last = ref '(' and is_due = ref false and text = Buffer.create 4096 in
+  let add c =
+    if c = ' ' then is_due := is_atom_byte !last
+    else begin
+      if !is_due && is_atom_byte c then Buffer.add_char text ' ';
+      Buffer.add_char text c;
+      is_due := false;
+      last := c
+    end in
+  fun piece -> Buffer.clear text; String.iter add piece; put (Buffer.contents text)
+
+(* The bytes of the text as it is written with all its blanks, less the head. *)
+let bytes_of closure levels main =
+  let bytes = ref 0 in
+  body { put = (fun piece -> bytes := !bytes + String.length piece); levels; closure } closure ~entering:ignore main;
+  !bytes
+
 (* Writes the environment with its head comment, and tells its size. *)
 let environment put closure levels ~comment main =
   body { put = ignore; levels; closure } closure ~entering:ignore main;
   let size = no_size () and current = ref "" in
   let put piece = count size (fun () -> !current) piece; put piece in
-  let sink = { put; levels; closure } in
-  put_all sink ["; "; String.map (function '(' -> '[' | ')' -> ']' | c -> c) comment; "\n(env 1 (levels"];
+  put_all { put; levels; closure } ["; "; String.map (function '(' -> '[' | ')' -> ']' | c -> c) comment];
+  let sink = { put = if !Options.current.Options.lets then without_blanks put else put; levels; closure } in
+  put_all sink ["\n(env 1 (levels"];
   let constraints = Levels.constraints levels in
   separated sink (Levels.listed levels) sink.put;
   sink.put ")\n(constraints";

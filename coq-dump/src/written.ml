@@ -69,9 +69,9 @@ let body_of w c constant env =
   match constant.const_body with
   | Undef _ -> None
   | Primitive _ -> refuse "%s: a primitive operation" name
-  | Def body -> Some (guarded_body env name body)
+  | Def body -> Some (Sharing.term env (guarded_body env name body))
   | OpaqueDef _ when is_axiom w c -> None
-  | OpaqueDef _ -> Some (guarded_body env name (opaque_body w name constant))
+  | OpaqueDef _ -> Some (Sharing.term env (guarded_body env name (opaque_body w name constant)))
 
 (* A family has uses in Prop: its copy there is one of the environment's from now on. *)
 let meets_in_prop w m =
