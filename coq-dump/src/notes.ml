@@ -27,8 +27,11 @@ let copies = ref 0
 (* Lets that bind terms which repeat. *)
 let shared = ref 0
 
+(* Eta redexes that were contracted. *)
+let etas = ref 0
+
 let reset () =
-  List.iter (fun count -> count := 0) [contractions; unfolded; records; cumulative; arguments; propositional; copies; shared];
+  List.iter (fun count -> count := 0) [contractions; unfolded; records; cumulative; arguments; propositional; copies; shared; etas];
   sprop := false
 
 let counted count text = if !count = 0 then [] else [Printf.sprintf "%s: %d" text !count]
@@ -49,5 +52,6 @@ let phrases () =
     if_so choice.Options.own_constraints "levels have the constraints of this closure alone";
     counted propositional "template polymorphic families at propositions written as families in Prop";
     counted copies "further copies of template polymorphic families";
+    counted etas "eta redexes contracted";
     counted shared "terms that repeat bound by lets";
     if_so choice.Options.axioms "opaque proofs other than its own are axioms" ]

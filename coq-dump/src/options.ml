@@ -53,6 +53,9 @@ let copy_families = declare ["Copy"; "Families"]
 (* A template polymorphic family at propositions is written as a family of its own in Prop. *)
 let copy_propositions = declare ["Copy"; "Propositions"]
 
+(* Eta redexes are contracted. *)
+let contract_eta = declare ["Contract"; "Eta"]
+
 (* Terms that repeat are bound by lets, so that the text is smaller. *)
 let share_terms = declare ["Share"; "Terms"]
 
@@ -80,6 +83,7 @@ type choice = {
   propositional : bool;
   sharing : sharing;
   lets : bool;
+  eta : bool;
 }
 
 let guard_as_set () =
@@ -99,7 +103,8 @@ let as_set ~axioms =
     own_constraints = !own_constraints;
     propositional = !copy_propositions;
     sharing = if !copy_families then Each_declaration else One;
-    lets = !share_terms }
+    lets = !share_terms;
+    eta = !contract_eta }
 
 (* The choices that are tried, one after another, where the levels of one can't be had: each beside what is set. *)
 let tries choice =

@@ -55,6 +55,9 @@ let kernel_agrees env name body reduced =
   kernel_says "conversion" (fun () -> Reduction.conv env body reduced)
 
 let guarded_body env name body =
+  let contracted = Etas.term env body in
+  if contracted != body then kernel_agrees env name body contracted;
+  let body = contracted in
   let reduced = match !Options.current.Options.guard with
     | Options.As_written -> body
     | Options.Where_needed -> Guarding.where_needed env body
@@ -93,7 +96,7 @@ let make_constant w c =
   let owner = Constant.canonical c in
   let in_prop t = Propositional.term (meets_in_prop w) env t in
   let term t = Template.in_declaration w.templates owner (levels_changed w owner t) in
-  let ty = term (in_prop (Projections.expand env constant.const_type)) in
+  let ty = term (in_prop (Projections.expand env (Etas.term env constant.const_type))) in
   let own = Univ.make_abstract_instance universes in
   let body = Option.map (fun body -> term (in_prop (Projections.body env c own constant.const_type body))) (body_of w c constant env) in
   { ty; body; universes }
