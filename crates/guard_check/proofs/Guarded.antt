@@ -14,7 +14,7 @@ use Rattle.rule_laws.proofs.KeepCounts.{values_counted}
 
 module _ (E : Env) (w : HasCountedDeclarations E) (V : Values) (vs : AreCountedValues E V) where
   passed : (t : Term) (m0 m1 : Meter) → IsCounted E t → HasLambdas t → RecursesOnFamilies E V t → Follows (guard_rule E V t m0.account) (Ok tt) m0 m1 → IsGuardedFix E V t
-  passed (Fix i rargs types bodies) m0 m1 k l h f = guard_sound E w V vs rargs bodies m0.account m1.account k.1.1.0 l.0 l.1.1 f.answer
+  passed (Fix i rargs types bodies) m0 m1 k l h f = guard_sound E w V vs rargs bodies m0.account m1.account k.1.1.0 l.0 f.answer
   passed (Rel i) m0 m1 k l h f = absurd h
   passed (SortT s) m0 m1 k l h f = absurd h
   passed (Prod A B) m0 m1 k l h f = absurd h

@@ -14,14 +14,16 @@ use Rattle.pc_terms.specs.View.{tree_of}
 use Rattle.pc_terms.specs.Syntax.{Term, Terms, Lambda}
 use Rattle.calculus_rules.specs.declared.declaration.Constructor.{Constructor}
 use Rattle.pc_rules.specs.declared.meter.Meter.{Meter}
+use Rattle.pc_rules.specs.declared.broken.Broken.TheVariants.{NotGuarded}
 use Rattle.pc_rules.specs.declared.stop.Halt.{Halt}
+use Rattle.pc_rules.specs.declared.stop.Halt.TheVariants.{Broken as Refusal}
 use Rattle.calculus_rules.specs.Environment.{Env}
 use Rattle.calculus_rules.specs.Context.{Values, under}
 use Rattle.calculus_rules.specs.Guardedness.{Mark, Smaller, Other, Marks, Ending, others}
 use Rattle.pc_rules.specs.DirectedRun.{Act, run_all}
 use Rattle.pc_rules.specs.DirectedGuard.{first_marks, walk, walk_terms, walk_branches, walk_passed, walk_under, if_passed, interleaved, body_guard, bodies_guard}
 use Rattle.pc_rules.specs.Follows.{Follows}
-use Rattle.pc_rules.proofs.Following.{follows_bind, follows_err, follows_done, follows_none, follows_next, follows_first_err}
+use Rattle.pc_rules.proofs.Following.{follows_bind, follows_err, follows_refused, follows_none, follows_next, follows_first_err}
 use Rattle.guard_check.specs.declared.mark.Mark.{Mark as Kept}
 use Rattle.guard_check.specs.declared.mark.Mark.TheVariants as kept
 use Rattle.guard_check.specs.Marks.{mark_of}
@@ -66,14 +68,15 @@ module _ (E : Env) (block : Option Name) (V : Values) (M : Marks) where
 
   -- a body under its lambdas
 
-  other_node : (n : Node) (mark : Mark) (r : ℕ) (m : Meter) → ((A b : Term) → n ≡ node.Lambda A b → ⊥) → Follows (walk_under E block V M mark r (tree_of n) m.account) (Ok tt) m m
+  other_node : (n : Node) (mark : Mark) (r : ℕ) (m : Meter) → ((A b : Term) → n ≡ node.Lambda A b → ⊥) →
+      Follows (walk_under E block V M mark r (tree_of n) m.account) (Err (Refusal (NotGuarded (tree_of n)))) m m
   other_node (node.Lambda A b) mark r m h = absurd (h A b refl)
-  other_node n mark zero m h = follows_done tt m
-  other_node n mark (suc r) m h = follows_done tt m
+  other_node n mark zero m h = follows_refused (NotGuarded (tree_of n)) m
+  other_node n mark (suc r) m h = follows_refused (NotGuarded (tree_of n)) m
 
   pub under_other : (n : Node) (mark : Mark) (t : Term) (r : ℕ) (m : Meter) → tree_of n ≡ t → ((A b : Term) → n ≡ node.Lambda A b → ⊥) →
-      Follows (walk_under E block V M mark r t m.account) (Ok tt) m m
-  under_other n mark t r m e h = subst (λ t. Follows (walk_under E block V M mark r t m.account) (Ok tt) m m) e (other_node n mark r m h)
+      Follows (walk_under E block V M mark r t m.account) (Err (Refusal (NotGuarded t))) m m
+  under_other n mark t r m e h = subst (λ t. Follows (walk_under E block V M mark r t m.account) (Err (Refusal (NotGuarded t))) m m) e (other_node n mark r m h)
 
   pub under_stops : (A b : Term) (mark : Mark) (r : ℕ) (h : Halt) (m0 m1 : Meter) → Follows (walk E block V M [] A m0.account) (Err h) m0 m1 →
       Follows (walk_under E block V M mark r (Lambda A b) m0.account) (Err h) m0 m1

@@ -296,6 +296,7 @@ impl<R: Reducer + Drop> Guard<R> {
     }
 
     /// A body that begins with rarg + 1 lambdas: their domains, and then what is under them, where the last of their variables has a mark.
+    /// `NotGuarded` keeps what stands where a lambda is missing.
     #[cycle(walk)]
     pub(crate) fn under(
         &self,
@@ -311,7 +312,8 @@ impl<R: Reducer + Drop> Guard<R> {
         ensures follows { Follows (walk_under env.now recursive (values_in scope.now) (marks_in scope.now) (mark_of mark) rarg t.now m.old.account) result m.old m.new }
     {
         let Node::Lambda(domain, body) = t.view() else {
-            return Ok(());
+            let found = t.share()?;
+            return Err(Halt::Broken(Broken::NotGuarded { argument: found }));
         };
         self.walk(alloc, env, recursive, scope, domain, m)?;
         if rarg == 0 {

@@ -139,7 +139,7 @@ mutual
   fair_walk_under : {n k : ℕ} (E : Env) (r : Option Name) (V : Values) (M : Marks) (m : Mark) (rarg : ℕ) (t : Term) → IsFair n k (λ u. walk_under E r V M m rarg t u) (λ u. walk_under E r V M m rarg t u)
   fair_walk_under E r V M m zero (Lambda A b) = fair_bind _ _ _ _ (fair_walk E r V M [] A) (λ x. fair_walk E r (None ∷ V) (m ∷ M) [] b)
   fair_walk_under E r V M m (suc rarg) (Lambda A b) = fair_bind _ _ _ _ (fair_walk E r V M [] A) (λ x. fair_walk_under E r (None ∷ V) (Other ∷ M) m rarg b)
-  fair_walk_under E r V M m rarg t = fair_done tt
+  fair_walk_under E r V M m rarg t = fair_refused (NotGuarded t)
 
 fair_block : {n k : ℕ} (E : Env) (V : Values) (rarg : ℕ) (t : Term) → IsFair n k (λ u. recursive_block E V rarg t u) (λ u. recursive_block E V rarg t u)
 fair_block E V zero (Lambda A b) = fair_bind _ _ _ _ (fair_whnf E V A) (λ W. fair_done (head_block (head W)))

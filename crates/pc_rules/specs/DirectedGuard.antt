@@ -157,11 +157,12 @@ abbrev mutual
   walk_passed E r V M (rarg ∷ rargs) (Next n b bs) = walk_under E r (under n V) (others n M) Smaller rarg b ∷ walk_passed E r V M rargs bs
   walk_passed E r V M _ _ = []
 
-  -- a body, under its rarg + 1 lambdas, where the last of their variables has a mark
+  -- a body, under its rarg + 1 lambdas, where the last of their variables has a mark; one that has fewer lambdas, which no typed term has
+  -- in it, is refused
   pub walk_under : Env → Option Name → Values → Marks → Mark → ℕ → Term → Act
   walk_under E r V M m zero (Lambda A b) u = bind (walk E r V M [] A u) (λ _ v. walk E r (None ∷ V) (m ∷ M) [] b v)
   walk_under E r V M m (suc rarg) (Lambda A b) u = bind (walk E r V M [] A u) (λ _ v. walk_under E r (None ∷ V) (Other ∷ M) m rarg b v)
-  walk_under E r V M m rarg t u = done tt u
+  walk_under E r V M m rarg t u = refused (NotGuarded t) u
 
 -- the recursive block: that of the family at the head of the weak-head normal form of the domain of lambda number rarg
 abbrev pub recursive_block : Env → Values → ℕ → Term → Account → Run (Option Name)

@@ -32,7 +32,6 @@ use Rattle.rule_laws.proofs.KeepCounts.{values_counted}
 use Rattle.rule_laws.proofs.Comparing.{IsSound, names_long, whnf_equal}
 use Rattle.rule_laws.proofs.SimpleRules.{Infers, formed, sort_sound, check_sound}
 use Rattle.rule_laws.proofs.Guarding.{guard_sound}
-use Rattle.rule_laws.proofs.TypedLambdas.{bodies_lambdas}
 use Rattle.pc_rules.proofs.SameTrees.{false_true}
 
 -- the recursive argument's domain
@@ -165,7 +164,7 @@ module _ (E : Env) (w : HasCountedDeclarations E) (inf : Typing) (si : Infers E 
         let ts = types_sound c 0 types u p1.1 k shape.1 ff.1.0 p1.2 in
         let bs = bodies_sound D n 0 rargs types bodies p1.1 p2.1 ts.context shape.1 shape.3 shape.0 shape.2 ts.all ff.1.1.0 p2.2 in
         let guards : IsGuarded E (values c) rargs bodies =
-        guard_sound E w (values c) (values_counted E c k) rargs bodies p2.1 p3.1 bs.all bs.begin (bodies_lambdas E bs.typed) p3.2 in
+        guard_sound E w (values c) (values_counted E c k) rargs bodies p2.1 p3.1 bs.all bs.begin p3.2 in
         let at = named_type i n (term_at types i) T p3.1 v p3.3 in
         let name : at.0 ≡ 0 = name_at types i 0 at.0 T shape.1 at.1 in
         record {

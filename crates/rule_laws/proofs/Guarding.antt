@@ -20,7 +20,7 @@ use Rattle.pc_rules.proofs.WeakNext.{weak_next_found, family_found, none_some}
 use Rattle.calculus_rules.proofs.Spines.{apply_one_more}
 use Rattle.calculus_rules.proofs.WeakHead.{weak_equal}
 use Rattle.calculus_rules.proofs.Congruence.{equal_applications}
-use Rattle.pc_rules.specs.FixConditions.{BeginsWith, HaveLambdas, HasLambdas, AllHaveLambdas}
+use Rattle.pc_rules.specs.FixConditions.{BeginsWith, HaveLambdas}
 use Rattle.pc_rules.specs.WellCounted.{IsCountedNode, arities, IsCounted, AreCounted, HasCountedDeclarations, AreCountedValues}
 use Rattle.rule_laws.proofs.Runs.{bind_both, ticking_done, refused_done, unit_done, done_value, pass_then, run_both}
 use Rattle.rule_laws.proofs.KeepCounts.{under_counted, steps_counted}
@@ -270,18 +270,18 @@ module _ (E : Env) (w : HasCountedDeclarations E) (r : Option Name) where
       (a, refl, subst (λ m. Means V M a m) (done_value p.3) (normal_sound V M a q u p.1 vs (k a refl) p.2))
 
   fix_passed : (V : Values) (M : Marks) (xs : List Term) (i : ℕ) (rargs : List ℕ) (types bodies : Terms) (u v : Account) → AreCountedValues E V → AreCounted E xs →
-      AreGuarded E r V M xs → HaveLambdas rargs bodies → AreGuardedTerms E r V M types → (argument_found E r V M (passed_argument rargs xs) u).end ≡ run.Done Smaller v →
+      AreGuarded E r V M xs → length (binders_of bodies) ≡ length rargs → AreGuardedTerms E r V M types → (argument_found E r V M (passed_argument rargs xs) u).end ≡ run.Done Smaller v →
       AreUnder V M rargs bodies → IsGuardedIn E r V M (apply (Fix i rargs types bodies) xs)
   fix_passed V M xs i [] types bodies u v vs kx g l gt h gb = not_other (done_value h)
-  fix_passed V M xs i (rarg ∷ []) types Done u v vs kx g l gt h gb = absurd l
+  fix_passed V M xs i (rarg ∷ []) types Done u v vs kx g l gt h gb = absurd (omega arith)
   fix_passed V M xs i (rarg ∷ []) types (Next n b Done) u v vs kx g l gt h gb =
       let s = small_argument V M (slice_get xs rarg) u v vs (λ a e. item_counted xs rarg a kx e) h in
       passed i rarg n xs refl s.1 s.2 gt gb.0 g
-  fix_passed V M xs i (rarg ∷ []) types (Next n b (Next m c bs)) u v vs kx g l gt h gb = absurd l.1
+  fix_passed V M xs i (rarg ∷ []) types (Next n b (Next m c bs)) u v vs kx g l gt h gb = absurd (omega arith)
   fix_passed V M xs i (rarg ∷ s ∷ rargs) types bodies u v vs kx g l gt h gb = not_other (done_value h)
 
   fix_sound : (V : Values) (M : Marks) (xs : List Term) (i : ℕ) (rargs : List ℕ) (types bodies : Terms) (m : Mark) (u v : Account) → AreCountedValues E V → AreCounted E xs →
-      AreGuarded E r V M xs → HaveLambdas rargs bodies → AreGuardedTerms E r V M types → (argument_found E r V M (passed_argument rargs xs) u).end ≡ run.Done m v →
+      AreGuarded E r V M xs → length (binders_of bodies) ≡ length rargs → AreGuardedTerms E r V M types → (argument_found E r V M (passed_argument rargs xs) u).end ≡ run.Done m v →
       (m ≡ Smaller → AreUnder V M rargs bodies) → ((m ≡ Smaller → ⊥) → AreGuardedTerms E r V M bodies) → IsGuardedIn E r V M (apply (Fix i rargs types bodies) xs)
   fix_sound V M xs i rargs types bodies Smaller u v vs kx g l gt h gb gw = fix_passed V M xs i rargs types bodies u v vs kx g l gt h (gb refl)
   fix_sound V M xs i rargs types bodies Argument u v vs kx g l gt h gb gw =
@@ -292,20 +292,20 @@ module _ (E : Env) (w : HasCountedDeclarations E) (r : Option Name) where
       guarded_apply V M (Fix i rargs types bodies) xs (inside tt (a_group gt (a_group (gw (λ e. cc)) no_child))) g
 
   mutual
-    walk_sound : (V : Values) (M : Marks) (xs : List Term) (t : Term) (u v : Account) → AreCountedValues E V → IsCounted E t → HasLambdas t → AreCounted E xs → AreGuarded E r V M xs →
+    walk_sound : (V : Values) (M : Marks) (xs : List Term) (t : Term) (u v : Account) → AreCountedValues E V → IsCounted E t → AreCounted E xs → AreGuarded E r V M xs →
         (walk E r V M xs t u).end ≡ run.Done tt v → IsGuardedIn E r V M (apply t xs)
-    walk_sound V M xs (Rel i) u v vs k l kx g h = rel_sound V M i xs (slice_get M i) u v vs kx g refl h
-    walk_sound V M xs (App f a) u v vs k l kx g h =
+    walk_sound V M xs (Rel i) u v vs k kx g h = rel_sound V M i xs (slice_get M i) u v vs kx g refl h
+    walk_sound V M xs (App f a) u v vs k kx g h =
         let p = bind_both (walk E r V M (a ∷ xs) f u) (λ _ v. walk E r V M [] a v) tt v h in
-        walk_sound V M (a ∷ xs) f u p.1 vs k.1.0 l.0 (k.1.1.0, kx) (an_argument (walk_sound V M [] a p.1 v vs k.1.1.0 l.1.0 tt no_argument p.3) g) p.2
-    walk_sound V M xs (LetIn b B t) u v vs k l kx g h =
+        walk_sound V M (a ∷ xs) f u p.1 vs k.1.0 (k.1.1.0, kx) (an_argument (walk_sound V M [] a p.1 v vs k.1.1.0 tt no_argument p.3) g) p.2
+    walk_sound V M xs (LetIn b B t) u v vs k kx g h =
         let k2 : Unit {0} → Account → Run (Unit {0}) = λ _ w. walk E r (Some b ∷ V) (Other ∷ M) [] t w in
         let p1 = bind_both (walk E r V M [] b u) (λ _ v. bind (walk E r V M [] B v) k2) tt v h in
         let p2 = bind_both (walk E r V M [] B p1.1) k2 tt v p1.3 in
         guarded_apply V M (LetIn b B t) xs
-        (let_in (walk_sound V M [] b u p1.1 vs k.1.0 l.0 tt no_argument p1.2) (walk_sound V M [] B p1.1 p2.1 vs k.1.1.0 l.1.0 tt no_argument p2.2)
-        (walk_sound (Some b ∷ V) (Other ∷ M) [] t p2.1 v (k.1.0, vs) k.1.1.1.0 l.1.1.0 tt no_argument p2.3)) g
-    walk_sound V M xs (Case f ps n ret s bs) u v vs k l kx g h =
+        (let_in (walk_sound V M [] b u p1.1 vs k.1.0 tt no_argument p1.2) (walk_sound V M [] B p1.1 p2.1 vs k.1.1.0 tt no_argument p2.2)
+        (walk_sound (Some b ∷ V) (Other ∷ M) [] t p2.1 v (k.1.0, vs) k.1.1.1.0 tt no_argument p2.3)) g
+    walk_sound V M xs (Case f ps n ret s bs) u v vs k kx g h =
         let Cs : List Constructor = constructors_of (family_of E f) in
         let k4 : Term × Mark → Unit {0} → Account → Run (Unit {0}) = λ p _ y. run_all (walk_branches E r V M (ending E r f ps) (opens p.1) Cs bs) y in
         let k3 : Term × Mark → Unit {0} → Account → Run (Unit {0}) = λ p _ x. bind (walk E r (under n V) (others n M) [] ret x) (k4 p) in
@@ -321,83 +321,82 @@ module _ (E : Env) (w : HasCountedDeclarations E) (r : Option Name) where
         let branches = each_done (walk_branches E r V M (ending E r f ps) (opens q.1) Cs bs) p4.1 v p4.3 in
         let open_branches : opens q.1 ≡ true → AreGuardedBranches E r V M (ending E r f ps) F.constructors bs =
         λ o. subst (λ Cs. AreGuardedBranches E r V M (ending E r f ps) Cs bs) (ap constructors_of e)
-        (opened_sound V M (ending E r f ps) Cs bs vs k.1.1.1.1.0 l.1.1.1.0 (k.0.1.4 ∙ ap arities (sym (ap constructors_of e)))
+        (opened_sound V M (ending E r f ps) Cs bs vs k.1.1.1.1.0 (k.0.1.4 ∙ ap arities (sym (ap constructors_of e)))
         (subst (λ b. EachDone (walk_branches E r V M (ending E r f ps) b Cs bs)) o branches)) in
         let shut_branches : opens q.1 ≡ false → AreGuardedTerms E r V M bs =
-        λ o. shut_sound V M (ending E r f ps) Cs bs vs k.1.1.1.1.0 l.1.1.1.0 (subst (λ b. EachDone (walk_branches E r V M (ending E r f ps) b Cs bs)) o branches) in
+        λ o. shut_sound V M (ending E r f ps) Cs bs vs k.1.1.1.1.0 (subst (λ b. EachDone (walk_branches E r V M (ending E r f ps) b Cs bs)) o branches) in
         guarded_apply V M (Case f ps n ret s bs) xs
         (match_guarded V M f F ps n ret s bs q.1 (opens q.1) refl (family_found E f F e) (normal_sound V M s q u p1.1 vs k.1.1.1.0 p1.2)
-        (walk_terms_sound V M ps vs k.1.0 l.0 (each_done (walk_terms E r V M ps) p2.1 p3.1 p3.2))
-        (walk_sound (under n V) (others n M) [] ret p3.1 p4.1 (under_counted E n V vs) k.1.1.0 l.1.0 tt no_argument p4.2)
-        (walk_sound V M [] s p1.1 p2.1 vs k.1.1.1.0 l.1.1.0 tt no_argument p2.2) open_branches shut_branches) g
-    walk_sound V M xs (Fix i rargs types bodies) u v vs k l kx g h =
+        (walk_terms_sound V M ps vs k.1.0 (each_done (walk_terms E r V M ps) p2.1 p3.1 p3.2))
+        (walk_sound (under n V) (others n M) [] ret p3.1 p4.1 (under_counted E n V vs) k.1.1.0 tt no_argument p4.2)
+        (walk_sound V M [] s p1.1 p2.1 vs k.1.1.1.0 tt no_argument p2.2) open_branches shut_branches) g
+    walk_sound V M xs (Fix i rargs types bodies) u v vs k kx g h =
         let p = bind_both (argument_found E r V M (passed_argument rargs xs) u)
         (λ m v. run_all (interleaved (walk_terms E r V M types) (if_passed m (walk_passed E r V M rargs bodies) (walk_terms E r V M bodies))) v) tt v h in
         let acts : List Act = if_passed p.0 (walk_passed E r V M rargs bodies) (walk_terms E r V M bodies) in
         let both = interleaved_done (walk_terms E r V M types) acts (each_done (interleaved (walk_terms E r V M types) acts) p.1 v p.3) in
-        fix_sound V M xs i rargs types bodies p.0 u p.1 vs kx g l.0 (walk_terms_sound V M types vs k.1.0 l.1.0 both.0) p.2
-        (λ e. passed_sound V M rargs bodies vs k.1.1.0 l.0 l.1.1 (if_passed_done p.0 (walk_passed E r V M rargs bodies) (walk_terms E r V M bodies) e both.1))
-        (λ e. walk_terms_sound V M bodies vs k.1.1.0 l.1.1 (if_walked_done p.0 (walk_passed E r V M rargs bodies) (walk_terms E r V M bodies) e both.1))
-    walk_sound V M xs (SortT s) u v vs k l kx g h = guarded_apply V M (SortT s) xs (inside tt no_child) g
-    walk_sound V M xs (Const c) u v vs k l kx g h = guarded_apply V M (Const c) xs (inside tt no_child) g
-    walk_sound V M xs (Ind f) u v vs k l kx g h = guarded_apply V M (Ind f) xs (inside tt no_child) g
-    walk_sound V M xs (Construct f c) u v vs k l kx g h = guarded_apply V M (Construct f c) xs (inside tt no_child) g
-    walk_sound V M xs (Prod A B) u v vs k l kx g h =
+        fix_sound V M xs i rargs types bodies p.0 u p.1 vs kx g k.0.0.0.2 (walk_terms_sound V M types vs k.1.0 both.0) p.2
+        (λ e. passed_sound V M rargs bodies vs k.1.1.0 (if_passed_done p.0 (walk_passed E r V M rargs bodies) (walk_terms E r V M bodies) e both.1))
+        (λ e. walk_terms_sound V M bodies vs k.1.1.0 (if_walked_done p.0 (walk_passed E r V M rargs bodies) (walk_terms E r V M bodies) e both.1))
+    walk_sound V M xs (SortT s) u v vs k kx g h = guarded_apply V M (SortT s) xs (inside tt no_child) g
+    walk_sound V M xs (Const c) u v vs k kx g h = guarded_apply V M (Const c) xs (inside tt no_child) g
+    walk_sound V M xs (Ind f) u v vs k kx g h = guarded_apply V M (Ind f) xs (inside tt no_child) g
+    walk_sound V M xs (Construct f c) u v vs k kx g h = guarded_apply V M (Construct f c) xs (inside tt no_child) g
+    walk_sound V M xs (Prod A B) u v vs k kx g h =
         let d = each_done (walk_children E r V M (Child {n = 0} A (Child {n = 1} B End))) u v h in
         let a = d.0 in
         let b = d.1.0 in
         guarded_apply V M (Prod A B) xs
-        (inside tt (a_child (walk_sound V M [] A a.0 a.1 vs k.1.0 l.0 tt no_argument a.2)
-        (a_child (walk_sound (None ∷ V) (Other ∷ M) [] B b.0 b.1 vs k.1.1.0 l.1.0 tt no_argument b.2) no_child))) g
-    walk_sound V M xs (Lambda A t) u v vs k l kx g h =
+        (inside tt (a_child (walk_sound V M [] A a.0 a.1 vs k.1.0 tt no_argument a.2)
+        (a_child (walk_sound (None ∷ V) (Other ∷ M) [] B b.0 b.1 vs k.1.1.0 tt no_argument b.2) no_child))) g
+    walk_sound V M xs (Lambda A t) u v vs k kx g h =
         let d = each_done (walk_children E r V M (Child {n = 0} A (Child {n = 1} t End))) u v h in
         let a = d.0 in
         let b = d.1.0 in
         guarded_apply V M (Lambda A t) xs
-        (inside tt (a_child (walk_sound V M [] A a.0 a.1 vs k.1.0 l.0 tt no_argument a.2)
-        (a_child (walk_sound (None ∷ V) (Other ∷ M) [] t b.0 b.1 vs k.1.1.0 l.1.0 tt no_argument b.2) no_child))) g
+        (inside tt (a_child (walk_sound V M [] A a.0 a.1 vs k.1.0 tt no_argument a.2)
+        (a_child (walk_sound (None ∷ V) (Other ∷ M) [] t b.0 b.1 vs k.1.1.0 tt no_argument b.2) no_child))) g
 
-    walk_terms_sound : (V : Values) (M : Marks) (ts : Terms) → AreCountedValues E V → EachTerm (IsCountedNode E) ts → AllHaveLambdas ts → EachDone (walk_terms E r V M ts) → AreGuardedTerms E r V M ts
-    walk_terms_sound V M Done vs k l h = no_term
-    walk_terms_sound V M (Next n t ts) vs k l h =
+    walk_terms_sound : (V : Values) (M : Marks) (ts : Terms) → AreCountedValues E V → EachTerm (IsCountedNode E) ts → EachDone (walk_terms E r V M ts) → AreGuardedTerms E r V M ts
+    walk_terms_sound V M Done vs k h = no_term
+    walk_terms_sound V M (Next n t ts) vs k h =
         let a = h.0 in
-        a_term (walk_sound (under n V) (others n M) [] t a.0 a.1 (under_counted E n V vs) k.0 l.0 tt no_argument a.2) (walk_terms_sound V M ts vs k.1 l.1 h.1)
+        a_term (walk_sound (under n V) (others n M) [] t a.0 a.1 (under_counted E n V vs) k.0 tt no_argument a.2) (walk_terms_sound V M ts vs k.1 h.1)
 
-    shut_sound : (V : Values) (M : Marks) (q : Ending) (Cs : List Constructor) (ts : Terms) → AreCountedValues E V → EachTerm (IsCountedNode E) ts → AllHaveLambdas ts →
+    shut_sound : (V : Values) (M : Marks) (q : Ending) (Cs : List Constructor) (ts : Terms) → AreCountedValues E V → EachTerm (IsCountedNode E) ts →
         EachDone (walk_branches E r V M q false Cs ts) → AreGuardedTerms E r V M ts
-    shut_sound V M q Cs Done vs k l h = no_term
-    shut_sound V M q Cs (Next n t ts) vs k l h =
+    shut_sound V M q Cs Done vs k h = no_term
+    shut_sound V M q Cs (Next n t ts) vs k h =
         let a = h.0 in
-        a_term (walk_sound (under n V) (others n M) [] t a.0 a.1 (under_counted E n V vs) k.0 l.0 tt no_argument a.2) (shut_sound V M q (later Cs) ts vs k.1 l.1 h.1)
+        a_term (walk_sound (under n V) (others n M) [] t a.0 a.1 (under_counted E n V vs) k.0 tt no_argument a.2) (shut_sound V M q (later Cs) ts vs k.1 h.1)
 
-    opened_sound : (V : Values) (M : Marks) (q : Ending) (Cs : List Constructor) (ts : Terms) → AreCountedValues E V → EachTerm (IsCountedNode E) ts → AllHaveLambdas ts → binders_of ts ≡ arities Cs →
+    opened_sound : (V : Values) (M : Marks) (q : Ending) (Cs : List Constructor) (ts : Terms) → AreCountedValues E V → EachTerm (IsCountedNode E) ts → binders_of ts ≡ arities Cs →
         EachDone (walk_branches E r V M q true Cs ts) → AreGuardedBranches E r V M q Cs ts
-    opened_sound V M q [] Done vs k l e h = no_guarded_branch
-    opened_sound V M q [] (Next n t ts) vs k l e h = no_cons e
-    opened_sound V M q (C ∷ Cs) Done vs k l e h = no_cons (sym e)
-    opened_sound V M q (C ∷ Cs) (Next n t ts) vs k l e h =
+    opened_sound V M q [] Done vs k e h = no_guarded_branch
+    opened_sound V M q [] (Next n t ts) vs k e h = no_cons e
+    opened_sound V M q (C ∷ Cs) Done vs k e h = no_cons (sym e)
+    opened_sound V M q (C ∷ Cs) (Next n t ts) vs k e h =
         let a = h.0 in
-        a_guarded_branch (first_same e) (walk_sound (under n V) (branch_marks q 0 C.args M) [] t a.0 a.1 (under_counted E n V vs) k.0 l.0 tt no_argument a.2)
-        (opened_sound V M q Cs ts vs k.1 l.1 (rest_same e) h.1)
+        a_guarded_branch (first_same e) (walk_sound (under n V) (branch_marks q 0 C.args M) [] t a.0 a.1 (under_counted E n V vs) k.0 tt no_argument a.2)
+        (opened_sound V M q Cs ts vs k.1 (rest_same e) h.1)
 
-    passed_sound : (V : Values) (M : Marks) (rargs : List ℕ) (bs : Terms) → AreCountedValues E V → EachTerm (IsCountedNode E) bs → HaveLambdas rargs bs →
-        AllHaveLambdas bs → EachDone (walk_passed E r V M rargs bs) → AreUnder V M rargs bs
-    passed_sound V M [] Done vs k l l' h = tt
-    passed_sound V M [] (Next n b bs) vs k l l' h = absurd l
-    passed_sound V M (rarg ∷ rargs) Done vs k l l' h = absurd l
-    passed_sound V M (rarg ∷ rargs) (Next n b bs) vs k l l' h =
+    passed_sound : (V : Values) (M : Marks) (rargs : List ℕ) (bs : Terms) → AreCountedValues E V → EachTerm (IsCountedNode E) bs → EachDone (walk_passed E r V M rargs bs) →
+        AreUnder V M rargs bs
+    passed_sound V M (rarg ∷ rargs) (Next n b bs) vs k h =
         let a = h.0 in
-        (under_sound (under n V) (others n M) Smaller rarg b a.0 a.1 (under_counted E n V vs) k.0 l'.0 l.0 a.2, passed_sound V M rargs bs vs k.1 l.1 l'.1 h.1)
+        (under_sound (under n V) (others n M) Smaller rarg b a.0 a.1 (under_counted E n V vs) k.0 a.2, passed_sound V M rargs bs vs k.1 h.1)
+    passed_sound V M [] bs vs k h = tt
+    passed_sound V M (rarg ∷ rargs) Done vs k h = tt
 
-    under_sound : (V : Values) (M : Marks) (m : Mark) (rarg : ℕ) (t : Term) (u v : Account) → AreCountedValues E V → IsCounted E t → HasLambdas t → BeginsWith (suc rarg) t →
+    under_sound : (V : Values) (M : Marks) (m : Mark) (rarg : ℕ) (t : Term) (u v : Account) → AreCountedValues E V → IsCounted E t →
         (walk_under E r V M m rarg t u).end ≡ run.Done tt v → IsGuardedUnder E r V M m rarg t
-    under_sound V M m zero (Lambda A b) u v vs k l' l h =
+    under_sound V M m zero (Lambda A b) u v vs k h =
         let p = bind_both (walk E r V M [] A u) (λ _ v. walk E r (None ∷ V) (m ∷ M) [] b v) tt v h in
-        last (walk_sound V M [] A u p.1 vs k.1.0 l'.0 tt no_argument p.2) (walk_sound (None ∷ V) (m ∷ M) [] b p.1 v vs k.1.1.0 l'.1.0 tt no_argument p.3)
-    under_sound V M m (suc rarg) (Lambda A b) u v vs k l' l h =
+        last (walk_sound V M [] A u p.1 vs k.1.0 tt no_argument p.2) (walk_sound (None ∷ V) (m ∷ M) [] b p.1 v vs k.1.1.0 tt no_argument p.3)
+    under_sound V M m (suc rarg) (Lambda A b) u v vs k h =
         let p = bind_both (walk E r V M [] A u) (λ _ v. walk_under E r (None ∷ V) (Other ∷ M) m rarg b v) tt v h in
-        more (walk_sound V M [] A u p.1 vs k.1.0 l'.0 tt no_argument p.2) (under_sound (None ∷ V) (Other ∷ M) m rarg b p.1 v vs k.1.1.0 l'.1.0 l p.3)
-    under_sound V M m rarg t u v vs k l' l h = absurd l
+        more (walk_sound V M [] A u p.1 vs k.1.0 tt no_argument p.2) (under_sound (None ∷ V) (Other ∷ M) m rarg b p.1 v vs k.1.1.0 p.3)
+    under_sound V M m rarg t u v vs k h = absurd (refused_done h)
 
 module _ (E : Env) (w : HasCountedDeclarations E) where
   -- the recursive block
@@ -411,23 +410,23 @@ module _ (E : Env) (w : HasCountedDeclarations E) where
 
   -- bodies
 
-  body_sound : (V : Values) (M : Marks) (rarg : ℕ) (t : Term) (u v : Account) → AreCountedValues E V → IsCounted E t → HasLambdas t → BeginsWith (suc rarg) t →
+  body_sound : (V : Values) (M : Marks) (rarg : ℕ) (t : Term) (u v : Account) → AreCountedValues E V → IsCounted E t → BeginsWith (suc rarg) t →
       (body_guard E V M rarg t u).end ≡ run.Done tt v → IsGuardedBody E V M rarg t
   unfolding body_guard
-  body_sound V M rarg t u v vs k l' l h =
+  body_sound V M rarg t u v vs k l h =
       let p = bind_both (recursive_block E V rarg t u) (λ r v. walk_under E r V M Argument rarg t v) tt v h in
-      recursing p.0 (block_sound V rarg t p.0 u p.1 l p.2) (under_sound E w p.0 V M Argument rarg t p.1 v vs k l' l p.3)
+      recursing p.0 (block_sound V rarg t p.0 u p.1 l p.2) (under_sound E w p.0 V M Argument rarg t p.1 v vs k p.3)
 
   bodies_sound : (V : Values) (M : Marks) (rargs : List ℕ) (bs : Terms) (u v : Account) → AreCountedValues E V → EachTerm (IsCountedNode E) bs →
-      HaveLambdas rargs bs → AllHaveLambdas bs → (run_all (bodies_guard E V M rargs bs) u).end ≡ run.Done tt v → AreGuardedBodies E V M rargs bs
-  bodies_sound V M [] Done u v vs k l l' h = no_bodies
-  bodies_sound V M [] (Next n b bs) u v vs k l l' h = absurd l
-  bodies_sound V M (rarg ∷ rargs) Done u v vs k l l' h = absurd l
-  bodies_sound V M (rarg ∷ rargs) (Next n b bs) u v vs k l l' h =
+      HaveLambdas rargs bs → (run_all (bodies_guard E V M rargs bs) u).end ≡ run.Done tt v → AreGuardedBodies E V M rargs bs
+  bodies_sound V M [] Done u v vs k l h = no_bodies
+  bodies_sound V M [] (Next n b bs) u v vs k l h = absurd l
+  bodies_sound V M (rarg ∷ rargs) Done u v vs k l h = absurd l
+  bodies_sound V M (rarg ∷ rargs) (Next n b bs) u v vs k l h =
       let p = run_both (λ u. body_guard E V M rarg b u) (bodies_guard E V M rargs bs) u v h in
-      a_body (body_sound V M rarg b u p.0 vs k.0 l'.0 l.0 p.1) (bodies_sound V M rargs bs p.0 v vs k.1 l.1 l'.1 p.2)
+      a_body (body_sound V M rarg b u p.0 vs k.0 l.0 p.1) (bodies_sound V M rargs bs p.0 v vs k.1 l.1 p.2)
 
   pub guard_sound : (V : Values) → AreCountedValues E V → (rargs : List ℕ) (bodies : Terms) (u v : Account) → EachTerm (IsCountedNode E) bodies →
-      HaveLambdas rargs bodies → AllHaveLambdas bodies → (fix_guard E V rargs bodies u).end ≡ run.Done tt v → IsGuarded E V rargs bodies
-  guard_sound V vs rargs bodies u v k l l' h =
-      bodies_sound (under (length rargs) V) (definition_marks rargs []) rargs bodies u v (under_counted E (length rargs) V vs) k l l' h
+      HaveLambdas rargs bodies → (fix_guard E V rargs bodies u).end ≡ run.Done tt v → IsGuarded E V rargs bodies
+  guard_sound V vs rargs bodies u v k l h =
+      bodies_sound (under (length rargs) V) (definition_marks rargs []) rargs bodies u v (under_counted E (length rargs) V vs) k l h

@@ -81,6 +81,6 @@ module _ (E : Env) where
     types_lambdas no_types = tt
     types_lambdas {n = n} (a_type {T = T} p ps) = (lambdas_before T (λ i. n + i) (typed_lambdas p), types_lambdas ps)
 
-    pub bodies_lambdas : {m : Mode} {c : Context} {n : ℕ} {rargs : List ℕ} {types bodies : Terms} → Bodies m E c n rargs types bodies → AllHaveLambdas bodies
+    bodies_lambdas : {m : Mode} {c : Context} {n : ℕ} {rargs : List ℕ} {types bodies : Terms} → Bodies m E c n rargs types bodies → AllHaveLambdas bodies
     bodies_lambdas no_bodies = tt
     bodies_lambdas (a_body r p ps) = (typed_lambdas p, bodies_lambdas ps)

@@ -5,13 +5,12 @@ use Rattle.pc_rules.specs.declared.meter.Account.{Account}
 use Rattle.calculus_rules.specs.Environment.{Env}
 use Rattle.calculus_rules.specs.Context.{Values}
 use Rattle.calculus_rules.specs.Guardedness.{IsGuarded}
-use Rattle.pc_rules.specs.FixConditions.{HaveLambdas, AllHaveLambdas}
+use Rattle.pc_rules.specs.FixConditions.{HaveLambdas}
 use Rattle.pc_rules.specs.DirectedRun as run
 use Rattle.pc_rules.specs.DirectedGuard.{fix_guard}
 use Rattle.pc_rules.specs.WellCounted.{IsCounted, HasCountedDeclarations, AreCountedValues}
 
--- a fixpoint whose bodies, and those of the fixpoints inside it, begin with the lambdas that its recursive arguments ask for and that the
--- directed guard lets pass is guarded
+-- a fixpoint whose bodies begin with the lambdas that its recursive arguments ask for and that the directed guard lets pass is guarded
 abbrev pub GuardIsSound : Type 0
 GuardIsSound = (E : Env) → HasCountedDeclarations E → (V : Values) → AreCountedValues E V → (i : ℕ) (rargs : List ℕ) (types bodies : Terms) (u v : Account) →
-    IsCounted E (Fix i rargs types bodies) → HaveLambdas rargs bodies → AllHaveLambdas bodies → (fix_guard E V rargs bodies u).end ≡ run.Done tt v → IsGuarded E V rargs bodies
+    IsCounted E (Fix i rargs types bodies) → HaveLambdas rargs bodies → (fix_guard E V rargs bodies u).end ≡ run.Done tt v → IsGuarded E V rargs bodies

@@ -169,13 +169,14 @@ passed-returns g t c =
 
 pub under-returns-in_default : goal.under-returns-in_default
 under-returns-in_default g t c = record {
-  follows = under_other c.args.env.now c.args.recursive (values_in c.args.scope.now) (marks_in c.args.scope.now) c.view.result.now (mark_of c.args.mark) c.args.t.now c.args.rarg c.args.m.now c.view.ensures.is c.in_default.not-Lambda;
+  follows = rw c.in_ok-found.ensures.ok
+      (under_other c.args.env.now c.args.recursive (values_in c.args.scope.now) (marks_in c.args.scope.now) c.view.result.now (mark_of c.args.mark) c.args.t.now c.args.rarg c.args.m.now c.view.ensures.is c.in_default.not-Lambda);
 }
 
 pub under-returns-in_err-walk : goal.under-returns-in_err-walk
 under-returns-in_err-walk g t c =
     let e = rw c.in-Lambda.is at c.view.ensures.is in
-    let p = err_from_is_err_and c.from_residual.result c.from_residual.ensures.1 in
+    let p = err_from_is_err_and c.from_residual-in_err-walk.result c.from_residual-in_err-walk.ensures.1 in
     record {
       follows = rw (← e, p.1, p.2) (under_stops c.args.env.now c.args.recursive (values_in c.args.scope.now) (marks_in c.args.scope.now) c.in-Lambda.domain c.in-Lambda.body (mark_of c.args.mark) c.args.rarg _ c.args.m.now c.walk.new.m c.in_err-walk.ensures.follows);
     }
