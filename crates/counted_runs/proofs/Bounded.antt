@@ -1,0 +1,71 @@
+-- The bounds by the counts, from the laws of all passes.
+use Rattle.std.proofs.Common.{◌≡◌, ℕ, ◌+◌, ◌*◌, ◌≤◌, false, ◌⊎◌, inl, inr, sym, ◌∙◌, subst, arith}
+use Rattle.lambda_box.specs.ClosureEvaluation.{Empty}
+use Rattle.lambda_box.proofs.OneRun.{runs_are_one}
+use Rattle.box_passes.specs.PassLaws.{saturated_program}
+use Rattle.box_passes.proofs.Passes.{passes_form, passes_count}
+use Rattle.anf_convert.proofs.Preorder.{reads_tree}
+use Rattle.back_end.proofs.Composition.{back_end}
+use Rattle.back_end.proofs.Total.{suffices}
+use Rattle.wasm_core.specs.Parts.{Parts}
+use Rattle.wasm_core.specs.Instance.{greatest_pages}
+use Rattle.wasm_core.specs.MachineStep.{State, Reach}
+use Rattle.wasm_core.specs.Runs.{store_of}
+use Rattle.wasm_core.specs.RunTree.{Fate, goes_on, ended, ran_out}
+use Rattle.wasm_core.specs.Answer.{Answers, Exhausted, exhausted, AnswersWithin}
+use Rattle.wasm_core.specs.WordData.{Data as Nodes}
+use Rattle.wasm_core.proofs.Small.{inj}
+use Rattle.wasm_emit.specs.EmitLaws.{Finished, Spent, spent}
+use Rattle.headline.specs.SourceWords.{source_branches}
+use Rattle.headline.specs.EveryRun.{module_for}
+use Rattle.headline.proofs.Composed.{headline}
+use Rattle.headline.proofs.SourceSizes.{of_source}
+use Rattle.counted_runs.specs.CountedRuns.{CountsBoundRuns, EvaluationsHaveCounts, CountsAreOne, ValuesAreAnsweredByCounts}
+
+-- a run that no refused grow within the maximum ended, and whose memory suffices, isn't exhausted
+past_memory : {M : Parts} {frames bytes least k : ℕ} {tree : Nodes} {t : State} → Fate M frames (Finished M tree bytes) (Spent M bytes) least k t → Exhausted M t →
+    bytes ≤ 65536 * greatest_pages M.memory → (store_of t).by_choice ≡ false → Answers M tree t
+past_memory (goes_on s t l p q) x le e = elim x [ ]
+past_memory (ended q l) (exhausted x) le e = elim q [ ]
+past_memory (ran_out (spent x h)) (exhausted y) le e = let lt = h e in absurd (omega arith)
+
+unless_exhausted : {M : Parts} {frames bytes least k : ℕ} {tree : Nodes} {t : State} → Answers M tree t ⊎ Exhausted M t → Fate M frames (Finished M tree bytes) (Spent M bytes) least k t →
+    bytes ≤ 65536 * greatest_pages M.memory → (store_of t).by_choice ≡ false → Answers M tree t
+unless_exhausted (inl a) f le e = a
+unless_exhausted (inr x) f le e = past_memory f x le e
+
+pub counts_bound_runs : CountsBoundRuns
+counts_bound_runs P pages m tree c pos small some ok g =
+    let S = saturated_program P in
+    let M = module_for P pages in
+    let d = reads_tree g.value tree g.reads in
+    let both = suffices P m ok in
+    let r = back_end S pages m g.value d.0 c pos small some both.0 both.1 ok.limits g.run d.1 in
+    let all : AnswersWithin M (64 * (c.blocks + c.contractions + 1) * (c.greatest + m)) tree =
+    subst (λ (y : Nodes). AnswersWithin M (64 * (c.blocks + c.contractions + 1) * (c.greatest + m)) y) d.2 r.runs.always in
+    record {
+      answers = all;
+      enough = λ big k t reach end free.
+          let fate = (r.runs.run k t (subst (λ (f : State). Reach M k f t) (inj (sym all.starts ∙ r.runs.starts)) reach)).1 in
+          let few = r.few in
+          unless_exhausted (all.answers k t reach end)
+          (subst (λ (y : Nodes). Fate M (r.runs.depth + 1) (Finished M y (8 + 4 * r.words)) (Spent M (8 + 4 * r.words)) c.matches k t) d.2 fate) (omega arith) free;
+    }
+
+pub evaluations_have_counts : EvaluationsHaveCounts
+evaluations_have_counts P tree n form e =
+    let x = passes_count P form e.value tree e.nodes e.matches e.evaluates e.reads in
+    let few = e.few in let c = x.contractions in let b = x.blocks in
+    record { counts = x.counts; gives = record { value = x.v; run = x.run; reads = x.reads }; contractions = omega arith; blocks = omega arith; greatest = x.greatest }
+
+pub counts_are_one : CountsAreOne
+counts_are_one P tree other c d form g h =
+    let S = saturated_program P in
+    (runs_are_one S (passes_form P form).form Empty S.main g.value h.value c d g.run h.run).1
+
+pub values_are_answered_by_counts : ValuesAreAnsweredByCounts
+values_are_answered_by_counts e E T accepted types P pages first erased fits pos small v n x =
+    let within = (of_source e E T P accepted erased fits).within in
+    let (tree, a) = ((headline e E T accepted).1 types P pages first erased fits pos small).1 v n x in
+    let c = evaluations_have_counts P tree n within.form a.kept in
+    (tree, record { exactly = a.exactly; counted = c; runs = counts_bound_runs P pages (source_branches E) tree c.counts pos small (omega arith) within c.gives })

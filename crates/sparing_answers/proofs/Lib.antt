@@ -1,0 +1,4 @@
+pub mod Filled
+pub mod BoxRuns
+pub mod Following
+pub mod Answered

@@ -1,0 +1,6 @@
+pub mod Included
+pub mod Evidence
+pub mod Results
+pub mod Keeping
+pub mod Reading
+pub mod OneData

@@ -1,0 +1,2 @@
+pub mod SparingEvaluation
+pub mod Laws
