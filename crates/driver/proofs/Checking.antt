@@ -44,15 +44,15 @@ module _ (turns : ℕ) (e : RawEnv) (n : ℕ) (u v : Account) (none : n ≡ 0) (
     accepts = h.answers;
   }
 
-  pub spent_by : AnswersFound e (2048 - n) u (Err Spent) v → IsSpentBy turns e
-  spent_by h = record {
+  pub spent_by : (p : Place) (before : Account) → AnswersFound e (2048 - n) u (Err (Spent p before)) v → IsSpentBy turns e
+  spent_by p before h = record {
     rules = rules_of e h.cycle (2048 - n) u;
     judged = record { cycle = h.cycle; found = h.found; is = judged h.cycle };
     spends = h.answers.0;
   }
 
-  pub too_deep_for : AnswersFound e (2048 - n) u (Err TooDeep) v → IsTooDeepFor turns e
-  too_deep_for h = record {
+  pub too_deep_for : (p : Place) → AnswersFound e (2048 - n) u (Err (TooDeep p)) v → IsTooDeepFor turns e
+  too_deep_for p h = record {
     rules = rules_of e h.cycle (2048 - n) u;
     judged = record { cycle = h.cycle; found = h.found; is = judged h.cycle };
     deep = h.answers;

@@ -115,8 +115,8 @@ pub(crate) fn accept_within(
             Ok(accepted)
         }
         Err(Fault::Memory) => Err(Refusal::Memory),
-        Err(Fault::Spent) => Err(Refusal::TurnsSpent),
-        Err(Fault::TooDeep) => Err(Refusal::Depth),
+        Err(Fault::Spent { .. }) => Err(Refusal::TurnsSpent),
+        Err(Fault::TooDeep { .. }) => Err(Refusal::Depth),
         Err(Fault::Broken { place, rule }) => {
             let place = told(alloc, raw, place)?;
             Err(Refusal::Broken {

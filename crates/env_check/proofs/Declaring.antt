@@ -1,5 +1,5 @@
 -- Declarations one after the other, and the whole environment.
-use Rattle.std.proofs.Common.{◌≡◌, ◌∙◌, ℕ, suc, ◌+◌, ◌-◌, ◌<◌, refl, sym, ap, subst, List, [], ◌∷◌, ◌++◌, map, reverse, take, drop, drop-cons, get_or, length, add-one, None, Ok, Err, arith}
+use Rattle.std.proofs.Common.{◌≡◌, ◌∙◌, ℕ, zero, suc, ◌+◌, ◌-◌, ◌<◌, refl, sym, ap, subst, List, [], ◌∷◌, ◌++◌, map, reverse, take, drop, drop-cons, get_or, length, add-one, None, Some, slice_get, Ok, Err, arith}
 use Rattle.std.proofs.lemmas.List.{drop_all, take_all, drop-map, take-map, map-append, reverse-append}
 use Rattle.std.proofs.Math.Seq.{take-suc}
 use Rattle.universe_levels.specs.declared.level.Level.{Level}
@@ -26,8 +26,9 @@ use Rattle.rule_laws.proofs.Extending.{not_found}
 use Rattle.rule_laws.proofs.Environments.{distinct_levels}
 use Rattle.inductive_check.specs.Given.{given_of}
 use Rattle.env_check.specs.Answers.{Answers}
+use Rattle.env_check.specs.Places.{first, next, StandsAt}
 use Rattle.env_check.specs.Steps.{refusal_at, LeadsTo, HasChecked}
-use Rattle.env_check.proofs.Steps.{leads_refl, leads_trans, leads_answers, declarations_next, declarations_halted, declarations_end}
+use Rattle.env_check.proofs.Steps.{leads_refl, leads_trans, leads_answers, declarations_next, declarations_halted, declarations_end, declaration_place}
 
 last_first : (d : Given) (xs : List Given) → reverse (map plain_given (xs ++ d ∷ [])) ≡ plain_given d ∷ reverse (map plain_given xs)
 last_first d xs = ap reverse (map-append plain_given xs (d ∷ [])) ∙ reverse-append (map plain_given xs) (plain_given d ∷ [])
@@ -41,10 +42,17 @@ checked_none E n ds u a e = record {
   accepted = a;
   levels = refl;
   constraints = refl;
+  comes = first;
   same = ap (λ ks. map plain ks) e;
 }
 
 -- one more
+
+given_there : (i : ℕ) (ds rest : List Given) (d : Given) → drop i ds ≡ d ∷ rest → slice_get ds i ≡ Some d
+given_there zero [] rest d e = absurd cc
+given_there zero (x ∷ ds) rest d e = let q : x ≡ d = cc in ap Some q
+given_there (suc i) [] rest d e = absurd cc
+given_there (suc i) (x ∷ ds) rest d e = given_there i ds rest d e
 
 module _ (E : Env) (n : ℕ) (ds : List Given) (u : Account) (i : ℕ) (H : Env) (v : Account) (c : HasChecked E n ds u i H v) (d : Given) (at : drop i ds ≡ d ∷ drop (suc i) ds) where
   next_leads : (k : Kept) (w : Account) → (declaration_rule H (test_of H) n d v).end ≡ run.Done k w → (main : Term) →
@@ -62,16 +70,17 @@ module _ (E : Env) (n : ℕ) (ds : List Given) (u : Account) (i : ℕ) (H : Env)
         accepted = record { over = a.over; consistent = a.consistent; declarations = is.accepted };
         levels = c.levels;
         constraints = c.constraints;
+        comes = next c.comes (given_there i ds (drop (suc i) ds) d at) e;
         same = ap (λ x. x ∷ map plain H.declarations) is.same ∙ ap (λ xs. plain_given d ∷ xs) c.same
             ∙ sym (ap (λ xs. reverse (map plain_given xs)) taken ∙ last_first d (take i ds));
       } in
       subst (λ X. HasChecked E n ds u (suc i) X w) (sym kept) more
 
   pub checked_halted : (h : Halt) (w : Account) → Halts (declaration_rule H (test_of H) n d v) h w → (main : Term) →
-      Answers (declarations_rule E.levels E.constraints (test_of E) n 0 [] ds main u) (Err (refusal_at (AtDeclaration i) h)) w
+      Answers (declarations_rule E.levels E.constraints (test_of E) n 0 [] ds main u) (Err (refusal_at (AtDeclaration i) v h)) w
   checked_halted h w e main =
       let here = subst (λ rest. LeadsTo (declarations_rule E.levels E.constraints (test_of E) n 0 [] ds main u) (declarations_rule H.levels H.constraints (test_of H) n i H.declarations rest main v)) at (c.leads main) in
-      leads_answers _ _ (Err (refusal_at (AtDeclaration i) h)) w here (declarations_halted H.levels H.constraints (test_of H) n i H.declarations d (drop (suc i) ds) main v w h e)
+      leads_answers _ _ (Err (refusal_at (AtDeclaration i) v h)) w here (declarations_halted H.levels H.constraints (test_of H) n i H.declarations d (drop (suc i) ds) main v w h e)
 
 -- one more of those that are read
 
@@ -100,10 +109,17 @@ module _ (E : Env) (m0 : Meter) (xs : List RawDecl) (i : ℕ) (H : Env) (m : Met
       rw add-one (checked_more E (2048 - m0.nest) (map given_of xs) m0.account i H m.account c (given_of x) (given_at xs i x within is) k m1.account H' (given_taken xs i x within is) e checked kept)
 
   pub read_halted : (h : Halt) (m1 : Meter) → Follows (declaration_rule H (test_of H) (2048 - m.nest) (given_of x) m.account) (Err h) m m1 → (main : Term) →
-      Answers (declarations_rule E.levels E.constraints (test_of E) (2048 - m0.nest) 0 [] (map given_of xs) main m0.account) (Err (refusal_at (AtDeclaration i) h)) m1.account
+      Answers (declarations_rule E.levels E.constraints (test_of E) (2048 - m0.nest) 0 [] (map given_of xs) main m0.account) (Err (refusal_at (AtDeclaration i) m.account h)) m1.account
   read_halted h m1 f main =
       let e = subst (λ n. Halts (declaration_rule H (test_of H) (2048 - n) (given_of x) m.account) h m1.account) after.nest f.answer in
       checked_halted E (2048 - m0.nest) (map given_of xs) m0.account i H m.account c (given_of x) (given_at xs i x within is) h m1.account e main
+
+  pub read_place : (h : Halt) (m1 : Meter) → Follows (declaration_rule H (test_of H) (2048 - m.nest) (given_of x) m.account) (Err h) m m1 → (main : Term) →
+      StandsAt E (2048 - m0.nest) (map given_of xs) main m0.account (refusal_at (AtDeclaration i) m.account h)
+  read_place h m1 f main =
+      let e = subst (λ n. Halts (declaration_rule H (test_of H) (2048 - n) (given_of x) m.account) h m1.account) after.nest f.answer in
+      declaration_place E (2048 - m0.nest) (map given_of xs) m0.account i H m.account m1.account (given_of x) main h c.comes
+      (given_there i (map given_of xs) (drop (suc i) (map given_of xs)) (given_of x) (given_at xs i x within is)) e
 
 -- all of them
 

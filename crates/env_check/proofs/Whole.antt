@@ -1,5 +1,5 @@
 -- The steps of the check one after the other.
-use Rattle.std.proofs.Common.{◌≡◌, ◌∙◌, ℕ, ◌-◌, refl, sym, ap, subst, List, [], map, length, Option, Some, None, Result, Ok, Err, IfOk}
+use Rattle.std.proofs.Common.{◌≡◌, ◌∙◌, ℕ, ◌-◌, refl, sym, ap, subst, List, [], map, length, Option, Some, None, Result, Ok, Err, IfOk, IfErr}
 use Rattle.std.proofs.lemmas.List.{length-map}
 use Rattle.universe_levels.specs.declared.level.Level.{Level}
 use Rattle.universe_levels.specs.declared.constraint.Constraint.{Constraint}
@@ -24,15 +24,16 @@ use Rattle.env_check.specs.declared.refusal.Refusal.TheVariants.{Broken, Spent, 
 use Rattle.env_check.specs.Rules.{givens, rules_of}
 use Rattle.env_check.specs.Answers.{Answers, AnswersFound, FollowsRules}
 use Rattle.env_check.specs.Steps.{Refuses, level_refusal, end_refusal, RefusesGraph, HasChecked}
-use Rattle.env_check.proofs.Steps.{leads_is, leads_answers}
+use Rattle.env_check.specs.Places.{StandsAt, StandsInMain, bare}
+use Rattle.env_check.proofs.Steps.{leads_is, leads_answers, place_in_main}
 use Rattle.env_check.proofs.Declaring.{checked_all, checked_whole}
 use Rattle.rule_laws.proofs.SimpleRules.{some_none}
 
 follows_found : (raw : RawEnv) (r : Result Accepted Refusal) (old new : Meter) → AnswersFound raw (2048 - old.nest) old.account r new.account → FollowsRules raw r old new
 follows_found raw (Ok a) old new h = h
 follows_found raw (Err (Broken p b)) old new h = h
-follows_found raw (Err Spent) old new h = h
-follows_found raw (Err TooDeep) old new h = h
+follows_found raw (Err (Spent p v)) old new h = h
+follows_found raw (Err (TooDeep p)) old new h = h
 follows_found raw (Err Memory) old new h = tt
 
 -- what the rules of levels and of constraints let pass
@@ -53,6 +54,19 @@ module _ (raw : RawEnv) where
   abbrev from_constraints : Option (List ℕ) → ℕ → Account → Checked
   from_constraints cycle n u = constraints_rule (first_undeclared_end (length raw.levels) 0 raw.constraints) (from_graph cycle n u) u
 
+  -- the place of a refusal, over the environment that keeps nothing
+  bare_is : (E : Env) → E.levels ≡ length raw.levels → E.constraints ≡ raw.constraints → E.declarations ≡ [] → E ≡ bare raw
+  bare_is E el ec none = λ i. record { levels = el i; constraints = ec i; declarations = none i }
+
+  pub bare_placed : (E : Env) (r : Result Accepted Refusal) (n : ℕ) (u : Account) → E.levels ≡ length raw.levels → E.constraints ≡ raw.constraints → E.declarations ≡ [] →
+      IfErr r (StandsAt E n (givens raw) raw.main u) → IfErr r (StandsAt (bare raw) n (givens raw) raw.main u)
+  bare_placed E r n u el ec none h = subst (λ X. IfErr r (StandsAt X n (givens raw) raw.main u)) (bare_is E el ec none) h
+
+  pub declarations_placed : (E : Env) (xs : List RawDecl) (e : Refusal) (n : ℕ) (u : Account) → xs ≡ raw.decls → E.levels ≡ length raw.levels → E.constraints ≡ raw.constraints →
+      E.declarations ≡ [] → StandsAt E n (map given_of xs) raw.main u e → StandsAt (bare raw) n (givens raw) raw.main u e
+  declarations_placed E xs e n u is el ec none h =
+      subst (λ X. StandsAt X n (givens raw) raw.main u e) (bare_is E el ec none) (subst (λ ys. StandsAt E n (map given_of ys) raw.main u e) is h)
+
   -- levels
 
   level_answer : (o : Option (ℕ × Level)) (go : Checked) (u : Account) (e : Refusal) (a : ℕ × Level) → o ≡ Some a → e ≡ level_refusal a → Answers (levels_rule o go u) (Err e) u
@@ -70,8 +84,8 @@ module _ (raw : RawEnv) where
 
   pub levels_refused : (e : Refusal) (m : Meter) → Refuses (first_repeated 0 [] raw.levels) level_refusal e → FollowsRules raw (Err e) m m
   levels_refused (Broken p b) m h = level_found (Broken p b) m h.0 h.1 h.2
-  levels_refused Spent m h = level_found Spent m h.0 h.1 h.2
-  levels_refused TooDeep m h = level_found TooDeep m h.0 h.1 h.2
+  levels_refused (Spent p v) m h = level_found (Spent p v) m h.0 h.1 h.2
+  levels_refused (TooDeep p) m h = level_found (TooDeep p) m h.0 h.1 h.2
   levels_refused Memory m h = tt
 
   module _ (once : first_repeated 0 [] raw.levels ≡ None) where
@@ -94,8 +108,8 @@ module _ (raw : RawEnv) where
 
     pub constraints_refused : (e : Refusal) (m : Meter) → Refuses (first_undeclared_end (length raw.levels) 0 raw.constraints) end_refusal e → FollowsRules raw (Err e) m m
     constraints_refused (Broken p b) m h = end_found (Broken p b) m h.0 h.1 h.2
-    constraints_refused Spent m h = end_found Spent m h.0 h.1 h.2
-    constraints_refused TooDeep m h = end_found TooDeep m h.0 h.1 h.2
+    constraints_refused (Spent p v) m h = end_found (Spent p v) m h.0 h.1 h.2
+    constraints_refused (TooDeep p) m h = end_found (TooDeep p) m h.0 h.1 h.2
     constraints_refused Memory m h = tt
 
     module _ (declared : first_undeclared_end (length raw.levels) 0 raw.constraints ≡ None) where
@@ -117,8 +131,8 @@ module _ (raw : RawEnv) where
 
       pub graph_refused : (e : Refusal) (m : Meter) → RefusesGraph (length raw.levels) raw.constraints e → FollowsRules raw (Err e) m m
       graph_refused (Broken p b) m h = cycle_found (Broken p b) m h.0 h.1 h.2
-      graph_refused Spent m h = cycle_found Spent m h.0 h.1 h.2
-      graph_refused TooDeep m h = cycle_found TooDeep m h.0 h.1 h.2
+      graph_refused (Spent p v) m h = cycle_found (Spent p v) m h.0 h.1 h.2
+      graph_refused (TooDeep p) m h = cycle_found (TooDeep p) m h.0 h.1 h.2
       graph_refused Memory m h = tt
 
       -- what comes after, over an environment without declarations
@@ -160,6 +174,14 @@ module _ (raw : RawEnv) where
             let k = subst (λ x. Answers (main_rule H (test_of H) (2048 - x) raw.main m1.account) r m2.account) after.nest h in
             declarations_answer E r m0 m2 el ec consistent
             (leads_answers _ _ r m2.account (checked_all E n (givens raw) m0.account H m1.account givens_checked raw.main) k)
+
+        -- the places of refusals
+
+        pub main_placed : (r : Result Accepted Refusal) → IfErr r (StandsInMain H (2048 - m1.nest) raw.main m1.account) → IfErr r (StandsAt E (2048 - m0.nest) (givens raw) raw.main m0.account)
+        main_placed (Ok a) h = tt
+        main_placed (Err x) h =
+            let k = subst (λ n. StandsInMain H (2048 - n) raw.main m1.account x) after.nest h in
+            place_in_main E (2048 - m0.nest) (givens raw) m0.account H m1.account raw.main x givens_checked.comes k
 
         pub main_well_formed : (r : Result Accepted Refusal) → IfOk r (λ a. a.env ≡ H) → IfOk r (λ a. Types guarded H [] raw.main a.main_type) →
             IfOk r (λ a. IsCheckedEnvironment raw.levels raw.constraints (givens raw) raw.main a.env a.main_type)

@@ -16,8 +16,8 @@ use Rattle.env_check.specs.Rules.{rules_of, IsFound}
 abbrev pub Answers : Checked → Result Accepted Refusal → Account → Type 0
 Answers d (Ok a) u = d.outcome ≡ Accepts a.env a.main_type u
 Answers d (Err (Broken p b)) u = d.outcome ≡ Breaks p b u
-Answers d (Err Spent) u = (d.outcome ≡ Spends) × (u.left ≡ 0)
-Answers d (Err TooDeep) u = IsTrue d.deep
+Answers d (Err (Spent p v)) u = (d.outcome ≡ Spends) × (u.left ≡ 0)
+Answers d (Err (TooDeep p)) u = IsTrue d.deep
 Answers d (Err Memory) u = Unit {0}
 
 -- with some cycle that is found of the graph

@@ -1,3 +1,4 @@
 pub mod Rules
+pub mod Places
 pub mod Answers
 pub mod Steps

@@ -16,6 +16,7 @@ use Rattle.calculus_rules.specs.Accepted.{IsAccepted}
 use Rattle.pc_rules.specs.Entailment.{test_of}
 use Rattle.pc_rules.specs.DirectedDeclarations.{Given, Checked, declarations_rule, place_of}
 use Rattle.rule_laws.specs.Declarations.{plain, plain_given}
+use Rattle.env_check.specs.Places.{ComesTo}
 use Rattle.env_check.specs.declared.refusal.Refusal.{Refusal}
 use Rattle.env_check.specs.declared.refusal.Refusal.TheVariants.{Broken, Spent, TooDeep, Memory}
 
@@ -37,12 +38,12 @@ abbrev pub RefusesGraph : ℕ → List Constraint → Refusal → Type 0
 RefusesGraph levels cs Memory = Unit {0}
 RefusesGraph levels cs e = (places : List ℕ) × Clashes levels cs places × (e ≡ Broken (place_of places) (UniverseCycle places))
 
--- what halts a step, at its place
-abbrev pub refusal_at : Place → Halt → Refusal
-refusal_at p (halts.Stop stops.Spent) = Spent
-refusal_at p (halts.Stop stops.TooDeep) = TooDeep
-refusal_at p (halts.Stop stops.Memory) = Memory
-refusal_at p (halts.Broken b) = Broken p b
+-- what halts a step, at its place, to which the rules came with this account
+abbrev pub refusal_at : Place → Account → Halt → Refusal
+refusal_at p v (halts.Stop stops.Spent) = Spent p v
+refusal_at p v (halts.Stop stops.TooDeep) = TooDeep p
+refusal_at p v (halts.Stop stops.Memory) = Memory
+refusal_at p v (halts.Broken b) = Broken p b
 
 -- a check that has come to another one
 pub record LeadsTo (whole rest : Checked) : Type 0 where
@@ -57,4 +58,5 @@ pub record HasChecked (E : Env) (n : ℕ) (ds : List Given) (u : Account) (i : �
   pub accepted : IsAccepted H
   pub levels : H.levels ≡ E.levels
   pub constraints : H.constraints ≡ E.constraints
+  pub comes : ComesTo E n ds u i H v
   pub same : map plain H.declarations ≡ reverse (map plain_given (take i ds))

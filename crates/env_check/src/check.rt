@@ -1,5 +1,5 @@
 //! The check of a whole environment.
-ghost use Rattle.std.specs.Prelude.{◌≡◌, ◌-◌, [], IfOk};
+ghost use Rattle.std.specs.Prelude.{◌≡◌, ◌-◌, [], IfErr, IfOk};
 ghost use Rattle.dump_reader.specs.Spelled.{IsSpelled};
 ghost use Rattle.calculus_rules.specs.Accepted.{IsAccepted};
 ghost use Rattle.pc_rules.specs.Entailment.{test_of};
@@ -8,6 +8,7 @@ ghost use Rattle.calculus_rules.specs.Typing.{Types, guarded};
 ghost use Rattle.pc_rules.specs.DirectedDeclarations.{main_rule};
 ghost use Rattle.rule_laws.specs.Declarations.{IsCheckedEnvironment};
 ghost use Rattle.env_check.specs.Rules.{givens};
+ghost use Rattle.env_check.specs.Places.{StandsAt, StandsInMain, bare};
 ghost use Rattle.env_check.specs.Answers.{Answers, FollowsRules};
 
 use crate::constraints::{check_constraints, graph_of};
@@ -42,10 +43,12 @@ fn check_main<T: Typer>(
     ensures env { IfOk result (λ a. a.env ≡ env) }
     ensures main { IfOk result (λ a. a.main ≡ main.now) }
     ensures typed { IfOk result (λ a. Types guarded env [] main.now a.main_type) }
+    ensures placed { IfErr result (StandsInMain env (2048 - m.old.nest) main.now m.old.account) }
 {
+    let before = m.account;
     let main_type = match typer.infer(alloc, &env, &Ctx::new(), main, m) {
         Ok(main_type) => main_type,
-        Err(halt) => return Err(refusal_at(Place::Main, halt)),
+        Err(halt) => return Err(refusal_at(Place::Main, before, halt)),
     };
     let Ok(main) = main.share() else {
         return Err(Refusal::Memory);
@@ -64,8 +67,8 @@ fn check_main<T: Typer>(
 /// before; `LevelUndeclared` at a constraint with a level that is not declared; `UniverseCycle` at the first of some constraints, by their
 /// places in rising order, that alone have no valuation; then each declaration in order, with `DuplicateName` where its name was declared
 /// before, and else with what its type and body or its block break; and main. Places are counted from 0. `Spent` exactly where the rules
-/// have no end within the units left and `TooDeep` did not come. `TooDeep` only where they pass a limit. The environment that is read stays
-/// as it is.
+/// have no end within the units left and `TooDeep` did not come. `TooDeep` only where they pass a limit. Both tell the place where they came,
+/// and `Spent` the account with which the rules came there. The environment that is read stays as it is.
 pub fn check_env<R: Reducer>(
     alloc: Global,
     reducer: &R,
@@ -75,6 +78,7 @@ pub fn check_env<R: Reducer>(
     requires spelled { IsSpelled raw.now }
     ensures follows { FollowsRules raw.now result m.old m.new }
     ensures after { IsAfter m.old m.new }
+    ensures placed { IfErr result (StandsAt (bare raw.now) (2048 - m.old.nest) (givens raw.now) raw.now.main m.old.account) }
     ensures main { IfOk result (λ a. a.main ≡ raw.now.main) }
     ensures well_formed { IfOk result (λ a. IsCheckedEnvironment raw.now.levels raw.now.constraints (givens raw.now) raw.now.main a.env a.main_type) }
 {

@@ -14,6 +14,7 @@ ghost use Rattle.pc_rules.specs.DirectedDeclarations.{fresh_name, body_rule, con
 ghost use Rattle.rule_laws.specs.Declarations.{IsCheckedDeclaration};
 ghost use Rattle.inductive_check.specs.Given.{given_of};
 ghost use Rattle.env_check.specs.Answers.{Answers};
+ghost use Rattle.env_check.specs.Places.{StandsAt};
 ghost use Rattle.env_check.specs.Steps.{HasChecked};
 
 use crate::refusal::{Refusal, refusal_at};
@@ -135,12 +136,14 @@ pub(crate) fn check_declarations<T: Typer, R: Reducer>(
     requires empty { env.declarations ≡ [] }
     ensures checked { IfOk result (λ e. HasChecked env (2048 - m.old.nest) (map given_of decls.now) m.old.account (length decls.now) e m.new.account) }
     ensures refused { IfErr result (λ e. (main : Main) → Answers (declarations_rule env.levels env.constraints (test_of env) (2048 - m.old.nest) 0 [] (map given_of decls.now) main m.old.account) (Err e) m.new.account) }
+    ensures placed { IfErr result (λ e. (main : Main) → StandsAt env (2048 - m.old.nest) (map given_of decls.now) main m.old.account e) }
     ensures after { IsAfter m.old m.new }
 {
     for (i, decl) in decls.iter().enumerate() {
+        let before = m.account;
         let kept = match check_declaration(alloc, typer, reducer, &env, decl, m) {
             Ok(kept) => kept,
-            Err(halt) => return Err(refusal_at(Place::Declaration(i as u32), halt)),
+            Err(halt) => return Err(refusal_at(Place::Declaration(i as u32), before, halt)),
         };
         let Ok(()) = env.keep(kept) else {
             return Err(Refusal::Memory);

@@ -5,8 +5,8 @@
 //!
 //! What is promised, by its clauses: the answer is the one of the directed rules (`follows`): acceptance, with the environment and a type of
 //! main, or the first broken rule with its place and what it keeps, with the units that are left and the uses of rules; that no unit is
-//! left exactly where the rules find it; that a limit was passed only where they pass one. The meter is left at the nesting of the call's
-//! entry, with no unit won and no use forgotten (`after`). What is accepted is well formed and keeps exactly the declarations that were
+//! left exactly where the rules find it; that a limit was passed only where they pass one; and at which place, for these two too
+//! (`placed`). The meter is left at the nesting of the call's entry, with no unit won and no use forgotten (`after`). What is accepted is well formed and keeps exactly the declarations that were
 //! read, in their order, with the sorts of constructor arguments (`well_formed`), and main as it was read (`main`).
 //!
 //! Below stand `dump_reader` (environments as they are read), `pc_rules` (the rules, environments, meters), `rule_laws` (the directed rules

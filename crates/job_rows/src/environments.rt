@@ -60,8 +60,8 @@ fn put_refusal(out: &mut String, env: &RawEnv, refusal: &Refusal) -> Result<(), 
             out.push_str(": ")?;
             put_broken(out, env, rule)
         }
-        Refusal::Spent => put_stop(out, Stop::Spent),
-        Refusal::TooDeep => put_stop(out, Stop::TooDeep),
+        Refusal::Spent { .. } => put_stop(out, Stop::Spent),
+        Refusal::TooDeep { .. } => put_stop(out, Stop::TooDeep),
         Refusal::Memory => put_stop(out, Stop::Memory),
     }
 }

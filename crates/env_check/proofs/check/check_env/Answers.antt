@@ -1,8 +1,8 @@
-use Rattle.std.proofs.Common.{rules, ◌≡◌, ◌∙◌, [], length, None, arith}
+use Rattle.std.proofs.Common.{rules, ◌≡◌, ◌∙◌, ◌-◌, [], length, None, arith}
 use Rattle.universe_levels.specs.Consistency.{IsConsistent}
 use Rattle.pc_rules.specs.DirectedDeclarations.{first_repeated, first_undeclared_end}
 use Rattle.env_check.proofs.Limits.{spelled_few}
-use Rattle.env_check.proofs.Whole.{graph_refused, declarations_refused, main_follows, main_well_formed, accepted_empty}
+use Rattle.env_check.proofs.Whole.{graph_refused, declarations_refused, declarations_placed, bare_placed, main_placed, main_follows, main_well_formed, accepted_empty}
 use Rattle.env_check.proofs.check.check_env.Goals as goal
 
 pub overflow_cast-levels : goal.overflow_cast-levels
@@ -56,6 +56,31 @@ returns-in_err-env-clause-follows g c =
     let p = declarations_refused raw once declared c.new-env.result c.as_slice-2.result.now _ c.args.m.now c.check_declarations.new.m c.as_slice-2.ensures.is el ec consistent
     (c.in_err-env.ensures.refused raw.main) in
     search rules
+
+pub returns-in_err-env-clause-placed : goal.returns-in_err-env-clause-placed
+returns-in_err-env-clause-placed g c =
+    let raw = c.args.raw.now in
+    let l = c.len-levels.ensures.is in
+    let s = c.as_slice-constraints.ensures.is in
+    let el = c.new-env.ensures.levels ∙ c.in_ok-graph.ensures.levels ∙ l in
+    let ec = c.new-env.ensures.constraints ∙ c.in_ok-graph.ensures.constraints ∙ s in
+    let m = c.args.m.now in
+    let p = declarations_placed raw c.new-env.result c.as_slice-2.result.now _ (2048 - m.nest) m.account c.as_slice-2.ensures.is el ec c.new-env.ensures.empty (c.in_err-env.ensures.placed raw.main) in
+    search rules
+
+pub returns-clause-placed : goal.returns-clause-placed
+returns-clause-placed g c =
+    let raw = c.args.raw.now in
+    let l = c.len-levels.ensures.is in
+    let s = c.as_slice-constraints.ensures.is in
+    let once : first_repeated 0 [] raw.levels ≡ None = rw c.as_slice.ensures.is at c.in_ok-check_levels.ensures.passed in
+    let declared : first_undeclared_end (length raw.levels) 0 raw.constraints ≡ None = rw (l, s) at c.in_ok-check_constraints.ensures.passed in
+    let el = c.new-env.ensures.levels ∙ c.in_ok-graph.ensures.levels ∙ l in
+    let ec = c.new-env.ensures.constraints ∙ c.in_ok-graph.ensures.constraints ∙ s in
+    let m = c.args.m.now in
+    bare_placed raw c.new-env.result c.check_main.result (2048 - m.nest) m.account el ec c.new-env.ensures.empty
+    (main_placed raw once declared c.new-env.result c.as_slice-2.result.now c.as_slice-2.ensures.is el ec m c.check_declarations.new.m c.in_ok-env.env
+    c.in_ok-env.ensures.after c.in_ok-env.ensures.checked c.check_main.result c.check_main.ensures.placed)
 
 pub returns-clause-follows : goal.returns-clause-follows
 returns-clause-follows g c =
