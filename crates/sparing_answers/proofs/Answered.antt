@@ -1,15 +1,8 @@
 -- The data of a sparing evaluation, and every run of the module.
-use Rattle.std.proofs.Common.{◌≡◌, ℕ, ◌<◌, ◌≤◌, List, [], arith}
-use Rattle.pc_terms.specs.Syntax.{Term}
-use Rattle.pc_terms.specs.BoxSyntax.{BoxTerm}
-use Rattle.calculus_rules.specs.Environment.{Env}
-use Rattle.calculus_rules.specs.Accepted.{IsAccepted}
-use Rattle.calculus_rules.specs.FirstOrder.{Data, Reads}
+use Rattle.std.proofs.Common.{ℕ, arith}
 use Rattle.calculus_rules.proofs.Bare.{bare_types}
 use Rattle.pc_rules.specs.Entailment.{test_of}
 use Rattle.pc_rules.proofs.Entailing.{entailed_decides}
-use Rattle.lambda_box.specs.BoxData.{BoxReads}
-use Rattle.lambda_box.specs.BoxEvaluation.{BoxEvaluates}
 use Rattle.lambda_box.proofs.Determined.{one_box_each}
 use Rattle.typing_laws.proofs.DataAlong.{reading_is_determined}
 use Rattle.erase_laws.proofs.AcceptedReady.{accepted_ready}
@@ -19,7 +12,6 @@ use Rattle.erase_laws.proofs.Serves.{serves}
 use Rattle.erase_rules.proofs.Program.{program_is_erased}
 use Rattle.read_counts.proofs.KeptBlocks.{few_counts}
 use Rattle.first_order.specs.Searching.{members}
-use Rattle.headline.specs.AcceptedProgram.{IsWithinSource}
 use Rattle.headline.specs.EveryRun.{EvaluatesTo}
 use Rattle.headline.specs.SourceWords.{source_words, source_branches}
 use Rattle.headline.proofs.Derived.{derived}

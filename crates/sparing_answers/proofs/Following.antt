@@ -1,14 +1,14 @@
 -- A sparing evaluation is followed by the evaluation of whatever the term erases to, where that has one: the value that it gives is an erasure of the sparing value, with whatever for its boxes.
-use Rattle.std.proofs.Common.{◌≡◌, ◌≢◌, ℕ, zero, suc, ◌+◌, true, false, List, [], ◌∷◌, ◌++◌, length, Some, ◌⊎◌, inl, inr, refl, sym, ap, ◌∙◌, subst, arith, slice_get}
+use Rattle.std.proofs.Common.{◌≡◌, ◌≢◌, ℕ, zero, suc, true, List, [], ◌∷◌, length, Some, ◌⊎◌, inl, inr, refl, sym, ap, ◌∙◌, subst, slice_get}
 use Rattle.universe_levels.specs.declared.sort.Sort.{Sort}
 use Rattle.universe_levels.specs.declared.sort.Sort.TheVariants.{Prop, Of}
-use Rattle.trees.specs.Tree.{Rel, Node, Done, Next, term_at}
+use Rattle.trees.specs.Tree.{Rel, Done, Next, term_at}
 use mathlib.Core.Path.{fun_ext}
 use Rattle.trees.proofs.Fusion.{substitute-rename, substitute-substitute}
 use Rattle.trees.proofs.Put.{substitute_same}
 use Rattle.pc_terms.specs.declared.leaf.FamilyId.{FamilyId}
 use Rattle.pc_terms.specs.Syntax.{Term, Terms, Lambda, App, Case, over, first, put, put_all, substitute, terms_of}
-use Rattle.pc_terms.specs.BoxSyntax.{BoxTerm, BoxTerms, Box, BLambda, BLetIn, BApp, BConst, BConstruct, BCase, BFix}
+use Rattle.pc_terms.specs.BoxSyntax.{BoxTerm, BoxTerms, Box, BLambda, BApp, BConstruct, BFix}
 use Rattle.calculus_rules.specs.declared.declaration.Constructor.{Constructor}
 use Rattle.calculus_rules.specs.declared.entry.Entry.TheVariants.{Defined}
 use Rattle.calculus_rules.specs.Environment.{Env, FamilyDecl, KeepsFamily}
@@ -18,14 +18,13 @@ use Rattle.calculus_rules.specs.Erasable.{Erasable}
 use Rattle.calculus_rules.specs.Evaluation.{TakesMore, lambda_is, construct_is, fix_is, Unfolds}
 use Rattle.calculus_rules.specs.Context.{Context, extend as under_entries}
 use Rattle.calculus_rules.specs.Instances.{branch_entries, entries_at}
-use Rattle.calculus_rules.specs.Lawful.{KeepsTypes}
 use Rattle.calculus_rules.specs.Step.{IsConstructor, is_constructor}
 use Rattle.calculus_rules.specs.Typing.{bare, Types, TypesAll, no_terms, term}
 use Rattle.calculus_rules.specs.Accepted.{IsAccepted}
 use Rattle.calculus_rules.proofs.Listing.{same_list}
 use Rattle.calculus_rules.proofs.Spines.{one_item}
-use Rattle.lambda_box.specs.BoxProgram.{BoxFamily, BoxProgram, KeepsBoxFamily, boxes}
-use Rattle.lambda_box.specs.BoxEvaluation.{is_box_constructor, BoxTakesMore, BoxUnfolds, BoxEvaluates, BoxEvaluates.value, BoxEvaluates.constant, BoxEvaluates.let_in}
+use Rattle.lambda_box.specs.BoxProgram.{BoxProgram, boxes}
+use Rattle.lambda_box.specs.BoxEvaluation.{is_box_constructor, BoxTakesMore, BoxUnfolds, BoxEvaluates, BoxEvaluates.value, BoxEvaluates.let_in}
 use Rattle.lambda_box.proofs.Determined.{OneBoxEach}
 use Rattle.typing_laws.specs.Substituting.{Fits}
 use Rattle.typing_laws.specs.TypedParts.{OfCase}
@@ -38,7 +37,7 @@ use Rattle.type_laws.proofs.EvaluationKeeps.{AllKept, let_contracts, application
 use Rattle.type_laws.proofs.MatchesKeep.{matched_arguments}
 use Rattle.type_laws.proofs.RootsKeep.{fits_assumed, beta_keeps, beta_argument, constant_keeps}
 use Rattle.type_laws.proofs.Solid.{families_stay, erasable_kept}
-use Rattle.erase_laws.specs.Erases.{Erases, box, rel, lambda, app, const, construct, case, fix, ErasesBranches, ErasesAll}
+use Rattle.erase_laws.specs.Erases.{Erases, box, rel, lambda, app, const, construct, case, fix, ErasesBranches}
 use Rattle.erase_laws.specs.ErasedProgram.{counts_of, is_prop}
 use Rattle.erase_laws.proofs.ErasedData.{BuiltErased, built_erased}
 use Rattle.erase_laws.proofs.ErasedRedexes.{Ready, extended, unfolds_erased, BranchAt, branch_at, OnlyBranch, only_branch}
@@ -46,7 +45,7 @@ use Rattle.erase_laws.proofs.ErasedSpines.{Settled, of_box}
 use Rattle.erase_laws.proofs.ErasingArguments.{put_all_erases, arguments_erase}
 use Rattle.erase_laws.proofs.ErasingSubstituted.{put_erases}
 use Rattle.erase_laws.proofs.Serves.{Serves}
-use Rattle.sparing_laws.specs.SparingEvaluation.{EvaluatesSparingly, value, constant, let_in, beta, extend, unfold_fix, enter, HandsOn, left, evaluated}
+use Rattle.sparing_laws.specs.SparingEvaluation.{EvaluatesSparingly, value, let_in, beta, extend, unfold_fix, enter, HandsOn, left, evaluated}
 use Rattle.sparing_laws.proofs.Evidence.{application_erasable}
 use Rattle.sparing_laws.proofs.Keeping.{sparing_keeps, handed_keeps}
 use Rattle.sparing_answers.proofs.Filled.{Fills, node, and, group, end, blank, FillsTerms, FillsEach, one_more, no_more, fills_same, fills_app, fills_put, fills_put_all, each_same, ToConstructor, to_constructor, ToItem, to_item, filled_takes, filled_unfolds}

@@ -1,5 +1,5 @@
 -- What programs after erasure, and their modules, answer of a sparing evaluation, as statements.
-use Rattle.std.specs.Prelude.{◌≡◌, ℕ, ◌<◌, ◌≤◌, List, []}
+use Rattle.std.specs.Prelude.{ℕ, ◌<◌, ◌≤◌, List, []}
 use Rattle.pc_terms.specs.Syntax.{Term}
 use Rattle.pc_terms.specs.BoxSyntax.{BoxTerm}
 use Rattle.calculus_rules.specs.Environment.{Env}
