@@ -1,0 +1,9 @@
+pub mod Putting
+pub mod Sighting
+pub mod Standing
+pub mod Forming
+pub mod Deciding
+pub mod Following
+pub mod InlineSteps
+pub mod Fillings
+pub mod Table

@@ -1,0 +1,5 @@
+pub mod Uses
+pub mod Inline
+pub mod Sights
+pub mod Filled
+pub mod ShrinkLaws
