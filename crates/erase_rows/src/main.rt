@@ -3,7 +3,7 @@
 //! | Table | Calls |
 //! |---|---|
 //! | `erasures` | `test` of main in the empty context, `erase`; each in the row's environment, checked, with `units:`, then the units that are left are told |
-//! | `passes` | `prop_match` of what the row's environment is erased to; `saturate` of what `prop_match` gives |
+//! | `passes` | `prop_match` of what the row's environment is erased to; `saturate` of what `prop_match` gives; `inline` of what `saturate` then gives |
 #![tactic(auto)]
 
 mod erasures;

@@ -1,9 +1,10 @@
-//! The layer of passes on erased programs: `prop_match` and `saturate`.
-ghost use Rattle.std.specs.Prelude.{[]};
+//! The layer of passes on erased programs: `prop_match`, `saturate` and `inline`.
+ghost use Rattle.std.specs.Prelude.{◌≡◌, [], IfOk, Ok};
 ghost use Rattle.dump_reader.specs.Spelled.{IsSpelled};
 ghost use Rattle.calculus_rules.specs.Accepted.{IsAccepted};
 ghost use Rattle.calculus_rules.specs.Typing.{Types, guarded};
 ghost use Rattle.erase_rules.specs.Laws.{AreFewCounts};
+ghost use Rattle.lambda_box.specs.BoxForm.{IsBoxProgram};
 
 use crate::erasures::{UNITS, checked_of};
 use crate::told::put_program;
@@ -18,6 +19,7 @@ use pc_rules::meter::Meter;
 use reduction::substitution::Subst;
 use row_files::{Case, Fault};
 use row_terms::read;
+use shrink_passes::inline;
 use std::alloc::Global;
 use type_infer::inference::Inference;
 
@@ -42,6 +44,7 @@ fn erased_of(alloc: Global, accepted: &Accepted) -> Result<BoxProgram, Fault>
     requires accepted { IsAccepted accepted.now.env }
     requires typed { Types guarded accepted.now.env [] accepted.now.main accepted.now.main_type }
     requires few { AreFewCounts accepted.now.env }
+    ensures form { IfOk result IsBoxProgram }
 {
     let typer = Inference::new(Subst, Compare::new(Subst), Guard::new(Subst));
     match erase(alloc, &typer, &Subst, accepted, &mut Meter::new(UNITS)) {
@@ -51,22 +54,38 @@ fn erased_of(alloc: Global, accepted: &Accepted) -> Result<BoxProgram, Fault>
 }
 
 /// What the row's pass gives.
-fn passed_of(case: &Case, program: &BoxProgram) -> Result<BoxProgram, Fault> {
+fn passed_of(case: &Case, program: &BoxProgram) -> Result<BoxProgram, Fault>
+    requires form { IsBoxProgram program.now }
+{
     match case.row.given("call")? {
         "prop_match" => done(prop_match(case.alloc, program)),
         "saturate" => saturated(case.alloc, program),
+        "inline" => inlined(case.alloc, program),
         _ => Err(Fault::Faulty("no such call")),
     }
 }
 
 /// A program without matches on proofs, saturated.
-fn saturated(alloc: Global, program: &BoxProgram) -> Result<BoxProgram, Fault> {
+fn saturated(alloc: Global, program: &BoxProgram) -> Result<BoxProgram, Fault>
+    requires form { IsBoxProgram program.now }
+    ensures form { IfOk result IsBoxProgram }
+{
     let program = done(prop_match(alloc, program))?;
     done(saturate(alloc, &program))
 }
 
+/// The saturated program, with constants of one use in its place.
+fn inlined(alloc: Global, program: &BoxProgram) -> Result<BoxProgram, Fault>
+    requires form { IsBoxProgram program.now }
+{
+    let program = saturated(alloc, program)?;
+    done(inline(alloc, &program))
+}
+
 /// What a pass gives, which is refused in no row.
-fn done(passed: Result<BoxProgram, PassFault>) -> Result<BoxProgram, Fault> {
+fn done(passed: Result<BoxProgram, PassFault>) -> Result<BoxProgram, Fault>
+    ensures same { IfOk result (λ p. passed ≡ Ok p) }
+{
     match passed {
         Ok(program) => Ok(program),
         Err(PassFault::Memory) => Err(Fault::Memory),

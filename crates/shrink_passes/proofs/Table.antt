@@ -1,7 +1,8 @@
 -- The table of the bodies that are put in, between two steps of inlining.
-use Rattle.std.proofs.Common.{◌≡◌, ℕ, ◌+◌, ◌<◌, ◌≤◌, Bool, true, false, List, [], ◌∷◌, reverse, length, get_or, drop, Option, Some, None, refl, sym, ap, ◌∙◌, subst, arith}
+use Rattle.std.proofs.Common.{◌≡◌, ℕ, zero, suc, ◌+◌, ◌<◌, ◌≤◌, Bool, true, false, List, [], ◌∷◌, reverse, length, get_or, drop, Option, Some, None, refl, sym, ap, ◌∙◌, subst, arith}
 use Rattle.std.specs.Prelude.{nat_eq, cond}
 use Rattle.std.proofs.lemmas.Bool.{eqb-true}
+use Rattle.std.proofs.lemmas.List.{reverse-reverse}
 use Rattle.trees.specs.Measures.{depth}
 use Rattle.pc_terms.specs.BoxSyntax.{BoxTerm}
 use Rattle.lambda_box.specs.BoxProgram.{BoxConstant, BoxFamily, BoxProgram}
@@ -76,3 +77,25 @@ pub loop_ends : (P : BoxProgram) (S : ℕ → Option Sight) (g : ℕ) (m : ℕ �
     inline_program P ≡ record { constants = done; families = Fs; main = main }
 loop_ends P S g m done rest Fs main h e f q =
     (subst (λ (ds : List BoxConstant). Looped P S g m done ds) e h).going.same ∙ (λ i. record { constants = done; families = sym f i; main = sym q i })
+
+-- the constants in the order of declarations
+pub in_order : (xs cs : List BoxConstant) → reverse xs ≡ cs → xs ≡ reverse cs
+in_order xs cs e = sym (reverse-reverse xs) ∙ ap reverse e
+
+pub next_item : (xs : List BoxConstant) (i : ℕ) (x : BoxConstant) → i < length xs → x ≡ get_or xs i x → drop i xs ≡ x ∷ drop (i + 1) xs
+next_item [] i x l e = absurd (omega arith)
+next_item (y ∷ xs) zero x l e = ap (λ (z : BoxConstant). z ∷ xs) (sym e)
+next_item (y ∷ xs) (suc i) x l e = let q : suc i + 1 ≡ suc (i + 1) = omega arith in next_item xs i x (omega arith) e ∙ ap (λ n. x ∷ drop n (y ∷ xs)) (sym q)
+
+-- one step of the loop, as it is decided
+pub loop_step : (P : BoxProgram) (S : ℕ → Option Sight) (g : ℕ) (m n : ℕ → Option BoxTerm) (done next : List BoxConstant) (d : BoxConstant) (rest : List BoxConstant) → Looped P S g m done (d ∷ rest) →
+    (put : Bool) → put ≡ is_once g (depth (filled m d.body)) (S d.name.0) → (body : BoxTerm) → body ≡ filled m d.body →
+    (put ≡ true → ((j : ℕ) → n j ≡ cond (nat_eq d.name.0 j) (Some body) (m j)) × (next ≡ done)) →
+    (put ≡ false → ((j : ℕ) → n j ≡ m j) × (next ≡ record { name = d.name; body = body } ∷ done)) → Looped P S g n next rest
+loop_step P S g m n done next d rest h true choice body is f k =
+    let r = f refl in
+    subst (λ (ds : List BoxConstant). Looped P S g n ds rest) (sym r.1) (loop_put P S g m done d rest h n (λ j. r.0 j ∙ ap (λ (t : BoxTerm). cond (nat_eq d.name.0 j) (Some t) (m j)) is) (sym choice))
+loop_step P S g m n done next d rest h false choice body is f k =
+    let r = k refl in
+    let q : changed (filled m) d ∷ done ≡ next = ap (λ (t : BoxTerm). record { name = d.name; body = t } ∷ done) (sym is) ∙ sym r.1 in
+    subst (λ (ds : List BoxConstant). Looped P S g n ds rest) q (loop_on P S g m done d rest h n r.0 (sym choice))

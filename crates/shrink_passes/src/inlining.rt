@@ -29,12 +29,11 @@ fn greatest_depth(p: &BoxProgram) -> u32
 }
 
 /// Whether a body of depth `n`, put in place of what was seen, keeps the depth `greatest`.
-fn keeps_depth(sight: Option<&Sight>, n: u32, greatest: u32) -> bool
-    requires small { n ≤ 2048 }
-    ensures is { result ≡ is_once greatest n sight.now }
+fn keeps_depth(sight: Option<Sight>, n: u32, greatest: u32) -> bool
+    ensures is { result ≡ is_once greatest n sight }
 {
     match sight {
-        Some(Sight::Once(level)) => u64::from(*level) + u64::from(n) <= u64::from(greatest),
+        Some(Sight::Once(level)) => u64::from(level) + u64::from(n) <= u64::from(greatest),
         Some(Sight::Often) => false,
         None => false,
     }
@@ -80,7 +79,7 @@ pub fn inline(alloc: Global, p: &BoxProgram) -> Result<BoxProgram, PassFault>
     for d in p.constants.as_slice() {
         let body = fill(alloc, &bodies, &d.body)?;
         let name = d.name;
-        let put = keeps_depth(sights.get(&name.0), body.depth(), greatest);
+        let put = keeps_depth(sights.get(&name.0).copied(), body.depth(), greatest);
         keep(&mut bodies, &mut constants, name, body, put)?;
     }
     let main = fill(alloc, &bodies, &p.main)?;
