@@ -1,5 +1,5 @@
 -- The decisions of inlining, made of the program as it stands, are those that one walk of the program at the start allows.
-use Rattle.std.proofs.Common.{◌≡◌, ℕ, zero, suc, ◌+◌, ◌*◌, ◌<◌, ◌≤◌, max, Bool, true, false, ◌&&◌, List, [], ◌∷◌, Option, Some, None, ◌++◌, append_assoc, refl, sym, ap, ◌∙◌, subst, arith, ◌⊎◌, inl, inr, ⊎_elim}
+use Rattle.std.proofs.Common.{◌≡◌, ℕ, zero, suc, ◌+◌, ◌*◌, ◌≤◌, max, Bool, true, false, ◌&&◌, List, [], ◌∷◌, Option, Some, None, ◌++◌, append_assoc, refl, sym, ap, ◌∙◌, subst, arith, ◌⊎◌, inl, inr, ⊎_elim}
 use Rattle.std.specs.Prelude.{nat_eq, nat_le, if◌then◌else◌, reverse}
 use Rattle.std.proofs.lemmas.Bool.{eq-eqb}
 use Rattle.std.proofs.lemmas.List.{reverse-reverse, reverse-append, append-nil}
@@ -15,7 +15,7 @@ use Rattle.shrink_passes.specs.Sights.{sight, sight_constants, sight_program, is
 use Rattle.shrink_passes.proofs.Putting.{level, no_deeper, as_deep, no_shallower, reaches, put_uses, put_level, unused_level}
 use Rattle.shrink_passes.proofs.Sighting.{Shows, sight_shows, looser}
 use Rattle.shrink_passes.proofs.Standing.{total_standing, greatest_standing, total_more, greatest_within, greatest_over, greatest_le, greatest_same, greatest_reaches}
-use Rattle.shrink_passes.proofs.Forming.{Fresh, body_form, name_fresh, body_unused, done_unused, Later, later, step_form}
+use Rattle.shrink_passes.proofs.Forming.{body_unused, done_unused, Later, later, step_form}
 
 -- the greatest number of nodes above a use of constant k in a program
 abbrev pub level_program : ℕ → BoxProgram → ℕ
@@ -102,13 +102,26 @@ module _ (Fs : List BoxFamily) (done : List BoxConstant) (f : BoxTerm → BoxTer
 
     pub other_uses : uses_program j next ≡ uses_program j now
     other_uses =
-        omega (arith, none, total_standing (uses j) f rest (changed f d ∷ done), total_standing (uses j) (with_body f d) rest done,
-        total_more (λ t. uses j (put_in k b (f t))) (λ t. uses k (f t)) (λ t. uses j (f t)) 0 (λ t. omega (arith, no_product (uses k (f t)), put_uses k b j apart (f t))) rest, put_uses k b j apart (f main), no_product (uses k (f main)))
+        omega (
+          arith,
+          none,
+          total_standing (uses j) f rest (changed f d ∷ done),
+          total_standing (uses j) (with_body f d) rest done,
+          total_more (λ t. uses j (put_in k b (f t))) (λ t. uses k (f t)) (λ t. uses j (f t)) 0 (λ t. omega (arith, no_product (uses k (f t)), put_uses k b j apart (f t))) rest,
+          put_uses k b j apart (f main),
+          no_product (uses k (f main)),
+        )
 
     pub other_level : level_program j next ≡ level_program j now
     other_level =
-        omega (arith, unused_level j 0 b none, greatest_standing (level j 0) f rest (changed f d ∷ done), greatest_standing (level j 0) (with_body f d) rest done,
-        greatest_same (λ t. level j 0 (put_in k b (f t))) (λ t. level j 0 (f t)) (λ t. put_level k b j apart none 0 (f t)) rest, put_level k b j apart none 0 (f main))
+        omega (
+          arith,
+          unused_level j 0 b none,
+          greatest_standing (level j 0) f rest (changed f d ∷ done),
+          greatest_standing (level j 0) (with_body f d) rest done,
+          greatest_same (λ t. level j 0 (put_in k b (f t))) (λ t. level j 0 (f t)) (λ t. put_level k b j apart none 0 (f t)) rest,
+          put_level k b j apart none 0 (f main),
+        )
 
   -- the decision
   module _ (s : Option Sight) (shows : Shows s (uses_program k now) (level_program k now)) where
@@ -151,7 +164,7 @@ shown_next : (S : ℕ → Option Sight) (Fs : List BoxFamily) (done : List BoxCo
 shown_next S Fs done f d rest main ok [] l h = tt
 shown_next S Fs done f d rest main ok (e ∷ es) l h = (
   subst (λ u. Shows (S e.name.0) u (level_program e.name.0 (stands Fs done (with_body f d) rest main))) (sym (other_uses Fs done f d rest main ok e.name.0 l.0 l.1))
-  (subst (λ n. Shows (S e.name.0) (uses_program e.name.0 (stands Fs done f (d ∷ rest) main)) n) (sym (other_level Fs done f d rest main ok e.name.0 l.0 l.1)) h.0),
+      (subst (λ n. Shows (S e.name.0) (uses_program e.name.0 (stands Fs done f (d ∷ rest) main)) n) (sym (other_level Fs done f d rest main ok e.name.0 l.0 l.1)) h.0),
   shown_next S Fs done f d rest main ok es l.2 h.1,
 )
 

@@ -1,5 +1,5 @@
 -- What a term becomes with bodies in place of constants, by its former.
-use Rattle.std.proofs.Common.{◌≡◌, ◌≤◌, ◌<◌, ◌+◌, max, ℕ, zero, suc, Bool, true, false, List, [], ◌∷◌, length, map, get_or, Option, Some, None, refl, sym, ap, ◌∙◌, subst as along, arith}
+use Rattle.std.proofs.Common.{◌≡◌, ◌≤◌, ◌<◌, ℕ, zero, suc, Bool, true, false, List, [], ◌∷◌, length, map, get_or, Option, Some, None, refl, sym, ap, ◌∙◌, subst as along, arith}
 use Rattle.std.specs.Prelude.{nat_eq, cond, if◌then◌else◌}
 use Rattle.std.proofs.lemmas.Bool.{eqb-true, eq-eqb}
 use Rattle.std.specs.Option.{unwrap_or}
@@ -12,7 +12,7 @@ use Rattle.box_terms.specs.declared.term.BoxBranch.{BoxBranch}
 use Rattle.box_terms.specs.declared.term.BoxDef.{BoxDef}
 use Rattle.box_passes.specs.Maps.{map_branch, map_def}
 use Rattle.box_passes.proofs.Maps.{rargs_map, length_map}
-use Rattle.shrink_passes.specs.Uses.{uses, uses_terms}
+use Rattle.shrink_passes.specs.Uses.{uses}
 use Rattle.shrink_passes.specs.Inline.{put_in, put_in_terms}
 use Rattle.shrink_passes.specs.Filled.{filled, filled_terms}
 use Rattle.shrink_passes.proofs.Putting.{unused}

@@ -1,15 +1,15 @@
 -- Evaluation with environments follows a step of inlining: a closed body gives the same in its use's environment as in the empty one.
-use Rattle.std.proofs.Common.{◌≡◌, ℕ, zero, suc, ◌+◌, ◌<◌, ◌≤◌, max, Bool, true, false, ◌&&◌, ◌||◌, List, [], ◌∷◌, ◌++◌, length, Some, Option, refl, sym, ap, ◌∙◌, subst, arith, ◌⊎◌, inl, inr, ⊎_elim}
-use Rattle.std.specs.Prelude.{nat_eq, if◌then◌else◌, slice_get}
+use Rattle.std.proofs.Common.{◌≡◌, ℕ, zero, suc, ◌+◌, ◌<◌, ◌≤◌, Bool, true, false, ◌&&◌, ◌||◌, List, [], ◌∷◌, ◌++◌, length, Some, refl, sym, ap, ◌∙◌, subst, arith, ◌⊎◌, ⊎_elim}
+use Rattle.std.specs.Prelude.{nat_eq, if◌then◌else◌}
 use Rattle.std.proofs.lemmas.Bool.{eq-eqb}
-use Rattle.trees.specs.Tree.{Slot, Tree, Rel, Node, Places, End, Child, Group, Done, Next, term_at}
+use Rattle.trees.specs.Tree.{Slot, Rel, Node, Places, End, Child, Group, Done, Next, term_at}
 use Rattle.trees.specs.Closed.{Closed, ClosedChildren, ClosedTerms}
 use Rattle.trees.proofs.Bounds.{closed_at}
 use Rattle.pc_terms.specs.declared.leaf.Name.{Name}
 use Rattle.pc_terms.specs.declared.leaf.FamilyId.{FamilyId}
 use Rattle.pc_terms.specs.BoxSyntax.{BoxLabel, box_slots, BoxTerm, BoxTerms, Box, BLambda, BLetIn, BApp, BConst, BConstruct, BCase, BFix}
-use Rattle.lambda_box.specs.BoxProgram.{BoxConstant, BoxFamily, BoxProgram, Has, KeepsBoxConstant, KeepsBoxFamily, box_apply}
-use Rattle.lambda_box.specs.ClosureEvaluation.{names, names_places, names_terms, Value, VBox, VConstruct, VClosure, VFix, Values, NoValue, Then, Env, Empty, Bind, BindFix, size, bind_all, box_values, Held, Holds, Defines, Finds, found, later, found_fix, past_fix, one_if, any_below, words, closure_words, fix_words, Counts, nothing, contraction, entered_match, block, constructor_block, ◌⊕◌, Run, run_box, run_value, run_definition, run_lambda, run_fix, run_constant, run_let, run_app, run_box_app, run_fix_app, run_fix_box, run_construct, run_match, run_only, RunArgs, run_head, run_arg, ValueReads, value_reads, ValuesRead, no_values, and_then}
+use Rattle.lambda_box.specs.BoxProgram.{BoxFamily, BoxProgram, Has, KeepsBoxConstant, KeepsBoxFamily, box_apply}
+use Rattle.lambda_box.specs.ClosureEvaluation.{names, names_places, names_terms, Value, VBox, VConstruct, VClosure, VFix, Values, NoValue, Then, Env, Empty, Bind, BindFix, size, bind_all, box_values, Held, Holds, Defines, Finds, found, later, found_fix, past_fix, one_if, any_below, words, Counts, nothing, contraction, entered_match, block, ◌⊕◌, Run, run_box, run_value, run_definition, run_lambda, run_fix, run_constant, run_let, run_app, run_box_app, run_fix_app, run_fix_box, run_construct, run_match, run_only, RunArgs, run_head, run_arg, ValueReads, value_reads, ValuesRead, no_values, and_then}
 use Rattle.lambda_box.specs.BoxData.{Data}
 use Rattle.lambda_box.specs.DataTerms.{ValuesHold, hold_none, hold_last}
 use Rattle.box_passes.specs.Saturate.{innermost}
@@ -279,11 +279,11 @@ module _ (k : ℕ) (b : BoxTerm) (closed : Closed 0 b) (none : uses k b ≡ 0) w
           let known = bodies name t kept in
           ⊎_elim
           (λ p. let x = follows r (like_empty {e' = e'}) known.0 in
-              let here : put_in k b (BConst name) ≡ put_in k b t = ap (λ z. if z then b else BConst name) (eq-eqb name.0 k p.0) ∙ sym (ap (put_in k b) p.1 ∙ unused k b b none) in
-              record { w = x.w; counts = x.counts; run = subst (λ u. Run Q e' u x.w x.counts) (sym here) x.run; like = x.like; no_more = no_more_after x.no_more })
+          let here : put_in k b (BConst name) ≡ put_in k b t = ap (λ z. if z then b else BConst name) (eq-eqb name.0 k p.0) ∙ sym (ap (put_in k b) p.1 ∙ unused k b b none) in
+          record { w = x.w; counts = x.counts; run = subst (λ u. Run Q e' u x.w x.counts) (sym here) x.run; like = x.like; no_more = no_more_after x.no_more })
           (λ p. let x = follows r (like_empty {e' = Empty}) known.0 in
-              let here : put_in k b (BConst name) ≡ BConst name = ap (λ z. if z then b else BConst name) (differs name.0 p.0) in
-              record { w = x.w; counts = contraction ⊕ x.counts; run = subst (λ u. Run Q e' u x.w (contraction ⊕ x.counts)) (sym here) (run_constant p.1 x.run); like = x.like; no_more = no_more_sum (no_more_self contraction) x.no_more })
+          let here : put_in k b (BConst name) ≡ BConst name = ap (λ z. if z then b else BConst name) (differs name.0 p.0) in
+          record { w = x.w; counts = contraction ⊕ x.counts; run = subst (λ u. Run Q e' u x.w (contraction ⊕ x.counts)) (sym here) (run_constant p.1 x.run); like = x.like; no_more = no_more_sum (no_more_self contraction) x.no_more })
           known.1
         where
           differs : (x : ℕ) → (x ≡ k → ⊥) → nat_eq x k ≡ false

@@ -2,13 +2,13 @@
 use Rattle.std.proofs.Common.{◌≡◌, ◌≢◌, ℕ, zero, suc, ◌+◌, ◌<◌, ◌≤◌, Bool, true, false, List, [], ◌∷◌, length, get_or, AllPairs, refl, sym, ap, ◌∙◌, subst, arith, ◌⊎◌, inl, inr, ⊎_elim}
 use Rattle.std.specs.Prelude.{nat_eq, if◌then◌else◌}
 use Rattle.std.proofs.lemmas.Bool.{eqb-true, eq-eqb}
-use Rattle.trees.specs.Tree.{Slot, Tree, Rel, Node, Done, Next}
+use Rattle.trees.specs.Tree.{Rel, Done, Next}
 use Rattle.trees.specs.Closed.{Closed, ClosedTerms, EveryTerm}
 use Rattle.trees.specs.Shape.{binders_of}
 use Rattle.trees.proofs.Closed.{loose-closed, loose-least}
 use Rattle.pc_terms.specs.declared.leaf.Name.{Name}
-use Rattle.pc_terms.specs.BoxSyntax.{BoxLabel, BoxOf, BLambdaOf, BLetInOf, BAppOf, BConstOf, BConstructOf, BCaseOf, BFixOf, BoxTerm, BoxTerms, Box, BLambda, BLetIn, BApp, BConst, BConstruct, BCase, BFix}
-use Rattle.lambda_box.specs.BoxProgram.{BoxConstant, BoxFamily, BoxProgram, Has, here, there, NamesKept, Named}
+use Rattle.pc_terms.specs.BoxSyntax.{BConstOf, BoxTerm, BoxTerms, Box, BLambda, BLetIn, BApp, BConst, BConstruct, BCase, BFix}
+use Rattle.lambda_box.specs.BoxProgram.{BoxConstant, BoxFamily, Has, here, there, NamesKept, Named}
 use Rattle.lambda_box.specs.BoxForm.{IsFixBody, boxed, last, more, AreFixBodies, HasBoxForm, HasBoxFormTerms, IsBoxBody, AreOrdered, IsBoxProgram}
 use Rattle.lambda_box.proofs.Naming.{named_more}
 use Rattle.shrink_passes.specs.Uses.{uses, uses_terms, total}

@@ -1,26 +1,22 @@
 -- The laws of inlining.
-use Rattle.std.proofs.Common.{◌≡◌, ℕ, zero, suc, ◌+◌, ◌*◌, ◌<◌, ◌≤◌, max, Bool, true, false, ◌&&◌, List, [], ◌∷◌, length, Some, refl, sym, ap, ◌∙◌, subst, arith, ◌⊎◌, inl, inr, ⊎_elim}
-use Rattle.std.specs.Prelude.{nat_eq, nat_le, if◌then◌else◌, reverse, slice_get}
+use Rattle.std.proofs.Common.{◌≡◌, ℕ, zero, suc, ◌+◌, ◌*◌, ◌≤◌, Bool, true, false, ◌&&◌, List, [], ◌∷◌, refl, sym, ap, ◌∙◌, subst, arith, ◌⊎◌, inl, inr, ⊎_elim}
+use Rattle.std.specs.Prelude.{nat_eq, nat_le, if◌then◌else◌, reverse}
 use Rattle.trees.specs.Tree.{Rel, Done, Next}
 use Rattle.std.proofs.lemmas.Bool.{eqb-true, eq-eqb}
 use Rattle.trees.specs.Closed.{Closed}
-use Rattle.trees.specs.Measures.{nodes, depth}
+use Rattle.trees.specs.Measures.{nodes}
 use Rattle.pc_terms.specs.declared.leaf.Name.{Name}
 use Rattle.pc_terms.specs.declared.leaf.FamilyId.{FamilyId}
 use Rattle.pc_terms.specs.BoxSyntax.{BoxTerm, BoxTerms, Box, BLambda, BLetIn, BApp, BConst, BConstruct, BCase, BFix}
-use Rattle.lambda_box.specs.BoxProgram.{BoxConstant, BoxFamily, BoxProgram, Has, here, there, KeepsBoxConstant, box_apply}
+use Rattle.lambda_box.specs.BoxProgram.{BoxConstant, BoxFamily, BoxProgram, Has, here, there, KeepsBoxConstant}
 use Rattle.lambda_box.specs.BoxForm.{IsBoxProgram}
-use Rattle.lambda_box.specs.BoxData.{Data}
-use Rattle.lambda_box.specs.ClosureEvaluation.{Value, Values, Empty, bind_all, Counts, Run, ValueReads}
-use Rattle.lambda_box.specs.DataTerms.{ValuesHold}
 use Rattle.lambda_box.specs.SaturatedForm.{AreEnough, IsSaturatedAt, AreSaturated, IsSaturated, program_nodes}
 use Rattle.lambda_box.specs.OrdinaryForm.{IsOrdinary, AreOrdinary, IsOrdinaryProgram}
 use Rattle.lambda_box.proofs.Naming.{ordered_body}
 use Rattle.lambda_box.proofs.Families.{one_of_name}
-use Rattle.box_passes.specs.Saturate.{innermost}
-use Rattle.shrink_passes.specs.Uses.{uses, total, greatest, uses_program, deepest}
+use Rattle.shrink_passes.specs.Uses.{uses, total, uses_program, deepest}
 use Rattle.shrink_passes.specs.Inline.{put_in, put_in_terms, changed, standing, stands, with_body, is_put_in, inline_from, inline_program}
-use Rattle.shrink_passes.specs.ShrinkLaws.{AreNoMore, RunsWithin, KeepsRuns, Inlined, InlineIsRight}
+use Rattle.shrink_passes.specs.ShrinkLaws.{KeepsRuns, InlineIsRight}
 use Rattle.shrink_passes.proofs.Putting.{put_nodes, unused}
 use Rattle.shrink_passes.proofs.Standing.{total_standing, nodes_total, total_balance}
 use Rattle.shrink_passes.proofs.Forming.{same_name, body_form, body_unused, done_unused, step_form}
@@ -139,9 +135,9 @@ module _ (Fs : List BoxFamily) (done : List BoxConstant) (f : BoxTerm → BoxTer
 
   stays : (x : BoxConstant) → Has now.constants x → (x.name.0 ≡ k → ⊥) → Has next.constants (record { name = x.name; body = put_in k b x.body })
   stays x h other = ⊎_elim
-    (λ g. split g other)
-    (λ g. subst (λ (y : BoxConstant). Has next.constants (record { name = y.name; body = put_in k b y.body })) (sym g.2) (to_rest (with_body f d) rest done g.1))
-    (of_standing f rest (changed f d ∷ done) h)
+      (λ g. split g other)
+      (λ g. subst (λ (y : BoxConstant). Has next.constants (record { name = y.name; body = put_in k b y.body })) (sym g.2) (to_rest (with_body f d) rest done g.1))
+      (of_standing f rest (changed f d ∷ done) h)
     where
       split : {y : BoxConstant} → Has (changed f d ∷ done) y → (y.name.0 ≡ k → ⊥) → Has next.constants (record { name = y.name; body = put_in k b y.body })
       split here other = absurd (other refl)
@@ -173,15 +169,24 @@ module _ (Fs : List BoxFamily) (done : List BoxConstant) (f : BoxTerm → BoxTer
   step_nodes : uses_program k now ≡ 1 → program_nodes next ≤ program_nodes now
   step_nodes one =
       let here : total (λ t. uses k (f t)) rest + uses k (f main) ≡ 1 = omega (arith, one, total_standing (uses k) f rest (changed f d ∷ done), body_unused Fs done f d rest main ok, done_unused Fs done f d rest main ok) in
-      omega (arith, here, nodes_total now.constants, nodes_total next.constants, total_standing nodes f rest (changed f d ∷ done), total_standing nodes (with_body f d) rest done,
-      total_balance (λ t. nodes (put_in k b (f t))) (λ t. uses k (f t)) (λ t. nodes (f t)) (nodes b) (λ t. put_nodes k b (f t)) rest, put_nodes k b (f main), one_times (total (λ t. uses k (f t)) rest) (uses k (f main)) (nodes b) here)
+      omega (
+        arith,
+        here,
+        nodes_total now.constants,
+        nodes_total next.constants,
+        total_standing nodes f rest (changed f d ∷ done),
+        total_standing nodes (with_body f d) rest done,
+        total_balance (λ t. nodes (put_in k b (f t))) (λ t. uses k (f t)) (λ t. nodes (f t)) (nodes b) (λ t. put_nodes k b (f t)) rest,
+        put_nodes k b (f main),
+        one_times (total (λ t. uses k (f t)) rest) (uses k (f main)) (nodes b) here,
+      )
 
   -- what each body of the next program has, where each body of this one has it, and putting in keeps it
   each_body : (Q : BoxTerm → Type 0) → ((t : BoxTerm) → Q b → Q t → Q (put_in k b t)) → ((x : BoxConstant) → Has now.constants x → Q x.body) → (x : BoxConstant) → Has next.constants x → Q x.body
   each_body Q put all x h = ⊎_elim
-    (λ g. all x (to_done f rest (changed f d ∷ done) (there g)))
-    (λ g. subst (λ (y : BoxConstant). Q y.body) (sym g.2) (put (f g.0.body) (all (changed f d) itself) (all (changed f g.0) (to_rest f (d ∷ rest) done (there g.1)))))
-    (of_standing (with_body f d) rest done h)
+      (λ g. all x (to_done f rest (changed f d ∷ done) (there g)))
+      (λ g. subst (λ (y : BoxConstant). Q y.body) (sym g.2) (put (f g.0.body) (all (changed f d) itself) (all (changed f g.0) (to_rest f (d ∷ rest) done (there g.1)))))
+      (of_standing (with_body f d) rest done h)
 
   step_saturated : IsSaturated now → IsSaturated next
   step_saturated h = record {
@@ -241,21 +246,21 @@ module _ (Fs : List BoxFamily) where
   all_steps : (done : List BoxConstant) (f : BoxTerm → BoxTerm) (rest : List BoxConstant) (main : BoxTerm) → IsBoxProgram (stands Fs done f rest main) → Steps (stands Fs done f rest main) (inline_from Fs done f rest main)
   all_steps done f [] main ok = no_step (stands Fs done f [] main) ok
   all_steps done f (d ∷ rest) main ok = choose (is_put_in Fs done f d rest main)
-    (λ e.
-        let now = stands Fs done f (d ∷ rest) main in
-        let next = stands Fs done (with_body f d) rest main in
-        let both = both_are (nat_eq (uses_program d.name.0 now) 1) (nat_le (deepest next) (deepest now)) e in
-        more_steps
-        (record {
-          form = step_form Fs done f d rest main ok;
-          saturated = step_saturated Fs done f d rest main ok;
-          ordinary = step_ordinary Fs done f d rest main ok;
-          runs = step_runs Fs done f d rest main ok;
-          nodes = step_nodes Fs done f d rest main ok (eqb-true (uses_program d.name.0 now) 1 both.0);
-          no_deeper = true_le (deepest next) (deepest now) both.1;
-        })
-        (all_steps done (with_body f d) rest main (step_form Fs done f d rest main ok)))
-    (λ e. all_steps (changed f d ∷ done) f rest main ok)
+      (λ e.
+      let now = stands Fs done f (d ∷ rest) main in
+      let next = stands Fs done (with_body f d) rest main in
+      let both = both_are (nat_eq (uses_program d.name.0 now) 1) (nat_le (deepest next) (deepest now)) e in
+      more_steps
+      (record {
+        form = step_form Fs done f d rest main ok;
+        saturated = step_saturated Fs done f d rest main ok;
+        ordinary = step_ordinary Fs done f d rest main ok;
+        runs = step_runs Fs done f d rest main ok;
+        nodes = step_nodes Fs done f d rest main ok (eqb-true (uses_program d.name.0 now) 1 both.0);
+        no_deeper = true_le (deepest next) (deepest now) both.1;
+      })
+      (all_steps done (with_body f d) rest main (step_form Fs done f d rest main ok)))
+      (λ e. all_steps (changed f d ∷ done) f rest main ok)
 
 pub inline_is_right : InlineIsRight
 inline_is_right P ok =

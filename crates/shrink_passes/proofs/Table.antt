@@ -8,10 +8,12 @@ use Rattle.pc_terms.specs.BoxSyntax.{BoxTerm}
 use Rattle.lambda_box.specs.BoxProgram.{BoxConstant, BoxFamily, BoxProgram}
 use Rattle.lambda_box.specs.BoxForm.{IsBoxProgram}
 use Rattle.shrink_passes.specs.declared.counting.Sight.{Sight}
-use Rattle.shrink_passes.specs.Uses.{uses, deepest}
-use Rattle.shrink_passes.specs.Inline.{changed, stands, with_body, inline_program}
+use Rattle.shrink_passes.specs.Uses.{deepest}
+use Rattle.shrink_passes.specs.Inline.{changed, inline_program}
 use Rattle.shrink_passes.specs.Sights.{is_once, sight_program}
 use Rattle.shrink_passes.specs.Filled.{filled}
+use Rattle.shrink_passes.specs.ShrinkLaws.{Inlined}
+use Rattle.shrink_passes.proofs.InlineSteps.{inline_is_right}
 use Rattle.shrink_passes.proofs.Forming.{Later, later}
 use Rattle.shrink_passes.proofs.Fillings.{filled_more, filled_same, filled_nothing, NoBodyUses}
 use Rattle.shrink_passes.proofs.Deciding.{Going, go_put, go_on, start_going, body_shallow, main_shallow}
@@ -99,3 +101,8 @@ loop_step P S g m n done next d rest h false choice body is f k =
     let r = k refl in
     let q : changed (filled m) d ∷ done ≡ next = ap (λ (t : BoxTerm). record { name = d.name; body = t } ∷ done) (sym is) ∙ sym r.1 in
     subst (λ (ds : List BoxConstant). Looped P S g n ds rest) q (loop_on P S g m done d rest h n r.0 (sym choice))
+
+-- after the last step
+pub loop_inlined : (P : BoxProgram) → IsBoxProgram P → (S : ℕ → Option Sight) (g : ℕ) (m : ℕ → Option BoxTerm) (done rest : List BoxConstant) (Fs : List BoxFamily) (main : BoxTerm) → Looped P S g m done rest → rest ≡ [] → Fs ≡ P.families →
+    main ≡ filled m P.main → Inlined P (record { constants = done; families = Fs; main = main })
+loop_inlined P ok S g m done rest Fs main h e f q = subst (λ (Q : BoxProgram). Inlined P Q) (loop_ends P S g m done rest Fs main h e f q) (inline_is_right P ok)

@@ -1,7 +1,7 @@
 -- Constants with one use, put in place of it. The constants are gone through from the earliest to the latest, once. Where a constant has exactly one use
 -- in the program as it then stands, its body is put in place of that use and the constant is dropped, unless the greatest depth among the constants'
 -- bodies and main would then be greater than before. Nothing else changes: a constant without a use stays.
-use Rattle.std.specs.Prelude.{ℕ, nat_eq, nat_le, Bool, true, false, ◌&&◌, if◌then◌else◌, List, [], ◌∷◌, reverse}
+use Rattle.std.specs.Prelude.{ℕ, nat_eq, nat_le, Bool, ◌&&◌, if◌then◌else◌, List, [], ◌∷◌, reverse}
 use Rattle.trees.specs.Tree.{Rel, Done, Next}
 use Rattle.pc_terms.specs.BoxSyntax.{BoxTerm, BoxTerms, Box, BLambda, BLetIn, BApp, BConst, BConstruct, BCase, BFix}
 use Rattle.lambda_box.specs.BoxProgram.{BoxConstant, BoxFamily, BoxProgram}

@@ -70,7 +70,11 @@ fn count(sights: &mut HashMap<u32, Sight>, t: &BoxTerm, n: u32) -> Result<(), Pa
 /// Notes the uses in branches that stand under `n` nodes. Only `Memory`.
 #[cycle(count)]
 #[tactic(auto, using(std::proofs::lemmas::Grind::common_steps))]
-fn count_branches(sights: &mut HashMap<u32, Sight>, bs: &BoxBranches, n: u32) -> Result<(), PassFault>
+fn count_branches(
+    sights: &mut HashMap<u32, Sight>,
+    bs: &BoxBranches,
+    n: u32,
+) -> Result<(), PassFault>
     requires room { n + depth_trees (arms_of bs.now) ≤ 2049 }
     ensures counted { OnOk result ((k : ℕ) → get nat_eq sights.new k ≡ sight_terms k n (arms_of bs.now) (get nat_eq sights.old k)) }
     ensures only_memory { IfErr result (λ e. e ≡ Memory) }

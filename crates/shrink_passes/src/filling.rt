@@ -18,7 +18,11 @@ use std::alloc::Global;
 use std::collections::HashMap;
 
 /// The body that stands for a constant, or the constant itself. Only `Memory`.
-fn of_constant(bodies: &HashMap<u32, BoxTerm>, t: &BoxTerm, name: Name) -> Result<BoxTerm, PassFault>
+fn of_constant(
+    bodies: &HashMap<u32, BoxTerm>,
+    t: &BoxTerm,
+    name: Name,
+) -> Result<BoxTerm, PassFault>
     requires is { t.now ≡ BConst name }
     ensures ok { IfOk result (λ u. u ≡ filled (get nat_eq bodies.now) t.now) }
     ensures only_memory { IfErr result (λ e. e ≡ Memory) }
@@ -51,7 +55,11 @@ fn made(
 /// The term with the bodies in place of the uses, where it is no deeper than terms are. It calls itself for subterms alone. Only `Memory`.
 #[cycle(fill)]
 #[tactic(auto, using(std::proofs::lemmas::Grind::common_steps))]
-pub(crate) fn fill(alloc: Global, bodies: &HashMap<u32, BoxTerm>, t: &BoxTerm) -> Result<BoxTerm, PassFault>
+pub(crate) fn fill(
+    alloc: Global,
+    bodies: &HashMap<u32, BoxTerm>,
+    t: &BoxTerm,
+) -> Result<BoxTerm, PassFault>
     requires shallow { depth (filled (get nat_eq bodies.now) t.now) ≤ 2048 }
     ensures ok { IfOk result (λ u. u ≡ filled (get nat_eq bodies.now) t.now) }
     ensures only_memory { IfErr result (λ e. e ≡ Memory) }
@@ -105,7 +113,11 @@ pub(crate) fn fill(alloc: Global, bodies: &HashMap<u32, BoxTerm>, t: &BoxTerm) -
 /// The branches with the bodies in place of the uses. Only `Memory`.
 #[cycle(fill)]
 #[tactic(auto, using(std::proofs::lemmas::Grind::common_steps))]
-fn fill_branches(alloc: Global, bodies: &HashMap<u32, BoxTerm>, bs: &BoxBranches) -> Result<BoxBranches, PassFault>
+fn fill_branches(
+    alloc: Global,
+    bodies: &HashMap<u32, BoxTerm>,
+    bs: &BoxBranches,
+) -> Result<BoxBranches, PassFault>
     requires shallow { depth_trees (filled_terms (get nat_eq bodies.now) (arms_of bs.now)) ≤ 2048 }
     ensures ok { IfOk result (λ xs. xs ≡ map (map_branch (filled (get nat_eq bodies.now))) bs.now) }
     ensures only_memory { IfErr result (λ e. e ≡ Memory) }
@@ -126,7 +138,11 @@ fn fill_branches(alloc: Global, bodies: &HashMap<u32, BoxTerm>, bs: &BoxBranches
 /// The definitions with the bodies in place of the uses. Only `Memory`.
 #[cycle(fill)]
 #[tactic(auto, using(std::proofs::lemmas::Grind::common_steps))]
-fn fill_defs(alloc: Global, bodies: &HashMap<u32, BoxTerm>, ds: &BoxDefs) -> Result<BoxDefs, PassFault>
+fn fill_defs(
+    alloc: Global,
+    bodies: &HashMap<u32, BoxTerm>,
+    ds: &BoxDefs,
+) -> Result<BoxDefs, PassFault>
     requires shallow { depth_trees (filled_terms (get nat_eq bodies.now) (bodies_of (length ds.now) ds.now)) ≤ 2048 }
     ensures ok { IfOk result (λ xs. xs ≡ map (map_def (filled (get nat_eq bodies.now))) ds.now) }
     ensures only_memory { IfErr result (λ e. e ≡ Memory) }

@@ -2,10 +2,13 @@
 ghost use Rattle.std.specs.Prelude.{◌≡◌, ◌≤◌, ℕ, true, false, cond, IfOk, IfErr, OnOk, nat_eq, ◌∷◌, Some};
 ghost use Rattle.std.specs.HashMap.{get};
 ghost use Rattle.lambda_box.specs.BoxForm.{IsBoxProgram};
+ghost use Rattle.lambda_box.specs.OrdinaryForm.{IsOrdinaryProgram};
+ghost use Rattle.lambda_box.specs.SaturatedForm.{IsSaturated, program_nodes};
 ghost use Rattle.lambda_box.specs.declared.fault.PassFault.TheVariants.{Memory};
 ghost use Rattle.shrink_passes.specs.Uses.{deepest};
 ghost use Rattle.shrink_passes.specs.Sights.{is_once};
-ghost use Rattle.shrink_passes.specs.ShrinkLaws.{Inlined};
+ghost use Rattle.shrink_passes.specs.Inline.{inline_program};
+ghost use Rattle.shrink_passes.specs.ShrinkLaws.{KeepsRuns};
 
 use crate::counting::{Sight, sights_of};
 use crate::filling::fill;
@@ -67,9 +70,19 @@ fn keep(
 /// The program in which a constant with one use stands in its place: the constants are gone through from the earliest to the latest, once, and where one has
 /// exactly one use in the program as it then stands, its body is put in place of that use and the constant is dropped, unless the greatest depth among the
 /// constants' bodies and main would then be greater than before. Nothing else changes, and subterms in which nothing changes stay shared.
+///
+/// The answer is the program of `specs/Inline.antt` (`is`). It has the form of programs, and is saturated and ordinary where `p` is. Where main, applied to any
+/// values that are data, gives data by evaluation with environments, the answer's main, applied to the same values, gives the same data, with as many matches, no
+/// more contractions, no more blocks and none wider (`data_kept`). It has no more nodes, and is no deeper. Only `Memory`.
 pub fn inline(alloc: Global, p: &BoxProgram) -> Result<BoxProgram, PassFault>
     requires form { IsBoxProgram p.now }
-    ensures is { IfOk result (Inlined p.now) }
+    ensures is { IfOk result (λ q. q ≡ inline_program p.now) }
+    ensures form { IfOk result IsBoxProgram }
+    ensures saturated { IfOk result (λ q. IsSaturated p.now → IsSaturated q) }
+    ensures ordinary { IfOk result (λ q. IsOrdinaryProgram p.now → IsOrdinaryProgram q) }
+    ensures data_kept { IfOk result (KeepsRuns p.now) }
+    ensures nodes_kept { IfOk result (λ q. program_nodes q ≤ program_nodes p.now) }
+    ensures no_deeper { IfOk result (λ q. deepest q ≤ deepest p.now) }
     ensures only_memory { IfErr result (λ e. e ≡ Memory) }
 {
     let sights = sights_of(alloc, p)?;

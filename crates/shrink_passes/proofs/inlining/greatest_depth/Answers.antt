@@ -1,4 +1,4 @@
-use Rattle.std.proofs.Common.{◌≡◌, ◌≤◌, length, drop, ap, ◌∙◌, sym, arith}
+use Rattle.std.proofs.Common.{◌≤◌, length, ap, ◌∙◌, sym, arith}
 use Rattle.std.proofs.Math.ListN.{drop_of_length-le}
 use Rattle.trees.specs.Measures.{depth}
 use Rattle.shrink_passes.specs.Uses.{greatest}

@@ -1,16 +1,12 @@
-use Rattle.std.proofs.Common.{◌≡◌, ℕ, ◌+◌, ◌<◌, ◌≤◌, Bool, true, false, cond, List, [], ◌∷◌, length, drop, nat_eq, Some, refl, sym, ap, ◌∙◌, subst, arith}
+use Rattle.std.proofs.Common.{◌≡◌, ℕ, ◌+◌, ◌<◌, ◌≤◌, List, ◌∷◌, length, drop, nat_eq, sym, ap, ◌∙◌, subst, arith}
 use Rattle.std.proofs.Math.ListN.{drop_of_length-le}
 use Rattle.std.specs.HashMap.{get}
 use Rattle.std.specs.Map.{lookup}
 use Rattle.trees.specs.Measures.{depth}
-use Rattle.pc_terms.specs.BoxSyntax.{BoxTerm}
 use Rattle.lambda_box.specs.BoxProgram.{BoxConstant, BoxProgram}
-use Rattle.shrink_passes.specs.Inline.{changed, inline_program}
 use Rattle.shrink_passes.specs.Sights.{is_once}
 use Rattle.shrink_passes.specs.Filled.{filled}
-use Rattle.shrink_passes.specs.ShrinkLaws.{Inlined}
-use Rattle.shrink_passes.proofs.InlineSteps.{inline_is_right}
-use Rattle.shrink_passes.proofs.Table.{Looped, loop_step, fill_shallow, loop_starts, loop_ends, in_order, next_item}
+use Rattle.shrink_passes.proofs.Table.{Looped, loop_step, fill_shallow, loop_starts, loop_inlined, in_order, next_item}
 use Rattle.shrink_passes.proofs.inlining.inline.Goals as goal
 
 pub loop-d-init : goal.loop-d-init
@@ -58,9 +54,35 @@ loop-d-preserved c =
 
 pub returns-clause-is : goal.returns-clause-is
 returns-clause-is c =
-    let P = c.args.p.now in
-    let S = get nat_eq c.in_ok-sights.sights in
-    let items = c.as_slice-d-items.result.now in
-    let out : length items ≤ c.loop-d.d-index = c.loop-d-test.false in
-    let is = loop_ends P S c.greatest_depth-greatest.result (get nat_eq c.loop-d.bodies) c.loop-d.constants (drop c.loop-d.d-index items) c.in-Ok.families c.in_ok-main.main c.loop-d.invariant (drop_of_length-le items out) c.in-Ok.ensures.ok c.in_ok-main.ensures.ok in
-    subst (λ (Q : BoxProgram). Inlined P Q) is (inline_is_right P c.requires.form)
+    (loop_inlined c.args.p.now c.requires.form (get nat_eq c.in_ok-sights.sights) c.greatest_depth-greatest.result (get nat_eq c.loop-d.bodies) c.loop-d.constants (drop c.loop-d.d-index c.as_slice-d-items.result.now) c.in-Ok.families c.in_ok-main.main
+    c.loop-d.invariant (drop_of_length-le c.as_slice-d-items.result.now c.loop-d-test.false) c.in-Ok.ensures.ok c.in_ok-main.ensures.ok).is
+
+pub returns-clause-form : goal.returns-clause-form
+returns-clause-form c =
+    (loop_inlined c.args.p.now c.requires.form (get nat_eq c.in_ok-sights.sights) c.greatest_depth-greatest.result (get nat_eq c.loop-d.bodies) c.loop-d.constants (drop c.loop-d.d-index c.as_slice-d-items.result.now) c.in-Ok.families c.in_ok-main.main
+    c.loop-d.invariant (drop_of_length-le c.as_slice-d-items.result.now c.loop-d-test.false) c.in-Ok.ensures.ok c.in_ok-main.ensures.ok).form
+
+pub returns-clause-saturated : goal.returns-clause-saturated
+returns-clause-saturated c =
+    (loop_inlined c.args.p.now c.requires.form (get nat_eq c.in_ok-sights.sights) c.greatest_depth-greatest.result (get nat_eq c.loop-d.bodies) c.loop-d.constants (drop c.loop-d.d-index c.as_slice-d-items.result.now) c.in-Ok.families c.in_ok-main.main
+    c.loop-d.invariant (drop_of_length-le c.as_slice-d-items.result.now c.loop-d-test.false) c.in-Ok.ensures.ok c.in_ok-main.ensures.ok).saturated
+
+pub returns-clause-ordinary : goal.returns-clause-ordinary
+returns-clause-ordinary c =
+    (loop_inlined c.args.p.now c.requires.form (get nat_eq c.in_ok-sights.sights) c.greatest_depth-greatest.result (get nat_eq c.loop-d.bodies) c.loop-d.constants (drop c.loop-d.d-index c.as_slice-d-items.result.now) c.in-Ok.families c.in_ok-main.main
+    c.loop-d.invariant (drop_of_length-le c.as_slice-d-items.result.now c.loop-d-test.false) c.in-Ok.ensures.ok c.in_ok-main.ensures.ok).ordinary
+
+pub returns-clause-data_kept : goal.returns-clause-data_kept
+returns-clause-data_kept c =
+    (loop_inlined c.args.p.now c.requires.form (get nat_eq c.in_ok-sights.sights) c.greatest_depth-greatest.result (get nat_eq c.loop-d.bodies) c.loop-d.constants (drop c.loop-d.d-index c.as_slice-d-items.result.now) c.in-Ok.families c.in_ok-main.main
+    c.loop-d.invariant (drop_of_length-le c.as_slice-d-items.result.now c.loop-d-test.false) c.in-Ok.ensures.ok c.in_ok-main.ensures.ok).runs
+
+pub returns-clause-nodes_kept : goal.returns-clause-nodes_kept
+returns-clause-nodes_kept c =
+    (loop_inlined c.args.p.now c.requires.form (get nat_eq c.in_ok-sights.sights) c.greatest_depth-greatest.result (get nat_eq c.loop-d.bodies) c.loop-d.constants (drop c.loop-d.d-index c.as_slice-d-items.result.now) c.in-Ok.families c.in_ok-main.main
+    c.loop-d.invariant (drop_of_length-le c.as_slice-d-items.result.now c.loop-d-test.false) c.in-Ok.ensures.ok c.in_ok-main.ensures.ok).nodes
+
+pub returns-clause-no_deeper : goal.returns-clause-no_deeper
+returns-clause-no_deeper c =
+    (loop_inlined c.args.p.now c.requires.form (get nat_eq c.in_ok-sights.sights) c.greatest_depth-greatest.result (get nat_eq c.loop-d.bodies) c.loop-d.constants (drop c.loop-d.d-index c.as_slice-d-items.result.now) c.in-Ok.families c.in_ok-main.main
+    c.loop-d.invariant (drop_of_length-le c.as_slice-d-items.result.now c.loop-d-test.false) c.in-Ok.ensures.ok c.in_ok-main.ensures.ok).no_deeper
