@@ -1,9 +1,9 @@
-use Rattle.std.proofs.Common.{◌≡◌, ℕ, ◌+◌, ◌<◌, ◌≤◌, List, ◌∷◌, length, drop, nat_eq, sym, ap, ◌∙◌, subst, arith}
+use Rattle.std.proofs.Common.{◌≡◌, ℕ, ◌+◌, ◌<◌, List, ◌∷◌, length, drop, nat_eq, sym, ap, ◌∙◌, subst, arith}
 use Rattle.std.proofs.Math.ListN.{drop_of_length-le}
 use Rattle.std.specs.HashMap.{get}
 use Rattle.std.specs.Map.{lookup}
 use Rattle.trees.specs.Measures.{depth}
-use Rattle.lambda_box.specs.BoxProgram.{BoxConstant, BoxProgram}
+use Rattle.lambda_box.specs.BoxProgram.{BoxConstant}
 use Rattle.shrink_passes.specs.Sights.{is_once}
 use Rattle.shrink_passes.specs.Filled.{filled}
 use Rattle.shrink_passes.proofs.Table.{Looped, loop_step, fill_shallow, loop_starts, loop_inlined, in_order, next_item}
