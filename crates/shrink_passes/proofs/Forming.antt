@@ -208,7 +208,7 @@ module _ (f : BoxTerm → BoxTerm) where
 
 -- one step
 
-has_split : {A : Type 0} {x y : A} {xs : List A} → Has (x ∷ xs) y → (y ≡ x) ⊎ Has xs y
+pub has_split : {A : Type 0} {x y : A} {xs : List A} → Has (x ∷ xs) y → (y ≡ x) ⊎ Has xs y
 has_split here = inl refl
 has_split (there h) = inr h
 

@@ -16,7 +16,7 @@ use Rattle.lambda_box.proofs.Naming.{ordered_body}
 use Rattle.lambda_box.proofs.Families.{one_of_name}
 use Rattle.shrink_passes.specs.Uses.{uses, total, uses_program, deepest}
 use Rattle.shrink_passes.specs.Inline.{put_in, put_in_terms, changed, standing, stands, with_body, is_put_in, inline_from, inline_program}
-use Rattle.shrink_passes.specs.ShrinkLaws.{KeepsRuns, InlineIsRight}
+use Rattle.shrink_passes.specs.ShrinkLaws.{KeepsRuns, InlineIsRight, Shrinks}
 use Rattle.shrink_passes.proofs.Putting.{put_nodes, unused}
 use Rattle.shrink_passes.proofs.Standing.{total_standing, nodes_total, total_balance}
 use Rattle.shrink_passes.proofs.Forming.{same_name, body_form, body_unused, done_unused, step_form}
@@ -88,7 +88,7 @@ module _ (Fs : List BoxFamily) (k : ℕ) (b : BoxTerm) where
 -- constants of a program as it stands
 
 module _ (f : BoxTerm → BoxTerm) where
-  of_standing : (rest done : List BoxConstant) {x : BoxConstant} → Has (standing f rest done) x → Has done x ⊎ ((d : BoxConstant) × Has rest d × (x ≡ changed f d))
+  pub of_standing : (rest done : List BoxConstant) {x : BoxConstant} → Has (standing f rest done) x → Has done x ⊎ ((d : BoxConstant) × Has rest d × (x ≡ changed f d))
   of_standing [] done h = inl h
   of_standing (d ∷ rest) done h =
       ⊎_elim (λ g. first g) (λ g. inr (g.0, there g.1, g.2)) (of_standing rest (changed f d ∷ done) h)
@@ -97,11 +97,11 @@ module _ (f : BoxTerm → BoxTerm) where
       first here = inr (d, here, refl)
       first (there g) = inl g
 
-  to_done : (rest done : List BoxConstant) {x : BoxConstant} → Has done x → Has (standing f rest done) x
+  pub to_done : (rest done : List BoxConstant) {x : BoxConstant} → Has done x → Has (standing f rest done) x
   to_done [] done h = h
   to_done (d ∷ rest) done h = to_done rest (changed f d ∷ done) (there h)
 
-  to_rest : (rest done : List BoxConstant) {d : BoxConstant} → Has rest d → Has (standing f rest done) (changed f d)
+  pub to_rest : (rest done : List BoxConstant) {d : BoxConstant} → Has rest d → Has (standing f rest done) (changed f d)
   to_rest [] done h = elim h [ ]
   to_rest (d ∷ rest) done here = to_done rest (changed f d ∷ done) here
   to_rest (e ∷ rest) done (there h) = to_rest rest (changed f e ∷ done) h
@@ -203,15 +203,7 @@ module _ (Fs : List BoxFamily) (done : List BoxConstant) (f : BoxTerm → BoxTer
 
 -- all steps
 
-record Steps (P Q : BoxProgram) : Type 0 where
-  form : IsBoxProgram Q
-  saturated : IsSaturated P → IsSaturated Q
-  ordinary : IsOrdinaryProgram P → IsOrdinaryProgram Q
-  runs : KeepsRuns P Q
-  nodes : program_nodes Q ≤ program_nodes P
-  no_deeper : deepest Q ≤ deepest P
-
-no_step : (P : BoxProgram) → IsBoxProgram P → Steps P P
+pub no_step : (P : BoxProgram) → IsBoxProgram P → Shrinks P P
 no_step P ok = record {
   form = ok;
   saturated = λ h. h;
@@ -221,7 +213,7 @@ no_step P ok = record {
   no_deeper = omega arith;
 }
 
-more_steps : {P Q R : BoxProgram} → Steps P Q → Steps Q R → Steps P R
+pub more_steps : {P Q R : BoxProgram} → Shrinks P Q → Shrinks Q R → Shrinks P R
 more_steps h g = record {
   form = g.form;
   saturated = λ s. g.saturated (h.saturated s);
@@ -238,12 +230,12 @@ both_are : (x y : Bool) → (x && y) ≡ true → (x ≡ true) × (y ≡ true)
 both_are true y e = (refl, e)
 both_are false y e = absurd (cc)
 
-choose : {P A B : BoxProgram} (z : Bool) → (z ≡ true → Steps P A) → (z ≡ false → Steps P B) → Steps P (if z then A else B)
+choose : {P A B : BoxProgram} (z : Bool) → (z ≡ true → Shrinks P A) → (z ≡ false → Shrinks P B) → Shrinks P (if z then A else B)
 choose true f g = f refl
 choose false f g = g refl
 
 module _ (Fs : List BoxFamily) where
-  all_steps : (done : List BoxConstant) (f : BoxTerm → BoxTerm) (rest : List BoxConstant) (main : BoxTerm) → IsBoxProgram (stands Fs done f rest main) → Steps (stands Fs done f rest main) (inline_from Fs done f rest main)
+  all_steps : (done : List BoxConstant) (f : BoxTerm → BoxTerm) (rest : List BoxConstant) (main : BoxTerm) → IsBoxProgram (stands Fs done f rest main) → Shrinks (stands Fs done f rest main) (inline_from Fs done f rest main)
   all_steps done f [] main ok = no_step (stands Fs done f [] main) ok
   all_steps done f (d ∷ rest) main ok = choose (is_put_in Fs done f d rest main)
       (λ e.
@@ -265,5 +257,5 @@ module _ (Fs : List BoxFamily) where
 pub inline_is_right : InlineIsRight
 inline_is_right P ok =
     let start = start_program P in
-    let x = subst (λ (Q : BoxProgram). Steps Q (inline_program P)) start (all_steps P.families [] (λ t. t) (reverse P.constants) P.main (subst IsBoxProgram (sym start) ok)) in
+    let x = subst (λ (Q : BoxProgram). Shrinks Q (inline_program P)) start (all_steps P.families [] (λ t. t) (reverse P.constants) P.main (subst IsBoxProgram (sym start) ok)) in
     record { is = refl; form = x.form; saturated = x.saturated; ordinary = x.ordinary; runs = x.runs; nodes = x.nodes; no_deeper = x.no_deeper }

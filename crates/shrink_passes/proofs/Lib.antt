@@ -7,3 +7,8 @@ pub mod Following
 pub mod InlineSteps
 pub mod Fillings
 pub mod Table
+pub mod Cutting
+pub mod Thinning
+pub mod ThinForms
+pub mod DropFollowing
+pub mod DropSteps

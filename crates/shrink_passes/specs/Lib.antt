@@ -2,4 +2,5 @@ pub mod Uses
 pub mod Inline
 pub mod Sights
 pub mod Filled
+pub mod DropParams
 pub mod ShrinkLaws

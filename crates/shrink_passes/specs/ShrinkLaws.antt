@@ -11,6 +11,7 @@ use Rattle.lambda_box.specs.SaturatedForm.{IsSaturated, program_nodes}
 use Rattle.box_passes.specs.Saturate.{innermost}
 use Rattle.shrink_passes.specs.Uses.{deepest}
 use Rattle.shrink_passes.specs.Inline.{inline_program}
+use Rattle.shrink_passes.specs.DropParams.{drop_program}
 
 -- no more than these: as many matches, and no more contractions, no more blocks, and none wider
 pub record AreNoMore (c d : Counts) : Type 0 where
@@ -45,3 +46,15 @@ pub record Inlined (P Q : BoxProgram) : Type 0 where
 
 abbrev pub InlineIsRight : Type 0
 InlineIsRight = (P : BoxProgram) → IsBoxProgram P → Inlined P (inline_program P)
+
+-- a program that is no larger and does no more: it has the form of programs, stays saturated and ordinary, gives the same data, and is neither larger nor deeper
+pub record Shrinks (P Q : BoxProgram) : Type 0 where
+  pub form : IsBoxProgram Q
+  pub saturated : IsSaturated P → IsSaturated Q
+  pub ordinary : IsOrdinaryProgram P → IsOrdinaryProgram Q
+  pub runs : KeepsRuns P Q
+  pub nodes : program_nodes Q ≤ program_nodes P
+  pub no_deeper : deepest Q ≤ deepest P
+
+abbrev pub DropIsRight : Type 0
+DropIsRight = (P : BoxProgram) → IsBoxProgram P → Shrinks P (drop_program P)
