@@ -1,5 +1,5 @@
 -- An argument cut from the uses of a constant: nodes, depth and form.
-use Rattle.std.proofs.Common.{◌≡◌, ℕ, zero, suc, ◌+◌, ◌≤◌, max, Bool, true, false, ◌&&◌, ◌||◌, List, [], ◌∷◌, length, refl, sym, ap, ◌∙◌, arith}
+use Rattle.std.proofs.Common.{◌≡◌, ℕ, zero, suc, ◌+◌, ◌≤◌, Bool, true, false, ◌&&◌, List, [], ◌∷◌, length, refl, ap, ◌∙◌, arith}
 use Rattle.std.specs.Prelude.{nat_eq, if◌then◌else◌}
 use Rattle.trees.specs.Tree.{Rel, Done, Next}
 use Rattle.trees.specs.Measures.{nodes, nodes_trees, depth, depth_trees}
@@ -11,9 +11,8 @@ use Rattle.lambda_box.specs.BoxProgram.{BoxConstant, BoxFamily, NamesKept, Named
 use Rattle.lambda_box.specs.BoxForm.{IsFixBody, boxed, last, more, AreFixBodies, HasBoxForm, HasBoxFormTerms, IsBoxBody}
 use Rattle.lambda_box.specs.SaturatedForm.{IsSaturatedAt, AreSaturated}
 use Rattle.lambda_box.specs.OrdinaryForm.{IsOrdinary, AreOrdinary}
-use Rattle.lambda_box.specs.ClosureEvaluation.{names, names_terms}
 use Rattle.shrink_passes.specs.Uses.{uses, uses_terms}
-use Rattle.shrink_passes.specs.DropParams.{is_spine, is_box, box_at, fits, fits_terms, cut, cut_terms}
+use Rattle.shrink_passes.specs.DropParams.{is_spine, box_at, fits, fits_terms, cut, cut_terms}
 
 pub both_hold : (x y : Bool) → (x && y) ≡ true → (x ≡ true) × (y ≡ true)
 both_hold true y e = (refl, e)
@@ -271,3 +270,19 @@ module _ (k p : ℕ) where
   spine_box q m xs (BConstruct f c) e s h = absurd (cc)
   spine_box q m xs (BCase f t bs) e s h = absurd (cc)
   spine_box q m xs (BFix i rargs bodies) e s h = absurd (cc)
+
+  -- a use has one number of arguments
+  pub one_spine : (t : BoxTerm) (q r : ℕ) → is_spine k t q ≡ true → is_spine k t r ≡ true → q ≡ r
+  one_spine (BConst c) zero zero e g = refl
+  one_spine (BConst c) zero (suc r) e g = absurd (cc)
+  one_spine (BConst c) (suc q) r e g = absurd (cc)
+  one_spine (BApp f a) zero r e g = absurd (cc)
+  one_spine (BApp f a) (suc q) zero e g = absurd (cc)
+  one_spine (BApp f a) (suc q) (suc r) e g = ap suc (one_spine f q r e g)
+  one_spine (Rel i) q r e g = absurd (cc)
+  one_spine Box q r e g = absurd (cc)
+  one_spine (BLambda b) q r e g = absurd (cc)
+  one_spine (BLetIn b t) q r e g = absurd (cc)
+  one_spine (BConstruct f c) q r e g = absurd (cc)
+  one_spine (BCase f s bs) q r e g = absurd (cc)
+  one_spine (BFix i rargs bodies) q r e g = absurd (cc)

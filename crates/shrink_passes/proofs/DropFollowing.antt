@@ -1,113 +1,26 @@
 -- Evaluation with environments follows the drop of one lambda with its argument: the use of the constant gives, once it has its box, what the body without
 -- the lambda gives before.
-use Rattle.std.proofs.Common.{◌≡◌, ℕ, zero, suc, ◌+◌, ◌-◌, ◌<◌, ◌≤◌, max, Bool, true, false, ◌&&◌, ◌||◌, List, [], ◌∷◌, ◌++◌, length, Some, Option, refl, sym, ap, ◌∙◌, subst, arith, ◌⊎◌, inl, inr, ⊎_elim}
-use Rattle.std.specs.Prelude.{nat_eq, if◌then◌else◌, slice_get}
+use Rattle.std.proofs.Common.{◌≡◌, ℕ, zero, suc, ◌+◌, ◌-◌, ◌<◌, ◌≤◌, Bool, true, false, ◌&&◌, ◌||◌, List, [], ◌∷◌, ◌++◌, length, Some, refl, sym, ap, ◌∙◌, subst, arith, ◌⊎◌, inl, inr, ⊎_elim}
+use Rattle.std.specs.Prelude.{nat_eq, if◌then◌else◌}
 use Rattle.std.proofs.lemmas.Bool.{eqb-true, eq-eqb}
-use mathlib.Core.Path.{fun_ext}
 use Rattle.trees.proofs.Fusion.{substitute_rel, rename_same}
 use Rattle.trees.specs.Tree.{Rel, Done, Next, term_at}
 use Rattle.trees.specs.Parallel.{rename, over, overs, put, substitute, substitute_terms, first}
 use Rattle.pc_terms.specs.declared.leaf.Name.{Name}
 use Rattle.pc_terms.specs.declared.leaf.FamilyId.{FamilyId}
-use Rattle.pc_terms.specs.BoxSyntax.{BoxLabel, box_slots, BoxTerm, BoxTerms, Box, BLambda, BLetIn, BApp, BConst, BConstruct, BCase, BFix}
-use Rattle.lambda_box.specs.BoxProgram.{BoxConstant, BoxFamily, BoxProgram, Has, KeepsBoxConstant, KeepsBoxFamily, box_apply}
+use Rattle.pc_terms.specs.BoxSyntax.{BoxTerm, BoxTerms, Box, BLambda, BLetIn, BApp, BConst, BConstruct, BCase, BFix}
+use Rattle.lambda_box.specs.BoxProgram.{BoxFamily, BoxProgram, Has, KeepsBoxConstant, KeepsBoxFamily, box_apply}
 use Rattle.lambda_box.specs.BoxData.{Data}
 use Rattle.lambda_box.specs.DataTerms.{ValuesHold, hold_none, hold_last}
-use Rattle.lambda_box.specs.ClosureEvaluation.{names, names_terms, Value, VBox, VConstruct, VClosure, VFix, Values, NoValue, Then, Env, Empty, Bind, BindFix, size, bind_all, box_values, Held, Holds, Defines, Finds, found, later, found_fix, past_fix, one_if, any_below, words, closure_words, fix_words, Counts, nothing, contraction, entered_match, block, constructor_block, ◌⊕◌, Run, run_box, run_value, run_definition, run_lambda, run_fix, run_constant, run_let, run_app, run_box_app, run_fix_app, run_fix_box, run_construct, run_match, run_only, RunArgs, run_head, run_arg, ValueReads, value_reads, ValuesRead, no_values, and_then}
+use Rattle.lambda_box.specs.ClosureEvaluation.{names, names_terms, Value, VBox, VConstruct, VClosure, VFix, Values, NoValue, Then, Env, Empty, Bind, BindFix, size, bind_all, box_values, Held, Holds, Defines, Finds, found, later, found_fix, past_fix, one_if, any_below, words, closure_words, fix_words, Counts, nothing, contraction, entered_match, block, ◌⊕◌, Run, run_box, run_value, run_definition, run_lambda, run_fix, run_constant, run_let, run_app, run_box_app, run_fix_app, run_fix_box, run_construct, run_match, run_only, RunArgs, run_head, run_arg, ValueReads, value_reads, ValuesRead, no_values, and_then}
 use Rattle.box_passes.specs.Saturate.{innermost, lambdas}
 use Rattle.shrink_passes.specs.Uses.{uses}
-use Rattle.shrink_passes.specs.DropParams.{is_spine, is_box, box_at, fits, fits_terms, cut, cut_terms}
+use Rattle.shrink_passes.specs.DropParams.{is_spine, box_at, fits, fits_terms, cut, cut_terms}
 use Rattle.shrink_passes.specs.ShrinkLaws.{AreNoMore, RunsWithin}
-use Rattle.shrink_passes.proofs.Cutting.{both_hold, cut_unused, fits_unused, spine_box}
-use Rattle.shrink_passes.proofs.Thinning.{IsThin, Thins, thins_rel, thins_over, thins_overs, thins_first, overs_past, overs_below, named_before, named_before_terms, named_cut, named_cut_terms, either_true, left_true, right_true, same_variable, box_no_variable, before_thin}
+use Rattle.shrink_passes.proofs.RunShapes.{closure_not_box, closure_not_fix, not_true, overs_rel_same, box_further, block_less, one_item, RunsBox, box_runs, lambda_runs, over_rel, box_is_box, names_lambdas, closure_env, closure_body}
+use Rattle.shrink_passes.proofs.Cutting.{one_spine, both_hold, cut_unused, fits_unused, spine_box}
+use Rattle.shrink_passes.proofs.Thinning.{Thins, thins_rel, thins_over, thins_overs, thins_first, overs_past, overs_below, named_before, named_before_terms, named_cut, named_cut_terms, either_true, left_true, right_true, same_variable}
 use Rattle.shrink_passes.proofs.Following.{no_more_self, no_more_sum}
-
-abbrev closure_env : Value → Env
-closure_env (VClosure e b) = e
-closure_env v = Empty
-
-abbrev closure_body : Value → BoxTerm
-closure_body (VClosure e b) = b
-closure_body v = Box
-
-block_less : (n m : ℕ) → n ≤ m → AreNoMore (block n) (block m)
-block_less n m l = record { contractions = omega arith; matches = refl; blocks = omega arith; greatest = omega arith }
-
-one_item : {A : Type 0} {x y : A} → Some x ≡ Some y → x ≡ y
-one_item e = grind arith
-
--- box gives box at no cost
-record RunsBox (v : Value) (c : Counts) : Type 0 where
-  is : v ≡ VBox
-  free : c ≡ nothing
-
-box_runs : {P : BoxProgram} {e : Env} {t : BoxTerm} {v : Value} {c : Counts} → Run P e t v c → t ≡ Box → RunsBox v c
-box_runs run_box q = record { is = refl; free = refl }
-box_runs (run_value f) q = absurd (cc)
-box_runs (run_definition f) q = absurd (cc)
-box_runs run_lambda q = absurd (cc)
-box_runs run_fix q = absurd (cc)
-box_runs (run_constant k r) q = absurd (cc)
-box_runs (run_let r s) q = absurd (cc)
-box_runs (run_app r s t) q = absurd (cc)
-box_runs (run_box_app r s) q = absurd (cc)
-box_runs (run_fix_app r s at t) q = absurd (cc)
-box_runs (run_fix_box r s at) q = absurd (cc)
-box_runs (run_construct k at l run_head) q = absurd (cc)
-box_runs (run_construct k at l (run_arg r s)) q = absurd (cc)
-box_runs (run_match k p r at s) q = absurd (cc)
-box_runs (run_only k p r s) q = absurd (cc)
-
-record RunsLambda (e : Env) (b : BoxTerm) (v : Value) (c : Counts) : Type 0 where
-  is : v ≡ VClosure e b
-  made : c ≡ block (closure_words e b)
-
-abbrev lambda_body : BoxTerm → BoxTerm
-lambda_body (BLambda b) = b
-lambda_body t = Box
-
-lambda_runs : {P : BoxProgram} {e : Env} {t b : BoxTerm} {v : Value} {c : Counts} → Run P e t v c → t ≡ BLambda b → RunsLambda e b v c
-lambda_runs run_box q = absurd (cc)
-lambda_runs (run_value f) q = absurd (cc)
-lambda_runs (run_definition f) q = absurd (cc)
-lambda_runs {e = e} run_lambda q = let p = ap lambda_body q in record { is = ap (VClosure e) p; made = ap (λ b. block (closure_words e b)) p }
-lambda_runs run_fix q = absurd (cc)
-lambda_runs (run_constant k r) q = absurd (cc)
-lambda_runs (run_let r s) q = absurd (cc)
-lambda_runs (run_app r s t) q = absurd (cc)
-lambda_runs (run_box_app r s) q = absurd (cc)
-lambda_runs (run_fix_app r s at t) q = absurd (cc)
-lambda_runs (run_fix_box r s at) q = absurd (cc)
-lambda_runs (run_construct k at l run_head) q = absurd (cc)
-lambda_runs (run_construct k at l (run_arg r s)) q = absurd (cc)
-lambda_runs (run_match k p r at s) q = absurd (cc)
-lambda_runs (run_only k p r s) q = absurd (cc)
-
-pub over_rel : ◌≡◌ {A = ℕ → BoxTerm} (over Rel) Rel
-over_rel = fun_ext each
-  where
-    each : (i : ℕ) → ◌≡◌ {A = BoxTerm} (over Rel i) (Rel i)
-    each zero = refl
-    each (suc i) = refl
-
-box_is_box : (t : BoxTerm) → is_box t ≡ true → t ≡ Box
-box_is_box Box e = refl
-box_is_box (Rel i) e = absurd (cc)
-box_is_box (BLambda b) e = absurd (cc)
-box_is_box (BLetIn b t) e = absurd (cc)
-box_is_box (BApp f a) e = absurd (cc)
-box_is_box (BConst k) e = absurd (cc)
-box_is_box (BConstruct f c) e = absurd (cc)
-box_is_box (BCase f s bs) e = absurd (cc)
-box_is_box (BFix i rargs bodies) e = absurd (cc)
-
-names_lambdas : (n : ℕ) (t : BoxTerm) (i : ℕ) → names (lambdas n t) i ≡ names t (n + i)
-names_lambdas zero t i = let q : i ≡ 0 + i = omega arith in ap (names t) q
-names_lambdas (suc n) t i = or_false (names (lambdas n t) (1 + i)) ∙ names_lambdas n t (1 + i) ∙ (let q : n + (1 + i) ≡ suc n + i = omega arith in ap (names t) q)
-  where
-    or_false : (x : Bool) → (x || false) ≡ x
-    or_false true = refl
-    or_false false = refl
 
 module _ (k p : ℕ) (t0 : BoxTerm) (none : uses k t0 ≡ 0) where
   -- the body without its lambda
@@ -166,35 +79,44 @@ module _ (k p : ℕ) (t0 : BoxTerm) (none : uses k t0 ≡ 0) where
   words_like (like_bind_fix {rargs = rargs} {bodies = bs} {s = s} h f) N M c =
       words_like h (λ i. N (length rargs + i) || (any_below (length rargs) N && names_terms bs i)) (λ i. M (length rargs + i) || (any_below (length rargs) M && names_terms (substitute_terms s (cut_terms k p bs)) i))
       (λ i j e m. ⊎_elim
-          (λ a. left_true (N (length rargs + i)) (any_below (length rargs) N && names_terms bs i) (c (length rargs + i) (length rargs + j) (overs_past (length rargs) s i j e) a))
-          (λ b.
-              let both = both_hold (any_below (length rargs) M) (names_terms (substitute_terms s (cut_terms k p bs)) j) b in
-              right_true (N (length rargs + i)) (any_below (length rargs) N && names_terms bs i)
-              (both_true (any_below (length rargs) N) (names_terms bs i) (any_less (length rargs) s N M (λ x l. c x x (overs_below (length rargs) s x l)) both.0)
-              (named_cut_terms k p bs i (named_before_terms s (env_thins h) (cut_terms k p bs) i j e both.1))))
-          (either_true (M (length rargs + j)) (any_below (length rargs) M && names_terms (substitute_terms s (cut_terms k p bs)) j) m))
+      (λ a. left_true (N (length rargs + i)) (any_below (length rargs) N && names_terms bs i) (c (length rargs + i) (length rargs + j) (overs_past (length rargs) s i j e) a))
+      (λ b.
+      let both = both_hold (any_below (length rargs) M) (names_terms (substitute_terms s (cut_terms k p bs)) j) b in
+      right_true (N (length rargs + i)) (any_below (length rargs) N && names_terms bs i)
+      (both_true (any_below (length rargs) N) (names_terms bs i) (any_less (length rargs) s N M (λ x l. c x x (overs_below (length rargs) s x l)) both.0)
+      (named_cut_terms k p bs i (named_before_terms s (env_thins h) (cut_terms k p bs) i j e both.1))))
+      (either_true (M (length rargs + j)) (any_below (length rargs) M && names_terms (substitute_terms s (cut_terms k p bs)) j) m))
 
   closure_less : {e e' : Env} {s : ℕ → BoxTerm} (t : BoxTerm) → LikeEnv e e' s → closure_words e' (substitute (over s) (cut k p t)) ≤ closure_words e t
   closure_less {s = s} t h =
-      omega (arith, words_like h (λ i. names t (suc i)) (λ i. names (substitute (over s) (cut k p t)) (suc i))
-      (λ i j e m. named_cut k p t (suc i) (named_before (over s) (thins_over (env_thins h)) (cut k p t) (suc i) (suc j) (ap (rename suc) e) m)))
+      omega (
+        arith,
+        words_like h (λ i. names t (suc i)) (λ i. names (substitute (over s) (cut k p t)) (suc i))
+            (λ i j e m. named_cut k p t (suc i) (named_before (over s) (thins_over (env_thins h)) (cut k p t) (suc i) (suc j) (ap (rename suc) e) m)),
+      )
 
   fix_less : {e e' : Env} {s : ℕ → BoxTerm} (bs : BoxTerms) → LikeEnv e e' s → fix_words e' (substitute_terms s (cut_terms k p bs)) ≤ fix_words e bs
   fix_less {s = s} bs h =
-      omega (arith, words_like h (λ i. names_terms bs i) (λ i. names_terms (substitute_terms s (cut_terms k p bs)) i)
-      (λ i j e m. named_cut_terms k p bs i (named_before_terms s (env_thins h) (cut_terms k p bs) i j e m)))
+      omega (
+        arith,
+        words_like h (λ i. names_terms bs i) (λ i. names_terms (substitute_terms s (cut_terms k p bs)) i)
+            (λ i j e m. named_cut_terms k p bs i (named_before_terms s (env_thins h) (cut_terms k p bs) i j e m)),
+      )
 
   -- the lambdas above the one that is dropped
   lambdas_less : {e e' : Env} (m : ℕ) → LikeEnv e e' Rel → closure_words e' (lambdas m low) ≤ closure_words e (lambdas (suc m) t0)
   lambdas_less m h =
-      omega (arith, words_like h (λ i. names (lambdas (suc m) t0) (suc i)) (λ i. names (lambdas m low) (suc i))
-      (λ i j e n.
-          let same = same_variable e in
-          let at_low : names low (m + suc j) ≡ true = sym (names_lambdas m low (suc j)) ∙ n in
-          let q : Rel (m + suc j) ≡ Rel (m + suc i) = let r : m + suc j ≡ m + suc i = omega arith in ap Rel r in
-          let before = named_before (put Box) (thins_first thins_rel) t0 (suc (m + suc i)) (m + suc j) (sym q) at_low in
-          let r : suc (m + suc i) ≡ suc m + suc i = omega arith in
-          names_lambdas (suc m) t0 (suc i) ∙ ap (names t0) (sym r) ∙ before))
+      omega (
+        arith,
+        words_like h (λ i. names (lambdas (suc m) t0) (suc i)) (λ i. names (lambdas m low) (suc i))
+            (λ i j e n.
+            let same = same_variable e in
+            let at_low : names low (m + suc j) ≡ true = sym (names_lambdas m low (suc j)) ∙ n in
+            let q : Rel (m + suc j) ≡ Rel (m + suc i) = let r : m + suc j ≡ m + suc i = omega arith in ap Rel r in
+            let before = named_before (put Box) (thins_first thins_rel) t0 (suc (m + suc i)) (m + suc j) (sym q) at_low in
+            let r : suc (m + suc i) ≡ suc m + suc i = omega arith in
+            names_lambdas (suc m) t0 (suc i) ∙ ap (names t0) (sym r) ∙ before),
+      )
 
   -- what a variable holds
   data VariableHolds (e' : Env) (t : BoxTerm) (v : Value) : Type 0 where
@@ -313,7 +235,7 @@ module _ (k p : ℕ) (t0 : BoxTerm) (none : uses k t0 ≡ 0) where
       either false e = refl
 
   module _ (P Q : BoxProgram) (families : Q.families ≡ P.families) (whole : BoxTerm) (whole_is : whole ≡ lambdas (suc p) t0)
-    (bodies : (c : Name) (t : BoxTerm) → KeepsBoxConstant P c t → ((c.0 ≡ k) × (t ≡ whole) × KeepsBoxConstant Q c (lambdas p low)) ⊎ ((c.0 ≡ k → ⊥) × (fits k p [] t ≡ true) × KeepsBoxConstant Q c (cut k p t))) where
+      (bodies : (c : Name) (t : BoxTerm) → KeepsBoxConstant P c t → ((c.0 ≡ k) × (t ≡ whole) × KeepsBoxConstant Q c (lambdas p low)) ⊎ ((c.0 ≡ k → ⊥) × (fits k p [] t ≡ true) × KeepsBoxConstant Q c (cut k p t))) where
     pub record Ran (e' : Env) (t : BoxTerm) (v : Value) (c : Counts) : Type 0 where
       pub w : Value
       pub counts : Counts
@@ -427,34 +349,6 @@ module _ (k p : ℕ) (t0 : BoxTerm) (none : uses k t0 ≡ 0) where
               });
         }
 
-    closure_not_box : {e : Env} {b : BoxTerm} → VBox ≡ VClosure e b → ⊥
-    closure_not_box e = cc
-
-    closure_not_fix : {e d : Env} {b : BoxTerm} {i : ℕ} {rargs : List ℕ} {ts : BoxTerms} → VFix d i rargs ts ≡ VClosure e b → ⊥
-    closure_not_fix e = cc
-
-    not_true : {x : Bool} → x ≡ false → x ≡ true → ⊥
-    not_true {x} e g = differs (sym e ∙ g)
-      where
-        differs : false ≡ true → ⊥
-        differs e = cc
-
-    -- a use has one number of arguments
-    one_spine : (t : BoxTerm) (q r : ℕ) → is_spine k t q ≡ true → is_spine k t r ≡ true → q ≡ r
-    one_spine (BConst c) zero zero e g = refl
-    one_spine (BConst c) zero (suc r) e g = absurd (cc)
-    one_spine (BConst c) (suc q) r e g = absurd (cc)
-    one_spine (BApp f a) zero r e g = absurd (cc)
-    one_spine (BApp f a) (suc q) zero e g = absurd (cc)
-    one_spine (BApp f a) (suc q) (suc r) e g = ap suc (one_spine f q r e g)
-    one_spine (Rel i) q r e g = absurd (cc)
-    one_spine Box q r e g = absurd (cc)
-    one_spine (BLambda b) q r e g = absurd (cc)
-    one_spine (BLetIn b t) q r e g = absurd (cc)
-    one_spine (BConstruct f c) q r e g = absurd (cc)
-    one_spine (BCase f s bs) q r e g = absurd (cc)
-    one_spine (BFix i rargs bodies) q r e g = absurd (cc)
-
     args_no_spine : {e : Env} {f : FamilyId} {i : ℕ} {t : BoxTerm} {vs : Values} {c : Counts} → RunArgs P e f i t vs c → (q : ℕ) → is_spine k t q ≡ false
     args_no_spine run_head q = refl
     args_no_spine (run_arg r s) zero = refl
@@ -497,7 +391,7 @@ module _ (k p : ℕ) (t0 : BoxTerm) (none : uses k t0 ≡ 0) where
         reached (suc q) m e y = kept_reached s f a (short (is_spine k f p) refl) (more m (x.reached q (suc m) (omega arith) y))
           where
             short : (z : Bool) → is_spine k f p ≡ z → z ≡ false
-            short true g = absurd (omega (arith, one_spine f q p y g, e))
+            short true g = absurd (omega (arith, one_spine k p f q p y g, e))
             short false g = refl
 
     mutual
@@ -520,15 +414,15 @@ module _ (k p : ℕ) (t0 : BoxTerm) (none : uses k t0 ≡ 0) where
       follows {e' = e'} {s = s} {v = v} (run_constant {k = name} {b = t} {c = c} kept r) h xs f =
           ⊎_elim
           (λ y. record {
-              ran = λ h. absurd (not_true (h 0 (omega arith)) (eq-eqb name.0 k y.0));
-              reached = λ q m e z. first_reached q m e z y.0 (constant_reached y.0 y.1 y.2 r);
-            })
+            ran = λ h. absurd (not_true (h 0 (omega arith)) (eq-eqb name.0 k y.0));
+            reached = λ q m e z. first_reached q m e z y.0 (constant_reached y.0 y.1 y.2 r);
+          })
           (λ y.
-              let x = (follows r like_empty [] y.1).ran (plain_alone t y.1) in
-              record {
-                ran = λ h. record { w = x.w; counts = contraction ⊕ x.counts; run = run_constant y.2 (subst (λ (u : BoxTerm). Run Q Empty u x.w x.counts) (unchanged (cut k p t)) x.run); like = x.like; no_more = no_more_sum (no_more_self contraction) x.no_more };
-                reached = λ q m e z. absurd (y.0 (named q z));
-              })
+          let x = (follows r like_empty [] y.1).ran (plain_alone t y.1) in
+          record {
+            ran = λ h. record { w = x.w; counts = contraction ⊕ x.counts; run = run_constant y.2 (subst (λ (u : BoxTerm). Run Q Empty u x.w x.counts) (unchanged (cut k p t)) x.run); like = x.like; no_more = no_more_sum (no_more_self contraction) x.no_more };
+            reached = λ q m e z. absurd (y.0 (named q z));
+          })
           (bodies name t kept)
         where
           unchanged : (u : BoxTerm) → substitute Rel u ≡ u
@@ -552,20 +446,20 @@ module _ (k p : ℕ) (t0 : BoxTerm) (none : uses k t0 ≡ 0) where
           let y = (follows q h [] both.1).ran (plain_alone a both.1) in
           application x
           (λ e w.
-              let box = box_runs q (box_is_box a (spine_box k p p 0 (a ∷ xs) g (omega arith) e both.0)) in
-              let env = subst (λ (x : Value). LikeEnv (Bind x d1) w.d' (put Box)) (sym box.is) (subst (λ (d : Env). LikeEnv (Bind VBox d) w.d' (put Box)) (sym (ap closure_env w.is)) (like_skip w.like)) in
-              let fit : fits k p [] b ≡ true = ap (fits k p []) (ap closure_body w.is) ∙ fits_unused k p [] t0 none in
-              box_reached g s w box ((follows z env [] fit).ran (plain_alone b fit)))
+          let box = box_runs q (box_is_box a (spine_box k p p 0 (a ∷ xs) g (omega arith) e both.0)) in
+          let env = subst (λ (x : Value). LikeEnv (Bind x d1) w.d' (put Box)) (sym box.is) (subst (λ (d : Env). LikeEnv (Bind VBox d) w.d' (put Box)) (sym (ap closure_env w.is)) (like_skip w.like)) in
+          let fit : fits k p [] b ≡ true = ap (fits k p []) (ap closure_body w.is) ∙ fits_unused k p [] t0 none in
+          box_reached g s w box ((follows z env [] fit).ran (plain_alone b fit)))
           (λ w.
-              let c = closure_like w.like in
-              let n = (follows z (like_bind y.like c.like) [] c.fit).ran (plain_alone b c.fit) in
-              record {
-                w = n.w;
-                counts = contraction ⊕ w.counts ⊕ y.counts ⊕ n.counts;
-                run = run_app (subst (λ (u : Value). Run Q e' (substitute s (cut k p g)) u w.counts) c.is w.run) y.run n.run;
-                like = n.like;
-                no_more = no_more_sum (no_more_self contraction) (no_more_sum w.no_more (no_more_sum y.no_more n.no_more));
-              })
+          let c = closure_like w.like in
+          let n = (follows z (like_bind y.like c.like) [] c.fit).ran (plain_alone b c.fit) in
+          record {
+            w = n.w;
+            counts = contraction ⊕ w.counts ⊕ y.counts ⊕ n.counts;
+            run = run_app (subst (λ (u : Value). Run Q e' (substitute s (cut k p g)) u w.counts) c.is w.run) y.run n.run;
+            like = n.like;
+            no_more = no_more_sum (no_more_self contraction) (no_more_sum w.no_more (no_more_sum y.no_more n.no_more));
+          })
           (λ m w. argument_reached g a s m w y z)
       follows {e' = e'} {s = s} (run_box_app {f = g} {a = a} r q) h xs f =
           let both = both_hold (fits k p (a ∷ xs) g) (fits k p [] a) f in
@@ -573,12 +467,12 @@ module _ (k p : ℕ) (t0 : BoxTerm) (none : uses k t0 ≡ 0) where
           let y = (follows q h [] both.1).ran (plain_alone a both.1) in
           application x (λ e w. absurd (closure_not_box w.is))
           (λ w. record {
-              w = VBox;
-              counts = contraction ⊕ w.counts ⊕ y.counts;
-              run = run_box_app (subst (λ (u : Value). Run Q e' (substitute s (cut k p g)) u w.counts) (box_like w.like) w.run) y.run;
-              like = like_box;
-              no_more = no_more_sum (no_more_self contraction) (no_more_sum w.no_more y.no_more);
-            })
+            w = VBox;
+            counts = contraction ⊕ w.counts ⊕ y.counts;
+            run = run_box_app (subst (λ (u : Value). Run Q e' (substitute s (cut k p g)) u w.counts) (box_like w.like) w.run) y.run;
+            like = like_box;
+            no_more = no_more_sum (no_more_self contraction) (no_more_sum w.no_more y.no_more);
+          })
           (λ m w. absurd (closure_not_box w.is))
       follows {e' = e'} {s = s} (run_fix_app {e' = d} {f = g} {a = a} {b = t} {i = i} {rargs = rargs} {bodies = bs} r q at z) h xs f =
           let both = both_hold (fits k p (a ∷ xs) g) (fits k p [] a) f in
@@ -586,16 +480,16 @@ module _ (k p : ℕ) (t0 : BoxTerm) (none : uses k t0 ≡ 0) where
           let y = (follows q h [] both.1).ran (plain_alone a both.1) in
           application x (λ e w. absurd (closure_not_fix w.is))
           (λ w.
-              let c = fix_like w.like in
-              let fit = fits_at bs i (length rargs) (BLambda t) c.fit at in
-              let n = (follows z (like_bind y.like (like_bind_fix c.like c.fit)) [] fit).ran (plain_alone t fit) in
-              record {
-                w = n.w;
-                counts = contraction ⊕ contraction ⊕ w.counts ⊕ y.counts ⊕ n.counts;
-                run = run_fix_app (subst (λ (u : Value). Run Q e' (substitute s (cut k p g)) u w.counts) c.is w.run) y.run (cut_at c.s bs i (length rargs) (BLambda t) at) n.run;
-                like = n.like;
-                no_more = no_more_sum (no_more_self contraction) (no_more_sum (no_more_self contraction) (no_more_sum w.no_more (no_more_sum y.no_more n.no_more)));
-              })
+          let c = fix_like w.like in
+          let fit = fits_at bs i (length rargs) (BLambda t) c.fit at in
+          let n = (follows z (like_bind y.like (like_bind_fix c.like c.fit)) [] fit).ran (plain_alone t fit) in
+          record {
+            w = n.w;
+            counts = contraction ⊕ contraction ⊕ w.counts ⊕ y.counts ⊕ n.counts;
+            run = run_fix_app (subst (λ (u : Value). Run Q e' (substitute s (cut k p g)) u w.counts) c.is w.run) y.run (cut_at c.s bs i (length rargs) (BLambda t) at) n.run;
+            like = n.like;
+            no_more = no_more_sum (no_more_self contraction) (no_more_sum (no_more_self contraction) (no_more_sum w.no_more (no_more_sum y.no_more n.no_more)));
+          })
           (λ m w. absurd (closure_not_fix w.is))
       follows {e' = e'} {s = s} (run_fix_box {e' = d} {f = g} {a = a} {i = i} {rargs = rargs} {bodies = bs} r q at) h xs f =
           let both = both_hold (fits k p (a ∷ xs) g) (fits k p [] a) f in
@@ -603,14 +497,14 @@ module _ (k p : ℕ) (t0 : BoxTerm) (none : uses k t0 ≡ 0) where
           let y = (follows q h [] both.1).ran (plain_alone a both.1) in
           application x (λ e w. absurd (closure_not_fix w.is))
           (λ w.
-              let c = fix_like w.like in
-              record {
-                w = VBox;
-                counts = contraction ⊕ contraction ⊕ w.counts ⊕ y.counts;
-                run = run_fix_box (subst (λ (u : Value). Run Q e' (substitute s (cut k p g)) u w.counts) c.is w.run) y.run (cut_at c.s bs i (length rargs) Box at);
-                like = like_box;
-                no_more = no_more_sum (no_more_self contraction) (no_more_sum (no_more_self contraction) (no_more_sum w.no_more y.no_more));
-              })
+          let c = fix_like w.like in
+          record {
+            w = VBox;
+            counts = contraction ⊕ contraction ⊕ w.counts ⊕ y.counts;
+            run = run_fix_box (subst (λ (u : Value). Run Q e' (substitute s (cut k p g)) u w.counts) c.is w.run) y.run (cut_at c.s bs i (length rargs) Box at);
+            like = like_box;
+            no_more = no_more_sum (no_more_self contraction) (no_more_sum (no_more_self contraction) (no_more_sum w.no_more y.no_more));
+          })
           (λ m w. absurd (closure_not_fix w.is))
       follows {s = s} (run_construct {t = t} kept at l r) h xs f =
           let x = follows_args r h xs f in
@@ -674,16 +568,7 @@ module _ (k p : ℕ) (t0 : BoxTerm) (none : uses k t0 ≡ 0) where
     held_like hold_none = like_none
     held_like (hold_last hs h) = like_more (data_like h) (held_like hs)
 
-    overs_rel_same : (n : ℕ) → ◌≡◌ {A = ℕ → BoxTerm} (overs n Rel) Rel
-    overs_rel_same zero = refl
-    overs_rel_same (suc n) = ap over (overs_rel_same n) ∙ over_rel
-
     -- more arguments do no harm
-    box_further : (n : ℕ) (xs ys : List BoxTerm) → box_at n xs ≡ true → box_at n (xs ++ ys) ≡ true
-    box_further n [] ys e = absurd (cc)
-    box_further zero (x ∷ xs) ys e = e
-    box_further (suc n) (x ∷ xs) ys e = box_further n xs ys e
-
     fits_further : (t : BoxTerm) (xs ys : List BoxTerm) → fits k p xs t ≡ true → fits k p (xs ++ ys) t ≡ true
     fits_further (Rel i) xs ys e = refl
     fits_further Box xs ys e = refl

@@ -1,22 +1,19 @@
 -- The laws of dropping parameters.
-use Rattle.std.proofs.Common.{◌≡◌, ℕ, zero, suc, ◌+◌, ◌≤◌, max, Bool, true, false, ◌&&◌, List, [], ◌∷◌, refl, sym, ap, ◌∙◌, subst, arith, ◌⊎◌, inl, inr, ⊎_elim}
-use Rattle.std.specs.Prelude.{nat_eq, if◌then◌else◌, reverse}
-use Rattle.std.proofs.lemmas.Bool.{eqb-true, eq-eqb}
+use Rattle.std.proofs.Common.{◌≡◌, ℕ, zero, suc, ◌≤◌, Bool, true, false, List, [], ◌∷◌, refl, sym, ap, ◌∙◌, subst, arith, ◌⊎◌, inl, inr, ⊎_elim}
+use Rattle.std.specs.Prelude.{if◌then◌else◌, reverse}
 use Rattle.trees.specs.Measures.{nodes, depth}
 use Rattle.trees.specs.Parallel.{put, substitute}
 use Rattle.trees.proofs.Every.{every_more}
-use Rattle.trees.specs.Tree.{Rel, Done, Next}
 use Rattle.pc_terms.specs.declared.leaf.Name.{Name}
-use Rattle.pc_terms.specs.BoxSyntax.{BoxLabel, BoxOf, BLambdaOf, BLetInOf, BAppOf, BConstOf, BConstructOf, BCaseOf, BFixOf, BoxTerm, Box, BLambda, BLetIn, BApp, BConst, BConstruct, BCase, BFix}
+use Rattle.pc_terms.specs.BoxSyntax.{BoxLabel, BoxOf, BLambdaOf, BLetInOf, BAppOf, BConstOf, BConstructOf, BCaseOf, BFixOf, BoxTerm, Box, BLambda}
 use Rattle.lambda_box.specs.BoxProgram.{BoxConstant, BoxFamily, BoxProgram, Has, here, there, NamesKept, Named, KeepsBoxConstant}
 use Rattle.lambda_box.specs.BoxForm.{IsBoxBody, AreOrdered, IsBoxProgram}
-use Rattle.lambda_box.specs.SaturatedForm.{IsSaturatedAt, IsSaturated, program_nodes}
-use Rattle.lambda_box.specs.OrdinaryForm.{IsOrdinary, IsOrdinaryProgram}
-use Rattle.lambda_box.proofs.Families.{one_of_name}
+use Rattle.lambda_box.specs.SaturatedForm.{IsSaturatedAt}
+use Rattle.lambda_box.specs.OrdinaryForm.{IsOrdinary}
 use Rattle.box_passes.specs.Saturate.{lambdas}
-use Rattle.shrink_passes.specs.Uses.{uses, total, greatest, deepest}
+use Rattle.shrink_passes.specs.Uses.{uses, total}
 use Rattle.shrink_passes.specs.Inline.{changed, standing, stands}
-use Rattle.shrink_passes.specs.DropParams.{is_spine, fits, fits_constants, fits_program, cut, is_unused, without_lambda, with_constant, is_dead, without_params, leading, drop_from, drop_program}
+use Rattle.shrink_passes.specs.DropParams.{fits, fits_constants, fits_program, cut, is_unused, without_lambda, with_constant, is_dead, without_params, leading, drop_from, drop_program}
 use Rattle.shrink_passes.specs.ShrinkLaws.{KeepsRuns, Shrinks, DropIsRight}
 use Rattle.shrink_passes.proofs.Standing.{total_standing, greatest_standing, nodes_total, greatest_le}
 use Rattle.shrink_passes.proofs.Forming.{Fresh, Apart, apart_from, apart_pairs, done_ordered, done_apart, Coming, coming, has_other, has_split, named_unused, ordered_unused}
@@ -99,7 +96,7 @@ fits_member k p (d ∷ cs) e here = (both_hold (fits k p [] d.body) (fits_consta
 fits_member k p (d ∷ cs) e (there h) = fits_member k p cs (both_hold (fits k p [] d.body) (fits_constants k p cs) e).1 h
 
 module _ (Fs : List BoxFamily) (done : List BoxConstant) (d : BoxConstant) (rest : List BoxConstant) (main : BoxTerm) (p : ℕ) (b : BoxTerm) (f : BoxTerm → BoxTerm)
-  (ok : IsBoxProgram (with_constant Fs done d b f rest main)) (dead : is_dead Fs done d p b f rest main ≡ true) where
+    (ok : IsBoxProgram (with_constant Fs done d b f rest main)) (dead : is_dead Fs done d p b f rest main ≡ true) where
   abbrev k : ℕ
   k = d.name.0
 
@@ -171,7 +168,7 @@ module _ (Fs : List BoxFamily) (done : List BoxConstant) (d : BoxConstant) (rest
 
   known_of : (x : BoxConstant) → Has (standing f rest (old ∷ done)) x → Known x.name x.body
   known_of x h = ⊎_elim (λ g. of_done g)
-    (λ g. inr (
+      (λ g. inr (
         (λ q. rest_other rest (coming f rest (old ∷ done) apart) g.1 (sym (ap (λ (y : BoxConstant). y.name.0) g.2) ∙ q)),
         fits_member k p (standing f rest (old ∷ done)) fitting.0 h,
         subst (λ (y : BoxConstant). Has next.constants (record { name = y.name; body = cut k p y.body })) (sym g.2) (to_rest (λ t. cut k p (f t)) rest (new ∷ done) g.1),
@@ -191,8 +188,8 @@ module _ (Fs : List BoxFamily) (done : List BoxConstant) (d : BoxConstant) (rest
 
   each_body : (Q : BoxTerm → Type 0) → ((t : BoxTerm) → Q t → Q (cut k p t)) → (Q b → Q (without_lambda p b)) → ((x : BoxConstant) → Has now.constants x → Q x.body) → (x : BoxConstant) → Has next.constants x → Q x.body
   each_body Q cuts drops all x h = ⊎_elim (λ g. of_done g)
-    (λ g. subst (λ (y : BoxConstant). Q y.body) (sym g.2) (cuts (f g.0.body) (all (changed f g.0) (to_rest f rest (old ∷ done) g.1))))
-    (of_standing (λ t. cut k p (f t)) rest (new ∷ done) h)
+      (λ g. subst (λ (y : BoxConstant). Q y.body) (sym g.2) (cuts (f g.0.body) (all (changed f g.0) (to_rest f rest (old ∷ done) g.1))))
+      (of_standing (λ t. cut k p (f t)) rest (new ∷ done) h)
     where
       of_done : {x : BoxConstant} → Has (new ∷ done) x → Q x.body
       of_done here = drops (all old (to_done f rest (old ∷ done) here))
@@ -202,19 +199,33 @@ module _ (Fs : List BoxFamily) (done : List BoxConstant) (d : BoxConstant) (rest
   step = record {
     form = step_form;
     saturated = λ h. record {
-        params = h.params;
-        constants = each_body (IsSaturatedAt Fs 0) (λ t s. cut_saturated k p Fs 0 t s) (without_saturated Fs p b) h.constants;
-        main = cut_saturated k p Fs 0 (f main) h.main;
-      };
+      params = h.params;
+      constants = each_body (IsSaturatedAt Fs 0) (λ t s. cut_saturated k p Fs 0 t s) (without_saturated Fs p b) h.constants;
+      main = cut_saturated k p Fs 0 (f main) h.main;
+    };
     ordinary = λ h. record {
-        constants = each_body (IsOrdinary Fs) (λ t s. cut_ordinary k p Fs t s) (without_ordinary Fs p b) h.constants;
-        main = cut_ordinary k p Fs (f main) h.main;
-      };
+      constants = each_body (IsOrdinary Fs) (λ t s. cut_ordinary k p Fs t s) (without_ordinary Fs p b) h.constants;
+      main = cut_ordinary k p Fs (f main) h.main;
+    };
     runs = step_runs;
-    nodes = omega (arith, nodes_total now.constants, nodes_total next.constants, total_standing nodes f rest (old ∷ done), total_standing nodes (λ t. cut k p (f t)) rest (new ∷ done),
-        total_le (λ t. nodes (cut k p (f t))) (λ t. nodes (f t)) (λ t. cut_nodes k p (f t)) rest, cut_nodes k p (f main), without_nodes p b);
-    no_deeper = omega (arith, greatest_standing depth f rest (old ∷ done), greatest_standing depth (λ t. cut k p (f t)) rest (new ∷ done),
-        greatest_le (λ t. depth (cut k p (f t))) (λ t. depth (f t)) (λ t. cut_depth k p (f t)) rest, cut_depth k p (f main), without_depth p b);
+    nodes = omega (
+      arith,
+      nodes_total now.constants,
+      nodes_total next.constants,
+      total_standing nodes f rest (old ∷ done),
+      total_standing nodes (λ t. cut k p (f t)) rest (new ∷ done),
+      total_le (λ t. nodes (cut k p (f t))) (λ t. nodes (f t)) (λ t. cut_nodes k p (f t)) rest,
+      cut_nodes k p (f main),
+      without_nodes p b,
+    );
+    no_deeper = omega (
+      arith,
+      greatest_standing depth f rest (old ∷ done),
+      greatest_standing depth (λ t. cut k p (f t)) rest (new ∷ done),
+      greatest_le (λ t. depth (cut k p (f t))) (λ t. depth (f t)) (λ t. cut_depth k p (f t)) rest,
+      cut_depth k p (f main),
+      without_depth p b,
+    );
   }
 
 -- all steps
@@ -231,8 +242,8 @@ module _ (Fs : List BoxFamily) where
     params_steps : (n p : ℕ) (b : BoxTerm) (f : BoxTerm → BoxTerm) → IsBoxProgram (with_constant Fs done d b f rest main) → Shrinks (with_constant Fs done d b f rest main) (whole (without_params Fs done d rest main n p b f))
     params_steps zero p b f ok = no_step (with_constant Fs done d b f rest main) ok
     params_steps (suc n) p b f ok = choose whole (is_dead Fs done d p b f rest main)
-      (λ e. let s = step Fs done d rest main p b f ok e in more_steps s (params_steps n p (without_lambda p b) (λ t. cut d.name.0 p (f t)) s.form))
-      (λ e. params_steps n (suc p) b f ok)
+        (λ e. let s = step Fs done d rest main p b f ok e in more_steps s (params_steps n p (without_lambda p b) (λ t. cut d.name.0 p (f t)) s.form))
+        (λ e. params_steps n (suc p) b f ok)
 
   drop_steps : (done : List BoxConstant) (f : BoxTerm → BoxTerm) (rest : List BoxConstant) (main : BoxTerm) → IsBoxProgram (stands Fs done f rest main) → Shrinks (stands Fs done f rest main) (drop_from Fs done f rest main)
   drop_steps done f [] main ok = no_step (stands Fs done f [] main) ok

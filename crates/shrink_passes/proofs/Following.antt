@@ -56,7 +56,9 @@ span (BindFix rargs bodies e) = length rargs + span e
 words_none : (e : Env) (N : ℕ → Bool) → ((i : ℕ) → N i ≡ false) → words e N ≡ 0
 words_none Empty N h = refl
 words_none (Bind v e) N h = let a : one_if (N zero) ≡ 0 = ap one_if (h zero) in omega (arith, a, words_none e (λ i. N (suc i)) (λ i. h (suc i)))
-words_none (BindFix rargs bodies e) N h = words_none e (λ i. N (length rargs + i) || (any_below (length rargs) N && names_terms bodies i)) (λ i. neither (N (length rargs + i)) (any_below (length rargs) N && names_terms bodies i) (h (length rargs + i)) (none_below (length rargs) (names_terms bodies i)))
+words_none (BindFix rargs bodies e) N h =
+    words_none e (λ i. N (length rargs + i) || (any_below (length rargs) N && names_terms bodies i))
+    (λ i. neither (N (length rargs + i)) (any_below (length rargs) N && names_terms bodies i) (h (length rargs + i)) (none_below (length rargs) (names_terms bodies i)))
   where
     none : (n : ℕ) → any_below n N ≡ false
     none zero = refl
@@ -151,7 +153,8 @@ module _ (k : ℕ) (b : BoxTerm) (closed : Closed 0 b) (none : uses k b ≡ 0) w
   words_like (like_bind_fix {rargs} {bodies} {e} c h) N M same past =
       words_like h (λ i. N (length rargs + i) || (any_below (length rargs) N && names_terms (put_in_terms k b bodies) i)) (λ i. M (length rargs + i) || (any_below (length rargs) M && names_terms bodies i))
       (λ i j. same (length rargs + i) j || (below (length rargs) j && names_put_terms bodies i j))
-      (λ i l. neither (N (length rargs + i)) (any_below (length rargs) N && names_terms (put_in_terms k b bodies) i) (past (length rargs + i) (omega arith)) (neither_and (any_below (length rargs) N) (names_terms (put_in_terms k b bodies) i) (names_put_terms bodies i ∙ names_past_terms (span e) bodies i c l)))
+      (λ i l. neither (N (length rargs + i)) (any_below (length rargs) N && names_terms (put_in_terms k b bodies) i) (past (length rargs + i) (omega arith))
+      (neither_and (any_below (length rargs) N) (names_terms (put_in_terms k b bodies) i) (names_put_terms bodies i ∙ names_past_terms (span e) bodies i c l)))
     where
       below : (n : ℕ) → any_below n N ≡ any_below n M
       below zero = refl

@@ -10,5 +10,6 @@ pub mod Table
 pub mod Cutting
 pub mod Thinning
 pub mod ThinForms
+pub mod RunShapes
 pub mod DropFollowing
 pub mod DropSteps

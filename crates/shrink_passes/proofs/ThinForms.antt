@@ -1,12 +1,12 @@
 -- Variables and box put for variables: nodes, depth and form stay.
-use Rattle.std.proofs.Common.{◌≡◌, ℕ, zero, suc, ◌+◌, ◌≤◌, max, Bool, true, List, [], ◌∷◌, refl, sym, ap, subst, arith, ⊎_elim}
+use Rattle.std.proofs.Common.{◌≡◌, ℕ, zero, suc, ◌+◌, ◌≤◌, List, refl, sym, ap, subst, arith, ⊎_elim}
 use Rattle.trees.specs.Tree.{Rel, Done, Next}
 use Rattle.trees.specs.Measures.{nodes, nodes_trees, depth, depth_trees}
 use Rattle.trees.specs.Parallel.{overs, put, substitute, substitute_terms}
 use Rattle.trees.specs.Closed.{Closed}
 use Rattle.trees.proofs.Bounds.{closed_at, put_fits, substitute-closed}
 use Rattle.trees.proofs.Every.{every_substitute}
-use Rattle.pc_terms.specs.BoxSyntax.{BoxLabel, BoxTerm, BoxTerms, Box, BLambda, BLetIn, BApp, BConst, BConstruct, BCase, BFix}
+use Rattle.pc_terms.specs.BoxSyntax.{BoxTerm, BoxTerms, Box, BLambda, BLetIn, BApp, BConst, BConstruct, BCase, BFix}
 use Rattle.lambda_box.specs.BoxProgram.{BoxConstant, BoxFamily, NamesKept, Named}
 use Rattle.lambda_box.specs.BoxForm.{HasBoxForm, IsBoxBody}
 use Rattle.lambda_box.specs.SaturatedForm.{IsSaturatedAt, AreSaturated}

@@ -2,13 +2,13 @@
 -- body the leading lambdas from the outermost inwards. The place of a lambda is the number of leading lambdas that stand before it then. Where the lambda's
 -- variable isn't used, and every use of the constant is the head of a spine whose argument at that place is box, the lambda and that argument of each use are
 -- dropped. Else both stay. A fixpoint's own parameters stay. Only box is dropped, so no evaluation of a match is lost.
-use Rattle.std.specs.Prelude.{ℕ, zero, suc, ◌+◌, nat_eq, Bool, true, false, ◌&&◌, if◌then◌else◌, List, [], ◌∷◌, reverse}
+use Rattle.std.specs.Prelude.{ℕ, zero, suc, nat_eq, Bool, true, false, ◌&&◌, if◌then◌else◌, List, [], ◌∷◌, reverse}
 use Rattle.trees.specs.Tree.{Rel, Done, Next}
 use Rattle.trees.specs.Parallel.{put, substitute}
 use Rattle.pc_terms.specs.BoxSyntax.{BoxTerm, BoxTerms, Box, BLambda, BLetIn, BApp, BConst, BConstruct, BCase, BFix}
 use Rattle.lambda_box.specs.BoxProgram.{BoxConstant, BoxFamily, BoxProgram}
 use Rattle.lambda_box.specs.ClosureEvaluation.{names}
-use Rattle.shrink_passes.specs.Inline.{standing, stands}
+use Rattle.shrink_passes.specs.Inline.{stands}
 
 -- whether the term is constant k applied to n arguments
 abbrev pub is_spine : ℕ → BoxTerm → ℕ → Bool

@@ -6,6 +6,8 @@
 //! One walk notes the uses of each constant (`specs/Sights.antt`), and each body is walked once more to put in those before it (`specs/Filled.antt`); subterms in
 //! which nothing changes stay shared, and no walk recurses deeper than its term.
 //!
+//! `specs/DropParams.antt` defines a pass after it, which drops parameters of constants that are always box; its laws stand in `laws`, and there is no code yet.
+//!
 //! Below stand `box_terms` (the terms), `lambda_box` (programs and their evaluations) and `box_passes`, whose programs it is made for; above stands `erase_rows`, whose rows
 //! show what it answers. The compiler doesn't call it yet.
 #![tactic(auto)]
