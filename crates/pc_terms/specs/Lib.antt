@@ -8,3 +8,4 @@ pub mod Codes
 pub mod Falls
 pub mod BoxSyntax
 pub mod BoxCode
+pub mod Copies

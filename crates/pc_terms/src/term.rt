@@ -8,9 +8,11 @@ ghost use Rattle.pc_terms.specs.View.{tree_of};
 ghost use Rattle.pc_terms.specs.Counted.{number_of};
 ghost use Rattle.pc_terms.specs.declared.term.MakeFault.TheVariants.{TooDeep, Memory};
 
+use crate::copies::Walk;
 use crate::leaf::{FamilyId, Name};
 use stamps::Stamp;
 use std::alloc::Global;
+use std::cell::Cell;
 use std::marker::Model;
 use std::rc::Rc;
 use thiserror::Error;
@@ -31,8 +33,10 @@ pub struct Term {
 #[derive(Drop)]
 struct Inner {
     depth: u32,
+    lifted: Cell<u32>,
     loose: u64,
     stamp: Stamp,
+    substituted: Cell<u32>,
     node: Node,
 }
 
@@ -237,8 +241,10 @@ impl Term {
             alloc,
             Inner {
                 depth,
+                lifted: Cell::new(0),
                 loose,
                 stamp,
+                substituted: Cell::new(0),
                 node,
             },
         ) {
@@ -281,6 +287,27 @@ impl Term {
         ensures is { IsTrue result → self.now ≡ other.now }
     {
         self.rc.stamp.same(&other.rc.stamp)
+    }
+
+    // Whether the node has parts and other terms have it too, so that a walk may meet it again.
+    pub(crate) fn is_shared(&self) -> bool {
+        self.rc.depth > 1 && Rc::strong_count(&self.rc) > 1
+    }
+
+    // Where the copies of a walk may have the last one of this node; any number.
+    pub(crate) fn hint(&self, walk: Walk) -> u32 {
+        match walk {
+            Walk::Lift => self.rc.lifted.get(),
+            Walk::Subst => self.rc.substituted.get(),
+        }
+    }
+
+    // Keeps a number for `hint`.
+    pub(crate) fn set_hint(&self, walk: Walk, place: u32) {
+        match walk {
+            Walk::Lift => self.rc.lifted.set(place),
+            Walk::Subst => self.rc.substituted.set(place),
+        }
     }
 
     /// The same term, shared with this one.
