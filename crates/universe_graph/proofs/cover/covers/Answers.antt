@@ -6,18 +6,18 @@ use Rattle.universe_levels.specs.declared.level.LevelExpr.{LevelExpr}
 use Rattle.universe_graph.specs.Spans.{span, Covers}
 use Rattle.universe_graph.proofs.cover.covers.Goals as goal
 
-pub returns-then-not-covers_part : goal.returns-then-not-covers_part
-returns-then-not-covers_part c = record {
+pub returns-then-not-covers_from : goal.returns-then-not-covers_from
+returns-then-not-covers_from c = record {
   covered = (
     λ t. cc,
-    λ all. absurd (let yes = c.covers_part.ensures.covered.1 (all c.loop-part.part-index _ c.loop-part-test.true) in cc),
+    λ all. absurd (let yes = c.covers_from.ensures.covered.1 (all c.loop-part.part-index _ c.loop-part-test.true) in cc),
   );
 }
 
 pub loop-part-preserved : goal.loop-part-preserved
 loop-part-preserved c =
     let P : LevelExpr → Type 0 = λ l. Any (Covers (span c.args.rows.now) l) c.args.high.now in
-    All-more P c.args.low.now c.loop-part.part-index _ c.loop-part-test.true c.loop-part.invariant (c.covers_part.ensures.covered.0 c.if-not-covers_part.false)
+    All-more P c.args.low.now c.loop-part.part-index _ c.loop-part-test.true c.loop-part.invariant (c.covers_from.ensures.covered.0 c.if-not-covers_from.false)
 
 pub returns : goal.returns
 returns c =
