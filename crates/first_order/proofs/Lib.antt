@@ -7,3 +7,4 @@ pub mod Written
 pub mod ReadTexts
 pub mod Lowered
 pub mod AllRead
+pub mod Signing

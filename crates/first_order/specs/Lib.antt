@@ -2,3 +2,5 @@ pub mod Reading
 pub mod Searching
 pub mod Texts
 pub mod Laws
+pub mod Signature
+pub mod DirectedSignature

@@ -37,7 +37,7 @@ fn variables(alloc: Global, count: u32) -> Result<Terms, MakeFault>
 }
 
 /// A type behind `count` arguments, without them: none exactly where it mentions one of them. Only `Memory`.
-fn without(alloc: Global, count: u32, ty: &Term) -> Result<Option<Term>, MakeFault>
+pub(crate) fn without(alloc: Global, count: u32, ty: &Term) -> Result<Option<Term>, MakeFault>
     ensures ok { IfOk result (λ o. o ≡ without count ty.now) }
     ensures only_memory { IfErr result (λ e. e ≡ Memory) }
 {

@@ -1,4 +1,4 @@
-//! Why a type has no first-order set, and why a value is no data or has no text.
+//! Why a type has no first-order set or no signature, and why a value is no data or has no text.
 use pc_rules::stop::Stop;
 use pc_terms::term::{MakeFault, Term};
 use std::alloc::{AllocError, AllocFailed};
@@ -10,6 +10,24 @@ pub enum ShapeRefusal {
     NotFirstOrder { ty: Term },
     /// A type number 1,025 would be put in.
     Types,
+    /// No unit is left.
+    Spent,
+    /// A term of the search is beyond the limits of terms in memory.
+    TooDeep,
+    /// There is no memory.
+    Memory,
+}
+
+/// Why a type has no signature.
+#[derive(Drop)]
+pub enum SignatureRefusal {
+    /// The type itself, in weak-head normal form, where it is no product; the first product whose codomain names its variable; or the first type that a
+    /// search works and that is no family of a first-order set.
+    NotFirstOrder { ty: Term },
+    /// A search would put in a type number 1,025.
+    Types,
+    /// A 256th argument would be taken.
+    Arguments,
     /// No unit is left.
     Spent,
     /// A term of the search is beyond the limits of terms in memory.
@@ -90,5 +108,54 @@ impl<T: Drop> From<AllocFailed<T>> for TextFault {
 
     fn from(_e: AllocFailed<T>) -> TextFault {
         TextFault::Memory
+    }
+}
+
+impl From<ShapeRefusal> for SignatureRefusal {
+    ghost use Rattle.std.specs.Prelude.{◌≡◌};
+    ghost use Rattle.first_order.specs.DirectedSignature.{refusal_in};
+
+    ghost from_gives = { λ s r. r ≡ refusal_in s };
+
+    fn from(s: ShapeRefusal) -> SignatureRefusal {
+        match s {
+            ShapeRefusal::NotFirstOrder { ty } => SignatureRefusal::NotFirstOrder { ty },
+            ShapeRefusal::Types => SignatureRefusal::Types,
+            ShapeRefusal::Spent => SignatureRefusal::Spent,
+            ShapeRefusal::TooDeep => SignatureRefusal::TooDeep,
+            ShapeRefusal::Memory => SignatureRefusal::Memory,
+        }
+    }
+}
+
+impl From<Stop> for SignatureRefusal {
+    ghost use Rattle.std.specs.Prelude.{◌≡◌};
+    ghost use Rattle.first_order.specs.Searching.{refusal_of};
+    ghost use Rattle.first_order.specs.DirectedSignature.{refusal_in};
+
+    ghost from_gives = { λ s r. r ≡ refusal_in (refusal_of s) };
+
+    fn from(s: Stop) -> SignatureRefusal {
+        match s {
+            Stop::Spent => SignatureRefusal::Spent,
+            Stop::TooDeep => SignatureRefusal::TooDeep,
+            Stop::Memory => SignatureRefusal::Memory,
+        }
+    }
+}
+
+impl From<MakeFault> for SignatureRefusal {
+    ghost use Rattle.std.specs.Prelude.{◌≡◌};
+    ghost use Rattle.pc_rules.specs.Stops.{stop_of};
+    ghost use Rattle.first_order.specs.Searching.{refusal_of};
+    ghost use Rattle.first_order.specs.DirectedSignature.{refusal_in};
+
+    ghost from_gives = { λ f r. r ≡ refusal_in (refusal_of (stop_of f)) };
+
+    fn from(f: MakeFault) -> SignatureRefusal {
+        match f {
+            MakeFault::TooDeep => SignatureRefusal::TooDeep,
+            MakeFault::Memory => SignatureRefusal::Memory,
+        }
     }
 }

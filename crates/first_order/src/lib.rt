@@ -7,7 +7,8 @@
 //!
 //! What is promised: `first_order` answers what the directed search of `pc_rules` answers, with its units (`follows`), its types are a first-order set (`set`), and
 //! their constructors have the names that the environment keeps (`named`). `data_of` reads exactly the data that the value is, the first node that is none, or that
-//! there are more nodes than are looked at (`read`). `text_of` and `tags_of` write exactly the text of the data (`exact`, `text`); data that was read of a value has
+//! there are more nodes than are looked at (`read`). `signature` takes the type of a function apart (`signatures`): it answers what the directed search for a signature answers
+//! (`follows`), which is one (`is`). `text_of` and `tags_of` write exactly the text of the data (`exact`, `text`); data that was read of a value has
 //! one (`whole`).
 //!
 //! Below stand `pc_terms`, `pc_rules`, `instances`, `dump_reader` (the table of names) and `data_trees`; above stands `driver`.
@@ -19,5 +20,6 @@ pub mod laws;
 pub mod reading;
 pub mod searching;
 pub mod shapes;
+pub mod signatures;
 pub mod texts;
 mod vectors;

@@ -1,4 +1,4 @@
-//! The types of a first-order set.
+//! The types of a first-order set, and the sets of a signature.
 ghost use Rattle.std.specs.Prelude.{◌≡◌, length};
 
 use pc_terms::leaf::Name;
@@ -38,6 +38,19 @@ pub struct Shapes {
     pub types: ShapeTypes,
 }
 
+/// A list of first-order sets.
+#[derive(Drop)]
+pub struct ShapesList {
+    items: Vec<Shapes>,
+}
+
+/// What the type of a function says of a call: the first-order set of each argument's type, the first argument first, and that of the answer's.
+#[derive(Drop)]
+pub struct Signature {
+    pub args: ShapesList,
+    pub answer: Shapes,
+}
+
 impl Model for ShapeCtors {
     ghost use Rattle.std.specs.Prelude.{List};
     ghost use Rattle.first_order.specs.declared.shapes.ShapeCtor.{ShapeCtor};
@@ -54,6 +67,19 @@ impl Model for ShapeTypes {
     ghost use Rattle.pc_terms.specs.Code.{coded_term};
 
     ghost Value = { List Shape };
+
+    ghost coded = { Prim.hlevel (codes, coded_term) };
+
+    ghost view = { λ a. a.items.items };
+}
+
+impl Model for ShapesList {
+    ghost use Rattle.std.specs.Prelude.{List};
+    ghost use Rattle.first_order.specs.declared.shapes.Shapes.{Shapes};
+    ghost use Rattle.std.specs.Coded.{codes};
+    ghost use Rattle.pc_terms.specs.Code.{coded_term};
+
+    ghost Value = { List Shapes };
 
     ghost coded = { Prim.hlevel (codes, coded_term) };
 
@@ -113,6 +139,29 @@ impl ShapeTypes {
     }
 
     /// The number of types. Takes no memory.
+    pub fn len(&self) -> usize
+        ensures is { result ≡ length self.now }
+    {
+        self.items.len()
+    }
+}
+
+impl ShapesList {
+    /// The list of the sets of a vector. Takes no memory.
+    pub fn of(items: Vec<Shapes>) -> ShapesList
+        ensures is { result ≡ items.items }
+    {
+        ShapesList { items }
+    }
+
+    /// The sets, the first first. Takes no memory.
+    pub fn as_slice(&self) -> &[Shapes]
+        ensures is { result.now ≡ self.now }
+    {
+        self.items.as_slice()
+    }
+
+    /// The number of sets. Takes no memory.
     pub fn len(&self) -> usize
         ensures is { result ≡ length self.now }
     {

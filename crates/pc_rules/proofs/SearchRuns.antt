@@ -37,14 +37,14 @@ found_came (Found a) u k h = (a, refl, h)
 found_came (NotFirstOrder T) u k h = absurd (cc)
 found_came TooManyTypes u k h = absurd (cc)
 
-with_found_came : {A B : Type 0} (r : Run (Searched A)) (k : A → Account → Run (Searched B)) {b : B} {w : Account} → (with_found r k).end ≡ Done (Found b) w →
+pub with_found_came : {A B : Type 0} (r : Run (Searched A)) (k : A → Account → Run (Searched B)) {b : B} {w : Account} → (with_found r k).end ≡ Done (Found b) w →
     (a : A) × (v : Account) × (r.end ≡ Done (Found a) v) × ((k a v).end ≡ Done (Found b) w)
 with_found_came r k h =
     let b = bind_came r (λ s u. on_found s u k) h in
     let c = found_came b.0 b.1 k b.3 in
     (c.0, b.1, b.2 ∙ ap (λ s. Done s b.1) c.1, c.2)
 
-done_found : {A : Type 0} {a b : A} {u w : Account} → Done (Found a) u ≡ Done (Found b) w → a ≡ b
+pub done_found : {A : Type 0} {a b : A} {u w : Account} → Done (Found a) u ≡ Done (Found b) w → a ≡ b
 unfolding found_in
 done_found {A} {a} e = ap (λ r. found_in (result_in r) a) e
   where
@@ -172,7 +172,7 @@ lists_are E limit Ts (As ∷ Ass) u w q h =
 
 -- what is asked of a type
 
-or_not_is : {A : Type 0} (W : Term) (o : Option A) (u w : Account) (a : A) → (or_not_first_order W o u).end ≡ Done (Found a) w → o ≡ Some a
+pub or_not_is : {A : Type 0} (W : Term) (o : Option A) (u w : Account) (a : A) → (or_not_first_order W o u).end ≡ Done (Found a) w → o ≡ Some a
 or_not_is W None u w a h = absurd (cc)
 or_not_is W (Some b) u w a h = ap Some (done_found h)
 
@@ -316,7 +316,7 @@ at_is {E} {Us} w A j p =
     let same : 0 + j ≡ j = omega arith in
     let s = shape_there w j p.0 (ap (slice_get Us) same ∙ p.1) in (s.0, s.1, subst (λ W. WeakSteps E [] A W) s.2 p.2)
 
-without_is : (n : ℕ) (B A : Term) → without n B ≡ Some A → B ≡ shift n 0 A
+pub without_is : (n : ℕ) (B A : Term) → without n B ≡ Some A → B ≡ shift n 0 A
 without_is n B A e =
     let q = if_is (same (shift n 0 (lowered n B)) B) (Some (lowered n B)) e in
     sym (same_is (shift n 0 (lowered n B)) B q.0) ∙ ap (shift n 0) (one_item q.1)
