@@ -30,14 +30,14 @@ module _ (c : ℕ) where
 
   abbrev res_weight : Res → ℕ
   res_weight (RAtom a) = 0
-  res_weight (RCon k xs) = 36 + length xs * (52 + 16 * c)
+  res_weight (RCon k xs) = 49 + length xs * (65 + 16 * c)
   res_weight (ROp op) = 4 + normal_op_weight c op
 
   ops_join : (ps qs : List Binding) → ops_weight (ps ++ qs) ≡ ops_weight ps + ops_weight qs
   ops_join [] qs = omega arith
   ops_join (p ∷ ps) qs = omega (arith, ops_join ps qs)
 
-  atoms_of_levels : (d : ℕ) (xs : List _) → 16 * length (map (at_depth d) xs) + atoms_weight c (map (at_depth d) xs) ≡ length xs * (52 + 16 * c)
+  atoms_of_levels : (d : ℕ) (xs : List _) → 16 * length (map (at_depth d) xs) + atoms_weight c (map (at_depth d) xs) ≡ length xs * (65 + 16 * c)
   atoms_of_levels d [] = omega arith
   atoms_of_levels d (x ∷ xs) = omega (arith, atoms_of_levels d xs)
 
@@ -58,7 +58,7 @@ module _ (c : ℕ) where
 
   -- a term's bindings and result are no heavier than k nodes, and light enough for a block around them
   record Light (n : Norm) (k : ℕ) : Type 0 where
-    is : ops_weight n.ops + res_weight n.res + 76 + 16 * c ≤ k * share
+    is : ops_weight n.ops + res_weight n.res + 89 + 16 * c ≤ k * share
 
   record BranchesLight (bs : AnfBranches) (k : ℕ) : Type 0 where
     is : normal_branches_weight c bs ≤ k * share
@@ -96,10 +96,10 @@ module _ (c : ℕ) where
       record { is = omega (arith, h.is, r.is, with_light d n.ops n.res, ops_join m.ops (body (d + length m.ops) m.atom).ops, more_share (i + j) k lt) }
 
   -- an argument's part, wherever it stands
-  arg_weight : {j : ℕ} (e : ℕ) (arg : ℕ → Norm) → Light (arg e) j → ops_weight (name_at arg e).ops + 76 + 16 * c ≤ j * share
+  arg_weight : {j : ℕ} (e : ℕ) (arg : ℕ → Norm) → Light (arg e) j → ops_weight (name_at arg e).ops + 89 + 16 * c ≤ j * share
   arg_weight e arg h = omega (arith, named_light e (arg e).ops (arg e).res, h.is)
 
-  arg_light : {j k : ℕ} (d i : ℕ) (ops : List Binding) (res : Res) (arg : ℕ → Norm) → ops_weight ops + res_weight res + 76 + 16 * c ≤ i * share → ((e : ℕ) → Light (arg e) j) → i + j < k → Light (then_arg d ops res arg) k
+  arg_light : {j k : ℕ} (d i : ℕ) (ops : List Binding) (res : Res) (arg : ℕ → Norm) → ops_weight ops + res_weight res + 89 + 16 * c ≤ i * share → ((e : ℕ) → Light (arg e) j) → i + j < k → Light (then_arg d ops res arg) k
   arg_light {j} {k} d i ops (RCon x xs) arg h g lt =
       let e = d + length ops in
       record { is = omega (arith, h, arg_weight e arg (g e), ops_join ops (name_at arg e).ops, more_share (i + j) k lt) }

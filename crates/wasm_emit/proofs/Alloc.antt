@@ -1,4 +1,4 @@
--- The function that makes sure that memory reaches the heap's end.
+-- The test that makes sure that memory reaches the heap's end.
 use Rattle.std.proofs.Common.{◌≡◌, ℕ, suc, ◌+◌, ◌-◌, ◌*◌, ◌^◌, ◌<◌, ◌≤◌, List, ◌∷◌, Option, Some, Bool, false, refl, ap, arith}
 use Rattle.std.proofs.lemmas.Bool.{cases_lt}
 use Rattle.std.specs.Prelude.{slice_get, ◌⊎◌}
@@ -12,21 +12,21 @@ use Rattle.wasm_core.specs.declared.types.ConstValue.{ConstValue}
 use Rattle.wasm_core.specs.declared.types.ConstValue.TheVariants.{I32}
 use Rattle.wasm_core.specs.declared.instrs.Instr.{Instr}
 use Rattle.wasm_core.specs.declared.instrs.I32Op.TheVariants as op32
-use Rattle.wasm_core.specs.declared.instrs.Instr.TheVariants.{Unreachable, Call, GlobalGet, GlobalSet, I32 as Operation}
+use Rattle.wasm_core.specs.declared.instrs.Instr.TheVariants.{Unreachable, End, Call, GlobalGet, GlobalSet, I32 as Operation}
 use Rattle.wasm_core.specs.declared.entries.Entry.TheVariants.{Status}
 use Rattle.wasm_core.specs.Memory.{zeroed}
 use Rattle.wasm_core.specs.Parts.{Parts}
 use Rattle.wasm_core.specs.Instance.{func_of, greatest_pages}
 use Rattle.wasm_core.specs.Entries.{index_of}
 use Rattle.wasm_core.specs.Answer.{i32_of}
-use Rattle.wasm_core.specs.MachineStep.{State}
+use Rattle.wasm_core.specs.MachineStep.{Label, State, after_end}
 use Rattle.wasm_core.specs.RunTree.{gone}
 use Rattle.wasm_core.proofs.Rules.{Around}
 use Rattle.wasm_core.proofs.Rules as rule
 use Rattle.wasm_emit.specs.EmitLaws.{spent}
-use Rattle.wasm_emit.specs.EmittedCode.{Const, IfOnly}
+use Rattle.wasm_emit.specs.EmittedCode.{Const, IfOnly, ensure_room}
 use Rattle.wasm_emit.specs.EmittedModule.{room_code, type_main, type_function}
-use Rattle.wasm_emit.proofs.Rules.{Limits, Within, here, refusing, func, looser, dying, r_const, r_heap, r_set_status, r_get_status, r_size, r_eq_no, r_gt_yes, r_gt_no, r_mul, r_if, r_if_not, r_end, r_back_nothing, r_call_nothing, r_grow}
+use Rattle.wasm_emit.proofs.Rules.{Limits, Within, here, in_block, refusing, func, looser, dying, r_const, r_heap, r_set_status, r_get_status, r_size, r_eq_no, r_gt_yes, r_gt_no, r_bytes, r_if, r_if_not, r_end, r_back_nothing, r_call_nothing, r_grow}
 
 -- the heap ends at an aligned address within memory
 pub record Room (M : Parts) (m : Mem) (p h : ℕ) : Type 0 where
@@ -55,20 +55,24 @@ module _ (M : Parts) (fixed : HasRunTime M) (cap : Limits) (Q : State → Type 0
 
   -- the heap's end has moved past n bytes more
   pub allocated : {f : Around} {m : Mem} {p h n : ℕ} {ls vals : List ConstValue} {rest : List Instr} {l u : ℕ} → suc (length f.callers) ≤ cap.frames → h + n ≤ cap.bytes → n ≤ 65536 → Room M m p h →
-      ((m' : Mem) (p' : ℕ) → Same h m m' → length m' ≡ 65536 * p' → p' ≤ greatest_pages M.memory → h + n ≤ 65536 * p' → 65536 * p' < h + n + 65536 → Within M cap Q l u (here cap f m' p' (h + n) ls vals rest)) → Within M cap Q l (25 + u) (here cap f m p (h + n) ls vals (Call 0 ∷ rest))
+      ((m' : Mem) (p' : ℕ) → Same h m m' → length m' ≡ 65536 * p' → p' ≤ greatest_pages M.memory → h + n ≤ 65536 * p' → 65536 * p' < h + n + 65536 → Within M cap Q l u (here cap f m' p' (h + n) ls vals rest)) → Within M cap Q l (25 + u) (here cap f m p (h + n) ls vals (ensure_room rest))
   allocated {f} {m} {p} {h} {n} {ls} {vals} {rest} {l} {u} deep needed small_n room k = cases (cases_lt (65536 * p) (h + n))
     where
-      cases : (65536 * p < h + n) ⊎ (h + n ≤ 65536 * p) → Within M cap Q l (25 + u) (here cap f m p (h + n) ls vals (Call 0 ∷ rest))
+      label : Label
+      label = record { keeps = false; goes_on = after_end 0 (Call 0 ∷ End ∷ rest); below = vals }
+
+      cases : (65536 * p < h + n) ⊎ (h + n ≤ 65536 * p) → Within M cap Q l (25 + u) (here cap f m p (h + n) ls vals (ensure_room rest))
       cases (inl over) = looser M cap Q
-          (r_call_nothing M cap Q 0 (omega arith) fixed.room (r_heap M cap Q (omega arith) (r_const M cap Q (omega arith) 65536 (r_size M cap Q (omega arith) (r_mul M cap Q (omega arith) (omega (arith, room.pages, fixed.small))
-          (r_gt_yes M cap Q (omega arith) over (r_if M cap Q (omega arith)
+          (r_heap M cap Q (omega arith) (r_size M cap Q (omega arith) (r_const M cap Q (omega arith) 16 (r_bytes M cap Q (omega arith) (omega (arith, room.pages, fixed.small))
+          (r_gt_yes M cap Q (omega arith) over (r_if M cap Q (omega arith) (r_call_nothing M cap Q {f = in_block label f} 0 (omega arith) fixed.room
           (r_const M cap Q (omega arith) 1 (r_grow M cap Q (omega arith) (λ in_max.
-          (r_const M cap Q (omega arith) (2 ^ 32 - 1) (r_eq_no M cap Q (omega arith) (λ e. omega (arith, room.pages, fixed.small)) (r_set_status M cap Q (omega arith) (r_get_status M cap Q (omega arith) (r_if_not M cap Q (omega arith) (r_end M cap Q (omega arith) (r_end M cap Q (omega arith)
-          (r_back_nothing M cap Q (omega arith) (k (m ++ zeroed 1) (p + 1) (λ x lt. more_same m 1 x (omega (arith, room.long, room.fits))) (omega (arith, room.long, length-append m (zeroed 1), zeroed_length 1)) in_max (omega (arith, room.fits))
+          (r_const M cap Q (omega arith) (2 ^ 32 - 1) (r_eq_no M cap Q (omega arith) (λ e. omega (arith, room.pages, fixed.small)) (r_set_status M cap Q (omega arith) (r_get_status M cap Q (omega arith) (r_if_not M cap Q (omega arith) (r_end M cap Q (omega arith)
+          (r_back_nothing M cap Q {f = in_block label f} (omega arith) (r_end M cap Q {k = label} (omega arith)
+          (k (m ++ zeroed 1) (p + 1) (λ x lt. more_same m 1 x (omega (arith, room.long, room.fits))) (omega (arith, room.long, length-append m (zeroed 1), zeroed_length 1)) in_max (omega (arith, room.fits))
           (omega (arith, over))))))))))))
           (λ x short. stopped (λ z. omega (arith, short z, room.pages, fixed.small)) (omega arith) (omega arith)))))))))))
           (omega arith) (omega arith)
       cases (inr enough) = looser M cap Q
-          (r_call_nothing M cap Q 0 (omega arith) fixed.room (r_heap M cap Q (omega arith) (r_const M cap Q (omega arith) 65536 (r_size M cap Q (omega arith) (r_mul M cap Q (omega arith) (omega (arith, room.pages, fixed.small))
-          (r_gt_no M cap Q (omega arith) enough (r_if_not M cap Q (omega arith) (r_end M cap Q (omega arith) (r_back_nothing M cap Q (omega arith) (k m p (λ x lt. refl) room.long room.pages enough (omega (arith, room.tight))))))))))))
+          (r_heap M cap Q (omega arith) (r_size M cap Q (omega arith) (r_const M cap Q (omega arith) 16 (r_bytes M cap Q (omega arith) (omega (arith, room.pages, fixed.small))
+          (r_gt_no M cap Q (omega arith) enough (r_if_not M cap Q (omega arith) (r_end M cap Q {k = label} (omega arith) (k m p (λ x lt. refl) room.long room.pages enough (omega (arith, room.tight))))))))))
           (omega arith) (omega arith)

@@ -7,7 +7,7 @@ use Rattle.wasm_core.specs.declared.types.ValType.TheVariants.{I32}
 use Rattle.wasm_core.specs.declared.instrs.BlockType.{BlockType}
 use Rattle.wasm_core.specs.declared.instrs.I32Op.{I32Op}
 use Rattle.wasm_core.specs.declared.instrs.Instr.{Instr}
-use Rattle.wasm_core.specs.declared.instrs.Instr.TheVariants.{Unreachable, If, Else, End, Call, CallIndirect, LocalGet, LocalSet, LocalTee, GlobalGet, GlobalSet, I32 as Operation}
+use Rattle.wasm_core.specs.declared.instrs.Instr.TheVariants.{Unreachable, If, Else, End, Call, CallIndirect, LocalGet, LocalSet, LocalTee, GlobalGet, GlobalSet, MemorySize, I32 as Operation}
 use Rattle.wasm_core.specs.ShortestBytes.{unsigned, signed, is_low, is_high, add_local, put_u32, put_all, put_list, put_instr, runs, put_run, put_locals, body_bytes, put_body}
 use Rattle.wasm_emit.specs.EmittedCode.{Load, Store, Const}
 use Rattle.wasm_emit.specs.EmittedModule.{body}
@@ -122,10 +122,14 @@ module _ (rest : List Instr) where
   unfolding put_instr
   z_tee x h = plain (LocalTee x) rest 4 (omega (arith, u_3 2 x (bytes_of rest) h))
 
-  -- the end of the heap, a call of the function that makes room, a small number, and the header of a block
+  -- the end of the heap, memory's pages, a call of the function that makes room, a small number, and the header of a block
   pub z_heap : size (GlobalGet 2 ∷ rest) ≤ 2 + size rest
   unfolding put_instr
   z_heap = plain (GlobalGet 2) rest 2 (omega (arith, u_1 4 2 (bytes_of rest) (omega arith)))
+
+  pub z_size : size (MemorySize ∷ rest) ≤ 2 + size rest
+  unfolding put_instr
+  z_size = plain MemorySize rest 2 (omega arith)
 
   pub z_room : size (Call 0 ∷ rest) ≤ 2 + size rest
   unfolding put_instr

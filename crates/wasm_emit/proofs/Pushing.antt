@@ -16,7 +16,7 @@ use Rattle.closure_lift.specs.declared.program.LiftedOp.TheVariants as lifted
 use Rattle.wasm_core.specs.declared.instrs.I32Op.TheVariants as op32
 use Rattle.wasm_core.specs.declared.instrs.Instr.{Instr}
 use Rattle.wasm_core.specs.declared.instrs.Instr.TheVariants.{Else, End, Call, LocalGet, LocalSet, LocalTee, GlobalGet, GlobalSet, I32 as Operation}
-use Rattle.wasm_emit.specs.EmittedCode.{Place, InLocal, Const, Load, Store, IfWord, fields_of, atom, fill, block, code, empties, heads}
+use Rattle.wasm_emit.specs.EmittedCode.{Place, InLocal, Const, Load, Store, IfWord, fields_of, atom, fill, ensure_room, block, code, empties, heads}
 use Rattle.wasm_emit.specs.EmittedLocals.{top, top_op, top_branches}
 use Rattle.wasm_emit.specs.Pushed.{Pushed, EmptyArm, BlockArm, ends, bound_code, bound_locals, renumber_bound, op_code, block_code}
 use Rattle.wasm_emit.specs.declared.fault.EmitFault.{EmitFault}
@@ -237,7 +237,7 @@ on_ok (Err e) f h = h
 
 -- a block of memory was made
 pub block_pushed : (env : List Place) (d header bytes words : ℕ) (as' : List Atom) (o0 o1 o2 o3 o4 o5 o6 : List Instr) → bytes ≡ 4 * words → words ≡ length as' + 1 →
-    Pushed o0 o1 (λ rest. GlobalGet 2 ∷ LocalTee d ∷ Const bytes ∷ Operation op32.Add ∷ GlobalSet 2 ∷ Call 0 ∷ rest) → Pushed o1 o2 (λ rest. LocalGet d ∷ rest) → Pushed o2 o3 (λ rest. Const header ∷ rest) →
+    Pushed o0 o1 (λ rest. GlobalGet 2 ∷ LocalTee d ∷ Const bytes ∷ Operation op32.Add ∷ GlobalSet 2 ∷ ensure_room rest) → Pushed o1 o2 (λ rest. LocalGet d ∷ rest) → Pushed o2 o3 (λ rest. Const header ∷ rest) →
     Pushed o3 o4 (λ rest. Store 0 ∷ rest) → Pushed o4 o5 (fill env d as') → Pushed o5 o6 (λ rest. LocalGet d ∷ rest) → Pushed o0 o6 (block env d header as')
 block_pushed env d header bytes words as' o0 o1 o2 o3 o4 o5 o6 eb ew x0 x1 x2 x3 x4 x5 = record { is = is }
   where
@@ -249,7 +249,7 @@ block_pushed env d header bytes words as' o0 o1 o2 o3 o4 o5 o6 eb ew x0 x1 x2 x3
         let i2 : List Instr = Store 0 ∷ i3 in
         let i1 : List Instr = Const header ∷ i2 in
         let i0 : List Instr = LocalGet d ∷ i1 in
-        x5.is rest ∙ x4.is i4 ∙ x3.is i3 ∙ x2.is i2 ∙ x1.is i1 ∙ x0.is i0 ∙ ap (λ (k : ℕ). o0 ++ (GlobalGet 2 ∷ LocalTee d ∷ Const k ∷ Operation op32.Add ∷ GlobalSet 2 ∷ Call 0 ∷ i0)) e
+        x5.is rest ∙ x4.is i4 ∙ x3.is i3 ∙ x2.is i2 ∙ x1.is i1 ∙ x0.is i0 ∙ ap (λ (k : ℕ). o0 ++ (GlobalGet 2 ∷ LocalTee d ∷ Const k ∷ Operation op32.Add ∷ GlobalSet 2 ∷ ensure_room i0)) e
 
 -- a field of a block of memory was stored
 pub field_pushed : {a : Atom} (env : List Place) (d : ℕ) (slice atoms : List Atom) (k offset : ℕ) (o0 o1 o2 o3 out : List Instr) (g : List Instr → List Instr) → reverse slice ≡ atoms → k < length slice → offset ≡ 4 * (length slice - k) →

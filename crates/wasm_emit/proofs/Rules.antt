@@ -1,5 +1,5 @@
 -- The rules of the machine at the stores of an emitted module: three globals, of which the first two are 0 until main returns, and no refused grow.
-use Rattle.std.proofs.Common.{◌≡◌, ℕ, suc, ◌+◌, ◌-◌, ◌*◌, ◌^◌, ◌<◌, ◌≤◌, List, [], ◌∷◌, ◌++◌, length, map, replicate, Some, Bool, true, false, refl, arith}
+use Rattle.std.proofs.Common.{◌≡◌, ℕ, suc, ◌+◌, ◌-◌, ◌*◌, ◌%◌, ◌^◌, ◌<◌, ◌≤◌, List, [], ◌∷◌, ◌++◌, length, map, replicate, Some, Bool, true, false, refl, arith}
 use Rattle.std.specs.Prelude.{slice_get, slice_set}
 use Rattle.wasm_core.specs.declared.types.ValType.TheVariants as type
 use Rattle.wasm_core.specs.declared.types.FuncType.{FuncType}
@@ -124,8 +124,12 @@ module _ (M : Parts) (cap : Limits) (Q : State → Type 0) where
     pub r_add : {x y : ℕ} → length f.callers ≤ cap.frames → x + y < 4294967296 → Within M cap Q l u (here cap f m p h ls (I32 (x + y) ∷ vals) rest) → Within M cap Q (suc l) (suc u) (here cap f m p h ls (I32 y ∷ I32 x ∷ vals) (Operation op32.Add ∷ rest))
     r_add deep e k = rule.r_add M cap.frames Q E deep e k
 
-    pub r_mul : {x y : ℕ} → length f.callers ≤ cap.frames → x * y < 4294967296 → Within M cap Q l u (here cap f m p h ls (I32 (x * y) ∷ vals) rest) → Within M cap Q (suc l) (suc u) (here cap f m p h ls (I32 y ∷ I32 x ∷ vals) (Operation op32.Mul ∷ rest))
-    r_mul deep e k = rule.r_mul M cap.frames Q E deep e k
+    -- pages become bytes
+    pub r_bytes : {x : ℕ} → length f.callers ≤ cap.frames → x ≤ 16384 → Within M cap Q l u (here cap f m p h ls (I32 (65536 * x) ∷ vals) rest) → Within M cap Q (suc l) (suc u) (here cap f m p h ls (I32 16 ∷ I32 x ∷ vals) (Operation op32.Shl ∷ rest))
+    r_bytes {x} deep small k = rule.r_binary M cap.frames Q E op32.Shl deep refl (shifted x small) k
+      where
+        shifted : (x : ℕ) → x ≤ 16384 → (x * 2 ^ (16 % 32)) % 2 ^ 32 ≡ 65536 * x
+        shifted x h = omega arith
 
     -- a true test: the first arm runs; a false one: the second
     pub r_if : {t : BlockType} → length f.callers ≤ cap.frames → Within M cap Q l u (here cap (in_block (record { keeps = has_value t; goes_on = after_end 0 rest; below = vals }) f) m p h ls [] rest) → Within M cap Q (suc l) (suc u) (here cap f m p h ls (I32 1 ∷ vals) (If t ∷ rest))

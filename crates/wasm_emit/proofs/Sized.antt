@@ -2,10 +2,10 @@
 use Rattle.std.proofs.Common.{◌≡◌, ℕ, zero, suc, ◌+◌, ◌-◌, ◌*◌, ◌<◌, ◌≤◌, List, [], ◌∷◌, ◌++◌, length, length-append, map, Some, refl, arith}
 use Rattle.std.specs.Prelude.{slice_get, max, codes}
 use Rattle.wasm_core.specs.declared.instrs.I32Op.TheVariants as op32
-use Rattle.wasm_core.specs.declared.instrs.BlockType.TheVariants.{Value}
+use Rattle.wasm_core.specs.declared.instrs.BlockType.TheVariants.{Empty, Value}
 use Rattle.wasm_core.specs.declared.types.ValType.TheVariants.{I32}
 use Rattle.wasm_core.specs.declared.instrs.Instr.{Instr}
-use Rattle.wasm_core.specs.declared.instrs.Instr.TheVariants.{Else, End, Call, CallIndirect, LocalGet, LocalSet, LocalTee, GlobalGet, GlobalSet, I32 as Operation}
+use Rattle.wasm_core.specs.declared.instrs.Instr.TheVariants.{Else, End, Call, CallIndirect, LocalGet, LocalSet, LocalTee, GlobalGet, GlobalSet, MemorySize, I32 as Operation}
 use Rattle.wasm_core.specs.declared.instrs.Body.{Body}
 use Rattle.wasm_core.specs.declared.exports.Export.{Export}
 use Rattle.wasm_core.specs.declared.exports.ExportKind.TheVariants as kind
@@ -17,12 +17,12 @@ use Rattle.anf_convert.specs.declared.program.Atom.TheVariants.{Var as AVar, Box
 use Rattle.closure_lift.specs.Lifted.{Op, OConst, OApp, OCon, OClos, OCase, Block, RetAtom, LetAtom, Ret, Let, Branches, BNil, BCons, Program, Fn}
 use Rattle.closure_lift.specs.LiftedForm.{OpFits, BlockFits, BranchesFit, Formed, Limits}
 use Rattle.wasm_emit.specs.EmittedModule.{type_main, type_constant, type_function, word_global, body, room_code, main_index, function, constant, main_function, entries, module_of}
-use Rattle.wasm_emit.specs.EmittedCode.{Load, Store, Const, IfWord, Place, InLocal, InField, fields_of, read, atom, fill, block, op, code, empties, heads, constant_index}
+use Rattle.wasm_emit.specs.EmittedCode.{Load, Store, Const, IfWord, IfOnly, ensure_room, Place, InLocal, InField, fields_of, read, atom, fill, block, op, code, empties, heads, constant_index}
 use Rattle.wasm_emit.specs.EmittedLocals.{top, top_op, top_branches}
 use Rattle.wasm_emit.specs.EmitLaws.{CountsFit}
 use Rattle.wasm_emit.specs.Weight.{op_weight, weight, branches_weight, functions_weight, constants_weight, program_weight, EmitSized, LocalsBound}
 use Rattle.wasm_emit.proofs.Indices.{row_length, entries_length}
-use Rattle.wasm_emit.proofs.Lengths.{u_any, s_any, size, z_unreachable, z_if, z_else, z_end, z_op, z_call, z_indirect, z_get, z_set, z_tee, z_heap, z_room, z_small, z_header, z_global, z_load, z_store, z_const, body_size}
+use Rattle.wasm_emit.proofs.Lengths.{u_any, s_any, size, z_unreachable, z_if, z_else, z_end, z_op, z_call, z_indirect, z_get, z_set, z_tee, z_heap, z_size, z_room, z_small, z_header, z_global, z_load, z_store, z_const, body_size}
 
 abbrev Near : Place → Type 0
 Near (InLocal x) = x < 100000
@@ -49,18 +49,27 @@ fill_size ps d (a ∷ as') rest hd few h =
     let next = fill ps d as' rest in
     omega (arith, z_get (atom ps a (Store (4 * suc (length as')) ∷ next)) d (omega arith), atom_size ps a (Store (4 * suc (length as')) ∷ next) h, z_store next (4 * suc (length as')) (omega arith), fill_size ps d as' rest hd (omega arith) h)
 
-block_size : (ps : List Place) (d header : ℕ) (as' : List Atom) (rest : List Instr) → d < 100000 → length as' < 2049 → All Near ps → size (block ps d header as' rest) ≤ 32 + 16 * length as' + size rest
+ensure_size : (rest : List Instr) → size (ensure_room rest) ≤ 15 + size rest
+ensure_size rest =
+    let r6 = Call 0 ∷ End ∷ rest in
+    let r5 = IfOnly ∷ r6 in
+    let r4 = Operation op32.GtU ∷ r5 in
+    let r3 = Operation op32.Shl ∷ r4 in
+    let r2 = Const 16 ∷ r3 in
+    omega (arith, z_heap (MemorySize ∷ r2), z_size r2, z_small r3 16 (omega arith), z_op r4 op32.Shl, z_op r5 op32.GtU, z_if r6 Empty, z_room (End ∷ rest), z_end rest)
+
+block_size : (ps : List Place) (d header : ℕ) (as' : List Atom) (rest : List Instr) → d < 100000 → length as' < 2049 → All Near ps → size (block ps d header as' rest) ≤ 45 + 16 * length as' + size rest
 block_size ps d header as' rest hd few h =
     let n = 4 * suc (length as') in
     let r8 = fill ps d as' (LocalGet d ∷ rest) in
     let r7 = Store 0 ∷ r8 in
     let r6 = Const header ∷ r7 in
     let r5 = LocalGet d ∷ r6 in
-    let r4 = Call 0 ∷ r5 in
+    let r4 = ensure_room r5 in
     let r3 = GlobalSet 2 ∷ r4 in
     let r2 = Operation op32.Add ∷ r3 in
     let r1 = Const n ∷ r2 in
-    let start : size (GlobalGet 2 ∷ LocalTee d ∷ r1) ≤ 15 + size r5 = omega (arith, z_heap (LocalTee d ∷ r1), z_tee r1 d (omega arith), z_small r2 n (omega arith), z_op r3 op32.Add, z_global r4 2 (omega arith), z_room r5) in
+    let start : size (GlobalGet 2 ∷ LocalTee d ∷ r1) ≤ 28 + size r5 = omega (arith, z_heap (LocalTee d ∷ r1), z_tee r1 d (omega arith), z_small r2 n (omega arith), z_op r3 op32.Add, z_global r4 2 (omega arith), ensure_size r5) in
     omega (arith, start, z_get r6 d (omega arith), z_const r7 header, z_header r8, fill_size ps d as' (LocalGet d ∷ rest) hd few h, z_get rest d (omega arith))
 
 -- what each of the two chains makes of a match's branches

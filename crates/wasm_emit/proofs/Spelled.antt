@@ -16,7 +16,7 @@ use Rattle.anf_convert.specs.declared.program.Atom.TheVariants.{Var as AVar, Box
 use Rattle.closure_lift.specs.Lifted.{Op, OConst, OApp, OCon, OClos, OCase, Block, RetAtom, LetAtom, Ret, Let, Branches, BNil, BCons, Program, many}
 use Rattle.anf_convert.specs.AnfForm.{AtomFits, AtomsFit}
 use Rattle.closure_lift.specs.LiftedForm.{OpFits, BlockFits, BranchesFit, Limits}
-use Rattle.wasm_emit.specs.EmittedCode.{Const, Place, InLocal, InField, fields_of, read, atom, fill, block, op, code, empties, heads}
+use Rattle.wasm_emit.specs.EmittedCode.{Const, Place, InLocal, InField, fields_of, read, atom, fill, ensure_room, block, op, code, empties, heads}
 use Rattle.wasm_emit.specs.EmittedModule.{room_code, function, constant, main_function, entries, module_of}
 use Rattle.wasm_emit.specs.EmittedLocals.{top, top_op, top_branches}
 use Rattle.wasm_emit.specs.EmitLaws.{CountsFit, EmitSpelled}
@@ -56,8 +56,11 @@ f_fill : {rest : List Instr} (n : ℕ) (ps : List Place) (d : ℕ) (as' : List A
 f_fill n ps d [] hd few h fit k = k
 f_fill n ps d (a ∷ as') hd few h fit k = fits (omega arith) (f_atom n ps a h fit.0 (fits (omega arith, omega arith) (f_fill n ps d as' hd (omega arith) h fit.1 k)))
 
+f_room : {rest : List Instr} → Good rest → Good (ensure_room rest)
+f_room k = fits (omega arith) (fits tt (fits (omega arith) (fits tt (fits tt (fits tt (fits (omega arith) (fits tt k)))))))
+
 f_block : {rest : List Instr} (n : ℕ) (ps : List Place) (d header : ℕ) (as' : List Atom) → d < 100000 → header < 4294967296 → length as' < 2049 → All FitsPlace ps → AtomsFit n as' → Good rest → Good (block ps d header as' rest)
-f_block n ps d header as' hd hh few h fit k = fits (omega arith) (fits (omega arith) (fits (omega arith) (fits tt (fits (omega arith) (fits (omega arith) (fits (omega arith) (fits hh (fits (omega arith, omega arith) (f_fill n ps d as' hd few h fit (fits (omega arith) k))))))))))
+f_block n ps d header as' hd hh few h fit k = fits (omega arith) (fits (omega arith) (fits (omega arith) (fits tt (fits (omega arith) (f_room (fits (omega arith) (fits hh (fits (omega arith, omega arith) (f_fill n ps d as' hd few h fit (fits (omega arith) k))))))))))
 
 module _ (P : Program) (m : ℕ) (counts : CountsFit P m) (limits : Limits P) where
   abbrev Fits : ℕ → Op → Type 0
@@ -108,8 +111,7 @@ body_fits : (M : Parts) (index n : ℕ) (is : List Instr) → n ≤ 50000 → Ty
 body_fits M index n is few t all = (omega (arith, length-replicate {A = ValType} n I32), typed_is_closed M (t.type.params ++ replicate n I32) (results_of t.type) is t.typed (all_of all))
 
 room_good : Good room_code
-room_good = fits (omega arith) (fits (omega arith) (fits tt (fits tt (fits tt (fits tt (fits (omega arith)
-    (fits tt (fits (omega arith) (fits tt (fits (omega arith) (fits (omega arith) (fits tt (fits tt (fits tt (fits tt (fits tt good))))))))))))))))
+room_good = fits (omega arith) (fits tt (fits (omega arith) (fits tt (fits (omega arith) (fits (omega arith) (fits tt (fits tt (fits tt (fits tt good)))))))))
 
 pub emit_spelled : EmitSpelled
 emit_spelled P pages m pos small form limits counts =

@@ -21,7 +21,7 @@ use Rattle.wasm_core.specs.declared.exports.Export.{Export}
 use Rattle.wasm_emit.specs.CallLaws.{call_start, CallStatus}
 use Rattle.wasm_emit.specs.EmittedModule.{type_main, module_with, function, constant, main_function, module_of}
 use Rattle.wasm_emit.specs.CallModule.{applied, call_function, call_globals, call_exports, module_of_call}
-use Rattle.wasm_emit.specs.EmittedCode.{Place, InLocal, InField, fields_of, read, atom, fill, block, op, code, empties, heads}
+use Rattle.wasm_emit.specs.EmittedCode.{Place, InLocal, InField, fields_of, read, atom, fill, ensure_room, block, op, code, empties, heads}
 use Rattle.wasm_emit.specs.EmitLaws.{StatusTells}
 use Rattle.wasm_emit.proofs.Answering.{first_of, starts}
 use Rattle.wasm_emit.proofs.Honest.{Wary, w_nil, w_cons, w_grow, at_wary, HonestState, Tells, stays}
@@ -40,8 +40,11 @@ w_fill : {rest : List Instr} (env : List Place) (d : ℕ) (as' : List Atom) → 
 w_fill env d [] w = w
 w_fill env d (a ∷ as') w = w_cons tt (w_atom env a (w_cons tt (w_fill env d as' w)))
 
+w_room : {rest : List Instr} → Wary rest → Wary (ensure_room rest)
+w_room w = w_cons tt (w_cons tt (w_cons tt (w_cons tt (w_cons tt (w_cons tt (w_cons tt (w_cons tt w)))))))
+
 w_block : {rest : List Instr} (env : List Place) (d header : ℕ) (as' : List Atom) → Wary rest → Wary (block env d header as' rest)
-w_block env d header as' w = w_cons tt (w_cons tt (w_cons tt (w_cons tt (w_cons (λ z. omega arith) (w_cons tt (w_cons tt (w_cons tt (w_cons tt (w_fill env d as' (w_cons tt w))))))))))
+w_block env d header as' w = w_cons tt (w_cons tt (w_cons tt (w_cons tt (w_cons (λ z. omega arith) (w_room (w_cons tt (w_cons tt (w_cons tt (w_fill env d as' (w_cons tt w))))))))))
 
 module _ (P : Program) where
   mutual
@@ -88,8 +91,7 @@ mapped_then h (x ∷ xs) bs a r zero g e = wary_body e (a x)
 mapped_then h (x ∷ xs) bs a r (suc f) g e = mapped_then h xs bs a r f g e
 
 all_wary : (P : Program) (main : Body) (gs : List GlobalDef) (es : List Export) (pages : ℕ) → Wary main.code → AllWary (module_with P main gs es pages).bodies
-all_wary P main gs es pages wm zero g e = wary_body e (w_cons tt (w_cons tt (w_cons tt (w_cons tt (w_cons tt (w_cons tt (w_cons tt (w_grow refl
-    (w_cons tt (w_cons tt (w_cons tt (w_cons tt (w_cons tt (w_cons tt w_nil))))))))))))))
+all_wary P main gs es pages wm zero g e = wary_body e (w_cons tt (w_grow refl (w_cons tt (w_cons tt (w_cons tt (w_cons tt (w_cons tt w_nil)))))))
 all_wary P main gs es pages wm (suc zero) g e = wary_body e (w_cons tt (w_cons tt w_nil))
 all_wary P main gs es pages wm (suc (suc f)) g e =
     mapped_then (function P) P.functions (map (constant P) P.constants ++ main ∷ []) (λ x. w_code P _ 2 x.body (w_cons tt w_nil))

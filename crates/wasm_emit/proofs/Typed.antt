@@ -6,17 +6,17 @@ use Rattle.std.proofs.lemmas.Option.{slice_get-get_or}
 use Rattle.wasm_core.specs.declared.types.ValType.TheVariants.{I32}
 use Rattle.wasm_core.specs.declared.instrs.BlockType.TheVariants.{Value}
 use Rattle.wasm_core.specs.declared.instrs.Instr.{Instr}
-use Rattle.wasm_core.specs.declared.instrs.Instr.TheVariants.{Unreachable, Else, End, CallIndirect, LocalGet, LocalSet, LocalTee}
+use Rattle.wasm_core.specs.declared.instrs.Instr.TheVariants.{Unreachable, Else, End, Call, CallIndirect, LocalGet, LocalSet, LocalTee}
 use Rattle.wasm_core.specs.declared.types.GlobalDef.{GlobalDef}
 use Rattle.wasm_core.specs.declared.exports.Export.{Export}
 use Rattle.wasm_core.specs.declared.instrs.Body.{Body}
 use Rattle.wasm_core.specs.Parts.{Parts}
 use Rattle.wasm_core.specs.ModuleTyping.{Types, Operands, Of, Effect, getting, setting, keeping, calling as calling_type, Typed, done, unreachable}
-use Rattle.wasm_core.proofs.TypedRules.{t_plain, t_two_arms}
+use Rattle.wasm_core.proofs.TypedRules.{t_plain, t_one_arm, t_two_arms}
 use Rattle.anf_convert.specs.declared.program.Atom.{Atom}
 use Rattle.anf_convert.specs.declared.program.Atom.TheVariants.{Var as AVar, Box as ABox, Empty as AEmpty}
 use Rattle.closure_lift.specs.Lifted.{Op, OConst, OApp, OCon, OClos, OCase, Block, RetAtom, LetAtom, Ret, Let, Branches, BNil, BCons, Program}
-use Rattle.wasm_emit.specs.EmittedCode.{Load, Store, IfWord, Place, InLocal, InField, fields_of, read, atom, fill, block, op, code, empties, heads}
+use Rattle.wasm_emit.specs.EmittedCode.{Load, Store, IfWord, Place, InLocal, InField, fields_of, read, atom, fill, ensure_room, block, op, code, empties, heads}
 use Rattle.wasm_emit.specs.EmittedLocals.{top, top_op, top_branches}
 use Rattle.wasm_emit.specs.EmittedModule.{module_with}
 use Rattle.wasm_emit.proofs.Scoped.{AtomOk, AtomsOk, OpOk, BlockOk, BranchesOk}
@@ -54,8 +54,11 @@ front_fill : (env : List Place) (d : ℕ) (as' : List Atom) → Front (fill env 
 front_fill env d [] = same_front
 front_fill env d (a ∷ as') = cons_front (LocalGet d) then (front_atom env a then (cons_front (Store (4 * suc (length as'))) then front_fill env d as'))
 
+front_room : Front ensure_room
+front_room = record { is = λ r. refl }
+
 front_block : (env : List Place) (d header : ℕ) (as' : List Atom) → Front (block env d header as')
-front_block env d header as' = cons_front _ then (cons_front _ then (cons_front _ then (cons_front _ then (cons_front _ then (cons_front _ then (cons_front _ then (cons_front _ then (cons_front _ then (front_fill env d as' then cons_front (LocalGet d))))))))))
+front_block env d header as' = cons_front _ then (cons_front _ then (cons_front _ then (cons_front _ then (cons_front _ then (front_room then (cons_front _ then (cons_front _ then (cons_front _ then (front_fill env d as' then cons_front (LocalGet d))))))))))
 
 module _ (P : Program) where
   mutual
@@ -144,8 +147,11 @@ module _ (P : Program) (main : Body) (gs : List GlobalDef) (es : List Export) (p
     t_fill [] le h lt k = k
     t_fill {ts = ts} (a ∷ as') le h lt k = t_get (omega arith) (t_atom a (omega arith) h lt.0 (t_plain ts refl (t_fill as' le h lt.1 k)))
 
+    t_room : {ts : Operands} {rest : List Instr} → Typed m ls rs labels ts rest us → Typed m ls rs labels ts (ensure_room rest) us
+    t_room {ts = ts} k = t_plain ts refl (t_plain (Of I32 ∷ ts) refl (t_plain (Of I32 ∷ Of I32 ∷ ts) refl (t_plain (Of I32 ∷ ts) refl (t_plain ts refl (t_one_arm {body = Call 0 ∷ []} (t_plain [] refl done) k)))))
+
     t_block : {d n : ℕ} {ps : List Place} {ts : Operands} {rest : List Instr} (header : ℕ) (as' : List Atom) → suc d ≤ size → Places d ps n → AtomsOk n as' → Typed m ls rs labels (Of I32 ∷ ts) rest us → Typed m ls rs labels ts (block ps d header as' rest) us
-    t_block {ts = ts} header as' le h lt k = t_plain ts refl (t_tee (omega arith) (t_plain (Of I32 ∷ ts) refl (t_plain ts refl (t_plain ts refl (t_plain ts refl (t_get (omega arith) (t_plain (Of I32 ∷ ts) refl (t_plain ts refl (t_fill as' le h lt (t_get (omega arith) k))))))))))
+    t_block {ts = ts} header as' le h lt k = t_plain ts refl (t_tee (omega arith) (t_plain (Of I32 ∷ ts) refl (t_plain ts refl (t_plain ts refl (t_room (t_get (omega arith) (t_plain (Of I32 ∷ ts) refl (t_plain ts refl (t_fill as' le h lt (t_get (omega arith) k))))))))))
 
   arms : {labels : List Types} {ts us : Operands} {rest : List Instr} {g1 g2 : List Instr → List Instr} → Front g1 → Front g2 → Typed m ls rs ((I32 ∷ []) ∷ labels) [] (g1 []) (Of I32 ∷ []) → Typed m ls rs ((I32 ∷ []) ∷ labels) [] (g2 []) (Of I32 ∷ []) →
       Typed m ls rs labels (Of I32 ∷ ts) rest us → Typed m ls rs labels (Of I32 ∷ ts) (IfWord ∷ g1 (Else ∷ g2 (End ∷ rest))) us

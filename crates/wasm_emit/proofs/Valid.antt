@@ -6,7 +6,7 @@ use Rattle.wasm_core.specs.declared.types.ValType.TheVariants.{I32}
 use Rattle.wasm_core.specs.declared.types.GlobalDef.{GlobalDef}
 use Rattle.wasm_core.specs.declared.exports.Export.{Export}
 use Rattle.wasm_core.specs.declared.instrs.I32Op.TheVariants as op32
-use Rattle.wasm_core.specs.declared.instrs.Instr.TheVariants.{Unreachable, End, GlobalGet, GlobalSet, LocalSet, MemorySize, MemoryGrow, I32 as Operation}
+use Rattle.wasm_core.specs.declared.instrs.Instr.TheVariants.{Unreachable, End, GlobalGet, GlobalSet, LocalSet, MemoryGrow, I32 as Operation}
 use Rattle.wasm_core.specs.declared.instrs.Body.{Body}
 use Rattle.wasm_core.specs.declared.instrs.Instr.{Instr}
 use Rattle.wasm_core.specs.Parts.{Parts}
@@ -132,11 +132,8 @@ module _ (P : Program) (main : Body) (gs : List GlobalDef) (es : List Export) (p
   room_typed = record {
     type = type_main;
     found = refl;
-    typed = t_body M [] [] (GlobalGet 2 ∷ Const 65536 ∷ MemorySize ∷ Operation op32.Mul ∷ Operation op32.GtU ∷ IfOnly ∷
-        Const 1 ∷ MemoryGrow ∷ Const (2 ^ 32 - 1) ∷ Operation op32.Eq ∷ GlobalSet 1 ∷ GlobalGet 1 ∷ IfOnly ∷ Unreachable ∷ End ∷ End ∷ [])
-        (t_plain [] refl (t_plain (Of I32 ∷ []) refl (t_plain (Of I32 ∷ Of I32 ∷ []) refl (t_plain (Of I32 ∷ []) refl (t_plain [] refl
-        (t_one_arm {body = Const 1 ∷ MemoryGrow ∷ Const (2 ^ 32 - 1) ∷ Operation op32.Eq ∷ GlobalSet 1 ∷ GlobalGet 1 ∷ IfOnly ∷ Unreachable ∷ End ∷ []}
-        (t_plain [] refl (t_plain [] refl (t_plain (Of I32 ∷ []) refl (t_plain [] refl (t_plain [] refl (t_plain [] refl (t_one_arm {body = Unreachable ∷ []} (unreachable done) done))))))) done))))));
+    typed = t_body M [] [] (Const 1 ∷ MemoryGrow ∷ Const (2 ^ 32 - 1) ∷ Operation op32.Eq ∷ GlobalSet 1 ∷ GlobalGet 1 ∷ IfOnly ∷ Unreachable ∷ End ∷ [])
+        (t_plain [] refl (t_plain [] refl (t_plain (Of I32 ∷ []) refl (t_plain [] refl (t_plain [] refl (t_plain [] refl (t_one_arm {body = Unreachable ∷ []} (unreachable done) done)))))));
   }
 
   -- two lists of functions, one of type indices and one of bodies, side by side

@@ -9,7 +9,7 @@ use Rattle.wasm_core.specs.declared.instrs.BlockType.TheVariants.{Empty, Value}
 use Rattle.wasm_core.specs.declared.instrs.Access.{Access}
 use Rattle.wasm_core.specs.declared.instrs.I32Op.TheVariants as op32
 use Rattle.wasm_core.specs.declared.instrs.Instr.{Instr}
-use Rattle.wasm_core.specs.declared.instrs.Instr.TheVariants.{Unreachable, If, Else, End, Call, CallIndirect, LocalGet, LocalSet, LocalTee, GlobalGet, GlobalSet, I32Load, I32Store, I32Const, I32 as Operation}
+use Rattle.wasm_core.specs.declared.instrs.Instr.TheVariants.{Unreachable, If, Else, End, Call, CallIndirect, LocalGet, LocalSet, LocalTee, GlobalGet, GlobalSet, I32Load, I32Store, I32Const, MemorySize, I32 as Operation}
 -- where a variable's word is: in a local, or in a field of the block whose address is in a local
 pub use Rattle.wasm_emit.specs.declared.places.Place.{Place}
 pub use Rattle.wasm_emit.specs.declared.places.Place.TheVariants.{Local as InLocal, Field as InField}
@@ -58,10 +58,14 @@ abbrev pub fill : List Place → ℕ → List Atom → List Instr → List Instr
 fill env d [] rest = rest
 fill env d (a ∷ as') rest = LocalGet d ∷ atom env a (Store (4 * suc (length as')) ∷ fill env d as' rest)
 
--- a block begins at the end of the heap, which is global 2 and moves past the block; function 0 makes sure that memory reaches it
+-- where the end of the heap, which is global 2, is past memory, function 0 makes memory grow by a page
+abbrev pub ensure_room : List Instr → List Instr
+ensure_room rest = GlobalGet 2 ∷ MemorySize ∷ Const 16 ∷ Operation op32.Shl ∷ Operation op32.GtU ∷ IfOnly ∷ Call 0 ∷ End ∷ rest
+
+-- a block begins at the end of the heap, which moves past the block
 abbrev pub block : List Place → ℕ → ℕ → List Atom → List Instr → List Instr
 block env d header as' rest =
-    GlobalGet 2 ∷ LocalTee d ∷ Const (4 * suc (length as')) ∷ Operation op32.Add ∷ GlobalSet 2 ∷ Call 0 ∷ LocalGet d ∷ Const header ∷ Store 0 ∷ fill env d as' (LocalGet d ∷ rest)
+    GlobalGet 2 ∷ LocalTee d ∷ Const (4 * suc (length as')) ∷ Operation op32.Add ∷ GlobalSet 2 ∷ ensure_room (LocalGet d ∷ Const header ∷ Store 0 ∷ fill env d as' (LocalGet d ∷ rest))
 
 -- a closure's function, whose entry of the table is the first word of its block, is called with the closure and the argument
 abbrev pub application : List Place → Atom → Atom → List Instr → List Instr

@@ -9,7 +9,7 @@ use Rattle.wasm_core.specs.declared.exports.Export.{Export}
 use Rattle.wasm_core.specs.declared.exports.ExportKind.TheVariants as kind
 use Rattle.wasm_core.specs.declared.instrs.I32Op.TheVariants as op32
 use Rattle.wasm_core.specs.declared.instrs.Instr.{Instr}
-use Rattle.wasm_core.specs.declared.instrs.Instr.TheVariants.{Unreachable, End, GlobalGet, GlobalSet, MemorySize, MemoryGrow, I32 as Operation}
+use Rattle.wasm_core.specs.declared.instrs.Instr.TheVariants.{Unreachable, End, GlobalGet, GlobalSet, MemoryGrow, I32 as Operation}
 use Rattle.wasm_core.specs.declared.instrs.Body.{Body}
 use Rattle.wasm_core.specs.Parts.{Parts}
 use Rattle.wasm_emit.specs.EmittedCode.{Const, IfOnly, InLocal, fields_of, code}
@@ -27,11 +27,9 @@ type_function = record { params = type.I32 ∷ type.I32 ∷ []; result = Some ty
 
 -- global 0 is the result, global 1 the status, global 2 the end of the heap
 
--- memory grows by a page where the heap's end is past it; where that is refused, a trap with status 1
+-- memory grows by a page; where that is refused, a trap with status 1
 abbrev pub room_code : List Instr
-room_code =
-    GlobalGet 2 ∷ Const 65536 ∷ MemorySize ∷ Operation op32.Mul ∷ Operation op32.GtU ∷ IfOnly ∷
-    Const 1 ∷ MemoryGrow ∷ Const (2 ^ 32 - 1) ∷ Operation op32.Eq ∷ GlobalSet 1 ∷ GlobalGet 1 ∷ IfOnly ∷ Unreachable ∷ End ∷ End ∷ End ∷ []
+room_code = Const 1 ∷ MemoryGrow ∷ Const (2 ^ 32 - 1) ∷ Operation op32.Eq ∷ GlobalSet 1 ∷ GlobalGet 1 ∷ IfOnly ∷ Unreachable ∷ End ∷ End ∷ []
 
 -- a body with so many locals, all words
 abbrev pub body : ℕ → List Instr → Body

@@ -9,7 +9,7 @@ use Rattle.wasm_emit.specs.Weight.{program_weight}
 module _ (c : ℕ) where
   -- a variable, for which a closure is made where it is a fixpoint's
   abbrev pub atom_weight : ℕ
-  atom_weight = 36 + 16 * c
+  atom_weight = 49 + 16 * c
 
   abbrev pub atoms_weight : List Atom → ℕ
   atoms_weight [] = 0
@@ -20,9 +20,9 @@ module _ (c : ℕ) where
     pub normal_op_weight : AnfOp → ℕ
     normal_op_weight (ConstOp x) = 4
     normal_op_weight (AppOp f a) = 31 + atoms_weight (f ∷ a ∷ [])
-    normal_op_weight (ConOp k as') = 32 + 16 * length as' + atoms_weight as'
-    normal_op_weight (LamOp b) = 60 + 16 * c + normal_weight b
-    normal_op_weight (FixOp ds i) = 32 + 16 * c + normal_defs_weight ds
+    normal_op_weight (ConOp k as') = 45 + 16 * length as' + atoms_weight as'
+    normal_op_weight (LamOp b) = 73 + 16 * c + normal_weight b
+    normal_op_weight (FixOp ds i) = 45 + 16 * c + normal_defs_weight ds
     normal_op_weight (CaseOp a bs) = 13 + atom_weight + normal_branches_weight bs
 
     pub normal_weight : AnfBlock → ℕ

@@ -12,8 +12,8 @@ abbrev mutual
   pub op_weight : Op → ℕ
   op_weight (OConst x) = 4
   op_weight (OApp f a) = 31
-  op_weight (OCon c as') = 32 + 16 * length as'
-  op_weight (OClos g as') = 32 + 16 * length as'
+  op_weight (OCon c as') = 45 + 16 * length as'
+  op_weight (OClos g as') = 45 + 16 * length as'
   op_weight (OCase a bs) = 13 + branches_weight bs
 
   pub weight : Block → ℕ

@@ -38,19 +38,12 @@ fn body_of(alloc: Global, locals: u32, code: Vec<Instr>) -> Result<Body, EmitFau
     })
 }
 
-/// The function that makes sure that memory reaches the heap's end: where it doesn't it grows by a page, and where that is refused the status is 1 and the run
-/// traps.
+/// The function that makes memory grow by a page; where that is refused the status is 1 and the run traps.
 pub(crate) fn room_body(alloc: Global) -> Result<Body, EmitFault>
     ensures is { IfOk result (λ b. b ≡ room_function) }
     ensures only_memory { IfErr result (λ e. e ≡ Memory) }
 {
     let code = vec![in alloc;
-        Instr::GlobalGet(2),
-        Instr::I32Const(65_536),
-        Instr::MemorySize,
-        Instr::I32(I32Op::Mul),
-        Instr::I32(I32Op::GtU),
-        Instr::If(BlockType::Empty),
         Instr::I32Const(1),
         Instr::MemoryGrow,
         Instr::I32Const(u32::MAX),
@@ -59,7 +52,6 @@ pub(crate) fn room_body(alloc: Global) -> Result<Body, EmitFault>
         Instr::GlobalGet(1),
         Instr::If(BlockType::Empty),
         Instr::Unreachable,
-        Instr::End,
         Instr::End,
         Instr::End,
     ]?;

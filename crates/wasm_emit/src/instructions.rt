@@ -2,7 +2,7 @@
 ghost use Rattle.std.specs.Prelude.{◌≡◌, ◌∷◌, ◌+◌, ◌*◌, IfOk, IfErr, OnOk, length, reverse};
 ghost use Rattle.wasm_core.specs.declared.instrs.I32Op.TheVariants as op32;
 ghost use Rattle.wasm_core.specs.declared.instrs.Instr.TheVariants as instr;
-ghost use Rattle.wasm_emit.specs.EmittedCode.{Load, Store, Const, read, atom, fill, block};
+ghost use Rattle.wasm_emit.specs.EmittedCode.{Load, Store, Const, read, atom, fill, ensure_room, block};
 ghost use Rattle.wasm_emit.specs.Pushed.{Pushed};
 ghost use Rattle.wasm_emit.specs.declared.fault.EmitFault.TheVariants.{Memory};
 
@@ -10,7 +10,7 @@ use crate::fault::EmitFault;
 use crate::places::{Place, place_of};
 use anf_convert::lists::Atoms;
 use anf_convert::program::Atom;
-use wasm_core::{Access, I32Op, Instr};
+use wasm_core::{Access, BlockType, I32Op, Instr};
 
 /// One instruction more. Only `Memory`.
 pub(crate) fn push(out: &mut Vec<Instr>, i: Instr) -> Result<(), EmitFault>
@@ -127,7 +127,7 @@ fn push_fields(
 
 /// Puts the end of the heap into local d, and moves it on by so many bytes, where memory is or is made. Only `Memory`.
 fn push_address(d: u32, bytes: u32, out: &mut Vec<Instr>) -> Result<(), EmitFault>
-    ensures pushed { OnOk result (Pushed out.old.items out.new.items (λ rest. instr.GlobalGet 2 ∷ instr.LocalTee d ∷ Const bytes ∷ instr.I32 op32.Add ∷ instr.GlobalSet 2 ∷ instr.Call 0 ∷ rest)) }
+    ensures pushed { OnOk result (Pushed out.old.items out.new.items (λ rest. instr.GlobalGet 2 ∷ instr.LocalTee d ∷ Const bytes ∷ instr.I32 op32.Add ∷ instr.GlobalSet 2 ∷ ensure_room rest)) }
     ensures only_memory { IfErr result (λ e. e ≡ Memory) }
 {
     push(out, Instr::GlobalGet(2))?;
@@ -135,7 +135,22 @@ fn push_address(d: u32, bytes: u32, out: &mut Vec<Instr>) -> Result<(), EmitFaul
     push(out, Instr::I32Const(bytes))?;
     push(out, Instr::I32(I32Op::Add))?;
     push(out, Instr::GlobalSet(2))?;
-    push(out, Instr::Call(0))
+    push_room(out)
+}
+
+/// Compares the end of the heap with memory's, and calls function 0 where memory must grow. Only `Memory`.
+fn push_room(out: &mut Vec<Instr>) -> Result<(), EmitFault>
+    ensures pushed { OnOk result (Pushed out.old.items out.new.items ensure_room) }
+    ensures only_memory { IfErr result (λ e. e ≡ Memory) }
+{
+    push(out, Instr::GlobalGet(2))?;
+    push(out, Instr::MemorySize)?;
+    push(out, Instr::I32Const(16))?;
+    push(out, Instr::I32(I32Op::Shl))?;
+    push(out, Instr::I32(I32Op::GtU))?;
+    push(out, Instr::If(BlockType::Empty))?;
+    push(out, Instr::Call(0))?;
+    push(out, Instr::End)
 }
 
 /// Makes a block of a header and the words of atoms, puts its address into local d and on the operands. Only `Memory`.
