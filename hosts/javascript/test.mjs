@@ -137,12 +137,13 @@ const folders = [join(TOP, "examples"), ...(process.env.ERASEC_CASES ?? "").spli
 const dumps = folders.flatMap((folder) => readdirSync(folder).filter((it) => it.endsWith(".dump")).map((it) => join(folder, it)));
 
 test("each example and case gives the text of exec", { skip: existsSync(program) ? false : "the program isn't built" }, async () => {
-  const ran = (job, input) => spawnSync(program, [job, "--turns", "4294967295", "--steps", "4294967295"], { input, maxBuffer: 1 << 28 });
+  const ran = (job, input) => spawnSync(program, [job, "--turns", "4294967295", "--steps", "30000000"], { input, maxBuffer: 1 << 28 });
   let answered = 0;
   for (const dump of dumps) {
     const input = readFileSync(dump);
     const wanted = ran("exec", input);
-    if (wanted.status === 10) continue;
+    // no data, or a run that needn't end (a false axiom)
+    if (wanted.status === 10 || wanted.status === 12) continue;
     assert.equal(wanted.status, 0, basename(dump));
     const types = execFileSync(join(TOP, "tools/types-of"), [dump], { encoding: "utf8" });
     const answer = (await load(ran("compile", input).stdout, types)).run();
