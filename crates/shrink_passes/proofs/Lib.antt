@@ -13,3 +13,4 @@ pub mod ThinForms
 pub mod RunShapes
 pub mod DropFollowing
 pub mod DropSteps
+pub mod Examples
