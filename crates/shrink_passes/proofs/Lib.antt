@@ -14,3 +14,4 @@ pub mod RunShapes
 pub mod DropFollowing
 pub mod DropSteps
 pub mod Examples
+pub mod ShrunkPrograms

@@ -4,3 +4,4 @@ pub mod Sights
 pub mod Filled
 pub mod DropParams
 pub mod ShrinkLaws
+pub mod ShrunkProgram

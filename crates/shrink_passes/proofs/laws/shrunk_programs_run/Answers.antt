@@ -1,0 +1,5 @@
+use Rattle.shrink_passes.proofs.ShrunkPrograms.{shrunk_forms, shrunk_runs}
+use Rattle.shrink_passes.proofs.laws.shrunk_programs_run.Goals as goal
+
+pub returns : goal.returns
+returns c = record { form = shrunk_forms; runs = shrunk_runs }
