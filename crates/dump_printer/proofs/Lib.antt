@@ -1,6 +1,8 @@
 pub mod Laid
 pub mod Written
 pub mod Lists
+pub mod Cuts
+pub mod Counts
 pub mod TermTokens
 pub mod Finished
 pub mod Decimals

@@ -1,6 +1,7 @@
 pub mod Layout
 pub mod Writing
 pub mod CanonicalTerms
+pub mod Cut
 pub mod TermLists
 pub mod Canonical
 pub mod Nesting

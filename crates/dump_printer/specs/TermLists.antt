@@ -6,13 +6,14 @@ use Rattle.dump_grammar.specs.declared.keyword.Keyword.TheVariants as words
 use Rattle.pc_terms.specs.declared.leaf.FamilyId.{FamilyId}
 use Rattle.pc_terms.specs.declared.term.Branch.{Branch}
 use Rattle.pc_terms.specs.declared.term.Def.{Def}
-use Rattle.dump_printer.specs.CanonicalTerms.{text_of, numeral, anonymous, anonymous_names, term}
+use Rattle.dump_printer.specs.CanonicalTerms.{text_of, numeral, anonymous, anonymous_names}
+use Rattle.dump_printer.specs.Cut.{cut}
 
 abbrev pub family_id : (names : List (List ℕ)) → FamilyId → List Text → List Text
 family_id ns f after = Atom (text_of ns f.block.0) ∷ numeral f.family ∷ after
 
-abbrev pub arm : (names levels : List (List ℕ)) → Branch → List Text → List Text
-arm ns ls b after = Open ∷ word words.Branch ∷ Open ∷ anonymous_names b.binders (Close ∷ term false ns ls b.body (Close ∷ after))
+abbrev pub arm : (room : ℕ) (names levels : List (List ℕ)) → Branch → List Text → List Text
+arm d ns ls b after = Open ∷ word words.Branch ∷ Open ∷ anonymous_names b.binders (Close ∷ cut d false ns ls b.body (Close ∷ after))
 
-abbrev pub definition : (names levels : List (List ℕ)) → Def → List Text → List Text
-definition ns ls d after = Open ∷ word words.Def ∷ anonymous ∷ term false ns ls d.ty (term false ns ls d.body (numeral d.rarg ∷ Close ∷ after))
+abbrev pub definition : (room : ℕ) (names levels : List (List ℕ)) → Def → List Text → List Text
+definition d ns ls x after = Open ∷ word words.Def ∷ anonymous ∷ cut d false ns ls x.ty (cut d false ns ls x.body (numeral x.rarg ∷ Close ∷ after))

@@ -8,14 +8,15 @@
 //! What is promised, by the clauses of `print_env`: all of the canonical text goes out (`all`), or exactly its first `written` bytes where the
 //! sink's count of faults rose (`part`, `cause`); the text spells the environment that was printed (`spells`), and reading it gives that
 //! environment again where no more than 1,000 of its brackets are open at once (`read_back`); only a cast can make that number greater than in
-//! the text that was read (`nests`). It takes no memory.
+//! the text that was read (`nests`). It takes no memory. `write_shown` writes a term alone: whole, as it stands in the canonical text
+//! (`proofs/Cuts`), or, with over 200 nodes, cut at the greatest depth that leaves no more (`all`; `cut_depth`, `is`); `write_shown_sort` writes a sort.
 //!
 //! The code is in layers: tokens to a sink (`writing`), names and sorts, terms, declarations and whole environments, and the text with its fault
 //! (`text`). The proofs have the same text as a form of the grammar: its tokens and its meaning, names and levels in the same first-use order,
 //! and the limits.
 //!
 //! Below stand `kio` (sinks), `dump_reader` (environments, and which text spells one), `dump_grammar`, `pc_terms` and `universe_levels`. Above stands
-//! `text_rows`, whose rows are printed and read again.
+//! `text_rows`, whose rows are printed and read again, and `explanations`.
 #![tactic(auto)]
 
 ghost use Rattle.std.specs.Prelude.{OnOk, IfErr, Ok, ◌≤◌};
@@ -29,15 +30,18 @@ ghost use Rattle.dump_printer.specs.Nesting.{nesting};
 ghost use Rattle.dump_printer.specs.Spelled.{NestsNoDeeper};
 ghost use Rattle.dump_printer.specs.Writing.{HasGone};
 
+mod cutting;
 mod declarations;
 mod sorts;
 mod terms;
 mod text;
 mod writing;
 
+pub use cutting::cut_depth;
 use dump_reader::environment::RawEnv;
 use kio::{Sink, WriteFault};
 use text::write_text;
+pub use text::{write_shown, write_shown_sort};
 
 /// Writes the canonical text of an environment that some text spells within the limits. It takes no memory.
 ///

@@ -1,0 +1,7 @@
+use Rattle.explanations.proofs.Adding.{adds_both}
+use Rattle.explanations.proofs.explanation.clash_lines.Goals as goal
+
+pub returns-in-Sorts : goal.returns-in-Sorts
+returns-in-Sorts c = record {
+  adds = rw c.in-Sorts.is (adds_both _ _ _ _ _ c.sort_line.ensures.adds (adds_both _ _ _ _ _ c.sort_line-in-Sorts.ensures.adds c.missing_line.ensures.adds));
+}
