@@ -1,7 +1,8 @@
 -- An argument cut from the uses of a constant: nodes, depth and form.
-use Rattle.std.proofs.Common.{◌≡◌, ℕ, zero, suc, ◌+◌, ◌≤◌, Bool, true, false, ◌&&◌, List, [], ◌∷◌, length, refl, ap, ◌∙◌, arith}
+use Rattle.std.proofs.Common.{◌≡◌, ℕ, zero, suc, ◌+◌, ◌≤◌, Bool, true, false, ◌&&◌, List, [], ◌∷◌, length, Some, subst, refl, ap, ◌∙◌, arith}
 use Rattle.std.specs.Prelude.{nat_eq, if◌then◌else◌}
-use Rattle.trees.specs.Tree.{Rel, Done, Next}
+use Rattle.trees.specs.Tree.{Rel, Done, Next, term_at}
+use Rattle.trees.specs.Parallel.{overs, substitute, substitute_terms}
 use Rattle.trees.specs.Measures.{nodes, nodes_trees, depth, depth_trees}
 use Rattle.trees.specs.Closed.{Closed, ClosedTerms, EveryTerm}
 use Rattle.trees.specs.Shape.{binders_of}
@@ -286,3 +287,18 @@ module _ (k p : ℕ) where
   one_spine (BConstruct f c) q r e g = absurd (cc)
   one_spine (BCase f s bs) q r e g = absurd (cc)
   one_spine (BFix i rargs bodies) q r e g = absurd (cc)
+
+  -- a tree of a list
+
+  one_item : {A : Type 0} {x y : A} → Some x ≡ Some y → x ≡ y
+  one_item e = grind arith
+
+  pub cut_at : (s : ℕ → BoxTerm) (ts : BoxTerms) (i n : ℕ) (t : BoxTerm) → term_at ts i ≡ Some (n, t) → term_at (substitute_terms s (cut_terms k p ts)) i ≡ Some (n, substitute (overs n s) (cut k p t))
+  cut_at s Done i n t e = absurd (cc)
+  cut_at s (Next m u ts) zero n t e = ap (λ q. Some (q.0, substitute (overs q.0 s) (cut k p q.1))) (one_item e)
+  cut_at s (Next m u ts) (suc i) n t e = cut_at s ts i n t e
+
+  pub fits_at : (ts : BoxTerms) (i n : ℕ) (t : BoxTerm) → fits_terms k p ts ≡ true → term_at ts i ≡ Some (n, t) → fits k p [] t ≡ true
+  fits_at Done i n t f e = absurd (cc)
+  fits_at (Next m u ts) zero n t f e = subst (λ (q : ℕ × BoxTerm). fits k p [] q.1 ≡ true) (one_item e) (both_hold (fits k p [] u) (fits_terms k p ts) f).0
+  fits_at (Next m u ts) (suc i) n t f e = fits_at ts i n t (both_hold (fits k p [] u) (fits_terms k p ts) f).1 e

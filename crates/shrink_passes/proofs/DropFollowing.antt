@@ -17,8 +17,8 @@ use Rattle.box_passes.specs.Saturate.{innermost, lambdas}
 use Rattle.shrink_passes.specs.Uses.{uses}
 use Rattle.shrink_passes.specs.DropParams.{is_spine, box_at, fits, fits_terms, cut, cut_terms}
 use Rattle.shrink_passes.specs.ShrinkLaws.{AreNoMore, RunsWithin}
-use Rattle.shrink_passes.proofs.RunShapes.{closure_not_box, closure_not_fix, not_true, overs_rel_same, box_further, block_less, one_item, RunsBox, box_runs, lambda_runs, over_rel, box_is_box, names_lambdas, closure_env, closure_body}
-use Rattle.shrink_passes.proofs.Cutting.{one_spine, both_hold, cut_unused, fits_unused, spine_box}
+use Rattle.shrink_passes.proofs.RunShapes.{closure_not_box, closure_not_fix, not_true, overs_rel_same, box_further, block_less, RunsBox, box_runs, lambda_runs, over_rel, box_is_box, names_lambdas, closure_env, closure_body}
+use Rattle.shrink_passes.proofs.Cutting.{cut_at, fits_at, one_spine, both_hold, cut_unused, fits_unused, spine_box}
 use Rattle.shrink_passes.proofs.Thinning.{Thins, thins_rel, thins_over, thins_overs, thins_first, overs_past, overs_below, named_before, named_before_terms, named_cut, named_cut_terms, either_true, left_true, right_true, same_variable}
 use Rattle.shrink_passes.proofs.Following.{no_more_self, no_more_sum}
 
@@ -178,16 +178,6 @@ module _ (k p : ℕ) (t0 : BoxTerm) (none : uses k t0 ≡ 0) where
   size_boxes : (n : ℕ) → size (box_values n) ≡ n
   size_boxes zero = refl
   size_boxes (suc n) = ap suc (size_boxes n)
-
-  cut_at : (s : ℕ → BoxTerm) (ts : BoxTerms) (i n : ℕ) (t : BoxTerm) → term_at ts i ≡ Some (n, t) → term_at (substitute_terms s (cut_terms k p ts)) i ≡ Some (n, substitute (overs n s) (cut k p t))
-  cut_at s Done i n t e = absurd (cc)
-  cut_at s (Next m u ts) zero n t e = ap (λ q. Some (q.0, substitute (overs q.0 s) (cut k p q.1))) (one_item e)
-  cut_at s (Next m u ts) (suc i) n t e = cut_at s ts i n t e
-
-  fits_at : (ts : BoxTerms) (i n : ℕ) (t : BoxTerm) → fits_terms k p ts ≡ true → term_at ts i ≡ Some (n, t) → fits k p [] t ≡ true
-  fits_at Done i n t f e = absurd (cc)
-  fits_at (Next m u ts) zero n t f e = subst (λ (q : ℕ × BoxTerm). fits k p [] q.1 ≡ true) (one_item e) (both_hold (fits k p [] u) (fits_terms k p ts) f).0
-  fits_at (Next m u ts) (suc i) n t f e = fits_at ts i n t (both_hold (fits k p [] u) (fits_terms k p ts) f).1 e
 
   -- what a like value is
 
@@ -481,12 +471,12 @@ module _ (k p : ℕ) (t0 : BoxTerm) (none : uses k t0 ≡ 0) where
           application x (λ e w. absurd (closure_not_fix w.is))
           (λ w.
           let c = fix_like w.like in
-          let fit = fits_at bs i (length rargs) (BLambda t) c.fit at in
+          let fit = fits_at k p bs i (length rargs) (BLambda t) c.fit at in
           let n = (follows z (like_bind y.like (like_bind_fix c.like c.fit)) [] fit).ran (plain_alone t fit) in
           record {
             w = n.w;
             counts = contraction ⊕ contraction ⊕ w.counts ⊕ y.counts ⊕ n.counts;
-            run = run_fix_app (subst (λ (u : Value). Run Q e' (substitute s (cut k p g)) u w.counts) c.is w.run) y.run (cut_at c.s bs i (length rargs) (BLambda t) at) n.run;
+            run = run_fix_app (subst (λ (u : Value). Run Q e' (substitute s (cut k p g)) u w.counts) c.is w.run) y.run (cut_at k p c.s bs i (length rargs) (BLambda t) at) n.run;
             like = n.like;
             no_more = no_more_sum (no_more_self contraction) (no_more_sum (no_more_self contraction) (no_more_sum w.no_more (no_more_sum y.no_more n.no_more)));
           })
@@ -501,7 +491,7 @@ module _ (k p : ℕ) (t0 : BoxTerm) (none : uses k t0 ≡ 0) where
           record {
             w = VBox;
             counts = contraction ⊕ contraction ⊕ w.counts ⊕ y.counts;
-            run = run_fix_box (subst (λ (u : Value). Run Q e' (substitute s (cut k p g)) u w.counts) c.is w.run) y.run (cut_at c.s bs i (length rargs) Box at);
+            run = run_fix_box (subst (λ (u : Value). Run Q e' (substitute s (cut k p g)) u w.counts) c.is w.run) y.run (cut_at k p c.s bs i (length rargs) Box at);
             like = like_box;
             no_more = no_more_sum (no_more_self contraction) (no_more_sum (no_more_self contraction) (no_more_sum w.no_more y.no_more));
           })
@@ -513,9 +503,9 @@ module _ (k p : ℕ) (t0 : BoxTerm) (none : uses k t0 ≡ 0) where
           let both = both_hold (fits k p [] m) (fits_terms k p bs) f in
           let x = (follows r h [] both.0).ran (plain_alone m both.0) in
           let g = construct_like x.like in
-          let fit = fits_at bs i (size vs) t both.1 at in
+          let fit = fits_at k p bs i (size vs) t both.1 at in
           let y = (follows q (bind_like g.like h) [] fit).ran (plain_alone t fit) in
-          let here : term_at (substitute_terms s (cut_terms k p bs)) i ≡ Some (size g.ws, substitute (overs (size vs) s) (cut k p t)) = cut_at s bs i (size vs) t at ∙ ap (λ (n : ℕ). Some (n, substitute (overs (size vs) s) (cut k p t))) (sym (size_like g.like)) in
+          let here : term_at (substitute_terms s (cut_terms k p bs)) i ≡ Some (size g.ws, substitute (overs (size vs) s) (cut k p t)) = cut_at k p s bs i (size vs) t at ∙ ap (λ (n : ℕ). Some (n, substitute (overs (size vs) s) (cut k p t))) (sym (size_like g.like)) in
           alone (λ q. refl) (record {
             w = y.w;
             counts = entered_match ⊕ x.counts ⊕ y.counts;
