@@ -53,6 +53,7 @@ map_more : (xs : List Lazy) (l : Lazy) → map read (xs ++ (l ∷ [])) ≡ map r
 map_more [] l = refl
 map_more (x ∷ xs) l = ap (◌∷◌ (read x)) (map_more xs l)
 
+-- an argument more
 pub last_applied : (t : Term) (xs ys : List Lazy) (l : Lazy) → ys ≡ xs ++ (l ∷ []) → apply t (map read ys) ≡ App (apply t (map read xs)) (read l)
 last_applied t xs ys l e = ap (λ zs. apply t (map read zs)) e ∙ ap (apply t) (map_more xs l) ∙ apply_more t (map read xs) (read l)
 

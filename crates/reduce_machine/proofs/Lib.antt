@@ -1,6 +1,7 @@
 pub mod Standing
 pub mod Memos
 pub mod Falling
+pub mod Limited
 pub mod Plugging
 pub mod Entering
 pub mod Layering

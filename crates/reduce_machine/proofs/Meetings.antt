@@ -1,5 +1,5 @@
 -- A term without a step in a frame, whose parts stand under bindings.
-use Rattle.std.proofs.Common.{◌≡◌, ℕ, ◌==◌, ◌↔◌, if◌then◌else◌, Bool, true, false, IsTrue, inl, inr, List, [], ◌∷◌, ◌++◌, length, map, Option, Some, None, Result, Ok, Err, IfOk, IfErr, is_some, refl, sym, ap, ◌∙◌, subst as along, arith}
+use Rattle.std.proofs.Common.{◌≡◌, ℕ, ◌==◌, ◌↔◌, if◌then◌else◌, Bool, true, false, IsTrue, inl, inr, List, [], ◌∷◌, length, map, Option, Some, None, Result, Ok, Err, IfOk, IfErr, is_some, refl, sym, ap, ◌∙◌, subst as along, arith}
 use Rattle.std.proofs.lemmas.Bool.{false≢true, eqb-true}
 use Rattle.trees.specs.Measures.{IsBeyond}
 use Rattle.trees.proofs.Put.{substituted_term, term_at-substitute}
@@ -53,18 +53,6 @@ pub let_binds : (E : Env) (V : Values) (xs : List Term) (v B b t : Term) (l : La
 let_binds E V xs v B b t l e p =
     sym (ap (λ x. weak_next E V (substitute (stands xs) x)) e) ∙ ap Some (put_all-over (substitute (stands xs) v ∷ []) (stands xs) b)
     ∙ ap (λ y. Some (substitute (first y (stands xs)) b)) (sym p)
-
--- an argument more
-apply_more : (h : Term) (xs : List Term) (a : Term) → apply h (xs ++ (a ∷ [])) ≡ App (apply h xs) a
-apply_more h [] a = refl
-apply_more h (x ∷ xs) a = apply_more (App h x) xs a
-
-map_more : (xs : List Lazy) (l : Lazy) → map read (xs ++ (l ∷ [])) ≡ map read xs ++ (read l ∷ [])
-map_more [] l = refl
-map_more (x ∷ xs) l = ap (◌∷◌ (read x)) (map_more xs l)
-
-pub applied_more : (h : Lazy) (xs ys : List Lazy) (l : Lazy) → ys ≡ xs ++ (l ∷ []) → apply (read h) (map read ys) ≡ App (apply (read h) (map read xs)) (read l)
-applied_more h xs ys l e = ap (λ zs. apply (read h) (map read zs)) e ∙ ap (apply (read h)) (map_more xs l) ∙ apply_more (read h) (map read xs) (read l)
 
 -- a value with an argument more
 pub more_value : (v w : Value) (a : Lazy) → w.head ≡ v.head → term_of w ≡ App (term_of v) (read a) → w.missing ≡ one_less v.missing → IsValue v → IsValue w

@@ -15,7 +15,9 @@ use Rattle.pc_terms.specs.declared.term.MakeFault.{MakeFault}
 use Rattle.pc_terms.specs.declared.term.MakeFault.TheVariants.{TooDeep}
 use Rattle.trees.proofs.Bounds.{depth-lift}
 use Rattle.pc_terms.specs.Syntax.{Label, slots, Term, Terms, Children, Rel, Node, first, overs, shift, put_all, substitute}
+use Rattle.reduce_machine.specs.Limits.{IsBeyondUnder}
 use Rattle.reduce_machine.specs.Reads.{stands, stands_under, read}
+use Rattle.reduce_machine.proofs.Limited.{beyond_under}
 use Rattle.reduce_machine.specs.declared.bindings.Lazy.{Lazy}
 
 -- an item, and what is behind the items
@@ -101,12 +103,12 @@ mutual
   above_trees_le m k Done = omega arith
   above_trees_le m k (Next n t ts) = omega (arith, above_le_lift m (deeper n k) t, above_trees_le m k ts)
 
-lift_beyond : (m k : ℕ) (t : Term) → IsBeyond t → IsBeyond (lift m k t)
-lift_beyond m k t (inl h) = inl (omega (arith, depth-lift m k t))
-lift_beyond m k t (inr h) = inr (omega (arith, above_le_lift m k t))
+lift_beyond : (n m k : ℕ) (t : Term) → IsBeyondUnder n t → IsBeyondUnder n (lift m k t)
+lift_beyond n m k t (inl h) = inl (omega (arith, depth-lift m k t))
+lift_beyond n m k t (inr h) = inr (omega (arith, above_le_lift m k t))
 
-pub shift_beyond : (m k : ℕ) (t : Term) → IsBeyond t → IsBeyond (shift m k t)
-shift_beyond m k t h = along (λ (x : Term). IsBeyond x) (lift-shift m k t) (lift_beyond m k t h)
+pub shift_beyond : (n m k : ℕ) (t : Term) → IsBeyondUnder n t → IsBeyondUnder n (shift m k t)
+shift_beyond n m k t h = along (λ (x : Term). IsBeyondUnder n x) (lift-shift m k t) (lift_beyond n m k t h)
 
 -- a part as it is kept
 pub part_closed : (l : Lazy) (xs : List Term) (t : Term) (n : ℕ) → l.term ≡ t → l.env.items ≡ [] → n ≡ 0 → Closed n t → read l ≡ substitute (stands xs) t
@@ -129,15 +131,16 @@ pub item_ok : (xs : List Term) (k i j : ℕ) (l : Lazy) (t : Term) (r : Result T
     t ≡ walk (stands_under l.env.items) 0 l.term → IfOk r (λ u. u ≡ shift k 0 t) → IfOk r (λ u. u ≡ stands_under xs k i)
 item_ok xs k i j l t r p h f e o = along (λ x. IfOk r (λ u. u ≡ x)) (sym (item_is xs k i j l t p h f e)) o
 
-pub item_deep : (xs : List Term) (k i j : ℕ) (l : Lazy) (t : Term) (r : Result Term MakeFault) → j ≡ i - k → k ≤ i → slice_get xs j ≡ Some (read l) →
-    t ≡ walk (stands_under l.env.items) 0 l.term → IfErr r (λ e. e ≡ TooDeep → IsBeyond (lift k 0 t)) → IfErr r (λ e. e ≡ TooDeep → IsBeyond (stands_under xs k i))
-item_deep xs k i j l t (Ok u) p h f e o = o
-item_deep xs k i j l t (Err x) p h f e o = λ d. along (λ (y : Term). IsBeyond y) (lift-shift k 0 t ∙ sym (item_is xs k i j l t p h f e)) (o d)
+pub item_deep : (n : ℕ) (xs : List Term) (k i j : ℕ) (l : Lazy) (t : Term) (r : Result Term MakeFault) → j ≡ i - k → k ≤ i → slice_get xs j ≡ Some (read l) →
+    t ≡ walk (stands_under l.env.items) 0 l.term → IfErr r (λ e. e ≡ TooDeep → IsBeyond (lift k 0 t)) → IfErr r (λ e. e ≡ TooDeep → IsBeyondUnder n (stands_under xs k i))
+item_deep n xs k i j l t (Ok u) p h f e o = o
+item_deep n xs k i j l t (Err x) p h f e o =
+    λ d. beyond_under n (stands_under xs k i) (along (λ (y : Term). IsBeyond y) (lift-shift k 0 t ∙ sym (item_is xs k i j l t p h f e)) (o d))
 
-pub item_beyond : (xs : List Term) (k i j : ℕ) (l : Lazy) → j ≡ i - k → k ≤ i → slice_get xs j ≡ Some (read l) → IsBeyond (walk (stands_under l.env.items) 0 l.term) →
-    IsBeyond (stands_under xs k i)
-item_beyond xs k i j l p h f b =
-    along (λ (y : Term). IsBeyond y) (sym (item_is xs k i j l (walk (stands_under l.env.items) 0 l.term) p h f refl)) (shift_beyond k 0 _ b)
+pub item_beyond : (n : ℕ) (xs : List Term) (k i j : ℕ) (l : Lazy) → j ≡ i - k → k ≤ i → slice_get xs j ≡ Some (read l) →
+    IsBeyondUnder n (walk (stands_under l.env.items) 0 l.term) → IsBeyondUnder n (stands_under xs k i)
+item_beyond n xs k i j l p h f b =
+    along (λ (y : Term). IsBeyondUnder n y) (sym (item_is xs k i j l (walk (stands_under l.env.items) 0 l.term) p h f refl)) (shift_beyond n k 0 _ b)
 
 pub past_ok : (xs : List Term) (k i n j : ℕ) (r : Result Term MakeFault) → n ≡ i - k → k ≤ i → n ≡ length xs + j → IfOk r (λ t. t ≡ Rel (k + j)) →
     IfOk r (λ t. t ≡ stands_under xs k i)

@@ -2,6 +2,7 @@ pub mod Bound
 pub mod Cells
 pub mod Reads
 pub mod Memos
+pub mod Limits
 pub mod Found
 pub mod Layered
 pub mod Layers

@@ -8,7 +8,8 @@ use Rattle.reduce_machine.specs.Layered.{plug}
 use Rattle.reduce_machine.specs.Layers.{layers}
 use Rattle.reduce_machine.specs.Sought.{whole}
 use Rattle.reduce_machine.specs.Steps.{contractum}
-use Rattle.reduce_machine.proofs.Ending.{leads_start, within_deep, fault_follows, unpaid_follows, done_follows, done_reached, goes_on}
+use Rattle.reduction.proofs.Ending.{leads_start, within_deep, fault_follows, done_follows, done_reached, goes_on}
+use Rattle.reduce_machine.proofs.Ending.{unpaid_follows}
 use Rattle.reduce_machine.proofs.Layering.{sound_none, start_whole}
 use Rattle.reduce_machine.proofs.closures.ClosuresReducer.whnf.Goals as goal
 

@@ -15,7 +15,8 @@ pub returns-in_ok-push-in-Case-clause-grown : goal.returns-in_ok-push-in-Case-cl
 returns-in_ok-push-in-Case-clause-grown c =
     let e = rw c.in-Case.is at c.view.ensures.is in
     let n : Machine = record { focus = c.in_ok-scrutinee-in-Case.scrutinee; frames = c.push-in-Case.new.self.frames } in
-    (case_entered c.args.self.now n c.in-Case.m.family (terms_of c.in-Case.m.params) c.in-Case.m.binders c.in-Case.m.ret c.in-Case.m.scrut (arms_of c.in-Case.m.branches) c.in_ok-outer-in-Case.outer c.requires c.in_ok-push-in-Case.ensures.ok c.in_ok-outer-in-Case.ensures.ok e c.in_ok-scrutinee-in-Case.ensures.ok c.in_ok-scrutinee-in-Case.ensures.rank).grown
+    (case_entered c.args.self.now n c.in-Case.m.family (terms_of c.in-Case.m.params) c.in-Case.m.binders c.in-Case.m.ret c.in-Case.m.scrut (arms_of c.in-Case.m.branches) c.in_ok-outer-in-Case.outer c.requires
+    c.in_ok-push-in-Case.ensures.ok c.in_ok-outer-in-Case.ensures.ok e c.in_ok-scrutinee-in-Case.ensures.ok c.in_ok-scrutinee-in-Case.ensures.rank).grown
 
 pub returns-in_ok-item-in-Item-clause-grown : goal.returns-in_ok-item-in-Item-clause-grown
 returns-in_ok-item-in-Item-clause-grown c =
@@ -33,7 +34,8 @@ pub returns-in_ok-push-in-Case-clause-sound : goal.returns-in_ok-push-in-Case-cl
 returns-in_ok-push-in-Case-clause-sound c =
     let e = rw c.in-Case.is at c.view.ensures.is in
     let n : Machine = record { focus = c.in_ok-scrutinee-in-Case.scrutinee; frames = c.push-in-Case.new.self.frames } in
-    (case_entered c.args.self.now n c.in-Case.m.family (terms_of c.in-Case.m.params) c.in-Case.m.binders c.in-Case.m.ret c.in-Case.m.scrut (arms_of c.in-Case.m.branches) c.in_ok-outer-in-Case.outer c.requires c.in_ok-push-in-Case.ensures.ok c.in_ok-outer-in-Case.ensures.ok e c.in_ok-scrutinee-in-Case.ensures.ok c.in_ok-scrutinee-in-Case.ensures.rank).sound
+    (case_entered c.args.self.now n c.in-Case.m.family (terms_of c.in-Case.m.params) c.in-Case.m.binders c.in-Case.m.ret c.in-Case.m.scrut (arms_of c.in-Case.m.branches) c.in_ok-outer-in-Case.outer c.requires
+    c.in_ok-push-in-Case.ensures.ok c.in_ok-outer-in-Case.ensures.ok e c.in_ok-scrutinee-in-Case.ensures.ok c.in_ok-scrutinee-in-Case.ensures.rank).sound
 
 pub returns-in_ok-item-in-Item-clause-sound : goal.returns-in_ok-item-in-Item-clause-sound
 returns-in_ok-item-in-Item-clause-sound c =
@@ -51,7 +53,8 @@ pub returns-in_ok-push-in-Case-clause-load : goal.returns-in_ok-push-in-Case-cla
 returns-in_ok-push-in-Case-clause-load c =
     let e = rw c.in-Case.is at c.view.ensures.is in
     let n : Machine = record { focus = c.in_ok-scrutinee-in-Case.scrutinee; frames = c.push-in-Case.new.self.frames } in
-    (case_entered c.args.self.now n c.in-Case.m.family (terms_of c.in-Case.m.params) c.in-Case.m.binders c.in-Case.m.ret c.in-Case.m.scrut (arms_of c.in-Case.m.branches) c.in_ok-outer-in-Case.outer c.requires c.in_ok-push-in-Case.ensures.ok c.in_ok-outer-in-Case.ensures.ok e c.in_ok-scrutinee-in-Case.ensures.ok c.in_ok-scrutinee-in-Case.ensures.rank).load
+    (case_entered c.args.self.now n c.in-Case.m.family (terms_of c.in-Case.m.params) c.in-Case.m.binders c.in-Case.m.ret c.in-Case.m.scrut (arms_of c.in-Case.m.branches) c.in_ok-outer-in-Case.outer c.requires
+    c.in_ok-push-in-Case.ensures.ok c.in_ok-outer-in-Case.ensures.ok e c.in_ok-scrutinee-in-Case.ensures.ok c.in_ok-scrutinee-in-Case.ensures.rank).load
 
 pub returns-in_ok-item-in-Item-clause-load : goal.returns-in_ok-item-in-Item-clause-load
 returns-in_ok-item-in-Item-clause-load c =
@@ -69,7 +72,8 @@ pub returns-in_ok-push-in-Case-clause-falls : goal.returns-in_ok-push-in-Case-cl
 returns-in_ok-push-in-Case-clause-falls c =
     let e = rw c.in-Case.is at c.view.ensures.is in
     let n : Machine = record { focus = c.in_ok-scrutinee-in-Case.scrutinee; frames = c.push-in-Case.new.self.frames } in
-    λ _. (case_entered c.args.self.now n c.in-Case.m.family (terms_of c.in-Case.m.params) c.in-Case.m.binders c.in-Case.m.ret c.in-Case.m.scrut (arms_of c.in-Case.m.branches) c.in_ok-outer-in-Case.outer c.requires c.in_ok-push-in-Case.ensures.ok c.in_ok-outer-in-Case.ensures.ok e c.in_ok-scrutinee-in-Case.ensures.ok c.in_ok-scrutinee-in-Case.ensures.rank).falls
+    λ _. (case_entered c.args.self.now n c.in-Case.m.family (terms_of c.in-Case.m.params) c.in-Case.m.binders c.in-Case.m.ret c.in-Case.m.scrut (arms_of c.in-Case.m.branches) c.in_ok-outer-in-Case.outer c.requires
+    c.in_ok-push-in-Case.ensures.ok c.in_ok-outer-in-Case.ensures.ok e c.in_ok-scrutinee-in-Case.ensures.ok c.in_ok-scrutinee-in-Case.ensures.rank).falls
 
 pub returns-in_ok-item-in-Item-clause-falls : goal.returns-in_ok-item-in-Item-clause-falls
 returns-in_ok-item-in-Item-clause-falls c =
