@@ -21,7 +21,7 @@ use pc_rules::accepted::Accepted;
 use pc_rules::broken::{Broken, Place};
 use pc_rules::meter::Meter;
 use pc_terms::leaf::Name;
-use reduction::substitution::Subst;
+use reduce_machine::closures::Closures;
 use std::alloc::Global;
 
 /// The number of a rule that may be broken, from 1 on.
@@ -109,7 +109,7 @@ pub(crate) fn accept_within(
 {
     // The turns are of the contract alone.
     let _ = turns;
-    match check_env(alloc, &Subst, raw, meter) {
+    match check_env(alloc, &Closures, raw, meter) {
         Ok(accepted) => {
             *facts = check_facts(raw, meter);
             Ok(accepted)

@@ -25,7 +25,7 @@ use pc_rules::meter::Meter;
 use pc_rules::stop::{Halt, Stop};
 use pc_terms::leaf::Name;
 use read_counts::read_counts_are_few;
-use reduction::substitution::Subst;
+use reduce_machine::closures::Closures;
 use std::alloc::Global;
 use type_infer::inference::Inference;
 
@@ -89,8 +89,8 @@ pub(crate) fn erased(
     ensures sources { IfOk result (HasErased accepted.now.env) }
 {
     read_counts_are_few();
-    let typer = Inference::new(Subst, Compare::new(Subst), Guard::new(Subst));
-    match erase(alloc, &typer, &Subst, accepted, m) {
+    let typer = Inference::new(Closures, Compare::new(Closures), Guard::new(Closures));
+    match erase(alloc, &typer, &Closures, accepted, m) {
         Ok(program) => Ok(program),
         Err(EraseRefusal::Halt { place, halt }) => Err(halted(alloc, raw, place, &halt)),
         Err(EraseRefusal::AxiomReached { name }) => Err(axiom(alloc, raw, name)),

@@ -27,7 +27,7 @@ use first_order::texts::text_of;
 use pc_rules::accepted::Accepted;
 use pc_rules::meter::Meter;
 use pc_terms::term::Term;
-use reduction::substitution::Subst;
+use reduce_machine::closures::Closures;
 use source_eval::evaluation::{EvalStop, eval as evaluate};
 use std::alloc::Global;
 
@@ -42,7 +42,7 @@ pub(crate) fn shapes_of(
     ensures named { IfOk result (λ s. AreNamed accepted.now.env s.types) }
     ensures nest { m.new.nest ≡ m.old.nest }
 {
-    match first_order(alloc, &Subst, &accepted.env, &accepted.main_type, m) {
+    match first_order(alloc, &Closures, &accepted.env, &accepted.main_type, m) {
         Ok(shapes) => Ok(shapes),
         Err(ShapeRefusal::NotFirstOrder { .. }) => Err(Refusal::NotFirstOrder),
         Err(ShapeRefusal::Types) => Err(Refusal::Types),
