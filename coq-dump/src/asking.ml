@@ -91,26 +91,35 @@ let with_dump c main use =
 
 let words job = erasec () :: job :: (match !turns with None -> [] | Some n -> ["--turns"; string_of_int n])
 
-(* Runs the job; an answer other than status 0 is an error that names the constant. *)
-let asked job c prepared ~dump ~answer =
-  let status, said = run (words job) ~input:dump ~output:answer in
+(* A status other than 0 is an error that names the constant. *)
+let demand_answer job c prepared (status, said) =
   if status <> 0 then
     let line = explained (full_names prepared.Preparing.closure) (List.hd (String.split_on_char '\n' said)) in
     CErrors.user_err Pp.(str (Printf.sprintf "Erasec %s of %s ends with status %d: %s" job (Constant.to_string c) status line))
+
+(* Runs the job, which must have an answer. *)
+let asked job c prepared ~dump ~answer = demand_answer job c prepared (run (words job) ~input:dump ~output:answer)
 
 let axioms_told closure =
   match Explaining.axioms closure with
   | [] -> "no axiom"
   | axioms -> Printf.sprintf "%d axioms: %s" (List.length axioms) (String.concat ", " axioms)
 
+let tell_check c prepared answer =
+  let closure = prepared.Preparing.closure in
+  let notes = String.concat "" (List.map (fun phrase -> "\n  " ^ phrase) (Notes.phrases ())) in
+  Dumping.notice "%s is checked: %s, with its closure of %d declarations, %s%s"
+    (Constant.to_string c) (String.trim (text_of answer)) (List.length closure.Closure.declarations) (axioms_told closure) notes
+
+(* A check that fails for what may be want of eta is made again on a dump with its redexes contracted. *)
 let check reference =
   let c = Dumping.constant_of reference in
-  with_dump c Preparing.Itself (fun prepared dump answer ->
-    asked "check" c prepared ~dump ~answer;
-    let closure = prepared.Preparing.closure in
-    let notes = String.concat "" (List.map (fun phrase -> "\n  " ^ phrase) (Notes.phrases ())) in
-    Dumping.notice "%s is checked: %s, with its closure of %d declarations, %s%s"
-      (Constant.to_string c) (String.trim (text_of answer)) (List.length closure.Closure.declarations) (axioms_told closure) notes)
+  let once ~may_go_on = with_dump c Preparing.Itself (fun prepared dump answer ->
+    let status, said = run (words "check") ~input:dump ~output:answer in
+    let goes_on = may_go_on && CString.is_prefix "broken 8 " said in
+    if not goes_on then begin demand_answer "check" c prepared (status, said); tell_check c prepared answer end;
+    goes_on) in
+  if once ~may_go_on:(!Options.automatic && not !Options.contract_eta) then Options.contracting_eta (fun () -> ignore (once ~may_go_on:false))
 
 let compute reference =
   let c = Dumping.constant_of reference in

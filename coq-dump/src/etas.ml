@@ -12,13 +12,13 @@ let under ?(is_fixed = false) d place = { env = Environ.push_rel d place.env; fi
 
 let is_fixed place t = match kind t with Rel i -> List.nth_opt place.fixed (i - 1) = Some true | _ -> false
 
-(* The function of an application to the lambda's own variable, outside the lambda, where the variable stands nowhere else. *)
-let function_of b =
+(* The function of an application to the lambda's own variable, outside the lambda, where the variable stands nowhere else. The variable may stand in beta redexes. *)
+let function_of env b =
   match kind b with
   | App (f, args) ->
     let count = Array.length args - 1 in
     let f = mkApp (f, Array.sub args 0 count) in
-    if isRelN 1 args.(count) && Vars.noccurn 1 f then Some (Vars.lift (-1) f) else None
+    if Vars.noccurn 1 f && isRelN 1 (Reduction.whd_betaiota env args.(count)) then Some (Vars.lift (-1) f) else None
   | _ -> None
 
 (* Whether f takes exactly what the lambda takes. *)
@@ -33,7 +33,7 @@ let rec contracted place sigma t =
   | Lambda (na, a, b) ->
     let a = contracted place sigma a in
     let b = contracted (under (LocalAssum (na, a)) place) sigma b in
-    (match function_of b with
+    (match function_of place.env b with
      | Some f when not (is_fixed place (fst (decompose_app f))) && has_domain place sigma f a -> incr Notes.etas; f
      | _ -> mkLambda (na, a, b))
   | Fix ((places, i), (names, types, bodies)) ->

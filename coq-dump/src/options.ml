@@ -56,6 +56,11 @@ let copy_propositions = declare ["Copy"; "Propositions"]
 (* Eta redexes are contracted. *)
 let contract_eta = declare ["Contract"; "Eta"]
 
+let contracting_eta f =
+  let usual = !contract_eta in
+  contract_eta := true;
+  Fun.protect ~finally:(fun () -> contract_eta := usual) f
+
 (* Terms that repeat are bound by lets, so that the text is smaller. *)
 let share_terms = declare ["Share"; "Terms"]
 
