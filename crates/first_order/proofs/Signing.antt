@@ -1,5 +1,5 @@
 -- The search for a signature, one argument at a time, and that what it finds is one.
-use Rattle.std.proofs.Common.{◌≡◌, ◌∙◌, sym, ap, refl, subst as along, ℕ, zero, suc, ◌-◌, ◌<◌, Bool, true, false, if◌then◌else◌, List, [], ◌∷◌, ◌++◌, Some, None, Result, Ok, Err, IfOk, append_assoc, append-nil, arith}
+use Rattle.std.proofs.Common.{◌≡◌, ◌≢◌, ◌∙◌, sym, ap, refl, subst as along, ℕ, zero, suc, ◌-◌, ◌<◌, Bool, true, false, if◌then◌else◌, List, [], ◌∷◌, ◌++◌, Some, None, Result, Ok, Err, IfOk, append_assoc, append-nil, arith}
 use Rattle.pc_terms.specs.Syntax.{Term, Prod, shift}
 use Rattle.calculus_rules.specs.Environment.{Env}
 use Rattle.calculus_rules.specs.WeakHead.{WeakSteps, no_step, then_step}
@@ -241,3 +241,19 @@ pub found_is : (E : Env) (T : Term) (r : Result Signature SignatureRefusal) (m0 
     IfOk r (λ s. IsSignature E T (sets_of s.args) (set_of s.answer))
 found_is E T (Ok s) m0 m1 f = signature_is E T (sets_of s.args) (set_of s.answer) m0.account m1.account f.answer
 found_is E T (Err e) m0 m1 f = tt
+
+-- and it takes an argument
+some_sets : (S : List Member) (s : Signed) (Ss : List (List Member)) (R : List Member) → one_argument S s ≡ Takes Ss R → Ss ≢ []
+some_sets S (Takes Ts Q) Ss R e none = let x : Takes (S ∷ Ts) Q ≡ Takes [] R = e ∙ ap (λ xs. Takes xs R) none in absurd (cc)
+some_sets S TooManyArguments Ss R e none = absurd (cc)
+
+takes_some : (E : Env) (n : ℕ) (W : Term) (u w : Account) (Ss : List (List Member)) (R : List Member) → is_product W ≡ true → (signature_within E n W u).end ≡ Done (Found (Takes Ss R)) w → Ss ≢ []
+takes_some E zero W u w Ss R e h = let x = done_found (sym (ap (λ r. r.end) (takes_none E W u e)) ∙ h) in absurd (cc)
+takes_some E (suc n) W u w Ss R e h =
+    let a = with_found_came (argument E W u) (λ p v. then_done (signature_within E n p.1 v) (one_argument p.0)) (sym (ap (λ r. r.end) (takes_one E n W u e)) ∙ h) in
+    let b = with_found_came (signature_within E n (a.0).1 a.1) (λ s w. done (Found (one_argument (a.0).0 s)) w) a.3 in
+    some_sets (a.0).0 b.0 Ss R (done_found b.3)
+
+pub found_takes : (E : Env) (W : Term) (r : Result Signature SignatureRefusal) (m0 m1 : Meter) → is_product W ≡ true → Follows (signature_within E 255 W m0.account) (signed r) m0 m1 → IfOk r (λ s. s.args ≢ [])
+found_takes E W (Ok s) m0 m1 e f = λ none. takes_some E 255 W m0.account m1.account (sets_of s.args) (set_of s.answer) e f.answer (ap sets_of none)
+found_takes E W (Err x) m0 m1 e f = tt

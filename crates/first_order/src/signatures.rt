@@ -1,5 +1,5 @@
 //! The signature of a function's type: a first-order set for each argument, and one for the answer.
-ghost use Rattle.std.specs.Prelude.{◌≡◌, ◌≤◌, IfOk, length};
+ghost use Rattle.std.specs.Prelude.{◌≡◌, ◌≢◌, ◌≤◌, [], IfOk, length};
 ghost use Rattle.first_order.specs.Searching.{searched, as_is, AreNamed};
 ghost use Rattle.first_order.specs.Signature.{IsSignature};
 ghost use Rattle.first_order.specs.DirectedSignature.{is_product as product, next_type, argument, signature_within, signature_search, sets_of, set_of, signed, found_argument, AreAllNamed};
@@ -101,8 +101,8 @@ fn signature_of<R: Reducer>(
 /// The signature of a closed type, which takes at least one argument.
 ///
 /// While the type's weak-head normal form is a product, its domain is searched as `first_order` does, its codomain must not name the variable, and the codomain's
-/// weak-head normal form comes next; the last type is searched as the answer's. Units are those of the reductions and of the searches. `NotFirstOrder` with the type
-/// where it is no product at all, with the product whose codomain names its variable, or with what a search keeps; `Types` as in `first_order`, for each search by
+/// weak-head normal form comes next; the last type is searched as the answer's. Units are those of the reductions and of the searches. `NotFirstOrder` with the type's
+/// weak-head normal form where that is no product, with the product whose codomain names its variable, or with what a search keeps; `Types` as in `first_order`, for each search by
 /// itself; `Arguments` exactly where a 256th argument would be taken, before its domain is searched. `Spent` and `TooDeep` come as in `first_order`.
 pub fn signature<R: Reducer>(
     alloc: Global,
@@ -113,6 +113,7 @@ pub fn signature<R: Reducer>(
 ) -> Result<Signature, SignatureRefusal>
     ensures follows { Follows (signature_search env.now ty.now m.old.account) (signed result) m.old m.new }
     ensures is { IfOk result (λ s. IsSignature env.now ty.now (sets_of s.args) (set_of s.answer)) }
+    ensures takes { IfOk result (λ s. s.args ≢ []) }
     ensures few { IfOk result (λ s. length s.args ≤ 255) }
     ensures named { IfOk result (λ s. AreAllNamed env.now s.args × AreNamed env.now s.answer.types) }
 {

@@ -11,7 +11,7 @@
 //! term by weak-head steps (`reached`).
 //!
 //! Below stand `pc_terms` (terms, lifting, substitution), `pc_rules` (environments, contexts, meters, the rules) and `instances` (fixpoints
-//! unfolded), above the crates that compare, infer, check and evaluate.
+//! unfolded), above `reduce_machine` and the rows.
 #![tactic(auto)]
 
 mod frames;

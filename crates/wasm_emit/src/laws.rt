@@ -8,7 +8,7 @@ ghost use Rattle.wasm_emit.specs.NormalWeight.{LiftedWeight};
 ghost use Rattle.wasm_emit.specs.Weight.{EmitSized, LocalsBound};
 
 /// Where main of a lifted program evaluates to data, every run of the program's module answers that data or is exhausted after a refused grow,
-/// within a bound on steps, on frames and on bytes of memory; and a run that answers makes at least as many steps as there are matches.
+/// within a bound on steps and on bytes of memory; and a run that answers makes at least as many steps as there are matches.
 pub fn emitted_runs_answer()
     ensures runs { EmitAnswers }
 {}
