@@ -1,6 +1,6 @@
-//! Facts of a check.
+//! Facts of a check and of a run.
 
-/// A fact of a check.
+/// A fact of a check or of a run.
 #[derive(Clone, Copy, Debug, PartialEq, Eq, Drop)]
 pub enum Fact {
     /// A declaration was checked and kept.
@@ -9,4 +9,8 @@ pub enum Fact {
     AxiomKept,
     /// The typing rule with this number, 1 to 12, was used once.
     RuleUsed(u8),
+    /// A step of a run was made, of the class with this number, 1 to 6.
+    StepDone(u8),
+    /// A grow of a run's memory wasn't refused.
+    Grew,
 }

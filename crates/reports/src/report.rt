@@ -1,7 +1,7 @@
 //! What a report promises.
-ghost use Rattle.std.specs.Prelude.{◌≡◌};
+ghost use Rattle.std.specs.Prelude.{◌≡◌, replicate};
 ghost use Rattle.reports.specs.Counting.{after};
-ghost use Rattle.reports.specs.Shown.{Shown};
+ghost use Rattle.reports.specs.Shown.{IsTold, Shown};
 
 use crate::fact::Fact;
 
@@ -19,6 +19,15 @@ pub trait Report: Drop {
         ensures counted { (shown self.new).counted ≡ after ((shown self.old).wanted f) (shown self.old).counted }
         ensures wanted { (shown self.new).wanted ≡ (shown self.old).wanted }
         ensures named { (shown self.new).named ≡ (shown self.old).named };
+
+    /// Tells it a fact so many times, as so many calls of `see` do. A kind that can count them at once says how.
+    fn see_times(&mut self, f: Fact, times: u64)
+        ensures told { IsTold (replicate times f) (shown self.old) (shown self.new) }
+    {
+        for _ in 0..times {
+            self.see(f);
+        }
+    }
 
     /// Its count.
     fn count(&self) -> u64
