@@ -10,11 +10,15 @@ ghost use Rattle.wasm_core.specs.Runs.{grants};
 ghost use Rattle.wasm_run.specs.Programs.{code_of};
 ghost use Rattle.wasm_run.specs.Threads.{conf_of, state_of, rest_of, acting};
 ghost use Rattle.wasm_run.specs.Targets.{IsTarget};
+ghost use Rattle.wasm_run.specs.ToldSteps.{class_of as class_is, grow_facts, is_granted as granted_at, is_grow, step_facts};
+ghost use Rattle.wasm_run.specs.View.{HasI32};
+ghost use Rattle.reports.specs.declared.fact.Fact.TheVariants.{StepDone};
 
 use crate::frame::Frame;
 use crate::inside::{pop_i32, run_inside};
 use crate::memory::{load, load_byte, store, store_byte};
 use crate::program::Program;
+use crate::tally::{StepFacts, class_of};
 use crate::thread::Thread;
 use std::alloc::{AllocError, Global};
 use std::mem;
@@ -488,4 +492,43 @@ pub fn run_step(
     let code = program.code(thread.current.func());
     let instr = instr_at(program, code, thread, cap);
     run_instr(alloc, program, cap, thread, code, instr)
+}
+
+/// Whether a grow of memory at this place isn't refused.
+fn is_granted(program: &Program, cap: u32, thread: &Thread) -> bool
+    requires some { HasI32 thread.now.current.vals }
+    ensures is { result ≡ granted_at program.now cap (conf_of program.now thread.now) }
+{
+    let more = match thread.current.top() {
+        ConstValue::I32(n) => n,
+        ConstValue::I64(_) => unreachable!(),
+    };
+    let pages = thread.pages as u64 + more as u64;
+    pages <= cap as u64 && pages <= most_pages(program.module().memory()) as u64
+}
+
+/// What the execution of an instruction tells.
+fn instr_facts(program: &Program, cap: u32, thread: &Thread, instr: &Instr) -> StepFacts
+    requires some { IsSome (acting program.now (grants cap (conf_of program.now thread.now)) instr.now thread.now) }
+    ensures class { result.class ≡ class_is instr.now }
+    ensures range { (1 ≤ result.class) × (result.class ≤ 6) }
+    ensures grows { result.grows ≡ is_grow program.now cap instr.now (conf_of program.now thread.now) }
+{
+    let class = class_of(instr);
+    let grows = match instr {
+        Instr::MemoryGrow => is_granted(program, cap, thread),
+        _ => false,
+    };
+    StepFacts { class, grows }
+}
+
+/// What the step tells that comes next.
+pub fn next_facts(program: &Program, cap: u32, thread: &Thread) -> StepFacts
+    requires some { IsSome (step program.now (grants cap (conf_of program.now thread.now)) (conf_of program.now thread.now)) }
+    ensures range { (1 ≤ result.class) × (result.class ≤ 6) }
+    ensures is { step_facts program.now cap (At (conf_of program.now thread.now)) ≡ StepDone result.class ∷ grow_facts result.grows }
+{
+    let code = program.code(thread.current.func());
+    let instr = instr_at(program, code, thread, cap);
+    instr_facts(program, cap, thread, instr)
 }

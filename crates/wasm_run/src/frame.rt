@@ -108,6 +108,17 @@ impl Frame {
         }
     }
 
+    /// The value on top.
+    pub fn top(&self) -> ConstValue
+        requires some { 0 < length self.now.vals }
+        ensures is { self.now.vals ≡ result ∷ drop 1 self.now.vals }
+    {
+        match self.stack.last() {
+            Some(value) => *value,
+            None => unreachable!(),
+        }
+    }
+
     /// The value of a local.
     pub fn local(&self, index: usize) -> ConstValue
         requires there { index < length self.now.locals }

@@ -1,6 +1,6 @@
 //! A machine that runs a valid module.
 
-ghost use Rattle.std.specs.Prelude.{◌≡◌, ◌+◌, ◌-◌, ◌^◌, ◌<◌, IfOk, OnOk, OnErr, MatchOption, MatchResult, Some, false, length, map, min, slice_get, true, ℕ};
+ghost use Rattle.std.specs.Prelude.{◌≡◌, ◌+◌, ◌-◌, ◌^◌, ◌<◌, ◌≤◌, ◌∷◌, [], List, IfOk, OnOk, OnErr, MatchOption, MatchResult, Some, false, length, map, min, slice_get, true, ℕ};
 ghost use Rattle.wasm_core.specs.Answer.{global_of};
 ghost use Rattle.wasm_core.specs.Entries.{missing};
 ghost use Rattle.wasm_core.specs.Instance.{segments_fit, segment_fits, zero_of};
@@ -10,12 +10,21 @@ ghost use Rattle.wasm_core.specs.ModuleTyping.{IsValid};
 ghost use Rattle.wasm_core.specs.Runs.{Move, store_of};
 ghost use Rattle.wasm_core.specs.Words.{HasWords};
 ghost use Rattle.wasm_run.specs.MachineEntries.{HasEntries};
+ghost use Rattle.wasm_run.specs.Tallies.{IsTally};
+ghost use Rattle.wasm_run.specs.ToldRuns.{SaysTold};
+ghost use Rattle.wasm_run.specs.ToldSteps.{grow_facts, step_facts};
+ghost use Rattle.std.specs.List.{AllZip};
+ghost use Rattle.reports.specs.Shown.{IsTold};
+ghost use Rattle.reports.specs.declared.fact.Fact.{Fact};
+ghost use Rattle.reports.specs.declared.fact.Fact.TheVariants.{StepDone};
 
 use crate::entries::index_of;
-use crate::exec::{run_step, zero};
+use crate::exec::{next_facts, run_step, zero};
 use crate::frame::Frame;
 use crate::program::{Program, least_of};
+use crate::tally::{StepFacts, Tally, tell_counted};
 use crate::thread::Thread;
+use reports::Report;
 use std::alloc::{AllocError, Global};
 use std::marker::Model;
 use wasm_core::{
@@ -235,6 +244,7 @@ impl<'m> Machine<'m> {
         ensures made { OnOk result (self.new.made ≡ min (self.old.made + 1) (2 ^ 64 - 1)) }
         ensures sound { OnOk result (self.new.failed ≡ false) }
         ensures err { OnErr result (self.new.failed ≡ true) }
+        ensures unmade { OnErr result (self.new.made ≡ self.old.made) }
     {
         never_stuck();
         words_stay();
@@ -276,6 +286,64 @@ impl<'m> Machine<'m> {
             Some(ended) => Ok(ended),
             None => Err(RunFault::StepsSpent),
         }
+    }
+
+    /// What the step tells that comes next.
+    fn coming(&self) -> StepFacts
+        requires sound { self.now.failed ≡ false }
+        requires goes_on { GoesOn self.now.state }
+        ensures range { (1 ≤ result.class) × (result.class ≤ 6) }
+        ensures is { step_facts self.now.program self.now.cap self.now.state ≡ StepDone result.class ∷ grow_facts result.grows }
+    {
+        never_stuck();
+        next_facts(&self.program, self.cap, &self.thread)
+    }
+
+    /// Makes at most `steps` steps, up to the run's end, as `run` does, and counts what they tell.
+    fn run_counted(&mut self, steps: u64, tally: &mut Tally) -> Result<Ended, RunFault>
+        requires none { IsTally tally.old [] }
+        ensures kept { (self.new.program ≡ self.old.program) × (self.new.cap ≡ self.old.cap) }
+        ensures says { (facts : List Fact) × SaysTold self.old self.new steps result facts × IsTally tally.new facts }
+    {
+        if self.failed {
+            return Err(RunFault::Failed);
+        }
+        let _before = self.steps();
+        for _made in 0..steps {
+            if let Some(ended) = self.end() {
+                return Ok(ended);
+            }
+            let step = self.coming();
+            match self.advance() {
+                Ok(()) => tally.note(step),
+                Err(_) => return Err(RunFault::Memory),
+            }
+        }
+        match self.end() {
+            Some(ended) => Ok(ended),
+            None => Err(RunFault::StepsSpent),
+        }
+    }
+
+    /// Makes at most `steps` steps, up to the run's end, and answers as `run` does; then each report, in order, is told the facts of these steps: each with its class, and
+    /// each grow of memory that wasn't refused. So they are told where memory is wanted, too: those of the steps before. It takes no memory for that.
+    ///
+    /// A class is 1 for `unreachable`, `nop`, `block`, `loop`, `if`, the branches, `return` and `drop`; 2 for the calls; 3 for locals and globals; 4 for memory; 5 for constants and operations; and 6
+    /// where a block, a loop, an arm or a function is left at its end.
+    pub fn run_told<R: Report>(
+        &mut self,
+        steps: u64,
+        reports: &mut Vec<R>,
+    ) -> Result<Ended, RunFault>
+        ensures kept { (self.new.program ≡ self.old.program) × (self.new.cap ≡ self.old.cap) }
+        ensures says { Says self.old self.new steps result }
+        ensures told { (facts : List Fact) × SaysTold self.old self.new steps result facts ×
+            AllZip (λ b c. IsTold facts (R.shown b) (R.shown c)) reports.old.items reports.new.items }
+    {
+        let mut tally = Tally::new();
+        let ended = self.run_counted(steps, &mut tally);
+        tell_counted(reports, &tally);
+        ended
     }
 
     /// The value of the global `result`.
