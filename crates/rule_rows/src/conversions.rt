@@ -58,7 +58,7 @@ fn run_in(case: &Case, opened: &Opened, env: &Env, out: &mut String) -> Result<(
 }
 
 /// The row's environment, checked.
-fn checked(case: &Case) -> Result<Env, Fault>
+pub fn checked(case: &Case) -> Result<Env, Fault>
     ensures accepted { IfOk result IsAccepted }
 {
     let raw = read(case)?;

@@ -1,13 +1,14 @@
 //! The rows of the rules: what they stand on, what they form, how they reduce and compare, with what the calls are to answer.
 //! `row_files` has the format of rows, `row_terms` that of their terms.
 //!
-//! Environments are kept unchecked, so that open and ill-typed terms can stand in rows; but for comparison, which asks for what is checked.
+//! Environments are kept unchecked, so that open and ill-typed terms can stand in rows; but for comparison and `whnf kept`, which ask for what
+//! is checked.
 //!
 //! | Table | Calls |
 //! |---|---|
 //! | `rules` | `meter` (`units:`, `tick:`, `note:`, `uses:`, `enter:`, `leave:`), `context`, `long context` (`times:`), `keep`, `heads` (`number:`), `positive` (`units:`; the last declaration is tested, over those before it) |
 //! | `forms` | `ind_type`, `pred_entries`, `construct_type`, `branch_entries` (`parameter:`), `branch_type` (`branch:`), `pred_at` (`index:`, `scrutinee:`), `fix_unfold` (`definition:`) |
-//! | `reductions` | `whnf`, `whnf nested` (`times:`), with `units:` |
+//! | `reductions` | `whnf`, `whnf nested` (`times:`), `whnf kept` (in the environment, checked), with `units:`; by substitution and by closures |
 //! | `evaluations` | `eval` (`units:`), `data` (`value:`, `type:`), `data doubled` (`doublings:`) |
 //! | `conversions` | `below`, `equal` (`other:`), `below doubled`, `equal doubled` (`doublings:`), each with `units:`, `products:` and `entered:` |
 #![tactic(auto)]

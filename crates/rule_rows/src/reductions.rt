@@ -1,11 +1,13 @@
-//! The layer of reduction: `whnf`, in an environment that is not checked.
+//! The layer of reduction: `whnf` by both reducers, in an environment that is not checked, and in one that is kept.
 use crate::contexts::context;
+use crate::conversions::checked;
 use crate::unchecked::unchecked;
 use pc_rules::environment::Env;
 use pc_rules::meter::Meter;
 use pc_rules::reducer::Reducer;
 use pc_rules::stop::Stop;
 use pc_terms::term::{Branch, Branches, MakeFault, Match, Node, Term, Terms};
+use reduce_machine::closures::Closures;
 use reduction::substitution::Subst;
 use row_files::{Case, Fault};
 use row_terms::{Opened, made, put_stop, put_term};
@@ -22,6 +24,7 @@ fn run_opened(case: &Case, opened: &Opened, out: &mut String) -> Result<(), Faul
     let term = opened.term(case, "term")?;
     match case.row.given("call")? {
         "whnf" => put_whnf(case, opened, term, out),
+        "whnf kept" => run_kept(case, opened, term, out),
         "whnf nested" => run_nested(case, opened, term, out),
         _ => Err(Fault::Faulty("no such call")),
     }
@@ -33,7 +36,7 @@ fn put_whnf(case: &Case, opened: &Opened, term: &Term, out: &mut String) -> Resu
     put_whnf_in(case, opened, &env, term, out)
 }
 
-/// The same, in an environment.
+/// The same, in an environment: what substitution comes to, and what closures come to where that isn't the same.
 fn put_whnf_in(
     case: &Case,
     opened: &Opened,
@@ -41,12 +44,41 @@ fn put_whnf_in(
     term: &Term,
     out: &mut String,
 ) -> Result<(), Fault> {
+    let stepwise = reduced_by(&Subst, case, opened, env, term)?;
+    let bound = reduced_by(&Closures, case, opened, env, term)?;
+    out.push_str(stepwise.as_str())?;
+    if bound.as_str() != stepwise.as_str() {
+        out.push_str("\n  by closures ")?;
+        out.push_str(bound.as_str())?;
+    }
+    Ok(())
+}
+
+/// The weak-head normal form of a term by a reducer, in the row's context, with `units`, and the units that are left.
+fn reduced_by<R: Reducer>(
+    reducer: &R,
+    case: &Case,
+    opened: &Opened,
+    env: &Env,
+    term: &Term,
+) -> Result<String, Fault> {
     let mut m = Meter::new(case.row.number("units", 1_000_000)?);
     let ctx = context(case, opened)?;
-    put_reduced(out, opened, Subst.whnf(case.alloc, env, &ctx, term, &mut m))?;
+    let mut out = String::new(case.alloc);
+    put_reduced(
+        &mut out,
+        opened,
+        reducer.whnf(case.alloc, env, &ctx, term, &mut m),
+    )?;
     let left = m.left();
-    write!(out, "\n  units left {left}")?;
-    Ok(())
+    write!(&mut out, "\n  units left {left}")?;
+    Ok(out)
+}
+
+/// The weak-head normal form of a term in the row's environment, which is checked, in the row's context.
+fn run_kept(case: &Case, opened: &Opened, term: &Term, out: &mut String) -> Result<(), Fault> {
+    let env = checked(case)?;
+    put_whnf_in(case, opened, &env, term, out)
 }
 
 /// A weak-head normal form, or why there is none.
