@@ -82,10 +82,12 @@ unfoldable pub constraint_lines : RawEnv → List ℕ → List ℕ
 constraint_lines e [] = []
 constraint_lines e (i ∷ is) = text_line (codes "constraint: ") (constraint_text e (slice_get e.constraints i)) ++ constraint_lines e is
 
--- two that differ
+-- two that differ: the weak-head normal forms, mostly parts of the two types, at which a comparison ended; or two sorts (which of the two ways they were to stand
+-- isn't kept)
 abbrev pub clash_lines : RawEnv → Clash → List ℕ
-clash_lines e (clashes.Terms a b) = term_line e (codes "type found") a ++ term_line e (codes "type asked for") b
-clash_lines e (clashes.Sorts s r) = sort_line e (codes "sort found: ") s ++ (sort_line e (codes "sort asked for: ") r ++ missing_line e s r)
+clash_lines e (clashes.Terms a b) = term_line e (codes "found, where they differ") a ++ term_line e (codes "asked for, where they differ") b
+clash_lines e (clashes.Sorts s r) =
+    sort_line e (codes "sort found: ") s ++ (sort_line e (codes "sort asked for: ") r ++ codes "needed: the first at most the second, or the same where types are to be equal\n")
 
 -- a name that stands twice: a level's, or another's
 abbrev pub name_at : RawEnv → Place → ℕ → List ℕ
@@ -106,7 +108,7 @@ kept_lines e p (broken.CountWrong w g) = number_line (codes "asked for: ") w ++ 
 kept_lines e p (broken.NotTheFamily t) = term_line e (codes "type found") t
 kept_lines e p (broken.ElimNotAllowed f) = text_line (codes "family of: ") (text_of e.names f.block.0) ++ number_line (codes "family: ") f.family
 kept_lines e p (broken.NotEnoughAbstractions d) = number_line (codes "definition: ") d
-kept_lines e p (broken.NotGuarded t) = term_line e (codes "argument") t
+kept_lines e p (broken.NotGuarded t) = term_line e (codes "what stands there") t
 kept_lines e p (broken.NotPositive f c) = number_line (codes "family: ") f ++ number_line (codes "constructor: ") c
 kept_lines e p (broken.SortTooSmall s r) = sort_line e (codes "sort of the argument: ") s ++ (sort_line e (codes "sort of the family: ") r ++ missing_line e s r)
 kept_lines e p (broken.DuplicateName k) = text_line (codes "name: ") (name_at e p k)

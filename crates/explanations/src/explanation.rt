@@ -38,7 +38,8 @@ fn words(rule: &Broken) -> &'static [u8]
             b"a match on a family in Prop has a sort that it may not have",
         Broken::NotEnoughAbstractions { .. } =>
             b"the body of a definition of a fixpoint begins with too few lambdas",
-        Broken::NotGuarded { .. } => b"the argument of a recursive call is not smaller",
+        Broken::NotGuarded { .. } =>
+            b"a recursive call has too few arguments or one that is not smaller, or a body begins with too few lambdas",
         Broken::NotPositive { .. } => b"a constructor is not strictly positive",
         Broken::SortTooSmall { .. } =>
             b"the sort of a constructor's argument is greater than its family's",
@@ -102,13 +103,15 @@ fn clash_lines(out: &mut Text, raw: &RawEnv, clash: &Clash)
 {
     match clash {
         Clash::Terms(found, asked) => {
-            term_line(out, raw, b"type found", found);
-            term_line(out, raw, b"type asked for", asked)
+            term_line(out, raw, b"found, where they differ", found);
+            term_line(out, raw, b"asked for, where they differ", asked)
         }
         Clash::Sorts(found, asked) => {
             sort_line(out, raw, b"sort found: ", found);
             sort_line(out, raw, b"sort asked for: ", asked);
-            missing_line(out, raw, found, asked)
+            out.put(
+                b"needed: the first at most the second, or the same where types are to be equal\n",
+            )
         }
     }
 }
@@ -151,7 +154,7 @@ fn kept_lines(out: &mut Text, raw: &RawEnv, place: Place, rule: &Broken)
             number_line(out, b"family: ", family.family)
         }
         Broken::NotEnoughAbstractions { def } => number_line(out, b"definition: ", *def),
-        Broken::NotGuarded { argument } => term_line(out, raw, b"argument", argument),
+        Broken::NotGuarded { argument } => term_line(out, raw, b"what stands there", argument),
         Broken::NotPositive { family, ctor } => {
             two_numbers(out, b"family: ", *family, b"constructor: ", *ctor)
         }
