@@ -37,7 +37,7 @@ use Rattle.headline.proofs.EachRun.{each_run}
 use Rattle.headline.proofs.LateReturns.{late_returns}
 use Rattle.headline.proofs.PastMaximum.{past_maximum}
 use Rattle.headline.proofs.SourceSizes.{of_source}
-use Rattle.counted_runs.specs.CountedRuns.{Gives, HasCounts, RunsByCounts}
+use Rattle.counted_runs.specs.CountedRuns.{GivesWith, HasCountsWithin, RunsByCounts}
 use Rattle.counted_runs.proofs.Bounded.{counts_bound_runs, evaluations_have_counts}
 use Rattle.command_line.specs.declared.line.Request.{Request}
 use Rattle.command_line.specs.Line.{IsInRange}
@@ -177,7 +177,7 @@ module _ (request : Request) (range : IsInRange request) (bytes : List ℕ) (e :
       let same : h.stages.program ≡ P = one_program request.turns e h.stages x.before in
       let there : a.kept ≡ its_environment x.before = (one_kept a.kept a.type a.left a.accepted x.before).0 in
       let within : IsWithin P (source_branches a.kept) = subst (λ E. IsWithin P (source_branches E)) (sym there) (within_source x).within in
-      counts_bound_runs P request.pages (source_branches a.kept) h.tree c pos small (omega arith) within (subst (λ P. Gives P h.tree c) same h.gives)
+      counts_bound_runs P request.pages (source_branches a.kept) h.tree c pos small (omega arith) within (subst (λ P. GivesWith P h.tree c) same h.gives)
 
   module _ (n : ℕ) (h : HasValue request.turns e n) where
     types_there : (x : Erasing request.turns e) → IsFirstOrder h.kept h.type (members (its_shapes x))
@@ -212,7 +212,7 @@ module _ (request : Request) (range : IsInRange request) (bytes : List ℕ) (e :
     value_runs x = (law x).runs
 
     -- the evaluation after erasure with environments has counts that the nodes allow
-    pub value_counts : (x : Compiling request.turns e) → HasCounts x.before.program value_data n
+    pub value_counts : (x : Compiling request.turns e) → HasCountsWithin x.before.program value_data n
     value_counts x = evaluations_have_counts x.before.program value_data n x.before.form (law x).kept
 
     -- so the erased program has that data

@@ -22,7 +22,7 @@ use Rattle.wasm_core.specs.Runs.{main_start}
 use Rattle.headline.specs.EveryRun.{EveryRunAnswers}
 use Rattle.headline.specs.Headline.{IsExactly}
 use Rattle.headline.specs.SourceWords.{source_words, source_branches}
-use Rattle.counted_runs.specs.CountedRuns.{Gives, HasCounts, RunsByCounts}
+use Rattle.counted_runs.specs.CountedRuns.{GivesWith, HasCountsWithin, RunsByCounts}
 use Rattle.command_line.specs.declared.job.Job.TheVariants.{Bench, Compile, Exec}
 use Rattle.command_line.specs.declared.line.Request.{Request}
 use Rattle.dump_reader.specs.declared.environment.RawEnv.{RawEnv}
@@ -65,7 +65,7 @@ pub record ServesValue (q : Request) (e : RawEnv) (n status : ℕ) (h : HasValue
   pub exactly : IsExactly h.kept h.types h.value tree
   pub valid : (x : Compiling q.turns e) → IsValid (its_module q.pages x)
   pub runs : (x : Compiling q.turns e) → EveryRunAnswers x.before.program q.pages (source_words h.kept e.main) (source_branches h.kept) n tree
-  pub counted : (x : Compiling q.turns e) → HasCounts x.before.program tree n
+  pub counted : (x : Compiling q.turns e) → HasCountsWithin x.before.program tree n
   pub text : q.job ≡ Exec → status ≡ 0 → (text : List ℕ) × IsTextOfValue q.turns e n h tree text × Appends taken taken' text
   pub figures : q.job ≡ Bench → status ≡ 0 → (text : List ℕ) × IsTextOfValue q.turns e n h tree text × TakesFigures q e text taken taken'
   pub object : q.job ≡ Compile → status ≡ 0 → TakesModule q e taken taken'
@@ -90,7 +90,7 @@ pub record IsBoundedBy (q : Request) (e : RawEnv) (n : ℕ) (h : EvaluatesErased
 pub record GivesErased (turns : ℕ) (e : RawEnv) (c : Counts) : Type 0 where
   pub stages : Erasing turns e
   pub tree : Data
-  pub gives : Gives stages.program tree c
+  pub gives : GivesWith stages.program tree c
 
 -- by the counts of an evaluation with environments, and with m branches of a match at most: where so many bytes are within the pages memory isn't exhausted, and where so many steps may be made they
 -- aren't spent
