@@ -23,7 +23,7 @@ use Rattle.headline.specs.Headline.{IsExactly}
 use Rattle.headline.specs.SourceWords.{source_branches}
 
 -- main of the saturated program, which the first two passes make of P, gives the data by evaluation with environments, with these counts
-pub record Gives (P : BoxProgram) (tree : Data) (c : Counts) : Type 0 where
+pub record GivesWith (P : BoxProgram) (tree : Data) (c : Counts) : Type 0 where
   pub value : Value
   pub run : Run (saturated_program P) Empty (saturated_program P).main value c
   pub reads : ValueReads value tree
@@ -39,27 +39,27 @@ pub record RunsByCounts (P : BoxProgram) (pages m : ℕ) (tree : Data) (c : Coun
 -- of a program of the form within the limits of the passes
 abbrev pub CountsBoundRuns : Type 0
 CountsBoundRuns =
-    (P : BoxProgram) (pages m : ℕ) (tree : Data) (c : Counts) → 0 < pages → pages ≤ 16384 → 0 < m → IsWithin P m → Gives P tree c → RunsByCounts P pages m tree c
+    (P : BoxProgram) (pages m : ℕ) (tree : Data) (c : Counts) → 0 < pages → pages ≤ 16384 → 0 < m → IsWithin P m → GivesWith P tree c → RunsByCounts P pages m tree c
 
 -- the counts of an evaluation by substitution with n nodes: they are there, and no greater than n allows
-pub record HasCounts (P : BoxProgram) (tree : Data) (n : ℕ) : Type 0 where
+pub record HasCountsWithin (P : BoxProgram) (tree : Data) (n : ℕ) : Type 0 where
   pub counts : Counts
-  pub gives : Gives P tree counts
+  pub gives : GivesWith P tree counts
   pub contractions : counts.contractions ≤ n
   pub blocks : counts.blocks ≤ 2 * n
   pub greatest : counts.greatest ≤ greatest_words P
 
 abbrev pub EvaluationsHaveCounts : Type 0
-EvaluationsHaveCounts = (P : BoxProgram) (tree : Data) (n : ℕ) → IsBoxProgram P → EvaluatesTo P tree n → HasCounts P tree n
+EvaluationsHaveCounts = (P : BoxProgram) (tree : Data) (n : ℕ) → IsBoxProgram P → EvaluatesTo P tree n → HasCountsWithin P tree n
 
 -- and they are one
 abbrev pub CountsAreOne : Type 0
-CountsAreOne = (P : BoxProgram) (tree other : Data) (c d : Counts) → IsBoxProgram P → Gives P tree c → Gives P other d → c ≡ d
+CountsAreOne = (P : BoxProgram) (tree other : Data) (c d : Counts) → IsBoxProgram P → GivesWith P tree c → GivesWith P other d → c ≡ d
 
 -- main evaluates to a value in n nodes: it is this data, the erased program gives it with counts that n allows, and every run of its module is within the bounds of these counts
 pub record AnswersByCounts (E : Env) (types : List Shape) (P : BoxProgram) (pages : ℕ) (v : Term) (n : ℕ) (tree : Data) : Type 0 where
   pub exactly : IsExactly E (members types) v tree
-  pub counted : HasCounts P tree n
+  pub counted : HasCountsWithin P tree n
   pub runs : RunsByCounts P pages (source_branches E) tree counted.counts
 
 -- where an environment is accepted, main's type has these first-order types and the erased program fits the passes

@@ -10,14 +10,15 @@ use Rattle.lambda_box.specs.BoxProgram.{BoxProgram}
 use Rattle.lambda_box.specs.BoxEvaluation.{BoxEvaluates}
 use Rattle.lambda_box.specs.BoxData.{BoxReads}
 use Rattle.lambda_box.specs.DataTerms.{greatest_words}
+use Rattle.lambda_box.specs.ClosureEvaluation.{Counts}
 use Rattle.box_passes.specs.PassLaws.{saturated_program}
 use Rattle.wasm_core.specs.declared.ended.Ended.TheVariants.{Returned, Trapped}
 use Rattle.wasm_core.specs.declared.ended.TrapKind.{TrapKind}
 use Rattle.wasm_core.specs.ModuleTyping.{IsValid}
 use Rattle.wasm_core.specs.Parts.{Parts}
 use Rattle.wasm_core.specs.MachineStep.{State, Store, Over, Reach}
-use Rattle.wasm_core.specs.Answer.{Answers}
-use Rattle.wasm_core.specs.Runs.{main_start}
+use Rattle.wasm_core.specs.Answer.{Answers, AnswersWithin, IsAtEnd}
+use Rattle.wasm_core.specs.Runs.{main_start, store_of}
 use Rattle.wasm_core.proofs.Small.{inj}
 use Rattle.wasm_core.proofs.Trees.{moves_are_steps}
 use Rattle.wasm_emit.specs.EmittedModule.{module_of}
@@ -28,7 +29,7 @@ use Rattle.module_run.specs.Ends.{IsTrapped}
 use Rattle.module_run.specs.declared.refusal.RunRefusal.TheVariants as running
 use Rattle.module_run.proofs.OneEnd.{ends_answer}
 use Rattle.headline.specs.AcceptedProgram.{IsAcceptedAs, IsErasedTo, FitsPasses, IsWithinSource}
-use Rattle.headline.specs.EveryRun.{EvaluatesTo, EveryRunAnswers}
+use Rattle.headline.specs.EveryRun.{module_for, EvaluatesTo, EveryRunAnswers}
 use Rattle.headline.specs.Headline.{IsExactly, AnswersValue as AnswersByLaw}
 use Rattle.headline.specs.SourceWords.{source_words, source_branches}
 use Rattle.headline.proofs.Composed.{lawful_evaluation, value_exactly, value_answered}
@@ -36,6 +37,8 @@ use Rattle.headline.proofs.EachRun.{each_run}
 use Rattle.headline.proofs.LateReturns.{late_returns}
 use Rattle.headline.proofs.PastMaximum.{past_maximum}
 use Rattle.headline.proofs.SourceSizes.{of_source}
+use Rattle.counted_runs.specs.CountedRuns.{GivesWith, HasCountsWithin, RunsByCounts}
+use Rattle.counted_runs.proofs.Bounded.{counts_bound_runs, evaluations_have_counts}
 use Rattle.command_line.specs.declared.line.Request.{Request}
 use Rattle.command_line.specs.Line.{IsInRange}
 use Rattle.dump_reader.specs.declared.environment.RawEnv.{RawEnv}
@@ -51,7 +54,7 @@ use Rattle.driver.specs.Serve.{IsCheckCause}
 use Rattle.driver.specs.Bench.{steps_of}
 use Rattle.driver.specs.ExecEnds.{Erasing, Compiling, Answering, Refuses, in_search, in_erasure, in_passes, in_run, in_text, IsExecCause, ExecEnds, RunSays, TextRefuses, its_module, its_shapes, its_environment, its_type}
 use Rattle.driver.specs.Executed.{HasErasedData}
-use Rattle.driver.specs.Headline.{HasValue, IsTextOfValue, EvaluatesErased, HasMatches}
+use Rattle.driver.specs.Headline.{HasValue, IsTextOfValue, EvaluatesErased, GivesErased, HasMatches}
 use Rattle.driver.proofs.SourceCauses.{accepts_inj, plainly}
 use Rattle.driver.proofs.AcceptedAs.{accepted_as, erased_to}
 use Rattle.driver.proofs.TextCauses.{is_spelled}
@@ -95,12 +98,24 @@ compiled (of_text x y) = x.before
 trap_answers : {M : Parts} {d : Data} {k : TrapKind} {s : Store} → Answers M d (Over (Trapped k) s) → ⊥
 trap_answers a = elim a [ ]
 
-module _ (pages steps : ℕ) (P : BoxProgram) (w b n : ℕ) (ds : Data) (r : EveryRunAnswers P pages w b n ds) where
+-- every run of the module makes at most so many steps, and answers the data or is exhausted; and where so many bytes are within the maximum, it is exhausted only where a grow that the maximum allows was refused
+record RunsWithin (P : BoxProgram) (pages most size : ℕ) (ds : Data) : Type 0 where
+  answers : AnswersWithin (module_for P pages) most ds
+  enough : size ≤ 65536 * pages → (k : ℕ) (t : State) → Reach (module_for P pages) k answers.first t → IsAtEnd (module_for P pages) t → (store_of t).by_choice ≡ false → Answers (module_for P pages) ds t
+
+by_nodes : {P : BoxProgram} {pages w b n : ℕ} {ds : Data} → EveryRunAnswers P pages w b n ds → RunsWithin P pages (1024 * n * (w + b)) (32 * n * w + 8) ds
+by_nodes r = record { answers = r.answers; enough = r.enough }
+
+by_counts : {P : BoxProgram} {pages m : ℕ} {ds : Data} {c : Counts} → RunsByCounts P pages m ds c →
+    RunsWithin P pages (64 * (c.blocks + c.contractions + 1) * (c.greatest + m)) (4 * (c.blocks * c.greatest) + 8) ds
+by_counts r = record { answers = r.answers; enough = r.enough }
+
+module _ (pages steps : ℕ) (P : BoxProgram) (most size : ℕ) (ds : Data) (r : RunsWithin P pages most size ds) where
   abbrev M : Parts
   M = module_of (passed P) pages
 
   -- no run traps where the bytes are within the maximum
-  not_trapped : (kind : TrapKind) → IsTrapped M pages steps kind 1 → 32 * n * w + 8 ≤ 65536 * pages → ⊥
+  not_trapped : (kind : TrapKind) → IsTrapped M pages steps kind 1 → size ≤ 65536 * pages → ⊥
   not_trapped kind x big =
       let run = x.run in
       let t : State = Over (Trapped kind) x.store in
@@ -154,6 +169,16 @@ module _ (request : Request) (range : IsInRange request) (bytes : List ℕ) (e :
       let words : greatest_words h.stages.program ≡ greatest_words P = ap greatest_words same in
       each_run P request.pages (greatest_words h.stages.program) (source_branches a.kept) n h.tree pos small (omega arith) (omega (arith, words)) within kept
 
+  -- the runs where the saturated program gives data by evaluation with environments
+  pub counted_runs : (c : Counts) (h : GivesErased request.turns e c) (x : Compiling request.turns e) → RunsByCounts x.before.program request.pages (source_branches (its_environment h.stages)) h.tree c
+  counted_runs c h x =
+      let P = x.before.program in
+      let a = h.stages.before.before in
+      let same : h.stages.program ≡ P = one_program request.turns e h.stages x.before in
+      let there : a.kept ≡ its_environment x.before = (one_kept a.kept a.type a.left a.accepted x.before).0 in
+      let within : IsWithin P (source_branches a.kept) = subst (λ E. IsWithin P (source_branches E)) (sym there) (within_source x).within in
+      counts_bound_runs P request.pages (source_branches a.kept) h.tree c pos small (omega arith) within (subst (λ P. GivesWith P h.tree c) same h.gives)
+
   module _ (n : ℕ) (h : HasValue request.turns e n) where
     types_there : (x : Erasing request.turns e) → IsFirstOrder h.kept h.type (members (its_shapes x))
     types_there x =
@@ -186,6 +211,10 @@ module _ (request : Request) (range : IsInRange request) (bytes : List ℕ) (e :
     pub value_runs : (x : Compiling request.turns e) → EveryRunAnswers x.before.program request.pages (source_words h.kept e.main) (source_branches h.kept) n value_data
     value_runs x = (law x).runs
 
+    -- the evaluation after erasure with environments has counts that the nodes allow
+    pub value_counts : (x : Compiling request.turns e) → HasCountsWithin x.before.program value_data n
+    value_counts x = evaluations_have_counts x.before.program value_data n x.before.form (law x).kept
+
     -- so the erased program has that data
     erased_data : (x : Compiling request.turns e) → HasErasedData request.turns e value_data (law x).kept.nodes (law x).kept.matches
     erased_data x = let l = law x in record { stages = x.before; value = l.kept.value; evaluates = l.kept.evaluates; reads = l.kept.reads; fits = l.fits }
@@ -213,40 +242,50 @@ module _ (request : Request) (range : IsInRange request) (bytes : List ℕ) (e :
 
   -- ---- bounds, where every run of the module that this call makes answers data
 
-  module _ (ds : Data) (w b n : ℕ) (runs : (x : Compiling request.turns e) → EveryRunAnswers x.before.program request.pages w b n ds) where
-    unexhausted : (why : RunEnd) → Late request e why → status_of (refusals.Run why) ≡ 11 → 32 * n * w + 8 ≤ 65536 * request.pages → ⊥
-    unexhausted ends.Exhausted (of_run x (brief, (kind, t, refused))) q big = not_trapped request.pages request.steps x.before.program w b n ds (runs x) kind t big
+  module _ (ds : Data) (most size : ℕ) (runs : (x : Compiling request.turns e) → RunsWithin x.before.program request.pages most size ds) where
+    unexhausted : (why : RunEnd) → Late request e why → status_of (refusals.Run why) ≡ 11 → size ≤ 65536 * request.pages → ⊥
+    unexhausted ends.Exhausted (of_run x (brief, (kind, t, refused))) q big = not_trapped request.pages request.steps x.before.program most size ds (runs x) kind t big
     unexhausted ends.Exhausted (of_text x y) q big = y
     unexhausted _ l q big = absurd (omega (arith, q))
 
-    unspent : (why : RunEnd) → Late request e why → status_of (refusals.Run why) ≡ 12 → 1024 * n * (w + b) ≤ request.steps → ⊥
-    unspent ends.StepsSpent (of_run x y) q few = (let more = ends_answer (its_module request.pages x) request.pages (1024 * n * (w + b)) request.steps ds (Err running.StepsSpent) (runs x).answers y in omega (arith, more, few))
+    unspent : (why : RunEnd) → Late request e why → status_of (refusals.Run why) ≡ 12 → most ≤ request.steps → ⊥
+    unspent ends.StepsSpent (of_run x y) q few = (let more = ends_answer (its_module request.pages x) request.pages most request.steps ds (Err running.StepsSpent) (runs x).answers y in omega (arith, more, few))
     unspent ends.StepsSpent (of_text x y) q few = y
     unspent _ l q few = absurd (omega (arith, q))
 
-    pub enough_memory : (r : Refusal) → IsCheckCause request.turns r e ⊎ IsExecCause request.turns request.pages request.steps r e → status_of r ≡ 11 → 32 * n * w + 8 ≤ 65536 * request.pages → ⊥
+    pub enough_memory : (r : Refusal) → IsCheckCause request.turns r e ⊎ IsExecCause request.turns request.pages request.steps r e → status_of r ≡ 11 → size ≤ 65536 * request.pages → ⊥
     enough_memory r c q big = let l = late_of request e r c (omega (arith, q)) in unexhausted l.why l.late (ap status_of (sym l.is) ∙ q) big
 
-    pub enough_steps : (r : Refusal) → IsCheckCause request.turns r e ⊎ IsExecCause request.turns request.pages request.steps r e → status_of r ≡ 12 → 1024 * n * (w + b) ≤ request.steps → ⊥
+    pub enough_steps : (r : Refusal) → IsCheckCause request.turns r e ⊎ IsExecCause request.turns request.pages request.steps r e → status_of r ≡ 12 → most ≤ request.steps → ⊥
     enough_steps r c q few = let l = late_of request e r c (omega (arith, q)) in unspent l.why l.late (ap status_of (sym l.is) ∙ q) few
 
-  -- so where the erased program evaluates to data, and where main evaluates to a value
+  -- so where the erased program evaluates to data, where it gives data with these counts, and where main evaluates to a value
 
   pub data_memory : (n : ℕ) (h : EvaluatesErased request.turns e n) (r : Refusal) → IsCheckCause request.turns r e ⊎ IsExecCause request.turns request.pages request.steps r e → status_of r ≡ 11 →
       32 * n * greatest_words h.stages.program + 8 ≤ 65536 * request.pages → ⊥
-  data_memory n h = enough_memory h.tree (greatest_words h.stages.program) (source_branches (its_environment h.stages)) n (data_runs n h)
+  data_memory n h = enough_memory h.tree (1024 * n * (greatest_words h.stages.program + source_branches (its_environment h.stages))) (32 * n * greatest_words h.stages.program + 8) (λ x. by_nodes (data_runs n h x))
 
   pub data_steps : (n : ℕ) (h : EvaluatesErased request.turns e n) (r : Refusal) → IsCheckCause request.turns r e ⊎ IsExecCause request.turns request.pages request.steps r e → status_of r ≡ 12 →
       1024 * n * (greatest_words h.stages.program + source_branches (its_environment h.stages)) ≤ request.steps → ⊥
-  data_steps n h = enough_steps h.tree (greatest_words h.stages.program) (source_branches (its_environment h.stages)) n (data_runs n h)
+  data_steps n h = enough_steps h.tree (1024 * n * (greatest_words h.stages.program + source_branches (its_environment h.stages))) (32 * n * greatest_words h.stages.program + 8) (λ x. by_nodes (data_runs n h x))
+
+  pub counted_memory : (c : Counts) (h : GivesErased request.turns e c) (r : Refusal) → IsCheckCause request.turns r e ⊎ IsExecCause request.turns request.pages request.steps r e → status_of r ≡ 11 →
+      4 * (c.blocks * c.greatest) + 8 ≤ 65536 * request.pages → ⊥
+  counted_memory c h =
+      enough_memory h.tree (64 * (c.blocks + c.contractions + 1) * (c.greatest + source_branches (its_environment h.stages))) (4 * (c.blocks * c.greatest) + 8) (λ x. by_counts (counted_runs c h x))
+
+  pub counted_steps : (c : Counts) (h : GivesErased request.turns e c) (r : Refusal) → IsCheckCause request.turns r e ⊎ IsExecCause request.turns request.pages request.steps r e → status_of r ≡ 12 →
+      64 * (c.blocks + c.contractions + 1) * (c.greatest + source_branches (its_environment h.stages)) ≤ request.steps → ⊥
+  counted_steps c h =
+      enough_steps h.tree (64 * (c.blocks + c.contractions + 1) * (c.greatest + source_branches (its_environment h.stages))) (4 * (c.blocks * c.greatest) + 8) (λ x. by_counts (counted_runs c h x))
 
   pub value_memory : (n : ℕ) (h : HasValue request.turns e n) (r : Refusal) → IsCheckCause request.turns r e ⊎ IsExecCause request.turns request.pages request.steps r e → status_of r ≡ 11 →
       32 * n * source_words h.kept e.main + 8 ≤ 65536 * request.pages → ⊥
-  value_memory n h = enough_memory (value_data n h) (source_words h.kept e.main) (source_branches h.kept) n (value_runs n h)
+  value_memory n h = enough_memory (value_data n h) (1024 * n * (source_words h.kept e.main + source_branches h.kept)) (32 * n * source_words h.kept e.main + 8) (λ x. by_nodes (value_runs n h x))
 
   pub value_steps : (n : ℕ) (h : HasValue request.turns e n) (r : Refusal) → IsCheckCause request.turns r e ⊎ IsExecCause request.turns request.pages request.steps r e → status_of r ≡ 12 →
       1024 * n * (source_words h.kept e.main + source_branches h.kept) ≤ request.steps → ⊥
-  value_steps n h = enough_steps (value_data n h) (source_words h.kept e.main) (source_branches h.kept) n (value_runs n h)
+  value_steps n h = enough_steps (value_data n h) (1024 * n * (source_words h.kept e.main + source_branches h.kept)) (32 * n * source_words h.kept e.main + 8) (λ x. by_nodes (value_runs n h x))
 
   -- a run that returns has made as many steps as there are matches
   pub late_runs : (matches : ℕ) → HasMatches request.turns e matches → (x : Compiling request.turns e) (first : State) (k : ℕ) (s : Store) → main_start (its_module request.pages x) ≡ Some first →

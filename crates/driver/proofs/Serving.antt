@@ -15,6 +15,7 @@ use Rattle.command_line.specs.declared.job.Job.TheVariants.{Bench, Compile, Exec
 use Rattle.command_line.specs.Line.{IsInRange, request_of}
 use Rattle.command_line.proofs.Ranges.{requests_lie_in_range}
 use Rattle.driver.specs.Lines.{status_of}
+use Rattle.lambda_box.specs.ClosureEvaluation.{Counts}
 use Rattle.reports.specs.Shown.{Shown}
 use Rattle.driver.specs.declared.reporting.facts.Facts.{Facts}
 use Rattle.driver.specs.ReportedFacts.{facts_of}
@@ -26,9 +27,9 @@ use Rattle.driver.specs.Served.{Seen, IsKept, Served}
 use Rattle.driver.specs.Executed.{AnswersData, HasErasedData}
 use Rattle.driver.specs.MadeModule.{TakesModule}
 use Rattle.driver.specs.Serve.{HasAnswer, Concludes, HasJobFacts, HasWell, input_limit, IsAnswerableBy, IsAnswerOf, IsAsked, IsAskedOn, IsCause, IsCheckCause, IsForJob, IsForReader, IsInput, IsInputOf, IsJudgedWith, IsLate, IsOfText, IsRefused, IsSure, IsTextCause, IsTooLong, MakesModule, MeetsNoFault, ReadsWell, ReadsNothing, Says, Tells}
-use Rattle.driver.specs.Headline.{HasValue, ServesValue, EvaluatesErased, IsBoundedBy, HasMatches, TakesMatches}
+use Rattle.driver.specs.Headline.{HasValue, ServesValue, EvaluatesErased, IsBoundedBy, GivesErased, IsCountedBy, HasMatches, TakesMatches}
 use Rattle.driver.proofs.CheckCauses.{not_zero}
-use Rattle.driver.proofs.Headlines.{value_data, value_exact, value_valid, value_runs, value_text, no_fault, value_memory, value_steps, data_runs, data_memory, data_steps, late_runs, answered_late, answering_late}
+use Rattle.driver.proofs.Headlines.{value_data, value_exact, value_valid, value_runs, value_counts, value_text, no_fault, value_memory, value_steps, data_runs, data_memory, data_steps, counted_runs, counted_memory, counted_steps, late_runs, answered_late, answering_late}
 use Rattle.driver.specs.ExecEnds.{ExecEnds, HasModule, IsExecCause, Finishes, Answering, its_shapes}
 use Rattle.driver.proofs.ExecCauses.{finishes, memory_early, length_early, fault_early}
 use Rattle.pc_terms.specs.declared.leaf.FamilyId.{FamilyId}
@@ -423,6 +424,7 @@ module _ {V S K E : Type 0} (view : V → List ℕ) (lines : List ℕ) (status :
       exactly = value_exact q in_range d.bytes e d.spelled n h;
       valid = value_valid q in_range d.bytes e d.spelled n h;
       runs = value_runs q in_range d.bytes e d.spelled n h;
+      counted = value_counts q in_range d.bytes e d.spelled n h;
       text = λ exec z. (view v, value_text q in_range d.bytes e d.spelled n h (view v) (executed v s exec), (c.whole z).0);
       figures = λ bench z. let (answer, x, line, is) = benched v s bench in (answer, value_text q in_range d.bytes e d.spelled n h answer (x, line), figures v s c bench z);
       object = written v s c;
@@ -434,6 +436,7 @@ module _ {V S K E : Type 0} (view : V → List ℕ) (lines : List ℕ) (status :
       exactly = value_exact q in_range d.bytes e d.spelled n h;
       valid = value_valid q in_range d.bytes e d.spelled n h;
       runs = value_runs q in_range d.bytes e d.spelled n h;
+      counted = value_counts q in_range d.bytes e d.spelled n h;
       text = λ exec z. absurd (not_zero r (sym c.0 ∙ z));
       figures = λ bench z. absurd (not_zero r (sym c.0 ∙ z));
       object = λ made z. absurd (not_zero r (sym c.0 ∙ z));
@@ -455,6 +458,20 @@ module _ {V S K E : Type 0} (view : V → List ℕ) (lines : List ℕ) (status :
       bounded = record {
         not_exhausted = λ big. never r s c makes 11 (lit< tt) (λ y z. data_memory q in_range d.bytes e d.spelled n h r y z big);
         not_spent = λ few. never r s c makes 12 (lit< tt) (λ y z. data_steps q in_range d.bytes e d.spelled n h r y z few);
+      };
+    }
+
+    -- where its saturated program gives data by evaluation with environments
+    counted : (a : Result V Refusal) → Before a → After a → (k : Counts) → MakesModule q.job → (h : GivesErased q.turns e k) → IsCountedBy q e k h status
+    counted (Ok v) s c k makes h = record {
+      runs = counted_runs q in_range d.bytes e d.spelled k h;
+      bounded = record { not_exhausted = λ big. not_answered v c 11 (lit< tt); not_spent = λ few. not_answered v c 12 (lit< tt) };
+    }
+    counted (Err r) s c k makes h = record {
+      runs = counted_runs q in_range d.bytes e d.spelled k h;
+      bounded = record {
+        not_exhausted = λ big. never r s c makes 11 (lit< tt) (λ y z. counted_memory q in_range d.bytes e d.spelled k h r y z big);
+        not_spent = λ few. never r s c makes 12 (lit< tt) (λ y z. counted_steps q in_range d.bytes e d.spelled k h r y z few);
       };
     }
 
@@ -498,6 +515,7 @@ module _ {V S K E : Type 0} (view : V → List ℕ) (lines : List ℕ) (status :
     well = well a s c;
     headline = λ q e n (d, makes) h. valued q e d a s c n makes h;
     bounded = λ q e n (d, makes) h. bounded q e d a s c n makes h;
+    counted = λ q e k (d, makes) h. counted q e d a s c k makes h;
     matched = λ q e matches (d, makes) h. matched q e d a s c matches h;
     refuses_text = λ q bytes r (asked, short) well cause sure. refuses_text q bytes asked a s c r short well cause sure;
     refuses_length = λ q bytes asked n well long. refuses_length q bytes asked a s c n well long;

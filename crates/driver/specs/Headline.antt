@@ -14,6 +14,7 @@ use Rattle.lambda_box.specs.BoxEvaluation.{BoxEvaluates}
 use Rattle.lambda_box.specs.BoxData.{BoxReads}
 use Rattle.lambda_box.specs.DataTerms.{greatest_words}
 use Rattle.box_passes.specs.PassLaws.{saturated_program}
+use Rattle.lambda_box.specs.ClosureEvaluation.{Counts}
 use Rattle.wasm_core.specs.ModuleTyping.{IsValid}
 use Rattle.wasm_core.specs.declared.ended.Ended.TheVariants.{Returned}
 use Rattle.wasm_core.specs.MachineStep.{State, Store, Over, Reach}
@@ -21,6 +22,7 @@ use Rattle.wasm_core.specs.Runs.{main_start}
 use Rattle.headline.specs.EveryRun.{EveryRunAnswers}
 use Rattle.headline.specs.Headline.{IsExactly}
 use Rattle.headline.specs.SourceWords.{source_words, source_branches}
+use Rattle.counted_runs.specs.CountedRuns.{GivesWith, HasCountsWithin, RunsByCounts}
 use Rattle.command_line.specs.declared.job.Job.TheVariants.{Bench, Compile, Exec}
 use Rattle.command_line.specs.declared.line.Request.{Request}
 use Rattle.dump_reader.specs.declared.environment.RawEnv.{RawEnv}
@@ -55,13 +57,15 @@ pub record IsBounded (pages steps n w b status : ℕ) : Type 0 where
   pub not_exhausted : 32 * n * w + 8 ≤ 65536 * pages → status ≢ 11
   pub not_spent : 1024 * n * (w + b) ≤ steps → status ≢ 12
 
--- the value is this data; the module of this call validates, and every long enough run of it answers the data or is exhausted, within the bounds of the source's words and branches; on status 0 out
--- takes by `exec` the value's text and LF, by `bench` that behind the figures, and by `compile` that module; the status is neither that of a trap nor that of another value; and the bounds of `exec`
+-- the value is this data; the module of this call validates, and every long enough run of it answers the data or is exhausted, within the bounds of the source's words and branches; the evaluation after
+-- erasure with environments gives the data too, with counts that the n nodes allow, by which `counted` bounds the same runs; on status 0 out takes by `exec` the value's text and LF, by `bench` that behind
+-- the figures, and by `compile` that module; the status is neither that of a trap nor that of another value; and the bounds of `exec`
 pub record ServesValue (q : Request) (e : RawEnv) (n status : ℕ) (h : HasValue q.turns e n) (taken taken' : Option (List ℕ)) : Type 0 where
   pub tree : Data
   pub exactly : IsExactly h.kept h.types h.value tree
   pub valid : (x : Compiling q.turns e) → IsValid (its_module q.pages x)
   pub runs : (x : Compiling q.turns e) → EveryRunAnswers x.before.program q.pages (source_words h.kept e.main) (source_branches h.kept) n tree
+  pub counted : (x : Compiling q.turns e) → HasCountsWithin x.before.program tree n
   pub text : q.job ≡ Exec → status ≡ 0 → (text : List ℕ) × IsTextOfValue q.turns e n h tree text × Appends taken taken' text
   pub figures : q.job ≡ Bench → status ≡ 0 → (text : List ℕ) × IsTextOfValue q.turns e n h tree text × TakesFigures q e text taken taken'
   pub object : q.job ≡ Compile → status ≡ 0 → TakesModule q e taken taken'
@@ -81,6 +85,23 @@ pub record EvaluatesErased (turns : ℕ) (e : RawEnv) (n : ℕ) : Type 0 where
 pub record IsBoundedBy (q : Request) (e : RawEnv) (n : ℕ) (h : EvaluatesErased q.turns e n) (status : ℕ) : Type 0 where
   pub runs : (x : Compiling q.turns e) → EveryRunAnswers x.before.program q.pages (greatest_words h.stages.program) (source_branches (its_environment h.stages)) n h.tree
   pub bounded : IsBounded q.pages q.steps n (greatest_words h.stages.program) (source_branches (its_environment h.stages)) status
+
+-- the saturated program, which the first two passes make of the erased one, gives data by evaluation with environments, with these counts, and of whichever type
+pub record GivesErased (turns : ℕ) (e : RawEnv) (c : Counts) : Type 0 where
+  pub stages : Erasing turns e
+  pub tree : Data
+  pub gives : GivesWith stages.program tree c
+
+-- by the counts of an evaluation with environments, and with m branches of a match at most: where so many bytes are within the pages memory isn't exhausted, and where so many steps may be made they
+-- aren't spent
+pub record IsWithinCounts (pages steps m : ℕ) (c : Counts) (status : ℕ) : Type 0 where
+  pub not_exhausted : 4 * (c.blocks * c.greatest) + 8 ≤ 65536 * pages → status ≢ 11
+  pub not_spent : 64 * (c.blocks + c.contractions + 1) * (c.greatest + m) ≤ steps → status ≢ 12
+
+-- every run of the module of this call answers the data or is exhausted, within the bounds of the counts and of the branches of the program's source; and so is `exec` bounded
+pub record IsCountedBy (q : Request) (e : RawEnv) (c : Counts) (h : GivesErased q.turns e c) (status : ℕ) : Type 0 where
+  pub runs : (x : Compiling q.turns e) → RunsByCounts x.before.program q.pages (source_branches (its_environment h.stages)) h.tree c
+  pub bounded : IsWithinCounts q.pages q.steps (source_branches (its_environment h.stages)) c status
 
 -- the saturated program, which the first two passes make of the erased one, evaluates to data with so many matches
 pub record HasMatches (turns : ℕ) (e : RawEnv) (matches : ℕ) : Type 0 where

@@ -4,12 +4,13 @@ use Rattle.std.specs.Io.KnownBytes.{Appends}
 use Rattle.kio.specs.Known.{StillTells}
 use Rattle.calculus_rules.specs.FirstOrder.{Data}
 use Rattle.dump_reader.specs.declared.environment.RawEnv.{RawEnv}
+use Rattle.lambda_box.specs.ClosureEvaluation.{Counts}
 use Rattle.reports.specs.Shown.{Shown}
 use Rattle.driver.specs.Takes.{TakesPrefix}
 use Rattle.command_line.specs.declared.line.Request.{Request}
 use Rattle.command_line.specs.Line.{request_of}
 use Rattle.driver.specs.Executed.{AnswersData, HasErasedData}
-use Rattle.driver.specs.Headline.{HasValue, ServesValue, EvaluatesErased, IsBoundedBy, HasMatches, TakesMatches}
+use Rattle.driver.specs.Headline.{HasValue, ServesValue, EvaluatesErased, IsBoundedBy, GivesErased, IsCountedBy, HasMatches, TakesMatches}
 use Rattle.driver.specs.Serve.{HasAnswer, AsksModule, HasWell, IsAsked, IsLate, IsRefused, MakesModule, ReadsNothing}
 use Rattle.driver.specs.Promises.{AnswersPlain, AnswersWhereItCan, EndsAsJudged, EndsAsLength, EndsAsRun, EndsAsText, NamesPlain, TellsReports}
 
@@ -43,6 +44,7 @@ pub record Served {S K E : Type 0} (status : ℕ) (words : List (List ℕ)) (rep
   pub well : (q : Request) (bytes : List ℕ) → IsAsked q words src.told bytes → MakesModule q.job → IsLate status → HasWell bytes
   pub headline : (q : Request) (e : RawEnv) (n : ℕ) → AsksModule q e words src.told → (h : HasValue q.turns e n) → ServesValue q e n status h out.told out'.told
   pub bounded : (q : Request) (e : RawEnv) (n : ℕ) → AsksModule q e words src.told → (h : EvaluatesErased q.turns e n) → IsBoundedBy q e n h status
+  pub counted : (q : Request) (e : RawEnv) (c : Counts) → AsksModule q e words src.told → (h : GivesErased q.turns e c) → IsCountedBy q e c h status
   pub matched : (q : Request) (e : RawEnv) (matches : ℕ) → AsksModule q e words src.told → HasMatches q.turns e matches → TakesMatches q e matches status
   pub refuses_text : EndsAsText status words src.told src.faults src'.faults
   pub refuses_length : EndsAsLength status words src.told src.faults src'.faults

@@ -12,7 +12,7 @@
 //! data that the run of a valid module answers, which is made of an erasure of main, or, by `compile`, that module's bytes (`done`). By `exec`, `bench` and `compile`: the environment is well
 //! formed on each status after the check (`well`); where main's erased program evaluates to data of main's type, every long enough run of the module answers it or is exhausted, and
 //! `exec` prints it or ends with a status that is neither 0 nor 15 (`values`); where main, of a first-order type, evaluates to a value, the same of that value, with bounds on memory and on steps
-//! (`headline`, `bounded`, `matched`); on a plain environment that keeps the rules that its text shows, main's constructor or its module, given four turns and 1,052,672 steps (`plain`,
+//! (`headline`, `bounded`, by counts `counted`, `matched`); on a plain environment that keeps the rules that its text shows, main's constructor or its module, given four turns and 1,052,672 steps (`plain`,
 //! `named`). By `exec`, where main has a module, the status is one that a run shows (`finishes`). Each other status has its cause, and the line of that refusal goes to err (`refused`, `usage`,
 //! `prefix`); where the line is at fault nothing is read, and the status is 2 but for want of memory (`faulty`), and no other status comes (`statuses`). Where no count of faults rises,
 //! the answer up to want of memory (`judged`, `complete`, `refuses_text`, `refuses_length`). On status 0 err takes the lines of the reports (`reported`). And what is left behind (`unread`, `nothing_out`, `quiet`, `counts`, `tells`).

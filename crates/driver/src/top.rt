@@ -4,6 +4,7 @@ ghost use Rattle.std.specs.Prelude.{◌≡◌, ◌≢◌, ◌⊎◌, ◌≤◌, 
 ghost use Rattle.std.specs.Io.KnownBytes.{Appends};
 ghost use Rattle.kio.specs.Known.{StillTells};
 ghost use Rattle.calculus_rules.specs.FirstOrder.{Data};
+ghost use Rattle.lambda_box.specs.ClosureEvaluation.{Counts};
 ghost use Rattle.dump_reader.specs.declared.environment.RawEnv.{RawEnv};
 ghost use Rattle.command_line.specs.Line.{IsInRange, request_of, words_of};
 ghost use Rattle.command_line.specs.declared.line.Request.{Request as Asked};
@@ -14,7 +15,7 @@ ghost use Rattle.driver.specs.Takes.{TakesLine, TakesPrefix};
 ghost use Rattle.driver.specs.CheckFacts.{no_facts as none};
 ghost use Rattle.driver.specs.Lines.{status_of, line_of};
 ghost use Rattle.driver.specs.Executed.{AnswersData, HasErasedData};
-ghost use Rattle.driver.specs.Headline.{ServesValue, EvaluatesErased, HasMatches, HasValue, IsBoundedBy, TakesMatches};
+ghost use Rattle.driver.specs.Headline.{ServesValue, EvaluatesErased, GivesErased, HasMatches, HasValue, IsBoundedBy, IsCountedBy, TakesMatches};
 ghost use Rattle.driver.specs.Serve.{HasAnswer, AreFacts, AsksModule, ConcludesOn, HasJobFacts, HasWell, InputSays, IsAsked, IsLate, JobSays, MakesModule, ReadSays, ReadsNothing, RequestSays, Says};
 ghost use Rattle.driver.specs.Promises.{AnswersPlain, AnswersWhereItCan, EndsAsJudged, EndsAsLength, EndsAsRun, EndsAsText, NamesPlain, ShowsCause, TellsReports};
 ghost use Rattle.driver.specs.Served.{ServedOn};
@@ -233,6 +234,8 @@ pub fn serve<S: Source, K: Sink, E: Sink>(
     ensures headline { (q : Asked) (e : RawEnv) (n : ℕ) → AsksModule q e (words_of words.now) (S.left src.old) →
         (h : HasValue q.turns e n) → ServesValue q e n result h (K.taken out.old) (K.taken out.new) }
     ensures bounded { (q : Asked) (e : RawEnv) (n : ℕ) → AsksModule q e (words_of words.now) (S.left src.old) → (h : EvaluatesErased q.turns e n) → IsBoundedBy q e n h result }
+    // And within the bounds by the counts of evaluation with environments, which don't grow with the values that evaluation by substitution goes through again.
+    ensures counted { (q : Asked) (e : RawEnv) (c : Counts) → AsksModule q e (words_of words.now) (S.left src.old) → (h : GivesErased q.turns e c) → IsCountedBy q e c h result }
     ensures matched { (q : Asked) (e : RawEnv) (matches : ℕ) → AsksModule q e (words_of words.now) (S.left src.old) → HasMatches q.turns e matches → TakesMatches q e matches result }
 
     // The reports: on status 0 err takes the line of each, in order, with its count at entry and the number of facts of the check that it wants; `run` has none. But for `quiet`, no other clause knows of them.

@@ -72,7 +72,7 @@ pub record Together (E : Env) (P : BoxProgram) : Type 0 where
 abbrev Continues : Env → BoxProgram → Term → Term → BoxTerm → Type 0
 Continues E P u v w = (x x' : BoxTerm) (k j : ℕ) → Erases E [] u x → Fills x x' → BoxEvaluates P x' w k j → Agrees E v w
 
-fits_kept : {E : Env} {b B v : Term} → Types bare E [] v B → Equal E [] b v → Fits E [] (Defined b B) v
+pub fits_kept : {E : Env} {b B v : Term} → Types bare E [] v B → Equal E [] b v → Fits E [] (Defined b B) v
 fits_kept {E} {b} {B} {v} d q = record { has_type = d; equals = λ x e. subst (λ x. Equal E [] v x) (one_item e) (back q) }
 
 -- applications, with the function and the argument followed
@@ -131,7 +131,7 @@ no_item : {C : Constructor} (c : ℕ) → slice_get [] c ≡ Some C → ⊥
 no_item c e = cc
 
 -- a telescope in which terms are put in, and the terms put in later
-entries_put : {E : Env} {c : Context} (As : List Term) {xs : List Term} (s p q : ℕ → Term) → ((i : ℕ) → substitute p (s i) ≡ q i) → TypesAll bare E c p xs (entries_at s As) →
+pub entries_put : {E : Env} {c : Context} (As : List Term) {xs : List Term} (s p q : ℕ → Term) → ((i : ℕ) → substitute p (s i) ≡ q i) → TypesAll bare E c p xs (entries_at s As) →
     TypesAll bare E c q xs As
 entries_put [] s p q h no_terms = no_terms
 entries_put {E} {c} (A ∷ As) s p q h (term {t = x} r rs) =

@@ -21,9 +21,11 @@ use Rattle.driver.specs.Serve.{HasAnswer, IsInput, IsInputOf, IsAnswerOf}
 use Rattle.driver.specs.Texts.{SpellsWithin}
 use Rattle.driver.proofs.AcceptedAs.{accepted_as, erased_to}
 use Rattle.driver.proofs.TextCauses.{is_spelled}
+use Rattle.sparing_laws.specs.LemmaEvaluation.{EvaluatesOverLemmas}
 use Rattle.sparing_laws.specs.SparingEvaluation.{EvaluatesSparingly}
 use Rattle.sparing_answers.specs.Laws.{HasErasedValue}
 use Rattle.sparing_answers.proofs.Answered.{sparing_values_are_answered}
+use Rattle.sparing_answers.proofs.OverLemmas.{values_over_lemmas_are_answered}
 use Rattle.sparing_exec.specs.Laws.{HasAnswered, ExecAnswersSparingly}
 
 fits_passes : {turns : ℕ} {e : RawEnv} (x : Compiling turns e) → FitsPasses x.before.program
@@ -42,6 +44,18 @@ answered q range bytes e s x v n m evaluation erased =
     (erased_to q.turns e z) (fits_passes x.before) (omega (arith, range.pages.0)) (omega (arith, range.pages.1)) v n evaluation in
     let same : x.answer.tree ≡ tree =
     ends_answer (its_module q.pages x.before) q.pages (1024 * m * (source_words a.kept e.main + source_branches a.kept)) q.steps tree (Ok x.answer) (law.runs m erased).answers x.ends in
+    subst (λ d. IsExactly a.kept (members (its_shapes z)) v d) (sym same) law.exactly
+
+-- and so is that of main's value over lemmas
+answered_over_lemmas : (q : Request) → IsInRange q → (bytes : List ℕ) (e : RawEnv) → SpellsWithin bytes e → (x : Answering q.turns e q.pages q.steps) → (v : Term) (n : ℕ) →
+    EvaluatesOverLemmas (its_environment x.before.before) e.main v n → IsExactly (its_environment x.before.before) (members (its_shapes x.before.before)) v x.answer.tree
+answered_over_lemmas q range bytes e s x v n evaluation =
+    let z = x.before.before in
+    let a = z.before.before in
+    let (tree, law) = values_over_lemmas_are_answered e a.kept a.type (accepted_as q.turns e (is_spelled bytes e s) a.kept a.type a.left a.accepted) (its_shapes z) z.program q.pages z.before.set
+    (erased_to q.turns e z) (fits_passes x.before) (omega (arith, range.pages.0)) (omega (arith, range.pages.1)) v n evaluation in
+    let same : x.answer.tree ≡ tree =
+    ends_answer (its_module q.pages x.before) q.pages (1024 * n * (source_words a.kept e.main + source_branches a.kept)) q.steps tree (Ok x.answer) law.runs.answers x.ends in
     subst (λ d. IsExactly a.kept (members (its_shapes z)) v d) (sym same) law.exactly
 
 -- the answer of the job that was asked for
@@ -67,6 +81,7 @@ executed q range left taken taken' bytes text input m w = record {
   line = m.text_is;
   written = w;
   sparing = λ v n k evaluation erased. answered q range bytes m.environment m.spelled m.stages v n k evaluation erased;
+  over_lemmas = λ v n evaluation. answered_over_lemmas q range bytes m.environment m.spelled m.stages v n evaluation;
 }
 
 pub exec_answers_sparingly : {S K E : Type 0} → ExecAnswersSparingly S K E

@@ -17,10 +17,10 @@ use Rattle.sparing_laws.specs.Laws.{SparingKeepsTypes, SparingIsEquality}
 use Rattle.sparing_laws.proofs.Results.{looked_at_is_built}
 
 -- what a term's contractum keeps, the term does
-contracted : {E : Env} {t u v : Term} → KeepsTypes E t u → ((T : Term) → Types bare E [] t T → Equal E [] t u) → AllKept E u v → AllKept E t v
+pub contracted : {E : Env} {t u v : Term} → KeepsTypes E t u → ((T : Term) → Types bare E [] t T → Equal E [] t u) → AllKept E u v → AllKept E t v
 contracted k e k' T d = let q = k' T (k T d) in record { typed = q.typed; equals = chain (e T d) q.equals }
 
-unfolding_equal : {E : Env} {g v u : Term} → Unfolds g v u → IsBuilt E v → Equal E [] (App g v) u
+pub unfolding_equal : {E : Env} {g v u : Term} → Unfolds g v u → IsBuilt E v → Equal E [] (App g v) u
 unfolding_equal (unfolds i rargs types bodies xs r l b e) (f, c, qs, ys, k) = step (Root.fixpoint i rargs types bodies xs r l k b e)
 
 mutual

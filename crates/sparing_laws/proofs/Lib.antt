@@ -4,3 +4,5 @@ pub mod Results
 pub mod Keeping
 pub mod Reading
 pub mod OneData
+pub mod LemmaKeeping
+pub mod LemmaValues

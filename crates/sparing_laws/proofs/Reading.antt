@@ -130,7 +130,7 @@ mutual
   arguments_read E h S M (plain fix_is) = tt
   arguments_read E h S M (extended {g = g} r r' m) = all_last E S (args g) (arguments_read E h S M r) (handed_read E h S M r')
 
-  handed_read : (E : Env) → IsAccepted E → (S : List Shape) → Members E S → {w : Term} → IsHanded E w → IsRead E S w
+  pub handed_read : (E : Env) → IsAccepted E → (S : List Shape) → Members E S → {w : Term} → IsHanded E w → IsRead E S w
   handed_read E h S M (spared r) = spared_read E h S M r
   handed_read E h S M (kept r) = value_read E h S M r (arguments_read E h S M r)
 

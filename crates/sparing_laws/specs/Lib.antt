@@ -1,2 +1,4 @@
 pub mod SparingEvaluation
 pub mod Laws
+pub mod LemmaEvaluation
+pub mod LemmaLaws

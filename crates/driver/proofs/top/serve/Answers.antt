@@ -47,6 +47,9 @@ returns-clause-headline g c = c.serve_whole.ensures.served.headline
 pub returns-clause-bounded : goal.returns-clause-bounded
 returns-clause-bounded g c = c.serve_whole.ensures.served.bounded
 
+pub returns-clause-counted : goal.returns-clause-counted
+returns-clause-counted g c = c.serve_whole.ensures.served.counted
+
 pub returns-clause-matched : goal.returns-clause-matched
 returns-clause-matched g c = c.serve_whole.ensures.served.matched
 
