@@ -35,6 +35,7 @@ mod erasing;
 mod err_line;
 mod eval;
 mod exec;
+mod explain;
 mod facts;
 mod main_module;
 mod object;

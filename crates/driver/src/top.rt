@@ -24,6 +24,7 @@ use crate::check::check;
 use crate::err_line::write_line;
 use crate::eval::eval;
 use crate::exec::exec;
+use crate::explain::explain;
 use crate::facts::no_facts;
 use crate::object::object;
 use crate::refusal::{Refusal, status};
@@ -60,7 +61,9 @@ fn input_of<S: Source>(alloc: Global, request: Request, src: &mut S) -> Result<V
 {
     match request.job {
         Job::Bench => made_text(alloc, request.size),
-        Job::Exec | Job::Check | Job::Eval | Job::Run | Job::Compile => read_input(alloc, src),
+        Job::Exec | Job::Check | Job::Eval | Job::Run | Job::Compile | Job::Explain => {
+            read_input(alloc, src)
+        }
     }
 }
 
@@ -83,6 +86,7 @@ fn answer_on(
         Job::Run => run(alloc, request, bytes),
         Job::Compile => object(alloc, request, bytes, facts),
         Job::Bench => bench(alloc, request, bytes, facts),
+        Job::Explain => explain(alloc, request, bytes, facts),
     }
 }
 
@@ -124,7 +128,7 @@ fn refuse<E: Sink>(err: &mut E, refusal: Refusal) -> u8
     ensures line { TakesLine (E.taken err.old) (E.taken err.new) (E.faults err.old) (E.faults err.new) (line_of refusal) }
     ensures tells { StillTells (E.taken err.old) (E.taken err.new) }
 {
-    write_line(err, &refusal);
+    let _ = write_line(err, &refusal);
     status(&refusal)
 }
 
