@@ -52,12 +52,7 @@ fn behind_line(alloc: Global, refusal: &Refusal, text: &[u8]) -> Result<Vec<u8>,
 }
 
 /// The text of a rule that is broken at a place, which is one of the environment. Only `Memory`.
-fn broken_text(
-    alloc: Global,
-    raw: &RawEnv,
-    place: Place,
-    rule: &Broken,
-) -> Result<Vec<u8>, Refusal>
+fn broken_text(alloc: Global, raw: &RawEnv, place: Place, rule: &Broken) -> Result<Vec<u8>, Refusal>
     requires spelled { IsSpelled raw.now }
     requires within { (i : ℕ) → place ≡ Declaration i → i < length raw.now.decls }
     ensures text { IfOk result (λ v. IsBrokenText raw.now place rule.now v.items) }
