@@ -24,7 +24,7 @@ use Rattle.driver.specs.CheckFacts.{facts_of_check, no_facts}
 use Rattle.driver.specs.Lines.{line_of}
 use Rattle.driver.specs.Judged.{IsTold, number_of, start}
 use Rattle.driver.specs.Texts.{SpellsWithin}
-use Rattle.driver.specs.Explained.{IsBrokenText, IsExplanation, IsTextOf}
+use Rattle.driver.specs.Explained.{IsBrokenText, IsExplanation, IsRefusalText}
 use Rattle.driver.specs.ExplainSays.{ExplainSays, FaultSays}
 use Rattle.driver.specs.Serve.{AreFacts, IsAnswerOf, JobSays}
 use Rattle.driver.proofs.Checking.{accepted_with, broken_within}
@@ -40,12 +40,12 @@ broken_says view (Err r) e p b told n text number is same h = tt
 pub broken_place : (turns : ℕ) (e : RawEnv) (p : Place) (b : Broken) → FaultSays turns e (faults.Broken p b) → (i : ℕ) → p ≡ Declaration i → i < length e.decls
 broken_place turns e p b h i is = broken_within turns e 0 (start turns) h.left refl refl p b i h.answers is
 
-explanation_of : (turns : ℕ) (e : RawEnv) (r : Fault) (text : List ℕ) → FaultSays turns e r → IsTextOf turns e r text → IsExplanation turns e text
+explanation_of : (turns : ℕ) (e : RawEnv) (r : Fault) (text : List ℕ) → FaultSays turns e r → IsRefusalText turns e r text → IsExplanation turns e text
 explanation_of turns e faults.Memory text h t = absurd t
 explanation_of turns e r text h t = record { refusal = r; refused = h; text_is = t }
 
 -- the text of a refusal explains it
-pub text_says : {V : Type 0} (view : V → List ℕ) (x : Result V Refusal) (turns : ℕ) (e : RawEnv) (fault r : Fault) → fault ≡ r → FaultSays turns e fault → IfOk x (λ v. IsTextOf turns e r (view v)) →
+pub text_says : {V : Type 0} (view : V → List ℕ) (x : Result V Refusal) (turns : ℕ) (e : RawEnv) (fault r : Fault) → fault ≡ r → FaultSays turns e fault → IfOk x (λ v. IsRefusalText turns e r (view v)) →
     IfOk x (λ v. IsExplanation turns e (view v))
 text_says view (Ok v) turns e fault r same h t = explanation_of turns e r (view v) (subst (FaultSays turns e) same h) t
 text_says view (Err a) turns e fault r same h t = tt

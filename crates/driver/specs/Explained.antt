@@ -36,17 +36,17 @@ abbrev pub deep_text : RawEnv → Place → List ℕ
 deep_text e p = line_of refusals.Depth ++ explain_deep e p
 
 -- the text of a refusal of the check; want of memory has none
-abbrev pub IsTextOf : (turns : ℕ) → RawEnv → Fault → List ℕ → Type 0
-IsTextOf turns e (faults.Broken p b) text = IsBrokenText e p b text
-IsTextOf turns e (faults.Spent p u) text = text ≡ spent_text turns e p u
-IsTextOf turns e (faults.TooDeep p) text = text ≡ deep_text e p
-IsTextOf turns e faults.Memory text = ⊥
+abbrev pub IsRefusalText : (turns : ℕ) → RawEnv → Fault → List ℕ → Type 0
+IsRefusalText turns e (faults.Broken p b) text = IsBrokenText e p b text
+IsRefusalText turns e (faults.Spent p u) text = text ≡ spent_text turns e p u
+IsRefusalText turns e (faults.TooDeep p) text = text ≡ deep_text e p
+IsRefusalText turns e faults.Memory text = ⊥
 
 -- the environment is refused, and this is the text of that
 pub record IsExplanation (turns : ℕ) (e : RawEnv) (text : List ℕ) : Type 0 where
   pub refusal : Fault
   pub refused : IsRefusedAs turns e refusal
-  pub text_is : IsTextOf turns e refusal text
+  pub text_is : IsRefusalText turns e refusal text
 
 -- so of the environment that the bytes spell
 pub record IsExplained (turns : ℕ) (bytes text : List ℕ) : Type 0 where
