@@ -18,6 +18,8 @@ pub enum Job {
     Compile,
     /// As `Exec`, on an environment that the program makes, with the run's figures.
     Bench,
+    /// An environment is checked, and a refusal is explained.
+    Explain,
 }
 
 /// The job of this name.
@@ -31,6 +33,7 @@ pub(crate) fn job_of(name: &str) -> Option<Job>
         "run" => Some(Job::Run),
         "compile" => Some(Job::Compile),
         "bench" => Some(Job::Bench),
+        "explain" => Some(Job::Explain),
         _ => None,
     }
 }

@@ -3,7 +3,7 @@ use Rattle.std.proofs.Common.{◌≡◌, ℕ, ◌⊎◌, inl, inr, refl}
 use Rattle.dump_reader.specs.declared.environment.RawEnv.{RawEnv}
 use Rattle.dump_reader.specs.Spelled.{IsSpelled}
 use Rattle.command_line.specs.declared.job.Job.{Job}
-use Rattle.command_line.specs.declared.job.Job.TheVariants.{Exec, Check, Eval, Run, Compile, Bench}
+use Rattle.command_line.specs.declared.job.Job.TheVariants.{Exec, Check, Eval, Run, Compile, Bench, Explain}
 use Rattle.command_line.specs.declared.line.Request.{Request}
 use Rattle.driver.specs.declared.refusal.Refusal.{Refusal}
 use Rattle.driver.specs.Lines.{status_of}
@@ -34,6 +34,7 @@ job_status Eval q r e status c n h = eval_status q.turns r e status c n h
 job_status Run q r e status c n h = absurd h
 job_status Compile q r e status c n h = make_status q.turns r e q.pages status (compile_cause q r e c) n h
 job_status Bench q r e status c n h = exec_status q.turns r e q.pages q.steps status (exec_cause q r e c) n h
+job_status Explain q r e status c n h = absurd c
 
 -- where a job has an answer, a refusal of it would have its status
 pub answerable_status : (job : Job) (q : Request) (r : Refusal) (e : RawEnv) → IsSpelled e → IsAnswerableBy job q e → IsJobCause job q r e → (IsSure r → ⊥) → 0 ≡ status_of r
@@ -43,3 +44,4 @@ answerable_status Eval q r e spelled h c n = evaluable_status q.turns r e h c n
 answerable_status Run q r e spelled h c n = absurd h
 answerable_status Compile q r e spelled h c n = job_status Compile q r e 0 c n (inr (inl (has_module q.turns e q.pages spelled h, refl)))
 answerable_status Bench q r e spelled h c n = job_status Bench q r e 0 c n (inr h)
+answerable_status Explain q r e spelled h c n = absurd c

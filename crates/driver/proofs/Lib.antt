@@ -27,6 +27,7 @@ pub mod PlainCauses
 pub mod TextCauses
 pub mod Headlines
 pub mod Checking
+pub mod Explaining
 pub mod Serving
 pub mod Answering
 pub mod Inputs

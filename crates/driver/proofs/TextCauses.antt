@@ -18,7 +18,7 @@ use Rattle.driver.specs.declared.refusal.Refusal.{Refusal}
 use Rattle.driver.specs.declared.refusal.Refusal.TheVariants as refusals
 use Rattle.driver.specs.Lines.{refusal_of}
 use Rattle.command_line.specs.declared.job.Job.{Job}
-use Rattle.command_line.specs.declared.job.Job.TheVariants.{Exec, Check, Eval, Run, Compile, Bench}
+use Rattle.command_line.specs.declared.job.Job.TheVariants.{Exec, Check, Eval, Run, Compile, Bench, Explain}
 use Rattle.driver.specs.Lines.{status_of}
 use Rattle.driver.specs.Texts.{SpellsWithin, Refuses}
 use Rattle.driver.specs.Judged.{IsAcceptedBy, EndsWith}
@@ -196,6 +196,8 @@ judged_cause job q bytes status r short h k = dump_judged_cause job q bytes stat
 pub no_cause_of_answers : (job : Job) (q : Request) (bytes text : List ℕ) (r : Refusal) → IsAnswerOf job q bytes text → IsTextCause job q r bytes → IsSure r → ⊥
 no_cause_of_answers Bench q bytes text r a h sure = dump_not_sure Bench q bytes a.executed.environment r a.executed.spelled h sure
 no_cause_of_answers Run q bytes text r a h sure = run_not_sure q.pages q.steps r bytes h sure
+no_cause_of_answers Explain q bytes text r (inl a) h sure = dump_not_sure Explain q bytes a.environment r a.spelled h sure
+no_cause_of_answers Explain q bytes text r (inr a) h sure = dump_not_sure Explain q bytes a.environment r a.spelled h sure
 no_cause_of_answers job q bytes text r a h sure = dump_not_sure job q bytes a.environment r a.spelled h sure
 
 pub judged_answer : (job : Job) (q : Request) (bytes text : List ℕ) (status : ℕ) → length bytes ≤ most_bytes → IsJudgedWith job q status bytes → IsAnswerOf job q bytes text → status ≡ 0
@@ -210,6 +212,7 @@ judged_answer Compile q bytes text status short (e, s, ends) a =
     made_status q.turns a.environment q.pages status a.stages a.small (subst (λ x. MakeEndsWith q.turns x q.pages status) (one_environment bytes e a.environment s a.spelled) ends)
 judged_answer Bench q bytes text status short (e, s, ends) a = executed_status q.turns e q.pages q.steps a.answer status (executed_on q bytes a.answer e s a.executed) ends
 judged_answer Run q bytes text status short h a = run_judged_answer q.pages q.steps bytes text status short h a
+judged_answer Explain q bytes text status short (e, s, ends) a = ends
 
 -- What the reader gives is spelled within the limits.
 pub within_limits : (bytes : List ℕ) (e : RawEnv) → IsVerdict bytes (Ok e) → SpellsWithin bytes e

@@ -13,7 +13,9 @@ pub mod ExecEnds
 pub mod Executed
 pub mod MadeModule
 pub mod RunFile
+pub mod Explained
 pub mod Serve
+pub mod ExplainSays
 pub mod PlainAnswer
 pub mod MainModule
 pub mod Promises

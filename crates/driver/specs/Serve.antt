@@ -13,7 +13,7 @@ use Rattle.env_check.specs.Rules.{givens}
 use Rattle.driver.specs.declared.refusal.Refusal.{Refusal}
 use Rattle.driver.specs.declared.refusal.Refusal.TheVariants as refusals
 use Rattle.command_line.specs.declared.job.Job.{Job}
-use Rattle.command_line.specs.declared.job.Job.TheVariants.{Exec, Check, Eval, Run, Compile, Bench}
+use Rattle.command_line.specs.declared.job.Job.TheVariants.{Exec, Check, Eval, Run, Compile, Bench, Explain}
 use Rattle.command_line.specs.declared.line.Request.{Request}
 use Rattle.command_line.specs.Line.{request_of}
 use Rattle.driver.specs.Answerable.{IsAnswerable}
@@ -31,6 +31,7 @@ use Rattle.driver.specs.Executed.{IsExecuted}
 use Rattle.driver.specs.Benched.{IsBenched}
 use Rattle.driver.specs.MadeModule.{IsMade, IsMakeCause, MakeEndsWith}
 use Rattle.driver.specs.RunFile.{IsRunAnswer, IsRunCause, RunEndsWith}
+use Rattle.driver.specs.Explained.{IsExplained}
 use Rattle.driver.specs.Judged.{IsAcceptedBy, IsSpentBy, IsTooDeepFor, IsBrokenBy, EndsWith}
 
 -- the most bytes of an input
@@ -79,6 +80,7 @@ IsAnswerOf Eval q bytes text = IsEvaluated q.turns bytes text
 IsAnswerOf Run q bytes text = IsRunAnswer q.pages q.steps bytes text
 IsAnswerOf Compile q bytes text = IsMade q.turns q.pages bytes text
 IsAnswerOf Bench q bytes text = IsBenched q.turns q.pages q.steps bytes text
+IsAnswerOf Explain q bytes text = IsCheckAnswer q.turns bytes text ⊎ IsExplained q.turns bytes text
 
 -- The input, and the answer on it of the job that the words ask for.
 pub record HasAnswer (words : List (List ℕ)) (left : Option (List ℕ)) (text : List ℕ) : Type 0 where
@@ -95,7 +97,7 @@ IsCheckCause turns refusals.Depth e = IsTooDeepFor turns e
 IsCheckCause turns (refusals.Broken n p) e = IsBrokenBy turns e n p
 IsCheckCause turns _ e = ⊥
 
--- what of an environment shows a refusal of a job: its check, and with `eval`, `exec` and `compile` what comes after it
+-- what of an environment shows a refusal of a job: its check, and with `eval`, `exec` and `compile` what comes after it; `explain` answers them all
 abbrev pub IsJobCause : Job → Request → Refusal → RawEnv → Type 0
 IsJobCause Exec q r e = IsCheckCause q.turns r e ⊎ (IsExecCause q.turns q.pages q.steps r e × IsLargeFor q.turns r e)
 IsJobCause Check q r e = IsCheckCause q.turns r e
@@ -103,6 +105,7 @@ IsJobCause Eval q r e = IsCheckCause q.turns r e ⊎ IsSourceCause q.turns r e
 IsJobCause Run q r e = ⊥
 IsJobCause Compile q r e = IsCheckCause q.turns r e ⊎ (IsMakeCause q.turns q.pages r e × IsLargeFor q.turns r e)
 IsJobCause Bench q r e = IsCheckCause q.turns r e ⊎ (IsExecCause q.turns q.pages q.steps r e × IsLargeFor q.turns r e)
+IsJobCause Explain q r e = ⊥
 
 -- the environment that the text spells shows it
 abbrev pub IsOfCheck : Job → Request → Refusal → List ℕ → Type 0
@@ -198,9 +201,10 @@ abbrev pub JobSays : {V : Type 0} → Job → Request → (V → List ℕ) → R
 JobSays job q view (Ok v) bytes = IsAnswerOf job q bytes (view v)
 JobSays job q view (Err r) bytes = RefusalSays job q r bytes
 
--- the facts of a job on its bytes: those of its check; `run` makes none
+-- the facts of a job on its bytes: those of its check; `run` makes none, and there are none where `explain` tells of a refusal
 abbrev pub AreFacts : Job → Request → List ℕ → Facts → Type 0
 AreFacts Run q bytes facts = facts ≡ no_facts
+AreFacts Explain q bytes facts = HasFacts q.turns bytes facts ⊎ ((text : List ℕ) × IsExplained q.turns bytes text × (facts ≡ no_facts))
 AreFacts _ q bytes facts = HasFacts q.turns bytes facts
 
 -- those of the job that the words ask for
@@ -282,7 +286,7 @@ MakesModule job = (job ≡ Exec) ⊎ ((job ≡ Compile) ⊎ (job ≡ Bench))
 abbrev pub AsksModule : (q : Request) (e : RawEnv) (words : List (List ℕ)) (left : Option (List ℕ)) → Type 0
 AsksModule q e words left = IsAskedOn q e words left × MakesModule q.job
 
--- by the directed rules the job ends with this status, within the limits
+-- by the directed rules the job ends with this status, within the limits; `explain` ends with 0 whatever they come to
 abbrev pub JobEndsWith : Job → Request → RawEnv → ℕ → Type 0
 JobEndsWith Exec q e status = ExecEndsWith q.turns e q.pages q.steps status
 JobEndsWith Check q e status = EndsWith q.turns e status
@@ -290,6 +294,7 @@ JobEndsWith Eval q e status = EvalEndsWith q.turns e status
 JobEndsWith Run q e status = ⊥
 JobEndsWith Compile q e status = MakeEndsWith q.turns e q.pages status
 JobEndsWith Bench q e status = ExecEndsWith q.turns e q.pages q.steps status
+JobEndsWith Explain q e status = status ≡ 0
 
 -- the text spells an environment, and the job ends with this status
 abbrev pub IsDumpJudgedWith : Job → Request → ℕ → List ℕ → Type 0
@@ -301,7 +306,7 @@ IsJudgedWith Run q status bytes = RunEndsWith q.pages q.steps bytes status
 IsJudgedWith job q status bytes = IsDumpJudgedWith job q status bytes
 
 -- an environment on which the job has an answer: by `exec` one whose main's module answers data of main's type, by `check` a plain one that keeps all rules,
--- by `eval` one whose main has a value that is data, by `compile` one whose main has a module within 16 MiB, as the passes or its sizes show
+-- by `eval` one whose main has a value that is data, by `compile` one whose main has a module within 16 MiB, as the passes or its sizes show, by `explain` each
 abbrev pub IsAnswerableBy : Job → Request → RawEnv → Type 0
 IsAnswerableBy Exec q e = RestEndsWith q.turns e q.pages q.steps 0
 IsAnswerableBy Check q e = (0 < q.turns) × IsAnswerable e
@@ -309,6 +314,7 @@ IsAnswerableBy Eval q e = IsEvaluable q.turns e
 IsAnswerableBy Run q e = ⊥
 IsAnswerableBy Compile q e = HasModule q.turns e q.pages
 IsAnswerableBy Bench q e = RestEndsWith q.turns e q.pages q.steps 0
+IsAnswerableBy Explain q e = Unit {0}
 
 -- a status that comes after the check: 0, 4 and those from 10 on
 abbrev pub IsLate : ℕ → Type 0

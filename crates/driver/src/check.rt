@@ -143,7 +143,7 @@ pub(crate) fn accept(
 }
 
 /// The text of an acceptance.
-fn accepted_text(alloc: Global) -> Result<Vec<u8>, Refusal>
+pub(crate) fn accepted_text(alloc: Global) -> Result<Vec<u8>, Refusal>
     ensures text { IfOk result (λ v. v.items ≡ codes "ok\n") }
     ensures only_memory { IfErr result (λ r. r ≡ Refusal.Memory) }
 {

@@ -1,6 +1,7 @@
 //! The line of a refusal on err.
 
-ghost use Rattle.std.specs.Prelude.{◌≡◌, ◌∷◌, ◌++◌, []};
+ghost use Rattle.std.specs.Prelude.{◌≡◌, ◌∷◌, ◌++◌, [], OnOk};
+ghost use Rattle.std.specs.Io.KnownBytes.{Appends};
 ghost use Rattle.kio.specs.Known.{StillTells};
 ghost use Rattle.driver.specs.Lines.{line_of, number_text};
 ghost use Rattle.driver.specs.Takes.{TakesLine};
@@ -8,10 +9,11 @@ ghost use Rattle.driver.specs.Takes.{TakesLine};
 use crate::refusal::{Refusal, front, name, number, place, second};
 use crate::reporting::write_parts;
 use itoa::Buffer;
-use kio::Sink;
+use kio::{Sink, WriteFault};
 
 /// Writes the refusal's line, as far as err takes it. It takes no memory.
-pub(crate) fn write_line<E: Sink>(err: &mut E, refusal: &Refusal)
+pub(crate) fn write_line<E: Sink>(err: &mut E, refusal: &Refusal) -> Result<(), WriteFault>
+    ensures all { OnOk result (Appends (E.taken err.old) (E.taken err.new) (line_of refusal.now)) }
     ensures line { TakesLine (E.taken err.old) (E.taken err.new) (E.faults err.old) (E.faults err.new) (line_of refusal.now) }
     ensures tells { StillTells (E.taken err.old) (E.taken err.new) }
 {
@@ -25,5 +27,5 @@ pub(crate) fn write_line<E: Sink>(err: &mut E, refusal: &Refusal)
         Some(n) => other.format(n).as_bytes(),
         None => name(refusal),
     };
-    let _ = write_parts(err, front(refusal), digits, place(refusal), name, b"\n");
+    write_parts(err, front(refusal), digits, place(refusal), name, b"\n")
 }

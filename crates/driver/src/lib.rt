@@ -1,14 +1,16 @@
 //! The top call `serve`: from the words of the command line and the bytes of the input to the status, the answer and the line of a
 //! refusal.
 //!
-//! The words are read by `command_line` as a job with its numbers. The jobs are `check`, `eval`, `exec` and `compile`, on every environment, `run`, on modules, and `bench`, on a text that it makes. `check` (in
-//! `check.rt`) reads and accepts; `eval` (in `eval.rt`) goes on to main's first-order types, its value by the source's own evaluation, the data that this is, and its text.
+//! The words are read by `command_line` as a job with its numbers. The jobs are `check`, `explain`, `eval`, `exec` and `compile`, on every environment, `run`, on modules, and `bench`, on a text that it makes. `check` (in
+//! `check.rt`) reads and accepts; `explain` (in `explain.rt`) does the same and answers a refusal of the check with its explanation; `eval`
+//! (in `eval.rt`) goes on to main's first-order types, its value by the source's own evaluation, the data that this is, and its text.
 //! `main_module.rt` lists the stages to main's module, that `exec` and `compile` share: read, check, first-order types, erasure (`erasing.rt`), the passes (`running.rt`). `exec` (in
 //! `exec.rt`) goes on to that module's answer (`running.rt`) and its text; `compile` (in `object.rt`) writes its bytes. `run` (in `run.rt`) gives the text of the answer of the module
 //! that is its input. `bench` (in `bench.rt`) does on its text what `exec` does, and writes the figures of that. After the check its facts are noted (`facts.rt`), which the caller's
 //! reports are told where the status is 0 (`reporting.rt`).
 //!
-//! What `serve` promises: on status 0 the input spells an environment that is well formed, and out takes `ok`, or, by `eval`, the text of main's value, or, by `exec`, the text of the
+//! What `serve` promises: on status 0 the input spells an environment that is well formed, or by `explain` one that the check
+//! refuses, and out takes what explains that, or `ok`, or, by `eval`, the text of main's value, or, by `exec`, the text of the
 //! data that the run of a valid module answers, which is made of an erasure of main, or, by `compile`, that module's bytes (`done`). By `exec`, `bench` and `compile`: the environment is well
 //! formed on each status after the check (`well`); where main's erased program evaluates to data of main's type, every long enough run of the module answers it or is exhausted, and
 //! `exec` prints it or ends with a status that is neither 0 nor 15 (`values`); where main, of a first-order type, evaluates to a value, the same of that value, with bounds on memory and on steps
@@ -21,11 +23,12 @@
 //! words ask for is a definition of `command_line`), `Texts` (what a text spells within the limits), `Judged` (what the directed rules say of an environment), `Plain` and `Answerable` (small environments that keep all
 //! rules), `PlainAnswer` (what is answered on them), `SourceEnds` (how `eval` ends after the check), `SourceSays` (what its stages say), `EvaluatedSource` (its answer), `Evaluable` (where it has one), `ExecEnds` (what the
 //! stages of `exec` say, and how it ends), `Executed` (its answer), `ErasureParts` (what the code of erasure says), `MainModule` (what the stages to main's module hand on), `MadeModule` (the answer of `compile`, and how it
-//! ends), `Headline` (what is owed to an evaluation of main), `RunFile` (the answer of `run` and its refusals), `Bench`, `Figures` and `Benched` (the lines of `bench`, and its answer), `CheckFacts` (the facts of a check). Which
+//! ends), `Headline` (what is owed to an evaluation of main), `RunFile` (the answer of `run` and its refusals), `Explained` and `ExplainSays` (the answer of `explain` where
+//! the check refuses, and what its stages say), `Bench`, `Figures` and `Benched` (the lines of `bench`, and its answer), `CheckFacts` (the facts of a check). Which
 //! bytes spell which environment, and what a text's first refusal is, are definitions of `dump_grammar` and `dump_reader`; which environments are well formed is one of `rule_laws` over those of `pc_rules`; what erasure and
 //! the passes give is defined in `erase_rules` and `back_end`; what modules, their bytes, typings and runs are, in `wasm_core`; what a report's line is, in `ReportLines`.
 //!
-//! Below stand `kio`, `dump_reader`, `env_check`, `source_eval`, `first_order`, `erase`, `compile`, `module_run`, `workload`, `reports` and `command_line`; above stand the program `erasec` and the laws
+//! Below stand `kio`, `dump_reader`, `env_check`, `source_eval`, `first_order`, `erase`, `compile`, `module_run`, `explanations`, `workload`, `reports` and `command_line`; above stand the program `erasec` and the laws
 //! of `job_laws`.
 #![tactic(auto)]
 
@@ -35,6 +38,7 @@ mod erasing;
 mod err_line;
 mod eval;
 mod exec;
+mod explain;
 mod facts;
 mod main_module;
 mod object;

@@ -25,6 +25,7 @@ use crate::check::check;
 use crate::err_line::write_line;
 use crate::eval::eval;
 use crate::exec::exec;
+use crate::explain::explain;
 use crate::facts::no_facts;
 use crate::object::object;
 use crate::refusal::{Refusal, status};
@@ -61,7 +62,9 @@ fn input_of<S: Source>(alloc: Global, request: Request, src: &mut S) -> Result<V
 {
     match request.job {
         Job::Bench => made_text(alloc, request.size),
-        Job::Exec | Job::Check | Job::Eval | Job::Run | Job::Compile => read_input(alloc, src),
+        Job::Exec | Job::Check | Job::Eval | Job::Run | Job::Compile | Job::Explain => {
+            read_input(alloc, src)
+        }
     }
 }
 
@@ -84,6 +87,7 @@ fn answer_on(
         Job::Run => run(alloc, request, bytes),
         Job::Compile => object(alloc, request, bytes, facts),
         Job::Bench => bench(alloc, request, bytes, facts),
+        Job::Explain => explain(alloc, request, bytes, facts),
     }
 }
 
@@ -125,7 +129,7 @@ fn refuse<E: Sink>(err: &mut E, refusal: Refusal) -> u8
     ensures line { TakesLine (E.taken err.old) (E.taken err.new) (E.faults err.old) (E.faults err.new) (line_of refusal) }
     ensures tells { StillTells (E.taken err.old) (E.taken err.new) }
 {
-    write_line(err, &refusal);
+    let _ = write_line(err, &refusal);
     status(&refusal)
 }
 
@@ -175,7 +179,8 @@ fn serve_whole<S: Source, K: Sink, E: Sink>(
 ///
 /// The words are one simple command of `clap`: JOB and the options `--turns`, `--pages`, `--steps` and `--size`, each a number in its range with a default. The input is the text of
 /// an environment, by `run` the bytes of a module. `check` accepts an environment only where every declaration and main have a derivation by the typing rules, and writes `ok` with
-/// LF to `out`. `eval` accepts it so, finds the first-order types of main's type, evaluates main by the source's own evaluation, and writes the text of the data that the value is, with LF.
+/// LF to `out`. `explain` does the same, and where the environment isn't accepted it answers the line of that refusal, its place and what the rules keep of it.
+/// `eval` accepts it so, finds the first-order types of main's type, evaluates main by the source's own evaluation, and writes the text of the data that the value is, with LF.
 /// `exec` accepts it so and finds these types, erases main, makes a module of that, which is encoded, decoded, validated and run, and writes the text of the data that it answers, with LF.
 /// `compile` does the same up to the module, and writes its bytes. `bench` reads nothing: it makes the text of `--size`, does with it what `exec` does, and writes five lines, the
 /// declarations, the module's bytes, the run's steps and pages, and the answer.
@@ -185,10 +190,10 @@ fn serve_whole<S: Source, K: Sink, E: Sink>(
 /// a form that is known and not read; 7 a limit is passed: of the text, of the input's 16,777,216 bytes, of depth, types or nodes, of a program or its module, or by `run` of pages
 /// or of a table; 8 the directed rules have no end within the turns; 9 a rule is broken; 10 main's type has no first-order set, or by `exec`, `bench` and `compile` a constant without a body is reached; 11 memory is
 /// exhausted; 12 the steps are spent; 13 the bytes spell no module; 14 the module is invalid; 15 the run trapped, an entry is missing, a segment passes the table, the result is no
-/// data, or by `eval` main has no value or its value is no data of its type.
+/// data, or by `eval` main has no value or its value is no data of its type. By `explain` 8, 9 and the limit of depth behind the text never come.
 ///
 /// On status 0 each report is told the facts of the check: a declaration each, a constant without a body each, a use of a rule each, up to the end of main's check; then `err` takes a line
-/// `report NAME COUNT` for each, in order. By `run` there are none. On another status the reports are dropped untold.
+/// `report NAME COUNT` for each, in order. By `run` there are none, and by `explain` none where the check doesn't accept. On another status the reports are dropped untold.
 ///
 /// A refusal writes one line to `err`, which takes no memory; a fault on `err` changes no status. Nothing goes to `out` before
 /// the whole answer is there, so a refusal other than a write fault leaves it as it was.
@@ -201,7 +206,7 @@ pub fn serve<S: Source, K: Sink, E: Sink>(
     reports: Vec<Box<dyn Report>>,
 ) -> u8
     // The answer: the text spells an environment that is well formed, and out takes `ok`, the text of main's value, or of what main's module answers; by `run` of what the
-    // module of the input answers.
+    // module of the input answers; by `explain` the check may refuse it, and then out takes what explains that.
     ensures done { result ≡ 0 → (text : List ℕ) × HasAnswer (words_of words.now) (S.left src.old) text × Appends (K.taken out.old) (K.taken out.new) text }
     ensures statuses { Contains (0 ∷ 1 ∷ 2 ∷ 3 ∷ 4 ∷ 5 ∷ 6 ∷ 7 ∷ 8 ∷ 9 ∷ 10 ∷ 11 ∷ 12 ∷ 13 ∷ 14 ∷ 15 ∷ []) result }
 

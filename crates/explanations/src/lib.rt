@@ -5,8 +5,8 @@
 //! where a limit is passed. Terms and sorts are written as in the dump, by `dump_printer`, and a term with over 200 nodes is cut, which its line says. Want of
 //! memory is the only refusal.
 //!
-//! Below stand `kio` (sinks in memory), `dump_reader` (environments), `dump_printer` and `pc_rules` (refusals, places and accounts). No crate stands above yet: the
-//! job that writes these texts is still to come.
+//! Below stand `kio` (sinks in memory), `dump_reader` (environments), `dump_printer` and `pc_rules` (refusals, places and accounts). Above stands `driver`, whose job
+//! `explain` writes these texts.
 #![tactic(auto, using(crate::proofs::Adding::adds_both))]
 
 mod explanation;

@@ -1,3 +1,4 @@
 pub mod ReadableValues
 pub mod StuckRuns
 pub mod WithoutReports
+pub mod ExplainedRefusals

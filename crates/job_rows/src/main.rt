@@ -11,6 +11,7 @@
 //! | `limits` | the same, of the job `exec` at the limits of the compiler |
 //! | `compiled` | `serve twice`: the job of `words:`, and then that of `then:` on what it wrote |
 //! | `lines` | `line` (`words:`) |
+//! | `explained` | `serve`, of the job `explain` |
 //! | `faults` | `serve at each prefix`, `serve with each fault` (`failing:` says whose calls, `calls:` how many), `serve` |
 #![tactic(auto)]
 
@@ -38,6 +39,7 @@ enum Layer {
     Compiled,
     Lines,
     Faults,
+    Explained,
 }
 
 impl Table for Layer {
@@ -52,6 +54,7 @@ impl Table for Layer {
             Layer::Compiled => "compiled.rows",
             Layer::Lines => "lines.rows",
             Layer::Faults => "faults.rows",
+            Layer::Explained => "explained.rows",
         }
     }
 
@@ -63,7 +66,8 @@ impl Table for Layer {
             | Layer::Runs
             | Layer::Reports
             | Layer::Limits
-            | Layer::Compiled => { jobs::run(case, out) }
+            | Layer::Compiled
+            | Layer::Explained => { jobs::run(case, out) }
             Layer::Lines => lines::run(case, out),
             Layer::Faults => faults::run(case, out),
         }
@@ -83,6 +87,7 @@ fn main(rt: HostRuntime) -> io::Result<()> {
             Layer::Compiled,
             Layer::Lines,
             Layer::Faults,
+            Layer::Explained,
         ],
     )
 }

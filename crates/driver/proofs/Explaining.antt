@@ -1,0 +1,103 @@
+-- What the job `explain` says, from its check and its texts.
+use Rattle.std.proofs.Common.{◌≡◌, ℕ, ◌<◌, ◌-◌, List, length, ◌++◌, Result, Ok, Err, inl, inr, refl, sym, ap, subst, ◌∙◌}
+use Rattle.std.specs.Prelude.{IfOk, IfErr, OnOk, codes}
+use Rattle.dump_reader.specs.declared.environment.RawEnv.{RawEnv}
+use Rattle.pc_rules.specs.declared.accepted.Accepted.{Accepted}
+use Rattle.pc_rules.specs.declared.broken.Broken.{Broken}
+use Rattle.pc_rules.specs.declared.broken.Place.{Place}
+use Rattle.pc_rules.specs.declared.broken.Place.TheVariants.{Declaration}
+use Rattle.pc_rules.specs.declared.meter.Meter.{Meter}
+use Rattle.rule_laws.specs.Declarations.{IsCheckedEnvironment}
+use Rattle.env_check.specs.declared.refusal.Refusal.{Refusal as Fault}
+use Rattle.env_check.specs.declared.refusal.Refusal.TheVariants as faults
+use Rattle.env_check.specs.Answers.{AnswersFound, FollowsRules}
+use Rattle.env_check.specs.Places.{StandsAt, bare}
+use Rattle.env_check.specs.Rules.{givens}
+use Rattle.explanations.specs.Explanation.{explain_broken}
+use Rattle.command_line.specs.declared.job.Job.TheVariants.{Explain}
+use Rattle.command_line.specs.declared.line.Request.{Request}
+use Rattle.driver.specs.declared.refusal.Where.{Where}
+use Rattle.driver.specs.declared.refusal.Refusal.{Refusal}
+use Rattle.driver.specs.declared.refusal.Refusal.TheVariants as refusals
+use Rattle.driver.specs.declared.reporting.facts.Facts.{Facts}
+use Rattle.driver.specs.CheckFacts.{facts_of_check, no_facts}
+use Rattle.driver.specs.Lines.{line_of}
+use Rattle.driver.specs.Judged.{IsTold, number_of, start}
+use Rattle.driver.specs.Texts.{SpellsWithin}
+use Rattle.driver.specs.Explained.{IsBrokenText, IsExplanation, IsRefusalText}
+use Rattle.driver.specs.ExplainSays.{ExplainSays, FaultSays}
+use Rattle.driver.specs.Serve.{AreFacts, IsAnswerOf, JobSays}
+use Rattle.driver.proofs.Checking.{accepted_with, broken_within}
+use Rattle.driver.proofs.SourceCauses.{accepted_by}
+
+-- the text of a broken rule: its line with the place as it is told, and what explains it
+pub broken_says : {V : Type 0} (view : V → List ℕ) (x : Result V Refusal) (e : RawEnv) (p : Place) (b : Broken) (told : Where) (n : ℕ) (text : List ℕ) → n ≡ number_of b → IsTold e p told →
+    text ≡ explain_broken e p b → IfOk x (λ v. view v ≡ line_of (refusals.Broken n told) ++ text) → IfOk x (λ v. IsBrokenText e p b (view v))
+broken_says view (Ok v) e p b told n text number is same h = (told, is, h ∙ (λ i. line_of (refusals.Broken (number i) told) ++ same i))
+broken_says view (Err r) e p b told n text number is same h = tt
+
+-- the place of a broken rule is one of the environment
+pub broken_place : (turns : ℕ) (e : RawEnv) (p : Place) (b : Broken) → FaultSays turns e (faults.Broken p b) → (i : ℕ) → p ≡ Declaration i → i < length e.decls
+broken_place turns e p b h i is = broken_within turns e 0 (start turns) h.left refl refl p b i h.answers is
+
+explanation_of : (turns : ℕ) (e : RawEnv) (r : Fault) (text : List ℕ) → FaultSays turns e r → IsRefusalText turns e r text → IsExplanation turns e text
+explanation_of turns e faults.Memory text h t = absurd t
+explanation_of turns e r text h t = record { refusal = r; refused = h; text_is = t }
+
+-- the text of a refusal explains it
+pub text_says : {V : Type 0} (view : V → List ℕ) (x : Result V Refusal) (turns : ℕ) (e : RawEnv) (fault r : Fault) → fault ≡ r → FaultSays turns e fault → IfOk x (λ v. IsRefusalText turns e r (view v)) →
+    IfOk x (λ v. IsExplanation turns e (view v))
+text_says view (Ok v) turns e fault r same h t = explanation_of turns e r (view v) (subst (FaultSays turns e) same h) t
+text_says view (Err a) turns e fault r same h t = tt
+
+-- a refusal of a check that begins with a new meter
+module _ (turns : ℕ) (e : RawEnv) (m m' : Meter) (none : m.nest ≡ 0) (fresh : m.account ≡ start turns) where
+  answers_fresh : (r : Fault) → AnswersFound e (2048 - m.nest) m.account (Err r) m'.account → AnswersFound e 2048 (start turns) (Err r) m'.account
+  answers_fresh r h = subst (λ u. AnswersFound e 2048 u (Err r) m'.account) fresh (subst (λ k. AnswersFound e (2048 - k) m.account (Err r) m'.account) none h)
+
+  stands_fresh : (r : Fault) → StandsAt (bare e) (2048 - m.nest) (givens e) e.main m.account r → StandsAt (bare e) 2048 (givens e) e.main (start turns) r
+  stands_fresh r h = subst (λ u. StandsAt (bare e) 2048 (givens e) e.main u r) fresh (subst (λ k. StandsAt (bare e) (2048 - k) (givens e) e.main m.account r) none h)
+
+  pub fault_says : (r : Fault) → FollowsRules e (Err r) m m' → StandsAt (bare e) (2048 - m.nest) (givens e) e.main m.account r → FaultSays turns e r
+  fault_says faults.Memory h s = tt
+  fault_says r h s = record { left = m'.account; answers = answers_fresh r h; stands = stands_fresh r s }
+
+  -- an acceptance, with the text `ok` and its facts
+  pub acceptance_says : {V : Type 0} (view : V → List ℕ) (x : Result V Refusal) (a : Accepted) (facts : Facts) → FollowsRules e (Ok a) m m' →
+      IsCheckedEnvironment e.levels e.constraints (givens e) e.main a.env a.main_type → facts ≡ facts_of_check e m'.account → IfOk x (λ v. view v ≡ codes "ok\n") →
+      IfOk x (λ v. ExplainSays turns e (view v) facts)
+  acceptance_says view (Ok v) a facts h well are text =
+      let accepted = accepted_with turns e m.nest m.account m'.account none fresh a h in
+      inl (record {
+        accepted = accepted_by turns e a.env a.main_type m'.account accepted;
+        well = record { kept = a.env; type = a.main_type; checked = well };
+        text_is = text;
+        facts_are = record { kept = a.env; type = a.main_type; left = m'.account; accepted = accepted; facts_are = are };
+      })
+  acceptance_says view (Err r) a facts h well are text = tt
+
+-- and a refusal, without facts
+pub refusal_says : {V : Type 0} (view : V → List ℕ) (x : Result V Refusal) (turns : ℕ) (e : RawEnv) (facts : Facts) → facts ≡ no_facts → IfOk x (λ v. IsExplanation turns e (view v)) →
+    IfOk x (λ v. ExplainSays turns e (view v) facts)
+refusal_says view (Ok v) turns e facts none h = inr (h, none)
+refusal_says view (Err r) turns e facts none h = tt
+
+-- ---- on the bytes of a dump
+
+answer_of : (q : Request) (bytes text : List ℕ) (e : RawEnv) (facts : Facts) → SpellsWithin bytes e → ExplainSays q.turns e text facts → IsAnswerOf Explain q bytes text
+answer_of q bytes text e facts s (inl a) = inl (record { environment = e; spelled = s; accepted = a.accepted; well = a.well; text_is = a.text_is })
+answer_of q bytes text e facts s (inr (x, none)) = inr (record { environment = e; spelled = s; explains = x })
+
+facts_of : (q : Request) (bytes text : List ℕ) (e : RawEnv) (facts : Facts) → SpellsWithin bytes e → ExplainSays q.turns e text facts → AreFacts Explain q bytes facts
+facts_of q bytes text e facts s (inl a) = inl (e, s, a.facts_are)
+facts_of q bytes text e facts s (inr (x, none)) = inr (text, record { environment = e; spelled = s; explains = x }, none)
+
+pub explain_says : {V : Type 0} (view : V → List ℕ) (q : Request) (x : Result V Refusal) (bytes : List ℕ) (e : RawEnv) (facts : Facts) → SpellsWithin bytes e →
+    IfOk x (λ v. ExplainSays q.turns e (view v) facts) → IfErr x (λ r. r ≡ refusals.Memory) → JobSays Explain q view x bytes
+explain_says view q (Ok v) bytes e facts s h memory = answer_of q bytes (view v) e facts s h
+explain_says {V = V} view q (Err r) bytes e facts s h memory = subst (λ y. JobSays {V = V} Explain q view (Err y) bytes) (sym memory) tt
+
+pub explain_facts : {V : Type 0} (view : V → List ℕ) (q : Request) (x : Result V Refusal) (bytes : List ℕ) (e : RawEnv) (facts : Facts) → SpellsWithin bytes e →
+    IfOk x (λ v. ExplainSays q.turns e (view v) facts) → OnOk x (AreFacts Explain q bytes facts)
+explain_facts view q (Ok v) bytes e facts s h = facts_of q bytes (view v) e facts s h
+explain_facts view q (Err r) bytes e facts s h = tt
