@@ -19,8 +19,6 @@ use Rattle.env_check.specs.Answers.{AnswersFound}
 use Rattle.env_check.specs.Rules.{rules_of}
 use Rattle.driver.specs.declared.refusal.Where.{Where}
 use Rattle.driver.specs.SourceEnds.{IsAcceptedWith}
-use Rattle.driver.specs.declared.reporting.facts.Facts.{Facts}
-use Rattle.driver.specs.CheckFacts.{HasCheckFacts, facts_of_check}
 use Rattle.driver.specs.Serve.{AcceptSays, CheckSays}
 use Rattle.driver.specs.declared.refusal.Refusal.{Refusal}
 use Rattle.driver.specs.Judged.{start, IsSpentBy, IsTooDeepFor, IsBrokenBy, IsTold, IsNamed, name_of, number_of}
@@ -90,11 +88,3 @@ no_name names n name e f = let q : None ≡ Some name = e ∙ f in absurd cc
 pub check_from : (turns : ℕ) → (r : Result Accepted Refusal) (e : RawEnv) (u : Account) → AcceptSays turns r e u → CheckSays turns r e
 check_from turns (Ok a) e u h = (accepted_by turns e a.env a.main_type u h.0, h.2)
 check_from turns (Err r) e u h = h
-
-pub facts_given : (turns : ℕ) (e : RawEnv) (E : Env) (T : Term) (u : Account) (facts : Facts) → IsAcceptedWith turns e E T u → facts ≡ facts_of_check e u → HasCheckFacts turns e facts
-facts_given turns e E T u facts accepted is = record { kept = E; type = T; left = u; accepted = accepted; facts_are = is }
-
--- the facts of a check that accepts
-pub check_facts_from : (turns : ℕ) (r : Result Accepted Refusal) (e : RawEnv) (u : Account) (facts : Facts) → AcceptSays turns r e u → OnOk r (facts ≡ facts_of_check e u) → OnOk r (HasCheckFacts turns e facts)
-check_facts_from turns (Ok a) e u facts says is = record { kept = a.env; type = a.main_type; left = u; accepted = says.0; facts_are = is }
-check_facts_from turns (Err r) e u facts says is = tt

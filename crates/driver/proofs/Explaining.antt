@@ -1,6 +1,10 @@
 -- What the job `explain` says, from its check and its texts.
-use Rattle.std.proofs.Common.{◌≡◌, ℕ, ◌<◌, ◌-◌, List, length, ◌++◌, Result, Ok, Err, inl, inr, refl, sym, ap, subst, ◌∙◌}
+use Rattle.std.proofs.Common.{◌≡◌, ℕ, ◌<◌, ◌-◌, List, [], length, ◌++◌, Result, Ok, Err, inl, inr, refl, sym, ap, subst, ◌∙◌}
 use Rattle.std.specs.Prelude.{IfOk, IfErr, OnOk, codes}
+use Rattle.reports.specs.declared.fact.Fact.{Fact}
+use Rattle.reports.specs.Shown.{Shown}
+use Rattle.reports.proofs.FactByFact.{all_told_none}
+use Rattle.module_run.specs.RunFacts.{AreTold}
 use Rattle.dump_reader.specs.declared.environment.RawEnv.{RawEnv}
 use Rattle.pc_rules.specs.declared.accepted.Accepted.{Accepted}
 use Rattle.pc_rules.specs.declared.broken.Broken.{Broken}
@@ -20,13 +24,15 @@ use Rattle.driver.specs.declared.refusal.Where.{Where}
 use Rattle.driver.specs.declared.refusal.Refusal.{Refusal}
 use Rattle.driver.specs.declared.refusal.Refusal.TheVariants as refusals
 use Rattle.driver.specs.declared.reporting.facts.Facts.{Facts}
-use Rattle.driver.specs.CheckFacts.{facts_of_check, no_facts}
+use Rattle.driver.specs.CheckFacts.{facts_of_check}
+use Rattle.driver.specs.JobFacts.{AreJobFacts, JobIsTold}
 use Rattle.driver.specs.Lines.{line_of}
 use Rattle.driver.specs.Judged.{IsTold, number_of, start}
+use Rattle.driver.specs.ReportedFacts.{facts_of}
 use Rattle.driver.specs.Texts.{SpellsWithin}
 use Rattle.driver.specs.Explained.{IsBrokenText, IsExplanation, IsRefusalText}
-use Rattle.driver.specs.ExplainSays.{ExplainSays, FaultSays}
-use Rattle.driver.specs.Serve.{AreFacts, IsAnswerOf, JobSays}
+use Rattle.driver.specs.ExplainSays.{ExplainIsTold, ExplainSays, FaultSays}
+use Rattle.driver.specs.Serve.{IsAnswerOf, JobSays}
 use Rattle.driver.proofs.Checking.{accepted_with, broken_within}
 use Rattle.driver.proofs.SourceCauses.{accepted_by}
 
@@ -62,42 +68,47 @@ module _ (turns : ℕ) (e : RawEnv) (m m' : Meter) (none : m.nest ≡ 0) (fresh 
   fault_says faults.Memory h s = tt
   fault_says r h s = record { left = m'.account; answers = answers_fresh r h; stands = stands_fresh r s }
 
-  -- an acceptance, with the text `ok` and its facts
-  pub acceptance_says : {V : Type 0} (view : V → List ℕ) (x : Result V Refusal) (a : Accepted) (facts : Facts) → FollowsRules e (Ok a) m m' →
-      IsCheckedEnvironment e.levels e.constraints (givens e) e.main a.env a.main_type → facts ≡ facts_of_check e m'.account → IfOk x (λ v. view v ≡ codes "ok\n") →
-      IfOk x (λ v. ExplainSays turns e (view v) facts)
-  acceptance_says view (Ok v) a facts h well are text =
+  -- an acceptance, with the text `ok` and reports that are told its facts
+  pub acceptance_says : {V X : Type 0} (view : V → List ℕ) (shown : X → Shown) (x : Result V Refusal) (a : Accepted) (check : Facts) (old new : List X) → FollowsRules e (Ok a) m m' →
+      IsCheckedEnvironment e.levels e.constraints (givens e) e.main a.env a.main_type → check ≡ facts_of_check e m'.account → AreTold shown (facts_of check) old new → IfOk x (λ v. view v ≡ codes "ok\n") →
+      IfOk x (λ v. ExplainIsTold shown turns e (view v) old new)
+  acceptance_says view shown (Ok v) a check old new h well are told text =
       let accepted = accepted_with turns e m.nest m.account m'.account none fresh a h in
-      inl (record {
-        accepted = accepted_by turns e a.env a.main_type m'.account accepted;
-        well = record { kept = a.env; type = a.main_type; checked = well };
-        text_is = text;
-        facts_are = record { kept = a.env; type = a.main_type; left = m'.account; accepted = accepted; facts_are = are };
-      })
-  acceptance_says view (Err r) a facts h well are text = tt
+      (
+        facts_of check,
+        inl (record {
+          accepted = accepted_by turns e a.env a.main_type m'.account accepted;
+          well = record { kept = a.env; type = a.main_type; checked = well };
+          text_is = text;
+          check = check;
+          checked = record { kept = a.env; type = a.main_type; left = m'.account; accepted = accepted; facts_are = are };
+          facts_are = refl;
+        }),
+        told,
+      )
+  acceptance_says view shown (Err r) a check old new h well are told text = tt
 
--- and a refusal, without facts
-pub refusal_says : {V : Type 0} (view : V → List ℕ) (x : Result V Refusal) (turns : ℕ) (e : RawEnv) (facts : Facts) → facts ≡ no_facts → IfOk x (λ v. IsExplanation turns e (view v)) →
-    IfOk x (λ v. ExplainSays turns e (view v) facts)
-refusal_says view (Ok v) turns e facts none h = inr (h, none)
-refusal_says view (Err r) turns e facts none h = tt
+-- and a refusal, with reports that are told nothing
+pub refusal_says : {V X : Type 0} (view : V → List ℕ) (shown : X → Shown) (x : Result V Refusal) (turns : ℕ) (e : RawEnv) (reports : List X) → IfOk x (λ v. IsExplanation turns e (view v)) →
+    IfOk x (λ v. ExplainIsTold shown turns e (view v) reports reports)
+refusal_says view shown (Ok v) turns e reports h = ([], inr (h, refl), all_told_none shown reports)
+refusal_says view shown (Err r) turns e reports h = tt
 
 -- ---- on the bytes of a dump
 
-answer_of : (q : Request) (bytes text : List ℕ) (e : RawEnv) (facts : Facts) → SpellsWithin bytes e → ExplainSays q.turns e text facts → IsAnswerOf Explain q bytes text
+answer_of : (q : Request) (bytes text : List ℕ) (e : RawEnv) (facts : List Fact) → SpellsWithin bytes e → ExplainSays q.turns e text facts → IsAnswerOf Explain q bytes text
 answer_of q bytes text e facts s (inl a) = inl (record { environment = e; spelled = s; accepted = a.accepted; well = a.well; text_is = a.text_is })
 answer_of q bytes text e facts s (inr (x, none)) = inr (record { environment = e; spelled = s; explains = x })
 
-facts_of : (q : Request) (bytes text : List ℕ) (e : RawEnv) (facts : Facts) → SpellsWithin bytes e → ExplainSays q.turns e text facts → AreFacts Explain q bytes facts
-facts_of q bytes text e facts s (inl a) = inl (e, s, a.facts_are)
-facts_of q bytes text e facts s (inr (x, none)) = inr (text, record { environment = e; spelled = s; explains = x }, none)
+job_facts : (q : Request) (bytes text : List ℕ) (e : RawEnv) (facts : List Fact) → SpellsWithin bytes e → ExplainSays q.turns e text facts → AreJobFacts Explain q bytes facts
+job_facts q bytes text e facts s (inl a) = inl (a.check, (e, s, a.checked), a.facts_are)
+job_facts q bytes text e facts s (inr (x, none)) = inr (text, record { environment = e; spelled = s; explains = x }, none)
 
-pub explain_says : {V : Type 0} (view : V → List ℕ) (q : Request) (x : Result V Refusal) (bytes : List ℕ) (e : RawEnv) (facts : Facts) → SpellsWithin bytes e →
-    IfOk x (λ v. ExplainSays q.turns e (view v) facts) → IfErr x (λ r. r ≡ refusals.Memory) → JobSays Explain q view x bytes
-explain_says view q (Ok v) bytes e facts s h memory = answer_of q bytes (view v) e facts s h
-explain_says {V = V} view q (Err r) bytes e facts s h memory = subst (λ y. JobSays {V = V} Explain q view (Err y) bytes) (sym memory) tt
+module _ {V X : Type 0} (view : V → List ℕ) (shown : X → Shown) (q : Request) (bytes : List ℕ) (e : RawEnv) (old new : List X) (s : SpellsWithin bytes e) where
+  pub explain_says : (x : Result V Refusal) → IfOk x (λ v. ExplainIsTold shown q.turns e (view v) old new) → IfErr x (λ r. r ≡ refusals.Memory) → JobSays Explain q view x bytes
+  explain_says (Ok v) (facts, says, told) memory = answer_of q bytes (view v) e facts s says
+  explain_says (Err r) h memory = subst (λ y. JobSays {V = V} Explain q view (Err y) bytes) (sym memory) tt
 
-pub explain_facts : {V : Type 0} (view : V → List ℕ) (q : Request) (x : Result V Refusal) (bytes : List ℕ) (e : RawEnv) (facts : Facts) → SpellsWithin bytes e →
-    IfOk x (λ v. ExplainSays q.turns e (view v) facts) → OnOk x (AreFacts Explain q bytes facts)
-explain_facts view q (Ok v) bytes e facts s h = facts_of q bytes (view v) e facts s h
-explain_facts view q (Err r) bytes e facts s h = tt
+  pub explain_told : (x : Result V Refusal) → IfOk x (λ v. ExplainIsTold shown q.turns e (view v) old new) → OnOk x (JobIsTold shown Explain q bytes old new)
+  explain_told (Ok v) (facts, says, told) = (facts, job_facts q bytes (view v) e facts s says, told)
+  explain_told (Err r) h = tt

@@ -5,14 +5,15 @@ use Rattle.std.proofs.lemmas.Result.{on_ok_weaker}
 use Rattle.std.specs.Io.KnownBytes.{Appends}
 use Rattle.driver.specs.Takes.{TakesLine}
 use Rattle.workload.specs.WorkloadText.{text_of}
-use Rattle.driver.specs.declared.reporting.facts.Facts.{Facts}
+use Rattle.reports.specs.Shown.{Shown}
+use Rattle.driver.specs.JobFacts.{CallIsTold, JobIsTold}
 use Rattle.command_line.specs.declared.job.Job.{Job}
 use Rattle.command_line.specs.declared.job.Job.TheVariants.{Exec, Bench}
 use Rattle.command_line.specs.declared.line.Request.{Request}
 use Rattle.command_line.specs.Line.{request_of}
 use Rattle.driver.specs.declared.refusal.Refusal.{Refusal}
 use Rattle.driver.specs.declared.refusal.Refusal.TheVariants as refusals
-use Rattle.driver.specs.Serve.{AreFacts, Concludes, HasJobFacts, InputSays, IsInput, IsInputOf, IsTextCause, JobSays, ReadSays, RefusalSays, RequestSays, Says}
+use Rattle.driver.specs.Serve.{Concludes, InputSays, IsInput, IsInputOf, IsTextCause, JobSays, ReadSays, RefusalSays, RequestSays, Says}
 
 of_reader : (job : Job) (q : Request) (left : Option (List ℕ)) (bytes : List ℕ) → job ≢ Bench → IsInput left bytes → IsInputOf job q left bytes
 of_reader Bench q left bytes n h = absurd (n refl)
@@ -78,9 +79,9 @@ module _ {V : Type 0} (view : V → List ℕ) (words : List (List ℕ)) (left : 
       answer_says (Ok v) h = record { request = q; asked = asked; bytes = bytes; input = input; answer = h }
       answer_says (Err r) h = refused r h
 
-      -- and its facts
-      pub job_facts : (r : Result V Refusal) (facts : Facts) → OnOk r (AreFacts q.job q bytes facts) → OnOk r (HasJobFacts words left facts)
-      job_facts r facts h = on_ok_weaker r (λ are. record { request = q; asked = asked; bytes = bytes; input = input; are = are }) h
+      -- and the facts that reports are told
+      pub job_told : {X : Type 0} (shown : X → Shown) (r : Result V Refusal) (old new : List X) → OnOk r (JobIsTold shown q.job q bytes old new) → OnOk r (CallIsTold shown words left old new)
+      job_told shown r old new h = on_ok_weaker r (λ t. (t.0, record { request = q; asked = asked; bytes = bytes; input = input; are = t.1 }, t.2)) h
 
 -- an answer that is written, with the lines of the reports
 pub concluded : {V K E : Type 0} (view : V → List ℕ) (a : Result V Refusal) (v : V) → a ≡ Ok v → (lines : List ℕ) (out out' : K) (taken taken' : Option (List ℕ)) (faults faults' : ℕ)

@@ -32,4 +32,5 @@ pub mod Serving
 pub mod Answering
 pub mod Inputs
 pub mod PartByPart
-pub mod FactByFact
+pub mod LineByLine
+pub mod JobTold

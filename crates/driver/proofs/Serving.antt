@@ -17,8 +17,8 @@ use Rattle.command_line.proofs.Ranges.{requests_lie_in_range}
 use Rattle.driver.specs.Lines.{status_of}
 use Rattle.lambda_box.specs.ClosureEvaluation.{Counts}
 use Rattle.reports.specs.Shown.{Shown}
-use Rattle.driver.specs.declared.reporting.facts.Facts.{Facts}
-use Rattle.driver.specs.ReportedFacts.{facts_of}
+use Rattle.reports.specs.declared.fact.Fact.{Fact}
+use Rattle.driver.specs.JobFacts.{HasJobFacts}
 use Rattle.driver.specs.ReportLines.{told_lines}
 use Rattle.driver.specs.Takes.{TakesLine, TakesPrefix}
 use Rattle.driver.specs.Bench.{RunsModule, TakesFigures, lines_of}
@@ -26,7 +26,7 @@ use Rattle.driver.specs.SourceSays.{IsLine}
 use Rattle.driver.specs.Served.{Seen, IsKept, Served}
 use Rattle.driver.specs.Executed.{AnswersData, HasErasedData}
 use Rattle.driver.specs.MadeModule.{TakesModule}
-use Rattle.driver.specs.Serve.{HasAnswer, Concludes, HasJobFacts, HasWell, input_limit, IsAnswerableBy, IsAnswerOf, IsAsked, IsAskedOn, IsCause, IsCheckCause, IsForJob, IsForReader, IsInput, IsInputOf, IsJudgedWith, IsLate, IsOfText, IsRefused, IsSure, IsTextCause, IsTooLong, MakesModule, MeetsNoFault, ReadsWell, ReadsNothing, Says, Tells}
+use Rattle.driver.specs.Serve.{HasAnswer, Concludes, HasWell, input_limit, IsAnswerableBy, IsAnswerOf, IsAsked, IsAskedOn, IsCause, IsCheckCause, IsForJob, IsForReader, IsInput, IsInputOf, IsJudgedWith, IsLate, IsOfText, IsRefused, IsSure, IsTextCause, IsTooLong, MakesModule, MeetsNoFault, ReadsWell, ReadsNothing, Says, Tells}
 use Rattle.driver.specs.Headline.{HasValue, ServesValue, EvaluatesErased, IsBoundedBy, GivesErased, IsCountedBy, HasMatches, TakesMatches}
 use Rattle.driver.proofs.CheckCauses.{not_zero}
 use Rattle.driver.proofs.Headlines.{value_data, value_exact, value_valid, value_runs, value_counts, value_text, no_fault, value_memory, value_steps, data_runs, data_memory, data_steps, counted_runs, counted_memory, counted_steps, late_runs, answered_late, answering_late}
@@ -146,7 +146,7 @@ module _ {V S K E : Type 0} (view : V → List ℕ) (lines : List ℕ) (status :
   quiet (Ok v) s c e = (c.whole e).2
   quiet (Err r) s c e = absurd (not_zero r (sym c.0 ∙ e))
 
-  -- the facts of the answer's check, and the lines of the reports that are told them
+  -- the facts of the job, and the lines of the reports that are told them
   reported : {P : Type 0} → (a : Result V Refusal) → Before a → After a → OnOk a P → status ≡ 0 → P × TakesLine err.told err'.told err.faults err'.faults lines
   reported (Ok v) s c facts e = (facts, (c.whole e).1)
   reported (Err r) s c facts e = absurd (not_zero r (sym c.0 ∙ e))
@@ -497,7 +497,7 @@ module _ {V S K E : Type 0} (view : V → List ℕ) (lines : List ℕ) (status :
 
   -- ---- all of it together
 
-  pub served : (a : Result V Refusal) → Before a → After a → (reports : List Shown) → OnOk a ((facts : Facts) × HasJobFacts words src.told facts × (lines ≡ told_lines (facts_of facts) reports)) → (ReadsNothing words → src'.object ≡ src.object) →
+  pub served : (a : Result V Refusal) → Before a → After a → (reports : List Shown) → OnOk a ((facts : List Fact) × HasJobFacts words src.told facts × (lines ≡ told_lines facts reports)) → (ReadsNothing words → src'.object ≡ src.object) →
       IsKept src src' → IsKept out out' → IsKept err err' → Served status words reports src src' out out' err err'
   served a s c reports facts unread kept kept' kept'' = record {
     done = done a s c;
@@ -522,7 +522,7 @@ module _ {V S K E : Type 0} (view : V → List ℕ) (lines : List ℕ) (status :
     nothing_out = nothing_out a s c;
     reported = λ z. let ((found, of, are), line) = reported a s c facts z in (found, of, subst (λ l. TakesLine err.told err'.told err.faults err'.faults l) are line);
     unread = unread;
-    quiet = λ z none. let ((found, of, are), line) = reported a s c facts z in quiet a s c z (are ∙ ap (told_lines (facts_of found)) none);
+    quiet = λ z none. let ((found, of, are), line) = reported a s c facts z in quiet a s c z (are ∙ ap (told_lines found) none);
     source = kept;
     sinks = (kept', kept'');
   }

@@ -1,5 +1,5 @@
 -- The facts of the check that accepts an environment.
-use Rattle.std.specs.Prelude.{ℕ, ◌≡◌, List, length, replicate, Some, None, Bool, true, false, count_by}
+use Rattle.std.specs.Prelude.{ℕ, ◌≡◌, List, length, Some, None, Bool, true, false, count_by}
 use Rattle.pc_terms.specs.Syntax.{Term}
 use Rattle.pc_rules.specs.declared.meter.Account.{Account}
 use Rattle.calculus_rules.specs.Environment.{Env}
@@ -19,10 +19,6 @@ is_axiom (Block k ps fs) = false
 -- the declarations, the constants without a body among them, and the uses of rules that were noted
 abbrev pub facts_of_check : RawEnv → Account → Facts
 facts_of_check e u = record { declarations = length e.decls; axioms = count_by is_axiom e.decls; uses = u.uses }
-
--- no fact, as of a job that makes no check
-abbrev pub no_facts : Facts
-no_facts = record { declarations = 0; axioms = 0; uses = replicate 12 0 }
 
 -- the directed rules accept the environment, and these are the facts
 pub record HasCheckFacts (turns : ℕ) (e : RawEnv) (facts : Facts) : Type 0 where

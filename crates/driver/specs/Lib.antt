@@ -21,6 +21,7 @@ pub mod MainModule
 pub mod Promises
 pub mod Served
 pub mod CheckFacts
+pub mod JobFacts
 pub mod Bench
 pub mod Benched
 pub mod Figures

@@ -7,8 +7,8 @@ use Rattle.dump_reader.specs.declared.environment.RawEnv.{RawEnv}
 use Rattle.command_line.specs.declared.job.Job.TheVariants.{Bench, Compile, Exec}
 use Rattle.command_line.specs.declared.line.Request.{Request}
 use Rattle.reports.specs.Shown.{Shown}
-use Rattle.driver.specs.declared.reporting.facts.Facts.{Facts}
-use Rattle.driver.specs.ReportedFacts.{facts_of}
+use Rattle.reports.specs.declared.fact.Fact.{Fact}
+use Rattle.driver.specs.JobFacts.{HasJobFacts}
 use Rattle.driver.specs.ReportLines.{told_lines}
 use Rattle.driver.specs.Takes.{TakesLine}
 use Rattle.driver.specs.declared.refusal.Refusal.{Refusal}
@@ -18,7 +18,7 @@ use Rattle.driver.specs.ExecEnds.{HasModule, Finishes}
 use Rattle.driver.specs.Plain.{IsPlainOf}
 use Rattle.driver.specs.Answerable.{IsAnswerable}
 use Rattle.driver.specs.PlainAnswer.{AnswersConstructor, NamesConstructor}
-use Rattle.driver.specs.Serve.{AsksModule, HasJobFacts, IsAnswerableBy, IsAsked, IsAskedOn, IsAskedWithin, IsJudgedWith, IsRefused, IsSure, IsTextCause, MeetsNoFault, ReadsWell, input_limit}
+use Rattle.driver.specs.Serve.{AsksModule, IsAnswerableBy, IsAsked, IsAskedOn, IsAskedWithin, IsJudgedWith, IsRefused, IsSure, IsTextCause, MeetsNoFault, ReadsWell, input_limit}
 
 -- on another status than 0 a refusal of that status has its cause, and its line goes to err; the functions tell bytes and counts of the objects
 abbrev pub ShowsCause : {S K E : Type 0} (status : ℕ) (words : List (List ℕ)) (left : S → Option (List ℕ)) (reads : S → ℕ) (src src' : S) (writes : K → ℕ) (out out' : K)
@@ -66,7 +66,7 @@ abbrev pub EndsAsLength : (status : ℕ) (words : List (List ℕ)) (left : Optio
 EndsAsLength status words left before now =
     (q : Request) (bytes : List ℕ) → IsAsked q words left bytes → q.job ≢ Bench → ¬ Rose before now → input_limit < length bytes → (status ≡ 7) ⊎ (status ≡ 1)
 
--- on status 0 err takes the lines of the reports, told the facts of the job's check, or a prefix of them at a fault
+-- on status 0 err takes the lines of the reports, told the facts of the job's check and of its run, or a prefix of them at a fault
 abbrev pub TellsReports : (status : ℕ) (words : List (List ℕ)) (left : Option (List ℕ)) (reports : List Shown) (line line' : Option (List ℕ)) (errs errs' : ℕ) → Type 0
 TellsReports status words left reports line line' errs errs' =
-    status ≡ 0 → (facts : Facts) × HasJobFacts words left facts × TakesLine line line' errs errs' (told_lines (facts_of facts) reports)
+    status ≡ 0 → (facts : List Fact) × HasJobFacts words left facts × TakesLine line line' errs errs' (told_lines facts reports)

@@ -24,9 +24,7 @@ use Rattle.driver.specs.Evaluable.{IsEvaluable}
 use Rattle.driver.specs.EvaluatedSource.{IsEvaluated}
 use Rattle.driver.specs.ExecEnds.{HasModule, IsExecCause, IsLargeFor, ExecEndsWith, RestEndsWith}
 use Rattle.workload.specs.WorkloadText.{text_of}
-use Rattle.driver.specs.declared.reporting.facts.Facts.{Facts}
 use Rattle.driver.specs.Takes.{TakesLine, TakesPrefix}
-use Rattle.driver.specs.CheckFacts.{HasFacts, no_facts}
 use Rattle.driver.specs.Executed.{IsExecuted}
 use Rattle.driver.specs.Benched.{IsBenched}
 use Rattle.driver.specs.MadeModule.{IsMade, IsMakeCause, MakeEndsWith}
@@ -200,20 +198,6 @@ RefusalSays job q r bytes = IsTextCause job q r bytes
 abbrev pub JobSays : {V : Type 0} → Job → Request → (V → List ℕ) → Result V Refusal → List ℕ → Type 0
 JobSays job q view (Ok v) bytes = IsAnswerOf job q bytes (view v)
 JobSays job q view (Err r) bytes = RefusalSays job q r bytes
-
--- the facts of a job on its bytes: those of its check; `run` makes none, and there are none where `explain` tells of a refusal
-abbrev pub AreFacts : Job → Request → List ℕ → Facts → Type 0
-AreFacts Run q bytes facts = facts ≡ no_facts
-AreFacts Explain q bytes facts = HasFacts q.turns bytes facts ⊎ ((text : List ℕ) × IsExplained q.turns bytes text × (facts ≡ no_facts))
-AreFacts _ q bytes facts = HasFacts q.turns bytes facts
-
--- those of the job that the words ask for
-pub record HasJobFacts (words : List (List ℕ)) (left : Option (List ℕ)) (facts : Facts) : Type 0 where
-  pub request : Request
-  pub asked : request_of words ≡ Some request
-  pub bytes : List ℕ
-  pub input : IsInputOf request.job request left bytes
-  pub are : AreFacts request.job request bytes facts
 
 -- what the check of an environment says
 abbrev pub CheckSays : (turns : ℕ) → Result Accepted Refusal → RawEnv → Type 0

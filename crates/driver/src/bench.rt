@@ -4,15 +4,15 @@ ghost use Rattle.workload.specs.WorkloadText.{text_of};
 ghost use Rattle.command_line.specs.declared.job.Job.TheVariants.{Bench};
 ghost use Rattle.command_line.specs.Line.{IsInRange};
 ghost use Rattle.driver.specs.declared.refusal.Refusal.TheVariants.{Memory};
-ghost use Rattle.driver.specs.CheckFacts.{HasFacts};
+ghost use Rattle.driver.specs.JobFacts.{JobIsTold};
 ghost use Rattle.driver.specs.Bench.{five_lines};
 ghost use Rattle.driver.specs.Serve.{JobSays};
 
 use crate::exec::{Executed, execute};
 use crate::refusal::Refusal;
-use crate::reporting::Facts;
 use command_line::Request;
 use itoa::Buffer;
+use reports::Report;
 use std::alloc::{AllocError, Global};
 use workload::{MakeTextFault, make};
 
@@ -58,16 +58,16 @@ fn lines_of(alloc: Global, x: &Executed) -> Result<Vec<u8>, AllocError>
 }
 
 /// The five lines of what `exec` does on the text that is made.
-pub(crate) fn bench(
+pub(crate) fn bench<R: Report>(
     alloc: Global,
     request: Request,
     bytes: &[u8],
-    facts: &mut Facts,
+    reports: &mut Vec<R>,
 ) -> Result<Vec<u8>, Refusal>
     requires range { IsInRange request }
     ensures says { JobSays Bench request (λ v. v.items) result bytes.now }
-    ensures facts { OnOk result (HasFacts request.turns bytes.now facts.new) }
+    ensures told { OnOk result (JobIsTold R.shown Bench request bytes.now reports.old.items reports.new.items) }
 {
-    let executed = execute(alloc, request, bytes, facts)?;
+    let executed = execute(alloc, request, bytes, reports)?;
     Ok(lines_of(alloc, &executed)?)
 }

@@ -4,13 +4,16 @@ ghost use Rattle.std.specs.Prelude.{◌≡◌, ◌<◌, ℕ, IfOk, IfErr, OnOk, 
 ghost use Rattle.dump_reader.specs.Spelled.{IsSpelled};
 ghost use Rattle.pc_rules.specs.declared.broken.Place.TheVariants.{Declaration};
 ghost use Rattle.command_line.specs.declared.job.Job.TheVariants.{Check};
-ghost use Rattle.driver.specs.CheckFacts.{HasCheckFacts, HasFacts, facts_of_check};
+ghost use Rattle.module_run.specs.RunFacts.{AreTold};
+ghost use Rattle.driver.specs.CheckFacts.{facts_of_check};
+ghost use Rattle.driver.specs.JobFacts.{CheckIsTold, JobIsTold};
 ghost use Rattle.driver.specs.Judged.{IsTold, name_of, number_of, start};
+ghost use Rattle.driver.specs.ReportedFacts.{facts_of};
 ghost use Rattle.driver.specs.Serve.{AcceptSays, CheckSays, JobSays};
 
 use crate::facts::check_facts;
 use crate::refusal::{Refusal, Where};
-use crate::reporting::Facts;
+use crate::reporting::tell_check;
 use command_line::Request;
 use dump_reader::declaration::RawDecl;
 use dump_reader::environment::RawEnv;
@@ -22,6 +25,7 @@ use pc_rules::broken::{Broken, Place};
 use pc_rules::meter::Meter;
 use pc_terms::leaf::Name;
 use reduce_machine::closures::Closures;
+use reports::Report;
 use std::alloc::Global;
 
 /// The number of a rule that may be broken, from 1 on.
@@ -92,26 +96,26 @@ pub(crate) fn units(turns: u32) -> Meter
 }
 
 /// The environment with the sorts that its check finds, main and main's type; or why it is not accepted with the units of a meter, which are
-/// those of a job, `turns` in number. Where it is accepted, `facts` becomes the facts of its check.
-pub(crate) fn accept_within(
+/// those of a job, `turns` in number. Where it is accepted, each report is told the facts of its check.
+pub(crate) fn accept_within<R: Report>(
     alloc: Global,
     turns: u32,
     raw: &RawEnv,
     meter: &mut Meter,
-    facts: &mut Facts,
+    reports: &mut Vec<R>,
 ) -> Result<Accepted, Refusal>
     requires spelled { IsSpelled raw.now }
     requires units { meter.old.account ≡ start turns }
     requires nest { meter.old.nest ≡ 0 }
     ensures says { AcceptSays turns result raw.now meter.new.account }
     ensures nest { meter.new.nest ≡ 0 }
-    ensures facts { OnOk result (facts.new ≡ facts_of_check raw.now meter.new.account) }
+    ensures told { OnOk result (AreTold R.shown (facts_of (facts_of_check raw.now meter.new.account)) reports.old.items reports.new.items) }
 {
     // The turns are of the contract alone.
     let _ = turns;
     match check_env(alloc, &Closures, raw, meter) {
         Ok(accepted) => {
-            *facts = check_facts(raw, meter);
+            tell_check(reports, &check_facts(raw, meter));
             Ok(accepted)
         }
         Err(Fault::Memory) => Err(Refusal::Memory),
@@ -128,18 +132,18 @@ pub(crate) fn accept_within(
 }
 
 /// The environment with the sorts that its check finds, main and main's type; or why it is not accepted with so many units.
-pub(crate) fn accept(
+pub(crate) fn accept<R: Report>(
     alloc: Global,
     turns: u32,
     raw: &RawEnv,
-    facts: &mut Facts,
+    reports: &mut Vec<R>,
 ) -> Result<Accepted, Refusal>
     requires spelled { IsSpelled raw.now }
     ensures says { CheckSays turns result raw.now }
-    ensures facts { OnOk result (HasCheckFacts turns raw.now facts.new) }
+    ensures told { OnOk result (CheckIsTold R.shown turns raw.now reports.old.items reports.new.items) }
 {
     let mut meter = units(turns);
-    accept_within(alloc, turns, raw, &mut meter, facts)
+    accept_within(alloc, turns, raw, &mut meter, reports)
 }
 
 /// The text of an acceptance.
@@ -152,16 +156,16 @@ pub(crate) fn accepted_text(alloc: Global) -> Result<Vec<u8>, Refusal>
 }
 
 /// The text of the answer on a dump: `ok`, with LF, where its environment is accepted.
-pub(crate) fn check(
+pub(crate) fn check<R: Report>(
     alloc: Global,
     request: Request,
     bytes: &[u8],
-    facts: &mut Facts,
+    reports: &mut Vec<R>,
 ) -> Result<Vec<u8>, Refusal>
     ensures says { JobSays Check request (λ v. v.items) result bytes.now }
-    ensures facts { OnOk result (HasFacts request.turns bytes.now facts.new) }
+    ensures told { OnOk result (JobIsTold R.shown Check request bytes.now reports.old.items reports.new.items) }
 {
     let environment = read_env(alloc, bytes)?;
-    accept(alloc, request.turns, &environment, facts)?;
+    accept(alloc, request.turns, &environment, reports)?;
     accepted_text(alloc)
 }

@@ -7,13 +7,12 @@ ghost use Rattle.first_order.specs.Reading.{read, Read};
 ghost use Rattle.first_order.specs.Searching.{members, AreNamed};
 ghost use Rattle.first_order.specs.Texts.{HasNames};
 ghost use Rattle.command_line.specs.declared.job.Job.TheVariants.{Eval};
-ghost use Rattle.driver.specs.CheckFacts.{HasFacts};
+ghost use Rattle.driver.specs.JobFacts.{JobIsTold};
 ghost use Rattle.driver.specs.Serve.{JobSays};
 ghost use Rattle.driver.specs.SourceSays.{ShapesSay, ValueSays, DataSays, IsLine};
 
 use crate::check::{accept_within, units};
 use crate::refusal::Refusal;
-use crate::reporting::Facts;
 use command_line::Request;
 use data_trees::Data;
 use dump_reader::environment::RawEnv;
@@ -28,6 +27,7 @@ use pc_rules::accepted::Accepted;
 use pc_rules::meter::Meter;
 use pc_terms::term::Term;
 use reduce_machine::closures::Closures;
+use reports::Report;
 use source_eval::evaluation::{EvalStop, eval as evaluate};
 use std::alloc::Global;
 
@@ -106,18 +106,18 @@ fn line_of(
 
 /// The text of the answer on a dump: the stages from its bytes to the text of main's value. One meter serves the check, the search for the types and
 /// the evaluation.
-pub(crate) fn eval(
+pub(crate) fn eval<R: Report>(
     alloc: Global,
     request: Request,
     bytes: &[u8],
-    facts: &mut Facts,
+    reports: &mut Vec<R>,
 ) -> Result<Vec<u8>, Refusal>
     ensures says { JobSays Eval request (λ v. v.items) result bytes.now }
-    ensures facts { OnOk result (HasFacts request.turns bytes.now facts.new) }
+    ensures told { OnOk result (JobIsTold R.shown Eval request bytes.now reports.old.items reports.new.items) }
 {
     let environment = read_env(alloc, bytes)?;
     let mut meter = units(request.turns);
-    let accepted = accept_within(alloc, request.turns, &environment, &mut meter, facts)?;
+    let accepted = accept_within(alloc, request.turns, &environment, &mut meter, reports)?;
     let shapes = shapes_of(alloc, &accepted, &mut meter)?;
     let value = value_of(alloc, &accepted, &mut meter)?;
     let tree = data_at(alloc, &value, &shapes)?;

@@ -5,13 +5,12 @@ ghost use Rattle.first_order.specs.Texts.{HasNames};
 ghost use Rattle.command_line.specs.declared.job.Job.TheVariants.{Exec};
 ghost use Rattle.command_line.specs.Line.{IsInRange};
 ghost use Rattle.driver.specs.Figures.{ExecutedSays};
-ghost use Rattle.driver.specs.CheckFacts.{HasFacts};
+ghost use Rattle.driver.specs.JobFacts.{JobIsTold};
 ghost use Rattle.driver.specs.ExecEnds.{TextSays};
 ghost use Rattle.driver.specs.Serve.{JobSays};
 
 use crate::main_module::main_module;
 use crate::refusal::{Refusal, RunEnd};
-use crate::reporting::Facts;
 use crate::running::measured;
 use command_line::Request;
 use dump_reader::names::Names;
@@ -19,6 +18,7 @@ use first_order::faults::TextFault;
 use first_order::shapes::Shapes;
 use first_order::texts::text_of;
 use module_run::Answer;
+use reports::Report;
 use std::alloc::Global;
 
 /// What main's module answers, with the figures of its environment and its run.
@@ -59,19 +59,19 @@ fn line_of(
     }
 }
 
-/// What main's module answers on a dump: the module, its answer, and the text of that, with the figures.
-pub(crate) fn execute(
+/// What main's module answers on a dump: the module, its answer, and the text of that, with the figures. Each report is told the facts of the check before the run, and those of the run.
+pub(crate) fn execute<R: Report>(
     alloc: Global,
     request: Request,
     bytes: &[u8],
-    facts: &mut Facts,
+    reports: &mut Vec<R>,
 ) -> Result<Executed, Refusal>
     requires range { IsInRange request }
     ensures says { ExecutedSays request result bytes.now }
-    ensures facts { OnOk result (HasFacts request.turns bytes.now facts.new) }
+    ensures told { OnOk result (JobIsTold R.shown Exec request bytes.now reports.old.items reports.new.items) }
 {
-    let main = main_module(alloc, request, bytes, facts)?;
-    let run = measured(alloc, request.pages, request.steps, &main.module)?;
+    let main = main_module(alloc, request, bytes, reports)?;
+    let run = measured(alloc, request.pages, request.steps, &main.module, reports)?;
     let line = line_of(alloc, &run.answer, &main.shapes, &main.environment.names)?;
     Ok(Executed {
         declarations: main.environment.decls.len() as u64,
@@ -83,16 +83,16 @@ pub(crate) fn execute(
 }
 
 /// The text of the answer on a dump.
-pub(crate) fn exec(
+pub(crate) fn exec<R: Report>(
     alloc: Global,
     request: Request,
     bytes: &[u8],
-    facts: &mut Facts,
+    reports: &mut Vec<R>,
 ) -> Result<Vec<u8>, Refusal>
     requires range { IsInRange request }
     ensures says { JobSays Exec request (λ v. v.items) result bytes.now }
-    ensures facts { OnOk result (HasFacts request.turns bytes.now facts.new) }
+    ensures told { OnOk result (JobIsTold R.shown Exec request bytes.now reports.old.items reports.new.items) }
 {
-    let executed = execute(alloc, request, bytes, facts)?;
+    let executed = execute(alloc, request, bytes, reports)?;
     Ok(executed.line)
 }

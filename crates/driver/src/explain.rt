@@ -5,17 +5,17 @@ ghost use Rattle.std.specs.Io.KnownBytes.{Appends};
 ghost use Rattle.dump_reader.specs.Spelled.{IsSpelled};
 ghost use Rattle.pc_rules.specs.declared.broken.Place.TheVariants.{Declaration};
 ghost use Rattle.command_line.specs.declared.job.Job.TheVariants.{Explain};
-ghost use Rattle.driver.specs.CheckFacts.{no_facts as none};
 ghost use Rattle.driver.specs.Lines.{line_of};
 ghost use Rattle.driver.specs.Explained.{IsBrokenText, IsExplanation, deep_text, spent_text};
-ghost use Rattle.driver.specs.ExplainSays.{ExplainSays, FaultSays};
-ghost use Rattle.driver.specs.Serve.{AreFacts, JobSays};
+ghost use Rattle.driver.specs.ExplainSays.{ExplainIsTold, FaultSays};
+ghost use Rattle.driver.specs.JobFacts.{JobIsTold};
+ghost use Rattle.driver.specs.Serve.{JobSays};
 
 use crate::check::{accepted_text, number, told, units};
 use crate::err_line::write_line;
 use crate::facts::check_facts;
 use crate::refusal::Refusal;
-use crate::reporting::Facts;
+use crate::reporting::tell_check;
 use command_line::Request;
 use dump_reader::environment::RawEnv;
 use dump_reader::reading::read_env;
@@ -26,6 +26,7 @@ use kio::{MemSink, Sink, WriteFault, write_all};
 use pc_rules::broken::{Broken, Place};
 use pc_rules::meter::Account;
 use reduce_machine::closures::Closures;
+use reports::Report;
 use std::alloc::Global;
 
 /// Writes the line of a refusal, and a text behind it, up to the first fault.
@@ -106,23 +107,22 @@ fn text_of(alloc: Global, turns: u32, raw: &RawEnv, fault: &Fault) -> Result<Vec
     }
 }
 
-/// The text of the answer on an environment that is read: `ok`, with LF, where its check accepts it, and else that of the refusal. Where it is accepted, `facts`
-/// becomes the facts of the check. Only `Memory`.
-fn explain_env(
+/// The text of the answer on an environment that is read: `ok`, with LF, where its check accepts it, and else that of the refusal. Where it is accepted, each
+/// report is told the facts of the check. Only `Memory`.
+fn explain_env<R: Report>(
     alloc: Global,
     turns: u32,
     raw: &RawEnv,
-    facts: &mut Facts,
+    reports: &mut Vec<R>,
 ) -> Result<Vec<u8>, Refusal>
     requires spelled { IsSpelled raw.now }
-    requires none { facts.old ≡ none }
-    ensures says { IfOk result (λ v. ExplainSays turns raw.now v.items facts.new) }
+    ensures says { IfOk result (λ v. ExplainIsTold R.shown turns raw.now v.items reports.old.items reports.new.items) }
     ensures only_memory { IfErr result (λ r. r ≡ Refusal.Memory) }
 {
     let mut meter = units(turns);
     match check_env(alloc, &Closures, raw, &mut meter) {
         Ok(_) => {
-            *facts = check_facts(raw, &meter);
+            tell_check(reports, &check_facts(raw, &meter));
             accepted_text(alloc)
         }
         Err(fault) => text_of(alloc, turns, raw, &fault),
@@ -130,16 +130,15 @@ fn explain_env(
 }
 
 /// The text of the answer on a dump: `ok`, with LF, where its environment is accepted, and else why it isn't. Refusals of the text alone refuse it.
-pub(crate) fn explain(
+pub(crate) fn explain<R: Report>(
     alloc: Global,
     request: Request,
     bytes: &[u8],
-    facts: &mut Facts,
+    reports: &mut Vec<R>,
 ) -> Result<Vec<u8>, Refusal>
-    requires none { facts.old ≡ none }
     ensures says { JobSays Explain request (λ v. v.items) result bytes.now }
-    ensures facts { OnOk result (AreFacts Explain request bytes.now facts.new) }
+    ensures told { OnOk result (JobIsTold R.shown Explain request bytes.now reports.old.items reports.new.items) }
 {
     let environment = read_env(alloc, bytes)?;
-    explain_env(alloc, request.turns, &environment, facts)
+    explain_env(alloc, request.turns, &environment, reports)
 }

@@ -1,22 +1,11 @@
 //! The facts of the check that accepts an environment.
 ghost use Rattle.std.specs.Prelude.{◌≡◌, count_by};
-ghost use Rattle.driver.specs.CheckFacts.{facts_of_check, is_axiom as is_bodiless, no_facts as none};
+ghost use Rattle.driver.specs.CheckFacts.{facts_of_check, is_axiom as is_bodiless};
 
 use crate::reporting::Facts;
 use dump_reader::declaration::RawDecl;
 use dump_reader::environment::RawEnv;
 use pc_rules::meter::Meter;
-
-/// No fact, as of a job that makes no check.
-pub(crate) fn no_facts() -> Facts
-    ensures is { result ≡ none }
-{
-    Facts {
-        declarations: 0,
-        axioms: 0,
-        uses: [0; 12],
-    }
-}
 
 /// Whether a declaration is a constant without a body.
 fn is_axiom(decl: &RawDecl) -> bool

@@ -1,19 +1,20 @@
 //! Main's module of a dump: the stages that the jobs `exec`, `bench` and `compile` share.
 ghost use Rattle.std.specs.Prelude.{OnOk};
+ghost use Rattle.command_line.specs.declared.job.Job.TheVariants.{Compile};
 ghost use Rattle.command_line.specs.Line.{IsInRange};
-ghost use Rattle.driver.specs.CheckFacts.{HasFacts};
+ghost use Rattle.driver.specs.JobFacts.{JobIsTold};
 ghost use Rattle.driver.specs.MainModule.{MakesSay};
 
 use crate::check::{accept_within, units};
 use crate::erasing::erased;
 use crate::eval::shapes_of;
 use crate::refusal::Refusal;
-use crate::reporting::Facts;
 use crate::running::compiled;
 use command_line::Request;
 use dump_reader::environment::RawEnv;
 use dump_reader::reading::read_env;
 use first_order::shapes::Shapes;
+use reports::Report;
 use std::alloc::Global;
 use wasm_core::Valid;
 
@@ -29,20 +30,20 @@ pub(crate) struct MainModule {
 }
 
 /// Main's module of a dump: the stages from its bytes to the module, in order. One meter serves the check, the search for the types and erasure. `compiled` goes through the passes,
-/// which are those of crate `compile`.
-pub(crate) fn main_module(
+/// which are those of crate `compile`. Each report is told the facts of the check.
+pub(crate) fn main_module<R: Report>(
     alloc: Global,
     request: Request,
     bytes: &[u8],
-    facts: &mut Facts,
+    reports: &mut Vec<R>,
 ) -> Result<MainModule, Refusal>
     requires range { IsInRange request }
     ensures says { MakesSay request result bytes.now }
-    ensures facts { OnOk result (HasFacts request.turns bytes.now facts.new) }
+    ensures told { OnOk result (JobIsTold R.shown Compile request bytes.now reports.old.items reports.new.items) }
 {
     let environment = read_env(alloc, bytes)?;
     let mut meter = units(request.turns);
-    let accepted = accept_within(alloc, request.turns, &environment, &mut meter, facts)?;
+    let accepted = accept_within(alloc, request.turns, &environment, &mut meter, reports)?;
     let shapes = shapes_of(alloc, &accepted, &mut meter)?;
     let program = erased(alloc, &environment, &accepted, &mut meter)?;
     let module = compiled(alloc, request.pages, &program)?;

@@ -2,14 +2,14 @@
 ghost use Rattle.std.specs.Prelude.{OnOk};
 ghost use Rattle.command_line.specs.declared.job.Job.TheVariants.{Compile};
 ghost use Rattle.command_line.specs.Line.{IsInRange};
-ghost use Rattle.driver.specs.CheckFacts.{HasFacts};
+ghost use Rattle.driver.specs.JobFacts.{JobIsTold};
 ghost use Rattle.driver.specs.MadeModule.{BytesSay};
 ghost use Rattle.driver.specs.Serve.{JobSays};
 
 use crate::main_module::main_module;
 use crate::refusal::{ProgramLimit, Refusal};
-use crate::reporting::Facts;
 use command_line::Request;
+use reports::Report;
 use std::alloc::Global;
 use wasm_core::{EncodeFault, Valid};
 use wasm_encode::encode;
@@ -28,16 +28,16 @@ fn written(alloc: Global, module: &Valid) -> Result<Vec<u8>, Refusal>
 }
 
 /// The bytes of main's module on a dump: the module, and its shortest bytes.
-pub(crate) fn object(
+pub(crate) fn object<R: Report>(
     alloc: Global,
     request: Request,
     bytes: &[u8],
-    facts: &mut Facts,
+    reports: &mut Vec<R>,
 ) -> Result<Vec<u8>, Refusal>
     requires range { IsInRange request }
     ensures says { JobSays Compile request (λ v. v.items) result bytes.now }
-    ensures facts { OnOk result (HasFacts request.turns bytes.now facts.new) }
+    ensures told { OnOk result (JobIsTold R.shown Compile request bytes.now reports.old.items reports.new.items) }
 {
-    let main = main_module(alloc, request, bytes, facts)?;
+    let main = main_module(alloc, request, bytes, reports)?;
     written(alloc, &main.module)
 }

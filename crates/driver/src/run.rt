@@ -1,7 +1,8 @@
 //! The job `run`: from the bytes of a module to the text of its answer.
-ghost use Rattle.std.specs.Prelude.{◌≡◌, ◌++◌, ◌∷◌, [], ℕ, List, IfOk, IfErr};
+ghost use Rattle.std.specs.Prelude.{◌≡◌, ◌++◌, ◌∷◌, [], ℕ, List, IfOk, IfErr, OnOk};
 ghost use Rattle.first_order.specs.Texts.{IsText, by_tags};
 ghost use Rattle.command_line.specs.declared.job.Job.TheVariants.{Run};
+ghost use Rattle.driver.specs.JobFacts.{JobIsTold};
 ghost use Rattle.driver.specs.RunFile.{refusal_of_file};
 ghost use Rattle.driver.specs.Serve.{JobSays};
 
@@ -11,6 +12,7 @@ use data_trees::Data;
 use first_order::faults::TextFault;
 use first_order::texts::tags_of;
 use module_run::{FileRefusal, answer_of_file};
+use reports::Report;
 use std::alloc::Global;
 
 /// The refusal of a module's answer, as one of the job.
@@ -57,11 +59,17 @@ fn line_of(alloc: Global, tree: &Data) -> Result<Vec<u8>, Refusal>
     }
 }
 
-/// The text of the answer on a module: its run's data by the numbers of constructors, with LF. The pages and steps are those of the request.
-pub(crate) fn run(alloc: Global, request: Request, bytes: &[u8]) -> Result<Vec<u8>, Refusal>
+/// The text of the answer on a module: its run's data by the numbers of constructors, with LF. The pages and steps are those of the request. Each report is told the facts of the run.
+pub(crate) fn run<R: Report>(
+    alloc: Global,
+    request: Request,
+    bytes: &[u8],
+    reports: &mut Vec<R>,
+) -> Result<Vec<u8>, Refusal>
     ensures says { JobSays Run request (λ v. v.items) result bytes.now }
+    ensures told { OnOk result (JobIsTold R.shown Run request bytes.now reports.old.items reports.new.items) }
 {
-    match answer_of_file(alloc, bytes, request.pages, u64::from(request.steps)) {
+    match answer_of_file(alloc, bytes, request.pages, u64::from(request.steps), reports) {
         Ok(tree) => line_of(alloc, &tree),
         Err(why) => Err(refused(why)),
     }

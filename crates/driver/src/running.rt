@@ -1,5 +1,5 @@
 //! The module of a program after erasure, and its answer.
-ghost use Rattle.std.specs.Prelude.{◌≡◌, ◌<◌, ◌≤◌, IfOk};
+ghost use Rattle.std.specs.Prelude.{◌≡◌, ◌<◌, ◌≤◌, IfOk, OnOk};
 ghost use Rattle.lambda_box.specs.BoxForm.{IsBoxProgram};
 ghost use Rattle.lambda_box.specs.BoxProgram.{BoxProgram as Program};
 ghost use Rattle.wasm_core.specs.ModuleGrammar.{SpellsModule};
@@ -7,12 +7,14 @@ ghost use Rattle.wasm_core.specs.ShortestBytes.{module_bytes};
 ghost use Rattle.wasm_emit.specs.EmittedModule.{module_of};
 ghost use Rattle.back_end.specs.BackEnd.{passed};
 ghost use Rattle.compile.specs.Passes.{Fits};
+ghost use Rattle.module_run.specs.RunFacts.{RunIsTold};
 ghost use Rattle.driver.specs.ExecEnds.{MeasuredSays, PassesSay};
 
 use crate::refusal::{ProgramLimit, Refusal, RunEnd};
 use box_terms::program::BoxProgram;
 use compile::{CompileFault, compile};
 use module_run::{Measured, RunRefusal, answer_of};
+use reports::Report;
 use std::alloc::Global;
 use wasm_core::Valid;
 use wasm_emit::status_tells_of_a_refused_grow;
@@ -39,20 +41,22 @@ pub(crate) fn compiled(alloc: Global, pages: u32, program: &BoxProgram) -> Resul
     }
 }
 
-/// What a program's module answers, in at most so many steps, with the figures of its run.
-pub(crate) fn measured(
+/// What a program's module answers, in at most so many steps, with the figures of its run. Where it answers, each report is told the facts of the run.
+pub(crate) fn measured<R: Report>(
     alloc: Global,
     pages: u32,
     steps: u32,
     module: &Valid,
+    reports: &mut Vec<R>,
 ) -> Result<Measured, Refusal>
     requires range { (0 < pages) × (pages ≤ 16384) }
     requires compiled { (P : Program) × IsBoxProgram P × Fits P × (module.now ≡ module_of (passed P) pages) }
     ensures says { MeasuredSays module.now pages steps result }
     ensures spelled { IfOk result (λ _. SpellsModule (module_bytes module.now) module.now) }
+    ensures told { OnOk result (RunIsTold R.shown module.now pages steps reports.old.items reports.new.items) }
 {
     status_tells_of_a_refused_grow();
-    match answer_of(alloc, module, pages, u64::from(steps)) {
+    match answer_of(alloc, module, pages, u64::from(steps), reports) {
         Ok(run) => Ok(run),
         Err(RunRefusal::ModuleBytes) => Err(Refusal::Program {
             which: ProgramLimit::ModuleBytes,

@@ -9,14 +9,13 @@ ghost use Rattle.dump_reader.specs.declared.environment.RawEnv.{RawEnv};
 ghost use Rattle.command_line.specs.Line.{IsInRange, request_of, words_of};
 ghost use Rattle.command_line.specs.declared.line.Request.{Request as Asked};
 ghost use Rattle.command_line.specs.declared.job.Job.TheVariants.{Bench};
-ghost use Rattle.driver.specs.ReportedFacts.{facts_of};
-ghost use Rattle.driver.specs.ReportLines.{told_lines};
+ghost use Rattle.driver.specs.JobFacts.{CallIsTold, JobIsTold};
+ghost use Rattle.driver.specs.ReportLines.{lines};
 ghost use Rattle.driver.specs.Takes.{TakesLine, TakesPrefix};
-ghost use Rattle.driver.specs.CheckFacts.{no_facts as none};
 ghost use Rattle.driver.specs.Lines.{status_of, line_of};
 ghost use Rattle.driver.specs.Executed.{AnswersData, HasErasedData};
 ghost use Rattle.driver.specs.Headline.{ServesValue, EvaluatesErased, GivesErased, HasMatches, HasValue, IsBoundedBy, IsCountedBy, TakesMatches};
-ghost use Rattle.driver.specs.Serve.{HasAnswer, AreFacts, AsksModule, ConcludesOn, HasJobFacts, HasWell, InputSays, IsAsked, IsLate, JobSays, MakesModule, ReadSays, ReadsNothing, RequestSays, Says};
+ghost use Rattle.driver.specs.Serve.{HasAnswer, AsksModule, ConcludesOn, HasWell, InputSays, IsAsked, IsLate, JobSays, MakesModule, ReadSays, ReadsNothing, RequestSays, Says};
 ghost use Rattle.driver.specs.Promises.{AnswersPlain, AnswersWhereItCan, EndsAsJudged, EndsAsLength, EndsAsRun, EndsAsText, NamesPlain, ShowsCause, TellsReports};
 ghost use Rattle.driver.specs.Served.{ServedOn};
 
@@ -26,10 +25,9 @@ use crate::err_line::write_line;
 use crate::eval::eval;
 use crate::exec::exec;
 use crate::explain::explain;
-use crate::facts::no_facts;
 use crate::object::object;
 use crate::refusal::{Refusal, status};
-use crate::reporting::{Facts, tell_and_write};
+use crate::reporting::write_lines;
 use crate::run::run;
 use command_line::{Job, LineFault, Request, read_line};
 use kio::{ReadAll, Sink, Source, read_all, write_all};
@@ -68,26 +66,25 @@ fn input_of<S: Source>(alloc: Global, request: Request, src: &mut S) -> Result<V
     }
 }
 
-/// The text of the answer of a job on its bytes. Where there is one, `facts` becomes the facts of the job's check; `run` makes none.
-fn answer_on(
+/// The text of the answer of a job on its bytes. Where there is one, each report is told the facts of the job: those of its check, and then those of its run.
+fn answer_on<R: Report>(
     alloc: Global,
     request: Request,
     bytes: &[u8],
-    facts: &mut Facts,
+    reports: &mut Vec<R>,
 ) -> Result<Vec<u8>, Refusal>
     requires range { IsInRange request }
-    requires none { facts.old ≡ none }
     ensures says { JobSays request.job request (λ v. v.items) result bytes.now }
-    ensures facts { OnOk result (AreFacts request.job request bytes.now facts.new) }
+    ensures told { OnOk result (JobIsTold R.shown request.job request bytes.now reports.old.items reports.new.items) }
 {
     match request.job {
-        Job::Exec => exec(alloc, request, bytes, facts),
-        Job::Check => check(alloc, request, bytes, facts),
-        Job::Eval => eval(alloc, request, bytes, facts),
-        Job::Run => run(alloc, request, bytes),
-        Job::Compile => object(alloc, request, bytes, facts),
-        Job::Bench => bench(alloc, request, bytes, facts),
-        Job::Explain => explain(alloc, request, bytes, facts),
+        Job::Exec => exec(alloc, request, bytes, reports),
+        Job::Check => check(alloc, request, bytes, reports),
+        Job::Eval => eval(alloc, request, bytes, reports),
+        Job::Run => run(alloc, request, bytes, reports),
+        Job::Compile => object(alloc, request, bytes, reports),
+        Job::Bench => bench(alloc, request, bytes, reports),
+        Job::Explain => explain(alloc, request, bytes, reports),
     }
 }
 
@@ -104,23 +101,22 @@ fn request_from(alloc: Global, words: &Vec<String>) -> Result<Request, Refusal>
     }
 }
 
-/// The text of the answer of the job that the words ask for. Where there is one, `facts` becomes the facts of the job's check.
-fn answer<S: Source>(
+/// The text of the answer of the job that the words ask for. Where there is one, each report is told the facts of the job.
+fn answer<S: Source, R: Report>(
     alloc: Global,
     words: &Vec<String>,
     src: &mut S,
-    facts: &mut Facts,
+    reports: &mut Vec<R>,
 ) -> Result<Vec<u8>, Refusal>
-    requires none { facts.old ≡ none }
     ensures says { Says (λ v. v.items) result (words_of words.now) (S.left src.old) (S.faults src.old) (S.faults src.new) }
-    ensures facts { OnOk result (HasJobFacts (words_of words.now) (S.left src.old) facts.new) }
+    ensures told { OnOk result (CallIsTold R.shown (words_of words.now) (S.left src.old) reports.old.items reports.new.items) }
     ensures unread { ReadsNothing (words_of words.now) → src.new ≡ src.old }
     ensures later { S.faults src.old ≤ S.faults src.new }
     ensures tells { StillTells (S.left src.old) (S.left src.new) }
 {
     let request = request_from(alloc, words)?;
     let bytes = input_of(alloc, request, src)?;
-    answer_on(alloc, request, bytes.as_slice(), facts)
+    answer_on(alloc, request, bytes.as_slice(), reports)
 }
 
 /// Writes the refusal's line, and gives its status.
@@ -133,16 +129,15 @@ fn refuse<E: Sink>(err: &mut E, refusal: Refusal) -> u8
     status(&refusal)
 }
 
-/// Writes the text of the answer to out, and then the lines of the reports to err, which are told the facts before; or the refusal's line to err. Gives the status, and drops the reports.
+/// Writes the text of the answer to out, and then the lines of the reports to err; or the refusal's line to err. Gives the status, and drops the reports.
 #[tactic(auto, using(crate::proofs::PartByPart::tells_same))]
 fn conclude<K: Sink, E: Sink>(
     out: &mut K,
     err: &mut E,
     answered: Result<Vec<u8>, Refusal>,
-    facts: &Facts,
     reports: Vec<Box<dyn Report>>,
 ) -> u8
-    ensures concludes { ConcludesOn (λ v. v.items) answered (told_lines (facts_of facts.now) (map (λ b. shown b) reports.items)) result
+    ensures concludes { ConcludesOn (λ v. v.items) answered (lines (map (λ b. shown b) reports.items)) result
         K.taken K.faults out.old out.new E.taken E.faults err.old err.new }
     ensures tells { StillTells (K.taken out.old) (K.taken out.new) × StillTells (E.taken err.old) (E.taken err.new) }
     ensures counts { (K.faults out.old ≤ K.faults out.new) × (E.faults err.old ≤ E.faults err.new) }
@@ -150,7 +145,7 @@ fn conclude<K: Sink, E: Sink>(
     match answered {
         Ok(text) => match write_all(out, text.as_slice()) {
             Ok(()) => {
-                tell_and_write(err, reports, facts);
+                let _ = write_lines(err, reports.as_slice());
                 0
             }
             Err(_) => refuse(err, Refusal::WriteFault),
@@ -166,13 +161,12 @@ fn serve_whole<S: Source, K: Sink, E: Sink>(
     src: &mut S,
     out: &mut K,
     err: &mut E,
-    reports: Vec<Box<dyn Report>>,
+    mut reports: Vec<Box<dyn Report>>,
 ) -> u8
     ensures served { ServedOn result (words_of words.now) (map (λ b. shown b) reports.items) S.left S.faults src.old src.new K.taken K.faults out.old out.new E.taken E.faults err.old err.new }
 {
-    let mut facts = no_facts();
-    let answered = answer(alloc, words, src, &mut facts);
-    conclude(out, err, answered, &facts, reports)
+    let answered = answer(alloc, words, src, &mut reports);
+    conclude(out, err, answered, reports)
 }
 
 /// Does the job that the words after the program's name ask for, and answers the program's status.
@@ -192,8 +186,9 @@ fn serve_whole<S: Source, K: Sink, E: Sink>(
 /// exhausted; 12 the steps are spent; 13 the bytes spell no module; 14 the module is invalid; 15 the run trapped, an entry is missing, a segment passes the table, the result is no
 /// data, or by `eval` main has no value or its value is no data of its type. By `explain` 8, 9 and the limit of depth behind the text never come.
 ///
-/// On status 0 each report is told the facts of the check: a declaration each, a constant without a body each, a use of a rule each, up to the end of main's check; then `err` takes a line
-/// `report NAME COUNT` for each, in order. By `run` there are none, and by `explain` none where the check doesn't accept. On another status the reports are dropped untold.
+/// Each report is told the facts of the check before a run: a declaration each, a constant without a body each, a use of a rule each, up to the end of main's check; and by `exec`, `bench` and
+/// `run` those of the run: each step with its class, each grow of memory that wasn't refused. `run` has no check, and by `explain` there are none where the check doesn't accept. On status 0 `err` then takes a line `report NAME COUNT` for each, in order; the
+/// reports are dropped at every status.
 ///
 /// A refusal writes one line to `err`, which takes no memory; a fault on `err` changes no status. Nothing goes to `out` before
 /// the whole answer is there, so a refusal other than a write fault leaves it as it was.
@@ -243,7 +238,7 @@ pub fn serve<S: Source, K: Sink, E: Sink>(
     ensures counted { (q : Asked) (e : RawEnv) (c : Counts) → AsksModule q e (words_of words.now) (S.left src.old) → (h : GivesErased q.turns e c) → IsCountedBy q e c h result }
     ensures matched { (q : Asked) (e : RawEnv) (matches : ℕ) → AsksModule q e (words_of words.now) (S.left src.old) → HasMatches q.turns e matches → TakesMatches q e matches result }
 
-    // The reports: on status 0 err takes the line of each, in order, with its count at entry and the number of facts of the check that it wants; `run` has none. But for `quiet`, no other clause knows of them.
+    // The reports: on status 0 err takes the line of each, in order, with its count at entry and the number of facts of the check and of the run that it wants. But for `quiet`, no other clause knows of them.
     ensures reported { TellsReports result (words_of words.now) (S.left src.old) (map (λ b. shown b) reports.items) (E.taken err.old) (E.taken err.new) (E.faults err.old) (E.faults err.new) }
 
     // What is left behind.

@@ -1,9 +1,9 @@
-//! The program `erasec`: standard input, output and error, and three reports, for the top call of `driver`, whose status is the program's.
+//! The program `erasec`: standard input, output and error, and five reports, for the top call of `driver`, whose status is the program's.
 #![tactic(auto)]
 
 use driver::serve;
 use kio::{ReaderSource, WriterSink, write_all};
-use reports::{AxiomReport, DeclReport, Report, RuleReport};
+use reports::{AxiomReport, DeclReport, GrowReport, Report, RuleReport, StepReport};
 use std::process::ExitCode;
 use std::{env, io};
 
@@ -22,7 +22,7 @@ fn words(rt: &HostRuntime) -> io::Result<Vec<String>> {
     }
 }
 
-/// Does the job of the words, with reports of the declarations, of the axioms and of the uses of rules, and answers its status.
+/// Does the job of the words, with reports of the declarations, of the axioms, of the uses of rules, of the steps and of the grows, and answers its status.
 fn status(rt: &HostRuntime) -> io::Result<u8> {
     let alloc = rt.alloc();
     let words = words(rt)?;
@@ -30,6 +30,8 @@ fn status(rt: &HostRuntime) -> io::Result<u8> {
     reports.push(Box::new(alloc, DeclReport::new())?)?;
     reports.push(Box::new(alloc, AxiomReport::new())?)?;
     reports.push(Box::new(alloc, RuleReport::new())?)?;
+    reports.push(Box::new(alloc, StepReport::new())?)?;
+    reports.push(Box::new(alloc, GrowReport::new())?)?;
     let mut src = ReaderSource::new(rt.stdin());
     let mut out = WriterSink::new(rt.stdout());
     let mut err = WriterSink::new(rt.stderr());

@@ -1,10 +1,12 @@
 //! The layer of the jobs: `serve`, with the words of a command line, an input, and calls of it that fail.
+ghost use Rattle.std.specs.Prelude.{IfSome, ◌≤◌};
+
 use crate::piped::run_piped;
 use crate::reporting::RowReport;
 use crate::wanting::Wanted;
 use driver::serve;
 use kio::{MemSink, MemSource, read_all};
-use reports::{AxiomReport, DeclReport, Report, RuleReport};
+use reports::{AxiomReport, ClassReport, DeclReport, GrowReport, Report, RuleReport, StepReport};
 use row_files::{Case, Fault, put_bytes};
 use std::alloc::{AllocError, Global};
 
@@ -69,11 +71,26 @@ pub fn put_served(
     put_bytes(out, line)
 }
 
-/// A report by its word: one that wants everything from the last count on, nothing from 7 on, or the uses of one rule from 7 on.
+/// The class of steps that a word names.
+fn class_named(kind: &str) -> Option<u8>
+    ensures range { IfSome result (λ c. (1 ≤ c) × (c ≤ 6)) }
+{
+    match kind {
+        "class1" => Some(1),
+        "class2" => Some(2),
+        "class3" => Some(3),
+        "class4" => Some(4),
+        "class5" => Some(5),
+        "class6" => Some(6),
+        _ => None,
+    }
+}
+
+/// A report by its word: one that wants everything from the last count on, nothing from 7 on, or the uses of one rule from 0 on.
 fn row_report(kind: &str) -> RowReport {
     let (name, count, wanted) = match kind {
-        "last" => (4, u64::MAX, Wanted::Everything),
-        "nothing" => (5, 7, Wanted::Nothing),
+        "last" => (20, u64::MAX, Wanted::Everything),
+        "nothing" => (21, 7, Wanted::Nothing),
         "rule7" => (7, 0, Wanted::Rule(7)),
         "rule8" => (8, 0, Wanted::Rule(8)),
         "rule9" => (9, 0, Wanted::Rule(9)),
@@ -104,7 +121,12 @@ fn put_job(
             "declarations" => reports.push(Box::new(alloc, DeclReport::new())?)?,
             "axioms" => reports.push(Box::new(alloc, AxiomReport::new())?)?,
             "rules" => reports.push(Box::new(alloc, RuleReport::new())?)?,
-            _ => reports.push(Box::new(alloc, row_report(kind))?)?,
+            "steps" => reports.push(Box::new(alloc, StepReport::new())?)?,
+            "grows" => reports.push(Box::new(alloc, GrowReport::new())?)?,
+            _ => match class_named(kind) {
+                Some(class) => reports.push(Box::new(alloc, ClassReport::new(class))?)?,
+                None => reports.push(Box::new(alloc, row_report(kind))?)?,
+            },
         }
     }
     let failing = case.failing("failing report")?;

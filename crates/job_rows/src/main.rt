@@ -4,7 +4,7 @@
 //! | Table | Calls |
 //! |---|---|
 //! | `environments` | `check` (`units:`, then the units that are left are told, and the uses of the rules), `kept` |
-//! | `jobs` | `serve`, `serve each prefix` (`words:`, `failing read:`, `failing write:`; `reports:` of the kinds `declarations`, `axioms`, `rules`, `last`, `nothing`, `rule7` to `rule12`, `failing report:` for a write to err that fails) |
+//! | `jobs` | `serve`, `serve each prefix` (`words:`, `failing read:`, `failing write:`; `reports:` of the kinds `declarations`, `axioms`, `rules`, `steps`, `grows`, `class1` to `class6`, `last`, `nothing`, `rule7` to `rule12`, `failing report:` for a write to err that fails) |
 //! | `executions` | the same, of the job `exec` |
 //! | `runs` | the same, of the job `run` and of options |
 //! | `reports` | the same, with reports, and of the job `bench` |

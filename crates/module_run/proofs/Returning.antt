@@ -1,5 +1,5 @@
--- A machine that has returned, by what its run says.
-use Rattle.std.proofs.Common.{◌≡◌, ℕ, ◌≤◌, ◌+◌, ◌-◌, ◌^◌, Ok, subst, arith}
+-- A machine that has returned, by what its run says, and the facts that it tells.
+use Rattle.std.proofs.Common.{◌≡◌, ℕ, ◌≤◌, ◌+◌, ◌-◌, ◌^◌, List, Ok, subst, arith}
 use Rattle.std.specs.Prelude.{min}
 use Rattle.wasm_core.specs.declared.ended.Ended.{Ended}
 use Rattle.wasm_core.specs.declared.ended.Ended.TheVariants.{Returned}
@@ -7,7 +7,11 @@ use Rattle.wasm_core.specs.Parts.{Parts}
 use Rattle.wasm_core.specs.MachineStep.{State, Store, At, Over}
 use Rattle.wasm_core.specs.MachineRun.{Shown, IsFresh, IsOver, Says}
 use Rattle.wasm_core.specs.Runs.{Moves}
+use Rattle.reports.specs.declared.fact.Fact.{Fact}
+use Rattle.wasm_run.specs.ToldRuns.{SaysTold}
+use Rattle.wasm_run.specs.ToldSteps.{Tells}
 use Rattle.module_run.specs.Ends.{HasReturned}
+use Rattle.module_run.specs.RunFacts.{AreRunFacts}
 
 over_is : (e : Ended) (t : State) → IsOver e t → (store : Store) × (t ≡ Over e store)
 over_is e (At c) h = absurd h
@@ -28,3 +32,9 @@ has_returned m cap n old new (s, starts, is) few says =
       run = record { first = s; starts = starts; steps = k; few = le; moves = subst (λ t. Moves m cap k s t) at ran.moves };
       made = counted new.made k n ran.counted le few;
     }
+
+pub run_facts : (m : Parts) (cap n : ℕ) (old new : Shown) (facts : List Fact) → IsFresh m cap old → SaysTold old new n (Ok Returned) facts → AreRunFacts m cap n facts
+run_facts m cap n old new facts (s, starts, is) says =
+    let (sound, still, (k, le, told, over)) = subst (λ o. SaysTold o new n (Ok Returned) facts) is says in
+    let (store, at) = over_is Returned new.state over in
+    record { first = s; starts = starts; steps = k; few = le; store = store; tells = subst (λ t. Tells m cap k s t facts) at told.tells }

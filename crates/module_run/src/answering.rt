@@ -1,5 +1,5 @@
 //! Writing, reading, checking and running of a module, and its answer.
-ghost use Rattle.std.specs.Prelude.{◌≡◌, ℕ, length, None, IfOk, IfErr};
+ghost use Rattle.std.specs.Prelude.{◌≡◌, ℕ, length, None, IfOk, IfErr, OnOk};
 ghost use Rattle.wasm_core.specs.Parts.{Parts};
 ghost use Rattle.wasm_core.specs.ModuleGrammar.{SpellsModule};
 ghost use Rattle.wasm_core.specs.ModuleTyping.{IsValid};
@@ -7,11 +7,13 @@ ghost use Rattle.wasm_core.specs.ShortestBytes.{module_bytes};
 ghost use Rattle.wasm_core.specs.MachineRun.{IsFresh, refusal};
 ghost use Rattle.module_run.specs.Ends.{AnswerSays, IsSmall, RunSays, WriteSays};
 ghost use Rattle.module_run.specs.Figures.{FigureSays};
+ghost use Rattle.module_run.specs.RunFacts.{RunIsTold};
 ghost use Rattle.module_run.specs.declared.refusal.RunRefusal.TheVariants.{Memory};
 
 use crate::answer::{Answer, Measured};
 use crate::refusal::RunRefusal;
 use mem_value::{AnswerFault, answer_tree};
+use reports::Report;
 use std::alloc::Global;
 use wasm_core::{DecodeFault, EncodeFault, Ended, Module, NewFault, RunFault, Valid};
 use wasm_decode::decode;
@@ -87,12 +89,17 @@ fn started<'m>(alloc: Global, program: &'m Valid, cap: u32) -> Result<Machine<'m
 /// The run of a machine that has made no step yet, up to its return, in at most so many steps.
 ///
 /// `StepsSpent` exactly where it hadn't ended after so many; `Exhausted` exactly where it trapped with the status 1, and `Trapped` exactly where it trapped with
-/// another. No other refusal but `Memory`.
-pub fn returned(machine: &mut Machine, steps: u64) -> Result<(), RunRefusal>
+/// another. No other refusal but `Memory`. Each report is told the facts of the steps that were made, as `Machine::run_told` says.
+pub fn returned<R: Report>(
+    machine: &mut Machine,
+    steps: u64,
+    reports: &mut Vec<R>,
+) -> Result<(), RunRefusal>
     requires fresh { (m : Parts) × (cap : ℕ) × IsFresh m cap machine.old }
     ensures says { (m : Parts) (cap : ℕ) → IsFresh m cap machine.old → RunSays m cap steps machine.new result }
+    ensures told { (m : Parts) (cap : ℕ) → IsFresh m cap machine.old → OnOk result (RunIsTold R.shown m cap steps reports.old.items reports.new.items) }
 {
-    match machine.run(steps) {
+    match machine.run_told(steps, reports) {
         Ok(Ended::Returned) => Ok(()),
         Ok(Ended::Trapped(kind)) => {
             if machine.status() == 1 {
@@ -121,21 +128,24 @@ pub fn answered(alloc: Global, machine: &Machine) -> Result<Answer, RunRefusal>
     }
 }
 
-/// The word and the data that a run of the module answers, in at most so many steps, with the run's figures. Its shortest bytes are so many.
-fn run(
+/// The word and the data that a run of the module answers, in at most so many steps, with the run's figures. Its shortest bytes are so many. Where there is an answer, each report is
+/// told the facts of the run.
+fn run<R: Report>(
     alloc: Global,
     program: &Valid,
     bytes: usize,
     cap: u32,
     steps: u64,
+    reports: &mut Vec<R>,
 ) -> Result<Measured, RunRefusal>
     requires starts { refusal program.now cap ≡ None }
     requires small { IsSmall program.now }
     requires length { bytes ≡ length (module_bytes program.now) }
     ensures says { FigureSays program.now cap steps result }
+    ensures told { OnOk result (RunIsTold R.shown program.now cap steps reports.old.items reports.new.items) }
 {
     let mut machine = started(alloc, program, cap)?;
-    returned(&mut machine, steps)?;
+    returned(&mut machine, steps, reports)?;
     let answer = answered(alloc, &machine)?;
     Ok(Measured {
         answer,
@@ -146,18 +156,25 @@ fn run(
 }
 
 /// What a module's run of `main` answers, the word in `result` and the data that it stands for, with the run's figures: the module is written as its shortest bytes, these are read and checked again, and that module is run by a machine whose memory grows to at most `cap` pages of 65,536 bytes, in at most
-/// `steps` steps.
+/// `steps` steps. Where there is an answer, each report is told the facts of that run: each step with its class, and each grow of memory that wasn't refused.
 ///
 /// `ModuleBytes` exactly where the bytes pass 16 MiB; `StepsSpent` exactly where the run hadn't ended after so many steps; `Exhausted` exactly where it trapped with
 /// the status 1, and `Trapped` exactly where it trapped with another; `NoValue` exactly where it returned and the word in `result` stands for no data, with that
 /// word; `AnswerNodes` exactly where the data has over 4,000,000 nodes.
-pub fn answer_of(alloc: Global, m: &Valid, cap: u32, steps: u64) -> Result<Measured, RunRefusal>
+pub fn answer_of<R: Report>(
+    alloc: Global,
+    m: &Valid,
+    cap: u32,
+    steps: u64,
+    reports: &mut Vec<R>,
+) -> Result<Measured, RunRefusal>
     requires starts { refusal m.now cap ≡ None }
     ensures says { FigureSays m.now cap steps result }
+    ensures told { OnOk result (RunIsTold R.shown m.now cap steps reports.old.items reports.new.items) }
     ensures spelled { IfOk result (λ _. SpellsModule (module_bytes m.now) m.now) }
 {
     let _module = m.module();
     let bytes = written(alloc, m)?;
     let program = loaded(alloc, bytes.as_slice())?;
-    run(alloc, &program, bytes.len(), cap, steps)
+    run(alloc, &program, bytes.len(), cap, steps, reports)
 }

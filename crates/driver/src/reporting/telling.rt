@@ -1,54 +1,26 @@
 //! Telling reports the facts of a check.
-ghost use Rattle.std.specs.Prelude.{◌≡◌, replicate};
-ghost use Rattle.std.specs.List.{AllZip};
-ghost use Rattle.driver.specs.ReportedFacts.{facts_of, rule_facts};
-ghost use Rattle.reports.specs.Counting.{after};
-ghost use Rattle.reports.specs.Shown.{IsTold};
+ghost use Rattle.reports.specs.Counting.{numbered};
+ghost use Rattle.reports.specs.declared.fact.Fact.TheVariants.{RuleUsed};
+ghost use Rattle.module_run.specs.RunFacts.{AreTold};
+ghost use Rattle.driver.specs.ReportedFacts.{facts_of};
 
 use crate::reporting::facts::Facts;
-use reports::{Fact, Report};
+use reports::{Fact, Report, tell};
 
-/// Tells a report a fact.
-fn tell_once(report: &mut Box<dyn Report>, fact: Fact)
-    ensures counted { (shown report.new).counted ≡ after ((shown report.old).wanted fact) (shown report.old).counted }
-    ensures wanted { (shown report.new).wanted ≡ (shown report.old).wanted }
-    ensures named { (shown report.new).named ≡ (shown report.old).named }
-{
-    report.see(fact);
-}
-
-/// Tells a report a fact so many times.
-fn tell_times(report: &mut Box<dyn Report>, fact: Fact, times: u64)
-    ensures told { IsTold (replicate times fact) (shown report.old) (shown report.new) }
-{
-    for _ in 0..times {
-        tell_once(report, fact);
-    }
-}
-
-/// Tells a report the uses of the rules.
-fn tell_uses(report: &mut Box<dyn Report>, uses: &[u64; 12])
-    ensures told { IsTold (rule_facts 1 uses.now) (shown report.old) (shown report.new) }
+/// Tells each report the uses of the rules, by rising number.
+fn tell_uses<R: Report>(reports: &mut Vec<R>, uses: &[u64; 12])
+    ensures told { AreTold R.shown (numbered RuleUsed 1 uses.now) reports.old.items reports.new.items }
 {
     for rule in 0..12 {
-        tell_times(report, Fact::RuleUsed(rule + 1), uses[rule as usize]);
+        tell(reports, Fact::RuleUsed(rule + 1), uses[rule as usize]);
     }
 }
 
-/// Tells a report the facts of a check.
-fn tell_one(report: &mut Box<dyn Report>, facts: &Facts)
-    ensures told { IsTold (facts_of facts.now) (shown report.old) (shown report.new) }
+/// Tells each report the facts of a check.
+pub(crate) fn tell_check<R: Report>(reports: &mut Vec<R>, facts: &Facts)
+    ensures told { AreTold R.shown (facts_of facts.now) reports.old.items reports.new.items }
 {
-    tell_times(report, Fact::DeclKept, facts.declarations);
-    tell_times(report, Fact::AxiomKept, facts.axioms);
-    tell_uses(report, &facts.uses);
-}
-
-/// Tells each report the facts of a check, in order.
-pub(crate) fn tell(reports: &mut Vec<Box<dyn Report>>, facts: &Facts)
-    ensures told { AllZip (λ b c. IsTold (facts_of facts.now) (shown b) (shown c)) reports.old.items reports.new.items }
-{
-    for report in reports.iter_mut() {
-        tell_one(report, facts);
-    }
+    tell(reports, Fact::DeclKept, facts.declarations);
+    tell(reports, Fact::AxiomKept, facts.axioms);
+    tell_uses(reports, &facts.uses);
 }

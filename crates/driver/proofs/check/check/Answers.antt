@@ -1,11 +1,12 @@
 use Rattle.std.specs.Prelude.{codes}
 use Rattle.command_line.specs.declared.job.Job.TheVariants.{Check}
 use Rattle.driver.proofs.Answering.{cause_of, checked_says, exit_says, ok_anyway, says}
+use Rattle.driver.proofs.JobTold.{of_check}
 use Rattle.driver.proofs.TextCauses.{within_limits}
 use Rattle.driver.proofs.check.check.Goals as goal
 
 pub returns-in_err-accept-clause-says : goal.returns-in_err-accept-clause-says
-returns-in_err-accept-clause-says c =
+returns-in_err-accept-clause-says g c =
     let e = c.in_ok-environment.environment in
     let bytes = c.args.bytes.now in
     let r = c.in_err-accept.field-0.0 in
@@ -13,7 +14,7 @@ returns-in_err-accept-clause-says c =
     (within_limits bytes e c.in_ok-environment.ensures.exact) tt (cause_of c.args.request.turns r e c.in_err-accept.ensures.says))
 
 pub returns-clause-says : goal.returns-clause-says
-returns-clause-says c =
+returns-clause-says g c =
     let bytes = c.args.bytes.now in
     let e = c.in_ok-environment.environment in
     says (λ v. v.items) Check c.args.request c.accepted_text.result bytes (codes "ok\n") (λ text is. record {
@@ -25,5 +26,8 @@ returns-clause-says c =
       text_is = is;
     }) c.accepted_text.ensures.text c.accepted_text.ensures.only_memory
 
-pub returns-clause-facts : goal.returns-clause-facts
-returns-clause-facts c = ok_anyway c.accepted_text.result (c.in_ok-environment.environment, within_limits c.args.bytes.now c.in_ok-environment.environment c.in_ok-environment.ensures.exact, c.in_ok-accept.ensures.facts)
+pub returns-clause-told : goal.returns-clause-told
+returns-clause-told g c =
+    let e = c.in_ok-environment.environment in
+    let bytes = c.args.bytes.now in
+    ok_anyway c.accepted_text.result (of_check g.R.Report.shown c.args.request bytes e _ _ (within_limits bytes e c.in_ok-environment.ensures.exact) c.in_ok-accept.ensures.told)

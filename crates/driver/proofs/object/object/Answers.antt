@@ -3,7 +3,7 @@ use Rattle.driver.proofs.MadeSaying.{bytes_say}
 use Rattle.driver.proofs.object.object.Goals as goal
 
 pub returns-clause-says : goal.returns-clause-says
-returns-clause-says c = bytes_say c.args.request c.requires.range c.args.bytes.now c.in_ok-main.main c.in_ok-main.ensures.says (λ v. v.items) c.written.result c.written.ensures.says
+returns-clause-says g c = bytes_say c.args.request c.requires.range c.args.bytes.now c.in_ok-main.main c.in_ok-main.ensures.says (λ v. v.items) c.written.result c.written.ensures.says
 
-pub returns-clause-facts : goal.returns-clause-facts
-returns-clause-facts c = ok_anyway c.written.result c.in_ok-main.ensures.facts
+pub returns-clause-told : goal.returns-clause-told
+returns-clause-told g c = ok_anyway c.written.result c.in_ok-main.ensures.told

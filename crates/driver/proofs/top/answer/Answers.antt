@@ -4,7 +4,7 @@ use Rattle.std.specs.declared.alloc.Global.{Global}
 use Rattle.driver.specs.Serve.{IsInputOf, Says}
 use Rattle.command_line.specs.Line.{words_of}
 use Rattle.driver.proofs.Answering.{exit_at}
-use Rattle.driver.proofs.Inputs.{answer_says, input_says, job_facts, request_says}
+use Rattle.driver.proofs.Inputs.{answer_says, input_says, job_told, request_says}
 use Rattle.driver.proofs.top.answer.Goals as goal
 
 pub returns-in_err-request-clause-says : goal.returns-in_err-request-clause-says
@@ -25,8 +25,8 @@ returns-clause-says g c =
     let input = subst (λ b. IsInputOf q.job q (g.S.Source.left c.args.src.now) b) (sym c.as_slice.ensures.value) c.in_ok-bytes.ensures.says in
     answer_says {V = Vec ℕ Global} (λ v. v.items) (words_of c.args.words.now) (g.S.Source.left c.args.src.now) (g.S.Source.faults c.args.src.now) (g.S.Source.faults c.input_of.new.src) q c.in_ok-request.ensures.reads c.as_slice.result.now input c.answer_on.result c.answer_on.ensures.says
 
-pub returns-clause-facts : goal.returns-clause-facts
-returns-clause-facts g c =
+pub returns-clause-told : goal.returns-clause-told
+returns-clause-told g c =
     let q = c.in_ok-request.request in
     let input = subst (λ b. IsInputOf q.job q (g.S.Source.left c.args.src.now) b) (sym c.as_slice.ensures.value) c.in_ok-bytes.ensures.says in
-    job_facts {V = Vec ℕ Global} (λ v. v.items) (words_of c.args.words.now) (g.S.Source.left c.args.src.now) 0 0 q c.in_ok-request.ensures.reads c.as_slice.result.now input c.answer_on.result c.answer_on.new.facts c.answer_on.ensures.facts
+    job_told {V = Vec ℕ Global} (λ v. v.items) (words_of c.args.words.now) (g.S.Source.left c.args.src.now) 0 0 q c.in_ok-request.ensures.reads c.as_slice.result.now input g.R.Report.shown c.answer_on.result _ _ c.answer_on.ensures.told

@@ -2,18 +2,21 @@ use Rattle.std.proofs.lemmas.Result.{err_from_is_err_and}
 use Rattle.module_run.proofs.Ending.{answer_measured, exit_answer, exit_ends}
 use Rattle.module_run.proofs.answering.run.Goals as goal
 
-pub returns-in_err-returned : goal.returns-in_err-returned
-returns-in_err-returned c =
+pub returns-in_err-returned-clause-says : goal.returns-in_err-returned-clause-says
+returns-in_err-returned-clause-says g c =
     let exit = err_from_is_err_and c.from_residual-in_err-returned.result c.from_residual-in_err-returned.ensures.1 in
-    record { says = exit_ends c.args.program.now c.args.cap c.args.steps c.requires.small c.returned.new.machine c.from_residual-in_err-returned.result c.in_err-returned.field-0.0 exit (c.in_err-returned.ensures.says c.args.program.now c.args.cap c.in_ok-machine.ensures.fresh) }
+    exit_ends c.args.program.now c.args.cap c.args.steps c.requires.small c.returned.new.machine c.from_residual-in_err-returned.result c.in_err-returned.field-0.0 exit (c.in_err-returned.ensures.says c.args.program.now c.args.cap c.in_ok-machine.ensures.fresh)
 
-pub returns-in_err-answer : goal.returns-in_err-answer
-returns-in_err-answer c =
+pub returns-in_err-answer-clause-says : goal.returns-in_err-answer-clause-says
+returns-in_err-answer-clause-says g c =
     let exit = err_from_is_err_and c.from_residual-in_err-answer.result c.from_residual-in_err-answer.ensures.1 in
     let back = c.in_ok-returned.ensures.says c.args.program.now c.args.cap c.in_ok-machine.ensures.fresh in
-    record { says = exit_answer c.args.program.now c.args.cap c.args.steps c.requires.small c.returned.new.machine back c.from_residual-in_err-answer.result c.in_err-answer.field-0.0 exit c.in_err-answer.ensures.says }
+    exit_answer c.args.program.now c.args.cap c.args.steps c.requires.small c.returned.new.machine back c.from_residual-in_err-answer.result c.in_err-answer.field-0.0 exit c.in_err-answer.ensures.says
 
-pub returns : goal.returns
-returns c =
+pub returns-clause-says : goal.returns-clause-says
+returns-clause-says g c =
     let back = c.in_ok-returned.ensures.says c.args.program.now c.args.cap c.in_ok-machine.ensures.fresh in
-    record { says = answer_measured c.args.program.now c.args.cap c.args.steps c.requires.small c.returned.new.machine back c.in_ok-answer.answer c.in_ok-answer.ensures.says _ _ _ c.requires.length c.steps.ensures.is c.pages.ensures.is }
+    answer_measured c.args.program.now c.args.cap c.args.steps c.requires.small c.returned.new.machine back c.in_ok-answer.answer c.in_ok-answer.ensures.says _ _ _ c.requires.length c.steps.ensures.is c.pages.ensures.is
+
+pub returns-clause-told : goal.returns-clause-told
+returns-clause-told g c = c.in_ok-returned.ensures.told c.args.program.now c.args.cap c.in_ok-machine.ensures.fresh

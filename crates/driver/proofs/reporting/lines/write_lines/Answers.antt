@@ -1,7 +1,7 @@
 use Rattle.std.proofs.Common.{◌≡◌, ◌≤◌, ◌<◌, ◌+◌, refl, ap, inl, get_or, map, length, arith}
 use Rattle.std.proofs.Math.Seq.{take_all}
 use Rattle.driver.specs.ReportLines.{lines}
-use Rattle.driver.proofs.FactByFact.{lines_more, lines_split}
+use Rattle.driver.proofs.LineByLine.{lines_more, lines_split}
 use Rattle.driver.proofs.PartByPart.{appends_as, appends_both, appends_none, line_cut, line_then, takes_as, tells_same, tells_then}
 use Rattle.driver.proofs.reporting.lines.write_lines.Goals as goal
 
