@@ -97,12 +97,10 @@ arguments_fit E h f ps bs n c ret v T qs xs i d F C rs k at e =
 abbrev Continues : Env → BoxProgram → Term → Term → ℕ → Type 0
 Continues E P u v k = (x : BoxTerm) → Erases E [] u x → Named P.constants x → Follows E P v x k
 
-beta_followed : {E : Env} {P : BoxProgram} → Together E P → {A b u v : Term} {f' a' : BoxTerm} {n m k : ℕ} (r : Follows E P (Lambda A b) f' n) → Follows E P u a' m → (x : BoxTerm) → r.result ≡ x →
-    Erases E [] (Lambda A b) x → Named P.constants x → Types bare E [] u A → (Erasable E [] (Lambda A b) → Erasable E [] v) → Continues E P (substitute (put u) b) v k →
-    Follows E P v (BApp f' a') (suc (n + m + k))
-beta_followed K r s x e (box p) names typed passes next = boxed_function r s (omega arith) e passes
-beta_followed {P = P} K {f' = f'} r s x e (lambda {b' = b'} p) names typed passes next =
-    let last = next (substitute (put s.result) b') (put_erases K.ready.closed (fits_assumed typed) s.erased p) (named_put P b' s.result names.1.0 s.named) in
+-- an application that goes on with a contractum
+goes_on : {E : Env} {P : BoxProgram} {f' a' x : BoxTerm} {g u v : Term} {n m k : ℕ} (r : Follows E P g f' n) (s : Follows E P u a' m) (last : Follows E P v x k) →
+    BoxEvaluates P (BApp f' a') last.result (suc (r.nodes + s.nodes + last.nodes)) (r.matches + s.matches + last.matches) → Follows E P v (BApp f' a') (suc (n + m + k))
+goes_on r s last runs =
     let l = r.fewer in
     let l' = s.fewer in
     let l'' = last.fewer in
@@ -111,10 +109,18 @@ beta_followed {P = P} K {f' = f'} r s x e (lambda {b' = b'} p) names typed passe
       matches = r.matches + s.matches + last.matches;
       result = last.result;
       fewer = omega arith;
-      runs = after.beta (subst (λ x. BoxEvaluates P f' x r.nodes r.matches) e r.runs) s.runs last.runs;
+      runs = runs;
       erased = last.erased;
       named = last.named;
     }
+
+beta_followed : {E : Env} {P : BoxProgram} → Together E P → {A b u v : Term} {f' a' : BoxTerm} {n m k : ℕ} (r : Follows E P (Lambda A b) f' n) → Follows E P u a' m → (x : BoxTerm) → r.result ≡ x →
+    Erases E [] (Lambda A b) x → Named P.constants x → Types bare E [] u A → (Erasable E [] (Lambda A b) → Erasable E [] v) → Continues E P (substitute (put u) b) v k →
+    Follows E P v (BApp f' a') (suc (n + m + k))
+beta_followed K r s x e (box p) names typed passes next = boxed_function r s (omega arith) e passes
+beta_followed {P = P} K {f' = f'} r s x e (lambda {b' = b'} p) names typed passes next =
+    let last = next (substitute (put s.result) b') (put_erases K.ready.closed (fits_assumed typed) s.erased p) (named_put P b' s.result names.1.0 s.named) in
+    goes_on r s last (after.beta (subst (λ x. BoxEvaluates P f' x r.nodes r.matches) e r.runs) s.runs last.runs)
 
 extend_followed : {E : Env} {P : BoxProgram} {g u : Term} {f' a' : BoxTerm} {n m : ℕ} (r : Follows E P g f' n) → Follows E P u a' m → (r.result ≡ Box) ⊎ BoxTakesMore P r.result →
     (Erasable E [] g → Erasable E [] (App g u)) → Follows E P (App g u) (BApp f' a') (suc (n + m))
@@ -138,18 +144,7 @@ unfold_followed : {E : Env} {P : BoxProgram} {g u x v : Term} {f' a' : BoxTerm} 
 unfold_followed r s (inl e) passes next = boxed_function r s (omega arith) e passes
 unfold_followed {P = P} r s (inr (x', turns, p)) passes next =
     let last = next x' p (named_unfolds P turns r.named s.named) in
-    let l = r.fewer in
-    let l' = s.fewer in
-    let l'' = last.fewer in
-    record {
-      nodes = suc (r.nodes + s.nodes + last.nodes);
-      matches = r.matches + s.matches + last.matches;
-      result = last.result;
-      fewer = omega arith;
-      runs = after.unfold_fix r.runs s.runs turns last.runs;
-      erased = last.erased;
-      named = last.named;
-    }
+    goes_on r s last (after.unfold_fix r.runs s.runs turns last.runs)
 
 pub lemmas_followed : {E : Env} {P : BoxProgram} → Together E P → {t v : Term} {n : ℕ} → EvaluatesOverLemmas E t v n → {T : Term} → Types bare E [] t T → (t' : BoxTerm) → Erases E [] t t' →
     Named P.constants t' → Follows E P v t' n
