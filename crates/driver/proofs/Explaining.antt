@@ -36,6 +36,11 @@ use Rattle.driver.specs.Serve.{IsAnswerOf, JobSays}
 use Rattle.driver.proofs.Checking.{accepted_with, broken_within}
 use Rattle.driver.proofs.SourceCauses.{accepted_by}
 
+-- a text behind a line, of which another name is known
+pub behind_as : {V : Type 0} (view : V → List ℕ) (x : Result V Refusal) (line text told : List ℕ) → text ≡ told → IfOk x (λ v. view v ≡ line ++ text) → IfOk x (λ v. view v ≡ line ++ told)
+behind_as view (Ok v) line text told same h = h ∙ ap (λ t. line ++ t) same
+behind_as view (Err r) line text told same h = tt
+
 -- the text of a broken rule: its line with the place as it is told, and what explains it
 pub broken_says : {V : Type 0} (view : V → List ℕ) (x : Result V Refusal) (e : RawEnv) (p : Place) (b : Broken) (told : Where) (n : ℕ) (text : List ℕ) → n ≡ number_of b → IsTold e p told →
     text ≡ explain_broken e p b → IfOk x (λ v. view v ≡ line_of (refusals.Broken n told) ++ text) → IfOk x (λ v. IsBrokenText e p b (view v))

@@ -20,6 +20,7 @@ fn name_of(job: Job) -> &'static str {
         Job::Run => "run",
         Job::Compile => "compile",
         Job::Bench => "bench",
+        Job::Explain => "explain",
     }
 }
 
