@@ -51,9 +51,15 @@ no_body h {b = b} p q = let e : None ≡ Some b = ap body_in (one_declaration h.
 
 lemma_boxed : {E : Env} {P : BoxProgram} → Together E P → {v : Term} {w : BoxTerm} → IsLemma E v → Erases E [] v w → Named P.constants w → w ≡ Box
 lemma_boxed K l (box p) g = refl
+lemma_boxed K l rel g = elim l [ ]
+lemma_boxed K l (lambda p) g = elim l [ ]
+lemma_boxed K l (Erases.let_in p q) g = elim l [ ]
+lemma_boxed K l (app p q) g = elim l [ ]
+lemma_boxed K l (construct k e) g = elim l [ ]
+lemma_boxed K l (fix Ts q) g = elim l [ ]
 lemma_boxed K (without_body {k = k} kept e) const g =
-    let (b', there) = g.0 in
-    let (U, b, c, p) = K.serves.bodies k b' there in
+    let (b', has) = g.0 in
+    let (U, b, c, p) = K.serves.bodies k b' has in
     absurd (no_body K.accepted kept c)
 lemma_boxed {E} K (among_proofs {f = f} {F = F} kept n e) (case {F = G} ps kept' may l q bodies) g = absurd (n (subst (λ F. MayErase E f F) (K.ready.one_each.families f G F kept' kept) may))
 
@@ -161,11 +167,11 @@ lemmas_followed K (value i) d t' (case ps kept may l q bodies) g = elim i [ ]
 lemmas_followed {E} {P} K {v = v} (lemma_is l) d t' p g = subst (λ t'. Follows E P v t' 1) (sym (lemma_boxed K l p g)) (boxed (omega arith) (lemma_erasable l))
 -- constants and lets
 lemmas_followed {E} K (EvaluatesOverLemmas.constant {k = k} {T = U} {b = b} c e) {T} d t' const g =
-    let (b', there) = g.0 in
-    let (T', b₁, c', p) = K.serves.bodies k b' there in
-    let r = lemmas_followed K e (constant_keeps E K.accepted [] k U b T IsContext.empty c d) b' (subst (λ b. Erases E [] b b') (K.ready.one_each.bodies k T' U b₁ b c' c) p) (K.serves.named k b' there) in
+    let (b', has) = g.0 in
+    let (T', b₁, c', p) = K.serves.bodies k b' has in
+    let r = lemmas_followed K e (constant_keeps E K.accepted [] k U b T IsContext.empty c d) b' (subst (λ b. Erases E [] b b') (K.ready.one_each.bodies k T' U b₁ b c' c) p) (K.serves.named k b' has) in
     let l = r.fewer in
-    record { nodes = suc r.nodes; matches = r.matches; result = r.result; fewer = omega arith; runs = after.constant there r.runs; erased = r.erased; named = r.named }
+    record { nodes = suc r.nodes; matches = r.matches; result = r.result; fewer = omega arith; runs = after.constant has r.runs; erased = r.erased; named = r.named }
 lemmas_followed {E} {P} K (let_in {b = b} {B = B} {t = body} {v = u} e e') {T} d t' (Erases.let_in {t' = u'} p q) g =
     let h = K.accepted in
     let k = lemmas_keep E h e in
