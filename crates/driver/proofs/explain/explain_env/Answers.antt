@@ -14,5 +14,5 @@ returns-in-Ok-clause-says c =
     acceptance_says c.args.turns c.args.raw.now m c.check_env.new.m c.units-meter.ensures.nest c.units-meter.ensures.account (λ v. v.items) c.accepted_text.result c.in-Ok.field-0 c.check_facts.result c.in-Ok.ensures.follows c.in-Ok.ensures.well_formed
     c.check_facts.ensures.is c.accepted_text.ensures.text
 
-pub returns-in-Err-clause-says : goal.returns-in-Err-clause-says
-returns-in-Err-clause-says c = refusal_says (λ v. v.items) c.text_of.result c.args.turns c.args.raw.now c.args.facts.now c.requires.none c.text_of.ensures.text
+pub returns-clause-says : goal.returns-clause-says
+returns-clause-says c = refusal_says (λ v. v.items) c.text_of.result c.args.turns c.args.raw.now c.args.facts.now c.requires.none c.text_of.ensures.text
