@@ -1,5 +1,3 @@
-use Rattle.std.proofs.Common.{Err, subst}
-use Rattle.env_check.specs.Answers.{FollowsRules}
 use Rattle.driver.proofs.Explaining.{acceptance_says, fault_says, refusal_says}
 use Rattle.driver.proofs.explain.explain_env.Goals as goal
 
