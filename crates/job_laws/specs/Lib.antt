@@ -1,2 +1,3 @@
 pub mod EvalLaws
 pub mod ReportLaws
+pub mod OneAnswer
