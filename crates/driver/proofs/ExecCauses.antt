@@ -171,7 +171,7 @@ module _ (turns : ℕ) (e : RawEnv) where
   abbrev erasing_of : Searching turns e → Placed Answer
   erasing_of x = erasure_of x.before.kept e.main x.left
 
-  one_acceptance : (x y : Accepting turns e) → (x.kept ≡ y.kept) × (x.type ≡ y.type) × (x.left ≡ y.left)
+  pub one_acceptance : (x y : Accepting turns e) → (x.kept ≡ y.kept) × (x.type ≡ y.type) × (x.left ≡ y.left)
   one_acceptance x y = accepts_inj x.kept y.kept x.type y.type x.left y.left (sym (plainly turns e x.kept x.type x.left x.accepted) ∙ plainly turns e y.kept y.type y.left y.accepted)
 
   one_search : (x y : Accepting turns e) → search_of x ≡ search_of y
@@ -289,7 +289,7 @@ module _ (turns : ℕ) (e : RawEnv) where
       end_alike (Err r) (Ok t) (n, h) k = absurd (never_both t r k h n)
       end_alike (Err r) (Err q) (n, h) (m, k) = refuse_alike r q h k n m
 
-    accepting_of : (r : Refusal) → Refuses turns e pages steps r → Accepting turns e
+    pub accepting_of : (r : Refusal) → Refuses turns e pages steps r → Accepting turns e
     accepting_of r (in_search x w h) = x
     accepting_of r (in_erasure x w h) = x.before
     accepting_of r (in_passes x h) = x.before.before

@@ -60,7 +60,7 @@ stuck_status : (x : End Ended) (w : Account) → IsStuck x w → source_status x
 stuck_status x w (inl (t, e)) = ap source_status e
 stuck_status x w (inr (k, e)) = ap source_status e
 
-end_status : (r : Refusal) (run : Run Ended) (w : Account) → ShowsEnd r run w → run.deep ≡ false → source_status run.end ≡ status_of r
+pub end_status : (r : Refusal) (run : Run Ended) (w : Account) → ShowsEnd r run w → run.deep ≡ false → source_status run.end ≡ status_of r
 end_status refusals.TurnsSpent run w h d = ap source_status h
 end_status refusals.Depth run w h d = absurd (deep_or_not run.deep h d)
 end_status refusals.NotFirstOrder run w h d = ap source_status h.1

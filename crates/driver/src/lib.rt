@@ -6,8 +6,8 @@
 //! (in `eval.rt`) goes on to main's first-order types, its value by the source's own evaluation, the data that this is, and its text.
 //! `main_module.rt` lists the stages to main's module, that `exec` and `compile` share: read, check, first-order types, erasure (`erasing.rt`), the passes (`running.rt`). `exec` (in
 //! `exec.rt`) goes on to that module's answer (`running.rt`) and its text; `compile` (in `object.rt`) writes its bytes. `run` (in `run.rt`) gives the text of the answer of the module
-//! that is its input. `bench` (in `bench.rt`) does on its text what `exec` does, and writes the figures of that. After the check its facts are noted (`facts.rt`), which the caller's
-//! reports are told where the status is 0 (`reporting.rt`).
+//! that is its input. `bench` (in `bench.rt`) does on its text what `exec` does, and writes the figures of that. After the check the caller's reports are told its facts (`facts.rt`, `reporting.rt`), and
+//! `exec`, `bench` and `run` have them told those of the run (`module_run`); where the status is 0 their lines are written.
 //!
 //! What `serve` promises: on status 0 the input spells an environment that is well formed, or by `explain` one that the check
 //! refuses, and out takes what explains that, or `ok`, or, by `eval`, the text of main's value, or, by `exec`, the text of the
@@ -24,7 +24,8 @@
 //! rules), `PlainAnswer` (what is answered on them), `SourceEnds` (how `eval` ends after the check), `SourceSays` (what its stages say), `EvaluatedSource` (its answer), `Evaluable` (where it has one), `ExecEnds` (what the
 //! stages of `exec` say, and how it ends), `Executed` (its answer), `ErasureParts` (what the code of erasure says), `MainModule` (what the stages to main's module hand on), `MadeModule` (the answer of `compile`, and how it
 //! ends), `Headline` (what is owed to an evaluation of main), `RunFile` (the answer of `run` and its refusals), `Explained` and `ExplainSays` (the answer of `explain` where
-//! the check refuses, and what its stages say), `Bench`, `Figures` and `Benched` (the lines of `bench`, and its answer), `CheckFacts` (the facts of a check). Which
+//! the check refuses, and what its stages say), `Bench`, `Figures` and `Benched` (the lines of `bench`, and its answer), `CheckFacts` (the facts of a check),
+//! `JobFacts` (those of a job). Which
 //! bytes spell which environment, and what a text's first refusal is, are definitions of `dump_grammar` and `dump_reader`; which environments are well formed is one of `rule_laws` over those of `pc_rules`; what erasure and
 //! the passes give is defined in `erase_rules` and `back_end`; what modules, their bytes, typings and runs are, in `wasm_core`; what a report's line is, in `ReportLines`.
 //!

@@ -69,7 +69,13 @@ pub(crate) fn run<R: Report>(
     ensures says { JobSays Run request (λ v. v.items) result bytes.now }
     ensures told { OnOk result (JobIsTold R.shown Run request bytes.now reports.old.items reports.new.items) }
 {
-    match answer_of_file(alloc, bytes, request.pages, u64::from(request.steps), reports) {
+    match answer_of_file(
+        alloc,
+        bytes,
+        request.pages,
+        u64::from(request.steps),
+        reports,
+    ) {
         Ok(tree) => line_of(alloc, &tree),
         Err(why) => Err(refused(why)),
     }

@@ -1,3 +1,4 @@
 pub mod EvalLaws
 pub mod ReportLaws
 pub mod ExplainLaws
+pub mod OneAnswer
