@@ -67,18 +67,53 @@ let full_names closure =
   table
 
 (* A line of the program with the last word, where it is a name of the dump, as Coq has it. *)
-let with_full_name names line =
+let with_last_name names line =
   match List.rev (String.split_on_char ' ' line) with
   | last :: ("declaration" | "axiom" as before) :: rest ->
     String.concat " " (List.rev (Option.default last (Hashtbl.find_opt names last) :: before :: rest))
   | _ -> line
 
-let explained names line =
-  let told = with_full_name names line in
+let told_of_refusal names line =
+  let told = with_last_name names line in
   match String.split_on_char ' ' line with
   | "broken" :: number :: _ -> Printf.sprintf "%s: %s" told (meaning (int_of_string number))
   | "turns" :: _ -> told ^ " (Set Erasec Turns 4294967295 allows the most; Set Dump Opaque Axioms checks less)"
   | _ -> told
+
+let words job = erasec () :: job :: (match !turns with None -> [] | Some n -> ["--turns"; string_of_int n])
+
+(* ------------------------------------------------------------------ explanations *)
+
+(* The atoms of a line with what stands between them, in order. *)
+let pieces line =
+  let between c = String.contains " ()," c in
+  let rec from start =
+    if start >= String.length line then [] else begin
+      let inside = not (between line.[start]) in
+      let stop = ref (start + 1) in
+      while inside && !stop < String.length line && not (between line.[!stop]) do incr stop done;
+      String.sub line start (!stop - start) :: from !stop
+    end in
+  from 0
+
+(* A line of an explanation in which names are Coq's full ones: those that follow a head which is followed by a name, or all in a line whose label says that a name stands there. *)
+let with_full_names names line =
+  let bare = List.exists (fun label -> CString.is_prefix label line) ["place: "; "only where: "; "name: "; "family of: "] in
+  let full (before, written) piece =
+    if List.mem piece [" "; "("; ")"; ","] then before, piece :: written
+    else
+      let is_name = bare || List.mem before ["tConst"; "tInd"; "tConstruct"; "tCase"] in
+      piece, (if is_name then Option.default piece (Hashtbl.find_opt names piece) else piece) :: written in
+  String.concat "" (List.rev (snd (List.fold_left full ("", []) (pieces line))))
+
+(* What the job explain says of a refusal of the check, behind the line of the refusal. *)
+let explanation names ~dump line =
+  let text = Filename.temp_file "erasec" ".explained" in
+  Fun.protect ~finally:(fun () -> Dumping.remove text) (fun () ->
+    let status, _ = run (words "explain") ~input:dump ~output:text in
+    match if status = 0 then String.split_on_char '\n' (String.trim (text_of text)) else [] with
+    | first :: rest when first = line -> List.map (with_full_names names) rest
+    | _ -> [])
 
 (* ------------------------------------------------------------------ the commands *)
 
@@ -89,16 +124,16 @@ let with_dump c main use =
       let prepared = Dumping.to_file dump (fun put -> Dumping.dump put (Global.env ()) c main) in
       use prepared dump answer))
 
-let words job = erasec () :: job :: (match !turns with None -> [] | Some n -> ["--turns"; string_of_int n])
-
-(* A status other than 0 is an error that names the constant. *)
-let demand_answer job c prepared (status, said) =
+(* A status other than 0 is an error that names the constant, and explains a refusal of the check. *)
+let demand_answer job c prepared ~dump (status, said) =
   if status <> 0 then
-    let line = explained (full_names prepared.Preparing.closure) (List.hd (String.split_on_char '\n' said)) in
-    CErrors.user_err Pp.(str (Printf.sprintf "Erasec %s of %s ends with status %d: %s" job (Constant.to_string c) status line))
+    let names = full_names prepared.Preparing.closure and line = List.hd (String.split_on_char '\n' said) in
+    let explained = if List.mem status [7; 8; 9] then explanation names ~dump line else [] in
+    let told = Printf.sprintf "Erasec %s of %s ends with status %d: %s" job (Constant.to_string c) status (told_of_refusal names line) in
+    CErrors.user_err Pp.(prlist_with_sep fnl str (told :: List.map ((^) "  ") explained))
 
 (* Runs the job, which must have an answer. *)
-let asked job c prepared ~dump ~answer = demand_answer job c prepared (run (words job) ~input:dump ~output:answer)
+let asked job c prepared ~dump ~answer = demand_answer job c prepared ~dump (run (words job) ~input:dump ~output:answer)
 
 let axioms_told closure =
   match Explaining.axioms closure with
@@ -117,7 +152,7 @@ let check reference =
   let once ~may_go_on = with_dump c Preparing.Itself (fun prepared dump answer ->
     let status, said = run (words "check") ~input:dump ~output:answer in
     let goes_on = may_go_on && CString.is_prefix "broken 8 " said in
-    if not goes_on then begin demand_answer "check" c prepared (status, said); tell_check c prepared answer end;
+    if not goes_on then begin demand_answer "check" c prepared ~dump (status, said); tell_check c prepared answer end;
     goes_on) in
   if once ~may_go_on:(!Options.automatic && not !Options.contract_eta) then Options.contracting_eta (fun () -> ignore (once ~may_go_on:false))
 
