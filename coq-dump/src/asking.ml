@@ -47,64 +47,9 @@ let run words ~input ~output =
   | Unix.WEXITED status -> status, text
   | Unix.WSIGNALED n | Unix.WSTOPPED n -> 128 + n, Printf.sprintf "stopped by signal %d" n
 
-(* ------------------------------------------------------------------ what a refusal means *)
-
-(* Of the numbers of broken rules, what a user of Coq can make of each. *)
-let meaning = function
-  | 5 -> "the universe constraints have no solution"
-  | 8 -> "a term's type isn't below the one that is asked for; for Coq it may be by eta, by the irrelevance of a strict proposition, or by primitive projections"
-  | 12 -> "a fixpoint's body doesn't begin with its lambdas"
-  | 13 -> "a recursive call isn't on a smaller argument, as the written guard sees it"
-  | 14 -> "a constructor isn't strictly positive, as the written condition sees it"
-  | 15 -> "a constructor's argument has a larger sort than its family"
-  | _ -> "docs/STATUSES.md says what the number means"
-
-(* The names of a dump and Coq's full ones. *)
-let full_names closure =
-  let table = Hashtbl.create 97 in
-  Closure.Key.iter (fun (name, _) written -> Hashtbl.replace table written (KerName.to_string name)) closure.Closure.constants;
-  Closure.Key.iter (fun (name, _) written -> Hashtbl.replace table written (KerName.to_string name)) closure.Closure.blocks;
-  table
-
-(* A line of the program with the last word, where it is a name of the dump, as Coq has it. *)
-let with_last_name names line =
-  match List.rev (String.split_on_char ' ' line) with
-  | last :: ("declaration" | "axiom" as before) :: rest ->
-    String.concat " " (List.rev (Option.default last (Hashtbl.find_opt names last) :: before :: rest))
-  | _ -> line
-
-let told_of_refusal names line =
-  let told = with_last_name names line in
-  match String.split_on_char ' ' line with
-  | "broken" :: number :: _ -> Printf.sprintf "%s: %s" told (meaning (int_of_string number))
-  | "turns" :: _ -> told ^ " (Set Erasec Turns 4294967295 allows the most; Set Dump Opaque Axioms checks less)"
-  | _ -> told
+(* ------------------------------------------------------------------ the commands *)
 
 let words job = erasec () :: job :: (match !turns with None -> [] | Some n -> ["--turns"; string_of_int n])
-
-(* ------------------------------------------------------------------ explanations *)
-
-(* The atoms of a line with what stands between them, in order. *)
-let pieces line =
-  let between c = String.contains " ()," c in
-  let rec from start =
-    if start >= String.length line then [] else begin
-      let inside = not (between line.[start]) in
-      let stop = ref (start + 1) in
-      while inside && !stop < String.length line && not (between line.[!stop]) do incr stop done;
-      String.sub line start (!stop - start) :: from !stop
-    end in
-  from 0
-
-(* A line of an explanation in which names are Coq's full ones: those that follow a head which is followed by a name, or all in a line whose label says that a name stands there. *)
-let with_full_names names line =
-  let bare = List.exists (fun label -> CString.is_prefix label line) ["place: "; "only where: "; "name: "; "family of: "] in
-  let full (before, written) piece =
-    if List.mem piece [" "; "("; ")"; ","] then before, piece :: written
-    else
-      let is_name = bare || List.mem before ["tConst"; "tInd"; "tConstruct"; "tCase"] in
-      piece, (if is_name then Option.default piece (Hashtbl.find_opt names piece) else piece) :: written in
-  String.concat "" (List.rev (snd (List.fold_left full ("", []) (pieces line))))
 
 (* What the job explain says of a refusal of the check, behind the line of the refusal. *)
 let explanation names ~dump line =
@@ -112,10 +57,8 @@ let explanation names ~dump line =
   Fun.protect ~finally:(fun () -> Dumping.remove text) (fun () ->
     let status, _ = run (words "explain") ~input:dump ~output:text in
     match if status = 0 then String.split_on_char '\n' (String.trim (text_of text)) else [] with
-    | first :: rest when first = line -> List.map (with_full_names names) rest
+    | first :: rest when first = line -> Told.explanation names (Global.env ()) rest
     | _ -> [])
-
-(* ------------------------------------------------------------------ the commands *)
 
 let with_dump c main use =
   let dump = Filename.temp_file "erasec" ".dump" and answer = Filename.temp_file "erasec" ".answer" in
@@ -127,10 +70,10 @@ let with_dump c main use =
 (* A status other than 0 is an error that names the constant, and explains a refusal of the check. *)
 let demand_answer job c prepared ~dump (status, said) =
   if status <> 0 then
-    let names = full_names prepared.Preparing.closure and line = List.hd (String.split_on_char '\n' said) in
+    let names = Told.names_of prepared.Preparing.closure and line = List.hd (String.split_on_char '\n' said) in
+    let told = Printf.sprintf "Erasec %s of %s ends with status %d: %s" job (Constant.to_string c) status (Told.of_refusal names line) in
     let explained = if List.mem status [7; 8; 9] then explanation names ~dump line else [] in
-    let told = Printf.sprintf "Erasec %s of %s ends with status %d: %s" job (Constant.to_string c) status (told_of_refusal names line) in
-    CErrors.user_err Pp.(prlist_with_sep fnl str (told :: List.map ((^) "  ") explained))
+    CErrors.user_err Pp.(prlist_with_sep fnl (fun it -> it) (str told :: List.map (fun it -> str "  " ++ it) explained))
 
 (* Runs the job, which must have an answer. *)
 let asked job c prepared ~dump ~answer = demand_answer job c prepared ~dump (run (words job) ~input:dump ~output:answer)
