@@ -103,9 +103,15 @@ let loses_eta = function
   | 0 -> ""
   | _ -> "; records with primitive projections are written without eta"
 
+(* An argument at a sort that isn't below the one asked for. *)
+let is_about_levels = function
+  | Pretype_errors.PretypeError (_, sigma, Pretype_errors.TypingError (Type_errors.CantApplyBadType ((_, a, b), _, _))) -> EConstr.isSort sigma a && EConstr.isSort sigma b
+  | UGraph.UniverseInconsistency _ -> true
+  | _ -> false
+
 let guarded name f =
   try f () with
-  | UGraph.UniverseInconsistency _ -> conflict "%s: template polymorphism is needed at two levels (one copy of a template's levels can't serve all its uses)" name
+  | e when is_about_levels e -> conflict "%s: template polymorphism is needed at two levels (one copy of a template's levels can't serve all its uses)" name
   | Refused _ as e -> raise e
   | e when CErrors.noncritical e ->
     conflict "%s: as it is written it has no type%s (%s)" name (loses_eta !Notes.records) (String.concat " " (String.split_on_char '\n' (Pp.string_of_ppcmds (CErrors.print e))))

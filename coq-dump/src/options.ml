@@ -124,7 +124,11 @@ let tries choice =
     let own = { small with own_constraints = true } in
     let propositional = { own with propositional = true } in
     let copies sharing choice = { choice with sharing } in
-    CList.uniquize [choice; small; own; copies Each_declaration own; propositional; copies Each_declaration propositional; copies Each_use propositional]
+    (* Set as a level may be in the way of copies *)
+    let copies_at_set = copies Each_declaration { own with small = choice.small } in
+    CList.uniquize
+      [choice; small; own; copies Each_declaration own; copies_at_set; propositional; copies Each_declaration propositional; { copies_at_set with propositional = true };
+       copies Each_use propositional]
 
 (* The choice of the try that is under way. *)
 let current = ref (as_set ~axioms:false)
