@@ -47,40 +47,18 @@ let run words ~input ~output =
   | Unix.WEXITED status -> status, text
   | Unix.WSIGNALED n | Unix.WSTOPPED n -> 128 + n, Printf.sprintf "stopped by signal %d" n
 
-(* ------------------------------------------------------------------ what a refusal means *)
-
-(* Of the numbers of broken rules, what a user of Coq can make of each. *)
-let meaning = function
-  | 5 -> "the universe constraints have no solution"
-  | 8 -> "a term's type isn't below the one that is asked for; for Coq it may be by eta, by the irrelevance of a strict proposition, or by primitive projections"
-  | 12 -> "a fixpoint's body doesn't begin with its lambdas"
-  | 13 -> "a recursive call isn't on a smaller argument, as the written guard sees it"
-  | 14 -> "a constructor isn't strictly positive, as the written condition sees it"
-  | 15 -> "a constructor's argument has a larger sort than its family"
-  | _ -> "docs/STATUSES.md says what the number means"
-
-(* The names of a dump and Coq's full ones. *)
-let full_names closure =
-  let table = Hashtbl.create 97 in
-  Closure.Key.iter (fun (name, _) written -> Hashtbl.replace table written (KerName.to_string name)) closure.Closure.constants;
-  Closure.Key.iter (fun (name, _) written -> Hashtbl.replace table written (KerName.to_string name)) closure.Closure.blocks;
-  table
-
-(* A line of the program with the last word, where it is a name of the dump, as Coq has it. *)
-let with_full_name names line =
-  match List.rev (String.split_on_char ' ' line) with
-  | last :: ("declaration" | "axiom" as before) :: rest ->
-    String.concat " " (List.rev (Option.default last (Hashtbl.find_opt names last) :: before :: rest))
-  | _ -> line
-
-let explained names line =
-  let told = with_full_name names line in
-  match String.split_on_char ' ' line with
-  | "broken" :: number :: _ -> Printf.sprintf "%s: %s" told (meaning (int_of_string number))
-  | "turns" :: _ -> told ^ " (Set Erasec Turns 4294967295 allows the most; Set Dump Opaque Axioms checks less)"
-  | _ -> told
-
 (* ------------------------------------------------------------------ the commands *)
+
+let words job = erasec () :: job :: (match !turns with None -> [] | Some n -> ["--turns"; string_of_int n])
+
+(* What the job explain says of a refusal of the check, behind the line of the refusal. *)
+let explanation names ~dump line =
+  let text = Filename.temp_file "erasec" ".explained" in
+  Fun.protect ~finally:(fun () -> Dumping.remove text) (fun () ->
+    let status, _ = run (words "explain") ~input:dump ~output:text in
+    match if status = 0 then String.split_on_char '\n' (String.trim (text_of text)) else [] with
+    | first :: rest when first = line -> Told.explanation names (Global.env ()) rest
+    | _ -> [])
 
 let with_dump c main use =
   let dump = Filename.temp_file "erasec" ".dump" and answer = Filename.temp_file "erasec" ".answer" in
@@ -89,16 +67,16 @@ let with_dump c main use =
       let prepared = Dumping.to_file dump (fun put -> Dumping.dump put (Global.env ()) c main) in
       use prepared dump answer))
 
-let words job = erasec () :: job :: (match !turns with None -> [] | Some n -> ["--turns"; string_of_int n])
-
-(* A status other than 0 is an error that names the constant. *)
-let demand_answer job c prepared (status, said) =
+(* A status other than 0 is an error that names the constant, and explains a refusal of the check. *)
+let demand_answer job c prepared ~dump (status, said) =
   if status <> 0 then
-    let line = explained (full_names prepared.Preparing.closure) (List.hd (String.split_on_char '\n' said)) in
-    CErrors.user_err Pp.(str (Printf.sprintf "Erasec %s of %s ends with status %d: %s" job (Constant.to_string c) status line))
+    let names = Told.names_of prepared.Preparing.closure and line = List.hd (String.split_on_char '\n' said) in
+    let told = Printf.sprintf "Erasec %s of %s ends with status %d: %s" job (Constant.to_string c) status (Told.of_refusal names line) in
+    let explained = if List.mem status [7; 8; 9] then explanation names ~dump line else [] in
+    CErrors.user_err Pp.(prlist_with_sep fnl (fun it -> it) (str told :: List.map (fun it -> str "  " ++ it) explained))
 
 (* Runs the job, which must have an answer. *)
-let asked job c prepared ~dump ~answer = demand_answer job c prepared (run (words job) ~input:dump ~output:answer)
+let asked job c prepared ~dump ~answer = demand_answer job c prepared ~dump (run (words job) ~input:dump ~output:answer)
 
 let axioms_told closure =
   match Explaining.axioms closure with
@@ -117,7 +95,7 @@ let check reference =
   let once ~may_go_on = with_dump c Preparing.Itself (fun prepared dump answer ->
     let status, said = run (words "check") ~input:dump ~output:answer in
     let goes_on = may_go_on && CString.is_prefix "broken 8 " said in
-    if not goes_on then begin demand_answer "check" c prepared (status, said); tell_check c prepared answer end;
+    if not goes_on then begin demand_answer "check" c prepared ~dump (status, said); tell_check c prepared answer end;
     goes_on) in
   if once ~may_go_on:(!Options.automatic && not !Options.contract_eta) then Options.contracting_eta (fun () -> ignore (once ~may_go_on:false))
 

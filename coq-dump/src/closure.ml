@@ -8,12 +8,20 @@ open Textname
 type declaration =
   | Constant of { constant : Constant.t; instance : Univ.Instance.t; ty : constr; body : constr option }
   | Block of { block : MutInd.t; instance : Univ.Instance.t }
+  | Literal of { name : string; ty : constr } (* a primitive integer or float, as a constant without a body *)
 
 (* A canonical name at an instance of its universes. *)
 module Key = Hashtbl.Make (struct
   type t = KerName.t * Univ.Instance.t
   let equal (name, u) (name', u') = KerName.equal name name' && Univ.Instance.equal u u'
   let hash (name, u) = Hashset.Combine.combine (KerName.hash name) (Univ.Instance.hash u)
+end)
+
+(* Primitive integers and floats. *)
+module Literals = Hashtbl.Make (struct
+  type t = constr
+  let equal = Constr.equal
+  let hash = Constr.hash
 end)
 
 type t = {
@@ -23,6 +31,7 @@ type t = {
   mutable declarations : declaration list;        (* the newest first *)
   constants : string Key.t;                       (* the names in the dump *)
   blocks : string Key.t;
+  literals : string Literals.t;
   entered : unit Key.t;
   refused : string Key.t;                         (* declarations that can't be written, with the reason *)
   taken : taken;
@@ -32,7 +41,7 @@ type t = {
 }
 
 let start ?on_refusal ?(canonical_level = fun l -> l) written =
-  { written; canonical_level; on_refusal; declarations = []; constants = Key.create 97; blocks = Key.create 97;
+  { written; canonical_level; on_refusal; declarations = []; constants = Key.create 97; blocks = Key.create 97; literals = Literals.create 7;
     entered = Key.create 97; refused = Key.create 7; taken = Hashtbl.create 97; templates = [];
     other_constants = Cset_env.empty; other_blocks = Mindmap_env.empty }
 
@@ -44,6 +53,8 @@ let canonical_instance closure u =
 let constant_name closure c u = Key.find closure.constants (Constant.canonical c, canonical_instance closure u)
 let block_name closure m u = Key.find closure.blocks (MutInd.canonical m, canonical_instance closure u)
 
+let literal_name closure t = Literals.find closure.literals t
+
 let block_at closure m u = Block.at (Written.block closure.written m) (canonical_instance closure u)
 
 let is_strict () = !Options.current.Options.strict
@@ -51,6 +62,10 @@ let is_strict () = !Options.current.Options.strict
 let check_sort where = function
   | Sorts.SProp -> refuse "%s: SProp (Set Dump Strict Propositions writes it as Prop)" where
   | _ -> ()
+
+(* A primitive type, operation or literal, which the format has no form for: told, or refused. *)
+let check_primitive where what =
+  if not !Options.current.Options.primitives then refuse "%s: %s (Set Dump Primitive Axioms writes it as a constant without a body)" where what
 
 (* Visits a declaration once. A refusal is kept, and comes again where the declaration is met again. *)
 let once closure key where visit_it =
@@ -82,10 +97,19 @@ let rec visit closure where t =
     Array.iter (fun (_, body) -> visit closure where body) branches
   | Proj (p, _) -> refuse "%s: the primitive projection %s" where (Projection.to_string p)
   | CoFix _ -> refuse "%s: a cofixpoint" where
-  | Int _ -> refuse "%s: a primitive integer" where
-  | Float _ -> refuse "%s: a primitive float" where
+  | Int n -> visit_literal closure where t ~what:"integer" ~ty:(Typeops.type_of_int (env closure)) ~base:("int_" ^ Uint63.to_string n)
+  | Float x -> visit_literal closure where t ~what:"float" ~ty:(Typeops.type_of_float (env closure)) ~base:("float_" ^ Float64.to_string x)
   | Array _ -> refuse "%s: a primitive array" where
   | Fix _ | Prod _ | Lambda _ | LetIn _ | App _ -> Constr.iter (visit closure where) t
+
+and visit_literal closure where t ~what ~ty ~base =
+  check_primitive where ("a primitive " ^ what);
+  if not (Literals.mem closure.literals t) then begin
+    visit closure where ty;
+    let name = fresh closure.taken (String.map (fun c -> if c = '.' then '_' else c) base) in
+    Literals.add closure.literals t name;
+    closure.declarations <- Literal { name; ty } :: closure.declarations
+  end
 
 and visit_constant closure named u =
   let c = Written.canonical_constant closure.written named in
@@ -96,7 +120,9 @@ and visit_constant closure named u =
   once closure key where (fun () ->
     let constant = try Environ.lookup_constant c (env closure) with Not_found -> refuse "%s: no such constant" where in
     if constant.const_hyps <> [] then refuse "%s: it stands on section variables: close the section first" where;
-    if Environ.is_primitive_type (env closure) c then refuse "%s: a primitive type" where;
+    (match constant.const_body with
+     | Primitive _ -> check_primitive where (if Environ.is_primitive_type (env closure) c then "a primitive type" else "a primitive operation")
+     | Undef _ | Def _ | OpaqueDef _ -> ());
     let written = Written.constant closure.written c in
     let ty = Written.type_at written u and body = Written.body_at written u in
     visit closure where ty;
@@ -138,3 +164,11 @@ and visit_family closure where block place family =
     let args, result = Block.constructor_parts block place i in
     visit_all args;
     List.iter (visit closure where) result) family.mind_nf_lc
+
+(* How many of its declarations are primitive types, operations and literals. *)
+let primitives closure =
+  let is_primitive = function
+    | Literal _ -> true
+    | Block _ -> false
+    | Constant { constant; _ } -> (match (Environ.lookup_constant constant (env closure)).const_body with Primitive _ -> true | _ -> false) in
+  List.length (List.filter is_primitive closure.declarations)

@@ -18,6 +18,7 @@ let refusals env c =
 let axioms closure =
   let axiom = function
     | Closure.Constant { constant; body = None; _ } -> Some (Constant.to_string constant)
+    | Closure.Literal { name; _ } -> Some name
     | _ -> None in
   List.rev (CList.map_filter axiom closure.Closure.declarations)
 

@@ -34,7 +34,8 @@ let written_env (closure : Closure.t) =
     else Environ.add_constant c { old with const_type = ty; const_body } env in
   let with_declaration env = function
     | Closure.Constant { constant; _ } -> with_constant env constant
-    | Closure.Block { block; _ } -> Environ.add_mind block (Written.block written block) env in
+    | Closure.Block { block; _ } -> Environ.add_mind block (Written.block written block) env
+    | Closure.Literal _ -> env in
   let other_constant c env = Environ.add_constant c (Environ.lookup_constant (Written.canonical_constant written c) env) env in
   let other_block m () env = Environ.add_mind m (Environ.lookup_mind (Written.canonical_block written m) env) env in
   let env = List.fold_left with_declaration (Closure.env closure) (List.rev closure.Closure.declarations) in
@@ -102,9 +103,15 @@ let loses_eta = function
   | 0 -> ""
   | _ -> "; records with primitive projections are written without eta"
 
+(* An argument at a sort that isn't below the one asked for. *)
+let is_about_levels = function
+  | Pretype_errors.PretypeError (_, sigma, Pretype_errors.TypingError (Type_errors.CantApplyBadType ((_, a, b), _, _))) -> EConstr.isSort sigma a && EConstr.isSort sigma b
+  | UGraph.UniverseInconsistency _ -> true
+  | _ -> false
+
 let guarded name f =
   try f () with
-  | UGraph.UniverseInconsistency _ -> conflict "%s: template polymorphism is needed at two levels (one copy of a template's levels can't serve all its uses)" name
+  | e when is_about_levels e -> conflict "%s: template polymorphism is needed at two levels (one copy of a template's levels can't serve all its uses)" name
   | Refused _ as e -> raise e
   | e when CErrors.noncritical e ->
     conflict "%s: as it is written it has no type%s (%s)" name (loses_eta !Notes.records) (String.concat " " (String.split_on_char '\n' (Pp.string_of_ppcmds (CErrors.print e))))
@@ -119,6 +126,7 @@ let type_declaration closure env sigma = function
   | Closure.Block { block; instance } ->
     guarded (Names.MutInd.to_string block) (fun () ->
       type_block env (add_own_constraints closure sigma block instance) (Closure.block_at closure block instance))
+  | Closure.Literal _ -> sigma
 
 let template_of closure m = (Environ.lookup_mind m (Closure.env closure)).mind_template
 
@@ -152,7 +160,8 @@ let without_constraints env =
 
 let has_instances (closure : Closure.t) =
   let is_at_instance = function
-    | Closure.Constant { instance; _ } | Closure.Block { instance; _ } -> not (Univ.Instance.is_empty instance) in
+    | Closure.Constant { instance; _ } | Closure.Block { instance; _ } -> not (Univ.Instance.is_empty instance)
+    | Closure.Literal _ -> false in
   List.exists is_at_instance closure.Closure.declarations
 
 (* The evaluation map after all uses of the closure and of main. *)

@@ -15,6 +15,9 @@ let cumulative = ref 0
 (* Arguments of constructors whose types were reduced. *)
 let arguments = ref 0
 
+(* Primitive types, operations and literals that are constants without a body. *)
+let primitives = ref 0
+
 (* Whether SProp was written as Prop. *)
 let sprop = ref false
 
@@ -31,7 +34,7 @@ let shared = ref 0
 let etas = ref 0
 
 let reset () =
-  List.iter (fun count -> count := 0) [contractions; unfolded; records; cumulative; arguments; propositional; copies; shared; etas];
+  List.iter (fun count -> count := 0) [contractions; unfolded; records; cumulative; arguments; primitives; propositional; copies; shared; etas];
   sprop := false
 
 let counted count text = if !count = 0 then [] else [Printf.sprintf "%s: %d" text !count]
@@ -47,6 +50,7 @@ let phrases () =
     counted records "records with primitive projections written as plain families, without eta";
     counted cumulative "cumulative families written as plain ones";
     counted arguments "types of arguments reduced for positivity";
+    counted primitives "primitive types, operations and literals written as constants without a body";
     if_so !sprop "SProp is written as Prop";
     if_so choice.Options.small "Set is written as the level small";
     if_so choice.Options.own_constraints "levels have the constraints of this closure alone";

@@ -41,6 +41,9 @@ let plain_cumulative = declare ["Plain"; "Cumulative"]
 (* The type of a constructor's argument is reduced where its head hides the block. *)
 let expose_arguments = declare ["Expose"; "Arguments"]
 
+(* Primitive types, operations and literals are written as constants without a body. *)
+let primitive_axioms = declare ["Primitive"; "Axioms"]
+
 (* Set is written as a level of its own, at or above the format's Set. *)
 let small_level = declare ["Small"; "Level"]
 
@@ -83,6 +86,7 @@ type choice = {
   projections : bool;
   cumulative : bool;
   arguments : bool;
+  primitives : bool;
   small : bool;
   own_constraints : bool;
   propositional : bool;
@@ -104,6 +108,7 @@ let as_set ~axioms =
     projections = !automatic || !match_projections;
     cumulative = !automatic || !plain_cumulative;
     arguments = !automatic || !expose_arguments;
+    primitives = !automatic || !primitive_axioms;
     small = !small_level;
     own_constraints = !own_constraints;
     propositional = !copy_propositions;
@@ -119,7 +124,11 @@ let tries choice =
     let own = { small with own_constraints = true } in
     let propositional = { own with propositional = true } in
     let copies sharing choice = { choice with sharing } in
-    CList.uniquize [choice; small; own; copies Each_declaration own; propositional; copies Each_declaration propositional; copies Each_use propositional]
+    (* Set as a level may be in the way of copies *)
+    let copies_at_set = copies Each_declaration { own with small = choice.small } in
+    CList.uniquize
+      [choice; small; own; copies Each_declaration own; copies_at_set; propositional; copies Each_declaration propositional; { copies_at_set with propositional = true };
+       copies Each_use propositional]
 
 (* The choice of the try that is under way. *)
 let current = ref (as_set ~axioms:false)

@@ -23,6 +23,7 @@ let of_roots written ~visit_roots ~main =
   let closure = Closure.start written in
   visit_roots closure;
   let levels = Levels.of_closure closure ~visit_roots main in
+  Notes.primitives := Closure.primitives levels.Levels.closure;
   { closure = levels.Levels.closure; levels; main }
 
 let of_constant env c main =

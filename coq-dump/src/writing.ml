@@ -67,6 +67,7 @@ let rec term sink t =
   | Construct (((m, i), j), u) -> put_all sink ["(tConstruct "; Closure.block_name sink.closure m u; " "; number i; " "; number (j - 1); ")"]
   | Case (ci, u, params, (names, ret), inversion, scrutinee, branches) ->
     case sink (ci, u, params, (names, ret), inversion, scrutinee, branches)
+  | Int _ | Float _ -> put_all sink ["(tConst "; Closure.literal_name sink.closure t; ")"]
   | Fix ((places, i), (names, types, bodies)) ->
     sink.put "(tFix (";
     Array.iteri (fun k na ->
@@ -123,10 +124,12 @@ let declaration sink = function
     sink.put ")";
     Array.iteri (family sink block) block.mind_packets;
     sink.put ")\n"
+  | Closure.Literal { name; ty } -> put_all sink ["(ConstantDecl "; name; " "]; term sink ty; sink.put " None)\n"
 
 let name_of_declaration = function
   | Closure.Constant { constant; _ } -> Names.Constant.to_string constant
   | Closure.Block { block; _ } -> Names.MutInd.to_string block
+  | Closure.Literal { name; _ } -> name
 
 let body sink closure ~entering main =
   List.iter (fun it -> entering (name_of_declaration it); declaration sink it) (List.rev closure.Closure.declarations);

@@ -71,7 +71,7 @@ let body_of w c constant env =
   let name = Constant.to_string c in
   match constant.const_body with
   | Undef _ -> None
-  | Primitive _ -> refuse "%s: a primitive operation" name
+  | Primitive _ -> None
   | Def body -> Some (Sharing.term env (guarded_body env name body))
   | OpaqueDef _ when is_axiom w c -> None
   | OpaqueDef _ -> Some (Sharing.term env (guarded_body env name (opaque_body w name constant)))
