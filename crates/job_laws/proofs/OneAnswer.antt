@@ -89,8 +89,8 @@ status_is_one words q bytes a b at calm shallow = alike q bytes shallow a b at c
 
 -- and one text
 pub texts_are_one : {S K E : Type 0} → TextIsOne S K E
-texts_are_one words q bytes a b at calm n za zb =
+texts_are_one words q bytes a b at calm n m za zb =
     let (text, has, takes) = a.served.done za in
     let (text', has', takes') = b.served.done zb in
-    let same = answer_is_one q.job q bytes text text' at.0.1 n (answer_on q bytes a at.0.0 text has) (answer_on q bytes b calm.0.0 text' has') in
+    let same = answer_is_one q.job q bytes text text' at.0.1 n m (answer_on q bytes a at.0.0 text has) (answer_on q bytes b calm.0.0 text' has') in
     (text, takes, subst (Appends b.out.told b.out'.told) (sym same) takes')

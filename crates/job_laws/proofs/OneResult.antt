@@ -18,7 +18,7 @@ use Rattle.module_run.specs.FileEnds.{FileEnds}
 use Rattle.module_run.proofs.OneFileEnd.{file_end_is_one}
 use Rattle.module_run.proofs.OneRun.{one_run, went_on}
 use Rattle.command_line.specs.declared.job.Job.{Job}
-use Rattle.command_line.specs.declared.job.Job.TheVariants.{Exec, Check, Eval, Run, Compile, Bench}
+use Rattle.command_line.specs.declared.job.Job.TheVariants.{Exec, Check, Eval, Run, Compile, Bench, Explain}
 use Rattle.command_line.specs.declared.line.Request.{Request}
 use Rattle.driver.specs.Bench.{five_lines, lines_of}
 use Rattle.driver.specs.ExecEnds.{Answering, Compiling, its_module, its_shapes}
@@ -85,20 +85,21 @@ bench_text_is_one turns e pages steps x y text text' same =
 made_is_one : (turns : ℕ) (e f : RawEnv) (pages : ℕ) → e ≡ f → (x : Compiling turns e) (y : Compiling turns f) → module_bytes (its_module pages x) ≡ module_bytes (its_module pages y)
 made_is_one turns e f pages same x = subst (λ z. (y : Compiling turns z) → module_bytes (its_module pages x) ≡ module_bytes (its_module pages y)) same (λ y. ap module_bytes (one_module turns e pages x y))
 
--- ---- any job but `eval`
+-- ---- any job but `eval` and `explain`
 
 tree_is_one : (bytes : List ℕ) (cap n : ℕ) (d e : Data) → length bytes ≤ input_limit → FileEnds bytes cap n (Ok d) → FileEnds bytes cap n (Ok e) → d ≡ e
 tree_is_one bytes cap n d e short h k = (let same : Ok d ≡ Ok e = file_end_is_one bytes cap n (Ok d) (Ok e) short h k (λ z. cc) (λ z. cc) in cc)
 
-pub answer_is_one : (job : Job) (q : Request) (bytes text text' : List ℕ) → length bytes ≤ input_limit → job ≢ Eval → IsAnswerOf job q bytes text → IsAnswerOf job q bytes text' → text ≡ text'
-answer_is_one Exec q bytes text text' short n a b =
+pub answer_is_one : (job : Job) (q : Request) (bytes text text' : List ℕ) → length bytes ≤ input_limit → job ≢ Eval → job ≢ Explain → IsAnswerOf job q bytes text → IsAnswerOf job q bytes text' → text ≡ text'
+answer_is_one Exec q bytes text text' short n m a b =
     let (x, line) = executed_on q bytes text b.environment b.spelled a in
     answer_text_is_one q.turns b.environment q.pages q.steps x b.stages text text' line b.text_is
-answer_is_one Check q bytes text text' short n a b = a.text_is ∙ sym b.text_is
-answer_is_one Eval q bytes text text' short n a b = absurd (n refl)
-answer_is_one Run q bytes text text' short n a b = line_is_one by_tags a.tree b.tree a.line b.line text text' (tree_is_one bytes q.pages q.steps a.tree b.tree short a.ends b.ends) a.line_is b.line_is a.text_is b.text_is
-answer_is_one Compile q bytes text text' short n a b = a.text_is ∙ made_is_one q.turns a.environment b.environment q.pages (one_environment bytes a.environment b.environment a.spelled b.spelled) a.stages b.stages ∙ sym b.text_is
-answer_is_one Bench q bytes text text' short n a b =
+answer_is_one Check q bytes text text' short n m a b = a.text_is ∙ sym b.text_is
+answer_is_one Eval q bytes text text' short n m a b = absurd (n refl)
+answer_is_one Explain q bytes text text' short n m a b = absurd (m refl)
+answer_is_one Run q bytes text text' short n m a b = line_is_one by_tags a.tree b.tree a.line b.line text text' (tree_is_one bytes q.pages q.steps a.tree b.tree short a.ends b.ends) a.line_is b.line_is a.text_is b.text_is
+answer_is_one Compile q bytes text text' short n m a b = a.text_is ∙ made_is_one q.turns a.environment b.environment q.pages (one_environment bytes a.environment b.environment a.spelled b.spelled) a.stages b.stages ∙ sym b.text_is
+answer_is_one Bench q bytes text text' short n m a b =
     let e = b.executed.environment in
     let (answer, x, line, is) = benched_on q bytes text e b.executed.spelled a in
     is

@@ -4,7 +4,7 @@ use Rattle.dump_reader.specs.declared.environment.RawEnv.{RawEnv}
 use Rattle.module_run.specs.declared.file_refusal.FileRefusal.{FileRefusal}
 use Rattle.module_run.specs.declared.file_refusal.FileRefusal.TheVariants as files
 use Rattle.command_line.specs.declared.job.Job.{Job}
-use Rattle.command_line.specs.declared.job.Job.TheVariants.{Exec, Check, Eval, Run, Compile, Bench}
+use Rattle.command_line.specs.declared.job.Job.TheVariants.{Exec, Check, Eval, Run, Compile, Bench, Explain}
 use Rattle.command_line.specs.declared.line.Request.{Request}
 use Rattle.driver.specs.declared.refusal.Refusal.{Refusal}
 use Rattle.driver.specs.declared.refusal.Refusal.TheVariants as refusals
@@ -79,6 +79,7 @@ job_ends Exec q r e s c = exec_ends q.turns e s q.pages q.steps r c
 job_ends Check q r e s c = check_ends q.turns r e s c
 job_ends Eval q r e s c = eval_ends q.turns r e s c
 job_ends Run q r e s c = absurd c
+job_ends Explain q r e s c = absurd c
 job_ends Compile q r e s c = make_ends q.turns e s q.pages 0 r c
 job_ends Bench q r e s c = exec_ends q.turns e s q.pages q.steps r c
 
@@ -125,6 +126,8 @@ answer_judged Eval q bytes text s a =
         status_is = sym a.ends;
       }),
     )
+answer_judged Explain q bytes text s (inl a) = (a.environment, a.spelled, refl)
+answer_judged Explain q bytes text s (inr a) = (a.environment, a.spelled, refl)
 answer_judged Run q bytes text s a = record { end = Ok a.tree; ends = a.ends; other = λ e. cc; status_is = refl }
 answer_judged Compile q bytes text s a =
     let e = a.environment in

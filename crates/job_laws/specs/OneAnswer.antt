@@ -7,7 +7,7 @@ use Rattle.pc_rules.specs.DirectedRun.{Run as RuleRun}
 use Rattle.dump_reader.specs.declared.environment.RawEnv.{RawEnv}
 use Rattle.reports.specs.Shown.{Shown}
 use Rattle.command_line.specs.declared.job.Job.{Job}
-use Rattle.command_line.specs.declared.job.Job.TheVariants.{Check, Eval, Run}
+use Rattle.command_line.specs.declared.job.Job.TheVariants.{Check, Eval, Run, Explain}
 use Rattle.command_line.specs.declared.line.Request.{Request}
 use Rattle.driver.specs.ExecEnds.{Accepting, Searching, erasure_of}
 use Rattle.driver.specs.Judged.{IsJudged}
@@ -16,7 +16,7 @@ use Rattle.driver.specs.Served.{Seen, Served}
 use Rattle.driver.specs.SourceEnds.{Ended, IsSourceRun}
 use Rattle.driver.specs.Texts.{SpellsWithin}
 
--- ---- no limit of depth is passed by the directed rules: of the check; of what comes after it by `eval`; and by the jobs that make main's module
+-- ---- no limit of depth is passed by the directed rules: of the check; of what comes after it by `eval`; and by the jobs that make main's module; `explain` answers whatever they come to
 
 abbrev pub CheckIsShallow : (turns : ℕ) → RawEnv → Type 0
 CheckIsShallow turns e = (rules : Checked) → IsJudged turns e rules → rules.deep ≡ false
@@ -34,6 +34,7 @@ abbrev pub IsShallow : Job → (turns : ℕ) → RawEnv → Type 0
 IsShallow Check turns e = CheckIsShallow turns e
 IsShallow Eval turns e = EvalIsShallow turns e
 IsShallow Run turns e = Unit {0}
+IsShallow Explain turns e = Unit {0}
 IsShallow _ turns e = ModuleIsShallow turns e
 
 -- so of the environment that the bytes spell
@@ -64,8 +65,8 @@ StatusIsOne S K E =
     (words : List (List ℕ)) (q : Request) (bytes : List ℕ) (a b : Call S K E words) → IsCalmOn q bytes a → IsCalmOn q bytes b → IsShallowOn q.job q.turns bytes →
     (a.status ≡ b.status) ⊎ ((a.status ≡ 1) ⊎ (b.status ≡ 1))
 
--- where both have an answer, out takes one text, by each job but `eval`
+-- where both have an answer, out takes one text, by each job but `eval` and `explain`
 abbrev pub TextIsOne : (S K E : Type 0) → Type 0
 TextIsOne S K E =
-    (words : List (List ℕ)) (q : Request) (bytes : List ℕ) (a b : Call S K E words) → IsCalmOn q bytes a → IsCalmOn q bytes b → q.job ≢ Eval → a.status ≡ 0 → b.status ≡ 0 →
+    (words : List (List ℕ)) (q : Request) (bytes : List ℕ) (a b : Call S K E words) → IsCalmOn q bytes a → IsCalmOn q bytes b → q.job ≢ Eval → q.job ≢ Explain → a.status ≡ 0 → b.status ≡ 0 →
     (text : List ℕ) × Appends a.out.told a.out'.told text × Appends b.out.told b.out'.told text

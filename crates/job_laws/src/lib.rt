@@ -31,8 +31,8 @@ pub fn reports_break_no_promise<S, K, E>()
     ensures kept { ReportsBreakNoPromise S K E }
 {}
 
-/// Two calls of `serve` on the same words and the same input, which meet no fault in reading nor in writing to out, have one status, whichever reports they are lent, or one of them wants memory; where the directed rules pass no limit of depth on the environment. Where both have an answer, by
-/// another job than `eval`, out takes the same text.
+/// Two calls of `serve` on the same words and the same input, which meet no fault in reading nor in writing to out, have one status, whichever reports they are lent, or one of them wants memory; where
+/// the directed rules pass no limit of depth on the environment. Where both have an answer, by another job than `eval` and `explain`, out takes the same text.
 pub fn calls_answer_alike<S, K, E>()
     ensures one { StatusIsOne S K E }
     ensures text { TextIsOne S K E }
