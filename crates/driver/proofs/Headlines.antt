@@ -253,10 +253,10 @@ module _ (request : Request) (range : IsInRange request) (bytes : List ℕ) (e :
     unspent ends.StepsSpent (of_text x y) q few = y
     unspent _ l q few = absurd (omega (arith, q))
 
-    pub enough_memory : (r : Refusal) → IsCheckCause request.turns r e ⊎ IsExecCause request.turns request.pages request.steps r e → status_of r ≡ 11 → size ≤ 65536 * request.pages → ⊥
+    enough_memory : (r : Refusal) → IsCheckCause request.turns r e ⊎ IsExecCause request.turns request.pages request.steps r e → status_of r ≡ 11 → size ≤ 65536 * request.pages → ⊥
     enough_memory r c q big = let l = late_of request e r c (omega (arith, q)) in unexhausted l.why l.late (ap status_of (sym l.is) ∙ q) big
 
-    pub enough_steps : (r : Refusal) → IsCheckCause request.turns r e ⊎ IsExecCause request.turns request.pages request.steps r e → status_of r ≡ 12 → most ≤ request.steps → ⊥
+    enough_steps : (r : Refusal) → IsCheckCause request.turns r e ⊎ IsExecCause request.turns request.pages request.steps r e → status_of r ≡ 12 → most ≤ request.steps → ⊥
     enough_steps r c q few = let l = late_of request e r c (omega (arith, q)) in unspent l.why l.late (ap status_of (sym l.is) ∙ q) few
 
   -- so where the erased program evaluates to data, where it gives data with these counts, and where main evaluates to a value

@@ -1,5 +1,5 @@
 -- An evaluation over lemmas is followed after erasure, in no more nodes: what a lemma erases to is box, since no program keeps a constant without a body.
-use Rattle.std.proofs.Common.{◌≡◌, ℕ, suc, ◌+◌, ◌≤◌, List, [], Option, Some, None, ◌⊎◌, inl, inr, refl, sym, ap, subst, arith, slice_get}
+use Rattle.std.proofs.Common.{◌≡◌, ℕ, suc, ◌+◌, ◌≤◌, List, [], Option, Some, None, ◌⊎◌, inl, inr, refl, sym, ap, subst, arith}
 use Rattle.trees.proofs.Put.{substitute_same}
 use Rattle.pc_terms.specs.declared.leaf.Name.{Name}
 use Rattle.pc_terms.specs.declared.leaf.FamilyId.{FamilyId}
@@ -10,7 +10,7 @@ use Rattle.calculus_rules.specs.declared.declaration.Kept.TheVariants.{Constant}
 use Rattle.calculus_rules.specs.Environment.{Env, KeepsConstant}
 use Rattle.calculus_rules.specs.Elimination.{MayErase}
 use Rattle.calculus_rules.specs.Erasable.{Erasable}
-use Rattle.calculus_rules.specs.Evaluation.{IsValue, lambda_is, construct_is, fix_is}
+use Rattle.calculus_rules.specs.Evaluation.{lambda_is, construct_is, fix_is}
 use Rattle.calculus_rules.specs.Lawful.{ArgumentsFit}
 use Rattle.calculus_rules.specs.Step.{IsConstructor}
 use Rattle.calculus_rules.specs.Typing.{bare, Types, TypesAll}
@@ -24,7 +24,7 @@ use Rattle.lambda_box.proofs.Naming.{named_put, named_unfolds}
 use Rattle.typing_laws.proofs.Generating.{of_app, of_let_in, of_case}
 use Rattle.typing_laws.proofs.Traversal.{types_at}
 use Rattle.type_laws.specs.Contexts.{IsContext}
-use Rattle.type_laws.proofs.EvaluationKeeps.{AllKept, let_contracts, application_kept, beta_contracts, unfolding_keeps, unfold_contracts, match_kept, enter_contracts}
+use Rattle.type_laws.proofs.EvaluationKeeps.{let_contracts, application_kept, beta_contracts, unfolding_keeps, unfold_contracts, match_kept, enter_contracts}
 use Rattle.type_laws.proofs.MatchesKeep.{matched_arguments}
 use Rattle.type_laws.proofs.RootsKeep.{fits_assumed, beta_keeps, beta_argument, constant_keeps}
 use Rattle.type_laws.proofs.Solid.{families_stay, erasable_kept}

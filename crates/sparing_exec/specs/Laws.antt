@@ -1,5 +1,5 @@
 -- What `exec` has printed, and `compile` written, where main evaluates sparingly, or over lemmas, and what the jobs that make main's module owe then, as laws of the record that the top call promises.
-use Rattle.std.specs.Prelude.{ℕ, ◌≡◌, ◌≤◌, List, Option, Some}
+use Rattle.std.specs.Prelude.{ℕ, ◌≡◌, List, Option, Some}
 use Rattle.std.specs.Io.KnownBytes.{Appends}
 use Rattle.pc_terms.specs.Syntax.{Term}
 use Rattle.calculus_rules.specs.FirstOrder.{Data}

@@ -1,6 +1,6 @@
 -- An evaluation over lemmas of a typed closed term keeps its types, and lies in equality; and each evaluation is one.
-use Rattle.std.proofs.Common.{ℕ, suc, ◌≤◌, [], refl, arith}
-use Rattle.pc_terms.specs.Syntax.{Term, Lambda, App}
+use Rattle.std.proofs.Common.{ℕ, ◌≤◌, [], refl, arith}
+use Rattle.pc_terms.specs.Syntax.{Term, Lambda}
 use Rattle.calculus_rules.specs.Environment.{Env}
 use Rattle.calculus_rules.specs.Conversion.{step, same, chain, inside, end, and}
 use Rattle.calculus_rules.specs.Step.{Root, zeta, matched}
