@@ -1,15 +1,14 @@
 -- From what the last steps of an answer say to how it ends.
-use Rattle.std.proofs.Common.{◌≡◌, ℕ, ◌≤◌, length, Some, Result, Ok, Err, refl, sym, ap, subst, ◌∙◌}
-use Rattle.wasm_core.specs.declared.ended.Ended.TheVariants.{Returned}
+use Rattle.std.proofs.Common.{◌≡◌, ℕ, length, Some, Result, Ok, Err, refl, sym, ap, subst, ◌∙◌}
 use Rattle.wasm_core.specs.declared.entries.Entry.TheVariants as entry
 use Rattle.wasm_core.specs.Parts.{Parts}
 use Rattle.wasm_core.specs.ShortestBytes.{module_bytes}
-use Rattle.wasm_core.specs.MachineStep.{State, Store, Over}
+use Rattle.wasm_core.specs.MachineStep.{Store}
 use Rattle.wasm_core.specs.MachineRun.{Shown}
 use Rattle.wasm_core.specs.Runs.{store_of}
 use Rattle.wasm_core.specs.Answer.{global_of}
 use Rattle.wasm_core.specs.WordData.{StandsFor}
-use Rattle.mem_value.specs.Tells.{HasData, HasMany, most_nodes}
+use Rattle.mem_value.specs.Tells.{HasData, HasMany}
 use Rattle.module_run.specs.declared.answer.Answer.{Answer}
 use Rattle.module_run.specs.declared.refusal.RunRefusal.{RunRefusal}
 use Rattle.module_run.specs.declared.refusal.RunRefusal.TheVariants as refusals

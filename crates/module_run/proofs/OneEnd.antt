@@ -1,5 +1,5 @@
 -- The end of a module's answer is one, and what it is where every run answers the same data or is exhausted.
-use Rattle.std.proofs.Common.{◌≡◌, ◌≢◌, ℕ, suc, ◌<◌, ◌≤◌, List, length, Option, Some, None, Bool, true, false, Result, Ok, Err, refl, sym, ap, subst, ◌∙◌, arith, ◌⊎◌, inl, inr}
+use Rattle.std.proofs.Common.{◌≡◌, ◌≢◌, ℕ, suc, ◌<◌, ◌≤◌, length, Option, Some, Bool, Result, Ok, Err, refl, sym, ap, subst, ◌∙◌, arith, ◌⊎◌, inl, inr}
 use Rattle.std.proofs.lemmas.Bool.{cases_lt}
 use Rattle.wasm_core.specs.declared.ended.Ended.{Ended}
 use Rattle.wasm_core.specs.declared.ended.Ended.TheVariants.{Returned, Trapped}
@@ -9,18 +9,17 @@ use Rattle.wasm_core.specs.Parts.{Parts}
 use Rattle.wasm_core.specs.ShortestBytes.{module_bytes, most_bytes}
 use Rattle.wasm_core.specs.MachineStep.{Conf, State, Store, At, Over, step, Step, Reach}
 use Rattle.wasm_core.specs.MachineRun.{GoesOn}
-use Rattle.wasm_core.specs.Runs.{Moves, store_of}
 use Rattle.wasm_core.specs.Answer.{global_of, Answers, answers, Exhausted, exhausted, AnswersWithin, IsAtEnd, IsAnswer}
 use Rattle.wasm_core.specs.WordData.{Data, StandsFor}
-use Rattle.wasm_core.proofs.Small.{inj, no}
+use Rattle.wasm_core.proofs.Small.{inj}
 use Rattle.wasm_core.proofs.DataUnique.{data_unique}
 use Rattle.wasm_core.proofs.Trees.{moves_are_steps}
 use Rattle.mem_value.specs.Tells.{HasData, HasMany, most_nodes}
 use Rattle.module_run.specs.declared.answer.Answer.{Answer}
 use Rattle.module_run.specs.declared.refusal.RunRefusal.{RunRefusal}
 use Rattle.module_run.specs.declared.refusal.RunRefusal.TheVariants as refusals
-use Rattle.module_run.specs.Ends.{Ends, IsSmall, IsRun, IsLonger, IsTrapped, IsReturned, IsAnswered, IsNoValue, IsLarge}
-use Rattle.module_run.specs.EndLaws.{EndIsOne, AnswersOrSpends, EndsAnswer}
+use Rattle.module_run.specs.Ends.{Ends, IsSmall, IsRun, IsLonger, IsReturned}
+use Rattle.module_run.specs.EndLaws.{EndIsOne, EndsAnswer}
 use Rattle.module_run.proofs.OneRun.{one_run, not_longer}
 
 -- what an end is of: no bytes, a run that goes on, one that trapped, one that returned

@@ -1,11 +1,11 @@
 -- A machine makes one run.
-use Rattle.std.proofs.Common.{◌≡◌, ℕ, zero, suc, ◌<◌, ◌≤◌, Some, refl, sym, subst, ◌∙◌, arith, inl, inr}
+use Rattle.std.proofs.Common.{◌≡◌, ℕ, zero, suc, ◌<◌, sym, subst, ◌∙◌, arith, inl, inr}
 use Rattle.std.proofs.lemmas.Bool.{cases_lt}
 use Rattle.wasm_core.specs.declared.ended.Ended.{Ended}
 use Rattle.wasm_core.specs.Parts.{Parts}
 use Rattle.wasm_core.specs.MachineStep.{State, Store, At, Over}
 use Rattle.wasm_core.specs.MachineRun.{GoesOn}
-use Rattle.wasm_core.specs.Runs.{Moves, Move, main_start}
+use Rattle.wasm_core.specs.Runs.{Moves, Move}
 use Rattle.wasm_core.proofs.Small.{inj}
 use Rattle.module_run.specs.Ends.{IsRun, IsLonger}
 

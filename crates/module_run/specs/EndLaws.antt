@@ -1,5 +1,5 @@
 -- The end of a module's answer is one, and what it is where every run of the module answers the same data or is exhausted.
-use Rattle.std.specs.Prelude.{ℕ, ◌≡◌, ◌≢◌, ◌<◌, List, length, Some, Result, Ok, Err}
+use Rattle.std.specs.Prelude.{ℕ, ◌≡◌, ◌≢◌, ◌<◌, length, Result, Ok, Err}
 use Rattle.wasm_core.specs.Parts.{Parts}
 use Rattle.wasm_core.specs.WordData.{Data}
 use Rattle.wasm_core.specs.Answer.{AnswersWithin}

@@ -10,7 +10,7 @@ use Rattle.wasm_core.specs.MachineStep.{State, Store, Over}
 use Rattle.wasm_core.specs.MachineRun.{Shown, GoesOn}
 use Rattle.wasm_core.specs.Runs.{Moves, main_start, store_of}
 use Rattle.wasm_core.specs.Answer.{global_of}
-use Rattle.wasm_core.specs.WordData.{Data, StandsFor}
+use Rattle.wasm_core.specs.WordData.{StandsFor}
 use Rattle.mem_value.specs.Tells.{HasData, HasMany, most_nodes}
 use Rattle.module_run.specs.declared.answer.Answer.{Answer}
 use Rattle.module_run.specs.declared.refusal.RunRefusal.{RunRefusal}

@@ -5,7 +5,9 @@
 //! data or is exhausted. `answer_of_file` says exactly how it ends for a module that is given as bytes (`says`): the data, or the first stage that refuses with its cause: the bytes spell no module, the module has no
 //! typing, no machine is made of it, its run gives no data. `one_file_end` says that this is determined but for want of memory (`one`).
 //!
-//! Below stand the crates of modules, from `wasm_core` to `mem_value`; above stands `driver`.
+//! Each of these that runs a module tells reports the facts of the run, where there is an answer: each step with its class, each grow of memory that wasn't refused (`told`).
+//!
+//! Below stand the crates of modules, from `wasm_core` to `mem_value`, and `reports`; above stands `driver`.
 #![tactic(auto)]
 
 mod answer;
