@@ -28,6 +28,7 @@ pub mod TextCauses
 pub mod Headlines
 pub mod Checking
 pub mod Explaining
+pub mod BesideCheck
 pub mod Serving
 pub mod Answering
 pub mod Inputs

@@ -16,6 +16,7 @@ pub mod RunFile
 pub mod Explained
 pub mod Serve
 pub mod ExplainSays
+pub mod BesideCheck
 pub mod PlainAnswer
 pub mod MainModule
 pub mod Promises

@@ -4,23 +4,16 @@ use Rattle.reports.specs.Shown.{Shown}
 use Rattle.command_line.specs.declared.job.Job.TheVariants.{Explain}
 use Rattle.command_line.specs.declared.line.Request.{Request}
 use Rattle.command_line.specs.Line.{request_of}
-use Rattle.driver.specs.declared.refusal.Refusal.{Refusal}
-use Rattle.driver.specs.declared.refusal.Refusal.TheVariants as refusals
+use Rattle.driver.specs.BesideCheck.{IsBesideCheck}
 use Rattle.driver.specs.Served.{Seen, Served}
 
--- no refusal of the check: not one of spent units, of a limit behind the text or of a broken rule
-abbrev pub IsBeforeCheck : Refusal → Type 0
-IsBeforeCheck refusals.TurnsSpent = ⊥
-IsBeforeCheck refusals.Depth = ⊥
-IsBeforeCheck (refusals.Broken n p) = ⊥
-IsBeforeCheck _ = Unit {0}
-
-abbrev pub ExplainRefusesBeforeCheck : (S K E : Type 0) → Type 0
-ExplainRefusesBeforeCheck S K E =
+-- no refusal is one of spent units, of a limit of depth behind the text or of a broken rule
+abbrev pub ExplainRefusesBesideCheck : (S K E : Type 0) → Type 0
+ExplainRefusesBesideCheck S K E =
     (status : ℕ) (words : List (List ℕ)) (reports : List Shown) (src src' : Seen S) (out out' : Seen K) (err err' : Seen E) (s : Served status words reports src src' out out' err err') →
-    (q : Request) → request_of words ≡ Some q → q.job ≡ Explain → (n : status ≢ 0) → IsBeforeCheck (s.refused n).refusal
+    (q : Request) → request_of words ≡ Some q → q.job ≡ Explain → (n : status ≢ 0) → IsBesideCheck (s.refused n).refusal
 
--- so its status is neither 8 nor 9
+-- so the status is neither 8 nor 9
 abbrev pub ExplainHasNoSuchStatus : (S K E : Type 0) → Type 0
 ExplainHasNoSuchStatus S K E =
     (status : ℕ) (words : List (List ℕ)) (reports : List Shown) (src src' : Seen S) (out out' : Seen K) (err err' : Seen E) → Served status words reports src src' out out' err err' →

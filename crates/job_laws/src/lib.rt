@@ -10,7 +10,7 @@
 //! words and input have one status and one text, whichever reports they are lent, but for want of memory, faults of what is lent, and limits of depth (`calls_answer_alike`, clauses `one` and `text`).
 //!
 //! By `explain` the refusals of the check are answers: none of the call is one of spent units, of a limit behind the text or of a broken rule, so its status is neither 8 nor 9
-//! (`explain_answers_refusals`, clauses `before` and `statuses`).
+//! (`explain_answers_refusals`, clauses `beside` and `statuses`).
 //!
 //! Below stand `command_line`, `driver`, `progress` with the laws of the evaluation, `first_order` with the reading of values, `wasm_core` and `module_run` with one run of a module, and `reports`; nothing stands above.
 #![tactic(auto)]
@@ -18,7 +18,7 @@
 ghost use Rattle.job_laws.specs.EvalLaws.{StuckEvalsMeetAxioms, NoEvalIsStuck};
 ghost use Rattle.job_laws.specs.OneAnswer.{StatusIsOne, TextIsOne};
 ghost use Rattle.job_laws.specs.ReportLaws.{ReportsBreakNoPromise};
-ghost use Rattle.job_laws.specs.ExplainLaws.{ExplainHasNoSuchStatus, ExplainRefusesBeforeCheck};
+ghost use Rattle.job_laws.specs.ExplainLaws.{ExplainHasNoSuchStatus, ExplainRefusesBesideCheck};
 
 /// Where the job `eval` is stuck, the evaluation of main met a constant that the text declares without a body; so it never is where each constant has one.
 pub fn stuck_evals_meet_axioms()
@@ -40,6 +40,6 @@ pub fn calls_answer_alike<S, K, E>()
 
 /// By `explain` no refusal of a call is one of the check: what the directed rules come to is its answer.
 pub fn explain_answers_refusals<S, K, E>()
-    ensures before { ExplainRefusesBeforeCheck S K E }
+    ensures beside { ExplainRefusesBesideCheck S K E }
     ensures statuses { ExplainHasNoSuchStatus S K E }
 {}
