@@ -1,0 +1,10 @@
+pub mod Walk
+pub mod WalkSteps
+pub mod Scripts
+pub mod WalkTyping
+pub mod WalkDeclarations
+pub mod Writing
+pub mod MakingTyping
+pub mod MakingDeclarations
+pub mod WalkLaws
+pub mod MadeLaws
