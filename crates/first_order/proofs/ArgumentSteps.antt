@@ -1,21 +1,24 @@
 -- The text of arguments, token by token.
-use Rattle.std.proofs.Common.{◌≡◌, ℕ, zero, suc, ◌+◌, ◌<◌, ◌≤◌, ◌⊎◌, inl, inr, Bool, true, false, List, [], ◌∷◌, ◌++◌, length, drop, reverse, Option, Some, None, refl, sym, ap, subst, ◌∙◌, arith, append_assoc}
-use Rattle.std.specs.Prelude.{Result, Ok, Err, if◌then◌else◌, codes}
+use Rattle.std.proofs.Common.{◌≡◌, ℕ, zero, suc, ◌+◌, ◌-◌, ◌<◌, ◌≤◌, ◌⊎◌, ◌==◌, get_or, inl, inr, Bool, true, false, List, [], ◌∷◌, ◌++◌, length, drop, reverse, Option, Some, None, refl, sym, ap, subst, ◌∙◌, arith, append_assoc}
+use Rattle.std.specs.Prelude.{Result, Ok, Err, if◌then◌else◌, codes, slice_get}
 use Rattle.std.specs.Str.{bytes_eq}
 use Rattle.std.proofs.lemmas.List.{reverse-append, append-nil}
+use Rattle.std.proofs.lemmas.Bool.Decides.{nat_tests}
 use Rattle.calculus_rules.specs.FirstOrder.{Data}
+use Rattle.pc_rules.proofs.ListSteps.{next_is, none_left}
 use Rattle.data_trees.specs.Preorder.{IsForest, IsTree}
 use Rattle.sexp_reader.specs.Text.{Text, Open, Close, Atom, Stray}
 use Rattle.sexp_reader.specs.Lex.{Spanned, answer, nesting_after_text}
 use Rattle.sexp_reader.specs.declared.Token.{Token}
 use Rattle.sexp_reader.specs.declared.TokenFault.{TokenFault}
 use Rattle.first_order.specs.declared.shapes.Shape.{Shape}
+use Rattle.first_order.specs.declared.shapes.ShapeCtor.{ShapeCtor}
 use Rattle.first_order.specs.declared.shapes.Shapes.{Shapes}
 use Rattle.first_order.specs.declared.argument_texts.Due.{Due}
 use Rattle.first_order.specs.declared.argument_texts.Due.TheVariants.{Front, Word, Item, Name, End}
 use Rattle.first_order.specs.declared.faults.ArgsFault.{ArgsFault}
 use Rattle.first_order.specs.declared.faults.ArgsFault.TheVariants.{Syntax, Nesting, NameBytes, Wrong, Memory}
-use Rattle.first_order.specs.ArgumentTexts.{constructor_named, dues, leaf, leaf_of, headed, Acted, act, of_token, on_token, Outcome, put_before, on_acted, read_dues, Trees, put_tree, then_tree, read_trees, Refused, Comes}
+use Rattle.first_order.specs.ArgumentTexts.{has_text, number_named, constructor_named, dues, leaf, leaf_of, headed, Acted, act, of_token, on_token, Outcome, put_before, on_acted, read_dues, Trees, put_tree, then_tree, read_trees, Refused, Comes}
 
 -- ---- refusals
 
@@ -37,6 +40,47 @@ refused_is b NameBytes (inl x) = absurd (cc)
 refused_is b NameBytes (inr x) = x
 refused_is b (Wrong o) (inl x) = absurd (cc)
 refused_is b (Wrong o) (inr x) = x
+
+-- ---- constructors by their names
+
+module _ (names : List (List ℕ)) (text : List ℕ) (ks : List ShapeCtor) (i : ℕ) (h : number_named names text 0 ks ≡ number_named names text i (drop i ks)) where
+  module _ (k : ShapeCtor) (lt : i < length ks) (is : k ≡ get_or ks i k) where
+    at : (b : Bool) → b ≡ has_text (slice_get names k.name.0) text → number_named names text 0 ks ≡ (if b then Some (i, k.args) else number_named names text (i + 1) (drop (i + 1) ks))
+    at b e = h ∙ ap (λ (l : List ShapeCtor). number_named names text i l) (next_is ks i k lt is) ∙ ap (λ (c : Bool). if c then Some (i, k.args) else number_named names text (i + 1) (drop (i + 1) ks)) (sym e)
+
+    pub named_here : (b : Bool) (js : List ℕ) → b ≡ has_text (slice_get names k.name.0) text → b ≡ true → js ≡ k.args → Some (i, js) ≡ number_named names text 0 ks
+    named_here b js e t a = sym (at true (sym t ∙ e) ∙ ap (λ (l : List ℕ). Some (i, l)) (sym a))
+
+    pub named_next : (b : Bool) → b ≡ has_text (slice_get names k.name.0) text → b ≡ false → number_named names text 0 ks ≡ number_named names text (i + 1) (drop (i + 1) ks)
+    named_next b e f = at false (sym f ∙ e)
+
+  pub named_nowhere : length ks ≤ i → None ≡ number_named names text 0 ks
+  named_nowhere le = sym (h ∙ ap (λ (l : List ShapeCtor). number_named names text i l) (none_left ks i le))
+
+-- ---- what is due in a bracket
+
+pub pushed : {A : Type 0} (ws vs : List A) (x : A) → vs ≡ ws ++ (x ∷ []) → reverse vs ≡ x ∷ reverse ws
+pushed ws vs x e = ap reverse e ∙ reverse-append ws (x ∷ [])
+
+not_zero : (n : ℕ) → 0 < n → (n == 0) ≡ false
+not_zero n h = grind (arith, nat_tests)
+
+pub dues_first : (js : List ℕ) (count k : ℕ) (ws vs : List Due) → count ≡ length js → vs ≡ ws ++ (End (count == 0) ∷ []) → k ≡ 0 → reverse vs ≡ dues (drop (count - k) js) (count - k == 0) ++ reverse ws
+dues_first js count k ws vs e p z =
+    let same : count ≡ count - k = omega arith in
+    pushed ws vs (End (count == 0)) p ∙ ap (λ (n : ℕ). End (n == 0) ∷ reverse ws) same ∙ ap (λ (l : List ℕ). dues l (count - k == 0) ++ reverse ws) (sym (none_left js (count - k) (omega arith)))
+
+pub dues_next : (js : List ℕ) (count k i j : ℕ) (b : Bool) (ws vs : List Due) (old : List Due) → reverse ws ≡ dues (drop (count - k) js) (count - k == 0) ++ old → count ≡ length js → k < count → i ≡ count - 1 - k → j ≡ get_or js i j → b ≡ (i == 0) →
+    vs ≡ ws ++ (Item j b ∷ []) → reverse vs ≡ dues (drop (count - (k + 1)) js) (count - (k + 1) == 0) ++ old
+dues_next js count k i j b ws vs old h e lt at is t p =
+    let here : i ≡ count - (k + 1) = omega arith in
+    let later : i + 1 ≡ count - k = omega arith in
+    let within : i < length js = omega arith in
+    let more : drop i js ≡ j ∷ drop (i + 1) js = next_is js i j within is in
+    let rest : dues (drop (i + 1) js) false ++ old ≡ reverse ws =
+    ap (λ (n : ℕ). dues (drop n js) false ++ old) later ∙ ap (λ (c : Bool). dues (drop (count - k) js) c ++ old) (sym (not_zero (count - k) (omega arith))) ∙ sym h in
+    pushed ws vs (Item j b) p ∙ ap (λ (c : Bool). Item j c ∷ reverse ws) t ∙ ap (λ (l : List Due). Item j (i == 0) ∷ l) (sym rest)
+    ∙ ap (λ (l : List ℕ). dues l (i == 0) ++ old) (sym more) ∙ ap (λ (n : ℕ). dues (drop n js) (n == 0) ++ old) here
 
 -- ---- nodes before an outcome
 
@@ -124,11 +168,11 @@ trees_before_more ds d (Ok r) = let f : List Data → Trees = λ xs. Ok (xs, r.1
 trees_before_more ds d (Err e) = refl
 
 module _ (names : List (List ℕ)) (from last : ℕ) where
-  no_tree : (n : ℕ) (first : Bool) (ss : List Spanned) → read_trees names from last n first [] ss ≡ Ok ([], n, ss)
+  pub no_tree : (n : ℕ) (first : Bool) (ss : List Spanned) → read_trees names from last n first [] ss ≡ Ok ([], n, ss)
   unfolding read_trees
   no_tree n first ss = refl
 
-  tree_next : (n : ℕ) (first : Bool) (s : Shapes) (Ss : List Shapes) (ss : List Spanned) →
+  pub tree_next : (n : ℕ) (first : Bool) (s : Shapes) (Ss : List Shapes) (ss : List Spanned) →
       read_trees names from last n first (s ∷ Ss) ss ≡ then_tree (read_dues names s.types from last n (Item 0 first ∷ []) ss) (λ m left. read_trees names from last m false Ss left)
   unfolding read_trees
   tree_next n first s Ss ss = refl
@@ -222,7 +266,7 @@ put_before_is ds (Ok q) r e = (q, refl, sym (cc))
 put_before_is ds (Err x) r e = absurd (cc)
 
 -- a step that ends well: what the token brought, and what came behind it
-stepped : (from : ℕ) (a : Result (Option Token) TokenFault) (b : Acted) (go : List Due → Outcome) (r : Data × ℕ × List Spanned) → on_token from a (on_acted b go) ≡ Ok r →
+pub stepped : (from : ℕ) (a : Result (Option Token) TokenFault) (b : Acted) (go : List Due → Outcome) (r : Data × ℕ × List Spanned) → on_token from a (on_acted b go) ≡ Ok r →
     (p : List Due × Data) × (q : Data × ℕ × List Spanned) × (b ≡ Ok p) × (go p.0 ≡ Ok q) × (r ≡ (p.1 ++ q.0, q.1, q.2))
 stepped from (Err f) b go r e = absurd (cc)
 stepped from (Ok t) (Err x) go r e = absurd (cc)

@@ -57,6 +57,11 @@ pub data AreGiven (names : List (List ℕ)) : List Shapes → List Text → List
   none_given : AreGiven names [] [] []
   one_given : {S : Shapes} {Ss : List Shapes} {ts us : List Text} {d : Data} {ds : List Data} → IsArgument names S.types 0 ts d → AreGiven names Ss us ds → AreGiven names (S ∷ Ss) (ts ++ us) (d ∷ ds)
 
+-- what tokens are, apart from where they stand
+abbrev pub texts : List Spanned → List Text
+texts [] = []
+texts (s ∷ ss) = s.text ∷ texts ss
+
 -- the tokens of a call's arguments
 pub record IsGiven (names : List (List ℕ)) (Ss : List Shapes) (tokens : List Text) (ds : List Data) : Type 0 where
   pub items : List Text

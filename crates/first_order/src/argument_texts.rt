@@ -1,5 +1,5 @@
 //! The text of a call's arguments, which is read token by token with the list of what is due.
-ghost use Rattle.std.specs.Prelude.{◌≡◌, ◌+◌, ◌<◌, ◌≤◌, ◌^◌, ◌++◌, ◌∷◌, ◌⊎◌, ℕ, List, [], IfOk, IfErr, IfSome, OnOk, true, length, reverse, slice_get};
+ghost use Rattle.std.specs.Prelude.{◌≡◌, ◌+◌, ◌<◌, ◌≤◌, ◌^◌, ◌++◌, ◌∷◌, ◌⊎◌, ℕ, List, [], IfOk, IfErr, IfSome, OnOk, true, drop, length, reverse, slice_get};
 ghost use Rattle.std.specs.Option.{option_map};
 ghost use Rattle.std.specs.Str.{bytes_eq};
 ghost use Rattle.sexp_reader.specs.Stream.{stream, depth, text_of_kind};
@@ -7,7 +7,8 @@ ghost use Rattle.first_order.specs.declared.argument_texts.Due.TheVariants as du
 ghost use Rattle.first_order.specs.declared.faults.ArgsFault.TheVariants.{Memory};
 ghost use Rattle.first_order.specs.ArgumentTexts.{has_text, number_named as first_named, constructor_named as named, dues, leaf as leaf_at, headed as headed_at, act as acts};
 ghost use Rattle.first_order.specs.ArgumentTexts.{read_dues as due_read, read_trees as trees_read, at_end, arguments_in, of_token};
-ghost use Rattle.first_order.specs.ArgumentTexts.{brought, next_due, next_nodes, numbered, Comes, Gets, IsTold, MarksCome};
+ghost use Rattle.first_order.specs.ArgumentTexts.{brought, next_due, next_nodes, numbered, texts, Comes, Gets, IsGiven, IsTold, MarksCome};
+ghost use Rattle.sexp_reader.specs.Lex.{tokens_of};
 ghost use Rattle.first_order.specs.declared.shapes.Shape.{Shape as AShape};
 
 use crate::faults::ArgsFault;
@@ -478,6 +479,7 @@ pub fn read_args(
 ) -> Result<Vec<Data>, ArgsFault>
     requires inside { from ≤ length bytes.now }
     ensures told { IsTold (arguments_in names.now sig.now.args bytes.now from) (λ v. v.items) result }
+    ensures spelled { IfOk result (λ v. IsGiven names.now sig.now.args (texts (tokens_of (drop from bytes.now))) v.items) }
 {
     let span = Span {
         from,
