@@ -9,6 +9,7 @@ use Rattle.pc_rules.proofs.ListSteps.{next_is, none_left}
 use Rattle.data_trees.specs.Preorder.{IsForest, IsTree}
 use Rattle.sexp_reader.specs.Text.{Text, Open, Close, Atom, Stray}
 use Rattle.sexp_reader.specs.Lex.{Spanned, answer, nesting_after_text}
+use Rattle.sexp_reader.specs.Stream.{text_of_kind}
 use Rattle.sexp_reader.specs.declared.Token.{Token}
 use Rattle.sexp_reader.specs.declared.TokenFault.{TokenFault}
 use Rattle.first_order.specs.declared.shapes.Shape.{Shape}
@@ -16,9 +17,10 @@ use Rattle.first_order.specs.declared.shapes.ShapeCtor.{ShapeCtor}
 use Rattle.first_order.specs.declared.shapes.Shapes.{Shapes}
 use Rattle.first_order.specs.declared.argument_texts.Due.{Due}
 use Rattle.first_order.specs.declared.argument_texts.Due.TheVariants.{Front, Word, Item, Name, End}
+use Rattle.first_order.specs.declared.argument_texts.Seen.{Seen}
 use Rattle.first_order.specs.declared.faults.ArgsFault.{ArgsFault}
 use Rattle.first_order.specs.declared.faults.ArgsFault.TheVariants.{Syntax, Nesting, NameBytes, Wrong, Memory}
-use Rattle.first_order.specs.ArgumentTexts.{has_text, number_named, constructor_named, dues, leaf, leaf_of, headed, Acted, act, of_token, on_token, Outcome, put_before, on_acted, read_dues, Trees, put_tree, then_tree, read_trees, Refused, Comes}
+use Rattle.first_order.specs.ArgumentTexts.{has_text, number_named, constructor_named, dues, leaf, leaf_of, headed, Acted, act, of_token, on_token, Outcome, put_before, on_acted, read_dues, Trees, put_tree, then_tree, read_trees, Refused, Gets}
 
 -- ---- refusals
 
@@ -152,6 +154,47 @@ module _ (names : List (List ℕ)) (S : List Shape) (from last : ℕ) where
               el ∙ ap (λ (xs : Data). xs ++ p.1) h.1 ∙ append_assoc first h.0 p.1,
               given o a ∙ ap (λ r. put_before h.0 (on_acted r go)) b ∙ put_before_more h.0 p.1 (go p.0) ∙ ap (put_before (h.0 ++ p.1)) nested,
             )
+
+-- ---- one turn, from what its calls answer
+
+module _ (names : List (List ℕ)) (S : List Shape) (from last : ℕ) (whole : Outcome) (first now : Data) (n : ℕ) (ws vs : List Due) (ss : List Spanned) (h : Reads names S from last whole first now n (reverse ws) ss) where
+  module _ (d : Due) (e : ws ≡ vs ++ (d ∷ [])) where
+    abbrev turned : reverse ws ≡ d ∷ reverse vs
+    turned = pushed vs ws d e
+
+    lost : (x : ArgsFault) → (s : Spanned) × (ts : List Spanned) × (f : TokenFault) × (ss ≡ s ∷ ts) × (answer n ss ≡ Err f) × (of_token from f ≡ x) → whole ≡ Err x
+    lost x g =
+        let k : ArgsFault → Outcome = λ y. Err y in
+        reads_fault names S from last whole first now n (reverse ws) ss h d (reverse vs) turned g.0 g.1 g.3 g.2 g.4 ∙ ap k g.5
+
+    pub due_lost : (x : ArgsFault) (m : ℕ) (new : List Spanned) → Gets from (Err x) n m ss new → Refused whole x
+    due_lost Memory m new g = tt
+    due_lost (Syntax o) m new g = lost (Syntax o) g
+    due_lost Nesting m new g = lost Nesting g
+    due_lost NameBytes m new g = lost NameBytes g
+    due_lost (Wrong o) m new g = lost (Wrong o) g
+
+    pub due_short : (m : ℕ) (new : List Spanned) → Gets from (Ok None) n m ss new → whole ≡ Err (Syntax last)
+    due_short m new g = reads_short names S from last whole first now n (reverse ws) ss h d (reverse vs) turned g
+
+    module _ (x : Seen) (m : ℕ) (new : List Spanned) (g : Gets from (Ok (Some x)) n m ss new) where
+      abbrev acted : Acted
+      acted = act names S d x.offset (text_of_kind x.kind x.text.now)
+
+      same : act names S d (from + g.0) (text_of_kind x.kind x.text.now) ≡ acted
+      same = ap (λ (o : ℕ). act names S d o (text_of_kind x.kind x.text.now)) (sym g.2)
+
+      pub due_refused : (y : ArgsFault) → Refused acted y → Refused whole y
+      due_refused y r =
+          refused_on acted whole y
+          (λ a. reads_refused names S from last whole first now n (reverse ws) ss h d (reverse vs) turned (record { start = g.0; text = text_of_kind x.kind x.text.now }) new g.3 g.1 y g.4 (same ∙ a)) r
+
+      pub due_read : (p : List Due × Data) (us : List Due) (later : Data) → acted ≡ Ok p → reverse us ≡ p.0 ++ reverse vs → later ≡ now ++ p.1 → Reads names S from last whole first later m (reverse us) new
+      due_read p us later a b c =
+          reads_next names S from last whole first now n (reverse ws) ss h d (reverse vs) turned (record { start = g.0; text = text_of_kind x.kind x.text.now }) new g.3 g.1 p m (reverse us) later g.4 (same ∙ a) g.5 b c
+
+  pub due_ended : ws ≡ [] → (ds : Data) × (whole ≡ Ok (ds, n, ss)) × (now ≡ first ++ ds)
+  due_ended e = reads_end names S from last whole first now n (reverse ws) ss h (ap reverse e)
 
 -- ---- arguments before those that are still to come
 

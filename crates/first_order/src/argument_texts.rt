@@ -362,7 +362,8 @@ fn read_dues(
     ensures few { OnOk result (length nodes.new.items < 2 ^ 32) }
 {
     'due: while let Some(due) = take_last(waiting) {
-        let Some(seen) = next_token(span.from, tokens)? else {
+        let found = next_token(span.from, tokens)?;
+        let Some(seen) = found else {
             return Err(ArgsFault::Syntax { offset: span.last });
         };
         let next = act(names, types, due, seen.offset, seen.kind, seen.text)?;
@@ -456,12 +457,13 @@ fn read_close(
 fn read_end(from: usize, tokens: &mut Tokens) -> Result<(), ArgsFault>
     ensures told { (ds : List (List (ℕ × ℕ))) → IsTold (at_end from (depth tokens.old) ds (stream tokens.old)) (λ _. ds) result }
 {
-    match next_token(from, tokens)? {
-        Some(seen) => Err(ArgsFault::Syntax {
-            offset: seen.offset,
-        }),
-        None => Ok(()),
-    }
+    let found = next_token(from, tokens)?;
+    let Some(seen) = found else {
+        return Ok(());
+    };
+    Err(ArgsFault::Syntax {
+        offset: seen.offset,
+    })
 }
 
 /// The arguments of a call, which stand behind an offset of the text: `(args d+)`, where d is a constructor's name, or `(name d+)`, in the tokens of dumps, and then nothing but blanks and
