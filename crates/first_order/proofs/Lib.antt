@@ -8,5 +8,3 @@ pub mod ReadTexts
 pub mod Lowered
 pub mod AllRead
 pub mod Signing
-pub mod ArgumentSteps
-pub mod ArgumentsSpelled

@@ -4,4 +4,3 @@ pub mod Texts
 pub mod Laws
 pub mod Signature
 pub mod DirectedSignature
-pub mod ArgumentTexts

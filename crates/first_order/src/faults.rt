@@ -47,21 +47,6 @@ pub enum TextFault {
     Memory,
 }
 
-/// Why a text has no arguments.
-#[derive(Clone, Copy, PartialEq, Eq, Debug, Drop)]
-pub enum ArgsFault {
-    /// The first token, by its offset, that no text of arguments begins with together with those before it; a byte of no token; or the text's length, where it ends early.
-    Syntax { offset: usize },
-    /// Brackets stand over 1,000 deep in one another.
-    Nesting,
-    /// An atom has over 255 bytes.
-    NameBytes,
-    /// The token at the offset is no constructor of the type that stands there, one too many, or the end of a bracket where an item is missing.
-    Wrong { offset: usize },
-    /// There is no memory.
-    Memory,
-}
-
 impl From<Stop> for ShapeRefusal {
     ghost use Rattle.std.specs.Prelude.{◌≡◌};
     ghost use Rattle.first_order.specs.Searching.{refusal_of};
@@ -101,18 +86,6 @@ impl From<MakeFault> for TextFault {
     /// Only want of memory is met here: no term is made.
     fn from(_f: MakeFault) -> TextFault {
         TextFault::Memory
-    }
-}
-
-impl From<MakeFault> for ArgsFault {
-    ghost use Rattle.std.specs.Prelude.{◌≡◌};
-    ghost use Rattle.first_order.specs.declared.faults.ArgsFault.TheVariants.{Memory};
-
-    ghost from_gives = { λ _ t. t ≡ Memory };
-
-    /// Only want of memory is met here: no term is made.
-    fn from(_f: MakeFault) -> ArgsFault {
-        ArgsFault::Memory
     }
 }
 

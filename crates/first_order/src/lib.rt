@@ -14,7 +14,6 @@
 //! Below stand `pc_terms`, `pc_rules`, `instances`, `dump_reader` (the table of names) and `data_trees`; above stands `driver`.
 #![tactic(auto)]
 
-pub mod argument_texts;
 mod arguments;
 pub mod faults;
 pub mod laws;
