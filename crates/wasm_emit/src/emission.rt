@@ -160,7 +160,12 @@ fn call_globals_of(alloc: Global) -> Result<GlobalDefs, EmitFault>
     ensures is { IfOk result (λ gs. gs ≡ global_word 0 ∷ global_word 0 ∷ global_word 8 ∷ call_globals) }
     ensures only_memory { IfErr result (λ e. e ≡ Memory) }
 {
-    let items = vec![in alloc; word_global(0), word_global(0), word_global(8), word_global(0)]?;
+    let items = vec![in alloc;
+        word_global(0),
+        word_global(0),
+        word_global(8),
+        word_global(0),
+    ]?;
     Ok(GlobalDefs::of(items))
 }
 
