@@ -110,4 +110,4 @@ pub few_locals : (Q : Lifted) → FewBeforeMain (lifted_of Q) → top 0 Q.main �
 few_locals Q few le = record { functions = few.functions; constants = few.constants; main = omega (arith, le, top_renumbered (place_in Q.constants) 0 Q.main) }
 
 pub before_refused : (Q : Lifted) (e : EmitFault) → MemoryOrNot e (FewBeforeMain (lifted_of Q)) → MemoryOrNot e (FewLocals (lifted_of Q))
-before_refused Q e h = refused_more e (λ (x : FewLocals (lifted_of Q)). record { functions = x.functions; constants = x.constants }) h
+before_refused Q e h = refused_more {A = FewBeforeMain (lifted_of Q)} {B = FewLocals (lifted_of Q)} e (λ x. record { functions = x.functions; constants = x.constants }) h
