@@ -64,6 +64,8 @@ export declare class Session {
 
 export declare function load(bytes: BufferSource, types: TypesText): Promise<Program>;
 
+export declare function parseArguments(text: string, types: TypesText): Data[];
+
 /** Between data and values of JavaScript. */
 export interface Conversion<Value, Given = Value> {
   of(data: Data): Value;

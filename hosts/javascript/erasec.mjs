@@ -164,6 +164,46 @@ function nodesOf(args, { constructors, args: types }) {
   return Uint32Array.from(nodes);
 }
 
+/** Main's arguments of a text, as erasec writes data, one behind the other: `(S O) (cons O nil)`. Names are those of the types. */
+export function parseArguments(text, types) {
+  const { constructors, args } = typesOf(types);
+  const token = /([ \t\n\r]+|;[^\n]*)|[()]|[A-Za-z0-9_.'-]+/y;
+  const given = [];
+  // the brackets that are open, the innermost last: what stands in them, and the types of that
+  const open = [{ items: given, types: args }];
+  let named = false;
+  const refuse = (why) => { throw new BadArgument(`argument at ${token.at}: ${why}`); };
+  for (;;) {
+    token.at = token.lastIndex;
+    const { items, types: due } = open.at(-1);
+    if (token.at === text.length) break;
+    const found = token.exec(text) ?? refuse("no token");
+    if (found[1] !== undefined) continue;
+    const type = due[items.length];
+    if (named && found[0].length === 1 && "()".includes(found[0])) refuse("a constructor's name is due");
+    if (found[0] === ")") {
+      if (open.length === 1 || !items.length) refuse("a bracket that closes nothing");
+      if (type !== undefined) refuse(`data of ${type} is missing`);
+      open.pop();
+    } else if (type === undefined) {
+      refuse("one too many");
+    } else if (found[0] === "(") {
+      named = true;
+    } else {
+      const number = constructors.get(type).findIndex((it) => it.name === found[0]);
+      if (number < 0) refuse(`${found[0]} is no constructor of ${type}`);
+      const data = new Data(found[0], number);
+      if (!named && constructors.get(type)[number].args.length) refuse(`${found[0]} has arguments`);
+      items.push(data);
+      if (named) open.push({ items: data.args, types: constructors.get(type)[number].args });
+      named = false;
+    }
+  }
+  if (named || open.length > 1) refuse("the text ends early");
+  if (given.length < args.length) refuse(`data of ${args[given.length]} is missing`);
+  return given;
+}
+
 /** Stores arguments behind the end of the heap, each block behind those of its fields, then their words; and tells the module of both. */
 function store({ memory, heap, args }, nodes) {
   let words = 0;

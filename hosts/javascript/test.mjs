@@ -101,6 +101,15 @@ test("arguments that aren't main's are found", async () => {
   for (const text of ["nat->list nat=O,S:nat", "->nat nat=O,S:nat", "nat+->nat nat=O,S:nat", "nat->", "nat->nat"]) assert.throws(() => new erasec.Types(text), erasec.BadTypes, text);
 });
 
+test("arguments are read of their text", () => {
+  for (const text of ["O nil", "(S (S O)) (cons O (cons (S O) nil))"]) assert.equal(erasec.parseArguments(text, PAIR).join(" "), text);
+  assert.deepEqual(erasec.parseArguments(" ( S;x\nO)nil\t", PAIR).map(String), ["(S O)", "nil"]);
+  assert.equal(nat.of(erasec.parseArguments("(S ".repeat(10_000) + "O" + ")".repeat(10_000), "nat->nat nat=O,S:nat")[0]), 10_000);
+  for (const [text, offset] of [["", 0], ["O", 1], ["O nil O", 6], ["S nil", 0], ["(S) nil", 2], ["(O O) nil", 3], ["(S O", 4], ["(S O O) nil", 5], ["(cons O) nil", 1], ["O (cons O)", 9], ["O )", 2], ["O ((", 3], ["O ?", 2], ["O (", 3], ["true nil", 0]]) {
+    assert.throws(() => erasec.parseArguments(text, PAIR), { name: "BadArgument", message: new RegExp(`^argument at ${offset}:`) }, text);
+  }
+});
+
 test("an instance runs as often as its memory lasts", async () => {
   const program = await load(written(answersArgument(1)), PAIR);
   const session = program.open();
