@@ -162,7 +162,7 @@ emit_spelled P pages m pos small form limits counts =
     with_spelled P (main_function P) [] [] pages m pos small form limits counts (omega arith) tt (omega arith) tt last
 
 -- main applied to so many arguments
-f_applied : {rest : List Instr} (P : Program) (m : ℕ) (counts : CountsFit P m) (limits : Limits P) → BlockFits P.functions (length P.constants) m 0 P.main → (k : ℕ) → k ≤ 255 → Good rest → Good (applied P k rest)
+f_applied : (P : Program) (m : ℕ) (counts : CountsFit P m) (limits : Limits P) → BlockFits P.functions (length P.constants) m 0 P.main → (k : ℕ) {rest : List Instr} → k ≤ 255 → Good rest → Good (applied P k rest)
 f_applied P m counts limits fit zero few k = f_code P m counts limits 0 0 [] P.main (omega (arith, counts.main)) tt fit k
 f_applied P m counts limits fit (suc n) few k =
     f_applied P m counts limits fit n (omega arith) (fits (omega arith) (fits (omega arith) (fits (omega arith, omega arith) (fits (omega arith)

@@ -5,8 +5,8 @@ use Rattle.wasm_core.specs.ModuleTyping.{IsValid}
 use Rattle.wasm_emit.proofs.Emitting.{emits_module, emits_valid, main_is, module_made}
 use Rattle.wasm_emit.proofs.emission.emit.Goals as goal
 
-pub assembled-module-requires-clause-module : goal.assembled-module-requires-clause-module
-assembled-module-requires-clause-module c =
+pub assembled-requires-clause-module : goal.assembled-requires-clause-module
+assembled-requires-clause-module c =
     let made = module_made (lifted_of c.args.p.now) c.args.pages c.in_ok-main.main c.in_ok-globals.globals c.in_ok-exports.exports c.in_ok-bodies.bodies.items c.in_ok-bodies.ensures.is
     (main_is c.args.p.now c.len.result c.in_ok-main.main c.len.ensures.is c.in_ok-main.ensures.is) c.in_ok-globals.ensures.is c.in_ok-exports.ensures.is in
     subst IsModule (sym made) (emits_module (lifted_of c.args.p.now) c.args.pages c.requires.least c.requires.greatest c.requires.form c.in_ok-bodies.ensures.few)
