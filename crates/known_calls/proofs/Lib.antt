@@ -1,1 +1,13 @@
 pub mod KnownHonest
+pub mod Shapes
+pub mod KnownHolds
+pub mod Unreading
+pub mod Finding
+pub mod Knowing
+pub mod KnownMaking
+pub mod KnownCases
+pub mod KnownIndices
+pub mod SameLocals
+pub mod Jumping
+pub mod Working
+pub mod KnownFollows
