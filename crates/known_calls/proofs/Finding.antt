@@ -12,6 +12,19 @@ use Rattle.known_calls.proofs.KnownHolds.{Reads, is_const, Words, no_word, more_
 pub same_some : {A : Type 0} {a b : A} → ◌≡◌ {A = Option A} (Some a) (Some b) → a ≡ b
 same_some e = cc
 
+-- the words of atoms
+pub record Split (o : Option Word) (r : Option (List Word)) (ws : List Word) : Type 0 where
+  pub first : Word
+  pub others : List Word
+  pub one : o ≡ Some first
+  pub more : r ≡ Some others
+  pub is : first ∷ others ≡ ws
+
+pub split : (o : Option Word) (r : Option (List Word)) {ws : List Word} → option_and_then (λ w. option_map (λ vs. w ∷ vs) r) o ≡ Some ws → Split o r ws
+split None r e = cc
+split (Some w) None e = cc
+split (Some w) (Some vs) e = record { first = w; others = vs; one = refl; more = refl; is = same_some e }
+
 module _ (m : Mem) (limit : ℕ) (ls : List ConstValue) (d : ℕ) where
   -- a word, or a known closure
   pub data Held (ps : List Place) (i : ℕ) (v : Val) : Type 0 where
@@ -80,18 +93,6 @@ module _ (m : Mem) (limit : ℕ) (ls : List ConstValue) (d : ℕ) where
   there_unknown env (is_empty {c = c} lt) none = record { place = IsConst (2 * c + 1); is = refl; w = 2 * c + 1; reads = is_const; stands = s_empty lt refl }
 
   -- the words of atoms
-  record Split (o : Option Word) (r : Option (List Word)) (ws : List Word) : Type 0 where
-    first : Word
-    others : List Word
-    one : o ≡ Some first
-    more : r ≡ Some others
-    is : first ∷ others ≡ ws
-
-  split : (o : Option Word) (r : Option (List Word)) {ws : List Word} → option_and_then (λ w. option_map (λ vs. w ∷ vs) r) o ≡ Some ws → Split o r ws
-  split None r e = cc
-  split (Some w) None e = cc
-  split (Some w) (Some vs) e = record { first = w; others = vs; one = refl; more = refl; is = same_some e }
-
   pub words_are : {ps : List Place} {e : Vals} {as' : List Atom} {vs : Vals} {ws : List Word} → Env m limit ls d ps e → AllAre e as' vs → words_of ps as' ≡ Some ws → Words m limit ls d ws vs
   words_are env are_none e = subst (λ x. Words m limit ls d x VNil) (same_some e) no_word
   words_are {ps} env (are_more {a = a} {v = v} {as' = as'} {vs = vs} is hs) e =

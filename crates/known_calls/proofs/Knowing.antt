@@ -11,6 +11,40 @@ use Rattle.known_calls.specs.KnownCode.{known_closure, closure_alone, partial, k
 use Rattle.known_calls.proofs.KnownHolds.{Words, Env, env_nil, env_at}
 use Rattle.known_calls.proofs.Finding.{same_some, Held, held_word, held_known, held, is_at, words_are, all_env}
 
+-- the closure that makes a place known
+pub record Closed (g : ℕ) (r : Option (List Word)) (q : Place) : Type 0 where
+  pub ws : List Word
+  pub all : r ≡ Some ws
+  pub is : Known g ws ≡ q
+  pub few : length ws ≤ 7
+
+closed_if : (g : ℕ) (ws : List Word) (b : Bool) {q : Place} → nat_le (length ws) 7 ≡ b → (if b then Some (Known g ws) else None) ≡ Some q → Closed g (Some ws) q
+closed_if g ws true few e = record { ws = ws; all = refl; is = same_some e; few = leb-true (length ws) 7 few }
+closed_if g ws false few e = cc
+
+pub closed : (g : ℕ) (r : Option (List Word)) {q : Place} → known_closure g r ≡ Some q → Closed g r q
+closed g None e = cc
+closed g (Some ws) e = closed_if g ws (nat_le (length ws) 7) refl e
+
+-- a known closure, its argument, and its function
+pub record Opened (P : Program) (o : Option (ℕ × List Word)) (w : Option Word) (q : Place) : Type 0 where
+  pub k : ℕ × List Word
+  pub a : Word
+  pub fn : Fn
+  pub is : o ≡ Some k
+  pub argument : w ≡ Some a
+  pub at : slice_get P.functions k.0 ≡ Some fn
+  pub alone : closure_alone (At a ∷ all_at k.1) fn.body ≡ Some q
+
+opened_fn : (P : Program) (o : Option (ℕ × List Word)) (w : Option Word) {q : Place} (k : ℕ × List Word) (a : Word) (f : Option Fn) → o ≡ Some k → w ≡ Some a → slice_get P.functions k.0 ≡ f → option_and_then (λ fn. closure_alone (At a ∷ all_at k.1) fn.body) f ≡ Some q → Opened P o w q
+opened_fn P o w k a None is arg at e = cc
+opened_fn P o w k a (Some fn) is arg at e = record { k = k; a = a; fn = fn; is = is; argument = arg; at = at; alone = e }
+
+pub opened : (P : Program) (o : Option (ℕ × List Word)) (w : Option Word) {q : Place} → option_and_then (λ k. partial P k w) o ≡ Some q → Opened P o w q
+opened P None w e = cc
+opened P (Some k) None e = cc
+opened P (Some k) (Some a) e = opened_fn P (Some k) (Some a) k a (slice_get P.functions k.0) refl refl refl e
+
 module _ (P : Program) (m : Mem) (limit : ℕ) (ls : List ConstValue) (d : ℕ) where
   -- the place is that of a closure, which is the value; and there was no match
   pub record IsKnown (q : Place) (v : Val) (k : ℕ) : Type 0 where
@@ -22,20 +56,6 @@ module _ (P : Program) (m : Mem) (limit : ℕ) (ls : List ConstValue) (d : ℕ) 
     pub few : length ws ≤ 7
     pub words : Words m limit ls d ws cs
     pub no_match : k ≡ 0
-
-  record Closed (g : ℕ) (r : Option (List Word)) (q : Place) : Type 0 where
-    ws : List Word
-    all : r ≡ Some ws
-    is : Known g ws ≡ q
-    few : length ws ≤ 7
-
-  closed_if : (g : ℕ) (ws : List Word) (b : Bool) {q : Place} → nat_le (length ws) 7 ≡ b → (if b then Some (Known g ws) else None) ≡ Some q → Closed g (Some ws) q
-  closed_if g ws true few e = record { ws = ws; all = refl; is = same_some e; few = leb-true (length ws) 7 few }
-  closed_if g ws false few e = cc
-
-  closed : (g : ℕ) (r : Option (List Word)) {q : Place} → known_closure g r ≡ Some q → Closed g r q
-  closed g None e = cc
-  closed g (Some ws) e = closed_if g ws (nat_le (length ws) 7) refl e
 
   -- a closure that would be made
   clos_known : {ps : List Place} {e : Vals} {g : ℕ} {as' : List Atom} {vs : Vals} {q : Place} → Env m limit ls d ps e → AllAre e as' vs → known_closure g (words_of ps as') ≡ Some q → IsKnown q (VClos g vs) 0
@@ -52,24 +72,6 @@ module _ (P : Program) (m : Mem) (limit : ℕ) (ls : List ConstValue) (d : ℕ) 
   alone_known env (gets_ret (do_con lt pos few narrow all)) e = cc
   alone_known env (gets_ret (do_case isa few at g)) e = cc
   alone_known env _ e = cc
-
-  record Opened (o : Option (ℕ × List Word)) (w : Option Word) (q : Place) : Type 0 where
-    k : ℕ × List Word
-    a : Word
-    fn : Fn
-    is : o ≡ Some k
-    argument : w ≡ Some a
-    at : slice_get P.functions k.0 ≡ Some fn
-    alone : closure_alone (At a ∷ all_at k.1) fn.body ≡ Some q
-
-  opened_fn : (o : Option (ℕ × List Word)) (w : Option Word) {q : Place} (k : ℕ × List Word) (a : Word) (f : Option Fn) → o ≡ Some k → w ≡ Some a → slice_get P.functions k.0 ≡ f → option_and_then (λ fn. closure_alone (At a ∷ all_at k.1) fn.body) f ≡ Some q → Opened o w q
-  opened_fn o w k a None is arg at e = cc
-  opened_fn o w k a (Some fn) is arg at e = record { k = k; a = a; fn = fn; is = is; argument = arg; at = at; alone = e }
-
-  opened : (o : Option (ℕ × List Word)) (w : Option Word) {q : Place} → option_and_then (λ k. partial P k w) o ≡ Some q → Opened o w q
-  opened None w e = cc
-  opened (Some k) None e = cc
-  opened (Some k) (Some a) e = opened_fn (Some k) (Some a) k a (slice_get P.functions k.0) refl refl refl e
 
   -- the function of an application
   pub record Calls (k : ℕ × List Word) (v : Val) : Type 0 where
@@ -106,14 +108,14 @@ module _ (P : Program) (m : Mem) (limit : ℕ) (ls : List ConstValue) (d : ℕ) 
   known_is env (do_clos low few narrow all) e = clos_known env all e
   known_is env (do_const {x = x} {t = t} at g) e = alone_known env_nil g (sym (ap (option_and_then (closure_alone [])) at) ∙ e)
   known_is {ps = ps} env (do_app {e' = e'} {f = f} {a = a} {g = g} {fn = fn} {v = v} isf isa at sz body) e =
-      let o = opened (known_function ps f) (word_of ps a) e in
+      let o = opened P (known_function ps f) (word_of ps a) e in
       let call = calls env isf o.is in
       let argument = is_at m limit ls d env isa o.argument in
       let function : o.fn ≡ fn = same_some (sym o.at ∙ ap (slice_get P.functions) (sym (same_function call.value)) ∙ at) in
       let inner : Env m limit ls d (At o.a ∷ all_at o.k.1) (VCons v e') = env_at argument.w argument.reads argument.stands (subst (Env m limit ls d (all_at o.k.1)) (sym (same_captured call.value)) (all_env m limit ls d call.words)) in
       alone_known inner body (sym (ap (λ (x : Fn). closure_alone (At o.a ∷ all_at o.k.1) x.body) function) ∙ o.alone)
   known_is {ps = ps} env (do_box_app {f = f} {a = a} isf isa) e =
-      let o = opened (known_function ps f) (word_of ps a) e in
+      let o = opened P (known_function ps f) (word_of ps a) e in
       let call = calls env isf o.is in
       absurd (no_box call.value)
   known_is env (do_con lt pos few narrow all) e = cc

@@ -1,9 +1,9 @@
 -- The emitted instructions follow the evaluation of the lifted program.
 use Rattle.std.proofs.Common.{◌≡◌, ℕ, zero, suc, ◌+◌, ◌-◌, ◌*◌, ◌<◌, ◌≤◌, List, [], ◌∷◌, ◌++◌, length, length-append, Option, Some, None, Bool, true, false, refl, ap, sym, ◌∙◌, subst, arith}
-use Rattle.std.proofs.lemmas.Bool.{leb-true, leb-false, eqb-true}
+use Rattle.std.proofs.lemmas.Bool.{eqb-true}
 use Rattle.std.proofs.lemmas.List.{length-reverse}
 use Rattle.std.proofs.lemmas.Option.{slice_get_within, slice_get-get_or}
-use Rattle.std.specs.Prelude.{slice_get, slice_set, reverse, nat_eq, nat_le, if◌then◌else◌}
+use Rattle.std.specs.Prelude.{slice_get, slice_set, reverse, nat_eq, nat_le, ◌&&◌, if◌then◌else◌}
 use Rattle.wasm_core.specs.declared.types.ValType.TheVariants as type
 use Rattle.wasm_core.specs.declared.types.ConstValue.{ConstValue}
 use Rattle.wasm_core.specs.declared.types.ConstValue.TheVariants.{I32}
@@ -33,17 +33,17 @@ use Rattle.wasm_emit.proofs.Making.{all_size}
 use Rattle.wasm_emit.proofs.Cases.{at_zero}
 use Rattle.wasm_emit.proofs.Follows.{zeros_length, branch_top}
 use Rattle.known_calls.specs.KnownPlaces.{Word, InLocal, InField, Place, At, Known, fields_of, word_of, known_function, names, branches_read, block_reads}
-use Rattle.known_calls.specs.KnownCode.{Position, Inside, InTail, is_wide, into_params, worker_index, application, call_worker, choose, unmade, known, op, code, empties, heads}
+use Rattle.known_calls.specs.KnownCode.{Position, Inside, InTail, is_wide, into_params, worker_index, most_blocks, jumps, application, call_worker, choose, unmade, known, op, code, empties, heads}
 use Rattle.known_calls.specs.KnownModule.{params, captured_words, worker_code, module_with}
 use Rattle.known_calls.specs.KnownCalls.{applied}
 use Rattle.known_calls.proofs.KnownHolds.{in_local, in_field, Words, words_length, Env, env_nil, env_at, env_known, env_on, Unread, OpUnread, Stood, stood_inside, stood_in_tail, stood_up, loop_of}
-use Rattle.known_calls.proofs.Unreading.{neither, unread_known, unread_at, unread_let_atom, unread_op, unread_branch}
+use Rattle.known_calls.proofs.Unreading.{neither, and_true, unmade_some, unread_known, unread_at, unread_let_atom, unread_op, unread_branch}
 use Rattle.known_calls.proofs.Finding.{There, there, there_unknown, same_some}
 use Rattle.known_calls.proofs.Knowing.{IsKnown, known_is, calls, same_function, same_captured, no_box}
 use Rattle.known_calls.proofs.KnownMaking.{WordsStand, stand_more, words, stand_size, put_atom, pushed, made}
 use Rattle.known_calls.proofs.KnownCases.{Yields, Out, Go, fewer_kept, pass_empties, take_empty, take_head}
-use Rattle.known_calls.proofs.KnownIndices.{constant_at, wide_at, stub_at, worker_at, table_entry}
-use Rattle.known_calls.proofs.SameLocals.{top_from}
+use Rattle.known_calls.proofs.KnownIndices.{not_wide, narrow_few, constant_at, wide_at, stub_at, worker_at, table_entry}
+use Rattle.known_calls.proofs.SameLocals.{worker_top, top_less}
 use Rattle.known_calls.proofs.Jumping.{r_br_out}
 use Rattle.known_calls.proofs.Working.{params_env, params_made, set_all, set_all_length, set_params_env, in_loop, same_around, r_call_words, r_params, loaded}
 use Rattle.known_calls.proofs.Shapes.{shaped_heads}
@@ -81,29 +81,6 @@ low_word m m' room same nil = word_same m m' 0 (λ x a b. same x (omega (arith, 
 
 top_arg : {m : Mem} {l a : ℕ} {v : Val} {vs : Vals} → ArgsAt m l a (VCons v vs) → Stands m l (word m (a + 4 * size vs)) v
 top_arg (args_more h within args) = h
-
--- the locals of a worker
-worker_top : (captured : ℕ) (t : Block) → top (suc captured) t ≤ suc captured + (top 2 t - 2)
-worker_top captured t =
-    let a : top (suc captured + 0) t ≡ suc captured + top 0 t = top_from (suc captured) 0 t in
-    let b : top (2 + 0) t ≡ 2 + top 0 t = top_from 2 0 t in
-    let c : top (suc captured + 0) t ≡ top (suc captured) t = ap (λ (k : ℕ). top k t) (omega arith) in
-    omega (arith, a, b, c)
-
--- and of a block behind a binding that needs none
-top_less : (d : ℕ) (t : Block) → top d t ≤ top (suc d) t
-top_less d t =
-    let a : top (1 + d) t ≡ 1 + top d t = top_from 1 d t in
-    let b : top (1 + d) t ≡ top (suc d) t = ap (λ (k : ℕ). top k t) (omega arith) in
-    omega (arith, a, b)
-
--- the first free local is among those that there are
-free_within : (d : ℕ) (f a : Atom) → top_op d (OApp f a) ≡ d
-free_within d f a = refl
-
-unmade_some : (b : Bool) (o : Option Place) {q : Place} → (if b then None else o) ≡ Some q → (b ≡ false) × (o ≡ Some q)
-unmade_some true o e = cc
-unmade_some false o e = (refl, e)
 
 module _ (P : Program) (main : Body) (gs : List GlobalDef) (es : List Export) (pages : ℕ) (small : pages ≤ 16384) (W N : ℕ) (some : 0 < N) (cap : Limits) (Q : State → Type 0) where
   abbrev M : Parts
@@ -223,7 +200,7 @@ module _ (P : Program) (main : Body) (gs : List GlobalDef) (es : List Export) (p
         not_known (suc i) j us z = fields_made 0 fn.captured i j us z
     entered {f} {m} {p} {h} {w1} {wa} {ls} {vals} {rest} {l} {u} false narrow s1 sa room nil needed deep go =
         let c1 = closure s1 in
-        let few : fn.captured ≤ 7 = omega (arith, leb-false 8 fn.captured narrow) in
+        let few : fn.captured ≤ 7 = narrow_few fn narrow in
         let locals : List ConstValue = I32 w1 ∷ I32 wa ∷ [] in
         let F = callee f ls vals rest in
         looser M cap Q (r_indirect M cap Q 0 {y = suc (suc g)} (omega arith) refl (table_entry P main gs es pages (suc g) (omega (arith, slice_get_within P.functions g fn is_at))) (stub_at P main gs es pages g fn is_at narrow)
@@ -244,27 +221,20 @@ module _ (P : Program) (main : Body) (gs : List GlobalDef) (es : List Export) (p
         looser M cap Q (pushed M fixed cap Q {l = k + l} {u = 2 + (cost c b + 14 + u)} (omega arith) room.inside held (λ ws all. put_atom M fixed cap Q {u = cost c b + 14 + u} (omega arith) room.inside arg (λ wa sa.
         turned at stood wa ws (stand_more sa all) many))) (omega arith) (omega (arith, many))
       where
-        narrow : is_wide fn ≡ false
-        narrow = lower (is_wide fn) refl
-          where
-            lower : (b : Bool) → is_wide fn ≡ b → is_wide fn ≡ false
-            lower false e = e
-            lower true e = absurd (omega (arith, leb-true 8 fn.captured e, few))
-
         called : (wa : ℕ) (ws : List ℕ) → WordsStand m h (wa ∷ ws) (VCons v e') → Within M cap Q (k + l) (cost c b + 14 + u) (here cap F m p h ls (words (wa ∷ ws) ++ vals) (Call (worker_index P g) ∷ rest))
-        called wa ws all = looser M cap Q (call_follows {ws = wa ∷ ws} narrow few all room nil needed deep go) (omega arith) (omega arith)
+        called wa ws all = looser M cap Q (call_follows {ws = wa ∷ ws} (not_wide fn few) few all room nil needed deep go) (omega arith) (omega arith)
 
-        either : (same : Bool) (h0 depth : ℕ) → nat_eq g h0 ≡ same → Stood P (InTail h0 depth) tail d F.keeps F.labels → (wa : ℕ) (ws : List ℕ) → WordsStand m h (wa ∷ ws) (VCons v e') → length us ≡ fn.captured →
+        either : (same : Bool) (h0 depth : ℕ) → jumps g h0 depth ≡ same → Stood P (InTail h0 depth) tail d F.keeps F.labels → (wa : ℕ) (ws : List ℕ) → WordsStand m h (wa ∷ ws) (VCons v e') → length us ≡ fn.captured →
             Within M cap Q (k + l) (cost c b + 14 + u) (here cap F m p h ls (words (wa ∷ ws) ++ vals) (if same then into_params (length us) (Br depth ∷ rest) else (Call (worker_index P g) ∷ rest)))
         either false h0 depth e stood' wa ws all many = called wa ws all
         either true h0 depth e stood' wa ws all many =
             subst (λ (x : ℕ). Within M cap Q (k + l) (cost c b + 14 + u) (here cap F m p h ls (words (wa ∷ ws) ++ vals) (into_params x (Br depth ∷ rest)))) (sym many)
-            (jump_follows few all room nil needed (omega arith) (subst (λ (x : ℕ). Stood P (InTail x depth) tail d F.keeps F.labels) (sym (eqb-true g h0 e)) stood') has out)
+            (jump_follows few all room nil needed (omega arith) (subst (λ (x : ℕ). Stood P (InTail x depth) tail d F.keeps F.labels) (sym (eqb-true g h0 (and_true (nat_eq g h0) (nat_le depth most_blocks) e).0)) stood') has out)
 
         turned : (at' : Position) → Stood P at' tail d F.keeps F.labels → (wa : ℕ) (ws : List ℕ) → WordsStand m h (wa ∷ ws) (VCons v e') → length us ≡ fn.captured →
             Within M cap Q (k + l) (cost c b + 14 + u) (here cap F m p h ls (words (wa ∷ ws) ++ vals) (call_worker P at' g (length us) rest))
         turned Inside stood' wa ws all many = called wa ws all
-        turned (InTail h0 depth) stood' wa ws all many = either (nat_eq g h0) h0 depth refl stood' wa ws all many
+        turned (InTail h0 depth) stood' wa ws all many = either (jumps g h0 depth) h0 depth refl stood' wa ws all many
 
   sim_app : {tail : Bool} {D : ℕ} {e e' : Vals} {f a : Atom} {g : ℕ} {fn : Fn} {v r : Val} {c k b s : ℕ} → Is e f (VClos g e') → Is e a v → slice_get P.functions g ≡ Some fn → size e' ≡ fn.captured → SimCode true D (VCons v e') fn.body r c k b s → SimOp tail (suc D) e (OApp f a) r (suc c) k b s
   sim_app {tail} {D} {e} {e'} {f} {a} {g} {fn} {v} {r} {c} {k} {b} {s} isf isa is_at sz body = record {

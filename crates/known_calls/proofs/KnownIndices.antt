@@ -1,5 +1,6 @@
 -- Where a module with workers has its functions, their types, and the entries of its table.
 use Rattle.std.proofs.Common.{◌≡◌, ℕ, zero, suc, ◌+◌, ◌-◌, ◌<◌, ◌≤◌, List, [], ◌∷◌, ◌++◌, length, map, Option, Some, None, Bool, true, false, refl, ap, sym, ◌∙◌, arith, length-append}
+use Rattle.std.proofs.lemmas.Bool.{leb-true, leb-false}
 use Rattle.std.proofs.lemmas.Option.{slice_get-map}
 use Rattle.std.specs.Option.{option_map, option_and_then}
 use Rattle.std.specs.Prelude.{slice_get, if◌then◌else◌}
@@ -20,6 +21,16 @@ use Rattle.wasm_emit.proofs.Indices as emitted
 use Rattle.known_calls.specs.KnownPlaces.{At, InLocal, fields_of}
 use Rattle.known_calls.specs.KnownCode.{is_wide, worker_index, Inside, code}
 use Rattle.known_calls.specs.KnownModule.{words_type, wide_body, stub_code, entry, worker_code, worker, worker_type, numbered, constant, in_order, module_with}
+
+pub not_wide : (fn : Fn) → fn.captured ≤ 7 → is_wide fn ≡ false
+not_wide fn few = cases (is_wide fn) refl
+  where
+    cases : (b : Bool) → is_wide fn ≡ b → is_wide fn ≡ false
+    cases false e = e
+    cases true e = absurd (omega (arith, leb-true 8 fn.captured e, few))
+
+pub narrow_few : (fn : Fn) → is_wide fn ≡ false → fn.captured ≤ 7
+narrow_few fn e = omega (arith, leb-false 8 fn.captured e)
 
 pub numbered_length : {A : Type 0} (make : ℕ → Fn → A) (i : ℕ) (fs : List Fn) → length (numbered make i fs) ≡ length fs
 numbered_length make i [] = refl

@@ -1,6 +1,6 @@
 -- What holds of all emitted code: it stands in front of the rest, all its brackets are closed, and it sets the status only from a test of a grow.
 use Rattle.std.proofs.Common.{◌≡◌, ℕ, zero, suc, ◌+◌, ◌*◌, List, [], ◌∷◌, ◌++◌, length, Option, Some, None, Bool, true, false, refl, ap, sym, ◌∙◌, append_assoc, arith}
-use Rattle.std.specs.Prelude.{nat_eq, if◌then◌else◌}
+use Rattle.std.specs.Prelude.{if◌then◌else◌}
 use Rattle.wasm_core.specs.declared.types.ValType.TheVariants as type
 use Rattle.wasm_core.specs.declared.instrs.BlockType.TheVariants.{Value}
 use Rattle.wasm_core.specs.declared.instrs.Instr.{Instr}
@@ -10,7 +10,8 @@ use Rattle.anf_convert.specs.declared.program.Atom.{Atom}
 use Rattle.closure_lift.specs.Lifted.{Op, OConst, OApp, OCon, OClos, OCase, Block, RetAtom, LetAtom, Ret, Let, Branches, BNil, BCons, Program}
 use Rattle.wasm_emit.specs.EmittedCode.{Load, Store, IfWord, CallClosure, constant_index, ensure_room}
 use Rattle.known_calls.specs.KnownPlaces.{Word, InLocal, InField, IsConst, Place, At, fields_of, word_of, known_function}
-use Rattle.known_calls.specs.KnownCode.{Position, Inside, InTail, deeper, read_word, read, atom, push_words, fill, block, into_params, worker_index, call_worker, application, choose, unmade, op, code, empties, heads}
+use Rattle.known_calls.specs.KnownCode.{Position, Inside, InTail, deeper, read_word, read, atom, push_words, fill, block, into_params, worker_index, jumps, call_worker, application, choose, unmade, op, code, empties, heads}
+use Rattle.known_calls.specs.KnownModule.{captured_words}
 use Rattle.known_calls.proofs.KnownHonest.{Wary, w_cons, NotStatus}
 
 pub record Shaped (g : List Instr → List Instr) : Type 0 where
@@ -87,6 +88,10 @@ shaped_params : (n : ℕ) → Shaped (into_params n)
 shaped_params zero = one _ refl tt
 shaped_params (suc n) = one (LocalSet (suc n)) refl tt then shaped_params n
 
+pub shaped_captured : (n : ℕ) → Shaped (captured_words n)
+shaped_captured zero = same_shaped
+shaped_captured (suc n) = shaped_captured n then (one (LocalGet 0) refl tt then one (Load (4 * suc n)) refl tt)
+
 module _ (P : Program) where
   shaped_jump : (b : Bool) (g n depth : ℕ) → Shaped (λ r. if b then into_params n (Br depth ∷ r) else (Call (worker_index P g) ∷ r))
   shaped_jump true g n depth = shaped_params n then one (Br depth) refl tt
@@ -94,7 +99,7 @@ module _ (P : Program) where
 
   shaped_call : (at : Position) (g n : ℕ) → Shaped (call_worker P at g n)
   shaped_call Inside g n = one (Call (worker_index P g)) refl tt
-  shaped_call (InTail h depth) g n = shaped_jump (nat_eq g h) g n depth
+  shaped_call (InTail h depth) g n = shaped_jump (jumps g h depth) g n depth
 
   shaped_application : (env : List Place) (at : Position) (f a : Atom) (o : Option (ℕ × List Word)) → Shaped (application P env at f a o)
   shaped_application env at f a None = shaped_atom env f then (shaped_atom env a then (shaped_atom env f then (one (Load 0) refl tt then one CallClosure refl tt)))

@@ -1,6 +1,6 @@
 -- A closure that is made nowhere is read as a word nowhere in the parts of a block either.
-use Rattle.std.proofs.Common.{◌≡◌, ℕ, zero, suc, ◌+◌, List, ◌∷◌, Some, Bool, true, false, refl, sym, ◌∙◌, ap, arith}
-use Rattle.std.specs.Prelude.{slice_get, ◌||◌}
+use Rattle.std.proofs.Common.{◌≡◌, ℕ, zero, suc, ◌+◌, List, ◌∷◌, Option, Some, None, Bool, true, false, refl, sym, ◌∙◌, ap, arith}
+use Rattle.std.specs.Prelude.{slice_get, ◌||◌, ◌&&◌, if◌then◌else◌}
 use Rattle.closure_lift.specs.Lifted.{Op, OCase, Block, LetAtom, Ret, Let, Branches, BNil, BCons, BranchAt, branch_here, branch_after}
 use Rattle.anf_convert.specs.declared.program.Atom.{Atom}
 use Rattle.known_calls.specs.KnownPlaces.{Word, Place, At, Known, fields_of, names, some_names, op_reads, block_reads, branches_read}
@@ -10,6 +10,16 @@ pub neither : (a b : Bool) → a || b ≡ false → (a ≡ false) × (b ≡ fals
 neither false false e = (refl, refl)
 neither false true e = cc
 neither true b e = cc
+
+pub and_true : (a b : Bool) → (a && b) ≡ true → (a ≡ true) × (b ≡ true)
+and_true true true e = (refl, refl)
+and_true true false e = cc
+and_true false b e = cc
+
+-- a binding that needs no code
+pub unmade_some : (b : Bool) (o : Option Place) {q : Place} → (if b then None else o) ≡ Some q → (b ≡ false) × (o ≡ Some q)
+unmade_some true o e = cc
+unmade_some false o e = (refl, e)
 
 -- behind a binding that needs no code
 pub unread_known : (ps : List Place) (p : Op) (t : Block) (g : ℕ) (ws : List Word) → Unread ps (Let p t) → block_reads 0 t ≡ false → Unread (Known g ws ∷ ps) t

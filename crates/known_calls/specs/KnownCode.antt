@@ -1,6 +1,6 @@
 -- The instructions of a block of a lifted program. A saturated call of a known function is a direct call of its worker, which takes the captured words and the argument as parameters; a worker's tail call of
 -- itself is a branch to its beginning; and a closure that is known, and read as a word nowhere, is made nowhere. All else is as in `EmittedCode` of `wasm_emit`. Each function puts its instructions in front of `rest`.
-use Rattle.std.specs.Prelude.{ℕ, zero, suc, ◌+◌, ◌*◌, Bool, true, false, if◌then◌else◌, nat_eq, nat_le, List, [], ◌∷◌, length, Option, Some, None, slice_get}
+use Rattle.std.specs.Prelude.{ℕ, zero, suc, ◌+◌, ◌*◌, Bool, true, false, ◌&&◌, if◌then◌else◌, nat_eq, nat_le, List, [], ◌∷◌, length, Option, Some, None, slice_get}
 use Rattle.std.specs.Option.{option_and_then}
 use Rattle.anf_convert.specs.declared.program.Atom.{Atom}
 use Rattle.closure_lift.specs.Lifted.{Op, OConst, OApp, OCon, OClos, OCase, Block, RetAtom, LetAtom, Ret, Let, Branches, BNil, BCons, Fn, Program}
@@ -99,9 +99,17 @@ abbrev pub into_params : ℕ → List Instr → List Instr
 into_params zero rest = LocalSet 0 ∷ rest
 into_params (suc n) rest = LocalSet (suc n) ∷ into_params n rest
 
+-- a branch out of more blocks is a call
+abbrev pub most_blocks : ℕ
+most_blocks = 16383
+
+abbrev pub jumps : ℕ → ℕ → ℕ → Bool
+jumps g h depth = nat_eq g h && nat_le depth most_blocks
+
+-- the worker of g is called with n captured words and an argument
 abbrev pub call_worker : Program → Position → ℕ → ℕ → List Instr → List Instr
 call_worker P Inside g n rest = Call (worker_index P g) ∷ rest
-call_worker P (InTail h depth) g n rest = if nat_eq g h then into_params n (Br depth ∷ rest) else (Call (worker_index P g) ∷ rest)
+call_worker P (InTail h depth) g n rest = if jumps g h depth then into_params n (Br depth ∷ rest) else (Call (worker_index P g) ∷ rest)
 
 -- an unknown closure's function is called by its entry of the table; a known one by its worker
 abbrev pub application : Program → List Place → Position → Atom → Atom → Option (ℕ × List Word) → List Instr → List Instr
