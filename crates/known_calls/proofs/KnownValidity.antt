@@ -60,7 +60,7 @@ module _ (P : Program) (most : ℕ) (form : Formed P most) (main : Body) (gs : L
   abbrev M : Parts
   M = module_with P main gs es pages
 
-  entry_typed : (g : ℕ) (fn : Fn) → slice_get P.functions g ≡ Some fn → TypedFunc M 2 (entry P g fn)
+  pub entry_typed : (g : ℕ) (fn : Fn) → slice_get P.functions g ≡ Some fn → TypedFunc M 2 (entry P g fn)
   entry_typed g fn at = either (is_wide fn) refl
     where
       either : (b : Bool) → is_wide fn ≡ b → TypedFunc M 2 (if b then wide_body P fn else body 0 (stub_code P g fn.captured))
@@ -92,7 +92,7 @@ module _ (P : Program) (most : ℕ) (form : Formed P most) (main : Body) (gs : L
             };
           }
 
-  worker_typed : (g : ℕ) (fn : Fn) → slice_get P.functions g ≡ Some fn → TypedFunc M (worker_type fn) (worker P g fn)
+  pub worker_typed : (g : ℕ) (fn : Fn) → slice_get P.functions g ≡ Some fn → TypedFunc M (worker_type fn) (worker P g fn)
   worker_typed g fn at = either (is_wide fn) refl
     where
       either : (b : Bool) → is_wide fn ≡ b → TypedFunc M (if b then 0 else suc (suc (suc fn.captured))) (if b then body 0 (Unreachable ∷ End ∷ []) else body (top 2 fn.body - 2) (Loop (Value I32) ∷ worker_code P g fn))
@@ -117,7 +117,7 @@ module _ (P : Program) (most : ℕ) (form : Formed P most) (main : Body) (gs : L
             };
           }
 
-  constant_typed : (t : Block) → BlockFits P.functions (length P.constants) most 0 t → TypedFunc M 1 (constant P t)
+  pub constant_typed : (t : Block) → BlockFits P.functions (length P.constants) most 0 t → TypedFunc M 1 (constant P t)
   constant_typed t fit = record {
     type = type_constant;
     found = refl;
@@ -130,7 +130,7 @@ module _ (P : Program) (most : ℕ) (form : Formed P most) (main : Body) (gs : L
     };
   }
 
-  main_typed : TypedFunc M 0 (main_function P)
+  pub main_typed : TypedFunc M 0 (main_function P)
   main_typed = record {
     type = type_main;
     found = refl;
@@ -143,10 +143,10 @@ module _ (P : Program) (most : ℕ) (form : Formed P most) (main : Body) (gs : L
     };
   }
 
-  box_typed : TypedFunc M 2 box_function
+  pub box_typed : TypedFunc M 2 box_function
   box_typed = record { type = type_function; found = refl; typed = t_body M (I32 ∷ I32 ∷ []) (I32 ∷ []) (Const 0 ∷ []) (t_plain [] refl done) }
 
-  room_typed : TypedFunc M 0 room_function
+  pub room_typed : TypedFunc M 0 room_function
   room_typed = record {
     type = type_main;
     found = refl;

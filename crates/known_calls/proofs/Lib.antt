@@ -11,3 +11,14 @@ pub mod SameLocals
 pub mod Jumping
 pub mod Working
 pub mod KnownFollows
+pub mod KnownAnswering
+pub mod Fitting
+pub mod KnownTyped
+pub mod KnownValidity
+pub mod KnownStatus
+pub mod Bounded
+pub mod KnownSpelling
+pub mod KnownComposition
+pub mod KnownCalling
+pub mod KnownSizes
+pub mod KnownLight
