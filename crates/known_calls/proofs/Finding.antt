@@ -78,8 +78,11 @@ module _ (m : Mem) (limit : ℕ) (ls : List ConstValue) (d : ℕ) where
   pub there : {ps : List Place} {e : Vals} {a : Atom} {v : Val} → Env m limit ls d ps e → Is e a v → ((i g : ℕ) (ws : List Word) → slice_get ps i ≡ Some (Known g ws) → names i a ≡ false) → There ps a v
   there env (is_var {i = i} at) un = there_held (held i env at) (λ g ws e. itself (un i g ws e))
     where
+      both : true ≡ false → ⊥
+      both e = cc
+
       itself : nat_eq i i ≡ false → ⊥
-      itself e = let x = eq-eqb i i refl in cc
+      itself e = both (sym (eq-eqb i i refl) ∙ e)
   there env is_box un = record { place = IsConst 0; is = refl; w = 0; reads = is_const; stands = s_box refl }
   there env (is_empty {c = c} lt) un = record { place = IsConst (2 * c + 1); is = refl; w = 2 * c + 1; reads = is_const; stands = s_empty lt refl }
 

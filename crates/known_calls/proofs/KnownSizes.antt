@@ -50,12 +50,6 @@ items_size k one (x ∷ xs) w h = omega (arith, h x (put_all one xs w), items_si
 -- the bodies
 module _ (P : Program) (m : ℕ) (form : Formed P m) (counts : CountsFit P m) (limits : Limits P) where
   -- a function has its body in its entry or in its worker
-  entry_bytes : Fn → ℕ
-  entry_bytes fn = if is_wide fn then 18 + weight fn.body else 82
-
-  worker_bytes : Fn → ℕ
-  worker_bytes fn = if is_wide fn then 19 else 21 + weight fn.body
-
   entry_size : (g : ℕ) (fn : Fn) (w : List ℕ) → slice_get P.functions g ≡ Some fn → length (put_body (entry P g fn) w) ≤ (if is_wide fn then 18 + weight fn.body else 82) + length w
   entry_size g fn w at = either (is_wide fn) refl
     where
@@ -80,11 +74,11 @@ module _ (P : Program) (m : ℕ) (form : Formed P m) (counts : CountsFit P m) (l
       either true = omega arith
       either false = omega arith
 
-  entries_bytes : List Fn → ℕ
+  abbrev entries_bytes : List Fn → ℕ
   entries_bytes [] = 0
   entries_bytes (f ∷ fs) = (if is_wide f then 18 + weight f.body else 82) + entries_bytes fs
 
-  workers_bytes : List Fn → ℕ
+  abbrev workers_bytes : List Fn → ℕ
   workers_bytes [] = 0
   workers_bytes (f ∷ fs) = (if is_wide f then 19 else 21 + weight f.body) + workers_bytes fs
 
