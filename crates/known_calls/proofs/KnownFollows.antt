@@ -167,9 +167,10 @@ module _ (P : Program) (main : Body) (gs : List GlobalDef) (es : List Export) (p
         let n = top 2 fn.body - 2 in
         let L = set_all (words (w0 ∷ ws)) ls in
         let count : suc (length (words ws)) ≡ suc fn.captured = stand_size all ∙ ap suc sz in
+        let many : length (words ws) ≡ fn.captured = omega (arith, count) in
         let start : Env m h L (suc fn.captured) (params (suc fn.captured)) (VCons v e') = subst (λ (j : ℕ). Env m h L (suc fn.captured) (params j) (VCons v e')) (ap suc sz) (set_params_env ls (omega (arith, count)) (omega (arith, sz)) all) in
         subst (λ (X : Around). Within M cap Q (k + l) (cost c b + 14 + u) (here cap X m p h ls (words (w0 ∷ ws) ++ vals) (into_params fn.captured (Br depth ∷ rest)))) (sym around)
-        (subst (λ (x : ℕ). Within M cap Q (k + l) (cost c b + 14 + u) (here cap G m p h ls (words (w0 ∷ ws) ++ vals) (into_params x (Br depth ∷ rest)))) (omega (arith, count))
+        (subst (λ (x : ℕ). Within M cap Q (k + l) (cost c b + 14 + u) (here cap G m p h ls (words (w0 ∷ ws) ++ vals) (into_params x (Br depth ∷ rest)))) many
         (looser M cap Q (r_params M cap Q (words ws) (I32 w0) {f = G} ls (Br depth ∷ rest) (omega arith) (omega (arith, count))
         (subst (λ (x : ℕ). Within M cap Q (suc (suc (k + l))) (suc (suc (cost c b + 2 + suc (suc u)))) (here cap G m p h L vals (Br x ∷ rest))) i.count
         (r_br_out M cap.frames Q (Spent M cap.bytes) bare i.inner [] (omega arith)
