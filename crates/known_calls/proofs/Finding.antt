@@ -71,8 +71,8 @@ module _ (m : Mem) (limit : ℕ) (ls : List ConstValue) (d : ℕ) where
     pub stands : Stands m limit w v
 
   there_held : {ps : List Place} {i : ℕ} {v : Val} → Held ps i v → ((g : ℕ) (ws : List Word) → slice_get ps i ≡ Some (Known g ws) → ⊥) → There ps (AVar i) v
-  there_held (held_word {p = p} w at r s) no = record { place = p; is = ap (option_and_then word_at) at; w = w; reads = r; stands = s }
-  there_held (held_known {g = g} {ws = ws} at is few words) no = absurd (no g ws at)
+  there_held (held_word {p = p} w at r s) never = record { place = p; is = ap (option_and_then word_at) at; w = w; reads = r; stands = s }
+  there_held (held_known {g = g} {ws = ws} at is few words) never = absurd (never g ws at)
 
   -- one that names no closure that is made nowhere
   pub there : {ps : List Place} {e : Vals} {a : Atom} {v : Val} → Env m limit ls d ps e → Is e a v → ((i g : ℕ) (ws : List Word) → slice_get ps i ≡ Some (Known g ws) → names i a ≡ false) → There ps a v

@@ -12,7 +12,7 @@ use Rattle.wasm_core.specs.declared.exports.Export.{Export}
 use Rattle.wasm_core.specs.declared.instrs.BlockType.TheVariants.{Value}
 use Rattle.wasm_core.specs.declared.instrs.Body.{Body}
 use Rattle.wasm_core.specs.declared.instrs.Instr.{Instr}
-use Rattle.wasm_core.specs.declared.instrs.Instr.TheVariants.{CallIndirect, Call, Br, End, Loop, LocalSet}
+use Rattle.wasm_core.specs.declared.instrs.Instr.TheVariants.{CallIndirect, Call, Br, End, Loop, LocalGet, LocalSet}
 use Rattle.wasm_core.specs.Parts.{Parts}
 use Rattle.wasm_core.specs.Memory.{word}
 use Rattle.wasm_core.specs.MachineStep.{State}
@@ -135,7 +135,7 @@ module _ (P : Program) (main : Body) (gs : List GlobalDef) (es : List Export) (p
   abbrev Then : Mem → ℕ → List ConstValue → Val → ℕ → Around → List ConstValue → List Instr → ℕ → ℕ → Type 0
   Then m h ls r s f vals rest l u = (m' : Mem) (p' h' w : ℕ) → h ≤ h' → h' ≤ h + 4 * s → Room M m' p' h' → Same h m m' → Stands m' h' w r → Within M cap Q l u (here cap f m' p' h' ls (I32 w ∷ vals) rest)
 
-  module _ {D : ℕ} {g : ℕ} {fn : Fn} {e' : Vals} {v r : Val} {c k b s : ℕ} (is_at : slice_get P.functions g ≡ Some fn) (sz : size e' ≡ fn.captured) (body : SimCode true D (VCons v e') fn.body r c k b s) where
+  module _ {D : ℕ} (g : ℕ) {fn : Fn} {e' : Vals} {v r : Val} {c k b s : ℕ} (is_at : slice_get P.functions g ≡ Some fn) (sz : size e' ≡ fn.captured) (body : SimCode true D (VCons v e') fn.body r c k b s) where
     -- the worker is called with words of its captured values and of its argument
     call_follows : {ws : List ℕ} {f : Around} {m : Mem} {p h : ℕ} {ls vals : List ConstValue} {rest : List Instr} {l u : ℕ} → is_wide fn ≡ false → fn.captured ≤ 7 → WordsStand m h ws (VCons v e') → Room M m p h → word m 0 ≡ 0 → h + 4 * s ≤ cap.bytes →
         length f.callers + 2 * D + 2 ≤ cap.frames → Then m h ls r s f vals rest l u → Within M cap Q (k + l) (cost c b + 6 + u) (here cap f m p h ls (words ws ++ vals) (Call (worker_index P g) ∷ rest))
@@ -148,23 +148,23 @@ module _ (P : Program) (main : Body) (gs : List GlobalDef) (es : List Export) (p
         looser M cap Q (r_call_words M cap Q n (words ws) (omega arith) (worker_at P main gs es pages g fn is_at narrow few) count
         (rule.r_loop M cap.frames Q (Spent M cap.bytes) {b = Value type.I32} (omega arith)
         ((body.sim (InTail g 0) m p h L (suc fn.captured) (params (suc fn.captured)) room nil start (λ i j us z. absurd (params_made (suc fn.captured) i j us z)) (omega (arith, long, worker_top fn.captured fn.body)) needed).run
-        (in_block (loop_of P g fn) (callee f ls vals rest)) [] (End ∷ End ∷ []) l (suc (suc u)) (cost c b + 2 + suc (suc u)) (stood_in_tail [] refl is_at (omega arith)) (omega arith) (omega arith)
+        (in_block (loop_of P g fn) (callee f ls vals rest)) [] (End ∷ End ∷ []) l (suc (suc u)) (cost c b + 2 + suc (suc u)) (stood_in_tail [] refl is_at (omega arith) (omega (arith, long, worker_top fn.captured fn.body))) (omega arith) (omega arith)
         (λ m' p' h' ls' w x y room' same keeps st. looser M cap Q (r_end M cap Q {k = loop_of P g fn} (omega arith) (r_back M cap Q (omega arith) (go m' p' h' w x y room' same st))) (omega arith) (omega arith))
         (λ z m' p' h' w x y room' same st. looser M cap Q (go m' p' h' w x y room' same st) (omega arith) (omega arith)))))
         (omega arith) (omega arith)
 
     -- the worker's tail begins it again
-    jump_follows : {w0 : ℕ} {ws : List ℕ} {F : Around} {m : Mem} {p h : ℕ} {ls vals : List ConstValue} {rest : List Instr} {l u depth d : ℕ} {tail : Bool} → fn.captured ≤ 7 → WordsStand m h (w0 ∷ ws) (VCons v e') → Room M m p h → word m 0 ≡ 0 → h + 4 * s ≤ cap.bytes →
-        length F.callers + 2 * D + 1 ≤ cap.frames → Stood P (InTail g depth) tail d F.keeps F.labels → d ≤ length ls → (tail ≡ true → Out P M cap Q m h r s F l u) →
+    jump_follows : {w0 : ℕ} {ws : List ℕ} {F : Around} {m : Mem} {p h : ℕ} {ls : List ConstValue} (vals : List ConstValue) (rest : List Instr) {l u depth d : ℕ} {tail : Bool} → fn.captured ≤ 7 → WordsStand m h (w0 ∷ ws) (VCons v e') → Room M m p h → word m 0 ≡ 0 → h + 4 * s ≤ cap.bytes →
+        length F.callers + 2 * D + 1 ≤ cap.frames → Stood P (InTail g depth) tail d (length ls) F.keeps F.labels → d ≤ length ls → (tail ≡ true → Out P M cap Q m h r s F l u) →
         Within M cap Q (k + l) (cost c b + 14 + u) (here cap F m p h ls (words (w0 ∷ ws) ++ vals) (into_params fn.captured (Br depth ∷ rest)))
-    jump_follows {w0} {ws} {F} {m} {p} {h} {ls} {vals} {rest} {l} {u} {depth} {d} few all room nil needed deep stood has out =
+    jump_follows {w0} {ws} {F} {m} {p} {h} {ls} vals rest {l} {u} {depth} {d} few all room nil needed deep stood has out =
         let i = in_loop P g depth stood in
         let same_fn : i.fn ≡ fn = same_some (sym i.at ∙ is_at) in
         let G : Around = record { keeps = true; labels = i.inner ++ loop_of P g fn ∷ []; callers = F.callers } in
         let bare : Around = record { keeps = true; labels = []; callers = F.callers } in
         let around : F ≡ G = same_around F true (i.inner ++ loop_of P g fn ∷ []) i.keep (i.is ∙ ap (λ (x : Fn). i.inner ++ loop_of P g x ∷ []) same_fn) in
+        let locals : top (suc fn.captured) fn.body ≤ length ls = subst (λ (x : Fn). top (suc x.captured) x.body ≤ length ls) same_fn i.enough in
         let within : suc fn.captured ≤ d = subst (λ (x : Fn). suc x.captured ≤ d) same_fn i.below in
-        let n = top 2 fn.body - 2 in
         let L = set_all (words (w0 ∷ ws)) ls in
         let count : suc (length (words ws)) ≡ suc fn.captured = stand_size all ∙ ap suc sz in
         let many : length (words ws) ≡ fn.captured = omega (arith, count) in
@@ -175,8 +175,8 @@ module _ (P : Program) (main : Body) (gs : List GlobalDef) (es : List Export) (p
         (subst (λ (x : ℕ). Within M cap Q (suc (suc (k + l))) (suc (suc (cost c b + 2 + suc (suc u)))) (here cap G m p h L vals (Br x ∷ rest))) i.count
         (r_br_out M cap.frames Q (Spent M cap.bytes) bare i.inner [] (omega arith)
         (rule.r_loop M cap.frames Q (Spent M cap.bytes) {b = Value type.I32} (omega arith)
-        ((body.sim (InTail g 0) m p h L (suc fn.captured) (params (suc fn.captured)) room nil start (λ i j us z. absurd (params_made (suc fn.captured) i j us z)) (omega (arith, set_all_length (words (w0 ∷ ws)) ls, has)) needed).run
-        (in_block (loop_of P g fn) bare) [] (End ∷ End ∷ []) l (suc (suc u)) (cost c b + 2 + suc (suc u)) (stood_in_tail [] refl is_at (omega arith)) (omega arith) (omega arith)
+        ((body.sim (InTail g 0) m p h L (suc fn.captured) (params (suc fn.captured)) room nil start (λ i j us z. absurd (params_made (suc fn.captured) i j us z)) (omega (arith, set_all_length (words (w0 ∷ ws)) ls)) needed).run
+        (in_block (loop_of P g fn) bare) [] (End ∷ End ∷ []) l (suc (suc u)) (cost c b + 2 + suc (suc u)) (stood_in_tail [] refl is_at (omega arith) (omega (arith, set_all_length (words (w0 ∷ ws)) ls))) (omega arith) (omega arith)
         (λ m' p' h' ls' w x y room' same keeps st. looser M cap Q (r_end M cap Q {k = loop_of P g fn} (omega arith) (r_return M cap Q F.callers (omega arith) (out i.in_tail m' p' h' w x y room' same st))) (omega arith) (omega arith))
         (λ z m' p' h' w x y room' same st. looser M cap Q (out i.in_tail m' p' h' w x y room' same st) (omega arith) (omega arith)))))))
         (omega arith) (omega (arith, count))))
@@ -208,14 +208,14 @@ module _ (P : Program) (main : Body) (gs : List GlobalDef) (es : List Export) (p
         (subst (λ (i : ℕ). Within M cap Q (k + l) (2 * fn.captured + suc (cost c b + 6 + suc u)) (here cap F m p h locals [] (captured_words i (LocalGet 1 ∷ Call (worker_index P g) ∷ End ∷ [])))) sz
         (looser M cap Q (loaded M cap Q {f = F} {l = k + l} {u = suc (cost c b + 6 + suc u)} (omega arith) room.inside refl c1.within c1.fields (λ ws all.
         looser M cap Q (r_get M cap Q {f = F} {x = 1} {v = I32 wa} (omega arith) refl
-        (call_follows {ws = wa ∷ ws} {f = F} narrow few (stand_more sa all) room nil needed (omega arith)
+        (call_follows {ws = wa ∷ ws} {f = F} {vals = []} narrow few (stand_more sa all) room nil needed (omega arith)
         (λ m' p' h' w x y room' same st. r_back M cap Q (omega arith) (go m' p' h' w x y room' same st)))) (omega arith) (omega arith)))
         (omega arith) (omega (arith, sz)))))
         (omega arith) (omega arith)
 
     -- a saturated call of a known function
     known_follows : {F : Around} {m : Mem} {p h : ℕ} {ls vals : List ConstValue} {rest : List Instr} {l u d : ℕ} {tail : Bool} (at : Position) (ps : List Place) (a : Atom) (us : List Word) → fn.captured ≤ 7 → Words m h ls d us e' → There m h ls d ps a v → Room M m p h → word m 0 ≡ 0 →
-        h + 4 * s ≤ cap.bytes → length F.callers + 2 * D + 2 ≤ cap.frames → Stood P at tail d F.keeps F.labels → d ≤ length ls → Then m h ls r s F vals rest l u → (tail ≡ true → Out P M cap Q m h r s F l u) →
+        h + 4 * s ≤ cap.bytes → length F.callers + 2 * D + 2 ≤ cap.frames → Stood P at tail d (length ls) F.keeps F.labels → d ≤ length ls → Then m h ls r s F vals rest l u → (tail ≡ true → Out P M cap Q m h r s F l u) →
         Within M cap Q (k + l) (cost c b + 30 + u) (here cap F m p h ls vals (application P ps at a a (Some (g, us)) rest))
     known_follows {F = F} {m} {p} {h} {ls} {vals} {rest} {l} {u} {d} {tail} at ps a us few held arg room nil needed deep stood has go out =
         let many : length us ≡ fn.captured = words_length held ∙ sz in
@@ -225,14 +225,14 @@ module _ (P : Program) (main : Body) (gs : List GlobalDef) (es : List Export) (p
         called : (wa : ℕ) (ws : List ℕ) → WordsStand m h (wa ∷ ws) (VCons v e') → Within M cap Q (k + l) (cost c b + 14 + u) (here cap F m p h ls (words (wa ∷ ws) ++ vals) (Call (worker_index P g) ∷ rest))
         called wa ws all = looser M cap Q (call_follows {ws = wa ∷ ws} (not_wide fn few) few all room nil needed deep go) (omega arith) (omega arith)
 
-        either : (same : Bool) (h0 depth : ℕ) → jumps g h0 depth ≡ same → Stood P (InTail h0 depth) tail d F.keeps F.labels → (wa : ℕ) (ws : List ℕ) → WordsStand m h (wa ∷ ws) (VCons v e') → length us ≡ fn.captured →
+        either : (same : Bool) (h0 depth : ℕ) → jumps g h0 depth ≡ same → Stood P (InTail h0 depth) tail d (length ls) F.keeps F.labels → (wa : ℕ) (ws : List ℕ) → WordsStand m h (wa ∷ ws) (VCons v e') → length us ≡ fn.captured →
             Within M cap Q (k + l) (cost c b + 14 + u) (here cap F m p h ls (words (wa ∷ ws) ++ vals) (if same then into_params (length us) (Br depth ∷ rest) else (Call (worker_index P g) ∷ rest)))
         either false h0 depth e stood' wa ws all many = called wa ws all
         either true h0 depth e stood' wa ws all many =
             subst (λ (x : ℕ). Within M cap Q (k + l) (cost c b + 14 + u) (here cap F m p h ls (words (wa ∷ ws) ++ vals) (into_params x (Br depth ∷ rest)))) (sym many)
-            (jump_follows few all room nil needed (omega arith) (subst (λ (x : ℕ). Stood P (InTail x depth) tail d F.keeps F.labels) (sym (eqb-true g h0 (and_true (nat_eq g h0) (nat_le depth most_blocks) e).0)) stood') has out)
+            (jump_follows vals rest few all room nil needed (omega arith) (subst (λ (x : ℕ). Stood P (InTail x depth) tail d (length ls) F.keeps F.labels) (sym (eqb-true g h0 (and_true (nat_eq g h0) (nat_le depth most_blocks) e).0)) stood') has out)
 
-        turned : (at' : Position) → Stood P at' tail d F.keeps F.labels → (wa : ℕ) (ws : List ℕ) → WordsStand m h (wa ∷ ws) (VCons v e') → length us ≡ fn.captured →
+        turned : (at' : Position) → Stood P at' tail d (length ls) F.keeps F.labels → (wa : ℕ) (ws : List ℕ) → WordsStand m h (wa ∷ ws) (VCons v e') → length us ≡ fn.captured →
             Within M cap Q (k + l) (cost c b + 14 + u) (here cap F m p h ls (words (wa ∷ ws) ++ vals) (call_worker P at' g (length us) rest))
         turned Inside stood' wa ws all many = called wa ws all
         turned (InTail h0 depth) stood' wa ws all many = either (jumps g h0 depth) h0 depth refl stood' wa ws all many
@@ -245,7 +245,7 @@ module _ (P : Program) (main : Body) (gs : List GlobalDef) (es : List Export) (p
   }
     where
       by_kind : (at : Position) (m : Mem) (p h : ℕ) (ls : List ConstValue) (d : ℕ) (ps : List Place) → Room M m p h → word m 0 ≡ 0 → Env m h ls d ps e → OpUnread ps (OApp f a) → d ≤ length ls → h + 4 * s ≤ cap.bytes → (F : Around) (vals : List ConstValue) (rest : List Instr) (l u : ℕ) →
-          Stood P at tail d F.keeps F.labels → length F.callers + 2 * D + 3 ≤ cap.frames → Go P M cap Q m h ls d r s F vals rest l u → (tail ≡ true → Out P M cap Q m h r s F l u) → (o : Option (ℕ × List Word)) → known_function ps f ≡ o →
+          Stood P at tail d (length ls) F.keeps F.labels → length F.callers + 2 * D + 3 ≤ cap.frames → Go P M cap Q m h ls d r s F vals rest l u → (tail ≡ true → Out P M cap Q m h r s F l u) → (o : Option (ℕ × List Word)) → known_function ps f ≡ o →
           Within M cap Q (k + l) (cost c b + 30 + u) (here cap F m p h ls vals (application P ps at f a o rest))
       by_kind at m p h ls d ps room nil env un has needed F vals rest l u stood deep go out None none =
           looser M cap Q (put_atom M fixed cap Q (omega arith) room.inside (there_unknown m h ls d env isf none) (λ w1 s1. put_atom M fixed cap Q (omega arith) room.inside (there m h ls d env isa un) (λ wa sa.
@@ -253,7 +253,7 @@ module _ (P : Program) (main : Body) (gs : List GlobalDef) (es : List Export) (p
           let c2 = closure s2 in
           r_load M cap Q (omega arith) (omega (arith, room.inside, c2.within))
           (subst (λ (x : ℕ). Within M cap Q (k + l) (cost c b + 23 + u) (here cap F m p h ls (I32 x ∷ I32 wa ∷ I32 w1 ∷ vals) (CallIndirect 2 0 ∷ rest))) (sym (at_zero m w2 ∙ c2.head))
-          (entered is_at sz body (is_wide fn) refl s1 sa room nil needed deep (λ m' p' h' w x y room' same st. go m' p' h' ls w x y room' same (keeps_same d ls) st)))))))
+          (entered g is_at sz body (is_wide fn) refl s1 sa room nil needed deep (λ m' p' h' w x y room' same st. go m' p' h' ls w x y room' same (keeps_same d ls) st)))))))
           (omega arith) (omega arith)
       by_kind at m p h ls d ps room nil env un has needed F vals rest l u stood deep go out (Some j) known_f =
           let call = calls P m h ls d env isf known_f in
@@ -261,8 +261,8 @@ module _ (P : Program) (main : Body) (gs : List GlobalDef) (es : List Export) (p
           let captured : e' ≡ call.cs = same_captured P m h ls d call.value in
           let held : Words m h ls d j.1 e' = subst (Words m h ls d j.1) (sym captured) call.words in
           let few : fn.captured ≤ 7 = omega (arith, words_length held, sz, call.few) in
-          subst (λ (x : ℕ). Within M cap Q (k + l) (cost c b + 30 + u) (here cap F m p h ls vals (application P ps at f a (Some (x, j.1)) rest))) function
-          (known_follows is_at sz body at ps a j.1 few held (there m h ls d env isa un) room nil needed (omega arith) stood has (λ m' p' h' w x y room' same st. go m' p' h' ls w x y room' same (keeps_same d ls) st) out)
+          let at' : slice_get P.functions j.0 ≡ Some fn = ap (slice_get P.functions) (sym function) ∙ is_at in
+          (known_follows j.0 at' sz body at ps a j.1 few held (there m h ls d env isa un) room nil needed (omega arith) stood has (λ m' p' h' w x y room' same st. go m' p' h' ls w x y room' same (keeps_same d ls) st) out)
 
   sim_box_app : {tail : Bool} {D : ℕ} {e : Vals} {f a : Atom} {v : Val} → Is e f VBox → Is e a v → SimOp tail D e (OApp f a) VBox 1 0 0 0
   sim_box_app {tail} {D} {e} {f} {a} isf isa = record {
@@ -304,7 +304,7 @@ module _ (P : Program) (main : Body) (gs : List GlobalDef) (es : List Export) (p
           (let ls1 = slice_set ls d (I32 w) in
           let kept : Keeps d ls ls1 = keeps_set ls d (I32 w) in
           (chosen few branch body at m p h ls1 d w ps room nil (env_on (omega arith) (λ x y. refl) (omega arith) kept env) (unread_branch ps a d un branch) (omega (arith, branch_top (suc d) branch, kept.size)) needed (set_this ls d (I32 w) (omega arith)) (stands_on m m h (omega arith) (λ x y. refl) s)).run
-          f vals rest l u (11 * N + (cost c b + 2) + u) stood deep (omega arith)
+          f vals rest l u (11 * N + (cost c b + 2) + u) (stood_up P d (length ls1) (omega arith) (omega (arith, kept.size)) stood) deep (omega arith)
           (λ m' p' h' ls' w' x y room' same keeps st. go m' p' h' ls' w' x y room' same (keeps_trans (omega arith) kept keeps) st)
           out)))
           (omega arith) (omega arith);
@@ -327,7 +327,7 @@ module _ (P : Program) (main : Body) (gs : List GlobalDef) (es : List Export) (p
           (let ls1 = slice_set ls d (I32 w) in
           let kept : Keeps d ls ls1 = keeps_set ls d (I32 w) in
           (body.sim at m p h ls1 (suc d) (At (InLocal d) ∷ ps) room nil (env_at w (in_local (omega arith) (set_this ls d (I32 w) (omega arith))) st (env_on (omega arith) (λ x y. refl) (omega arith) kept env)) (unread_let_atom ps a t (InLocal d) un) (omega (arith, kept.size)) needed).run
-          f vals rest l u (cost c b + 2 + u) (stood_up P (suc d) (omega arith) stood) deep (omega arith)
+          f vals rest l u (cost c b + 2 + u) (stood_up P (suc d) (length ls1) (omega arith) (omega (arith, kept.size)) stood) deep (omega arith)
           (λ m' p' h' ls' w' x y room' same keeps st'. go m' p' h' ls' w' x y room' same (keeps_trans (omega arith) kept keeps) st')
           out)))
           (omega arith) (omega arith);
@@ -364,7 +364,7 @@ module _ (P : Program) (main : Body) (gs : List GlobalDef) (es : List Export) (p
           (let ls1 = slice_set ls' d (I32 w) in
           let kept : Keeps d ls ls1 = keeps_trans (omega arith) keeps (keeps_set ls' d (I32 w)) in
           (body.sim at m' p' h' ls1 (suc d) (At (InLocal d) ∷ ps) room' (low_word m m' room same nil) (env_at w (in_local (omega arith) (set_this ls' d (I32 w) (omega (arith, keeps.size)))) st (env_on (omega arith) same (omega arith) kept env)) (unread_at ps x t (InLocal d) un) (omega (arith, kept.size)) (omega arith)).run
-          f vals rest l u (cost c' b' + 2 + u) (stood_up P (suc d) (omega arith) stood) deep (omega arith)
+          f vals rest l u (cost c' b' + 2 + u) (stood_up P (suc d) (length ls1) (omega arith) (omega (arith, kept.size)) stood) deep (omega arith)
           (λ m2 p2 h2 ls2 w2 y2 z2 room2 same2 keeps2 st2. go m2 p2 h2 ls2 w2 (omega arith) (omega arith) room2 (λ i j. same2 i (omega arith) ∙ same i j) (keeps_trans (omega arith) kept keeps2) st2)
           (λ q m2 p2 h2 w2 y2 z2 room2 same2 st2. out q m2 p2 h2 w2 (omega arith) (omega arith) room2 (λ i j. same2 i (omega arith) ∙ same i j) st2)))
           (λ z. cc))
@@ -412,10 +412,10 @@ module _ (P : Program) (main : Body) (gs : List GlobalDef) (es : List Export) (p
     follows (gets_ret d) = sim_ret (follows_op d)
     follows (gets_let d g) = sim_let d (follows_op d) (follows g)
 
-  two_made : {x y : Word} (i g : ℕ) (ws : List Word) → slice_get (At x ∷ At y ∷ []) i ≡ Some (Known g ws) → ⊥
-  two_made zero g ws e = cc
-  two_made (suc zero) g ws e = cc
-  two_made (suc (suc i)) g ws e = cc
+  two_made : (x y : Word) (i g : ℕ) (ws : List Word) → slice_get (At x ∷ At y ∷ []) i ≡ Some (Known g ws) → ⊥
+  two_made x y zero g ws e = cc
+  two_made x y (suc zero) g ws e = cc
+  two_made x y (suc (suc i)) g ws e = cc
 
   -- main is applied to the words at a
   pub applies : {D a : ℕ} {args : Vals} {v : Val} {c k b s : ℕ} → slice_get cap.more 0 ≡ Some (I32 a) → Applies P W N D args v c k b s → (m : Mem) (p h : ℕ) (ls : List ConstValue) → Room M m p h → word m 0 ≡ 0 → ArgsAt m h a args → 2 ≤ length ls →
@@ -439,7 +439,7 @@ module _ (P : Program) (main : Body) (gs : List GlobalDef) (es : List Export) (p
         let kept : Keeps 0 ls ls2 = keeps_trans (omega arith) k1 k2 in
         ((follows_op does).sim Inside m' p' h' ls2 2 (At (InLocal 1) ∷ At (InLocal 0) ∷ []) n (omega arith) room' (low_word m m' room same nil)
         (env_at word_a (in_local (omega arith) (set_this ls1 1 (I32 word_a) (omega (arith, k1.size)))) (top_arg stands') (env_at w (in_local (omega arith) (k2.at 0 (omega arith) ∙ set_this ls' 0 (I32 w) (omega (arith, keeps.size)))) st env_nil))
-        (λ i g ws z. absurd (two_made i g ws z)) (omega (arith, kept.size)) (omega arith)).run f vals rest l u (n + u) stood_inside deep (omega arith)
+        (λ i g ws z. absurd (two_made (InLocal 1) (InLocal 0) i g ws z)) (omega (arith, kept.size)) (omega arith)).run f vals rest l u (n + u) stood_inside deep (omega arith)
         (λ m2 p2 h2 ls2' w2 x2 y2 room2 same2 keeps2 st2. go m2 p2 h2 ls2' w2 (omega arith) (omega arith) room2 (λ i j. same2 i (omega arith) ∙ same i j) (keeps_trans (omega arith) kept keeps2) st2)
         (λ z. cc))))))
         (λ z. cc))

@@ -9,6 +9,7 @@ use Rattle.wasm_core.specs.declared.instrs.BlockType.TheVariants.{Value}
 use Rattle.wasm_core.specs.declared.instrs.Instr.TheVariants.{Loop}
 use Rattle.wasm_core.specs.Memory.{word}
 use Rattle.wasm_core.specs.MachineStep.{Label}
+use Rattle.wasm_emit.specs.EmittedLocals.{top}
 use Rattle.wasm_emit.proofs.Bytes.{Mem, word_same}
 use Rattle.wasm_emit.proofs.Values.{Stands}
 use Rattle.wasm_emit.proofs.Holds.{Same, Keeps, stands_on}
@@ -44,20 +45,20 @@ OpUnread ps x = (i g : ℕ) (ws : List Word) → slice_get ps i ≡ Some (Known 
 abbrev pub loop_of : Program → ℕ → Fn → Label
 loop_of P g fn = record { keeps = false; goes_on = Loop (Value type.I32) ∷ worker_code P g fn; below = [] }
 
--- where a block stands that uses locals from d on: inside; or in a worker's tail, where the function gives a word, the labels around are those of the block's own branches, so many, and that of the loop, and
--- the parameters are among the locals below d
-pub data Stood (P : Program) : Position → Bool → ℕ → Bool → List Label → Type 0 where
-  stood_inside : {tail keeps : Bool} {d : ℕ} {ls : List Label} → Stood P Inside tail d keeps ls
-  stood_in_tail : {g depth d : ℕ} {fn : Fn} (inner : List Label) → length inner ≡ depth → slice_get P.functions g ≡ Some fn → suc fn.captured ≤ d → Stood P (InTail g depth) true d true (inner ++ loop_of P g fn ∷ [])
+-- where a block stands that uses locals from d on, in a function of n locals: inside; or in a worker's tail, where the function gives a word, the labels around are those of the block's own branches, so many, and
+-- that of the loop, the parameters are among the locals below d, and the locals are enough for the worker's body
+pub data Stood (P : Program) : Position → Bool → ℕ → ℕ → Bool → List Label → Type 0 where
+  stood_inside : {tail keeps : Bool} {d n : ℕ} {ls : List Label} → Stood P Inside tail d n keeps ls
+  stood_in_tail : {g depth d n : ℕ} {fn : Fn} (inner : List Label) → length inner ≡ depth → slice_get P.functions g ≡ Some fn → suc fn.captured ≤ d → top (suc fn.captured) fn.body ≤ n → Stood P (InTail g depth) true d n true (inner ++ loop_of P g fn ∷ [])
 
 module _ (P : Program) where
-  pub stood_up : {at : Position} {tail keeps : Bool} {d : ℕ} {ls : List Label} (d' : ℕ) → d ≤ d' → Stood P at tail d keeps ls → Stood P at tail d' keeps ls
-  stood_up d' le stood_inside = stood_inside
-  stood_up d' le (stood_in_tail inner count at few) = stood_in_tail inner count at (omega arith)
+  pub stood_up : {at : Position} {tail keeps : Bool} {d n : ℕ} {ls : List Label} (d' n' : ℕ) → d ≤ d' → n ≤ n' → Stood P at tail d n keeps ls → Stood P at tail d' n' keeps ls
+  stood_up d' n' le more stood_inside = stood_inside
+  stood_up d' n' le more (stood_in_tail inner count at few enough) = stood_in_tail inner count at (omega arith) (omega arith)
 
-  pub stood_deeper : {at : Position} {tail keeps : Bool} {d : ℕ} {ls : List Label} (k : Label) → Stood P at tail d keeps ls → Stood P (deeper at) tail d keeps (k ∷ ls)
+  pub stood_deeper : {at : Position} {tail keeps : Bool} {d n : ℕ} {ls : List Label} (k : Label) → Stood P at tail d n keeps ls → Stood P (deeper at) tail d n keeps (k ∷ ls)
   stood_deeper k stood_inside = stood_inside
-  stood_deeper k (stood_in_tail inner count at few) = stood_in_tail (k ∷ inner) (ap suc count) at few
+  stood_deeper k (stood_in_tail inner count at few enough) = stood_in_tail (k ∷ inner) (ap suc count) at few enough
 
 module _ {m m' : Mem} {l l' : ℕ} {ls ls' : List ConstValue} {d d' : ℕ} (le : l ≤ l') (same : Same l m m') (up : d ≤ d') (keeps : Keeps d ls ls') where
   reads_on : {p : Word} {w : ℕ} → Reads m l ls d p w → Reads m' l' ls' d' p w

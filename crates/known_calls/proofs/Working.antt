@@ -17,6 +17,7 @@ use Rattle.wasm_core.proofs.Rules.{Around}
 use Rattle.wasm_core.proofs.Rules as rule
 use Rattle.closure_lift.specs.Lifted.{Program, Fn, Val, Vals, VNil, VCons, size}
 use Rattle.wasm_emit.specs.EmitLaws.{Spent}
+use Rattle.wasm_emit.specs.EmittedLocals.{top}
 use Rattle.wasm_emit.proofs.Bytes.{Mem}
 use Rattle.wasm_emit.proofs.Values.{Stands, Fields, no_field, field}
 use Rattle.wasm_emit.proofs.Holds.{set_this, set_length}
@@ -83,18 +84,19 @@ set_params_env {m} {limit} {D} ls few le (stand_more {w = w} {ws = ws} {v = v} {
     env_at w (in_local (omega arith) there) s (set_params_env ls1 (omega (arith, set_length ls (length (words ws)) (I32 w))) (omega arith) h)
 
 -- the labels of a worker's tail
-pub record InLoop (P : Program) (g depth d : ℕ) (tail keeps : Bool) (ls : List Label) : Type 0 where
+pub record InLoop (P : Program) (g depth d n : ℕ) (tail keeps : Bool) (ls : List Label) : Type 0 where
   pub inner : List Label
   pub count : length inner ≡ depth
   pub fn : Fn
   pub at : slice_get P.functions g ≡ Some fn
   pub below : suc fn.captured ≤ d
+  pub enough : top (suc fn.captured) fn.body ≤ n
   pub in_tail : tail ≡ true
   pub keep : keeps ≡ true
   pub is : ls ≡ inner ++ loop_of P g fn ∷ []
 
-pub in_loop : (P : Program) (g depth : ℕ) {d : ℕ} {tail keeps : Bool} {ls : List Label} → Stood P (InTail g depth) tail d keeps ls → InLoop P g depth d tail keeps ls
-in_loop P g depth (stood_in_tail {fn = fn} inner count at few) = record { inner = inner; count = count; fn = fn; at = at; below = few; in_tail = refl; keep = refl; is = refl }
+pub in_loop : (P : Program) (g depth : ℕ) {d n : ℕ} {tail keeps : Bool} {ls : List Label} → Stood P (InTail g depth) tail d n keeps ls → InLoop P g depth d n tail keeps ls
+in_loop P g depth (stood_in_tail {fn = fn} inner count at few enough) = record { inner = inner; count = count; fn = fn; at = at; below = few; enough = enough; in_tail = refl; keep = refl; is = refl }
 
 pub same_around : (F : Around) (b : Bool) (ls : List Label) → F.keeps ≡ b → F.labels ≡ ls → F ≡ record { keeps = b; labels = ls; callers = F.callers }
 same_around F b ls x y = ap (λ (k : Bool). around k F.labels F.callers) x ∙ ap (λ (k : List Label). around b k F.callers) y
