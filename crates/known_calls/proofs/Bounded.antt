@@ -175,6 +175,10 @@ module _ (P : Program) (m : ℕ) (form : Formed P m) (counts : CountsFit P m) (l
   both_chains (BCons zero t bs) = omega (arith, both_chains bs)
   both_chains (BCons (suc n) t bs) = omega (arith, both_chains bs)
 
+  b_choice : (o : Option Place) {k : ℕ} {g : Place → List Instr → List Instr} {f : List Instr → List Instr} → ((q : Place) → o ≡ Some q → Bounded k (g q)) → Bounded k f → Bounded k (λ r. choose o (λ q. g q r) (f r))
+  b_choice None x y = y
+  b_choice (Some q) x y = x q refl
+
   mutual
     b_op : (n d : ℕ) (ps : List Place) (at : Position) (x : Op) → top_op d x < 100000 → Near ps → OpFits P.functions (length P.constants) m n x → Bounded (op_weight x) (op P ps d at x)
     b_op n d ps at (OConst x) le h fit = b_call (constant_index P x) (omega (arith, limits.few, counts.constants, fit))
@@ -192,14 +196,10 @@ module _ (P : Program) (m : ℕ) (form : Formed P m) (counts : CountsFit P m) (l
     b_code n d ps at (RetAtom a) le h fit = b_atom n ps a fit h
     b_code n d ps at (LetAtom a t) le h fit = b_most _ (omega arith) (b_atom n ps a fit.0 h then (b_set d (omega arith) then b_code (suc n) (suc d) (At (InLocal d) ∷ ps) at t (omega arith) (omega arith, h) fit.1))
     b_code n d ps at (Ret x) le h fit = b_op n d ps at x le h fit
-    b_code n d ps at (Let x t) le h fit = b_let n d ps at x t (unmade P ps x t) refl le h fit.0 fit.1
-
-    b_let : (n d : ℕ) (ps : List Place) (at : Position) (x : Op) (t : Block) (o : Option Place) → unmade P ps x t ≡ o → top d (Let x t) < 100000 → Near ps → OpFits P.functions (length P.constants) m n x → BlockFits P.functions (length P.constants) m (suc n) t →
-        Bounded (weight (Let x t)) (λ r. choose o (λ q. code P (q ∷ ps) d at t r) (op P ps d Inside x (LocalSet d ∷ code P (At (InLocal d) ∷ ps) (suc d) at t r)))
-    b_let n d ps at x t None e le h fx ft = b_most _ (omega arith) (b_op n d ps Inside x (omega arith) h fx then (b_set d (omega arith) then b_code (suc n) (suc d) (At (InLocal d) ∷ ps) at t (omega arith) (omega arith, h) ft))
-    b_let n d ps at x t (Some q) e le h fx ft =
-        let z = unmade_some (block_reads 0 t) (known P ps x) e in
-        b_most _ (omega arith) (b_code (suc n) d (q ∷ ps) at t (omega (arith, top_less d t)) (known_fits P 16384 m form n 100000 ps x fx h z.1, h) ft)
+    b_code n d ps at (Let x t) le h fit =
+        b_choice (unmade P ps x t) {g = λ q. code P (q ∷ ps) d at t}
+        (λ q e. let z = unmade_some (block_reads 0 t) (known P ps x) e in b_most _ (omega arith) (b_code (suc n) d (q ∷ ps) at t (omega (arith, top_less d t)) (known_fits P 16384 m form n 100000 ps x fit.0 h z.1, h) fit.1))
+        (b_most _ (omega arith) (b_op n d ps Inside x (omega arith) h fit.0 then (b_set d (omega arith) then b_code (suc n) (suc d) (At (InLocal d) ∷ ps) at t (omega arith) (omega arith, h) fit.1)))
 
     b_empties : (n d : ℕ) (ps : List Place) (at : Position) (c : ℕ) (bs : Branches) (others : Position → List Instr → List Instr) (k : ℕ) → max (suc d) (top_branches (suc d) bs) < 100000 → c + many bs ≤ m → Near ps → BranchesFit P.functions (length P.constants) m n bs →
         ((at' : Position) → Bounded k (others at')) → Bounded (empties_weight bs + k) (empties P ps d at c bs others)

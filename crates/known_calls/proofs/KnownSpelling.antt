@@ -96,8 +96,8 @@ module _ (P : Program) (pages m : ℕ) (form : Formed P m) (counts : CountsFit P
       body_fits M 0 (top 0 P.main) (code P [] 0 Inside P.main (GlobalSet 0 ∷ End ∷ [])) counts.main (main_typed P m form (main_function P) [] [] pages)
       ((b_code P m form counts limits 0 0 [] Inside P.main (omega (arith, counts.main)) tt form.main).spelled (fits (omega arith) (fits tt good)))
 
-  same_number : {g j : ℕ} {x : Fn} → slice_get P.functions g ≡ Some x → j ≡ 0 + g → slice_get P.functions j ≡ Some x
-  same_number {g} {j} {x} at is = let z : g ≡ j = omega arith in subst (λ (i : ℕ). slice_get P.functions i ≡ Some x) z at
+  same_number : (g j : ℕ) (x : Fn) → slice_get P.functions g ≡ Some x → j ≡ 0 + g → slice_get P.functions j ≡ Some x
+  same_number g j x at is = let z : g ≡ j = omega arith in subst (λ (i : ℕ). slice_get P.functions i ≡ Some x) z at
 
   type_fits : (fn : Fn) → IsU32 (worker_type fn)
   type_fits fn = either (is_wide fn) refl
@@ -109,16 +109,16 @@ module _ (P : Program) (pages m : ℕ) (form : Formed P m) (counts : CountsFit P
   pub all_bodies : All IsBody M.bodies
   all_bodies = (
     body_fits M 0 0 room_code (omega arith) (room_typed P m form (main_function P) [] [] pages) room_good,
-    body_fits M 2 0 (Const 0 ∷ End ∷ []) (omega arith) (box_typed P m form (main_function P) [] [] pages) (fits (omega arith) (fits tt good)),
-    numbered_then IsBody (entry P) 0 P.functions _ (λ g j x at is. entry_fits j x (same_number at is))
-    (all_then IsBody (constant P) P.constants _ (λ i t at. constant_fits i t at) (main_fits, numbered_all IsBody (worker P) 0 P.functions (λ g j x at is. worker_fits j x (same_number at is)))),
+    (body_fits M 2 0 (Const 0 ∷ End ∷ []) (omega arith) (box_typed P m form (main_function P) [] [] pages) (fits (omega arith) (fits tt good)),
+    numbered_then IsBody (entry P) 0 P.functions _ (λ g j x at is. entry_fits j x (same_number g j x at is))
+    (all_then IsBody (constant P) P.constants _ (λ i t at. constant_fits i t at) (main_fits, numbered_all IsBody (worker P) 0 P.functions (λ g j x at is. worker_fits j x (same_number g j x at is))))),
   )
 
   pub all_types : All IsU32 M.funcs
   all_types = (
     omega arith,
-    omega arith,
-    numbered_then IsU32 (λ g f. 2) 0 P.functions _ (λ g j x at is. omega arith) (all_then IsU32 (λ t. 1) P.constants _ (λ i t at. omega arith) (omega arith, numbered_all IsU32 (λ g f. worker_type f) 0 P.functions (λ g j x at is. type_fits x))),
+    (omega arith,
+    numbered_then IsU32 (λ g f. 2) 0 P.functions _ (λ g j x at is. omega arith) (all_then IsU32 (λ t. 1) P.constants _ (λ i t at. omega arith) (omega arith, numbered_all IsU32 (λ g f. worker_type f) 0 P.functions (λ g j x at is. type_fits x)))),
   )
 
 pub known_spelled : KnownSpelled

@@ -83,17 +83,18 @@ module _ (P : Program) (most : ℕ) (form : Formed P most) (main : Body) (gs : L
     t_tee : {x : ℕ} → x < size → Typed m ls rs labels (Of I32 ∷ ts) rest us → Typed m ls rs labels (Of I32 ∷ ts) (LocalTee x ∷ rest) us
     t_tee {x} lt k = t_plain ts (ap (option_map {U = Effect} keeping) (all x lt)) k
 
-    t_word : (d : ℕ) (w : Word) → d ≤ size → WordFits far d w → Typed m ls rs labels (Of I32 ∷ ts) rest us → Typed m ls rs labels ts (read_word w rest) us
-    t_word d (InLocal x) le h k = t_get (omega arith) k
-    t_word d (InField x o) le h k = t_get (omega (arith, h.0)) (t_plain ts refl k)
-    t_word d (IsConst n) le h k = t_plain ts refl k
 
-    t_read : (d : ℕ) (o : Option Word) → d ≤ size → ((w : Word) → o ≡ Some w → WordFits far d w) → Typed m ls rs labels (Of I32 ∷ ts) rest us → Typed m ls rs labels ts (read o rest) us
-    t_read d None le h k = unreachable k
-    t_read d (Some w) le h k = t_word d w le (h w refl) k
+  t_word : {labels : List Types} {ts us : Operands} {rest : List Instr} (d : ℕ) (w : Word) → d ≤ size → WordFits far d w → Typed m ls rs labels (Of I32 ∷ ts) rest us → Typed m ls rs labels ts (read_word w rest) us
+  t_word d (InLocal x) le h k = t_get (omega arith) k
+  t_word {ts = ts} d (InField x o) le h k = t_get (omega (arith, h.0)) (t_plain ts refl k)
+  t_word {ts = ts} d (IsConst n) le h k = t_plain ts refl k
 
-    t_atom : (n d : ℕ) (ps : List Place) (a : Atom) → d ≤ size → AtomFits n a → All (PlaceFits P far d) ps → Typed m ls rs labels (Of I32 ∷ ts) rest us → Typed m ls rs labels ts (atom ps a rest) us
-    t_atom n d ps a le fit h k = t_read d (word_of ps a) le (λ w e. word_fits P far n d ps a fit h e) k
+  t_read : {labels : List Types} {ts us : Operands} {rest : List Instr} (d : ℕ) (o : Option Word) → d ≤ size → ((w : Word) → o ≡ Some w → WordFits far d w) → Typed m ls rs labels (Of I32 ∷ ts) rest us → Typed m ls rs labels ts (read o rest) us
+  t_read d None le h k = unreachable k
+  t_read d (Some w) le h k = t_word d w le (h w refl) k
+
+  t_atom : {labels : List Types} {ts us : Operands} {rest : List Instr} (n d : ℕ) (ps : List Place) (a : Atom) → d ≤ size → AtomFits n a → All (PlaceFits P far d) ps → Typed m ls rs labels (Of I32 ∷ ts) rest us → Typed m ls rs labels ts (atom ps a rest) us
+  t_atom n d ps a le fit h k = t_read d (word_of ps a) le (λ w e. word_fits P far n d ps a fit h e) k
 
   t_push : {labels : List Types} {ts us : Operands} {rest : List Instr} (d : ℕ) (ws : List Word) → d ≤ size → All (WordFits far d) ws → Typed m ls rs labels (words_on (length ws) ts) rest us → Typed m ls rs labels ts (push_words ws rest) us
   t_push d [] le h k = k
@@ -151,6 +152,10 @@ module _ (P : Program) (most : ℕ) (form : Formed P most) (main : Body) (gs : L
       let takes = fit.0 in
       t_push d j.1 le fit.2 (t_atom n d ps a le fa h (t_call at j.0 (length j.1) takes.fn takes.at takes.words fit.1 l k))
 
+  t_choice : {labels : List Types} {ts us : Operands} (o : Option Place) {g : Place → List Instr} {f : List Instr} → ((q : Place) → o ≡ Some q → Typed m ls rs labels ts (g q) us) → Typed m ls rs labels ts f us → Typed m ls rs labels ts (choose o g f) us
+  t_choice None x y = y
+  t_choice (Some q) x y = x q refl
+
   mutual
     pub t_op : {labels : List Types} {ts us : Operands} {rest : List Instr} (n d : ℕ) (ps : List Place) (at : Position) (x : Op) → top_op d x ≤ size → OpFits P.functions (length P.constants) most n x → All (PlaceFits P far d) ps → Labelled at labels → Typed m ls rs labels (Of I32 ∷ ts) rest us → Typed m ls rs labels ts (op P ps d at x rest) us
     t_op {ts = ts} n d ps at (OConst x) le fit h l k =
@@ -165,15 +170,10 @@ module _ (P : Program) (most : ℕ) (form : Formed P most) (main : Body) (gs : L
     t_code n d ps at (RetAtom a) le fit h l k = t_atom n d ps a le fit h k
     t_code n d ps at (LetAtom a t) le fit h l k = t_atom n d ps a (omega arith) fit.0 h (t_set (omega arith) (t_code (suc n) (suc d) (At (InLocal d) ∷ ps) at t (omega arith) fit.1 (omega arith, places_up P far d (suc d) (omega arith) ps h) l k))
     t_code n d ps at (Ret x) le fit h l k = t_op n d ps at x le fit h l k
-    t_code n d ps at (Let x t) le fit h l k = t_let n d ps at x t (unmade P ps x t) refl le fit.0 fit.1 h l k
-
-    t_let : {labels : List Types} {ts us : Operands} {rest : List Instr} (n d : ℕ) (ps : List Place) (at : Position) (x : Op) (t : Block) (o : Option Place) → unmade P ps x t ≡ o → top d (Let x t) ≤ size → OpFits P.functions (length P.constants) most n x →
-        BlockFits P.functions (length P.constants) most (suc n) t → All (PlaceFits P far d) ps → Labelled at labels → Typed m ls rs labels (Of I32 ∷ ts) rest us →
-        Typed m ls rs labels ts (choose o (λ q. code P (q ∷ ps) d at t rest) (op P ps d Inside x (LocalSet d ∷ code P (At (InLocal d) ∷ ps) (suc d) at t rest))) us
-    t_let n d ps at x t None e le fx ft h l k = t_op n d ps Inside x (omega arith) fx h tt (t_set (omega arith) (t_code (suc n) (suc d) (At (InLocal d) ∷ ps) at t (omega arith) ft (omega arith, places_up P far d (suc d) (omega arith) ps h) l k))
-    t_let n d ps at x t (Some q) e le fx ft h l k =
-        let z = unmade_some (block_reads 0 t) (known P ps x) e in
-        t_code (suc n) d (q ∷ ps) at t (omega (arith, top_less d t)) ft (known_fits P far most form n d ps x fx h z.1, h) l k
+    t_code n d ps at (Let x t) le fit h l k =
+        t_choice (unmade P ps x t)
+        (λ q e. let z = unmade_some (block_reads 0 t) (known P ps x) e in t_code (suc n) d (q ∷ ps) at t (omega (arith, top_less d t)) fit.1 (known_fits P far most form n d ps x fit.0 h z.1, h) l k)
+        (t_op n d ps Inside x (omega arith) fit.0 h tt (t_set (omega arith) (t_code (suc n) (suc d) (At (InLocal d) ∷ ps) at t (omega arith) fit.1 (omega arith, places_up P far d (suc d) (omega arith) ps h) l k)))
 
     t_empties : {labels : List Types} {ts us : Operands} {rest : List Instr} (n d : ℕ) (ps : List Place) (at : Position) (c : ℕ) (bs : Branches) (others : Position → List Instr → List Instr) → ((at' : Position) → Shaped (others at')) → max (suc d) (top_branches (suc d) bs) ≤ size →
         BranchesFit P.functions (length P.constants) most n bs → All (PlaceFits P far d) ps → Labelled at labels →

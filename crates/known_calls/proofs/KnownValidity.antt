@@ -54,7 +54,7 @@ more_words (suc i) n (suc x) h = more_words i n x (omega arith)
 t_captured : (m : Parts) (rs : Types) {labels : List Types} {ts us : Operands} {rest : List Instr} (n : ℕ) → ((ws us : Operands) (rest : List Instr) (o : ℕ) → Typed m (I32 ∷ I32 ∷ []) rs labels (Of I32 ∷ ws) rest us → Typed m (I32 ∷ I32 ∷ []) rs labels ws (LocalGet 0 ∷ Load o ∷ rest) us) →
     Typed m (I32 ∷ I32 ∷ []) rs labels (words_on n ts) rest us → Typed m (I32 ∷ I32 ∷ []) rs labels ts (captured_words n rest) us
 t_captured m rs zero load k = k
-t_captured m rs (suc n) load k = t_captured m rs n load (load _ _ _ _ k)
+t_captured m rs {ts = ts} {us = us} {rest = rest} (suc n) load k = t_captured m rs {ts = ts} {us = us} {rest = LocalGet 0 ∷ Load (4 * suc n) ∷ rest} n load (load (words_on n ts) us rest (4 * suc n) k)
 
 module _ (P : Program) (most : ℕ) (form : Formed P most) (main : Body) (gs : List GlobalDef) (es : List Export) (pages : ℕ) where
   abbrev M : Parts
@@ -177,19 +177,19 @@ module _ (P : Program) (most : ℕ) (form : Formed P most) (main : Body) (gs : L
   numbered_all of_type h from (x ∷ xs) a zero i b e d = same_typed (a zero from x refl (omega arith)) e d
   numbered_all of_type h from (x ∷ xs) a (suc f) i b e d = numbered_all of_type h (suc from) xs (λ g j y at is. a (suc g) j y at (omega arith)) f i b e d
 
-  same_number : {g j : ℕ} {x : Fn} → slice_get P.functions g ≡ Some x → j ≡ 0 + g → slice_get P.functions j ≡ Some x
-  same_number {g} {j} {x} at is = let z : g ≡ j = omega arith in subst (λ (i : ℕ). slice_get P.functions i ≡ Some x) z at
+  same_number : (g j : ℕ) (x : Fn) → slice_get P.functions g ≡ Some x → j ≡ 0 + g → slice_get P.functions j ≡ Some x
+  same_number g j x at is = let z : g ≡ j = omega arith in subst (λ (i : ℕ). slice_get P.functions i ≡ Some x) z at
 
   bodies_typed : TypedFunc M 0 main → AllTyped M.funcs M.bodies
   bodies_typed last zero i b e d = same_typed room_typed e d
   bodies_typed last (suc zero) i b e d = same_typed box_typed e d
   bodies_typed last (suc (suc f)) i b e d =
-      numbered_then (λ g f. 2) (entry P) 0 P.functions (map (λ t. 1) P.constants ++ (0 ∷ numbered (λ g f. worker_type f) 0 P.functions)) (map (constant P) P.constants ++ (main ∷ numbered (worker P) 0 P.functions)) (λ g j x at is. entry_typed j x (same_number at is))
+      numbered_then (λ g f. 2) (entry P) 0 P.functions (map (λ t. 1) P.constants ++ (0 ∷ numbered (λ g f. worker_type f) 0 P.functions)) (map (constant P) P.constants ++ (main ∷ numbered (worker P) 0 P.functions)) (λ g j x at is. entry_typed j x (same_number g j x at is))
       (mapped_then 1 (constant P) P.constants (0 ∷ numbered (λ g f. worker_type f) 0 P.functions) (main ∷ numbered (worker P) 0 P.functions) (λ j x at. constant_typed x (form.constants j x at)) from_main) f i b e d
     where
       from_main : AllTyped (0 ∷ numbered (λ g f. worker_type f) 0 P.functions) (main ∷ numbered (worker P) 0 P.functions)
       from_main zero i b e d = same_typed last e d
-      from_main (suc f) i b e d = numbered_all (λ g f. worker_type f) (worker P) 0 P.functions (λ g j x at is. worker_typed j x (same_number at is)) f i b e d
+      from_main (suc f) i b e d = numbered_all (λ g f. worker_type f) (worker P) 0 P.functions (λ g j x at is. worker_typed j x (same_number g j x at is)) f i b e d
 
   -- each function has one of the types
   worker_low : (fn : Fn) → worker_type fn < 11
