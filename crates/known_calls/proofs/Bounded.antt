@@ -1,17 +1,16 @@
 -- How many bytes emitted code has, and that its immediates have their bits.
-use Rattle.std.proofs.Common.{◌≡◌, ℕ, zero, suc, ◌+◌, ◌*◌, ◌<◌, ◌≤◌, List, [], ◌∷◌, length, Option, Some, None, Bool, true, false, refl, ap, arith}
+use Rattle.std.proofs.Common.{◌≡◌, ℕ, zero, suc, ◌+◌, ◌*◌, ◌<◌, ◌≤◌, List, [], ◌∷◌, length, Option, Some, None, Bool, true, false, refl, arith}
 use Rattle.std.proofs.lemmas.Bool.{leb-true}
 use Rattle.std.proofs.lemmas.Option.{slice_get_within}
 use Rattle.std.specs.Prelude.{max, nat_eq, nat_le, if◌then◌else◌}
 use Rattle.wasm_core.specs.declared.types.ValType.TheVariants.{I32}
 use Rattle.wasm_core.specs.declared.instrs.BlockType.{BlockType}
 use Rattle.wasm_core.specs.declared.instrs.BlockType.TheVariants.{Empty, Value}
-use Rattle.wasm_core.specs.declared.instrs.I32Op.{I32Op}
 use Rattle.wasm_core.specs.declared.instrs.I32Op.TheVariants as op32
 use Rattle.wasm_core.specs.declared.instrs.Instr.{Instr}
-use Rattle.wasm_core.specs.declared.instrs.Instr.TheVariants.{Unreachable, Loop, If, Else, End, Br, Call, LocalGet, LocalSet, LocalTee, GlobalGet, GlobalSet, MemorySize, I32 as Operation}
+use Rattle.wasm_core.specs.declared.instrs.Instr.TheVariants.{Unreachable, Loop, Else, End, Br, Call, LocalGet, LocalSet, LocalTee, GlobalGet, GlobalSet, MemorySize, I32 as Operation}
 use Rattle.wasm_core.specs.ModuleCondition.{All, IsInstr}
-use Rattle.wasm_core.specs.ShortestBytes.{unsigned, put_all, put_instr}
+use Rattle.wasm_core.specs.ShortestBytes.{put_all, put_instr}
 use Rattle.anf_convert.specs.declared.program.Atom.{Atom}
 use Rattle.anf_convert.specs.AnfForm.{AtomFits, AtomsFit}
 use Rattle.closure_lift.specs.Lifted.{Op, OConst, OApp, OCon, OClos, OCase, Block, RetAtom, LetAtom, Ret, Let, Branches, BNil, BCons, Program, many}
@@ -20,13 +19,13 @@ use Rattle.wasm_emit.specs.EmittedCode.{Load, Store, Const, IfWord, IfOnly, Call
 use Rattle.wasm_emit.specs.EmittedLocals.{top, top_op, top_branches}
 use Rattle.wasm_emit.specs.EmitLaws.{CountsFit}
 use Rattle.wasm_emit.proofs.Lengths.{bytes_of, size, u_2, z_unreachable, z_if, z_else, z_end, z_op, z_call, z_indirect, z_get, z_set, z_tee, z_heap, z_size, z_room, z_small, z_header, z_global, z_load, z_store, z_const}
-use Rattle.known_calls.specs.KnownPlaces.{Word, InLocal, InField, IsConst, Place, At, Known, fields_of, word_of, known_function, block_reads}
+use Rattle.known_calls.specs.KnownPlaces.{Word, InLocal, InField, IsConst, Place, At, fields_of, word_of, known_function, block_reads}
 use Rattle.known_calls.specs.KnownCode.{Position, Inside, InTail, deeper, worker_index, jumps, most_blocks, read_word, read, atom, push_words, fill, block, into_params, call_worker, application, choose, unmade, known, op, code, empties, heads}
 use Rattle.known_calls.specs.KnownModule.{captured_words}
 use Rattle.known_calls.specs.KnownWeight.{op_weight, weight, branches_weight}
 use Rattle.known_calls.proofs.Unreading.{and_true, unmade_some}
 use Rattle.known_calls.proofs.SameLocals.{top_less}
-use Rattle.known_calls.proofs.Fitting.{WordFits, PlaceFits, places_up, fields_fit, word_fits, function_fits, known_fits}
+use Rattle.known_calls.proofs.Fitting.{WordFits, PlaceFits, fields_fit, word_fits, function_fits, known_fits}
 
 -- instructions whose immediates have their bits
 pub data Good : List Instr → Type 0 where

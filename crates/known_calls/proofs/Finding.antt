@@ -1,11 +1,11 @@
 -- What stands at a variable's place.
-use Rattle.std.proofs.Common.{◌≡◌, ℕ, zero, suc, ◌+◌, ◌*◌, ◌≤◌, List, [], ◌∷◌, length, Option, Some, None, Bool, true, false, refl, ap, sym, ◌∙◌, subst, eq-eqb, arith}
+use Rattle.std.proofs.Common.{◌≡◌, ℕ, zero, suc, ◌+◌, ◌*◌, ◌≤◌, List, ◌∷◌, length, Option, Some, None, true, false, refl, ap, sym, ◌∙◌, subst, eq-eqb}
 use Rattle.std.specs.Prelude.{slice_get, nat_eq}
 use Rattle.std.specs.Option.{option_map, option_and_then}
 use Rattle.wasm_core.specs.declared.types.ConstValue.{ConstValue}
 use Rattle.wasm_emit.proofs.Bytes.{Mem}
 use Rattle.wasm_emit.proofs.Values.{Stands, s_box, s_empty}
-use Rattle.wasm_emit.proofs.Source.{Atom, AVar, ABox, AEmpty, Val, VClos, Vals, VNil, VCons, lookup, Is, is_var, is_box, is_empty, AllAre, are_none, are_more}
+use Rattle.wasm_emit.proofs.Source.{Atom, AVar, Val, VClos, Vals, VNil, VCons, lookup, Is, is_var, is_box, is_empty, AllAre, are_none, are_more}
 use Rattle.known_calls.specs.KnownPlaces.{Word, IsConst, Place, At, Known, word_at, word_of, words_of, all_at, known_at, known_function, names}
 use Rattle.known_calls.proofs.KnownHolds.{Reads, is_const, Words, no_word, more_words, Env, env_nil, env_at, env_known}
 

@@ -1,7 +1,7 @@
 -- The places of variables fit: they use only locals below a number, and a known closure has as many words as its function takes.
-use Rattle.std.proofs.Common.{◌≡◌, ℕ, zero, suc, ◌+◌, ◌*◌, ◌<◌, ◌≤◌, List, [], ◌∷◌, length, Option, Some, None, refl, ap, sym, ◌∙◌, subst, arith}
+use Rattle.std.proofs.Common.{◌≡◌, ℕ, zero, suc, ◌*◌, ◌<◌, ◌≤◌, List, [], ◌∷◌, length, Option, Some, None, refl, ap, sym, subst, arith}
 use Rattle.std.specs.Prelude.{slice_get}
-use Rattle.std.specs.Option.{option_map, option_and_then}
+use Rattle.std.specs.Option.{option_and_then}
 use Rattle.anf_convert.specs.declared.program.Atom.{Atom}
 use Rattle.anf_convert.specs.declared.program.Atom.TheVariants.{Var as AVar, Box as ABox, Empty as AEmpty}
 use Rattle.anf_convert.specs.AnfForm.{AtomFits, AtomsFit}
@@ -9,7 +9,7 @@ use Rattle.closure_lift.specs.Lifted.{Op, OConst, OApp, OCon, OClos, OCase, Bloc
 use Rattle.closure_lift.specs.LiftedForm.{Takes, OpFits, BlockFits, Formed}
 use Rattle.wasm_core.specs.ModuleCondition.{All}
 use Rattle.known_calls.specs.KnownPlaces.{Word, InLocal, InField, IsConst, Place, At, Known, word_at, word_of, words_of, all_at, fields_of, known_at, known_function}
-use Rattle.known_calls.specs.KnownCode.{known_closure, closure_alone, partial, known}
+use Rattle.known_calls.specs.KnownCode.{known_closure, closure_alone, known}
 use Rattle.known_calls.specs.KnownModule.{params}
 use Rattle.known_calls.proofs.Finding.{same_some, split}
 use Rattle.known_calls.proofs.Knowing.{closed, opened}

@@ -3,7 +3,7 @@ use Rattle.std.proofs.Common.{◌≡◌, ℕ, zero, suc, ◌+◌, ◌-◌, ◌*�
 use Rattle.std.proofs.lemmas.Bool.{eqb-true}
 use Rattle.std.proofs.lemmas.List.{length-reverse}
 use Rattle.std.proofs.lemmas.Option.{slice_get_within, slice_get-get_or}
-use Rattle.std.specs.Prelude.{slice_get, slice_set, reverse, nat_eq, nat_le, ◌&&◌, if◌then◌else◌}
+use Rattle.std.specs.Prelude.{slice_get, slice_set, reverse, nat_eq, nat_le, if◌then◌else◌}
 use Rattle.wasm_core.specs.declared.types.ValType.TheVariants as type
 use Rattle.wasm_core.specs.declared.types.ConstValue.{ConstValue}
 use Rattle.wasm_core.specs.declared.types.ConstValue.TheVariants.{I32}
@@ -12,7 +12,7 @@ use Rattle.wasm_core.specs.declared.exports.Export.{Export}
 use Rattle.wasm_core.specs.declared.instrs.BlockType.TheVariants.{Value}
 use Rattle.wasm_core.specs.declared.instrs.Body.{Body}
 use Rattle.wasm_core.specs.declared.instrs.Instr.{Instr}
-use Rattle.wasm_core.specs.declared.instrs.Instr.TheVariants.{CallIndirect, Call, Br, End, Loop, LocalGet, LocalSet}
+use Rattle.wasm_core.specs.declared.instrs.Instr.TheVariants.{CallIndirect, Call, Br, End, LocalGet, LocalSet}
 use Rattle.wasm_core.specs.Parts.{Parts}
 use Rattle.wasm_core.specs.Memory.{word}
 use Rattle.wasm_core.specs.MachineStep.{State}
@@ -21,8 +21,7 @@ use Rattle.wasm_core.proofs.Rules as rule
 use Rattle.anf_convert.specs.declared.program.Atom.{Atom}
 use Rattle.closure_lift.specs.Lifted.{Op, OConst, OApp, OCon, OClos, OCase, Block, RetAtom, LetAtom, Ret, Let, Branches, Program, Fn, Val, VBox, VCon, VClos, Vals, VNil, VCons, size, ◌+v◌, many, BranchAt}
 use Rattle.wasm_emit.specs.EmitLaws.{Spent}
-use Rattle.wasm_emit.specs.EmittedCode.{Load, CallClosure}
-use Rattle.wasm_emit.specs.EmittedLocals.{top, top_op, top_branches}
+use Rattle.wasm_emit.specs.EmittedLocals.{top, top_op}
 use Rattle.wasm_emit.proofs.Source.{Applies, applies_alone, applies_more, Is, AllAre, Does, do_const, do_app, do_box_app, do_con, do_clos, do_case, Gets, gets_atom, gets_let_atom, gets_ret, gets_let}
 use Rattle.wasm_emit.proofs.Bytes.{Mem, word_same}
 use Rattle.wasm_emit.proofs.Values.{ArgsAt, args_more, Stands, s_box, s_empty, s_con, s_clos, Fields, no_field, field}
@@ -32,14 +31,14 @@ use Rattle.wasm_emit.proofs.Alloc.{Room, HasRunTime}
 use Rattle.wasm_emit.proofs.Making.{all_size}
 use Rattle.wasm_emit.proofs.Cases.{at_zero}
 use Rattle.wasm_emit.proofs.Follows.{zeros_length, branch_top}
-use Rattle.known_calls.specs.KnownPlaces.{Word, InLocal, InField, Place, At, Known, fields_of, word_of, known_function, names, branches_read, block_reads}
+use Rattle.known_calls.specs.KnownPlaces.{Word, InLocal, Place, At, Known, fields_of, known_function, names, branches_read, block_reads}
 use Rattle.known_calls.specs.KnownCode.{Position, Inside, InTail, is_wide, into_params, worker_index, most_blocks, jumps, application, call_worker, choose, unmade, known, op, code, empties, heads}
-use Rattle.known_calls.specs.KnownModule.{params, captured_words, worker_code, module_with}
+use Rattle.known_calls.specs.KnownModule.{params, captured_words, module_with}
 use Rattle.known_calls.specs.KnownCalls.{applied}
 use Rattle.known_calls.proofs.KnownHolds.{in_local, in_field, Words, words_length, Env, env_nil, env_at, env_known, env_on, Unread, OpUnread, Stood, stood_inside, stood_in_tail, stood_up, loop_of}
 use Rattle.known_calls.proofs.Unreading.{neither, and_true, unmade_some, unread_known, unread_at, unread_let_atom, unread_op, unread_branch}
 use Rattle.known_calls.proofs.Finding.{There, there, there_unknown, same_some}
-use Rattle.known_calls.proofs.Knowing.{IsKnown, known_is, calls, same_function, same_captured, no_box}
+use Rattle.known_calls.proofs.Knowing.{known_is, calls, same_function, same_captured, no_box}
 use Rattle.known_calls.proofs.KnownMaking.{WordsStand, stand_more, words, stand_size, put_atom, pushed, made}
 use Rattle.known_calls.proofs.KnownCases.{Yields, Out, Go, fewer_kept, pass_empties, take_empty, take_head}
 use Rattle.known_calls.proofs.KnownIndices.{not_wide, narrow_few, constant_at, wide_at, stub_at, worker_at, table_entry}

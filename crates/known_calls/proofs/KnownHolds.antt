@@ -1,5 +1,5 @@
 -- The invariant of a running function: the places of its variables hold words that stand for their values, or are closures that are made nowhere, whose captured words stand for the captured values.
-use Rattle.std.proofs.Common.{◌≡◌, ℕ, zero, suc, ◌+◌, ◌<◌, ◌≤◌, List, [], ◌∷◌, ◌++◌, length, Some, Bool, true, false, refl, ap, ◌∙◌, arith}
+use Rattle.std.proofs.Common.{◌≡◌, ℕ, suc, ◌+◌, ◌<◌, ◌≤◌, List, [], ◌∷◌, ◌++◌, length, Some, Bool, true, false, refl, ap, ◌∙◌, arith}
 use Rattle.std.specs.Prelude.{slice_get}
 use Rattle.closure_lift.specs.Lifted.{Op, Block, Program, Fn, Val, VClos, Vals, VNil, VCons, size}
 use Rattle.wasm_core.specs.declared.types.ValType.TheVariants as type

@@ -1,11 +1,10 @@
 -- Where a module with workers has its functions, their types, and the entries of its table.
-use Rattle.std.proofs.Common.{◌≡◌, ℕ, zero, suc, ◌+◌, ◌-◌, ◌<◌, ◌≤◌, List, [], ◌∷◌, ◌++◌, length, map, Option, Some, None, Bool, true, false, refl, ap, sym, ◌∙◌, arith, length-append}
+use Rattle.std.proofs.Common.{◌≡◌, ℕ, zero, suc, ◌+◌, ◌-◌, ◌<◌, ◌≤◌, List, [], ◌∷◌, ◌++◌, length, map, Some, Bool, true, false, refl, ap, ◌∙◌, arith, length-append}
 use Rattle.std.proofs.lemmas.Bool.{leb-true, leb-false}
 use Rattle.std.proofs.lemmas.Option.{slice_get-map}
-use Rattle.std.specs.Option.{option_map, option_and_then}
+use Rattle.std.specs.Option.{option_map}
 use Rattle.std.specs.Prelude.{slice_get, if◌then◌else◌}
 use Rattle.wasm_core.specs.declared.types.ValType.TheVariants as type
-use Rattle.wasm_core.specs.declared.types.FuncType.{FuncType}
 use Rattle.wasm_core.specs.declared.types.GlobalDef.{GlobalDef}
 use Rattle.wasm_core.specs.declared.exports.Export.{Export}
 use Rattle.wasm_core.specs.declared.instrs.BlockType.TheVariants.{Value}
@@ -18,8 +17,7 @@ use Rattle.wasm_emit.specs.EmittedCode.{constant_index}
 use Rattle.wasm_emit.specs.EmittedLocals.{top}
 use Rattle.wasm_emit.proofs.Indices.{at_append, at_front, length_map, func_is}
 use Rattle.wasm_emit.proofs.Indices as emitted
-use Rattle.known_calls.specs.KnownPlaces.{At, InLocal, fields_of}
-use Rattle.known_calls.specs.KnownCode.{is_wide, worker_index, Inside, code}
+use Rattle.known_calls.specs.KnownCode.{is_wide, worker_index}
 use Rattle.known_calls.specs.KnownModule.{words_type, wide_body, stub_code, entry, worker_code, worker, worker_type, numbered, constant, in_order, module_with}
 
 pub not_wide : (fn : Fn) → fn.captured ≤ 7 → is_wide fn ≡ false

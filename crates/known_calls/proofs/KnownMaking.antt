@@ -1,5 +1,5 @@
 -- Atoms, and blocks of memory.
-use Rattle.std.proofs.Common.{◌≡◌, ℕ, suc, ◌+◌, ◌*◌, ◌<◌, ◌≤◌, List, [], ◌∷◌, ◌++◌, length, Option, Some, Bool, false, refl, ap, sym, ◌∙◌, subst, inl, inr, arith}
+use Rattle.std.proofs.Common.{◌≡◌, ℕ, suc, ◌+◌, ◌*◌, ◌<◌, ◌≤◌, List, [], ◌∷◌, ◌++◌, length, Option, Some, false, refl, ap, sym, ◌∙◌, subst, inl, inr, arith}
 use Rattle.std.proofs.lemmas.Option.{slice_get-get_or}
 use Rattle.std.specs.Prelude.{slice_get, slice_set}
 use Rattle.wasm_core.specs.Memory.{byte, word, put_word}
@@ -18,7 +18,7 @@ use Rattle.wasm_emit.proofs.Holds.{address_below, fields_up, Same, Keeps, keeps_
 use Rattle.wasm_emit.proofs.Rules.{Limits, Within, here, looser, r_const, r_get, r_tee, r_heap, r_set_heap, r_add, r_load, r_store}
 use Rattle.wasm_emit.proofs.Alloc.{Room, HasRunTime, allocated}
 use Rattle.wasm_emit.proofs.Making.{all_size}
-use Rattle.known_calls.specs.KnownPlaces.{Word, InLocal, InField, IsConst, Place, Known, names, some_names}
+use Rattle.known_calls.specs.KnownPlaces.{Word, Place, Known, names, some_names}
 use Rattle.known_calls.specs.KnownCode.{read_word, read, atom, push_words, fill, block}
 use Rattle.known_calls.proofs.KnownHolds.{Reads, in_local, in_field, is_const, Words, no_word, more_words, Env, env_on}
 use Rattle.known_calls.proofs.Finding.{There, there}

@@ -1,5 +1,5 @@
 -- How long the bytes of a module with workers are.
-use Rattle.std.proofs.Common.{◌≡◌, ℕ, zero, suc, ◌+◌, ◌-◌, ◌*◌, ◌<◌, ◌≤◌, List, [], ◌∷◌, ◌++◌, length, length-append, map, Some, Bool, true, false, refl, subst, arith}
+use Rattle.std.proofs.Common.{◌≡◌, ℕ, suc, ◌+◌, ◌-◌, ◌*◌, ◌≤◌, List, [], ◌∷◌, ◌++◌, length, length-append, map, Some, Bool, true, false, refl, subst, arith}
 use Rattle.std.specs.Prelude.{slice_get, max, codes, if◌then◌else◌}
 use Rattle.wasm_core.specs.declared.types.ValType.TheVariants.{I32}
 use Rattle.wasm_core.specs.declared.instrs.BlockType.TheVariants.{Value}
@@ -105,8 +105,14 @@ module _ (P : Program) (m : ℕ) (form : Formed P m) (counts : CountsFit P m) (l
 
   main_size : (w : List ℕ) → length (put_body (main_function P) w) ≤ 20 + weight P.main + length w
   main_size w =
-      omega (arith, body_size (top 0 P.main) (code P [] 0 Inside P.main (GlobalSet 0 ∷ End ∷ [])) w, z_global (End ∷ []) 0 (omega arith), z_end [], no_bytes,
-      (b_code P m form counts limits 0 0 [] Inside P.main (omega (arith, counts.main)) tt form.main).bytes (GlobalSet 0 ∷ End ∷ []))
+      omega (
+        arith,
+        body_size (top 0 P.main) (code P [] 0 Inside P.main (GlobalSet 0 ∷ End ∷ [])) w,
+        z_global (End ∷ []) 0 (omega arith),
+        z_end [],
+        no_bytes,
+        (b_code P m form counts limits 0 0 [] Inside P.main (omega (arith, counts.main)) tt form.main).bytes (GlobalSet 0 ∷ End ∷ []),
+      )
 
   constants_size : (ts : List Block) (bs : List Body) (w : List ℕ) → ((i : ℕ) (t : Block) (w : List ℕ) → slice_get ts i ≡ Some t → length (put_body (constant P t) w) ≤ 18 + weight t + length w) →
       length (put_all put_body (map (constant P) ts ++ bs) w) + 10 * length ts ≤ constants_weight ts + length (put_all put_body bs w)

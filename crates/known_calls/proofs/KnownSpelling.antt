@@ -1,17 +1,16 @@
 -- The numbers of a module with workers fit its format, so that bytes can spell it.
-use Rattle.std.proofs.Common.{◌≡◌, ℕ, zero, suc, ◌+◌, ◌-◌, ◌*◌, ◌<◌, ◌≤◌, List, [], ◌∷◌, ◌++◌, length, map, replicate, Some, Bool, true, false, refl, arith, subst}
+use Rattle.std.proofs.Common.{◌≡◌, ℕ, zero, suc, ◌+◌, ◌-◌, ◌≤◌, List, [], ◌∷◌, ◌++◌, map, replicate, Some, Bool, true, false, refl, arith, subst}
 use Rattle.std.specs.Prelude.{slice_get, if◌then◌else◌}
 use Rattle.std.proofs.lemmas.List.{length-replicate}
 use Rattle.std.proofs.lemmas.Option.{slice_get_within}
 use Rattle.wasm_core.specs.declared.types.ValType.{ValType}
 use Rattle.wasm_core.specs.declared.types.ValType.TheVariants.{I32}
 use Rattle.wasm_core.specs.declared.instrs.BlockType.TheVariants.{Value}
-use Rattle.wasm_core.specs.declared.instrs.Body.{Body}
 use Rattle.wasm_core.specs.declared.instrs.Instr.{Instr}
 use Rattle.wasm_core.specs.declared.instrs.Instr.TheVariants.{Unreachable, Loop, End, Call, LocalGet, GlobalSet}
 use Rattle.wasm_core.specs.Parts.{Parts}
 use Rattle.wasm_core.specs.ModuleTyping.{TypedFunc, results_of}
-use Rattle.wasm_core.specs.ModuleCondition.{All, IsU32, IsInstr, IsBody}
+use Rattle.wasm_core.specs.ModuleCondition.{All, IsU32, IsBody}
 use Rattle.wasm_core.proofs.Closed.{typed_is_closed}
 use Rattle.closure_lift.specs.Lifted.{Block, Fn, Program}
 use Rattle.closure_lift.specs.LiftedForm.{Formed, Limits}
@@ -21,7 +20,7 @@ use Rattle.wasm_emit.specs.EmittedModule.{body, room_code}
 use Rattle.wasm_emit.specs.EmitLaws.{CountsFit}
 use Rattle.wasm_emit.proofs.Spelled.{emit_spelled}
 use Rattle.wasm_emit.proofs.Lengths.{size}
-use Rattle.known_calls.specs.KnownPlaces.{Place, At, InLocal, fields_of}
+use Rattle.known_calls.specs.KnownPlaces.{At, InLocal, fields_of}
 use Rattle.known_calls.specs.KnownCode.{Inside, InTail, is_wide, worker_index, code}
 use Rattle.known_calls.specs.KnownModule.{params, captured_words, wide_body, stub_code, entry, worker_code, worker, worker_type, numbered, constant, main_function, module_of}
 use Rattle.known_calls.specs.KnownLaws.{KnownSpelled}
@@ -30,7 +29,7 @@ use Rattle.known_calls.proofs.SameLocals.{worker_top}
 use Rattle.known_calls.proofs.Fitting.{fields_fit, params_fit}
 use Rattle.known_calls.proofs.KnownIndices.{narrow_few, order_length}
 use Rattle.known_calls.proofs.KnownValidity.{entry_typed, worker_typed, constant_typed, main_typed, box_typed, room_typed}
-use Rattle.known_calls.proofs.Bounded.{Good, good, fits, all_of, Bounded, ◌then◌, b_most, b_get, b_call, b_end, b_unreachable, b_global, b_loop, b_captured, b_code}
+use Rattle.known_calls.proofs.Bounded.{Good, good, fits, all_of, Bounded, ◌then◌, b_most, b_get, b_call, b_end, b_loop, b_captured, b_code}
 
 all_then : {A B : Type 0} (Q : B → Type 0) (h : A → B) (xs : List A) (bs : List B) → ((i : ℕ) (x : A) → slice_get xs i ≡ Some x → Q (h x)) → All Q bs → All Q (map h xs ++ bs)
 all_then Q h [] bs a r = r
@@ -109,16 +108,20 @@ module _ (P : Program) (pages m : ℕ) (form : Formed P m) (counts : CountsFit P
   pub all_bodies : All IsBody M.bodies
   all_bodies = (
     body_fits M 0 0 room_code (omega arith) (room_typed P m form (main_function P) [] [] pages) room_good,
-    (body_fits M 2 0 (Const 0 ∷ End ∷ []) (omega arith) (box_typed P m form (main_function P) [] [] pages) (fits (omega arith) (fits tt good)),
-    numbered_then IsBody (entry P) 0 P.functions _ (λ g j x at is. entry_fits j x (same_number g j x at is))
-    (all_then IsBody (constant P) P.constants _ (λ i t at. constant_fits i t at) (main_fits, numbered_all IsBody (worker P) 0 P.functions (λ g j x at is. worker_fits j x (same_number g j x at is))))),
+    (
+      body_fits M 2 0 (Const 0 ∷ End ∷ []) (omega arith) (box_typed P m form (main_function P) [] [] pages) (fits (omega arith) (fits tt good)),
+      numbered_then IsBody (entry P) 0 P.functions _ (λ g j x at is. entry_fits j x (same_number g j x at is))
+          (all_then IsBody (constant P) P.constants _ (λ i t at. constant_fits i t at) (main_fits, numbered_all IsBody (worker P) 0 P.functions (λ g j x at is. worker_fits j x (same_number g j x at is)))),
+    ),
   )
 
   pub all_types : All IsU32 M.funcs
   all_types = (
     omega arith,
-    (omega arith,
-    numbered_then IsU32 (λ g f. 2) 0 P.functions _ (λ g j x at is. omega arith) (all_then IsU32 (λ t. 1) P.constants _ (λ i t at. omega arith) (omega arith, numbered_all IsU32 (λ g f. worker_type f) 0 P.functions (λ g j x at is. type_fits x)))),
+    (
+      omega arith,
+      numbered_then IsU32 (λ g f. 2) 0 P.functions _ (λ g j x at is. omega arith) (all_then IsU32 (λ t. 1) P.constants _ (λ i t at. omega arith) (omega arith, numbered_all IsU32 (λ g f. worker_type f) 0 P.functions (λ g j x at is. type_fits x))),
+    ),
   )
 
 pub known_spelled : KnownSpelled

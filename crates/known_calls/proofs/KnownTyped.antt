@@ -1,21 +1,19 @@
 -- Emitted code has a typing.
-use Rattle.std.proofs.Common.{◌≡◌, ℕ, zero, suc, ◌+◌, ◌*◌, ◌<◌, ◌≤◌, List, [], ◌∷◌, ◌++◌, length, map, replicate, Option, Some, None, Bool, true, false, refl, ap, sym, ◌∙◌, subst, arith, get_or}
+use Rattle.std.proofs.Common.{◌≡◌, ℕ, zero, suc, ◌+◌, ◌<◌, ◌≤◌, List, [], ◌∷◌, ◌++◌, length, replicate, Option, Some, None, Bool, true, false, refl, ap, sym, ◌∙◌, subst, arith, get_or}
 use Rattle.std.proofs.lemmas.Bool.{eqb-true}
 use Rattle.std.proofs.lemmas.Option.{slice_get-get_or}
 use Rattle.std.specs.Option.{option_map, option_and_then}
 use Rattle.std.specs.Prelude.{slice_get, reverse, max, nat_eq, nat_le, if◌then◌else◌}
-use Rattle.wasm_core.specs.declared.types.ValType.{ValType}
 use Rattle.wasm_core.specs.declared.types.ValType.TheVariants.{I32}
-use Rattle.wasm_core.specs.declared.types.FuncType.{FuncType}
 use Rattle.wasm_core.specs.declared.types.GlobalDef.{GlobalDef}
 use Rattle.wasm_core.specs.declared.exports.Export.{Export}
 use Rattle.wasm_core.specs.declared.instrs.BlockType.TheVariants.{Value}
 use Rattle.wasm_core.specs.declared.instrs.Body.{Body}
 use Rattle.wasm_core.specs.declared.instrs.Instr.{Instr}
-use Rattle.wasm_core.specs.declared.instrs.Instr.TheVariants.{Unreachable, Else, End, Br, Call, LocalGet, LocalSet, LocalTee}
+use Rattle.wasm_core.specs.declared.instrs.Instr.TheVariants.{Else, End, Br, Call, LocalGet, LocalSet, LocalTee}
 use Rattle.wasm_core.specs.Parts.{Parts}
 use Rattle.wasm_core.specs.ModuleCondition.{All}
-use Rattle.wasm_core.specs.ModuleTyping.{Types, Operands, Of, known as known_types, Effect, getting, setting, keeping, calling as calling_type, func_type, Match, match_none, Typed, done, unreachable, br}
+use Rattle.wasm_core.specs.ModuleTyping.{Types, Operands, Of, known as known_types, Effect, getting, setting, keeping, calling as calling_type, func_type, match_none, Typed, done, unreachable, br}
 use Rattle.wasm_core.proofs.TypedRules.{t_plain, t_one_arm, t_two_arms}
 use Rattle.anf_convert.specs.declared.program.Atom.{Atom}
 use Rattle.anf_convert.specs.AnfForm.{AtomFits, AtomsFit}
@@ -24,12 +22,12 @@ use Rattle.closure_lift.specs.LiftedForm.{OpFits, BlockFits, BranchesFit, Formed
 use Rattle.wasm_emit.specs.EmittedCode.{IfWord, ensure_room}
 use Rattle.wasm_emit.specs.EmittedLocals.{top, top_op, top_branches}
 use Rattle.wasm_emit.proofs.Typed.{AllWords}
-use Rattle.known_calls.specs.KnownPlaces.{Word, InLocal, InField, IsConst, Place, At, Known, fields_of, word_of, known_function, block_reads}
-use Rattle.known_calls.specs.KnownCode.{Position, Inside, InTail, deeper, is_wide, worker_index, jumps, most_blocks, read_word, read, atom, push_words, fill, block, into_params, call_worker, application, choose, unmade, known, op, code, empties, heads}
+use Rattle.known_calls.specs.KnownPlaces.{Word, InLocal, InField, IsConst, Place, At, fields_of, word_of, known_function, block_reads}
+use Rattle.known_calls.specs.KnownCode.{Position, Inside, InTail, deeper, worker_index, jumps, most_blocks, read_word, read, atom, push_words, fill, block, into_params, call_worker, application, choose, unmade, known, op, code, empties, heads}
 use Rattle.known_calls.specs.KnownModule.{words_type, worker_type, module_with}
 use Rattle.known_calls.proofs.Shapes.{Shaped, shaped_code, shaped_empties, shaped_heads}
 use Rattle.known_calls.proofs.Finding.{same_some}
-use Rattle.known_calls.proofs.Fitting.{WordFits, PlaceFits, places_up, words_up, fields_fit, word_fits, function_fits, known_fits}
+use Rattle.known_calls.proofs.Fitting.{WordFits, PlaceFits, places_up, fields_fit, word_fits, function_fits, known_fits}
 use Rattle.known_calls.proofs.Unreading.{and_true, unmade_some}
 use Rattle.known_calls.proofs.SameLocals.{top_less}
 use Rattle.known_calls.proofs.KnownIndices.{not_wide, constant_in, type_of_worker, type_of_words}
@@ -83,7 +81,6 @@ module _ (P : Program) (most : ℕ) (form : Formed P most) (main : Body) (gs : L
     t_tee : {x : ℕ} → x < size → Typed m ls rs labels (Of I32 ∷ ts) rest us → Typed m ls rs labels (Of I32 ∷ ts) (LocalTee x ∷ rest) us
     t_tee {x} lt k = t_plain ts (ap (option_map {U = Effect} keeping) (all x lt)) k
 
-
   t_word : {labels : List Types} {ts us : Operands} {rest : List Instr} (d : ℕ) (w : Word) → d ≤ size → WordFits far d w → Typed m ls rs labels (Of I32 ∷ ts) rest us → Typed m ls rs labels ts (read_word w rest) us
   t_word d (InLocal x) le h k = t_get (omega arith) k
   t_word {ts = ts} d (InField x o) le h k = t_get (omega (arith, h.0)) (t_plain ts refl k)
@@ -119,7 +116,7 @@ module _ (P : Program) (most : ℕ) (form : Formed P most) (main : Body) (gs : L
   pub t_worker : {labels : List Types} {ts us : Operands} {rest : List Instr} (g : ℕ) (fn : Fn) → slice_get P.functions g ≡ Some fn → fn.captured ≤ 7 → Typed m ls rs labels (Of I32 ∷ ts) rest us → Typed m ls rs labels (words_on (suc fn.captured) ts) (Call (worker_index P g) ∷ rest) us
   t_worker {labels} {ts} {us} {rest} g fn at few k =
       let type_is : func_type m (worker_index P g) ≡ Some (words_type fn.captured) =
-          ap (option_and_then (λ index. slice_get m.types index)) (type_of_worker P main gs es pages g fn at (not_wide fn few)) ∙ type_of_words P main gs es pages fn.captured few in
+      ap (option_and_then (λ index. slice_get m.types index)) (type_of_worker P main gs es pages g fn at (not_wide fn few)) ∙ type_of_words P main gs es pages fn.captured few in
       subst (λ (os : Operands). Typed m ls rs labels os (Call (worker_index P g) ∷ rest) us) (ap (λ (xs : Types). known_types xs ++ ts) (turned fn.captured few) ∙ of_words (suc fn.captured) ts)
       (t_plain ts (ap (option_map {U = Effect} calling_type) type_is) k)
 

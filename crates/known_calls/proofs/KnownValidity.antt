@@ -1,7 +1,6 @@
 -- A module with workers is valid.
 use Rattle.std.proofs.Common.{◌≡◌, ℕ, zero, suc, ◌+◌, ◌-◌, ◌*◌, ◌^◌, ◌<◌, ◌≤◌, max, List, [], ◌∷◌, ◌++◌, length, map, replicate, Option, Some, Bool, true, false, refl, ap, sym, ◌∙◌, subst, append_assoc, arith}
 use Rattle.std.specs.Prelude.{slice_get, if◌then◌else◌}
-use Rattle.wasm_core.specs.declared.types.ValType.{ValType}
 use Rattle.wasm_core.specs.declared.types.ValType.TheVariants.{I32}
 use Rattle.wasm_core.specs.declared.types.GlobalDef.{GlobalDef}
 use Rattle.wasm_core.specs.declared.exports.Export.{Export}
@@ -13,8 +12,7 @@ use Rattle.wasm_core.specs.declared.instrs.Instr.{Instr}
 use Rattle.wasm_core.specs.declared.instrs.Instr.TheVariants.{Unreachable, Loop, End, Call, LocalGet, LocalSet, GlobalGet, GlobalSet, MemoryGrow, I32 as Operation}
 use Rattle.wasm_core.specs.declared.instrs.I32Op.TheVariants as op32
 use Rattle.wasm_core.specs.Parts.{Parts}
-use Rattle.wasm_core.specs.ModuleCondition.{All}
-use Rattle.wasm_core.specs.ModuleTyping.{Typed, Types, Operands, Of, match_none, match_same, done, unreachable, loop, TypedFunc, Functions, Tables, Memories, Globals, Exported, Elements, Codes, IsSound, AllSound, IsThere, IsSegment, IsValid}
+use Rattle.wasm_core.specs.ModuleTyping.{Typed, Types, Operands, Of, match_none, match_same, done, unreachable, loop, TypedFunc, Functions, Tables, Memories, Globals, Exported, Elements, Codes, IsSound, AllSound, IsThere, IsValid}
 use Rattle.wasm_core.proofs.Small.{inj, no}
 use Rattle.wasm_core.proofs.TypedRules.{t_plain, t_one_arm, t_body}
 use Rattle.anf_convert.specs.declared.program.Atom.TheVariants.{Var as AVar}
@@ -22,21 +20,21 @@ use Rattle.closure_lift.specs.Lifted.{OApp, Block, Program, Fn}
 use Rattle.closure_lift.specs.LiftedForm.{BlockFits, Formed}
 use Rattle.wasm_emit.specs.EmittedCode.{Load, Const, IfOnly}
 use Rattle.wasm_emit.specs.EmittedLocals.{top}
-use Rattle.wasm_emit.specs.EmittedModule.{type_main, type_constant, type_function, body, room_function, box_function, entries}
+use Rattle.wasm_emit.specs.EmittedModule.{type_main, type_constant, type_function, body, room_function, box_function}
 use Rattle.wasm_emit.specs.EmittedModule as emitted
 use Rattle.wasm_emit.specs.CallModule.{call_globals, call_exports}
 use Rattle.wasm_emit.specs.CallModule as emitted_call
 use Rattle.wasm_emit.proofs.Indices.{row_length}
 use Rattle.wasm_emit.proofs.Typed.{AllWords, all_i32}
 use Rattle.wasm_emit.proofs.Valid.{emit_valid, call_valid}
-use Rattle.known_calls.specs.KnownPlaces.{Place, At, InLocal, fields_of}
-use Rattle.known_calls.specs.KnownCode.{Inside, InTail, is_wide, worker_index, code, op}
-use Rattle.known_calls.specs.KnownModule.{words_type, params, captured_words, wide_body, stub_code, entry, worker_code, worker, worker_type, numbered, constant, main_function, in_order, module_with, module_of}
+use Rattle.known_calls.specs.KnownPlaces.{At, InLocal, fields_of}
+use Rattle.known_calls.specs.KnownCode.{Inside, InTail, is_wide, worker_index, code}
+use Rattle.known_calls.specs.KnownModule.{words_type, params, captured_words, wide_body, stub_code, entry, worker_code, worker, worker_type, numbered, constant, main_function, module_with}
 use Rattle.known_calls.specs.KnownCalls.{applied, call_function, module_of_call}
 use Rattle.known_calls.specs.KnownLaws.{KnownValid, CallsValid}
 use Rattle.known_calls.proofs.Shapes.{Shaped, shaped_code, shaped_op, shaped_captured, one, ◌then◌}
 use Rattle.known_calls.proofs.SameLocals.{worker_top}
-use Rattle.known_calls.proofs.Fitting.{PlaceFits, fields_fit, params_fit}
+use Rattle.known_calls.proofs.Fitting.{fields_fit, params_fit}
 use Rattle.known_calls.proofs.KnownIndices.{narrow_few, type_of_words, order_length}
 use Rattle.known_calls.proofs.KnownTyped.{words_on, t_set, t_worker, t_op, t_code}
 

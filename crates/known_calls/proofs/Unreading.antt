@@ -1,9 +1,9 @@
 -- A closure that is made nowhere is read as a word nowhere in the parts of a block either.
-use Rattle.std.proofs.Common.{◌≡◌, ℕ, zero, suc, ◌+◌, List, ◌∷◌, Option, Some, None, Bool, true, false, refl, sym, ◌∙◌, ap, arith}
+use Rattle.std.proofs.Common.{◌≡◌, ℕ, zero, suc, ◌+◌, List, ◌∷◌, Option, Some, None, Bool, true, false, refl, ◌∙◌, ap, arith}
 use Rattle.std.specs.Prelude.{slice_get, ◌||◌, ◌&&◌, if◌then◌else◌}
-use Rattle.closure_lift.specs.Lifted.{Op, OCase, Block, LetAtom, Ret, Let, Branches, BNil, BCons, BranchAt, branch_here, branch_after}
+use Rattle.closure_lift.specs.Lifted.{Op, OCase, Block, LetAtom, Let, Branches, BranchAt, branch_here, branch_after}
 use Rattle.anf_convert.specs.declared.program.Atom.{Atom}
-use Rattle.known_calls.specs.KnownPlaces.{Word, Place, At, Known, fields_of, names, some_names, op_reads, block_reads, branches_read}
+use Rattle.known_calls.specs.KnownPlaces.{Word, Place, At, Known, fields_of, names, op_reads, block_reads, branches_read}
 use Rattle.known_calls.proofs.KnownHolds.{Unread, OpUnread}
 
 pub neither : (a b : Bool) → a || b ≡ false → (a ≡ false) × (b ≡ false)

@@ -1,5 +1,5 @@
 -- A worker's call, and its tail call of itself: the words of a known closure and the argument become its parameters.
-use Rattle.std.proofs.Common.{◌≡◌, ℕ, zero, suc, ◌+◌, ◌*◌, ◌<◌, ◌≤◌, List, [], ◌∷◌, ◌++◌, length, replicate, Option, Some, None, Bool, true, false, refl, ap, sym, ◌∙◌, subst, arith}
+use Rattle.std.proofs.Common.{◌≡◌, ℕ, zero, suc, ◌+◌, ◌*◌, ◌<◌, ◌≤◌, List, [], ◌∷◌, ◌++◌, length, replicate, Some, Bool, true, refl, ap, sym, ◌∙◌, subst, arith}
 use Rattle.std.proofs.lemmas.List.{length-replicate, reverse-append, length-reverse, append_assoc}
 use Rattle.std.proofs.lemmas.Option.{slice_get-get_or}
 use Rattle.std.specs.Prelude.{slice_get, slice_set, reverse, take, drop}
@@ -8,22 +8,22 @@ use Rattle.wasm_core.specs.declared.types.ValType.TheVariants as type
 use Rattle.wasm_core.specs.declared.types.ConstValue.{ConstValue}
 use Rattle.wasm_core.specs.declared.types.ConstValue.TheVariants.{I32}
 use Rattle.wasm_core.specs.declared.instrs.Instr.{Instr}
-use Rattle.wasm_core.specs.declared.instrs.Instr.TheVariants.{LocalGet, Call}
+use Rattle.wasm_core.specs.declared.instrs.Instr.TheVariants.{Call}
 use Rattle.wasm_core.specs.Memory.{word}
 use Rattle.wasm_core.specs.Parts.{Parts}
 use Rattle.wasm_core.specs.Instance.{func_of}
 use Rattle.wasm_core.specs.MachineStep.{Label, Frame, State}
 use Rattle.wasm_core.proofs.Rules.{Around}
 use Rattle.wasm_core.proofs.Rules as rule
-use Rattle.closure_lift.specs.Lifted.{Program, Fn, Val, Vals, VNil, VCons, size}
+use Rattle.closure_lift.specs.Lifted.{Program, Fn, Vals, VCons, size}
 use Rattle.wasm_emit.specs.EmitLaws.{Spent}
 use Rattle.wasm_emit.specs.EmittedLocals.{top}
 use Rattle.wasm_emit.proofs.Bytes.{Mem}
-use Rattle.wasm_emit.proofs.Values.{Stands, Fields, no_field, field}
+use Rattle.wasm_emit.proofs.Values.{Fields, no_field, field}
 use Rattle.wasm_emit.proofs.Holds.{set_this, set_length}
 use Rattle.wasm_emit.proofs.Rules.{Limits, Within, here, callee, zeros, func, store, looser, r_get, r_set, r_load}
-use Rattle.known_calls.specs.KnownPlaces.{Word, Place, At, Known, InLocal}
-use Rattle.known_calls.specs.KnownCode.{Position, InTail, into_params}
+use Rattle.known_calls.specs.KnownPlaces.{Word, At, Known, InLocal}
+use Rattle.known_calls.specs.KnownCode.{InTail, into_params}
 use Rattle.known_calls.specs.KnownModule.{words_type, params, captured_words}
 use Rattle.known_calls.proofs.KnownHolds.{in_local, Env, env_nil, env_at, Stood, stood_in_tail, loop_of}
 use Rattle.known_calls.proofs.KnownMaking.{WordsStand, stand_none, stand_more, words, stand_size}
