@@ -189,7 +189,8 @@ module _ (P : Program) (m : ℕ) (form : Formed P m) (counts : CountsFit P m) (l
         let low = slice_get_within P.functions g takes.fn takes.at in
         b_block n d (suc g) ps as' (omega arith) (omega (arith, low, limits.few)) (omega (arith, few, takes.words)) fit.1 h
     b_op n d ps at (OCase a bs) le h fit =
-        b_most _ (omega (arith, both_chains bs)) (b_atom n ps a fit.0 h then (b_set d (omega arith) then b_empties n d ps at 0 bs (λ at'. heads P ps d at' 0 bs) (1 + heads_weight bs) (omega arith) (omega (arith, fit.1)) h fit.2 (λ at'. b_heads n d ps at' 0 bs (omega arith) (omega (arith, fit.1)) h fit.2)))
+        b_most _ (omega (arith, both_chains bs)) (b_atom n ps a fit.0 h then (b_set d (omega arith) then b_empties n d ps at 0 bs (λ at'. heads P ps d at' 0 bs) (1 + heads_weight bs) (omega arith) (omega (arith, fit.1)) h fit.2 (λ at'. b_heads n d ps at' 0 bs (omega arith) (omega
+        (arith, fit.1)) h fit.2)))
 
     pub b_code : (n d : ℕ) (ps : List Place) (at : Position) (t : Block) → top d t < 100000 → Near ps → BlockFits P.functions (length P.constants) m n t → Bounded (weight t) (code P ps d at t)
     b_code n d ps at (RetAtom a) le h fit = b_atom n ps a fit h

@@ -11,7 +11,7 @@ use Rattle.wasm_core.specs.Instance.{Func, segments_fit}
 use Rattle.wasm_core.specs.MachineStep.{State}
 use Rattle.wasm_core.specs.Entries.{index_of, from_nothing}
 use Rattle.wasm_core.specs.Runs.{start, start_at, main_start}
-use Rattle.wasm_core.specs.Answer.{Answers, answers, exhausted, IsAtEnd}
+use Rattle.wasm_core.specs.Answer.{Answers, answers, IsAtEnd}
 use Rattle.wasm_core.specs.RunTree.{Within as Tree, now, gone, moves}
 use Rattle.wasm_core.proofs.Rules as rule
 use Rattle.wasm_core.proofs.Trees.{tree_tells, tree_answers}
@@ -46,7 +46,8 @@ pub starts : (P : Program) (pages : ℕ) → main_start (module_of P pages) ≡ 
 starts P pages =
     let n = suc (length P.functions) in
     let fits : segments_fit (module_of P pages) ≡ true = ap (λ (b : Bool). b && true) (le-leb _ _ (omega (arith, entries_length 1 n))) in
-    let exported : index_of Main (module_of P pages) ≡ Some (main_index P) = ap (λ (o : Option ℕ). option_and_then (λ index. option_and_then (λ t. from_nothing t.params t.result (main_index P)) (slice_get (module_of P pages).types index)) o) (main_in P (λ g f. 2) (λ t. 1) 0 (λ g f. worker_type f)) in
+    let exported : index_of Main (module_of P pages) ≡ Some (main_index P) = ap (λ (o : Option ℕ). option_and_then (λ index. option_and_then (λ t. from_nothing t.params t.result (main_index P)) (slice_get (module_of P pages).types index)) o) (main_in P (λ g f. 2) (λ t. 1) 0
+    (λ g f. worker_type f)) in
     ap (λ (b : Bool). if b then option_and_then (λ f. start_at (module_of P pages) f) (index_of Main (module_of P pages)) else None) fits
     ∙ ap (option_and_then (λ f. start_at (module_of P pages) f)) exported
     ∙ ap (option_and_then (λ (g : Func). Some (start (module_of P pages) g))) (main_at P (main_function P) [] [] pages)

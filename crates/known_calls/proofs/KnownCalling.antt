@@ -61,7 +61,8 @@ ends m bytes frames least n d t (ended q h) last = inl (has_answered m bytes d t
 ends m bytes frames least n d t (ran_out e) last = inr (is_exhausted m bytes t e)
 
 -- the tree of all runs
-whole : (P : Program) (pages w m D : ℕ) (args : Vals) (ds : DataTrees) (v : Val) (d : DataTree) (c k b s : ℕ) (memory : Mem) (pages_now heap address : ℕ) → 0 < pages → pages ≤ 16384 → 0 < m → Applies P w m D args v c k b s → AreData args ds → IsData v d → IsHosted pages memory pages_now heap address ds →
+whole : (P : Program) (pages w m D : ℕ) (args : Vals) (ds : DataTrees) (v : Val) (d : DataTree) (c k b s : ℕ) (memory : Mem) (pages_now heap address : ℕ) → 0 < pages → pages ≤ 16384 → 0 < m → Applies P w m D args v c k b s → AreData args ds → IsData v d →
+    IsHosted pages memory pages_now heap address ds →
     Within (module_of_call P (count ds) pages) (record { frames = 2 * D + 1; bytes = heap + 4 * s; more = I32 address ∷ [] }) (Finished (module_of_call P (count ds) pages) (preorder d) (heap + 4 * s)) k (64 * (b + c + 1) * (w + m))
     (call_start (record { type = type_main; body = call_function P (count ds) }) (hosted memory pages_now heap address))
 whole P pages w m D args ds v d c k b s memory pages_now heap address pos small some g are is host =

@@ -48,7 +48,8 @@ module _ (P : Program) (M : Parts) (cap : Limits) (Q : State → Type 0) where
     abbrev label : Label
     label = record { keeps = true; goes_on = after_end 0 (g1 (Else ∷ g2 (End ∷ rest))); below = vals }
 
-    second : ((j : ℕ) (r : List Instr) → else_arm j (g1 r) ≡ else_arm j r) → Yields (deeper at) m p h ls d v tail D k s n g2 → Go m h ls d v s f vals rest l u → (tail ≡ true → Out m h v s f l u) → Within M cap Q (k + l) (n + 2 + u) (here cap f m p h ls (I32 0 ∷ vals) (IfWord ∷ g1 (Else ∷ g2 (End ∷ rest))))
+    second : ((j : ℕ) (r : List Instr) → else_arm j (g1 r) ≡ else_arm j r) → Yields (deeper at) m p h ls d v tail D k s n g2 → Go m h ls d v s f vals rest l u → (tail ≡ true → Out m h v s f l u) →
+        Within M cap Q (k + l) (n + 2 + u) (here cap f m p h ls (I32 0 ∷ vals) (IfWord ∷ g1 (Else ∷ g2 (End ∷ rest))))
     second elses y go out = looser M cap Q (r_if_not M cap Q (omega arith)
         (subst (λ (x : List Instr). Within M cap Q (k + l) (n + suc u) (here cap (in_block label f) m p h ls [] x)) (sym (elses 0 (Else ∷ g2 (End ∷ rest))))
         (y.run (in_block label f) [] (End ∷ rest) l (suc u) (n + suc u) (stood_deeper P label stood) deep (omega arith)
@@ -112,7 +113,8 @@ module _ (P : Program) (M : Parts) (cap : Limits) (Q : State → Type 0) where
         record {
           run = λ f vals rest l u bound stood deep fits go out.
               looser M cap Q (r_get M cap Q (omega arith) is_at (r_load M cap Q (omega arith) (omega arith) (r_const M cap Q (omega arith) (suc a * 65536 + c) (r_eq_yes M cap Q (omega arith) (omega (arith, at_zero m w, is))
-              (first at m p h ls d v tail D k s n (code P (fields_of d (suc a) ps) (suc d) (deeper at) t) (heads P ps d (deeper at) (suc c) bs) f vals rest l u stood deep (shaped_code P (fields_of d (suc a) ps) (suc d) (deeper at) t).ends (shaped_heads P ps d (deeper at) (suc c) bs).ends (y (deeper at)) go out)))))
+              (first at m p h ls d v tail D k s n (code P (fields_of d (suc a) ps) (suc d) (deeper at) t) (heads P ps d (deeper at) (suc c) bs) f vals rest l u stood deep (shaped_code P (fields_of d (suc a) ps) (suc d) (deeper at) t).ends (shaped_heads P ps d (deeper at)
+              (suc c) bs).ends (y (deeper at)) go out)))))
               (omega arith) (omega arith);
         }
     take_head ps at c some within is small (branch_after {m = zero} at') y =

@@ -302,7 +302,8 @@ module _ (P : Program) (main : Body) (gs : List GlobalDef) (es : List Export) (p
           looser M cap Q (put_atom M fixed cap Q (omega arith) room.inside (there m h ls d env isa (λ i g ws z. (neither (names i a) (branches_read i bs) (un i g ws z)).0)) (λ w s. r_set M cap Q (omega arith) (slice_get-get_or ls d (I32 0) (omega arith))
           (let ls1 = slice_set ls d (I32 w) in
           let kept : Keeps d ls ls1 = keeps_set ls d (I32 w) in
-          (chosen few branch body at m p h ls1 d w ps room nil (env_on (omega arith) (λ x y. refl) (omega arith) kept env) (unread_branch ps a d un branch) (omega (arith, branch_top (suc d) branch, kept.size)) needed (set_this ls d (I32 w) (omega arith)) (stands_on m m h (omega arith) (λ x y. refl) s)).run
+          (chosen few branch body at m p h ls1 d w ps room nil (env_on (omega arith) (λ x y. refl) (omega arith) kept env) (unread_branch ps a d un branch) (omega (arith, branch_top (suc d) branch, kept.size)) needed (set_this ls d (I32 w) (omega arith)) (stands_on m m h
+          (omega arith) (λ x y. refl) s)).run
           f vals rest l u (11 * N + (cost c b + 2) + u) (stood_up P d (length ls1) (omega arith) (omega (arith, kept.size)) stood) deep (omega arith)
           (λ m' p' h' ls' w' x y room' same keeps st. go m' p' h' ls' w' x y room' same (keeps_trans (omega arith) kept keeps) st)
           out)))
@@ -362,7 +363,8 @@ module _ (P : Program) (main : Body) (gs : List GlobalDef) (es : List Export) (p
           (λ m' p' h' ls' w y z room' same keeps st. r_set M cap Q (omega arith) (slice_get-get_or ls' d (I32 0) (omega (arith, keeps.size)))
           (let ls1 = slice_set ls' d (I32 w) in
           let kept : Keeps d ls ls1 = keeps_trans (omega arith) keeps (keeps_set ls' d (I32 w)) in
-          (body.sim at m' p' h' ls1 (suc d) (At (InLocal d) ∷ ps) room' (low_word m m' room same nil) (env_at w (in_local (omega arith) (set_this ls' d (I32 w) (omega (arith, keeps.size)))) st (env_on (omega arith) same (omega arith) kept env)) (unread_at ps x t (InLocal d) un) (omega (arith, kept.size)) (omega arith)).run
+          (body.sim at m' p' h' ls1 (suc d) (At (InLocal d) ∷ ps) room' (low_word m m' room same nil) (env_at w (in_local (omega arith) (set_this ls' d (I32 w) (omega (arith, keeps.size)))) st (env_on (omega arith) same (omega arith) kept env)) (unread_at ps x t (InLocal d) un)
+          (omega (arith, kept.size)) (omega arith)).run
           f vals rest l u (cost c' b' + 2 + u) (stood_up P (suc d) (length ls1) (omega arith) (omega (arith, kept.size)) stood) deep (omega arith)
           (λ m2 p2 h2 ls2 w2 y2 z2 room2 same2 keeps2 st2. go m2 p2 h2 ls2 w2 (omega arith) (omega arith) room2 (λ i j. same2 i (omega arith) ∙ same i j) (keeps_trans (omega arith) kept keeps2) st2)
           (λ q m2 p2 h2 w2 y2 z2 room2 same2 st2. out q m2 p2 h2 w2 (omega arith) (omega arith) room2 (λ i j. same2 i (omega arith) ∙ same i j) st2)))

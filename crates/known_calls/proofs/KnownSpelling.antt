@@ -19,7 +19,6 @@ use Rattle.wasm_emit.specs.EmittedLocals.{top}
 use Rattle.wasm_emit.specs.EmittedModule.{body, room_code}
 use Rattle.wasm_emit.specs.EmitLaws.{CountsFit}
 use Rattle.wasm_emit.proofs.Spelled.{emit_spelled}
-use Rattle.wasm_emit.proofs.Lengths.{size}
 use Rattle.known_calls.specs.KnownPlaces.{At, InLocal, fields_of}
 use Rattle.known_calls.specs.KnownCode.{Inside, InTail, is_wide, worker_index, code}
 use Rattle.known_calls.specs.KnownModule.{params, captured_words, wide_body, stub_code, entry, worker_code, worker, worker_type, numbered, constant, main_function, module_of}
@@ -63,7 +62,8 @@ module _ (P : Program) (m : ℕ) (form : Formed P m) (counts : CountsFit P m) (l
   pub b_loop_of : Bounded (weight fn.body + 4) (λ r. Loop (Value I32) ∷ code P (params (suc fn.captured)) (suc fn.captured) (InTail g 0) fn.body (End ∷ End ∷ r))
   b_loop_of =
       let low = limits.captured g fn at in
-      b_most _ (omega arith) (b_loop (Value I32) then (b_code P m form counts limits (suc fn.captured) (suc fn.captured) (params (suc fn.captured)) (InTail g 0) fn.body (omega (arith, low, worker_top fn.captured fn.body, counts.functions g fn at)) (params_fit P 16384 100000 (suc fn.captured) (omega (arith, low)))
+      b_most _ (omega arith) (b_loop (Value I32) then (b_code P m form counts limits (suc fn.captured) (suc fn.captured) (params (suc fn.captured)) (InTail g 0) fn.body (omega (arith, low, worker_top fn.captured fn.body, counts.functions g fn at)) (params_fit P 16384 100000
+      (suc fn.captured) (omega (arith, low)))
       (form.functions g fn at) then (b_end then b_end)))
 
 module _ (P : Program) (pages m : ℕ) (form : Formed P m) (counts : CountsFit P m) (limits : Limits P) where

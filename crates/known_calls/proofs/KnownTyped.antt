@@ -105,7 +105,8 @@ module _ (P : Program) (most : ℕ) (form : Formed P most) (main : Body) (gs : L
   t_room {ts = ts} k = t_plain ts refl (t_plain (Of I32 ∷ ts) refl (t_plain (Of I32 ∷ Of I32 ∷ ts) refl (t_plain (Of I32 ∷ ts) refl (t_plain ts refl (t_one_arm {body = Call 0 ∷ []} (t_plain [] refl done) k)))))
 
   t_block : {labels : List Types} {ts us : Operands} {rest : List Instr} (n d header : ℕ) (ps : List Place) (as' : List Atom) → suc d ≤ size → AtomsFit n as' → All (PlaceFits P far d) ps → Typed m ls rs labels (Of I32 ∷ ts) rest us → Typed m ls rs labels ts (block ps d header as' rest) us
-  t_block {ts = ts} n d header ps as' le fit h k = t_plain ts refl (t_tee (omega arith) (t_plain (Of I32 ∷ ts) refl (t_plain ts refl (t_plain ts refl (t_room (t_get (omega arith) (t_plain (Of I32 ∷ ts) refl (t_plain ts refl (t_fill n d d ps as' (omega arith) (omega arith) fit h (t_get (omega arith) k))))))))))
+  t_block {ts = ts} n d header ps as' le fit h k =
+      t_plain ts refl (t_tee (omega arith) (t_plain (Of I32 ∷ ts) refl (t_plain ts refl (t_plain ts refl (t_room (t_get (omega arith) (t_plain (Of I32 ∷ ts) refl (t_plain ts refl (t_fill n d d ps as' (omega arith) (omega arith) fit h (t_get (omega arith) k))))))))))
 
   arms : {labels : List Types} {ts us : Operands} {rest : List Instr} {g1 g2 : List Instr → List Instr} → Shaped g1 → Shaped g2 → Typed m ls rs ((I32 ∷ []) ∷ labels) [] (g1 []) (Of I32 ∷ []) → Typed m ls rs ((I32 ∷ []) ∷ labels) [] (g2 []) (Of I32 ∷ []) →
       Typed m ls rs labels (Of I32 ∷ ts) rest us → Typed m ls rs labels (Of I32 ∷ ts) (IfWord ∷ g1 (Else ∷ g2 (End ∷ rest))) us
@@ -137,7 +138,8 @@ module _ (P : Program) (most : ℕ) (form : Formed P most) (main : Body) (gs : L
       let params_few = l.few in
       t_params n (omega arith) (br [] ts (record { wanted = []; found = l.found; matched = match_none }) k)
 
-  t_call : {labels : List Types} {ts us : Operands} {rest : List Instr} (at : Position) (g n : ℕ) (fn : Fn) → slice_get P.functions g ≡ Some fn → fn.captured ≡ n → n ≤ 7 → Labelled at labels → Typed m ls rs labels (Of I32 ∷ ts) rest us → Typed m ls rs labels (words_on (suc n) ts) (call_worker P at g n rest) us
+  t_call : {labels : List Types} {ts us : Operands} {rest : List Instr} (at : Position) (g n : ℕ) (fn : Fn) → slice_get P.functions g ≡ Some fn → fn.captured ≡ n → n ≤ 7 → Labelled at labels → Typed m ls rs labels (Of I32 ∷ ts) rest us →
+      Typed m ls rs labels (words_on (suc n) ts) (call_worker P at g n rest) us
   t_call Inside g n fn at is few l k = t_direct g n fn at is few k
   t_call (InTail h depth) g n fn at is few l k = t_jump (jumps g h depth) g h n depth fn refl at is few l k
 
@@ -154,7 +156,8 @@ module _ (P : Program) (most : ℕ) (form : Formed P most) (main : Body) (gs : L
   t_choice (Some q) x y = x q refl
 
   mutual
-    pub t_op : {labels : List Types} {ts us : Operands} {rest : List Instr} (n d : ℕ) (ps : List Place) (at : Position) (x : Op) → top_op d x ≤ size → OpFits P.functions (length P.constants) most n x → All (PlaceFits P far d) ps → Labelled at labels → Typed m ls rs labels (Of I32 ∷ ts) rest us → Typed m ls rs labels ts (op P ps d at x rest) us
+    pub t_op : {labels : List Types} {ts us : Operands} {rest : List Instr} (n d : ℕ) (ps : List Place) (at : Position) (x : Op) → top_op d x ≤ size → OpFits P.functions (length P.constants) most n x → All (PlaceFits P far d) ps → Labelled at labels →
+        Typed m ls rs labels (Of I32 ∷ ts) rest us → Typed m ls rs labels ts (op P ps d at x rest) us
     t_op {ts = ts} n d ps at (OConst x) le fit h l k =
         t_plain ts (ap (λ (o : Option ℕ). option_map {U = Effect} calling_type (option_and_then (λ index. slice_get m.types index) o)) (constant_in P (λ g f. 2) (λ t. 1) 0 (λ g f. worker_type f) x (get_or P.constants x P.main) (slice_get-get_or P.constants x P.main fit))) k
     t_op n d ps at (OApp f a) le fit h l k = t_application n d ps at f a (known_function ps f) refl le fit.0 fit.1 h l k
@@ -163,7 +166,8 @@ module _ (P : Program) (most : ℕ) (form : Formed P most) (main : Body) (gs : L
     t_op n d ps at (OCase a bs) le fit h l k =
         t_atom n d ps a (omega arith) fit.0 h (t_set (omega arith) (t_empties n d ps at 0 bs (λ at'. heads P ps d at' 0 bs) (λ at'. shaped_heads P ps d at' 0 bs) (omega arith) fit.2 h l (λ at' labels ts us rest l' k'. t_heads n d ps at' 0 bs (omega arith) fit.2 h l' k') k))
 
-    pub t_code : {labels : List Types} {ts us : Operands} {rest : List Instr} (n d : ℕ) (ps : List Place) (at : Position) (t : Block) → top d t ≤ size → BlockFits P.functions (length P.constants) most n t → All (PlaceFits P far d) ps → Labelled at labels → Typed m ls rs labels (Of I32 ∷ ts) rest us → Typed m ls rs labels ts (code P ps d at t rest) us
+    pub t_code : {labels : List Types} {ts us : Operands} {rest : List Instr} (n d : ℕ) (ps : List Place) (at : Position) (t : Block) → top d t ≤ size → BlockFits P.functions (length P.constants) most n t → All (PlaceFits P far d) ps → Labelled at labels →
+        Typed m ls rs labels (Of I32 ∷ ts) rest us → Typed m ls rs labels ts (code P ps d at t rest) us
     t_code n d ps at (RetAtom a) le fit h l k = t_atom n d ps a le fit h k
     t_code n d ps at (LetAtom a t) le fit h l k = t_atom n d ps a (omega arith) fit.0 h (t_set (omega arith) (t_code (suc n) (suc d) (At (InLocal d) ∷ ps) at t (omega arith) fit.1 (omega arith, places_up P far d (suc d) (omega arith) ps h) l k))
     t_code n d ps at (Ret x) le fit h l k = t_op n d ps at x le fit h l k
@@ -174,7 +178,8 @@ module _ (P : Program) (most : ℕ) (form : Formed P most) (main : Body) (gs : L
 
     t_empties : {labels : List Types} {ts us : Operands} {rest : List Instr} (n d : ℕ) (ps : List Place) (at : Position) (c : ℕ) (bs : Branches) (others : Position → List Instr → List Instr) → ((at' : Position) → Shaped (others at')) → max (suc d) (top_branches (suc d) bs) ≤ size →
         BranchesFit P.functions (length P.constants) most n bs → All (PlaceFits P far d) ps → Labelled at labels →
-        ((at' : Position) (labels : List Types) (ts us : Operands) (rest : List Instr) → Labelled at' labels → Typed m ls rs labels (Of I32 ∷ ts) rest us → Typed m ls rs labels ts (others at' rest) us) → Typed m ls rs labels (Of I32 ∷ ts) rest us → Typed m ls rs labels ts (empties P ps d at c bs others rest) us
+        ((at' : Position) (labels : List Types) (ts us : Operands) (rest : List Instr) → Labelled at' labels → Typed m ls rs labels (Of I32 ∷ ts) rest us → Typed m ls rs labels ts (others at' rest) us) → Typed m ls rs labels (Of I32 ∷ ts) rest us →
+        Typed m ls rs labels ts (empties P ps d at c bs others rest) us
     t_empties n d ps at c BNil others fo le fit h l o k = o at _ _ _ _ l k
     t_empties {labels} {ts = ts} n d ps at c (BCons zero t bs) others fo le fit h l o k =
         t_get (omega arith) (t_plain (Of I32 ∷ ts) refl (t_plain ts refl (arms (shaped_code P ps (suc d) (deeper at) t) (shaped_empties P ps d (deeper at) (suc c) bs others fo)

@@ -72,7 +72,11 @@ module _ (P : Program) (most : ℕ) (form : Formed P most) (main : Body) (gs : L
               body = code P ps 2 Inside fn.body [];
               ends = (shaped_code P ps 2 Inside fn.body).front (End ∷ []);
               left = Of I32 ∷ [];
-              typed = t_code P most form main gs es pages (16384 + 4 * fn.captured) (omega arith) (2 + n) (I32 ∷ I32 ∷ replicate n I32) (I32 ∷ []) (two_more n) (suc fn.captured) 2 ps Inside fn.body (omega arith) (form.functions g fn at) (omega arith, fields_fit P (16384 + 4 * fn.captured) 2 0 fn.captured [] (omega arith) (omega arith) tt) tt done;
+              typed = t_code P most form main gs es pages (16384 + 4 * fn.captured) (omega arith) (2 + n) (I32 ∷ I32 ∷ replicate n I32) (I32 ∷ []) (two_more n) (suc fn.captured) 2 ps Inside fn.body (omega arith) (form.functions g fn at) (
+                omega arith,
+                fields_fit P
+                    (16384 + 4 * fn.captured) 2 0 fn.captured [] (omega arith) (omega arith) tt,
+              ) tt done;
               matched = match_same match_none;
             };
           }
@@ -109,7 +113,8 @@ module _ (P : Program) (most : ℕ) (form : Formed P most) (main : Body) (gs : L
               ends = ap (λ (z : List Instr). Loop (Value I32) ∷ z) (front (End ∷ End ∷ []) ∙ sym (append_assoc inner (End ∷ []) (End ∷ [])));
               left = Of I32 ∷ [];
               typed = loop {b = Value I32} {body = inner} {rest = []}
-                  (t_code P most form main gs es pages 16384 (omega arith) (i + n) ls (I32 ∷ []) (more_words i n) i i (params i) (InTail g 0) fn.body (worker_top fn.captured fn.body) (form.functions g fn at) (params_fit P 16384 i i (omega arith)) (record { fn = fn; at = at; few = omega arith; found = refl }) done)
+                  (t_code P most form main gs es pages 16384 (omega arith) (i + n) ls (I32 ∷ []) (more_words i n) i i (params i) (InTail g 0) fn.body (worker_top fn.captured fn.body) (form.functions g fn at) (params_fit P 16384 i i (omega arith))
+                  (record { fn = fn; at = at; few = omega arith; found = refl }) done)
                   (match_same match_none) done;
               matched = match_same match_none;
             };

@@ -133,4 +133,5 @@ module _ (M : Parts) (cap : Limits) (Q : State → Type 0) where
       ((ws : List ℕ) → WordsStand m limit ws vs → Within M cap Q l u (here cap f m p h ls (words ws ++ vals) rest)) → Within M cap Q l (2 * size vs + u) (here cap f m p h ls vals (captured_words (size vs) rest))
   loaded deep fits at inside no_field k = looser M cap Q (k [] stand_none) (omega arith) (omega arith)
   loaded {m = m} {l = l} {w = w} {u = u} deep fits at inside (field {vs = vs} st low fs) k =
-      looser M cap Q (loaded {l = l} {u = 2 + u} deep fits at (omega arith) fs (λ ws all. looser M cap Q {l = suc (suc l)} {u = suc (suc u)} (r_get M cap Q (omega arith) at (r_load M cap Q (omega arith) (omega arith) (k (word m (w + 4 * suc (size vs)) ∷ ws) (stand_more st all)))) (omega arith) (omega arith))) (omega arith) (omega arith)
+      looser M cap Q (loaded {l = l} {u = 2 + u} deep fits at (omega arith) fs (λ ws all. looser M cap Q {l = suc (suc l)} {u = suc (suc u)} (r_get M cap Q (omega arith) at (r_load M cap Q (omega arith) (omega arith) (k (word m (w + 4 * suc (size vs)) ∷ ws) (stand_more st all))))
+      (omega arith) (omega arith))) (omega arith) (omega arith)

@@ -1,5 +1,5 @@
 -- The module of a lifted program with workers: two functions of the run time, an entry for each function of the program, which calls of closures come to, its constants, main, and a worker for each function.
-use Rattle.std.specs.Prelude.{ℕ, zero, suc, ◌+◌, ◌-◌, ◌*◌, if◌then◌else◌, List, [], ◌∷◌, ◌++◌, length, map, replicate, Some, codes}
+use Rattle.std.specs.Prelude.{ℕ, zero, suc, ◌-◌, ◌*◌, if◌then◌else◌, List, [], ◌∷◌, ◌++◌, length, map, replicate, Some, codes}
 use Rattle.closure_lift.specs.Lifted.{Block, Fn, Program}
 use Rattle.wasm_core.specs.declared.types.ValType.TheVariants as type
 use Rattle.wasm_core.specs.declared.types.FuncType.{FuncType}
