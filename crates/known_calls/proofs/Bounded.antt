@@ -1,0 +1,218 @@
+-- How many bytes emitted code has, and that its immediates have their bits.
+use Rattle.std.proofs.Common.{◌≡◌, ℕ, zero, suc, ◌+◌, ◌*◌, ◌<◌, ◌≤◌, List, [], ◌∷◌, length, Option, Some, None, Bool, true, false, refl, arith}
+use Rattle.std.proofs.lemmas.Bool.{leb-true}
+use Rattle.std.proofs.lemmas.Option.{slice_get_within}
+use Rattle.std.specs.Prelude.{max, nat_eq, nat_le, if◌then◌else◌}
+use Rattle.wasm_core.specs.declared.types.ValType.TheVariants.{I32}
+use Rattle.wasm_core.specs.declared.instrs.BlockType.{BlockType}
+use Rattle.wasm_core.specs.declared.instrs.BlockType.TheVariants.{Empty, Value}
+use Rattle.wasm_core.specs.declared.instrs.I32Op.TheVariants as op32
+use Rattle.wasm_core.specs.declared.instrs.Instr.{Instr}
+use Rattle.wasm_core.specs.declared.instrs.Instr.TheVariants.{Unreachable, Loop, Else, End, Br, Call, LocalGet, LocalSet, LocalTee, GlobalGet, GlobalSet, MemorySize, I32 as Operation}
+use Rattle.wasm_core.specs.ModuleCondition.{All, IsInstr}
+use Rattle.wasm_core.specs.ShortestBytes.{put_all, put_instr}
+use Rattle.anf_convert.specs.declared.program.Atom.{Atom}
+use Rattle.anf_convert.specs.AnfForm.{AtomFits, AtomsFit}
+use Rattle.closure_lift.specs.Lifted.{Op, OConst, OApp, OCon, OClos, OCase, Block, RetAtom, LetAtom, Ret, Let, Branches, BNil, BCons, Program, many}
+use Rattle.closure_lift.specs.LiftedForm.{OpFits, BlockFits, BranchesFit, Formed, Limits}
+use Rattle.wasm_emit.specs.EmittedCode.{Load, Store, Const, IfWord, IfOnly, CallClosure, ensure_room, constant_index}
+use Rattle.wasm_emit.specs.EmittedLocals.{top, top_op, top_branches}
+use Rattle.wasm_emit.specs.EmitLaws.{CountsFit}
+use Rattle.wasm_emit.proofs.Lengths.{bytes_of, size, u_2, z_unreachable, z_if, z_else, z_end, z_op, z_call, z_indirect, z_get, z_set, z_tee, z_heap, z_size, z_room, z_small, z_header, z_global, z_load, z_store, z_const}
+use Rattle.known_calls.specs.KnownPlaces.{Word, InLocal, InField, IsConst, Place, At, fields_of, word_of, known_function, block_reads}
+use Rattle.known_calls.specs.KnownCode.{Position, Inside, InTail, deeper, worker_index, jumps, most_blocks, read_word, read, atom, push_words, fill, block, into_params, call_worker, application, choose, unmade, known, op, code, empties, heads}
+use Rattle.known_calls.specs.KnownModule.{captured_words}
+use Rattle.known_calls.specs.KnownWeight.{op_weight, weight, branches_weight}
+use Rattle.known_calls.proofs.Unreading.{and_true, unmade_some}
+use Rattle.known_calls.proofs.SameLocals.{top_less}
+use Rattle.known_calls.proofs.Fitting.{WordFits, PlaceFits, fields_fit, word_fits, function_fits, known_fits}
+
+-- instructions whose immediates have their bits
+pub data Good : List Instr → Type 0 where
+  good : Good []
+  fits : {i : Instr} {rest : List Instr} → IsInstr i → Good rest → Good (i ∷ rest)
+
+pub all_of : {is : List Instr} → Good is → All IsInstr is
+all_of good = tt
+all_of (fits h k) = (h, all_of k)
+
+-- at most k bytes in front of the rest
+pub record Bounded (k : ℕ) (g : List Instr → List Instr) : Type 0 where
+  pub bytes : (rest : List Instr) → size (g rest) ≤ k + size rest
+  pub spelled : {rest : List Instr} → Good rest → Good (g rest)
+
+pub b_none : Bounded 0 (λ r. r)
+b_none = record { bytes = λ r. omega arith; spelled = λ h. h }
+
+pub b_one : {k : ℕ} (i : Instr) → ((rest : List Instr) → size (i ∷ rest) ≤ k + size rest) → IsInstr i → Bounded k (λ r. i ∷ r)
+b_one i h fit = record { bytes = h; spelled = λ good. fits fit good }
+
+infixr 30 ◌then◌
+pub ◌then◌ : {j k : ℕ} {f g : List Instr → List Instr} → Bounded j f → Bounded k g → Bounded (j + k) (λ r. f (g r))
+◌then◌ {g = g} x y = record { bytes = λ r. omega (arith, x.bytes (g r), y.bytes r); spelled = λ h. x.spelled (y.spelled h) }
+
+pub b_most : {k : ℕ} {g : List Instr → List Instr} (k' : ℕ) → k ≤ k' → Bounded k g → Bounded k' g
+b_most k' le x = record { bytes = λ r. omega (arith, le, x.bytes r); spelled = λ h. x.spelled h }
+
+-- the two instructions that only workers have
+z_loop : (rest : List Instr) (t : BlockType) → size (Loop t ∷ rest) ≤ 2 + size rest
+unfolding put_all put_instr
+z_loop rest t = omega arith
+
+z_br : (rest : List Instr) (n : ℕ) → n < 16384 → size (Br n ∷ rest) ≤ 3 + size rest
+unfolding put_all put_instr
+z_br rest n h = omega (arith, u_2 3 n (bytes_of rest) h)
+
+pub b_loop : (t : BlockType) → Bounded 2 (λ r. Loop t ∷ r)
+b_loop t = b_one (Loop t) (λ r. z_loop r t) tt
+
+pub b_get : (x : ℕ) → x < 100000 → Bounded 4 (λ r. LocalGet x ∷ r)
+b_get x h = b_one (LocalGet x) (λ r. z_get r x (omega arith)) (omega arith)
+
+b_set : (x : ℕ) → x < 100000 → Bounded 4 (λ r. LocalSet x ∷ r)
+b_set x h = b_one (LocalSet x) (λ r. z_set r x (omega arith)) (omega arith)
+
+b_tee : (x : ℕ) → x < 100000 → Bounded 4 (λ r. LocalTee x ∷ r)
+b_tee x h = b_one (LocalTee x) (λ r. z_tee r x (omega arith)) (omega arith)
+
+pub b_load : (o : ℕ) → o < 16384 → Bounded 4 (λ r. Load o ∷ r)
+b_load o h = b_one (Load o) (λ r. z_load r o h) (omega arith, omega arith)
+
+b_const : (n : ℕ) → n < 4294967296 → Bounded 6 (λ r. Const n ∷ r)
+b_const n h = b_one (Const n) (λ r. z_const r n) (omega arith)
+
+pub b_call : (f : ℕ) → f < 2097152 → Bounded 4 (λ r. Call f ∷ r)
+b_call f h = b_one (Call f) (λ r. z_call r f h) (omega arith)
+
+pub b_end : Bounded 1 (λ r. End ∷ r)
+b_end = b_one End (λ r. z_end r) tt
+
+pub b_unreachable : Bounded 1 (λ r. Unreachable ∷ r)
+b_unreachable = b_one Unreachable (λ r. z_unreachable r) tt
+
+pub b_global : (x : ℕ) → x < 128 → Bounded 2 (λ r. GlobalSet x ∷ r)
+b_global x h = b_one (GlobalSet x) (λ r. z_global r x h) (omega arith)
+
+b_arms : {j k : ℕ} {g1 g2 : List Instr → List Instr} → Bounded j g1 → Bounded k g2 → Bounded (j + k + 4) (λ r. IfWord ∷ g1 (Else ∷ g2 (End ∷ r)))
+b_arms x y = b_most _ (omega arith) (b_one IfWord (λ r. z_if r (Value I32)) tt then (x then (b_one Else (λ r. z_else r) tt then (y then b_end))))
+
+b_word : (far d : ℕ) (w : Word) → far ≤ 16384 → d ≤ 100000 → WordFits far d w → Bounded 8 (read_word w)
+b_word far d (InLocal x) hf hd h = b_most 8 (omega arith) (b_get x (omega arith))
+b_word far d (InField x o) hf hd h = b_get x (omega (arith, h.0)) then b_load o (omega (arith, h.1))
+b_word far d (IsConst n) hf hd h = b_most 8 (omega arith) (b_const n h)
+
+b_read : (o : Option Word) → ((w : Word) → o ≡ Some w → Bounded 8 (read_word w)) → Bounded 8 (read o)
+b_read None h = b_most 8 (omega arith) b_unreachable
+b_read (Some w) h = h w refl
+
+b_push : (ws : List Word) → All (WordFits 16384 100000) ws → Bounded (8 * length ws) (push_words ws)
+b_push [] h = b_most _ (omega arith) b_none
+b_push (w ∷ ws) h = b_most _ (omega arith) (b_push ws h.1 then b_word 16384 100000 w (omega arith) (omega arith) h.0)
+
+pub b_captured : (n : ℕ) → n < 2049 → Bounded (8 * n) (captured_words n)
+b_captured zero h = b_most _ (omega arith) b_none
+b_captured (suc n) h = b_most _ (omega arith) (b_captured n (omega arith) then (b_get 0 (omega arith) then b_load (4 * suc n) (omega arith)))
+
+b_params : (n : ℕ) → n < 2049 → Bounded (4 * n + 4) (into_params n)
+b_params zero h = b_most _ (omega arith) (b_set 0 (omega arith))
+b_params (suc n) h = b_most _ (omega arith) (b_set (suc n) (omega arith) then b_params n (omega arith))
+
+b_ensure : Bounded 15 ensure_room
+b_ensure =
+    b_most 15 (omega arith) (b_one (GlobalGet 2) (λ r. z_heap r) (omega arith) then (b_one MemorySize (λ r. z_size r) tt then (b_one (Const 16) (λ r. z_small r 16 (omega arith)) (omega arith) then (b_one (Operation op32.Shl) (λ r. z_op r op32.Shl) tt
+    then (b_one (Operation op32.GtU) (λ r. z_op r op32.GtU) tt then (b_one IfOnly (λ r. z_if r Empty) tt then (b_one (Call 0) (λ r. z_room r) (omega arith) then b_end)))))))
+
+module _ (P : Program) (m : ℕ) (form : Formed P m) (counts : CountsFit P m) (limits : Limits P) where
+  abbrev Near : List Place → Type 0
+  Near ps = All (PlaceFits P 16384 100000) ps
+
+  b_atom : (n : ℕ) (ps : List Place) (a : Atom) → AtomFits n a → Near ps → Bounded 8 (atom ps a)
+  b_atom n ps a fit h = b_read (word_of ps a) (λ w e. b_word 16384 100000 w (omega arith) (omega arith) (word_fits P 16384 n 100000 ps a fit h e))
+
+  b_fill : (n d : ℕ) (ps : List Place) (as' : List Atom) → d < 100000 → length as' < 2049 → AtomsFit n as' → Near ps → Bounded (16 * length as') (fill ps d as')
+  b_fill n d ps [] hd few fit h = b_most _ (omega arith) b_none
+  b_fill n d ps (a ∷ as') hd few fit h =
+      b_most _ (omega arith) (b_get d hd then (b_atom n ps a fit.0 h then (b_one {k = 4} (Store (4 * suc (length as'))) (λ r. z_store r (4 * suc (length as')) (omega arith)) (omega arith, omega arith) then b_fill n d ps as' hd (omega arith) fit.1 h)))
+
+  b_block : (n d header : ℕ) (ps : List Place) (as' : List Atom) → d < 100000 → header < 4294967296 → length as' < 2049 → AtomsFit n as' → Near ps → Bounded (45 + 16 * length as') (block ps d header as')
+  b_block n d header ps as' hd hh few fit h =
+      b_most _ (omega arith) (b_one {k = 2} (GlobalGet 2) (λ r. z_heap r) (omega arith) then (b_tee d hd then (b_one {k = 4} (Const (4 * suc (length as'))) (λ r. z_small r (4 * suc (length as')) (omega arith)) (omega arith) then (b_one {k = 1} (Operation op32.Add) (λ r. z_op r op32.Add) tt
+      then (b_global 2 (omega arith) then (b_ensure then (b_get d hd then (b_const header hh then (b_one {k = 3} (Store 0) (λ r. z_header r) (omega arith, omega arith) then (b_fill n d ps as' hd few fit h then b_get d hd))))))))))
+
+  b_jump : (b : Bool) (g h n depth : ℕ) → jumps g h depth ≡ b → n ≤ 7 → worker_index P g < 2097152 → Bounded 38 (λ r. if b then into_params n (Br depth ∷ r) else (Call (worker_index P g) ∷ r))
+  b_jump true g h n depth e few low =
+      let shallow = leb-true depth most_blocks (and_true (nat_eq g h) (nat_le depth most_blocks) e).1 in
+      b_most 38 (omega (arith, few)) (b_params n (omega arith) then b_one {k = 3} (Br depth) (λ r. z_br r depth (omega (arith, shallow))) (omega (arith, shallow)))
+  b_jump false g h n depth e few low = b_most 38 (omega arith) (b_call (worker_index P g) low)
+
+  b_worker : (at : Position) (g n : ℕ) → n ≤ 7 → worker_index P g < 2097152 → Bounded 38 (call_worker P at g n)
+  b_worker Inside g n few low = b_most 38 (omega arith) (b_call (worker_index P g) low)
+  b_worker (InTail h depth) g n few low = b_jump (jumps g h depth) g h n depth refl few low
+
+  b_application : (n : ℕ) (ps : List Place) (at : Position) (f a : Atom) (o : Option (ℕ × List Word)) → known_function ps f ≡ o → AtomFits n f → AtomFits n a → Near ps → Bounded 102 (application P ps at f a o)
+  b_application n ps at f a None e ff fa h =
+      b_most 102 (omega arith) (b_atom n ps f ff h then (b_atom n ps a fa h then (b_atom n ps f ff h then (b_load 0 (omega arith) then b_one {k = 3} CallClosure (λ r. z_indirect r) (omega arith, omega arith)))))
+  b_application n ps at f a (Some j) e ff fa h =
+      let fit = function_fits P 16384 m form 100000 ps f h e in
+      let takes = fit.0 in
+      let few = fit.1 in
+      b_most 102 (omega (arith, few)) (b_push j.1 fit.2 then (b_atom n ps a fa h then b_worker at j.0 (length j.1) few (omega (arith, slice_get_within P.functions j.0 takes.fn takes.at, limits.few, counts.constants))))
+
+  -- what each of the two chains makes of a match's branches
+  abbrev empties_weight : Branches → ℕ
+  empties_weight BNil = 0
+  empties_weight (BCons zero t bs) = 19 + weight t + empties_weight bs
+  empties_weight (BCons (suc n) t bs) = empties_weight bs
+
+  abbrev heads_weight : Branches → ℕ
+  heads_weight BNil = 0
+  heads_weight (BCons zero t bs) = heads_weight bs
+  heads_weight (BCons (suc n) t bs) = 19 + weight t + heads_weight bs
+
+  both_chains : (bs : Branches) → empties_weight bs + heads_weight bs ≡ branches_weight bs
+  both_chains BNil = refl
+  both_chains (BCons zero t bs) = omega (arith, both_chains bs)
+  both_chains (BCons (suc n) t bs) = omega (arith, both_chains bs)
+
+  b_choice : (o : Option Place) {k : ℕ} {g : Place → List Instr → List Instr} {f : List Instr → List Instr} → ((q : Place) → o ≡ Some q → Bounded k (g q)) → Bounded k f → Bounded k (λ r. choose o (λ q. g q r) (f r))
+  b_choice None x y = y
+  b_choice (Some q) x y = x q refl
+
+  mutual
+    b_op : (n d : ℕ) (ps : List Place) (at : Position) (x : Op) → top_op d x < 100000 → Near ps → OpFits P.functions (length P.constants) m n x → Bounded (op_weight x) (op P ps d at x)
+    b_op n d ps at (OConst x) le h fit = b_call (constant_index P x) (omega (arith, limits.few, counts.constants, fit))
+    b_op n d ps at (OApp f a) le h fit = b_application n ps at f a (known_function ps f) refl fit.0 fit.1 h
+    b_op n d ps at (OCon c as') le h fit = let small = fit.0 in let few = fit.2 in b_block n d _ ps as' (omega arith) (omega (arith, small, few)) (omega (arith, few)) fit.3 h
+    b_op n d ps at (OClos g as') le h fit =
+        let takes = fit.0 in
+        let few = limits.captured g takes.fn takes.at in
+        let low = slice_get_within P.functions g takes.fn takes.at in
+        b_block n d (suc g) ps as' (omega arith) (omega (arith, low, limits.few)) (omega (arith, few, takes.words)) fit.1 h
+    b_op n d ps at (OCase a bs) le h fit =
+        b_most _ (omega (arith, both_chains bs)) (b_atom n ps a fit.0 h then (b_set d (omega arith) then b_empties n d ps at 0 bs (λ at'. heads P ps d at' 0 bs) (1 + heads_weight bs) (omega arith) (omega (arith, fit.1)) h fit.2 (λ at'. b_heads n d ps at' 0 bs (omega arith) (omega
+        (arith, fit.1)) h fit.2)))
+
+    pub b_code : (n d : ℕ) (ps : List Place) (at : Position) (t : Block) → top d t < 100000 → Near ps → BlockFits P.functions (length P.constants) m n t → Bounded (weight t) (code P ps d at t)
+    b_code n d ps at (RetAtom a) le h fit = b_atom n ps a fit h
+    b_code n d ps at (LetAtom a t) le h fit = b_most _ (omega arith) (b_atom n ps a fit.0 h then (b_set d (omega arith) then b_code (suc n) (suc d) (At (InLocal d) ∷ ps) at t (omega arith) (omega arith, h) fit.1))
+    b_code n d ps at (Ret x) le h fit = b_op n d ps at x le h fit
+    b_code n d ps at (Let x t) le h fit =
+        b_choice (unmade P ps x t) {g = λ q. code P (q ∷ ps) d at t}
+        (λ q e. let z = unmade_some (block_reads 0 t) (known P ps x) e in b_most _ (omega arith) (b_code (suc n) d (q ∷ ps) at t (omega (arith, top_less d t)) (known_fits P 16384 m form n 100000 ps x fit.0 h z.1, h) fit.1))
+        (b_most _ (omega arith) (b_op n d ps Inside x (omega arith) h fit.0 then (b_set d (omega arith) then b_code (suc n) (suc d) (At (InLocal d) ∷ ps) at t (omega arith) (omega arith, h) fit.1)))
+
+    b_empties : (n d : ℕ) (ps : List Place) (at : Position) (c : ℕ) (bs : Branches) (others : Position → List Instr → List Instr) (k : ℕ) → max (suc d) (top_branches (suc d) bs) < 100000 → c + many bs ≤ m → Near ps → BranchesFit P.functions (length P.constants) m n bs →
+        ((at' : Position) → Bounded k (others at')) → Bounded (empties_weight bs + k) (empties P ps d at c bs others)
+    b_empties n d ps at c BNil others k le few h fit o = b_most _ (omega arith) (o at)
+    b_empties n d ps at c (BCons zero t bs) others k le few h fit o =
+        b_most _ (omega arith) (b_get d (omega arith) then (b_const (2 * c + 1) (omega (arith, counts.branches)) then (b_one {k = 1} (Operation op32.Eq) (λ r. z_op r op32.Eq) tt
+        then b_arms (b_code (0 + n) (suc d) ps (deeper at) t (omega arith) h fit.1) (b_empties n d ps (deeper at) (suc c) bs others k (omega arith) (omega arith) h fit.2 o))))
+    b_empties n d ps at c (BCons (suc j) t bs) others k le few h fit o = b_empties n d ps at (suc c) bs others k (omega arith) (omega arith) h fit.2 o
+
+    b_heads : (n d : ℕ) (ps : List Place) (at : Position) (c : ℕ) (bs : Branches) → max (suc d) (top_branches (suc d) bs) < 100000 → c + many bs ≤ m → Near ps → BranchesFit P.functions (length P.constants) m n bs → Bounded (1 + heads_weight bs) (heads P ps d at c bs)
+    b_heads n d ps at c BNil le few h fit = b_unreachable
+    b_heads n d ps at c (BCons zero t bs) le few h fit = b_heads n d ps at (suc c) bs (omega arith) (omega arith) h fit.2
+    b_heads n d ps at c (BCons (suc j) t bs) le few h fit =
+        let low = fit.0 in
+        b_most _ (omega arith) (b_get d (omega arith) then (b_load 0 (omega arith) then (b_const (suc j * 65536 + c) (omega (arith, counts.branches, low)) then (b_one {k = 1} (Operation op32.Eq) (λ r. z_op r op32.Eq) tt
+        then b_arms (b_code (suc j + n) (suc d) (fields_of d (suc j) ps) (deeper at) t (omega arith) (fields_fit P 16384 100000 d (suc j) ps (omega arith) (omega (arith, low)) h) fit.1) (b_heads n d ps (deeper at) (suc c) bs (omega arith) (omega arith) h fit.2)))))

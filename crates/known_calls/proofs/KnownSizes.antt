@@ -1,0 +1,248 @@
+-- How long the bytes of a module with workers are.
+use Rattle.std.proofs.Common.{◌≡◌, ℕ, suc, ◌+◌, ◌-◌, ◌*◌, ◌≤◌, List, [], ◌∷◌, ◌++◌, length, length-append, map, Some, Bool, true, false, refl, subst, arith}
+use Rattle.std.specs.Prelude.{slice_get, codes, if◌then◌else◌}
+use Rattle.wasm_core.specs.declared.types.ValType.TheVariants.{I32}
+use Rattle.wasm_core.specs.declared.instrs.BlockType.TheVariants.{Value}
+use Rattle.wasm_core.specs.declared.instrs.Instr.TheVariants.{Unreachable, Loop, End, GlobalSet}
+use Rattle.wasm_core.specs.declared.instrs.Body.{Body}
+use Rattle.wasm_core.specs.declared.exports.Export.{Export}
+use Rattle.wasm_core.specs.declared.exports.ExportKind.TheVariants as kind
+use Rattle.wasm_core.specs.Parts.{Parts}
+use Rattle.wasm_core.specs.ShortestBytes.{put_u32, put_all, put_list, put_body, put_section, put_segment, put_sections, put_func_type, put_table_type, put_limits, put_global, put_export, kind_code, put_instr, unsigned, signed, sizes, module_bytes}
+use Rattle.closure_lift.specs.Lifted.{Op, OConst, OApp, OCon, OClos, OCase, Block, RetAtom, LetAtom, Ret, Let, Branches, BNil, BCons, Program, Fn}
+use Rattle.closure_lift.specs.LiftedForm.{Formed, Limits}
+use Rattle.wasm_emit.specs.EmittedCode.{Const}
+use Rattle.wasm_emit.specs.EmittedModule.{type_main, type_constant, type_function, word_global, body, room_code, main_index, entries}
+use Rattle.wasm_emit.specs.EmittedLocals.{top, top_op, top_branches}
+use Rattle.wasm_emit.specs.EmitLaws.{CountsFit}
+use Rattle.wasm_emit.proofs.Indices.{entries_length}
+use Rattle.wasm_emit.proofs.Lengths.{u_any, s_any, size, z_end, z_global, body_size}
+use Rattle.known_calls.specs.KnownPlaces.{At, InLocal, fields_of}
+use Rattle.known_calls.specs.KnownCode.{Inside, is_wide, code}
+use Rattle.known_calls.specs.KnownModule.{words_type, wide_body, stub_code, entry, worker_code, worker, worker_type, numbered, constant, main_function, module_of}
+use Rattle.known_calls.specs.KnownWeight.{op_weight, weight, branches_weight, functions_weight, constants_weight, program_weight, KnownSized, LocalsBound}
+use Rattle.known_calls.proofs.KnownIndices.{narrow_few, order_length}
+use Rattle.known_calls.proofs.Bounded.{b_code}
+use Rattle.known_calls.proofs.KnownSpelling.{b_stub, b_wide, b_loop_of}
+
+no_bytes : size [] ≡ 0
+unfolding put_all
+no_bytes = refl
+
+trap_size : size (Unreachable ∷ End ∷ []) ≤ 2
+unfolding put_all put_instr
+trap_size = omega arith
+
+-- a section: its id, its size, its count, and its items
+section_size : {A : Type 0} (id : ℕ) (one : A → List ℕ → List ℕ) (xs : List A) (w : List ℕ) → length (put_section id one xs w) ≤ 11 + length (put_all one xs []) + length w
+unfolding put_section
+section_size id one [] w = omega arith
+section_size id one (x ∷ xs) w =
+    let part = put_list one (x ∷ xs) [] in
+    omega (arith, u_any 5 (length part) (part ++ w), length-append part w, u_any 5 (length (x ∷ xs)) (put_all one (x ∷ xs) []))
+
+-- items of at most k bytes each
+items_size : {A : Type 0} (k : ℕ) (one : A → List ℕ → List ℕ) (xs : List A) (w : List ℕ) → ((x : A) (w : List ℕ) → length (one x w) ≤ k + length w) → length (put_all one xs w) ≤ k * length xs + length w
+unfolding put_all
+items_size k one [] w h = omega arith
+items_size k one (x ∷ xs) w h = omega (arith, h x (put_all one xs w), items_size k one xs w h)
+
+-- the bodies
+module _ (P : Program) (m : ℕ) (form : Formed P m) (counts : CountsFit P m) (limits : Limits P) where
+  -- a function has its body in its entry or in its worker
+  entry_size : (g : ℕ) (fn : Fn) (w : List ℕ) → slice_get P.functions g ≡ Some fn → length (put_body (entry P g fn) w) ≤ (if is_wide fn then 18 + weight fn.body else 82) + length w
+  entry_size g fn w at = either (is_wide fn) refl
+    where
+      either : (b : Bool) → is_wide fn ≡ b → length (put_body (if b then wide_body P fn else body 0 (stub_code P g fn.captured)) w) ≤ (if b then 18 + weight fn.body else 82) + length w
+      either true wide =
+          let is = code P (At (InLocal 1) ∷ fields_of 0 fn.captured []) 2 Inside fn.body (End ∷ []) in
+          omega (arith, body_size (top 2 fn.body - 2) is w, (b_wide P m form counts limits g fn at).bytes [], no_bytes)
+      either false narrow = omega (arith, body_size 0 (stub_code P g fn.captured) w, (b_stub P m form counts limits g fn at (narrow_few fn narrow)).bytes [], no_bytes)
+
+  worker_size : (g : ℕ) (fn : Fn) (w : List ℕ) → slice_get P.functions g ≡ Some fn → length (put_body (worker P g fn) w) ≤ (if is_wide fn then 19 else 21 + weight fn.body) + length w
+  worker_size g fn w at = either (is_wide fn)
+    where
+      either : (b : Bool) → length (put_body (if b then body 0 (Unreachable ∷ End ∷ []) else body (top 2 fn.body - 2) (Loop (Value I32) ∷ worker_code P g fn)) w) ≤ (if b then 19 else 21 + weight fn.body) + length w
+      either true = omega (arith, body_size 0 (Unreachable ∷ End ∷ []) w, trap_size)
+      either false = omega (arith, body_size (top 2 fn.body - 2) (Loop (Value I32) ∷ worker_code P g fn) w, (b_loop_of P m form counts limits g fn at).bytes [], no_bytes)
+
+  -- together
+  pair_bytes : (fn : Fn) → (if is_wide fn then 18 + weight fn.body else 82) + (if is_wide fn then 19 else 21 + weight fn.body) ≤ 103 + weight fn.body
+  pair_bytes fn = either (is_wide fn)
+    where
+      either : (b : Bool) → (if b then 18 + weight fn.body else 82) + (if b then 19 else 21 + weight fn.body) ≤ 103 + weight fn.body
+      either true = omega arith
+      either false = omega arith
+
+  abbrev entries_bytes : List Fn → ℕ
+  entries_bytes [] = 0
+  entries_bytes (f ∷ fs) = (if is_wide f then 18 + weight f.body else 82) + entries_bytes fs
+
+  abbrev workers_bytes : List Fn → ℕ
+  workers_bytes [] = 0
+  workers_bytes (f ∷ fs) = (if is_wide f then 19 else 21 + weight f.body) + workers_bytes fs
+
+  pairs_bytes : (fs : List Fn) → entries_bytes fs + workers_bytes fs + 15 * length fs ≤ functions_weight fs
+  pairs_bytes [] = omega arith
+  pairs_bytes (f ∷ fs) = omega (arith, pair_bytes f, pairs_bytes fs)
+
+  entries_size : (from : ℕ) (fs : List Fn) (bs : List Body) (w : List ℕ) → ((g j : ℕ) (fn : Fn) → slice_get fs g ≡ Some fn → j ≡ from + g → slice_get P.functions j ≡ Some fn) → length (put_all put_body (numbered (entry P) from fs ++ bs) w) ≤ entries_bytes fs + length (put_all put_body bs w)
+  unfolding put_all
+  entries_size from [] bs w h = omega arith
+  entries_size from (f ∷ fs) bs w h = omega (arith, entry_size from f (put_all put_body (numbered (entry P) (suc from) fs ++ bs) w) (h 0 from f refl (omega arith)), entries_size (suc from) fs bs w (λ g j fn e is. h (suc g) j fn e (omega arith)))
+
+  workers_size : (from : ℕ) (fs : List Fn) (w : List ℕ) → ((g j : ℕ) (fn : Fn) → slice_get fs g ≡ Some fn → j ≡ from + g → slice_get P.functions j ≡ Some fn) → length (put_all put_body (numbered (worker P) from fs) w) ≤ workers_bytes fs + length w
+  unfolding put_all
+  workers_size from [] w h = omega arith
+  workers_size from (f ∷ fs) w h = omega (arith, worker_size from f (put_all put_body (numbered (worker P) (suc from) fs) w) (h 0 from f refl (omega arith)), workers_size (suc from) fs w (λ g j fn e is. h (suc g) j fn e (omega arith)))
+
+  same_number : (g j : ℕ) (x : Fn) → slice_get P.functions g ≡ Some x → j ≡ 0 + g → slice_get P.functions j ≡ Some x
+  same_number g j x at is = let z : g ≡ j = omega arith in subst (λ (i : ℕ). slice_get P.functions i ≡ Some x) z at
+
+  constant_size : (i : ℕ) (t : Block) (w : List ℕ) → slice_get P.constants i ≡ Some t → length (put_body (constant P t) w) ≤ 18 + weight t + length w
+  constant_size i t w at =
+      omega (arith, body_size (top 0 t) (code P [] 0 Inside t (End ∷ [])) w, z_end [], no_bytes, (b_code P m form counts limits 0 0 [] Inside t (omega (arith, counts.bodies i t at)) tt (form.constants i t at)).bytes (End ∷ []))
+
+  main_size : (w : List ℕ) → length (put_body (main_function P) w) ≤ 20 + weight P.main + length w
+  main_size w =
+      omega (
+        arith,
+        body_size (top 0 P.main) (code P [] 0 Inside P.main (GlobalSet 0 ∷ End ∷ [])) w,
+        z_global (End ∷ []) 0 (omega arith),
+        z_end [],
+        no_bytes,
+        (b_code P m form counts limits 0 0 [] Inside P.main (omega (arith, counts.main)) tt form.main).bytes (GlobalSet 0 ∷ End ∷ []),
+      )
+
+  constants_size : (ts : List Block) (bs : List Body) (w : List ℕ) → ((i : ℕ) (t : Block) (w : List ℕ) → slice_get ts i ≡ Some t → length (put_body (constant P t) w) ≤ 18 + weight t + length w) →
+      length (put_all put_body (map (constant P) ts ++ bs) w) + 10 * length ts ≤ constants_weight ts + length (put_all put_body bs w)
+  unfolding put_all
+  constants_size [] bs w h = omega arith
+  constants_size (t ∷ ts) bs w h = omega (arith, h 0 t (put_all put_body (map (constant P) ts ++ bs) w) refl, constants_size ts bs w (λ i t w e. h (suc i) t w e))
+
+-- the parts that are the same in all modules
+room_size : size room_code ≤ 100
+unfolding put_all put_instr unsigned signed
+room_size = omega arith
+
+box_size : size (Const 0 ∷ End ∷ []) ≤ 10
+unfolding put_all put_instr unsigned signed
+box_size = omega arith
+
+types_size : length (put_all put_func_type (type_main ∷ type_constant ∷ type_function ∷ words_type 0 ∷ words_type 1 ∷ words_type 2 ∷ words_type 3 ∷ words_type 4 ∷ words_type 5 ∷ words_type 6 ∷ words_type 7 ∷ []) []) ≤ 140
+unfolding put_all put_func_type unsigned
+types_size = omega arith
+
+globals_size : length (put_all put_global (word_global 0 ∷ word_global 0 ∷ word_global 8 ∷ []) []) ≤ 30
+unfolding put_all put_global signed
+globals_size = omega arith
+
+-- with one number each
+limits_size : (lo hi : ℕ) (w : List ℕ) → length (put_limits (record { min = lo; max = Some hi }) w) ≤ 11 + length w
+unfolding put_limits
+limits_size lo hi w = omega (arith, u_any 5 lo (put_u32 hi w), u_any 5 hi w)
+
+table_size : (n : ℕ) → length (put_all put_table_type (record { min = n; max = Some n } ∷ []) []) ≤ 12
+unfolding put_all put_table_type
+table_size n = omega (arith, limits_size n n [])
+
+memory_size : (n : ℕ) → length (put_all put_limits (record { min = 1; max = Some n } ∷ []) []) ≤ 11
+unfolding put_all
+memory_size n = limits_size 1 n []
+
+export_size : (e : Export) (w : List ℕ) → length (put_export e w) ≤ 11 + length e.name + length w
+unfolding put_export
+export_size e w = omega (arith, u_any 5 (length e.name) (e.name ++ (kind_code e.kind ∷ put_u32 e.index w)), length-append e.name (kind_code e.kind ∷ put_u32 e.index w), u_any 5 e.index w)
+
+exports_size : (P : Program) (pages : ℕ) → length (put_all put_export (module_of P pages).exports []) ≤ 68
+unfolding put_all
+exports_size P pages =
+    let e3 : Export = record { name = codes "status"; kind = kind.Global; index = 1 } in
+    let e2 : Export = record { name = codes "result"; kind = kind.Global; index = 0 } in
+    let e1 : Export = record { name = codes "memory"; kind = kind.Memory; index = 0 } in
+    let e0 : Export = record { name = codes "main"; kind = kind.Func; index = main_index P } in
+    omega (arith, export_size e3 [], export_size e2 (put_export e3 []), export_size e1 (put_export e2 (put_export e3 [])), export_size e0 (put_export e1 (put_export e2 (put_export e3 []))))
+
+segment_size : (n : ℕ) (fs : List ℕ) → length (put_all put_segment (record { offset = n; funcs = fs } ∷ []) []) ≤ 13 + 5 * length fs
+unfolding put_all put_segment
+segment_size n fs = omega (arith, s_any 5 32 n (11 ∷ put_list put_u32 fs []), u_any 5 (length fs) (put_all put_u32 fs []), items_size 5 put_u32 fs [] (λ x w. u_any 5 x w))
+
+first_bodies : (bs : List Body) → length (put_all put_body (body 0 room_code ∷ body 0 (Const 0 ∷ End ∷ []) ∷ bs) []) ≤ 144 + length (put_all put_body bs [])
+unfolding put_all
+first_bodies bs = omega (arith, body_size 0 room_code (put_body (body 0 (Const 0 ∷ End ∷ [])) (put_all put_body bs [])), room_size, body_size 0 (Const 0 ∷ End ∷ []) (put_all put_body bs []), box_size)
+
+main_body : (b : Body) (bs : List Body) → length (put_all put_body (b ∷ bs) []) ≡ length (put_body b (put_all put_body bs []))
+unfolding put_all
+main_body b bs = refl
+
+header_size : (m : Parts) → length (module_bytes m) ≡ 8 + length (put_sections m [])
+unfolding module_bytes
+header_size m = omega arith
+
+pub known_sized : KnownSized
+known_sized P pages m form limits counts =
+    let M = module_of P pages in
+    let n = length P.functions in
+    let s10 = put_section 10 put_body M.bodies [] in
+    let s9 = put_section 9 put_segment M.elements s10 in
+    let s7 = put_section 7 put_export M.exports s9 in
+    let s6 = put_section 6 put_global M.globals s7 in
+    let s5 = put_section 5 put_limits (sizes M.memory) s6 in
+    let s4 = put_section 4 put_table_type (sizes M.table) s5 in
+    let s3 = put_section 3 put_u32 M.funcs s4 in
+    let workers = numbered (worker P) 0 P.functions in
+    let from_main = main_function P ∷ numbered (worker P) 0 P.functions in
+    let from_constants = map (constant P) P.constants ++ (main_function P ∷ numbered (worker P) 0 P.functions) in
+    let rest = numbered (entry P) 0 P.functions ++ (map (constant P) P.constants ++ (main_function P ∷ numbered (worker P) 0 P.functions)) in
+    let code : length (put_all put_body M.bodies []) + 15 * length P.functions + 10 * length P.constants ≤ 164 + program_weight P =
+    omega (
+      arith,
+      first_bodies rest,
+      entries_size P m form counts limits 0 P.functions from_constants [] (same_number P m form counts limits),
+      constants_size P m form counts limits P.constants from_main [] (λ i t w at. constant_size P m form counts limits i t w at),
+      main_body (main_function P) workers,
+      main_size P m form counts limits (put_all put_body workers []),
+      workers_size P m form counts limits 0 P.functions [] (same_number P m form counts limits),
+      pairs_bytes P m form counts limits P.functions,
+    ) in
+    omega (
+      arith,
+      header_size M,
+      section_size 1 put_func_type M.types s3,
+      types_size,
+      section_size 3 put_u32 M.funcs s4,
+      items_size 5 put_u32 M.funcs [] (λ x w. u_any 5 x w),
+      order_length {A = ℕ} P (λ g f. 2) (λ t. 1) 0 (λ g f. worker_type f),
+      section_size 4 put_table_type (sizes M.table) s5,
+      table_size (suc n),
+      section_size 5 put_limits (sizes M.memory) s6,
+      memory_size pages,
+      section_size 6 put_global M.globals s7,
+      globals_size,
+      section_size 7 put_export M.exports s9,
+      exports_size P pages,
+      section_size 9 put_segment M.elements s10,
+      segment_size 0 (entries 1 (suc n)),
+      entries_length 1 (suc n),
+      section_size 10 put_body M.bodies [],
+      code,
+    )
+
+-- each local is set by an instruction
+mutual
+  op_locals : (d : ℕ) (x : Op) → 4 * top_op d x ≤ 4 * d + op_weight x
+  op_locals d (OConst x) = omega arith
+  op_locals d (OApp f a) = omega arith
+  op_locals d (OCon c as') = omega arith
+  op_locals d (OClos g as') = omega arith
+  op_locals d (OCase a bs) = omega (arith, branches_locals (suc d) bs)
+
+  pub locals_bound : LocalsBound
+  locals_bound d (RetAtom a) = omega arith
+  locals_bound d (LetAtom a t) = omega (arith, locals_bound (suc d) t)
+  locals_bound d (Ret x) = op_locals d x
+  locals_bound d (Let x t) = omega (arith, op_locals d x, locals_bound (suc d) t)
+
+  branches_locals : (d : ℕ) (bs : Branches) → 4 * top_branches d bs ≤ 4 * d + branches_weight bs
+  branches_locals d BNil = omega arith
+  branches_locals d (BCons n t bs) = omega (arith, locals_bound d t, branches_locals d bs)

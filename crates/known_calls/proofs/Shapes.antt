@@ -1,0 +1,137 @@
+-- What holds of all emitted code: it stands in front of the rest, all its brackets are closed, and it sets the status only from a test of a grow.
+use Rattle.std.proofs.Common.{◌≡◌, ℕ, zero, suc, ◌+◌, ◌*◌, List, [], ◌∷◌, ◌++◌, length, Option, Some, None, Bool, true, false, refl, ap, sym, ◌∙◌, append_assoc, arith}
+use Rattle.std.specs.Prelude.{if◌then◌else◌}
+use Rattle.wasm_core.specs.declared.instrs.Instr.{Instr}
+use Rattle.wasm_core.specs.declared.instrs.Instr.TheVariants.{Unreachable, Else, End, Br, Call, LocalGet, LocalSet, LocalTee, GlobalGet, GlobalSet, I32 as Operation}
+use Rattle.wasm_core.specs.declared.instrs.I32Op.TheVariants as op32
+use Rattle.wasm_core.specs.MachineStep.{Plain, bracket, past_end, to_else, after_end, else_arm}
+use Rattle.anf_convert.specs.declared.program.Atom.{Atom}
+use Rattle.closure_lift.specs.Lifted.{Op, OConst, OApp, OCon, OClos, OCase, Block, RetAtom, LetAtom, Ret, Let, Branches, BNil, BCons, Program}
+use Rattle.wasm_emit.specs.EmittedCode.{Load, Store, Const, IfWord, CallClosure, constant_index, ensure_room}
+use Rattle.known_calls.specs.KnownPlaces.{Word, InLocal, InField, IsConst, Place, At, fields_of, word_of, known_function}
+use Rattle.known_calls.specs.KnownCode.{Position, Inside, InTail, deeper, read_word, read, atom, push_words, fill, block, into_params, worker_index, jumps, call_worker, application, choose, unmade, op, code, empties, heads}
+use Rattle.known_calls.specs.KnownModule.{captured_words}
+use Rattle.known_calls.proofs.KnownHonest.{Wary, w_cons, NotStatus}
+
+pub record Shaped (g : List Instr → List Instr) : Type 0 where
+  pub front : (rest : List Instr) → g rest ≡ g [] ++ rest
+  pub ends : (k : ℕ) (rest : List Instr) → after_end k (g rest) ≡ after_end k rest
+  pub elses : (k : ℕ) (rest : List Instr) → else_arm k (g rest) ≡ else_arm k rest
+  pub wary : {rest : List Instr} → Wary rest → Wary (g rest)
+
+pub same_shaped : Shaped (λ r. r)
+same_shaped = record { front = λ r. refl; ends = λ k r. refl; elses = λ k r. refl; wary = λ w. w }
+
+infixr 30 ◌then◌
+pub ◌then◌ : {f g : List Instr → List Instr} → Shaped f → Shaped g → Shaped (λ r. f (g r))
+◌then◌ {f} {g} x y = record {
+  front = λ r. x.front (g r) ∙ ap (λ z. f [] ++ z) (y.front r) ∙ sym (append_assoc (f []) (g []) r) ∙ ap (λ z. z ++ r) (sym (x.front (g [])));
+  ends = λ k r. x.ends k (g r) ∙ y.ends k r;
+  elses = λ k r. x.elses k (g r) ∙ y.elses k r;
+  wary = λ w. x.wary (y.wary w);
+}
+
+-- an instruction that is no bracket
+pub one : (i : Instr) → bracket i ≡ Plain → NotStatus i → Shaped (λ r. i ∷ r)
+one i e n = record {
+  front = λ r. refl;
+  ends = λ k r. ap (λ b. past_end b k (λ d. after_end d r) r) e;
+  elses = λ k r. ap (λ b. to_else b k (λ d. else_arm d r) i r) e;
+  wary = λ w. w_cons n w;
+}
+
+-- a test with two arms
+pub arms : {g1 g2 : List Instr → List Instr} → Shaped g1 → Shaped g2 → Shaped (λ r. IfWord ∷ g1 (Else ∷ g2 (End ∷ r)))
+arms {g1} {g2} x y = record {
+  front = λ r. ap (λ z. IfWord ∷ z) (x.front (Else ∷ g2 (End ∷ r)) ∙ ap (λ z. g1 [] ++ Else ∷ z) (y.front (End ∷ r))
+      ∙ sym (append_assoc (g1 []) (Else ∷ (g2 [] ++ End ∷ [])) r ∙ ap (λ z. g1 [] ++ Else ∷ z) (append_assoc (g2 []) (End ∷ []) r))
+      ∙ ap (λ z. z ++ r) (sym (x.front (Else ∷ g2 (End ∷ [])) ∙ ap (λ z. g1 [] ++ Else ∷ z) (y.front (End ∷ [])))));
+  ends = λ k r. x.ends (suc k) (Else ∷ g2 (End ∷ r)) ∙ y.ends (suc k) (End ∷ r);
+  elses = λ k r. x.elses (suc k) (Else ∷ g2 (End ∷ r)) ∙ y.elses (suc k) (End ∷ r);
+  wary = λ w. w_cons tt (x.wary (w_cons tt (y.wary (w_cons tt w))));
+}
+
+shaped_word : (w : Word) → Shaped (read_word w)
+shaped_word (InLocal x) = one (LocalGet x) refl tt
+shaped_word (InField x o) = one (LocalGet x) refl tt then one (Load o) refl tt
+shaped_word (IsConst n) = one (Const n) refl tt
+
+shaped_read : (o : Option Word) → Shaped (read o)
+shaped_read None = one Unreachable refl tt
+shaped_read (Some w) = shaped_word w
+
+shaped_atom : (env : List Place) (a : Atom) → Shaped (atom env a)
+shaped_atom env a = shaped_read (word_of env a)
+
+shaped_push : (ws : List Word) → Shaped (push_words ws)
+shaped_push [] = same_shaped
+shaped_push (w ∷ ws) = shaped_push ws then shaped_word w
+
+shaped_fill : (env : List Place) (d : ℕ) (as' : List Atom) → Shaped (fill env d as')
+shaped_fill env d [] = same_shaped
+shaped_fill env d (a ∷ as') = one (LocalGet d) refl tt then (shaped_atom env a then (one (Store (4 * suc (length as'))) refl tt then shaped_fill env d as'))
+
+shaped_room : Shaped ensure_room
+shaped_room = record {
+  front = λ r. refl;
+  ends = λ k r. refl;
+  elses = λ k r. refl;
+  wary = λ w. w_cons tt (w_cons tt (w_cons tt (w_cons tt (w_cons tt (w_cons tt (w_cons tt (w_cons tt w)))))));
+}
+
+shaped_block : (env : List Place) (d header : ℕ) (as' : List Atom) → Shaped (block env d header as')
+shaped_block env d header as' =
+    one (GlobalGet 2) refl tt then (one (LocalTee d) refl tt then (one (Const (4 * suc (length as'))) refl tt then (one (Operation op32.Add) refl tt then (one (GlobalSet 2) refl (λ z. omega arith) then (shaped_room
+    then (one (LocalGet d) refl tt then (one (Const header) refl tt then (one (Store 0) refl tt then (shaped_fill env d as' then one (LocalGet d) refl tt)))))))))
+
+shaped_params : (n : ℕ) → Shaped (into_params n)
+shaped_params zero = one (LocalSet 0) refl tt
+shaped_params (suc n) = one (LocalSet (suc n)) refl tt then shaped_params n
+
+pub shaped_captured : (n : ℕ) → Shaped (captured_words n)
+shaped_captured zero = same_shaped
+shaped_captured (suc n) = shaped_captured n then (one (LocalGet 0) refl tt then one (Load (4 * suc n)) refl tt)
+
+module _ (P : Program) where
+  shaped_jump : (b : Bool) (g n depth : ℕ) → Shaped (λ r. if b then into_params n (Br depth ∷ r) else (Call (worker_index P g) ∷ r))
+  shaped_jump true g n depth = shaped_params n then one (Br depth) refl tt
+  shaped_jump false g n depth = one (Call (worker_index P g)) refl tt
+
+  shaped_call : (at : Position) (g n : ℕ) → Shaped (call_worker P at g n)
+  shaped_call Inside g n = one (Call (worker_index P g)) refl tt
+  shaped_call (InTail h depth) g n = shaped_jump (jumps g h depth) g n depth
+
+  shaped_application : (env : List Place) (at : Position) (f a : Atom) (o : Option (ℕ × List Word)) → Shaped (application P env at f a o)
+  shaped_application env at f a None = shaped_atom env f then (shaped_atom env a then (shaped_atom env f then (one (Load 0) refl tt then one CallClosure refl tt)))
+  shaped_application env at f a (Some k) = shaped_push k.1 then (shaped_atom env a then shaped_call at k.0 (length k.1))
+
+  shaped_choice : (o : Option Place) {g : Place → List Instr → List Instr} {f : List Instr → List Instr} → ((q : Place) → Shaped (g q)) → Shaped f → Shaped (λ r. choose o (λ q. g q r) (f r))
+  shaped_choice None x y = y
+  shaped_choice (Some q) x y = x q
+
+  mutual
+    pub shaped_op : (env : List Place) (d : ℕ) (at : Position) (x : Op) → Shaped (op P env d at x)
+    shaped_op env d at (OConst x) = one (Call (constant_index P x)) refl tt
+    shaped_op env d at (OApp f a) = shaped_application env at f a (known_function env f)
+    shaped_op env d at (OCon c as') = shaped_block env d _ as'
+    shaped_op env d at (OClos g as') = shaped_block env d _ as'
+    shaped_op env d at (OCase a bs) = shaped_atom env a then (one (LocalSet d) refl tt then shaped_empties env d at 0 bs (λ at'. heads P env d at' 0 bs) (λ at'. shaped_heads env d at' 0 bs))
+
+    pub shaped_code : (env : List Place) (d : ℕ) (at : Position) (t : Block) → Shaped (code P env d at t)
+    shaped_code env d at (RetAtom a) = shaped_atom env a
+    shaped_code env d at (LetAtom a t) = shaped_atom env a then (one (LocalSet d) refl tt then shaped_code (At (InLocal d) ∷ env) (suc d) at t)
+    shaped_code env d at (Ret x) = shaped_op env d at x
+    shaped_code env d at (Let x t) =
+        shaped_choice (unmade P env x t) {g = λ q. code P (q ∷ env) d at t} (λ q. shaped_code (q ∷ env) d at t) (shaped_op env d Inside x then (one (LocalSet d) refl tt then shaped_code (At (InLocal d) ∷ env) (suc d) at t))
+
+    pub shaped_empties : (env : List Place) (d : ℕ) (at : Position) (c : ℕ) (bs : Branches) (others : Position → List Instr → List Instr) → ((at' : Position) → Shaped (others at')) → Shaped (empties P env d at c bs others)
+    shaped_empties env d at c BNil others o = o at
+    shaped_empties env d at c (BCons zero t bs) others o =
+        one (LocalGet d) refl tt then (one (Const (2 * c + 1)) refl tt then (one (Operation op32.Eq) refl tt then arms (shaped_code env (suc d) (deeper at) t) (shaped_empties env d (deeper at) (suc c) bs others o)))
+    shaped_empties env d at c (BCons (suc n) t bs) others o = shaped_empties env d at (suc c) bs others o
+
+    pub shaped_heads : (env : List Place) (d : ℕ) (at : Position) (c : ℕ) (bs : Branches) → Shaped (heads P env d at c bs)
+    shaped_heads env d at c BNil = one Unreachable refl tt
+    shaped_heads env d at c (BCons zero t bs) = shaped_heads env d at (suc c) bs
+    shaped_heads env d at c (BCons (suc n) t bs) =
+        one (LocalGet d) refl tt then (one (Load 0) refl tt then (one (Const (suc n * 65536 + c)) refl tt then (one (Operation op32.Eq) refl tt then arms (shaped_code (fields_of d (suc n) env) (suc d) (deeper at) t) (shaped_heads env d (deeper at) (suc c) bs))))

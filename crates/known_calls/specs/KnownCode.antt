@@ -1,0 +1,150 @@
+-- The instructions of a block of a lifted program. A saturated call of a known function is a direct call of its worker, which takes the captured words and the argument as parameters; a worker's tail call of
+-- itself is a branch to its beginning; and a closure that is known, and read as a word nowhere, is made nowhere. All else is as in `EmittedCode` of `wasm_emit`. Each function puts its instructions in front of `rest`.
+use Rattle.std.specs.Prelude.{ℕ, zero, suc, ◌+◌, ◌*◌, Bool, ◌&&◌, if◌then◌else◌, nat_eq, nat_le, List, [], ◌∷◌, length, Option, Some, None, slice_get}
+use Rattle.std.specs.Option.{option_and_then}
+use Rattle.anf_convert.specs.declared.program.Atom.{Atom}
+use Rattle.closure_lift.specs.Lifted.{Op, OConst, OApp, OCon, OClos, OCase, Block, RetAtom, LetAtom, Ret, Let, Branches, BNil, BCons, Fn, Program}
+use Rattle.wasm_core.specs.declared.instrs.I32Op.TheVariants as op32
+use Rattle.wasm_core.specs.declared.instrs.Instr.{Instr}
+use Rattle.wasm_core.specs.declared.instrs.Instr.TheVariants.{Unreachable, Else, End, Br, Call, LocalGet, LocalSet, LocalTee, GlobalGet, GlobalSet, I32 as Operation}
+use Rattle.wasm_emit.specs.EmittedCode.{Load, Store, Const, IfWord, CallClosure, constant_index, ensure_room}
+use Rattle.known_calls.specs.KnownPlaces.{Word, InLocal, InField, IsConst, Place, At, Known, word_of, words_of, all_at, fields_of, known_function, block_reads}
+
+-- a closure of more captured words is never known, and its function has no worker
+abbrev pub most_words : ℕ
+most_words = 7
+
+abbrev pub is_wide : Fn → Bool
+is_wide f = nat_le (suc most_words) f.captured
+
+-- the workers come behind main, which stands behind the functions and the constants
+abbrev pub worker_index : Program → ℕ → ℕ
+worker_index P g = suc (constant_index P (length P.constants + g))
+
+-- Closures that are known, and need no code.
+
+abbrev pub known_closure : ℕ → Option (List Word) → Option Place
+known_closure g None = None
+known_closure g (Some ws) = if nat_le (length ws) most_words then Some (Known g ws) else None
+
+-- what a block is that makes a closure and does nothing else
+abbrev pub closure_alone : List Place → Block → Option Place
+closure_alone env (Ret (OClos g as')) = known_closure g (words_of env as')
+closure_alone env (Ret (OConst x)) = None
+closure_alone env (Ret (OApp f a)) = None
+closure_alone env (Ret (OCon c as')) = None
+closure_alone env (Ret (OCase a bs)) = None
+closure_alone env (RetAtom a) = None
+closure_alone env (LetAtom a t) = None
+closure_alone env (Let p t) = None
+
+-- a known closure, applied, whose function makes a closure and does nothing else
+abbrev pub partial : Program → ℕ × List Word → Option Word → Option Place
+partial P k w = option_and_then (λ a. option_and_then (λ fn. closure_alone (At a ∷ all_at k.1) fn.body) (slice_get P.functions k.0)) w
+
+-- the closure that an operation is known to give: that of a constant that is a closure, a partial application, or the closure that it would make
+abbrev pub known : Program → List Place → Op → Option Place
+known P env (OConst x) = option_and_then (closure_alone []) (slice_get P.constants x)
+known P env (OApp f a) = option_and_then (λ k. partial P k (word_of env a)) (known_function env f)
+known P env (OCon c as') = None
+known P env (OClos g as') = known_closure g (words_of env as')
+known P env (OCase a bs) = None
+
+-- a binding whose closure is known needs no code where the block behind it reads it as a word nowhere
+abbrev pub unmade : Program → List Place → Op → Block → Option Place
+unmade P env p t = if block_reads 0 t then None else known P env p
+
+-- Words.
+
+abbrev pub read_word : Word → List Instr → List Instr
+read_word (InLocal x) rest = LocalGet x ∷ rest
+read_word (InField x o) rest = LocalGet x ∷ Load o ∷ rest
+read_word (IsConst n) rest = Const n ∷ rest
+
+-- a closure that is made nowhere is never read
+abbrev pub read : Option Word → List Instr → List Instr
+read None rest = Unreachable ∷ rest
+read (Some w) rest = read_word w rest
+
+abbrev pub atom : List Place → Atom → List Instr → List Instr
+atom env a rest = read (word_of env a) rest
+
+-- words whose last one stands first
+abbrev pub push_words : List Word → List Instr → List Instr
+push_words [] rest = rest
+push_words (w ∷ ws) rest = push_words ws (read_word w rest)
+
+abbrev pub fill : List Place → ℕ → List Atom → List Instr → List Instr
+fill env d [] rest = rest
+fill env d (a ∷ as') rest = LocalGet d ∷ atom env a (Store (4 * suc (length as')) ∷ fill env d as' rest)
+
+-- a block begins at the end of the heap, which moves past the block
+abbrev pub block : List Place → ℕ → ℕ → List Atom → List Instr → List Instr
+block env d header as' rest =
+    GlobalGet 2 ∷ LocalTee d ∷ Const (4 * suc (length as')) ∷ Operation op32.Add ∷ GlobalSet 2 ∷ ensure_room (LocalGet d ∷ Const header ∷ Store 0 ∷ fill env d as' (LocalGet d ∷ rest))
+
+-- Calls.
+
+-- what a call in this place may be: a call; or, in the tail of the body of worker g, a branch out of so many blocks to its beginning
+pub data Position : Type 0 where
+  Inside : Position
+  InTail : (g depth : ℕ) → Position
+
+abbrev pub deeper : Position → Position
+deeper Inside = Inside
+deeper (InTail g n) = InTail g (suc n)
+
+-- the operands become the n + 1 parameters
+abbrev pub into_params : ℕ → List Instr → List Instr
+into_params zero rest = LocalSet 0 ∷ rest
+into_params (suc n) rest = LocalSet (suc n) ∷ into_params n rest
+
+-- a branch out of more blocks is a call
+abbrev pub most_blocks : ℕ
+most_blocks = 16383
+
+abbrev pub jumps : ℕ → ℕ → ℕ → Bool
+jumps g h depth = nat_eq g h && nat_le depth most_blocks
+
+-- the worker of g is called with n captured words and an argument
+abbrev pub call_worker : Program → Position → ℕ → ℕ → List Instr → List Instr
+call_worker P Inside g n rest = Call (worker_index P g) ∷ rest
+call_worker P (InTail h depth) g n rest = if jumps g h depth then into_params n (Br depth ∷ rest) else (Call (worker_index P g) ∷ rest)
+
+-- an unknown closure's function is called by its entry of the table; a known one by its worker
+abbrev pub application : Program → List Place → Position → Atom → Atom → Option (ℕ × List Word) → List Instr → List Instr
+application P env at f a None rest = atom env f (atom env a (atom env f (Load 0 ∷ CallClosure ∷ rest)))
+application P env at f a (Some k) rest = push_words k.1 (atom env a (call_worker P at k.0 (length k.1) rest))
+
+-- a binding that needs no code, or one that has code
+abbrev pub choose : Option Place → (Place → List Instr) → List Instr → List Instr
+choose None known_code made_code = made_code
+choose (Some q) known_code made_code = known_code q
+
+module _ (P : Program) where
+  abbrev mutual
+    pub op : List Place → ℕ → Position → Op → List Instr → List Instr
+    op env d at (OConst x) rest = Call (constant_index P x) ∷ rest
+    op env d at (OApp f a) rest = application P env at f a (known_function env f) rest
+    op env d at (OCon c as') rest = block env d (length as' * 65536 + c) as' rest
+    op env d at (OClos g as') rest = block env d (suc g) as' rest
+    op env d at (OCase a bs) rest = atom env a (LocalSet d ∷ empties env d at 0 bs (λ at'. heads env d at' 0 bs) rest)
+
+    pub code : List Place → ℕ → Position → Block → List Instr → List Instr
+    code env d at (RetAtom a) rest = atom env a rest
+    code env d at (LetAtom a t) rest = atom env a (LocalSet d ∷ code (At (InLocal d) ∷ env) (suc d) at t rest)
+    code env d at (Ret p) rest = op env d at p rest
+    code env d at (Let p t) rest = choose (unmade P env p t) (λ q. code (q ∷ env) d at t rest) (op env d Inside p (LocalSet d ∷ code (At (InLocal d) ∷ env) (suc d) at t rest))
+
+    -- the branches without binders, and then `others`
+    pub empties : List Place → ℕ → Position → ℕ → Branches → (Position → List Instr → List Instr) → List Instr → List Instr
+    empties env d at c BNil others rest = others at rest
+    empties env d at c (BCons zero t bs) others rest = LocalGet d ∷ Const (2 * c + 1) ∷ Operation op32.Eq ∷ IfWord ∷ code env (suc d) (deeper at) t (Else ∷ empties env d (deeper at) (suc c) bs others (End ∷ rest))
+    empties env d at c (BCons (suc n) t bs) others rest = empties env d at (suc c) bs others rest
+
+    -- the branches with binders
+    pub heads : List Place → ℕ → Position → ℕ → Branches → List Instr → List Instr
+    heads env d at c BNil rest = Unreachable ∷ rest
+    heads env d at c (BCons zero t bs) rest = heads env d at (suc c) bs rest
+    heads env d at c (BCons (suc n) t bs) rest =
+        LocalGet d ∷ Load 0 ∷ Const (suc n * 65536 + c) ∷ Operation op32.Eq ∷ IfWord ∷ code (fields_of d (suc n) env) (suc d) (deeper at) t (Else ∷ heads env d (deeper at) (suc c) bs (End ∷ rest))

@@ -1,0 +1,76 @@
+-- Where the words of variables are while a function runs, and the closures that are known and made nowhere.
+use Rattle.std.specs.Prelude.{ℕ, zero, suc, ◌+◌, ◌*◌, Bool, false, ◌||◌, nat_eq, List, [], ◌∷◌, Option, Some, None, slice_get}
+use Rattle.std.specs.Option.{option_map, option_and_then}
+use Rattle.anf_convert.specs.declared.program.Atom.{Atom}
+use Rattle.anf_convert.specs.declared.program.Atom.TheVariants.{Var as AVar, Box as ABox, Empty as AEmpty}
+use Rattle.closure_lift.specs.Lifted.{Op, OConst, OApp, OCon, OClos, OCase, Block, RetAtom, LetAtom, Ret, Let, Branches, BNil, BCons}
+-- where a word is: in a local, or in a field of the block whose address is in a local; or which word it is
+pub use Rattle.known_calls.specs.declared.words.Word.{Word}
+pub use Rattle.known_calls.specs.declared.words.Word.TheVariants.{Local as InLocal, Field as InField, Const as IsConst}
+
+-- what an environment has for a variable: where its word is; or the closure that it is, which is made nowhere: its function, and where its captured words are, the last one first
+pub data Place : Type 0 where
+  At : Word → Place
+  Known : (g : ℕ) → (ws : List Word) → Place
+
+abbrev pub word_at : Place → Option Word
+word_at (At w) = Some w
+word_at (Known g ws) = None
+
+abbrev pub word_of : List Place → Atom → Option Word
+word_of env (AVar i) = option_and_then word_at (slice_get env i)
+word_of env ABox = Some (IsConst 0)
+word_of env (AEmpty c) = Some (IsConst (2 * c + 1))
+
+-- the words of atoms, where each has one
+abbrev pub words_of : List Place → List Atom → Option (List Word)
+words_of env [] = Some []
+words_of env (a ∷ as') = option_and_then (λ w. option_map (λ ws. w ∷ ws) (words_of env as')) (word_of env a)
+
+abbrev pub all_at : List Word → List Place
+all_at [] = []
+all_at (w ∷ ws) = At w ∷ all_at ws
+
+-- the n fields of the block whose address is in local x, the last one first
+abbrev pub fields_of : ℕ → ℕ → List Place → List Place
+fields_of x zero env = env
+fields_of x (suc n) env = At (InField x (4 * suc n)) ∷ fields_of x n env
+
+-- the closure that an atom is known to be
+abbrev pub known_at : Place → Option (ℕ × List Word)
+known_at (At w) = None
+known_at (Known g ws) = Some (g, ws)
+
+abbrev pub known_function : List Place → Atom → Option (ℕ × List Word)
+known_function env (AVar i) = option_and_then known_at (slice_get env i)
+known_function env ABox = None
+known_function env (AEmpty c) = None
+
+-- whether an atom names variable i
+abbrev pub names : ℕ → Atom → Bool
+names i (AVar j) = nat_eq i j
+names i ABox = false
+names i (AEmpty c) = false
+
+abbrev pub some_names : ℕ → List Atom → Bool
+some_names i [] = false
+some_names i (a ∷ as') = names i a || some_names i as'
+
+-- whether variable i is named otherwise than as the function of an application
+abbrev mutual
+  pub op_reads : ℕ → Op → Bool
+  op_reads i (OConst x) = false
+  op_reads i (OApp f a) = names i a
+  op_reads i (OCon c as') = some_names i as'
+  op_reads i (OClos g as') = some_names i as'
+  op_reads i (OCase a bs) = names i a || branches_read i bs
+
+  pub block_reads : ℕ → Block → Bool
+  block_reads i (RetAtom a) = names i a
+  block_reads i (LetAtom a t) = names i a || block_reads (suc i) t
+  block_reads i (Ret p) = op_reads i p
+  block_reads i (Let p t) = op_reads i p || block_reads (suc i) t
+
+  pub branches_read : ℕ → Branches → Bool
+  branches_read i BNil = false
+  branches_read i (BCons n t bs) = block_reads (n + i) t || branches_read i bs
