@@ -13,10 +13,16 @@
 #![tactic(auto)]
 
 mod counting;
+mod cutting;
+mod dropping;
 mod filling;
+mod flags;
 mod inlining;
 pub mod laws;
-mod sharing;
+mod noting;
+mod unused;
+mod unwrapping;
 
+pub use dropping::drop_dead_params;
 pub use inlining::inline;
 pub use lambda_box::PassFault;
