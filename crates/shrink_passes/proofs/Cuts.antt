@@ -1,12 +1,17 @@
 -- Arguments dropped all at once: depth, form, names and uses, and one place more.
-use Rattle.std.proofs.Common.{◌≡◌, ℕ, zero, suc, ◌+◌, ◌<◌, ◌≤◌, Bool, true, false, ◌&&◌, ◌||◌, List, [], ◌∷◌, Option, Some, None, refl, sym, ap, ◌∙◌, subst, arith}
+use Rattle.std.proofs.Common.{◌≡◌, ℕ, zero, suc, ◌+◌, ◌<◌, ◌≤◌, Bool, true, false, ◌&&◌, ◌||◌, List, [], ◌∷◌, length, map, Option, Some, None, refl, sym, ap, ◌∙◌, subst, arith}
 use Rattle.std.specs.Prelude.{nat_eq, if◌then◌else◌}
-use Rattle.std.proofs.lemmas.Bool.{eqb-true}
+use Rattle.std.proofs.lemmas.Bool.{eq-eqb}
 use Rattle.trees.specs.Tree.{Rel, Done, Next}
 use Rattle.trees.specs.Measures.{depth, depth_trees}
 use Rattle.trees.specs.Closed.{Closed, ClosedTerms}
 use Rattle.trees.proofs.Bounds.{closed_at}
+use Rattle.pc_terms.specs.declared.leaf.FamilyId.{FamilyId}
 use Rattle.pc_terms.specs.BoxSyntax.{BoxTerm, BoxTerms, Box, BLambda, BLetIn, BApp, BConst, BConstruct, BCase, BFix}
+use Rattle.box_terms.specs.BoxLists.{arms_of, bodies_of, rargs_of}
+use Rattle.box_terms.specs.declared.term.BoxBranch.{BoxBranch}
+use Rattle.box_terms.specs.declared.term.BoxDef.{BoxDef}
+use Rattle.box_passes.specs.Maps.{map_branch, map_def}
 use Rattle.lambda_box.specs.ClosureEvaluation.{names, names_terms}
 use Rattle.shrink_passes.specs.declared.noting.Use.{Use}
 use Rattle.shrink_passes.specs.Uses.{uses, uses_terms}
@@ -16,7 +21,9 @@ use Rattle.shrink_passes.specs.Pruned.{is_dropped, pruned, pruned_terms}
 use Rattle.shrink_passes.proofs.Cutting.{both_hold}
 use Rattle.shrink_passes.proofs.RunShapes.{box_is_box}
 use Rattle.shrink_passes.proofs.Flagging.{and_true}
-use Rattle.shrink_passes.proofs.Noting.{fits_noted}
+use Rattle.shrink_passes.proofs.Mapped.{fix_mapped, case_mapped}
+use Rattle.shrink_passes.proofs.Noted.{fits_noted}
+use Rattle.shrink_passes.proofs.UnusedPlaces.{unused_past}
 use Rattle.shrink_passes.proofs.Spines.{kept_below, is_use, spine_is, spine_no_box, use_used, shorter, spine_pruned, use_shorter, box_shorter, reached_shorter}
 
 module _ (D : ℕ → ℕ → Bool) where
@@ -60,6 +67,12 @@ module _ (D : ℕ → ℕ → Bool) where
     pruned_closed_terms m Done c = tt
     pruned_closed_terms m (Next n t ts) c = (pruned_closed (n + m) t c.0, pruned_closed_terms m ts c.1)
 
+  pub fix_pruned : (ds es : List BoxDef) (i : ℕ) → es ≡ map (map_def (pruned D)) ds → BFix i (rargs_of es) (bodies_of (length es) es) ≡ pruned D (BFix i (rargs_of ds) (bodies_of (length ds) ds))
+  fix_pruned = fix_mapped (pruned D) (pruned_terms D) refl (λ n t ts. refl)
+
+  pub case_pruned : (f : FamilyId) (s s' : BoxTerm) (bs cs : List BoxBranch) → s' ≡ pruned D s → cs ≡ map (map_branch (pruned D)) bs → BCase f s' (arms_of cs) ≡ pruned D (BCase f s (arms_of bs))
+  case_pruned = case_mapped (pruned D) (pruned_terms D) refl (λ n t ts. refl)
+
   pruned_no_box : (t : BoxTerm) (h : Option Use) → spine t ≡ h → is_dropped D h ≡ true → is_box (pruned D t) ≡ false
   pruned_no_box t None e d = absurd (cc)
   pruned_no_box t (Some u) e d = spine_no_box (pruned D t) (record { name = u.name; arguments = kept_below (D u.name.0) u.arguments }) (spine_pruned D t ∙ ap (shorter D) e)
@@ -70,9 +83,14 @@ module _ (D : ℕ → ℕ → Bool) where
       either : (z : Bool) → is_dropped D (spine f) ≡ z → is_box (if z then pruned D f else BApp (pruned D f) (pruned D a)) ≡ false
       either true d = pruned_no_box f (spine f) refl d
       either false d = refl
+  pruned_box (Rel i) = refl
   pruned_box Box = refl
+  pruned_box (BLambda b) = refl
+  pruned_box (BLetIn a t) = refl
   pruned_box (BConst c) = refl
-  pruned_box t = refl
+  pruned_box (BConstruct f c) = refl
+  pruned_box (BCase f s bs) = refl
+  pruned_box (BFix i rargs bodies) = refl
 
   pub pruned_leading : (t : BoxTerm) → leading (pruned D t) ≡ leading t
   pruned_leading (BLambda b) = ap suc (pruned_leading b)
@@ -89,8 +107,13 @@ module _ (D : ℕ → ℕ → Bool) where
           go None e d = absurd (cc)
           go (Some u) e d = no_lambda (pruned D f) (record { name = u.name; arguments = kept_below (D u.name.0) u.arguments }) (spine_pruned D f ∙ ap (shorter D) e)
       either false d = refl
+  pruned_leading (Rel i) = refl
+  pruned_leading Box = refl
+  pruned_leading (BLetIn a t) = refl
   pruned_leading (BConst c) = refl
-  pruned_leading t = refl
+  pruned_leading (BConstruct f c) = refl
+  pruned_leading (BCase f s bs) = refl
+  pruned_leading (BFix i rargs bodies) = refl
 
   -- every argument that is dropped is box
   abbrev mutual
@@ -116,7 +139,7 @@ module _ (D : ℕ → ℕ → Bool) where
   from_fits t h j r d = (both_hold (noted j r t) (is_reached j r (spine t)) (sym (fits_noted j r t) ∙ h j r d)).0
 
   there_box : (u : Use) (a : BoxTerm) → box_there u.name.0 u.arguments (Some u) a ≡ true → a ≡ Box
-  there_box u a e = go (nat_eq u.name.0 u.name.0) (nat_eq u.arguments u.arguments) (grind arith) (grind arith) e
+  there_box u a e = go (nat_eq u.name.0 u.name.0) (nat_eq u.arguments u.arguments) (eq-eqb u.name.0 u.name.0 refl) (eq-eqb u.arguments u.arguments refl) e
     where
       go : (y z : Bool) → y ≡ true → z ≡ true → (if y then (if z then is_box a else true) else true) ≡ true → a ≡ Box
       go true true p q e = box_is_box a e
@@ -194,14 +217,7 @@ module _ (D : ℕ → ℕ → Bool) where
   pub pruned_unused : (t : BoxTerm) → Boxes t → (p : ℕ) → is_unused p (pruned D t) ≡ is_unused p t
   pruned_unused (BLambda b) h zero = ap (λ z. if z then false else true) (pruned_names b h 0)
   pruned_unused (BLambda b) h (suc p) = pruned_unused b h p
-  pruned_unused (BApp f a) h p = no_lambda (pruned D (BApp f a)) p (pruned_leading (BApp f a))
-    where
-      no_lambda : (t : BoxTerm) (p : ℕ) → leading t ≡ 0 → is_unused p t ≡ false
-      no_lambda (BLambda b) p e = absurd (omega (arith, e))
-      no_lambda t zero e = refl
-      no_lambda t (suc p) e = refl
-  pruned_unused (BConst c) h p = refl
-  pruned_unused t h p = refl
+  pruned_unused t h p = unused_past p (pruned D t) (omega (arith, pruned_leading t)) ∙ sym (unused_past p t (omega arith))
 
   mutual
     pub pruned_uses : (j : ℕ) (t : BoxTerm) → Boxes t → uses j (pruned D t) ≡ uses j t

@@ -20,13 +20,14 @@ use Rattle.shrink_passes.specs.Pruned.{is_dropped, pruned, pruned_terms, pruned_
 use Rattle.shrink_passes.proofs.Forming.{Fresh, Apart, apart_from, done_ordered, done_apart, named_unused, ordered_unused, body_form, body_unused, Later, later}
 use Rattle.shrink_passes.proofs.Deciding.{start_program}
 use Rattle.shrink_passes.proofs.Cutting.{both_hold, fits_unused}
-use Rattle.shrink_passes.proofs.DropSteps.{params_steps, step}
+use Rattle.shrink_passes.specs.ShrinkLaws.{Shrinks}
+use Rattle.shrink_passes.proofs.DropSteps.{params_steps, step, drop_is_right}
 use Rattle.shrink_passes.proofs.Thinning.{Thins, thins_rel, thins_over, thins_first}
 use Rattle.shrink_passes.proofs.Flagging.{and_true, and_more, nat_eq_no, below_true, below_false}
-use Rattle.shrink_passes.proofs.Unused.{unused_past, unused_leads}
+use Rattle.shrink_passes.proofs.UnusedPlaces.{unused_past, unused_leads}
 use Rattle.shrink_passes.proofs.Spines.{kept_below, kept_more, kept_same, kept_agree}
 use Rattle.shrink_passes.proofs.Cuts.{Boxes, boxes_of_fits, pruned_closed, pruned_leading, pruned_unused, pruned_uses, pruned_same, fits_pruned, cut_pruned}
-use Rattle.shrink_passes.proofs.Unwrapping.{lambdas_more, unused_under, without_under, put_over, over_unnamed}
+use Rattle.shrink_passes.proofs.Unwrapped.{lambdas_more, unused_under, without_under, put_over, over_unnamed}
 
 differs : false ≡ true → ⊥
 differs e = cc
@@ -261,51 +262,57 @@ module _ (T : ℕ → ℕ → Bool) (Fs : List BoxFamily) (main : BoxTerm) where
       abbrev end : ℕ → BoxTerm → BoxTerm × (BoxTerm → BoxTerm)
       end n t = (lambdas n t, pruned after)
 
+      abbrev losing : ℕ → (ℕ → BoxTerm) → BoxTerm → Going
+      losing q s r = (P q, without_lambda (P q) (lambdas (P q) (substitute s (BLambda r))), (λ t. cut k (P q) (pruned (upto q) t)))
+
+      abbrev keeping : ℕ → (ℕ → BoxTerm) → BoxTerm → Going
+      keeping q s r = (suc (P q), lambdas (P q) (substitute s (BLambda r)), pruned (upto q))
+
       gone : (q : ℕ) (s : ℕ → BoxTerm) (r : BoxTerm) → T k q ≡ true →
-          ◌≡◌ {A = Going} (P q, without_lambda (P q) (lambdas (P q) (substitute s (BLambda r))), (λ t. cut k (P q) (pruned (upto q) t))) (at (suc q) (first Box s) r)
-      gone q s r t =
-          let n : P q ≡ P (suc q) = sym (kept_same (T k) q t) in
+          ◌≡◌ {A = Going} (losing q s r) (at (suc q) (first Box s) r)
+      gone q s r dead =
+          let n : P q ≡ P (suc q) = sym (kept_same (T k) q dead) in
           let b : without_lambda (P q) (lambdas (P q) (substitute s (BLambda r))) ≡ lambdas (P (suc q)) (substitute (first Box s) r) =
           without_under (P q) (substitute (over s) r) ∙ ap (lambdas (P q)) (put_over s r) ∙ ap (λ n. lambdas n (substitute (first Box s) r)) n in
           let f : ◌≡◌ {A = BoxTerm → BoxTerm} (λ t. cut k (P q) (pruned (upto q) t)) (pruned (upto (suc q))) =
-          fun_ext (λ t. ap (λ n. cut k n (pruned (upto q) t)) (sym (upto_kept q)) ∙ cut_pruned (upto q) k q (upto_out q) (upto (suc q)) (upto_more q t) t) in
+          fun_ext (λ t. ap (λ n. cut k n (pruned (upto q) t)) (sym (upto_kept q)) ∙ cut_pruned (upto q) k q (upto_out q) (upto (suc q)) (upto_more q dead) t) in
           λ i. (n i, b i, f i)
 
-      passed : (q : ℕ) (s : ℕ → BoxTerm) (r : BoxTerm) → T k q ≡ false → ◌≡◌ {A = Going} (suc (P q), lambdas (P q) (substitute s (BLambda r)), pruned (upto q)) (at (suc q) (over s) r)
+      passed : (q : ℕ) (s : ℕ → BoxTerm) (r : BoxTerm) → T k q ≡ false → ◌≡◌ {A = Going} (keeping q s r) (at (suc q) (over s) r)
       passed q s r t =
           let n : suc (P q) ≡ P (suc q) = sym (kept_more (T k) q t) in
           let b : lambdas (P q) (substitute s (BLambda r)) ≡ lambdas (P (suc q)) (substitute (over s) r) = lambdas_more (P q) (substitute (over s) r) ∙ ap (λ n. lambdas n (substitute (over s) r)) n in
           let f = ap pruned (same_table (upto q) (upto (suc q)) (upto_same q t)) in
           λ i. (n i, b i, f i)
 
+      abbrev Ends : ℕ → ℕ → (ℕ → BoxTerm) → BoxTerm → Bool → Type 0
+      Ends n q s r z = (if is_dead Fs done d (P q) (lambdas (P q) (substitute s (BLambda r))) (pruned (upto q)) rest main then steps n (losing q s r) else steps n (keeping q s r)) ≡
+          end (P q) (if z then unwrapped (T k) (suc q) (first Box s) r else BLambda (unwrapped (T k) (suc q) (over s) r))
+
       params : (n q : ℕ) (s : ℕ → BoxTerm) (r : BoxTerm) → leading r ≡ n → Thins s → Inside q r → GoingForm (at q s r) → steps n (at q s r) ≡ end (P q) (unwrapped (T k) q s r)
       params zero q s r l th u ok =
           let f = ap pruned (same_table (upto q) after (all_upto q r l u)) in
           λ i. (lambdas (P q) (unwrapped_none (T k) q s r l i), f i)
-      params (suc n) q s (BLambda r) l th u ok = either (T k q) refl
+      params (suc n) q s (BLambda r) l th u ok =
+          let dead = decision q s th r (first_inside q r u) ok in
+          either (T k q) refl
+          (λ t.
+          let g = gone q s r t in
+          let form : GoingForm (losing q s r) = (step Fs done d rest main (P q) (lambdas (P q) (substitute s (BLambda r))) (pruned (upto q)) ok (dead ∙ t)).form in
+          ap (λ z. if z then steps n (losing q s r) else steps n (keeping q s r)) (dead ∙ t) ∙ ap (steps n) g
+          ∙ params n (suc q) (first Box s) r (omega (arith, l)) (thins_first th) (next_inside q r u) (subst GoingForm g form)
+          ∙ ap (λ m. end m (unwrapped (T k) (suc q) (first Box s) r)) (kept_same (T k) q t))
+          (λ t.
+          let g = passed q s r t in
+          let y = unwrapped (T k) (suc q) (over s) r in
+          let m : lambdas (P (suc q)) y ≡ lambdas (P q) (BLambda y) = ap (λ m. lambdas m y) (kept_more (T k) q t) ∙ sym (lambdas_more (P q) y) in
+          ap (λ z. if z then steps n (losing q s r) else steps n (keeping q s r)) (dead ∙ t) ∙ ap (steps n) g
+          ∙ params n (suc q) (over s) r (omega (arith, l)) (thins_over th) (next_inside q r u) (subst GoingForm g ok)
+          ∙ (λ i. (m i, pruned after)))
         where
-          dead : is_dead Fs done d (P q) (lambdas (P q) (substitute s (BLambda r))) (pruned (upto q)) rest main ≡ T k q
-          dead = decision q s th r (first_inside q r u) ok
-
-          abbrev without : Going
-          without = (P q, without_lambda (P q) (lambdas (P q) (substitute s (BLambda r))), (λ t. cut k (P q) (pruned (upto q) t)))
-
-          abbrev with : Going
-          with = (suc (P q), lambdas (P q) (substitute s (BLambda r)), pruned (upto q))
-
-          either : (z : Bool) → T k q ≡ z → (if is_dead Fs done d (P q) (lambdas (P q) (substitute s (BLambda r))) (pruned (upto q)) rest main then steps n without else steps n with) ≡
-              end (P q) (if z then unwrapped (T k) (suc q) (first Box s) r else BLambda (unwrapped (T k) (suc q) (over s) r))
-          either true t =
-              let g = gone q s r t in
-              let form : GoingForm without = (step Fs done d rest main (P q) (lambdas (P q) (substitute s (BLambda r))) (pruned (upto q)) ok (dead ∙ t)).form in
-              ap (λ z. if z then steps n without else steps n with) (dead ∙ t) ∙ ap (steps n) g
-              ∙ params n (suc q) (first Box s) r (omega (arith, l)) (thins_first th) (next_inside q r u) (subst GoingForm g form)
-              ∙ ap (λ m. end m (unwrapped (T k) (suc q) (first Box s) r)) (kept_same (T k) q t)
-          either false t =
-              let g = passed q s r t in
-              ap (λ z. if z then steps n without else steps n with) (dead ∙ t) ∙ ap (steps n) g
-              ∙ params n (suc q) (over s) r (omega (arith, l)) (thins_over th) (next_inside q r u) (subst GoingForm g ok)
-              ∙ (λ i. ((ap (λ m. lambdas m (unwrapped (T k) (suc q) (over s) r)) (kept_more (T k) q t) ∙ sym (lambdas_more (P q) (unwrapped (T k) (suc q) (over s) r))) i, pruned after))
+          either : (z : Bool) → T k q ≡ z → (T k q ≡ true → Ends n q s r true) → (T k q ≡ false → Ends n q s r false) → Ends n q s r z
+          either true t f g = f t
+          either false t f g = g t
       params (suc n) q s r l th u ok = absurd (omega (arith, l))
 
       -- the constant
@@ -449,3 +456,25 @@ module _ (P : BoxProgram) (ok : IsBoxProgram P) where
 
   pub all_ready : AreReady T (reverse P.constants)
   all_ready = ready_from [] (reverse P.constants) start known
+
+-- the code's loop: D is the table, as the walk at the start left it
+
+pub same_places : (P : BoxProgram) (D : ℕ → ℕ → Bool) → ((k q : ℕ) → D k q ≡ is_dead_place P k q) → D ≡ is_dead_place P
+same_places P D e = fun_ext (λ k. fun_ext (e k))
+
+pub loop_ready : (P : BoxProgram) → IsBoxProgram P → (D : ℕ → ℕ → Bool) → ((k q : ℕ) → D k q ≡ is_dead_place P k q) → (items : List BoxConstant) → items ≡ reverse P.constants → AreReady D items
+loop_ready P ok D e items order =
+    subst (λ (E : ℕ → ℕ → Bool). AreReady E items) (sym (same_places P D e)) (subst (AreReady (is_dead_place P)) (sym order) (all_ready P ok))
+
+pub record IsDropped (P Q : BoxProgram) : Type 0 where
+  pub is : Q ≡ drop_program P
+  pub shrinks : Shrinks P Q
+
+pub loop_dropped : (P : BoxProgram) → IsBoxProgram P → (D : ℕ → ℕ → Bool) → ((k q : ℕ) → D k q ≡ is_dead_place P k q) → (items : List BoxConstant) → items ≡ reverse P.constants →
+    (done rest : List BoxConstant) (Fs : List BoxFamily) (main : BoxTerm) → through D rest done ≡ through D items [] → rest ≡ [] → Fs ≡ P.families → main ≡ pruned D P.main → IsDropped P (record { constants = done; families = Fs; main = main })
+loop_dropped P ok D e items order done rest Fs main same none f m =
+    let t = same_places P D e in
+    let cs : done ≡ through (is_dead_place P) (reverse P.constants) [] = sym (ap (λ ds. through D ds done) none) ∙ same ∙ (λ i. through (t i) (order i) []) in
+    let is : ◌≡◌ {A = BoxProgram} (record { constants = done; families = Fs; main = main }) (drop_program P) =
+    (λ i. record { constants = cs i; families = f i; main = (m ∙ ap (λ E. pruned E P.main) t) i }) ∙ sym (dropped_at_once P ok) in
+    record { is = is; shrinks = subst (λ Q. Shrinks P Q) (sym is) (drop_is_right P ok) }

@@ -1,10 +1,9 @@
--- Truths by place: lists that lose some, tables of lists, and truths in the other order.
-use Rattle.std.proofs.Common.{◌≡◌, ℕ, zero, suc, ◌+◌, ◌<◌, ◌≤◌, Bool, true, false, ◌&&◌, List, [], ◌∷◌, ◌++◌, length, reverse, set, take, Option, Some, None, refl, sym, ap, ◌∙◌, subst, arith}
-use Rattle.std.specs.Prelude.{nat_eq, cond, if◌then◌else◌}
+-- Truths by place: lists that lose some, and truths in the other order.
+use Rattle.std.proofs.Common.{◌≡◌, ℕ, zero, suc, ◌+◌, ◌<◌, ◌≤◌, Bool, true, false, ◌&&◌, List, [], ◌∷◌, ◌++◌, length, get_or, reverse, set, take, Result, Ok, Err, refl, sym, ap, ◌∙◌, subst, arith}
+use Rattle.std.specs.Prelude.{nat_eq, IfOk, OnOk, if◌then◌else◌}
 use Rattle.std.proofs.lemmas.Bool.{eqb-true, eq-eqb}
 use Rattle.std.proofs.lemmas.List.{reverse-append, length-reverse}
-use Rattle.shrink_passes.specs.declared.flags.Loss.{Loss}
-use Rattle.shrink_passes.specs.DeadPlaces.{flag_at, is_below, keeps, keeps_place, has_place, is_place}
+use Rattle.shrink_passes.specs.DeadPlaces.{flag_at, is_below}
 
 pub and_true : (x : Bool) → (x && true) ≡ x
 and_true true = refl
@@ -70,6 +69,11 @@ flag_cleared (x ∷ xs) zero (suc p) = let e : nat_eq 0 (suc p) ≡ false = grin
 flag_cleared (x ∷ xs) (suc i) zero = let e : nat_eq (suc i) 0 ≡ false = grind arith in sym (ap (λ z. x && (if z then false else true)) e ∙ and_true x)
 flag_cleared (x ∷ xs) (suc i) (suc p) = flag_cleared xs i p ∙ ap (λ z. flag_at p xs && (if z then false else true)) (sym (nat_eq_suc i p))
 
+pub flag_there : (xs : List Bool) (p : ℕ) (x : Bool) → p < length xs → get_or xs p x ≡ flag_at p xs
+flag_there [] p x l = absurd (omega arith)
+flag_there (y ∷ xs) zero x l = refl
+flag_there (y ∷ xs) (suc p) x l = flag_there xs p x (omega arith)
+
 pub flag_past : (xs : List Bool) (p : ℕ) → length xs ≤ p → flag_at p xs ≡ false
 flag_past [] p l = refl
 flag_past (x ∷ xs) zero l = absurd (omega arith)
@@ -105,28 +109,11 @@ flag_reversed [] p q e = absurd (omega arith)
 flag_reversed (x ∷ xs) p zero e = ap (flag_at p) (reverse-append (x ∷ []) xs) ∙ flag_last (reverse xs) x p (omega (arith, length-reverse xs))
 flag_reversed (x ∷ xs) p (suc q) e = ap (flag_at p) (reverse-append (x ∷ []) xs) ∙ flag_before (reverse xs) (x ∷ []) p (omega (arith, length-reverse xs)) ∙ flag_reversed xs p q (omega arith)
 
--- a table in which one constant loses some places
+-- what an answer says, said otherwise
+pub on_ok_map : {V E P Q : Type 0} (r : Result V E) → (P → Q) → OnOk r P → OnOk r Q
+on_ok_map (Ok v) f h = f h
+on_ok_map (Err e) f h = h
 
-pub table_loses : (old mid new : ℕ → Option (List Bool)) (n : ℕ) (v w : List Bool) (l : Loss) → old n ≡ Some v → ((k : ℕ) → mid k ≡ cond (nat_eq n k) None (old k)) → ((k : ℕ) → new k ≡ cond (nat_eq n k) (Some w) (mid k)) →
-    ((p : ℕ) → flag_at p w ≡ (flag_at p v && keeps l p)) → (k p : ℕ) → is_place new k p ≡ (is_place old k p && keeps_place n l k p)
-table_loses old mid new n v w l at out put is k p = either (nat_eq n k) refl
-  where
-    either : (z : Bool) → nat_eq n k ≡ z → has_place (new k) p ≡ (has_place (old k) p && (if z then keeps l p else true))
-    either true e =
-        let q : n ≡ k = eqb-true n k e in
-        let here : new k ≡ Some w = put k ∙ ap (λ z. cond z (Some w) (mid k)) e in
-        let there : old k ≡ Some v = ap old (sym q) ∙ at in
-        ap (λ o. has_place o p) here ∙ is p ∙ sym (ap (λ o. has_place o p && keeps l p) there)
-    either false e =
-        let here : new k ≡ old k = put k ∙ ap (λ z. cond z (Some w) (mid k)) e ∙ out k ∙ ap (λ z. cond z None (old k)) e in
-        ap (λ o. has_place o p) here ∙ sym (and_true (has_place (old k) p))
-
-pub table_without : (old mid : ℕ → Option (List Bool)) (n : ℕ) (l : Loss) → old n ≡ None → ((k : ℕ) → mid k ≡ cond (nat_eq n k) None (old k)) → (k p : ℕ) → is_place mid k p ≡ (is_place old k p && keeps_place n l k p)
-table_without old mid n l at out k p = either (nat_eq n k) refl
-  where
-    either : (z : Bool) → nat_eq n k ≡ z → has_place (mid k) p ≡ (has_place (old k) p && (if z then keeps l p else true))
-    either true e =
-        let here : mid k ≡ None = out k ∙ ap (λ z. cond z None (old k)) e in
-        let there : old k ≡ None = ap old (sym (eqb-true n k e)) ∙ at in
-        ap (λ o. has_place o p) here ∙ sym (ap (λ o. has_place o p && keeps l p) there)
-    either false e = ap (λ o. has_place o p) (out k ∙ ap (λ z. cond z None (old k)) e) ∙ sym (and_true (has_place (old k) p))
+pub if_ok_map : {V E : Type 0} {P Q : V → Type 0} (r : Result V E) → ((v : V) → P v → Q v) → IfOk r P → IfOk r Q
+if_ok_map (Ok v) f h = f v h
+if_ok_map (Err e) f h = h

@@ -16,11 +16,11 @@ pub mod DropFollowing
 pub mod DropSteps
 pub mod Examples
 pub mod Flagging
-pub mod Unused
-pub mod Noting
+pub mod UnusedPlaces
+pub mod Noted
 pub mod Spines
 pub mod Cuts
-pub mod Unwrapping
+pub mod Unwrapped
 pub mod DropStages
 pub mod ShrunkNarrow
 pub mod ShrunkPrograms

@@ -21,11 +21,12 @@ use Rattle.shrink_passes.proofs.DropSteps.{drop_is_right}
 
 inline_families : (Fs : List BoxFamily) (done : List BoxConstant) (f : BoxTerm → BoxTerm) (rest : List BoxConstant) (main : BoxTerm) → (inline_from Fs done f rest main).families ≡ Fs
 inline_families Fs done f [] main = refl
-inline_families Fs done f (d ∷ rest) main = either (is_put_in Fs done f d rest main)
+inline_families Fs done f (d ∷ rest) main = either (is_put_in Fs done f d rest main) (inline_families Fs done (with_body f d) rest main) (inline_families Fs (changed f d ∷ done) f rest main)
   where
-    either : (z : Bool) → (if z then inline_from Fs done (with_body f d) rest main else inline_from Fs (changed f d ∷ done) f rest main).families ≡ Fs
-    either true = inline_families Fs done (with_body f d) rest main
-    either false = inline_families Fs (changed f d ∷ done) f rest main
+    either : (z : Bool) → (inline_from Fs done (with_body f d) rest main).families ≡ Fs → (inline_from Fs (changed f d ∷ done) f rest main).families ≡ Fs →
+        (if z then inline_from Fs done (with_body f d) rest main else inline_from Fs (changed f d ∷ done) f rest main).families ≡ Fs
+    either true x y = x
+    either false x y = y
 
 drop_families : (Fs : List BoxFamily) (done : List BoxConstant) (f : BoxTerm → BoxTerm) (rest : List BoxConstant) (main : BoxTerm) → (drop_from Fs done f rest main).families ≡ Fs
 drop_families Fs done f [] main = refl

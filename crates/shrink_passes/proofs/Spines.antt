@@ -132,8 +132,14 @@ module _ (D : ℕ → ℕ → Bool) where
 
   pub spine_pruned : (t : BoxTerm) → spine (pruned D t) ≡ shorter (spine t)
   spine_pruned (BApp f a) = shorter_more (pruned D f) (pruned D a) (spine f) (is_dropped D (spine f)) refl (spine_pruned f)
+  spine_pruned (Rel i) = refl
+  spine_pruned Box = refl
+  spine_pruned (BLambda b) = refl
+  spine_pruned (BLetIn a t) = refl
   spine_pruned (BConst c) = refl
-  spine_pruned t = refl
+  spine_pruned (BConstruct f c) = refl
+  spine_pruned (BCase f s bs) = refl
+  spine_pruned (BFix i rargs bodies) = refl
 
   -- for place q of constant k, which isn't dropped
   module _ (k q : ℕ) (out : D k q ≡ false) where

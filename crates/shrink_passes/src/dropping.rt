@@ -12,7 +12,7 @@ ghost use Rattle.shrink_passes.specs.DeadPlaces.{is_place};
 ghost use Rattle.shrink_passes.specs.Pruned.{pruned, pruned_constant};
 ghost use Rattle.shrink_passes.specs.ShrinkLaws.{KeepsRuns};
 
-use crate::cutting::cut;
+use crate::pruning::prune;
 use crate::flags::Flags;
 use crate::noting::dead_places;
 use crate::unwrapping::without_places;
@@ -32,7 +32,7 @@ fn without_params(
     ensures ok { IfOk result (λ u. u ≡ pruned_constant (is_place (get nat_eq table.now)) d.now) }
     ensures only_memory { IfErr result (λ e. e ≡ Memory) }
 {
-    let body = cut(alloc, table, &d.body)?;
+    let body = prune(alloc, table, &d.body)?;
     let name = d.name;
     match table.get(&name.0) {
         None => Ok(BoxConstant { name, body }),
@@ -70,7 +70,7 @@ pub fn drop_dead_params(alloc: Global, p: &BoxProgram) -> Result<BoxProgram, Pas
             return Err(PassFault::Memory);
         }
     }
-    let main = cut(alloc, &table, &p.main)?;
+    let main = prune(alloc, &table, &p.main)?;
     let Ok(families) = p.families.copied(alloc) else {
         return Err(PassFault::Memory);
     };

@@ -33,6 +33,7 @@ impl Model for Flags {
 
 impl Flags {
     /// True for each of the first `n` places. Only `Memory`.
+    #[tactic(auto, using(crate::proofs::Flagging::trues_more, crate::proofs::Flagging::flag_trues, crate::proofs::Flagging::length_trues))]
     pub(crate) fn all(alloc: Global, n: u32) -> Result<Flags, PassFault>
         ensures is { IfOk result (λ xs. (p : ℕ) → flag_at p xs ≡ is_below p n) }
         ensures len { IfOk result (λ xs. length xs ≡ n) }
@@ -51,9 +52,11 @@ impl Flags {
     pub(crate) fn at(&self, p: usize) -> bool
         ensures is { result ≡ flag_at p self.now }
     {
-        match self.items.get(p) {
-            Some(flag) => *flag,
-            None => false,
+        let n = self.items.len();
+        if p < n {
+            self.items[p]
+        } else {
+            false
         }
     }
 

@@ -51,6 +51,14 @@ fn new_variable(alloc: Global, dropped: bool, n: u32) -> Result<BoxTerm, PassFau
     }
 }
 
+/// How many places there are with one more that is dropped or not.
+fn with_place(count: u32, dropped: bool) -> u32
+    requires room { count < 2048 }
+    ensures is { result ≡ count + (if dropped then 0 else 1) }
+{
+    if dropped { count } else { count + 1 }
+}
+
 /// How many of the first `n` places aren't dropped.
 fn kept_places(dead: &Flags, n: usize) -> u32
     requires small { n ≤ 2048 }
@@ -58,14 +66,13 @@ fn kept_places(dead: &Flags, n: usize) -> u32
 {
     let mut count = 0;
     for p in 0..n {
-        if !dead.at(p) {
-            count += 1;
-        }
+        count = with_place(count, dead.at(p));
     }
     count
 }
 
 /// What stands for the variables of the first `n` lambdas, the last one for the innermost. Only `Memory`.
+#[tactic(auto, using(std::proofs::lemmas::Grind::common_steps))]
 fn new_variables(alloc: Global, dead: &Flags, n: usize) -> Result<BoxTerms, PassFault>
     requires small { n ≤ 2048 }
     ensures is { IfOk result (λ xs. xs ≡ variables (λ p. flag_at p dead.now) 0 n) }

@@ -5,6 +5,6 @@ use Rattle.shrink_passes.proofs.unwrapping.kept_places.Given as goal
 
 abbrev pub invariant-loop-p : goal.invariant-loop-p
 invariant-loop-p l = record {
-  counted : l.count + kept (λ p. flag_at p l.dead.now) l.p (l.n - l.p) ≡ kept (λ p. flag_at p l.dead.now) 0 l.n;
+  counted : l.count + kept (λ p. flag_at p l.dead) l.p (l.n - l.p) ≡ kept (λ p. flag_at p l.dead) 0 l.n;
   few : l.count ≤ l.p;
 }

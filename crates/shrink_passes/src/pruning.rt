@@ -18,7 +18,7 @@ use std::collections::HashMap;
 
 /// What a term becomes.
 #[derive(Drop)]
-struct Cut {
+struct Pruned {
     /// The term without the arguments.
     term: BoxTerm,
     /// The use of a constant that the term was, with its arguments.
@@ -39,12 +39,12 @@ fn drops(table: &HashMap<u32, Flags>, head: Option<Use>) -> bool
 }
 
 /// A term that stays, with no use that it is. Only `Memory`.
-fn same(t: &BoxTerm) -> Result<Cut, PassFault>
+fn same(t: &BoxTerm) -> Result<Pruned, PassFault>
     ensures ok { IfOk result (λ u. (u.term ≡ t.now) × (u.head ≡ None)) }
     ensures only_memory { IfErr result (λ e. e ≡ Memory) }
 {
     let term = shared(t)?;
-    Ok(Cut { term, head: None })
+    Ok(Pruned { term, head: None })
 }
 
 /// The term of a node, where it is what the term `t` becomes, with the use that `t` was. Only `Memory`.
@@ -54,21 +54,21 @@ fn made(
     t: &BoxTerm,
     node: BoxNode,
     head: Option<Use>,
-) -> Result<Cut, PassFault>
+) -> Result<Pruned, PassFault>
     requires is { box_of node ≡ pruned (is_place (get nat_eq table.now)) t.now }
     ensures ok { IfOk result (λ u. (u.term ≡ pruned (is_place (get nat_eq table.now)) t.now) × (u.head ≡ head)) }
     ensures only_memory { IfErr result (λ e. e ≡ Memory) }
 {
     let _within = t.depth();
     match BoxTerm::make(alloc, node) {
-        Ok(term) => Ok(Cut { term, head }),
+        Ok(term) => Ok(Pruned { term, head }),
         Err(MakeFault::TooDeep) => Err(PassFault::TooDeep),
         Err(MakeFault::Memory) => Err(PassFault::Memory),
     }
 }
 
 /// The term without the arguments at the places of the table. It calls itself for subterms alone. Only `Memory`.
-pub(crate) fn cut(
+pub(crate) fn prune(
     alloc: Global,
     table: &HashMap<u32, Flags>,
     t: &BoxTerm,
@@ -76,18 +76,18 @@ pub(crate) fn cut(
     ensures ok { IfOk result (λ u. u ≡ pruned (is_place (get nat_eq table.now)) t.now) }
     ensures only_memory { IfErr result (λ e. e ≡ Memory) }
 {
-    let Cut { term, head: _ } = cut_head(alloc, table, t)?;
+    let Pruned { term, head: _ } = prune_head(alloc, table, t)?;
     Ok(term)
 }
 
 /// A term as the head of arguments, without the arguments at the places of the table. Only `Memory`.
-#[cycle(cut)]
+#[cycle(prune)]
 #[tactic(auto, using(std::proofs::lemmas::Grind::common_steps))]
-fn cut_head(
+fn prune_head(
     alloc: Global,
     table: &HashMap<u32, Flags>,
     t: &BoxTerm,
-) -> Result<Cut, PassFault>
+) -> Result<Pruned, PassFault>
     ensures ok { IfOk result (λ u. (u.term ≡ pruned (is_place (get nat_eq table.now)) t.now) × (u.head ≡ spine t.now)) }
     ensures only_memory { IfErr result (λ e. e ≡ Memory) }
 {
@@ -95,33 +95,33 @@ fn cut_head(
         BoxNode::Boxed => same(t),
         BoxNode::Rel(_) => same(t),
         BoxNode::Lambda(b) => {
-            let Cut { term: body, head: _ } = cut_head(alloc, table, b)?;
+            let Pruned { term: body, head: _ } = prune_head(alloc, table, b)?;
             if body.shares_node(b) {
                 return same(t);
             }
             made(alloc, table, t, BoxNode::Lambda(body), None)
         }
         BoxNode::LetIn(v, b) => {
-            let Cut { term: value, head: _ } = cut_head(alloc, table, v)?;
-            let Cut { term: body, head: _ } = cut_head(alloc, table, b)?;
+            let Pruned { term: value, head: _ } = prune_head(alloc, table, v)?;
+            let Pruned { term: body, head: _ } = prune_head(alloc, table, b)?;
             if value.shares_node(v) && body.shares_node(b) {
                 return same(t);
             }
             made(alloc, table, t, BoxNode::LetIn(value, body), None)
         }
         BoxNode::App(f, a) => {
-            let Cut { term: function, head } = cut_head(alloc, table, f)?;
+            let Pruned { term: function, head } = prune_head(alloc, table, f)?;
             let whole = with_argument(f, head);
             if drops(table, head) {
-                return Ok(Cut {
+                return Ok(Pruned {
                     term: function,
                     head: whole,
                 });
             }
-            let Cut { term: argument, head: _ } = cut_head(alloc, table, a)?;
+            let Pruned { term: argument, head: _ } = prune_head(alloc, table, a)?;
             if function.shares_node(f) && argument.shares_node(a) {
                 let term = shared(t)?;
-                return Ok(Cut { term, head: whole });
+                return Ok(Pruned { term, head: whole });
             }
             made(alloc, table, t, BoxNode::App(function, argument), whole)
         }
@@ -131,19 +131,19 @@ fn cut_head(
                 name: *name,
                 arguments: 0,
             });
-            Ok(Cut { term, head })
+            Ok(Pruned { term, head })
         }
         BoxNode::Construct(_, _) => same(t),
         BoxNode::Case(f, s, bs) => {
-            let Cut { term: scrut, head: _ } = cut_head(alloc, table, s)?;
-            let branches = cut_branches(alloc, table, bs)?;
+            let Pruned { term: scrut, head: _ } = prune_head(alloc, table, s)?;
+            let branches = prune_branches(alloc, table, bs)?;
             if scrut.shares_node(s) && share_branches(&branches, bs) {
                 return same(t);
             }
             made(alloc, table, t, BoxNode::Case(*f, scrut, branches), None)
         }
         BoxNode::Fix(ds, i) => {
-            let defs = cut_defs(alloc, table, ds)?;
+            let defs = prune_defs(alloc, table, ds)?;
             if share_defs(&defs, ds) {
                 return same(t);
             }
@@ -153,9 +153,9 @@ fn cut_head(
 }
 
 /// The branches without the arguments at the places of the table. Only `Memory`.
-#[cycle(cut)]
+#[cycle(prune)]
 #[tactic(auto, using(std::proofs::lemmas::Grind::common_steps))]
-fn cut_branches(
+fn prune_branches(
     alloc: Global,
     table: &HashMap<u32, Flags>,
     bs: &BoxBranches,
@@ -167,7 +167,7 @@ fn cut_branches(
     let mut items = Vec::new(alloc);
     for i in 0..xs.len() {
         let arm = &xs[i];
-        let Cut { term: body, head: _ } = cut_head(alloc, table, &arm.body)?;
+        let Pruned { term: body, head: _ } = prune_head(alloc, table, &arm.body)?;
         let binders = arm.binders;
         if items.push(BoxBranch { binders, body }).is_err() {
             return Err(PassFault::Memory);
@@ -177,9 +177,9 @@ fn cut_branches(
 }
 
 /// The definitions without the arguments at the places of the table. Only `Memory`.
-#[cycle(cut)]
+#[cycle(prune)]
 #[tactic(auto, using(std::proofs::lemmas::Grind::common_steps))]
-fn cut_defs(
+fn prune_defs(
     alloc: Global,
     table: &HashMap<u32, Flags>,
     ds: &BoxDefs,
@@ -191,7 +191,7 @@ fn cut_defs(
     let mut items = Vec::new(alloc);
     for i in 0..xs.len() {
         let def = &xs[i];
-        let Cut { term: body, head: _ } = cut_head(alloc, table, &def.body)?;
+        let Pruned { term: body, head: _ } = prune_head(alloc, table, &def.body)?;
         let rarg = def.rarg;
         if items.push(BoxDef { body, rarg }).is_err() {
             return Err(PassFault::Memory);

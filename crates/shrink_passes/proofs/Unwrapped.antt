@@ -1,11 +1,11 @@
 -- Leading lambdas dropped one by one, and all at once.
-use Rattle.std.proofs.Common.{◌≡◌, ℕ, zero, suc, ◌+◌, ◌<◌, ◌≤◌, ◌^◌, max, Bool, true, false, ◌||◌, List, [], ◌∷◌, length, refl, sym, ap, ◌∙◌, subst, arith, ◌⊎◌, inl, inr, ⊎_elim}
+use Rattle.std.proofs.Common.{◌≡◌, ℕ, zero, suc, ◌+◌, ◌-◌, ◌<◌, ◌≤◌, ◌^◌, max, Bool, true, false, ◌||◌, List, [], ◌∷◌, length, refl, sym, ap, ◌∙◌, subst, arith, ◌⊎◌, inl, inr, ⊎_elim}
 use Rattle.std.specs.Prelude.{if◌then◌else◌}
-use Rattle.std.proofs.lemmas.Bool.{eqb-true, eq-eqb}
+use Rattle.std.proofs.lemmas.Bool.{cases_lt, eqb-true, eq-eqb}
 use mathlib.Core.Path.{fun_ext}
 use Rattle.trees.specs.Tree.{Slot, Rel, Node, Places, End, Child, Group, Done, Next}
 use Rattle.trees.specs.Parallel.{rename, first, over, overs, put, put_all, substitute, substitute_children, substitute_terms}
-use Rattle.trees.specs.Measures.{depth, above, above_trees, IsWithin}
+use Rattle.trees.specs.Measures.{depth, above, above_trees, IsWithin, IsBeyond}
 use Rattle.trees.specs.Closed.{Closed}
 use Rattle.trees.proofs.Fusion.{rename-rename, rename_same, substitute-rename, substitute-substitute}
 use Rattle.trees.proofs.Put.{Agree, substitute_closed, substitute_same, put_all_agree, agree_none}
@@ -54,12 +54,14 @@ module _ (E : ℕ → Bool) where
 
   wrapped_is : (n p : ℕ) (s : ℕ → BoxTerm) (t : BoxTerm) → n ≤ leading t → ((r : ℕ) → p + n ≤ r → E r ≡ false) → wrapped E p n (final p n s) t ≡ unwrapped E p s t
   wrapped_is zero p s t l h = ap (λ s. substitute s t) (none_more p s) ∙ sym (unwrapped_rest E p s t (λ r le. h r (omega arith)))
-  wrapped_is (suc n) p s (BLambda b) l h = either (E p) (final_next p n s (E p))
+  wrapped_is (suc n) p s (BLambda b) l h =
+      either (E p) (final_next p n s (E p)) (wrapped_is n (suc p) (first Box s) b (omega arith) (λ r le. h r (omega arith))) (wrapped_is n (suc p) (over s) b (omega arith) (λ r le. h r (omega arith)))
     where
-      either : (z : Bool) → final p (suc n) s ≡ final (suc p) n (if z then first Box s else over s) →
+      either : (z : Bool) → final p (suc n) s ≡ final (suc p) n (if z then first Box s else over s) → wrapped E (suc p) n (final (suc p) n (first Box s)) b ≡ unwrapped E (suc p) (first Box s) b →
+          wrapped E (suc p) n (final (suc p) n (over s)) b ≡ unwrapped E (suc p) (over s) b →
           (if z then wrapped E (suc p) n (final p (suc n) s) b else BLambda (wrapped E (suc p) n (final p (suc n) s) b)) ≡ (if z then unwrapped E (suc p) (first Box s) b else BLambda (unwrapped E (suc p) (over s) b))
-      either true e = ap (λ s. wrapped E (suc p) n s b) e ∙ wrapped_is n (suc p) (first Box s) b (omega arith) (λ r le. h r (omega arith))
-      either false e = ap BLambda (ap (λ s. wrapped E (suc p) n s b) e ∙ wrapped_is n (suc p) (over s) b (omega arith) (λ r le. h r (omega arith)))
+      either true e x y = ap (λ s. wrapped E (suc p) n s b) e ∙ x
+      either false e x y = ap BLambda (ap (λ s. wrapped E (suc p) n s b) e ∙ y)
   wrapped_is (suc n) p s t l h = absurd (omega arith)
 
   wrapped_agree : (n p m : ℕ) (s s' : ℕ → BoxTerm) (t : BoxTerm) → n ≤ leading t → Agree (n + m) s s' → Closed m t → wrapped E p n s t ≡ wrapped E p n s' t
@@ -78,6 +80,71 @@ module _ (E : ℕ → Bool) where
       let all = put_all_agree (variables E 0 n) Rel rest 0 (agree_none Rel rest) in
       let few : Agree (n + 0) (put_all (variables E 0 n) Rel) (final 0 n Rel) = λ i lt. all i (omega (arith, length_variables 0 n, lt)) in
       wrapped_agree n 0 0 (put_all (variables E 0 n) Rel) (final 0 n Rel) t l few c ∙ wrapped_is n 0 Rel t l (λ r le. h r (omega arith))
+
+-- the places up to the last one that is dropped
+pub end_leads : (E : ℕ → Bool) (n : ℕ) (t : BoxTerm) → (0 < n → E (n - 1) ≡ true) → ((p : ℕ) → E p ≡ true → p < leading t) → n ≤ leading t
+end_leads E n t last leads = ⊎_elim (λ l. omega (arith, l, leads (n - 1) (last l))) (λ l. omega (arith, l)) (cases_lt 0 n)
+
+pub leading_depth : (t : BoxTerm) → leading t ≤ depth t
+leading_depth (BLambda b) = omega (arith, leading_depth b)
+leading_depth t = omega arith
+
+pub list_wrapped : (E : ℕ → Bool) (n : ℕ) (t : BoxTerm) → n ≤ leading t → ((r : ℕ) → n ≤ r → E r ≡ false) → Closed 0 t → (xs : List BoxTerm) → xs ≡ variables E 0 n → wrapped E 0 n (put_all xs Rel) t ≡ unwrapped E 0 Rel t
+list_wrapped E n t l h c xs e = ap (λ (ys : List BoxTerm). wrapped E 0 n (put_all ys Rel) t) e ∙ wrapped_whole E n t l h c
+
+-- one lambda
+
+pub wrapped_lambda : (E : ℕ → Bool) (p n : ℕ) (s : ℕ → BoxTerm) (t b : BoxTerm) → 0 < n → BLambda b ≡ t → E p ≡ false → wrapped E p n s t ≡ BLambda (wrapped E (p + 1) (n - 1) s b)
+wrapped_lambda E p zero s t b l q e = absurd (omega arith)
+wrapped_lambda E p (suc n) s t b l q e =
+    let a : suc p ≡ p + 1 = omega arith in
+    let m : n ≡ suc n - 1 = omega arith in
+    ap (wrapped E p (suc n) s) (sym q) ∙ ap (λ z. if z then wrapped E (suc p) n s b else BLambda (wrapped E (suc p) n s b)) e ∙ (λ i. BLambda (wrapped E (a i) (m i) s b))
+
+wrapped_dropped : (E : ℕ → Bool) (p n : ℕ) (s : ℕ → BoxTerm) (t b : BoxTerm) → 0 < n → BLambda b ≡ t → E p ≡ true → wrapped E p n s t ≡ wrapped E (p + 1) (n - 1) s b
+wrapped_dropped E p zero s t b l q e = absurd (omega arith)
+wrapped_dropped E p (suc n) s t b l q e =
+    let a : suc p ≡ p + 1 = omega arith in
+    let m : n ≡ suc n - 1 = omega arith in
+    ap (wrapped E p (suc n) s) (sym q) ∙ ap (λ z. if z then wrapped E (suc p) n s b else BLambda (wrapped E (suc p) n s b)) e ∙ (λ i. wrapped E (a i) (m i) s b)
+
+pub wrapped_inside : (E : ℕ → Bool) (p n : ℕ) (s : ℕ → BoxTerm) (t b : BoxTerm) → 0 < n → BLambda b ≡ t → IsWithin (wrapped E p n s t) → IsWithin (wrapped E (p + 1) (n - 1) s b)
+wrapped_inside E p n s t b l q w = either (E p) refl
+  where
+    either : (z : Bool) → E p ≡ z → IsWithin (wrapped E (p + 1) (n - 1) s b)
+    either true e = subst IsWithin (wrapped_dropped E p n s t b l q e) w
+    either false e =
+        let x = subst IsWithin (wrapped_lambda E p n s t b l q e) w in
+        let d = x.0 in
+        let a = x.1 in
+        (omega arith, omega arith)
+
+pub not_beyond : (t : BoxTerm) → IsWithin t → IsBeyond t → ⊥
+not_beyond t w b = ⊎_elim (λ l. omega (arith, l, w.0)) (λ l. omega (arith, l, w.1)) b
+
+-- places gone through
+
+pub one_kept : (z : Bool) → (if◌then◌else◌ {A = ℕ} z 0 1) ≤ 1
+one_kept true = omega arith
+one_kept false = omega arith
+
+pub kept_next : (E : ℕ → Bool) (p n : ℕ) → p < n → kept E p (n - p) ≡ (if E p then 0 else 1) + kept E (p + 1) (n - (p + 1))
+kept_next E p n l =
+    let m : n - p ≡ suc (n - (p + 1)) = omega arith in
+    let a : suc p ≡ p + 1 = omega arith in
+    ap (kept E p) m ∙ ap (λ q. (if E p then 0 else 1) + kept E q (n - (p + 1))) a
+
+pub kept_whole : (E : ℕ → Bool) (n : ℕ) → 0 + kept E 0 (n - 0) ≡ kept E 0 n
+kept_whole E n = let m : n - 0 ≡ n = omega arith in let q = ap (kept E 0) m in omega (arith, q)
+
+pub kept_done : (E : ℕ → Bool) (p n : ℕ) → n ≤ p → kept E p (n - p) ≡ 0
+kept_done E p n l = let m : n - p ≡ 0 = omega arith in ap (kept E p) m
+
+pub variables_next : (E : ℕ → Bool) (p n : ℕ) → p < n → variables E p (n - p) ≡ (if E p then Box else Rel (kept E (p + 1) (n - (p + 1)))) ∷ variables E (p + 1) (n - (p + 1))
+variables_next E p n l =
+    let m : n - p ≡ suc (n - (p + 1)) = omega arith in
+    let a : suc p ≡ p + 1 = omega arith in
+    ap (variables E p) m ∙ ap (λ q. (if E p then Box else Rel (kept E q (n - (p + 1)))) ∷ variables E q (n - (p + 1))) a
 
 -- within the limits of terms
 

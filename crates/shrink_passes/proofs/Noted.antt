@@ -47,7 +47,13 @@ fits_as_noted k p xs (BApp f a) =
     ap (λ z. z && fits k p [] a) (fits_as_noted k p (a ∷ xs) f ∙ ap (λ z. noted k p f && z) (tail_one k p (spine f) a xs))
     ∙ and_swap (noted k p f) (box_there k p (spine f) a) (tail k p (one_more (spine f)) xs) (fits k p [] a)
 fits_as_noted k p xs (BConst c) = refl
-fits_as_noted k p xs t = sym (and_true (fits k p [] t))
+fits_as_noted k p xs (Rel i) = refl
+fits_as_noted k p xs Box = refl
+fits_as_noted k p xs (BLambda b) = sym (and_true (fits k p [] b))
+fits_as_noted k p xs (BLetIn a t) = sym (and_true (fits k p [] a && fits k p [] t))
+fits_as_noted k p xs (BConstruct f c) = refl
+fits_as_noted k p xs (BCase f s bs) = sym (and_true (fits k p [] s && fits_terms k p bs))
+fits_as_noted k p xs (BFix i rargs bodies) = sym (and_true (fits_terms k p bodies))
 
 past_none : (p m : ℕ) → past p m [] ≡ is_below p m
 past_none p zero = refl
@@ -73,6 +79,7 @@ one_more_arguments (Some u) = omega arith
 
 pub spine_depth : (t : BoxTerm) → suc (arguments_of (spine t)) ≤ depth t
 spine_depth (BApp f a) = omega (arith, spine_depth f, one_more_arguments (spine f))
+spine_depth (BConst c) = omega arith
 spine_depth t = omega arith
 
 pub use_depth : (t : BoxTerm) (u : Use) → Some u ≡ spine t → suc u.arguments ≤ depth t
