@@ -1,4 +1,4 @@
-use Rattle.std.proofs.Common.{◌≡◌, ◌+◌, ◌<◌, List, [], ◌∷◌, length, drop, nat_eq, sym, ap, ◌∙◌, subst, arith}
+use Rattle.std.proofs.Common.{rules, ◌≡◌, ◌+◌, ◌<◌, List, [], ◌∷◌, length, drop, nat_eq, sym, ap, ◌∙◌, subst, arith}
 use Rattle.std.proofs.Math.ListN.{drop_of_length-le}
 use Rattle.std.specs.HashMap.{get}
 use Rattle.lambda_box.specs.BoxProgram.{BoxConstant}
@@ -24,6 +24,20 @@ without_params-requires c =
     let l : i < length items = grind arith in
     let h = subst (AreReady D) (next_item items i c.d-item.result l c.d-item.is) c.loop-d.invariant.1 in
     record { closed = h.0.0; leads = h.0.1 }
+
+pub loop-d-preserved : goal.loop-d-preserved
+loop-d-preserved c =
+    let D = is_place (get nat_eq c.in_ok-table.table) in
+    let items = c.as_slice-d-items.result.now in
+    let i = c.loop-d.d-index in
+    let cs : List BoxConstant = c.loop-d.constants in
+    let l : i < length items = grind arith in
+    let next = next_item items i c.d-item.result l c.d-item.is in
+    let rest = drop (i + 1) items in
+    let pushed : c.push.new.self ≡ c.in_ok-constant.constant ∷ cs = search rules in (
+      ap (through D rest) (pushed ∙ ap (λ (x : BoxConstant). x ∷ cs) c.in_ok-constant.ensures.ok) ∙ sym (ap (λ (ds : List BoxConstant). through D ds cs) next) ∙ c.loop-d.invariant.0,
+      (subst (AreReady D) next c.loop-d.invariant.1).1,
+    )
 
 pub returns-clause-is : goal.returns-clause-is
 returns-clause-is c =

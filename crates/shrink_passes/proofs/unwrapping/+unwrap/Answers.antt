@@ -28,7 +28,8 @@ made-requires t c =
     let some : 0 < c.args.n = grind (arith, c.if-n-eq0.false) in
     let e : box_of c.view.result.now ≡ BLambda c.in-Lambda.b = ap box_of c.in-Lambda.is in
     let kept : D c.args.p ≡ false = sym c.at.ensures.is ∙ c.if-at.false in
-    let q = ap depth (wrapped_lambda D c.args.p c.args.n s c.args.t.now c.in-Lambda.b some (sym e ∙ c.view.ensures.is) kept) in
+    let q : depth (wrapped D c.args.p c.args.n s c.args.t.now) ≡ depth (BLambda (wrapped D (c.args.p + 1) (c.args.n - 1) s c.in-Lambda.b)) =
+    ap depth (wrapped_lambda D c.args.p c.args.n s c.args.t.now c.in-Lambda.b some (sym e ∙ c.view.ensures.is) kept) in
     let b : depth c.in_ok-body.body ≡ depth (wrapped D (c.args.p + 1) (c.args.n - 1) s c.in-Lambda.b) = ap depth c.in_ok-body.ensures.ok in
     let within = c.requires.within.0 in
     record { shallow = omega (arith, q, b, within) }

@@ -13,7 +13,7 @@ loop-p-preserved c =
     let D : ℕ → Bool = λ p. flag_at p c.args.dead.now in
     let p = c.loop-p.p in
     let l : p < c.args.n = grind arith in
-    let e = c.with_place.ensures.is ∙ ap (λ (z : Bool). c.loop-p.count + (if z then 0 else 1)) c.at.ensures.is in
+    let e = c.with_place-count.ensures.is ∙ ap (λ (z : Bool). c.loop-p.count + (if z then 0 else 1)) c.at.ensures.is in
     let one = one_kept (D p) in
     record { counted = omega (arith, e, kept_next D p c.args.n l, c.loop-p.invariant.counted); few = omega (arith, e, one, c.loop-p.invariant.few) }
 
