@@ -9,14 +9,15 @@ use Rattle.trees.proofs.Bounds.{closed_at}
 use Rattle.trees.proofs.Put.{ups_past, ups_below, substitute_same}
 use Rattle.pc_terms.specs.BoxSyntax.{BoxTerm, BoxTerms, Box, BLambda, BLetIn, BApp, BConst, BConstruct, BCase, BFix}
 use Rattle.lambda_box.specs.BoxProgram.{BoxConstant, BoxFamily, BoxProgram, Has, here, there}
-use Rattle.lambda_box.specs.BoxForm.{AreFixBodies, HasBoxForm, HasBoxFormTerms, IsBoxProgram}
+use Rattle.lambda_box.specs.BoxForm.{IsFixBody, boxed, last, more, AreFixBodies, HasBoxForm, HasBoxFormTerms, IsBoxProgram}
 use Rattle.lambda_box.proofs.Naming.{ordered_body}
 use Rattle.lambda_box.specs.ClosureEvaluation.{names, names_terms, Value, VBox, Env, Empty, Bind, BindFix, box_values, bind_all, one_if, any_below, words}
-use Rattle.box_passes.proofs.Narrow.{Narrow, NarrowBranches, NarrowDefs, def_narrow}
+use Rattle.box_passes.proofs.Narrow.{Narrow, NarrowBranches, NarrowDefs}
+use Rattle.shrink_passes.specs.Uses.{uses}
 use Rattle.shrink_passes.specs.DropParams.{is_spine, cut, cut_terms, leading, without_lambda, with_constant, is_dead, without_params, drop_from, drop_program}
 use Rattle.shrink_passes.specs.Inline.{put_in, put_in_terms, changed, stands, with_body, is_put_in, inline_from, inline_program}
 use Rattle.shrink_passes.proofs.Following.{neither, neither_and, names_past, names_past_terms, names_put, names_put_terms, words_none}
-use Rattle.shrink_passes.proofs.Forming.{put_closed, put_form, step_form as put_step_form}
+use Rattle.shrink_passes.proofs.Forming.{put_closed, put_form, body_unused, step_form as put_step_form}
 use Rattle.shrink_passes.proofs.Deciding.{start_program}
 use Rattle.shrink_passes.proofs.InlineSteps.{to_rest, each_body as put_each_body, inline_is_right}
 use Rattle.shrink_passes.proofs.DropSteps.{step, each_body as drop_each_body}
@@ -84,13 +85,27 @@ same_ups (suc n) h = same_up (same_ups n h)
 abbrev Follows : (ℕ → BoxTerm) → (ℕ → ℕ) → Type 0
 Follows s r = (j : ℕ) → s (r j) ≡ Rel j
 
-follows_over : {s : ℕ → BoxTerm} {r : ℕ → ℕ} → Follows s r → Follows (over s) (up r)
-follows_over f zero = refl
-follows_over f (suc j) = ap (rename suc) (f j)
+follows_over : (s : ℕ → BoxTerm) (r : ℕ → ℕ) → Follows s r → Follows (over s) (up r)
+follows_over s r f zero = refl
+follows_over s r f (suc j) = ap (rename suc) (f j)
 
-follows_overs : (n : ℕ) {s : ℕ → BoxTerm} {r : ℕ → ℕ} → Follows s r → Follows (overs n s) (ups n r)
-follows_overs zero f = f
-follows_overs (suc n) f = follows_over (follows_overs n f)
+follows_overs : (n : ℕ) (s : ℕ → BoxTerm) (r : ℕ → ℕ) → Follows s r → Follows (overs n s) (ups n r)
+follows_overs zero s r f = f
+follows_overs (suc n) s r f = follows_over (overs n s) (ups n r) (follows_overs n s r f)
+
+-- a definition of a fixpoint is box or a lambda
+abbrev is_definition : BoxTerm → Bool
+is_definition Box = true
+is_definition (BLambda b) = true
+is_definition t = false
+
+fix_body : {r : ℕ} {t : BoxTerm} → IsFixBody r t → is_definition t ≡ true
+fix_body boxed = refl
+fix_body last = refl
+fix_body (more h) = refl
+
+no_body : {A : Type 0} → false ≡ true → A
+no_body e = absurd (cc)
 
 module _ (Fs : List BoxFamily) (C : ℕ) where
   -- box or another variable put for each variable
@@ -104,9 +119,9 @@ module _ (Fs : List BoxFamily) (C : ℕ) where
     thin_narrow s th f w Box form h = tt
     thin_narrow s th {r} f w (BLambda b) form h = (
       (let few = words_fewer w (λ i. names (substitute (over s) b) (suc i)) (λ i. names b (suc i)) (λ i n. named_before (over s) (thins_over th) b (suc (r i)) (suc i) (ap (rename suc) (f i)) n) in omega (arith, few, h.0)),
-      thin_narrow (over s) (thins_over th) (follows_over f) (fewer_bind w) b form.1.0 h.1,
+      thin_narrow (over s) (thins_over th) (follows_over s r f) (fewer_bind w) b form.1.0 h.1,
     )
-    thin_narrow s th f w (BLetIn a t) form h = (thin_narrow s th f w a form.1.0 h.0, thin_narrow (over s) (thins_over th) (follows_over f) (fewer_bind w) t form.1.1.0 h.1)
+    thin_narrow s th {r} f w (BLetIn a t) form h = (thin_narrow s th f w a form.1.0 h.0, thin_narrow (over s) (thins_over th) (follows_over s r f) (fewer_bind w) t form.1.1.0 h.1)
     thin_narrow s th f w (BApp g a) form h = (thin_narrow s th f w g form.1.0 h.0, thin_narrow s th f w a form.1.1.0 h.1)
     thin_narrow s th f w (BConst k) form h = tt
     thin_narrow s th f w (BConstruct g c) form h = tt
@@ -118,18 +133,18 @@ module _ (Fs : List BoxFamily) (C : ℕ) where
 
     thin_branches : (s : ℕ → BoxTerm) → Thins s → {r : ℕ → ℕ} → Follows s r → {e' e : Env} → Fewer r e' e → (ts : BoxTerms) → HasBoxFormTerms Fs ts → NarrowBranches C e ts → NarrowBranches C e' (substitute_terms s ts)
     thin_branches s th f w Done form h = tt
-    thin_branches s th f w (Next n t ts) form h = (thin_narrow (overs n s) (thins_overs n th) (follows_overs n f) (fewer_boxes n w) t form.0 h.0, thin_branches s th f w ts form.1 h.1)
+    thin_branches s th {r} f w (Next n t ts) form h = (thin_narrow (overs n s) (thins_overs n th) (follows_overs n s r f) (fewer_boxes n w) t form.0 h.0, thin_branches s th f w ts form.1 h.1)
 
     thin_defs : (n : ℕ) (rs : List ℕ) (s : ℕ → BoxTerm) → Thins s → {r : ℕ → ℕ} → Follows s r → {e' e : Env} → Fewer (ups n r) e' e → (ts : BoxTerms) → AreFixBodies n rs ts → HasBoxFormTerms Fs ts → NarrowDefs C e ts → NarrowDefs C e' (substitute_terms s ts)
     thin_defs n [] s th f w Done are form h = tt
     thin_defs n [] s th f w (Next m t ts) are form h = absurd are
     thin_defs n (r ∷ rs) s th f w Done are form h = absurd are
     thin_defs n (r ∷ rs) s th f w (Next m Box ts) are form h = thin_defs n rs s th f w ts are.2 form.1 h
-    thin_defs n (r ∷ rs) s th {q} f {e'} {e} w (Next m (BLambda b) ts) are form h = (
-      thin_narrow (over (overs m s)) (thins_over (thins_overs m th)) (follows_over (follows_overs m f)) (fewer_bind (subst (λ k. Fewer (ups k q) e' e) (sym are.0) w)) b form.0.1.0 h.0,
+    thin_defs n (x ∷ rs) s th {r} f {e'} {e} w (Next m (BLambda b) ts) are form h = (
+      thin_narrow (over (overs m s)) (thins_over (thins_overs m th)) (follows_over (overs m s) (ups m r) (follows_overs m s r f)) (fewer_bind (subst (λ k. Fewer (ups k r) e' e) (sym are.0) w)) b form.0.1.0 h.0,
       thin_defs n rs s th f w ts are.2 form.1 h.1,
     )
-    thin_defs n (r ∷ rs) s th f w (Next m t ts) are form h = elim are.1 [ ]
+    thin_defs n (r ∷ rs) s th f w (Next m t ts) are form h = no_body (fix_body are.1)
 
   -- an argument cut from uses
 
@@ -166,7 +181,7 @@ module _ (Fs : List BoxFamily) (C : ℕ) where
       cut_defs n (r ∷ rs) f w Done are form h = absurd are
       cut_defs n (r ∷ rs) f w (Next m Box ts) are form h = cut_defs n rs f w ts are.2 form.1 h
       cut_defs n (r ∷ rs) f w (Next m (BLambda b) ts) are form h = (cut_narrow (same_up f) (fewer_bind w) b form.0.1.0 h.0, cut_defs n rs f w ts are.2 form.1 h.1)
-      cut_defs n (r ∷ rs) f w (Next m t ts) are form h = elim are.1 [ ]
+      cut_defs n (r ∷ rs) f w (Next m t ts) are form h = no_body (fix_body are.1)
 
   -- a leading lambda less
 
@@ -234,17 +249,17 @@ module _ (Fs : List BoxFamily) (C : ℕ) where
       longer_narrow (suc (m + n)) (longer_bind w) b (let q : 1 + (k + n) ≡ suc (m + n) = omega (arith, are.0) in closed_at b q c.0.0) form.0.1.0 h.0,
       longer_defs m rs n w ts c.1 are.2 form.1 h.1,
     )
-    longer_defs m (r ∷ rs) n w (Next k t ts) c are form h = elim are.1 [ ]
+    longer_defs m (r ∷ rs) n w (Next k t ts) c are form h = no_body (fix_body are.1)
 
   -- a body put in place of uses
 
-  module _ (k : ℕ) (b : BoxTerm) (closed : Closed 0 b) (formed : HasBoxForm Fs b) (narrow : Narrow C Empty b) where
+  module _ (k : ℕ) (b : BoxTerm) (closed : Closed 0 b) (none : uses k b ≡ 0) (formed : HasBoxForm Fs b) (narrow : Narrow C Empty b) where
     mutual
       put_narrow : {r : ℕ → ℕ} → Same r → {e' e : Env} → Fewer r e' e → (t : BoxTerm) → HasBoxForm Fs t → Narrow C e t → Narrow C e' (put_in k b t)
       put_narrow f w (Rel i) form h = tt
       put_narrow f w Box form h = tt
       put_narrow {r} f w (BLambda t) form h = (
-        (let few = words_fewer w (λ i. names (put_in k b t) (suc i)) (λ i. names t (suc i)) (λ i n. ap (λ j. names t (suc j)) (f i) ∙ sym (names_put k b closed t (suc i)) ∙ n) in omega (arith, few, h.0)),
+        (let few = words_fewer w (λ i. names (put_in k b t) (suc i)) (λ i. names t (suc i)) (λ i n. ap (λ j. names t (suc j)) (f i) ∙ sym (names_put k b closed none t (suc i)) ∙ n) in omega (arith, few, h.0)),
         put_narrow (same_up f) (fewer_bind w) t form.1.0 h.1,
       )
       put_narrow f w (BLetIn a t) form h = (put_narrow f w a form.1.0 h.0, put_narrow (same_up f) (fewer_bind w) t form.1.1.0 h.1)
@@ -257,7 +272,7 @@ module _ (Fs : List BoxFamily) (C : ℕ) where
       put_narrow f w (BConstruct g c) form h = tt
       put_narrow f w (BCase g t bs) form h = (put_narrow f w t form.1.0 h.0, put_branches f w bs form.1.1.0 h.1)
       put_narrow {r} f w (BFix j rargs bodies) form h =
-          let same : (i : ℕ) → names_terms (put_in_terms k b bodies) i ≡ true → names_terms bodies (r i) ≡ true = λ i n. ap (names_terms bodies) (f i) ∙ sym (names_put_terms k b closed bodies i) ∙ n in (
+          let same : (i : ℕ) → names_terms (put_in_terms k b bodies) i ≡ true → names_terms bodies (r i) ≡ true = λ i n. ap (names_terms bodies) (f i) ∙ sym (names_put_terms k b closed none bodies i) ∙ n in (
             (let few = words_fewer w (λ i. names_terms (put_in_terms k b bodies) i) (λ i. names_terms bodies i) same in omega (arith, few, h.0)),
             put_defs (length rargs) rargs (same_ups (length rargs) f) (fewer_fix w same) bodies form.0.1 form.1.0 h.1,
           )
@@ -272,7 +287,7 @@ module _ (Fs : List BoxFamily) (C : ℕ) where
       put_defs n (r ∷ rs) f w Done are form h = absurd are
       put_defs n (r ∷ rs) f w (Next m Box ts) are form h = put_defs n rs f w ts are.2 form.1 h
       put_defs n (r ∷ rs) f w (Next m (BLambda t) ts) are form h = (put_narrow (same_up f) (fewer_bind w) t form.0.1.0 h.0, put_defs n rs f w ts are.2 form.1 h.1)
-      put_defs n (r ∷ rs) f w (Next m t ts) are form h = elim are.1 [ ]
+      put_defs n (r ∷ rs) f w (Next m t ts) are form h = no_body (fix_body are.1)
 
   -- a closed body of the form, and narrow
   pub record Fine (t : BoxTerm) : Type 0 where
@@ -280,11 +295,11 @@ module _ (Fs : List BoxFamily) (C : ℕ) where
     pub form : HasBoxForm Fs t
     pub narrow : Narrow C Empty t
 
-  pub put_fine : (k : ℕ) (b t : BoxTerm) → Fine b → Fine t → Fine (put_in k b t)
-  put_fine k b t g h = record {
+  pub put_fine : (k : ℕ) (b t : BoxTerm) → uses k b ≡ 0 → Fine b → Fine t → Fine (put_in k b t)
+  put_fine k b t none g h = record {
     closed = put_closed k b 0 t g.closed h.closed;
     form = put_form k b Fs g.form t h.form;
-    narrow = put_narrow k b g.closed g.form g.narrow (λ i. refl) fewer_none t h.form h.narrow;
+    narrow = put_narrow k b g.closed none g.form g.narrow (λ i. refl) fewer_none t h.form h.narrow;
   }
 
   pub cut_fine : (k p : ℕ) (t : BoxTerm) → Fine t → Fine (cut k p t)
@@ -308,8 +323,8 @@ module _ (Fs : List BoxFamily) (C : ℕ) where
   inlined_fine done f [] main ok h = h
   inlined_fine done f (d ∷ rest) main ok h = choose (AreFine C) (is_put_in Fs done f d rest main)
       (λ e. inlined_fine done (with_body f d) rest main (put_step_form Fs done f d rest main ok) (record {
-        constants = put_each_body Fs done f d rest main ok (Fine Fs C) (λ t g s. put_fine Fs C d.name.0 (f d.body) t g s) h.constants;
-        main = put_fine Fs C d.name.0 (f d.body) (f main) (h.constants (changed f d) (to_rest f (d ∷ rest) done here)) h.main;
+        constants = put_each_body Fs done f d rest main ok (Fine Fs C) (λ t g s. put_fine Fs C d.name.0 (f d.body) t (body_unused Fs done f d rest main ok) g s) h.constants;
+        main = put_fine Fs C d.name.0 (f d.body) (f main) (body_unused Fs done f d rest main ok) (h.constants (changed f d) (to_rest f (d ∷ rest) done here)) h.main;
       }))
       (λ e. inlined_fine (changed f d ∷ done) f rest main ok h)
 
