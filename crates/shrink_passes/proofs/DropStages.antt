@@ -448,8 +448,8 @@ module _ (P : BoxProgram) (ok : IsBoxProgram P) where
     (
       pruned_closed T 0 d.body (body_form P.families done (λ t. t) d es P.main ok).closed,
       (λ p t.
-      let u = (both_hold (is_unused p d.body) (fits_constants d.name.0 p es) (both_hold (is_unused p d.body && fits_constants d.name.0 p es) (fits d.name.0 p [] P.main) (sym (k.0 p) ∙ t)).0).0 in
-      omega (arith, pruned_leading T d.body, unused_leads p d.body u)),
+          let u = (both_hold (is_unused p d.body) (fits_constants d.name.0 p es) (both_hold (is_unused p d.body && fits_constants d.name.0 p es) (fits d.name.0 p [] P.main) (sym (k.0 p) ∙ t)).0).0 in
+          omega (arith, pruned_leading T d.body, unused_leads p d.body u)),
     ),
     ready_from (changed (λ t. t) d ∷ done) es ok k.1,
   )

@@ -31,7 +31,7 @@ data Fewer : (ℕ → ℕ) → Env → Env → Type 0 where
   fewer_skip : {r : ℕ → ℕ} {e' e : Env} {v : Value} → Fewer r e' e → Fewer (λ i. suc (r i)) e' (Bind v e)
   fewer_bind : {r : ℕ → ℕ} {e' e : Env} {v w : Value} → Fewer r e' e → Fewer (up r) (Bind v e') (Bind w e)
   fewer_fix : {r : ℕ → ℕ} {e' e : Env} {rargs : List ℕ} {cs bs : BoxTerms} → Fewer r e' e → ((i : ℕ) → names_terms cs i ≡ true → names_terms bs (r i) ≡ true) →
-    Fewer (ups (length rargs) r) (BindFix rargs cs e') (BindFix rargs bs e)
+      Fewer (ups (length rargs) r) (BindFix rargs cs e') (BindFix rargs bs e)
 
 one_less : (x y : Bool) → (x ≡ true → y ≡ true) → one_if x ≤ one_if y
 one_less true true h = omega arith

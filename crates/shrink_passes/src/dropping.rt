@@ -12,9 +12,9 @@ ghost use Rattle.shrink_passes.specs.DeadPlaces.{is_place};
 ghost use Rattle.shrink_passes.specs.Pruned.{pruned, pruned_constant};
 ghost use Rattle.shrink_passes.specs.ShrinkLaws.{KeepsRuns};
 
-use crate::pruning::prune;
 use crate::flags::Flags;
 use crate::noting::dead_places;
+use crate::pruning::prune;
 use crate::unwrapping::without_places;
 use box_terms::program::{BoxConstant, BoxConstants, BoxProgram};
 use lambda_box::PassFault;

@@ -53,11 +53,7 @@ impl Flags {
         ensures is { result ≡ flag_at p self.now }
     {
         let n = self.items.len();
-        if p < n {
-            self.items[p]
-        } else {
-            false
-        }
+        if p < n { self.items[p] } else { false }
     }
 
     /// Makes it false at place `i`.

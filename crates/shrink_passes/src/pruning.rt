@@ -83,11 +83,7 @@ pub(crate) fn prune(
 /// A term as the head of arguments, without the arguments at the places of the table. Only `Memory`.
 #[cycle(prune)]
 #[tactic(auto, using(std::proofs::lemmas::Grind::common_steps))]
-fn prune_head(
-    alloc: Global,
-    table: &HashMap<u32, Flags>,
-    t: &BoxTerm,
-) -> Result<Pruned, PassFault>
+fn prune_head(alloc: Global, table: &HashMap<u32, Flags>, t: &BoxTerm) -> Result<Pruned, PassFault>
     ensures ok { IfOk result (λ u. (u.term ≡ pruned (is_place (get nat_eq table.now)) t.now) × (u.head ≡ spine t.now)) }
     ensures only_memory { IfErr result (λ e. e ≡ Memory) }
 {
@@ -95,22 +91,34 @@ fn prune_head(
         BoxNode::Boxed => same(t),
         BoxNode::Rel(_) => same(t),
         BoxNode::Lambda(b) => {
-            let Pruned { term: body, head: _ } = prune_head(alloc, table, b)?;
+            let Pruned {
+                term: body,
+                head: _,
+            } = prune_head(alloc, table, b)?;
             if body.shares_node(b) {
                 return same(t);
             }
             made(alloc, table, t, BoxNode::Lambda(body), None)
         }
         BoxNode::LetIn(v, b) => {
-            let Pruned { term: value, head: _ } = prune_head(alloc, table, v)?;
-            let Pruned { term: body, head: _ } = prune_head(alloc, table, b)?;
+            let Pruned {
+                term: value,
+                head: _,
+            } = prune_head(alloc, table, v)?;
+            let Pruned {
+                term: body,
+                head: _,
+            } = prune_head(alloc, table, b)?;
             if value.shares_node(v) && body.shares_node(b) {
                 return same(t);
             }
             made(alloc, table, t, BoxNode::LetIn(value, body), None)
         }
         BoxNode::App(f, a) => {
-            let Pruned { term: function, head } = prune_head(alloc, table, f)?;
+            let Pruned {
+                term: function,
+                head,
+            } = prune_head(alloc, table, f)?;
             let whole = with_argument(f, head);
             if drops(table, head) {
                 return Ok(Pruned {
@@ -118,7 +126,10 @@ fn prune_head(
                     head: whole,
                 });
             }
-            let Pruned { term: argument, head: _ } = prune_head(alloc, table, a)?;
+            let Pruned {
+                term: argument,
+                head: _,
+            } = prune_head(alloc, table, a)?;
             if function.shares_node(f) && argument.shares_node(a) {
                 let term = shared(t)?;
                 return Ok(Pruned { term, head: whole });
@@ -135,7 +146,10 @@ fn prune_head(
         }
         BoxNode::Construct(_, _) => same(t),
         BoxNode::Case(f, s, bs) => {
-            let Pruned { term: scrut, head: _ } = prune_head(alloc, table, s)?;
+            let Pruned {
+                term: scrut,
+                head: _,
+            } = prune_head(alloc, table, s)?;
             let branches = prune_branches(alloc, table, bs)?;
             if scrut.shares_node(s) && share_branches(&branches, bs) {
                 return same(t);
@@ -167,7 +181,10 @@ fn prune_branches(
     let mut items = Vec::new(alloc);
     for i in 0..xs.len() {
         let arm = &xs[i];
-        let Pruned { term: body, head: _ } = prune_head(alloc, table, &arm.body)?;
+        let Pruned {
+            term: body,
+            head: _,
+        } = prune_head(alloc, table, &arm.body)?;
         let binders = arm.binders;
         if items.push(BoxBranch { binders, body }).is_err() {
             return Err(PassFault::Memory);
@@ -191,7 +208,10 @@ fn prune_defs(
     let mut items = Vec::new(alloc);
     for i in 0..xs.len() {
         let def = &xs[i];
-        let Pruned { term: body, head: _ } = prune_head(alloc, table, &def.body)?;
+        let Pruned {
+            term: body,
+            head: _,
+        } = prune_head(alloc, table, &def.body)?;
         let rarg = def.rarg;
         if items.push(BoxDef { body, rarg }).is_err() {
             return Err(PassFault::Memory);

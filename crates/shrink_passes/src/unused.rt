@@ -105,10 +105,7 @@ fn unused_places(alloc: Global, body: &BoxTerm) -> Result<Flags, PassFault>
 
 /// For each constant, by the number of its name, the places of its leading lambdas whose variables aren't used. Only `Memory`.
 #[tactic(auto, using(std::proofs::lemmas::Grind::common_steps))]
-pub(crate) fn candidates(
-    alloc: Global,
-    p: &BoxProgram,
-) -> Result<HashMap<u32, Flags>, PassFault>
+pub(crate) fn candidates(alloc: Global, p: &BoxProgram) -> Result<HashMap<u32, Flags>, PassFault>
     ensures is { IfOk result (λ m. (k q : ℕ) → is_place (get nat_eq m) k q ≡ is_candidate k q (reverse p.now.constants) false) }
     ensures only_memory { IfErr result (λ e. e ≡ Memory) }
 {

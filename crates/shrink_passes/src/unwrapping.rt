@@ -134,11 +134,7 @@ fn unwrap(
 }
 
 /// The closed term without the leading lambdas at the places, which it has. Only `Memory`.
-pub(crate) fn without_places(
-    alloc: Global,
-    dead: &Flags,
-    t: &BoxTerm,
-) -> Result<BoxTerm, PassFault>
+pub(crate) fn without_places(alloc: Global, dead: &Flags, t: &BoxTerm) -> Result<BoxTerm, PassFault>
     requires closed { Closed 0 t.now }
     requires leads { (p : ℕ) → flag_at p dead.now ≡ true → p < leading t.now }
     ensures ok { IfOk result (λ u. u ≡ unwrapped (λ p. flag_at p dead.now) 0 variable t.now) }
