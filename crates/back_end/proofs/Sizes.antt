@@ -7,8 +7,12 @@ use Rattle.lambda_box.specs.DataTerms.{greatest_words}
 use Rattle.lambda_box.specs.SaturatedForm.{nodes_of_constants, program_nodes}
 use Rattle.box_passes.specs.PropMatch.{prop_match_program}
 use Rattle.box_passes.specs.PassLaws.{saturated_program}
+use Rattle.box_passes.proofs.Passes.{passes_form}
 use Rattle.box_passes.proofs.Narrow.{Narrow, most_words, main_narrow, constant_narrow}
 use Rattle.box_passes.proofs.PropMatchForm.{prop_match_program_sizes}
+use Rattle.shrink_passes.specs.ShrunkProgram.{shrunk_program}
+use Rattle.shrink_passes.proofs.ShrunkNarrow.{AreFine, shrunk_narrow}
+use Rattle.shrink_passes.proofs.ShrunkPrograms.{shrunk_forms}
 use Rattle.anf_convert.specs.ToAnf.{code_of, number_in, to_anf}
 use Rattle.anf_convert.specs.ToAnfKeeps.{Ready}
 use Rattle.anf_convert.proofs.Forms.{to_anf_forms}
@@ -30,28 +34,30 @@ constants_capture P C K [] ready narrow = tt
 constants_capture P C K (d ∷ ds) ready narrow = (code_few C P K d.body (ready d here) (narrow d here), constants_capture P C K ds (λ e at. ready e (there at)) (λ e at. narrow e (there at)))
 
 -- the lambdas and fixpoints have no more captured words than the program has words
-program_captures : (P : BoxProgram) (m : ℕ) → IsWithin P m → ProgramCaptures (suc (most_words (prop_match_program P))) (to_anf (saturated_program P))
+program_captures : (P : BoxProgram) (m : ℕ) → IsWithin P m → ProgramCaptures (suc (most_words (prop_match_program P))) (to_anf (shrunk_program P))
 program_captures P m ok =
-    let S = saturated_program P in
+    let S = shrunk_program P in
     let Q = prop_match_program P in
+    let fine : AreFine (most_words Q) S = shrunk_narrow (most_words Q) (saturated_program P) (passes_form P ok.form).form (constant_narrow Q) (main_narrow Q) in
     let ready = (suffices P m ok).0 in
     let K = number_in S.constants in
     record {
-      constants = constants_capture S (most_words Q) K S.constants (λ d at. ready.constants d.name d.body at) (constant_narrow Q);
-      main = code_few (most_words Q) S K S.main ready.main (main_narrow Q);
+      constants = constants_capture S (most_words Q) K S.constants (λ d at. ready.constants d.name d.body at) (λ d at. (fine.constants d at).narrow);
+      main = code_few (most_words Q) S K S.main ready.main fine.main.narrow;
     }
 
 pub modules_are_small : ModulesAreSmall
 modules_are_small P pages m ok counts =
-    let S = saturated_program P in
+    let S = shrunk_program P in
     let Q = prop_match_program P in
     let C = most_words Q in
+    let fewer = (shrunk_forms P ok.form).nodes in
     let form = lift_forms (to_anf S) m (to_anf_forms S m (suffices P m ok).1) in
     let bytes = emit_sized (passed P) pages m form ok.limits counts in
     let lifted = lifted_weight (to_anf S) C (program_captures P m ok) in
     let weight = normal_program_light S C in
     let words : 4 + C ≤ greatest_words P = omega (arith, (prop_match_program_sizes P).1) in
-    omega (arith, bytes, lifted, weight, product_le (64 * program_nodes S) (64 * program_nodes S) (4 + C) (greatest_words P) (omega arith) words)
+    omega (arith, bytes, lifted, weight, product_le (64 * program_nodes S) (64 * program_nodes (saturated_program P)) (4 + C) (greatest_words P) (omega (arith, fewer)) words)
 
 constants_locals : (P : BoxProgram) (K : Name → ℕ) (cs : List BoxConstant) → ((d : BoxConstant) → Has cs d → Ready P d.body) → normal_constants_locals (map (λ (d : BoxConstant). code_of K d.body) cs) ≤ nodes_of_constants cs
 constants_locals P K [] ready = omega arith
@@ -59,7 +65,8 @@ constants_locals P K (d ∷ ds) ready = omega (arith, locals_few P K d.body (rea
 
 pub locals_are_few : LocalsAreFew
 locals_are_few P m ok le =
-    let S = saturated_program P in
+    let S = shrunk_program P in
+    let fewer = (shrunk_forms P ok.form).nodes in
     let ready = (suffices P m ok).0 in
     let K = number_in S.constants in
-    few_locals (to_anf S) (omega (arith, le, constants_locals S K S.constants (λ d at. ready.constants d.name d.body at), locals_few S K S.main ready.main))
+    few_locals (to_anf S) (omega (arith, le, fewer, constants_locals S K S.constants (λ d at. ready.constants d.name d.body at), locals_few S K S.main ready.main))

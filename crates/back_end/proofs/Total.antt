@@ -1,20 +1,20 @@
 -- The laws of all passes together, for all programs of the form.
-use Rattle.std.proofs.Common.{◌≡◌, ℕ, zero, suc, ◌+◌, ◌*◌, ◌≤◌, true, ap, ◌∙◌, subst, arith}
+use Rattle.std.proofs.Common.{◌≡◌, ℕ, zero, suc, ◌+◌, ◌*◌, ◌≤◌, true, List, length, sym, ap, ◌∙◌, subst, arith}
 use Rattle.trees.specs.Tree.{Rel, Done, Next}
 use Rattle.trees.specs.Measures.{depth, depth_trees}
 use Rattle.anf_convert.specs.AnfForm.{fields}
 use Rattle.anf_convert.specs.TermForm.{constructor_args, more_args}
 use Rattle.pc_terms.specs.declared.leaf.FamilyId.{FamilyId}
 use Rattle.pc_terms.specs.BoxSyntax.{BoxTerm, BoxTerms, Box, BLambda, BLetIn, BApp, BConst, BConstruct, BCase, BFix}
-use Rattle.lambda_box.specs.BoxProgram.{BoxFamily, BoxProgram, KeepsBoxFamily}
+use Rattle.lambda_box.specs.BoxProgram.{BoxFamily, BoxProgram, Has, KeepsBoxFamily}
 use Rattle.lambda_box.specs.BoxData.{Data as Nodes}
 use Rattle.lambda_box.specs.BoxForm.{IsBoxProgram}
 use Rattle.lambda_box.specs.OrdinaryForm.{propositional_of, IsOrdinary, AreOrdinary}
 use Rattle.lambda_box.specs.OrdinaryForm.{family_of}
 use Rattle.lambda_box.specs.DataTerms.{greatest_words}
-use Rattle.box_passes.specs.PassLaws.{saturated_program}
+use Rattle.shrink_passes.specs.ShrunkProgram.{shrunk_program}
 use Rattle.lambda_box.proofs.Families.{family_found, unique_family}
-use Rattle.box_passes.proofs.Passes.{passes_form, passes_count}
+use Rattle.shrink_passes.proofs.ShrunkPrograms.{shrunk_forms, shrunk_shallow, shrunk_runs}
 use Rattle.anf_convert.specs.ToAnfKeeps.{IsReady}
 use Rattle.anf_convert.specs.TermForm.{ProgramFits}
 use Rattle.anf_convert.specs.BoxForms.{Prepared, PreparedTerms}
@@ -110,16 +110,18 @@ module _ (P : BoxProgram) (form : IsBoxProgram P) where
     prepared_all Done h few = tt
     prepared_all (Next n t ts) h few = (prepared t h.0 few.0, prepared_all ts h.1 few.1)
 
-pub suffices : (P : BoxProgram) (m : ℕ) → IsWithin P m → IsReady (saturated_program P) × ProgramFits (saturated_program P) m
+pub suffices : (P : BoxProgram) (m : ℕ) → IsWithin P m → IsReady (shrunk_program P) × ProgramFits (shrunk_program P) m
 suffices P m ok =
-    let S = saturated_program P in
-    let form = passes_form P ok.form in
-    form_suffices S m form.form (λ d h. prepared S form.form d.body (form.ordinary.constants d h) (few_arguments d.body (ok.constants d h))) (prepared S form.form S.main form.ordinary.main (few_arguments S.main ok.main)) (families P.families m ok.constructors)
+    let S = shrunk_program P in
+    let form = shrunk_forms P ok.form in
+    let shallow = shrunk_shallow P ok.form deepest ok.constants ok.main in
+    let few : (F : BoxFamily) → Has S.families F → length F.args ≤ m = subst (λ (Fs : List BoxFamily). (F : BoxFamily) → Has Fs F → length F.args ≤ m) (sym form.families) (families P.families m ok.constructors) in
+    form_suffices S m form.form (λ d h. prepared S form.form d.body (form.ordinary.constants d h) (few_arguments d.body (shallow.0 d h))) (prepared S form.form S.main form.ordinary.main (few_arguments S.main shallow.1)) few
 
 pub total_back_end : ModulesAnswer
 total_back_end P pages m w ns n matched pos small some ok evaluates reads =
-    let S = saturated_program P in
-    let x = passes_count P ok.form w ns n matched evaluates reads in
+    let S = shrunk_program P in
+    let x = shrunk_runs P ok.form w ns n matched evaluates reads in
     let c = x.counts in
     let d = reads_tree x.v ns x.reads in
     let both = suffices P m ok in
@@ -148,7 +150,7 @@ total_back_end P pages m w ns n matched pos small some ok evaluates reads =
     }
 
 pub total_valid : ModulesAreValid
-total_valid P pages m pos small ok = back_end_valid (saturated_program P) pages m pos small (suffices P m ok).1
+total_valid P pages m pos small ok = back_end_valid (shrunk_program P) pages m pos small (suffices P m ok).1
 
 pub total_spelled : ModulesCanBeSpelled
-total_spelled P pages m pos small ok counts = emit_spelled (passed P) pages m pos small (lift_forms (to_anf (saturated_program P)) m (to_anf_forms (saturated_program P) m (suffices P m ok).1)) ok.limits counts
+total_spelled P pages m pos small ok counts = emit_spelled (passed P) pages m pos small (lift_forms (to_anf (shrunk_program P)) m (to_anf_forms (shrunk_program P) m (suffices P m ok).1)) ok.limits counts

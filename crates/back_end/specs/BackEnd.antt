@@ -8,6 +8,7 @@ use Rattle.lambda_box.specs.BoxEvaluation.{BoxEvaluates}
 use Rattle.lambda_box.specs.BoxData.{Data as Nodes, BoxReads}
 use Rattle.lambda_box.specs.DataTerms.{greatest_words}
 use Rattle.box_passes.specs.PassLaws.{saturated_program}
+use Rattle.shrink_passes.specs.ShrunkProgram.{shrunk_program}
 use Rattle.closure_lift.specs.Lifted.{Program}
 use Rattle.closure_lift.specs.Lift.{lift}
 use Rattle.closure_lift.specs.LiftedForm.{Limits}
@@ -21,9 +22,10 @@ use Rattle.wasm_core.specs.RunTree.{Fate}
 use Rattle.wasm_emit.specs.EmittedModule.{module_of}
 use Rattle.wasm_emit.specs.EmitLaws.{Finished, Spent, CountsFit}
 
--- the program after all passes: matches on propositional families dropped, constructors saturated, A-normal form, lifted
+-- the program after all passes: matches on propositional families dropped, constructors saturated, constants with one use put in its place, parameters that are always box
+-- dropped, A-normal form, lifted
 abbrev pub passed : BoxProgram → Program
-passed P = lift (to_anf (saturated_program P))
+passed P = lift (to_anf (shrunk_program P))
 
 -- the greatest depth of a term
 abbrev pub deepest : ℕ

@@ -1,5 +1,6 @@
 //! The layer of the passes to closures: `to_anf` and `lift_program`.
 ghost use Rattle.dump_reader.specs.Spelled.{IsSpelled};
+ghost use Rattle.lambda_box.specs.BoxForm.{IsBoxProgram};
 
 use crate::anf::put_anf;
 use crate::erasing::program_of;
@@ -15,6 +16,7 @@ use dump_reader::environment::RawEnv;
 use pc_terms::term::MakeFault;
 use row_files::{Case, Fault};
 use row_terms::read;
+use shrink_passes::{drop_dead_params, inline};
 use std::alloc::{AllocError, Global};
 
 /// Runs a row of the layer.
@@ -68,8 +70,10 @@ fn run_erased(
     raw: &RawEnv,
     program: &BoxProgram,
     out: &mut String,
-) -> Result<(), Fault> {
-    let Ok(program) = normal(case.alloc, program) else {
+) -> Result<(), Fault>
+    requires form { IsBoxProgram program.now }
+{
+    let Ok(program) = passed(case.alloc, program) else {
         return Err(Fault::Faulty("no program in A-normal form"));
     };
     match case.row.given("call")? {
@@ -81,6 +85,17 @@ fn run_erased(
         _ => return Err(Fault::Faulty("no such call")),
     }
     Ok(())
+}
+
+/// The program in A-normal form, after all passes before it.
+fn passed(alloc: Global, program: &BoxProgram) -> Result<AnfProgram, PassFault>
+    requires form { IsBoxProgram program.now }
+{
+    let program = prop_match(alloc, program)?;
+    let program = saturate(alloc, &program)?;
+    let program = inline(alloc, &program)?;
+    let program = drop_dead_params(alloc, &program)?;
+    to_anf(alloc, &program)
 }
 
 /// The program in A-normal form, of the saturated one without matches on proofs.

@@ -9,6 +9,9 @@ use Rattle.box_passes.specs.PropMatch.{prop_match_program}
 use Rattle.box_passes.specs.Saturate.{saturate_program}
 use Rattle.box_passes.specs.PassLaws.{saturated_program}
 use Rattle.box_passes.specs.PassResults.{IsDeep}
+use Rattle.shrink_passes.specs.Inline.{inline_program}
+use Rattle.shrink_passes.specs.DropParams.{drop_program}
+use Rattle.shrink_passes.specs.ShrunkProgram.{shrunk_program}
 use Rattle.anf_convert.specs.Anf.{AnfProgram}
 use Rattle.anf_convert.specs.BoxForms.{ConstructorsWithin}
 use Rattle.anf_convert.specs.ToAnf.{to_anf}
@@ -52,12 +55,23 @@ too_deep P O o pass.Memory h = tt
 
 -- what stands after each pass
 
-module _ (P O S : BoxProgram) (A : AnfProgram) (o : O ≡ prop_match_program P) (s : S ≡ saturate_program O) (a : A ≡ to_anf S) where
-  pub saturated_is : S ≡ saturated_program P
-  saturated_is = s ∙ ap saturate_program o
+-- the programs of the passes before A-normal form
+pub record Passed (P S : BoxProgram) (A : AnfProgram) : Type 0 where
+  pub O : BoxProgram
+  pub I : BoxProgram
+  pub D : BoxProgram
+  pub o : O ≡ prop_match_program P
+  pub s : S ≡ saturate_program O
+  pub i : I ≡ inline_program S
+  pub d : D ≡ drop_program I
+  pub a : A ≡ to_anf D
 
-  pub normal_is : A ≡ to_anf (saturated_program P)
-  normal_is = a ∙ ap to_anf saturated_is
+module _ (P S : BoxProgram) (A : AnfProgram) (x : Passed P S A) where
+  pub saturated_is : S ≡ saturated_program P
+  saturated_is = x.s ∙ ap saturate_program x.o
+
+  pub normal_is : A ≡ to_anf (shrunk_program P)
+  normal_is = x.a ∙ ap to_anf (x.d ∙ ap drop_program (x.i ∙ ap inline_program saturated_is))
 
   pub is_shallow : (IsDeep S → ⊥) → IsShallow P
   is_shallow h d = h (subst IsDeep (sym saturated_is) d)
@@ -65,7 +79,7 @@ module _ (P O S : BoxProgram) (A : AnfProgram) (o : O ≡ prop_match_program P) 
   -- a refusal of lifting
   pub not_lifted : (IsDeep S → ⊥) → (f : LiftFault) → IsNotLifted A f → IsRefused P (of_lifting f)
   not_lifted h lifting.Captured n = (is_shallow h, λ c. n (subst (ProgramCaptures most_words) (sym normal_is) c))
-  not_lifted h lifting.Functions (c, many) = (is_shallow h, subst (ProgramCaptures most_words) normal_is c, subst (λ (x : AnfProgram). most_functions < length x.constants + length (lift x).functions) normal_is many)
+  not_lifted h lifting.Functions (c, many) = (is_shallow h, subst (ProgramCaptures most_words) normal_is c, subst (λ (y : AnfProgram). most_functions < length y.constants + length (lift y).functions) normal_is many)
   not_lifted h lifting.Memory n = tt
 
   module _ (Q : Program) (q : Q ≡ lift A) where

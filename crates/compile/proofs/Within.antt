@@ -1,13 +1,14 @@
 -- A program that has a module meets the conditions of the back end's theorems; and a program is refused for one cause.
-use Rattle.std.proofs.Common.{◌≡◌, ℕ, ◌<◌, ◌≤◌, List, [], ◌∷◌, refl, arith, inl, inr}
+use Rattle.std.proofs.Common.{◌≡◌, ℕ, ◌<◌, ◌≤◌, List, [], ◌∷◌, refl, sym, subst, arith, inl, inr}
 use Rattle.std.specs.Prelude.{length}
 use Rattle.std.proofs.lemmas.Bool.{cases_lt}
 use Rattle.trees.specs.Measures.{depth}
-use Rattle.lambda_box.specs.BoxProgram.{BoxConstant, BoxProgram, Has, here, there}
+use Rattle.lambda_box.specs.BoxProgram.{BoxConstant, BoxFamily, BoxProgram, Has, here, there}
 use Rattle.lambda_box.specs.BoxForm.{IsBoxProgram}
 use Rattle.box_passes.specs.PassLaws.{saturated_program}
 use Rattle.box_passes.specs.PassResults.{IsDeep, deep_main, deep_constant}
-use Rattle.box_passes.proofs.Passes.{passes_form}
+use Rattle.shrink_passes.specs.ShrunkProgram.{shrunk_program}
+use Rattle.shrink_passes.proofs.ShrunkPrograms.{shrunk_forms, shrunk_shallow}
 use Rattle.anf_convert.specs.AnfForm.{AnfFormed}
 use Rattle.anf_convert.specs.BoxForms.{AreShallow, ConstructorsWithin}
 use Rattle.anf_convert.specs.ToAnf.{to_anf}
@@ -37,18 +38,20 @@ all_shallow [] h = tt
 all_shallow (c ∷ cs) h = (h c here, all_shallow cs (λ d has. h d (there has)))
 
 -- the program in A-normal form of a program within the depth limit has its names in scope
-pub normal_formed : (P : BoxProgram) (m : ℕ) → IsBoxProgram P → IsShallow P → ConstructorsWithin P m → AnfFormed (to_anf (saturated_program P)) m
+pub normal_formed : (P : BoxProgram) (m : ℕ) → IsBoxProgram P → IsShallow P → ConstructorsWithin P m → AnfFormed (to_anf (shrunk_program P)) m
 normal_formed P m form shallow few =
-    let S = saturated_program P in
-    let kept = passes_form P form in
-    form_kept S (to_anf S) refl (all_shallow S.constants (constant_shallow S shallow)) (main_shallow S shallow) kept.form kept.ordinary m (families P.families m few)
+    let S = shrunk_program P in
+    let kept = shrunk_forms P form in
+    let depths = shrunk_shallow P form 2048 (constant_shallow (saturated_program P) shallow) (main_shallow (saturated_program P) shallow) in
+    let fewer : ConstructorsWithin S m = subst (λ (Fs : List BoxFamily). (F : BoxFamily) → Has Fs F → length F.args ≤ m) (sym kept.families) (families P.families m few) in
+    form_kept S (to_anf S) refl (all_shallow S.constants depths.0) depths.1 kept.form kept.ordinary m fewer
 
 pub lifted_formed : (P : BoxProgram) (m : ℕ) → IsBoxProgram P → IsShallow P → ConstructorsWithin P m → Formed (passed P) m
-lifted_formed P m form shallow few = lift_forms (to_anf (saturated_program P)) m (normal_formed P m form shallow few)
+lifted_formed P m form shallow few = lift_forms (to_anf (shrunk_program P)) m (normal_formed P m form shallow few)
 
 pub program_limits : (P : BoxProgram) (m : ℕ) → IsBoxProgram P → IsShallow P → ConstructorsWithin P m → CapturesFew P → length (passed P).functions ≤ 32768 → Limits (passed P)
 program_limits P m form shallow few captures functions = record {
-  captured = λ g fn at. (let h = (captured_exactly (to_anf (saturated_program P)) 1001 m (normal_formed P m form shallow few)).0 captures g fn at in omega (arith, h));
+  captured = λ g fn at. (let h = (captured_exactly (to_anf (shrunk_program P)) 1001 m (normal_formed P m form shallow few)).0 captures g fn at in omega (arith, h));
   few = functions;
 }
 

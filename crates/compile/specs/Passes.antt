@@ -9,6 +9,7 @@ use Rattle.lambda_box.specs.declared.fault.PassFault.{PassFault}
 use Rattle.lambda_box.specs.declared.fault.PassFault.TheVariants as pass
 use Rattle.box_passes.specs.PassLaws.{saturated_program}
 use Rattle.box_passes.specs.PassResults.{IsDeep}
+use Rattle.shrink_passes.specs.ShrunkProgram.{shrunk_program}
 use Rattle.anf_convert.specs.BoxForms.{ConstructorsWithin}
 use Rattle.anf_convert.specs.ToAnf.{to_anf}
 use Rattle.closure_lift.specs.CapturedLimit.{ProgramCaptures}
@@ -33,11 +34,11 @@ IsShallow P = IsDeep (saturated_program P) → ⊥
 
 -- no lambda or fixpoint of the program in A-normal form has over 1,000 captured words
 abbrev pub CapturesFew : BoxProgram → Type 0
-CapturesFew P = ProgramCaptures most_words (to_anf (saturated_program P))
+CapturesFew P = ProgramCaptures most_words (to_anf (shrunk_program P))
 
 -- how many its constants, the definitions of its fixpoints and its other lambdas are
 abbrev pub function_count : BoxProgram → ℕ
-function_count P = length (to_anf (saturated_program P)).constants + length (passed P).functions
+function_count P = length (to_anf (shrunk_program P)).constants + length (passed P).functions
 
 -- the program has a module
 pub record Fits (P : BoxProgram) : Type 0 where

@@ -1,9 +1,9 @@
 //! The compiler: from a program after erasure to its module, as the list of the passes.
 //!
-//! `compile` drops matches on propositional families, saturates constructors, brings the program into A-normal form, lifts it and emits its module, which is
-//! exactly the module of `back_end`'s theorems (`is`); each refusal but want of memory has its cause, of the program alone (`refused`), and the program has a
-//! module where it has none (`fits`). `one_cause` says that no two causes stand together. Where main evaluates by substitution to data, every run of the module
-//! answers the data or is exhausted, within bounds (`compiled_modules_answer`).
+//! `compile` drops matches on propositional families, saturates constructors, puts constants with one use in its place, drops parameters that are always box, brings
+//! the program into A-normal form, lifts it and emits its module, which is exactly the module of `back_end`'s theorems (`is`); each refusal but want of memory has its
+//! cause, of the program alone (`refused`), and the program has a module where it has none (`fits`). `one_cause` says that no two causes stand together. Where main
+//! evaluates by substitution to data, every run of the module answers the data or is exhausted, within bounds (`compiled_modules_answer`).
 //!
 //! Below stand the passes and `back_end`; above, the driver writes, reads, checks and runs the module.
 #![tactic(auto)]

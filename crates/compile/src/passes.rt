@@ -10,6 +10,7 @@ use anf_convert::to_anf;
 use box_passes::{prop_match, saturate};
 use box_terms::program::BoxProgram;
 use closure_lift::lift_program;
+use shrink_passes::{drop_dead_params, inline};
 use std::alloc::Global;
 use wasm_core::Valid;
 use wasm_emit::emit;
@@ -17,7 +18,7 @@ use wasm_emit::emit;
 /// The module of a program, whose memory has at most `pages` pages of 65,536 bytes (1 to 16,384): the passes in their order.
 ///
 /// `Depth` exactly where the saturated program has a term over the depth limit of 2,048; else `Captured` exactly where a lambda or fixpoint has over 1,000
-/// captured words; else `Functions` exactly where the constants, the definitions of fixpoints and the other lambdas are together over 32,768; else `Locals`
+/// captured words after both passes that shrink it; else `Functions` exactly where the constants, the definitions of fixpoints and the other lambdas are together over 32,768; else `Locals`
 /// exactly where a function would have over 50,000 locals besides its parameters.
 pub fn compile(alloc: Global, p: &BoxProgram, pages: u32) -> Result<Valid, CompileFault>
     requires form { IsBoxProgram p.now }
@@ -29,7 +30,9 @@ pub fn compile(alloc: Global, p: &BoxProgram, pages: u32) -> Result<Valid, Compi
 {
     let ordinary = prop_match(alloc, p)?;
     let saturated = saturate(alloc, &ordinary)?;
-    let normal = to_anf(alloc, &saturated)?;
+    let inlined = inline(alloc, &saturated)?;
+    let shrunk = drop_dead_params(alloc, &inlined)?;
+    let normal = to_anf(alloc, &shrunk)?;
     let lifted = lift_program(alloc, &normal)?;
     let module = emit(alloc, &lifted, pages)?;
     Ok(module)

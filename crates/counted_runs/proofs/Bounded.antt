@@ -1,12 +1,16 @@
 -- The bounds by the counts, from the laws of all passes.
-use Rattle.std.proofs.Common.{◌≡◌, ℕ, ◌+◌, ◌*◌, ◌≤◌, false, ◌⊎◌, inl, inr, sym, ◌∙◌, subst, arith}
-use Rattle.lambda_box.specs.ClosureEvaluation.{Empty}
+use Rattle.std.proofs.Common.{◌≡◌, ℕ, ◌+◌, ◌*◌, ◌≤◌, false, [], ◌⊎◌, inl, inr, sym, ◌∙◌, subst, arith}
+use Rattle.lambda_box.specs.ClosureEvaluation.{Empty, NoValue}
+use Rattle.lambda_box.specs.DataTerms.{hold_none}
 use Rattle.lambda_box.proofs.OneRun.{runs_are_one}
 use Rattle.box_passes.specs.PassLaws.{saturated_program}
 use Rattle.box_passes.proofs.Passes.{passes_form, passes_count}
+use Rattle.shrink_passes.specs.ShrunkProgram.{shrunk_program}
+use Rattle.shrink_passes.proofs.ShrunkPrograms.{shrunk_keeps}
 use Rattle.anf_convert.proofs.Preorder.{reads_tree}
 use Rattle.back_end.proofs.Composition.{back_end}
 use Rattle.back_end.proofs.Total.{suffices}
+use Rattle.back_end.proofs.Whole.{product_le}
 use Rattle.wasm_core.specs.Parts.{Parts}
 use Rattle.wasm_core.specs.Instance.{greatest_pages}
 use Rattle.wasm_core.specs.MachineStep.{State, Reach}
@@ -16,6 +20,7 @@ use Rattle.wasm_core.specs.Answer.{Answers, Exhausted, exhausted, AnswersWithin}
 use Rattle.wasm_core.specs.WordData.{Data as Nodes}
 use Rattle.wasm_core.proofs.Small.{inj}
 use Rattle.wasm_emit.specs.EmitLaws.{Finished, Spent, spent}
+use Rattle.wasm_emit.proofs.Composition.{longer}
 use Rattle.headline.specs.SourceWords.{source_branches}
 use Rattle.headline.specs.EveryRun.{module_for}
 use Rattle.headline.proofs.Composed.{headline}
@@ -35,21 +40,30 @@ unless_exhausted (inl a) f le e = a
 unless_exhausted (inr x) f le e = past_memory f x le e
 
 pub counts_bound_runs : CountsBoundRuns
-counts_bound_runs P pages m tree c pos small some ok g =
-    let S = saturated_program P in
+counts_bound_runs P pages m tree c pos small some ok given =
+    let S = shrunk_program P in
     let M = module_for P pages in
-    let d = reads_tree g.value tree g.reads in
+    let g = shrunk_keeps P ok.form NoValue [] hold_none given.value tree c given.run given.reads in
+    let k = g.counts in
+    let less = g.no_more in
+    let blocks = less.blocks in
+    let contractions = less.contractions in
+    let greatest = less.greatest in
+    let d = reads_tree g.v tree g.reads in
     let both = suffices P m ok in
-    let r = back_end S pages m g.value d.0 c pos small some both.0 both.1 ok.limits g.run d.1 in
+    let r = back_end S pages m g.v d.0 k pos small some both.0 both.1 ok.limits g.run d.1 in
+    let bound : 64 * (k.blocks + k.contractions + 1) * (k.greatest + m) ≤ 64 * (c.blocks + c.contractions + 1) * (c.greatest + m) =
+    product_le (64 * (k.blocks + k.contractions + 1)) (64 * (c.blocks + c.contractions + 1)) (k.greatest + m) (c.greatest + m) (omega arith) (omega arith) in
+    let bytes : k.blocks * k.greatest ≤ c.blocks * c.greatest = product_le k.blocks c.blocks k.greatest c.greatest blocks greatest in
     let all : AnswersWithin M (64 * (c.blocks + c.contractions + 1) * (c.greatest + m)) tree =
-    subst (λ (y : Nodes). AnswersWithin M (64 * (c.blocks + c.contractions + 1) * (c.greatest + m)) y) d.2 r.runs.always in
+    longer bound (subst (λ (y : Nodes). AnswersWithin M (64 * (k.blocks + k.contractions + 1) * (k.greatest + m)) y) d.2 r.runs.always) in
     record {
       answers = all;
-      enough = λ big k t reach end free.
-          let fate = (r.runs.run k t (subst (λ (f : State). Reach M k f t) (inj (sym all.starts ∙ r.runs.starts)) reach)).1 in
+      enough = λ big n t reach end free.
+          let fate = (r.runs.run n t (subst (λ (f : State). Reach M n f t) (inj (sym all.starts ∙ r.runs.starts)) reach)).1 in
           let few = r.few in
-          unless_exhausted (all.answers k t reach end)
-          (subst (λ (y : Nodes). Fate M (r.runs.depth + 1) (Finished M y (8 + 4 * r.words)) (Spent M (8 + 4 * r.words)) c.matches k t) d.2 fate) (omega arith) free;
+          unless_exhausted (all.answers n t reach end)
+          (subst (λ (y : Nodes). Fate M (r.runs.depth + 1) (Finished M y (8 + 4 * r.words)) (Spent M (8 + 4 * r.words)) k.matches n t) d.2 fate) (omega (arith, few, bytes, big)) free;
     }
 
 pub evaluations_have_counts : EvaluationsHaveCounts

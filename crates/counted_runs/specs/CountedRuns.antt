@@ -22,7 +22,7 @@ use Rattle.headline.specs.EveryRun.{module_for, EvaluatesTo}
 use Rattle.headline.specs.Headline.{IsExactly}
 use Rattle.headline.specs.SourceWords.{source_branches}
 
--- main of the saturated program, which the first two passes make of P, gives the data by evaluation with environments, with these counts
+-- main of the saturated program, which the first two passes make of P, gives the data by evaluation with environments, with these counts; what the later passes make of it gives it with no more
 pub record GivesWith (P : BoxProgram) (tree : Data) (c : Counts) : Type 0 where
   pub value : Value
   pub run : Run (saturated_program P) Empty (saturated_program P).main value c

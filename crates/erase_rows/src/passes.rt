@@ -1,4 +1,4 @@
-//! The layer of passes on erased programs: `prop_match`, `saturate` and `inline`.
+//! The layer of passes on erased programs: `prop_match`, `saturate`, and `inline` and `drop_dead_params`, each alone and both together.
 ghost use Rattle.std.specs.Prelude.{◌≡◌, [], IfOk, Ok};
 ghost use Rattle.dump_reader.specs.Spelled.{IsSpelled};
 ghost use Rattle.calculus_rules.specs.Accepted.{IsAccepted};
@@ -19,7 +19,7 @@ use pc_rules::meter::Meter;
 use reduction::substitution::Subst;
 use row_files::{Case, Fault};
 use row_terms::read;
-use shrink_passes::inline;
+use shrink_passes::{drop_dead_params, inline};
 use std::alloc::Global;
 use type_infer::inference::Inference;
 
@@ -61,6 +61,14 @@ fn passed_of(case: &Case, program: &BoxProgram) -> Result<BoxProgram, Fault>
         "prop_match" => done(prop_match(case.alloc, program)),
         "saturate" => saturated(case.alloc, program),
         "inline" => inlined(case.alloc, program),
+        "drop_dead_params" => {
+            let program = saturated(case.alloc, program)?;
+            done(drop_dead_params(case.alloc, &program))
+        }
+        "shrink" => {
+            let program = inlined(case.alloc, program)?;
+            done(drop_dead_params(case.alloc, &program))
+        }
         _ => Err(Fault::Faulty("no such call")),
     }
 }
@@ -77,6 +85,7 @@ fn saturated(alloc: Global, program: &BoxProgram) -> Result<BoxProgram, Fault>
 /// The saturated program, with constants of one use in its place.
 fn inlined(alloc: Global, program: &BoxProgram) -> Result<BoxProgram, Fault>
     requires form { IsBoxProgram program.now }
+    ensures form { IfOk result IsBoxProgram }
 {
     let program = saturated(alloc, program)?;
     done(inline(alloc, &program))

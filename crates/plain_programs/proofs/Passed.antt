@@ -13,11 +13,12 @@ use Rattle.box_passes.specs.Saturate.{saturate_arguments, saturate_family, witho
 use Rattle.box_passes.specs.PassLaws.{saturated_program}
 use Rattle.box_passes.specs.PassResults.{IsDeep, deep_main, deep_constant}
 use Rattle.anf_convert.specs.declared.program.Atom.TheVariants.{Empty as AEmpty}
-use Rattle.anf_convert.specs.Captured.{Outside}
-use Rattle.anf_convert.specs.ToAnf.{number_in, code_of, to_anf}
+use Rattle.shrink_passes.specs.Inline.{inline_program}
+use Rattle.shrink_passes.specs.DropParams.{drop_program}
+use Rattle.anf_convert.specs.ToAnf.{to_anf}
 use Rattle.closure_lift.specs.Lifted.{RetAtom, Program}
 use Rattle.closure_lift.specs.Lift.{lift}
-use Rattle.closure_lift.specs.CapturedLimit.{BlockCaptures}
+use Rattle.closure_lift.specs.CapturedLimit.{ProgramCaptures}
 use Rattle.closure_lift.specs.Lifting.{most_words}
 use Rattle.wasm_core.specs.ShortestBytes.{module_bytes}
 use Rattle.wasm_emit.specs.EmittedModule.{module_of}
@@ -82,7 +83,7 @@ module _ (Fs : List BoxFamily) (f : FamilyId) (c : ℕ) (h : HaveNoCounts Fs) wh
   saturated_is = ap (program_with Fs) (saturated Fs f c h)
 
   passed_is : passed P ≡ bare c
-  passed_is = ap (λ Q. lift (to_anf Q)) saturated_is
+  passed_is = ap (λ Q. lift (to_anf (drop_program (inline_program Q)))) saturated_is
 
   none_deep : IsDeep Q → ⊥
   none_deep (deep_main lt) = omega (arith, lt)
@@ -91,7 +92,7 @@ module _ (Fs : List BoxFamily) (f : FamilyId) (c : ℕ) (h : HaveNoCounts Fs) wh
   fits : Fits P
   fits = record {
     shallow = subst (λ Q. IsDeep Q → ⊥) (sym saturated_is) none_deep;
-    captures = record { constants = tt; main = subst (λ t. BlockCaptures most_words Outside (code_of (number_in []) t)) (sym (saturated Fs f c h)) tt };
+    captures = subst (λ (Q : BoxProgram). ProgramCaptures most_words (to_anf (drop_program (inline_program Q)))) (sym saturated_is) (record { constants = tt; main = tt });
     few = subst (λ (L : Program). 0 + length L.functions ≤ 32768) (sym passed_is) (lit≤ tt);
     locals = subst FewLocals (sym passed_is) (record { functions = tt; constants = tt; main = lit≤ tt });
   }

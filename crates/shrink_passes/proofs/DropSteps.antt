@@ -90,7 +90,7 @@ uses_lambdas : (k n : ℕ) (t : BoxTerm) → uses k (lambdas n t) ≡ uses k t
 uses_lambdas k zero t = refl
 uses_lambdas k (suc n) t = uses_lambdas k n t
 
-fits_member : (k p : ℕ) (cs : List BoxConstant) {x : BoxConstant} → fits_constants k p cs ≡ true → Has cs x → fits k p [] x.body ≡ true
+pub fits_member : (k p : ℕ) (cs : List BoxConstant) {x : BoxConstant} → fits_constants k p cs ≡ true → Has cs x → fits k p [] x.body ≡ true
 fits_member k p [] e h = elim h [ ]
 fits_member k p (d ∷ cs) e here = (both_hold (fits k p [] d.body) (fits_constants k p cs) e).0
 fits_member k p (d ∷ cs) e (there h) = fits_member k p cs (both_hold (fits k p [] d.body) (fits_constants k p cs) e).1 h
@@ -186,7 +186,7 @@ module _ (Fs : List BoxFamily) (done : List BoxConstant) (d : BoxConstant) (rest
   step_runs vs args held v data' c run reads =
       keeps_runs k p lambda.inside inside_unused now next refl b lambda.is (λ c t kept. known_of (record { name = c; body = t }) kept) (f main) fitting.1 vs args held v data' c run reads
 
-  each_body : (Q : BoxTerm → Type 0) → ((t : BoxTerm) → Q t → Q (cut k p t)) → (Q b → Q (without_lambda p b)) → ((x : BoxConstant) → Has now.constants x → Q x.body) → (x : BoxConstant) → Has next.constants x → Q x.body
+  pub each_body : (Q : BoxTerm → Type 0) → ((t : BoxTerm) → Q t → Q (cut k p t)) → (Q b → Q (without_lambda p b)) → ((x : BoxConstant) → Has now.constants x → Q x.body) → (x : BoxConstant) → Has next.constants x → Q x.body
   each_body Q cuts drops all x h = ⊎_elim (λ g. of_done g)
       (λ g. subst (λ (y : BoxConstant). Q y.body) (sym g.2) (cuts (f g.0.body) (all (changed f g.0) (to_rest f rest (old ∷ done) g.1))))
       (of_standing (λ t. cut k p (f t)) rest (new ∷ done) h)
@@ -236,10 +236,10 @@ choose G false f g = g refl
 
 module _ (Fs : List BoxFamily) where
   module _ (done : List BoxConstant) (d : BoxConstant) (rest : List BoxConstant) (main : BoxTerm) where
-    abbrev whole : BoxTerm × (BoxTerm → BoxTerm) → BoxProgram
+    abbrev pub whole : BoxTerm × (BoxTerm → BoxTerm) → BoxProgram
     whole r = with_constant Fs done d r.0 r.1 rest main
 
-    params_steps : (n p : ℕ) (b : BoxTerm) (f : BoxTerm → BoxTerm) → IsBoxProgram (with_constant Fs done d b f rest main) → Shrinks (with_constant Fs done d b f rest main) (whole (without_params Fs done d rest main n p b f))
+    pub params_steps : (n p : ℕ) (b : BoxTerm) (f : BoxTerm → BoxTerm) → IsBoxProgram (with_constant Fs done d b f rest main) → Shrinks (with_constant Fs done d b f rest main) (whole (without_params Fs done d rest main n p b f))
     params_steps zero p b f ok = no_step (with_constant Fs done d b f rest main) ok
     params_steps (suc n) p b f ok = choose whole (is_dead Fs done d p b f rest main)
         (λ e. let s = step Fs done d rest main p b f ok e in more_steps s (params_steps n p (without_lambda p b) (λ t. cut d.name.0 p (f t)) s.form))

@@ -11,30 +11,18 @@ use Rattle.box_terms.specs.BoxLists.{arms_of, bodies_of, rargs_of}
 use Rattle.box_terms.specs.declared.term.BoxBranch.{BoxBranch}
 use Rattle.box_terms.specs.declared.term.BoxDef.{BoxDef}
 use Rattle.box_passes.specs.Maps.{map_branch, map_def}
-use Rattle.box_passes.proofs.Maps.{rargs_map, length_map}
 use Rattle.shrink_passes.specs.Uses.{uses}
 use Rattle.shrink_passes.specs.Inline.{put_in, put_in_terms}
 use Rattle.shrink_passes.specs.Filled.{filled, filled_terms}
 use Rattle.shrink_passes.proofs.Putting.{unused}
+use Rattle.shrink_passes.proofs.Mapped.{fix_mapped, case_mapped}
 
 module _ (m : ℕ → Option BoxTerm) where
-  pub arms_filled : (bs : List BoxBranch) → filled_terms m (arms_of bs) ≡ arms_of (map (map_branch (filled m)) bs)
-  arms_filled [] = refl
-  arms_filled (b ∷ bs) = ap (Next b.binders (filled m b.body)) (arms_filled bs)
-
-  bodies_filled : (n : ℕ) (ds : List BoxDef) → filled_terms m (bodies_of n ds) ≡ bodies_of n (map (map_def (filled m)) ds)
-  bodies_filled n [] = refl
-  bodies_filled n (d ∷ ds) = ap (Next n (filled m d.body)) (bodies_filled n ds)
-
   pub fix_filled : (ds es : List BoxDef) (i : ℕ) → es ≡ map (map_def (filled m)) ds → BFix i (rargs_of es) (bodies_of (length es) es) ≡ filled m (BFix i (rargs_of ds) (bodies_of (length ds) ds))
-  fix_filled ds es i e =
-      ap (λ es. BFix i (rargs_of es) (bodies_of (length es) es)) e
-      ∙ ap (λ rs. BFix i rs (bodies_of (length (map (map_def (filled m)) ds)) (map (map_def (filled m)) ds))) (rargs_map (filled m) ds)
-      ∙ ap (λ n. BFix i (rargs_of ds) (bodies_of n (map (map_def (filled m)) ds))) (length_map (filled m) ds)
-      ∙ ap (BFix i (rargs_of ds)) (sym (bodies_filled (length ds) ds))
+  fix_filled = fix_mapped (filled m) (filled_terms m) refl (λ n t ts. refl)
 
   pub case_filled : (f : FamilyId) (s s' : BoxTerm) (bs cs : List BoxBranch) → s' ≡ filled m s → cs ≡ map (map_branch (filled m)) bs → BCase f s' (arms_of cs) ≡ filled m (BCase f s (arms_of bs))
-  case_filled f s s' bs cs e g = ap (λ s. BCase f s (arms_of cs)) e ∙ ap (λ cs. BCase f (filled m s) (arms_of cs)) g ∙ ap (BCase f (filled m s)) (sym (arms_filled bs))
+  case_filled = case_mapped (filled m) (filled_terms m) refl (λ n t ts. refl)
 
   pub arm_filled_is_less : (bs : List BoxBranch) (i : ℕ) (b : BoxBranch) → i < length bs → b ≡ get_or bs i b → depth (filled m b.body) ≤ depth_trees (filled_terms m (arms_of bs))
   arm_filled_is_less [] i b l e = absurd (omega arith)

@@ -21,11 +21,11 @@ use Rattle.shrink_passes.proofs.Forming.{closed_more}
 
 -- a closed term names no variable past its bound
 
-neither : (a b : Bool) → a ≡ false → b ≡ false → (a || b) ≡ false
+pub neither : (a b : Bool) → a ≡ false → b ≡ false → (a || b) ≡ false
 neither true b e g = cc
 neither false b e g = g
 
-neither_and : (a b : Bool) → b ≡ false → (a && b) ≡ false
+pub neither_and : (a b : Bool) → b ≡ false → (a && b) ≡ false
 neither_and true b e = e
 neither_and false b e = refl
 
@@ -53,7 +53,7 @@ span (Bind v e) = 1 + span e
 span (BindFix rargs bodies e) = length rargs + span e
 
 -- an environment whose set has no variable takes no words
-words_none : (e : Env) (N : ℕ → Bool) → ((i : ℕ) → N i ≡ false) → words e N ≡ 0
+pub words_none : (e : Env) (N : ℕ → Bool) → ((i : ℕ) → N i ≡ false) → words e N ≡ 0
 words_none Empty N h = refl
 words_none (Bind v e) N h = let a : one_if (N zero) ≡ 0 = ap one_if (h zero) in omega (arith, a, words_none e (λ i. N (suc i)) (λ i. h (suc i)))
 words_none (BindFix rargs bodies e) N h =

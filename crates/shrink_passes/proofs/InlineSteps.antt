@@ -182,7 +182,7 @@ module _ (Fs : List BoxFamily) (done : List BoxConstant) (f : BoxTerm → BoxTer
       )
 
   -- what each body of the next program has, where each body of this one has it, and putting in keeps it
-  each_body : (Q : BoxTerm → Type 0) → ((t : BoxTerm) → Q b → Q t → Q (put_in k b t)) → ((x : BoxConstant) → Has now.constants x → Q x.body) → (x : BoxConstant) → Has next.constants x → Q x.body
+  pub each_body : (Q : BoxTerm → Type 0) → ((t : BoxTerm) → Q b → Q t → Q (put_in k b t)) → ((x : BoxConstant) → Has now.constants x → Q x.body) → (x : BoxConstant) → Has next.constants x → Q x.body
   each_body Q put all x h = ⊎_elim
       (λ g. all x (to_done f rest (changed f d ∷ done) (there g)))
       (λ g. subst (λ (y : BoxConstant). Q y.body) (sym g.2) (put (f g.0.body) (all (changed f d) itself) (all (changed f g.0) (to_rest f (d ∷ rest) done (there g.1)))))

@@ -5,6 +5,7 @@ pub mod Forming
 pub mod Deciding
 pub mod Following
 pub mod InlineSteps
+pub mod Mapped
 pub mod Fillings
 pub mod Table
 pub mod Cutting
@@ -14,4 +15,12 @@ pub mod RunShapes
 pub mod DropFollowing
 pub mod DropSteps
 pub mod Examples
+pub mod Flagging
+pub mod UnusedPlaces
+pub mod Noted
+pub mod Spines
+pub mod Cuts
+pub mod Unwrapped
+pub mod DropStages
+pub mod ShrunkNarrow
 pub mod ShrunkPrograms

@@ -44,7 +44,7 @@ mutual
   thinned_nodes_terms s h (Next n t ts) = omega (arith, thinned_nodes (overs n s) (thins_overs n h) t, thinned_nodes_terms s h ts)
 
 mutual
-  thinned_depth : (s : ℕ → BoxTerm) → Thins s → (t : BoxTerm) → depth (substitute s t) ≡ depth t
+  pub thinned_depth : (s : ℕ → BoxTerm) → Thins s → (t : BoxTerm) → depth (substitute s t) ≡ depth t
   thinned_depth s h (Rel i) = thin_depth (s i) (h.thin i)
   thinned_depth s h Box = refl
   thinned_depth s h (BLambda b) = omega (arith, thinned_depth (overs 1 s) (thins_overs 1 h) b)
@@ -117,7 +117,7 @@ without_ordinary Fs zero (BLambda b) h = thinned_ordinary Fs (put Box) box_put b
 without_ordinary Fs (suc p) (BLambda b) h = without_ordinary Fs p b h
 without_ordinary Fs p t h = h
 
-without_closed : (m p : ℕ) (t : BoxTerm) → Closed m t → Closed m (without_lambda p t)
+pub without_closed : (m p : ℕ) (t : BoxTerm) → Closed m t → Closed m (without_lambda p t)
 without_closed m zero (BLambda b) h = substitute-closed b (put Box) (suc m) m (put_fits Box m tt) (closed_at b (omega arith) h.0)
 without_closed m (suc p) (BLambda b) h = (without_closed (1 + m) p b h.0, tt)
 without_closed m p t h = h
@@ -126,7 +126,7 @@ box_form : (Fs : List BoxFamily) (i : ℕ) → HasBoxForm Fs (put Box i)
 box_form Fs zero = (tt, tt)
 box_form Fs (suc i) = tt
 
-without_form : (Fs : List BoxFamily) (p : ℕ) (t : BoxTerm) → HasBoxForm Fs t → HasBoxForm Fs (without_lambda p t)
+pub without_form : (Fs : List BoxFamily) (p : ℕ) (t : BoxTerm) → HasBoxForm Fs t → HasBoxForm Fs (without_lambda p t)
 without_form Fs zero (BLambda b) h = form_substituted Fs b (put Box) (box_form Fs) h.1.0
 without_form Fs (suc p) (BLambda b) h = (tt, (without_form Fs p b h.1.0, tt))
 without_form Fs p t h = h

@@ -3,5 +3,7 @@ pub mod Inline
 pub mod Sights
 pub mod Filled
 pub mod DropParams
+pub mod DeadPlaces
+pub mod Pruned
 pub mod ShrinkLaws
 pub mod ShrunkProgram

@@ -15,6 +15,7 @@ use Rattle.box_passes.specs.PassLaws.{saturated_program}
 use Rattle.shrink_passes.specs.Uses.{deepest}
 use Rattle.shrink_passes.specs.Inline.{inline_program}
 use Rattle.shrink_passes.specs.DropParams.{drop_program}
+use Rattle.shrink_passes.specs.ShrinkLaws.{KeepsRuns}
 
 abbrev pub shrunk_program : BoxProgram → BoxProgram
 shrunk_program P = drop_program (inline_program (saturated_program P))
@@ -27,6 +28,7 @@ pub record ShrunkForm (P : BoxProgram) : Type 0 where
   pub nodes : program_nodes (shrunk_program P) ≤ program_nodes (saturated_program P)
   pub size : program_nodes (shrunk_program P) ≤ program_nodes P * (3 * greatest_counts P.families + 1)
   pub no_deeper : deepest (shrunk_program P) ≤ deepest (saturated_program P)
+  pub families : (shrunk_program P).families ≡ (saturated_program P).families
 
 -- the evaluation of its main, where main evaluates by substitution to data with n nodes; the saturated main's evaluation by substitution has as many matches
 pub record ShrunkRun (P : BoxProgram) (d : Data) (n : ℕ) : Type 0 where
@@ -42,6 +44,10 @@ pub record ShrunkRun (P : BoxProgram) (d : Data) (n : ℕ) : Type 0 where
 
 abbrev pub ShrunkForms : Type 0
 ShrunkForms = (P : BoxProgram) → IsBoxProgram P → ShrunkForm P
+
+-- where the saturated main gives data by evaluation with environments, so does its main, with no more counts
+abbrev pub ShrunkKeeps : Type 0
+ShrunkKeeps = (P : BoxProgram) → IsBoxProgram P → KeepsRuns (saturated_program P) (shrunk_program P)
 
 abbrev pub ShrunkRuns : Type 0
 ShrunkRuns = (P : BoxProgram) → IsBoxProgram P → (w : BoxTerm) (d : Data) (n m : ℕ) → BoxEvaluates P P.main w n m → BoxReads P w d → ShrunkRun P d n

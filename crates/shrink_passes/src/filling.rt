@@ -9,7 +9,7 @@ ghost use Rattle.box_passes.specs.Maps.{map_branch, map_def};
 ghost use Rattle.lambda_box.specs.declared.fault.PassFault.TheVariants.{Memory};
 ghost use Rattle.shrink_passes.specs.Filled.{filled, filled_terms};
 
-use crate::sharing::{share_branches, share_defs, shared};
+use box_passes::sharing::{share_branches, share_defs, shared};
 use box_terms::term::{BoxBranch, BoxBranches, BoxDef, BoxDefs, BoxNode, BoxTerm};
 use lambda_box::PassFault;
 use pc_terms::leaf::Name;

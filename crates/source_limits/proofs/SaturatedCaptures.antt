@@ -13,6 +13,9 @@ use Rattle.box_passes.specs.PropMatch.{prop_match_program}
 use Rattle.box_passes.specs.PassLaws.{saturated_program}
 use Rattle.box_passes.proofs.Narrow.{Narrow, NarrowBranches, NarrowDefs, fits_narrow}
 use Rattle.box_passes.proofs.Passes.{passes_form}
+use Rattle.shrink_passes.specs.ShrunkProgram.{shrunk_program}
+use Rattle.shrink_passes.proofs.ShrunkNarrow.{AreFine, shrunk_narrow}
+use Rattle.shrink_passes.proofs.ShrunkPrograms.{shrunk_forms, shrunk_shallow}
 use Rattle.box_passes.proofs.PropMatchForm.{prop_match_program_sizes}
 use Rattle.box_passes.proofs.SaturatedWidths.{most_depth, main_fits, constant_fits}
 use Rattle.box_passes.proofs.Widths.{plain, words_plain}
@@ -101,20 +104,22 @@ all_shallow : (cs : List BoxConstant) → ((d : BoxConstant) → Has cs d → de
 all_shallow [] h = tt
 all_shallow (c ∷ cs) h = (h c here, all_shallow cs (λ d has. h d (there has)))
 
--- the saturated program is one that the translation takes
-pub ready : (P : BoxProgram) → IsBoxProgram P → IsShallow P → IsReady (saturated_program P)
+-- the program that is brought into A-normal form is one that the translation takes
+pub ready : (P : BoxProgram) → IsBoxProgram P → IsShallow P → IsReady (shrunk_program P)
 ready P form shallow =
-    let S = saturated_program P in
-    let kept = passes_form P form in
-    (data_kept S (to_anf S) refl (all_shallow S.constants (constant_shallow S shallow)) (main_shallow S shallow) kept.form kept.ordinary).0
+    let S = shrunk_program P in
+    let kept = shrunk_forms P form in
+    let depths = shrunk_shallow P form 2048 (constant_shallow (saturated_program P) shallow) (main_shallow (saturated_program P) shallow) in
+    (data_kept S (to_anf S) refl (all_shallow S.constants depths.0) depths.1 kept.form kept.ordinary).0
 
 program_captures : (P : BoxProgram) (C : ℕ) → IsBoxProgram P → IsShallow P → ((d : BoxConstant) → Has (saturated_program P).constants d → Narrow C Empty d.body) → Narrow C Empty (saturated_program P).main →
-    ProgramCaptures (suc C) (to_anf (saturated_program P))
+    ProgramCaptures (suc C) (to_anf (shrunk_program P))
 program_captures P C form shallow constants main =
-    let S = saturated_program P in
+    let S = shrunk_program P in
     let r = ready P form shallow in
     let K = number_in S.constants in
-    record { constants = constants_capture S C K S.constants (λ d at. r.constants d.name d.body at) constants; main = code_few C S K S.main r.main main }
+    let fine : AreFine C S = shrunk_narrow C (saturated_program P) (passes_form P form).form constants main in
+    record { constants = constants_capture S C K S.constants (λ d at. r.constants d.name d.body at) (λ d at. (fine.constants d at).narrow); main = code_few C S K S.main r.main fine.main.narrow }
 
 binders_at : (cs : List BoxConstant) (d : BoxConstant) → Has cs d → lambda_binders 0 d.body ≤ constants_binders cs
 binders_at [] d h = elim h [ ]
@@ -137,5 +142,5 @@ words_captures P most form shallow le =
     let D = most - A in
     let enough : most_depth Q + A ≤ most = omega (arith, (prop_match_program_sizes P).1, le) in
     let is : D + A ≡ most = omega (arith, enough) in
-    subst (λ C. ProgramCaptures (suc C) (to_anf (saturated_program P))) is
+    subst (λ C. ProgramCaptures (suc C) (to_anf (shrunk_program P))) is
     (program_captures P (D + A) form shallow (λ d at. fits_narrow D A Empty (constant_fits Q d at) (omega (arith, enough))) (fits_narrow D A Empty (main_fits Q) (omega (arith, enough))))

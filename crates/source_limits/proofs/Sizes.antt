@@ -5,6 +5,8 @@ use Rattle.lambda_box.specs.BoxProgram.{BoxProgram}
 use Rattle.lambda_box.specs.BoxForm.{IsBoxProgram}
 use Rattle.lambda_box.specs.DataTerms.{greatest_words}
 use Rattle.box_passes.specs.PassLaws.{saturated_program}
+use Rattle.shrink_passes.specs.ShrunkProgram.{shrunk_program}
+use Rattle.shrink_passes.proofs.ShrunkPrograms.{shrunk_forms}
 use Rattle.anf_convert.specs.BoxForms.{ConstructorsWithin}
 use Rattle.anf_convert.specs.ToAnf.{to_anf}
 use Rattle.closure_lift.specs.NamedLift.{most_functions}
@@ -45,7 +47,7 @@ module _ (P : BoxProgram) (form : IsBoxProgram P) where
 
   counts : Fits P → CountsFit (passed P) 1024
   counts fits =
-      let S = saturated_program P in
+      let S = shrunk_program P in
       let anf = normal_formed P 1024 form fits.shallow few_constructors in
       let x = lifted_can_be_emitted (to_anf S) most_words 1024 anf (lit≤ tt) fits.captures (lit≤ tt) fits.few in
       counts_fit (passed P) (record { most = 1024; formed = lifted_formed P 1024 form fits.shallow few_constructors; within = x.within; constants = x.constants; branches = lit≤ tt }) fits.locals
@@ -56,7 +58,7 @@ module _ (P : BoxProgram) (form : IsBoxProgram P) where
   -- no pass refuses a small program
 
   few_functions : saturated_nodes P ≤ most_functions → function_count P ≤ most_functions
-  few_functions le = omega (arith, le, functions_fewer (saturated_program P))
+  few_functions le = omega (arith, le, functions_fewer (shrunk_program P), (shrunk_forms P form).nodes)
 
   small_fits : (w : ℕ) → IsSmallProgram P w → Fits P
   small_fits w small =
@@ -78,7 +80,7 @@ module _ (P : BoxProgram) (form : IsBoxProgram P) where
   )
 
   functions_show : most_functions < function_count P → most_functions < saturated_nodes P
-  functions_show lt = omega (arith, lt, functions_fewer (saturated_program P))
+  functions_show lt = omega (arith, lt, functions_fewer (shrunk_program P), (shrunk_forms P form).nodes)
 
   locals_show : IsShallow P → CapturesFew P → function_count P ≤ most_functions → (FewLocals (passed P) → ⊥) → most_locals < saturated_nodes P
   locals_show shallow captures few h = more_than most_locals (saturated_nodes P) (λ le. h (locals_are_few P 1024 (within shallow captures few) le))

@@ -7,7 +7,7 @@ use Rattle.lambda_box.specs.BoxProgram.{BoxProgram}
 use Rattle.lambda_box.specs.BoxForm.{IsBoxProgram}
 use Rattle.lambda_box.specs.DataTerms.{greatest_words}
 use Rattle.lambda_box.specs.SaturatedForm.{program_nodes}
-use Rattle.box_passes.specs.PassLaws.{saturated_program}
+use Rattle.shrink_passes.specs.ShrunkProgram.{shrunk_program}
 use Rattle.anf_convert.specs.Anf.{AnfProgram}
 use Rattle.anf_convert.specs.ToAnf.{to_anf}
 use Rattle.closure_lift.specs.CapturedLimit.{ProgramCaptures}
@@ -27,13 +27,13 @@ use Rattle.source_limits.specs.PassedSizes.{saturated_nodes, saturated_binders, 
 abbrev pub NormalCapturesAreFew : Type 0
 NormalCapturesAreFew = (P : AnfProgram) (most : ℕ) → normal_binders P ≤ most → ProgramCaptures (suc most) P
 
--- so it is by the binders of the program that it was made from, though bindings stand outside its lambdas besides
+-- so it is by the binders of the saturated program that it was made from, though bindings stand outside its lambdas besides, and constants were put in place of their uses
 abbrev pub SaturatedCapturesAreFew : Type 0
-SaturatedCapturesAreFew = (P : BoxProgram) (most : ℕ) → IsBoxProgram P → IsShallow P → saturated_binders P ≤ most → ProgramCaptures (suc most) (to_anf (saturated_program P))
+SaturatedCapturesAreFew = (P : BoxProgram) (most : ℕ) → IsBoxProgram P → IsShallow P → saturated_binders P ≤ most → ProgramCaptures (suc most) (to_anf (shrunk_program P))
 
 -- and by the words of the program, as it was before the passes
 abbrev pub WordsBoundCaptures : Type 0
-WordsBoundCaptures = (P : BoxProgram) (most : ℕ) → IsBoxProgram P → IsShallow P → greatest_words P ≤ 4 + most → ProgramCaptures (suc most) (to_anf (saturated_program P))
+WordsBoundCaptures = (P : BoxProgram) (most : ℕ) → IsBoxProgram P → IsShallow P → greatest_words P ≤ 4 + most → ProgramCaptures (suc most) (to_anf (shrunk_program P))
 
 -- constants, definitions of fixpoints and other lambdas are together fewer than the nodes of the program that was brought into A-normal form
 abbrev pub FunctionsAreFewer : Type 0
