@@ -22,3 +22,4 @@ pub mod KnownComposition
 pub mod KnownCalling
 pub mod KnownSizes
 pub mod KnownLight
+pub mod KnownShare

@@ -1,5 +1,8 @@
 -- The size of the bytes of modules with workers, by the size of the lifted program, and so of the program in A-normal form.
 use Rattle.std.specs.Prelude.{ℕ, suc, ◌+◌, ◌*◌, ◌≤◌, List, [], ◌∷◌, length}
+use Rattle.lambda_box.specs.BoxProgram.{BoxProgram}
+use Rattle.lambda_box.specs.SaturatedForm.{program_nodes}
+use Rattle.anf_convert.specs.ToAnf.{to_anf}
 use Rattle.anf_convert.specs.Anf.{AnfOp, ConstOp, AppOp, ConOp, LamOp, FixOp, CaseOp, AnfBlock, TailAtom, Tail, BindAtom, Bind, AnfBranches, NoBranch, Branch, AnfDefs, NoDef, LamDef, BoxDef, AnfProgram}
 use Rattle.closure_lift.specs.CapturedLimit.{ProgramCaptures}
 use Rattle.closure_lift.specs.Lift.{lift}
@@ -86,3 +89,7 @@ module _ (c : ℕ) where
 -- the lifted program is no heavier
 abbrev pub LiftedIsLight : Type 0
 LiftedIsLight = (P : AnfProgram) (c : ℕ) → ProgramCaptures (suc c) P → program_weight (lift P) ≤ normal_program_weight c P
+
+-- made from a program of s nodes by the passes it weighs at most `64 * s * (4 + c)`: so the module has at most 640 bytes more than that
+abbrev pub KnownIsSmall : Type 0
+KnownIsSmall = (P : BoxProgram) (c : ℕ) → normal_program_weight c (to_anf P) ≤ 64 * program_nodes P * (4 + c)
