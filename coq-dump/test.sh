@@ -7,7 +7,7 @@
 # `check`, and each NAME.refused.dump be refused by a rule of typing; each NAME.run.dump with a NAME.value must have that value by `eval` and by `exec`, where the
 # program has these jobs for it, and each NAME.exec.dump by `exec` alone. A job that it hasn't yet is told as skipped, and the one run that is known to take more turns than a job has is told
 # apart: it says nothing of the value. Without coqc the whole is skipped. The files of tests/packages need a package that their first line names, and are told as skipped where it isn't there, or where
-# COQ_DUMP_PACKAGES is no; their dumps, NAME.exec.dump and NAME.long.dump (for `check`), get all turns.
+# COQ_DUMP_PACKAGES is no; their dumps, NAME.exec.dump and NAME.long.dump (for `check`), get all turns. The files of tests/told end in a refusal, whose message must be NAME.said.
 set -uo pipefail
 here=$(cd "$(dirname "$0")" && pwd)
 erasec=${1:-}
@@ -93,7 +93,7 @@ cd ../tests || exit 2
 # ------------------------------------------------------------------ the program's answers
 
 # The status and the text that a job gives on a dump; further words go on the line.
-run_job() { answer=$(timeout 300 "$erasec" "$1" "${@:3}" <"$2" 2>out/err); status=$?; }
+run_job() { answer=$(timeout 300 "$erasec" "$1" "${@:3}" <"$2" 2>"$out/err"); status=$?; }
 
 # Runs a job that must answer the value that Coq computed.
 compare() {
@@ -124,6 +124,19 @@ for dump in out/*.check.dump out/*.long.dump out/*.run.dump out/*.refused.dump o
   case $dump in */automatic.run.dump) compare eval "$dump" "$value" --turns 4294967295 ;; *) compare eval "$dump" "$value" ;; esac
   compare exec "$dump" "$value"
 done
+
+# ------------------------------------------------------------------ what is told of a refusal
+
+# The last command of each file is refused, and its message is that of NAME.said, where the program has the job that explains it.
+cd told || exit 2
+for file in *.v; do
+  said=$(timeout 300 coqc -w none -R "$here/theories" ErasecDump -I "$here/src" "$file" 2>&1 | sed '1,/^Error:/d')
+  run_job explain /dev/null
+  if [ "$status" = 2 ]; then skipped=$((skipped + 1))
+  elif [ "$said" = "$(cat "${file%.v}.said")" ]; then pass
+  else fail "told/$file: $said"; fi
+done
+cd .. || exit 2
 
 # ------------------------------------------------------------------ a module's types
 
