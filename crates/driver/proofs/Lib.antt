@@ -30,6 +30,8 @@ pub mod Checking
 pub mod Explaining
 pub mod BesideCheck
 pub mod Serving
+pub mod Shallow
+pub mod OneStatus
 pub mod Answering
 pub mod Inputs
 pub mod PartByPart
