@@ -1,6 +1,6 @@
 -- What the check of an environment says, with the units of a job.
 use Rattle.std.proofs.Common.{◌≡◌, ℕ, ◌<◌, ◌-◌, List, length, Option, Some, None, Result, Ok, Err, refl, sym, ap, subst, ◌∙◌}
-use Rattle.std.specs.Prelude.{replicate, slice_get, OnOk}
+use Rattle.std.specs.Prelude.{replicate, slice_get}
 use Rattle.std.proofs.Common.{get_or}
 use Rattle.std.proofs.lemmas.Option.{slice_get_read}
 use Rattle.dump_reader.specs.declared.declaration.RawDecl.{RawDecl}
@@ -11,8 +11,6 @@ use Rattle.pc_rules.specs.declared.broken.Broken.{Broken as Rule}
 use Rattle.pc_rules.specs.declared.broken.Place.{Place}
 use Rattle.pc_rules.specs.declared.broken.Place.TheVariants.{Declaration}
 use Rattle.pc_rules.specs.declared.meter.Account.{Account}
-use Rattle.calculus_rules.specs.Environment.{Env}
-use Rattle.pc_terms.specs.Syntax.{Term}
 use Rattle.pc_rules.specs.DirectedDeclarations.{Breaks}
 use Rattle.env_check.specs.declared.refusal.Refusal.TheVariants.{Broken, Spent, TooDeep}
 use Rattle.env_check.specs.Answers.{AnswersFound}

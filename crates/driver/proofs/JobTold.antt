@@ -1,5 +1,5 @@
 -- Reports that are told the facts of a job, from what its stages tell them.
-use Rattle.std.proofs.Common.{◌≡◌, ℕ, List, ◌++◌, Result, Ok, Err, refl, subst}
+use Rattle.std.proofs.Common.{ℕ, List, ◌++◌, Result, Ok, Err, refl, subst}
 use Rattle.std.specs.Prelude.{OnOk}
 use Rattle.reports.specs.Shown.{Shown}
 use Rattle.reports.proofs.FactByFact.{all_told_then}

@@ -28,6 +28,8 @@ pub mod TextCauses
 pub mod Headlines
 pub mod Checking
 pub mod Serving
+pub mod Shallow
+pub mod OneStatus
 pub mod Answering
 pub mod Inputs
 pub mod PartByPart

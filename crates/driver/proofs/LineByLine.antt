@@ -1,10 +1,9 @@
 -- The lines of reports, one by one.
 use Rattle.std.proofs.Common.{◌≡◌, ℕ, zero, suc, ◌<◌, List, [], ◌∷◌, ◌++◌, map, length, take, drop, get_or, append_assoc, refl, sym, ap, ◌∙◌, arith}
 use Rattle.std.specs.Prelude.{min}
-use Rattle.std.specs.List.{AllZip}
 use Rattle.std.proofs.lemmas.List.{append-nil}
 use Rattle.reports.specs.Counting.{after_all, last}
-use Rattle.reports.specs.Shown.{Shown, IsTold}
+use Rattle.reports.specs.Shown.{Shown}
 use Rattle.reports.specs.declared.fact.Fact.{Fact}
 use Rattle.module_run.specs.RunFacts.{AreTold}
 use Rattle.driver.specs.ReportLines.{line, line_of, lines, told_lines}

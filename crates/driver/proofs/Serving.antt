@@ -55,7 +55,7 @@ clash : (words : List (List ℕ)) → IsForJob words → request_of words ≡ No
 clash words (request, e) f = let q : Some request ≡ None = sym e ∙ f in absurd cc
 
 -- and one request
-one_request : (words : List (List ℕ)) (a b : Request) → request_of words ≡ Some a → request_of words ≡ Some b → a ≡ b
+pub one_request : (words : List (List ℕ)) (a b : Request) → request_of words ≡ Some a → request_of words ≡ Some b → a ≡ b
 one_request words a b e f = let q : Some a ≡ Some b = sym e ∙ f in cc
 
 input-is : (left : Option (List ℕ)) (bytes told : List ℕ) → IsInput left bytes → left ≡ Some told → (bytes ≡ told) × (length bytes ≤ input_limit)
@@ -63,16 +63,16 @@ input-is None bytes told h e = absurd cc
 input-is (Some l) bytes told h e = let q : l ≡ told = cc in (h.0 ∙ q, h.1)
 
 -- the bytes of a job are those that are told; an input is within the limit
-input-of : (job : Job) (q : Request) (left : Option (List ℕ)) (bytes told : List ℕ) → IsInputOf job q left bytes → Tells job q left told → (bytes ≡ told) × (job ≢ Bench → length bytes ≤ input_limit)
+pub input-of : (job : Job) (q : Request) (left : Option (List ℕ)) (bytes told : List ℕ) → IsInputOf job q left bytes → Tells job q left told → (bytes ≡ told) × (job ≢ Bench → length bytes ≤ input_limit)
 input-of Bench q left bytes told h e = (h ∙ sym e, λ n. absurd (n refl))
 input-of _ q left bytes told h e = let x = input-is left bytes told h e in (x.0, λ n. x.1)
 
 -- a job that reads an input reads the source's
-of-source : (job : Job) (q : Request) (left : Option (List ℕ)) (told : List ℕ) → job ≢ Bench → Tells job q left told → left ≡ Some told
+pub of-source : (job : Job) (q : Request) (left : Option (List ℕ)) (told : List ℕ) → job ≢ Bench → Tells job q left told → left ≡ Some told
 of-source Bench q left told n e = absurd (n refl)
 of-source _ q left told n e = e
 
-long-is : (left : Option (List ℕ)) (told : List ℕ) → IsTooLong left → left ≡ Some told → input_limit < length told
+pub long-is : (left : Option (List ℕ)) (told : List ℕ) → IsTooLong left → left ≡ Some told → input_limit < length told
 long-is None told h e = absurd cc
 long-is (Some l) told h e = let q : l ≡ told = cc in subst (λ x. input_limit < length x) q h
 

@@ -18,6 +18,7 @@ pub mod PlainAnswer
 pub mod MainModule
 pub mod Promises
 pub mod Served
+pub mod Shallow
 pub mod CheckFacts
 pub mod JobFacts
 pub mod Bench

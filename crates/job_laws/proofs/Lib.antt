@@ -1,7 +1,6 @@
 pub mod ReadableValues
 pub mod StuckRuns
 pub mod WithoutReports
-pub mod Shallow
 pub mod OneText
 pub mod OneResult
 pub mod OneAnswer

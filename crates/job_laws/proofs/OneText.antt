@@ -1,5 +1,5 @@
 -- Data has one text, by one naming; and first-order sets with the same members, whose constructors have the names of one environment, name alike.
-use Rattle.std.proofs.Common.{◌≡◌, ℕ, zero, suc, List, [], ◌∷◌, ◌++◌, map, append_assoc, Some, refl, sym, ap, subst, ◌∙◌}
+use Rattle.std.proofs.Common.{◌≡◌, ℕ, zero, suc, List, [], ◌∷◌, ◌++◌, map, append_assoc, Option, Some, refl, sym, ap, subst, ◌∙◌}
 use Rattle.std.specs.Prelude.{slice_get}
 use Rattle.std.specs.List.{All}
 use Rattle.std.proofs.lemmas.List.Elements.{All-head, All-tail}
@@ -7,6 +7,7 @@ use Rattle.calculus_rules.specs.Environment.{Env, KeepsFamily}
 use Rattle.calculus_rules.specs.FirstOrder.{Data}
 use Rattle.calculus_rules.specs.Laws.{OneEach}
 use Rattle.calculus_rules.specs.Lookups.{if_some}
+use Rattle.calculus_rules.proofs.Spines.{one_item}
 use Rattle.first_order.specs.declared.shapes.Shape.{Shape}
 use Rattle.first_order.specs.declared.shapes.ShapeCtor.{ShapeCtor}
 use Rattle.first_order.specs.Searching.{AreNamed, IsNamed, ctor_name, family_in, member, members, places}
@@ -18,11 +19,28 @@ head_is x y xs ys e = cc
 tail_is : {X : Type 0} (x y : X) (xs ys : List X) → x ∷ xs ≡ y ∷ ys → xs ≡ ys
 tail_is x y xs ys e = cc
 
-name_is : (a b : List ℕ) (js ks : List ℕ) → Some (a, js) ≡ Some (b, ks) → a ≡ b
-name_is a b js ks e = cc
+-- a node's name and the places of its arguments
+abbrev called : (name js : List ℕ) → Option (List ℕ × List ℕ)
+called name js = Some (name, js)
 
-places_are : (a b : List ℕ) (js ks : List ℕ) → Some (a, js) ≡ Some (b, ks) → js ≡ ks
-places_are a b js ks e = cc
+name_is : (a b js ks : List ℕ) → called a js ≡ called b ks → a ≡ b
+name_is a b js ks e = ap (λ p. p.0) (one_item e)
+
+places_are : (a b js ks : List ℕ) → called a js ≡ called b ks → js ≡ ks
+places_are a b js ks e = ap (λ p. p.1) (one_item e)
+
+-- a node before data
+abbrev node : (c n : ℕ) → Data → Data
+node c n ds = (c, n) ∷ ds
+
+ctor_same : (c n d m : ℕ) (ds es : Data) → node c n ds ≡ node d m es → c ≡ d
+ctor_same c n d m ds es e = ap (λ p. p.0) (head_is {X = ℕ × ℕ} (c, n) (d, m) ds es e)
+
+count_same : (c n d m : ℕ) (ds es : Data) → node c n ds ≡ node d m es → n ≡ m
+count_same c n d m ds es e = ap (λ p. p.1) (head_is {X = ℕ × ℕ} (c, n) (d, m) ds es e)
+
+rest_same : (c n d m : ℕ) (ds es : Data) → node c n ds ≡ node d m es → ds ≡ es
+rest_same c n d m ds es e = cc
 
 -- ---- data
 
@@ -39,8 +57,8 @@ module _ (N : Naming) where
     js : List ℕ
     ds : Data
     ts : List ℕ
-    named : N i (c, n) ≡ Some (name, js)
-    data_is : d ≡ (c, n) ∷ ds
+    named : N i (c, n) ≡ called name js
+    data_is : d ≡ node c n ds
     are : AreTexts N js ds ts
     text_is : t ≡ node_text n name ts
 
@@ -69,16 +87,17 @@ module _ (N : Naming) where
   Alike d e rest others t u = (d ≡ e) × (t ≡ u) × (rest ≡ others)
 
   -- where the arguments of a node are
-  node_alike : (i c n : ℕ) (name js : List ℕ) (ds e rest others : Data) (ts u : List ℕ) → N i (c, n) ≡ Some (name, js) → IsNode i e u → ((c, n) ∷ ds) ++ rest ≡ e ++ others →
-      ((fs : Data) (us : List ℕ) → AreTexts N js fs us → ds ++ rest ≡ fs ++ others → Alike ds fs rest others ts us) → Alike ((c, n) ∷ ds) e rest others (node_text n name ts) u
+  node_alike : (i c n : ℕ) (name js : List ℕ) (ds e rest others : Data) (ts u : List ℕ) → N i (c, n) ≡ called name js → IsNode i e u → node c n ds ++ rest ≡ e ++ others →
+      ((fs : Data) (us : List ℕ) → AreTexts N js fs us → ds ++ rest ≡ fs ++ others → Alike ds fs rest others ts us) → Alike (node c n ds) e rest others (node_text n name ts) u
   node_alike i c n name js ds e rest others ts u named x same arguments =
-      let whole : (c, n) ∷ (ds ++ rest) ≡ (x.c, x.n) ∷ (x.ds ++ others) = same ∙ ap (λ z. z ++ others) x.data_is in
-      let node : (c, n) ≡ (x.c, x.n) = head_is (c, n) (x.c, x.n) (ds ++ rest) (x.ds ++ others) whole in
-      let both : Some (name, js) ≡ Some (x.name, x.js) = sym named ∙ ap (N i) node ∙ x.named in
-      let called = name_is name x.name js x.js both in
-      let r = arguments x.ds x.ts (subst (λ z. AreTexts N z x.ds x.ts) (sym (places_are name x.name js x.js both)) x.are) (tail_is (c, n) (x.c, x.n) (ds ++ rest) (x.ds ++ others) whole) in (
-        (λ k. node k ∷ r.0 k) ∙ sym x.data_is,
-        (λ k. node_text (node k).1 (called k) (r.1 k)) ∙ sym x.text_is,
+      let whole : node c n (ds ++ rest) ≡ node x.c x.n (x.ds ++ others) = same ∙ ap (λ z. z ++ others) x.data_is in
+      let ctor = ctor_same c n x.c x.n (ds ++ rest) (x.ds ++ others) whole in
+      let count = count_same c n x.c x.n (ds ++ rest) (x.ds ++ others) whole in
+      let both : called name js ≡ called x.name x.js = sym named ∙ (λ k. N i (ctor k, count k)) ∙ x.named in
+      let name_same = name_is name x.name js x.js both in
+      let r = arguments x.ds x.ts (subst (λ z. AreTexts N z x.ds x.ts) (sym (places_are name x.name js x.js both)) x.are) (rest_same c n x.c x.n (ds ++ rest) (x.ds ++ others) whole) in (
+        (λ k. node (ctor k) (count k) (r.0 k)) ∙ sym x.data_is,
+        (λ k. node_text (count k) (name_same k) (r.1 k)) ∙ sym x.text_is,
         r.2,
       )
 

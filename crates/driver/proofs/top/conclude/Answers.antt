@@ -1,4 +1,4 @@
-use Rattle.std.proofs.Common.{ℕ, ◌∙◌, ap, map, sym}
+use Rattle.std.proofs.Common.{ℕ, ◌∙◌, ap, map}
 use Rattle.std.specs.Prelude.{Vec}
 use Rattle.std.specs.declared.alloc.Global.{Global}
 use Rattle.driver.specs.ReportLines.{lines}

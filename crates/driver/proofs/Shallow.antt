@@ -1,8 +1,6 @@
 -- Where no limit of depth is passed, an answer or a refusal shows the status to which the rules, the passes and the run come.
-use Rattle.std.proofs.Common.{◌≡◌, ℕ, List, Result, Ok, Err, ◌⊎◌, inl, inr, refl, sym, ap}
+use Rattle.std.proofs.Common.{ℕ, List, Result, Ok, Err, ◌⊎◌, inl, inr, refl, sym, ap}
 use Rattle.dump_reader.specs.declared.environment.RawEnv.{RawEnv}
-use Rattle.module_run.specs.declared.file_refusal.FileRefusal.{FileRefusal}
-use Rattle.module_run.specs.declared.file_refusal.FileRefusal.TheVariants as files
 use Rattle.command_line.specs.declared.job.Job.{Job}
 use Rattle.command_line.specs.declared.job.Job.TheVariants.{Exec, Check, Eval, Run, Compile, Bench}
 use Rattle.command_line.specs.declared.line.Request.{Request}
@@ -12,7 +10,7 @@ use Rattle.driver.specs.Judged.{EndsWith, IsAcceptedBy, status_by}
 use Rattle.driver.specs.Lines.{status_of}
 use Rattle.driver.specs.ExecEnds.{Accepting, ExecEnds, ExecEndsWith, RestEndsWith, status_of_end}
 use Rattle.driver.specs.MadeModule.{IsMakeCause, MakeEndsWith}
-use Rattle.driver.specs.RunFile.{IsFileCause, IsRunCause, RunEndsWith, status_of_run_end}
+use Rattle.driver.specs.RunFile.{IsRunCause, RunEndsWith}
 use Rattle.driver.specs.SourceEnds.{EvalEndsWith, IsSourceCause}
 use Rattle.driver.specs.Texts.{SpellsWithin}
 use Rattle.driver.specs.Serve.{IsAnswerOf, IsCheckCause, IsDumpCause, IsJobCause, IsJudgedWith, IsSure, IsTextCause, JobEndsWith}
@@ -20,7 +18,7 @@ use Rattle.driver.proofs.CheckCauses.{deep_or_not, not_zero}
 use Rattle.driver.proofs.ExecCauses.{accepting_of}
 use Rattle.driver.proofs.MadeCauses.{as_exec}
 use Rattle.driver.proofs.SourceCauses.{accepted_by, end_status}
-use Rattle.job_laws.specs.OneAnswer.{CheckIsShallow, EvalIsShallow, ModuleIsShallow, IsShallow, IsShallowOn}
+use Rattle.driver.specs.Shallow.{CheckIsShallow, EvalIsShallow, ModuleIsShallow, IsShallow, IsShallowOn}
 
 -- ---- the check
 

@@ -1,0 +1,36 @@
+-- No limit of depth is passed by the directed rules of a job on an environment.
+use Rattle.std.specs.Prelude.{◌≡◌, ℕ, List, false}
+use Rattle.pc_rules.specs.DirectedDeclarations.{Checked}
+use Rattle.pc_rules.specs.DirectedFirstOrder.{first_order_search}
+use Rattle.pc_rules.specs.DirectedRun.{Run as RuleRun}
+use Rattle.dump_reader.specs.declared.environment.RawEnv.{RawEnv}
+use Rattle.command_line.specs.declared.job.Job.{Job}
+use Rattle.command_line.specs.declared.job.Job.TheVariants.{Check, Eval, Run}
+use Rattle.driver.specs.ExecEnds.{Accepting, Searching, erasure_of}
+use Rattle.driver.specs.Judged.{IsJudged}
+use Rattle.driver.specs.SourceEnds.{Ended, IsSourceRun}
+use Rattle.driver.specs.Texts.{SpellsWithin}
+
+-- by those of the check; and of what comes after it by `eval`, and by the jobs that make main's module
+
+abbrev pub CheckIsShallow : (turns : ℕ) → RawEnv → Type 0
+CheckIsShallow turns e = (rules : Checked) → IsJudged turns e rules → rules.deep ≡ false
+
+pub record EvalIsShallow (turns : ℕ) (e : RawEnv) : Type 0 where
+  pub check : CheckIsShallow turns e
+  pub run : (r : RuleRun Ended) → IsSourceRun turns e r → r.deep ≡ false
+
+pub record ModuleIsShallow (turns : ℕ) (e : RawEnv) : Type 0 where
+  pub check : CheckIsShallow turns e
+  pub search : (x : Accepting turns e) → (first_order_search x.kept x.type x.left).deep ≡ false
+  pub erasure : (x : Searching turns e) → (erasure_of x.before.kept e.main x.left).deep ≡ false
+
+abbrev pub IsShallow : Job → (turns : ℕ) → RawEnv → Type 0
+IsShallow Check turns e = CheckIsShallow turns e
+IsShallow Eval turns e = EvalIsShallow turns e
+IsShallow Run turns e = Unit {0}
+IsShallow _ turns e = ModuleIsShallow turns e
+
+-- so of the environment that the bytes spell
+abbrev pub IsShallowOn : Job → (turns : ℕ) → List ℕ → Type 0
+IsShallowOn job turns bytes = (e : RawEnv) → SpellsWithin bytes e → IsShallow job turns e
