@@ -1,14 +1,15 @@
 -- Bodies, from what was pushed.
-use Rattle.std.proofs.Common.{◌≡◌, ℕ, ◌-◌, List, [], ◌∷◌, ◌++◌, reverse, ap, sym, ◌∙◌}
+use Rattle.std.proofs.Common.{◌≡◌, ℕ, zero, suc, ◌-◌, List, [], ◌∷◌, ◌++◌, reverse, max, refl, ap, sym, ◌∙◌, arith}
 use Rattle.std.proofs.lemmas.List.{reverse-append}
 use Rattle.std.specs.Prelude.{Result, Ok, Err, IfOk}
-use Rattle.closure_lift.specs.Lifted.{Block}
+use Rattle.closure_lift.specs.Lifted.{Block, Program}
 use Rattle.closure_lift.specs.LiftedProgram.{renumber, place_in, lifted_of}
 use Rattle.closure_lift.specs.declared.program.Function.{Function}
 use Rattle.closure_lift.specs.declared.program.Lifted.{Lifted}
 use Rattle.wasm_core.specs.declared.instrs.Body.{Body}
 use Rattle.wasm_core.specs.declared.instrs.Instr.{Instr}
 use Rattle.wasm_core.specs.declared.instrs.Instr.TheVariants.{End, GlobalSet}
+use Rattle.wasm_emit.specs.CallModule.{applied, argument_code, arguments_code, call_function}
 use Rattle.wasm_emit.specs.EmittedCode.{Place, InLocal, fields_of, code}
 use Rattle.wasm_emit.specs.EmittedLocals.{top}
 use Rattle.wasm_emit.specs.EmittedModule.{body, function, constant, main_function}
@@ -47,3 +48,15 @@ pub main_made : (Q : Lifted) (ps : List Place) (n : ℕ) (o0 o1 o2 o3 : List Ins
     Pushed o2 o3 (λ rest. End ∷ rest) → body n o3 ≡ main_function (lifted_of Q)
 main_made Q ps n o0 o1 o2 o3 absent none e x y z =
     same_body n (top 0 (renumber (place_in Q.constants) Q.main)) o3 _ (e ∙ sym (top_renumbered (place_in Q.constants) 0 Q.main)) (all_pushed Q ps [] 0 Q.main o0 o1 o3 (ap reverse absent) none x (then_pushed o1 o2 o3 y z))
+
+-- main's code, and then its applications
+applied_is : (P : Program) (k : ℕ) (rest : List Instr) → applied P k rest ≡ code P [] 0 P.main (arguments_code k rest)
+applied_is P zero rest = refl
+applied_is P (suc n) rest = applied_is P n (argument_code n rest)
+
+pub call_made : (Q : Lifted) (k : ℕ) (ps : List Place) (n locals : ℕ) (o0 o1 o2 o3 o4 : List Instr) → ps ≡ [] → o0 ≡ [] → n ≡ top 0 Q.main → locals ≡ max n 2 → Pushed o0 o1 (block_code Q (reverse ps) 0 Q.main) → Pushed o1 o2 (arguments_code k) →
+    Pushed o2 o3 (λ rest. GlobalSet 0 ∷ rest) → Pushed o3 o4 (λ rest. End ∷ rest) → body locals o4 ≡ call_function (lifted_of Q) k
+call_made Q k ps n locals o0 o1 o2 o3 o4 absent none e most x y z w =
+    let count : locals ≡ max 2 (top 0 (renumber (place_in Q.constants) Q.main)) = omega (arith, e, most, top_renumbered (place_in Q.constants) 0 Q.main) in
+    let is = all_pushed Q ps [] 0 Q.main o0 o1 o4 (ap reverse absent) none x (then_pushed o1 o2 o4 y (then_pushed o2 o3 o4 z w)) in
+    same_body locals (max 2 (top 0 (renumber (place_in Q.constants) Q.main))) o4 _ count (is ∙ sym (applied_is (lifted_of Q) k (GlobalSet 0 ∷ End ∷ [])))

@@ -21,12 +21,13 @@ use Rattle.wasm_core.specs.ModuleTyping.{IsValid}
 use Rattle.wasm_emit.specs.EmitLaws.{CountsFit}
 use Rattle.wasm_emit.specs.EmittedCode.{constant_index}
 use Rattle.wasm_emit.specs.EmittedModule.{entries, main_index, module_of}
-use Rattle.wasm_emit.specs.Emission.{Emits, LiftedCanBeEmitted, exports_with}
-use Rattle.wasm_emit.specs.EmittedBodies.{bodies_of, FewInFunction, FewInBlock, FewLocals}
+use Rattle.wasm_emit.specs.CallModule.{call_exports, call_function, module_of_call}
+use Rattle.wasm_emit.specs.Emission.{Emits, LiftedCanBeEmitted, exports_with, parts_with}
+use Rattle.wasm_emit.specs.EmittedBodies.{bodies_of, bodies_with, FewInFunction, FewInBlock, FewLocals}
 use Rattle.wasm_emit.proofs.Indices.{length_map}
 use Rattle.wasm_emit.proofs.Pushing.{renumbered_count, functions_count}
-use Rattle.wasm_emit.proofs.Spelled.{emit_spelled}
-use Rattle.wasm_emit.proofs.Valid.{emit_valid}
+use Rattle.wasm_emit.proofs.Spelled.{emit_spelled, call_spelled}
+use Rattle.wasm_emit.proofs.Valid.{emit_valid, call_valid}
 
 -- the entries from one on
 pub entries_step : (n k : ℕ) → k < n → entries (k + 1) (n - k) ≡ (k + 1) ∷ entries (k + 1 + 1) (n - (k + 1))
@@ -83,13 +84,28 @@ emits_module P pages pos small x few = emit_spelled P pages x.most pos small x.f
 pub emits_valid : (P : Program) (pages : ℕ) → 0 < pages → pages ≤ 16384 → Emits P → IsValid (module_of P pages)
 emits_valid P pages pos small x = emit_valid P pages x.most pos small x.formed
 
+pub emits_call_module : (P : Program) (k pages : ℕ) → k ≤ 255 → 0 < pages → pages ≤ 16384 → Emits P → FewLocals P → IsModule (module_of_call P k pages)
+emits_call_module P k pages few_arguments pos small x few = call_spelled P k pages x.most few_arguments pos small x.formed x.within (counts_fit P x few)
+
+pub emits_call_valid : (P : Program) (k pages : ℕ) → 0 < pages → pages ≤ 16384 → Emits P → IsValid (module_of_call P k pages)
+emits_call_valid P k pages pos small x = call_valid P k pages x.most pos small x.formed
+
 pub main_is : (Q : Lifted) (k main : ℕ) → k ≡ length Q.constants → main ≡ constant_index (lifted_of Q) k → main ≡ main_index (lifted_of Q)
 main_is Q k main count is = omega (arith, count, is, length_map (λ (c : LiftedConstant). renumber (place_in Q.constants) c.body) Q.constants)
 
-pub module_made : (P : Program) (pages n main : ℕ) (ts : List FuncType) (fs : List ℕ) (gs : List GlobalDef) (es : List Export) (ss : List Segment) (bs : List Body) →
-    bs ≡ bodies_of P → n ≡ suc (length P.functions) → main ≡ main_index P → ts ≡ (module_of P 0).types → fs ≡ (module_of P 0).funcs → gs ≡ (module_of P 0).globals → es ≡ exports_with main → ss ≡ record { offset = 0; funcs = entries 1 n } ∷ [] →
-    record { types = ts; funcs = fs; table = Some (record { min = n; max = Some n }); memory = Some (record { min = 1; max = Some pages }); globals = gs; exports = es; elements = ss; bodies = bs } ≡ module_of P pages
-module_made P pages n main ts fs gs es ss bs eb en em et ef eg ee es' = rw (eb, et, ef, eg, ee, es', en, em) refl
+-- the parts of every emitted module, with the bodies, globals and exports of one
+pub parts_made : (P : Program) (pages n : ℕ) (ts : List FuncType) (fs : List ℕ) (gs : List GlobalDef) (es : List Export) (ss : List Segment) (bs cs : List Body) →
+    n ≡ length P.functions + 1 → ts ≡ (module_of P 0).types → fs ≡ (module_of P 0).funcs → ss ≡ record { offset = 0; funcs = entries 1 n } ∷ [] → bs ≡ cs →
+    record { types = ts; funcs = fs; table = Some (record { min = n; max = Some n }); memory = Some (record { min = 1; max = Some pages }); globals = gs; exports = es; elements = ss; bodies = bs } ≡ parts_with P cs gs es pages
+parts_made P pages n ts fs gs es ss bs cs en et ef es' eb = let count : n ≡ suc (length P.functions) = omega arith in rw (et, ef, es', eb, count) refl
+
+pub module_made : (P : Program) (pages main : ℕ) (gs : List GlobalDef) (es : List Export) (bs : List Body) → bs ≡ bodies_of P → main ≡ main_index P → gs ≡ (module_of P 0).globals → es ≡ exports_with main →
+    parts_with P bs gs es pages ≡ module_of P pages
+module_made P pages main gs es bs eb em eg ee = rw (eb, eg, ee, em) refl
+
+pub call_module_made : (P : Program) (k pages main : ℕ) (gs : List GlobalDef) (es : List Export) (bs : List Body) → bs ≡ bodies_with P (call_function P k) → main ≡ main_index P → gs ≡ (module_of_call P k 0).globals → es ≡ exports_with main ++ call_exports →
+    parts_with P bs gs es pages ≡ module_of_call P k pages
+call_module_made P k pages main gs es bs eb em eg ee = rw (eb, eg, ee, em) refl
 
 lifted_count : (g : ℕ) (ts : List AnfBlock) → length (lift_constants g ts) ≡ length ts
 lifted_count g [] = refl

@@ -11,8 +11,8 @@ use Rattle.closure_lift.specs.declared.program.LiftedConstant.{LiftedConstant}
 use Rattle.wasm_core.specs.ModuleCondition.{All}
 use Rattle.wasm_core.specs.declared.instrs.Body.{Body}
 use Rattle.wasm_emit.specs.EmittedLocals.{top}
-use Rattle.wasm_emit.specs.EmittedModule.{room_function, box_function, function, constant, main_function}
-use Rattle.wasm_emit.specs.EmittedBodies.{bodies_of, FewInFunction, FewInBlock, FewLocals, MemoryOrNot}
+use Rattle.wasm_emit.specs.EmittedModule.{room_function, box_function, function, constant}
+use Rattle.wasm_emit.specs.EmittedBodies.{bodies_before_main, bodies_with, FewInFunction, FewInBlock, FewBeforeMain, FewLocals, MemoryOrNot}
 use Rattle.wasm_emit.specs.Pushed.{function_in, MemoryOrLocals}
 use Rattle.wasm_emit.specs.declared.fault.EmitFault.{EmitFault}
 use Rattle.wasm_emit.proofs.Pushing.{top_renumbered, constant_next, next_of}
@@ -88,13 +88,26 @@ pub main_refused : (Q : Lifted) (e : EmitFault) → MemoryOrLocals e (top 0 Q.ma
 main_refused Q e (inl x) = inl x
 main_refused Q e (inr x) = inr (x.0, λ few. let h : top 0 (renumber (place_in Q.constants) Q.main) ≤ 50000 = few.main in omega (arith, h, x.1, top_renumbered (place_in Q.constants) 0 Q.main))
 
--- the bodies of all functions, one part after another
-pub bodies_made : (P : Program) (v0 v1 v2 v3 v4 v5 : List Body) (a b m : Body) → v0 ≡ [] → v1 ≡ v0 ++ a ∷ [] → a ≡ room_function → v2 ≡ v1 ++ b ∷ [] → b ≡ box_function → v3 ≡ v2 ++ map (function P) P.functions → v4 ≡ v3 ++ map (constant P) P.constants →
-    v5 ≡ v4 ++ m ∷ [] → m ≡ main_function P → v5 ≡ bodies_of P
-bodies_made P v0 v1 v2 v3 v4 v5 a b m e0 e1 ea e2 eb e3 e4 e5 em =
+-- the bodies before main, one part after another
+pub before_made : (P : Program) (v0 v1 v2 v3 v4 : List Body) (a b : Body) → v0 ≡ [] → v1 ≡ v0 ++ a ∷ [] → a ≡ room_function → v2 ≡ v1 ++ b ∷ [] → b ≡ box_function → v3 ≡ v2 ++ map (function P) P.functions → v4 ≡ v3 ++ map (constant P) P.constants →
+    v4 ≡ bodies_before_main P
+before_made P v0 v1 v2 v3 v4 a b e0 e1 ea e2 eb e3 e4 =
     let fs : List Body = map (function P) P.functions in
     let cs : List Body = map (constant P) P.constants in
     let w2 : v2 ≡ room_function ∷ box_function ∷ [] =
     e2 ∙ ap (λ (zs : List Body). zs ++ b ∷ []) (e1 ∙ ap (λ (zs : List Body). zs ++ a ∷ []) e0) ∙ ap (λ (x : Body). a ∷ x ∷ []) eb ∙ ap (λ (x : Body). x ∷ box_function ∷ []) ea in
-    e5 ∙ ap (λ (zs : List Body). zs ++ m ∷ []) (e4 ∙ ap (λ (zs : List Body). zs ++ cs) (e3 ∙ ap (λ (zs : List Body). zs ++ fs) w2))
-    ∙ ap (λ (zs : List Body). room_function ∷ box_function ∷ zs) (append_assoc fs cs (m ∷ [])) ∙ ap (λ (x : Body). room_function ∷ box_function ∷ (fs ++ (cs ++ x ∷ []))) em
+    e4 ∙ ap (λ (zs : List Body). zs ++ cs) (e3 ∙ ap (λ (zs : List Body). zs ++ fs) w2)
+
+-- main's body behind them
+pub bodies_made : (P : Program) (main : Body) (v w : List Body) (m : Body) → v ≡ bodies_before_main P → w ≡ v ++ m ∷ [] → m ≡ main → w ≡ bodies_with P main
+bodies_made P main v w m e0 e1 em =
+    let fs : List Body = map (function P) P.functions in
+    let cs : List Body = map (constant P) P.constants in
+    e1 ∙ ap (λ (zs : List Body). zs ++ m ∷ []) e0 ∙ ap (λ (zs : List Body). room_function ∷ box_function ∷ zs) (append_assoc fs cs (m ∷ [])) ∙ ap (λ (x : Body). room_function ∷ box_function ∷ (fs ++ (cs ++ x ∷ []))) em
+
+-- main too has few locals
+pub few_locals : (Q : Lifted) → FewBeforeMain (lifted_of Q) → top 0 Q.main ≤ 50000 → FewLocals (lifted_of Q)
+few_locals Q few le = record { functions = few.functions; constants = few.constants; main = omega (arith, le, top_renumbered (place_in Q.constants) 0 Q.main) }
+
+pub before_refused : (Q : Lifted) (e : EmitFault) → MemoryOrNot e (FewBeforeMain (lifted_of Q)) → MemoryOrNot e (FewLocals (lifted_of Q))
+before_refused Q e h = refused_more {A = FewBeforeMain (lifted_of Q)} {B = FewLocals (lifted_of Q)} e (λ x. record { functions = x.functions; constants = x.constants }) h

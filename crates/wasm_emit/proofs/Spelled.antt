@@ -9,20 +9,24 @@ use Rattle.wasm_core.specs.declared.instrs.Instr.{Instr}
 use Rattle.wasm_core.specs.declared.instrs.Instr.TheVariants.{GlobalSet, End}
 use Rattle.wasm_core.specs.Parts.{Parts}
 use Rattle.wasm_core.specs.ModuleTyping.{TypedFunc, results_of}
-use Rattle.wasm_core.specs.ModuleCondition.{All, IsU32, IsInstr, IsBody}
+use Rattle.wasm_core.specs.declared.instrs.Body.{Body}
+use Rattle.wasm_core.specs.declared.exports.Export.{Export}
+use Rattle.wasm_core.specs.declared.types.GlobalDef.{GlobalDef}
+use Rattle.wasm_core.specs.ModuleCondition.{All, IsU32, IsInstr, IsBody, IsExport, IsGlobal, IsModule}
 use Rattle.wasm_core.proofs.Closed.{typed_is_closed}
 use Rattle.anf_convert.specs.declared.program.Atom.{Atom}
 use Rattle.anf_convert.specs.declared.program.Atom.TheVariants.{Var as AVar, Box as ABox, Empty as AEmpty}
 use Rattle.closure_lift.specs.Lifted.{Op, OConst, OApp, OCon, OClos, OCase, Block, RetAtom, LetAtom, Ret, Let, Branches, BNil, BCons, Program, many}
 use Rattle.anf_convert.specs.AnfForm.{AtomFits, AtomsFit}
-use Rattle.closure_lift.specs.LiftedForm.{OpFits, BlockFits, BranchesFit, Limits}
+use Rattle.closure_lift.specs.LiftedForm.{OpFits, BlockFits, BranchesFit, Formed, Limits}
 use Rattle.wasm_emit.specs.EmittedCode.{Const, Place, InLocal, InField, fields_of, read, atom, fill, ensure_room, block, op, code, empties, heads}
-use Rattle.wasm_emit.specs.EmittedModule.{room_code, function, constant, main_function, entries, module_of}
+use Rattle.wasm_emit.specs.CallModule.{applied, call_exports, call_function, call_globals, module_of_call}
+use Rattle.wasm_emit.specs.EmittedModule.{room_code, function, constant, main_function, entries, module_of, module_with}
 use Rattle.wasm_emit.specs.EmittedLocals.{top, top_op, top_branches}
 use Rattle.wasm_emit.specs.EmitLaws.{CountsFit, EmitSpelled}
 use Rattle.wasm_emit.proofs.Staged.{scoped}
 use Rattle.wasm_emit.proofs.Indices.{row_length, entries_length}
-use Rattle.wasm_emit.proofs.Valid.{function_typed, constant_typed, main_typed, box_typed, room_typed}
+use Rattle.wasm_emit.proofs.Valid.{function_typed, constant_typed, main_typed, call_typed, box_typed, room_typed}
 
 -- instructions whose immediates have their bits
 data Good : List Instr → Type 0 where
@@ -113,38 +117,61 @@ body_fits M index n is few t all = (omega (arith, length-replicate {A = ValType}
 room_good : Good room_code
 room_good = fits (omega arith) (fits tt (fits (omega arith) (fits tt (fits (omega arith) (fits (omega arith) (fits tt (fits tt (fits tt (fits tt good)))))))))
 
+-- a module whose further globals, exports and main fit
+module _ (P : Program) (main : Body) (gs : List GlobalDef) (es : List Export) (pages m : ℕ) (pos : 0 < pages) (small : pages ≤ 16384) (form : Formed P m) (limits : Limits P) (counts : CountsFit P m) where
+  abbrev M : Parts
+  M = module_with P main gs es pages
+
+  with_spelled : length gs ≤ 8 → All IsGlobal gs → length es ≤ 8 → All IsExport es → IsBody main → IsModule M
+  with_spelled few_globals globals few_exports exports last =
+      let ok = scoped P m form in
+      let size = row_length {A = ℕ} P (λ f. 2) (λ t. 1) 0 in
+      let bodies = row_length P (function P) (constant P) main in
+      record {
+        types = (omega arith, (omega arith, (omega arith, (omega arith, tt))));
+        funcs = (omega (arith, size, limits.few, counts.constants), (omega arith, (omega arith, all_then IsU32 (λ f. 2) P.functions _ (λ i x e. omega arith) (all_then IsU32 (λ t. 1) P.constants _ (λ i x e. omega arith) (omega arith, tt)))));
+        table = (omega (arith, limits.few), omega (arith, limits.few));
+        memory = (omega arith, omega arith);
+        globals = (omega arith, (omega arith, (omega arith, (omega arith, globals))));
+        exports = (omega arith, ((search rules, omega arith, omega (arith, limits.few, counts.constants)), ((search rules, omega arith, omega arith), ((search rules, omega arith, omega arith), ((search rules, omega arith, omega arith), exports)))));
+        elements = (omega arith, ((omega arith, (omega (arith, entries_length 1 (suc (length P.functions)), limits.few), entries_fit 1 (suc (length P.functions)) (omega (arith, limits.few)))), tt));
+        bodies = (
+          omega (arith, bodies, limits.few, counts.constants),
+          (
+            body_fits M 0 0 room_code (omega arith) (room_typed P main gs es pages) room_good,
+            (
+              body_fits M 2 0 (Const 0 ∷ End ∷ []) (omega arith) (box_typed P main gs es pages) (fits (omega arith) (fits tt good)),
+              all_then IsBody (function P) P.functions _ (λ i fn at.
+                  body_fits M 2 (top 2 fn.body - 2) (code P (InLocal 1 ∷ fields_of 0 fn.captured []) 2 fn.body (End ∷ [])) (counts.functions i fn at) (function_typed P main gs es pages fn (ok.functions i fn at))
+                  (f_code P m counts limits (suc fn.captured) 2 (InLocal 1 ∷ fields_of 0 fn.captured []) fn.body (omega (arith, counts.functions i fn at)) (omega arith, fields_fit 0 fn.captured [] (omega arith) (limits.captured i fn at) tt) (form.functions i fn at) (fits tt good)))
+                  (all_then IsBody (constant P) P.constants _ (λ i t at.
+                  body_fits M 1 (top 0 t) (code P [] 0 t (End ∷ [])) (counts.bodies i t at) (constant_typed P main gs es pages t (ok.constants i t at))
+                  (f_code P m counts limits 0 0 [] t (omega (arith, counts.bodies i t at)) tt (form.constants i t at) (fits tt good))) (last, tt)),
+            ),
+          ),
+        );
+        whole = omega (arith, size, bodies);
+      }
+
 pub emit_spelled : EmitSpelled
 emit_spelled P pages m pos small form limits counts =
-    let M = module_of P pages in
     let ok = scoped P m form in
-    let size = row_length {A = ℕ} P (λ f. 2) (λ t. 1) 0 in
-    let bodies = row_length P (function P) (constant P) (main_function P) in
-    record {
-      types = (omega arith, (omega arith, (omega arith, (omega arith, tt))));
-      funcs = (omega (arith, size, limits.few, counts.constants), (omega arith, (omega arith, all_then IsU32 (λ f. 2) P.functions _ (λ i x e. omega arith) (all_then IsU32 (λ t. 1) P.constants _ (λ i x e. omega arith) (omega arith, tt)))));
-      table = (omega (arith, limits.few), omega (arith, limits.few));
-      memory = (omega arith, omega arith);
-      globals = (omega arith, (omega arith, (omega arith, (omega arith, tt))));
-      exports = (omega arith, ((search rules, omega arith, omega (arith, limits.few, counts.constants)), ((search rules, omega arith, omega arith), ((search rules, omega arith, omega arith), ((search rules, omega arith, omega arith), tt)))));
-      elements = (omega arith, ((omega arith, (omega (arith, entries_length 1 (suc (length P.functions)), limits.few), entries_fit 1 (suc (length P.functions)) (omega (arith, limits.few)))), tt));
-      bodies = (
-        omega (arith, bodies, limits.few, counts.constants),
-        (
-          body_fits M 0 0 room_code (omega arith) (room_typed P (main_function P) [] [] pages) room_good,
-          (
-            body_fits M 2 0 (Const 0 ∷ End ∷ []) (omega arith) (box_typed P (main_function P) [] [] pages) (fits (omega arith) (fits tt good)),
-            all_then IsBody (function P) P.functions _ (λ i fn at.
-                body_fits M 2 (top 2 fn.body - 2) (code P (InLocal 1 ∷ fields_of 0 fn.captured []) 2 fn.body (End ∷ [])) (counts.functions i fn at) (function_typed P (main_function P) [] [] pages fn (ok.functions i fn at))
-                (f_code P m counts limits (suc fn.captured) 2 (InLocal 1 ∷ fields_of 0 fn.captured []) fn.body (omega (arith, counts.functions i fn at)) (omega arith, fields_fit 0 fn.captured [] (omega arith) (limits.captured i fn at) tt) (form.functions i fn at) (fits tt good)))
-                (all_then IsBody (constant P) P.constants _ (λ i t at.
-                body_fits M 1 (top 0 t) (code P [] 0 t (End ∷ [])) (counts.bodies i t at) (constant_typed P (main_function P) [] [] pages t (ok.constants i t at))
-                (f_code P m counts limits 0 0 [] t (omega (arith, counts.bodies i t at)) tt (form.constants i t at) (fits tt good))) (
-                  body_fits M 0 (top 0 P.main) (code P [] 0 P.main (GlobalSet 0 ∷ End ∷ [])) counts.main (main_typed P (main_function P) [] [] pages ok.main)
-                      (f_code P m counts limits 0 0 [] P.main (omega (arith, counts.main)) tt form.main (fits (omega arith) (fits tt good))),
-                  tt,
-                )),
-          ),
-        ),
-      );
-      whole = omega (arith, size, bodies);
-    }
+    let last : IsBody (main_function P) =
+    body_fits (module_of P pages) 0 (top 0 P.main) (code P [] 0 P.main (GlobalSet 0 ∷ End ∷ [])) counts.main (main_typed P (main_function P) [] [] pages ok.main)
+    (f_code P m counts limits 0 0 [] P.main (omega (arith, counts.main)) tt form.main (fits (omega arith) (fits tt good))) in
+    with_spelled P (main_function P) [] [] pages m pos small form limits counts (omega arith) tt (omega arith) tt last
+
+-- main applied to so many arguments
+f_applied : (P : Program) (m : ℕ) (counts : CountsFit P m) (limits : Limits P) → BlockFits P.functions (length P.constants) m 0 P.main → (k : ℕ) {rest : List Instr} → k ≤ 255 → Good rest → Good (applied P k rest)
+f_applied P m counts limits fit zero few k = f_code P m counts limits 0 0 [] P.main (omega (arith, counts.main)) tt fit k
+f_applied P m counts limits fit (suc n) few k =
+    f_applied P m counts limits fit n (omega arith) (fits (omega arith) (fits (omega arith) (fits (omega arith, omega arith) (fits (omega arith)
+    (f_op P m counts limits 2 2 (InLocal 1 ∷ InLocal 0 ∷ []) (OApp (AVar 1) (AVar 0)) (omega arith) (omega arith, (omega arith, tt)) (omega arith, omega arith) k)))))
+
+pub call_spelled : (P : Program) (k pages m : ℕ) → k ≤ 255 → 0 < pages → pages ≤ 16384 → Formed P m → Limits P → CountsFit P m → IsModule (module_of_call P k pages)
+call_spelled P k pages m few pos small form limits counts =
+    let ok = scoped P m form in
+    let last : IsBody (call_function P k) =
+    body_fits (module_of_call P k pages) 0 (max 2 (top 0 P.main)) (applied P k (GlobalSet 0 ∷ End ∷ [])) (omega (arith, counts.main)) (call_typed P k pages ok.main)
+    (f_applied P m counts limits form.main k few (fits (omega arith) (fits tt good))) in
+    with_spelled P (call_function P k) call_globals call_exports pages m pos small form limits counts (omega arith) (omega arith, tt) (omega arith) ((search rules, omega arith, omega arith), ((search rules, omega arith, omega arith), tt)) last

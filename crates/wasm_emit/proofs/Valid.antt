@@ -240,7 +240,7 @@ module _ (P : Program) (k pages : ℕ) where
       (t_set P (call_function P k) call_globals call_exports pages size ls rs all (omega arith)
       (t_op P (call_function P k) call_globals call_exports pages size ls rs all {n = 2} 2 (InLocal 1 ∷ InLocal 0 ∷ []) (OApp (AVar 1) (AVar 0)) (omega arith) (local (omega arith) (local (omega arith) none)) (omega arith, omega arith) k')))))
 
-  call_typed : BlockOk P 0 P.main → TypedFunc C 0 (call_function P k)
+  pub call_typed : BlockOk P 0 P.main → TypedFunc C 0 (call_function P k)
   call_typed ok =
       let size = max 2 (top 0 P.main) in
       record {

@@ -9,7 +9,7 @@ use Rattle.wasm_core.specs.declared.instrs.Instr.{Instr}
 use Rattle.wasm_core.specs.declared.instrs.Instr.TheVariants.{End, LocalSet, GlobalGet, GlobalSet}
 use Rattle.wasm_core.specs.declared.instrs.Body.{Body}
 use Rattle.wasm_core.specs.Parts.{Parts}
-use Rattle.wasm_emit.specs.EmittedCode.{Load, InLocal, op, code}
+use Rattle.wasm_emit.specs.EmittedCode.{Load, InLocal, application, op, code}
 use Rattle.wasm_emit.specs.EmittedLocals.{top}
 use Rattle.wasm_emit.specs.EmittedModule.{body, word_global, module_with}
 
@@ -31,3 +31,12 @@ call_exports = record { name = codes "heap"; kind = kind.Global; index = 2 } ∷
 -- the module whose main applies the program's main to k arguments, which a host puts into memory before the run
 abbrev pub module_of_call : Program → ℕ → ℕ → Parts
 module_of_call P k pages = module_with P (call_function P k) call_globals call_exports pages
+
+-- the word on the operands is applied to argument n
+abbrev pub argument_code : ℕ → List Instr → List Instr
+argument_code n rest = LocalSet 0 ∷ GlobalGet 3 ∷ Load (4 * n) ∷ LocalSet 1 ∷ application (InLocal 1 ∷ InLocal 0 ∷ []) (AVar 1) (AVar 0) rest
+
+-- it is applied to so many arguments, the first first
+abbrev pub arguments_code : ℕ → List Instr → List Instr
+arguments_code zero rest = rest
+arguments_code (suc n) rest = arguments_code n (argument_code n rest)

@@ -125,7 +125,7 @@ fn push_op(
 }
 
 /// Calls a closure's function with the closure and the argument: its entry of the table is the first word of its block. Only `Memory`.
-fn push_application(
+pub(crate) fn push_application(
     places: &[Place],
     f: Atom,
     a: Atom,

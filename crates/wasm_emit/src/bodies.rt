@@ -5,11 +5,13 @@ ghost use Rattle.wasm_core.specs.ModuleCondition.{All};
 ghost use Rattle.wasm_emit.specs.ConstantNumbers.{AreNumbered};
 ghost use Rattle.wasm_emit.specs.EmittedLocals.{top};
 ghost use Rattle.wasm_emit.specs.EmittedModule.{room_function, body, box_function, function, constant, main_function};
-ghost use Rattle.wasm_emit.specs.EmittedBodies.{bodies_of, FewInFunction, FewInBlock, FewLocals, MemoryOrNot};
+ghost use Rattle.wasm_emit.specs.CallModule.{call_function};
+ghost use Rattle.wasm_emit.specs.EmittedBodies.{bodies_before_main as bodies_before, bodies_with, bodies_of, FewInFunction, FewInBlock, FewBeforeMain, FewLocals, MemoryOrNot};
 ghost use Rattle.wasm_emit.specs.Pushed.{function_in, MemoryOrLocals};
 ghost use Rattle.wasm_emit.specs.declared.fault.EmitFault.TheVariants.{Memory};
 
 use crate::blocks::{push_block, push_field_places};
+use crate::calls::push_arguments;
 use crate::fault::EmitFault;
 use crate::instructions::push;
 use crate::locals::locals_of_block;
@@ -129,6 +131,30 @@ pub(crate) fn main_body(
     body_of(alloc, count, code)
 }
 
+/// The body of a main that applies the program's main to `k` arguments, whose words lie in memory from the address in global 3 on, and puts the answer into the
+/// global `result`.
+fn call_body(
+    alloc: Global,
+    p: &Lifted,
+    numbers: &HashMap<u32, usize>,
+    k: u32,
+) -> Result<Body, EmitFault>
+    requires numbered { AreNumbered numbers.now p.now.constants }
+    ensures is { IfOk result (λ x. x ≡ call_function (lifted_of p.now) k) }
+    ensures few { IfOk result (λ _. top 0 p.now.main ≤ 50000) }
+    ensures refused { IfErr result (λ e. MemoryOrLocals e (top 0 p.now.main)) }
+{
+    let count = locals_of_block(0, MOST_LOCALS, &p.main)?;
+    let mut places = Vec::new(alloc);
+    let mut code = Vec::new(alloc);
+    push_block(p, numbers, &mut places, 0, &p.main, &mut code)?;
+    push_arguments(k, &mut code)?;
+    push(&mut code, Instr::GlobalSet(0))?;
+    push(&mut code, Instr::End)?;
+    let locals = count.max(2);
+    body_of(alloc, locals, code)
+}
+
 /// Puts the bodies of the program's functions behind those that are there.
 fn push_functions(
     alloc: Global,
@@ -170,6 +196,27 @@ fn push_constants(
     Ok(())
 }
 
+/// The bodies of the functions before main, in the order of their indices.
+fn bodies_before_main(
+    alloc: Global,
+    p: &Lifted,
+    numbers: &HashMap<u32, usize>,
+) -> Result<Vec<Body>, EmitFault>
+    requires numbered { AreNumbered numbers.now p.now.constants }
+    ensures is { IfOk result (λ v. v.items ≡ bodies_before (lifted_of p.now)) }
+    ensures few { IfOk result (λ _. FewBeforeMain (lifted_of p.now)) }
+    ensures refused { IfErr result (λ e. MemoryOrNot e (FewBeforeMain (lifted_of p.now))) }
+{
+    let mut bodies = Vec::new(alloc);
+    let first = room_body(alloc)?;
+    bodies.push(first)?;
+    let second = box_body(alloc)?;
+    bodies.push(second)?;
+    push_functions(alloc, p, numbers, &mut bodies)?;
+    push_constants(alloc, p, numbers, &mut bodies)?;
+    Ok(bodies)
+}
+
 /// The bodies of all functions, in the order of their indices. `Locals` exactly where a function would have over 50,000 locals.
 pub(crate) fn all_bodies(alloc: Global, p: &Lifted) -> Result<Vec<Body>, EmitFault>
     ensures is { IfOk result (λ v. v.items ≡ bodies_of (lifted_of p.now)) }
@@ -177,14 +224,22 @@ pub(crate) fn all_bodies(alloc: Global, p: &Lifted) -> Result<Vec<Body>, EmitFau
     ensures refused { IfErr result (λ e. MemoryOrNot e (FewLocals (lifted_of p.now))) }
 {
     let numbers = numbers_of(alloc, p)?;
-    let mut bodies = Vec::new(alloc);
-    let first = room_body(alloc)?;
-    bodies.push(first)?;
-    let second = box_body(alloc)?;
-    bodies.push(second)?;
-    push_functions(alloc, p, &numbers, &mut bodies)?;
-    push_constants(alloc, p, &numbers, &mut bodies)?;
+    let mut bodies = bodies_before_main(alloc, p, &numbers)?;
     let main = main_body(alloc, p, &numbers)?;
+    bodies.push(main)?;
+    Ok(bodies)
+}
+
+/// The bodies of all functions of a module for calls with `k` arguments, in the order of their indices. `Locals` exactly where a function of the program's own
+/// module would have over 50,000 locals.
+pub(crate) fn all_call_bodies(alloc: Global, p: &Lifted, k: u32) -> Result<Vec<Body>, EmitFault>
+    ensures is { IfOk result (λ v. v.items ≡ bodies_with (lifted_of p.now) (call_function (lifted_of p.now) k)) }
+    ensures few { IfOk result (λ _. FewLocals (lifted_of p.now)) }
+    ensures refused { IfErr result (λ e. MemoryOrNot e (FewLocals (lifted_of p.now))) }
+{
+    let numbers = numbers_of(alloc, p)?;
+    let mut bodies = bodies_before_main(alloc, p, &numbers)?;
+    let main = call_body(alloc, p, &numbers, k)?;
     bodies.push(main)?;
     Ok(bodies)
 }

@@ -2,19 +2,21 @@
 ghost use Rattle.std.specs.Prelude.{◌≡◌, ◌+◌, ◌++◌, ◌∷◌, ◌≤◌, [], IfOk, IfErr, OnOk, replicate, length};
 ghost use Rattle.closure_lift.specs.LiftedProgram.{lifted_of};
 ghost use Rattle.wasm_core.specs.declared.types.ValType.TheVariants as type;
+ghost use Rattle.wasm_core.specs.ModuleCondition.{IsModule};
 ghost use Rattle.wasm_core.specs.ModuleTyping.{IsValid};
+ghost use Rattle.wasm_emit.specs.CallModule.{call_exports, call_globals, module_of_call};
 ghost use Rattle.wasm_emit.specs.EmittedModule.{module_of, entries, type_main, type_constant, type_function, word_global as global_word};
-ghost use Rattle.wasm_emit.specs.Emission.{Emits, exports_with};
+ghost use Rattle.wasm_emit.specs.Emission.{Emits, exports_with, parts_with};
 ghost use Rattle.wasm_emit.specs.EmittedBodies.{FewLocals, MemoryOrNot};
 ghost use Rattle.wasm_emit.specs.declared.fault.EmitFault.TheVariants.{Memory};
 
 use crate::blocks::function_index;
-use crate::bodies::all_bodies;
+use crate::bodies::{all_bodies, all_call_bodies};
 use crate::fault::EmitFault;
 use closure_lift::program::Lifted;
 use std::alloc::Global;
 use wasm_core::{
-    Bodies, Bytes, ConstValue, Export, ExportKind, Exports, FuncType, FuncTypes, GlobalDef,
+    Bodies, Body, Bytes, ConstValue, Export, ExportKind, Exports, FuncType, FuncTypes, GlobalDef,
     GlobalDefs, Limits, Module, Numbers, Segment, Segments, ValType, ValTypes, Valid,
 };
 
@@ -81,9 +83,9 @@ fn export_of(alloc: Global, name: &[u8], kind: ExportKind, index: u32) -> Result
     })
 }
 
-/// The exports, with the index of main.
-fn exports_of(alloc: Global, main: u32) -> Result<Exports, EmitFault>
-    ensures is { IfOk result (λ es. es ≡ exports_with main) }
+/// The exports of every emitted module, with the index of main.
+fn first_exports(alloc: Global, main: u32) -> Result<Vec<Export>, EmitFault>
+    ensures is { IfOk result (λ es. es.items ≡ exports_with main) }
     ensures only_memory { IfErr result (λ e. e ≡ Memory) }
 {
     let main = export_of(alloc, b"main", ExportKind::Func, main)?;
@@ -91,6 +93,28 @@ fn exports_of(alloc: Global, main: u32) -> Result<Exports, EmitFault>
     let result = export_of(alloc, b"result", ExportKind::Global, 0)?;
     let status = export_of(alloc, b"status", ExportKind::Global, 1)?;
     let items = vec![in alloc; main, memory, result, status]?;
+    Ok(items)
+}
+
+/// The exports, with the index of main.
+fn exports_of(alloc: Global, main: u32) -> Result<Exports, EmitFault>
+    ensures is { IfOk result (λ es. es ≡ exports_with main) }
+    ensures only_memory { IfErr result (λ e. e ≡ Memory) }
+{
+    let items = first_exports(alloc, main)?;
+    Ok(Exports::of(items))
+}
+
+/// The exports of a module for calls, with the index of main: the end of the heap and the address of the arguments are given out too.
+fn call_exports_of(alloc: Global, main: u32) -> Result<Exports, EmitFault>
+    ensures is { IfOk result (λ es. es ≡ exports_with main ++ call_exports) }
+    ensures only_memory { IfErr result (λ e. e ≡ Memory) }
+{
+    let mut items = first_exports(alloc, main)?;
+    let heap = export_of(alloc, b"heap", ExportKind::Global, 2)?;
+    items.push(heap)?;
+    let args = export_of(alloc, b"args", ExportKind::Global, 3)?;
+    items.push(args)?;
     Ok(Exports::of(items))
 }
 
@@ -131,12 +155,64 @@ fn globals_of(alloc: Global) -> Result<GlobalDefs, EmitFault>
     Ok(GlobalDefs::of(items))
 }
 
+/// The globals of a module for calls: those of every module, and the address of the arguments.
+fn call_globals_of(alloc: Global) -> Result<GlobalDefs, EmitFault>
+    ensures is { IfOk result (λ gs. gs ≡ global_word 0 ∷ global_word 0 ∷ global_word 8 ∷ call_globals) }
+    ensures only_memory { IfErr result (λ e. e ≡ Memory) }
+{
+    let items = vec![in alloc;
+        word_global(0),
+        word_global(0),
+        word_global(8),
+        word_global(0),
+    ]?;
+    Ok(GlobalDefs::of(items))
+}
+
 /// The number of the table's entries: one for box, and one for each function of the program.
 fn entry_count(p: &Lifted) -> u32
     requires few { length ((lifted_of p.now).functions) ≤ 32768 }
     ensures is { result ≡ length ((lifted_of p.now).functions) + 1 }
 {
     p.functions.as_slice().len() as u32 + 1
+}
+
+/// The module with these bodies, globals and exports: its types, functions, table, memory and segment are those of every emitted module.
+fn assembled(
+    alloc: Global,
+    p: &Lifted,
+    bodies: Vec<Body>,
+    globals: GlobalDefs,
+    exports: Exports,
+    pages: u32,
+) -> Result<Module, EmitFault>
+    requires few { length ((lifted_of p.now).functions) ≤ 32768 }
+    requires module { IsModule (parts_with (lifted_of p.now) bodies.items globals exports pages) }
+    ensures is { IfOk result (λ m. m ≡ parts_with (lifted_of p.now) bodies.items globals exports pages) }
+    ensures only_memory { IfErr result (λ e. e ≡ Memory) }
+{
+    let entries = entry_count(p);
+    let types = types_of(alloc)?;
+    let funcs = funcs_of(alloc, p)?;
+    let elements = elements_of(alloc, entries)?;
+    let table = Limits {
+        min: entries,
+        max: Some(entries),
+    };
+    let memory = Limits {
+        min: 1,
+        max: Some(pages),
+    };
+    Ok(Module::new(
+        types,
+        funcs,
+        Some(table),
+        Some(memory),
+        globals,
+        exports,
+        elements,
+        Bodies::of(bodies),
+    ))
 }
 
 /// The module of a lifted program, which is valid. Its memory has one page of 65,536 bytes at first, and `pages` at most. What its runs answer, and within
@@ -153,30 +229,33 @@ pub fn emit(alloc: Global, p: &Lifted, pages: u32) -> Result<Valid, EmitFault>
     ensures refused { IfErr result (λ e. MemoryOrNot e (FewLocals (lifted_of p.now))) }
 {
     let bodies = all_bodies(alloc, p)?;
-    let entries = entry_count(p);
     let main = function_index(p, p.constants.len())?;
-    let types = types_of(alloc)?;
-    let funcs = funcs_of(alloc, p)?;
     let globals = globals_of(alloc)?;
     let exports = exports_of(alloc, main)?;
-    let elements = elements_of(alloc, entries)?;
-    let table = Limits {
-        min: entries,
-        max: Some(entries),
-    };
-    let memory = Limits {
-        min: 1,
-        max: Some(pages),
-    };
-    let module = Module::new(
-        types,
-        funcs,
-        Some(table),
-        Some(memory),
-        globals,
-        exports,
-        elements,
-        Bodies::of(bodies),
-    );
+    let module = assembled(alloc, p, bodies, globals, exports, pages)?;
+    Ok(Valid::of(module))
+}
+
+/// The module whose main applies the program's main to `k` arguments, which a host stores before the run; it is valid. It is the module of `emit` with two further
+/// globals given out, both i32 and mutable: `heap`, the next free address, which is 8 at first, and `args`, the address of the `k` words of the arguments. What its
+/// runs answer, and within which bounds, is `calls_of_main_answer`.
+///
+/// `Locals` exactly where `emit` answers it.
+pub fn emit_call(alloc: Global, p: &Lifted, k: u32, pages: u32) -> Result<Valid, EmitFault>
+    requires form { Emits (lifted_of p.now) }
+    requires some { 1 ≤ k }
+    requires most { k ≤ 255 }
+    requires least { 1 ≤ pages }
+    requires greatest { pages ≤ 16384 }
+    ensures is { IfOk result (λ v. v ≡ module_of_call (lifted_of p.now) k pages) }
+    ensures valid { IfOk result IsValid }
+    ensures few { IfOk result (λ _. FewLocals (lifted_of p.now)) }
+    ensures refused { IfErr result (λ e. MemoryOrNot e (FewLocals (lifted_of p.now))) }
+{
+    let bodies = all_call_bodies(alloc, p, k)?;
+    let main = function_index(p, p.constants.len())?;
+    let globals = call_globals_of(alloc)?;
+    let exports = call_exports_of(alloc, main)?;
+    let module = assembled(alloc, p, bodies, globals, exports, pages)?;
     Ok(Valid::of(module))
 }

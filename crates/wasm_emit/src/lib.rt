@@ -7,7 +7,8 @@
 //! The laws are public functions with empty bodies: every run of the module answers the data to which main evaluates, or is exhausted after a refused grow
 //! (`emitted_runs_answer`); the status tells of a refused grow (`status_tells_of_a_refused_grow`); the module of `module_of` is valid
 //! (`emitted_modules_are_valid`) and can be spelled (`emitted_modules_can_be_spelled`); its bytes and locals are bounded by the program's size
-//! (`emitted_bytes_are_bounded`). `CallModule` is the same for a main that takes arguments from memory (`calls_of_main_answer`).
+//! (`emitted_bytes_are_bounded`). `emit_call` makes the module whose main applies the program's main to arguments that a host stores before the run, with the same clauses
+//! (`CallModule`); what its runs answer is `calls_of_main_answer`.
 //!
 //! Below stand `closure_lift` (lifted programs and their evaluation) and `wasm_core` (modules, validity, runs); above stand
 //! `back_end`, with the laws of all passes together, and `compile`, which calls it.
@@ -15,6 +16,7 @@
 
 mod blocks;
 mod bodies;
+mod calls;
 mod emission;
 mod fault;
 mod instructions;
@@ -23,7 +25,7 @@ mod locals;
 mod numbers;
 mod places;
 
-pub use emission::emit;
+pub use emission::{emit, emit_call};
 pub use fault::EmitFault;
 pub use laws::{
     calls_of_main_answer, emitted_bytes_are_bounded, emitted_modules_are_valid,
