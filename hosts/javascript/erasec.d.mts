@@ -5,6 +5,7 @@ export declare const MAX_NODES: 4_000_000;
 export declare class ErasecError extends Error {}
 export declare class BadTypes extends ErasecError {}
 export declare class BadModule extends ErasecError {}
+export declare class BadArgument extends ErasecError {}
 export declare class MemoryExhausted extends ErasecError {}
 export declare class StackExhausted extends ErasecError {}
 export declare class Trapped extends ErasecError {}
@@ -20,6 +21,9 @@ export interface Constructor {
 
 export declare class Types {
   constructor(text: string | readonly string[]);
+  /** The types of main's arguments, none where main is data. */
+  readonly args: readonly string[];
+  /** The type of main's answer. */
   readonly main: string;
   readonly constructors: ReadonlyMap<string, readonly Constructor[]>;
 }
@@ -46,11 +50,21 @@ export declare class Program {
   constructor(module: WebAssembly.Module, types: TypesText);
   readonly module: WebAssembly.Module;
   readonly types: Types;
-  runRaw(): Raw;
-  run(): Data;
+  run(...args: Data[]): Data;
+  open(): Session;
+  nodesOf(args: readonly Data[]): Uint32Array;
+}
+
+export declare class Session {
+  constructor(program: Program);
+  readonly program: Program;
+  run(...args: Data[]): Data;
+  runNodes(nodes: Uint32Array): Raw;
 }
 
 export declare function load(bytes: BufferSource, types: TypesText): Promise<Program>;
+
+export declare function parseArguments(text: string, types: TypesText): Data[];
 
 /** Between data and values of JavaScript. */
 export interface Conversion<Value, Given = Value> {

@@ -1,7 +1,7 @@
-// Runs modules that `erasec compile` wrote, and reads their answers along main's types. Without dependencies, for node and browsers.
+// Runs modules of erasec, stores the arguments of those whose main is a function, and reads their answers along main's types. Without dependencies, for node and browsers.
 //
-// A program's types are those that `tools/types-of` writes of its dump: 'list=nil,cons:nat+list' and 'nat=O,S:nat', main's first. docs/RUNNING.md has the layout of values, README.md beside
-// this file an example of each call, erasec.d.mts the types of TypeScript.
+// A program's types are those that `tools/types-of` writes of its dump: 'list=nil,cons:nat+list' and 'nat=O,S:nat', main's first; where main is a function, 'nat+list->list' stands before
+// them. docs/RUNNING.md has the layout of values and how arguments are stored, README.md beside this file an example of each call, erasec.d.mts the types of TypeScript.
 
 /** Data are read, told and stored up to this many nodes, as by `erasec run`. A part that is shared counts at each place. */
 export const MAX_NODES = 4_000_000;
@@ -19,10 +19,13 @@ export class ErasecError extends Error {
 /** The text of types isn't in the form of `tools/types-of`. */
 export class BadTypes extends ErasecError {}
 
-/** The bytes are no module that an engine takes, or one without the entries of `erasec compile`. */
+/** The bytes are no module that an engine takes, or one without the entries that a host needs. */
 export class BadModule extends ErasecError {}
 
-/** The run ended since its memory was used up. */
+/** An argument isn't data of its type, or there are more or fewer of them than main takes. */
+export class BadArgument extends ErasecError {}
+
+/** The run ended since its memory was used up, or its arguments have no room. */
 export class MemoryExhausted extends ErasecError {}
 
 /** The run ended since the engine's stack is too small for its recursion: the program may still have an answer. */
@@ -34,7 +37,7 @@ export class Trapped extends ErasecError {}
 /** What the run left isn't data of the given types: the types aren't this module's, or the module isn't by `erasec compile`. */
 export class NotData extends ErasecError {}
 
-/** The answer has more than MAX_NODES nodes. */
+/** The answer has more than MAX_NODES nodes, or the arguments have. */
 export class TooLarge extends ErasecError {}
 
 /** A value has no data of the type that is asked for, or data isn't of a conversion's form. */
@@ -45,19 +48,25 @@ export class OutOfTime extends ErasecError {}
 
 // ------------------------------------------------------------------ types
 
-/** The types of an answer: each type's constructors by their numbers, with the types of their arguments. */
+/** The types of an answer and of arguments: each type's constructors by their numbers, with the types of their own arguments. */
 export class Types {
   /** Of lines or words in the form of `tools/types-of`: one string, or several. */
   constructor(text) {
     const given = (Array.isArray(text) ? text : [text]).join("\n").split(/\s+/).filter(Boolean);
+    const arrow = given[0]?.indexOf("->") ?? -1;
+    const signature = arrow < 0 ? null : given.shift();
     if (!given.length) throw new BadTypes("no type is given");
     this.constructors = new Map();
     for (const line of given) this.#add(line);
-    this.main = given[0].slice(0, given[0].indexOf("="));
+    this.args = signature ? signature.slice(0, arrow).split("+") : [];
+    this.main = signature ? signature.slice(arrow + 2) : given[0].slice(0, given[0].indexOf("="));
+    const lacks = (names) => names.find((it) => !this.constructors.has(it));
+    const missing = lacks([...this.args, this.main]);
+    if (missing !== undefined) throw new BadTypes(`main's type names the type '${missing}', which isn't given`);
     for (const [type, constructors] of this.constructors) {
       for (const { name, args } of constructors) {
-        const missing = args.find((it) => !this.constructors.has(it));
-        if (missing !== undefined) throw new BadTypes(`${name} of ${type} has an argument of the type ${missing}, which isn't given`);
+        const other = lacks(args);
+        if (other !== undefined) throw new BadTypes(`${name} of ${type} has an argument of the type ${other}, which isn't given`);
       }
     }
   }
@@ -135,47 +144,191 @@ function headOf(view, word) {
   return { number: header & 65535, count };
 }
 
+// ------------------------------------------------------------------ arguments
+
+/** The nodes of arguments in preorder, for each its constructor's number and its count of arguments; every node is compared with the types. */
+function nodesOf(args, { constructors, args: types }) {
+  if (args.length !== types.length) throw new BadArgument(`main takes ${types.length} arguments, and not ${args.length}`);
+  const todo = args.map((data, i) => ({ data, type: types[i], argument: i + 1 })).reverse();
+  const nodes = [];
+  while (todo.length) {
+    const { data, type, argument } = todo.pop();
+    if (nodes.length === 2 * MAX_NODES) throw new TooLarge(`the arguments have more than ${MAX_NODES} nodes`);
+    if (!(data instanceof Data)) throw new BadArgument(`argument ${argument} holds ${String(data)}, which isn't data`);
+    const constructor = constructors.get(type)[data.number];
+    if (!constructor) throw new BadArgument(`argument ${argument} holds constructor ${data.number} of ${type}, which has ${constructors.get(type).length || "none"}`);
+    if (constructor.args.length !== data.args.length) throw new BadArgument(`argument ${argument} holds ${constructor.name} of ${type} with ${data.args.length} arguments, and it has ${constructor.args.length}`);
+    nodes.push(data.number, data.args.length);
+    for (let i = data.args.length; i > 0; i--) todo.push({ data: data.args[i - 1], type: constructor.args[i - 1], argument });
+  }
+  return Uint32Array.from(nodes);
+}
+
+/** Main's arguments of a text, as erasec writes data, one behind the other: `(S O) (cons O nil)`. Names are those of the types. */
+export function parseArguments(text, types) {
+  const { constructors, args } = typesOf(types);
+  const token = /([ \t\n\r]+|;[^\n]*)|[()]|[A-Za-z0-9_.'-]+/y;
+  const given = [];
+  // the brackets that are open, the innermost last: what stands in them, and the types of that
+  const open = [{ items: given, types: args }];
+  let named = false;
+  const refuse = (why) => { throw new BadArgument(`argument at ${token.at}: ${why}`); };
+  for (;;) {
+    token.at = token.lastIndex;
+    const { items, types: due } = open.at(-1);
+    if (token.at === text.length) break;
+    const found = token.exec(text) ?? refuse("no token");
+    if (found[1] !== undefined) continue;
+    const type = due[items.length];
+    if (named && found[0].length === 1 && "()".includes(found[0])) refuse("a constructor's name is due");
+    if (found[0] === ")") {
+      if (open.length === 1 || !items.length) refuse("a bracket that closes nothing");
+      if (type !== undefined) refuse(`data of ${type} is missing`);
+      open.pop();
+    } else if (type === undefined) {
+      refuse("one too many");
+    } else if (found[0] === "(") {
+      named = true;
+    } else {
+      const number = constructors.get(type).findIndex((it) => it.name === found[0]);
+      if (number < 0) refuse(`${found[0]} is no constructor of ${type}`);
+      const data = new Data(found[0], number);
+      if (!named && constructors.get(type)[number].args.length) refuse(`${found[0]} has arguments`);
+      items.push(data);
+      if (named) open.push({ items: data.args, types: constructors.get(type)[number].args });
+      named = false;
+    }
+  }
+  if (named || open.length > 1) refuse("the text ends early");
+  if (given.length < args.length) refuse(`data of ${args[given.length]} is missing`);
+  return given;
+}
+
+/** Stores arguments behind the end of the heap, each block behind those of its fields, then their words; and tells the module of both. */
+function store({ memory, heap, args }, nodes) {
+  let words = 0;
+  let count = 1;
+  for (let i = 0; i < nodes.length; i += 2) {
+    if (nodes[i + 1]) words += 1 + nodes[i + 1];
+    count += 1 - nodes[i + 1];
+  }
+  count -= 1;
+  const from = heap.value >>> 0;
+  const end = from + 4 * (words + count);
+  makeRoom(memory, end);
+  const view = new DataView(memory.buffer);
+  let at = from;
+  const put = (word) => { view.setUint32(at, word, true); at += 4; };
+  const waiting = [];
+  for (let i = nodes.length - 2; i >= 0; i -= 2) {
+    const [number, fields] = [nodes[i], nodes[i + 1]];
+    if (!fields) { waiting.push(2 * number + 1); continue; }
+    const block = at;
+    put(fields * 65536 + number);
+    for (let k = 0; k < fields; k++) put(waiting.pop());
+    waiting.push(block);
+  }
+  args.value = at | 0;
+  while (waiting.length) put(waiting.pop());
+  heap.value = end | 0;
+}
+
+/** Memory grows by the fewest pages with which so many bytes lie in it. */
+function makeRoom(memory, bytes) {
+  const pages = Math.ceil((bytes - memory.buffer.byteLength) / 65536);
+  if (pages <= 0) return;
+  try {
+    memory.grow(pages);
+  } catch (cause) {
+    throw new MemoryExhausted("the arguments have no room in the program's memory", { cause });
+  }
+}
+
 // ------------------------------------------------------------------ programs
 
-const ENTRIES = [["main", (it) => typeof it === "function"], ["memory", (it) => it instanceof WebAssembly.Memory],
-  ["result", (it) => it instanceof WebAssembly.Global], ["status", (it) => it instanceof WebAssembly.Global]];
+/** A global of type i32 that can be set. */
+function isWord(it) {
+  if (!(it instanceof WebAssembly.Global) || typeof it.value !== "number") return false;
+  try {
+    it.value = it.value;
+    return true;
+  } catch {
+    return false;
+  }
+}
 
-/** A compiled program: its module, and the types of its answer. */
+const ENTRIES = [["main", (it) => typeof it === "function"], ["memory", (it) => it instanceof WebAssembly.Memory], ["result", isWord], ["status", isWord]];
+const CALL_ENTRIES = [...ENTRIES, ["heap", isWord], ["args", isWord]];
+
+/** A module of erasec, and the types of its main. */
 export class Program {
   constructor(module, types) {
     this.module = module;
     this.types = typesOf(types);
   }
 
-  /** Runs main in a new instance; what stands in the memory afterwards, and the word of the answer. */
-  runRaw() {
-    const entries = this.#instance();
+  /** Runs main on the arguments, if it takes any, in a new instance, and reads its answer. */
+  run(...args) {
+    return this.open().run(...args);
+  }
+
+  /** An instance that runs main as often as its memory lasts. */
+  open() {
+    return new Session(this);
+  }
+
+  /** The nodes of arguments, which another instance of this program takes in place of them. */
+  nodesOf(args) {
+    return nodesOf(args, this.types);
+  }
+}
+
+/** An instance of a program. A module gives no memory back, so each run leaves less of it; after a run that ended by a trap every further one ends by the same error. */
+export class Session {
+  #entries;
+  #first;
+  #ended = null;
+
+  constructor(program) {
+    this.program = program;
+    this.#entries = instanceOf(program);
+    this.#first = this.#entries.result.value;
+  }
+
+  /** Runs main on the arguments, if it takes any, and reads its answer. */
+  run(...args) {
+    const { buffer, word } = this.runNodes(this.program.nodesOf(args));
+    return readData(buffer, word, this.program.types);
+  }
+
+  /** Runs main on arguments that `nodesOf` has taken apart; what stands in the memory afterwards, and the word of the answer. */
+  runNodes(nodes) {
+    if (this.#ended) throw this.#ended;
+    const { main, memory, result, status } = this.#entries;
+    if (nodes.length) store(this.#entries, nodes);
+    result.value = this.#first;
     try {
-      entries.main();
+      main();
     } catch (trap) {
-      throw causeOf(trap, entries.status.value);
+      this.#ended = causeOf(trap, status.value);
+      throw this.#ended;
     }
-    return { buffer: entries.memory.buffer, word: entries.result.value >>> 0 };
+    return { buffer: memory.buffer, word: result.value >>> 0 };
   }
+}
 
-  /** Runs main in a new instance, and reads its answer. */
-  run() {
-    const { buffer, word } = this.runRaw();
-    return readData(buffer, word, this.types);
+/** The entries of a new instance: those of a module for calls, where main takes arguments. */
+function instanceOf({ module, types }) {
+  let entries;
+  try {
+    entries = new WebAssembly.Instance(module, {}).exports;
+  } catch (cause) {
+    throw new BadModule(`the module has no instance: ${cause.message}`, { cause });
   }
-
-  #instance() {
-    let entries;
-    try {
-      entries = new WebAssembly.Instance(this.module, {}).exports;
-    } catch (cause) {
-      throw new BadModule(`the module has no instance: ${cause.message}`, { cause });
-    }
-    for (const [name, isEntry] of ENTRIES) {
-      if (!isEntry(entries[name])) throw new BadModule(`the module has no entry ${name}`);
-    }
-    return entries;
+  for (const [name, isEntry] of types.args.length ? CALL_ENTRIES : ENTRIES) {
+    if (!isEntry(entries[name])) throw new BadModule(`the module has no entry ${name}`);
   }
+  return entries;
 }
 
 /** Which error a trap of main stands for. */

@@ -1,5 +1,5 @@
 // Runs a program in a Worker that is ended after a time, in node and in browsers.
-import { BadModule, ErasecError, MemoryExhausted, OutOfTime, StackExhausted, Trapped, Types, readData } from "./erasec.mjs";
+import { BadModule, ErasecError, MemoryExhausted, OutOfTime, Program, StackExhausted, Trapped, readData } from "./erasec.mjs";
 
 const KINDS = { BadModule, MemoryExhausted, StackExhausted, Trapped };
 const WORKER = new URL("./worker.mjs", import.meta.url);
@@ -16,9 +16,11 @@ async function newWorker() {
   };
 }
 
-/** The answer of a module's bytes, or an error; OutOfTime where it isn't there after the milliseconds. */
-export async function runLimited(bytes, types, milliseconds) {
-  const parsed = types instanceof Types ? types : new Types(types);
+/** The answer of a module's bytes, on the arguments if main takes any, or an error; OutOfTime where it isn't there after the milliseconds. */
+export async function runLimited(bytes, types, milliseconds, ...args) {
+  // the module is made in the Worker alone
+  const program = new Program(null, types);
+  const nodes = program.nodesOf(args);
   const worker = await newWorker();
   let timer;
   try {
@@ -26,10 +28,10 @@ export async function runLimited(bytes, types, milliseconds) {
       timer = setTimeout(() => reject(new OutOfTime(`no answer after ${milliseconds} ms`)), milliseconds);
       worker.addEventListener("message", (it) => resolve(it.data));
       worker.addEventListener("error", (it) => reject(new ErasecError(`the Worker ended: ${it.message}`)));
-      worker.postMessage({ bytes });
+      worker.postMessage({ bytes, nodes });
     });
     if (told.error) throw new (KINDS[told.error.name] ?? ErasecError)(told.error.message);
-    return readData(told.buffer, told.word, parsed);
+    return readData(told.buffer, told.word, program.types);
   } finally {
     clearTimeout(timer);
     worker.terminate();

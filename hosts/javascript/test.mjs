@@ -22,25 +22,27 @@ const named = (name) => [name.length, ...Buffer.from(name)];
 const section = (id, items) => { const body = [...number(items.length), ...items.flat()]; return [id, ...number(body.length), ...body]; };
 const constant = (n) => [0x41, ...signed(n)];
 
-/** A module whose main has this code, with words in memory from address 4 and a word in result. */
-function written({ code = [], words = [], result = 1, entries = ["main", "memory", "result", "status"] }) {
-  const exports = { main: [0, 0], memory: [2, 0], result: [3, 0], status: [3, 1] };
+/** A module whose main has this code, with words in memory from address 4, and words in result, status, heap and args; memory has one page, and so many at most. */
+function written({ code = [], words = [], result = 1, heap = 8, pages = 2, mutable = 1, entries = ["main", "memory", "result", "status"] }) {
+  const exports = { main: [0, 0], memory: [2, 0], result: [3, 0], status: [3, 1], heap: [3, 2], args: [3, 3] };
   const data = words.flatMap((w) => [w & 255, (w >>> 8) & 255, (w >>> 16) & 255, w >>> 24]);
   const body = [0, ...code, 0x0b];
   return Uint8Array.from([0, 0x61, 0x73, 0x6d, 1, 0, 0, 0,
-    ...section(1, [[0x60, 0, 0]]), ...section(3, [[0]]), ...section(5, [[0, 1]]),
-    ...section(6, [result, 0].map((it) => [0x7f, 1, ...constant(it), 0x0b])),
+    ...section(1, [[0x60, 0, 0]]), ...section(3, [[0]]), ...section(5, [[1, 1, pages]]),
+    ...section(6, [result, 0, heap, 0].map((it) => [0x7f, mutable, ...constant(it), 0x0b])),
     ...section(7, entries.map((it) => [...named(it), ...exports[it]])),
     ...section(10, [[...number(body.length), ...body]]),
     ...section(11, [[0, ...constant(4), 0x0b, ...number(data.length), ...data]])]);
 }
 
+const CALLABLE = ["main", "memory", "result", "status", "heap", "args"];
+const answersArgument = (n) => ({ code: [0x23, 3, 0x28, 2, 4 * n, 0x24, 0], entries: CALLABLE });
 const UNREACHABLE = [0x00], CALL_ITSELF = [0x10, 0], FOREVER = [0x03, 0x40, 0x0c, 0, 0x0b];
 const EXHAUSTED = [...constant(1), 0x24, 1, ...UNREACHABLE];
 // cons 1 nil at 4, S O at 16
 const ONE_IN_A_LIST = { words: [2 * 65536 + 1, 16, 1, 65536 + 1, 1], result: 4 };
 
-const answerOf = async (module, types) => (await load(written(module), types)).run();
+const answerOf = async (module, types, ...args) => (await load(written(module), types)).run(...args);
 
 test("an answer is read along its types", async () => {
   const answer = await answerOf(ONE_IN_A_LIST, LIST);
@@ -77,6 +79,55 @@ test("other modules are refused", async () => {
   await assert.rejects(answerOf({ entries: ["main", "memory", "result"] }, NAT), erasec.BadModule);
 });
 
+const PAIR = "nat+list->list list=nil,cons:nat+list nat=O,S:nat";
+
+test("arguments are stored along their types", async () => {
+  const given = [nat.data(3), list(nat).data([2, 0, 1])];
+  assert.equal(String(await answerOf(answersArgument(1), PAIR, ...given)), "(cons (S (S O)) (cons O (cons (S O) nil)))");
+  assert.equal(String(await answerOf(answersArgument(0), PAIR.replace("->list", "->nat"), ...given)), "(S (S (S O)))");
+  // memory grows for them, and a block lies behind its fields, which the reader asks of no block
+  const numbers = Array.from({ length: 3_000 }, (_, i) => i % 3);
+  assert.deepEqual(list(nat).of(await answerOf(answersArgument(1), PAIR, nat.data(1), list(nat).data(numbers))), numbers);
+});
+
+test("arguments that aren't main's are found", async () => {
+  const program = await load(written(answersArgument(1)), PAIR);
+  for (const given of [[], [nat.data(1)], [nat.data(1), list(nat).data([]), nat.data(1)], [bool.data(true), 5], [nat.data(1), nat.data(1)], [nat.data(1), new Data("red", 2)],
+    [nat.data(0), new Data("cons", 1, [nat.data(0)])], [nat.data(0), new Data("nil", 0, [nat.data(0)])], [1, list(nat).data([])]]) {
+    assert.throws(() => program.run(...given), erasec.BadArgument);
+  }
+  await assert.rejects(answerOf(ONE_IN_A_LIST, LIST, nat.data(1)), erasec.BadArgument);
+  await assert.rejects(answerOf(answersArgument(0), "nat->nat nat=O,S:nat nat=O"), erasec.BadTypes);
+  for (const text of ["nat->list nat=O,S:nat", "->nat nat=O,S:nat", "nat+->nat nat=O,S:nat", "nat->", "nat->nat"]) assert.throws(() => new erasec.Types(text), erasec.BadTypes, text);
+});
+
+test("arguments are read of their text", () => {
+  for (const text of ["O nil", "(S (S O)) (cons O (cons (S O) nil))"]) assert.equal(erasec.parseArguments(text, PAIR).join(" "), text);
+  assert.deepEqual(erasec.parseArguments(" ( S;x\nO)nil\t", PAIR).map(String), ["(S O)", "nil"]);
+  assert.equal(nat.of(erasec.parseArguments("(S ".repeat(10_000) + "O" + ")".repeat(10_000), "nat->nat nat=O,S:nat")[0]), 10_000);
+  for (const [text, offset] of [["", 0], ["O", 1], ["O nil O", 6], ["S nil", 0], ["(S) nil", 2], ["(O O) nil", 3], ["(S O", 4], ["(S O O) nil", 5], ["(cons O) nil", 1], ["O (cons O)", 9], ["O )", 2], ["O ((", 3], ["O ?", 2], ["O (", 3], ["true nil", 0]]) {
+    assert.throws(() => erasec.parseArguments(text, PAIR), { name: "BadArgument", message: new RegExp(`^argument at ${offset}:`) }, text);
+  }
+});
+
+test("an instance runs as often as its memory lasts", async () => {
+  const program = await load(written(answersArgument(1)), PAIR);
+  const session = program.open();
+  const numbers = list(nat).data(new Array(100).fill(5));
+  let runs = 0;
+  assert.throws(() => { for (;;) { assert.equal(list(nat).of(session.run(nat.data(0), numbers)).length, 100); runs++; } }, erasec.MemoryExhausted);
+  // of 131,064 bytes a run takes 100 * (12 + 5 * 8) + 8
+  assert.equal(runs, 25);
+  assert.equal(String(session.run(nat.data(0), list(nat).data([]))), "nil");
+  const ended = (await load(written({ ...answersArgument(0), code: UNREACHABLE }), PAIR)).open();
+  for (let i = 0; i < 2; i++) assert.throws(() => ended.run(nat.data(0), numbers), erasec.Trapped);
+});
+
+test("a module for calls has two more entries", async () => {
+  for (const entries of [CALLABLE.slice(0, 4), CALLABLE.slice(0, 5)]) await assert.rejects(answerOf({ ...answersArgument(0), entries }, PAIR, nat.data(0), list(nat).data([])), erasec.BadModule);
+  await assert.rejects(answerOf({ mutable: 0 }, NAT), erasec.BadModule);
+});
+
 test("a text of types is checked", () => {
   for (const text of ["", "nat", "=O", "nat=O,S:nat nat=O", "nat=O,S:", "nat=O,,S", "list=nil,cons:nat+list", "a=b=c", "nat=O,S:nat:nat"]) {
     assert.throws(() => new erasec.Types(text), erasec.BadTypes, text);
@@ -90,6 +141,9 @@ test("a Worker has a time limit", async () => {
   await assert.rejects(runLimited(written({ code: EXHAUSTED }), NAT, 10_000), erasec.MemoryExhausted);
   await assert.rejects(runLimited(written({ code: CALL_ITSELF }), NAT, 10_000), erasec.StackExhausted);
   await assert.rejects(runLimited(written(ONE_IN_A_LIST), NAT, 10_000), erasec.NotData);
+  assert.equal(String(await runLimited(written(answersArgument(1)), PAIR, 10_000, nat.data(300), list(nat).data([1]))), "(cons (S O) nil)");
+  await assert.rejects(runLimited(written({ ...answersArgument(1), code: FOREVER }), PAIR, 500, nat.data(300), list(nat).data([1])), erasec.OutOfTime);
+  await assert.rejects(runLimited(written(answersArgument(1)), PAIR, 10_000, nat.data(300)), erasec.BadArgument);
 });
 
 test("conversions go both ways", () => {

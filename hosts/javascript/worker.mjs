@@ -1,12 +1,13 @@
-// The Worker of limited.mjs: it runs the module that comes, and sends the memory with the word of the answer, or the error.
+// The Worker of limited.mjs: it runs the module that comes, on the nodes of arguments that come with it, and sends the memory with the word of the answer, or the error.
 import { load } from "./erasec.mjs";
 
-// no type is needed here: the answer is read by whoever asked
+// of the types only whether main takes arguments matters here: arguments are taken apart, and the answer is read, by whoever asked
 const NO_TYPES = "none=";
+const typesFor = (nodes) => (nodes.length ? `none->none ${NO_TYPES}` : NO_TYPES);
 
-async function answerOf({ bytes }) {
+async function answerOf({ bytes, nodes }) {
   try {
-    const { buffer, word } = (await load(bytes, NO_TYPES)).runRaw();
+    const { buffer, word } = (await load(bytes, typesFor(nodes))).open().runNodes(nodes);
     return { buffer: buffer.slice(0), word };
   } catch (error) {
     return { error: { name: error.name, message: error.message } };
