@@ -4,7 +4,7 @@
 //! |---|---|
 //! | `closures` | `to_anf`, `lift_program`, of what the row's environment is erased to, without matches on proofs, and saturated |
 //! | | `lift_nest`: the sizes of what a nest of `lambdas:` lambdas is lifted to; `lift_functions`: so of constants that are functions, `count:` of both in all |
-//! | `modules` | `compile`, of what the row's environment is erased to, with `pages:`: the size of the module, and a run of at most `steps:` steps (1,000,000 where it isn't told) |
+//! | `modules` | `compile`, of what the row's environment is erased to, with `pages:`: the size of the module, and a run of at most `steps:` steps (1,000,000 where it isn't told); `bytes`, the module's bytes |
 //!
 //! A program is printed one item a line, what stands inside indented. A variable is named by how many others are around it: `x0` is the
 //! outermost. What a block binds stands before its tail, as `x2 = App(x1, x0)`; a binding's variable is in scope only below. A fixpoint names its

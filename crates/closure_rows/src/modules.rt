@@ -5,7 +5,7 @@ use crate::erasing::program_of;
 use box_terms::program::BoxProgram;
 use compile::{CompileFault, compile};
 use mem_value::{AnswerFault, answer_tree};
-use row_files::{Case, Fault};
+use row_files::{Case, Fault, put_bytes};
 use row_terms::read;
 use std::alloc::{AllocError, Global};
 use wasm_core::{EncodeFault, Ended, RunFault, Valid};
@@ -31,8 +31,30 @@ fn run_erased(case: &Case, program: &BoxProgram, out: &mut String) -> Result<(),
         return Err(Fault::Faulty("no number of pages"));
     }
     match compile(case.alloc, program, pages) {
-        Ok(module) => run_module(case, &module, pages, out),
+        Ok(module) => run_compiled(case, &module, pages, out),
         Err(fault) => Ok(put_fault(out, fault)?),
+    }
+}
+
+/// Prints a module's bytes, or its size and a run of it, as the row asks.
+fn run_compiled(
+    case: &Case,
+    module: &Valid,
+    pages: u32,
+    out: &mut String,
+) -> Result<(), Fault> {
+    match case.row.given("call")? {
+        "bytes" => put_module(case.alloc, module, out),
+        _ => run_module(case, module, pages, out),
+    }
+}
+
+/// The fewest bytes that spell a module.
+fn put_module(alloc: Global, module: &Valid, out: &mut String) -> Result<(), Fault> {
+    match encode(alloc, module) {
+        Ok(bytes) => Ok(put_bytes(out, bytes.as_slice())?),
+        Err(EncodeFault::ModuleBytes) => Ok(out.push_str("limit ModuleBytes")?),
+        Err(EncodeFault::Memory) => Err(Fault::Memory),
     }
 }
 
