@@ -90,6 +90,15 @@ test("arguments are stored along their types", async () => {
   assert.deepEqual(list(nat).of(await answerOf(answersArgument(1), PAIR, nat.data(1), list(nat).data(numbers))), numbers);
 });
 
+test("a compiled function adds", async () => {
+  const add = await load(readFileSync(join(TOP, "examples/add.wasm")), "nat+nat->nat nat=O,S:nat");
+  for (const [a, b] of [[1, 2], [0, 0], [7, 0], [400, 5]]) assert.equal(nat.of(add.run(nat.data(a), nat.data(b))), a + b);
+  const session = add.open();
+  for (let i = 0; i < 50; i++) assert.equal(nat.of(session.run(nat.data(i), nat.data(100))), i + 100);
+  assert.throws(() => add.run(nat.data(200_000), nat.data(0)), erasec.StackExhausted);
+  assert.throws(() => add.run(nat.data(1), nat.data(3_999_999)), erasec.TooLarge);
+});
+
 test("arguments that aren't main's are found", async () => {
   const program = await load(written(answersArgument(1)), PAIR);
   for (const given of [[], [nat.data(1)], [nat.data(1), list(nat).data([]), nat.data(1)], [bool.data(true), 5], [nat.data(1), nat.data(1)], [nat.data(1), new Data("red", 2)],
