@@ -70,7 +70,7 @@ has_needs() {
 
 cd packages || exit 2
 ln -sfn ../out out
-for file in lia.v mergesort.v gmap.v flocq.v menhir.v; do
+for file in lia.v mergesort.v gmap.v flocq.v copies.v menhir.v; do
   has_needs "$file" || continue
   if [ "$file" = menhir.v ]; then prepare_menhir; compile "$file" -R "$menhir_library" MenhirLib; else compile "$file"; fi
 done
