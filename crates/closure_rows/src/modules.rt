@@ -37,12 +37,7 @@ fn run_erased(case: &Case, program: &BoxProgram, out: &mut String) -> Result<(),
 }
 
 /// Prints a module's bytes, or its size and a run of it, as the row asks.
-fn run_compiled(
-    case: &Case,
-    module: &Valid,
-    pages: u32,
-    out: &mut String,
-) -> Result<(), Fault> {
+fn run_compiled(case: &Case, module: &Valid, pages: u32, out: &mut String) -> Result<(), Fault> {
     match case.row.given("call")? {
         "bytes" => put_module(case.alloc, module, out),
         _ => run_module(case, module, pages, out),

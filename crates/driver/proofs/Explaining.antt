@@ -78,8 +78,7 @@ module _ (turns : ℕ) (e : RawEnv) (m m' : Meter) (none : m.nest ≡ 0) (fresh 
       IsCheckedEnvironment e.levels e.constraints (givens e) e.main a.env a.main_type → check ≡ facts_of_check e m'.account → AreTold shown (facts_of check) old new → IfOk x (λ v. view v ≡ codes "ok\n") →
       IfOk x (λ v. ExplainIsTold shown turns e (view v) old new)
   acceptance_says view shown (Ok v) a check old new h well are told text =
-      let accepted = accepted_with turns e m.nest m.account m'.account none fresh a h in
-      (
+      let accepted = accepted_with turns e m.nest m.account m'.account none fresh a h in (
         facts_of check,
         inl (record {
           accepted = accepted_by turns e a.env a.main_type m'.account accepted;
