@@ -3,7 +3,7 @@ use Rattle.std.proofs.Common.{◌≡◌, ℕ, suc, ◌+◌, ◌<◌, ◌≤◌, 
 use Rattle.anf_convert.specs.Anf.{Atom, AnfOp, ConOp, AnfBlock, AnfProgram}
 use Rattle.anf_convert.specs.Captured.{Scope, Plain}
 use Rattle.anf_convert.specs.AnfEvaluation.{AnfVal, WCon, AnfVals, WCons, count, Gives, give_empty, AnfDoes, op_con, AnfGets, block_atom, block_op, block_let, block_bind}
-use Rattle.anf_convert.specs.ToAnf.{Level, LVar, Binding, AtomIs, OpIs, Res, RAtom, RCon, ROp, Named, at_depth, binding_of, tail_of, block_of, named}
+use Rattle.anf_convert.specs.ToAnf.{Level, LVar, Binding, AtomIs, OpIs, Res, RAtom, RCon, ROp, NamedResult, at_depth, binding_of, tail_of, block_of, named}
 use Rattle.anf_convert.proofs.Levels.{Ext, ext_same, ext_push, ext_trans, AtLevel, l_word, l_empty, AllLevels, ls_none, ls_more, gives, gives_all, top_word}
 
 length_levels : (f : Level → Atom) (xs : List Level) → length (map f xs) ≡ length xs
@@ -74,7 +74,7 @@ module _ (Q : AnfProgram) (W : ℕ) where
   bound d eq (st_op h) = record { c' = _; l' = _; binds = binds_as refl (omega arith) (omega arith) refl (binds_op h binds_none); le_c = omega arith }
 
   -- a named result
-  pub record NameDone (s : Scope) (w : AnfVals) (n : Named) (u : AnfVal) (c k b : ℕ) : Type 0 where
+  pub record NameDone (s : Scope) (w : AnfVals) (n : NamedResult) (u : AnfVal) (c k b : ℕ) : Type 0 where
     pub g : Scope
     pub f : AnfVals
     pub c' : ℕ

@@ -7,7 +7,7 @@ use Rattle.pc_terms.specs.BoxSyntax.{BoxTerm, BoxTerms, Box, BLambda, BLetIn, BA
 use Rattle.lambda_box.specs.BoxProgram.{BoxConstant, Has, here, there}
 use Rattle.anf_convert.specs.Anf.{Atom, AnfOp, AppOp, AnfBlock}
 use Rattle.anf_convert.specs.AnfForm.{constructors, fields, branch_count, AtomFits, AtomsFit, AnfOpFits, AnfFits, AnfBranchesFit, DefsFit}
-use Rattle.anf_convert.specs.ToAnf.{Level, LVar, LBoxed, LEmpty, Binding, AtomIs, OpIs, Res, RAtom, RCon, ROp, Norm, Named, at_depth, binding_of, tail_of, block_of, sealed, with_variable, named, nth, levels, call, name_at, then_arg, then_body, norm, norm_branches, norm_defs, code_of, number_in, to_anf}
+use Rattle.anf_convert.specs.ToAnf.{Level, LVar, LBoxed, LEmpty, Binding, AtomIs, OpIs, Res, RAtom, RCon, ROp, Norm, NamedResult, at_depth, binding_of, tail_of, block_of, sealed, with_variable, named, nth, levels, call, name_at, then_arg, then_body, norm, norm_branches, norm_defs, code_of, number_in, to_anf}
 use Rattle.anf_convert.specs.ToAnfKeeps.{AreUnder}
 use Rattle.anf_convert.specs.TermForm.{more_args, constructor_args, FewBinders, TermFits, TermsFit, ToAnfForms}
 use Rattle.anf_convert.proofs.Widths.{def_total}
@@ -80,7 +80,7 @@ module _ (k m : ℕ) where
     ops : OpsFit d n.ops
     res : ResFits (d + length n.ops) n.res
 
-  record NameFits (d : ℕ) (n : Named) : Type 0 where
+  record NameFits (d : ℕ) (n : NamedResult) : Type 0 where
     ops : OpsFit d n.ops
     at : LevelFits (d + length n.ops) n.atom
 
@@ -154,7 +154,7 @@ module _ (k m : ℕ) where
       let long = length-append ps (OpIs op ∷ []) in
       call_fits arg (ops_then os (ops_more {p = OpIs op} h ops_none)) (fits_var (omega arith)) (next (d + length qs) (omega arith))
 
-  body_fits : {d : ℕ} {n : Named} (r : ℕ → Level → Norm) → NameFits d n → NormFits (d + length n.ops) (r (d + length n.ops) n.atom) → NormFits d (then_body d n r)
+  body_fits : {d : ℕ} {n : NamedResult} (r : ℕ → Level → Norm) → NameFits d n → NormFits (d + length n.ops) (r (d + length n.ops) n.atom) → NormFits d (then_body d n r)
   body_fits {d} {n} r h x =
       let long = length-append n.ops (r (d + length n.ops) n.atom).ops in
       record { ops = ops_then h.ops x.ops; res = res_as (omega arith) x.res }

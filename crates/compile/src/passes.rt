@@ -3,7 +3,7 @@ ghost use Rattle.std.specs.Prelude.{◌≡◌, ◌≤◌, IfOk, IfErr};
 ghost use Rattle.lambda_box.specs.BoxForm.{IsBoxProgram};
 ghost use Rattle.back_end.specs.BackEnd.{passed};
 ghost use Rattle.wasm_emit.specs.EmittedModule.{module_of};
-ghost use Rattle.compile.specs.Passes.{Fits, IsRefused};
+ghost use Rattle.compile.specs.Passes.{Fits, CompileIsRefused};
 
 use crate::fault::CompileFault;
 use anf_convert::to_anf;
@@ -26,7 +26,7 @@ pub fn compile(alloc: Global, p: &BoxProgram, pages: u32) -> Result<Valid, Compi
     requires greatest { pages ≤ 16384 }
     ensures is { IfOk result (λ v. v ≡ module_of (passed p.now) pages) }
     ensures fits { IfOk result (λ _. Fits p.now) }
-    ensures refused { IfErr result (IsRefused p.now) }
+    ensures refused { IfErr result (CompileIsRefused p.now) }
 {
     let ordinary = prop_match(alloc, p)?;
     let saturated = saturate(alloc, &ordinary)?;

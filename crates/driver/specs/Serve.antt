@@ -234,14 +234,14 @@ pub record IsRefused (status : ℕ) (words : List (List ℕ)) (left : Option (Li
   pub told : TakesLine line line' errs errs' (line_of refusal)
 
 -- a source tells these bytes; by `bench` they are those that it makes
-abbrev pub Tells : Job → Request → Option (List ℕ) → List ℕ → Type 0
-Tells Bench q left bytes = bytes ≡ text_of q.size
-Tells _ q left bytes = left ≡ Some bytes
+abbrev pub SourceTells : Job → Request → Option (List ℕ) → List ℕ → Type 0
+SourceTells Bench q left bytes = bytes ≡ text_of q.size
+SourceTells _ q left bytes = left ≡ Some bytes
 
 -- The words ask for this, and the source tells these bytes; or they ask for `bench`, which makes these bytes.
 pub record IsAsked (q : Request) (words : List (List ℕ)) (left : Option (List ℕ)) (bytes : List ℕ) : Type 0 where
   pub words_are : request_of words ≡ Some q
-  pub bytes_are : Tells q.job q left bytes
+  pub bytes_are : SourceTells q.job q left bytes
 
 -- And the bytes are within the limit of an input.
 abbrev pub IsAskedWithin : (q : Request) (words : List (List ℕ)) (left : Option (List ℕ)) (bytes : List ℕ) → Type 0

@@ -12,7 +12,7 @@ use Rattle.dump_reader.specs.NumberedEnvironment.{numbered}
 
 -- The text's tokens spell an environment with these numbers.
 abbrev pub Spells : List ℕ → RawEnv → Type 0
-Spells bytes raw = (env : NamedEnv) × grammar.Spells (texts (tokens_of bytes)) env × (raw ≡ numbered env)
+Spells bytes raw = (env : NamedEnv) × grammar.SpellsEnv (texts (tokens_of bytes)) env × (raw ≡ numbered env)
 
 -- the verdict on a text
 abbrev pub verdict_on : List ℕ → Verdict

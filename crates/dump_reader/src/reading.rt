@@ -5,7 +5,7 @@ ghost use Rattle.dump_grammar.specs.declared.refusal.Foreign.{Foreign as Forms};
 ghost use Rattle.dump_grammar.specs.declared.refusal.Limit.{Limit as Limits};
 ghost use Rattle.dump_grammar.specs.declared.refusal.ReadRefusal.TheVariants.{Syntax, Unsupported, Limit as Past, Memory};
 ghost use Rattle.dump_grammar.specs.Environments.{Dump, dump, env_of};
-ghost use Rattle.dump_grammar.specs.Within.{IsWithin};
+ghost use Rattle.dump_grammar.specs.Within.{DumpIsWithin};
 ghost use Rattle.dump_grammar.specs.Judge.{texts};
 ghost use Rattle.dump_grammar.specs.Law.{SyntaxAt, UnsupportedAt, LimitAt};
 ghost use Rattle.dump_grammar.specs.FirstRefusal.{IsFirstRefusal};
@@ -28,7 +28,7 @@ pub fn read_env(alloc: Global, bytes: &[u8]) -> Result<RawEnv, ReadRefusal>
     ensures syntax { (o : ℕ) → result ≡ Err (Syntax o) → SyntaxAt (length bytes.now) (tokens_of bytes.now) o }
     ensures unsupported { (what : Forms) (o : ℕ) → result ≡ Err (Unsupported what o) → UnsupportedAt (tokens_of bytes.now) what o }
     ensures limit { (which : Limits) (o : ℕ) → result ≡ Err (Past which o) → LimitAt (tokens_of bytes.now) which o }
-    ensures complete { (d : Dump) → texts (tokens_of bytes.now) ≡ dump d [] → IsWithin d → (result ≡ Ok (numbered (env_of d))) ⊎ (result ≡ Err Memory) }
+    ensures complete { (d : Dump) → texts (tokens_of bytes.now) ≡ dump d [] → DumpIsWithin d → (result ≡ Ok (numbered (env_of d))) ⊎ (result ≡ Err Memory) }
 {
     read(alloc, bytes)
 }

@@ -18,7 +18,7 @@ ghost use Rattle.std.specs.Prelude.{◌≡◌, ℕ, ◌+◌, ◌≤◌, ◌<◌,
 ghost use Rattle.std.specs.Io.{ReadsAtMost, WritesAtMost};
 ghost use Rattle.std.specs.Io.KnownBytes.{ReadConsumes, WriteAppends, Appends};
 ghost use Rattle.kio.specs.Causes.{HasCause, Rose};
-ghost use Rattle.kio.specs.Known.{StillTells, ReadsAll, LeavesRest};
+ghost use Rattle.kio.specs.Known.{StillTells, ReadsInput, LeavesRest};
 ghost use Rattle.kio.specs.declared.ReadAll.TheVariants.{Memory};
 
 mod adapters;
@@ -148,7 +148,7 @@ pub fn read_all_counted<S: Source, L: Ledger>(
     limit: usize,
     steps: &mut Steps<L>,
 ) -> Result<Vec<u8>, ReadAll>
-    ensures bytes { ReadsAll (λ v. v.items) result limit (S.left src.old) (S.left src.new) }
+    ensures bytes { ReadsInput (λ v. v.items) result limit (S.left src.old) (S.left src.new) }
     ensures rest { LeavesRest result limit (S.left src.old) (S.left src.new) }
     ensures tells { StillTells (S.left src.old) (S.left src.new) }
     ensures later { S.faults src.old ≤ S.faults src.new }
@@ -180,7 +180,7 @@ fn read_all_from<S: Source, L: Ledger>(
     requires name { blank.name ≡ L.name }
     requires parts { blank.parts ≡ L.parts }
     requires whole { blank.parts ≡ 1 }
-    ensures bytes { ReadsAll (λ v. v.items) result limit (S.left src.old) (S.left src.new) }
+    ensures bytes { ReadsInput (λ v. v.items) result limit (S.left src.old) (S.left src.new) }
     ensures rest { LeavesRest result limit (S.left src.old) (S.left src.new) }
     ensures tells { StillTells (S.left src.old) (S.left src.new) }
     ensures later { S.faults src.old ≤ S.faults src.new }
@@ -196,7 +196,7 @@ fn read_all_from<S: Source, L: Ledger>(
 /// in this call, and Memory where there is no memory for the bytes. Where the source tells its bytes, what it gave and what is
 /// left are what was left before. It makes at most `limit + 2` reads: that is a clause of `read_all_counted`.
 pub fn read_all<S: Source>(alloc: Global, src: &mut S, limit: usize) -> Result<Vec<u8>, ReadAll>
-    ensures bytes { ReadsAll (λ v. v.items) result limit (S.left src.old) (S.left src.new) }
+    ensures bytes { ReadsInput (λ v. v.items) result limit (S.left src.old) (S.left src.new) }
     ensures rest { LeavesRest result limit (S.left src.old) (S.left src.new) }
     ensures tells { StillTells (S.left src.old) (S.left src.new) }
     ensures later { S.faults src.old ≤ S.faults src.new }

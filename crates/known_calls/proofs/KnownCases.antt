@@ -7,7 +7,7 @@ use Rattle.wasm_core.specs.declared.types.ConstValue.TheVariants.{I32}
 use Rattle.wasm_core.specs.declared.instrs.Instr.{Instr}
 use Rattle.wasm_core.specs.declared.instrs.Instr.TheVariants.{Else, End}
 use Rattle.wasm_core.specs.Parts.{Parts}
-use Rattle.wasm_core.specs.MachineStep.{Label, State, after_end, else_arm}
+use Rattle.wasm_core.specs.MachineStep.{BlockLabel, State, after_end, else_arm}
 use Rattle.wasm_core.proofs.Rules.{Around}
 use Rattle.wasm_emit.specs.EmittedCode.{IfWord}
 use Rattle.wasm_emit.proofs.Source.{Block, Branches, BNil, BCons, Program, Val, many, BranchAt, branch_here, branch_after}
@@ -45,7 +45,7 @@ module _ (P : Program) (M : Parts) (cap : Limits) (Q : State → Type 0) where
   fewer_kept {ls = ls} {d = d} y = record { run = λ f vals rest l u bound stood deep fits go out. y.run f vals rest l u bound (stood_up P (suc d) (length ls) (omega arith) (omega arith) stood) deep fits (λ m' p' h' ls' w x y b c k e. go m' p' h' ls' w x y b c (keeps_less (omega arith) k) e) out }
 
   module _ (at : Position) (m : Mem) (p h : ℕ) (ls : List ConstValue) (d : ℕ) (v : Val) (tail : Bool) (D k s n : ℕ) (g1 g2 : List Instr → List Instr) (f : Around) (vals : List ConstValue) (rest : List Instr) (l u : ℕ) (stood : Stood P at tail d (length ls) f.keeps f.labels) (deep : length f.callers + 2 * D + 1 ≤ cap.frames) where
-    abbrev label : Label
+    abbrev label : BlockLabel
     label = record { keeps = true; goes_on = after_end 0 (g1 (Else ∷ g2 (End ∷ rest))); below = vals }
 
     second : ((j : ℕ) (r : List Instr) → else_arm j (g1 r) ≡ else_arm j r) → Yields (deeper at) m p h ls d v tail D k s n g2 → Go m h ls d v s f vals rest l u → (tail ≡ true → Out m h v s f l u) →

@@ -14,7 +14,7 @@ use Rattle.wasm_core.specs.declared.entries.Entry.TheVariants.{Main, Memory, Res
 use Rattle.wasm_core.specs.Parts.{Parts}
 use Rattle.wasm_core.specs.ModuleTyping.{Of}
 use Rattle.wasm_core.specs.MachineStep.{State, At, Over}
-use Rattle.wasm_core.specs.Entries.{index_of, fitting, named, name_of, as_global, typed_global, mutable_i32, IsGlobal}
+use Rattle.wasm_core.specs.Entries.{index_of, fitting, named, name_of, as_global, typed_global, mutable_i32, IsGlobalEntry}
 use Rattle.wasm_core.specs.Runs.{store_of}
 use Rattle.wasm_core.specs.Safe.{HasType, HaveTypes, GoodState, global_types}
 use Rattle.wasm_core.specs.Answer.{i32_of}
@@ -34,7 +34,7 @@ typed_i32 m i x e =
     let (t, is) = mutable_is d.mutable d.ty i x e1 in
     (d, ap (slice_get m.globals) (sym is) ∙ hd, t)
 
-entry_global : (n : Entry) → IsGlobal n → (m : Parts) (x : ℕ) → index_of n m ≡ Some x → (d : GlobalDef) × (slice_get m.globals x ≡ Some d) × (d.ty ≡ type.I32)
+entry_global : (n : Entry) → IsGlobalEntry n → (m : Parts) (x : ℕ) → index_of n m ≡ Some x → (d : GlobalDef) × (slice_get m.globals x ≡ Some d) × (d.ty ≡ type.I32)
 entry_global Main g m x e = absurd g
 entry_global Memory g m x e = absurd g
 entry_global Result g m x e =

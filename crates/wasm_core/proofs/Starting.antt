@@ -11,8 +11,8 @@ use Rattle.wasm_core.specs.declared.exports.Export.{Export}
 use Rattle.wasm_core.specs.declared.entries.Entry.TheVariants.{Main}
 use Rattle.wasm_core.specs.Parts.{Parts}
 use Rattle.wasm_core.specs.Instance.{Func, func_of, zero_of, segments_fit}
-use Rattle.wasm_core.specs.ModuleTyping.{Types, Of, known, type_of, IsValid, Globals, results_of}
-use Rattle.wasm_core.specs.MachineStep.{State, At, Over, Step, Reach}
+use Rattle.wasm_core.specs.ModuleTyping.{OperandTypes, Of, known, type_of, IsValid, Globals, results_of}
+use Rattle.wasm_core.specs.MachineStep.{State, At, Over, StepsTo, Reach}
 use Rattle.wasm_core.specs.Entries.{index_of, fitting, named, name_of, as_func, typed_func, from_nothing}
 use Rattle.wasm_core.specs.Runs.{start, start_at, main_start, HasSteps}
 use Rattle.wasm_core.specs.Safe.{HasType, is_i32, is_i64, HaveTypes, no_values, values, Goes, goes, fin, GoodState}
@@ -77,7 +77,7 @@ first_globals : (gs : List GlobalDef) → ((x : ℕ) (g : GlobalDef) → slice_g
 first_globals [] h = no_values
 first_globals (g ∷ gs) h = values (subst (λ t. HasType g.init (Of t)) (h 0 g refl) (has_own g.init)) (first_globals gs (λ x y f. h (suc x) y f))
 
-first_locals : (ps bs : Types) → ps ≡ [] → HaveTypes (reverse (take (length ps) []) ++ map zero_of bs) (known (ps ++ bs))
+first_locals : (ps bs : OperandTypes) → ps ≡ [] → HaveTypes (reverse (take (length ps) []) ++ map zero_of bs) (known (ps ++ bs))
 first_locals [] bs e = zeros_have bs
 first_locals (p ∷ ps) bs e = cc
 
@@ -104,7 +104,7 @@ start_good m valid first e =
       };
     })
 
-good_step : (m : Parts) → IsValid m → (s t : State) (granted : Bool) → GoodState m s → Step m granted s t → GoodState m t
+good_step : (m : Parts) → IsValid m → (s t : State) (granted : Bool) → GoodState m s → StepsTo m granted s t → GoodState m t
 good_step m valid (At c) t granted good e = stays_good m granted c t valid good e
 good_step m valid (Over e store) t granted good h = absurd h
 

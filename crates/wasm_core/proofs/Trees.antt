@@ -2,9 +2,9 @@
 use Rattle.std.proofs.Common.{◌≡◌, ℕ, zero, suc, ◌≤◌, Bool, true, false, refl, sym, ◌∙◌, subst, arith, inl, inr}
 use Rattle.std.specs.Prelude.{◌⊎◌}
 use Rattle.wasm_core.specs.Parts.{Parts}
-use Rattle.wasm_core.specs.MachineStep.{State, At, Over, Step, Reach}
+use Rattle.wasm_core.specs.MachineStep.{State, At, Over, StepsTo, Reach}
 use Rattle.wasm_core.specs.Runs.{Move, grants}
-use Rattle.wasm_core.specs.WordData.{Data}
+use Rattle.wasm_core.specs.WordData.{DataNodes}
 use Rattle.wasm_core.specs.Answer.{Answers, answers, Exhausted, exhausted, IsAtEnd}
 use Rattle.wasm_core.specs.RunTree.{Within, now, gone, moves, Fate, goes_on, ended, ran_out}
 use Rattle.wasm_core.specs.Laws.{EndsAreOver, MovesAreSteps, TreeAnswers}
@@ -14,10 +14,10 @@ use Rattle.wasm_core.proofs.Starting.{start_good, good_reach, good_steps}
 -- the same steps, the first one first
 abbrev Walk : Parts → ℕ → State → State → Type 0
 Walk m zero s t = s ≡ t
-Walk m (suc k) s t = (mid : State) × ((granted : Bool) × Step m granted s mid) × Walk m k mid t
+Walk m (suc k) s t = (mid : State) × ((granted : Bool) × StepsTo m granted s mid) × Walk m k mid t
 
-walk_more : (m : Parts) (k : ℕ) (s mid t : State) → Walk m k s mid → (granted : Bool) × Step m granted mid t → Walk m (suc k) s t
-walk_more m zero s mid t w h = (t, subst (λ (s : State). (granted : Bool) × Step m granted s t) (sym w) h, refl)
+walk_more : (m : Parts) (k : ℕ) (s mid t : State) → Walk m k s mid → (granted : Bool) × StepsTo m granted mid t → Walk m (suc k) s t
+walk_more m zero s mid t w h = (t, subst (λ (s : State). (granted : Bool) × StepsTo m granted s t) (sym w) h, refl)
 walk_more m (suc k) s mid t (next, first, w) h = (next, first, walk_more m k next mid t w h)
 
 walk_of : (m : Parts) (k : ℕ) (s t : State) → Reach m k s t → Walk m k s t
@@ -45,11 +45,11 @@ module _ (m : Parts) (frames : ℕ) (Q E : State → Type 0) (last : (t : State)
 pub tree_tells : (m : Parts) (frames least most : ℕ) (Q E : State → Type 0) (s : State) → ((t : State) → Q t ⊎ E t → IsAtEnd m t) → Within m frames Q E least most s → (n : ℕ) (t : State) → Reach m n s t → (n ≤ most) × Fate m frames Q E least n t
 tree_tells m frames least most Q E s last w n t r = fate m frames Q E last w n t (walk_of m n s t r)
 
-answers_end : (m : Parts) (d : Data) (t : State) → Answers m d t ⊎ Exhausted m t → IsAtEnd m t
+answers_end : (m : Parts) (d : DataNodes) (t : State) → Answers m d t ⊎ Exhausted m t → IsAtEnd m t
 answers_end m d t (inl (answers h)) granted u s = s
 answers_end m d t (inr (exhausted h)) granted u s = s
 
-ends : (m : Parts) (d : Data) (frames least n : ℕ) (t : State) → Fate m frames (Answers m d) (Exhausted m) least n t → IsAtEnd m t → Answers m d t ⊎ Exhausted m t
+ends : (m : Parts) (d : DataNodes) (frames least n : ℕ) (t : State) → Fate m frames (Answers m d) (Exhausted m) least n t → IsAtEnd m t → Answers m d t ⊎ Exhausted m t
 ends m d frames least n t (goes_on s u deep x y) last = absurd (last true s x)
 ends m d frames least n t (ended q h) last = inl q
 ends m d frames least n t (ran_out e) last = inr e
@@ -62,7 +62,7 @@ tree_answers m frames least most d first e w = record {
   answers = λ k t r last. ends m d frames least k t (tree_tells m frames least most (Answers m d) (Exhausted m) first (answers_end m d) w k t r).1 last;
 }
 
-move_step : (m : Parts) (cap : ℕ) (s t : State) → Move m cap s t → (granted : Bool) × Step m granted s t
+move_step : (m : Parts) (cap : ℕ) (s t : State) → Move m cap s t → (granted : Bool) × StepsTo m granted s t
 move_step m cap (At c) t h = (grants cap c, h)
 move_step m cap (Over e store) t h = absurd h
 

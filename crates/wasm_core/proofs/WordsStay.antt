@@ -20,7 +20,7 @@ use Rattle.wasm_core.specs.Parts.{Parts}
 use Rattle.wasm_core.specs.Memory.{byte, word, put_byte, put_word, zeroed}
 use Rattle.wasm_core.specs.Arithmetic.{is_unary, unary, binary}
 use Rattle.wasm_core.specs.Instance.{Func, func_of, func_with, least, greatest_pages, table_of, zero_of}
-use Rattle.wasm_core.specs.MachineStep.{Bracket, Opens, Divides, Closes, Plain, bracket, past_end, after_end, to_else, else_arm, Label, Frame, Store, Conf, State, At, Over, step, act, arm, branch, jump, leave, back, leave_block, at_end, call, call_entry, same_func_type, frame_of, has_value, enter, on_some, on_i32, going_on, storing, within, operation, unless_zero, trap, grown, Step, Reach}
+use Rattle.wasm_core.specs.MachineStep.{Bracket, Opens, Divides, Closes, Plain, bracket, past_end, after_end, to_else, else_arm, BlockLabel, Frame, Store, Conf, State, At, Over, step, act, arm, branch, jump, leave, back, leave_block, at_end, call, call_entry, same_func_type, frame_of, has_value, enter, on_some, on_i32, going_on, storing, within, operation, unless_zero, trap, grown, StepsTo, Reach}
 use Rattle.wasm_core.specs.ModuleTyping.{AreLimits}
 use Rattle.wasm_core.specs.Runs.{start}
 use Rattle.wasm_core.specs.ModuleCondition.{All as Each}
@@ -112,7 +112,7 @@ module _ (m : Parts) (hm : HasWords m) (g : Bool) where
     callers = h.callers;
   }
 
-  left : (c : Conf) → IsConf c → (ks : List Label) → Each IsLabel ks → (rest : Label → List Instr) → ((k : Label) → IsLabel k → Each HasWord (rest k)) → Gives IsWordy (leave_block ks c rest)
+  left : (c : Conf) → IsConf c → (ks : List BlockLabel) → Each IsLabel ks → (rest : BlockLabel → List Instr) → ((k : BlockLabel) → IsLabel k → Each HasWord (rest k)) → Gives IsWordy (leave_block ks c rest)
   left c h [] l rest r = tt
   left c h (k ∷ ks) (p, l) rest r = record {
     store = h.store;
@@ -131,11 +131,11 @@ module _ (m : Parts) (hm : HasWords m) (g : Bool) where
   leaves : (c : Conf) → IsConf c → (vals : List ConstValue) → Each IsWord vals → Gives IsWordy (leave c vals)
   leaves c h vals v = g_taking IsWordy c.current.keeps vals (λ top. back c c.callers top) v (λ top t. returned c h c.callers h.callers top t)
 
-  at_ends : (c : Conf) → IsConf c → (ks : List Label) → Each IsLabel ks → (rest : List Instr) → Each HasWord rest → Gives IsWordy (at_end ks rest c)
+  at_ends : (c : Conf) → IsConf c → (ks : List BlockLabel) → Each IsLabel ks → (rest : List Instr) → Each HasWord rest → Gives IsWordy (at_end ks rest c)
   at_ends c h [] l rest r = leaves c h c.current.operands h.current.operands
   at_ends c h (k ∷ ks) l rest r = left c h (k ∷ ks) l (λ k. rest) (λ k p. r)
 
-  jumps : (c : Conf) → IsConf c → (l : ℕ) (vals : List ConstValue) → Each IsWord vals → (o : Option Label) → slice_get c.current.labels l ≡ o → Gives IsWordy (jump c l vals o)
+  jumps : (c : Conf) → IsConf c → (l : ℕ) (vals : List ConstValue) → Each IsWord vals → (o : Option BlockLabel) → slice_get c.current.labels l ≡ o → Gives IsWordy (jump c l vals o)
   jumps c h l vals v None e = g_if IsWordy (nat_eq l (length c.current.labels)) (leave c vals) None (λ t. leaves c h vals v) tt
   jumps c h l vals v (Some k) e =
       let p = each_get IsLabel c.current.labels l k h.current.labels e in
@@ -306,7 +306,7 @@ start_words m hm f g e = record {
   callers = tt;
 }
 
-word_step : (m : Parts) → HasWords m → (s t : State) (granted : Bool) → IsWordy s → Step m granted s t → IsWordy t
+word_step : (m : Parts) → HasWords m → (s t : State) (granted : Bool) → IsWordy s → StepsTo m granted s t → IsWordy t
 word_step m hm (At c) t granted h e = gives_at IsWordy (step m granted c) t (step_words m hm granted c h) e
 word_step m hm (Over end store) t granted h e = absurd e
 

@@ -84,8 +84,8 @@ missing m =
     (or_missing entry.Result (index_of entry.Result m) (or_missing entry.Status (index_of entry.Status m) None)))
 
 -- the entry is a global
-abbrev pub IsGlobal : Entry → Type 0
-IsGlobal entry.Main = ⊥
-IsGlobal entry.Memory = ⊥
-IsGlobal entry.Result = Unit {0}
-IsGlobal entry.Status = Unit {0}
+abbrev pub IsGlobalEntry : Entry → Type 0
+IsGlobalEntry entry.Main = ⊥
+IsGlobalEntry entry.Memory = ⊥
+IsGlobalEntry entry.Result = Unit {0}
+IsGlobalEntry entry.Status = Unit {0}

@@ -14,16 +14,16 @@ use Rattle.wasm_core.specs.Parts.{Parts}
 use Rattle.wasm_core.specs.MachineStep.{State, At, Over}
 use Rattle.wasm_core.specs.Runs.{Moves, main_start}
 
-abbrev pub IsOver : Ended → State → Type 0
-IsOver e (At c) = ⊥
-IsOver e (Over f store) = f ≡ e
+abbrev pub HasEndedAs : Ended → State → Type 0
+HasEndedAs e (At c) = ⊥
+HasEndedAs e (Over f store) = f ≡ e
 
 abbrev pub GoesOn : State → Type 0
 GoesOn (At c) = Unit {0}
 GoesOn (Over e store) = ⊥
 
 -- a machine as its users see it: the state of its run, the steps made so far, and whether it has failed for want of memory
-pub record Shown : Type 0 where
+pub record MachineShown : Type 0 where
   pub program : Parts
   pub cap : ℕ
   pub state : State
@@ -31,22 +31,22 @@ pub record Shown : Type 0 where
   pub failed : Bool
 
 -- k steps were made from one to the other; the count of steps stops at the last value of its 64 bits
-pub record Ran (old new : Shown) (k : ℕ) : Type 0 where
+pub record Ran (old new : MachineShown) (k : ℕ) : Type 0 where
   pub moves : Moves old.program old.cap k old.state new.state
   pub counted : new.made ≡ min (old.made + k) (2 ^ 64 - 1)
   pub same_program : new.program ≡ old.program
   pub same_cap : new.cap ≡ old.cap
 
 -- a machine at the start of a run of `main`, with this bound on its pages
-abbrev pub IsFresh : Parts → ℕ → Shown → Type 0
-IsFresh m cap a = (s : State) × (main_start m ≡ Some s) × (a ≡ record { program = m; cap = cap; state = s; made = 0; failed = false })
+abbrev pub IsFreshMachine : Parts → ℕ → MachineShown → Type 0
+IsFreshMachine m cap a = (s : State) × (main_start m ≡ Some s) × (a ≡ record { program = m; cap = cap; state = s; made = 0; failed = false })
 
 -- What a call of `run` with at most n steps says by its answer. After want of memory the machine has failed, and no more is said of it.
-abbrev pub Says : Shown → Shown → ℕ → Result Ended RunFault → Type 0
-Says old new n (Ok e) = (old.failed ≡ false) × (new.failed ≡ false) × ((k : ℕ) × (k ≤ n) × Ran old new k × IsOver e new.state)
-Says old new n (Err StepsSpent) = (old.failed ≡ false) × (new.failed ≡ false) × Ran old new n × GoesOn new.state
-Says old new n (Err Failed) = (old.failed ≡ true) × (new ≡ old)
-Says old new n (Err Memory) = (old.failed ≡ false) × (new.failed ≡ true)
+abbrev pub MachineSays : MachineShown → MachineShown → ℕ → Result Ended RunFault → Type 0
+MachineSays old new n (Ok e) = (old.failed ≡ false) × (new.failed ≡ false) × ((k : ℕ) × (k ≤ n) × Ran old new k × HasEndedAs e new.state)
+MachineSays old new n (Err StepsSpent) = (old.failed ≡ false) × (new.failed ≡ false) × Ran old new n × GoesOn new.state
+MachineSays old new n (Err Failed) = (old.failed ≡ true) × (new ≡ old)
+MachineSays old new n (Err Memory) = (old.failed ≡ false) × (new.failed ≡ true)
 
 -- the first segment, counted from n, that doesn't fit a table of this size
 abbrev pub first_past : ℕ → ℕ → List Segment → Option ℕ
@@ -67,7 +67,7 @@ refusal m cap =
     unless_missing (missing m) (if nat_le (least m.memory) cap then (if nat_le (least m.table) 65536 then past_fault (first_past 0 (least m.table) m.elements) else Some Table) else Some Pages)
 
 -- what making a machine answers; want of memory says nothing
-abbrev pub Makes : Parts → ℕ → Result Shown NewFault → Type 0
-Makes m cap (Ok a) = (refusal m cap ≡ None) × IsFresh m cap a
+abbrev pub Makes : Parts → ℕ → Result MachineShown NewFault → Type 0
+Makes m cap (Ok a) = (refusal m cap ≡ None) × IsFreshMachine m cap a
 Makes m cap (Err new.Memory) = Unit {0}
 Makes m cap (Err fault) = refusal m cap ≡ Some fault

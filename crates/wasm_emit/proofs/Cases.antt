@@ -9,7 +9,7 @@ use Rattle.wasm_core.specs.declared.types.ConstValue.TheVariants.{I32}
 use Rattle.wasm_core.specs.declared.instrs.Instr.{Instr}
 use Rattle.wasm_core.specs.declared.instrs.Instr.TheVariants.{Else, End}
 use Rattle.wasm_core.specs.Parts.{Parts}
-use Rattle.wasm_core.specs.MachineStep.{Label, State, after_end, else_arm}
+use Rattle.wasm_core.specs.MachineStep.{BlockLabel, State, after_end, else_arm}
 use Rattle.wasm_core.proofs.Rules.{Around}
 use Rattle.wasm_emit.specs.EmittedCode.{IfWord, Place, fields_of, code, empties, heads}
 use Rattle.wasm_emit.proofs.Values.{Stands}
@@ -46,7 +46,7 @@ module _ (P : Program) (M : Parts) (cap : Limits) (Q : State → Type 0) where
       (m' : Mem) (p' h' : ℕ) (ls' : List ConstValue) (w : ℕ) → h' ≡ h + 4 * s → Room M m' p' h' → Same h m m' → Keeps d ls ls' → Stands m' h' w v → Within M cap Q l u (here cap f m' p' h' ls' (I32 w ∷ vals) rest)
 
   module _ (m : Mem) (p h : ℕ) (ls : List ConstValue) (d : ℕ) (v : Val) (tail : Bool) (D k s n : ℕ) (g1 g2 : List Instr → List Instr) (f : Around) (vals : List ConstValue) (rest : List Instr) (l u : ℕ) (deep : length f.callers + D + 1 ≤ cap.frames) where
-    abbrev label : Label
+    abbrev label : BlockLabel
     label = record { keeps = true; goes_on = after_end 0 (g1 (Else ∷ g2 (End ∷ rest))); below = vals }
 
     second : ((j : ℕ) (r : List Instr) → else_arm j (g1 r) ≡ else_arm j r) → Yields m p h ls d v tail D k s n g2 → Go m h ls d v s f vals rest l u → (tail ≡ true → Out m h v s f l u) → Within M cap Q (k + l) (n + 2 + u) (here cap f m p h ls (I32 0 ∷ vals) (IfWord ∷ g1 (Else ∷ g2 (End ∷ rest))))

@@ -12,7 +12,7 @@ use Rattle.wasm_core.specs.declared.instrs.Instr.TheVariants.{Unreachable, Nop, 
 use Rattle.wasm_core.specs.Parts.{Parts}
 use Rattle.wasm_core.specs.Arithmetic.{flag, is_unary}
 use Rattle.wasm_core.specs.Instance.{Func, func_of, table_of, greatest_pages}
-use Rattle.wasm_core.specs.MachineStep.{Bracket, Opens, Divides, Closes, Plain, bracket, past_end, to_else, after_end, else_arm, Label, Frame, Store, Conf, State, At, Over, on_some, taking, arm, leave_block, back, at_end, call, call_entry, same_func_type, within, operation, act, next, step, Reach}
+use Rattle.wasm_core.specs.MachineStep.{Bracket, Opens, Divides, Closes, Plain, bracket, past_end, to_else, after_end, else_arm, BlockLabel, Frame, Store, Conf, State, At, Over, on_some, taking, arm, leave_block, back, at_end, call, call_entry, same_func_type, within, operation, act, next, step, Reach}
 use Rattle.wasm_core.proofs.Small.{no}
 
 -- an emitted instruction that neither grows memory nor sets the status
@@ -47,7 +47,7 @@ pub data WaryAt (refused : Bool) : List ConstValue → List Instr → Type 0 whe
   at_const : {x n : ℕ} {vals : List ConstValue} {rest : List Instr} → n ≡ 4294967295 → (x ≡ 4294967295 → refused ≡ true) → Wary rest → WaryAt refused (I32 n ∷ I32 x ∷ vals) (Operation op32.Eq ∷ GlobalSet 1 ∷ rest)
   at_eq : {y : ℕ} {vals : List ConstValue} {rest : List Instr} → (y ≡ 1 → refused ≡ true) → Wary rest → WaryAt refused (I32 y ∷ vals) (GlobalSet 1 ∷ rest)
 
-abbrev pub Labels : List Label → Type 0
+abbrev pub Labels : List BlockLabel → Type 0
 Labels [] = Unit {0}
 Labels (k ∷ ks) = Wary k.goes_on × Labels ks
 
@@ -131,7 +131,7 @@ arm_wary zero w = wary_else 0 w
 arm_wary (suc x) w = w
 
 module _ (m : Parts) (funcs : (f : ℕ) (g : Func) → func_of m f ≡ Some g → Wary g.body.code) (small : greatest_pages m.memory ≤ 65536) (granted : Bool) where
-  module _ (s : Store) (keeps : Bool) (ls : List ConstValue) (ks : List Label) (callers : List Frame) (lw : Labels ks) (cw : Callers callers) (st : Tells s) (pg : s.pages ≤ 65536) where
+  module _ (s : Store) (keeps : Bool) (ls : List ConstValue) (ks : List BlockLabel) (callers : List Frame) (lw : Labels ks) (cw : Callers callers) (st : Tells s) (pg : s.pages ≤ 65536) where
     abbrev at : List ConstValue → List Instr → Conf
     at vals rest = record { store = s; current = record { keeps = keeps; locals = ls; labels = ks; operands = vals; rest = rest }; callers = callers }
 
@@ -153,11 +153,11 @@ module _ (m : Parts) (funcs : (f : ℕ) (g : Func) → func_of m f ≡ Some g �
     inside_ok : (end : ℕ) (vals : List ConstValue) (all : List Instr) (go : Option State) → HonestNext go → HonestNext (within end (at vals all) go)
     inside_ok end vals all go h = if_ok (nat_le end (length s.memory)) _ _ (λ e. h) (λ e. st)
 
-    else_ok : (vals : List ConstValue) (all : List Instr) (ls : List Label) → Labels ls → HonestNext (leave_block ls (at vals all) (λ k. k.goes_on))
+    else_ok : (vals : List ConstValue) (all : List Instr) (ls : List BlockLabel) → Labels ls → HonestNext (leave_block ls (at vals all) (λ k. k.goes_on))
     else_ok vals all [] l = tt
     else_ok vals all (k ∷ ls) l = record { now = at_wary l.0; labels = l.1; callers = cw; status = st; pages = pg }
 
-    end_ok : (vals : List ConstValue) (rest all : List Instr) → Wary rest → (ls : List Label) → Labels ls → HonestNext (at_end ls rest (at vals all))
+    end_ok : (vals : List ConstValue) (rest all : List Instr) → Wary rest → (ls : List BlockLabel) → Labels ls → HonestNext (at_end ls rest (at vals all))
     end_ok vals rest all w [] l = leaving keeps vals vals all
     end_ok vals rest all w (k ∷ ls) l = record { now = at_wary w; labels = l.1; callers = cw; status = st; pages = pg }
 

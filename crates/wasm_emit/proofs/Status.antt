@@ -15,7 +15,7 @@ use Rattle.wasm_core.specs.Answer.{i32_of}
 use Rattle.wasm_core.proofs.Small.{inj, no, some_of}
 use Rattle.anf_convert.specs.declared.program.Atom.{Atom}
 use Rattle.anf_convert.specs.declared.program.Atom.TheVariants.{Var as AVar, Box as ABox, Empty as AEmpty}
-use Rattle.closure_lift.specs.Lifted.{Op, OConst, OApp, OCon, OClos, OCase, Block, RetAtom, LetAtom, Ret, Let, Branches, BNil, BCons, Program}
+use Rattle.closure_lift.specs.Lifted.{Op, OConst, OApp, OCon, OClos, OCase, Block, RetAtom, LetAtom, Ret, Let, BranchBlocks, BNil, BCons, Program}
 use Rattle.wasm_core.specs.declared.types.GlobalDef.{GlobalDef}
 use Rattle.wasm_core.specs.declared.exports.Export.{Export}
 use Rattle.wasm_emit.specs.CallLaws.{call_start, CallStatus}
@@ -61,12 +61,12 @@ module _ (P : Program) where
     w_code env d (Ret x) w = w_op env d x w
     w_code env d (Let x t) w = w_op env d x (w_cons tt (w_code (InLocal d ∷ env) (suc d) t w))
 
-    w_empties : {rest : List Instr} (env : List Place) (d c : ℕ) (bs : Branches) (others : List Instr → List Instr) → ((r : List Instr) → Wary r → Wary (others r)) → Wary rest → Wary (empties P env d c bs others rest)
+    w_empties : {rest : List Instr} (env : List Place) (d c : ℕ) (bs : BranchBlocks) (others : List Instr → List Instr) → ((r : List Instr) → Wary r → Wary (others r)) → Wary rest → Wary (empties P env d c bs others rest)
     w_empties env d c BNil others o w = o _ w
     w_empties env d c (BCons zero t bs) others o w = w_cons tt (w_cons tt (w_cons tt (w_cons tt (w_code env (suc d) t (w_cons tt (w_empties env d (suc c) bs others o (w_cons tt w)))))))
     w_empties env d c (BCons (suc n) t bs) others o w = w_empties env d (suc c) bs others o w
 
-    w_heads : {rest : List Instr} (env : List Place) (d c : ℕ) (bs : Branches) → Wary rest → Wary (heads P env d c bs rest)
+    w_heads : {rest : List Instr} (env : List Place) (d c : ℕ) (bs : BranchBlocks) → Wary rest → Wary (heads P env d c bs rest)
     w_heads env d c BNil w = w_cons tt w
     w_heads env d c (BCons zero t bs) w = w_heads env d (suc c) bs w
     w_heads env d c (BCons (suc n) t bs) w = w_cons tt (w_cons tt (w_cons tt (w_cons tt (w_cons tt (w_code (fields_of d (suc n) env) (suc d) t (w_cons tt (w_heads env d (suc c) bs (w_cons tt w))))))))

@@ -2,7 +2,7 @@
 ghost use Rattle.std.specs.Prelude.{◌≡◌, ◌∷◌, ◌+◌, ◌*◌, IfOk, IfErr, OnOk, length, reverse};
 ghost use Rattle.wasm_core.specs.declared.instrs.I32Op.TheVariants as op32;
 ghost use Rattle.wasm_core.specs.declared.instrs.Instr.TheVariants as instr;
-ghost use Rattle.wasm_emit.specs.EmittedCode.{Load, Store, Const, read, atom, fill, ensure_room, block};
+ghost use Rattle.wasm_emit.specs.EmittedCode.{Load, StoreWord, ConstWord, read, atom, fill, ensure_room, block};
 ghost use Rattle.wasm_emit.specs.Pushed.{Pushed};
 ghost use Rattle.wasm_emit.specs.declared.fault.EmitFault.TheVariants.{Memory};
 
@@ -31,7 +31,7 @@ pub(crate) fn push_load(out: &mut Vec<Instr>, offset: u32) -> Result<(), EmitFau
 
 /// Puts the word on the operands at the offset behind the address below it. Only `Memory`.
 pub(crate) fn push_store(out: &mut Vec<Instr>, offset: u32) -> Result<(), EmitFault>
-    ensures pushed { OnOk result (Pushed out.old.items out.new.items (λ rest. Store offset ∷ rest)) }
+    ensures pushed { OnOk result (Pushed out.old.items out.new.items (λ rest. StoreWord offset ∷ rest)) }
     ensures only_memory { IfErr result (λ e. e ≡ Memory) }
 {
     push(out, Instr::I32Store(Access { align: 2, offset }))
@@ -127,7 +127,7 @@ fn push_fields(
 
 /// Puts the end of the heap into local d, and moves it on by so many bytes, where memory is or is made. Only `Memory`.
 fn push_address(d: u32, bytes: u32, out: &mut Vec<Instr>) -> Result<(), EmitFault>
-    ensures pushed { OnOk result (Pushed out.old.items out.new.items (λ rest. instr.GlobalGet 2 ∷ instr.LocalTee d ∷ Const bytes ∷ instr.I32 op32.Add ∷ instr.GlobalSet 2 ∷ ensure_room rest)) }
+    ensures pushed { OnOk result (Pushed out.old.items out.new.items (λ rest. instr.GlobalGet 2 ∷ instr.LocalTee d ∷ ConstWord bytes ∷ instr.I32 op32.Add ∷ instr.GlobalSet 2 ∷ ensure_room rest)) }
     ensures only_memory { IfErr result (λ e. e ≡ Memory) }
 {
     push(out, Instr::GlobalGet(2))?;

@@ -8,7 +8,7 @@ use Rattle.wasm_core.specs.declared.ended.Ended.{Ended}
 use Rattle.wasm_core.specs.declared.entries.Entry.{Entry}
 use Rattle.wasm_core.specs.Parts.{Parts}
 use Rattle.wasm_core.specs.Answer.{i32_of, global_of}
-use Rattle.wasm_core.specs.Entries.{index_of, IsGlobal}
+use Rattle.wasm_core.specs.Entries.{index_of, IsGlobalEntry}
 use Rattle.wasm_core.specs.Laws.{NeverStuck, WordsStay, EntriesAreThere}
 use Rattle.wasm_core.specs.MachineStep.{Store, Conf, State, At, Over, step}
 use Rattle.wasm_core.specs.MachineRun.{GoesOn}
@@ -45,7 +45,7 @@ pub store_of_state : (m : Parts) (e : Option Ended) (t : Thread) → store_of (s
 store_of_state m None t = refl
 store_of_state m (Some e) t = refl
 
-pub answer_is : EntriesAreThere → (m : Parts) (n : Entry) (x : ℕ) (s : State) → IsGlobal n → IsValid m → Reached m s → index_of n m ≡ Some x → (r : ℕ) → ((k : ℕ) → slice_get (store_of s).globals x ≡ Some (I32 k) → r ≡ k) → global_of n m (store_of s) ≡ Some r
+pub answer_is : EntriesAreThere → (m : Parts) (n : Entry) (x : ℕ) (s : State) → IsGlobalEntry n → IsValid m → Reached m s → index_of n m ≡ Some x → (r : ℕ) → ((k : ℕ) → slice_get (store_of s).globals x ≡ Some (I32 k) → r ≡ k) → global_of n m (store_of s) ≡ Some r
 answer_is law m n x s is valid r e res h =
     let (w, hw) = law m r.first r.steps s n x is valid r.starts r.reach e in
     let at : option_and_then i32_of (slice_get (store_of s).globals x) ≡ Some w = sym (ap (option_and_then (λ y. option_and_then i32_of (slice_get (store_of s).globals y))) e) ∙ hw in

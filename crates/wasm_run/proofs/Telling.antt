@@ -14,7 +14,7 @@ use Rattle.wasm_core.specs.declared.ended.RunFault.TheVariants as faults
 use Rattle.wasm_core.specs.Parts.{Parts}
 use Rattle.wasm_core.specs.declared.instrs.Instr.{Instr}
 use Rattle.wasm_core.specs.MachineStep.{State, At}
-use Rattle.wasm_core.specs.MachineRun.{Shown, Says, GoesOn}
+use Rattle.wasm_core.specs.MachineRun.{MachineShown, MachineSays, GoesOn}
 use Rattle.wasm_core.specs.Runs.{Move, Moves}
 use Rattle.wasm_run.specs.Tallies.{IsTally, counted_facts}
 use Rattle.wasm_run.specs.ToldSteps.{Tells, class_of, facts_at, grow_facts, is_grow, step_facts}
@@ -83,7 +83,7 @@ tells_moves m cap zero s t facts h = h.0
 tells_moves m cap (suc k) s t facts (mid, before, h, move, is) = (mid, tells_moves m cap k s mid before h, move)
 
 -- what is told says what `run` says
-pub says_told : (old new : Shown) (n : ℕ) (r : Result Ended RunFault) (facts : List Fact) → SaysTold old new n r facts → Says old new n r
+pub says_told : (old new : MachineShown) (n : ℕ) (r : Result Ended RunFault) (facts : List Fact) → SaysTold old new n r facts → MachineSays old new n r
 says_told old new n (Ok e) facts (sound, still, (k, few, told, over)) = (sound, still, (k, few, told.ran, over))
 says_told old new n (Err faults.StepsSpent) facts (sound, still, told, on) = (sound, still, told.ran, on)
 says_told old new n (Err faults.Failed) facts (failed, same, none) = (failed, same)
@@ -104,5 +104,5 @@ pub tells_more : (m : Parts) (cap k j : ℕ) (s mid t : State) (facts more : Lis
 tells_more m cap k j s mid t facts more next h move is = subst (λ i. Tells m cap i s t (facts ++ more)) (sym next) (mid, facts, h, move, ap (λ x. facts ++ x) (sym is))
 
 -- so many steps were made, and these are their facts
-pub told_is : (old new : Shown) (k : ℕ) (facts : List Fact) → Tells old.program old.cap k old.state new.state facts → new.made ≡ min (old.made + k) (2 ^ 64 - 1) → new.program ≡ old.program → new.cap ≡ old.cap → Told old new k facts
+pub told_is : (old new : MachineShown) (k : ℕ) (facts : List Fact) → Tells old.program old.cap k old.state new.state facts → new.made ≡ min (old.made + k) (2 ^ 64 - 1) → new.program ≡ old.program → new.cap ≡ old.cap → Told old new k facts
 told_is old new k facts h counted program cap = record { ran = record { moves = tells_moves old.program old.cap k old.state new.state facts h; counted = counted; same_program = program; same_cap = cap }; tells = h }

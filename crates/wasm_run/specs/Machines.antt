@@ -4,14 +4,14 @@ use Rattle.wasm_core.specs.declared.entries.Entry.TheVariants.{Result, Status}
 use Rattle.wasm_core.specs.Parts.{Parts}
 use Rattle.wasm_core.specs.Entries.{index_of}
 use Rattle.wasm_core.specs.MachineStep.{State, Reach}
-use Rattle.wasm_core.specs.MachineRun.{Shown}
+use Rattle.wasm_core.specs.MachineRun.{MachineShown}
 use Rattle.wasm_core.specs.ModuleTyping.{IsValid}
 use Rattle.wasm_core.specs.Runs.{main_start}
 use Rattle.wasm_core.specs.Words.{HasWords}
 use Rattle.wasm_run.specs.Threads.{state_of}
 use Rattle.wasm_run.specs.declared.machine.Machine.TheInside.{Inside}
 
-abbrev pub shown : Inside → Shown
+abbrev pub shown : Inside → MachineShown
 shown a = record {
   program = a.program;
   cap = a.cap;

@@ -4,7 +4,7 @@ ghost use Rattle.std.specs.Prelude.{◌≡◌, ◌+◌, ◌-◌, ◌^◌, ◌<�
 ghost use Rattle.wasm_core.specs.Answer.{global_of};
 ghost use Rattle.wasm_core.specs.Entries.{missing};
 ghost use Rattle.wasm_core.specs.Instance.{segments_fit, segment_fits, zero_of};
-ghost use Rattle.wasm_core.specs.MachineRun.{GoesOn, IsFresh, IsOver, Makes, Says, first_past};
+ghost use Rattle.wasm_core.specs.MachineRun.{GoesOn, IsFreshMachine, HasEndedAs, Makes, MachineSays, first_past};
 ghost use Rattle.wasm_core.specs.Memory.{zeroed};
 ghost use Rattle.wasm_core.specs.ModuleTyping.{IsValid};
 ghost use Rattle.wasm_core.specs.Runs.{Move, store_of};
@@ -47,9 +47,9 @@ pub struct Machine<'m> {
 }
 
 impl<'m> Model for Machine<'m> {
-    ghost use Rattle.wasm_core.specs.MachineRun.{Shown};
+    ghost use Rattle.wasm_core.specs.MachineRun.{MachineShown};
 
-    ghost Value = { Shown };
+    ghost Value = { MachineShown };
 
     ghost use Rattle.wasm_run.specs.Machines.{IsMachine, shown};
 
@@ -196,7 +196,7 @@ impl<'m> Machine<'m> {
         requires valid { IsValid m.now }
         requires entries { HasEntries m.now entries }
         requires fit { segments_fit m.now ≡ true }
-        ensures is { IfOk result (λ a. IsFresh m.now cap a) }
+        ensures is { IfOk result (λ a. IsFreshMachine m.now cap a) }
     {
         let pages = least_of(m.memory());
         let program = Program::new(alloc, m)?;
@@ -230,7 +230,7 @@ impl<'m> Machine<'m> {
 
     /// How the run ended, if it has.
     fn end(&self) -> Option<Ended>
-        ensures is { MatchOption result (GoesOn self.now.state) (λ e. IsOver e self.now.state) }
+        ensures is { MatchOption result (GoesOn self.now.state) (λ e. HasEndedAs e self.now.state) }
     {
         self.ended
     }
@@ -267,7 +267,7 @@ impl<'m> Machine<'m> {
     /// same end is answered again. After `Memory` every call answers `Failed`.
     pub fn run(&mut self, steps: u64) -> Result<Ended, RunFault>
         ensures kept { (self.new.program ≡ self.old.program) × (self.new.cap ≡ self.old.cap) }
-        ensures says { Says self.old self.new steps result }
+        ensures says { MachineSays self.old self.new steps result }
     {
         if self.failed {
             return Err(RunFault::Failed);
@@ -336,7 +336,7 @@ impl<'m> Machine<'m> {
         reports: &mut Vec<R>,
     ) -> Result<Ended, RunFault>
         ensures kept { (self.new.program ≡ self.old.program) × (self.new.cap ≡ self.old.cap) }
-        ensures says { Says self.old self.new steps result }
+        ensures says { MachineSays self.old self.new steps result }
         ensures told { (facts : List Fact) × SaysTold self.old self.new steps result facts ×
             AllZip (λ b c. IsTold facts (R.shown b) (R.shown c)) reports.old.items reports.new.items }
     {
