@@ -12,6 +12,8 @@ pub mod ErasureParts
 pub mod ExecEnds
 pub mod Executed
 pub mod MadeModule
+pub mod CallStages
+pub mod Exported
 pub mod RunFile
 pub mod Explained
 pub mod Serve
@@ -19,6 +21,7 @@ pub mod ExplainSays
 pub mod BesideCheck
 pub mod PlainAnswer
 pub mod MainModule
+pub mod ExportSays
 pub mod Promises
 pub mod Served
 pub mod Shallow
