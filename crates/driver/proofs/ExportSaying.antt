@@ -1,5 +1,5 @@
 -- What the stages to the module for calls of main say, as what the end of `export` shows; and the writing of the module.
-use Rattle.std.proofs.Common.{◌≡◌, ◌≢◌, ◌≤◌, inr, ℕ, List, [], length, Result, Ok, Err, refl, sym, ap, subst, ◌∙◌, arith}
+use Rattle.std.proofs.Common.{◌≡◌, ◌≢◌, ◌≤◌, inr, ℕ, List, [], ◌∷◌, length, Result, Ok, Err, refl, sym, ap, subst, ◌∙◌, arith}
 use Rattle.pc_terms.specs.Syntax.{Term}
 use Rattle.pc_rules.specs.declared.meter.Account.{Account}
 use Rattle.calculus_rules.specs.Environment.{Env}
@@ -40,6 +40,11 @@ use Rattle.driver.specs.ExportSays.{CallModuleSays, IsCallModule}
 use Rattle.driver.specs.Serve.{JobSays, RefusalSays}
 use Rattle.driver.proofs.CallCauses.{one_call_program}
 use Rattle.driver.proofs.MadeSaying.{accepting}
+
+-- a list that isn't empty has an item
+pub takes_some : {X : Type 0} (xs : List X) → xs ≢ [] → 1 ≤ length xs
+takes_some [] h = absurd (h refl)
+takes_some (x ∷ xs) h = omega arith
 
 -- ---- what is known after each stage
 

@@ -44,10 +44,8 @@ pub(crate) fn signature_of(
 
 /// How many arguments a signature takes.
 pub(crate) fn count_arguments(signature: &Signature) -> u32
-    requires takes { signature.now.args ≢ [] }
     requires few { length signature.now.args ≤ 255 }
     ensures is { result ≡ length signature.now.args }
-    ensures some { 1 ≤ result }
 {
     signature.args.len() as u32
 }
