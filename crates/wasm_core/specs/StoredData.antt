@@ -1,4 +1,4 @@
--- DataNodes that stands in one part of a memory.
+-- Data that stands in one part of a memory.
 use Rattle.std.specs.Prelude.{ℕ, suc, ◌≡◌, ◌+◌, ◌*◌, ◌<◌, ◌≤◌, List, [], ◌∷◌, ◌++◌}
 use Rattle.wasm_core.specs.Memory.{word}
 use Rattle.wasm_core.specs.WordData.{DataNodes, IsBlock, IsBelow}
