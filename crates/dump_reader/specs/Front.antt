@@ -20,5 +20,5 @@ front_end len n (s ∷ ss) = end_behind len (answer_at n s.start s.text) (nestin
 abbrev pub front_length : List ℕ → ℕ
 front_length bytes = front_end (length bytes) 0 (tokens_of bytes)
 
-abbrev pub front : List ℕ → List ℕ
-front bytes = take (front_length bytes) bytes
+abbrev pub front_bytes : List ℕ → List ℕ
+front_bytes bytes = take (front_length bytes) bytes

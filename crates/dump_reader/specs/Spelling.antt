@@ -10,7 +10,7 @@ use Rattle.dump_grammar.specs.Environments as grammar
 use Rattle.dump_grammar.specs.Environments.{Dump}
 use Rattle.dump_reader.specs.declared.environment.RawEnv.{RawEnv}
 use Rattle.dump_reader.specs.NumberedEnvironment.{numbered}
-use Rattle.dump_reader.specs.Front.{front_length, front}
+use Rattle.dump_reader.specs.Front.{front_length, front_bytes}
 
 -- The text's tokens spell an environment with these numbers.
 abbrev pub Spells : List ℕ → RawEnv → Type 0
@@ -28,8 +28,8 @@ IsVerdict bytes (Err r) = verdict_on bytes ≡ Refuse r
 
 -- The answer is the verdict on the front of the text, with the offset behind it, or that there is no memory.
 abbrev pub IsFrontVerdict : List ℕ → Result (RawEnv × ℕ) ReadRefusal → Type 0
-IsFrontVerdict bytes (Ok read) = (read.1 ≡ front_length bytes) × IsVerdict (front bytes) (Ok read.0)
-IsFrontVerdict bytes (Err r) = IsVerdict (front bytes) (Err r)
+IsFrontVerdict bytes (Ok read) = (read.1 ≡ front_length bytes) × IsVerdict (front_bytes bytes) (Ok read.0)
+IsFrontVerdict bytes (Err r) = IsVerdict (front_bytes bytes) (Err r)
 
 -- What a text that begins with a dump is read as, but for memory.
 abbrev pub IsReadAs : List ℕ → Dump → Result (RawEnv × ℕ) ReadRefusal → Type 0

@@ -11,7 +11,7 @@ ghost use Rattle.dump_grammar.specs.Law.{SyntaxAt, UnsupportedAt, LimitAt};
 ghost use Rattle.dump_grammar.specs.FirstRefusal.{IsFirstRefusal};
 ghost use Rattle.dump_reader.specs.declared.environment.RawEnv.{RawEnv as Env};
 ghost use Rattle.dump_reader.specs.NumberedEnvironment.{numbered};
-ghost use Rattle.dump_reader.specs.Front.{front_length as length_of_front, front};
+ghost use Rattle.dump_reader.specs.Front.{front_length as length_of_front, front_bytes};
 ghost use Rattle.dump_reader.specs.Spelling.{Spells, IsVerdict, IsFrontVerdict, IsReadAs};
 
 use crate::environment::RawEnv;
@@ -52,11 +52,11 @@ pub fn read_call(alloc: Global, bytes: &[u8]) -> Result<(RawEnv, usize), ReadRef
     ensures behind { IfOk result (λ read. read.1 ≡ length_of_front bytes.now) }
     ensures within { IfOk result (λ read. read.1 ≤ length bytes.now) }
     ensures spells { IfOk result (λ read. Spells (take read.1 bytes.now) read.0) }
-    ensures first { IfErr result (λ r. r ≢ Memory → IsFirstRefusal (length (front bytes.now)) (tokens_of (front bytes.now)) r) }
-    ensures syntax { (o : ℕ) → result ≡ Err (Syntax o) → SyntaxAt (length (front bytes.now)) (tokens_of (front bytes.now)) o }
-    ensures unsupported { (what : Forms) (o : ℕ) → result ≡ Err (Unsupported what o) → UnsupportedAt (tokens_of (front bytes.now)) what o }
-    ensures limit { (which : Limits) (o : ℕ) → result ≡ Err (Past which o) → LimitAt (tokens_of (front bytes.now)) which o }
-    ensures complete { (d : Dump) → texts (tokens_of (front bytes.now)) ≡ dump d [] → DumpIsWithin d → IsReadAs bytes.now d result }
+    ensures first { IfErr result (λ r. r ≢ Memory → IsFirstRefusal (length (front_bytes bytes.now)) (tokens_of (front_bytes bytes.now)) r) }
+    ensures syntax { (o : ℕ) → result ≡ Err (Syntax o) → SyntaxAt (length (front_bytes bytes.now)) (tokens_of (front_bytes bytes.now)) o }
+    ensures unsupported { (what : Forms) (o : ℕ) → result ≡ Err (Unsupported what o) → UnsupportedAt (tokens_of (front_bytes bytes.now)) what o }
+    ensures limit { (which : Limits) (o : ℕ) → result ≡ Err (Past which o) → LimitAt (tokens_of (front_bytes bytes.now)) which o }
+    ensures complete { (d : Dump) → texts (tokens_of (front_bytes bytes.now)) ≡ dump d [] → DumpIsWithin d → IsReadAs bytes.now d result }
 {
     let end = front_length(bytes);
     let env = read_env(alloc, &bytes[..end])?;
