@@ -14,6 +14,8 @@ pub mod Executed
 pub mod MadeModule
 pub mod CallStages
 pub mod Exported
+pub mod CallEnds
+pub mod Called
 pub mod RunFile
 pub mod Explained
 pub mod Serve

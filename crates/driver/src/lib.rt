@@ -34,7 +34,9 @@
 #![tactic(auto)]
 
 mod bench;
+mod call;
 mod callable;
+mod called_main;
 mod check;
 mod erasing;
 mod err_line;
