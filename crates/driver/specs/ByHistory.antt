@@ -15,7 +15,7 @@ read_in_call given reads src src' x = record { object = x; told = Some (given_si
 abbrev pub by_history : {K : Type 0} → (received : K → List ℕ) → K → Option (List ℕ)
 by_history received x = Some (received x)
 
--- All that the top call promises, of objects whose histories and counts these functions tell.
+-- Of each source and sink, so of real streams too, all that the top call promises holds once more, where the input is the bytes that the source's reads give in this call, and what out and err take is what their writes took.
 abbrev pub ServedByHistory : {S K E : Type 0} (status : ℕ) (words : List (List ℕ)) (reports : List Shown) (given : S → List (List ℕ)) (reads : S → ℕ) (src src' : S)
     (received : K → List ℕ) (writes : K → ℕ) (out out' : K) (heard : E → List ℕ) (errs : E → ℕ) (err err' : E) → Type 0
 ServedByHistory status words reports given reads src src' received writes out out' heard errs err err' =
@@ -31,6 +31,6 @@ EndSays (Err refusals.ReadFault) words old new = Unit {0}
 EndSays (Err refusals.InputBytes) words old new = Unit {0}
 EndSays (Err _) words old new = IsForReader words → MetEnd old new
 
--- On each status but 1 and 3 a job that reads an input has met its end, where the bytes given are within the limit.
+-- On each status but 1 and 3, where the job reads an input and its reads gave at most as many bytes as the limit, the last of them met the end of the input.
 abbrev pub ReadsToEnd : (status : ℕ) (words : List (List ℕ)) (old new : List (List ℕ)) → Type 0
 ReadsToEnd status words old new = IsForReader words → status ≢ 1 → status ≢ 3 → length (given_since old new) ≤ input_limit → MetEnd old new
