@@ -205,6 +205,8 @@ fn serve_whole<S: Source, K: Sink, E: Sink>(
 /// `run` those of the run: each step with its class, each grow of memory that wasn't refused. `run` has no check, and by `explain` there are none where the check doesn't accept. On status 0 `err` then takes a line `report NAME COUNT` for each, in order; the
 /// reports are dropped at every status.
 ///
+/// Of a source that tells nothing before it is read, as standard input, `history` says all of this: its input is the bytes that its reads give in this call, the last of which meets the end (`ended`).
+///
 /// A refusal writes one line to `err`, which takes no memory; a fault on `err` changes no status. Nothing goes to `out` before
 /// the whole answer is there, so a refusal other than a write fault leaves it as it was.
 pub fn serve<S: Source, K: Sink, E: Sink>(
