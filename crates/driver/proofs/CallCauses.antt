@@ -8,7 +8,6 @@ use Rattle.pc_rules.specs.DirectedRun.{Run, End, Done, Refused, NoUnit, Nested}
 use Rattle.pc_rules.specs.DirectedPlaces.{Placed}
 use Rattle.pc_rules.specs.DirectedFirstOrder.{Searched, Found, NotFirstOrder, TooManyTypes}
 use Rattle.first_order.specs.DirectedSignature.{Signed, Takes, TooManyArguments, signature_search, signed_by, set_of, sets_of}
-use Rattle.lambda_box.specs.BoxProgram.{BoxProgram}
 use Rattle.erase_rules.specs.DirectedProgram.{Answer}
 use Rattle.wasm_emit.specs.CallModule.{module_of_call}
 use Rattle.back_end.specs.BackEnd.{passed}

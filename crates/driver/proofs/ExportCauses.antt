@@ -1,5 +1,5 @@
 -- How `export` ends after the check is determined, but for want of memory and limits of depth; so the statuses of its refusals are.
-use Rattle.std.proofs.Common.{◌≡◌, ◌≢◌, ℕ, Err, ◌⊎◌, inl, inr, refl, sym, subst, ◌∙◌}
+use Rattle.std.proofs.Common.{◌≡◌, ◌≢◌, ℕ, ◌⊎◌, inl, inr, refl, sym, subst, ◌∙◌}
 use Rattle.module_run.specs.Ends.{IsSmall}
 use Rattle.dump_reader.specs.declared.environment.RawEnv.{RawEnv}
 use Rattle.driver.specs.declared.refusal.Refusal.{Refusal}
@@ -12,7 +12,7 @@ use Rattle.driver.specs.Serve.{IsCheckCause, IsSure}
 use Rattle.driver.specs.ExecEnds.{Accepting}
 use Rattle.driver.specs.MadeModule.{BytesRefuse}
 use Rattle.driver.specs.CallStages.{CallCompiling, its_call_module}
-use Rattle.driver.specs.Exported.{CallRulesAreWithin, ExportsNone, by_signature, by_erasure, by_passes, by_bytes, IsExportCause, IsExportable, IsExportStopped, ExportEndsWith}
+use Rattle.driver.specs.Exported.{CallRulesAreWithin, ExportsNone, by_signature, by_erasure, by_passes, by_bytes, IsExportCause, ExportEndsWith}
 use Rattle.driver.proofs.CheckCauses.{cause_status, not_zero, accepted_status}
 use Rattle.driver.proofs.SourceCauses.{accepted_by}
 use Rattle.driver.proofs.ExecCauses.{not_passed}

@@ -1,5 +1,5 @@
 -- What the stages to the module for calls of main say, as what the end of `export` shows; and the writing of the module.
-use Rattle.std.proofs.Common.{◌≡◌, ◌≢◌, ◌≤◌, inr, ℕ, List, [], ◌∷◌, length, Result, Ok, Err, refl, sym, ap, subst, ◌∙◌, arith}
+use Rattle.std.proofs.Common.{◌≡◌, ◌≢◌, ◌≤◌, inr, ℕ, List, [], ◌∷◌, length, Result, Ok, Err, refl, ap, subst, ◌∙◌, arith}
 use Rattle.pc_terms.specs.Syntax.{Term}
 use Rattle.pc_rules.specs.declared.meter.Account.{Account}
 use Rattle.calculus_rules.specs.Environment.{Env}
@@ -14,7 +14,6 @@ use Rattle.first_order.specs.DirectedSignature.{signature_search, signed_by, set
 use Rattle.lambda_box.specs.BoxForm.{IsBoxProgram}
 use Rattle.lambda_box.specs.BoxProgram.{BoxProgram}
 use Rattle.erase_laws.specs.ErasedProgram.{HasErased, IsErased}
-use Rattle.compile.specs.Passes.{Fits}
 use Rattle.compile.specs.declared.fault.CompileFault.TheVariants as compiling
 use Rattle.compile.proofs.Within.{fits_call_valid}
 use Rattle.source_limits.proofs.Sizes.{refusals_show_sizes}
@@ -32,7 +31,7 @@ use Rattle.driver.specs.declared.refusal.ProgramLimit.{ProgramLimit}
 use Rattle.driver.specs.declared.refusal.ProgramLimit.TheVariants as limits
 use Rattle.driver.specs.Texts.{SpellsWithin}
 use Rattle.driver.specs.SourceEnds.{IsAcceptedWith}
-use Rattle.driver.specs.ExecEnds.{ErasureSays, Accepting}
+use Rattle.driver.specs.ExecEnds.{ErasureSays}
 use Rattle.driver.specs.MadeModule.{BytesSay, BytesRefuse}
 use Rattle.driver.specs.CallStages.{CallPassesSay, Signing, CallErasing, its_call_module}
 use Rattle.driver.specs.Exported.{ExportsNone, by_signature, by_erasure, by_passes, by_bytes, IsLargeForCall, ShowsLargeProgram}

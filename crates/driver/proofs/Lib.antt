@@ -32,6 +32,7 @@ pub mod Headlines
 pub mod Checking
 pub mod Explaining
 pub mod BesideCheck
+pub mod ReadToEnd
 pub mod Serving
 pub mod Shallow
 pub mod OneStatus

@@ -1,6 +1,6 @@
 -- The stages to the module for calls of a main that is a function, after the check: the search for a signature of main's type, erasure, and the passes. Each says by the definitions of its layer why it
 -- stops, or what it hands on.
-use Rattle.std.specs.Prelude.{ℕ, ◌≡◌, ◌≢◌, ◌≤◌, List, [], length, IsTrue, Result, Ok, Err}
+use Rattle.std.specs.Prelude.{ℕ, ◌≡◌, ◌≢◌, ◌≤◌, [], length, IsTrue, Result, Ok, Err}
 use Rattle.pc_terms.specs.Syntax.{Term}
 use Rattle.pc_rules.specs.declared.meter.Account.{Account}
 use Rattle.calculus_rules.specs.Environment.{Env}

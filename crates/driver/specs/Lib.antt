@@ -21,6 +21,7 @@ pub mod Explained
 pub mod Serve
 pub mod ExplainSays
 pub mod BesideCheck
+pub mod ByHistory
 pub mod PlainAnswer
 pub mod MainModule
 pub mod ExportSays
