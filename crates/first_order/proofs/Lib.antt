@@ -8,3 +8,4 @@ pub mod ReadTexts
 pub mod Lowered
 pub mod AllRead
 pub mod Signing
+pub mod ArgumentTokens
