@@ -6,11 +6,12 @@ use Rattle.sexp_reader.specs.Stream.{source, stream, depth, text_at, Gave}
 use Rattle.sexp_reader.specs.declared.Token.{Token}
 use Rattle.sexp_reader.specs.declared.Tokens.{Tokens}
 use Rattle.sexp_reader.specs.declared.TokenFault.{TokenFault}
-use Rattle.calculus_rules.specs.FirstOrder.{Data}
 use Rattle.first_order.specs.declared.faults.ArgsFault.{ArgsFault}
 use Rattle.first_order.specs.declared.faults.ArgsFault.TheVariants as faults
-use Rattle.first_order.specs.Awaited.{Awaited, ArgumentReading, ArgumentsAre, ArgumentsFail, with_nodes, token_fault, answered, taken, taking, at_token, at_end, reading_of}
-use Rattle.first_order.specs.Nexts.{reading_on, GoesWith, GetsToken, GetsSome}
+use Rattle.first_order.specs.Awaited.{Awaited, TakesToken, ArgumentReading, ArgumentsAre, ArgumentsFail, with_nodes, token_fault, answered, taken, taking, at_token, at_end, reading_of}
+use Rattle.first_order.specs.declared.given.Unfit.{Unfit}
+use Rattle.first_order.specs.declared.given.Unfit.TheVariants as unfit
+use Rattle.first_order.specs.Nexts.{IsUnfit, unfit_fault, reading_on, GoesWith, GetsToken, GetsSome, PassesFirst}
 
 pub nothing_left : (names : List (List ℕ)) (len d : ℕ) (ss : List Spanned) (xs : List Awaited) → ss ≡ [] → reading_of names len ss d xs ≡ at_end len xs
 unfolding reading_of
@@ -56,8 +57,27 @@ fault f old new a same = record { same = same; shorter = tt; within = tt; goes =
 pub some : (t : Token) (old new : Tokens) → GetsToken (Ok (Some t)) old new → GetsSome (Ok t) old new
 some t old new h = record { same = h.same; shorter = h.shorter; within = h.within; goes = λ names x xs. h.goes names (x ∷ xs) }
 
-pub none : (old new : Tokens) → GetsToken (Ok None) old new → GetsSome (Err (faults.Syntax (length (source old)))) old new
-none old new h = record { same = h.same; shorter = tt; within = tt; goes = λ names x xs. h.goes names (x ∷ xs) }
+pub none : (old new : Tokens) (n : ℕ) → n ≡ length (source new) → GetsToken (Ok None) old new → GetsSome (Err (faults.Syntax n)) old new
+none old new n e h = record { same = h.same; shorter = tt; within = tt; goes = λ names x xs. h.goes names (x ∷ xs) ∙ ap (λ k. ArgumentsFail (faults.Syntax k)) (sym (e ∙ ap length h.same)) }
 
 pub failed : (f : ArgsFault) (old new : Tokens) → GetsToken (Err f) old new → GetsSome (Err f) old new
 failed f old new h = record { same = h.same; shorter = tt; within = tt; goes = λ names x xs. h.goes names (x ∷ xs) }
+
+-- ---- a token where something is to come
+
+with_nothing : (r : ArgumentReading) → with_nodes [] r ≡ r
+with_nothing (ArgumentsAre ds) = refl
+with_nothing (ArgumentsFail f) = refl
+
+pub passed : (names : List (List ℕ)) (t : Token) (old new : Tokens) (x : Awaited) → GetsSome (Ok t) old new → taking names x (text_at (source old) t) ≡ TakesToken [] [] →
+    PassesFirst {X = Unit {0}} names (Ok tt) old new x (λ y r. r)
+passed names t old new x h e = record {
+  same = h.same;
+  goes = λ xs. h.goes names x xs ∙ ap (λ k. taken k t.start (λ ys. reading_on names new (ys ++ xs))) e ∙ with_nothing (reading_on names new xs);
+}
+
+pub not_taken : {X : Type 0} (names : List (List ℕ)) (t : Token) (old new : Tokens) (x : Awaited) (u : Unfit) (f : X → ArgumentReading → ArgumentReading) → GetsSome (Ok t) old new → IsUnfit (taking names x (text_at (source old) t)) u →
+    PassesFirst {X = X} names (Err (unfit_fault u t.start)) old new x f
+not_taken names t old new x unfit.Form f h e = record { same = h.same; goes = λ xs. h.goes names x xs ∙ ap (λ k. taken k t.start (λ ys. reading_on names new (ys ++ xs))) e }
+not_taken names t old new x unfit.Place f h e = record { same = h.same; goes = λ xs. h.goes names x xs ∙ ap (λ k. taken k t.start (λ ys. reading_on names new (ys ++ xs))) e }
+not_taken names t old new x unfit.Memory f h e = record { same = h.same; goes = λ xs. tt }

@@ -9,3 +9,4 @@ pub mod Lowered
 pub mod AllRead
 pub mod Signing
 pub mod ArgumentTokens
+pub mod ArgumentNodes

@@ -39,21 +39,26 @@ abbrev pub nodes_in : Option (ℕ × ℕ) → Data
 nodes_in None = []
 nodes_in (Some d) = d ∷ []
 
+-- a token isn't taken
+abbrev pub IsUnfit : Taking → Unfit → Type 0
+IsUnfit t unfit.Form = t ≡ BreaksForm
+IsUnfit t unfit.Place = t ≡ Misplaced
+IsUnfit t unfit.Memory = Unit {0}
+
 -- what is done with a token: what then is to come is put before what waits, whose last is the next
 abbrev pub IsTaking : List Shape → Taking → Result (Option (ℕ × ℕ)) Unfit → List Next → List Next → Type 0
 IsTaking S t (Ok o) old new = (ys : List Next) × (t ≡ TakesToken (map (awaited S) ys) (nodes_in o)) × (reverse new ≡ ys ++ reverse old)
-IsTaking S t (Err unfit.Form) old new = t ≡ BreaksForm
-IsTaking S t (Err unfit.Place) old new = t ≡ Misplaced
-IsTaking S t (Err unfit.Memory) old new = Unit {0}
+IsTaking S t (Err u) old new = IsUnfit t u
+
+-- nothing more is to come of it
+abbrev pub IsClosing : Taking → Result (Unit {0}) Unfit → Type 0
+IsClosing t (Ok x) = t ≡ TakesToken [] []
+IsClosing t (Err u) = IsUnfit t u
 
 -- a node takes the place of one tree and asks for one for each of its arguments
 abbrev pub KeepsTrees : Next → Option (ℕ × ℕ) → List Next → List Next → Type 0
 KeepsTrees x None old new = trees (reverse new) ≡ trees_in x + trees (reverse old)
 KeepsTrees x (Some d) old new = (trees_in x ≡ 1) × (trees (reverse new) ≡ d.1 + trees (reverse old))
-
-abbrev pub no_node : Result (Unit {0}) Unfit → Result (Option (ℕ × ℕ)) Unfit
-no_node (Ok x) = Ok None
-no_node (Err u) = Err u
 
 -- the refusal of a token by its offset
 abbrev pub unfit_fault : Unfit → ℕ → ArgsFault

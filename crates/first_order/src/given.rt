@@ -2,15 +2,14 @@
 ghost use Rattle.std.specs.Prelude.{◌≡◌, ◌≢◌, ◌+◌, ◌<◌, ◌≤◌, ◌^◌, ◌++◌, ℕ, List, [], IfOk, IfErr, IfSome, MatchOption, Some, None, length, reverse, slice_get};
 ghost use Rattle.sexp_reader.specs.Stream.{text_of_kind};
 ghost use Rattle.first_order.specs.declared.faults.ArgsFault.TheVariants.{Memory};
-ghost use Rattle.first_order.specs.declared.shapes.Shape.{Shape as Type_};
 ghost use Rattle.first_order.specs.declared.given.Next.{Next as Waits};
 ghost use Rattle.first_order.specs.declared.given.Next.TheVariants.{Item, Name};
 ghost use Rattle.first_order.specs.declared.given.Turn.TheVariants.{First, Later};
 ghost use Rattle.first_order.specs.declared.given.Unfit.TheVariants.{Memory as Lacking};
-ghost use Rattle.first_order.specs.ArgumentTexts.{is_text, ctor_at};
-ghost use Rattle.first_order.specs.Awaited.{AwaitsOpen, AwaitsWord, AwaitsItem, AwaitsName, AwaitsClose, ArgumentsAre, alone, taking, arguments_in, with_nodes, joined, argument_sets, AnswersReading};
+ghost use Rattle.first_order.specs.ArgumentTexts.{is_text, ctor_from, ctor_at};
+ghost use Rattle.first_order.specs.Awaited.{AwaitsOpen, AwaitsWord, AwaitsItem, AwaitsName, AwaitsClose, ArgumentsAre, alone, opened, taking, arguments_in, with_nodes, joined, argument_sets, AnswersReading};
 ghost use Rattle.first_order.specs.Awaited.{fault_behind as fault_from, call_arguments as reading_of_call, arguments_from};
-ghost use Rattle.first_order.specs.Nexts.{awaited, nexts_in, nodes_in, no_node, unfit_fault, offset_in, reading_on, IsTaking, KeepsTrees, GetsToken, GetsSome, GivesReading, PassesFirst, PassesNext};
+ghost use Rattle.first_order.specs.Nexts.{awaited, nexts_in, nodes_in, unfit_fault, offset_in, reading_on, IsTaking, IsClosing, KeepsTrees, GetsToken, GetsSome, GivesReading, PassesFirst, PassesNext};
 
 use crate::faults::ArgsFault;
 use crate::shapes::{ShapeCtor, Shapes, Signature};
@@ -58,7 +57,7 @@ impl From<MakeFault> for Unfit {
 }
 
 /// The next token, or the tokenizer's refusal. Takes no memory.
-fn next(tokens: &mut Tokens) -> Result<Option<Token>, ArgsFault>
+fn next_token(tokens: &mut Tokens) -> Result<Option<Token>, ArgsFault>
     ensures gets { GetsToken result tokens.old tokens.new }
 {
     match tokens.next() {
@@ -73,7 +72,7 @@ fn next(tokens: &mut Tokens) -> Result<Option<Token>, ArgsFault>
 fn some_token(tokens: &mut Tokens) -> Result<Token, ArgsFault>
     ensures gets { GetsSome result tokens.old tokens.new }
 {
-    match next(tokens)? {
+    match next_token(tokens)? {
         Some(token) => Ok(token),
         None => Err(ArgsFault::Syntax {
             offset: tokens.len(),
@@ -91,8 +90,24 @@ fn has_name(names: &Names, ctor: &ShapeCtor, name: &[u8]) -> bool
     }
 }
 
-/// The constructor of a name at a type, by the type's place: its number, and the constructor; the first one of that name. Takes no memory.
+/// The first constructor of a name: its number, and the constructor. Takes no memory.
 fn constructor_of_name<'a>(
+    ctors: &'a [ShapeCtor],
+    names: &Names,
+    name: &[u8],
+) -> Option<(usize, &'a ShapeCtor)>
+    ensures is { MatchOption result (ctor_from names.now name.now 0 ctors.now ≡ None) (λ k. ctor_from names.now name.now 0 ctors.now ≡ Some (k.0, k.1.now.args)) }
+{
+    for (i, ctor) in ctors.iter().enumerate() {
+        if has_name(names, ctor, name) {
+            return Some((i, ctor));
+        }
+    }
+    None
+}
+
+/// The constructor of a name at a type, by the type's place. Takes no memory.
+fn constructor_at_type<'a>(
     shapes: &'a Shapes,
     names: &Names,
     place: u32,
@@ -101,12 +116,7 @@ fn constructor_of_name<'a>(
     ensures is { MatchOption result (ctor_at names.now shapes.now.types place name.now ≡ None) (λ k. ctor_at names.now shapes.now.types place name.now ≡ Some (k.0, k.1.now.args)) }
 {
     let shape = shapes.types.as_slice().get(place as usize)?;
-    for (i, ctor) in shape.ctors.as_slice().iter().enumerate() {
-        if has_name(names, ctor, name) {
-            return Some((i, ctor));
-        }
-    }
-    None
+    constructor_of_name(shape.ctors.as_slice(), names, name)
 }
 
 /// Puts the items behind the first and the bracket that closes before what waits.
@@ -159,7 +169,7 @@ fn take_alone(
     ensures leaf { IfOk result (λ o. IfSome o (λ d. d.1 ≡ 0)) }
     ensures some { IfOk result (λ o. o ≢ None) }
 {
-    let Some((number, ctor)) = constructor_of_name(shapes, names, place, name) else {
+    let Some((number, ctor)) = constructor_at_type(shapes, names, place, name) else {
         return Err(Unfit::Place);
     };
     if !ctor.args.is_empty() {
@@ -175,13 +185,13 @@ fn take_item(
     shapes: &Shapes,
     turn: Turn,
     place: u32,
-    token: (TokenKind, &[u8]),
+    kind: TokenKind,
+    text: &[u8],
     waiting: &mut Vec<Next>,
 ) -> Result<Option<(u32, u32)>, Unfit>
-    ensures is { IsTaking shapes.now.types (taking names.now (AwaitsItem turn shapes.now.types place) (text_of_kind token.0 token.1.now)) result waiting.old.items waiting.new.items }
+    ensures is { IsTaking shapes.now.types (taking names.now (AwaitsItem turn shapes.now.types place) (text_of_kind kind text.now)) result waiting.old.items waiting.new.items }
     ensures trees { IfOk result (λ o. KeepsTrees (Item turn place) o waiting.old.items waiting.new.items) }
 {
-    let (kind, text) = token;
     match kind {
         TokenKind::Open => {
             put(waiting, Next::Name(place))?;
@@ -195,22 +205,18 @@ fn take_item(
     }
 }
 
-/// What a token does behind a bracket, where the name of a constructor of a type is to come.
-fn take_name(
+/// What the name of a constructor of a type does behind a bracket.
+fn take_constructor(
     names: &Names,
     shapes: &Shapes,
     place: u32,
-    token: (TokenKind, &[u8]),
+    name: &[u8],
     waiting: &mut Vec<Next>,
 ) -> Result<Option<(u32, u32)>, Unfit>
-    ensures is { IsTaking shapes.now.types (taking names.now (AwaitsName shapes.now.types place) (text_of_kind token.0 token.1.now)) result waiting.old.items waiting.new.items }
+    ensures is { IsTaking shapes.now.types (opened shapes.now.types (ctor_at names.now shapes.now.types place name.now)) result waiting.old.items waiting.new.items }
     ensures trees { IfOk result (λ o. KeepsTrees (Name place) o waiting.old.items waiting.new.items) }
 {
-    let (kind, text) = token;
-    if kind != TokenKind::Atom {
-        return Err(Unfit::Form);
-    }
-    let Some((number, ctor)) = constructor_of_name(shapes, names, place, text) else {
+    let Some((number, ctor)) = constructor_at_type(shapes, names, place, name) else {
         return Err(Unfit::Place);
     };
     let node = node_of(number, ctor.args.len())?;
@@ -218,10 +224,27 @@ fn take_name(
     Ok(Some(node))
 }
 
+/// What a token does behind a bracket, where the name of a constructor of a type is to come.
+fn take_name(
+    names: &Names,
+    shapes: &Shapes,
+    place: u32,
+    kind: TokenKind,
+    text: &[u8],
+    waiting: &mut Vec<Next>,
+) -> Result<Option<(u32, u32)>, Unfit>
+    ensures is { IsTaking shapes.now.types (taking names.now (AwaitsName shapes.now.types place) (text_of_kind kind text.now)) result waiting.old.items waiting.new.items }
+    ensures trees { IfOk result (λ o. KeepsTrees (Name place) o waiting.old.items waiting.new.items) }
+{
+    match kind {
+        TokenKind::Atom => take_constructor(names, shapes, place, text, waiting),
+        TokenKind::Open | TokenKind::Close => Err(Unfit::Form),
+    }
+}
+
 /// What a token does where the bracket that closes is to come. Takes no memory.
 fn take_close(turn: Turn, kind: TokenKind) -> Result<(), Unfit>
-    ensures is { (names : List (List ℕ)) (S : List Type_) (text : List ℕ) (ws : List Waits) → IsTaking S (taking names (AwaitsClose turn) (text_of_kind kind text)) (no_node result) ws ws }
-    ensures takes { IfErr result (λ e. e ≢ Lacking) }
+    ensures is { (names : List (List ℕ)) (text : List ℕ) → IsClosing (taking names (AwaitsClose turn) (text_of_kind kind text)) result }
 {
     match kind {
         TokenKind::Close => match turn {
@@ -238,19 +261,20 @@ fn take(
     names: &Names,
     shapes: &Shapes,
     next: Next,
-    token: (TokenKind, &[u8]),
+    kind: TokenKind,
+    text: &[u8],
     waiting: &mut Vec<Next>,
 ) -> Result<Option<(u32, u32)>, Unfit>
-    ensures is { IsTaking shapes.now.types (taking names.now (awaited shapes.now.types next) (text_of_kind token.0 token.1.now)) result waiting.old.items waiting.new.items }
+    ensures is { IsTaking shapes.now.types (taking names.now (awaited shapes.now.types next) (text_of_kind kind text.now)) result waiting.old.items waiting.new.items }
     ensures trees { IfOk result (λ o. KeepsTrees next o waiting.old.items waiting.new.items) }
 {
     match next {
-        Next::Item(turn, place) => take_item(names, shapes, turn, place, token, waiting),
-        Next::Name(place) => take_name(names, shapes, place, token, waiting),
-        Next::Close(turn) => {
-            take_close(turn, token.0)?;
-            Ok(None)
-        }
+        Next::Item(turn, place) => take_item(names, shapes, turn, place, kind, text, waiting),
+        Next::Name(place) => take_name(names, shapes, place, kind, text, waiting),
+        Next::Close(turn) => match take_close(turn, kind) {
+            Ok(()) => Ok(None),
+            Err(unfit) => Err(unfit),
+        },
     }
 }
 
@@ -277,7 +301,7 @@ fn take_next(
 {
     let token = some_token(tokens)?;
     let text = tokens.text(token);
-    match take(names, shapes, next, (token.kind, text), waiting) {
+    match take(names, shapes, next, token.kind, text, waiting) {
         Ok(node) => Ok(node),
         Err(unfit) => Err(fault_at(unfit, token.start)),
     }
@@ -286,7 +310,7 @@ fn take_next(
 /// Puts a node, if there is one, behind the others, which are fewer than 2^32.
 fn put_node(nodes: &mut Vec<(u32, u32)>, node: Option<(u32, u32)>) -> Result<(), ArgsFault>
     ensures ok { IfOk result (λ _. nodes.new.items ≡ nodes.old.items ++ nodes_in node) }
-    ensures few { length nodes.old.items < 2 ^ 32 → length nodes.new.items < 2 ^ 32 }
+    ensures few { IfOk result (λ _. length nodes.old.items < 2 ^ 32 → length nodes.new.items < 2 ^ 32) }
     ensures only_memory { IfErr result (λ e. e ≡ Memory) }
 {
     let Some(node) = node else {
@@ -360,7 +384,7 @@ fn close(tokens: &mut Tokens, turn: Turn) -> Result<(), ArgsFault>
 fn end(tokens: &mut Tokens) -> Result<(), ArgsFault>
     ensures ends { (names : List (List ℕ)) → GivesReading result (λ _. ArgumentsAre []) (reading_on names tokens.old []) }
 {
-    match next(tokens)? {
+    match next_token(tokens)? {
         Some(token) => Err(ArgsFault::Syntax {
             offset: token.start,
         }),
@@ -397,6 +421,7 @@ fn call_arguments(
     sets: &[Shapes],
 ) -> Result<Vec<Data>, ArgsFault>
     ensures exact { AnswersReading (reading_of_call names.now (argument_sets sets.now) bytes.now) (length sets.now) result }
+    ensures within { IfErr result (λ f. offset_in f ≤ length bytes.now) }
 {
     let mut tokens = Tokens::new(bytes);
     open(&mut tokens)?;

@@ -1,4 +1,4 @@
-use Rattle.std.proofs.Common.{◌≡◌, ◌<◌, ◌^◌, ◌++◌, List, length, reverse}
+use Rattle.std.proofs.Common.{◌≡◌, ◌<◌, ◌^◌, ◌++◌, ◌∷◌, List, length, reverse}
 use Rattle.sexp_reader.specs.Stream.{source, stream}
 use Rattle.calculus_rules.specs.FirstOrder.{Data}
 use Rattle.data_trees.specs.Preorder.{IsForest, IsTree}
