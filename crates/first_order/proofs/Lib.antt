@@ -10,3 +10,6 @@ pub mod AllRead
 pub mod Signing
 pub mod ArgumentTokens
 pub mod ArgumentNodes
+pub mod ArgumentOffsets
+pub mod ArgumentSpelling
+pub mod ArgumentComplete

@@ -148,3 +148,8 @@ abbrev pub AnswersReading : ArgumentReading → (count : ℕ) → Result (Vec Da
 AnswersReading r n (Ok v) = (r ≡ ArgumentsAre (joined v.items)) × (length v.items ≡ n)
 AnswersReading r n (Err faults.Memory) = Unit {0}
 AnswersReading r n (Err f) = r ≡ ArgumentsFail f
+
+-- No token of a text is refused as such: none is a byte that belongs to no token, an atom of more than 255 bytes, or a bracket that opens a nesting of 1,001.
+abbrev pub HasNoFault : (nesting : ℕ) → List Spanned → Type 0
+HasNoFault d [] = Unit {0}
+HasNoFault d (s ∷ ss) = ((o : Option Token) × (answer_at d s.start s.text ≡ Ok o)) × HasNoFault (nesting_after_text d s.text) ss
