@@ -12,7 +12,7 @@ use Rattle.calculus_rules.specs.FirstOrder.{Data}
 use Rattle.first_order.specs.declared.shapes.Shape.{Shape}
 use Rattle.first_order.specs.declared.faults.ArgsFault.{ArgsFault}
 use Rattle.first_order.specs.declared.faults.ArgsFault.TheVariants as faults
-use Rattle.first_order.specs.Awaited.{Awaited, Taking, BreaksForm, Misplaced, TakesToken, ArgumentReading, ArgumentsAre, ArgumentsFail, with_nodes, token_fault, answered, taken, taking, at_token, reading_of, call_arguments}
+use Rattle.first_order.specs.Awaited.{Awaited, Taking, BreaksForm, Misplaced, TakesToken, ArgumentReading, ArgumentsAre, ArgumentsFail, with_nodes, token_fault, answered, taken, taking, at_token, reading_of, call_arguments, AnswersReading}
 use Rattle.first_order.specs.Nexts.{offset_in}
 
 abbrev EachWithin : ℕ → List Spanned → Type 0
@@ -101,3 +101,10 @@ fails-within names len (s ∷ ss) d xs f w e =
 -- an answer that is a refusal stands within the text
 pub refusal-within : (names : List (List ℕ)) (Ss : List (List Shape)) (bytes : List ℕ) (f : ArgsFault) → call_arguments names Ss bytes ≡ ArgumentsFail f → offset_in f ≤ length bytes
 refusal-within names Ss bytes f e = fails-within names (length bytes) (tokens_of bytes) 0 _ f (lex-within bytes 0 (length bytes) false (omega arith)) e
+
+pub answer-within : (names : List (List ℕ)) (Ss : List (List Shape)) (bytes : List ℕ) (n : ℕ) (f : ArgsFault) → AnswersReading (call_arguments names Ss bytes) n (Err f) → offset_in f ≤ length bytes
+answer-within names Ss bytes n faults.Memory h = omega arith
+answer-within names Ss bytes n (faults.Syntax o) h = refusal-within names Ss bytes (faults.Syntax o) h
+answer-within names Ss bytes n (faults.Wrong o) h = refusal-within names Ss bytes (faults.Wrong o) h
+answer-within names Ss bytes n faults.NameBytes h = omega arith
+answer-within names Ss bytes n faults.Nesting h = omega arith

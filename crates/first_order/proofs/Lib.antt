@@ -13,3 +13,4 @@ pub mod ArgumentNodes
 pub mod ArgumentOffsets
 pub mod ArgumentSpelling
 pub mod ArgumentComplete
+pub mod ConstructorNames

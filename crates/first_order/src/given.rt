@@ -421,7 +421,6 @@ fn call_arguments(
     sets: &[Shapes],
 ) -> Result<Vec<Data>, ArgsFault>
     ensures exact { AnswersReading (reading_of_call names.now (argument_sets sets.now) bytes.now) (length sets.now) result }
-    ensures within { IfErr result (λ f. offset_in f ≤ length bytes.now) }
 {
     let mut tokens = Tokens::new(bytes);
     open(&mut tokens)?;

@@ -9,7 +9,7 @@ use Rattle.first_order.proofs.given.argument.Given as goal
 abbrev pub invariant-next : goal.invariant-next
 invariant-next l = record {
   same : source l.tokens ≡ source l.fn.tokens;
-  goes : (xs : List Awaited) → reading_on l.names l.fn.tokens (AwaitsItem l.turn l.shapes.types 0 ∷ xs) ≡ with_nodes l.nodes.items (reading_on l.names l.tokens (all_awaited l.shapes.types l.waiting.items ++ xs));
+  goes : (xs : List Awaited) → reading_on l.names l.fn.tokens (AwaitsItem l.fn.turn l.shapes.types 0 ∷ xs) ≡ with_nodes l.nodes.items (reading_on l.names l.tokens (all_awaited l.shapes.types l.waiting.items ++ xs));
   forest : (rest : Data) → IsForest (trees (reverse l.waiting.items)) rest → IsTree (l.nodes.items ++ rest);
   few : length l.nodes.items < 2 ^ 32;
 }
