@@ -16,7 +16,7 @@ use Rattle.first_order.specs.declared.shapes.Shape.{Shape}
 use Rattle.first_order.specs.declared.given.Turn.{Turn}
 use Rattle.first_order.specs.declared.given.Turn.TheVariants.{First, Later}
 use Rattle.first_order.specs.ArgumentTexts.{ctor_at, SpellsItem, name_alone, in_brackets, SpellsItems, no_item, one_item, SpellsEach, no_argument, one_argument, SpellsArguments}
-use Rattle.first_order.specs.Awaited.{Awaited, AwaitsOpen, AwaitsWord, AwaitsItem, AwaitsName, AwaitsClose, items_in, arguments_in, whole_call, TakesToken, BreaksForm, alone, opened, taking, ArgumentReading, ArgumentsAre, with_nodes, answered, taken, at_token, reading_of, joined, HasNoFault}
+use Rattle.first_order.specs.Awaited.{Awaited, AwaitsOpen, AwaitsWord, AwaitsItem, AwaitsName, AwaitsClose, items_in, arguments_in, whole_call, TakesToken, BreaksForm, alone, opened, taking, ArgumentReading, ArgumentsAre, with_nodes, answered, taken, at_token, reading_of, joined, AreTrees, HasNoFault}
 use Rattle.first_order.proofs.ArgumentSpelling.{SpellsNext, SpellsAll, join, only, come_inside, come_behind}
 
 -- what a token begins
@@ -111,10 +111,6 @@ cut (suc n) (x ∷ d) (y ∷ e) r s f g p =
     let rest : d ++ r ≡ e ++ s = cc in
     let h = cut (x.1 + n) d e r s f (along (λ z. IsForest (z.1 + n) e) (sym same) g) rest in
     ((λ i. same i ∷ h.0 i), h.1)
-
-abbrev pub AreTrees : List Data → Type 0
-AreTrees [] = Unit {0}
-AreTrees (d ∷ ds) = IsTree d × AreTrees ds
 
 pub one_cut : (ds es : List Data) → AreTrees ds → AreTrees es → length ds ≡ length es → joined ds ≡ joined es → ds ≡ es
 one_cut [] [] f g l p = refl

@@ -15,7 +15,7 @@ use Rattle.first_order.specs.declared.given.Next.{Next}
 use Rattle.first_order.specs.declared.given.Turn.{Turn}
 use Rattle.first_order.specs.declared.given.Turn.TheVariants.{First, Later}
 use Rattle.first_order.specs.declared.shapes.Shapes.{Shapes}
-use Rattle.first_order.specs.Awaited.{Awaited, AwaitsItem, AwaitsClose, items_in, arguments_in, whole_call, TakesToken, opened, ArgumentReading, ArgumentsAre, ArgumentsFail, with_nodes, reading_of, call_arguments, joined, argument_sets, AnswersReading}
+use Rattle.first_order.specs.Awaited.{Awaited, AwaitsItem, AwaitsClose, items_in, arguments_in, whole_call, TakesToken, opened, ArgumentReading, ArgumentsAre, ArgumentsFail, with_nodes, reading_of, call_arguments, joined, argument_sets, AreTrees, AnswersReading}
 use Rattle.first_order.specs.Nexts.{awaited, nexts_in, trees_in, trees, nodes_in, KeepsTrees, all_awaited, reading_on, GivesReading, PassesFirst}
 
 pub with_nothing : (r : ArgumentReading) → r ≡ with_nodes [] r
@@ -154,3 +154,7 @@ answers_refusal x faults.Nesting n q whole r ds g e k = along (AnswersReading wh
 
 pub answers_all : (whole r : ArgumentReading) (ds : Data) → whole ≡ with_nodes ds r → r ≡ ArgumentsAre [] → whole ≡ ArgumentsAre ds
 answers_all whole r ds e k = e ∙ ap (with_nodes ds) k ∙ ap ArgumentsAre (append-nil ds)
+
+pub trees_more : (vs us : List Data) (d : Data) → AreTrees vs → IsTree d → us ≡ vs ++ (d ∷ []) → AreTrees us
+trees_more [] us d f t e = along AreTrees (sym e) (t, tt)
+trees_more (v ∷ vs) us d f t e = along AreTrees (sym e) (f.0, trees_more vs (vs ++ (d ∷ [])) d f.1 t refl)

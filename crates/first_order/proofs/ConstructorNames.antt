@@ -14,7 +14,7 @@ module _ (names : List (List ℕ)) (a : List ℕ) (ks : List ShapeCtor) (i : ℕ
   has_it k lt e h = here k lt e ∙ ap (λ b. if b then Some (i, k.args) else ctor_from names a (suc i) (drop (i + 1) ks)) h
 
   pub has_another : (k : ShapeCtor) → i < length ks → k ≡ get_or ks i k → is_text a (slice_get names k.name.0) ≡ false → ctor_from names a i (drop i ks) ≡ ctor_from names a (i + 1) (drop (i + 1) ks)
-  has_another k lt e h = here k lt e ∙ ap (λ b. if b then Some (i, k.args) else ctor_from names a (suc i) (drop (i + 1) ks)) h ∙ ap (λ n. ctor_from names a n (drop (i + 1) ks)) (sym add-one)
+  has_another k lt e h = here k lt e ∙ ap (λ b. if b then Some (i, k.args) else ctor_from names a (suc i) (drop (i + 1) ks)) h ∙ ap (λ n. ctor_from names a n (drop (i + 1) ks)) (sym (add-one i))
 
   pub has_none : length ks ≤ i → ctor_from names a i (drop i ks) ≡ None
   unfolding ctor_from

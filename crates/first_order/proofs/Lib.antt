@@ -14,3 +14,4 @@ pub mod ArgumentOffsets
 pub mod ArgumentSpelling
 pub mod ArgumentComplete
 pub mod ConstructorNames
+pub mod ArgumentAnswers

@@ -1,6 +1,6 @@
 -- What stands next in a text of arguments, token by token, and the first refusal of such a text. At one token the limits of tokens come first, then what no text of the form
 -- goes on with, then what doesn't stand at its type.
-use Rattle.std.specs.Prelude.{◌≡◌, ℕ, ◌+◌, List, [], ◌∷◌, ◌++◌, length, drop, map, bytes_eq, if◌then◌else◌, Option, Some, None, Result, Ok, Err, Vec}
+use Rattle.std.specs.Prelude.{◌≡◌, ℕ, ◌+◌, List, [], ◌∷◌, ◌++◌, length, drop, map, bytes_eq, if◌then◌else◌, Option, Some, None, Result, Ok, Err, IfOk, IfErr, Vec}
 use Rattle.std.specs.declared.alloc.Global.{Global}
 use Rattle.sexp_reader.specs.Text.{Text, Open, Close, Atom, Stray}
 use Rattle.sexp_reader.specs.Lex.{Spanned, answer_at, nesting_after_text, tokens_of}
@@ -9,14 +9,16 @@ use Rattle.sexp_reader.specs.declared.TokenFault.{TokenFault}
 use Rattle.sexp_reader.specs.declared.TokenFault.TheVariants as tokens
 use Rattle.dump_grammar.specs.Keywords.{spelling}
 use Rattle.dump_grammar.specs.declared.keyword.Keyword.TheVariants as words
+use Rattle.dump_grammar.specs.Judge.{texts}
 use Rattle.calculus_rules.specs.FirstOrder.{Data}
+use Rattle.data_trees.specs.Preorder.{IsTree}
 use Rattle.first_order.specs.declared.shapes.Shape.{Shape}
 use Rattle.first_order.specs.declared.shapes.Shapes.{Shapes}
 use Rattle.first_order.specs.declared.faults.ArgsFault.{ArgsFault}
 use Rattle.first_order.specs.declared.faults.ArgsFault.TheVariants as faults
 use Rattle.first_order.specs.declared.given.Turn.{Turn}
 use Rattle.first_order.specs.declared.given.Turn.TheVariants.{First, Later}
-use Rattle.first_order.specs.ArgumentTexts.{ctor_at}
+use Rattle.first_order.specs.ArgumentTexts.{ctor_at, SpellsArguments}
 
 -- What is to come next. The items between two brackets are one at least by the form, so the bracket that closes can't stand in the turn of the first.
 pub data Awaited : Type 0 where
@@ -143,9 +145,13 @@ joined (d ∷ ds) = d ++ joined ds
 abbrev pub argument_sets : List Shapes → List (List Shape)
 argument_sets ss = map (λ s. s.types) ss
 
+abbrev pub AreTrees : List Data → Type 0
+AreTrees [] = Unit {0}
+AreTrees (d ∷ ds) = IsTree d × AreTrees ds
+
 -- The answer is the reading, cut into trees, one for each argument; or there is no memory.
 abbrev pub AnswersReading : ArgumentReading → (count : ℕ) → Result (Vec Data Global) ArgsFault → Type 0
-AnswersReading r n (Ok v) = (r ≡ ArgumentsAre (joined v.items)) × (length v.items ≡ n)
+AnswersReading r n (Ok v) = (r ≡ ArgumentsAre (joined v.items)) × (length v.items ≡ n) × AreTrees v.items
 AnswersReading r n (Err faults.Memory) = Unit {0}
 AnswersReading r n (Err f) = r ≡ ArgumentsFail f
 
@@ -153,3 +159,8 @@ AnswersReading r n (Err f) = r ≡ ArgumentsFail f
 abbrev pub HasNoFault : (nesting : ℕ) → List Spanned → Type 0
 HasNoFault d [] = Unit {0}
 HasNoFault d (s ∷ ss) = ((o : Option Token) × (answer_at d s.start s.text ≡ Ok o)) × HasNoFault (nesting_after_text d s.text) ss
+
+-- What tokens spell is the answer, where none of them is refused as such and there is memory.
+abbrev pub AnswersSpelled : (names : List (List ℕ)) → List (List Shape) → List Spanned → Result (Vec Data Global) ArgsFault → Type 0
+AnswersSpelled names Ss ss result =
+    (ds : List Data) → SpellsArguments names Ss (texts ss) ds → HasNoFault 0 ss → IfOk result (λ v. v.items ≡ ds) × IfErr result (λ f. f ≡ faults.Memory)

@@ -1,13 +1,16 @@
 //! Arguments that are given as text, and read as data of their types.
-ghost use Rattle.std.specs.Prelude.{◌≡◌, ◌≢◌, ◌+◌, ◌<◌, ◌≤◌, ◌^◌, ◌++◌, ℕ, List, [], IfOk, IfErr, IfSome, MatchOption, Some, None, length, reverse, slice_get};
+ghost use Rattle.std.specs.Prelude.{◌≡◌, ◌≢◌, ◌+◌, ◌<◌, ◌≤◌, ◌^◌, ◌++◌, ℕ, List, [], IfOk, IfErr, IfSome, MatchOption, Some, None, length, drop, reverse, slice_get};
+ghost use Rattle.sexp_reader.specs.Lex.{tokens_of};
 ghost use Rattle.sexp_reader.specs.Stream.{text_of_kind};
 ghost use Rattle.first_order.specs.declared.faults.ArgsFault.TheVariants.{Memory};
 ghost use Rattle.first_order.specs.declared.given.Next.{Next as Waits};
 ghost use Rattle.first_order.specs.declared.given.Next.TheVariants.{Item, Name};
 ghost use Rattle.first_order.specs.declared.given.Turn.TheVariants.{First, Later};
 ghost use Rattle.first_order.specs.declared.given.Unfit.TheVariants.{Memory as Lacking};
-ghost use Rattle.first_order.specs.ArgumentTexts.{is_text, ctor_from, ctor_at};
-ghost use Rattle.first_order.specs.Awaited.{AwaitsOpen, AwaitsWord, AwaitsItem, AwaitsName, AwaitsClose, ArgumentsAre, alone, opened, taking, arguments_in, with_nodes, joined, argument_sets, AnswersReading};
+ghost use Rattle.first_order.specs.ArgumentTexts.{is_text, ctor_from, ctor_at, SpellsArguments};
+ghost use Rattle.dump_grammar.specs.Judge.{texts};
+ghost use Rattle.data_trees.specs.Preorder.{IsTree};
+ghost use Rattle.first_order.specs.Awaited.{AwaitsOpen, AwaitsWord, AwaitsItem, AwaitsName, AwaitsClose, ArgumentsAre, alone, opened, taking, arguments_in, with_nodes, joined, argument_sets, AreTrees, AnswersReading, AnswersSpelled};
 ghost use Rattle.first_order.specs.Awaited.{fault_behind as fault_from, call_arguments as reading_of_call, arguments_from};
 ghost use Rattle.first_order.specs.Nexts.{awaited, nexts_in, nodes_in, unfit_fault, offset_in, reading_on, IsTaking, IsClosing, KeepsTrees, GetsToken, GetsSome, GivesReading, PassesFirst, PassesNext};
 
@@ -332,6 +335,7 @@ fn argument(
     turn: Turn,
 ) -> Result<Data, ArgsFault>
     ensures passes { PassesFirst names.now result tokens.old tokens.new (AwaitsItem turn shapes.now.types 0) with_nodes }
+    ensures tree { IfOk result (λ d. IsTree d) }
 {
     let mut waiting = Vec::new(alloc);
     put(&mut waiting, Next::Item(turn, 0))?;
@@ -401,6 +405,7 @@ fn arguments(
 ) -> Result<Vec<Data>, ArgsFault>
     ensures gives { GivesReading result (λ v. with_nodes (joined v.items) (reading_on names.now tokens.new [])) (reading_on names.now tokens.old (arguments_in First (argument_sets sets.now))) }
     ensures counted { IfOk result (λ v. length v.items ≡ length sets.now) }
+    ensures trees { IfOk result (λ v. AreTrees v.items) }
 {
     let mut read = Vec::new(alloc);
     let mut turn = Turn::First;
@@ -463,6 +468,9 @@ pub fn read_args(
 ) -> Result<Vec<Data>, ArgsFault>
     requires within { from ≤ length bytes.now }
     ensures exact { AnswersReading (arguments_from names.now (argument_sets sig.now.args) bytes.now from) (length sig.now.args) result }
+    ensures spells { IfOk result (λ v. SpellsArguments names.now (argument_sets sig.now.args) (texts (tokens_of (drop from bytes.now))) v.items) }
+    ensures complete { AnswersSpelled names.now (argument_sets sig.now.args) (tokens_of (drop from bytes.now)) result }
+    ensures behind { IfErr result (λ f. offset_in f ≤ length bytes.now) }
 {
     match call_arguments(alloc, &bytes[from..], names, sig.args.as_slice()) {
         Ok(read) => Ok(read),

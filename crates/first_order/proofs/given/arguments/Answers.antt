@@ -3,7 +3,7 @@ use Rattle.pc_rules.proofs.ListSteps.{next_is, none_left}
 use Rattle.first_order.specs.declared.given.Turn.TheVariants.{First}
 use Rattle.first_order.specs.Awaited.{with_nodes, joined, arguments_in, argument_sets}
 use Rattle.first_order.specs.Nexts.{reading_on}
-use Rattle.first_order.proofs.ArgumentNodes.{set_read, one_more, sets_read, refused_as}
+use Rattle.first_order.proofs.ArgumentNodes.{set_read, one_more, trees_more, sets_read, refused_as}
 use Rattle.first_order.proofs.given.arguments.Goals as goal
 
 pub loop-set-preserved : goal.loop-set-preserved
@@ -15,6 +15,7 @@ loop-set-preserved c =
     record {
       same = c.in_ok-data.ensures.passes.same ∙ c.loop-set.invariant.same;
       counted = one_more c.loop-set.read.items c.put.new.items.items c.in_ok-data.data i c.in_ok-put.ensures.ok c.loop-set.invariant.counted;
+      trees = trees_more c.loop-set.read.items c.put.new.items.items c.in_ok-data.data c.loop-set.invariant.trees c.in_ok-data.ensures.tree c.in_ok-put.ensures.ok;
       goes = set_read names c.loop-set.tokens c.argument.new.tokens (reading_on names c.args.tokens.now (arguments_in First (argument_sets sets))) c.loop-set.turn (drop i sets) (drop (i + 1) sets) c.set-item.result c.loop-set.read.items c.put.new.items.items c.in_ok-data.data
           c.loop-set.invariant.goes next c.in_ok-data.ensures.passes.goes c.in_ok-put.ensures.ok;
     }

@@ -45,4 +45,4 @@ returns c =
     let Ss = argument_sets c.args.sets.now in
     let start = at_start names c.args.bytes.now c.new-tokens.result Ss c.new-tokens.ensures.tokens c.new-tokens.ensures.outside c.new-tokens.ensures.text in
     let worded = start ∙ (c.in_ok-open.ensures.passes names).goes (AwaitsWord ∷ arguments_in First Ss) ∙ (c.in_ok-word.ensures.passes names).goes (arguments_in First Ss) in
-    record { exact = (answers_all (call_arguments names Ss c.args.bytes.now) _ (joined c.in_ok-read.read.items) (worded ∙ c.in_ok-read.ensures.gives) (c.in_ok-end.ensures.ends names), c.in_ok-read.ensures.counted) }
+    record { exact = (answers_all (call_arguments names Ss c.args.bytes.now) _ (joined c.in_ok-read.read.items) (worded ∙ c.in_ok-read.ensures.gives) (c.in_ok-end.ensures.ends names), c.in_ok-read.ensures.counted, c.in_ok-read.ensures.trees) }
