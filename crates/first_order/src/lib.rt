@@ -16,6 +16,7 @@
 
 mod arguments;
 pub mod faults;
+pub mod given;
 pub mod laws;
 pub mod reading;
 pub mod searching;
