@@ -1,19 +1,19 @@
 -- How `call` ends after the check: main's signature, the text of the arguments, erasure, the passes, the storing of the arguments, the run of the module, and the text of its answer. The input is the text
 -- of an environment and behind it that of the arguments.
-use Rattle.std.specs.Prelude.{ℕ, ◌≡◌, ◌≢◌, ◌⊎◌, List, Option, None, IsTrue, Result, Ok, Err}
+use Rattle.std.specs.Prelude.{ℕ, ◌≡◌, ◌≢◌, ◌⊎◌, List, length, IsTrue, Result, Ok, Err}
 use Rattle.dump_reader.specs.Front.{front_length}
 use Rattle.pc_rules.specs.declared.meter.Account.{Account}
 use Rattle.first_order.specs.declared.shapes.Signature.{Signature}
 use Rattle.first_order.specs.declared.shapes.Shape.{Shape}
 use Rattle.first_order.specs.declared.faults.ArgsFault.TheVariants as texts
-use Rattle.first_order.specs.ReadArguments.{ArgumentsAre, ArgumentsFail}
+use Rattle.first_order.specs.Awaited.{ArgumentReading, ArgumentsAre, ArgumentsFail, argument_sets, arguments_from, joined}
 use Rattle.wasm_core.specs.declared.ended.TrapKind.{TrapKind}
 use Rattle.wasm_core.specs.Parts.{Parts}
 use Rattle.wasm_core.specs.ModuleTyping.{IsValid}
 use Rattle.wasm_core.specs.WordData.{DataNodes}
 use Rattle.module_run.specs.declared.answer.Answer.{Answer as Answered}
 use Rattle.module_run.specs.declared.refusal.RunRefusal.TheVariants as running
-use Rattle.module_run.specs.CallEnds.{CallEnds, CallIsExhausted, start_with, store_with}
+use Rattle.module_run.specs.CallEnds.{CallEnds, LacksRoom, start_with}
 use Rattle.module_run.specs.Ends.{IsSmall, IsTrappedFrom}
 use Rattle.dump_reader.specs.declared.environment.RawEnv.{RawEnv}
 use Rattle.driver.specs.declared.refusal.Refusal.{Refusal}
@@ -27,19 +27,27 @@ use Rattle.driver.specs.CallStages.{SignatureSays, Signing, CallErasing, CallCom
 
 -- ---- what each stage says
 
--- the text behind the environment, along the signature: the arguments' data, or the first token that refuses it
+-- what the text behind the environment is read as, along the signature
+abbrev pub arguments_read : List ℕ → Signature → (names : List (List ℕ)) → ArgumentReading
+arguments_read bytes s names = arguments_from names (argument_sets s.args) bytes (front_length bytes)
+
+-- it spells these arguments, one for each of the signature's
+abbrev pub AreRead : List ℕ → Signature → (names : List (List ℕ)) → List DataNodes → Type 0
+AreRead bytes s names ds = (arguments_read bytes s names ≡ ArgumentsAre (joined ds)) × (length ds ≡ length s.args)
+
+-- that, or the first token that refuses it
 abbrev pub ArgumentsSay : List ℕ → Signature → (names : List (List ℕ)) → Result (List DataNodes) Refusal → Type 0
-ArgumentsSay bytes s names (Ok ds) = ArgumentsAre bytes (front_length bytes) s names ds
-ArgumentsSay bytes s names (Err (refusals.Argument (arguments.Syntax o))) = ArgumentsFail bytes (front_length bytes) s names (texts.Syntax o)
-ArgumentsSay bytes s names (Err (refusals.Argument arguments.Nesting)) = ArgumentsFail bytes (front_length bytes) s names texts.Nesting
-ArgumentsSay bytes s names (Err (refusals.Argument arguments.NameBytes)) = ArgumentsFail bytes (front_length bytes) s names texts.NameBytes
-ArgumentsSay bytes s names (Err (refusals.Argument (arguments.Wrong o))) = ArgumentsFail bytes (front_length bytes) s names (texts.Wrong o)
+ArgumentsSay bytes s names (Ok ds) = AreRead bytes s names ds
+ArgumentsSay bytes s names (Err (refusals.Argument (arguments.Syntax o))) = arguments_read bytes s names ≡ ArgumentsFail (texts.Syntax o)
+ArgumentsSay bytes s names (Err (refusals.Argument arguments.Nesting)) = arguments_read bytes s names ≡ ArgumentsFail texts.Nesting
+ArgumentsSay bytes s names (Err (refusals.Argument arguments.NameBytes)) = arguments_read bytes s names ≡ ArgumentsFail texts.NameBytes
+ArgumentsSay bytes s names (Err (refusals.Argument (arguments.Wrong o))) = arguments_read bytes s names ≡ ArgumentsFail (texts.Wrong o)
 ArgumentsSay bytes s names (Err refusals.Memory) = Unit {0}
 ArgumentsSay bytes s names (Err _) = ⊥
 
 -- there is no room for the arguments; or the run trapped with the status 1, after a grow of memory was refused
 abbrev pub CallHasNoMemory : Parts → (pages steps : ℕ) → List DataNodes → Type 0
-CallHasNoMemory m pages steps args = (store_with m pages args ≡ None) ⊎ ((kind : TrapKind) × (x : IsTrappedFrom (start_with m pages args) m pages steps kind 1) × IsTrue x.store.refused)
+CallHasNoMemory m pages steps args = LacksRoom m pages args ⊎ ((kind : TrapKind) × (x : IsTrappedFrom (start_with m pages args) m pages steps kind 1) × IsTrue x.store.refused)
 
 -- the call of the module's main with these arguments, in at most so many steps
 abbrev pub CallSays : Parts → (pages steps : ℕ) → List DataNodes → Result Answered Refusal → Type 0
@@ -59,7 +67,7 @@ CallSays m pages steps args (Err _) = ⊥
 pub record ReadingArguments (turns : ℕ) (e : RawEnv) (bytes : List ℕ) : Type 0 where
   pub before : Signing turns e
   pub arguments : List DataNodes
-  pub read : ArgumentsAre bytes (front_length bytes) before.signature e.names arguments
+  pub read : AreRead bytes before.signature e.names arguments
 
 -- the call answers data
 pub record CallAnswering (turns : ℕ) (e : RawEnv) (bytes : List ℕ) (pages steps : ℕ) : Type 0 where

@@ -1,5 +1,5 @@
 -- The answer of `call`: the text of the data that a call of main's module answers; and to which status it comes.
-use Rattle.std.specs.Prelude.{ℕ, ◌≡◌, ◌≢◌, ◌⊎◌, List, Result, Ok, Err}
+use Rattle.std.specs.Prelude.{ℕ, ◌≡◌, ◌≢◌, ◌⊎◌, List, Result}
 use Rattle.dump_reader.specs.Front.{front_bytes}
 use Rattle.wasm_core.specs.ModuleGrammar.{SpellsModule}
 use Rattle.wasm_core.specs.ModuleTyping.{IsValid}

@@ -25,6 +25,7 @@ pub mod ByHistory
 pub mod PlainAnswer
 pub mod MainModule
 pub mod ExportSays
+pub mod CalledMain
 pub mod Promises
 pub mod Served
 pub mod Shallow

@@ -1,12 +1,10 @@
 //! The job `call`: from the bytes of a dump and of arguments behind it to the text of what main's module answers to them. `called_main` has the stages to the module; then come its call (`called`) and the
 //! text of the answer (`line_of`).
-ghost use Rattle.std.specs.Prelude.{◌≡◌, ◌<◌, ◌≤◌, IfOk, List, OnOk};
-ghost use Rattle.lambda_box.specs.BoxForm.{IsBoxProgram};
-ghost use Rattle.lambda_box.specs.BoxProgram.{BoxProgram as Program};
-ghost use Rattle.mem_value.specs.StoredValues.{AreSmall};
+ghost use Rattle.std.specs.Prelude.{IfOk, OnOk};
+ghost use Rattle.mem_value.specs.Storing.{IsSmallData};
+ghost use Rattle.wasm_core.specs.ModuleCondition.{All as Each};
 ghost use Rattle.wasm_core.specs.ModuleGrammar.{SpellsModule};
 ghost use Rattle.wasm_core.specs.ShortestBytes.{module_bytes};
-ghost use Rattle.compile.specs.Passes.{Fits};
 ghost use Rattle.module_run.specs.CallFacts.{CallRunIsTold};
 ghost use Rattle.command_line.specs.declared.job.Job.TheVariants.{Call};
 ghost use Rattle.command_line.specs.Line.{IsInRange};
@@ -36,7 +34,7 @@ fn called<R: Report>(
 ) -> Result<Answer, Refusal>
     requires range { IsInRange request }
     requires compiled { IsCallCompiled module.now request.pages }
-    requires small { AreSmall arguments.now }
+    requires small { Each IsSmallData arguments.now }
     ensures says { CallSays module.now request.pages request.steps arguments.now result }
     ensures spelled { IfOk result (λ _. SpellsModule (module_bytes module.now) module.now) }
     ensures told { OnOk result (CallRunIsTold R.shown module.now request.pages request.steps arguments.now reports.old.items reports.new.items) }

@@ -1,11 +1,9 @@
 //! Main's module for calls and the arguments of an input: the stages of `call` before the module's bytes.
-ghost use Rattle.std.specs.Prelude.{◌≡◌, OnOk};
-ghost use Rattle.first_order.specs.DirectedSignature.{AreAllNamed};
-ghost use Rattle.first_order.specs.Texts.{HasNames};
+ghost use Rattle.std.specs.Prelude.{◌≡◌, ◌≤◌, OnOk, length};
 ghost use Rattle.dump_reader.specs.Front.{front_length};
 ghost use Rattle.command_line.specs.Line.{IsInRange};
 ghost use Rattle.driver.specs.CallEnds.{ArgumentsSay};
-ghost use Rattle.driver.specs.CalledMain.{CalledMainSays, HaveNames};
+ghost use Rattle.driver.specs.CalledMain.{CalledMainSays};
 ghost use Rattle.driver.specs.JobFacts.{FrontIsTold};
 
 use crate::callable::{call_compiled, count_arguments, signature_of};
@@ -17,7 +15,7 @@ use data_trees::Data;
 use dump_reader::environment::RawEnv;
 use dump_reader::names::Names;
 use dump_reader::reading::read_call;
-use first_order::arguments_read::read_args;
+use first_order::given::read_args;
 use first_order::faults::ArgsFault;
 use first_order::shapes::Signature;
 use reports::Report;
@@ -46,7 +44,7 @@ fn arguments_of(
     names: &Names,
 ) -> Result<Vec<Data>, Refusal>
     requires from { from ≡ front_length bytes.now }
-    requires named { HaveNames signature.now names.now }
+    requires within { from ≤ length bytes.now }
     ensures says { ArgumentsSay bytes.now signature.now names.now result }
 {
     match read_args(alloc, bytes, from, signature, names) {

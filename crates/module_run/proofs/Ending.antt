@@ -76,6 +76,11 @@ module _ (o : Option State) (m : Parts) (cap n : ℕ) (small : IsSmall m) (a : M
     no_answer refusals.Exhausted t = absurd t
     no_answer (refusals.Trapped kind) t = absurd t
 
+    -- an answer, without the figures
+    pub answer_ends : (r : Result Answer RunRefusal) → AnswerSays a r → EndsFrom o m cap n r
+    answer_ends (Ok x) t = (small, (answer_measured x t _ _ _ refl refl refl).answered)
+    answer_ends (Err x) t = no_answer x t
+
     -- the exit of a `?` after the machine's word
     pub exit_answer : (r : Result Measured RunRefusal) (x : RunRefusal) → (y : RunRefusal) × (r ≡ Err y) × (y ≡ x) → AnswerSays a (Err x) → FigureSaysFrom o m cap n r
     exit_answer r x (y, is, same) h = subst (FigureSaysFrom o m cap n) (sym (is ∙ ap Err same)) (no_answer x h)

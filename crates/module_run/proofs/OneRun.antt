@@ -7,7 +7,7 @@ use Rattle.wasm_core.specs.MachineStep.{State, Store, At, Over}
 use Rattle.wasm_core.specs.MachineRun.{GoesOn}
 use Rattle.wasm_core.specs.Runs.{Moves, Move, main_start}
 use Rattle.wasm_core.proofs.Small.{inj}
-use Rattle.module_run.specs.Ends.{IsRun, IsLonger, IsRunFrom, IsLongerFrom}
+use Rattle.module_run.specs.Ends.{IsRun, IsRunFrom, IsLongerFrom}
 
 module _ (m : Parts) (cap : ℕ) where
   one_move : (s t u : State) → Move m cap s t → Move m cap s u → t ≡ u

@@ -1,10 +1,12 @@
 //! A call of a module's `main`: writing, reading, checking of the module, storing of the arguments, and the run.
 ghost use Rattle.std.specs.Prelude.{◌≡◌, None, IfOk, IfErr, OnOk};
-ghost use Rattle.mem_value.specs.StoredValues.{AreSmall, HasHeap};
+ghost use Rattle.mem_value.specs.Storing.{IsSmallData};
+ghost use Rattle.wasm_core.specs.HostStore.{IsForCall};
+ghost use Rattle.wasm_core.specs.ModuleCondition.{All as Each};
 ghost use Rattle.wasm_core.specs.MachineRun.{IsFreshMachine, refusal_for_call};
 ghost use Rattle.wasm_core.specs.ModuleGrammar.{SpellsModule};
 ghost use Rattle.wasm_core.specs.ShortestBytes.{module_bytes};
-ghost use Rattle.module_run.specs.CallEnds.{CallEnds, HostSays};
+ghost use Rattle.module_run.specs.CallEnds.{CallEnds, HasHeapAtStart, HostSays};
 ghost use Rattle.module_run.specs.CallFacts.{CallRunIsTold};
 ghost use Rattle.module_run.specs.Ends.{IsSmall};
 ghost use Rattle.module_run.specs.declared.refusal.RunRefusal.TheVariants.{Memory};
@@ -27,6 +29,7 @@ fn started_for_call<'m>(
 ) -> Result<Machine<'m>, RunRefusal>
     requires starts { refusal_for_call program.now cap ≡ None }
     ensures fresh { IfOk result (λ a. IsFreshMachine program.now cap a) }
+    ensures for_call { IfOk result (λ a. IsForCall a.program) }
     ensures only_memory { IfErr result (λ e. e ≡ Memory) }
 {
     match Machine::new_call(alloc, program, cap) {
@@ -49,8 +52,8 @@ fn hosted<'m>(
     cap: u32,
 ) -> Result<Machine<'m>, RunRefusal>
     requires starts { refusal_for_call program.now cap ≡ None }
-    requires heap { HasHeap program.now }
-    requires small { AreSmall arguments.now }
+    requires heap { HasHeapAtStart program.now }
+    requires small { Each IsSmallData arguments.now }
     ensures says { HostSays program.now cap arguments.now result }
 {
     let mut machine = started_for_call(alloc, program, cap)?;
@@ -72,8 +75,8 @@ fn run_call<R: Report>(
     reports: &mut Vec<R>,
 ) -> Result<Answer, RunRefusal>
     requires starts { refusal_for_call program.now cap ≡ None }
-    requires heap { HasHeap program.now }
-    requires small_data { AreSmall arguments.now }
+    requires heap { HasHeapAtStart program.now }
+    requires small_data { Each IsSmallData arguments.now }
     requires small { IsSmall program.now }
     ensures says { CallEnds program.now cap steps arguments.now result }
     ensures told { OnOk result (CallRunIsTold R.shown program.now cap steps arguments.now reports.old.items reports.new.items) }
@@ -97,8 +100,8 @@ pub fn answer_of_call<R: Report>(
     reports: &mut Vec<R>,
 ) -> Result<Answer, RunRefusal>
     requires starts { refusal_for_call m.now cap ≡ None }
-    requires heap { HasHeap m.now }
-    requires small_data { AreSmall arguments.now }
+    requires heap { HasHeapAtStart m.now }
+    requires small_data { Each IsSmallData arguments.now }
     ensures says { CallEnds m.now cap steps arguments.now result }
     ensures told { OnOk result (CallRunIsTold R.shown m.now cap steps arguments.now reports.old.items reports.new.items) }
     ensures spelled { IfOk result (λ _. SpellsModule (module_bytes m.now) m.now) }
