@@ -78,12 +78,12 @@ cd .. || exit 2
 
 # ------------------------------------------------------------------ examples
 
-# The dumps of examples/ that come from here, and their values by Coq, are those that are written today.
+# The dumps of examples/ that come from here, and their values by Coq, or their answers to some calls, are those that are written today.
 cd ../examples || exit 2
 ln -sfn ../tests/out out
 for file in *.v; do
   compile "$file"
-  for text in "${file%.v}.dump" "${file%.v}.value"; do
+  for text in "${file%.v}.dump" "${file%.v}.value" "${file%.v}.answers"; do
     [ -e "../../examples/$text" ] || [ -e "out/$text" ] || continue
     if cmp -s "out/$text" "../../examples/$text"; then pass; else fail "examples/$text isn't what $file gives now"; fi
   done
