@@ -1,16 +1,16 @@
-// Tests of the reader: `node --test hosts/javascript/test.mjs`. Modules that are written out here show each error; with ERASEC, the program, its modules of examples/ and of the folders of
-// ERASEC_CASES are run too, and each text is compared with that of `erasec exec`.
+// Tests of the host: `node --test hosts/javascript/test.mjs`. Modules that are written out here show each error; the calculator is called as in its source; with the program, its modules of
+// examples/ and of the folders of ERASEC_CASES are run too, and each text is compared with that of `erasec exec` (../programs.mjs).
 import { test } from "node:test";
 import assert from "node:assert/strict";
-import { execFileSync, spawnSync } from "node:child_process";
-import { existsSync, readFileSync, readdirSync } from "node:fs";
-import { basename, join } from "node:path";
-import { fileURLToPath } from "node:url";
+import { spawnSync } from "node:child_process";
+import { readFileSync } from "node:fs";
+import { join } from "node:path";
 import * as erasec from "./erasec.mjs";
-import { runLimited } from "./limited.mjs";
+import { runLimited, textLimited } from "./limited.mjs";
+import { kindOf, notation, parseArguments } from "./notation.mjs";
+import { TOP, calculator, listText, programs, skipsPrograms, typesOfDump } from "../programs.mjs";
 
 const { Data, N, Z, ascii, bool, bytes, list, load, nat, option, positive, prod, readData, string } = erasec;
-const TOP = fileURLToPath(new URL("../..", import.meta.url));
 const NAT = "nat=O,S:nat";
 const LIST = `list=nil,cons:nat+list ${NAT}`;
 
@@ -111,11 +111,11 @@ test("arguments that aren't main's are found", async () => {
 });
 
 test("arguments are read of their text", () => {
-  for (const text of ["O nil", "(S (S O)) (cons O (cons (S O) nil))"]) assert.equal(erasec.parseArguments(text, PAIR).join(" "), text);
-  assert.deepEqual(erasec.parseArguments(" ( S;x\nO)nil\t", PAIR).map(String), ["(S O)", "nil"]);
-  assert.equal(nat.of(erasec.parseArguments("(S ".repeat(10_000) + "O" + ")".repeat(10_000), "nat->nat nat=O,S:nat")[0]), 10_000);
+  for (const text of ["O nil", "(S (S O)) (cons O (cons (S O) nil))"]) assert.equal(parseArguments(text, PAIR).join(" "), text);
+  assert.deepEqual(parseArguments(" ( S;x\nO)nil\t", PAIR).map(String), ["(S O)", "nil"]);
+  assert.equal(nat.of(parseArguments("(S ".repeat(10_000) + "O" + ")".repeat(10_000), "nat->nat nat=O,S:nat")[0]), 10_000);
   for (const [text, offset] of [["", 0], ["O", 1], ["O nil O", 6], ["S nil", 0], ["(S) nil", 2], ["(O O) nil", 3], ["(S O", 4], ["(S O O) nil", 5], ["(cons O) nil", 1], ["O (cons O)", 9], ["O )", 2], ["O ((", 3], ["O ?", 2], ["O (", 3], ["true nil", 0]]) {
-    assert.throws(() => erasec.parseArguments(text, PAIR), { name: "BadArgument", message: new RegExp(`^argument at ${offset}:`) }, text);
+    assert.throws(() => parseArguments(text, PAIR), { name: "BadArgument", message: new RegExp(`^argument at ${offset}:`) }, text);
   }
 });
 
@@ -132,9 +132,23 @@ test("an instance runs as often as its memory lasts", async () => {
   for (let i = 0; i < 2; i++) assert.throws(() => ended.run(nat.data(0), numbers), erasec.Trapped);
 });
 
+test("entries have the right types", async () => {
+  // a result of type f32, a main with a parameter, and one with a result
+  const float = written({ result: 1 }), parameter = written({}), result = written({ code: constant(1) });
+  const spliced = (module, ...changes) => { for (const [from, to] of changes) { const at = Buffer.from(module).indexOf(Buffer.from(from)); module.splice(at, from.length, ...to); } return Uint8Array.from(module); };
+  const FLOAT = spliced([...float], [[0x7f, 1, 0x41, 1, 0x0b], [0x7d, 1, 0x43, 0, 0, 0, 0, 0x0b]], [[6, 21], [6, 24]]);
+  const PARAMETER = spliced([...parameter], [[1, 4, 1, 0x60, 0, 0], [1, 5, 1, 0x60, 1, 0x7f, 0]]);
+  const RESULT = spliced([...result], [[1, 4, 1, 0x60, 0, 0], [1, 5, 1, 0x60, 0, 1, 0x7f]]);
+  for (const module of [FLOAT, PARAMETER, RESULT]) {
+    assert.ok(WebAssembly.validate(module));
+    assert.throws(() => new erasec.Program(new WebAssembly.Module(module), NAT).run(), erasec.BadModule);
+  }
+});
+
 test("a module for calls has two more entries", async () => {
   for (const entries of [CALLABLE.slice(0, 4), CALLABLE.slice(0, 5)]) await assert.rejects(answerOf({ ...answersArgument(0), entries }, PAIR, nat.data(0), list(nat).data([])), erasec.BadModule);
   await assert.rejects(answerOf({ mutable: 0 }, NAT), erasec.BadModule);
+  for (const heap of [2, 65_540, -4]) await assert.rejects(answerOf({ ...answersArgument(0), heap }, PAIR, nat.data(0), list(nat).data([])), erasec.BadModule);
 });
 
 test("a text of types is checked", () => {
@@ -142,6 +156,26 @@ test("a text of types is checked", () => {
     assert.throws(() => new erasec.Types(text), erasec.BadTypes, text);
   }
   assert.equal(new erasec.Types(["list=nil,cons:nat+list\n", NAT]).main, "list");
+});
+
+test("data in short is read and written", () => {
+  const COQ = "list=nil,cons:nat+list nat=O,S:nat positive=xI:positive,xO:positive,xH N=N0,Npos:positive Z=Z0,Zpos:positive,Zneg:positive bool=true,false ascii=Ascii:bool+bool+bool+bool+bool+bool+bool+bool string=EmptyString,String:ascii+string pair=pair:list-2+option list-2=nil,cons:Z+list-2 option=Some:string,None";
+  const kinds = ["list", "nat", "positive", "N", "Z", "bool", "ascii", "string"];
+  for (const kind of kinds) assert.equal(kindOf(COQ, kind), kind);
+  assert.deepEqual([kindOf(COQ, "pair"), kindOf(COQ, "list-2"), kindOf("nat=S:nat,O", "nat"), kindOf("list=nil,cons:list", "list")], [undefined, "list", undefined, undefined]);
+  for (const [type, text, long] of [["nat", "2", "(S (S O))"], ["positive", "6", "(xO (xI xH))"], ["N", "0", "N0"], ["Z", "-3", "(Zneg (xI xH))"], ["bool", "true", "true"], ["list", "[0, 1]", "(cons O (cons (S O) nil))"],
+    ["list", "[]", "nil"], ["ascii", '"a"', "(Ascii true false false false false true true false)"], ["string", '""', "EmptyString"], ["pair", '(pair [-1, 0] (Some "\\"\u00fc\\n"))', null], ["pair", "(pair [] None)", "(pair nil None)"],
+    ["ascii", "(Ascii true false false true false false false false)", undefined], ["string", "(String (Ascii true true true true true true true true) EmptyString)", undefined]]) {
+    const [data] = parseArguments(text, `${type}->nat ${COQ}`);
+    assert.equal(notation(data, COQ, type), text);
+    if (long !== null) assert.equal(String(data), long ?? text);
+    assert.deepEqual(parseArguments(String(data), `${type}->nat ${COQ}`), [data]);
+  }
+  assert.equal(notation(list(nat).data(new Array(200_000).fill(1)), COQ, "list").length, 600_000);
+  for (const [type, text, offset] of [["nat", "-1", 0], ["nat", "1.5", 0], ["positive", "0", 0], ["bool", "1", 0], ["string", "a", 0], ["string", '"\\x"', 0], ["string", '"\\ud800"', 0], ["string", '"a', 0], ["ascii", '"ab"', 0],
+    ["ascii", '"\u00fc"', 0], ["nat", '"1"', 0], ["nat", "[1]", 0], ["list", "[1", 2], ["list", "[1)", 2], ["list", "(cons 1 ]", 8], ["list", "[nil]", 1], ["list", "()", 1], ["list", "(nil)", 4], ["pair", "pair", 0]]) {
+    assert.throws(() => parseArguments(text, `${type}->nat ${COQ}`), { name: "BadArgument", message: new RegExp(`^argument at ${offset}:`) }, text);
+  }
 });
 
 test("a Worker has a time limit", async () => {
@@ -153,6 +187,19 @@ test("a Worker has a time limit", async () => {
   assert.equal(String(await runLimited(written(answersArgument(1)), PAIR, 10_000, nat.data(300), list(nat).data([1]))), "(cons (S O) nil)");
   await assert.rejects(runLimited(written({ ...answersArgument(1), code: FOREVER }), PAIR, 500, nat.data(300), list(nat).data([1])), erasec.OutOfTime);
   await assert.rejects(runLimited(written(answersArgument(1)), PAIR, 10_000, nat.data(300)), erasec.BadArgument);
+  await assert.rejects(runLimited(Uint8Array.of(1), NAT, 10_000), erasec.BadModule);
+});
+
+test("a Worker reads and writes texts", async () => {
+  assert.deepEqual(await textLimited(written(ONE_IN_A_LIST), LIST, 10_000), { count: 4, text: "(cons (S O) nil)", notation: "[1]" });
+  assert.equal((await textLimited(written(answersArgument(1)), PAIR, 10_000, "0 [7, 1]")).notation, "[7, 1]");
+  for (const [module, types, text, kind] of [[written(answersArgument(1)), PAIR, "0", erasec.BadArgument], [written(answersArgument(1)), "nat->", "0", erasec.BadTypes], [written({ result: 2 }), NAT, "", erasec.NotData],
+    [written({ words: [65536 + 1, 4], result: 4 }), NAT, "", erasec.TooLarge], [written({ code: FOREVER }), NAT, "", erasec.OutOfTime]]) {
+    await assert.rejects(textLimited(module, types, kind === erasec.OutOfTime ? 500 : 10_000, text), kind);
+  }
+  const stop = new AbortController();
+  setTimeout(() => stop.abort(), 100);
+  await assert.rejects(textLimited(written({ code: FOREVER }), NAT, 60_000, "", stop.signal), erasec.OutOfTime);
 });
 
 test("conversions go both ways", () => {
@@ -174,7 +221,8 @@ test("conversions go both ways", () => {
 });
 
 test("what can't be converted is refused", () => {
-  for (const [conversion, value] of [[nat, -1], [nat, 1.5], [positive, 0], [Z, "1"], [ascii, 256], [bool, 1], [list(nat), 1], [prod(nat, nat), [1]], [option(nat), 1], [string, 1]]) {
+  for (const [conversion, value] of [[nat, -1], [nat, 1.5], [positive, 0], [Z, "1"], [ascii, 256], [bool, 1], [list(nat), 1], [prod(nat, nat), [1]], [option(nat), 1], [string, 1], [string, "\ud800"], [bytes, 5], [bytes, "a"], [bytes, null],
+    [bytes, [256]], [list(nat), null], [prod(nat, nat), null], [option(nat), undefined]]) {
     assert.throws(() => conversion.data(value), erasec.NotConvertible, String(value));
   }
   for (const [conversion, data] of [[nat, new Data("cons", 1, [nat.data(0), nat.data(0)])], [bool, nat.data(1)], [list(nat), new Data("nil", 2)], [prod(nat, nat), nat.data(1)], [ascii, nat.data(0)]]) {
@@ -195,23 +243,28 @@ test("tools/read-answer.mjs tells causes by its status", () => {
 
 // ------------------------------------------------------------------ modules of the program
 
-const program = process.env.ERASEC ?? join(TOP, "crates/erasec/out/erasec");
-const folders = [join(TOP, "examples"), ...(process.env.ERASEC_CASES ?? "").split(":").filter(Boolean)];
-const dumps = folders.flatMap((folder) => readdirSync(folder).filter((it) => it.endsWith(".dump")).map((it) => join(folder, it)));
+test("the calculator answers each call as Coq does", async () => {
+  const types = readFileSync(calculator.types, "utf8");
+  assert.equal(types, typesOfDump(calculator.dump));
+  const program = await load(readFileSync(calculator.module), types);
+  const session = program.open();
+  for (const run of [(it) => program.run(string.data(it)), (it) => session.run(string.data(it))]) {
+    assert.equal(listText(calculator.strings.map((it) => String(run(it)))), calculator.answers);
+  }
+  const told = async (it) => (await textLimited(readFileSync(calculator.module), types, 10_000, JSON.stringify(it))).notation;
+  assert.equal(await told("2 + (3 + 1) * 4"), "(equals 18)");
+  assert.equal(await told("100 - 2*-3"), '(stuck_at "-3")');
+  // as deep as the text is long: beyond the stack of the main thread, and within that of a Worker in node
+  const deep = "(".repeat(20_000) + "7" + ")".repeat(20_000);
+  assert.throws(() => program.run(string.data(deep + "\u00fc")), erasec.StackExhausted);
+  assert.equal(await told(deep + "\u00fc"), '(stuck_at "\u00fc")');
+});
 
-test("each example and case gives the text of exec", { skip: existsSync(program) ? false : "the program isn't built" }, async () => {
-  const ran = (job, input) => spawnSync(program, [job, "--turns", "4294967295", "--steps", "30000000"], { input, maxBuffer: 1 << 28 });
+test("each example and case gives the text of exec", { skip: skipsPrograms }, async () => {
   let answered = 0;
-  for (const dump of dumps) {
-    const input = readFileSync(dump);
-    const wanted = ran("exec", input);
-    // no data, or a run that needn't end (a false axiom)
-    if (wanted.status === 10 || wanted.status === 12) continue;
-    assert.equal(wanted.status, 0, basename(dump));
-    const types = execFileSync(join(TOP, "tools/types-of"), [dump], { encoding: "utf8" });
-    const answer = (await load(ran("compile", input).stdout, types)).run();
-    assert.equal(`${answer}\n`, wanted.stdout.toString(), basename(dump));
+  for (const { name, module, types, text } of programs()) {
+    assert.equal(String((await load(module, types)).run()), text, name);
     answered++;
   }
-  console.log(`${answered} of ${dumps.length} dumps have an answer`);
+  console.log(`${answered} dumps have an answer`);
 });
