@@ -317,6 +317,7 @@ function instanceOf({ module, types }) {
   for (const [name, isEntry] of types.args.length ? CALL_ENTRIES : ENTRIES) {
     if (!isEntry(entries[name])) throw new BadModule(`the module has no entry ${name}`);
   }
+  if (!types.args.length && "args" in entries) throw new BadModule("the module's main takes arguments, and by its types it takes none");
   return entries;
 }
 

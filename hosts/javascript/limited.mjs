@@ -3,7 +3,7 @@ import * as erasec from "./erasec.mjs";
 
 const WORKER = new URL("./worker.mjs", import.meta.url);
 // megabytes of stack of a Worker in node, which a program's recursion needs; browsers let nobody choose
-const STACK = 256;
+const STACK = 64;
 
 /** A Worker with one way to listen, as browsers have it. */
 async function newWorker() {

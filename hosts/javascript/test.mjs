@@ -8,6 +8,7 @@ import { join } from "node:path";
 import * as erasec from "./erasec.mjs";
 import { runLimited, textLimited } from "./limited.mjs";
 import { kindOf, notation, parseArguments } from "./notation.mjs";
+import { CALLABLE, CALL_ITSELF, EXHAUSTED, FOREVER, ONE_IN_A_LIST, UNREACHABLE, answersArgument, constant, written } from "../written.mjs";
 import { TOP, calculator, listText, programs, skipsPrograms, typesOfDump } from "../programs.mjs";
 
 const { Data, N, Z, ascii, bool, bytes, list, load, nat, option, positive, prod, readData, string } = erasec;
@@ -15,32 +16,6 @@ const NAT = "nat=O,S:nat";
 const LIST = `list=nil,cons:nat+list ${NAT}`;
 
 // ------------------------------------------------------------------ modules written out
-
-const number = (n) => { const out = []; do { out.push((n & 127) | (n > 127 ? 128 : 0)); n >>>= 7; } while (n); return out; };
-const signed = (n) => { const out = []; for (;;) { const low = n & 127; n >>= 7; if ((n === 0 && !(low & 64)) || (n === -1 && low & 64)) return [...out, low]; out.push(low | 128); } };
-const named = (name) => [name.length, ...Buffer.from(name)];
-const section = (id, items) => { const body = [...number(items.length), ...items.flat()]; return [id, ...number(body.length), ...body]; };
-const constant = (n) => [0x41, ...signed(n)];
-
-/** A module whose main has this code, with words in memory from address 4, and words in result, status, heap and args; memory has one page, and so many at most. */
-function written({ code = [], words = [], result = 1, heap = 8, pages = 2, mutable = 1, entries = ["main", "memory", "result", "status"] }) {
-  const exports = { main: [0, 0], memory: [2, 0], result: [3, 0], status: [3, 1], heap: [3, 2], args: [3, 3] };
-  const data = words.flatMap((w) => [w & 255, (w >>> 8) & 255, (w >>> 16) & 255, w >>> 24]);
-  const body = [0, ...code, 0x0b];
-  return Uint8Array.from([0, 0x61, 0x73, 0x6d, 1, 0, 0, 0,
-    ...section(1, [[0x60, 0, 0]]), ...section(3, [[0]]), ...section(5, [[1, 1, pages]]),
-    ...section(6, [result, 0, heap, 0].map((it) => [0x7f, mutable, ...constant(it), 0x0b])),
-    ...section(7, entries.map((it) => [...named(it), ...exports[it]])),
-    ...section(10, [[...number(body.length), ...body]]),
-    ...section(11, [[0, ...constant(4), 0x0b, ...number(data.length), ...data]])]);
-}
-
-const CALLABLE = ["main", "memory", "result", "status", "heap", "args"];
-const answersArgument = (n) => ({ code: [0x23, 3, 0x28, 2, 4 * n, 0x24, 0], entries: CALLABLE });
-const UNREACHABLE = [0x00], CALL_ITSELF = [0x10, 0], FOREVER = [0x03, 0x40, 0x0c, 0, 0x0b];
-const EXHAUSTED = [...constant(1), 0x24, 1, ...UNREACHABLE];
-// cons 1 nil at 4, S O at 16
-const ONE_IN_A_LIST = { words: [2 * 65536 + 1, 16, 1, 65536 + 1, 1], result: 4 };
 
 const answerOf = async (module, types, ...args) => (await load(written(module), types)).run(...args);
 
@@ -148,6 +123,7 @@ test("entries have the right types", async () => {
 test("a module for calls has two more entries", async () => {
   for (const entries of [CALLABLE.slice(0, 4), CALLABLE.slice(0, 5)]) await assert.rejects(answerOf({ ...answersArgument(0), entries }, PAIR, nat.data(0), list(nat).data([])), erasec.BadModule);
   await assert.rejects(answerOf({ mutable: 0 }, NAT), erasec.BadModule);
+  await assert.rejects(answerOf(answersArgument(0), NAT), erasec.BadModule);
   for (const heap of [2, 65_540, -4]) await assert.rejects(answerOf({ ...answersArgument(0), heap }, PAIR, nat.data(0), list(nat).data([])), erasec.BadModule);
 });
 
@@ -182,7 +158,7 @@ test("a Worker has a time limit", async () => {
   assert.equal(String(await runLimited(written(ONE_IN_A_LIST), LIST, 10_000)), "(cons (S O) nil)");
   await assert.rejects(runLimited(written({ code: FOREVER }), NAT, 500), erasec.OutOfTime);
   await assert.rejects(runLimited(written({ code: EXHAUSTED }), NAT, 10_000), erasec.MemoryExhausted);
-  await assert.rejects(runLimited(written({ code: CALL_ITSELF }), NAT, 10_000), erasec.StackExhausted);
+  await assert.rejects(runLimited(written({ code: CALL_ITSELF }), NAT, 60_000), erasec.StackExhausted);
   await assert.rejects(runLimited(written(ONE_IN_A_LIST), NAT, 10_000), erasec.NotData);
   assert.equal(String(await runLimited(written(answersArgument(1)), PAIR, 10_000, nat.data(300), list(nat).data([1]))), "(cons (S O) nil)");
   await assert.rejects(runLimited(written({ ...answersArgument(1), code: FOREVER }), PAIR, 500, nat.data(300), list(nat).data([1])), erasec.OutOfTime);
