@@ -116,6 +116,9 @@ export class Data {
   }
 }
 
+/** Whether a value is Data whose parts have the right form; its arguments may be anything. */
+const isData = (it) => it instanceof Data && Number.isInteger(it.number) && Array.isArray(it.args);
+
 /** Reads the data that a word stands for in a memory, along the types. Every block's address, constructor and number of arguments is compared with them. */
 export function readData(buffer, word, types, type) {
   return dataOf(readNodes(buffer, word, types, type), types, type);
@@ -175,7 +178,7 @@ function nodesOf(args, { constructors, args: types }) {
   while (todo.length) {
     const { data, type, argument } = todo.pop();
     if (nodes.length === 2 * MAX_NODES) throw new TooLarge(`the arguments have more than ${MAX_NODES} nodes`);
-    if (!(data instanceof Data)) throw new BadArgument(`argument ${argument} holds ${String(data)}, which isn't data`);
+    if (!isData(data)) throw new BadArgument(`argument ${argument} holds ${data instanceof Data ? data.name : typeof data}, which isn't data`);
     const constructor = constructors.get(type)[data.number];
     if (!constructor) throw new BadArgument(`argument ${argument} holds constructor ${data.number} of ${type}, which has ${constructors.get(type).length || "none"}`);
     if (constructor.args.length !== data.args.length) throw new BadArgument(`argument ${argument} holds ${constructor.name} of ${type} with ${data.args.length} arguments, and it has ${constructor.args.length}`);
@@ -341,11 +344,11 @@ export async function load(bytes, types) {
 
 // ------------------------------------------------------------------ conversions
 
-const refuse = (what, value) => { throw new NotConvertible(`${value instanceof Data ? value.name : String(value)} isn't ${what}`); };
+const refuse = (what, value) => { throw new NotConvertible(`${value instanceof Data ? value.name : typeof value === "object" ? "an object" : String(value)} isn't ${what}`); };
 
 /** A constructor's number, where the data is one of a type with as many arguments for each constructor as listed. */
 function numberOf(data, what, counts) {
-  if (!(data instanceof Data) || counts[data.number] !== data.args.length) refuse(what, data);
+  if (!isData(data) || counts[data.number] !== data.args.length) refuse(what, data);
   return data.number;
 }
 

@@ -77,7 +77,8 @@ test("a compiled function adds", async () => {
 test("arguments that aren't main's are found", async () => {
   const program = await load(written(answersArgument(1)), PAIR);
   for (const given of [[], [nat.data(1)], [nat.data(1), list(nat).data([]), nat.data(1)], [bool.data(true), 5], [nat.data(1), nat.data(1)], [nat.data(1), new Data("red", 2)],
-    [nat.data(0), new Data("cons", 1, [nat.data(0)])], [nat.data(0), new Data("nil", 0, [nat.data(0)])], [1, list(nat).data([])]]) {
+    [nat.data(0), new Data("cons", 1, [nat.data(0)])], [nat.data(0), new Data("nil", 0, [nat.data(0)])], [1, list(nat).data([])],
+    [new Data("O", "0"), list(nat).data([])], [new Data("O", "length"), list(nat).data([])], [new Data("O", 0, null), list(nat).data([])], [Object.create(null), list(nat).data([])], [new Data("S", 1, new Array(1)), list(nat).data([])]]) {
     assert.throws(() => program.run(...given), erasec.BadArgument);
   }
   await assert.rejects(answerOf(ONE_IN_A_LIST, LIST, nat.data(1)), erasec.BadArgument);
@@ -201,8 +202,9 @@ test("what can't be converted is refused", () => {
     [bytes, [256]], [list(nat), null], [prod(nat, nat), null], [option(nat), undefined]]) {
     assert.throws(() => conversion.data(value), erasec.NotConvertible, String(value));
   }
-  for (const [conversion, data] of [[nat, new Data("cons", 1, [nat.data(0), nat.data(0)])], [bool, nat.data(1)], [list(nat), new Data("nil", 2)], [prod(nat, nat), nat.data(1)], [ascii, nat.data(0)]]) {
-    assert.throws(() => conversion.of(data), erasec.NotConvertible, String(data));
+  for (const [conversion, data] of [[nat, new Data("cons", 1, [nat.data(0), nat.data(0)])], [bool, nat.data(1)], [list(nat), new Data("nil", 2)], [prod(nat, nat), nat.data(1)], [ascii, nat.data(0)], [bool, new Data("x", "length", [nat.data(0), nat.data(0)])],
+    [nat, new Data("O", 0, null)], [nat, Object.create(null)], [nat, undefined]]) {
+    assert.throws(() => conversion.of(data), erasec.NotConvertible);
   }
   assert.throws(() => string.of(bytes.data([255])), erasec.NotConvertible);
   assert.throws(() => nat.data(4_000_000), erasec.TooLarge);
@@ -215,6 +217,8 @@ test("tools/read-answer.mjs tells causes by its status", () => {
   const read = run(join(TOP, "examples/one.wasm"), "two=a,b");
   assert.deepEqual([read.status, read.stdout], [0, "b\n"]);
   assert.equal(run(join(TOP, "examples/one.wasm"), "one=a").status, 15);
+  const add = (...words) => run(join(TOP, "examples/add.wasm"), "nat+nat->nat", NAT, "--", ...words);
+  assert.deepEqual([add("2", "1").status, add("(S (S O)) 1").stdout, add("2").status, add("500000 0").status, add("1 3999999").status], [0, "(S (S (S O)))\n", 16, 17, 7]);
 });
 
 // ------------------------------------------------------------------ modules of the program
