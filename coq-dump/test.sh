@@ -40,8 +40,10 @@ compile() {
 }
 
 cd "$here/tests" || exit 2
+"$erasec" export </dev/null >/dev/null 2>&1
+exports=$?
 for file in *.v; do
-  compile "$file"
+  if [ "$file" = exporting.v ] && [ "$exports" = 2 ]; then skipped=$((skipped + 1)); else compile "$file"; fi
 done
 for left in older late; do
   if [ -e "out/$left.dump" ]; then fail "a refusal left out/$left.dump"; else pass; fi
@@ -142,7 +144,10 @@ cd .. || exit 2
 
 if command -v node >/dev/null; then
   for module in out/*.wasm; do
-    answer=$(node "$here/../tools/read-answer.mjs" "$module" $(cat "${module%.wasm}.types") 2>out/err)
+    given=()
+    arguments=$(basename "${module%.wasm}").arguments
+    [ -f "$arguments" ] && given=(-- "$(cat "$arguments")")
+    answer=$(node "$here/../tools/read-answer.mjs" "$module" $(cat "${module%.wasm}.types") "${given[@]}" 2>out/err)
     if [ "$answer" = "$(cat "${module%.wasm}.value")" ]; then pass; else fail "node $module: $answer $(cat out/err)"; fi
   done
 else

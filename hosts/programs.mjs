@@ -1,7 +1,8 @@
 // The programs that the tests of both hosts run: modules that `erasec compile` makes of the dumps of examples/ and of the folders of ERASEC_CASES, with their types and the text of `erasec exec`;
-// and the calls of the calculator, with the answers that Coq gives. ERASEC names the program, which else is the one that was proved and built here.
+// and the calls of the calculator, with the answers that Coq gives. ERASEC names the program, which else is the one that was proved and built here, and ERASEC_MADE a folder in which what it
+// writes is kept, so that the second test finds it made.
 import { execFileSync, spawnSync } from "node:child_process";
-import { existsSync, readFileSync, readdirSync } from "node:fs";
+import { existsSync, readFileSync, readdirSync, writeFileSync } from "node:fs";
 import { basename, join } from "node:path";
 import { fileURLToPath } from "node:url";
 
@@ -19,18 +20,38 @@ const ran = (job, input) => spawnSync(ERASEC, [job, "--turns", "4294967295", "--
 /** What `tools/types-of` says of a dump. */
 export const typesOfDump = (file) => execFileSync(join(TOP, "tools/types-of"), [file], { encoding: "utf8" });
 
+/** What the program writes of a dump: module, types and text, or null where main is no data that `exec` answers. */
+function made(file) {
+  const input = readFileSync(file);
+  const { status, stdout, stderr } = ran("exec", input);
+  if (UNANSWERED.includes(status)) return null;
+  const compiled = ran("compile", input);
+  if (status !== 0 || compiled.status !== 0) throw new Error(`${file}: ${stderr}${compiled.stderr}`);
+  return { module: compiled.stdout, types: typesOfDump(file), text: stdout.toString().trimEnd() };
+}
+
+/** The same, kept in the folder under the dump's name. */
+function kept(file, name) {
+  if (!process.env.ERASEC_MADE) return made(file);
+  const at = (kind) => join(process.env.ERASEC_MADE, `${name}.${kind}`);
+  if (!existsSync(at("text"))) {
+    const { module = "", types = "", text = "" } = made(file) ?? {};
+    writeFileSync(at("wasm"), module);
+    writeFileSync(at("types"), types);
+    writeFileSync(at("text"), text);
+  }
+  const text = readFileSync(at("text"), "utf8");
+  return text ? { module: readFileSync(at("wasm")), types: readFileSync(at("types"), "utf8"), text } : null;
+}
+
 /** The dumps whose main is data that `exec` answers: each one's name, module, types and text. */
 export function* programs() {
   const folders = [join(TOP, "examples"), ...(process.env.ERASEC_CASES ?? "").split(":").filter(Boolean)];
   for (const folder of folders) {
-    for (const name of readdirSync(folder).filter((it) => it.endsWith(".dump"))) {
-      const file = join(folder, name);
-      const input = readFileSync(file);
-      const { status, stdout, stderr } = ran("exec", input);
-      if (UNANSWERED.includes(status)) continue;
-      const made = ran("compile", input);
-      if (status !== 0 || made.status !== 0) throw new Error(`${name}: ${stderr}${made.stderr}`);
-      yield { name: basename(file, ".dump"), module: made.stdout, types: typesOfDump(file), text: stdout.toString().trimEnd() };
+    for (const dump of readdirSync(folder).filter((it) => it.endsWith(".dump"))) {
+      const name = basename(dump, ".dump");
+      const program = kept(join(folder, dump), name);
+      if (program) yield { name, ...program };
     }
   }
 }

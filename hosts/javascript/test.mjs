@@ -210,6 +210,21 @@ test("what can't be converted is refused", () => {
   assert.throws(() => nat.data(4_000_000), erasec.TooLarge);
 });
 
+test("the types for TypeScript name what is exported", async () => {
+  for (const name of ["erasec", "limited", "notation"]) {
+    const text = readFileSync(new URL(`${name}.d.mts`, import.meta.url), "utf8");
+    const declared = [...text.matchAll(/^export declare (?:const|function|class) (\w+)/gm)].map((it) => it[1]);
+    assert.deepEqual(declared.sort(), Object.keys(await import(`./${name}.mjs`)).sort());
+  }
+});
+
+const tsc = spawnSync("tsc", ["--version"]).status === 0 ? false : "tsc isn't installed";
+
+test("they are right for a program that uses all of them", { skip: tsc }, () => {
+  const words = ["--noEmit", "--strict", "--target", "es2022", "--module", "nodenext", "--moduleResolution", "nodenext", "--lib", "es2022,dom", join(TOP, "hosts/javascript/sample.mts")];
+  assert.deepEqual([spawnSync("tsc", words, { encoding: "utf8" }).stdout], [""]);
+});
+
 test("tools/read-answer.mjs tells causes by its status", () => {
   const run = (...words) => spawnSync(process.execPath, [join(TOP, "tools/read-answer.mjs"), ...words], { encoding: "utf8" });
   assert.equal(run().status, 2);
