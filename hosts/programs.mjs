@@ -15,7 +15,8 @@ export const skipsPrograms = existsSync(ERASEC) ? false : "the program isn't bui
 // main isn't data, or its run needn't end (a false axiom)
 const UNANSWERED = [10, 12];
 
-const ran = (job, input) => spawnSync(ERASEC, [job, "--turns", "4294967295", "--steps", "30000000"], { input, maxBuffer: 1 << 28 });
+/** What a job of the program ends with. */
+export const ran = (job, input) => spawnSync(ERASEC, [job, "--turns", "4294967295", "--steps", "30000000"], { input, maxBuffer: 1 << 28 });
 
 /** What `tools/types-of` says of a dump. */
 export const typesOfDump = (file) => execFileSync(join(TOP, "tools/types-of"), [file], { encoding: "utf8" });

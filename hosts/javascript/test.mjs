@@ -9,7 +9,7 @@ import * as erasec from "./erasec.mjs";
 import { runLimited, textLimited } from "./limited.mjs";
 import { kindOf, notation, parseArguments } from "./notation.mjs";
 import { CALLABLE, CALL_ITSELF, EXHAUSTED, FOREVER, ONE_IN_A_LIST, UNREACHABLE, answersArgument, constant, written } from "../written.mjs";
-import { TOP, calculator, listText, programs, skipsPrograms, typesOfDump } from "../programs.mjs";
+import { TOP, calculator, listText, programs, ran, skipsPrograms, typesOfDump } from "../programs.mjs";
 
 const { Data, N, Z, ascii, bool, bytes, list, load, nat, option, positive, prod, readData, string } = erasec;
 const NAT = "nat=O,S:nat";
@@ -253,6 +253,15 @@ test("the calculator answers each call as Coq does", async () => {
   const deep = "(".repeat(20_000) + "7" + ")".repeat(20_000);
   assert.throws(() => program.run(string.data(deep + "\u00fc")), erasec.StackExhausted);
   assert.equal(await told(deep + "\u00fc"), '(stuck_at "\u00fc")');
+});
+
+test("the program exports these modules, and calls them with the same answers", { skip: skipsPrograms }, (t) => {
+  const dump = readFileSync(calculator.dump);
+  const exported = ran("export", dump);
+  if (exported.status === 2) return t.skip("the program has no such job yet");
+  assert.deepEqual(exported.stdout, readFileSync(calculator.module));
+  const called = calculator.strings.map((it) => ran("call", `${dump}(args ${string.data(it)})`));
+  if (called[0].status !== 2) assert.equal(listText(called.map((it) => it.stdout.toString().trimEnd())), calculator.answers);
 });
 
 test("each example and case gives the text of exec", { skip: skipsPrograms }, async () => {
