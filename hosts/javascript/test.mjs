@@ -74,6 +74,17 @@ test("a compiled function adds", async () => {
   assert.throws(() => add.run(nat.data(1), nat.data(3_999_999)), erasec.TooLarge);
 });
 
+test("a compiled function uses its memory up, by arguments or in its run", async () => {
+  const add = await load(readFileSync(join(TOP, "examples/add.wasm")), "nat+nat->nat nat=O,S:nat");
+  const seen = new Set();
+  for (let n = 5_000; seen.size < 2 && n > 4_000; n -= 100) {
+    const session = add.open();
+    const exhausted = (error) => error instanceof erasec.MemoryExhausted && seen.add(error.message);
+    assert.throws(() => { for (;;) assert.equal(nat.of(session.run(nat.data(n), nat.data(0))), n); }, exhausted);
+  }
+  assert.equal(seen.size, 2);
+});
+
 test("arguments that aren't main's are found", async () => {
   const program = await load(written(answersArgument(1)), PAIR);
   for (const given of [[], [nat.data(1)], [nat.data(1), list(nat).data([]), nat.data(1)], [bool.data(true), 5], [nat.data(1), nat.data(1)], [nat.data(1), new Data("red", 2)],
