@@ -16,7 +16,7 @@ use Rattle.calculus_rules.specs.Lookups.{family_of}
 use Rattle.pc_rules.specs.DirectedWeakHead.{weak_next}
 use Rattle.calculus_rules.specs.Listed.{list_of}
 use Rattle.pc_rules.specs.DirectedTyping.{Typing}
-use Rattle.pc_rules.specs.DirectedErasable.{Ending, ending_on, end_of, ends_in_sort, arity_found, type_test, numbered_test, constructor_test, match_test, erasable_test}
+use Rattle.pc_rules.specs.DirectedErasable.{TypeEnding, ending_on, end_of, ends_in_sort, arity_found, type_test, numbered_test, constructor_test, match_test, erasable_test}
 use Rattle.calculus_rules.specs.PropSorts.{is_prop}
 use Rattle.agreeing.proofs.Agree.{IsAgreeing, agree_done, agree_passing, agree_spent, agree_with_spent, agree_if, agree_bind, agree_ticking}
 use Rattle.agreeing.proofs.AgreeTyping.{AgreeTyping, agree_sort_of}
@@ -26,7 +26,7 @@ agree_ending_on : (o : Option Term) (stay stay' : Account → Run Bool) (go go' 
 agree_ending_on None stay stay' go go' p q = p
 agree_ending_on (Some t) stay stay' go go' p q = agree_ticking _ _ (agree_bind _ _ _ _ (agree_passing (is_beyond t)) (λ x. q t))
 
-agree_end_of : (E : Env) (go go' : Ending) → ((c : Context) (t : Term) → IsAgreeing (go c t) (go' c t)) → (c : Context) (t : Term) →
+agree_end_of : (E : Env) (go go' : TypeEnding) → ((c : Context) (t : Term) → IsAgreeing (go c t) (go' c t)) → (c : Context) (t : Term) →
     IsAgreeing (λ u. end_of E go c t u) (λ u. end_of E go' c t u)
 agree_end_of E go go' h c (SortT s) = agree_done true
 agree_end_of E go go' h c (Prod A B) =

@@ -7,12 +7,12 @@ use Rattle.pc_terms.specs.declared.leaf.Name.{Name}
 use Rattle.pc_terms.specs.declared.leaf.FamilyId.{FamilyId}
 use Rattle.pc_terms.specs.BoxSyntax.{BoxTerm, BoxTerms, Box, BLambda}
 use Rattle.lambda_box.specs.BoxProgram.{BoxConstant, BoxProgram, Has, here, there, KeepsBoxConstant}
-use Rattle.lambda_box.specs.ClosureEvaluation.{Value, VBox, VConstruct, VClosure, VFix, Values, Then, Env, Bind, BindFix, size, bind_all, Holds, Defines, fix_words, Counts, nothing, block, constructor_block, ◌⊕◌, Run, run_box, run_value, run_definition, run_lambda, run_fix, run_constant, run_let, run_app, run_box_app, run_fix_app, run_fix_box, run_construct, run_match, run_only, RunArgs, run_head, run_arg}
+use Rattle.lambda_box.specs.ClosureEvaluation.{ClosureValue, VBox, VConstruct, VClosure, VFix, ClosureValues, Then, ClosureEnv, Bind, BindFix, size, bind_all, Holds, Defines, fix_words, Counts, nothing, block, constructor_block, ◌⊕◌, ClosureRun, run_box, run_value, run_definition, run_lambda, run_fix, run_constant, run_let, run_app, run_box_app, run_fix_app, run_fix_box, run_construct, run_match, run_only, RunArgs, run_head, run_arg}
 use Rattle.anf_convert.specs.Anf.{Atom, AnfOp, AppOp, AnfBlock, Bind, AnfProgram, def_count}
 use Rattle.anf_convert.specs.Captured.{Scope, Outside, Plain, depth, plains, shares, fix_captured}
 use Rattle.anf_convert.specs.AnfEvaluation.{AnfVal, WBox, WCon, WClos, WFix, AnfVals, WNil, WCons, count, ◌+w◌, fixes, LamAt, lam_here, lam_after_lam, lam_after_box, BoxAt, box_here, box_after_lam, box_after_box, AnfBranchAt, at_branch, after_branch, Gives, AnfDoes, op_const, op_app, op_app_box, op_app_fix, op_app_fix_box, op_lam, op_fix, op_case, AnfGets, AnfAnswers, main_alone, main_applied}
 use Rattle.anf_convert.specs.AnfData.{DataTree, DataTrees, AnfIsData, anf_data, AnfAreData, anf_data_none, anf_data_more}
-use Rattle.anf_convert.specs.ToAnf.{Level, LVar, Binding, OpIs, Res, RAtom, RCon, ROp, Norm, binding_of, sealed, with_variable, named, levels, call, name_at, then_arg, then_body, then_case, just, norm, norm_branches, norm_defs, code_of, number_in, to_anf}
+use Rattle.anf_convert.specs.ToAnf.{Level, LVar, AnfBinding, OpIs, Res, RAtom, RCon, ROp, Norm, binding_of, sealed, with_variable, named, levels, call, name_at, then_arg, then_body, then_case, just, norm, norm_branches, norm_defs, code_of, number_in, to_anf}
 use Rattle.anf_convert.specs.ToAnfKeeps.{AreUnder, Ready, ReadyTerms, BoxAnswers, box_alone, box_applied, ValueIs, value_is, ValuesAre, no_values, and_value, ToAnfKeeps}
 use Rattle.anf_convert.proofs.Levels.{Ext, ext_same, ext_push, ext_trans, top_word, VR, vr_box, vr_con, vr_clos, vr_fix, VRs, vrs_nil, vrs_cons, ER, er_empty, er_bind, er_fix, vrs_size, er_ext, HeldAt, holds_word, holds_fix, held_at, AtLevel, l_word, l_fix, l_box, AllLevels, ls_none, ls_more, level_ext, levels_ext, gives, levels_size, plains_size, er_args, fixes_size, fixes_ext, fixes_at}
 use Rattle.anf_convert.proofs.Widths.{lam_width, fix_width}
@@ -79,7 +79,7 @@ ready_at P (Next m u rest) (suc i) n t e ok = ready_at P rest i n t e ok.1
 
 module _ (P : BoxProgram) (K : Name → ℕ) (Q : AnfProgram) (W : ℕ) where
   -- what a term has become
-  record DoneTerm (s : Scope) (w : AnfVals) (n : Norm) (v : Value) (c : Counts) : Type 0 where
+  record DoneTerm (s : Scope) (w : AnfVals) (n : Norm) (v : ClosureValue) (c : Counts) : Type 0 where
     g : Scope
     f : AnfVals
     u : AnfVal
@@ -98,7 +98,7 @@ module _ (P : BoxProgram) (K : Name → ℕ) (Q : AnfProgram) (W : ℕ) where
     blocks : b1 + b2 ≡ c.blocks
 
   -- a block that a term has become
-  record GotTerm (s : Scope) (w : AnfVals) (t : AnfBlock) (v : Value) (c : Counts) : Type 0 where
+  record GotTerm (s : Scope) (w : AnfVals) (t : AnfBlock) (v : ClosureValue) (c : Counts) : Type 0 where
     u : AnfVal
     c' : ℕ
     l' : ℕ
@@ -109,17 +109,17 @@ module _ (P : BoxProgram) (K : Name → ℕ) (Q : AnfProgram) (W : ℕ) where
   gets_counts : {s : Scope} {w : AnfVals} {t : AnfBlock} {u : AnfVal} {c k k' b b' l : ℕ} → k ≡ k' → b ≡ b' → AnfGets Q W s w t u c k b l → AnfGets Q W s w t u c k' b' l
   gets_counts {s} {w} {t} {u} {c} {k} {k'} {b} {b'} {l} ek eb h = transport (λ z. AnfGets Q W s w t u c k' z l) eb (transport (λ z. AnfGets Q W s w t u c z b l) ek h)
 
-  got : {s : Scope} {w : AnfVals} {n : Norm} {v : Value} {c : Counts} (d : ℕ) → d ≡ count w → DoneTerm s w n v c → GotTerm s w (sealed d n) v c
+  got : {s : Scope} {w : AnfVals} {n : Norm} {v : ClosureValue} {c : Counts} (d : ℕ) → d ≡ count w → DoneTerm s w n v c → GotTerm s w (sealed d n) v c
   got {n = n} d eq h =
       let e = ended Q W (d + length n.ops) (omega (arith, binds_size Q W h.binds)) h.stands in
       record { u = h.u; c' = _; l' = _; gets = gets_counts h.matches h.blocks (binds_block Q W h.binds e.gets); is = h.is; le_c = h.le_c }
 
   -- a result at once
-  at_once : {s : Scope} {w : AnfVals} {res : Res} {u : AnfVal} {v : Value} {c : Counts} {c2 k2 b2 : ℕ} → Stands Q W s w res u c2 k2 b2 → VR P K v u → c2 ≤ c.contractions → k2 ≡ c.matches → b2 ≡ c.blocks → DoneTerm s w (just res) v c
+  at_once : {s : Scope} {w : AnfVals} {res : Res} {u : AnfVal} {v : ClosureValue} {c : Counts} {c2 k2 b2 : ℕ} → Stands Q W s w res u c2 k2 b2 → VR P K v u → c2 ≤ c.contractions → k2 ≡ c.matches → b2 ≡ c.blocks → DoneTerm s w (just res) v c
   at_once st is lc k b = record { g = _; f = _; u = _; c1 = 0; c2 = _; k1 = 0; k2 = _; b1 = 0; b2 = _; l1 = 0; binds = binds_none; stands = st; is = is; le_c = omega arith; matches = omega arith; blocks = omega arith }
 
   -- a function and its argument as atoms
-  record Applied (s : Scope) (w : AnfVals) (n : Norm) (u : AnfVal) (v : Value) (c k b : ℕ) : Type 0 where
+  record Applied (s : Scope) (w : AnfVals) (n : Norm) (u : AnfVal) (v : ClosureValue) (c k b : ℕ) : Type 0 where
     g : Scope
     f : AnfVals
     c1 : ℕ
@@ -142,7 +142,7 @@ module _ (P : BoxProgram) (K : Name → ℕ) (Q : AnfProgram) (W : ℕ) where
     matches : k1 ≡ k
     blocks : b1 + (b2 + b3) ≡ b
 
-  called : {s g : Scope} {w f : AnfVals} {ops : List Binding} {a : Level} {u : AnfVal} {v : Value} {c3 : Counts} {c1 k1 b1 l1 b2 l2 : ℕ} (d : ℕ) (arg : ℕ → Norm) → d ≡ count w → Binds Q W s w ops g f c1 k1 b1 l1 → AtLevel W g f a u b2 l2 → DoneTerm g f (arg
+  called : {s g : Scope} {w f : AnfVals} {ops : List AnfBinding} {a : Level} {u : AnfVal} {v : ClosureValue} {c3 : Counts} {c1 k1 b1 l1 b2 l2 : ℕ} (d : ℕ) (arg : ℕ → Norm) → d ≡ count w → Binds Q W s w ops g f c1 k1 b1 l1 → AtLevel W g f a u b2 l2 → DoneTerm g f (arg
       (d + length ops)) v c3 → Applied s w (call d ops a (name_at arg (d + length ops))) u v (c1 + c3.contractions) (k1 + c3.matches) (b1 + b2 + c3.blocks)
   called {f = f} {ops = ops} {a = a} {c3 = c3} {c1 = c1} {k1 = k1} {b1 = b1} {b2 = b2} {l2 = l2} d arg eq bs at h =
       let deep : d + length ops ≡ count f = omega (arith, binds_size Q W bs) in
@@ -172,10 +172,10 @@ module _ (P : BoxProgram) (K : Name → ℕ) (Q : AnfProgram) (W : ℕ) where
         blocks = omega (arith, n.blocks, h.blocks);
       }
 
-  binds_matches : {s g : Scope} {w f : AnfVals} {ps : List Binding} {c k k' b l : ℕ} → k ≡ k' → Binds Q W s w ps g f c k b l → Binds Q W s w ps g f c k' b l
+  binds_matches : {s g : Scope} {w f : AnfVals} {ps : List AnfBinding} {c k k' b l : ℕ} → k ≡ k' → Binds Q W s w ps g f c k b l → Binds Q W s w ps g f c k' b l
   binds_matches {s} {g} {w} {f} {ps} {c} {b = b} {l = l} ek h = transport (λ z. Binds Q W s w ps g f c z b l) ek h
 
-  applied_as : {s : Scope} {w : AnfVals} {n : Norm} {u : AnfVal} {v : Value} {c c' k k' b b' : ℕ} → c ≤ c' → k ≡ k' → b ≡ b' → Applied s w n u v c k b → Applied s w n u v c' k' b'
+  applied_as : {s : Scope} {w : AnfVals} {n : Norm} {u : AnfVal} {v : ClosureValue} {c c' k k' b b' : ℕ} → c ≤ c' → k ≡ k' → b ≡ b' → Applied s w n u v c k b → Applied s w n u v c' k' b'
   applied_as lc ek eb h = record {
     g = h.g;
     f = h.f;
@@ -202,14 +202,14 @@ module _ (P : BoxProgram) (K : Name → ℕ) (Q : AnfProgram) (W : ℕ) where
   }
 
   -- what the argument of a function becomes, wherever it stands
-  abbrev ArgDone : Scope → AnfVals → (ℕ → Norm) → Value → Counts → Type 0
+  abbrev ArgDone : Scope → AnfVals → (ℕ → Norm) → ClosureValue → Counts → Type 0
   ArgDone s w arg v c = (g : Scope) (f : AnfVals) (d' : ℕ) → Ext s w g f → d' ≡ count f → DoneTerm g f (arg d') v c
 
-  applied : {s : Scope} {w : AnfVals} {fn : Norm} {v1 v : Value} {c c3 : Counts} (d : ℕ) (arg : ℕ → Norm) → d ≡ count w → (h : DoneTerm s w fn v1 c) → NotCon h.u → ArgDone s w arg v c3 → Applied s w (then_arg d fn.ops fn.res arg) h.u v (c.contractions +
+  applied : {s : Scope} {w : AnfVals} {fn : Norm} {v1 v : ClosureValue} {c c3 : Counts} (d : ℕ) (arg : ℕ → Norm) → d ≡ count w → (h : DoneTerm s w fn v1 c) → NotCon h.u → ArgDone s w arg v c3 → Applied s w (then_arg d fn.ops fn.res arg) h.u v (c.contractions +
       c3.contractions) (c.matches + c3.matches) (c.blocks + c3.blocks)
   applied {s} {w} {fn} {v1} {v} {c} {c3} d arg eq h other next = go h.binds h.stands other h.le_c h.matches h.blocks
     where
-      go : {g : Scope} {f : AnfVals} {ops : List Binding} {res : Res} {u : AnfVal} {c1 c2 k1 k2 b1 b2 l1 : ℕ} → Binds Q W s w ops g f c1 k1 b1 l1 → Stands Q W g f res u c2 k2 b2 → NotCon u → c1 + c2 ≤ c.contractions → k1 + k2 ≡ c.matches → b1 + b2 ≡ c.blocks →
+      go : {g : Scope} {f : AnfVals} {ops : List AnfBinding} {res : Res} {u : AnfVal} {c1 c2 k1 k2 b1 b2 l1 : ℕ} → Binds Q W s w ops g f c1 k1 b1 l1 → Stands Q W g f res u c2 k2 b2 → NotCon u → c1 + c2 ≤ c.contractions → k1 + k2 ≡ c.matches → b1 + b2 ≡ c.blocks →
           Applied s w (then_arg d ops res arg) u v (c.contractions + c3.contractions) (c.matches + c3.matches) (c.blocks + c3.blocks)
       go {g} {f} {ops} bs (st_atom at) other cl km bm =
           applied_as (omega arith) (omega arith) (omega arith) (called d arg eq bs at (next g f (d + length ops) (binds_ext Q W bs) (omega (arith, binds_size Q W bs))))
@@ -219,17 +219,17 @@ module _ (P : BoxProgram) (K : Name → ℕ) (Q : AnfProgram) (W : ℕ) where
           let n = bound_op Q W (d + length ops) deep bs does in
           applied_as (omega (arith, n.le_c)) (omega arith) (omega (arith, n.blocks)) (called d arg eq n.binds n.at (next n.g n.f (d + length (ops ++ OpIs op ∷ [])) (binds_ext Q W n.binds) (omega (arith, binds_size Q W n.binds))))
 
-  not_con_clos : {e : Env} {t : BoxTerm} {u : AnfVal} → VR P K (VClosure e t) u → NotCon u
+  not_con_clos : {e : ClosureEnv} {t : BoxTerm} {u : AnfVal} → VR P K (VClosure e t) u → NotCon u
   not_con_clos (vr_clos d eq ok er) = tt
 
   not_con_box : {u : AnfVal} → VR P K VBox u → NotCon u
   not_con_box vr_box = tt
 
-  not_con_fix : {e : Env} {i : ℕ} {rargs : List ℕ} {bodies : BoxTerms} {u : AnfVal} → VR P K (VFix e i rargs bodies) u → NotCon u
+  not_con_fix : {e : ClosureEnv} {i : ℕ} {rargs : List ℕ} {bodies : BoxTerms} {u : AnfVal} → VR P K (VFix e i rargs bodies) u → NotCon u
   not_con_fix (vr_fix d eq under ok er) = tt
 
   -- an application
-  applied_done : {s : Scope} {w : AnfVals} {n : Norm} {u y : AnfVal} {v r : Value} {c k b c4 k4 b4 l4 : ℕ} {c' : Counts} (h : Applied s w n u v c k b) → AnfDoes Q W h.g h.f (AppOp h.p
+  applied_done : {s : Scope} {w : AnfVals} {n : Norm} {u y : AnfVal} {v r : ClosureValue} {c k b c4 k4 b4 l4 : ℕ} {c' : Counts} (h : Applied s w n u v c k b) → AnfDoes Q W h.g h.f (AppOp h.p
       h.q) y c4 k4 b4 l4 → VR P K r y → c + c4 ≤ c'.contractions → k + k4 ≡ c'.matches → b + b4 ≡ c'.blocks + (h.b2 + h.b3) → DoneTerm s w n r c'
   applied_done {y = y} {c4 = c4} {k4 = k4} {b4 = b4} h does is lc km bm =
       record {
@@ -253,20 +253,20 @@ module _ (P : BoxProgram) (K : Name → ℕ) (Q : AnfProgram) (W : ℕ) where
       }
 
   -- what is known of a term, wherever it stands
-  abbrev Follows : Env → BoxTerm → Value → Counts → Type 0
+  abbrev Follows : ClosureEnv → BoxTerm → ClosureValue → Counts → Type 0
   Follows e t v c = (env : List Level) (ys : List ℕ) (s : Scope) (w : AnfVals) (d : ℕ) → d ≡ count w → ER P K e env ys s w → DoneTerm s w (norm K env d t) v c
 
-  app_clos : {s : Scope} {w : AnfVals} {n : Norm} {u : AnfVal} {e : Env} {t : BoxTerm} {v r : Value} {c k b : ℕ} {c3 c' : Counts} → VR P K (VClosure e t) u → Applied s w n u v c k b → (Ready P t → Follows (Bind v e) t r c3) → suc (c +
+  app_clos : {s : Scope} {w : AnfVals} {n : Norm} {u : AnfVal} {e : ClosureEnv} {t : BoxTerm} {v r : ClosureValue} {c k b : ℕ} {c3 c' : Counts} → VR P K (VClosure e t) u → Applied s w n u v c k b → (Ready P t → Follows (Bind v e) t r c3) → suc (c +
       c3.contractions) ≤ c'.contractions → k + c3.matches ≡ c'.matches → b + c3.blocks ≡ c'.blocks → DoneTerm s w n r c'
   app_clos (vr_clos {env = env} {ys = ys} {s = s'} {w = w'} d eq ok er) h next lc km bm =
       let x = next ok (LVar d ∷ env) (depth s' ∷ ys) (Plain s') (WCons h.x w') (suc d) (ap suc eq) (er_bind h.is (top_word s' w' h.x d eq) (er_ext (ext_push ext_same) er)) in
       let g = got (suc d) (ap suc eq) x in
       applied_done h (op_app h.fun h.arg g.gets) g.is (omega (arith, g.le_c)) km (omega arith)
 
-  app_box : {s : Scope} {w : AnfVals} {n : Norm} {u : AnfVal} {v : Value} {c k b : ℕ} {c' : Counts} → VR P K VBox u → Applied s w n u v c k b → suc c ≤ c'.contractions → k ≡ c'.matches → b ≡ c'.blocks → DoneTerm s w n VBox c'
+  app_box : {s : Scope} {w : AnfVals} {n : Norm} {u : AnfVal} {v : ClosureValue} {c k b : ℕ} {c' : Counts} → VR P K VBox u → Applied s w n u v c k b → suc c ≤ c'.contractions → k ≡ c'.matches → b ≡ c'.blocks → DoneTerm s w n VBox c'
   app_box vr_box h lc km bm = applied_done h (op_app_box h.fun h.arg) vr_box (omega arith) (omega arith) (omega arith)
 
-  app_fix : {s : Scope} {w : AnfVals} {n : Norm} {u : AnfVal} {e : Env} {rargs : List ℕ} {i : ℕ} {bodies : BoxTerms} {t : BoxTerm} {v r : Value} {c k b : ℕ} {c3 c' : Counts} → VR P K (VFix e i rargs bodies) u → term_at bodies i ≡ Some (
+  app_fix : {s : Scope} {w : AnfVals} {n : Norm} {u : AnfVal} {e : ClosureEnv} {rargs : List ℕ} {i : ℕ} {bodies : BoxTerms} {t : BoxTerm} {v r : ClosureValue} {c k b : ℕ} {c3 c' : Counts} → VR P K (VFix e i rargs bodies) u → term_at bodies i ≡ Some (
     length rargs,
     BLambda
         t,
@@ -284,12 +284,12 @@ module _ (P : BoxProgram) (K : Name → ℕ) (Q : AnfProgram) (W : ℕ) where
       let run = transport (λ z. AnfGets Q W (Plain (shares cs z s')) (WCons h.x (fixes s' w' ds z +w w')) (sealed (suc (d + m)) (norm K (LVar (d + m) ∷ levels d m env) (suc (d + m)) t)) g.u g.c' c3.matches c3.blocks g.l') (sym (count_is K env d m m rargs bodies under)) g.gets in
       applied_done h (op_app_fix h.fun h.arg (lam_at K env d m bodies i m t at) run) g.is (omega (arith, g.le_c)) km (omega arith)
 
-  app_fix_box : {s : Scope} {w : AnfVals} {n : Norm} {u : AnfVal} {e : Env} {rargs : List ℕ} {i : ℕ} {bodies : BoxTerms} {v : Value} {c k b : ℕ} {c' : Counts} → VR P K (VFix e i rargs bodies) u → term_at bodies i ≡ Some (length rargs, Box) → Applied s w n u v c k b → suc (suc
+  app_fix_box : {s : Scope} {w : AnfVals} {n : Norm} {u : AnfVal} {e : ClosureEnv} {rargs : List ℕ} {i : ℕ} {bodies : BoxTerms} {v : ClosureValue} {c k b : ℕ} {c' : Counts} → VR P K (VFix e i rargs bodies) u → term_at bodies i ≡ Some (length rargs, Box) → Applied s w n u v c k b → suc (suc
       c) ≤ c'.contractions → k ≡ c'.matches → b ≡ c'.blocks → DoneTerm s w n VBox c'
   app_fix_box {rargs = rargs} {i = i} {bodies = bodies} (vr_fix {env = env} d eq under ok er) at h lc km bm =
       applied_done h (op_app_fix_box h.fun h.arg (box_at K env d (length rargs) bodies i (length rargs) at)) vr_box (omega arith) (omega arith) (omega arith)
 
-  let_done : {s : Scope} {w : AnfVals} {n : Norm} {v r : Value} {c1 c2 c' : Counts} (d : ℕ) (body : ℕ → Level → Norm) → d ≡ count w → DoneTerm s w n v c1 → ((g : Scope) (f : AnfVals) (u : AnfVal) (d' : ℕ) → Ext s w g f → d' ≡ count f → VR P K v u → DoneTerm (Plain g) (WCons u f)
+  let_done : {s : Scope} {w : AnfVals} {n : Norm} {v r : ClosureValue} {c1 c2 c' : Counts} (d : ℕ) (body : ℕ → Level → Norm) → d ≡ count w → DoneTerm s w n v c1 → ((g : Scope) (f : AnfVals) (u : AnfVal) (d' : ℕ) → Ext s w g f → d' ≡ count f → VR P K v u → DoneTerm (Plain g) (WCons u f)
       (body (suc d') (LVar d')) r c2) → suc (c1.contractions + c2.contractions) ≤ c'.contractions → c1.matches + c2.matches ≡ c'.matches → c1.blocks + c2.blocks ≡ c'.blocks → DoneTerm s w (then_body d (with_variable d n.ops n.res) body) r c'
   let_done {n = n} {r = r} {c2 = c2} d body eq h next lc km bm =
       let deep : d + length n.ops ≡ count h.f = omega (arith, binds_size Q W h.binds) in
@@ -315,7 +315,7 @@ module _ (P : BoxProgram) (K : Name → ℕ) (Q : AnfProgram) (W : ℕ) where
         blocks = omega (arith, h.blocks, x.blocks);
       }
 
-  case_done : {s : Scope} {w : AnfVals} {n : Norm} {e : Env} {env : List Level} {ys : List ℕ} {f : FamilyId} {i : ℕ} {vs : Values} {t : BoxTerm} {r : Value} {c1 c2 c' : Counts} (bs : BoxTerms) (d : ℕ) → d ≡ count w → ER P K e env ys s w → DoneTerm s w n (VConstruct f i
+  case_done : {s : Scope} {w : AnfVals} {n : Norm} {e : ClosureEnv} {env : List Level} {ys : List ℕ} {f : FamilyId} {i : ℕ} {vs : ClosureValues} {t : BoxTerm} {r : ClosureValue} {c1 c2 c' : Counts} (bs : BoxTerms) (d : ℕ) → d ≡ count w → ER P K e env ys s w → DoneTerm s w n (VConstruct f i
       vs) c1 → term_at bs i ≡ Some (size vs, t) → Follows (bind_all vs e) t r c2 → suc (c1.contractions + c2.contractions) ≤ c'.contractions → suc (c1.matches + c2.matches) ≡ c'.matches → c1.blocks + c2.blocks ≡ c'.blocks → DoneTerm s w (then_case d (named d n.ops n.res)
       (λ d'. norm_branches K env d' bs)) r c'
   case_done {s} {w} {n} {e} {env} {ys} {f} {i} {vs} {t} {r} {c1} {c2} {c'} bs d eq er h at next lc km bm =
@@ -337,7 +337,7 @@ module _ (P : BoxProgram) (K : Name → ℕ) (Q : AnfProgram) (W : ℕ) where
           record { g = g; f = fe; u = x.u; c1 = _; c2 = _; k1 = _; k2 = _; b1 = _; b2 = _; l1 = _; binds = bds; stands = st_op (op_case (gives d1 deep al) at' run); is = x.is; le_c = omega (arith, x.le_c); matches = omega arith; blocks = omega arith }
 
   -- what a constructor with arguments has become
-  record DoneArgs (s : Scope) (w : AnfVals) (n : Norm) (i : ℕ) (vs : Values) (c : Counts) : Type 0 where
+  record DoneArgs (s : Scope) (w : AnfVals) (n : Norm) (i : ℕ) (vs : ClosureValues) (c : Counts) : Type 0 where
     g : Scope
     f : AnfVals
     c1 : ℕ
@@ -354,7 +354,7 @@ module _ (P : BoxProgram) (K : Name → ℕ) (Q : AnfProgram) (W : ℕ) where
     le_c : c1 ≤ c.contractions
     blocks : b1 + b2 ≡ c.blocks
 
-  arg_done : {s : Scope} {w : AnfVals} {n : Norm} {i : ℕ} {vs : Values} {v : Value} {c c2 c' : Counts} (d : ℕ) (arg : ℕ →
+  arg_done : {s : Scope} {w : AnfVals} {n : Norm} {i : ℕ} {vs : ClosureValues} {v : ClosureValue} {c c2 c' : Counts} (d : ℕ) (arg : ℕ →
       Norm) → d ≡ count w → DoneArgs s w n i vs c → ArgDone s w arg v c2 → c.contractions + c2.contractions ≤ c'.contractions → c.matches + c2.matches ≡ c'.matches → c.blocks + c2.blocks ≡ c'.blocks → DoneArgs s w (then_arg d n.ops n.res arg) i (Then v vs) c'
   arg_done {s} {w} {n} {i} {vs} {v} {c} {c2} {c'} d arg eq h next lc km bm = transport (λ z. DoneArgs s w (then_arg d n.ops z arg) i (Then v vs) c') (sym h.res_is) made
     where
@@ -402,7 +402,7 @@ module _ (P : BoxProgram) (K : Name → ℕ) (Q : AnfProgram) (W : ℕ) where
   no_matches zero = refl
   no_matches (suc n) = refl
 
-  con_done : {s : Scope} {w : AnfVals} {n : Norm} {f : FamilyId} {i : ℕ} {vs : Values} {c : Counts} (k : ℕ) → size vs ≡ k → (constructor_block k).greatest ≤ W → DoneArgs s w n i vs c → DoneTerm s w n (VConstruct f i vs) (c ⊕ constructor_block k)
+  con_done : {s : Scope} {w : AnfVals} {n : Norm} {f : FamilyId} {i : ℕ} {vs : ClosureValues} {c : Counts} (k : ℕ) → size vs ≡ k → (constructor_block k).greatest ≤ W → DoneArgs s w n i vs c → DoneTerm s w n (VConstruct f i vs) (c ⊕ constructor_block k)
   con_done {i = i} k sz le h =
       let long : length h.args ≡ k = levels_size h.all ∙ sym (vrs_size h.related) ∙ sz in
       record {
@@ -424,17 +424,17 @@ module _ (P : BoxProgram) (K : Name → ℕ) (Q : AnfProgram) (W : ℕ) where
         blocks = omega (arith, h.blocks, con_made h.args k long);
       }
 
-  value_done : {s : Scope} {w : AnfVals} {v : Value} {a : Level} → HeldAt P K s w (Holds v) a → DoneTerm s w (just (RAtom a)) v nothing
+  value_done : {s : Scope} {w : AnfVals} {v : ClosureValue} {a : Level} → HeldAt P K s w (Holds v) a → DoneTerm s w (just (RAtom a)) v nothing
   value_done (holds_word g at) = at_once (st_atom (l_word at)) g (omega arith) refl refl
 
-  definition_done : {s : Scope} {w : AnfVals} {e : Env} {j : ℕ} {rargs : List ℕ} {bodies : BoxTerms} {a : Level} → fix_words e bodies ≤ W → HeldAt P K s w (Defines e j rargs bodies) a → DoneTerm s w (just (RAtom a)) (VFix e j rargs bodies) (block (fix_words e bodies))
+  definition_done : {s : Scope} {w : AnfVals} {e : ClosureEnv} {j : ℕ} {rargs : List ℕ} {bodies : BoxTerms} {a : Level} → fix_words e bodies ≤ W → HeldAt P K s w (Defines e j rargs bodies) a → DoneTerm s w (just (RAtom a)) (VFix e j rargs bodies) (block (fix_words e bodies))
   definition_done le (holds_fix {rargs = rargs} {bodies = bodies} {d' = d'} num under ok er at) =
       let few = fix_width d' rargs bodies num under ok er in
       at_once (st_atom (l_fix at (omega arith))) (vr_fix d' num under ok er) (omega arith) refl refl
 
   module _ (constants : (k : Name) (b : BoxTerm) → KeepsBoxConstant P k b → slice_get Q.constants (K k) ≡ Some (code_of K b)) (ready : (k : Name) (b : BoxTerm) → KeepsBoxConstant P k b → Ready P b) where
     mutual
-      anf : {e : Env} {t : BoxTerm} {v : Value} {c : Counts} → Run P e t v c → Ready P t → c.greatest ≤ W → Follows e t v c
+      anf : {e : ClosureEnv} {t : BoxTerm} {v : ClosureValue} {c : Counts} → ClosureRun P e t v c → Ready P t → c.greatest ≤ W → Follows e t v c
       anf run_box ok le env ys s w d eq er = at_once (st_atom l_box) vr_box (omega arith) refl refl
       anf (run_value fs) ok le env ys s w d eq er = value_done (held_at fs er)
       anf (run_definition fs) ok le env ys s w d eq er = definition_done le (held_at fs er)
@@ -468,33 +468,33 @@ module _ (P : BoxProgram) (K : Name → ℕ) (Q : AnfProgram) (W : ℕ) where
           case_done bs d eq er (anf r1 ok.1.0 (omega arith) env ys s w d eq er) at (anf r2 (ready_at P bs i (size vs) _ at ok.1.1.0) (omega arith)) (omega arith) (omega arith) (omega arith)
       anf (run_only {F = F} keeps prop r1 r2) ok le env ys s w d eq er = absurd (ok.0 F keeps prop)
 
-      anf_args : {e : Env} {f : FamilyId} {i : ℕ} {t : BoxTerm} {vs : Values} {c : Counts} → RunArgs P e f i t vs c → Ready P t → c.greatest ≤ W → (env : List Level) (ys : List ℕ) (s : Scope) (w : AnfVals) (d : ℕ) → d ≡ count w → ER P K e env ys s w → DoneArgs s w (norm K env d t) i vs c
+      anf_args : {e : ClosureEnv} {f : FamilyId} {i : ℕ} {t : BoxTerm} {vs : ClosureValues} {c : Counts} → RunArgs P e f i t vs c → Ready P t → c.greatest ≤ W → (env : List Level) (ys : List ℕ) (s : Scope) (w : AnfVals) (d : ℕ) → d ≡ count w → ER P K e env ys s w → DoneArgs s w (norm K env d t) i vs c
       anf_args run_head ok le env ys s w d eq er = record { g = s; f = w; c1 = 0; b1 = 0; b2 = 0; l1 = 0; l2 = 0; binds = binds_none; args = []; res_is = refl; us = WNil; all = ls_none; related = vrs_nil; le_c = omega arith; blocks = omega arith }
       anf_args (run_arg {a = a} r1 r2) ok le env ys s w d eq er =
           arg_done d (λ d'. norm K env d' a) eq (anf_args r1 ok.1.0 (omega arith) env ys s w d eq er) (λ g f d' x eq'. anf r2 ok.1.1.0 (omega arith) env ys g f d' eq' (er_ext x er)) (omega arith) (omega arith) (omega arith)
 
   mutual
-    keeps_data : {v : Value} {u : AnfVal} {d : DataTree} → VR P K v u → ValueIs v d → AnfIsData u d
+    keeps_data : {v : ClosureValue} {u : AnfVal} {d : DataTree} → VR P K v u → ValueIs v d → AnfIsData u d
     keeps_data (vr_con gs) (value_is hs) = anf_data (keeps_all gs hs)
     keeps_data vr_box h = elim h [ ]
     keeps_data (vr_clos d eq ok er) h = elim h [ ]
     keeps_data (vr_fix d eq under ok er) h = elim h [ ]
 
-    keeps_all : {vs : Values} {us : AnfVals} {ds : DataTrees} → VRs P K vs us → ValuesAre vs ds → AnfAreData us ds
+    keeps_all : {vs : ClosureValues} {us : AnfVals} {ds : DataTrees} → VRs P K vs us → ValuesAre vs ds → AnfAreData us ds
     keeps_all vrs_nil no_values = anf_data_none
     keeps_all (vrs_cons g gs) (and_value h hs) = anf_data_more (keeps_data g h) (keeps_all gs hs)
 
   -- data is the same
   mutual
-    data_related : {v : Value} {u : AnfVal} {d : DataTree} → ValueIs v d → AnfIsData u d → VR P K v u
+    data_related : {v : ClosureValue} {u : AnfVal} {d : DataTree} → ValueIs v d → AnfIsData u d → VR P K v u
     data_related (value_is hs) (anf_data gs) = vr_con (data_all hs gs)
 
-    data_all : {vs : Values} {us : AnfVals} {ds : DataTrees} → ValuesAre vs ds → AnfAreData us ds → VRs P K vs us
+    data_all : {vs : ClosureValues} {us : AnfVals} {ds : DataTrees} → ValuesAre vs ds → AnfAreData us ds → VRs P K vs us
     data_all no_values anf_data_none = vrs_nil
     data_all (and_value h hs) (anf_data_more g gs) = vrs_cons (data_related h g) (data_all hs gs)
 
   -- an application alone
-  record AppAlone (s : Scope) (w : AnfVals) (op : AnfOp) (r : Value) (c : Counts) : Type 0 where
+  record AppAlone (s : Scope) (w : AnfVals) (op : AnfOp) (r : ClosureValue) (c : Counts) : Type 0 where
     u : AnfVal
     c' : ℕ
     l' : ℕ
@@ -502,7 +502,7 @@ module _ (P : BoxProgram) (K : Name → ℕ) (Q : AnfProgram) (W : ℕ) where
     is : VR P K r u
     le_c : c' ≤ c.contractions
 
-  app_alone : {s : Scope} {w : AnfVals} {op : AnfOp} {r : Value} {c : Counts} → DoneTerm s w (just (ROp op)) r c → AppAlone s w op r c
+  app_alone : {s : Scope} {w : AnfVals} {op : AnfOp} {r : ClosureValue} {c : Counts} → DoneTerm s w (just (ROp op)) r c → AppAlone s w op r c
   app_alone {s} {w} {op} {r} {c} h = go h.binds h.stands h.is h.le_c h.matches h.blocks
     where
       go : {g : Scope} {f : AnfVals} {u : AnfVal} {c1 c2 k1 k2 b1 b2 l1 : ℕ} → Binds Q W s w [] g f c1 k1 b1 l1 → Stands Q W g f (ROp op) u c2 k2 b2 → VR P K r u → c1 + c2 ≤ c.contractions → k1 + k2 ≡ c.matches → b1 + b2 ≡ c.blocks → AppAlone s w op r c
@@ -511,7 +511,7 @@ module _ (P : BoxProgram) (K : Name → ℕ) (Q : AnfProgram) (W : ℕ) where
           let eb : b2 ≡ c.blocks = omega arith in
           record { u = u; c' = c2; l' = l; does = transport (λ z. AnfDoes Q W s w op u c2 c.matches z l) eb (transport (λ z. AnfDoes Q W s w op u c2 z b2 l) ek does); is = is; le_c = omega arith }
 
-  record Answered (args' : AnfVals) (v : Value) (c : Counts) : Type 0 where
+  record Answered (args' : AnfVals) (v : ClosureValue) (c : Counts) : Type 0 where
     u : AnfVal
     c' : ℕ
     l' : ℕ
@@ -520,7 +520,7 @@ module _ (P : BoxProgram) (K : Name → ℕ) (Q : AnfProgram) (W : ℕ) where
     le_c : c' ≤ c.contractions
 
   module _ (constants : (k : Name) (b : BoxTerm) → KeepsBoxConstant P k b → slice_get Q.constants (K k) ≡ Some (code_of K b)) (ready : (k : Name) (b : BoxTerm) → KeepsBoxConstant P k b → Ready P b) (ready_main : Ready P P.main) (main : Q.main ≡ code_of K P.main) where
-    answered : {args : Values} {v : Value} {c : Counts} → BoxAnswers P args v c → c.greatest ≤ W → (args' : AnfVals) → VRs P K args args' → Answered args' v c
+    answered : {args : ClosureValues} {v : ClosureValue} {c : Counts} → BoxAnswers P args v c → c.greatest ≤ W → (args' : AnfVals) → VRs P K args args' → Answered args' v c
     answered {c = c} (box_alone run) le args' vrs_nil =
         let g = got 0 refl (anf constants ready run ready_main le [] [] Outside WNil 0 refl er_empty) in
         record { u = g.u; c' = g.c'; l' = g.l'; answers = main_alone (transport (λ t. AnfGets Q W Outside WNil t g.u g.c' c.matches c.blocks g.l') (sym main) g.gets); is = g.is; le_c = g.le_c }

@@ -1,11 +1,11 @@
--- Values and environments of a program after erasure, and of the program in A-normal form.
+-- ClosureValues and environments of a program after erasure, and of the program in A-normal form.
 use Rattle.std.proofs.Common.{◌≡◌, ℕ, zero, suc, ◌+◌, ◌-◌, ◌<◌, List, [], ◌∷◌, map, length, Some, refl, sym, ap, ◌∙◌, subst as transport, ⊎_elim, arith}
 use Rattle.std.proofs.lemmas.Bool.{cases_lt}
 use Rattle.pc_terms.specs.declared.leaf.Name.{Name}
 use Rattle.pc_terms.specs.declared.leaf.FamilyId.{FamilyId}
 use Rattle.pc_terms.specs.BoxSyntax.{BoxTerm, BoxTerms}
 use Rattle.lambda_box.specs.BoxProgram.{BoxProgram}
-use Rattle.lambda_box.specs.ClosureEvaluation.{Value, VBox, VConstruct, VClosure, VFix, Values, NoValue, Then, Env, Empty, Bind, BindFix, size, bind_all, Held, Holds, Defines, Finds, found, later, found_fix, past_fix}
+use Rattle.lambda_box.specs.ClosureEvaluation.{ClosureValue, VBox, VConstruct, VClosure, VFix, ClosureValues, NoValue, Then, ClosureEnv, Empty, Bind, BindFix, size, bind_all, Held, Holds, Defines, Finds, found, later, found_fix, past_fix}
 use Rattle.anf_convert.specs.Anf.{AnfDefs}
 use Rattle.anf_convert.specs.Captured.{Scope, Plain, Shared, depth, Word, Words, entry, plains, shares, fix_captured}
 use Rattle.anf_convert.specs.AnfEvaluation.{AnfVal, WBox, WCon, WClos, WFix, AnfVals, WNil, WCons, find, count, ◌+w◌, fixes, Gives, give_word, give_fix, give_box, give_empty, GivesAll, give_none, give_more}
@@ -80,29 +80,29 @@ top_fix s w v ws d eq =
     record { below = omega arith; scope = ap (entry (Shared ws s)) z; value = ap (find (WCons v w)) z }
 
 mutual
-  pub data VR (P : BoxProgram) (K : Name → ℕ) : Value → AnfVal → Type 0 where
+  pub data VR (P : BoxProgram) (K : Name → ℕ) : ClosureValue → AnfVal → Type 0 where
     vr_box : VR P K VBox WBox
-    vr_con : {f : FamilyId} {c : ℕ} {vs : Values} {ws : AnfVals} → VRs P K vs ws → VR P K (VConstruct f c vs) (WCon c ws)
-    vr_clos : {e : Env} {env : List Level} {ys : List ℕ} {s : Scope} {w : AnfVals} {b : BoxTerm} (d : ℕ) → d ≡ count w → Ready P b → ER P K e env ys s w → VR P K (VClosure e b) (WClos s w (sealed (suc d) (norm K (LVar d ∷ env) (suc d) b)))
-    vr_fix : {e : Env} {env : List Level} {ys : List ℕ} {s : Scope} {w : AnfVals} {rargs : List ℕ} {i : ℕ} {bodies : BoxTerms} (d : ℕ) → d ≡ count w → AreUnder (length rargs) rargs bodies → ReadyTerms P bodies → ER P K e env ys s w → VR P K (VFix e i rargs bodies) (WFix s w
+    vr_con : {f : FamilyId} {c : ℕ} {vs : ClosureValues} {ws : AnfVals} → VRs P K vs ws → VR P K (VConstruct f c vs) (WCon c ws)
+    vr_clos : {e : ClosureEnv} {env : List Level} {ys : List ℕ} {s : Scope} {w : AnfVals} {b : BoxTerm} (d : ℕ) → d ≡ count w → Ready P b → ER P K e env ys s w → VR P K (VClosure e b) (WClos s w (sealed (suc d) (norm K (LVar d ∷ env) (suc d) b)))
+    vr_fix : {e : ClosureEnv} {env : List Level} {ys : List ℕ} {s : Scope} {w : AnfVals} {rargs : List ℕ} {i : ℕ} {bodies : BoxTerms} (d : ℕ) → d ≡ count w → AreUnder (length rargs) rargs bodies → ReadyTerms P bodies → ER P K e env ys s w → VR P K (VFix e i rargs bodies) (WFix s w
         (norm_defs K env d (length rargs) bodies) i)
 
-  pub data VRs (P : BoxProgram) (K : Name → ℕ) : Values → AnfVals → Type 0 where
+  pub data VRs (P : BoxProgram) (K : Name → ℕ) : ClosureValues → AnfVals → Type 0 where
     vrs_nil : VRs P K NoValue WNil
-    vrs_cons : {v : Value} {w : AnfVal} {vs : Values} {ws : AnfVals} → VR P K v w → VRs P K vs ws → VRs P K (Then v vs) (WCons w ws)
+    vrs_cons : {v : ClosureValue} {w : AnfVal} {vs : ClosureValues} {ws : AnfVals} → VR P K v w → VRs P K vs ws → VRs P K (Then v vs) (WCons w ws)
 
   -- each variable has a level; `ys` has the words of those that aren't a fixpoint's
-  pub data ER (P : BoxProgram) (K : Name → ℕ) : Env → List Level → List ℕ → Scope → AnfVals → Type 0 where
+  pub data ER (P : BoxProgram) (K : Name → ℕ) : ClosureEnv → List Level → List ℕ → Scope → AnfVals → Type 0 where
     er_empty : {s : Scope} {w : AnfVals} → ER P K Empty [] [] s w
-    er_bind : {v : Value} {e : Env} {x y : ℕ} {env : List Level} {ys : List ℕ} {s : Scope} {w : AnfVals} {u : AnfVal} → VR P K v u → WordAt s w x u y → ER P K e env ys s w → ER P K (Bind v e) (LVar x ∷ env) (y ∷ ys) s w
-    er_fix : {rargs : List ℕ} {bodies : BoxTerms} {e : Env} {env : List Level} {ys : List ℕ} {s s' : Scope} {w w' : AnfVals} {d' : ℕ} {all : List Level} (d : ℕ) → d' ≡ count w' → AreUnder (length rargs) rargs bodies → ReadyTerms P bodies → ER P K e env ys s' w' → all ≡ levels d (length rargs) env →
+    er_bind : {v : ClosureValue} {e : ClosureEnv} {x y : ℕ} {env : List Level} {ys : List ℕ} {s : Scope} {w : AnfVals} {u : AnfVal} → VR P K v u → WordAt s w x u y → ER P K e env ys s w → ER P K (Bind v e) (LVar x ∷ env) (y ∷ ys) s w
+    er_fix : {rargs : List ℕ} {bodies : BoxTerms} {e : ClosureEnv} {env : List Level} {ys : List ℕ} {s s' : Scope} {w w' : AnfVals} {d' : ℕ} {all : List Level} (d : ℕ) → d' ≡ count w' → AreUnder (length rargs) rargs bodies → ReadyTerms P bodies → ER P K e env ys s' w' → all ≡ levels d (length rargs) env →
         ((j : ℕ) → j < length rargs → FixAt s w (d + j) (WFix s' w' (norm_defs K env d' (length rargs) bodies) j) (fix_captured s' (norm_defs K env d' (length rargs) bodies))) → ER P K e env ys s w → ER P K (BindFix rargs bodies e) all ys s w
 
-pub vrs_size : {P : BoxProgram} {K : Name → ℕ} {vs : Values} {ws : AnfVals} → VRs P K vs ws → size vs ≡ count ws
+pub vrs_size : {P : BoxProgram} {K : Name → ℕ} {vs : ClosureValues} {ws : AnfVals} → VRs P K vs ws → size vs ≡ count ws
 vrs_size vrs_nil = refl
 vrs_size (vrs_cons h hs) = ap suc (vrs_size hs)
 
-pub er_ext : {P : BoxProgram} {K : Name → ℕ} {e : Env} {env : List Level} {ys : List ℕ} {s : Scope} {w : AnfVals} {g : Scope} {f : AnfVals} → Ext s w g f → ER P K e env ys s w → ER P K e env ys g f
+pub er_ext : {P : BoxProgram} {K : Name → ℕ} {e : ClosureEnv} {env : List Level} {ys : List ℕ} {s : Scope} {w : AnfVals} {g : Scope} {f : AnfVals} → Ext s w g f → ER P K e env ys s w → ER P K e env ys g f
 er_ext x er_empty = er_empty
 er_ext x (er_bind h at er) = er_bind h (word_ext x at) (er_ext x er)
 er_ext x (er_fix d eq under ok er' is group er) = er_fix d eq under ok er' is (λ j lt. fix_ext x (group j lt)) (er_ext x er)
@@ -119,11 +119,11 @@ nth_past d (suc n) (suc i) j env eq = nth_past d n i j env (omega arith)
 
 -- what a variable holds
 pub data HeldAt (P : BoxProgram) (K : Name → ℕ) (s : Scope) (w : AnfVals) : Held → Level → Type 0 where
-  holds_word : {v : Value} {x y : ℕ} {u : AnfVal} → VR P K v u → WordAt s w x u y → HeldAt P K s w (Holds v) (LVar x)
-  holds_fix : {e : Env} {rargs : List ℕ} {bodies : BoxTerms} {j x d' : ℕ} {env : List Level} {ys : List ℕ} {s' : Scope} {w' : AnfVals} → d' ≡ count w' → AreUnder (length rargs) rargs bodies → ReadyTerms P bodies → ER P K e env ys s' w' →
+  holds_word : {v : ClosureValue} {x y : ℕ} {u : AnfVal} → VR P K v u → WordAt s w x u y → HeldAt P K s w (Holds v) (LVar x)
+  holds_fix : {e : ClosureEnv} {rargs : List ℕ} {bodies : BoxTerms} {j x d' : ℕ} {env : List Level} {ys : List ℕ} {s' : Scope} {w' : AnfVals} → d' ≡ count w' → AreUnder (length rargs) rargs bodies → ReadyTerms P bodies → ER P K e env ys s' w' →
       FixAt s w x (WFix s' w' (norm_defs K env d' (length rargs) bodies) j) (fix_captured s' (norm_defs K env d' (length rargs) bodies)) → HeldAt P K s w (Defines e j rargs bodies) (LVar x)
 
-pub held_at : {P : BoxProgram} {K : Name → ℕ} {s : Scope} {w : AnfVals} {e : Env} {i : ℕ} {h : Held} {env : List Level} {ys : List ℕ} → Finds e i h → ER P K e env ys s w → HeldAt P K s w h (nth env i)
+pub held_at : {P : BoxProgram} {K : Name → ℕ} {s : Scope} {w : AnfVals} {e : ClosureEnv} {i : ℕ} {h : Held} {env : List Level} {ys : List ℕ} → Finds e i h → ER P K e env ys s w → HeldAt P K s w h (nth env i)
 held_at found (er_bind h at er) = holds_word h at
 held_at (later fs) (er_bind h at er) = held_at fs er
 held_at {P} {K} {s} {w} {i = i} (found_fix {rargs = rargs} {bodies = bodies} {e = e} j eq) (er_fix {env = env} d num under ok er' is group er) =
@@ -171,7 +171,7 @@ pub plains_size : (vs w : AnfVals) → count (vs +w w) ≡ count w + count vs
 plains_size WNil w = omega arith
 plains_size (WCons v vs) w = omega (arith, plains_size vs w)
 
-pub er_args : {P : BoxProgram} {K : Name → ℕ} {e : Env} {env : List Level} {ys : List ℕ} {s : Scope} {w : AnfVals} {vs : Values} {ws : AnfVals} (d : ℕ) → d ≡ count w → VRs P K vs ws → ER P K e env ys s w → (zs : List ℕ) × ER P K (bind_all vs e) (levels d (size vs) env) zs (plains
+pub er_args : {P : BoxProgram} {K : Name → ℕ} {e : ClosureEnv} {env : List Level} {ys : List ℕ} {s : Scope} {w : AnfVals} {vs : ClosureValues} {ws : AnfVals} (d : ℕ) → d ≡ count w → VRs P K vs ws → ER P K e env ys s w → (zs : List ℕ) × ER P K (bind_all vs e) (levels d (size vs) env) zs (plains
     (size vs) s) (ws +w w)
 er_args {ys = ys} d eq vrs_nil er = (ys, er)
 er_args {s = s} {w = w} {vs = Then v vs} d eq (vrs_cons {w = u} {ws = ws} g gs) er =

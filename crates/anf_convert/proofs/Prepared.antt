@@ -14,7 +14,7 @@ use Rattle.anf_convert.specs.AnfForm.{AnfFormed}
 use Rattle.anf_convert.specs.TermForm.{constructor_args, more_args, ProgramFits}
 use Rattle.anf_convert.specs.ToAnf.{to_anf}
 use Rattle.anf_convert.specs.ToAnfKeeps.{IsReady, KeepsAnswers}
-use Rattle.anf_convert.specs.BoxForms.{Prepared, PreparedTerms, AreShallow, ConstructorsWithin, KeepsData, HasAnfForm}
+use Rattle.anf_convert.specs.BoxForms.{Prepared, PreparedTerms, AreShallow, ConstructorsWithin, ToAnfKeepsData, HasAnfForm}
 use Rattle.anf_convert.proofs.BoxForms.{form_suffices}
 use Rattle.anf_convert.proofs.Follows.{to_anf_keeps}
 use Rattle.anf_convert.proofs.Forms.{to_anf_forms}
@@ -74,7 +74,7 @@ suffices P form ordinary shallow main m few =
     form_suffices P m form (λ d h. prepared P form d.body (ordinary.constants d h) (shallow_at P.constants shallow d h)) (prepared P form P.main ordinary.main main) few
 
 module _ (P : BoxProgram) (Q : AnfProgram) (is : Q ≡ to_anf P) (shallow : AreShallow P.constants) (main : depth P.main ≤ 2048) where
-  pub data_kept : KeepsData P Q
+  pub data_kept : ToAnfKeepsData P Q
   data_kept form ordinary =
       ((suffices P form ordinary shallow main 1024 (λ F h. (form.counts F h).constructors)).0, subst (KeepsAnswers P) (sym is) (to_anf_keeps P))
 

@@ -4,8 +4,8 @@ use Rattle.trees.specs.Tree.{Rel, Done, Next}
 use Rattle.pc_terms.specs.declared.leaf.Name.{Name}
 use Rattle.pc_terms.specs.BoxSyntax.{BoxTerm, BoxTerms, Box, BLambda, BLetIn, BApp, BConst, BConstruct, BCase, BFix}
 use Rattle.lambda_box.specs.BoxProgram.{BoxConstant, BoxFamily, BoxProgram}
-use Rattle.anf_convert.specs.Anf.{AnfOp, AnfBlock, BindAtom, Bind, AnfBranches, Branch, LamDef, BoxDef, AppOp, LamOp, FixOp, CaseOp, Binding, AtomIs, OpIs, tail_of, block_of}
-use Rattle.anf_convert.specs.ToAnf.{Level, LVar, Res, RAtom, RCon, ROp, Norm, Named, at_depth, binding_of, sealed, with_variable, named, levels, call, name_at, then_arg, then_body, then_case, just, norm, norm_branches, norm_defs, code_of, number_in, to_anf}
+use Rattle.anf_convert.specs.Anf.{AnfOp, AnfBlock, BindAtom, Bind, AnfBranches, Branch, LamDef, BoxDef, AppOp, LamOp, FixOp, CaseOp, AnfBinding, AtomIs, OpIs, tail_of, block_of}
+use Rattle.anf_convert.specs.ToAnf.{Level, LVar, Res, RAtom, RCon, ROp, Norm, NamedResult, at_depth, binding_of, sealed, with_variable, named, levels, call, name_at, then_arg, then_body, then_case, just, norm, norm_branches, norm_defs, code_of, number_in, to_anf}
 use Rattle.anf_convert.specs.Renumbering.{renumber, renumber_op, renumber_branches, renumber_defs, place_in, anf_of}
 use Rattle.anf_convert.specs.Writing.{number_of}
 use Rattle.anf_convert.specs.NamedProgram.{named_constant, named_anf}
@@ -18,7 +18,7 @@ map_length f (x ∷ xs) = ap suc (map_length f xs)
 
 module _ (number : ℕ → ℕ) where
   -- parts of blocks with the other numbers
-  abbrev binding' : Binding → Binding
+  abbrev binding' : AnfBinding → AnfBinding
   binding' (AtomIs a) = AtomIs a
   binding' (OpIs op) = OpIs (renumber_op number op)
 
@@ -30,14 +30,14 @@ module _ (number : ℕ → ℕ) where
   abbrev norm' : Norm → Norm
   norm' n = record { ops = map binding' n.ops; res = res' n.res }
 
-  abbrev named' : Named → Named
+  abbrev named' : NamedResult → NamedResult
   named' n = record { ops = map binding' n.ops; atom = n.atom }
 
-  tail' : (p : Binding) → tail_of (binding' p) ≡ renumber number (tail_of p)
+  tail' : (p : AnfBinding) → tail_of (binding' p) ≡ renumber number (tail_of p)
   tail' (AtomIs a) = refl
   tail' (OpIs op) = refl
 
-  block' : (ps : List Binding) (t : AnfBlock) → block_of (map binding' ps) (renumber number t) ≡ renumber number (block_of ps t)
+  block' : (ps : List AnfBinding) (t : AnfBlock) → block_of (map binding' ps) (renumber number t) ≡ renumber number (block_of ps t)
   block' [] t = refl
   block' (AtomIs a ∷ ps) t = ap (BindAtom a) (block' ps t)
   block' (OpIs op ∷ ps) t = ap (Bind (renumber_op number op)) (block' ps t)
@@ -55,13 +55,13 @@ module _ (number : ℕ → ℕ) where
       ∙ ap (block_of (map binding' n.ops)) (tail' (binding_of (d + length n.ops) n.res))
       ∙ block' n.ops (tail_of (binding_of (d + length n.ops) n.res))
 
-  with_variable' : (d : ℕ) (ops : List Binding) (r : Res) → with_variable d (map binding' ops) (res' r) ≡ named' (with_variable d ops r)
+  with_variable' : (d : ℕ) (ops : List AnfBinding) (r : Res) → with_variable d (map binding' ops) (res' r) ≡ named' (with_variable d ops r)
   with_variable' d ops r =
       ap (λ k. record { ops = map binding' ops ++ binding_of (d + k) (res' r) ∷ []; atom = LVar (d + k) }) (map_length binding' ops)
       ∙ ap (λ p. record { ops = map binding' ops ++ p ∷ []; atom = LVar (d + length ops) }) (binding_of' (d + length ops) r)
       ∙ ap (λ ps. record { ops = ps; atom = LVar (d + length ops) }) (sym (map_more binding' ops (binding_of (d + length ops) r ∷ [])))
 
-  named_as' : (d : ℕ) (ops : List Binding) (r : Res) → named d (map binding' ops) (res' r) ≡ named' (named d ops r)
+  named_as' : (d : ℕ) (ops : List AnfBinding) (r : Res) → named d (map binding' ops) (res' r) ≡ named' (named d ops r)
   named_as' d ops (RAtom a) = refl
   named_as' d ops (RCon c []) = refl
   named_as' d ops (RCon c (x ∷ xs)) = with_variable' d ops (RCon c (x ∷ xs))
@@ -70,7 +70,7 @@ module _ (number : ℕ → ℕ) where
   abbrev apply_at : ℕ → Level → Level → AnfOp
   apply_at k f x = AppOp (at_depth k f) (at_depth k x)
 
-  call' : (d : ℕ) (ops : List Binding) (f : Level) (a : Named) → call d (map binding' ops) f (named' a) ≡ norm' (call d ops f a)
+  call' : (d : ℕ) (ops : List AnfBinding) (f : Level) (a : NamedResult) → call d (map binding' ops) f (named' a) ≡ norm' (call d ops f a)
   call' d ops f a =
       ap (λ k. record { ops = map binding' ops ++ map binding' a.ops; res = ROp (apply_at (d + k + length (map binding' a.ops)) f a.atom) }) (map_length binding' ops)
       ∙ ap (λ j. record { ops = map binding' ops ++ map binding' a.ops; res = ROp (apply_at (d + length ops + j) f a.atom) }) (map_length binding' a.ops)
@@ -79,9 +79,9 @@ module _ (number : ℕ → ℕ) where
   name_at' : (arg : ℕ → Norm) (d : ℕ) → name_at (λ k. norm' (arg k)) d ≡ named' (name_at arg d)
   name_at' arg d = named_as' d (arg d).ops (arg d).res
 
-  then_arg' : (d : ℕ) (ops : List Binding) (r : Res) (arg : ℕ → Norm) → then_arg d (map binding' ops) (res' r) (λ k. norm' (arg k)) ≡ norm' (then_arg d ops r arg)
+  then_arg' : (d : ℕ) (ops : List AnfBinding) (r : Res) (arg : ℕ → Norm) → then_arg d (map binding' ops) (res' r) (λ k. norm' (arg k)) ≡ norm' (then_arg d ops r arg)
   then_arg' d ops (RCon c xs) arg =
-      let joined : Named → Norm = λ n. record { ops = map binding' ops ++ n.ops; res = RCon c (n.atom ∷ xs) } in
+      let joined : NamedResult → Norm = λ n. record { ops = map binding' ops ++ n.ops; res = RCon c (n.atom ∷ xs) } in
       ap (λ k. joined (name_at (λ j. norm' (arg j)) (d + k))) (map_length binding' ops)
       ∙ ap joined (name_at' arg (d + length ops))
       ∙ ap (λ ps. record { ops = ps; res = RCon c ((name_at arg (d + length ops)).atom ∷ xs) }) (sym (map_more binding' ops (name_at arg (d + length ops)).ops))
@@ -97,12 +97,12 @@ module _ (number : ℕ → ℕ) where
       ∙ ap (call d (map binding' more) (LVar (d + length ops))) (name_at' arg (d + length more))
       ∙ call' d more (LVar (d + length ops)) (name_at arg (d + length more))
 
-  then_body' : (d : ℕ) (a : Named) (body : ℕ → Level → Norm) → then_body d (named' a) (λ k x. norm' (body k x)) ≡ norm' (then_body d a body)
+  then_body' : (d : ℕ) (a : NamedResult) (body : ℕ → Level → Norm) → then_body d (named' a) (λ k x. norm' (body k x)) ≡ norm' (then_body d a body)
   then_body' d a body =
       ap (λ k. record { ops = map binding' a.ops ++ map binding' (body (d + k) a.atom).ops; res = res' (body (d + k) a.atom).res }) (map_length binding' a.ops)
       ∙ ap (λ ps. record { ops = ps; res = res' (body (d + length a.ops) a.atom).res }) (sym (map_more binding' a.ops (body (d + length a.ops) a.atom).ops))
 
-  then_case' : (d : ℕ) (a : Named) (branches : ℕ → AnfBranches) → then_case d (named' a) (λ k. renumber_branches number (branches k)) ≡ norm' (then_case d a branches)
+  then_case' : (d : ℕ) (a : NamedResult) (branches : ℕ → AnfBranches) → then_case d (named' a) (λ k. renumber_branches number (branches k)) ≡ norm' (then_case d a branches)
   then_case' d a branches =
       ap (λ k. record { ops = map binding' a.ops; res = ROp (CaseOp (at_depth (d + k) a.atom) (renumber_branches number (branches (d + k)))) }) (map_length binding' a.ops)
 

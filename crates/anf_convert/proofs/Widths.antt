@@ -6,12 +6,12 @@ use Rattle.trees.specs.Tree.{Rel, Done, Next}
 use Rattle.pc_terms.specs.declared.leaf.Name.{Name}
 use Rattle.pc_terms.specs.BoxSyntax.{BoxTerm, BoxTerms, Box, BLambda, BLetIn, BApp, BConst, BConstruct, BCase, BFix}
 use Rattle.lambda_box.specs.BoxProgram.{BoxProgram}
-use Rattle.lambda_box.specs.ClosureEvaluation.{Value, Env, Empty, Bind, BindFix, names, names_terms, words, one_if, any_below}
+use Rattle.lambda_box.specs.ClosureEvaluation.{ClosureValue, ClosureEnv, Empty, Bind, BindFix, names, names_terms, words, one_if, any_below}
 use Rattle.anf_convert.specs.Anf.{AnfOp, AnfBlock, AnfBranches, def_count}
 use Rattle.anf_convert.specs.Captured.{Scope, Plain, Shared, depth, Word, Words, entry, words_of, plains, shares, atom_words, atoms_words, op_words, block_words, branches_words, defs_words, is_in, add_word, captured, lam_captured, fix_captured}
 use Rattle.anf_convert.specs.AnfEvaluation.{AnfVals, count}
 use Rattle.anf_convert.proofs.Scopes.{Each, each_join, each_map, captured_each}
-use Rattle.anf_convert.specs.ToAnf.{Level, LVar, LBoxed, LEmpty, Binding, AtomIs, OpIs, Res, RAtom, RCon, ROp, Norm, Named, at_depth, binding_of, tail_of, block_of, sealed, with_variable, named, nth, levels, call, name_at, then_arg, then_body, then_case, norm, norm_branches, norm_defs}
+use Rattle.anf_convert.specs.ToAnf.{Level, LVar, LBoxed, LEmpty, AnfBinding, AtomIs, OpIs, Res, RAtom, RCon, ROp, Norm, NamedResult, at_depth, binding_of, tail_of, block_of, sealed, with_variable, named, nth, levels, call, name_at, then_arg, then_body, then_case, norm, norm_branches, norm_defs}
 use Rattle.anf_convert.specs.ToAnfKeeps.{AreUnder, Ready, ReadyTerms}
 use Rattle.anf_convert.proofs.Levels.{ER, er_empty, er_bind, er_fix, nth_levels, nth_past}
 
@@ -25,7 +25,7 @@ or_right false h = h
 both : {a b : Bool} → a ≡ true → b ≡ true → (a && b) ≡ true
 both h g = rw (h, g) refl
 
-abbrev binding_words : Scope → Binding → List ℕ
+abbrev binding_words : Scope → AnfBinding → List ℕ
 binding_words s (AtomIs a) = atom_words s a
 binding_words s (OpIs op) = op_words s op
 
@@ -93,19 +93,19 @@ data ResFine (Q : ℕ → Type 0) (S : Scope) (D : ℕ) : Res → Type 0 where
   res_con : {c : ℕ} {as' : List Level} → AllFine Q S D as' → ResFine Q S D (RCon c as')
   res_op : {op : AnfOp} → Each Q (op_words S op) → ResFine Q S D (ROp op)
 
-data OpsFine (Q : ℕ → Type 0) : Scope → ℕ → List Binding → Scope → ℕ → Type 0 where
+data OpsFine (Q : ℕ → Type 0) : Scope → ℕ → List AnfBinding → Scope → ℕ → Type 0 where
   ops_none : {S : Scope} {D : ℕ} → OpsFine Q S D [] S D
-  ops_more : {S S' : Scope} {D D' : ℕ} {p : Binding} {ps : List Binding} → Each Q (binding_words S p) → OpsFine Q (Plain S) (suc D) ps S' D' → OpsFine Q S D (p ∷ ps) S' D'
+  ops_more : {S S' : Scope} {D D' : ℕ} {p : AnfBinding} {ps : List AnfBinding} → Each Q (binding_words S p) → OpsFine Q (Plain S) (suc D) ps S' D' → OpsFine Q S D (p ∷ ps) S' D'
 
-ops_ext : {Q : ℕ → Type 0} {S S' : Scope} {D D' : ℕ} {ps : List Binding} → OpsFine Q S D ps S' D' → SExt S D S' D'
+ops_ext : {Q : ℕ → Type 0} {S S' : Scope} {D D' : ℕ} {ps : List AnfBinding} → OpsFine Q S D ps S' D' → SExt S D S' D'
 ops_ext ops_none = sext_same
 ops_ext (ops_more h hs) = sext_trans (sext_push sext_same) (ops_ext hs)
 
-ops_deep : {Q : ℕ → Type 0} {S S' : Scope} {D D' : ℕ} {ps : List Binding} → OpsFine Q S D ps S' D' → D' ≡ D + length ps
+ops_deep : {Q : ℕ → Type 0} {S S' : Scope} {D D' : ℕ} {ps : List AnfBinding} → OpsFine Q S D ps S' D' → D' ≡ D + length ps
 ops_deep ops_none = omega arith
 ops_deep (ops_more h hs) = omega (arith, ops_deep hs)
 
-ops_then : {Q : ℕ → Type 0} {S S' S'' : Scope} {D D' D'' : ℕ} {ps qs : List Binding} → OpsFine Q S D ps S' D' → OpsFine Q S' D' qs S'' D'' → OpsFine Q S D (ps ++ qs) S'' D''
+ops_then : {Q : ℕ → Type 0} {S S' S'' : Scope} {D D' D'' : ℕ} {ps qs : List AnfBinding} → OpsFine Q S D ps S' D' → OpsFine Q S' D' qs S'' D'' → OpsFine Q S D (ps ++ qs) S'' D''
 ops_then ops_none g = g
 ops_then (ops_more h hs) g = ops_more h (ops_then hs g)
 
@@ -115,7 +115,7 @@ record NormFine (Q : ℕ → Type 0) (S : Scope) (D : ℕ) (n : Norm) : Type 0 w
   ops : OpsFine Q S D n.ops S' D'
   res : ResFine Q S' D' n.res
 
-record NameFine (Q : ℕ → Type 0) (S : Scope) (D : ℕ) (n : Named) : Type 0 where
+record NameFine (Q : ℕ → Type 0) (S : Scope) (D : ℕ) (n : NamedResult) : Type 0 where
   S' : Scope
   D' : ℕ
   ops : OpsFine Q S D n.ops S' D'
@@ -127,11 +127,11 @@ binding_fine d eq (res_con fine_none) = tt
 binding_fine d eq (res_con (fine_more h hs)) = fine_atoms d eq (fine_more h hs)
 binding_fine d eq (res_op h) = h
 
-tail_fine : (Q : ℕ → Type 0) (S : Scope) (p : Binding) → Each Q (binding_words S p) → Each Q (block_words S (tail_of p))
+tail_fine : (Q : ℕ → Type 0) (S : Scope) (p : AnfBinding) → Each Q (binding_words S p) → Each Q (block_words S (tail_of p))
 tail_fine Q S (AtomIs a) h = h
 tail_fine Q S (OpIs op) h = h
 
-block_fine : {Q : ℕ → Type 0} {S S' : Scope} {D D' : ℕ} {ps : List Binding} (t : AnfBlock) → OpsFine Q S D ps S' D' → Each Q (block_words S' t) → Each Q (block_words S (block_of ps t))
+block_fine : {Q : ℕ → Type 0} {S S' : Scope} {D D' : ℕ} {ps : List AnfBinding} (t : AnfBlock) → OpsFine Q S D ps S' D' → Each Q (block_words S' t) → Each Q (block_words S (block_of ps t))
 block_fine t ops_none g = g
 block_fine {Q} {S} t (ops_more {p = AtomIs a} h hs) g = each_join Q (atom_words S a) _ h (block_fine t hs g)
 block_fine {Q} {S} t (ops_more {p = OpIs op} h hs) g = each_join Q (op_words S op) _ h (block_fine t hs g)
@@ -163,12 +163,12 @@ module _ (Q : ℕ → Type 0) (k0 : ℕ) (high : (y : ℕ) → k0 ≤ y → Q y)
   fine_top : (S : Scope) (D d : ℕ) → D ≡ d → k0 ≤ depth S → Fine Q (Plain S) (suc D) (LVar d)
   fine_top S D d eq le = let z : 0 ≡ suc D - suc d = omega arith in fine_var (omega arith) (transport (λ i. Each Q (words_of (entry (Plain S) i))) z (high (depth S) le, tt))
 
-  with_fine : {S S' : Scope} {D D' : ℕ} {ps : List Binding} {res : Res} → k0 ≤ depth S' → OpsFine Q S D ps S' D' → ResFine Q S' D' res → NameFine Q S D (with_variable D ps res)
+  with_fine : {S S' : Scope} {D D' : ℕ} {ps : List AnfBinding} {res : Res} → k0 ≤ depth S' → OpsFine Q S D ps S' D' → ResFine Q S' D' res → NameFine Q S D (with_variable D ps res)
   with_fine {S' = S'} {D} {D'} {ps} low os r =
       let eq = ops_deep os in
       record { S' = Plain S'; D' = suc D'; ops = ops_then os (ops_more (binding_fine (D + length ps) eq r) ops_none); at = fine_top S' D' (D + length ps) eq low }
 
-  name_fine : {S S' : Scope} {D D' : ℕ} {ps : List Binding} {res : Res} → k0 ≤ depth S' → OpsFine Q S D ps S' D' → ResFine Q S' D' res → NameFine Q S D (named D ps res)
+  name_fine : {S S' : Scope} {D D' : ℕ} {ps : List AnfBinding} {res : Res} → k0 ≤ depth S' → OpsFine Q S D ps S' D' → ResFine Q S' D' res → NameFine Q S D (named D ps res)
   name_fine low os (res_atom h) = record { S' = _; D' = _; ops = os; at = h }
   name_fine low os (res_con fine_none) = record { S' = _; D' = _; ops = os; at = fine_empty }
   name_fine low os (res_con (fine_more h hs)) = with_fine low os (res_con (fine_more h hs))
@@ -181,7 +181,7 @@ module _ (Q : ℕ → Type 0) (k0 : ℕ) (high : (y : ℕ) → k0 ≤ y → Q y)
   low_ext : {S S' : Scope} {D D' : ℕ} → k0 ≤ depth S → SExt S D S' D' → k0 ≤ depth S'
   low_ext low x = omega (arith, sext_depth x)
 
-  call_fine : {S S' : Scope} {D D' : ℕ} {ops : List Binding} {a : Level} (arg : ℕ → Norm) → k0 ≤ depth S' → OpsFine Q S D ops S' D' → Fine Q S' D' a → ((d : ℕ) → D' ≡ d → NormFine Q S' d (arg d)) → NormFine Q S D (call D ops a (name_at arg (D + length ops)))
+  call_fine : {S S' : Scope} {D D' : ℕ} {ops : List AnfBinding} {a : Level} (arg : ℕ → Norm) → k0 ≤ depth S' → OpsFine Q S D ops S' D' → Fine Q S' D' a → ((d : ℕ) → D' ≡ d → NormFine Q S' d (arg d)) → NormFine Q S D (call D ops a (name_at arg (D + length ops)))
   call_fine {S} {S'} {D} {D'} {ops} {a} arg low os at next =
       let deep = ops_deep os in
       let n = next (D + length ops) deep in
@@ -191,7 +191,7 @@ module _ (Q : ℕ → Type 0) (k0 : ℕ) (high : (y : ℕ) → k0 ≤ y → Q y)
       let deeper = ops_deep m.ops in
       record { S' = m.S'; D' = m.D'; ops = ops_then os' m.ops; res = res_op (each_join Q (atom_words m.S' (at_depth (D + length ops + length (name_at arg (D + length ops)).ops) a)) _ (fine_atom _ deeper (fine_ext (ops_ext m.ops) at')) (fine_atom _ deeper m.at)) }
 
-  arg_fine : {S S' : Scope} {D D' : ℕ} {ops : List Binding} {res : Res} (arg : ℕ → Norm) → k0 ≤ depth S' → OpsFine Q S D ops S' D' → ResFine Q S' D' res → ArgFine S D arg → NormFine Q S D (then_arg D ops res arg)
+  arg_fine : {S S' : Scope} {D D' : ℕ} {ops : List AnfBinding} {res : Res} (arg : ℕ → Norm) → k0 ≤ depth S' → OpsFine Q S D ops S' D' → ResFine Q S' D' res → ArgFine S D arg → NormFine Q S D (then_arg D ops res arg)
   arg_fine {S' = S'} {D' = D'} arg low os (res_atom h) next = call_fine arg low os h (λ d eq. next S' D' d (ops_ext os) eq)
   arg_fine {S} {S'} {D} {D'} {ops} arg low os (res_con {as' = as'} hs) next =
       let deep = ops_deep os in
@@ -236,13 +236,13 @@ module _ (Q : ℕ → Type 0) (k0 : ℕ) (high : (y : ℕ) → k0 ≤ y → Q y)
   shares_low zero S low = low
   shares_low (suc n) S low = shares_low n S low
 
-  body_fine : {S : Scope} {n : Named} (r : ℕ → Level → Norm) (D : ℕ) (h : NameFine Q S D n) → ((d : ℕ) → h.D' ≡ d → NormFine Q h.S' d (r d n.atom)) → NormFine Q S D (then_body D n r)
+  body_fine : {S : Scope} {n : NamedResult} (r : ℕ → Level → Norm) (D : ℕ) (h : NameFine Q S D n) → ((d : ℕ) → h.D' ≡ d → NormFine Q h.S' d (r d n.atom)) → NormFine Q S D (then_body D n r)
   body_fine {S} {n} r D h next =
       let deep = ops_deep h.ops in
       let x = next (D + length n.ops) deep in
       record { S' = x.S'; D' = x.D'; ops = ops_then (transport (λ z. OpsFine Q S D n.ops h.S' z) deep h.ops) x.ops; res = x.res }
 
-  case_fine : {S : Scope} {n : Named} (bs : ℕ → AnfBranches) (D : ℕ) (h : NameFine Q S D n) → ((d : ℕ) → h.D' ≡ d → Each Q (branches_words h.S' (bs d))) → NormFine Q S D (then_case D n bs)
+  case_fine : {S : Scope} {n : NamedResult} (bs : ℕ → AnfBranches) (D : ℕ) (h : NameFine Q S D n) → ((d : ℕ) → h.D' ≡ d → Each Q (branches_words h.S' (bs d))) → NormFine Q S D (then_case D n bs)
   case_fine {n = n} bs D h next =
       let deep = ops_deep h.ops in
       record { S' = h.S'; D' = h.D'; ops = h.ops; res = res_op (each_join Q (atom_words h.S' (at_depth (D + length n.ops) n.atom)) _ (fine_atom (D + length n.ops) deep h.at) (next (D + length n.ops) deep)) }
@@ -309,10 +309,10 @@ module _ (P : BoxProgram) (K : Name → ℕ) (Q : ℕ → Type 0) (k0 : ℕ) (hi
     defs_fine {S} {env = vars} D n (r ∷ rs) (Next m b rest) under ok env low = defs_fine D n rs rest under.1 ok.1 (env_sub (λ i is. or_right (names b (m + i)) is) env) low
 
 -- the word is one of a set of variables; `ys` has the words of the variables that aren't a fixpoint's
-data InWords : Env → (ℕ → Bool) → List ℕ → ℕ → Type 0 where
-  in_here : {v : Value} {e : Env} {N : ℕ → Bool} {y z : ℕ} {ys : List ℕ} → N 0 ≡ true → z ≡ y → InWords (Bind v e) N (y ∷ ys) z
-  in_later : {v : Value} {e : Env} {N : ℕ → Bool} {y z : ℕ} {ys : List ℕ} → InWords e (λ i. N (suc i)) ys z → InWords (Bind v e) N (y ∷ ys) z
-  in_fix : {rargs : List ℕ} {bodies : BoxTerms} {e : Env} {N : ℕ → Bool} {z : ℕ} {ys : List ℕ} → InWords e (λ i. N (length rargs + i) || (any_below (length rargs) N && names_terms bodies i)) ys z → InWords (BindFix rargs bodies e) N ys z
+data InWords : ClosureEnv → (ℕ → Bool) → List ℕ → ℕ → Type 0 where
+  in_here : {v : ClosureValue} {e : ClosureEnv} {N : ℕ → Bool} {y z : ℕ} {ys : List ℕ} → N 0 ≡ true → z ≡ y → InWords (Bind v e) N (y ∷ ys) z
+  in_later : {v : ClosureValue} {e : ClosureEnv} {N : ℕ → Bool} {y z : ℕ} {ys : List ℕ} → InWords e (λ i. N (suc i)) ys z → InWords (Bind v e) N (y ∷ ys) z
+  in_fix : {rargs : List ℕ} {bodies : BoxTerms} {e : ClosureEnv} {N : ℕ → Bool} {z : ℕ} {ys : List ℕ} → InWords e (λ i. N (length rargs + i) || (any_below (length rargs) N && names_terms bodies i)) ys z → InWords (BindFix rargs bodies e) N ys z
 
 any_true : (n i : ℕ) (N : ℕ → Bool) → i < n → N i ≡ true → any_below n N ≡ true
 any_true zero i N lt h = absurd (omega arith)
@@ -333,7 +333,7 @@ abbrev past : (ℕ → Bool) → List ℕ → BoxTerms → ℕ → Bool
 past N rargs bodies i = N (length rargs + i) || (any_below (length rargs) N && names_terms bodies i)
 
 -- the words of a fixpoint's variable
-fix_words_in : (P : BoxProgram) (K : Name → ℕ) {e : Env} (env : List Level) {ys : List ℕ} {s : Scope} (rargs : List ℕ) (bodies : BoxTerms) (d : ℕ) (N : ℕ → Bool) → AreUnder (length rargs) rargs bodies → ReadyTerms P bodies → any_below (length rargs) N ≡ true →
+fix_words_in : (P : BoxProgram) (K : Name → ℕ) {e : ClosureEnv} (env : List Level) {ys : List ℕ} {s : Scope} (rargs : List ℕ) (bodies : BoxTerms) (d : ℕ) (N : ℕ → Bool) → AreUnder (length rargs) rargs bodies → ReadyTerms P bodies → any_below (length rargs) N ≡ true →
     ((k : ℕ) → past N rargs bodies k ≡ true → Fine (λ z. InWords e (past N rargs bodies) ys z) s d (nth env k)) → Each (λ z. InWords (BindFix rargs bodies e) N ys z) (fix_captured s (norm_defs K env d (length rargs) bodies))
 fix_words_in P K {e} env {ys} {s} rargs bodies d N under ok any inner =
     let n = length rargs in
@@ -344,7 +344,7 @@ fix_words_in P K {e} env {ys} {s} rargs bodies d N under ok any inner =
     (transport (λ m. Each (λ z. z < depth s → InWords (BindFix rargs bodies e) N ys z) (defs_words (shares [] m s) ds)) (sym (def_total K env d n n rargs bodies under)) all)
 
 -- the words of a variable of the set are of the set
-in_words : {P : BoxProgram} {K : Name → ℕ} {e : Env} {env : List Level} {ys : List ℕ} {s : Scope} {w : AnfVals} (d : ℕ) (N : ℕ → Bool) (i : ℕ) → d ≡ count w → ER P K e env ys s w → N i ≡ true → Fine (λ z. InWords e N ys z) s d (nth env i)
+in_words : {P : BoxProgram} {K : Name → ℕ} {e : ClosureEnv} {env : List Level} {ys : List ℕ} {s : Scope} {w : AnfVals} (d : ℕ) (N : ℕ → Bool) (i : ℕ) → d ≡ count w → ER P K e env ys s w → N i ≡ true → Fine (λ z. InWords e N ys z) s d (nth env i)
 in_words d N i eq er_empty is = fine_box
 in_words {w = w} d N zero eq (er_bind {v = v} {e = e} {x = x} {y = y} {ys = ys} h at er) is = let lt = at.below in fine_word {Q = λ z. InWords (Bind v e) N (y ∷ ys) z} y (count w - suc x) (omega arith) (omega arith) at.scope (in_here is refl)
 in_words d N (suc i) eq (er_bind h at er) is = fine_map (λ z q. in_later q) (in_words d (λ j. N (suc j)) i eq er is)
@@ -433,19 +433,19 @@ drop_each Q y (x ∷ xs) h = go (nat_eq y x) refl (drop_each Q y xs h.1)
     go true t r = r
     go false t r = ((h.0, λ same. eqb-false y x t (sym same)), r)
 
-later_word : {v : Value} {e : Env} {N : ℕ → Bool} {y z : ℕ} {ys : List ℕ} → InWords (Bind v e) N (y ∷ ys) z → (z ≡ y → ⊥) → InWords e (λ i. N (suc i)) ys z
+later_word : {v : ClosureValue} {e : ClosureEnv} {N : ℕ → Bool} {y z : ℕ} {ys : List ℕ} → InWords (Bind v e) N (y ∷ ys) z → (z ≡ y → ⊥) → InWords e (λ i. N (suc i)) ys z
 later_word (in_here h same) other = absurd (other same)
 later_word (in_later q) other = q
 
-later_off : {v : Value} {e : Env} {N : ℕ → Bool} {y z : ℕ} {ys : List ℕ} → N 0 ≡ false → InWords (Bind v e) N (y ∷ ys) z → InWords e (λ i. N (suc i)) ys z
+later_off : {v : ClosureValue} {e : ClosureEnv} {N : ℕ → Bool} {y z : ℕ} {ys : List ℕ} → N 0 ≡ false → InWords (Bind v e) N (y ∷ ys) z → InWords e (λ i. N (suc i)) ys z
 later_off off (in_here h same) = absurd (true_false (sym h ∙ off))
 later_off off (in_later q) = q
 
-past_word : {rargs : List ℕ} {bodies : BoxTerms} {e : Env} {N : ℕ → Bool} {z : ℕ} {ys : List ℕ} → InWords (BindFix rargs bodies e) N ys z → InWords e (past N rargs bodies) ys z
+past_word : {rargs : List ℕ} {bodies : BoxTerms} {e : ClosureEnv} {N : ℕ → Bool} {z : ℕ} {ys : List ℕ} → InWords (BindFix rargs bodies e) N ys z → InWords e (past N rargs bodies) ys z
 past_word (in_fix q) = q
 
 -- there are no more distinct words of a set than it has
-words_many : (e : Env) (N : ℕ → Bool) (ys cs : List ℕ) → Distinct cs → Each (λ z. InWords e N ys z) cs → length cs ≤ words e N
+words_many : (e : ClosureEnv) (N : ℕ → Bool) (ys cs : List ℕ) → Distinct cs → Each (λ z. InWords e N ys z) cs → length cs ≤ words e N
 words_many Empty N ys [] dist h = omega arith
 words_many Empty N ys (x ∷ xs) dist h = elim (h.0) [ ]
 words_many (Bind v e) N [] [] dist h = omega arith
@@ -464,7 +464,7 @@ words_many (Bind v e) N (y ∷ ys) cs dist h =
 words_many (BindFix rargs bodies e) N ys cs dist h =
     words_many e (past N rargs bodies) ys cs dist (each_map (λ z. InWords (BindFix rargs bodies e) N ys z) (λ z. InWords e (past N rargs bodies) ys z) (λ z q. past_word q) cs h)
 
-pub lam_width : {P : BoxProgram} {K : Name → ℕ} {e : Env} {env : List Level} {ys : List ℕ} {s : Scope} {w : AnfVals} (d : ℕ) (b : BoxTerm) → d ≡ count w → Ready P b → ER P K e env ys s w →
+pub lam_width : {P : BoxProgram} {K : Name → ℕ} {e : ClosureEnv} {env : List Level} {ys : List ℕ} {s : Scope} {w : AnfVals} (d : ℕ) (b : BoxTerm) → d ≡ count w → Ready P b → ER P K e env ys s w →
     length (lam_captured s (sealed (suc d) (norm K (LVar d ∷ env) (suc d) b))) ≤ words e (λ i. names b (suc i))
 lam_width {P} {K} {e} {env} {ys} {s} d b eq ok er =
     let code = sealed (suc d) (norm K (LVar d ∷ env) (suc d) b) in
@@ -474,7 +474,7 @@ lam_width {P} {K} {e} {env} {ys} {s} d b eq ok er =
     let all = seal_fine (suc d) (norm_fine P K (λ z. z < depth s → InWords e N ys z) (depth s) high (suc d) b ok (env_push (λ z. z < depth s → InWords e N ys z) (depth s) high (names b) d refl (omega arith) vars) (omega arith)) in
     words_many e N ys (lam_captured s code) (captured_distinct (depth s) (block_words (Plain s) code)) (captured_each (λ z. InWords e N ys z) (depth s) (block_words (Plain s) code) all)
 
-pub fix_width : {P : BoxProgram} {K : Name → ℕ} {e : Env} {env : List Level} {ys : List ℕ} {s : Scope} {w : AnfVals} (d : ℕ) (rargs : List ℕ) (bodies : BoxTerms) → d ≡ count w → AreUnder (length rargs) rargs bodies → ReadyTerms P bodies → ER P K e env ys s w →
+pub fix_width : {P : BoxProgram} {K : Name → ℕ} {e : ClosureEnv} {env : List Level} {ys : List ℕ} {s : Scope} {w : AnfVals} (d : ℕ) (rargs : List ℕ) (bodies : BoxTerms) → d ≡ count w → AreUnder (length rargs) rargs bodies → ReadyTerms P bodies → ER P K e env ys s w →
     length (fix_captured s (norm_defs K env d (length rargs) bodies)) ≤ words e (λ i. names_terms bodies i)
 fix_width {P} {K} {e} {env} {ys} {s} d rargs bodies eq under ok er =
     let n = length rargs in

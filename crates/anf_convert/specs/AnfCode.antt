@@ -4,7 +4,7 @@ use Rattle.std.proofs.Common.{refl}
 use Rattle.std.specs.Coded.{Coded}
 use base.Stored.{Gv, gnil, gnum, gcons}
 use Rattle.trees.specs.Code.{t0, t1, t2, t3, t4, t5}
-use Rattle.anf_convert.specs.Anf.{Atom, AVar, ABox, AEmpty, AnfOp, ConstOp, AppOp, ConOp, LamOp, FixOp, CaseOp, AnfBlock, TailAtom, Tail, BindAtom, Bind, AnfBranches, NoBranch, Branch, AnfDefs, NoDef, LamDef, BoxDef, Binding, AtomIs, OpIs}
+use Rattle.anf_convert.specs.Anf.{Atom, AVar, ABox, AEmpty, AnfOp, ConstOp, AppOp, ConOp, LamOp, FixOp, CaseOp, AnfBlock, TailAtom, Tail, BindAtom, Bind, AnfBranches, NoBranch, Branch, AnfDefs, NoDef, LamDef, BoxDef, AnfBinding, AtomIs, OpIs}
 
 abbrev pub code_atom : Atom → Gv
 code_atom (AVar i) = gcons t0 (gnum i)
@@ -78,11 +78,11 @@ mutual
   code_defs-inj (BoxDef rest) (BoxDef more) p = cc (code_defs-inj rest more (cc))
   code_defs-inj _ _ p = cc
 
-abbrev pub code_binding : Binding → Gv
+abbrev pub code_binding : AnfBinding → Gv
 code_binding (AtomIs a) = gcons t0 (code_atom a)
 code_binding (OpIs op) = gcons t1 (code_op op)
 
-pub code_binding-inj : (x y : Binding) → code_binding x ≡ code_binding y → x ≡ y
+pub code_binding-inj : (x y : AnfBinding) → code_binding x ≡ code_binding y → x ≡ y
 code_binding-inj (AtomIs a) (AtomIs b) p = cc (code_atom-inj a b (cc))
 code_binding-inj (OpIs o) (OpIs q) p = cc (code_op-inj o q (cc))
 code_binding-inj _ _ p = cc
@@ -96,7 +96,7 @@ coded_branches = record { code = code_branches; inj = code_branches-inj }
 abbrev pub coded_defs : Coded AnfDefs
 coded_defs = record { code = code_defs; inj = code_defs-inj }
 
-abbrev pub coded_binding : Coded Binding
+abbrev pub coded_binding : Coded AnfBinding
 coded_binding = record { code = code_binding; inj = code_binding-inj }
 
 abbrev pub coded_op : Coded AnfOp

@@ -1,7 +1,7 @@
 -- Each part of a program in A-normal form is lighter than the whole.
 use Rattle.std.specs.Prelude.{suc, ◌+◌, ◌≤◌, ◌≡◌, List, [], ◌∷◌}
 use Rattle.std.proofs.Common.{arith}
-use Rattle.anf_convert.specs.Anf.{AnfBlock, Binding, AtomIs, OpIs, block_of, tail_of}
+use Rattle.anf_convert.specs.Anf.{AnfBlock, AnfBinding, AtomIs, OpIs, block_of, tail_of}
 use Rattle.anf_convert.specs.AnfView.{seen, bindings_of, whole, branches_of, defs_of}
 use Rattle.anf_convert.specs.AnfWeight.{block_weight, branches_weight, defs_weight, binding_weight, bindings_weight}
 use Rattle.anf_convert.specs.declared.program.Op.{Op}
@@ -25,24 +25,24 @@ pub bindings_fall : (os : List Op) → most (λ x. deep-Op x) os ≤ bindings_we
 bindings_fall [] = omega arith
 bindings_fall (o ∷ os) = omega (arith, operation_falls o, bindings_fall os)
 
-tail_weight : (p : Binding) → block_weight (tail_of p) ≡ suc (suc (binding_weight p))
+tail_weight : (p : AnfBinding) → block_weight (tail_of p) ≡ suc (suc (binding_weight p))
 tail_weight (AtomIs a) = omega arith
 tail_weight (OpIs o) = omega arith
 
-pub block_weight_is : (ps : List Binding) (t : AnfBlock) → suc (block_weight (block_of ps t)) ≡ bindings_weight ps + block_weight t
+pub block_weight_is : (ps : List AnfBinding) (t : AnfBlock) → suc (block_weight (block_of ps t)) ≡ bindings_weight ps + block_weight t
 block_weight_is [] t = omega arith
 block_weight_is (AtomIs a ∷ ps) t = omega (arith, block_weight_is ps t)
 block_weight_is (OpIs o ∷ ps) t = omega (arith, block_weight_is ps t)
 
 -- the bindings, and what is in the tail
-pub block_falls : (ps : List Binding) (o : Op) → (suc (bindings_weight ps) ≤ block_weight (whole ps o)) × (deep-Op o ≤ block_weight (whole ps o))
+pub block_falls : (ps : List AnfBinding) (o : Op) → (suc (bindings_weight ps) ≤ block_weight (whole ps o)) × (deep-Op o ≤ block_weight (whole ps o))
 block_falls ps o =
     let all = block_weight_is ps (tail_of (seen o)) in
     let last = tail_weight (seen o) in
     let some = some_weight ps in
     (omega (arith, all, last), omega (arith, all, last, some, operation_falls o))
   where
-    some_weight : (ps : List Binding) → 1 ≤ bindings_weight ps
+    some_weight : (ps : List AnfBinding) → 1 ≤ bindings_weight ps
     some_weight [] = omega arith
     some_weight (p ∷ ps) = omega arith
 

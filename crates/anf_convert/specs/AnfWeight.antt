@@ -1,6 +1,6 @@
 -- The weight of blocks in A-normal form: each part is lighter than the whole.
 use Rattle.std.specs.Prelude.{ℕ, suc, ◌+◌, List, [], ◌∷◌}
-use Rattle.anf_convert.specs.Anf.{AnfOp, ConstOp, AppOp, ConOp, LamOp, FixOp, CaseOp, AnfBlock, TailAtom, Tail, BindAtom, Bind, AnfBranches, NoBranch, Branch, AnfDefs, NoDef, LamDef, BoxDef, Binding, AtomIs, OpIs}
+use Rattle.anf_convert.specs.Anf.{AnfOp, ConstOp, AppOp, ConOp, LamOp, FixOp, CaseOp, AnfBlock, TailAtom, Tail, BindAtom, Bind, AnfBranches, NoBranch, Branch, AnfDefs, NoDef, LamDef, BoxDef, AnfBinding, AtomIs, OpIs}
 
 abbrev mutual
   pub op_weight : AnfOp → ℕ
@@ -26,10 +26,10 @@ abbrev mutual
   defs_weight (LamDef b rest) = suc (block_weight b + defs_weight rest)
   defs_weight (BoxDef rest) = suc (defs_weight rest)
 
-abbrev pub binding_weight : Binding → ℕ
+abbrev pub binding_weight : AnfBinding → ℕ
 binding_weight (AtomIs a) = 0
 binding_weight (OpIs op) = op_weight op
 
-abbrev pub bindings_weight : List Binding → ℕ
+abbrev pub bindings_weight : List AnfBinding → ℕ
 bindings_weight [] = 1
 bindings_weight (p ∷ ps) = suc (binding_weight p + bindings_weight ps)

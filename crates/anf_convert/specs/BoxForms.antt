@@ -47,8 +47,8 @@ abbrev pub ConstructorsWithin : BoxProgram → ℕ → Type 0
 ConstructorsWithin P m = (F : BoxFamily) → Has P.families F → length F.args ≤ m
 
 -- what `to_anf` promises of its program
-abbrev pub KeepsData : BoxProgram → AnfProgram → Type 0
-KeepsData P Q = IsBoxProgram P → IsOrdinaryProgram P → IsReady P × KeepsAnswers P Q
+abbrev pub ToAnfKeepsData : BoxProgram → AnfProgram → Type 0
+ToAnfKeepsData P Q = IsBoxProgram P → IsOrdinaryProgram P → IsReady P × KeepsAnswers P Q
 
 abbrev pub HasAnfForm : BoxProgram → AnfProgram → Type 0
 HasAnfForm P Q = IsBoxProgram P → IsOrdinaryProgram P → (m : ℕ) → ConstructorsWithin P m → AnfFormed Q m

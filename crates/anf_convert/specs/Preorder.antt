@@ -1,6 +1,6 @@
 -- Data as a tree, and as the list of its nodes in preorder.
 use Rattle.std.specs.Prelude.{◌≡◌, ℕ, suc, List, [], ◌∷◌, ◌++◌}
-use Rattle.lambda_box.specs.ClosureEvaluation.{Value, ValueReads}
+use Rattle.lambda_box.specs.ClosureEvaluation.{ClosureValue, ValueReads}
 use Rattle.anf_convert.specs.AnfData.{DataTree, Made, DataTrees, DNil, DCons}
 use Rattle.anf_convert.specs.ToAnfKeeps.{ValueIs}
 
@@ -19,4 +19,4 @@ abbrev mutual
 
 -- a value that is read as a list of nodes is that data
 abbrev pub ReadsTree : Type 0
-ReadsTree = (v : Value) (ns : List (ℕ × ℕ)) → ValueReads v ns → (d : DataTree) × ValueIs v d × (preorder d ≡ ns)
+ReadsTree = (v : ClosureValue) (ns : List (ℕ × ℕ)) → ValueReads v ns → (d : DataTree) × ValueIs v d × (preorder d ≡ ns)

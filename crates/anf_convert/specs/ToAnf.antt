@@ -6,7 +6,7 @@ use Rattle.pc_terms.specs.declared.leaf.Name.{Name}
 use Rattle.lambda_box.specs.BoxProgram.{BoxConstant, BoxProgram}
 use Rattle.pc_terms.specs.BoxSyntax.{BoxTerm, BoxTerms, Box, BLambda, BLetIn, BApp, BConst, BConstruct, BCase, BFix}
 use Rattle.anf_convert.specs.Anf.{Atom, AVar, ABox, AEmpty, AnfOp, ConstOp, AppOp, ConOp, LamOp, FixOp, CaseOp, AnfBlock, AnfBranches, NoBranch, Branch, AnfDefs, NoDef, LamDef, BoxDef, AnfProgram}
-pub use Rattle.anf_convert.specs.Anf.{Binding, AtomIs, OpIs, tail_of, block_of}
+pub use Rattle.anf_convert.specs.Anf.{AnfBinding, AtomIs, OpIs, tail_of, block_of}
 -- an atom whose variable is counted from the outside, so that it stays what it is under more binders
 pub use Rattle.anf_convert.specs.declared.level.Level.{Level}
 pub use Rattle.anf_convert.specs.declared.level.Level.TheVariants.{Var as LVar, Box as LBoxed, Empty as LEmpty}
@@ -18,11 +18,11 @@ pub data Res : Type 0 where
   ROp : (op : AnfOp) → Res
 
 pub record Norm : Type 0 where
-  pub ops : List Binding
+  pub ops : List AnfBinding
   pub res : Res
 
-pub record Named : Type 0 where
-  pub ops : List Binding
+pub record NamedResult : Type 0 where
+  pub ops : List AnfBinding
   pub atom : Level
 
 -- the atom under d binders
@@ -31,7 +31,7 @@ at_depth d (LVar x) = AVar (d - suc x)
 at_depth d LBoxed = ABox
 at_depth d (LEmpty c) = AEmpty c
 
-abbrev pub binding_of : ℕ → Res → Binding
+abbrev pub binding_of : ℕ → Res → AnfBinding
 binding_of d (RAtom a) = AtomIs (at_depth d a)
 binding_of d (RCon c []) = AtomIs (AEmpty c)
 binding_of d (RCon c (x ∷ xs)) = OpIs (ConOp c (map (at_depth d) (x ∷ xs)))
@@ -41,11 +41,11 @@ abbrev pub sealed : ℕ → Norm → AnfBlock
 sealed d n = block_of n.ops (tail_of (binding_of (d + length n.ops) n.res))
 
 -- with a variable for the result
-abbrev pub with_variable : ℕ → List Binding → Res → Named
+abbrev pub with_variable : ℕ → List AnfBinding → Res → NamedResult
 with_variable d ops res = record { ops = ops ++ binding_of (d + length ops) res ∷ []; atom = LVar (d + length ops) }
 
 -- with a variable for the result where it is no atom
-abbrev pub named : ℕ → List Binding → Res → Named
+abbrev pub named : ℕ → List AnfBinding → Res → NamedResult
 named d ops (RAtom a) = record { ops = ops; atom = a }
 named d ops (RCon c []) = record { ops = ops; atom = LEmpty c }
 named d ops (RCon c (x ∷ xs)) = with_variable d ops (RCon c (x ∷ xs))
@@ -62,21 +62,21 @@ levels d zero env = env
 levels d (suc n) env = LVar (d + n) ∷ levels d n env
 
 -- an application, after its function's part: the argument's part stands under more binders
-abbrev pub call : ℕ → List Binding → Level → Named → Norm
+abbrev pub call : ℕ → List AnfBinding → Level → NamedResult → Norm
 call d ops f a = record { ops = ops ++ a.ops; res = ROp (AppOp (at_depth (d + length ops + length a.ops) f) (at_depth (d + length ops + length a.ops) a.atom)) }
 
-abbrev pub name_at : (ℕ → Norm) → ℕ → Named
+abbrev pub name_at : (ℕ → Norm) → ℕ → NamedResult
 name_at arg d = named d (arg d).ops (arg d).res
 
-abbrev pub then_arg : ℕ → List Binding → Res → (ℕ → Norm) → Norm
+abbrev pub then_arg : ℕ → List AnfBinding → Res → (ℕ → Norm) → Norm
 then_arg d ops (RCon c xs) arg = record { ops = ops ++ (name_at arg (d + length ops)).ops; res = RCon c ((name_at arg (d + length ops)).atom ∷ xs) }
 then_arg d ops (RAtom f) arg = call d ops f (name_at arg (d + length ops))
 then_arg d ops (ROp op) arg = call d (ops ++ OpIs op ∷ []) (LVar (d + length ops)) (name_at arg (d + length (ops ++ OpIs op ∷ [])))
 
-abbrev pub then_body : ℕ → Named → (ℕ → Level → Norm) → Norm
+abbrev pub then_body : ℕ → NamedResult → (ℕ → Level → Norm) → Norm
 then_body d a body = record { ops = a.ops ++ (body (d + length a.ops) a.atom).ops; res = (body (d + length a.ops) a.atom).res }
 
-abbrev pub then_case : ℕ → Named → (ℕ → AnfBranches) → Norm
+abbrev pub then_case : ℕ → NamedResult → (ℕ → AnfBranches) → Norm
 then_case d a branches = record { ops = a.ops; res = ROp (CaseOp (at_depth (d + length a.ops) a.atom) (branches (d + length a.ops))) }
 
 abbrev pub just : Res → Norm

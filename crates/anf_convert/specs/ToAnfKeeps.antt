@@ -5,7 +5,7 @@ use Rattle.pc_terms.specs.declared.leaf.Name.{Name}
 use Rattle.pc_terms.specs.declared.leaf.FamilyId.{FamilyId}
 use Rattle.pc_terms.specs.BoxSyntax.{BoxLabel, box_slots, BoxTerm, BoxTerms, BApp, BCase, BFix}
 use Rattle.lambda_box.specs.BoxProgram.{BoxFamily, BoxProgram, KeepsBoxConstant, KeepsBoxFamily}
-use Rattle.lambda_box.specs.ClosureEvaluation.{Value, VConstruct, Values, NoValue, Then, Empty, Bind, Counts, ◌⊕◌, Run}
+use Rattle.lambda_box.specs.ClosureEvaluation.{ClosureValue, VConstruct, ClosureValues, NoValue, Then, Empty, Bind, Counts, ◌⊕◌, ClosureRun}
 use Rattle.anf_convert.specs.Anf.{AnfProgram}
 use Rattle.anf_convert.specs.AnfEvaluation.{AnfVal, AnfVals, AnfAnswers}
 use Rattle.anf_convert.specs.AnfData.{DataTree, Made, DataTrees, DNil, DCons, AnfIsData, AnfAreData}
@@ -38,17 +38,17 @@ abbrev mutual
   ReadyTerms P (Next n t ts) = Ready P t × ReadyTerms P ts
 
 mutual
-  pub data ValueIs : Value → DataTree → Type 0 where
-    value_is : {f : FamilyId} {c : ℕ} {vs : Values} {ds : DataTrees} → ValuesAre vs ds → ValueIs (VConstruct f c vs) (Made c ds)
+  pub data ValueIs : ClosureValue → DataTree → Type 0 where
+    value_is : {f : FamilyId} {c : ℕ} {vs : ClosureValues} {ds : DataTrees} → ValuesAre vs ds → ValueIs (VConstruct f c vs) (Made c ds)
 
-  pub data ValuesAre : Values → DataTrees → Type 0 where
+  pub data ValuesAre : ClosureValues → DataTrees → Type 0 where
     no_values : ValuesAre NoValue DNil
-    and_value : {v : Value} {vs : Values} {d : DataTree} {ds : DataTrees} → ValueIs v d → ValuesAre vs ds → ValuesAre (Then v vs) (DCons d ds)
+    and_value : {v : ClosureValue} {vs : ClosureValues} {d : DataTree} {ds : DataTrees} → ValueIs v d → ValuesAre vs ds → ValuesAre (Then v vs) (DCons d ds)
 
 -- main, applied to these values, the last one first
-pub data BoxAnswers (P : BoxProgram) : Values → Value → Counts → Type 0 where
-  box_alone : {v : Value} {c : Counts} → Run P Empty P.main v c → BoxAnswers P NoValue v c
-  box_applied : {args : Values} {a v r : Value} {c d : Counts} → BoxAnswers P args v c → Run P (Bind a (Bind v Empty)) (BApp (Rel 1) (Rel 0)) r d → BoxAnswers P (Then a args) r (c ⊕ d)
+pub data BoxAnswers (P : BoxProgram) : ClosureValues → ClosureValue → Counts → Type 0 where
+  box_alone : {v : ClosureValue} {c : Counts} → ClosureRun P Empty P.main v c → BoxAnswers P NoValue v c
+  box_applied : {args : ClosureValues} {a v r : ClosureValue} {c d : Counts} → BoxAnswers P args v c → ClosureRun P (Bind a (Bind v Empty)) (BApp (Rel 1) (Rel 0)) r d → BoxAnswers P (Then a args) r (c ⊕ d)
 
 -- main of the program in A-normal form, applied to these values, gives the data, with as many matches and blocks as these counts, no more contractions and no
 -- wider block
@@ -68,7 +68,7 @@ pub record IsReady (P : BoxProgram) : Type 0 where
 
 -- where main of the one, applied to values that are data, gives data, so does main of the other, applied to the same data
 abbrev pub KeepsAnswers : BoxProgram → AnfProgram → Type 0
-KeepsAnswers P Q = (args : Values) (args' : AnfVals) (ds : DataTrees) (v : Value) (d : DataTree) (c : Counts) → IsReady P → ValuesAre args ds → AnfAreData args' ds → BoxAnswers P args v c → ValueIs v d → AnfGivesData Q args' d c
+KeepsAnswers P Q = (args : ClosureValues) (args' : AnfVals) (ds : DataTrees) (v : ClosureValue) (d : DataTree) (c : Counts) → IsReady P → ValuesAre args ds → AnfAreData args' ds → BoxAnswers P args v c → ValueIs v d → AnfGivesData Q args' d c
 
 -- so it is with the translation of a program of which constructors stand with all their arguments, and matches on propositional families are gone
 abbrev pub ToAnfKeeps : Type 0

@@ -1,7 +1,7 @@
 //! The pass.
 ghost use Rattle.std.specs.Prelude.{◌≡◌, ◌≤◌, IfOk, IfErr, map};
 ghost use Rattle.trees.specs.Measures.{depth};
-ghost use Rattle.anf_convert.specs.BoxForms.{AreShallow, KeepsData, HasAnfForm};
+ghost use Rattle.anf_convert.specs.BoxForms.{AreShallow, ToAnfKeepsData, HasAnfForm};
 ghost use Rattle.anf_convert.specs.ToAnf as spec;
 ghost use Rattle.anf_convert.specs.Writing.{number_of};
 ghost use Rattle.anf_convert.specs.Renumbering.{anf_of};
@@ -27,7 +27,7 @@ use std::alloc::Global;
 pub fn to_anf(alloc: Global, p: &BoxProgram) -> Result<AnfProgram, PassFault>
     ensures exact { IfOk result (λ q. q ≡ named_anf p.now) }
     ensures is { IfOk result (λ q. anf_of q ≡ spec.to_anf p.now) }
-    ensures data_kept { IfOk result (λ q. KeepsData p.now (anf_of q)) }
+    ensures data_kept { IfOk result (λ q. ToAnfKeepsData p.now (anf_of q)) }
     ensures form { IfOk result (λ q. HasAnfForm p.now (anf_of q)) }
     ensures only_memory { IfErr result (λ e. e ≡ Memory) }
 {

@@ -136,10 +136,10 @@ impl Model for AnfBlock {
 impl Model for Ops {
     ghost use Rattle.std.specs.Prelude.{List};
     ghost use Rattle.std.specs.Coded.{coded_list};
-    ghost use Rattle.anf_convert.specs.Anf.{Binding};
+    ghost use Rattle.anf_convert.specs.Anf.{AnfBinding};
     ghost use Rattle.anf_convert.specs.AnfCode.{coded_binding};
 
-    ghost Value = { List Binding };
+    ghost Value = { List AnfBinding };
 
     ghost coded = { coded_list coded_binding };
 

@@ -9,7 +9,7 @@ use Rattle.wasm_core.specs.declared.ended.TrapKind.{TrapKind}
 use Rattle.wasm_core.specs.Parts.{Parts}
 use Rattle.wasm_core.specs.Instance.{greatest_pages}
 use Rattle.wasm_core.specs.MachineStep.{State, Store, Over, Reach}
-use Rattle.wasm_core.specs.WordData.{Data}
+use Rattle.wasm_core.specs.WordData.{DataNodes}
 use Rattle.wasm_core.specs.RunTree.{Fate, ended, ran_out}
 use Rattle.wasm_core.proofs.Small.{inj}
 use Rattle.wasm_emit.specs.EmittedModule.{module_of}
@@ -40,7 +40,7 @@ by_choice_of : (M : Parts) (bytes : ℕ) (s : Store) (b : Bool) → s.by_choice 
 by_choice_of M bytes s true e le h = e
 by_choice_of M bytes s false e le h = let lt = h e in absurd (omega arith)
 
-chosen : {M : Parts} {frames bytes : ℕ} {d : Data} {least k : ℕ} {trap : TrapKind} {s : Store} → bytes ≤ 65536 * greatest_pages M.memory → Fate M frames (Finished M d bytes) (Spent M bytes) least k (Over (Trapped trap) s) → s.by_choice ≡ true
+chosen : {M : Parts} {frames bytes : ℕ} {d : DataNodes} {least k : ℕ} {trap : TrapKind} {s : Store} → bytes ≤ 65536 * greatest_pages M.memory → Fate M frames (Finished M d bytes) (Spent M bytes) least k (Over (Trapped trap) s) → s.by_choice ≡ true
 chosen le (ended q l) = elim q [ ]
 chosen {M} {bytes = bytes} {s = s} le (ran_out (spent x h)) = by_choice_of M bytes s s.by_choice refl le h
 

@@ -4,11 +4,11 @@ use Rattle.trees.specs.Tree.{Rel, Done, Next}
 use Rattle.pc_terms.specs.declared.leaf.Name.{Name}
 use Rattle.pc_terms.specs.BoxSyntax.{BoxTerm, BoxTerms, Box, BLambda, BLetIn, BApp, BConst, BConstruct, BCase, BFix}
 use Rattle.lambda_box.specs.BoxProgram.{BoxProgram}
-use Rattle.lambda_box.specs.ClosureEvaluation.{Env, Empty, box_values, bind_all}
-use Rattle.anf_convert.specs.Anf.{AnfBlock, Binding, AtomIs, OpIs, tail_of, block_of}
+use Rattle.lambda_box.specs.ClosureEvaluation.{ClosureEnv, Empty, box_values, bind_all}
+use Rattle.anf_convert.specs.Anf.{AnfBlock, AnfBinding, AtomIs, OpIs, tail_of, block_of}
 use Rattle.anf_convert.specs.Captured.{Scope, Outside, Plain, depth, plains, shares, fix_captured}
 use Rattle.anf_convert.specs.AnfEvaluation.{WBox, AnfVals, WNil, WCons, count}
-use Rattle.anf_convert.specs.ToAnf.{Res, RAtom, RCon, ROp, Norm, Named, binding_of, sealed, with_variable, named, levels, then_arg, norm, norm_branches, norm_defs, code_of}
+use Rattle.anf_convert.specs.ToAnf.{Res, RAtom, RCon, ROp, Norm, NamedResult, binding_of, sealed, with_variable, named, levels, then_arg, norm, norm_branches, norm_defs, code_of}
 use Rattle.anf_convert.specs.ToAnfKeeps.{Ready, ReadyTerms}
 use Rattle.anf_convert.proofs.Levels.{Ext, ext_same, ext_push, ext_trans, top_word, vr_box, ER, er_empty, er_bind, er_fix, er_ext, fixes_size, fixes_ext, fixes_at}
 use Rattle.anf_convert.proofs.Widths.{lam_width, fix_width, def_total}
@@ -24,11 +24,11 @@ boxes_size zero w = omega arith
 boxes_size (suc n) w = omega (arith, boxes_size n w)
 
 -- the variables of a branch
-record Opened (P : BoxProgram) (K : Name → ℕ) (n d : ℕ) (e : Env) (env : List _) (s : Scope) (w : AnfVals) : Type 0 where
+record Opened (P : BoxProgram) (K : Name → ℕ) (n d : ℕ) (e : ClosureEnv) (env : List _) (s : Scope) (w : AnfVals) : Type 0 where
   words : List ℕ
   er : ER P K (bind_all (box_values n) e) (levels d n env) words (plains n s) (boxes n w)
 
-opened : {P : BoxProgram} {K : Name → ℕ} {e : Env} {env : List _} {ys : List ℕ} {s : Scope} {w : AnfVals} (n d : ℕ) → d ≡ count w → ER P K e env ys s w → Opened P K n d e env s w
+opened : {P : BoxProgram} {K : Name → ℕ} {e : ClosureEnv} {env : List _} {ys : List ℕ} {s : Scope} {w : AnfVals} (n d : ℕ) → d ≡ count w → ER P K e env ys s w → Opened P K n d e env s w
 opened {ys = ys} zero d eq er = record { words = ys; er = er }
 opened {s = s} {w} (suc n) d eq er =
     let r = opened n d eq er in
@@ -36,7 +36,7 @@ opened {s = s} {w} (suc n) d eq er =
     record { words = depth (plains n s) ∷ r.words; er = er_bind vr_box (top_word (plains n s) (boxes n w) WBox (d + n) deep) (er_ext (ext_push ext_same) r.er) }
 
 module _ (C : ℕ) where
-  abbrev BindingFew : Scope → Binding → Type 0
+  abbrev BindingFew : Scope → AnfBinding → Type 0
   BindingFew s (AtomIs a) = Unit {0}
   BindingFew s (OpIs op) = OpCaptures (suc C) s op
 
@@ -46,19 +46,19 @@ module _ (C : ℕ) where
   ResFew s (ROp op) = OpCaptures (suc C) s op
 
   -- bindings, and the variables with them
-  data OpsFew : Scope → AnfVals → List Binding → Scope → AnfVals → Type 0 where
+  data OpsFew : Scope → AnfVals → List AnfBinding → Scope → AnfVals → Type 0 where
     few_none : {s : Scope} {w : AnfVals} → OpsFew s w [] s w
-    few_more : {s s' : Scope} {w w' : AnfVals} {p : Binding} {ps : List Binding} → BindingFew s p → OpsFew (Plain s) (WCons WBox w) ps s' w' → OpsFew s w (p ∷ ps) s' w'
+    few_more : {s s' : Scope} {w w' : AnfVals} {p : AnfBinding} {ps : List AnfBinding} → BindingFew s p → OpsFew (Plain s) (WCons WBox w) ps s' w' → OpsFew s w (p ∷ ps) s' w'
 
-  ops_ext : {s s' : Scope} {w w' : AnfVals} {ps : List Binding} → OpsFew s w ps s' w' → Ext s w s' w'
+  ops_ext : {s s' : Scope} {w w' : AnfVals} {ps : List AnfBinding} → OpsFew s w ps s' w' → Ext s w s' w'
   ops_ext few_none = ext_same
   ops_ext (few_more h hs) = ext_trans (ext_push ext_same) (ops_ext hs)
 
-  ops_deep : {s s' : Scope} {w w' : AnfVals} {ps : List Binding} → OpsFew s w ps s' w' → count w' ≡ count w + length ps
+  ops_deep : {s s' : Scope} {w w' : AnfVals} {ps : List AnfBinding} → OpsFew s w ps s' w' → count w' ≡ count w + length ps
   ops_deep few_none = omega arith
   ops_deep (few_more h hs) = omega (arith, ops_deep hs)
 
-  ops_then : {s s' s'' : Scope} {w w' w'' : AnfVals} {ps qs : List Binding} → OpsFew s w ps s' w' → OpsFew s' w' qs s'' w'' → OpsFew s w (ps ++ qs) s'' w''
+  ops_then : {s s' s'' : Scope} {w w' w'' : AnfVals} {ps qs : List AnfBinding} → OpsFew s w ps s' w' → OpsFew s' w' qs s'' w'' → OpsFew s w (ps ++ qs) s'' w''
   ops_then few_none g = g
   ops_then (few_more h hs) g = few_more h (ops_then hs g)
 
@@ -68,7 +68,7 @@ module _ (C : ℕ) where
     ops : OpsFew s w n.ops s' w'
     res : ResFew s' n.res
 
-  record NameFew (s : Scope) (w : AnfVals) (n : Named) : Type 0 where
+  record NameFew (s : Scope) (w : AnfVals) (n : NamedResult) : Type 0 where
     s' : Scope
     w' : AnfVals
     ops : OpsFew s w n.ops s' w'
@@ -79,11 +79,11 @@ module _ (C : ℕ) where
   binding_few s d (RCon c (x ∷ xs)) h = tt
   binding_few s d (ROp op) h = h
 
-  tail_few : (s : Scope) (p : Binding) → BindingFew s p → BlockCaptures (suc C) s (tail_of p)
+  tail_few : (s : Scope) (p : AnfBinding) → BindingFew s p → BlockCaptures (suc C) s (tail_of p)
   tail_few s (AtomIs a) h = tt
   tail_few s (OpIs op) h = h
 
-  block_few : {s s' : Scope} {w w' : AnfVals} {ps : List Binding} (t : AnfBlock) → OpsFew s w ps s' w' → BlockCaptures (suc C) s' t → BlockCaptures (suc C) s (block_of ps t)
+  block_few : {s s' : Scope} {w w' : AnfVals} {ps : List AnfBinding} (t : AnfBlock) → OpsFew s w ps s' w' → BlockCaptures (suc C) s' t → BlockCaptures (suc C) s (block_of ps t)
   block_few t few_none g = g
   block_few t (few_more {p = AtomIs a} h hs) g = block_few t hs g
   block_few t (few_more {p = OpIs op} h hs) g = (h, block_few t hs g)
@@ -91,10 +91,10 @@ module _ (C : ℕ) where
   sealed_few : {s : Scope} {w : AnfVals} {n : Norm} (d : ℕ) → NormFew s w n → BlockCaptures (suc C) s (sealed d n)
   sealed_few {n = n} d h = let p = binding_of (d + length n.ops) n.res in block_few (tail_of p) h.ops (tail_few h.s' p (binding_few h.s' (d + length n.ops) n.res h.res))
 
-  with_few : {s s' : Scope} {w w' : AnfVals} {ps : List Binding} (d : ℕ) (res : Res) → OpsFew s w ps s' w' → ResFew s' res → OpsFew s w (with_variable d ps res).ops (Plain s') (WCons WBox w')
+  with_few : {s s' : Scope} {w w' : AnfVals} {ps : List AnfBinding} (d : ℕ) (res : Res) → OpsFew s w ps s' w' → ResFew s' res → OpsFew s w (with_variable d ps res).ops (Plain s') (WCons WBox w')
   with_few {s' = s'} {ps = ps} d res os h = ops_then os (few_more (binding_few s' (d + length ps) res h) few_none)
 
-  name_few : {s s' : Scope} {w w' : AnfVals} {ps : List Binding} (d : ℕ) (res : Res) → OpsFew s w ps s' w' → ResFew s' res → NameFew s w (named d ps res)
+  name_few : {s s' : Scope} {w w' : AnfVals} {ps : List AnfBinding} (d : ℕ) (res : Res) → OpsFew s w ps s' w' → ResFew s' res → NameFew s w (named d ps res)
   name_few d (RAtom a) os h = record { s' = _; w' = _; ops = os }
   name_few d (RCon c []) os h = record { s' = _; w' = _; ops = os }
   name_few d (RCon c (x ∷ xs)) os h = record { s' = _; w' = _; ops = with_few d (RCon c (x ∷ xs)) os h }
@@ -104,7 +104,7 @@ module _ (C : ℕ) where
   abbrev ArgFew : Scope → AnfVals → (ℕ → Norm) → Type 0
   ArgFew s w arg = (s' : Scope) (w' : AnfVals) (d : ℕ) → Ext s w s' w' → d ≡ count w' → NormFew s' w' (arg d)
 
-  arg_few : {s s' : Scope} {w w' : AnfVals} {ps : List Binding} (d : ℕ) (res : Res) (arg : ℕ → Norm) → d ≡ count w → OpsFew s w ps s' w' → ResFew s' res → ArgFew s' w' arg → NormFew s w (then_arg d ps res arg)
+  arg_few : {s s' : Scope} {w w' : AnfVals} {ps : List AnfBinding} (d : ℕ) (res : Res) (arg : ℕ → Norm) → d ≡ count w → OpsFew s w ps s' w' → ResFew s' res → ArgFew s' w' arg → NormFew s w (then_arg d ps res arg)
   arg_few {s' = s'} {w' = w'} {ps = ps} d (RAtom f) arg eq os h next =
       let n = next s' w' (d + length ps) ext_same (omega (arith, ops_deep os)) in
       let m = name_few (d + length ps) (arg (d + length ps)).res n.ops n.res in
@@ -122,7 +122,7 @@ module _ (C : ℕ) where
 
   module _ (P : BoxProgram) (K : Name → ℕ) where
     mutual
-      norm_few : {e : Env} {env : List _} {ys : List ℕ} {s : Scope} {w : AnfVals} (d : ℕ) (t : BoxTerm) → d ≡ count w → ER P K e env ys s w → Ready P t → Narrow C e t → NormFew s w (norm K env d t)
+      norm_few : {e : ClosureEnv} {env : List _} {ys : List ℕ} {s : Scope} {w : AnfVals} (d : ℕ) (t : BoxTerm) → d ≡ count w → ER P K e env ys s w → Ready P t → Narrow C e t → NormFew s w (norm K env d t)
       norm_few d (Rel i) eq er ok h = record { s' = _; w' = _; ops = few_none; res = tt }
       norm_few d Box eq er ok h = record { s' = _; w' = _; ops = few_none; res = tt }
       norm_few {s = s} {w} d (BLambda b) eq er ok h =
@@ -157,13 +157,13 @@ module _ (C : ℕ) where
           let all = defs_few env d m bodies (omega (arith, fixes_size s w ds m)) inner ok.1.0 h.1 in
           record { s' = s; w' = w; ops = few_none; res = (omega (arith, l, h.0), subst (λ k. DefsCapture (suc C) (shares cs k s) ds) (sym (def_total K env d m m rargs bodies ok.0)) all) }
 
-      branches_few : {e : Env} {env : List _} {ys : List ℕ} {s : Scope} {w : AnfVals} (d : ℕ) (bs : BoxTerms) → d ≡ count w → ER P K e env ys s w → ReadyTerms P bs → NarrowBranches C e bs → BranchesCapture (suc C) s (norm_branches K env d bs)
+      branches_few : {e : ClosureEnv} {env : List _} {ys : List ℕ} {s : Scope} {w : AnfVals} (d : ℕ) (bs : BoxTerms) → d ≡ count w → ER P K e env ys s w → ReadyTerms P bs → NarrowBranches C e bs → BranchesCapture (suc C) s (norm_branches K env d bs)
       branches_few d Done eq er ok h = tt
       branches_few {w = w} d (Next n b rest) eq er ok h =
           let r = opened n d eq er in
           (sealed_few (d + n) (norm_few (d + n) b (omega (arith, boxes_size n w)) r.er ok.0 h.0), branches_few d rest eq er ok.1 h.1)
 
-      defs_few : {e : Env} {ys : List ℕ} {s : Scope} {w : AnfVals} (env : List _) (d m : ℕ) (bodies : BoxTerms) → d + m ≡ count w → ER P K e (levels d m env) ys s w → ReadyTerms P bodies → NarrowDefs C e bodies → DefsCapture (suc C) s (norm_defs K env d m bodies)
+      defs_few : {e : ClosureEnv} {ys : List ℕ} {s : Scope} {w : AnfVals} (env : List _) (d m : ℕ) (bodies : BoxTerms) → d + m ≡ count w → ER P K e (levels d m env) ys s w → ReadyTerms P bodies → NarrowDefs C e bodies → DefsCapture (suc C) s (norm_defs K env d m bodies)
       defs_few env d m Done eq er ok h = tt
       defs_few {s = s} {w} env d m (Next k (BLambda b) rest) eq er ok h =
           let inner = er_bind vr_box (top_word s w WBox (d + m) eq) (er_ext (ext_push ext_same) er) in

@@ -1,6 +1,6 @@
 -- From programs after saturation to runs of modules: the laws of the passes together.
 use Rattle.std.proofs.Common.{ℕ, ◌+◌, ◌*◌, ◌≤◌, arith, ◌<◌}
-use Rattle.lambda_box.specs.ClosureEvaluation.{NoValue, Value, Empty, Counts, Run}
+use Rattle.lambda_box.specs.ClosureEvaluation.{NoValue, ClosureValue, Empty, Counts, ClosureRun}
 use Rattle.anf_convert.specs.AnfEvaluation.{WNil}
 use Rattle.anf_convert.specs.AnfData.{DNil, anf_data_none, DataTree}
 use Rattle.anf_convert.proofs.Words.{words_bound}
@@ -24,7 +24,7 @@ pub record Runs (P : BoxProgram) (pages m : ℕ) (d : DataTree) (c : Counts) : T
   pub runs : Emitted (lift (to_anf P)) pages c.greatest m d c.contractions c.matches c.blocks words
 
 abbrev pub BackEnd : Type 0
-BackEnd = (P : BoxProgram) (pages m : ℕ) (v : Value) (d : DataTree) (c : Counts) → 0 < pages → pages ≤ 16384 → 0 < m → IsReady P → ProgramFits P m → Limits (lift (to_anf P)) → Run P Empty P.main v c → ValueIs v d → Runs P pages m d c
+BackEnd = (P : BoxProgram) (pages m : ℕ) (v : ClosureValue) (d : DataTree) (c : Counts) → 0 < pages → pages ≤ 16384 → 0 < m → IsReady P → ProgramFits P m → Limits (lift (to_anf P)) → ClosureRun P Empty P.main v c → ValueIs v d → Runs P pages m d c
 
 abbrev pub BackEndValid : Type 0
 BackEndValid = (P : BoxProgram) (pages m : ℕ) → 0 < pages → pages ≤ 16384 → ProgramFits P m → IsValid (module_of (lift (to_anf P)) pages)

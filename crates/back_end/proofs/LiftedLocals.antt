@@ -5,8 +5,8 @@ use Rattle.anf_convert.specs.declared.program.Atom.{Atom}
 use Rattle.anf_convert.specs.declared.program.Atom.TheVariants.{Var as AVar, Box as ABox, Empty as AEmpty}
 use Rattle.anf_convert.specs.Anf.{AnfOp, ConstOp, AppOp, ConOp, LamOp, FixOp, CaseOp, AnfBlock, TailAtom, Tail, BindAtom, Bind, AnfBranches, NoBranch, Branch, AnfDefs, NoDef, LamDef, BoxDef, AnfProgram, def_count}
 use Rattle.anf_convert.specs.Captured.{Scope, Outside, Plain, depth, Entry, Unbound, Word, Words, entry, plains, shares, lam_captured, fix_captured}
-use Rattle.closure_lift.specs.Lifted.{Op, OConst, OApp, OCon, OClos, OCase, Block, RetAtom, LetAtom, Ret, Let, Branches, BNil, BCons, Fn}
-use Rattle.closure_lift.specs.Lift.{Slot, Holds, Made, atom, closure_for, closure, closures, atoms_of, block_functions, op_functions, numbered, unnumbered, holding, lift_op, lift_block, lift_branches, def_functions, functions_op, functions_block, functions_branches, functions_defs, lift_constants, functions_constants, constants_functions, lift}
+use Rattle.closure_lift.specs.Lifted.{Op, OConst, OApp, OCon, OClos, OCase, Block, RetAtom, LetAtom, Ret, Let, BranchBlocks, BNil, BCons, Fn}
+use Rattle.closure_lift.specs.Lift.{LiftSlot, Holds, Made, atom, closure_for, closure, closures, atoms_of, block_functions, op_functions, numbered, unnumbered, holding, lift_op, lift_block, lift_branches, def_functions, functions_op, functions_block, functions_branches, functions_defs, lift_constants, functions_constants, constants_functions, lift}
 use Rattle.wasm_core.specs.ModuleCondition.{All}
 use Rattle.wasm_emit.specs.EmittedLocals.{top, top_op, top_branches}
 use Rattle.wasm_emit.specs.EmittedBodies.{FewInFunction, FewInBlock, FewLocals}
@@ -26,7 +26,7 @@ abbrev mutual
   block_locals (Ret x) = op_locals x
   block_locals (Let x t) = op_locals x + block_locals t
 
-  branches_locals : Branches → ℕ
+  branches_locals : BranchBlocks → ℕ
   branches_locals BNil = 0
   branches_locals (BCons n t bs) = block_locals t + branches_locals bs
 
@@ -51,7 +51,7 @@ mutual
   block_top d (Ret x) = op_top d x
   block_top d (Let x t) = omega (arith, op_top d x, block_top (suc d) t, op_some x)
 
-  branches_top : (d : ℕ) (bs : Branches) → top_branches d bs ≤ d + branches_locals bs
+  branches_top : (d : ℕ) (bs : BranchBlocks) → top_branches d bs ≤ d + branches_locals bs
   branches_top d BNil = omega arith
   branches_top d (BCons n t bs) = omega (arith, block_top d t, branches_top d bs)
 
@@ -119,24 +119,24 @@ abbrev pub normal_constants_locals : List AnfBlock → ℕ
 normal_constants_locals [] = 0
 normal_constants_locals (t ∷ ts) = normal_locals Outside t + normal_constants_locals ts
 
-for_few : (fr : List Slot) (i g n : ℕ) (k : Entry) (next : List Slot → Block) → ((fr' : List Slot) → block_locals (next fr') ≤ n) → block_locals (closure_for fr i g k next) ≤ entry_locals k + n
+for_few : (fr : List LiftSlot) (i g n : ℕ) (k : Entry) (next : List LiftSlot → Block) → ((fr' : List LiftSlot) → block_locals (next fr') ≤ n) → block_locals (closure_for fr i g k next) ≤ entry_locals k + n
 for_few fr i g n Unbound next h = omega (arith, h fr)
 for_few fr i g n (Word x) next h = omega (arith, h fr)
 for_few fr i g n (Words ws) next h = omega (arith, h (Made i ∷ fr))
 
-closure_few : (s : Scope) (gs : List ℕ) (fr : List Slot) (n : ℕ) (a : Atom) (next : List Slot → Block) → ((fr' : List Slot) → block_locals (next fr') ≤ n) → block_locals (closure s gs fr a next) ≤ atom_locals s a + n
+closure_few : (s : Scope) (gs : List ℕ) (fr : List LiftSlot) (n : ℕ) (a : Atom) (next : List LiftSlot → Block) → ((fr' : List LiftSlot) → block_locals (next fr') ≤ n) → block_locals (closure s gs fr a next) ≤ atom_locals s a + n
 closure_few s gs fr n (AVar i) next h = for_few fr i (get_or gs i 0) n (entry s i) next h
 closure_few s gs fr n ABox next h = omega (arith, h fr)
 closure_few s gs fr n (AEmpty k) next h = omega (arith, h fr)
 
-closures_few : (s : Scope) (gs : List ℕ) (fr : List Slot) (n : ℕ) (as' : List Atom) (next : List Slot → Block) → ((fr' : List Slot) → block_locals (next fr') ≤ n) → block_locals (closures s gs fr as' next) ≤ atoms_locals s as' + n
+closures_few : (s : Scope) (gs : List ℕ) (fr : List LiftSlot) (n : ℕ) (as' : List Atom) (next : List LiftSlot → Block) → ((fr' : List LiftSlot) → block_locals (next fr') ≤ n) → block_locals (closures s gs fr as' next) ≤ atoms_locals s as' + n
 closures_few s gs fr n [] next h = omega (arith, h fr)
 closures_few s gs fr n (a ∷ as') next h =
     let r = closure_few s gs fr (atoms_locals s as' + n) a (λ fr'. closures s gs fr' as' next) (λ fr'. closures_few s gs fr' n as' next h) in
     omega (arith, r)
 
 mutual
-  op_few : (s : Scope) (gs : List ℕ) (fr : List Slot) (g : ℕ) (op : AnfOp) → op_locals (lift_op s gs fr g op) + functions_locals (functions_op s gs g op) + atoms_locals s (atoms_of op) ≤ normal_op_locals s op
+  op_few : (s : Scope) (gs : List ℕ) (fr : List LiftSlot) (g : ℕ) (op : AnfOp) → op_locals (lift_op s gs fr g op) + functions_locals (functions_op s gs g op) + atoms_locals s (atoms_of op) ≤ normal_op_locals s op
   op_few s gs fr g (ConstOp x) = omega arith
   op_few s gs fr g (AppOp f a) = omega arith
   op_few s gs fr g (ConOp k as') = omega arith
@@ -148,27 +148,27 @@ mutual
       omega (arith, h, functions_join (def_functions (shares ws n s) (numbered g n gs) ws (g + n) ds) (functions_defs (shares ws n s) (numbered g n gs) (g + n) ds))
   op_few s gs fr g (CaseOp a bs) = omega (arith, branches_few s gs fr g bs)
 
-  block_few : (s : Scope) (gs : List ℕ) (fr : List Slot) (g : ℕ) (t : AnfBlock) → block_locals (lift_block s gs fr g t) + functions_locals (functions_block s gs g t) ≤ normal_locals s t
+  block_few : (s : Scope) (gs : List ℕ) (fr : List LiftSlot) (g : ℕ) (t : AnfBlock) → block_locals (lift_block s gs fr g t) + functions_locals (functions_block s gs g t) ≤ normal_locals s t
   block_few s gs fr g (TailAtom a) = omega (arith, closures_few s gs fr 0 (a ∷ []) (λ fr'. RetAtom (atom s fr' a)) (λ fr'. omega arith))
   block_few s gs fr g (Tail op) =
       let n = normal_op_locals s op - functions_locals (functions_op s gs g op) - atoms_locals s (atoms_of op) in
       let r = closures_few s gs fr n (atoms_of op) (λ fr'. Ret (lift_op s gs fr' g op)) (λ fr'. omega (arith, op_few s gs fr' g op)) in
       omega (arith, r, op_few s gs fr g op)
   block_few s gs fr g (BindAtom a t) =
-      let next = λ (fr' : List Slot). lift_block (Plain s) (0 ∷ gs) (Holds (depth s) ∷ fr') g t in
+      let next = λ (fr' : List LiftSlot). lift_block (Plain s) (0 ∷ gs) (Holds (depth s) ∷ fr') g t in
       let n = 1 + normal_locals (Plain s) t - functions_locals (functions_block (Plain s) (0 ∷ gs) g t) in
       let r = closures_few s gs fr n (a ∷ []) (λ fr'. LetAtom (atom s fr' a) (next fr')) (λ fr'. omega (arith, block_few (Plain s) (0 ∷ gs) (Holds (depth s) ∷ fr') g t)) in
       omega (arith, r, block_few (Plain s) (0 ∷ gs) (Holds (depth s) ∷ fr) g t)
   block_few s gs fr g (Bind op t) =
       let g' = g + op_functions op in
-      let next = λ (fr' : List Slot). lift_block (Plain s) (0 ∷ gs) (Holds (depth s) ∷ fr') g' t in
+      let next = λ (fr' : List LiftSlot). lift_block (Plain s) (0 ∷ gs) (Holds (depth s) ∷ fr') g' t in
       let first = functions_locals (functions_op s gs g op) in
       let second = functions_locals (functions_block (Plain s) (0 ∷ gs) g' t) in
       let n = normal_op_locals s op + normal_locals (Plain s) t - first - second - atoms_locals s (atoms_of op) in
       let r = closures_few s gs fr n (atoms_of op) (λ fr'. Let (lift_op s gs fr' g op) (next fr')) (λ fr'. omega (arith, op_few s gs fr' g op, block_few (Plain s) (0 ∷ gs) (Holds (depth s) ∷ fr') g' t)) in
       omega (arith, r, op_few s gs fr g op, block_few (Plain s) (0 ∷ gs) (Holds (depth s) ∷ fr) g' t, functions_join (functions_op s gs g op) (functions_block (Plain s) (0 ∷ gs) g' t))
 
-  branches_few : (s : Scope) (gs : List ℕ) (fr : List Slot) (g : ℕ) (bs : AnfBranches) → branches_locals (lift_branches s gs fr g bs) + functions_locals (functions_branches s gs g bs) ≤ normal_branches_locals s bs
+  branches_few : (s : Scope) (gs : List ℕ) (fr : List LiftSlot) (g : ℕ) (bs : AnfBranches) → branches_locals (lift_branches s gs fr g bs) + functions_locals (functions_branches s gs g bs) ≤ normal_branches_locals s bs
   branches_few s gs fr g NoBranch = omega arith
   branches_few s gs fr g (Branch n t rest) =
       omega (arith, block_few (plains n s) (unnumbered n gs) (holding n s fr) g t, branches_few s gs fr (g + block_functions t) rest, functions_join (functions_block (plains n s) (unnumbered n gs) g t) (functions_branches s gs (g + block_functions t) rest))

@@ -1,6 +1,6 @@
 -- The lower bound on steps.
 use Rattle.std.proofs.Common.{ℕ, ◌≤◌, [], refl, sym, ◌∙◌, subst, arith}
-use Rattle.lambda_box.specs.ClosureEvaluation.{Empty, bind_all, Run}
+use Rattle.lambda_box.specs.ClosureEvaluation.{Empty, bind_all, ClosureRun}
 use Rattle.lambda_box.specs.DataTerms.{no_data}
 use Rattle.box_passes.proofs.Matches.{same_matches}
 use Rattle.anf_convert.proofs.Preorder.{reads_tree}
@@ -27,7 +27,7 @@ pub lower_bound : AnswersTakeAsManySteps
 lower_bound P pages m w ns n matches pos small some ok evaluates reads first k s starts reach =
     let x = same_matches P ok.form ok.saturated [] [] no_data w ns n matches evaluates reads in
     let r = x.2 in
-    let run = subst (λ vs. Run P (bind_all vs Empty) P.main r.v r.counts) (no_values x.1 refl) r.run in
+    let run = subst (λ vs. ClosureRun P (bind_all vs Empty) P.main r.v r.counts) (no_values x.1 refl) r.run in
     let d = reads_tree r.v ns r.reads in
     let both = form_suffices P m ok.form ok.constants ok.main ok.constructors in
     let y = back_end P pages m r.v d.0 r.counts pos small some both.0 both.1 ok.limits run d.1 in

@@ -7,9 +7,9 @@ use Rattle.pc_terms.specs.BoxSyntax.{BoxTerm, BoxTerms, Box, BLambda, BLetIn, BA
 use Rattle.lambda_box.specs.BoxProgram.{BoxProgram}
 use Rattle.anf_convert.specs.declared.program.Atom.{Atom}
 use Rattle.anf_convert.specs.declared.program.Atom.TheVariants.{Var as AVar, Box as ABox, Empty as AEmpty}
-use Rattle.anf_convert.specs.Anf.{LamOp, AnfBlock, AnfBranches, AnfDefs, LamDef, Binding, AtomIs, OpIs, tail_of, block_of}
+use Rattle.anf_convert.specs.Anf.{LamOp, AnfBlock, AnfBranches, AnfDefs, LamDef, AnfBinding, AtomIs, OpIs, tail_of, block_of}
 use Rattle.anf_convert.specs.Captured.{Scope, Outside, Plain, depth, Entry, Unbound, Word, Words, entry, plains, shares, fix_captured}
-use Rattle.anf_convert.specs.ToAnf.{Res, RAtom, RCon, ROp, Norm, Named, at_depth, binding_of, sealed, with_variable, named, levels, name_at, then_arg, then_body, then_case, just, norm, norm_branches, norm_defs, code_of}
+use Rattle.anf_convert.specs.ToAnf.{Res, RAtom, RCon, ROp, Norm, NamedResult, at_depth, binding_of, sealed, with_variable, named, levels, name_at, then_arg, then_body, then_case, just, norm, norm_branches, norm_defs, code_of}
 use Rattle.anf_convert.specs.ToAnfKeeps.{Ready, ReadyTerms}
 use Rattle.anf_convert.proofs.Widths.{def_total}
 use Rattle.closure_lift.specs.FreeVariables.{size}
@@ -47,28 +47,28 @@ atom_one s (AVar i) = entry_one (entry s i)
 atom_one s ABox = omega arith
 atom_one s (AEmpty k) = omega arith
 
-abbrev binding_locals : Scope → Binding → ℕ
+abbrev binding_locals : Scope → AnfBinding → ℕ
 binding_locals s (AtomIs a) = 1 + atoms_locals s (a ∷ [])
 binding_locals s (OpIs op) = normal_op_locals s op
 
 -- bindings with at most so many locals
-data Ops : Scope → List Binding → Scope → ℕ → Type 0 where
+data Ops : Scope → List AnfBinding → Scope → ℕ → Type 0 where
   ops_none : {S : Scope} {n : ℕ} → Ops S [] S n
-  ops_more : {S S' : Scope} {p : Binding} {ps : List Binding} {k n : ℕ} → binding_locals S p + k ≤ n → Ops (Plain S) ps S' k → Ops S (p ∷ ps) S' n
+  ops_more : {S S' : Scope} {p : AnfBinding} {ps : List AnfBinding} {k n : ℕ} → binding_locals S p + k ≤ n → Ops (Plain S) ps S' k → Ops S (p ∷ ps) S' n
 
-ops_later : {S S' : Scope} {ps : List Binding} {n : ℕ} → Ops S ps S' n → Later S S'
+ops_later : {S S' : Scope} {ps : List AnfBinding} {n : ℕ} → Ops S ps S' n → Later S S'
 ops_later ops_none = same
 ops_later (ops_more le hs) = later_trans (push same) (ops_later hs)
 
-ops_size : {S S' : Scope} {ps : List Binding} {n : ℕ} → Ops S ps S' n → size S' ≡ size S + length ps
+ops_size : {S S' : Scope} {ps : List AnfBinding} {n : ℕ} → Ops S ps S' n → size S' ≡ size S + length ps
 ops_size ops_none = omega arith
 ops_size (ops_more le hs) = omega (arith, ops_size hs)
 
-ops_loose : {S S' : Scope} {ps : List Binding} {n m : ℕ} → n ≤ m → Ops S ps S' n → Ops S ps S' m
+ops_loose : {S S' : Scope} {ps : List AnfBinding} {n m : ℕ} → n ≤ m → Ops S ps S' n → Ops S ps S' m
 ops_loose le ops_none = ops_none
 ops_loose le (ops_more h hs) = ops_more (omega (arith, le, h)) hs
 
-ops_then : {S S' S'' : Scope} {ps qs : List Binding} {n m : ℕ} → Ops S ps S' n → Ops S' qs S'' m → Ops S (ps ++ qs) S'' (n + m)
+ops_then : {S S' S'' : Scope} {ps qs : List AnfBinding} {n m : ℕ} → Ops S ps S' n → Ops S' qs S'' m → Ops S (ps ++ qs) S'' (n + m)
 ops_then ops_none g = ops_loose (omega arith) g
 ops_then {m = m} (ops_more {k = k} h hs) g = ops_more {k = k + m} (omega (arith, h)) (ops_then hs g)
 
@@ -87,7 +87,7 @@ record NormFew (S : Scope) (m : Norm) (n : ℕ) : Type 0 where
   total : i + j ≤ n
 
 -- an atom has at most so many wherever it stands
-record NameFew (S : Scope) (m : Named) (n : ℕ) : Type 0 where
+record NameFew (S : Scope) (m : NamedResult) (n : ℕ) : Type 0 where
   S' : Scope
   i : ℕ
   j : ℕ
@@ -107,7 +107,7 @@ tail_few S d j (RCon c []) eq h = omega arith
 tail_few S d j (RCon c (x ∷ xs)) eq h = h S d same eq
 tail_few S d j (ROp op) eq h = h
 
-block_few : {S S' : Scope} {ps : List Binding} {i : ℕ} (t : AnfBlock) → Ops S ps S' i → normal_locals S (block_of ps t) ≤ i + normal_locals S' t
+block_few : {S S' : Scope} {ps : List AnfBinding} {i : ℕ} (t : AnfBlock) → Ops S ps S' i → normal_locals S (block_of ps t) ≤ i + normal_locals S' t
 block_few t ops_none = omega arith
 block_few t (ops_more {p = AtomIs a} h hs) = omega (arith, h, block_few t hs)
 block_few t (ops_more {p = OpIs op} h hs) = omega (arith, h, block_few t hs)
@@ -122,10 +122,10 @@ fresh_few S T x e later at eq =
     let i : e - suc x ≡ size T - suc (size S) = omega (arith, at, eq) in
     ap entry_locals (ap (entry T) i ∙ fresh later)
 
-with_few : {S S' : Scope} {ps : List Binding} {i : ℕ} (d j : ℕ) (res : Res) → d ≡ size S → Ops S ps S' i → ResFew S' res j → Ops S (with_variable d ps res).ops (Plain S') (i + (j + 1))
+with_few : {S S' : Scope} {ps : List AnfBinding} {i : ℕ} (d j : ℕ) (res : Res) → d ≡ size S → Ops S ps S' i → ResFew S' res j → Ops S (with_variable d ps res).ops (Plain S') (i + (j + 1))
 with_few {S' = S'} {ps} d j res eq os h = ops_then os (ops_more {k = 0} (omega (arith, binding_let S' (d + length ps) j res (omega (arith, eq, ops_size os)) h)) ops_none)
 
-name_few : {S S' : Scope} {ps : List Binding} {i : ℕ} (d j : ℕ) (res : Res) → d ≡ size S → Ops S ps S' i → ResFew S' res j → NameFew S (named d ps res) (i + j)
+name_few : {S S' : Scope} {ps : List AnfBinding} {i : ℕ} (d j : ℕ) (res : Res) → d ≡ size S → Ops S ps S' i → ResFew S' res j → NameFew S (named d ps res) (i + j)
 name_few {S' = S'} {i = i} d j (RAtom a) eq os h = record { S' = S'; i = i; j = j; ops = os; at = λ T e later same_size. omega (arith, atom_one T (at_depth e a), h); total = omega arith }
 name_few {S' = S'} {i = i} d j (RCon c []) eq os h = record { S' = S'; i = i; j = j; ops = os; at = λ T e later same_size. omega arith; total = omega arith }
 name_few {S' = S'} {ps} {i} d j (RCon c (x ∷ xs)) eq os h =
@@ -144,7 +144,7 @@ named_arg d arg eq h =
     let m = name_few d h.j (arg d).res eq h.ops h.res in
     record { S' = m.S'; i = m.i; j = m.j; ops = m.ops; at = m.at; total = omega (arith, m.total, h.total) }
 
-arg_few : {S S' : Scope} {ps : List Binding} {i n k : ℕ} (d j : ℕ) (res : Res) (arg : ℕ → Norm) → d ≡ size S → Ops S ps S' i → ResFew S' res j → ArgFew S' arg n → i + j + n < k → NormFew S (then_arg d ps res arg) k
+arg_few : {S S' : Scope} {ps : List AnfBinding} {i n k : ℕ} (d j : ℕ) (res : Res) (arg : ℕ → Norm) → d ≡ size S → Ops S ps S' i → ResFew S' res j → ArgFew S' arg n → i + j + n < k → NormFew S (then_arg d ps res arg) k
 arg_few {S' = S'} {ps} {i} d j (RAtom f) arg eq os h next lt =
     let e = d + length ps in
     let at : d + length ps ≡ size S' = omega (arith, eq, ops_size os) in

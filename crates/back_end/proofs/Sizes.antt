@@ -20,7 +20,7 @@ use Rattle.closure_lift.specs.CapturedLimit.{BlocksCapture, ProgramCaptures}
 use Rattle.closure_lift.proofs.Forms.{lift_forms}
 use Rattle.wasm_emit.proofs.LiftedWeight.{lifted_weight}
 use Rattle.wasm_emit.proofs.Sized.{emit_sized}
-use Rattle.back_end.specs.BackEnd.{passed, IsWithin}
+use Rattle.back_end.specs.BackEnd.{passed, IsWithinPasses}
 use Rattle.back_end.specs.ModuleSizes.{LocalsAreFew, ModulesAreSmall}
 use Rattle.back_end.proofs.CapturedWords.{code_few}
 use Rattle.back_end.proofs.LiftedLocals.{normal_constants_locals, few_locals}
@@ -34,7 +34,7 @@ constants_capture P C K [] ready narrow = tt
 constants_capture P C K (d ∷ ds) ready narrow = (code_few C P K d.body (ready d here) (narrow d here), constants_capture P C K ds (λ e at. ready e (there at)) (λ e at. narrow e (there at)))
 
 -- the lambdas and fixpoints have no more captured words than the program has words
-program_captures : (P : BoxProgram) (m : ℕ) → IsWithin P m → ProgramCaptures (suc (most_words (prop_match_program P))) (to_anf (shrunk_program P))
+program_captures : (P : BoxProgram) (m : ℕ) → IsWithinPasses P m → ProgramCaptures (suc (most_words (prop_match_program P))) (to_anf (shrunk_program P))
 program_captures P m ok =
     let S = shrunk_program P in
     let Q = prop_match_program P in

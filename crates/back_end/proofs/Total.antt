@@ -29,7 +29,7 @@ use Rattle.wasm_emit.specs.EmittedModule.{module_of}
 use Rattle.wasm_emit.specs.EmitLaws.{Finished, Spent}
 use Rattle.wasm_emit.proofs.Composition.{longer}
 use Rattle.wasm_emit.proofs.Spelled.{emit_spelled}
-use Rattle.back_end.specs.BackEnd.{passed, deepest, IsWithin, ModulesAnswer, ModulesAreValid, ModulesCanBeSpelled}
+use Rattle.back_end.specs.BackEnd.{passed, deepest, IsWithinPasses, ModulesAnswer, ModulesAreValid, ModulesCanBeSpelled}
 use Rattle.back_end.proofs.Composition.{back_end, back_end_valid}
 use Rattle.back_end.proofs.Whole.{families, product_le}
 
@@ -110,7 +110,7 @@ module _ (P : BoxProgram) (form : IsBoxProgram P) where
     prepared_all Done h few = tt
     prepared_all (Next n t ts) h few = (prepared t h.0 few.0, prepared_all ts h.1 few.1)
 
-pub suffices : (P : BoxProgram) (m : ℕ) → IsWithin P m → IsReady (shrunk_program P) × ProgramFits (shrunk_program P) m
+pub suffices : (P : BoxProgram) (m : ℕ) → IsWithinPasses P m → IsReady (shrunk_program P) × ProgramFits (shrunk_program P) m
 suffices P m ok =
     let S = shrunk_program P in
     let form = shrunk_forms P ok.form in

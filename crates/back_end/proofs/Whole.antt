@@ -2,11 +2,11 @@
 use Rattle.std.proofs.Common.{◌≡◌, ℕ, ◌+◌, ◌-◌, ◌*◌, ◌≤◌, List, [], ◌∷◌, ◌++◌, length, map, refl, sym, subst, arith}
 use Rattle.lambda_box.specs.BoxProgram.{BoxFamily, Has, here, there}
 use Rattle.lambda_box.specs.BoxData.{Data as Nodes}
-use Rattle.lambda_box.specs.ClosureEvaluation.{Values, NoValue}
+use Rattle.lambda_box.specs.ClosureEvaluation.{ClosureValues, NoValue}
 use Rattle.box_passes.specs.Saturate.{without_parameters}
 use Rattle.lambda_box.specs.DataTerms.{ValuesHold, hold_none, hold_last}
 
-pub no_values : {vs : Values} {ds : List Nodes} → ValuesHold vs ds → ds ≡ [] → vs ≡ NoValue
+pub no_values : {vs : ClosureValues} {ds : List Nodes} → ValuesHold vs ds → ds ≡ [] → vs ≡ NoValue
 no_values hold_none e = refl
 no_values (hold_last {d = d} {ds = ds} hs h) e = absurd (not_empty ds d e)
   where

@@ -32,7 +32,7 @@ abbrev pub deepest : ℕ
 deepest = 2048
 
 -- a program of the form, where no family has over m constructors, within the limits: of depth after saturation, of captured words, and of functions
-pub record IsWithin (P : BoxProgram) (m : ℕ) : Type 0 where
+pub record IsWithinPasses (P : BoxProgram) (m : ℕ) : Type 0 where
   pub form : IsBoxProgram P
   pub constructors : (F : BoxFamily) → Has P.families F → length F.args ≤ m
   pub constants : (d : BoxConstant) → Has (saturated_program P).constants d → depth d.body ≤ deepest
@@ -57,11 +57,11 @@ pub record Answered (P : BoxProgram) (pages m : ℕ) (ns : Nodes) (n : ℕ) : Ty
 
 -- where main evaluates by substitution to data with n nodes, every run of the module answers that data or is exhausted
 abbrev pub ModulesAnswer : Type 0
-ModulesAnswer = (P : BoxProgram) (pages m : ℕ) (w : BoxTerm) (ns : Nodes) (n matched : ℕ) → 0 < pages → pages ≤ 16384 → 0 < m → IsWithin P m → BoxEvaluates P P.main w n matched → BoxReads P w ns → Answered P pages m ns n
+ModulesAnswer = (P : BoxProgram) (pages m : ℕ) (w : BoxTerm) (ns : Nodes) (n matched : ℕ) → 0 < pages → pages ≤ 16384 → 0 < m → IsWithinPasses P m → BoxEvaluates P P.main w n matched → BoxReads P w ns → Answered P pages m ns n
 
 abbrev pub ModulesAreValid : Type 0
-ModulesAreValid = (P : BoxProgram) (pages m : ℕ) → 0 < pages → pages ≤ 16384 → IsWithin P m → IsValid (module_of (passed P) pages)
+ModulesAreValid = (P : BoxProgram) (pages m : ℕ) → 0 < pages → pages ≤ 16384 → IsWithinPasses P m → IsValid (module_of (passed P) pages)
 
 -- where besides no function has too many locals, bytes can spell the module
 abbrev pub ModulesCanBeSpelled : Type 0
-ModulesCanBeSpelled = (P : BoxProgram) (pages m : ℕ) → 0 < pages → pages ≤ 16384 → IsWithin P m → CountsFit (passed P) m → IsModule (module_of (passed P) pages)
+ModulesCanBeSpelled = (P : BoxProgram) (pages m : ℕ) → 0 < pages → pages ≤ 16384 → IsWithinPasses P m → CountsFit (passed P) m → IsModule (module_of (passed P) pages)

@@ -8,13 +8,13 @@ use Rattle.wasm_core.specs.ShortestBytes.{module_bytes}
 use Rattle.wasm_emit.specs.EmittedBodies.{FewLocals}
 use Rattle.wasm_emit.specs.EmittedModule.{module_of}
 use Rattle.wasm_emit.specs.EmitLaws.{CountsFit}
-use Rattle.back_end.specs.BackEnd.{passed, IsWithin}
+use Rattle.back_end.specs.BackEnd.{passed, IsWithinPasses}
 
 -- where no function has too many locals, the shortest bytes of the module are at most so many
 abbrev pub ModulesAreSmall : Type 0
 ModulesAreSmall =
-    (P : BoxProgram) (pages m : ℕ) → IsWithin P m → CountsFit (passed P) m → length (module_bytes (module_of (passed P) pages)) ≤ 64 * program_nodes (saturated_program P) * greatest_words P + 4096
+    (P : BoxProgram) (pages m : ℕ) → IsWithinPasses P m → CountsFit (passed P) m → length (module_bytes (module_of (passed P) pages)) ≤ 64 * program_nodes (saturated_program P) * greatest_words P + 4096
 
 -- only a program with over 50,000 nodes after saturation has a function with over 50,000 locals
 abbrev pub LocalsAreFew : Type 0
-LocalsAreFew = (P : BoxProgram) (m : ℕ) → IsWithin P m → program_nodes (saturated_program P) ≤ 50000 → FewLocals (passed P)
+LocalsAreFew = (P : BoxProgram) (m : ℕ) → IsWithinPasses P m → program_nodes (saturated_program P) ≤ 50000 → FewLocals (passed P)

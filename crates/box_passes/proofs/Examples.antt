@@ -6,7 +6,7 @@ use Rattle.pc_terms.specs.BoxSyntax.{Box, BLambda, BApp, BConstruct, BCase}
 use Rattle.lambda_box.specs.BoxProgram.{BoxFamily, BoxProgram, here, there, KeepsBoxFamily}
 use Rattle.box_passes.specs.Saturate.{saturate_term}
 use Rattle.box_passes.specs.PropMatch.{drop_matches}
-use Rattle.lambda_box.specs.ClosureEvaluation.{VBox, Empty, Bind, BindFix, closure_words, fix_words, VConstruct, NoValue, nothing, found, Run, run_construct, run_head, run_arg, run_match, run_value}
+use Rattle.lambda_box.specs.ClosureEvaluation.{VBox, Empty, Bind, BindFix, closure_words, fix_words, VConstruct, NoValue, nothing, found, ClosureRun, run_construct, run_head, run_arg, run_match, run_value}
 
 abbrev list_family : FamilyId
 list_family = record { block = record { 0 = 0 }; family = 0 }
@@ -66,8 +66,8 @@ program =
 abbrev nat_kept : KeepsBoxFamily program nat_family (record { id = nat_family; propositional = false; params = 0; args = 0 ∷ 1 ∷ [] })
 nat_kept = (there (there here), refl)
 
-zero_run : Run program Empty (BConstruct nat_family 0) (VConstruct nat_family 0 NoValue) nothing
+zero_run : ClosureRun program Empty (BConstruct nat_family 0) (VConstruct nat_family 0 NoValue) nothing
 zero_run = run_construct nat_kept refl refl run_head
 
-predecessor_runs : Run program Empty program.main (VConstruct nat_family 0 NoValue) (record { contractions = 1; matches = 1; blocks = 1; greatest = 2 })
+predecessor_runs : ClosureRun program Empty program.main (VConstruct nat_family 0 NoValue) (record { contractions = 1; matches = 1; blocks = 1; greatest = 2 })
 predecessor_runs = run_match nat_kept refl (run_construct nat_kept refl refl (run_arg run_head zero_run)) refl (run_value found)

@@ -8,22 +8,22 @@ use Rattle.pc_terms.specs.declared.leaf.FamilyId.{FamilyId}
 use Rattle.pc_terms.specs.BoxSyntax.{BoxTerm, BoxTerms, Box, BFix}
 use Rattle.lambda_box.specs.BoxProgram.{BoxProgram, boxes, box_fixpoints}
 use Rattle.lambda_box.specs.BoxEvaluation.{box_unfolded}
-use Rattle.lambda_box.specs.ClosureEvaluation.{Value, VBox, VFix, Values, NoValue, Then, Env, Bind, BindFix, bind_all, box_values, size, Holds, Defines, Finds, found, later, found_fix, past_fix}
+use Rattle.lambda_box.specs.ClosureEvaluation.{ClosureValue, VBox, VFix, ClosureValues, NoValue, Then, ClosureEnv, Bind, BindFix, bind_all, box_values, size, Holds, Defines, Finds, found, later, found_fix, past_fix}
 use Rattle.lambda_box.proofs.Spines.{same_body, arguments, arguments_before, boxes_number, fixpoints_number, one_item}
 use Rattle.box_passes.proofs.Selves.{made_count}
 use Rattle.box_passes.proofs.Standing.{IsValue, is_box, is_fix, Stands, StandBody, StandDefs, no_defs, one_def, Made, made_head, made_dropped, made_kept, Extends, Filled, Fills, stands_put, stands_put_body}
 
-extends_one : (v : Value) (e : Env) → Extends e (Bind v e) 1
+extends_one : (v : ClosureValue) (e : ClosureEnv) → Extends e (Bind v e) 1
 extends_one v e i h at = let eq : suc i ≡ 1 + i = omega arith in subst (λ n. Finds (Bind v e) n h) eq (later at)
 
-extends_all : (vs : Values) (e : Env) → Extends e (bind_all vs e) (size vs)
+extends_all : (vs : ClosureValues) (e : ClosureEnv) → Extends e (bind_all vs e) (size vs)
 extends_all NoValue e i h at = let eq : i ≡ 0 + i = omega arith in subst (λ n. Finds e n h) eq at
 extends_all (Then v vs) e i h at = let eq : suc (size vs + i) ≡ suc (size vs) + i = omega arith in subst (λ n. Finds (Bind v (bind_all vs e)) n h) eq (later (extends_all vs e i h at))
 
-extends_fix : (rargs : List ℕ) (bs : BoxTerms) (e : Env) → Extends e (BindFix rargs bs e) (length rargs)
+extends_fix : (rargs : List ℕ) (bs : BoxTerms) (e : ClosureEnv) → Extends e (BindFix rargs bs e) (length rargs)
 extends_fix rargs bs e i h at = past_fix i refl at
 
-fills_one : {P : BoxProgram} {a : BoxTerm} {v : Value} (e : Env) → IsValue P a v → Fills P (Bind v e) 0 1 (put a)
+fills_one : {P : BoxProgram} {a : BoxTerm} {v : ClosureValue} (e : ClosureEnv) → IsValue P a v → Fills P (Bind v e) 0 1 (put a)
 fills_one {P} {a} {v} e h = record { keeps = λ i l. absurd (omega arith); fills = λ i l. one i (0 + i) (omega arith) l }
   where
     one : (i j : ℕ) → j ≡ i → i < 1 → Filled P (Bind v e) i (put a j)
@@ -32,10 +32,10 @@ fills_one {P} {a} {v} e h = record { keeps = λ i l. absurd (omega arith); fills
     one (suc i) j eq l = absurd (omega arith)
 
 -- a value put in for the innermost variable
-pub stands_one : {P : BoxProgram} {e : Env} {t b a : BoxTerm} {v : Value} → IsValue P a v → Stands P 1 e t b → Stands P 0 (Bind v e) (substitute (put a) t) b
+pub stands_one : {P : BoxProgram} {e : ClosureEnv} {t b a : BoxTerm} {v : ClosureValue} → IsValue P a v → Stands P 1 e t b → Stands P 0 (Bind v e) (substitute (put a) t) b
 stands_one {P} {e} {a = a} {v = v} g h = stands_put P e (Bind v e) 1 (extends_one v e) 1 0 (put a) refl (fills_one e g) h
 
-pub body_one : {P : BoxProgram} {r : ℕ} {e : Env} {t b a : BoxTerm} {v : Value} → IsValue P a v → StandBody P r 1 e t b → StandBody P r 0 (Bind v e) (substitute (put a) t) b
+pub body_one : {P : BoxProgram} {r : ℕ} {e : ClosureEnv} {t b a : BoxTerm} {v : ClosureValue} → IsValue P a v → StandBody P r 1 e t b → StandBody P r 0 (Bind v e) (substitute (put a) t) b
 body_one {P} {e = e} {a = a} {v = v} g h = stands_put_body P e (Bind v e) 1 (extends_one v e) 1 0 (put a) refl (fills_one e g) h
 
 -- boxes
@@ -49,7 +49,7 @@ put_boxes (suc k) s i l = go (order k i) (λ b. put_boxes k (first Box s) i b)
         let same : i ≡ length (boxes k) + 0 = omega (arith, boxes_number k) in
         ap (put_all (boxes k) (first Box s)) same ∙ put_all-past (boxes k) (first Box s) 0
 
-finds_boxes : (k : ℕ) (e : Env) (i : ℕ) → i < k → Finds (bind_all (box_values k) e) i (Holds VBox)
+finds_boxes : (k : ℕ) (e : ClosureEnv) (i : ℕ) → i < k → Finds (bind_all (box_values k) e) i (Holds VBox)
 finds_boxes zero e i l = absurd (omega arith)
 finds_boxes (suc k) e zero l = found
 finds_boxes (suc k) e (suc i) l = later (finds_boxes k e i (omega arith))
@@ -58,7 +58,7 @@ pub box_values_size : (k : ℕ) → size (box_values k) ≡ k
 box_values_size zero = refl
 box_values_size (suc k) = ap suc (box_values_size k)
 
-pub stands_boxes : {P : BoxProgram} {e : Env} {t b : BoxTerm} (k : ℕ) → Stands P (k + 0) e t b → Stands P 0 (bind_all (box_values k) e) (substitute (put_all (boxes k) Rel) t) b
+pub stands_boxes : {P : BoxProgram} {e : ClosureEnv} {t b : BoxTerm} (k : ℕ) → Stands P (k + 0) e t b → Stands P 0 (bind_all (box_values k) e) (substitute (put_all (boxes k) Rel) t) b
 stands_boxes {P} {e} k h =
     stands_put P e (bind_all (box_values k) e) (size (box_values k)) (extends_all (box_values k) e) (k + 0) 0 (put_all (boxes k) Rel) (omega (arith, box_values_size k))
     (record { keeps = λ i l. absurd (omega arith); fills = λ i l. one i (omega (arith, box_values_size k)) }) h
@@ -69,7 +69,7 @@ stands_boxes {P} {e} k h =
         record { h = Holds VBox; at = finds_boxes k e i l; is = subst (λ t. IsValue P t VBox) (sym (ap (put_all (boxes k) Rel) same ∙ put_boxes k Rel i l)) is_box }
 
 -- the arguments of a constructor
-pub made_size : {P : BoxProgram} {f : FamilyId} {c p j : ℕ} {t : BoxTerm} {vs : Values} → Made P f c p j t vs → size vs ≡ j - p
+pub made_size : {P : BoxProgram} {f : FamilyId} {c p j : ℕ} {t : BoxTerm} {vs : ClosureValues} → Made P f c p j t vs → size vs ≡ j - p
 made_size made_head = omega arith
 made_size (made_dropped l c h) = omega (arith, made_size h)
 made_size (made_kept l h g) = omega (arith, made_size h)
@@ -89,7 +89,7 @@ put_last : (xs : List BoxTerm) (u : BoxTerm) (s : ℕ → BoxTerm) → put_all (
 put_last [] u s = refl
 put_last (x ∷ xs) u s = put_last xs u (first x s)
 
-made_filled : {P : BoxProgram} {f : FamilyId} {c p j : ℕ} {t : BoxTerm} {vs : Values} (e : Env) → Made P f c p j t vs → (i : ℕ) → i < size vs → Filled P (bind_all vs e) i (put_all (drop p (arguments t [])) Rel i)
+made_filled : {P : BoxProgram} {f : FamilyId} {c p j : ℕ} {t : BoxTerm} {vs : ClosureValues} (e : ClosureEnv) → Made P f c p j t vs → (i : ℕ) → i < size vs → Filled P (bind_all vs e) i (put_all (drop p (arguments t [])) Rel i)
 made_filled e made_head i l = absurd (omega arith)
 made_filled e (made_dropped d c h) i l = absurd (omega (arith, made_size h))
 made_filled {P} {p = p} {vs = vs} e (made_kept {t = t} {u = u} {vs = ws} {v = v} le h g) i l =
@@ -101,7 +101,7 @@ made_filled {P} {p = p} {vs = vs} e (made_kept {t = t} {u = u} {vs = ws} {v = v}
     one zero l rec = record { h = Holds v; at = found; is = g }
     one (suc i) l rec = let r = rec i (omega arith) in record { h = r.h; at = later r.at; is = r.is }
 
-pub stands_made : {P : BoxProgram} {f : FamilyId} {c p j : ℕ} {e : Env} {t u b : BoxTerm} {vs : Values} (qs xs : List BoxTerm) → Made P f c p j t vs → arguments t [] ≡ qs ++ xs → length qs ≡ p →
+pub stands_made : {P : BoxProgram} {f : FamilyId} {c p j : ℕ} {e : ClosureEnv} {t u b : BoxTerm} {vs : ClosureValues} (qs xs : List BoxTerm) → Made P f c p j t vs → arguments t [] ≡ qs ++ xs → length qs ≡ p →
     Stands P (size vs + 0) e u b → Stands P 0 (bind_all vs e) (substitute (put_all xs Rel) u) b
 stands_made {P} {p = p} {e = e} {t = t} {vs = vs} qs xs made eq l h =
     stands_put P e (bind_all vs e) (size vs) (extends_all vs e) (size vs + 0) 0 (put_all xs Rel) (omega arith)
@@ -125,14 +125,14 @@ put_fixpoints a (suc n) rargs ts s i (suc j) eq =
     put_fixpoints (suc a) n rargs ts (first (BFix a rargs ts) s) i j (omega arith) ∙ ap (λ m. BFix m rargs ts) same
 
 -- a definition, on both sides
-pub record DefAt (P : BoxProgram) (n r k : ℕ) (e : Env) (ts bs : BoxTerms) (i : ℕ) : Type 0 where
+pub record DefAt (P : BoxProgram) (n r k : ℕ) (e : ClosureEnv) (ts bs : BoxTerms) (i : ℕ) : Type 0 where
   pub t : BoxTerm
   pub b : BoxTerm
   pub left : term_at ts i ≡ Some (n, t)
   pub right : term_at bs i ≡ Some (n, b)
   pub stands : StandBody P r (n + k) e t b
 
-pub def_at : {P : BoxProgram} {n r k : ℕ} {rs : List ℕ} {e : Env} {ts bs : BoxTerms} (i : ℕ) → StandDefs P n rs k e ts bs → slice_get rs i ≡ Some r → DefAt P n r k e ts bs i
+pub def_at : {P : BoxProgram} {n r k : ℕ} {rs : List ℕ} {e : ClosureEnv} {ts bs : BoxTerms} (i : ℕ) → StandDefs P n rs k e ts bs → slice_get rs i ≡ Some r → DefAt P n r k e ts bs i
 def_at i no_defs eq = absurd (cc)
 def_at {P} {n} {r} {k} {e = e} zero (one_def {t = t} {b = b} h hs) eq = record { t = t; b = b; left = refl; right = refl; stands = subst (λ r. StandBody P r (n + k) e t b) (one_item eq) h }
 def_at (suc i) (one_def h hs) eq = let d = def_at i hs eq in record { t = d.t; b = d.b; left = d.left; right = d.right; stands = d.stands }
@@ -143,7 +143,7 @@ slice_found (r ∷ rs) zero l = (r, refl)
 slice_found (r ∷ rs) (suc i) l = slice_found rs i (omega arith)
 
 -- the body of a fixpoint with the fixpoints put in
-pub body_unfolded : {P : BoxProgram} {r : ℕ} {rargs : List ℕ} {e : Env} {ts bs : BoxTerms} {x b : BoxTerm} (i : ℕ) → StandDefs P (length rargs) rargs 0 e ts bs → slice_get rargs i ≡ Some r →
+pub body_unfolded : {P : BoxProgram} {r : ℕ} {rargs : List ℕ} {e : ClosureEnv} {ts bs : BoxTerms} {x b : BoxTerm} (i : ℕ) → StandDefs P (length rargs) rargs 0 e ts bs → slice_get rargs i ≡ Some r →
     term_at ts i ≡ Some (length rargs, x) → term_at bs i ≡ Some (length rargs, b) → StandBody P r 0 (BindFix rargs bs e) (box_unfolded rargs ts x) b
 body_unfolded {P} {r} {rargs} {e} {ts} {bs} {x} {b} i defs at l g =
     let d = def_at i defs at in

@@ -10,7 +10,7 @@ use Rattle.lambda_box.specs.BoxData.{Data, BoxReads, BoxReadsAll, box_reads, no_
 use Rattle.box_passes.specs.Saturate.{innermost, saturate_program}
 use Rattle.box_passes.specs.SaturateLaws.{SaturatedRuns}
 use Rattle.lambda_box.specs.DataTerms.{evaluable, AreEvaluable, no_evaluable, one_evaluable, DataTerm, data_term, DataFields, no_data_field, data_field, DataTerms, no_data, more_data, ValuesHold, hold_none, hold_last}
-use Rattle.lambda_box.specs.ClosureEvaluation.{Value, VConstruct, Values, NoValue, Then, Env, Empty, bind_all, size, Holds, Finds, found, later, ValueReads, value_reads, ValuesRead, no_values, and_then}
+use Rattle.lambda_box.specs.ClosureEvaluation.{ClosureValue, VConstruct, ClosureValues, NoValue, Then, ClosureEnv, Empty, bind_all, size, Holds, Finds, found, later, ValueReads, value_reads, ValuesRead, no_values, and_then}
 use Rattle.lambda_box.proofs.Spines.{head_of, arguments, arguments_before, constructor_head, constructor_arguments}
 use Rattle.box_passes.proofs.Standing as standing
 use Rattle.box_passes.proofs.Standing.{IsValue, is_box, is_lambda, is_fix, is_part, is_part_box, is_construct, is_waiting, Stands, Made, made_head, made_dropped, made_kept, Waits}
@@ -43,7 +43,7 @@ drop_everything (suc p) [] l = refl
 drop_everything zero (x ∷ xs) l = absurd (omega arith)
 drop_everything (suc p) (x ∷ xs) l = drop_everything p xs (omega arith)
 
-nothing_read : {P : BoxProgram} {ds : Data} (vs : Values) (ys : List BoxTerm) → size vs ≡ 0 → ys ≡ [] → BoxReadsAll P ys ds → ValuesRead vs ds
+nothing_read : {P : BoxProgram} {ds : Data} (vs : ClosureValues) (ys : List BoxTerm) → size vs ≡ 0 → ys ≡ [] → BoxReadsAll P ys ds → ValuesRead vs ds
 nothing_read NoValue [] z e no_box_field = no_values
 nothing_read NoValue (y ∷ ys) z e r = absurd (cc)
 nothing_read (Then v vs) ys z e r = absurd (omega arith)
@@ -52,12 +52,12 @@ apply_append : (f : BoxTerm) (xs ys : List BoxTerm) → box_apply f (xs ++ ys) �
 apply_append f [] ys = refl
 apply_append f (x ∷ xs) ys = apply_append (BApp f x) xs ys
 
-read_last : {P : BoxProgram} {xs : List BoxTerm} {u : BoxTerm} {ds : Data} {v : Value} {vs : Values} (q : LastField P xs u ds) → ValuesRead vs q.ds' → ValueReads v q.d → ValuesRead (Then v vs) ds
+read_last : {P : BoxProgram} {xs : List BoxTerm} {u : BoxTerm} {ds : Data} {v : ClosureValue} {vs : ClosureValues} (q : LastField P xs u ds) → ValuesRead vs q.ds' → ValueReads v q.d → ValuesRead (Then v vs) ds
 read_last {v = v} {vs = vs} q rs r = subst (λ ds. ValuesRead (Then v vs) ds) (sym q.split) (and_then rs r)
 
 module _ (P P' : BoxProgram) (constants : (k : Name) (b : BoxTerm) → KeepsBoxConstant P k b → ConstantAt P P' k b) (families : (f : FamilyId) (F : BoxFamily) → KeepsBoxFamily P f F → FamilyAt P' f F)
     (unique : (f : FamilyId) (F G : BoxFamily) → KeepsBoxFamily P f F → KeepsBoxFamily P f G → F ≡ G) where
-  constructed : {f g : FamilyId} {c c' n : ℕ} {F : BoxFamily} {w : BoxTerm} {vs : Values} {qs xs : List BoxTerm} {ds : Data} → KeepsBoxFamily P f F → slice_get F.args c ≡ Some n → Made P f c F.params (F.params + n) w vs →
+  constructed : {f g : FamilyId} {c c' n : ℕ} {F : BoxFamily} {w : BoxTerm} {vs : ClosureValues} {qs xs : List BoxTerm} {ds : Data} → KeepsBoxFamily P f F → slice_get F.args c ≡ Some n → Made P f c F.params (F.params + n) w vs →
       IsBoxConstructor P g c' w qs xs → (drop F.params (arguments w []) ≡ xs → ValuesRead vs ds) → ValueReads (VConstruct f c vs) ((c', length xs) ∷ ds)
   constructed {f} {g} {c} {c'} {n} {F} {w} {vs} {qs} {xs} {ds} keeps at made (is_box_constructor {F = G} {n = k} keeps' p at' lq lx e) rec =
       let e1 = sym (made_is made) ∙ constructor_head (qs ++ xs) e in
@@ -68,7 +68,7 @@ module _ (P P' : BoxProgram) (constants : (k : Name) (b : BoxTerm) → KeepsBoxC
       let number : c ≡ c' = ap constructor_number e1 in
       subst (λ k. ValueReads (VConstruct f c vs) ((k, length xs) ∷ ds)) number (subst (λ k. ValueReads (VConstruct f c vs) ((c, k) ∷ ds)) count (value_reads read))
 
-  not_waiting : {f g : FamilyId} {c c' n m : ℕ} {F : BoxFamily} {w : BoxTerm} {e : Env} {qs xs : List BoxTerm} → KeepsBoxFamily P f F → slice_get F.args c ≡ Some n → Waits P f c (F.params + n) (suc m) w e → IsBoxConstructor P g c' w qs xs → ⊥
+  not_waiting : {f g : FamilyId} {c c' n m : ℕ} {F : BoxFamily} {w : BoxTerm} {e : ClosureEnv} {qs xs : List BoxTerm} → KeepsBoxFamily P f F → slice_get F.args c ≡ Some n → Waits P f c (F.params + n) (suc m) w e → IsBoxConstructor P g c' w qs xs → ⊥
   not_waiting {g = g} {c' = c'} {qs = qs} {xs = xs} keeps at h (is_box_constructor {F = G} {n = k} keeps' p at' lq lx e) =
       let e1 = sym (waits_is h) ∙ constructor_head (qs ++ xs) e in
       let same = same_counts P P' constants families unique e1 keeps at keeps' at' in
@@ -77,7 +77,7 @@ module _ (P P' : BoxProgram) (constants : (k : Name) (b : BoxTerm) → KeepsBoxC
 
   mutual
     -- a value that is data holds it
-    pub reads_value : {w : BoxTerm} {v : Value} {d : Data} → IsValue P w v → BoxReads P w d → ValueReads v d
+    pub reads_value : {w : BoxTerm} {v : ClosureValue} {d : Data} → IsValue P w v → BoxReads P w d → ValueReads v d
     reads_value (is_construct F at made) (box_reads con rs) = constructed F at made con (λ eq. reads_made made _ eq rs)
     reads_value (is_waiting F at h) (box_reads con rs) = absurd (not_waiting F at h con)
     reads_value is_box (box_reads con rs) = absurd (no_box (con_head con))
@@ -86,7 +86,7 @@ module _ (P P' : BoxProgram) (constants : (k : Name) (b : BoxTerm) → KeepsBoxC
     reads_value (is_part p) (box_reads con rs) = absurd (part_no_construct p (con_head con))
     reads_value (is_part_box p) (box_reads con rs) = absurd (part_no_construct p (con_head con))
 
-    reads_made : {f : FamilyId} {c p j : ℕ} {t : BoxTerm} {vs : Values} {ds : Data} → Made P f c p j t vs → (ys : List BoxTerm) → drop p (arguments t []) ≡ ys → BoxReadsAll P ys ds → ValuesRead vs ds
+    reads_made : {f : FamilyId} {c p j : ℕ} {t : BoxTerm} {vs : ClosureValues} {ds : Data} → Made P f c p j t vs → (ys : List BoxTerm) → drop p (arguments t []) ≡ ys → BoxReadsAll P ys ds → ValuesRead vs ds
     reads_made {p = p} made_head ys eq rs = nothing_read NoValue ys refl (sym eq ∙ drop_everything p [] (omega arith)) rs
     reads_made {p = p} {vs = vs} (made_dropped {t = t} {u = u} l c h) ys eq rs =
         nothing_read vs ys (omega (arith, made_size h)) (sym eq ∙ drop_everything p (arguments (BApp t u) []) (omega (arith, one_more t u, made_count h))) rs
@@ -97,12 +97,12 @@ module _ (P P' : BoxProgram) (constants : (k : Name) (b : BoxTerm) → KeepsBoxC
 
 -- data terms are values
 record Valued (P : BoxProgram) (t : BoxTerm) (d : Data) : Type 0 where
-  v : Value
+  v : ClosureValue
   is : IsValue P t v
   reads : ValueReads v d
 
 record AllMade (P : BoxProgram) (f : FamilyId) (c p j : ℕ) (t : BoxTerm) (ds : Data) : Type 0 where
-  vs : Values
+  vs : ClosureValues
   made : Made P f c p j t vs
   reads : ValuesRead vs ds
 
@@ -127,7 +127,7 @@ mutual
           let sized : size r.vs ≡ length xs = omega (arith, made_size made, lx) in
           record { v = _; is = is_construct keeps at made; reads = subst (λ k. ValueReads (VConstruct f c r.vs) ((c, k) ∷ ds)) sized (value_reads r.reads) }
 
-  made_fields : {P : BoxProgram} {f : FamilyId} {c : ℕ} {xs : List BoxTerm} {ds : Data} {vs : Values} (p j : ℕ) → p ≤ j → (t : BoxTerm) (before : Data) → Made P f c p j t vs → ValuesRead vs before → DataFields P xs ds →
+  made_fields : {P : BoxProgram} {f : FamilyId} {c : ℕ} {xs : List BoxTerm} {ds : Data} {vs : ClosureValues} (p j : ℕ) → p ≤ j → (t : BoxTerm) (before : Data) → Made P f c p j t vs → ValuesRead vs before → DataFields P xs ds →
       AllMade P f c p (j + length xs) (box_apply t xs) (before ++ ds)
   made_fields {P} {f} {c} {vs = vs} p j le t before h rs no_data_field =
       let z : j ≡ j + 0 = omega arith in
@@ -139,13 +139,13 @@ mutual
       record { vs = r.vs; made = subst (λ n. Made P f c p n (box_apply (BApp t x) xs) r.vs) z r.made; reads = subst (λ d. ValuesRead r.vs d) (append_assoc before d ds) r.reads }
 
 -- main's arguments
-pub record Arguments (P : BoxProgram) (us : List BoxTerm) (before : Values) (args : List Data) : Type 0 where
-  pub vs : Values
+pub record Arguments (P : BoxProgram) (us : List BoxTerm) (before : ClosureValues) (args : List Data) : Type 0 where
+  pub vs : ClosureValues
   pub holds : ValuesHold vs args
-  pub lifts : (i : ℕ) (v : Value) → Finds (bind_all before Empty) i (Holds v) → Finds (bind_all vs Empty) (length us + i) (Holds v)
+  pub lifts : (i : ℕ) (v : ClosureValue) → Finds (bind_all before Empty) i (Holds v) → Finds (bind_all vs Empty) (length us + i) (Holds v)
   pub stands : StandList P 0 (bind_all vs Empty) us (innermost (length us))
 
-pub arguments_held : {P : BoxProgram} {us : List BoxTerm} {args : List Data} (before : Values) (prior : List Data) → ValuesHold before prior → DataTerms P us args → Arguments P us before (prior ++ args)
+pub arguments_held : {P : BoxProgram} {us : List BoxTerm} {args : List Data} (before : ClosureValues) (prior : List Data) → ValuesHold before prior → DataTerms P us args → Arguments P us before (prior ++ args)
 arguments_held before prior h no_data =
     record { vs = before; holds = subst (λ ds. ValuesHold before ds) (sym (append-nil prior)) h; lifts = λ i v f. let z : i ≡ 0 + i = omega arith in subst (λ n. Finds (bind_all before Empty) n (Holds v)) z f; stands = no_terms }
 arguments_held before prior h (more_data {x = x} {xs = xs} {d = d} {ds = ds} one rest) =

@@ -10,7 +10,7 @@ use Rattle.trees.proofs.Shape.{binders_substituted}
 use Rattle.pc_terms.specs.declared.leaf.Name.{Name}
 use Rattle.pc_terms.specs.declared.leaf.FamilyId.{FamilyId}
 use Rattle.pc_terms.specs.BoxSyntax.{BoxLabel, box_slots, BoxTerm, BoxTerms, Box, BLambda, BLetIn, BApp, BConst, BConstruct, BCase, BFix}
-use Rattle.lambda_box.specs.BoxProgram.{BoxConstant, BoxFamily, BoxProgram, Has, Named, NamesKept, boxes}
+use Rattle.lambda_box.specs.BoxProgram.{BoxConstant, BoxFamily, BoxProgram, Has, NamesOnly, NamesKept, boxes}
 use Rattle.lambda_box.specs.BoxForm.{IsFixBody, boxed, last, more, AreFixBodies, HasBoxForm, HasBoxFormTerms, IsBoxBody, AreOrdered, IsBoxProgram}
 use Rattle.lambda_box.specs.DataTerms.{binder_depth, binder_depth_places, binder_depth_terms, binder_depth_constants}
 use Rattle.lambda_box.specs.OrdinaryForm.{family_of}
@@ -226,7 +226,7 @@ module _ (Fs : List BoxFamily) (cs : List BoxConstant) where
   record Fine (k : ℕ) (t : BoxTerm) : Type 0 where
     closed : Closed k t
     form : HasBoxForm Fs t
-    named : Named ds t
+    named : NamesOnly ds t
     ordinary : IsOrdinary Fs t
 
   record FineTerms (k : ℕ) (ts : BoxTerms) : Type 0 where
@@ -238,7 +238,7 @@ module _ (Fs : List BoxFamily) (cs : List BoxConstant) where
   fine_at : {k j : ℕ} {t : BoxTerm} → k ≡ j → Fine k t → Fine j t
   fine_at {t = t} e h = subst (λ n. Fine n t) e h
 
-  named_tiny : {t : BoxTerm} → IsTiny t → Named ds t
+  named_tiny : {t : BoxTerm} → IsTiny t → NamesOnly ds t
   named_tiny tiny_box = (tt, tt)
   named_tiny tiny_rel = tt
 
@@ -288,7 +288,7 @@ module _ (Fs : List BoxFamily) (cs : List BoxConstant) where
   constant_named h = has_map (drop_matches_constant Fs) h
 
   mutual
-    fine : {k : ℕ} (t : BoxTerm) → Closed k t → HasBoxForm Fs t → Named cs t → Fine k (drop_matches Fs t)
+    fine : {k : ℕ} (t : BoxTerm) → Closed k t → HasBoxForm Fs t → NamesOnly cs t → Fine k (drop_matches Fs t)
     fine (Rel i) c h m = record { closed = c; form = tt; named = tt; ordinary = tt }
     fine Box c h m = record { closed = tt; form = (tt, tt); named = (tt, tt); ordinary = tt }
     fine (BLambda b) c h m = let b' = fine b c.0 h.1.0 m.1.0 in record { closed = (b'.closed, tt); form = (tt, (b'.form, tt)); named = (tt, (b'.named, tt)); ordinary = b'.ordinary }

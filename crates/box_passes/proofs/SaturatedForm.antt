@@ -9,7 +9,7 @@ use Rattle.trees.proofs.Bounds.{closed_at}
 use Rattle.pc_terms.specs.declared.leaf.Name.{Name}
 use Rattle.pc_terms.specs.declared.leaf.FamilyId.{FamilyId}
 use Rattle.pc_terms.specs.BoxSyntax.{BoxTerm, BoxTerms, Box, BLambda, BLetIn, BApp, BConst, BConstruct, BCase, BFix}
-use Rattle.lambda_box.specs.BoxProgram.{BoxConstant, BoxFamily, BoxProgram, Has, Named, NamesKept, box_apply}
+use Rattle.lambda_box.specs.BoxProgram.{BoxConstant, BoxFamily, BoxProgram, Has, NamesOnly, NamesKept, box_apply}
 use Rattle.lambda_box.specs.BoxForm.{IsFixBody, boxed, last, more, AreFixBodies, HasBoxForm, HasBoxFormTerms, IsBoxBody, AreOrdered, HasFewCounts, IsBoxProgram}
 use Rattle.trees.specs.Closed.{EveryTerm}
 use Rattle.lambda_box.specs.OrdinaryForm.{family_of}
@@ -30,7 +30,7 @@ module _ (Fs : List BoxFamily) (cs : List BoxConstant) (unique : (F G : BoxFamil
   pub record Good (k n : ℕ) (t : BoxTerm) : Type 0 where
     pub closed : Closed k t
     pub form : HasBoxForm Gs t
-    pub named : Named ds t
+    pub named : NamesOnly ds t
     pub full : IsSaturatedAt Gs n t
 
   abbrev pub AllGood : ℕ → List BoxTerm → Type 0
@@ -117,7 +117,7 @@ module _ (Fs : List BoxFamily) (cs : List BoxConstant) (unique : (F G : BoxFamil
   constant_named h = has_map (saturate_constant Fs) h
 
   mutual
-    pub good_applied : {k : ℕ} (t : BoxTerm) (xs : List BoxTerm) → Closed k t → HasBoxForm Fs t → Named cs t → AllGood k xs → Good k 0 (saturate_applied Fs t xs)
+    pub good_applied : {k : ℕ} (t : BoxTerm) (xs : List BoxTerm) → Closed k t → HasBoxForm Fs t → NamesOnly cs t → AllGood k xs → Good k 0 (saturate_applied Fs t xs)
     good_applied (Rel i) xs c h m gs = good_apply xs (record { closed = c; form = tt; named = tt; full = tt }) gs
     good_applied Box xs c h m gs = good_apply xs (record { closed = tt; form = (tt, tt); named = (tt, tt); full = tt }) gs
     good_applied (BLambda b) xs c h m gs = good_apply xs (good_lambda (good_applied b [] c.0 h.1.0 m.1.0 tt)) gs

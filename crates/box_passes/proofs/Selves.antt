@@ -8,7 +8,7 @@ use Rattle.pc_terms.specs.declared.leaf.FamilyId.{FamilyId}
 use Rattle.pc_terms.specs.BoxSyntax.{BoxTerm, BoxTerms, Box, BLambda, BApp, BConstruct, BFix}
 use Rattle.lambda_box.specs.BoxProgram.{BoxFamily, BoxProgram, Has, KeepsBoxConstant}
 use Rattle.lambda_box.specs.BoxEvaluation.{BoxEvaluates, value, beta, box_app, extend, unfold_fix, BoxUnfolds, unfolds}
-use Rattle.lambda_box.specs.ClosureEvaluation.{Value, Values, Env}
+use Rattle.lambda_box.specs.ClosureEvaluation.{ClosureValue, ClosureValues, ClosureEnv}
 use Rattle.lambda_box.proofs.Spines.{head_of, arguments, arguments_before, fix_head, fix_arguments, closed_evaluates, one_item}
 use Rattle.box_passes.proofs.Standing.{IsValue, is_box, is_lambda, is_fix, is_part, is_part_box, is_construct, is_waiting, Made, made_head, made_dropped, made_kept, Waits, waits_head, waits_more, Part, part_fix, part_app, part_box}
 
@@ -17,21 +17,21 @@ one_more t u =
     let e : length (arguments t []) + 1 ≡ suc (length (arguments t [])) = omega arith in
     ap length (arguments_before t (u ∷ [])) ∙ length-append (arguments t []) (u ∷ []) ∙ e
 
-pub made_is : {P : BoxProgram} {f : FamilyId} {c p j : ℕ} {t : BoxTerm} {vs : Values} → Made P f c p j t vs → head_of t ≡ BConstruct f c
+pub made_is : {P : BoxProgram} {f : FamilyId} {c p j : ℕ} {t : BoxTerm} {vs : ClosureValues} → Made P f c p j t vs → head_of t ≡ BConstruct f c
 made_is made_head = refl
 made_is (made_dropped l c h) = made_is h
 made_is (made_kept l h g) = made_is h
 
-pub made_count : {P : BoxProgram} {f : FamilyId} {c p j : ℕ} {t : BoxTerm} {vs : Values} → Made P f c p j t vs → length (arguments t []) ≡ j
+pub made_count : {P : BoxProgram} {f : FamilyId} {c p j : ℕ} {t : BoxTerm} {vs : ClosureValues} → Made P f c p j t vs → length (arguments t []) ≡ j
 made_count made_head = refl
 made_count (made_dropped {t = t} {u = u} l c h) = one_more t u ∙ ap suc (made_count h)
 made_count (made_kept {t = t} {u = u} l h g) = one_more t u ∙ ap suc (made_count h)
 
-pub waits_is : {P : BoxProgram} {f : FamilyId} {c all m : ℕ} {t : BoxTerm} {e : Env} → Waits P f c all m t e → head_of t ≡ BConstruct f c
+pub waits_is : {P : BoxProgram} {f : FamilyId} {c all m : ℕ} {t : BoxTerm} {e : ClosureEnv} → Waits P f c all m t e → head_of t ≡ BConstruct f c
 waits_is (waits_head eq) = refl
 waits_is (waits_more h g) = waits_is h
 
-pub waits_count : {P : BoxProgram} {f : FamilyId} {c all m : ℕ} {t : BoxTerm} {e : Env} → Waits P f c all m t e → length (arguments t []) + m ≡ all
+pub waits_count : {P : BoxProgram} {f : FamilyId} {c all m : ℕ} {t : BoxTerm} {e : ClosureEnv} → Waits P f c all m t e → length (arguments t []) + m ≡ all
 waits_count (waits_head eq) = omega (arith, eq)
 waits_count (waits_more {t = t} {u = u} h g) = omega (arith, one_more t u, waits_count h)
 
@@ -55,7 +55,7 @@ pub record PartOf (n : ℕ) (t : BoxTerm) : Type 0 where
   pub head : head_of t ≡ BFix i rargs bodies
   pub waits : slice_get rargs i ≡ Some (n + length (arguments t []))
 
-pub part_is : {P : BoxProgram} {n : ℕ} {t b : BoxTerm} {e : Env} → Part P n t e b → PartOf n t
+pub part_is : {P : BoxProgram} {n : ℕ} {t b : BoxTerm} {e : ClosureEnv} → Part P n t e b → PartOf n t
 part_is (part_fix {i = i} {rargs = rargs} {ts = ts} h eq at) = record { i = i; rargs = rargs; bodies = ts; head = refl; waits = eq ∙ ap Some (omega arith) }
 part_is {n = n} (part_app {t = t} {u = u} h g) =
     let r = part_is h in
@@ -77,14 +77,14 @@ pub fix_no_construct : {f : FamilyId} {c i : ℕ} {rargs : List ℕ} {bodies : B
 fix_no_construct e = cc
 
 -- a fixpoint with some values is no constructor
-pub part_no_construct : {P : BoxProgram} {n : ℕ} {t b : BoxTerm} {e : Env} {f : FamilyId} {c : ℕ} → Part P n t e b → head_of t ≡ BConstruct f c → ⊥
+pub part_no_construct : {P : BoxProgram} {n : ℕ} {t b : BoxTerm} {e : ClosureEnv} {f : FamilyId} {c : ℕ} → Part P n t e b → head_of t ≡ BConstruct f c → ⊥
 part_no_construct p e = let q = part_is p in no_fix (sym e ∙ q.head)
 
 -- what unfolds is no constructor, and waits for no value before the last
 pub construct_not_unfolded : {g v u : BoxTerm} {f : FamilyId} {c : ℕ} → head_of g ≡ BConstruct f c → BoxUnfolds g v u → ⊥
 construct_not_unfolded h (unfolds i rargs bodies xs r l b e) = no_fix (sym h ∙ fix_head xs e)
 
-pub unfolded_now : {P : BoxProgram} {n : ℕ} {g v u b : BoxTerm} {e : Env} → Part P n g e b → BoxUnfolds g v u → n ≡ 0
+pub unfolded_now : {P : BoxProgram} {n : ℕ} {g v u b : BoxTerm} {e : ClosureEnv} → Part P n g e b → BoxUnfolds g v u → n ≡ 0
 unfolded_now {n = n} {g = g} p (unfolds i rargs bodies xs {rarg = rarg} r l b e) =
     let q = part_is p in
     let same = sym q.head ∙ fix_head xs e in
@@ -94,7 +94,7 @@ unfolded_now {n = n} {g = g} p (unfolds i rargs bodies xs {rarg = rarg} r l b e)
 
 module _ (P : BoxProgram) (constants : (k : Name) (b : BoxTerm) → KeepsBoxConstant P k b → Closed 0 b) where
   mutual
-    pub self : {t w : BoxTerm} {v : Value} {n m : ℕ} → IsValue P t v → BoxEvaluates P t w n m → IsValue P w v
+    pub self : {t w : BoxTerm} {v : ClosureValue} {n m : ℕ} → IsValue P t v → BoxEvaluates P t w n m → IsValue P w v
     self is_box (value i) = is_box
     self (is_lambda h) (value i) = is_lambda h
     self (is_fix h l) (value i) = is_fix h l
@@ -103,7 +103,7 @@ module _ (P : BoxProgram) (constants : (k : Name) (b : BoxTerm) → KeepsBoxCons
     self (is_construct F at h) d = is_construct F at (self_made h d)
     self (is_waiting F at h) d = is_waiting F at (self_waits h d)
 
-    pub self_part : {k : ℕ} {t w b : BoxTerm} {e : Env} {n m : ℕ} → Part P k t e b → BoxEvaluates P t w n m → Part P k w e b
+    pub self_part : {k : ℕ} {t w b : BoxTerm} {e : ClosureEnv} {n m : ℕ} → Part P k t e b → BoxEvaluates P t w n m → Part P k w e b
     self_part (part_fix h eq at) (value i) = part_fix h eq at
     self_part (part_app p g) (value i) = elim i [ ]
     self_part (part_app p g) (beta d1 d2 d3) = elim (self_part p d1) [ ]
@@ -116,7 +116,7 @@ module _ (P : BoxProgram) (constants : (k : Name) (b : BoxTerm) → KeepsBoxCons
     self_part (part_box p g) (extend d1 d2 m) = part_box (self_part p d1) (self g d2)
     self_part (part_box p g) (unfold_fix d1 d2 u d3) = let q = unfolded_now (self_part p d1) u in absurd (omega (arith, q))
 
-    pub self_made : {f : FamilyId} {c p j : ℕ} {t w : BoxTerm} {vs : Values} {n m : ℕ} → Made P f c p j t vs → BoxEvaluates P t w n m → Made P f c p j w vs
+    pub self_made : {f : FamilyId} {c p j : ℕ} {t w : BoxTerm} {vs : ClosureValues} {n m : ℕ} → Made P f c p j t vs → BoxEvaluates P t w n m → Made P f c p j w vs
     self_made made_head (value i) = made_head
     self_made (made_dropped l c h) (value i) = elim i [ ]
     self_made (made_dropped l c h) (beta d1 d2 d3) = absurd (no_lambda (made_is (self_made h d1)))
@@ -129,7 +129,7 @@ module _ (P : BoxProgram) (constants : (k : Name) (b : BoxTerm) → KeepsBoxCons
     self_made (made_kept l h g) (extend d1 d2 m) = made_kept l (self_made h d1) (self g d2)
     self_made (made_kept l h g) (unfold_fix d1 d2 u d3) = absurd (construct_not_unfolded (made_is (self_made h d1)) u)
 
-    pub self_waits : {f : FamilyId} {c all j : ℕ} {t w : BoxTerm} {e : Env} {n m : ℕ} → Waits P f c all j t e → BoxEvaluates P t w n m → Waits P f c all j w e
+    pub self_waits : {f : FamilyId} {c all j : ℕ} {t w : BoxTerm} {e : ClosureEnv} {n m : ℕ} → Waits P f c all j t e → BoxEvaluates P t w n m → Waits P f c all j w e
     self_waits (waits_head eq) (value i) = waits_head eq
     self_waits (waits_more h g) (value i) = elim i [ ]
     self_waits (waits_more h g) (beta d1 d2 d3) = absurd (no_lambda (waits_is (self_waits h d1)))
@@ -140,7 +140,7 @@ module _ (P : BoxProgram) (constants : (k : Name) (b : BoxTerm) → KeepsBoxCons
   -- and that takes no match, where there are no parameters
   module _ (bare : (F : BoxFamily) → Has P.families F → F.params ≡ 0) where
     mutual
-      pub quiet : {t w : BoxTerm} {v : Value} {n m : ℕ} → IsValue P t v → BoxEvaluates P t w n m → m ≡ 0
+      pub quiet : {t w : BoxTerm} {v : ClosureValue} {n m : ℕ} → IsValue P t v → BoxEvaluates P t w n m → m ≡ 0
       quiet is_box (value i) = refl
       quiet (is_lambda h) (value i) = refl
       quiet (is_fix h l) (value i) = refl
@@ -149,7 +149,7 @@ module _ (P : BoxProgram) (constants : (k : Name) (b : BoxTerm) → KeepsBoxCons
       quiet (is_construct F at h) d = quiet_made (bare _ F.0) h d
       quiet (is_waiting F at h) d = quiet_waits h d
 
-      pub quiet_part : {k : ℕ} {t w b : BoxTerm} {e : Env} {n m : ℕ} → Part P k t e b → BoxEvaluates P t w n m → m ≡ 0
+      pub quiet_part : {k : ℕ} {t w b : BoxTerm} {e : ClosureEnv} {n m : ℕ} → Part P k t e b → BoxEvaluates P t w n m → m ≡ 0
       quiet_part (part_fix h eq at) (value i) = refl
       quiet_part (part_app p g) (value i) = elim i [ ]
       quiet_part (part_app p g) (beta d1 d2 d3) = elim (self_part p d1) [ ]
@@ -162,7 +162,7 @@ module _ (P : BoxProgram) (constants : (k : Name) (b : BoxTerm) → KeepsBoxCons
       quiet_part (part_box p g) (extend d1 d2 m) = omega (arith, quiet_part p d1, quiet g d2)
       quiet_part (part_box p g) (unfold_fix d1 d2 u d3) = let q = unfolded_now (self_part p d1) u in absurd (omega (arith, q))
 
-      pub quiet_made : {f : FamilyId} {c p j : ℕ} {t w : BoxTerm} {vs : Values} {n m : ℕ} → p ≡ 0 → Made P f c p j t vs → BoxEvaluates P t w n m → m ≡ 0
+      pub quiet_made : {f : FamilyId} {c p j : ℕ} {t w : BoxTerm} {vs : ClosureValues} {n m : ℕ} → p ≡ 0 → Made P f c p j t vs → BoxEvaluates P t w n m → m ≡ 0
       quiet_made z made_head (value i) = refl
       quiet_made z (made_dropped l c h) d = absurd (omega arith)
       quiet_made z (made_kept l h g) (value i) = elim i [ ]
@@ -171,7 +171,7 @@ module _ (P : BoxProgram) (constants : (k : Name) (b : BoxTerm) → KeepsBoxCons
       quiet_made z (made_kept l h g) (extend d1 d2 m) = omega (arith, quiet_made z h d1, quiet g d2)
       quiet_made z (made_kept l h g) (unfold_fix d1 d2 u d3) = absurd (construct_not_unfolded (made_is (self_made h d1)) u)
 
-      pub quiet_waits : {f : FamilyId} {c all j : ℕ} {t w : BoxTerm} {e : Env} {n m : ℕ} → Waits P f c all j t e → BoxEvaluates P t w n m → m ≡ 0
+      pub quiet_waits : {f : FamilyId} {c all j : ℕ} {t w : BoxTerm} {e : ClosureEnv} {n m : ℕ} → Waits P f c all j t e → BoxEvaluates P t w n m → m ≡ 0
       quiet_waits (waits_head eq) (value i) = refl
       quiet_waits (waits_more h g) (value i) = elim i [ ]
       quiet_waits (waits_more h g) (beta d1 d2 d3) = absurd (no_lambda (waits_is (self_waits h d1)))

@@ -8,13 +8,13 @@ use Rattle.pc_terms.specs.declared.leaf.FamilyId.{FamilyId}
 use Rattle.pc_terms.specs.BoxSyntax.{BoxTerm, BoxTerms, Box, BLambda, BLetIn, BApp, BConst, BConstruct, BCase, BFix}
 use Rattle.lambda_box.specs.BoxProgram.{BoxFamily, BoxProgram, KeepsBoxConstant, KeepsBoxFamily, box_apply}
 use Rattle.box_passes.specs.Saturate.{innermost, lambdas}
-use Rattle.lambda_box.specs.ClosureEvaluation.{names, names_terms, Value, VBox, VConstruct, VClosure, VFix, Values, NoValue, Then, Env, Empty, Bind, BindFix, bind_all, box_values, size, Held, held_value, Finds, found, later, found_fix, past_fix, one_if, any_below, words}
-use Rattle.lambda_box.specs.ClosureEvaluation.{closure_words, Counts, constructor_block, Run, run_box, run_value, run_definition, run_lambda, run_fix, run_constant, run_let, run_app, run_box_app, run_fix_app, run_fix_box, run_construct, run_match, run_only, RunArgs, run_head}
+use Rattle.lambda_box.specs.ClosureEvaluation.{names, names_terms, ClosureValue, VBox, VConstruct, VClosure, VFix, ClosureValues, NoValue, Then, ClosureEnv, Empty, Bind, BindFix, bind_all, box_values, size, Held, held_value, Finds, found, later, found_fix, past_fix, one_if, any_below, words}
+use Rattle.lambda_box.specs.ClosureEvaluation.{closure_words, Counts, constructor_block, ClosureRun, run_box, run_value, run_definition, run_lambda, run_fix, run_constant, run_let, run_app, run_box_app, run_fix_app, run_fix_box, run_construct, run_match, run_only, RunArgs, run_head}
 use Rattle.lambda_box.specs.ClosureEvaluation.{run_arg}
 use Rattle.lambda_box.proofs.Spines.{one_item}
 
 -- the number of values in an environment
-abbrev pub plain : Env → ℕ
+abbrev pub plain : ClosureEnv → ℕ
 plain Empty = 0
 plain (Bind v e) = suc (plain e)
 plain (BindFix rargs bodies e) = plain e
@@ -23,28 +23,28 @@ one_if_small : (b : Bool) → one_if b ≤ 1
 one_if_small true = omega arith
 one_if_small false = omega arith
 
-pub words_plain : (e : Env) (N : ℕ → Bool) → words e N ≤ plain e
+pub words_plain : (e : ClosureEnv) (N : ℕ → Bool) → words e N ≤ plain e
 words_plain Empty N = omega arith
 words_plain (Bind v e) N = omega (arith, one_if_small (N zero), words_plain e (λ i. N (suc i)))
 words_plain (BindFix rargs bodies e) N = words_plain e (λ i. N (length rargs + i) || (any_below (length rargs) N && names_terms bodies i))
 
 -- the first variables hold values
-pub data PlainFirst : ℕ → Env → Type 0 where
-  first_none : {e : Env} → PlainFirst 0 e
-  first_one : {n : ℕ} {v : Value} {e : Env} → PlainFirst n e → PlainFirst (suc n) (Bind v e)
+pub data PlainFirst : ℕ → ClosureEnv → Type 0 where
+  first_none : {e : ClosureEnv} → PlainFirst 0 e
+  first_one : {n : ℕ} {v : ClosureValue} {e : ClosureEnv} → PlainFirst n e → PlainFirst (suc n) (Bind v e)
 
 any_none : (n : ℕ) (N : ℕ → Bool) → ((i : ℕ) → N i ≡ false) → any_below n N ≡ false
 any_none zero N h = refl
 any_none (suc n) N h = ap (λ b. b || any_below n N) (h n) ∙ any_none n N h
 
-words_none : (e : Env) (N : ℕ → Bool) → ((i : ℕ) → N i ≡ false) → words e N ≡ 0
+words_none : (e : ClosureEnv) (N : ℕ → Bool) → ((i : ℕ) → N i ≡ false) → words e N ≡ 0
 words_none Empty N h = refl
 words_none (Bind v e) N h = let a = words_none e (λ i. N (suc i)) (λ i. h (suc i)) in let b = ap one_if (h zero) in omega (arith, a, b)
 words_none (BindFix rargs bodies e) N h =
     words_none e (λ i. N (length rargs + i) || (any_below (length rargs) N && names_terms bodies i))
     (λ i. ap (λ b. b || (any_below (length rargs) N && names_terms bodies i)) (h (length rargs + i)) ∙ ap (λ b. b && names_terms bodies i) (any_none (length rargs) N h))
 
-words_few : {q : ℕ} {e : Env} (N : ℕ → Bool) → PlainFirst q e → ((i : ℕ) → q ≤ i → N i ≡ false) → words e N ≤ q
+words_few : {q : ℕ} {e : ClosureEnv} (N : ℕ → Bool) → PlainFirst q e → ((i : ℕ) → q ≤ i → N i ≡ false) → words e N ≤ q
 words_few {e = e} N first_none h = let z = words_none e N (λ i. h i (omega arith)) in omega (arith, z)
 words_few N (first_one p) h = omega (arith, one_if_small (N zero), words_few (λ i. N (suc i)) p (λ i l. h (suc i) (omega arith)))
 
@@ -84,28 +84,28 @@ mutual
     fits_next : {d n : ℕ} {t : BoxTerm} {ts : BoxTerms} (e : ℕ) → d ≡ n + e → FitsTerm A e t → FitsTerms A d ts → FitsTerms A d (Next n t ts)
 
 mutual
-  pub data FitsValue (D A : ℕ) : Value → Type 0 where
+  pub data FitsValue (D A : ℕ) : ClosureValue → Type 0 where
     value_box : FitsValue D A VBox
-    value_construct : {f : FamilyId} {c : ℕ} {vs : Values} → FitsValues D A vs → FitsValue D A (VConstruct f c vs)
-    value_closure : {e : Env} {b : BoxTerm} (d : ℕ) → FitsEnv D A e → FitsTerm A d b → suc (plain e) + d ≤ D → FitsValue D A (VClosure e b)
-    value_function : {e : Env} {b : BoxTerm} (m n : ℕ) (f : FamilyId) (c : ℕ) → FitsEnv D A e → n ≤ A → PlainFirst (n - suc m) e → b ≡ lambdas m (box_apply (BConstruct f c) (innermost n)) → FitsValue D A (VClosure e b)
-    value_fix : {e : Env} {i : ℕ} {rargs : List ℕ} {bodies : BoxTerms} (d : ℕ) → FitsEnv D A e → FitsTerms A d bodies → plain e + d ≤ D → FitsValue D A (VFix e i rargs bodies)
+    value_construct : {f : FamilyId} {c : ℕ} {vs : ClosureValues} → FitsValues D A vs → FitsValue D A (VConstruct f c vs)
+    value_closure : {e : ClosureEnv} {b : BoxTerm} (d : ℕ) → FitsEnv D A e → FitsTerm A d b → suc (plain e) + d ≤ D → FitsValue D A (VClosure e b)
+    value_function : {e : ClosureEnv} {b : BoxTerm} (m n : ℕ) (f : FamilyId) (c : ℕ) → FitsEnv D A e → n ≤ A → PlainFirst (n - suc m) e → b ≡ lambdas m (box_apply (BConstruct f c) (innermost n)) → FitsValue D A (VClosure e b)
+    value_fix : {e : ClosureEnv} {i : ℕ} {rargs : List ℕ} {bodies : BoxTerms} (d : ℕ) → FitsEnv D A e → FitsTerms A d bodies → plain e + d ≤ D → FitsValue D A (VFix e i rargs bodies)
 
-  pub data FitsValues (D A : ℕ) : Values → Type 0 where
+  pub data FitsValues (D A : ℕ) : ClosureValues → Type 0 where
     values_none : FitsValues D A NoValue
-    values_then : {v : Value} {vs : Values} → FitsValue D A v → FitsValues D A vs → FitsValues D A (Then v vs)
+    values_then : {v : ClosureValue} {vs : ClosureValues} → FitsValue D A v → FitsValues D A vs → FitsValues D A (Then v vs)
 
-  pub data FitsEnv (D A : ℕ) : Env → Type 0 where
+  pub data FitsEnv (D A : ℕ) : ClosureEnv → Type 0 where
     env_empty : FitsEnv D A Empty
-    env_bind : {v : Value} {e : Env} → FitsValue D A v → FitsEnv D A e → FitsEnv D A (Bind v e)
-    env_fix : {e : Env} {rargs : List ℕ} {bodies : BoxTerms} (d : ℕ) → FitsEnv D A e → FitsTerms A d bodies → plain e + d ≤ D → FitsEnv D A (BindFix rargs bodies e)
+    env_bind : {v : ClosureValue} {e : ClosureEnv} → FitsValue D A v → FitsEnv D A e → FitsEnv D A (Bind v e)
+    env_fix : {e : ClosureEnv} {rargs : List ℕ} {bodies : BoxTerms} (d : ℕ) → FitsEnv D A e → FitsTerms A d bodies → plain e + d ≤ D → FitsEnv D A (BindFix rargs bodies e)
 
 data Spine : BoxTerm → Type 0 where
   spine_head : {f : FamilyId} {c : ℕ} → Spine (BConstruct f c)
   spine_arg : {t : BoxTerm} {i : ℕ} → Spine t → Spine (BApp t (Rel i))
 
 -- the code that runs in an environment
-data Code (D A : ℕ) (e : Env) : BoxTerm → Type 0 where
+data Code (D A : ℕ) (e : ClosureEnv) : BoxTerm → Type 0 where
   ordinary : {t : BoxTerm} (d : ℕ) → FitsTerm A d t → plain e + d ≤ D → Code D A e t
   function : {t : BoxTerm} (m n : ℕ) (f : FamilyId) (c : ℕ) → n ≤ A → PlainFirst (n - suc m) e → t ≡ BLambda (lambdas m (box_apply (BConstruct f c) (innermost n))) → Code D A e t
   spine : {t : BoxTerm} → Spine t → Code D A e t
@@ -116,18 +116,18 @@ spine_of zero f h = h
 spine_of (suc n) f h = spine_of n (BApp f (Rel n)) (spine_arg h)
 
 module _ (D A : ℕ) where
-  fits_finds : {e : Env} {i : ℕ} {h : Held} → FitsEnv D A e → Finds e i h → FitsValue D A (held_value h)
+  fits_finds : {e : ClosureEnv} {i : ℕ} {h : Held} → FitsEnv D A e → Finds e i h → FitsValue D A (held_value h)
   fits_finds env_empty at = elim at [ ]
   fits_finds (env_bind v es) found = v
   fits_finds (env_bind v es) (later at) = fits_finds es at
   fits_finds (env_fix d es bs l) (found_fix j eq) = value_fix d es bs l
   fits_finds (env_fix d es bs l) (past_fix j eq at) = fits_finds es at
 
-  fits_bind_all : {vs : Values} {e : Env} → FitsValues D A vs → FitsEnv D A e → FitsEnv D A (bind_all vs e)
+  fits_bind_all : {vs : ClosureValues} {e : ClosureEnv} → FitsValues D A vs → FitsEnv D A e → FitsEnv D A (bind_all vs e)
   fits_bind_all values_none h = h
   fits_bind_all (values_then v vs) h = env_bind v (fits_bind_all vs h)
 
-  plain_bind_all : (vs : Values) (e : Env) → plain (bind_all vs e) ≡ size vs + plain e
+  plain_bind_all : (vs : ClosureValues) (e : ClosureEnv) → plain (bind_all vs e) ≡ size vs + plain e
   plain_bind_all NoValue e = omega arith
   plain_bind_all (Then v vs) e = omega (arith, plain_bind_all vs e)
 
@@ -150,7 +150,7 @@ module _ (D A : ℕ) where
   fits_at (suc i) (fits_next e eq h hs) q = fits_at i hs q
 
   -- the body of a constructor's function
-  function_code : {e : Env} {v : Value} (m n : ℕ) (f : FamilyId) (c : ℕ) → n ≤ A → PlainFirst (n - suc m) e → Code D A (Bind v e) (lambdas m (box_apply (BConstruct f c) (innermost n)))
+  function_code : {e : ClosureEnv} {v : ClosureValue} (m n : ℕ) (f : FamilyId) (c : ℕ) → n ≤ A → PlainFirst (n - suc m) e → Code D A (Bind v e) (lambdas m (box_apply (BConstruct f c) (innermost n)))
   function_code zero n f c l p = spine (spine_of n (BConstruct f c) spine_head)
   function_code {e} {v} (suc m) n f c l p = function m n f c l
       (⊎_elim (λ lt. let q : suc (n - suc (suc m)) ≡ n - suc m = omega arith in subst (λ k. PlainFirst k (Bind v e)) q (first_one p)) (λ le. let q : 0 ≡ n - suc m = omega arith in subst (λ k. PlainFirst k (Bind v e)) q first_none) (cases_lt (suc m) n)) refl
@@ -163,20 +163,20 @@ module _ (D A : ℕ) where
       body t = t
 
   -- a lambda is entered
-  lambda_code : {e : Env} {v : Value} {b : BoxTerm} (d : ℕ) → FitsTerm A d (BLambda b) → plain e + d ≤ D → Code D A (Bind v e) b
+  lambda_code : {e : ClosureEnv} {v : ClosureValue} {b : BoxTerm} (d : ℕ) → FitsTerm A d (BLambda b) → plain e + d ≤ D → Code D A (Bind v e) b
   lambda_code d (fits_lambda e' eq h) l = ordinary e' h (omega arith)
   lambda_code {e} {v} d (fits_function m n f c l le eq) r =
       let z : 0 ≡ n - suc m = omega arith in
       subst (λ b. Code D A (Bind v e) b) (sym (inner eq)) (function_code m n f c l (subst (λ k. PlainFirst k e) z first_none))
 
-  closure_code : {e : Env} {v : Value} {b : BoxTerm} → FitsValue D A (VClosure e b) → Code D A (Bind v e) b × FitsEnv D A e
+  closure_code : {e : ClosureEnv} {v : ClosureValue} {b : BoxTerm} → FitsValue D A (VClosure e b) → Code D A (Bind v e) b × FitsEnv D A e
   closure_code (value_closure d es h l) = (ordinary d h l, es)
   closure_code {e} {v} (value_function m n f c es l p eq) = (subst (λ b. Code D A (Bind v e) b) (sym eq) (function_code m n f c l p), es)
 
-  constructed_values : {f : FamilyId} {c : ℕ} {vs : Values} → FitsValue D A (VConstruct f c vs) → FitsValues D A vs
+  constructed_values : {f : FamilyId} {c : ℕ} {vs : ClosureValues} → FitsValue D A (VConstruct f c vs) → FitsValues D A vs
   constructed_values (value_construct h) = h
 
-  pub function_words : {e : Env} (m n : ℕ) (f : FamilyId) (c : ℕ) → PlainFirst (n - suc m) e → words e (λ i. names (lambdas m (box_apply (BConstruct f c) (innermost n))) (suc i)) ≤ n
+  pub function_words : {e : ClosureEnv} (m n : ℕ) (f : FamilyId) (c : ℕ) → PlainFirst (n - suc m) e → words e (λ i. names (lambdas m (box_apply (BConstruct f c) (innermost n))) (suc i)) ≤ n
   function_words {e} m n f c p =
       let few = words_few (λ i. names (lambdas m (box_apply (BConstruct f c) (innermost n))) (suc i)) p (λ i l. function_names m n f c (suc i) (omega arith)) in
       omega (arith, few)
@@ -188,15 +188,15 @@ module _ (D A : ℕ) where
   block_words zero l = omega arith
   block_words (suc n) l = omega arith
 
-  record Small (v : Value) (c : Counts) : Type 0 where
+  record Small (v : ClosureValue) (c : Counts) : Type 0 where
     small : c.greatest ≤ W
     fits : FitsValue D A v
 
-  record SmallArgs (vs : Values) (c : Counts) : Type 0 where
+  record SmallArgs (vs : ClosureValues) (c : Counts) : Type 0 where
     small : c.greatest ≤ W
     fits : FitsValues D A vs
 
-  lambda_small : {e : Env} {b : BoxTerm} → FitsEnv D A e → Code D A e (BLambda b) → (closure_words e b ≤ W) × FitsValue D A (VClosure e b)
+  lambda_small : {e : ClosureEnv} {b : BoxTerm} → FitsEnv D A e → Code D A e (BLambda b) → (closure_words e b ≤ W) × FitsValue D A (VClosure e b)
   lambda_small {e = e} {b = b} es (ordinary d (fits_lambda e' eq h) l) = (omega (arith, words_plain e (λ i. names b (suc i))), value_closure e' es h (omega arith))
   lambda_small {e} {b} es (ordinary d (fits_function m n f c l le eq) r) =
       let z : 0 ≡ n - suc m = omega arith in
@@ -208,63 +208,63 @@ module _ (D A : ℕ) where
   lambda_small es (spine h) = elim h [ ]
 
   module _ (P : BoxProgram) (constants : (k : Name) (b : BoxTerm) → KeepsBoxConstant P k b → FitsTerm A D b) (few : (f : FamilyId) (F : BoxFamily) (c n : ℕ) → KeepsBoxFamily P f F → slice_get F.args c ≡ Some n → n ≤ A) where
-    abbrev Part : Env → BoxTerm → Type 0
+    abbrev Part : ClosureEnv → BoxTerm → Type 0
     Part e t = Code D A e t
 
-    app_parts : {e : Env} {f a : BoxTerm} → Code D A e (BApp f a) → Code D A e f × Code D A e a
+    app_parts : {e : ClosureEnv} {f a : BoxTerm} → Code D A e (BApp f a) → Code D A e f × Code D A e a
     app_parts (ordinary d (fits_app h g) l) = (ordinary d h l, ordinary d g l)
     app_parts (ordinary d (fits_function m n f c l le eq) r) = absurd (cc)
     app_parts (function m n f c l p eq) = absurd (cc)
     app_parts (spine (spine_arg h)) = (spine h, variable)
 
     -- the parts of terms that no function of a constructor is
-    record LetParts (e : Env) (b t : BoxTerm) : Type 0 where
+    record LetParts (e : ClosureEnv) (b t : BoxTerm) : Type 0 where
       first : Code D A e b
-      second : (v : Value) → Code D A (Bind v e) t
+      second : (v : ClosureValue) → Code D A (Bind v e) t
 
-    let_parts : {e : Env} {b t : BoxTerm} → Code D A e (BLetIn b t) → LetParts e b t
+    let_parts : {e : ClosureEnv} {b t : BoxTerm} → Code D A e (BLetIn b t) → LetParts e b t
     let_parts (ordinary d (fits_let e' eq h g) l) = record { first = ordinary d h l; second = λ v. ordinary e' g (omega arith) }
     let_parts (ordinary d (fits_function m n f c l le eq) r) = absurd (cc)
     let_parts (function m n f c l p eq) = absurd (cc)
     let_parts (spine h) = elim h [ ]
 
-    record CaseParts (e : Env) (s : BoxTerm) (bs : BoxTerms) : Type 0 where
+    record CaseParts (e : ClosureEnv) (s : BoxTerm) (bs : BoxTerms) : Type 0 where
       scrutinee : Code D A e s
       d : ℕ
       branches : FitsTerms A d bs
       room : plain e + d ≤ D
 
-    case_parts : {e : Env} {f : FamilyId} {s : BoxTerm} {bs : BoxTerms} → Code D A e (BCase f s bs) → CaseParts e s bs
+    case_parts : {e : ClosureEnv} {f : FamilyId} {s : BoxTerm} {bs : BoxTerms} → Code D A e (BCase f s bs) → CaseParts e s bs
     case_parts (ordinary d (fits_case h hs) l) = record { scrutinee = ordinary d h l; d = d; branches = hs; room = l }
     case_parts (ordinary d (fits_function m n f c l le eq) r) = absurd (cc)
     case_parts (function m n f c l p eq) = absurd (cc)
     case_parts (spine h) = elim h [ ]
 
-    branch_code : (e : Env) {bs : BoxTerms} {t : BoxTerm} (d i : ℕ) (vs : Values) → FitsTerms A d bs → plain e + d ≤ D → term_at bs i ≡ Some (size vs, t) → Code D A (bind_all vs e) t
+    branch_code : (e : ClosureEnv) {bs : BoxTerms} {t : BoxTerm} (d i : ℕ) (vs : ClosureValues) → FitsTerms A d bs → plain e + d ≤ D → term_at bs i ≡ Some (size vs, t) → Code D A (bind_all vs e) t
     branch_code e d i vs hs l at = let b = fits_at i hs at in ordinary b.e b.fits (omega (arith, b.room, plain_bind_all vs e))
 
-    record FixParts (e : Env) (bs : BoxTerms) : Type 0 where
+    record FixParts (e : ClosureEnv) (bs : BoxTerms) : Type 0 where
       d : ℕ
       bodies : FitsTerms A d bs
       room : plain e + d ≤ D
 
-    fix_parts : {e : Env} {i : ℕ} {rargs : List ℕ} {bs : BoxTerms} → Code D A e (BFix i rargs bs) → FixParts e bs
+    fix_parts : {e : ClosureEnv} {i : ℕ} {rargs : List ℕ} {bs : BoxTerms} → Code D A e (BFix i rargs bs) → FixParts e bs
     fix_parts (ordinary d (fits_fix hs) l) = record { d = d; bodies = hs; room = l }
     fix_parts (ordinary d (fits_function m n f c l le eq) r) = absurd (cc)
     fix_parts (function m n f c l p eq) = absurd (cc)
     fix_parts (spine h) = elim h [ ]
 
-    fix_value_parts : {e : Env} {i : ℕ} {rargs : List ℕ} {bs : BoxTerms} → FitsValue D A (VFix e i rargs bs) → FitsEnv D A e × FixParts e bs
+    fix_value_parts : {e : ClosureEnv} {i : ℕ} {rargs : List ℕ} {bs : BoxTerms} → FitsValue D A (VFix e i rargs bs) → FitsEnv D A e × FixParts e bs
     fix_value_parts (value_fix d es hs l) = (es, record { d = d; bodies = hs; room = l })
 
-    fix_code : {e : Env} {v : Value} {rargs : List ℕ} {bs : BoxTerms} {b : BoxTerm} (i : ℕ) → FixParts e bs → term_at bs i ≡ Some (length rargs, BLambda b) → Code D A (Bind v (BindFix rargs bs e)) b
+    fix_code : {e : ClosureEnv} {v : ClosureValue} {rargs : List ℕ} {bs : BoxTerms} {b : BoxTerm} (i : ℕ) → FixParts e bs → term_at bs i ≡ Some (length rargs, BLambda b) → Code D A (Bind v (BindFix rargs bs e)) b
     fix_code {e} {v} {rargs} {bs} {b} i p at = let r = fits_at i p.bodies at in lambda_code {e = BindFix rargs bs e} r.e r.fits (omega (arith, r.room, p.room))
 
     constructor_small : (n : ℕ) (c : Counts) → c.greatest ≤ W → n ≤ A → max c.greatest (constructor_block n).greatest ≤ W
     constructor_small n c h l = omega (arith, block_words n l)
 
     mutual
-      run_small : {e : Env} {t : BoxTerm} {v : Value} {c : Counts} → Run P e t v c → FitsEnv D A e → Code D A e t → Small v c
+      run_small : {e : ClosureEnv} {t : BoxTerm} {v : ClosureValue} {c : Counts} → ClosureRun P e t v c → FitsEnv D A e → Code D A e t → Small v c
       run_small run_box es h = record { small = omega arith; fits = value_box }
       run_small (run_value at) es h = record { small = omega arith; fits = fits_finds es at }
       run_small (run_definition {e' = e'} {bodies = bodies} at) es h =
@@ -318,7 +318,7 @@ module _ (D A : ℕ) where
           let s2 = run_small r2 (fits_bind_all (fits_boxes k) es) (branch_code _ q.d 0 (box_values k) q.branches q.room (ap (λ n. Some (n, t)) (sym (boxes_size k)))) in
           record { small = omega (arith, s1.small, s2.small); fits = s2.fits }
 
-      args_small : {e : Env} {f : FamilyId} {i : ℕ} {t : BoxTerm} {vs : Values} {c : Counts} → RunArgs P e f i t vs c → FitsEnv D A e → Code D A e t → SmallArgs vs c
+      args_small : {e : ClosureEnv} {f : FamilyId} {i : ℕ} {t : BoxTerm} {vs : ClosureValues} {c : Counts} → RunArgs P e f i t vs c → FitsEnv D A e → Code D A e t → SmallArgs vs c
       args_small run_head es h = record { small = omega arith; fits = values_none }
       args_small (run_arg r1 r2) es h =
           let p = app_parts h in
@@ -326,5 +326,5 @@ module _ (D A : ℕ) where
           let s2 = run_small r2 es p.1 in
           record { small = omega (arith, s1.small, s2.small); fits = values_then s2.fits s1.fits }
 
-    pub main_small : {t : BoxTerm} {v : Value} {c : Counts} → Run P Empty t v c → FitsTerm A D t → c.greatest ≤ 4 + D + A
+    pub main_small : {t : BoxTerm} {v : ClosureValue} {c : Counts} → ClosureRun P Empty t v c → FitsTerm A D t → c.greatest ≤ 4 + D + A
     main_small r h = let s = run_small r env_empty (ordinary D h (omega arith)) in s.small

@@ -5,7 +5,7 @@ use Rattle.lambda_box.specs.BoxProgram.{BoxProgram}
 use Rattle.lambda_box.specs.BoxForm.{IsBoxProgram}
 use Rattle.lambda_box.specs.BoxEvaluation.{BoxEvaluates}
 use Rattle.lambda_box.specs.BoxData.{Data, BoxReads}
-use Rattle.lambda_box.specs.ClosureEvaluation.{Value, Counts, Empty, Run, ValueReads}
+use Rattle.lambda_box.specs.ClosureEvaluation.{ClosureValue, Counts, Empty, ClosureRun, ValueReads}
 use Rattle.lambda_box.specs.DataTerms.{greatest_words}
 use Rattle.lambda_box.specs.OrdinaryForm.{IsOrdinaryProgram}
 use Rattle.box_passes.specs.PropMatch.{prop_match_program}
@@ -29,9 +29,9 @@ PassesForm = (P : BoxProgram) → IsBoxProgram P → SaturatedProgram P
 -- the evaluation of its main, where main evaluates to data with n nodes
 pub record PassedRun (P : BoxProgram) (d : Data) (n : ℕ) : Type 0 where
   pub substituted : GivesData (saturated_program P) (saturated_program P).main d
-  pub v : Value
+  pub v : ClosureValue
   pub counts : Counts
-  pub run : Run (saturated_program P) Empty (saturated_program P).main v counts
+  pub run : ClosureRun (saturated_program P) Empty (saturated_program P).main v counts
   pub reads : ValueReads v d
   pub contractions : counts.contractions ≤ n
   pub blocks : counts.blocks ≤ 2 * n

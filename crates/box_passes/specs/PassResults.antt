@@ -6,9 +6,9 @@ use Rattle.lambda_box.specs.BoxProgram.{BoxConstant, BoxProgram, Has, box_apply}
 use Rattle.lambda_box.specs.BoxForm.{IsBoxProgram}
 use Rattle.lambda_box.specs.BoxEvaluation.{BoxEvaluates}
 use Rattle.lambda_box.specs.BoxData.{Data, BoxReads}
-use Rattle.lambda_box.specs.ClosureEvaluation.{Values, Empty, bind_all}
+use Rattle.lambda_box.specs.ClosureEvaluation.{ClosureValues, Empty, bind_all}
 use Rattle.lambda_box.specs.DataTerms.{DataTerms, ValuesHold, greatest_words}
-use Rattle.box_passes.specs.PropMatch.{EvaluatesTo, drop_matches, prop_match_program}
+use Rattle.box_passes.specs.PropMatch.{EvaluatesWithin, drop_matches, prop_match_program}
 use Rattle.lambda_box.specs.OrdinaryForm.{IsOrdinaryProgram}
 use Rattle.box_passes.specs.Saturate.{innermost, saturate_term, saturate_program}
 use Rattle.lambda_box.specs.SaturatedForm.{IsSaturated, program_nodes, greatest_counts}
@@ -18,7 +18,7 @@ use Rattle.box_passes.specs.SaturateLaws.{RunsTo, GivesData, CountedRun}
 abbrev pub KeepsData : BoxProgram → BoxProgram → Type 0
 KeepsData P Q =
     (us : List BoxTerm) (args : List Data) → DataTerms P us args → (w : BoxTerm) (d : Data) (n m : ℕ) → BoxEvaluates P (box_apply P.main us) w n m → BoxReads P w d →
-    DataTerms Q us args × EvaluatesTo Q (box_apply Q.main us) d n
+    DataTerms Q us args × EvaluatesWithin Q (box_apply Q.main us) d n
 
 -- dropping the matches on its propositional families makes no term deeper
 abbrev pub NoDeeper : BoxProgram → Type 0
@@ -42,7 +42,7 @@ KeepsBareData P Q =
 abbrev pub RunsForData : BoxProgram → BoxProgram → Type 0
 RunsForData P Q =
     (us : List BoxTerm) (args : List Data) → DataTerms P us args → (w : BoxTerm) (d : Data) (n m : ℕ) → BoxEvaluates P (box_apply P.main us) w n m → BoxReads P w d →
-    (vs : Values) × ValuesHold vs args × RunsTo Q (bind_all vs Empty) (box_apply Q.main (innermost (length us))) d n
+    (vs : ClosureValues) × ValuesHold vs args × RunsTo Q (bind_all vs Empty) (box_apply Q.main (innermost (length us))) d n
 
 -- at most 3 * K + 1 nodes for each of the program's, K being the greatest number of parameters and arguments, together, of a constructor
 abbrev pub IsAtMostSaturated : BoxProgram → BoxProgram → Type 0

@@ -46,7 +46,7 @@ abbrev pub prop_match_program : BoxProgram → BoxProgram
 prop_match_program P = record { constants = map (drop_matches_constant P.families) P.constants; families = P.families; main = drop_matches P.families P.main }
 
 -- an evaluation by substitution that gives data with at most n nodes
-pub record EvaluatesTo (P : BoxProgram) (t : BoxTerm) (d : Data) (n : ℕ) : Type 0 where
+pub record EvaluatesWithin (P : BoxProgram) (t : BoxTerm) (d : Data) (n : ℕ) : Type 0 where
   pub w : BoxTerm
   pub nodes : ℕ
   pub matches : ℕ
@@ -58,7 +58,7 @@ pub record EvaluatesTo (P : BoxProgram) (t : BoxTerm) (d : Data) (n : ℕ) : Typ
 abbrev pub PropMatchKeeps : Type 0
 PropMatchKeeps =
     (P : BoxProgram) → IsBoxProgram P → (us : List BoxTerm) (args : List Data) → DataTerms P us args → (w : BoxTerm) (d : Data) (n m : ℕ) → BoxEvaluates P (box_apply P.main us) w n m → BoxReads P w d →
-    DataTerms (prop_match_program P) us args × EvaluatesTo (prop_match_program P) (box_apply (prop_match_program P).main us) d n
+    DataTerms (prop_match_program P) us args × EvaluatesWithin (prop_match_program P) (box_apply (prop_match_program P).main us) d n
 
 -- the pass's program has the form of programs, and its matches are ordinary
 abbrev pub PropMatchForm : Type 0

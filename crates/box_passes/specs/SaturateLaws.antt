@@ -5,16 +5,16 @@ use Rattle.lambda_box.specs.BoxProgram.{BoxProgram, box_apply}
 use Rattle.lambda_box.specs.BoxForm.{IsBoxProgram}
 use Rattle.lambda_box.specs.BoxEvaluation.{BoxEvaluates}
 use Rattle.lambda_box.specs.BoxData.{Data, BoxReads}
-use Rattle.lambda_box.specs.ClosureEvaluation.{Value, Values, Env, Empty, bind_all, Counts, Run, ValueReads}
+use Rattle.lambda_box.specs.ClosureEvaluation.{ClosureValue, ClosureValues, ClosureEnv, Empty, bind_all, Counts, ClosureRun, ValueReads}
 use Rattle.box_passes.specs.Saturate.{innermost, saturate_term, saturate_program}
 use Rattle.lambda_box.specs.SaturatedForm.{IsSaturated, program_nodes, greatest_counts}
 use Rattle.lambda_box.specs.DataTerms.{DataTerms, ValuesHold, greatest_words}
 
 -- an evaluation with environments that gives data with at most n contractions and 2 * n blocks
-pub record RunsTo (P : BoxProgram) (e : Env) (t : BoxTerm) (d : Data) (n : ℕ) : Type 0 where
-  pub v : Value
+pub record RunsTo (P : BoxProgram) (e : ClosureEnv) (t : BoxTerm) (d : Data) (n : ℕ) : Type 0 where
+  pub v : ClosureValue
   pub counts : Counts
-  pub run : Run P e t v counts
+  pub run : ClosureRun P e t v counts
   pub reads : ValueReads v d
   pub contractions : counts.contractions ≤ n
   pub blocks : counts.blocks ≤ 2 * n
@@ -24,7 +24,7 @@ pub record RunsTo (P : BoxProgram) (e : Env) (t : BoxTerm) (d : Data) (n : ℕ) 
 abbrev pub SaturatedRuns : Type 0
 SaturatedRuns =
     (P : BoxProgram) → IsBoxProgram P → (us : List BoxTerm) (args : List Data) → DataTerms P us args → (w : BoxTerm) (d : Data) (n m : ℕ) → BoxEvaluates P (box_apply P.main us) w n m → BoxReads P w d →
-    (vs : Values) × ValuesHold vs args × RunsTo (saturate_program P) (bind_all vs Empty) (box_apply (saturate_program P).main (innermost (length us))) d n
+    (vs : ClosureValues) × ValuesHold vs args × RunsTo (saturate_program P) (bind_all vs Empty) (box_apply (saturate_program P).main (innermost (length us))) d n
 
 -- an evaluation by substitution that gives data
 pub record GivesData (P : BoxProgram) (t : BoxTerm) (d : Data) : Type 0 where
@@ -51,13 +51,13 @@ SaturatedSize = (P : BoxProgram) → IsBoxProgram P → program_nodes (saturate_
 
 -- no evaluation of the saturated main makes a wider block than the program's words
 abbrev pub SaturatedWidths : Type 0
-SaturatedWidths = (P : BoxProgram) → IsBoxProgram P → (v : Value) (c : Counts) → Run (saturate_program P) Empty (saturate_program P).main v c → c.greatest ≤ greatest_words P
+SaturatedWidths = (P : BoxProgram) → IsBoxProgram P → (v : ClosureValue) (c : Counts) → ClosureRun (saturate_program P) Empty (saturate_program P).main v c → c.greatest ≤ greatest_words P
 
 -- an evaluation with environments that gives data with m matches
-pub record RunsWith (P : BoxProgram) (e : Env) (t : BoxTerm) (d : Data) (m : ℕ) : Type 0 where
-  pub v : Value
+pub record RunsWith (P : BoxProgram) (e : ClosureEnv) (t : BoxTerm) (d : Data) (m : ℕ) : Type 0 where
+  pub v : ClosureValue
   pub counts : Counts
-  pub run : Run P e t v counts
+  pub run : ClosureRun P e t v counts
   pub reads : ValueReads v d
   pub matches : counts.matches ≡ m
 
@@ -65,17 +65,17 @@ pub record RunsWith (P : BoxProgram) (e : Env) (t : BoxTerm) (d : Data) (m : ℕ
 abbrev pub SameMatches : Type 0
 SameMatches =
     (P : BoxProgram) → IsBoxProgram P → IsSaturated P → (us : List BoxTerm) (args : List Data) → DataTerms P us args → (w : BoxTerm) (d : Data) (n m : ℕ) → BoxEvaluates P (box_apply P.main us) w n m → BoxReads P w d →
-    (vs : Values) × ValuesHold vs args × RunsWith P (bind_all vs Empty) (box_apply P.main (innermost (length us))) d m
+    (vs : ClosureValues) × ValuesHold vs args × RunsWith P (bind_all vs Empty) (box_apply P.main (innermost (length us))) d m
 
 -- Where main evaluates by substitution to data with n nodes, so does the saturated main, with some number of matches; and the evaluation of the
 -- saturated main with environments, of which there is one, gives that data with as many matches, at most n contractions, and at most 2 * n blocks,
 -- none of more words than the program has
 pub record CountedRun (P : BoxProgram) (d : Data) (n : ℕ) : Type 0 where
   pub substituted : GivesData (saturate_program P) (saturate_program P).main d
-  pub v : Value
+  pub v : ClosureValue
   pub counts : Counts
-  pub run : Run (saturate_program P) Empty (saturate_program P).main v counts
-  pub one : (w : Value) (c : Counts) → Run (saturate_program P) Empty (saturate_program P).main w c → (v ≡ w) × (counts ≡ c)
+  pub run : ClosureRun (saturate_program P) Empty (saturate_program P).main v counts
+  pub one : (w : ClosureValue) (c : Counts) → ClosureRun (saturate_program P) Empty (saturate_program P).main w c → (v ≡ w) × (counts ≡ c)
   pub reads : ValueReads v d
   pub contractions : counts.contractions ≤ n
   pub blocks : counts.blocks ≤ 2 * n

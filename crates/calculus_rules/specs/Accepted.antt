@@ -14,7 +14,7 @@ use Rattle.calculus_rules.specs.declared.declaration.Block.{Block}
 use Rattle.calculus_rules.specs.declared.declaration.Kept.{Kept}
 use Rattle.calculus_rules.specs.declared.declaration.Kept.TheVariants.{Constant, Heads, Block as Whole}
 use Rattle.calculus_rules.specs.declared.target.Target.TheVariants.{Families}
-use Rattle.calculus_rules.specs.Environment.{Env, Has, name_of, heads_of, Entails, IsDeclared}
+use Rattle.calculus_rules.specs.Environment.{Env, Has, name_of, heads_of, SortEntails, IsDeclared}
 use Rattle.calculus_rules.specs.Context.{extend}
 use Rattle.calculus_rules.specs.Typing.{guarded, Types, TypesAll, Entries, EntrySorts}
 use Rattle.calculus_rules.specs.Naming.{some_names}
@@ -32,7 +32,7 @@ BodyFits E T (Some b) = Types guarded E [] b T
 -- each sort is at most another
 abbrev pub AllAtMost : Env → List Sort → Sort → Type 0
 AllAtMost E [] s = Unit {0}
-AllAtMost E (u ∷ us) s = Entails E u s × AllAtMost E us s
+AllAtMost E (u ∷ us) s = SortEntails E u s × AllAtMost E us s
 
 -- a constructor of family F of block B, over the declarations before and the block's families known by their types alone: each argument
 -- has its kept sort, which is at most the family's unless that is Prop; the arguments are positive; the result terms have the index

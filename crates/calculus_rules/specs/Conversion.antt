@@ -2,7 +2,7 @@
 use Rattle.std.specs.Prelude.{ℕ, List, [], ◌∷◌, Some, None}
 use Rattle.universe_levels.specs.declared.sort.Sort.{Sort}
 use Rattle.pc_terms.specs.Syntax.{Slot, Under, Lists, slots, Term, Children, End, Child, Group, Terms, Done, Next, Label, Node, SortT, Prod, LetIn}
-use Rattle.calculus_rules.specs.Environment.{Env, Entails}
+use Rattle.calculus_rules.specs.Environment.{Env, SortEntails}
 use Rattle.calculus_rules.specs.Context.{Values, under}
 use Rattle.calculus_rules.specs.Step.{Root}
 
@@ -10,7 +10,7 @@ use Rattle.calculus_rules.specs.Step.{Root}
 mutual
   pub data Equal (E : Env) : Values → Term → Term → Type 0 where
     step : {V : Values} {t u : Term} → Root E V t u → Equal E V t u
-    sorts : {V : Values} {s s' : Sort} → Entails E s s' → Entails E s' s → Equal E V (SortT s) (SortT s')
+    sorts : {V : Values} {s s' : Sort} → SortEntails E s s' → SortEntails E s' s → Equal E V (SortT s) (SortT s')
     same : {V : Values} {t : Term} → Equal E V t t
     back : {V : Values} {t u : Term} → Equal E V t u → Equal E V u t
     chain : {V : Values} {t u w : Term} → Equal E V t u → Equal E V u w → Equal E V t w
@@ -32,6 +32,6 @@ mutual
 -- below: the least preorder that contains equality, entailment of sorts, and two products with equal domains whose codomains are below
 pub data Below (E : Env) : Values → Term → Term → Type 0 where
   equal : {V : Values} {t u : Term} → Equal E V t u → Below E V t u
-  sort : {V : Values} {s s' : Sort} → Entails E s s' → Below E V (SortT s) (SortT s')
+  sort : {V : Values} {s s' : Sort} → SortEntails E s s' → Below E V (SortT s) (SortT s')
   product : {V : Values} {A A' B B' : Term} → Equal E V A A' → Below E (None ∷ V) B B' → Below E V (Prod A B) (Prod A' B')
   chain : {V : Values} {t u w : Term} → Below E V t u → Below E V u w → Below E V t w

@@ -63,10 +63,10 @@ abbrev pub heads_of : Block → Block
 heads_of B = record { name = B.name; params = B.params; families = map head_of B.families }
 
 -- the first sort is at most the second under every valuation that meets the constraints; Prop is at most every sort
-abbrev pub Entails : Env → Sort → Sort → Type 0
-Entails E Prop s = Unit {0}
-Entails E (Of u) Prop = ⊥
-Entails E (Of u) (Of w) = universes.Entails E.levels E.constraints u w
+abbrev pub SortEntails : Env → Sort → Sort → Type 0
+SortEntails E Prop s = Unit {0}
+SortEntails E (Of u) Prop = ⊥
+SortEntails E (Of u) (Of w) = universes.Entails E.levels E.constraints u w
 
 -- the levels of a sort are declared; a universe has at least one
 abbrev pub IsDeclared : Env → Sort → Type 0

@@ -14,7 +14,7 @@ use Rattle.calculus_rules.specs.declared.declaration.Kept.TheVariants.{Heads, Bl
 use Rattle.calculus_rules.specs.declared.entry.Entry.TheVariants.{Assumed}
 use Rattle.pc_rules.specs.declared.broken.Broken.TheVariants.{SortTooSmall, DuplicateName}
 use Rattle.pc_rules.specs.declared.meter.Account.{Account}
-use Rattle.calculus_rules.specs.Environment.{Env, Has, here, there, head_of, heads_of, Entails, IsDeclared}
+use Rattle.calculus_rules.specs.Environment.{Env, Has, here, there, head_of, heads_of, SortEntails, IsDeclared}
 use Rattle.calculus_rules.specs.Context.{Context, extend}
 use Rattle.calculus_rules.specs.Typing.{guarded, Entries, EntrySorts, no_sorts, a_sort}
 use Rattle.calculus_rules.specs.Positivity.{ArePositive, ArePositiveConstructors, ArePositiveFamilies}
@@ -136,7 +136,7 @@ ConstructorPositive H k C = ArePositive H k C.args × (some_names (Families k) 0
 
 module _ (cert : Items) (H : Env) (w : HasCountedDeclarations H) (inf : Walking) (si : Infers H inf) (cmp : Script) (sc : Shows H cmp) (q : Test)
     (test : IsTest H.levels H.constraints q) where
-  fits : (r s : Sort) (u v : Account) → (fits_sort q r s u).end ≡ run.Done tt v → r ≢ Prop → Entails H s r
+  fits : (r s : Sort) (u v : Account) → (fits_sort q r s u).end ≡ run.Done tt v → r ≢ Prop → SortEntails H s r
   fits Prop s u v h n = absurd (n refl)
   fits (Of x) s u v h n = entails H q test w s (Of x) (rules_tested (sort_below q s (Of x)) (run.done tt u) (SortTooSmall s (Of x)) u tt v h).0
 

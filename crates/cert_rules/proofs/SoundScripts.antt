@@ -6,7 +6,7 @@ use Rattle.universe_levels.specs.declared.sort.Sort.{Sort}
 use Rattle.universe_levels.specs.declared.sort.Sort.TheVariants.{Prop, Of}
 use Rattle.pc_terms.specs.Syntax.{Slot, slots, Label, SortOf, ProdOf, LambdaOf, LetInOf, AppOf, ConstOf, IndOf, ConstructOf, CaseOf, FixOf, Term, Terms, Children, End, Child, Group, Next, Rel, Node, SortT, Prod, LetIn}
 use Rattle.pc_terms.specs.Syntax as syntax
-use Rattle.calculus_rules.specs.Environment.{Env, Entails}
+use Rattle.calculus_rules.specs.Environment.{Env, SortEntails}
 use Rattle.calculus_rules.specs.Context.{Values, under}
 use Rattle.calculus_rules.specs.Conversion.{Equal, EqualChildren, EqualTerms, inside, and, group, end, same as the_same, back, chain, sorts, Below, equal as of_equal, sort as of_sorts, product}
 use Rattle.calculus_rules.specs.Conversion as conversion
@@ -182,7 +182,7 @@ module _ (E : Env) where
     walked_shown V equal a b i (Some acts) s v e h = parts_shown V equal a b acts e (all_pass acts s v h)
 
   module _ (q : Test) (test : IsTest E.levels E.constraints q) where
-    entails : (s s' : Sort) → sort_below q s s' ≡ true → Entails E s s'
+    entails : (s s' : Sort) → sort_below q s s' ≡ true → SortEntails E s s'
     entails Prop s' h = tt
     entails (Of x) Prop h = false_true h
     entails (Of x) (Of y) h = test.yes x y h

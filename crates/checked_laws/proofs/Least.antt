@@ -11,7 +11,7 @@ use Rattle.calculus_rules.specs.declared.declaration.Block.{Block}
 use Rattle.calculus_rules.specs.declared.declaration.Kept.{Kept}
 use Rattle.calculus_rules.specs.declared.declaration.Kept.TheVariants.{Constant, Heads, Block as Whole}
 use Rattle.calculus_rules.specs.declared.entry.Entry.TheVariants.{Assumed, Defined}
-use Rattle.calculus_rules.specs.Environment.{Env, Entails, FamilyDecl, family_at, KeepsConstant, KnowsFamily, KeepsFamily}
+use Rattle.calculus_rules.specs.Environment.{Env, SortEntails, FamilyDecl, family_at, KeepsConstant, KnowsFamily, KeepsFamily}
 use Rattle.calculus_rules.specs.Context.{Context, values, type_at}
 use Rattle.calculus_rules.specs.Conversion.{same, back, Below, equal, product}
 use Rattle.calculus_rules.specs.Instances.{family_type, constructor_type, predicate_at, definitions}
@@ -139,7 +139,7 @@ module _ (E : Env) (h : IsAccepted E) where
 
   module _ (inf : Typing) (least : Least E inf) where
     -- the sort that is found for a term is at most each of its sorts
-    found_sort_least : (c : Context) (A : Term) (s r : Sort) (u v : Account) → (sort_of E inf c A u).end ≡ run.Done s v → Types bare E c A (SortT r) → Entails E s r
+    found_sort_least : (c : Context) (A : Term) (s r : Sort) (u v : Account) → (sort_of E inf c A u).end ≡ run.Done s v → Types bare E c A (SortT r) → SortEntails E s r
     unfolding sort_of
     found_sort_least c A s r u v q d =
         let p1 = bind_both (inf c A u) (λ T v. bind (whnf E (values c) T v) (λ W w. sort_found inf c T W w)) s v q in

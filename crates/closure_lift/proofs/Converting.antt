@@ -15,9 +15,9 @@ use Rattle.closure_lift.specs.LiftedForm.{Limits}
 use Rattle.closure_lift.specs.LiftKeeps.{KeepsLifted, HasLiftedForm}
 use Rattle.closure_lift.specs.Lift.{block_functions, constants_functions, lift_block, functions_block, functions_constants, lift}
 use Rattle.closure_lift.specs.FreeVariables.{notes_block}
-use Rattle.closure_lift.specs.Lifting.{Stand, Refuses, most_words}
+use Rattle.closure_lift.specs.Lifting.{Stand, LiftRefuses, most_words}
 use Rattle.closure_lift.specs.CapturedLimit.{BlockCaptures, BlocksCapture, ProgramCaptures}
-use Rattle.closure_lift.specs.NamedLift.{bodies, named_constants, named_lift, constants_notes, most_functions, put_parts, IsCrowded, IsLifted, HasConstantsOf, HasFewFunctions, IsRefused}
+use Rattle.closure_lift.specs.NamedLift.{bodies, named_constants, named_lift, constants_notes, most_functions, put_parts, IsCrowded, IsLifted, HasConstantsOf, HasFewFunctions, LiftIsRefused}
 use Rattle.closure_lift.specs.declared.fault.LiftFault.{LiftFault}
 use Rattle.closure_lift.specs.declared.fault.LiftFault.TheVariants.{Captured, Functions, Memory}
 use Rattle.closure_lift.specs.declared.program.LiftedConstant.{LiftedConstant}
@@ -129,7 +129,7 @@ module _ (P : AnfProgram) where
   main_captures r = transport (λ Q. Q) (block_captures_same (anf.place_in P.constants) most_words Outside P.main) r.main
 
   -- a refusal of a part is one of the program
-  pub refuses_program : {Q : Type 0} (e : LiftFault) → (ProgramCaptures most_words (anf.anf_of P) → Q) → Refuses Q e → IsRefused (anf.anf_of P) e
+  pub refuses_program : {Q : Type 0} (e : LiftFault) → (ProgramCaptures most_words (anf.anf_of P) → Q) → LiftRefuses Q e → LiftIsRefused (anf.anf_of P) e
   refuses_program Captured f h = λ r. h (f r)
   refuses_program Functions f h = absurd h
   refuses_program Memory f h = tt
@@ -179,7 +179,7 @@ module _ (P : AnfProgram) where
 
   -- constants and functions that are too many for the program are so for its definition
   pub refuses_crowd : (fs : List Function) (cs : List LiftedConstant) (families : List BoxFamily) (t : Block) (e : LiftFault) → put_parts fs cs families t ≡ named_lift P → ProgramCaptures most_words (anf.anf_of P) →
-      IsCrowded (length cs + length fs) e → IsRefused (anf.anf_of P) e
+      IsCrowded (length cs + length fs) e → LiftIsRefused (anf.anf_of P) e
   refuses_crowd fs cs families t Captured is few h = absurd h
   refuses_crowd fs cs families t Functions is few h =
       let q : Lifted = put_parts fs cs families t in
@@ -192,11 +192,11 @@ module _ (P : AnfProgram) where
   refuses_crowd fs cs families t Memory is few h = tt
 
   -- answers and refusals
-  pub err_refused : {X : Type 0} (r : Result X LiftFault) (e : LiftFault) → r ≡ Err e → IsRefused (anf.anf_of P) e → IfErr r (IsRefused (anf.anf_of P))
-  err_refused r e is h = transport (λ r. IfErr r (IsRefused (anf.anf_of P))) (sym is) h
+  pub err_refused : {X : Type 0} (r : Result X LiftFault) (e : LiftFault) → r ≡ Err e → LiftIsRefused (anf.anf_of P) e → IfErr r (LiftIsRefused (anf.anf_of P))
+  err_refused r e is h = transport (λ r. IfErr r (LiftIsRefused (anf.anf_of P))) (sym is) h
 
-  pub memory_refused : (e : LiftFault) → e ≡ Memory → IsRefused (anf.anf_of P) e
-  memory_refused e m = transport (IsRefused (anf.anf_of P)) (sym m) tt
+  pub memory_refused : (e : LiftFault) → e ≡ Memory → LiftIsRefused (anf.anf_of P) e
+  memory_refused e m = transport (LiftIsRefused (anf.anf_of P)) (sym m) tt
 
   pub ok_lifted : {E : Type 0} (r : Result Lifted E) (fs : List Function) (cs : List LiftedConstant) (families : List BoxFamily) (t : Block) → IfOk r (λ q. q ≡ put_parts fs cs families t) →
       IfOk r (λ _. length cs + length fs ≤ most_functions) → put_parts fs cs families t ≡ named_lift P → ProgramCaptures most_words (anf.anf_of P) → IfOk r (IsLifted P)
@@ -207,7 +207,7 @@ module _ (P : AnfProgram) where
   ok_lifted (Err x) fs cs families t e few is captures = tt
 
   pub err_crowd : {X : Type 0} (r : Result X LiftFault) (fs : List Function) (cs : List LiftedConstant) (families : List BoxFamily) (t : Block) → IfErr r (IsCrowded (length cs + length fs)) →
-      put_parts fs cs families t ≡ named_lift P → ProgramCaptures most_words (anf.anf_of P) → IfErr r (IsRefused (anf.anf_of P))
+      put_parts fs cs families t ≡ named_lift P → ProgramCaptures most_words (anf.anf_of P) → IfErr r (LiftIsRefused (anf.anf_of P))
   err_crowd (Ok x) fs cs families t h is captures = tt
   err_crowd (Err e) fs cs families t h is captures = refuses_crowd fs cs families t e is captures h
 

@@ -5,18 +5,18 @@ use Rattle.std.specs.Prelude.{nat_eq, nat_lt, if◌then◌else◌}
 use Rattle.anf_convert.specs.Anf.{AnfBlock, AnfDefs, def_count}
 use Rattle.anf_convert.specs.AnfEvaluation.{LamAt}
 use Rattle.anf_convert.specs.Captured.{Scope, Plain, depth, plains, shares, block_words, defs_words, is_in, add_word, captured, lam_captured, fix_captured}
-use Rattle.closure_lift.specs.Lift.{Slot, Holds, same_slot, holding}
+use Rattle.closure_lift.specs.Lift.{LiftSlot, Holds, same_slot, holding}
 use Rattle.anf_convert.proofs.Scopes.{Each, each_map, depth_shares, more_plain, more_fix, more_block, lam_words}
 
-pub data In (k : Slot) : List Slot → Type 0 where
-  in_here : {j : Slot} {fr : List Slot} → same_slot k j ≡ true → In k (j ∷ fr)
-  in_after : {j : Slot} {fr : List Slot} → In k fr → In k (j ∷ fr)
+pub data In (k : LiftSlot) : List LiftSlot → Type 0 where
+  in_here : {j : LiftSlot} {fr : List LiftSlot} → same_slot k j ≡ true → In k (j ∷ fr)
+  in_after : {j : LiftSlot} {fr : List LiftSlot} → In k fr → In k (j ∷ fr)
 
 -- the words that are bound outside d words are among what a block holds
-abbrev pub Covers : List Slot → ℕ → List ℕ → Type 0
+abbrev pub Covers : List LiftSlot → ℕ → List ℕ → Type 0
 Covers fr d xs = Each (λ x. x < d → In (Holds x) fr) xs
 
-abbrev pub holds_all : List ℕ → List Slot
+abbrev pub holds_all : List ℕ → List LiftSlot
 holds_all ws = map (λ x. Holds x) ws
 
 is_in_slots : (x : ℕ) (ws : List ℕ) → is_in x ws ≡ true → In (Holds x) (holds_all ws)
@@ -27,7 +27,7 @@ is_in_slots x (y ∷ ys) e = go (nat_eq x y) refl e (is_in_slots x ys)
     go true h e rest = in_here h
     go false h e rest = in_after (rest e)
 
-in_add : (k : Slot) (b : Bool) (x : ℕ) (ws : List ℕ) → In k (holds_all ws) → In k (holds_all (add_word b x ws))
+in_add : (k : LiftSlot) (b : Bool) (x : ℕ) (ws : List ℕ) → In k (holds_all ws) → In k (holds_all (add_word b x ws))
 in_add k false x ws h = h
 in_add k true x ws h = go (is_in x ws)
   where
@@ -52,13 +52,13 @@ each_holds [] = tt
 each_holds (x ∷ xs) = (in_here (eq-eqb x x refl), each_map (λ y. In (Holds y) (holds_all xs)) (λ y. In (Holds y) (holds_all (x ∷ xs))) (λ y h. in_after h) xs (each_holds xs))
 
 -- one more word
-pub grow : (d : ℕ) (fr : List Slot) (x : ℕ) → (x < d → In (Holds x) fr) → x < suc d → In (Holds x) (Holds d ∷ fr)
+pub grow : (d : ℕ) (fr : List LiftSlot) (x : ℕ) → (x < d → In (Holds x) fr) → x < suc d → In (Holds x) (Holds d ∷ fr)
 grow d fr x h lt = ⊎_elim (λ below. in_after (h below)) (λ above. in_here (eq-eqb x d (omega arith))) (cases_lt x d)
 
-pub covers_bind : (s : Scope) (fr : List Slot) (xs : List ℕ) → Covers fr (depth s) xs → Covers (Holds (depth s) ∷ fr) (suc (depth s)) xs
+pub covers_bind : (s : Scope) (fr : List LiftSlot) (xs : List ℕ) → Covers fr (depth s) xs → Covers (Holds (depth s) ∷ fr) (suc (depth s)) xs
 covers_bind s fr xs h = each_map (λ x. x < depth s → In (Holds x) fr) (λ x. x < suc (depth s) → In (Holds x) (Holds (depth s) ∷ fr)) (grow (depth s) fr) xs h
 
-pub covers_plains : (n : ℕ) (s : Scope) (fr : List Slot) (xs : List ℕ) → Covers fr (depth s) xs → Covers (holding n s fr) (depth (plains n s)) xs
+pub covers_plains : (n : ℕ) (s : Scope) (fr : List LiftSlot) (xs : List ℕ) → Covers fr (depth s) xs → Covers (holding n s fr) (depth (plains n s)) xs
 covers_plains zero s fr xs h = h
 covers_plains (suc n) s fr xs h = covers_bind (plains n s) (holding n s fr) xs (covers_plains n s fr xs h)
 

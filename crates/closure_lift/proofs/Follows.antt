@@ -5,8 +5,8 @@ use Rattle.anf_convert.specs.declared.program.Atom.{Atom}
 use Rattle.anf_convert.specs.declared.program.Atom.TheVariants.{Var as AVar}
 use Rattle.anf_convert.specs.Captured.{Scope, Outside, Plain, depth, Word, Words, plains, shares, atom_words, atoms_words, op_words, block_words, branches_words, defs_words, lam_captured, fix_captured}
 use Rattle.anf_convert.specs.AnfEvaluation.{AnfVal, WBox, WCon, WClos, WFix, AnfVals, WNil, WCons, count, ◌+w◌, fixes, LamAt, BoxAt, AnfBranchAt, at_branch, after_branch, Gives, give_word, give_fix, give_none, give_more, AnfDoes, op_const, op_app, op_app_box, op_app_fix, op_app_fix_box, op_con, op_lam, op_fix, op_case, AnfGets, block_atom, block_op, block_let, block_bind, AnfAnswers, main_alone, main_applied}
-use Rattle.closure_lift.specs.Lifted.{OApp, Block, RetAtom, LetAtom, Ret, Let, Program, Val, VBox, VCon, VClos, Vals, VNil, VCons, size, ◌+v◌, BranchAt, Is, is_var, is_box, AllAre, are_none, are_more, Does, do_const, do_app, do_box_app, do_con, do_clos, do_case, Gets, gets_atom, gets_let_atom, gets_ret, gets_let, Answers, answers_alone, answers_applied}
-use Rattle.closure_lift.specs.Lift.{Slot, Holds, held, atom, closures, atoms_of, op_functions, unnumbered, numbered, holding, lift_op, lift_block, lift_branches, functions_op, functions_block, functions_branches, constants_functions, lift}
+use Rattle.closure_lift.specs.Lifted.{OApp, Block, RetAtom, LetAtom, Ret, Let, Program, Val, VBox, VCon, VClos, Vals, VNil, VCons, size, ◌+v◌, BranchAt, Is, is_var, is_box, AllAre, are_none, are_more, Does, do_const, do_app, do_box_app, do_con, do_clos, do_case, Gets, gets_atom, gets_let_atom, gets_ret, gets_let, LiftedAnswers, answers_alone, answers_applied}
+use Rattle.closure_lift.specs.Lift.{LiftSlot, Holds, held, atom, closures, atoms_of, op_functions, unnumbered, numbered, holding, lift_op, lift_block, lift_branches, functions_op, functions_block, functions_branches, constants_functions, lift}
 use Rattle.anf_convert.specs.AnfData.{DataTree, DataTrees, AnfIsData, anf_data, AnfAreData, anf_data_none, anf_data_more}
 use Rattle.closure_lift.specs.LiftKeeps.{IsData, is_data, AreData, are_data_none, are_data_more, LiftKeeps}
 use Rattle.closure_lift.proofs.Covering.{In, Covers, holds_all, covers_bind, covers_plains, lam_covers, fix_covers}
@@ -38,10 +38,10 @@ branch_words F s (at_branch {n = n} {t = t}) h = (each_split F (block_words (pla
 branch_words F s (after_branch {m = m} {d = d} at) h = branch_words F s at (each_split F (block_words (plains m s) d) _ h).1
 
 -- the atoms of an operation
-pub one_atom : (fr : List Slot) (s : Scope) (a : Atom) → Covers fr (depth s) (atom_words s a) → Covers fr (depth s) (atoms_words s (a ∷ []))
+pub one_atom : (fr : List LiftSlot) (s : Scope) (a : Atom) → Covers fr (depth s) (atom_words s a) → Covers fr (depth s) (atoms_words s (a ∷ []))
 one_atom fr s a h = each_join (λ x. x < depth s → In (Holds x) fr) (atom_words s a) [] h tt
 
-pub two_atoms : (fr : List Slot) (s : Scope) (f a : Atom) → Covers fr (depth s) (op_words s (AppOp f a)) → Covers fr (depth s) (atoms_words s (f ∷ a ∷ []))
+pub two_atoms : (fr : List LiftSlot) (s : Scope) (f a : Atom) → Covers fr (depth s) (op_words s (AppOp f a)) → Covers fr (depth s) (atoms_words s (f ∷ a ∷ []))
 two_atoms fr s f a h = let r = each_split (λ x. x < depth s → In (Holds x) fr) (atom_words s f) _ h in each_join (λ x. x < depth s → In (Holds x) fr) (atom_words s f) _ r.0 (one_atom fr s a r.1)
 
 pub covers_none : (xs : List ℕ) → Covers [] 0 xs
@@ -60,8 +60,8 @@ module _ (Q : AnfProgram) (w : ℕ) where
     pub le_c : c' ≤ c
 
   -- so does an operation, after the closures for its atoms
-  pub record Did (s : Scope) (gs : List ℕ) (fr : List Slot) (le : Vals) (g : ℕ) (op : AnfOp) (v : AnfVal) (c k b l : ℕ) : Type 0 where
-    pub fr' : List Slot
+  pub record Did (s : Scope) (gs : List ℕ) (fr : List LiftSlot) (le : Vals) (g : ℕ) (op : AnfOp) (v : AnfVal) (c k b l : ℕ) : Type 0 where
+    pub fr' : List LiftSlot
     pub le' : Vals
     pub grown : Grown fr le fr' le'
     pub u : Val
@@ -72,7 +72,7 @@ module _ (Q : AnfProgram) (w : ℕ) where
     pub l1 : ℕ
     pub l2 : ℕ
     pub does : Does P w le' (lift_op s gs fr' g op) u c' k b2 l2
-    pub wrap : (next : List Slot → Block) (r : Val) (c k b' l' : ℕ) → Gets P w le' (next fr') r c k b' l' → Gets P w le (closures s gs fr (atoms_of op) next) r c k (b1 + b') (l1 + l')
+    pub wrap : (next : List LiftSlot → Block) (r : Val) (c k b' l' : ℕ) → Gets P w le' (next fr') r c k b' l' → Gets P w le (closures s gs fr (atoms_of op) next) r c k (b1 + b') (l1 + l')
     pub le_c : c' ≤ c
     pub blocks : b1 + b2 ≡ b
     pub words : l1 + l2 ≡ l
@@ -87,10 +87,10 @@ module _ (Q : AnfProgram) (w : ℕ) where
 
   -- what is known of a block, wherever it stands
   abbrev Follows : Scope → AnfVals → AnfBlock → AnfVal → ℕ → ℕ → ℕ → ℕ → Type 0
-  Follows s e t v c k b l = (gs : List ℕ) (fr : List Slot) (le : Vals) (g : ℕ) → ER P (word_in fr le) s gs e → size le ≡ length fr → Covers fr (depth s) (block_words s t) → Placed (functions_block s gs g t) g P.functions → Got le (lift_block s gs fr g t) v c k b l
+  Follows s e t v c k b l = (gs : List ℕ) (fr : List LiftSlot) (le : Vals) (g : ℕ) → ER P (word_in fr le) s gs e → size le ≡ length fr → Covers fr (depth s) (block_words s t) → Placed (functions_block s gs g t) g P.functions → Got le (lift_block s gs fr g t) v c k b l
 
   -- an application after the closures for its atoms
-  app_did : {s : Scope} {gs : List ℕ} {e : AnfVals} {fr : List Slot} {le : Vals} {f a : Atom} {v1 v2 r : AnfVal} {c k b l : ℕ} (b1 b2 l1 l2 g : ℕ) (y : Ready P w s gs e fr le (f ∷ a ∷ []) (WCons v1 (WCons v2 WNil)) (b1 + (b2 + 0)) (l1 + (l2 + 0))) → ((le' : Vals) (f' a' : Atom)
+  app_did : {s : Scope} {gs : List ℕ} {e : AnfVals} {fr : List LiftSlot} {le : Vals} {f a : Atom} {v1 v2 r : AnfVal} {c k b l : ℕ} (b1 b2 l1 l2 g : ℕ) (y : Ready P w s gs e fr le (f ∷ a ∷ []) (WCons v1 (WCons v2 WNil)) (b1 + (b2 + 0)) (l1 + (l2 + 0))) → ((le' : Vals) (f' a' : Atom)
       (u1 u2 : Val) → Is le' f' u1 → Is le' a' u2 → VR P v1 u1 → VR P v2 u2 → Called le' f' a' r c k b l) → Did s gs fr le g (AppOp f a) r c k (b1 + b2 + b) (l1 + l2 + l)
   app_did {s} {f = f} {a = a} {v1 = v1} {v2 = v2} {r = r} {c = c} {k = k} {b = b} {l = l} b1 b2 l1 l2 g y call =
       let d = go y.all y.related in
@@ -125,7 +125,7 @@ module _ (Q : AnfProgram) (w : ℕ) where
       let n = def_count ds in
       record { u = VBox; is = vr_box; c' = 1; does = do_app is1 is2 (box_placed (shares cs n s) (numbered g n gs) cs g (g + n) j num at (front _ _ p)) sz (gets_atom is_box); le_c = omega arith }
 
-  case_did : {s : Scope} {gs : List ℕ} {e : AnfVals} {fr : List Slot} {le : Vals} {a : Atom} {i : ℕ} {vs : AnfVals} {t : AnfBlock} {r : AnfVal} {c k b l : ℕ} (bs : AnfBranches) (b1 l1 g : ℕ) (y : Ready P w s gs e fr le (a ∷ []) (WCons (WCon i vs) WNil) (b1 + 0)
+  case_did : {s : Scope} {gs : List ℕ} {e : AnfVals} {fr : List LiftSlot} {le : Vals} {a : Atom} {i : ℕ} {vs : AnfVals} {t : AnfBlock} {r : AnfVal} {c k b l : ℕ} (bs : AnfBranches) (b1 l1 g : ℕ) (y : Ready P w s gs e fr le (a ∷ []) (WCons (WCon i vs) WNil) (b1 + 0)
       (l1 + 0)) → ER P (word_in y.fr' y.le') s gs e → size y.le' ≡ length y.fr' → Covers y.fr' (depth s) (branches_words s bs) → AnfBranchAt bs i (count vs) t → Placed (functions_branches s gs g bs) g P.functions → Follows (plains (count vs) s) (vs +w
       e) t r c k b l → Did s gs fr le g (CaseOp a bs) r (suc c) (suc k) (b1 + b) (l1 + l)
   case_did {s} {gs} {e} {fr} {le} {a = a} {i = i} {vs = vs} {t = t} {r = r} {c = c} {k = k} {b = b} {l = l} bs b1 l1 g y er eq cov at p next = go y.all y.related
@@ -142,17 +142,17 @@ module _ (Q : AnfProgram) (w : ℕ) where
   no_wrap : {le : Vals} {t : Block} {r : Val} {c k b l : ℕ} → Gets P w le t r c k b l → Gets P w le t r c k (0 + b) (0 + l)
   no_wrap h = counted refl refl (omega arith) (omega arith) h
 
-  did_same : {s : Scope} {gs : List ℕ} {fr : List Slot} {le : Vals} {g : ℕ} {op : AnfOp} {v : AnfVal} {c k b l b' l' : ℕ} → b ≡ b' → l ≡ l' → Did s gs fr le g op v c k b l → Did s gs fr le g op v c k b' l'
+  did_same : {s : Scope} {gs : List ℕ} {fr : List LiftSlot} {le : Vals} {g : ℕ} {op : AnfOp} {v : AnfVal} {c k b l b' l' : ℕ} → b ≡ b' → l ≡ l' → Did s gs fr le g op v c k b l → Did s gs fr le g op v c k b' l'
   did_same eb el h = record { fr' = h.fr'; le' = h.le'; grown = h.grown; u = h.u; is = h.is; c' = h.c'; b1 = h.b1; b2 = h.b2; l1 = h.l1; l2 = h.l2; does = h.does; wrap = h.wrap; le_c = h.le_c; blocks = h.blocks ∙ eb; words = h.words ∙ el }
 
-  atom_got : {s : Scope} {gs : List ℕ} {e : AnfVals} {fr : List Slot} {le : Vals} {a : Atom} {v : AnfVal} {b l : ℕ} (g : ℕ) (y : Ready P w s gs e fr le (a ∷ []) (WCons v WNil) (b + 0) (l + 0)) → Got le (lift_block s gs fr g (TailAtom a)) v 0 0 b l
+  atom_got : {s : Scope} {gs : List ℕ} {e : AnfVals} {fr : List LiftSlot} {le : Vals} {a : Atom} {v : AnfVal} {b l : ℕ} (g : ℕ) (y : Ready P w s gs e fr le (a ∷ []) (WCons v WNil) (b + 0) (l + 0)) → Got le (lift_block s gs fr g (TailAtom a)) v 0 0 b l
   atom_got {s} {gs} {fr = fr} {le = le} {a = a} {v = v} {b = b} {l = l} g y = go y.all y.related
     where
       go : {us : Vals} → AllAre y.le' (atom s y.fr' a ∷ []) us → VRs P (WCons v WNil) us → Got le (lift_block s gs fr g (TailAtom a)) v 0 0 b l
       go (are_more {v = u} isa are_none) (vrs_cons related vrs_nil) =
           record { u = u; is = related; c' = 0; gets = counted refl refl (omega arith) (omega arith) (y.wrap (λ fr'. RetAtom (atom s fr' a)) u 0 0 0 0 (gets_atom isa)); le_c = omega arith }
 
-  let_got : {s : Scope} {gs : List ℕ} {e : AnfVals} {fr : List Slot} {le : Vals} {a : Atom} {v r : AnfVal} {c k b l : ℕ} (t : AnfBlock) (b1 l1 g : ℕ) (y : Ready P w s gs e fr le (a ∷ []) (WCons v WNil) (b1 + 0) (l1 + 0)) → ER P (word_in y.fr'
+  let_got : {s : Scope} {gs : List ℕ} {e : AnfVals} {fr : List LiftSlot} {le : Vals} {a : Atom} {v r : AnfVal} {c k b l : ℕ} (t : AnfBlock) (b1 l1 g : ℕ) (y : Ready P w s gs e fr le (a ∷ []) (WCons v WNil) (b1 + 0) (l1 + 0)) → ER P (word_in y.fr'
       y.le') s gs e → size y.le' ≡ length y.fr' → Covers y.fr' (depth s) (block_words (Plain s) t) → Placed (functions_block (Plain s) (0 ∷ gs) g t) g P.functions → Follows (Plain s) (WCons v e) t r c k b l → Got le (lift_block s gs fr g (BindAtom a t)) r (suc c) k (b1 + b) (l1 + l)
   let_got {s} {gs} {fr = fr} {le = le} {a = a} {v = v} {r = r} {c = c} {k = k} {b = b} {l = l} t b1 l1 g y er eq cov p next = go y.all y.related
     where
@@ -161,7 +161,7 @@ module _ (Q : AnfProgram) (w : ℕ) where
           let x = next (0 ∷ gs) (Holds (depth s) ∷ y.fr') (VCons u y.le') g (er_push y.fr' y.le' er related) (ap suc eq) (covers_bind s y.fr' (block_words (Plain s) t) cov) p in
           record { u = x.u; is = x.is; c' = suc x.c'; gets = counted refl refl (omega arith) (omega arith) (y.wrap (λ fr'. LetAtom (atom s fr' a) (lift_block (Plain s) (0 ∷ gs) (Holds (depth s) ∷ fr') g t)) x.u (suc x.c') k b l (gets_let_atom isa x.gets)); le_c = omega (arith, x.le_c) }
 
-  bind_got : {s : Scope} {gs : List ℕ} {fr : List Slot} {le : Vals} {g : ℕ} {op : AnfOp} {v r : AnfVal} {c c1 k k1 b b1 l l1 : ℕ} (t : AnfBlock) (h : Did s gs fr le g op v c1 k1 b1 l1) → Got (VCons h.u h.le') (lift_block (Plain s) (0 ∷ gs) (Holds (depth s) ∷ h.fr')
+  bind_got : {s : Scope} {gs : List ℕ} {fr : List LiftSlot} {le : Vals} {g : ℕ} {op : AnfOp} {v r : AnfVal} {c c1 k k1 b b1 l l1 : ℕ} (t : AnfBlock) (h : Did s gs fr le g op v c1 k1 b1 l1) → Got (VCons h.u h.le') (lift_block (Plain s) (0 ∷ gs) (Holds (depth s) ∷ h.fr')
       (g + op_functions op) t) r c k b l → Got le (lift_block s gs fr g (Bind op t)) r (c1 + c) (k1 + k) (b1 + b) (l1 + l)
   bind_got {s} {gs} {fr} {le} {g} {op} {k = k} {k1 = k1} {b = b} {l = l} t h x =
       record {
@@ -174,7 +174,7 @@ module _ (Q : AnfProgram) (w : ℕ) where
       }
 
   mutual
-    follows_op : {s : Scope} {e : AnfVals} {op : AnfOp} {v : AnfVal} {c k b l : ℕ} → AnfDoes Q w s e op v c k b l → (gs : List ℕ) (fr : List Slot) (le : Vals) (g : ℕ) → ER P (word_in fr le) s gs e → size le ≡ length fr → Covers fr (depth s) (op_words s op) → Placed (functions_op
+    follows_op : {s : Scope} {e : AnfVals} {op : AnfOp} {v : AnfVal} {c k b l : ℕ} → AnfDoes Q w s e op v c k b l → (gs : List ℕ) (fr : List LiftSlot) (le : Vals) (g : ℕ) → ER P (word_in fr le) s gs e → size le ≡ length fr → Covers fr (depth s) (op_words s op) → Placed (functions_op
         s gs g op) g P.functions → Did s gs fr le g op v c k b l
     follows_op (op_const {x = x} {t = t} at d) gs fr le g er eq cov p =
         let q = constant_placed Q x t at in
@@ -240,7 +240,7 @@ module _ (Q : AnfProgram) (w : ℕ) where
         let y = ready P w fr le (give_more h give_none) er eq (one_atom fr s a parts.0) in
         case_did bs b1 l1 g y (grown_er y.grown er) (grown_size y.grown eq) (grown_covers (depth s) (branches_words s bs) y.grown parts.1) at p (follows d)
 
-    pub follows : {s : Scope} {e : AnfVals} {t : AnfBlock} {v : AnfVal} {c k b l : ℕ} → AnfGets Q w s e t v c k b l → (gs : List ℕ) (fr : List Slot) (le : Vals) (g : ℕ) → ER P (word_in fr le) s gs e → size le ≡ length fr → Covers fr (depth s) (block_words s
+    pub follows : {s : Scope} {e : AnfVals} {t : AnfBlock} {v : AnfVal} {c k b l : ℕ} → AnfGets Q w s e t v c k b l → (gs : List ℕ) (fr : List LiftSlot) (le : Vals) (g : ℕ) → ER P (word_in fr le) s gs e → size le ≡ length fr → Covers fr (depth s) (block_words s
         t) → Placed (functions_block s gs g t) g P.functions → Got le (lift_block s gs fr g t) v c k b l
     follows {s} (block_atom {a = a} h) gs fr le g er eq cov p = atom_got g (ready P w fr le (give_more h give_none) er eq (one_atom fr s a cov))
     follows {s} (block_op {op = op} {k = k} d) gs fr le g er eq cov p =
@@ -282,7 +282,7 @@ module _ (Q : AnfProgram) (w : ℕ) where
     u : Val
     is : VR P v u
     c' : ℕ
-    answers : Answers P w args u c' k b l
+    answers : LiftedAnswers P w args u c' k b l
     le_c : c' ≤ c
 
   -- the variables hold a value and its argument

@@ -8,9 +8,9 @@ use Rattle.anf_convert.specs.declared.program.Atom.TheVariants.{Var as AVar, Box
 use Rattle.anf_convert.specs.AnfEvaluation.{LamAt, lam_here, lam_after_lam, lam_after_box}
 use Rattle.anf_convert.specs.Captured.{Scope, Outside, Plain, Shared, depth, Entry, Unbound, Word, Words, entry, plains, shares, words_of, atom_words, atoms_words, op_words, block_words, branches_words, defs_words, lam_captured, fix_captured}
 use Rattle.closure_lift.specs.Lifted.{Block, Fn, many}
-use Rattle.closure_lift.specs.Lift.{Slot, Holds, Made, same_slot, position, held, variable, atom, closure_for, closures, atoms_of, op_functions, block_functions, unnumbered, numbered, holding, lift_op, lift_block, lift_branches, lambda_function, def_functions, functions_op, functions_block, functions_branches, functions_defs, constants_functions, lift_constants, functions_constants, lift}
+use Rattle.closure_lift.specs.Lift.{LiftSlot, Holds, Made, same_slot, position, held, variable, atom, closure_for, closures, atoms_of, op_functions, block_functions, unnumbered, numbered, holding, lift_op, lift_block, lift_branches, lambda_function, def_functions, functions_op, functions_block, functions_branches, functions_defs, constants_functions, lift_constants, functions_constants, lift}
 use Rattle.anf_convert.specs.AnfForm.{branch_count, AtomFits, AtomsFit, AnfOpFits, AnfFits, AnfBranchesFit, DefsFit}
-use Rattle.closure_lift.specs.LiftedForm.{Takes, OpFits, BlockFits, BranchesFit}
+use Rattle.closure_lift.specs.LiftedForm.{Takes, OpFits, LiftedBlockFits, BranchesFit}
 use Rattle.closure_lift.specs.LiftKeeps.{LiftForms}
 use Rattle.closure_lift.proofs.Covering.{In, in_here, in_after, Covers, holds_all, covers_bind, covers_plains, lam_covers, fix_covers}
 use Rattle.anf_convert.proofs.Scopes.{Each, each_split, each_map, captured_each, captured_below, depth_shares}
@@ -19,7 +19,7 @@ use Rattle.closure_lift.proofs.Closures.{entry_below}
 use Rattle.closure_lift.proofs.Follows.{one_atom, two_atoms, covers_none, holds_length, length_map, length_maps}
 
 -- a slot that is there has its place
-pub place_below : (k : Slot) (fr : List Slot) → In k fr → position k fr < length fr
+pub place_below : (k : LiftSlot) (fr : List LiftSlot) → In k fr → position k fr < length fr
 place_below k [] h = elim h [ ]
 place_below k (j ∷ fr) (in_here e) = rw e (omega arith)
 place_below k (j ∷ fr) (in_after h) = go (same_slot k j) (place_below k fr h)
@@ -58,15 +58,15 @@ known_plains : {fs : List Fn} {s : Scope} {gs : List ℕ} (n : ℕ) → Known fs
 known_plains zero h = h
 known_plains (suc n) h = known_plain (known_plains n h)
 
-holding_length : (n : ℕ) (s : Scope) (fr : List Slot) → length (holding n s fr) ≡ n + length fr
+holding_length : (n : ℕ) (s : Scope) (fr : List LiftSlot) → length (holding n s fr) ≡ n + length fr
 holding_length zero s fr = omega arith
 holding_length (suc n) s fr = let e = holding_length n s fr in omega arith
 
-held_fit : (fr : List Slot) (xs : List ℕ) → Each (λ x. In (Holds x) fr) xs → AtomsFit (length fr) (map (held fr) xs)
+held_fit : (fr : List LiftSlot) (xs : List ℕ) → Each (λ x. In (Holds x) fr) xs → AtomsFit (length fr) (map (held fr) xs)
 held_fit fr [] h = tt
 held_fit fr (x ∷ xs) h = (place_below (Holds x) fr h.0, held_fit fr xs h.1)
 
-pub many_lifted : (s : Scope) (gs : List ℕ) (fr : List Slot) (g : ℕ) (bs : AnfBranches) → many (lift_branches s gs fr g bs) ≡ branch_count bs
+pub many_lifted : (s : Scope) (gs : List ℕ) (fr : List LiftSlot) (g : ℕ) (bs : AnfBranches) → many (lift_branches s gs fr g bs) ≡ branch_count bs
 many_lifted s gs fr g NoBranch = refl
 many_lifted s gs fr g (Branch n t rest) = ap suc (many_lifted s gs fr (g + block_functions t) rest)
 
@@ -84,7 +84,7 @@ known_fixes {fs} {s} ws g (suc n) t b h =
     known_fix (t n (omega arith)) (transport (λ d. Each (λ x. x < d) ws) (sym (depth_shares ws n s)) b) (known_fixes ws g n (λ j lt. t j (omega arith)) b h)
 
 -- the atoms of an operation
-op_atoms : (fr : List Slot) (s : Scope) (op : AnfOp) → Covers fr (depth s) (op_words s op) → Covers fr (depth s) (atoms_words s (atoms_of op))
+op_atoms : (fr : List LiftSlot) (s : Scope) (op : AnfOp) → Covers fr (depth s) (op_words s op) → Covers fr (depth s) (atoms_words s (atoms_of op))
 op_atoms fr s (ConstOp x) cov = tt
 op_atoms fr s (AppOp f a) cov = two_atoms fr s f a cov
 op_atoms fr s (ConOp c as') cov = cov
@@ -102,24 +102,24 @@ op_atoms_fit k m n (CaseOp a bs) fit = (fit.0, tt)
 
 module _ (fs : List Fn) (k m : ℕ) where
   -- what is in scope stays so in the code after closures for fixpoints' variables
-  record Kept (fr fr' : List Slot) : Type 0 where
-    kept : (j : Slot) → In j fr → In j fr'
+  record Kept (fr fr' : List LiftSlot) : Type 0 where
+    kept : (j : LiftSlot) → In j fr → In j fr'
 
   -- the code after the closures for atoms
-  abbrev Next : Scope → List Slot → List Atom → (List Slot → Block) → Type 0
-  Next s fr as' next = (fr' : List Slot) → Kept fr fr' → AtomsFit (length fr') (map (atom s fr') as') → BlockFits fs k m (length fr') (next fr')
+  abbrev Next : Scope → List LiftSlot → List Atom → (List LiftSlot → Block) → Type 0
+  Next s fr as' next = (fr' : List LiftSlot) → Kept fr fr' → AtomsFit (length fr') (map (atom s fr') as') → LiftedBlockFits fs k m (length fr') (next fr')
 
-  kept_trans : {fr fr' fr'' : List Slot} → Kept fr fr' → Kept fr' fr'' → Kept fr fr''
+  kept_trans : {fr fr' fr'' : List LiftSlot} → Kept fr fr' → Kept fr' fr'' → Kept fr fr''
   kept_trans g h = record { kept = λ j x. h.kept j (g.kept j x) }
 
-  made_kept : (i : ℕ) (fr : List Slot) → Kept fr (Made i ∷ fr)
+  made_kept : (i : ℕ) (fr : List LiftSlot) → Kept fr (Made i ∷ fr)
   made_kept i fr = record { kept = λ j h. in_after h }
 
-  kept_covers : {fr fr' : List Slot} (d : ℕ) (xs : List ℕ) → Kept fr fr' → Covers fr d xs → Covers fr' d xs
+  kept_covers : {fr fr' : List LiftSlot} (d : ℕ) (xs : List ℕ) → Kept fr fr' → Covers fr d xs → Covers fr' d xs
   kept_covers {fr} {fr'} d xs g h = each_map (λ x. x < d → In (Holds x) fr) (λ x. x < d → In (Holds x) fr') (λ x f lt. g.kept (Holds x) (f lt)) xs h
 
-  var_closed : {s : Scope} {gs : List ℕ} (fr : List Slot) (i : ℕ) (as' : List Atom) (next : List Slot → Block) (e : Entry) → entry s i ≡ e → Known fs s gs → Covers fr (depth s) (words_of (entry s i)) → Next s fr (AVar i ∷ as') next →
-      ((fr1 : List Slot) → Kept fr fr1 → Next s fr1 as' next → BlockFits fs k m (length fr1) (closures s gs fr1 as' next)) → BlockFits fs k m (length fr) (closure_for fr i (get_or gs i 0) e (λ fr'. closures s gs fr' as' next))
+  var_closed : {s : Scope} {gs : List ℕ} (fr : List LiftSlot) (i : ℕ) (as' : List Atom) (next : List LiftSlot → Block) (e : Entry) → entry s i ≡ e → Known fs s gs → Covers fr (depth s) (words_of (entry s i)) → Next s fr (AVar i ∷ as') next →
+      ((fr1 : List LiftSlot) → Kept fr fr1 → Next s fr1 as' next → LiftedBlockFits fs k m (length fr1) (closures s gs fr1 as' next)) → LiftedBlockFits fs k m (length fr) (closure_for fr i (get_or gs i 0) e (λ fr'. closures s gs fr' as' next))
   var_closed fr i as' next Unbound is known cov go after =
       after fr (record { kept = λ j h. h }) (λ fr' kept fits. go fr' kept (transport (λ z. AtomFits (length fr') (variable fr' i z)) (sym is) tt, fits))
   var_closed {s} fr i as' next (Word x) is known cov go after =
@@ -138,7 +138,7 @@ module _ (fs : List Fn) (k m : ℕ) where
       both d (x ∷ xs) h g = (g.0 h.0, both d xs h.1 g.1)
 
   -- the closures of some atoms
-  closed_atoms : {s : Scope} {gs : List ℕ} (n : ℕ) (fr : List Slot) (as' : List Atom) (next : List Slot → Block) → Known fs s gs → Covers fr (depth s) (atoms_words s as') → AtomsFit n as' → Next s fr as' next → BlockFits fs k m (length fr) (closures s gs fr as' next)
+  closed_atoms : {s : Scope} {gs : List ℕ} (n : ℕ) (fr : List LiftSlot) (as' : List Atom) (next : List LiftSlot → Block) → Known fs s gs → Covers fr (depth s) (atoms_words s as') → AtomsFit n as' → Next s fr as' next → LiftedBlockFits fs k m (length fr) (closures s gs fr as' next)
   closed_atoms n fr [] next known cov fit go = go fr (record { kept = λ j h. h }) tt
   closed_atoms n fr (ABox ∷ as') next known cov fit go = closed_atoms n fr as' next known cov fit.1 (λ fr' kept fits. go fr' kept (tt, fits))
   closed_atoms n fr (AEmpty c ∷ as') next known cov fit go = closed_atoms n fr as' next known cov fit.1 (λ fr' kept fits. go fr' kept (fit.0, fits))
@@ -160,7 +160,7 @@ module _ (fs : List Fn) (k m : ℕ) where
   fix_known s gs g ds i p known = known_fixes (fix_captured s ds) g (def_count ds) (fix_takes s gs g ds i p) (captured_below (depth s) (defs_words (shares [] (def_count ds) s) ds)) known
 
   mutual
-    op_fits : {s : Scope} {gs : List ℕ} (n : ℕ) (fr : List Slot) (g : ℕ) (op : AnfOp) → Known fs s gs → Covers fr (depth s) (op_words s op) → AnfOpFits k m n op → Placed (functions_op s gs g op) g fs → AtomsFit (length fr) (map (atom s fr) (atoms_of op)) → OpFits fs k m (length
+    op_fits : {s : Scope} {gs : List ℕ} (n : ℕ) (fr : List LiftSlot) (g : ℕ) (op : AnfOp) → Known fs s gs → Covers fr (depth s) (op_words s op) → AnfOpFits k m n op → Placed (functions_op s gs g op) g fs → AtomsFit (length fr) (map (atom s fr) (atoms_of op)) → OpFits fs k m (length
         fr) (lift_op s gs fr g op)
     op_fits n fr g (ConstOp x) known cov fit p fits = fit
     op_fits n fr g (AppOp f a) known cov fit p fits = (fits.0, fits.1.0)
@@ -177,7 +177,7 @@ module _ (fs : List Fn) (k m : ℕ) where
         let few = fit.1 in
         (fits.0, omega arith, branches_fit n fr g bs known parts.1 fit.2 p)
 
-    block_fits : {s : Scope} {gs : List ℕ} (n : ℕ) (fr : List Slot) (g : ℕ) (t : AnfBlock) → Known fs s gs → Covers fr (depth s) (block_words s t) → AnfFits k m n t → Placed (functions_block s gs g t) g fs → BlockFits fs k m (length fr) (lift_block s gs fr g t)
+    block_fits : {s : Scope} {gs : List ℕ} (n : ℕ) (fr : List LiftSlot) (g : ℕ) (t : AnfBlock) → Known fs s gs → Covers fr (depth s) (block_words s t) → AnfFits k m n t → Placed (functions_block s gs g t) g fs → LiftedBlockFits fs k m (length fr) (lift_block s gs fr g t)
     block_fits {s} n fr g (TailAtom a) known cov fit p = closed_atoms n fr (a ∷ []) _ known (one_atom fr s a cov) (fit, tt) (λ fr' kept fits. fits.0)
     block_fits {s} n fr g (Tail op) known cov fit p = closed_atoms n fr (atoms_of op) _ known (op_atoms fr s op cov) (op_atoms_fit k m n op fit) (λ fr' kept fits. op_fits n fr' g op known (kept_covers (depth s) (op_words s op) kept cov) fit p fits)
     block_fits {s} n fr g (BindAtom a t) known cov fit p =
@@ -191,18 +191,18 @@ module _ (fs : List Fn) (k m : ℕ) where
               (covers_bind s fr' (block_words (Plain s) t) (kept_covers (depth s) (block_words (Plain s) t) kept parts.1)) fit.1 (then_block s gs g op t p),
         ))
 
-    branches_fit : {s : Scope} {gs : List ℕ} (n : ℕ) (fr : List Slot) (g : ℕ) (bs : AnfBranches) → Known fs s gs → Covers fr (depth s) (branches_words s bs) → AnfBranchesFit k m n bs → Placed (functions_branches s gs g bs) g fs → BranchesFit fs k m (length fr) (lift_branches s gs fr g bs)
+    branches_fit : {s : Scope} {gs : List ℕ} (n : ℕ) (fr : List LiftSlot) (g : ℕ) (bs : AnfBranches) → Known fs s gs → Covers fr (depth s) (branches_words s bs) → AnfBranchesFit k m n bs → Placed (functions_branches s gs g bs) g fs → BranchesFit fs k m (length fr) (lift_branches s gs fr g bs)
     branches_fit n fr g NoBranch known cov fit p = tt
     branches_fit {s} {gs} n fr g (Branch j t rest') known cov fit p =
         let parts = each_split (λ x. x < depth s → In (Holds x) fr) (block_words (plains j s) t) _ cov in (
           fit.0,
-          transport (λ z. BlockFits fs k m z (lift_block (plains j s) (unnumbered j gs) (holding j s fr) g t)) (holding_length j s fr) (block_fits (n + j) (holding j s fr) g t (known_plains j known) (covers_plains j s fr (block_words (plains j s) t) parts.0) fit.1 (front _ _ p)),
+          transport (λ z. LiftedBlockFits fs k m z (lift_block (plains j s) (unnumbered j gs) (holding j s fr) g t)) (holding_length j s fr) (block_fits (n + j) (holding j s fr) g t (known_plains j known) (covers_plains j s fr (block_words (plains j s) t) parts.0) fit.1 (front _ _ p)),
           branches_fit n fr (g + block_functions t) rest' known parts.1 fit.2 (back _ _ (omega (arith, block_length (plains j s) (unnumbered j gs) g t)) p),
         )
 
   -- each function of these
   abbrev FnFits : Fn → Type 0
-  FnFits fn = BlockFits fs k m (suc fn.captured) fn.body
+  FnFits fn = LiftedBlockFits fs k m (suc fn.captured) fn.body
 
   abbrev Every : List Fn → Type 0
   Every [] = Unit {0}
@@ -225,7 +225,7 @@ module _ (fs : List Fn) (k m : ℕ) where
 
   lambda_fits : {s : Scope} {gs : List ℕ} (n : ℕ) (ws : List ℕ) (g : ℕ) (b : AnfBlock) → Known fs s gs → Covers (Holds (depth s) ∷ holds_all ws) (suc (depth s)) (block_words (Plain s) b) → AnfFits k m n b → Placed (functions_block (Plain s) (0 ∷ gs) g b) g fs → FnFits (lambda_function s gs ws g b)
   lambda_fits {s} {gs} n ws g b known cov fit p =
-      transport (λ z. BlockFits fs k m (suc z) (lift_block (Plain s) (0 ∷ gs) (Holds (depth s) ∷ holds_all ws) g b)) (holds_length ws) (block_fits n (Holds (depth s) ∷ holds_all ws) g b (known_plain known) cov fit p)
+      transport (λ z. LiftedBlockFits fs k m (suc z) (lift_block (Plain s) (0 ∷ gs) (Holds (depth s) ∷ holds_all ws) g b)) (holds_length ws) (block_fits n (Holds (depth s) ∷ holds_all ws) g b (known_plain known) cov fit p)
 
   defs_fit : {s : Scope} {gs : List ℕ} (n : ℕ) (ws : List ℕ) (g : ℕ) (ds : AnfDefs) → Known fs s gs → ((i : ℕ) (b : AnfBlock) → LamAt ds i b → Covers (Holds (depth s) ∷ holds_all ws) (suc (depth s)) (block_words (Plain s) b)) → DefsFit k m n ds → Placed (functions_defs s gs g
       ds) g fs → Every (def_functions s gs ws g ds)
@@ -274,12 +274,12 @@ module _ (fs : List Fn) (k m : ℕ) where
   constants_fit g (t ∷ ts) fit p =
       every_join (functions_block Outside [] g t) _ (block_functions_fit 0 g t known_nil (fit 0 t refl) (front _ _ p)) (constants_fit (g + block_functions t) ts (λ x u e. fit (suc x) u e) (back _ _ (omega (arith, block_length Outside [] g t)) p))
 
-  pub constant_fits : (g : ℕ) (ts : List AnfBlock) → ((x : ℕ) (t : AnfBlock) → slice_get ts x ≡ Some t → AnfFits k m 0 t) → Placed (functions_constants g ts) g fs → (x : ℕ) (t : Block) → slice_get (lift_constants g ts) x ≡ Some t → BlockFits fs k m 0 t
+  pub constant_fits : (g : ℕ) (ts : List AnfBlock) → ((x : ℕ) (t : AnfBlock) → slice_get ts x ≡ Some t → AnfFits k m 0 t) → Placed (functions_constants g ts) g fs → (x : ℕ) (t : Block) → slice_get (lift_constants g ts) x ≡ Some t → LiftedBlockFits fs k m 0 t
   constant_fits g [] fit p x t e = absurd (no e)
     where
       no : {u : Block} → None ≡ Some u → ⊥
       no e = cc
-  constant_fits g (u ∷ ts) fit p zero t e = subst (BlockFits fs k m 0) (same e) (block_fits 0 [] g u known_nil (covers_none (block_words Outside u)) (fit 0 u refl) (front _ _ p))
+  constant_fits g (u ∷ ts) fit p zero t e = subst (LiftedBlockFits fs k m 0) (same e) (block_fits 0 [] g u known_nil (covers_none (block_words Outside u)) (fit 0 u refl) (front _ _ p))
     where
       same : {x y : Block} → Some x ≡ Some y → x ≡ y
       same e = cc

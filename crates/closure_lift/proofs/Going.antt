@@ -2,12 +2,12 @@
 use Rattle.std.proofs.Common.{◌≡◌, ℕ, zero, suc, ◌+◌, ◌-◌, List, [], ◌∷◌, ◌++◌, length, take, drop, refl, sym, ap, ◌∙◌, subst as transport, arith, append_assoc, length-append}
 use Rattle.std.proofs.lemmas.List.{append-nil, set_at}
 use Rattle.std.specs.Prelude.{slice_set}
-use Rattle.anf_convert.specs.Anf.{AnfBlock, AnfBranches, Branch, AnfDefs, NoDef, Binding, block_of, tail_of, def_count}
+use Rattle.anf_convert.specs.Anf.{AnfBlock, AnfBranches, Branch, AnfDefs, NoDef, AnfBinding, block_of, tail_of, def_count}
 use Rattle.anf_convert.specs.declared.program.Atom.{Atom}
 use Rattle.anf_convert.specs.declared.program.Atom.TheVariants.{Var as AVar, Box as ABox, Empty as AEmpty}
 use Rattle.anf_convert.specs.Captured.{Scope, Plain, depth, plains, Entry, Unbound, Word, Words, entry}
-use Rattle.closure_lift.specs.Lifted.{Block, RetAtom, Bound, lets_of, ret_of, Fn, Branches, BNil, BCons}
-use Rattle.closure_lift.specs.Lift.{Slot, Holds, Made, block_functions, lift_block, lift_branches, functions_block, functions_branches, def_functions, functions_defs, unnumbered, holding}
+use Rattle.closure_lift.specs.Lifted.{Block, RetAtom, Bound, lets_of, ret_of, Fn, BranchBlocks, BNil, BCons}
+use Rattle.closure_lift.specs.Lift.{LiftSlot, Holds, Made, block_functions, lift_block, lift_branches, functions_block, functions_branches, def_functions, functions_defs, unnumbered, holding}
 use Rattle.closure_lift.specs.LiftedView.{functions_of, branches_of as lifted_branches}
 use Rattle.closure_lift.specs.FreeVariables.{size, notes_block, notes_branches, notes_defs}
 use Rattle.closure_lift.specs.Noting.{notes_bound}
@@ -23,21 +23,21 @@ use Rattle.closure_lift.proofs.Placed.{block_length}
 use Rattle.closure_lift.proofs.Steps.{lets_join, block_step, block_end, functions_step, functions_end, bound_length, bound_noted, block_noted, captures_step, captures_rest, captures_end, stand_after}
 
 -- the block t0 was begun with the variables v0 where fr0 was held and fs0 were the functions; i bindings are done, with this code, and t is left
-pub record BlockGoes (notes : List (List ℕ)) (v0 : Scope × List ℕ) (fr0 : List Slot) (fs0 : List Function) (t0 : AnfBlock) (i : ℕ) (v : Scope × List ℕ) (fr : List Slot) (fs : List Function) (code : List Bound) (t : AnfBlock) : Type 0 where
+pub record BlockGoes (notes : List (List ℕ)) (v0 : Scope × List ℕ) (fr0 : List LiftSlot) (fs0 : List Function) (t0 : AnfBlock) (i : ℕ) (v : Scope × List ℕ) (fr : List LiftSlot) (fs : List Function) (code : List Bound) (t : AnfBlock) : Type 0 where
   pub block : lets_of code (lift_block v.0 v.1 fr (length fs) t) ≡ lift_block v0.0 v0.1 fr0 (length fs0) t0
   pub functions : functions_of fs ++ functions_block v.0 v.1 (length fs) t ≡ functions_of fs0 ++ functions_block v0.0 v0.1 (length fs0) t0
   pub stand : Stand notes (length fs) (notes_block (size v.0) t)
   pub captures : BlockCaptures most_words v.0 t → BlockCaptures most_words v0.0 t0
   pub refuses : BlockCaptures most_words v0.0 t0 → BlockCaptures most_words v.0 t
   pub variables : (outer i v.0, drop i v.1) ≡ v0
-  pub above : List Slot
+  pub above : List LiftSlot
   pub frame : fr ≡ above ++ fr0
 
-abbrev pub arms_before : List LiftedBranch → Branches → Branches
+abbrev pub arms_before : List LiftedBranch → BranchBlocks → BranchBlocks
 arms_before [] bs = bs
 arms_before (b ∷ arms) bs = BCons b.binders b.body (arms_before arms bs)
 
-pub record ArmsGo (notes : List (List ℕ)) (v0 : Scope × List ℕ) (fr0 : List Slot) (fs0 : List Function) (bs0 : AnfBranches) (v : Scope × List ℕ) (fr : List Slot) (fs : List Function) (arms : List LiftedBranch) (bs : AnfBranches) : Type 0 where
+pub record ArmsGo (notes : List (List ℕ)) (v0 : Scope × List ℕ) (fr0 : List LiftSlot) (fs0 : List Function) (bs0 : AnfBranches) (v : Scope × List ℕ) (fr : List LiftSlot) (fs : List Function) (arms : List LiftedBranch) (bs : AnfBranches) : Type 0 where
   pub code : arms_before arms (lift_branches v.0 v.1 fr (length fs) bs) ≡ lift_branches v0.0 v0.1 fr0 (length fs0) bs0
   pub functions : functions_of fs ++ functions_branches v.0 v.1 (length fs) bs ≡ functions_of fs0 ++ functions_branches v0.0 v0.1 (length fs0) bs0
   pub stand : Stand notes (length fs) (notes_branches (size v.0) bs)
@@ -70,11 +70,11 @@ functions_more fs fs1 more n e c =
     omega arith
 
 -- more closures stand above what was held
-pub record Above (fr1 fr : List Slot) : Type 0 where
-  pub more : List Slot
+pub record Above (fr1 fr : List LiftSlot) : Type 0 where
+  pub more : List LiftSlot
   pub is : fr1 ≡ more ++ fr
 
-pub closures_above : (s : Scope) (fr : List Slot) (as' : List Atom) → Above (closures_frame s fr as') fr
+pub closures_above : (s : Scope) (fr : List LiftSlot) (as' : List Atom) → Above (closures_frame s fr as') fr
 closures_above s fr [] = record { more = []; is = refl }
 closures_above s fr (a ∷ as') =
     let r = closures_above s (closure_frame s fr a) as' in
@@ -91,11 +91,11 @@ closures_above s fr (a ∷ as') =
     one ABox = record { more = []; is = refl }
     one (AEmpty c) = record { more = []; is = refl }
 
-module _ (notes : List (List ℕ)) (v0 : Scope × List ℕ) (fr0 : List Slot) (fs0 : List Function) (t0 : AnfBlock) where
+module _ (notes : List (List ℕ)) (v0 : Scope × List ℕ) (fr0 : List LiftSlot) (fs0 : List Function) (t0 : AnfBlock) where
   -- one more binding is lifted
-  pub block_goes : (i : ℕ) (v : Scope × List ℕ) (fr : List Slot) (fs : List Function) (code : List Bound) (p : Binding) (ps : List Binding) (t : AnfBlock) →
+  pub block_goes : (i : ℕ) (v : Scope × List ℕ) (fr : List LiftSlot) (fs : List Function) (code : List Bound) (p : AnfBinding) (ps : List AnfBinding) (t : AnfBlock) →
       BlockGoes notes v0 fr0 fs0 t0 i v fr fs code (block_of (p ∷ ps) t) →
-      (fr1 : List Slot) (code1 : List Bound) (o : Bound) (fs1 : List Function) (v2 : Scope × List ℕ) (fr2 : List Slot) →
+      (fr1 : List LiftSlot) (code1 : List Bound) (o : Bound) (fs1 : List Function) (v2 : Scope × List ℕ) (fr2 : List LiftSlot) →
       o ≡ lifted_bound v.0 v.1 fr1 (length fs) p → fr1 ≡ closures_frame v.0 fr (atoms_in p) → code1 ≡ code ++ closures_code v.0 v.1 fr (atoms_in p) →
       functions_of fs1 ≡ functions_of fs ++ functions_bound v.0 v.1 (length fs) p → BoundCaptures v.0 p → v2 ≡ (Plain v.0, 0 ∷ v.1) → fr2 ≡ Holds (depth v.0) ∷ fr1 →
       BlockGoes notes v0 fr0 fs0 t0 (i + 1) v2 fr2 fs1 (code1 ++ o ∷ []) (block_of ps t)
@@ -105,7 +105,7 @@ module _ (notes : List (List ℕ)) (v0 : Scope × List ℕ) (fr0 : List Slot) (f
       let gs2 : v2.1 ≡ 0 ∷ v.1 = ap (λ v. v.1) ev in
       let cl : List Bound = closures_code v.0 v.1 fr (atoms_in p) in
       let o1 : Bound = lifted_bound v.0 v.1 (closures_frame v.0 fr (atoms_in p)) (length fs) p in
-      let fr3 : List Slot = Holds (depth v.0) ∷ closures_frame v.0 fr (atoms_in p) in
+      let fr3 : List LiftSlot = Holds (depth v.0) ∷ closures_frame v.0 fr (atoms_in p) in
       let rest : Block = lift_block (Plain v.0) (0 ∷ v.1) fr3 (length fs + bound_functions p) (block_of ps t) in
       let er3 : fr2 ≡ fr3 = er ∙ ap (λ z. Holds (depth v.0) ∷ z) ef in
       let eo1 : o ≡ o1 = eo ∙ ap (λ z. lifted_bound v.0 v.1 z (length fs) p) ef in
@@ -134,15 +134,15 @@ module _ (notes : List (List ℕ)) (v0 : Scope × List ℕ) (fr0 : List Slot) (f
           let k : i + 1 ≡ suc i = omega arith in
           ap (λ (z : ℕ). let w : Scope × List ℕ = (outer z v2.0, drop z v2.1) in w) k ∙ ap (λ (z : Scope × List ℕ). let w : Scope × List ℕ = (outer (suc i) z.0, drop (suc i) z.1) in w) e
 
-  pub record BlockEnds (v : Scope × List ℕ) (fr1 : List Slot) (fs1 : List Function) (code1 : List Bound) (o : Bound) : Type 0 where
+  pub record BlockEnds (v : Scope × List ℕ) (fr1 : List LiftSlot) (fs1 : List Function) (code1 : List Bound) (o : Bound) : Type 0 where
     pub block : lets_of code1 (ret_of o) ≡ lift_block v0.0 v0.1 fr0 (length fs0) t0
     pub functions : functions_of fs1 ≡ functions_of fs0 ++ functions_block v0.0 v0.1 (length fs0) t0
     pub captures : BlockCaptures most_words v0.0 t0
     pub frame : drop (length fr1 - length fr0) fr1 ≡ fr0
 
-  pub block_ends : (i : ℕ) (v : Scope × List ℕ) (fr : List Slot) (fs : List Function) (code : List Bound) (p : Binding) →
+  pub block_ends : (i : ℕ) (v : Scope × List ℕ) (fr : List LiftSlot) (fs : List Function) (code : List Bound) (p : AnfBinding) →
       BlockGoes notes v0 fr0 fs0 t0 i v fr fs code (tail_of p) →
-      (fr1 : List Slot) (code1 : List Bound) (o : Bound) (fs1 : List Function) →
+      (fr1 : List LiftSlot) (code1 : List Bound) (o : Bound) (fs1 : List Function) →
       o ≡ lifted_bound v.0 v.1 fr1 (length fs) p → fr1 ≡ closures_frame v.0 fr (atoms_in p) → code1 ≡ code ++ closures_code v.0 v.1 fr (atoms_in p) →
       functions_of fs1 ≡ functions_of fs ++ functions_bound v.0 v.1 (length fs) p → BoundCaptures v.0 p → BlockEnds v fr1 fs1 code1 o
   block_ends i v fr fs code p h fr1 code1 o fs1 eo ef ec en cap =
@@ -157,24 +157,24 @@ module _ (notes : List (List ℕ)) (v0 : Scope × List ℕ) (fr0 : List Slot) (f
         frame = shrunk (up.more ++ h.above) fr1 (ef ∙ up.is ∙ ap (λ z. up.more ++ z) h.frame ∙ sym (append_assoc up.more h.above fr0));
       }
     where
-      over : (xs : List Slot) → drop (length xs) (xs ++ fr0) ≡ fr0
+      over : (xs : List LiftSlot) → drop (length xs) (xs ++ fr0) ≡ fr0
       over [] = refl
       over (x ∷ xs) = over xs
 
-      shrunk : (xs fr1 : List Slot) → fr1 ≡ xs ++ fr0 → drop (length fr1 - length fr0) fr1 ≡ fr0
+      shrunk : (xs fr1 : List LiftSlot) → fr1 ≡ xs ++ fr0 → drop (length fr1 - length fr0) fr1 ≡ fr0
       shrunk xs fr1 e =
           let n : length fr1 ≡ length xs + length fr0 = ap length e ∙ length-append xs fr0 in
           let k : length fr1 - length fr0 ≡ length xs = omega arith in
           ap (λ k. drop k fr1) k ∙ ap (drop (length xs)) e ∙ over xs
 
-arms_join : (arms : List LiftedBranch) (b : LiftedBranch) (bs : Branches) → arms_before (arms ++ b ∷ []) bs ≡ arms_before arms (BCons b.binders b.body bs)
+arms_join : (arms : List LiftedBranch) (b : LiftedBranch) (bs : BranchBlocks) → arms_before (arms ++ b ∷ []) bs ≡ arms_before arms (BCons b.binders b.body bs)
 arms_join [] b bs = refl
 arms_join (a ∷ arms) b bs = ap (BCons a.binders a.body) (arms_join arms b bs)
 
 -- one more branch is lifted
-pub arms_go : (notes : List (List ℕ)) (v0 : Scope × List ℕ) (fr0 : List Slot) (fs0 : List Function) (bs0 : AnfBranches) (v : Scope × List ℕ) (fr : List Slot) (fs : List Function) (arms : List LiftedBranch) (n : ℕ) (t : AnfBlock) (rest : AnfBranches) →
+pub arms_go : (notes : List (List ℕ)) (v0 : Scope × List ℕ) (fr0 : List LiftSlot) (fs0 : List Function) (bs0 : AnfBranches) (v : Scope × List ℕ) (fr : List LiftSlot) (fs : List Function) (arms : List LiftedBranch) (n : ℕ) (t : AnfBlock) (rest : AnfBranches) →
     ArmsGo notes v0 fr0 fs0 bs0 v fr fs arms (Branch n t rest) →
-    (fs1 : List Function) (b : LiftedBranch) (v2 : Scope × List ℕ) (fr2 : List Slot) →
+    (fs1 : List Function) (b : LiftedBranch) (v2 : Scope × List ℕ) (fr2 : List LiftSlot) →
     b.binders ≡ n → b.body ≡ lift_block (plains n v.0) (unnumbered n v.1) (holding n v.0 fr) (length fs) t →
     functions_of fs1 ≡ functions_of fs ++ functions_block (plains n v.0) (unnumbered n v.1) (length fs) t → BlockCaptures most_words (plains n v.0) t → v2 ≡ v → fr2 ≡ fr →
     ArmsGo notes v0 fr0 fs0 bs0 v2 fr2 fs1 (arms ++ b ∷ []) rest
@@ -200,7 +200,7 @@ arms_code [] = refl
 arms_code (a ∷ arms) = ap (BCons a.binders a.body) (arms_code arms)
 
 -- what was held is left once the branch is done
-holding_shrunk : (n : ℕ) (s : Scope) (fr : List Slot) → drop (length (holding n s fr) - length fr) (holding n s fr) ≡ fr
+holding_shrunk : (n : ℕ) (s : Scope) (fr : List LiftSlot) → drop (length (holding n s fr) - length fr) (holding n s fr) ≡ fr
 holding_shrunk n s fr = ap (λ k. drop k (holding n s fr)) (let z = held_length n in omega arith) ∙ over n
   where
     held_length : (n : ℕ) → length (holding n s fr) ≡ n + length fr
@@ -211,7 +211,7 @@ holding_shrunk n s fr = ap (λ k. drop k (holding n s fr)) (let z = held_length 
     over zero = refl
     over (suc n) = over n
 
-pub frame_left : (n : ℕ) (s : Scope) (fr : List Slot) {fr1 fr2 : List Slot} {k : ℕ} → fr1 ≡ holding n s fr → k ≡ length fr → fr2 ≡ drop (length fr1 - k) fr1 → fr2 ≡ fr
+pub frame_left : (n : ℕ) (s : Scope) (fr : List LiftSlot) {fr1 fr2 : List LiftSlot} {k : ℕ} → fr1 ≡ holding n s fr → k ≡ length fr → fr2 ≡ drop (length fr1 - k) fr1 → fr2 ≡ fr
 frame_left n s fr {fr1} e ek e2 = e2 ∙ ap (λ k. drop (length fr1 - k) fr1) ek ∙ ap (λ z. drop (length z - length fr) z) e ∙ holding_shrunk n s fr
 
 -- and the variables

@@ -1,6 +1,6 @@
 -- Parts of a block are lighter than it.
 use Rattle.std.proofs.Common.{◌≡◌, ℕ, zero, suc, ◌<◌, ◌≤◌, List, [], ◌∷◌, length, get_or, ap, sym, subst as transport, arith}
-use Rattle.anf_convert.specs.Anf.{Binding, AtomIs, OpIs, tail_of, block_of}
+use Rattle.anf_convert.specs.Anf.{AnfBinding, AtomIs, OpIs, tail_of, block_of}
 use Rattle.anf_convert.specs.AnfView.{seen, bindings_of, branches_of, defs_of}
 use Rattle.anf_convert.specs.AnfWeight.{block_weight, branches_weight, defs_weight, binding_weight, bindings_weight}
 use Rattle.anf_convert.specs.AnfFalls.{block_weight_is}
@@ -14,7 +14,7 @@ in_bindings [] i o lt = absurd (omega arith)
 in_bindings (x ∷ ops) zero o lt = omega arith
 in_bindings (x ∷ ops) (suc i) o lt = omega (arith, in_bindings ops i o (omega arith))
 
-tail_weight : (p : Binding) → block_weight (tail_of p) ≡ suc (suc (binding_weight p))
+tail_weight : (p : AnfBinding) → block_weight (tail_of p) ≡ suc (suc (binding_weight p))
 tail_weight (AtomIs a) = omega arith
 tail_weight (OpIs o) = omega arith
 
@@ -26,11 +26,11 @@ op_lighter ops i o t lt is =
     let same : binding_weight (seen o) ≡ binding_weight (seen (get_or ops i o)) = ap (λ x. binding_weight (seen x)) is in
     omega arith
 
-some_weight : (ps : List Binding) → 1 ≤ bindings_weight ps
+some_weight : (ps : List AnfBinding) → 1 ≤ bindings_weight ps
 some_weight [] = omega arith
 some_weight (p ∷ ps) = omega arith
 
-pub tail_lighter : (ps : List Binding) (t : Op) → binding_weight (seen t) < block_weight (block_of ps (tail_of (seen t)))
+pub tail_lighter : (ps : List AnfBinding) (t : Op) → binding_weight (seen t) < block_weight (block_of ps (tail_of (seen t)))
 tail_lighter ps t =
     let all = block_weight_is ps (tail_of (seen t)) in
     let last = tail_weight (seen t) in

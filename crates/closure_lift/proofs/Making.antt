@@ -6,7 +6,7 @@ use Rattle.anf_convert.specs.declared.program.Atom.{Atom}
 use Rattle.anf_convert.specs.declared.program.Atom.TheVariants.{Var as AVar, Box as ABox}
 use Rattle.anf_convert.specs.Captured.{Scope, Words, entry}
 use Rattle.closure_lift.specs.Lifted.{OClos, RetAtom, Bound, OpBound}
-use Rattle.closure_lift.specs.Lift.{Slot, held}
+use Rattle.closure_lift.specs.Lift.{LiftSlot, held}
 use Rattle.closure_lift.specs.LiftedView.{seen, bounds_of, fn_of, functions_of}
 use Rattle.closure_lift.specs.FreeVariables.{all_words}
 use Rattle.closure_lift.specs.Lifting.{code_for, closure_frame, closure_code, closures_frame, closures_code, blanks}
@@ -45,16 +45,16 @@ pub words_more : (f : ℕ → List ℕ) (xs : List ℕ) (i : ℕ) → i < length
 words_more f xs i lt = ap (all_words f) (take_more xs i 0 lt) ∙ words_end f (take i xs) (get_or xs i 0)
 
 -- the code that makes a fixpoint's closure
-pub closure_made : (s : Scope) (gs : List ℕ) (fr : List Slot) (i g n : ℕ) (ws : List ℕ) (as' : List Atom) → Words ws ≡ entry s i → g ≡ get_or gs i 0 → n ≡ g → as' ≡ map (held fr) ws → OpBound (OClos n as') ∷ [] ≡ closure_code s gs fr (AVar i)
+pub closure_made : (s : Scope) (gs : List ℕ) (fr : List LiftSlot) (i g n : ℕ) (ws : List ℕ) (as' : List Atom) → Words ws ≡ entry s i → g ≡ get_or gs i 0 → n ≡ g → as' ≡ map (held fr) ws → OpBound (OClos n as') ∷ [] ≡ closure_code s gs fr (AVar i)
 closure_made s gs fr i g n ws as' e eg en ea =
     ap (λ k. OpBound (OClos k as') ∷ []) (en ∙ eg) ∙ ap (λ zs. OpBound (OClos (get_or gs i 0) zs) ∷ []) ea ∙ ap (code_for fr (get_or gs i 0)) e
 
 -- closures for one more atom, from the last on
-pub frame_on : (s : Scope) (fr : List Slot) (xs : List Atom) (p : ℕ) (d : Atom) {fr1 to : List Slot} → p < length xs → fr1 ≡ closure_frame s fr (get_or xs (length xs - 1 - p) d) →
+pub frame_on : (s : Scope) (fr : List LiftSlot) (xs : List Atom) (p : ℕ) (d : Atom) {fr1 to : List LiftSlot} → p < length xs → fr1 ≡ closure_frame s fr (get_or xs (length xs - 1 - p) d) →
     closures_frame s fr (drop p (reverse xs)) ≡ to → closures_frame s fr1 (drop (p + 1) (reverse xs)) ≡ to
 frame_on s fr xs p d lt e inv = ap (λ z. closures_frame s z (drop (p + 1) (reverse xs))) e ∙ sym (ap (closures_frame s fr) (turned_step xs p d lt)) ∙ inv
 
-pub code_on : (s : Scope) (gs : List ℕ) (fr : List Slot) (xs : List Atom) (p : ℕ) (d : Atom) {fr1 : List Slot} (code : List Bound) {code1 to : List Bound} → p < length xs → fr1 ≡ closure_frame s fr (get_or xs (length xs - 1 - p) d) →
+pub code_on : (s : Scope) (gs : List ℕ) (fr : List LiftSlot) (xs : List Atom) (p : ℕ) (d : Atom) {fr1 : List LiftSlot} (code : List Bound) {code1 to : List Bound} → p < length xs → fr1 ≡ closure_frame s fr (get_or xs (length xs - 1 - p) d) →
     code1 ≡ code ++ closure_code s gs fr (get_or xs (length xs - 1 - p) d) → code ++ closures_code s gs fr (drop p (reverse xs)) ≡ to → code1 ++ closures_code s gs fr1 (drop (p + 1) (reverse xs)) ≡ to
 code_on s gs fr xs p d {fr1} code lt e ec inv =
     let a = get_or xs (length xs - 1 - p) d in

@@ -1,7 +1,7 @@
 -- Names and notes of a block, of branches and of definitions, one after another.
 use Rattle.std.proofs.Common.{◌≡◌, ℕ, zero, suc, ◌+◌, ◌<◌, List, [], ◌∷◌, ◌++◌, length, drop, get_or, refl, sym, ap, ◌∙◌, arith, append_assoc, drop-cons, length-append, ◌≤◌}
 use Rattle.std.proofs.lemmas.List.{append-nil, set_at}
-use Rattle.anf_convert.specs.Anf.{AnfBlock, Binding, AtomIs, OpIs, tail_of, block_of, def_count}
+use Rattle.anf_convert.specs.Anf.{AnfBlock, AnfBinding, AtomIs, OpIs, tail_of, block_of, def_count}
 use Rattle.anf_convert.specs.declared.program.Atom.{Atom}
 use Rattle.anf_convert.specs.AnfView.{seen, bindings_of, branches_of, defs_of}
 use Rattle.anf_convert.specs.declared.program.Op.{Op}
@@ -27,19 +27,19 @@ part_none {xs = xs} e g = sym (append-nil xs) ∙ ap (λ zs. xs ++ zs) (sym e) �
 pub next_of : {A : Type 0} (xs : List A) (i : ℕ) (x : A) → i < length xs → x ≡ get_or xs i x → drop i xs ≡ x ∷ drop (i + 1) xs
 next_of xs i x lt is = let j : suc i ≡ i + 1 = omega arith in drop-cons xs i x lt ∙ ap (λ y. y ∷ drop (suc i) xs) (sym is) ∙ ap (λ k. x ∷ drop k xs) j
 
-pub free_step : (n : ℕ) (p : Binding) (ps : List Binding) (t : AnfBlock) → free_block n (block_of (p ∷ ps) t) ≡ free_bound n p ++ free_block (suc n) (block_of ps t)
+pub free_step : (n : ℕ) (p : AnfBinding) (ps : List AnfBinding) (t : AnfBlock) → free_block n (block_of (p ∷ ps) t) ≡ free_bound n p ++ free_block (suc n) (block_of ps t)
 free_step n (AtomIs a) ps t = refl
 free_step n (OpIs op) ps t = refl
 
-pub notes_step : (n : ℕ) (p : Binding) (ps : List Binding) (t : AnfBlock) → notes_block n (block_of (p ∷ ps) t) ≡ notes_bound n p ++ notes_block (suc n) (block_of ps t)
+pub notes_step : (n : ℕ) (p : AnfBinding) (ps : List AnfBinding) (t : AnfBlock) → notes_block n (block_of (p ∷ ps) t) ≡ notes_bound n p ++ notes_block (suc n) (block_of ps t)
 notes_step n (AtomIs a) ps t = refl
 notes_step n (OpIs op) ps t = refl
 
-pub free_tail : (n : ℕ) (p : Binding) → free_block n (tail_of p) ≡ free_bound n p
+pub free_tail : (n : ℕ) (p : AnfBinding) → free_block n (tail_of p) ≡ free_bound n p
 free_tail n (AtomIs a) = refl
 free_tail n (OpIs op) = refl
 
-pub notes_tail : (n : ℕ) (p : Binding) → notes_block n (tail_of p) ≡ notes_bound n p
+pub notes_tail : (n : ℕ) (p : AnfBinding) → notes_block n (tail_of p) ≡ notes_bound n p
 notes_tail n (AtomIs a) = refl
 notes_tail n (OpIs op) = refl
 

@@ -6,7 +6,7 @@ use Rattle.anf_convert.specs.AnfEvaluation.{LamAt, lam_here, lam_after_lam, lam_
 use Rattle.anf_convert.specs.Captured.{Scope, Outside, Plain, plains, shares, fix_captured}
 use Rattle.closure_lift.specs.Lifted.{Block, RetAtom, Fn, Program, BranchAt, branch_here, branch_after}
 use Rattle.anf_convert.specs.declared.program.Atom.TheVariants.{Box as ABox}
-use Rattle.closure_lift.specs.Lift.{Slot, op_functions, block_functions, branches_functions, defs_functions, unnumbered, numbered, holding, lift_block, lift_branches, lambda_function, def_functions, functions_op, functions_block, functions_branches, functions_defs, constants_functions, lift_constants, functions_constants, lift}
+use Rattle.closure_lift.specs.Lift.{LiftSlot, op_functions, block_functions, branches_functions, defs_functions, unnumbered, numbered, holding, lift_block, lift_branches, lambda_function, def_functions, functions_op, functions_block, functions_branches, functions_defs, constants_functions, lift_constants, functions_constants, lift}
 
 -- these functions stand from number g on
 pub record Placed (fs : List Fn) (g : ℕ) (all : List Fn) : Type 0 where
@@ -75,12 +75,12 @@ pub then_block : (s : Scope) (gs : List ℕ) (g : ℕ) (op : AnfOp) (t : AnfBloc
 then_block s gs g op t p = back _ _ (omega (arith, op_length s gs g op)) p
 
 -- the block of a branch
-pub record BranchPlaced (s : Scope) (gs : List ℕ) (fr : List Slot) (g : ℕ) (bs : AnfBranches) (i n : ℕ) (t : AnfBlock) (all : List Fn) : Type 0 where
+pub record BranchPlaced (s : Scope) (gs : List ℕ) (fr : List LiftSlot) (g : ℕ) (bs : AnfBranches) (i n : ℕ) (t : AnfBlock) (all : List Fn) : Type 0 where
   pub from : ℕ
   pub at : BranchAt (lift_branches s gs fr g bs) i n (lift_block (plains n s) (unnumbered n gs) (holding n s fr) from t)
   pub placed : Placed (functions_block (plains n s) (unnumbered n gs) from t) from all
 
-pub branch_placed : {s : Scope} {gs : List ℕ} {bs : AnfBranches} {i n : ℕ} {t : AnfBlock} {all : List Fn} (fr : List Slot) (g : ℕ) → AnfBranchAt bs i n t → Placed (functions_branches s gs g bs) g all → BranchPlaced s gs fr g bs i n t all
+pub branch_placed : {s : Scope} {gs : List ℕ} {bs : AnfBranches} {i n : ℕ} {t : AnfBlock} {all : List Fn} (fr : List LiftSlot) (g : ℕ) → AnfBranchAt bs i n t → Placed (functions_branches s gs g bs) g all → BranchPlaced s gs fr g bs i n t all
 branch_placed fr g at_branch p = record { from = g; at = branch_here; placed = front _ _ p }
 branch_placed {s} {gs} fr g (after_branch {m = m} {d = d} at) p =
     let r = branch_placed fr (g + block_functions d) at (back _ _ (omega (arith, block_length (plains m s) (unnumbered m gs) g d)) p) in

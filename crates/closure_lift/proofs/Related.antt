@@ -6,13 +6,13 @@ use Rattle.anf_convert.specs.Anf.{LamOp, FixOp, AnfBlock, AnfDefs}
 use Rattle.anf_convert.specs.Captured.{Scope, Outside, Plain, Shared, depth, Unbound, Word, Words, entry, plains, shares, lam_captured, fix_captured}
 use Rattle.anf_convert.specs.AnfEvaluation.{AnfVal, WBox, WCon, WClos, WFix, AnfVals, WNil, WCons, find, count, ◌+w◌, fixes}
 use Rattle.closure_lift.specs.Lifted.{Program, Val, VBox, VCon, VClos, Vals, VNil, VCons, lookup, size, ◌+v◌, is_var, AllAre, are_none, are_more}
-use Rattle.closure_lift.specs.Lift.{Slot, Holds, same_slot, position, held, unnumbered, numbered, holding, functions_op}
+use Rattle.closure_lift.specs.Lift.{LiftSlot, Holds, same_slot, position, held, unnumbered, numbered, holding, functions_op}
 use Rattle.closure_lift.proofs.Covering.{In, in_here, in_after, holds_all}
 use Rattle.anf_convert.proofs.Scopes.{Each}
 use Rattle.closure_lift.proofs.Placed.{Placed}
 
 -- the value of a word
-abbrev pub word_in : List Slot → Vals → ℕ → Option Val
+abbrev pub word_in : List LiftSlot → Vals → ℕ → Option Val
 word_in fr le x = lookup le (position (Holds x) fr)
 
 mutual
@@ -113,11 +113,11 @@ er_words {P} {W} {s} {v = v} {ws = ws} zero (er_fix {s = s0} {n = n} is' le er' 
 er_words (suc i) (er_fix is' le er' p n er) is at = er_words i er is at
 
 -- what a slot holds
-pub record Found (k : Slot) (fr : List Slot) (le : Vals) : Type 0 where
+pub record Found (k : LiftSlot) (fr : List LiftSlot) (le : Vals) : Type 0 where
   pub value : Val
   pub at : lookup le (position k fr) ≡ Some value
 
-pub found : (k : Slot) (fr : List Slot) (le : Vals) → size le ≡ length fr → In k fr → Found k fr le
+pub found : (k : LiftSlot) (fr : List LiftSlot) (le : Vals) → size le ≡ length fr → In k fr → Found k fr le
 found k [] le eq h = elim h [ ]
 found k (j ∷ fr) VNil eq h = absurd (omega arith)
 found k (j ∷ fr) (VCons u le) eq (in_here e) = record { value = u; at = rw e refl }
@@ -148,12 +148,12 @@ carried {W} (carries_more {x = y} {xs = xs} {u = u} {us = us} h hs) x = go (nat_
 pub er_captured : {P : Program} {W : ℕ → Option Val} {s : Scope} {gs : List ℕ} {e : AnfVals} {xs : List ℕ} {us : Vals} → Carries W xs us → ER P W s gs e → ER P (word_in (holds_all xs) us) s gs e
 er_captured h er = er_moves (λ x lt. carried h x) er
 
-pub record Capture (fr : List Slot) (le : Vals) (xs : List ℕ) : Type 0 where
+pub record Capture (fr : List LiftSlot) (le : Vals) (xs : List ℕ) : Type 0 where
   pub us : Vals
   pub all : AllAre le (map (held fr) xs) us
   pub carries : Carries (word_in fr le) xs us
 
-pub capture : (fr : List Slot) (le : Vals) → size le ≡ length fr → (xs : List ℕ) → Each (λ x. In (Holds x) fr) xs → Capture fr le xs
+pub capture : (fr : List LiftSlot) (le : Vals) → size le ≡ length fr → (xs : List ℕ) → Each (λ x. In (Holds x) fr) xs → Capture fr le xs
 capture fr le eq [] h = record { us = VNil; all = are_none; carries = carries_none }
 capture fr le eq (x ∷ xs) h =
     let f = found (Holds x) fr le eq h.0 in
@@ -161,16 +161,16 @@ capture fr le eq (x ∷ xs) h =
     record { us = VCons f.value r.us; all = are_more (is_var f.at) r.all; carries = carries_more f.at r.carries }
 
 -- one more word
-pub er_push : {P : Program} {s : Scope} {gs : List ℕ} {e : AnfVals} {v : AnfVal} {u : Val} {n : ℕ} (fr : List Slot) (le : Vals) → ER P (word_in fr le) s gs e → VR P v u → ER P (word_in (Holds (depth s) ∷ fr) (VCons u le)) (Plain s) (n ∷ gs) (WCons v e)
+pub er_push : {P : Program} {s : Scope} {gs : List ℕ} {e : AnfVals} {v : AnfVal} {u : Val} {n : ℕ} (fr : List LiftSlot) (le : Vals) → ER P (word_in fr le) s gs e → VR P v u → ER P (word_in (Holds (depth s) ∷ fr) (VCons u le)) (Plain s) (n ∷ gs) (WCons v e)
 er_push {s = s} {u = u} fr le er g =
     er_in (rw (eq-eqb (depth s) (depth s) refl) refl) g
     (er_same (λ x lt. rw (ne_eqb x (depth s) (λ e. omega arith)) refl) er)
 
-pub er_pushes : {P : Program} {s : Scope} {gs : List ℕ} {e : AnfVals} {vs : AnfVals} {us : Vals} (fr : List Slot) (le : Vals) → ER P (word_in fr le) s gs e → VRs P vs us → ER P (word_in (holding (count vs) s fr) (us +v le)) (plains (count vs) s) (unnumbered (count vs) gs) (vs +w e)
+pub er_pushes : {P : Program} {s : Scope} {gs : List ℕ} {e : AnfVals} {vs : AnfVals} {us : Vals} (fr : List LiftSlot) (le : Vals) → ER P (word_in fr le) s gs e → VRs P vs us → ER P (word_in (holding (count vs) s fr) (us +v le)) (plains (count vs) s) (unnumbered (count vs) gs) (vs +w e)
 er_pushes fr le er vrs_nil = er
 er_pushes {s = s} {vs = WCons v vs} {us = VCons u us} fr le er (vrs_cons g gs) = er_push (holding (count vs) s fr) (us +v le) (er_pushes fr le er gs) g
 
-pub pushes_size : {P : Program} {vs : AnfVals} {us : Vals} (s : Scope) (fr : List Slot) (le : Vals) → size le ≡ length fr → VRs P vs us → size (us +v le) ≡ length (holding (count vs) s fr)
+pub pushes_size : {P : Program} {vs : AnfVals} {us : Vals} (s : Scope) (fr : List LiftSlot) (le : Vals) → size le ≡ length fr → VRs P vs us → size (us +v le) ≡ length (holding (count vs) s fr)
 pushes_size s fr le eq vrs_nil = eq
 pushes_size s fr le eq (vrs_cons g gs) = ap suc (pushes_size s fr le eq gs)
 

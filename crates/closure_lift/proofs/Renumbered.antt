@@ -6,7 +6,7 @@ use Rattle.anf_convert.specs.declared.program.Atom.TheVariants.{Var as AVar, Box
 use Rattle.anf_convert.specs.Renumbering as anf
 use Rattle.anf_convert.specs.Captured.{Scope, Plain, depth, Entry, Unbound, Word, Words, entry, plains, shares, atom_words, op_words, block_words, branches_words, defs_words, captured, lam_captured, fix_captured}
 use Rattle.closure_lift.specs.Lifted.{OClos, OCase, Block, RetAtom, LetAtom, Ret, Let, BCons}
-use Rattle.closure_lift.specs.Lift.{Slot, Holds, held, atom, closure_for, closure, closures, atoms_of, op_functions, block_functions, branches_functions, defs_functions, unnumbered, holding, lift_op, lift_block, lift_branches}
+use Rattle.closure_lift.specs.Lift.{LiftSlot, Holds, held, atom, closure_for, closure, closures, atoms_of, op_functions, block_functions, branches_functions, defs_functions, unnumbered, holding, lift_op, lift_block, lift_branches}
 use Rattle.closure_lift.specs.LiftedProgram.{renumber_op, renumber, renumber_branches}
 
 module _ (f : ℕ → ℕ) where
@@ -83,22 +83,22 @@ module _ (f : ℕ → ℕ) where
   pub fix_same : (s : Scope) (ds : AnfDefs) → fix_captured s (anf.renumber_defs f ds) ≡ fix_captured s ds
   fix_same s ds = ap (captured (depth s)) (op_words_same s (FixOp ds 0))
 
-  entry_goes : (fr : List Slot) (i g : ℕ) (e : Entry) (next next' : List Slot → Block) → ((fr : List Slot) → next' fr ≡ renumber f (next fr)) → closure_for fr i g e next' ≡ renumber f (closure_for fr i g e next)
+  entry_goes : (fr : List LiftSlot) (i g : ℕ) (e : Entry) (next next' : List LiftSlot → Block) → ((fr : List LiftSlot) → next' fr ≡ renumber f (next fr)) → closure_for fr i g e next' ≡ renumber f (closure_for fr i g e next)
   entry_goes fr i g Unbound next next' h = h fr
   entry_goes fr i g (Word x) next next' h = h fr
   entry_goes fr i g (Words ws) next next' h = ap (Let (OClos g (map (held fr) ws))) (h _)
 
-  atom_goes : (s : Scope) (gs : List ℕ) (fr : List Slot) (a : Atom) (next next' : List Slot → Block) → ((fr : List Slot) → next' fr ≡ renumber f (next fr)) → closure s gs fr a next' ≡ renumber f (closure s gs fr a next)
+  atom_goes : (s : Scope) (gs : List ℕ) (fr : List LiftSlot) (a : Atom) (next next' : List LiftSlot → Block) → ((fr : List LiftSlot) → next' fr ≡ renumber f (next fr)) → closure s gs fr a next' ≡ renumber f (closure s gs fr a next)
   atom_goes s gs fr (AVar i) next next' h = entry_goes fr i (get_or gs i 0) (entry s i) next next' h
   atom_goes s gs fr ABox next next' h = h fr
   atom_goes s gs fr (AEmpty c) next next' h = h fr
 
-  goes : (s : Scope) (gs : List ℕ) (fr : List Slot) (as' : List Atom) (next next' : List Slot → Block) → ((fr : List Slot) → next' fr ≡ renumber f (next fr)) → closures s gs fr as' next' ≡ renumber f (closures s gs fr as' next)
+  goes : (s : Scope) (gs : List ℕ) (fr : List LiftSlot) (as' : List Atom) (next next' : List LiftSlot → Block) → ((fr : List LiftSlot) → next' fr ≡ renumber f (next fr)) → closures s gs fr as' next' ≡ renumber f (closures s gs fr as' next)
   goes s gs fr [] next next' h = h fr
   goes s gs fr (a ∷ as') next next' h = atom_goes s gs fr a (λ fr'. closures s gs fr' as' next) (λ fr'. closures s gs fr' as' next') (λ fr'. goes s gs fr' as' next next' h)
 
   mutual
-    pub lift_op_renumbered : (s : Scope) (gs : List ℕ) (fr : List Slot) (g : ℕ) (op : AnfOp) → lift_op s gs fr g (anf.renumber_op f op) ≡ renumber_op f (lift_op s gs fr g op)
+    pub lift_op_renumbered : (s : Scope) (gs : List ℕ) (fr : List LiftSlot) (g : ℕ) (op : AnfOp) → lift_op s gs fr g (anf.renumber_op f op) ≡ renumber_op f (lift_op s gs fr g op)
     lift_op_renumbered s gs fr g (ConstOp x) = refl
     lift_op_renumbered s gs fr g (AppOp h a) = refl
     lift_op_renumbered s gs fr g (ConOp c as') = refl
@@ -106,7 +106,7 @@ module _ (f : ℕ → ℕ) where
     lift_op_renumbered s gs fr g (FixOp ds i) = ap (λ ws. OClos (g + i) (map (held fr) ws)) (fix_same s ds)
     lift_op_renumbered s gs fr g (CaseOp a bs) = ap (OCase (atom s fr a)) (lift_branches_renumbered s gs fr g bs)
 
-    pub lift_block_renumbered : (s : Scope) (gs : List ℕ) (fr : List Slot) (g : ℕ) (t : AnfBlock) → lift_block s gs fr g (anf.renumber f t) ≡ renumber f (lift_block s gs fr g t)
+    pub lift_block_renumbered : (s : Scope) (gs : List ℕ) (fr : List LiftSlot) (g : ℕ) (t : AnfBlock) → lift_block s gs fr g (anf.renumber f t) ≡ renumber f (lift_block s gs fr g t)
     lift_block_renumbered s gs fr g (TailAtom a) = goes s gs fr (a ∷ []) (λ fr'. RetAtom (atom s fr' a)) (λ fr'. RetAtom (atom s fr' a)) (λ fr'. refl)
     lift_block_renumbered s gs fr g (Tail op) =
         ap (λ as'. closures s gs fr as' (λ fr'. Ret (lift_op s gs fr' g (anf.renumber_op f op)))) (atoms_same op)
@@ -122,7 +122,7 @@ module _ (f : ℕ → ℕ) where
         ∙ ap (λ o. Let o (lift_block (Plain s) (0 ∷ gs) (Holds (depth s) ∷ fr') (g + op_functions op) (anf.renumber f t))) (lift_op_renumbered s gs fr' g op)
         ∙ ap (Let (renumber_op f (lift_op s gs fr' g op))) (lift_block_renumbered (Plain s) (0 ∷ gs) (Holds (depth s) ∷ fr') (g + op_functions op) t))
 
-    pub lift_branches_renumbered : (s : Scope) (gs : List ℕ) (fr : List Slot) (g : ℕ) (bs : AnfBranches) → lift_branches s gs fr g (anf.renumber_branches f bs) ≡ renumber_branches f (lift_branches s gs fr g bs)
+    pub lift_branches_renumbered : (s : Scope) (gs : List ℕ) (fr : List LiftSlot) (g : ℕ) (bs : AnfBranches) → lift_branches s gs fr g (anf.renumber_branches f bs) ≡ renumber_branches f (lift_branches s gs fr g bs)
     lift_branches_renumbered s gs fr g NoBranch = refl
     lift_branches_renumbered s gs fr g (Branch n t rest) =
         ap (λ k. BCons n (lift_block (plains n s) (unnumbered n gs) (holding n s fr) g (anf.renumber f t)) (lift_branches s gs fr (g + k) (anf.renumber_branches f rest))) (block_functions_same t)

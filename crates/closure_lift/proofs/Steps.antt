@@ -1,11 +1,11 @@
 -- Blocks, branches and definitions are lifted one after another.
 use Rattle.std.proofs.Common.{◌≡◌, ℕ, zero, suc, ◌+◌, List, [], ◌∷◌, ◌++◌, length, drop, get_or, refl, sym, ap, ◌∙◌, arith, append_assoc, length-append}
-use Rattle.anf_convert.specs.Anf.{AnfOp, ConstOp, AppOp, ConOp, LamOp, FixOp, CaseOp, AnfBlock, TailAtom, Tail, BindAtom, Bind, AnfBranches, NoBranch, Branch, AnfDefs, NoDef, LamDef, BoxDef, Binding, AtomIs, OpIs, tail_of, block_of, def_count}
+use Rattle.anf_convert.specs.Anf.{AnfOp, ConstOp, AppOp, ConOp, LamOp, FixOp, CaseOp, AnfBlock, TailAtom, Tail, BindAtom, Bind, AnfBranches, NoBranch, Branch, AnfDefs, NoDef, LamDef, BoxDef, AnfBinding, AtomIs, OpIs, tail_of, block_of, def_count}
 use Rattle.anf_convert.specs.declared.program.Atom.{Atom}
 use Rattle.anf_convert.specs.declared.program.Atom.TheVariants.{Var as AVar, Box as ABox, Empty as AEmpty}
 use Rattle.anf_convert.specs.Captured.{Scope, Plain, depth, Entry, Unbound, Word, Words, entry, plains, shares}
 use Rattle.closure_lift.specs.Lifted.{Block, RetAtom, LetAtom, Ret, Let, Bound, AtomBound, OpBound, lets_of, ret_of}
-use Rattle.closure_lift.specs.Lift.{Slot, Holds, atom, closure_for, closure, closures, atoms_of, op_functions, block_functions, branches_functions, defs_functions, unnumbered, numbered, lift_op, lift_block, functions_block}
+use Rattle.closure_lift.specs.Lift.{LiftSlot, Holds, atom, closure_for, closure, closures, atoms_of, op_functions, block_functions, branches_functions, defs_functions, unnumbered, numbered, lift_op, lift_block, functions_block}
 use Rattle.closure_lift.specs.Lifting.{frame_for, code_for, closure_frame, closure_code, closures_frame, closures_code, atoms_in, lifted_bound, bound_functions, functions_bound, BoundCaptures, Stand, most_words}
 use Rattle.closure_lift.specs.FreeVariables.{free_op, notes_op, notes_block, notes_branches, notes_defs, at_first}
 use Rattle.closure_lift.specs.Noting.{notes_bound}
@@ -20,24 +20,24 @@ lets_join [] ys t = refl
 lets_join (AtomBound a ∷ xs) ys t = ap (LetAtom a) (lets_join xs ys t)
 lets_join (OpBound op ∷ xs) ys t = ap (Let op) (lets_join xs ys t)
 
-entry_closes : (fr : List Slot) (i g : ℕ) (e : Entry) (next : List Slot → Block) → closure_for fr i g e next ≡ lets_of (code_for fr g e) (next (frame_for fr i e))
+entry_closes : (fr : List LiftSlot) (i g : ℕ) (e : Entry) (next : List LiftSlot → Block) → closure_for fr i g e next ≡ lets_of (code_for fr g e) (next (frame_for fr i e))
 entry_closes fr i g Unbound next = refl
 entry_closes fr i g (Word x) next = refl
 entry_closes fr i g (Words ws) next = refl
 
-atom_closes : (s : Scope) (gs : List ℕ) (fr : List Slot) (a : Atom) (next : List Slot → Block) → closure s gs fr a next ≡ lets_of (closure_code s gs fr a) (next (closure_frame s fr a))
+atom_closes : (s : Scope) (gs : List ℕ) (fr : List LiftSlot) (a : Atom) (next : List LiftSlot → Block) → closure s gs fr a next ≡ lets_of (closure_code s gs fr a) (next (closure_frame s fr a))
 atom_closes s gs fr (AVar i) next = entry_closes fr i (get_or gs i 0) (entry s i) next
 atom_closes s gs fr ABox next = refl
 atom_closes s gs fr (AEmpty c) next = refl
 
-pub closes : (s : Scope) (gs : List ℕ) (fr : List Slot) (as' : List Atom) (next : List Slot → Block) → closures s gs fr as' next ≡ lets_of (closures_code s gs fr as') (next (closures_frame s fr as'))
+pub closes : (s : Scope) (gs : List ℕ) (fr : List LiftSlot) (as' : List Atom) (next : List LiftSlot → Block) → closures s gs fr as' next ≡ lets_of (closures_code s gs fr as') (next (closures_frame s fr as'))
 closes s gs fr [] next = refl
 closes s gs fr (a ∷ as') next =
     atom_closes s gs fr a (λ fr'. closures s gs fr' as' next) ∙ ap (lets_of (closure_code s gs fr a)) (closes s gs (closure_frame s fr a) as' next)
     ∙ sym (lets_join (closure_code s gs fr a) (closures_code s gs (closure_frame s fr a) as') (next (closures_frame s (closure_frame s fr a) as')))
 
 -- one more binding of a block
-pub block_step : (s : Scope) (gs : List ℕ) (fr : List Slot) (g : ℕ) (p : Binding) (ps : List Binding) (t : AnfBlock) →
+pub block_step : (s : Scope) (gs : List ℕ) (fr : List LiftSlot) (g : ℕ) (p : AnfBinding) (ps : List AnfBinding) (t : AnfBlock) →
     lift_block s gs fr g (block_of (p ∷ ps) t) ≡
     lets_of (closures_code s gs fr (atoms_in p) ++ lifted_bound s gs (closures_frame s fr (atoms_in p)) g p ∷ []) (lift_block (Plain s) (0 ∷ gs) (Holds (depth s) ∷ closures_frame s fr (atoms_in p)) (g + bound_functions p) (block_of ps t))
 block_step s gs fr g (AtomIs a) ps t =
@@ -49,40 +49,40 @@ block_step s gs fr g (OpIs op) ps t =
     ∙ sym (lets_join (closures_code s gs fr (atoms_of op)) (OpBound (lift_op s gs (closures_frame s fr (atoms_of op)) g op) ∷ []) (lift_block (Plain s) (0 ∷ gs) (Holds (depth s) ∷ closures_frame s fr (atoms_of op)) (g + op_functions op) (block_of ps t)))
 
 -- the end of a block
-pub block_end : (s : Scope) (gs : List ℕ) (fr : List Slot) (g : ℕ) (p : Binding) → lift_block s gs fr g (tail_of p) ≡ lets_of (closures_code s gs fr (atoms_in p)) (ret_of (lifted_bound s gs (closures_frame s fr (atoms_in p)) g p))
+pub block_end : (s : Scope) (gs : List ℕ) (fr : List LiftSlot) (g : ℕ) (p : AnfBinding) → lift_block s gs fr g (tail_of p) ≡ lets_of (closures_code s gs fr (atoms_in p)) (ret_of (lifted_bound s gs (closures_frame s fr (atoms_in p)) g p))
 block_end s gs fr g (AtomIs a) = closes s gs fr (a ∷ []) (λ fr'. RetAtom (atom s fr' a))
 block_end s gs fr g (OpIs op) = closes s gs fr (atoms_of op) (λ fr'. Ret (lift_op s gs fr' g op))
 
-pub functions_step : (s : Scope) (gs : List ℕ) (g : ℕ) (p : Binding) (ps : List Binding) (t : AnfBlock) → functions_block s gs g (block_of (p ∷ ps) t) ≡ functions_bound s gs g p ++ functions_block (Plain s) (0 ∷ gs) (g + bound_functions p) (block_of ps t)
+pub functions_step : (s : Scope) (gs : List ℕ) (g : ℕ) (p : AnfBinding) (ps : List AnfBinding) (t : AnfBlock) → functions_block s gs g (block_of (p ∷ ps) t) ≡ functions_bound s gs g p ++ functions_block (Plain s) (0 ∷ gs) (g + bound_functions p) (block_of ps t)
 functions_step s gs g (AtomIs a) ps t = ap (λ n. functions_block (Plain s) (0 ∷ gs) n (block_of ps t)) (let e : g ≡ g + 0 = omega arith in e)
 functions_step s gs g (OpIs op) ps t = refl
 
-pub functions_end : (s : Scope) (gs : List ℕ) (g : ℕ) (p : Binding) → functions_block s gs g (tail_of p) ≡ functions_bound s gs g p
+pub functions_end : (s : Scope) (gs : List ℕ) (g : ℕ) (p : AnfBinding) → functions_block s gs g (tail_of p) ≡ functions_bound s gs g p
 functions_end s gs g (AtomIs a) = refl
 functions_end s gs g (OpIs op) = refl
 
-pub bound_length : (s : Scope) (gs : List ℕ) (g : ℕ) (p : Binding) → length (functions_bound s gs g p) ≡ bound_functions p
+pub bound_length : (s : Scope) (gs : List ℕ) (g : ℕ) (p : AnfBinding) → length (functions_bound s gs g p) ≡ bound_functions p
 bound_length s gs g (AtomIs a) = refl
 bound_length s gs g (OpIs op) = op_length s gs g op
 
 -- captured words of a block, binding after binding
-pub captures_step : (s : Scope) (p : Binding) (ps : List Binding) (t : AnfBlock) → BoundCaptures s p → BlockCaptures most_words (Plain s) (block_of ps t) → BlockCaptures most_words s (block_of (p ∷ ps) t)
+pub captures_step : (s : Scope) (p : AnfBinding) (ps : List AnfBinding) (t : AnfBlock) → BoundCaptures s p → BlockCaptures most_words (Plain s) (block_of ps t) → BlockCaptures most_words s (block_of (p ∷ ps) t)
 captures_step s (AtomIs a) ps t h r = r
 captures_step s (OpIs op) ps t h r = (h, r)
 
-pub captures_first : (s : Scope) (p : Binding) (ps : List Binding) (t : AnfBlock) → BlockCaptures most_words s (block_of (p ∷ ps) t) → BoundCaptures s p
+pub captures_first : (s : Scope) (p : AnfBinding) (ps : List AnfBinding) (t : AnfBlock) → BlockCaptures most_words s (block_of (p ∷ ps) t) → BoundCaptures s p
 captures_first s (AtomIs a) ps t h = tt
 captures_first s (OpIs op) ps t h = h.0
 
-pub captures_rest : (s : Scope) (p : Binding) (ps : List Binding) (t : AnfBlock) → BlockCaptures most_words s (block_of (p ∷ ps) t) → BlockCaptures most_words (Plain s) (block_of ps t)
+pub captures_rest : (s : Scope) (p : AnfBinding) (ps : List AnfBinding) (t : AnfBlock) → BlockCaptures most_words s (block_of (p ∷ ps) t) → BlockCaptures most_words (Plain s) (block_of ps t)
 captures_rest s (AtomIs a) ps t h = h
 captures_rest s (OpIs op) ps t h = h.1
 
-pub captures_end : (s : Scope) (p : Binding) → BoundCaptures s p → BlockCaptures most_words s (tail_of p)
+pub captures_end : (s : Scope) (p : AnfBinding) → BoundCaptures s p → BlockCaptures most_words s (tail_of p)
 captures_end s (AtomIs a) h = tt
 captures_end s (OpIs op) h = h
 
-pub captures_back : (s : Scope) (p : Binding) → BlockCaptures most_words s (tail_of p) → BoundCaptures s p
+pub captures_back : (s : Scope) (p : AnfBinding) → BlockCaptures most_words s (tail_of p) → BoundCaptures s p
 captures_back s (AtomIs a) h = tt
 captures_back s (OpIs op) h = h
 
@@ -132,7 +132,7 @@ mutual
   defs_noted n (LamDef b rest) = length-append (notes_block (suc n) b) (notes_defs n rest) ∙ omega (arith, block_noted (suc n) b, defs_noted n rest)
   defs_noted n (BoxDef rest) = defs_noted n rest
 
-pub bound_noted : (n : ℕ) (p : Binding) → length (notes_bound n p) ≡ bound_functions p
+pub bound_noted : (n : ℕ) (p : AnfBinding) → length (notes_bound n p) ≡ bound_functions p
 bound_noted n (AtomIs a) = refl
 bound_noted n (OpIs op) = op_noted n op
 

@@ -10,7 +10,7 @@ use Rattle.closure_lift.specs.Lift.{numbered, unnumbered, functions_op, function
 use Rattle.closure_lift.specs.LiftedView.{functions_of}
 use Rattle.closure_lift.specs.FreeVariables.{size, free_op, notes_op, notes_block, notes_defs, nothing, at_first}
 use Rattle.closure_lift.specs.Variables.{outer}
-use Rattle.closure_lift.specs.Lifting.{Stand, Refuses, PlacesFor, words_for, function_with, function_body, definitions, blanks, most_words}
+use Rattle.closure_lift.specs.Lifting.{Stand, LiftRefuses, PlacesFor, words_for, function_with, function_body, definitions, blanks, most_words}
 use Rattle.closure_lift.specs.declared.program.Function.{Function}
 use Rattle.closure_lift.specs.declared.fault.LiftFault.{LiftFault}
 use Rattle.closure_lift.specs.declared.fault.LiftFault.TheVariants.{Captured, Functions, Memory}
@@ -20,13 +20,13 @@ use Rattle.closure_lift.proofs.Going.{functions_more}
 use Rattle.closure_lift.proofs.Making.{blanks_length}
 use Rattle.closure_lift.proofs.Steps.{stand_after, first_length, outer_plains, outer_shares, drop_unnumbered, drop_numbered}
 
-refuses_part : {P Q : Type 0} (e : LiftFault) → (Q → P) → Refuses P e → Refuses Q e
+refuses_part : {P Q : Type 0} (e : LiftFault) → (Q → P) → LiftRefuses P e → LiftRefuses Q e
 refuses_part Captured f r = λ q. r (f q)
 refuses_part Functions f r = r
 refuses_part Memory f r = tt
 
-pub refused_by : {X P Q : Type 0} (r : Result X LiftFault) (e : LiftFault) → r ≡ Err e → (Q → P) → Refuses P e → IfErr r (Refuses Q)
-refused_by {Q = Q} r e is f h = transport (λ r. IfErr r (Refuses Q)) (sym is) (refuses_part e f h)
+pub refused_by : {X P Q : Type 0} (r : Result X LiftFault) (e : LiftFault) → r ≡ Err e → (Q → P) → LiftRefuses P e → IfErr r (LiftRefuses Q)
+refused_by {Q = Q} r e is f h = transport (λ r. IfErr r (LiftRefuses Q)) (sym is) (refuses_part e f h)
 
 -- what holds whatever is answered
 pub always : {X E Q : Type 0} (r : Result X E) → Q → OnOk r Q

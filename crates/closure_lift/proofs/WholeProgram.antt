@@ -6,7 +6,7 @@ use Rattle.anf_convert.specs.Renumbering as anf
 use Rattle.anf_convert.specs.Captured.{Outside}
 use Rattle.anf_convert.specs.declared.program.AnfConstant.{AnfConstant}
 use Rattle.anf_convert.specs.declared.program.AnfProgram.{AnfProgram}
-use Rattle.closure_lift.specs.Lifted.{Op, OConst, OApp, OCon, OClos, OCase, Block, RetAtom, LetAtom, Ret, Let, Branches, BNil, BCons, Fn}
+use Rattle.closure_lift.specs.Lifted.{Op, OConst, OApp, OCon, OClos, OCase, Block, RetAtom, LetAtom, Ret, Let, BranchBlocks, BNil, BCons, Fn}
 use Rattle.closure_lift.specs.Lift.{block_functions, constants_functions, lift_block, lift_constants, functions_block, functions_constants, lift}
 use Rattle.closure_lift.specs.LiftedProgram.{renumber_op, renumber, renumber_branches, renumber_functions, place_in, lifted_of}
 use Rattle.closure_lift.specs.NamedLift.{bodies, named_constants, named_lift}
@@ -30,7 +30,7 @@ module _ (f h : ℕ → ℕ) (e : (x : ℕ) → f x ≡ h x) where
     same_block (Ret o) = ap Ret (same_op o)
     same_block (Let o t) = ap (λ o. Let o (renumber f t)) (same_op o) ∙ ap (Let (renumber_op h o)) (same_block t)
 
-    same_branches : (bs : Branches) → renumber_branches f bs ≡ renumber_branches h bs
+    same_branches : (bs : BranchBlocks) → renumber_branches f bs ≡ renumber_branches h bs
     same_branches BNil = refl
     same_branches (BCons n t rest) = ap (λ t. BCons n t (renumber_branches f rest)) (same_block t) ∙ ap (BCons n (renumber h t)) (same_branches rest)
 

@@ -10,7 +10,7 @@ use Rattle.anf_convert.specs.declared.program.AnfBranch.{AnfBranch}
 use Rattle.anf_convert.specs.declared.program.AnfDef.{AnfDef}
 use Rattle.anf_convert.specs.declared.program.AnfDef.TheVariants as def
 use Rattle.closure_lift.specs.Lifted.{Block, Fn}
-use Rattle.closure_lift.specs.Lift.{Slot, unnumbered, holding, block_functions, lift_branches, functions_block, functions_branches, def_functions, functions_defs}
+use Rattle.closure_lift.specs.Lift.{LiftSlot, unnumbered, holding, block_functions, lift_branches, functions_block, functions_branches, def_functions, functions_defs}
 use Rattle.closure_lift.specs.LiftedView.{seen, bounds_of, functions_of, branches_of as lifted_branches}
 use Rattle.closure_lift.specs.FreeVariables.{size, notes_block, notes_branches, notes_defs}
 use Rattle.closure_lift.specs.Noting.{notes_bound, notes_def}
@@ -58,11 +58,11 @@ def_first s def.Box ds r = tt
 pub def_captures : (s : Scope) (ds : List AnfDef) (i : ℕ) (d : AnfDef) → i < length ds → d ≡ get_or ds i d → DefsCapture most_words s (defs_of (drop i ds)) → DefCaptures s d
 def_captures s ds i d lt is r = def_first s d (drop (i + 1) ds) (transport (λ zs. DefsCapture most_words s (defs_of zs)) (next_of ds i d lt is) r)
 
-module _ (notes : List (List ℕ)) (v0 : Scope × List ℕ) (fr0 : List Slot) (fs0 : List Function) (t0 : AnfBlock) where
+module _ (notes : List (List ℕ)) (v0 : Scope × List ℕ) (fr0 : List LiftSlot) (fs0 : List Function) (t0 : AnfBlock) where
   -- one more binding is lifted and stands behind the others
-  pub goes_on : (i : ℕ) (v : Scope × List ℕ) (fr : List Slot) (fs : List Function) (code : List LiftedOp) (ops : List Op) (o : Op) (t : AnfBlock) →
+  pub goes_on : (i : ℕ) (v : Scope × List ℕ) (fr : List LiftSlot) (fs : List Function) (code : List LiftedOp) (ops : List Op) (o : Op) (t : AnfBlock) →
       BlockGoes notes v0 fr0 fs0 t0 i v fr fs (bounds_of code) (block_of (bindings_of (drop i ops)) t) → i < length ops → o ≡ get_or ops i o →
-      (fr1 : List Slot) (code1 code2 : List LiftedOp) (x : LiftedOp) (fs1 : List Function) (v1 v2 : Scope × List ℕ) (fr2 : List Slot) →
+      (fr1 : List LiftSlot) (code1 code2 : List LiftedOp) (x : LiftedOp) (fs1 : List Function) (v1 v2 : Scope × List ℕ) (fr2 : List LiftSlot) →
       seen x ≡ lifted_bound v.0 v.1 fr1 (length fs) (seen_anf o) → fr1 ≡ closures_frame v.0 fr (atoms_in (seen_anf o)) → bounds_of code1 ≡ bounds_of code ++ closures_code v.0 v.1 fr (atoms_in (seen_anf o)) →
       functions_of fs1 ≡ functions_of fs ++ functions_bound v.0 v.1 (length fs) (seen_anf o) → BoundCaptures v.0 (seen_anf o) → v1 ≡ v → code2 ≡ code1 ++ x ∷ [] →
       v2 ≡ (plains 1 v1.0, unnumbered 1 v1.1) → fr2 ≡ holding 1 v1.0 fr1 →
@@ -74,19 +74,19 @@ module _ (notes : List (List ℕ)) (v0 : Scope × List ℕ) (fr0 : List Slot) (f
       fr1 (bounds_of code1) (seen x) fs1 v2 fr2 eo ef ec en cap (ev ∙ ap (λ (v : Scope × List ℕ). let w : Scope × List ℕ = (plains 1 v.0, unnumbered 1 v.1) in w) e1) (er ∙ ap (λ (v : Scope × List ℕ). holding 1 v.0 fr1) e1))
 
   -- only the tail is left
-  pub goes_last : (i : ℕ) (v : Scope × List ℕ) (fr : List Slot) (fs : List Function) (code : List LiftedOp) (ops : List Op) (t : AnfBlock) →
+  pub goes_last : (i : ℕ) (v : Scope × List ℕ) (fr : List LiftSlot) (fs : List Function) (code : List LiftedOp) (ops : List Op) (t : AnfBlock) →
       BlockGoes notes v0 fr0 fs0 t0 i v fr fs (bounds_of code) (block_of (bindings_of (drop i ops)) t) → length ops ≤ i → BlockGoes notes v0 fr0 fs0 t0 i v fr fs (bounds_of code) t
   goes_last i v fr fs code ops t h le = transport (λ zs. BlockGoes notes v0 fr0 fs0 t0 i v fr fs (bounds_of code) (block_of (bindings_of zs) t)) (drop_all i ops le) h
 
   -- the tail stands where the functions end
-  pub last_stands : (i : ℕ) (v : Scope × List ℕ) (fr : List Slot) (fs : List Function) (code : List LiftedOp) (o : Op) → BlockGoes notes v0 fr0 fs0 t0 i v fr fs (bounds_of code) (tail_of (seen_anf o)) → Stand notes (length fs) (notes_bound (size v.0) (seen_anf o))
+  pub last_stands : (i : ℕ) (v : Scope × List ℕ) (fr : List LiftSlot) (fs : List Function) (code : List LiftedOp) (o : Op) → BlockGoes notes v0 fr0 fs0 t0 i v fr fs (bounds_of code) (tail_of (seen_anf o)) → Stand notes (length fs) (notes_bound (size v.0) (seen_anf o))
   last_stands i v fr fs code o h = transport (Stand notes (length fs)) (notes_tail (size v.0) (seen_anf o)) h.stand
 
-module _ (notes : List (List ℕ)) (v0 : Scope × List ℕ) (fr0 : List Slot) (fs0 : List Function) (bs0 : AnfBranches) where
+module _ (notes : List (List ℕ)) (v0 : Scope × List ℕ) (fr0 : List LiftSlot) (fs0 : List Function) (bs0 : AnfBranches) where
   -- one more branch is lifted and stands behind the others
-  pub arms_on : (v : Scope × List ℕ) (fr : List Slot) (fs : List Function) (items : List LiftedBranch) (arms : List AnfBranch) (i : ℕ) (b : AnfBranch) →
+  pub arms_on : (v : Scope × List ℕ) (fr : List LiftSlot) (fs : List Function) (items : List LiftedBranch) (arms : List AnfBranch) (i : ℕ) (b : AnfBranch) →
       ArmsGo notes v0 fr0 fs0 bs0 v fr fs items (branches_of (drop i arms)) → i < length arms → b ≡ get_or arms i b →
-      (x : LiftedBranch) (fs1 : List Function) (v2 : Scope × List ℕ) (fr2 : List Slot) (items2 : List LiftedBranch) →
+      (x : LiftedBranch) (fs1 : List Function) (v2 : Scope × List ℕ) (fr2 : List LiftSlot) (items2 : List LiftedBranch) →
       IsArm v fr (length fs) b.binders b.body x → functions_of fs1 ≡ functions_of fs ++ arm_functions v (length fs) b.binders b.body → BlockCaptures most_words (plains b.binders v.0) b.body → v2 ≡ v → fr2 ≡ fr → items2 ≡ items ++ x ∷ [] →
       ArmsGo notes v0 fr0 fs0 bs0 v2 fr2 fs1 items2 (branches_of (drop (i + 1) arms))
   arms_on v fr fs items arms i b h lt is x fs1 v2 fr2 items2 arm ef cap ev er ei =
@@ -95,14 +95,14 @@ module _ (notes : List (List ℕ)) (v0 : Scope × List ℕ) (fr0 : List Slot) (f
       fs1 x v2 fr2 arm.binders arm.body ef cap ev er)
 
   -- all branches are lifted
-  pub record ArmsEnd (v : Scope × List ℕ) (fr : List Slot) (fs : List Function) (items : List LiftedBranch) : Type 0 where
+  pub record ArmsEnd (v : Scope × List ℕ) (fr : List LiftSlot) (fs : List Function) (items : List LiftedBranch) : Type 0 where
     pub code : lifted_branches items ≡ lift_branches v0.0 v0.1 fr0 (length fs0) bs0
     pub functions : functions_of fs ≡ functions_of fs0 ++ functions_branches v0.0 v0.1 (length fs0) bs0
     pub captures : BranchesCapture most_words v0.0 bs0
     pub variables : v ≡ v0
     pub frame : fr ≡ fr0
 
-  pub arms_end : (v : Scope × List ℕ) (fr : List Slot) (fs : List Function) (items : List LiftedBranch) (arms : List AnfBranch) (i : ℕ) → ArmsGo notes v0 fr0 fs0 bs0 v fr fs items (branches_of (drop i arms)) → length arms ≤ i → ArmsEnd v fr fs items
+  pub arms_end : (v : Scope × List ℕ) (fr : List LiftSlot) (fs : List Function) (items : List LiftedBranch) (arms : List AnfBranch) (i : ℕ) → ArmsGo notes v0 fr0 fs0 bs0 v fr fs items (branches_of (drop i arms)) → length arms ≤ i → ArmsEnd v fr fs items
   arms_end v fr fs items arms i h le =
       let last : ArmsGo notes v0 fr0 fs0 bs0 v fr fs items NoBranch = transport (λ zs. ArmsGo notes v0 fr0 fs0 bs0 v fr fs items (branches_of zs)) (drop_all i arms le) h in
       record { code = sym (arms_code items) ∙ last.code; functions = part_none refl last.functions; captures = last.captures tt; variables = last.variables; frame = last.frame }

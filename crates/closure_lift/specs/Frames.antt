@@ -1,15 +1,15 @@
 -- What the variables of a lifted block hold, as it is kept, and where each word is.
 use Rattle.std.specs.Prelude.{◌≡◌, ℕ, List, [], ◌∷◌, length, Option, Some, None, nat_eq, if◌then◌else◌}
 use Rattle.std.specs.HashMap.{HashMap, get}
-use Rattle.closure_lift.specs.Lift.{Slot, Holds, Made}
+use Rattle.closure_lift.specs.Lift.{LiftSlot, Holds, Made}
 use Rattle.closure_lift.specs.declared.frame.Held.{Held}
 use Rattle.closure_lift.specs.declared.frame.Held.TheVariants as held
 
-abbrev pub slot_of : Held → Slot
+abbrev pub slot_of : Held → LiftSlot
 slot_of (held.Word x before) = Holds x
 slot_of (held.Closure i) = Made i
 
-abbrev pub slots_of : List Held → List Slot
+abbrev pub slots_of : List Held → List LiftSlot
 slots_of [] = []
 slots_of (h ∷ hs) = slot_of h ∷ slots_of hs
 

@@ -4,51 +4,51 @@ use Rattle.anf_convert.specs.Anf.{AnfOp, ConstOp, AppOp, ConOp, LamOp, FixOp, Ca
 use Rattle.anf_convert.specs.declared.program.Atom.{Atom}
 use Rattle.anf_convert.specs.declared.program.Atom.TheVariants.{Var as AVar, Box as ABox, Empty as AEmpty}
 use Rattle.anf_convert.specs.Captured.{Scope, Outside, Plain, depth, Entry, Unbound, Word, Words, entry, plains, shares, lam_captured, fix_captured}
-use Rattle.closure_lift.specs.Lifted.{Op, OConst, OApp, OCon, OClos, OCase, Block, RetAtom, LetAtom, Ret, Let, Branches, BNil, BCons, Fn, Program}
+use Rattle.closure_lift.specs.Lifted.{Op, OConst, OApp, OCon, OClos, OCase, Block, RetAtom, LetAtom, Ret, Let, BranchBlocks, BNil, BCons, Fn, Program}
 
 -- what a variable of a lifted block holds: a word, or the closure that was made for a fixpoint's variable i
-pub data Slot : Type 0 where
-  Holds : (x : ℕ) → Slot
-  Made : (i : ℕ) → Slot
+pub data LiftSlot : Type 0 where
+  Holds : (x : ℕ) → LiftSlot
+  Made : (i : ℕ) → LiftSlot
 
-abbrev pub same_slot : Slot → Slot → Bool
+abbrev pub same_slot : LiftSlot → LiftSlot → Bool
 same_slot (Holds x) (Holds y) = nat_eq x y
 same_slot (Made i) (Made j) = nat_eq i j
 same_slot (Holds x) (Made j) = false
 same_slot (Made i) (Holds y) = false
 
 -- the variable that holds it, among the variables of a block, the innermost first
-abbrev pub position : Slot → List Slot → ℕ
+abbrev pub position : LiftSlot → List LiftSlot → ℕ
 position k [] = 0
 position k (j ∷ fr) = if same_slot k j then 0 else suc (position k fr)
 
-abbrev pub held : List Slot → ℕ → Atom
+abbrev pub held : List LiftSlot → ℕ → Atom
 held fr x = AVar (position (Holds x) fr)
 
-abbrev pub variable : List Slot → ℕ → Entry → Atom
+abbrev pub variable : List LiftSlot → ℕ → Entry → Atom
 variable fr i Unbound = ABox
 variable fr i (Word x) = held fr x
 variable fr i (Words ws) = AVar (position (Made i) fr)
 
-abbrev pub atom : Scope → List Slot → Atom → Atom
+abbrev pub atom : Scope → List LiftSlot → Atom → Atom
 atom s fr (AVar i) = variable fr i (entry s i)
 atom s fr ABox = ABox
 atom s fr (AEmpty c) = AEmpty c
 
 -- a closure is made for variable i where it is a fixpoint's, whose function has number g
-abbrev pub closure_for : List Slot → ℕ → ℕ → Entry → (List Slot → Block) → Block
+abbrev pub closure_for : List LiftSlot → ℕ → ℕ → Entry → (List LiftSlot → Block) → Block
 closure_for fr i g Unbound next = next fr
 closure_for fr i g (Word x) next = next fr
 closure_for fr i g (Words ws) next = Let (OClos g (map (held fr) ws)) (next (Made i ∷ fr))
 
-abbrev pub closure : Scope → List ℕ → List Slot → Atom → (List Slot → Block) → Block
+abbrev pub closure : Scope → List ℕ → List LiftSlot → Atom → (List LiftSlot → Block) → Block
 closure s gs fr (AVar i) next = closure_for fr i (get_or gs i 0) (entry s i) next
 closure s gs fr ABox next = next fr
 closure s gs fr (AEmpty c) next = next fr
 
 -- the closures for fixpoints' variables among the atoms, and then the rest. `gs` has the number of the function of each variable that is a
 -- fixpoint's
-abbrev pub closures : Scope → List ℕ → List Slot → List Atom → (List Slot → Block) → Block
+abbrev pub closures : Scope → List ℕ → List LiftSlot → List Atom → (List LiftSlot → Block) → Block
 closures s gs fr [] next = next fr
 closures s gs fr (a ∷ as') next = closure s gs fr a (λ fr'. closures s gs fr' as' next)
 
@@ -97,13 +97,13 @@ numbered g zero gs = gs
 numbered g (suc n) gs = (g + n) ∷ numbered g n gs
 
 -- n more variables that hold words
-abbrev pub holding : ℕ → Scope → List Slot → List Slot
+abbrev pub holding : ℕ → Scope → List LiftSlot → List LiftSlot
 holding zero s fr = fr
 holding (suc n) s fr = Holds (depth (plains n s)) ∷ holding n s fr
 
 -- The code of an operation, and of a block. `fr` tells what the variables of the lifted block hold; the functions inside are numbered from g on
 abbrev mutual
-  pub lift_op : Scope → List ℕ → List Slot → ℕ → AnfOp → Op
+  pub lift_op : Scope → List ℕ → List LiftSlot → ℕ → AnfOp → Op
   lift_op s gs fr g (ConstOp x) = OConst x
   lift_op s gs fr g (AppOp f a) = OApp (atom s fr f) (atom s fr a)
   lift_op s gs fr g (ConOp c as') = OCon c (map (atom s fr) as')
@@ -111,13 +111,13 @@ abbrev mutual
   lift_op s gs fr g (FixOp ds i) = OClos (g + i) (map (held fr) (fix_captured s ds))
   lift_op s gs fr g (CaseOp a bs) = OCase (atom s fr a) (lift_branches s gs fr g bs)
 
-  pub lift_block : Scope → List ℕ → List Slot → ℕ → AnfBlock → Block
+  pub lift_block : Scope → List ℕ → List LiftSlot → ℕ → AnfBlock → Block
   lift_block s gs fr g (TailAtom a) = closures s gs fr (a ∷ []) (λ fr'. RetAtom (atom s fr' a))
   lift_block s gs fr g (Tail op) = closures s gs fr (atoms_of op) (λ fr'. Ret (lift_op s gs fr' g op))
   lift_block s gs fr g (BindAtom a t) = closures s gs fr (a ∷ []) (λ fr'. LetAtom (atom s fr' a) (lift_block (Plain s) (0 ∷ gs) (Holds (depth s) ∷ fr') g t))
   lift_block s gs fr g (Bind op t) = closures s gs fr (atoms_of op) (λ fr'. Let (lift_op s gs fr' g op) (lift_block (Plain s) (0 ∷ gs) (Holds (depth s) ∷ fr') (g + op_functions op) t))
 
-  pub lift_branches : Scope → List ℕ → List Slot → ℕ → AnfBranches → Branches
+  pub lift_branches : Scope → List ℕ → List LiftSlot → ℕ → AnfBranches → BranchBlocks
   lift_branches s gs fr g NoBranch = BNil
   lift_branches s gs fr g (Branch n t rest) = BCons n (lift_block (plains n s) (unnumbered n gs) (holding n s fr) g t) (lift_branches s gs fr (g + block_functions t) rest)
 

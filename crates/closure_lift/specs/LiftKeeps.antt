@@ -3,7 +3,7 @@ use Rattle.std.specs.Prelude.{ℕ, ◌≤◌}
 use Rattle.anf_convert.specs.Anf.{AnfProgram}
 use Rattle.anf_convert.specs.AnfEvaluation.{AnfVal, AnfVals, AnfAnswers}
 use Rattle.anf_convert.specs.AnfData.{DataTree, Made, DataTrees, DNil, DCons, AnfIsData, AnfAreData}
-use Rattle.closure_lift.specs.Lifted.{Program, Val, VCon, Vals, VNil, VCons, Answers}
+use Rattle.closure_lift.specs.Lifted.{Program, Val, VCon, Vals, VNil, VCons, LiftedAnswers}
 use Rattle.closure_lift.specs.Lift.{lift}
 use Rattle.anf_convert.specs.AnfForm.{AnfFormed}
 use Rattle.closure_lift.specs.LiftedForm.{Formed}
@@ -18,10 +18,10 @@ mutual
 
 -- main of a lifted program, applied to these values, gives the data with at most c contractions, k matches, and b blocks of l words in all, each
 -- of at most w words
-pub record GivesData (P : Program) (w : ℕ) (args : Vals) (d : DataTree) (c k b l : ℕ) : Type 0 where
+pub record LiftedGivesData (P : Program) (w : ℕ) (args : Vals) (d : DataTree) (c k b l : ℕ) : Type 0 where
   pub v : Val
   pub contractions : ℕ
-  pub answers : Answers P w args v contractions k b l
+  pub answers : LiftedAnswers P w args v contractions k b l
   pub is : IsData v d
   pub no_more : contractions ≤ c
 
@@ -30,7 +30,7 @@ pub record GivesData (P : Program) (w : ℕ) (args : Vals) (d : DataTree) (c k b
 abbrev pub KeepsLifted : AnfProgram → Program → Type 0
 KeepsLifted P Q =
     (w : ℕ) (args : AnfVals) (args' : Vals) (ds : DataTrees) (v : AnfVal) (d : DataTree) (c k b l : ℕ) →
-    AnfAreData args ds → AreData args' ds → AnfAnswers P w args v c k b l → AnfIsData v d → GivesData Q w args' d c k b l
+    AnfAreData args ds → AreData args' ds → AnfAnswers P w args v c k b l → AnfIsData v d → LiftedGivesData Q w args' d c k b l
 
 -- where the names of the one are in scope, so are those of the other
 abbrev pub HasLiftedForm : AnfProgram → Program → Type 0

@@ -10,7 +10,7 @@ mutual
     OApp : (f a : Atom) → Op
     OCon : (c : ℕ) → (args : List Atom) → Op
     OClos : (f : ℕ) → (captured : List Atom) → Op
-    OCase : (scrutinee : Atom) → (bs : Branches) → Op
+    OCase : (scrutinee : Atom) → (bs : BranchBlocks) → Op
 
   pub data Block : Type 0 where
     RetAtom : Atom → Block
@@ -18,9 +18,9 @@ mutual
     Ret : Op → Block
     Let : Op → Block → Block
 
-  pub data Branches : Type 0 where
-    BNil : Branches
-    BCons : (binders : ℕ) → (body : Block) → (rest : Branches) → Branches
+  pub data BranchBlocks : Type 0 where
+    BNil : BranchBlocks
+    BCons : (binders : ℕ) → (body : Block) → (rest : BranchBlocks) → BranchBlocks
 
 -- what a block binds, or ends in
 pub data Bound : Type 0 where
@@ -72,14 +72,14 @@ abbrev pub ◌+v◌ : Vals → Vals → Vals
 VNil +v ws = ws
 (VCons v vs) +v ws = VCons v (vs +v ws)
 
-abbrev pub many : Branches → ℕ
+abbrev pub many : BranchBlocks → ℕ
 many BNil = 0
 many (BCons n b rest) = suc (many rest)
 
 -- branch number c has n binders and this body
-pub data BranchAt : Branches → ℕ → ℕ → Block → Type 0 where
-  branch_here : {n : ℕ} {b : Block} {rest : Branches} → BranchAt (BCons n b rest) zero n b
-  branch_after : {m n c : ℕ} {b d : Block} {rest : Branches} → BranchAt rest c n b → BranchAt (BCons m d rest) (suc c) n b
+pub data BranchAt : BranchBlocks → ℕ → ℕ → Block → Type 0 where
+  branch_here : {n : ℕ} {b : Block} {rest : BranchBlocks} → BranchAt (BCons n b rest) zero n b
+  branch_after : {m n c : ℕ} {b d : Block} {rest : BranchBlocks} → BranchAt rest c n b → BranchAt (BCons m d rest) (suc c) n b
 
 pub data Is (e : Vals) : Atom → Val → Type 0 where
   is_var : {i : ℕ} {v : Val} → lookup e i ≡ Some v → Is e (AVar i) v
@@ -99,7 +99,7 @@ mutual
     do_box_app : {e : Vals} {f a : Atom} {v : Val} → Is e f VBox → Is e a v → Does P w e (OApp f a) VBox 1 0 0 0
     do_con : {e : Vals} {c : ℕ} {as' : List Atom} {vs : Vals} → length as' < w → AllAre e as' vs → Does P w e (OCon c as') (VCon c vs) 0 0 1 (suc (length as'))
     do_clos : {e : Vals} {g : ℕ} {as' : List Atom} {vs : Vals} → length as' < w → AllAre e as' vs → Does P w e (OClos g as') (VClos g vs) 0 0 1 (suc (length as'))
-    do_case : {e : Vals} {a : Atom} {bs : Branches} {i : ℕ} {vs : Vals} {t : Block} {r : Val} {c k b l : ℕ} → Is e a (VCon i vs) → BranchAt bs i (size vs) t → Gets P w (vs +v e) t r c k b l → Does P w e (OCase a bs) r (suc c) (suc k) b l
+    do_case : {e : Vals} {a : Atom} {bs : BranchBlocks} {i : ℕ} {vs : Vals} {t : Block} {r : Val} {c k b l : ℕ} → Is e a (VCon i vs) → BranchAt bs i (size vs) t → Gets P w (vs +v e) t r c k b l → Does P w e (OCase a bs) r (suc c) (suc k) b l
 
   pub data Gets (P : Program) (w : ℕ) : Vals → Block → Val → ℕ → ℕ → ℕ → ℕ → Type 0 where
     gets_atom : {e : Vals} {a : Atom} {v : Val} → Is e a v → Gets P w e (RetAtom a) v 0 0 0 0
@@ -108,6 +108,6 @@ mutual
     gets_let : {e : Vals} {op : Op} {t : Block} {v r : Val} {c c' k k' b b' l l' : ℕ} → Does P w e op v c k b l → Gets P w (VCons v e) t r c' k' b' l' → Gets P w e (Let op t) r (c + c') (k + k') (b + b') (l + l')
 
 -- main, applied to these values, the last one first
-pub data Answers (P : Program) (w : ℕ) : Vals → Val → ℕ → ℕ → ℕ → ℕ → Type 0 where
-  answers_alone : {v : Val} {c k b l : ℕ} → Gets P w VNil P.main v c k b l → Answers P w VNil v c k b l
-  answers_applied : {args : Vals} {a v r : Val} {c c1 k k1 b b1 l l1 : ℕ} → Answers P w args v c1 k1 b1 l1 → Does P w (VCons a (VCons v VNil)) (OApp (AVar 1) (AVar 0)) r c k b l → Answers P w (VCons a args) r (c1 + c) (k1 + k) (b1 + b) (l1 + l)
+pub data LiftedAnswers (P : Program) (w : ℕ) : Vals → Val → ℕ → ℕ → ℕ → ℕ → Type 0 where
+  answers_alone : {v : Val} {c k b l : ℕ} → Gets P w VNil P.main v c k b l → LiftedAnswers P w VNil v c k b l
+  answers_applied : {args : Vals} {a v r : Val} {c c1 k k1 b b1 l l1 : ℕ} → LiftedAnswers P w args v c1 k1 b1 l1 → Does P w (VCons a (VCons v VNil)) (OApp (AVar 1) (AVar 0)) r c k b l → LiftedAnswers P w (VCons a args) r (c1 + c) (k1 + k) (b1 + b) (l1 + l)

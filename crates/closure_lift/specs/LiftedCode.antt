@@ -5,7 +5,7 @@ use Rattle.std.specs.Coded.{Coded, coded×, coded_ℕ, code_by}
 use base.Stored.{Gv, gnil, gnum, gcons}
 use Rattle.trees.specs.Code.{t0, t1, t2, t3, t4}
 use Rattle.anf_convert.specs.AnfCode.{code_atom, code_atoms, code_atom-inj, code_atoms-inj}
-use Rattle.closure_lift.specs.Lifted.{Op, OConst, OApp, OCon, OClos, OCase, Block, RetAtom, LetAtom, Ret, Let, Branches, BNil, BCons, Fn, Bound, AtomBound, OpBound}
+use Rattle.closure_lift.specs.Lifted.{Op, OConst, OApp, OCon, OClos, OCase, Block, RetAtom, LetAtom, Ret, Let, BranchBlocks, BNil, BCons, Fn, Bound, AtomBound, OpBound}
 
 abbrev mutual
   pub code_op : Op → Gv
@@ -21,7 +21,7 @@ abbrev mutual
   code_block (LetAtom a t) = gcons t2 (gcons (code_atom a) (code_block t))
   code_block (Let op t) = gcons t3 (gcons (code_op op) (code_block t))
 
-  pub code_branches : Branches → Gv
+  pub code_branches : BranchBlocks → Gv
   code_branches BNil = gnil
   code_branches (BCons n t rest) = gcons (gnum n) (gcons (code_block t) (code_branches rest))
 
@@ -41,7 +41,7 @@ mutual
   code_block-inj (Let o t) (Let q u) p = cc (code_op-inj o q (cc), code_block-inj t u (cc))
   code_block-inj _ _ p = cc
 
-  pub code_branches-inj : (x y : Branches) → code_branches x ≡ code_branches y → x ≡ y
+  pub code_branches-inj : (x y : BranchBlocks) → code_branches x ≡ code_branches y → x ≡ y
   code_branches-inj BNil BNil p = refl
   code_branches-inj (BCons n t rest) (BCons m u more) p = cc (code_block-inj t u (cc), code_branches-inj rest more (cc))
   code_branches-inj _ _ p = cc
@@ -58,7 +58,7 @@ code_bound-inj _ _ p = cc
 abbrev pub coded_block : Coded Block
 coded_block = record { code = code_block; inj = code_block-inj }
 
-abbrev pub coded_branches : Coded Branches
+abbrev pub coded_branches : Coded BranchBlocks
 coded_branches = record { code = code_branches; inj = code_branches-inj }
 
 abbrev pub coded_bound : Coded Bound

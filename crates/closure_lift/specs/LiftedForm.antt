@@ -1,7 +1,7 @@
 -- The form of lifted programs: names are in scope, and counts are within the limits.
 use Rattle.std.specs.Prelude.{◌≡◌, ℕ, suc, ◌+◌, ◌<◌, ◌≤◌, List, length, Some, slice_get}
 use Rattle.anf_convert.specs.AnfForm.{constructors, fields, AtomFits, AtomsFit}
-use Rattle.closure_lift.specs.Lifted.{Op, OConst, OApp, OCon, OClos, OCase, Block, RetAtom, LetAtom, Ret, Let, Branches, BNil, BCons, Fn, Program, many}
+use Rattle.closure_lift.specs.Lifted.{Op, OConst, OApp, OCon, OClos, OCase, Block, RetAtom, LetAtom, Ret, Let, BranchBlocks, BNil, BCons, Fn, Program, many}
 
 -- the greatest number of functions
 abbrev pub functions : ℕ
@@ -22,15 +22,15 @@ module _ (fs : List Fn) (k m : ℕ) where
     OpFits n (OClos g as') = Takes fs g (length as') × AtomsFit n as'
     OpFits n (OCase a bs) = AtomFits n a × (many bs ≤ m) × BranchesFit n bs
 
-    pub BlockFits : ℕ → Block → Type 0
-    BlockFits n (RetAtom a) = AtomFits n a
-    BlockFits n (LetAtom a t) = AtomFits n a × BlockFits (suc n) t
-    BlockFits n (Ret op) = OpFits n op
-    BlockFits n (Let op t) = OpFits n op × BlockFits (suc n) t
+    pub LiftedBlockFits : ℕ → Block → Type 0
+    LiftedBlockFits n (RetAtom a) = AtomFits n a
+    LiftedBlockFits n (LetAtom a t) = AtomFits n a × LiftedBlockFits (suc n) t
+    LiftedBlockFits n (Ret op) = OpFits n op
+    LiftedBlockFits n (Let op t) = OpFits n op × LiftedBlockFits (suc n) t
 
-    pub BranchesFit : ℕ → Branches → Type 0
+    pub BranchesFit : ℕ → BranchBlocks → Type 0
     BranchesFit n BNil = Unit {0}
-    BranchesFit n (BCons j t rest) = (j < fields) × BlockFits (j + n) t × BranchesFit n rest
+    BranchesFit n (BCons j t rest) = (j < fields) × LiftedBlockFits (j + n) t × BranchesFit n rest
 
 -- what lifting refuses: a function with over 1,000 captured words, and too many functions
 pub record Limits (P : Program) : Type 0 where
@@ -38,6 +38,6 @@ pub record Limits (P : Program) : Type 0 where
   pub few : length P.functions ≤ functions
 
 pub record Formed (P : Program) (m : ℕ) : Type 0 where
-  pub functions : (g : ℕ) (fn : Fn) → slice_get P.functions g ≡ Some fn → BlockFits P.functions (length P.constants) m (suc fn.captured) fn.body
-  pub constants : (x : ℕ) (t : Block) → slice_get P.constants x ≡ Some t → BlockFits P.functions (length P.constants) m 0 t
-  pub main : BlockFits P.functions (length P.constants) m 0 P.main
+  pub functions : (g : ℕ) (fn : Fn) → slice_get P.functions g ≡ Some fn → LiftedBlockFits P.functions (length P.constants) m (suc fn.captured) fn.body
+  pub constants : (x : ℕ) (t : Block) → slice_get P.constants x ≡ Some t → LiftedBlockFits P.functions (length P.constants) m 0 t
+  pub main : LiftedBlockFits P.functions (length P.constants) m 0 P.main

@@ -1,6 +1,6 @@
 -- Lifted programs whose constants get other numbers, and the program that a lifted program in memory is seen as.
 use Rattle.std.specs.Prelude.{ℕ, suc, nat_eq, if◌then◌else◌, List, [], ◌∷◌, map}
-use Rattle.closure_lift.specs.Lifted.{Op, OConst, OApp, OCon, OClos, OCase, Block, RetAtom, LetAtom, Ret, Let, Branches, BNil, BCons, Fn, Program}
+use Rattle.closure_lift.specs.Lifted.{Op, OConst, OApp, OCon, OClos, OCase, Block, RetAtom, LetAtom, Ret, Let, BranchBlocks, BNil, BCons, Fn, Program}
 use Rattle.closure_lift.specs.declared.program.LiftedConstant.{LiftedConstant}
 use Rattle.closure_lift.specs.declared.program.Lifted.{Lifted}
 
@@ -20,7 +20,7 @@ module _ (number : ℕ → ℕ) where
     renumber (Ret op) = Ret (renumber_op op)
     renumber (Let op t) = Let (renumber_op op) (renumber t)
 
-    pub renumber_branches : Branches → Branches
+    pub renumber_branches : BranchBlocks → BranchBlocks
     renumber_branches BNil = BNil
     renumber_branches (BCons n t rest) = BCons n (renumber t) (renumber_branches rest)
 

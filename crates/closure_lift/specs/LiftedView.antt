@@ -1,6 +1,6 @@
 -- What the types of lifted programs are seen as. In a block a constant stands by the number of its name, and in `lifted_of` by its place.
 use Rattle.std.specs.Prelude.{List, [], ◌∷◌}
-use Rattle.closure_lift.specs.Lifted.{OConst, OApp, OCon, OClos, OCase, Block, Branches, BNil, BCons, Fn, Bound, AtomBound, OpBound, ret_of, lets_of}
+use Rattle.closure_lift.specs.Lifted.{OConst, OApp, OCon, OClos, OCase, Block, BranchBlocks, BNil, BCons, Fn, Bound, AtomBound, OpBound, ret_of, lets_of}
 use Rattle.closure_lift.specs.declared.program.LiftedOp.{LiftedOp}
 use Rattle.closure_lift.specs.declared.program.LiftedOp.TheVariants as op
 use Rattle.closure_lift.specs.declared.program.LiftedBranch.{LiftedBranch}
@@ -22,7 +22,7 @@ bounds_of (o ∷ os) = seen o ∷ bounds_of os
 abbrev pub whole : List Bound → LiftedOp → Block
 whole ps o = lets_of ps (ret_of (seen o))
 
-abbrev pub branches_of : List LiftedBranch → Branches
+abbrev pub branches_of : List LiftedBranch → BranchBlocks
 branches_of [] = BNil
 branches_of (b ∷ bs) = BCons b.binders b.body (branches_of bs)
 

@@ -1,6 +1,6 @@
 -- The weight of lifted blocks: each part is lighter than the whole.
 use Rattle.std.specs.Prelude.{ℕ, suc, ◌+◌, List, [], ◌∷◌}
-use Rattle.closure_lift.specs.Lifted.{Op, OConst, OApp, OCon, OClos, OCase, Block, RetAtom, LetAtom, Ret, Let, Branches, BNil, BCons, Bound, AtomBound, OpBound}
+use Rattle.closure_lift.specs.Lifted.{Op, OConst, OApp, OCon, OClos, OCase, Block, RetAtom, LetAtom, Ret, Let, BranchBlocks, BNil, BCons, Bound, AtomBound, OpBound}
 
 abbrev mutual
   pub op_weight : Op → ℕ
@@ -16,7 +16,7 @@ abbrev mutual
   block_weight (LetAtom a t) = suc (block_weight t)
   block_weight (Let op t) = suc (op_weight op + block_weight t)
 
-  pub branches_weight : Branches → ℕ
+  pub branches_weight : BranchBlocks → ℕ
   branches_weight BNil = 1
   branches_weight (BCons n t rest) = suc (block_weight t + branches_weight rest)
 

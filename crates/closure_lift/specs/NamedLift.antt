@@ -70,7 +70,7 @@ abbrev pub HasFewFunctions : anf.AnfProgram → Program → Type 0
 HasFewFunctions P Q = length P.constants + length Q.functions ≤ most_functions
 
 -- why a program is refused
-abbrev pub IsRefused : anf.AnfProgram → LiftFault → Type 0
-IsRefused P Captured = ProgramCaptures most_words P → ⊥
-IsRefused P Functions = ProgramCaptures most_words P × (most_functions < length P.constants + length (lift P).functions)
-IsRefused P Memory = Unit {0}
+abbrev pub LiftIsRefused : anf.AnfProgram → LiftFault → Type 0
+LiftIsRefused P Captured = ProgramCaptures most_words P → ⊥
+LiftIsRefused P Functions = ProgramCaptures most_words P × (most_functions < length P.constants + length (lift P).functions)
+LiftIsRefused P Memory = Unit {0}

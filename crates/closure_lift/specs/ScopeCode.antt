@@ -5,7 +5,7 @@ use Rattle.std.specs.Coded.{Coded}
 use base.Stored.{Gv, gnil, gnum, gcons}
 use Rattle.trees.specs.Code.{t0, t1, t2}
 use Rattle.anf_convert.specs.Captured.{Scope, Outside, Plain, Shared}
-use Rattle.closure_lift.specs.Lift.{Slot, Holds, Made}
+use Rattle.closure_lift.specs.Lift.{LiftSlot, Holds, Made}
 
 abbrev pub code_words : List ℕ → Gv
 code_words [] = gnil
@@ -30,14 +30,14 @@ code_scope-inj _ _ p = cc
 abbrev pub coded_scope : Coded Scope
 coded_scope = record { code = code_scope; inj = code_scope-inj }
 
-abbrev pub code_slot : Slot → Gv
+abbrev pub code_slot : LiftSlot → Gv
 code_slot (Holds x) = gcons t0 (gnum x)
 code_slot (Made i) = gcons t1 (gnum i)
 
-pub code_slot-inj : (x y : Slot) → code_slot x ≡ code_slot y → x ≡ y
+pub code_slot-inj : (x y : LiftSlot) → code_slot x ≡ code_slot y → x ≡ y
 code_slot-inj (Holds x) (Holds y) p = cc
 code_slot-inj (Made i) (Made j) p = cc
 code_slot-inj _ _ p = cc
 
-abbrev pub coded_slot : Coded Slot
+abbrev pub coded_slot : Coded LiftSlot
 coded_slot = record { code = code_slot; inj = code_slot-inj }

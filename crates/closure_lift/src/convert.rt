@@ -8,8 +8,8 @@ ghost use Rattle.closure_lift.specs.Lift as spec;
 ghost use Rattle.closure_lift.specs.LiftKeeps.{KeepsLifted, HasLiftedForm};
 ghost use Rattle.closure_lift.specs.LiftedForm.{Limits};
 ghost use Rattle.closure_lift.specs.LiftedProgram.{lifted_of};
-ghost use Rattle.closure_lift.specs.Lifting.{Stand, Refuses, WithFunctions, most_words};
-ghost use Rattle.closure_lift.specs.NamedLift.{bodies, named_constants, named_lift, constants_notes, most_functions, put_parts, IsCrowded, IsLifted, HasConstantsOf, HasFewFunctions, IsRefused};
+ghost use Rattle.closure_lift.specs.Lifting.{Stand, LiftRefuses, WithFunctions, most_words};
+ghost use Rattle.closure_lift.specs.NamedLift.{bodies, named_constants, named_lift, constants_notes, most_functions, put_parts, IsCrowded, IsLifted, HasConstantsOf, HasFewFunctions, LiftIsRefused};
 ghost use Rattle.closure_lift.specs.declared.fault.LiftFault.TheVariants.{Memory};
 
 use crate::fault::LiftFault;
@@ -68,7 +68,7 @@ fn lift_code(
     ensures block { IfOk result (λ t. t ≡ spec.lift_block Outside [] [] (length functions.old.items) block.now) }
     ensures functions { OnOk result (WithFunctions functions.old.items functions.new.items (λ g. spec.functions_block Outside [] g block.now)) }
     ensures captures { OnOk result (BlockCaptures most_words Outside block.now) }
-    ensures refused { IfErr result (Refuses (BlockCaptures most_words Outside block.now)) }
+    ensures refused { IfErr result (LiftRefuses (BlockCaptures most_words Outside block.now)) }
 {
     let mut variables = Variables::new(alloc);
     let mut frame = Frame::new(alloc);
@@ -86,7 +86,7 @@ fn lift_constants(
     ensures constants { IfOk result (λ cs. cs ≡ named_constants (length functions.old.items) (reverse constants.now)) }
     ensures functions { OnOk result (WithFunctions functions.old.items functions.new.items (λ g. spec.functions_constants g (bodies (reverse constants.now)))) }
     ensures captures { OnOk result (BlocksCapture most_words (bodies (reverse constants.now))) }
-    ensures refused { IfErr result (Refuses (BlocksCapture most_words (bodies (reverse constants.now)))) }
+    ensures refused { IfErr result (LiftRefuses (BlocksCapture most_words (bodies (reverse constants.now)))) }
 {
     let mut items = Vec::new(alloc);
     for past in 0..constants.len() {
@@ -137,7 +137,7 @@ fn put_together(
 /// The lifted program, with what its laws rest on.
 fn lift_named(alloc: Global, p: &AnfProgram) -> Result<Lifted, LiftFault>
     ensures lifted { IfOk result (IsLifted p.now) }
-    ensures refused { IfErr result (IsRefused (anf_of p.now)) }
+    ensures refused { IfErr result (LiftIsRefused (anf_of p.now)) }
 {
     let constants = p.constants.as_slice();
     let notes = note_program(alloc, constants, &p.main)?;
@@ -167,7 +167,7 @@ pub fn lift_program(alloc: Global, p: &AnfProgram) -> Result<Lifted, LiftFault>
     ensures captures { IfOk result (λ _. ProgramCaptures most_words (anf_of p.now)) }
     ensures constants { IfOk result (λ q. HasConstantsOf (anf_of p.now) (lifted_of q)) }
     ensures functions { IfOk result (λ q. HasFewFunctions (anf_of p.now) (lifted_of q)) }
-    ensures refused { IfErr result (IsRefused (anf_of p.now)) }
+    ensures refused { IfErr result (LiftIsRefused (anf_of p.now)) }
 {
     lift_named(alloc, p)
 }

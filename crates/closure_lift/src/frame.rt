@@ -60,9 +60,9 @@ pub(crate) struct Frame {
 
 impl Model for Frame {
     ghost use Rattle.std.specs.Prelude.{List, reverse};
-    ghost use Rattle.closure_lift.specs.Lift.{Slot};
+    ghost use Rattle.closure_lift.specs.Lift.{LiftSlot};
 
-    ghost Value = { List Slot };
+    ghost Value = { List LiftSlot };
 
     ghost use Rattle.std.specs.Coded.{coded_list};
     ghost use Rattle.closure_lift.specs.ScopeCode.{coded_slot};

@@ -9,7 +9,7 @@ ghost use Rattle.closure_lift.specs.Lifted.{OClos, RetAtom, OpBound};
 ghost use Rattle.closure_lift.specs.LiftedView.{seen, bounds_of, functions_of};
 ghost use Rattle.closure_lift.specs.FreeVariables.{size, notes_op, notes_block, notes_branches, notes_defs};
 ghost use Rattle.closure_lift.specs.Noting.{notes_bound, notes_def};
-ghost use Rattle.closure_lift.specs.Lifting.{Stand, Refuses, WithClosures, WithFunctions, PlacesFor, FewWords, BoundCaptures, DefCaptures, IsArm, atoms_in, words_for, most_words};
+ghost use Rattle.closure_lift.specs.Lifting.{Stand, LiftRefuses, WithClosures, WithFunctions, PlacesFor, FewWords, BoundCaptures, DefCaptures, IsArm, atoms_in, words_for, most_words};
 ghost use Rattle.closure_lift.specs.Lifting.{blanks, closures_frame, lifted_bound, functions_bound, function_body, function_with, definitions, def_body, functions_def, arm_functions};
 ghost use Rattle.closure_lift.specs.CapturedLimit.{OpCaptures, BlockCaptures, BranchesCapture, DefsCapture};
 ghost use Rattle.closure_lift.specs.declared.fault.LiftFault.TheVariants.{Memory};
@@ -39,7 +39,7 @@ fn words_at(
     requires here { at < length notes.now }
     ensures is { IfOk result (λ ws. ws ≡ words_for variables.now.0 (get_or notes.now at [])) }
     ensures few { IfOk result (λ ws. length ws < most_words) }
-    ensures refused { IfErr result (Refuses (FewWords variables.now.0 (get_or notes.now at []))) }
+    ensures refused { IfErr result (LiftRefuses (FewWords variables.now.0 (get_or notes.now at []))) }
 {
     let mut names = Vec::new(alloc);
     for level in notes[at].as_slice() {
@@ -150,7 +150,7 @@ fn fix_words(
     requires notes { Stand notes.now at (notes_op (size variables.now.0) (FixOp defs.now 0)) }
     ensures is { IfOk result (λ ws. ws ≡ fix_captured variables.now.0 defs.now) }
     ensures few { OnOk result (length (fix_captured variables.now.0 defs.now) < most_words) }
-    ensures refused { IfErr result (Refuses (length (fix_captured variables.now.0 defs.now) < most_words)) }
+    ensures refused { IfErr result (LiftRefuses (length (fix_captured variables.now.0 defs.now) < most_words)) }
 {
     if defs.len() == 0 {
         return Ok(Numbers::new(alloc));
@@ -187,7 +187,7 @@ pub(crate) fn lift_op(
     ensures functions { OnOk result (WithFunctions functions.old.items functions.new.items (λ g. functions_bound variables.old.0 variables.old.1 g (seen_anf op.now))) }
     ensures variables { OnOk result (variables.new ≡ variables.old) }
     ensures captures { OnOk result (BoundCaptures variables.old.0 (seen_anf op.now)) }
-    ensures refused { IfErr result (Refuses (BoundCaptures variables.old.0 (seen_anf op.now))) }
+    ensures refused { IfErr result (LiftRefuses (BoundCaptures variables.old.0 (seen_anf op.now))) }
 {
     match op {
         Op::Atom(a) => Ok(LiftedOp::Atom(lift_one(alloc, variables, frame, code, a)?)),
@@ -219,7 +219,7 @@ fn lift_lambda(
     ensures functions { OnOk result (WithFunctions functions.old.items functions.new.items (λ g. functions_op variables.old.0 variables.old.1 g (LamOp body.now))) }
     ensures variables { OnOk result (variables.new ≡ variables.old) }
     ensures captures { OnOk result (OpCaptures most_words variables.old.0 (LamOp body.now)) }
-    ensures refused { IfErr result (Refuses (OpCaptures most_words variables.old.0 (LamOp body.now))) }
+    ensures refused { IfErr result (LiftRefuses (OpCaptures most_words variables.old.0 (LamOp body.now))) }
 {
     let at = functions.len();
     let words = words_at(alloc, notes, variables, at)?;
@@ -245,7 +245,7 @@ fn lift_fix(
     ensures functions { OnOk result (WithFunctions functions.old.items functions.new.items (λ g. functions_op variables.old.0 variables.old.1 g (FixOp defs.now 0))) }
     ensures variables { OnOk result (variables.new ≡ variables.old) }
     ensures captures { OnOk result (OpCaptures most_words variables.old.0 (FixOp defs.now 0)) }
-    ensures refused { IfErr result (Refuses (OpCaptures most_words variables.old.0 (FixOp defs.now 0))) }
+    ensures refused { IfErr result (LiftRefuses (OpCaptures most_words variables.old.0 (FixOp defs.now 0))) }
 {
     let at = functions.len();
     let count = defs.len();
@@ -272,7 +272,7 @@ fn lift_body(
     ensures functions { OnOk result (WithFunctions functions.old.items functions.new.items (λ g. functions_block (Plain variables.old.0) (0 ∷ variables.old.1) g body.now)) }
     ensures variables { OnOk result (variables.new ≡ variables.old) }
     ensures captures { OnOk result (BlockCaptures most_words (Plain variables.old.0) body.now) }
-    ensures refused { IfErr result (Refuses (BlockCaptures most_words (Plain variables.old.0) body.now)) }
+    ensures refused { IfErr result (LiftRefuses (BlockCaptures most_words (Plain variables.old.0) body.now)) }
 {
     let mut frame = frame_of(alloc, words)?;
     push_words(1, variables, &mut frame)?;
@@ -297,7 +297,7 @@ pub(crate) fn lift_block_in(
     ensures variables { OnOk result (variables.new ≡ variables.old) }
     ensures frame { OnOk result (frame.new ≡ frame.old) }
     ensures captures { OnOk result (BlockCaptures most_words variables.old.0 block.now) }
-    ensures refused { IfErr result (Refuses (BlockCaptures most_words variables.old.0 block.now)) }
+    ensures refused { IfErr result (LiftRefuses (BlockCaptures most_words variables.old.0 block.now)) }
 {
     let outside = frame.len();
     let mut code: Vec<LiftedOp> = Vec::new(alloc);
@@ -341,7 +341,7 @@ fn lift_arm(
     ensures variables { OnOk result (variables.new ≡ variables.old) }
     ensures frame { OnOk result (frame.new ≡ frame.old) }
     ensures captures { OnOk result (BlockCaptures most_words (plains arm.now.binders variables.old.0) arm.now.body) }
-    ensures refused { IfErr result (Refuses (BlockCaptures most_words (plains arm.now.binders variables.old.0) arm.now.body)) }
+    ensures refused { IfErr result (LiftRefuses (BlockCaptures most_words (plains arm.now.binders variables.old.0) arm.now.body)) }
 {
     let outside = frame.len();
     push_words(arm.binders, variables, frame)?;
@@ -370,7 +370,7 @@ fn lift_arms(
     ensures variables { OnOk result (variables.new ≡ variables.old) }
     ensures frame { OnOk result (frame.new ≡ frame.old) }
     ensures captures { OnOk result (BranchesCapture most_words variables.old.0 branches.now) }
-    ensures refused { IfErr result (Refuses (BranchesCapture most_words variables.old.0 branches.now)) }
+    ensures refused { IfErr result (LiftRefuses (BranchesCapture most_words variables.old.0 branches.now)) }
 {
     let arms = branches.as_slice();
     let mut items: Vec<LiftedBranch> = Vec::new(alloc);
@@ -398,7 +398,7 @@ fn lift_def(
     ensures functions { OnOk result (WithFunctions functions.old.items functions.new.items (λ g. functions_def variables.old g def.now)) }
     ensures variables { OnOk result (variables.new ≡ variables.old) }
     ensures captures { OnOk result (DefCaptures variables.old.0 def.now) }
-    ensures refused { IfErr result (Refuses (DefCaptures variables.old.0 def.now)) }
+    ensures refused { IfErr result (LiftRefuses (DefCaptures variables.old.0 def.now)) }
 {
     match def {
         AnfDef::Lambda(body) => lift_body(alloc, notes, variables, functions, words, body),
@@ -422,7 +422,7 @@ fn lift_defs(
     ensures functions { OnOk result (functions_of functions.new.items ≡ take at (functions_of functions.old.items) ++ definitions variables.old words.now (at + def_count defs.now) defs.now) }
     ensures variables { OnOk result (variables.new ≡ variables.old) }
     ensures captures { OnOk result (DefsCapture most_words variables.old.0 defs.now) }
-    ensures refused { IfErr result (Refuses (DefsCapture most_words variables.old.0 defs.now)) }
+    ensures refused { IfErr result (LiftRefuses (DefsCapture most_words variables.old.0 defs.now)) }
 {
     let items = defs.as_slice();
     for i in 0..items.len() {

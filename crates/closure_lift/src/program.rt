@@ -140,10 +140,10 @@ impl Model for LiftedOps {
 }
 
 impl Model for LiftedBranches {
-    ghost use Rattle.closure_lift.specs.Lifted.{Branches};
+    ghost use Rattle.closure_lift.specs.Lifted.{BranchBlocks};
     ghost use Rattle.closure_lift.specs.LiftedCode.{coded_branches};
 
-    ghost Value = { Branches };
+    ghost Value = { BranchBlocks };
 
     ghost coded = { coded_branches };
 

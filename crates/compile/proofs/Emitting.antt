@@ -22,7 +22,7 @@ use Rattle.closure_lift.specs.LiftedForm.{Formed, Limits}
 use Rattle.closure_lift.specs.Lifting.{most_words}
 use Rattle.closure_lift.specs.declared.fault.LiftFault.{LiftFault}
 use Rattle.closure_lift.specs.declared.fault.LiftFault.TheVariants as lifting
-use Rattle.closure_lift.specs.NamedLift.{most_functions, IsRefused as IsNotLifted}
+use Rattle.closure_lift.specs.NamedLift.{most_functions, LiftIsRefused as IsNotLifted}
 use Rattle.wasm_emit.specs.Emission.{Emits}
 use Rattle.wasm_emit.specs.EmittedBodies.{FewLocals, MemoryOrNot}
 use Rattle.wasm_emit.specs.declared.fault.EmitFault.{EmitFault}
@@ -30,7 +30,7 @@ use Rattle.wasm_emit.specs.declared.fault.EmitFault.TheVariants as emission
 use Rattle.back_end.specs.BackEnd.{passed}
 use Rattle.compile.specs.declared.fault.CompileFault.{CompileFault}
 use Rattle.compile.specs.declared.fault.CompileFault.TheVariants as refusals
-use Rattle.compile.specs.Passes.{IsShallow, CapturesFew, function_count, Fits, IsRefused, of_pass, of_lifting, of_emission}
+use Rattle.compile.specs.Passes.{IsShallow, CapturesFew, function_count, IsLowered, Fits, CompileIsRefused, of_pass, of_lifting, of_emission}
 use Rattle.compile.proofs.Within.{lifted_formed, program_limits}
 
 pub few_constructors : (P : BoxProgram) → IsBoxProgram P → ConstructorsWithin P 1024
@@ -41,15 +41,15 @@ few_constructors P form F has = (form.counts F has).constructors
 pub none_ok : {V E : Type 0} (Q : V → Type 0) (r : Result V E) (x : E) → (y : E) × (r ≡ Err y) × (y ≡ x) → IfOk r Q
 none_ok Q r x (y, is, same) = subst (λ z. IfOk z Q) (sym is) tt
 
-pub refused_at : {V : Type 0} (P : BoxProgram) (r : Result V CompileFault) (x : CompileFault) → (y : CompileFault) × (r ≡ Err y) × (y ≡ x) → IsRefused P x → IfErr r (IsRefused P)
-refused_at P r x (y, is, same) h = subst (λ z. IfErr z (IsRefused P)) (sym is) (subst (IsRefused P) (sym same) h)
+pub refused_at : {V : Type 0} (P : BoxProgram) (r : Result V CompileFault) (x : CompileFault) → (y : CompileFault) × (r ≡ Err y) × (y ≡ x) → CompileIsRefused P x → IfErr r (CompileIsRefused P)
+refused_at P r x (y, is, same) h = subst (λ z. IfErr z (CompileIsRefused P)) (sym is) (subst (CompileIsRefused P) (sym same) h)
 
 -- a pass that refuses for want of memory alone
-pub no_memory : (P : BoxProgram) (f : PassFault) → f ≡ pass.Memory → IsRefused P (of_pass f)
-no_memory P f e = subst (λ x. IsRefused P (of_pass x)) (sym e) tt
+pub no_memory : (P : BoxProgram) (f : PassFault) → f ≡ pass.Memory → CompileIsRefused P (of_pass f)
+no_memory P f e = subst (λ x. CompileIsRefused P (of_pass x)) (sym e) tt
 
 -- saturation
-pub too_deep : (P O : BoxProgram) → O ≡ prop_match_program P → (f : PassFault) → (f ≡ pass.TooDeep → IsDeep (saturate_program O)) → IsRefused P (of_pass f)
+pub too_deep : (P O : BoxProgram) → O ≡ prop_match_program P → (f : PassFault) → (f ≡ pass.TooDeep → IsDeep (saturate_program O)) → CompileIsRefused P (of_pass f)
 too_deep P O o pass.TooDeep h = subst (λ x. IsDeep (saturate_program x)) o (h refl)
 too_deep P O o pass.Memory h = tt
 
@@ -77,7 +77,7 @@ module _ (P S : BoxProgram) (A : AnfProgram) (x : Passed P S A) where
   is_shallow h d = h (subst IsDeep (sym saturated_is) d)
 
   -- a refusal of lifting
-  pub not_lifted : (IsDeep S → ⊥) → (f : LiftFault) → IsNotLifted A f → IsRefused P (of_lifting f)
+  pub not_lifted : (IsDeep S → ⊥) → (f : LiftFault) → IsNotLifted A f → CompileIsRefused P (of_lifting f)
   not_lifted h lifting.Captured n = (is_shallow h, λ c. n (subst (ProgramCaptures most_words) (sym normal_is) c))
   not_lifted h lifting.Functions (c, many) = (is_shallow h, subst (ProgramCaptures most_words) normal_is c, subst (λ (y : AnfProgram). most_functions < length y.constants + length (lift y).functions) normal_is many)
   not_lifted h lifting.Memory n = tt
@@ -105,13 +105,19 @@ module _ (P S : BoxProgram) (A : AnfProgram) (x : Passed P S A) where
           branches = omega arith;
         }
 
-    pub all_fit : (IsDeep S → ⊥) → ProgramCaptures most_words A → length A.constants + length Q.functions ≤ most_functions → FewLocals Q → Fits P
-    all_fit h c few locals = record { shallow = is_shallow h; captures = captured c; few = counted few; locals = subst FewLocals lifted_is locals }
+    pub all_lower : (IsDeep S → ⊥) → ProgramCaptures most_words A → length A.constants + length Q.functions ≤ most_functions → IsLowered P
+    all_lower h c few = (is_shallow h, captured c, counted few)
 
-    -- a refusal of emission
-    pub not_emitted : (IsDeep S → ⊥) → ProgramCaptures most_words A → length A.constants + length Q.functions ≤ most_functions → (f : EmitFault) → MemoryOrNot f (FewLocals Q) → IsRefused P (of_emission f)
-    not_emitted h c few f n =
-        elim n [
-          | inl e ↦ subst (λ x. IsRefused P (of_emission x)) (sym e) tt
-          | inr m ↦ subst (λ x. IsRefused P (of_emission x)) (sym m.0) (is_shallow h, captured c, counted few, λ l. m.1 (subst FewLocals (sym lifted_is) l))
-        ]
+-- ---- emission
+
+module _ (P : BoxProgram) (Q : Program) (q : Q ≡ passed P) (low : IsLowered P) where
+  pub all_fit : FewLocals Q → Fits P
+  all_fit locals = record { shallow = low.0; captures = low.1; few = low.2; locals = subst FewLocals q locals }
+
+  -- its refusals
+  pub not_emitted : (f : EmitFault) → MemoryOrNot f (FewLocals Q) → CompileIsRefused P (of_emission f)
+  not_emitted f n =
+      elim n [
+        | inl e ↦ subst (λ x. CompileIsRefused P (of_emission x)) (sym e) tt
+        | inr m ↦ subst (λ x. CompileIsRefused P (of_emission x)) (sym m.0) (low.0, low.1, low.2, λ l. m.1 (subst FewLocals (sym q) l))
+      ]

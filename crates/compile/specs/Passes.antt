@@ -20,10 +20,11 @@ use Rattle.closure_lift.specs.declared.fault.LiftFault.TheVariants as lifting
 use Rattle.wasm_core.specs.ModuleTyping.{IsValid}
 use Rattle.wasm_core.specs.MachineRun.{refusal}
 use Rattle.wasm_emit.specs.EmittedModule.{module_of}
+use Rattle.wasm_emit.specs.CallModule.{module_of_call}
 use Rattle.wasm_emit.specs.EmittedBodies.{FewLocals}
 use Rattle.wasm_emit.specs.declared.fault.EmitFault.{EmitFault}
 use Rattle.wasm_emit.specs.declared.fault.EmitFault.TheVariants as emission
-use Rattle.back_end.specs.BackEnd.{passed, IsWithin, Answered}
+use Rattle.back_end.specs.BackEnd.{passed, IsWithinPasses, Answered}
 use Rattle.back_end.specs.StepsAndMemory.{Bounded}
 use Rattle.compile.specs.declared.fault.CompileFault.{CompileFault}
 use Rattle.compile.specs.declared.fault.CompileFault.TheVariants as refusals
@@ -40,6 +41,10 @@ CapturesFew P = ProgramCaptures most_words (to_anf (shrunk_program P))
 abbrev pub function_count : BoxProgram → ℕ
 function_count P = length (to_anf (shrunk_program P)).constants + length (passed P).functions
 
+-- no pass before emission refuses the program
+abbrev pub IsLowered : BoxProgram → Type 0
+IsLowered P = IsShallow P × CapturesFew P × (function_count P ≤ most_functions)
+
 -- the program has a module
 pub record Fits (P : BoxProgram) : Type 0 where
   pub shallow : IsShallow P
@@ -49,12 +54,12 @@ pub record Fits (P : BoxProgram) : Type 0 where
   pub locals : FewLocals (passed P)
 
 -- the first of these that it breaks; want of memory says nothing
-abbrev pub IsRefused : BoxProgram → CompileFault → Type 0
-IsRefused P refusals.Depth = IsDeep (saturated_program P)
-IsRefused P refusals.Captured = IsShallow P × (CapturesFew P → ⊥)
-IsRefused P refusals.Functions = IsShallow P × CapturesFew P × (most_functions < function_count P)
-IsRefused P refusals.Locals = IsShallow P × CapturesFew P × (function_count P ≤ most_functions) × (FewLocals (passed P) → ⊥)
-IsRefused P refusals.Memory = Unit {0}
+abbrev pub CompileIsRefused : BoxProgram → CompileFault → Type 0
+CompileIsRefused P refusals.Depth = IsDeep (saturated_program P)
+CompileIsRefused P refusals.Captured = IsShallow P × (CapturesFew P → ⊥)
+CompileIsRefused P refusals.Functions = IsShallow P × CapturesFew P × (most_functions < function_count P)
+CompileIsRefused P refusals.Locals = IsShallow P × CapturesFew P × (function_count P ≤ most_functions) × (FewLocals (passed P) → ⊥)
+CompileIsRefused P refusals.Memory = Unit {0}
 
 -- the passes' refusals
 
@@ -73,12 +78,12 @@ of_emission emission.Memory = refusals.Memory
 
 -- but for want of memory a program has one cause at most, and none where it has a module
 pub record CausesAreOne : Type 0 where
-  pub refused : (P : BoxProgram) (a b : CompileFault) → IsRefused P a → IsRefused P b → (a ≡ refusals.Memory → ⊥) → (b ≡ refusals.Memory → ⊥) → a ≡ b
-  pub fits : (P : BoxProgram) (a : CompileFault) → IsRefused P a → (a ≡ refusals.Memory → ⊥) → Fits P → ⊥
+  pub refused : (P : BoxProgram) (a b : CompileFault) → CompileIsRefused P a → CompileIsRefused P b → (a ≡ refusals.Memory → ⊥) → (b ≡ refusals.Memory → ⊥) → a ≡ b
+  pub fits : (P : BoxProgram) (a : CompileFault) → CompileIsRefused P a → (a ≡ refusals.Memory → ⊥) → Fits P → ⊥
 
 -- where no family has over m constructors
 abbrev pub FittingProgramsAreWithin : Type 0
-FittingProgramsAreWithin = (P : BoxProgram) (m : ℕ) → IsBoxProgram P → Fits P → ConstructorsWithin P m → IsWithin P m
+FittingProgramsAreWithin = (P : BoxProgram) (m : ℕ) → IsBoxProgram P → Fits P → ConstructorsWithin P m → IsWithinPasses P m
 
 -- of an evaluation with n nodes: what every run of the module answers, and within which bounds
 abbrev pub FittingProgramsAnswer : Type 0
@@ -88,6 +93,10 @@ FittingProgramsAnswer = (P : BoxProgram) (pages m : ℕ) (w : BoxTerm) (ns : Nod
 -- the module has a typing
 abbrev pub FittingProgramsAreValid : Type 0
 FittingProgramsAreValid = (P : BoxProgram) (pages : ℕ) → 0 < pages → pages ≤ 16384 → IsBoxProgram P → Fits P → IsValid (module_of (passed P) pages)
+
+-- so has the module for calls of its main, for any number of arguments
+abbrev pub FittingCallsAreValid : Type 0
+FittingCallsAreValid = (P : BoxProgram) (k pages : ℕ) → 0 < pages → pages ≤ 16384 → IsBoxProgram P → Fits P → IsValid (module_of_call (passed P) k pages)
 
 -- no machine of the module of a program that has one is refused
 abbrev pub MachinesAreMade : Type 0

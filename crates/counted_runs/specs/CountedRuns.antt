@@ -10,10 +10,10 @@ use Rattle.first_order.specs.declared.shapes.Shape.{Shape}
 use Rattle.first_order.specs.Searching.{members}
 use Rattle.lambda_box.specs.BoxProgram.{BoxProgram}
 use Rattle.lambda_box.specs.BoxForm.{IsBoxProgram}
-use Rattle.lambda_box.specs.ClosureEvaluation.{Value, Empty, Counts, Run, ValueReads}
+use Rattle.lambda_box.specs.ClosureEvaluation.{ClosureValue, Empty, Counts, ClosureRun, ValueReads}
 use Rattle.lambda_box.specs.DataTerms.{greatest_words}
 use Rattle.box_passes.specs.PassLaws.{saturated_program}
-use Rattle.back_end.specs.BackEnd.{IsWithin}
+use Rattle.back_end.specs.BackEnd.{IsWithinPasses}
 use Rattle.wasm_core.specs.MachineStep.{State, Reach}
 use Rattle.wasm_core.specs.Runs.{store_of}
 use Rattle.wasm_core.specs.Answer.{Answers, AnswersWithin, IsAtEnd}
@@ -24,8 +24,8 @@ use Rattle.headline.specs.SourceWords.{source_branches}
 
 -- main of the saturated program, which the first two passes make of P, gives the data by evaluation with environments, with these counts; what the later passes make of it gives it with no more
 pub record GivesWith (P : BoxProgram) (tree : Data) (c : Counts) : Type 0 where
-  pub value : Value
-  pub run : Run (saturated_program P) Empty (saturated_program P).main value c
+  pub value : ClosureValue
+  pub run : ClosureRun (saturated_program P) Empty (saturated_program P).main value c
   pub reads : ValueReads value tree
 
 -- with b blocks, c contractions and no block of over w words, and with m branches of a match at most: every run of the module, whichever grows of memory are refused
@@ -39,7 +39,7 @@ pub record RunsByCounts (P : BoxProgram) (pages m : ℕ) (tree : Data) (c : Coun
 -- of a program of the form within the limits of the passes
 abbrev pub CountsBoundRuns : Type 0
 CountsBoundRuns =
-    (P : BoxProgram) (pages m : ℕ) (tree : Data) (c : Counts) → 0 < pages → pages ≤ 16384 → 0 < m → IsWithin P m → GivesWith P tree c → RunsByCounts P pages m tree c
+    (P : BoxProgram) (pages m : ℕ) (tree : Data) (c : Counts) → 0 < pages → pages ≤ 16384 → 0 < m → IsWithinPasses P m → GivesWith P tree c → RunsByCounts P pages m tree c
 
 -- the counts of an evaluation by substitution with n nodes: they are there, and no greater than n allows
 pub record HasCountsWithin (P : BoxProgram) (tree : Data) (n : ℕ) : Type 0 where

@@ -19,7 +19,7 @@ use Rattle.driver.specs.declared.refusal.Where.{Where}
 use Rattle.driver.specs.SourceEnds.{IsAcceptedWith}
 use Rattle.driver.specs.Serve.{AcceptSays, CheckSays}
 use Rattle.driver.specs.declared.refusal.Refusal.{Refusal}
-use Rattle.driver.specs.Judged.{start, IsSpentBy, IsTooDeepFor, IsBrokenBy, IsTold, IsNamed, name_of, number_of}
+use Rattle.driver.specs.Judged.{start, IsSpentBy, IsTooDeepFor, IsBrokenBy, PlaceIsTold, IsTableName, name_of, number_of}
 use Rattle.driver.proofs.Judging.{place_within}
 use Rattle.driver.proofs.SourceCauses.{accepted_by}
 use Rattle.driver.proofs.Kept.{name_there}
@@ -54,7 +54,7 @@ module _ (turns : ℕ) (e : RawEnv) (n : ℕ) (u v : Account) (none : n ≡ 0) (
     deep = h.answers;
   }
 
-  pub broken_by : (p : Place) (b : Rule) (number : ℕ) (told : Where) → AnswersFound e (2048 - n) u (Err (Broken p b)) v → number ≡ number_of b → IsTold e p told → IsBrokenBy turns e number told
+  pub broken_by : (p : Place) (b : Rule) (number : ℕ) (told : Where) → AnswersFound e (2048 - n) u (Err (Broken p b)) v → number ≡ number_of b → PlaceIsTold e p told → IsBrokenBy turns e number told
   broken_by p b number told h is t = record {
     rules = rules_of e h.cycle (2048 - n) u;
     judged = record { cycle = h.cycle; found = h.found; is = judged h.cycle };
@@ -71,7 +71,7 @@ module _ (turns : ℕ) (e : RawEnv) (n : ℕ) (u v : Account) (none : n ≡ 0) (
       place_within e h.cycle (2048 - n) u i b v (h.answers ∙ ap (λ q. Breaks q b v) is)
 
 -- the name of a declaration that is read stands in the table
-pub declared_name_there : (e : RawEnv) → IsSpelled e → (i : ℕ) (d : RawDecl) → slice_get e.decls i ≡ Some d → (name : List ℕ) × IsNamed e (name_of d).0 name
+pub declared_name_there : (e : RawEnv) → IsSpelled e → (i : ℕ) (d : RawDecl) → slice_get e.decls i ≡ Some d → (name : List ℕ) × IsTableName e (name_of d).0 name
 declared_name_there e (bytes, env, h, same) i d at = name_there bytes e (within_limits bytes e (env, h, same)) i d at
 
 -- the item at a place of a list that is lent as a slice

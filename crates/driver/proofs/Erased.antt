@@ -34,7 +34,7 @@ use Rattle.dump_reader.specs.declared.environment.RawEnv.{RawEnv}
 use Rattle.dump_reader.specs.Spelled.{IsSpelled}
 use Rattle.driver.specs.declared.refusal.Refusal.{Refusal}
 use Rattle.driver.specs.declared.refusal.Refusal.TheVariants as refusals
-use Rattle.driver.specs.Judged.{IsNamed, name_of}
+use Rattle.driver.specs.Judged.{IsTableName, name_of}
 use Rattle.driver.specs.ErasureParts.{AxiomSays, HaltSays}
 use Rattle.driver.specs.ExecEnds.{erasure_of, ErasureSays}
 use Rattle.driver.proofs.Checking.{declared_name_there}
@@ -48,13 +48,13 @@ given_name (raw.Constant k T b) = refl
 given_name (raw.Block k ps fs) = refl
 
 pub constant_name_there : (e : RawEnv) → IsSpelled e → (E : Env) (T : Term) → IsCheckedEnvironment e.levels e.constraints (givens e) e.main E T →
-    (k : Name) (A : Term) (b : Option Term) → KeepsConstant E k A b → (text : List ℕ) × IsNamed e k.0 text
+    (k : Name) (A : Term) (b : Option Term) → KeepsConstant E k A b → (text : List ℕ) × IsTableName e k.0 text
 constant_name_there e spelled E T checked k A b has =
     let given = has_place plain_given (givens e) (has_reversed (map plain_given (givens e)) (Constant k A b) (subst (λ xs. Has xs (Constant k A b)) checked.declarations (has_mapped plain has))) in
     let decl = from_map given_of (slice_get e.decls given.0) given.1 (sym (slice_get-map given_of e.decls given.0) ∙ given.2) in
     let same : name_of decl.0 ≡ k = sym (given_name decl.0) ∙ ap (λ x. kept_name (plain_given x)) (sym decl.2) ∙ ap kept_name given.3 in
     let there = declared_name_there e spelled given.0 decl.0 decl.1 in
-    (there.0, subst (λ x. IsNamed e x.0 there.0) same there.1)
+    (there.0, subst (λ x. IsTableName e x.0 there.0) same there.1)
 
 -- a halt at a declaration is at one that was read
 

@@ -17,7 +17,7 @@ use Rattle.command_line.specs.declared.job.Job.TheVariants.{Compile, Exec}
 use Rattle.command_line.specs.declared.line.Request.{Request}
 use Rattle.command_line.specs.Line.{IsInRange}
 use Rattle.driver.specs.Texts.{SpellsWithin}
-use Rattle.driver.specs.ExecEnds.{RunSays, TextRefuses, Compiling, Answering, Refuses, in_search, in_erasure, in_passes, in_run, in_text, its_module}
+use Rattle.driver.specs.ExecEnds.{ExecRunSays, TextRefuses, Compiling, Answering, StageRefuses, in_search, in_erasure, in_passes, in_run, in_text, its_module}
 use Rattle.driver.specs.SourceSays.{IsLine}
 use Rattle.driver.specs.Figures.{HasFigures}
 use Rattle.driver.specs.MainModule.{IsMainModule}
@@ -27,7 +27,7 @@ use Rattle.driver.proofs.Sizes.{shows_large}
 
 module _ (turns : ℕ) (e : RawEnv) (pages steps : ℕ) where
   abbrev Stops : Refusal → Type 0
-  Stops r = Refuses turns e pages steps r
+  Stops r = StageRefuses turns e pages steps r
 
   -- no stage refuses so
 
@@ -46,7 +46,7 @@ module _ (turns : ℕ) (e : RawEnv) (pages steps : ℕ) where
   no_module w (in_text x a h) = h
 
 -- a refusal of some stage, or want of memory, is a cause
-exec_says : (q : Request) (r : Refusal) (bytes : List ℕ) (e : RawEnv) → SpellsWithin bytes e → Refuses q.turns e q.pages q.steps r → RefusalSays Exec q r bytes
+exec_says : (q : Request) (r : Refusal) (bytes : List ℕ) (e : RawEnv) → SpellsWithin bytes e → StageRefuses q.turns e q.pages q.steps r → RefusalSays Exec q r bytes
 exec_says q refusals.Memory bytes e s h = tt
 exec_says q refusals.Depth bytes e s h = (e, s, inr (((λ x. cc), h), λ x. tt))
 exec_says q refusals.TurnsSpent bytes e s h = (e, s, inr (((λ x. cc), h), λ x. tt))
@@ -86,8 +86,8 @@ module _ (q : Request) (range : IsInRange q) (bytes : List ℕ) (M : MainModule)
   valid = fits_valid x.before.program q.pages (omega (arith, range.pages.0)) (omega (arith, range.pages.1)) x.before.form x.fits
 
   -- its run
-  pub run_refused : (r : Refusal) → RunSays M.module q.pages q.steps (Err r) → RefusalSays Exec q r bytes
-  run_refused r h = exec_says q r bytes M.environment made.spelled (in_run x valid (subst (λ m. RunSays m q.pages q.steps (Err r)) made.module_is h))
+  pub run_refused : (r : Refusal) → ExecRunSays M.module q.pages q.steps (Err r) → RefusalSays Exec q r bytes
+  run_refused r h = exec_says q r bytes M.environment made.spelled (in_run x valid (subst (λ m. ExecRunSays m q.pages q.steps (Err r)) made.module_is h))
 
   module _ (run : Measured) (h : IsMeasured M.module q.pages q.steps run) where
     there : IsMeasured (its_module q.pages x) q.pages q.steps run

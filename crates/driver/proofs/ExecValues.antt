@@ -21,7 +21,7 @@ use Rattle.driver.specs.SourceSays.{IsLine}
 use Rattle.command_line.specs.declared.line.Request.{Request}
 use Rattle.command_line.specs.Line.{IsInRange}
 use Rattle.driver.specs.Serve.{IsCheckCause}
-use Rattle.driver.specs.ExecEnds.{Compiling, its_module, its_shapes, Answering, Refuses, in_search, in_erasure, in_passes, in_run, in_text, IsExecCause, ExecEnds}
+use Rattle.driver.specs.ExecEnds.{Compiling, its_module, its_shapes, Answering, StageRefuses, in_search, in_erasure, in_passes, in_run, in_text, IsExecCause, ExecEnds}
 use Rattle.driver.specs.Executed.{HasErasedData, IsTextOf}
 use Rattle.driver.proofs.ExecCauses.{one_set, one_program}
 use Rattle.driver.proofs.ExecSaying.{no_module, no_stuck}
@@ -49,14 +49,14 @@ module _ (request : Request) (range : IsInRange request) (e : RawEnv) (ds : Data
 
   -- no run traps but for want of memory, and none gives another value
 
-  trapped : (kind : TrapKind) → Refuses request.turns e request.pages request.steps (refusals.Run (ends.Trapped kind)) → ⊥
+  trapped : (kind : TrapKind) → StageRefuses request.turns e request.pages request.steps (refusals.Run (ends.Trapped kind)) → ⊥
   trapped kind (in_search x w y) = y
   trapped kind (in_erasure x w y) = y
   trapped kind (in_passes x y) = y
   trapped kind (in_run x a y) = ends_answer (its_module request.pages x) request.pages _ request.steps ds (Err (running.Trapped kind)) (answers x).always y
   trapped kind (in_text x a y) = y
 
-  no_value : (word : ℕ) → Refuses request.turns e request.pages request.steps (refusals.Run (ends.NoValue word)) → ⊥
+  no_value : (word : ℕ) → StageRefuses request.turns e request.pages request.steps (refusals.Run (ends.NoValue word)) → ⊥
   no_value word (in_search x w y) = y
   no_value word (in_erasure x w y) = y
   no_value word (in_passes x y) = y

@@ -27,7 +27,7 @@ use Rattle.driver.specs.declared.reporting.facts.Facts.{Facts}
 use Rattle.driver.specs.CheckFacts.{facts_of_check}
 use Rattle.driver.specs.JobFacts.{AreJobFacts, JobIsTold}
 use Rattle.driver.specs.Lines.{line_of}
-use Rattle.driver.specs.Judged.{IsTold, number_of, start}
+use Rattle.driver.specs.Judged.{PlaceIsTold, number_of, start}
 use Rattle.driver.specs.ReportedFacts.{facts_of}
 use Rattle.driver.specs.Texts.{SpellsWithin}
 use Rattle.driver.specs.Explained.{IsBrokenText, IsExplanation, IsRefusalText}
@@ -42,7 +42,7 @@ behind_as view (Ok v) line text told same h = h ∙ ap (λ t. line ++ t) same
 behind_as view (Err r) line text told same h = tt
 
 -- the text of a broken rule: its line with the place as it is told, and what explains it
-pub broken_says : {V : Type 0} (view : V → List ℕ) (x : Result V Refusal) (e : RawEnv) (p : Place) (b : Broken) (told : Where) (n : ℕ) (text : List ℕ) → n ≡ number_of b → IsTold e p told →
+pub broken_says : {V : Type 0} (view : V → List ℕ) (x : Result V Refusal) (e : RawEnv) (p : Place) (b : Broken) (told : Where) (n : ℕ) (text : List ℕ) → n ≡ number_of b → PlaceIsTold e p told →
     text ≡ explain_broken e p b → IfOk x (λ v. view v ≡ line_of (refusals.Broken n told) ++ text) → IfOk x (λ v. IsBrokenText e p b (view v))
 broken_says view (Ok v) e p b told n text number is same h = (told, is, h ∙ (λ i. line_of (refusals.Broken (number i) told) ++ same i))
 broken_says view (Err r) e p b told n text number is same h = tt

@@ -22,7 +22,7 @@ use Rattle.wasm_core.specs.Runs.{main_start, store_of}
 use Rattle.wasm_core.proofs.Small.{inj}
 use Rattle.wasm_core.proofs.Trees.{moves_are_steps}
 use Rattle.wasm_emit.specs.EmittedModule.{module_of}
-use Rattle.back_end.specs.BackEnd.{passed, IsWithin}
+use Rattle.back_end.specs.BackEnd.{passed, IsWithinPasses}
 use Rattle.back_end.proofs.Total.{total_valid}
 use Rattle.compile.proofs.Within.{fits_within}
 use Rattle.module_run.specs.Ends.{IsTrapped}
@@ -52,7 +52,7 @@ use Rattle.driver.specs.SourceEnds.{IsAcceptedWith}
 use Rattle.driver.specs.SourceSays.{IsLine}
 use Rattle.driver.specs.Serve.{IsCheckCause}
 use Rattle.driver.specs.Bench.{steps_of}
-use Rattle.driver.specs.ExecEnds.{Erasing, Compiling, Answering, Refuses, in_search, in_erasure, in_passes, in_run, in_text, IsExecCause, ExecEnds, RunSays, TextRefuses, its_module, its_shapes, its_environment, its_type}
+use Rattle.driver.specs.ExecEnds.{Erasing, Compiling, Answering, StageRefuses, in_search, in_erasure, in_passes, in_run, in_text, IsExecCause, ExecEnds, ExecRunSays, TextRefuses, its_module, its_shapes, its_environment, its_type}
 use Rattle.driver.specs.Executed.{HasErasedData}
 use Rattle.driver.specs.Headline.{HasValue, IsTextOfValue, EvaluatesErased, GivesErased, HasMatches}
 use Rattle.driver.proofs.SourceCauses.{accepts_inj, plainly}
@@ -65,7 +65,7 @@ use Rattle.driver.proofs.ExecValues.{no_other}
 -- ---- the refusals of a run, of which the statuses 11, 12 and 15 are
 
 data Late (request : Request) (e : RawEnv) (why : RunEnd) : Type 0 where
-  of_run : (x : Compiling request.turns e) → RunSays (its_module request.pages x) request.pages request.steps (Err (refusals.Run why)) → Late request e why
+  of_run : (x : Compiling request.turns e) → ExecRunSays (its_module request.pages x) request.pages request.steps (Err (refusals.Run why)) → Late request e why
   of_text : (x : Answering request.turns e request.pages request.steps) → TextRefuses (its_shapes x.before.before) x.answer (refusals.Run why) → Late request e why
 
 record IsLate (request : Request) (e : RawEnv) (r : Refusal) : Type 0 where
@@ -73,7 +73,7 @@ record IsLate (request : Request) (e : RawEnv) (r : Refusal) : Type 0 where
   is : r ≡ refusals.Run why
   late : Late request e why
 
-run_late : (request : Request) (e : RawEnv) (why : RunEnd) → Refuses request.turns e request.pages request.steps (refusals.Run why) → Late request e why
+run_late : (request : Request) (e : RawEnv) (why : RunEnd) → StageRefuses request.turns e request.pages request.steps (refusals.Run why) → Late request e why
 run_late request e why (in_search x w y) = absurd y
 run_late request e why (in_erasure x w y) = absurd y
 run_late request e why (in_passes x y) = absurd y
@@ -157,7 +157,7 @@ module _ (request : Request) (range : IsInRange request) (bytes : List ℕ) (e :
       let a = h.stages.before.before in
       let same : h.stages.program ≡ P = one_program request.turns e h.stages x.before in
       let there : a.kept ≡ its_environment x.before = (one_kept a.kept a.type a.left a.accepted x.before).0 in
-      let within : IsWithin P (source_branches a.kept) = subst (λ E. IsWithin P (source_branches E)) (sym there) (within_source x).within in
+      let within : IsWithinPasses P (source_branches a.kept) = subst (λ E. IsWithinPasses P (source_branches E)) (sym there) (within_source x).within in
       let kept : EvaluatesTo P h.tree n = record {
         value = h.value;
         nodes = n;
@@ -176,7 +176,7 @@ module _ (request : Request) (range : IsInRange request) (bytes : List ℕ) (e :
       let a = h.stages.before.before in
       let same : h.stages.program ≡ P = one_program request.turns e h.stages x.before in
       let there : a.kept ≡ its_environment x.before = (one_kept a.kept a.type a.left a.accepted x.before).0 in
-      let within : IsWithin P (source_branches a.kept) = subst (λ E. IsWithin P (source_branches E)) (sym there) (within_source x).within in
+      let within : IsWithinPasses P (source_branches a.kept) = subst (λ E. IsWithinPasses P (source_branches E)) (sym there) (within_source x).within in
       counts_bound_runs P request.pages (source_branches a.kept) h.tree c pos small (omega arith) within (subst (λ P. GivesWith P h.tree c) same h.gives)
 
   module _ (n : ℕ) (h : HasValue request.turns e n) where

@@ -29,7 +29,7 @@ use Rattle.dump_reader.specs.declared.declaration.RawDecl.TheVariants as raw
 use Rattle.dump_reader.specs.declared.environment.RawEnv.{RawEnv}
 use Rattle.dump_reader.specs.NumberedEnvironment.{numbered_ctor, numbered_family, numbered_decl}
 use Rattle.driver.specs.Texts.{SpellsWithin}
-use Rattle.driver.specs.Judged.{IsNamed, name_of}
+use Rattle.driver.specs.Judged.{IsTableName, name_of}
 use Rattle.driver.proofs.Limited.{both, few-declared}
 use Rattle.driver.proofs.Uses.{decl_name, declaration_named, constructor_named}
 
@@ -169,7 +169,7 @@ module _ (bytes : List ℕ) (e : RawEnv) (s : SpellsWithin bytes e) where
   named_number (named.Constant k A b) = refl
   named_number (named.Block k ps fs) = refl
 
-  pub name_there : (i : ℕ) (d : RawDecl) → slice_get e.decls i ≡ Some d → (name : List ℕ) × IsNamed e (name_of d).0 name
+  pub name_there : (i : ℕ) (d : RawDecl) → slice_get e.decls i ≡ Some d → (name : List ℕ) × IsTableName e (name_of d).0 name
   name_there i d at =
       let r = decl_from i d at in
       let number : (name_of d).0 ≡ place_of (decl_name r.0) ns = ap (λ x. (name_of x).0) r.2 ∙ named_number r.0 in
@@ -179,7 +179,7 @@ module _ (bytes : List ℕ) (e : RawEnv) (s : SpellsWithin bytes e) where
   pub record IsNamedCtor (number n : ℕ) : Type 0 where
     pub few : n < 1024
     pub name : List ℕ
-    pub named : IsNamed e number name
+    pub named : IsTableName e number name
 
   in_block : (i j n : ℕ) (d : named.NamedDecl) (k : Name) (ps : List Term) (fs : List RawFamily) (f : RawFamily) (c : RawCtor) → slice_get meant.decls i ≡ Some d →
       raw.Block k ps fs ≡ numbered_decl ns ls d → slice_get fs j ≡ Some f → slice_get f.ctors n ≡ Some c → IsNamedCtor c.name.0 n

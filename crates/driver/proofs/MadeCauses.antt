@@ -8,20 +8,20 @@ use Rattle.driver.specs.declared.refusal.Refusal.TheVariants as refusals
 use Rattle.driver.specs.declared.refusal.ProgramLimit.TheVariants as limits
 use Rattle.driver.specs.Lines.{status_of}
 use Rattle.driver.specs.Serve.{IsCheckCause, IsSure}
-use Rattle.driver.specs.ExecEnds.{Compiling, IsCompilable, RunSays, Refuses, in_search, in_erasure, in_passes, in_run, IsExecCause, its_module}
+use Rattle.driver.specs.ExecEnds.{Compiling, IsCompilable, ExecRunSays, StageRefuses, in_search, in_erasure, in_passes, in_run, IsExecCause, its_module}
 use Rattle.driver.specs.MadeModule.{BytesRefuse, MakesNone, by_search, by_erasure, by_passes, by_bytes, IsMakeCause, MakeEndsWith}
 use Rattle.driver.proofs.CheckCauses.{cause_status, not_zero, accepted_status}
 use Rattle.driver.proofs.SourceCauses.{accepted_by}
 use Rattle.driver.proofs.ExecCauses.{exec_status, no_search, no_erasure, no_passes, one_module}
 
 -- a module that isn't written, as one that isn't run
-bytes_run : (m : Parts) (pages steps : ℕ) (r : Refusal) → BytesRefuse m r → RunSays m pages steps (Err r)
+bytes_run : (m : Parts) (pages steps : ℕ) (r : Refusal) → BytesRefuse m r → ExecRunSays m pages steps (Err r)
 bytes_run m pages steps refusals.Memory h = tt
 bytes_run m pages steps (refusals.Program limits.ModuleBytes) h = h
 bytes_run m pages steps _ h = absurd h
 
 -- so a refusal of `compile` is one of `exec`, in however many steps
-pub as_exec : (turns : ℕ) (e : RawEnv) (pages steps : ℕ) (r : Refusal) → MakesNone turns e pages r → Refuses turns e pages steps r
+pub as_exec : (turns : ℕ) (e : RawEnv) (pages steps : ℕ) (r : Refusal) → MakesNone turns e pages r → StageRefuses turns e pages steps r
 as_exec turns e pages steps r (by_search x w h) = in_search x w h
 as_exec turns e pages steps r (by_erasure x w h) = in_erasure x w h
 as_exec turns e pages steps r (by_passes x h) = in_passes x h

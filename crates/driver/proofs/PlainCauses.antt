@@ -34,7 +34,7 @@ use Rattle.driver.specs.declared.refusal.Refusal.{Refusal}
 use Rattle.driver.specs.declared.refusal.Refusal.TheVariants as refusals
 use Rattle.driver.specs.Answerable.{IsAnswerable}
 use Rattle.driver.specs.Judged.{start}
-use Rattle.driver.specs.ExecEnds.{erasure_of, Accepting, Searching, Erasing, Answering, ErasureSays, PassesSay, its_module, its_shapes, Refuses, in_search, in_erasure, in_passes, in_run, in_text, IsExecCause, ExecEnds}
+use Rattle.driver.specs.ExecEnds.{erasure_of, Accepting, Searching, Erasing, Answering, ErasureSays, PassesSay, its_module, its_shapes, StageRefuses, in_search, in_erasure, in_passes, in_run, in_text, IsExecCause, ExecEnds}
 use Rattle.driver.specs.Executed.{HasErasedData}
 use Rattle.driver.specs.MadeModule.{MakesNone, by_search, by_erasure, by_passes, by_bytes, IsMakeCause}
 use Rattle.driver.specs.PlainAnswer.{NamesConstructor}
@@ -179,7 +179,7 @@ module _ (request : Request) (rest : ℕ) (four : request.turns ≡ suc (suc (su
     answer_is : (x : Answering request.turns e request.pages request.steps) → x.answer.tree ≡ tree
     answer_is x = runs_answer x.before.before.program a.id a.number request.pages request.steps (Ok x.answer) (omega (arith, range.pages.0)) (omega (arith, range.pages.1)) enough x.before.before.form (is_plain x.before.before) x.ends
 
-    no_refusal : (r : Refusal) → r ≢ refusals.Memory → Refuses request.turns e request.pages request.steps r → ⊥
+    no_refusal : (r : Refusal) → r ≢ refusals.Memory → StageRefuses request.turns e request.pages request.steps r → ⊥
     no_refusal r n (in_search x w h) = no_search x w r h n
     no_refusal r n (in_erasure x w h) = no_erasure x w r h n
     no_refusal r n (in_passes x h) = no_passes x r h n

@@ -3,7 +3,7 @@ use Rattle.std.proofs.Common.{◌≡◌, ◌≢◌, ℕ, ◌≤◌, List, [], �
 use Rattle.std.specs.Prelude.{IfOk, IfErr}
 use Rattle.first_order.specs.Texts.{IsText, by_tags}
 use Rattle.wasm_core.specs.ShortestBytes.{most_bytes}
-use Rattle.wasm_core.specs.WordData.{Data}
+use Rattle.wasm_core.specs.WordData.{DataNodes}
 use Rattle.module_run.specs.declared.file_refusal.FileRefusal.{FileRefusal}
 use Rattle.module_run.specs.declared.file_refusal.FileRefusal.TheVariants as files
 use Rattle.module_run.specs.FileEnds.{FileEnds}
@@ -32,7 +32,7 @@ of_run pages steps _ bytes h = h
 pub run_not_sure : (pages steps : ℕ) (r : Refusal) (bytes : List ℕ) → IsRunCause pages steps r bytes → IsSure r → ⊥
 run_not_sure pages steps r bytes h sure = (let c = of_run pages steps r bytes h in not_sure c.why r c.is c.other sure)
 
-abbrev file_stops : FileRefusal → Result Data FileRefusal
+abbrev file_stops : FileRefusal → Result DataNodes FileRefusal
 file_stops why = Err why
 
 other_end : (why : FileRefusal) → why ≢ files.Memory → file_stops why ≢ file_stops files.Memory
@@ -44,7 +44,7 @@ run_judged_cause pages steps bytes status r short h k =
     let one = file_end_is_one bytes pages steps h.end (Err c.why) short h.ends c.ends h.other (other_end c.why c.other) in
     h.status_is ∙ ap status_of_run_end one ∙ ap status_of (sym c.is)
 
-answered : (tree : Data) → Ok tree ≢ Err files.Memory
+answered : (tree : DataNodes) → Ok tree ≢ Err files.Memory
 answered tree e = cc
 
 pub run_judged_answer : (pages steps : ℕ) (bytes text : List ℕ) (status : ℕ) → length bytes ≤ most_bytes → RunEndsWith pages steps bytes status → IsRunAnswer pages steps bytes text → status ≡ 0
@@ -59,7 +59,7 @@ run_says q files.Memory bytes h = tt
 run_says q why bytes h = record { why = why; ends = h; other = λ e. cc; is = refl }
 
 -- a text that is made of the answer, or want of memory
-pub tags_says : {V : Type 0} (view : V → List ℕ) (q : Request) (r : Result V Refusal) (bytes : List ℕ) (tree : Data) → FileEnds bytes q.pages q.steps (Ok tree) →
+pub tags_says : {V : Type 0} (view : V → List ℕ) (q : Request) (r : Result V Refusal) (bytes : List ℕ) (tree : DataNodes) → FileEnds bytes q.pages q.steps (Ok tree) →
     IfOk r (λ v. (line : List ℕ) × IsText by_tags 0 tree line × (view v ≡ line ++ 10 ∷ [])) → IfErr r (λ e. e ≡ refusals.Memory) → JobSays Run q view r bytes
 tags_says view q (Ok v) bytes tree ends line memory = record { tree = tree; ends = ends; line = line.0; line_is = line.1; text_is = line.2 }
 tags_says {V = V} view q (Err e) bytes tree ends line memory = subst (λ x. JobSays {V = V} Run q view (Err x) bytes) (sym memory) tt

@@ -26,7 +26,7 @@ use Rattle.driver.specs.SourceSays.{IsLine}
 use Rattle.driver.specs.Served.{Seen, IsKept, Served}
 use Rattle.driver.specs.Executed.{AnswersData, HasErasedData}
 use Rattle.driver.specs.MadeModule.{TakesModule}
-use Rattle.driver.specs.Serve.{HasAnswer, Concludes, HasWell, input_limit, IsAnswerableBy, IsAnswerOf, IsAsked, IsAskedOn, IsCause, IsCheckCause, IsForJob, IsForReader, IsInput, IsInputOf, IsJudgedWith, IsLate, IsOfText, IsRefused, IsSure, IsTextCause, IsTooLong, MakesModule, MeetsNoFault, ReadsWell, ReadsNothing, Says, Tells}
+use Rattle.driver.specs.Serve.{HasAnswer, Concludes, HasWell, input_limit, IsAnswerableBy, IsAnswerOf, IsAsked, IsAskedOn, IsCause, IsCheckCause, IsForJob, IsForReader, IsInput, IsInputOf, IsJudgedWith, IsLate, IsOfText, IsRefused, IsSure, IsTextCause, IsTooLong, MakesModule, MeetsNoFault, ReadsWell, ReadsNothing, Says, SourceTells}
 use Rattle.driver.specs.Headline.{HasValue, ServesValue, EvaluatesErased, IsBoundedBy, GivesErased, IsCountedBy, HasMatches, TakesMatches}
 use Rattle.driver.proofs.CheckCauses.{not_zero}
 use Rattle.driver.proofs.Headlines.{value_data, value_exact, value_valid, value_runs, value_counts, value_text, no_fault, value_memory, value_steps, data_runs, data_memory, data_steps, counted_runs, counted_memory, counted_steps, late_runs, answered_late, answering_late}
@@ -64,12 +64,12 @@ input-is None bytes told h e = absurd cc
 input-is (Some l) bytes told h e = let q : l ≡ told = cc in (h.0 ∙ q, h.1)
 
 -- the bytes of a job are those that are told; an input is within the limit
-pub input-of : (job : Job) (q : Request) (left : Option (List ℕ)) (bytes told : List ℕ) → IsInputOf job q left bytes → Tells job q left told → (bytes ≡ told) × (job ≢ Bench → length bytes ≤ input_limit)
+pub input-of : (job : Job) (q : Request) (left : Option (List ℕ)) (bytes told : List ℕ) → IsInputOf job q left bytes → SourceTells job q left told → (bytes ≡ told) × (job ≢ Bench → length bytes ≤ input_limit)
 input-of Bench q left bytes told h e = (h ∙ sym e, λ n. absurd (n refl))
 input-of _ q left bytes told h e = let x = input-is left bytes told h e in (x.0, λ n. x.1)
 
 -- a job that reads an input reads the source's
-pub of-source : (job : Job) (q : Request) (left : Option (List ℕ)) (told : List ℕ) → job ≢ Bench → Tells job q left told → left ≡ Some told
+pub of-source : (job : Job) (q : Request) (left : Option (List ℕ)) (told : List ℕ) → job ≢ Bench → SourceTells job q left told → left ≡ Some told
 of-source Bench q left told n e = absurd (n refl)
 of-source _ q left told n e = e
 

@@ -8,7 +8,7 @@ use Rattle.dump_reader.specs.Spelled.{IsSpelled}
 use Rattle.driver.specs.declared.refusal.Refusal.TheVariants as refusals
 use Rattle.driver.specs.declared.refusal.ProgramLimit.{ProgramLimit}
 use Rattle.driver.specs.declared.refusal.ProgramLimit.TheVariants as limits
-use Rattle.driver.specs.ExecEnds.{Erasing, HasModule, IsCompilable, IsLargeFor, ShowsLarge, Refuses, in_search, in_erasure, in_passes, in_run, in_text}
+use Rattle.driver.specs.ExecEnds.{Erasing, HasModule, IsCompilable, IsLargeFor, ShowsLarge, StageRefuses, in_search, in_erasure, in_passes, in_run, in_text}
 use Rattle.driver.proofs.AcceptedAs.{accepted_as, erased_to}
 use Rattle.driver.proofs.ExecCauses.{one_program}
 
@@ -22,7 +22,7 @@ has_module turns e pages spelled (inr h) =
 
 module _ (turns : ℕ) (e : RawEnv) (pages steps : ℕ) where
   -- the stage that refuses shows it of its program
-  its_size : (l : ProgramLimit) → Refuses turns e pages steps (refusals.Program l) → (x : Erasing turns e) × ShowsLarge x.program (refusals.Program l)
+  its_size : (l : ProgramLimit) → StageRefuses turns e pages steps (refusals.Program l) → (x : Erasing turns e) × ShowsLarge x.program (refusals.Program l)
   its_size l (in_search x w h) = absurd h
   its_size l (in_erasure x w h) = absurd h
   its_size limits.Captured (in_passes x h) = (x, refusals_show_sizes x.program compiling.Captured x.form h)
@@ -34,5 +34,5 @@ module _ (turns : ℕ) (e : RawEnv) (pages steps : ℕ) where
   its_size _ (in_run x valid h) = absurd h
 
   -- and there is one program
-  pub shows_large : (l : ProgramLimit) → Refuses turns e pages steps (refusals.Program l) → IsLargeFor turns (refusals.Program l) e
+  pub shows_large : (l : ProgramLimit) → StageRefuses turns e pages steps (refusals.Program l) → IsLargeFor turns (refusals.Program l) e
   shows_large l h x = let s = its_size l h in subst (λ P. ShowsLarge P (refusals.Program l)) (one_program turns e s.0 x) s.1

@@ -26,7 +26,7 @@ use Rattle.wasm_core.specs.Parts.{Parts}
 use Rattle.wasm_core.specs.ModuleTyping.{IsValid}
 use Rattle.wasm_emit.specs.EmittedModule.{module_of}
 use Rattle.back_end.specs.BackEnd.{passed}
-use Rattle.compile.specs.Passes.{Fits, IsRefused}
+use Rattle.compile.specs.Passes.{Fits, CompileIsRefused}
 use Rattle.compile.specs.declared.fault.CompileFault.TheVariants as compiling
 use Rattle.module_run.specs.declared.answer.Answer.{Answer as Answered}
 use Rattle.module_run.specs.declared.answer.Measured.{Measured}
@@ -40,7 +40,7 @@ use Rattle.driver.specs.declared.refusal.Refusal.{Refusal}
 use Rattle.driver.specs.declared.refusal.Refusal.TheVariants as refusals
 use Rattle.driver.specs.declared.refusal.ProgramLimit.TheVariants as limits
 use Rattle.driver.specs.declared.refusal.RunEnd.TheVariants as ends
-use Rattle.driver.specs.Judged.{IsNamed, IsTold, number_of, EndsWith}
+use Rattle.driver.specs.Judged.{IsTableName, PlaceIsTold, number_of, EndsWith}
 use Rattle.driver.specs.Lines.{status_of}
 use Rattle.driver.specs.SourceEnds.{IsAcceptedWith}
 use Rattle.driver.specs.SourceSays.{ShapesSay, IsLine}
@@ -53,20 +53,20 @@ erasure_of E t u = erased_program E (test_of E) 2048 t u
 
 abbrev pub ErasureSays : RawEnv → Env → Term → Account → Result BoxProgram Refusal → Account → Type 0
 ErasureSays e E t u (Ok P) w = (erasure_of E t u).outcome ≡ Gives (Program P) w
-ErasureSays e E t u (Err (refusals.Axiom name)) w = (k : Name) × ((erasure_of E t u).outcome ≡ Gives (ReachesAxiom k) w) × IsNamed e k.0 name.items
+ErasureSays e E t u (Err (refusals.Axiom name)) w = (k : Name) × ((erasure_of E t u).outcome ≡ Gives (ReachesAxiom k) w) × IsTableName e k.0 name.items
 ErasureSays e E t u (Err refusals.TurnsSpent) w = (erasure_of E t u).outcome ≡ Spends
 ErasureSays e E t u (Err refusals.Depth) w = IsTrue (erasure_of E t u).deep
-ErasureSays e E t u (Err (refusals.Broken n told)) w = (p : Place) × (b : Broken) × ((erasure_of E t u).outcome ≡ Breaks p b w) × (n ≡ number_of b) × IsTold e p told
+ErasureSays e E t u (Err (refusals.Broken n told)) w = (p : Place) × (b : Broken) × ((erasure_of E t u).outcome ≡ Breaks p b w) × (n ≡ number_of b) × PlaceIsTold e p told
 ErasureSays e E t u (Err refusals.Memory) w = Unit {0}
 ErasureSays e E t u (Err _) w = ⊥
 
 -- the passes, to a module whose memory has at most so many pages
 abbrev pub PassesSay : ℕ → BoxProgram → Result Parts Refusal → Type 0
 PassesSay pages P (Ok m) = Fits P × (m ≡ module_of (passed P) pages)
-PassesSay pages P (Err refusals.Depth) = IsRefused P compiling.Depth
-PassesSay pages P (Err (refusals.Program limits.Captured)) = IsRefused P compiling.Captured
-PassesSay pages P (Err (refusals.Program limits.Functions)) = IsRefused P compiling.Functions
-PassesSay pages P (Err (refusals.Program limits.Locals)) = IsRefused P compiling.Locals
+PassesSay pages P (Err refusals.Depth) = CompileIsRefused P compiling.Depth
+PassesSay pages P (Err (refusals.Program limits.Captured)) = CompileIsRefused P compiling.Captured
+PassesSay pages P (Err (refusals.Program limits.Functions)) = CompileIsRefused P compiling.Functions
+PassesSay pages P (Err (refusals.Program limits.Locals)) = CompileIsRefused P compiling.Locals
 PassesSay pages P (Err refusals.Memory) = Unit {0}
 PassesSay pages P (Err _) = ⊥
 
@@ -75,21 +75,21 @@ abbrev pub IsExhausted : Parts → (pages steps : ℕ) → Type 0
 IsExhausted m pages steps = (kind : TrapKind) × (x : IsTrapped m pages steps kind 1) × IsTrue x.store.refused
 
 -- the module's run, in at most so many steps
-abbrev pub RunSays : Parts → (pages steps : ℕ) → Result Answered Refusal → Type 0
-RunSays m pages steps (Ok a) = Ends m pages steps (Ok a)
-RunSays m pages steps (Err (refusals.Program limits.ModuleBytes)) = Ends m pages steps (Err running.ModuleBytes)
-RunSays m pages steps (Err (refusals.Run ends.Exhausted)) = IsSmall m × IsExhausted m pages steps
-RunSays m pages steps (Err (refusals.Run ends.StepsSpent)) = Ends m pages steps (Err running.StepsSpent)
-RunSays m pages steps (Err (refusals.Run (ends.Trapped kind))) = Ends m pages steps (Err (running.Trapped kind))
-RunSays m pages steps (Err (refusals.Run (ends.NoValue word))) = Ends m pages steps (Err (running.NoValue word))
-RunSays m pages steps (Err refusals.AnswerNodes) = Ends m pages steps (Err running.AnswerNodes)
-RunSays m pages steps (Err refusals.Memory) = Unit {0}
-RunSays m pages steps (Err _) = ⊥
+abbrev pub ExecRunSays : Parts → (pages steps : ℕ) → Result Answered Refusal → Type 0
+ExecRunSays m pages steps (Ok a) = Ends m pages steps (Ok a)
+ExecRunSays m pages steps (Err (refusals.Program limits.ModuleBytes)) = Ends m pages steps (Err running.ModuleBytes)
+ExecRunSays m pages steps (Err (refusals.Run ends.Exhausted)) = IsSmall m × IsExhausted m pages steps
+ExecRunSays m pages steps (Err (refusals.Run ends.StepsSpent)) = Ends m pages steps (Err running.StepsSpent)
+ExecRunSays m pages steps (Err (refusals.Run (ends.Trapped kind))) = Ends m pages steps (Err (running.Trapped kind))
+ExecRunSays m pages steps (Err (refusals.Run (ends.NoValue word))) = Ends m pages steps (Err (running.NoValue word))
+ExecRunSays m pages steps (Err refusals.AnswerNodes) = Ends m pages steps (Err running.AnswerNodes)
+ExecRunSays m pages steps (Err refusals.Memory) = Unit {0}
+ExecRunSays m pages steps (Err _) = ⊥
 
 -- so, with the figures of a run that answers
 abbrev pub MeasuredSays : Parts → (pages steps : ℕ) → Result Measured Refusal → Type 0
 MeasuredSays m pages steps (Ok x) = IsMeasured m pages steps x
-MeasuredSays m pages steps (Err r) = RunSays m pages steps (Err r)
+MeasuredSays m pages steps (Err r) = ExecRunSays m pages steps (Err r)
 
 -- the data isn't of main's type, which the word in `result` shows
 abbrev pub TextRefuses : List Shape → Answered → Refusal → Type 0
@@ -158,16 +158,16 @@ its_type x = x.before.before.type
 -- ---- how it ends
 
 -- the stage that refuses, with what it says; where it is the run or what comes after, the module has a typing
-pub data Refuses (turns : ℕ) (e : RawEnv) (pages steps : ℕ) (r : Refusal) : Type 0 where
-  in_search : (x : Accepting turns e) (w : Account) → ShapesSay x.kept x.type x.left (Err r) w → Refuses turns e pages steps r
-  in_erasure : (x : Searching turns e) (w : Account) → ErasureSays e x.before.kept e.main x.left (Err r) w → Refuses turns e pages steps r
-  in_passes : (x : Erasing turns e) → PassesSay pages x.program (Err r) → Refuses turns e pages steps r
-  in_run : (x : Compiling turns e) → IsValid (its_module pages x) → RunSays (its_module pages x) pages steps (Err r) → Refuses turns e pages steps r
-  in_text : (x : Answering turns e pages steps) → IsValid (its_module pages x.before) → TextRefuses (its_shapes x.before.before) x.answer r → Refuses turns e pages steps r
+pub data StageRefuses (turns : ℕ) (e : RawEnv) (pages steps : ℕ) (r : Refusal) : Type 0 where
+  in_search : (x : Accepting turns e) (w : Account) → ShapesSay x.kept x.type x.left (Err r) w → StageRefuses turns e pages steps r
+  in_erasure : (x : Searching turns e) (w : Account) → ErasureSays e x.before.kept e.main x.left (Err r) w → StageRefuses turns e pages steps r
+  in_passes : (x : Erasing turns e) → PassesSay pages x.program (Err r) → StageRefuses turns e pages steps r
+  in_run : (x : Compiling turns e) → IsValid (its_module pages x) → ExecRunSays (its_module pages x) pages steps (Err r) → StageRefuses turns e pages steps r
+  in_text : (x : Answering turns e pages steps) → IsValid (its_module pages x.before) → TextRefuses (its_shapes x.before.before) x.answer r → StageRefuses turns e pages steps r
 
 -- what shows a refusal of `exec` after the check
 abbrev pub IsExecCause : (turns pages steps : ℕ) → Refusal → RawEnv → Type 0
-IsExecCause turns pages steps r e = (r ≢ refusals.Memory) × Refuses turns e pages steps r
+IsExecCause turns pages steps r e = (r ≢ refusals.Memory) × StageRefuses turns e pages steps r
 
 -- by a refusal for the program or for its module, the program is large after saturation: it has lambdas under over 1,000 binders, too many nodes, or too many nodes and words for its module's bytes
 abbrev pub ShowsLarge : BoxProgram → Refusal → Type 0

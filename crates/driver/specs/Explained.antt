@@ -13,7 +13,7 @@ use Rattle.explanations.specs.Explanation.{explain_broken, explain_deep, explain
 use Rattle.driver.specs.declared.refusal.Where.{Where}
 use Rattle.driver.specs.declared.refusal.Refusal.TheVariants as refusals
 use Rattle.driver.specs.Lines.{line_of}
-use Rattle.driver.specs.Judged.{IsTold, number_of, start}
+use Rattle.driver.specs.Judged.{PlaceIsTold, number_of, start}
 use Rattle.driver.specs.Texts.{SpellsWithin}
 
 -- With the units of a job the directed rules refuse the environment so: this rule is broken at this place; or no unit is left at the place to which they came with
@@ -25,7 +25,7 @@ pub record IsRefusedAs (turns : ℕ) (e : RawEnv) (r : Fault) : Type 0 where
 
 -- a broken rule: the line, with how it tells the place, and what explains it
 abbrev pub IsBrokenText : RawEnv → Place → Broken → List ℕ → Type 0
-IsBrokenText e p b text = (told : Where) × IsTold e p told × (text ≡ line_of (refusals.Broken (number_of b) told) ++ explain_broken e p b)
+IsBrokenText e p b text = (told : Where) × PlaceIsTold e p told × (text ≡ line_of (refusals.Broken (number_of b) told) ++ explain_broken e p b)
 
 -- units that are spent: those that were taken before the place are those of the job without the ones that were left there
 abbrev pub spent_text : (turns : ℕ) → RawEnv → Place → Account → List ℕ

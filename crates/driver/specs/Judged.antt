@@ -51,16 +51,16 @@ name_of (Constant k A b) = k
 name_of (Block k ps fs) = k
 
 -- a name of the environment's table, by its number
-abbrev pub IsNamed : RawEnv → ℕ → List ℕ → Type 0
-IsNamed e n name = slice_get e.names n ≡ Some name
+abbrev pub IsTableName : RawEnv → ℕ → List ℕ → Type 0
+IsTableName e n name = slice_get e.names n ≡ Some name
 
 -- how a line tells a place: a declaration by its name
-abbrev pub IsTold : RawEnv → Place → Where → Type 0
-IsTold e (at.Level i) tells.Levels = Unit {0}
-IsTold e (at.Constraint i) tells.Constraints = Unit {0}
-IsTold e (at.Declaration i) (tells.Declaration name) = (d : RawDecl) × (slice_get e.decls i ≡ Some d) × IsNamed e (name_of d).0 name.items
-IsTold e at.Main tells.Main = Unit {0}
-IsTold e _ _ = ⊥
+abbrev pub PlaceIsTold : RawEnv → Place → Where → Type 0
+PlaceIsTold e (at.Level i) tells.Levels = Unit {0}
+PlaceIsTold e (at.Constraint i) tells.Constraints = Unit {0}
+PlaceIsTold e (at.Declaration i) (tells.Declaration name) = (d : RawDecl) × (slice_get e.decls i ≡ Some d) × IsTableName e (name_of d).0 name.items
+PlaceIsTold e at.Main tells.Main = Unit {0}
+PlaceIsTold e _ _ = ⊥
 
 -- the rules accept it; they have no end within the units; they pass a limit; they break the rule of that number at that place
 
@@ -90,7 +90,7 @@ pub record IsBrokenBy (turns : ℕ) (e : RawEnv) (number : ℕ) (told : Where) :
   pub left : Account
   pub breaks : rules.outcome ≡ Breaks place rule left
   pub number_is : number ≡ number_of rule
-  pub told_is : IsTold e place told
+  pub told_is : PlaceIsTold e place told
 
 -- the rules accept it, or don't, and have passed no limit till then: the status is determined but for want of memory
 

@@ -8,7 +8,7 @@ use Rattle.dump_reader.specs.declared.environment.RawEnv.{RawEnv}
 use Rattle.command_line.specs.declared.job.Job.TheVariants.{Compile, Exec}
 use Rattle.command_line.specs.declared.line.Request.{Request}
 use Rattle.driver.specs.Answerable.{IsAnswerable}
-use Rattle.driver.specs.Judged.{IsNamed}
+use Rattle.driver.specs.Judged.{IsTableName}
 use Rattle.driver.specs.ExecEnds.{Erasing}
 use Rattle.driver.specs.Executed.{HasErasedData}
 use Rattle.driver.specs.MadeModule.{TakesModule}
@@ -21,7 +21,7 @@ pub record NamesConstructor (e : RawEnv) (f : FamilyId) (n : ℕ) (name : List �
   pub keeps : KeepsFamily well.kept f family
   pub constructor : Constructor
   pub is_main : slice_get family.constructors n ≡ Some constructor
-  pub named : IsNamed e constructor.name.0 name
+  pub named : IsTableName e constructor.name.0 name
 
 -- (`bench` makes no plain environment, so nothing is said of its lines) on status 0 out takes by `exec` the name of main's constructor and LF, and by `compile` main's module; where no fault is met the status is 0, or 1 for want of
 -- memory; and the program that main is erased to evaluates, in one node and without a match, to that constructor

@@ -1,6 +1,6 @@
 -- The answer of `run`: the text of the data that the module of the input answers, by the numbers of constructors; and its refusals.
 use Rattle.std.specs.Prelude.{ℕ, ◌≡◌, ◌≢◌, List, [], ◌∷◌, ◌++◌, Result, Ok, Err}
-use Rattle.wasm_core.specs.WordData.{Data}
+use Rattle.wasm_core.specs.WordData.{DataNodes}
 use Rattle.first_order.specs.Texts.{IsText, by_tags}
 use Rattle.module_run.specs.declared.file_refusal.FileRefusal.{FileRefusal}
 use Rattle.module_run.specs.declared.file_refusal.FileRefusal.TheVariants as files
@@ -14,7 +14,7 @@ use Rattle.driver.specs.Lines.{status_of}
 -- The text is the answer of `run` on the input, with this bound on pages and so many steps.
 pub record IsRunAnswer (pages steps : ℕ) (bytes text : List ℕ) : Type 0 where
   -- the input spells a valid module whose run of `main` returns, and this is the data that its result stands for
-  pub tree : Data
+  pub tree : DataNodes
   pub ends : FileEnds bytes pages steps (Ok tree)
   -- the text of that, and LF
   pub line : List ℕ
@@ -52,13 +52,13 @@ IsRunCause pages steps refusals.WriteFault bytes = ⊥
 IsRunCause pages steps refusals.InputBytes bytes = ⊥
 IsRunCause pages steps r bytes = IsFileCause pages steps r bytes
 
-abbrev pub status_of_run_end : Result Data FileRefusal → ℕ
+abbrev pub status_of_run_end : Result DataNodes FileRefusal → ℕ
 status_of_run_end (Ok tree) = 0
 status_of_run_end (Err why) = status_of (refusal_of_file why)
 
 -- the answer ends with this status
 pub record RunEndsWith (pages steps : ℕ) (bytes : List ℕ) (status : ℕ) : Type 0 where
-  pub end : Result Data FileRefusal
+  pub end : Result DataNodes FileRefusal
   pub ends : FileEnds bytes pages steps end
   pub other : end ≢ Err files.Memory
   pub status_is : status ≡ status_of_run_end end

@@ -7,7 +7,7 @@ ghost use Rattle.command_line.specs.declared.job.Job.TheVariants.{Check};
 ghost use Rattle.module_run.specs.RunFacts.{AreTold};
 ghost use Rattle.driver.specs.CheckFacts.{facts_of_check};
 ghost use Rattle.driver.specs.JobFacts.{CheckIsTold, JobIsTold};
-ghost use Rattle.driver.specs.Judged.{IsTold, name_of, number_of, start};
+ghost use Rattle.driver.specs.Judged.{PlaceIsTold, name_of, number_of, start};
 ghost use Rattle.driver.specs.ReportedFacts.{facts_of};
 ghost use Rattle.driver.specs.Serve.{AcceptSays, CheckSays, JobSays};
 
@@ -67,7 +67,7 @@ fn declared_name(decl: &RawDecl) -> Name
 pub(crate) fn told(alloc: Global, raw: &RawEnv, place: Place) -> Result<Where, Refusal>
     requires spelled { IsSpelled raw.now }
     requires within { (i : ℕ) → place ≡ Declaration i → i < length raw.now.decls }
-    ensures told { IfOk result (λ w. IsTold raw.now place w) }
+    ensures told { IfOk result (λ w. PlaceIsTold raw.now place w) }
     ensures only_memory { IfErr result (λ r. r ≡ Refusal.Memory) }
 {
     match place {

@@ -7,7 +7,7 @@ ghost use Rattle.rule_laws.specs.Declarations.{IsCheckedEnvironment};
 ghost use Rattle.env_check.specs.Rules.{givens};
 ghost use Rattle.lambda_box.specs.BoxForm.{IsBoxProgram};
 ghost use Rattle.erase_laws.specs.ErasedProgram.{HasErased, IsErased};
-ghost use Rattle.driver.specs.Judged.{IsNamed};
+ghost use Rattle.driver.specs.Judged.{IsTableName};
 ghost use Rattle.driver.specs.ErasureParts.{AxiomSays, HaltSays};
 ghost use Rattle.driver.specs.ExecEnds.{ErasureSays};
 
@@ -60,7 +60,7 @@ fn halted(alloc: Global, raw: &RawEnv, place: Place, halt: &Halt) -> Refusal
 
 /// The refusal of a constant without a body, whose name stands in the table. Else `Memory`.
 fn axiom(alloc: Global, raw: &RawEnv, name: Name) -> Refusal
-    requires there { (text : List ℕ) × IsNamed raw.now name.0 text }
+    requires there { (text : List ℕ) × IsTableName raw.now name.0 text }
     ensures says { AxiomSays raw.now name result }
 {
     match raw.names.text(name.0) {

@@ -15,9 +15,9 @@ use Rattle.dump_grammar.specs.Table.{Value, VTerm, VDefs, act, Kind, Arguments, 
 use Rattle.dump_grammar.specs.Table.{Branches as BranchList, Definitions as DefinitionList}
 use Rattle.dump_grammar.proofs.Values.{counted, with_levels, with_constraints, with_declarations}
 use Rattle.dump_grammar.specs.Named.{NamedEnv}
-use Rattle.dump_grammar.specs.Environments.{Dump, dump, env_of, constraint_meaning, Spells}
-use Rattle.dump_grammar.specs.Table.{VNames, VConstraints, VDecls, VEnv, MakeEnv, start, Outcome, Accepted, Refused, after, run}
-use Rattle.dump_grammar.specs.Exactness.{Begins, IsDead, Meets, IsExact}
+use Rattle.dump_grammar.specs.Environments.{Dump, dump, env_of, constraint_meaning, SpellsEnv}
+use Rattle.dump_grammar.specs.Table.{VNames, VConstraints, VDecls, VEnv, MakeEnv, start, ReadOutcome, Accepted, Refused, after, run}
+use Rattle.dump_grammar.specs.Exactness.{Begins, IsDead, MeetsTokens, IsExact}
 use Rattle.dump_grammar.proofs.Words.{word-is, comparison-is}
 use Rattle.dump_grammar.proofs.Values.{levels-value, constraints-value, declarations-value}
 use Rattle.dump_grammar.proofs.Language.{run-step, do-then, type-head, names-read, levels-read, sort-read, form-read, arguments-read, terms-read, branches-read, definitions-read, bindings-read, constructors-read, families-read, parts-read, constraints-read, body-read, declarations-read}
@@ -266,14 +266,14 @@ whole-read d =
 value_is : (a b : NamedEnv) → Accepted (VEnv a ∷ []) ≡ Accepted (VEnv b ∷ []) → a ≡ b
 value_is a b e = cc
 
-spelled-read : (ts : List Text) (env : NamedEnv) → Spells ts env → run start [] ts ≡ Accepted (VEnv env ∷ [])
+spelled-read : (ts : List Text) (env : NamedEnv) → SpellsEnv ts env → run start [] ts ≡ Accepted (VEnv env ∷ [])
 spelled-read ts env (d, e, m) = rw (e, m) (whole-read d)
 
 -- one text, one meaning
-one : (ts : List Text) (a b : NamedEnv) → Spells ts a → Spells ts b → a ≡ b
+one : (ts : List Text) (a b : NamedEnv) → SpellsEnv ts a → SpellsEnv ts b → a ≡ b
 one ts a b p q = value_is a b (sym (spelled-read ts a p) ∙ spelled-read ts b q)
 
-begins : (ts : List Text) → TakesAll start [] ts End → (env : NamedEnv) × Spells ts env
+begins : (ts : List Text) → TakesAll start [] ts End → (env : NamedEnv) × SpellsEnv ts env
 begins ts h =
     let (d, us, e, nothing) = env-takes ts End h in
     (env_of d, (d, e ∙ ap (dump d) nothing, refl))
@@ -285,7 +285,7 @@ dead : (front rest : List Text) → ((s : List Text) → run start [] (front ++ 
 dead front [] f = λ env p. never [] _ (sym (f []) ∙ ap (run start []) (append-nil front) ∙ spelled-read front env p)
 dead front (t ∷ rest) f = λ (more, env, p). never (t ∷ more) _ (sym (f more) ∙ ap (run start []) (sym (append_assoc front (t ∷ []) more)) ∙ spelled-read ((front ++ t ∷ []) ++ more) env p)
 
-outcome_meets : (ts : List Text) (o : Outcome) → run start [] ts ≡ o → Meets o ts
+outcome_meets : (ts : List Text) (o : ReadOutcome) → run start [] ts ≡ o → MeetsTokens o ts
 outcome_meets ts (Accepted ws) e =
     let (d, us, spelled, (nothing, values)) = env-takes ts (Leaves ws) (accepted ts start [] ws e) in
     (env_of d, sym values, (d, spelled ∙ ap (dump d) nothing, refl))
@@ -310,9 +310,9 @@ pub dead_at : (front rest : List Text) (is : List Item) (vs : List Value) → ((
 dead_at front rest is vs reached stuck = dead front rest (λ s. reached (same_first rest s) ∙ stuck s)
 
 -- What begins so is not spelled.
-pub dead-apart : (front rest : List Text) (env : NamedEnv) → IsDead front rest → Spells (front ++ rest) env → ⊥
-dead-apart front [] env h p = h env (subst (λ us. Spells us env) (append-nil front) p)
-dead-apart front (t ∷ rest) env h p = h (rest, env, subst (λ us. Spells us env) (sym (append_assoc front (t ∷ []) rest)) p)
+pub dead-apart : (front rest : List Text) (env : NamedEnv) → IsDead front rest → SpellsEnv (front ++ rest) env → ⊥
+dead-apart front [] env h p = h env (subst (λ us. SpellsEnv us env) (append-nil front) p)
+dead-apart front (t ∷ rest) env h p = h (rest, env, subst (λ us. SpellsEnv us env) (sym (append_assoc front (t ∷ []) rest)) p)
 
 pub exact : IsExact
 exact = record { outcome = λ ts. outcome_meets ts (run start [] ts) refl; read = spelled-read; one_meaning = one }

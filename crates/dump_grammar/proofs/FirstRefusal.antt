@@ -13,7 +13,7 @@ use Rattle.dump_grammar.proofs.Exact.{exact, alive}
 use Rattle.dump_grammar.specs.Foreign.{foreign}
 use Rattle.dump_grammar.specs.Limits.{over}
 use Rattle.dump_grammar.specs.Judge.{texts, Verdict, Refuse, lexed, unread, moved, judge, verdict}
-use Rattle.dump_grammar.specs.FirstRefusal.{nesting_of, State, onward, state_from, item_refusal, items_refusal, answer_refusal, end_refusal, rest_refusal, on_state, refusal_from, IsFirstRefusal, IsFirst}
+use Rattle.dump_grammar.specs.FirstRefusal.{nesting_of, ReadState, onward, state_from, item_refusal, items_refusal, answer_refusal, end_refusal, rest_refusal, on_state, refusal_from, IsFirstRefusal, IsFirst}
 
 refusal_is : (a b : ReadRefusal) → Refuse a ≡ Refuse b → a ≡ b
 refusal_is a b e = cc
@@ -118,12 +118,12 @@ module _ (len : ℕ) where
   refusal-here d is vs rest = ap (λ o. on_state o (rest_refusal len d rest)) (state-none is vs)
 
   -- Behind a front at which nothing arises, the verdict is that of its state.
-  behind : (front rest : List Spanned) (d : ℕ) (is : List Item) (vs : List Value) (st : State) → state_from is vs (texts front) ≡ Some st → Before d is vs front rest → judge len (front ++ rest) d is vs ≡ judge len rest (nesting_of d front) st.0 st.1
+  behind : (front rest : List Spanned) (d : ℕ) (is : List Item) (vs : List Value) (st : ReadState) → state_from is vs (texts front) ≡ Some st → Before d is vs front rest → judge len (front ++ rest) d is vs ≡ judge len rest (nesting_of d front) st.0 st.1
   behind [] rest d is vs st e h =
-      let pair : State = (is, vs) in
+      let pair : ReadState = (is, vs) in
       let at : Some pair ≡ Some st = sym (state-none is vs) ∙ e in
       let same : pair ≡ st = cc in
-      ap (λ (st : State). judge len rest d st.0 st.1) same
+      ap (λ (st : ReadState). judge len rest d st.0 st.1) same
   behind (s ∷ front) rest d is vs st e h =
       let here : rest_refusal len d (s ∷ front ++ rest) (is, vs) ≡ None = sym (refusal-here d is vs (s ∷ front ++ rest)) ∙ h [] s front refl in
       let q = quiet-steps d s (front ++ rest) is vs here in
@@ -136,7 +136,7 @@ module _ (len : ℕ) where
     front : List Spanned
     rest : List Spanned
     parts : tokens ≡ front ++ rest
-    stands : (st : State) × (state_from is vs (texts front) ≡ Some st)
+    stands : (st : ReadState) × (state_from is vs (texts front) ≡ Some st)
     arises : refusal_from len d is vs front rest ≡ Some r
     before : Before d is vs front rest
 
@@ -211,12 +211,12 @@ refused len tokens r f =
 
 -- ---- states and texts
 
-pub run-of-state : (ts : List Text) (is : List Item) (vs : List Value) (st : State) → state_from is vs ts ≡ Some st → (more : List Text) → run is vs (ts ++ more) ≡ run st.0 st.1 more
+pub run-of-state : (ts : List Text) (is : List Item) (vs : List Value) (st : ReadState) → state_from is vs ts ≡ Some st → (more : List Text) → run is vs (ts ++ more) ≡ run st.0 st.1 more
 unfolding state_from run
 run-of-state [] is vs st e more =
-    let pair : State = (is, vs) in
+    let pair : ReadState = (is, vs) in
     let same : pair ≡ st = cc in
-    ap (λ (st : State). run st.0 st.1 more) same
+    ap (λ (st : ReadState). run st.0 st.1 more) same
 run-of-state (t ∷ ts) [] vs st e more = absurd cc
 run-of-state (t ∷ ts) (i ∷ is) vs st e more =
     let P : Moved → Type 0 = λ m. onward m (λ js ws. state_from (js ++ is) ws ts) ≡ Some st → after m (Refused (t ∷ ts ++ more)) (λ js ws. run (js ++ is) ws (ts ++ more)) ≡ run st.0 st.1 more in
@@ -227,29 +227,29 @@ run-of-state (t ∷ ts) (i ∷ is) vs st e more =
 pub state-further : (ts : List Text) (t : Text) (is : List Item) (j : Item) (js : List Item) (vs ws : List Value) (m : List Item × List Value) → state_from is vs ts ≡ Some (j ∷ js, ws) → step j t ws ≡ Some m → state_from is vs (ts ++ t ∷ []) ≡ Some (m.0 ++ js, m.1)
 unfolding state_from
 state-further [] t is j js vs ws m e h =
-    let from : State = (is, vs) in
-    let to : State = (j ∷ js, ws) in
+    let from : ReadState = (is, vs) in
+    let to : ReadState = (j ∷ js, ws) in
     let same : from ≡ to = cc in
-    subst (λ (st : State). state_from st.0 st.1 (t ∷ []) ≡ Some (m.0 ++ js, m.1)) (sym same) (rw h refl)
+    subst (λ (st : ReadState). state_from st.0 st.1 (t ∷ []) ≡ Some (m.0 ++ js, m.1)) (sym same) (rw h refl)
 state-further (t' ∷ ts) t [] j js vs ws m e h = absurd cc
 state-further (t' ∷ ts) t (i ∷ is) j js vs ws m e h =
     let P : Moved → Type 0 = λ o. onward o (λ ks xs. state_from (ks ++ is) xs ts) ≡ Some (j ∷ js, ws) → onward o (λ ks xs. state_from (ks ++ is) xs (ts ++ t ∷ [])) ≡ Some (m.0 ++ js, m.1) in
     let on : (o : Moved) → P o = λ o. elim o as P [ None ↦ λ e. absurd cc | Some n ↦ λ e. state-further ts t (n.0 ++ is) j js n.1 ws m e h ] in
     on (step i t' vs) e
 
-state-of-run : (ts more : List Text) (is : List Item) (vs ws : List Value) → run is vs (ts ++ more) ≡ Accepted ws → (st : State) × (state_from is vs ts ≡ Some st)
+state-of-run : (ts more : List Text) (is : List Item) (vs ws : List Value) → run is vs (ts ++ more) ≡ Accepted ws → (st : ReadState) × (state_from is vs ts ≡ Some st)
 unfolding state_from run
 state-of-run [] more is vs ws e = ((is, vs), refl)
 state-of-run (t ∷ ts) more [] vs ws e = absurd cc
 state-of-run (t ∷ ts) more (i ∷ is) vs ws e =
-    let P : Moved → Type 0 = λ m. after m (Refused (t ∷ ts ++ more)) (λ js ws. run (js ++ is) ws (ts ++ more)) ≡ Accepted ws → (st : State) × (onward m (λ js ws. state_from (js ++ is) ws ts) ≡ Some st) in
+    let P : Moved → Type 0 = λ m. after m (Refused (t ∷ ts ++ more)) (λ js ws. run (js ++ is) ws (ts ++ more)) ≡ Accepted ws → (st : ReadState) × (onward m (λ js ws. state_from (js ++ is) ws ts) ≡ Some st) in
     let on : (m : Moved) → P m = λ m. elim m as P [ None ↦ λ e. absurd cc | Some m ↦ λ e. state-of-run ts more (m.0 ++ is) m.1 ws e ] in
     on (step i t vs) e
 
-pub begins : (front : List Text) (st : State) → state_from start [] front ≡ Some st → Begins front
+pub begins : (front : List Text) (st : ReadState) → state_from start [] front ≡ Some st → Begins front
 begins front st e = alive front st.0 st.1 (run-of-state front start [] st e)
 
-stands : (front : List Text) → Begins front → (st : State) × (state_from start [] front ≡ Some st)
+stands : (front : List Text) → Begins front → (st : ReadState) × (state_from start [] front ≡ Some st)
 stands front (more, env, p) = state-of-run front more start [] (VEnv env ∷ []) (exact.read (front ++ more) env p)
 
 pub first_refusal : IsFirst

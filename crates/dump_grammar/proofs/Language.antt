@@ -7,7 +7,7 @@ use Rattle.dump_grammar.specs.declared.keyword.Opening.TheVariants as openings
 use Rattle.dump_grammar.specs.Numbers.{LevelName}
 use Rattle.dump_grammar.specs.Named.{NamedDef}
 use Rattle.dump_grammar.specs.Sorts.{PartForm, SortForm, PropForm, SetForm, TypeForm, parts, sort, sort_meaning}
-use Rattle.dump_grammar.specs.Terms.{Form, FRel, FSort, FProd, FLambda, FLetIn, FApp, FConst, FInd, FConstruct, FCase, FFix, FCast, Forms, NoForm, OneForm, Branches, NoBranchForm, BranchForm, Definitions, NoDefinition, Definition, atoms, form, forms, branches, definitions, meaning, definition_meanings}
+use Rattle.dump_grammar.specs.Terms.{Form, FRel, FSort, FProd, FLambda, FLetIn, FApp, FConst, FInd, FConstruct, FCase, FFix, FCast, Forms, NoForm, OneForm, BranchForms, NoBranchForm, BranchForm, Definitions, NoDefinition, Definition, atoms, form, forms, branches, definitions, meaning, definition_meanings}
 use Rattle.dump_grammar.specs.Declarations.{Binding, CtorForm, FamilyForm, BodyForm, NoneForm, SomeForm, DeclForm, ConstantForm, BlockForm, bindings, constructors, families, body, declaration}
 use Rattle.dump_grammar.specs.Environments.{ConstraintForm, level_names, constraints, declarations}
 use Rattle.dump_grammar.specs.Table.{Value, VSort, VTerm, Action, MakeCase, MakeType, AddBlock, act, Item, IHead, ISort, ITypeHead, IBody, INames, ILevels, IList, IDecls, IDecl, Do, step, Arguments, Terms, Telescope, Constructors, Families, Parts, Constraints, Refused, after, run}
@@ -86,7 +86,7 @@ mutual
   terms-read NoForm k vs r = simp run-step
   terms-read (OneForm f more) k vs r = simp (run-step, form-read f, do-then, terms-read more)
 
-  pub branches-read : (brs : Branches) (k : List Item) (vs : List Value) (r : List Text) → run (IList BranchList ∷ k) vs (branches brs (Close ∷ r)) ≡ run k (act MakeCase (with_branches brs vs)) r
+  pub branches-read : (brs : BranchForms) (k : List Item) (vs : List Value) (r : List Text) → run (IList BranchList ∷ k) vs (branches brs (Close ∷ r)) ≡ run k (act MakeCase (with_branches brs vs)) r
   branches-read NoBranchForm k vs r = simp run-step
   branches-read (BranchForm ns b more) k vs r = simp (run-step, word-is, do-then, names-read, form-read b, branches-read more)
 

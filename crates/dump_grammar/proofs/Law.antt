@@ -13,9 +13,9 @@ use Rattle.dump_grammar.specs.declared.refusal.Limit.TheVariants as limits
 use Rattle.dump_grammar.specs.declared.refusal.ReadRefusal.{ReadRefusal}
 use Rattle.dump_grammar.specs.declared.refusal.ReadRefusal.TheVariants as refusals
 use Rattle.dump_grammar.specs.Named.{NamedEnv}
-use Rattle.dump_grammar.specs.Environments.{Spells}
-use Rattle.dump_grammar.specs.Table.{Value, VEnv, Item, IOpen, IClose, IEnd, IEntryEnd, IWord, IParams, IVersion, IBinder, IName, ILevel, INumber, IAdd, IIndex, IComparison, ISort, ITerm, IHead, IType, ITypeHead, IBody, INames, ILevels, IList, IDecls, IDecl, Do, act, start, Moved, step, after, Outcome, Accepted, Refused, run}
-use Rattle.dump_grammar.specs.Exactness.{IsDead, Meets}
+use Rattle.dump_grammar.specs.Environments.{SpellsEnv}
+use Rattle.dump_grammar.specs.Table.{Value, VEnv, Item, IOpen, IClose, IEnd, IEntryEnd, IWord, IParams, IVersion, IBinder, IName, ILevel, INumber, IAdd, IIndex, IComparison, ISort, ITerm, IHead, IType, ITypeHead, IBody, INames, ILevels, IList, IDecls, IDecl, Do, act, start, Moved, step, after, ReadOutcome, Accepted, Refused, run}
+use Rattle.dump_grammar.specs.Exactness.{IsDead, MeetsTokens}
 use Rattle.dump_grammar.specs.Foreign.{foreign}
 use Rattle.dump_grammar.specs.Limits.{unless, token_over, over}
 use Rattle.dump_grammar.specs.Judge.{texts, Verdict, Fine, Refuse, fault_refusal, lexed, unread, moved, judge, verdict}
@@ -488,13 +488,13 @@ no-memory len tokens e =
     memory-cause len tokens h.front h.rest h.items h.values h.cause
 
 -- no environment is spelled where no text goes on
-unspelled : (tokens front rest : List Spanned) (env : NamedEnv) → tokens ≡ front ++ rest → IsDead (texts front) (texts rest) → Spells (texts tokens) env → ⊥
-unspelled tokens front rest env parts dead p = dead-apart (texts front) (texts rest) env dead (subst (λ ts. Spells ts env) (ap texts parts ∙ texts-append front rest) p)
+unspelled : (tokens front rest : List Spanned) (env : NamedEnv) → tokens ≡ front ++ rest → IsDead (texts front) (texts rest) → SpellsEnv (texts tokens) env → ⊥
+unspelled tokens front rest env parts dead p = dead-apart (texts front) (texts rest) env dead (subst (λ ts. SpellsEnv ts env) (ap texts parts ∙ texts-append front rest) p)
 
-is-fine : (len : ℕ) (tokens : List Spanned) (ws : List Value) → verdict len tokens ≡ Fine ws → (env : NamedEnv) × (ws ≡ VEnv env ∷ []) × Spells (texts tokens) env
-is-fine len tokens ws e = subst (λ (o : Outcome). Meets o (texts tokens)) (accepts len tokens 0 start [] ws e) (exact.outcome (texts tokens))
+is-fine : (len : ℕ) (tokens : List Spanned) (ws : List Value) → verdict len tokens ≡ Fine ws → (env : NamedEnv) × (ws ≡ VEnv env ∷ []) × SpellsEnv (texts tokens) env
+is-fine len tokens ws e = subst (λ (o : ReadOutcome). MeetsTokens o (texts tokens)) (accepts len tokens 0 start [] ws e) (exact.outcome (texts tokens))
 
-is-spelled : (len : ℕ) (tokens : List Spanned) (env : NamedEnv) → Spells (texts tokens) env → (verdict len tokens ≡ Fine (VEnv env ∷ [])) ⊎ ((l : Limit) × (o : ℕ) × (verdict len tokens ≡ Refuse (refusals.Limit l o)))
+is-spelled : (len : ℕ) (tokens : List Spanned) (env : NamedEnv) → SpellsEnv (texts tokens) env → (verdict len tokens ≡ Fine (VEnv env ∷ [])) ⊎ ((l : Limit) × (o : ℕ) × (verdict len tokens ≡ Refuse (refusals.Limit l o)))
 is-spelled len tokens env p =
     let Goal : Type 0 = (verdict len tokens ≡ Fine (VEnv env ∷ [])) ⊎ ((l : Limit) × (o : ℕ) × (verdict len tokens ≡ Refuse (refusals.Limit l o))) in
     let R : ReadRefusal → Type 0 = λ r. verdict len tokens ≡ Refuse r → Goal in

@@ -12,9 +12,9 @@ use Rattle.dump_grammar.specs.declared.keyword.Opening.{Opening}
 use Rattle.dump_grammar.specs.declared.keyword.Opening.TheVariants as openings
 use Rattle.dump_grammar.specs.Numbers.{word, number_of, Numeral, LevelName}
 use Rattle.dump_grammar.specs.Words.{former_of, comparison_of, opening_of}
-use Rattle.dump_grammar.specs.Named.{NamedDef, AProp, AType, Comparison}
+use Rattle.dump_grammar.specs.Named.{NamedDef, AProp, AType, NamedComparison}
 use Rattle.dump_grammar.specs.Sorts.{PartForm, SortForm, PropForm, SetForm, TypeForm, parts, sort, sort_meaning}
-use Rattle.dump_grammar.specs.Terms.{Form, FRel, FSort, FProd, FLambda, FLetIn, FApp, FConst, FInd, FConstruct, FCase, FFix, FCast, Forms, NoForm, OneForm, Branches, NoBranchForm, BranchForm, Definitions, NoDefinition, Definition, atoms, form, forms, branches, definitions, count, meaning, meanings, definition_meanings}
+use Rattle.dump_grammar.specs.Terms.{Form, FRel, FSort, FProd, FLambda, FLetIn, FApp, FConst, FInd, FConstruct, FCase, FFix, FCast, Forms, NoForm, OneForm, BranchForms, NoBranchForm, BranchForm, Definitions, NoDefinition, Definition, atoms, form, forms, branches, definitions, count, meaning, meanings, definition_meanings}
 use Rattle.dump_grammar.specs.Declarations.{Binding, CtorForm, FamilyForm, BodyForm, NoneForm, DeclForm, ConstantForm, BlockForm, bindings, constructors, families, body, declaration}
 use Rattle.dump_grammar.specs.Environments.{ConstraintForm, level_names, constraints, declarations, word_of_comparison}
 use Rattle.dump_grammar.specs.Table.{Value, VNumber, VName, VComparison, VSort, VTerm, VNone, VTerms, MakeType, MakeFix, AddName, NoParts, act, Kind, Arguments, Terms, Telescope, Constructors, Families, Parts, Constraints, Item, IOpen, IClose, IEnd, IEntryEnd, IWord, IParams, IVersion, IBinder, IName, ILevel, INumber, IAdd, IIndex, IComparison, ISort, ITerm, IHead, IType, ITypeHead, IBody, INames, ILevels, IList, IDecls, IDecl, Do, next, finish, row, opened, is_index, at_former, at_opening, at_comparison, at_number, at_index, at_sort, Moved}
@@ -25,7 +25,7 @@ use Rattle.dump_grammar.proofs.Values.{counted, with_levels, with_arguments, wit
 abbrev pub ListThing : Kind → Type 0
 ListThing Arguments = Forms
 ListThing Terms = Forms
-ListThing BranchList = Branches
+ListThing BranchList = BranchForms
 ListThing DefinitionList = (m : ℕ) × Definitions m
 ListThing Telescope = List Binding
 ListThing Constructors = List CtorForm
@@ -63,7 +63,7 @@ Thing ILevel vs = List ℕ
 Thing INumber vs = Numeral
 Thing IAdd vs = Numeral
 Thing IIndex vs = (n : Numeral) × (is_index n.value vs ≡ true)
-Thing IComparison vs = Comparison
+Thing IComparison vs = NamedComparison
 Thing ISort vs = SortForm
 Thing ITerm vs = Form
 Thing IHead vs = Form
@@ -221,7 +221,7 @@ module _ (P : Left) where
       ] in
       on (is_index n vs) refl
 
-  pub comparison-goes : (a : List ℕ) (vs : List Value) (o : Option Comparison) → comparison_of a ≡ o → Goes IComparison (Atom a) vs (at_comparison o vs)
+  pub comparison-goes : (a : List ℕ) (vs : List Value) (o : Option NamedComparison) → comparison_of a ≡ o → Goes IComparison (Atom a) vs (at_comparison o vs)
   comparison-goes a vs None e = tt
   comparison-goes a vs (Some c) e = λ ts p. (c, ts, ap (λ x. Atom x ∷ ts) (comparison-found a c e), p)
 

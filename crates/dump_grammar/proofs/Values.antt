@@ -3,7 +3,7 @@ use Rattle.std.proofs.Common.{◌≡◌, ℕ, suc, ◌+◌, List, [], ◌∷◌,
 use Rattle.dump_grammar.specs.Numbers.{LevelName}
 use Rattle.dump_grammar.specs.Named.{Named, App, NamedBranch, NamedDef, NamedCtor, NamedFamily, NamedConstraint, NamedDecl}
 use Rattle.dump_grammar.specs.Sorts.{PartForm, part_meaning, sort_meaning}
-use Rattle.dump_grammar.specs.Terms.{Forms, NoForm, OneForm, Branches, NoBranchForm, BranchForm, Definitions, NoDefinition, Definition, count, meaning, applied, meanings, branch_meanings, definition_meanings}
+use Rattle.dump_grammar.specs.Terms.{Forms, NoForm, OneForm, BranchForms, NoBranchForm, BranchForm, Definitions, NoDefinition, Definition, count, meaning, applied, meanings, branch_meanings, definition_meanings}
 use Rattle.dump_grammar.specs.Declarations.{Binding, CtorForm, FamilyForm, BodyForm, NoneForm, SomeForm, DeclForm, ConstantForm, BlockForm, binding_meaning, constructor_meaning, family_meaning, declaration_meaning}
 use Rattle.dump_grammar.specs.Environments.{ConstraintForm, level_names, constraint_meaning}
 use Rattle.dump_grammar.specs.Table.{Value, VNumber, VName, VNames, VComparison, VSort, VParts, VTerm, VNone, VTerms, VBranches, VDefs, VTypes, VCtors, VFamilies, VConstraints, VDecls, OneMore, AddName, AddPart, MakeApp, AddTerm, AddBranch, AddDef, AddType, AddCtor, AddFamily, AddConstraint, AddConstant, AddBlock, act}
@@ -24,7 +24,7 @@ unfoldable pub with_terms : Forms → List Value → List Value
 with_terms NoForm vs = vs
 with_terms (OneForm f more) vs = with_terms more (act AddTerm (VTerm (meaning f) ∷ vs))
 
-unfoldable pub with_branches : Branches → List Value → List Value
+unfoldable pub with_branches : BranchForms → List Value → List Value
 with_branches NoBranchForm vs = vs
 with_branches (BranchForm ns b more) vs = with_branches more (act AddBranch (VTerm (meaning b) ∷ counted ns (VNumber 0 ∷ vs)))
 
@@ -95,7 +95,7 @@ unfolding meaning with_terms
 terms-value NoForm ts vs = no_more VTerms vs ts
 terms-value (OneForm f more) ts vs = terms-value more (ts ++ meaning f ∷ []) vs ∙ one_more VTerms vs ts (meaning f) (meanings more)
 
-pub branches-value : (brs : Branches) (bs : List NamedBranch) (vs : List Value) → with_branches brs (VBranches bs ∷ vs) ≡ VBranches (bs ++ branch_meanings brs) ∷ vs
+pub branches-value : (brs : BranchForms) (bs : List NamedBranch) (vs : List Value) → with_branches brs (VBranches bs ∷ vs) ≡ VBranches (bs ++ branch_meanings brs) ∷ vs
 unfolding meaning with_branches
 branches-value NoBranchForm bs vs = no_more VBranches vs bs
 branches-value (BranchForm ns b more) bs vs =

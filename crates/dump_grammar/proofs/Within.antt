@@ -20,13 +20,13 @@ use Rattle.dump_grammar.proofs.Law.{no-stray}
 use Rattle.dump_grammar.specs.Numbers.{word, LevelName}
 use Rattle.dump_grammar.specs.Named.{Named, NamedDef, NamedCtor, NamedFamily, NamedConstraint, NamedDecl}
 use Rattle.dump_grammar.specs.Sorts.{PartForm, SortForm, PropForm, SetForm, TypeForm, parts, sort, sort_meaning}
-use Rattle.dump_grammar.specs.Terms.{Form, FRel, FSort, FProd, FLambda, FLetIn, FApp, FConst, FInd, FConstruct, FCase, FFix, FCast, Forms, NoForm, OneForm, Branches, NoBranchForm, BranchForm, Definitions, NoDefinition, Definition, atoms, form, forms, branches, definitions, meaning, definition_meanings}
+use Rattle.dump_grammar.specs.Terms.{Form, FRel, FSort, FProd, FLambda, FLetIn, FApp, FConst, FInd, FConstruct, FCase, FFix, FCast, Forms, NoForm, OneForm, BranchForms, NoBranchForm, BranchForm, Definitions, NoDefinition, Definition, atoms, form, forms, branches, definitions, meaning, definition_meanings}
 use Rattle.dump_grammar.specs.Declarations.{Binding, CtorForm, FamilyForm, BodyForm, NoneForm, SomeForm, DeclForm, ConstantForm, BlockForm, bindings, constructors, families, body, declaration, binding_meaning, constructor_meaning, family_meaning, declaration_meaning}
 use Rattle.dump_grammar.specs.Environments.{ConstraintForm, level_names, constraints, declarations, constraint_meaning, Dump, dump, env_of}
 use Rattle.dump_grammar.specs.Table.{Value, VNames, VSort, VTerm, VDefs, VTypes, VCtors, VFamilies, VConstraints, VDecls, VEnv, Action, MakeCase, MakeType, AddBlock, NoNames, NoConstraints, NoDecls, MakeEnv, act, Item, IOpen, IClose, IWord, IVersion, IHead, ISort, ITypeHead, IBody, INames, ILevels, IList, IDecls, IDecl, Do, start, Moved, step, Arguments, Terms, Telescope, Constructors, Families, Parts, Constraints, Accepted, Refused, after, run}
 use Rattle.dump_grammar.specs.Table.{Branches as BranchList, Definitions as DefinitionList}
 use Rattle.dump_grammar.specs.Limits.{unless, first, token_over, one_more_over, top_over, is_declaration, begins_declaration, over}
-use Rattle.dump_grammar.specs.Within.{parts_over, sort_over, form_over, forms_over, branches_over, definitions_over, bindings_over, ctors_over, families_over, body_over, declaration_over, declarations_over, levels_over, constraints_over, dump_over, tokens_over, IsWithin, IsLimited}
+use Rattle.dump_grammar.specs.Within.{parts_over, sort_over, form_over, forms_over, branches_over, definitions_over, bindings_over, ctors_over, families_over, body_over, declaration_over, declarations_over, levels_over, constraints_over, dump_over, tokens_over, DumpIsWithin, IsLimited}
 use Rattle.dump_grammar.proofs.Words.{word-is, former-is, comparison-is, opening-is, set-isn't-prop}
 use Rattle.dump_grammar.proofs.Values.{counted, with_arguments, with_terms, with_branches, with_parts, with_body, counted-value, arguments-value, terms-value, branches-value, definitions-number, parts-value}
 use Rattle.dump_grammar.proofs.Language.{index-is}
@@ -108,7 +108,7 @@ mutual
   terms-passed NoForm k vs r = simp passed-step
   terms-passed (OneForm f more) k vs r = simp (passed-step, form-passed f, do-passed, terms-passed more, first-first)
 
-  branches-passed : (brs : Branches) (k : List Item) (vs : List Value) (r : List Text) → passed (IList BranchList ∷ k) vs (branches brs (Close ∷ r)) ≡ first (branches_over brs) (first (top_over (act MakeCase (with_branches brs vs))) (passed k (act MakeCase (with_branches brs vs)) r))
+  branches-passed : (brs : BranchForms) (k : List Item) (vs : List Value) (r : List Text) → passed (IList BranchList ∷ k) vs (branches brs (Close ∷ r)) ≡ first (branches_over brs) (first (top_over (act MakeCase (with_branches brs vs))) (passed k (act MakeCase (with_branches brs vs)) r))
   branches-passed NoBranchForm k vs r = simp passed-step
   branches-passed (BranchForm ns b more) k vs r = simp (passed-step, word-is, do-passed, names-passed, form-passed b, branches-passed more, first-first)
 
@@ -298,12 +298,12 @@ module _ (len : ℕ) where
       let (more, items) = on (step i s.text vs) (over i s.text vs (texts ss)) h in
       (rw token more, items)
 
-within : (len : ℕ) (tokens : List Spanned) (d : Dump) → texts tokens ≡ dump d [] → IsWithin d → verdict len tokens ≡ Fine (VEnv (env_of d) ∷ [])
+within : (len : ℕ) (tokens : List Spanned) (d : Dump) → texts tokens ≡ dump d [] → DumpIsWithin d → verdict len tokens ≡ Fine (VEnv (env_of d) ∷ [])
 within len tokens d e (short, small) =
     let read : run start [] (texts tokens) ≡ Accepted (VEnv (env_of d) ∷ []) = exact.read (texts tokens) (env_of d) (d, e, refl) in
     quiet len tokens 0 start [] (VEnv (env_of d) ∷ []) read (ap (tokens_over 0) e ∙ short, ap (passed start []) e ∙ dump-passed d ∙ small)
 
-only : (len : ℕ) (tokens : List Spanned) (d : Dump) → texts tokens ≡ dump d [] → verdict len tokens ≡ Fine (VEnv (env_of d) ∷ []) → IsWithin d
+only : (len : ℕ) (tokens : List Spanned) (d : Dump) → texts tokens ≡ dump d [] → verdict len tokens ≡ Fine (VEnv (env_of d) ∷ []) → DumpIsWithin d
 only len tokens d e f =
     let (short, small) = loud len tokens 0 start [] (VEnv (env_of d) ∷ []) f in
     (ap (tokens_over 0) (sym e) ∙ short, sym (dump-passed d) ∙ ap (passed start []) (sym e) ∙ small)

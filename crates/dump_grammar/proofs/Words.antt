@@ -9,7 +9,7 @@ use Rattle.dump_grammar.specs.declared.keyword.Former.{Former}
 use Rattle.dump_grammar.specs.declared.keyword.Former.TheVariants as formers
 use Rattle.dump_grammar.specs.declared.keyword.Opening.{Opening}
 use Rattle.dump_grammar.specs.declared.keyword.Opening.TheVariants as openings
-use Rattle.dump_grammar.specs.Named.{Comparison, Less, AtMost, Equal}
+use Rattle.dump_grammar.specs.Named.{NamedComparison, Less, AtMost, Equal}
 use Rattle.dump_grammar.specs.Environments.{word_of_comparison}
 use Rattle.dump_grammar.specs.Words.{find, former_words, former_of, comparison_words, comparison_of, opening_words, opening_of}
 
@@ -53,7 +53,7 @@ former-is formers.Case = refl
 former-is formers.Fix = refl
 former-is formers.Cast = refl
 
-pub comparison-is : (c : Comparison) → comparison_of (spelling (word_of_comparison c)) ≡ Some c
+pub comparison-is : (c : NamedComparison) → comparison_of (spelling (word_of_comparison c)) ≡ Some c
 unfolding comparison_of spelling
 comparison-is Less = refl
 comparison-is AtMost = refl
@@ -89,7 +89,7 @@ pub former-found : (a : List ℕ) (f : Former) → former_of a ≡ Some f → a 
 unfolding former_of
 former-found a f e = found word_of_former former_words a f (refl, (refl, (refl, (refl, (refl, (refl, (refl, (refl, (refl, (refl, (refl, (refl, tt)))))))))))) e
 
-pub comparison-found : (a : List ℕ) (c : Comparison) → comparison_of a ≡ Some c → a ≡ spelling (word_of_comparison c)
+pub comparison-found : (a : List ℕ) (c : NamedComparison) → comparison_of a ≡ Some c → a ≡ spelling (word_of_comparison c)
 unfolding comparison_of
 comparison-found a c e = found word_of_comparison comparison_words a c (refl, (refl, (refl, tt))) e
 

@@ -6,11 +6,11 @@ use Rattle.dump_grammar.specs.declared.keyword.Keyword.TheVariants as words
 use Rattle.dump_grammar.specs.Numbers.{word, LevelName}
 use Rattle.dump_grammar.specs.Terms.{Form, form, meaning, atoms}
 use Rattle.dump_grammar.specs.Declarations.{DeclForm, declaration, declaration_meaning}
-use Rattle.dump_grammar.specs.Named.{Comparison, Less, AtMost, Equal, NamedConstraint, NamedEnv}
+use Rattle.dump_grammar.specs.Named.{NamedComparison, Less, AtMost, Equal, NamedConstraint, NamedEnv}
 
 -- `(lt l l)`, `(le l l)`, `(eq l l)`
 pub record ConstraintForm : Type 0 where
-  pub relation : Comparison
+  pub relation : NamedComparison
   pub left : List ℕ
   pub right : List ℕ
 
@@ -22,7 +22,7 @@ pub record Dump : Type 0 where
 
 -- ---- the tokens
 
-abbrev pub word_of_comparison : Comparison → Keyword
+abbrev pub word_of_comparison : NamedComparison → Keyword
 word_of_comparison Less = words.Lt
 word_of_comparison AtMost = words.Le
 word_of_comparison Equal = words.Eq
@@ -59,5 +59,5 @@ abbrev pub env_of : Dump → NamedEnv
 env_of d = record { levels = level_names d.levels; constraints = map constraint_meaning d.constraints; decls = map declaration_meaning d.decls; main = meaning d.main }
 
 -- These tokens spell this environment.
-abbrev pub Spells : List Text → NamedEnv → Type 0
-Spells tokens env = (d : Dump) × (tokens ≡ dump d []) × (env ≡ env_of d)
+abbrev pub SpellsEnv : List Text → NamedEnv → Type 0
+SpellsEnv tokens env = (d : Dump) × (tokens ≡ dump d []) × (env ≡ env_of d)

@@ -2,16 +2,16 @@
 use Rattle.std.specs.Prelude.{◌≡◌, List, [], ◌∷◌, ◌++◌}
 use Rattle.sexp_reader.specs.Text.{Text}
 use Rattle.dump_grammar.specs.Named.{NamedEnv}
-use Rattle.dump_grammar.specs.Environments.{Spells}
-use Rattle.dump_grammar.specs.Table.{VEnv, Outcome, Accepted, Refused, run, start}
+use Rattle.dump_grammar.specs.Environments.{SpellsEnv}
+use Rattle.dump_grammar.specs.Table.{VEnv, ReadOutcome, Accepted, Refused, run, start}
 
 -- some text's tokens begin with these
 abbrev pub Begins : List Text → Type 0
-Begins front = (more : List Text) × (env : NamedEnv) × Spells (front ++ more) env
+Begins front = (more : List Text) × (env : NamedEnv) × SpellsEnv (front ++ more) env
 
 -- Nothing begins with the tokens up to the first of the rest; where nothing is left, the tokens are no text.
 abbrev pub IsDead : List Text → List Text → Type 0
-IsDead front [] = (env : NamedEnv) → Spells front env → ⊥
+IsDead front [] = (env : NamedEnv) → SpellsEnv front env → ⊥
 IsDead front (t ∷ rest) = Begins (front ++ t ∷ []) → ⊥
 
 -- The rest begins where the first token stands at which no text goes on.
@@ -21,12 +21,12 @@ pub record StopsAt (tokens rest : List Text) : Type 0 where
   pub begins : Begins front
   pub dead : IsDead front rest
 
-abbrev pub Meets : Outcome → List Text → Type 0
-Meets (Accepted vs) tokens = (env : NamedEnv) × (vs ≡ VEnv env ∷ []) × Spells tokens env
-Meets (Refused rest) tokens = StopsAt tokens rest
+abbrev pub MeetsTokens : ReadOutcome → List Text → Type 0
+MeetsTokens (Accepted vs) tokens = (env : NamedEnv) × (vs ≡ VEnv env ∷ []) × SpellsEnv tokens env
+MeetsTokens (Refused rest) tokens = StopsAt tokens rest
 
 -- Reading gives what the tokens spell, or stops at the first token that no text goes on with; and a text has one meaning.
 pub record IsExact : Type 0 where
-  pub outcome : (tokens : List Text) → Meets (run start [] tokens) tokens
-  pub read : (tokens : List Text) (env : NamedEnv) → Spells tokens env → run start [] tokens ≡ Accepted (VEnv env ∷ [])
-  pub one_meaning : (tokens : List Text) (a b : NamedEnv) → Spells tokens a → Spells tokens b → a ≡ b
+  pub outcome : (tokens : List Text) → MeetsTokens (run start [] tokens) tokens
+  pub read : (tokens : List Text) (env : NamedEnv) → SpellsEnv tokens env → run start [] tokens ≡ Accepted (VEnv env ∷ [])
+  pub one_meaning : (tokens : List Text) (a b : NamedEnv) → SpellsEnv tokens a → SpellsEnv tokens b → a ≡ b

@@ -20,15 +20,15 @@ nesting_of d [] = d
 nesting_of d (s ∷ ss) = nesting_of (nesting_after_text d s.text) ss
 
 -- the items that may come next, and the values
-abbrev pub State : Type 0
-State = List Item × List Value
+abbrev pub ReadState : Type 0
+ReadState = List Item × List Value
 
-abbrev pub onward : Moved → (List Item → List Value → Option State) → Option State
+abbrev pub onward : Moved → (List Item → List Value → Option ReadState) → Option ReadState
 onward None go = None
 onward (Some m) go = go m.0 m.1
 
 -- the state after these tokens, if each of them may come where it stands
-unfoldable pub state_from : List Item → List Value → List Text → Option State
+unfoldable pub state_from : List Item → List Value → List Text → Option ReadState
 state_from is vs [] = Some (is, vs)
 state_from [] vs (t ∷ ts) = None
 state_from (i ∷ is) vs (t ∷ ts) = onward (step i t vs) (λ js ws. state_from (js ++ is) ws ts)
@@ -48,7 +48,7 @@ answer_refusal (Ok o) r = r
 answer_refusal (Err f) r = Some (fault_refusal f)
 
 -- what a token refuses
-abbrev pub token_refusal : (nesting : ℕ) → Spanned → (after : List Spanned) → State → Option ReadRefusal
+abbrev pub token_refusal : (nesting : ℕ) → Spanned → (after : List Spanned) → ReadState → Option ReadRefusal
 token_refusal d s ss st = answer_refusal (answer_at d s.start s.text) (items_refusal st.0 s st.1 (texts ss))
 
 -- the end of the text refuses where something more may come
@@ -56,11 +56,11 @@ abbrev pub end_refusal : (len : ℕ) → List Item → Option ReadRefusal
 end_refusal len [] = None
 end_refusal len (i ∷ is) = Some (refusals.Syntax len)
 
-abbrev pub rest_refusal : (len nesting : ℕ) → (rest : List Spanned) → State → Option ReadRefusal
+abbrev pub rest_refusal : (len nesting : ℕ) → (rest : List Spanned) → ReadState → Option ReadRefusal
 rest_refusal len d [] st = end_refusal len st.0
 rest_refusal len d (s ∷ ss) st = token_refusal d s ss st
 
-abbrev pub on_state : Option State → (State → Option ReadRefusal) → Option ReadRefusal
+abbrev pub on_state : Option ReadState → (ReadState → Option ReadRefusal) → Option ReadRefusal
 on_state None go = None
 on_state (Some st) go = go st
 
@@ -80,14 +80,14 @@ pub record IsFirstRefusal (len : ℕ) (tokens : List Spanned) (r : ReadRefusal) 
   pub front : List Spanned
   pub rest : List Spanned
   pub parts : tokens ≡ front ++ rest
-  pub stands : (st : State) × (state_from start [] (texts front) ≡ Some st)
+  pub stands : (st : ReadState) × (state_from start [] (texts front) ≡ Some st)
   pub arises : refusal_at len front rest ≡ Some r
   pub nothing_before : NothingBefore front rest
 
 pub record IsFirst : Type 0 where
   -- A state stands exactly behind the tokens that some text begins with.
-  pub begins : (front : List Text) (st : State) → state_from start [] front ≡ Some st → Begins front
-  pub stands : (front : List Text) → Begins front → (st : State) × (state_from start [] front ≡ Some st)
+  pub begins : (front : List Text) (st : ReadState) → state_from start [] front ≡ Some st → Begins front
+  pub stands : (front : List Text) → Begins front → (st : ReadState) × (state_from start [] front ≡ Some st)
   -- The verdict refuses exactly with the first refusal.
   pub refuses : (len : ℕ) (tokens : List Spanned) (r : ReadRefusal) → verdict len tokens ≡ Refuse r → IsFirstRefusal len tokens r
   pub refused : (len : ℕ) (tokens : List Spanned) (r : ReadRefusal) → IsFirstRefusal len tokens r → verdict len tokens ≡ Refuse r

@@ -6,7 +6,7 @@ use Rattle.dump_grammar.specs.declared.refusal.Foreign.{Foreign}
 use Rattle.dump_grammar.specs.declared.refusal.Limit.{Limit}
 use Rattle.dump_grammar.specs.declared.refusal.ReadRefusal.TheVariants as refusals
 use Rattle.dump_grammar.specs.Named.{NamedEnv}
-use Rattle.dump_grammar.specs.Environments.{Spells}
+use Rattle.dump_grammar.specs.Environments.{SpellsEnv}
 use Rattle.dump_grammar.specs.Table.{Value, VEnv, Item, start, step}
 use Rattle.dump_grammar.specs.Exactness.{Begins, IsDead}
 use Rattle.dump_grammar.specs.Foreign.{foreign}
@@ -75,7 +75,7 @@ pub record LimitAt (tokens : List Spanned) (which : Limit) (offset : ℕ) : Type
 
 pub record IsJudged : Type 0 where
   -- what is accepted is spelled
-  pub fine : (len : ℕ) (tokens : List Spanned) (values : List Value) → verdict len tokens ≡ Fine values → (env : NamedEnv) × (values ≡ VEnv env ∷ []) × Spells (texts tokens) env
+  pub fine : (len : ℕ) (tokens : List Spanned) (values : List Value) → verdict len tokens ≡ Fine values → (env : NamedEnv) × (values ≡ VEnv env ∷ []) × SpellsEnv (texts tokens) env
   -- each refusal stands where its cause is
   pub syntax : (len : ℕ) (tokens : List Spanned) (offset : ℕ) → verdict len tokens ≡ Refuse (refusals.Syntax offset) → SyntaxAt len tokens offset
   pub unsupported : (len : ℕ) (tokens : List Spanned) (what : Foreign) (offset : ℕ) → verdict len tokens ≡ Refuse (refusals.Unsupported what offset) → UnsupportedAt tokens what offset
@@ -86,5 +86,5 @@ pub record IsJudged : Type 0 where
   -- want of memory is no refusal of a text
   pub memory : (len : ℕ) (tokens : List Spanned) → verdict len tokens ≡ Refuse refusals.Memory → ⊥
   -- what is spelled is accepted, or passes a limit
-  pub spelled : (len : ℕ) (tokens : List Spanned) (env : NamedEnv) → Spells (texts tokens) env →
+  pub spelled : (len : ℕ) (tokens : List Spanned) (env : NamedEnv) → SpellsEnv (texts tokens) env →
       (verdict len tokens ≡ Fine (VEnv env ∷ [])) ⊎ ((which : Limit) × (offset : ℕ) × (verdict len tokens ≡ Refuse (refusals.Limit which offset)))

@@ -85,14 +85,14 @@ unfoldable mutual
 
 -- ---- environments
 
-pub data Comparison : Type 0 where
-  Less : Comparison
-  AtMost : Comparison
-  Equal : Comparison
+pub data NamedComparison : Type 0 where
+  Less : NamedComparison
+  AtMost : NamedComparison
+  Equal : NamedComparison
 
 pub record NamedConstraint : Type 0 where
   pub left : List ℕ
-  pub relation : Comparison
+  pub relation : NamedComparison
   pub right : List ℕ
 
 -- Telescopes are the types alone, from the first to the last.

@@ -10,7 +10,7 @@ use Rattle.dump_grammar.specs.declared.keyword.Opening.{Opening}
 use Rattle.dump_grammar.specs.declared.keyword.Opening.TheVariants as openings
 use Rattle.dump_grammar.specs.Words.{former_of, comparison_of, opening_of}
 use Rattle.dump_grammar.specs.Numbers.{number_of}
-use Rattle.dump_grammar.specs.Named.{NamedSort, AProp, AType, Named, Rel, Sort, Prod, Lambda, LetIn, App, Const, Ind, Construct, Case, Fix, NamedBranch, NamedDef, terms_of, branches_of, defs_of, Comparison, NamedConstraint, NamedCtor, NamedFamily, NamedDecl, Constant, Block, NamedEnv}
+use Rattle.dump_grammar.specs.Named.{NamedSort, AProp, AType, Named, Rel, Sort, Prod, Lambda, LetIn, App, Const, Ind, Construct, Case, Fix, NamedBranch, NamedDef, terms_of, branches_of, defs_of, NamedComparison, NamedConstraint, NamedCtor, NamedFamily, NamedDecl, Constant, Block, NamedEnv}
 use Rattle.dump_grammar.specs.Terms.{cast}
 
 -- what has been read and not yet used, the newest first
@@ -18,7 +18,7 @@ pub data Value : Type 0 where
   VNumber : ℕ → Value
   VName : List ℕ → Value
   VNames : List (List ℕ) → Value
-  VComparison : Comparison → Value
+  VComparison : NamedComparison → Value
   VSort : NamedSort → Value
   VParts : List (List ℕ × ℕ) → Value
   VTerm : Named → Value
@@ -232,7 +232,7 @@ abbrev pub at_opening : Option Opening → List Value → Moved
 at_opening None vs = None
 at_opening (Some o) vs = Some (opened o, vs)
 
-abbrev pub at_comparison : Option Comparison → List Value → Moved
+abbrev pub at_comparison : Option NamedComparison → List Value → Moved
 at_comparison None vs = None
 at_comparison (Some c) vs = Some ([], VComparison c ∷ vs)
 
@@ -291,16 +291,16 @@ step (Do d i) t vs = step i t (act d vs)
 step _ _ vs = None
 
 -- how reading ends
-pub data Outcome : Type 0 where
-  Accepted : List Value → Outcome
+pub data ReadOutcome : Type 0 where
+  Accepted : List Value → ReadOutcome
   -- nothing may come where the rest begins
-  Refused : (rest : List Text) → Outcome
+  Refused : (rest : List Text) → ReadOutcome
 
-abbrev pub after : Moved → (nothing : Outcome) → (List Item → List Value → Outcome) → Outcome
+abbrev pub after : Moved → (nothing : ReadOutcome) → (List Item → List Value → ReadOutcome) → ReadOutcome
 after None nothing go_on = nothing
 after (Some m) nothing go_on = go_on m.0 m.1
 
-unfoldable pub run : List Item → List Value → List Text → Outcome
+unfoldable pub run : List Item → List Value → List Text → ReadOutcome
 run [] vs [] = Accepted vs
 run [] vs (t ∷ ts) = Refused (t ∷ ts)
 run (i ∷ is) vs [] = Refused []

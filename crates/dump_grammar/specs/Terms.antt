@@ -18,7 +18,7 @@ mutual
     FConst : (k : List ℕ) → Form
     FInd : (k : List ℕ) (n : Numeral) → Form
     FConstruct : (k : List ℕ) (n c : Numeral) → Form
-    FCase : (k : List ℕ) (n : Numeral) (params : Forms) (names : List (List ℕ)) (ret scrut : Form) (branches : Branches) → Form
+    FCase : (k : List ℕ) (n : Numeral) (params : Forms) (names : List (List ℕ)) (ret scrut : Form) (branches : BranchForms) → Form
     -- the index is below the number of definitions
     FFix : {m : ℕ} (na : List ℕ) (A b : Form) (rarg : Numeral) (more : Definitions m) (index : Numeral) (below : nat_lt index.value (suc m) ≡ true) → Form
     FCast : (t : Form) (kind : List ℕ) (T : Form) → Form
@@ -27,9 +27,9 @@ mutual
     NoForm : Forms
     OneForm : (f : Form) (more : Forms) → Forms
 
-  pub data Branches : Type 0 where
-    NoBranchForm : Branches
-    BranchForm : (names : List (List ℕ)) (body : Form) (more : Branches) → Branches
+  pub data BranchForms : Type 0 where
+    NoBranchForm : BranchForms
+    BranchForm : (names : List (List ℕ)) (body : Form) (more : BranchForms) → BranchForms
 
   -- so many definitions
   pub data Definitions : ℕ → Type 0 where
@@ -66,7 +66,7 @@ unfoldable mutual
   forms NoForm after = after
   forms (OneForm f more) after = Open ∷ form f (forms more after)
 
-  pub branches : Branches → List Text → List Text
+  pub branches : BranchForms → List Text → List Text
   branches NoBranchForm after = after
   branches (BranchForm names body more) after = Open ∷ word words.Branch ∷ Open ∷ atoms names (Close ∷ Open ∷ form body (Close ∷ branches more after))
 
@@ -106,7 +106,7 @@ unfoldable mutual
   meanings NoForm = []
   meanings (OneForm f more) = meaning f ∷ meanings more
 
-  pub branch_meanings : Branches → List NamedBranch
+  pub branch_meanings : BranchForms → List NamedBranch
   branch_meanings NoBranchForm = []
   branch_meanings (BranchForm names body more) = record { binders = count names 0; body = meaning body } ∷ branch_meanings more
 

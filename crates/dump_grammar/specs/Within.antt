@@ -6,7 +6,7 @@ use Rattle.dump_grammar.specs.declared.refusal.Limit.{Limit}
 use Rattle.dump_grammar.specs.declared.refusal.Limit.TheVariants as limits
 use Rattle.dump_grammar.specs.Numbers.{LevelName}
 use Rattle.dump_grammar.specs.Sorts.{PartForm, SortForm, PropForm, SetForm, TypeForm}
-use Rattle.dump_grammar.specs.Terms.{Form, FRel, FSort, FProd, FLambda, FLetIn, FApp, FConst, FInd, FConstruct, FCase, FFix, FCast, Forms, NoForm, OneForm, Branches, NoBranchForm, BranchForm, Definitions, NoDefinition, Definition, meaning}
+use Rattle.dump_grammar.specs.Terms.{Form, FRel, FSort, FProd, FLambda, FLetIn, FApp, FConst, FInd, FConstruct, FCase, FFix, FCast, Forms, NoForm, OneForm, BranchForms, NoBranchForm, BranchForm, Definitions, NoDefinition, Definition, meaning}
 use Rattle.dump_grammar.specs.Declarations.{Binding, CtorForm, FamilyForm, BodyForm, NoneForm, SomeForm, DeclForm, ConstantForm, BlockForm}
 use Rattle.dump_grammar.specs.Environments.{ConstraintForm, Dump, dump, env_of}
 use Rattle.dump_grammar.specs.Limits.{first, token_over, number_over, add_over, depth_over, one_more_over}
@@ -44,7 +44,7 @@ unfoldable mutual
   forms_over NoForm = None
   forms_over (OneForm f more) = first (form_over f) (forms_over more)
 
-  pub branches_over : Branches → Option Limit
+  pub branches_over : BranchForms → Option Limit
   branches_over NoBranchForm = None
   branches_over (BranchForm names b more) = first (form_over b) (branches_over more)
 
@@ -101,10 +101,10 @@ unfoldable pub tokens_over : (nesting : ℕ) → List Text → Option Limit
 tokens_over d [] = None
 tokens_over d (t ∷ ts) = first (token_over d t) (tokens_over (nesting_after_text d t) ts)
 
-abbrev pub IsWithin : Dump → Type 0
-IsWithin d = (tokens_over 0 (dump d []) ≡ None) × (dump_over d ≡ None)
+abbrev pub DumpIsWithin : Dump → Type 0
+DumpIsWithin d = (tokens_over 0 (dump d []) ≡ None) × (dump_over d ≡ None)
 
 -- Exactly what is within the limits is accepted.
 pub record IsLimited : Type 0 where
-  pub within : (len : ℕ) (tokens : List Spanned) (d : Dump) → texts tokens ≡ dump d [] → IsWithin d → verdict len tokens ≡ Fine (VEnv (env_of d) ∷ [])
-  pub only : (len : ℕ) (tokens : List Spanned) (d : Dump) → texts tokens ≡ dump d [] → verdict len tokens ≡ Fine (VEnv (env_of d) ∷ []) → IsWithin d
+  pub within : (len : ℕ) (tokens : List Spanned) (d : Dump) → texts tokens ≡ dump d [] → DumpIsWithin d → verdict len tokens ≡ Fine (VEnv (env_of d) ∷ [])
+  pub only : (len : ℕ) (tokens : List Spanned) (d : Dump) → texts tokens ≡ dump d [] → verdict len tokens ≡ Fine (VEnv (env_of d) ∷ []) → DumpIsWithin d

@@ -9,7 +9,7 @@ use Rattle.dump_grammar.specs.declared.keyword.Opening.{Opening}
 use Rattle.dump_grammar.specs.declared.keyword.Opening.TheVariants as openings
 use Rattle.dump_grammar.specs.declared.refusal.Foreign.{Foreign}
 use Rattle.dump_grammar.specs.declared.refusal.Foreign.TheVariants as foreigns
-use Rattle.dump_grammar.specs.Named.{Comparison, Less, AtMost, Equal}
+use Rattle.dump_grammar.specs.Named.{NamedComparison, Less, AtMost, Equal}
 
 -- what stands beside the word, in the first row that has it
 abbrev pub find : {X : Type 0} → List ℕ → List (Keyword × X) → Option X
@@ -53,10 +53,10 @@ unfoldable pub foreign_of : List ℕ → Option Foreign
 foreign_of a = find a foreign_words
 
 -- what stands between the levels of a constraint
-abbrev pub comparison_words : List (Keyword × Comparison)
+abbrev pub comparison_words : List (Keyword × NamedComparison)
 comparison_words = (words.Lt, Less) ∷ (words.Le, AtMost) ∷ (words.Eq, Equal) ∷ []
 
-unfoldable pub comparison_of : List ℕ → Option Comparison
+unfoldable pub comparison_of : List ℕ → Option NamedComparison
 comparison_of a = find a comparison_words
 
 -- what begins after the constraints

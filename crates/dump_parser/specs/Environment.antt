@@ -15,12 +15,12 @@ use Rattle.dump_parser.specs.declared.environment.DeclTree.TheVariants as decls
 use Rattle.dump_parser.specs.declared.environment.EnvTree.{EnvTree}
 use Rattle.dump_parser.specs.Tree.{named_sort}
 
-abbrev pub named_relation : Relation → g.Comparison
+abbrev pub named_relation : Relation → g.NamedComparison
 named_relation relations.Less = g.Less
 named_relation relations.AtMost = g.AtMost
 named_relation relations.Equal = g.Equal
 
-abbrev pub comparison : Option Relation → Option g.Comparison
+abbrev pub comparison : Option Relation → Option g.NamedComparison
 comparison None = None
 comparison (Some r) = Some (named_relation r)
 

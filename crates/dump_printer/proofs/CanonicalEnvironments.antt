@@ -6,7 +6,7 @@ use Rattle.dump_grammar.specs.Keywords.{spelling}
 use Rattle.dump_grammar.specs.declared.keyword.Keyword.TheVariants as words
 use Rattle.dump_grammar.specs.Numbers.{word, LevelName}
 use Rattle.dump_grammar.specs.Numbering.{place_of}
-use Rattle.dump_grammar.specs.Named.{Comparison, Less, AtMost, Equal}
+use Rattle.dump_grammar.specs.Named.{NamedComparison, Less, AtMost, Equal}
 use Rattle.dump_grammar.specs.Sorts.{sort_meaning}
 use Rattle.dump_grammar.specs.Terms.{Form, Forms, NoForm, OneForm, form, forms, meaning, meanings, atoms}
 use Rattle.dump_grammar.specs.Declarations.{Binding, CtorForm, FamilyForm, BodyForm, NoneForm, SomeForm, DeclForm, ConstantForm, BlockForm, bindings, constructors, families, body, declaration, binding_meaning, constructor_meaning, family_meaning, body_meaning, declaration_meaning}
@@ -23,7 +23,7 @@ use Rattle.dump_printer.proofs.CanonicalTokens.{tokens, sort-tokens, small-sort}
 use Rattle.dump_printer.proofs.Normal.{normal, sort-meaning, canon-meaning}
 use Rattle.dump_printer.proofs.NormalEnvironments.{normal_ctor, normal_family, normal_decl, normal_env}
 
-relation-word : (k : Comparison) → c.word_of (relation_of k) ≡ word_of_comparison k
+relation-word : (k : NamedComparison) → c.word_of (relation_of k) ≡ word_of_comparison k
 relation-word Less = refl
 relation-word AtMost = refl
 relation-word Equal = refl

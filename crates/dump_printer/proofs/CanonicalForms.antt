@@ -10,7 +10,7 @@ use Rattle.universe_levels.specs.declared.sort.Sort.TheVariants as sorts
 use Rattle.dump_grammar.specs.Numbers.{Numeral}
 use Rattle.dump_grammar.specs.Numbering.{is_in, place_of}
 use Rattle.dump_grammar.specs.Sorts.{PartForm, SortForm, PropForm, SetForm, TypeForm, sort_meaning}
-use Rattle.dump_grammar.specs.Terms.{Form, FRel, FSort, FProd, FLambda, FLetIn, FApp, FConst, FInd, FConstruct, FCase, FFix, FCast, Forms, NoForm, OneForm, Branches, NoBranchForm, BranchForm, Definitions, NoDefinition, Definition, atoms, count}
+use Rattle.dump_grammar.specs.Terms.{Form, FRel, FSort, FProd, FLambda, FLetIn, FApp, FConst, FInd, FConstruct, FCase, FFix, FCast, Forms, NoForm, OneForm, BranchForms, NoBranchForm, BranchForm, Definitions, NoDefinition, Definition, atoms, count}
 use Rattle.dump_reader.specs.Numbered.{numbered_sort}
 use Rattle.dump_printer.specs.CanonicalTerms.{or_empty, text_of, anonymous, anonymous_names, is_set}
 use Rattle.dump_printer.proofs.Decimals.{decimal-read, decimal-is}
@@ -115,7 +115,7 @@ module _ (ls : List (List ℕ)) where
     canon_forms NoForm args = args
     canon_forms (OneForm f more) args = OneForm (canon f NoForm) (canon_forms more args)
 
-    pub canon_branches : Branches → Branches
+    pub canon_branches : BranchForms → BranchForms
     canon_branches NoBranchForm = NoBranchForm
     canon_branches (BranchForm names b more) = BranchForm (blanks names) (canon b NoForm) (canon_branches more)
 

@@ -14,7 +14,7 @@ use Rattle.dump_grammar.specs.declared.refusal.Limit.TheVariants as limits
 use Rattle.dump_grammar.specs.Limits.{unless, first, number_over, add_over, depth_over}
 use Rattle.dump_grammar.specs.Named.{Named, Rel, Sort, Prod, Lambda, LetIn, App, Const, Ind, Construct, Case, Fix, NamedTerms, NoTerm, OneTerm, NamedBranches, NoBranch, OneBranch, NamedDefs, NoDef, OneDef, terms_of, branches_of, defs_of, depth, depth_terms, depth_branches, depth_defs}
 use Rattle.dump_grammar.specs.Sorts.{PartForm, SortForm, PropForm, SetForm, TypeForm, sort_meaning, part_meaning}
-use Rattle.dump_grammar.specs.Terms.{Form, FRel, FSort, FProd, FLambda, FLetIn, FApp, FConst, FInd, FConstruct, FCase, FFix, FCast, Forms, NoForm, OneForm, Branches, NoBranchForm, BranchForm, Definitions, NoDefinition, Definition, meaning, meanings, branch_meanings, definition_meanings, applied}
+use Rattle.dump_grammar.specs.Terms.{Form, FRel, FSort, FProd, FLambda, FLetIn, FApp, FConst, FInd, FConstruct, FCase, FFix, FCast, Forms, NoForm, OneForm, BranchForms, NoBranchForm, BranchForm, Definitions, NoDefinition, Definition, meaning, meanings, branch_meanings, definition_meanings, applied}
 use Rattle.dump_grammar.specs.Within.{parts_over, sort_over, form_over, forms_over, branches_over, definitions_over, tokens_over}
 use Rattle.dump_reader.specs.Numbered.{level_part, numbered_sort}
 use Rattle.dump_printer.specs.CanonicalTerms.{text_of, is_set}
@@ -268,7 +268,7 @@ module _ (ls : List (List ℕ)) where
       forms-over NoForm h o args k = k
       forms-over (OneForm f more) h o args k = (let x = both _ _ o in join _ _ (canon-over f h.0 x.0).0 (forms-over more h.1 x.1 args k))
 
-      branches-over : (brs : Branches) → FitBranches ns ls (branches_of (branch_meanings brs)) → branches_over brs ≡ None → branches_over (canon_branches ls brs) ≡ None
+      branches-over : (brs : BranchForms) → FitBranches ns ls (branches_of (branch_meanings brs)) → branches_over brs ≡ None → branches_over (canon_branches ls brs) ≡ None
       branches-over NoBranchForm h o = refl
       branches-over (BranchForm names b more) h o = (let x = both _ _ o in join _ _ (canon-over b h.0 x.0).0 (branches-over more h.1 x.1))
 

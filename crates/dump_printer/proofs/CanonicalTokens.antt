@@ -13,7 +13,7 @@ use Rattle.dump_grammar.specs.Numbers.{word}
 use Rattle.dump_grammar.specs.Named.{Named, App, terms_of, branches_of, defs_of}
 use Rattle.dump_grammar.specs.Sorts.{SortForm, PropForm, SetForm, TypeForm, sort_meaning, part_meaning, parts}
 use Rattle.dump_grammar.specs.Sorts as grammar
-use Rattle.dump_grammar.specs.Terms.{Form, FRel, FSort, FProd, FLambda, FLetIn, FApp, FConst, FInd, FConstruct, FCase, FFix, FCast, Forms, NoForm, OneForm, Branches, NoBranchForm, BranchForm, Definitions, NoDefinition, Definition, atoms, form, forms, meaning, meanings, branch_meanings, definition_meanings, applied, count}
+use Rattle.dump_grammar.specs.Terms.{Form, FRel, FSort, FProd, FLambda, FLetIn, FApp, FConst, FInd, FConstruct, FCase, FFix, FCast, Forms, NoForm, OneForm, BranchForms, NoBranchForm, BranchForm, Definitions, NoDefinition, Definition, atoms, form, forms, meaning, meanings, branch_meanings, definition_meanings, applied, count}
 use Rattle.dump_grammar.specs.Terms as g
 use Rattle.dump_reader.specs.Numbered.{level_part, numbered_sort, numbered_term, numbered_terms, numbered_branches, numbered_types, numbered_bodies, recursive_arguments}
 use Rattle.dump_printer.specs.CanonicalTerms.{text_of, each, is_set, part, sort, term, terms, branches, pieces, definitions}
@@ -167,7 +167,7 @@ module _ (ns ls : List (List ℕ)) where
     terms-tokens NoForm h after = refl
     terms-tokens (OneForm f more) h after = simp ((tokens f h.0).0, terms-tokens more h.1)
 
-    branches-tokens : (brs : Branches) → FitBranches ns ls (branches_of (branch_meanings brs)) → (after : List Text) →
+    branches-tokens : (brs : BranchForms) → FitBranches ns ls (branches_of (branch_meanings brs)) → (after : List Text) →
         branches ns ls (numbered_branches ns ls (branches_of (branch_meanings brs))) after ≡ g.branches (canon_branches ls brs) after
     branches-tokens NoBranchForm h after = refl
     branches-tokens (BranchForm names b more) h after = simp (blanks-tokens names, (tokens b h.0).0, branches-tokens more h.1)

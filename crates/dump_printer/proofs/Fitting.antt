@@ -10,7 +10,7 @@ use Rattle.dump_grammar.specs.Numbering.{is_in}
 use Rattle.dump_grammar.specs.Named.{Named, App, terms_of, branches_of, defs_of}
 use Rattle.dump_grammar.specs.Numbers.{LevelName}
 use Rattle.dump_grammar.specs.Sorts.{PartForm, SortForm, PropForm, SetForm, TypeForm, sort_meaning, part_meaning}
-use Rattle.dump_grammar.specs.Terms.{Form, FRel, FSort, FProd, FLambda, FLetIn, FApp, FConst, FInd, FConstruct, FCase, FFix, FCast, Forms, NoForm, OneForm, Branches, NoBranchForm, BranchForm, Definitions, NoDefinition, Definition, meaning, meanings, branch_meanings, definition_meanings, applied}
+use Rattle.dump_grammar.specs.Terms.{Form, FRel, FSort, FProd, FLambda, FLetIn, FApp, FConst, FInd, FConstruct, FCase, FFix, FCast, Forms, NoForm, OneForm, BranchForms, NoBranchForm, BranchForm, Definitions, NoDefinition, Definition, meaning, meanings, branch_meanings, definition_meanings, applied}
 use Rattle.dump_grammar.specs.Declarations.{Binding, CtorForm, FamilyForm, BodyForm, NoneForm, SomeForm, DeclForm, ConstantForm, BlockForm, binding_meaning, constructor_meaning, family_meaning, body_meaning, declaration_meaning}
 use Rattle.dump_grammar.specs.Environments.{ConstraintForm, Dump, level_names, constraint_meaning, env_of}
 use Rattle.dump_grammar.specs.Uses.{names, names_of_terms, names_of_branches, names_of_defs, names_of_option, names_of_ctor, names_of_family, names_of_decl, levels, levels_of_terms, levels_of_branches, levels_of_defs, level_of_part, levels_of_sort, levels_of_option, levels_of_ctor, levels_of_family, levels_of_decl, levels_of_constraint, one_use, each, name_uses, level_uses}
@@ -176,7 +176,7 @@ module _ (ns ls : List (List ℕ)) where
         let on_more = terms-fit more x.1 us vs on_f.1 on_f.2 in
         ((on_f.0, on_more.0), on_more.1, on_more.2)
 
-    branches-fit : (brs : Branches) → branches_over brs ≡ None → (us vs : List (List ℕ)) → AreIn (names_of_branches (branches_of (branch_meanings brs)) us) ns → AreIn (levels_of_branches (branches_of (branch_meanings brs)) vs) ls → All (FitBranches ns ls (branches_of (branch_meanings brs))) us vs
+    branches-fit : (brs : BranchForms) → branches_over brs ≡ None → (us vs : List (List ℕ)) → AreIn (names_of_branches (branches_of (branch_meanings brs)) us) ns → AreIn (levels_of_branches (branches_of (branch_meanings brs)) vs) ls → All (FitBranches ns ls (branches_of (branch_meanings brs))) us vs
     branches-fit NoBranchForm o us vs u v = (tt, u, v)
     branches-fit (BranchForm ms b more) o us vs u v =
         let x = both _ _ o in

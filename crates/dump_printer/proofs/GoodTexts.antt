@@ -10,7 +10,7 @@ use Rattle.dump_grammar.specs.Numbering.{is_in}
 use Rattle.dump_grammar.specs.Named.{App, terms_of, branches_of, defs_of}
 use Rattle.dump_grammar.specs.Numbers.{LevelName}
 use Rattle.dump_grammar.specs.Sorts.{PartForm, SortForm, PropForm, SetForm, TypeForm, sort_meaning, part_meaning, parts, sort}
-use Rattle.dump_grammar.specs.Terms.{Form, FRel, FSort, FProd, FLambda, FLetIn, FApp, FConst, FInd, FConstruct, FCase, FFix, FCast, Forms, NoForm, OneForm, Branches, NoBranchForm, BranchForm, Definitions, NoDefinition, Definition, atoms, form, forms, branches, definitions, meaning, meanings, branch_meanings, definition_meanings}
+use Rattle.dump_grammar.specs.Terms.{Form, FRel, FSort, FProd, FLambda, FLetIn, FApp, FConst, FInd, FConstruct, FCase, FFix, FCast, Forms, NoForm, OneForm, BranchForms, NoBranchForm, BranchForm, Definitions, NoDefinition, Definition, atoms, form, forms, branches, definitions, meaning, meanings, branch_meanings, definition_meanings}
 use Rattle.dump_grammar.specs.Declarations.{Binding, CtorForm, FamilyForm, BodyForm, NoneForm, SomeForm, DeclForm, ConstantForm, BlockForm, bindings, constructors, family, families, body, declaration, binding_meaning, constructor_meaning, family_meaning, body_meaning, declaration_meaning}
 use Rattle.dump_grammar.specs.Environments.{ConstraintForm, Dump, level_names, constraints, declarations, dump, constraint_meaning, env_of}
 use Rattle.dump_grammar.specs.Uses.{names, names_of_terms, names_of_branches, names_of_defs, names_of_option, names_of_ctor, names_of_family, names_of_decl, levels, levels_of_terms, levels_of_branches, levels_of_defs, level_of_part, levels_of_sort, levels_of_option, levels_of_ctor, levels_of_family, levels_of_decl, levels_of_constraint, one_use, each, name_uses, level_uses}
@@ -107,7 +107,7 @@ mutual
       let y = terms-give more after x.0 in
       (y.0, (λ us k. x.1 _ (y.1 us k)), λ vs k. x.2 _ (y.2 vs k))
 
-  branches-give : (brs : Branches) (after : List Text) → AreGood (branches brs after) → Gives (names_of_branches (branches_of (branch_meanings brs))) (levels_of_branches (branches_of (branch_meanings brs))) after
+  branches-give : (brs : BranchForms) (after : List Text) → AreGood (branches brs after) → Gives (names_of_branches (branches_of (branch_meanings brs))) (levels_of_branches (branches_of (branch_meanings brs))) after
   branches-give NoBranchForm after g = (g, (λ us k. k), (λ vs k. k))
   branches-give (BranchForm ms b more) after g =
       let w = atoms-give ms _ g.1.1.1 in

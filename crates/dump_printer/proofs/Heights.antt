@@ -8,7 +8,7 @@ use Rattle.dump_grammar.specs.Numbering.{place_of}
 use Rattle.dump_grammar.specs.declared.keyword.Keyword.TheVariants as words
 use Rattle.dump_grammar.specs.Numbers.{word}
 use Rattle.dump_grammar.specs.Sorts.{PartForm, SortForm, PropForm, SetForm, TypeForm, sort, parts, sort_meaning, part_meaning}
-use Rattle.dump_grammar.specs.Terms.{Form, FRel, FSort, FProd, FLambda, FLetIn, FApp, FConst, FInd, FConstruct, FCase, FFix, FCast, Forms, NoForm, OneForm, Branches, NoBranchForm, BranchForm, Definitions, NoDefinition, Definition, atoms, form, forms, branches, definitions}
+use Rattle.dump_grammar.specs.Terms.{Form, FRel, FSort, FProd, FLambda, FLetIn, FApp, FConst, FInd, FConstruct, FCase, FFix, FCast, Forms, NoForm, OneForm, BranchForms, NoBranchForm, BranchForm, Definitions, NoDefinition, Definition, atoms, form, forms, branches, definitions}
 use Rattle.dump_reader.specs.Numbered.{level_part, numbered_sort}
 use Rattle.dump_printer.specs.CanonicalTerms.{is_set}
 use Rattle.dump_printer.specs.Nesting.{deepest}
@@ -42,7 +42,7 @@ unfoldable mutual
   heights NoForm = 0
   heights (OneForm f more) = max (1 + height f) (heights more)
 
-  pub branches_height : Branches → ℕ
+  pub branches_height : BranchForms → ℕ
   branches_height NoBranchForm = 0
   branches_height (BranchForm names b more) = max (max 2 (2 + height b)) (branches_height more)
 
@@ -164,7 +164,7 @@ mutual
   forms-deep NoForm n Y = omega (arith, deepest-le n Y)
   forms-deep (OneForm f more) n Y = simp (open-deep, form-deep f, forms-deep more) (omega arith)
 
-  branches-deep : (brs : Branches) (n : ℕ) (Y : List Text) → deepest n (branches brs Y) ≡ max (n + branches_height brs) (deepest n Y)
+  branches-deep : (brs : BranchForms) (n : ℕ) (Y : List Text) → deepest n (branches brs Y) ≡ max (n + branches_height brs) (deepest n Y)
   branches-deep NoBranchForm n Y = omega (arith, deepest-le n Y)
   branches-deep (BranchForm names b more) n Y = simp (open-deep, atom-deep, close-deep, atoms-deep, form-deep b, branches-deep more) (omega arith)
 
@@ -233,7 +233,7 @@ module _ (ls : List (List ℕ)) (set : place_of (spelling words.Set) ls ≡ 0) w
     lower-forms NoForm h args = omega arith
     lower-forms (OneForm f more) h args = (let a = (lower f h.0).0 in let b = lower-forms more h.1 args in omega arith)
 
-    lower-branches : (brs : Branches) → BranchesHaveNoCast brs → branches_height (canon_branches ls brs) ≤ branches_height brs
+    lower-branches : (brs : BranchForms) → BranchesHaveNoCast brs → branches_height (canon_branches ls brs) ≤ branches_height brs
     lower-branches NoBranchForm h = omega arith
     lower-branches (BranchForm names b more) h = (let a = (lower b h.0).0 in let c = lower-branches more h.1 in omega arith)
 

@@ -13,7 +13,7 @@ use Rattle.dump_grammar.specs.Declarations.{Binding, CtorForm, FamilyForm, BodyF
 use Rattle.dump_grammar.specs.Environments.{ConstraintForm, Dump, constraints, declarations, dump, env_of}
 use Rattle.std.proofs.Common.{length}
 use Rattle.sexp_reader.specs.Lex.{tokens_of}
-use Rattle.dump_grammar.specs.Within.{dump_over, IsWithin}
+use Rattle.dump_grammar.specs.Within.{dump_over, DumpIsWithin}
 use Rattle.dump_grammar.proofs.Within.{limited}
 use Rattle.dump_printer.specs.Spelled.{NestsNoDeeper}
 use Rattle.dump_reader.specs.declared.environment.RawEnv.{RawEnv}
@@ -187,5 +187,5 @@ text-nests e d o h same =
 
 pub nests-no-deeper : (e : RawEnv) → NestsNoDeeper e
 nests-no-deeper e bytes d fine tokens h same =
-    let within : IsWithin d = limited.only (length bytes) (tokens_of bytes) d tokens fine in
+    let within : DumpIsWithin d = limited.only (length bytes) (tokens_of bytes) d tokens fine in
     subst (λ ts. nesting (canonical_tokens e) ≤ nesting ts) (sym tokens) (text-nests e d within.1 h same)

@@ -10,7 +10,7 @@ use Rattle.dump_grammar.specs.Keywords.{spelling}
 use Rattle.dump_grammar.specs.declared.keyword.Keyword.TheVariants as words
 use Rattle.dump_grammar.specs.Named.{NamedSort, AProp, AType, Named, Rel, Sort, Prod, Lambda, LetIn, App, Const, Ind, Construct, Case, Fix, NamedTerms, NoTerm, OneTerm, NamedBranches, NoBranch, OneBranch, NamedDefs, NoDef, OneDef, terms_of, branches_of, defs_of}
 use Rattle.dump_grammar.specs.Sorts.{SetForm, TypeForm, sort_meaning, part_meaning}
-use Rattle.dump_grammar.specs.Terms.{Form, FRel, FSort, FProd, FLambda, FLetIn, FApp, FConst, FInd, FConstruct, FCase, FFix, FCast, Forms, NoForm, OneForm, Branches, NoBranchForm, BranchForm, Definitions, NoDefinition, Definition, meaning, meanings, branch_meanings, definition_meanings, applied, count}
+use Rattle.dump_grammar.specs.Terms.{Form, FRel, FSort, FProd, FLambda, FLetIn, FApp, FConst, FInd, FConstruct, FCase, FFix, FCast, Forms, NoForm, OneForm, BranchForms, NoBranchForm, BranchForm, Definitions, NoDefinition, Definition, meaning, meanings, branch_meanings, definition_meanings, applied, count}
 use Rattle.dump_reader.specs.Numbered.{numbered_sort}
 use Rattle.dump_printer.specs.CanonicalTerms.{text_of, is_set}
 use Rattle.dump_printer.proofs.Fits.{Fits, FitTerms, FitBranches, FitDefs, fit-applied}
@@ -134,7 +134,7 @@ module _ (ls : List (List ℕ)) where
       terms-meaning NoForm h = refl
       terms-meaning (OneForm f more) h = simp (canon-meaning f h.0, terms-meaning more h.1)
 
-      branches-meaning : (brs : Branches) → FitBranches ns ls (branches_of (branch_meanings brs)) → branches_of (branch_meanings (canon_branches ls brs)) ≡ normal_branches (branches_of (branch_meanings brs))
+      branches-meaning : (brs : BranchForms) → FitBranches ns ls (branches_of (branch_meanings brs)) → branches_of (branch_meanings (canon_branches ls brs)) ≡ normal_branches (branches_of (branch_meanings brs))
       branches-meaning NoBranchForm h = refl
       branches-meaning (BranchForm names b more) h = simp (blanks-count names, canon-meaning b h.0, branches-meaning more h.1)
 

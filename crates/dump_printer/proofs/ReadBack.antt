@@ -8,7 +8,7 @@ use Rattle.dump_grammar.specs.Uses.{level_uses}
 use Rattle.dump_grammar.specs.Terms.{Form, NoForm, meaning}
 use Rattle.dump_grammar.specs.Declarations.{Binding, CtorForm, FamilyForm, BodyForm, NoneForm, SomeForm, DeclForm, ConstantForm, BlockForm, binding_meaning, constructor_meaning, family_meaning, body_meaning, declaration_meaning}
 use Rattle.dump_grammar.specs.Environments.{Dump, env_of}
-use Rattle.dump_grammar.specs.Within.{bindings_over, ctor_over, ctors_over, family_over, families_over, body_over, declaration_over, declarations_over, dump_over, tokens_over, forms_over, IsWithin}
+use Rattle.dump_grammar.specs.Within.{bindings_over, ctor_over, ctors_over, family_over, families_over, body_over, declaration_over, declarations_over, dump_over, tokens_over, forms_over, DumpIsWithin}
 use Rattle.dump_grammar.proofs.Within.{limited}
 use Rattle.dump_reader.specs.declared.environment.RawEnv.{RawEnv}
 use Rattle.dump_reader.specs.Spelling.{IsVerdict}
@@ -93,5 +93,5 @@ pub text-read-back : (e : RawEnv) → IsSpelled e → nesting (canonical_tokens 
 text-read-back e s shallow =
     let h = formed e s in
     let d = canonical_dump h.form h.within.1 in
-    let within : IsWithin d = (subst (λ ts. tokens_over 0 ts ≡ None) (tokens-are e h) (tokens-within 0 (canonical_tokens e) (tokens-good e h) shallow), dump-within h.form h.within.1) in
+    let within : DumpIsWithin d = (subst (λ ts. tokens_over 0 ts ≡ None) (tokens-are e h) (tokens-within 0 (canonical_tokens e) (tokens-good e h) shallow), dump-within h.form h.within.1) in
     (env_of d, limited.within (length (canonical_text e)) (tokens_of (canonical_text e)) d (text-tokens e h) within, meant-again e h)

@@ -8,7 +8,7 @@ use Rattle.dump_grammar.specs.declared.keyword.Keyword.TheVariants as words
 use Rattle.dump_grammar.specs.Environments.{Dump, dump, env_of}
 use Rattle.dump_grammar.specs.Table.{VEnv, start}
 use Rattle.dump_grammar.specs.Judge.{texts, Fine}
-use Rattle.dump_grammar.specs.Within.{IsWithin}
+use Rattle.dump_grammar.specs.Within.{DumpIsWithin}
 use Rattle.dump_grammar.proofs.Numbering.{numbering}
 use Rattle.dump_grammar.proofs.Law.{judged}
 use Rattle.dump_grammar.proofs.Within.{limited}
@@ -25,7 +25,7 @@ use Rattle.dump_printer.proofs.GoodTokens.{environment-good}
 -- A form of the text that was accepted.
 pub record IsFormed (e : RawEnv) : Type 0 where
   pub form : Dump
-  pub within : IsWithin form
+  pub within : DumpIsWithin form
   pub good : AreGood (dump form [])
   pub meant : e ≡ numbered (env_of form)
 

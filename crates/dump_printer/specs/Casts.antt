@@ -1,6 +1,6 @@
 -- Texts without a cast.
 use Rattle.std.specs.Prelude.{ℕ, List, [], ◌∷◌}
-use Rattle.dump_grammar.specs.Terms.{Form, FRel, FSort, FProd, FLambda, FLetIn, FApp, FConst, FInd, FConstruct, FCase, FFix, FCast, Forms, NoForm, OneForm, Branches, NoBranchForm, BranchForm, Definitions, NoDefinition, Definition}
+use Rattle.dump_grammar.specs.Terms.{Form, FRel, FSort, FProd, FLambda, FLetIn, FApp, FConst, FInd, FConstruct, FCase, FFix, FCast, Forms, NoForm, OneForm, BranchForms, NoBranchForm, BranchForm, Definitions, NoDefinition, Definition}
 use Rattle.dump_grammar.specs.Declarations.{Binding, CtorForm, FamilyForm, BodyForm, NoneForm, SomeForm, DeclForm, ConstantForm, BlockForm}
 use Rattle.dump_grammar.specs.Environments.{Dump}
 
@@ -23,7 +23,7 @@ unfoldable mutual
   HaveNoCast NoForm = Unit {0}
   HaveNoCast (OneForm f more) = HasNoCast f × HaveNoCast more
 
-  pub BranchesHaveNoCast : Branches → Type 0
+  pub BranchesHaveNoCast : BranchForms → Type 0
   BranchesHaveNoCast NoBranchForm = Unit {0}
   BranchesHaveNoCast (BranchForm names b more) = HasNoCast b × BranchesHaveNoCast more
 

@@ -10,9 +10,9 @@ use Rattle.dump_grammar.specs.Judge.{texts}
 use Rattle.dump_grammar.specs.declared.keyword.Keyword.TheVariants as words
 use Rattle.dump_grammar.specs.Numbers.{word, LevelName}
 use Rattle.dump_grammar.specs.Sorts.{PartForm, SortForm, PropForm, SetForm, TypeForm, part, parts, sort, part_meaning, sort_meaning}
-use Rattle.dump_grammar.specs.Terms.{Form, FRel, FSort, FProd, FLambda, FLetIn, FApp, FConst, FInd, FConstruct, FCase, FFix, FCast, Forms, NoForm, OneForm, Branches, NoBranchForm, BranchForm, Definitions, NoDefinition, Definition, atoms, form, forms, branches, definitions, meaning, applied, meanings, branch_meanings, definition_meanings}
+use Rattle.dump_grammar.specs.Terms.{Form, FRel, FSort, FProd, FLambda, FLetIn, FApp, FConst, FInd, FConstruct, FCase, FFix, FCast, Forms, NoForm, OneForm, BranchForms, NoBranchForm, BranchForm, Definitions, NoDefinition, Definition, atoms, form, forms, branches, definitions, meaning, applied, meanings, branch_meanings, definition_meanings}
 use Rattle.dump_grammar.specs.Declarations.{Binding, CtorForm, FamilyForm, BodyForm, NoneForm, SomeForm, DeclForm, ConstantForm, BlockForm, binding, bindings, constructor, constructors, family, families, body, declaration, binding_meaning, constructor_meaning, family_meaning, body_meaning, declaration_meaning}
-use Rattle.dump_grammar.specs.Environments.{ConstraintForm, Dump, level_names, constraint, constraints, declarations, dump, constraint_meaning, env_of, Spells}
+use Rattle.dump_grammar.specs.Environments.{ConstraintForm, Dump, level_names, constraint, constraints, declarations, dump, constraint_meaning, env_of, SpellsEnv}
 use Rattle.dump_grammar.specs.Named.{Named, App, NamedEnv, terms_of, branches_of, defs_of}
 use Rattle.dump_reader.specs.Numbered.{recursive_arguments}
 use Rattle.dump_reader.specs.Formed.{Each, IsFormedPart, IsFormedSort, IsFormed, AreFormed, AreFormedBranches, AreFormedDefs, IsFormedOption, IsFormedConstraint, IsFormedCtor, IsFormedFamily, IsFormedDecl, IsFormedEnv}
@@ -152,7 +152,7 @@ mutual
       let l = forms-formed more r k.0 in
       (l.0, (k.1, l.1))
 
-  branches-formed : (bs : Branches) (r : List Text) → ArePlain (branches bs r) → ArePlain r × AreFormedBranches (branches_of (branch_meanings bs))
+  branches-formed : (bs : BranchForms) (r : List Text) → ArePlain (branches bs r) → ArePlain r × AreFormedBranches (branches_of (branch_meanings bs))
   branches-formed NoBranchForm r h = (h, tt)
   branches-formed (BranchForm names b more) r h =
       let q = atoms-formed names (Close ∷ Open ∷ form b (Close ∷ branches more r)) h.1.1.1 in
@@ -254,5 +254,5 @@ dump-formed d h =
     let k = declarations-formed d.decls d.main (Close ∷ []) c.0.1.1 in
     record { levels = l.1; constraints = c.1; decls = k.1; main = k.2 }
 
-pub spelled-formed : (bytes : List ℕ) (env : NamedEnv) → Spells (texts (tokens_of bytes)) env → IsFormedEnv env
+pub spelled-formed : (bytes : List ℕ) (env : NamedEnv) → SpellsEnv (texts (tokens_of bytes)) env → IsFormedEnv env
 spelled-formed bytes env s = subst (λ (e : NamedEnv). IsFormedEnv e) (sym s.2) (dump-formed s.0 (subst (λ (ts : List Text). ArePlain ts) s.1 (lex-plain bytes 0 false)))

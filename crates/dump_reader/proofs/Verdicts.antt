@@ -9,7 +9,7 @@ use Rattle.dump_grammar.specs.Named.{NamedEnv}
 use Rattle.dump_grammar.specs.Table.{VEnv}
 use Rattle.dump_grammar.specs.Environments as grammar
 use Rattle.dump_grammar.specs.Environments.{Dump, dump, env_of}
-use Rattle.dump_grammar.specs.Within.{IsWithin}
+use Rattle.dump_grammar.specs.Within.{DumpIsWithin}
 use Rattle.dump_grammar.specs.Judge.{texts, Verdict, Fine, Refuse, verdict}
 use Rattle.dump_grammar.specs.Law.{SyntaxAt, UnsupportedAt, LimitAt}
 use Rattle.dump_grammar.specs.FirstRefusal.{IsFirstRefusal}
@@ -26,11 +26,11 @@ use Rattle.dump_reader.proofs.Spelled.{spelled-formed}
 
 -- ---- the tree of a text
 
-fine-spells : (bytes : List ℕ) (env : NamedEnv) → verdict_on bytes ≡ Fine (VEnv env ∷ []) → grammar.Spells (texts (tokens_of bytes)) env
+fine-spells : (bytes : List ℕ) (env : NamedEnv) → verdict_on bytes ≡ Fine (VEnv env ∷ []) → grammar.SpellsEnv (texts (tokens_of bytes)) env
 fine-spells bytes env e =
     let k = judged.fine (length bytes) (tokens_of bytes) (VEnv env ∷ []) e in
     let same : k.0 ≡ env = cc in
-    subst (λ (n : NamedEnv). grammar.Spells (texts (tokens_of bytes)) n) same k.2
+    subst (λ (n : NamedEnv). grammar.SpellsEnv (texts (tokens_of bytes)) n) same k.2
 
 pub fine-formed : (bytes : List ℕ) (env : NamedEnv) → verdict_on bytes ≡ Fine (VEnv env ∷ []) → IsFormedEnv env
 fine-formed bytes env e = spelled-formed bytes env (fine-spells bytes env e)
@@ -81,5 +81,5 @@ either bytes (Err (refusals.Syntax o)) env h e = absurd cc
 either bytes (Err (refusals.Unsupported w o)) env h e = absurd cc
 either bytes (Err (refusals.Limit l o)) env h e = absurd cc
 
-pub complete : (bytes : List ℕ) (x : Result RawEnv ReadRefusal) → IsVerdict bytes x → (d : Dump) → texts (tokens_of bytes) ≡ dump d [] → IsWithin d → (x ≡ Ok (numbered (env_of d))) ⊎ (x ≡ Err refusals.Memory)
+pub complete : (bytes : List ℕ) (x : Result RawEnv ReadRefusal) → IsVerdict bytes x → (d : Dump) → texts (tokens_of bytes) ≡ dump d [] → DumpIsWithin d → (x ≡ Ok (numbered (env_of d))) ⊎ (x ≡ Err refusals.Memory)
 complete bytes x h d e w = either bytes x (env_of d) h (limited.within (length bytes) (tokens_of bytes) d e w)

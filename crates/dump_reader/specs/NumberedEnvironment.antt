@@ -4,7 +4,7 @@ use Rattle.std.specs.Prelude.{ℕ, List, map, Option, option_map}
 use Rattle.universe_levels.specs.declared.constraint.Constraint.{Constraint}
 use Rattle.universe_levels.specs.declared.constraint.Relation.{Relation}
 use Rattle.universe_levels.specs.declared.constraint.Relation.TheVariants as relations
-use Rattle.dump_grammar.specs.Named.{Comparison, Less, AtMost, Equal, NamedConstraint, NamedCtor, NamedFamily, NamedDecl, Constant, Block, NamedEnv}
+use Rattle.dump_grammar.specs.Named.{NamedComparison, Less, AtMost, Equal, NamedConstraint, NamedCtor, NamedFamily, NamedDecl, Constant, Block, NamedEnv}
 use Rattle.dump_grammar.specs.Numbering.{name_table, level_table}
 use Rattle.dump_reader.specs.declared.declaration.RawCtor.{RawCtor}
 use Rattle.dump_reader.specs.declared.declaration.RawFamily.{RawFamily}
@@ -13,7 +13,7 @@ use Rattle.dump_reader.specs.declared.declaration.RawDecl.TheVariants as decls
 use Rattle.dump_reader.specs.declared.environment.RawEnv.{RawEnv}
 use Rattle.dump_reader.specs.Numbered.{name_number, level_number, numbered_sort, numbered_term}
 
-abbrev pub relation_of : Comparison → Relation
+abbrev pub relation_of : NamedComparison → Relation
 relation_of Less = relations.Lt
 relation_of AtMost = relations.Le
 relation_of Equal = relations.Eq

@@ -25,7 +25,7 @@ use Rattle.rule_laws.proofs.TypedCounts.{accepted_counted}
 use Rattle.rule_laws.proofs.Extending.{not_found}
 use Rattle.rule_laws.proofs.Environments.{distinct_levels}
 use Rattle.inductive_check.specs.Given.{given_of}
-use Rattle.env_check.specs.Answers.{Answers}
+use Rattle.env_check.specs.Answers.{CheckAnswers}
 use Rattle.env_check.specs.Places.{first, next, StandsAt}
 use Rattle.env_check.specs.Steps.{refusal_at, LeadsTo, HasChecked}
 use Rattle.env_check.proofs.Steps.{leads_refl, leads_trans, leads_answers, declarations_next, declarations_halted, declarations_end, declaration_place}
@@ -77,7 +77,7 @@ module _ (E : Env) (n : ℕ) (ds : List Given) (u : Account) (i : ℕ) (H : Env)
       subst (λ X. HasChecked E n ds u (suc i) X w) (sym kept) more
 
   pub checked_halted : (h : Halt) (w : Account) → Halts (declaration_rule H (test_of H) n d v) h w → (main : Term) →
-      Answers (declarations_rule E.levels E.constraints (test_of E) n 0 [] ds main u) (Err (refusal_at (AtDeclaration i) v h)) w
+      CheckAnswers (declarations_rule E.levels E.constraints (test_of E) n 0 [] ds main u) (Err (refusal_at (AtDeclaration i) v h)) w
   checked_halted h w e main =
       let here = subst (λ rest. LeadsTo (declarations_rule E.levels E.constraints (test_of E) n 0 [] ds main u) (declarations_rule H.levels H.constraints (test_of H) n i H.declarations rest main v)) at (c.leads main) in
       leads_answers _ _ (Err (refusal_at (AtDeclaration i) v h)) w here (declarations_halted H.levels H.constraints (test_of H) n i H.declarations d (drop (suc i) ds) main v w h e)
@@ -109,7 +109,7 @@ module _ (E : Env) (m0 : Meter) (xs : List RawDecl) (i : ℕ) (H : Env) (m : Met
       rw add-one (checked_more E (2048 - m0.nest) (map given_of xs) m0.account i H m.account c (given_of x) (given_at xs i x within is) k m1.account H' (given_taken xs i x within is) e checked kept)
 
   pub read_halted : (h : Halt) (m1 : Meter) → Follows (declaration_rule H (test_of H) (2048 - m.nest) (given_of x) m.account) (Err h) m m1 → (main : Term) →
-      Answers (declarations_rule E.levels E.constraints (test_of E) (2048 - m0.nest) 0 [] (map given_of xs) main m0.account) (Err (refusal_at (AtDeclaration i) m.account h)) m1.account
+      CheckAnswers (declarations_rule E.levels E.constraints (test_of E) (2048 - m0.nest) 0 [] (map given_of xs) main m0.account) (Err (refusal_at (AtDeclaration i) m.account h)) m1.account
   read_halted h m1 f main =
       let e = subst (λ n. Halts (declaration_rule H (test_of H) (2048 - n) (given_of x) m.account) h m1.account) after.nest f.answer in
       checked_halted E (2048 - m0.nest) (map given_of xs) m0.account i H m.account c (given_of x) (given_at xs i x within is) h m1.account e main

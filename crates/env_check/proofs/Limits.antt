@@ -13,7 +13,7 @@ use Rattle.dump_grammar.specs.Environments.{ConstraintForm, Dump, level_names, c
 use Rattle.dump_grammar.specs.Table.{VEnv}
 use Rattle.dump_grammar.specs.Judge.{Fine}
 use Rattle.dump_grammar.specs.Limits.{unless, first, one_more_over}
-use Rattle.dump_grammar.specs.Within.{IsWithin, levels_over, constraints_over, declaration_over, declarations_over, dump_over}
+use Rattle.dump_grammar.specs.Within.{DumpIsWithin, levels_over, constraints_over, declaration_over, declarations_over, dump_over}
 use Rattle.dump_grammar.proofs.Law.{judged}
 use Rattle.dump_grammar.proofs.Within.{limited}
 use Rattle.dump_reader.specs.declared.environment.RawEnv.{RawEnv}
@@ -84,6 +84,6 @@ spelled_few e h =
     let x = judged.fine (length bytes) (tokens_of bytes) (VEnv h.1 ∷ []) h.2 in
     let d = x.2.0 in
     let same : h.1 ≡ env_of d = (let f = x.1 in let g : h.1 ≡ x.0 = cc in g ∙ x.2.2) in
-    let within : IsWithin d = limited.only (length bytes) (tokens_of bytes) d x.2.1 (h.2 ∙ ap (λ n. Fine (VEnv n ∷ [])) same) in
+    let within : DumpIsWithin d = limited.only (length bytes) (tokens_of bytes) d x.2.1 (h.2 ∙ ap (λ n. Fine (VEnv n ∷ [])) same) in
     let meant : numbered (env_of d) ≡ e = ap numbered (sym same) ∙ sym h.3 in
     subst AreFew meant (few_of_form d within.1)

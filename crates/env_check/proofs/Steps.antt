@@ -23,7 +23,7 @@ use Rattle.pc_rules.specs.DirectedDeclarations.{Given, declaration_rule, Accepts
 use Rattle.pc_rules.proofs.Following.{or_left, or_right}
 use Rattle.env_check.specs.declared.refusal.Refusal.{Refusal}
 use Rattle.env_check.specs.declared.refusal.Refusal.TheVariants.{Broken, Spent, TooDeep, Memory}
-use Rattle.env_check.specs.Answers.{Answers}
+use Rattle.env_check.specs.Answers.{CheckAnswers}
 use Rattle.env_check.specs.Places.{ComesTo, IsSpentAt, spent_in, spent_in_main, IsDeepAt, deep_in, deep_in_main, StandsAt, StandsInMain}
 use Rattle.env_check.specs.Steps.{refusal_at, LeadsTo}
 
@@ -38,7 +38,7 @@ leads_trans a b c p q = record { outcome = p.outcome ∙ q.outcome; deep = λ h.
 pub leads_is : (a b : Checked) → a ≡ b → LeadsTo a b
 leads_is a b e = subst (λ c. LeadsTo a c) e (leads_refl a)
 
-pub leads_answers : (whole rest : Checked) (r : Result Accepted Refusal) (u : Account) → LeadsTo whole rest → Answers rest r u → Answers whole r u
+pub leads_answers : (whole rest : Checked) (r : Result Accepted Refusal) (u : Account) → LeadsTo whole rest → CheckAnswers rest r u → CheckAnswers whole r u
 leads_answers whole rest (Ok a) u l h = l.outcome ∙ h
 leads_answers whole rest (Err (Broken p b)) u l h = l.outcome ∙ h
 leads_answers whole rest (Err (Spent p v)) u l h = (l.outcome ∙ h.0, h.1)
@@ -52,7 +52,7 @@ unfolding and_then
 placed_done p d k a u e =
     record { outcome = ap (λ x. placed_end p x (λ a u. (k a u).outcome)) e; deep = λ h. or_right d.deep _ (rw e h) }
 
-pub placed_halted : {A : Type 0} (p : Place) (d : Run A) (k : A → Account → Checked) (h : Halt) (u before : Account) → Halts d h u → Answers (placed p d k) (Err (refusal_at p before h)) u
+pub placed_halted : {A : Type 0} (p : Place) (d : Run A) (k : A → Account → Checked) (h : Halt) (u before : Account) → Halts d h u → CheckAnswers (placed p d k) (Err (refusal_at p before h)) u
 unfolding and_then
 placed_halted p d k (halts.Stop stops.Spent) u before h = (ap (λ x. placed_end p x (λ a u. (k a u).outcome)) h.0, h.1)
 placed_halted p d k (halts.Stop stops.TooDeep) u before h = or_left d.deep _ h
@@ -70,7 +70,7 @@ declarations_next levels cs q n i ds d rest main u v k e =
 
 pub declarations_halted : (levels : ℕ) (cs : List Constraint) (q : Test) (n i : ℕ) (ds : List Kept) (d : Given) (rest : List Given) (main : Term) (u v : Account) (h : Halt) →
     Halts (declaration_rule (env levels cs ds) q n d u) h v →
-    Answers (declarations_rule levels cs q n i ds (d ∷ rest) main u) (Err (refusal_at (AtDeclaration i) u h)) v
+    CheckAnswers (declarations_rule levels cs q n i ds (d ∷ rest) main u) (Err (refusal_at (AtDeclaration i) u h)) v
 unfolding declarations_rule
 declarations_halted levels cs q n i ds d rest main u v h e =
     placed_halted (AtDeclaration i) (declaration_rule (env levels cs ds) q n d u) (λ k v. declarations_rule levels cs q n (suc i) (k ∷ ds) rest main v) h v u e
@@ -87,7 +87,7 @@ main_done E q n main T u v e =
     let k : Term → Account → Checked = λ T v. accepts E T v in
     (placed_done AtMain (infer E q n [] main u) k T v e).outcome
 
-pub main_halted : (E : Env) (q : Test) (n : ℕ) (main : Term) (u v : Account) (h : Halt) → Halts (infer E q n [] main u) h v → Answers (main_rule E q n main u) (Err (refusal_at AtMain u h)) v
+pub main_halted : (E : Env) (q : Test) (n : ℕ) (main : Term) (u v : Account) (h : Halt) → Halts (infer E q n [] main u) h v → CheckAnswers (main_rule E q n main u) (Err (refusal_at AtMain u h)) v
 main_halted E q n main u v h e =
     let k : Term → Account → Checked = λ T v. accepts E T v in
     placed_halted AtMain (infer E q n [] main u) k h v u e

@@ -22,7 +22,7 @@ use Rattle.inductive_check.specs.Given.{given_of}
 use Rattle.env_check.specs.declared.refusal.Refusal.{Refusal}
 use Rattle.env_check.specs.declared.refusal.Refusal.TheVariants.{Broken, Spent, TooDeep, Memory}
 use Rattle.env_check.specs.Rules.{givens, rules_of}
-use Rattle.env_check.specs.Answers.{Answers, AnswersFound, FollowsRules}
+use Rattle.env_check.specs.Answers.{CheckAnswers, AnswersFound, FollowsRules}
 use Rattle.env_check.specs.Steps.{Refuses, level_refusal, end_refusal, RefusesGraph, HasChecked}
 use Rattle.env_check.specs.Places.{StandsAt, StandsInMain, bare}
 use Rattle.env_check.proofs.Steps.{leads_is, leads_answers, place_in_main}
@@ -69,10 +69,10 @@ module _ (raw : RawEnv) where
 
   -- levels
 
-  level_answer : (o : Option (ℕ × Level)) (go : Checked) (u : Account) (e : Refusal) (a : ℕ × Level) → o ≡ Some a → e ≡ level_refusal a → Answers (levels_rule o go u) (Err e) u
+  level_answer : (o : Option (ℕ × Level)) (go : Checked) (u : Account) (e : Refusal) (a : ℕ × Level) → o ≡ Some a → e ≡ level_refusal a → CheckAnswers (levels_rule o go u) (Err e) u
   level_answer o go u e a there is =
-      let here : Answers (levels_rule o go u) (Err (level_refusal a)) u = subst (λ x. Answers (levels_rule x go u) (Err (level_refusal a)) u) (sym there) refl in
-      subst (λ x. Answers (levels_rule o go u) (Err x) u) (sym is) here
+      let here : CheckAnswers (levels_rule o go u) (Err (level_refusal a)) u = subst (λ x. CheckAnswers (levels_rule x go u) (Err (level_refusal a)) u) (sym there) refl in
+      subst (λ x. CheckAnswers (levels_rule o go u) (Err x) u) (sym is) here
 
   level_found : (e : Refusal) (m : Meter) (a : ℕ × Level) → first_repeated 0 [] raw.levels ≡ Some a → e ≡ level_refusal a → FollowsRules raw (Err e) m m
   level_found e m a there is =
@@ -91,10 +91,10 @@ module _ (raw : RawEnv) where
   module _ (once : first_repeated 0 [] raw.levels ≡ None) where
     -- constraints
 
-    end_answer : (o : Option (ℕ × Level)) (go : Checked) (u : Account) (e : Refusal) (a : ℕ × Level) → o ≡ Some a → e ≡ end_refusal a → Answers (constraints_rule o go u) (Err e) u
+    end_answer : (o : Option (ℕ × Level)) (go : Checked) (u : Account) (e : Refusal) (a : ℕ × Level) → o ≡ Some a → e ≡ end_refusal a → CheckAnswers (constraints_rule o go u) (Err e) u
     end_answer o go u e a there is =
-        let here : Answers (constraints_rule o go u) (Err (end_refusal a)) u = subst (λ x. Answers (constraints_rule x go u) (Err (end_refusal a)) u) (sym there) refl in
-        subst (λ x. Answers (constraints_rule o go u) (Err x) u) (sym is) here
+        let here : CheckAnswers (constraints_rule o go u) (Err (end_refusal a)) u = subst (λ x. CheckAnswers (constraints_rule x go u) (Err (end_refusal a)) u) (sym there) refl in
+        subst (λ x. CheckAnswers (constraints_rule o go u) (Err x) u) (sym is) here
 
     end_found : (e : Refusal) (m : Meter) (a : ℕ × Level) → first_undeclared_end (length raw.levels) 0 raw.constraints ≡ Some a → e ≡ end_refusal a → FollowsRules raw (Err e) m m
     end_found e m a there is =
@@ -122,7 +122,7 @@ module _ (raw : RawEnv) where
 
       cycle_found : (e : Refusal) (m : Meter) (places : List ℕ) → Clashes (length raw.levels) raw.constraints places → e ≡ Broken (place_of places) (UniverseCycle places) → FollowsRules raw (Err e) m m
       cycle_found e m places clash is =
-          let here : Answers (from_graph (Some places) (2048 - m.nest) m.account) (Err e) m.account = subst (λ x. Answers (from_graph (Some places) (2048 - m.nest) m.account) (Err x) m.account) (sym is) refl in
+          let here : CheckAnswers (from_graph (Some places) (2048 - m.nest) m.account) (Err e) m.account = subst (λ x. CheckAnswers (from_graph (Some places) (2048 - m.nest) m.account) (Err x) m.account) (sym is) refl in
           follows_found raw (Err e) m m (record {
             cycle = Some places;
             found = λ _ _. clash;
@@ -144,7 +144,7 @@ module _ (raw : RawEnv) where
           ∙ ap (λ cs. declarations_rule (length raw.levels) cs (entailed_by (length raw.levels) cs) n 0 [] (givens raw) raw.main u) ec
 
       declarations_answer : (E : Env) (r : Result Accepted Refusal) (old new : Meter) → E.levels ≡ length raw.levels → E.constraints ≡ raw.constraints → IsConsistent (length raw.levels) raw.constraints →
-          Answers (declarations_rule E.levels E.constraints (test_of E) (2048 - old.nest) 0 [] (givens raw) raw.main old.account) r new.account → FollowsRules raw r old new
+          CheckAnswers (declarations_rule E.levels E.constraints (test_of E) (2048 - old.nest) 0 [] (givens raw) raw.main old.account) r new.account → FollowsRules raw r old new
       declarations_answer E r old new el ec consistent h =
           let n = 2048 - old.nest in
           follows_found raw r old new (record {
@@ -155,10 +155,10 @@ module _ (raw : RawEnv) where
 
       pub declarations_refused : (E : Env) (xs : List RawDecl) (e : Refusal) (old new : Meter) → xs ≡ raw.decls → E.levels ≡ length raw.levels → E.constraints ≡ raw.constraints →
           IsConsistent (length raw.levels) raw.constraints →
-          Answers (declarations_rule E.levels E.constraints (test_of E) (2048 - old.nest) 0 [] (map given_of xs) raw.main old.account) (Err e) new.account → FollowsRules raw (Err e) old new
+          CheckAnswers (declarations_rule E.levels E.constraints (test_of E) (2048 - old.nest) 0 [] (map given_of xs) raw.main old.account) (Err e) new.account → FollowsRules raw (Err e) old new
       declarations_refused E xs e old new is el ec consistent h =
           declarations_answer E (Err e) old new el ec consistent
-          (subst (λ ys. Answers (declarations_rule E.levels E.constraints (test_of E) (2048 - old.nest) 0 [] (map given_of ys) raw.main old.account) (Err e) new.account) is h)
+          (subst (λ ys. CheckAnswers (declarations_rule E.levels E.constraints (test_of E) (2048 - old.nest) 0 [] (map given_of ys) raw.main old.account) (Err e) new.account) is h)
 
       module _ (E : Env) (xs : List RawDecl) (is : xs ≡ raw.decls) (el : E.levels ≡ length raw.levels) (ec : E.constraints ≡ raw.constraints) (m0 m1 : Meter) (H : Env)
           (after : IsAfter m0 m1) (c : HasChecked E (2048 - m0.nest) (map given_of xs) m0.account (length xs) H m1.account) where
@@ -168,10 +168,10 @@ module _ (raw : RawEnv) where
             (subst (λ k. HasChecked E (2048 - m0.nest) (map given_of xs) m0.account k H m1.account) (sym (length-map xs given_of)) c)
 
         pub main_follows : (r : Result Accepted Refusal) (m2 : Meter) → IsConsistent (length raw.levels) raw.constraints →
-            Answers (main_rule H (test_of H) (2048 - m1.nest) raw.main m1.account) r m2.account → FollowsRules raw r m0 m2
+            CheckAnswers (main_rule H (test_of H) (2048 - m1.nest) raw.main m1.account) r m2.account → FollowsRules raw r m0 m2
         main_follows r m2 consistent h =
             let n = 2048 - m0.nest in
-            let k = subst (λ x. Answers (main_rule H (test_of H) (2048 - x) raw.main m1.account) r m2.account) after.nest h in
+            let k = subst (λ x. CheckAnswers (main_rule H (test_of H) (2048 - x) raw.main m1.account) r m2.account) after.nest h in
             declarations_answer E r m0 m2 el ec consistent
             (leads_answers _ _ r m2.account (checked_all E n (givens raw) m0.account H m1.account givens_checked raw.main) k)
 

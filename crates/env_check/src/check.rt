@@ -9,7 +9,7 @@ ghost use Rattle.pc_rules.specs.DirectedDeclarations.{main_rule};
 ghost use Rattle.rule_laws.specs.Declarations.{IsCheckedEnvironment};
 ghost use Rattle.env_check.specs.Rules.{givens};
 ghost use Rattle.env_check.specs.Places.{StandsAt, StandsInMain, bare};
-ghost use Rattle.env_check.specs.Answers.{Answers, FollowsRules};
+ghost use Rattle.env_check.specs.Answers.{CheckAnswers, FollowsRules};
 
 use crate::constraints::{check_constraints, graph_of};
 use crate::declarations::check_declarations;
@@ -38,7 +38,7 @@ fn check_main<T: Typer>(
     m: &mut Meter,
 ) -> Result<Accepted, Refusal>
     requires accepted { IsAccepted env }
-    ensures answers { Answers (main_rule env (test_of env) (2048 - m.old.nest) main.now m.old.account) result m.new.account }
+    ensures answers { CheckAnswers (main_rule env (test_of env) (2048 - m.old.nest) main.now m.old.account) result m.new.account }
     ensures after { IsAfter m.old m.new }
     ensures env { IfOk result (λ a. a.env ≡ env) }
     ensures main { IfOk result (λ a. a.main ≡ main.now) }

@@ -13,7 +13,7 @@ ghost use Rattle.pc_rules.specs.DirectedComparison.{compare};
 ghost use Rattle.pc_rules.specs.DirectedDeclarations.{fresh_name, body_rule, constant_rule, declaration_rule, declarations_rule, GivenConstant};
 ghost use Rattle.rule_laws.specs.Declarations.{IsCheckedDeclaration};
 ghost use Rattle.inductive_check.specs.Given.{given_of};
-ghost use Rattle.env_check.specs.Answers.{Answers};
+ghost use Rattle.env_check.specs.Answers.{CheckAnswers};
 ghost use Rattle.env_check.specs.Places.{StandsAt};
 ghost use Rattle.env_check.specs.Steps.{HasChecked};
 
@@ -135,7 +135,7 @@ pub(crate) fn check_declarations<T: Typer, R: Reducer>(
     requires accepted { IsAccepted env }
     requires empty { env.declarations ≡ [] }
     ensures checked { IfOk result (λ e. HasChecked env (2048 - m.old.nest) (map given_of decls.now) m.old.account (length decls.now) e m.new.account) }
-    ensures refused { IfErr result (λ e. (main : Main) → Answers (declarations_rule env.levels env.constraints (test_of env) (2048 - m.old.nest) 0 [] (map given_of decls.now) main m.old.account) (Err e) m.new.account) }
+    ensures refused { IfErr result (λ e. (main : Main) → CheckAnswers (declarations_rule env.levels env.constraints (test_of env) (2048 - m.old.nest) 0 [] (map given_of decls.now) main m.old.account) (Err e) m.new.account) }
     ensures placed { IfErr result (λ e. (main : Main) → StandsAt env (2048 - m.old.nest) (map given_of decls.now) main m.old.account e) }
     ensures after { IsAfter m.old m.new }
 {

@@ -2,7 +2,7 @@
 use Rattle.std.proofs.Common.{◌≡◌, List, refl, sym, ap, subst, ◌∙◌}
 use Rattle.universe_levels.specs.declared.sort.Sort.{Sort}
 use Rattle.pc_terms.specs.Syntax.{Term, End, Child, ProdOf, SortT, Prod, head, args}
-use Rattle.calculus_rules.specs.Environment.{Env, Entails}
+use Rattle.calculus_rules.specs.Environment.{Env, SortEntails}
 use Rattle.equality_laws.proofs.Reducing.{Par, ParEach, sorts, inside, contract, end, and, Steps, none, more, Convertible}
 use Rattle.equality_laws.proofs.Roots.{Settled, entails_same, entails_then}
 use Rattle.equality_laws.proofs.Spines.{Stays, stays}
@@ -11,7 +11,7 @@ use Rattle.equality_laws.proofs.Convertible.{steps_then, none_in, steps_child, s
 
 pub data AtMost (E : Env) : Term → Term → Type 0 where
   same : {t : Term} → AtMost E t t
-  sort : {s s' : Sort} → Entails E s s' → AtMost E (SortT s) (SortT s')
+  sort : {s s' : Sort} → SortEntails E s s' → AtMost E (SortT s) (SortT s')
   product : {A B B' : Term} → AtMost E B B' → AtMost E (Prod A B) (Prod A B')
 
 -- after some steps the first is at most the second
@@ -106,10 +106,10 @@ sub_product A A' B B' h g =
       at_most = product g.at_most;
     }
 
-pub sub_sort : {E : Env} (s s' : Sort) → Entails E s s' → Sub E (SortT s) (SortT s')
+pub sub_sort : {E : Env} (s s' : Sort) → SortEntails E s s' → Sub E (SortT s) (SortT s')
 sub_sort s s' p = record { lower = SortT s; upper = SortT s'; left = none; right = none; at_most = sort p }
 
-pub sorts_convertible : {E : Env} (s s' : Sort) → Entails E s s' → Entails E s' s → Convertible E (SortT s) (SortT s')
+pub sorts_convertible : {E : Env} (s s' : Sort) → SortEntails E s s' → SortEntails E s' s → Convertible E (SortT s) (SortT s')
 sorts_convertible s s' p q = record { common = SortT s'; left = more (sorts p q) none; right = none }
 
 -- where steps from a former lead
@@ -131,8 +131,8 @@ from_product A B T (more (contract p r) ps) = elim r [ ]
 pub record FromSort (E : Env) (s : Sort) (T : Term) : Type 0 where
   pub sort' : Sort
   pub is : T ≡ SortT sort'
-  pub to : Entails E s sort'
-  pub from : Entails E sort' s
+  pub to : SortEntails E s sort'
+  pub from : SortEntails E sort' s
 
 pub from_sort : {E : Env} (s : Sort) (T : Term) → Steps E (SortT s) T → FromSort E s T
 from_sort {E} s T none = record { sort' = s; is = refl; to = entails_same E s; from = entails_same E s }
@@ -208,11 +208,11 @@ products_convertible {E} A A' B B' h =
       codomains = record { common = r.codomain; left = subst (λ D. Steps E B D) codomain l.right; right = r.right };
     }
 
-sorts_at_most : {E : Env} (s s' : Sort) → AtMost E (SortT s) (SortT s') → Entails E s s'
+sorts_at_most : {E : Env} (s s' : Sort) → AtMost E (SortT s) (SortT s') → SortEntails E s s'
 sorts_at_most {E} s s' same = entails_same E s
 sorts_at_most s s' (sort p) = p
 
-pub sorts_below : {E : Env} (s s' : Sort) → Sub E (SortT s) (SortT s') → Entails E s s'
+pub sorts_below : {E : Env} (s s' : Sort) → Sub E (SortT s) (SortT s') → SortEntails E s s'
 sorts_below {E} s s' h =
     let l = from_sort s h.lower h.left in
     let r = from_sort s' h.upper h.right in

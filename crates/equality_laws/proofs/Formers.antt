@@ -4,7 +4,7 @@ use Rattle.std.proofs.Common.{◌≡◌, ℕ, List, [], ◌∷◌, map, None, sy
 use Rattle.universe_levels.specs.declared.sort.Sort.{Sort}
 use Rattle.pc_terms.specs.declared.leaf.FamilyId.{FamilyId}
 use Rattle.pc_terms.specs.Syntax.{Term, SortT, Prod, Ind, Construct, apply, head, args, substitute}
-use Rattle.calculus_rules.specs.Environment.{Env, Entails}
+use Rattle.calculus_rules.specs.Environment.{Env, SortEntails}
 use Rattle.calculus_rules.specs.Context.{Values}
 use Rattle.calculus_rules.specs.Conversion.{Equal, Below, back, chain, equal, same}
 use Rattle.calculus_rules.proofs.Spines.{head-apply, args-apply}
@@ -51,7 +51,7 @@ below_products d V A A' B B' b =
 
 -- sorts
 
-pub below_sorts : {E : Env} → Settled E → (V : Values) (s s' : Sort) → Below E V (SortT s) (SortT s') → Entails E s s'
+pub below_sorts : {E : Env} → Settled E → (V : Values) (s s' : Sort) → Below E V (SortT s) (SortT s') → SortEntails E s s'
 below_sorts d V s s' b = sorts_below s s' (below_there d V (SortT s) (SortT s') b)
 
 -- families and constructors, applied

@@ -2,13 +2,13 @@
 use Rattle.std.specs.Prelude.{ℕ, List, [], ◌∷◌}
 use Rattle.universe_levels.specs.declared.sort.Sort.{Sort}
 use Rattle.pc_terms.specs.Syntax.{Slot, Under, Lists, slots, Term, Terms, Children, End, Child, Group, Done, Next, Label, Rel, Node, SortT}
-use Rattle.calculus_rules.specs.Environment.{Env, Entails}
+use Rattle.calculus_rules.specs.Environment.{Env, SortEntails}
 use Rattle.calculus_rules.specs.Step.{Root}
 
 mutual
   pub data Par (E : Env) : Term → Term → Type 0 where
     rel : {i : ℕ} → Par E (Rel i) (Rel i)
-    sorts : {s s' : Sort} → Entails E s s' → Entails E s' s → Par E (SortT s) (SortT s')
+    sorts : {s s' : Sort} → SortEntails E s s' → SortEntails E s' s → Par E (SortT s) (SortT s')
     inside : {l : Label} {ts us : Children (slots l)} → ParIn E (slots l) ts us → Par E (Node l ts) (Node l us)
     contract : {l : Label} {ts us : Children (slots l)} {w : Term} → ParIn E (slots l) ts us → Root E [] (Node l us) w → Par E (Node l ts) w
 

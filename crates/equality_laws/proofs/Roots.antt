@@ -3,7 +3,7 @@ use Rattle.std.proofs.Common.{◌≡◌, ℕ, [], map, Some, sym, ap, ◌∙◌,
 use Rattle.universe_levels.specs.declared.sort.Sort.{Sort}
 use Rattle.universe_levels.specs.declared.sort.Sort.TheVariants.{Prop, Of}
 use Rattle.pc_terms.specs.Syntax.{Term, Rel, App, Fix, overs, substitute, substitute_terms, put_all, apply}
-use Rattle.calculus_rules.specs.Environment.{Env, Entails}
+use Rattle.calculus_rules.specs.Environment.{Env, SortEntails}
 use Rattle.calculus_rules.specs.Context.{Values, value_at}
 use Rattle.calculus_rules.specs.Instances.{unfolded}
 use Rattle.calculus_rules.specs.Step.{Root, beta, zeta, constant, variable, matched, fixpoint}
@@ -28,11 +28,11 @@ settled E a = record { one_each = one_of_each E a; closed = accepted_closed E a 
 
 -- sorts
 
-pub entails_same : (E : Env) (s : Sort) → Entails E s s
+pub entails_same : (E : Env) (s : Sort) → SortEntails E s s
 entails_same E Prop = tt
 entails_same E (Of u) = λ v h. omega arith
 
-pub entails_then : (E : Env) (r s t : Sort) → Entails E r s → Entails E s t → Entails E r t
+pub entails_then : (E : Env) (r s t : Sort) → SortEntails E r s → SortEntails E s t → SortEntails E r t
 entails_then E Prop s t p q = tt
 entails_then E (Of u) Prop t p q = absurd p
 entails_then E (Of u) (Of w) Prop p q = absurd q

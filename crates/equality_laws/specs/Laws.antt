@@ -3,7 +3,7 @@ use Rattle.std.specs.Prelude.{ℕ, ◌≡◌, List, [], ◌∷◌, None}
 use Rattle.universe_levels.specs.declared.sort.Sort.{Sort}
 use Rattle.pc_terms.specs.declared.leaf.FamilyId.{FamilyId}
 use Rattle.pc_terms.specs.Syntax.{Term, SortT, Prod, Ind, Construct, apply}
-use Rattle.calculus_rules.specs.Environment.{Env, Entails}
+use Rattle.calculus_rules.specs.Environment.{Env, SortEntails}
 use Rattle.calculus_rules.specs.Context.{Values}
 use Rattle.calculus_rules.specs.Conversion.{Equal, Below}
 use Rattle.calculus_rules.specs.Accepted.{IsAccepted}
@@ -25,7 +25,7 @@ ProductsAreBelow = (E : Env) → IsAccepted E → (V : Values) (A A' B B' : Term
 -- sorts: one is below the other only if it is at most that
 
 abbrev pub SortsAreBelow : Type 0
-SortsAreBelow = (E : Env) → IsAccepted E → (V : Values) (s s' : Sort) → Below E V (SortT s) (SortT s') → Entails E s s'
+SortsAreBelow = (E : Env) → IsAccepted E → (V : Values) (s s' : Sort) → Below E V (SortT s) (SortT s') → SortEntails E s s'
 
 -- families: an applied family is below another only if the families are the same and the arguments are equal
 

@@ -8,7 +8,7 @@ use Rattle.calculus_rules.specs.Environment.{Env}
 use Rattle.calculus_rules.specs.Context.{Context, values}
 use Rattle.pc_rules.specs.DirectedRun.{Run, done, no_unit, passing, is_beyond, bind, ticked}
 use Rattle.pc_rules.specs.DirectedWeakHead.{weak_next, steps, whnf}
-use Rattle.pc_rules.specs.DirectedErasable.{Ending, ending_on, end_of, ends_in_sort}
+use Rattle.pc_rules.specs.DirectedErasable.{TypeEnding, ending_on, end_of, ends_in_sort}
 use Rattle.pc_rules.proofs.Following.{ticking-more, ticking-none, bind_done}
 use Rattle.pc_rules.proofs.SameWithin.{Agrees, agrees_none, agrees_done, agrees_at, agrees_from, agrees_bind, agrees_ticking, agrees_passing, passed_first, pass_same}
 use Rattle.pc_rules.proofs.WholeSteps.{stays_same, stuck_same, step_same}
@@ -21,7 +21,7 @@ agrees_step n (Some t) stay stay' go go' p q =
     (agrees_bind n (λ v. passing (is_beyond t) v) (λ v. passing (is_beyond t) v) (λ _ w. go t w) (λ _ w. go' t w) (agrees_passing n (is_beyond t)) (λ _. q t))
 
 module _ (E : Env) where
-  module _ (n : ℕ) (go go' : Ending) (h : (c : Context) (t : Term) → Agrees n (go c t) (go' c t)) where
+  module _ (n : ℕ) (go go' : TypeEnding) (h : (c : Context) (t : Term) → Agrees n (go c t) (go' c t)) where
     agrees_end : (c : Context) (t : Term) → Agrees (suc n) (λ u. end_of E go c t u) (λ u. end_of E go' c t u)
     agrees_end c (SortT s) = agrees_done (suc n) true
     agrees_end c (Prod A B) =
@@ -30,12 +30,12 @@ module _ (E : Env) where
     agrees_end c t = agrees_done (suc n) false
 
   -- what is found after a step
-  abbrev after : ℕ → Ending
+  abbrev after : ℕ → TypeEnding
   after zero = λ c t u. no_unit
   after (suc n) = ends_in_sort E n
 
   -- by one step
-  abbrev found : ℕ → Ending
+  abbrev found : ℕ → TypeEnding
   found n c t u = ending_on (weak_next E (values c) t) (end_of E (after n) c t u) (after n c) u
 
   ends_is : (n : ℕ) (c : Context) (t : Term) (u : Account) → ends_in_sort E n c t u ≡ found n c t u

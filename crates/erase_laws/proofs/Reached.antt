@@ -16,7 +16,7 @@ use Rattle.calculus_rules.specs.Typing.{Mode, bare, Types, rel, sort, prod, lamb
 use Rattle.calculus_rules.specs.Accepted.{Accepted, empty, constant, block, IsFresh, env}
 use Rattle.calculus_rules.proofs.Bare.{bare_types}
 use Rattle.calculus_rules.proofs.OneEach.{one_of_each}
-use Rattle.lambda_box.specs.BoxProgram.{BoxConstant, BoxFamily, Has, here, there, NamesKept, Named}
+use Rattle.lambda_box.specs.BoxProgram.{BoxConstant, BoxFamily, Has, here, there, NamesKept, NamesOnly}
 use Rattle.lambda_box.specs.BoxForm.{IsBoxBody, AreOrdered}
 use Rattle.trees.proofs.Every.{every_more, every_before, every_both}
 use Rattle.erase_laws.specs.Erases.{Erases, box, Erases.rel, Erases.lambda, Erases.let_in, Erases.app, Erases.const, Erases.construct, Erases.case, Erases.fix, ErasesBranches, ErasesBranches.no_branches, ErasesBranches.branch, ErasesBodies, ErasesBodies.no_bodies, body}
@@ -123,7 +123,7 @@ module _ (levels : ℕ) (cs : List Constraint) where
   erased_bodies (constant {ds = ds} a f p q) (reached e es) d (there h) = declared_more _ ds d.body (erased_bodies a es d h)
 
 -- a term that names neither a new name nor anything outside the constants with it, names the constants without it
-without : (ds : List Kept) (k : Name) (b : BoxTerm) (xs : List BoxConstant) (t : BoxTerm) → IsFresh k ds → Every (BoxDeclared ds) t → Named (record { name = k; body = b } ∷ xs) t → Named xs t
+without : (ds : List Kept) (k : Name) (b : BoxTerm) (xs : List BoxConstant) (t : BoxTerm) → IsFresh k ds → Every (BoxDeclared ds) t → NamesOnly (record { name = k; body = b } ∷ xs) t → NamesOnly xs t
 without ds k b xs t fresh h g = every_both (BoxDeclared ds) (NamesKept (record { name = k; body = b } ∷ xs)) (NamesKept xs) both t h g
   where
     other : (j : Name) (b' : BoxTerm) → j ≢ k → Has (record { name = k; body = b } ∷ xs) (record { name = j; body = b' }) → Has xs (record { name = j; body = b' })

@@ -20,7 +20,7 @@ use Rattle.pc_rules.specs.DirectedWeakHead.{weak_next}
 use Rattle.calculus_rules.specs.Listed.{list_of}
 use Rattle.pc_rules.specs.DirectedComparison.{lifted_types}
 use Rattle.pc_rules.specs.DirectedTyping.{Typing}
-use Rattle.pc_rules.specs.DirectedErasable.{Ending, ending_on, end_of, ends_in_sort, arity_found, type_test, numbered_test, constructor_test, match_test, erasable_test}
+use Rattle.pc_rules.specs.DirectedErasable.{TypeEnding, ending_on, end_of, ends_in_sort, arity_found, type_test, numbered_test, constructor_test, match_test, erasable_test}
 use Rattle.calculus_rules.specs.PropSorts.{is_prop}
 use Rattle.pc_rules.proofs.Fair.{IsFair, fair_done, fair_refused, fair_passing, fair_spent, fair_if, fair_bind, fair_ticking_less, fair_less}
 use Rattle.pc_rules.proofs.FairTyping.{FairTyping, fair_sort_of}
@@ -31,7 +31,7 @@ fair_ending_on : {m k : ℕ} (o : Option Term) (stay stay' : Account → Run Boo
 fair_ending_on None stay stay' go go' p q = p
 fair_ending_on (Some t) stay stay' go go' p q = fair_ticking_less _ _ (fair_bind _ _ _ _ (fair_passing (is_beyond t)) (λ x. q t))
 
-fair_end_of : {m k : ℕ} (E : Env) (go go' : Ending) → ((c : Context) (t : Term) → IsFair m k (go c t) (go' c t)) → (c : Context) (t : Term) →
+fair_end_of : {m k : ℕ} (E : Env) (go go' : TypeEnding) → ((c : Context) (t : Term) → IsFair m k (go c t) (go' c t)) → (c : Context) (t : Term) →
     IsFair (suc m) k (λ u. end_of E go c t u) (λ u. end_of E go' c t u)
 fair_end_of E go go' h c (SortT s) = fair_done true
 fair_end_of E go go' h c (Prod A B) =

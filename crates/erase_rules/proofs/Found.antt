@@ -23,7 +23,7 @@ use Rattle.pc_rules.specs.DirectedWeakHead.{weak_next}
 use Rattle.calculus_rules.specs.Listed.{list_of}
 use Rattle.pc_rules.specs.DirectedComparison.{Test, Comparison, compare}
 use Rattle.pc_rules.specs.DirectedTyping.{Typing, rule, rule_number, infer, sort_of, sorts_of, levels_declared, undeclared_in, raises_past, find_family, constructor_number, match_counted, check_all, eliminated, predicate_rule, scrutinee_rule, branches_rule}
-use Rattle.pc_rules.specs.DirectedErasable.{Ending, ending_on, end_of, ends_in_sort, arity_found, type_test, numbered_test, constructor_test, match_sort, match_test}
+use Rattle.pc_rules.specs.DirectedErasable.{TypeEnding, ending_on, end_of, ends_in_sort, arity_found, type_test, numbered_test, constructor_test, match_sort, match_test}
 use Rattle.calculus_rules.specs.PropSorts.{is_prop}
 use Rattle.pc_rules.proofs.WeakNext.{none_some}
 use Rattle.calculus_rules.proofs.Spines.{one_item}
@@ -53,7 +53,7 @@ some_is_none h = absurd (some_none (done_value h))
 module _ (E : Env) where
   -- a type whose end is found to be a sort, at once
   abbrev EndsAtOnce : Term → Type 0
-  EndsAtOnce T = (go : Ending) (c : Context) (g : Term → Account → Run Bool) (u : Account) → ending_on (weak_next E (values c) T) (end_of E go c T u) g u ≡ done true u
+  EndsAtOnce T = (go : TypeEnding) (c : Context) (g : Term → Account → Run Bool) (u : Account) → ending_on (weak_next E (values c) T) (end_of E go c T u) g u ≡ done true u
 
   sort_ends : (s : Sort) → EndsAtOnce (SortT s)
   sort_ends s go c g u = refl

@@ -26,7 +26,7 @@ use Rattle.calculus_rules.proofs.Spines.{one_item}
 use Rattle.pc_rules.proofs.WeakNext.{none_some}
 use Rattle.rule_laws.proofs.TypedCounts.{typed_counted, accepted_counted}
 use Rattle.rule_laws.proofs.Names.{accepted_once}
-use Rattle.lambda_box.specs.BoxProgram.{BoxConstant, BoxProgram, Has, here, there, NamesKept, Named}
+use Rattle.lambda_box.specs.BoxProgram.{BoxConstant, BoxProgram, Has, here, there, NamesKept, NamesOnly}
 use Rattle.lambda_box.specs.BoxForm.{HasFewCounts}
 use Rattle.trees.proofs.Every.{every_more}
 use Rattle.erase_laws.specs.Erases.{Erases}
@@ -104,7 +104,7 @@ module _ (ds : List Kept) (cs : List BoxConstant) where
   right_there a b g k T o e m = g k T o (or_right (a k) (b k) e) m
 
   mutual
-    named_by : (t : BoxTerm) → Every (BoxDeclared ds) t → AreThere (λ k. names_constant k t) → Named cs t
+    named_by : (t : BoxTerm) → Every (BoxDeclared ds) t → AreThere (λ k. names_constant k t) → NamesOnly cs t
     named_by (Rel i) h g = tt
     named_by (Node l ts) h g = (
       label_named l h.0 (left_there (λ k. is_constant k l) (λ k. names_constant_places k ts) g),
@@ -130,7 +130,7 @@ module _ (ds : List Kept) (cs : List BoxConstant) where
     )
 
 -- with one constant more
-named_more : (d : BoxConstant) (cs : List BoxConstant) (t : BoxTerm) → Named cs t → Named (d ∷ cs) t
+named_more : (d : BoxConstant) (cs : List BoxConstant) (t : BoxTerm) → NamesOnly cs t → NamesOnly (d ∷ cs) t
 named_more d cs t h = every_more (NamesKept cs) (NamesKept (d ∷ cs)) later t h
   where
     later : (l : BoxLabel) → NamesKept cs l → NamesKept (d ∷ cs) l
@@ -153,7 +153,7 @@ module _ (E : Env) (w : HasCountedDeclarations E) (q : Test) (test : IsTest E.le
     pub erases : AreErased E ds r.constants
     pub reaches : r.without_body ≡ None → (k : Name) (T : Term) (o : Option Term) → is_reached k ts ≡ true → source.Has ds (Constant k T o) →
         (b : BoxTerm) × Has r.constants (record { name = k; body = b })
-    pub bodies : r.without_body ≡ None → (d : BoxConstant) → Has r.constants d → Named r.constants d.body
+    pub bodies : r.without_body ≡ None → (d : BoxConstant) → Has r.constants d → NamesOnly r.constants d.body
 
   abbrev Walks : List Kept → Type 0
   Walks ds = (ts : List BoxTerm) (r : Reached) (u v : Account) → (erased_constants E (infer E q n) ts ds u).outcome ≡ Gives r v → Walked ds ts r
@@ -195,7 +195,7 @@ module _ (E : Env) (w : HasCountedDeclarations E) (q : Test) (test : IsTest E.le
           let x = h.reaches a j S p (or_right (names_constant j b') (is_reached j ts) is) m in
           (x.0, there x.1)
 
-      named : r.without_body ≡ None → (d : BoxConstant) → Has (record { name = k; body = b' } ∷ r.constants) d → Named (record { name = k; body = b' } ∷ r.constants) d.body
+      named : r.without_body ≡ None → (d : BoxConstant) → Has (record { name = k; body = b' } ∷ r.constants) d → NamesOnly (record { name = k; body = b' } ∷ r.constants) d.body
       named a d here =
           named_more (record { name = k; body = b' }) r.constants b'
           (named_by ds r.constants b' declared (λ j S p is m. h.reaches a j S p (or_left (names_constant j b') (is_reached j ts) is) m))

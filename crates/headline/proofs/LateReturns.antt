@@ -2,7 +2,7 @@
 use Rattle.std.proofs.Common.{◌∙◌, ℕ, ◌≤◌, List, [], ◌∷◌, length, refl, sym, subst, arith}
 use Rattle.trees.specs.Measures.{depth}
 use Rattle.lambda_box.specs.BoxProgram.{BoxConstant, BoxFamily, Has, here, there}
-use Rattle.lambda_box.specs.ClosureEvaluation.{Empty, NoValue, bind_all, Run}
+use Rattle.lambda_box.specs.ClosureEvaluation.{Empty, NoValue, bind_all, ClosureRun}
 use Rattle.lambda_box.specs.DataTerms.{no_data, hold_none}
 use Rattle.box_passes.specs.PassLaws.{saturated_program}
 use Rattle.box_passes.proofs.Matches.{same_matches}
@@ -50,7 +50,7 @@ late_returns P pages b pos small some ok value tree nodes matches evaluates read
     let ready = (data_kept S (to_anf S) refl shallow depths.1 kept.form kept.ordinary).0 in
     let x = same_matches O before.form before.saturated [] [] no_data value tree nodes matches evaluates reads in
     let first_run = x.2 in
-    let run = subst (λ vs. Run O (bind_all vs Empty) O.main first_run.v first_run.counts) (no_values x.1 refl) first_run.run in
+    let run = subst (λ vs. ClosureRun O (bind_all vs Empty) O.main first_run.v first_run.counts) (no_values x.1 refl) first_run.run in
     let r = shrunk_keeps P ok.form NoValue [] hold_none first_run.v tree first_run.counts run first_run.reads in
     let d = reads_tree r.v tree r.reads in
     let c = r.counts in

@@ -16,7 +16,7 @@ use Rattle.lambda_box.specs.DataTerms.{greatest_words}
 use Rattle.erase_rules.specs.DirectedProgram.{Program, erased_program}
 use Rattle.box_passes.specs.PassLaws.{saturated_program}
 use Rattle.closure_lift.specs.LiftedForm.{Limits}
-use Rattle.back_end.specs.BackEnd.{passed, deepest, IsWithin}
+use Rattle.back_end.specs.BackEnd.{passed, deepest, IsWithinPasses}
 use Rattle.headline.specs.SourceWords.{source_words, source_branches}
 
 -- some text spells e within the limits, and the directed rules accept it, with some units and some room for nested rules: E keeps its declarations, T is main's type
@@ -52,7 +52,7 @@ pub record FitsPasses (P : BoxProgram) : Type 0 where
 
 -- it has the form of programs, at most as many constructors in a family as its source, and at most the source's words
 pub record IsWithinSource (E : Env) (main : Term) (P : BoxProgram) : Type 0 where
-  pub within : IsWithin P (source_branches E)
+  pub within : IsWithinPasses P (source_branches E)
   pub words : greatest_words P ≤ source_words E main
 
 abbrev pub ErasedProgramsAreWithin : Type 0

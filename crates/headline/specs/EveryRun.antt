@@ -12,7 +12,7 @@ use Rattle.wasm_core.specs.MachineStep.{State, Store, Over, Reach}
 use Rattle.wasm_core.specs.Runs.{main_start, store_of}
 use Rattle.wasm_core.specs.Answer.{Answers, AnswersWithin, IsAtEnd}
 use Rattle.wasm_emit.specs.EmittedModule.{module_of}
-use Rattle.back_end.specs.BackEnd.{passed, IsWithin}
+use Rattle.back_end.specs.BackEnd.{passed, IsWithinPasses}
 
 -- the module that the passes and emission make of the program, whose memory may grow to so many pages
 abbrev pub module_for : BoxProgram → ℕ → Parts
@@ -41,12 +41,12 @@ pub record EveryRunAnswers (P : BoxProgram) (pages w b n : ℕ) (tree : Data) : 
 -- of a program of the form within the limits of the passes, with at most w words, and at most b constructors in a family
 abbrev pub EvaluatedProgramsAnswer : Type 0
 EvaluatedProgramsAnswer =
-    (P : BoxProgram) (pages w b n : ℕ) (tree : Data) → 0 < pages → pages ≤ 16384 → 0 < b → greatest_words P ≤ w → IsWithin P b → EvaluatesTo P tree n → EveryRunAnswers P pages w b n tree
+    (P : BoxProgram) (pages w b n : ℕ) (tree : Data) → 0 < pages → pages ≤ 16384 → 0 < b → greatest_words P ≤ w → IsWithinPasses P b → EvaluatesTo P tree n → EveryRunAnswers P pages w b n tree
 
 -- whether main of the program evaluates or not: where the saturated program's main evaluates to data, each run of the module that returns has made at least
 -- as many steps as that evaluation has matches
 abbrev pub ReturnsTakeMatches : Type 0
 ReturnsTakeMatches =
-    (P : BoxProgram) (pages b : ℕ) → 0 < pages → pages ≤ 16384 → 0 < b → IsWithin P b → (value : BoxTerm) (tree : Data) (nodes matches : ℕ) →
+    (P : BoxProgram) (pages b : ℕ) → 0 < pages → pages ≤ 16384 → 0 < b → IsWithinPasses P b → (value : BoxTerm) (tree : Data) (nodes matches : ℕ) →
     BoxEvaluates (saturated_program P) (saturated_program P).main value nodes matches → BoxReads (saturated_program P) value tree →
     (first : State) (k : ℕ) (s : Store) → main_start (module_for P pages) ≡ Some first → Reach (module_for P pages) k first (Over Returned s) → matches ≤ k

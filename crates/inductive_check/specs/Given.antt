@@ -24,9 +24,9 @@ abbrev pub given_of : RawDecl → Given
 given_of (raw.Constant k T b) = GivenConstant k T b
 given_of (raw.Block k ps fs) = GivenBlock (block_from k ps fs)
 
-abbrev pub IsBlock : RawDecl → Type 0
-IsBlock (raw.Constant k T b) = ⊥
-IsBlock (raw.Block k ps fs) = Unit {0}
+abbrev pub IsRawBlock : RawDecl → Type 0
+IsRawBlock (raw.Constant k T b) = ⊥
+IsRawBlock (raw.Block k ps fs) = Unit {0}
 
 -- a block that is read (of a constant, its name alone)
 abbrev pub block_of : RawDecl → BlockOf

@@ -7,7 +7,7 @@ ghost use Rattle.pc_rules.specs.Follows.{Follows};
 ghost use Rattle.pc_rules.specs.Lookup.{IsNew};
 ghost use Rattle.pc_rules.specs.WellCounted.{IsCountedEnv};
 ghost use Rattle.rule_laws.specs.Declarations.{BlockFormed, IsCheckedBlock};
-ghost use Rattle.inductive_check.specs.Given.{IsBlock, block_of, block_from};
+ghost use Rattle.inductive_check.specs.Given.{IsRawBlock, block_of, block_from};
 
 use crate::constructors::check_families;
 use crate::heads::{check_heads, heads};
@@ -96,7 +96,7 @@ pub fn check_block<T: Typer, R: Reducer>(
     m: &mut Meter,
 ) -> Result<Block, Halt>
     requires env { IsCountedEnv env.now }
-    requires block { IsBlock raw.now }
+    requires block { IsRawBlock raw.now }
     requires new { IsNew env.now (block_of raw.now).name }
     ensures follows { Follows (block_rule env.now (test_of env.now) (2048 - m.old.nest) (block_of raw.now) m.old.account) result m.old m.new }
     ensures fits { IfOk result (λ block. IsCheckedBlock env.now (block_of raw.now) block) }

@@ -3,7 +3,7 @@ ghost use Rattle.std.specs.Prelude.{◌≡◌, true, map, IfOk};
 ghost use Rattle.calculus_rules.specs.Positivity.{IsPositive};
 ghost use Rattle.pc_rules.specs.DirectedPositivity.{types_positive, constructor_positive, constructors_positive, families_positive, block_positive};
 ghost use Rattle.pc_rules.specs.Follows.{Follows, halted};
-ghost use Rattle.inductive_check.specs.Given.{ctor_of, family_of, IsBlock, block_of};
+ghost use Rattle.inductive_check.specs.Given.{ctor_of, family_of, IsRawBlock, block_of};
 
 use crate::positivity::is_positive;
 use calculus_rules::target::Target;
@@ -94,7 +94,7 @@ fn families_positive(
 /// hold. Takes the units that `check_block` takes for this: one for each parameter of a kept family that names what the test is for. `Spent`
 /// exactly where there are too few. Never `TooDeep`. `Memory` also where a list of a block has more than 4,294,967,295 items.
 pub fn positive(alloc: Global, env: &Env, raw: &RawDecl, m: &mut Meter) -> Result<bool, Stop>
-    requires block { IsBlock raw.now }
+    requires block { IsRawBlock raw.now }
     ensures follows { Follows (block_positive env.now (block_of raw.now) m.old.account) (halted result) m.old m.new }
     ensures positive { IfOk result (λ b. b ≡ true → IsPositive env.now (block_of raw.now)) }
 {

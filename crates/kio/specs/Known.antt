@@ -11,13 +11,13 @@ StillTells (Some a) (Some b) = Unit {0}
 StillTells _ _ = ⊥
 
 -- The whole input, within the limit; or the input is longer.
-abbrev pub ReadsAll : {V : Type 0} → (V → List ℕ) → Result V ReadAll → ℕ → Option (List ℕ) → Option (List ℕ) → Type 0
-ReadsAll view (Ok v) limit None new = length (view v) ≤ limit
-ReadsAll view (Ok v) limit (Some left) new = (view v ≡ left) × (length left ≤ limit)
-ReadsAll view (Err reads.TooLong) limit None new = Unit {0}
-ReadsAll view (Err reads.TooLong) limit (Some left) new = limit < length left
-ReadsAll view (Err reads.Fault) limit left new = Unit {0}
-ReadsAll view (Err reads.Memory) limit left new = Unit {0}
+abbrev pub ReadsInput : {V : Type 0} → (V → List ℕ) → Result V ReadAll → ℕ → Option (List ℕ) → Option (List ℕ) → Type 0
+ReadsInput view (Ok v) limit None new = length (view v) ≤ limit
+ReadsInput view (Ok v) limit (Some left) new = (view v ≡ left) × (length left ≤ limit)
+ReadsInput view (Err reads.TooLong) limit None new = Unit {0}
+ReadsInput view (Err reads.TooLong) limit (Some left) new = limit < length left
+ReadsInput view (Err reads.Fault) limit left new = Unit {0}
+ReadsInput view (Err reads.Memory) limit left new = Unit {0}
 
 -- What is left after the reads, where the source tells it: nothing after the whole input; else what was given, at most as many
 -- bytes as the limit, or more of them where the input is too long, is gone from the front.

@@ -13,9 +13,9 @@ use Rattle.wasm_core.specs.ModuleCondition.{All, IsInstr}
 use Rattle.wasm_core.specs.ShortestBytes.{put_all, put_instr}
 use Rattle.anf_convert.specs.declared.program.Atom.{Atom}
 use Rattle.anf_convert.specs.AnfForm.{AtomFits, AtomsFit}
-use Rattle.closure_lift.specs.Lifted.{Op, OConst, OApp, OCon, OClos, OCase, Block, RetAtom, LetAtom, Ret, Let, Branches, BNil, BCons, Program, many}
-use Rattle.closure_lift.specs.LiftedForm.{OpFits, BlockFits, BranchesFit, Formed, Limits}
-use Rattle.wasm_emit.specs.EmittedCode.{Load, Store, Const, IfWord, IfOnly, CallClosure, ensure_room, constant_index}
+use Rattle.closure_lift.specs.Lifted.{Op, OConst, OApp, OCon, OClos, OCase, Block, RetAtom, LetAtom, Ret, Let, BranchBlocks, BNil, BCons, Program, many}
+use Rattle.closure_lift.specs.LiftedForm.{OpFits, LiftedBlockFits, BranchesFit, Formed, Limits}
+use Rattle.wasm_emit.specs.EmittedCode.{Load, StoreWord, ConstWord, IfWord, IfOnly, CallClosure, ensure_room, constant_index}
 use Rattle.wasm_emit.specs.EmittedLocals.{top, top_op, top_branches}
 use Rattle.wasm_emit.specs.EmitLaws.{CountsFit}
 use Rattle.wasm_emit.proofs.Lengths.{bytes_of, size, u_2, z_unreachable, z_if, z_else, z_end, z_op, z_call, z_indirect, z_get, z_set, z_tee, z_heap, z_size, z_room, z_small, z_header, z_global, z_load, z_store, z_const}
@@ -78,8 +78,8 @@ b_tee x h = b_one (LocalTee x) (λ r. z_tee r x (omega arith)) (omega arith)
 pub b_load : (o : ℕ) → o < 16384 → Bounded 4 (λ r. Load o ∷ r)
 b_load o h = b_one (Load o) (λ r. z_load r o h) (omega arith, omega arith)
 
-b_const : (n : ℕ) → n < 4294967296 → Bounded 6 (λ r. Const n ∷ r)
-b_const n h = b_one (Const n) (λ r. z_const r n) (omega arith)
+b_const : (n : ℕ) → n < 4294967296 → Bounded 6 (λ r. ConstWord n ∷ r)
+b_const n h = b_one (ConstWord n) (λ r. z_const r n) (omega arith)
 
 pub b_call : (f : ℕ) → f < 2097152 → Bounded 4 (λ r. Call f ∷ r)
 b_call f h = b_one (Call f) (λ r. z_call r f h) (omega arith)
@@ -119,7 +119,7 @@ b_params (suc n) h = b_most _ (omega arith) (b_set (suc n) (omega arith) then b_
 
 b_ensure : Bounded 15 ensure_room
 b_ensure =
-    b_most 15 (omega arith) (b_one (GlobalGet 2) (λ r. z_heap r) (omega arith) then (b_one MemorySize (λ r. z_size r) tt then (b_one (Const 16) (λ r. z_small r 16 (omega arith)) (omega arith) then (b_one (Operation op32.Shl) (λ r. z_op r op32.Shl) tt
+    b_most 15 (omega arith) (b_one (GlobalGet 2) (λ r. z_heap r) (omega arith) then (b_one MemorySize (λ r. z_size r) tt then (b_one (ConstWord 16) (λ r. z_small r 16 (omega arith)) (omega arith) then (b_one (Operation op32.Shl) (λ r. z_op r op32.Shl) tt
     then (b_one (Operation op32.GtU) (λ r. z_op r op32.GtU) tt then (b_one IfOnly (λ r. z_if r Empty) tt then (b_one (Call 0) (λ r. z_room r) (omega arith) then b_end)))))))
 
 module _ (P : Program) (m : ℕ) (form : Formed P m) (counts : CountsFit P m) (limits : Limits P) where
@@ -132,12 +132,12 @@ module _ (P : Program) (m : ℕ) (form : Formed P m) (counts : CountsFit P m) (l
   b_fill : (n d : ℕ) (ps : List Place) (as' : List Atom) → d < 100000 → length as' < 2049 → AtomsFit n as' → Near ps → Bounded (16 * length as') (fill ps d as')
   b_fill n d ps [] hd few fit h = b_most _ (omega arith) b_none
   b_fill n d ps (a ∷ as') hd few fit h =
-      b_most _ (omega arith) (b_get d hd then (b_atom n ps a fit.0 h then (b_one {k = 4} (Store (4 * suc (length as'))) (λ r. z_store r (4 * suc (length as')) (omega arith)) (omega arith, omega arith) then b_fill n d ps as' hd (omega arith) fit.1 h)))
+      b_most _ (omega arith) (b_get d hd then (b_atom n ps a fit.0 h then (b_one {k = 4} (StoreWord (4 * suc (length as'))) (λ r. z_store r (4 * suc (length as')) (omega arith)) (omega arith, omega arith) then b_fill n d ps as' hd (omega arith) fit.1 h)))
 
   b_block : (n d header : ℕ) (ps : List Place) (as' : List Atom) → d < 100000 → header < 4294967296 → length as' < 2049 → AtomsFit n as' → Near ps → Bounded (45 + 16 * length as') (block ps d header as')
   b_block n d header ps as' hd hh few fit h =
-      b_most _ (omega arith) (b_one {k = 2} (GlobalGet 2) (λ r. z_heap r) (omega arith) then (b_tee d hd then (b_one {k = 4} (Const (4 * suc (length as'))) (λ r. z_small r (4 * suc (length as')) (omega arith)) (omega arith) then (b_one {k = 1} (Operation op32.Add) (λ r. z_op r op32.Add) tt
-      then (b_global 2 (omega arith) then (b_ensure then (b_get d hd then (b_const header hh then (b_one {k = 3} (Store 0) (λ r. z_header r) (omega arith, omega arith) then (b_fill n d ps as' hd few fit h then b_get d hd))))))))))
+      b_most _ (omega arith) (b_one {k = 2} (GlobalGet 2) (λ r. z_heap r) (omega arith) then (b_tee d hd then (b_one {k = 4} (ConstWord (4 * suc (length as'))) (λ r. z_small r (4 * suc (length as')) (omega arith)) (omega arith) then (b_one {k = 1} (Operation op32.Add) (λ r. z_op r op32.Add) tt
+      then (b_global 2 (omega arith) then (b_ensure then (b_get d hd then (b_const header hh then (b_one {k = 3} (StoreWord 0) (λ r. z_header r) (omega arith, omega arith) then (b_fill n d ps as' hd few fit h then b_get d hd))))))))))
 
   b_jump : (b : Bool) (g h n depth : ℕ) → jumps g h depth ≡ b → n ≤ 7 → worker_index P g < 2097152 → Bounded 38 (λ r. if b then into_params n (Br depth ∷ r) else (Call (worker_index P g) ∷ r))
   b_jump true g h n depth e few low =
@@ -159,17 +159,17 @@ module _ (P : Program) (m : ℕ) (form : Formed P m) (counts : CountsFit P m) (l
       b_most 102 (omega (arith, few)) (b_push j.1 fit.2 then (b_atom n ps a fa h then b_worker at j.0 (length j.1) few (omega (arith, slice_get_within P.functions j.0 takes.fn takes.at, limits.few, counts.constants))))
 
   -- what each of the two chains makes of a match's branches
-  abbrev empties_weight : Branches → ℕ
+  abbrev empties_weight : BranchBlocks → ℕ
   empties_weight BNil = 0
   empties_weight (BCons zero t bs) = 19 + weight t + empties_weight bs
   empties_weight (BCons (suc n) t bs) = empties_weight bs
 
-  abbrev heads_weight : Branches → ℕ
+  abbrev heads_weight : BranchBlocks → ℕ
   heads_weight BNil = 0
   heads_weight (BCons zero t bs) = heads_weight bs
   heads_weight (BCons (suc n) t bs) = 19 + weight t + heads_weight bs
 
-  both_chains : (bs : Branches) → empties_weight bs + heads_weight bs ≡ branches_weight bs
+  both_chains : (bs : BranchBlocks) → empties_weight bs + heads_weight bs ≡ branches_weight bs
   both_chains BNil = refl
   both_chains (BCons zero t bs) = omega (arith, both_chains bs)
   both_chains (BCons (suc n) t bs) = omega (arith, both_chains bs)
@@ -192,7 +192,7 @@ module _ (P : Program) (m : ℕ) (form : Formed P m) (counts : CountsFit P m) (l
         b_most _ (omega (arith, both_chains bs)) (b_atom n ps a fit.0 h then (b_set d (omega arith) then b_empties n d ps at 0 bs (λ at'. heads P ps d at' 0 bs) (1 + heads_weight bs) (omega arith) (omega (arith, fit.1)) h fit.2 (λ at'. b_heads n d ps at' 0 bs (omega arith) (omega
         (arith, fit.1)) h fit.2)))
 
-    pub b_code : (n d : ℕ) (ps : List Place) (at : Position) (t : Block) → top d t < 100000 → Near ps → BlockFits P.functions (length P.constants) m n t → Bounded (weight t) (code P ps d at t)
+    pub b_code : (n d : ℕ) (ps : List Place) (at : Position) (t : Block) → top d t < 100000 → Near ps → LiftedBlockFits P.functions (length P.constants) m n t → Bounded (weight t) (code P ps d at t)
     b_code n d ps at (RetAtom a) le h fit = b_atom n ps a fit h
     b_code n d ps at (LetAtom a t) le h fit = b_most _ (omega arith) (b_atom n ps a fit.0 h then (b_set d (omega arith) then b_code (suc n) (suc d) (At (InLocal d) ∷ ps) at t (omega arith) (omega arith, h) fit.1))
     b_code n d ps at (Ret x) le h fit = b_op n d ps at x le h fit
@@ -201,7 +201,7 @@ module _ (P : Program) (m : ℕ) (form : Formed P m) (counts : CountsFit P m) (l
         (λ q e. let z = unmade_some (block_reads 0 t) (known P ps x) e in b_most _ (omega arith) (b_code (suc n) d (q ∷ ps) at t (omega (arith, top_less d t)) (known_fits P 16384 m form n 100000 ps x fit.0 h z.1, h) fit.1))
         (b_most _ (omega arith) (b_op n d ps Inside x (omega arith) h fit.0 then (b_set d (omega arith) then b_code (suc n) (suc d) (At (InLocal d) ∷ ps) at t (omega arith) (omega arith, h) fit.1)))
 
-    b_empties : (n d : ℕ) (ps : List Place) (at : Position) (c : ℕ) (bs : Branches) (others : Position → List Instr → List Instr) (k : ℕ) → max (suc d) (top_branches (suc d) bs) < 100000 → c + many bs ≤ m → Near ps → BranchesFit P.functions (length P.constants) m n bs →
+    b_empties : (n d : ℕ) (ps : List Place) (at : Position) (c : ℕ) (bs : BranchBlocks) (others : Position → List Instr → List Instr) (k : ℕ) → max (suc d) (top_branches (suc d) bs) < 100000 → c + many bs ≤ m → Near ps → BranchesFit P.functions (length P.constants) m n bs →
         ((at' : Position) → Bounded k (others at')) → Bounded (empties_weight bs + k) (empties P ps d at c bs others)
     b_empties n d ps at c BNil others k le few h fit o = b_most _ (omega arith) (o at)
     b_empties n d ps at c (BCons zero t bs) others k le few h fit o =
@@ -209,7 +209,7 @@ module _ (P : Program) (m : ℕ) (form : Formed P m) (counts : CountsFit P m) (l
         then b_arms (b_code (0 + n) (suc d) ps (deeper at) t (omega arith) h fit.1) (b_empties n d ps (deeper at) (suc c) bs others k (omega arith) (omega arith) h fit.2 o))))
     b_empties n d ps at c (BCons (suc j) t bs) others k le few h fit o = b_empties n d ps at (suc c) bs others k (omega arith) (omega arith) h fit.2 o
 
-    b_heads : (n d : ℕ) (ps : List Place) (at : Position) (c : ℕ) (bs : Branches) → max (suc d) (top_branches (suc d) bs) < 100000 → c + many bs ≤ m → Near ps → BranchesFit P.functions (length P.constants) m n bs → Bounded (1 + heads_weight bs) (heads P ps d at c bs)
+    b_heads : (n d : ℕ) (ps : List Place) (at : Position) (c : ℕ) (bs : BranchBlocks) → max (suc d) (top_branches (suc d) bs) < 100000 → c + many bs ≤ m → Near ps → BranchesFit P.functions (length P.constants) m n bs → Bounded (1 + heads_weight bs) (heads P ps d at c bs)
     b_heads n d ps at c BNil le few h fit = b_unreachable
     b_heads n d ps at c (BCons zero t bs) le few h fit = b_heads n d ps at (suc c) bs (omega arith) (omega arith) h fit.2
     b_heads n d ps at c (BCons (suc j) t bs) le few h fit =

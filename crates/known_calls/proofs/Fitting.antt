@@ -6,7 +6,7 @@ use Rattle.anf_convert.specs.declared.program.Atom.{Atom}
 use Rattle.anf_convert.specs.declared.program.Atom.TheVariants.{Var as AVar, Box as ABox, Empty as AEmpty}
 use Rattle.anf_convert.specs.AnfForm.{AtomFits, AtomsFit}
 use Rattle.closure_lift.specs.Lifted.{Op, OConst, OApp, OCon, OClos, OCase, Block, RetAtom, LetAtom, Ret, Let, Program}
-use Rattle.closure_lift.specs.LiftedForm.{Takes, OpFits, BlockFits, Formed}
+use Rattle.closure_lift.specs.LiftedForm.{Takes, OpFits, LiftedBlockFits, Formed}
 use Rattle.wasm_core.specs.ModuleCondition.{All}
 use Rattle.known_calls.specs.KnownPlaces.{Word, InLocal, InField, IsConst, Place, At, Known, word_at, word_of, words_of, all_at, fields_of, known_at, known_function}
 use Rattle.known_calls.specs.KnownCode.{known_closure, closure_alone, known}
@@ -88,7 +88,7 @@ module _ (P : Program) (far : ℕ) where
       subst (PlaceFits d) c.is (subst (Takes P.functions g) (sym r.same) takes, c.few, r.all)
 
   module _ (most : ℕ) (form : Formed P most) where
-    alone_fits : (n d : ℕ) (ps : List Place) (t : Block) {q : Place} → BlockFits P.functions (length P.constants) most n t → All (PlaceFits d) ps → closure_alone ps t ≡ Some q → PlaceFits d q
+    alone_fits : (n d : ℕ) (ps : List Place) (t : Block) {q : Place} → LiftedBlockFits P.functions (length P.constants) most n t → All (PlaceFits d) ps → closure_alone ps t ≡ Some q → PlaceFits d q
     alone_fits n d ps (Ret (OClos g as')) fit h e = clos_fits n d ps g as' fit.0 fit.1 h e
     alone_fits n d ps (Ret (OConst x)) fit h e = cc
     alone_fits n d ps (Ret (OApp f a)) fit h e = cc

@@ -19,7 +19,7 @@ use Rattle.wasm_core.specs.MachineStep.{State}
 use Rattle.wasm_core.proofs.Rules.{Around}
 use Rattle.wasm_core.proofs.Rules as rule
 use Rattle.anf_convert.specs.declared.program.Atom.{Atom}
-use Rattle.closure_lift.specs.Lifted.{Op, OConst, OApp, OCon, OClos, OCase, Block, RetAtom, LetAtom, Ret, Let, Branches, Program, Fn, Val, VBox, VCon, VClos, Vals, VNil, VCons, size, ◌+v◌, many, BranchAt}
+use Rattle.closure_lift.specs.Lifted.{Op, OConst, OApp, OCon, OClos, OCase, Block, RetAtom, LetAtom, Ret, Let, BranchBlocks, Program, Fn, Val, VBox, VCon, VClos, Vals, VNil, VCons, size, ◌+v◌, many, BranchAt}
 use Rattle.wasm_emit.specs.EmitLaws.{Spent}
 use Rattle.wasm_emit.specs.EmittedLocals.{top, top_op}
 use Rattle.wasm_emit.proofs.Source.{Applies, applies_alone, applies_more, Is, AllAre, Does, do_const, do_app, do_box_app, do_con, do_clos, do_case, Gets, gets_atom, gets_let_atom, gets_ret, gets_let}
@@ -282,7 +282,7 @@ module _ (P : Program) (main : Body) (gs : List GlobalDef) (es : List Export) (p
       by_kind at m p h ls d ps room nil env un F vals rest l u deep go (Some j) known_f = absurd (no_box P m h ls d (calls P m h ls d env isf known_f).value)
 
   -- a value is matched
-  chosen : {D : ℕ} {tail : Bool} {e : Vals} {bs : Branches} {i : ℕ} {vs : Vals} {t : Block} {r : Val} {c k b s : ℕ} → many bs ≤ N → BranchAt bs i (size vs) t → SimCode tail D (vs +v e) t r c k b s →
+  chosen : {D : ℕ} {tail : Bool} {e : Vals} {bs : BranchBlocks} {i : ℕ} {vs : Vals} {t : Block} {r : Val} {c k b s : ℕ} → many bs ≤ N → BranchAt bs i (size vs) t → SimCode tail D (vs +v e) t r c k b s →
       (at : Position) (m : Mem) (p h : ℕ) (ls : List ConstValue) (d w : ℕ) (ps : List Place) → Room M m p h → word m 0 ≡ 0 → Env m h ls (suc d) ps e → Unread (fields_of d (size vs) ps) t → top (suc d) t ≤ length ls → h + 4 * s ≤ cap.bytes → slice_get ls d ≡ Some (I32 w) → Stands m h w (VCon i vs) →
       Yields P M cap Q at m p h ls d r tail D k s (11 * N + (cost c b + 2)) (λ rest. empties P ps d at 0 bs (λ at'. heads P ps d at' 0 bs) rest)
   chosen {bs = bs} few branch body at m p h ls d w ps room nil env un has needed is (s_empty lt e) =
@@ -295,7 +295,7 @@ module _ (P : Program) (main : Body) (gs : List GlobalDef) (es : List Export) (p
       let z = λ (at' : Position). take_head P M cap Q is ps at' 0 some' (omega (arith, room.inside)) (omega (arith, head)) (omega arith) branch y in
       record { run = λ f vals rest l u bound stood deep fits go out. (pass_empties P M cap Q is ps at (2 * q) 0 bs (λ at'. heads P ps d at' 0 bs) (omega arith) z).run f vals rest l u bound stood deep (omega arith) go out }
 
-  sim_case : {D : ℕ} {tail : Bool} {e : Vals} {a : Atom} {bs : Branches} {i : ℕ} {vs : Vals} {t : Block} {r : Val} {c k b s : ℕ} → Is e a (VCon i vs) → many bs ≤ N → BranchAt bs i (size vs) t → SimCode tail D (vs +v e) t r c k b s → SimOp tail D e (OCase a bs) r (suc c) (suc k) b s
+  sim_case : {D : ℕ} {tail : Bool} {e : Vals} {a : Atom} {bs : BranchBlocks} {i : ℕ} {vs : Vals} {t : Block} {r : Val} {c k b s : ℕ} → Is e a (VCon i vs) → many bs ≤ N → BranchAt bs i (size vs) t → SimCode tail D (vs +v e) t r c k b s → SimOp tail D e (OCase a bs) r (suc c) (suc k) b s
   sim_case {a = a} {bs = bs} {c = c} {k} {b} isa few branch body = record {
     sim = λ at m p h ls d ps n is room nil env un has needed. record {
       run = λ f vals rest l u bound stood deep fits go out.

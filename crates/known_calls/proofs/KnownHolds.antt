@@ -8,7 +8,7 @@ use Rattle.wasm_core.specs.declared.types.ConstValue.TheVariants.{I32}
 use Rattle.wasm_core.specs.declared.instrs.BlockType.TheVariants.{Value}
 use Rattle.wasm_core.specs.declared.instrs.Instr.TheVariants.{Loop}
 use Rattle.wasm_core.specs.Memory.{word}
-use Rattle.wasm_core.specs.MachineStep.{Label}
+use Rattle.wasm_core.specs.MachineStep.{BlockLabel}
 use Rattle.wasm_emit.specs.EmittedLocals.{top}
 use Rattle.wasm_emit.proofs.Bytes.{Mem, word_same}
 use Rattle.wasm_emit.proofs.Values.{Stands}
@@ -42,21 +42,21 @@ abbrev pub OpUnread : List Place → Op → Type 0
 OpUnread ps x = (i g : ℕ) (ws : List Word) → slice_get ps i ≡ Some (Known g ws) → op_reads i x ≡ false
 
 -- the label of a worker's loop
-abbrev pub loop_of : Program → ℕ → Fn → Label
+abbrev pub loop_of : Program → ℕ → Fn → BlockLabel
 loop_of P g fn = record { keeps = false; goes_on = Loop (Value type.I32) ∷ worker_code P g fn; below = [] }
 
 -- where a block stands that uses locals from d on, in a function of n locals: inside; or in a worker's tail, where the function gives a word, the labels around are those of the block's own branches, so many, and
 -- that of the loop, the parameters are among the locals below d, and the locals are enough for the worker's body
-pub data Stood (P : Program) : Position → Bool → ℕ → ℕ → Bool → List Label → Type 0 where
-  stood_inside : {tail keeps : Bool} {d n : ℕ} {ls : List Label} → Stood P Inside tail d n keeps ls
-  stood_in_tail : {g depth d n : ℕ} {fn : Fn} (inner : List Label) → length inner ≡ depth → slice_get P.functions g ≡ Some fn → suc fn.captured ≤ d → top (suc fn.captured) fn.body ≤ n → Stood P (InTail g depth) true d n true (inner ++ loop_of P g fn ∷ [])
+pub data Stood (P : Program) : Position → Bool → ℕ → ℕ → Bool → List BlockLabel → Type 0 where
+  stood_inside : {tail keeps : Bool} {d n : ℕ} {ls : List BlockLabel} → Stood P Inside tail d n keeps ls
+  stood_in_tail : {g depth d n : ℕ} {fn : Fn} (inner : List BlockLabel) → length inner ≡ depth → slice_get P.functions g ≡ Some fn → suc fn.captured ≤ d → top (suc fn.captured) fn.body ≤ n → Stood P (InTail g depth) true d n true (inner ++ loop_of P g fn ∷ [])
 
 module _ (P : Program) where
-  pub stood_up : {at : Position} {tail keeps : Bool} {d n : ℕ} {ls : List Label} (d' n' : ℕ) → d ≤ d' → n ≤ n' → Stood P at tail d n keeps ls → Stood P at tail d' n' keeps ls
+  pub stood_up : {at : Position} {tail keeps : Bool} {d n : ℕ} {ls : List BlockLabel} (d' n' : ℕ) → d ≤ d' → n ≤ n' → Stood P at tail d n keeps ls → Stood P at tail d' n' keeps ls
   stood_up d' n' le more stood_inside = stood_inside
   stood_up d' n' le more (stood_in_tail inner count at few enough) = stood_in_tail inner count at (omega arith) (omega arith)
 
-  pub stood_deeper : {at : Position} {tail keeps : Bool} {d n : ℕ} {ls : List Label} (k : Label) → Stood P at tail d n keeps ls → Stood P (deeper at) tail d n keeps (k ∷ ls)
+  pub stood_deeper : {at : Position} {tail keeps : Bool} {d n : ℕ} {ls : List BlockLabel} (k : BlockLabel) → Stood P at tail d n keeps ls → Stood P (deeper at) tail d n keeps (k ∷ ls)
   stood_deeper k stood_inside = stood_inside
   stood_deeper k (stood_in_tail inner count at few enough) = stood_in_tail (k ∷ inner) (ap suc count) at few enough
 

@@ -12,7 +12,7 @@ use Rattle.wasm_core.specs.declared.instrs.Instr.TheVariants.{Unreachable, Nop, 
 use Rattle.wasm_core.specs.Parts.{Parts}
 use Rattle.wasm_core.specs.Arithmetic.{flag, is_unary}
 use Rattle.wasm_core.specs.Instance.{Func, func_of, table_of, greatest_pages}
-use Rattle.wasm_core.specs.MachineStep.{Bracket, Opens, Divides, Closes, Plain, bracket, past_end, to_else, after_end, else_arm, Label, Frame, Store, Conf, State, At, Over, on_some, taking, arm, leave_block, back, at_end, jump, call, call_entry, same_func_type, within, operation, act, next, step, Reach}
+use Rattle.wasm_core.specs.MachineStep.{Bracket, Opens, Divides, Closes, Plain, bracket, past_end, to_else, after_end, else_arm, BlockLabel, Frame, Store, Conf, State, At, Over, on_some, taking, arm, leave_block, back, at_end, jump, call, call_entry, same_func_type, within, operation, act, next, step, Reach}
 use Rattle.wasm_core.proofs.Small.{inj, no}
 
 -- an emitted instruction that neither grows memory nor sets the status
@@ -49,7 +49,7 @@ pub data WaryAt (refused : Bool) : List ConstValue → List Instr → Type 0 whe
   at_const : {x n : ℕ} {vals : List ConstValue} {rest : List Instr} → n ≡ 4294967295 → (x ≡ 4294967295 → refused ≡ true) → Wary rest → WaryAt refused (I32 n ∷ I32 x ∷ vals) (Operation op32.Eq ∷ GlobalSet 1 ∷ rest)
   at_eq : {y : ℕ} {vals : List ConstValue} {rest : List Instr} → (y ≡ 1 → refused ≡ true) → Wary rest → WaryAt refused (I32 y ∷ vals) (GlobalSet 1 ∷ rest)
 
-abbrev pub Labels : List Label → Type 0
+abbrev pub Labels : List BlockLabel → Type 0
 Labels [] = Unit {0}
 Labels (k ∷ ks) = Wary k.goes_on × Labels ks
 
@@ -132,18 +132,18 @@ arm_wary : (x : ℕ) {rest : List Instr} → Wary rest → Wary (arm x rest)
 arm_wary zero w = wary_else 0 w
 arm_wary (suc x) w = w
 
-label_wary : (ks : List Label) (x : ℕ) {k : Label} → Labels ks → slice_get ks x ≡ Some k → Wary k.goes_on
+label_wary : (ks : List BlockLabel) (x : ℕ) {k : BlockLabel} → Labels ks → slice_get ks x ≡ Some k → Wary k.goes_on
 label_wary [] x l e = no e
-label_wary (k ∷ ks) zero l e = subst (λ (k : Label). Wary k.goes_on) (inj e) l.0
+label_wary (k ∷ ks) zero l e = subst (λ (k : BlockLabel). Wary k.goes_on) (inj e) l.0
 label_wary (k ∷ ks) (suc x) l e = label_wary ks x l.1 e
 
-labels_left : (n : ℕ) (ks : List Label) → Labels ks → Labels (drop n ks)
+labels_left : (n : ℕ) (ks : List BlockLabel) → Labels ks → Labels (drop n ks)
 labels_left zero ks l = l
 labels_left (suc n) [] l = tt
 labels_left (suc n) (k ∷ ks) l = labels_left n ks l.1
 
 module _ (m : Parts) (funcs : (f : ℕ) (g : Func) → func_of m f ≡ Some g → Wary g.body.code) (small : greatest_pages m.memory ≤ 65536) (granted : Bool) where
-  module _ (s : Store) (keeps : Bool) (ls : List ConstValue) (ks : List Label) (callers : List Frame) (lw : Labels ks) (cw : Callers callers) (st : Tells s) (pg : s.pages ≤ 65536) where
+  module _ (s : Store) (keeps : Bool) (ls : List ConstValue) (ks : List BlockLabel) (callers : List Frame) (lw : Labels ks) (cw : Callers callers) (st : Tells s) (pg : s.pages ≤ 65536) where
     abbrev at : List ConstValue → List Instr → Conf
     at vals rest = record { store = s; current = record { keeps = keeps; locals = ls; labels = ks; operands = vals; rest = rest }; callers = callers }
 
@@ -162,24 +162,24 @@ module _ (m : Parts) (funcs : (f : ℕ) (g : Func) → func_of m f ≡ Some g �
     leaving true vals [] all = tt
     leaving true vals (x ∷ operands) all = going_back vals all callers (x ∷ []) cw
 
-    branching : (b : Bool) (operands below vals : List ConstValue) (goes all : List Instr) (labels : List Label) → Wary goes → Labels labels →
+    branching : (b : Bool) (operands below vals : List ConstValue) (goes all : List Instr) (labels : List BlockLabel) → Wary goes → Labels labels →
         HonestNext (taking b operands (λ top. Some (At (record (at vals all) { current = record (at vals all).current { labels = labels; operands = top ++ below; rest = goes } }))))
     branching false operands below vals goes all labels w l = record { now = at_wary w; labels = l; callers = cw; status = st; pages = pg }
     branching true [] below vals goes all labels w l = tt
     branching true (x ∷ operands) below vals goes all labels w l = record { now = at_wary w; labels = l; callers = cw; status = st; pages = pg }
 
-    jump_ok : (x : ℕ) (vals : List ConstValue) (all : List Instr) (o : Option Label) → slice_get ks x ≡ o → HonestNext (jump (at vals all) x vals o)
+    jump_ok : (x : ℕ) (vals : List ConstValue) (all : List Instr) (o : Option BlockLabel) → slice_get ks x ≡ o → HonestNext (jump (at vals all) x vals o)
     jump_ok x vals all None e = if_ok (nat_eq x (length ks)) _ _ (λ z. leaving keeps vals vals all) (λ z. tt)
     jump_ok x vals all (Some k) e = branching k.keeps vals k.below vals k.goes_on all (drop (x + 1) ks) (label_wary ks x lw e) (labels_left (x + 1) ks lw)
 
     inside_ok : (end : ℕ) (vals : List ConstValue) (all : List Instr) (go : Option State) → HonestNext go → HonestNext (within end (at vals all) go)
     inside_ok end vals all go h = if_ok (nat_le end (length s.memory)) _ _ (λ e. h) (λ e. st)
 
-    else_ok : (vals : List ConstValue) (all : List Instr) (ls : List Label) → Labels ls → HonestNext (leave_block ls (at vals all) (λ k. k.goes_on))
+    else_ok : (vals : List ConstValue) (all : List Instr) (ls : List BlockLabel) → Labels ls → HonestNext (leave_block ls (at vals all) (λ k. k.goes_on))
     else_ok vals all [] l = tt
     else_ok vals all (k ∷ ls) l = record { now = at_wary l.0; labels = l.1; callers = cw; status = st; pages = pg }
 
-    end_ok : (vals : List ConstValue) (rest all : List Instr) → Wary rest → (ls : List Label) → Labels ls → HonestNext (at_end ls rest (at vals all))
+    end_ok : (vals : List ConstValue) (rest all : List Instr) → Wary rest → (ls : List BlockLabel) → Labels ls → HonestNext (at_end ls rest (at vals all))
     end_ok vals rest all w [] l = leaving keeps vals vals all
     end_ok vals rest all w (k ∷ ls) l = record { now = at_wary w; labels = l.1; callers = cw; status = st; pages = pg }
 

@@ -7,7 +7,7 @@ use Rattle.pc_terms.specs.declared.leaf.Name.{Name}
 use Rattle.pc_terms.specs.BoxSyntax.{BoxTerm, BoxTerms, Box, BLambda, BLetIn, BApp, BConst, BConstruct, BCase, BFix}
 use Rattle.lambda_box.specs.BoxProgram.{BoxConstant}
 use Rattle.lambda_box.specs.SaturatedForm.{nodes_of_constants}
-use Rattle.anf_convert.specs.Anf.{LamOp, AnfBlock, AnfBranches, Branch, AnfDefs, LamDef, BoxDef, Binding, AtomIs, OpIs, tail_of, block_of}
+use Rattle.anf_convert.specs.Anf.{LamOp, AnfBlock, AnfBranches, Branch, AnfDefs, LamDef, BoxDef, AnfBinding, AtomIs, OpIs, tail_of, block_of}
 use Rattle.anf_convert.specs.ToAnf.{Res, RAtom, RCon, ROp, Norm, at_depth, binding_of, sealed, with_variable, named, levels, name_at, then_arg, then_body, then_case, just, norm, norm_branches, norm_defs, code_of, number_in}
 use Rattle.wasm_emit.specs.NormalWeight.{atom_weight, atoms_weight}
 use Rattle.known_calls.specs.KnownWeight.{normal_op_weight, normal_weight, normal_branches_weight, normal_defs_weight, normal_constants_weight, KnownIsSmall}
@@ -21,11 +21,11 @@ module _ (c : ℕ) where
   abbrev share : ℕ
   share = 256 + 64 * c
 
-  abbrev bound_weight : Binding → ℕ
+  abbrev bound_weight : AnfBinding → ℕ
   bound_weight (AtomIs a) = 12 + atom_weight c
   bound_weight (OpIs op) = 4 + normal_op_weight c op
 
-  abbrev ops_weight : List Binding → ℕ
+  abbrev ops_weight : List AnfBinding → ℕ
   ops_weight [] = 0
   ops_weight (p ∷ ps) = bound_weight p + ops_weight ps
 
@@ -34,7 +34,7 @@ module _ (c : ℕ) where
   res_weight (RCon k xs) = 49 + length xs * (65 + 16 * c)
   res_weight (ROp op) = 4 + normal_op_weight c op
 
-  ops_join : (ps qs : List Binding) → ops_weight (ps ++ qs) ≡ ops_weight ps + ops_weight qs
+  ops_join : (ps qs : List AnfBinding) → ops_weight (ps ++ qs) ≡ ops_weight ps + ops_weight qs
   ops_join [] qs = omega arith
   ops_join (p ∷ ps) qs = omega (arith, ops_join ps qs)
 
@@ -42,11 +42,11 @@ module _ (c : ℕ) where
   atoms_of_levels d [] = omega arith
   atoms_of_levels d (x ∷ xs) = omega (arith, atoms_of_levels d xs)
 
-  tail_light : (p : Binding) → normal_weight c (tail_of p) ≤ bound_weight p
+  tail_light : (p : AnfBinding) → normal_weight c (tail_of p) ≤ bound_weight p
   tail_light (AtomIs a) = omega arith
   tail_light (OpIs op) = omega arith
 
-  block_weight : (ps : List Binding) (t : AnfBlock) → normal_weight c (block_of ps t) ≡ ops_weight ps + normal_weight c t
+  block_weight : (ps : List AnfBinding) (t : AnfBlock) → normal_weight c (block_of ps t) ≡ ops_weight ps + normal_weight c t
   block_weight [] t = omega arith
   block_weight (AtomIs a ∷ ps) t = omega (arith, block_weight ps t)
   block_weight (OpIs op ∷ ps) t = omega (arith, block_weight ps t)
@@ -78,10 +78,10 @@ module _ (c : ℕ) where
       let p = binding_of (d + length n.ops) n.res in
       omega (arith, block_weight n.ops (tail_of p), tail_light p, binding_light (d + length n.ops) n.res, h.is)
 
-  with_light : (d : ℕ) (ops : List Binding) (res : Res) → ops_weight (with_variable d ops res).ops ≤ ops_weight ops + 12 + atom_weight c + res_weight res
+  with_light : (d : ℕ) (ops : List AnfBinding) (res : Res) → ops_weight (with_variable d ops res).ops ≤ ops_weight ops + 12 + atom_weight c + res_weight res
   with_light d ops res = omega (arith, ops_join ops (binding_of (d + length ops) res ∷ []), binding_light (d + length ops) res)
 
-  named_light : (d : ℕ) (ops : List Binding) (res : Res) → ops_weight (named d ops res).ops ≤ ops_weight ops + res_weight res
+  named_light : (d : ℕ) (ops : List AnfBinding) (res : Res) → ops_weight (named d ops res).ops ≤ ops_weight ops + res_weight res
   named_light d ops (RAtom a) = omega arith
   named_light d ops (RCon k []) = omega arith
   named_light d ops (RCon k (x ∷ xs)) = omega (arith, ops_join ops (binding_of (d + length ops) (RCon k (x ∷ xs)) ∷ []), atoms_of_levels (d + length ops) (x ∷ xs))
@@ -100,7 +100,7 @@ module _ (c : ℕ) where
   arg_weight : {j : ℕ} (e : ℕ) (arg : ℕ → Norm) → Light (arg e) j → ops_weight (name_at arg e).ops + 89 + 16 * c ≤ j * share
   arg_weight e arg h = omega (arith, named_light e (arg e).ops (arg e).res, h.is)
 
-  arg_light : {j k : ℕ} (d i : ℕ) (ops : List Binding) (res : Res) (arg : ℕ → Norm) → ops_weight ops + res_weight res + 89 + 16 * c ≤ i * share → ((e : ℕ) → Light (arg e) j) → i + j < k → Light (then_arg d ops res arg) k
+  arg_light : {j k : ℕ} (d i : ℕ) (ops : List AnfBinding) (res : Res) (arg : ℕ → Norm) → ops_weight ops + res_weight res + 89 + 16 * c ≤ i * share → ((e : ℕ) → Light (arg e) j) → i + j < k → Light (then_arg d ops res arg) k
   arg_light {j} {k} d i ops (RCon x xs) arg h g lt =
       let e = d + length ops in
       record { is = omega (arith, h, arg_weight e arg (g e), ops_join ops (name_at arg e).ops, more_share (i + j) k lt) }

@@ -9,9 +9,9 @@ use Rattle.wasm_core.specs.declared.exports.Export.{Export}
 use Rattle.wasm_core.specs.declared.exports.ExportKind.TheVariants as kind
 use Rattle.wasm_core.specs.Parts.{Parts}
 use Rattle.wasm_core.specs.ShortestBytes.{put_u32, put_all, put_list, put_body, put_section, put_segment, put_sections, put_func_type, put_table_type, put_limits, put_global, put_export, kind_code, put_instr, unsigned, signed, sizes, module_bytes}
-use Rattle.closure_lift.specs.Lifted.{Op, OConst, OApp, OCon, OClos, OCase, Block, RetAtom, LetAtom, Ret, Let, Branches, BNil, BCons, Program, Fn}
+use Rattle.closure_lift.specs.Lifted.{Op, OConst, OApp, OCon, OClos, OCase, Block, RetAtom, LetAtom, Ret, Let, BranchBlocks, BNil, BCons, Program, Fn}
 use Rattle.closure_lift.specs.LiftedForm.{Formed, Limits}
-use Rattle.wasm_emit.specs.EmittedCode.{Const}
+use Rattle.wasm_emit.specs.EmittedCode.{ConstWord}
 use Rattle.wasm_emit.specs.EmittedModule.{type_main, type_constant, type_function, word_global, body, room_code, main_index, entries}
 use Rattle.wasm_emit.specs.EmittedLocals.{top, top_op, top_branches}
 use Rattle.wasm_emit.specs.EmitLaws.{CountsFit}
@@ -125,7 +125,7 @@ room_size : size room_code ≤ 100
 unfolding put_all put_instr unsigned signed
 room_size = omega arith
 
-box_size : size (Const 0 ∷ End ∷ []) ≤ 10
+box_size : size (ConstWord 0 ∷ End ∷ []) ≤ 10
 unfolding put_all put_instr unsigned signed
 box_size = omega arith
 
@@ -167,9 +167,9 @@ segment_size : (n : ℕ) (fs : List ℕ) → length (put_all put_segment (record
 unfolding put_all put_segment
 segment_size n fs = omega (arith, s_any 5 32 n (11 ∷ put_list put_u32 fs []), u_any 5 (length fs) (put_all put_u32 fs []), items_size 5 put_u32 fs [] (λ x w. u_any 5 x w))
 
-first_bodies : (bs : List Body) → length (put_all put_body (body 0 room_code ∷ body 0 (Const 0 ∷ End ∷ []) ∷ bs) []) ≤ 144 + length (put_all put_body bs [])
+first_bodies : (bs : List Body) → length (put_all put_body (body 0 room_code ∷ body 0 (ConstWord 0 ∷ End ∷ []) ∷ bs) []) ≤ 144 + length (put_all put_body bs [])
 unfolding put_all
-first_bodies bs = omega (arith, body_size 0 room_code (put_body (body 0 (Const 0 ∷ End ∷ [])) (put_all put_body bs [])), room_size, body_size 0 (Const 0 ∷ End ∷ []) (put_all put_body bs []), box_size)
+first_bodies bs = omega (arith, body_size 0 room_code (put_body (body 0 (ConstWord 0 ∷ End ∷ [])) (put_all put_body bs [])), room_size, body_size 0 (ConstWord 0 ∷ End ∷ []) (put_all put_body bs []), box_size)
 
 main_body : (b : Body) (bs : List Body) → length (put_all put_body (b ∷ bs) []) ≡ length (put_body b (put_all put_body bs []))
 unfolding put_all
@@ -243,6 +243,6 @@ mutual
   locals_bound d (Ret x) = op_locals d x
   locals_bound d (Let x t) = omega (arith, op_locals d x, locals_bound (suc d) t)
 
-  branches_locals : (d : ℕ) (bs : Branches) → 4 * top_branches d bs ≤ 4 * d + branches_weight bs
+  branches_locals : (d : ℕ) (bs : BranchBlocks) → 4 * top_branches d bs ≤ 4 * d + branches_weight bs
   branches_locals d BNil = omega arith
   branches_locals d (BCons n t bs) = omega (arith, locals_bound d t, branches_locals d bs)

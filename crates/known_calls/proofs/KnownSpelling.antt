@@ -14,7 +14,7 @@ use Rattle.wasm_core.specs.ModuleCondition.{All, IsU32, IsBody}
 use Rattle.wasm_core.proofs.Closed.{typed_is_closed}
 use Rattle.closure_lift.specs.Lifted.{Block, Fn, Program}
 use Rattle.closure_lift.specs.LiftedForm.{Formed, Limits}
-use Rattle.wasm_emit.specs.EmittedCode.{Const}
+use Rattle.wasm_emit.specs.EmittedCode.{ConstWord}
 use Rattle.wasm_emit.specs.EmittedLocals.{top}
 use Rattle.wasm_emit.specs.EmittedModule.{body, room_code}
 use Rattle.wasm_emit.specs.EmitLaws.{CountsFit}
@@ -109,7 +109,7 @@ module _ (P : Program) (pages m : ℕ) (form : Formed P m) (counts : CountsFit P
   all_bodies = (
     body_fits M 0 0 room_code (omega arith) (room_typed P m form (main_function P) [] [] pages) room_good,
     (
-      body_fits M 2 0 (Const 0 ∷ End ∷ []) (omega arith) (box_typed P m form (main_function P) [] [] pages) (fits (omega arith) (fits tt good)),
+      body_fits M 2 0 (ConstWord 0 ∷ End ∷ []) (omega arith) (box_typed P m form (main_function P) [] [] pages) (fits (omega arith) (fits tt good)),
       numbered_then IsBody (entry P) 0 P.functions _ (λ g j x at is. entry_fits j x (same_number g j x at is))
           (all_then IsBody (constant P) P.constants _ (λ i t at. constant_fits i t at) (main_fits, numbered_all IsBody (worker P) 0 P.functions (λ g j x at is. worker_fits j x (same_number g j x at is)))),
     ),

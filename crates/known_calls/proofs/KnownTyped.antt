@@ -13,12 +13,12 @@ use Rattle.wasm_core.specs.declared.instrs.Instr.{Instr}
 use Rattle.wasm_core.specs.declared.instrs.Instr.TheVariants.{Else, End, Br, Call, LocalGet, LocalSet, LocalTee}
 use Rattle.wasm_core.specs.Parts.{Parts}
 use Rattle.wasm_core.specs.ModuleCondition.{All}
-use Rattle.wasm_core.specs.ModuleTyping.{Types, Operands, Of, known as known_types, Effect, getting, setting, keeping, calling as calling_type, func_type, match_none, Typed, done, unreachable, br}
+use Rattle.wasm_core.specs.ModuleTyping.{OperandTypes, Operands, Of, known as known_types, Effect, getting, setting, keeping, calling as calling_type, func_type, match_none, Typed, done, unreachable, br}
 use Rattle.wasm_core.proofs.TypedRules.{t_plain, t_one_arm, t_two_arms}
 use Rattle.anf_convert.specs.declared.program.Atom.{Atom}
 use Rattle.anf_convert.specs.AnfForm.{AtomFits, AtomsFit}
-use Rattle.closure_lift.specs.Lifted.{Op, OConst, OApp, OCon, OClos, OCase, Block, RetAtom, LetAtom, Ret, Let, Branches, BNil, BCons, Fn, Program}
-use Rattle.closure_lift.specs.LiftedForm.{OpFits, BlockFits, BranchesFit, Formed}
+use Rattle.closure_lift.specs.Lifted.{Op, OConst, OApp, OCon, OClos, OCase, Block, RetAtom, LetAtom, Ret, Let, BranchBlocks, BNil, BCons, Fn, Program}
+use Rattle.closure_lift.specs.LiftedForm.{OpFits, LiftedBlockFits, BranchesFit, Formed}
 use Rattle.wasm_emit.specs.EmittedCode.{IfWord, ensure_room}
 use Rattle.wasm_emit.specs.EmittedLocals.{top, top_op, top_branches}
 use Rattle.wasm_emit.proofs.Typed.{AllWords}
@@ -52,26 +52,26 @@ of_words : (n : ℕ) (ts : Operands) → known_types (replicate n I32) ++ ts ≡
 of_words zero ts = refl
 of_words (suc n) ts = ap (λ (us : Operands). Of I32 ∷ us) (of_words n ts)
 
-module _ (P : Program) (most : ℕ) (form : Formed P most) (main : Body) (gs : List GlobalDef) (es : List Export) (pages : ℕ) (far : ℕ) (enough : 16384 ≤ far) (size : ℕ) (ls rs : Types) (all : AllWords size ls) where
+module _ (P : Program) (most : ℕ) (form : Formed P most) (main : Body) (gs : List GlobalDef) (es : List Export) (pages : ℕ) (far : ℕ) (enough : 16384 ≤ far) (size : ℕ) (ls rs : OperandTypes) (all : AllWords size ls) where
   abbrev m : Parts
   m = module_with P main gs es pages
 
   -- the labels around a worker's tail: that of its loop takes nothing, and the parameters are among the locals
-  pub record Loops (g depth : ℕ) (labels : List Types) : Type 0 where
+  pub record Loops (g depth : ℕ) (labels : List OperandTypes) : Type 0 where
     pub fn : Fn
     pub at : slice_get P.functions g ≡ Some fn
     pub few : suc fn.captured ≤ size
     pub found : slice_get labels depth ≡ Some []
 
-  abbrev pub Labelled : Position → List Types → Type 0
+  abbrev pub Labelled : Position → List OperandTypes → Type 0
   Labelled Inside labels = Unit {0}
   Labelled (InTail g depth) labels = Loops g depth labels
 
-  labelled_deeper : (at : Position) (labels : List Types) (t : Types) → Labelled at labels → Labelled (deeper at) (t ∷ labels)
+  labelled_deeper : (at : Position) (labels : List OperandTypes) (t : OperandTypes) → Labelled at labels → Labelled (deeper at) (t ∷ labels)
   labelled_deeper Inside labels t l = tt
   labelled_deeper (InTail g depth) labels t l = record { fn = l.fn; at = l.at; few = l.few; found = l.found }
 
-  module _ {labels : List Types} {ts us : Operands} {rest : List Instr} where
+  module _ {labels : List OperandTypes} {ts us : Operands} {rest : List Instr} where
     t_get : {x : ℕ} → x < size → Typed m ls rs labels (Of I32 ∷ ts) rest us → Typed m ls rs labels ts (LocalGet x ∷ rest) us
     t_get {x} lt k = t_plain ts (ap (option_map {U = Effect} getting) (all x lt)) k
 
@@ -81,54 +81,54 @@ module _ (P : Program) (most : ℕ) (form : Formed P most) (main : Body) (gs : L
     t_tee : {x : ℕ} → x < size → Typed m ls rs labels (Of I32 ∷ ts) rest us → Typed m ls rs labels (Of I32 ∷ ts) (LocalTee x ∷ rest) us
     t_tee {x} lt k = t_plain ts (ap (option_map {U = Effect} keeping) (all x lt)) k
 
-  t_word : {labels : List Types} {ts us : Operands} {rest : List Instr} (d : ℕ) (w : Word) → d ≤ size → WordFits far d w → Typed m ls rs labels (Of I32 ∷ ts) rest us → Typed m ls rs labels ts (read_word w rest) us
+  t_word : {labels : List OperandTypes} {ts us : Operands} {rest : List Instr} (d : ℕ) (w : Word) → d ≤ size → WordFits far d w → Typed m ls rs labels (Of I32 ∷ ts) rest us → Typed m ls rs labels ts (read_word w rest) us
   t_word d (InLocal x) le h k = t_get (omega arith) k
   t_word {ts = ts} d (InField x o) le h k = t_get (omega (arith, h.0)) (t_plain ts refl k)
   t_word {ts = ts} d (IsConst n) le h k = t_plain ts refl k
 
-  t_read : {labels : List Types} {ts us : Operands} {rest : List Instr} (d : ℕ) (o : Option Word) → d ≤ size → ((w : Word) → o ≡ Some w → WordFits far d w) → Typed m ls rs labels (Of I32 ∷ ts) rest us → Typed m ls rs labels ts (read o rest) us
+  t_read : {labels : List OperandTypes} {ts us : Operands} {rest : List Instr} (d : ℕ) (o : Option Word) → d ≤ size → ((w : Word) → o ≡ Some w → WordFits far d w) → Typed m ls rs labels (Of I32 ∷ ts) rest us → Typed m ls rs labels ts (read o rest) us
   t_read d None le h k = unreachable k
   t_read d (Some w) le h k = t_word d w le (h w refl) k
 
-  t_atom : {labels : List Types} {ts us : Operands} {rest : List Instr} (n d : ℕ) (ps : List Place) (a : Atom) → d ≤ size → AtomFits n a → All (PlaceFits P far d) ps → Typed m ls rs labels (Of I32 ∷ ts) rest us → Typed m ls rs labels ts (atom ps a rest) us
+  t_atom : {labels : List OperandTypes} {ts us : Operands} {rest : List Instr} (n d : ℕ) (ps : List Place) (a : Atom) → d ≤ size → AtomFits n a → All (PlaceFits P far d) ps → Typed m ls rs labels (Of I32 ∷ ts) rest us → Typed m ls rs labels ts (atom ps a rest) us
   t_atom n d ps a le fit h k = t_read d (word_of ps a) le (λ w e. word_fits P far n d ps a fit h e) k
 
-  t_push : {labels : List Types} {ts us : Operands} {rest : List Instr} (d : ℕ) (ws : List Word) → d ≤ size → All (WordFits far d) ws → Typed m ls rs labels (words_on (length ws) ts) rest us → Typed m ls rs labels ts (push_words ws rest) us
+  t_push : {labels : List OperandTypes} {ts us : Operands} {rest : List Instr} (d : ℕ) (ws : List Word) → d ≤ size → All (WordFits far d) ws → Typed m ls rs labels (words_on (length ws) ts) rest us → Typed m ls rs labels ts (push_words ws rest) us
   t_push d [] le h k = k
   t_push d (w ∷ ws) le h k = t_push d ws le h.1 (t_word d w le h.0 k)
 
-  t_fill : {labels : List Types} {ts us : Operands} {rest : List Instr} (n d x : ℕ) (ps : List Place) (as' : List Atom) → d ≤ size → x < size → AtomsFit n as' → All (PlaceFits P far d) ps → Typed m ls rs labels ts rest us → Typed m ls rs labels ts (fill ps x as' rest) us
+  t_fill : {labels : List OperandTypes} {ts us : Operands} {rest : List Instr} (n d x : ℕ) (ps : List Place) (as' : List Atom) → d ≤ size → x < size → AtomsFit n as' → All (PlaceFits P far d) ps → Typed m ls rs labels ts rest us → Typed m ls rs labels ts (fill ps x as' rest) us
   t_fill n d x ps [] le lt fit h k = k
   t_fill {ts = ts} n d x ps (a ∷ as') le lt fit h k = t_get lt (t_atom n d ps a le fit.0 h (t_plain ts refl (t_fill n d x ps as' le lt fit.1 h k)))
 
-  t_room : {labels : List Types} {ts us : Operands} {rest : List Instr} → Typed m ls rs labels ts rest us → Typed m ls rs labels ts (ensure_room rest) us
+  t_room : {labels : List OperandTypes} {ts us : Operands} {rest : List Instr} → Typed m ls rs labels ts rest us → Typed m ls rs labels ts (ensure_room rest) us
   t_room {ts = ts} k = t_plain ts refl (t_plain (Of I32 ∷ ts) refl (t_plain (Of I32 ∷ Of I32 ∷ ts) refl (t_plain (Of I32 ∷ ts) refl (t_plain ts refl (t_one_arm {body = Call 0 ∷ []} (t_plain [] refl done) k)))))
 
-  t_block : {labels : List Types} {ts us : Operands} {rest : List Instr} (n d header : ℕ) (ps : List Place) (as' : List Atom) → suc d ≤ size → AtomsFit n as' → All (PlaceFits P far d) ps → Typed m ls rs labels (Of I32 ∷ ts) rest us → Typed m ls rs labels ts (block ps d header as' rest) us
+  t_block : {labels : List OperandTypes} {ts us : Operands} {rest : List Instr} (n d header : ℕ) (ps : List Place) (as' : List Atom) → suc d ≤ size → AtomsFit n as' → All (PlaceFits P far d) ps → Typed m ls rs labels (Of I32 ∷ ts) rest us → Typed m ls rs labels ts (block ps d header as' rest) us
   t_block {ts = ts} n d header ps as' le fit h k =
       t_plain ts refl (t_tee (omega arith) (t_plain (Of I32 ∷ ts) refl (t_plain ts refl (t_plain ts refl (t_room (t_get (omega arith) (t_plain (Of I32 ∷ ts) refl (t_plain ts refl (t_fill n d d ps as' (omega arith) (omega arith) fit h (t_get (omega arith) k))))))))))
 
-  arms : {labels : List Types} {ts us : Operands} {rest : List Instr} {g1 g2 : List Instr → List Instr} → Shaped g1 → Shaped g2 → Typed m ls rs ((I32 ∷ []) ∷ labels) [] (g1 []) (Of I32 ∷ []) → Typed m ls rs ((I32 ∷ []) ∷ labels) [] (g2 []) (Of I32 ∷ []) →
+  arms : {labels : List OperandTypes} {ts us : Operands} {rest : List Instr} {g1 g2 : List Instr → List Instr} → Shaped g1 → Shaped g2 → Typed m ls rs ((I32 ∷ []) ∷ labels) [] (g1 []) (Of I32 ∷ []) → Typed m ls rs ((I32 ∷ []) ∷ labels) [] (g2 []) (Of I32 ∷ []) →
       Typed m ls rs labels (Of I32 ∷ ts) rest us → Typed m ls rs labels (Of I32 ∷ ts) (IfWord ∷ g1 (Else ∷ g2 (End ∷ rest))) us
   arms {labels} {ts} {us} {rest} {g1} {g2} f1 f2 a b k =
       subst (λ (z : List Instr). Typed m ls rs labels (Of I32 ∷ ts) (IfWord ∷ z) us) (sym (f1.front (Else ∷ g2 (End ∷ rest)) ∙ ap (λ (z : List Instr). g1 [] ++ Else ∷ z) (f2.front (End ∷ rest)))) (t_two_arms {b = Value I32} {first = g1 []} {second = g2 []} a b k)
 
   -- a call of a worker
-  pub t_worker : {labels : List Types} {ts us : Operands} {rest : List Instr} (g : ℕ) (fn : Fn) → slice_get P.functions g ≡ Some fn → fn.captured ≤ 7 → Typed m ls rs labels (Of I32 ∷ ts) rest us → Typed m ls rs labels (words_on (suc fn.captured) ts) (Call (worker_index P g) ∷ rest) us
+  pub t_worker : {labels : List OperandTypes} {ts us : Operands} {rest : List Instr} (g : ℕ) (fn : Fn) → slice_get P.functions g ≡ Some fn → fn.captured ≤ 7 → Typed m ls rs labels (Of I32 ∷ ts) rest us → Typed m ls rs labels (words_on (suc fn.captured) ts) (Call (worker_index P g) ∷ rest) us
   t_worker {labels} {ts} {us} {rest} g fn at few k =
       let type_is : func_type m (worker_index P g) ≡ Some (words_type fn.captured) =
       ap (option_and_then (λ index. slice_get m.types index)) (type_of_worker P main gs es pages g fn at (not_wide fn few)) ∙ type_of_words P main gs es pages fn.captured few in
-      subst (λ (os : Operands). Typed m ls rs labels os (Call (worker_index P g) ∷ rest) us) (ap (λ (xs : Types). known_types xs ++ ts) (turned fn.captured few) ∙ of_words (suc fn.captured) ts)
+      subst (λ (os : Operands). Typed m ls rs labels os (Call (worker_index P g) ∷ rest) us) (ap (λ (xs : OperandTypes). known_types xs ++ ts) (turned fn.captured few) ∙ of_words (suc fn.captured) ts)
       (t_plain ts (ap (option_map {U = Effect} calling_type) type_is) k)
 
-  t_params : {labels : List Types} {ts us : Operands} {rest : List Instr} (n : ℕ) → suc n ≤ size → Typed m ls rs labels ts rest us → Typed m ls rs labels (words_on (suc n) ts) (into_params n rest) us
+  t_params : {labels : List OperandTypes} {ts us : Operands} {rest : List Instr} (n : ℕ) → suc n ≤ size → Typed m ls rs labels ts rest us → Typed m ls rs labels (words_on (suc n) ts) (into_params n rest) us
   t_params zero le k = t_set (omega arith) k
   t_params (suc n) le k = t_set (omega arith) (t_params n (omega arith) k)
 
-  t_direct : {labels : List Types} {ts us : Operands} {rest : List Instr} (g n : ℕ) (fn : Fn) → slice_get P.functions g ≡ Some fn → fn.captured ≡ n → n ≤ 7 → Typed m ls rs labels (Of I32 ∷ ts) rest us → Typed m ls rs labels (words_on (suc n) ts) (Call (worker_index P g) ∷ rest) us
+  t_direct : {labels : List OperandTypes} {ts us : Operands} {rest : List Instr} (g n : ℕ) (fn : Fn) → slice_get P.functions g ≡ Some fn → fn.captured ≡ n → n ≤ 7 → Typed m ls rs labels (Of I32 ∷ ts) rest us → Typed m ls rs labels (words_on (suc n) ts) (Call (worker_index P g) ∷ rest) us
   t_direct {labels} {ts} {us} {rest} g n fn at is few k = subst (λ (i : ℕ). Typed m ls rs labels (words_on (suc i) ts) (Call (worker_index P g) ∷ rest) us) is (t_worker g fn at (omega arith) k)
 
-  t_jump : {labels : List Types} {ts us : Operands} {rest : List Instr} (b : Bool) (g h n depth : ℕ) (fn : Fn) → jumps g h depth ≡ b → slice_get P.functions g ≡ Some fn → fn.captured ≡ n → n ≤ 7 → Loops h depth labels → Typed m ls rs labels (Of I32 ∷ ts) rest us →
+  t_jump : {labels : List OperandTypes} {ts us : Operands} {rest : List Instr} (b : Bool) (g h n depth : ℕ) (fn : Fn) → jumps g h depth ≡ b → slice_get P.functions g ≡ Some fn → fn.captured ≡ n → n ≤ 7 → Loops h depth labels → Typed m ls rs labels (Of I32 ∷ ts) rest us →
       Typed m ls rs labels (words_on (suc n) ts) (if b then into_params n (Br depth ∷ rest) else (Call (worker_index P g) ∷ rest)) us
   t_jump false g h n depth fn e at is few l k = t_direct g n fn at is few k
   t_jump {ts = ts} true g h n depth fn e at is few l k =
@@ -138,12 +138,12 @@ module _ (P : Program) (most : ℕ) (form : Formed P most) (main : Body) (gs : L
       let params_few = l.few in
       t_params n (omega arith) (br [] ts (record { wanted = []; found = l.found; matched = match_none }) k)
 
-  t_call : {labels : List Types} {ts us : Operands} {rest : List Instr} (at : Position) (g n : ℕ) (fn : Fn) → slice_get P.functions g ≡ Some fn → fn.captured ≡ n → n ≤ 7 → Labelled at labels → Typed m ls rs labels (Of I32 ∷ ts) rest us →
+  t_call : {labels : List OperandTypes} {ts us : Operands} {rest : List Instr} (at : Position) (g n : ℕ) (fn : Fn) → slice_get P.functions g ≡ Some fn → fn.captured ≡ n → n ≤ 7 → Labelled at labels → Typed m ls rs labels (Of I32 ∷ ts) rest us →
       Typed m ls rs labels (words_on (suc n) ts) (call_worker P at g n rest) us
   t_call Inside g n fn at is few l k = t_direct g n fn at is few k
   t_call (InTail h depth) g n fn at is few l k = t_jump (jumps g h depth) g h n depth fn refl at is few l k
 
-  t_application : {labels : List Types} {ts us : Operands} {rest : List Instr} (n d : ℕ) (ps : List Place) (at : Position) (f a : Atom) (o : Option (ℕ × List Word)) → known_function ps f ≡ o → d ≤ size → AtomFits n f → AtomFits n a → All (PlaceFits P far d) ps → Labelled at labels →
+  t_application : {labels : List OperandTypes} {ts us : Operands} {rest : List Instr} (n d : ℕ) (ps : List Place) (at : Position) (f a : Atom) (o : Option (ℕ × List Word)) → known_function ps f ≡ o → d ≤ size → AtomFits n f → AtomFits n a → All (PlaceFits P far d) ps → Labelled at labels →
       Typed m ls rs labels (Of I32 ∷ ts) rest us → Typed m ls rs labels ts (application P ps at f a o rest) us
   t_application {ts = ts} n d ps at f a None e le ff fa h l k = t_atom n d ps f le ff h (t_atom n d ps a le fa h (t_atom n d ps f le ff h (t_plain (Of I32 ∷ Of I32 ∷ ts) refl (t_plain ts refl k))))
   t_application {ts = ts} n d ps at f a (Some j) e le ff fa h l k =
@@ -151,12 +151,12 @@ module _ (P : Program) (most : ℕ) (form : Formed P most) (main : Body) (gs : L
       let takes = fit.0 in
       t_push d j.1 le fit.2 (t_atom n d ps a le fa h (t_call at j.0 (length j.1) takes.fn takes.at takes.words fit.1 l k))
 
-  t_choice : {labels : List Types} {ts us : Operands} (o : Option Place) {g : Place → List Instr} {f : List Instr} → ((q : Place) → o ≡ Some q → Typed m ls rs labels ts (g q) us) → Typed m ls rs labels ts f us → Typed m ls rs labels ts (choose o g f) us
+  t_choice : {labels : List OperandTypes} {ts us : Operands} (o : Option Place) {g : Place → List Instr} {f : List Instr} → ((q : Place) → o ≡ Some q → Typed m ls rs labels ts (g q) us) → Typed m ls rs labels ts f us → Typed m ls rs labels ts (choose o g f) us
   t_choice None x y = y
   t_choice (Some q) x y = x q refl
 
   mutual
-    pub t_op : {labels : List Types} {ts us : Operands} {rest : List Instr} (n d : ℕ) (ps : List Place) (at : Position) (x : Op) → top_op d x ≤ size → OpFits P.functions (length P.constants) most n x → All (PlaceFits P far d) ps → Labelled at labels →
+    pub t_op : {labels : List OperandTypes} {ts us : Operands} {rest : List Instr} (n d : ℕ) (ps : List Place) (at : Position) (x : Op) → top_op d x ≤ size → OpFits P.functions (length P.constants) most n x → All (PlaceFits P far d) ps → Labelled at labels →
         Typed m ls rs labels (Of I32 ∷ ts) rest us → Typed m ls rs labels ts (op P ps d at x rest) us
     t_op {ts = ts} n d ps at (OConst x) le fit h l k =
         t_plain ts (ap (λ (o : Option ℕ). option_map {U = Effect} calling_type (option_and_then (λ index. slice_get m.types index) o)) (constant_in P (λ g f. 2) (λ t. 1) 0 (λ g f. worker_type f) x (get_or P.constants x P.main) (slice_get-get_or P.constants x P.main fit))) k
@@ -166,7 +166,7 @@ module _ (P : Program) (most : ℕ) (form : Formed P most) (main : Body) (gs : L
     t_op n d ps at (OCase a bs) le fit h l k =
         t_atom n d ps a (omega arith) fit.0 h (t_set (omega arith) (t_empties n d ps at 0 bs (λ at'. heads P ps d at' 0 bs) (λ at'. shaped_heads P ps d at' 0 bs) (omega arith) fit.2 h l (λ at' labels ts us rest l' k'. t_heads n d ps at' 0 bs (omega arith) fit.2 h l' k') k))
 
-    pub t_code : {labels : List Types} {ts us : Operands} {rest : List Instr} (n d : ℕ) (ps : List Place) (at : Position) (t : Block) → top d t ≤ size → BlockFits P.functions (length P.constants) most n t → All (PlaceFits P far d) ps → Labelled at labels →
+    pub t_code : {labels : List OperandTypes} {ts us : Operands} {rest : List Instr} (n d : ℕ) (ps : List Place) (at : Position) (t : Block) → top d t ≤ size → LiftedBlockFits P.functions (length P.constants) most n t → All (PlaceFits P far d) ps → Labelled at labels →
         Typed m ls rs labels (Of I32 ∷ ts) rest us → Typed m ls rs labels ts (code P ps d at t rest) us
     t_code n d ps at (RetAtom a) le fit h l k = t_atom n d ps a le fit h k
     t_code n d ps at (LetAtom a t) le fit h l k = t_atom n d ps a (omega arith) fit.0 h (t_set (omega arith) (t_code (suc n) (suc d) (At (InLocal d) ∷ ps) at t (omega arith) fit.1 (omega arith, places_up P far d (suc d) (omega arith) ps h) l k))
@@ -176,9 +176,9 @@ module _ (P : Program) (most : ℕ) (form : Formed P most) (main : Body) (gs : L
         (λ q e. let z = unmade_some (block_reads 0 t) (known P ps x) e in t_code (suc n) d (q ∷ ps) at t (omega (arith, top_less d t)) fit.1 (known_fits P far most form n d ps x fit.0 h z.1, h) l k)
         (t_op n d ps Inside x (omega arith) fit.0 h tt (t_set (omega arith) (t_code (suc n) (suc d) (At (InLocal d) ∷ ps) at t (omega arith) fit.1 (omega arith, places_up P far d (suc d) (omega arith) ps h) l k)))
 
-    t_empties : {labels : List Types} {ts us : Operands} {rest : List Instr} (n d : ℕ) (ps : List Place) (at : Position) (c : ℕ) (bs : Branches) (others : Position → List Instr → List Instr) → ((at' : Position) → Shaped (others at')) → max (suc d) (top_branches (suc d) bs) ≤ size →
+    t_empties : {labels : List OperandTypes} {ts us : Operands} {rest : List Instr} (n d : ℕ) (ps : List Place) (at : Position) (c : ℕ) (bs : BranchBlocks) (others : Position → List Instr → List Instr) → ((at' : Position) → Shaped (others at')) → max (suc d) (top_branches (suc d) bs) ≤ size →
         BranchesFit P.functions (length P.constants) most n bs → All (PlaceFits P far d) ps → Labelled at labels →
-        ((at' : Position) (labels : List Types) (ts us : Operands) (rest : List Instr) → Labelled at' labels → Typed m ls rs labels (Of I32 ∷ ts) rest us → Typed m ls rs labels ts (others at' rest) us) → Typed m ls rs labels (Of I32 ∷ ts) rest us →
+        ((at' : Position) (labels : List OperandTypes) (ts us : Operands) (rest : List Instr) → Labelled at' labels → Typed m ls rs labels (Of I32 ∷ ts) rest us → Typed m ls rs labels ts (others at' rest) us) → Typed m ls rs labels (Of I32 ∷ ts) rest us →
         Typed m ls rs labels ts (empties P ps d at c bs others rest) us
     t_empties n d ps at c BNil others fo le fit h l o k = o at _ _ _ _ l k
     t_empties {labels} {ts = ts} n d ps at c (BCons zero t bs) others fo le fit h l o k =
@@ -187,7 +187,7 @@ module _ (P : Program) (most : ℕ) (form : Formed P most) (main : Body) (gs : L
         (t_empties n d ps (deeper at) (suc c) bs others fo (omega arith) fit.2 h (labelled_deeper at labels (I32 ∷ []) l) o done) k)))
     t_empties n d ps at c (BCons (suc j) t bs) others fo le fit h l o k = t_empties n d ps at (suc c) bs others fo (omega arith) fit.2 h l o k
 
-    t_heads : {labels : List Types} {ts us : Operands} {rest : List Instr} (n d : ℕ) (ps : List Place) (at : Position) (c : ℕ) (bs : Branches) → max (suc d) (top_branches (suc d) bs) ≤ size → BranchesFit P.functions (length P.constants) most n bs → All (PlaceFits P far d) ps → Labelled at labels →
+    t_heads : {labels : List OperandTypes} {ts us : Operands} {rest : List Instr} (n d : ℕ) (ps : List Place) (at : Position) (c : ℕ) (bs : BranchBlocks) → max (suc d) (top_branches (suc d) bs) ≤ size → BranchesFit P.functions (length P.constants) most n bs → All (PlaceFits P far d) ps → Labelled at labels →
         Typed m ls rs labels (Of I32 ∷ ts) rest us → Typed m ls rs labels ts (heads P ps d at c bs rest) us
     t_heads n d ps at c BNil le fit h l k = unreachable k
     t_heads n d ps at c (BCons zero t bs) le fit h l k = t_heads n d ps at (suc c) bs (omega arith) fit.2 h l k

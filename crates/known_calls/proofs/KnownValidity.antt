@@ -12,13 +12,13 @@ use Rattle.wasm_core.specs.declared.instrs.Instr.{Instr}
 use Rattle.wasm_core.specs.declared.instrs.Instr.TheVariants.{Unreachable, Loop, End, Call, LocalGet, LocalSet, GlobalGet, GlobalSet, MemoryGrow, I32 as Operation}
 use Rattle.wasm_core.specs.declared.instrs.I32Op.TheVariants as op32
 use Rattle.wasm_core.specs.Parts.{Parts}
-use Rattle.wasm_core.specs.ModuleTyping.{Typed, Types, Operands, Of, match_none, match_same, done, unreachable, loop, TypedFunc, Functions, Tables, Memories, Globals, Exported, Elements, Codes, IsSound, AllSound, IsThere, IsValid}
+use Rattle.wasm_core.specs.ModuleTyping.{Typed, OperandTypes, Operands, Of, match_none, match_same, done, unreachable, loop, TypedFunc, Functions, Tables, Memories, Globals, Exported, Elements, Codes, IsSound, AllSound, IsThere, IsValid}
 use Rattle.wasm_core.proofs.Small.{inj, no}
 use Rattle.wasm_core.proofs.TypedRules.{t_plain, t_one_arm, t_body}
 use Rattle.anf_convert.specs.declared.program.Atom.TheVariants.{Var as AVar}
 use Rattle.closure_lift.specs.Lifted.{OApp, Block, Program, Fn}
-use Rattle.closure_lift.specs.LiftedForm.{BlockFits, Formed}
-use Rattle.wasm_emit.specs.EmittedCode.{Load, Const, IfOnly}
+use Rattle.closure_lift.specs.LiftedForm.{LiftedBlockFits, Formed}
+use Rattle.wasm_emit.specs.EmittedCode.{Load, ConstWord, IfOnly}
 use Rattle.wasm_emit.specs.EmittedLocals.{top}
 use Rattle.wasm_emit.specs.EmittedModule.{type_main, type_constant, type_function, body, room_function, box_function}
 use Rattle.wasm_emit.specs.EmittedModule as emitted
@@ -49,7 +49,7 @@ more_words (suc i) n zero h = refl
 more_words (suc i) n (suc x) h = more_words i n x (omega arith)
 
 -- the loads of an entry
-t_captured : (m : Parts) (rs : Types) {labels : List Types} {ts us : Operands} {rest : List Instr} (n : ℕ) → ((ws us : Operands) (rest : List Instr) (o : ℕ) → Typed m (I32 ∷ I32 ∷ []) rs labels (Of I32 ∷ ws) rest us → Typed m (I32 ∷ I32 ∷ []) rs labels ws (LocalGet 0 ∷ Load o ∷ rest) us) →
+t_captured : (m : Parts) (rs : OperandTypes) {labels : List OperandTypes} {ts us : Operands} {rest : List Instr} (n : ℕ) → ((ws us : Operands) (rest : List Instr) (o : ℕ) → Typed m (I32 ∷ I32 ∷ []) rs labels (Of I32 ∷ ws) rest us → Typed m (I32 ∷ I32 ∷ []) rs labels ws (LocalGet 0 ∷ Load o ∷ rest) us) →
     Typed m (I32 ∷ I32 ∷ []) rs labels (words_on n ts) rest us → Typed m (I32 ∷ I32 ∷ []) rs labels ts (captured_words n rest) us
 t_captured m rs zero load k = k
 t_captured m rs {ts = ts} {us = us} {rest = rest} (suc n) load k = t_captured m rs {ts = ts} {us = us} {rest = LocalGet 0 ∷ Load (4 * suc n) ∷ rest} n load (load (words_on n ts) us rest (4 * suc n) k)
@@ -120,7 +120,7 @@ module _ (P : Program) (most : ℕ) (form : Formed P most) (main : Body) (gs : L
             };
           }
 
-  pub constant_typed : (t : Block) → BlockFits P.functions (length P.constants) most 0 t → TypedFunc M 1 (constant P t)
+  pub constant_typed : (t : Block) → LiftedBlockFits P.functions (length P.constants) most 0 t → TypedFunc M 1 (constant P t)
   constant_typed t fit = record {
     type = type_constant;
     found = refl;
@@ -147,13 +147,13 @@ module _ (P : Program) (most : ℕ) (form : Formed P most) (main : Body) (gs : L
   }
 
   pub box_typed : TypedFunc M 2 box_function
-  box_typed = record { type = type_function; found = refl; typed = t_body M (I32 ∷ I32 ∷ []) (I32 ∷ []) (Const 0 ∷ []) (t_plain [] refl done) }
+  box_typed = record { type = type_function; found = refl; typed = t_body M (I32 ∷ I32 ∷ []) (I32 ∷ []) (ConstWord 0 ∷ []) (t_plain [] refl done) }
 
   pub room_typed : TypedFunc M 0 room_function
   room_typed = record {
     type = type_main;
     found = refl;
-    typed = t_body M [] [] (Const 1 ∷ MemoryGrow ∷ Const (2 ^ 32 - 1) ∷ Operation op32.Eq ∷ GlobalSet 1 ∷ GlobalGet 1 ∷ IfOnly ∷ Unreachable ∷ End ∷ [])
+    typed = t_body M [] [] (ConstWord 1 ∷ MemoryGrow ∷ ConstWord (2 ^ 32 - 1) ∷ Operation op32.Eq ∷ GlobalSet 1 ∷ GlobalGet 1 ∷ IfOnly ∷ Unreachable ∷ End ∷ [])
         (t_plain [] refl (t_plain [] refl (t_plain (Of I32 ∷ []) refl (t_plain [] refl (t_plain [] refl (t_plain [] refl (t_one_arm {body = Unreachable ∷ []} (unreachable done) done)))))));
   }
 
@@ -264,7 +264,7 @@ module _ (P : Program) (most : ℕ) (form : Formed P most) (k pages : ℕ) where
   abbrev C : Parts
   C = module_of_call P k pages
 
-  t_applied : (size : ℕ) (ls rs : Types) → AllWords size ls → 2 ≤ size → top 0 P.main ≤ size → (n : ℕ) {labels : List Types} {ts us : Operands} {rest : List Instr} → Typed C ls rs labels (Of I32 ∷ ts) rest us → Typed C ls rs labels ts (applied P n rest) us
+  t_applied : (size : ℕ) (ls rs : OperandTypes) → AllWords size ls → 2 ≤ size → top 0 P.main ≤ size → (n : ℕ) {labels : List OperandTypes} {ts us : Operands} {rest : List Instr} → Typed C ls rs labels (Of I32 ∷ ts) rest us → Typed C ls rs labels ts (applied P n rest) us
   t_applied size ls rs all two enough zero k' = t_code P most form (call_function P k) call_globals call_exports pages 16384 (omega arith) size ls rs all 0 0 [] Inside P.main enough form.main tt tt k'
   t_applied size ls rs all two enough (suc n) {ts = ts} k' =
       t_applied size ls rs all two enough n (t_set P most form (call_function P k) call_globals call_exports pages 16384 (omega arith) size ls rs all (omega arith) (t_plain ts refl (t_plain ts refl

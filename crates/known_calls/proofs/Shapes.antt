@@ -6,8 +6,8 @@ use Rattle.wasm_core.specs.declared.instrs.Instr.TheVariants.{Unreachable, Else,
 use Rattle.wasm_core.specs.declared.instrs.I32Op.TheVariants as op32
 use Rattle.wasm_core.specs.MachineStep.{Plain, bracket, past_end, to_else, after_end, else_arm}
 use Rattle.anf_convert.specs.declared.program.Atom.{Atom}
-use Rattle.closure_lift.specs.Lifted.{Op, OConst, OApp, OCon, OClos, OCase, Block, RetAtom, LetAtom, Ret, Let, Branches, BNil, BCons, Program}
-use Rattle.wasm_emit.specs.EmittedCode.{Load, Store, Const, IfWord, CallClosure, constant_index, ensure_room}
+use Rattle.closure_lift.specs.Lifted.{Op, OConst, OApp, OCon, OClos, OCase, Block, RetAtom, LetAtom, Ret, Let, BranchBlocks, BNil, BCons, Program}
+use Rattle.wasm_emit.specs.EmittedCode.{Load, StoreWord, ConstWord, IfWord, CallClosure, constant_index, ensure_room}
 use Rattle.known_calls.specs.KnownPlaces.{Word, InLocal, InField, IsConst, Place, At, fields_of, word_of, known_function}
 use Rattle.known_calls.specs.KnownCode.{Position, Inside, InTail, deeper, read_word, read, atom, push_words, fill, block, into_params, worker_index, jumps, call_worker, application, choose, unmade, op, code, empties, heads}
 use Rattle.known_calls.specs.KnownModule.{captured_words}
@@ -54,7 +54,7 @@ arms {g1} {g2} x y = record {
 shaped_word : (w : Word) → Shaped (read_word w)
 shaped_word (InLocal x) = one (LocalGet x) refl tt
 shaped_word (InField x o) = one (LocalGet x) refl tt then one (Load o) refl tt
-shaped_word (IsConst n) = one (Const n) refl tt
+shaped_word (IsConst n) = one (ConstWord n) refl tt
 
 shaped_read : (o : Option Word) → Shaped (read o)
 shaped_read None = one Unreachable refl tt
@@ -69,7 +69,7 @@ shaped_push (w ∷ ws) = shaped_push ws then shaped_word w
 
 shaped_fill : (env : List Place) (d : ℕ) (as' : List Atom) → Shaped (fill env d as')
 shaped_fill env d [] = same_shaped
-shaped_fill env d (a ∷ as') = one (LocalGet d) refl tt then (shaped_atom env a then (one (Store (4 * suc (length as'))) refl tt then shaped_fill env d as'))
+shaped_fill env d (a ∷ as') = one (LocalGet d) refl tt then (shaped_atom env a then (one (StoreWord (4 * suc (length as'))) refl tt then shaped_fill env d as'))
 
 shaped_room : Shaped ensure_room
 shaped_room = record {
@@ -81,8 +81,8 @@ shaped_room = record {
 
 shaped_block : (env : List Place) (d header : ℕ) (as' : List Atom) → Shaped (block env d header as')
 shaped_block env d header as' =
-    one (GlobalGet 2) refl tt then (one (LocalTee d) refl tt then (one (Const (4 * suc (length as'))) refl tt then (one (Operation op32.Add) refl tt then (one (GlobalSet 2) refl (λ z. omega arith) then (shaped_room
-    then (one (LocalGet d) refl tt then (one (Const header) refl tt then (one (Store 0) refl tt then (shaped_fill env d as' then one (LocalGet d) refl tt)))))))))
+    one (GlobalGet 2) refl tt then (one (LocalTee d) refl tt then (one (ConstWord (4 * suc (length as'))) refl tt then (one (Operation op32.Add) refl tt then (one (GlobalSet 2) refl (λ z. omega arith) then (shaped_room
+    then (one (LocalGet d) refl tt then (one (ConstWord header) refl tt then (one (StoreWord 0) refl tt then (shaped_fill env d as' then one (LocalGet d) refl tt)))))))))
 
 shaped_params : (n : ℕ) → Shaped (into_params n)
 shaped_params zero = one (LocalSet 0) refl tt
@@ -124,14 +124,14 @@ module _ (P : Program) where
     shaped_code env d at (Let x t) =
         shaped_choice (unmade P env x t) {g = λ q. code P (q ∷ env) d at t} (λ q. shaped_code (q ∷ env) d at t) (shaped_op env d Inside x then (one (LocalSet d) refl tt then shaped_code (At (InLocal d) ∷ env) (suc d) at t))
 
-    pub shaped_empties : (env : List Place) (d : ℕ) (at : Position) (c : ℕ) (bs : Branches) (others : Position → List Instr → List Instr) → ((at' : Position) → Shaped (others at')) → Shaped (empties P env d at c bs others)
+    pub shaped_empties : (env : List Place) (d : ℕ) (at : Position) (c : ℕ) (bs : BranchBlocks) (others : Position → List Instr → List Instr) → ((at' : Position) → Shaped (others at')) → Shaped (empties P env d at c bs others)
     shaped_empties env d at c BNil others o = o at
     shaped_empties env d at c (BCons zero t bs) others o =
-        one (LocalGet d) refl tt then (one (Const (2 * c + 1)) refl tt then (one (Operation op32.Eq) refl tt then arms (shaped_code env (suc d) (deeper at) t) (shaped_empties env d (deeper at) (suc c) bs others o)))
+        one (LocalGet d) refl tt then (one (ConstWord (2 * c + 1)) refl tt then (one (Operation op32.Eq) refl tt then arms (shaped_code env (suc d) (deeper at) t) (shaped_empties env d (deeper at) (suc c) bs others o)))
     shaped_empties env d at c (BCons (suc n) t bs) others o = shaped_empties env d at (suc c) bs others o
 
-    pub shaped_heads : (env : List Place) (d : ℕ) (at : Position) (c : ℕ) (bs : Branches) → Shaped (heads P env d at c bs)
+    pub shaped_heads : (env : List Place) (d : ℕ) (at : Position) (c : ℕ) (bs : BranchBlocks) → Shaped (heads P env d at c bs)
     shaped_heads env d at c BNil = one Unreachable refl tt
     shaped_heads env d at c (BCons zero t bs) = shaped_heads env d at (suc c) bs
     shaped_heads env d at c (BCons (suc n) t bs) =
-        one (LocalGet d) refl tt then (one (Load 0) refl tt then (one (Const (suc n * 65536 + c)) refl tt then (one (Operation op32.Eq) refl tt then arms (shaped_code (fields_of d (suc n) env) (suc d) (deeper at) t) (shaped_heads env d (deeper at) (suc c) bs))))
+        one (LocalGet d) refl tt then (one (Load 0) refl tt then (one (ConstWord (suc n * 65536 + c)) refl tt then (one (Operation op32.Eq) refl tt then arms (shaped_code (fields_of d (suc n) env) (suc d) (deeper at) t) (shaped_heads env d (deeper at) (suc c) bs))))

@@ -1,7 +1,7 @@
 -- A closure that is made nowhere is read as a word nowhere in the parts of a block either.
 use Rattle.std.proofs.Common.{◌≡◌, ℕ, zero, suc, ◌+◌, List, ◌∷◌, Option, Some, None, Bool, true, false, refl, ◌∙◌, ap, arith}
 use Rattle.std.specs.Prelude.{slice_get, ◌||◌, ◌&&◌, if◌then◌else◌}
-use Rattle.closure_lift.specs.Lifted.{Op, OCase, Block, LetAtom, Let, Branches, BranchAt, branch_here, branch_after}
+use Rattle.closure_lift.specs.Lifted.{Op, OCase, Block, LetAtom, Let, BranchBlocks, BranchAt, branch_here, branch_after}
 use Rattle.anf_convert.specs.declared.program.Atom.{Atom}
 use Rattle.known_calls.specs.KnownPlaces.{Word, Place, At, Known, fields_of, names, op_reads, block_reads, branches_read}
 use Rattle.known_calls.proofs.KnownHolds.{Unread, OpUnread}
@@ -50,12 +50,12 @@ outer x zero ps j h vs at = record { i = j; is = omega arith; at = at }
 outer x (suc n) ps zero h vs at = cc
 outer x (suc n) ps (suc j) h vs at = let r = outer x n ps j h vs at in record { i = r.i; is = omega (arith, r.is); at = r.at }
 
-branch_unread : (i : ℕ) {bs : Branches} {c n : ℕ} {t : Block} → branches_read i bs ≡ false → BranchAt bs c n t → block_reads (n + i) t ≡ false
+branch_unread : (i : ℕ) {bs : BranchBlocks} {c n : ℕ} {t : Block} → branches_read i bs ≡ false → BranchAt bs c n t → block_reads (n + i) t ≡ false
 branch_unread i e (branch_here {n = n} {b = t} {rest = bs}) = (neither (block_reads (n + i) t) (branches_read i bs) e).0
 branch_unread i e (branch_after {m = m} {d = t} {rest = bs} at) = branch_unread i (neither (block_reads (m + i) t) (branches_read i bs) e).1 at
 
 -- in a branch, whose variables are fields
-pub unread_branch : (ps : List Place) (a : Atom) {bs : Branches} {c n : ℕ} {t : Block} (x : ℕ) → OpUnread ps (OCase a bs) → BranchAt bs c n t → Unread (fields_of x n ps) t
+pub unread_branch : (ps : List Place) (a : Atom) {bs : BranchBlocks} {c n : ℕ} {t : Block} (x : ℕ) → OpUnread ps (OCase a bs) → BranchAt bs c n t → Unread (fields_of x n ps) t
 unread_branch ps a {bs} {n = n} {t = t} x un at j h vs here =
     let r = outer x n ps j h vs here in
     let some = un r.i h vs r.at in

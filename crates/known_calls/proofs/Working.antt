@@ -12,7 +12,7 @@ use Rattle.wasm_core.specs.declared.instrs.Instr.TheVariants.{Call}
 use Rattle.wasm_core.specs.Memory.{word}
 use Rattle.wasm_core.specs.Parts.{Parts}
 use Rattle.wasm_core.specs.Instance.{func_of}
-use Rattle.wasm_core.specs.MachineStep.{Label, Frame, State}
+use Rattle.wasm_core.specs.MachineStep.{BlockLabel, Frame, State}
 use Rattle.wasm_core.proofs.Rules.{Around}
 use Rattle.wasm_core.proofs.Rules as rule
 use Rattle.closure_lift.specs.Lifted.{Program, Fn, Vals, VCons, size}
@@ -84,8 +84,8 @@ set_params_env {m} {limit} {D} ls few le (stand_more {w = w} {ws = ws} {v = v} {
     env_at w (in_local (omega arith) there) s (set_params_env ls1 (omega (arith, set_length ls (length (words ws)) (I32 w))) (omega arith) h)
 
 -- the labels of a worker's tail
-pub record InLoop (P : Program) (g depth d n : ℕ) (tail keeps : Bool) (ls : List Label) : Type 0 where
-  pub inner : List Label
+pub record InLoop (P : Program) (g depth d n : ℕ) (tail keeps : Bool) (ls : List BlockLabel) : Type 0 where
+  pub inner : List BlockLabel
   pub count : length inner ≡ depth
   pub fn : Fn
   pub at : slice_get P.functions g ≡ Some fn
@@ -95,13 +95,13 @@ pub record InLoop (P : Program) (g depth d n : ℕ) (tail keeps : Bool) (ls : Li
   pub keep : keeps ≡ true
   pub is : ls ≡ inner ++ loop_of P g fn ∷ []
 
-pub in_loop : (P : Program) (g depth : ℕ) {d n : ℕ} {tail keeps : Bool} {ls : List Label} → Stood P (InTail g depth) tail d n keeps ls → InLoop P g depth d n tail keeps ls
+pub in_loop : (P : Program) (g depth : ℕ) {d n : ℕ} {tail keeps : Bool} {ls : List BlockLabel} → Stood P (InTail g depth) tail d n keeps ls → InLoop P g depth d n tail keeps ls
 in_loop P g depth (stood_in_tail {fn = fn} inner count at few enough) = record { inner = inner; count = count; fn = fn; at = at; below = few; enough = enough; in_tail = refl; keep = refl; is = refl }
 
-pub same_around : (F : Around) (b : Bool) (ls : List Label) → F.keeps ≡ b → F.labels ≡ ls → F ≡ record { keeps = b; labels = ls; callers = F.callers }
-same_around F b ls x y = ap (λ (k : Bool). around k F.labels F.callers) x ∙ ap (λ (k : List Label). around b k F.callers) y
+pub same_around : (F : Around) (b : Bool) (ls : List BlockLabel) → F.keeps ≡ b → F.labels ≡ ls → F ≡ record { keeps = b; labels = ls; callers = F.callers }
+same_around F b ls x y = ap (λ (k : Bool). around k F.labels F.callers) x ∙ ap (λ (k : List BlockLabel). around b k F.callers) y
   where
-    around : Bool → List Label → List Frame → Around
+    around : Bool → List BlockLabel → List Frame → Around
     around k ls cs = record { keeps = k; labels = ls; callers = cs }
 
 module _ (M : Parts) (cap : Limits) (Q : State → Type 0) where

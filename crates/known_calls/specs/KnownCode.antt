@@ -3,11 +3,11 @@
 use Rattle.std.specs.Prelude.{ℕ, zero, suc, ◌+◌, ◌*◌, Bool, ◌&&◌, if◌then◌else◌, nat_eq, nat_le, List, [], ◌∷◌, length, Option, Some, None, slice_get}
 use Rattle.std.specs.Option.{option_and_then}
 use Rattle.anf_convert.specs.declared.program.Atom.{Atom}
-use Rattle.closure_lift.specs.Lifted.{Op, OConst, OApp, OCon, OClos, OCase, Block, RetAtom, LetAtom, Ret, Let, Branches, BNil, BCons, Fn, Program}
+use Rattle.closure_lift.specs.Lifted.{Op, OConst, OApp, OCon, OClos, OCase, Block, RetAtom, LetAtom, Ret, Let, BranchBlocks, BNil, BCons, Fn, Program}
 use Rattle.wasm_core.specs.declared.instrs.I32Op.TheVariants as op32
 use Rattle.wasm_core.specs.declared.instrs.Instr.{Instr}
 use Rattle.wasm_core.specs.declared.instrs.Instr.TheVariants.{Unreachable, Else, End, Br, Call, LocalGet, LocalSet, LocalTee, GlobalGet, GlobalSet, I32 as Operation}
-use Rattle.wasm_emit.specs.EmittedCode.{Load, Store, Const, IfWord, CallClosure, constant_index, ensure_room}
+use Rattle.wasm_emit.specs.EmittedCode.{Load, StoreWord, ConstWord, IfWord, CallClosure, constant_index, ensure_room}
 use Rattle.known_calls.specs.KnownPlaces.{Word, InLocal, InField, IsConst, Place, At, Known, word_of, words_of, all_at, fields_of, known_function, block_reads}
 
 -- a closure of more captured words is never known, and its function has no worker
@@ -59,7 +59,7 @@ unmade P env p t = if block_reads 0 t then None else known P env p
 abbrev pub read_word : Word → List Instr → List Instr
 read_word (InLocal x) rest = LocalGet x ∷ rest
 read_word (InField x o) rest = LocalGet x ∷ Load o ∷ rest
-read_word (IsConst n) rest = Const n ∷ rest
+read_word (IsConst n) rest = ConstWord n ∷ rest
 
 -- a closure that is made nowhere is never read
 abbrev pub read : Option Word → List Instr → List Instr
@@ -76,12 +76,12 @@ push_words (w ∷ ws) rest = push_words ws (read_word w rest)
 
 abbrev pub fill : List Place → ℕ → List Atom → List Instr → List Instr
 fill env d [] rest = rest
-fill env d (a ∷ as') rest = LocalGet d ∷ atom env a (Store (4 * suc (length as')) ∷ fill env d as' rest)
+fill env d (a ∷ as') rest = LocalGet d ∷ atom env a (StoreWord (4 * suc (length as')) ∷ fill env d as' rest)
 
 -- a block begins at the end of the heap, which moves past the block
 abbrev pub block : List Place → ℕ → ℕ → List Atom → List Instr → List Instr
 block env d header as' rest =
-    GlobalGet 2 ∷ LocalTee d ∷ Const (4 * suc (length as')) ∷ Operation op32.Add ∷ GlobalSet 2 ∷ ensure_room (LocalGet d ∷ Const header ∷ Store 0 ∷ fill env d as' (LocalGet d ∷ rest))
+    GlobalGet 2 ∷ LocalTee d ∷ ConstWord (4 * suc (length as')) ∷ Operation op32.Add ∷ GlobalSet 2 ∷ ensure_room (LocalGet d ∷ ConstWord header ∷ StoreWord 0 ∷ fill env d as' (LocalGet d ∷ rest))
 
 -- Calls.
 
@@ -137,14 +137,14 @@ module _ (P : Program) where
     code env d at (Let p t) rest = choose (unmade P env p t) (λ q. code (q ∷ env) d at t rest) (op env d Inside p (LocalSet d ∷ code (At (InLocal d) ∷ env) (suc d) at t rest))
 
     -- the branches without binders, and then `others`
-    pub empties : List Place → ℕ → Position → ℕ → Branches → (Position → List Instr → List Instr) → List Instr → List Instr
+    pub empties : List Place → ℕ → Position → ℕ → BranchBlocks → (Position → List Instr → List Instr) → List Instr → List Instr
     empties env d at c BNil others rest = others at rest
-    empties env d at c (BCons zero t bs) others rest = LocalGet d ∷ Const (2 * c + 1) ∷ Operation op32.Eq ∷ IfWord ∷ code env (suc d) (deeper at) t (Else ∷ empties env d (deeper at) (suc c) bs others (End ∷ rest))
+    empties env d at c (BCons zero t bs) others rest = LocalGet d ∷ ConstWord (2 * c + 1) ∷ Operation op32.Eq ∷ IfWord ∷ code env (suc d) (deeper at) t (Else ∷ empties env d (deeper at) (suc c) bs others (End ∷ rest))
     empties env d at c (BCons (suc n) t bs) others rest = empties env d at (suc c) bs others rest
 
     -- the branches with binders
-    pub heads : List Place → ℕ → Position → ℕ → Branches → List Instr → List Instr
+    pub heads : List Place → ℕ → Position → ℕ → BranchBlocks → List Instr → List Instr
     heads env d at c BNil rest = Unreachable ∷ rest
     heads env d at c (BCons zero t bs) rest = heads env d at (suc c) bs rest
     heads env d at c (BCons (suc n) t bs) rest =
-        LocalGet d ∷ Load 0 ∷ Const (suc n * 65536 + c) ∷ Operation op32.Eq ∷ IfWord ∷ code (fields_of d (suc n) env) (suc d) (deeper at) t (Else ∷ heads env d (deeper at) (suc c) bs (End ∷ rest))
+        LocalGet d ∷ Load 0 ∷ ConstWord (suc n * 65536 + c) ∷ Operation op32.Eq ∷ IfWord ∷ code (fields_of d (suc n) env) (suc d) (deeper at) t (Else ∷ heads env d (deeper at) (suc c) bs (End ∷ rest))

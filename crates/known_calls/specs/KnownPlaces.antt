@@ -3,7 +3,7 @@ use Rattle.std.specs.Prelude.{ℕ, zero, suc, ◌+◌, ◌*◌, Bool, false, ◌
 use Rattle.std.specs.Option.{option_map, option_and_then}
 use Rattle.anf_convert.specs.declared.program.Atom.{Atom}
 use Rattle.anf_convert.specs.declared.program.Atom.TheVariants.{Var as AVar, Box as ABox, Empty as AEmpty}
-use Rattle.closure_lift.specs.Lifted.{Op, OConst, OApp, OCon, OClos, OCase, Block, RetAtom, LetAtom, Ret, Let, Branches, BNil, BCons}
+use Rattle.closure_lift.specs.Lifted.{Op, OConst, OApp, OCon, OClos, OCase, Block, RetAtom, LetAtom, Ret, Let, BranchBlocks, BNil, BCons}
 -- where a word is: in a local, or in a field of the block whose address is in a local; or which word it is
 pub use Rattle.known_calls.specs.declared.words.Word.{Word}
 pub use Rattle.known_calls.specs.declared.words.Word.TheVariants.{Local as InLocal, Field as InField, Const as IsConst}
@@ -71,6 +71,6 @@ abbrev mutual
   block_reads i (Ret p) = op_reads i p
   block_reads i (Let p t) = op_reads i p || block_reads (suc i) t
 
-  pub branches_read : ℕ → Branches → Bool
+  pub branches_read : ℕ → BranchBlocks → Bool
   branches_read i BNil = false
   branches_read i (BCons n t bs) = block_reads (n + i) t || branches_read i bs

@@ -6,7 +6,7 @@ use Rattle.anf_convert.specs.ToAnf.{to_anf}
 use Rattle.anf_convert.specs.Anf.{AnfOp, ConstOp, AppOp, ConOp, LamOp, FixOp, CaseOp, AnfBlock, TailAtom, Tail, BindAtom, Bind, AnfBranches, NoBranch, Branch, AnfDefs, NoDef, LamDef, BoxDef, AnfProgram}
 use Rattle.closure_lift.specs.CapturedLimit.{ProgramCaptures}
 use Rattle.closure_lift.specs.Lift.{lift}
-use Rattle.closure_lift.specs.Lifted.{Op, OConst, OApp, OCon, OClos, OCase, Block, RetAtom, LetAtom, Ret, Let, Branches, BNil, BCons, Fn, Program}
+use Rattle.closure_lift.specs.Lifted.{Op, OConst, OApp, OCon, OClos, OCase, Block, RetAtom, LetAtom, Ret, Let, BranchBlocks, BNil, BCons, Fn, Program}
 use Rattle.closure_lift.specs.LiftedForm.{Formed, Limits as IsWithin}
 use Rattle.wasm_core.specs.ShortestBytes.{module_bytes}
 use Rattle.wasm_emit.specs.EmittedLocals.{top}
@@ -29,7 +29,7 @@ abbrev mutual
   weight (Ret x) = op_weight x
   weight (Let x t) = 4 + op_weight x + weight t
 
-  pub branches_weight : Branches → ℕ
+  pub branches_weight : BranchBlocks → ℕ
   branches_weight BNil = 0
   branches_weight (BCons n t bs) = 19 + weight t + branches_weight bs
 

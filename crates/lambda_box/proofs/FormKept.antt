@@ -6,7 +6,7 @@ use Rattle.trees.specs.Closed.{Closed, ClosedTerms, ClosedEach}
 use Rattle.trees.proofs.Bounds.{closed_at, Fits, substitute-closed, put_all_fits}
 use Rattle.trees.proofs.Shape.{binders_renamed, binders_substituted}
 use Rattle.pc_terms.specs.BoxSyntax.{BoxLabel, box_slots, BoxOf, BLambdaOf, BLetInOf, BAppOf, BConstOf, BConstructOf, BCaseOf, BFixOf, BoxTerm, BoxTerms, BApp, BConstruct, BFix}
-use Rattle.lambda_box.specs.BoxProgram.{BoxConstant, BoxFamily, BoxProgram, Has, Named, box_apply, boxes, box_fixpoints}
+use Rattle.lambda_box.specs.BoxProgram.{BoxConstant, BoxFamily, BoxProgram, Has, NamesOnly, box_apply, boxes, box_fixpoints}
 use Rattle.lambda_box.specs.BoxEvaluation.{is_box_constructor, BoxUnfolds, unfolds, box_unfolded, BoxEvaluates, value, constant, let_in, beta, box_app, extend, unfold_fix, enter, enter_only}
 use Rattle.lambda_box.specs.BoxForm.{IsFixBody, boxed, last, more, AreFixBodies, FormAt, HasBoxForm, HasBoxFormChildren, HasBoxFormTerms, IsBoxBody}
 use Rattle.lambda_box.specs.Laws.{ValuesHaveForm}
@@ -124,7 +124,7 @@ module _ (P : BoxProgram) where
   no_variable i l = absurd (omega arith)
 
   -- closed terms of the form put in for all variables of a term of the form
-  pub body_put_all : (xs : List BoxTerm) (t : BoxTerm) → EachBody xs → Closed (length xs) t → HasBoxForm P.families t → Named P.constants t → Body (substitute (put_all xs Rel) t)
+  pub body_put_all : (xs : List BoxTerm) (t : BoxTerm) → EachBody xs → Closed (length xs) t → HasBoxForm P.families t → NamesOnly P.constants t → Body (substitute (put_all xs Rel) t)
   body_put_all xs t h c f n = record {
     closed = substitute-closed t (put_all xs Rel) (length xs + 0) 0 (put_all_fits xs Rel 0 0 no_variable (each_closed xs h)) (closed_at t (omega arith) c);
     form = form_substituted P.families t (put_all xs Rel) (form_put_all xs Rel h (λ i. tt)) f;

@@ -1,7 +1,7 @@
 -- Blocks and their fields: that a word stands for data, from the marks of a search and back.
 use Rattle.std.proofs.Common.{◌≡◌, ◌≢◌, ℕ, zero, suc, ◌+◌, ◌*◌, ◌/◌, ◌%◌, ◌<◌, ◌≤◌, List, [], ◌∷◌, ◌++◌, Bool, ◌⊎◌, inl, inr, refl, sym, ap, subst, ◌∙◌, arith}
 use Rattle.wasm_core.specs.Memory.{word}
-use Rattle.wasm_core.specs.WordData.{Data, StandsFor, odd, block, FieldsStand, no_field, field, IsBlock, IsBelow}
+use Rattle.wasm_core.specs.WordData.{DataNodes, StandsFor, odd, block, FieldsStand, no_field, field, IsBlock, IsBelow}
 use Rattle.mem_value.specs.Tells.{HasData}
 use Rattle.mem_value.specs.Marks.{Is, IsKept, address, IsBad, IsSound, Grows, MarksFields, MarksNeeded, IsSearched, field_at}
 use Rattle.mem_value.specs.Marks as marks
@@ -27,7 +27,7 @@ field_is_bad memory place w even (inr (inr high)) (d, block b f) below =
 
 -- ---- all fields of a block
 
-fields_stand : (memory : List ℕ) (place arity : ℕ) → ((i : ℕ) → i < arity → HasData memory (field_at memory place i) × IsBelow (4 * place) (field_at memory place i)) → (left i : ℕ) → i + left ≡ arity → (ds : Data) × FieldsStand memory (4 * place) (4 * place + 4 + 4 * i) left ds
+fields_stand : (memory : List ℕ) (place arity : ℕ) → ((i : ℕ) → i < arity → HasData memory (field_at memory place i) × IsBelow (4 * place) (field_at memory place i)) → (left i : ℕ) → i + left ≡ arity → (ds : DataNodes) × FieldsStand memory (4 * place) (4 * place + 4 + 4 * i) left ds
 fields_stand memory place arity all zero i e = ([], no_field)
 fields_stand memory place arity all (suc left) i e =
     let (h, b) = all i (omega arith) in
@@ -36,7 +36,7 @@ fields_stand memory place arity all (suc left) i e =
     let at : 4 * place + 4 + 4 * (i + 1) ≡ 4 * place + 4 + 4 * i + 4 = omega arith in
     (d ++ ds, field s b (subst (λ a. FieldsStand memory (4 * place) a left ds) at r))
 
-field_has : (memory : List ℕ) (b at left : ℕ) (ds : Data) → FieldsStand memory b at left ds → (i : ℕ) → i < left → HasData memory (word memory (at + 4 * i)) × IsBelow b (word memory (at + 4 * i))
+field_has : (memory : List ℕ) (b at left : ℕ) (ds : DataNodes) → FieldsStand memory b at left ds → (i : ℕ) → i < left → HasData memory (word memory (at + 4 * i)) × IsBelow b (word memory (at + 4 * i))
 field_has memory b at zero ds f i lt = absurd (omega arith)
 field_has memory b at (suc left) _ (field {first = d} s below f) zero lt =
     let e : at ≡ at + 4 * 0 = omega arith in subst (λ a. HasData memory (word memory a) × IsBelow b (word memory a)) e ((d, s), below)
@@ -45,12 +45,12 @@ field_has memory b at (suc left) _ (field {others = ds} s below f) (suc i) lt =
     subst (λ a. HasData memory (word memory a) × IsBelow b (word memory a)) e (field_has memory b (at + 4) left ds f i (omega arith))
 
 -- where a block lies, the data of its address is its own
-pub record IsOwn (memory : List ℕ) (w arity number : ℕ) (d : Data) : Type 0 where
-  pub fields : Data
+pub record IsOwn (memory : List ℕ) (w arity number : ℕ) (d : DataNodes) : Type 0 where
+  pub fields : DataNodes
   pub is : d ≡ (number, arity) ∷ fields
   pub stand : FieldsStand memory w (w + 4) arity fields
 
-pub block_data : (memory : List ℕ) (w arity number : ℕ) (d : Data) → IsBlock memory w arity number → StandsFor memory w d → IsOwn memory w arity number d
+pub block_data : (memory : List ℕ) (w arity number : ℕ) (d : DataNodes) → IsBlock memory w arity number → StandsFor memory w d → IsOwn memory w arity number d
 block_data memory w arity number d b (odd {c = c} e) = absurd (let q = b.aligned in omega arith)
 block_data memory w arity number _ b (block {c = c} {arity = a} {fields = ds} b' f) =
     let e : a * 65536 + c ≡ arity * 65536 + number = sym b'.header ∙ b.header in

@@ -2,7 +2,7 @@
 use Rattle.std.proofs.Common.{◌≡◌, ℕ, suc, ◌+◌, ◌-◌, ◌*◌, ◌<◌, ◌≤◌, List, [], ◌∷◌, ◌++◌, length, reverse, sym, ap, subst, ◌∙◌, arith}
 use Rattle.std.proofs.lemmas.List.{reverse-append}
 use Rattle.wasm_core.specs.Memory.{word}
-use Rattle.wasm_core.specs.WordData.{Data, StandsFor}
+use Rattle.wasm_core.specs.WordData.{DataNodes, StandsFor}
 use Rattle.mem_value.specs.Tells.{most_nodes, HasData}
 use Rattle.mem_value.specs.Waiting.{words, IsReading}
 use Rattle.mem_value.proofs.Preorder.{reading_starts, reading_ends}
@@ -29,18 +29,18 @@ words_are memory address count i old now e h =
 
 -- ---- the reading
 
-pub starts : (memory : List ℕ) (w : ℕ) (nodes : Data) (now new : List ℕ) → HasData memory w → nodes ≡ [] → now ≡ [] → new ≡ now ++ w ∷ [] → IsReading memory w nodes (reverse new)
+pub starts : (memory : List ℕ) (w : ℕ) (nodes : DataNodes) (now new : List ℕ) → HasData memory w → nodes ≡ [] → now ≡ [] → new ≡ now ++ w ∷ [] → IsReading memory w nodes (reverse new)
 starts memory w nodes now new has none empty e =
     let r : reverse new ≡ w ∷ [] = ap reverse (e ∙ ap (λ ys. ys ++ w ∷ []) empty) in
-    subst (λ (ws : List ℕ). IsReading memory w nodes ws) (sym r) (subst (λ (d : Data). IsReading memory w d (w ∷ [])) (sym none) (reading_starts memory w has))
+    subst (λ (ws : List ℕ). IsReading memory w nodes ws) (sym r) (subst (λ (d : DataNodes). IsReading memory w d (w ∷ [])) (sym none) (reading_starts memory w has))
 
-pub popped : (memory : List ℕ) (w x : ℕ) (nodes : Data) (now rest : List ℕ) → now ≡ rest ++ x ∷ [] → IsReading memory w nodes (reverse now) → IsReading memory w nodes (x ∷ reverse rest)
+pub popped : (memory : List ℕ) (w x : ℕ) (nodes : DataNodes) (now rest : List ℕ) → now ≡ rest ++ x ∷ [] → IsReading memory w nodes (reverse now) → IsReading memory w nodes (x ∷ reverse rest)
 popped memory w x nodes now rest e r = subst (λ (ws : List ℕ). IsReading memory w nodes ws) (ap reverse e ∙ reverse-append rest (x ∷ [])) r
 
-pub ended : (memory : List ℕ) (w : ℕ) (nodes : Data) (now : List ℕ) → length now ≡ 0 → IsReading memory w nodes (reverse now) → StandsFor memory w nodes × (length nodes ≤ most_nodes)
+pub ended : (memory : List ℕ) (w : ℕ) (nodes : DataNodes) (now : List ℕ) → length now ≡ 0 → IsReading memory w nodes (reverse now) → StandsFor memory w nodes × (length nodes ≤ most_nodes)
 ended memory w nodes [] n r = reading_ends memory w nodes r
 ended memory w nodes (x ∷ ws) n r = absurd (omega arith)
 
 -- the nodes and the words after a step
-pub went : (memory : List ℕ) (w : ℕ) (nodes more : Data) (ws others : List ℕ) → more ≡ nodes → others ≡ ws → IsReading memory w nodes ws → IsReading memory w more others
-went memory w nodes more ws others e o r = subst (λ (ys : List ℕ). IsReading memory w more ys) (sym o) (subst (λ (d : Data). IsReading memory w d ws) (sym e) r)
+pub went : (memory : List ℕ) (w : ℕ) (nodes more : DataNodes) (ws others : List ℕ) → more ≡ nodes → others ≡ ws → IsReading memory w nodes ws → IsReading memory w more others
+went memory w nodes more ws others e o r = subst (λ (ys : List ℕ). IsReading memory w more ys) (sym o) (subst (λ (d : DataNodes). IsReading memory w d ws) (sym e) r)

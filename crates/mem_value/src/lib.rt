@@ -6,7 +6,7 @@
 //! reads node by node (`reading`). It has no recursion. `wasm_run` stands below it, and `data_trees`, whose `Data` it gives.
 #![tactic(auto)]
 
-ghost use Rattle.mem_value.specs.Tells.{Tells};
+ghost use Rattle.mem_value.specs.Tells.{TellsResult};
 
 mod blocks;
 mod fault;
@@ -24,7 +24,7 @@ use wasm_run::Machine;
 /// `NotAValue` comes exactly where it stands for none, with that word; `AnswerNodes` exactly where the data has over 4,000,000 nodes. After want of memory
 /// a machine's `result` may be any word.
 pub fn answer_tree(alloc: Global, m: &Machine) -> Result<Data, AnswerFault>
-    ensures tells { Tells m.now result }
+    ensures tells { TellsResult m.now result }
 {
     let word = m.result();
     let memory = m.memory();

@@ -1,7 +1,7 @@
 //! The data that a word stands for, node by node in preorder. The words that are still to be read wait in a vector.
 
 ghost use Rattle.std.specs.Prelude.{◌≡◌, ◌+◌, ◌*◌, ◌^◌, ◌<◌, ◌≤◌, ◌++◌, ℕ, IfOk, OnOk, MatchOption, length, reverse};
-ghost use Rattle.wasm_core.specs.WordData.{Data, StandsFor};
+ghost use Rattle.wasm_core.specs.WordData.{DataNodes, StandsFor};
 ghost use Rattle.mem_value.specs.Tells.{HasData, HasMany, most_nodes};
 ghost use Rattle.mem_value.specs.Waiting.{IsNode, words};
 
@@ -14,7 +14,7 @@ const MOST_NODES: usize = 4_000_000;
 /// The first node of the data of a word that stands for some: the constructor's number, and its count of arguments.
 fn node_of(memory: &[u8], word: u32) -> (u32, u32)
     requires stands { HasData memory.now word }
-    ensures is { (d : Data) → StandsFor memory.now word d → IsNode memory.now word d result.0 result.1 }
+    ensures is { (d : DataNodes) → StandsFor memory.now word d → IsNode memory.now word d result.0 result.1 }
     ensures inside { 0 < result.1 → word + 4 + 4 * result.1 ≤ length memory.now }
 {
     if word % 2 == 1 {

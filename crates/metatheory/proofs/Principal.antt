@@ -10,7 +10,7 @@ use Rattle.universe_levels.proofs.MaximumLemmas.{value_of-with_parts, with_parts
 use Rattle.pc_terms.specs.declared.leaf.FamilyId.{FamilyId}
 use Rattle.pc_terms.specs.Syntax.{Term, SortT, Prod, LetIn, Ind, put, substitute, apply}
 use Rattle.calculus_rules.specs.declared.entry.Entry.TheVariants.{Assumed, Defined}
-use Rattle.calculus_rules.specs.Environment.{Env, Entails}
+use Rattle.calculus_rules.specs.Environment.{Env, SortEntails}
 use Rattle.calculus_rules.specs.Context.{Context, values}
 use Rattle.calculus_rules.specs.Conversion.{same, step, back, Below, equal, product}
 use Rattle.calculus_rules.specs.Step.{zeta}
@@ -46,7 +46,7 @@ value_of_both v u w =
     max_zero : (n : ℕ) → max 0 n ≡ n
     max_zero n = omega arith
 
-pub products_entail : (E : Env) (s w s' w' : Sort) → Entails E s s' → Entails E w w' → Entails E (product_sort s w) (product_sort s' w')
+pub products_entail : (E : Env) (s w s' w' : Sort) → SortEntails E s s' → SortEntails E w w' → SortEntails E (product_sort s w) (product_sort s' w')
 products_entail E s Prop s' w' p q = tt
 products_entail E s (Of x) s' Prop p q = absurd q
 products_entail E Prop (Of x) Prop (Of x') p q = q
@@ -59,7 +59,7 @@ products_entail E (Of u) (Of x) (Of u') (Of x') p q = λ v h. omega (arith, p v 
 record LeastSort (E : Env) (c : Context) (A : Term) : Type 0 where
   one : Sort
   typed : Types bare E c A (SortT one)
-  least : (s : Sort) → Types bare E c A (SortT s) → Entails E one s
+  least : (s : Sort) → Types bare E c A (SortT s) → SortEntails E one s
 
 least_sort : (E : Env) → IsAccepted E → (c : Context) (A : Term) (s : Sort) → IsContext E c → Types bare E c A (SortT s) → Principal E c A → LeastSort E c A
 least_sort E h c A s k d (P, p) =

@@ -10,7 +10,7 @@ use Rattle.pc_terms.specs.declared.leaf.FamilyId.{FamilyId}
 use Rattle.pc_terms.specs.Syntax.{Term, Terms, SortT, Prod, App, Ind, put, substitute, apply}
 use Rattle.calculus_rules.specs.declared.declaration.Constructor.{Constructor}
 use Rattle.calculus_rules.specs.declared.entry.Entry.TheVariants.{Assumed}
-use Rattle.calculus_rules.specs.Environment.{Env, Entails, IsDeclared, FamilyDecl, KeepsFamily}
+use Rattle.calculus_rules.specs.Environment.{Env, SortEntails, IsDeclared, FamilyDecl, KeepsFamily}
 use Rattle.calculus_rules.specs.Context.{Context, values}
 use Rattle.calculus_rules.specs.Conversion.{Below}
 use Rattle.calculus_rules.specs.Elimination.{MayEliminate, AllProp}
@@ -39,7 +39,7 @@ value_of_raised : (v : ℕ → ℕ) (e : LevelExpr) (es : List LevelExpr) → va
 value_of_raised v e [] = omega arith
 value_of_raised v e (f ∷ fs) = let more = value_of_raised v f fs in omega arith
 
-not_raised : (E : Env) → IsAccepted E → (s : Sort) → IsDeclared E s → Entails E (super_sort s) s → ⊥
+not_raised : (E : Env) → IsAccepted E → (s : Sort) → IsDeclared E s → SortEntails E (super_sort s) s → ⊥
 not_raised E h Prop d e = e
 not_raised E h (Of []) d e = d.0 refl
 not_raised E h (Of (l ∷ ls)) d e =
@@ -80,7 +80,7 @@ arity_rest E h c (x ∷ xs) (A ∷ As) f s T g d =
     arity_rest E h c xs (entries_at (put x) As) (App f x) s T
     (λ U k. below_at (substitute-products As (put x) (SortT s)) refl (applied E h c f x A (products As (SortT s)) g U k)) d
 
-not_in_prop : (E : Env) (s : Sort) → s ≢ Prop → Entails E s Prop → ⊥
+not_in_prop : (E : Env) (s : Sort) → s ≢ Prop → SortEntails E s Prop → ⊥
 not_in_prop E Prop n e = n refl
 not_in_prop E (Of u) n e = e
 

@@ -2,7 +2,7 @@
 use Rattle.std.specs.Prelude.{ℕ, List, [], ◌∷◌}
 use Rattle.universe_levels.specs.declared.sort.Sort.{Sort}
 use Rattle.pc_terms.specs.Syntax.{Slot, Under, Lists, slots, Term, Terms, Children, End, Child, Group, Done, Next, Label, Rel, Node, SortT}
-use Rattle.calculus_rules.specs.Environment.{Env, Entails}
+use Rattle.calculus_rules.specs.Environment.{Env, SortEntails}
 use Rattle.calculus_rules.specs.Context.{Values}
 use Rattle.calculus_rules.specs.Conversion.{Equal}
 use Rattle.calculus_rules.specs.Accepted.{IsAccepted}
@@ -12,7 +12,7 @@ use Rattle.type_laws.specs.Contexts.{Reduces}
 mutual
   pub data Alike (E : Env) : Term → Term → Type 0 where
     rel : {i : ℕ} → Alike E (Rel i) (Rel i)
-    sorts : {s s' : Sort} → Entails E s s' → Entails E s' s → Alike E (SortT s) (SortT s')
+    sorts : {s s' : Sort} → SortEntails E s s' → SortEntails E s' s → Alike E (SortT s) (SortT s')
     node : {l : Label} {ts us : Children (slots l)} → AlikeIn E (slots l) ts us → Alike E (Node l ts) (Node l us)
 
   pub data AlikeIn (E : Env) : (ss : List Slot) → Children ss → Children ss → Type 0 where

@@ -4,7 +4,7 @@ use Rattle.wasm_core.specs.declared.entries.Entry.TheVariants as entry
 use Rattle.wasm_core.specs.Parts.{Parts}
 use Rattle.wasm_core.specs.ShortestBytes.{module_bytes}
 use Rattle.wasm_core.specs.MachineStep.{Store}
-use Rattle.wasm_core.specs.MachineRun.{Shown}
+use Rattle.wasm_core.specs.MachineRun.{MachineShown}
 use Rattle.wasm_core.specs.Runs.{store_of}
 use Rattle.wasm_core.specs.Answer.{global_of}
 use Rattle.wasm_core.specs.WordData.{StandsFor}
@@ -13,10 +13,10 @@ use Rattle.module_run.specs.declared.answer.Answer.{Answer}
 use Rattle.module_run.specs.declared.refusal.RunRefusal.{RunRefusal}
 use Rattle.module_run.specs.declared.refusal.RunRefusal.TheVariants as refusals
 use Rattle.module_run.specs.declared.answer.Measured.{Measured}
-use Rattle.module_run.specs.Ends.{Ends, IsSmall, IsReturned, IsTold, HasReturned, RunSays, AnswerSays}
+use Rattle.module_run.specs.Ends.{Ends, IsSmall, IsReturned, WordIsTold, HasReturned, RunSays, AnswerSays}
 use Rattle.module_run.specs.Figures.{IsMeasured, FigureSays}
 
-module _ (m : Parts) (cap n : ℕ) (small : IsSmall m) (a : Shown) where
+module _ (m : Parts) (cap n : ℕ) (small : IsSmall m) (a : MachineShown) where
   pub run_ends : (r : RunRefusal) → RunSays m cap n a (Err r) → Ends m cap n (Err r)
   run_ends refusals.ModuleBytes h = absurd h
   run_ends refusals.StepsSpent h = (small, h)
@@ -35,7 +35,7 @@ module _ (m : Parts) (cap n : ℕ) (small : IsSmall m) (a : Shown) where
     store_is = ap store_of back.at
 
     -- the word in `result` of the run that returned
-    abbrev returned : {Stands : ℕ → Type 0} → (t : IsTold a Stands) (w : ℕ) → t.word ≡ w → IsReturned m cap n w
+    abbrev returned : {Stands : ℕ → Type 0} → (t : WordIsTold a Stands) (w : ℕ) → t.word ≡ w → IsReturned m cap n w
     returned t w same = record {
       store = back.store;
       run = back.run;

@@ -3,26 +3,26 @@ use Rattle.std.proofs.Common.{◌≡◌, ◌≢◌, ℕ, List, Some, None, Resul
 use Rattle.wasm_core.specs.declared.entries.Entry.TheVariants as entry
 use Rattle.wasm_core.specs.Parts.{Parts}
 use Rattle.wasm_core.specs.MachineStep.{Store}
-use Rattle.wasm_core.specs.MachineRun.{Shown, refusal}
+use Rattle.wasm_core.specs.MachineRun.{MachineShown, refusal}
 use Rattle.wasm_core.specs.ModuleGrammar.{SpellsModule}
 use Rattle.wasm_core.specs.ModuleTyping.{IsValid}
 use Rattle.wasm_core.specs.Runs.{store_of}
 use Rattle.wasm_core.specs.Answer.{global_of}
-use Rattle.wasm_core.specs.WordData.{Data, StandsFor}
+use Rattle.wasm_core.specs.WordData.{DataNodes, StandsFor}
 use Rattle.mem_value.specs.Tells.{HasData, HasMany}
 use Rattle.module_run.specs.declared.answer.Answer.{Answer}
 use Rattle.module_run.specs.declared.refusal.RunRefusal.{RunRefusal}
 use Rattle.module_run.specs.declared.refusal.RunRefusal.TheVariants as runs
-use Rattle.module_run.specs.Ends.{IsReturned, IsTold, HasReturned, RunSays, AnswerSays}
+use Rattle.module_run.specs.Ends.{IsReturned, WordIsTold, HasReturned, RunSays, AnswerSays}
 use Rattle.module_run.specs.declared.file_refusal.FileRefusal.{FileRefusal}
 use Rattle.module_run.specs.declared.file_refusal.FileRefusal.TheVariants as refusals
 use Rattle.module_run.specs.FileEnds.{FileEnds, ProgramEnds, RunEnds, of_run}
 
 -- the run writes no bytes
-pub run_writes_none : (m : Parts) (cap n : ℕ) (a : Shown) (r : RunRefusal) → RunSays m cap n a (Err r) → r ≢ runs.ModuleBytes
+pub run_writes_none : (m : Parts) (cap n : ℕ) (a : MachineShown) (r : RunRefusal) → RunSays m cap n a (Err r) → r ≢ runs.ModuleBytes
 run_writes_none m cap n a r h e = subst (λ x. RunSays m cap n a (Err x)) e h
 
-module _ (m : Parts) (cap n : ℕ) (a : Shown) where
+module _ (m : Parts) (cap n : ℕ) (a : MachineShown) where
   pub stop_ends : (r : RunRefusal) → RunSays m cap n a (Err r) → RunEnds m cap n (Err (of_run r))
   stop_ends runs.ModuleBytes h = absurd h
   stop_ends runs.StepsSpent h = h
@@ -37,7 +37,7 @@ module _ (m : Parts) (cap n : ℕ) (a : Shown) where
     store_is = ap store_of back.at
 
     -- the word in `result` of the run that returned
-    abbrev returned : {Stands : ℕ → Type 0} → (t : IsTold a Stands) (w : ℕ) → t.word ≡ w → IsReturned m cap n w
+    abbrev returned : {Stands : ℕ → Type 0} → (t : WordIsTold a Stands) (w : ℕ) → t.word ≡ w → IsReturned m cap n w
     returned t w same = record {
       store = back.store;
       run = back.run;
@@ -73,7 +73,7 @@ module _ (m : Parts) (cap n : ℕ) (a : Shown) where
 -- ---- one stage after another
 
 -- the end of a run of a module of which a machine is made
-pub program_runs : (m : Parts) (cap n : ℕ) → refusal m cap ≡ None → (r : Result Data FileRefusal) → RunEnds m cap n r → ProgramEnds m cap n r
+pub program_runs : (m : Parts) (cap n : ℕ) → refusal m cap ≡ None → (r : Result DataNodes FileRefusal) → RunEnds m cap n r → ProgramEnds m cap n r
 program_runs m cap n none (Ok d) h = (none, h)
 program_runs m cap n none (Err refusals.Exhausted) h = (none, h)
 program_runs m cap n none (Err refusals.StepsSpent) h = (none, h)
@@ -89,7 +89,7 @@ program_runs m cap n none (Err refusals.Table) h = absurd h
 program_runs m cap n none (Err refusals.ElementPastTable) h = absurd h
 
 -- the end of a valid module that the bytes spell
-pub file_runs : (bytes : List ℕ) (m : Parts) (cap n : ℕ) → SpellsModule bytes m → IsValid m → (r : Result Data FileRefusal) → ProgramEnds m cap n r → FileEnds bytes cap n r
+pub file_runs : (bytes : List ℕ) (m : Parts) (cap n : ℕ) → SpellsModule bytes m → IsValid m → (r : Result DataNodes FileRefusal) → ProgramEnds m cap n r → FileEnds bytes cap n r
 file_runs bytes m cap n s v (Ok d) h = (m, s, v, h)
 file_runs bytes m cap n s v (Err (refusals.NoEntry x)) h = (m, s, v, h)
 file_runs bytes m cap n s v (Err refusals.Pages) h = (m, s, v, h)

@@ -7,10 +7,10 @@ use Rattle.wasm_core.specs.declared.ended.TrapKind.{TrapKind}
 use Rattle.wasm_core.specs.declared.entries.Entry.TheVariants as entry
 use Rattle.wasm_core.specs.Parts.{Parts}
 use Rattle.wasm_core.specs.ShortestBytes.{module_bytes, most_bytes}
-use Rattle.wasm_core.specs.MachineStep.{Conf, State, Store, At, Over, step, Step, Reach}
+use Rattle.wasm_core.specs.MachineStep.{Conf, State, Store, At, Over, step, StepsTo, Reach}
 use Rattle.wasm_core.specs.MachineRun.{GoesOn}
 use Rattle.wasm_core.specs.Answer.{global_of, Answers, answers, Exhausted, exhausted, AnswersWithin, IsAtEnd, IsAnswer}
-use Rattle.wasm_core.specs.WordData.{Data, StandsFor}
+use Rattle.wasm_core.specs.WordData.{DataNodes, StandsFor}
 use Rattle.wasm_core.proofs.Small.{inj}
 use Rattle.wasm_core.proofs.DataUnique.{data_unique}
 use Rattle.wasm_core.proofs.Trees.{moves_are_steps}
@@ -78,11 +78,11 @@ same_answer a b e f = λ i. record { word = e i; tree = f i }
 returns_same : (store : Store) (word : ℕ) (a b : Result Answer RunRefusal) → of_return store word a → of_return store word b → a ≡ b
 returns_same store word (Ok a) (Ok b) (e, s, l) (f, t, k) = ap Ok (same_answer a b (e ∙ sym f) (data_unique store.memory word a.tree b.tree s t))
 returns_same store word (Ok a) (Err (refusals.NoValue x)) (e, s, l) (f, none) = absurd (none (a.tree, s))
-returns_same store word (Ok a) (Err refusals.AnswerNodes) (e, s, l) (d, t, many) = absurd (omega (arith, l, many, ap (λ (x : Data). length x) (data_unique store.memory word a.tree d s t)))
+returns_same store word (Ok a) (Err refusals.AnswerNodes) (e, s, l) (d, t, many) = absurd (omega (arith, l, many, ap (λ (x : DataNodes). length x) (data_unique store.memory word a.tree d s t)))
 returns_same store word (Err (refusals.NoValue x)) (Ok b) (f, none) (e, s, l) = absurd (none (b.tree, s))
 returns_same store word (Err (refusals.NoValue x)) (Err (refusals.NoValue y)) (e, none) (f, other) = ap (λ w. Err (refusals.NoValue w)) (e ∙ sym f)
 returns_same store word (Err (refusals.NoValue x)) (Err refusals.AnswerNodes) (e, none) (d, t, many) = absurd (none (d, t))
-returns_same store word (Err refusals.AnswerNodes) (Ok b) (d, t, many) (e, s, l) = absurd (omega (arith, l, many, ap (λ (x : Data). length x) (data_unique store.memory word b.tree d s t)))
+returns_same store word (Err refusals.AnswerNodes) (Ok b) (d, t, many) (e, s, l) = absurd (omega (arith, l, many, ap (λ (x : DataNodes). length x) (data_unique store.memory word b.tree d s t)))
 returns_same store word (Err refusals.AnswerNodes) (Err (refusals.NoValue x)) (d, t, many) (e, none) = absurd (none (d, t))
 returns_same store word (Err refusals.AnswerNodes) (Err refusals.AnswerNodes) h k = refl
 returns_same store word (Ok a) (Err refusals.ModuleBytes) h k = absurd k
@@ -150,7 +150,7 @@ end_is_one m cap n a b h k x y = one_way m cap n a b (way_of m cap n a h x) (way
 over_is_end : (m : Parts) (x : Ended) (s : Store) → IsAtEnd m (Over x s)
 over_is_end m x s granted t h = h
 
-trapped_answer : {m : Parts} {d : Data} {k : TrapKind} {s : Store} → Answers m d (Over (Trapped k) s) → ⊥
+trapped_answer : {m : Parts} {d : DataNodes} {k : TrapKind} {s : Store} → Answers m d (Over (Trapped k) s) → ⊥
 trapped_answer h = elim h [ ]
 
 returned_exhausted : {m : Parts} {s : Store} → Exhausted m (Over Returned s) → ⊥
@@ -159,10 +159,10 @@ returned_exhausted h = elim h [ ]
 exhausted_status : {m : Parts} {k : TrapKind} {s : Store} → Exhausted m (Over (Trapped k) s) → global_of entry.Status m s ≡ Some 1
 exhausted_status (exhausted h) = h.status
 
-answer_in : {m : Parts} {d : Data} {s : Store} → Answers m d (Over Returned s) → IsAnswer m d s
+answer_in : {m : Parts} {d : DataNodes} {s : Store} → Answers m d (Over Returned s) → IsAnswer m d s
 answer_in (answers h) = h
 
-module _ (m : Parts) (cap most n : ℕ) (d : Data) (w : AnswersWithin m most d) where
+module _ (m : Parts) (cap most n : ℕ) (d : DataNodes) (w : AnswersWithin m most d) where
   -- the run's end
   ended : (x : Ended) (s : Store) → IsRun m cap n (Over x s) → Answers m d (Over x s) ⊎ Exhausted m (Over x s)
   ended x s r =
@@ -180,7 +180,7 @@ module _ (m : Parts) (cap most n : ℕ) (d : Data) (w : AnswersWithin m most d) 
   stands x r = (let a = returned r.store r.run in subst (λ v. StandsFor r.store.memory v d) (inj (sym a.result ∙ r.word_is)) a.stands)
 
   -- after fewer steps than the bound, where it goes on
-  no_step : (granted : Bool) (k : ℕ) (c : Conf) → Reach m k w.first (At c) → k ≡ most → (o : Option State) → step m granted c ≡ o → (t : State) → Step m granted (At c) t → ⊥
+  no_step : (granted : Bool) (k : ℕ) (c : Conf) → Reach m k w.first (At c) → k ≡ most → (o : Option State) → step m granted c ≡ o → (t : State) → StepsTo m granted (At c) t → ⊥
   no_step granted k c reach same o e t h = (let le = w.bounded (suc k) t (At c, reach, (granted, h)) in omega (arith, le, same))
 
   still : (k : ℕ) (s : State) → Reach m k w.first s → GoesOn s → k < most
@@ -192,7 +192,7 @@ module _ (m : Parts) (cap most n : ℕ) (d : Data) (w : AnswersWithin m most d) 
             absurd (elim (w.answers k (At c) reach (λ granted t h. no_step granted k c reach same (step m granted c) refl t h)) [ inl a ↦ at_no_answer a | inr e ↦ at_not_exhausted e ])
       ]
     where
-      at_no_answer : {m : Parts} {d : Data} {c : Conf} → Answers m d (At c) → ⊥
+      at_no_answer : {m : Parts} {d : DataNodes} {c : Conf} → Answers m d (At c) → ⊥
       at_no_answer h = elim h [ ]
 
       at_not_exhausted : {m : Parts} {c : Conf} → Exhausted m (At c) → ⊥
@@ -212,5 +212,5 @@ ends_answer m cap most n d (Err (refusals.Trapped kind)) w (small, (status, othe
 ends_answer m cap most n d (Err (refusals.NoValue word)) w (small, h) = h.none (d, stands m cap most n d w word h.returned)
 ends_answer m cap most n d (Err refusals.AnswerNodes) w (small, h) =
     let (e, s, many) = h.many in
-    subst (λ (x : Data). most_nodes < length x) (data_unique h.returned.store.memory h.word e d s (stands m cap most n d w h.word h.returned)) many
+    subst (λ (x : DataNodes). most_nodes < length x) (data_unique h.returned.store.memory h.word e d s (stands m cap most n d w h.word h.returned)) many
 ends_answer m cap most n d (Err refusals.Memory) w h = tt

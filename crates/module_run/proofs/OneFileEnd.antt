@@ -3,7 +3,7 @@ use Rattle.std.proofs.Common.{◌≡◌, ◌≢◌, ℕ, ◌≤◌, List, length
 use Rattle.wasm_core.specs.declared.ended.NewFault.{NewFault}
 use Rattle.wasm_core.specs.declared.ended.NewFault.TheVariants as new
 use Rattle.wasm_core.specs.Parts.{Parts}
-use Rattle.wasm_core.specs.WordData.{Data}
+use Rattle.wasm_core.specs.WordData.{DataNodes}
 use Rattle.wasm_core.specs.ModuleGrammar.{SpellsModule, StopsModule}
 use Rattle.wasm_core.specs.ModuleTyping.{IsValid}
 use Rattle.wasm_core.specs.FirstFault.{FirstFault}
@@ -24,12 +24,12 @@ use Rattle.module_run.specs.FileEnds.{FileEnds, of_run}
 use Rattle.module_run.specs.FileLaws.{FileEndIsOne}
 
 -- the end of a run, as one of a file
-abbrev of_end : Result Answer RunRefusal → Result Data FileRefusal
+abbrev of_end : Result Answer RunRefusal → Result DataNodes FileRefusal
 of_end (Ok a) = Ok a.tree
 of_end (Err why) = Err (of_run why)
 
 -- the refusal of a start, as one of a file
-abbrev of_start : NewFault → Result Data FileRefusal
+abbrev of_start : NewFault → Result DataNodes FileRefusal
 of_start (new.NoEntry n) = Err (refusals.NoEntry n)
 of_start new.Pages = Err refusals.Pages
 of_start new.Table = Err refusals.Table
@@ -37,7 +37,7 @@ of_start (new.ElementPastTable s) = Err refusals.ElementPastTable
 of_start new.Memory = Err refusals.Memory
 
 -- the stage at which an end comes
-data Stage (bytes : List ℕ) (cap n : ℕ) (r : Result Data FileRefusal) : Type 0 where
+data Stage (bytes : List ℕ) (cap n : ℕ) (r : Result DataNodes FileRefusal) : Type 0 where
   unread : (o : ℕ) → StopsModule bytes o → r ≡ Err (refusals.Bad o) → Stage bytes cap n r
   untyped : (m : Parts) → SpellsModule bytes m → (f p : ℕ) → FirstFault m f p → r ≡ Err (refusals.Invalid f p) → Stage bytes cap n r
   unstarted : (m : Parts) → SpellsModule bytes m → IsValid m → (x : NewFault) → refusal m cap ≡ Some x → r ≡ of_start x → Stage bytes cap n r
@@ -47,7 +47,7 @@ module _ (bytes : List ℕ) (cap n : ℕ) (short : length bytes ≤ most_bytes) 
   small : (m : Parts) → SpellsModule bytes m → IsSmall m
   small m s = (let few = (none_is_shorter bytes m s).0 in omega (arith, few, short))
 
-  stage_of : (r : Result Data FileRefusal) → FileEnds bytes cap n r → r ≢ Err refusals.Memory → Stage bytes cap n r
+  stage_of : (r : Result DataNodes FileRefusal) → FileEnds bytes cap n r → r ≢ Err refusals.Memory → Stage bytes cap n r
   stage_of (Ok d) (m, s, v, (none, (word, h))) k = ran m s v none (Ok (record { word = word; tree = d })) (small m s, h) (λ e. cc) refl
   stage_of (Err (refusals.Bad o)) h k = unread o h refl
   stage_of (Err (refusals.Invalid f p)) (m, s, h) k = untyped m s f p h refl
@@ -63,7 +63,7 @@ module _ (bytes : List ℕ) (cap n : ℕ) (short : length bytes ≤ most_bytes) 
   stage_of (Err refusals.Memory) h k = absurd (k refl)
 
   -- two stages of one file
-  one_stage : (a b : Result Data FileRefusal) → Stage bytes cap n a → Stage bytes cap n b → a ≡ b
+  one_stage : (a b : Result DataNodes FileRefusal) → Stage bytes cap n a → Stage bytes cap n b → a ≡ b
   one_stage a b (unread o h e) (unread q k f) = e ∙ ap (λ x. Err (refusals.Bad x)) (exact.one_offset bytes o q h k) ∙ sym f
   one_stage a b (unread o h e) (untyped m s g p k f) = absurd (exact.not_both bytes m o s h)
   one_stage a b (unread o h e) (unstarted m s v x k f) = absurd (exact.not_both bytes m o s h)

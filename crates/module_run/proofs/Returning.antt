@@ -5,7 +5,7 @@ use Rattle.wasm_core.specs.declared.ended.Ended.{Ended}
 use Rattle.wasm_core.specs.declared.ended.Ended.TheVariants.{Returned}
 use Rattle.wasm_core.specs.Parts.{Parts}
 use Rattle.wasm_core.specs.MachineStep.{State, Store, At, Over}
-use Rattle.wasm_core.specs.MachineRun.{Shown, IsFresh, IsOver, Says}
+use Rattle.wasm_core.specs.MachineRun.{MachineShown, IsFreshMachine, HasEndedAs, MachineSays}
 use Rattle.wasm_core.specs.Runs.{Moves}
 use Rattle.reports.specs.declared.fact.Fact.{Fact}
 use Rattle.wasm_run.specs.ToldRuns.{SaysTold}
@@ -13,16 +13,16 @@ use Rattle.wasm_run.specs.ToldSteps.{Tells}
 use Rattle.module_run.specs.Ends.{HasReturned}
 use Rattle.module_run.specs.RunFacts.{AreRunFacts}
 
-over_is : (e : Ended) (t : State) → IsOver e t → (store : Store) × (t ≡ Over e store)
+over_is : (e : Ended) (t : State) → HasEndedAs e t → (store : Store) × (t ≡ Over e store)
 over_is e (At c) h = absurd h
 over_is e (Over f store) h = (store, λ i. Over (h i) store)
 
 counted : (made k n : ℕ) → made ≡ min (0 + k) (2 ^ 64 - 1) → k ≤ n → n ≤ 18446744073709551615 → made ≡ k
 counted made k n e le few = omega (arith, e, le, few)
 
-pub has_returned : (m : Parts) (cap n : ℕ) (old new : Shown) → IsFresh m cap old → n ≤ 18446744073709551615 → Says old new n (Ok Returned) → HasReturned m cap n new
+pub has_returned : (m : Parts) (cap n : ℕ) (old new : MachineShown) → IsFreshMachine m cap old → n ≤ 18446744073709551615 → MachineSays old new n (Ok Returned) → HasReturned m cap n new
 has_returned m cap n old new (s, starts, is) few says =
-    let (sound, still, (k, le, ran, over)) = subst (λ o. Says o new n (Ok Returned)) is says in
+    let (sound, still, (k, le, ran, over)) = subst (λ o. MachineSays o new n (Ok Returned)) is says in
     let (store, at) = over_is Returned new.state over in
     record {
       sound = still;
@@ -33,7 +33,7 @@ has_returned m cap n old new (s, starts, is) few says =
       made = counted new.made k n ran.counted le few;
     }
 
-pub run_facts : (m : Parts) (cap n : ℕ) (old new : Shown) (facts : List Fact) → IsFresh m cap old → SaysTold old new n (Ok Returned) facts → AreRunFacts m cap n facts
+pub run_facts : (m : Parts) (cap n : ℕ) (old new : MachineShown) (facts : List Fact) → IsFreshMachine m cap old → SaysTold old new n (Ok Returned) facts → AreRunFacts m cap n facts
 run_facts m cap n old new facts (s, starts, is) says =
     let (sound, still, (k, le, told, over)) = subst (λ o. SaysTold o new n (Ok Returned) facts) is says in
     let (store, at) = over_is Returned new.state over in

@@ -7,7 +7,7 @@ use Rattle.wasm_core.specs.Parts.{Parts}
 use Rattle.wasm_core.specs.ModuleGrammar.{SpellsModule}
 use Rattle.wasm_core.specs.ShortestBytes.{module_bytes, most_bytes}
 use Rattle.wasm_core.specs.MachineStep.{State, Store, Over}
-use Rattle.wasm_core.specs.MachineRun.{Shown, GoesOn}
+use Rattle.wasm_core.specs.MachineRun.{MachineShown, GoesOn}
 use Rattle.wasm_core.specs.Runs.{Moves, main_start, store_of}
 use Rattle.wasm_core.specs.Answer.{global_of}
 use Rattle.wasm_core.specs.WordData.{StandsFor}
@@ -85,7 +85,7 @@ WriteSays bytes_of m (Err refusals.Memory) = Unit {0}
 WriteSays bytes_of m (Err _) = ⊥
 
 -- the machine has returned
-pub record HasReturned (m : Parts) (cap n : ℕ) (a : Shown) : Type 0 where
+pub record HasReturned (m : Parts) (cap n : ℕ) (a : MachineShown) : Type 0 where
   pub sound : a.failed ≡ false
   pub program : a.program ≡ m
   pub store : Store
@@ -93,7 +93,7 @@ pub record HasReturned (m : Parts) (cap n : ℕ) (a : Shown) : Type 0 where
   pub run : IsRun m cap n (Over Returned store)
   pub made : a.made ≡ run.steps
 
-abbrev pub RunSays : Parts → (cap n : ℕ) → Shown → Result (Unit {0}) RunRefusal → Type 0
+abbrev pub RunSays : Parts → (cap n : ℕ) → MachineShown → Result (Unit {0}) RunRefusal → Type 0
 RunSays m cap n a (Ok x) = HasReturned m cap n a
 RunSays m cap n a (Err refusals.StepsSpent) = IsLonger m cap n
 RunSays m cap n a (Err refusals.Exhausted) = (kind : TrapKind) × IsTrapped m cap n kind 1
@@ -102,14 +102,14 @@ RunSays m cap n a (Err refusals.Memory) = Unit {0}
 RunSays m cap n a (Err _) = ⊥
 
 -- the word in a machine's result, and what it stands for
-pub record IsTold (a : Shown) (Stands : ℕ → Type 0) : Type 0 where
+pub record WordIsTold (a : MachineShown) (Stands : ℕ → Type 0) : Type 0 where
   pub word : ℕ
   pub is_result : a.failed ≡ false → global_of entry.Result a.program (store_of a.state) ≡ Some word
   pub stands : Stands word
 
-abbrev pub AnswerSays : Shown → Result Answer RunRefusal → Type 0
-AnswerSays a (Ok x) = IsTold a (λ w. (a.failed ≡ false → w ≡ x.word) × StandsFor (store_of a.state).memory w x.tree × (length x.tree ≤ most_nodes))
-AnswerSays a (Err (refusals.NoValue x)) = IsTold a (λ w. (x ≡ w) × (HasData (store_of a.state).memory w → ⊥))
-AnswerSays a (Err refusals.AnswerNodes) = IsTold a (λ w. HasMany (store_of a.state).memory w)
+abbrev pub AnswerSays : MachineShown → Result Answer RunRefusal → Type 0
+AnswerSays a (Ok x) = WordIsTold a (λ w. (a.failed ≡ false → w ≡ x.word) × StandsFor (store_of a.state).memory w x.tree × (length x.tree ≤ most_nodes))
+AnswerSays a (Err (refusals.NoValue x)) = WordIsTold a (λ w. (x ≡ w) × (HasData (store_of a.state).memory w → ⊥))
+AnswerSays a (Err refusals.AnswerNodes) = WordIsTold a (λ w. HasMany (store_of a.state).memory w)
 AnswerSays a (Err refusals.Memory) = Unit {0}
 AnswerSays a (Err _) = ⊥

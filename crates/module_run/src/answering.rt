@@ -4,7 +4,7 @@ ghost use Rattle.wasm_core.specs.Parts.{Parts};
 ghost use Rattle.wasm_core.specs.ModuleGrammar.{SpellsModule};
 ghost use Rattle.wasm_core.specs.ModuleTyping.{IsValid};
 ghost use Rattle.wasm_core.specs.ShortestBytes.{module_bytes};
-ghost use Rattle.wasm_core.specs.MachineRun.{IsFresh, refusal};
+ghost use Rattle.wasm_core.specs.MachineRun.{IsFreshMachine, refusal};
 ghost use Rattle.module_run.specs.Ends.{AnswerSays, IsSmall, RunSays, WriteSays};
 ghost use Rattle.module_run.specs.Figures.{FigureSays};
 ghost use Rattle.module_run.specs.RunFacts.{RunIsTold};
@@ -73,7 +73,7 @@ fn loaded(alloc: Global, bytes: &[u8]) -> Result<Valid, RunRefusal>
 /// A machine at the start of a run of `main`.
 fn started<'m>(alloc: Global, program: &'m Valid, cap: u32) -> Result<Machine<'m>, RunRefusal>
     requires starts { refusal program.now cap ≡ None }
-    ensures fresh { IfOk result (λ a. IsFresh program.now cap a) }
+    ensures fresh { IfOk result (λ a. IsFreshMachine program.now cap a) }
     ensures only_memory { IfErr result (λ e. e ≡ Memory) }
 {
     match Machine::new(alloc, program, cap) {
@@ -95,9 +95,9 @@ pub fn returned<R: Report>(
     steps: u64,
     reports: &mut Vec<R>,
 ) -> Result<(), RunRefusal>
-    requires fresh { (m : Parts) × (cap : ℕ) × IsFresh m cap machine.old }
-    ensures says { (m : Parts) (cap : ℕ) → IsFresh m cap machine.old → RunSays m cap steps machine.new result }
-    ensures told { (m : Parts) (cap : ℕ) → IsFresh m cap machine.old → OnOk result (RunIsTold R.shown m cap steps reports.old.items reports.new.items) }
+    requires fresh { (m : Parts) × (cap : ℕ) × IsFreshMachine m cap machine.old }
+    ensures says { (m : Parts) (cap : ℕ) → IsFreshMachine m cap machine.old → RunSays m cap steps machine.new result }
+    ensures told { (m : Parts) (cap : ℕ) → IsFreshMachine m cap machine.old → OnOk result (RunIsTold R.shown m cap steps reports.old.items reports.new.items) }
 {
     match machine.run_told(steps, reports) {
         Ok(Ended::Returned) => Ok(()),

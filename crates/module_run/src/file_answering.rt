@@ -1,9 +1,9 @@
 //! The stages from a module's bytes to its answer.
 ghost use Rattle.std.specs.Prelude.{◌≡◌, ◌≢◌, ℕ, OnOk};
 ghost use Rattle.wasm_core.specs.Parts.{Parts};
-ghost use Rattle.wasm_core.specs.MachineRun.{IsFresh};
+ghost use Rattle.wasm_core.specs.MachineRun.{IsFreshMachine};
 ghost use Rattle.module_run.specs.declared.refusal.RunRefusal.TheVariants.{ModuleBytes};
-ghost use Rattle.module_run.specs.FileEnds.{CheckSays, FileEnds, ProgramEnds, ReadSays, RunEnds, StartSays, of_run};
+ghost use Rattle.module_run.specs.FileEnds.{ValidateSays, FileEnds, ProgramEnds, DecodeSays, RunEnds, StartSays, of_run};
 ghost use Rattle.module_run.specs.RunFacts.{FileIsTold, RunIsTold};
 
 use crate::answering::{answered, returned};
@@ -19,7 +19,7 @@ use wasm_validate::{Why, validate};
 
 /// The module that the bytes spell.
 fn read(alloc: Global, bytes: &[u8]) -> Result<Module, FileRefusal>
-    ensures says { ReadSays result bytes.now }
+    ensures says { DecodeSays result bytes.now }
 {
     match decode(alloc, bytes) {
         Ok(module) => Ok(module),
@@ -30,7 +30,7 @@ fn read(alloc: Global, bytes: &[u8]) -> Result<Module, FileRefusal>
 
 /// The module, where it has a typing.
 fn checked(alloc: Global, decoded: Module) -> Result<Valid, FileRefusal>
-    ensures says { CheckSays result decoded }
+    ensures says { ValidateSays result decoded }
 {
     match validate(alloc, decoded) {
         Ok(valid) => Ok(valid),
@@ -78,9 +78,9 @@ fn finished<R: Report>(
     steps: u64,
     reports: &mut Vec<R>,
 ) -> Result<Data, FileRefusal>
-    requires fresh { (m : Parts) × (cap : ℕ) × IsFresh m cap machine.old }
-    ensures says { (m : Parts) (cap : ℕ) → IsFresh m cap machine.old → RunEnds m cap steps result }
-    ensures told { (m : Parts) (cap : ℕ) → IsFresh m cap machine.old → OnOk result (RunIsTold R.shown m cap steps reports.old.items reports.new.items) }
+    requires fresh { (m : Parts) × (cap : ℕ) × IsFreshMachine m cap machine.old }
+    ensures says { (m : Parts) (cap : ℕ) → IsFreshMachine m cap machine.old → RunEnds m cap steps result }
+    ensures told { (m : Parts) (cap : ℕ) → IsFreshMachine m cap machine.old → OnOk result (RunIsTold R.shown m cap steps reports.old.items reports.new.items) }
 {
     match returned(machine, steps, reports) {
         Ok(()) => match answered(alloc, machine) {

@@ -21,22 +21,22 @@ use Rattle.calculus_rules.specs.PropSorts.{is_prop}
 
 -- whether the weak-head normal form of a type goes through products to a sort
 
-abbrev pub Ending : Type 0
-Ending = Context → Term → Account → Run Bool
+abbrev pub TypeEnding : Type 0
+TypeEnding = Context → Term → Account → Run Bool
 
 abbrev pub ending_on : Option Term → Run Bool → (Term → Account → Run Bool) → Account → Run Bool
 ending_on None stay go u = stay
 ending_on (Some t) stay go u = ticking u (λ v. bind (passing (is_beyond t) v) (λ _ w. go t w))
 
 -- of a weak-head normal form; `go` is asked of what a paid step has led to
-abbrev pub end_of : Env → Ending → Context → Term → Account → Run Bool
+abbrev pub end_of : Env → TypeEnding → Context → Term → Account → Run Bool
 end_of E go c (SortT s) u = done true u
 end_of E go c (Prod A B) u =
     ending_on (weak_next E (values (Assumed A ∷ c)) B) (end_of E go (Assumed A ∷ c) B u) (go (Assumed A ∷ c)) u
 end_of E go c t u = done false u
 
 -- with a number of steps at most
-unfoldable pub ends_in_sort : Env → ℕ → Ending
+unfoldable pub ends_in_sort : Env → ℕ → TypeEnding
 ends_in_sort E zero c t u = ending_on (weak_next E (values c) t) (end_of E (λ d T v. no_unit) c t u) (λ T v. no_unit) u
 ends_in_sort E (suc n) c t u = ending_on (weak_next E (values c) t) (end_of E (ends_in_sort E n) c t u) (ends_in_sort E n c) u
 

@@ -5,7 +5,7 @@ ghost use Rattle.pc_rules.specs.DirectedComparison.{sort_below};
 ghost use Rattle.pc_rules.specs.Entailment.{test_of};
 ghost use Rattle.pc_rules.specs.declared.stop.Stop.TheVariants.{Memory};
 ghost use Rattle.calculus_rules.specs.declared.declaration.Kept.TheVariants.{Heads};
-ghost use Rattle.calculus_rules.specs.Environment.{name_of, Entails};
+ghost use Rattle.calculus_rules.specs.Environment.{name_of, SortEntails};
 ghost use Rattle.calculus_rules.specs.Lookups.{kept_at, known_block, whole_block};
 ghost use Rattle.pc_rules.specs.Lookup.{IsNew, AreHeads, HasNoConstructors, family_kept, with_kept};
 
@@ -77,7 +77,7 @@ impl Env {
         requires low_over { IsSortOver self.now.levels low.now }
         requires high_over { IsSortOver self.now.levels high.now }
         ensures test { result ≡ sort_below (test_of self.now) low.now high.now }
-        ensures entailed { IsTrue result ↔ Entails self.now low.now high.now }
+        ensures entailed { IsTrue result ↔ SortEntails self.now low.now high.now }
     {
         match (low, high) {
             (Sort::Prop, _) => true,

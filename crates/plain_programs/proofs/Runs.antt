@@ -9,7 +9,7 @@ use Rattle.wasm_core.specs.declared.ended.TrapKind.{TrapKind}
 use Rattle.wasm_core.specs.Parts.{Parts}
 use Rattle.wasm_core.specs.Instance.{greatest_pages}
 use Rattle.wasm_core.specs.MachineStep.{State, Over}
-use Rattle.wasm_core.specs.WordData.{Data}
+use Rattle.wasm_core.specs.WordData.{DataNodes}
 use Rattle.wasm_core.proofs.Trees.{moves_are_steps}
 use Rattle.wasm_emit.specs.EmittedModule.{module_of}
 use Rattle.back_end.specs.BackEnd.{passed, Answered}
@@ -29,7 +29,7 @@ module _ (P : BoxProgram) (f : FamilyId) (c pages steps : ℕ) (pos : 0 < pages)
   abbrev M : Parts
   M = module_of (passed P) pages
 
-  abbrev tree : Data
+  abbrev tree : DataNodes
   tree = (c, 0) ∷ []
 
   runs : Answered P pages 1024 tree 1 × Bounded P pages 1024 1

@@ -11,7 +11,7 @@ use Rattle.dump_grammar.specs.Table.{VEnv}
 use Rattle.dump_grammar.specs.Judge.{Fine}
 use Rattle.dump_grammar.specs.Limits.{first, one_more_over}
 use Rattle.dump_grammar.specs.declared.refusal.Limit.TheVariants as limits
-use Rattle.dump_grammar.specs.Within.{IsWithin, levels_over, constraints_over, declaration_over, declarations_over}
+use Rattle.dump_grammar.specs.Within.{DumpIsWithin, levels_over, constraints_over, declaration_over, declarations_over}
 use Rattle.dump_grammar.proofs.Law.{judged}
 use Rattle.dump_grammar.proofs.Within.{limited}
 use Rattle.dump_reader.specs.declared.environment.RawEnv.{RawEnv}
@@ -77,7 +77,7 @@ few_read e h =
     let x = judged.fine (length bytes) (tokens_of bytes) (VEnv h.1 ∷ []) h.2 in
     let d = x.2.0 in
     let same : h.1 ≡ env_of d = (let f = x.1 in let g : h.1 ≡ x.0 = cc in g ∙ x.2.2) in
-    let within : IsWithin d = limited.only (length bytes) (tokens_of bytes) d x.2.1 (h.2 ∙ ap (λ n. Fine (VEnv n ∷ [])) same) in
+    let within : DumpIsWithin d = limited.only (length bytes) (tokens_of bytes) d x.2.1 (h.2 ∙ ap (λ n. Fine (VEnv n ∷ [])) same) in
     let meant : numbered (env_of d) ≡ e = ap numbered (sym same) ∙ sym h.3 in
     let p = none_both (levels_over 0 d.levels) (first (constraints_over 0 d.constraints) (declarations_over 0 d.decls d.main)) within.1 in
     let q = none_both (constraints_over 0 d.constraints) (declarations_over 0 d.decls d.main) p.1 in

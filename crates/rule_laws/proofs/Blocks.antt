@@ -14,7 +14,7 @@ use Rattle.calculus_rules.specs.declared.declaration.Kept.TheVariants.{Heads, Bl
 use Rattle.calculus_rules.specs.declared.entry.Entry.TheVariants.{Assumed}
 use Rattle.pc_rules.specs.declared.broken.Broken.TheVariants.{SortTooSmall, NotPositive, DuplicateName}
 use Rattle.pc_rules.specs.declared.meter.Account.{Account}
-use Rattle.calculus_rules.specs.Environment.{Env, Has, here, there, head_of, heads_of, Entails, IsDeclared}
+use Rattle.calculus_rules.specs.Environment.{Env, Has, here, there, head_of, heads_of, SortEntails, IsDeclared}
 use Rattle.calculus_rules.specs.Context.{Context, extend}
 use Rattle.calculus_rules.specs.Typing.{guarded, Entries, EntrySorts, no_sorts, a_sort}
 use Rattle.calculus_rules.specs.declared.target.Target.TheVariants.{Families}
@@ -122,7 +122,7 @@ module _ (E : Env) (w : HasCountedDeclarations E) (inf : Typing) (si : Infers E 
 
 module _ (H : Env) (w : HasCountedDeclarations H) (inf : Typing) (si : Infers H inf) (cmp : Comparison) (sc : IsSound H cmp) (q : Test)
     (test : IsTest H.levels H.constraints q) where
-  fits : (r s : Sort) (u v : Account) → (fits_sort q r s u).end ≡ run.Done tt v → r ≢ Prop → Entails H s r
+  fits : (r s : Sort) (u v : Account) → (fits_sort q r s u).end ≡ run.Done tt v → r ≢ Prop → SortEntails H s r
   fits Prop s u v h n = absurd (n refl)
   fits (Of x) s u v h n = entails H q test w s (Of x) (tested (sort_below q s (Of x)) (done tt u) (SortTooSmall s (Of x)) u tt v h).0
 

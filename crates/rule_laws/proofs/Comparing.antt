@@ -11,7 +11,7 @@ use Rattle.calculus_rules.specs.declared.entry.Entry.TheVariants.{Assumed}
 use Rattle.pc_rules.specs.declared.broken.Broken.TheVariants.{NotBelow}
 use Rattle.pc_rules.specs.declared.broken.Clash.TheVariants.{Terms as ClashOfTerms, Sorts as ClashOfSorts}
 use Rattle.pc_rules.specs.declared.meter.Account.{Account}
-use Rattle.calculus_rules.specs.Environment.{Env, FamilyDecl, Entails}
+use Rattle.calculus_rules.specs.Environment.{Env, FamilyDecl, SortEntails}
 use Rattle.calculus_rules.specs.Context.{Context, Values, values, under, extend}
 use Rattle.calculus_rules.specs.Instances.{entries_at, predicate_entries, branch_entries}
 use Rattle.calculus_rules.specs.Conversion.{Equal, EqualTerms, same as the_same, back, chain, sorts, Below, equal as of_equal, sort as of_sorts, product}
@@ -248,7 +248,7 @@ module _ (E : Env) where
         (each_sound cmp sound c vs (args a) (args b) p1.1 v (eqb-true (length (args a)) (length (args b)) t.0) (args_counted E a h) (args_counted E b k) p1.3)))
 
   module _ (q : Test) (test : IsTest E.levels E.constraints q) (w : HasCountedDeclarations E) where
-    pub entails : (s s' : Sort) → sort_below q s s' ≡ true → Entails E s s'
+    pub entails : (s s' : Sort) → sort_below q s s' ≡ true → SortEntails E s s'
     entails Prop s' h = tt
     entails (Of x) Prop h = false_true h
     entails (Of x) (Of y) h = test.yes x y h

@@ -22,7 +22,7 @@ use Rattle.calculus_rules.specs.Lookups.{family_of}
 use Rattle.pc_rules.specs.DirectedWeakHead.{weak_next}
 use Rattle.calculus_rules.specs.Listed.{list_of}
 use Rattle.pc_rules.specs.DirectedTyping.{Typing, sort_of}
-use Rattle.pc_rules.specs.DirectedErasable.{Ending, ending_on, end_of, ends_in_sort, proof_found, arity_found, type_test, constructor_test, numbered_test, match_sort, match_test, erasable_test}
+use Rattle.pc_rules.specs.DirectedErasable.{TypeEnding, ending_on, end_of, ends_in_sort, proof_found, arity_found, type_test, constructor_test, numbered_test, match_sort, match_test, erasable_test}
 use Rattle.calculus_rules.specs.PropSorts.{is_prop}
 use Rattle.pc_rules.specs.WellCounted.{IsCounted, HasCountedDeclarations, IsCountedContext}
 use Rattle.calculus_rules.proofs.Spines.{one_item}
@@ -51,7 +51,7 @@ module _ (E : Env) where
   arity_before : (c : Context) (T X : Term) → Equal E (values c) T X → IsArity c X → IsArity c T
   arity_before c T X e h = (h.0, h.1, chain e h.2)
 
-  abbrev Ends : Ending → Type 0
+  abbrev Ends : TypeEnding → Type 0
   Ends go = (c : Context) (T : Term) (u v : Account) → (go c T u).end ≡ run.Done true v → IsArity c T
 
   step_ends : (c : Context) (T : Term) (o : Option Term) (stay : Run Bool) (go : Term → Account → Run Bool) (u v : Account) → weak_next E (values c) T ≡ o →
@@ -63,7 +63,7 @@ module _ (E : Env) where
       let h2 = pass_then (is_beyond X) (ticked u) (λ _ w. go X w) h1 in
       arity_before c T X (weak_equal (then_step (weak_next_found E (values c) T X e) no_step)) (g X (ticked u) h2)
 
-  module _ (go : Ending) (sound : Ends go) where
+  module _ (go : TypeEnding) (sound : Ends go) where
     end_sound : (c : Context) (T : Term) (u v : Account) → (end_of E go c T u).end ≡ run.Done true v → IsArity c T
     end_sound c (SortT s) u v h = ([], s, same)
     end_sound c (Prod A B) u v h =
@@ -75,7 +75,7 @@ module _ (E : Env) where
   ends_sound : (n : ℕ) → Ends (ends_in_sort E n)
   unfolding ends_in_sort
   ends_sound zero c T u v h =
-      let none : Ending = λ d T v. no_unit in
+      let none : TypeEnding = λ d T v. no_unit in
       step_ends c T (weak_next E (values c) T) (end_of E none c T u) (λ T v. no_unit) u v refl
       (end_sound none (λ c T u v h. absurd (unit_done h)) c T u v) (λ X y h. absurd (unit_done h)) h
   ends_sound (suc n) c T u v h =

@@ -8,7 +8,7 @@ use Rattle.trees.specs.Closed.{Closed, ClosedTerms, EveryTerm}
 use Rattle.trees.specs.Shape.{binders_of}
 use Rattle.trees.proofs.Bounds.{closed_at}
 use Rattle.pc_terms.specs.BoxSyntax.{BoxTerm, BoxTerms, Box, BLambda, BLetIn, BApp, BConst, BConstruct, BCase, BFix}
-use Rattle.lambda_box.specs.BoxProgram.{BoxConstant, BoxFamily, NamesKept, Named}
+use Rattle.lambda_box.specs.BoxProgram.{BoxConstant, BoxFamily, NamesKept, NamesOnly}
 use Rattle.lambda_box.specs.BoxForm.{IsFixBody, boxed, last, more, AreFixBodies, HasBoxForm, HasBoxFormTerms, IsBoxBody}
 use Rattle.lambda_box.specs.SaturatedForm.{IsSaturatedAt, AreSaturated}
 use Rattle.lambda_box.specs.OrdinaryForm.{IsOrdinary, AreOrdinary}
@@ -116,14 +116,14 @@ module _ (k p : ℕ) where
     cut_form_terms Fs (Next n t ts) h = (cut_form Fs t h.0, cut_form_terms Fs ts h.1)
 
   mutual
-    pub cut_named : (cs : List BoxConstant) (t : BoxTerm) → Named cs t → Named cs (cut k p t)
+    pub cut_named : (cs : List BoxConstant) (t : BoxTerm) → NamesOnly cs t → NamesOnly cs (cut k p t)
     cut_named cs (Rel i) h = tt
     cut_named cs Box h = h
     cut_named cs (BLambda t) h = (tt, (cut_named cs t h.1.0, tt))
     cut_named cs (BLetIn a t) h = (tt, (cut_named cs a h.1.0, (cut_named cs t h.1.1.0, tt)))
     cut_named cs (BApp f a) h = either (is_spine k f p) (cut_named cs f h.1.0) (cut_named cs a h.1.1.0)
       where
-        either : (z : Bool) → Named cs (cut k p f) → Named cs (cut k p a) → Named cs (if z then cut k p f else BApp (cut k p f) (cut k p a))
+        either : (z : Bool) → NamesOnly cs (cut k p f) → NamesOnly cs (cut k p a) → NamesOnly cs (if z then cut k p f else BApp (cut k p f) (cut k p a))
         either true x y = x
         either false x y = (tt, (x, (y, tt)))
     cut_named cs (BConst c) h = h

@@ -12,7 +12,7 @@ use Rattle.pc_terms.specs.BoxSyntax.{BoxTerm, BoxTerms, Box, BLambda, BLetIn, BA
 use Rattle.lambda_box.specs.BoxProgram.{BoxFamily, BoxProgram, Has, KeepsBoxConstant, KeepsBoxFamily, box_apply}
 use Rattle.lambda_box.specs.BoxData.{Data}
 use Rattle.lambda_box.specs.DataTerms.{ValuesHold, hold_none, hold_last}
-use Rattle.lambda_box.specs.ClosureEvaluation.{names, names_terms, Value, VBox, VConstruct, VClosure, VFix, Values, NoValue, Then, Env, Empty, Bind, BindFix, size, bind_all, box_values, Held, Holds, Defines, Finds, found, later, found_fix, past_fix, one_if, any_below, words, closure_words, fix_words, Counts, nothing, contraction, entered_match, block, ◌⊕◌, Run, run_box, run_value, run_definition, run_lambda, run_fix, run_constant, run_let, run_app, run_box_app, run_fix_app, run_fix_box, run_construct, run_match, run_only, RunArgs, run_head, run_arg, ValueReads, value_reads, ValuesRead, no_values, and_then}
+use Rattle.lambda_box.specs.ClosureEvaluation.{names, names_terms, ClosureValue, VBox, VConstruct, VClosure, VFix, ClosureValues, NoValue, Then, ClosureEnv, Empty, Bind, BindFix, size, bind_all, box_values, Held, Holds, Defines, Finds, found, later, found_fix, past_fix, one_if, any_below, words, closure_words, fix_words, Counts, nothing, contraction, entered_match, block, ◌⊕◌, ClosureRun, run_box, run_value, run_definition, run_lambda, run_fix, run_constant, run_let, run_app, run_box_app, run_fix_app, run_fix_box, run_construct, run_match, run_only, RunArgs, run_head, run_arg, ValueReads, value_reads, ValuesRead, no_values, and_then}
 use Rattle.box_passes.specs.Saturate.{innermost, lambdas}
 use Rattle.shrink_passes.specs.Uses.{uses}
 use Rattle.shrink_passes.specs.DropParams.{is_spine, box_at, fits, fits_terms, cut, cut_terms}
@@ -28,25 +28,25 @@ module _ (k p : ℕ) (t0 : BoxTerm) (none : uses k t0 ≡ 0) where
   low = substitute (put Box) t0
 
   mutual
-    pub data Like : Value → Value → Type 0 where
+    pub data Like : ClosureValue → ClosureValue → Type 0 where
       like_box : Like VBox VBox
-      like_construct : {f : FamilyId} {c : ℕ} {vs ws : Values} → LikeAll vs ws → Like (VConstruct f c vs) (VConstruct f c ws)
-      like_closure : {e e' : Env} {s : ℕ → BoxTerm} {t : BoxTerm} → LikeEnv e e' s → fits k p [] t ≡ true → Like (VClosure e t) (VClosure e' (substitute (over s) (cut k p t)))
-      like_fix : {e e' : Env} {s : ℕ → BoxTerm} {i : ℕ} {rargs : List ℕ} {bodies : BoxTerms} → LikeEnv e e' s → fits_terms k p bodies ≡ true → Like (VFix e i rargs bodies) (VFix e' i rargs (substitute_terms s (cut_terms k p bodies)))
+      like_construct : {f : FamilyId} {c : ℕ} {vs ws : ClosureValues} → LikeAll vs ws → Like (VConstruct f c vs) (VConstruct f c ws)
+      like_closure : {e e' : ClosureEnv} {s : ℕ → BoxTerm} {t : BoxTerm} → LikeEnv e e' s → fits k p [] t ≡ true → Like (VClosure e t) (VClosure e' (substitute (over s) (cut k p t)))
+      like_fix : {e e' : ClosureEnv} {s : ℕ → BoxTerm} {i : ℕ} {rargs : List ℕ} {bodies : BoxTerms} → LikeEnv e e' s → fits_terms k p bodies ≡ true → Like (VFix e i rargs bodies) (VFix e' i rargs (substitute_terms s (cut_terms k p bodies)))
 
-    pub data LikeAll : Values → Values → Type 0 where
+    pub data LikeAll : ClosureValues → ClosureValues → Type 0 where
       like_none : LikeAll NoValue NoValue
-      like_more : {v w : Value} {vs ws : Values} → Like v w → LikeAll vs ws → LikeAll (Then v vs) (Then w ws)
+      like_more : {v w : ClosureValue} {vs ws : ClosureValues} → Like v w → LikeAll vs ws → LikeAll (Then v vs) (Then w ws)
 
     -- a variable that holds box may be gone; box stands for it then
-    pub data LikeEnv : Env → Env → (ℕ → BoxTerm) → Type 0 where
+    pub data LikeEnv : ClosureEnv → ClosureEnv → (ℕ → BoxTerm) → Type 0 where
       like_empty : LikeEnv Empty Empty Rel
-      like_bind : {v w : Value} {e e' : Env} {s : ℕ → BoxTerm} → Like v w → LikeEnv e e' s → LikeEnv (Bind v e) (Bind w e') (over s)
-      like_skip : {e e' : Env} {s : ℕ → BoxTerm} → LikeEnv e e' s → LikeEnv (Bind VBox e) e' (first Box s)
-      like_bind_fix : {rargs : List ℕ} {bodies : BoxTerms} {e e' : Env} {s : ℕ → BoxTerm} → LikeEnv e e' s → fits_terms k p bodies ≡ true →
+      like_bind : {v w : ClosureValue} {e e' : ClosureEnv} {s : ℕ → BoxTerm} → Like v w → LikeEnv e e' s → LikeEnv (Bind v e) (Bind w e') (over s)
+      like_skip : {e e' : ClosureEnv} {s : ℕ → BoxTerm} → LikeEnv e e' s → LikeEnv (Bind VBox e) e' (first Box s)
+      like_bind_fix : {rargs : List ℕ} {bodies : BoxTerms} {e e' : ClosureEnv} {s : ℕ → BoxTerm} → LikeEnv e e' s → fits_terms k p bodies ≡ true →
           LikeEnv (BindFix rargs bodies e) (BindFix rargs (substitute_terms s (cut_terms k p bodies)) e') (overs (length rargs) s)
 
-  env_thins : {e e' : Env} {s : ℕ → BoxTerm} → LikeEnv e e' s → Thins s
+  env_thins : {e e' : ClosureEnv} {s : ℕ → BoxTerm} → LikeEnv e e' s → Thins s
   env_thins like_empty = thins_rel
   env_thins (like_bind l h) = thins_over (env_thins h)
   env_thins (like_skip h) = thins_first (env_thins h)
@@ -71,7 +71,7 @@ module _ (k p : ℕ) (t0 : BoxTerm) (none : uses k t0 ≡ 0) where
   both_true true y e g = g
   both_true false y e g = absurd (cc)
 
-  words_like : {e e' : Env} {s : ℕ → BoxTerm} → LikeEnv e e' s → (N M : ℕ → Bool) → Covers s N M → words e' M ≤ words e N
+  words_like : {e e' : ClosureEnv} {s : ℕ → BoxTerm} → LikeEnv e e' s → (N M : ℕ → Bool) → Covers s N M → words e' M ≤ words e N
   words_like like_empty N M c = omega arith
   words_like (like_bind {s = s} l h) N M c =
       omega (arith, one_less (N zero) (M zero) (c zero zero refl), words_like h (λ i. N (suc i)) (λ i. M (suc i)) (λ i j e m. c (suc i) (suc j) (ap (rename suc) e) m))
@@ -87,7 +87,7 @@ module _ (k p : ℕ) (t0 : BoxTerm) (none : uses k t0 ≡ 0) where
       (named_cut_terms k p bs i (named_before_terms s (env_thins h) (cut_terms k p bs) i j e both.1))))
       (either_true (M (length rargs + j)) (any_below (length rargs) M && names_terms (substitute_terms s (cut_terms k p bs)) j) m))
 
-  closure_less : {e e' : Env} {s : ℕ → BoxTerm} (t : BoxTerm) → LikeEnv e e' s → closure_words e' (substitute (over s) (cut k p t)) ≤ closure_words e t
+  closure_less : {e e' : ClosureEnv} {s : ℕ → BoxTerm} (t : BoxTerm) → LikeEnv e e' s → closure_words e' (substitute (over s) (cut k p t)) ≤ closure_words e t
   closure_less {s = s} t h =
       omega (
         arith,
@@ -95,7 +95,7 @@ module _ (k p : ℕ) (t0 : BoxTerm) (none : uses k t0 ≡ 0) where
             (λ i j e m. named_cut k p t (suc i) (named_before (over s) (thins_over (env_thins h)) (cut k p t) (suc i) (suc j) (ap (rename suc) e) m)),
       )
 
-  fix_less : {e e' : Env} {s : ℕ → BoxTerm} (bs : BoxTerms) → LikeEnv e e' s → fix_words e' (substitute_terms s (cut_terms k p bs)) ≤ fix_words e bs
+  fix_less : {e e' : ClosureEnv} {s : ℕ → BoxTerm} (bs : BoxTerms) → LikeEnv e e' s → fix_words e' (substitute_terms s (cut_terms k p bs)) ≤ fix_words e bs
   fix_less {s = s} bs h =
       omega (
         arith,
@@ -104,7 +104,7 @@ module _ (k p : ℕ) (t0 : BoxTerm) (none : uses k t0 ≡ 0) where
       )
 
   -- the lambdas above the one that is dropped
-  lambdas_less : {e e' : Env} (m : ℕ) → LikeEnv e e' Rel → closure_words e' (lambdas m low) ≤ closure_words e (lambdas (suc m) t0)
+  lambdas_less : {e e' : ClosureEnv} (m : ℕ) → LikeEnv e e' Rel → closure_words e' (lambdas m low) ≤ closure_words e (lambdas (suc m) t0)
   lambdas_less m h =
       omega (
         arith,
@@ -119,18 +119,18 @@ module _ (k p : ℕ) (t0 : BoxTerm) (none : uses k t0 ≡ 0) where
       )
 
   -- what a variable holds
-  data VariableHolds (e' : Env) (t : BoxTerm) (v : Value) : Type 0 where
-    still_holds : (j : ℕ) (w : Value) → t ≡ Rel j → Finds e' j (Holds w) → Like v w → VariableHolds e' t v
+  data VariableHolds (e' : ClosureEnv) (t : BoxTerm) (v : ClosureValue) : Type 0 where
+    still_holds : (j : ℕ) (w : ClosureValue) → t ≡ Rel j → Finds e' j (Holds w) → Like v w → VariableHolds e' t v
     was_box : t ≡ Box → v ≡ VBox → VariableHolds e' t v
 
-  held_value_is : {x y : Value} → Holds x ≡ Holds y → x ≡ y
+  held_value_is : {x y : ClosureValue} → Holds x ≡ Holds y → x ≡ y
   held_value_is q = grind arith
 
-  later_holds : {e' : Env} {t : BoxTerm} {v w : Value} → VariableHolds e' t v → VariableHolds (Bind w e') (rename suc t) v
+  later_holds : {e' : ClosureEnv} {t : BoxTerm} {v w : ClosureValue} → VariableHolds e' t v → VariableHolds (Bind w e') (rename suc t) v
   later_holds (still_holds j x q f l) = still_holds (suc j) x (ap (rename suc) q) (later f) l
   later_holds (was_box q r) = was_box (ap (rename suc) q) r
 
-  past_holds : {e' : Env} {v : Value} {rargs : List ℕ} {bodies : BoxTerms} (s : ℕ → BoxTerm) (i j : ℕ) → i ≡ length rargs + j → VariableHolds e' (s j) v → VariableHolds (BindFix rargs bodies e') (overs (length rargs) s i) v
+  past_holds : {e' : ClosureEnv} {v : ClosureValue} {rargs : List ℕ} {bodies : BoxTerms} (s : ℕ → BoxTerm) (i j : ℕ) → i ≡ length rargs + j → VariableHolds e' (s j) v → VariableHolds (BindFix rargs bodies e') (overs (length rargs) s i) v
   past_holds {rargs = rargs} s i j q (still_holds x w r f l) = still_holds (length rargs + x) w (ap (overs (length rargs) s) q ∙ overs_past (length rargs) s j x r) (past_fix x refl f) l
   past_holds {rargs = rargs} s i j q (was_box r v) = was_box (ap (overs (length rargs) s) q ∙ overs_box (length rargs) s j r) v
     where
@@ -138,24 +138,24 @@ module _ (k p : ℕ) (t0 : BoxTerm) (none : uses k t0 ≡ 0) where
       overs_box zero s j r = let q : 0 + j ≡ j = omega arith in ap s q ∙ r
       overs_box (suc n) s j r = let q : suc n + j ≡ suc (n + j) = omega arith in ap (overs (suc n) s) q ∙ ap (rename suc) (overs_box n s j r)
 
-  variable_holds : {e e' : Env} {s : ℕ → BoxTerm} {i : ℕ} {h : Held} {v : Value} → Finds e i h → h ≡ Holds v → LikeEnv e e' s → VariableHolds e' (s i) v
-  variable_holds found q (like_bind {w = w} l h) = still_holds 0 w refl found (subst (λ (x : Value). Like x w) (held_value_is q) l)
+  variable_holds : {e e' : ClosureEnv} {s : ℕ → BoxTerm} {i : ℕ} {h : Held} {v : ClosureValue} → Finds e i h → h ≡ Holds v → LikeEnv e e' s → VariableHolds e' (s i) v
+  variable_holds found q (like_bind {w = w} l h) = still_holds 0 w refl found (subst (λ (x : ClosureValue). Like x w) (held_value_is q) l)
   variable_holds found q (like_skip h) = was_box refl (sym (held_value_is q))
   variable_holds (later g) q (like_bind l h) = later_holds (variable_holds g q h)
   variable_holds (later g) q (like_skip h) = variable_holds g q h
   variable_holds (found_fix j e) q (like_bind_fix h f) = absurd (cc)
   variable_holds {i = i} (past_fix j e g) q (like_bind_fix {s = s} h f) = past_holds s i j e (variable_holds g q h)
 
-  record VariableDefines (e' : Env) (t : BoxTerm) (d : Env) (i : ℕ) (rargs : List ℕ) (bodies : BoxTerms) : Type 0 where
+  record VariableDefines (e' : ClosureEnv) (t : BoxTerm) (d : ClosureEnv) (i : ℕ) (rargs : List ℕ) (bodies : BoxTerms) : Type 0 where
     j : ℕ
-    d' : Env
+    d' : ClosureEnv
     r : ℕ → BoxTerm
     is : t ≡ Rel j
     finds : Finds e' j (Defines d' i rargs (substitute_terms r (cut_terms k p bodies)))
     like : LikeEnv d d' r
     fit : fits_terms k p bodies ≡ true
 
-  variable_defines : {e e' d : Env} {s : ℕ → BoxTerm} {i n : ℕ} {rargs : List ℕ} {bodies : BoxTerms} → Finds e i (Defines d n rargs bodies) → LikeEnv e e' s → VariableDefines e' (s i) d n rargs bodies
+  variable_defines : {e e' d : ClosureEnv} {s : ℕ → BoxTerm} {i n : ℕ} {rargs : List ℕ} {bodies : BoxTerms} → Finds e i (Defines d n rargs bodies) → LikeEnv e e' s → VariableDefines e' (s i) d n rargs bodies
   variable_defines (later g) (like_bind l h) = let x = variable_defines g h in record { j = suc x.j; d' = x.d'; r = x.r; is = ap (rename suc) x.is; finds = later x.finds; like = x.like; fit = x.fit }
   variable_defines (later g) (like_skip h) = variable_defines g h
   variable_defines {i = i} (found_fix n e) (like_bind_fix {rargs = rargs} {s = s} h f) = record { j = i; d' = _; r = s; is = overs_below (length rargs) s i (omega (arith, e)); finds = found_fix n e; like = h; fit = f }
@@ -163,11 +163,11 @@ module _ (k p : ℕ) (t0 : BoxTerm) (none : uses k t0 ≡ 0) where
       let x = variable_defines g h in
       record { j = length rargs + x.j; d' = x.d'; r = x.r; is = ap (overs (length rargs) s) e ∙ overs_past (length rargs) s j x.j x.is; finds = past_fix x.j refl x.finds; like = x.like; fit = x.fit }
 
-  size_like : {vs ws : Values} → LikeAll vs ws → size ws ≡ size vs
+  size_like : {vs ws : ClosureValues} → LikeAll vs ws → size ws ≡ size vs
   size_like like_none = refl
   size_like (like_more l ls) = ap suc (size_like ls)
 
-  bind_like : {vs ws : Values} {e e' : Env} {s : ℕ → BoxTerm} → LikeAll vs ws → LikeEnv e e' s → LikeEnv (bind_all vs e) (bind_all ws e') (overs (size vs) s)
+  bind_like : {vs ws : ClosureValues} {e e' : ClosureEnv} {s : ℕ → BoxTerm} → LikeAll vs ws → LikeEnv e e' s → LikeEnv (bind_all vs e) (bind_all ws e') (overs (size vs) s)
   bind_like like_none h = h
   bind_like (like_more l ls) h = like_bind l (bind_like ls h)
 
@@ -181,35 +181,35 @@ module _ (k p : ℕ) (t0 : BoxTerm) (none : uses k t0 ≡ 0) where
 
   -- what a like value is
 
-  record LikeClosure (e : Env) (t : BoxTerm) (w : Value) : Type 0 where
-    d : Env
+  record LikeClosure (e : ClosureEnv) (t : BoxTerm) (w : ClosureValue) : Type 0 where
+    d : ClosureEnv
     s : ℕ → BoxTerm
     is : w ≡ VClosure d (substitute (over s) (cut k p t))
     like : LikeEnv e d s
     fit : fits k p [] t ≡ true
 
-  closure_like : {e : Env} {t : BoxTerm} {w : Value} → Like (VClosure e t) w → LikeClosure e t w
+  closure_like : {e : ClosureEnv} {t : BoxTerm} {w : ClosureValue} → Like (VClosure e t) w → LikeClosure e t w
   closure_like (like_closure {e' = d} {s = s} h f) = record { d = d; s = s; is = refl; like = h; fit = f }
 
-  record LikeFix (e : Env) (i : ℕ) (rargs : List ℕ) (bodies : BoxTerms) (w : Value) : Type 0 where
-    d : Env
+  record LikeFix (e : ClosureEnv) (i : ℕ) (rargs : List ℕ) (bodies : BoxTerms) (w : ClosureValue) : Type 0 where
+    d : ClosureEnv
     s : ℕ → BoxTerm
     is : w ≡ VFix d i rargs (substitute_terms s (cut_terms k p bodies))
     like : LikeEnv e d s
     fit : fits_terms k p bodies ≡ true
 
-  fix_like : {e : Env} {i : ℕ} {rargs : List ℕ} {bodies : BoxTerms} {w : Value} → Like (VFix e i rargs bodies) w → LikeFix e i rargs bodies w
+  fix_like : {e : ClosureEnv} {i : ℕ} {rargs : List ℕ} {bodies : BoxTerms} {w : ClosureValue} → Like (VFix e i rargs bodies) w → LikeFix e i rargs bodies w
   fix_like (like_fix {e' = d} {s = s} h f) = record { d = d; s = s; is = refl; like = h; fit = f }
 
-  record LikeConstruct (f : FamilyId) (i : ℕ) (vs : Values) (w : Value) : Type 0 where
-    ws : Values
+  record LikeConstruct (f : FamilyId) (i : ℕ) (vs : ClosureValues) (w : ClosureValue) : Type 0 where
+    ws : ClosureValues
     is : w ≡ VConstruct f i ws
     like : LikeAll vs ws
 
-  construct_like : {f : FamilyId} {i : ℕ} {vs : Values} {w : Value} → Like (VConstruct f i vs) w → LikeConstruct f i vs w
+  construct_like : {f : FamilyId} {i : ℕ} {vs : ClosureValues} {w : ClosureValue} → Like (VConstruct f i vs) w → LikeConstruct f i vs w
   construct_like (like_construct {ws = ws} h) = record { ws = ws; is = refl; like = h }
 
-  box_like : {w : Value} → Like VBox w → w ≡ VBox
+  box_like : {w : ClosureValue} → Like VBox w → w ≡ VBox
   box_like like_box = refl
 
   -- not a use of the constant with p arguments or fewer
@@ -226,50 +226,50 @@ module _ (k p : ℕ) (t0 : BoxTerm) (none : uses k t0 ≡ 0) where
 
   module _ (P Q : BoxProgram) (families : Q.families ≡ P.families) (whole : BoxTerm) (whole_is : whole ≡ lambdas (suc p) t0)
       (bodies : (c : Name) (t : BoxTerm) → KeepsBoxConstant P c t → ((c.0 ≡ k) × (t ≡ whole) × KeepsBoxConstant Q c (lambdas p low)) ⊎ ((c.0 ≡ k → ⊥) × (fits k p [] t ≡ true) × KeepsBoxConstant Q c (cut k p t))) where
-    pub record Ran (e' : Env) (t : BoxTerm) (v : Value) (c : Counts) : Type 0 where
-      pub w : Value
+    pub record Ran (e' : ClosureEnv) (t : BoxTerm) (v : ClosureValue) (c : Counts) : Type 0 where
+      pub w : ClosureValue
       pub counts : Counts
-      pub run : Run Q e' t w counts
+      pub run : ClosureRun Q e' t w counts
       pub like : Like v w
       pub no_more : AreNoMore counts c
 
-    pub record RanArgs (e' : Env) (f : FamilyId) (i : ℕ) (t : BoxTerm) (vs : Values) (c : Counts) : Type 0 where
-      pub ws : Values
+    pub record RanArgs (e' : ClosureEnv) (f : FamilyId) (i : ℕ) (t : BoxTerm) (vs : ClosureValues) (c : Counts) : Type 0 where
+      pub ws : ClosureValues
       pub counts : Counts
       pub run : RunArgs Q e' f i t ws counts
       pub like : LikeAll vs ws
       pub no_more : AreNoMore counts c
 
     -- where the body goes on, so does the use
-    pub record Entered (e' : Env) (t : BoxTerm) (w : Value) (n : ℕ) (c d : Counts) : Type 0 where
+    pub record Entered (e' : ClosureEnv) (t : BoxTerm) (w : ClosureValue) (n : ℕ) (c d : Counts) : Type 0 where
       pub counts : Counts
-      pub run : Run Q e' t w counts
+      pub run : ClosureRun Q e' t w counts
       pub no_more : AreNoMore (counts ⊕ block n) (c ⊕ d)
 
     -- a use of the constant that waits for m arguments and the box
-    pub record Reached (e' : Env) (t : BoxTerm) (v : Value) (c : Counts) (m : ℕ) : Type 0 where
-      pub d : Env
-      pub d' : Env
+    pub record Reached (e' : ClosureEnv) (t : BoxTerm) (v : ClosureValue) (c : Counts) (m : ℕ) : Type 0 where
+      pub d : ClosureEnv
+      pub d' : ClosureEnv
       pub like : LikeEnv d d' Rel
       pub is : v ≡ VClosure d (lambdas m t0)
       pub made : closure_words d (lambdas m t0) ≤ c.greatest
-      pub enters : (w : Value) (x : Counts) → Run Q d' (lambdas m low) w x → Entered e' t w (closure_words d (lambdas m t0)) c x
+      pub enters : (w : ClosureValue) (x : Counts) → ClosureRun Q d' (lambdas m low) w x → Entered e' t w (closure_words d (lambdas m t0)) c x
 
-    pub record Followed (e' : Env) (s : ℕ → BoxTerm) (t : BoxTerm) (v : Value) (c : Counts) : Type 0 where
+    pub record Followed (e' : ClosureEnv) (s : ℕ → BoxTerm) (t : BoxTerm) (v : ClosureValue) (c : Counts) : Type 0 where
       pub ran : Plain t → Ran e' (substitute s (cut k p t)) v c
       pub reached : (q m : ℕ) → p ≡ q + m → is_spine k t q ≡ true → Reached e' (substitute s (cut k p t)) v c m
 
     family : {f : FamilyId} {F : BoxFamily} → KeepsBoxFamily P f F → KeepsBoxFamily Q f F
     family {f} {F} h = (subst (λ (Fs : List BoxFamily). Has Fs F) (sym families) h.0, h.1)
 
-    alone : {e' : Env} {s : ℕ → BoxTerm} {t : BoxTerm} {v : Value} {c : Counts} → ((q : ℕ) → is_spine k t q ≡ false) → Ran e' (substitute s (cut k p t)) v c → Followed e' s t v c
+    alone : {e' : ClosureEnv} {s : ℕ → BoxTerm} {t : BoxTerm} {v : ClosureValue} {c : Counts} → ((q : ℕ) → is_spine k t q ≡ false) → Ran e' (substitute s (cut k p t)) v c → Followed e' s t v c
     alone never x = record { ran = λ h. x; reached = λ q m e y. absurd (differs (sym (never q) ∙ y)) }
       where
         differs : false ≡ true → ⊥
         differs e = cc
 
     -- the constant itself
-    constant_reached : {e' : Env} {name : Name} {t : BoxTerm} {v : Value} {c : Counts} → name.0 ≡ k → t ≡ whole → KeepsBoxConstant Q name (lambdas p low) → Run P Empty t v c → (m : ℕ) → p ≡ 0 + m → Reached e' (BConst name) v (contraction ⊕ c) m
+    constant_reached : {e' : ClosureEnv} {name : Name} {t : BoxTerm} {v : ClosureValue} {c : Counts} → name.0 ≡ k → t ≡ whole → KeepsBoxConstant Q name (lambdas p low) → ClosureRun P Empty t v c → (m : ℕ) → p ≡ 0 + m → Reached e' (BConst name) v (contraction ⊕ c) m
     constant_reached {e'} {name} {t} {v} {c} q is kept r m e =
         let x = lambda_runs r (is ∙ whole_is) in
         let same : p ≡ m = omega (arith, e) in
@@ -281,15 +281,15 @@ module _ (k p : ℕ) (t0 : BoxTerm) (none : uses k t0 ≡ 0) where
           made = subst (λ (c : Counts). closure_words Empty (lambdas m t0) ≤ (contraction ⊕ c).greatest) (ap (λ n. block (closure_words Empty (lambdas n t0))) (sym same) ∙ sym x.made) (omega arith);
           enters = λ w y run. record {
             counts = contraction ⊕ y;
-            run = run_constant kept (subst (λ n. Run Q Empty (lambdas n low) w y) (sym same) run);
+            run = run_constant kept (subst (λ n. ClosureRun Q Empty (lambdas n low) w y) (sym same) run);
             no_more = subst (λ (c : Counts). AreNoMore ((contraction ⊕ y) ⊕ block (closure_words Empty (lambdas m t0))) ((contraction ⊕ c) ⊕ y)) (ap (λ n. block (closure_words Empty (lambdas n t0))) (sym same) ∙ sym x.made)
                 (record { contractions = omega arith; matches = omega arith; blocks = omega arith; greatest = omega arith });
           };
         }
 
     -- one argument more
-    argument_reached : {e' : Env} (f a : BoxTerm) (s : ℕ → BoxTerm) {d1 : Env} {b : BoxTerm} {v w : Value} {c c' x : Counts} (m : ℕ) → Reached e' (substitute s (cut k p f)) (VClosure d1 b) c (suc m) → Ran e' (substitute s (cut k p a)) v c' →
-        Run P (Bind v d1) b w x → Reached e' (BApp (substitute s (cut k p f)) (substitute s (cut k p a))) w (contraction ⊕ c ⊕ c' ⊕ x) m
+    argument_reached : {e' : ClosureEnv} (f a : BoxTerm) (s : ℕ → BoxTerm) {d1 : ClosureEnv} {b : BoxTerm} {v w : ClosureValue} {c c' x : Counts} (m : ℕ) → Reached e' (substitute s (cut k p f)) (VClosure d1 b) c (suc m) → Ran e' (substitute s (cut k p a)) v c' →
+        ClosureRun P (Bind v d1) b w x → Reached e' (BApp (substitute s (cut k p f)) (substitute s (cut k p a))) w (contraction ⊕ c ⊕ c' ⊕ x) m
     argument_reached {e' = e'} f a s {d1 = d1} {b = b} {v = v} {w = w} {c = c} {c' = c'} {x = x} m r g run =
         let env : d1 ≡ r.d = ap closure_env r.is in
         let body : b ≡ BLambda (lambdas m t0) = ap closure_body r.is in
@@ -300,7 +300,7 @@ module _ (k p : ℕ) (t0 : BoxTerm) (none : uses k t0 ≡ 0) where
         record {
           d = Bind v d1;
           d' = Bind g.w r.d';
-          like = subst (λ (s : ℕ → BoxTerm). LikeEnv (Bind v d1) (Bind g.w r.d') s) over_rel (like_bind g.like (subst (λ (d : Env). LikeEnv d r.d' Rel) (sym env) r.like));
+          like = subst (λ (s : ℕ → BoxTerm). LikeEnv (Bind v d1) (Bind g.w r.d') s) over_rel (like_bind g.like (subst (λ (d : ClosureEnv). LikeEnv d r.d' Rel) (sym env) r.like));
           is = made.is;
           made = subst (λ (x : Counts). n ≤ (contraction ⊕ c ⊕ c' ⊕ x).greatest) (sym made.made) (omega arith);
           enters = λ u y after.
@@ -319,12 +319,12 @@ module _ (k p : ℕ) (t0 : BoxTerm) (none : uses k t0 ≡ 0) where
         }
 
     -- the box
-    box_reached : {e' : Env} (f : BoxTerm) (s : ℕ → BoxTerm) {d1 : Env} {b : BoxTerm} {v w : Value} {c c' x : Counts} → (r : Reached e' (substitute s (cut k p f)) (VClosure d1 b) c 0) → RunsBox v c' →
+    box_reached : {e' : ClosureEnv} (f : BoxTerm) (s : ℕ → BoxTerm) {d1 : ClosureEnv} {b : BoxTerm} {v w : ClosureValue} {c c' x : Counts} → (r : Reached e' (substitute s (cut k p f)) (VClosure d1 b) c 0) → RunsBox v c' →
         (Ran r.d' (substitute (put Box) (cut k p b)) w x) → Ran e' (substitute s (cut k p f)) w (contraction ⊕ c ⊕ c' ⊕ x)
     box_reached {e' = e'} f s {b = b} {w = w} {c = c} {c' = c'} {x = x} r box g =
         let body : b ≡ t0 = ap closure_body r.is in
         let term : substitute (put Box) (cut k p b) ≡ low = ap (λ t. substitute (put Box) (cut k p t)) body ∙ ap (substitute (put Box)) (cut_unused k p t0 none) in
-        let z = r.enters g.w g.counts (subst (λ (t : BoxTerm). Run Q r.d' t g.w g.counts) term g.run) in
+        let z = r.enters g.w g.counts (subst (λ (t : BoxTerm). ClosureRun Q r.d' t g.w g.counts) term g.run) in
         record {
           w = g.w;
           counts = z.counts;
@@ -339,23 +339,23 @@ module _ (k p : ℕ) (t0 : BoxTerm) (none : uses k t0 ≡ 0) where
               });
         }
 
-    args_no_spine : {e : Env} {f : FamilyId} {i : ℕ} {t : BoxTerm} {vs : Values} {c : Counts} → RunArgs P e f i t vs c → (q : ℕ) → is_spine k t q ≡ false
+    args_no_spine : {e : ClosureEnv} {f : FamilyId} {i : ℕ} {t : BoxTerm} {vs : ClosureValues} {c : Counts} → RunArgs P e f i t vs c → (q : ℕ) → is_spine k t q ≡ false
     args_no_spine run_head q = refl
     args_no_spine (run_arg r s) zero = refl
     args_no_spine (run_arg r s) (suc q) = args_no_spine r q
 
     -- an application whose function isn't the use with p arguments
-    kept_app : {e' : Env} (s : ℕ → BoxTerm) (f a : BoxTerm) {v : Value} {c : Counts} → is_spine k f p ≡ false → Ran e' (BApp (substitute s (cut k p f)) (substitute s (cut k p a))) v c → Ran e' (substitute s (cut k p (BApp f a))) v c
+    kept_app : {e' : ClosureEnv} (s : ℕ → BoxTerm) (f a : BoxTerm) {v : ClosureValue} {c : Counts} → is_spine k f p ≡ false → Ran e' (BApp (substitute s (cut k p f)) (substitute s (cut k p a))) v c → Ran e' (substitute s (cut k p (BApp f a))) v c
     kept_app {e' = e'} s f a {v = v} {c = c} e x = subst (λ z. Ran e' (substitute s (if z then cut k p f else BApp (cut k p f) (cut k p a))) v c) (sym e) x
 
-    kept_reached : {e' : Env} (s : ℕ → BoxTerm) (f a : BoxTerm) {v : Value} {c : Counts} {m : ℕ} → is_spine k f p ≡ false → Reached e' (BApp (substitute s (cut k p f)) (substitute s (cut k p a))) v c m → Reached e' (substitute s (cut k p (BApp f a))) v c m
+    kept_reached : {e' : ClosureEnv} (s : ℕ → BoxTerm) (f a : BoxTerm) {v : ClosureValue} {c : Counts} {m : ℕ} → is_spine k f p ≡ false → Reached e' (BApp (substitute s (cut k p f)) (substitute s (cut k p a))) v c m → Reached e' (substitute s (cut k p (BApp f a))) v c m
     kept_reached {e' = e'} s f a {v = v} {c = c} {m = m} e x = subst (λ z. Reached e' (substitute s (if z then cut k p f else BApp (cut k p f) (cut k p a))) v c m) (sym e) x
 
-    cut_app : {e' : Env} (s : ℕ → BoxTerm) (f a : BoxTerm) {v : Value} {c : Counts} → is_spine k f p ≡ true → Ran e' (substitute s (cut k p f)) v c → Ran e' (substitute s (cut k p (BApp f a))) v c
+    cut_app : {e' : ClosureEnv} (s : ℕ → BoxTerm) (f a : BoxTerm) {v : ClosureValue} {c : Counts} → is_spine k f p ≡ true → Ran e' (substitute s (cut k p f)) v c → Ran e' (substitute s (cut k p (BApp f a))) v c
     cut_app {e' = e'} s f a {v = v} {c = c} e x = subst (λ z. Ran e' (substitute s (if z then cut k p f else BApp (cut k p f) (cut k p a))) v c) (sym e) x
 
     -- the parts of an application: what it gives where its function waits for the box, and where it is no use of the constant
-    application : {e' : Env} {s : ℕ → BoxTerm} {f a : BoxTerm} {v u : Value} {c cf : Counts} → Followed e' s f u cf → (is_spine k f p ≡ true → Reached e' (substitute s (cut k p f)) u cf 0 → Ran e' (substitute s (cut k p f)) v c) →
+    application : {e' : ClosureEnv} {s : ℕ → BoxTerm} {f a : BoxTerm} {v u : ClosureValue} {c cf : Counts} → Followed e' s f u cf → (is_spine k f p ≡ true → Reached e' (substitute s (cut k p f)) u cf 0 → Ran e' (substitute s (cut k p f)) v c) →
         (Ran e' (substitute s (cut k p f)) u cf → Ran e' (BApp (substitute s (cut k p f)) (substitute s (cut k p a))) v c) →
         ((m : ℕ) → Reached e' (substitute s (cut k p f)) u cf (suc m) → Reached e' (BApp (substitute s (cut k p f)) (substitute s (cut k p a))) v c m) → Followed e' s (BApp f a) v c
     application {e' = e'} {s = s} {f = f} {a = a} {v = v} {c = c} x boxed plain more = record { ran = ran; reached = reached }
@@ -385,18 +385,18 @@ module _ (k p : ℕ) (t0 : BoxTerm) (none : uses k t0 ≡ 0) where
             short false g = refl
 
     mutual
-      pub follows : {e e' : Env} {s : ℕ → BoxTerm} {t : BoxTerm} {v : Value} {c : Counts} → Run P e t v c → LikeEnv e e' s → (xs : List BoxTerm) → fits k p xs t ≡ true → Followed e' s t v c
+      pub follows : {e e' : ClosureEnv} {s : ℕ → BoxTerm} {t : BoxTerm} {v : ClosureValue} {c : Counts} → ClosureRun P e t v c → LikeEnv e e' s → (xs : List BoxTerm) → fits k p xs t ≡ true → Followed e' s t v c
       follows run_box h xs f = alone (λ q. refl) (record { w = VBox; counts = nothing; run = run_box; like = like_box; no_more = no_more_self nothing })
       follows {e' = e'} {s = s} {v = v} (run_value {i = i} g) h xs f = alone (λ q. refl) (holds (variable_holds g refl h))
         where
           holds : VariableHolds e' (s i) v → Ran e' (s i) v nothing
-          holds (still_holds j w q g l) = record { w = w; counts = nothing; run = subst (λ (t : BoxTerm). Run Q e' t w nothing) (sym q) (run_value g); like = l; no_more = no_more_self nothing }
-          holds (was_box q r) = record { w = VBox; counts = nothing; run = subst (λ (t : BoxTerm). Run Q e' t VBox nothing) (sym q) run_box; like = subst (λ (x : Value). Like x VBox) (sym r) like_box; no_more = no_more_self nothing }
+          holds (still_holds j w q g l) = record { w = w; counts = nothing; run = subst (λ (t : BoxTerm). ClosureRun Q e' t w nothing) (sym q) (run_value g); like = l; no_more = no_more_self nothing }
+          holds (was_box q r) = record { w = VBox; counts = nothing; run = subst (λ (t : BoxTerm). ClosureRun Q e' t VBox nothing) (sym q) run_box; like = subst (λ (x : ClosureValue). Like x VBox) (sym r) like_box; no_more = no_more_self nothing }
       follows {e' = e'} {s = s} (run_definition {i = i} {j = j} {rargs = rargs} {bodies = bs} g) h xs f =
           let x = variable_defines g h in
           let held = VFix x.d' j rargs (substitute_terms x.r (cut_terms k p bs)) in
           let cost = block (fix_words x.d' (substitute_terms x.r (cut_terms k p bs))) in
-          alone (λ q. refl) (record { w = held; counts = cost; run = subst (λ (t : BoxTerm). Run Q e' t held cost) (sym x.is) (run_definition x.finds); like = like_fix x.like x.fit; no_more = block_less _ _ (fix_less bs x.like) })
+          alone (λ q. refl) (record { w = held; counts = cost; run = subst (λ (t : BoxTerm). ClosureRun Q e' t held cost) (sym x.is) (run_definition x.finds); like = like_fix x.like x.fit; no_more = block_less _ _ (fix_less bs x.like) })
       follows {e' = e'} {s = s} (run_lambda {b = b}) h xs f =
           alone (λ q. refl) (record { w = _; counts = _; run = run_lambda; like = like_closure h f; no_more = block_less (closure_words e' (substitute (over s) (cut k p b))) _ (closure_less b h) })
       follows {e' = e'} {s = s} (run_fix {bodies = bs}) h xs f =
@@ -410,7 +410,7 @@ module _ (k p : ℕ) (t0 : BoxTerm) (none : uses k t0 ≡ 0) where
           (λ y.
           let x = (follows r like_empty [] y.1).ran (plain_alone t y.1) in
           record {
-            ran = λ h. record { w = x.w; counts = contraction ⊕ x.counts; run = run_constant y.2 (subst (λ (u : BoxTerm). Run Q Empty u x.w x.counts) (unchanged (cut k p t)) x.run); like = x.like; no_more = no_more_sum (no_more_self contraction) x.no_more };
+            ran = λ h. record { w = x.w; counts = contraction ⊕ x.counts; run = run_constant y.2 (subst (λ (u : BoxTerm). ClosureRun Q Empty u x.w x.counts) (unchanged (cut k p t)) x.run); like = x.like; no_more = no_more_sum (no_more_self contraction) x.no_more };
             reached = λ q m e z. absurd (y.0 (named q z));
           })
           (bodies name t kept)
@@ -437,7 +437,7 @@ module _ (k p : ℕ) (t0 : BoxTerm) (none : uses k t0 ≡ 0) where
           application x
           (λ e w.
           let box = box_runs q (box_is_box a (spine_box k p p 0 (a ∷ xs) g (omega arith) e both.0)) in
-          let env = subst (λ (x : Value). LikeEnv (Bind x d1) w.d' (put Box)) (sym box.is) (subst (λ (d : Env). LikeEnv (Bind VBox d) w.d' (put Box)) (sym (ap closure_env w.is)) (like_skip w.like)) in
+          let env = subst (λ (x : ClosureValue). LikeEnv (Bind x d1) w.d' (put Box)) (sym box.is) (subst (λ (d : ClosureEnv). LikeEnv (Bind VBox d) w.d' (put Box)) (sym (ap closure_env w.is)) (like_skip w.like)) in
           let fit : fits k p [] b ≡ true = ap (fits k p []) (ap closure_body w.is) ∙ fits_unused k p [] t0 none in
           box_reached g s w box ((follows z env [] fit).ran (plain_alone b fit)))
           (λ w.
@@ -446,7 +446,7 @@ module _ (k p : ℕ) (t0 : BoxTerm) (none : uses k t0 ≡ 0) where
           record {
             w = n.w;
             counts = contraction ⊕ w.counts ⊕ y.counts ⊕ n.counts;
-            run = run_app (subst (λ (u : Value). Run Q e' (substitute s (cut k p g)) u w.counts) c.is w.run) y.run n.run;
+            run = run_app (subst (λ (u : ClosureValue). ClosureRun Q e' (substitute s (cut k p g)) u w.counts) c.is w.run) y.run n.run;
             like = n.like;
             no_more = no_more_sum (no_more_self contraction) (no_more_sum w.no_more (no_more_sum y.no_more n.no_more));
           })
@@ -459,7 +459,7 @@ module _ (k p : ℕ) (t0 : BoxTerm) (none : uses k t0 ≡ 0) where
           (λ w. record {
             w = VBox;
             counts = contraction ⊕ w.counts ⊕ y.counts;
-            run = run_box_app (subst (λ (u : Value). Run Q e' (substitute s (cut k p g)) u w.counts) (box_like w.like) w.run) y.run;
+            run = run_box_app (subst (λ (u : ClosureValue). ClosureRun Q e' (substitute s (cut k p g)) u w.counts) (box_like w.like) w.run) y.run;
             like = like_box;
             no_more = no_more_sum (no_more_self contraction) (no_more_sum w.no_more y.no_more);
           })
@@ -476,7 +476,7 @@ module _ (k p : ℕ) (t0 : BoxTerm) (none : uses k t0 ≡ 0) where
           record {
             w = n.w;
             counts = contraction ⊕ contraction ⊕ w.counts ⊕ y.counts ⊕ n.counts;
-            run = run_fix_app (subst (λ (u : Value). Run Q e' (substitute s (cut k p g)) u w.counts) c.is w.run) y.run (cut_at k p c.s bs i (length rargs) (BLambda t) at) n.run;
+            run = run_fix_app (subst (λ (u : ClosureValue). ClosureRun Q e' (substitute s (cut k p g)) u w.counts) c.is w.run) y.run (cut_at k p c.s bs i (length rargs) (BLambda t) at) n.run;
             like = n.like;
             no_more = no_more_sum (no_more_self contraction) (no_more_sum (no_more_self contraction) (no_more_sum w.no_more (no_more_sum y.no_more n.no_more)));
           })
@@ -491,7 +491,7 @@ module _ (k p : ℕ) (t0 : BoxTerm) (none : uses k t0 ≡ 0) where
           record {
             w = VBox;
             counts = contraction ⊕ contraction ⊕ w.counts ⊕ y.counts;
-            run = run_fix_box (subst (λ (u : Value). Run Q e' (substitute s (cut k p g)) u w.counts) c.is w.run) y.run (cut_at k p c.s bs i (length rargs) Box at);
+            run = run_fix_box (subst (λ (u : ClosureValue). ClosureRun Q e' (substitute s (cut k p g)) u w.counts) c.is w.run) y.run (cut_at k p c.s bs i (length rargs) Box at);
             like = like_box;
             no_more = no_more_sum (no_more_self contraction) (no_more_sum (no_more_self contraction) (no_more_sum w.no_more y.no_more));
           })
@@ -509,7 +509,7 @@ module _ (k p : ℕ) (t0 : BoxTerm) (none : uses k t0 ≡ 0) where
           alone (λ q. refl) (record {
             w = y.w;
             counts = entered_match ⊕ x.counts ⊕ y.counts;
-            run = run_match (family kept) prop (subst (λ (u : Value). Run Q e' (substitute s (cut k p m)) u x.counts) g.is x.run) here y.run;
+            run = run_match (family kept) prop (subst (λ (u : ClosureValue). ClosureRun Q e' (substitute s (cut k p m)) u x.counts) g.is x.run) here y.run;
             like = y.like;
             no_more = no_more_sum (no_more_self entered_match) (no_more_sum x.no_more y.no_more);
           })
@@ -518,16 +518,16 @@ module _ (k p : ℕ) (t0 : BoxTerm) (none : uses k t0 ≡ 0) where
           let x = (follows r h [] both.0).ran (plain_alone m both.0) in
           let fit = (both_hold (fits k p [] t) true both.1).0 in
           let y = (follows q (bind_like (boxes_like n) h) [] fit).ran (plain_alone t fit) in
-          let run = subst (λ (i : ℕ). Run Q (bind_all (box_values n) e') (substitute (overs i s) (cut k p t)) y.w y.counts) (size_boxes n) y.run in
+          let run = subst (λ (i : ℕ). ClosureRun Q (bind_all (box_values n) e') (substitute (overs i s) (cut k p t)) y.w y.counts) (size_boxes n) y.run in
           alone (λ q. refl) (record {
             w = y.w;
             counts = entered_match ⊕ x.counts ⊕ y.counts;
-            run = run_only (family kept) prop (subst (λ (u : Value). Run Q e' (substitute s (cut k p m)) u x.counts) (box_like x.like) x.run) run;
+            run = run_only (family kept) prop (subst (λ (u : ClosureValue). ClosureRun Q e' (substitute s (cut k p m)) u x.counts) (box_like x.like) x.run) run;
             like = y.like;
             no_more = no_more_sum (no_more_self entered_match) (no_more_sum x.no_more y.no_more);
           })
 
-      pub follows_args : {e e' : Env} {s : ℕ → BoxTerm} {f : FamilyId} {i : ℕ} {t : BoxTerm} {vs : Values} {c : Counts} → RunArgs P e f i t vs c → LikeEnv e e' s → (xs : List BoxTerm) → fits k p xs t ≡ true → RanArgs e' f i (substitute s (cut k p t)) vs c
+      pub follows_args : {e e' : ClosureEnv} {s : ℕ → BoxTerm} {f : FamilyId} {i : ℕ} {t : BoxTerm} {vs : ClosureValues} {c : Counts} → RunArgs P e f i t vs c → LikeEnv e e' s → (xs : List BoxTerm) → fits k p xs t ≡ true → RanArgs e' f i (substitute s (cut k p t)) vs c
       follows_args run_head h xs f = record { ws = NoValue; counts = nothing; run = run_head; like = like_none; no_more = no_more_self nothing }
       follows_args {e' = e'} {s = s} {f = name} {i = i} {vs = vs} {c = c} (run_arg {t = g} {a = a} r q) h xs f =
           let both = both_hold (fits k p (a ∷ xs) g) (fits k p [] a) f in
@@ -539,22 +539,22 @@ module _ (k p : ℕ) (t0 : BoxTerm) (none : uses k t0 ≡ 0) where
     -- data stands for itself, and what is like data is the same data
 
     mutual
-      reads_like : {v w : Value} {d : Data} → ValueReads v d → Like v w → ValueReads w d
+      reads_like : {v w : ClosureValue} {d : Data} → ValueReads v d → Like v w → ValueReads w d
       reads_like (value_reads {f = f} {c = c} {ds = ds} r) (like_construct {ws = ws} l) = subst (λ (n : ℕ). ValueReads (VConstruct f c ws) ((c, n) ∷ ds)) (size_like l) (value_reads (read_like r l))
 
-      read_like : {vs ws : Values} {ds : Data} → ValuesRead vs ds → LikeAll vs ws → ValuesRead ws ds
+      read_like : {vs ws : ClosureValues} {ds : Data} → ValuesRead vs ds → LikeAll vs ws → ValuesRead ws ds
       read_like no_values like_none = no_values
       read_like (and_then r s) (like_more l ls) = and_then (read_like r ls) (reads_like s l)
 
     mutual
-      data_like : {v : Value} {d : Data} → ValueReads v d → Like v v
+      data_like : {v : ClosureValue} {d : Data} → ValueReads v d → Like v v
       data_like (value_reads r) = like_construct (all_data_like r)
 
-      all_data_like : {vs : Values} {ds : Data} → ValuesRead vs ds → LikeAll vs vs
+      all_data_like : {vs : ClosureValues} {ds : Data} → ValuesRead vs ds → LikeAll vs vs
       all_data_like no_values = like_none
       all_data_like (and_then r s) = like_more (data_like s) (all_data_like r)
 
-    held_like : {vs : Values} {args : List Data} → ValuesHold vs args → LikeAll vs vs
+    held_like : {vs : ClosureValues} {args : List Data} → ValuesHold vs args → LikeAll vs vs
     held_like hold_none = like_none
     held_like (hold_last hs h) = like_more (data_like h) (held_like hs)
 
@@ -588,12 +588,12 @@ module _ (k p : ℕ) (t0 : BoxTerm) (none : uses k t0 ≡ 0) where
         spine_cut n (BApp t (Rel n)) (one_more_fits n t e)
         ∙ ap (λ z. box_apply (if z then cut k p t else BApp (cut k p t) (Rel n)) (innermost n)) (plain_alone t e p (omega arith))
 
-    pub keeps_runs : (main : BoxTerm) → fits k p [] main ≡ true → (vs : Values) (args : List Data) → ValuesHold vs args → (v : Value) (d : Data) (c : Counts) →
-        Run P (bind_all vs Empty) (box_apply main (innermost (length args))) v c → ValueReads v d → RunsWithin Q (bind_all vs Empty) (box_apply (cut k p main) (innermost (length args))) d c
+    pub keeps_runs : (main : BoxTerm) → fits k p [] main ≡ true → (vs : ClosureValues) (args : List Data) → ValuesHold vs args → (v : ClosureValue) (d : Data) (c : Counts) →
+        ClosureRun P (bind_all vs Empty) (box_apply main (innermost (length args))) v c → ValueReads v d → RunsWithin Q (bind_all vs Empty) (box_apply (cut k p main) (innermost (length args))) d c
     keeps_runs main fit vs args held v d c run reads =
         let n = length args in
         let all = spine_fits n main fit in
         let env = subst (λ (s : ℕ → BoxTerm). LikeEnv (bind_all vs Empty) (bind_all vs Empty) s) (overs_rel_same (size vs)) (bind_like (held_like held) like_empty) in
         let x = (follows run env [] all).ran (plain_alone (box_apply main (innermost n)) all) in
         let whole : substitute Rel (cut k p (box_apply main (innermost n))) ≡ box_apply (cut k p main) (innermost n) = substitute_rel (cut k p (box_apply main (innermost n))) (λ j. j) ∙ rename_same (cut k p (box_apply main (innermost n))) ∙ spine_cut n main fit in
-        record { v = x.w; counts = x.counts; run = subst (λ (t : BoxTerm). Run Q (bind_all vs Empty) t x.w x.counts) whole x.run; reads = reads_like reads x.like; no_more = x.no_more }
+        record { v = x.w; counts = x.counts; run = subst (λ (t : BoxTerm). ClosureRun Q (bind_all vs Empty) t x.w x.counts) whole x.run; reads = reads_like reads x.like; no_more = x.no_more }

@@ -6,7 +6,7 @@ use Rattle.trees.specs.Parallel.{put, substitute}
 use Rattle.trees.proofs.Every.{every_more}
 use Rattle.pc_terms.specs.declared.leaf.Name.{Name}
 use Rattle.pc_terms.specs.BoxSyntax.{BoxLabel, BoxOf, BLambdaOf, BLetInOf, BAppOf, BConstOf, BConstructOf, BCaseOf, BFixOf, BoxTerm, Box, BLambda}
-use Rattle.lambda_box.specs.BoxProgram.{BoxConstant, BoxFamily, BoxProgram, Has, here, there, NamesKept, Named, KeepsBoxConstant}
+use Rattle.lambda_box.specs.BoxProgram.{BoxConstant, BoxFamily, BoxProgram, Has, here, there, NamesKept, NamesOnly, KeepsBoxConstant}
 use Rattle.lambda_box.specs.BoxForm.{IsBoxBody, AreOrdered, IsBoxProgram}
 use Rattle.lambda_box.specs.SaturatedForm.{IsSaturatedAt}
 use Rattle.lambda_box.specs.OrdinaryForm.{IsOrdinary}
@@ -32,7 +32,7 @@ total_le h g e (d ∷ ds) = omega (arith, e d.body, total_le h g e ds)
 abbrev Same : List BoxConstant → List BoxConstant → Type 0
 Same cs ds = (c : Name) → NamesKept cs (BConstOf c) → NamesKept ds (BConstOf c)
 
-same_named : (cs ds : List BoxConstant) → Same cs ds → (t : BoxTerm) → Named cs t → Named ds t
+same_named : (cs ds : List BoxConstant) → Same cs ds → (t : BoxTerm) → NamesOnly cs t → NamesOnly ds t
 same_named cs ds same t h = every_more (NamesKept cs) (NamesKept ds) each t h
   where
     each : (l : BoxLabel) → NamesKept cs l → NamesKept ds l

@@ -9,7 +9,7 @@ use Rattle.pc_terms.specs.declared.leaf.Name.{Name}
 use Rattle.pc_terms.specs.declared.leaf.FamilyId.{FamilyId}
 use Rattle.pc_terms.specs.BoxSyntax.{BoxLabel, box_slots, BoxTerm, BoxTerms, Box, BLambda, BLetIn, BApp, BConst, BConstruct, BCase, BFix}
 use Rattle.lambda_box.specs.BoxProgram.{BoxFamily, BoxProgram, Has, KeepsBoxConstant, KeepsBoxFamily, box_apply}
-use Rattle.lambda_box.specs.ClosureEvaluation.{names, names_places, names_terms, Value, VBox, VConstruct, VClosure, VFix, Values, NoValue, Then, Env, Empty, Bind, BindFix, size, bind_all, box_values, Held, Holds, Defines, Finds, found, later, found_fix, past_fix, one_if, any_below, words, Counts, nothing, contraction, entered_match, block, ◌⊕◌, Run, run_box, run_value, run_definition, run_lambda, run_fix, run_constant, run_let, run_app, run_box_app, run_fix_app, run_fix_box, run_construct, run_match, run_only, RunArgs, run_head, run_arg, ValueReads, value_reads, ValuesRead, no_values, and_then}
+use Rattle.lambda_box.specs.ClosureEvaluation.{names, names_places, names_terms, ClosureValue, VBox, VConstruct, VClosure, VFix, ClosureValues, NoValue, Then, ClosureEnv, Empty, Bind, BindFix, size, bind_all, box_values, Held, Holds, Defines, Finds, found, later, found_fix, past_fix, one_if, any_below, words, Counts, nothing, contraction, entered_match, block, ◌⊕◌, ClosureRun, run_box, run_value, run_definition, run_lambda, run_fix, run_constant, run_let, run_app, run_box_app, run_fix_app, run_fix_box, run_construct, run_match, run_only, RunArgs, run_head, run_arg, ValueReads, value_reads, ValuesRead, no_values, and_then}
 use Rattle.lambda_box.specs.BoxData.{Data}
 use Rattle.lambda_box.specs.DataTerms.{ValuesHold, hold_none, hold_last}
 use Rattle.box_passes.specs.Saturate.{innermost}
@@ -47,13 +47,13 @@ mutual
   names_past_terms n (Next m t ts) i c l = neither (names t (m + i)) (names_terms ts i) (names_past (m + n) t (m + i) c.0 (omega arith)) (names_past_terms n ts i c.1 l)
 
 -- how many variables an environment has
-abbrev pub span : Env → ℕ
+abbrev pub span : ClosureEnv → ℕ
 span Empty = 0
 span (Bind v e) = 1 + span e
 span (BindFix rargs bodies e) = length rargs + span e
 
 -- an environment whose set has no variable takes no words
-pub words_none : (e : Env) (N : ℕ → Bool) → ((i : ℕ) → N i ≡ false) → words e N ≡ 0
+pub words_none : (e : ClosureEnv) (N : ℕ → Bool) → ((i : ℕ) → N i ≡ false) → words e N ≡ 0
 words_none Empty N h = refl
 words_none (Bind v e) N h = let a : one_if (N zero) ≡ 0 = ap one_if (h zero) in omega (arith, a, words_none e (λ i. N (suc i)) (λ i. h (suc i)))
 words_none (BindFix rargs bodies e) N h =
@@ -132,22 +132,22 @@ module _ (k : ℕ) (b : BoxTerm) (closed : Closed 0 b) (none : uses k b ≡ 0) w
 
   -- values and environments that differ by the step; past an empty environment anything may stand
   mutual
-    pub data Like : Value → Value → Type 0 where
+    pub data Like : ClosureValue → ClosureValue → Type 0 where
       like_box : Like VBox VBox
-      like_construct : {f : FamilyId} {c : ℕ} {vs ws : Values} → LikeAll vs ws → Like (VConstruct f c vs) (VConstruct f c ws)
-      like_closure : {e e' : Env} {t : BoxTerm} → LikeEnv e e' → Closed (1 + span e) t → Like (VClosure e t) (VClosure e' (put_in k b t))
-      like_fix : {e e' : Env} {i : ℕ} {rargs : List ℕ} {bodies : BoxTerms} → LikeEnv e e' → ClosedTerms (span e) bodies → Like (VFix e i rargs bodies) (VFix e' i rargs (put_in_terms k b bodies))
+      like_construct : {f : FamilyId} {c : ℕ} {vs ws : ClosureValues} → LikeAll vs ws → Like (VConstruct f c vs) (VConstruct f c ws)
+      like_closure : {e e' : ClosureEnv} {t : BoxTerm} → LikeEnv e e' → Closed (1 + span e) t → Like (VClosure e t) (VClosure e' (put_in k b t))
+      like_fix : {e e' : ClosureEnv} {i : ℕ} {rargs : List ℕ} {bodies : BoxTerms} → LikeEnv e e' → ClosedTerms (span e) bodies → Like (VFix e i rargs bodies) (VFix e' i rargs (put_in_terms k b bodies))
 
-    pub data LikeAll : Values → Values → Type 0 where
+    pub data LikeAll : ClosureValues → ClosureValues → Type 0 where
       like_none : LikeAll NoValue NoValue
-      like_more : {v w : Value} {vs ws : Values} → Like v w → LikeAll vs ws → LikeAll (Then v vs) (Then w ws)
+      like_more : {v w : ClosureValue} {vs ws : ClosureValues} → Like v w → LikeAll vs ws → LikeAll (Then v vs) (Then w ws)
 
-    pub data LikeEnv : Env → Env → Type 0 where
-      like_empty : {e' : Env} → LikeEnv Empty e'
-      like_bind : {v w : Value} {e e' : Env} → Like v w → LikeEnv e e' → LikeEnv (Bind v e) (Bind w e')
-      like_bind_fix : {rargs : List ℕ} {bodies : BoxTerms} {e e' : Env} → ClosedTerms (span e) bodies → LikeEnv e e' → LikeEnv (BindFix rargs bodies e) (BindFix rargs (put_in_terms k b bodies) e')
+    pub data LikeEnv : ClosureEnv → ClosureEnv → Type 0 where
+      like_empty : {e' : ClosureEnv} → LikeEnv Empty e'
+      like_bind : {v w : ClosureValue} {e e' : ClosureEnv} → Like v w → LikeEnv e e' → LikeEnv (Bind v e) (Bind w e')
+      like_bind_fix : {rargs : List ℕ} {bodies : BoxTerms} {e e' : ClosureEnv} → ClosedTerms (span e) bodies → LikeEnv e e' → LikeEnv (BindFix rargs bodies e) (BindFix rargs (put_in_terms k b bodies) e')
 
-  words_like : {e e' : Env} → LikeEnv e e' → (N M : ℕ → Bool) → ((i : ℕ) → N i ≡ M i) → ((i : ℕ) → span e ≤ i → N i ≡ false) → words e' N ≡ words e M
+  words_like : {e e' : ClosureEnv} → LikeEnv e e' → (N M : ℕ → Bool) → ((i : ℕ) → N i ≡ M i) → ((i : ℕ) → span e ≤ i → N i ≡ false) → words e' N ≡ words e M
   words_like (like_empty {e'}) N M same past = words_none e' N (λ i. past i (omega arith))
   words_like (like_bind v h) N M same past = let a : one_if (N zero) ≡ one_if (M zero) = ap one_if (same zero) in omega (arith, a, words_like h (λ i. N (suc i)) (λ i. M (suc i)) (λ i. same (suc i)) (λ i l. past (suc i) (omega arith)))
   words_like (like_bind_fix {rargs} {bodies} {e} c h) N M same past =
@@ -161,40 +161,40 @@ module _ (k : ℕ) (b : BoxTerm) (closed : Closed 0 b) (none : uses k b ≡ 0) w
       below (suc n) = λ j. same n j || below n j
 
   -- what a variable holds
-  record FindsHolds (e' : Env) (i : ℕ) (v : Value) : Type 0 where
-    w : Value
+  record FindsHolds (e' : ClosureEnv) (i : ℕ) (v : ClosureValue) : Type 0 where
+    w : ClosureValue
     finds : Finds e' i (Holds w)
     like : Like v w
 
-  finds_holds : {e e' : Env} {i : ℕ} {h : Held} {v : Value} → Finds e i h → h ≡ Holds v → LikeEnv e e' → FindsHolds e' i v
-  finds_holds found q (like_bind {w = w} l h) = record { w = w; finds = found; like = subst (λ (x : Value). Like x w) (held q) l }
+  finds_holds : {e e' : ClosureEnv} {i : ℕ} {h : Held} {v : ClosureValue} → Finds e i h → h ≡ Holds v → LikeEnv e e' → FindsHolds e' i v
+  finds_holds found q (like_bind {w = w} l h) = record { w = w; finds = found; like = subst (λ (x : ClosureValue). Like x w) (held q) l }
     where
-      held : {x y : Value} → Holds x ≡ Holds y → x ≡ y
+      held : {x y : ClosureValue} → Holds x ≡ Holds y → x ≡ y
       held q = grind arith
   finds_holds (later g) q (like_bind l h) = let r = finds_holds g q h in record { w = r.w; finds = later r.finds; like = r.like }
   finds_holds (found_fix j p) q (like_bind_fix c h) = absurd (cc)
   finds_holds (past_fix j p g) q (like_bind_fix c h) = let r = finds_holds g q h in record { w = r.w; finds = past_fix j p r.finds; like = r.like }
 
-  record FindsDefines (e' e : Env) (i j : ℕ) (rargs : List ℕ) (bodies : BoxTerms) : Type 0 where
-    d : Env
+  record FindsDefines (e' e : ClosureEnv) (i j : ℕ) (rargs : List ℕ) (bodies : BoxTerms) : Type 0 where
+    d : ClosureEnv
     finds : Finds e' i (Defines d j rargs (put_in_terms k b bodies))
     like : LikeEnv e d
     under : ClosedTerms (span e) bodies
 
-  finds_defines : {e e' d : Env} {i j : ℕ} {rargs : List ℕ} {bodies : BoxTerms} → Finds e i (Defines d j rargs bodies) → LikeEnv e e' → FindsDefines e' d i j rargs bodies
+  finds_defines : {e e' d : ClosureEnv} {i j : ℕ} {rargs : List ℕ} {bodies : BoxTerms} → Finds e i (Defines d j rargs bodies) → LikeEnv e e' → FindsDefines e' d i j rargs bodies
   finds_defines (later g) (like_bind l h) = let r = finds_defines g h in record { d = r.d; finds = later r.finds; like = r.like; under = r.under }
   finds_defines (found_fix j p) (like_bind_fix c h) = record { d = _; finds = found_fix j p; like = h; under = c }
   finds_defines (past_fix j p g) (like_bind_fix c h) = let r = finds_defines g h in record { d = r.d; finds = past_fix j p r.finds; like = r.like; under = r.under }
 
-  size_like : {vs ws : Values} → LikeAll vs ws → size ws ≡ size vs
+  size_like : {vs ws : ClosureValues} → LikeAll vs ws → size ws ≡ size vs
   size_like like_none = refl
   size_like (like_more l ls) = ap suc (size_like ls)
 
-  bind_like : {vs ws : Values} {e e' : Env} → LikeAll vs ws → LikeEnv e e' → LikeEnv (bind_all vs e) (bind_all ws e')
+  bind_like : {vs ws : ClosureValues} {e e' : ClosureEnv} → LikeAll vs ws → LikeEnv e e' → LikeEnv (bind_all vs e) (bind_all ws e')
   bind_like like_none h = h
   bind_like (like_more l ls) h = like_bind l (bind_like ls h)
 
-  span_bind : (vs : Values) (e : Env) → span (bind_all vs e) ≡ size vs + span e
+  span_bind : (vs : ClosureValues) (e : ClosureEnv) → span (bind_all vs e) ≡ size vs + span e
   span_bind NoValue e = omega arith
   span_bind (Then v vs) e = omega (arith, span_bind vs e)
 
@@ -213,45 +213,45 @@ module _ (k : ℕ) (b : BoxTerm) (closed : Closed 0 b) (none : uses k b ≡ 0) w
 
   -- what a like value is
 
-  record LikeClosure (e : Env) (t : BoxTerm) (w : Value) : Type 0 where
-    d : Env
+  record LikeClosure (e : ClosureEnv) (t : BoxTerm) (w : ClosureValue) : Type 0 where
+    d : ClosureEnv
     is : w ≡ VClosure d (put_in k b t)
     like : LikeEnv e d
     under : Closed (1 + span e) t
 
-  closure_like : {e : Env} {t : BoxTerm} {w : Value} → Like (VClosure e t) w → LikeClosure e t w
+  closure_like : {e : ClosureEnv} {t : BoxTerm} {w : ClosureValue} → Like (VClosure e t) w → LikeClosure e t w
   closure_like (like_closure h c) = record { d = _; is = refl; like = h; under = c }
 
-  record LikeFix (e : Env) (i : ℕ) (rargs : List ℕ) (bodies : BoxTerms) (w : Value) : Type 0 where
-    d : Env
+  record LikeFix (e : ClosureEnv) (i : ℕ) (rargs : List ℕ) (bodies : BoxTerms) (w : ClosureValue) : Type 0 where
+    d : ClosureEnv
     is : w ≡ VFix d i rargs (put_in_terms k b bodies)
     like : LikeEnv e d
     under : ClosedTerms (span e) bodies
 
-  fix_like : {e : Env} {i : ℕ} {rargs : List ℕ} {bodies : BoxTerms} {w : Value} → Like (VFix e i rargs bodies) w → LikeFix e i rargs bodies w
+  fix_like : {e : ClosureEnv} {i : ℕ} {rargs : List ℕ} {bodies : BoxTerms} {w : ClosureValue} → Like (VFix e i rargs bodies) w → LikeFix e i rargs bodies w
   fix_like (like_fix h c) = record { d = _; is = refl; like = h; under = c }
 
-  record LikeConstruct (f : FamilyId) (i : ℕ) (vs : Values) (w : Value) : Type 0 where
-    ws : Values
+  record LikeConstruct (f : FamilyId) (i : ℕ) (vs : ClosureValues) (w : ClosureValue) : Type 0 where
+    ws : ClosureValues
     is : w ≡ VConstruct f i ws
     like : LikeAll vs ws
 
-  construct_like : {f : FamilyId} {i : ℕ} {vs : Values} {w : Value} → Like (VConstruct f i vs) w → LikeConstruct f i vs w
+  construct_like : {f : FamilyId} {i : ℕ} {vs : ClosureValues} {w : ClosureValue} → Like (VConstruct f i vs) w → LikeConstruct f i vs w
   construct_like (like_construct h) = record { ws = _; is = refl; like = h }
 
-  box_of_like : {w : Value} → Like VBox w → w ≡ VBox
+  box_of_like : {w : ClosureValue} → Like VBox w → w ≡ VBox
   box_of_like like_box = refl
 
   module _ (P Q : BoxProgram) (families : Q.families ≡ P.families) (bodies : (c : Name) (t : BoxTerm) → KeepsBoxConstant P c t → Closed 0 t × (((c.0 ≡ k) × (t ≡ b)) ⊎ ((c.0 ≡ k → ⊥) × KeepsBoxConstant Q c (put_in k b t)))) where
-    pub record Ran (e' : Env) (t : BoxTerm) (v : Value) (c : Counts) : Type 0 where
-      pub w : Value
+    pub record Ran (e' : ClosureEnv) (t : BoxTerm) (v : ClosureValue) (c : Counts) : Type 0 where
+      pub w : ClosureValue
       pub counts : Counts
-      pub run : Run Q e' t w counts
+      pub run : ClosureRun Q e' t w counts
       pub like : Like v w
       pub no_more : AreNoMore counts c
 
-    pub record RanArgs (e' : Env) (f : FamilyId) (i : ℕ) (t : BoxTerm) (vs : Values) (c : Counts) : Type 0 where
-      pub ws : Values
+    pub record RanArgs (e' : ClosureEnv) (f : FamilyId) (i : ℕ) (t : BoxTerm) (vs : ClosureValues) (c : Counts) : Type 0 where
+      pub ws : ClosureValues
       pub counts : Counts
       pub run : RunArgs Q e' f i t ws counts
       like : LikeAll vs ws
@@ -264,7 +264,7 @@ module _ (k : ℕ) (b : BoxTerm) (closed : Closed 0 b) (none : uses k b ≡ 0) w
     under_none m t c = closed_at t (omega arith) c
 
     mutual
-      pub follows : {e e' : Env} {t : BoxTerm} {v : Value} {c : Counts} → Run P e t v c → LikeEnv e e' → Closed (span e) t → Ran e' (put_in k b t) v c
+      pub follows : {e e' : ClosureEnv} {t : BoxTerm} {v : ClosureValue} {c : Counts} → ClosureRun P e t v c → LikeEnv e e' → Closed (span e) t → Ran e' (put_in k b t) v c
       follows run_box h c = record { w = VBox; counts = nothing; run = run_box; like = like_box; no_more = no_more_self nothing }
       follows (run_value f) h c = let r = finds_holds f refl h in record { w = r.w; counts = nothing; run = run_value r.finds; like = r.like; no_more = no_more_self nothing }
       follows (run_definition {e' = d} {bodies = bs} f) h c =
@@ -283,10 +283,10 @@ module _ (k : ℕ) (b : BoxTerm) (closed : Closed 0 b) (none : uses k b ≡ 0) w
           ⊎_elim
           (λ p. let x = follows r (like_empty {e' = e'}) known.0 in
           let here : put_in k b (BConst name) ≡ put_in k b t = ap (λ z. if z then b else BConst name) (eq-eqb name.0 k p.0) ∙ sym (ap (put_in k b) p.1 ∙ unused k b b none) in
-          record { w = x.w; counts = x.counts; run = subst (λ u. Run Q e' u x.w x.counts) (sym here) x.run; like = x.like; no_more = no_more_after x.no_more })
+          record { w = x.w; counts = x.counts; run = subst (λ u. ClosureRun Q e' u x.w x.counts) (sym here) x.run; like = x.like; no_more = no_more_after x.no_more })
           (λ p. let x = follows r (like_empty {e' = Empty}) known.0 in
           let here : put_in k b (BConst name) ≡ BConst name = ap (λ z. if z then b else BConst name) (differs name.0 p.0) in
-          record { w = x.w; counts = contraction ⊕ x.counts; run = subst (λ u. Run Q e' u x.w (contraction ⊕ x.counts)) (sym here) (run_constant p.1 x.run); like = x.like; no_more = no_more_sum (no_more_self contraction) x.no_more })
+          record { w = x.w; counts = contraction ⊕ x.counts; run = subst (λ u. ClosureRun Q e' u x.w (contraction ⊕ x.counts)) (sym here) (run_constant p.1 x.run); like = x.like; no_more = no_more_sum (no_more_self contraction) x.no_more })
           known.1
         where
           differs : (x : ℕ) → (x ≡ k → ⊥) → nat_eq x k ≡ false
@@ -303,7 +303,7 @@ module _ (k : ℕ) (b : BoxTerm) (closed : Closed 0 b) (none : uses k b ≡ 0) w
           record {
             w = z.w;
             counts = contraction ⊕ x.counts ⊕ y.counts ⊕ z.counts;
-            run = run_app (subst (λ (u : Value). Run Q e' (put_in k b f) u x.counts) g.is x.run) y.run z.run;
+            run = run_app (subst (λ (u : ClosureValue). ClosureRun Q e' (put_in k b f) u x.counts) g.is x.run) y.run z.run;
             like = z.like;
             no_more = no_more_sum (no_more_self contraction) (no_more_sum x.no_more (no_more_sum y.no_more z.no_more));
           }
@@ -313,7 +313,7 @@ module _ (k : ℕ) (b : BoxTerm) (closed : Closed 0 b) (none : uses k b ≡ 0) w
           record {
             w = VBox;
             counts = contraction ⊕ x.counts ⊕ y.counts;
-            run = run_box_app (subst (λ (u : Value). Run Q e' (put_in k b f) u x.counts) (box_of_like x.like) x.run) y.run;
+            run = run_box_app (subst (λ (u : ClosureValue). ClosureRun Q e' (put_in k b f) u x.counts) (box_of_like x.like) x.run) y.run;
             like = like_box;
             no_more = no_more_sum (no_more_self contraction) (no_more_sum x.no_more y.no_more);
           }
@@ -326,7 +326,7 @@ module _ (k : ℕ) (b : BoxTerm) (closed : Closed 0 b) (none : uses k b ≡ 0) w
           record {
             w = z.w;
             counts = contraction ⊕ contraction ⊕ x.counts ⊕ y.counts ⊕ z.counts;
-            run = run_fix_app (subst (λ (u : Value). Run Q e' (put_in k b f) u x.counts) g.is x.run) y.run (put_at bs i (length rargs) (BLambda t) at) z.run;
+            run = run_fix_app (subst (λ (u : ClosureValue). ClosureRun Q e' (put_in k b f) u x.counts) g.is x.run) y.run (put_at bs i (length rargs) (BLambda t) at) z.run;
             like = z.like;
             no_more = no_more_sum (no_more_self contraction) (no_more_sum (no_more_self contraction) (no_more_sum x.no_more (no_more_sum y.no_more z.no_more)));
           }
@@ -337,7 +337,7 @@ module _ (k : ℕ) (b : BoxTerm) (closed : Closed 0 b) (none : uses k b ≡ 0) w
           record {
             w = VBox;
             counts = contraction ⊕ contraction ⊕ x.counts ⊕ y.counts;
-            run = run_fix_box (subst (λ (u : Value). Run Q e' (put_in k b f) u x.counts) g.is x.run) y.run (put_at bs i (length rargs) Box at);
+            run = run_fix_box (subst (λ (u : ClosureValue). ClosureRun Q e' (put_in k b f) u x.counts) g.is x.run) y.run (put_at bs i (length rargs) Box at);
             like = like_box;
             no_more = no_more_sum (no_more_self contraction) (no_more_sum (no_more_self contraction) (no_more_sum x.no_more y.no_more));
           }
@@ -353,7 +353,7 @@ module _ (k : ℕ) (b : BoxTerm) (closed : Closed 0 b) (none : uses k b ≡ 0) w
           record {
             w = y.w;
             counts = entered_match ⊕ x.counts ⊕ y.counts;
-            run = run_match (family kept) p (subst (λ (u : Value). Run Q e' (put_in k b s) u x.counts) g.is x.run) here y.run;
+            run = run_match (family kept) p (subst (λ (u : ClosureValue). ClosureRun Q e' (put_in k b s) u x.counts) g.is x.run) here y.run;
             like = y.like;
             no_more = no_more_sum (no_more_self entered_match) (no_more_sum x.no_more y.no_more);
           }
@@ -363,12 +363,12 @@ module _ (k : ℕ) (b : BoxTerm) (closed : Closed 0 b) (none : uses k b ≡ 0) w
           record {
             w = y.w;
             counts = entered_match ⊕ x.counts ⊕ y.counts;
-            run = run_only (family kept) p (subst (λ (u : Value). Run Q e' (put_in k b s) u x.counts) (box_of_like x.like) x.run) y.run;
+            run = run_only (family kept) p (subst (λ (u : ClosureValue). ClosureRun Q e' (put_in k b s) u x.counts) (box_of_like x.like) x.run) y.run;
             like = y.like;
             no_more = no_more_sum (no_more_self entered_match) (no_more_sum x.no_more y.no_more);
           }
 
-      pub follows_args : {e e' : Env} {f : FamilyId} {i : ℕ} {t : BoxTerm} {vs : Values} {c : Counts} → RunArgs P e f i t vs c → LikeEnv e e' → Closed (span e) t → RanArgs e' f i (put_in k b t) vs c
+      pub follows_args : {e e' : ClosureEnv} {f : FamilyId} {i : ℕ} {t : BoxTerm} {vs : ClosureValues} {c : Counts} → RunArgs P e f i t vs c → LikeEnv e e' → Closed (span e) t → RanArgs e' f i (put_in k b t) vs c
       follows_args run_head h c = record { ws = NoValue; counts = nothing; run = run_head; like = like_none; no_more = no_more_self nothing }
       follows_args {e = e} (run_arg {t = f} {a = a} r s) h c =
           let x = follows_args r h (under_none (span e) f c.0) in
@@ -378,26 +378,26 @@ module _ (k : ℕ) (b : BoxTerm) (closed : Closed 0 b) (none : uses k b ≡ 0) w
     -- data stands for itself, and what is like data is the same data
 
     mutual
-      pub reads_like : {v w : Value} {d : Data} → ValueReads v d → Like v w → ValueReads w d
+      pub reads_like : {v w : ClosureValue} {d : Data} → ValueReads v d → Like v w → ValueReads w d
       reads_like (value_reads {f = f} {c = c} {ds = ds} r) (like_construct {ws = ws} l) = subst (λ (n : ℕ). ValueReads (VConstruct f c ws) ((c, n) ∷ ds)) (size_like l) (value_reads (read_like r l))
 
-      read_like : {vs ws : Values} {ds : Data} → ValuesRead vs ds → LikeAll vs ws → ValuesRead ws ds
+      read_like : {vs ws : ClosureValues} {ds : Data} → ValuesRead vs ds → LikeAll vs ws → ValuesRead ws ds
       read_like no_values like_none = no_values
       read_like (and_then r s) (like_more l ls) = and_then (read_like r ls) (reads_like s l)
 
     mutual
-      pub data_like : {v : Value} {d : Data} → ValueReads v d → Like v v
+      pub data_like : {v : ClosureValue} {d : Data} → ValueReads v d → Like v v
       data_like (value_reads r) = like_construct (all_data_like r)
 
-      all_data_like : {vs : Values} {ds : Data} → ValuesRead vs ds → LikeAll vs vs
+      all_data_like : {vs : ClosureValues} {ds : Data} → ValuesRead vs ds → LikeAll vs vs
       all_data_like no_values = like_none
       all_data_like (and_then r s) = like_more (data_like s) (all_data_like r)
 
-    pub held_like : {vs : Values} {args : List Data} → ValuesHold vs args → LikeAll vs vs
+    pub held_like : {vs : ClosureValues} {args : List Data} → ValuesHold vs args → LikeAll vs vs
     held_like hold_none = like_none
     held_like (hold_last hs h) = like_more (data_like h) (held_like hs)
 
-    pub held_size : {vs : Values} {args : List Data} → ValuesHold vs args → size vs ≡ length args
+    pub held_size : {vs : ClosureValues} {args : List Data} → ValuesHold vs args → size vs ≡ length args
     held_size hold_none = refl
     held_size (hold_last {d = d} {ds = ds} hs h) = omega (arith, held_size hs, one_more ds d)
       where
@@ -413,10 +413,10 @@ module _ (k : ℕ) (b : BoxTerm) (closed : Closed 0 b) (none : uses k b ≡ 0) w
     spine_closed zero m f l c = c
     spine_closed (suc n) m f l c = spine_closed n m (BApp f (Rel n)) (omega arith) (closed_at f (omega arith) c, (omega arith, tt))
 
-    pub keeps_runs : (main : BoxTerm) → Closed 0 main → (vs : Values) (args : List Data) → ValuesHold vs args → (v : Value) (d : Data) (c : Counts) →
-        Run P (bind_all vs Empty) (box_apply main (innermost (length args))) v c → ValueReads v d → RunsWithin Q (bind_all vs Empty) (box_apply (put_in k b main) (innermost (length args))) d c
+    pub keeps_runs : (main : BoxTerm) → Closed 0 main → (vs : ClosureValues) (args : List Data) → ValuesHold vs args → (v : ClosureValue) (d : Data) (c : Counts) →
+        ClosureRun P (bind_all vs Empty) (box_apply main (innermost (length args))) v c → ValueReads v d → RunsWithin Q (bind_all vs Empty) (box_apply (put_in k b main) (innermost (length args))) d c
     keeps_runs main closed_main vs args held v d c run reads =
         let n = length args in
         let whole : Closed (span (bind_all vs Empty)) (box_apply main (innermost n)) = closed_more (box_apply main (innermost n)) (spine_closed n n main (omega arith) (closed_more main closed_main (omega arith))) (omega (arith, span_bind vs Empty, held_size held)) in
         let x = follows run (bind_like (held_like held) (like_empty {e' = Empty})) whole in
-        record { v = x.w; counts = x.counts; run = subst (λ (t : BoxTerm). Run Q (bind_all vs Empty) t x.w x.counts) (spine_put n main) x.run; reads = reads_like reads x.like; no_more = x.no_more }
+        record { v = x.w; counts = x.counts; run = subst (λ (t : BoxTerm). ClosureRun Q (bind_all vs Empty) t x.w x.counts) (spine_put n main) x.run; reads = reads_like reads x.like; no_more = x.no_more }

@@ -8,7 +8,7 @@ use Rattle.trees.specs.Shape.{binders_of}
 use Rattle.trees.proofs.Closed.{loose-closed, loose-least}
 use Rattle.pc_terms.specs.declared.leaf.Name.{Name}
 use Rattle.pc_terms.specs.BoxSyntax.{BConstOf, BoxTerm, BoxTerms, Box, BLambda, BLetIn, BApp, BConst, BConstruct, BCase, BFix}
-use Rattle.lambda_box.specs.BoxProgram.{BoxConstant, BoxFamily, Has, here, there, NamesKept, Named}
+use Rattle.lambda_box.specs.BoxProgram.{BoxConstant, BoxFamily, Has, here, there, NamesKept, NamesOnly}
 use Rattle.lambda_box.specs.BoxForm.{IsFixBody, boxed, last, more, AreFixBodies, HasBoxForm, HasBoxFormTerms, IsBoxBody, AreOrdered, IsBoxProgram}
 use Rattle.lambda_box.proofs.Naming.{named_more}
 use Rattle.shrink_passes.specs.Uses.{uses, uses_terms, total}
@@ -82,9 +82,9 @@ module _ (k : ℕ) (b : BoxTerm) where
   abbrev pub Keeps : List BoxConstant → List BoxConstant → Type 0
   Keeps cs ds = (c : Name) → (c.0 ≡ k → ⊥) → NamesKept cs (BConstOf c) → NamesKept ds (BConstOf c)
 
-  module _ (cs ds : List BoxConstant) (keeps : Keeps cs ds) (g : Named ds b) where
+  module _ (cs ds : List BoxConstant) (keeps : Keeps cs ds) (g : NamesOnly ds b) where
     mutual
-      pub put_named : (t : BoxTerm) → Named cs t → Named ds (put_in k b t)
+      pub put_named : (t : BoxTerm) → NamesOnly cs t → NamesOnly ds (put_in k b t)
       put_named (Rel i) h = tt
       put_named Box h = (tt, tt)
       put_named (BLambda t) h = (tt, (put_named t h.1.0, tt))
@@ -92,7 +92,7 @@ module _ (k : ℕ) (b : BoxTerm) where
       put_named (BApp f a) h = (tt, (put_named f h.1.0, (put_named a h.1.1.0, tt)))
       put_named (BConst c) h = either (nat_eq c.0 k) refl
         where
-          either : (z : Bool) → nat_eq c.0 k ≡ z → Named ds (if z then b else BConst c)
+          either : (z : Bool) → nat_eq c.0 k ≡ z → NamesOnly ds (if z then b else BConst c)
           either true e = g
           either false e = (keeps c (λ q. differs (sym e ∙ eq-eqb c.0 k q)) h.0, tt)
             where
@@ -158,7 +158,7 @@ has_other k (there h) f e = has_other k h f.1 e
 
 module _ (k : ℕ) (cs : List BoxConstant) (fresh : Fresh k cs) where
   mutual
-    pub named_unused : (t : BoxTerm) → Named cs t → uses k t ≡ 0
+    pub named_unused : (t : BoxTerm) → NamesOnly cs t → uses k t ≡ 0
     named_unused (Rel i) h = refl
     named_unused Box h = refl
     named_unused (BLambda t) h = named_unused t h.1.0

@@ -5,16 +5,16 @@ use Rattle.trees.specs.Tree.{Rel}
 use Rattle.trees.specs.Parallel.{over, overs}
 use Rattle.pc_terms.specs.BoxSyntax.{BoxTerm, BoxTerms, Box, BLambda, BLetIn, BApp, BConst, BConstruct, BCase, BFix}
 use Rattle.lambda_box.specs.BoxProgram.{BoxProgram}
-use Rattle.lambda_box.specs.ClosureEvaluation.{names, Value, VBox, VClosure, VFix, Env, Empty, closure_words, Counts, nothing, block, Run, run_box, run_value, run_definition, run_lambda, run_fix, run_constant, run_let, run_app, run_box_app, run_fix_app, run_fix_box, run_construct, run_match, run_only, run_head, run_arg}
+use Rattle.lambda_box.specs.ClosureEvaluation.{names, ClosureValue, VBox, VClosure, VFix, ClosureEnv, Empty, closure_words, Counts, nothing, block, ClosureRun, run_box, run_value, run_definition, run_lambda, run_fix, run_constant, run_let, run_app, run_box_app, run_fix_app, run_fix_box, run_construct, run_match, run_only, run_head, run_arg}
 use Rattle.box_passes.specs.Saturate.{lambdas}
 use Rattle.shrink_passes.specs.DropParams.{is_box, box_at}
 use Rattle.shrink_passes.specs.ShrinkLaws.{AreNoMore}
 
-abbrev pub closure_env : Value → Env
+abbrev pub closure_env : ClosureValue → ClosureEnv
 closure_env (VClosure e b) = e
 closure_env v = Empty
 
-abbrev pub closure_body : Value → BoxTerm
+abbrev pub closure_body : ClosureValue → BoxTerm
 closure_body (VClosure e b) = b
 closure_body v = Box
 
@@ -25,11 +25,11 @@ pub one_item : {A : Type 0} {x y : A} → Some x ≡ Some y → x ≡ y
 one_item e = grind arith
 
 -- box gives box at no cost
-pub record RunsBox (v : Value) (c : Counts) : Type 0 where
+pub record RunsBox (v : ClosureValue) (c : Counts) : Type 0 where
   pub is : v ≡ VBox
   pub free : c ≡ nothing
 
-pub box_runs : {P : BoxProgram} {e : Env} {t : BoxTerm} {v : Value} {c : Counts} → Run P e t v c → t ≡ Box → RunsBox v c
+pub box_runs : {P : BoxProgram} {e : ClosureEnv} {t : BoxTerm} {v : ClosureValue} {c : Counts} → ClosureRun P e t v c → t ≡ Box → RunsBox v c
 box_runs run_box q = record { is = refl; free = refl }
 box_runs (run_value f) q = absurd (cc)
 box_runs (run_definition f) q = absurd (cc)
@@ -46,7 +46,7 @@ box_runs (run_construct k at l (run_arg r s)) q = absurd (cc)
 box_runs (run_match k p r at s) q = absurd (cc)
 box_runs (run_only k p r s) q = absurd (cc)
 
-pub record RunsLambda (e : Env) (b : BoxTerm) (v : Value) (c : Counts) : Type 0 where
+pub record RunsLambda (e : ClosureEnv) (b : BoxTerm) (v : ClosureValue) (c : Counts) : Type 0 where
   pub is : v ≡ VClosure e b
   pub made : c ≡ block (closure_words e b)
 
@@ -54,7 +54,7 @@ abbrev pub lambda_body : BoxTerm → BoxTerm
 lambda_body (BLambda b) = b
 lambda_body t = Box
 
-pub lambda_runs : {P : BoxProgram} {e : Env} {t b : BoxTerm} {v : Value} {c : Counts} → Run P e t v c → t ≡ BLambda b → RunsLambda e b v c
+pub lambda_runs : {P : BoxProgram} {e : ClosureEnv} {t b : BoxTerm} {v : ClosureValue} {c : Counts} → ClosureRun P e t v c → t ≡ BLambda b → RunsLambda e b v c
 lambda_runs run_box q = absurd (cc)
 lambda_runs (run_value f) q = absurd (cc)
 lambda_runs (run_definition f) q = absurd (cc)
@@ -97,10 +97,10 @@ names_lambdas (suc n) t i = or_false (names (lambdas n t) (1 + i)) ∙ names_lam
     or_false true = refl
     or_false false = refl
 
-pub closure_not_box : {e : Env} {b : BoxTerm} → VBox ≡ VClosure e b → ⊥
+pub closure_not_box : {e : ClosureEnv} {b : BoxTerm} → VBox ≡ VClosure e b → ⊥
 closure_not_box e = cc
 
-pub closure_not_fix : {e d : Env} {b : BoxTerm} {i : ℕ} {rargs : List ℕ} {ts : BoxTerms} → VFix d i rargs ts ≡ VClosure e b → ⊥
+pub closure_not_fix : {e d : ClosureEnv} {b : BoxTerm} {i : ℕ} {rargs : List ℕ} {ts : BoxTerms} → VFix d i rargs ts ≡ VClosure e b → ⊥
 closure_not_fix e = cc
 
 pub not_true : {x : Bool} → x ≡ false → x ≡ true → ⊥

@@ -11,7 +11,7 @@ use Rattle.pc_terms.specs.BoxSyntax.{BoxTerm, BoxTerms, Box, BLambda, BLetIn, BA
 use Rattle.lambda_box.specs.BoxProgram.{BoxConstant, BoxFamily, BoxProgram, Has, here, there}
 use Rattle.lambda_box.specs.BoxForm.{IsFixBody, boxed, last, more, AreFixBodies, HasBoxForm, HasBoxFormTerms, IsBoxProgram}
 use Rattle.lambda_box.proofs.Naming.{ordered_body}
-use Rattle.lambda_box.specs.ClosureEvaluation.{names, names_terms, Value, VBox, Env, Empty, Bind, BindFix, box_values, bind_all, one_if, any_below, words}
+use Rattle.lambda_box.specs.ClosureEvaluation.{names, names_terms, ClosureValue, VBox, ClosureEnv, Empty, Bind, BindFix, box_values, bind_all, one_if, any_below, words}
 use Rattle.box_passes.proofs.Narrow.{Narrow, NarrowBranches, NarrowDefs}
 use Rattle.shrink_passes.specs.Uses.{uses}
 use Rattle.shrink_passes.specs.DropParams.{is_spine, cut, cut_terms, leading, without_lambda, with_constant, is_dead, without_params, drop_from, drop_program}
@@ -26,11 +26,11 @@ use Rattle.shrink_passes.proofs.ThinForms.{without_closed, without_form}
 use Rattle.shrink_passes.proofs.Thinning.{IsThin, Thins, thins_rel, thins_over, thins_overs, thins_first, named_before, named_before_terms, named_cut, named_cut_terms, either_true, left_true, right_true}
 
 -- e' has the variables of e, in their order, but for some; variable i of e' is variable r i of e
-data Fewer : (ℕ → ℕ) → Env → Env → Type 0 where
+data Fewer : (ℕ → ℕ) → ClosureEnv → ClosureEnv → Type 0 where
   fewer_none : Fewer (λ i. i) Empty Empty
-  fewer_skip : {r : ℕ → ℕ} {e' e : Env} {v : Value} → Fewer r e' e → Fewer (λ i. suc (r i)) e' (Bind v e)
-  fewer_bind : {r : ℕ → ℕ} {e' e : Env} {v w : Value} → Fewer r e' e → Fewer (up r) (Bind v e') (Bind w e)
-  fewer_fix : {r : ℕ → ℕ} {e' e : Env} {rargs : List ℕ} {cs bs : BoxTerms} → Fewer r e' e → ((i : ℕ) → names_terms cs i ≡ true → names_terms bs (r i) ≡ true) →
+  fewer_skip : {r : ℕ → ℕ} {e' e : ClosureEnv} {v : ClosureValue} → Fewer r e' e → Fewer (λ i. suc (r i)) e' (Bind v e)
+  fewer_bind : {r : ℕ → ℕ} {e' e : ClosureEnv} {v w : ClosureValue} → Fewer r e' e → Fewer (up r) (Bind v e') (Bind w e)
+  fewer_fix : {r : ℕ → ℕ} {e' e : ClosureEnv} {rargs : List ℕ} {cs bs : BoxTerms} → Fewer r e' e → ((i : ℕ) → names_terms cs i ≡ true → names_terms bs (r i) ≡ true) →
       Fewer (ups (length rargs) r) (BindFix rargs cs e') (BindFix rargs bs e)
 
 one_less : (x y : Bool) → (x ≡ true → y ≡ true) → one_if x ≤ one_if y
@@ -53,7 +53,7 @@ any_less zero m r M N l h e = absurd (cc)
 any_less (suc n) m r M N l h e =
     either_less (M n) (any_below n M) (N n) (any_below n N) (λ a. let q : n ≡ ups m r n = sym (ups_below m r n (omega arith)) in ap N q ∙ h n a) (any_less n m r M N (omega arith) h) e
 
-words_fewer : {r : ℕ → ℕ} {e' e : Env} → Fewer r e' e → (M N : ℕ → Bool) → ((i : ℕ) → M i ≡ true → N (r i) ≡ true) → words e' M ≤ words e N
+words_fewer : {r : ℕ → ℕ} {e' e : ClosureEnv} → Fewer r e' e → (M N : ℕ → Bool) → ((i : ℕ) → M i ≡ true → N (r i) ≡ true) → words e' M ≤ words e N
 words_fewer fewer_none M N h = omega arith
 words_fewer (fewer_skip f) M N h = let a = words_fewer f M (λ i. N (suc i)) h in omega arith
 words_fewer (fewer_bind f) M N h = let a = words_fewer f (λ i. M (suc i)) (λ i. N (suc i)) (λ i. h (suc i)) in let b = one_less (M zero) (N zero) (h zero) in omega arith
@@ -63,7 +63,7 @@ words_fewer (fewer_fix {r = r} {rargs = rargs} {cs = cs} {bs = bs} f g) M N h =
     (λ i. either_less (M (n + i)) (any_below n M && names_terms cs i) (N (n + r i)) (any_below n N && names_terms bs (r i)) (λ a. ap N (sym (ups_past n r i)) ∙ h (n + i) a)
     (both_true (any_below n M) (names_terms cs i) (any_below n N) (names_terms bs (r i)) (any_less n n r M N (omega arith) h) (g i)))
 
-fewer_boxes : (n : ℕ) {r : ℕ → ℕ} {e' e : Env} → Fewer r e' e → Fewer (ups n r) (bind_all (box_values n) e') (bind_all (box_values n) e)
+fewer_boxes : (n : ℕ) {r : ℕ → ℕ} {e' e : ClosureEnv} → Fewer r e' e → Fewer (ups n r) (bind_all (box_values n) e') (bind_all (box_values n) e)
 fewer_boxes zero f = f
 fewer_boxes (suc n) f = fewer_bind (fewer_boxes n f)
 
@@ -110,11 +110,11 @@ no_body e = absurd (cc)
 module _ (Fs : List BoxFamily) (C : ℕ) where
   -- box or another variable put for each variable
 
-  thin_variable : (e : Env) (t : BoxTerm) → IsThin t → Narrow C e t
+  thin_variable : (e : ClosureEnv) (t : BoxTerm) → IsThin t → Narrow C e t
   thin_variable e t h = ⊎_elim (λ q. subst (Narrow C e) (sym q) tt) (λ v. subst (Narrow C e) (sym v.1) tt) h
 
   mutual
-    thin_narrow : (s : ℕ → BoxTerm) → Thins s → {r : ℕ → ℕ} → Follows s r → {e' e : Env} → Fewer r e' e → (t : BoxTerm) → HasBoxForm Fs t → Narrow C e t → Narrow C e' (substitute s t)
+    thin_narrow : (s : ℕ → BoxTerm) → Thins s → {r : ℕ → ℕ} → Follows s r → {e' e : ClosureEnv} → Fewer r e' e → (t : BoxTerm) → HasBoxForm Fs t → Narrow C e t → Narrow C e' (substitute s t)
     thin_narrow s th f {e'} w (Rel i) form h = thin_variable e' (s i) (th.thin i)
     thin_narrow s th f w Box form h = tt
     thin_narrow s th {r} f w (BLambda b) form h = (
@@ -131,11 +131,11 @@ module _ (Fs : List BoxFamily) (C : ℕ) where
       thin_defs (length rargs) rargs s th f (fewer_fix w (λ i n. named_before_terms s th bodies (r i) i (f i) n)) bodies form.0.1 form.1.0 h.1,
     )
 
-    thin_branches : (s : ℕ → BoxTerm) → Thins s → {r : ℕ → ℕ} → Follows s r → {e' e : Env} → Fewer r e' e → (ts : BoxTerms) → HasBoxFormTerms Fs ts → NarrowBranches C e ts → NarrowBranches C e' (substitute_terms s ts)
+    thin_branches : (s : ℕ → BoxTerm) → Thins s → {r : ℕ → ℕ} → Follows s r → {e' e : ClosureEnv} → Fewer r e' e → (ts : BoxTerms) → HasBoxFormTerms Fs ts → NarrowBranches C e ts → NarrowBranches C e' (substitute_terms s ts)
     thin_branches s th f w Done form h = tt
     thin_branches s th {r} f w (Next n t ts) form h = (thin_narrow (overs n s) (thins_overs n th) (follows_overs n s r f) (fewer_boxes n w) t form.0 h.0, thin_branches s th f w ts form.1 h.1)
 
-    thin_defs : (n : ℕ) (rs : List ℕ) (s : ℕ → BoxTerm) → Thins s → {r : ℕ → ℕ} → Follows s r → {e' e : Env} → Fewer (ups n r) e' e → (ts : BoxTerms) → AreFixBodies n rs ts → HasBoxFormTerms Fs ts → NarrowDefs C e ts → NarrowDefs C e' (substitute_terms s ts)
+    thin_defs : (n : ℕ) (rs : List ℕ) (s : ℕ → BoxTerm) → Thins s → {r : ℕ → ℕ} → Follows s r → {e' e : ClosureEnv} → Fewer (ups n r) e' e → (ts : BoxTerms) → AreFixBodies n rs ts → HasBoxFormTerms Fs ts → NarrowDefs C e ts → NarrowDefs C e' (substitute_terms s ts)
     thin_defs n [] s th f w Done are form h = tt
     thin_defs n [] s th f w (Next m t ts) are form h = absurd are
     thin_defs n (r ∷ rs) s th f w Done are form h = absurd are
@@ -150,7 +150,7 @@ module _ (Fs : List BoxFamily) (C : ℕ) where
 
   module _ (k p : ℕ) where
     mutual
-      cut_narrow : {r : ℕ → ℕ} → Same r → {e' e : Env} → Fewer r e' e → (t : BoxTerm) → HasBoxForm Fs t → Narrow C e t → Narrow C e' (cut k p t)
+      cut_narrow : {r : ℕ → ℕ} → Same r → {e' e : ClosureEnv} → Fewer r e' e → (t : BoxTerm) → HasBoxForm Fs t → Narrow C e t → Narrow C e' (cut k p t)
       cut_narrow f w (Rel i) form h = tt
       cut_narrow f w Box form h = tt
       cut_narrow {r} f w (BLambda b) form h = (
@@ -171,11 +171,11 @@ module _ (Fs : List BoxFamily) (C : ℕ) where
         cut_defs (length rargs) rargs (same_ups (length rargs) f) (fewer_fix w (λ i n. ap (names_terms bodies) (f i) ∙ named_cut_terms k p bodies i n)) bodies form.0.1 form.1.0 h.1,
       )
 
-      cut_branches : {r : ℕ → ℕ} → Same r → {e' e : Env} → Fewer r e' e → (ts : BoxTerms) → HasBoxFormTerms Fs ts → NarrowBranches C e ts → NarrowBranches C e' (cut_terms k p ts)
+      cut_branches : {r : ℕ → ℕ} → Same r → {e' e : ClosureEnv} → Fewer r e' e → (ts : BoxTerms) → HasBoxFormTerms Fs ts → NarrowBranches C e ts → NarrowBranches C e' (cut_terms k p ts)
       cut_branches f w Done form h = tt
       cut_branches f w (Next n t ts) form h = (cut_narrow (same_ups n f) (fewer_boxes n w) t form.0 h.0, cut_branches f w ts form.1 h.1)
 
-      cut_defs : (n : ℕ) (rs : List ℕ) {r : ℕ → ℕ} → Same r → {e' e : Env} → Fewer r e' e → (ts : BoxTerms) → AreFixBodies n rs ts → HasBoxFormTerms Fs ts → NarrowDefs C e ts → NarrowDefs C e' (cut_terms k p ts)
+      cut_defs : (n : ℕ) (rs : List ℕ) {r : ℕ → ℕ} → Same r → {e' e : ClosureEnv} → Fewer r e' e → (ts : BoxTerms) → AreFixBodies n rs ts → HasBoxFormTerms Fs ts → NarrowDefs C e ts → NarrowDefs C e' (cut_terms k p ts)
       cut_defs n [] f w Done are form h = tt
       cut_defs n [] f w (Next m t ts) are form h = absurd are
       cut_defs n (r ∷ rs) f w Done are form h = absurd are
@@ -191,7 +191,7 @@ module _ (Fs : List BoxFamily) (C : ℕ) where
   without_named zero t i n = n
   without_named (suc p) t i n = n
 
-  without_narrow : (p : ℕ) {r : ℕ → ℕ} → Same r → {e' e : Env} → Fewer r e' e → (t : BoxTerm) → HasBoxForm Fs t → Narrow C e t → Narrow C e' (without_lambda p t)
+  without_narrow : (p : ℕ) {r : ℕ → ℕ} → Same r → {e' e : ClosureEnv} → Fewer r e' e → (t : BoxTerm) → HasBoxForm Fs t → Narrow C e t → Narrow C e' (without_lambda p t)
   without_narrow zero f w (BLambda b) form h = thin_narrow (put Box) (thins_first thins_rel) (λ j. ap Rel (f j)) (fewer_skip w) b form.1.0 h.1
   without_narrow (suc p) {r} f w (BLambda b) form h = (
     (let few = words_fewer w (λ i. names (without_lambda p b) (suc i)) (λ i. names b (suc i)) (λ i n. ap (λ j. names b (suc j)) (f i) ∙ without_named p b (suc i) n) in omega (arith, few, h.0)),
@@ -202,24 +202,24 @@ module _ (Fs : List BoxFamily) (C : ℕ) where
 
   -- a term that is closed below n, in an environment that goes on after n variables
 
-  data Longer : ℕ → Env → Env → Type 0 where
-    longer_none : {e' : Env} → Longer 0 e' Empty
-    longer_bind : {n : ℕ} {e' e : Env} {v : Value} → Longer n e' e → Longer (suc n) (Bind v e') (Bind v e)
-    longer_fix : {n : ℕ} {e' e : Env} {rargs : List ℕ} {bs : BoxTerms} → Longer n e' e → ClosedTerms n bs → Longer (length rargs + n) (BindFix rargs bs e') (BindFix rargs bs e)
+  data Longer : ℕ → ClosureEnv → ClosureEnv → Type 0 where
+    longer_none : {e' : ClosureEnv} → Longer 0 e' Empty
+    longer_bind : {n : ℕ} {e' e : ClosureEnv} {v : ClosureValue} → Longer n e' e → Longer (suc n) (Bind v e') (Bind v e)
+    longer_fix : {n : ℕ} {e' e : ClosureEnv} {rargs : List ℕ} {bs : BoxTerms} → Longer n e' e → ClosedTerms n bs → Longer (length rargs + n) (BindFix rargs bs e') (BindFix rargs bs e)
 
-  words_longer : {n : ℕ} {e' e : Env} → Longer n e' e → (N : ℕ → Bool) → ((i : ℕ) → n ≤ i → N i ≡ false) → words e' N ≤ words e N
+  words_longer : {n : ℕ} {e' e : ClosureEnv} → Longer n e' e → (N : ℕ → Bool) → ((i : ℕ) → n ≤ i → N i ≡ false) → words e' N ≤ words e N
   words_longer {e' = e'} longer_none N h = let z = words_none e' N (λ i. h i (omega arith)) in omega (arith, z)
   words_longer (longer_bind w) N h = let a = words_longer w (λ i. N (suc i)) (λ i l. h (suc i) (omega arith)) in omega arith
   words_longer (longer_fix {n = n} {rargs = rargs} {bs = bs} w c) N h =
       words_longer w (λ i. N (length rargs + i) || (any_below (length rargs) N && names_terms bs i))
       (λ i l. neither (N (length rargs + i)) (any_below (length rargs) N && names_terms bs i) (h (length rargs + i) (omega arith)) (neither_and (any_below (length rargs) N) (names_terms bs i) (names_past_terms n bs i c l)))
 
-  longer_boxes : (m : ℕ) {n : ℕ} {e' e : Env} → Longer n e' e → Longer (m + n) (bind_all (box_values m) e') (bind_all (box_values m) e)
+  longer_boxes : (m : ℕ) {n : ℕ} {e' e : ClosureEnv} → Longer n e' e → Longer (m + n) (bind_all (box_values m) e') (bind_all (box_values m) e)
   longer_boxes zero {n} {e'} {e} w = let q : n ≡ 0 + n = omega arith in subst (λ k. Longer k e' e) q w
   longer_boxes (suc m) {n} {e'} {e} w = let q : suc (m + n) ≡ suc m + n = omega arith in subst (λ k. Longer k (bind_all (box_values (suc m)) e') (bind_all (box_values (suc m)) e)) q (longer_bind (longer_boxes m w))
 
   mutual
-    longer_narrow : (n : ℕ) {e' e : Env} → Longer n e' e → (t : BoxTerm) → Closed n t → HasBoxForm Fs t → Narrow C e t → Narrow C e' t
+    longer_narrow : (n : ℕ) {e' e : ClosureEnv} → Longer n e' e → (t : BoxTerm) → Closed n t → HasBoxForm Fs t → Narrow C e t → Narrow C e' t
     longer_narrow n w (Rel i) c form h = tt
     longer_narrow n w Box c form h = tt
     longer_narrow n w (BLambda b) c form h = (
@@ -236,11 +236,11 @@ module _ (Fs : List BoxFamily) (C : ℕ) where
       longer_defs (length rargs) rargs n (longer_fix w c.0) bodies c.0 form.0.1 form.1.0 h.1,
     )
 
-    longer_branches : (n : ℕ) {e' e : Env} → Longer n e' e → (ts : BoxTerms) → ClosedTerms n ts → HasBoxFormTerms Fs ts → NarrowBranches C e ts → NarrowBranches C e' ts
+    longer_branches : (n : ℕ) {e' e : ClosureEnv} → Longer n e' e → (ts : BoxTerms) → ClosedTerms n ts → HasBoxFormTerms Fs ts → NarrowBranches C e ts → NarrowBranches C e' ts
     longer_branches n w Done c form h = tt
     longer_branches n w (Next m t ts) c form h = (longer_narrow (m + n) (longer_boxes m w) t c.0 form.0 h.0, longer_branches n w ts c.1 form.1 h.1)
 
-    longer_defs : (m : ℕ) (rs : List ℕ) (n : ℕ) {e' e : Env} → Longer (m + n) e' e → (ts : BoxTerms) → ClosedTerms n ts → AreFixBodies m rs ts → HasBoxFormTerms Fs ts → NarrowDefs C e ts → NarrowDefs C e' ts
+    longer_defs : (m : ℕ) (rs : List ℕ) (n : ℕ) {e' e : ClosureEnv} → Longer (m + n) e' e → (ts : BoxTerms) → ClosedTerms n ts → AreFixBodies m rs ts → HasBoxFormTerms Fs ts → NarrowDefs C e ts → NarrowDefs C e' ts
     longer_defs m [] n w Done c are form h = tt
     longer_defs m [] n w (Next k t ts) c are form h = absurd are
     longer_defs m (r ∷ rs) n w Done c are form h = absurd are
@@ -255,7 +255,7 @@ module _ (Fs : List BoxFamily) (C : ℕ) where
 
   module _ (k : ℕ) (b : BoxTerm) (closed : Closed 0 b) (none : uses k b ≡ 0) (formed : HasBoxForm Fs b) (narrow : Narrow C Empty b) where
     mutual
-      put_narrow : {r : ℕ → ℕ} → Same r → {e' e : Env} → Fewer r e' e → (t : BoxTerm) → HasBoxForm Fs t → Narrow C e t → Narrow C e' (put_in k b t)
+      put_narrow : {r : ℕ → ℕ} → Same r → {e' e : ClosureEnv} → Fewer r e' e → (t : BoxTerm) → HasBoxForm Fs t → Narrow C e t → Narrow C e' (put_in k b t)
       put_narrow f w (Rel i) form h = tt
       put_narrow f w Box form h = tt
       put_narrow {r} f w (BLambda t) form h = (
@@ -277,11 +277,11 @@ module _ (Fs : List BoxFamily) (C : ℕ) where
             put_defs (length rargs) rargs (same_ups (length rargs) f) (fewer_fix w same) bodies form.0.1 form.1.0 h.1,
           )
 
-      put_branches : {r : ℕ → ℕ} → Same r → {e' e : Env} → Fewer r e' e → (ts : BoxTerms) → HasBoxFormTerms Fs ts → NarrowBranches C e ts → NarrowBranches C e' (put_in_terms k b ts)
+      put_branches : {r : ℕ → ℕ} → Same r → {e' e : ClosureEnv} → Fewer r e' e → (ts : BoxTerms) → HasBoxFormTerms Fs ts → NarrowBranches C e ts → NarrowBranches C e' (put_in_terms k b ts)
       put_branches f w Done form h = tt
       put_branches f w (Next n t ts) form h = (put_narrow (same_ups n f) (fewer_boxes n w) t form.0 h.0, put_branches f w ts form.1 h.1)
 
-      put_defs : (n : ℕ) (rs : List ℕ) {r : ℕ → ℕ} → Same r → {e' e : Env} → Fewer r e' e → (ts : BoxTerms) → AreFixBodies n rs ts → HasBoxFormTerms Fs ts → NarrowDefs C e ts → NarrowDefs C e' (put_in_terms k b ts)
+      put_defs : (n : ℕ) (rs : List ℕ) {r : ℕ → ℕ} → Same r → {e' e : ClosureEnv} → Fewer r e' e → (ts : BoxTerms) → AreFixBodies n rs ts → HasBoxFormTerms Fs ts → NarrowDefs C e ts → NarrowDefs C e' (put_in_terms k b ts)
       put_defs n [] f w Done are form h = tt
       put_defs n [] f w (Next m t ts) are form h = absurd are
       put_defs n (r ∷ rs) f w Done are form h = absurd are

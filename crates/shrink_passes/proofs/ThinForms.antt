@@ -7,7 +7,7 @@ use Rattle.trees.specs.Closed.{Closed}
 use Rattle.trees.proofs.Bounds.{closed_at, put_fits, substitute-closed}
 use Rattle.trees.proofs.Every.{every_substitute}
 use Rattle.pc_terms.specs.BoxSyntax.{BoxTerm, BoxTerms, Box, BLambda, BLetIn, BApp, BConst, BConstruct, BCase, BFix}
-use Rattle.lambda_box.specs.BoxProgram.{BoxConstant, BoxFamily, NamesKept, Named}
+use Rattle.lambda_box.specs.BoxProgram.{BoxConstant, BoxFamily, NamesKept, NamesOnly}
 use Rattle.lambda_box.specs.BoxForm.{HasBoxForm, IsBoxBody}
 use Rattle.lambda_box.specs.SaturatedForm.{IsSaturatedAt, AreSaturated}
 use Rattle.lambda_box.specs.OrdinaryForm.{IsOrdinary, AreOrdinary}
@@ -131,11 +131,11 @@ without_form Fs zero (BLambda b) h = form_substituted Fs b (put Box) (box_form F
 without_form Fs (suc p) (BLambda b) h = (tt, (without_form Fs p b h.1.0, tt))
 without_form Fs p t h = h
 
-box_named : (cs : List BoxConstant) (i : ℕ) → Named cs (put Box i)
+box_named : (cs : List BoxConstant) (i : ℕ) → NamesOnly cs (put Box i)
 box_named cs zero = (tt, tt)
 box_named cs (suc i) = tt
 
-without_named : (cs : List BoxConstant) (p : ℕ) (t : BoxTerm) → Named cs t → Named cs (without_lambda p t)
+without_named : (cs : List BoxConstant) (p : ℕ) (t : BoxTerm) → NamesOnly cs t → NamesOnly cs (without_lambda p t)
 without_named cs zero (BLambda b) h = every_substitute (NamesKept cs) b (put Box) h.1.0 (box_named cs)
 without_named cs (suc p) (BLambda b) h = (tt, (without_named cs p b h.1.0, tt))
 without_named cs p t h = h

@@ -4,7 +4,7 @@ use Rattle.pc_terms.specs.BoxSyntax.{BoxTerm}
 use Rattle.lambda_box.specs.BoxProgram.{BoxProgram, box_apply}
 use Rattle.lambda_box.specs.BoxForm.{IsBoxProgram}
 use Rattle.lambda_box.specs.BoxData.{Data}
-use Rattle.lambda_box.specs.ClosureEvaluation.{Value, Values, Env, Empty, bind_all, Counts, Run, ValueReads}
+use Rattle.lambda_box.specs.ClosureEvaluation.{ClosureValue, ClosureValues, ClosureEnv, Empty, bind_all, Counts, ClosureRun, ValueReads}
 use Rattle.lambda_box.specs.DataTerms.{ValuesHold}
 use Rattle.lambda_box.specs.OrdinaryForm.{IsOrdinaryProgram}
 use Rattle.lambda_box.specs.SaturatedForm.{IsSaturated, program_nodes}
@@ -21,17 +21,17 @@ pub record AreNoMore (c d : Counts) : Type 0 where
   pub greatest : c.greatest ≤ d.greatest
 
 -- an evaluation with environments that gives this data, with no more than these counts
-pub record RunsWithin (P : BoxProgram) (e : Env) (t : BoxTerm) (d : Data) (c : Counts) : Type 0 where
-  pub v : Value
+pub record RunsWithin (P : BoxProgram) (e : ClosureEnv) (t : BoxTerm) (d : Data) (c : Counts) : Type 0 where
+  pub v : ClosureValue
   pub counts : Counts
-  pub run : Run P e t v counts
+  pub run : ClosureRun P e t v counts
   pub reads : ValueReads v d
   pub no_more : AreNoMore counts c
 
 -- where main, applied to values for data, gives data, the other main, applied to the same values, gives the same data, with no more counts
 abbrev pub KeepsRuns : BoxProgram → BoxProgram → Type 0
 KeepsRuns P Q =
-    (vs : Values) (args : List Data) → ValuesHold vs args → (v : Value) (d : Data) (c : Counts) → Run P (bind_all vs Empty) (box_apply P.main (innermost (length args))) v c → ValueReads v d →
+    (vs : ClosureValues) (args : List Data) → ValuesHold vs args → (v : ClosureValue) (d : Data) (c : Counts) → ClosureRun P (bind_all vs Empty) (box_apply P.main (innermost (length args))) v c → ValueReads v d →
     RunsWithin Q (bind_all vs Empty) (box_apply Q.main (innermost (length args))) d c
 
 -- the program that putting constants with one use in its place gives: it is determined, has the form of programs, stays saturated and ordinary, gives the same data, and is neither larger nor deeper

@@ -6,7 +6,7 @@ use Rattle.lambda_box.specs.BoxProgram.{BoxProgram}
 use Rattle.lambda_box.specs.BoxForm.{IsBoxProgram}
 use Rattle.lambda_box.specs.BoxEvaluation.{BoxEvaluates}
 use Rattle.lambda_box.specs.BoxData.{Data, BoxReads}
-use Rattle.lambda_box.specs.ClosureEvaluation.{Value, Counts, Empty, Run, ValueReads}
+use Rattle.lambda_box.specs.ClosureEvaluation.{ClosureValue, Counts, Empty, ClosureRun, ValueReads}
 use Rattle.lambda_box.specs.DataTerms.{greatest_words}
 use Rattle.lambda_box.specs.OrdinaryForm.{IsOrdinaryProgram}
 use Rattle.lambda_box.specs.SaturatedForm.{IsSaturated, program_nodes, greatest_counts}
@@ -33,9 +33,9 @@ pub record ShrunkForm (P : BoxProgram) : Type 0 where
 -- the evaluation of its main, where main evaluates by substitution to data with n nodes; the saturated main's evaluation by substitution has as many matches
 pub record ShrunkRun (P : BoxProgram) (d : Data) (n : ℕ) : Type 0 where
   pub substituted : GivesData (saturated_program P) (saturated_program P).main d
-  pub v : Value
+  pub v : ClosureValue
   pub counts : Counts
-  pub run : Run (shrunk_program P) Empty (shrunk_program P).main v counts
+  pub run : ClosureRun (shrunk_program P) Empty (shrunk_program P).main v counts
   pub reads : ValueReads v d
   pub contractions : counts.contractions ≤ n
   pub blocks : counts.blocks ≤ 2 * n

@@ -7,7 +7,7 @@ use Rattle.pc_terms.specs.declared.leaf.Name.{Name}
 use Rattle.pc_terms.specs.BoxSyntax.{BoxTerm, BoxTerms, Box, BLambda, BLetIn, BApp, BConst, BConstruct, BCase, BFix}
 use Rattle.lambda_box.specs.BoxProgram.{BoxConstant}
 use Rattle.lambda_box.specs.SaturatedForm.{nodes_of_constants}
-use Rattle.anf_convert.specs.Anf.{LamOp, AnfBlock, AnfBranches, AnfDefs, LamDef, Binding, AtomIs, OpIs, tail_of, block_of, def_count}
+use Rattle.anf_convert.specs.Anf.{LamOp, AnfBlock, AnfBranches, AnfDefs, LamDef, AnfBinding, AtomIs, OpIs, tail_of, block_of, def_count}
 use Rattle.anf_convert.specs.Captured.{Outside}
 use Rattle.anf_convert.specs.ToAnf.{Res, RAtom, RCon, ROp, Norm, binding_of, sealed, with_variable, named, levels, name_at, then_arg, just, norm, norm_branches, norm_defs, code_of, number_in, to_anf}
 use Rattle.closure_lift.specs.Lift.{op_functions, block_functions, branches_functions, defs_functions, functions_block, functions_constants, constants_functions}
@@ -19,7 +19,7 @@ some_node : (t : BoxTerm) → 1 ≤ nodes t
 some_node (Rel i) = omega arith
 some_node (Node l ts) = omega arith
 
-abbrev ops_functions : List Binding → ℕ
+abbrev ops_functions : List AnfBinding → ℕ
 ops_functions [] = 0
 ops_functions (p ∷ ps) = bound_functions p + ops_functions ps
 
@@ -31,15 +31,15 @@ res_functions (ROp op) = op_functions op
 abbrev norm_functions : Norm → ℕ
 norm_functions n = ops_functions n.ops + res_functions n.res
 
-ops_join : (ps qs : List Binding) → ops_functions (ps ++ qs) ≡ ops_functions ps + ops_functions qs
+ops_join : (ps qs : List AnfBinding) → ops_functions (ps ++ qs) ≡ ops_functions ps + ops_functions qs
 ops_join [] qs = omega arith
 ops_join (p ∷ ps) qs = omega (arith, ops_join ps qs)
 
-tail_functions : (p : Binding) → block_functions (tail_of p) ≡ bound_functions p
+tail_functions : (p : AnfBinding) → block_functions (tail_of p) ≡ bound_functions p
 tail_functions (AtomIs a) = omega arith
 tail_functions (OpIs op) = omega arith
 
-bind_functions : (ps : List Binding) (t : AnfBlock) → block_functions (block_of ps t) ≡ ops_functions ps + block_functions t
+bind_functions : (ps : List AnfBinding) (t : AnfBlock) → block_functions (block_of ps t) ≡ ops_functions ps + block_functions t
 bind_functions [] t = omega arith
 bind_functions (AtomIs a ∷ ps) t = omega (arith, bind_functions ps t)
 bind_functions (OpIs op ∷ ps) t = omega (arith, bind_functions ps t)
@@ -56,10 +56,10 @@ sealed_functions d n =
     let p = binding_of e n.res in
     omega (arith, bind_functions n.ops (tail_of p), tail_functions p, binding_functions e n.res)
 
-with_functions : (d : ℕ) (ops : List Binding) (res : Res) → ops_functions (with_variable d ops res).ops ≡ ops_functions ops + res_functions res
+with_functions : (d : ℕ) (ops : List AnfBinding) (res : Res) → ops_functions (with_variable d ops res).ops ≡ ops_functions ops + res_functions res
 with_functions d ops res = omega (arith, ops_join ops (binding_of (d + length ops) res ∷ []), binding_functions (d + length ops) res)
 
-named_functions : (d : ℕ) (ops : List Binding) (res : Res) → ops_functions (named d ops res).ops ≡ ops_functions ops + res_functions res
+named_functions : (d : ℕ) (ops : List AnfBinding) (res : Res) → ops_functions (named d ops res).ops ≡ ops_functions ops + res_functions res
 named_functions d ops (RAtom a) = omega arith
 named_functions d ops (RCon c []) = omega arith
 named_functions d ops (RCon c (x ∷ xs)) = with_functions d ops (RCon c (x ∷ xs))
@@ -82,7 +82,7 @@ lambda_fewer {n} d h lt = record { is = omega (arith, sealed_functions d n, h.is
 def_fewer : {n : Norm} {ds : AnfDefs} {i j k : ℕ} (d : ℕ) → Fewer n i → DefsFewer ds j → i + j ≤ k → DefsFewer (LamDef (sealed d n) ds) k
 def_fewer {n} d h g le = record { is = omega (arith, sealed_functions d n, h.is, g.is, le) }
 
-arg_fewer : {j k : ℕ} (d : ℕ) (ops : List Binding) (res : Res) (arg : ℕ → Norm) → ((e : ℕ) → Fewer (arg e) j) → ops_functions ops + res_functions res + j ≤ k → Fewer (then_arg d ops res arg) k
+arg_fewer : {j k : ℕ} (d : ℕ) (ops : List AnfBinding) (res : Res) (arg : ℕ → Norm) → ((e : ℕ) → Fewer (arg e) j) → ops_functions ops + res_functions res + j ≤ k → Fewer (then_arg d ops res arg) k
 arg_fewer d ops (RAtom f) arg h le =
     let e = d + length ops in
     record { is = omega (arith, ops_join ops (name_at arg e).ops, named_functions e (arg e).ops (arg e).res, (h e).is, le) }

@@ -6,7 +6,7 @@ use Rattle.pc_terms.specs.declared.leaf.Name.{Name}
 use Rattle.pc_terms.specs.BoxSyntax.{BoxTerm, BoxTerms, Box, BLambda, BLetIn, BApp, BConst, BConstruct, BCase, BFix}
 use Rattle.lambda_box.specs.BoxProgram.{BoxConstant, BoxFamily, BoxProgram, Has, here, there}
 use Rattle.lambda_box.specs.BoxForm.{IsFixBody, boxed, last, more, AreFixBodies, HasBoxForm, HasBoxFormTerms, IsBoxProgram}
-use Rattle.lambda_box.specs.ClosureEvaluation.{VBox, Env, Empty, Bind, BindFix, box_values, bind_all, one_if, any_below, words, names, names_terms}
+use Rattle.lambda_box.specs.ClosureEvaluation.{VBox, ClosureEnv, Empty, Bind, BindFix, box_values, bind_all, one_if, any_below, words, names, names_terms}
 use Rattle.lambda_box.specs.DataTerms.{greatest_arguments}
 use Rattle.lambda_box.proofs.Naming.{ordered_body}
 use Rattle.box_passes.specs.PropMatch.{prop_match_program}
@@ -30,7 +30,7 @@ use Rattle.compile.proofs.Within.{main_shallow, constant_shallow}
 use Rattle.source_limits.specs.LambdaBinders.{lambda_binders, lambda_binders_terms, constants_binders}
 use Rattle.source_limits.specs.Laws.{SaturatedCapturesAreFew, WordsBoundCaptures}
 
-plain_boxes : (n : ℕ) (e : Env) → plain (bind_all (box_values n) e) ≡ n + plain e
+plain_boxes : (n : ℕ) (e : ClosureEnv) → plain (bind_all (box_values n) e) ≡ n + plain e
 plain_boxes zero e = omega arith
 plain_boxes (suc n) e = omega (arith, plain_boxes n e)
 
@@ -40,7 +40,7 @@ any_none : (n : ℕ) (N : ℕ → Bool) → ((i : ℕ) → N i ≡ false) → an
 any_none zero N h = refl
 any_none (suc n) N h = ap (λ b. b || any_below n N) (h n) ∙ any_none n N h
 
-words_none : (e : Env) (N : ℕ → Bool) → ((i : ℕ) → N i ≡ false) → words e N ≡ 0
+words_none : (e : ClosureEnv) (N : ℕ → Bool) → ((i : ℕ) → N i ≡ false) → words e N ≡ 0
 words_none Empty N h = refl
 words_none (Bind v e) N h = omega (arith, words_none e (λ i. N (suc i)) (λ i. h (suc i)), ap one_if (h zero))
 words_none (BindFix rargs bodies e) N h =
@@ -64,7 +64,7 @@ some_lambda d n (r ∷ rs) (Next m b bs) h = first_lambda d m bs h.1 (some_lambd
 
 module _ (Fs : List BoxFamily) (C : ℕ) where
   -- a fixpoint's words
-  fix_words_few : (e : Env) (d n : ℕ) (rs : List ℕ) (bs : BoxTerms) → plain e ≤ d → AreFixBodies n rs bs → lambda_binders_terms d bs ≤ C → words e (λ i. names_terms bs i) ≤ C
+  fix_words_few : (e : ClosureEnv) (d n : ℕ) (rs : List ℕ) (bs : BoxTerms) → plain e ≤ d → AreFixBodies n rs bs → lambda_binders_terms d bs ≤ C → words e (λ i. names_terms bs i) ≤ C
   fix_words_few e d n rs bs p form le =
       elim (some_lambda d n rs bs form) [
         | inl none ↦ omega (arith, words_none e (λ i. names_terms bs i) none)
@@ -72,7 +72,7 @@ module _ (Fs : List BoxFamily) (C : ℕ) where
       ]
 
   mutual
-    narrow : (e : Env) (d : ℕ) (t : BoxTerm) → plain e ≤ d → HasBoxForm Fs t → lambda_binders d t ≤ C → Narrow C e t
+    narrow : (e : ClosureEnv) (d : ℕ) (t : BoxTerm) → plain e ≤ d → HasBoxForm Fs t → lambda_binders d t ≤ C → Narrow C e t
     narrow e d (Rel i) p form le = tt
     narrow e d Box p form le = tt
     narrow e d (BLambda b) p form le = (omega (arith, words_plain e (λ i. names b (suc i)), p, le), narrow (Bind VBox e) (suc d) b (omega (arith, p)) form.1.0 (omega (arith, le)))
@@ -84,11 +84,11 @@ module _ (Fs : List BoxFamily) (C : ℕ) where
     narrow e d (BFix i rargs bodies) p form le =
         (fix_words_few e d (length rargs) rargs bodies p form.0.1 le, defs_narrow (BindFix rargs bodies e) d bodies p form.1.0 le)
 
-    branches_narrow : (e : Env) (d : ℕ) (bs : BoxTerms) → plain e ≤ d → HasBoxFormTerms Fs bs → lambda_binders_terms d bs ≤ C → NarrowBranches C e bs
+    branches_narrow : (e : ClosureEnv) (d : ℕ) (bs : BoxTerms) → plain e ≤ d → HasBoxFormTerms Fs bs → lambda_binders_terms d bs ≤ C → NarrowBranches C e bs
     branches_narrow e d Done p form le = tt
     branches_narrow e d (Next n b rest) p form le = (narrow (bind_all (box_values n) e) (n + d) b (omega (arith, plain_boxes n e, p)) form.0 (omega (arith, le)), branches_narrow e d rest p form.1 (omega (arith, le)))
 
-    defs_narrow : (e : Env) (d : ℕ) (bs : BoxTerms) → plain e ≤ d → HasBoxFormTerms Fs bs → lambda_binders_terms d bs ≤ C → NarrowDefs C e bs
+    defs_narrow : (e : ClosureEnv) (d : ℕ) (bs : BoxTerms) → plain e ≤ d → HasBoxFormTerms Fs bs → lambda_binders_terms d bs ≤ C → NarrowDefs C e bs
     defs_narrow e d Done p form le = tt
     defs_narrow e d (Next m (BLambda b) rest) p form le =
         (narrow (Bind VBox e) (suc (m + d)) b (omega (arith, p)) form.0.1.0 (omega (arith, le)), defs_narrow e d rest p form.1 (omega (arith, le)))

@@ -16,12 +16,12 @@ use Rattle.wasm_emit.specs.EmittedModule.{module_of}
 use Rattle.wasm_emit.specs.EmittedBodies.{FewLocals}
 use Rattle.wasm_emit.specs.EmitLaws.{CountsFit}
 use Rattle.wasm_emit.proofs.Emitting.{lifted_can_be_emitted, counts_fit}
-use Rattle.back_end.specs.BackEnd.{passed, IsWithin}
+use Rattle.back_end.specs.BackEnd.{passed, IsWithinPasses}
 use Rattle.back_end.proofs.Sizes.{locals_are_few, modules_are_small}
 use Rattle.back_end.proofs.Whole.{product_le}
 use Rattle.compile.specs.declared.fault.CompileFault.{CompileFault}
 use Rattle.compile.specs.declared.fault.CompileFault.TheVariants as refusals
-use Rattle.compile.specs.Passes.{IsShallow, CapturesFew, function_count, Fits, IsRefused}
+use Rattle.compile.specs.Passes.{IsShallow, CapturesFew, function_count, Fits, CompileIsRefused}
 use Rattle.compile.proofs.Within.{main_shallow, constant_shallow, lifted_formed, normal_formed, program_limits}
 use Rattle.source_limits.specs.PassedSizes.{saturated_nodes, saturated_binders, most_binders, most_locals, bytes_bound, IsSmallProgram, HasSmallModule, ShowsSize}
 use Rattle.source_limits.specs.Laws.{RefusalsShowSizes, LargeModulesShowSizes, SmallProgramsFit}
@@ -36,7 +36,7 @@ module _ (P : BoxProgram) (form : IsBoxProgram P) where
   few_constructors F has = (form.counts F has).constructors
 
   -- what the laws of the back end ask for
-  within : IsShallow P → CapturesFew P → function_count P ≤ most_functions → IsWithin P 1024
+  within : IsShallow P → CapturesFew P → function_count P ≤ most_functions → IsWithinPasses P 1024
   within shallow captures few = record {
     form = form;
     constructors = few_constructors;
@@ -85,7 +85,7 @@ module _ (P : BoxProgram) (form : IsBoxProgram P) where
   locals_show : IsShallow P → CapturesFew P → function_count P ≤ most_functions → (FewLocals (passed P) → ⊥) → most_locals < saturated_nodes P
   locals_show shallow captures few h = more_than most_locals (saturated_nodes P) (λ le. h (locals_are_few P 1024 (within shallow captures few) le))
 
-  refused_shows : (a : CompileFault) → IsRefused P a → ShowsSize P a
+  refused_shows : (a : CompileFault) → CompileIsRefused P a → ShowsSize P a
   refused_shows refusals.Depth h = h
   refused_shows refusals.Captured h = captured_shows h.0 h.1
   refused_shows refusals.Functions h = functions_show h.2

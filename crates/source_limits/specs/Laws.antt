@@ -15,7 +15,7 @@ use Rattle.closure_lift.specs.Lift.{lift}
 use Rattle.wasm_core.specs.ShortestBytes.{module_bytes}
 use Rattle.wasm_emit.specs.EmittedModule.{module_of}
 use Rattle.back_end.specs.BackEnd.{passed}
-use Rattle.compile.specs.Passes.{IsShallow, Fits, IsRefused}
+use Rattle.compile.specs.Passes.{IsShallow, Fits, CompileIsRefused}
 use Rattle.compile.specs.declared.fault.CompileFault.{CompileFault}
 use Rattle.headline.specs.AcceptedProgram.{IsAcceptedAs, IsErasedTo}
 use Rattle.headline.specs.SourceWords.{source_words}
@@ -41,7 +41,7 @@ FunctionsAreFewer = (P : BoxProgram) → length (to_anf P).constants + length (l
 
 -- a program that a pass refuses is large
 abbrev pub RefusalsShowSizes : Type 0
-RefusalsShowSizes = (P : BoxProgram) (a : CompileFault) → IsBoxProgram P → IsRefused P a → ShowsSize P a
+RefusalsShowSizes = (P : BoxProgram) (a : CompileFault) → IsBoxProgram P → CompileIsRefused P a → ShowsSize P a
 
 -- so is one whose module has too many bytes
 abbrev pub LargeModulesShowSizes : Type 0
@@ -58,7 +58,7 @@ SourcesBoundSizes = (e : RawEnv) (E : Env) (T : Term) (P : BoxProgram) → IsAcc
 
 -- where a pass refuses it, the source is large
 abbrev pub RefusalsShowSourceSizes : Type 0
-RefusalsShowSourceSizes = (e : RawEnv) (E : Env) (T : Term) (P : BoxProgram) (a : CompileFault) → IsAcceptedAs e E T → IsErasedTo E e.main P → IsRefused P a → ShowsSourceSize E e.main a
+RefusalsShowSourceSizes = (e : RawEnv) (E : Env) (T : Term) (P : BoxProgram) (a : CompileFault) → IsAcceptedAs e E T → IsErasedTo E e.main P → CompileIsRefused P a → ShowsSourceSize E e.main a
 
 -- no pass refuses the program of an accepted environment that is small by the words of its source
 abbrev pub SmallSourcesFit : Type 0

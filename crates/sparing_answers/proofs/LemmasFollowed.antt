@@ -17,7 +17,7 @@ use Rattle.calculus_rules.specs.Typing.{bare, Types, TypesAll}
 use Rattle.calculus_rules.specs.Accepted.{IsAccepted}
 use Rattle.calculus_rules.proofs.Listing.{same_list}
 use Rattle.calculus_rules.proofs.OneEach.{one_declaration}
-use Rattle.lambda_box.specs.BoxProgram.{BoxProgram, Named}
+use Rattle.lambda_box.specs.BoxProgram.{BoxProgram, NamesOnly}
 use Rattle.lambda_box.specs.BoxEvaluation as after
 use Rattle.lambda_box.specs.BoxEvaluation.{IsBoxValue, BoxEvaluates, box_app, BoxTakesMore, BoxUnfolds}
 use Rattle.lambda_box.proofs.Naming.{named_put, named_unfolds}
@@ -49,7 +49,7 @@ no_body : {E : Env} → IsAccepted E → {k : Name} {T U b : Term} → KeepsCons
 unfolding body_in
 no_body h {b = b} p q = let e : None ≡ Some b = ap body_in (one_declaration h.declarations p q refl) in cc
 
-lemma_boxed : {E : Env} {P : BoxProgram} → Together E P → {v : Term} {w : BoxTerm} → IsLemma E v → Erases E [] v w → Named P.constants w → w ≡ Box
+lemma_boxed : {E : Env} {P : BoxProgram} → Together E P → {v : Term} {w : BoxTerm} → IsLemma E v → Erases E [] v w → NamesOnly P.constants w → w ≡ Box
 lemma_boxed K l (box p) g = refl
 lemma_boxed K l rel g = elim l [ ]
 lemma_boxed K l (lambda p) g = elim l [ ]
@@ -64,7 +64,7 @@ lemma_boxed K (without_body {k = k} kept e) const g =
 lemma_boxed {E} K (among_proofs {f = f} {F = F} kept n e) (case {F = G} ps kept' may l q bodies) g = absurd (n (subst (λ F. MayErase E f F) (K.ready.one_each.families f G F kept' kept) may))
 
 -- and so does one with its arguments, where box is never applied in what it erases to
-applied_boxed : {E : Env} {P : BoxProgram} → Together E P → {v : Term} {w : BoxTerm} → IsAppliedLemma E v → Erases E [] v w → Settled w → Named P.constants w → w ≡ Box
+applied_boxed : {E : Env} {P : BoxProgram} → Together E P → {v : Term} {w : BoxTerm} → IsAppliedLemma E v → Erases E [] v w → Settled w → NamesOnly P.constants w → w ≡ Box
 applied_boxed K (alone l) p s g = lemma_boxed K l p g
 applied_boxed K (applied a) (box p) s g = refl
 applied_boxed K (applied a) (app p q) s g = absurd (s.0 (applied_boxed K a p s.1 g.1.0))
@@ -74,7 +74,7 @@ applied_boxed K (applied a) (app p q) s g = absurd (s.0 (applied_boxed K a p s.1
 boxed : {E : Env} {P : BoxProgram} {v : Term} {n : ℕ} → 1 ≤ n → Erasable E [] v → Follows E P v Box n
 boxed le p = record { nodes = 1; matches = 0; result = Box; fewer = le; runs = after.value after.box_is; erased = box p; named = (tt, tt) }
 
-itself : {E : Env} {P : BoxProgram} {v : Term} {w : BoxTerm} → IsBoxValue w → Erases E [] v w → Named P.constants w → Follows E P v w 1
+itself : {E : Env} {P : BoxProgram} {v : Term} {w : BoxTerm} → IsBoxValue w → Erases E [] v w → NamesOnly P.constants w → Follows E P v w 1
 itself {w = w} i p g = record { nodes = 1; matches = 0; result = w; fewer = omega arith; runs = after.value i; erased = p; named = g }
 
 boxed_function : {E : Env} {P : BoxProgram} {f' a' : BoxTerm} {g u v : Term} {n m j : ℕ} (r : Follows E P g f' n) (s : Follows E P u a' m) → suc (n + m) ≤ j → r.result ≡ Box →
@@ -101,7 +101,7 @@ arguments_fit E h f ps bs n c ret v T qs xs i d F C rs k at e =
 
 -- what a contractum is followed by
 abbrev Continues : Env → BoxProgram → Term → Term → ℕ → Type 0
-Continues E P u v k = (x : BoxTerm) → Erases E [] u x → Named P.constants x → Follows E P v x k
+Continues E P u v k = (x : BoxTerm) → Erases E [] u x → NamesOnly P.constants x → Follows E P v x k
 
 -- an application that goes on with a contractum
 goes_on : {E : Env} {P : BoxProgram} {f' a' x : BoxTerm} {g u v : Term} {n m k : ℕ} (r : Follows E P g f' n) (s : Follows E P u a' m) (last : Follows E P v x k) →
@@ -121,7 +121,7 @@ goes_on r s last runs =
     }
 
 beta_followed : {E : Env} {P : BoxProgram} → Together E P → {A b u v : Term} {f' a' : BoxTerm} {n m k : ℕ} (r : Follows E P (Lambda A b) f' n) → Follows E P u a' m → (x : BoxTerm) → r.result ≡ x →
-    Erases E [] (Lambda A b) x → Named P.constants x → Types bare E [] u A → (Erasable E [] (Lambda A b) → Erasable E [] v) → Continues E P (substitute (put u) b) v k →
+    Erases E [] (Lambda A b) x → NamesOnly P.constants x → Types bare E [] u A → (Erasable E [] (Lambda A b) → Erasable E [] v) → Continues E P (substitute (put u) b) v k →
     Follows E P v (BApp f' a') (suc (n + m + k))
 beta_followed K r s x e (box p) names typed passes next = boxed_function r s (omega arith) e passes
 beta_followed {P = P} K {f' = f'} r s x e (lambda {b' = b'} p) names typed passes next =
@@ -153,7 +153,7 @@ unfold_followed {P = P} r s (inr (x', turns, p)) passes next =
     goes_on r s last (after.unfold_fix r.runs s.runs turns last.runs)
 
 pub lemmas_followed : {E : Env} {P : BoxProgram} → Together E P → {t v : Term} {n : ℕ} → EvaluatesOverLemmas E t v n → {T : Term} → Types bare E [] t T → (t' : BoxTerm) → Erases E [] t t' →
-    Named P.constants t' → Follows E P v t' n
+    NamesOnly P.constants t' → Follows E P v t' n
 lemmas_followed {E} K {t} {v} e {T} d t' (box p) g = boxed (some_nodes e) (erasable_kept E K.accepted t v T d (λ U q. (lemmas_keep E K.accepted e U q).typed) p)
 -- values and lemmas
 lemmas_followed K (value lambda_is) d t' (lambda p) g = itself after.lambda_is (lambda p) g

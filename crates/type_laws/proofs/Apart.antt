@@ -3,7 +3,7 @@ use Rattle.std.proofs.Common.{◌≡◌, List, ◌∷◌, None, refl, sym, ap, s
 use Rattle.universe_levels.specs.declared.sort.Sort.{Sort}
 use Rattle.pc_terms.specs.declared.leaf.FamilyId.{FamilyId}
 use Rattle.pc_terms.specs.Syntax.{Term, SortT, Prod, Ind, apply, head, args, substitute}
-use Rattle.calculus_rules.specs.Environment.{Env, Entails}
+use Rattle.calculus_rules.specs.Environment.{Env, SortEntails}
 use Rattle.calculus_rules.specs.Context.{Values}
 use Rattle.calculus_rules.specs.Conversion.{Equal, Below}
 use Rattle.calculus_rules.specs.Accepted.{IsAccepted}
@@ -31,7 +31,7 @@ pub record ProductsBelow (E : Env) (V : Values) (A B A' B' : Term) : Type 0 wher
 pub products_below : (E : Env) → IsAccepted E → (V : Values) (A B A' B' : Term) → Below E V (Prod A B) (Prod A' B') → ProductsBelow E V A B A' B'
 products_below E h V A B A' B' b = let (e, p) = below_products (settled E h) V A A' B B' b in record { domains = e; codomains = p }
 
-pub sorts_below : (E : Env) → IsAccepted E → (V : Values) (s s' : Sort) → Below E V (SortT s) (SortT s') → Entails E s s'
+pub sorts_below : (E : Env) → IsAccepted E → (V : Values) (s s' : Sort) → Below E V (SortT s) (SortT s') → SortEntails E s s'
 sorts_below E h V s s' b = below_sorts (settled E h) V s s' b
 
 pub record FamiliesBelow (E : Env) (V : Values) (f g : FamilyId) (xs ys : List Term) : Type 0 where

@@ -6,7 +6,7 @@ use Rattle.universe_levels.specs.Sorts.{product_sort}
 use Rattle.pc_terms.specs.declared.leaf.FamilyId.{FamilyId}
 use Rattle.pc_terms.specs.Syntax.{Term, Terms, SortT, Prod, App, Ind, Construct, Case, put, substitute, apply, terms_of, head}
 use Rattle.calculus_rules.specs.declared.entry.Entry.TheVariants.{Assumed}
-use Rattle.calculus_rules.specs.Environment.{Env, Entails, FamilyDecl, KeepsFamily}
+use Rattle.calculus_rules.specs.Environment.{Env, SortEntails, FamilyDecl, KeepsFamily}
 use Rattle.calculus_rules.specs.Context.{Values, extend}
 use Rattle.calculus_rules.specs.Conversion.{Equal, Below, equal, back, chain, same}
 use Rattle.calculus_rules.specs.Instances.{products, entries_at, predicate_entries}
@@ -39,12 +39,12 @@ use Rattle.type_laws.proofs.Results.{family_rest}
 
 -- sorts and Prop
 
-not_in_prop : (E : Env) (s : Sort) → s ≢ Prop → Entails E s Prop → ⊥
+not_in_prop : (E : Env) (s : Sort) → s ≢ Prop → SortEntails E s Prop → ⊥
 not_in_prop E Prop n e = n refl
 not_in_prop E (Of u) n e = e
 
 -- a product in Prop has its codomain there
-codomain_in_prop : (E : Env) (s s' : Sort) → Entails E (product_sort s s') Prop → s' ≡ Prop
+codomain_in_prop : (E : Env) (s s' : Sort) → SortEntails E (product_sort s s') Prop → s' ≡ Prop
 codomain_in_prop E s Prop e = refl
 codomain_in_prop E Prop (Of w) e = absurd e
 codomain_in_prop E (Of u) (Of w) e = absurd e

@@ -12,7 +12,7 @@ use Rattle.calculus_rules.specs.declared.declaration.Constructor.{Constructor}
 use Rattle.calculus_rules.specs.declared.declaration.Block.{Block}
 use Rattle.calculus_rules.specs.declared.declaration.Kept.{Kept}
 use Rattle.calculus_rules.specs.declared.declaration.Kept.TheVariants.{Block as Whole}
-use Rattle.calculus_rules.specs.Environment.{FamilyDecl, Env, Has, there, Entails, IsDeclared, KeepsConstant, KeepsFamily, KnowsFamily}
+use Rattle.calculus_rules.specs.Environment.{FamilyDecl, Env, Has, there, SortEntails, IsDeclared, KeepsConstant, KeepsFamily, KnowsFamily}
 use Rattle.calculus_rules.specs.Context.{Context, Values}
 use Rattle.calculus_rules.specs.Elimination.{IsSingle, MayEliminate}
 use Rattle.calculus_rules.specs.Instances.{family_type}
@@ -33,7 +33,7 @@ pub record Extends (E F : Env) : Type 0 where
   pub blocks : (B : Block) → Has E.declarations (Whole B) → Has F.declarations (Whole B)
   pub known : (f : FamilyId) (D : FamilyDecl) → KnowsFamily E f D → KnowsType F f D
 
-extends_entails : {E F : Env} → Extends E F → (s s' : Sort) → Entails E s s' → Entails F s s'
+extends_entails : {E F : Env} → Extends E F → (s s' : Sort) → SortEntails E s s' → SortEntails F s s'
 extends_entails x Prop s' h = h
 extends_entails x (Of u) Prop h = h
 extends_entails {E} {F} x (Of u) (Of w) h =

@@ -4,7 +4,7 @@ use Rattle.universe_levels.specs.declared.constraint.Constraint.{Constraint}
 use Rattle.universe_levels.specs.declared.constraint.Relation.{Relation}
 use Rattle.universe_levels.specs.declared.constraint.Relation.TheVariants.{Lt, Le, Eq}
 use Rattle.universe_levels.specs.Consistency.{Solves}
-use Rattle.universe_graph.specs.Spans.{chained, span, IsSquare, IsWithin}
+use Rattle.universe_graph.specs.Spans.{chained, span, IsSquare, SpansAreWithin}
 
 -- each span is true of the valuation: where there is a chain from i to j, the value of j is at least that of i and the strict steps
 abbrev pub Follows : (ℕ → ℕ) → (ℕ → ℕ → ℕ) → Type 0
@@ -42,4 +42,4 @@ pub record Begins (levels : ℕ) (cs : List Constraint) (rows : List (List ℕ))
   pub square : IsSquare rows
   pub steps : HasSteps levels cs (span rows)
   pub sound : IsSound levels cs (span rows)
-  pub small : IsWithin 2 rows
+  pub small : SpansAreWithin 2 rows

@@ -20,8 +20,8 @@ span rows i j = slice_index_or (slice_index_or rows i []) j 0
 abbrev pub IsSquare : List (List ℕ) → Type 0
 IsSquare rows = All (λ row. length row ≡ length rows) rows
 
-abbrev pub IsWithin : ℕ → List (List ℕ) → Type 0
-IsWithin limit rows = (i j : ℕ) → span rows i j ≤ limit
+abbrev pub SpansAreWithin : ℕ → List (List ℕ) → Type 0
+SpansAreWithin limit rows = (i j : ℕ) → span rows i j ≤ limit
 
 -- t has the spans of s, and one from a level to another of at least that size
 pub record HasOffered (s t : ℕ → ℕ → ℕ) (from to size : ℕ) : Type 0 where

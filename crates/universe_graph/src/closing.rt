@@ -1,7 +1,7 @@
 //! Closing the table of spans: chains through one level after another, as Floyd and Warshall do.
 ghost use Rattle.std.specs.Prelude.{◌≡◌, ◌↔◌, ◌+◌, ◌<◌, ◌≤◌, ℕ, IfOk, [], length, slice_index_or};
 ghost use Rattle.std.specs.Bool.{OnTrue, OnFalse};
-ghost use Rattle.universe_graph.specs.Spans.{span, through, IsSquare, IsWithin};
+ghost use Rattle.universe_graph.specs.Spans.{span, through, IsSquare, SpansAreWithin};
 ghost use Rattle.universe_graph.specs.Closure.{Follows, IsClosedAt};
 
 use crate::row::Row;
@@ -14,7 +14,7 @@ pub(crate) fn close(alloc: Global, levels: u32, rows: &mut Vec<Row>) -> Result<b
     requires height { length rows.old.items ≡ levels + 1 }
     requires square { IsSquare rows.old.items }
     requires itself { (i : ℕ) → i ≤ levels → 1 ≤ span rows.old.items i i }
-    requires small { IsWithin 2 rows.old.items }
+    requires small { SpansAreWithin 2 rows.old.items }
     ensures height { length rows.new.items ≡ levels + 1 }
     ensures square { IsSquare rows.new.items }
     ensures more { (i j : ℕ) → span rows.old.items i j ≤ span rows.new.items i j }
@@ -43,11 +43,11 @@ fn go_through(rows: &mut Vec<Row>, level: usize, next: &Row, limit: u16) -> u16
     requires level_in { level < length rows.old.items }
     requires next { next.now ≡ slice_index_or rows.old.items level [] }
     requires limit { limit ≤ 2000 }
-    requires within { IsWithin limit rows.old.items }
+    requires within { SpansAreWithin limit rows.old.items }
     ensures height { length rows.new.items ≡ length rows.old.items }
     ensures square { IsSquare rows.new.items }
     ensures value { (i j : ℕ) → span rows.new.items i j ≡ through (span rows.old.items) level i j }
-    ensures within { (result ≤ limit) ↔ IsWithin limit rows.new.items }
+    ensures within { (result ≤ limit) ↔ SpansAreWithin limit rows.new.items }
 {
     let mut largest = 0;
     for i in 0..rows.len() {

@@ -2,7 +2,7 @@
 ghost use Rattle.std.specs.Prelude.{◌≡◌, ◌+◌, ◌<◌, ◌≤◌, ℕ, max, IfOk, length, replicate, All};
 ghost use Rattle.universe_levels.specs.Valuation.{IsValuation, Meets};
 ghost use Rattle.universe_levels.specs.Consistency.{AreOver};
-ghost use Rattle.universe_graph.specs.Spans.{span, IsSquare, IsWithin, HasOffered};
+ghost use Rattle.universe_graph.specs.Spans.{span, IsSquare, SpansAreWithin, HasOffered};
 ghost use Rattle.universe_graph.specs.Closure.{Follows, StepsIn, HasSteps, Begins};
 
 use crate::row::Row;
@@ -46,7 +46,7 @@ fn add_own_steps(rows: &mut Vec<Row>)
     ensures more { (i j : ℕ) → span rows.old.items i j ≤ span rows.new.items i j }
     ensures steps { (i : ℕ) → i < length rows.old.items → 1 ≤ span rows.new.items i i }
     ensures follows { (v : ℕ → ℕ) → Follows v (span rows.old.items) → Follows v (span rows.new.items) }
-    ensures small { IsWithin 2 rows.old.items → IsWithin 2 rows.new.items }
+    ensures small { SpansAreWithin 2 rows.old.items → SpansAreWithin 2 rows.new.items }
 {
     for i in 0..rows.len() {
         offer(rows, i, i, 1);
@@ -61,7 +61,7 @@ fn add_declared_steps(rows: &mut Vec<Row>)
     ensures more { (i j : ℕ) → span rows.old.items i j ≤ span rows.new.items i j }
     ensures steps { (l : ℕ) → 1 ≤ l → l < length rows.old.items → 2 ≤ span rows.new.items 0 l }
     ensures follows { (v : ℕ → ℕ) → ((l : ℕ) → 1 ≤ l → l < length rows.old.items → v 0 < v l) → Follows v (span rows.old.items) → Follows v (span rows.new.items) }
-    ensures small { IsWithin 2 rows.old.items → IsWithin 2 rows.new.items }
+    ensures small { SpansAreWithin 2 rows.old.items → SpansAreWithin 2 rows.new.items }
 {
     for level in 1..rows.len() {
         offer(rows, 0, level, 2);
@@ -77,7 +77,7 @@ fn add_constraints(rows: &mut Vec<Row>, constraints: &[Constraint])
     ensures more { (i j : ℕ) → span rows.old.items i j ≤ span rows.new.items i j }
     ensures steps { All (λ c. StepsIn (span rows.new.items) c.relation c.left.0 c.right.0) constraints.now }
     ensures follows { (v : ℕ → ℕ) → All (Meets v) constraints.now → Follows v (span rows.old.items) → Follows v (span rows.new.items) }
-    ensures small { IsWithin 2 rows.old.items → IsWithin 2 rows.new.items }
+    ensures small { SpansAreWithin 2 rows.old.items → SpansAreWithin 2 rows.new.items }
 {
     for constraint in constraints {
         add_constraint(rows, *constraint);
@@ -94,7 +94,7 @@ fn add_constraint(rows: &mut Vec<Row>, constraint: Constraint)
     ensures more { (i j : ℕ) → span rows.old.items i j ≤ span rows.new.items i j }
     ensures steps { StepsIn (span rows.new.items) constraint.relation constraint.left.0 constraint.right.0 }
     ensures follows { (v : ℕ → ℕ) → Meets v constraint → Follows v (span rows.old.items) → Follows v (span rows.new.items) }
-    ensures small { IsWithin 2 rows.old.items → IsWithin 2 rows.new.items }
+    ensures small { SpansAreWithin 2 rows.old.items → SpansAreWithin 2 rows.new.items }
 {
     let left = constraint.left.0 as usize;
     let right = constraint.right.0 as usize;

@@ -4,9 +4,9 @@ use Rattle.wasm_core.specs.Parts.{Parts}
 use Rattle.wasm_core.specs.declared.instrs.Instr.{Instr}
 use Rattle.wasm_core.specs.declared.instrs.Instr.TheVariants.{Unreachable, Nop, Block, Loop, If, Else, End}
 use Rattle.wasm_core.specs.MachineStep.{after_end, else_arm, bracket, Plain, past_end, to_else}
-use Rattle.wasm_core.specs.ModuleTyping.{Types, Operands, Effect, Typed, done, plain, drop, unreachable, block, loop, one_arm, two_arms, br, br_if, br_table, return, effect}
+use Rattle.wasm_core.specs.ModuleTyping.{OperandTypes, Operands, Effect, Typed, done, plain, drop, unreachable, block, loop, one_arm, two_arms, br, br_if, br_table, return, effect}
 
-effect_plain : (m : Parts) (ls : Types) (i : Instr) (e : Effect) → effect m ls i ≡ Some e → bracket i ≡ Plain
+effect_plain : (m : Parts) (ls : OperandTypes) (i : Instr) (e : Effect) → effect m ls i ≡ Some e → bracket i ≡ Plain
 effect_plain m ls Unreachable e h = refl
 effect_plain m ls Nop e h = refl
 effect_plain m ls (Block t) e h = cc
@@ -16,8 +16,8 @@ effect_plain m ls Else e h = cc
 effect_plain m ls End e h = cc
 effect_plain m ls _ e h = refl
 
-module _ (m : Parts) (ls rs : Types) where
-  pub skips : {labels : List Types} {ts us : Operands} {code : List Instr} → Typed m ls rs labels ts code us → (d : ℕ) (x : List Instr) → after_end d (code ++ x) ≡ after_end d x
+module _ (m : Parts) (ls rs : OperandTypes) where
+  pub skips : {labels : List OperandTypes} {ts us : Operands} {code : List Instr} → Typed m ls rs labels ts code us → (d : ℕ) (x : List Instr) → after_end d (code ++ x) ≡ after_end d x
   skips done d x = refl
   skips (plain os ts {i = i} {rest = rest} e k t) d x = ap (λ c. past_end c d (λ f. after_end f (rest ++ x)) (rest ++ x)) (effect_plain m ls i _ e) ∙ skips t d x
   skips (drop t) d x = skips t d x
@@ -35,7 +35,7 @@ module _ (m : Parts) (ls rs : Types) where
   skips (br_table os ts k es e t) d x = skips t d x
   skips (return os ts k t) d x = skips t d x
 
-  pub skips_else : {labels : List Types} {ts us : Operands} {code : List Instr} → Typed m ls rs labels ts code us → (d : ℕ) (x : List Instr) → else_arm d (code ++ x) ≡ else_arm d x
+  pub skips_else : {labels : List OperandTypes} {ts us : Operands} {code : List Instr} → Typed m ls rs labels ts code us → (d : ℕ) (x : List Instr) → else_arm d (code ++ x) ≡ else_arm d x
   skips_else done d x = refl
   skips_else (plain os ts {i = i} {rest = rest} e k t) d x = ap (λ c. to_else c d (λ f. else_arm f (rest ++ x)) i (rest ++ x)) (effect_plain m ls i _ e) ∙ skips_else t d x
   skips_else (drop t) d x = skips_else t d x

@@ -9,14 +9,14 @@ use Rattle.wasm_core.specs.declared.instrs.Instr.{Instr}
 use Rattle.wasm_core.specs.declared.instrs.Instr.TheVariants.{Nop, End, I32Const, I32Store}
 use Rattle.wasm_core.specs.Parts.{Parts}
 use Rattle.wasm_core.specs.Leb.{number_at}
-use Rattle.wasm_core.specs.Format.{Outcome, Accepted, Refused, judge, name_at}
+use Rattle.wasm_core.specs.Format.{DecodeOutcome, Accepted, Refused, judge, name_at}
 use Rattle.wasm_core.specs.ModuleGrammar.{file, header, sections, next_section, section, contents, func_types, func_type, val_types, val_type, func_result, indices, table, table_type, limits, limits_flag, memory, globals, global, mutability, constant, exports, exported, export_kind, segments, segment, bodies, body, locals, groups, instrs, instr, row, access, block_type, byte, u32, s32, s64, finish, times, empty}
 use Rattle.wasm_core.specs.ShortestBytes.{module_bytes, put_section, put_all, put_func_type, put_limits, put_table_type, put_global, put_export, put_segment, put_instr, put_locals, runs, body_bytes, unsigned, signed}
 use Rattle.wasm_core.specs.Memory.{word}
-use Rattle.wasm_core.specs.WordData.{Data, StandsFor, odd, block, FieldsStand, no_field, field}
+use Rattle.wasm_core.specs.WordData.{DataNodes, StandsFor, odd, block, FieldsStand, no_field, field}
 use Rattle.wasm_core.proofs.Examples.{module_of, rounds}
 
-abbrev outcome : List ℕ → Outcome Parts
+abbrev outcome : List ℕ → DecodeOutcome Parts
 outcome bytes = judge (file (length bytes)) 0 bytes []
 
 utf8_main : is_utf8 (109 ∷ 97 ∷ 105 ∷ 110 ∷ []) ≡ true
@@ -140,11 +140,11 @@ own : word itself 12 ≡ 8
 unfolding word
 own = refl
 
-own_field : (arity left : ℕ) (d : Data) → left ≡ 1 → FieldsStand itself 8 12 left d → ⊥
+own_field : (arity left : ℕ) (d : DataNodes) → left ≡ 1 → FieldsStand itself 8 12 left d → ⊥
 own_field arity left d e no_field = absurd (omega arith)
 own_field arity left d e (field s l f) = let b : word itself 12 < 8 = l 2 own in omega (arith, b, own)
 
-stands_for_nothing : (d : Data) → StandsFor itself 8 d → ⊥
+stands_for_nothing : (d : DataNodes) → StandsFor itself 8 d → ⊥
 stands_for_nothing d (odd {c = c} e) = omega arith
 stands_for_nothing d (block {c = c} {arity = a} {fields = fields} b f) =
     let h = b.header in let s = b.small in let n = b.some in own_field a a fields (omega (arith, h, s, n, head)) f

@@ -8,14 +8,14 @@ use Rattle.wasm_core.specs.declared.instrs.Body.{Body}
 use Rattle.wasm_core.specs.declared.instrs.Instr.{Instr}
 use Rattle.wasm_core.specs.declared.instrs.Instr.TheVariants as instr
 use Rattle.wasm_core.specs.Parts.{Parts}
-use Rattle.wasm_core.specs.ModuleTyping.{Types, Operands, Effect, Typed, done, plain, drop, unreachable, block, loop, one_arm, two_arms, br, br_if, br_table, return, effect, Memories}
-use Rattle.wasm_core.specs.ModuleCondition.{All, IsInstr, IsGlobal, IsConstant, MayCome, opens_after, IsClosed, IsBody}
+use Rattle.wasm_core.specs.ModuleTyping.{OperandTypes, Operands, Effect, Typed, done, plain, drop, unreachable, block, loop, one_arm, two_arms, br, br_if, br_table, return, effect, Memories}
+use Rattle.wasm_core.specs.ModuleCondition.{All, IsInstr, IsGlobal, IsConstValue, MayCome, opens_after, IsClosed, IsBody}
 use Rattle.wasm_core.specs.Words.{HasWord, IsWord}
 use Rattle.wasm_core.specs.Laws.{TypedIsClosed, ModulesHaveWords}
 use Rattle.wasm_core.proofs.Small.{no}
 
 -- an instruction with an effect opens and closes nothing
-plain_opens : (m : Parts) (ls : Types) (i : Instr) (e : Effect) → effect m ls i ≡ Some e → (o : Bool) (os : List Bool) → (opens_after i (o ∷ os) ≡ o ∷ os) × MayCome o i
+plain_opens : (m : Parts) (ls : OperandTypes) (i : Instr) (e : Effect) → effect m ls i ≡ Some e → (o : Bool) (os : List Bool) → (opens_after i (o ∷ os) ≡ o ∷ os) × MayCome o i
 plain_opens m ls (instr.Block t) e h o os = no h
 plain_opens m ls (instr.Loop t) e h o os = no h
 plain_opens m ls (instr.If t) e h o os = no h
@@ -31,8 +31,8 @@ all_back : {A : Type 0} (P : A → Type 0) (xs ys : List A) → All P (xs ++ ys)
 all_back P [] ys a = a
 all_back P (x ∷ xs) ys (p, a) = all_back P xs ys a
 
-module _ (m : Parts) (ls rs : Types) where
-  closes : {labels : List Types} {ts us : Operands} {code : List Instr} → Typed m ls rs labels ts code us → All IsInstr code → (o : Bool) (os : List Bool) (x : List Instr) → IsClosed (o ∷ os) x → IsClosed (o ∷ os) (code ++ x)
+module _ (m : Parts) (ls rs : OperandTypes) where
+  closes : {labels : List OperandTypes} {ts us : Operands} {code : List Instr} → Typed m ls rs labels ts code us → All IsInstr code → (o : Bool) (os : List Bool) (x : List Instr) → IsClosed (o ∷ os) x → IsClosed (o ∷ os) (code ++ x)
   closes done a o os x c = c
   closes (plain ps ts {i = i} {rest = rest} e k t) (p, a) o os x c =
       let (same, may) = plain_opens m ls i _ e o os in (may, p, subst (λ l. IsClosed l (rest ++ x)) (sym same) (closes t a o os x c))
@@ -87,7 +87,7 @@ global_words : (gs : List GlobalDef) → All IsGlobal gs → All (λ g. IsWord g
 global_words [] a = tt
 global_words (g ∷ gs) (p, a) = (value_word g.init p, global_words gs a)
   where
-    value_word : (v : ConstValue) → IsConstant v → IsWord v
+    value_word : (v : ConstValue) → IsConstValue v → IsWord v
     value_word (I32 n) p = p
     value_word (I64 n) p = p
 

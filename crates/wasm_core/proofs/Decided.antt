@@ -14,7 +14,7 @@ use Rattle.wasm_core.specs.declared.exports.ExportKind.TheVariants as kinds
 use Rattle.wasm_core.specs.declared.elements.Segment.{Segment}
 use Rattle.wasm_core.specs.declared.instrs.Body.{Body}
 use Rattle.wasm_core.specs.Parts.{Parts}
-use Rattle.wasm_core.specs.ModuleTyping.{TypedBody, TypedFunc, type_of, Part, Functions, Tables, Memories, Globals, Exported, Elements, Codes, id_of, AreOrdered, AreLimits, IsThere, DistinctNames, IsSegment, IsSound, AllSound, IsValid, results_of}
+use Rattle.wasm_core.specs.ModuleTyping.{TypedBody, TypedFunc, type_of, Part, Functions, Tables, Memories, Globals, Exported, Elements, Codes, id_of, LimitsAreOrdered, AreLimits, IsThere, DistinctNames, SegmentIsValid, IsSound, AllSound, IsValid, results_of}
 use Rattle.wasm_core.specs.ModuleCondition.{All, IsClosed, IsBody, IsModule}
 use Rattle.wasm_core.specs.FirstFault.{IsFaultAt, FirstFault, outside, inside, TypedBelow}
 use Rattle.wasm_core.specs.Laws.{ModulesAreJudged}
@@ -113,7 +113,7 @@ dec_type I32 I64 = inr (λ e. cc)
 dec_type I64 I32 = inr (λ e. cc)
 dec_type I64 I64 = inl refl
 
-dec_table : (o : Option Limits) → Dec (IfSome o AreOrdered)
+dec_table : (o : Option Limits) → Dec (IfSome o LimitsAreOrdered)
 dec_table None = inl tt
 dec_table (Some l) = dec_ordered l.min l.max
 
@@ -121,9 +121,9 @@ dec_memory : (o : Option Limits) → Dec (IfSome o AreLimits)
 dec_memory None = inl tt
 dec_memory (Some l) = dec_map (λ p. record { least = p.0; greatest = p.1 }) (λ (h : AreLimits l). (h.least, h.greatest)) (dec_both (dec_le l.min 65536) (dec_bounded l.min l.max))
 
-dec_segment : (m : Parts) (s : Segment) → Dec (IsSegment m s)
+dec_segment : (m : Parts) (s : Segment) → Dec (SegmentIsValid m s)
 dec_segment m s =
-    dec_map (λ p. record { table = p.0; funcs = p.1 }) (λ (h : IsSegment m s). (h.table, h.funcs)) (dec_both (dec_some m.table) (dec_each (λ f. f < length m.funcs) (λ f. dec_lt f (length m.funcs)) s.funcs))
+    dec_map (λ p. record { table = p.0; funcs = p.1 }) (λ (h : SegmentIsValid m s). (h.table, h.funcs)) (dec_both (dec_some m.table) (dec_each (λ f. f < length m.funcs) (λ f. dec_lt f (length m.funcs)) s.funcs))
 
 dec_sound : (p : Part) (m : Parts) → Dec (IsSound p m)
 dec_sound Functions m = dec_each (λ index. index < length m.types) (λ index. dec_lt index (length m.types)) m.funcs
@@ -131,7 +131,7 @@ dec_sound Tables m = dec_table m.table
 dec_sound Memories m = dec_memory m.memory
 dec_sound Globals m = dec_each (λ (g : GlobalDef). type_of g.init ≡ g.ty) (λ g. dec_type (type_of g.init) g.ty) m.globals
 dec_sound Exported m = dec_both (dec_distinct m.exports) (dec_each (λ (e : Export). IsThere m e.kind e.index) (λ e. dec_there m e.kind e.index) m.exports)
-dec_sound Elements m = dec_each (IsSegment m) (dec_segment m) m.elements
+dec_sound Elements m = dec_each (SegmentIsValid m) (dec_segment m) m.elements
 dec_sound Codes m = dec_eq (length m.funcs) (length m.bodies)
 
 -- the parts in the order of their ids

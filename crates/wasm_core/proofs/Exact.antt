@@ -5,11 +5,11 @@ use Rattle.std.specs.Str.{is_utf8}
 use Rattle.std.proofs.lemmas.Str.{is_utf8-from_IsUtf8, IsUtf8-from_is_utf8}
 use Rattle.std.proofs.lemmas.Bool.{le-leb, lt-ltb, le-ltb, ltb-true, ltb-false, leb-true, leb-false}
 use Rattle.wasm_core.specs.Leb.{number_at, last, higher}
-use Rattle.wasm_core.specs.Format.{Format, Give, Nothing, Byte, Number, Name, Size, Skip, End, Outcome, Accepted, Refused, judge, outer, others, name_at, at_length}
-use Rattle.wasm_core.specs.Spelling.{Lasts, IsByte, IsNumber, IsName, IsSize, Spells, Stops, Meets}
+use Rattle.wasm_core.specs.Format.{Format, Give, Nothing, Byte, Number, Name, Size, Skip, End, DecodeOutcome, Accepted, Refused, judge, outer, others, name_at, at_length}
+use Rattle.wasm_core.specs.Spelling.{Lasts, IsByte, IsNumber, IsName, IsSize, SpellsPart, Stops, MeetsFormat}
 use Rattle.std.proofs.Common.{Result, Ok, Err}
 use Rattle.wasm_core.specs.Parts.{Parts}
-use Rattle.wasm_core.specs.ModuleGrammar.{file, IsExact, SpellsModule, StopsModule, Explains, Answers, Refuses}
+use Rattle.wasm_core.specs.ModuleGrammar.{file, GrammarIsExact, SpellsModule, StopsModule, Explains, DecodesTo, RefusesAt}
 use Rattle.wasm_core.specs.declared.binary_faults.DecodeFault.{DecodeFault}
 use Rattle.wasm_core.specs.declared.binary_faults.DecodeFault.TheVariants as faults
 
@@ -235,63 +235,63 @@ name_none next at w ws (Some p) e h no' = absurd (no' p.0 p.1 h)
 
 -- ---- the whole
 
-byte_on : {M : Type 0} (fits : ℕ → Bool) (next : ℕ → Format M) (at b k : ℕ) (w : List ℕ) (ws : List (List ℕ)) → IsByte fits w b k → (o : Outcome M) → Meets (next b) (at + k) (drop k w) ws o → Meets (Byte fits next) at w ws o
+byte_on : {M : Type 0} (fits : ℕ → Bool) (next : ℕ → Format M) (at b k : ℕ) (w : List ℕ) (ws : List (List ℕ)) → IsByte fits w b k → (o : DecodeOutcome M) → MeetsFormat (next b) (at + k) (drop k w) ws o → MeetsFormat (Byte fits next) at w ws o
 byte_on fits next at b k w ws i (Accepted x) h = (b, k, i, h)
 byte_on fits next at b k w ws i (Refused o) h = inr (b, k, i, h)
 
-number_on : {M : Type 0} (s : Bool) (bits : ℕ) (fits : ℕ → Bool) (next : ℕ → Format M) (at n k : ℕ) (w : List ℕ) (ws : List (List ℕ)) → Fitting s bits fits w n k → (o : Outcome M) → Meets (next n) (at + k) (drop k w) ws o → Meets (Number s bits fits next) at w ws o
+number_on : {M : Type 0} (s : Bool) (bits : ℕ) (fits : ℕ → Bool) (next : ℕ → Format M) (at n k : ℕ) (w : List ℕ) (ws : List (List ℕ)) → Fitting s bits fits w n k → (o : DecodeOutcome M) → MeetsFormat (next n) (at + k) (drop k w) ws o → MeetsFormat (Number s bits fits next) at w ws o
 number_on s bits fits next at n k w ws i (Accepted x) h = (n, k, i, h)
 number_on s bits fits next at n k w ws i (Refused o) h = inr (n, k, i, h)
 
-name_on : {M : Type 0} (next : List ℕ → Format M) (at : ℕ) (s : List ℕ) (k : ℕ) (w : List ℕ) (ws : List (List ℕ)) → IsName w s k → (o : Outcome M) → Meets (next s) (at + k) (drop k w) ws o → Meets (Name next) at w ws o
+name_on : {M : Type 0} (next : List ℕ → Format M) (at : ℕ) (s : List ℕ) (k : ℕ) (w : List ℕ) (ws : List (List ℕ)) → IsName w s k → (o : DecodeOutcome M) → MeetsFormat (next s) (at + k) (drop k w) ws o → MeetsFormat (Name next) at w ws o
 name_on next at s k w ws i (Accepted x) h = (s, k, i, h)
 name_on next at s k w ws i (Refused o) h = inr (s, k, i, h)
 
-size_on : {M : Type 0} (next : ℕ → Format M) (at n k : ℕ) (w : List ℕ) (ws : List (List ℕ)) → IsSize w n k → (o : Outcome M) → Meets (next n) (at + k) (take n (drop k w)) (drop n (drop k w) ∷ ws) o → Meets (Size next) at w ws o
+size_on : {M : Type 0} (next : ℕ → Format M) (at n k : ℕ) (w : List ℕ) (ws : List (List ℕ)) → IsSize w n k → (o : DecodeOutcome M) → MeetsFormat (next n) (at + k) (take n (drop k w)) (drop n (drop k w) ∷ ws) o → MeetsFormat (Size next) at w ws o
 size_on next at n k w ws i (Accepted x) h = (n, k, i, h)
 size_on next at n k w ws i (Refused o) h = inr (n, k, i, h)
 
-end_on : {M : Type 0} (may : Bool) (over more : Format M) (at : ℕ) (ws : List (List ℕ)) → may ≡ true → (o : Outcome M) → Meets over at (outer ws) (others ws) o → Meets (End may over more) at [] ws o
+end_on : {M : Type 0} (may : Bool) (over more : Format M) (at : ℕ) (ws : List (List ℕ)) → may ≡ true → (o : DecodeOutcome M) → MeetsFormat over at (outer ws) (others ws) o → MeetsFormat (End may over more) at [] ws o
 end_on may over more at ws m (Accepted x) h = (m, h)
 end_on may over more at ws m (Refused o) h = inr (m, h)
 
-skip_on : {M : Type 0} (next : Format M) (at : ℕ) (w : List ℕ) (ws : List (List ℕ)) (o : Outcome M) → Meets next (at + length w) [] ws o → Meets (Skip next) at w ws o
+skip_on : {M : Type 0} (next : Format M) (at : ℕ) (w : List ℕ) (ws : List (List ℕ)) (o : DecodeOutcome M) → MeetsFormat next (at + length w) [] ws o → MeetsFormat (Skip next) at w ws o
 skip_on next at w ws (Accepted x) h = h
 skip_on next at w ws (Refused o) h = h
 
-end_meets : {M : Type 0} (may : Bool) (over more : Format M) (at : ℕ) (ws : List (List ℕ)) → Meets over at (outer ws) (others ws) (judge over at (outer ws) (others ws)) → Meets (End may over more) at [] ws (if may then judge over at (outer ws) (others ws) else Refused at)
+end_meets : {M : Type 0} (may : Bool) (over more : Format M) (at : ℕ) (ws : List (List ℕ)) → MeetsFormat over at (outer ws) (others ws) (judge over at (outer ws) (others ws)) → MeetsFormat (End may over more) at [] ws (if may then judge over at (outer ws) (others ws) else Refused at)
 end_meets true over more at ws h = end_on true over more at ws refl _ h
 end_meets false over more at ws h = inl (refl, refl)
 
-more_on : {M : Type 0} (may : Bool) (over more : Format M) (at b : ℕ) (w : List ℕ) (ws : List (List ℕ)) (o : Outcome M) → Meets more at (b ∷ w) ws o → Meets (End may over more) at (b ∷ w) ws o
+more_on : {M : Type 0} (may : Bool) (over more : Format M) (at b : ℕ) (w : List ℕ) (ws : List (List ℕ)) (o : DecodeOutcome M) → MeetsFormat more at (b ∷ w) ws o → MeetsFormat (End may over more) at (b ∷ w) ws o
 more_on may over more at b w ws (Accepted x) h = h
 more_on may over more at b w ws (Refused o) h = h
 
-pub meets : {M : Type 0} (f : Format M) (at : ℕ) (w : List ℕ) (ws : List (List ℕ)) → Meets f at w ws (judge f at w ws)
+pub meets : {M : Type 0} (f : Format M) (at : ℕ) (w : List ℕ) (ws : List (List ℕ)) → MeetsFormat f at w ws (judge f at w ws)
 unfolding judge
 meets (Give m) at w ws = refl
 meets Nothing at w ws = refl
 meets (Byte fits next) at w ws = elim (byte_dec fits w) [
-  | inl (b, k, i) ↦ subst (Meets (Byte fits next) at w ws) (sym (byte_is fits next at b k w ws i)) (byte_on fits next at b k w ws i _ (meets (next b) (at + k) (drop k w) ws))
-  | inr n ↦ subst (Meets (Byte fits next) at w ws) (sym (byte_none fits next at w ws n)) (inl (refl, n))
+  | inl (b, k, i) ↦ subst (MeetsFormat (Byte fits next) at w ws) (sym (byte_is fits next at b k w ws i)) (byte_on fits next at b k w ws i _ (meets (next b) (at + k) (drop k w) ws))
+  | inr n ↦ subst (MeetsFormat (Byte fits next) at w ws) (sym (byte_none fits next at w ws n)) (inl (refl, n))
 ]
 meets (Number s bits fits next) at w ws = elim (number_dec s bits fits w _ refl) [
-  | inl (n, k, i) ↦ subst (Meets (Number s bits fits next) at w ws) (sym (number_is s bits fits next at n k w ws i)) (number_on s bits fits next at n k w ws i _ (meets (next n) (at + k) (drop k w) ws))
-  | inr n ↦ subst (Meets (Number s bits fits next) at w ws) (sym (number_none s bits fits next at w ws _ refl n)) (inl (refl, n))
+  | inl (n, k, i) ↦ subst (MeetsFormat (Number s bits fits next) at w ws) (sym (number_is s bits fits next at n k w ws i)) (number_on s bits fits next at n k w ws i _ (meets (next n) (at + k) (drop k w) ws))
+  | inr n ↦ subst (MeetsFormat (Number s bits fits next) at w ws) (sym (number_none s bits fits next at w ws _ refl n)) (inl (refl, n))
 ]
 meets (Name next) at w ws = elim (name_dec w _ (named w)) [
-  | inl (s, k, i) ↦ subst (Meets (Name next) at w ws) (sym (name_is next at s k w ws i)) (name_on next at s k w ws i _ (meets (next s) (at + k) (drop k w) ws))
-  | inr n ↦ subst (Meets (Name next) at w ws) (sym (name_none next at w ws _ refl (named w) n)) (inl (refl, n))
+  | inl (s, k, i) ↦ subst (MeetsFormat (Name next) at w ws) (sym (name_is next at s k w ws i)) (name_on next at s k w ws i _ (meets (next s) (at + k) (drop k w) ws))
+  | inr n ↦ subst (MeetsFormat (Name next) at w ws) (sym (name_none next at w ws _ refl (named w) n)) (inl (refl, n))
 ]
 meets (Size next) at w ws = elim (size_dec w _ refl) [
-  | inl (n, k, i) ↦ subst (Meets (Size next) at w ws) (sym (size_is next at n k w ws i)) (size_on next at n k w ws i _ (meets (next n) (at + k) (take n (drop k w)) (drop n (drop k w) ∷ ws)))
-  | inr n ↦ subst (Meets (Size next) at w ws) (sym (size_none next at w ws _ refl n)) (inl (refl, n))
+  | inl (n, k, i) ↦ subst (MeetsFormat (Size next) at w ws) (sym (size_is next at n k w ws i)) (size_on next at n k w ws i _ (meets (next n) (at + k) (take n (drop k w)) (drop n (drop k w) ∷ ws)))
+  | inr n ↦ subst (MeetsFormat (Size next) at w ws) (sym (size_none next at w ws _ refl n)) (inl (refl, n))
 ]
 meets (Skip next) at w ws = skip_on next at w ws _ (meets next (at + length w) [] ws)
 meets (End may over more) at [] ws = end_meets may over more at ws (meets over at (outer ws) (others ws))
 meets (End may over more) at (b ∷ w) ws = more_on may over more at b w ws _ (meets more at (b ∷ w) ws)
 
-pub spelled : {M : Type 0} (f : Format M) (at : ℕ) (w : List ℕ) (ws : List (List ℕ)) (x : M) → Spells f w ws x → judge f at w ws ≡ Accepted x
+pub spelled : {M : Type 0} (f : Format M) (at : ℕ) (w : List ℕ) (ws : List (List ℕ)) (x : M) → SpellsPart f w ws x → judge f at w ws ≡ Accepted x
 unfolding judge
 spelled (Give m) at w ws x e = ap Accepted e
 spelled Nothing at w ws x h = absurd h
@@ -320,14 +320,14 @@ stopped (End may over more) at [] ws o (inl (e, m)) = rw m (ap Refused (sym e))
 stopped (End may over more) at [] ws o (inr (m, h)) = rw m (stopped over at (outer ws) (others ws) o h)
 stopped (End may over more) at (b ∷ w) ws o h = stopped more at (b ∷ w) ws o h
 
-abbrev made_of : Parts → Outcome Parts → Parts
+abbrev made_of : Parts → DecodeOutcome Parts → Parts
 made_of d (Accepted m) = m
 made_of d (Refused o) = d
 
 made_is : (a b : Parts) → Accepted a ≡ Accepted b → a ≡ b
 made_is a b e = ap (made_of a) e
 
-abbrev refused : ℕ → Outcome Parts
+abbrev refused : ℕ → DecodeOutcome Parts
 refused o = Refused o
 
 offset_is : (a b : ℕ) → refused a ≡ refused b → a ≡ b
@@ -336,11 +336,11 @@ offset_is a b e = cc
 never : (a : Parts) (o : ℕ) → Accepted a ≡ Refused o → ⊥
 never a o e = cc
 
-either : (bytes : List ℕ) (o : Outcome Parts) → Meets (file (length bytes)) 0 bytes [] o → ((m : Parts) × SpellsModule bytes m) ⊎ ((o : ℕ) × StopsModule bytes o)
+either : (bytes : List ℕ) (o : DecodeOutcome Parts) → MeetsFormat (file (length bytes)) 0 bytes [] o → ((m : Parts) × SpellsModule bytes m) ⊎ ((o : ℕ) × StopsModule bytes o)
 either bytes (Accepted m) h = inl (m, h)
 either bytes (Refused o) h = inr (o, h)
 
-pub exact : IsExact
+pub exact : GrammarIsExact
 exact = record {
   one_module = λ bytes a b h g. made_is a b (sym (spelled (file (length bytes)) 0 bytes [] a h) ∙ spelled (file (length bytes)) 0 bytes [] b g);
   one_offset = λ bytes a b h g. offset_is a b (sym (stopped (file (length bytes)) 0 bytes [] a h) ∙ stopped (file (length bytes)) 0 bytes [] b g);
@@ -348,12 +348,12 @@ exact = record {
   one_of_both = λ bytes. either bytes _ (meets (file (length bytes)) 0 bytes []);
 }
 
-pub answers : (r : Result Parts DecodeFault) (bytes : List ℕ) → Explains r bytes → (m : Parts) → SpellsModule bytes m → Answers m r
+pub answers : (r : Result Parts DecodeFault) (bytes : List ℕ) → Explains r bytes → (m : Parts) → SpellsModule bytes m → DecodesTo m r
 answers (Ok x) bytes e m h = exact.one_module bytes x m e h
 answers (Err faults.Memory) bytes e m h = tt
 answers (Err (faults.Bad o)) bytes e m h = exact.not_both bytes m o h e
 
-pub refuses : (r : Result Parts DecodeFault) (bytes : List ℕ) → Explains r bytes → (n : ℕ) → StopsModule bytes n → Refuses n r
+pub refuses : (r : Result Parts DecodeFault) (bytes : List ℕ) → Explains r bytes → (n : ℕ) → StopsModule bytes n → RefusesAt n r
 refuses (Ok x) bytes e n h = exact.not_both bytes x n e h
 refuses (Err faults.Memory) bytes e n h = tt
 refuses (Err (faults.Bad o)) bytes e n h = exact.one_offset bytes o n e h

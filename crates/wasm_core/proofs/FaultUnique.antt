@@ -4,7 +4,7 @@ use Rattle.std.proofs.lemmas.Bool.{cases_lt}
 use Rattle.std.proofs.lemmas.List.{take-append-drop, take-take}
 use Rattle.wasm_core.specs.declared.instrs.Instr.{Instr}
 use Rattle.wasm_core.specs.Parts.{Parts}
-use Rattle.wasm_core.specs.ModuleTyping.{Types, TypedBody, TypedFunc, Part, id_of, IsSound, results_of}
+use Rattle.wasm_core.specs.ModuleTyping.{OperandTypes, TypedBody, TypedFunc, Part, id_of, IsSound, results_of}
 use Rattle.wasm_core.specs.FirstFault.{CanGoOn, IsFaultAt, outside, inside, TypedBelow, counted}
 use Rattle.wasm_core.specs.declared.types.FuncType.{FuncType}
 use Rattle.wasm_core.specs.declared.instrs.Body.{Body}
@@ -15,20 +15,20 @@ use Rattle.wasm_core.specs.Laws.{FaultPlaceIsUnique, FrontsCanGoOn, FirstFaultIs
 pub front_goes_on : FrontsCanGoOn
 front_goes_on m ls rs front more (rest, t) = (more ++ rest, subst (TypedBody m ls rs) (append_assoc front more rest) t)
 
-module _ (m : Parts) (ls rs : Types) (code : List Instr) where
+module _ (m : Parts) (ls rs : OperandTypes) (code : List Instr) where
   earlier : (p q : ℕ) → p ≤ q → CanGoOn m ls rs (take q code) → CanGoOn m ls rs (take p code)
   earlier p q le v =
       let e : take p (take q code) ++ drop p (take q code) ≡ take q code = take-append-drop p (take q code) in
       front_goes_on m ls rs (take p code) (drop p (take q code)) (subst (CanGoOn m ls rs) (sym e ∙ ap (λ l. l ++ drop p (take q code)) (take-take p q code le)) v)
 
-clash : (m : Parts) (ls rs : Types) (code : List Instr) (p q : ℕ) → IsFaultAt m ls rs code p → IsFaultAt m ls rs code q → p < q → ⊥
+clash : (m : Parts) (ls rs : OperandTypes) (code : List Instr) (p q : ℕ) → IsFaultAt m ls rs code p → IsFaultAt m ls rs code q → p < q → ⊥
 clash m ls rs code p q a b lt = a.here (earlier m ls rs code (p + 1) q (omega arith) b.before)
 
 pub fault_place_unique : FaultPlaceIsUnique
 fault_place_unique m ls rs code p q a b = ⊎_elim (λ lt. absurd (clash m ls rs code p q a b lt)) (λ le. ⊎_elim (λ lt. absurd (clash m ls rs code q p b a lt)) (λ ge. omega arith) (cases_lt q p)) (cases_lt p q)
 
 -- a body that fails has no typing
-untyped : (m : Parts) (ls rs : Types) (code : List Instr) (p : ℕ) → IsFaultAt m ls rs code p → TypedBody m ls rs code → ⊥
+untyped : (m : Parts) (ls rs : OperandTypes) (code : List Instr) (p : ℕ) → IsFaultAt m ls rs code p → TypedBody m ls rs code → ⊥
 untyped m ls rs code p a t =
     a.here (drop (p + 1) code, subst (TypedBody m ls rs) (sym (take-append-drop (p + 1) code)) t)
 

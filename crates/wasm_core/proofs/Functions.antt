@@ -9,9 +9,9 @@ use Rattle.wasm_core.specs.declared.types.FuncType.{FuncType}
 use Rattle.wasm_core.specs.declared.elements.Segment.{Segment}
 use Rattle.wasm_core.specs.declared.instrs.Body.{Body}
 use Rattle.wasm_core.specs.Parts.{Parts}
-use Rattle.wasm_core.specs.Instance.{Func, func_with, func_of, Entries, put_funcs, put_segments, table_of, least}
+use Rattle.wasm_core.specs.Instance.{Func, func_with, func_of, TableEntries, put_funcs, put_segments, table_of, least}
 use Rattle.wasm_core.specs.MachineStep.{same_type, same_types, same_result, same_func_type}
-use Rattle.wasm_core.specs.ModuleTyping.{Types, TypedBody, IsValid, Elements, Codes, results_of, func_type}
+use Rattle.wasm_core.specs.ModuleTyping.{OperandTypes, TypedBody, IsValid, Elements, Codes, results_of, func_type}
 use Rattle.wasm_core.proofs.Small.{inj, no, some_of}
 
 -- a function that is there, with its typing
@@ -51,22 +51,22 @@ found_typed m valid f t e =
     (x, inj (sym s ∙ ht))
 
 -- each entry that isn't empty is a function's
-Sound : ℕ → Entries → Type 0
+Sound : ℕ → TableEntries → Type 0
 Sound n entries = (x f : ℕ) → slice_get entries x ≡ Some (Some f) → f < n
 
-set_sound : (n : ℕ) (entries : Entries) (i f : ℕ) → f < n → ((x g : ℕ) → slice_get entries x ≡ Some (Some g) → g < n) → (x g : ℕ) → slice_get (slice_set entries i (Some f)) x ≡ Some (Some g) → g < n
+set_sound : (n : ℕ) (entries : TableEntries) (i f : ℕ) → f < n → ((x g : ℕ) → slice_get entries x ≡ Some (Some g) → g < n) → (x g : ℕ) → slice_get (slice_set entries i (Some f)) x ≡ Some (Some g) → g < n
 set_sound n [] i f h s x g e = no e
 set_sound n (y ∷ ys) zero f h s zero g e = let q : f ≡ g = cc in omega arith
 set_sound n (y ∷ ys) zero f h s (suc x) g e = s (suc x) g e
 set_sound n (y ∷ ys) (suc i) f h s zero g e = s zero g e
 set_sound n (y ∷ ys) (suc i) f h s (suc x) g e = set_sound n ys i f h (λ x g e. s (suc x) g e) x g e
 
-funcs_sound : (n : ℕ) (fs : List ℕ) (entries : Entries) (i : ℕ) → ((j f : ℕ) → slice_get fs j ≡ Some f → f < n) → ((x g : ℕ) → slice_get entries x ≡ Some (Some g) → g < n) → (x g : ℕ) → slice_get (put_funcs entries i fs) x ≡ Some (Some g) → g < n
+funcs_sound : (n : ℕ) (fs : List ℕ) (entries : TableEntries) (i : ℕ) → ((j f : ℕ) → slice_get fs j ≡ Some f → f < n) → ((x g : ℕ) → slice_get entries x ≡ Some (Some g) → g < n) → (x g : ℕ) → slice_get (put_funcs entries i fs) x ≡ Some (Some g) → g < n
 funcs_sound n [] entries i h s x g e = s x g e
 funcs_sound n (f ∷ fs) entries i h s x g e =
     funcs_sound n fs (slice_set entries i (Some f)) (suc i) (λ j f e. h (suc j) f e) (λ x g e. set_sound n entries i f (h 0 f refl) s x g e) x g e
 
-segments_sound : (n : ℕ) (segments : List Segment) (entries : Entries) → ((k : ℕ) (s : Segment) → slice_get segments k ≡ Some s → (j f : ℕ) → slice_get s.funcs j ≡ Some f → f < n) → ((x g : ℕ) → slice_get entries x ≡ Some (Some g) → g < n) → (x g : ℕ) → slice_get (put_segments
+segments_sound : (n : ℕ) (segments : List Segment) (entries : TableEntries) → ((k : ℕ) (s : Segment) → slice_get segments k ≡ Some s → (j f : ℕ) → slice_get s.funcs j ≡ Some f → f < n) → ((x g : ℕ) → slice_get entries x ≡ Some (Some g) → g < n) → (x g : ℕ) → slice_get (put_segments
     entries segments) x ≡ Some (Some g) → g < n
 segments_sound n [] entries h s x g e = s x g e
 segments_sound n (y ∷ segments) entries h s x g e =
@@ -93,7 +93,7 @@ type_eq type.I32 type.I64 e = cc
 type_eq type.I64 type.I32 e = cc
 type_eq type.I64 type.I64 e = refl
 
-types_eq : (ss ts : Types) → same_types ss ts ≡ true → ss ≡ ts
+types_eq : (ss ts : OperandTypes) → same_types ss ts ≡ true → ss ≡ ts
 types_eq [] [] e = refl
 types_eq [] (t ∷ ts) e = cc
 types_eq (s ∷ ss) [] e = cc

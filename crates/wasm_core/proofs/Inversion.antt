@@ -6,9 +6,9 @@ use Rattle.std.proofs.lemmas.List.{length-replicate}
 use Rattle.std.proofs.Math.Pow.{pow_mono}
 use Rattle.wasm_core.proofs.Powers.{seven_off, half_below}
 use Rattle.wasm_core.specs.Parts.{Parts}
-use Rattle.wasm_core.specs.ModuleCondition.{All, IsU32, IsU64, IsVector, IsFuncType, IsLimits, AreSizes, IsConstant, IsGlobal, IsExport, IsSegment, IsAccess, IsInstr, MayCome, opens_after, IsClosed, IsBody, IsModule}
+use Rattle.wasm_core.specs.ModuleCondition.{All, IsU32, IsU64, IsVector, IsFuncType, IsLimits, AreSizes, IsConstValue, IsGlobal, IsExport, IsSegment, IsAccess, IsInstr, MayCome, opens_after, IsClosed, IsBody, IsModule}
 use Rattle.wasm_core.specs.Format.{Name, Skip}
-use Rattle.wasm_core.specs.Spelling.{Lasts, SpellsNumber, Spells}
+use Rattle.wasm_core.specs.Spelling.{Lasts, SpellsNumber, SpellsPart}
 use Rattle.wasm_core.specs.ModuleGrammar.{Spelling, byte, u32, s32, s64, on, coded, find, finish, times, val_type, val_types, func_result, func_type, limits_flag, limits, mutability, block_type, access, row, Row, Plain, Typed, Index, Accessing, Pair, Table, Zeroed, Bits, LongBits, opcodes, operations, operation_row, row_or, opcode, instr, instrs, constant_of, constant_opcodes, constant, table_type, table, segment, segments, last_after, groups, locals, body, func_types, indices, memory, global, globals, export_kind, exported, exports, bodies, contents, section, section_id, next_section, is_whole, sections, header, file, empty, SpellsModule}
 use Rattle.wasm_core.specs.declared.types.ValType.{ValType}
 use Rattle.wasm_core.specs.declared.types.ValType.TheVariants.{I32, I64}
@@ -40,7 +40,7 @@ spelled_fits s bits (b ∷ c ∷ w) n (g, x, m, (high, e, p)) =
 -- ---- whatever comes after it and around it, bytes that spell something spell a thing that meets this condition
 
 abbrev pub Makes : {A : Type 0} → ((A → Spelling) → Spelling) → (A → Type 0) → Type 0
-Makes {A = A} one P = (k : A → Spelling) (w : List ℕ) (ws : List (List ℕ)) (m : Parts) → Spells (one k) w ws m → (x : A) × P x × ((v : List ℕ) × (vs : List (List ℕ)) × Spells (k x) v vs m)
+Makes {A = A} one P = (k : A → Spelling) (w : List ℕ) (ws : List (List ℕ)) (m : Parts) → SpellsPart (one k) w ws m → (x : A) × P x × ((v : List ℕ) × (vs : List (List ℕ)) × SpellsPart (k x) v vs m)
 
 abbrev Any : {A : Type 0} → A → Type 0
 Any x = Unit {0}
@@ -57,11 +57,11 @@ s64_makes : Makes s64 IsU64
 unfolding s64
 s64_makes k w ws m (n, j, (i, f), h) = (n, spelled_fits true 64 (take j w) n i.1, (drop j w, ws, h))
 
-byte_makes : (b : ℕ) (k : Spelling) (w : List ℕ) (ws : List (List ℕ)) (m : Parts) → Spells (byte b k) w ws m → (v : List ℕ) × (vs : List (List ℕ)) × Spells k v vs m
+byte_makes : (b : ℕ) (k : Spelling) (w : List ℕ) (ws : List (List ℕ)) (m : Parts) → SpellsPart (byte b k) w ws m → (v : List ℕ) × (vs : List (List ℕ)) × SpellsPart k v vs m
 unfolding byte
 byte_makes b k w ws m (c, j, i, h) = (drop j w, ws, h)
 
-pub on_makes : {A : Type 0} (o : Option A) (k : A → Spelling) (w : List ℕ) (ws : List (List ℕ)) (m : Parts) → Spells (on o k) w ws m → (x : A) × (o ≡ Some x) × Spells (k x) w ws m
+pub on_makes : {A : Type 0} (o : Option A) (k : A → Spelling) (w : List ℕ) (ws : List (List ℕ)) (m : Parts) → SpellsPart (on o k) w ws m → (x : A) × (o ≡ Some x) × SpellsPart (k x) w ws m
 on_makes None k w ws m h = absurd h
 on_makes (Some x) k w ws m h = (x, refl, h)
 
@@ -86,7 +86,7 @@ found_row {A = A} P b (r ∷ rows) (p, a) x e =
       | false ↦ λ e. found_row P b rows a x e
     ] in goal _ e
 
-finish_makes : (k : Spelling) (w : List ℕ) (ws : List (List ℕ)) (m : Parts) → Spells (finish k) w ws m → (v : List ℕ) × (vs : List (List ℕ)) × Spells k v vs m
+finish_makes : (k : Spelling) (w : List ℕ) (ws : List (List ℕ)) (m : Parts) → SpellsPart (finish k) w ws m → (v : List ℕ) × (vs : List (List ℕ)) × SpellsPart k v vs m
 unfolding finish
 finish_makes k [] ws m (e, h) = (_, _, h)
 finish_makes k (b ∷ w) ws m h = absurd h
@@ -135,8 +135,8 @@ val_types_makes k w ws m h = let (ts, v, r) = vector_makes val_type Any val_type
 func_result_makes : Makes func_result Any
 unfolding func_result
 func_result_makes k w ws m (n, j, (i, f), h) =
-    let goal : (c : Bool) → Spells (if c then k None else val_type (λ t. k (Some t))) (drop j w) ws m → (x : Option ValType) × Any x × ((v : List ℕ) × (vs : List (List ℕ)) × Spells (k x) v vs m) =
-    λ c. elim c as (λ c. Spells (if c then k None else val_type (λ t. k (Some t))) (drop j w) ws m → (x : Option ValType) × Any x × ((v : List ℕ) × (vs : List (List ℕ)) × Spells (k x) v vs m)) [
+    let goal : (c : Bool) → SpellsPart (if c then k None else val_type (λ t. k (Some t))) (drop j w) ws m → (x : Option ValType) × Any x × ((v : List ℕ) × (vs : List (List ℕ)) × SpellsPart (k x) v vs m) =
+    λ c. elim c as (λ c. SpellsPart (if c then k None else val_type (λ t. k (Some t))) (drop j w) ws m → (x : Option ValType) × Any x × ((v : List ℕ) × (vs : List (List ℕ)) × SpellsPart (k x) v vs m)) [
       | true ↦ λ h. (None, tt, (drop j w, ws, h))
       | false ↦ λ h. let (t, p, r) = val_type_makes (λ t. k (Some t)) (drop j w) ws m h in (Some t, tt, r)
     ] in goal _ h
@@ -158,8 +158,8 @@ unfolding limits
 limits_makes k w ws m h =
     let (bounded, p, (w1, ws1, h1)) = limits_flag_makes (λ bounded. u32 (λ lo. if bounded then u32 (λ hi. k (record { min = lo; max = Some hi })) else k (record { min = lo; max = None }))) w ws m h in
     let (lo, l, (w2, ws2, h2)) = u32_makes (λ lo. if bounded then u32 (λ hi. k (record { min = lo; max = Some hi })) else k (record { min = lo; max = None })) w1 ws1 m h1 in
-    let goal : (c : Bool) → Spells (if c then u32 (λ hi. k (record { min = lo; max = Some hi })) else k (record { min = lo; max = None })) w2 ws2 m → (x : Limits) × IsLimits x × ((v : List ℕ) × (vs : List (List ℕ)) × Spells (k x) v vs m) =
-    λ c. elim c as (λ c. Spells (if c then u32 (λ hi. k (record { min = lo; max = Some hi })) else k (record { min = lo; max = None })) w2 ws2 m → (x : Limits) × IsLimits x × ((v : List ℕ) × (vs : List (List ℕ)) × Spells (k x) v vs m)) [
+    let goal : (c : Bool) → SpellsPart (if c then u32 (λ hi. k (record { min = lo; max = Some hi })) else k (record { min = lo; max = None })) w2 ws2 m → (x : Limits) × IsLimits x × ((v : List ℕ) × (vs : List (List ℕ)) × SpellsPart (k x) v vs m) =
+    λ c. elim c as (λ c. SpellsPart (if c then u32 (λ hi. k (record { min = lo; max = Some hi })) else k (record { min = lo; max = None })) w2 ws2 m → (x : Limits) × IsLimits x × ((v : List ℕ) × (vs : List (List ℕ)) × SpellsPart (k x) v vs m)) [
       | true ↦ λ h. let (hi, u, r) = u32_makes (λ hi. k (record { min = lo; max = Some hi })) w2 ws2 m h in (record { min = lo; max = Some hi }, (l, u), r)
       | false ↦ λ h. (record { min = lo; max = None }, (l, tt), (w2, ws2, h))
     ] in goal bounded h2
@@ -167,8 +167,8 @@ limits_makes k w ws m h =
 memory_makes : Makes memory AreSizes
 unfolding memory
 memory_makes k w ws m (n, j, (i, f), h) =
-    let goal : (c : Bool) → Spells (if c then k None else limits (λ l. k (Some l))) (drop j w) ws m → (x : Option Limits) × AreSizes x × ((v : List ℕ) × (vs : List (List ℕ)) × Spells (k x) v vs m) =
-    λ c. elim c as (λ c. Spells (if c then k None else limits (λ l. k (Some l))) (drop j w) ws m → (x : Option Limits) × AreSizes x × ((v : List ℕ) × (vs : List (List ℕ)) × Spells (k x) v vs m)) [
+    let goal : (c : Bool) → SpellsPart (if c then k None else limits (λ l. k (Some l))) (drop j w) ws m → (x : Option Limits) × AreSizes x × ((v : List ℕ) × (vs : List (List ℕ)) × SpellsPart (k x) v vs m) =
+    λ c. elim c as (λ c. SpellsPart (if c then k None else limits (λ l. k (Some l))) (drop j w) ws m → (x : Option Limits) × AreSizes x × ((v : List ℕ) × (vs : List (List ℕ)) × SpellsPart (k x) v vs m)) [
       | true ↦ λ h. (None, tt, (drop j w, ws, h))
       | false ↦ λ h. let (l, p, r) = limits_makes (λ l. k (Some l)) (drop j w) ws m h in (Some l, p, r)
     ] in goal _ h
@@ -319,16 +319,16 @@ instr_makes may k w ws m h =
     let (r, p, (w1, ws1, h1)) = coded_makes (opcode may) (IsRow may) (opcode_meets may) (λ r. row r k) w ws m h in
     row_makes may r p k w1 ws1 m h1
 
-instrs_make : (fuel : ℕ) (os : List Bool) (done : List Instr) (k : List Instr → Spelling) (w : List ℕ) (ws : List (List ℕ)) (m : Parts) → Spells (instrs fuel os done k) w ws m → (is : List Instr) × IsClosed os is × ((v : List ℕ) × (vs : List (List ℕ)) × Spells (k (done ++ is)) v vs m)
+instrs_make : (fuel : ℕ) (os : List Bool) (done : List Instr) (k : List Instr → Spelling) (w : List ℕ) (ws : List (List ℕ)) (m : Parts) → SpellsPart (instrs fuel os done k) w ws m → (is : List Instr) × IsClosed os is × ((v : List ℕ) × (vs : List (List ℕ)) × SpellsPart (k (done ++ is)) v vs m)
 unfolding instrs
-instrs_make fuel [] done k w ws m h = ([], tt, (w, ws, subst (λ is. Spells (k is) w ws m) (sym (append-nil done)) h))
+instrs_make fuel [] done k w ws m h = ([], tt, (w, ws, subst (λ is. SpellsPart (k is) w ws m) (sym (append-nil done)) h))
 instrs_make zero (o ∷ os) done k w ws m h = absurd h
 instrs_make (suc fuel) (o ∷ os) done k w ws m h =
     let (i, (q, p), (w1, ws1, h1)) = instr_makes o (λ i. instrs fuel (opens_after i (o ∷ os)) (done ++ i ∷ []) k) w ws m h in
     let (is, c, (w2, ws2, h2)) = instrs_make fuel (opens_after i (o ∷ os)) (done ++ i ∷ []) k w1 ws1 m h1 in
-    (i ∷ is, (q, p, c), (w2, ws2, subst (λ is. Spells (k is) w2 ws2 m) (append_assoc done (i ∷ []) is) h2))
+    (i ∷ is, (q, p, c), (w2, ws2, subst (λ is. SpellsPart (k is) w2 ws2 m) (append_assoc done (i ∷ []) is) h2))
 
-constant_of_makes : (t : ValType) → Makes (constant_of t) IsConstant
+constant_of_makes : (t : ValType) → Makes (constant_of t) IsConstValue
 constant_of_makes I32 k w ws m h =
     let (n, l, (w2, ws2, h2)) = s32_makes (λ n. byte 11 (k (constants.I32 n))) w ws m h in
     let (w3, ws3, h3) = byte_makes 11 _ w2 ws2 m h2 in
@@ -338,7 +338,7 @@ constant_of_makes I64 k w ws m h =
     let (w3, ws3, h3) = byte_makes 11 _ w2 ws2 m h2 in
     (constants.I64 n, l, (w3, ws3, h3))
 
-constant_makes : Makes constant IsConstant
+constant_makes : Makes constant IsConstValue
 unfolding constant
 constant_makes k w ws m h =
     let (t, p, (w1, ws1, h1)) = coded_makes (λ b. find b constant_opcodes) Any (λ b x e. tt) (λ t. constant_of t k) w ws m h in
@@ -387,8 +387,8 @@ table_type_makes k w ws m h = let (w1, ws1, h1) = byte_makes 112 (limits k) w ws
 table_makes : Makes table AreSizes
 unfolding table
 table_makes k w ws m (n, j, (i, f), h) =
-    let goal : (c : Bool) → Spells (if c then k None else table_type (λ l. k (Some l))) (drop j w) ws m → (x : Option Limits) × AreSizes x × ((v : List ℕ) × (vs : List (List ℕ)) × Spells (k x) v vs m) =
-    λ c. elim c as (λ c. Spells (if c then k None else table_type (λ l. k (Some l))) (drop j w) ws m → (x : Option Limits) × AreSizes x × ((v : List ℕ) × (vs : List (List ℕ)) × Spells (k x) v vs m)) [
+    let goal : (c : Bool) → SpellsPart (if c then k None else table_type (λ l. k (Some l))) (drop j w) ws m → (x : Option Limits) × AreSizes x × ((v : List ℕ) × (vs : List (List ℕ)) × SpellsPart (k x) v vs m) =
+    λ c. elim c as (λ c. SpellsPart (if c then k None else table_type (λ l. k (Some l))) (drop j w) ws m → (x : Option Limits) × AreSizes x × ((v : List ℕ) × (vs : List (List ℕ)) × SpellsPart (k x) v vs m)) [
       | true ↦ λ h. (None, tt, (drop j w, ws, h))
       | false ↦ λ h. let (l, p, r) = table_type_makes (λ l. k (Some l)) (drop j w) ws m h in (Some l, p, r)
     ] in goal _ h
@@ -494,7 +494,7 @@ section_makes s p g k w ws m (n, j, i, h) =
 whole_is : (p m : Parts) → Partial p → is_whole p ≡ true → p ≡ m → IsModule m
 whole_is p m g e q = subst IsModule q (record { types = g.types; funcs = g.funcs; table = g.table; memory = g.memory; globals = g.globals; exports = g.exports; elements = g.elements; bodies = g.bodies; whole = eqb-true _ _ e })
 
-sections_make : (fuel last : ℕ) (p : Parts) → Partial p → (w : List ℕ) (ws : List (List ℕ)) (m : Parts) → Spells (sections fuel last p) w ws m → IsModule m
+sections_make : (fuel last : ℕ) (p : Parts) → Partial p → (w : List ℕ) (ws : List (List ℕ)) (m : Parts) → SpellsPart (sections fuel last p) w ws m → IsModule m
 unfolding sections next_section
 sections_make zero last p g [] ws m (e, q) = whole_is p m g e q
 sections_make zero last p g (b ∷ w) ws m h = absurd h
@@ -507,7 +507,7 @@ sections_make (suc fuel) last p g (b ∷ w) ws m (c, j, i, h) =
 empty_is : Partial empty
 empty_is = record { types = (omega arith, tt); funcs = (omega arith, tt); table = tt; memory = tt; globals = (omega arith, tt); exports = (omega arith, tt); elements = (omega arith, tt); bodies = (omega arith, tt) }
 
-header_makes : (k : Spelling) (w : List ℕ) (ws : List (List ℕ)) (m : Parts) → Spells (header k) w ws m → (v : List ℕ) × (vs : List (List ℕ)) × Spells k v vs m
+header_makes : (k : Spelling) (w : List ℕ) (ws : List (List ℕ)) (m : Parts) → SpellsPart (header k) w ws m → (v : List ℕ) × (vs : List (List ℕ)) × SpellsPart k v vs m
 unfolding header
 header_makes k w ws m h =
     let (w1, ws1, h1) = byte_makes 0 _ w ws m h in

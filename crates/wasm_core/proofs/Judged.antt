@@ -8,7 +8,7 @@ use Rattle.wasm_core.specs.declared.instrs.Instr.{Instr}
 use Rattle.wasm_core.specs.declared.instrs.Instr.TheVariants.{Unreachable, Block, Loop, If, Else, End, Br, BrIf, BrTable, Return, Drop}
 use Rattle.wasm_core.specs.Parts.{Parts}
 use Rattle.wasm_core.specs.MachineStep.{on_some}
-use Rattle.wasm_core.specs.ModuleTyping.{Types, Effect, TypedBody, effect, left_by}
+use Rattle.wasm_core.specs.ModuleTyping.{OperandTypes, Effect, TypedBody, effect, left_by}
 use Rattle.wasm_core.specs.ModuleCondition.{IsClosed, opens_after}
 use Rattle.wasm_core.specs.FirstFault.{CanGoOn, IsFaultAt}
 use Rattle.wasm_core.specs.Pass.{Known, Ctl, Place, Check, More, Finished, only, off, put_on, closes, drop_one, dead, labels_of, opened, may_end, fit_labels, check, check_end, check_else, outset, one, run}
@@ -30,7 +30,7 @@ s_only : (n : ℕ) (b : Bool) (o : Option Check) → Sized n o → Sized n (only
 s_only n true o h = h
 s_only n false o h = tt
 
-module _ (m : Parts) (ls rs : Types) where
+module _ (m : Parts) (ls rs : OperandTypes) where
   plain_sized : (a : Place) (n : ℕ) → suc (length a.ctls) ≡ n → (o : Option Effect) → Sized n (on_some o (λ e. on_some (off e.0 a.now) (λ k. Some (More (record a { now = put_on e.1 k })))))
   plain_sized a n h o = s_some n o (λ e. on_some (off e.0 a.now) (λ k. Some (More (record a { now = put_on e.1 k })))) (λ e. s_some n (off e.0 a.now) (λ k. Some (More (record a { now = put_on e.1 k }))) (λ k. h))
 

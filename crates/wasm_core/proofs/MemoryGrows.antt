@@ -7,7 +7,7 @@ use Rattle.wasm_core.specs.declared.instrs.Instr.{Instr}
 use Rattle.wasm_core.specs.Parts.{Parts}
 use Rattle.wasm_core.specs.Memory.{zeroed}
 use Rattle.wasm_core.specs.Instance.{greatest_pages}
-use Rattle.wasm_core.specs.MachineStep.{Store, Conf, State, At, Over, step, storing, grown, Step}
+use Rattle.wasm_core.specs.MachineStep.{Store, Conf, State, At, Over, step, storing, grown, StepsTo}
 use Rattle.wasm_core.specs.Runs.{store_of}
 use Rattle.wasm_core.specs.Laws.{Grows, MemoryGrows}
 use Rattle.wasm_core.proofs.Gives.{Gives, gives_at, g_if, a_i32}
@@ -29,7 +29,7 @@ keeps m g c = record {
         (λ e. record { pages = omega arith; bytes = omega (arith, length-append c.store.memory (zeroed n)); refused = λ h. h })
         (record { pages = omega arith; bytes = omega arith; refused = λ h. refl })
 
-grow_step : (m : Parts) (granted : Bool) (s t : State) → Step m granted s t → Grows (store_of s) (store_of t)
+grow_step : (m : Parts) (granted : Bool) (s t : State) → StepsTo m granted s t → Grows (store_of s) (store_of t)
 grow_step m granted (At c) t e = gives_at (λ s. Grows c.store (store_of s)) (step m granted c) t (next_keeps m granted c (Grows c.store) (keeps m granted c) c.current.rest) e
 grow_step m granted (Over end store) t e = absurd e
 

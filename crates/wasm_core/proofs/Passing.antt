@@ -11,29 +11,29 @@ use Rattle.wasm_core.specs.declared.instrs.Instr.{Instr}
 use Rattle.wasm_core.specs.declared.instrs.Instr.TheVariants.{Unreachable, Nop, Block, Loop, If, Else, End, Br, BrIf, BrTable, Return, Call, CallIndirect, Drop, LocalGet, LocalSet, LocalTee, GlobalGet, GlobalSet, I32Load, I32Load8U, I32Store, I32Store8, MemorySize, MemoryGrow, I32Const, I64Const, I32 as Operation}
 use Rattle.wasm_core.specs.Parts.{Parts}
 use Rattle.wasm_core.specs.MachineStep.{on_some}
-use Rattle.wasm_core.specs.ModuleTyping.{Types, Operands, OperandType, Of, Bottom, known, Match, match_none, match_same, match_bottom, Effect, Reaches, Typed, TypedBody, done, plain, drop, unreachable, block, loop, one_arm, two_arms, br, br_if, br_table, return, effect, left_by}
+use Rattle.wasm_core.specs.ModuleTyping.{OperandTypes, Operands, OperandType, Of, Bottom, known, Match, match_none, match_same, match_bottom, Effect, Reaches, Typed, TypedBody, done, plain, drop, unreachable, block, loop, one_arm, two_arms, br, br_if, br_table, return, effect, left_by}
 use Rattle.wasm_core.specs.FirstFault.{CanGoOn}
 use Rattle.wasm_core.specs.Pass.{Known, Ctl, Place, Check, More, Finished, knowing, same, only, take_off, off, put_on, if_none, closes, drop_one, dead, labels_of, opened, may_end, fits_label, fit_labels, check, check_end, check_else, passes, Accepts, outset, one, run}
 use Rattle.wasm_core.proofs.Small.{inj, no}
 use Rattle.wasm_core.proofs.TypedRules.{match_known}
 
 -- what is known stands for these operands
-abbrev RepOf : Bool → Types → Operands → Type 0
+abbrev RepOf : Bool → OperandTypes → Operands → Type 0
 RepOf false vals ts = ts ≡ known vals
 RepOf true vals ts = (any : Operands) × (ts ≡ known vals ++ any)
 
 abbrev Rep : Known → Operands → Type 0
 Rep k ts = RepOf k.loose k.vals ts
 
-rep_vals : (loose : Bool) (vals : Types) → RepOf loose vals (known vals)
+rep_vals : (loose : Bool) (vals : OperandTypes) → RepOf loose vals (known vals)
 rep_vals false vals = refl
 rep_vals true vals = ([], sym (append-nil (known vals)))
 
-rep_cons : (loose : Bool) (v : ValType) (vals : Types) (ts : Operands) → RepOf loose vals ts → RepOf loose (v ∷ vals) (Of v ∷ ts)
+rep_cons : (loose : Bool) (v : ValType) (vals : OperandTypes) (ts : Operands) → RepOf loose vals ts → RepOf loose (v ∷ vals) (Of v ∷ ts)
 rep_cons false v vals ts r = ap (λ x. Of v ∷ x) r
 rep_cons true v vals ts r = (r.0, ap (λ x. Of v ∷ x) r.1)
 
-rep_put : (loose : Bool) (ps vals : Types) (ts : Operands) → RepOf loose vals ts → RepOf loose (ps ++ vals) (known ps ++ ts)
+rep_put : (loose : Bool) (ps vals : OperandTypes) (ts : Operands) → RepOf loose vals ts → RepOf loose (ps ++ vals) (known ps ++ ts)
 rep_put loose [] vals ts r = r
 rep_put loose (p ∷ ps) vals ts r = rep_cons loose p (ps ++ vals) (known ps ++ ts) (rep_put loose ps vals ts r)
 
@@ -51,7 +51,7 @@ only_some : {A : Type 0} (b : Bool) (o : Option A) (x : A) → only b o ≡ Some
 only_some true o x h = (refl, h)
 only_some false o x h = no h
 
-off_sound : (ps vals : Types) (loose : Bool) (k : Known) (ts : Operands) → take_off ps vals loose ≡ Some k → Rep k ts → RepOf loose vals (known ps ++ ts)
+off_sound : (ps vals : OperandTypes) (loose : Bool) (k : Known) (ts : Operands) → take_off ps vals loose ≡ Some k → Rep k ts → RepOf loose vals (known ps ++ ts)
 off_sound [] vals loose k ts e r = subst (λ (x : Known). Rep x ts) (sym (inj e)) r
 off_sound (p ∷ ps) [] false k ts e r = no e
 off_sound (p ∷ ps) [] true k ts e r = (known (p ∷ ps) ++ ts, refl)
@@ -61,11 +61,11 @@ off_sound (p ∷ ps) (v ∷ vals) loose k ts e r =
     subst (λ x. RepOf loose (x ∷ vals) (Of p ∷ (known ps ++ ts))) (same_eq p v w.0) q
 
 -- the topmost operand that is known
-rep_head : (loose : Bool) (o : OperandType) (v : ValType) (xs : Operands) (vals : Types) → RepOf loose (v ∷ vals) (o ∷ xs) → (o ≡ Of v) × RepOf loose vals xs
+rep_head : (loose : Bool) (o : OperandType) (v : ValType) (xs : Operands) (vals : OperandTypes) → RepOf loose (v ∷ vals) (o ∷ xs) → (o ≡ Of v) × RepOf loose vals xs
 rep_head false o v xs vals r = (let a : o ≡ Of v = cc in a, let b : xs ≡ known vals = cc in b)
 rep_head true o v xs vals (any, r) = (let a : o ≡ Of v = cc in a, (any, let b : xs ≡ known vals ++ any = cc in b))
 
-off_complete : {os : Operands} {ps : Types} → Match os ps → (vals : Types) (loose : Bool) (ts : Operands) → RepOf loose vals (os ++ ts) → (k : Known) × (take_off ps vals loose ≡ Some k) × Rep k ts
+off_complete : {os : Operands} {ps : OperandTypes} → Match os ps → (vals : OperandTypes) (loose : Bool) (ts : Operands) → RepOf loose vals (os ++ ts) → (k : Known) × (take_off ps vals loose ≡ Some k) × Rep k ts
 off_complete match_none vals loose ts r = (knowing vals loose, refl, r)
 off_complete (match_same m) [] false ts r = cc
 off_complete (match_bottom m) [] false ts r = cc
@@ -84,17 +84,17 @@ some_of (Some x) f y e = (x, refl, e)
 
 -- ---- the operands for all labels of a `br_table`: what is known of so many, and bottom types
 
-pad : ℕ → Types → Operands
+pad : ℕ → OperandTypes → Operands
 pad zero vals = []
 pad (suc n) [] = Bottom ∷ pad n []
 pad (suc n) (v ∷ vals) = Of v ∷ pad n vals
 
-pad_match_none : (lt : Types) → Match (pad (length lt) []) lt
+pad_match_none : (lt : OperandTypes) → Match (pad (length lt) []) lt
 unfolding pad
 pad_match_none [] = match_none
 pad_match_none (t ∷ lt) = match_bottom (pad_match_none lt)
 
-pad_match : (lt vals : Types) (loose : Bool) (k : Known) → take_off lt vals loose ≡ Some k → Match (pad (length lt) vals) lt
+pad_match : (lt vals : OperandTypes) (loose : Bool) (k : Known) → take_off lt vals loose ≡ Some k → Match (pad (length lt) vals) lt
 unfolding pad
 pad_match [] vals loose k e = match_none
 pad_match (p ∷ ps) [] false k e = no e
@@ -103,7 +103,7 @@ pad_match (p ∷ ps) (v ∷ vals) loose k e =
     let w = only_some (same p v) (take_off ps vals loose) k e in
     subst (λ x. Match (Of x ∷ pad (length ps) vals) (p ∷ ps)) (same_eq p v w.0) (match_same (pad_match ps vals loose k w.1))
 
-pad_rep : (lt vals : Types) (loose : Bool) (k : Known) → take_off lt vals loose ≡ Some k → RepOf loose vals (pad (length lt) vals ++ known k.vals)
+pad_rep : (lt vals : OperandTypes) (loose : Bool) (k : Known) → take_off lt vals loose ≡ Some k → RepOf loose vals (pad (length lt) vals ++ known k.vals)
 unfolding pad
 pad_rep [] vals loose k e = subst (λ (x : Known). RepOf loose vals (known x.vals)) (inj e) (rep_vals loose vals)
 pad_rep (p ∷ ps) [] false k e = no e
@@ -119,14 +119,14 @@ some_there : {A : Type 0} (o : Option A) → is_some o ≡ true → (x : A) × (
 some_there None e = cc
 some_there (Some x) e = (x, refl)
 
-label_sound : (labels : List Types) (l n : ℕ) (k : Known) (o : Option Types) → slice_get labels l ≡ o → fits_label o n k ≡ true → Reaches labels l (pad n k.vals)
+label_sound : (labels : List OperandTypes) (l n : ℕ) (k : Known) (o : Option OperandTypes) → slice_get labels l ≡ o → fits_label o n k ≡ true → Reaches labels l (pad n k.vals)
 label_sound labels l n k None h e = cc
 label_sound labels l n k (Some lt) h e =
     let (a, b) = both (nat_eq (length lt) n) (is_some (off lt k)) e in
     let (j, hj) = some_there (off lt k) b in
     record { wanted = lt; found = h; matched = subst (λ i. Match (pad i k.vals) lt) (eqb-true (length lt) n a) (pad_match lt k.vals k.loose j hj) }
 
-labels_sound : (labels : List Types) (n : ℕ) (k : Known) (ls : List ℕ) → fit_labels labels n k ls ≡ true → (i l : ℕ) → slice_get ls i ≡ Some l → Reaches labels l (pad n k.vals)
+labels_sound : (labels : List OperandTypes) (n : ℕ) (k : Known) (ls : List ℕ) → fit_labels labels n k ls ≡ true → (i l : ℕ) → slice_get ls i ≡ Some l → Reaches labels l (pad n k.vals)
 labels_sound labels n k [] e i l h = no h
 labels_sound labels n k (x ∷ ls) e zero l h =
     let (a, b) = both (fits_label (slice_get labels x) n k) (fit_labels labels n k ls) e in
@@ -134,19 +134,19 @@ labels_sound labels n k (x ∷ ls) e zero l h =
 labels_sound labels n k (x ∷ ls) e (suc i) l h =
     let (a, b) = both (fits_label (slice_get labels x) n k) (fit_labels labels n k ls) e in labels_sound labels n k ls b i l h
 
-match_length : {os : Operands} {ps : Types} → Match os ps → length ps ≡ length os
+match_length : {os : Operands} {ps : OperandTypes} → Match os ps → length ps ≡ length os
 match_length match_none = refl
 match_length (match_same m) = ap suc (match_length m)
 match_length (match_bottom m) = ap suc (match_length m)
 
-labels_complete : (labels : List Types) (os ts : Operands) (n : ℕ) (k : Known) → n ≡ length os → Rep k (os ++ ts) → (ls : List ℕ) → ((i l : ℕ) → slice_get ls i ≡ Some l → Reaches labels l os) → fit_labels labels n k ls ≡ true
+labels_complete : (labels : List OperandTypes) (os ts : Operands) (n : ℕ) (k : Known) → n ≡ length os → Rep k (os ++ ts) → (ls : List ℕ) → ((i l : ℕ) → slice_get ls i ≡ Some l → Reaches labels l os) → fit_labels labels n k ls ≡ true
 labels_complete labels os ts n k len r [] h = refl
 labels_complete labels os ts n k len r (l ∷ ls) h =
     let x = h 0 l refl in
     let (j, hj, rj) = off_complete x.matched k.vals k.loose ts r in
     let a : nat_eq (length x.wanted) n ≡ true = eq-eqb (length x.wanted) n (match_length x.matched ∙ sym len) in
     let b : is_some (off x.wanted k) ≡ true = ap (λ (o : Option Known). is_some o) hj in
-    let c : fits_label (slice_get labels l) n k ≡ true = ap (λ (o : Option Types). fits_label o n k) x.found ∙ ap (λ (t : Bool). t && is_some (off x.wanted k)) a ∙ b in
+    let c : fits_label (slice_get labels l) n k ≡ true = ap (λ (o : Option OperandTypes). fits_label o n k) x.found ∙ ap (λ (t : Bool). t && is_some (off x.wanted k)) a ∙ b in
     ap (λ (t : Bool). t && fit_labels labels n k ls) c ∙ labels_complete labels os ts n k len r ls (λ i l e. h (suc i) l e)
 
 none_passes : (go : Place → Type 0) (fin : Type 0) → passes None go fin → ⊥
@@ -161,12 +161,12 @@ allowed : (b : Bool) (o : Option Check) (go : Place → Type 0) (fin : Type 0) �
 allowed true o go fin h = (refl, h)
 allowed false o go fin h = absurd h
 
-drop_sound : (vals : Types) (loose : Bool) (k : Known) (ts : Operands) → drop_one vals loose ≡ Some k → Rep k ts → (t : OperandType) × RepOf loose vals (t ∷ ts)
+drop_sound : (vals : OperandTypes) (loose : Bool) (k : Known) (ts : Operands) → drop_one vals loose ≡ Some k → Rep k ts → (t : OperandType) × RepOf loose vals (t ∷ ts)
 drop_sound [] false k ts e r = no e
 drop_sound [] true k ts e r = (Bottom, (Bottom ∷ ts, refl))
 drop_sound (v ∷ vals) loose k ts e r = (Of v, rep_cons loose v vals ts (subst (λ (x : Known). Rep x ts) (sym (inj e)) r))
 
-drop_complete : (vals : Types) (loose : Bool) (t : OperandType) (ts : Operands) → RepOf loose vals (t ∷ ts) → (k : Known) × (drop_one vals loose ≡ Some k) × Rep k ts
+drop_complete : (vals : OperandTypes) (loose : Bool) (t : OperandType) (ts : Operands) → RepOf loose vals (t ∷ ts) → (k : Known) × (drop_one vals loose ≡ Some k) × Rep k ts
 drop_complete [] false t ts r = cc
 drop_complete [] true t ts r = (knowing [] true, refl, (ts, refl))
 drop_complete (v ∷ vals) false t ts r = (knowing vals false, refl, let e : ts ≡ known vals = cc in e)
@@ -175,30 +175,30 @@ drop_complete (v ∷ vals) true t ts (any, r) = (knowing vals true, refl, (any, 
 nil_rep : (loose : Bool) → RepOf loose [] []
 nil_rep loose = rep_vals loose []
 
-if_none_sound : (vals : Types) (loose : Bool) (k j : Known) → if_none vals k ≡ Some j → RepOf loose vals []
+if_none_sound : (vals : OperandTypes) (loose : Bool) (k j : Known) → if_none vals k ≡ Some j → RepOf loose vals []
 if_none_sound [] loose k j e = nil_rep loose
 if_none_sound (v ∷ vals) loose k j e = no e
 
-if_none_complete : (loose : Bool) (vals : Types) (k : Known) → RepOf loose vals [] → if_none vals k ≡ Some k
+if_none_complete : (loose : Bool) (vals : OperandTypes) (k : Known) → RepOf loose vals [] → if_none vals k ≡ Some k
 if_none_complete loose [] k r = refl
 if_none_complete false (v ∷ vals) k r = cc
 if_none_complete true (v ∷ vals) k (any, r) = cc
 
-closes_sound : (ps : Types) (k j : Known) → closes ps k ≡ Some j → Rep k (known ps)
+closes_sound : (ps : OperandTypes) (k j : Known) → closes ps k ≡ Some j → Rep k (known ps)
 closes_sound ps k j e =
     let (x, f, h) = some_of (off ps k) (λ y. if_none y.vals y) j e in
     rw (append-nil (known ps)) at (off_sound ps k.vals k.loose x [] f (if_none_sound x.vals x.loose x j h))
 
-closes_complete : {os : Operands} (ps : Types) (k : Known) → Match os ps → Rep k os → (j : Known) × (closes ps k ≡ Some j)
+closes_complete : {os : Operands} (ps : OperandTypes) (k : Known) → Match os ps → Rep k os → (j : Known) × (closes ps k ≡ Some j)
 closes_complete {os} ps k m r =
     let (x, f, q) = off_complete m k.vals k.loose [] (subst (RepOf k.loose k.vals) (sym (append-nil os)) r) in
     (x, ap (λ (o : Option Known). on_some o (λ y. if_none y.vals y)) f ∙ if_none_complete x.loose x.vals x q)
 
-rep_split : (loose : Bool) (ps vals : Types) (ts : Operands) → RepOf loose (ps ++ vals) ts → (below : Operands) × (ts ≡ known ps ++ below) × RepOf loose vals below
+rep_split : (loose : Bool) (ps vals : OperandTypes) (ts : Operands) → RepOf loose (ps ++ vals) ts → (below : Operands) × (ts ≡ known ps ++ below) × RepOf loose vals below
 rep_split false ps vals ts r = (known vals, r ∙ map-append Of ps vals, refl)
 rep_split true ps vals ts (any, r) = (known vals ++ any, r ∙ ap (λ l. l ++ any) (map-append Of ps vals) ∙ append_assoc (known ps) (known vals) any, (any, refl))
 
-module _ (m : Parts) (ls rs : Types) where
+module _ (m : Parts) (ls rs : OperandTypes) where
   -- the code has a typing from these operands on, within these open blocks
   data Rests : List Ctl → Operands → List Instr → Type 0 where
     last : {ts us : Operands} {body : List Instr} → Typed m ls rs (rs ∷ []) ts body us → Match us rs → Rests [] ts (body ++ End ∷ [])
@@ -252,7 +252,7 @@ module _ (m : Parts) (ls rs : Types) where
         prepend (known e.0 ++ below) (λ x. i ∷ x) (λ x y. refl) (λ us y t. plain (known e.0) below he (match_known e.0) (subst (λ z. Typed m ls rs (labels_of rs a.ctls) z y us) is t)) d,
       )
 
-  from_block : (f : Instr) (label ends : Types) (rest : List Instr) (a : Place) → ((inner r : List Instr) (ts left us : Operands) → Typed m ls rs (label ∷ labels_of rs a.ctls) [] inner left → Match left ends → Typed m ls rs (labels_of rs a.ctls) (known ends ++ ts) r us → Typed m
+  from_block : (f : Instr) (label ends : OperandTypes) (rest : List Instr) (a : Place) → ((inner r : List Instr) (ts left us : Operands) → Typed m ls rs (label ∷ labels_of rs a.ctls) [] inner left → Match left ends → Typed m ls rs (labels_of rs a.ctls) (known ends ++ ts) r us → Typed m
       ls rs (labels_of rs a.ctls) ts (f ∷ (inner ++ End ∷ r)) us) → Held rest → Accepts m ls rs (record { now = knowing [] false; ctls = record { label = label; ends = ends; one_arm = false; below = a.now } ∷ a.ctls }) rest → Found a (f ∷ rest)
   from_block f label ends rest a by ih h =
       let c : Ctl = record { label = label; ends = ends; one_arm = false; below = a.now } in
@@ -396,7 +396,7 @@ module _ (m : Parts) (ls rs : Types) where
       let p = ap (λ (o : Option Known). on_some o (λ k. only (may_end c.one_arm c.ends) (Some (More after)))) hj ∙ ap (λ b. only b (Some (More after))) may in
       subst (λ (o : Option Check). passes o (goes_on rest) (rest ≡ [])) (sym p) on
 
-  forward : {labels : List Types} {ts us : Operands} {body : List Instr} → Typed m ls rs labels ts body us → (a : Place) → labels_of rs a.ctls ≡ labels → Rep a.now ts → (tail : List Instr) → ((k : Known) → Rep k us → Accepts m ls rs (record a { now = k }) tail) → Accepts m ls rs a (body ++ tail)
+  forward : {labels : List OperandTypes} {ts us : Operands} {body : List Instr} → Typed m ls rs labels ts body us → (a : Place) → labels_of rs a.ctls ≡ labels → Rep a.now ts → (tail : List Instr) → ((k : Known) → Rep k us → Accepts m ls rs (record a { now = k }) tail) → Accepts m ls rs a (body ++ tail)
   forward done a e r tail on = on a.now r
   forward (plain {pops = pops} {pushes = pushes} os ts {i = i} {rest = rest} he ma t) a e r tail on =
       let (k, hk, rk) = off_complete ma a.now.vals a.now.loose ts r in
@@ -443,15 +443,15 @@ module _ (m : Parts) (ls rs : Types) where
       let lt = rc.wanted in
       let hl = rc.found in
       let (k, hk, rk) = off_complete rc.matched a.now.vals a.now.loose ts r in
-      let p = ap (λ (ss : List Types). on_some (slice_get ss l) (λ lt. on_some (off lt a.now) (λ k. Some (dead a)))) e ∙ ap (λ (o : Option Types). on_some o (λ lt. on_some (off lt a.now) (λ k. Some (dead a)))) hl ∙ ap (λ (o : Option Known). on_some o (λ k. Some (dead a))) hk in
+      let p = ap (λ (ss : List OperandTypes). on_some (slice_get ss l) (λ lt. on_some (off lt a.now) (λ k. Some (dead a)))) e ∙ ap (λ (o : Option OperandTypes). on_some o (λ lt. on_some (off lt a.now) (λ k. Some (dead a)))) hl ∙ ap (λ (o : Option Known). on_some o (λ k. Some (dead a))) hk in
       subst (λ (o : Option Check). passes o (goes_on (rest ++ tail)) (rest ++ tail ≡ [])) (sym p) (forward t (record a { now = knowing [] true }) e (any, refl) tail on)
   forward (br_if os ts {l = l} {rest = rest} co rc t) a e r tail on =
       let lt = rc.wanted in
       let hl = rc.found in
       let (k, hk, rk) = off_complete co a.now.vals a.now.loose (os ++ ts) r in
       let (j, hj, rj) = off_complete rc.matched k.vals k.loose ts rk in
-      let last = λ (lt : Types) (j : Known). Some (More (record a { now = put_on lt j })) in
-      let p = ap (λ (ss : List Types). on_some (slice_get ss l) (λ lt. on_some (off (I32 ∷ []) a.now) (λ k. on_some (off lt k) (last lt)))) e ∙ ap (λ (o : Option Types). on_some o (λ lt. on_some (off (I32 ∷ []) a.now) (λ k. on_some (off lt k) (last lt)))) hl ∙ ap (λ
+      let last = λ (lt : OperandTypes) (j : Known). Some (More (record a { now = put_on lt j })) in
+      let p = ap (λ (ss : List OperandTypes). on_some (slice_get ss l) (λ lt. on_some (off (I32 ∷ []) a.now) (λ k. on_some (off lt k) (last lt)))) e ∙ ap (λ (o : Option OperandTypes). on_some o (λ lt. on_some (off (I32 ∷ []) a.now) (λ k. on_some (off lt k) (last lt)))) hl ∙ ap (λ
       (o : Option Known). on_some o (λ k. on_some (off lt k) (last lt))) hk ∙ ap (λ (o : Option Known). on_some o (last lt)) hj in
       subst (λ (o : Option Check). passes o (goes_on (rest ++ tail)) (rest ++ tail ≡ [])) (sym p) (forward t (record a { now = put_on lt j }) e (rep_put j.loose lt j.vals ts rj) tail on)
   forward (br_table {labels = labels} {any = any} os ts {ls = js} {l = l} {rest = rest} co rl rc t) a e r tail on =
@@ -461,8 +461,8 @@ module _ (m : Parts) (ls rs : Types) where
       let (j, hj, rj) = off_complete rc.matched k.vals k.loose ts rk in
       let fit = labels_complete labels os ts (length lt) k (match_length rc.matched) rk js rl in
       let p =
-      ap (λ (ss : List Types). on_some (slice_get ss l) (λ lt. on_some (off (I32 ∷ []) a.now) (λ k. on_some (off lt k) (λ j. only (fit_labels ss (length lt) k js) (Some (dead a)))))) e
-      ∙ ap (λ (o : Option Types). on_some o (λ lt. on_some (off (I32 ∷ []) a.now) (λ k. on_some (off lt k) (λ j. only (fit_labels labels (length lt) k js) (Some (dead a)))))) hl
+      ap (λ (ss : List OperandTypes). on_some (slice_get ss l) (λ lt. on_some (off (I32 ∷ []) a.now) (λ k. on_some (off lt k) (λ j. only (fit_labels ss (length lt) k js) (Some (dead a)))))) e
+      ∙ ap (λ (o : Option OperandTypes). on_some o (λ lt. on_some (off (I32 ∷ []) a.now) (λ k. on_some (off lt k) (λ j. only (fit_labels labels (length lt) k js) (Some (dead a)))))) hl
       ∙ ap (λ (o : Option Known). on_some o (λ k. on_some (off lt k) (λ j. only (fit_labels labels (length lt) k js) (Some (dead a))))) hk
       ∙ ap (λ (o : Option Known). on_some o (λ j. only (fit_labels labels (length lt) k js) (Some (dead a)))) hj
       ∙ ap (λ (x : Bool). only x (Some (dead a))) fit in

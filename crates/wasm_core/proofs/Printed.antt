@@ -7,9 +7,9 @@ use Rattle.std.proofs.Math.Nat.{mod-add-div}
 use Rattle.std.proofs.Math.Pow.{pow_mono}
 use Rattle.std.proofs.Math.Seq.{take-append_seam, drop-append_seam}
 use Rattle.wasm_core.specs.Format.{Number, Name, Size}
-use Rattle.wasm_core.specs.Spelling.{Lasts, IsNumber, Spells}
+use Rattle.wasm_core.specs.Spelling.{Lasts, IsNumber, SpellsPart}
 use Rattle.wasm_core.specs.Parts.{Parts}
-use Rattle.wasm_core.specs.ModuleCondition.{All, IsFuncType, IsLimits, IsConstant, IsGlobal, IsExport, IsU32, IsVector, IsSegment, IsAccess, IsInstr, MayCome, opens_after, IsClosed}
+use Rattle.wasm_core.specs.ModuleCondition.{All, IsFuncType, IsLimits, IsConstValue, IsGlobal, IsExport, IsU32, IsVector, IsSegment, IsAccess, IsInstr, MayCome, opens_after, IsClosed}
 use Rattle.wasm_core.specs.ModuleGrammar.{Spelling, byte, u32, s32, s64, block_type, access, indices, table_type, segment, Row, Plain, Typed, Index, Accessing, Pair, Table, Zeroed, Bits, LongBits, opcode, on, any, times, val_type, val_types, func_result, func_type, finish, limits_flag, limits, mutability, constant, global, export_kind, exported, instr, row, instrs}
 use Rattle.wasm_core.specs.ShortestBytes.{unsigned, signed, put_u32, put_all, put_list, put_val_type, put_result, put_func_type, put_bounds, put_limits, flag, put_constant, put_global, put_name, kind_code, put_export, block_type_code, operation_code, put_access, put_instr, put_table_type, put_segment}
 use Rattle.wasm_core.specs.declared.types.ValType.{ValType}
@@ -121,45 +121,45 @@ signed_before (suc g) bits n w p h l =
 -- ---- items before what is spelled after them
 
 module _ (ws : List (List ℕ)) (m : Parts) where
-  pub byte_printed : (b : ℕ) (k : Spelling) (w : List ℕ) → Spells k w ws m → Spells (byte b k) (b ∷ w) ws m
+  pub byte_printed : (b : ℕ) (k : Spelling) (w : List ℕ) → SpellsPart k w ws m → SpellsPart (byte b k) (b ∷ w) ws m
   unfolding byte
   byte_printed b k w h = (b, 1, (refl, (w, refl), eq-eqb b b refl), h)
 
-  pub number_printed : (s : Bool) (bits : ℕ) (fits : ℕ → Bool) (next : ℕ → Spelling) (w : List ℕ) (n : ℕ) (rest : List ℕ) → Before s bits w n rest → fits n ≡ true → Spells (next n) rest ws m → Spells (Number s bits fits next) w ws m
-  number_printed s bits fits next w n rest (k, i, d) f h = (n, k, (i, f), subst (λ w. Spells (next n) w ws m) (sym d) h)
+  pub number_printed : (s : Bool) (bits : ℕ) (fits : ℕ → Bool) (next : ℕ → Spelling) (w : List ℕ) (n : ℕ) (rest : List ℕ) → Before s bits w n rest → fits n ≡ true → SpellsPart (next n) rest ws m → SpellsPart (Number s bits fits next) w ws m
+  number_printed s bits fits next w n rest (k, i, d) f h = (n, k, (i, f), subst (λ w. SpellsPart (next n) w ws m) (sym d) h)
 
-  pub u32_printed : (k : ℕ → Spelling) (n : ℕ) (w : List ℕ) → n < 2 ^ 32 → Spells (k n) w ws m → Spells (u32 k) (put_u32 n w) ws m
+  pub u32_printed : (k : ℕ → Spelling) (n : ℕ) (w : List ℕ) → n < 2 ^ 32 → SpellsPart (k n) w ws m → SpellsPart (u32 k) (put_u32 n w) ws m
   unfolding u32
   u32_printed k n w l h = number_printed false 32 any k (put_u32 n w) n w (unsigned_before 5 32 n w (omega arith) (omega arith) l) refl h
 
-  pub s32_printed : (k : ℕ → Spelling) (n : ℕ) (w : List ℕ) → n < 2 ^ 32 → Spells (k n) w ws m → Spells (s32 k) (signed 5 32 n w) ws m
+  pub s32_printed : (k : ℕ → Spelling) (n : ℕ) (w : List ℕ) → n < 2 ^ 32 → SpellsPart (k n) w ws m → SpellsPart (s32 k) (signed 5 32 n w) ws m
   unfolding s32
   s32_printed k n w l h = number_printed true 32 any k (signed 5 32 n w) n w (signed_before 5 32 n w (omega arith) (omega arith) l) refl h
 
-  pub s64_printed : (k : ℕ → Spelling) (n : ℕ) (w : List ℕ) → n < 2 ^ 64 → Spells (k n) w ws m → Spells (s64 k) (signed 10 64 n w) ws m
+  pub s64_printed : (k : ℕ → Spelling) (n : ℕ) (w : List ℕ) → n < 2 ^ 64 → SpellsPart (k n) w ws m → SpellsPart (s64 k) (signed 10 64 n w) ws m
   unfolding s64
   s64_printed k n w l h = number_printed true 64 any k (signed 10 64 n w) n w (signed_before 10 64 n w (omega arith) (omega arith) l) refl h
 
-  pub size_printed : (next : ℕ → Spelling) (part w : List ℕ) → length part < 2 ^ 32 → Spells (next (length part)) part (w ∷ ws) m → Spells (Size next) (put_u32 (length part) (part ++ w)) ws m
+  pub size_printed : (next : ℕ → Spelling) (part w : List ℕ) → length part < 2 ^ 32 → SpellsPart (next (length part)) part (w ∷ ws) m → SpellsPart (Size next) (put_u32 (length part) (part ++ w)) ws m
   size_printed next part w l h =
       let (k, i, d) = unsigned_before 5 32 (length part) (part ++ w) (omega arith) (omega arith) l in
       let inside : take (length part) (drop k (put_u32 (length part) (part ++ w))) ≡ part = ap (take (length part)) d ∙ take-append_seam part w in
       let after : drop (length part) (drop k (put_u32 (length part) (part ++ w))) ≡ w = ap (drop (length part)) d ∙ drop-append_seam part w in
       let room : length part ≤ length (drop k (put_u32 (length part) (part ++ w))) = let e = ap length d in let f = length-append part w in omega (arith, e, f) in
-      (length part, k, (i, room), subst (λ p. Spells (next (length part)) p (drop (length part) (drop k (put_u32 (length part) (part ++ w))) ∷ ws) m) (sym inside) (subst (λ r. Spells (next (length part)) part (r ∷ ws) m) (sym after) h))
+      (length part, k, (i, room), subst (λ p. SpellsPart (next (length part)) p (drop (length part) (drop k (put_u32 (length part) (part ++ w))) ∷ ws) m) (sym inside) (subst (λ r. SpellsPart (next (length part)) part (r ∷ ws) m) (sym after) h))
 
-  pub finish_printed : (k : Spelling) (w : List ℕ) → Spells k w ws m → Spells (finish k) [] (w ∷ ws) m
+  pub finish_printed : (k : Spelling) (w : List ℕ) → SpellsPart k w ws m → SpellsPart (finish k) [] (w ∷ ws) m
   unfolding finish
   finish_printed k w h = (refl, h)
 
   -- one thing printed, whatever comes after it
   abbrev pub Prints : {A : Type 0} → ((A → Spelling) → Spelling) → (A → List ℕ → List ℕ) → A → Type 0
-  Prints {A = A} one put x = (k : A → Spelling) (w : List ℕ) → Spells (k x) w ws m → Spells (one k) (put x w) ws m
+  Prints {A = A} one put x = (k : A → Spelling) (w : List ℕ) → SpellsPart (k x) w ws m → SpellsPart (one k) (put x w) ws m
 
-  pub times_printed : {A : Type 0} (one : (A → Spelling) → Spelling) (put : A → List ℕ → List ℕ) (xs done : List A) → All (Prints one put) xs → (k : List A → Spelling) (w : List ℕ) → Spells (k (done ++ xs)) w ws m → Spells (times (length xs) one done k) (put_all put xs w) ws m
+  pub times_printed : {A : Type 0} (one : (A → Spelling) → Spelling) (put : A → List ℕ → List ℕ) (xs done : List A) → All (Prints one put) xs → (k : List A → Spelling) (w : List ℕ) → SpellsPart (k (done ++ xs)) w ws m → SpellsPart (times (length xs) one done k) (put_all put xs w) ws m
   unfolding times put_all
-  times_printed one put [] done a k w h = subst (λ xs. Spells (k xs) w ws m) (append-nil done) h
-  times_printed one put (x ∷ xs) done (p, a) k w h = p _ (put_all put xs w) (times_printed one put xs (done ++ x ∷ []) a k w (subst (λ ys. Spells (k ys) w ws m) (sym (append_assoc done (x ∷ []) xs)) h))
+  times_printed one put [] done a k w h = subst (λ xs. SpellsPart (k xs) w ws m) (append-nil done) h
+  times_printed one put (x ∷ xs) done (p, a) k w h = p _ (put_all put xs w) (times_printed one put xs (done ++ x ∷ []) a k w (subst (λ ys. SpellsPart (k ys) w ws m) (sym (append_assoc done (x ∷ []) xs)) h))
 
   -- ---- types
 
@@ -208,7 +208,7 @@ module _ (ws : List (List ℕ)) (m : Parts) where
   mutability_printed false k w h = (0, 1, (refl, (w, refl), refl), h)
   mutability_printed true k w h = (1, 1, (refl, (w, refl), refl), h)
 
-  constant_printed : (c : ConstValue) → IsConstant c → Prints constant put_constant c
+  constant_printed : (c : ConstValue) → IsConstValue c → Prints constant put_constant c
   unfolding constant
   constant_printed (constants.I32 n) l k w h = (65, 1, (refl, (_, refl), refl), s32_printed (λ n. byte 11 (k (constants.I32 n))) n (11 ∷ w) l (byte_printed 11 _ w h))
   constant_printed (constants.I64 n) l k w h = (66, 1, (refl, (_, refl), refl), s64_printed (λ n. byte 11 (k (constants.I64 n))) n (11 ∷ w) l (byte_printed 11 _ w h))
@@ -252,7 +252,7 @@ module _ (ws : List (List ℕ)) (m : Parts) where
       let inside : s ≡ take (length s) (drop j v) = sym (ap (take (length s)) d ∙ take-append_seam s w) in
       let after : drop (j + length s) v ≡ w = sym (drop-drop (length s) j v) ∙ ap (drop (length s)) d ∙ drop-append_seam s w in
       let room : length s ≤ length (drop j v) = let e = ap length d in let f = length-append s w in omega (arith, e, f) in
-      (s, j + length s, (length s, j, i, room, inside, u, refl), subst (λ r. Spells (k s) r ws m) (sym after) h)
+      (s, j + length s, (length s, j, i, room, inside, u, refl), subst (λ r. SpellsPart (k s) r ws m) (sym after) h)
 
   -- ---- exports
 
@@ -283,11 +283,11 @@ module _ (ws : List (List ℕ)) (m : Parts) where
   access_printed a (l, q) k w h = u32_printed (λ x. u32 (λ o. k (record { align = x; offset = o }))) a.align _ l (u32_printed (λ o. k (record { align = a.align; offset = o })) a.offset w q h)
 
   -- an opcode whose `else` doesn't matter
-  op_printed : (may : Bool) (b : ℕ) (r : Row) → ((c : Bool) → opcode c b ≡ Some r) → (k : Instr → Spelling) (w : List ℕ) → Spells (row r k) w ws m → Spells (instr may k) (b ∷ w) ws m
+  op_printed : (may : Bool) (b : ℕ) (r : Row) → ((c : Bool) → opcode c b ≡ Some r) → (k : Instr → Spelling) (w : List ℕ) → SpellsPart (row r k) w ws m → SpellsPart (instr may k) (b ∷ w) ws m
   unfolding instr
-  op_printed may b r e k w h = (b, 1, (refl, (w, refl), ap is_some (e may)), subst (λ (o : Option Row). Spells (on o (λ r. row r k)) w ws m) (sym (e may)) h)
+  op_printed may b r e k w h = (b, 1, (refl, (w, refl), ap is_some (e may)), subst (λ (o : Option Row). SpellsPart (on o (λ r. row r k)) w ws m) (sym (e may)) h)
 
-  operation_printed : (may : Bool) (op : I32Op) (k : Instr → Spelling) (w : List ℕ) → Spells (k (instructions.I32 op)) w ws m → Spells (instr may k) (operation_code op ∷ w) ws m
+  operation_printed : (may : Bool) (op : I32Op) (k : Instr → Spelling) (w : List ℕ) → SpellsPart (k (instructions.I32 op)) w ws m → SpellsPart (instr may k) (operation_code op ∷ w) ws m
   unfolding row
   operation_printed may ops.Eqz k w h = op_printed may 69 (Plain (instructions.I32 ops.Eqz)) (λ c. refl) k w h
   operation_printed may ops.Eq k w h = op_printed may 70 (Plain (instructions.I32 ops.Eq)) (λ c. refl) k w h
@@ -319,7 +319,7 @@ module _ (ws : List (List ℕ)) (m : Parts) where
   instr_printed may (instructions.If t) q f k w h = op_printed may 4 (Typed instructions.If) (λ c. refl) k _ (block_type_printed t (λ t. k (instructions.If t)) w h)
   instr_printed may instructions.Else q f k w h = else_first may q
     where
-      else_first : (may : Bool) → may ≡ true → Spells (instr may k) (5 ∷ w) ws m
+      else_first : (may : Bool) → may ≡ true → SpellsPart (instr may k) (5 ∷ w) ws m
       else_first true e = (5, 1, (refl, (w, refl), refl), h)
       else_first false e = absurd cc
   instr_printed may instructions.End q f k w h = op_printed may 11 (Plain (instructions.End)) (λ c. refl) k _ h
@@ -346,11 +346,11 @@ module _ (ws : List (List ℕ)) (m : Parts) where
   instr_printed may (instructions.I64Const n) q f k w h = op_printed may 66 (LongBits instructions.I64Const) (λ c. refl) k _ (s64_printed (λ n. k (instructions.I64Const n)) n w f h)
   instr_printed may (instructions.I32 op) q f k w h = operation_printed may op k w h
 
-  pub instrs_printed : (fuel : ℕ) (os : List Bool) (is done : List Instr) → length is ≤ fuel → IsClosed os is → (k : List Instr → Spelling) (w : List ℕ) → Spells (k (done ++ is)) w ws m → Spells (instrs fuel os done k) (put_all put_instr is w) ws m
+  pub instrs_printed : (fuel : ℕ) (os : List Bool) (is done : List Instr) → length is ≤ fuel → IsClosed os is → (k : List Instr → Spelling) (w : List ℕ) → SpellsPart (k (done ++ is)) w ws m → SpellsPart (instrs fuel os done k) (put_all put_instr is w) ws m
   unfolding instrs put_all
-  instrs_printed fuel [] [] done l b k w h = subst (λ xs. Spells (k xs) w ws m) (append-nil done) h
+  instrs_printed fuel [] [] done l b k w h = subst (λ xs. SpellsPart (k xs) w ws m) (append-nil done) h
   instrs_printed fuel [] (i ∷ is) done l b k w h = absurd b
   instrs_printed fuel (o ∷ os) [] done l b k w h = absurd b
   instrs_printed zero (o ∷ os) (i ∷ is) done l b k w h = absurd (omega (arith, l))
   instrs_printed (suc fuel) (o ∷ os) (i ∷ is) done l (q, f, b) k w h =
-      instr_printed o i q f _ _ (instrs_printed fuel (opens_after i (o ∷ os)) is (done ++ i ∷ []) (omega (arith, l)) b k w (subst (λ ys. Spells (k ys) w ws m) (sym (append_assoc done (i ∷ []) is)) h))
+      instr_printed o i q f _ _ (instrs_printed fuel (opens_after i (o ∷ os)) is (done ++ i ∷ []) (omega (arith, l)) b k w (subst (λ ys. SpellsPart (k ys) w ws m) (sym (append_assoc done (i ∷ []) is)) h))

@@ -17,13 +17,13 @@ use Rattle.wasm_core.specs.Parts.{Parts}
 use Rattle.wasm_core.specs.Memory.{word, put_word, zeroed}
 use Rattle.wasm_core.specs.Arithmetic.{flag, is_unary, binary}
 use Rattle.wasm_core.specs.Instance.{Func, func_of, table_of, greatest_pages}
-use Rattle.wasm_core.specs.MachineStep.{Label, Frame, Store, Conf, State, At, Over, step, after_end, else_arm, has_value, on_some, going_on, trap, call, call_entry, same_func_type, frame_of, operation}
+use Rattle.wasm_core.specs.MachineStep.{BlockLabel, Frame, Store, Conf, State, At, Over, step, after_end, else_arm, has_value, on_some, going_on, trap, call, call_entry, same_func_type, frame_of, operation}
 use Rattle.wasm_core.specs.RunTree.{Within, now, gone, moves}
 
 -- what stays while an instruction inside a function runs
 pub record Around : Type 0 where
   pub keeps : Bool
-  pub labels : List Label
+  pub labels : List BlockLabel
   pub callers : List Frame
 
 abbrev pub conf : Around → Store → List ConstValue → List ConstValue → List Instr → Conf
@@ -36,7 +36,7 @@ conf f s ls vals rest = record {
 abbrev pub here : Around → Store → List ConstValue → List ConstValue → List Instr → State
 here f s ls vals rest = At (conf f s ls vals rest)
 
-abbrev pub in_block : Label → Around → Around
+abbrev pub in_block : BlockLabel → Around → Around
 in_block k f = record f { labels = k ∷ f.labels }
 
 -- a function runs that this one calls
@@ -142,10 +142,10 @@ module _ (M : Parts) (frames : ℕ) (Q E : State → Type 0) where
     pub r_if_not : {b : BlockType} → length f.callers ≤ frames → Within M frames Q E l u (here (in_block (record { keeps = has_value b; goes_on = after_end 0 rest; below = vals }) f) s ls [] (else_arm 0 rest)) → Within M frames Q E (suc l) (suc u) (here f s ls (I32 0 ∷ vals) (If b ∷ rest))
     r_if_not deep k = one deep (λ g. refl) k
 
-    pub r_else : {k : Label} → length f.callers ≤ frames → Within M frames Q E l u (here f s ls (vals ++ k.below) k.goes_on) → Within M frames Q E (suc l) (suc u) (here (in_block k f) s ls vals (Else ∷ rest))
+    pub r_else : {k : BlockLabel} → length f.callers ≤ frames → Within M frames Q E l u (here f s ls (vals ++ k.below) k.goes_on) → Within M frames Q E (suc l) (suc u) (here (in_block k f) s ls vals (Else ∷ rest))
     r_else deep k = one deep (λ g. refl) k
 
-    pub r_end : {k : Label} → length f.callers ≤ frames → Within M frames Q E l u (here f s ls (vals ++ k.below) rest) → Within M frames Q E (suc l) (suc u) (here (in_block k f) s ls vals (End ∷ rest))
+    pub r_end : {k : BlockLabel} → length f.callers ≤ frames → Within M frames Q E l u (here f s ls (vals ++ k.below) rest) → Within M frames Q E (suc l) (suc u) (here (in_block k f) s ls vals (End ∷ rest))
     r_end deep k = one deep (λ g. refl) k
 
     -- a branch to the innermost block, which takes nothing along

@@ -21,8 +21,8 @@ use Rattle.wasm_core.specs.Parts.{Parts}
 use Rattle.wasm_core.specs.Memory.{byte, word, put_byte, put_word, zeroed}
 use Rattle.wasm_core.specs.Arithmetic.{is_unary, unary, binary}
 use Rattle.wasm_core.specs.Instance.{Func, greatest_pages, table_of, zero_of}
-use Rattle.wasm_core.specs.MachineStep.{Label, Frame, Store, Conf, State, At, Over, step, branch, jump, leave, back, taking, call, call_entry, frame_of, has_value, after_end, else_arm, on_some, going_on, storing, same_func_type, operation, trap}
-use Rattle.wasm_core.specs.ModuleTyping.{Types, Operands, OperandType, Of, known, Match, Effect, Typed, done, plain, unreachable, block, loop, one_arm, two_arms, br, br_if, br_table, return, effect, left_by, results_of, func_type, calling, calling_entry, getting, setting, keeping, accessing, operating, when, Reaches, TypedBody, IsValid}
+use Rattle.wasm_core.specs.MachineStep.{BlockLabel, Frame, Store, Conf, State, At, Over, step, branch, jump, leave, back, taking, call, call_entry, frame_of, has_value, after_end, else_arm, on_some, going_on, storing, same_func_type, operation, trap}
+use Rattle.wasm_core.specs.ModuleTyping.{OperandTypes, Operands, OperandType, Of, known, Match, Effect, Typed, done, plain, unreachable, block, loop, one_arm, two_arms, br, br_if, br_table, return, effect, left_by, results_of, func_type, calling, calling_entry, getting, setting, keeping, accessing, operating, when, Reaches, TypedBody, IsValid}
 use Rattle.wasm_core.specs.ModuleTyping as typing
 use Rattle.wasm_core.specs.Safe.{is_i32, is_i64, HaveTypes, no_values, values, Takes, takes_none, takes_one, Goes, goes, Tail, fin, by_end, by_else, Chain, Good, GoodState, global_types}
 use Rattle.wasm_core.proofs.Small.{inj, no, some_of, map_of, when_of}
@@ -43,7 +43,7 @@ result_takes None = takes_none
 result_takes (Some t) = takes_one
 
 module _ (m : Parts) where
-  sound_back : (c : Conf) (callers : List Frame) (res : Types) (top : List ConstValue) → HaveTypes top (known res) → Chain m callers res → HaveTypes c.store.globals (global_types m) → Sound m (back c callers top)
+  sound_back : (c : Conf) (callers : List Frame) (res : OperandTypes) (top : List ConstValue) → HaveTypes top (known res) → Chain m callers res → HaveTypes c.store.globals (global_types m) → Sound m (back c callers top)
   sound_back c [] res top lt chain gl = (Over Returned c.store, refl, gl)
   sound_back c (a ∷ callers) res top lt (ls, rs, runs, chain) gl = (
     At (record c { current = record a { operands = top ++ a.operands }; callers = callers }),
@@ -68,21 +68,21 @@ module _ (m : Parts) where
   either true gs gt = gs
   either false gs gt = gt
 
-  sound_taking : (keeps : Bool) (lt : Types) (ts : Operands) (vals : List ConstValue) (go : List ConstValue → Option State) → Takes keeps lt → HaveTypes vals (known lt ++ ts) → ((top : List ConstValue) → HaveTypes top (known lt) → Sound m (go top)) → Sound m (taking keeps vals go)
+  sound_taking : (keeps : Bool) (lt : OperandTypes) (ts : Operands) (vals : List ConstValue) (go : List ConstValue → Option State) → Takes keeps lt → HaveTypes vals (known lt ++ ts) → ((top : List ConstValue) → HaveTypes top (known lt) → Sound m (go top)) → Sound m (taking keeps vals go)
   sound_taking keeps lt ts vals go takes_none h s = s [] no_values
   sound_taking keeps lt ts vals go takes_one (values {v = x} t h) s = s (x ∷ []) (values t no_values)
 
 -- where a branch goes: out of the function, or on after an open block
-data Target (m : Parts) (ls rs : Types) (ks : List Label) (labels : List Types) (l : ℕ) (lt : Types) : Type 0 where
+data Target (m : Parts) (ls rs : OperandTypes) (ks : List BlockLabel) (labels : List OperandTypes) (l : ℕ) (lt : OperandTypes) : Type 0 where
   outside : slice_get ks l ≡ None → l ≡ length ks → lt ≡ rs → Target m ls rs ks labels l lt
-  to_block : (k : Label) (below : Operands) → slice_get ks l ≡ Some k → Takes k.keeps lt → HaveTypes k.below below → Goes m ls rs (drop (suc l) ks) (drop (suc l) labels) (known lt ++ below) k.goes_on → Target m ls rs ks labels l lt
+  to_block : (k : BlockLabel) (below : Operands) → slice_get ks l ≡ Some k → Takes k.keeps lt → HaveTypes k.below below → Goes m ls rs (drop (suc l) ks) (drop (suc l) labels) (known lt ++ below) k.goes_on → Target m ls rs ks labels l lt
 
-module _ (m : Parts) (ls rs : Types) where
-  shift : {k : Label} {ks : List Label} {first lt : Types} {labels : List Types} {l : ℕ} → Target m ls rs ks labels l lt → Target m ls rs (k ∷ ks) (first ∷ labels) (suc l) lt
+module _ (m : Parts) (ls rs : OperandTypes) where
+  shift : {k : BlockLabel} {ks : List BlockLabel} {first lt : OperandTypes} {labels : List OperandTypes} {l : ℕ} → Target m ls rs ks labels l lt → Target m ls rs (k ∷ ks) (first ∷ labels) (suc l) lt
   shift (outside n e r) = outside n (ap suc e) r
   shift (to_block k below e tk lb g) = to_block k below e tk lb g
 
-  target : {ks : List Label} {labels : List Types} {us : Operands} {lt : Types} {tail : List Instr} → Tail m ls rs ks labels us tail → (l : ℕ) → slice_get labels l ≡ Some lt → Target m ls rs ks labels l lt
+  target : {ks : List BlockLabel} {labels : List OperandTypes} {us : Operands} {lt : OperandTypes} {tail : List Instr} → Tail m ls rs ks labels us tail → (l : ℕ) → slice_get labels l ≡ Some lt → Target m ls rs ks labels l lt
   target (fin k) zero e = outside refl refl (sym (inj e))
   target (fin k) (suc l) e = no e
   target (by_end {k = k} {ks = ks} {labels = labels} below tk lb gs ma gb) zero e = to_block k below refl (subst (Takes k.keeps) (inj e) tk) lb (subst (λ t. Goes m ls rs ks labels (known t ++ below) k.goes_on) (inj e) gs)
@@ -91,12 +91,12 @@ module _ (m : Parts) (ls rs : Types) where
   target (by_else below tk lb (goes t tail) ma) (suc l) e = shift (target tail l e)
 
 -- one function that runs, with those that wait for it
-module _ (m : Parts) (valid : IsValid m) (g : Bool) (store : Store) (gl : HaveTypes store.globals (global_types m)) (callers : List Frame) (ls rs : Types) (chain : Chain m callers rs) (keeps : Bool) (tk : Takes keeps rs) (locals : List ConstValue) (ll : HaveTypes locals (known ls)) where
-  abbrev conf : List Label → List ConstValue → List Instr → Conf
+module _ (m : Parts) (valid : IsValid m) (g : Bool) (store : Store) (gl : HaveTypes store.globals (global_types m)) (callers : List Frame) (ls rs : OperandTypes) (chain : Chain m callers rs) (keeps : Bool) (tk : Takes keeps rs) (locals : List ConstValue) (ll : HaveTypes locals (known ls)) where
+  abbrev conf : List BlockLabel → List ConstValue → List Instr → Conf
   conf ks vals code = record { store = store; current = record { keeps = keeps; locals = locals; labels = ks; operands = vals; rest = code }; callers = callers }
 
   -- the function goes on, with this store and these locals
-  on_with : (store' : Store) (locals' : List ConstValue) → HaveTypes store'.globals (global_types m) → HaveTypes locals' (known ls) → {ks : List Label} {labels : List Types} {code : List Instr} (ts : Operands) (vals : List
+  on_with : (store' : Store) (locals' : List ConstValue) → HaveTypes store'.globals (global_types m) → HaveTypes locals' (known ls) → {ks : List BlockLabel} {labels : List OperandTypes} {code : List Instr} (ts : Operands) (vals : List
       ConstValue) → HaveTypes vals ts → Goes m ls rs ks labels ts code → Sound m (Some (At (record { store = store'; current = record { keeps = keeps; locals = locals'; labels = ks; operands = vals; rest = code }; callers = callers })))
   on_with store' locals' gs hl {labels = labels} ts vals lv go = (
     At _,
@@ -110,18 +110,18 @@ module _ (m : Parts) (valid : IsValid m) (g : Bool) (store : Store) (gl : HaveTy
     },
   )
 
-  on : {ks : List Label} {labels : List Types} {code : List Instr} (ts : Operands) (vals : List ConstValue) → HaveTypes vals ts → Goes m ls rs ks labels ts code → Sound m (Some (At (conf ks vals code)))
+  on : {ks : List BlockLabel} {labels : List OperandTypes} {code : List Instr} (ts : Operands) (vals : List ConstValue) → HaveTypes vals ts → Goes m ls rs ks labels ts code → Sound m (Some (At (conf ks vals code)))
   on ts vals lv go = on_with store locals gl ll ts vals lv go
 
-  sound_out : (ks : List Label) (before vals : List ConstValue) (rest : List Instr) (ts : Operands) → HaveTypes vals (known rs ++ ts) → Sound m (leave (conf ks before rest) vals)
+  sound_out : (ks : List BlockLabel) (before vals : List ConstValue) (rest : List Instr) (ts : Operands) → HaveTypes vals (known rs ++ ts) → Sound m (leave (conf ks before rest) vals)
   sound_out ks before vals rest ts lv =
       sound_taking m keeps rs ts vals (back (conf ks before rest) callers) tk lv (λ top lt. sound_back m (conf ks before rest) callers rs top lt chain gl)
 
-  sound_branch : (ks : List Label) (labels : List Types) (before vals : List ConstValue) (rest : List Instr) (ts : Operands) (lt : Types) (l : ℕ) → HaveTypes vals (known lt ++ ts) → Target m ls rs ks labels l lt → Sound m (branch (conf ks before rest) l vals)
+  sound_branch : (ks : List BlockLabel) (labels : List OperandTypes) (before vals : List ConstValue) (rest : List Instr) (ts : Operands) (lt : OperandTypes) (l : ℕ) → HaveTypes vals (known lt ++ ts) → Target m ls rs ks labels l lt → Sound m (branch (conf ks before rest) l vals)
   sound_branch ks labels before vals rest ts lt l lv (outside none len is) =
       let c = conf ks before rest in
       let e = ap (jump c l vals) none ∙ ap (λ (b : Bool). if b then leave c vals else None) (eq-eqb l (length ks) len) in
-      subst (Sound m) (sym e) (sound_out ks before vals rest ts (subst (λ (t : Types). HaveTypes vals (known t ++ ts)) is lv))
+      subst (Sound m) (sym e) (sound_out ks before vals rest ts (subst (λ (t : OperandTypes). HaveTypes vals (known t ++ ts)) is lv))
   sound_branch ks labels before vals rest ts lt l lv (to_block k below some t lb go) =
       let c = conf ks before rest in
       let e = ap (jump c l vals) some in
@@ -129,43 +129,43 @@ module _ (m : Parts) (valid : IsValid m) (g : Bool) (store : Store) (gl : HaveTy
       (λ top ltop. on {labels = drop (suc l) labels} (known lt ++ below) (top ++ k.below) (have_append ltop lb) (rw add-one go)))
 
   -- a block is entered: its inside is typed, and what comes after its end goes on well
-  inner : {ks : List Label} {labels : List Types} {us : Operands} (tail : List Instr) (k : Label) (ts : Operands) (lt ends : Types) (body rest : List Instr) → Takes k.keeps lt → HaveTypes k.below ts → Goes m ls rs ks labels (known lt ++ ts) k.goes_on → Typed m ls rs (lt ∷
+  inner : {ks : List BlockLabel} {labels : List OperandTypes} {us : Operands} (tail : List Instr) (k : BlockLabel) (ts : Operands) (lt ends : OperandTypes) (body rest : List Instr) → Takes k.keeps lt → HaveTypes k.below ts → Goes m ls rs ks labels (known lt ++ ts) k.goes_on → Typed m ls rs (lt ∷
       labels) [] body us → Match us ends → Goes m ls rs ks labels (known ends ++ ts) (rest ++ tail) → Goes m ls rs (k ∷ ks) (lt ∷ labels) [] ((body ++ End ∷ rest) ++ tail)
   inner {ks = ks} {labels = labels} tail k ts lt ends body rest t lb gs typed ma go =
       subst (Goes m ls rs (k ∷ ks) (lt ∷ labels) []) (sym (append_assoc body (End ∷ rest) tail)) (goes typed (by_end ts t lb gs ma go))
 
   -- after the end of a block
-  past : {labels : List Types} {ts us : Operands} (body rest tail : List Instr) → Typed m ls rs labels ts body us → after_end 0 ((body ++ End ∷ rest) ++ tail) ≡ rest ++ tail
+  past : {labels : List OperandTypes} {ts us : Operands} (body rest tail : List Instr) → Typed m ls rs labels ts body us → after_end 0 ((body ++ End ∷ rest) ++ tail) ≡ rest ++ tail
   past body rest tail t = ap (after_end 0) (append_assoc body (End ∷ rest) tail) ∙ skips m ls rs t 0 (End ∷ (rest ++ tail))
 
-  past_else : {labels : List Types} {ts us : Operands} (body rest tail : List Instr) → Typed m ls rs labels ts body us → else_arm 0 ((body ++ End ∷ rest) ++ tail) ≡ End ∷ (rest ++ tail)
+  past_else : {labels : List OperandTypes} {ts us : Operands} (body rest tail : List Instr) → Typed m ls rs labels ts body us → else_arm 0 ((body ++ End ∷ rest) ++ tail) ≡ End ∷ (rest ++ tail)
   past_else body rest tail t = ap (else_arm 0) (append_assoc body (End ∷ rest) tail) ∙ skips_else m ls rs t 0 (End ∷ (rest ++ tail))
 
-  sound_block : {ks : List Label} {labels : List Types} {ends us : Operands} {tail : List Instr} (ts : Operands) (vals : List ConstValue) (b : BlockType) (body rest : List Instr) → HaveTypes vals ts → Typed m ls rs (left_by b ∷ labels) [] body ends → Match ends (left_by
+  sound_block : {ks : List BlockLabel} {labels : List OperandTypes} {ends us : Operands} {tail : List Instr} (ts : Operands) (vals : List ConstValue) (b : BlockType) (body rest : List Instr) → HaveTypes vals ts → Typed m ls rs (left_by b ∷ labels) [] body ends → Match ends (left_by
       b) → Typed m ls rs labels (known (left_by b) ++ ts) rest us → Tail m ls rs ks labels us tail → Sound m (step m g (conf ks vals (Block b ∷ ((body ++ End ∷ rest) ++ tail))))
   sound_block {ks = ks} {labels = labels} {tail = tail} ts vals b body rest lv tb ma td tl =
-      let k : Label = record { keeps = has_value b; goes_on = after_end 0 ((body ++ End ∷ rest) ++ tail); below = vals } in
+      let k : BlockLabel = record { keeps = has_value b; goes_on = after_end 0 ((body ++ End ∷ rest) ++ tail); below = vals } in
       let on_after = subst (Goes m ls rs ks labels (known (left_by b) ++ ts)) (sym (past body rest tail tb)) (goes td tl) in
       on [] [] no_values (inner tail k ts (left_by b) (left_by b) body rest (left_takes b) lv on_after tb ma (goes td tl))
 
-  sound_loop : {ks : List Label} {labels : List Types} {ends us : Operands} {tail : List Instr} (ts : Operands) (vals : List ConstValue) (b : BlockType) (body rest : List Instr) → HaveTypes vals ts → Typed m ls rs ([] ∷ labels) [] body ends → Match ends (left_by
+  sound_loop : {ks : List BlockLabel} {labels : List OperandTypes} {ends us : Operands} {tail : List Instr} (ts : Operands) (vals : List ConstValue) (b : BlockType) (body rest : List Instr) → HaveTypes vals ts → Typed m ls rs ([] ∷ labels) [] body ends → Match ends (left_by
       b) → Typed m ls rs labels (known (left_by b) ++ ts) rest us → Tail m ls rs ks labels us tail → Sound m (step m g (conf ks vals (Loop b ∷ ((body ++ End ∷ rest) ++ tail))))
   sound_loop {ks = ks} {labels = labels} {tail = tail} ts vals b body rest lv tb ma td tl =
-      let k : Label = record { keeps = false; goes_on = Loop b ∷ ((body ++ End ∷ rest) ++ tail); below = vals } in
+      let k : BlockLabel = record { keeps = false; goes_on = Loop b ∷ ((body ++ End ∷ rest) ++ tail); below = vals } in
       on [] [] no_values (inner tail k ts [] (left_by b) body rest takes_none lv (goes (loop tb ma td) tl) tb ma (goes td tl))
 
-  sound_one_arm : {ks : List Label} {labels : List Types} {us : Operands} {tail : List Instr} (ts : Operands) (x : ℕ) (vals : List ConstValue) (body rest : List Instr) → HaveTypes vals ts → Typed m ls rs ([] ∷
+  sound_one_arm : {ks : List BlockLabel} {labels : List OperandTypes} {us : Operands} {tail : List Instr} (ts : Operands) (x : ℕ) (vals : List ConstValue) (body rest : List Instr) → HaveTypes vals ts → Typed m ls rs ([] ∷
       labels) [] body [] → Typed m ls rs labels ts rest us → Tail m ls rs ks labels us tail → Sound m (step m g (conf ks (I32 x ∷ vals) (If Empty ∷ ((body ++ End ∷ rest) ++ tail))))
   sound_one_arm {ks = ks} {labels = labels} {tail = tail} ts zero vals body rest lv tb td tl =
-      let k : Label = record { keeps = false; goes_on = after_end 0 ((body ++ End ∷ rest) ++ tail); below = vals } in
+      let k : BlockLabel = record { keeps = false; goes_on = after_end 0 ((body ++ End ∷ rest) ++ tail); below = vals } in
       let on_after = subst (Goes m ls rs ks labels ts) (sym (past body rest tail tb)) (goes td tl) in
       on {labels = [] ∷ labels} [] [] no_values (subst (Goes m ls rs (k ∷ ks) ([] ∷ labels) []) (sym (past_else body rest tail tb)) (goes done (by_end ts takes_none lv on_after typing.match_none (goes td tl))))
   sound_one_arm {ks = ks} {labels = labels} {tail = tail} ts (suc x) vals body rest lv tb td tl =
-      let k : Label = record { keeps = false; goes_on = after_end 0 ((body ++ End ∷ rest) ++ tail); below = vals } in
+      let k : BlockLabel = record { keeps = false; goes_on = after_end 0 ((body ++ End ∷ rest) ++ tail); below = vals } in
       let on_after = subst (Goes m ls rs ks labels ts) (sym (past body rest tail tb)) (goes td tl) in
       on [] [] no_values (inner tail k ts [] [] body rest takes_none lv on_after tb typing.match_none (goes td tl))
 
-  sound_two_arms : {ks : List Label} {labels : List Types} {ends other_ends us : Operands} {tail : List Instr} (ts : Operands) (x : ℕ) (vals : List ConstValue) (b : BlockType) (first second rest : List Instr) → HaveTypes vals ts → Typed m ls rs (left_by b ∷
+  sound_two_arms : {ks : List BlockLabel} {labels : List OperandTypes} {ends other_ends us : Operands} {tail : List Instr} (ts : Operands) (x : ℕ) (vals : List ConstValue) (b : BlockType) (first second rest : List Instr) → HaveTypes vals ts → Typed m ls rs (left_by b ∷
       labels) [] first ends → Match ends (left_by b) → Typed m ls rs (left_by b ∷ labels) [] second other_ends → Match other_ends (left_by b) → Typed m ls rs labels (known (left_by b) ++ ts) rest us → Tail m ls rs ks labels us tail → Sound m (step m g
       (conf ks (I32 x ∷ vals) (If b ∷ ((first ++ Else ∷ (second ++ End ∷ rest)) ++ tail))))
   sound_two_arms {ks = ks} {labels = labels} {tail = tail} ts x vals b first second rest lv ta ma tb mb td tl = arm x
@@ -179,7 +179,7 @@ module _ (m : Parts) (valid : IsValid m) (g : Bool) (store : Store) (gl : HaveTy
       other : else_arm 0 ((first ++ Else ∷ (second ++ End ∷ rest)) ++ tail) ≡ (second ++ End ∷ rest) ++ tail
       other = ap (else_arm 0) split ∙ skips_else m ls rs ta 0 (Else ∷ ((second ++ End ∷ rest) ++ tail))
 
-      k : Label
+      k : BlockLabel
       k = record { keeps = has_value b; goes_on = after_end 0 ((first ++ Else ∷ (second ++ End ∷ rest)) ++ tail); below = vals }
 
       on_after : Goes m ls rs ks labels (known (left_by b) ++ ts) (after_end 0 ((first ++ Else ∷ (second ++ End ∷ rest)) ++ tail))
@@ -190,7 +190,7 @@ module _ (m : Parts) (valid : IsValid m) (g : Bool) (store : Store) (gl : HaveTy
       arm (suc x) = on {labels = left_by b ∷ labels} [] [] no_values (subst (Goes m ls rs (k ∷ ks) (left_by b ∷ labels) []) (sym split) (goes ta (by_else ts (left_takes b) lv on_after ma)))
 
   -- a function is called
-  sound_call : (ks : List Label) (labels : List Types) (before : List ConstValue) (whole : List Instr) (f : Func) → TypedBody m (f.type.params ++ f.body.locals) (results_of f.type) f.body.code → (ts : Operands) (vals : List ConstValue) (code : List Instr) → HaveTypes vals (known
+  sound_call : (ks : List BlockLabel) (labels : List OperandTypes) (before : List ConstValue) (whole : List Instr) (f : Func) → TypedBody m (f.type.params ++ f.body.locals) (results_of f.type) f.body.code → (ts : Operands) (vals : List ConstValue) (code : List Instr) → HaveTypes vals (known
       (reverse f.type.params) ++ ts) → Goes m ls rs ks labels (known (results_of f.type) ++ ts) code → Sound m (call (conf ks before whole) f vals code)
   sound_call ks labels before whole f typed ts vals code lv go =
       let n : ℕ = length f.type.params in
@@ -216,10 +216,10 @@ module _ (m : Parts) (valid : IsValid m) (g : Bool) (store : Store) (gl : HaveTy
         },
       )
 
-  sound_trap : (k : TrapKind) (ks : List Label) (before : List ConstValue) (whole : List Instr) → Sound m (trap k (conf ks before whole))
+  sound_trap : (k : TrapKind) (ks : List BlockLabel) (before : List ConstValue) (whole : List Instr) → Sound m (trap k (conf ks before whole))
   sound_trap k ks before whole = (Over (Trapped k) store, refl, gl)
 
-  sound_entry : (ks : List Label) (labels : List Types) (before : List ConstValue) (whole : List Instr) (t : FuncType) (ts : Operands) (vals : List ConstValue) (code : List Instr) → HaveTypes vals (known (reverse t.params) ++ ts) → Goes m ls rs ks labels (known (results_of t) ++
+  sound_entry : (ks : List BlockLabel) (labels : List OperandTypes) (before : List ConstValue) (whole : List Instr) (t : FuncType) (ts : Operands) (vals : List ConstValue) (code : List Instr) → HaveTypes vals (known (reverse t.params) ++ ts) → Goes m ls rs ks labels (known (results_of t) ++
       ts) code → (x : ℕ) (o : Option (Option ℕ)) → slice_get (table_of m) x ≡ o → Sound m (call_entry m t o vals code (conf ks before whole))
   sound_entry ks labels before whole t ts vals code lv go x None e = sound_trap kind.UndefinedElement ks before whole
   sound_entry ks labels before whole t ts vals code lv go x (Some None) e = sound_trap kind.UninitializedElement ks before whole
@@ -236,13 +236,13 @@ module _ (m : Parts) (valid : IsValid m) (g : Bool) (store : Store) (gl : HaveTy
       by_type f typed false e = sound_trap kind.IndirectType ks before whole
 
   -- what an instruction's effect says
-  given : (ts : Operands) {pops pushes : Types} {ks : List Label} {labels : List Types} {code : List Instr} (a b : Types) (vals : List ConstValue) → ◌≡◌ {A = Effect} (a, b) (pops, pushes) → HaveTypes vals (known pops ++ ts) → Goes m ls rs ks labels (known pushes ++
+  given : (ts : Operands) {pops pushes : OperandTypes} {ks : List BlockLabel} {labels : List OperandTypes} {code : List Instr} (a b : OperandTypes) (vals : List ConstValue) → ◌≡◌ {A = Effect} (a, b) (pops, pushes) → HaveTypes vals (known pops ++ ts) → Goes m ls rs ks labels (known pushes ++
       ts) code → HaveTypes vals (known a ++ ts) × Goes m ls rs ks labels (known b ++ ts) code
   given ts {ks = ks} {labels = labels} {code = code} a b vals e lv go =
       let q = sym e in
       (subst (λ (x : Effect). HaveTypes vals (known x.0 ++ ts)) q lv, subst (λ (x : Effect). Goes m ls rs ks labels (known x.1 ++ ts) code) q go)
 
-  sound_plain : {ks : List Label} {labels : List Types} {pops pushes : Types} {code : List Instr} (i : Instr) (ts : Operands) (vals : List ConstValue) → effect m ls i ≡ Some (pops, pushes) → HaveTypes vals (known pops ++ ts) → Goes m ls rs ks labels (known pushes ++
+  sound_plain : {ks : List BlockLabel} {labels : List OperandTypes} {pops pushes : OperandTypes} {code : List Instr} (i : Instr) (ts : Operands) (vals : List ConstValue) → effect m ls i ≡ Some (pops, pushes) → HaveTypes vals (known pops ++ ts) → Goes m ls rs ks labels (known pushes ++
       ts) code → Sound m (step m g (conf ks vals (i ∷ code)))
   sound_plain Nop ts vals e lv go = let d = given ts [] [] vals (inj e) lv go in on ts vals d.0 d.1
   sound_plain (I32Const n) ts vals e lv go = let d = given ts [] (type.I32 ∷ []) vals (inj e) lv go in on (Of type.I32 ∷ ts) (I32 n ∷ vals) (values is_i32 d.0) d.1
@@ -362,12 +362,12 @@ module _ (m : Parts) (valid : IsValid m) (g : Bool) (store : Store) (gl : HaveTy
   sound_plain Drop ts vals e lv go = no e
 
   -- a branch to a label that the operands reach
-  sound_reach : {ks : List Label} {labels : List Types} {us : Operands} {tail : List Instr} → Tail m ls rs ks labels us tail → (os ts : Operands) (l : ℕ) → Reaches labels l os → (before vals : List ConstValue) (rest : List Instr) → HaveTypes vals (os ++ ts) → Sound m (branch
+  sound_reach : {ks : List BlockLabel} {labels : List OperandTypes} {us : Operands} {tail : List Instr} → Tail m ls rs ks labels us tail → (os ts : Operands) (l : ℕ) → Reaches labels l os → (before vals : List ConstValue) (rest : List Instr) → HaveTypes vals (os ++ ts) → Sound m (branch
       (conf ks before rest) l vals)
   sound_reach {ks = ks} {labels = labels} tl os ts l r before vals rest lv =
       sound_branch ks labels before vals rest ts r.wanted l (have_matched ts r.matched lv) (target m ls rs tl l r.found)
 
-  sound_code : {ks : List Label} {labels : List Types} {ts us : Operands} {body tail : List Instr} → Typed m ls rs labels ts body us → Tail m ls rs ks labels us tail → (vals : List ConstValue) → HaveTypes vals ts → Sound m (step m g (conf ks vals (body ++ tail)))
+  sound_code : {ks : List BlockLabel} {labels : List OperandTypes} {ts us : Operands} {body tail : List Instr} → Typed m ls rs labels ts body us → Tail m ls rs ks labels us tail → (vals : List ConstValue) → HaveTypes vals ts → Sound m (step m g (conf ks vals (body ++ tail)))
   sound_code {ts = ts} done (fin ma) vals lv = sound_out [] vals vals (End ∷ []) [] (subst (HaveTypes vals) (sym (append-nil (known rs))) (have_all ma lv))
   sound_code done (by_end {k = k} {ends = ends} below t lb gs ma gb) vals lv = on (known ends ++ below) (vals ++ k.below) (have_append (have_all ma lv) lb) gb
   sound_code done (by_else {k = k} {lt = lt} below t lb gs ma) vals lv = on (known lt ++ below) (vals ++ k.below) (have_append (have_all ma lv) lb) gs

@@ -13,7 +13,7 @@ use Rattle.wasm_core.specs.Parts.{Parts}
 use Rattle.wasm_core.specs.Memory.{byte, word, put_byte, put_word}
 use Rattle.wasm_core.specs.Arithmetic.{is_unary, unary, binary}
 use Rattle.wasm_core.specs.Instance.{Func, func_of, table_of}
-use Rattle.wasm_core.specs.MachineStep.{after_end, Label, Frame, Store, Conf, State, At, step, act, arm, branch, jump, leave, back, leave_block, at_end, call, call_entry, same_func_type, frame_of, has_value, enter, on_some, on_i32, going_on, storing, within, operation, unless_zero, trap, grown, next}
+use Rattle.wasm_core.specs.MachineStep.{after_end, BlockLabel, Frame, Store, Conf, State, At, act, arm, branch, jump, leave, back, leave_block, at_end, call, call_entry, same_func_type, frame_of, has_value, enter, on_some, on_i32, going_on, storing, within, operation, unless_zero, trap, grown, next}
 use Rattle.wasm_core.specs.Runs.{store_of}
 use Rattle.wasm_core.proofs.Bits.{put_byte_length, put_word_length}
 use Rattle.wasm_core.proofs.Gives.{Gives, g_some, g_if, a_i32, a_one, a_taking}
@@ -36,15 +36,15 @@ module _ (m : Parts) (g : Bool) (c : Conf) (K : Store → Type 0) (keeps : Keeps
   leaves : (vals : List ConstValue) → Gives P (leave c vals)
   leaves vals = a_taking P c.current.keeps vals (λ top. back c c.callers top) (λ top. returned c.callers top)
 
-  left : (ks : List Label) (rest : Label → List Instr) → Gives P (leave_block ks c rest)
+  left : (ks : List BlockLabel) (rest : BlockLabel → List Instr) → Gives P (leave_block ks c rest)
   left [] rest = tt
   left (k ∷ ks) rest = keeps.same
 
-  at_ends : (ks : List Label) (rest : List Instr) → Gives P (at_end ks rest c)
+  at_ends : (ks : List BlockLabel) (rest : List Instr) → Gives P (at_end ks rest c)
   at_ends [] rest = leaves c.current.operands
   at_ends (k ∷ ks) rest = keeps.same
 
-  jumps : (l : ℕ) (vals : List ConstValue) (o : Option Label) → Gives P (jump c l vals o)
+  jumps : (l : ℕ) (vals : List ConstValue) (o : Option BlockLabel) → Gives P (jump c l vals o)
   jumps l vals None = g_if P (nat_eq l (length c.current.labels)) (leave c vals) None (λ e. leaves vals) tt
   jumps l vals (Some k) = a_taking P k.keeps vals (λ top. Some (At (record c { current = record c.current { labels = drop (l + 1) c.current.labels; operands = top ++ k.below; rest = k.goes_on } }))) (λ top. keeps.same)
 

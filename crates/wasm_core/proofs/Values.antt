@@ -9,7 +9,7 @@ use Rattle.wasm_core.specs.declared.types.ValType.TheVariants as type
 use Rattle.wasm_core.specs.declared.types.ConstValue.{ConstValue}
 use Rattle.wasm_core.specs.declared.types.ConstValue.TheVariants.{I32}
 use Rattle.wasm_core.specs.Instance.{zero_of}
-use Rattle.wasm_core.specs.ModuleTyping.{Types, Operands, OperandType, Of, Bottom, known, Match, match_none, match_same, match_bottom}
+use Rattle.wasm_core.specs.ModuleTyping.{OperandTypes, Operands, OperandType, Of, Bottom, known, Match, match_none, match_same, match_bottom}
 use Rattle.wasm_core.specs.Safe.{HasType, is_i32, is_i64, HaveTypes, no_values, values}
 use Rattle.wasm_core.proofs.Small.{inj, no}
 
@@ -24,12 +24,12 @@ have_length (values v h) = ap suc (have_length h)
 not_bottom : {v : ConstValue} → HasType v Bottom → ⊥
 not_bottom h = elim h [ ]
 
-pub have_matched : {os : Operands} {ps : Types} (ts : Operands) {xs : List ConstValue} → Match os ps → HaveTypes xs (os ++ ts) → HaveTypes xs (known ps ++ ts)
+pub have_matched : {os : Operands} {ps : OperandTypes} (ts : Operands) {xs : List ConstValue} → Match os ps → HaveTypes xs (os ++ ts) → HaveTypes xs (known ps ++ ts)
 have_matched ts match_none h = h
 have_matched ts (match_same k) (values v h) = values v (have_matched ts k h)
 have_matched ts (match_bottom k) (values v h) = absurd (not_bottom v)
 
-pub have_all : {os : Operands} {ps : Types} {xs : List ConstValue} → Match os ps → HaveTypes xs os → HaveTypes xs (known ps)
+pub have_all : {os : Operands} {ps : OperandTypes} {xs : List ConstValue} → Match os ps → HaveTypes xs os → HaveTypes xs (known ps)
 have_all match_none h = h
 have_all (match_same k) (values v h) = values v (have_all k h)
 have_all (match_bottom k) (values v h) = absurd (not_bottom v)
@@ -48,7 +48,7 @@ have_reverse (values {v = v} {o = o} {vs = vs} {os = os} t h) =
     subst (λ l. HaveTypes l (reverse (o ∷ os))) (sym (reverse-append (v ∷ []) vs))
     (subst (HaveTypes (reverse vs ++ v ∷ [])) (sym (reverse-append (o ∷ []) os)) (have_append (have_reverse h) (values t no_values)))
 
-pub known_reverse : (ts : Types) → known (reverse ts) ≡ reverse (known ts)
+pub known_reverse : (ts : OperandTypes) → known (reverse ts) ≡ reverse (known ts)
 known_reverse [] = refl
 known_reverse (t ∷ ts) =
     ap known (reverse-append (t ∷ []) ts) ∙ map-append Of (reverse ts) (t ∷ []) ∙ ap (λ l. l ++ Of t ∷ []) (known_reverse ts) ∙ sym (reverse-append (Of t ∷ []) (known ts))
@@ -63,10 +63,10 @@ have_set i o v no_values e t = no e
 have_set zero o v (values s h) e t = values (subst (HasType v) (sym (inj e)) t) h
 have_set (suc i) o v (values s h) e t = values s (have_set i o v h e t)
 
-pub known_at : (ls : Types) (i : ℕ) (t : ValType) → slice_get ls i ≡ Some t → slice_get (known ls) i ≡ Some (Of t)
+pub known_at : (ls : OperandTypes) (i : ℕ) (t : ValType) → slice_get ls i ≡ Some t → slice_get (known ls) i ≡ Some (Of t)
 known_at ls i t e = slice_get-map Of ls i ∙ ap (option_map Of) e
 
-pub zeros_have : (ts : Types) → HaveTypes (map zero_of ts) (known ts)
+pub zeros_have : (ts : OperandTypes) → HaveTypes (map zero_of ts) (known ts)
 zeros_have [] = no_values
 zeros_have (type.I32 ∷ ts) = values is_i32 (zeros_have ts)
 zeros_have (type.I64 ∷ ts) = values is_i64 (zeros_have ts)

@@ -3,7 +3,7 @@ use Rattle.std.proofs.Common.{◌≡◌, ℕ, zero, suc, ◌+◌, ◌-◌, ◌/�
 use Rattle.std.specs.Prelude.{nat_le, nat_eq, if◌then◌else◌, replicate, is_some, ◌||◌}
 use Rattle.std.proofs.lemmas.Bool.{le-leb, lt-ltb, eq-eqb, ne_eqb}
 use Rattle.std.proofs.lemmas.List.{length-replicate}
-use Rattle.wasm_core.specs.Spelling.{Spells}
+use Rattle.wasm_core.specs.Spelling.{SpellsPart}
 use Rattle.wasm_core.specs.Parts.{Parts}
 use Rattle.wasm_core.specs.ModuleCondition.{All, IsU32, IsVector, IsFuncType, AreSizes, IsGlobal, IsExport, IsSegment, IsBody, IsModule}
 use Rattle.wasm_core.specs.ModuleGrammar.{SpellsModule, Spelling, u32, times, val_type, func_type, func_types, indices, table, segment, segments, last_after, memory, global, globals, exports, exported, bodies, body, groups, locals, instrs, contents, section, section_id, next_section, sections, sections_by_id, find, on, header, file, empty, finish}
@@ -21,9 +21,9 @@ use Rattle.wasm_core.proofs.Printed.{Prints, byte_printed, u32_printed, number_p
 
 -- ---- locals
 
-groups_printed : (ws : List (List ℕ)) (m : Parts) (rs : List (ℕ × ValType)) (done : List ValType) → length (done ++ expand rs) ≤ 50000 → (k : List ValType → Spelling) (w : List ℕ) → Spells (k (done ++ expand rs)) w ws m → Spells (groups (length rs) done k) (put_all put_run rs w) ws m
+groups_printed : (ws : List (List ℕ)) (m : Parts) (rs : List (ℕ × ValType)) (done : List ValType) → length (done ++ expand rs) ≤ 50000 → (k : List ValType → Spelling) (w : List ℕ) → SpellsPart (k (done ++ expand rs)) w ws m → SpellsPart (groups (length rs) done k) (put_all put_run rs w) ws m
 unfolding groups put_all expand
-groups_printed ws m [] done l k w h = subst (λ xs. Spells (k xs) w ws m) (append-nil done) h
+groups_printed ws m [] done l k w h = subst (λ xs. SpellsPart (k xs) w ws m) (append-nil done) h
 groups_printed ws m (r ∷ rs) done l k w h =
     let same : (done ++ replicate r.0 r.1) ++ expand rs ≡ done ++ (replicate r.0 r.1 ++ expand rs) = append_assoc done (replicate r.0 r.1) (expand rs) in
     let a = length-append done (replicate r.0 r.1 ++ expand rs) in
@@ -32,14 +32,14 @@ groups_printed ws m (r ∷ rs) done l k w h =
     let few : length done + r.0 ≤ 50000 = omega (arith, l, a, b, c) in
     let small : r.0 < 2 ^ 32 = omega (arith, few) in
     number_printed ws m false 32 (λ c. nat_le (length done + c) 50000) (λ c. val_type (λ t. groups (length rs) (done ++ replicate c t) k)) (put_run r (put_all put_run rs w)) r.0 (put_val_type r.1 (put_all put_run rs w)) (unsigned_before 5 32 r.0 _ (omega arith) (omega arith) small) (le-leb _ _ few)
-    (val_type_printed ws m r.1 (λ t. groups (length rs) (done ++ replicate r.0 t) k) (put_all put_run rs w) (groups_printed ws m rs (done ++ replicate r.0 r.1) (subst (λ xs. length xs ≤ 50000) (sym same) l) k w (subst (λ xs. Spells (k xs) w ws m) (sym same) h)))
+    (val_type_printed ws m r.1 (λ t. groups (length rs) (done ++ replicate r.0 t) k) (put_all put_run rs w) (groups_printed ws m rs (done ++ replicate r.0 r.1) (subst (λ xs. length xs ≤ 50000) (sym same) l) k w (subst (λ xs. SpellsPart (k xs) w ws m) (sym same) h)))
 
-locals_printed : (ws : List (List ℕ)) (m : Parts) (ts : List ValType) → length ts ≤ 50000 → (k : List ValType → Spelling) (w : List ℕ) → Spells (k ts) w ws m → Spells (locals k) (put_locals ts w) ws m
+locals_printed : (ws : List (List ℕ)) (m : Parts) (ts : List ValType) → length ts ≤ 50000 → (k : List ValType → Spelling) (w : List ℕ) → SpellsPart (k ts) w ws m → SpellsPart (locals k) (put_locals ts w) ws m
 unfolding locals put_locals
 locals_printed ws m ts l k w h =
     let e = runs_expand ts in
     let f = runs_few ts in
-    u32_printed ws m _ (length (runs ts)) _ (omega (arith, f, l)) (groups_printed ws m (runs ts) [] (subst (λ xs. length xs ≤ 50000) (sym e) l) k w (subst (λ xs. Spells (k xs) w ws m) (sym e) h))
+    u32_printed ws m _ (length (runs ts)) _ (omega (arith, f, l)) (groups_printed ws m (runs ts) [] (subst (λ xs. length xs ≤ 50000) (sym e) l) k w (subst (λ xs. SpellsPart (k xs) w ws m) (sym e) h))
 
 -- ---- bodies: each instruction takes a byte at least
 
@@ -159,20 +159,20 @@ bodies_printed ws m funcs bs e l a k w h =
 
 -- From this module on, these bytes spell the whole, if the last id was less than `hi` and at least n sections may come.
 abbrev Later : Parts → Parts → ℕ → ℕ → List ℕ → Type 0
-Later x m hi n w = (f last : ℕ) → n ≤ f → last < hi → Spells (sections f last m) w [] x
+Later x m hi n w = (f last : ℕ) → n ≤ f → last < hi → SpellsPart (sections f last m) w [] x
 
-section_printed : (x m m1 : Parts) (which : Section) (id f last : ℕ) (part w : List ℕ) → section_id last id ≡ Some which → IsU32 (length part) → ((k : Parts → Spelling) → Spells (k m1) [] (w ∷ []) x → Spells (contents which m k) part (w ∷ []) x) → Spells (sections f
-    (last_after last id) m1) w [] x → Spells (sections (suc f) last m) (id ∷ put_sized part w) [] x
+section_printed : (x m m1 : Parts) (which : Section) (id f last : ℕ) (part w : List ℕ) → section_id last id ≡ Some which → IsU32 (length part) → ((k : Parts → Spelling) → SpellsPart (k m1) [] (w ∷ []) x → SpellsPart (contents which m k) part (w ∷ []) x) → SpellsPart (sections f
+    (last_after last id) m1) w [] x → SpellsPart (sections (suc f) last m) (id ∷ put_sized part w) [] x
 unfolding sections next_section section
 section_printed x m m1 which id f last part w e l c h =
-    let inside : Spells (section which m (λ m'. sections f (last_after last id) m')) (put_sized part w) [] x =
+    let inside : SpellsPart (section which m (λ m'. sections f (last_after last id) m')) (put_sized part w) [] x =
     size_printed [] x (λ n. contents which m (λ m'. finish (sections f (last_after last id) m'))) part w l (c (λ m'. finish (sections f (last_after last id) m')) (finish_printed [] x (sections f (last_after last id) m1) w h)) in
-    (id, 1, (refl, (_, refl), ap is_some e), subst (λ (o : Option Section). Spells (on o (λ s. section s m (λ m'. sections f (last_after last id) m'))) (put_sized part w) [] x) (sym e) inside)
+    (id, 1, (refl, (_, refl), ap is_some e), subst (λ (o : Option Section). SpellsPart (on o (λ s. section s m (λ m'. sections f (last_after last id) m'))) (put_sized part w) [] x) (sym e) inside)
 
 lower : (x m : Parts) (lo hi n : ℕ) (w : List ℕ) → lo ≤ hi → Later x m hi n w → Later x m lo n w
 lower x m lo hi n w h later = λ f last a b. later f last a (omega (arith, b, h))
 
-whole_at : (x : Parts) (f last : ℕ) → length x.funcs ≡ length x.bodies → Spells (sections f last x) [] [] x
+whole_at : (x : Parts) (f last : ℕ) → length x.funcs ≡ length x.bodies → SpellsPart (sections f last x) [] [] x
 unfolding sections
 whole_at x zero last e = (eq-eqb _ _ e, refl)
 whole_at x (suc f) last e = (eq-eqb _ _ e, refl)
@@ -187,17 +187,17 @@ later_id last id which l e = subst (λ (b : Bool). (if b then find id sections_b
 last_is : (last id : ℕ) → last < id → last_after last id ≡ id
 last_is last id l = ap (λ (b : Bool). if b then last else id) (ne_eqb id 0 (λ e. omega arith))
 
-more_printed : (x m m1 : Parts) (which : Section) (id hi n : ℕ) (part w : List ℕ) → find id sections_by_id ≡ Some which → hi ≤ id → IsU32 (length part) → ((k : Parts → Spelling) → Spells (k m1) [] (w ∷ []) x → Spells (contents which m k) part (w ∷ []) x) → Later x m1 (id +
-    1) n w → (f last : ℕ) → n + 1 ≤ f → last < hi → Spells (sections f last m) (id ∷ put_sized part w) [] x
+more_printed : (x m m1 : Parts) (which : Section) (id hi n : ℕ) (part w : List ℕ) → find id sections_by_id ≡ Some which → hi ≤ id → IsU32 (length part) → ((k : Parts → Spelling) → SpellsPart (k m1) [] (w ∷ []) x → SpellsPart (contents which m k) part (w ∷ []) x) → Later x m1 (id +
+    1) n w → (f last : ℕ) → n + 1 ≤ f → last < hi → SpellsPart (sections f last m) (id ∷ put_sized part w) [] x
 more_printed x m m1 which id hi n part w e g l c later zero last a b = absurd (omega (arith, a))
 more_printed x m m1 which id hi n part w e g l c later (suc f) last a b =
     let s : section_id last id ≡ Some which = later_id last id which (omega (arith, b, g)) e in
-    section_printed x m m1 which id f last part w s l c (subst (λ i. Spells (sections f i m1) w [] x) (sym (last_is last id (omega (arith, b, g)))) (later f id (omega (arith, a)) (omega arith)))
+    section_printed x m m1 which id f last part w s l c (subst (λ i. SpellsPart (sections f i m1) w [] x) (sym (last_is last id (omega (arith, b, g)))) (later f id (omega (arith, a)) (omega arith)))
 
-step_printed : {A : Type 0} (x m m1 : Parts) (which : Section) (id hi n : ℕ) (put : A → List ℕ → List ℕ) (xs : List A) (w : List ℕ) → find id sections_by_id ≡ Some which → hi ≤ id → IsU32 (length (put_list put xs [])) → (xs ≡ [] → m1 ≡ m) → ((k : Parts → Spelling) → Spells (k m1)
-    [] (w ∷ []) x → Spells (contents which m k) (put_list put xs []) (w ∷ []) x) → Later x m1 (id + 1) n w → Later x m hi (n + 1) (put_section id put xs w)
+step_printed : {A : Type 0} (x m m1 : Parts) (which : Section) (id hi n : ℕ) (put : A → List ℕ → List ℕ) (xs : List A) (w : List ℕ) → find id sections_by_id ≡ Some which → hi ≤ id → IsU32 (length (put_list put xs [])) → (xs ≡ [] → m1 ≡ m) → ((k : Parts → Spelling) → SpellsPart (k m1)
+    [] (w ∷ []) x → SpellsPart (contents which m k) (put_list put xs []) (w ∷ []) x) → Later x m1 (id + 1) n w → Later x m hi (n + 1) (put_section id put xs w)
 unfolding put_section
-step_printed x m m1 which id hi n put [] w e g s none c later = λ f last a b. subst (λ m. Spells (sections f last m) w [] x) (none refl) (later f last (omega (arith, a)) (omega (arith, b, g)))
+step_printed x m m1 which id hi n put [] w e g s none c later = λ f last a b. subst (λ m. SpellsPart (sections f last m) w [] x) (none refl) (later f last (omega (arith, a)) (omega (arith, b, g)))
 step_printed x m m1 which id hi n put (y ∷ ys) w e g s none c later = more_printed x m m1 which id hi n (put_list put (y ∷ ys) []) w e g s c later
 
 no_memory : (l : Option Limits) → sizes l ≡ [] → l ≡ None
@@ -219,7 +219,7 @@ part_small id one (x ∷ xs) w l = let a = sized_longer (put_list one (x ∷ xs)
 rest_small : {A : Type 0} (id : ℕ) (one : A → List ℕ → List ℕ) (xs : List A) (w : List ℕ) → IsU32 (length (put_section id one xs w)) → IsU32 (length w)
 rest_small id one xs w l = let a = section_longer id one xs w in omega (arith, a, l)
 
-header_printed : (x : Parts) (k : Spelling) (w : List ℕ) → Spells k w [] x → Spells (header k) (put_header w) [] x
+header_printed : (x : Parts) (k : Spelling) (w : List ℕ) → SpellsPart k w [] x → SpellsPart (header k) (put_header w) [] x
 unfolding header
 header_printed x k w h = byte_printed [] x 0 _ _ (byte_printed [] x 97 _ _ (byte_printed [] x 115 _ _ (byte_printed [] x 109 _ _ (byte_printed [] x 1 _ _ (byte_printed [] x 0 _ _ (byte_printed [] x 0 _ _ (byte_printed [] x 0 _ _ h)))))))
 

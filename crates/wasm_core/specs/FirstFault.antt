@@ -4,14 +4,14 @@ use Rattle.wasm_core.specs.declared.types.FuncType.{FuncType}
 use Rattle.wasm_core.specs.declared.instrs.Instr.{Instr}
 use Rattle.wasm_core.specs.declared.instrs.Body.{Body}
 use Rattle.wasm_core.specs.Parts.{Parts}
-use Rattle.wasm_core.specs.ModuleTyping.{Types, TypedBody, TypedFunc, Part, id_of, IsSound, AllSound, results_of}
+use Rattle.wasm_core.specs.ModuleTyping.{OperandTypes, TypedBody, TypedFunc, Part, id_of, IsSound, AllSound, results_of}
 
 -- some body that begins with these instructions has a typing
-abbrev pub CanGoOn : Parts → Types → Types → List Instr → Type 0
+abbrev pub CanGoOn : Parts → OperandTypes → OperandTypes → List Instr → Type 0
 CanGoOn m locals results front = (more : List Instr) × TypedBody m locals results (front ++ more)
 
 -- p is the least place such that no body that begins with the instructions up to and including p has a typing
-pub record IsFaultAt (m : Parts) (locals results : Types) (code : List Instr) (p : ℕ) : Type 0 where
+pub record IsFaultAt (m : Parts) (locals results : OperandTypes) (code : List Instr) (p : ℕ) : Type 0 where
   pub within : p < length code
   pub before : CanGoOn m locals results (take p code)
   pub here : CanGoOn m locals results (take (p + 1) code) → ⊥

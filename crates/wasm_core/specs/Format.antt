@@ -21,9 +21,9 @@ pub data Format (M : Type 0) : Type 0 where
   -- where the part has no byte left, its end, if it may end here; else what comes in it
   End : (may : Bool) → (over : Format M) → (more : Format M) → Format M
 
-pub data Outcome (M : Type 0) : Type 0 where
-  Accepted : (made : M) → Outcome M
-  Refused : (offset : ℕ) → Outcome M
+pub data DecodeOutcome (M : Type 0) : Type 0 where
+  Accepted : (made : M) → DecodeOutcome M
+  Refused : (offset : ℕ) → DecodeOutcome M
 
 abbrev pub name_of : List ℕ → ℕ → ℕ → Option (List ℕ × ℕ)
 name_of w n k = if nat_le n (length (drop k w)) && is_utf8 (take n (drop k w)) then Some (take n (drop k w), k + n) else None
@@ -36,7 +36,7 @@ at_length w (Some p) = name_of w p.0 p.1
 unfoldable pub name_at : List ℕ → Option (List ℕ × ℕ)
 name_at w = at_length w (number_at false 32 w)
 
-abbrev pub then' : {A : Type 0} {M : Type 0} → Option (A × ℕ) → Outcome M → (A → ℕ → Outcome M) → Outcome M
+abbrev pub then' : {A : Type 0} {M : Type 0} → Option (A × ℕ) → DecodeOutcome M → (A → ℕ → DecodeOutcome M) → DecodeOutcome M
 then' None nothing go = nothing
 then' (Some p) nothing go = go p.0 p.1
 
@@ -49,7 +49,7 @@ others [] = []
 others (w ∷ ws) = ws
 
 -- Reading from left to right, from an offset: `w` are the bytes left in the part, `ws` those of the parts around it after that.
-unfoldable pub judge : {M : Type 0} → Format M → (at : ℕ) → (w : List ℕ) → (ws : List (List ℕ)) → Outcome M
+unfoldable pub judge : {M : Type 0} → Format M → (at : ℕ) → (w : List ℕ) → (ws : List (List ℕ)) → DecodeOutcome M
 judge (Give m) at w ws = Accepted m
 judge Nothing at w ws = Refused at
 judge (Byte fits next) at [] ws = Refused at

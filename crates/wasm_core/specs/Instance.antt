@@ -35,20 +35,20 @@ greatest_pages None = 0
 greatest_pages (Some l) = unwrap_or l.max 65536
 
 -- an entry of a table: a function's index, or nothing
-abbrev pub Entries : Type 0
-Entries = List (Option ℕ)
+abbrev pub TableEntries : Type 0
+TableEntries = List (Option ℕ)
 
 -- these functions stand in the table from a place on
-abbrev pub put_funcs : Entries → ℕ → List ℕ → Entries
+abbrev pub put_funcs : TableEntries → ℕ → List ℕ → TableEntries
 put_funcs entries i [] = entries
 put_funcs entries i (f ∷ fs) = put_funcs (slice_set entries i (Some f)) (suc i) fs
 
-abbrev pub put_segments : Entries → List Segment → Entries
+abbrev pub put_segments : TableEntries → List Segment → TableEntries
 put_segments entries [] = entries
 put_segments entries (s ∷ segments) = put_segments (put_funcs entries s.offset s.funcs) segments
 
 -- the table: empty entries, into which the segments are put in order
-unfoldable pub table_of : Parts → Entries
+unfoldable pub table_of : Parts → TableEntries
 table_of m = put_segments (replicate (least m.table) None) m.elements
 
 abbrev pub segment_fits : ℕ → Segment → Bool

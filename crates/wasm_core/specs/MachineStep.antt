@@ -60,7 +60,7 @@ else_arm d (i ∷ rest) = to_else (bracket i) d (λ e. else_arm e rest) i rest
 
 -- an open block: whether a branch to it takes a value along, the instructions with which the branch goes on,
 -- and the operands below the block, the topmost first
-pub record Label : Type 0 where
+pub record BlockLabel : Type 0 where
   pub keeps : Bool
   pub goes_on : List Instr
   pub below : List ConstValue
@@ -70,7 +70,7 @@ pub record Label : Type 0 where
 pub record Frame : Type 0 where
   pub keeps : Bool
   pub locals : List ConstValue
-  pub labels : List Label
+  pub labels : List BlockLabel
   pub operands : List ConstValue
   pub rest : List Instr
 
@@ -150,7 +150,7 @@ arm zero rest = else_arm 0 rest
 arm (suc n) rest = rest
 
 -- the innermost block is left at its end, and its operands stay
-abbrev pub leave_block : List Label → Conf → (Label → List Instr) → Option State
+abbrev pub leave_block : List BlockLabel → Conf → (BlockLabel → List Instr) → Option State
 leave_block [] c rest = None
 leave_block (k ∷ ks) c rest =
     Some (At (record c { current = record c.current { labels = ks; operands = c.current.operands ++ k.below; rest = rest k } }))
@@ -164,12 +164,12 @@ abbrev pub leave : Conf → List ConstValue → Option State
 leave c operands = taking c.current.keeps operands (λ top. back c c.callers top)
 
 -- an end: of the function, or of the innermost block
-abbrev pub at_end : List Label → List Instr → Conf → Option State
+abbrev pub at_end : List BlockLabel → List Instr → Conf → Option State
 at_end [] rest c = leave c c.current.operands
 at_end (k ∷ ks) rest c = leave_block (k ∷ ks) c (λ l. rest)
 
 -- a branch to an open block, or out of the function, whose body is the outermost one
-abbrev pub jump : Conf → ℕ → List ConstValue → Option Label → Option State
+abbrev pub jump : Conf → ℕ → List ConstValue → Option BlockLabel → Option State
 jump c l operands None = if nat_eq l (length c.current.labels) then leave c operands else None
 jump c l operands (Some k) =
     taking k.keeps operands (λ top. Some (At (record c { current = record c.current { labels = drop (l + 1) c.current.labels; operands = top ++ k.below; rest = k.goes_on } })))
@@ -296,11 +296,11 @@ abbrev pub step : Parts → Bool → Conf → Option State
 step m granted c = next m granted c.current.rest c
 
 -- a step of a run, where a grow is granted or refused
-abbrev pub Step : Parts → Bool → State → State → Type 0
-Step m granted (At c) t = step m granted c ≡ Some t
-Step m granted (Over e store) t = ⊥
+abbrev pub StepsTo : Parts → Bool → State → State → Type 0
+StepsTo m granted (At c) t = step m granted c ≡ Some t
+StepsTo m granted (Over e store) t = ⊥
 
 -- k steps of a run, the last one last; at each a grow may be granted or refused
 abbrev pub Reach : Parts → ℕ → State → State → Type 0
 Reach m zero s t = s ≡ t
-Reach m (suc k) s t = (mid : State) × Reach m k s mid × ((granted : Bool) × Step m granted mid t)
+Reach m (suc k) s t = (mid : State) × Reach m k s mid × ((granted : Bool) × StepsTo m granted mid t)

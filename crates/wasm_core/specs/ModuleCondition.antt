@@ -46,12 +46,12 @@ AreSizes (Some l) = IsLimits l
 abbrev pub IsU64 : ℕ → Type 0
 IsU64 n = n < 2 ^ 64
 
-abbrev pub IsConstant : ConstValue → Type 0
-IsConstant (constants.I32 n) = IsU32 n
-IsConstant (constants.I64 n) = IsU64 n
+abbrev pub IsConstValue : ConstValue → Type 0
+IsConstValue (constants.I32 n) = IsU32 n
+IsConstValue (constants.I64 n) = IsU64 n
 
 abbrev pub IsGlobal : GlobalDef → Type 0
-IsGlobal g = IsConstant g.init
+IsGlobal g = IsConstValue g.init
 
 abbrev pub IsExport : Export → Type 0
 IsExport e = IsUtf8 e.name × IsU32 (length e.name) × IsU32 e.index

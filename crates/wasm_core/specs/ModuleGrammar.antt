@@ -3,7 +3,7 @@
 -- A production says which items come next and hands their value to `k`, which says what comes after them.
 use Rattle.std.specs.Prelude.{◌≡◌, ◌⊎◌, ℕ, zero, suc, ◌+◌, List, [], ◌∷◌, ◌++◌, length, replicate, Bool, true, false, ◌&&◌, ◌||◌, not, nat_lt, nat_le, nat_eq, if◌then◌else◌, Option, Some, None, is_some, Result, Ok, Err}
 use Rattle.wasm_core.specs.Format.{Format, Give, Nothing, Byte, Number, Name, Size, Skip, End}
-use Rattle.wasm_core.specs.Spelling.{Spells, Stops}
+use Rattle.wasm_core.specs.Spelling.{SpellsPart, Stops}
 use Rattle.wasm_core.specs.Parts.{Parts}
 use Rattle.wasm_core.specs.ModuleCondition.{opens_after}
 use Rattle.wasm_core.specs.declared.types.ValType.{ValType}
@@ -305,14 +305,14 @@ file n = header (sections n 0 empty)
 
 -- these bytes spell this module
 abbrev pub SpellsModule : List ℕ → Parts → Type 0
-SpellsModule bytes m = Spells (file (length bytes)) bytes [] m
+SpellsModule bytes m = SpellsPart (file (length bytes)) bytes [] m
 
 -- these bytes spell none, and the first item without a spelling in its place begins at this offset
 abbrev pub StopsModule : List ℕ → ℕ → Type 0
 StopsModule bytes o = Stops (file (length bytes)) 0 bytes [] o
 
 -- No bytes spell two modules, or stop at two offsets, or do both; and any bytes do one of the two.
-pub record IsExact : Type 0 where
+pub record GrammarIsExact : Type 0 where
   pub one_module : (bytes : List ℕ) (a b : Parts) → SpellsModule bytes a → SpellsModule bytes b → a ≡ b
   pub one_offset : (bytes : List ℕ) (a b : ℕ) → StopsModule bytes a → StopsModule bytes b → a ≡ b
   pub not_both : (bytes : List ℕ) (m : Parts) (o : ℕ) → SpellsModule bytes m → StopsModule bytes o → ⊥
@@ -327,13 +327,13 @@ Explains (Err faults.Memory) bytes = Unit {0}
 Explains (Err (faults.Bad o)) bytes = StopsModule bytes o
 
 -- this module, or want of memory
-abbrev pub Answers : Parts → Result Parts DecodeFault → Type 0
-Answers m (Ok x) = x ≡ m
-Answers m (Err faults.Memory) = Unit {0}
-Answers m (Err (faults.Bad o)) = ⊥
+abbrev pub DecodesTo : Parts → Result Parts DecodeFault → Type 0
+DecodesTo m (Ok x) = x ≡ m
+DecodesTo m (Err faults.Memory) = Unit {0}
+DecodesTo m (Err (faults.Bad o)) = ⊥
 
 -- a refusal at this offset, or want of memory
-abbrev pub Refuses : ℕ → Result Parts DecodeFault → Type 0
-Refuses n (Ok x) = ⊥
-Refuses n (Err faults.Memory) = Unit {0}
-Refuses n (Err (faults.Bad o)) = o ≡ n
+abbrev pub RefusesAt : ℕ → Result Parts DecodeFault → Type 0
+RefusesAt n (Ok x) = ⊥
+RefusesAt n (Err faults.Memory) = Unit {0}
+RefusesAt n (Err (faults.Bad o)) = o ≡ n

@@ -22,8 +22,8 @@ use Rattle.wasm_core.specs.Arithmetic.{is_unary}
 use Rattle.wasm_core.specs.Parts.{Parts}
 
 -- types of values, that of the topmost first
-abbrev pub Types : Type 0
-Types = List ValType
+abbrev pub OperandTypes : Type 0
+OperandTypes = List ValType
 
 -- the type of an operand: that of a value; or, after an instruction past which nothing runs, one that matches every type
 pub data OperandType : Type 0 where
@@ -34,14 +34,14 @@ pub data OperandType : Type 0 where
 abbrev pub Operands : Type 0
 Operands = List OperandType
 
-abbrev pub known : Types → Operands
+abbrev pub known : OperandTypes → Operands
 known ts = map Of ts
 
 -- operands of these types stand where values of those types are asked for
-pub data Match : Operands → Types → Type 0 where
+pub data Match : Operands → OperandTypes → Type 0 where
   match_none : Match [] []
-  match_same : {t : ValType} {os : Operands} {ts : Types} → Match os ts → Match (Of t ∷ os) (t ∷ ts)
-  match_bottom : {t : ValType} {os : Operands} {ts : Types} → Match os ts → Match (Bottom ∷ os) (t ∷ ts)
+  match_same : {t : ValType} {os : Operands} {ts : OperandTypes} → Match os ts → Match (Of t ∷ os) (t ∷ ts)
+  match_bottom : {t : ValType} {os : Operands} {ts : OperandTypes} → Match os ts → Match (Bottom ∷ os) (t ∷ ts)
 
 -- the type of a value
 abbrev pub type_of : ConstValue → ValType
@@ -49,11 +49,11 @@ type_of (value.I32 n) = I32
 type_of (value.I64 n) = I64
 
 -- what a block leaves
-abbrev pub left_by : BlockType → Types
+abbrev pub left_by : BlockType → OperandTypes
 left_by Empty = []
 left_by (Value t) = t ∷ []
 
-abbrev pub results_of : FuncType → Types
+abbrev pub results_of : FuncType → OperandTypes
 results_of t = option_to_list t.result
 
 abbrev pub when : {A : Type 0} → Bool → A → Option A
@@ -62,7 +62,7 @@ when false x = None
 
 -- what an instruction takes off the operands and what it puts on them
 abbrev pub Effect : Type 0
-Effect = Types × Types
+Effect = OperandTypes × OperandTypes
 
 abbrev pub func_type : Parts → ℕ → Option FuncType
 func_type m f = option_and_then (λ index. slice_get m.types index) (slice_get m.funcs f)
@@ -92,7 +92,7 @@ operating true = (I32 ∷ [], I32 ∷ [])
 operating false = (I32 ∷ I32 ∷ [], I32 ∷ [])
 
 -- the effect of an instruction, where it depends on nothing but the module and the locals
-abbrev pub effect : Parts → Types → Instr → Option Effect
+abbrev pub effect : Parts → OperandTypes → Instr → Option Effect
 effect m locals Nop = Some ([], [])
 effect m locals (Call f) = option_map calling (func_type m f)
 effect m locals (CallIndirect index table) =
@@ -114,29 +114,29 @@ effect m locals (Operation op) = Some (operating (is_unary op))
 effect m locals _ = None
 
 -- a label's types are matched by these operands
-pub record Reaches (labels : List Types) (l : ℕ) (os : Operands) : Type 0 where
-  pub wanted : Types
+pub record Reaches (labels : List OperandTypes) (l : ℕ) (os : Operands) : Type 0 where
+  pub wanted : OperandTypes
   pub found : slice_get labels l ≡ Some wanted
   pub matched : Match os wanted
 
 -- `Typed m locals results labels ts code us`: in a function with these locals and results, within blocks to which a branch takes
 -- these types along, the innermost first, the code leads from operands of the types ts to operands of the types us
-pub data Typed (m : Parts) (locals results : Types) : List Types → Operands → List Instr → Operands → Type 0 where
-  done : {labels : List Types} {ts : Operands} → Typed m locals results labels ts [] ts
-  plain : {labels : List Types} {us : Operands} {pops pushes : Types} (os ts : Operands) {i : Instr} {rest : List Instr} → effect m locals i ≡ Some (pops, pushes) → Match os pops → Typed m locals results labels (known pushes ++ ts) rest us → Typed m locals results labels (os ++ ts) (i ∷ rest) us
-  drop : {labels : List Types} {t : OperandType} {ts us : Operands} {rest : List Instr} → Typed m locals results labels ts rest us → Typed m locals results labels (t ∷ ts) (Drop ∷ rest) us
-  unreachable : {labels : List Types} {ts any us : Operands} {rest : List Instr} → Typed m locals results labels any rest us → Typed m locals results labels ts (Unreachable ∷ rest) us
-  block : {labels : List Types} {ts ends us : Operands} {b : BlockType} {body rest : List Instr} → Typed m locals results (left_by b ∷ labels) [] body ends → Match ends (left_by b) → Typed m locals results labels (known (left_by b) ++ ts) rest us → Typed m locals results labels ts (Block b ∷ (body ++ End ∷ rest)) us
-  loop : {labels : List Types} {ts ends us : Operands} {b : BlockType} {body rest : List Instr} → Typed m locals results ([] ∷ labels) [] body ends → Match ends (left_by b) → Typed m locals results labels (known (left_by b) ++ ts) rest us → Typed m locals results labels ts (Loop b ∷ (body ++ End ∷ rest)) us
-  one_arm : {labels : List Types} {o : OperandType} {ts us : Operands} {body rest : List Instr} → Match (o ∷ []) (I32 ∷ []) → Typed m locals results ([] ∷ labels) [] body [] → Typed m locals results labels ts rest us → Typed m locals results labels (o ∷ ts) (If Empty ∷ (body ++ End ∷ rest)) us
-  two_arms : {labels : List Types} {o : OperandType} {ts first_ends second_ends us : Operands} {b : BlockType} {first second rest : List Instr} → Match (o ∷ []) (I32 ∷ []) → Typed m locals results (left_by b ∷ labels) [] first first_ends → Match first_ends (left_by b) → Typed m locals results (left_by b ∷ labels) [] second second_ends → Match second_ends (left_by b) → Typed m locals results labels (known (left_by b) ++ ts) rest us → Typed m locals results labels (o ∷ ts) (If b ∷ (first ++ Else ∷ (second ++ End ∷ rest))) us
-  br : {labels : List Types} {any us : Operands} (os ts : Operands) {l : ℕ} {rest : List Instr} → Reaches labels l os → Typed m locals results labels any rest us → Typed m locals results labels (os ++ ts) (Br l ∷ rest) us
-  br_if : {labels : List Types} {o : OperandType} {us : Operands} (os ts : Operands) {l : ℕ} {rest : List Instr} → Match (o ∷ []) (I32 ∷ []) → (r : Reaches labels l os) → Typed m locals results labels (known r.wanted ++ ts) rest us → Typed m locals results labels (o ∷ (os ++ ts)) (BrIf l ∷ rest) us
-  br_table : {labels : List Types} {o : OperandType} {any us : Operands} (os ts : Operands) {ls : List ℕ} {l : ℕ} {rest : List Instr} → Match (o ∷ []) (I32 ∷ []) → ((i k : ℕ) → slice_get ls i ≡ Some k → Reaches labels k os) → Reaches labels l os → Typed m locals results labels any rest us → Typed m locals results labels (o ∷ (os ++ ts)) (BrTable l ls ∷ rest) us
-  return : {labels : List Types} {any us : Operands} (os ts : Operands) {rest : List Instr} → Match os results → Typed m locals results labels any rest us → Typed m locals results labels (os ++ ts) (Return ∷ rest) us
+pub data Typed (m : Parts) (locals results : OperandTypes) : List OperandTypes → Operands → List Instr → Operands → Type 0 where
+  done : {labels : List OperandTypes} {ts : Operands} → Typed m locals results labels ts [] ts
+  plain : {labels : List OperandTypes} {us : Operands} {pops pushes : OperandTypes} (os ts : Operands) {i : Instr} {rest : List Instr} → effect m locals i ≡ Some (pops, pushes) → Match os pops → Typed m locals results labels (known pushes ++ ts) rest us → Typed m locals results labels (os ++ ts) (i ∷ rest) us
+  drop : {labels : List OperandTypes} {t : OperandType} {ts us : Operands} {rest : List Instr} → Typed m locals results labels ts rest us → Typed m locals results labels (t ∷ ts) (Drop ∷ rest) us
+  unreachable : {labels : List OperandTypes} {ts any us : Operands} {rest : List Instr} → Typed m locals results labels any rest us → Typed m locals results labels ts (Unreachable ∷ rest) us
+  block : {labels : List OperandTypes} {ts ends us : Operands} {b : BlockType} {body rest : List Instr} → Typed m locals results (left_by b ∷ labels) [] body ends → Match ends (left_by b) → Typed m locals results labels (known (left_by b) ++ ts) rest us → Typed m locals results labels ts (Block b ∷ (body ++ End ∷ rest)) us
+  loop : {labels : List OperandTypes} {ts ends us : Operands} {b : BlockType} {body rest : List Instr} → Typed m locals results ([] ∷ labels) [] body ends → Match ends (left_by b) → Typed m locals results labels (known (left_by b) ++ ts) rest us → Typed m locals results labels ts (Loop b ∷ (body ++ End ∷ rest)) us
+  one_arm : {labels : List OperandTypes} {o : OperandType} {ts us : Operands} {body rest : List Instr} → Match (o ∷ []) (I32 ∷ []) → Typed m locals results ([] ∷ labels) [] body [] → Typed m locals results labels ts rest us → Typed m locals results labels (o ∷ ts) (If Empty ∷ (body ++ End ∷ rest)) us
+  two_arms : {labels : List OperandTypes} {o : OperandType} {ts first_ends second_ends us : Operands} {b : BlockType} {first second rest : List Instr} → Match (o ∷ []) (I32 ∷ []) → Typed m locals results (left_by b ∷ labels) [] first first_ends → Match first_ends (left_by b) → Typed m locals results (left_by b ∷ labels) [] second second_ends → Match second_ends (left_by b) → Typed m locals results labels (known (left_by b) ++ ts) rest us → Typed m locals results labels (o ∷ ts) (If b ∷ (first ++ Else ∷ (second ++ End ∷ rest))) us
+  br : {labels : List OperandTypes} {any us : Operands} (os ts : Operands) {l : ℕ} {rest : List Instr} → Reaches labels l os → Typed m locals results labels any rest us → Typed m locals results labels (os ++ ts) (Br l ∷ rest) us
+  br_if : {labels : List OperandTypes} {o : OperandType} {us : Operands} (os ts : Operands) {l : ℕ} {rest : List Instr} → Match (o ∷ []) (I32 ∷ []) → (r : Reaches labels l os) → Typed m locals results labels (known r.wanted ++ ts) rest us → Typed m locals results labels (o ∷ (os ++ ts)) (BrIf l ∷ rest) us
+  br_table : {labels : List OperandTypes} {o : OperandType} {any us : Operands} (os ts : Operands) {ls : List ℕ} {l : ℕ} {rest : List Instr} → Match (o ∷ []) (I32 ∷ []) → ((i k : ℕ) → slice_get ls i ≡ Some k → Reaches labels k os) → Reaches labels l os → Typed m locals results labels any rest us → Typed m locals results labels (o ∷ (os ++ ts)) (BrTable l ls ∷ rest) us
+  return : {labels : List OperandTypes} {any us : Operands} (os ts : Operands) {rest : List Instr} → Match os results → Typed m locals results labels any rest us → Typed m locals results labels (os ++ ts) (Return ∷ rest) us
 
 -- a body: instructions that lead from no operands to the results, where a branch out of the body takes the results along, and its own end
-pub record TypedBody (m : Parts) (locals results : Types) (code : List Instr) : Type 0 where
+pub record TypedBody (m : Parts) (locals results : OperandTypes) (code : List Instr) : Type 0 where
   pub body : List Instr
   pub ends : code ≡ body ++ End ∷ []
   pub left : Operands
@@ -164,8 +164,8 @@ id_of Elements = 9
 id_of Codes = 10
 
 -- the greatest size is not below the least
-abbrev pub AreOrdered : Limits → Type 0
-AreOrdered l = IfSome l.max (λ most. l.min ≤ most)
+abbrev pub LimitsAreOrdered : Limits → Type 0
+LimitsAreOrdered l = IfSome l.max (λ most. l.min ≤ most)
 
 -- a memory's limits: at most 65,536 pages
 pub record AreLimits (l : Limits) : Type 0 where
@@ -187,18 +187,18 @@ abbrev pub EachIsThere : Parts → Type 0
 EachIsThere m = (i : ℕ) (e : Export) → slice_get m.exports i ≡ Some e → IsThere m e.kind e.index
 
 -- an element segment is for a table that is there, and its functions are there
-pub record IsSegment (m : Parts) (s : Segment) : Type 0 where
+pub record SegmentIsValid (m : Parts) (s : Segment) : Type 0 where
   pub table : IsSome m.table
   pub funcs : (i f : ℕ) → slice_get s.funcs i ≡ Some f → f < length m.funcs
 
 -- what validity asks of a part
 abbrev pub IsSound : Part → Parts → Type 0
 IsSound Functions m = (f index : ℕ) → slice_get m.funcs f ≡ Some index → index < length m.types
-IsSound Tables m = IfSome m.table AreOrdered
+IsSound Tables m = IfSome m.table LimitsAreOrdered
 IsSound Memories m = IfSome m.memory AreLimits
 IsSound Globals m = (x : ℕ) (g : GlobalDef) → slice_get m.globals x ≡ Some g → type_of g.init ≡ g.ty
 IsSound Exported m = DistinctNames m.exports × EachIsThere m
-IsSound Elements m = (i : ℕ) (s : Segment) → slice_get m.elements i ≡ Some s → IsSegment m s
+IsSound Elements m = (i : ℕ) (s : Segment) → slice_get m.elements i ≡ Some s → SegmentIsValid m s
 IsSound Codes m = length m.funcs ≡ length m.bodies
 
 abbrev pub AllSound : Parts → Type 0

@@ -6,17 +6,17 @@ use Rattle.wasm_core.specs.declared.instrs.Instr.{Instr}
 use Rattle.wasm_core.specs.declared.instrs.Instr.TheVariants.{Unreachable, Block, Loop, If, Else, End, Br, BrIf, BrTable, Return, Drop}
 use Rattle.wasm_core.specs.Parts.{Parts}
 use Rattle.wasm_core.specs.MachineStep.{on_some}
-use Rattle.wasm_core.specs.ModuleTyping.{Types, effect, left_by}
+use Rattle.wasm_core.specs.ModuleTyping.{OperandTypes, effect, left_by}
 
 -- the operands of the innermost block, the topmost first; where it is loose, any others may lie below them
 pub record Known : Type 0 where
-  pub vals : Types
+  pub vals : OperandTypes
   pub loose : Bool
 
 -- an open block
 pub record Ctl : Type 0 where
-  pub label : Types
-  pub ends : Types
+  pub label : OperandTypes
+  pub ends : OperandTypes
   pub one_arm : Bool
   pub below : Known
 
@@ -28,7 +28,7 @@ pub data Check : Type 0 where
   More : Place → Check
   Finished : Check
 
-abbrev pub knowing : Types → Bool → Known
+abbrev pub knowing : OperandTypes → Bool → Known
 knowing vals loose = record { vals = vals; loose = loose }
 
 abbrev pub same : ValType → ValType → Bool
@@ -42,27 +42,27 @@ only true o = o
 only false o = None
 
 -- these types are taken off
-abbrev pub take_off : Types → Types → Bool → Option Known
+abbrev pub take_off : OperandTypes → OperandTypes → Bool → Option Known
 take_off [] vals loose = Some (knowing vals loose)
 take_off (p ∷ ps) [] false = None
 take_off (p ∷ ps) [] true = Some (knowing [] true)
 take_off (p ∷ ps) (v ∷ vals) loose = only (same p v) (take_off ps vals loose)
 
-abbrev pub off : Types → Known → Option Known
+abbrev pub off : OperandTypes → Known → Option Known
 off ps k = take_off ps k.vals k.loose
 
-abbrev pub put_on : Types → Known → Known
+abbrev pub put_on : OperandTypes → Known → Known
 put_on ps k = record k { vals = ps ++ k.vals }
 
 -- these are all the operands
-abbrev pub if_none : Types → Known → Option Known
+abbrev pub if_none : OperandTypes → Known → Option Known
 if_none [] k = Some k
 if_none (v ∷ vals) k = None
 
-abbrev pub closes : Types → Known → Option Known
+abbrev pub closes : OperandTypes → Known → Option Known
 closes ps k = on_some (off ps k) (λ j. if_none j.vals j)
 
-abbrev pub drop_one : Types → Bool → Option Known
+abbrev pub drop_one : OperandTypes → Bool → Option Known
 drop_one [] false = None
 drop_one [] true = Some (knowing [] true)
 drop_one (v ∷ vals) loose = Some (knowing vals loose)
@@ -70,23 +70,23 @@ drop_one (v ∷ vals) loose = Some (knowing vals loose)
 abbrev pub dead : Place → Check
 dead a = More (record a { now = knowing [] true })
 
-abbrev pub labels_of : Types → List Ctl → List Types
+abbrev pub labels_of : OperandTypes → List Ctl → List OperandTypes
 labels_of rs [] = rs ∷ []
 labels_of rs (c ∷ cs) = c.label ∷ labels_of rs cs
 
-abbrev pub opened : Types → Types → Bool → Known → List Ctl → Check
+abbrev pub opened : OperandTypes → OperandTypes → Bool → Known → List Ctl → Check
 opened label ends one_arm below cs = More (record {
   now = knowing [] false;
   ctls = record { label = label; ends = ends; one_arm = one_arm; below = below } ∷ cs;
 })
 
 -- an `if` that leaves a value has two arms
-abbrev pub may_end : Bool → Types → Bool
+abbrev pub may_end : Bool → OperandTypes → Bool
 may_end true (t ∷ ts) = false
 may_end true [] = true
 may_end false ts = true
 
-abbrev pub check_end : Types → Known → List Ctl → Option Check
+abbrev pub check_end : OperandTypes → Known → List Ctl → Option Check
 check_end rs now [] = on_some (closes rs now) (λ k. Some Finished)
 check_end rs now (c ∷ cs) =
     on_some (closes c.ends now) (λ k. only (may_end c.one_arm c.ends) (Some (More (record { now = put_on c.ends c.below; ctls = cs }))))
@@ -97,16 +97,16 @@ check_else now (c ∷ cs) =
     only c.one_arm (on_some (closes c.ends now) (λ k. Some (opened c.label c.ends false c.below cs)))
 
 -- these operands are there for a label of an arity
-abbrev pub fits_label : Option Types → ℕ → Known → Bool
+abbrev pub fits_label : Option OperandTypes → ℕ → Known → Bool
 fits_label None n k = false
 fits_label (Some lt) n k = nat_eq (length lt) n && is_some (off lt k)
 
-abbrev pub fit_labels : List Types → ℕ → Known → List ℕ → Bool
+abbrev pub fit_labels : List OperandTypes → ℕ → Known → List ℕ → Bool
 fit_labels labels n k [] = true
 fit_labels labels n k (l ∷ ls) = fits_label (slice_get labels l) n k && fit_labels labels n k ls
 
 -- one instruction
-abbrev pub check : Parts → Types → Types → Instr → Place → Option Check
+abbrev pub check : Parts → OperandTypes → OperandTypes → Instr → Place → Option Check
 check m ls rs Unreachable a = Some (dead a)
 check m ls rs Drop a = on_some (drop_one a.now.vals a.now.loose) (λ k. Some (More (record a { now = k })))
 check m ls rs (Block b) a = Some (opened (left_by b) (left_by b) false a.now a.ctls)
@@ -128,7 +128,7 @@ passes (Some Finished) go fin = fin
 passes (Some (More a)) go fin = go a
 
 -- the code is passed from this place, up to the function's own end
-abbrev pub Accepts : Parts → Types → Types → Place → List Instr → Type 0
+abbrev pub Accepts : Parts → OperandTypes → OperandTypes → Place → List Instr → Type 0
 Accepts m ls rs a [] = ⊥
 Accepts m ls rs a (i ∷ rest) = passes (check m ls rs i a) (λ b. Accepts m ls rs b rest) (rest ≡ [])
 
@@ -136,12 +136,12 @@ Accepts m ls rs a (i ∷ rest) = passes (check m ls rs i a) (λ b. Accepts m ls 
 abbrev pub outset : Place
 outset = record { now = knowing [] false; ctls = [] }
 
-abbrev pub one : Parts → Types → Types → Option Check → Instr → Option Check
+abbrev pub one : Parts → OperandTypes → OperandTypes → Option Check → Instr → Option Check
 one m ls rs None i = None
 one m ls rs (Some Finished) i = None
 one m ls rs (Some (More a)) i = check m ls rs i a
 
 -- the whole pass
-abbrev pub run : Parts → Types → Types → Option Check → List Instr → Option Check
+abbrev pub run : Parts → OperandTypes → OperandTypes → Option Check → List Instr → Option Check
 run m ls rs o [] = o
 run m ls rs o (i ∷ rest) = run m ls rs (one m ls rs o i) rest

@@ -1,6 +1,6 @@
 -- What bytes spell, and the first item that has no spelling in its place.
 use Rattle.std.specs.Prelude.{◌≡◌, ◌⊎◌, ℕ, ◌+◌, ◌-◌, ◌*◌, ◌^◌, ◌<◌, ◌≤◌, List, [], ◌∷◌, length, take, drop, Bool, true, false, IsUtf8}
-use Rattle.wasm_core.specs.Format.{Format, Give, Nothing, Byte, Number, Name, Size, Skip, End, Outcome, Accepted, Refused, outer, others}
+use Rattle.wasm_core.specs.Format.{Format, Give, Nothing, Byte, Number, Name, Size, Skip, End, DecodeOutcome, Accepted, Refused, outer, others}
 
 -- ---- numbers (Core Specification, section 5.2.2): seven bits a byte, the lowest first, longer spellings within the width allowed
 
@@ -31,16 +31,16 @@ IsSize w n k = IsNumber false 32 w n k × (n ≤ length (drop k w))
 
 -- ---- what the bytes left in the part, and in those around it after that, spell
 
-abbrev pub Spells : {M : Type 0} → Format M → (w : List ℕ) → (ws : List (List ℕ)) → M → Type 0
-Spells (Give m) w ws x = m ≡ x
-Spells Nothing w ws x = ⊥
-Spells (Byte fits next) w ws x = (b k : ℕ) × IsByte fits w b k × Spells (next b) (drop k w) ws x
-Spells (Number s bits fits next) w ws x = (n k : ℕ) × (IsNumber s bits w n k × (fits n ≡ true)) × Spells (next n) (drop k w) ws x
-Spells (Name next) w ws x = (s : List ℕ) × (k : ℕ) × IsName w s k × Spells (next s) (drop k w) ws x
-Spells (Size next) w ws x = (n k : ℕ) × IsSize w n k × Spells (next n) (take n (drop k w)) (drop n (drop k w) ∷ ws) x
-Spells (Skip next) w ws x = Spells next [] ws x
-Spells (End may over more) [] ws x = (may ≡ true) × Spells over (outer ws) (others ws) x
-Spells (End may over more) (b ∷ w) ws x = Spells more (b ∷ w) ws x
+abbrev pub SpellsPart : {M : Type 0} → Format M → (w : List ℕ) → (ws : List (List ℕ)) → M → Type 0
+SpellsPart (Give m) w ws x = m ≡ x
+SpellsPart Nothing w ws x = ⊥
+SpellsPart (Byte fits next) w ws x = (b k : ℕ) × IsByte fits w b k × SpellsPart (next b) (drop k w) ws x
+SpellsPart (Number s bits fits next) w ws x = (n k : ℕ) × (IsNumber s bits w n k × (fits n ≡ true)) × SpellsPart (next n) (drop k w) ws x
+SpellsPart (Name next) w ws x = (s : List ℕ) × (k : ℕ) × IsName w s k × SpellsPart (next s) (drop k w) ws x
+SpellsPart (Size next) w ws x = (n k : ℕ) × IsSize w n k × SpellsPart (next n) (take n (drop k w)) (drop n (drop k w) ∷ ws) x
+SpellsPart (Skip next) w ws x = SpellsPart next [] ws x
+SpellsPart (End may over more) [] ws x = (may ≡ true) × SpellsPart over (outer ws) (others ws) x
+SpellsPart (End may over more) (b ∷ w) ws x = SpellsPart more (b ∷ w) ws x
 
 -- The first item, from left to right, that has no spelling in its place begins at `o`; these bytes begin at `at`.
 abbrev pub Stops : {M : Type 0} → Format M → (at : ℕ) → (w : List ℕ) → (ws : List (List ℕ)) → ℕ → Type 0
@@ -54,6 +54,6 @@ Stops (Skip next) at w ws o = Stops next (at + length w) [] ws o
 Stops (End may over more) at [] ws o = ((o ≡ at) × (may ≡ false)) ⊎ ((may ≡ true) × Stops over at (outer ws) (others ws) o)
 Stops (End may over more) at (b ∷ w) ws o = Stops more at (b ∷ w) ws o
 
-abbrev pub Meets : {M : Type 0} → Format M → ℕ → List ℕ → List (List ℕ) → Outcome M → Type 0
-Meets f at w ws (Accepted x) = Spells f w ws x
-Meets f at w ws (Refused o) = Stops f at w ws o
+abbrev pub MeetsFormat : {M : Type 0} → Format M → ℕ → List ℕ → List (List ℕ) → DecodeOutcome M → Type 0
+MeetsFormat f at w ws (Accepted x) = SpellsPart f w ws x
+MeetsFormat f at w ws (Refused o) = Stops f at w ws o

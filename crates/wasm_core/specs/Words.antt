@@ -7,7 +7,7 @@ use Rattle.wasm_core.specs.declared.instrs.Instr.TheVariants.{I32Const, I64Const
 use Rattle.wasm_core.specs.declared.instrs.Body.{Body}
 use Rattle.wasm_core.specs.ModuleCondition.{All as Each}
 use Rattle.wasm_core.specs.Parts.{Parts}
-use Rattle.wasm_core.specs.MachineStep.{Label, Frame, Store, Conf, State, At, Over}
+use Rattle.wasm_core.specs.MachineStep.{BlockLabel, Frame, Store, Conf, State, At, Over}
 use Rattle.wasm_core.specs.ModuleTyping.{AreLimits}
 
 abbrev pub IsWord : ConstValue → Type 0
@@ -29,7 +29,7 @@ pub record HasWords (m : Parts) : Type 0 where
   pub globals : Each (λ g. IsWord g.init) m.globals
   pub memory : IfSome m.memory AreLimits
 
-pub record IsLabel (k : Label) : Type 0 where
+pub record IsLabel (k : BlockLabel) : Type 0 where
   pub goes_on : Each HasWord k.goes_on
   pub below : Each IsWord k.below
 

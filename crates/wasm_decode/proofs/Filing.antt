@@ -1,6 +1,6 @@
 -- The sections of a file.
 use Rattle.std.proofs.Common.{◌≡◌, ℕ, zero, suc, ◌+◌, ◌<◌, ◌≤◌, List, [], ◌∷◌, length, Ok, Err, true, false, refl, ◌∙◌, arith}
-use Rattle.wasm_core.specs.Format.{Outcome, Accepted, Refused, judge}
+use Rattle.wasm_core.specs.Format.{DecodeOutcome, Accepted, Refused, judge}
 use Rattle.wasm_core.specs.ModuleGrammar.{next_section, sections, is_whole}
 use Rattle.wasm_core.specs.Parts.{Parts}
 use Rattle.wasm_decode.specs.Reads.{judged, Goes, Reads}
@@ -33,7 +33,7 @@ filed old now new before last parts then id s g r = record {
       (p, (let a = r.shorter in omega (arith, a, h2, h3)), e ∙ e2 ∙ r.goes (λ q. sections p q.0 q.1) []);
 }
 
-goes_with : {X Y : Type 0} (e : DecodeFault) (o p : Outcome Parts) (g : X → Outcome Parts) (h : Y → Outcome Parts) → o ≡ p → Goes {X = X} (Err e) p g → Goes {X = Y} (Err e) o h
+goes_with : {X Y : Type 0} (e : DecodeFault) (o p : DecodeOutcome Parts) (g : X → DecodeOutcome Parts) (h : Y → DecodeOutcome Parts) → o ≡ p → Goes {X = X} (Err e) p g → Goes {X = Y} (Err e) o h
 goes_with faults.Memory o p g h q f = tt
 goes_with (faults.Bad n) o p g h q f = q ∙ f
 

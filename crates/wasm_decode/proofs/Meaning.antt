@@ -1,7 +1,7 @@
 -- What the outcome of reading means for the bytes.
 use Rattle.std.proofs.Common.{List, [], ℕ, Result, Ok, Err, subst, length}
 use Rattle.wasm_core.specs.Format.{judge, Accepted}
-use Rattle.wasm_core.specs.Spelling.{Meets}
+use Rattle.wasm_core.specs.Spelling.{MeetsFormat}
 use Rattle.wasm_core.specs.ModuleGrammar.{file}
 use Rattle.wasm_core.specs.declared.binary_faults.DecodeFault.{DecodeFault}
 use Rattle.wasm_core.specs.declared.binary_faults.DecodeFault.TheVariants as faults
@@ -12,6 +12,6 @@ use Rattle.wasm_decode.specs.Found.{parts_of}
 use Rattle.wasm_decode.specs.declared.found.Found.{Found}
 
 pub explains : (r : Result Found DecodeFault) (bytes : List ℕ) → Goes r (judge (file (length bytes)) 0 bytes []) (λ f. Accepted (parts_of f)) → ExplainsFound r bytes
-explains (Ok f) bytes g = subst (Meets (file (length bytes)) 0 bytes []) g (meets (file (length bytes)) 0 bytes [])
+explains (Ok f) bytes g = subst (MeetsFormat (file (length bytes)) 0 bytes []) g (meets (file (length bytes)) 0 bytes [])
 explains (Err faults.Memory) bytes g = tt
-explains (Err (faults.Bad o)) bytes g = subst (Meets (file (length bytes)) 0 bytes []) g (meets (file (length bytes)) 0 bytes [])
+explains (Err (faults.Bad o)) bytes g = subst (MeetsFormat (file (length bytes)) 0 bytes []) g (meets (file (length bytes)) 0 bytes [])

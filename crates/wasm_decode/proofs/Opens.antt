@@ -1,7 +1,7 @@
 -- The blocks that are open, and the instructions in them.
 use Rattle.std.proofs.Common.{◌≡◌, ℕ, zero, suc, ◌+◌, ◌<◌, ◌≤◌, List, [], ◌∷◌, ◌++◌, length, reverse, Ok, Err, Bool, false, refl, sym, ap, subst, ◌∙◌, arith}
 use Rattle.std.proofs.lemmas.List.{reverse-append}
-use Rattle.wasm_core.specs.Format.{Outcome, judge}
+use Rattle.wasm_core.specs.Format.{DecodeOutcome, judge}
 use Rattle.wasm_core.specs.ModuleGrammar.{Spelling, instr, instrs}
 use Rattle.wasm_core.specs.Parts.{Parts}
 use Rattle.wasm_core.specs.ModuleCondition.{opens_after}
@@ -42,7 +42,7 @@ instructed old now new may os code seen x g r = record {
       (p, h3, e ∙ e2 ∙ r.goes (λ i. instrs p (opens_after i (may ∷ os)) (code ++ i ∷ []) k) ws);
 }
 
-goes_with : {X Y : Type 0} (e : DecodeFault) (o p : Outcome Parts) (g : X → Outcome Parts) (h : Y → Outcome Parts) → o ≡ p → Goes {X = X} (Err e) p g → Goes {X = Y} (Err e) o h
+goes_with : {X Y : Type 0} (e : DecodeFault) (o p : DecodeOutcome Parts) (g : X → DecodeOutcome Parts) (h : Y → DecodeOutcome Parts) → o ≡ p → Goes {X = X} (Err e) p g → Goes {X = Y} (Err e) o h
 goes_with faults.Memory o p g h q f = tt
 goes_with (faults.Bad n) o p g h q f = q ∙ f
 

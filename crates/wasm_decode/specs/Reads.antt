@@ -1,6 +1,6 @@
 -- What the functions of the decoder promise.
 use Rattle.std.specs.Prelude.{◌≡◌, ℕ, ◌+◌, ◌<◌, List, ◌∷◌, length, Bool, Result, Ok, Err, OnOk, IfOk, if◌then◌else◌}
-use Rattle.wasm_core.specs.Format.{Byte, Number, Size, Outcome, Refused, judge}
+use Rattle.wasm_core.specs.Format.{Byte, Number, Size, DecodeOutcome, Refused, judge}
 use Rattle.wasm_core.specs.ModuleGrammar.{Spelling, finish}
 use Rattle.wasm_core.specs.Parts.{Parts}
 use Rattle.wasm_core.specs.declared.binary_faults.DecodeFault.{DecodeFault}
@@ -8,10 +8,10 @@ use Rattle.wasm_core.specs.declared.binary_faults.DecodeFault.TheVariants as fau
 use Rattle.wasm_decode.specs.declared.cursor.Cursor.{Cursor}
 
 -- the outcome of reading on from here
-abbrev pub judged : Cursor → Spelling → List (List ℕ) → Outcome Parts
+abbrev pub judged : Cursor → Spelling → List (List ℕ) → DecodeOutcome Parts
 judged c f ws = judge f c.at c.rest.now ws
 
-abbrev pub Goes : {X : Type 0} → Result X DecodeFault → Outcome Parts → (X → Outcome Parts) → Type 0
+abbrev pub Goes : {X : Type 0} → Result X DecodeFault → DecodeOutcome Parts → (X → DecodeOutcome Parts) → Type 0
 Goes (Ok x) o go = o ≡ go x
 Goes (Err faults.Memory) o go = Unit {0}
 Goes (Err (faults.Bad n)) o go = o ≡ Refused n
@@ -35,7 +35,7 @@ pub record TakesNumber (result : Result ℕ DecodeFault) (old new : Cursor) (sig
   pub goes : (fits : ℕ → Bool) (next : ℕ → Spelling) (ws : List (List ℕ)) → Goes result (judged old (Number signed bits fits next) ws) (λ n. if fits n then judged new (next n) ws else Refused old.at)
 
 -- The part that comes next: it is read on its own, with what comes after it around it.
-abbrev pub GoesIn : Result Cursor DecodeFault → Outcome Parts → (Cursor → Outcome Parts) → Type 0
+abbrev pub GoesIn : Result Cursor DecodeFault → DecodeOutcome Parts → (Cursor → DecodeOutcome Parts) → Type 0
 GoesIn (Ok x) o go = o ≡ go x
 GoesIn (Err faults.Memory) o go = Unit {0}
 GoesIn (Err (faults.Bad n)) o go = o ≡ Refused n

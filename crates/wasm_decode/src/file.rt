@@ -4,7 +4,7 @@ ghost use Rattle.std.specs.Prelude.{◌≡◌, ℕ, ◌+◌, ◌<◌, ◌≤◌,
 ghost use Rattle.wasm_core.specs.Format.{judge, Accepted};
 ghost use Rattle.wasm_core.specs.Parts.{Parts};
 ghost use Rattle.wasm_core.specs.ModuleCondition.{IsModule};
-ghost use Rattle.wasm_core.specs.ModuleGrammar.{file, Explains, Answers, Refuses, SpellsModule, StopsModule};
+ghost use Rattle.wasm_core.specs.ModuleGrammar.{file, Explains, DecodesTo, RefusesAt, SpellsModule, StopsModule};
 ghost use Rattle.wasm_core.specs.ModuleGrammar as grammar;
 ghost use Rattle.wasm_decode.specs.Found.{parts_of};
 ghost use Rattle.wasm_decode.specs.Reads.{Goes, Reads, Passes, TakesByte, TakesNumber, TakesPart, Finishes};
@@ -158,8 +158,8 @@ fn read_sections(alloc: Global, bytes: &[u8]) -> Result<Found, DecodeFault>
 #[tactic(auto, using(wasm_core::proofs::Exact::answers, wasm_core::proofs::Exact::refuses, wasm_core::proofs::Inversion::is_module))]
 pub fn decode(alloc: Global, bytes: &[u8]) -> Result<Module, DecodeFault>
     ensures explains { Explains result bytes.now }
-    ensures answers { (m : Parts) → SpellsModule bytes.now m → Answers m result }
-    ensures refuses { (o : ℕ) → StopsModule bytes.now o → Refuses o result }
+    ensures answers { (m : Parts) → SpellsModule bytes.now m → DecodesTo m result }
+    ensures refuses { (o : ℕ) → StopsModule bytes.now o → RefusesAt o result }
     ensures whole { IfOk result IsModule }
 {
     let Found {

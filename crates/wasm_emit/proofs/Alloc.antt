@@ -19,12 +19,12 @@ use Rattle.wasm_core.specs.Parts.{Parts}
 use Rattle.wasm_core.specs.Instance.{func_of, greatest_pages}
 use Rattle.wasm_core.specs.Entries.{index_of}
 use Rattle.wasm_core.specs.Answer.{i32_of}
-use Rattle.wasm_core.specs.MachineStep.{Label, State, after_end}
+use Rattle.wasm_core.specs.MachineStep.{BlockLabel, State, after_end}
 use Rattle.wasm_core.specs.RunTree.{gone}
 use Rattle.wasm_core.proofs.Rules.{Around}
 use Rattle.wasm_core.proofs.Rules as rule
 use Rattle.wasm_emit.specs.EmitLaws.{spent}
-use Rattle.wasm_emit.specs.EmittedCode.{Const, IfOnly, ensure_room}
+use Rattle.wasm_emit.specs.EmittedCode.{ConstWord, IfOnly, ensure_room}
 use Rattle.wasm_emit.specs.EmittedModule.{room_code, type_main, type_function}
 use Rattle.wasm_emit.proofs.Rules.{Limits, Within, here, in_block, refusing, func, looser, dying, r_const, r_heap, r_set_status, r_get_status, r_size, r_eq_no, r_gt_yes, r_gt_no, r_bytes, r_if, r_if_not, r_end, r_back_nothing, r_call_nothing, r_grow}
 
@@ -48,7 +48,7 @@ pub record HasRunTime (M : Parts) : Type 0 where
 
 module _ (M : Parts) (fixed : HasRunTime M) (cap : Limits) (Q : State → Type 0) where
   stopped : {l b : ℕ} {f : Around} {m : Mem} {p h : ℕ} {ls vals : List ConstValue} {rest : List Instr} {x : Bool} → (x ≡ false → 65536 * greatest_pages M.memory < cap.bytes) → length f.callers ≤ cap.frames → 6 ≤ b →
-      Within M cap Q l b (rule.here f (refusing cap x m p h) ls (I32 (2 ^ 32 - 1) ∷ vals) (Const (2 ^ 32 - 1) ∷ Operation op32.Eq ∷ GlobalSet 1 ∷ GlobalGet 1 ∷ IfOnly ∷ Unreachable ∷ rest))
+      Within M cap Q l b (rule.here f (refusing cap x m p h) ls (I32 (2 ^ 32 - 1) ∷ vals) (ConstWord (2 ^ 32 - 1) ∷ Operation op32.Eq ∷ GlobalSet 1 ∷ GlobalGet 1 ∷ IfOnly ∷ Unreachable ∷ rest))
   stopped {l} {h = h} short deep big = looser M cap Q {l = l} {u = 6} (dying M cap Q (omega arith) (λ g. refl) (dying M cap Q (omega arith) (λ g. refl)
       (dying M cap Q (omega arith) (λ g. refl) (dying M cap Q (omega arith) (λ g. refl) (dying M cap Q (omega arith) (λ g. refl) (dying M cap Q (omega arith) (λ g. refl)
       (gone (spent (record { status = ap (λ (o : Option ℕ). option_and_then (λ (x : ℕ). option_and_then i32_of (slice_get (I32 0 ∷ I32 1 ∷ I32 h ∷ cap.more) x)) o) fixed.status; refused = refl }) short)))))))) (omega arith) big
@@ -58,7 +58,7 @@ module _ (M : Parts) (fixed : HasRunTime M) (cap : Limits) (Q : State → Type 0
       ((m' : Mem) (p' : ℕ) → Same h m m' → length m' ≡ 65536 * p' → p' ≤ greatest_pages M.memory → h + n ≤ 65536 * p' → 65536 * p' < h + n + 65536 → Within M cap Q l u (here cap f m' p' (h + n) ls vals rest)) → Within M cap Q l (25 + u) (here cap f m p (h + n) ls vals (ensure_room rest))
   allocated {f} {m} {p} {h} {n} {ls} {vals} {rest} {l} {u} deep needed small_n room k = cases (cases_lt (65536 * p) (h + n))
     where
-      label : Label
+      label : BlockLabel
       label = record { keeps = false; goes_on = after_end 0 (Call 0 ∷ End ∷ rest); below = vals }
 
       cases : (65536 * p < h + n) ⊎ (h + n ≤ 65536 * p) → Within M cap Q l (25 + u) (here cap f m p (h + n) ls vals (ensure_room rest))

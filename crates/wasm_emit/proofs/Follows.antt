@@ -15,7 +15,7 @@ use Rattle.wasm_core.specs.Parts.{Parts}
 use Rattle.wasm_core.specs.Memory.{word}
 use Rattle.wasm_core.specs.Instance.{zero_of}
 use Rattle.wasm_core.specs.MachineStep.{State}
-use Rattle.closure_lift.specs.Lifted.{Op, OConst, OApp, OCon, OClos, OCase, Block, RetAtom, LetAtom, Ret, Let, Branches, Program, Fn, Val, VBox, VCon, VClos, Vals, VNil, VCons, size, ◌+v◌, many, BranchAt, branch_here, branch_after}
+use Rattle.closure_lift.specs.Lifted.{Op, OConst, OApp, OCon, OClos, OCase, Block, RetAtom, LetAtom, Ret, Let, BranchBlocks, Program, Fn, Val, VBox, VCon, VClos, Vals, VNil, VCons, size, ◌+v◌, many, BranchAt, branch_here, branch_after}
 use Rattle.anf_convert.specs.declared.program.Atom.{Atom}
 use Rattle.wasm_core.proofs.Rules as rule
 use Rattle.wasm_emit.specs.EmitLaws.{Spent}
@@ -37,11 +37,11 @@ use Rattle.wasm_emit.proofs.Cases.{Yields, pass_empties, take_empty, take_head, 
 pub zeros_length : (n : ℕ) → length (zeros n) ≡ n
 zeros_length n = length_map zero_of (replicate n type.I32) ∙ length-replicate {A = ValType} n type.I32
 
-append_nil : (vs : Vals) → vs +v VNil ≡ vs
+pub append_nil : (vs : Vals) → vs +v VNil ≡ vs
 append_nil VNil = refl
 append_nil (VCons v vs) = ap (VCons v) (append_nil vs)
 
-pub branch_top : (d : ℕ) {bs : Branches} {i n : ℕ} {t : Block} → BranchAt bs i n t → top d t ≤ top_branches d bs
+pub branch_top : (d : ℕ) {bs : BranchBlocks} {i n : ℕ} {t : Block} → BranchAt bs i n t → top d t ≤ top_branches d bs
 branch_top d branch_here = omega arith
 branch_top d (branch_after at) = omega (arith, branch_top d at)
 
@@ -52,21 +52,21 @@ fields_env {m} {h} x w lt at within (field {vs = vs} s low fs) env =
     env_cons (word m (w + 4 * suc (size vs))) (in_field w lt at (omega arith) refl) s (fields_env x w lt at (omega arith) fs env)
 
 -- what the word of a closure says
-record Closure (m : Mem) (h w g : ℕ) (vs : Vals) : Type 0 where
-  within : w + 4 * suc (size vs) ≤ h
-  head : word m w ≡ suc g
-  fields : Fields m h w vs
+pub record Closure (m : Mem) (h w g : ℕ) (vs : Vals) : Type 0 where
+  pub within : w + 4 * suc (size vs) ≤ h
+  pub head : word m w ≡ suc g
+  pub fields : Fields m h w vs
 
-closure : {m : Mem} {h w g : ℕ} {vs : Vals} → Stands m h w (VClos g vs) → Closure m h w g vs
+pub closure : {m : Mem} {h w g : ℕ} {vs : Vals} → Stands m h w (VClos g vs) → Closure m h w g vs
 closure (s_clos q lt e pos within head fs) = record { within = within; head = head; fields = fs }
 
-box_word : {m : Mem} {h w : ℕ} → Stands m h w VBox → w ≡ 0
+pub box_word : {m : Mem} {h w : ℕ} → Stands m h w VBox → w ≡ 0
 box_word (s_box e) = e
 
-low_word : {M : Parts} (m m' : Mem) {p h : ℕ} → Room M m p h → Same h m m' → word m 0 ≡ 0 → word m' 0 ≡ 0
+pub low_word : {M : Parts} (m m' : Mem) {p h : ℕ} → Room M m p h → Same h m m' → word m 0 ≡ 0 → word m' 0 ≡ 0
 low_word m m' room same nil = word_same m m' 0 (λ x a b. same x (omega (arith, room.above))) ∙ nil
 
-top_arg : {m : Mem} {l a : ℕ} {v : Val} {vs : Vals} → ArgsAt m l a (VCons v vs) → Stands m l (word m (a + 4 * size vs)) v
+pub top_arg : {m : Mem} {l a : ℕ} {v : Val} {vs : Vals} → ArgsAt m l a (VCons v vs) → Stands m l (word m (a + 4 * size vs)) v
 top_arg (args_more h within args) = h
 
 module _ (P : Program) (main : Body) (gs : List GlobalDef) (es : List Export) (pages : ℕ) (small : pages ≤ 16384) (W N : ℕ) (some : 0 < N) (cap : Limits) (Q : State → Type 0) where
@@ -149,7 +149,7 @@ module _ (P : Program) (main : Body) (gs : List GlobalDef) (es : List Export) (p
   }
 
   -- a value is matched
-  chosen : {D : ℕ} {tail : Bool} {e : Vals} {bs : Branches} {i : ℕ} {vs : Vals} {t : Block} {r : Val} {c k b s : ℕ} → many bs ≤ N → BranchAt bs i (size vs) t → SimCode tail D (vs +v e) t r c k b s →
+  chosen : {D : ℕ} {tail : Bool} {e : Vals} {bs : BranchBlocks} {i : ℕ} {vs : Vals} {t : Block} {r : Val} {c k b s : ℕ} → many bs ≤ N → BranchAt bs i (size vs) t → SimCode tail D (vs +v e) t r c k b s →
       (m : Mem) (p h : ℕ) (ls : List ConstValue) (d w : ℕ) (ps : List Place) → Room M m p h → word m 0 ≡ 0 → Env m h ls (suc d) ps e → top (suc d) t ≤ length ls → h + 4 * s ≤ cap.bytes → slice_get ls d ≡ Some (I32 w) → Stands m h w (VCon i vs) →
       Yields P M cap Q m p h ls d r tail D k s (11 * N + (cost c b + 2)) (λ rest. empties P ps d 0 bs (heads P ps d 0 bs) rest)
   chosen {tail} {bs = bs} few at body m p h ls d w ps room nil env has needed is (s_empty lt e) =
@@ -162,7 +162,7 @@ module _ (P : Program) (main : Body) (gs : List GlobalDef) (es : List Export) (p
       let z = take_head P M cap Q is ps 0 some' (omega (arith, room.inside)) (omega (arith, head)) (omega arith) at y in
       record { run = λ f vals rest l u bound deep fits go out. (pass_empties P M cap Q is ps (2 * q) 0 bs (heads P ps d 0 bs) (omega arith) z).run f vals rest l u bound deep (omega arith) go out }
 
-  sim_case : {D : ℕ} {tail : Bool} {e : Vals} {a : Atom} {bs : Branches} {i : ℕ} {vs : Vals} {t : Block} {r : Val} {c k b s : ℕ} → Is e a (VCon i vs) → many bs ≤ N → BranchAt bs i (size vs) t → SimCode tail D (vs +v e) t r c k b s → SimOp tail D e (OCase a bs) r (suc c) (suc k) b s
+  sim_case : {D : ℕ} {tail : Bool} {e : Vals} {a : Atom} {bs : BranchBlocks} {i : ℕ} {vs : Vals} {t : Block} {r : Val} {c k b s : ℕ} → Is e a (VCon i vs) → many bs ≤ N → BranchAt bs i (size vs) t → SimCode tail D (vs +v e) t r c k b s → SimOp tail D e (OCase a bs) r (suc c) (suc k) b s
   sim_case {bs = bs} {c = c} {k} {b} isa few at body = record {
     sim = λ m p h ls d ps n is room nil env has needed. record {
       run = λ f vals rest l u bound deep fits go out.

@@ -9,7 +9,7 @@ use Rattle.wasm_core.specs.declared.instrs.Body.{Body}
 use Rattle.wasm_core.specs.declared.types.GlobalDef.{GlobalDef}
 use Rattle.wasm_core.specs.declared.exports.Export.{Export}
 use Rattle.wasm_core.specs.Parts.{Parts}
-use Rattle.wasm_core.specs.Instance.{func_with, func_of, Entries, put_funcs, table_of}
+use Rattle.wasm_core.specs.Instance.{func_with, func_of, TableEntries, put_funcs, table_of}
 use Rattle.closure_lift.specs.Lifted.{Block, Program, Fn}
 use Rattle.wasm_emit.specs.EmittedModule.{function, constant, main_index, entries, module_with, type_main, type_constant, type_function}
 use Rattle.wasm_emit.specs.EmittedCode.{constant_index}
@@ -81,27 +81,27 @@ pub entries_length : (i n : ℕ) → length (entries i n) ≡ n
 entries_length i zero = refl
 entries_length i (suc n) = ap suc (entries_length (suc i) n)
 
-set_same : (es : Entries) (i : ℕ) (e : Option ℕ) → i < length es → slice_get (slice_set es i e) i ≡ Some e
+set_same : (es : TableEntries) (i : ℕ) (e : Option ℕ) → i < length es → slice_get (slice_set es i e) i ≡ Some e
 set_same [] i e h = absurd (omega arith)
 set_same (y ∷ ys) zero e h = refl
 set_same (y ∷ ys) (suc i) e h = set_same ys i e (omega arith)
 
-set_below : (es : Entries) (i x : ℕ) (e : Option ℕ) → x < i → slice_get (slice_set es i e) x ≡ slice_get es x
+set_below : (es : TableEntries) (i x : ℕ) (e : Option ℕ) → x < i → slice_get (slice_set es i e) x ≡ slice_get es x
 set_below [] i x e h = refl
 set_below (y ∷ ys) zero x e h = absurd (omega arith)
 set_below (y ∷ ys) (suc i) zero e h = refl
 set_below (y ∷ ys) (suc i) (suc x) e h = set_below ys i x e (omega arith)
 
-set_size : (es : Entries) (i : ℕ) (e : Option ℕ) → length (slice_set es i e) ≡ length es
+set_size : (es : TableEntries) (i : ℕ) (e : Option ℕ) → length (slice_set es i e) ≡ length es
 set_size [] i e = refl
 set_size (y ∷ ys) zero e = refl
 set_size (y ∷ ys) (suc i) e = ap suc (set_size ys i e)
 
-put_below : (es : Entries) (i : ℕ) (fs : List ℕ) (x : ℕ) → x < i → slice_get (put_funcs es i fs) x ≡ slice_get es x
+put_below : (es : TableEntries) (i : ℕ) (fs : List ℕ) (x : ℕ) → x < i → slice_get (put_funcs es i fs) x ≡ slice_get es x
 put_below es i [] x h = refl
 put_below es i (f ∷ fs) x h = put_below (slice_set es i (Some f)) (suc i) fs x (omega arith) ∙ set_below es i x (Some f) h
 
-put_at : (es : Entries) (i : ℕ) (fs : List ℕ) (x g f : ℕ) → x ≡ i + g → i + length fs ≤ length es → slice_get fs g ≡ Some f → slice_get (put_funcs es i fs) x ≡ Some (Some f)
+put_at : (es : TableEntries) (i : ℕ) (fs : List ℕ) (x g f : ℕ) → x ≡ i + g → i + length fs ≤ length es → slice_get fs g ≡ Some f → slice_get (put_funcs es i fs) x ≡ Some (Some f)
 put_at es i [] x g f is fits e = cc
 put_at es i (f ∷ fs) x zero h is fits e =
     put_below (slice_set es i (Some f)) (suc i) fs x (omega arith) ∙ ap (slice_get (slice_set es i (Some f))) (omega arith) ∙ set_same es i (Some f) (omega arith) ∙ ap (λ (o : Option ℕ). Some o) e

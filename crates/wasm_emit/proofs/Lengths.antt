@@ -9,7 +9,7 @@ use Rattle.wasm_core.specs.declared.instrs.I32Op.{I32Op}
 use Rattle.wasm_core.specs.declared.instrs.Instr.{Instr}
 use Rattle.wasm_core.specs.declared.instrs.Instr.TheVariants.{Unreachable, If, Else, End, Call, CallIndirect, LocalGet, LocalSet, LocalTee, GlobalGet, GlobalSet, MemorySize, I32 as Operation}
 use Rattle.wasm_core.specs.ShortestBytes.{unsigned, signed, is_low, is_high, add_local, put_u32, put_all, put_list, put_instr, runs, put_run, put_locals, body_bytes, put_body}
-use Rattle.wasm_emit.specs.EmittedCode.{Load, Store, Const}
+use Rattle.wasm_emit.specs.EmittedCode.{Load, StoreWord, ConstWord}
 use Rattle.wasm_emit.specs.EmittedModule.{body}
 
 chosen : (b : Bool) (x y : List ℕ) (k : ℕ) → (b ≡ true → length x ≤ k) → (b ≡ false → length y ≤ k) → length (if b then x else y) ≤ k
@@ -135,25 +135,25 @@ module _ (rest : List Instr) where
   unfolding put_instr
   z_room = plain (Call 0) rest 2 (omega (arith, u_1 4 0 (bytes_of rest) (omega arith)))
 
-  pub z_small : (n : ℕ) → n < 1048576 → size (Const n ∷ rest) ≤ 4 + size rest
+  pub z_small : (n : ℕ) → n < 1048576 → size (ConstWord n ∷ rest) ≤ 4 + size rest
   unfolding put_instr
-  z_small n h = plain (Const n) rest 4 (omega (arith, s_3 2 n (bytes_of rest) h))
+  z_small n h = plain (ConstWord n) rest 4 (omega (arith, s_3 2 n (bytes_of rest) h))
 
-  pub z_header : size (Store 0 ∷ rest) ≤ 3 + size rest
+  pub z_header : size (StoreWord 0 ∷ rest) ≤ 3 + size rest
   unfolding put_instr
-  z_header = plain (Store 0) rest 3 (omega (arith, u_1 4 2 (put_u32 0 (bytes_of rest)) (omega arith), u_1 4 0 (bytes_of rest) (omega arith)))
+  z_header = plain (StoreWord 0) rest 3 (omega (arith, u_1 4 2 (put_u32 0 (bytes_of rest)) (omega arith), u_1 4 0 (bytes_of rest) (omega arith)))
 
   pub z_load : (o : ℕ) → o < 16384 → size (Load o ∷ rest) ≤ 4 + size rest
   unfolding put_instr
   z_load o h = plain (Load o) rest 4 (omega (arith, u_1 4 2 (put_u32 o (bytes_of rest)) (omega arith), u_2 3 o (bytes_of rest) h))
 
-  pub z_store : (o : ℕ) → o < 16384 → size (Store o ∷ rest) ≤ 4 + size rest
+  pub z_store : (o : ℕ) → o < 16384 → size (StoreWord o ∷ rest) ≤ 4 + size rest
   unfolding put_instr
-  z_store o h = plain (Store o) rest 4 (omega (arith, u_1 4 2 (put_u32 o (bytes_of rest)) (omega arith), u_2 3 o (bytes_of rest) h))
+  z_store o h = plain (StoreWord o) rest 4 (omega (arith, u_1 4 2 (put_u32 o (bytes_of rest)) (omega arith), u_2 3 o (bytes_of rest) h))
 
-  pub z_const : (n : ℕ) → size (Const n ∷ rest) ≤ 6 + size rest
+  pub z_const : (n : ℕ) → size (ConstWord n ∷ rest) ≤ 6 + size rest
   unfolding put_instr
-  z_const n = plain (Const n) rest 6 (omega (arith, s_any 5 32 n (bytes_of rest)))
+  z_const n = plain (ConstWord n) rest 6 (omega (arith, s_any 5 32 n (bytes_of rest)))
 
 -- equal locals are one run
 one_run : (n : ℕ) → runs (replicate (suc n) I32) ≡ (suc n, I32) ∷ []

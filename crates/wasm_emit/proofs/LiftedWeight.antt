@@ -6,7 +6,7 @@ use Rattle.anf_convert.specs.declared.program.Atom.TheVariants.{Var as AVar, Box
 use Rattle.anf_convert.specs.Anf.{AnfOp, ConstOp, AppOp, ConOp, LamOp, FixOp, CaseOp, AnfBlock, TailAtom, Tail, BindAtom, Bind, AnfBranches, NoBranch, Branch, AnfDefs, NoDef, LamDef, BoxDef, def_count}
 use Rattle.anf_convert.specs.Captured.{Scope, Outside, Plain, Shared, depth, Entry, Unbound, Word, Words, entry, plains, shares, lam_captured, fix_captured}
 use Rattle.closure_lift.specs.Lifted.{Block, Let, Ret, LetAtom, RetAtom, Fn}
-use Rattle.closure_lift.specs.Lift.{Slot, Holds, Made, held, atom, closure_for, closure, closures, atoms_of, block_functions, op_functions, numbered, unnumbered, holding, lift_op, lift_block, lift_branches, def_functions, functions_op, functions_block, functions_branches, functions_defs, lift_constants, functions_constants, constants_functions}
+use Rattle.closure_lift.specs.Lift.{LiftSlot, Holds, Made, held, atom, closure_for, closure, closures, atoms_of, block_functions, op_functions, numbered, unnumbered, holding, lift_op, lift_block, lift_branches, def_functions, functions_op, functions_block, functions_branches, functions_defs, lift_constants, functions_constants, constants_functions}
 use Rattle.closure_lift.specs.CapturedLimit.{OpCaptures, BlockCaptures, BranchesCapture, DefsCapture, BlocksCapture}
 use Rattle.wasm_emit.specs.Weight.{op_weight, weight, branches_weight, functions_weight, constants_weight}
 use Rattle.wasm_emit.specs.NormalWeight.{atom_weight, atoms_weight, normal_op_weight, normal_weight, normal_branches_weight, normal_defs_weight, normal_constants_weight, LiftedWeight}
@@ -44,24 +44,24 @@ module _ (c : ℕ) where
   shares_few ws (suc n) s l h = (l, shares_few ws n s l h)
 
   -- the closures in front of an operation
-  for_light : (fr : List Slot) (i g n : ℕ) (k : Entry) (next : List Slot → Block) → EntryFew k → ((fr' : List Slot) → weight (next fr') ≤ n) → weight (closure_for fr i g k next) ≤ atom_weight c + n
+  for_light : (fr : List LiftSlot) (i g n : ℕ) (k : Entry) (next : List LiftSlot → Block) → EntryFew k → ((fr' : List LiftSlot) → weight (next fr') ≤ n) → weight (closure_for fr i g k next) ≤ atom_weight c + n
   for_light fr i g n Unbound next few h = omega (arith, h fr)
   for_light fr i g n (Word x) next few h = omega (arith, h fr)
   for_light fr i g n (Words ws) next few h = omega (arith, few, h (Made i ∷ fr), length_map (held fr) ws)
 
-  closure_light : (s : Scope) (gs : List ℕ) (fr : List Slot) (n : ℕ) (a : Atom) (next : List Slot → Block) → ScopeFew s → ((fr' : List Slot) → weight (next fr') ≤ n) → weight (closure s gs fr a next) ≤ atom_weight c + n
+  closure_light : (s : Scope) (gs : List ℕ) (fr : List LiftSlot) (n : ℕ) (a : Atom) (next : List LiftSlot → Block) → ScopeFew s → ((fr' : List LiftSlot) → weight (next fr') ≤ n) → weight (closure s gs fr a next) ≤ atom_weight c + n
   closure_light s gs fr n (AVar i) next few h = for_light fr i (get_or gs i 0) n (entry s i) next (entry_few s i few) h
   closure_light s gs fr n ABox next few h = omega (arith, h fr)
   closure_light s gs fr n (AEmpty k) next few h = omega (arith, h fr)
 
-  closures_light : (s : Scope) (gs : List ℕ) (fr : List Slot) (n : ℕ) (as' : List Atom) (next : List Slot → Block) → ScopeFew s → ((fr' : List Slot) → weight (next fr') ≤ n) → weight (closures s gs fr as' next) ≤ atoms_weight c as' + n
+  closures_light : (s : Scope) (gs : List ℕ) (fr : List LiftSlot) (n : ℕ) (as' : List Atom) (next : List LiftSlot → Block) → ScopeFew s → ((fr' : List LiftSlot) → weight (next fr') ≤ n) → weight (closures s gs fr as' next) ≤ atoms_weight c as' + n
   closures_light s gs fr n [] next few h = omega (arith, h fr)
   closures_light s gs fr n (a ∷ as') next few h =
       let r = closure_light s gs fr (atoms_weight c as' + n) a (λ fr'. closures s gs fr' as' next) few (λ fr'. closures_light s gs fr' n as' next few h) in
       omega (arith, r)
 
   mutual
-    op_light : (s : Scope) (gs : List ℕ) (fr : List Slot) (g : ℕ) (op : AnfOp) → ScopeFew s → OpCaptures (suc c) s op →
+    op_light : (s : Scope) (gs : List ℕ) (fr : List LiftSlot) (g : ℕ) (op : AnfOp) → ScopeFew s → OpCaptures (suc c) s op →
         op_weight (lift_op s gs fr g op) + functions_weight (functions_op s gs g op) + atoms_weight c (atoms_of op) ≤ normal_op_weight c op
     op_light s gs fr g (ConstOp x) few ok = omega arith
     op_light s gs fr g (AppOp f a) few ok = omega arith
@@ -80,7 +80,7 @@ module _ (c : ℕ) where
         omega (arith, h, j, l, length_map (held fr) ws)
     op_light s gs fr g (CaseOp a bs) few ok = omega (arith, branches_light s gs fr g bs few ok)
 
-    block_light : (s : Scope) (gs : List ℕ) (fr : List Slot) (g : ℕ) (t : AnfBlock) → ScopeFew s → BlockCaptures (suc c) s t →
+    block_light : (s : Scope) (gs : List ℕ) (fr : List LiftSlot) (g : ℕ) (t : AnfBlock) → ScopeFew s → BlockCaptures (suc c) s t →
         weight (lift_block s gs fr g t) + functions_weight (functions_block s gs g t) ≤ normal_weight c t
     block_light s gs fr g (TailAtom a) few ok = omega (arith, closures_light s gs fr 8 (a ∷ []) (λ fr'. RetAtom (atom s fr' a)) few (λ fr'. omega arith))
     block_light s gs fr g (Tail op) few ok =
@@ -89,13 +89,13 @@ module _ (c : ℕ) where
         let r = closures_light s gs fr n (atoms_of op) (λ fr'. Ret (lift_op s gs fr' g op)) few (λ fr'. omega (arith, op_light s gs fr' g op few ok)) in
         omega (arith, r, op_light s gs fr g op few ok)
     block_light s gs fr g (BindAtom a t) few ok =
-        let next = λ (fr' : List Slot). lift_block (Plain s) (0 ∷ gs) (Holds (depth s) ∷ fr') g t in
+        let next = λ (fr' : List LiftSlot). lift_block (Plain s) (0 ∷ gs) (Holds (depth s) ∷ fr') g t in
         let n = 12 + normal_weight c t - functions_weight (functions_block (Plain s) (0 ∷ gs) g t) in
         let r = closures_light s gs fr n (a ∷ []) (λ fr'. LetAtom (atom s fr' a) (next fr')) few (λ fr'. omega (arith, block_light (Plain s) (0 ∷ gs) (Holds (depth s) ∷ fr') g t few ok)) in
         omega (arith, r, block_light (Plain s) (0 ∷ gs) (Holds (depth s) ∷ fr) g t few ok)
     block_light s gs fr g (Bind op t) few ok =
         let g' = g + op_functions op in
-        let next = λ (fr' : List Slot). lift_block (Plain s) (0 ∷ gs) (Holds (depth s) ∷ fr') g' t in
+        let next = λ (fr' : List LiftSlot). lift_block (Plain s) (0 ∷ gs) (Holds (depth s) ∷ fr') g' t in
         let first = functions_weight (functions_op s gs g op) in
         let second = functions_weight (functions_block (Plain s) (0 ∷ gs) g' t) in
         let n = 4 + normal_op_weight c op + normal_weight c t - first - second - atoms_weight c (atoms_of op) in
@@ -103,7 +103,7 @@ module _ (c : ℕ) where
         (λ fr'. omega (arith, op_light s gs fr' g op few ok.0, block_light (Plain s) (0 ∷ gs) (Holds (depth s) ∷ fr') g' t few ok.1)) in
         omega (arith, r, op_light s gs fr g op few ok.0, block_light (Plain s) (0 ∷ gs) (Holds (depth s) ∷ fr) g' t few ok.1, functions_join (functions_op s gs g op) (functions_block (Plain s) (0 ∷ gs) g' t))
 
-    branches_light : (s : Scope) (gs : List ℕ) (fr : List Slot) (g : ℕ) (bs : AnfBranches) → ScopeFew s → BranchesCapture (suc c) s bs →
+    branches_light : (s : Scope) (gs : List ℕ) (fr : List LiftSlot) (g : ℕ) (bs : AnfBranches) → ScopeFew s → BranchesCapture (suc c) s bs →
         branches_weight (lift_branches s gs fr g bs) + functions_weight (functions_branches s gs g bs) ≤ normal_branches_weight c bs
     branches_light s gs fr g NoBranch few ok = omega arith
     branches_light s gs fr g (Branch n t rest) few ok =

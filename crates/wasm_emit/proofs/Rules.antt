@@ -12,11 +12,11 @@ use Rattle.wasm_core.specs.declared.instrs.Instr.TheVariants.{If, Else, End, Cal
 use Rattle.wasm_core.specs.Parts.{Parts}
 use Rattle.wasm_core.specs.Memory.{word, put_word, zeroed}
 use Rattle.wasm_core.specs.Instance.{Func, func_of, table_of, greatest_pages, zero_of}
-use Rattle.wasm_core.specs.MachineStep.{Label, Frame, Store, Conf, State, At, step, after_end, else_arm, has_value}
+use Rattle.wasm_core.specs.MachineStep.{BlockLabel, Frame, Store, Conf, State, At, step, after_end, else_arm, has_value}
 use Rattle.wasm_core.specs.RunTree.{Within as Tree}
 use Rattle.wasm_core.proofs.Rules.{Around}
 use Rattle.wasm_core.proofs.Rules as rule
-use Rattle.wasm_emit.specs.EmittedCode.{Load, Store as Put, Const}
+use Rattle.wasm_emit.specs.EmittedCode.{Load, StoreWord as Put, ConstWord}
 use Rattle.wasm_emit.specs.EmittedModule.{body, type_main, type_constant, type_function}
 use Rattle.wasm_emit.specs.EmitLaws.{Spent}
 use Rattle.wasm_emit.proofs.Bytes.{Mem}
@@ -41,7 +41,7 @@ refusing cap b m p h = record { pages = p; memory = m; globals = I32 0 ∷ I32 0
 abbrev pub here : Limits → Around → Mem → ℕ → ℕ → List ConstValue → List ConstValue → List Instr → State
 here cap f m p h ls vals rest = rule.here f (store cap m p h) ls vals rest
 
-abbrev pub in_block : Label → Around → Around
+abbrev pub in_block : BlockLabel → Around → Around
 in_block k f = record f { labels = k ∷ f.labels }
 
 -- around a function that this one calls
@@ -76,7 +76,7 @@ module _ (M : Parts) (cap : Limits) (Q : State → Type 0) where
   dying deep e k = rule.dying M cap.frames Q E deep e k
 
   module _ {f : Around} {m : Mem} {p h : ℕ} {ls vals : List ConstValue} {rest : List Instr} {l u : ℕ} where
-    pub r_const : length f.callers ≤ cap.frames → (n : ℕ) → Within M cap Q l u (here cap f m p h ls (I32 n ∷ vals) rest) → Within M cap Q (suc l) (suc u) (here cap f m p h ls vals (Const n ∷ rest))
+    pub r_const : length f.callers ≤ cap.frames → (n : ℕ) → Within M cap Q l u (here cap f m p h ls (I32 n ∷ vals) rest) → Within M cap Q (suc l) (suc u) (here cap f m p h ls vals (ConstWord n ∷ rest))
     r_const deep n k = rule.r_const M cap.frames Q E deep n k
 
     pub r_get : {x : ℕ} {v : ConstValue} → length f.callers ≤ cap.frames → slice_get ls x ≡ Some v → Within M cap Q l u (here cap f m p h ls (v ∷ vals) rest) → Within M cap Q (suc l) (suc u) (here cap f m p h ls vals (LocalGet x ∷ rest))
@@ -138,10 +138,10 @@ module _ (M : Parts) (cap : Limits) (Q : State → Type 0) where
     pub r_if_not : {t : BlockType} → length f.callers ≤ cap.frames → Within M cap Q l u (here cap (in_block (record { keeps = has_value t; goes_on = after_end 0 rest; below = vals }) f) m p h ls [] (else_arm 0 rest)) → Within M cap Q (suc l) (suc u) (here cap f m p h ls (I32 0 ∷ vals) (If t ∷ rest))
     r_if_not deep k = rule.r_if_not M cap.frames Q E deep k
 
-    pub r_else : {k : Label} → length f.callers ≤ cap.frames → Within M cap Q l u (here cap f m p h ls (vals ++ k.below) k.goes_on) → Within M cap Q (suc l) (suc u) (here cap (in_block k f) m p h ls vals (Else ∷ rest))
+    pub r_else : {k : BlockLabel} → length f.callers ≤ cap.frames → Within M cap Q l u (here cap f m p h ls (vals ++ k.below) k.goes_on) → Within M cap Q (suc l) (suc u) (here cap (in_block k f) m p h ls vals (Else ∷ rest))
     r_else {k} deep w = rule.r_else M cap.frames Q E {k = k} deep w
 
-    pub r_end : {k : Label} → length f.callers ≤ cap.frames → Within M cap Q l u (here cap f m p h ls (vals ++ k.below) rest) → Within M cap Q (suc l) (suc u) (here cap (in_block k f) m p h ls vals (End ∷ rest))
+    pub r_end : {k : BlockLabel} → length f.callers ≤ cap.frames → Within M cap Q l u (here cap f m p h ls (vals ++ k.below) rest) → Within M cap Q (suc l) (suc u) (here cap (in_block k f) m p h ls vals (End ∷ rest))
     r_end {k} deep w = rule.r_end M cap.frames Q E {k = k} deep w
 
     -- a function returns to the one that called it

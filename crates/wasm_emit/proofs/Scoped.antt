@@ -2,7 +2,7 @@
 use Rattle.std.specs.Prelude.{◌≡◌, ℕ, suc, ◌+◌, ◌<◌, List, [], ◌∷◌, length, Some, slice_get}
 use Rattle.anf_convert.specs.declared.program.Atom.{Atom}
 use Rattle.anf_convert.specs.declared.program.Atom.TheVariants.{Var as AVar, Box as ABox, Empty as AEmpty}
-use Rattle.closure_lift.specs.Lifted.{Op, OConst, OApp, OCon, OClos, OCase, Block, RetAtom, LetAtom, Ret, Let, Branches, BNil, BCons, Program, Fn}
+use Rattle.closure_lift.specs.Lifted.{Op, OConst, OApp, OCon, OClos, OCase, Block, RetAtom, LetAtom, Ret, Let, BranchBlocks, BNil, BCons, Program, Fn}
 
 -- all names are in scope: n variables, the program's functions and constants
 abbrev pub AtomOk : ℕ → Atom → Type 0
@@ -29,7 +29,7 @@ module _ (P : Program) where
     BlockOk n (Ret x) = OpOk n x
     BlockOk n (Let x t) = OpOk n x × BlockOk (suc n) t
 
-    pub BranchesOk : ℕ → Branches → Type 0
+    pub BranchesOk : ℕ → BranchBlocks → Type 0
     BranchesOk n BNil = Unit {0}
     BranchesOk n (BCons j t bs) = BlockOk (j + n) t × BranchesOk n bs
 

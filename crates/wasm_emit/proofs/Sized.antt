@@ -14,10 +14,10 @@ use Rattle.wasm_core.specs.ModuleCondition.{All}
 use Rattle.wasm_core.specs.ShortestBytes.{put_u32, put_all, put_list, put_body, put_section, put_segment, put_sections, put_func_type, put_table_type, put_limits, put_global, put_export, kind_code, put_instr, unsigned, signed, sizes, module_bytes}
 use Rattle.anf_convert.specs.declared.program.Atom.{Atom}
 use Rattle.anf_convert.specs.declared.program.Atom.TheVariants.{Var as AVar, Box as ABox, Empty as AEmpty}
-use Rattle.closure_lift.specs.Lifted.{Op, OConst, OApp, OCon, OClos, OCase, Block, RetAtom, LetAtom, Ret, Let, Branches, BNil, BCons, Program, Fn}
-use Rattle.closure_lift.specs.LiftedForm.{OpFits, BlockFits, BranchesFit, Formed, Limits}
+use Rattle.closure_lift.specs.Lifted.{Op, OConst, OApp, OCon, OClos, OCase, Block, RetAtom, LetAtom, Ret, Let, BranchBlocks, BNil, BCons, Program, Fn}
+use Rattle.closure_lift.specs.LiftedForm.{OpFits, LiftedBlockFits, BranchesFit, Formed, Limits}
 use Rattle.wasm_emit.specs.EmittedModule.{type_main, type_constant, type_function, word_global, body, room_code, main_index, function, constant, main_function, entries, module_of}
-use Rattle.wasm_emit.specs.EmittedCode.{Load, Store, Const, IfWord, IfOnly, ensure_room, Place, InLocal, InField, fields_of, read, atom, fill, block, op, code, empties, heads, constant_index}
+use Rattle.wasm_emit.specs.EmittedCode.{Load, StoreWord, ConstWord, IfWord, IfOnly, ensure_room, Place, InLocal, InField, fields_of, read, atom, fill, block, op, code, empties, heads, constant_index}
 use Rattle.wasm_emit.specs.EmittedLocals.{top, top_op, top_branches}
 use Rattle.wasm_emit.specs.EmitLaws.{CountsFit}
 use Rattle.wasm_emit.specs.Weight.{op_weight, weight, branches_weight, functions_weight, constants_weight, program_weight, EmitSized, LocalsBound}
@@ -47,7 +47,7 @@ fill_size : (ps : List Place) (d : ℕ) (as' : List Atom) (rest : List Instr) �
 fill_size ps d [] rest hd few h = omega arith
 fill_size ps d (a ∷ as') rest hd few h =
     let next = fill ps d as' rest in
-    omega (arith, z_get (atom ps a (Store (4 * suc (length as')) ∷ next)) d (omega arith), atom_size ps a (Store (4 * suc (length as')) ∷ next) h, z_store next (4 * suc (length as')) (omega arith), fill_size ps d as' rest hd (omega arith) h)
+    omega (arith, z_get (atom ps a (StoreWord (4 * suc (length as')) ∷ next)) d (omega arith), atom_size ps a (StoreWord (4 * suc (length as')) ∷ next) h, z_store next (4 * suc (length as')) (omega arith), fill_size ps d as' rest hd (omega arith) h)
 
 ensure_size : (rest : List Instr) → size (ensure_room rest) ≤ 15 + size rest
 ensure_size rest =
@@ -55,35 +55,35 @@ ensure_size rest =
     let r5 = IfOnly ∷ r6 in
     let r4 = Operation op32.GtU ∷ r5 in
     let r3 = Operation op32.Shl ∷ r4 in
-    let r2 = Const 16 ∷ r3 in
+    let r2 = ConstWord 16 ∷ r3 in
     omega (arith, z_heap (MemorySize ∷ r2), z_size r2, z_small r3 16 (omega arith), z_op r4 op32.Shl, z_op r5 op32.GtU, z_if r6 Empty, z_room (End ∷ rest), z_end rest)
 
 block_size : (ps : List Place) (d header : ℕ) (as' : List Atom) (rest : List Instr) → d < 100000 → length as' < 2049 → All Near ps → size (block ps d header as' rest) ≤ 45 + 16 * length as' + size rest
 block_size ps d header as' rest hd few h =
     let n = 4 * suc (length as') in
     let r8 = fill ps d as' (LocalGet d ∷ rest) in
-    let r7 = Store 0 ∷ r8 in
-    let r6 = Const header ∷ r7 in
+    let r7 = StoreWord 0 ∷ r8 in
+    let r6 = ConstWord header ∷ r7 in
     let r5 = LocalGet d ∷ r6 in
     let r4 = ensure_room r5 in
     let r3 = GlobalSet 2 ∷ r4 in
     let r2 = Operation op32.Add ∷ r3 in
-    let r1 = Const n ∷ r2 in
+    let r1 = ConstWord n ∷ r2 in
     let start : size (GlobalGet 2 ∷ LocalTee d ∷ r1) ≤ 28 + size r5 = omega (arith, z_heap (LocalTee d ∷ r1), z_tee r1 d (omega arith), z_small r2 n (omega arith), z_op r3 op32.Add, z_global r4 2 (omega arith), ensure_size r5) in
     omega (arith, start, z_get r6 d (omega arith), z_const r7 header, z_header r8, fill_size ps d as' (LocalGet d ∷ rest) hd few h, z_get rest d (omega arith))
 
 -- what each of the two chains makes of a match's branches
-abbrev empties_weight : Branches → ℕ
+abbrev empties_weight : BranchBlocks → ℕ
 empties_weight BNil = 0
 empties_weight (BCons zero t bs) = 19 + weight t + empties_weight bs
 empties_weight (BCons (suc n) t bs) = empties_weight bs
 
-abbrev heads_weight : Branches → ℕ
+abbrev heads_weight : BranchBlocks → ℕ
 heads_weight BNil = 0
 heads_weight (BCons zero t bs) = heads_weight bs
 heads_weight (BCons (suc n) t bs) = 19 + weight t + heads_weight bs
 
-both_chains : (bs : Branches) → empties_weight bs + heads_weight bs ≡ branches_weight bs
+both_chains : (bs : BranchBlocks) → empties_weight bs + heads_weight bs ≡ branches_weight bs
 both_chains BNil = refl
 both_chains (BCons zero t bs) = omega (arith, both_chains bs)
 both_chains (BCons (suc n) t bs) = omega (arith, both_chains bs)
@@ -112,7 +112,7 @@ module _ (P : Program) (m : ℕ) (counts : CountsFit P m) (limits : Limits P) wh
           both_chains bs,
         )
 
-    code_size : (n d : ℕ) (ps : List Place) (t : Block) (rest : List Instr) → top d t < 100000 → All Near ps → BlockFits P.functions (length P.constants) m n t → size (code P ps d t rest) ≤ weight t + size rest
+    code_size : (n d : ℕ) (ps : List Place) (t : Block) (rest : List Instr) → top d t < 100000 → All Near ps → LiftedBlockFits P.functions (length P.constants) m n t → size (code P ps d t rest) ≤ weight t + size rest
     code_size n d ps (RetAtom a) rest le h fit = omega (arith, atom_size ps a rest h)
     code_size n d ps (LetAtom a t) rest le h fit =
         let next = code P (InLocal d ∷ ps) (suc d) t rest in
@@ -122,7 +122,7 @@ module _ (P : Program) (m : ℕ) (counts : CountsFit P m) (limits : Limits P) wh
         let next = code P (InLocal d ∷ ps) (suc d) t rest in
         omega (arith, op_size n d ps x (LocalSet d ∷ next) (omega arith) h fit.0, z_set next d (omega arith), code_size (suc n) (suc d) (InLocal d ∷ ps) t rest (omega arith) (omega arith, h) fit.1)
 
-    empties_size : (n d : ℕ) (ps : List Place) (c : ℕ) (bs : Branches) (others : List Instr → List Instr) (rest : List Instr) (k : ℕ) → max (suc d) (top_branches (suc d) bs) < 100000 → All Near ps → BranchesFit P.functions (length P.constants) m n bs →
+    empties_size : (n d : ℕ) (ps : List Place) (c : ℕ) (bs : BranchBlocks) (others : List Instr → List Instr) (rest : List Instr) (k : ℕ) → max (suc d) (top_branches (suc d) bs) < 100000 → All Near ps → BranchesFit P.functions (length P.constants) m n bs →
         ((r : List Instr) → size (others r) ≤ k + size r) → size (empties P ps d c bs others rest) ≤ empties_weight bs + k + size rest
     empties_size n d ps c BNil others rest k le h fit o = omega (arith, o rest)
     empties_size n d ps c (BCons zero t bs) others rest k le h fit o =
@@ -131,7 +131,7 @@ module _ (P : Program) (m : ℕ) (counts : CountsFit P m) (limits : Limits P) wh
         let r2 = Operation op32.Eq ∷ IfWord ∷ r3 in
         omega (
           arith,
-          z_get (Const (2 * c + 1) ∷ r2) d (omega arith),
+          z_get (ConstWord (2 * c + 1) ∷ r2) d (omega arith),
           z_const r2 (2 * c + 1),
           z_op (IfWord ∷ r3) op32.Eq,
           z_if r3 (Value I32),
@@ -143,7 +143,7 @@ module _ (P : Program) (m : ℕ) (counts : CountsFit P m) (limits : Limits P) wh
         )
     empties_size n d ps c (BCons (suc j) t bs) others rest k le h fit o = empties_size n d ps (suc c) bs others rest k (omega arith) h fit.2 o
 
-    heads_size : (n d : ℕ) (ps : List Place) (c : ℕ) (bs : Branches) (rest : List Instr) → max (suc d) (top_branches (suc d) bs) < 100000 → All Near ps → BranchesFit P.functions (length P.constants) m n bs → size (heads P ps d c bs rest) ≤ 1 + heads_weight bs + size rest
+    heads_size : (n d : ℕ) (ps : List Place) (c : ℕ) (bs : BranchBlocks) (rest : List Instr) → max (suc d) (top_branches (suc d) bs) < 100000 → All Near ps → BranchesFit P.functions (length P.constants) m n bs → size (heads P ps d c bs rest) ≤ 1 + heads_weight bs + size rest
     heads_size n d ps c BNil rest le h fit = omega (arith, z_unreachable rest)
     heads_size n d ps c (BCons zero t bs) rest le h fit = heads_size n d ps (suc c) bs rest (omega arith) h fit.2
     heads_size n d ps c (BCons (suc j) t bs) rest le h fit =
@@ -151,7 +151,7 @@ module _ (P : Program) (m : ℕ) (counts : CountsFit P m) (limits : Limits P) wh
         let r5 = Else ∷ heads P ps d (suc c) bs (End ∷ rest) in
         let r4 = code P (fields_of d (suc j) ps) (suc d) t r5 in
         let r3 = Operation op32.Eq ∷ IfWord ∷ r4 in
-        let r2 = Const (suc j * 65536 + c) ∷ r3 in
+        let r2 = ConstWord (suc j * 65536 + c) ∷ r3 in
         omega (
           arith,
           z_get (Load 0 ∷ r2) d (omega arith),
@@ -166,12 +166,12 @@ module _ (P : Program) (m : ℕ) (counts : CountsFit P m) (limits : Limits P) wh
           z_end rest,
         )
 
-no_bytes : size [] ≡ 0
+pub no_bytes : size [] ≡ 0
 unfolding put_all
 no_bytes = refl
 
 -- a section: its id, its size, its count, and its items
-section_size : {A : Type 0} (id : ℕ) (one : A → List ℕ → List ℕ) (xs : List A) (w : List ℕ) → length (put_section id one xs w) ≤ 11 + length (put_all one xs []) + length w
+pub section_size : {A : Type 0} (id : ℕ) (one : A → List ℕ → List ℕ) (xs : List A) (w : List ℕ) → length (put_section id one xs w) ≤ 11 + length (put_all one xs []) + length w
 unfolding put_section
 section_size id one [] w = omega arith
 section_size id one (x ∷ xs) w =
@@ -179,7 +179,7 @@ section_size id one (x ∷ xs) w =
     omega (arith, u_any 5 (length part) (part ++ w), length-append part w, u_any 5 (length (x ∷ xs)) (put_all one (x ∷ xs) []))
 
 -- items of at most k bytes each
-items_size : {A : Type 0} (k : ℕ) (one : A → List ℕ → List ℕ) (xs : List A) (w : List ℕ) → ((x : A) (w : List ℕ) → length (one x w) ≤ k + length w) → length (put_all one xs w) ≤ k * length xs + length w
+pub items_size : {A : Type 0} (k : ℕ) (one : A → List ℕ → List ℕ) (xs : List A) (w : List ℕ) → ((x : A) (w : List ℕ) → length (one x w) ≤ k + length w) → length (put_all one xs w) ≤ k * length xs + length w
 unfolding put_all
 items_size k one [] w h = omega arith
 items_size k one (x ∷ xs) w h = omega (arith, h x (put_all one xs w), items_size k one xs w h)
@@ -231,11 +231,11 @@ module _ (P : Program) (m : ℕ) (form : Formed P m) (counts : CountsFit P m) (l
   constants_size (t ∷ ts) bs w h = omega (arith, h 0 t (put_all put_body (map (constant P) ts ++ bs) w) refl, constants_size ts bs w (λ i t w e. h (suc i) t w e))
 
 -- the parts that are the same in all modules
-room_size : size room_code ≤ 100
+pub room_size : size room_code ≤ 100
 unfolding put_all put_instr unsigned signed
 room_size = omega arith
 
-box_size : size (Const 0 ∷ End ∷ []) ≤ 10
+pub box_size : size (ConstWord 0 ∷ End ∷ []) ≤ 10
 unfolding put_all put_instr unsigned signed
 box_size = omega arith
 
@@ -243,28 +243,28 @@ types_size : length (put_all put_func_type (type_main ∷ type_constant ∷ type
 unfolding put_all put_func_type unsigned
 types_size = omega arith
 
-globals_size : length (put_all put_global (word_global 0 ∷ word_global 0 ∷ word_global 8 ∷ []) []) ≤ 30
+pub globals_size : length (put_all put_global (word_global 0 ∷ word_global 0 ∷ word_global 8 ∷ []) []) ≤ 30
 unfolding put_all put_global signed
 globals_size = omega arith
 
 -- with one number each
-limits_size : (lo hi : ℕ) (w : List ℕ) → length (put_limits (record { min = lo; max = Some hi }) w) ≤ 11 + length w
+pub limits_size : (lo hi : ℕ) (w : List ℕ) → length (put_limits (record { min = lo; max = Some hi }) w) ≤ 11 + length w
 unfolding put_limits
 limits_size lo hi w = omega (arith, u_any 5 lo (put_u32 hi w), u_any 5 hi w)
 
-table_size : (n : ℕ) → length (put_all put_table_type (record { min = n; max = Some n } ∷ []) []) ≤ 12
+pub table_size : (n : ℕ) → length (put_all put_table_type (record { min = n; max = Some n } ∷ []) []) ≤ 12
 unfolding put_all put_table_type
 table_size n = omega (arith, limits_size n n [])
 
-memory_size : (n : ℕ) → length (put_all put_limits (record { min = 1; max = Some n } ∷ []) []) ≤ 11
+pub memory_size : (n : ℕ) → length (put_all put_limits (record { min = 1; max = Some n } ∷ []) []) ≤ 11
 unfolding put_all
 memory_size n = limits_size 1 n []
 
-export_size : (e : Export) (w : List ℕ) → length (put_export e w) ≤ 11 + length e.name + length w
+pub export_size : (e : Export) (w : List ℕ) → length (put_export e w) ≤ 11 + length e.name + length w
 unfolding put_export
 export_size e w = omega (arith, u_any 5 (length e.name) (e.name ++ (kind_code e.kind ∷ put_u32 e.index w)), length-append e.name (kind_code e.kind ∷ put_u32 e.index w), u_any 5 e.index w)
 
-exports_size : (P : Program) (pages : ℕ) → length (put_all put_export (module_of P pages).exports []) ≤ 68
+pub exports_size : (P : Program) (pages : ℕ) → length (put_all put_export (module_of P pages).exports []) ≤ 68
 unfolding put_all
 exports_size P pages =
     let e3 : Export = record { name = codes "status"; kind = kind.Global; index = 1 } in
@@ -273,19 +273,19 @@ exports_size P pages =
     let e0 : Export = record { name = codes "main"; kind = kind.Func; index = main_index P } in
     omega (arith, export_size e3 [], export_size e2 (put_export e3 []), export_size e1 (put_export e2 (put_export e3 [])), export_size e0 (put_export e1 (put_export e2 (put_export e3 []))))
 
-segment_size : (n : ℕ) (fs : List ℕ) → length (put_all put_segment (record { offset = n; funcs = fs } ∷ []) []) ≤ 13 + 5 * length fs
+pub segment_size : (n : ℕ) (fs : List ℕ) → length (put_all put_segment (record { offset = n; funcs = fs } ∷ []) []) ≤ 13 + 5 * length fs
 unfolding put_all put_segment
 segment_size n fs = omega (arith, s_any 5 32 n (11 ∷ put_list put_u32 fs []), u_any 5 (length fs) (put_all put_u32 fs []), items_size 5 put_u32 fs [] (λ x w. u_any 5 x w))
 
-first_bodies : (bs : List Body) → length (put_all put_body (body 0 room_code ∷ body 0 (Const 0 ∷ End ∷ []) ∷ bs) []) ≤ 144 + length (put_all put_body bs [])
+pub first_bodies : (bs : List Body) → length (put_all put_body (body 0 room_code ∷ body 0 (ConstWord 0 ∷ End ∷ []) ∷ bs) []) ≤ 144 + length (put_all put_body bs [])
 unfolding put_all
-first_bodies bs = omega (arith, body_size 0 room_code (put_body (body 0 (Const 0 ∷ End ∷ [])) (put_all put_body bs [])), room_size, body_size 0 (Const 0 ∷ End ∷ []) (put_all put_body bs []), box_size)
+first_bodies bs = omega (arith, body_size 0 room_code (put_body (body 0 (ConstWord 0 ∷ End ∷ [])) (put_all put_body bs [])), room_size, body_size 0 (ConstWord 0 ∷ End ∷ []) (put_all put_body bs []), box_size)
 
 last_body : (b : Body) → length (put_all put_body (b ∷ []) []) ≡ length (put_body b [])
 unfolding put_all
 last_body b = refl
 
-header_size : (m : Parts) → length (module_bytes m) ≡ 8 + length (put_sections m [])
+pub header_size : (m : Parts) → length (module_bytes m) ≡ 8 + length (put_sections m [])
 unfolding module_bytes
 header_size m = omega arith
 
@@ -348,6 +348,6 @@ mutual
   locals_bound d (Ret x) = op_locals d x
   locals_bound d (Let x t) = omega (arith, op_locals d x, locals_bound (suc d) t)
 
-  branches_locals : (d : ℕ) (bs : Branches) → 4 * top_branches d bs ≤ 4 * d + branches_weight bs
+  branches_locals : (d : ℕ) (bs : BranchBlocks) → 4 * top_branches d bs ≤ 4 * d + branches_weight bs
   branches_locals d BNil = omega arith
   branches_locals d (BCons n t bs) = omega (arith, locals_bound d t, branches_locals d bs)

@@ -2,7 +2,7 @@
 use Rattle.std.specs.Prelude.{◌≡◌, ℕ, suc, ◌+◌, ◌<◌, ◌≤◌, List, [], ◌∷◌, length, Some, Bool, true, false, slice_get}
 pub use Rattle.anf_convert.specs.declared.program.Atom.{Atom}
 pub use Rattle.anf_convert.specs.declared.program.Atom.TheVariants.{Var as AVar, Box as ABox, Empty as AEmpty}
-pub use Rattle.closure_lift.specs.Lifted.{Op, OConst, OApp, OCon, OClos, OCase, Block, RetAtom, LetAtom, Ret, Let, Branches, BNil, BCons, Fn, Program, Val, VBox, VCon, VClos, Vals, VNil, VCons, lookup, size, ◌+v◌, many, BranchAt, branch_here, branch_after}
+pub use Rattle.closure_lift.specs.Lifted.{Op, OConst, OApp, OCon, OClos, OCase, Block, RetAtom, LetAtom, Ret, Let, BranchBlocks, BNil, BCons, Fn, Program, Val, VBox, VCon, VClos, Vals, VNil, VCons, lookup, size, ◌+v◌, many, BranchAt, branch_here, branch_after}
 
 pub data Is (e : Vals) : Atom → Val → Type 0 where
   is_var : {i : ℕ} {v : Val} → lookup e i ≡ Some v → Is e (AVar i) v
@@ -28,7 +28,7 @@ mutual
     do_box_app : {tail : Bool} {D : ℕ} {e : Vals} {f a : Atom} {v : Val} → Is e f VBox → Is e a v → Does P w m tail D e (OApp f a) VBox 1 0 0 0
     do_con : {tail : Bool} {D : ℕ} {e : Vals} {c : ℕ} {as' : List Atom} {vs : Vals} → c < 65536 → 0 < length as' → length as' < 2049 → length as' < w → AllAre e as' vs → Does P w m tail D e (OCon c as') (VCon c vs) 0 0 1 (suc (length as'))
     do_clos : {tail : Bool} {D : ℕ} {e : Vals} {g : ℕ} {as' : List Atom} {vs : Vals} → g < 32768 → length as' < 2049 → length as' < w → AllAre e as' vs → Does P w m tail D e (OClos g as') (VClos g vs) 0 0 1 (suc (length as'))
-    do_case : {tail : Bool} {D : ℕ} {e : Vals} {a : Atom} {bs : Branches} {i : ℕ} {vs : Vals} {t : Block} {r : Val} {c k b s : ℕ} → Is e a (VCon i vs) → many bs ≤ m → BranchAt bs i (size vs) t → Gets P w m tail D (vs +v e) t r c k b s → Does P w m tail D e (OCase a bs) r (suc c) (suc k) b s
+    do_case : {tail : Bool} {D : ℕ} {e : Vals} {a : Atom} {bs : BranchBlocks} {i : ℕ} {vs : Vals} {t : Block} {r : Val} {c k b s : ℕ} → Is e a (VCon i vs) → many bs ≤ m → BranchAt bs i (size vs) t → Gets P w m tail D (vs +v e) t r c k b s → Does P w m tail D e (OCase a bs) r (suc c) (suc k) b s
 
   pub data Gets (P : Program) (w m : ℕ) : Bool → ℕ → Vals → Block → Val → ℕ → ℕ → ℕ → ℕ → Type 0 where
     gets_atom : {tail : Bool} {D : ℕ} {e : Vals} {a : Atom} {v : Val} → Is e a v → Gets P w m tail D e (RetAtom a) v 0 0 0 0

@@ -16,10 +16,10 @@ use Rattle.wasm_core.specs.ModuleCondition.{All, IsU32, IsInstr, IsBody, IsExpor
 use Rattle.wasm_core.proofs.Closed.{typed_is_closed}
 use Rattle.anf_convert.specs.declared.program.Atom.{Atom}
 use Rattle.anf_convert.specs.declared.program.Atom.TheVariants.{Var as AVar, Box as ABox, Empty as AEmpty}
-use Rattle.closure_lift.specs.Lifted.{Op, OConst, OApp, OCon, OClos, OCase, Block, RetAtom, LetAtom, Ret, Let, Branches, BNil, BCons, Program, many}
+use Rattle.closure_lift.specs.Lifted.{Op, OConst, OApp, OCon, OClos, OCase, Block, RetAtom, LetAtom, Ret, Let, BranchBlocks, BNil, BCons, Program, many}
 use Rattle.anf_convert.specs.AnfForm.{AtomFits, AtomsFit}
-use Rattle.closure_lift.specs.LiftedForm.{OpFits, BlockFits, BranchesFit, Formed, Limits}
-use Rattle.wasm_emit.specs.EmittedCode.{Const, Place, InLocal, InField, fields_of, read, atom, fill, ensure_room, block, op, code, empties, heads}
+use Rattle.closure_lift.specs.LiftedForm.{OpFits, LiftedBlockFits, BranchesFit, Formed, Limits}
+use Rattle.wasm_emit.specs.EmittedCode.{ConstWord, Place, InLocal, InField, fields_of, read, atom, fill, ensure_room, block, op, code, empties, heads}
 use Rattle.wasm_emit.specs.CallModule.{applied, call_exports, call_function, call_globals, module_of_call}
 use Rattle.wasm_emit.specs.EmittedModule.{room_code, function, constant, main_function, entries, module_of, module_with}
 use Rattle.wasm_emit.specs.EmittedLocals.{top, top_op, top_branches}
@@ -29,11 +29,11 @@ use Rattle.wasm_emit.proofs.Indices.{row_length, entries_length}
 use Rattle.wasm_emit.proofs.Valid.{function_typed, constant_typed, main_typed, call_typed, box_typed, room_typed}
 
 -- instructions whose immediates have their bits
-data Good : List Instr → Type 0 where
+pub data Good : List Instr → Type 0 where
   good : Good []
   fits : {i : Instr} {rest : List Instr} → IsInstr i → Good rest → Good (i ∷ rest)
 
-all_of : {is : List Instr} → Good is → All IsInstr is
+pub all_of : {is : List Instr} → Good is → All IsInstr is
 all_of good = tt
 all_of (fits h k) = (h, all_of k)
 
@@ -82,19 +82,19 @@ module _ (P : Program) (m : ℕ) (counts : CountsFit P m) (limits : Limits P) wh
         f_block n ps d _ as' (omega arith) (omega (arith, within, limits.few)) (omega (arith, few, takes.words)) h fit.1 k
     f_op n d ps (OCase a bs) le h fit k = f_atom n ps a h fit.0 (fits (omega arith) (f_empties n d ps 0 bs (heads P ps d 0 bs) (omega arith) (omega (arith, fit.1)) h fit.2 (λ r k. f_heads n d ps 0 bs (omega arith) (omega (arith, fit.1)) h fit.2 k) k))
 
-    f_code : {rest : List Instr} (n d : ℕ) (ps : List Place) (t : Block) → top d t < 100000 → All FitsPlace ps → BlockFits P.functions (length P.constants) m n t → Good rest → Good (code P ps d t rest)
+    f_code : {rest : List Instr} (n d : ℕ) (ps : List Place) (t : Block) → top d t < 100000 → All FitsPlace ps → LiftedBlockFits P.functions (length P.constants) m n t → Good rest → Good (code P ps d t rest)
     f_code n d ps (RetAtom a) le h fit k = f_atom n ps a h fit k
     f_code n d ps (LetAtom a t) le h fit k = f_atom n ps a h fit.0 (fits (omega arith) (f_code (suc n) (suc d) (InLocal d ∷ ps) t (omega arith) (omega arith, h) fit.1 k))
     f_code n d ps (Ret x) le h fit k = f_op n d ps x le h fit k
     f_code n d ps (Let x t) le h fit k = f_op n d ps x (omega arith) h fit.0 (fits (omega arith) (f_code (suc n) (suc d) (InLocal d ∷ ps) t (omega arith) (omega arith, h) fit.1 k))
 
-    f_empties : {rest : List Instr} (n d : ℕ) (ps : List Place) (c : ℕ) (bs : Branches) (others : List Instr → List Instr) → max (suc d) (top_branches (suc d) bs) < 100000 → c + many bs ≤ m → All FitsPlace ps → BranchesFit P.functions (length P.constants) m n bs →
+    f_empties : {rest : List Instr} (n d : ℕ) (ps : List Place) (c : ℕ) (bs : BranchBlocks) (others : List Instr → List Instr) → max (suc d) (top_branches (suc d) bs) < 100000 → c + many bs ≤ m → All FitsPlace ps → BranchesFit P.functions (length P.constants) m n bs →
         ((r : List Instr) → Good r → Good (others r)) → Good rest → Good (empties P ps d c bs others rest)
     f_empties n d ps c BNil others le few h fit o k = o _ k
     f_empties n d ps c (BCons zero t bs) others le few h fit o k = fits (omega arith) (fits (omega (arith, counts.branches)) (fits tt (fits tt (f_code (0 + n) (suc d) ps t (omega arith) h fit.1 (fits tt (f_empties n d ps (suc c) bs others (omega arith) (omega arith) h fit.2 o (fits tt k)))))))
     f_empties n d ps c (BCons (suc j) t bs) others le few h fit o k = f_empties n d ps (suc c) bs others (omega arith) (omega arith) h fit.2 o k
 
-    f_heads : {rest : List Instr} (n d : ℕ) (ps : List Place) (c : ℕ) (bs : Branches) → max (suc d) (top_branches (suc d) bs) < 100000 → c + many bs ≤ m → All FitsPlace ps → BranchesFit P.functions (length P.constants) m n bs → Good rest → Good (heads P ps d c bs rest)
+    f_heads : {rest : List Instr} (n d : ℕ) (ps : List Place) (c : ℕ) (bs : BranchBlocks) → max (suc d) (top_branches (suc d) bs) < 100000 → c + many bs ≤ m → All FitsPlace ps → BranchesFit P.functions (length P.constants) m n bs → Good rest → Good (heads P ps d c bs rest)
     f_heads n d ps c BNil le few h fit k = fits tt k
     f_heads n d ps c (BCons zero t bs) le few h fit k = f_heads n d ps (suc c) bs (omega arith) (omega arith) h fit.2 k
     f_heads n d ps c (BCons (suc j) t bs) le few h fit k =
@@ -102,7 +102,7 @@ module _ (P : Program) (m : ℕ) (counts : CountsFit P m) (limits : Limits P) wh
         fits (omega arith) (fits (omega arith, omega arith) (fits (omega (arith, counts.branches, low)) (fits tt (fits tt (f_code (suc j + n) (suc d) (fields_of d (suc j) ps) t (omega arith) (fields_fit d (suc j) ps (omega arith) (omega (arith, low)) h) fit.1
         (fits tt (f_heads n d ps (suc c) bs (omega arith) (omega arith) h fit.2 (fits tt k))))))))
 
-all_then : {A B : Type 0} (Q : B → Type 0) (h : A → B) (xs : List A) (bs : List B) → ((i : ℕ) (x : A) → slice_get xs i ≡ Some x → Q (h x)) → All Q bs → All Q (map h xs ++ bs)
+pub all_then : {A B : Type 0} (Q : B → Type 0) (h : A → B) (xs : List A) (bs : List B) → ((i : ℕ) (x : A) → slice_get xs i ≡ Some x → Q (h x)) → All Q bs → All Q (map h xs ++ bs)
 all_then Q h [] bs a r = r
 all_then Q h (x ∷ xs) bs a r = (a zero x refl, all_then Q h xs bs (λ i y e. a (suc i) y e) r)
 
@@ -111,10 +111,10 @@ entries_fit i zero h = tt
 entries_fit i (suc n) h = (omega arith, entries_fit (suc i) n (omega arith))
 
 -- a typed body whose immediates fit
-body_fits : (M : Parts) (index n : ℕ) (is : List Instr) → n ≤ 50000 → TypedFunc M index (record { locals = replicate n I32; code = is }) → Good is → IsBody (record { locals = replicate n I32; code = is })
+pub body_fits : (M : Parts) (index n : ℕ) (is : List Instr) → n ≤ 50000 → TypedFunc M index (record { locals = replicate n I32; code = is }) → Good is → IsBody (record { locals = replicate n I32; code = is })
 body_fits M index n is few t all = (omega (arith, length-replicate {A = ValType} n I32), typed_is_closed M (t.type.params ++ replicate n I32) (results_of t.type) is t.typed (all_of all))
 
-room_good : Good room_code
+pub room_good : Good room_code
 room_good = fits (omega arith) (fits tt (fits (omega arith) (fits tt (fits (omega arith) (fits (omega arith) (fits tt (fits tt (fits tt (fits tt good)))))))))
 
 -- a module whose further globals, exports and main fit
@@ -140,7 +140,7 @@ module _ (P : Program) (main : Body) (gs : List GlobalDef) (es : List Export) (p
           (
             body_fits M 0 0 room_code (omega arith) (room_typed P main gs es pages) room_good,
             (
-              body_fits M 2 0 (Const 0 ∷ End ∷ []) (omega arith) (box_typed P main gs es pages) (fits (omega arith) (fits tt good)),
+              body_fits M 2 0 (ConstWord 0 ∷ End ∷ []) (omega arith) (box_typed P main gs es pages) (fits (omega arith) (fits tt good)),
               all_then IsBody (function P) P.functions _ (λ i fn at.
                   body_fits M 2 (top 2 fn.body - 2) (code P (InLocal 1 ∷ fields_of 0 fn.captured []) 2 fn.body (End ∷ [])) (counts.functions i fn at) (function_typed P main gs es pages fn (ok.functions i fn at))
                   (f_code P m counts limits (suc fn.captured) 2 (InLocal 1 ∷ fields_of 0 fn.captured []) fn.body (omega (arith, counts.functions i fn at)) (omega arith, fields_fit 0 fn.captured [] (omega arith) (limits.captured i fn at) tt) (form.functions i fn at) (fits tt good)))
@@ -162,7 +162,7 @@ emit_spelled P pages m pos small form limits counts =
     with_spelled P (main_function P) [] [] pages m pos small form limits counts (omega arith) tt (omega arith) tt last
 
 -- main applied to so many arguments
-f_applied : (P : Program) (m : ℕ) (counts : CountsFit P m) (limits : Limits P) → BlockFits P.functions (length P.constants) m 0 P.main → (k : ℕ) {rest : List Instr} → k ≤ 255 → Good rest → Good (applied P k rest)
+f_applied : (P : Program) (m : ℕ) (counts : CountsFit P m) (limits : Limits P) → LiftedBlockFits P.functions (length P.constants) m 0 P.main → (k : ℕ) {rest : List Instr} → k ≤ 255 → Good rest → Good (applied P k rest)
 f_applied P m counts limits fit zero few k = f_code P m counts limits 0 0 [] P.main (omega (arith, counts.main)) tt fit k
 f_applied P m counts limits fit (suc n) few k =
     f_applied P m counts limits fit n (omega arith) (fits (omega arith) (fits (omega arith) (fits (omega arith, omega arith) (fits (omega arith)

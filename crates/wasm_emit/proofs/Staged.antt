@@ -4,10 +4,10 @@ use Rattle.std.proofs.lemmas.Option.{slice_get_within}
 use Rattle.std.specs.Prelude.{max}
 use Rattle.anf_convert.specs.declared.program.Atom.{Atom}
 use Rattle.anf_convert.specs.declared.program.Atom.TheVariants.{Var as AVar, Box as ABox, Empty as AEmpty}
-use Rattle.closure_lift.specs.Lifted.{Op, OConst, OApp, OCon, OClos, OCase, Block, RetAtom, LetAtom, Ret, Let, Branches, BNil, BCons, Fn, Program, Val, VBox, VCon, VClos, Vals, VNil, VCons, size, ◌+v◌, many, BranchAt, branch_here, branch_after}
+use Rattle.closure_lift.specs.Lifted.{Op, OConst, OApp, OCon, OClos, OCase, Block, RetAtom, LetAtom, Ret, Let, BranchBlocks, BNil, BCons, Fn, Program, Val, VBox, VCon, VClos, Vals, VNil, VCons, size, ◌+v◌, many, BranchAt, branch_here, branch_after}
 use Rattle.closure_lift.specs.Lifted as lifted
 use Rattle.anf_convert.specs.AnfForm.{AtomFits, AtomsFit}
-use Rattle.closure_lift.specs.LiftedForm.{OpFits, BlockFits, BranchesFit, Formed, Limits}
+use Rattle.closure_lift.specs.LiftedForm.{OpFits, LiftedBlockFits, BranchesFit, Formed, Limits}
 use Rattle.wasm_emit.proofs.Source.{Applies, applies_alone, applies_more, Is, is_var, is_box, is_empty, AllAre, are_none, are_more, Does, do_const, do_app, do_box_app, do_con, do_clos, do_case, Gets, gets_atom, gets_let_atom, gets_ret, gets_let}
 use Rattle.wasm_emit.proofs.Scoped.{AtomOk, AtomsOk, OpOk, BlockOk, BranchesOk, ProgramOk}
 
@@ -51,7 +51,7 @@ module _ (P : Program) (w m : ℕ) where
     pub D : ℕ
     pub does : Does P w m tail D e op v c k b s
 
-  branch_fits : (n : ℕ) {i j : ℕ} {bs : Branches} {t : Block} → BranchesFit P.functions (length P.constants) m n bs → BranchAt bs i j t → BlockFits P.functions (length P.constants) m (j + n) t
+  branch_fits : (n : ℕ) {i j : ℕ} {bs : BranchBlocks} {t : Block} → BranchesFit P.functions (length P.constants) m n bs → BranchAt bs i j t → LiftedBlockFits P.functions (length P.constants) m (j + n) t
   branch_fits n fit branch_here = fit.1
   branch_fits n fit (branch_after at) = branch_fits n fit.2 at
 
@@ -74,7 +74,7 @@ module _ (P : Program) (w m : ℕ) where
           record { D = 0; does = do_clos (omega arith) (omega arith) narrow (atoms_are n fit.1 all) }
       staged_op n tail fit (lifted.do_case isa at d) = let h = staged (_ + n) tail (branch_fits n fit.2 at) d in record { D = _; does = do_case (atom_is n fit.0 isa) fit.1 at h.gets }
 
-      pub staged : {e : Vals} {t : Block} {v : Val} {c k b s : ℕ} (n : ℕ) (tail : Bool) → BlockFits P.functions (length P.constants) m n t → lifted.Gets P w e t v c k b s → Staged tail e t v c k b s
+      pub staged : {e : Vals} {t : Block} {v : Val} {c k b s : ℕ} (n : ℕ) (tail : Bool) → LiftedBlockFits P.functions (length P.constants) m n t → lifted.Gets P w e t v c k b s → Staged tail e t v c k b s
       staged n tail fit (lifted.gets_atom is) = record { D = 0; gets = gets_atom (atom_is n fit is) }
       staged n tail fit (lifted.gets_let_atom is g) = let h = staged (suc n) tail fit.1 g in record { D = _; gets = gets_let_atom (atom_is n fit.0 is) h.gets }
       staged n tail fit (lifted.gets_ret d) = let h = staged_op n tail fit d in record { D = _; gets = gets_ret h.does }
@@ -89,7 +89,7 @@ module _ (P : Program) (w m : ℕ) (ok : Formed P m) (limits : Limits P) where
   raise_all (applies_alone g) D' le = applies_alone (raise P w m g D' le)
   raise_all (applies_more h d) D' le = applies_more (raise_all h D' le) (raise_op P w m d D' le)
 
-  pub staged_all : {args : Vals} {v : Val} {c k b s : ℕ} → lifted.Answers P w args v c k b s → StagedCall args v c k b s
+  pub staged_all : {args : Vals} {v : Val} {c k b s : ℕ} → lifted.LiftedAnswers P w args v c k b s → StagedCall args v c k b s
   staged_all (lifted.answers_alone g) = let h = staged P w m ok limits 0 false ok.main g in record { D = h.D; applies = applies_alone h.gets }
   staged_all (lifted.answers_applied h d) =
       let x = staged_all h in
@@ -115,13 +115,13 @@ module _ (P : Program) (m : ℕ) where
     op_scoped n (OClos g as') h = atoms_scoped n as' h.1
     op_scoped n (OCase a bs) h = (atom_scoped n a h.0, branches_scoped n bs h.2)
 
-    pub block_scoped : (n : ℕ) (t : Block) → BlockFits P.functions (length P.constants) m n t → BlockOk P n t
+    pub block_scoped : (n : ℕ) (t : Block) → LiftedBlockFits P.functions (length P.constants) m n t → BlockOk P n t
     block_scoped n (RetAtom a) h = atom_scoped n a h
     block_scoped n (LetAtom a t) h = (atom_scoped n a h.0, block_scoped (suc n) t h.1)
     block_scoped n (Ret op) h = op_scoped n op h
     block_scoped n (Let op t) h = (op_scoped n op h.0, block_scoped (suc n) t h.1)
 
-    branches_scoped : (n : ℕ) (bs : Branches) → BranchesFit P.functions (length P.constants) m n bs → BranchesOk P n bs
+    branches_scoped : (n : ℕ) (bs : BranchBlocks) → BranchesFit P.functions (length P.constants) m n bs → BranchesOk P n bs
     branches_scoped n BNil h = tt
     branches_scoped n (BCons j t bs) h = (block_scoped (j + n) t h.1, branches_scoped n bs h.2)
 

@@ -11,12 +11,12 @@ use Rattle.wasm_core.specs.declared.types.GlobalDef.{GlobalDef}
 use Rattle.wasm_core.specs.declared.exports.Export.{Export}
 use Rattle.wasm_core.specs.declared.instrs.Body.{Body}
 use Rattle.wasm_core.specs.Parts.{Parts}
-use Rattle.wasm_core.specs.ModuleTyping.{Types, Operands, Of, Effect, getting, setting, keeping, calling as calling_type, Typed, done, unreachable}
+use Rattle.wasm_core.specs.ModuleTyping.{OperandTypes, Operands, Of, Effect, getting, setting, keeping, calling as calling_type, Typed, done, unreachable}
 use Rattle.wasm_core.proofs.TypedRules.{t_plain, t_one_arm, t_two_arms}
 use Rattle.anf_convert.specs.declared.program.Atom.{Atom}
 use Rattle.anf_convert.specs.declared.program.Atom.TheVariants.{Var as AVar, Box as ABox, Empty as AEmpty}
-use Rattle.closure_lift.specs.Lifted.{Op, OConst, OApp, OCon, OClos, OCase, Block, RetAtom, LetAtom, Ret, Let, Branches, BNil, BCons, Program}
-use Rattle.wasm_emit.specs.EmittedCode.{Load, Store, IfWord, Place, InLocal, InField, fields_of, read, atom, fill, ensure_room, block, op, code, empties, heads}
+use Rattle.closure_lift.specs.Lifted.{Op, OConst, OApp, OCon, OClos, OCase, Block, RetAtom, LetAtom, Ret, Let, BranchBlocks, BNil, BCons, Program}
+use Rattle.wasm_emit.specs.EmittedCode.{Load, StoreWord, IfWord, Place, InLocal, InField, fields_of, read, atom, fill, ensure_room, block, op, code, empties, heads}
 use Rattle.wasm_emit.specs.EmittedLocals.{top, top_op, top_branches}
 use Rattle.wasm_emit.specs.EmittedModule.{module_with}
 use Rattle.wasm_emit.proofs.Scoped.{AtomOk, AtomsOk, OpOk, BlockOk, BranchesOk}
@@ -52,7 +52,7 @@ front_atom env a = record { is = atom_front env a }
 
 front_fill : (env : List Place) (d : ℕ) (as' : List Atom) → Front (fill env d as')
 front_fill env d [] = same_front
-front_fill env d (a ∷ as') = cons_front (LocalGet d) then (front_atom env a then (cons_front (Store (4 * suc (length as'))) then front_fill env d as'))
+front_fill env d (a ∷ as') = cons_front (LocalGet d) then (front_atom env a then (cons_front (StoreWord (4 * suc (length as'))) then front_fill env d as'))
 
 front_room : Front ensure_room
 front_room = record { is = λ r. refl }
@@ -75,12 +75,12 @@ module _ (P : Program) where
     front_code env d (Ret x) = front_op env d x
     front_code env d (Let x t) = front_op env d x then (cons_front (LocalSet d) then front_code (InLocal d ∷ env) (suc d) t)
 
-    front_empties : (env : List Place) (d c : ℕ) (bs : Branches) (others : List Instr → List Instr) → Front others → Front (empties P env d c bs others)
+    front_empties : (env : List Place) (d c : ℕ) (bs : BranchBlocks) (others : List Instr → List Instr) → Front others → Front (empties P env d c bs others)
     front_empties env d c BNil others o = o
     front_empties env d c (BCons zero t bs) others o = cons_front _ then (cons_front _ then (cons_front _ then (cons_front _ then (front_code env (suc d) t then (cons_front Else then (front_empties env d (suc c) bs others o then cons_front End))))))
     front_empties env d c (BCons (suc n) t bs) others o = front_empties env d (suc c) bs others o
 
-    front_heads : (env : List Place) (d c : ℕ) (bs : Branches) → Front (heads P env d c bs)
+    front_heads : (env : List Place) (d c : ℕ) (bs : BranchBlocks) → Front (heads P env d c bs)
     front_heads env d c BNil = cons_front Unreachable
     front_heads env d c (BCons zero t bs) = front_heads env d (suc c) bs
     front_heads env d c (BCons (suc n) t bs) = cons_front _ then (cons_front _ then (cons_front _ then (cons_front _ then (cons_front _ then (front_code (fields_of d (suc n) env) (suc d) t then (cons_front Else then (front_heads env d (suc c) bs then cons_front End)))))))
@@ -113,14 +113,14 @@ all_i32 (suc n) zero h = refl
 all_i32 (suc n) (suc x) h = all_i32 n x (omega arith)
 
 -- the first locals are all words
-abbrev pub AllWords : ℕ → Types → Type 0
+abbrev pub AllWords : ℕ → OperandTypes → Type 0
 AllWords size ls = (x : ℕ) → x < size → slice_get ls x ≡ Some I32
 
-module _ (P : Program) (main : Body) (gs : List GlobalDef) (es : List Export) (pages : ℕ) (size : ℕ) (ls rs : Types) (all : AllWords size ls) where
+module _ (P : Program) (main : Body) (gs : List GlobalDef) (es : List Export) (pages : ℕ) (size : ℕ) (ls rs : OperandTypes) (all : AllWords size ls) where
   abbrev m : Parts
   m = module_with P main gs es pages
 
-  module _ {labels : List Types} {ts us : Operands} {rest : List Instr} where
+  module _ {labels : List OperandTypes} {ts us : Operands} {rest : List Instr} where
     t_get : {x : ℕ} → x < size → Typed m ls rs labels (Of I32 ∷ ts) rest us → Typed m ls rs labels ts (LocalGet x ∷ rest) us
     t_get {x} lt k = t_plain ts (ap (option_map {U = Effect} getting) (all x lt)) k
 
@@ -142,7 +142,7 @@ module _ (P : Program) (main : Body) (gs : List GlobalDef) (es : List Export) (p
     t_atom ABox le h lt k = t_plain ts refl k
     t_atom (AEmpty c) le h lt k = t_plain ts refl k
 
-  module _ {labels : List Types} {us : Operands} where
+  module _ {labels : List OperandTypes} {us : Operands} where
     t_fill : {d n : ℕ} {ps : List Place} {ts : Operands} {rest : List Instr} (as' : List Atom) → suc d ≤ size → Places d ps n → AtomsOk n as' → Typed m ls rs labels ts rest us → Typed m ls rs labels ts (fill ps d as' rest) us
     t_fill [] le h lt k = k
     t_fill {ts = ts} (a ∷ as') le h lt k = t_get (omega arith) (t_atom a (omega arith) h lt.0 (t_plain ts refl (t_fill as' le h lt.1 k)))
@@ -153,27 +153,27 @@ module _ (P : Program) (main : Body) (gs : List GlobalDef) (es : List Export) (p
     t_block : {d n : ℕ} {ps : List Place} {ts : Operands} {rest : List Instr} (header : ℕ) (as' : List Atom) → suc d ≤ size → Places d ps n → AtomsOk n as' → Typed m ls rs labels (Of I32 ∷ ts) rest us → Typed m ls rs labels ts (block ps d header as' rest) us
     t_block {ts = ts} header as' le h lt k = t_plain ts refl (t_tee (omega arith) (t_plain (Of I32 ∷ ts) refl (t_plain ts refl (t_plain ts refl (t_room (t_get (omega arith) (t_plain (Of I32 ∷ ts) refl (t_plain ts refl (t_fill as' le h lt (t_get (omega arith) k))))))))))
 
-  arms : {labels : List Types} {ts us : Operands} {rest : List Instr} {g1 g2 : List Instr → List Instr} → Front g1 → Front g2 → Typed m ls rs ((I32 ∷ []) ∷ labels) [] (g1 []) (Of I32 ∷ []) → Typed m ls rs ((I32 ∷ []) ∷ labels) [] (g2 []) (Of I32 ∷ []) →
+  arms : {labels : List OperandTypes} {ts us : Operands} {rest : List Instr} {g1 g2 : List Instr → List Instr} → Front g1 → Front g2 → Typed m ls rs ((I32 ∷ []) ∷ labels) [] (g1 []) (Of I32 ∷ []) → Typed m ls rs ((I32 ∷ []) ∷ labels) [] (g2 []) (Of I32 ∷ []) →
       Typed m ls rs labels (Of I32 ∷ ts) rest us → Typed m ls rs labels (Of I32 ∷ ts) (IfWord ∷ g1 (Else ∷ g2 (End ∷ rest))) us
   arms {labels} {ts} {us} {rest} {g1} {g2} f1 f2 a b k =
       subst (λ (z : List Instr). Typed m ls rs labels (Of I32 ∷ ts) (IfWord ∷ z) us) (sym (f1.is (Else ∷ g2 (End ∷ rest)) ∙ ap (λ (z : List Instr). g1 [] ++ Else ∷ z) (f2.is (End ∷ rest)))) (t_two_arms {b = Value I32} {first = g1 []} {second = g2 []} a b k)
 
   mutual
-    pub t_op : {labels : List Types} {ts us : Operands} {rest : List Instr} {n : ℕ} (d : ℕ) (ps : List Place) (x : Op) → top_op d x ≤ size → Places d ps n → OpOk P n x → Typed m ls rs labels (Of I32 ∷ ts) rest us → Typed m ls rs labels ts (op P ps d x rest) us
+    pub t_op : {labels : List OperandTypes} {ts us : Operands} {rest : List Instr} {n : ℕ} (d : ℕ) (ps : List Place) (x : Op) → top_op d x ≤ size → Places d ps n → OpOk P n x → Typed m ls rs labels (Of I32 ∷ ts) rest us → Typed m ls rs labels ts (op P ps d x rest) us
     t_op {ts = ts} d ps (OConst x) le h ok k = t_plain ts (ap (λ (o : Option ℕ). option_map {U = Effect} calling_type (option_and_then (λ index. slice_get m.types index) o)) (constant_in P (λ f. 2) (λ t. 1) 0 x (get_or P.constants x P.main) (slice_get-get_or P.constants x P.main ok))) k
     t_op {ts = ts} d ps (OApp f a) le h ok k = t_atom f le h ok.0 (t_atom a le h ok.1 (t_atom f le h ok.0 (t_plain (Of I32 ∷ Of I32 ∷ ts) refl (t_plain ts refl k))))
     t_op d ps (OCon c as') le h ok k = t_block _ as' le h ok k
     t_op d ps (OClos g as') le h ok k = t_block _ as' le h ok k
     t_op d ps (OCase a bs) le h ok k = t_atom a (omega arith) h ok.0 (t_set (omega arith) (t_empties d ps 0 bs (heads P ps d 0 bs) (front_heads P ps d 0 bs) (omega arith) h ok.1 (λ labels ts us rest k. t_heads d ps 0 bs (omega arith) h ok.1 k) k))
 
-    pub t_code : {labels : List Types} {ts us : Operands} {rest : List Instr} {n : ℕ} (d : ℕ) (ps : List Place) (t : Block) → top d t ≤ size → Places d ps n → BlockOk P n t → Typed m ls rs labels (Of I32 ∷ ts) rest us → Typed m ls rs labels ts (code P ps d t rest) us
+    pub t_code : {labels : List OperandTypes} {ts us : Operands} {rest : List Instr} {n : ℕ} (d : ℕ) (ps : List Place) (t : Block) → top d t ≤ size → Places d ps n → BlockOk P n t → Typed m ls rs labels (Of I32 ∷ ts) rest us → Typed m ls rs labels ts (code P ps d t rest) us
     t_code d ps (RetAtom a) le h ok k = t_atom a le h ok k
     t_code d ps (LetAtom a t) le h ok k = t_atom a (omega arith) h ok.0 (t_set (omega arith) (t_code (suc d) (InLocal d ∷ ps) t (omega arith) (local (omega arith) (places_up (omega arith) h)) ok.1 k))
     t_code d ps (Ret x) le h ok k = t_op d ps x le h ok k
     t_code d ps (Let x t) le h ok k = t_op d ps x (omega arith) h ok.0 (t_set (omega arith) (t_code (suc d) (InLocal d ∷ ps) t (omega arith) (local (omega arith) (places_up (omega arith) h)) ok.1 k))
 
-    t_empties : {labels : List Types} {ts us : Operands} {rest : List Instr} {n : ℕ} (d : ℕ) (ps : List Place) (c : ℕ) (bs : Branches) (others : List Instr → List Instr) → Front others → max (suc d) (top_branches (suc d) bs) ≤ size → Places d ps n → BranchesOk P n bs →
-        ((labels : List Types) (ts us : Operands) (rest : List Instr) → Typed m ls rs labels (Of I32 ∷ ts) rest us → Typed m ls rs labels ts (others rest) us) → Typed m ls rs labels (Of I32 ∷ ts) rest us → Typed m ls rs labels ts (empties P ps d c bs others rest) us
+    t_empties : {labels : List OperandTypes} {ts us : Operands} {rest : List Instr} {n : ℕ} (d : ℕ) (ps : List Place) (c : ℕ) (bs : BranchBlocks) (others : List Instr → List Instr) → Front others → max (suc d) (top_branches (suc d) bs) ≤ size → Places d ps n → BranchesOk P n bs →
+        ((labels : List OperandTypes) (ts us : Operands) (rest : List Instr) → Typed m ls rs labels (Of I32 ∷ ts) rest us → Typed m ls rs labels ts (others rest) us) → Typed m ls rs labels (Of I32 ∷ ts) rest us → Typed m ls rs labels ts (empties P ps d c bs others rest) us
     t_empties d ps c BNil others fo le h ok o k = o _ _ _ _ k
     t_empties {ts = ts} {n = n} d ps c (BCons zero t bs) others fo le h ok o k =
         t_get (omega arith) (t_plain (Of I32 ∷ ts) refl (t_plain ts refl (arms (front_code P ps (suc d) t) (front_empties P ps d (suc c) bs others fo)
@@ -181,7 +181,7 @@ module _ (P : Program) (main : Body) (gs : List GlobalDef) (es : List Export) (p
         (t_empties d ps (suc c) bs others fo (omega arith) h ok.1 o done) k)))
     t_empties d ps c (BCons (suc n) t bs) others fo le h ok o k = t_empties d ps (suc c) bs others fo (omega arith) h ok.1 o k
 
-    t_heads : {labels : List Types} {ts us : Operands} {rest : List Instr} {n : ℕ} (d : ℕ) (ps : List Place) (c : ℕ) (bs : Branches) → max (suc d) (top_branches (suc d) bs) ≤ size → Places d ps n → BranchesOk P n bs → Typed m ls rs labels (Of I32 ∷ ts) rest us →
+    t_heads : {labels : List OperandTypes} {ts us : Operands} {rest : List Instr} {n : ℕ} (d : ℕ) (ps : List Place) (c : ℕ) (bs : BranchBlocks) → max (suc d) (top_branches (suc d) bs) ≤ size → Places d ps n → BranchesOk P n bs → Typed m ls rs labels (Of I32 ∷ ts) rest us →
         Typed m ls rs labels ts (heads P ps d c bs rest) us
     t_heads d ps c BNil le h ok k = unreachable k
     t_heads d ps c (BCons zero t bs) le h ok k = t_heads d ps (suc c) bs (omega arith) h ok.1 k

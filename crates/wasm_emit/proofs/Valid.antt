@@ -10,13 +10,13 @@ use Rattle.wasm_core.specs.declared.instrs.Instr.TheVariants.{Unreachable, End, 
 use Rattle.wasm_core.specs.declared.instrs.Body.{Body}
 use Rattle.wasm_core.specs.declared.instrs.Instr.{Instr}
 use Rattle.wasm_core.specs.Parts.{Parts}
-use Rattle.wasm_core.specs.ModuleTyping.{Typed, Types, Operands, Of, match_none, match_same, done, unreachable, TypedFunc, Functions, Tables, Memories, Globals, Exported, Elements, Codes, IsSound, AllSound, DistinctNames, EachIsThere, IsThere, IsSegment, type_of}
+use Rattle.wasm_core.specs.ModuleTyping.{Typed, OperandTypes, Operands, Of, match_none, match_same, done, unreachable, TypedFunc, Functions, Tables, Memories, Globals, Exported, Elements, Codes, IsSound, AllSound, DistinctNames, EachIsThere, IsThere, SegmentIsValid, type_of}
 use Rattle.wasm_core.proofs.Small.{inj, no}
 use Rattle.wasm_core.proofs.TypedRules.{t_plain, t_one_arm, t_body}
 use Rattle.closure_lift.specs.Lifted.{OApp, Block, Program, Fn}
 use Rattle.wasm_emit.specs.CallLaws.{CallValid}
 use Rattle.anf_convert.specs.declared.program.Atom.TheVariants.{Var as AVar}
-use Rattle.wasm_emit.specs.EmittedCode.{Load, Const, IfOnly, InLocal, fields_of, code}
+use Rattle.wasm_emit.specs.EmittedCode.{Load, ConstWord, IfOnly, InLocal, fields_of, code}
 use Rattle.wasm_emit.specs.EmittedModule.{module_with, room_function, box_function, function, constant, main_function, type_main, type_constant, type_function, entries, module_of}
 use Rattle.wasm_emit.specs.CallModule.{applied, call_function, call_globals, call_exports, module_of_call}
 use Rattle.wasm_emit.specs.EmittedLocals.{top}
@@ -126,13 +126,13 @@ module _ (P : Program) (main : Body) (gs : List GlobalDef) (es : List Export) (p
   }
 
   pub box_typed : TypedFunc M 2 box_function
-  box_typed = record { type = type_function; found = refl; typed = t_body M (I32 ∷ I32 ∷ []) (I32 ∷ []) (Const 0 ∷ []) (t_plain [] refl done) }
+  box_typed = record { type = type_function; found = refl; typed = t_body M (I32 ∷ I32 ∷ []) (I32 ∷ []) (ConstWord 0 ∷ []) (t_plain [] refl done) }
 
   pub room_typed : TypedFunc M 0 room_function
   room_typed = record {
     type = type_main;
     found = refl;
-    typed = t_body M [] [] (Const 1 ∷ MemoryGrow ∷ Const (2 ^ 32 - 1) ∷ Operation op32.Eq ∷ GlobalSet 1 ∷ GlobalGet 1 ∷ IfOnly ∷ Unreachable ∷ End ∷ [])
+    typed = t_body M [] [] (ConstWord 1 ∷ MemoryGrow ∷ ConstWord (2 ^ 32 - 1) ∷ Operation op32.Eq ∷ GlobalSet 1 ∷ GlobalGet 1 ∷ IfOnly ∷ Unreachable ∷ End ∷ [])
         (t_plain [] refl (t_plain [] refl (t_plain (Of I32 ∷ []) refl (t_plain [] refl (t_plain [] refl (t_plain [] refl (t_one_arm {body = Unreachable ∷ []} (unreachable done) done)))))));
   }
 
@@ -185,7 +185,7 @@ module _ (P : Program) (main : Body) (gs : List GlobalDef) (es : List Export) (p
   entry_low i (suc n) (suc x) f e = let h = entry_low (suc i) n x f e in omega (arith, h)
 
   segment_sound : IsSound Elements M
-  segment_sound zero s e = subst (IsSegment M) (inj e) (record { table = refl; funcs = λ x f h. omega (arith, entry_low 1 (suc (length P.functions)) x f h, row_length {A = ℕ} P (λ f. 2) (λ t. 1) 0) })
+  segment_sound zero s e = subst (SegmentIsValid M) (inj e) (record { table = refl; funcs = λ x f h. omega (arith, entry_low 1 (suc (length P.functions)) x f h, row_length {A = ℕ} P (λ f. 2) (λ t. 1) 0) })
   segment_sound (suc i) s e = no e
 
   exports_there : ((i : ℕ) (e : Export) → slice_get es i ≡ Some e → IsThere M e.kind e.index) → EachIsThere M
@@ -233,7 +233,7 @@ module _ (P : Program) (k pages : ℕ) where
   abbrev C : Parts
   C = module_of_call P k pages
 
-  t_applied : (size : ℕ) (ls rs : Types) → AllWords size ls → 2 ≤ size → top 0 P.main ≤ size → BlockOk P 0 P.main → (n : ℕ) {labels : List Types} {ts us : Operands} {rest : List Instr} → Typed C ls rs labels (Of I32 ∷ ts) rest us → Typed C ls rs labels ts (applied P n rest) us
+  t_applied : (size : ℕ) (ls rs : OperandTypes) → AllWords size ls → 2 ≤ size → top 0 P.main ≤ size → BlockOk P 0 P.main → (n : ℕ) {labels : List OperandTypes} {ts us : Operands} {rest : List Instr} → Typed C ls rs labels (Of I32 ∷ ts) rest us → Typed C ls rs labels ts (applied P n rest) us
   t_applied size ls rs all two enough ok zero k' = t_code P (call_function P k) call_globals call_exports pages size ls rs all 0 [] P.main enough none ok k'
   t_applied size ls rs all two enough ok (suc n) {ts = ts} k' =
       t_applied size ls rs all two enough ok n (t_set P (call_function P k) call_globals call_exports pages size ls rs all (omega arith) (t_plain ts refl (t_plain ts refl

@@ -3,7 +3,7 @@
 use Rattle.std.specs.Prelude.{ℕ, zero, suc, ◌+◌, ◌*◌, List, [], ◌∷◌, length, Option, Some, None, slice_get}
 use Rattle.anf_convert.specs.declared.program.Atom.{Atom}
 use Rattle.anf_convert.specs.declared.program.Atom.TheVariants.{Var as AVar, Box as ABox, Empty as AEmpty}
-use Rattle.closure_lift.specs.Lifted.{Op, OConst, OApp, OCon, OClos, OCase, Block, RetAtom, LetAtom, Ret, Let, Branches, BNil, BCons, Program}
+use Rattle.closure_lift.specs.Lifted.{Op, OConst, OApp, OCon, OClos, OCase, Block, RetAtom, LetAtom, Ret, Let, BranchBlocks, BNil, BCons, Program}
 use Rattle.wasm_core.specs.declared.types.ValType.TheVariants as type
 use Rattle.wasm_core.specs.declared.instrs.BlockType.TheVariants.{Empty, Value}
 use Rattle.wasm_core.specs.declared.instrs.Access.{Access}
@@ -21,11 +21,11 @@ at_offset o = record { align = 2; offset = o }
 abbrev pub Load : ℕ → Instr
 Load o = I32Load (at_offset o)
 
-abbrev pub Store : ℕ → Instr
-Store o = I32Store (at_offset o)
+abbrev pub StoreWord : ℕ → Instr
+StoreWord o = I32Store (at_offset o)
 
-abbrev pub Const : ℕ → Instr
-Const n = I32Const n
+abbrev pub ConstWord : ℕ → Instr
+ConstWord n = I32Const n
 
 -- a test whose arms leave a word, and one whose arm leaves nothing
 abbrev pub IfWord : Instr
@@ -50,22 +50,22 @@ read (Some (InField x o)) rest = LocalGet x ∷ Load o ∷ rest
 
 abbrev pub atom : List Place → Atom → List Instr → List Instr
 atom env (AVar i) rest = read (slice_get env i) rest
-atom env ABox rest = Const 0 ∷ rest
-atom env (AEmpty c) rest = Const (2 * c + 1) ∷ rest
+atom env ABox rest = ConstWord 0 ∷ rest
+atom env (AEmpty c) rest = ConstWord (2 * c + 1) ∷ rest
 
 -- the words of a block, whose address is in local d
 abbrev pub fill : List Place → ℕ → List Atom → List Instr → List Instr
 fill env d [] rest = rest
-fill env d (a ∷ as') rest = LocalGet d ∷ atom env a (Store (4 * suc (length as')) ∷ fill env d as' rest)
+fill env d (a ∷ as') rest = LocalGet d ∷ atom env a (StoreWord (4 * suc (length as')) ∷ fill env d as' rest)
 
 -- where the end of the heap, which is global 2, is past memory, function 0 makes memory grow by a page
 abbrev pub ensure_room : List Instr → List Instr
-ensure_room rest = GlobalGet 2 ∷ MemorySize ∷ Const 16 ∷ Operation op32.Shl ∷ Operation op32.GtU ∷ IfOnly ∷ Call 0 ∷ End ∷ rest
+ensure_room rest = GlobalGet 2 ∷ MemorySize ∷ ConstWord 16 ∷ Operation op32.Shl ∷ Operation op32.GtU ∷ IfOnly ∷ Call 0 ∷ End ∷ rest
 
 -- a block begins at the end of the heap, which moves past the block
 abbrev pub block : List Place → ℕ → ℕ → List Atom → List Instr → List Instr
 block env d header as' rest =
-    GlobalGet 2 ∷ LocalTee d ∷ Const (4 * suc (length as')) ∷ Operation op32.Add ∷ GlobalSet 2 ∷ ensure_room (LocalGet d ∷ Const header ∷ Store 0 ∷ fill env d as' (LocalGet d ∷ rest))
+    GlobalGet 2 ∷ LocalTee d ∷ ConstWord (4 * suc (length as')) ∷ Operation op32.Add ∷ GlobalSet 2 ∷ ensure_room (LocalGet d ∷ ConstWord header ∷ StoreWord 0 ∷ fill env d as' (LocalGet d ∷ rest))
 
 -- a closure's function, whose entry of the table is the first word of its block, is called with the closure and the argument
 abbrev pub application : List Place → Atom → Atom → List Instr → List Instr
@@ -95,13 +95,13 @@ module _ (P : Program) where
     code env d (Let p t) rest = op env d p (LocalSet d ∷ code (InLocal d ∷ env) (suc d) t rest)
 
     -- the branches without binders, and then `others`
-    pub empties : List Place → ℕ → ℕ → Branches → (List Instr → List Instr) → List Instr → List Instr
+    pub empties : List Place → ℕ → ℕ → BranchBlocks → (List Instr → List Instr) → List Instr → List Instr
     empties env d c BNil others rest = others rest
-    empties env d c (BCons zero t bs) others rest = LocalGet d ∷ Const (2 * c + 1) ∷ Operation op32.Eq ∷ IfWord ∷ code env (suc d) t (Else ∷ empties env d (suc c) bs others (End ∷ rest))
+    empties env d c (BCons zero t bs) others rest = LocalGet d ∷ ConstWord (2 * c + 1) ∷ Operation op32.Eq ∷ IfWord ∷ code env (suc d) t (Else ∷ empties env d (suc c) bs others (End ∷ rest))
     empties env d c (BCons (suc n) t bs) others rest = empties env d (suc c) bs others rest
 
     -- the branches with binders
-    pub heads : List Place → ℕ → ℕ → Branches → List Instr → List Instr
+    pub heads : List Place → ℕ → ℕ → BranchBlocks → List Instr → List Instr
     heads env d c BNil rest = Unreachable ∷ rest
     heads env d c (BCons zero t bs) rest = heads env d (suc c) bs rest
-    heads env d c (BCons (suc n) t bs) rest = LocalGet d ∷ Load 0 ∷ Const (suc n * 65536 + c) ∷ Operation op32.Eq ∷ IfWord ∷ code (fields_of d (suc n) env) (suc d) t (Else ∷ heads env d (suc c) bs (End ∷ rest))
+    heads env d c (BCons (suc n) t bs) rest = LocalGet d ∷ Load 0 ∷ ConstWord (suc n * 65536 + c) ∷ Operation op32.Eq ∷ IfWord ∷ code (fields_of d (suc n) env) (suc d) t (Else ∷ heads env d (suc c) bs (End ∷ rest))

@@ -1,6 +1,6 @@
 -- How many locals the code of a block needs.
 use Rattle.std.specs.Prelude.{ℕ, suc, max}
-use Rattle.closure_lift.specs.Lifted.{Op, OConst, OApp, OCon, OClos, OCase, Block, RetAtom, LetAtom, Ret, Let, Branches, BNil, BCons}
+use Rattle.closure_lift.specs.Lifted.{Op, OConst, OApp, OCon, OClos, OCase, Block, RetAtom, LetAtom, Ret, Let, BranchBlocks, BNil, BCons}
 
 -- the locals below this number are enough
 abbrev mutual
@@ -17,6 +17,6 @@ abbrev mutual
   top d (Ret p) = top_op d p
   top d (Let p t) = max (suc d) (max (top_op d p) (top (suc d) t))
 
-  pub top_branches : ℕ → Branches → ℕ
+  pub top_branches : ℕ → BranchBlocks → ℕ
   top_branches d BNil = d
   top_branches d (BCons n t bs) = max (top d t) (top_branches d bs)

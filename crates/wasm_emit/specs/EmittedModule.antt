@@ -12,7 +12,7 @@ use Rattle.wasm_core.specs.declared.instrs.Instr.{Instr}
 use Rattle.wasm_core.specs.declared.instrs.Instr.TheVariants.{Unreachable, End, GlobalGet, GlobalSet, MemoryGrow, I32 as Operation}
 use Rattle.wasm_core.specs.declared.instrs.Body.{Body}
 use Rattle.wasm_core.specs.Parts.{Parts}
-use Rattle.wasm_emit.specs.EmittedCode.{Const, IfOnly, InLocal, fields_of, code}
+use Rattle.wasm_emit.specs.EmittedCode.{ConstWord, IfOnly, InLocal, fields_of, code}
 use Rattle.wasm_emit.specs.EmittedLocals.{top}
 
 -- types of functions: that of main and of the function that makes room, a constant's, and that of the program's functions, which take their closure and an argument
@@ -29,7 +29,7 @@ type_function = record { params = type.I32 ∷ type.I32 ∷ []; result = Some ty
 
 -- memory grows by a page; where that is refused, a trap with status 1
 abbrev pub room_code : List Instr
-room_code = Const 1 ∷ MemoryGrow ∷ Const (2 ^ 32 - 1) ∷ Operation op32.Eq ∷ GlobalSet 1 ∷ GlobalGet 1 ∷ IfOnly ∷ Unreachable ∷ End ∷ End ∷ []
+room_code = ConstWord 1 ∷ MemoryGrow ∷ ConstWord (2 ^ 32 - 1) ∷ Operation op32.Eq ∷ GlobalSet 1 ∷ GlobalGet 1 ∷ IfOnly ∷ Unreachable ∷ End ∷ End ∷ []
 
 -- a body with so many locals, all words
 abbrev pub body : ℕ → List Instr → Body
@@ -39,7 +39,7 @@ abbrev pub room_function : Body
 room_function = body 0 room_code
 
 abbrev pub box_function : Body
-box_function = body 0 (Const 0 ∷ End ∷ [])
+box_function = body 0 (ConstWord 0 ∷ End ∷ [])
 
 abbrev pub function : Program → Fn → Body
 function P f = body (top 2 f.body - 2) (code P (InLocal 1 ∷ fields_of 0 f.captured []) 2 f.body (End ∷ []))

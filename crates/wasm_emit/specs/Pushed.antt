@@ -1,6 +1,6 @@
 -- What the functions that push instructions have pushed: the instructions that the definitions put in front of any rest.
 use Rattle.std.specs.Prelude.{◌≡◌, ◌≤◌, ◌<◌, ◌⊎◌, ℕ, zero, suc, List, ◌∷◌, ◌++◌}
-use Rattle.closure_lift.specs.Lifted.{Block, Branches, BCons, Fn, Program, Bound, AtomBound, OpBound}
+use Rattle.closure_lift.specs.Lifted.{Block, BranchBlocks, BCons, Fn, Program, Bound, AtomBound, OpBound}
 use Rattle.closure_lift.specs.LiftedProgram.{renumber_op, renumber, renumber_branches, place_in, lifted_of}
 use Rattle.closure_lift.specs.declared.program.Function.{Function}
 use Rattle.closure_lift.specs.declared.program.Lifted.{Lifted}
@@ -42,13 +42,13 @@ module _ (Q : Lifted) where
   abbrev pub block_code : List Place → ℕ → Block → List Instr → List Instr
   block_code env d t = code (lifted_of Q) env d (renumber (place_in Q.constants) t)
 
-  abbrev pub empty_arms : List Place → ℕ → Branches → (List Instr → List Instr) → List Instr → List Instr
+  abbrev pub empty_arms : List Place → ℕ → BranchBlocks → (List Instr → List Instr) → List Instr → List Instr
   empty_arms env d bs = empties (lifted_of Q) env d 0 (renumber_branches (place_in Q.constants) bs)
 
-  abbrev pub block_arms : List Place → ℕ → Branches → List Instr → List Instr
+  abbrev pub block_arms : List Place → ℕ → BranchBlocks → List Instr → List Instr
   block_arms env d bs = heads (lifted_of Q) env d 0 (renumber_branches (place_in Q.constants) bs)
 
-  abbrev pub branches_code : List Place → ℕ → Branches → List Instr → List Instr
+  abbrev pub branches_code : List Place → ℕ → BranchBlocks → List Instr → List Instr
   branches_code env d bs rest = empty_arms env d bs (block_arms env d bs) rest
 
 -- the function of a function in memory
@@ -70,8 +70,8 @@ pub record BlockArms (old new : List Instr) (g : List Instr → List Instr) (n :
 -- n arms were begun, at most one, for branch c of a match on the word in local d
 pub record EmptyArm (Q : Lifted) (env : List Place) (d c : ℕ) (b : LiftedBranch) (old new : List Instr) (n : ℕ) : Type 0 where
   pub few : n ≤ 1
-  pub is : (more : Branches) (others : List Instr → List Instr) (rest : List Instr) → new ++ empties (lifted_of Q) env d (suc c) more others (ends n rest) ≡ old ++ empties (lifted_of Q) env d c (BCons b.binders (renumber (place_in Q.constants) b.body) more) others rest
+  pub is : (more : BranchBlocks) (others : List Instr → List Instr) (rest : List Instr) → new ++ empties (lifted_of Q) env d (suc c) more others (ends n rest) ≡ old ++ empties (lifted_of Q) env d c (BCons b.binders (renumber (place_in Q.constants) b.body) more) others rest
 
 pub record BlockArm (Q : Lifted) (env : List Place) (d c : ℕ) (b : LiftedBranch) (old new : List Instr) (n : ℕ) : Type 0 where
   pub few : n ≤ 1
-  pub is : (more : Branches) (rest : List Instr) → new ++ heads (lifted_of Q) env d (suc c) more (ends n rest) ≡ old ++ heads (lifted_of Q) env d c (BCons b.binders (renumber (place_in Q.constants) b.body) more) rest
+  pub is : (more : BranchBlocks) (rest : List Instr) → new ++ heads (lifted_of Q) env d (suc c) more (ends n rest) ≡ old ++ heads (lifted_of Q) env d c (BCons b.binders (renumber (place_in Q.constants) b.body) more) rest

@@ -1,6 +1,6 @@
 -- The size of lifted programs, and of the bytes of their modules.
 use Rattle.std.specs.Prelude.{ℕ, ◌+◌, ◌*◌, ◌≤◌, List, [], ◌∷◌, length}
-use Rattle.closure_lift.specs.Lifted.{Op, OConst, OApp, OCon, OClos, OCase, Block, RetAtom, LetAtom, Ret, Let, Branches, BNil, BCons, Fn, Program}
+use Rattle.closure_lift.specs.Lifted.{Op, OConst, OApp, OCon, OClos, OCase, Block, RetAtom, LetAtom, Ret, Let, BranchBlocks, BNil, BCons, Fn, Program}
 use Rattle.closure_lift.specs.LiftedForm.{Formed, Limits as IsWithin}
 use Rattle.wasm_core.specs.ShortestBytes.{module_bytes}
 use Rattle.wasm_emit.specs.EmittedModule.{module_of}
@@ -22,7 +22,7 @@ abbrev mutual
   weight (Ret x) = op_weight x
   weight (Let x t) = 4 + op_weight x + weight t
 
-  pub branches_weight : Branches → ℕ
+  pub branches_weight : BranchBlocks → ℕ
   branches_weight BNil = 0
   branches_weight (BCons n t bs) = 19 + weight t + branches_weight bs
 

@@ -8,7 +8,7 @@ use Rattle.std.proofs.Math.Pow.{pow_mono}
 use Rattle.wasm_core.specs.Parts.{Parts}
 use Rattle.wasm_core.specs.ModuleCondition.{All, opens_after}
 use Rattle.wasm_core.specs.Format.{Name, Number}
-use Rattle.wasm_core.specs.Spelling.{IsByte, IsNumber, IsSize, SpellsNumber, Spells}
+use Rattle.wasm_core.specs.Spelling.{IsByte, IsNumber, IsSize, SpellsNumber, SpellsPart}
 use Rattle.wasm_core.specs.ModuleGrammar.{Spelling, byte, u32, s32, s64, on, coded, find, finish, times, val_type, val_types, value_types, func_result, func_type, limits_flag, limits_flags, limits, mutability, mutabilities, block_type, block_kinds, access, row, Row, Plain, Typed}
 use Rattle.wasm_core.specs.ModuleGrammar.{Index, Accessing, Pair, Table, Zeroed, Bits, LongBits, opcodes, operations, operation_row, row_or, opcode, instr, instrs, constant_of, constant_opcodes, constant, table_type, table, segment, groups, locals, body, indices, memory, global}
 use Rattle.wasm_core.specs.ModuleGrammar.{export_kind, export_kinds, exported}
@@ -173,7 +173,7 @@ less_byte : (c : ℕ) (w v : List ℕ) → length v + 1 ≤ length w → Less (�
 less_byte c w v l = λ u. omega (arith, l)
 
 abbrev pub Spends : {A : Type 0} → ((A → Spelling) → Spelling) → (A → List ℕ → List ℕ) → Type 0
-Spends {A = A} one put = (k : A → Spelling) (w : List ℕ) (ws : List (List ℕ)) (m : Parts) → Spells (one k) w ws m → (x : A) × (v : List ℕ) × Less (put x) w v × Spells (k x) v ws m
+Spends {A = A} one put = (k : A → Spelling) (w : List ℕ) (ws : List (List ℕ)) (m : Parts) → SpellsPart (one k) w ws m → (x : A) × (v : List ℕ) × Less (put x) w v × SpellsPart (k x) v ws m
 
 number_left : (s : Bool) (bits : ℕ) (w : List ℕ) (n k : ℕ) → IsNumber s bits w n k → length (drop k w) + 1 ≤ length w
 number_left s bits w n zero (l, h) = absurd h
@@ -201,16 +201,16 @@ s64_spends k w ws m (n, j, (i, f), h) = (n, drop j w, less_signed 64 10 w n j i,
 pub byte_left : (fits : ℕ → Bool) (w : List ℕ) (b k : ℕ) → IsByte fits w b k → length (drop k w) + 1 ≤ length w
 byte_left fits w b k (e, (rest, d), q) = let a = length-drop k w in let l = ap length d in omega (arith, a, l, e)
 
-pub byte_spends : (b : ℕ) (k : Spelling) (w : List ℕ) (ws : List (List ℕ)) (m : Parts) → Spells (byte b k) w ws m → (v : List ℕ) × (length v + 1 ≤ length w) × Spells k v ws m
+pub byte_spends : (b : ℕ) (k : Spelling) (w : List ℕ) (ws : List (List ℕ)) (m : Parts) → SpellsPart (byte b k) w ws m → (v : List ℕ) × (length v + 1 ≤ length w) × SpellsPart k v ws m
 unfolding byte
 byte_spends b k w ws m (c, j, i, h) = (drop j w, byte_left (λ c. nat_eq c b) w c j i, h)
 
-pub coded_spends : {A : Type 0} (table : ℕ → Option A) (k : A → Spelling) (w : List ℕ) (ws : List (List ℕ)) (m : Parts) → Spells (coded table k) w ws m → (b : ℕ) × (x : A) × (table b ≡ Some x) × (v : List ℕ) × (length v + 1 ≤ length w) × Spells (k x) v ws m
+pub coded_spends : {A : Type 0} (table : ℕ → Option A) (k : A → Spelling) (w : List ℕ) (ws : List (List ℕ)) (m : Parts) → SpellsPart (coded table k) w ws m → (b : ℕ) × (x : A) × (table b ≡ Some x) × (v : List ℕ) × (length v + 1 ≤ length w) × SpellsPart (k x) v ws m
 coded_spends table k w ws m (b, j, i, h) =
     let (x, e, h2) = on_makes (table b) k (drop j w) ws m h in
     (b, x, e, drop j w, byte_left (λ b. is_some (table b)) w b j i, h2)
 
-pub finish_spends : (k : Spelling) (v z : List ℕ) (ws : List (List ℕ)) (m : Parts) → Spells (finish k) v (z ∷ ws) m → (length v ≡ 0) × Spells k z ws m
+pub finish_spends : (k : Spelling) (v z : List ℕ) (ws : List (List ℕ)) (m : Parts) → SpellsPart (finish k) v (z ∷ ws) m → (length v ≡ 0) × SpellsPart k z ws m
 unfolding finish
 finish_spends k [] z ws m (e, h) = (refl, h)
 finish_spends k (b ∷ v) z ws m h = absurd h
@@ -242,14 +242,14 @@ name_spends k w ws m (s, j, (n, i, (l, p), r, t, u, e), h) =
 -- ---- lists
 
 pub times_spend : {A : Type 0} (one : (A → Spelling) → Spelling) (put : A → List ℕ → List ℕ) → Spends one put →
-    (n : ℕ) (done : List A) (k : List A → Spelling) (w : List ℕ) (ws : List (List ℕ)) (m : Parts) → Spells (times n one done k) w ws m →
-    (xs : List A) × (length xs ≡ n) × (v : List ℕ) × Less (put_all put xs) w v × Spells (k (done ++ xs)) v ws m
+    (n : ℕ) (done : List A) (k : List A → Spelling) (w : List ℕ) (ws : List (List ℕ)) (m : Parts) → SpellsPart (times n one done k) w ws m →
+    (xs : List A) × (length xs ≡ n) × (v : List ℕ) × Less (put_all put xs) w v × SpellsPart (k (done ++ xs)) v ws m
 unfolding times put_all
-times_spend one put f zero done k w ws m h = ([], refl, w, (λ u. omega arith), subst (λ xs. Spells (k xs) w ws m) (sym (append-nil done)) h)
+times_spend one put f zero done k w ws m h = ([], refl, w, (λ u. omega arith), subst (λ xs. SpellsPart (k xs) w ws m) (sym (append-nil done)) h)
 times_spend one put f (suc n) done k w ws m h =
     let (x, v, l, g) = f (λ x. times n one (done ++ x ∷ []) k) w ws m h in
     let (xs, e, z, q, r) = times_spend one put f n (done ++ x ∷ []) k v ws m g in
-    (x ∷ xs, omega (arith, e), z, less_then (put x) (put_all put xs) w v z l q, subst (λ xs. Spells (k xs) z ws m) (append_assoc done (x ∷ []) xs) r)
+    (x ∷ xs, omega (arith, e), z, less_then (put x) (put_all put xs) w v z l q, subst (λ xs. SpellsPart (k xs) z ws m) (append_assoc done (x ∷ []) xs) r)
 
 pub list_spends : {A : Type 0} (one : (A → Spelling) → Spelling) (put : A → List ℕ → List ℕ) → Spends one put → Spends (λ k. u32 (λ n. times n one [] k)) (put_list put)
 list_spends one put f k w ws m h =
@@ -272,8 +272,8 @@ optional_spends : {A : Type 0} (one : (A → Spelling) → Spelling) (put : A �
     ((x : A) (u : List ℕ) → all (Some x) u ≡ 1 ∷ put x u) → Spends one put → Spends (λ k. Number false 32 (λ n. nat_le n 1) (λ n. if nat_eq n 0 then k None else one (λ x. k (Some x)))) all
 optional_spends {A = A} one put all at_none at_some f k w ws m (n, j, (i, q), h) =
     let left = number_left false 32 w n j i in
-    let goal : (c : Bool) → Spells (if c then k None else one (λ x. k (Some x))) (drop j w) ws m → (x : Option A) × (v : List ℕ) × Less (all x) w v × Spells (k x) v ws m =
-    λ c. elim c as (λ c. Spells (if c then k None else one (λ x. k (Some x))) (drop j w) ws m → (x : Option A) × (v : List ℕ) × Less (all x) w v × Spells (k x) v ws m) [
+    let goal : (c : Bool) → SpellsPart (if c then k None else one (λ x. k (Some x))) (drop j w) ws m → (x : Option A) × (v : List ℕ) × Less (all x) w v × SpellsPart (k x) v ws m =
+    λ c. elim c as (λ c. SpellsPart (if c then k None else one (λ x. k (Some x))) (drop j w) ws m → (x : Option A) × (v : List ℕ) × Less (all x) w v × SpellsPart (k x) v ws m) [
       | true ↦ λ h. (None, drop j w, (λ u. rw (at_none u) (omega (arith, left))), h)
       | false ↦ λ h. let (x, v, l, g) = f (λ x. k (Some x)) (drop j w) ws m h in (Some x, v, (λ u. let a = l u in rw (at_some x u) (omega (arith, left, a))), g)
     ] in goal _ h
@@ -295,8 +295,8 @@ unfolding limits limits_flag put_limits
 limits_spends k w ws m h =
     let (c, bounded, e, w1, l1, h1) = coded_spends (λ b. find b limits_flags) (λ bounded. u32 (λ lo. if bounded then u32 (λ hi. k (record { min = lo; max = Some hi })) else k (record { min = lo; max = None }))) w ws m h in
     let (lo, w2, l2, h2) = u32_spends (λ lo. if bounded then u32 (λ hi. k (record { min = lo; max = Some hi })) else k (record { min = lo; max = None })) w1 ws m h1 in
-    let goal : (c : Bool) → Spells (if c then u32 (λ hi. k (record { min = lo; max = Some hi })) else k (record { min = lo; max = None })) w2 ws m → (x : Limits) × (v : List ℕ) × Less (put_limits x) w v × Spells (k x) v ws m =
-    λ c. elim c as (λ c. Spells (if c then u32 (λ hi. k (record { min = lo; max = Some hi })) else k (record { min = lo; max = None })) w2 ws m → (x : Limits) × (v : List ℕ) × Less (put_limits x) w v × Spells (k x) v ws m) [
+    let goal : (c : Bool) → SpellsPart (if c then u32 (λ hi. k (record { min = lo; max = Some hi })) else k (record { min = lo; max = None })) w2 ws m → (x : Limits) × (v : List ℕ) × Less (put_limits x) w v × SpellsPart (k x) v ws m =
+    λ c. elim c as (λ c. SpellsPart (if c then u32 (λ hi. k (record { min = lo; max = Some hi })) else k (record { min = lo; max = None })) w2 ws m → (x : Limits) × (v : List ℕ) × Less (put_limits x) w v × SpellsPart (k x) v ws m) [
       | true ↦ λ h. let (hi, w3, l3, h3) = u32_spends (λ hi. k (record { min = lo; max = Some hi })) w2 ws m h in (record { min = lo; max = Some hi }, w3, (λ u. let a = l2 (put_u32 hi u) in let b = l3 u in omega (arith, l1, a, b)), h3)
       | false ↦ λ h. (record { min = lo; max = None }, w2, (λ u. let a = l2 u in omega (arith, l1, a)), h)
     ] in goal bounded h2
@@ -318,7 +318,7 @@ memory_spends k w ws m h = optional_spends limits put_limits (λ l. put_list put
 
 -- ---- declarations
 
-after_opcode : (t : ValType) (k : ConstValue → Spelling) (w0 w : List ℕ) (ws : List (List ℕ)) (m : Parts) → length w + 1 ≤ length w0 → Spells (constant_of t k) w ws m → (x : ConstValue) × (v : List ℕ) × Less (put_constant x) w0 v × Spells (k x) v ws m
+after_opcode : (t : ValType) (k : ConstValue → Spelling) (w0 w : List ℕ) (ws : List (List ℕ)) (m : Parts) → length w + 1 ≤ length w0 → SpellsPart (constant_of t k) w ws m → (x : ConstValue) × (v : List ℕ) × Less (put_constant x) w0 v × SpellsPart (k x) v ws m
 after_opcode I32 k w0 w ws m l h =
     let (n, w1, l1, h1) = s32_spends (λ n. byte 11 (k (constants.I32 n))) w ws m h in
     let (w2, l2, h2) = byte_spends 11 (k (constants.I32 n)) w1 ws m h1 in
@@ -389,7 +389,7 @@ IsFew (Zeroed i) = (u : List ℕ) → length (put_instr i u) ≤ 2 + length u
 IsFew (Bits i) = (n : ℕ) (u : List ℕ) → length (put_instr (i n) u) ≤ 1 + length (put_s32 n u)
 IsFew (LongBits i) = (n : ℕ) (u : List ℕ) → length (put_instr (i n) u) ≤ 1 + length (put_s64 n u)
 
-row_spends : (r : Row) → IsFew r → (k : Instr → Spelling) (w0 w : List ℕ) (ws : List (List ℕ)) (m : Parts) → length w + 1 ≤ length w0 → Spells (row r k) w ws m → (x : Instr) × (v : List ℕ) × Less (put_instr x) w0 v × Spells (k x) v ws m
+row_spends : (r : Row) → IsFew r → (k : Instr → Spelling) (w0 w : List ℕ) (ws : List (List ℕ)) (m : Parts) → length w + 1 ≤ length w0 → SpellsPart (row r k) w ws m → (x : Instr) × (v : List ℕ) × Less (put_instr x) w0 v × SpellsPart (k x) v ws m
 unfolding row IsFew
 row_spends (Plain i) p k w0 w ws m l h = (i, w, (λ u. let a = p u in omega (arith, a, l)), h)
 row_spends (Typed i) p k w0 w ws m l h = let (t, w1, l1, h1) = block_type_spends (λ t. k (i t)) w ws m h in (i t, w1, (λ u. let a = p t u in let b = l1 u in omega (arith, a, b, l)), h1)
@@ -494,14 +494,14 @@ instr_spends may k w ws m h =
     let (b, r, e, w1, l1, h1) = coded_spends (opcode may) (λ r. row r k) w ws m h in
     row_spends r (opcode_few may b r e) k w w1 ws m l1 h1
 
-instrs_spend : (fuel : ℕ) (os : List Bool) (done : List Instr) (k : List Instr → Spelling) (w : List ℕ) (ws : List (List ℕ)) (m : Parts) → Spells (instrs fuel os done k) w ws m → (is : List Instr) × (v : List ℕ) × Less (put_all put_instr is) w v × Spells (k (done ++ is)) v ws m
+instrs_spend : (fuel : ℕ) (os : List Bool) (done : List Instr) (k : List Instr → Spelling) (w : List ℕ) (ws : List (List ℕ)) (m : Parts) → SpellsPart (instrs fuel os done k) w ws m → (is : List Instr) × (v : List ℕ) × Less (put_all put_instr is) w v × SpellsPart (k (done ++ is)) v ws m
 unfolding instrs put_all
-instrs_spend fuel [] done k w ws m h = ([], w, (λ u. omega arith), subst (λ is. Spells (k is) w ws m) (sym (append-nil done)) h)
+instrs_spend fuel [] done k w ws m h = ([], w, (λ u. omega arith), subst (λ is. SpellsPart (k is) w ws m) (sym (append-nil done)) h)
 instrs_spend zero (o ∷ os) done k w ws m h = absurd h
 instrs_spend (suc fuel) (o ∷ os) done k w ws m h =
     let (i, w1, l1, h1) = instr_spends o (λ i. instrs fuel (opens_after i (o ∷ os)) (done ++ i ∷ []) k) w ws m h in
     let (is, w2, l2, h2) = instrs_spend fuel (opens_after i (o ∷ os)) (done ++ i ∷ []) k w1 ws m h1 in
-    (i ∷ is, w2, less_then (put_instr i) (put_all put_instr is) w w1 w2 l1 l2, subst (λ is. Spells (k is) w2 ws m) (append_assoc done (i ∷ []) is) h2)
+    (i ∷ is, w2, less_then (put_instr i) (put_all put_instr is) w w1 w2 l1 l2, subst (λ is. SpellsPart (k is) w2 ws m) (append_assoc done (i ∷ []) is) h2)
 
 -- ---- locals: joining runs makes them fewer
 
@@ -570,9 +570,9 @@ less_nothing : (w : List ℕ) → Less (put_all put_run (runs [])) w w
 unfolding runs put_all
 less_nothing w = λ u. omega arith
 
-groups_spend : (n : ℕ) (done : List ValType) (k : List ValType → Spelling) (w : List ℕ) (ws : List (List ℕ)) (m : Parts) → Spells (groups n done k) w ws m → (ts : List ValType) × (length (runs ts) ≤ n) × (v : List ℕ) × Less (put_all put_run (runs ts)) w v × Spells (k (done ++ ts)) v ws m
+groups_spend : (n : ℕ) (done : List ValType) (k : List ValType → Spelling) (w : List ℕ) (ws : List (List ℕ)) (m : Parts) → SpellsPart (groups n done k) w ws m → (ts : List ValType) × (length (runs ts) ≤ n) × (v : List ℕ) × Less (put_all put_run (runs ts)) w v × SpellsPart (k (done ++ ts)) v ws m
 unfolding groups
-groups_spend zero done k w ws m h = ([], no_runs, w, less_nothing w, subst (λ ts. Spells (k ts) w ws m) (sym (append-nil done)) h)
+groups_spend zero done k w ws m h = ([], no_runs, w, less_nothing w, subst (λ ts. SpellsPart (k ts) w ws m) (sym (append-nil done)) h)
 groups_spend (suc n) done k w ws m (c, j, (i, f), h) =
     let (t, w1, l1, h1) = val_type_spends (λ t. groups n (done ++ replicate c t) k) (drop j w) ws m h in
     let (ts, few, v, l2, h2) = groups_spend n (done ++ replicate c t) k w1 ws m h1 in
@@ -584,7 +584,7 @@ groups_spend (suc n) done k w ws m (c, j, (i, f), h) =
     let d = l1 (put_all put_run (runs ts) u) in
     let e = l2 u in
     omega (arith, a, b, d, e) in
-    (replicate c t ++ ts, omega (arith, few, q), v, less, subst (λ ts. Spells (k ts) v ws m) (append_assoc done (replicate c t) ts) h2)
+    (replicate c t ++ ts, omega (arith, few, q), v, less, subst (λ ts. SpellsPart (k ts) v ws m) (append_assoc done (replicate c t) ts) h2)
 
 locals_spend : Spends locals put_locals
 unfolding locals put_locals

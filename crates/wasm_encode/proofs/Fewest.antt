@@ -4,7 +4,7 @@ use Rattle.std.specs.Prelude.{is_some}
 use Rattle.std.proofs.lemmas.List.{length-drop}
 use Rattle.wasm_core.specs.Parts.{Parts}
 use Rattle.wasm_core.specs.Format.{Name, Skip}
-use Rattle.wasm_core.specs.Spelling.{IsSize, Spells}
+use Rattle.wasm_core.specs.Spelling.{IsSize, SpellsPart}
 use Rattle.wasm_core.specs.ModuleGrammar.{SpellsModule, Spelling, byte, finish, times, func_type, func_types, u32, indices, table, memory, global, globals, exported, exports, segment, segments, body, bodies, contents, section, section_id, next_section, last_after, is_whole}
 use Rattle.wasm_core.specs.ModuleGrammar.{sections, header, file, empty}
 use Rattle.wasm_core.specs.ShortestBytes.{put_u32, put_all, put_list, put_sized, put_func_type, put_table_type, put_limits, put_global, put_export, put_segment, put_body, put_section, sizes, put_sections, module_bytes}
@@ -72,7 +72,7 @@ Grows m n part = total n ≤ total m + 1 + length (put_sized part [])
 
 -- the contents of a section: the module then, what is left of the part, and the part that is written instead
 abbrev Contents : Parts → (Parts → Spelling) → List ℕ → List (List ℕ) → Parts → Type 0
-Contents m k w ws x = (n : Parts) × (v : List ℕ) × (part : List ℕ) × (length part + length v ≤ length w) × Grows m n part × Spells (k n) v ws x
+Contents m k w ws x = (n : Parts) × (v : List ℕ) × (part : List ℕ) × (length part + length v ≤ length w) × Grows m n part × SpellsPart (k n) v ws x
 
 bodies_spend : (funcs : ℕ) → Spends (bodies funcs) (put_list put_body)
 unfolding bodies
@@ -97,7 +97,7 @@ segments_spend : Spends segments (put_list put_segment)
 unfolding segments
 segments_spend k w ws m h = list_spends segment put_segment segment_spends k w ws m h
 
-contents_spend : (s : Section) (m : Parts) (k : Parts → Spelling) (w : List ℕ) (ws : List (List ℕ)) (x : Parts) → Spells (contents s m k) w ws x → Contents m k w ws x
+contents_spend : (s : Section) (m : Parts) (k : Parts → Spelling) (w : List ℕ) (ws : List (List ℕ)) (x : Parts) → SpellsPart (contents s m k) w ws x → Contents m k w ws x
 unfolding contents
 contents_spend sec.Custom m k w ws x (s, j, i, h) = (m, [], [], omega arith, omega arith, h)
 contents_spend sec.Types m k w ws x h =
@@ -160,7 +160,7 @@ contents_spend sec.Codes m k w ws x h =
 -- ---- sections
 
 -- after a section, the module then and the bytes left
-section_spends : (s : Section) (m : Parts) (k : Parts → Spelling) (w : List ℕ) (x : Parts) → Spells (section s m k) w [] x → (n : Parts) × (v : List ℕ) × (total n + length v ≤ total m + 1 + length w) × Spells (k n) v [] x
+section_spends : (s : Section) (m : Parts) (k : Parts → Spelling) (w : List ℕ) (x : Parts) → SpellsPart (section s m k) w [] x → (n : Parts) × (v : List ℕ) × (total n + length v ≤ total m + 1 + length w) × SpellsPart (k n) v [] x
 unfolding section
 section_spends s m k w x (n, j, i, h) =
     let rest = drop n (drop j w) in
@@ -170,7 +170,7 @@ section_spends s m k w x (n, j, i, h) =
     let d = less_sized part w n j i (omega (arith, a, c)) [] in
     (p, rest, omega (arith, b, d), r)
 
-sections_spend : (fuel last : ℕ) (m : Parts) (w : List ℕ) (x : Parts) → Spells (sections fuel last m) w [] x → total x ≤ total m + length w
+sections_spend : (fuel last : ℕ) (m : Parts) (w : List ℕ) (x : Parts) → SpellsPart (sections fuel last m) w [] x → total x ≤ total m + length w
 unfolding sections next_section
 sections_spend zero last m [] x (e, q) = let l = ap total q in omega (arith, l)
 sections_spend zero last m (b ∷ w) x h = absurd h
@@ -188,7 +188,7 @@ nothing_empty : total empty ≡ 0
 unfolding put_section
 nothing_empty = refl
 
-header_spends : (k : Spelling) (w : List ℕ) (x : Parts) → Spells (header k) w [] x → (v : List ℕ) × (length v + 8 ≤ length w) × Spells k v [] x
+header_spends : (k : Spelling) (w : List ℕ) (x : Parts) → SpellsPart (header k) w [] x → (v : List ℕ) × (length v + 8 ≤ length w) × SpellsPart k v [] x
 unfolding header
 header_spends k w x h0 =
     let (w1, l1, h1) = byte_spends 0 (byte 97 (byte 115 (byte 109 (byte 1 (byte 0 (byte 0 (byte 0 k))))))) w [] x h0 in

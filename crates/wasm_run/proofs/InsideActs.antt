@@ -8,7 +8,7 @@ use Rattle.wasm_core.specs.declared.instrs.Instr.{Instr}
 use Rattle.wasm_core.specs.declared.instrs.Instr.TheVariants.{Nop, Block, Loop, If, Else, Drop, LocalGet, LocalSet, LocalTee, I32Const, I64Const, I32 as Operation}
 use Rattle.wasm_core.specs.Arithmetic.{is_unary}
 use Rattle.wasm_core.specs.Parts.{Parts}
-use Rattle.wasm_core.specs.MachineStep.{Label, Frame, Store, Conf, State, At, act, operation, on_some, going_on}
+use Rattle.wasm_core.specs.MachineStep.{BlockLabel, Frame, Store, Conf, State, At, act, operation, on_some, going_on}
 use Rattle.wasm_run.specs.Frames.{inside, operating, with_operands}
 
 no : {A B : Type 0} {x : A} → ◌≡◌ {A = Option A} None (Some x) → B
@@ -29,7 +29,7 @@ module _ (m : Parts) (g : Bool) (s : Store) (callers : List Frame) where
   set_at f h None e = no e
   set_at f h (Some v) e = some_at e
 
-  operation_at : (b : Bool) (op : I32Op) (rest : List Instr) (keeps : Bool) (locals : List ConstValue) (labels : List Label) (operands : List ConstValue) (code : List Instr) (h : Frame) → operating b op rest (record
+  operation_at : (b : Bool) (op : I32Op) (rest : List Instr) (keeps : Bool) (locals : List ConstValue) (labels : List BlockLabel) (operands : List ConstValue) (code : List Instr) (h : Frame) → operating b op rest (record
       { keeps = keeps; locals = locals; labels = labels; operands = operands; rest = code }) ≡ Some h → operation b op rest (at (record { keeps = keeps; locals = locals; labels = labels; operands = operands; rest = code })) ≡ Some (At (at h))
   operation_at true op rest keeps locals labels [] code h e = no e
   operation_at true op rest keeps locals labels (I32 x ∷ r) code h e = some_at e
@@ -40,7 +40,7 @@ module _ (m : Parts) (g : Bool) (s : Store) (callers : List Frame) where
   operation_at false op rest keeps locals labels (I32 y ∷ I32 x ∷ r) code h e = some_at e
   operation_at false op rest keeps locals labels (I32 y ∷ I64 x ∷ r) code h e = no e
 
-  acts : (i : Instr) (rest : List Instr) (keeps : Bool) (locals : List ConstValue) (labels : List Label) (operands : List ConstValue) (code : List Instr) (h : Frame) → inside i rest (record
+  acts : (i : Instr) (rest : List Instr) (keeps : Bool) (locals : List ConstValue) (labels : List BlockLabel) (operands : List ConstValue) (code : List Instr) (h : Frame) → inside i rest (record
       { keeps = keeps; locals = locals; labels = labels; operands = operands; rest = code }) ≡ Some h → act m g i rest (at (record { keeps = keeps; locals = locals; labels = labels; operands = operands; rest = code })) ≡ Some (At (at h))
   acts Nop rest keeps locals labels operands code h e = some_at e
   acts (Block t) rest keeps locals labels operands code h e = some_at e

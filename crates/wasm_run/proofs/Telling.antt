@@ -1,10 +1,9 @@
 -- Counts of what the steps of a run tell.
-use Rattle.std.proofs.Common.{◌≡◌, ℕ, zero, suc, ◌+◌, ◌*◌, ◌-◌, ◌^◌, ◌<◌, ◌≤◌, List, [], ◌∷◌, ◌++◌, length, replicate, get_or, set, Bool, true, false, refl, sym, ap, subst, ◌∙◌, arith, append_assoc}
+use Rattle.std.proofs.Common.{◌≡◌, ℕ, zero, suc, ◌+◌, ◌*◌, ◌-◌, ◌^◌, ◌<◌, List, [], ◌∷◌, ◌++◌, length, replicate, get_or, set, Bool, true, false, refl, sym, ap, subst, ◌∙◌, arith, append_assoc}
 use Rattle.std.specs.Prelude.{min, count_by, cond, slice_get, Option, Some, None, Result, Ok, Err}
-use Rattle.std.proofs.lemmas.List.{append-nil}
 use Rattle.std.proofs.lemmas.List.Sums.{sum_by-append}
 use Rattle.std.proofs.lemmas.List.Folds.{sum_by-replicate}
-use Rattle.reports.specs.Counting.{after_all, last, numbered}
+use Rattle.reports.specs.Counting.{last, numbered}
 use Rattle.reports.specs.declared.fact.Fact.{Fact}
 use Rattle.reports.specs.declared.fact.Fact.TheVariants.{StepDone, Grew}
 use Rattle.reports.proofs.FactByFact.{numbered_set}
@@ -14,15 +13,15 @@ use Rattle.wasm_core.specs.declared.ended.RunFault.TheVariants as faults
 use Rattle.wasm_core.specs.Parts.{Parts}
 use Rattle.wasm_core.specs.declared.instrs.Instr.{Instr}
 use Rattle.wasm_core.specs.MachineStep.{State, At}
-use Rattle.wasm_core.specs.MachineRun.{Shown, Says, GoesOn}
+use Rattle.wasm_core.specs.MachineRun.{MachineShown, MachineSays, GoesOn}
 use Rattle.wasm_core.specs.Runs.{Move, Moves}
-use Rattle.wasm_run.specs.Tallies.{IsTally, counted_facts}
+use Rattle.wasm_run.specs.Tallies.{IsTally}
 use Rattle.wasm_run.specs.ToldSteps.{Tells, class_of, facts_at, grow_facts, is_grow, step_facts}
 use Rattle.wasm_run.specs.Programs.{code_of}
 use Rattle.wasm_run.specs.Threads.{conf_of, state_of}
 use Rattle.wasm_run.specs.declared.thread.Thread.{Thread}
 use Rattle.wasm_run.proofs.Bodies.{drop_here}
-use Rattle.wasm_run.specs.ToldRuns.{SaysTold, Told, ToldUntil}
+use Rattle.wasm_run.specs.ToldRuns.{SaysTold, Told}
 use Rattle.wasm_run.specs.declared.tally.Tally.{Tally}
 
 counted : (w : Fact → Bool) (xs ys : List Fact) → count_by w (xs ++ ys) ≡ count_by w xs + count_by w ys
@@ -83,7 +82,7 @@ tells_moves m cap zero s t facts h = h.0
 tells_moves m cap (suc k) s t facts (mid, before, h, move, is) = (mid, tells_moves m cap k s mid before h, move)
 
 -- what is told says what `run` says
-pub says_told : (old new : Shown) (n : ℕ) (r : Result Ended RunFault) (facts : List Fact) → SaysTold old new n r facts → Says old new n r
+pub says_told : (old new : MachineShown) (n : ℕ) (r : Result Ended RunFault) (facts : List Fact) → SaysTold old new n r facts → MachineSays old new n r
 says_told old new n (Ok e) facts (sound, still, (k, few, told, over)) = (sound, still, (k, few, told.ran, over))
 says_told old new n (Err faults.StepsSpent) facts (sound, still, told, on) = (sound, still, told.ran, on)
 says_told old new n (Err faults.Failed) facts (failed, same, none) = (failed, same)
@@ -104,5 +103,5 @@ pub tells_more : (m : Parts) (cap k j : ℕ) (s mid t : State) (facts more : Lis
 tells_more m cap k j s mid t facts more next h move is = subst (λ i. Tells m cap i s t (facts ++ more)) (sym next) (mid, facts, h, move, ap (λ x. facts ++ x) (sym is))
 
 -- so many steps were made, and these are their facts
-pub told_is : (old new : Shown) (k : ℕ) (facts : List Fact) → Tells old.program old.cap k old.state new.state facts → new.made ≡ min (old.made + k) (2 ^ 64 - 1) → new.program ≡ old.program → new.cap ≡ old.cap → Told old new k facts
+pub told_is : (old new : MachineShown) (k : ℕ) (facts : List Fact) → Tells old.program old.cap k old.state new.state facts → new.made ≡ min (old.made + k) (2 ^ 64 - 1) → new.program ≡ old.program → new.cap ≡ old.cap → Told old new k facts
 told_is old new k facts h counted program cap = record { ran = record { moves = tells_moves old.program old.cap k old.state new.state facts h; counted = counted; same_program = program; same_cap = cap }; tells = h }

@@ -14,7 +14,7 @@ use Rattle.wasm_core.specs.Instance.{Func, func_of, zero_of}
 use Rattle.wasm_run.specs.View.{frame_at}
 use Rattle.wasm_run.proofs.Stack.{reverse-snoc}
 use Rattle.wasm_run.proofs.Starts.{code_is}
-use Rattle.wasm_core.specs.MachineStep.{Label, Frame, Store, Conf, State, At, branch, jump, taking, act, step, next, call, frame_of, same_type, same_types}
+use Rattle.wasm_core.specs.MachineStep.{BlockLabel, Frame, Store, Conf, State, At, branch, jump, taking, act, step, next, call, frame_of, same_type, same_types}
 use Rattle.wasm_run.specs.Shape.{Shape, Open, branched, leave_to, leave_with, keeping}
 use Rattle.wasm_run.specs.View.{label_of}
 use Rattle.wasm_run.specs.Programs.{code_of}
@@ -43,13 +43,13 @@ module _ (m : Parts) (store : Store) (callers : List Frame) where
   pub branch_follows : (s s' : Shape) (l : ℕ) → branched l s ≡ Some s' → branch (conf_at s) l s.vals ≡ Some (At (conf_at s'))
   branch_follows s s' l e = ap (jump (conf_at s) l s.vals) (slice_get-map f s.labels l) ∙ go (slice_get s.labels l) e
     where
-      f : Open → Label
+      f : Open → BlockLabel
       f = label_of (code_of m s.func)
 
       moved : (k : Open) (top : List ConstValue) → record s { at = k.target; vals = top ++ k.below; labels = drop (l + 1) s.labels } ≡ s' → ◌≡◌ {A = Option State} (Some
           (At (record { store = store; current = record (frame_in m s) { labels = drop (l + 1) (map f s.labels); operands = top ++ k.below; rest = drop k.target (code_of m s.func) }; callers = callers }))) (Some (At (conf_at s')))
       moved k top e' =
-          ap (λ (ls : List Label). Some (At (record { store = store; current = record (frame_in m s) { labels = ls; operands = top ++ k.below; rest = drop k.target (code_of m s.func) }; callers = callers }))) (drop-map f (l + 1) s.labels)
+          ap (λ (ls : List BlockLabel). Some (At (record { store = store; current = record (frame_in m s) { labels = ls; operands = top ++ k.below; rest = drop k.target (code_of m s.func) }; callers = callers }))) (drop-map f (l + 1) s.labels)
           ∙ ap (λ (x : Shape). Some (At (conf_at x))) e'
 
       taken : (k : Open) (b : Bool) (vals : List ConstValue) → keeping b vals (leave_with l s k) ≡ Some s' → taking b vals (λ top. Some

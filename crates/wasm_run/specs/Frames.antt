@@ -6,7 +6,7 @@ use Rattle.wasm_core.specs.declared.instrs.I32Op.{I32Op}
 use Rattle.wasm_core.specs.declared.instrs.Instr.{Instr}
 use Rattle.wasm_core.specs.declared.instrs.Instr.TheVariants.{Nop, Block, Loop, If, Else, Drop, LocalGet, LocalSet, LocalTee, I32Const, I64Const, I32 as Operation}
 use Rattle.wasm_core.specs.Arithmetic.{is_unary, unary, binary}
-use Rattle.wasm_core.specs.MachineStep.{Label, Frame, on_some, on_one, on_i32, on_two, has_value, after_end, arm}
+use Rattle.wasm_core.specs.MachineStep.{BlockLabel, Frame, on_some, on_one, on_i32, on_two, has_value, after_end, arm}
 
 abbrev pub with_operands : Frame → List ConstValue → List Instr → Option Frame
 with_operands f operands rest = Some (record f { operands = operands; rest = rest })
@@ -15,7 +15,7 @@ abbrev pub entered : Bool → List Instr → List ConstValue → List Instr → 
 entered keeps goes_on below rest f =
     Some (record f { labels = record { keeps = keeps; goes_on = goes_on; below = below } ∷ f.labels; operands = []; rest = rest })
 
-abbrev pub left : List Label → Frame → (Label → List Instr) → Option Frame
+abbrev pub left : List BlockLabel → Frame → (BlockLabel → List Instr) → Option Frame
 left [] f rest = None
 left (k ∷ ks) f rest = Some (record f { labels = ks; operands = f.operands ++ k.below; rest = rest k })
 

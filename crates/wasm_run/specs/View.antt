@@ -3,10 +3,10 @@ use Rattle.std.specs.Prelude.{List, [], ◌∷◌, map, drop}
 use Rattle.wasm_core.specs.declared.types.ConstValue.{ConstValue}
 use Rattle.wasm_core.specs.declared.types.ConstValue.TheVariants.{I32, I64}
 use Rattle.wasm_core.specs.declared.instrs.Instr.{Instr}
-use Rattle.wasm_core.specs.MachineStep.{Label, Frame, Store, Conf}
+use Rattle.wasm_core.specs.MachineStep.{BlockLabel, Frame, Store, Conf}
 use Rattle.wasm_run.specs.Shape.{Shape, Open}
 
-abbrev pub label_of : List Instr → Open → Label
+abbrev pub label_of : List Instr → Open → BlockLabel
 label_of code k = record { keeps = k.keeps; goes_on = drop k.target code; below = k.below }
 
 abbrev pub frame_at : List Instr → Shape → Frame

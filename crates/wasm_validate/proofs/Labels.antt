@@ -4,13 +4,13 @@ use Rattle.std.specs.Prelude.{slice_get}
 use Rattle.std.specs.Option.{option_to_list}
 use Rattle.std.proofs.lemmas.List.{length-reverse, get_or-reverse}
 use Rattle.std.proofs.lemmas.Option.{slice_get-get_or}
-use Rattle.wasm_core.specs.ModuleTyping.{Types}
+use Rattle.wasm_core.specs.ModuleTyping.{OperandTypes}
 use Rattle.wasm_core.specs.Pass.{labels_of}
 use Rattle.wasm_core.proofs.Small.{inj}
 use Rattle.wasm_validate.specs.declared.checker.Control.{Control}
 use Rattle.wasm_validate.specs.Checkers.{ctl_of}
 
-module _ (own : Types) where
+module _ (own : OperandTypes) where
   of_block : (cs : List Control) (i : ℕ) (c : Control) → slice_get cs i ≡ Some c → slice_get (labels_of own (map ctl_of cs)) i ≡ Some (option_to_list c.label)
   of_block [] i c e = cc
   of_block (d ∷ cs) zero c e = ap (λ (x : Control). Some (option_to_list x.label)) (inj e)

@@ -5,7 +5,7 @@ use Rattle.std.proofs.lemmas.List.{append-nil, take-append-drop, drop_all, drop_
 use Rattle.std.proofs.Math.Seq.{take-append_seam}
 use Rattle.wasm_core.specs.declared.instrs.Instr.{Instr}
 use Rattle.wasm_core.specs.Parts.{Parts}
-use Rattle.wasm_core.specs.ModuleTyping.{Types, TypedBody}
+use Rattle.wasm_core.specs.ModuleTyping.{OperandTypes, TypedBody}
 use Rattle.wasm_core.specs.ModuleCondition.{IsClosed}
 use Rattle.wasm_core.specs.FirstFault.{CanGoOn, IsFaultAt}
 use Rattle.wasm_core.specs.Pass.{Place, Check, More, Finished, check, outset, one, run}
@@ -15,7 +15,7 @@ use Rattle.wasm_core.proofs.FaultUnique.{front_goes_on}
 use Rattle.wasm_core.proofs.Judged.{bodies_are_judged}
 use Rattle.wasm_validate.specs.BodyPass.{stops, stops_after}
 
-module _ (m : Parts) (ls rs : Types) where
+module _ (m : Parts) (ls rs : OperandTypes) where
   abbrev start : Option Check
   start = Some (More outset)
 

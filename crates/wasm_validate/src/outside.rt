@@ -1,7 +1,7 @@
 //! Whether the parts of a module outside its bodies are sound.
 
 ghost use Rattle.std.specs.Prelude.{◌≡◌, ◌↔◌, IfOk, IsTrue};
-ghost use Rattle.wasm_core.specs.ModuleTyping.{AreLimits, AreOrdered, EachIsThere, Elements, Functions, Globals, IsSegment, IsSound, IsThere, Memories, Tables};
+ghost use Rattle.wasm_core.specs.ModuleTyping.{AreLimits, LimitsAreOrdered, EachIsThere, Elements, Functions, Globals, SegmentIsValid, IsSound, IsThere, Memories, Tables};
 ghost use Rattle.wasm_core.specs.ModuleTyping.{type_of as type_of_value};
 ghost use Rattle.wasm_validate.specs.Verdicts.{SaysOutside};
 
@@ -25,7 +25,7 @@ fn types_are_there(m: &Module) -> bool
 
 // Whether a table's greatest size isn't below its least.
 fn are_ordered(of: Limits) -> bool
-    ensures is { IsTrue result ↔ AreOrdered of }
+    ensures is { IsTrue result ↔ LimitsAreOrdered of }
 {
     match of.max {
         Some(most) => of.min <= most,
@@ -116,7 +116,7 @@ fn exports_are_there(m: &Module) -> bool
 
 // Whether there is a table for an element segment, and its functions are there.
 fn segment_is_sound(m: &Module, of: &Segment) -> bool
-    ensures is { IsTrue result ↔ IsSegment m.now of.now }
+    ensures is { IsTrue result ↔ SegmentIsValid m.now of.now }
 {
     if m.table().is_none() {
         return false;

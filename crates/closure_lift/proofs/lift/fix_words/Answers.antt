@@ -1,7 +1,7 @@
 use Rattle.std.proofs.Common.{arith, ◌≡◌, ◌-◌, ◌<◌, suc, length, ap, sym, ◌∙◌, subst, IfOk, IfErr}
 use Rattle.anf_convert.specs.Anf.{def_count}
 use Rattle.anf_convert.specs.Captured.{fix_captured}
-use Rattle.closure_lift.specs.Lifting.{most_words, Refuses}
+use Rattle.closure_lift.specs.Lifting.{most_words, LiftRefuses}
 use Rattle.closure_lift.proofs.Walking.{words_are, no_words, few_words}
 use Rattle.closure_lift.proofs.lift.fix_words.Goals as goal
 
@@ -33,4 +33,4 @@ pub returns-clause-refused : goal.returns-clause-refused
 returns-clause-refused c =
     let ds = c.args.defs.now in
     let k : def_count ds ≡ suc (def_count ds - 1) = omega arith in
-    subst (λ z. IfErr c.words_at.result (Refuses (length z < most_words))) (words_are c.args.notes.now c.args.variables.now.0 ds c.args.at c.requires.notes (def_count ds - 1) k) c.words_at.ensures.refused
+    subst (λ z. IfErr c.words_at.result (LiftRefuses (length z < most_words))) (words_are c.args.notes.now c.args.variables.now.0 ds c.args.at c.requires.notes (def_count ds - 1) k) c.words_at.ensures.refused

@@ -1,7 +1,7 @@
 use Rattle.std.proofs.Common.{Some, sym, ap, subst, ◌∙◌}
 use Rattle.std.specs.Prelude.{slice_get}
 use Rattle.driver.specs.declared.refusal.Where.TheVariants.{Declaration as Told}
-use Rattle.driver.specs.Judged.{IsTold}
+use Rattle.driver.specs.Judged.{PlaceIsTold}
 use Rattle.driver.proofs.Checking.{declared_name_there, place_read, no_name}
 use Rattle.driver.proofs.check.told.Goals as goal
 
@@ -23,4 +23,4 @@ returns-in_ok-bytes-in-Some-clause-told c =
     let bytes = c.in_ok-bytes-in-Some.bytes in
     let same = c.in_ok-bytes-in-Some.ensures.items ∙ c.as_bytes.ensures.value in
     let named = sym (ap (λ k. slice_get e.names k.0) c.declared_name-name.ensures.is) ∙ sym c.in-Some.ensures.bytes ∙ ap Some (sym same) in
-    subst (λ p. IsTold e p (Told bytes)) (sym c.in-Declaration.is) (d, at, named)
+    subst (λ p. PlaceIsTold e p (Told bytes)) (sym c.in-Declaration.is) (d, at, named)

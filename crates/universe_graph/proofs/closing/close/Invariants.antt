@@ -1,5 +1,5 @@
 use Rattle.std.proofs.Common.{◌≡◌, ℕ, ◌+◌, ◌<◌, ◌≤◌, length}
-use Rattle.universe_graph.specs.Spans.{span, IsSquare, IsWithin}
+use Rattle.universe_graph.specs.Spans.{span, IsSquare, SpansAreWithin}
 use Rattle.universe_graph.specs.Closure.{Follows, IsClosedAt}
 use Rattle.universe_graph.proofs.closing.close.Given as goal
 
@@ -13,5 +13,5 @@ invariant-loop-level l = record {
   more : (i j : ℕ) → span l.initial.rows.items i j ≤ span l.rows.items i j;
   follows : (v : ℕ → ℕ) → Follows v (span l.initial.rows.items) → Follows v (span l.rows.items);
   closed : (m : ℕ) → m < l.level → IsClosedAt l.levels (span l.rows.items) m;
-  within : IsWithin l.limit l.rows.items;
+  within : SpansAreWithin l.limit l.rows.items;
 }

@@ -1,5 +1,5 @@
 use Rattle.std.proofs.Common.{◌≡◌, ℕ, ◌<◌, ◌≤◌, length}
-use Rattle.universe_graph.specs.Spans.{span, IsSquare, IsWithin}
+use Rattle.universe_graph.specs.Spans.{span, IsSquare, SpansAreWithin}
 use Rattle.universe_graph.specs.Closure.{Follows}
 use Rattle.universe_graph.proofs.steps.add_own_steps.Given as goal
 
@@ -10,5 +10,5 @@ invariant-loop-i l = record {
   more : (i j : ℕ) → span l.initial.rows.items i j ≤ span l.rows.items i j;
   steps : (k : ℕ) → k < l.i → 1 ≤ span l.rows.items k k;
   follows : (v : ℕ → ℕ) → Follows v (span l.initial.rows.items) → Follows v (span l.rows.items);
-  small : IsWithin 2 l.initial.rows.items → IsWithin 2 l.rows.items;
+  small : SpansAreWithin 2 l.initial.rows.items → SpansAreWithin 2 l.rows.items;
 }

@@ -1,6 +1,6 @@
 use Rattle.std.proofs.Common.{◌≡◌, ◌∙◌, ◌+◌, ◌++◌, ◌∷◌, ◌≤◌, ◌<◌, sym, ap, subst, arith}
 use Rattle.reports.specs.declared.fact.Fact.TheVariants.{StepDone}
-use Rattle.wasm_core.specs.MachineRun.{Shown}
+use Rattle.wasm_core.specs.MachineRun.{MachineShown}
 use Rattle.wasm_core.specs.Runs.{Move}
 use Rattle.wasm_run.specs.ToldRuns.{Told}
 use Rattle.wasm_run.specs.ToldSteps.{grow_facts, step_facts}
@@ -12,7 +12,7 @@ returns-in-Some-clause-says c =
     let i = c.loop-made.invariant in
     let (facts, tells, tallied) = i.told in
     let few : c.loop-made._made ≤ c.args.steps = grind arith in
-    let sound = ap (λ (s : Shown). s.failed) (sym c.self.view_is) ∙ c.if-self.false in
+    let sound = ap (λ (s : MachineShown). s.failed) (sym c.self.view_is) ∙ c.if-self.false in
     (facts, (sound, i.sound, (c.loop-made._made, few, told_is c.args.self.now c.loop-made.self c.loop-made._made facts tells i.counted i.program i.cap, c.in-Some.ensures.is)), tallied)
 
 pub returns-in-Some-end-clause-says : goal.returns-in-Some-end-clause-says
@@ -20,7 +20,7 @@ returns-in-Some-end-clause-says c =
     let i = c.loop-made.invariant in
     let (facts, tells, tallied) = i.told in
     let few : c.loop-made._made ≤ c.args.steps = grind arith in
-    let sound = ap (λ (s : Shown). s.failed) (sym c.self.view_is) ∙ c.if-self.false in
+    let sound = ap (λ (s : MachineShown). s.failed) (sym c.self.view_is) ∙ c.if-self.false in
     (facts, (sound, i.sound, (c.loop-made._made, few, told_is c.args.self.now c.loop-made.self c.loop-made._made facts tells i.counted i.program i.cap, c.in-Some-end.ensures.is)), tallied)
 
 pub returns-in-None-clause-says : goal.returns-in-None-clause-says
@@ -28,7 +28,7 @@ returns-in-None-clause-says c =
     let i = c.loop-made.invariant in
     let (facts, tells, tallied) = i.told in
     let all : c.loop-made._made ≡ c.args.steps = grind arith in
-    let sound = ap (λ (s : Shown). s.failed) (sym c.self.view_is) ∙ c.if-self.false in
+    let sound = ap (λ (s : MachineShown). s.failed) (sym c.self.view_is) ∙ c.if-self.false in
     (facts, (sound, i.sound, subst (λ k. Told c.args.self.now c.loop-made.self k facts) all (told_is c.args.self.now c.loop-made.self c.loop-made._made facts tells i.counted i.program i.cap), c.in-None.ensures.is), tallied)
 
 pub returns-in-Err-clause-says : goal.returns-in-Err-clause-says
@@ -36,7 +36,7 @@ returns-in-Err-clause-says c =
     let i = c.loop-made.invariant in
     let (facts, tells, tallied) = i.told in
     let few : c.loop-made._made < c.args.steps = grind arith in
-    let sound = ap (λ (s : Shown). s.failed) (sym c.self.view_is) ∙ c.if-self.false in
+    let sound = ap (λ (s : MachineShown). s.failed) (sym c.self.view_is) ∙ c.if-self.false in
     (facts, (sound, c.in-Err.ensures.err, record { steps = c.loop-made._made; few = few; last = c.loop-made.self.state; tells = tells; counted = c.in-Err.ensures.unmade ∙ i.counted }), tallied)
 
 pub loop-made-preserved : goal.loop-made-preserved
