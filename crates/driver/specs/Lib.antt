@@ -12,6 +12,8 @@ pub mod ErasureParts
 pub mod ExecEnds
 pub mod Executed
 pub mod MadeModule
+pub mod CallStages
+pub mod Exported
 pub mod RunFile
 pub mod Explained
 pub mod Serve
@@ -20,6 +22,7 @@ pub mod BesideCheck
 pub mod ByHistory
 pub mod PlainAnswer
 pub mod MainModule
+pub mod ExportSays
 pub mod Promises
 pub mod Served
 pub mod Shallow

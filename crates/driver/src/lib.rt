@@ -35,12 +35,14 @@
 #![tactic(auto)]
 
 mod bench;
+mod callable;
 mod check;
 mod erasing;
 mod err_line;
 mod eval;
 mod exec;
 mod explain;
+mod export;
 mod facts;
 mod main_module;
 mod object;

@@ -27,6 +27,7 @@ use crate::err_line::write_line;
 use crate::eval::eval;
 use crate::exec::exec;
 use crate::explain::explain;
+use crate::export::export;
 use crate::object::object;
 use crate::refusal::{Refusal, status};
 use crate::reporting::write_lines;
@@ -66,9 +67,8 @@ fn input_of<S: Source>(alloc: Global, request: Request, src: &mut S) -> Result<V
 {
     match request.job {
         Job::Bench => made_text(alloc, request.size),
-        Job::Exec | Job::Check | Job::Eval | Job::Run | Job::Compile | Job::Explain => {
-            read_input(alloc, src)
-        }
+        Job::Exec | Job::Check | Job::Eval | Job::Run => read_input(alloc, src),
+        Job::Compile | Job::Explain | Job::Export => read_input(alloc, src),
     }
 }
 
@@ -91,6 +91,7 @@ fn answer_on<R: Report>(
         Job::Compile => object(alloc, request, bytes, reports),
         Job::Bench => bench(alloc, request, bytes, reports),
         Job::Explain => explain(alloc, request, bytes, reports),
+        Job::Export => export(alloc, request, bytes, reports),
     }
 }
 
