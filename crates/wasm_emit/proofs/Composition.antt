@@ -1,7 +1,7 @@
 -- The laws of lifting and of emission together.
 use Rattle.std.proofs.Common.{◌≡◌, ℕ, ◌+◌, ◌-◌, ◌*◌, ◌≤◌, subst, sym, arith}
 use Rattle.wasm_core.specs.Answer.{AnswersWithin}
-use Rattle.wasm_core.specs.WordData.{Data as Nodes}
+use Rattle.wasm_core.specs.WordData.{DataNodes as Nodes}
 use Rattle.wasm_core.specs.Parts.{Parts}
 use Rattle.closure_lift.specs.Lifted.{Program, VNil}
 use Rattle.anf_convert.specs.AnfEvaluation.{WNil}
@@ -15,7 +15,7 @@ use Rattle.wasm_emit.specs.AnfLaws.{AnfEmits, AnfValid}
 use Rattle.wasm_emit.proofs.Answering.{emit_answers}
 use Rattle.wasm_emit.proofs.Valid.{emit_valid}
 
-steps : (b c' z x : ℕ) → 64 * (b + c' + 1) * x ≤ 64 * (b + (c' + z) + 1) * x
+pub steps : (b c' z x : ℕ) → 64 * (b + c' + 1) * x ≤ 64 * (b + (c' + z) + 1) * x
 steps b c' z x = omega arith
 
 -- a greater bound
