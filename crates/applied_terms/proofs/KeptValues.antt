@@ -3,6 +3,7 @@ use Rattle.std.proofs.Common.{ℕ, List, [], refl, sym}
 use Rattle.pc_terms.specs.Syntax.{Term}
 use Rattle.calculus_rules.specs.Environment.{Env}
 use Rattle.calculus_rules.specs.FirstOrder.{Shape}
+use Rattle.typing_laws.proofs.DataAlong.{data_along}
 use Rattle.typing_laws.proofs.Traversal.{types_at}
 use Rattle.type_laws.proofs.Lawful.{whole_evaluations_are_lawful}
 use Rattle.lambda_box.proofs.Families.{unique_family}
@@ -32,8 +33,8 @@ applied_values_are_kept E h main T typed P erased Ss R signature ds t a v n e =
     let args = arguments_erased E h P H a.sources z.arguments in
     let k = follows ready H unique e lawful.main.nodes whole (erases_from (sym a.is) (apply_erases erased.main args.erased)) (pared_apply args.pared (pared_same P.main))
     (named_apply P args.after P.main form.main.named args.named) in
-    let reading = lawful.main.reading in
-    let before = reads_erased ready H z.first.members reading lawful.main.solid k.erased k.settles in (
+    let (reading, solid) = data_along ready.one_each lawful.first_order z.first lawful.main.reading lawful.main.solid in
+    let before = reads_erased ready H z.first.members reading solid k.erased k.settles in (
       lawful.main.answer,
       reading,
       record { terms = args.after; are = args.are; value = k.result; nodes = k.nodes; matches = k.matches; few = k.fewer; evaluates = k.runs; reads = pared_reads unique before k.pared },

@@ -93,13 +93,13 @@ built_typed E h k m c C xs at fit fields l =
 module _ (E : Env) (h : IsAccepted E) (S : List Shape) (M : Members E S) where
   mutual
     pub source_typed : {i : ℕ} {d : Data} {t : Term} → IsSourceOf S i d t → (k : Shape) → slice_get S i ≡ Some k → HasSort E [] (shape_type k) → Types bare E [] t (shape_type k)
-    source_typed {i = i} (source_of {c = c} {h = k} {js = js} {xs = xs} at ctor rs e) k' at' sorted =
+    source_typed {i = i} (source_of {c = c} {t = t} {h = k} {js = js} {xs = xs} at ctor rs e) k' at' sorted =
         let same : k' ≡ k = one_item (sym at' ∙ at) in
         let m = M i k at in
         let C = constructor_of m.constructors c js ctor in
         let fit = parameters_fit E h k.family m.declared k.parameters m.kept m.parameters (subst (λ k. HasSort E [] (shape_type k)) same sorted) in
         let args = fields_typed (puts_all (puts_none []) fit) (argument_sorts E h k.family m.declared c C.declared m.kept C.at) (lowers_none (put_all k.parameters Rel)) C.arguments rs in
-        subst (λ k. Types bare E [] _ (shape_type k)) (sym same) (types_at (sym e) refl (built_typed E h k m c C.declared xs C.at fit args (fields_count C rs)))
+        subst (λ k. Types bare E [] t (shape_type k)) (sym same) (types_at (sym e) refl (built_typed E h k m c C.declared xs C.at fit args (fields_count C rs)))
 
     fields_typed : {n : ℕ} {s r q : ℕ → Term} {c : Context} {As : List Term} {ss : List Sort} {js : List ℕ} {ds : Data} {xs : List Term} → PutsEntries E s c [] → EntrySorts bare E c As ss → Lowers n r q s →
         ArgumentsAt E S n (entries_at q As) js → AreSourcesOf S js ds xs → TypesAll bare E [] s xs As

@@ -1,0 +1,5 @@
+mod Narrowing
+mod SpineAnswers
+mod StoredTrees
+mod CalledPrograms
+mod Composed
