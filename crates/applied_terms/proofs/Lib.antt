@@ -1,8 +1,8 @@
-mod SourceTerms
-mod TypedTerms
+pub mod SourceTerms
+pub mod TypedTerms
 mod Built
 mod Pared
 mod ParedSpines
 mod Following
 mod ErasedArguments
-mod KeptValues
+pub mod KeptValues
