@@ -1,7 +1,6 @@
 -- The source terms of data erase to constructors; with box for their parameters these are terms of the same data after erasure.
-use Rattle.std.proofs.Common.{◌≡◌, ◌≢◌, ℕ, zero, suc, ◌+◌, ◌≤◌, List, [], ◌∷◌, ◌++◌, length, Some, refl, sym, ap, ◌∙◌, subst, arith, slice_get}
-use Rattle.pc_terms.specs.declared.leaf.FamilyId.{FamilyId}
-use Rattle.pc_terms.specs.Syntax.{Term, Rel, Construct, put_all, apply}
+use Rattle.std.proofs.Common.{◌≡◌, ℕ, zero, suc, List, [], ◌∷◌, ◌++◌, length, refl, sym, ◌∙◌, subst, arith}
+use Rattle.pc_terms.specs.Syntax.{Term}
 use Rattle.pc_terms.specs.BoxSyntax.{BoxTerm, BConstruct}
 use Rattle.calculus_rules.specs.Environment.{Env}
 use Rattle.calculus_rules.specs.Context.{Context}
@@ -10,7 +9,6 @@ use Rattle.calculus_rules.specs.FirstOrder.{Shape, Data}
 use Rattle.calculus_rules.specs.Typing.{bare, Types, TypesAll, no_terms, term}
 use Rattle.calculus_rules.specs.Accepted.{IsAccepted}
 use Rattle.typing_laws.proofs.DataAlong.{Members}
-use Rattle.typing_laws.proofs.Traversal.{types_at}
 use Rattle.type_laws.specs.Contexts.{IsContext}
 use Rattle.type_laws.proofs.MatchesKeep.{built_types}
 use Rattle.lambda_box.specs.BoxProgram.{BoxProgram, NamesOnly, box_apply, boxes}
@@ -23,7 +21,7 @@ use Rattle.erase_laws.proofs.ErasedRedexes.{counts_at, not_prop, erases_from}
 use Rattle.erase_laws.proofs.ErasedSpines.{all_lengths, apply_erases}
 use Rattle.erase_laws.proofs.Serves.{Serves}
 use Rattle.erase_laws.proofs.Total.{erases}
-use Rattle.first_order.specs.Applied.{IsSourceOf, source_of, AreSourcesOf, no_field_source, field_source, AreArguments, AreArguments.no_argument, AreArguments.an_argument}
+use Rattle.first_order.specs.Applied.{IsSourceOf, source_of, AreSourcesOf, no_field_source, field_source, AreArguments}
 use Rattle.applied_terms.proofs.Built.{built_head}
 use Rattle.applied_terms.proofs.Pared.{Pared, pared_construct, ParedList, pared_none, pared_one, pared_apply, pared_parameters, pared_count}
 use Rattle.applied_terms.proofs.ParedSpines.{apply_append}

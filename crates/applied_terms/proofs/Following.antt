@@ -7,15 +7,15 @@ use Rattle.universe_levels.specs.declared.sort.Sort.{Sort}
 use Rattle.universe_levels.specs.declared.sort.Sort.TheVariants.{Prop, Of}
 use Rattle.pc_terms.specs.declared.leaf.FamilyId.{FamilyId}
 use Rattle.pc_terms.specs.Syntax.{Term, Terms, Rel, Lambda, App, Construct, put, put_all, substitute, terms_of, term_at}
-use Rattle.pc_terms.specs.BoxSyntax.{BoxTerm, BoxTerms, Box, BLambda, BApp, BConstruct, BCase}
+use Rattle.pc_terms.specs.BoxSyntax.{BoxTerm, BoxTerms, Box, BApp, BConstruct, BCase}
 use Rattle.calculus_rules.specs.declared.declaration.Constructor.{Constructor}
-use Rattle.calculus_rules.specs.declared.entry.Entry.TheVariants.{Assumed, Defined}
+use Rattle.calculus_rules.specs.declared.entry.Entry.TheVariants.{Defined}
 use Rattle.calculus_rules.specs.Environment.{Env, FamilyDecl, KeepsFamily}
 use Rattle.calculus_rules.specs.Context as context
 use Rattle.calculus_rules.specs.Conversion.{Equal}
 use Rattle.calculus_rules.specs.Elimination.{AllProp, IsSingle, MayErase}
 use Rattle.calculus_rules.specs.Erasable.{Erasable}
-use Rattle.calculus_rules.specs.Evaluation.{IsValue, sort_is, prod_is, lambda_is, ind_is, construct_is, fix_is, TakesMore, Unfolds, Evaluates, value, constant, let_in, beta, extend, unfold_fix, enter}
+use Rattle.calculus_rules.specs.Evaluation.{IsValue, lambda_is, construct_is, fix_is, TakesMore, Unfolds, Evaluates, value, constant, let_in, beta, extend, unfold_fix, enter}
 use Rattle.calculus_rules.specs.Instances.{branch_entries}
 use Rattle.calculus_rules.specs.Lawful.{ArgumentsFit, StaysBuilt, IsLawful}
 use Rattle.calculus_rules.specs.Step.{IsConstructor, is_constructor}
@@ -31,7 +31,7 @@ use Rattle.typing_laws.proofs.RenamingAndPutting.{PutsEntries}
 use Rattle.type_laws.proofs.RootsKeep.{fits_assumed}
 use Rattle.lambda_box.specs.BoxProgram.{BoxProgram, NamesOnly, NamesKept, boxes, box_apply}
 use Rattle.lambda_box.specs.BoxEvaluation.{box_is, IsBoxValue, IsBoxConstructor, is_box_constructor, BoxTakesMore, BoxUnfolds, BoxEvaluates, box_app, enter_only}
-use Rattle.lambda_box.proofs.Naming.{EachNamed, named_put, named_put_list, named_at, named_unfolds, named_boxes, of_named_append, of_named_apply}
+use Rattle.lambda_box.proofs.Naming.{named_put, named_put_list, named_at, named_unfolds, named_boxes, of_named_append, of_named_apply}
 use Rattle.erase_laws.specs.Erases.{Erases, box, rel, lambda, app, const, construct, case, fix, ErasesBranches}
 use Rattle.erase_laws.specs.ErasedProgram.{is_prop}
 use Rattle.erase_laws.proofs.ErasedRedexes.{Ready, extended, unfolds_erased, erases_from, of_construct, counts_at, not_prop, branch_at, only_branch}
@@ -42,7 +42,7 @@ use Rattle.erase_laws.proofs.Following.{value_has}
 use Rattle.erase_laws.proofs.Serves.{Serves}
 use Rattle.erase_laws.proofs.Total.{erases}
 use Rattle.applied_terms.proofs.Built.{Built, WantsParameter, built_value, built_not_box, built_not_lambda, built_not_unfolds}
-use Rattle.applied_terms.proofs.Pared.{Pared, pared_rel, pared_box, pared_lambda, pared_let, pared_app, pared_parameter, pared_const, pared_construct, pared_case, pared_fix, ParedTerms, pared_done, pared_next}
+use Rattle.applied_terms.proofs.Pared.{Pared, pared_box, pared_lambda, pared_let, pared_app, pared_parameter, pared_const, pared_construct, pared_case, pared_fix, ParedTerms, pared_done, pared_next}
 use Rattle.applied_terms.proofs.Pared.{pared_same, pared_put_one, pared_put_list, pared_count, pared_boxes, pared_at, pared_is_box, built_pared, built_before}
 use Rattle.applied_terms.proofs.ParedSpines.{OneFamily, pared_constructor, pared_takes_more, pared_unfolds}
 

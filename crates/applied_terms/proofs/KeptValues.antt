@@ -1,8 +1,5 @@
 -- Where main, applied to the source terms of data, evaluates, the erased main does so on the same data.
-use Rattle.std.proofs.Common.{ℕ, List, [], refl, sym}
-use Rattle.pc_terms.specs.Syntax.{Term}
-use Rattle.calculus_rules.specs.Environment.{Env}
-use Rattle.calculus_rules.specs.FirstOrder.{Shape}
+use Rattle.std.proofs.Common.{refl, sym}
 use Rattle.typing_laws.proofs.DataAlong.{data_along}
 use Rattle.typing_laws.proofs.Traversal.{types_at}
 use Rattle.type_laws.proofs.Lawful.{whole_evaluations_are_lawful}

@@ -1,5 +1,5 @@
 -- Terms in which box stands for parameters of constructors: a relation that renaming and substitution keep.
-use Rattle.std.proofs.Common.{◌≡◌, ℕ, zero, suc, ◌+◌, ◌<◌, ◌≤◌, List, [], ◌∷◌, length, Some, refl, ap, subst, arith}
+use Rattle.std.proofs.Common.{◌≡◌, ℕ, zero, suc, ◌+◌, ◌≤◌, List, [], ◌∷◌, length, Some, refl, ap, subst, arith}
 use Rattle.trees.specs.Tree.{Rel, Done, Next, term_at}
 use Rattle.trees.specs.Parallel.{ups, rename, rename_terms, over, overs, first, put, put_all, substitute, substitute_terms}
 use Rattle.pc_terms.specs.declared.leaf.Name.{Name}

@@ -1,12 +1,11 @@
 -- Values in which box stands for parameters of constructors: their spines, how they are extended and unfolded, and their data.
-use Rattle.std.proofs.Common.{◌≡◌, ℕ, zero, suc, ◌+◌, ◌<◌, ◌≤◌, List, [], ◌∷◌, ◌++◌, length, Some, refl, sym, ap, ◌∙◌, subst, arith}
-use Rattle.trees.specs.Tree.{Rel}
+use Rattle.std.proofs.Common.{◌≡◌, ℕ, suc, ◌+◌, ◌<◌, ◌≤◌, List, [], ◌∷◌, ◌++◌, length, refl, sym, ap, ◌∙◌, subst, arith}
 use Rattle.pc_terms.specs.declared.leaf.FamilyId.{FamilyId}
 use Rattle.pc_terms.specs.BoxSyntax.{BoxTerm, BoxTerms, Box, BApp, BConstruct, BFix}
-use Rattle.lambda_box.specs.BoxProgram.{BoxFamily, BoxProgram, KeepsBoxFamily, box_apply, box_fixpoints}
+use Rattle.lambda_box.specs.BoxProgram.{BoxFamily, BoxProgram, KeepsBoxFamily, box_apply}
 use Rattle.lambda_box.specs.BoxEvaluation.{IsBoxConstructor, is_box_constructor, BoxTakesMore, constructor, fixpoint, box_unfolded, BoxUnfolds, unfolds}
 use Rattle.lambda_box.specs.BoxData.{Data, BoxReads, box_reads, BoxReadsAll, no_box_field, box_field}
-use Rattle.applied_terms.proofs.Built.{Built, built_of, built_list, WantsParameter, fix_wants_none, full_wants_none}
+use Rattle.applied_terms.proofs.Built.{built_of, built_list, WantsParameter, fix_wants_none, full_wants_none}
 use Rattle.applied_terms.proofs.Pared.{Pared, pared_app, pared_parameter, pared_construct, pared_fix, ParedTerms, ParedList, pared_none, pared_one, pared_put_list, pared_apply, pared_count, pared_fixpoints, pared_at, built_pared}
 
 -- an application to several arguments none of which is a parameter

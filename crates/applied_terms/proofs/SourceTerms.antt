@@ -5,11 +5,11 @@ use Rattle.calculus_rules.specs.declared.declaration.Constructor.{Constructor}
 use Rattle.calculus_rules.specs.Environment.{Env}
 use Rattle.calculus_rules.specs.Instances.{branch_entries}
 use Rattle.calculus_rules.specs.Step.{is_constructor}
-use Rattle.calculus_rules.specs.FirstOrder.{Shape, ArgumentsAt, ArgumentsAt.no_argument, ArgumentsAt.an_argument, ConstructorsAt, no_constructor, a_constructor, Data, Reads, reads, ReadsAll, no_field, field, FitsShapes, fits, FieldsFit, no_field_fits, field_fits}
+use Rattle.calculus_rules.specs.FirstOrder.{Shape, ArgumentsAt, ConstructorsAt, no_constructor, a_constructor, Data, Reads, reads, ReadsAll, no_field, field, FitsShapes, fits, FieldsFit, no_field_fits, field_fits}
 use Rattle.calculus_rules.proofs.Spines.{one_item}
 use Rattle.typing_laws.proofs.DataAlong.{Members}
 use Rattle.typing_laws.proofs.Telescopes.{entries_at_length}
-use Rattle.first_order.specs.Applied.{IsSourceOf, source_of, AreSourcesOf, no_field_source, field_source, AreArguments, AreArguments.no_argument, AreArguments.an_argument}
+use Rattle.first_order.specs.Applied.{IsSourceOf, source_of, AreSourcesOf, no_field_source, field_source, AreArguments}
 use Rattle.applied_terms.specs.CallEvaluation.{ArgumentsFitSets, no_argument_fits, argument_fits}
 use Rattle.applied_terms.specs.Laws.{FittingDataHasATerm, AppliedTermsAreThere, SourceTermsAreRead}
 

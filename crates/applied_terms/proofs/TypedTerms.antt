@@ -6,11 +6,11 @@ use Rattle.pc_terms.specs.declared.leaf.FamilyId.{FamilyId}
 use Rattle.pc_terms.specs.Syntax.{Term, Rel, SortT, Prod, App, Ind, Construct, over, substitute, first, put, put_all, shift, variables, apply}
 use Rattle.calculus_rules.specs.declared.declaration.Constructor.{Constructor}
 use Rattle.calculus_rules.specs.Environment.{Env, FamilyDecl, KeepsFamily}
-use Rattle.calculus_rules.specs.Context.{Context, Values, extend}
+use Rattle.calculus_rules.specs.Context.{Context, Values}
 use Rattle.calculus_rules.specs.Conversion.{back, equal}
 use Rattle.calculus_rules.specs.Instances.{entries_at, products}
 use Rattle.calculus_rules.specs.WeakHead.{WeakSteps, no_step, then_step}
-use Rattle.calculus_rules.specs.FirstOrder.{Shape, shape_type, IsMember, ArgumentsAt, ArgumentsAt.no_argument, ArgumentsAt.an_argument, Data, IsFirstOrder}
+use Rattle.calculus_rules.specs.FirstOrder.{Shape, shape_type, IsMember, ArgumentsAt, Data, IsFirstOrder}
 use Rattle.calculus_rules.specs.Typing.{bare, Types, app, construct, conv, TypesAll, no_terms, term, EntrySorts, no_sorts, a_sort}
 use Rattle.calculus_rules.specs.Accepted.{IsAccepted}
 use Rattle.calculus_rules.proofs.Spines.{one_item}
@@ -24,7 +24,7 @@ use Rattle.typing_laws.proofs.KeptSorts.{argument_sorts}
 use Rattle.typing_laws.proofs.PuttingAll.{puts_first, puts_all, puts_none}
 use Rattle.typing_laws.proofs.RenamingAndPutting.{PutsEntries, putting}
 use Rattle.typing_laws.proofs.Telescopes.{products_append}
-use Rattle.typing_laws.proofs.Traversal.{below_at, equal_at, types_at, substitute_types}
+use Rattle.typing_laws.proofs.Traversal.{below_at, types_at, substitute_types}
 use Rattle.type_laws.specs.Contexts.{HasSort, IsContext, Reduces}
 use Rattle.type_laws.proofs.EnvironmentSorts.{kept_is_known, parameters_sorted}
 use Rattle.type_laws.proofs.FixpointsKeep.{Undoes, undoes_shift, undoes_first}
@@ -34,9 +34,9 @@ use Rattle.type_laws.proofs.StepsKeep.{reduces_keeps}
 use Rattle.type_laws.proofs.TelescopeParts.{all_append}
 use Rattle.type_laws.proofs.Validity.{known_below, types_have_sorts}
 use Rattle.first_order.specs.Signature.{IsSignature, answers, takes}
-use Rattle.first_order.specs.Applied.{IsSourceOf, source_of, AreSourcesOf, no_field_source, field_source, AreArguments, AreArguments.no_argument, AreArguments.an_argument}
+use Rattle.first_order.specs.Applied.{IsSourceOf, source_of, AreSourcesOf, no_field_source, field_source, AreArguments}
 use Rattle.applied_terms.specs.Laws.{AppliedTermsAreTyped}
-use Rattle.applied_terms.proofs.SourceTerms.{ConstructorOf, constructor_of, fields_count}
+use Rattle.applied_terms.proofs.SourceTerms.{constructor_of, fields_count}
 
 weak_reduces : {E : Env} {V : Values} {t u : Term} → WeakSteps E V t u → Reduces E V t u
 weak_reduces no_step = Reduces.none
