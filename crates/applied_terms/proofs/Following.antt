@@ -196,7 +196,7 @@ module _ {E : Env} (R : Ready E) {P : BoxProgram} (H : Serves E P) (unique : One
               let parts = split_erases qs xs r.erase in
               let there = branch_at branches c (length xs) C t at b in
               let con : IsBoxConstructor P f c w parts.before parts.after = is_box_constructor (H.families f F kept, refl) (not_prop F.sort n) (counts_at F.constructors c C at)
-                  (all_lengths parts.first_erase ∙ lq ∙ ap (λ F. length F.parameters) same) (all_lengths parts.second_erase ∙ lx) (r.is ∙ (λ i. box_apply (e i) (parts.is i))) in
+              (all_lengths parts.first_erase ∙ lq ∙ ap (λ F. length F.parameters) same) (all_lengths parts.second_erase ∙ lx) (r.is ∙ (λ i. box_apply (e i) (parts.is i))) in
               let z = pared_constructor unique con pared in
               let body = pared_at c pares there.is in
               record {

@@ -34,7 +34,7 @@ use Rattle.wasm_core.specs.Entries.{index_of, from_nothing}
 use Rattle.wasm_core.specs.Runs.{store_of}
 use Rattle.wasm_core.specs.HostStore.{start_in, start_at_in, main_start_in}
 use Rattle.wasm_core.specs.Answer.{Answers, Exhausted, exhausted, IsAtEnd}
-use Rattle.wasm_core.specs.RunTree.{Fate, goes_on, ended, ran_out}
+use Rattle.wasm_core.specs.RunTree.{Fate, ended, ran_out}
 use Rattle.wasm_core.specs.WordData.{DataNodes}
 use Rattle.wasm_core.proofs.Small.{inj}
 use Rattle.wasm_emit.specs.CallLaws.{IsHosted, hosted, Called}
@@ -81,7 +81,6 @@ module _ (P : Program) (k pages : ℕ) where
 
 chosen : {M : Parts} {frames bytes least k : ℕ} {d : DataNodes} {t : State} → bytes ≤ 65536 * greatest_pages M.memory → Fate M frames (Finished M d bytes) (Spent M bytes) least k t → Exhausted M t →
     (store_of t).by_choice ≡ false → ⊥
-chosen le (goes_on s u deep x y) (exhausted z) e = elim u [ ]
 chosen le (ended q l) (exhausted z) e = elim q [ ]
 chosen le (ran_out (spent x h)) (exhausted z) e = let lt = h e in omega (arith, le, lt)
 
@@ -156,9 +155,9 @@ called_programs_answer P args pages b n tree pos small some ok e =
           (subst (λ s. CallRuns M pages most (h.heap + 4 * x.words) tree s) (sym (store_is s h)) all);
     }
   where
-    unless : (M : Parts) (tree : Data) (t : State) → Answers M tree t ⊎ Exhausted M t → (Exhausted M t → ⊥) → Answers M tree t
-    unless M tree t (inl a) no = a
-    unless M tree t (inr x) no = absurd (no x)
+    unless : (m : Parts) (tree : Data) (t : State) → Answers m tree t ⊎ Exhausted m t → (Exhausted m t → ⊥) → Answers m tree t
+    unless m tree t (inl a) never = a
+    unless m tree t (inr x) never = absurd (never x)
 
 pub call_modules_are_valid : CallModulesAreValid
 call_modules_are_valid P k pages b pos small ok =

@@ -70,9 +70,9 @@ module _ (P : BoxProgram) (ok : IsBoxProgram P) (full : IsSaturated P) (E : Clos
 
   -- a saturated main is no constructor that waits for arguments
 
-  enough : {f : FamilyId} {c k : ℕ} {t : BoxTerm} {ws : ClosureValues} {n : Counts} → RunArgs P E f c t ws n → IsSaturatedAt P.families k t → AreEnough P.families (size ws + k) f c
-  enough {f} {c} {k} run_head s = let z : k ≡ 0 + k = omega arith in subst (λ n. AreEnough P.families n f c) z s
-  enough {f} {c} {k} (run_arg {vs = vs} r q) s = let z : size vs + suc k ≡ suc (size vs) + k = omega arith in subst (λ n. AreEnough P.families n f c) z (enough r s.0)
+  enough : {f : FamilyId} {c : ℕ} {t : BoxTerm} {ws : ClosureValues} {n : Counts} (k : ℕ) → RunArgs P E f c t ws n → IsSaturatedAt P.families k t → AreEnough P.families (size ws + k) f c
+  enough {f} {c} k run_head s = let z : k ≡ 0 + k = omega arith in subst (λ n. AreEnough P.families n f c) z s
+  enough {f} {c} k (run_arg {vs = vs} r q) s = let z : size vs + suc k ≡ suc (size vs) + k = omega arith in subst (λ n. AreEnough P.families n f c) z (enough (suc k) r s.0)
 
   record Head (f : FamilyId) (c m : ℕ) (ws : ClosureValues) : Type 0 where
     values : ClosureValues
@@ -88,7 +88,7 @@ module _ (P : BoxProgram) (ok : IsBoxProgram P) (full : IsSaturated P) (E : Clos
       RunArgs P E f c (spine P.main (suc m) i) ws k → ⊥
   no_constructor m i {f} {c} {n} {F} {ws} kept at l r =
       let x = head (suc m) i r in
-      let e = enough x.args full.main in
+      let e = enough 0 x.args full.main in
       let same = unique_family P ok f e.family F (e.has, e.id) kept in
       let args = one_item (sym e.counts ∙ ap (λ (G : BoxFamily). slice_get G.args c) same ∙ at) in
       omega (arith, x.count, e.enough, args, l)
@@ -100,16 +100,16 @@ module _ (P : BoxProgram) (ok : IsBoxProgram P) (full : IsSaturated P) (E : Clos
     narrows : Narrows v value
 
   -- the last argument
-  module _ (g : BoxTerm) (i : ℕ) (rest : ClosureValues) (a : ClosureValue) (before : {v : ClosureValue} {c : Counts} → ClosureRun P E g v c → Applied rest v c) (self : Narrows a a)
+  module _ (g : BoxTerm) (i : ℕ) (rest : ClosureValues) (a : ClosureValue) (before : (v : ClosureValue) (c : Counts) → ClosureRun P E g v c → Applied rest v c) (self : Narrows a a)
       (at : Finds E i (Holds a)) where
     two : ClosureValue → ClosureEnv
     two v = Bind a (Bind v Empty)
 
-    last : {v : ClosureValue} {c : Counts} → ({f : FamilyId} {k n : ℕ} {F : BoxFamily} {ws : ClosureValues} {d : Counts} → KeepsBoxFamily P f F → slice_get F.args k ≡ Some n → size ws ≡ n →
+    last : {v : ClosureValue} {c : Counts} → ((f : FamilyId) (k n : ℕ) (F : BoxFamily) (ws : ClosureValues) (d : Counts) → KeepsBoxFamily P f F → slice_get F.args k ≡ Some n → size ws ≡ n →
         RunArgs P E f k (BApp g (Rel i)) ws d → ⊥) → ClosureRun P E (BApp g (Rel i)) v c → Applied (Then a rest) v c
     last none (run_app {e' = e'} {b = b} {v = u} {w = w} {c = c} {c' = c'} {d = d} r s q) =
         let one = runs_are_one P ok E (Rel i) u a c' nothing s (run_value at) in
-        let x = before r in
+        let x = before _ c r in
         let z = closure_narrow x.narrows in
         let y = narrowed P closed_bodies (subst (λ u. ClosureRun P (Bind u e') b w d) one.0 q) (narrow_bind self z.narrows) z.under in
         let run : ClosureRun P (two x.value) (BApp (Rel 1) (Rel 0)) y.value (contraction ⊕ nothing ⊕ nothing ⊕ d) =
@@ -121,7 +121,7 @@ module _ (P : BoxProgram) (ok : IsBoxProgram P) (full : IsSaturated P) (E : Clos
         }
     last none (run_box_app {v = u} {c = c} {c' = c'} r s) =
         let one = runs_are_one P ok E (Rel i) u a c' nothing s (run_value at) in
-        let x = before r in
+        let x = before _ c r in
         let run : ClosureRun P (two x.value) (BApp (Rel 1) (Rel 0)) VBox (contraction ⊕ nothing ⊕ nothing) =
         run_box_app (subst (λ u. ClosureRun P (two x.value) (Rel 1) u nothing) (box_narrow x.narrows) (run_value (later found))) (run_value found) in
         record {
@@ -131,7 +131,7 @@ module _ (P : BoxProgram) (ok : IsBoxProgram P) (full : IsSaturated P) (E : Clos
         }
     last none (run_fix_app {e' = e'} {b = b} {i = j} {rargs = rargs} {bodies = bodies} {v = u} {w = w} {c = c} {c' = c'} {d = d} r s there q) =
         let one = runs_are_one P ok E (Rel i) u a c' nothing s (run_value at) in
-        let x = before r in
+        let x = before _ c r in
         let z = fix_narrow x.narrows in
         let body = closed_term_at _ bodies j (length rargs) _ z.under there in
         let y = narrowed P closed_bodies (subst (λ u. ClosureRun P (Bind u (BindFix rargs bodies e')) b w d) one.0 q) (narrow_bind self (narrow_bind_fix z.under z.narrows)) body.0 in
@@ -144,7 +144,7 @@ module _ (P : BoxProgram) (ok : IsBoxProgram P) (full : IsSaturated P) (E : Clos
         }
     last none (run_fix_box {v = u} {c = c} {c' = c'} r s there) =
         let one = runs_are_one P ok E (Rel i) u a c' nothing s (run_value at) in
-        let x = before r in
+        let x = before _ c r in
         let z = fix_narrow x.narrows in
         let run : ClosureRun P (two x.value) (BApp (Rel 1) (Rel 0)) VBox (contraction ⊕ contraction ⊕ nothing ⊕ nothing) =
         run_fix_box (subst (λ u. ClosureRun P (two x.value) (Rel 1) u nothing) z.is (run_value (later found))) (run_value found) there in
@@ -153,7 +153,7 @@ module _ (P : BoxProgram) (ok : IsBoxProgram P) (full : IsSaturated P) (E : Clos
           answers = subst (λ k. BoxAnswers P (Then a rest) VBox k) (fix_box_counts c ∙ ap (λ k. contraction ⊕ contraction ⊕ c ⊕ k) (sym one.1)) (box_applied x.answers run);
           narrows = narrow_box;
         }
-    last none (run_construct kept there l r) = absurd (none kept there l r)
+    last none (run_construct {f = f} {i = k} {vs = ws} {c = d} {F = F} {n = n} kept there l r) = absurd (none f k n F ws d kept there l r)
 
   applied : {vs : ClosureValues} {args : List Data} → ValuesHold vs args → (i : ℕ) → ((j : ℕ) (h : Held) → Finds (bind_all vs Empty) j h → Finds E (i + j) h) → {v : ClosureValue} {c : Counts} →
       ClosureRun P E (spine P.main (size vs) i) v c → Applied vs v c
@@ -161,9 +161,9 @@ module _ (P : BoxProgram) (ok : IsBoxProgram P) (full : IsSaturated P) (E : Clos
   applied (hold_last {v = a} {vs = rest} hs h) i look run =
       let z : i + 0 ≡ i = omega arith in
       last (spine P.main (size rest) (suc i)) i rest a
-      (λ r. applied hs (suc i) (λ j g f. let z : i + suc j ≡ suc i + j = omega arith in subst (λ n. Finds E n g) z (look (suc j) g (later f))) r)
+      (λ v c r. applied hs (suc i) (λ j g f. let z : i + suc j ≡ suc i + j = omega arith in subst (λ n. Finds E n g) z (look (suc j) g (later f))) r)
       (data_narrow h) (subst (λ n. Finds E n (Holds a)) z (look 0 (Holds a) found))
-      (λ kept there l r. no_constructor (size rest) i kept there l r) run
+      (λ f k n F ws d kept there l r. no_constructor (size rest) i kept there l r) run
 
 pub record AnswersApplied (P : BoxProgram) (vs : ClosureValues) (d : Data) (c : Counts) : Type 0 where
   pub value : ClosureValue

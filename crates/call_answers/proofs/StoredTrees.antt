@@ -84,10 +84,11 @@ mutual
   tree_stored {memory} {high = high} (within.block {c = c} {arity = arity} {w = w} b above below fs) =
       let z : w + 4 ≡ w + 4 * suc 0 = omega arith in
       let r = fields_stored fs DNil no_fields z in
+      let number : count r.trees ≡ arity = omega (arith, r.number) in
       record {
         tree = Made c r.trees;
-        stored = stored_block (subst (λ n. IsBlock memory w n c) (sym r.number) b) (omega (arith, below, r.number)) r.stored;
-        same = λ i. (c, r.number i) ∷ r.same i;
+        stored = stored_block (subst (λ n. IsBlock memory w n c) (sym number) b) (omega (arith, below, number)) r.stored;
+        same = λ i. (c, number i) ∷ r.same i;
       }
 
   fields_stored : {memory : List ℕ} {low high block at left : ℕ} {data' : DataNodes} → FieldsWithin memory low high block at left data' → (before : DataTrees) → FieldsStored memory high block before →
