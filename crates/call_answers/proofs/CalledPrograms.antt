@@ -34,7 +34,7 @@ use Rattle.wasm_core.specs.Entries.{index_of, from_nothing}
 use Rattle.wasm_core.specs.Runs.{store_of}
 use Rattle.wasm_core.specs.HostStore.{start_in, start_at_in, main_start_in}
 use Rattle.wasm_core.specs.Answer.{Answers, Exhausted, exhausted, IsAtEnd}
-use Rattle.wasm_core.specs.RunTree.{Fate, ended, ran_out}
+use Rattle.wasm_core.specs.RunTree.{Fate, goes_on, ended, ran_out}
 use Rattle.wasm_core.specs.WordData.{DataNodes}
 use Rattle.wasm_core.proofs.Small.{inj}
 use Rattle.wasm_emit.specs.CallLaws.{IsHosted, hosted, Called}
@@ -81,6 +81,7 @@ module _ (P : Program) (k pages : ℕ) where
 
 chosen : {M : Parts} {frames bytes least k : ℕ} {d : DataNodes} {t : State} → bytes ≤ 65536 * greatest_pages M.memory → Fate M frames (Finished M d bytes) (Spent M bytes) least k t → Exhausted M t →
     (store_of t).by_choice ≡ false → ⊥
+chosen le (goes_on s u deep x y) gone e = elim gone [ ]
 chosen le (ended q l) (exhausted z) e = elim q [ ]
 chosen le (ran_out (spent x h)) (exhausted z) e = let lt = h e in omega (arith, le, lt)
 

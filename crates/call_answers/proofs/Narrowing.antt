@@ -183,7 +183,7 @@ module _ (P : BoxProgram) (bodies : (c : Name) (t : BoxTerm) → KeepsBoxConstan
         let g = construct_narrow x.narrows in
         let body = closed_term_at (span e') bs i (size vs) t c.1.0 at in
         let y = narrowed q (bind_narrow g.narrows h) (bound (size vs + span e') (span (bind_all g.values e')) t (omega (arith, span_bind g.values e', size_narrow g.narrows)) body) in
-        record { value = y.value; run = run_match kept p (subst (λ (u : ClosureValue). ClosureRun P e' s u k) g.is x.run) (at ∙ ap (λ (n : ℕ). Some (n, t)) (sym (size_narrow g.narrows))) y.run; narrows = y.narrows }
+        record { value = y.value; run = run_match {w = y.value} kept p (subst (λ (u : ClosureValue). ClosureRun P e' s u k) g.is x.run) (at ∙ ap (λ (n : ℕ). Some (n, t)) (sym (size_narrow g.narrows))) y.run; narrows = y.narrows }
     narrowed {e' = e'} (run_only {k = n} {s = s} {t = t} {c = k} kept p r q) h c =
         let x = narrowed r h (bound (0 + span e') (span e') s (omega arith) c.0) in
         let y = narrowed q (bind_narrow (boxes_narrow n) h) (bound (n + span e') (span (bind_all (box_values n) e')) t (omega (arith, span_bind (box_values n) e', size_boxes n)) c.1.0.0) in

@@ -102,7 +102,7 @@ module _ (P : BoxProgram) (ok : IsBoxProgram P) (full : IsSaturated P) (E : Clos
   -- the last argument
   module _ (g : BoxTerm) (i : ℕ) (rest : ClosureValues) (a : ClosureValue) (before : (v : ClosureValue) (c : Counts) → ClosureRun P E g v c → Applied rest v c) (self : Narrows a a)
       (at : Finds E i (Holds a)) where
-    two : ClosureValue → ClosureEnv
+    abbrev two : ClosureValue → ClosureEnv
     two v = Bind a (Bind v Empty)
 
     last : {v : ClosureValue} {c : Counts} → ((f : FamilyId) (k n : ℕ) (F : BoxFamily) (ws : ClosureValues) (d : Counts) → KeepsBoxFamily P f F → slice_get F.args k ≡ Some n → size ws ≡ n →
