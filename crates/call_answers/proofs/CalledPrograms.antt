@@ -150,7 +150,7 @@ called_programs_answer P args pages b n tree pos small some ok e =
             starts = starts_at (passed P) k pages at z.index z.main z.exported z.is;
             bounded = λ j t r. (z.run j t r).0;
             answers = given;
-            enough = λ le j t r l free. unless M tree t (given j t r l) (λ gone. chosen le (z.run j t r).1 gone free);
+            enough = λ le j t r l free. unless M tree t (given j t r l) (λ gone. chosen {frames = z.depth + 1} {bytes = h.heap + 4 * x.words} {d = preorder rt.0} le (z.run j t r).1 gone free);
           } in
           subst (λ k. CallRuns (call_module_for P k pages) pages most (h.heap + 4 * x.words) tree s) same
           (subst (λ s. CallRuns M pages most (h.heap + 4 * x.words) tree s) (sym (store_is s h)) all);
