@@ -1,5 +1,5 @@
 -- What every run of a called program's module does, from the laws of the passes with arguments.
-use Rattle.std.proofs.Common.{◌≡◌, ℕ, zero, suc, ◌+◌, ◌*◌, ◌<◌, ◌≤◌, List, [], ◌∷◌, length, Bool, true, false, Option, Some, None, ◌⊎◌, inl, inr, refl, sym, ap, ◌∙◌, subst, arith, le-leb}
+use Rattle.std.proofs.Common.{◌≡◌, ℕ, suc, ◌+◌, ◌*◌, ◌≤◌, List, length, Bool, true, false, Option, Some, None, ◌⊎◌, inl, inr, refl, sym, ap, ◌∙◌, subst, arith, le-leb}
 use Rattle.std.specs.Prelude.{slice_get, ◌&&◌, if◌then◌else◌}
 use Rattle.std.specs.Option.{option_and_then}
 use Rattle.pc_terms.specs.BoxSyntax.{BoxTerm}
@@ -25,7 +25,6 @@ use Rattle.anf_convert.proofs.Words.{words_bound}
 use Rattle.closure_lift.specs.Lifted.{Program}
 use Rattle.closure_lift.proofs.Follows.{lift_keeps}
 use Rattle.closure_lift.proofs.Forms.{lift_forms}
-use Rattle.wasm_core.specs.declared.types.ConstValue.TheVariants.{I32}
 use Rattle.wasm_core.specs.declared.entries.Entry.TheVariants.{Main}
 use Rattle.wasm_core.specs.Parts.{Parts}
 use Rattle.wasm_core.specs.Instance.{Func, func_of, segments_fit, greatest_pages}
@@ -37,7 +36,7 @@ use Rattle.wasm_core.specs.Answer.{Answers, Exhausted, exhausted, IsAtEnd}
 use Rattle.wasm_core.specs.RunTree.{Fate, goes_on, ended, ran_out}
 use Rattle.wasm_core.specs.WordData.{DataNodes}
 use Rattle.wasm_core.proofs.Small.{inj}
-use Rattle.wasm_emit.specs.CallLaws.{IsHosted, hosted, Called}
+use Rattle.wasm_emit.specs.CallLaws.{IsHosted, hosted}
 use Rattle.wasm_emit.specs.CallModule.{call_function, call_globals, call_exports, module_of_call}
 use Rattle.wasm_emit.specs.EmitLaws.{Finished, Spent, spent}
 use Rattle.wasm_emit.specs.EmittedModule.{type_main, main_index}
@@ -45,11 +44,10 @@ use Rattle.wasm_emit.proofs.Calling.{emit_calls}
 use Rattle.wasm_emit.proofs.Indices.{main_in, main_at, entries_length}
 use Rattle.wasm_emit.proofs.Status.{call_status}
 use Rattle.wasm_emit.proofs.Valid.{call_valid}
-use Rattle.back_end.specs.BackEnd.{passed, IsWithinPasses}
+use Rattle.back_end.specs.BackEnd.{passed}
 use Rattle.back_end.proofs.Total.{suffices}
-use Rattle.applied_terms.specs.CallEvaluation.{CallEvaluatesTo}
 use Rattle.call_answers.specs.HostedCall.{HoldsArguments}
-use Rattle.call_answers.specs.EveryCall.{call_module_for, CallRuns, EveryCallAnswers, CalledProgramsAnswer, CallModulesAreValid, CallStatusTells}
+use Rattle.call_answers.specs.EveryCall.{call_module_for, CallRuns, CalledProgramsAnswer, CallModulesAreValid, CallStatusTells}
 use Rattle.call_answers.proofs.SpineAnswers.{answers_applied}
 use Rattle.call_answers.proofs.StoredTrees.{listed, listed_count, one_list, arguments_stored, held_trees, anf_trees, lifted_trees}
 

@@ -1,14 +1,14 @@
 -- A closed term gives the same in the empty environment as in any other, with the same counts: what stands past its variables isn't looked at.
-use Rattle.std.proofs.Common.{◌≡◌, ℕ, zero, suc, ◌+◌, ◌≤◌, Bool, false, ◌&&◌, ◌||◌, List, [], ◌∷◌, length, Some, refl, sym, ap, ◌∙◌, subst, arith}
-use Rattle.trees.specs.Tree.{Rel, Done, Next, term_at}
+use Rattle.std.proofs.Common.{◌≡◌, ℕ, zero, suc, ◌+◌, ◌≤◌, Bool, false, ◌&&◌, ◌||◌, List, ◌∷◌, length, Some, refl, sym, ap, ◌∙◌, subst, arith}
+use Rattle.trees.specs.Tree.{Rel}
 use Rattle.trees.specs.Closed.{Closed, ClosedTerms}
 use Rattle.trees.proofs.Bounds.{closed_at}
 use Rattle.pc_terms.specs.declared.leaf.Name.{Name}
 use Rattle.pc_terms.specs.declared.leaf.FamilyId.{FamilyId}
-use Rattle.pc_terms.specs.BoxSyntax.{BoxTerm, BoxTerms, Box, BLambda}
+use Rattle.pc_terms.specs.BoxSyntax.{BoxTerm, BoxTerms, BLambda}
 use Rattle.lambda_box.specs.BoxProgram.{BoxProgram, KeepsBoxConstant}
 use Rattle.lambda_box.specs.BoxData.{Data}
-use Rattle.lambda_box.specs.ClosureEvaluation.{names, names_terms, ClosureValue, VBox, VConstruct, VClosure, VFix, ClosureValues, NoValue, Then, ClosureEnv, Empty, Bind, BindFix, size, bind_all, box_values, Held, Holds, Defines, Finds, found, later, found_fix, past_fix, one_if, any_below, words, closure_words, fix_words, Counts, block, ◌⊕◌}
+use Rattle.lambda_box.specs.ClosureEvaluation.{names, names_terms, ClosureValue, VBox, VConstruct, VClosure, VFix, ClosureValues, NoValue, Then, ClosureEnv, Empty, Bind, BindFix, size, bind_all, box_values, Held, Holds, Defines, Finds, found, later, found_fix, past_fix, any_below, words, Counts, block}
 use Rattle.lambda_box.specs.ClosureEvaluation.{ClosureRun, run_box, run_value, run_definition, run_lambda, run_fix, run_constant, run_let, run_app, run_box_app, run_fix_app, run_fix_box, run_construct, run_match, run_only, RunArgs, run_head, run_arg, ValueReads, value_reads, ValuesRead, no_values, and_then}
 use Rattle.lambda_box.proofs.Spines.{closed_term_at}
 use Rattle.shrink_passes.proofs.Following.{neither, neither_and, names_past, names_past_terms, words_none, span}

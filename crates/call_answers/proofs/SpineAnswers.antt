@@ -1,5 +1,5 @@
 -- Main, applied to variables that hold its arguments, gives what main gives that is applied to one argument after the other.
-use Rattle.std.proofs.Common.{◌≡◌, ℕ, zero, suc, ◌+◌, max, ◌≤◌, List, [], ◌∷◌, ◌++◌, length, Some, refl, sym, ap, ◌∙◌, subst, arith}
+use Rattle.std.proofs.Common.{◌≡◌, ℕ, zero, suc, ◌+◌, max, List, [], ◌∷◌, ◌++◌, length, Some, refl, sym, ap, ◌∙◌, subst, arith}
 use Rattle.std.specs.Prelude.{slice_get}
 use Rattle.trees.specs.Tree.{Rel}
 use Rattle.trees.specs.Closed.{Closed}
@@ -11,7 +11,7 @@ use Rattle.lambda_box.specs.BoxData.{Data}
 use Rattle.lambda_box.specs.BoxForm.{IsBoxProgram}
 use Rattle.lambda_box.specs.SaturatedForm.{AreEnough, IsSaturatedAt, IsSaturated}
 use Rattle.lambda_box.specs.DataTerms.{ValuesHold, hold_none, hold_last}
-use Rattle.lambda_box.specs.ClosureEvaluation.{ClosureValue, VBox, VClosure, VFix, ClosureValues, NoValue, Then, ClosureEnv, Empty, Bind, BindFix, bind_all, size, Held, Holds, Finds, found, later, Counts, nothing, contraction, ◌⊕◌}
+use Rattle.lambda_box.specs.ClosureEvaluation.{ClosureValue, VBox, ClosureValues, Then, ClosureEnv, Empty, Bind, BindFix, bind_all, size, Held, Holds, Finds, found, later, Counts, nothing, contraction, ◌⊕◌}
 use Rattle.lambda_box.specs.ClosureEvaluation.{ClosureRun, run_value, run_app, run_box_app, run_fix_app, run_fix_box, run_construct, RunArgs, run_head, run_arg, ValueReads}
 use Rattle.lambda_box.proofs.Families.{unique_family}
 use Rattle.lambda_box.proofs.Naming.{ordered_body}

@@ -1,6 +1,6 @@
 -- The headline for calls: where an environment is accepted, main's type has a signature, and main, applied to the source terms of data, evaluates weakly call by value to a value, every
 -- long enough run of the module for calls, from a host's store that holds the data, answers exactly that value or is exhausted after a refused grow of memory.
-use Rattle.std.specs.Prelude.{◌≡◌, ℕ, ◌<◌, ◌≤◌, List, [], map, length}
+use Rattle.std.specs.Prelude.{ℕ, ◌<◌, ◌≤◌, List, [], map, length}
 use Rattle.pc_terms.specs.Syntax.{Term}
 use Rattle.calculus_rules.specs.Environment.{Env}
 use Rattle.calculus_rules.specs.Typing.{bare, Types}
