@@ -26,7 +26,7 @@ use Rattle.call_answers.specs.EveryCall.{call_module_for, EveryCallAnswers}
 pub record AnswersCall (E : Env) (answer : List Shape) (P : BoxProgram) (arguments : List Data) (pages : ℕ) (v : Term) (n : ℕ) (tree : Data) : Type 0 where
   pub exactly : IsExactly E (members answer) v tree
   pub kept : CallEvaluatesTo P arguments tree n
-  pub runs : EveryCallAnswers P arguments pages (source_branches E) n tree
+  pub runs : EveryCallAnswers (call_module_for P (length arguments) pages) arguments pages (source_branches E) n tree
   pub fits : FitsShapes (members answer) 0 tree
   pub text : (names : List (List ℕ)) → HasNames answer names → IsWritten answer names tree
 

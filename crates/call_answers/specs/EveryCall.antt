@@ -28,9 +28,9 @@ pub record CallRuns (m : Parts) (pages most bytes : ℕ) (tree : Data) (s : Stor
   -- where so many bytes are within the maximum, it is exhausted only where a grow that the maximum allows was refused
   pub enough : bytes ≤ 65536 * pages → (k : ℕ) (t : State) → Reach m k first t → IsAtEnd m t → (store_of t).by_choice ≡ false → Answers m tree t
 
--- The numbers of an evaluation with closures: its contractions, its blocks, the words of the widest block, and the words of all blocks. They are the same for each store that
--- holds the arguments, behind whose heap a run asks for no more bytes than these words have
-pub record EveryCallAnswers (P : BoxProgram) (arguments : List Data) (pages b n : ℕ) (tree : Data) : Type 0 where
+-- Every run of the module from a store that holds the arguments answers the data or is exhausted. The bounds go by the numbers of an evaluation with closures: its contractions, its blocks, the words of
+-- the widest block, and the words of all blocks. They are the same for each such store, behind whose heap a run asks for no more bytes than these words have
+pub record EveryCallAnswers (m : Parts) (arguments : List Data) (pages b n : ℕ) (tree : Data) : Type 0 where
   pub contractions : ℕ
   pub blocks : ℕ
   pub widest : ℕ
@@ -39,12 +39,13 @@ pub record EveryCallAnswers (P : BoxProgram) (arguments : List Data) (pages b n 
   pub few_blocks : blocks ≤ 2 * n
   pub few_words : words ≤ blocks * widest
   pub runs : (s : Store) (h : HoldsArguments pages arguments s) →
-      CallRuns (call_module_for P (length arguments) pages) pages (64 * (blocks + contractions + 1) * (widest + b)) (h.heap + 4 * words) tree s
+      CallRuns m pages (64 * (blocks + contractions + 1) * (widest + b)) (h.heap + 4 * words) tree s
 
 -- of a program of the form within the limits of the passes, with at most b constructors in a family
 abbrev pub CalledProgramsAnswer : Type 0
 CalledProgramsAnswer =
-    (P : BoxProgram) (arguments : List Data) (pages b n : ℕ) (tree : Data) → 0 < pages → pages ≤ 16384 → 0 < b → IsWithinPasses P b → CallEvaluatesTo P arguments tree n → EveryCallAnswers P arguments pages b n tree
+    (P : BoxProgram) (arguments : List Data) (pages b n : ℕ) (tree : Data) → 0 < pages → pages ≤ 16384 → 0 < b → IsWithinPasses P b → CallEvaluatesTo P arguments tree n →
+    EveryCallAnswers (call_module_for P (length arguments) pages) arguments pages b n tree
 
 -- whether main evaluates or not, the module is valid, for any number of arguments
 abbrev pub CallModulesAreValid : Type 0
