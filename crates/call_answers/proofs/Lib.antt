@@ -1,5 +1,5 @@
 mod Narrowing
 mod SpineAnswers
 mod StoredTrees
-mod CalledPrograms
-mod Composed
+pub mod CalledPrograms
+pub mod Composed
