@@ -1,6 +1,6 @@
 -- Where data that is put into memory lies, and that its words stand for it.
-use Rattle.std.proofs.Common.{◌≡◌, Ok, ℕ, zero, suc, ◌+◌, ◌-◌, ◌*◌, ◌/◌, ◌<◌, ◌≤◌, List, [], ◌∷◌, ◌++◌, length, take, drop, append_assoc, Option, Some, None, Bool, true, false, refl, sym, ap, subst, ◌∙◌, arith, length-append, length-set}
-use Rattle.std.specs.Prelude.{slice_get, slice_set, get_or, if◌then◌else◌}
+use Rattle.std.proofs.Common.{◌≡◌, Ok, ℕ, zero, suc, ◌+◌, ◌-◌, ◌*◌, ◌<◌, ◌≤◌, List, [], ◌∷◌, ◌++◌, length, take, drop, append_assoc, Option, Some, None, Bool, true, false, refl, sym, ap, subst, ◌∙◌, arith, length-append, length-set}
+use Rattle.std.specs.Prelude.{slice_get, slice_set, if◌then◌else◌}
 use Rattle.std.specs.Option.{option_map, option_and_then}
 use Rattle.std.proofs.lemmas.List.{append-nil, get_or-set_same, set-set, set-get_or, length-take, length-drop}
 use Rattle.std.proofs.lemmas.Option.{slice_get_within, get_or_from_slice_get, slice_get-get_or}
@@ -15,7 +15,7 @@ use Rattle.wasm_core.specs.ModuleCondition.{All as Each}
 use Rattle.wasm_core.specs.WordData.{DataNodes, IsBlock, IsBelow}
 use Rattle.wasm_core.specs.StoredData.{StandsWithin, odd, block, FieldsWithin, no_field, field, ArgumentsWithin, no_argument, argument}
 use Rattle.wasm_core.specs.Answer.{global_of, i32_of}
-use Rattle.wasm_core.specs.HostStore.{IsForCall, set_at, set_entry, put_words, pages_for, held, has_room, with_block, with_store}
+use Rattle.wasm_core.specs.HostStore.{IsForCall, set_at, set_entry, pages_for, held, has_room, with_block, with_store}
 use Rattle.wasm_core.proofs.Small.{inj, no, some_of}
 use Rattle.wasm_core.proofs.WordsStay.{zeroed_length}
 use Rattle.wasm_core.specs.MachineStep.{State}
@@ -24,7 +24,7 @@ use Rattle.wasm_core.specs.MachineRun.{MachineShown}
 use Rattle.wasm_run.specs.Hosting.{put_in, IsAtStart}
 use Rattle.wasm_run.proofs.HostCalls.{puts_length, room_small, held_has}
 use Rattle.data_trees.specs.Preorder.{IsForest, IsTree}
-use Rattle.mem_value.specs.Storing.{Stacked, put_at, put_block, put_node, put_nodes, put_trees, put_last, put_arguments, header, with_word, IsSmallNode, IsSmallData, HasHeap, HasStored, StackSays, PutSays, StoreSays}
+use Rattle.mem_value.specs.Storing.{Stacked, put_at, put_block, put_node, put_nodes, put_trees, put_last, put_arguments, header, with_word, IsSmallData, HasHeap, HasStored, StackSays, PutSays, StoreSays}
 use Rattle.mem_value.proofs.Bytes.{word_same, more_same, puts_other, WordsAt, IsWord32, puts_there}
 use Rattle.mem_value.proofs.Stacks.{mapped, none_left, with_again, store_again}
 

@@ -1,4 +1,4 @@
-use Rattle.std.proofs.Common.{◌≡◌, ◌∙◌, List, ℕ, Ok, [], reverse, ap, subst, sym}
+use Rattle.std.proofs.Common.{◌∙◌, List, ℕ, Ok, reverse, subst}
 use Rattle.wasm_core.specs.Runs.{store_of}
 use Rattle.mem_value.specs.Storing.{StackSays, PutSays, put_trees}
 use Rattle.mem_value.proofs.Placing.{values_says}

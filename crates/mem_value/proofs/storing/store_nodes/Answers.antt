@@ -1,4 +1,4 @@
-use Rattle.std.proofs.Common.{◌≡◌, ◌+◌, ◌-◌, ◌≤◌, Ok, Err, drop, length, reverse, subst, sym, arith}
+use Rattle.std.proofs.Common.{◌≡◌, ◌+◌, ◌-◌, ◌≤◌, Ok, Err, drop, length, reverse, subst, arith}
 use Rattle.std.proofs.lemmas.List.{length-reverse}
 use Rattle.wasm_core.specs.Runs.{store_of}
 use Rattle.wasm_core.proofs.Eaches.{each_get}
