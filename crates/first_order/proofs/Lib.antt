@@ -15,3 +15,4 @@ pub mod ArgumentSpelling
 pub mod ArgumentComplete
 pub mod ConstructorNames
 pub mod ArgumentAnswers
+pub mod WrittenArguments

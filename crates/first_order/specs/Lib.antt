@@ -8,3 +8,4 @@ pub mod Applied
 pub mod ArgumentTexts
 pub mod Awaited
 pub mod Nexts
+pub mod WrittenArguments

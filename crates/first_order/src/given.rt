@@ -453,6 +453,23 @@ fn fault_behind(from: usize, fault: ArgsFault) -> ArgsFault
     }
 }
 
+/// The arguments from an offset on, as their reading.
+fn arguments_behind(
+    alloc: Global,
+    bytes: &[u8],
+    from: usize,
+    sets: &[Shapes],
+    names: &Names,
+) -> Result<Vec<Data>, ArgsFault>
+    requires within { from ≤ length bytes.now }
+    ensures exact { AnswersReading (arguments_from names.now (argument_sets sets.now) bytes.now from) (length sets.now) result }
+{
+    match call_arguments(alloc, &bytes[from..], names, sets) {
+        Ok(read) => Ok(read),
+        Err(fault) => Err(fault_behind(from, fault)),
+    }
+}
+
 /// The arguments that a text gives from the offset `from` on, at most its length: `(args d d)`, with data of each type of the signature, where d is a constructor's name alone, or in
 /// brackets before its arguments. Offsets are bytes from the start of `bytes`.
 ///
@@ -472,8 +489,5 @@ pub fn read_args(
     ensures complete { AnswersSpelled names.now (argument_sets sig.now.args) (tokens_of (drop from bytes.now)) result }
     ensures behind { IfErr result (λ f. offset_in f ≤ length bytes.now) }
 {
-    match call_arguments(alloc, &bytes[from..], names, sig.args.as_slice()) {
-        Ok(read) => Ok(read),
-        Err(fault) => Err(fault_behind(from, fault)),
-    }
+    arguments_behind(alloc, bytes, from, sig.args.as_slice(), names)
 }
