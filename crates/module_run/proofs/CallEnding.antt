@@ -51,7 +51,7 @@ alone m cap n args (Ok a) small none (s, h) other = no_start m cap args h.return
 alone m cap n args (Err refusals.ModuleBytes) small none h other = omega (arith, h, small)
 alone m cap n args (Err refusals.StepsSpent) small none (s, h) other = no_start m cap args h.first none h.starts
 alone m cap n args (Err refusals.Exhausted) small none (s, (kind, h)) other = no_start m cap args h.run.first none h.run.starts
-alone m cap n args (Err (refusals.Trapped kind)) small none (s, (status, no, h)) other = no_start m cap args h.run.first none h.run.starts
+alone m cap n args (Err (refusals.Trapped kind)) small none (s, (status, differs, h)) other = no_start m cap args h.run.first none h.run.starts
 alone m cap n args (Err (refusals.NoValue word)) small none (s, h) other = no_start m cap args h.returned.run.first none h.returned.run.starts
 alone m cap n args (Err refusals.AnswerNodes) small none (s, h) other = no_start m cap args h.returned.run.first none h.returned.run.starts
 alone m cap n args (Err refusals.Memory) small none h other = other refl
@@ -72,7 +72,7 @@ pub call_end_is_one : (m : Parts) (cap n : ℕ) (args : List DataNodes) (a b : R
 call_end_is_one m cap n args a b h k x y =
     elim (way m cap n args a h) [
       | inl (e, small, none) ↦ elim (way m cap n args b k) [
-        | inl (f, s, no) ↦ e ∙ sym f
+        | inl (f, s, lacks) ↦ e ∙ sym f
         | inr g ↦ absurd (alone m cap n args b small none g y)
       ]
       | inr f ↦ elim (way m cap n args b k) [
