@@ -15,6 +15,8 @@ pub mod Sizes
 pub mod MadeCauses
 pub mod CallCauses
 pub mod ExportCauses
+pub mod StoredAlike
+pub mod CallJobCauses
 pub mod JobCauses
 pub mod Erased
 pub mod ModuleRuns
