@@ -3,12 +3,11 @@ use Rattle.std.proofs.Common.{ℕ, suc, ◌≡◌, ◌∙◌, ◌<◌, ◌≤◌
 use Rattle.std.proofs.lemmas.List.{length-map}
 use Rattle.std.specs.Io.KnownBytes.{Appends}
 use Rattle.pc_terms.specs.Syntax.{Term}
-use Rattle.calculus_rules.specs.Evaluation.{Evaluates}
 use Rattle.calculus_rules.specs.FirstOrder.{Shape, Data}
 use Rattle.calculus_rules.proofs.Bare.{bare_types}
 use Rattle.calculus_rules.proofs.Spines.{one_item}
 use Rattle.dump_reader.specs.declared.environment.RawEnv.{RawEnv}
-use Rattle.first_order.specs.Applied.{AreArguments, AreArguments.no_argument, AreArguments.an_argument, IsApplied}
+use Rattle.first_order.specs.Applied.{AreArguments}
 use Rattle.first_order.specs.DirectedSignature.{set_of, sets_of}
 use Rattle.typing_laws.proofs.DataAlong.{reading_is_determined}
 use Rattle.back_end.specs.BackEnd.{IsWithinPasses}
@@ -29,7 +28,6 @@ use Rattle.driver.specs.Serve.{HasAnswer, IsInput, IsInputOf, IsAnswerOf}
 use Rattle.driver.specs.Texts.{SpellsWithin}
 use Rattle.driver.proofs.AcceptedAs.{accepted_as}
 use Rattle.driver.proofs.TextCauses.{is_spelled}
-use Rattle.answer_laws.specs.MainsModule.{IsReadAs}
 use Rattle.answer_laws.proofs.Derived.{derived}
 use Rattle.applied_terms.proofs.KeptValues.{applied_values_are_kept}
 use Rattle.applied_terms.proofs.SourceTerms.{applied_terms_are_there}
