@@ -16,12 +16,24 @@
 //! Below stands `wasm_emit`, whose code makes today's modules, and whose rules of the machine, memory and evaluation the proofs cite; above stands nothing yet.
 #![tactic(auto)]
 
+mod blocks;
+mod bodies;
+mod calls;
+mod emission;
+mod instructions;
+mod knowing;
 mod laws;
+mod marks;
+mod places;
+mod site;
 mod words;
 
+pub use emission::{emit, emit_call};
 pub use laws::{
     known_bytes_are_bounded, known_calls_of_main_answer, known_modules_are_valid,
     known_modules_can_be_spelled, known_programs_in_normal_form_answer, known_runs_answer,
     known_status_tells,
 };
-pub use words::Word;
+pub use places::Place;
+pub use site::Position;
+pub use words::{Word, Words};
