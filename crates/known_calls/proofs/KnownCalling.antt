@@ -30,6 +30,7 @@ use Rattle.wasm_emit.proofs.Source.{Applies}
 use Rattle.wasm_emit.proofs.Staged.{staged_all}
 use Rattle.wasm_emit.proofs.Follows.{zeros_length}
 use Rattle.wasm_emit.proofs.Answering.{is_exhausted}
+use Rattle.wasm_emit.proofs.Calling.{args_of}
 use Rattle.known_calls.specs.KnownModule.{worker_type}
 use Rattle.known_calls.specs.KnownCalls.{applied, call_function, module_of_call}
 use Rattle.known_calls.specs.KnownLaws.{Finished, finished, CallsAnswer}
@@ -37,23 +38,6 @@ use Rattle.known_calls.proofs.KnownHolds.{stood_inside}
 use Rattle.known_calls.proofs.KnownIndices.{main_in, main_at}
 use Rattle.known_calls.proofs.KnownFollows.{applies}
 use Rattle.known_calls.proofs.KnownAnswering.{at_end, has_answered}
-
-mutual
-  stands_of : {m : Mem} {h w : ℕ} {v : Val} {d : DataTree} → IsData v d → Stored m h w d → Stands m h w v
-  stands_of (is_data are_data_none) (stored_odd lt e) = s_empty lt e
-  stands_of (is_data hs) (stored_block b within fs) = s_con b.quarter b.small b.aligned b.there (omega (arith, b.some, all_count hs)) (omega (arith, all_count hs)) (omega (arith, b.header, all_count hs)) (fields_of hs fs)
-
-  fields_of : {m : Mem} {h w : ℕ} {vs : Vals} {ds : DataTrees} → AreData vs ds → FieldsStored m h w ds → Fields m h w vs
-  fields_of are_data_none no_fields = no_field
-  fields_of {m} {h} {w} (are_data_more {v = v} {vs = vs} {ds = ds} x hs) (last_field s low fs) =
-      let same : word m (w + 4 * suc (count ds)) ≡ word m (w + 4 * suc (size vs)) = ap (λ n. word m (w + 4 * suc n)) (all_count hs) in
-      field (subst (λ z. Stands m h z v) same (stands_of x s)) (subst (IsBelow w) same low) (fields_of hs fs)
-
-args_of : {m : Mem} {h a : ℕ} {vs : Vals} {ds : DataTrees} → AreData vs ds → ArgumentsStored m h a ds → ArgsAt m h a vs
-args_of are_data_none no_arguments = args_none
-args_of {m} {h} {a} (are_data_more {v = v} {vs = vs} {ds = ds} x hs) (last_argument s within fs) =
-    let same : word m (a + 4 * count ds) ≡ word m (a + 4 * size vs) = ap (λ n. word m (a + 4 * n)) (all_count hs) in
-    args_more (subst (λ z. Stands m h z v) same (stands_of x s)) (omega (arith, within, all_count hs)) (args_of hs fs)
 
 ends : (m : Parts) (bytes frames least n : ℕ) (d : List (ℕ × ℕ)) (t : State) → Fate m frames (Finished m d bytes) (Spent m bytes) least n t → IsAtEnd m t → Answers m d t ⊎ Exhausted m t
 ends m bytes frames least n d t (goes_on s u deep x y) last = absurd (last true s x)

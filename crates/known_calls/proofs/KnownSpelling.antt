@@ -18,7 +18,7 @@ use Rattle.wasm_emit.specs.EmittedCode.{ConstWord}
 use Rattle.wasm_emit.specs.EmittedLocals.{top}
 use Rattle.wasm_emit.specs.EmittedModule.{body, room_code}
 use Rattle.wasm_emit.specs.EmitLaws.{CountsFit}
-use Rattle.wasm_emit.proofs.Spelled.{emit_spelled}
+use Rattle.wasm_emit.proofs.Spelled.{good, fits, all_then, body_fits, room_good, emit_spelled}
 use Rattle.known_calls.specs.KnownPlaces.{At, InLocal, fields_of}
 use Rattle.known_calls.specs.KnownCode.{Inside, InTail, is_wide, worker_index, code}
 use Rattle.known_calls.specs.KnownModule.{params, captured_words, wide_body, stub_code, entry, worker_code, worker, worker_type, numbered, constant, main_function, module_of}
@@ -28,11 +28,7 @@ use Rattle.known_calls.proofs.SameLocals.{worker_top}
 use Rattle.known_calls.proofs.Fitting.{fields_fit, params_fit}
 use Rattle.known_calls.proofs.KnownIndices.{narrow_few, order_length}
 use Rattle.known_calls.proofs.KnownValidity.{entry_typed, worker_typed, constant_typed, main_typed, box_typed, room_typed}
-use Rattle.known_calls.proofs.Bounded.{Good, good, fits, all_of, Bounded, ◌then◌, b_most, b_get, b_call, b_end, b_loop, b_captured, b_code}
-
-all_then : {A B : Type 0} (Q : B → Type 0) (h : A → B) (xs : List A) (bs : List B) → ((i : ℕ) (x : A) → slice_get xs i ≡ Some x → Q (h x)) → All Q bs → All Q (map h xs ++ bs)
-all_then Q h [] bs a r = r
-all_then Q h (x ∷ xs) bs a r = (a zero x refl, all_then Q h xs bs (λ i y e. a (suc i) y e) r)
+use Rattle.known_calls.proofs.Bounded.{Bounded, ◌then◌, b_most, b_get, b_call, b_end, b_loop, b_captured, b_code}
 
 numbered_then : {B : Type 0} (Q : B → Type 0) (h : ℕ → Fn → B) (from : ℕ) (fs : List Fn) (bs : List B) → ((g j : ℕ) (x : Fn) → slice_get fs g ≡ Some x → j ≡ from + g → Q (h j x)) → All Q bs → All Q (numbered h from fs ++ bs)
 numbered_then Q h from [] bs a r = r
@@ -41,13 +37,6 @@ numbered_then Q h from (x ∷ xs) bs a r = (a zero from x refl (omega arith), nu
 numbered_all : {B : Type 0} (Q : B → Type 0) (h : ℕ → Fn → B) (from : ℕ) (fs : List Fn) → ((g j : ℕ) (x : Fn) → slice_get fs g ≡ Some x → j ≡ from + g → Q (h j x)) → All Q (numbered h from fs)
 numbered_all Q h from [] a = tt
 numbered_all Q h from (x ∷ xs) a = (a zero from x refl (omega arith), numbered_all Q h (suc from) xs (λ g j y at is. a (suc g) j y at (omega arith)))
-
--- a typed body whose immediates fit
-body_fits : (M : Parts) (index n : ℕ) (is : List Instr) → n ≤ 50000 → TypedFunc M index (record { locals = replicate n I32; code = is }) → Good is → IsBody (record { locals = replicate n I32; code = is })
-body_fits M index n is few t all = (omega (arith, length-replicate {A = ValType} n I32), typed_is_closed M (t.type.params ++ replicate n I32) (results_of t.type) is t.typed (all_of all))
-
-room_good : Good room_code
-room_good = fits (omega arith) (fits tt (fits (omega arith) (fits tt (fits (omega arith) (fits (omega arith) (fits tt (fits tt (fits tt (fits tt good)))))))))
 
 -- the code of an entry's stub, of the body of a function without a worker, and of a worker
 module _ (P : Program) (m : ℕ) (form : Formed P m) (counts : CountsFit P m) (limits : Limits P) (g : ℕ) (fn : Fn) (at : slice_get P.functions g ≡ Some fn) where

@@ -1,4 +1,3 @@
-pub mod KnownHonest
 pub mod Shapes
 pub mod KnownHolds
 pub mod Unreading
