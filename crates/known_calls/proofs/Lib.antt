@@ -22,3 +22,7 @@ pub mod KnownCalling
 pub mod KnownSizes
 pub mod KnownLight
 pub mod KnownShare
+pub mod KnownMarking
+pub mod KnownPushing
+pub mod KnownFinding
+pub mod KnownBuilt
