@@ -171,7 +171,7 @@ module _ (P : Program) (m : ℕ) (form : Formed P m) (counts : CountsFit P m) (l
   b_choice (Some q) x y = x q refl
 
   mutual
-    b_op : (n d : ℕ) (ps : List Place) (at : Position) (x : Op) → top_op d x < 100000 → Near ps → OpFits P.functions (length P.constants) m n x → Bounded (op_weight x) (op P ps d at x)
+    pub b_op : (n d : ℕ) (ps : List Place) (at : Position) (x : Op) → top_op d x < 100000 → Near ps → OpFits P.functions (length P.constants) m n x → Bounded (op_weight x) (op P ps d at x)
     b_op n d ps at (OConst x) le h fit = b_call (constant_index P x) (omega (arith, limits.few, counts.constants, fit))
     b_op n d ps at (OApp f a) le h fit = b_application n ps at f a (known_function ps f) refl fit.0 fit.1 h
     b_op n d ps at (OCon c as') le h fit = let small = fit.0 in let few = fit.2 in b_block n d _ ps as' (omega arith) (omega (arith, small, few)) (omega (arith, few)) fit.3 h

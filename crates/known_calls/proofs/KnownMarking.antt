@@ -1,12 +1,17 @@
 -- Marks: which variables a part of a block reads, and the marks of its parts one after another.
 use Rattle.std.proofs.Common.{◌≡◌, ℕ, zero, suc, ◌+◌, ◌-◌, ◌<◌, ◌≤◌, List, [], ◌∷◌, ◌++◌, length, length-append, append_assoc, reverse, drop, take, get_or, set, replicate, Bool, true, false, refl, ap, sym, ◌∙◌, arith}
 use Rattle.std.proofs.Math.Seq.{drop-append_seam}
-use Rattle.std.proofs.lemmas.List.{reverse-append, length-reverse, set-append_left, set-append_right, drop-drop, take-append-drop}
+use Rattle.std.proofs.lemmas.List.{reverse-append, length-reverse, length-drop, length-replicate, set-append_left, set-append_right, drop_all, take_more, take-append-drop}
 use Rattle.std.proofs.lemmas.Bool.Decides.{nat_tests}
 use Rattle.std.specs.Prelude.{◌||◌, nat_eq}
 use Rattle.anf_convert.specs.declared.program.Atom.{Atom}
+use Rattle.anf_convert.specs.declared.program.Atom.TheVariants.{Var as AVar, Box as ABox, Empty as AEmpty}
 use Rattle.closure_lift.specs.Lifted.{Op, OConst, OApp, OCon, OClos, OCase, Block, RetAtom, LetAtom, Ret, Let, BranchBlocks, BNil, BCons, Bound, AtomBound, OpBound, ret_of, lets_of}
 use Rattle.closure_lift.specs.LiftedProgram.{renumber_op, renumber, renumber_branches}
+use Rattle.closure_lift.specs.LiftedView.{seen, bounds_of, branches_of}
+use Rattle.closure_lift.specs.declared.program.LiftedBranch.{LiftedBranch}
+use Rattle.closure_lift.specs.declared.program.LiftedOp.{LiftedOp}
+use Rattle.wasm_emit.proofs.Pushing.{next_of}
 use Rattle.known_calls.specs.KnownPlaces.{names, some_names, op_reads, block_reads, branches_read}
 use Rattle.known_calls.specs.KnownMarks.{op_marks, block_marks, empty_marks, head_marks, bound_marks, bound_reads, empties_read, heads_read, Begins, also}
 
@@ -72,6 +77,11 @@ pub beyond_noted : (rs : List Bool) (j : ℕ) → length rs ≤ j → also (λ i
 beyond_noted [] j le = refl
 beyond_noted (r ∷ rs) zero le = absurd (omega arith)
 beyond_noted (r ∷ rs) (suc j) le = one_further r rs j ∙ ap (λ (zs : List Bool). r ∷ zs) (beyond_noted rs j (omega arith))
+
+pub not_named : (a : Atom) → ((x : ℕ) → a ≡ AVar x → ⊥) → (i : ℕ) → names i a ≡ false
+not_named (AVar x) h i = absurd (h x refl)
+not_named ABox h i = refl
+not_named (AEmpty c) h i = refl
 
 -- a note of a list that stands with its first item last
 pub reverse_set : (xs : List Bool) (i : ℕ) (v : Bool) → i < length xs → reverse (set xs (length xs - 1 - i) v) ≡ set (reverse xs) i v
@@ -183,3 +193,156 @@ next_marks m ms all h = begins_second (m ∷ []) ms all h
 
 pub drop_next : (m : Bool) (ms all : List Bool) → Begins (m ∷ ms) all → drop (length ms) (drop 1 all) ≡ drop (length (m ∷ ms)) all
 drop_next m ms all h = drops (m ∷ []) ms all h
+
+-- What a walk has noted.
+
+pub reverse_take : (xs : List Bool) (k : ℕ) → k ≤ length xs → reverse (take k xs) ≡ drop (length xs - k) (reverse xs)
+reverse_take xs k le =
+    let long : length xs - k ≡ length (reverse (drop k xs)) = sym (length-drop k xs) ∙ sym (length-reverse (drop k xs)) in
+    sym (ap (λ (n : ℕ). drop n (reverse xs)) long ∙ ap (λ (zs : List Bool). drop (length (reverse (drop k xs))) zs) (ap reverse (sym (take-append-drop k xs)) ∙ reverse-append (take k xs) (drop k xs)) ∙ drop-append_seam (reverse (drop k xs)) (reverse (take k xs)))
+
+-- the next of some atoms
+pub atoms_more : {a : Atom} (slice : List Atom) (k : ℕ) (old notes new : List Bool) → k < length slice → a ≡ get_or slice k a → notes ≡ also (λ i. some_names i (reverse (take k slice))) old → new ≡ also (λ i. names i a) notes →
+    new ≡ also (λ i. some_names i (reverse (take (k + 1) slice))) old
+atoms_more {a} slice k old notes new lt is inv e =
+    let next : reverse (take (k + 1) slice) ≡ a ∷ reverse (take k slice) =
+    ap reverse (take_more slice k a lt ∙ ap (λ (z : Atom). take k slice ++ z ∷ []) (sym is)) ∙ reverse-append (take k slice) (a ∷ []) in
+    e ∙ ap (λ (zs : List Bool). also (λ i. names i a) zs) inv ∙ also_both (λ i. some_names i (reverse (take k slice))) (λ i. names i a) old
+    ∙ also_same (λ i. names i a || some_names i (reverse (take k slice))) (λ i. some_names i (reverse (take (k + 1) slice))) old (λ i. ap (λ (zs : List Atom). some_names i zs) (sym next))
+
+-- a block without its first j bindings
+abbrev pub past : ℕ → Block → Block
+past zero t = t
+past (suc j) (RetAtom a) = RetAtom a
+past (suc j) (LetAtom a t) = past j t
+past (suc j) (Ret p) = Ret p
+past (suc j) (Let p t) = past j t
+
+past_end : (j : ℕ) (x : Bound) → past j (ret_of x) ≡ ret_of x
+past_end zero x = refl
+past_end (suc j) (AtomBound a) = refl
+past_end (suc j) (OpBound p) = refl
+
+past_step : (j : ℕ) (x : Bound) (xs : List Bound) (t : Block) → past (suc j) (lets_of (x ∷ xs) t) ≡ past j (lets_of xs t)
+past_step j (AtomBound a) xs t = refl
+past_step j (OpBound p) xs t = refl
+
+past_is : (ops : List LiftedOp) (x : Bound) (j : ℕ) → past j (lets_of (bounds_of ops) (ret_of x)) ≡ lets_of (bounds_of (drop j ops)) (ret_of x)
+past_is [] x j = past_end j x ∙ ap (λ (os : List LiftedOp). lets_of (bounds_of os) (ret_of x)) (sym (drop_all j [] (omega arith)))
+past_is (o ∷ ops) x zero = refl
+past_is (o ∷ ops) x (suc j) = past_step j (seen o) (bounds_of ops) (ret_of x) ∙ past_is ops x j
+
+-- a block's bindings from the last on
+module _ (ops : List LiftedOp) (x : Bound) (b : Block) (n : ℕ) (whole : lets_of (bounds_of ops) (ret_of x) ≡ b) (size : n ≡ length ops) where
+  past_all : past (n - 0) b ≡ ret_of x
+  past_all = ap (λ (t : Block). past (n - 0) t) (sym whole) ∙ past_is ops x (n - 0) ∙ ap (λ (os : List LiftedOp). lets_of (bounds_of os) (ret_of x)) (drop_all (n - 0) ops (omega (arith, size)))
+
+  pub noted_init : (old mid new : List Bool) → mid ≡ replicate n false ++ old → new ≡ also (λ i. bound_reads i x) mid → new ≡ also (λ i. block_reads i (past (n - 0) b)) (replicate (n - 0) false ++ old)
+  noted_init old mid new em en =
+      let m : n ≡ n - 0 = omega arith in
+      en ∙ ap (λ (zs : List Bool). also (λ i. bound_reads i x) zs) (em ∙ ap (λ (k : ℕ). replicate k false ++ old) m)
+      ∙ also_same (λ i. bound_reads i x) (λ i. block_reads i (past (n - 0) b)) (replicate (n - 0) false ++ old) (λ i. sym (block_reads_end i x) ∙ ap (λ (t : Block). block_reads i t) (sym past_all))
+
+  pub marked_init : (old new : List Bool) → new ≡ bound_marks x ++ old → new ≡ block_marks (past (n - 0) b) ++ old
+  marked_init old new e = e ∙ ap (λ (ms : List Bool). ms ++ old) (sym (ap block_marks past_all ∙ block_marks_end x))
+
+  module _ (k : ℕ) (o : LiftedOp) (lt : k < n) (is : o ≡ get_or ops (n - 1 - k) o) where
+    abbrev behind : Block
+    behind = lets_of (bounds_of (drop (n - k) ops)) (ret_of x)
+
+    past_now : past (n - k) b ≡ behind
+    past_now = ap (λ (t : Block). past (n - k) t) (sym whole) ∙ past_is ops x (n - k)
+
+    past_next : past (n - (k + 1)) b ≡ lets_of (seen o ∷ bounds_of (drop (n - k) ops)) (ret_of x)
+    past_next =
+        let j : n - 1 - k ≡ n - (k + 1) = omega arith in
+        let s : n - (k + 1) + 1 ≡ n - k = omega arith in
+        ap (λ (t : Block). past (n - (k + 1)) t) (sym whole) ∙ past_is ops x (n - (k + 1))
+        ∙ ap (λ (os : List LiftedOp). lets_of (bounds_of os) (ret_of x)) (next_of ops (n - (k + 1)) o (omega (arith, size, lt)) (is ∙ ap (λ (i : ℕ). get_or ops i o) j))
+        ∙ ap (λ (i : ℕ). lets_of (seen o ∷ bounds_of (drop i ops)) (ret_of x)) s
+
+    pub noted_more : (old notes new : List Bool) → notes ≡ also (λ i. block_reads i (past (n - k) b)) (replicate (n - k) false ++ old) → new ≡ also (λ i. bound_reads i (seen o)) (drop 1 notes) →
+        new ≡ also (λ i. block_reads i (past (n - (k + 1)) b)) (replicate (n - (k + 1)) false ++ old)
+    noted_more old notes new inv e =
+        let s : n - k ≡ suc (n - (k + 1)) = omega arith in
+        let rs = replicate (n - (k + 1)) false ++ old in
+        let one : notes ≡ also (λ i. block_reads i behind) (replicate (suc (n - (k + 1))) false ++ old) =
+        inv ∙ ap (λ (t : Block). also (λ i. block_reads i t) (replicate (n - k) false ++ old)) past_now ∙ ap (λ (j : ℕ). also (λ i. block_reads i behind) (replicate j false ++ old)) s in
+        e ∙ ap (λ (zs : List Bool). also (λ i. bound_reads i (seen o)) (drop 1 zs)) one ∙ also_both (λ i. block_reads (suc i) behind) (λ i. bound_reads i (seen o)) rs
+        ∙ also_same (λ i. bound_reads i (seen o) || block_reads (suc i) behind) (λ i. block_reads i (past (n - (k + 1)) b)) rs
+            (λ i. sym (block_reads_step i (seen o) (bounds_of (drop (n - k) ops)) (ret_of x)) ∙ ap (λ (t : Block). block_reads i t) (sym past_next))
+
+    pub marked_more : (old notes notes0 marks new : List Bool) → notes ≡ also (λ i. block_reads i (past (n - k) b)) (replicate (n - k) false ++ notes0) → marks ≡ block_marks (past (n - k) b) ++ old → new ≡ get_or notes 0 true ∷ (bound_marks (seen o) ++ marks) →
+        new ≡ block_marks (past (n - (k + 1)) b) ++ old
+    marked_more old notes notes0 marks new inv at e =
+        let s : n - k ≡ suc (n - (k + 1)) = omega arith in
+        let first : get_or notes 0 true ≡ block_reads 0 behind =
+        ap (λ (zs : List Bool). get_or zs 0 true) (inv ∙ ap (λ (t : Block). also (λ i. block_reads i t) (replicate (n - k) false ++ notes0)) past_now ∙ ap (λ (j : ℕ). also (λ i. block_reads i behind) (replicate j false ++ notes0)) s)
+        ∙ also_first (λ i. block_reads i behind) (n - (k + 1)) notes0 in
+        e ∙ ap (λ (z : Bool). z ∷ (bound_marks (seen o) ++ marks)) first ∙ ap (λ (zs : List Bool). block_reads 0 behind ∷ (bound_marks (seen o) ++ zs)) (at ∙ ap (λ (t : Block). block_marks t ++ old) past_now)
+        ∙ ap (λ (zs : List Bool). block_reads 0 behind ∷ zs) (sym (append_assoc (bound_marks (seen o)) (block_marks behind) old))
+        ∙ ap (λ (ms : List Bool). ms ++ old) (sym (ap block_marks past_next ∙ block_marks_step (seen o) (bounds_of (drop (n - k) ops)) (ret_of x)))
+
+-- the branches of one kind from the last on
+module _ (read : ℕ → BranchBlocks → Bool) (marks_of : BranchBlocks → List Bool) (none : (i : ℕ) → read i BNil ≡ false) (no_marks : marks_of BNil ≡ [])
+    (step : (i n : ℕ) (t : Block) (bs : BranchBlocks) → read i (BCons n t BNil) || read i bs ≡ read i (BCons n t bs)) (marks_step : (n : ℕ) (t : Block) (bs : BranchBlocks) → marks_of (BCons n t bs) ≡ marks_of (BCons n t BNil) ++ marks_of bs)
+    (bs : List LiftedBranch) (n : ℕ) (size : n ≡ length bs) where
+  nothing_left : branches_of (drop (n - 0) bs) ≡ BNil
+  nothing_left = ap branches_of (drop_all (n - 0) bs (omega (arith, size)))
+
+  pub arms_noted_init : (old : List Bool) → old ≡ also (λ i. read i (branches_of (drop (n - 0) bs))) old
+  arms_noted_init old = sym (also_none (λ i. read i (branches_of (drop (n - 0) bs))) old (λ i. ap (λ (z : BranchBlocks). read i z) nothing_left ∙ none i))
+
+  pub arms_marked_init : (old : List Bool) → old ≡ marks_of (branches_of (drop (n - 0) bs)) ++ old
+  arms_marked_init old = ap (λ (ms : List Bool). ms ++ old) (sym (ap marks_of nothing_left ∙ no_marks))
+
+  module _ (k : ℕ) (b : LiftedBranch) (lt : k < n) (is : b ≡ get_or bs (n - 1 - k) b) where
+    next_branch : branches_of (drop (n - (k + 1)) bs) ≡ BCons b.binders b.body (branches_of (drop (n - k) bs))
+    next_branch =
+        let j : n - 1 - k ≡ n - (k + 1) = omega arith in
+        let s : n - (k + 1) + 1 ≡ n - k = omega arith in
+        ap branches_of (next_of bs (n - (k + 1)) b (omega (arith, size, lt)) (is ∙ ap (λ (i : ℕ). get_or bs i b) j)) ∙ ap (λ (i : ℕ). BCons b.binders b.body (branches_of (drop i bs))) s
+
+    pub arms_noted_more : (old notes new : List Bool) → notes ≡ also (λ i. read i (branches_of (drop (n - k) bs))) old → new ≡ also (λ i. read i (branches_of (b ∷ []))) notes → new ≡ also (λ i. read i (branches_of (drop (n - (k + 1)) bs))) old
+    arms_noted_more old notes new inv e =
+        e ∙ ap (λ (zs : List Bool). also (λ i. read i (branches_of (b ∷ []))) zs) inv ∙ also_both (λ i. read i (branches_of (drop (n - k) bs))) (λ i. read i (branches_of (b ∷ []))) old
+        ∙ also_same (λ i. read i (branches_of (b ∷ [])) || read i (branches_of (drop (n - k) bs))) (λ i. read i (branches_of (drop (n - (k + 1)) bs))) old
+            (λ i. step i b.binders b.body (branches_of (drop (n - k) bs)) ∙ ap (λ (z : BranchBlocks). read i z) (sym next_branch))
+
+    pub arms_marked_more : (old marks new : List Bool) → marks ≡ marks_of (branches_of (drop (n - k) bs)) ++ old → new ≡ marks_of (branches_of (b ∷ [])) ++ marks → new ≡ marks_of (branches_of (drop (n - (k + 1)) bs)) ++ old
+    arms_marked_more old marks new at e =
+        e ∙ ap (λ (zs : List Bool). marks_of (branches_of (b ∷ [])) ++ zs) at ∙ sym (append_assoc (marks_of (branches_of (b ∷ []))) (marks_of (branches_of (drop (n - k) bs))) old)
+        ∙ ap (λ (ms : List Bool). ms ++ old) (sym (ap marks_of next_branch ∙ marks_step b.binders b.body (branches_of (drop (n - k) bs))))
+
+-- a branch's binders are gone behind it
+pub binders_gone : (n : ℕ) (t : Block) (xs0 xs1 xs2 xs3 : List Bool) → 0 < n → reverse xs1 ≡ replicate n false ++ reverse xs0 → reverse xs2 ≡ also (λ i. block_reads i t) (reverse xs1) → xs3 ≡ take (length xs0) xs2 → reverse xs3 ≡ also (λ i. heads_read i (BCons n t BNil)) (reverse xs0)
+binders_gone zero t xs0 xs1 xs2 xs3 some e1 e2 e3 = absurd (omega arith)
+binders_gone (suc n) t xs0 xs1 xs2 xs3 some e1 e2 e3 =
+    let all : reverse xs2 ≡ also (λ i. block_reads i t) (replicate (suc n) false ++ reverse xs0) = e2 ∙ ap (λ (zs : List Bool). also (λ i. block_reads i t) zs) e1 in
+    let long : length xs2 ≡ suc n + length xs0 =
+    sym (length-reverse xs2) ∙ ap length all ∙ also_length (λ i. block_reads i t) (replicate (suc n) false ++ reverse xs0) ∙ length-append (replicate (suc n) false) (reverse xs0) ∙ ap (λ (k : ℕ). k + length (reverse xs0)) (length-replicate (suc n) false) ∙ ap (λ (k : ℕ). suc n + k) (length-reverse xs0) in
+    let gone : length xs2 - length xs0 ≡ suc n = omega (arith, long) in
+    ap reverse e3 ∙ reverse_take xs2 (length xs0) (omega (arith, long)) ∙ ap (λ (k : ℕ). drop k (reverse xs2)) gone ∙ ap (λ (zs : List Bool). drop (suc n) zs) all ∙ also_past (λ i. block_reads i t) (suc n) (reverse xs0)
+    ∙ also_same (λ i. block_reads (suc n + i) t) (λ i. heads_read i (BCons (suc n) t BNil)) (reverse xs0) (λ i. sym (or_false (block_reads (suc n + i) t)))
+
+-- the walk has come to the front of a block
+pub noted_end : (b : Block) (n k : ℕ) → n ≤ k → (old new : List Bool) → new ≡ also (λ i. block_reads i (past (n - k) b)) (replicate (n - k) false ++ old) → new ≡ also (λ i. block_reads i b) old
+noted_end b n k le old new e = let z : n - k ≡ 0 = omega arith in e ∙ ap (λ (j : ℕ). also (λ i. block_reads i (past j b)) (replicate j false ++ old)) z
+
+pub marked_end : (b : Block) (n k : ℕ) → n ≤ k → (old new : List Bool) → new ≡ block_marks (past (n - k) b) ++ old → new ≡ block_marks b ++ old
+marked_end b n k le old new e = let z : n - k ≡ 0 = omega arith in e ∙ ap (λ (j : ℕ). block_marks (past j b) ++ old) z
+
+-- a branch of the other kind
+pub no_heads : (i n : ℕ) (t : Block) → n ≡ 0 → heads_read i (BCons n t BNil) ≡ false
+no_heads i zero t e = refl
+no_heads i (suc n) t e = absurd (omega arith)
+
+pub no_empties : (i n : ℕ) (t : Block) → 0 < n → empties_read i (BCons n t BNil) ≡ false
+no_empties i zero t e = absurd (omega arith)
+no_empties i (suc n) t e = refl
+
+-- the branches of both kinds
+pub branches_noted : (bs : BranchBlocks) (xs ys : List LiftedBranch) (old mid new : List Bool) → branches_of xs ≡ bs → branches_of ys ≡ bs → mid ≡ also (λ i. heads_read i (branches_of xs)) old → new ≡ also (λ i. empties_read i (branches_of ys)) mid → new ≡ also (λ i. branches_read i bs) old
+branches_noted bs xs ys old mid new ex ey em en =
+    en ∙ ap (λ (z : BranchBlocks). also (λ i. empties_read i z) mid) ey ∙ ap (λ (zs : List Bool). also (λ i. empties_read i bs) zs) (em ∙ ap (λ (z : BranchBlocks). also (λ i. heads_read i z) old) ex)
+    ∙ also_both (λ i. heads_read i bs) (λ i. empties_read i bs) old ∙ also_same (λ i. empties_read i bs || heads_read i bs) (λ i. branches_read i bs) old (λ i. branches_both i bs)

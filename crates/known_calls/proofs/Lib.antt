@@ -26,3 +26,4 @@ pub mod KnownMarking
 pub mod KnownPushing
 pub mod KnownFinding
 pub mod KnownBuilt
+pub mod KnownEmitting
