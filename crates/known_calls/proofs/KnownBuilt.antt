@@ -105,7 +105,7 @@ bodies_made P main v w u m ev ew em eu =
     let first : w ≡ room_function ∷ box_function ∷ ((numbered (entry P) 0 P.functions ++ map (constant P) P.constants) ++ main ∷ []) = rw (ew, ev, em) refl in
     eu ∙ ap (λ (zs : List Body). zs ++ numbered (worker P) 0 P.functions) first
     ∙ ap (λ (zs : List Body). room_function ∷ box_function ∷ zs)
-        (append_assoc (numbered (entry P) 0 P.functions ++ map (constant P) P.constants) (main ∷ []) (numbered (worker P) 0 P.functions) ∙ append_assoc (numbered (entry P) 0 P.functions) (map (constant P) P.constants) (main ∷ numbered (worker P) 0 P.functions))
+    (append_assoc (numbered (entry P) 0 P.functions ++ map (constant P) P.constants) (main ∷ []) (numbered (worker P) 0 P.functions) ∙ append_assoc (numbered (entry P) 0 P.functions) (map (constant P) P.constants) (main ∷ numbered (worker P) 0 P.functions))
 
 pub few_locals : (Q : Lifted) → All FewInFunction ((lifted_of Q).functions) → All FewInBlock ((lifted_of Q).constants) → top 0 Q.main ≤ 50000 → FewLocals (lifted_of Q)
 few_locals Q functions constants main = record { functions = functions; constants = constants; main = omega (arith, main, top_renumbered (place_in Q.constants) 0 Q.main) }

@@ -270,7 +270,7 @@ module _ (ops : List LiftedOp) (x : Bound) (b : Block) (n : ℕ) (whole : lets_o
         inv ∙ ap (λ (t : Block). also (λ i. block_reads i t) (replicate (n - k) false ++ old)) past_now ∙ ap (λ (j : ℕ). also (λ i. block_reads i behind) (replicate j false ++ old)) s in
         e ∙ ap (λ (zs : List Bool). also (λ i. bound_reads i (seen o)) (drop 1 zs)) one ∙ also_both (λ i. block_reads (suc i) behind) (λ i. bound_reads i (seen o)) rs
         ∙ also_same (λ i. bound_reads i (seen o) || block_reads (suc i) behind) (λ i. block_reads i (past (n - (k + 1)) b)) rs
-            (λ i. sym (block_reads_step i (seen o) (bounds_of (drop (n - k) ops)) (ret_of x)) ∙ ap (λ (t : Block). block_reads i t) (sym past_next))
+        (λ i. sym (block_reads_step i (seen o) (bounds_of (drop (n - k) ops)) (ret_of x)) ∙ ap (λ (t : Block). block_reads i t) (sym past_next))
 
     pub marked_more : (old notes notes0 marks new : List Bool) → notes ≡ also (λ i. block_reads i (past (n - k) b)) (replicate (n - k) false ++ notes0) → marks ≡ block_marks (past (n - k) b) ++ old → new ≡ get_or notes 0 true ∷ (bound_marks (seen o) ++ marks) →
         new ≡ block_marks (past (n - (k + 1)) b) ++ old
@@ -307,7 +307,7 @@ module _ (read : ℕ → BranchBlocks → Bool) (marks_of : BranchBlocks → Lis
     arms_noted_more old notes new inv e =
         e ∙ ap (λ (zs : List Bool). also (λ i. read i (branches_of (b ∷ []))) zs) inv ∙ also_both (λ i. read i (branches_of (drop (n - k) bs))) (λ i. read i (branches_of (b ∷ []))) old
         ∙ also_same (λ i. read i (branches_of (b ∷ [])) || read i (branches_of (drop (n - k) bs))) (λ i. read i (branches_of (drop (n - (k + 1)) bs))) old
-            (λ i. step i b.binders b.body (branches_of (drop (n - k) bs)) ∙ ap (λ (z : BranchBlocks). read i z) (sym next_branch))
+        (λ i. step i b.binders b.body (branches_of (drop (n - k) bs)) ∙ ap (λ (z : BranchBlocks). read i z) (sym next_branch))
 
     pub arms_marked_more : (old marks new : List Bool) → marks ≡ marks_of (branches_of (drop (n - k) bs)) ++ old → new ≡ marks_of (branches_of (b ∷ [])) ++ marks → new ≡ marks_of (branches_of (drop (n - (k + 1)) bs)) ++ old
     arms_marked_more old marks new at e =

@@ -55,7 +55,7 @@ module _ (P : Program) (f : ℕ → ℕ) (env : List Place) (d : ℕ) (at : Posi
   code_step (AtomBound a) xs t rest = made_atom a (renumber f (lets_of xs t)) rest (block_reads 0 (lets_of xs t))
   code_step (OpBound x) xs t rest =
       ap (λ (b : Bool). choose (if b then None else known P env (renumber_op f x)) (λ q. code P (q ∷ env) d at (renumber f (lets_of xs t)) rest)
-          (op P env d Inside (renumber_op f x) (LocalSet d ∷ code P (At (InLocal d) ∷ env) (suc d) at (renumber f (lets_of xs t)) rest))) (reads_renumbered f 0 (lets_of xs t))
+      (op P env d Inside (renumber_op f x) (LocalSet d ∷ code P (At (InLocal d) ∷ env) (suc d) at (renumber f (lets_of xs t)) rest))) (reads_renumbered f 0 (lets_of xs t))
       ∙ chosen (renumber_op f x) (renumber f (lets_of xs t)) rest (if block_reads 0 (lets_of xs t) then None else known P env (renumber_op f x))
 
   pub code_end : (x : Bound) (rest : List Instr) → code P env d at (renumber f (ret_of x)) rest ≡ bound_code P env d at (renumber_bound f x) rest

@@ -16,8 +16,8 @@ ghost use Rattle.known_calls.specs.KnownCode.{Inside, block};
 ghost use Rattle.wasm_core.specs.declared.instrs.Instr.TheVariants.{LocalSet};
 
 use crate::calls::push_application;
+use crate::closures::known;
 use crate::instructions::{push_atom, push_new_block};
-use crate::knowing::known;
 use crate::marks::take_mark;
 use crate::places::{Place, push_field_places};
 use crate::site::{Arm, Position, Site, under};

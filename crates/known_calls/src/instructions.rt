@@ -5,7 +5,7 @@ ghost use Rattle.wasm_emit.specs.declared.fault.EmitFault.TheVariants.{Memory};
 ghost use Rattle.known_calls.specs.KnownCode.{read_word, read, atom, push_words as words_code, fill, block, into_params};
 ghost use Rattle.known_calls.specs.KnownModule.{captured_words};
 
-use crate::knowing::word_of;
+use crate::closures::word_of;
 use crate::places::Place;
 use crate::words::{Word, Words};
 use anf_convert::lists::Atoms;

@@ -19,9 +19,9 @@
 mod blocks;
 mod bodies;
 mod calls;
+mod closures;
 mod emission;
 mod instructions;
-mod knowing;
 mod laws;
 mod marks;
 mod places;
