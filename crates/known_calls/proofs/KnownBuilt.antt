@@ -13,7 +13,7 @@ use Rattle.wasm_core.specs.declared.types.ValType.TheVariants as type
 use Rattle.wasm_core.specs.declared.instrs.BlockType.TheVariants.{Value}
 use Rattle.wasm_core.specs.declared.instrs.Body.{Body}
 use Rattle.wasm_core.specs.declared.instrs.Instr.{Instr}
-use Rattle.wasm_core.specs.declared.instrs.Instr.TheVariants.{Loop, End, Call, LocalGet, GlobalSet}
+use Rattle.wasm_core.specs.declared.instrs.Instr.TheVariants.{Unreachable, Loop, End, Call, LocalGet, GlobalSet}
 use Rattle.wasm_emit.specs.EmittedLocals.{top}
 use Rattle.wasm_emit.specs.EmittedModule.{room_function, box_function, body}
 use Rattle.wasm_emit.specs.EmittedBodies.{FewInFunction, FewInBlock, FewLocals, MemoryOrNot}
@@ -58,6 +58,13 @@ entry_wide P g f e = sym (ap (λ (b : Bool). if b then wide_body P f else body 0
 
 pub entry_narrow : (P : Program) (g : ℕ) (f : Fn) → nat_le 8 f.captured ≡ false → body 0 (stub_code P g f.captured) ≡ entry P g f
 entry_narrow P g f e = sym (ap (λ (b : Bool). if b then wide_body P f else body 0 (stub_code P g f.captured)) e)
+
+pub worker_done : (Q : Lifted) (g : ℕ) (f : Function) (n : ℕ) (is : List Instr) → n ≡ top 2 f.body → nat_le 8 f.captured ≡ false → is ≡ Loop (Value type.I32) ∷ worker_code (lifted_of Q) g (function_in Q f) → body (n - 2) is ≡ worker (lifted_of Q) g (function_in Q f)
+worker_done Q g f n is count narrow e =
+    let t = renumber (place_in Q.constants) f.body in
+    let k : n - 2 ≡ top 2 t - 2 = ap (λ (j : ℕ). j - 2) (count ∙ sym (top_renumbered (place_in Q.constants) 2 f.body)) in
+    same_body (n - 2) (top 2 t - 2) is _ k e
+    ∙ sym (ap (λ (b : Bool). if b then body 0 (Unreachable ∷ End ∷ []) else body (top 2 t - 2) (Loop (Value type.I32) ∷ worker_code (lifted_of Q) g (function_in Q f))) narrow)
 
 pub constant_made : (Q : Lifted) (t : Block) (n : ℕ) (o1 o2 : List Instr) → n ≡ top 0 t → Pushed [] o1 (block_code Q [] 0 Inside t) → Pushed o1 o2 (λ rest. End ∷ rest) → body n o2 ≡ constant (lifted_of Q) (renumber (place_in Q.constants) t)
 constant_made Q t n o1 o2 e x y = same_body n (top 0 (renumber (place_in Q.constants) t)) o2 _ (e ∙ sym (top_renumbered (place_in Q.constants) 0 t)) (only_pushed [] o2 refl (then_pushed [] o1 o2 x y))

@@ -8,6 +8,7 @@ use Rattle.closure_lift.specs.LiftedView.{functions_of}
 use Rattle.closure_lift.specs.declared.program.Function.{Function}
 use Rattle.closure_lift.specs.declared.program.Lifted.{Lifted}
 use Rattle.closure_lift.specs.declared.program.LiftedConstant.{LiftedConstant}
+use Rattle.wasm_core.specs.declared.types.ValType.TheVariants as type
 use Rattle.wasm_core.specs.declared.types.FuncType.{FuncType}
 use Rattle.wasm_core.specs.declared.types.GlobalDef.{GlobalDef}
 use Rattle.wasm_core.specs.declared.exports.Export.{Export}
@@ -28,6 +29,9 @@ use Rattle.known_calls.specs.KnownEmission.{bodies_with, words_types, worker_typ
 use Rattle.known_calls.proofs.KnownSpelling.{known_spelled, known_call_spelled}
 use Rattle.known_calls.proofs.KnownValidity.{known_valid, calls_valid}
 
+pub type_of_words : (k : ℕ) (t : FuncType) → t ≡ record { params = replicate (k + 1) type.I32; result = Some type.I32 } → t ≡ words_type k
+type_of_words k t e = let s : k + 1 ≡ suc k = omega arith in e ∙ ap (λ (n : ℕ). record { params = replicate n type.I32; result = Some type.I32 }) s
+
 -- the next type of a worker
 pub words_types_more : (v w out : List FuncType) (t : FuncType) (k n : ℕ) → w ≡ v ++ t ∷ [] → t ≡ words_type k → k < n → v ++ words_types k (n - k) ≡ out → w ++ words_types (k + 1) (n - (k + 1)) ≡ out
 words_types_more v w out t k n more is lt inv =
@@ -46,7 +50,7 @@ all_workers : (i : ℕ) (fs : List Fn) → worker_types fs ≡ numbered (λ g f.
 all_workers i [] = refl
 all_workers i (f ∷ fs) = ap (λ (zs : List ℕ). worker_type f ∷ zs) (all_workers (suc i) fs)
 
-all_twos : (i : ℕ) (fs : List Fn) → replicate (length fs) 2 ≡ numbered (λ g f. 2) i fs
+all_twos : (i : ℕ) (fs : List Fn) → replicate {A = ℕ} (length fs) 2 ≡ numbered (λ g f. 2) i fs
 all_twos i [] = refl
 all_twos i (f ∷ fs) = ap (λ (zs : List ℕ). 2 ∷ zs) (all_twos (suc i) fs)
 
@@ -56,8 +60,8 @@ funcs_made Q items n k v0 v1 v2 v3 v4 same en ek e0 e1 e2 e3 e4 =
     let P = lifted_of Q in
     let cn : n ≡ length P.functions = en ∙ sym (functions_count items) ∙ ap length same ∙ sym (renumbered_count (place_in Q.constants) Q.functions) in
     let ck : k ≡ length P.constants = ek ∙ sym (length_map (λ (c : LiftedConstant). renumber (place_in Q.constants) c.body) Q.constants) in
-    let fs : replicate n 2 ≡ numbered (λ g f. 2) 0 P.functions = ap (λ (j : ℕ). replicate j 2) cn ∙ all_twos 0 P.functions in
-    let cs : replicate k 1 ≡ map (λ (t : Block). 1) P.constants = ap (λ (j : ℕ). replicate j 1) ck ∙ times 1 P.constants in
+    let fs : replicate {A = ℕ} n 2 ≡ numbered (λ g f. 2) 0 P.functions = ap (λ (j : ℕ). replicate j 2) cn ∙ all_twos 0 P.functions in
+    let cs : replicate {A = ℕ} k 1 ≡ map (λ (t : Block). 1) P.constants = ap (λ (j : ℕ). replicate j 1) ck ∙ times 1 P.constants in
     let xs = numbered (λ g f. 2) 0 P.functions in
     let ys = map (λ (t : Block). 1) P.constants in
     let zs' = numbered (λ g f. worker_type f) 0 P.functions in

@@ -2,12 +2,13 @@
 use Rattle.std.proofs.Common.{◌≡◌, ℕ, zero, suc, ◌+◌, ◌-◌, ◌<◌, ◌≤◌, List, [], ◌∷◌, ◌++◌, length, reverse, take, drop, get_or, Option, Some, None, Bool, true, false, refl, ap, sym, ◌∙◌, subst, arith}
 use Rattle.std.proofs.lemmas.Bool.{leb-true}
 use Rattle.std.proofs.lemmas.List.{reverse-append, take_more, take-append-drop, length-reverse, get_or-reverse}
-use Rattle.std.specs.Prelude.{slice_get, nat_le, if◌then◌else◌, map}
+use Rattle.std.specs.Prelude.{slice_get, nat_le, if◌then◌else◌, map, Result, Ok, Err, IfOk}
 use Rattle.std.specs.Option.{option_map, option_and_then}
 use Rattle.anf_convert.specs.declared.program.Atom.{Atom}
 use Rattle.closure_lift.specs.Lifted.{Op, OConst, OApp, OCon, OClos, OCase, Block, RetAtom, LetAtom, Ret, Let, Fn, Program, Bound, AtomBound, OpBound, ret_of, lets_of}
 use Rattle.closure_lift.specs.LiftedProgram.{renumber_op, renumber, renumber_functions, place_in, lifted_of}
-use Rattle.closure_lift.specs.LiftedView.{functions_of, fn_of}
+use Rattle.closure_lift.specs.LiftedView.{bounds_of, functions_of}
+use Rattle.closure_lift.specs.declared.program.LiftedOp.{LiftedOp}
 use Rattle.closure_lift.specs.declared.program.Function.{Function}
 use Rattle.closure_lift.specs.declared.program.LiftedConstant.{LiftedConstant}
 use Rattle.wasm_emit.proofs.Pushing.{next_of}
@@ -89,13 +90,45 @@ alone_renumbered f env (Ret (OCase a bs)) = refl
 alone_renumbered f env (Let x t) = refl
 
 -- function g of a program in memory
-pub function_in_place : (f : ℕ → ℕ) (items : List Function) (g : ℕ) → slice_get (renumber_functions f (functions_of items)) g ≡ option_map (λ (x : Function). record { captured = x.captured; body = renumber f x.body }) (slice_get items g)
-function_in_place f [] g = refl
-function_in_place f (x ∷ xs) zero = refl
-function_in_place f (x ∷ xs) (suc g) = function_in_place f xs g
+function_absent : (f : ℕ → ℕ) (items : List Function) (g : ℕ) → length items ≤ g → slice_get (renumber_functions f (functions_of items)) g ≡ None
+function_absent f [] g le = refl
+function_absent f (x ∷ xs) zero le = absurd (omega arith)
+function_absent f (x ∷ xs) (suc g) le = function_absent f xs g (omega arith)
+
+function_there : (f : ℕ → ℕ) (items : List Function) (g : ℕ) (x : Function) → g < length items → slice_get (renumber_functions f (functions_of items)) g ≡ Some (record { captured = (get_or items g x).captured; body = renumber f (get_or items g x).body })
+function_there f [] g x lt = absurd (omega arith)
+function_there f (y ∷ ys) zero x lt = refl
+function_there f (y ∷ ys) (suc g) x lt = function_there f ys g x (omega arith)
+
+pub partial_none : (env : List Place) (f : ℕ → ℕ) (items : List Function) (fns : List Fn) (g : ℕ) → functions_of items ≡ fns → length items ≤ g → None ≡ option_and_then (λ fn. closure_alone env fn.body) (slice_get (renumber_functions f fns) g)
+partial_none env f items fns g same le =
+    sym (ap (λ (fs : List Fn). option_and_then (λ fn. closure_alone env fn.body) (slice_get (renumber_functions f fs) g)) (sym same) ∙ ap (λ (o : Option Fn). option_and_then (λ fn. closure_alone env fn.body) o) (function_absent f items g le))
+
+pub partial_is : (env : List Place) (f : ℕ → ℕ) (items : List Function) (fns : List Fn) (g : ℕ) (x : Function) → functions_of items ≡ fns → g < length items → x ≡ get_or items g x →
+    closure_alone env x.body ≡ option_and_then (λ fn. closure_alone env fn.body) (slice_get (renumber_functions f fns) g)
+partial_is env f items fns g x same lt is =
+    ap (λ (y : Function). closure_alone env y.body) is ∙ sym (alone_renumbered f env (get_or items g x).body)
+    ∙ sym (ap (λ (fs : List Fn). option_and_then (λ fn. closure_alone env fn.body) (slice_get (renumber_functions f fs) g)) (sym same) ∙ ap (λ (o : Option Fn). option_and_then (λ fn. closure_alone env fn.body) o) (function_there f items g x lt))
 
 -- a constant by its place
 pub constant_in_place : (f : ℕ → ℕ) (cs : List LiftedConstant) (x : ℕ) → slice_get (map (λ (c : LiftedConstant). renumber f c.body) cs) x ≡ option_map (λ (c : LiftedConstant). renumber f c.body) (slice_get cs x)
 constant_in_place f [] x = refl
 constant_in_place f (c ∷ cs) zero = refl
 constant_in_place f (c ∷ cs) (suc x) = constant_in_place f cs x
+
+-- an atom without a word is found
+pub words_lost : {a : Atom} (env : List Place) (items as' : List Atom) (k : ℕ) (o : Option Word) → k < length items → a ≡ get_or items k a → o ≡ word_of env a → ((w : Word) → o ≡ Some w → ⊥) → reverse items ≡ as' → None ≡ words_of env as'
+words_lost {a} env items as' k None lt is e lost same = sym (ap (λ (zs : List Atom). words_of env zs) (sym same) ∙ words_none env items k a lt is (sym e))
+words_lost {a} env items as' k (Some w) lt is e lost same = absurd (lost w refl)
+
+bounds_count : (ops : List LiftedOp) → length (bounds_of ops) ≡ length ops
+bounds_count [] = refl
+bounds_count (o ∷ ops) = ap suc (bounds_count ops)
+
+pub alone_not : (env : List Place) (ops : List LiftedOp) (ps : List Bound) (t b : Block) → 0 < length ops → bounds_of ops ≡ ps → lets_of ps t ≡ b → None ≡ closure_alone env b
+alone_not env ops ps t b some same whole = sym (ap (λ (z : Block). closure_alone env z) (sym whole) ∙ binds_first env ps t (omega (arith, some, bounds_count ops, ap length same)))
+
+-- what was found is the same as this
+pub same_ok : {A E : Type 0} (r : Result A E) (a b : A) → a ≡ b → IfOk r (λ x. x ≡ a) → IfOk r (λ x. x ≡ b)
+same_ok (Ok x) a b e h = h ∙ e
+same_ok (Err f) a b e h = h

@@ -1,5 +1,5 @@
 -- Marks: which variables a part of a block reads, and the marks of its parts one after another.
-use Rattle.std.proofs.Common.{◌≡◌, ℕ, zero, suc, ◌+◌, ◌-◌, ◌<◌, ◌≤◌, List, [], ◌∷◌, ◌++◌, length, length-append, append_assoc, reverse, drop, take, get_or, set, replicate, Bool, true, false, refl, ap, sym, ◌∙◌, arith}
+use Rattle.std.proofs.Common.{◌≡◌, ℕ, zero, suc, ◌+◌, ◌-◌, ◌<◌, ◌≤◌, List, [], ◌∷◌, ◌++◌, length, length-append, append_assoc, reverse, drop, take, get_or, set, replicate, Bool, true, false, refl, ap, sym, ◌∙◌, subst, arith}
 use Rattle.std.proofs.Math.Seq.{drop-append_seam}
 use Rattle.std.proofs.lemmas.List.{reverse-append, length-reverse, length-drop, length-replicate, set-append_left, set-append_right, drop_all, take_more, take-append-drop}
 use Rattle.std.proofs.lemmas.Bool.Decides.{nat_tests}
@@ -346,3 +346,51 @@ pub branches_noted : (bs : BranchBlocks) (xs ys : List LiftedBranch) (old mid ne
 branches_noted bs xs ys old mid new ex ey em en =
     en ∙ ap (λ (z : BranchBlocks). also (λ i. empties_read i z) mid) ey ∙ ap (λ (zs : List Bool). also (λ i. empties_read i bs) zs) (em ∙ ap (λ (z : BranchBlocks). also (λ i. heads_read i z) old) ex)
     ∙ also_both (λ i. heads_read i bs) (λ i. empties_read i bs) old ∙ also_same (λ i. empties_read i bs || heads_read i bs) (λ i. branches_read i bs) old (λ i. branches_both i bs)
+
+-- The first marks where the code of a block has come to a binding.
+
+pub end_marks : (items : List LiftedOp) (i : ℕ) (x : Bound) → length items ≤ i → block_marks (lets_of (bounds_of (drop i items)) (ret_of x)) ≡ bound_marks x
+end_marks items i x le = ap (λ (os : List LiftedOp). block_marks (lets_of (bounds_of os) (ret_of x))) (drop_all i items le) ∙ block_marks_end x
+
+module _ (items : List LiftedOp) (i : ℕ) (o : LiftedOp) (t : Block) (lt : i < length items) (is : o ≡ get_or items i o) (all : List Bool) (h : Begins (block_marks (lets_of (bounds_of (drop i items)) t)) all) where
+  abbrev rest : Block
+  rest = lets_of (bounds_of (drop (i + 1) items)) t
+
+  marks_now : block_marks (lets_of (bounds_of (drop i items)) t) ≡ block_reads 0 rest ∷ (bound_marks (seen o) ++ block_marks rest)
+  marks_now = ap (λ (os : List LiftedOp). block_marks (lets_of (bounds_of os) t)) (next_of items i o lt is) ∙ block_marks_step (seen o) (bounds_of (drop (i + 1) items)) t
+
+  begin_now : Begins (block_reads 0 rest ∷ (bound_marks (seen o) ++ block_marks rest)) all
+  begin_now = subst (λ ms. Begins ms all) marks_now h
+
+  pub mark_now : get_or all 0 true ≡ block_reads 0 rest
+  mark_now = first_mark (block_reads 0 rest) (bound_marks (seen o) ++ block_marks rest) all begin_now
+
+  pub begin_op : Begins (bound_marks (seen o)) (drop 1 all)
+  begin_op = begins_first (bound_marks (seen o)) (block_marks rest) (drop 1 all) (next_marks (block_reads 0 rest) (bound_marks (seen o) ++ block_marks rest) all begin_now)
+
+  pub begin_behind : (new : List Bool) → new ≡ drop (length (bound_marks (seen o))) (drop 1 all) → Begins (block_marks rest) new
+  begin_behind new e = subst (λ ms. Begins (block_marks rest) ms) (sym e) (begins_second (bound_marks (seen o)) (block_marks rest) (drop 1 all) (next_marks (block_reads 0 rest) (bound_marks (seen o) ++ block_marks rest) all begin_now))
+
+  pub left_behind : (new : List Bool) → new ≡ drop (length (bound_marks (seen o))) (drop 1 all) → drop (length (block_marks rest)) new ≡ drop (length (block_marks (lets_of (bounds_of (drop i items)) t))) all
+  left_behind new e =
+      ap (λ (ms : List Bool). drop (length (block_marks rest)) ms) e ∙ drops (bound_marks (seen o)) (block_marks rest) (drop 1 all) (next_marks (block_reads 0 rest) (bound_marks (seen o) ++ block_marks rest) all begin_now)
+      ∙ drop_next (block_reads 0 rest) (bound_marks (seen o) ++ block_marks rest) all begin_now ∙ ap (λ (ms : List Bool). drop (length ms) all) (sym marks_now)
+
+-- and to a branch of one kind
+module _ (marks_of : BranchBlocks → List Bool) (marks_step : (n : ℕ) (t : Block) (bs : BranchBlocks) → marks_of (BCons n t bs) ≡ marks_of (BCons n t BNil) ++ marks_of bs)
+    (bs : List LiftedBranch) (c : ℕ) (b : LiftedBranch) (lt : c < length bs) (is : b ≡ get_or bs c b) (all : List Bool) (h : Begins (marks_of (branches_of (drop c bs))) all) where
+  arm_marks : marks_of (branches_of (drop c bs)) ≡ marks_of (branches_of (b ∷ [])) ++ marks_of (branches_of (drop (c + 1) bs))
+  arm_marks = ap (λ (xs : List LiftedBranch). marks_of (branches_of xs)) (next_of bs c b lt is) ∙ marks_step b.binders b.body (branches_of (drop (c + 1) bs))
+
+  begin_arms : Begins (marks_of (branches_of (b ∷ [])) ++ marks_of (branches_of (drop (c + 1) bs))) all
+  begin_arms = subst (λ ms. Begins ms all) arm_marks h
+
+  pub begin_arm : Begins (marks_of (branches_of (b ∷ []))) all
+  begin_arm = begins_first (marks_of (branches_of (b ∷ []))) (marks_of (branches_of (drop (c + 1) bs))) all begin_arms
+
+  pub begin_more : (new : List Bool) → new ≡ drop (length (marks_of (branches_of (b ∷ [])))) all → Begins (marks_of (branches_of (drop (c + 1) bs))) new
+  begin_more new e = subst (λ ms. Begins (marks_of (branches_of (drop (c + 1) bs))) ms) (sym e) (begins_second (marks_of (branches_of (b ∷ []))) (marks_of (branches_of (drop (c + 1) bs))) all begin_arms)
+
+  pub left_more : (new : List Bool) → new ≡ drop (length (marks_of (branches_of (b ∷ [])))) all → drop (length (marks_of (branches_of (drop (c + 1) bs)))) new ≡ drop (length (marks_of (branches_of (drop c bs)))) all
+  left_more new e =
+      ap (λ (ms : List Bool). drop (length (marks_of (branches_of (drop (c + 1) bs)))) ms) e ∙ drops (marks_of (branches_of (b ∷ []))) (marks_of (branches_of (drop (c + 1) bs))) all begin_arms ∙ ap (λ (ms : List Bool). drop (length ms) all) (sym arm_marks)

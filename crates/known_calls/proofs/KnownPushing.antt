@@ -16,7 +16,7 @@ use Rattle.wasm_emit.specs.EmittedCode.{ConstWord, Load, StoreWord, IfWord, ensu
 use Rattle.wasm_emit.specs.Pushed.{Pushed, ends, renumber_bound}
 use Rattle.wasm_emit.proofs.Pushing.{next_of, ends_sum}
 use Rattle.known_calls.specs.KnownPlaces.{Place, At, InLocal, fields_of, block_reads}
-use Rattle.known_calls.specs.KnownCode.{Position, Inside, InTail, deeper, choose, known, atom, fill, block, op, code, empties, heads}
+use Rattle.known_calls.specs.KnownCode.{Position, Inside, InTail, deeper, choose, known, into_params, atom, fill, block, op, code, empties, heads}
 use Rattle.known_calls.specs.KnownPushed.{under_position, bound_code, bound_known, bound_unmade, place_bound, local_behind, bind_code, op_unmade, binding_code, block_code, EmptyArms, EmptyArm, BlockArm}
 use Rattle.known_calls.proofs.KnownMarking.{reads_renumbered}
 
@@ -224,3 +224,9 @@ field_pushed {a} env d slice atoms k offset o0 o1 o2 o3 out g same lt e x0 x1 x2
     ∙ ap (λ (o : ℕ). o0 ++ (LocalGet d ∷ atom env a (StoreWord o ∷ more))) e
     ∙ ap (λ (zs : List Instr). o0 ++ zs) (sym (fill_step env d slice atoms k a rest same lt is))
     ∙ inv rest
+
+-- the next parameter
+pub params_step : (n k : ℕ) (rest : List Instr) → k < n → into_params (n - k) rest ≡ LocalSet (n - k) ∷ into_params (n - (k + 1)) rest
+params_step n k rest lt =
+    let e : n - k ≡ suc (n - (k + 1)) = omega arith in
+    ap (λ (j : ℕ). into_params j rest) e ∙ ap (λ (j : ℕ). LocalSet j ∷ into_params (n - (k + 1)) rest) (sym e)

@@ -122,11 +122,13 @@ fn partial(
     ensures is { IfOk result (λ q. q ≡ partial_of (lifted_of p.now) (g, words.now) (Some argument)) }
     ensures only_memory { IfErr result (λ e. e ≡ Memory) }
 {
-    let Some(f) = p.functions.as_slice().get(g as usize) else {
+    let functions = p.functions.as_slice();
+    let place = g as usize;
+    if place >= functions.len() {
         return Ok(None);
-    };
+    }
     let places = places_at(alloc, words, argument)?;
-    closure_alone(alloc, places.as_slice(), &f.body)
+    closure_alone(alloc, places.as_slice(), &functions[place].body)
 }
 
 /// The closure that an application is known to give. Only `Memory`.

@@ -1,4 +1,4 @@
-use Rattle.std.proofs.Common.{◌≡◌, ◌++◌, List, append-nil, ap, sym, subst, ◌∙◌}
+use Rattle.std.proofs.Common.{◌≡◌, ℕ, ◌++◌, List, append-nil, ap, sym, subst, ◌∙◌}
 use Rattle.std.proofs.Math.ListN.{drop_of_length-le}
 use Rattle.std.proofs.lemmas.Result.{err_from_is_err_and}
 use Rattle.closure_lift.specs.Lifted.{Fn}
@@ -6,6 +6,7 @@ use Rattle.closure_lift.specs.LiftedProgram.{renumber_functions, place_in, lifte
 use Rattle.closure_lift.specs.declared.program.Function.{Function}
 use Rattle.wasm_core.specs.ModuleCondition.{All}
 use Rattle.wasm_emit.specs.EmittedBodies.{FewInFunction}
+use Rattle.wasm_emit.specs.Pushed.{function_in}
 use Rattle.wasm_emit.proofs.Listed.{functions_in, functions_few, functions_only, functions_refused}
 use Rattle.known_calls.specs.KnownModule.{worker, numbered}
 use Rattle.known_calls.proofs.KnownBuilt.{numbered_more}
@@ -27,7 +28,7 @@ loop-g-preserved c =
     let fs = c.as_slice-functions.result.now in
     record {
       pushed = numbered_more Q (worker (lifted_of Q)) fs c.loop-g.g c.index-functions-g.result c.loop-g-test.true c.index-functions-g.is c.in_ok-body.body c.loop-g.bodies.items c.push.new.self.items _
-          (subst (λ j. c.in_ok-body.body ≡ worker (lifted_of Q) j _) c.in_ok-number.ensures.is c.in_ok-body.ensures.is) c.in_ok-push.ensures.items c.loop-g.invariant.pushed;
+          (subst (λ (j : ℕ). c.in_ok-body.body ≡ worker (lifted_of Q) j (function_in Q c.index-functions-g.result)) c.in_ok-number.ensures.is c.in_ok-body.ensures.is) c.in_ok-push.ensures.items c.loop-g.invariant.pushed;
       few = functions_few Q fs c.loop-g.g c.index-functions-g.result c.loop-g-test.true c.index-functions-g.is c.in_ok-body.ensures.few c.loop-g.invariant.few;
       only = functions_only Q fs c.loop-g.g c.index-functions-g.result c.loop-g-test.true c.index-functions-g.is c.loop-g.invariant.only;
     }
