@@ -128,6 +128,7 @@ async function run() {
 $("files").addEventListener("change", () => takeFiles($("files").files));
 $("run").addEventListener("click", run);
 $("stop").addEventListener("click", () => program.ending?.abort());
+$("arguments").addEventListener("keydown", (it) => { if (it.key === "Enter" && (it.ctrlKey || it.metaKey) && !$("run").disabled) run(); });
 for (const kind of ["dragover", "dragenter"]) {
   document.addEventListener(kind, (it) => { it.preventDefault(); $("drop").classList.add("over"); });
 }

@@ -26,7 +26,7 @@ export class BadModule extends ErasecError {}
 /** An argument isn't data of its type, or there are more or fewer of them than main takes. */
 export class BadArgument extends ErasecError {}
 
-/** The run ended since its memory was used up, or its arguments have no room. */
+/** The run ended since its memory was used up, or its arguments have no room, or the engine has none for an instance. */
 export class MemoryExhausted extends ErasecError {}
 
 /** The run ended since the engine's stack is too small for its recursion: the program may still have an answer. */
@@ -315,6 +315,7 @@ function instanceOf({ module, types }) {
   try {
     entries = new WebAssembly.Instance(module, {}).exports;
   } catch (cause) {
+    if (cause instanceof RangeError) throw new MemoryExhausted(`the engine has no memory for an instance: ${cause.message}`, { cause });
     throw new BadModule(`the module has no instance: ${cause.message}`, { cause });
   }
   for (const [name, isEntry] of types.args.length ? CALL_ENTRIES : ENTRIES) {

@@ -77,7 +77,8 @@ test("a compiled function adds", async () => {
 test("a compiled function uses its memory up, by arguments or in its run", async () => {
   const add = await load(readFileSync(join(TOP, "examples/add.wasm")), "nat+nat->nat nat=O,S:nat");
   const seen = new Set();
-  for (let n = 5_000; seen.size < 2 && n > 4_000; n -= 100) {
+  for (const n of [5_000, 4_700, 4_500, 4_321, 4_000, 3_500]) {
+    if (seen.size === 2) break;
     const session = add.open();
     const exhausted = (error) => error instanceof erasec.MemoryExhausted && seen.add(error.message).size > 0;
     assert.throws(() => { for (;;) assert.equal(nat.of(session.run(nat.data(n), nat.data(0))), n); }, exhausted);
