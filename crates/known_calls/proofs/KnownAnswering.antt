@@ -12,11 +12,10 @@ use Rattle.wasm_core.specs.MachineStep.{State}
 use Rattle.wasm_core.specs.Entries.{index_of, from_nothing}
 use Rattle.wasm_core.specs.Runs.{start, start_at, main_start}
 use Rattle.wasm_core.specs.Answer.{Answers, answers, IsAtEnd}
-use Rattle.wasm_core.specs.RunTree.{Within as Tree, now, gone, moves}
+use Rattle.wasm_core.specs.RunTree.{now}
 use Rattle.wasm_core.proofs.Rules as rule
 use Rattle.wasm_core.proofs.Trees.{tree_tells, tree_answers}
-use Rattle.closure_lift.specs.Lifted.{Program, Val, VNil, LiftedAnswers as Evaluates, answers_alone}
-use Rattle.closure_lift.specs.Lifted as lifted
+use Rattle.closure_lift.specs.Lifted.{Program, Val, VNil}
 use Rattle.anf_convert.specs.AnfData.{DataTree}
 use Rattle.closure_lift.specs.LiftKeeps.{IsData}
 use Rattle.wasm_emit.specs.EmittedLocals.{top}

@@ -1,10 +1,9 @@
 -- Bodies of modules with workers, from what was pushed, and lists of them.
-use Rattle.std.proofs.Common.{◌≡◌, ℕ, zero, suc, ◌+◌, ◌-◌, ◌<◌, ◌≤◌, List, [], ◌∷◌, ◌++◌, append-nil, append_assoc, length, reverse, drop, get_or, map, max, replicate, Bool, true, false, refl, ap, sym, ◌∙◌, arith}
+use Rattle.std.proofs.Common.{◌≡◌, ℕ, zero, suc, ◌+◌, ◌-◌, ◌<◌, ◌≤◌, List, [], ◌∷◌, ◌++◌, append-nil, append_assoc, length, reverse, drop, get_or, map, max, Bool, true, false, refl, ap, sym, ◌∙◌, arith}
 use Rattle.std.proofs.lemmas.List.{reverse-append}
 use Rattle.std.specs.Prelude.{nat_le, if◌then◌else◌}
 use Rattle.closure_lift.specs.Lifted.{Block, Fn, Program}
 use Rattle.closure_lift.specs.LiftedProgram.{renumber, place_in, lifted_of}
-use Rattle.closure_lift.specs.LiftedView.{functions_of}
 use Rattle.closure_lift.specs.declared.program.Function.{Function}
 use Rattle.closure_lift.specs.declared.program.Lifted.{Lifted}
 use Rattle.closure_lift.specs.declared.program.LiftedConstant.{LiftedConstant}
@@ -16,15 +15,14 @@ use Rattle.wasm_core.specs.declared.instrs.Instr.{Instr}
 use Rattle.wasm_core.specs.declared.instrs.Instr.TheVariants.{Unreachable, Loop, End, Call, LocalGet, GlobalSet}
 use Rattle.wasm_emit.specs.EmittedLocals.{top}
 use Rattle.wasm_emit.specs.EmittedModule.{room_function, box_function, body}
-use Rattle.wasm_emit.specs.EmittedBodies.{FewInFunction, FewInBlock, FewLocals, MemoryOrNot}
-use Rattle.wasm_emit.specs.Pushed.{Pushed, function_in, MemoryOrLocals}
-use Rattle.wasm_emit.specs.declared.fault.EmitFault.{EmitFault}
+use Rattle.wasm_emit.specs.EmittedBodies.{FewInFunction, FewInBlock, FewLocals}
+use Rattle.wasm_emit.specs.Pushed.{Pushed, function_in}
 use Rattle.wasm_emit.proofs.Pushing.{constant_next, next_of, top_renumbered, only_pushed, then_pushed}
 use Rattle.wasm_emit.proofs.Built.{same_body}
 use Rattle.wasm_emit.proofs.Listed.{functions_in, constants_in, one_more}
 use Rattle.known_calls.specs.KnownPlaces.{Place, At, InLocal, fields_of}
 use Rattle.known_calls.specs.KnownCode.{Inside, InTail, worker_index, code}
-use Rattle.known_calls.specs.KnownModule.{params, captured_words, wide_body, stub_code, entry, worker_code, worker, numbered, constant, main_function, in_order}
+use Rattle.known_calls.specs.KnownModule.{params, captured_words, wide_body, stub_code, entry, worker_code, worker, numbered, constant, main_function}
 use Rattle.known_calls.specs.KnownCalls.{applied, call_function}
 use Rattle.known_calls.specs.KnownPushed.{block_code, argument_code, arguments_code}
 use Rattle.known_calls.specs.KnownEmission.{bodies_before_main, bodies_with}

@@ -1,29 +1,26 @@
 -- Every run of a module with workers whose main takes arguments answers main's data, or is exhausted.
-use Rattle.std.proofs.Common.{◌≡◌, ℕ, suc, ◌+◌, ◌*◌, ◌<◌, ◌≤◌, List, [], ◌∷◌, max, Option, true, false, refl, ap, sym, subst, inl, inr, arith}
+use Rattle.std.proofs.Common.{ℕ, ◌+◌, ◌*◌, ◌<◌, ◌≤◌, List, [], ◌∷◌, max, Option, true, false, refl, ap, sym, subst, inl, inr, arith}
 use Rattle.std.specs.Prelude.{slice_get, ◌⊎◌}
 use Rattle.std.specs.Option.{option_and_then}
 use Rattle.wasm_core.specs.declared.types.ConstValue.TheVariants.{I32}
 use Rattle.wasm_core.specs.declared.instrs.Instr.TheVariants.{GlobalSet, End}
 use Rattle.wasm_core.specs.Parts.{Parts}
-use Rattle.wasm_core.specs.Memory.{word}
 use Rattle.wasm_core.specs.MachineStep.{State}
 use Rattle.wasm_core.specs.Entries.{from_nothing}
-use Rattle.wasm_core.specs.WordData.{IsBelow}
 use Rattle.wasm_core.specs.Answer.{Answers, Exhausted, IsAtEnd}
 use Rattle.wasm_core.specs.RunTree.{Fate, goes_on, ended, ran_out, now}
 use Rattle.wasm_core.proofs.Rules as rule
 use Rattle.wasm_core.proofs.Trees.{tree_tells}
-use Rattle.closure_lift.specs.Lifted.{Program, Val, Vals, size}
+use Rattle.closure_lift.specs.Lifted.{Program, Val, Vals}
 use Rattle.anf_convert.specs.AnfData.{DataTree, DataTrees}
-use Rattle.closure_lift.specs.LiftKeeps.{IsData, is_data, AreData, are_data_none, are_data_more}
+use Rattle.closure_lift.specs.LiftKeeps.{IsData, AreData}
 use Rattle.wasm_emit.specs.EmittedLocals.{top}
 use Rattle.wasm_emit.specs.EmittedModule.{type_main, main_index}
 use Rattle.wasm_emit.specs.CallModule.{call_globals, call_exports}
 use Rattle.wasm_emit.specs.EmitLaws.{Spent}
 use Rattle.anf_convert.specs.Preorder.{fields_of as count, preorder}
-use Rattle.wasm_emit.specs.CallLaws.{Stored, stored_odd, stored_block, FieldsStored, no_fields, last_field, ArgumentsStored, no_arguments, last_argument, IsHosted, hosted, call_start}
+use Rattle.wasm_emit.specs.CallLaws.{IsHosted, hosted, call_start}
 use Rattle.wasm_emit.proofs.Bytes.{Mem}
-use Rattle.wasm_emit.proofs.Values.{Stands, s_empty, s_con, Fields, no_field, field, ArgsAt, args_none, args_more}
 use Rattle.wasm_emit.proofs.Rules.{Limits, Within, zeros, looser}
 use Rattle.wasm_emit.proofs.Read.{reads, all_count}
 use Rattle.wasm_emit.proofs.Source.{Applies}

@@ -1,9 +1,8 @@
 -- The parts of modules with workers, and that emission's modules are valid and fit.
-use Rattle.std.proofs.Common.{◌≡◌, ℕ, zero, suc, ◌+◌, ◌-◌, ◌<◌, ◌≤◌, List, [], ◌∷◌, ◌++◌, append_assoc, length, map, replicate, Some, refl, ap, sym, ◌∙◌, arith}
+use Rattle.std.proofs.Common.{◌≡◌, ℕ, suc, ◌+◌, ◌-◌, ◌<◌, ◌≤◌, List, [], ◌∷◌, ◌++◌, append_assoc, length, map, replicate, Some, refl, ap, sym, ◌∙◌, arith}
 use Rattle.std.specs.Prelude.{nat_le, if◌then◌else◌}
 use Rattle.closure_lift.specs.Lifted.{Block, Fn, Program}
-use Rattle.closure_lift.specs.LiftedForm.{functions}
-use Rattle.closure_lift.specs.LiftedProgram.{renumber, renumber_functions, place_in, lifted_of}
+use Rattle.closure_lift.specs.LiftedProgram.{renumber, place_in, lifted_of}
 use Rattle.closure_lift.specs.LiftedView.{functions_of}
 use Rattle.closure_lift.specs.declared.program.Function.{Function}
 use Rattle.closure_lift.specs.declared.program.Lifted.{Lifted}
@@ -23,7 +22,7 @@ use Rattle.wasm_emit.specs.EmittedBodies.{FewLocals}
 use Rattle.wasm_emit.proofs.Pushing.{renumbered_count, functions_count}
 use Rattle.wasm_emit.proofs.Indices.{length_map}
 use Rattle.wasm_emit.proofs.Emitting.{times, counts_fit}
-use Rattle.known_calls.specs.KnownModule.{words_type, worker_type, numbered, main_function, in_order, module_of}
+use Rattle.known_calls.specs.KnownModule.{words_type, worker_type, numbered, main_function, module_of}
 use Rattle.known_calls.specs.KnownCalls.{call_function, module_of_call}
 use Rattle.known_calls.specs.KnownEmission.{bodies_with, words_types, worker_types, parts_with}
 use Rattle.known_calls.proofs.KnownSpelling.{known_spelled, known_call_spelled}

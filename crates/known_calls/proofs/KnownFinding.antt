@@ -1,18 +1,18 @@
 -- The closures that the code finds to be known are those of the definitions.
-use Rattle.std.proofs.Common.{◌≡◌, ℕ, zero, suc, ◌+◌, ◌-◌, ◌<◌, ◌≤◌, List, [], ◌∷◌, ◌++◌, length, reverse, take, drop, get_or, Option, Some, None, Bool, true, false, refl, ap, sym, ◌∙◌, subst, arith}
+use Rattle.std.proofs.Common.{◌≡◌, ℕ, zero, suc, ◌+◌, ◌<◌, ◌≤◌, List, [], ◌∷◌, ◌++◌, length, reverse, take, drop, get_or, Option, Some, None, Bool, true, false, refl, ap, sym, ◌∙◌, arith}
 use Rattle.std.proofs.lemmas.Bool.{leb-true}
-use Rattle.std.proofs.lemmas.List.{reverse-append, take_more, take-append-drop, length-reverse, get_or-reverse}
+use Rattle.std.proofs.lemmas.List.{reverse-append, take_more, take-append-drop}
 use Rattle.std.specs.Prelude.{slice_get, nat_le, if◌then◌else◌, map, Result, Ok, Err, IfOk}
 use Rattle.std.specs.Option.{option_map, option_and_then}
 use Rattle.anf_convert.specs.declared.program.Atom.{Atom}
-use Rattle.closure_lift.specs.Lifted.{Op, OConst, OApp, OCon, OClos, OCase, Block, RetAtom, LetAtom, Ret, Let, Fn, Program, Bound, AtomBound, OpBound, ret_of, lets_of}
-use Rattle.closure_lift.specs.LiftedProgram.{renumber_op, renumber, renumber_functions, place_in, lifted_of}
+use Rattle.closure_lift.specs.Lifted.{OConst, OApp, OCon, OClos, OCase, Block, RetAtom, LetAtom, Ret, Let, Fn, Bound, AtomBound, OpBound, lets_of}
+use Rattle.closure_lift.specs.LiftedProgram.{renumber, renumber_functions}
 use Rattle.closure_lift.specs.LiftedView.{bounds_of, functions_of}
 use Rattle.closure_lift.specs.declared.program.LiftedOp.{LiftedOp}
 use Rattle.closure_lift.specs.declared.program.Function.{Function}
 use Rattle.closure_lift.specs.declared.program.LiftedConstant.{LiftedConstant}
 use Rattle.wasm_emit.proofs.Pushing.{next_of}
-use Rattle.known_calls.specs.KnownPlaces.{Word, Place, At, Known, word_of, words_of, all_at}
+use Rattle.known_calls.specs.KnownPlaces.{Word, Place, Known, word_of, words_of}
 use Rattle.known_calls.specs.KnownCode.{known_closure, closure_alone}
 
 -- the words of some atoms, the last one first, and of one more

@@ -13,7 +13,7 @@ use Rattle.closure_lift.specs.declared.program.LiftedBranch.{LiftedBranch}
 use Rattle.closure_lift.specs.declared.program.LiftedOp.{LiftedOp}
 use Rattle.wasm_emit.proofs.Pushing.{next_of}
 use Rattle.known_calls.specs.KnownPlaces.{names, some_names, op_reads, block_reads, branches_read}
-use Rattle.known_calls.specs.KnownMarks.{op_marks, block_marks, empty_marks, head_marks, bound_marks, bound_reads, empties_read, heads_read, Begins, also}
+use Rattle.known_calls.specs.KnownMarks.{block_marks, empty_marks, head_marks, bound_marks, bound_reads, empties_read, heads_read, Begins, also}
 
 -- What is read.
 

@@ -1,20 +1,16 @@
 -- The functions of a module with workers set the status only from a test of a grow, so every run is honest.
-use Rattle.std.proofs.Common.{◌≡◌, ℕ, zero, suc, ◌-◌, List, [], ◌∷◌, ◌++◌, map, Option, Some, Bool, true, false, refl, ap, sym, ◌∙◌, subst, arith}
+use Rattle.std.proofs.Common.{◌≡◌, ℕ, zero, suc, ◌-◌, List, [], ◌∷◌, ◌++◌, map, Some, Bool, true, false, refl, ap, sym, ◌∙◌, subst, arith}
 use Rattle.std.specs.Prelude.{slice_get, if◌then◌else◌}
-use Rattle.std.specs.Option.{option_and_then}
 use Rattle.wasm_core.specs.declared.types.ValType.TheVariants as type
-use Rattle.wasm_core.specs.declared.types.FuncType.{FuncType}
 use Rattle.wasm_core.specs.declared.types.ConstValue.{ConstValue}
-use Rattle.wasm_core.specs.declared.types.ConstValue.TheVariants.{I32, I64}
+use Rattle.wasm_core.specs.declared.types.ConstValue.TheVariants.{I32}
 use Rattle.wasm_core.specs.declared.types.GlobalDef.{GlobalDef}
 use Rattle.wasm_core.specs.declared.exports.Export.{Export}
 use Rattle.wasm_core.specs.declared.instrs.BlockType.TheVariants.{Value}
 use Rattle.wasm_core.specs.declared.instrs.Instr.{Instr}
 use Rattle.wasm_core.specs.declared.instrs.Instr.TheVariants.{Unreachable, Loop, End}
 use Rattle.wasm_core.specs.declared.instrs.Body.{Body}
-use Rattle.wasm_core.specs.Parts.{Parts}
-use Rattle.wasm_core.specs.Instance.{Func, func_of, func_with}
-use Rattle.wasm_core.specs.MachineStep.{State, At, Over}
+use Rattle.wasm_core.specs.MachineStep.{At}
 use Rattle.wasm_core.specs.Runs.{store_of}
 use Rattle.wasm_core.specs.Answer.{i32_of}
 use Rattle.wasm_core.proofs.Small.{inj, no, some_of}
@@ -30,7 +26,7 @@ use Rattle.known_calls.specs.KnownModule.{wide_body, stub_code, entry, worker_co
 use Rattle.known_calls.specs.KnownCalls.{applied, call_function, module_of_call}
 use Rattle.known_calls.specs.KnownLaws.{StatusTells, CallsTell}
 use Rattle.known_calls.proofs.KnownAnswering.{first_of, starts}
-use Rattle.wasm_emit.proofs.Honest.{Wary, w_nil, w_cons, w_grow, at_wary, HonestState, Tells, stays}
+use Rattle.wasm_emit.proofs.Honest.{Wary, w_nil, w_cons, w_grow, at_wary, HonestState, stays}
 use Rattle.wasm_emit.proofs.Status.{AllWary, wary_body, mapped_then, of_bodies, tells_of, word_is}
 use Rattle.known_calls.proofs.Shapes.{shaped_captured, shaped_code, shaped_op}
 

@@ -7,7 +7,7 @@ use Rattle.wasm_core.specs.declared.exports.Export.{Export}
 use Rattle.wasm_core.specs.declared.instrs.Body.{Body}
 use Rattle.wasm_core.specs.Parts.{Parts}
 use Rattle.wasm_emit.specs.EmittedModule.{room_function, box_function}
-use Rattle.known_calls.specs.KnownModule.{words_type, entry, worker, worker_type, numbered, constant, main_function, in_order, module_of}
+use Rattle.known_calls.specs.KnownModule.{words_type, entry, worker, worker_type, numbered, constant, in_order, module_of}
 
 -- the bodies of the functions before main, in the order of their indices
 abbrev pub bodies_before_main : Program → List Body

@@ -1,6 +1,5 @@
 -- Which bindings of a block are read as a word in the block behind them: their marks, in the order in which emission comes to the bindings.
 use Rattle.std.specs.Prelude.{◌≡◌, ◌+◌, ℕ, zero, suc, Bool, false, ◌||◌, List, [], ◌∷◌, ◌++◌, length, drop}
-use Rattle.anf_convert.specs.declared.program.Atom.{Atom}
 use Rattle.closure_lift.specs.Lifted.{Op, OConst, OApp, OCon, OClos, OCase, Block, RetAtom, LetAtom, Ret, Let, BranchBlocks, BNil, BCons, Bound, AtomBound, OpBound}
 use Rattle.known_calls.specs.KnownPlaces.{names, op_reads, block_reads}
 

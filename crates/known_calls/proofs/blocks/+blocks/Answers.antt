@@ -1,15 +1,15 @@
-use Rattle.std.proofs.Common.{rules, arith, ap, refl, subst, sym, ◌*◌, ◌+◌, ◌<◌, ◌≡◌, ◌∷◌, ◌++◌, [], List, true, length, length-append, drop, get_or, reverse, take, ◌∙◌}
+use Rattle.std.proofs.Common.{rules, arith, ap, refl, subst, sym, ◌*◌, ◌+◌, ◌<◌, ◌∷◌, ◌++◌, [], List, true, length, length-append, drop, get_or, reverse, take, ◌∙◌}
 use Rattle.std.proofs.lemmas.List.{take-append-le, drop_all}
-use Rattle.closure_lift.specs.Lifted.{ret_of, lets_of}
+use Rattle.closure_lift.specs.Lifted.{ret_of}
 use Rattle.closure_lift.specs.LiftedProgram.{renumber_branches, place_in, lifted_of}
-use Rattle.closure_lift.specs.LiftedView.{seen, bounds_of, branches_of}
+use Rattle.closure_lift.specs.LiftedView.{seen, branches_of}
 use Rattle.closure_lift.specs.LiftedWeight.{block_weight, branches_weight, bound_weight}
 use Rattle.closure_lift.specs.declared.program.LiftedBranch.{LiftedBranch}
 use Rattle.wasm_emit.specs.Pushed.{ends}
 use Rattle.wasm_emit.proofs.Lighter.{op_lighter, tail_lighter, arm_lighter}
 use Rattle.known_calls.specs.KnownPlaces.{Place}
 use Rattle.known_calls.specs.KnownCode.{empties, heads}
-use Rattle.known_calls.specs.KnownMarks.{Begins, block_marks, bound_marks, empty_marks, head_marks}
+use Rattle.known_calls.specs.KnownMarks.{Begins, bound_marks, empty_marks, head_marks}
 use Rattle.known_calls.specs.KnownPushed.{EmptyArm, BlockArm, under_position, block_code, empty_arms, block_arms, place_bound, op_unmade}
 use Rattle.known_calls.proofs.KnownMarking.{empty_marks_step, head_marks_step, end_marks, mark_now, begin_op, begin_behind, left_behind, begin_arm, begin_more, left_more}
 use Rattle.known_calls.proofs.KnownPushing.{block_more, empties_more, heads_more}

@@ -22,5 +22,5 @@ returns-clause-is c =
     let y = get_or items c.args.g x in
     same_ok c.closure_alone.result (closure_alone (reverse c.as_slice.result.now) y.body) (option_and_then (λ (fn : Fn). closure_alone env fn.body) (slice_get (renumber_functions f c.args.p.now.functions) c.args.g))
     (ap (λ (zs : List Place). closure_alone zs y.body) (ap reverse c.as_slice.ensures.value ∙ c.in_ok-places.ensures.is) ∙ ap (λ (z : Function). closure_alone env z.body) (sym c.index-functions-place.is)
-        ∙ partial_is env f items c.args.p.now.functions c.args.g x c.as_slice-functions.ensures.is (omega (arith, c.if-place-functions.false)) c.index-functions-place.is)
+    ∙ partial_is env f items c.args.p.now.functions c.args.g x c.as_slice-functions.ensures.is (omega (arith, c.if-place-functions.false)) c.index-functions-place.is)
     c.closure_alone.ensures.is

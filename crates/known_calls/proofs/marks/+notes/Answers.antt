@@ -1,14 +1,13 @@
-use Rattle.std.proofs.Common.{rules, arith, ℕ, ◌*◌, ◌+◌, ◌-◌, ◌<◌, ◌≡◌, ◌∷◌, ◌++◌, [], List, Bool, false, length, get_or, refl, reverse, replicate, take, ap, sym, ◌∙◌}
-use Rattle.std.specs.Prelude.{◌||◌}
+use Rattle.std.proofs.Common.{rules, arith, ℕ, ◌*◌, ◌+◌, ◌-◌, ◌<◌, ◌≡◌, ◌∷◌, [], List, Bool, false, length, refl, reverse, take, ap, sym, ◌∙◌}
 use Rattle.closure_lift.specs.Lifted.{ret_of, lets_of}
 use Rattle.closure_lift.specs.LiftedView.{seen, branches_of}
 use Rattle.closure_lift.specs.declared.program.LiftedOp.{LiftedOp}
 use Rattle.closure_lift.specs.LiftedWeight.{block_weight, branches_weight, bound_weight}
 use Rattle.wasm_emit.proofs.Lighter.{op_lighter, tail_lighter, arm_lighter}
 use Rattle.wasm_emit.proofs.Pushing.{on_ok}
-use Rattle.known_calls.specs.KnownPlaces.{names, block_reads, branches_read}
-use Rattle.known_calls.specs.KnownMarks.{also, bound_reads, block_marks, empties_read, empty_marks, head_marks, heads_read}
-use Rattle.known_calls.proofs.KnownMarking.{past, also_none, also_both, also_same, branches_both, heads_step, empties_step, head_marks_step, empty_marks_step, noted_init, marked_init, noted_more, marked_more, noted_end, marked_end, arms_noted_init, arms_marked_init, arms_noted_more, arms_marked_more, branches_noted, binders_gone, no_heads, no_empties}
+use Rattle.known_calls.specs.KnownPlaces.{names, branches_read}
+use Rattle.known_calls.specs.KnownMarks.{also, bound_reads, empties_read, empty_marks, head_marks, heads_read}
+use Rattle.known_calls.proofs.KnownMarking.{also_none, also_both, heads_step, empties_step, head_marks_step, empty_marks_step, noted_init, marked_init, noted_more, marked_more, noted_end, marked_end, arms_noted_init, arms_marked_init, arms_noted_more, arms_marked_more, branches_noted, binders_gone, no_heads, no_empties}
 use Rattle.known_calls.proofs.marks.+notes.Goals as goal
 
 pub note_block-note_op-requires : goal.note_block-note_op-requires
