@@ -25,7 +25,8 @@
 //! words ask for is a definition of `command_line`), `Texts` (what a text spells within the limits), `Judged` (what the directed rules say of an environment), `Plain` and `Answerable` (small environments that keep all
 //! rules), `PlainAnswer` (what is answered on them), `SourceEnds` (how `eval` ends after the check), `SourceSays` (what its stages say), `EvaluatedSource` (its answer), `Evaluable` (where it has one), `ExecEnds` (what the
 //! stages of `exec` say, and how it ends), `Executed` (its answer), `ErasureParts` (what the code of erasure says), `MainModule` (what the stages to main's module hand on), `MadeModule` (the answer of `compile`, and how it
-//! ends), `CallStages` (what the stages to the module for calls say and hand on), `Exported` and `ExportSays` (the answer of `export` and how it ends, and what its stages say), `Headline` (what is owed to an evaluation of main), `RunFile` (the answer of `run` and its refusals), `Explained` and `ExplainSays` (the answer of `explain` where
+//! ends), `CallStages` (what the stages to the module for calls say and hand on), `Exported` and `ExportSays` (the answer of `export` and how it ends, and what its stages say),
+//! `Headline` (what is owed to an evaluation of main), `RunFile` (the answer of `run` and its refusals), `Explained` and `ExplainSays` (the answer of `explain` where
 //! the check refuses, and what its stages say), `Bench`, `Figures` and `Benched` (the lines of `bench`, and its answer), `CheckFacts` (the facts of a check),
 //! `JobFacts` (those of a job). Which
 //! bytes spell which environment, and what a text's first refusal is, are definitions of `dump_grammar` and `dump_reader`; which environments are well formed is one of `rule_laws` over those of `pc_rules`; what erasure and
