@@ -1,5 +1,5 @@
 -- What is spelled is read, where no token passes a limit of tokens; and data is cut into trees in one way.
-use Rattle.std.proofs.Common.{◌≡◌, ◌∙◌, ℕ, zero, suc, ◌+◌, List, [], ◌∷◌, ◌++◌, length, Option, Some, None, Result, Ok, Err, true, refl, sym, ap, subst as along, append_assoc, append-nil}
+use Rattle.std.proofs.Common.{◌≡◌, ◌∙◌, ℕ, zero, suc, ◌+◌, List, [], ◌∷◌, ◌++◌, length, Option, Some, None, Result, Ok, Err, true, refl, sym, ap, subst as along, append_assoc, append-nil, arith}
 use Rattle.std.specs.Prelude.{if◌then◌else◌}
 use Rattle.sexp_reader.specs.Text.{Text, Open, Close, Atom}
 use Rattle.sexp_reader.specs.Lex.{Spanned, answer_at, nesting_after_text}
@@ -40,7 +40,7 @@ item-begins names turn S i _ _ (in_brackets {c = c} {j = j} {a = a} {js = js} {t
   spelled = only names (AwaitsName S i) (Atom a ∷ (ts ++ (Close ∷ []))) ((c, suc (length js)) ∷ ds) (in_brackets e h);
 }
 
-tail_of : List Text → List Text
+abbrev tail_of : List Text → List Text
 tail_of [] = []
 tail_of (t ∷ ts) = ts
 
@@ -121,15 +121,21 @@ one_cut (d ∷ ds) (e ∷ es) f g l p =
     let more = one_cut ds es f.1 g.1 (cc) h.1 in
     (λ i. h.0 i ∷ more i)
 
+nothing_more : (n : ℕ) → n ≡ 0 + n
+nothing_more n = omega arith
+
+one_more : (m n : ℕ) → suc (m + n) ≡ suc m + n
+one_more m n = omega arith
+
 mutual
   item-tree : (names : List (List ℕ)) (S : List Shape) (i : ℕ) (ts : List Text) (ds : Data) → SpellsItem names S i ts ds → (n : ℕ) (rest : Data) → IsForest n rest → IsForest (suc n) (ds ++ rest)
-  item-tree names S i _ _ (name_alone e) n rest f = f
+  item-tree names S i _ _ (name_alone e) n rest f = along (λ m. IsForest m rest) (nothing_more n) f
   item-tree names S i _ _ (in_brackets {j = j} {js = js} {ts = ts} {ds = ds} e h) n rest f = items-forest names S (j ∷ js) ts ds h n rest f
 
   items-forest : (names : List (List ℕ)) (S : List Shape) (js : List ℕ) (ts : List Text) (ds : Data) → SpellsItems names S js ts ds → (n : ℕ) (rest : Data) → IsForest n rest → IsForest (length js + n) (ds ++ rest)
-  items-forest names S _ _ _ no_item n rest f = f
+  items-forest names S _ _ _ no_item n rest f = along (λ m. IsForest m rest) (nothing_more n) f
   items-forest names S _ _ _ (one_item {j = j} {js = js} {ts = ts} {us = us} {d = d} {ds = ds} h k) n rest f =
-      along (IsForest (suc (length js + n))) (sym (append_assoc d ds rest)) (item-tree names S j ts d h (length js + n) (ds ++ rest) (items-forest names S js us ds k n rest f))
+      along (λ m. IsForest m ((d ++ ds) ++ rest)) (one_more (length js) n) (along (IsForest (suc (length js + n))) (sym (append_assoc d ds rest)) (item-tree names S j ts d h (length js + n) (ds ++ rest) (items-forest names S js us ds k n rest f)))
 
 each-trees : (names : List (List ℕ)) (Ss : List (List Shape)) (ts : List Text) (ds : List Data) → SpellsEach names Ss ts ds → AreTrees ds × (length ds ≡ length Ss)
 each-trees names _ _ _ no_argument = (tt, refl)
