@@ -16,7 +16,8 @@ use Rattle.first_order.specs.declared.shapes.Shape.{Shape}
 use Rattle.first_order.specs.declared.given.Turn.{Turn}
 use Rattle.first_order.specs.declared.given.Turn.TheVariants.{First, Later}
 use Rattle.first_order.specs.ArgumentTexts.{ctor_at, SpellsItem, name_alone, in_brackets, SpellsItems, no_item, one_item, SpellsEach, no_argument, one_argument, SpellsArguments}
-use Rattle.first_order.specs.Awaited.{Awaited, AwaitsOpen, AwaitsWord, AwaitsItem, AwaitsName, AwaitsClose, items_in, arguments_in, whole_call, TakesToken, BreaksForm, alone, opened, taking, ArgumentReading, ArgumentsAre, with_nodes, answered, taken, at_token, reading_of, joined, AreTrees, HasNoFault}
+use Rattle.first_order.specs.Awaited.{Awaited, AwaitsOpen, AwaitsWord, AwaitsItem, AwaitsName, AwaitsClose, items_in, arguments_in, whole_call}
+use Rattle.first_order.specs.Awaited.{TakesToken, BreaksForm, alone, opened, taking, ArgumentReading, ArgumentsAre, with_nodes, answered, taken, at_token, reading_of, joined, AreTrees, HasNoFault}
 use Rattle.first_order.proofs.ArgumentSpelling.{SpellsNext, SpellsAll, join, only, come_inside, come_behind}
 
 -- what a token begins
@@ -33,10 +34,25 @@ record Begins (names : List (List ℕ)) (x : Awaited) (ts : List Text) (ds : Dat
 
 item-begins : (names : List (List ℕ)) (turn : Turn) (S : List Shape) (i : ℕ) (ts : List Text) (ds : Data) → SpellsItem names S i ts ds → Begins names (AwaitsItem turn S i) ts ds
 item-begins names turn S i _ _ (name_alone {c = c} {a = a} e) = record {
-  text = Atom a; more = []; texts_are = refl; then_awaited = []; node = (c, 0) ∷ []; later = []; nodes_are = refl; is = ap alone e; spelled = (refl, refl);
+  text = Atom a;
+  more = [];
+  texts_are = refl;
+  then_awaited = [];
+  node = (c, 0) ∷ [];
+  later = [];
+  nodes_are = refl;
+  is = ap alone e;
+  spelled = (refl, refl);
 }
 item-begins names turn S i _ _ (in_brackets {c = c} {j = j} {a = a} {js = js} {ts = ts} {ds = ds} e h) = record {
-  text = Open; more = Atom a ∷ (ts ++ (Close ∷ [])); texts_are = refl; then_awaited = AwaitsName S i ∷ []; node = []; later = (c, suc (length js)) ∷ ds; nodes_are = refl; is = refl;
+  text = Open;
+  more = Atom a ∷ (ts ++ (Close ∷ []));
+  texts_are = refl;
+  then_awaited = AwaitsName S i ∷ [];
+  node = [];
+  later = (c, suc (length js)) ∷ ds;
+  nodes_are = refl;
+  is = refl;
   spelled = only names (AwaitsName S i) (Atom a ∷ (ts ++ (Close ∷ []))) ((c, suc (length js)) ∷ ds) (in_brackets e h);
 }
 
@@ -50,8 +66,15 @@ open_not_atom a ts us e = cc
 name-begins : (names : List (List ℕ)) (S : List Shape) (i : ℕ) (us : List Text) (ds : Data) (ts : List Text) → ts ≡ Open ∷ us → SpellsItem names S i ts ds → Begins names (AwaitsName S i) us ds
 name-begins names S i us _ _ p (name_alone {a = a} e) = absurd (open_not_atom a us [] (sym p))
 name-begins names S i us _ _ p (in_brackets {c = c} {j = j} {a = a} {js = js} {ts = ts} {ds = ds} e h) = record {
-  text = Atom a; more = ts ++ (Close ∷ []); texts_are = sym (ap tail_of p); then_awaited = items_in First S (j ∷ js); node = (c, suc (length js)) ∷ []; later = ds; nodes_are = refl;
-  is = ap (opened S) e; spelled = come_inside names S j js ts ds h;
+  text = Atom a;
+  more = ts ++ (Close ∷ []);
+  texts_are = sym (ap tail_of p);
+  then_awaited = items_in First S (j ∷ js);
+  node = (c, suc (length js)) ∷ [];
+  later = ds;
+  nodes_are = refl;
+  is = ap (opened S) e;
+  spelled = come_inside names S j js ts ds h;
 }
 
 bracket : (names : List (List ℕ)) (x : Awaited) (t : Text) (ts : List Text) (ds : Data) → taking names x t ≡ TakesToken [] [] → (ts ≡ t ∷ []) × (ds ≡ []) → Begins names x ts ds

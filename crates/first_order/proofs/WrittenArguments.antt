@@ -15,7 +15,7 @@ use Rattle.dump_grammar.proofs.Words.{same_bytes}
 use Rattle.calculus_rules.specs.FirstOrder.{Data}
 use Rattle.calculus_rules.specs.Lookups.{if_some}
 use Rattle.pc_rules.proofs.WeakNext.{if_some_is}
-use Rattle.calculus_rules.proofs.Spines.{one_item}
+use Rattle.calculus_rules.proofs.Spines.{one_item as one_is}
 use Rattle.first_order.specs.declared.shapes.Shape.{Shape}
 use Rattle.first_order.specs.declared.shapes.ShapeCtor.{ShapeCtor}
 use Rattle.first_order.specs.Texts.{Naming, IsText, alone, with_arguments, AreTexts, no_text, one_text, counted_ctor, constructor_in, named_ctor, by_shapes}
@@ -34,7 +34,7 @@ found : (names : List (List ℕ)) (name : List ℕ) (ks : List ShapeCtor) (c e :
 unfolding ctor_from
 found names name [] c e k at is own = absurd cc
 found names name (x ∷ ks) zero e k at is own =
-    let same : x ≡ k = one_item at in
+    let same : x ≡ k = one_is at in
     let here : is_text name (slice_get names x.name.0) ≡ true = ap (is_text name) (ap (λ z. slice_get names z.name.0) same ∙ is) ∙ nat_list_eq_equiv.refl name in
     let num : e ≡ e + 0 = omega arith in
     ap (λ b. if b then Some (e, x.args) else ctor_from names name (suc e) ks) here ∙ (λ i. Some (num i, (same i).args))
@@ -59,7 +59,7 @@ named_node names S own i d name js e =
     let same : t.0 ≡ k = (counted_is t.0 k d.1 t.2).0 in
     let at : slice_get h.ctors d.0 ≡ Some k = t.1 ∙ ap Some same in
     let u = if_some_is (slice_get names k.name.0) (λ name. Some (name, k.args)) r.2 in
-    let pair : (u.0, k.args) ≡ (name, js) = one_item u.2 in
+    let pair : (u.0, k.args) ≡ (name, js) = one_is u.2 in
     let text : slice_get names k.name.0 ≡ Some name = u.1 ∙ ap (λ p. Some p.0) pair in
     let first : ctor_from names name 0 h.ctors ≡ Some (0 + d.0, k.args) = found names name h.ctors d.0 0 k at text (λ c l p q. own i h s.1 c d.0 l k name p at q text) in
     let num : 0 + d.0 ≡ d.0 = omega arith in

@@ -13,4 +13,4 @@ fault_behind-requires c =
     let from = c.args.from in
     let exact = subst (λ bs. AnswersReading (call_arguments names Ss bs) n (Err c.in-Err.fault)) (take_rest bytes from) c.in-Err.ensures.exact in
     let w = answer-within names Ss (drop from bytes) n c.in-Err.fault exact in
-    record { within = omega (arith, w, length-drop from bytes, c.requires.within, c.type_inv.bytes) }
+    record { within = omega (arith, w, length-drop from bytes, c.requires.within) }
