@@ -67,7 +67,7 @@ named_node names S own i d name js e =
 
 -- ---- the layout of a text
 
-layout_texts : Layout → List Text
+abbrev layout_texts : Layout → List Text
 layout_texts End = []
 layout_texts (LastComment comment) = []
 layout_texts (CommentThen comment more) = layout_texts more
@@ -180,18 +180,16 @@ record EachLaid (names : List (List ℕ)) (Ss : List (List Shape)) (ds : List Da
   apart : BeginsNoAtom laid.layout
   spells : SpellsEach names Ss tokens ds
 
-each-laid : (names : List (List ℕ)) → AreAtoms names → (Ss : List (List Shape)) (ds : List Data) (ts : List (List ℕ)) → AllHaveOwnNames names Ss → AreWritten names Ss ds ts → (more : Layout) → IsLayout more → BeginsNoAtom more → EachLaid names Ss ds (behind_blanks ts) more
-each-laid names atoms _ _ _ own none_written more m b = record { tokens = []; laid = record { layout = more; bytes_are = refl; texts_are = refl; is = m }; apart = b; spells = no_argument }
-each-laid names atoms _ _ _ own (one_written {S = S} {Ss = Ss} {d = d} {ds = ds} {t = t} {ts = ts} h k) more m b =
-    let rest = each-laid names atoms Ss ds ts own.1 k more m b in
+one-argument-laid : (names : List (List ℕ)) (S : List Shape) (Ss : List (List Shape)) (d : Data) (ds : List Data) (t bs : List ℕ) (more : Layout) → (rest : EachLaid names Ss ds bs more) → ItemLaid names S 0 d t rest.laid.layout →
+    EachLaid names (S ∷ Ss) (d ∷ ds) (32 ∷ (t ++ bs)) more
+one-argument-laid names S Ss d ds t bs more rest item =
     let outer = rest.laid in
-    let item = item-laid names S own.0 atoms 0 d t h outer.layout outer.is rest.apart in
     let inner = item.laid in
     record {
       tokens = item.tokens ++ rest.tokens;
       laid = record {
         layout = BlankThen 32 inner.layout;
-        bytes_are = ap (λ bs. 32 ∷ bs) (inner.bytes_are ∙ ap (λ bs. t ++ bs) outer.bytes_are ∙ sym (append_assoc t (behind_blanks ts) (bytes_of more)));
+        bytes_are = ap (λ cs. 32 ∷ cs) (inner.bytes_are ∙ ap (λ cs. t ++ cs) outer.bytes_are ∙ sym (append_assoc t bs (bytes_of more)));
         texts_are = inner.texts_are ∙ ap (λ us. item.tokens ++ us) outer.texts_are ∙ sym (append_assoc item.tokens rest.tokens (layout_texts more));
         is = (refl, inner.is);
       };
@@ -199,16 +197,25 @@ each-laid names atoms _ _ _ own (one_written {S = S} {Ss = Ss} {d = d} {ds = ds}
       spells = one_argument item.spells rest.spells;
     }
 
+each-laid : (names : List (List ℕ)) → AreAtoms names → (Ss : List (List Shape)) (ds : List Data) (ts : List (List ℕ)) → AllHaveOwnNames names Ss → AreWritten names Ss ds ts → (more : Layout) → IsLayout more → BeginsNoAtom more →
+    EachLaid names Ss ds (behind_blanks ts) more
+each-laid names atoms _ _ _ own none_written more m b = record { tokens = []; laid = record { layout = more; bytes_are = refl; texts_are = refl; is = m }; apart = b; spells = no_argument }
+each-laid names atoms _ _ _ own (one_written {S = S} {Ss = Ss} {d = d} {ds = ds} {t = t} {ts = ts} h k) more m b =
+    let rest = each-laid names atoms Ss ds ts own.1 k more m b in
+    one-argument-laid names S Ss d ds t (behind_blanks ts) more rest (item-laid names S own.0 atoms 0 d t h rest.laid.layout rest.laid.is rest.apart)
+
 args-atom : (0 < length (spelling words.Args)) × Each (λ b. is_atom_byte b ≡ true) (spelling words.Args)
 unfolding spelling
-args-atom = (omega arith, (refl, refl, refl, refl, tt))
+args-atom = (omega arith, (refl, (refl, (refl, (refl, tt)))))
 
-pub written-spelled : WhatIsWrittenIsSpelled
-written-spelled names Ss ds ts atoms own some w =
-    let each = each-laid names atoms Ss ds ts own w (CloseThen End) tt tt in
+whole-written : (names : List (List ℕ)) (Ss : List (List Shape)) (ds : List Data) (ts : List (List ℕ)) → Ss ≢ [] → EachLaid names Ss ds (behind_blanks ts) (CloseThen End) → SpellsArguments names Ss (texts (tokens_of (arguments_text ts))) ds
+whole-written names Ss ds ts some each =
     let inner = each.laid in
     let layout = OpenThen (AtomThen (spelling words.Args) inner.layout) in
     let bytes : bytes_of layout ≡ arguments_text ts = ap (λ bs. 40 ∷ (spelling words.Args ++ bs)) inner.bytes_are in
     let text : texts (tokens_of (arguments_text ts)) ≡ Open ∷ word words.Args ∷ (each.tokens ++ (Close ∷ [])) =
     tokens-are (arguments_text ts) layout (args-atom.0, args-atom.1, each.apart, inner.is) bytes ∙ ap (λ us. Open ∷ word words.Args ∷ us) inner.texts_are in
     (some, each.tokens, text, each.spells)
+
+pub written-spelled : WhatIsWrittenIsSpelled
+written-spelled names Ss ds ts atoms own some w = whole-written names Ss ds ts some (each-laid names atoms Ss ds ts own w (CloseThen End) tt tt)
