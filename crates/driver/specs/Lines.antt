@@ -54,6 +54,7 @@ status_of refusals.Depth = 7
 status_of refusals.TurnsSpent = 8
 status_of (refusals.Broken n p) = 9
 status_of refusals.Types = 7
+status_of refusals.Arguments = 7
 status_of refusals.AnswerNodes = 7
 status_of refusals.NotFirstOrder = 10
 status_of refusals.Stuck = 15
@@ -116,6 +117,8 @@ front_of_entry entries.Main = codes "no entry main"
 front_of_entry entries.Memory = codes "no entry memory"
 front_of_entry entries.Result = codes "no entry result"
 front_of_entry entries.Status = codes "no entry status"
+front_of_entry entries.Heap = codes "no entry heap"
+front_of_entry entries.Args = codes "no entry args"
 
 unfoldable pub front_of_module : ModuleFault → List ℕ
 front_of_module (modules.Bad o) = codes "bad module at "
@@ -139,6 +142,7 @@ front_of refusals.Depth = codes "limit Depth"
 front_of refusals.TurnsSpent = codes "turns spent"
 front_of (refusals.Broken n p) = codes "broken "
 front_of refusals.Types = codes "limit Types"
+front_of refusals.Arguments = codes "limit Arguments"
 front_of refusals.AnswerNodes = codes "limit AnswerNodes"
 front_of refusals.NotFirstOrder = codes "main is not first-order"
 front_of refusals.Stuck = codes "stuck"

@@ -4,11 +4,13 @@
 //! |---|---|
 //! | `texts` | `parse`, `parse each prefix`, `read`, `print` (`most:`, `failing write:`), `lists` |
 //! | `calls` | `read_call`, `read_args` (`set:` for each argument, the types of its set with `;` between them, each with its constructors as `NAME/PLACE/PLACE`; `from:`), `read_call, read_args` |
+//! | `certificates` | `read certificate` (`from:`, `most:`, `failing write:`) |
 //! | `terms` | `lift` (`by:`, `from:`), `subst` (`at:`), `subst_list`, `subst_list_at` (`at:`), `apply`, `measures`, `same`, `doubled`, `put in again` (`times:`), `lists` |
 #![tactic(auto)]
 
 mod again;
 mod calls;
+mod certificates;
 mod lists;
 mod printing;
 mod terms;
@@ -22,6 +24,7 @@ use std::io;
 enum Layer {
     Texts,
     Calls,
+    Certificates,
     Terms,
 }
 
@@ -30,6 +33,7 @@ impl Table for Layer {
         match self {
             Layer::Texts => "texts.rows",
             Layer::Calls => "calls.rows",
+            Layer::Certificates => "certificates.rows",
             Layer::Terms => "terms.rows",
         }
     }
@@ -38,11 +42,20 @@ impl Table for Layer {
         match self {
             Layer::Texts => texts::run(case, out),
             Layer::Calls => calls::run(case, out),
+            Layer::Certificates => certificates::run(case, out),
             Layer::Terms => terms::run(case, out),
         }
     }
 }
 
 fn main(rt: HostRuntime) -> io::Result<()> {
-    run_tables(&rt, &[Layer::Texts, Layer::Calls, Layer::Terms])
+    run_tables(
+        &rt,
+        &[
+            Layer::Texts,
+            Layer::Calls,
+            Layer::Certificates,
+            Layer::Terms,
+        ],
+    )
 }

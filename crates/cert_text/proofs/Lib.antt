@@ -1,0 +1,5 @@
+pub mod ReadTokens
+pub mod Taking
+pub mod PrintedTokens
+pub mod Gathering
+pub mod FirstWrong

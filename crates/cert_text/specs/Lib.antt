@@ -1,0 +1,6 @@
+pub mod CertText
+pub mod CertReading
+pub mod TextLaws
+pub mod Scanned
+pub mod Numeral
+pub mod Answering
