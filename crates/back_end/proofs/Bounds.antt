@@ -12,8 +12,9 @@ use Rattle.wasm_core.specs.MachineStep.{State, Store, Over, Reach}
 use Rattle.wasm_core.specs.WordData.{DataNodes}
 use Rattle.wasm_core.specs.RunTree.{Fate, ended, ran_out}
 use Rattle.wasm_core.proofs.Small.{inj}
-use Rattle.wasm_emit.specs.EmittedModule.{module_of}
-use Rattle.wasm_emit.specs.EmitLaws.{Finished, Spent, spent}
+use Rattle.known_calls.specs.KnownModule.{module_of}
+use Rattle.wasm_emit.specs.EmitLaws.{Spent, spent}
+use Rattle.known_calls.specs.KnownLaws.{Finished}
 use Rattle.back_end.specs.StepsAndMemory.{StepsAndMemoryAreBounded}
 use Rattle.back_end.specs.BackEnd.{passed}
 use Rattle.back_end.proofs.Total.{total_back_end}

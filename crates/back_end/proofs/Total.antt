@@ -25,10 +25,11 @@ use Rattle.wasm_core.specs.RunTree.{Fate}
 use Rattle.anf_convert.specs.ToAnf.{to_anf}
 use Rattle.anf_convert.proofs.Forms.{to_anf_forms}
 use Rattle.closure_lift.proofs.Forms.{lift_forms}
-use Rattle.wasm_emit.specs.EmittedModule.{module_of}
-use Rattle.wasm_emit.specs.EmitLaws.{Finished, Spent}
+use Rattle.known_calls.specs.KnownModule.{module_of}
+use Rattle.wasm_emit.specs.EmitLaws.{Spent}
+use Rattle.known_calls.specs.KnownLaws.{Finished}
 use Rattle.wasm_emit.proofs.Composition.{longer}
-use Rattle.wasm_emit.proofs.Spelled.{emit_spelled}
+use Rattle.known_calls.proofs.KnownSpelling.{known_spelled}
 use Rattle.back_end.specs.BackEnd.{passed, deepest, IsWithinPasses, ModulesAnswer, ModulesAreValid, ModulesCanBeSpelled}
 use Rattle.back_end.proofs.Composition.{back_end, back_end_valid}
 use Rattle.back_end.proofs.Whole.{families, product_le}
@@ -153,4 +154,4 @@ pub total_valid : ModulesAreValid
 total_valid P pages m pos small ok = back_end_valid (shrunk_program P) pages m pos small (suffices P m ok).1
 
 pub total_spelled : ModulesCanBeSpelled
-total_spelled P pages m pos small ok counts = emit_spelled (passed P) pages m pos small (lift_forms (to_anf (shrunk_program P)) m (to_anf_forms (shrunk_program P) m (suffices P m ok).1)) ok.limits counts
+total_spelled P pages m pos small ok counts = known_spelled (passed P) pages m pos small (lift_forms (to_anf (shrunk_program P)) m (to_anf_forms (shrunk_program P) m (suffices P m ok).1)) ok.limits counts

@@ -19,8 +19,9 @@ use Rattle.wasm_core.specs.MachineStep.{State, Reach}
 use Rattle.wasm_core.specs.Runs.{main_start}
 use Rattle.wasm_core.specs.Answer.{AnswersWithin}
 use Rattle.wasm_core.specs.RunTree.{Fate}
-use Rattle.wasm_emit.specs.EmittedModule.{module_of}
-use Rattle.wasm_emit.specs.EmitLaws.{Finished, Spent, CountsFit}
+use Rattle.known_calls.specs.KnownModule.{module_of}
+use Rattle.wasm_emit.specs.EmitLaws.{Spent, CountsFit}
+use Rattle.known_calls.specs.KnownLaws.{Finished}
 
 -- the program after all passes: matches on propositional families dropped, constructors saturated, constants with one use put in its place, parameters that are always box
 -- dropped, A-normal form, lifted

@@ -19,7 +19,8 @@ use Rattle.wasm_core.specs.RunTree.{Fate, goes_on, ended, ran_out}
 use Rattle.wasm_core.specs.Answer.{Answers, Exhausted, exhausted, AnswersWithin}
 use Rattle.wasm_core.specs.WordData.{DataNodes as Nodes}
 use Rattle.wasm_core.proofs.Small.{inj}
-use Rattle.wasm_emit.specs.EmitLaws.{Finished, Spent, spent}
+use Rattle.wasm_emit.specs.EmitLaws.{Spent, spent}
+use Rattle.known_calls.specs.KnownLaws.{Finished}
 use Rattle.wasm_emit.proofs.Composition.{longer}
 use Rattle.headline.specs.SourceWords.{source_branches}
 use Rattle.headline.specs.EveryRun.{module_for}

@@ -7,8 +7,8 @@ use Rattle.wasm_core.specs.Parts.{Parts}
 use Rattle.wasm_core.specs.MachineStep.{Over}
 use Rattle.wasm_core.specs.MachineRun.{refusal}
 use Rattle.wasm_core.proofs.Trees.{moves_are_steps}
-use Rattle.wasm_emit.specs.EmittedModule.{module_of}
-use Rattle.wasm_emit.specs.EmitLaws.{StatusTells}
+use Rattle.known_calls.specs.KnownModule.{module_of}
+use Rattle.known_calls.specs.KnownLaws.{StatusTells}
 use Rattle.back_end.specs.BackEnd.{passed}
 use Rattle.compile.specs.Passes.{Fits}
 use Rattle.compile.proofs.Starting.{never_refused}
