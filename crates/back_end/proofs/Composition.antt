@@ -15,13 +15,13 @@ use Rattle.closure_lift.specs.LiftedForm.{Limits}
 use Rattle.anf_convert.specs.TermForm.{ProgramFits}
 use Rattle.wasm_core.specs.ModuleTyping.{IsValid}
 use Rattle.known_calls.specs.KnownModule.{module_of}
-use Rattle.known_calls.specs.KnownLaws.{Emitted}
+use Rattle.known_calls.specs.KnownLaws.{KnownEmitted}
 
 -- what every run of the module does, by the counts of the evaluation; the blocks take no more words than their number times the words of the greatest
 pub record Runs (P : BoxProgram) (pages m : ℕ) (d : DataTree) (c : Counts) : Type 0 where
   pub words : ℕ
   pub few : words ≤ c.blocks * c.greatest
-  pub runs : Emitted (lift (to_anf P)) pages c.greatest m d c.contractions c.matches c.blocks words
+  pub runs : KnownEmitted (lift (to_anf P)) pages c.greatest m d c.contractions c.matches c.blocks words
 
 abbrev pub BackEnd : Type 0
 BackEnd = (P : BoxProgram) (pages m : ℕ) (v : ClosureValue) (d : DataTree) (c : Counts) → 0 < pages → pages ≤ 16384 → 0 < m → IsReady P → ProgramFits P m → Limits (lift (to_anf P)) → ClosureRun P Empty P.main v c → ValueIs v d → Runs P pages m d c

@@ -27,7 +27,7 @@ use Rattle.anf_convert.proofs.Forms.{to_anf_forms}
 use Rattle.closure_lift.proofs.Forms.{lift_forms}
 use Rattle.known_calls.specs.KnownModule.{module_of}
 use Rattle.wasm_emit.specs.EmitLaws.{Spent}
-use Rattle.known_calls.specs.KnownLaws.{Finished}
+use Rattle.known_calls.specs.KnownLaws.{FinishedWithin}
 use Rattle.wasm_emit.proofs.Composition.{longer}
 use Rattle.known_calls.proofs.KnownSpelling.{known_spelled}
 use Rattle.back_end.specs.BackEnd.{passed, deepest, IsWithinPasses, ModulesAnswer, ModulesAreValid, ModulesCanBeSpelled}
@@ -145,7 +145,7 @@ total_back_end P pages m w ns n matched pos small some ok evaluates reads =
       run = λ k t reach.
           let h = r.runs.run k t reach in (
             omega (arith, h.0, bound),
-            subst (λ z. Fate M (r.runs.depth + 1) (Finished M ns (8 + 4 * r.words)) (Spent M (8 + 4 * r.words)) z k t) x.matches (subst (λ (y : Nodes). Fate M (r.runs.depth + 1) (Finished M y (8 + 4 * r.words)) (Spent M (8 + 4 * r.words)) c.matches k t) d.2 h.1),
+            subst (λ z. Fate M (r.runs.depth + 1) (FinishedWithin M ns (8 + 4 * r.words)) (Spent M (8 + 4 * r.words)) z k t) x.matches (subst (λ (y : Nodes). Fate M (r.runs.depth + 1) (FinishedWithin M y (8 + 4 * r.words)) (Spent M (8 + 4 * r.words)) c.matches k t) d.2 h.1),
           );
       always = longer bound (subst (λ (y : Nodes). AnswersWithin M (64 * (c.blocks + c.contractions + 1) * (c.greatest + m)) y) d.2 r.runs.always);
     }

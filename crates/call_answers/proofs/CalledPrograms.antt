@@ -41,7 +41,7 @@ use Rattle.wasm_emit.specs.CallModule.{call_globals, call_exports}
 use Rattle.known_calls.specs.KnownModule.{worker_type}
 use Rattle.known_calls.specs.KnownCalls.{call_function, module_of_call}
 use Rattle.wasm_emit.specs.EmitLaws.{Spent, spent}
-use Rattle.known_calls.specs.KnownLaws.{Finished}
+use Rattle.known_calls.specs.KnownLaws.{FinishedWithin}
 use Rattle.wasm_emit.specs.EmittedModule.{type_main, main_index}
 use Rattle.known_calls.proofs.KnownCalling.{calls_answer}
 use Rattle.wasm_emit.proofs.Indices.{entries_length}
@@ -81,7 +81,7 @@ module _ (P : Program) (k pages : ℕ) where
 
 -- ---- runs that end
 
-chosen : {M : Parts} {frames bytes least k : ℕ} {d : DataNodes} {t : State} → bytes ≤ 65536 * greatest_pages M.memory → Fate M frames (Finished M d bytes) (Spent M bytes) least k t → Exhausted M t →
+chosen : {M : Parts} {frames bytes least k : ℕ} {d : DataNodes} {t : State} → bytes ≤ 65536 * greatest_pages M.memory → Fate M frames (FinishedWithin M d bytes) (Spent M bytes) least k t → Exhausted M t →
     (store_of t).by_choice ≡ false → ⊥
 chosen le (goes_on s u deep x y) gone e = elim gone [ ]
 chosen le (ended q l) (exhausted z) e = elim q [ ]
