@@ -13,11 +13,11 @@ ghost use Rattle.driver.specs.ExecEnds.{MeasuredSays, PassesSay};
 use crate::refusal::{ProgramLimit, Refusal, RunEnd};
 use box_terms::program::BoxProgram;
 use compile::{CompileFault, compile};
+use known_calls::known_status_tells;
 use module_run::{Measured, RunRefusal, answer_of};
 use reports::Report;
 use std::alloc::Global;
 use wasm_core::Valid;
-use known_calls::known_status_tells;
 
 /// The module of a program, whose memory grows to at most so many pages of 65,536 bytes.
 pub(crate) fn compiled(alloc: Global, pages: u32, program: &BoxProgram) -> Result<Valid, Refusal>
