@@ -8,14 +8,15 @@
 //!
 //! What is promised: `Subst` implements `Reducer` of `pc_rules` for all steps: beta, zeta, constants, defined variables, matches and
 //! fixpoints. It follows the directed rules exactly, units, `Spent` and `TooDeep` included (`follows`), and its result is joined to the
-//! term by weak-head steps (`reached`).
+//! term by weak-head steps (`reached`). `stepping` has a single step, which gives the whole term after it and takes no unit (`next`, `stops`).
 //!
 //! Below stand `pc_terms` (terms, lifting, substitution), `pc_rules` (environments, contexts, meters, the rules) and `instances` (fixpoints
-//! unfolded), above `reduce_machine` and the rows.
+//! unfolded), above `reduce_machine`, the verifier of certificates and the rows.
 #![tactic(auto)]
 
 mod frames;
 mod heads;
 mod machine;
 mod meeting;
+pub mod stepping;
 pub mod substitution;

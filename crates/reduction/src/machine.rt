@@ -58,8 +58,8 @@ impl Machine {
         }
     }
 
-    // Takes the innermost frame away.
-    fn pop(&mut self) -> Option<Frame>
+    /// Takes the innermost frame away.
+    pub(crate) fn pop(&mut self) -> Option<Frame>
         ensures frames { MatchOption result (self.old.frames.items ≡ []) (λ f. self.old.frames.items ≡ self.new.frames.items ++ f ∷ []) }
         ensures empty { IfNone result (self.new.frames.items ≡ []) }
         ensures focus { self.new.focus ≡ self.old.focus }

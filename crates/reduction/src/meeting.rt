@@ -139,8 +139,8 @@ fn shared_branches(alloc: Global, branches: &Branches) -> Result<Branches, MakeF
     Ok(out)
 }
 
-// The match with another scrutinee.
-fn rebuilt(alloc: Global, m: &Match, scrut: Term) -> Result<Term, MakeFault>
+/// The match with another scrutinee.
+pub(crate) fn rebuilt(alloc: Global, m: &Match, scrut: Term) -> Result<Term, MakeFault>
     ensures ok { IfOk result (λ t. t ≡ with_scrutinee (tree_of (Case m.now)) scrut) }
     ensures too_deep { IfErr result (λ e. e ≡ TooDeep → IsBeyond (with_scrutinee (tree_of (Case m.now)) scrut)) }
 {
