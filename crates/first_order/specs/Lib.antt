@@ -4,3 +4,4 @@ pub mod Texts
 pub mod Laws
 pub mod Signature
 pub mod DirectedSignature
+pub mod Applied

@@ -45,7 +45,7 @@ starts P pages =
     ∙ ap (option_and_then (λ f. start_at (module_of P pages) f)) exported
     ∙ ap (option_and_then (λ (g : Func). Some (start (module_of P pages) g))) (main_at P (main_function P) [] [] pages)
 
-alone : {P : Program} {w : ℕ} {v : Val} {c k b l : ℕ} → Evaluates P w VNil v c k b l → lifted.Gets P w VNil P.main v c k b l
+pub alone : {P : Program} {w : ℕ} {v : Val} {c k b l : ℕ} → Evaluates P w VNil v c k b l → lifted.Gets P w VNil P.main v c k b l
 alone (answers_alone g) = g
 
 -- the tree of all runs
@@ -77,7 +77,7 @@ at_end m bytes d t (inl (finished h x y)) granted u s = s
 at_end m bytes d t (inr (spent h x)) granted u s = s
 
 -- other ends
-forget : {m : Parts} {frames : ℕ} {Q R E F : State → Type 0} → ((t : State) → Q t → R t) → ((t : State) → E t → F t) → {least most : ℕ} {t : State} → Tree m frames Q E least most t → Tree m frames R F least most t
+pub forget : {m : Parts} {frames : ℕ} {Q R E F : State → Type 0} → ((t : State) → Q t → R t) → ((t : State) → E t → F t) → {least most : ℕ} {t : State} → Tree m frames Q E least most t → Tree m frames R F least most t
 forget f g (now {s = s} q) = now (f s q)
 forget f g (gone {s = s} e) = gone (g s e)
 forget f g (moves s t deep le x y j k) = moves s t deep le x y (forget f g j) (forget f g k)

@@ -22,7 +22,7 @@ pub same_made : (r : Result Body EmitFault) (a b : Body) → a ≡ b → IfOk r 
 same_made (Ok x) a b e h = h ∙ e
 same_made (Err f) a b e h = h
 
-same_body : (n k : ℕ) (is js : List Instr) → n ≡ k → is ≡ js → body n is ≡ body k js
+pub same_body : (n k : ℕ) (is js : List Instr) → n ≡ k → is ≡ js → body n is ≡ body k js
 same_body n k is js a b = ap (λ (i : ℕ). body i is) a ∙ ap (λ (zs : List Instr). body k zs) b
 
 -- a block's code and what comes last were pushed, and nothing else

@@ -43,7 +43,7 @@ mutual
       let same : word m (w + 4 * suc (count ds)) ≡ word m (w + 4 * suc (size vs)) = ap (λ n. word m (w + 4 * suc n)) (all_count hs) in
       field (subst (λ z. Stands m h z v) same (stands_of x s)) (subst (IsBelow w) same low) (fields_of hs fs)
 
-args_of : {m : Mem} {h a : ℕ} {vs : Vals} {ds : DataTrees} → AreData vs ds → ArgumentsStored m h a ds → ArgsAt m h a vs
+pub args_of : {m : Mem} {h a : ℕ} {vs : Vals} {ds : DataTrees} → AreData vs ds → ArgumentsStored m h a ds → ArgsAt m h a vs
 args_of are_data_none no_arguments = args_none
 args_of {m} {h} {a} (are_data_more {v = v} {vs = vs} {ds = ds} x hs) (last_argument s within fs) =
     let same : word m (a + 4 * count ds) ≡ word m (a + 4 * size vs) = ap (λ n. word m (a + 4 * n)) (all_count hs) in

@@ -15,7 +15,7 @@ use Rattle.wasm_emit.specs.AnfLaws.{AnfEmits, AnfValid}
 use Rattle.wasm_emit.proofs.Answering.{emit_answers}
 use Rattle.wasm_emit.proofs.Valid.{emit_valid}
 
-steps : (b c' z x : ℕ) → 64 * (b + c' + 1) * x ≤ 64 * (b + (c' + z) + 1) * x
+pub steps : (b c' z x : ℕ) → 64 * (b + c' + 1) * x ≤ 64 * (b + (c' + z) + 1) * x
 steps b c' z x = omega arith
 
 -- a greater bound

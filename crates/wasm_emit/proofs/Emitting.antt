@@ -46,7 +46,7 @@ pub once_more : (k x : ℕ) → replicate k x ++ x ∷ [] ≡ replicate (k + 1) 
 once_more zero x = refl
 once_more (suc k) x = let e : suc (k + 1) ≡ suc k + 1 = omega arith in ap (λ (zs : List ℕ). x ∷ zs) (once_more k x) ∙ ap (λ (n : ℕ). replicate n x) e
 
-times : {A : Type 0} (x : ℕ) (ys : List A) → replicate (length ys) x ≡ map (λ (y : A). x) ys
+pub times : {A : Type 0} (x : ℕ) (ys : List A) → replicate (length ys) x ≡ map (λ (y : A). x) ys
 times x [] = refl
 times {A} x (y ∷ ys) = ap (λ (zs : List ℕ). x ∷ zs) (times x ys)
 
@@ -63,7 +63,7 @@ funcs_made Q items n k v0 v1 v2 v3 same en ek e0 e1 e2 e3 =
     let w2 : v2 ≡ (0 ∷ 2 ∷ map (λ (f : Fn). 2) P.functions) ++ map (λ (t : Block). 1) P.constants = e2 ∙ ap (λ (zs : List ℕ). zs ++ replicate k 1) w1 ∙ ap (λ (zs : List ℕ). (0 ∷ 2 ∷ map (λ (f : Fn). 2) P.functions) ++ zs) cs in
     e3 ∙ ap (λ (zs : List ℕ). zs ++ 0 ∷ []) w2 ∙ ap (λ (zs : List ℕ). 0 ∷ 2 ∷ zs) (append_assoc (map (λ (f : Fn). 2) P.functions) (map (λ (t : Block). 1) P.constants) (0 ∷ []))
 
-all_at : {A : Type 0} (F : A → Type 0) (xs : List A) → All F xs → (i : ℕ) (x : A) → slice_get xs i ≡ Some x → F x
+pub all_at : {A : Type 0} (F : A → Type 0) (xs : List A) → All F xs → (i : ℕ) (x : A) → slice_get xs i ≡ Some x → F x
 all_at F [] a i x e = cc
 all_at F (y ∷ ys) a zero x e = let same : y ≡ x = cc in subst F same a.0
 all_at F (y ∷ ys) a (suc i) x e = all_at F ys a.1 i x e

@@ -37,7 +37,7 @@ use Rattle.wasm_emit.proofs.Cases.{Yields, pass_empties, take_empty, take_head, 
 pub zeros_length : (n : ℕ) → length (zeros n) ≡ n
 zeros_length n = length_map zero_of (replicate n type.I32) ∙ length-replicate {A = ValType} n type.I32
 
-append_nil : (vs : Vals) → vs +v VNil ≡ vs
+pub append_nil : (vs : Vals) → vs +v VNil ≡ vs
 append_nil VNil = refl
 append_nil (VCons v vs) = ap (VCons v) (append_nil vs)
 
@@ -52,21 +52,21 @@ fields_env {m} {h} x w lt at within (field {vs = vs} s low fs) env =
     env_cons (word m (w + 4 * suc (size vs))) (in_field w lt at (omega arith) refl) s (fields_env x w lt at (omega arith) fs env)
 
 -- what the word of a closure says
-record Closure (m : Mem) (h w g : ℕ) (vs : Vals) : Type 0 where
-  within : w + 4 * suc (size vs) ≤ h
-  head : word m w ≡ suc g
-  fields : Fields m h w vs
+pub record Closure (m : Mem) (h w g : ℕ) (vs : Vals) : Type 0 where
+  pub within : w + 4 * suc (size vs) ≤ h
+  pub head : word m w ≡ suc g
+  pub fields : Fields m h w vs
 
-closure : {m : Mem} {h w g : ℕ} {vs : Vals} → Stands m h w (VClos g vs) → Closure m h w g vs
+pub closure : {m : Mem} {h w g : ℕ} {vs : Vals} → Stands m h w (VClos g vs) → Closure m h w g vs
 closure (s_clos q lt e pos within head fs) = record { within = within; head = head; fields = fs }
 
-box_word : {m : Mem} {h w : ℕ} → Stands m h w VBox → w ≡ 0
+pub box_word : {m : Mem} {h w : ℕ} → Stands m h w VBox → w ≡ 0
 box_word (s_box e) = e
 
-low_word : {M : Parts} (m m' : Mem) {p h : ℕ} → Room M m p h → Same h m m' → word m 0 ≡ 0 → word m' 0 ≡ 0
+pub low_word : {M : Parts} (m m' : Mem) {p h : ℕ} → Room M m p h → Same h m m' → word m 0 ≡ 0 → word m' 0 ≡ 0
 low_word m m' room same nil = word_same m m' 0 (λ x a b. same x (omega (arith, room.above))) ∙ nil
 
-top_arg : {m : Mem} {l a : ℕ} {v : Val} {vs : Vals} → ArgsAt m l a (VCons v vs) → Stands m l (word m (a + 4 * size vs)) v
+pub top_arg : {m : Mem} {l a : ℕ} {v : Val} {vs : Vals} → ArgsAt m l a (VCons v vs) → Stands m l (word m (a + 4 * size vs)) v
 top_arg (args_more h within args) = h
 
 module _ (P : Program) (main : Body) (gs : List GlobalDef) (es : List Export) (pages : ℕ) (small : pages ≤ 16384) (W N : ℕ) (some : 0 < N) (cap : Limits) (Q : State → Type 0) where

@@ -1,5 +1,5 @@
 -- In every run of an emitted module the status is 1 only after a refused grow.
-use Rattle.std.proofs.Common.{◌≡◌, ℕ, zero, suc, ◌+◌, ◌≤◌, List, [], ◌∷◌, length, Option, Some, None, Bool, true, false, refl, sym, ◌∙◌, subst, arith}
+use Rattle.std.proofs.Common.{◌≡◌, ℕ, zero, suc, ◌+◌, ◌≤◌, List, [], ◌∷◌, ◌++◌, length, drop, Option, Some, None, Bool, true, false, refl, sym, ◌∙◌, subst, arith}
 use Rattle.std.proofs.lemmas.Bool.{leb-true, eqb-true}
 use Rattle.std.specs.Prelude.{slice_get, slice_set, nat_le, nat_eq, if◌then◌else◌, ◌&&◌}
 use Rattle.wasm_core.specs.declared.types.FuncType.{FuncType}
@@ -12,12 +12,14 @@ use Rattle.wasm_core.specs.declared.instrs.Instr.TheVariants.{Unreachable, Nop, 
 use Rattle.wasm_core.specs.Parts.{Parts}
 use Rattle.wasm_core.specs.Arithmetic.{flag, is_unary}
 use Rattle.wasm_core.specs.Instance.{Func, func_of, table_of, greatest_pages}
-use Rattle.wasm_core.specs.MachineStep.{Bracket, Opens, Divides, Closes, Plain, bracket, past_end, to_else, after_end, else_arm, BlockLabel, Frame, Store, Conf, State, At, Over, on_some, taking, arm, leave_block, back, at_end, call, call_entry, same_func_type, within, operation, act, next, step, Reach}
-use Rattle.wasm_core.proofs.Small.{no}
+use Rattle.wasm_core.specs.MachineStep.{Bracket, Opens, Divides, Closes, Plain, bracket, past_end, to_else, after_end, else_arm, BlockLabel, Frame, Store, Conf, State, At, Over, on_some, taking, arm, leave_block, back, at_end, jump, call, call_entry, same_func_type, within, operation, act, next, step, Reach}
+use Rattle.wasm_core.proofs.Small.{inj, no}
 
 -- an emitted instruction that neither grows memory nor sets the status
 abbrev pub NotStatus : Instr → Type 0
 NotStatus Unreachable = Unit {0}
+NotStatus (Loop t) = Unit {0}
+NotStatus (Br x) = Unit {0}
 NotStatus (If t) = Unit {0}
 NotStatus Else = Unit {0}
 NotStatus End = Unit {0}
@@ -130,6 +132,16 @@ arm_wary : (x : ℕ) {rest : List Instr} → Wary rest → Wary (arm x rest)
 arm_wary zero w = wary_else 0 w
 arm_wary (suc x) w = w
 
+label_wary : (ks : List BlockLabel) (x : ℕ) {k : BlockLabel} → Labels ks → slice_get ks x ≡ Some k → Wary k.goes_on
+label_wary [] x l e = no e
+label_wary (k ∷ ks) zero l e = subst (λ (k : BlockLabel). Wary k.goes_on) (inj e) l.0
+label_wary (k ∷ ks) (suc x) l e = label_wary ks x l.1 e
+
+labels_left : (n : ℕ) (ks : List BlockLabel) → Labels ks → Labels (drop n ks)
+labels_left zero ks l = l
+labels_left (suc n) [] l = tt
+labels_left (suc n) (k ∷ ks) l = labels_left n ks l.1
+
 module _ (m : Parts) (funcs : (f : ℕ) (g : Func) → func_of m f ≡ Some g → Wary g.body.code) (small : greatest_pages m.memory ≤ 65536) (granted : Bool) where
   module _ (s : Store) (keeps : Bool) (ls : List ConstValue) (ks : List BlockLabel) (callers : List Frame) (lw : Labels ks) (cw : Callers callers) (st : Tells s) (pg : s.pages ≤ 65536) where
     abbrev at : List ConstValue → List Instr → Conf
@@ -149,6 +161,16 @@ module _ (m : Parts) (funcs : (f : ℕ) (g : Func) → func_of m f ≡ Some g �
     leaving false vals operands all = going_back vals all callers [] cw
     leaving true vals [] all = tt
     leaving true vals (x ∷ operands) all = going_back vals all callers (x ∷ []) cw
+
+    branching : (b : Bool) (operands below vals : List ConstValue) (goes all : List Instr) (labels : List BlockLabel) → Wary goes → Labels labels →
+        HonestNext (taking b operands (λ top. Some (At (record (at vals all) { current = record (at vals all).current { labels = labels; operands = top ++ below; rest = goes } }))))
+    branching false operands below vals goes all labels w l = record { now = at_wary w; labels = l; callers = cw; status = st; pages = pg }
+    branching true [] below vals goes all labels w l = tt
+    branching true (x ∷ operands) below vals goes all labels w l = record { now = at_wary w; labels = l; callers = cw; status = st; pages = pg }
+
+    jump_ok : (x : ℕ) (vals : List ConstValue) (all : List Instr) (o : Option BlockLabel) → slice_get ks x ≡ o → HonestNext (jump (at vals all) x vals o)
+    jump_ok x vals all None e = if_ok (nat_eq x (length ks)) _ _ (λ z. leaving keeps vals vals all) (λ z. tt)
+    jump_ok x vals all (Some k) e = branching k.keeps vals k.below vals k.goes_on all (drop (x + 1) ks) (label_wary ks x lw e) (labels_left (x + 1) ks lw)
 
     inside_ok : (end : ℕ) (vals : List ConstValue) (all : List Instr) (go : Option State) → HonestNext go → HonestNext (within end (at vals all) go)
     inside_ok end vals all go h = if_ok (nat_le end (length s.memory)) _ _ (λ e. h) (λ e. st)
@@ -181,6 +203,8 @@ module _ (m : Parts) (funcs : (f : ℕ) (g : Func) → func_of m f ≡ Some g �
     honest_act (If t) [] rest all n w = tt
     honest_act (If t) (I64 x ∷ vals) rest all n w = tt
     honest_act (If t) (I32 x ∷ vals) rest all n w = record { now = at_wary (arm_wary x w); labels = (wary_end 0 w, lw); callers = cw; status = st; pages = pg }
+    honest_act (Loop t) vals rest all n w = record { now = at_wary w; labels = (w_cons {i = Loop t} tt w, lw); callers = cw; status = st; pages = pg }
+    honest_act (Br x) vals rest all n w = jump_ok x vals all (slice_get ks x) refl
     honest_act Else vals rest all n w = else_ok vals all ks lw
     honest_act End vals rest all n w = end_ok vals rest all w ks lw
     honest_act (Call f) vals rest all n w = some_ok (func_of m f) _ (λ g e. called g vals vals rest all (funcs f g e) w)
@@ -208,8 +232,6 @@ module _ (m : Parts) (funcs : (f : ℕ) (g : Func) → func_of m f ≡ Some g �
     honest_act (Operation op) vals rest all n w = op_ok (is_unary op) op vals rest all w
     honest_act Nop vals rest all n w = absurd n
     honest_act (Block t) vals rest all n w = absurd n
-    honest_act (Loop t) vals rest all n w = absurd n
-    honest_act (Br x) vals rest all n w = absurd n
     honest_act (BrIf x) vals rest all n w = absurd n
     honest_act (BrTable x xs) vals rest all n w = absurd n
     honest_act Return vals rest all n w = absurd n

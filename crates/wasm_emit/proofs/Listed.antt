@@ -25,7 +25,7 @@ abbrev pub constants_in : Lifted → List LiftedConstant → List Block
 constants_in Q cs = map (λ (c : LiftedConstant). renumber (place_in Q.constants) c.body) cs
 
 -- one body more
-one_more : (v w : List Body) (a b : Body) (rest out : List Body) → w ≡ v ++ a ∷ [] → a ≡ b → v ++ (b ∷ rest) ≡ out → w ++ rest ≡ out
+pub one_more : (v w : List Body) (a b : Body) (rest out : List Body) → w ≡ v ++ a ∷ [] → a ≡ b → v ++ (b ∷ rest) ≡ out → w ++ rest ≡ out
 one_more v w a b rest out more e inv =
     ap (λ (zs : List Body). zs ++ rest) more ∙ append_assoc v (a ∷ []) rest ∙ ap (λ (x : Body). v ++ (x ∷ rest)) e ∙ inv
 

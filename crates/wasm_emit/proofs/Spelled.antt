@@ -29,11 +29,11 @@ use Rattle.wasm_emit.proofs.Indices.{row_length, entries_length}
 use Rattle.wasm_emit.proofs.Valid.{function_typed, constant_typed, main_typed, call_typed, box_typed, room_typed}
 
 -- instructions whose immediates have their bits
-data Good : List Instr → Type 0 where
+pub data Good : List Instr → Type 0 where
   good : Good []
   fits : {i : Instr} {rest : List Instr} → IsInstr i → Good rest → Good (i ∷ rest)
 
-all_of : {is : List Instr} → Good is → All IsInstr is
+pub all_of : {is : List Instr} → Good is → All IsInstr is
 all_of good = tt
 all_of (fits h k) = (h, all_of k)
 
@@ -102,7 +102,7 @@ module _ (P : Program) (m : ℕ) (counts : CountsFit P m) (limits : Limits P) wh
         fits (omega arith) (fits (omega arith, omega arith) (fits (omega (arith, counts.branches, low)) (fits tt (fits tt (f_code (suc j + n) (suc d) (fields_of d (suc j) ps) t (omega arith) (fields_fit d (suc j) ps (omega arith) (omega (arith, low)) h) fit.1
         (fits tt (f_heads n d ps (suc c) bs (omega arith) (omega arith) h fit.2 (fits tt k))))))))
 
-all_then : {A B : Type 0} (Q : B → Type 0) (h : A → B) (xs : List A) (bs : List B) → ((i : ℕ) (x : A) → slice_get xs i ≡ Some x → Q (h x)) → All Q bs → All Q (map h xs ++ bs)
+pub all_then : {A B : Type 0} (Q : B → Type 0) (h : A → B) (xs : List A) (bs : List B) → ((i : ℕ) (x : A) → slice_get xs i ≡ Some x → Q (h x)) → All Q bs → All Q (map h xs ++ bs)
 all_then Q h [] bs a r = r
 all_then Q h (x ∷ xs) bs a r = (a zero x refl, all_then Q h xs bs (λ i y e. a (suc i) y e) r)
 
@@ -111,10 +111,10 @@ entries_fit i zero h = tt
 entries_fit i (suc n) h = (omega arith, entries_fit (suc i) n (omega arith))
 
 -- a typed body whose immediates fit
-body_fits : (M : Parts) (index n : ℕ) (is : List Instr) → n ≤ 50000 → TypedFunc M index (record { locals = replicate n I32; code = is }) → Good is → IsBody (record { locals = replicate n I32; code = is })
+pub body_fits : (M : Parts) (index n : ℕ) (is : List Instr) → n ≤ 50000 → TypedFunc M index (record { locals = replicate n I32; code = is }) → Good is → IsBody (record { locals = replicate n I32; code = is })
 body_fits M index n is few t all = (omega (arith, length-replicate {A = ValType} n I32), typed_is_closed M (t.type.params ++ replicate n I32) (results_of t.type) is t.typed (all_of all))
 
-room_good : Good room_code
+pub room_good : Good room_code
 room_good = fits (omega arith) (fits tt (fits (omega arith) (fits tt (fits (omega arith) (fits (omega arith) (fits tt (fits tt (fits tt (fits tt good)))))))))
 
 -- a module whose further globals, exports and main fit

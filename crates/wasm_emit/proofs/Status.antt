@@ -79,13 +79,13 @@ w_applied P zero w = w_code P [] 0 P.main w
 w_applied P (suc n) w = w_applied P n (w_cons tt (w_cons tt (w_cons tt (w_cons tt (w_op P (InLocal 1 ∷ InLocal 0 ∷ []) 2 (OApp (AVar 1) (AVar 0)) w)))))
 
 -- bodies that set the status only so
-abbrev AllWary : List Body → Type 0
+abbrev pub AllWary : List Body → Type 0
 AllWary bs = (f : ℕ) (b : Body) → slice_get bs f ≡ Some b → Wary b.code
 
-wary_body : {a b : Body} → ◌≡◌ {A = Option Body} (Some a) (Some b) → Wary a.code → Wary b.code
+pub wary_body : {a b : Body} → ◌≡◌ {A = Option Body} (Some a) (Some b) → Wary a.code → Wary b.code
 wary_body e w = subst (λ (g : Body). Wary g.code) (inj e) w
 
-mapped_then : {A : Type 0} (h : A → Body) (xs : List A) (bs : List Body) → ((x : A) → Wary (h x).code) → AllWary bs → AllWary (map h xs ++ bs)
+pub mapped_then : {A : Type 0} (h : A → Body) (xs : List A) (bs : List Body) → ((x : A) → Wary (h x).code) → AllWary bs → AllWary (map h xs ++ bs)
 mapped_then h [] bs a r f g e = r f g e
 mapped_then h (x ∷ xs) bs a r zero g e = wary_body e (a x)
 mapped_then h (x ∷ xs) bs a r (suc f) g e = mapped_then h xs bs a r f g e
@@ -101,22 +101,22 @@ all_wary P main gs es pages wm (suc (suc f)) g e =
     last zero g e = wary_body e wm
     last (suc f) g e = no e
 
-abbrev made : FuncType → Body → Option Func
+abbrev pub made : FuncType → Body → Option Func
 made t b = Some (record { type = t; body = b })
 
 -- a function's body is one of the bodies
-of_bodies : (m : Parts) → AllWary m.bodies → (f : ℕ) (g : Func) → func_of m f ≡ Some g → Wary g.body.code
+pub of_bodies : (m : Parts) → AllWary m.bodies → (f : ℕ) (g : Func) → func_of m f ≡ Some g → Wary g.body.code
 of_bodies m all f g e =
     let (index, h1, e1) = some_of (λ index. func_with m f index) (slice_get m.funcs f) g e in
     let (t, h2, e2) = some_of (λ (t : FuncType). option_and_then (λ (b : Body). Some (record { type = t; body = b })) (slice_get m.bodies f)) (slice_get m.types index) g e1 in
     let (b, h3, e3) = some_of (λ (b : Body). made t b) (slice_get m.bodies f) g e2 in
     subst (λ (g : Func). Wary g.body.code) (inj e3) (all f b h3)
 
-tells_of : (t : State) → HonestState t → Tells (store_of t)
+pub tells_of : (t : State) → HonestState t → Tells (store_of t)
 tells_of (At c) h = h.status
 tells_of (Over e s) h = h
 
-word_is : (v : ConstValue) → i32_of v ≡ Some 1 → v ≡ I32 1
+pub word_is : (v : ConstValue) → i32_of v ≡ Some 1 → v ≡ I32 1
 word_is (I32 n) e = ap I32 (inj e)
 word_is (I64 n) e = no e
 

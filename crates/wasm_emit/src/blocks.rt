@@ -23,7 +23,7 @@ use std::collections::HashMap;
 use wasm_core::{BlockType, I32Op, Instr, ValType};
 
 /// The index of a constant's function; `numbers` are those of the program's constants. An index past 32 bits is `Memory`: so many constants have no room.
-fn index_of_constant(
+pub fn index_of_constant(
     p: &Lifted,
     numbers: &HashMap<u32, usize>,
     name: Name,
@@ -40,7 +40,7 @@ fn index_of_constant(
 }
 
 /// The index of the function after the run time's two, the program's functions, and so many more. An index past 32 bits is `Memory`.
-pub(crate) fn function_index(p: &Lifted, after: usize) -> Result<u32, EmitFault>
+pub fn function_index(p: &Lifted, after: usize) -> Result<u32, EmitFault>
     ensures is { IfOk result (λ i. i ≡ constant_index (lifted_of p.now) after) }
     ensures only_memory { IfErr result (λ e. e ≡ Memory) }
 {
@@ -182,7 +182,7 @@ fn push_branches(
 }
 
 /// So many ends. Only `Memory`.
-fn push_ends(n: usize, out: &mut Vec<Instr>) -> Result<(), EmitFault>
+pub fn push_ends(n: usize, out: &mut Vec<Instr>) -> Result<(), EmitFault>
     ensures pushed { OnOk result (Pushed out.old.items out.new.items (ends n)) }
     ensures only_memory { IfErr result (λ e. e ≡ Memory) }
 {
@@ -193,7 +193,7 @@ fn push_ends(n: usize, out: &mut Vec<Instr>) -> Result<(), EmitFault>
 }
 
 /// Compares the two words on the operands, and begins an arm that leaves a word. Only `Memory`.
-fn push_test(out: &mut Vec<Instr>) -> Result<(), EmitFault>
+pub fn push_test(out: &mut Vec<Instr>) -> Result<(), EmitFault>
     ensures pushed { OnOk result (Pushed out.old.items out.new.items (λ rest. Operation op32.Eq ∷ IfWord ∷ rest)) }
     ensures only_memory { IfErr result (λ e. e ≡ Memory) }
 {

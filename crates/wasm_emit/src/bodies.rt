@@ -26,7 +26,7 @@ use wasm_core::{BlockType, Body, I32Op, Instr, Instrs, ValType, ValTypes};
 const MOST_LOCALS: u32 = 50_000;
 
 /// A body of so many locals, all words.
-fn body_of(alloc: Global, locals: u32, code: Vec<Instr>) -> Result<Body, EmitFault>
+pub fn body_of(alloc: Global, locals: u32, code: Vec<Instr>) -> Result<Body, EmitFault>
     ensures is { IfOk result (λ b. b ≡ body locals code.items) }
     ensures only_memory { IfErr result (λ e. e ≡ Memory) }
 {
@@ -41,7 +41,7 @@ fn body_of(alloc: Global, locals: u32, code: Vec<Instr>) -> Result<Body, EmitFau
 }
 
 /// The function that makes memory grow by a page; where that is refused the status is 1 and the run traps.
-pub(crate) fn room_body(alloc: Global) -> Result<Body, EmitFault>
+pub fn room_body(alloc: Global) -> Result<Body, EmitFault>
     ensures is { IfOk result (λ b. b ≡ room_function) }
     ensures only_memory { IfErr result (λ e. e ≡ Memory) }
 {
@@ -61,7 +61,7 @@ pub(crate) fn room_body(alloc: Global) -> Result<Body, EmitFault>
 }
 
 /// The function of box, which answers box.
-pub(crate) fn box_body(alloc: Global) -> Result<Body, EmitFault>
+pub fn box_body(alloc: Global) -> Result<Body, EmitFault>
     ensures is { IfOk result (λ b. b ≡ box_function) }
     ensures only_memory { IfErr result (λ e. e ≡ Memory) }
 {

@@ -21,7 +21,7 @@ use wasm_core::{
 };
 
 /// A function type of so many words that gives a word or nothing.
-fn type_of(alloc: Global, params: u32, gives: Option<ValType>) -> Result<FuncType, EmitFault>
+pub fn type_of(alloc: Global, params: u32, gives: Option<ValType>) -> Result<FuncType, EmitFault>
     ensures is { IfOk result (λ t. t ≡ record { params = replicate params type.I32; result = gives }) }
     ensures only_memory { IfErr result (λ e. e ≡ Memory) }
 {
@@ -48,7 +48,7 @@ fn types_of(alloc: Global) -> Result<FuncTypes, EmitFault>
 }
 
 /// So many times the same number, behind those that are there.
-fn push_times(items: &mut Vec<u32>, n: usize, x: u32) -> Result<(), EmitFault>
+pub fn push_times(items: &mut Vec<u32>, n: usize, x: u32) -> Result<(), EmitFault>
     ensures pushed { OnOk result (items.new.items ≡ items.old.items ++ replicate n x) }
     ensures only_memory { IfErr result (λ e. e ≡ Memory) }
 {
@@ -97,7 +97,7 @@ fn first_exports(alloc: Global, main: u32) -> Result<Vec<Export>, EmitFault>
 }
 
 /// The exports, with the index of main.
-fn exports_of(alloc: Global, main: u32) -> Result<Exports, EmitFault>
+pub fn exports_of(alloc: Global, main: u32) -> Result<Exports, EmitFault>
     ensures is { IfOk result (λ es. es ≡ exports_with main) }
     ensures only_memory { IfErr result (λ e. e ≡ Memory) }
 {
@@ -106,7 +106,7 @@ fn exports_of(alloc: Global, main: u32) -> Result<Exports, EmitFault>
 }
 
 /// The exports of a module for calls, with the index of main: the end of the heap and the address of the arguments are given out too.
-fn call_exports_of(alloc: Global, main: u32) -> Result<Exports, EmitFault>
+pub fn call_exports_of(alloc: Global, main: u32) -> Result<Exports, EmitFault>
     ensures is { IfOk result (λ es. es ≡ exports_with main ++ call_exports) }
     ensures only_memory { IfErr result (λ e. e ≡ Memory) }
 {
@@ -130,7 +130,7 @@ fn word_global(word: u32) -> GlobalDef
 }
 
 /// The table's only segment: from its start on the functions from 1 on, so many.
-fn elements_of(alloc: Global, n: u32) -> Result<Segments, EmitFault>
+pub fn elements_of(alloc: Global, n: u32) -> Result<Segments, EmitFault>
     ensures is { IfOk result (λ ss. ss ≡ record { offset = 0; funcs = entries 1 n } ∷ []) }
     ensures only_memory { IfErr result (λ e. e ≡ Memory) }
 {
@@ -147,7 +147,7 @@ fn elements_of(alloc: Global, n: u32) -> Result<Segments, EmitFault>
 }
 
 /// The globals: the result and the status, which are 0 at first, and the end of the heap, which begins at byte 8.
-fn globals_of(alloc: Global) -> Result<GlobalDefs, EmitFault>
+pub fn globals_of(alloc: Global) -> Result<GlobalDefs, EmitFault>
     ensures is { IfOk result (λ gs. gs ≡ global_word 0 ∷ global_word 0 ∷ global_word 8 ∷ []) }
     ensures only_memory { IfErr result (λ e. e ≡ Memory) }
 {
@@ -156,7 +156,7 @@ fn globals_of(alloc: Global) -> Result<GlobalDefs, EmitFault>
 }
 
 /// The globals of a module for calls: those of every module, and the address of the arguments.
-fn call_globals_of(alloc: Global) -> Result<GlobalDefs, EmitFault>
+pub fn call_globals_of(alloc: Global) -> Result<GlobalDefs, EmitFault>
     ensures is { IfOk result (λ gs. gs ≡ global_word 0 ∷ global_word 0 ∷ global_word 8 ∷ call_globals) }
     ensures only_memory { IfErr result (λ e. e ≡ Memory) }
 {
@@ -170,7 +170,7 @@ fn call_globals_of(alloc: Global) -> Result<GlobalDefs, EmitFault>
 }
 
 /// The number of the table's entries: one for box, and one for each function of the program.
-fn entry_count(p: &Lifted) -> u32
+pub fn entry_count(p: &Lifted) -> u32
     requires few { length ((lifted_of p.now).functions) ≤ 32768 }
     ensures is { result ≡ length ((lifted_of p.now).functions) + 1 }
 {

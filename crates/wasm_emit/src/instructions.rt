@@ -13,7 +13,7 @@ use anf_convert::program::Atom;
 use wasm_core::{Access, BlockType, I32Op, Instr};
 
 /// One instruction more. Only `Memory`.
-pub(crate) fn push(out: &mut Vec<Instr>, i: Instr) -> Result<(), EmitFault>
+pub fn push(out: &mut Vec<Instr>, i: Instr) -> Result<(), EmitFault>
     ensures pushed { OnOk result (Pushed out.old.items out.new.items (λ rest. i ∷ rest)) }
     ensures only_memory { IfErr result (λ e. e ≡ Memory) }
 {
@@ -22,7 +22,7 @@ pub(crate) fn push(out: &mut Vec<Instr>, i: Instr) -> Result<(), EmitFault>
 }
 
 /// The word at the offset behind the address on the operands. Only `Memory`.
-pub(crate) fn push_load(out: &mut Vec<Instr>, offset: u32) -> Result<(), EmitFault>
+pub fn push_load(out: &mut Vec<Instr>, offset: u32) -> Result<(), EmitFault>
     ensures pushed { OnOk result (Pushed out.old.items out.new.items (λ rest. Load offset ∷ rest)) }
     ensures only_memory { IfErr result (λ e. e ≡ Memory) }
 {
@@ -30,7 +30,7 @@ pub(crate) fn push_load(out: &mut Vec<Instr>, offset: u32) -> Result<(), EmitFau
 }
 
 /// Puts the word on the operands at the offset behind the address below it. Only `Memory`.
-pub(crate) fn push_store(out: &mut Vec<Instr>, offset: u32) -> Result<(), EmitFault>
+pub fn push_store(out: &mut Vec<Instr>, offset: u32) -> Result<(), EmitFault>
     ensures pushed { OnOk result (Pushed out.old.items out.new.items (λ rest. StoreWord offset ∷ rest)) }
     ensures only_memory { IfErr result (λ e. e ≡ Memory) }
 {
@@ -38,7 +38,7 @@ pub(crate) fn push_store(out: &mut Vec<Instr>, offset: u32) -> Result<(), EmitFa
 }
 
 /// The word of a constructor without arguments. A word past 32 bits, which no program of the form has, is `Memory`.
-pub(crate) fn empty_word(c: u32) -> Result<u32, EmitFault>
+pub fn empty_word(c: u32) -> Result<u32, EmitFault>
     ensures is { IfOk result (λ w. w ≡ 2 * c + 1) }
     ensures only_memory { IfErr result (λ e. e ≡ Memory) }
 {
@@ -49,7 +49,7 @@ pub(crate) fn empty_word(c: u32) -> Result<u32, EmitFault>
 }
 
 /// The first word of a constructor's block. A word past 32 bits, which no program of the form has, is `Memory`.
-pub(crate) fn header_word(c: u32, fields: u32) -> Result<u32, EmitFault>
+pub fn header_word(c: u32, fields: u32) -> Result<u32, EmitFault>
     ensures is { IfOk result (λ w. w ≡ fields * 65536 + c) }
     ensures only_memory { IfErr result (λ e. e ≡ Memory) }
 {
@@ -60,7 +60,7 @@ pub(crate) fn header_word(c: u32, fields: u32) -> Result<u32, EmitFault>
 }
 
 /// The bytes of so many words. A number past 32 bits, which no program of the form has, is `Memory`.
-pub(crate) fn bytes_of(words: usize) -> Result<u32, EmitFault>
+pub fn bytes_of(words: usize) -> Result<u32, EmitFault>
     ensures is { IfOk result (λ b. b ≡ 4 * words) }
     ensures only_memory { IfErr result (λ e. e ≡ Memory) }
 {
@@ -126,7 +126,7 @@ fn push_fields(
 }
 
 /// Puts the end of the heap into local d, and moves it on by so many bytes, where memory is or is made. Only `Memory`.
-fn push_address(d: u32, bytes: u32, out: &mut Vec<Instr>) -> Result<(), EmitFault>
+pub fn push_address(d: u32, bytes: u32, out: &mut Vec<Instr>) -> Result<(), EmitFault>
     ensures pushed { OnOk result (Pushed out.old.items out.new.items (λ rest. instr.GlobalGet 2 ∷ instr.LocalTee d ∷ ConstWord bytes ∷ instr.I32 op32.Add ∷ instr.GlobalSet 2 ∷ ensure_room rest)) }
     ensures only_memory { IfErr result (λ e. e ≡ Memory) }
 {

@@ -11,18 +11,18 @@
 //! (`CallModule`); what its runs answer is `calls_of_main_answer`.
 //!
 //! Below stand `closure_lift` (lifted programs and their evaluation) and `wasm_core` (modules, validity, runs); above stand
-//! `back_end`, with the laws of all passes together, and `compile`, which calls it.
+//! `back_end`, with the laws of all passes together, and `compile`, which calls it. `known_calls` makes its modules of the same parts, which are public for it.
 #![tactic(auto)]
 
-mod blocks;
-mod bodies;
+pub mod blocks;
+pub mod bodies;
 mod calls;
-mod emission;
+pub mod emission;
 mod fault;
-mod instructions;
+pub mod instructions;
 mod laws;
-mod locals;
-mod numbers;
+pub mod locals;
+pub mod numbers;
 mod places;
 
 pub use emission::{emit, emit_call};

@@ -22,7 +22,7 @@ fn next(d: u32, most: u32) -> Result<u32, EmitFault>
 
 /// How many locals are enough for a block whose bindings have locals from d on. `Locals` exactly where these are more than `most`.
 #[cycle(counts)]
-pub(crate) fn locals_of_block(d: u32, most: u32, b: &LiftedBlock) -> Result<u32, EmitFault>
+pub fn locals_of_block(d: u32, most: u32, b: &LiftedBlock) -> Result<u32, EmitFault>
     requires below { d ≤ most }
     ensures ok { IfOk result (λ n. (n ≡ top d b.now) × (n ≤ most)) }
     ensures locals { IfErr result (λ e. (e ≡ Locals) × (most < top d b.now)) }

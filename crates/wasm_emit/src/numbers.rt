@@ -9,7 +9,7 @@ use std::alloc::Global;
 use std::collections::HashMap;
 
 /// The number of each constant by the number of its name, made once for a whole module. Only `Memory`.
-pub(crate) fn numbers_of(alloc: Global, p: &Lifted) -> Result<HashMap<u32, usize>, EmitFault>
+pub fn numbers_of(alloc: Global, p: &Lifted) -> Result<HashMap<u32, usize>, EmitFault>
     ensures is { IfOk result (λ m. AreNumbered m p.now.constants) }
     ensures only_memory { IfErr result (λ e. e ≡ Memory) }
 {
