@@ -1,7 +1,6 @@
 -- All that the tokens of a certificate spell is read, and so is what is printed.
 use Rattle.std.proofs.Common.{◌≡◌, ◌∙◌, ℕ, zero, suc, ◌+◌, ◌^◌, ◌<◌, Bool, true, false, if◌then◌else◌, List, [], ◌∷◌, ◌++◌, length, drop, Option, Some, None, refl, sym, ap, subst, arith, decimal}
-use Rattle.std.specs.Prelude.{nat_lt, nat_eq, bytes_eq}
-use Rattle.std.proofs.lemmas.Bool.{lt-ltb}
+use Rattle.std.specs.Prelude.{nat_eq, bytes_eq}
 use Rattle.std.proofs.lemmas.Slice.Eq.{bytes_eq-Decides}
 use Rattle.sexp_reader.specs.Text.{Text, Open, Close, Atom, Stray}
 use Rattle.sexp_reader.specs.Lex.{Spanned, is_blank, is_atom_byte, begins_atom, more_bytes, longer, atom_before, single, lex, tokens_of, left}
@@ -14,8 +13,11 @@ use Rattle.dump_printer.proofs.Good.{IsGood, AreGood, is_good, decimal-good, spa
 use Rattle.cert_rules.specs.declared.item.CertItem.{CertItem}
 use Rattle.cert_rules.specs.declared.item.CertItem.TheVariants.{Number, Same, Conv, Left, Right, Parts}
 use Rattle.cert_rules.specs.Walk.{Items}
-use Rattle.cert_text.specs.CertText.{cert_word, one_word, same_word, conv_word, left_word, right_word, parts_word, item_tokens, items_tokens, cert_tokens, cert_text, CertRead, Read, WrongToken, TooGreat, Wants, AnItem, LeftSteps, RightSteps, with_item, with_number, read_number, read_word, read_item, read_end, read_token, read_items, is_text, read_next, read_certificate, read_bytes, IsSmall, AreSmall}
+use Rattle.cert_text.specs.CertText.{cert_word, one_word, same_word, conv_word, left_word, right_word, parts_word, item_tokens, items_tokens, cert_tokens, cert_text, IsSmall, AreSmall}
+use Rattle.cert_text.specs.CertReading.{CertRead, Read, WrongToken, Wants, AnItem, LeftSteps, RightSteps, with_item, read_number, read_side, read_word, read_item, read_end, read_token, read_items, is_text, read_next, read_certificate, read_bytes}
+use Rattle.cert_text.specs.TextLaws.{IsReadBack}
 use Rattle.cert_text.proofs.Reading.{next_item, no_item}
+use Rattle.cert_text.proofs.Taking.{small_number}
 
 -- tokens by their texts
 
@@ -40,9 +42,6 @@ no_text e = absurd (cc)
 
 some_text : {A : Type 0} {t : Text} {ts : List Text} → t ∷ ts ≡ [] → A
 some_text e = absurd (cc)
-
-small_number : (start : ℕ) (item : ℕ → CertItem) (n : ℕ) (go : CertRead) → n < 2 ^ 32 → with_number start item n go ≡ with_item (item n) go
-small_number start item n go h = ap (λ b. if b then with_item (item n) go else TooGreat start) (lt-ltb n (2 ^ 32) h)
 
 numeral_read : (start : ℕ) (item : ℕ → CertItem) (n : ℕ) (go : CertRead) → n < 2 ^ 32 → read_number start item (number_of (decimal n)) go ≡ with_item (item n) go
 numeral_read start item n go h = ap (λ o. read_number start item o go) (decimal-read n (omega arith)) ∙ small_number start item n go h
@@ -176,8 +175,8 @@ dropped : (xs ys : List ℕ) → drop (length xs) (xs ++ ys) ≡ ys
 dropped [] ys = refl
 dropped (x ∷ xs) ys = dropped xs ys
 
-pub printed_read : (before : List ℕ) (is : Items) → AreSmall is → read_bytes (before ++ cert_text is) (length before) ≡ Read is
-printed_read before is h =
+pub printed_read : (is : Items) → AreSmall is → IsReadBack is
+printed_read is h before =
     let t : texts (left (length before) (before ++ cert_text is)) ≡ cert_tokens is =
     ap (λ bs. texts (lex (length before) false bs)) (dropped before (cert_text is)) ∙ texts_lex (length before) 0 false (cert_text is)
     ∙ spaced-read (cert_tokens is) (tt, (refl, (refl, items_good is h))) in

@@ -13,7 +13,8 @@ use Rattle.dump_printer.proofs.Lists.{each-none, each-next}
 use Rattle.cert_rules.specs.declared.item.CertItem.{CertItem}
 use Rattle.cert_rules.specs.declared.item.CertItem.TheVariants.{Number, Same, Conv, Left, Right, Parts}
 use Rattle.cert_rules.specs.Walk.{Items}
-use Rattle.cert_text.specs.CertText.{cert_word, one_word, same_word, conv_word, left_word, right_word, parts_word, item_tokens, items_tokens, cert_tokens, CertRead, Read, WrongToken, TooGreat, Wants, AnItem, LeftSteps, RightSteps, with_item, with_number, read_number, read_word, read_item, read_end, read_token, read_items, is_text, read_next, read_certificate, IsSmall, AreSmall}
+use Rattle.cert_text.specs.CertText.{cert_word, one_word, same_word, conv_word, left_word, right_word, parts_word, item_tokens, items_tokens, cert_tokens, IsSmall, AreSmall}
+use Rattle.cert_text.specs.CertReading.{CertRead, Read, WrongToken, TooGreat, Wants, AnItem, LeftSteps, RightSteps, with_item, with_number, read_number, read_side, read_word, read_item, read_end, read_token, read_items, is_text, read_next, read_certificate}
 
 -- what is no certificate
 

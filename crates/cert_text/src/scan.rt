@@ -1,10 +1,8 @@
 //! Tokens of a text from an offset on. They are those of `sexp_reader`, but that an atom may have any length: a number that is too great is
 //! refused as such, however many digits it has.
-ghost use Rattle.std.specs.Prelude.{◌≡◌, ℕ, ◌+◌, ◌<◌, ◌≤◌, List, length, drop, false, get_or, nat_eq, IsSomeAnd, MatchOption};
+ghost use Rattle.std.specs.Prelude.{◌≡◌, ℕ, ◌+◌, ◌<◌, ◌≤◌, List, length, drop, false, get_or, nat_eq};
 ghost use Rattle.sexp_reader.specs.Lex.{is_blank as blank, is_atom_byte as atom_byte, atom_len, lex, left, single};
-ghost use Rattle.sexp_reader.specs.Text.{Open};
-ghost use Rattle.cert_text.specs.Scanned.{text_of_kind, text_of, IsNext, IsWithin};
-ghost use Rattle.cert_text.specs.CertReading.{is_text};
+ghost use Rattle.cert_text.specs.Scanned.{text_of_kind, IsNext, IsWithin};
 
 /// What a token is: a bracket that opens, one that closes, an atom, or a byte that belongs to no token.
 #[derive(Clone, Copy, Debug, PartialEq, Eq)]
@@ -113,14 +111,4 @@ pub(crate) fn next(bytes: &[u8], at: usize) -> Option<Token>
         start,
         end: start + 1,
     })
-}
-
-/// Whether a token is the bracket that opens.
-pub(crate) fn is_open(bytes: &[u8], token: Token) -> bool
-    ensures is { result ≡ is_text (text_of bytes.now token) Open }
-{
-    match token.kind {
-        Kind::Open => true,
-        _ => false,
-    }
 }

@@ -12,11 +12,11 @@
 //! (`proofs/Cuts`), or, with over 200 nodes, cut at the greatest depth that leaves no more (`all`; `cut_depth`, `is`); `write_shown_sort` writes a sort.
 //!
 //! The code is in layers: tokens to a sink (`writing`), names and sorts, terms, declarations and whole environments, and the text with its fault
-//! (`text`). The proofs have the same text as a form of the grammar: its tokens and its meaning, names and levels in the same first-use order,
+//! (`text`). The first layer is public: certificates are written by it too. The proofs have the same text as a form of the grammar: its tokens and its meaning, names and levels in the same first-use order,
 //! and the limits.
 //!
 //! Below stand `kio` (sinks), `dump_reader` (environments, and which text spells one), `dump_grammar`, `pc_terms` and `universe_levels`. Above stands
-//! `text_rows`, whose rows are printed and read again, and `explanations`.
+//! `text_rows`, whose rows are printed and read again, `explanations` and `cert_text`.
 #![tactic(auto)]
 
 ghost use Rattle.std.specs.Prelude.{OnOk, IfErr, Ok, ◌≤◌};
@@ -42,6 +42,7 @@ use dump_reader::environment::RawEnv;
 use kio::{Sink, WriteFault};
 use text::write_text;
 pub use text::{write_shown, write_shown_sort};
+pub use writing::{Progress, atom, close, number, open};
 
 /// Writes the canonical text of an environment that some text spells within the limits. It takes no memory.
 ///

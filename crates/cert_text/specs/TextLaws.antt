@@ -1,0 +1,22 @@
+-- Laws of the text of certificates, as statements.
+use Rattle.std.specs.Prelude.{◌≡◌, ◌↔◌, ℕ, List, ◌++◌, length}
+use Rattle.sexp_reader.specs.Lex.{Spanned}
+use Rattle.dump_grammar.specs.Judge.{texts}
+use Rattle.cert_rules.specs.Walk.{Items}
+use Rattle.cert_text.specs.CertText.{cert_tokens, cert_text, AreSmall}
+use Rattle.cert_text.specs.CertReading.{Read, read_certificate, read_bytes}
+
+-- tokens spell a certificate whose numbers can be held
+abbrev pub SpellsCert : List Spanned → Items → Type 0
+SpellsCert ss is = (texts ss ≡ cert_tokens is) × AreSmall is
+
+-- what is read is what the tokens spell, and all that they spell is read
+abbrev pub ReadingIsExact : Type 0
+ReadingIsExact = (len : ℕ) (ss : List Spanned) (is : Items) → (read_certificate len ss ≡ Read is) ↔ SpellsCert ss is
+
+-- what is printed behind other bytes is read from there on
+abbrev pub IsReadBack : Items → Type 0
+IsReadBack is = (before : List ℕ) → read_bytes (before ++ cert_text is) (length before) ≡ Read is
+
+abbrev pub PrintedIsRead : Type 0
+PrintedIsRead = (is : Items) → AreSmall is → IsReadBack is

@@ -1,0 +1,281 @@
+//! A certificate out of its text, item by item.
+ghost use Rattle.std.specs.Prelude.{◌≡◌, ◌≤◌, ◌<◌, [], ◌∷◌, ◌++◌, length, bytes_eq, IfOk, IfErr};
+ghost use Rattle.sexp_reader.specs.Text.{Open, Atom};
+ghost use Rattle.cert_rules.specs.declared.item.CertItem.TheVariants.{Left, Right};
+ghost use Rattle.cert_text.specs.CertReading.{is_text, read_items, read_bytes, AnItem, LeftSteps, RightSteps};
+ghost use Rattle.cert_text.specs.Scanned.{text_of};
+ghost use Rattle.cert_text.specs.Answering.{AnswersText, Expects, Counts, TakesSide, TakesWord, TakesAtom, Ends, Takes, TakesWithin};
+ghost use Rattle.cert_text.specs.TextLaws.{SpellsCert};
+ghost use Rattle.cert_text.specs.declared.refusal.CertText.TheVariants.{Memory};
+ghost use Rattle.cert_text.specs.declared.scan.Kind.TheVariants as Kind;
+ghost use Rattle.sexp_reader.specs.Lex.{left};
+
+use crate::number::{Numeral, numeral_at};
+use crate::refusal::CertText;
+use crate::scan::{Kind, Token, next};
+use cert_rules::certificate::{Cert, CertItems};
+use cert_rules::item::CertItem;
+use std::alloc::Global;
+
+/// A number of steps, and the offset behind it.
+#[derive(Clone, Copy, Debug)]
+pub(crate) struct Count {
+    pub(crate) count: u32,
+    pub(crate) end: usize,
+}
+
+/// An item, and the offset behind it.
+#[derive(Clone, Copy, Debug)]
+pub(crate) struct Taken {
+    pub(crate) item: CertItem,
+    pub(crate) end: usize,
+}
+
+/// Whether a token is the bracket that opens.
+fn is_open(bytes: &[u8], token: Token) -> bool
+    ensures is { result ≡ is_text (text_of bytes.now token) Open }
+{
+    match token.kind {
+        Kind::Open => true,
+        _ => false,
+    }
+}
+
+/// Whether a text is this word.
+fn is(text: &[u8], word: &[u8]) -> bool
+    ensures is { result ≡ bytes_eq text.now word.now }
+{
+    text == word
+}
+
+/// Whether a token is this word.
+fn is_word(bytes: &[u8], token: Token, word: &[u8]) -> bool
+    requires order { token.start ≤ token.end }
+    requires within { token.end ≤ length bytes.now }
+    ensures is { result ≡ is_text (text_of bytes.now token) (Atom word.now) }
+{
+    match token.kind {
+        Kind::Atom => is(&bytes[token.start..token.end], word),
+        _ => false,
+    }
+}
+
+/// The offset behind a bracket that opens, which must come next from an offset on.
+fn bracket(bytes: &[u8], at: usize) -> Result<usize, CertText>
+    requires { at ≤ length bytes.now }
+    ensures expects { Expects Open bytes.now at result }
+    ensures within { IfOk result (λ n. n ≤ length bytes.now) }
+{
+    match next(bytes, at) {
+        Some(token) => {
+            if is_open(bytes, token) {
+                return Ok(token.end);
+            }
+            Err(CertText::Syntax {
+                offset: token.start,
+            })
+        }
+        None => Err(CertText::Syntax {
+            offset: bytes.len(),
+        }),
+    }
+}
+
+/// The offset behind a word, which must come next from an offset on.
+fn word(bytes: &[u8], at: usize, word: &[u8]) -> Result<usize, CertText>
+    requires { at ≤ length bytes.now }
+    ensures expects { Expects (Atom word.now) bytes.now at result }
+    ensures within { IfOk result (λ n. n ≤ length bytes.now) }
+{
+    match next(bytes, at) {
+        Some(token) => {
+            if is_word(bytes, token, word) {
+                return Ok(token.end);
+            }
+            Err(CertText::Syntax {
+                offset: token.start,
+            })
+        }
+        None => Err(CertText::Syntax {
+            offset: bytes.len(),
+        }),
+    }
+}
+
+/// The number of a side's steps, from an offset on.
+fn count(bytes: &[u8], at: usize) -> Result<Count, CertText>
+    requires { at ≤ length bytes.now }
+    ensures left { Counts LeftSteps Left bytes.now at result }
+    ensures right { Counts RightSteps Right bytes.now at result }
+    ensures within { IfOk result (λ c. (at < c.end) × (c.end ≤ length bytes.now)) }
+{
+    match next(bytes, at) {
+        Some(token) => match numeral_at(bytes, token) {
+            Numeral::Number(count) => Ok(Count {
+                count,
+                end: token.end,
+            }),
+            Numeral::TooGreat => Err(CertText::Number {
+                offset: token.start,
+            }),
+            Numeral::NoNumber => Err(CertText::Syntax {
+                offset: token.start,
+            }),
+        },
+        None => Err(CertText::Syntax {
+            offset: bytes.len(),
+        }),
+    }
+}
+
+/// The item of a side's steps, at its word from `start` to `end`.
+fn side_item(bytes: &[u8], text: &[u8], start: usize, end: usize) -> Result<Taken, CertText>
+    requires order { start ≤ end }
+    requires within { end ≤ length bytes.now }
+    ensures takes { TakesSide bytes.now text.now start end result }
+    ensures within { IfOk result (λ x. (end ≤ x.end) × (x.end ≤ length bytes.now)) }
+{
+    if is(text, b"l") {
+        let steps = count(bytes, end)?;
+        return Ok(Taken {
+            item: CertItem::Left(steps.count),
+            end: steps.end,
+        });
+    }
+    if is(text, b"r") {
+        let steps = count(bytes, end)?;
+        return Ok(Taken {
+            item: CertItem::Right(steps.count),
+            end: steps.end,
+        });
+    }
+    Err(CertText::Syntax { offset: start })
+}
+
+/// The item at a word from `start` to `end`, which is no number.
+fn word_item(bytes: &[u8], text: &[u8], start: usize, end: usize) -> Result<Taken, CertText>
+    requires order { start ≤ end }
+    requires within { end ≤ length bytes.now }
+    ensures takes { TakesWord bytes.now text.now start end result }
+    ensures within { IfOk result (λ x. (end ≤ x.end) × (x.end ≤ length bytes.now)) }
+{
+    if is(text, b"s") {
+        return Ok(Taken {
+            item: CertItem::Same,
+            end,
+        });
+    }
+    if is(text, b"c") {
+        return Ok(Taken {
+            item: CertItem::Conv,
+            end,
+        });
+    }
+    if is(text, b"k") {
+        return Ok(Taken {
+            item: CertItem::Parts,
+            end,
+        });
+    }
+    side_item(bytes, text, start, end)
+}
+
+/// The item at an atom from `start` to `end`.
+fn atom_item(bytes: &[u8], token: Token) -> Result<Taken, CertText>
+    requires order { token.start ≤ token.end }
+    requires within { token.end ≤ length bytes.now }
+    requires atom { token.kind ≡ Kind.Atom }
+    ensures takes { TakesAtom bytes.now token result }
+    ensures within { IfOk result (λ x. (token.end ≤ x.end) × (x.end ≤ length bytes.now)) }
+{
+    match numeral_at(bytes, token) {
+        Numeral::Number(n) => Ok(Taken {
+            item: CertItem::Number(n),
+            end: token.end,
+        }),
+        Numeral::TooGreat => Err(CertText::Number {
+            offset: token.start,
+        }),
+        Numeral::NoNumber => {
+            let text = &bytes[token.start..token.end];
+            word_item(bytes, text, token.start, token.end)
+        }
+    }
+}
+
+/// None at the end of a text, which must come next from an offset on.
+fn end(bytes: &[u8], at: usize) -> Result<Option<Taken>, CertText>
+    requires { at ≤ length bytes.now }
+    ensures ends { Ends bytes.now at result }
+{
+    match next(bytes, at) {
+        Some(token) => Err(CertText::Syntax {
+            offset: token.start,
+        }),
+        None => Ok(None),
+    }
+}
+
+/// The item that comes next from an offset on; none at the bracket that closes, behind which nothing may come.
+fn item(bytes: &[u8], at: usize) -> Result<Option<Taken>, CertText>
+    requires { at ≤ length bytes.now }
+    ensures takes { Takes bytes.now at result }
+    ensures within { IfOk result (TakesWithin bytes.now at) }
+{
+    match next(bytes, at) {
+        Some(token) => match token.kind {
+            Kind::Atom => {
+                let taken = atom_item(bytes, token)?;
+                Ok(Some(taken))
+            }
+            Kind::Close => end(bytes, token.end),
+            Kind::Open | Kind::Stray => Err(CertText::Syntax {
+                offset: token.start,
+            }),
+        },
+        None => Err(CertText::Syntax {
+            offset: bytes.len(),
+        }),
+    }
+}
+
+/// Puts an item behind others.
+fn push(out: &mut Vec<CertItem>, item: CertItem) -> Result<(), CertText>
+    ensures ok { IfOk result (λ _. out.new.items ≡ out.old.items ++ item ∷ []) }
+    ensures only_memory { IfErr result (λ e. e ≡ Memory) }
+{
+    match out.push(item) {
+        Ok(()) => Ok(()),
+        Err(_) => Err(CertText::Memory),
+    }
+}
+
+/// The items from an offset on, up to the end of the text.
+fn items(alloc: Global, bytes: &[u8], from: usize) -> Result<CertItems, CertText>
+    requires { from ≤ length bytes.now }
+    ensures answers { AnswersText (read_items (length bytes.now) AnItem (left from bytes.now)) result }
+{
+    let mut out = Vec::new(alloc);
+    let mut at = from;
+    'items: while let Some(taken) = item(bytes, at)? {
+        push(&mut out, taken.item)?;
+        at = taken.end;
+    }
+    Ok(CertItems::of(out))
+}
+
+/// The certificate that the text from an offset on spells: `(cert 1 item*)`, with blanks and comments between its tokens and behind it.
+///
+/// `Syntax` comes at the first token that continues no such text, at a byte of no token, or at the length; `Number` at a number over
+/// 4,294,967,295; of both, the first in the text. `Memory` only for want of memory.
+pub fn read_cert(alloc: Global, bytes: &[u8], from: usize) -> Result<Cert, CertText>
+    requires { from ≤ length bytes.now }
+    ensures exact { AnswersText (read_bytes bytes.now from) result }
+    ensures spells { IfOk result (SpellsCert (left from bytes.now)) }
+{
+    let head = bracket(bytes, from)?;
+    let version = word(bytes, head, b"cert")?;
+    let start = word(bytes, version, b"1")?;
+    let items = items(alloc, bytes, start)?;
+    Ok(Cert::of(items))
+}
