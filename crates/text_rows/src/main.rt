@@ -3,10 +3,12 @@
 //! | Table | Calls |
 //! |---|---|
 //! | `texts` | `parse`, `parse each prefix`, `read`, `print` (`most:`, `failing write:`), `lists` |
+//! | `certificates` | `read certificate` (`from:`, `most:`, `failing write:`) |
 //! | `terms` | `lift` (`by:`, `from:`), `subst` (`at:`), `subst_list`, `subst_list_at` (`at:`), `apply`, `measures`, `same`, `doubled`, `put in again` (`times:`), `lists` |
 #![tactic(auto)]
 
 mod again;
+mod certificates;
 mod lists;
 mod printing;
 mod terms;
@@ -19,6 +21,7 @@ use std::io;
 #[derive(Clone, Copy)]
 enum Layer {
     Texts,
+    Certificates,
     Terms,
 }
 
@@ -26,6 +29,7 @@ impl Table for Layer {
     fn file(&self) -> &str {
         match self {
             Layer::Texts => "texts.rows",
+            Layer::Certificates => "certificates.rows",
             Layer::Terms => "terms.rows",
         }
     }
@@ -33,11 +37,12 @@ impl Table for Layer {
     fn run(&self, case: &Case, out: &mut String) -> Result<(), Fault> {
         match self {
             Layer::Texts => texts::run(case, out),
+            Layer::Certificates => certificates::run(case, out),
             Layer::Terms => terms::run(case, out),
         }
     }
 }
 
 fn main(rt: HostRuntime) -> io::Result<()> {
-    run_tables(&rt, &[Layer::Texts, Layer::Terms])
+    run_tables(&rt, &[Layer::Texts, Layer::Certificates, Layer::Terms])
 }

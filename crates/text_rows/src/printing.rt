@@ -125,7 +125,7 @@ fn put_print(
 }
 
 /// A sink that takes at most 5 bytes in a call, or `most`, and fails at the call `failing write`.
-fn sink(case: &Case) -> Result<MemSink, Fault> {
+pub fn sink(case: &Case) -> Result<MemSink, Fault> {
     let most = case.row.number("most", 5)?.max(1) as usize;
     let failing = case.failing("failing write")?;
     Ok(MemSink::new(case.alloc, most, failing))

@@ -15,7 +15,7 @@ use Rattle.universe_levels.specs.declared.sort.Sort.{Sort}
 use Rattle.calculus_rules.specs.Same.{same, same_labels}
 use Rattle.pc_rules.specs.DirectedTyping.{rule_number}
 use Rattle.pc_rules.proofs.SameTrees.{not_true}
-use Rattle.cert_rules.proofs.CertScripts.{same_labels_is}
+use Rattle.cert_rules.proofs.SoundScripts.{same_labels_is}
 use Rattle.pc_rules.proofs.Meters.{after-refl}
 use Rattle.calculus_rules.specs.Context.{Context, values}
 use Rattle.calculus_rules.specs.declared.entry.Entry.TheVariants.{Assumed, Defined}
@@ -134,94 +134,85 @@ parts_go x y t0 t1 t2 r p q = retraces_on (λ _ v. walk_all (y ∷ []) v) p (ret
 abbrev pub further : Trail → Trail
 further t = record { meter = t.meter; at = t.at + 1 }
 
--- the parts of two terms of one former
+-- the parts of two terms of one former, for which item i asks, from here on
+abbrev pub parts_here : ℕ → Script → Values → Bool → Stand → Term → Term → Walk (Unit {0})
+parts_here i go V equal s a b = walk_parts i (parts_of go V equal a b) s
+
+-- the item that asks for them, and they
 abbrev pub parts_walk : Script → Values → Bool → Trail → Term → Term → Walk (Unit {0})
-parts_walk go V equal t a b = walk_parts t.at (parts_of go V equal a b) (past (stand t))
+parts_walk go V equal t a b = parts_here t.at go V equal (past (stand t)) a b
 
-pub product_err : (go : Script) (V : Values) (equal : Bool) (A B A' B' : Term) (t0 t1 : Trail) (h : WalkHalt) → Retraces (go V true A A' (stand (further t0))) (Err h) (further t0) t1 →
-    Retraces (parts_walk go V equal t0 (Prod A B) (Prod A' B')) (Err h) t0 t1
-product_err go V equal A B A' B' t0 t1 h p = from_past (parts_err (go V true A A') (go (None ∷ V) equal B B') (further t0) t1 h p)
+module _ (i : ℕ) (go : Script) (V : Values) (equal : Bool) where
+  pub product_err : (A B A' B' : Term) (t0 t1 : Trail) (h : WalkHalt) → Retraces (go V true A A' (stand t0)) (Err h) t0 t1 →
+      Retraces (parts_here i go V equal (stand t0) (Prod A B) (Prod A' B')) (Err h) t0 t1
+  product_err A B A' B' t0 t1 h p = parts_err (go V true A A') (go (None ∷ V) equal B B') t0 t1 h p
 
-pub product_go : (go : Script) (V : Values) (equal : Bool) (A B A' B' : Term) (t0 t1 t2 : Trail) (r : Result (Unit {0}) WalkHalt) →
-    Retraces (go V true A A' (stand (further t0))) (Ok tt) (further t0) t1 → (W : Values) → W ≡ None ∷ V → Retraces (go W equal B B' (stand t1)) r t1 t2 →
-    Retraces (parts_walk go V equal t0 (Prod A B) (Prod A' B')) r t0 t2
-product_go go V equal A B A' B' t0 t1 t2 r p W u q =
-    from_past (parts_go (go V true A A') (go (None ∷ V) equal B B') (further t0) t1 t2 r p (subst (λ X. Retraces (go X equal B B' (stand t1)) r t1 t2) u q))
+  pub product_go : (A B A' B' : Term) (t0 t1 t2 : Trail) (r : Result (Unit {0}) WalkHalt) → Retraces (go V true A A' (stand t0)) (Ok tt) t0 t1 →
+      (W : Values) → W ≡ None ∷ V → Retraces (go W equal B B' (stand t1)) r t1 t2 → Retraces (parts_here i go V equal (stand t0) (Prod A B) (Prod A' B')) r t0 t2
+  product_go A B A' B' t0 t1 t2 r p W u q =
+      parts_go (go V true A A') (go (None ∷ V) equal B B') t0 t1 t2 r p (subst (λ X. Retraces (go X equal B B' (stand t1)) r t1 t2) u q)
 
-pub lambda_err : (go : Script) (V : Values) (equal : Bool) (A B A' B' : Term) (t0 t1 : Trail) (h : WalkHalt) → Retraces (go V true A A' (stand (further t0))) (Err h) (further t0) t1 →
-    Retraces (parts_walk go V equal t0 (Lambda A B) (Lambda A' B')) (Err h) t0 t1
-lambda_err go V equal A B A' B' t0 t1 h p = from_past (parts_err (go V true A A') (go (None ∷ V) true B B') (further t0) t1 h p)
+  pub lambda_err : (A B A' B' : Term) (t0 t1 : Trail) (h : WalkHalt) → Retraces (go V true A A' (stand t0)) (Err h) t0 t1 →
+      Retraces (parts_here i go V equal (stand t0) (Lambda A B) (Lambda A' B')) (Err h) t0 t1
+  lambda_err A B A' B' t0 t1 h p = parts_err (go V true A A') (go (None ∷ V) true B B') t0 t1 h p
 
-pub lambda_go : (go : Script) (V : Values) (equal : Bool) (A B A' B' : Term) (t0 t1 t2 : Trail) (r : Result (Unit {0}) WalkHalt) →
-    Retraces (go V true A A' (stand (further t0))) (Ok tt) (further t0) t1 → (W : Values) → W ≡ None ∷ V → Retraces (go W true B B' (stand t1)) r t1 t2 →
-    Retraces (parts_walk go V equal t0 (Lambda A B) (Lambda A' B')) r t0 t2
-lambda_go go V equal A B A' B' t0 t1 t2 r p W u q =
-    from_past (parts_go (go V true A A') (go (None ∷ V) true B B') (further t0) t1 t2 r p (subst (λ X. Retraces (go X true B B' (stand t1)) r t1 t2) u q))
+  pub lambda_go : (A B A' B' : Term) (t0 t1 t2 : Trail) (r : Result (Unit {0}) WalkHalt) → Retraces (go V true A A' (stand t0)) (Ok tt) t0 t1 →
+      (W : Values) → W ≡ None ∷ V → Retraces (go W true B B' (stand t1)) r t1 t2 → Retraces (parts_here i go V equal (stand t0) (Lambda A B) (Lambda A' B')) r t0 t2
+  lambda_go A B A' B' t0 t1 t2 r p W u q =
+      parts_go (go V true A A') (go (None ∷ V) true B B') t0 t1 t2 r p (subst (λ X. Retraces (go X true B B' (stand t1)) r t1 t2) u q)
 
-pub app_err : (go : Script) (V : Values) (equal : Bool) (A B A' B' : Term) (t0 t1 : Trail) (h : WalkHalt) → Retraces (go V true A A' (stand (further t0))) (Err h) (further t0) t1 →
-    Retraces (parts_walk go V equal t0 (App A B) (App A' B')) (Err h) t0 t1
-app_err go V equal A B A' B' t0 t1 h p = from_past (parts_err (go V true A A') (go V true B B') (further t0) t1 h p)
+  pub app_err : (A B A' B' : Term) (t0 t1 : Trail) (h : WalkHalt) → Retraces (go V true A A' (stand t0)) (Err h) t0 t1 →
+      Retraces (parts_here i go V equal (stand t0) (App A B) (App A' B')) (Err h) t0 t1
+  app_err A B A' B' t0 t1 h p = parts_err (go V true A A') (go V true B B') t0 t1 h p
 
-pub app_go : (go : Script) (V : Values) (equal : Bool) (A B A' B' : Term) (t0 t1 t2 : Trail) (r : Result (Unit {0}) WalkHalt) →
-    Retraces (go V true A A' (stand (further t0))) (Ok tt) (further t0) t1 → Retraces (go V true B B' (stand t1)) r t1 t2 →
-    Retraces (parts_walk go V equal t0 (App A B) (App A' B')) r t0 t2
-app_go go V equal A B A' B' t0 t1 t2 r p q = from_past (parts_go (go V true A A') (go V true B B') (further t0) t1 t2 r p q)
+  pub app_go : (A B A' B' : Term) (t0 t1 t2 : Trail) (r : Result (Unit {0}) WalkHalt) → Retraces (go V true A A' (stand t0)) (Ok tt) t0 t1 →
+      Retraces (go V true B B' (stand t1)) r t1 t2 → Retraces (parts_here i go V equal (stand t0) (App A B) (App A' B')) r t0 t2
+  app_go A B A' B' t0 t1 t2 r p q = parts_go (go V true A A') (go V true B B') t0 t1 t2 r p q
 
-pub let_first : (go : Script) (V : Values) (equal : Bool) (b B t b' B' t' : Term) (t0 t1 : Trail) (h : WalkHalt) → Retraces (go V true b b' (stand (further t0))) (Err h) (further t0) t1 →
-    Retraces (parts_walk go V equal t0 (LetIn b B t) (LetIn b' B' t')) (Err h) t0 t1
-unfolding walk_all
-let_first go V equal b B t b' B' t' t0 t1 h p = from_past (retraces_err (λ _ v. walk_all (go V true B B' ∷ go (Some b ∷ V) true t t' ∷ []) v) p)
+  pub let_first : (b B t b' B' t' : Term) (t0 t1 : Trail) (h : WalkHalt) → Retraces (go V true b b' (stand t0)) (Err h) t0 t1 →
+      Retraces (parts_here i go V equal (stand t0) (LetIn b B t) (LetIn b' B' t')) (Err h) t0 t1
+  unfolding walk_all
+  let_first b B t b' B' t' t0 t1 h p = retraces_err (λ _ v. walk_all (go V true B B' ∷ go (Some b ∷ V) true t t' ∷ []) v) p
 
-pub let_second : (go : Script) (V : Values) (equal : Bool) (b B t b' B' t' : Term) (t0 t1 t2 : Trail) (h : WalkHalt) → Retraces (go V true b b' (stand (further t0))) (Ok tt) (further t0) t1 →
-    Retraces (go V true B B' (stand t1)) (Err h) t1 t2 → Retraces (parts_walk go V equal t0 (LetIn b B t) (LetIn b' B' t')) (Err h) t0 t2
-unfolding walk_all
-let_second go V equal b B t b' B' t' t0 t1 t2 h p q =
-    from_past (retraces_on (λ _ v. walk_all (go V true B B' ∷ go (Some b ∷ V) true t t' ∷ []) v) p (parts_err (go V true B B') (go (Some b ∷ V) true t t') t1 t2 h q))
+  pub let_second : (b B t b' B' t' : Term) (t0 t1 t2 : Trail) (h : WalkHalt) → Retraces (go V true b b' (stand t0)) (Ok tt) t0 t1 →
+      Retraces (go V true B B' (stand t1)) (Err h) t1 t2 → Retraces (parts_here i go V equal (stand t0) (LetIn b B t) (LetIn b' B' t')) (Err h) t0 t2
+  unfolding walk_all
+  let_second b B t b' B' t' t0 t1 t2 h p q =
+      retraces_on (λ _ v. walk_all (go V true B B' ∷ go (Some b ∷ V) true t t' ∷ []) v) p (parts_err (go V true B B') (go (Some b ∷ V) true t t') t1 t2 h q)
 
-pub let_go : (go : Script) (V : Values) (equal : Bool) (b B t b' B' t' : Term) (t0 t1 t2 t3 : Trail) (r : Result (Unit {0}) WalkHalt) →
-    Retraces (go V true b b' (stand (further t0))) (Ok tt) (further t0) t1 → Retraces (go V true B B' (stand t1)) (Ok tt) t1 t2 → (W : Values) → W ≡ Some b ∷ V →
-    Retraces (go W true t t' (stand t2)) r t2 t3 → Retraces (parts_walk go V equal t0 (LetIn b B t) (LetIn b' B' t')) r t0 t3
-unfolding walk_all
-let_go go V equal b B t b' B' t' t0 t1 t2 t3 r p q W u k =
-    from_past (retraces_on (λ _ v. walk_all (go V true B B' ∷ go (Some b ∷ V) true t t' ∷ []) v) p
-    (parts_go (go V true B B') (go (Some b ∷ V) true t t') t1 t2 t3 r q (subst (λ X. Retraces (go X true t t' (stand t2)) r t2 t3) u k)))
+  pub let_go : (b B t b' B' t' : Term) (t0 t1 t2 t3 : Trail) (r : Result (Unit {0}) WalkHalt) →
+      Retraces (go V true b b' (stand t0)) (Ok tt) t0 t1 → Retraces (go V true B B' (stand t1)) (Ok tt) t1 t2 → (W : Values) → W ≡ Some b ∷ V →
+      Retraces (go W true t t' (stand t2)) r t2 t3 → Retraces (parts_here i go V equal (stand t0) (LetIn b B t) (LetIn b' B' t')) r t0 t3
+  unfolding walk_all
+  let_go b B t b' B' t' t0 t1 t2 t3 r p q W u k =
+      retraces_on (λ _ v. walk_all (go V true B B' ∷ go (Some b ∷ V) true t t' ∷ []) v) p
+      (parts_go (go V true B B') (go (Some b ∷ V) true t t') t1 t2 t3 r q (subst (λ X. Retraces (go X true t t' (stand t2)) r t2 t3) u k))
 
 -- terms with no parts
 
-leaf_end : (x : Bool) (t : Trail) → Retraces (walk_parts t.at (if x then Some [] else None) (past (stand t))) (leaf_answer x t.at) t (further t)
+leaf_end : (i : ℕ) (x : Bool) (t : Trail) → Retraces (walk_parts i (if x then Some [] else None) (stand t)) (leaf_answer x i) t t
 unfolding walk_all
-leaf_end true t = from_past (retraces_pass tt (further t))
-leaf_end false t = from_past (retraces_bar t.at (further t))
+leaf_end i true t = retraces_pass tt t
+leaf_end i false t = retraces_bar i t
 
 and_end : (x : Bool) → (x && true) ≡ x
 and_end true = refl
 and_end false = refl
 
 -- two terms of which being the same is having one label, with no parts
-leaf_goes : (go : Script) (V : Values) (equal : Bool) (a b : Term) (x : Bool) (t : Trail) → same a b ≡ x → parts_of go V equal a b ≡ (if x then Some [] else None) →
-    Retraces (parts_walk go V equal t a b) (leaf_answer (same a b) t.at) t (further t)
-leaf_goes go V equal a b x t e f = rw (e, f) (leaf_end x t)
+leaf_goes : (i : ℕ) (go : Script) (V : Values) (equal : Bool) (a b : Term) (x : Bool) (t : Trail) → same a b ≡ x → parts_of go V equal a b ≡ (if x then Some [] else None) →
+    Retraces (parts_here i go V equal (stand t) a b) (leaf_answer (same a b) i) t t
+leaf_goes i go V equal a b x t e f = rw (e, f) (leaf_end i x t)
 
-module _ (go : Script) (V : Values) (equal : Bool) (t0 : Trail) where
-  pub leaf_rel : (i j : ℕ) → Retraces (parts_walk go V equal t0 (Rel i) (Rel j)) (leaf_answer (same (Rel i) (Rel j)) t0.at) t0 (further t0)
-  unfolding same
-  leaf_rel i j = leaf_goes go V equal (Rel i) (Rel j) (i == j) t0 refl refl
-
-  pub leaf_sort : (s r : Sort) → Retraces (parts_walk go V equal t0 (SortT s) (SortT r)) (leaf_answer (same (SortT s) (SortT r)) t0.at) t0 (further t0)
-  unfolding same
-  leaf_sort s r = leaf_goes go V equal (SortT s) (SortT r) (same_labels (SortOf s) (SortOf r)) t0 (and_end (same_labels (SortOf s) (SortOf r))) refl
-
-  pub leaf_const : (k l : Name) → Retraces (parts_walk go V equal t0 (Const k) (Const l)) (leaf_answer (same (Const k) (Const l)) t0.at) t0 (further t0)
-  unfolding same
-  leaf_const k l = leaf_goes go V equal (Const k) (Const l) (same_labels (ConstOf k) (ConstOf l)) t0 (and_end (same_labels (ConstOf k) (ConstOf l))) refl
-
-  pub leaf_ind : (f g : FamilyId) → Retraces (parts_walk go V equal t0 (Ind f) (Ind g)) (leaf_answer (same (Ind f) (Ind g)) t0.at) t0 (further t0)
-  unfolding same
-  leaf_ind f g = leaf_goes go V equal (Ind f) (Ind g) (same_labels (IndOf f) (IndOf g)) t0 (and_end (same_labels (IndOf f) (IndOf g))) refl
-
-  pub leaf_construct : (f g : FamilyId) (i j : ℕ) → Retraces (parts_walk go V equal t0 (Construct f i) (Construct g j)) (leaf_answer (same (Construct f i) (Construct g j)) t0.at) t0 (further t0)
-  unfolding same
-  leaf_construct f g i j = leaf_goes go V equal (Construct f i) (Construct g j) (same_labels (ConstructOf f i) (ConstructOf g j)) t0 (and_end (same_labels (ConstructOf f i) (ConstructOf g j))) refl
+-- without parts: neither products, lambdas, lets, applications, matches nor fixpoints
+abbrev pub IsLeaf : Term → Type 0
+IsLeaf (Prod A B) = ⊥
+IsLeaf (Lambda A B) = ⊥
+IsLeaf (LetIn b B t) = ⊥
+IsLeaf (App f a) = ⊥
+IsLeaf (Case f ps n ret s bs) = ⊥
+IsLeaf (Fix i rs ts bs) = ⊥
+IsLeaf t = Unit {0}
 
 -- terms of two formers
 
@@ -248,6 +239,45 @@ number_is (IndOf f) End = refl
 number_is (ConstructOf f n) End = refl
 number_is (CaseOf f n) (Group ps (Child r (Child s (Group bs End)))) = refl
 number_is (FixOf i rs) (Group ts (Group bs End)) = refl
+
+module _ (i : ℕ) (go : Script) (V : Values) (equal : Bool) (t : Trail) where
+  leaf_labels : (l m : Label) (ts : Children (slots l)) (us : Children (slots m)) → IsLeaf (Node l ts) → label_number m ≡ label_number l →
+      Retraces (parts_here i go V equal (stand t) (Node l ts) (Node m us)) (leaf_answer (same (Node l ts) (Node m us)) i) t t
+  unfolding same
+  leaf_labels (SortOf s) (SortOf r) End End h e =
+      leaf_goes i go V equal (SortT s) (SortT r) (same_labels (SortOf s) (SortOf r)) t (and_end (same_labels (SortOf s) (SortOf r))) refl
+  leaf_labels (ConstOf k) (ConstOf l) End End h e =
+      leaf_goes i go V equal (Const k) (Const l) (same_labels (ConstOf k) (ConstOf l)) t (and_end (same_labels (ConstOf k) (ConstOf l))) refl
+  leaf_labels (IndOf f) (IndOf g) End End h e =
+      leaf_goes i go V equal (Ind f) (Ind g) (same_labels (IndOf f) (IndOf g)) t (and_end (same_labels (IndOf f) (IndOf g))) refl
+  leaf_labels (ConstructOf f n) (ConstructOf g m) End End h e =
+      leaf_goes i go V equal (Construct f n) (Construct g m) (same_labels (ConstructOf f n) (ConstructOf g m)) t (and_end (same_labels (ConstructOf f n) (ConstructOf g m))) refl
+  leaf_labels ProdOf m (Child A (Child B End)) us h e = absurd h
+  leaf_labels LambdaOf m (Child A (Child B End)) us h e = absurd h
+  leaf_labels LetInOf m (Child b (Child B (Child c End))) us h e = absurd h
+  leaf_labels AppOf m (Child f (Child a End)) us h e = absurd h
+  leaf_labels (CaseOf f n) m (Group ps (Child r (Child s (Group bs End)))) us h e = absurd h
+  leaf_labels (FixOf j rs) m (Group ts (Group bs End)) us h e = absurd h
+  leaf_labels _ _ _ _ h e = absurd (cc)
+
+  not_variable : (j : ℕ) (m : Label) (us : Children (slots m)) → rule_number (Node m us) ≡ 1 → ⊥
+  not_variable j (SortOf s) End e = absurd (cc)
+  not_variable j ProdOf (Child A (Child B End)) e = absurd (cc)
+  not_variable j LambdaOf (Child A (Child B End)) e = absurd (cc)
+  not_variable j LetInOf (Child b (Child B (Child c End))) e = absurd (cc)
+  not_variable j AppOf (Child f (Child a End)) e = absurd (cc)
+  not_variable j (ConstOf k) End e = absurd (cc)
+  not_variable j (IndOf f) End e = absurd (cc)
+  not_variable j (ConstructOf f n) End e = absurd (cc)
+  not_variable j (CaseOf f n) (Group ps (Child r (Child s (Group bs End)))) e = absurd (cc)
+  not_variable j (FixOf k rs) (Group ts (Group bs End)) e = absurd (cc)
+
+  pub leaves : (a b : Term) → IsLeaf a → rule_number b ≡ rule_number a → Retraces (parts_here i go V equal (stand t) a b) (leaf_answer (same a b) i) t t
+  unfolding same
+  leaves (Rel j) (Rel k) h e = leaf_goes i go V equal (Rel j) (Rel k) (j == k) t refl refl
+  leaves (Rel j) (Node m us) h e = absurd (not_variable j m us e)
+  leaves (Node l ts) (Rel k) h e = absurd (not_variable k l ts (sym e))
+  leaves (Node l ts) (Node m us) h e = leaf_labels l m ts us h (sym (number_is m us) ∙ e ∙ number_is l ts)
 
 no_parts : (go : Script) (V : Values) (equal : Bool) (a b : Term) → (rule_number a ≡ rule_number b → ⊥) → parts_of go V equal a b ≡ None
 no_parts go V equal (Rel i) (Rel j) n = absurd (n refl)

@@ -1,0 +1,109 @@
+use Rattle.std.proofs.Common.{rules, arith, ◌≡◌, ◌∙◌, ap, sym, refl, ◌<◌, Some, length, slice_get, suc, ◌-◌, ◌+◌}
+use Rattle.calculus_rules.specs.Context.{values}
+use Rattle.pc_rules.specs.Entailment.{test_of}
+use Rattle.cert_rules.specs.declared.item.CertItem.TheVariants.{Same}
+use Rattle.type_cert.specs.Going.{going}
+use Rattle.type_cert.specs.Comparable.{AreScriptable}
+use Rattle.type_cert.proofs.Retracing.{retraces_on, retraces_err, retraces_passed, retraces_bar}
+use Rattle.type_cert.proofs.Scripting.{item_there, retraces_is, from_past, left_none, right_none, left_goes, right_goes, script_nested, script_entered, product_err, product_go, lambda_err, lambda_go, app_err, app_go, let_first, let_second, let_go, leaves, formers_differ, values_defined, values_under, after_same, left_ready, right_ready}
+use Rattle.type_cert.proofs.scripts.Verifier.+script.Goals as goal
+
+pub item-left_item-requires : goal.item-left_item-requires
+item-left_item-requires t c =
+    let there : c.args.trail.now.at < length c.args.self.now.cert.now = item_there _ _ _ (sym c.item_at.ensures.is ∙ c.in-Some-Left.is) in
+    search rules
+
+pub item-right_item-requires : goal.item-right_item-requires
+item-right_item-requires t c =
+    let there : c.args.trail.now.at < length c.args.self.now.cert.now = item_there _ _ _ (sym c.item_at.ensures.is ∙ c.in-Some-Right.is) in
+    search rules
+
+pub item-parts_item-requires : goal.item-parts_item-requires
+item-parts_item-requires t c =
+    let there : c.args.trail.now.at < length c.args.self.now.cert.now = item_there _ _ _ (sym c.item_at.ensures.is ∙ c.in-Some-Parts.is) in
+    search rules
+
+pub left_item-returns-in_err-x : goal.left_item-returns-in_err-x
+left_item-returns-in_err-x t c =
+    let more : 0 < c.args.n = search rules in
+    let f = rw c.in_ok-term.ensures.ok at c.in_err-x.ensures.retraces in
+    record { retraces = retraces_passed c.from_residual-in_err-x.ensures.1 (retraces_is (left_goes c.args.self.now.env.now (test_of c.args.self.now.env.now) (going c.args.self.now c.args.room) (values c.args.ctx.now) c.args.equal c.args.a.now c.args.b.now c.args.trail.now c.args.n more) (from_past (retraces_err _ f))) }
+
+pub left_item-script-requires : goal.left_item-script-requires
+left_item-script-requires t c =
+    let r = left_ready c.requires.scriptable (rw c.in_ok-term.ensures.ok at c.in_ok-x.ensures.steps) in
+    search rules
+
+pub left_item-returns : goal.left_item-returns
+left_item-returns t c =
+    let more : 0 < c.args.n = search rules in
+    let f = rw c.in_ok-term.ensures.ok at c.in_ok-x.ensures.retraces in
+    record { retraces = retraces_is (left_goes c.args.self.now.env.now (test_of c.args.self.now.env.now) (going c.args.self.now c.args.room) (values c.args.ctx.now) c.args.equal c.args.a.now c.args.b.now c.args.trail.now c.args.n more) (from_past (retraces_on _ f c.script.ensures.retraces)) }
+
+pub item-returns-in-Some-Same : goal.item-returns-in-Some-Same
+item-returns-in-Some-Same t c =
+    let e : slice_get c.args.self.now.cert.now c.args.trail.now.at ≡ Some Same = sym c.item_at.ensures.is ∙ c.in-Some-Same.is ∙ ap (λ x. Some x) c.in-Some-Same.field-0-is in
+    record { retraces = rw e (c.same_item.ensures.retraces c.args.room (values c.args.ctx.now)) }
+
+pub right_item-returns-in_err-y : goal.right_item-returns-in_err-y
+right_item-returns-in_err-y t c =
+    let more : 0 < c.args.n = search rules in
+    let f = rw c.in_ok-term.ensures.ok at c.in_err-y.ensures.retraces in
+    record { retraces = retraces_passed c.from_residual-in_err-y.ensures.1 (retraces_is (right_goes c.args.self.now.env.now (test_of c.args.self.now.env.now) (going c.args.self.now c.args.room) (values c.args.ctx.now) c.args.equal c.args.a.now c.args.b.now c.args.trail.now c.args.n more) (from_past (retraces_err _ f))) }
+
+pub right_item-script-requires : goal.right_item-script-requires
+right_item-script-requires t c =
+    let r = right_ready c.requires.scriptable (rw c.in_ok-term.ensures.ok at c.in_ok-y.ensures.steps) in
+    search rules
+
+pub right_item-returns : goal.right_item-returns
+right_item-returns t c =
+    let more : 0 < c.args.n = search rules in
+    let f = rw c.in_ok-term.ensures.ok at c.in_ok-y.ensures.retraces in
+    record { retraces = retraces_is (right_goes c.args.self.now.env.now (test_of c.args.self.now.env.now) (going c.args.self.now c.args.room) (values c.args.ctx.now) c.args.equal c.args.a.now c.args.b.now c.args.trail.now c.args.n more) (from_past (retraces_on _ f c.script.ensures.retraces)) }
+
+pub script-returns-then-not-enter : goal.script-returns-then-not-enter
+script-returns-then-not-enter t c =
+    let z : c.args.room ≡ 0 = search rules in
+    let k : c.enter.new.self.nest ≡ c.args.trail.now.meter.nest = search rules in
+    let f = after_same c.args.trail.now.meter c.enter.new.self c.enter.ensures.account k in
+    record { retraces = script_nested c.args.self.now.cert.now c.args.self.now.env.now (test_of c.args.self.now.env.now) (values c.args.ctx.now) c.args.equal c.args.a.now c.args.b.now c.args.room c.args.trail.now (record { meter = c.enter.new.self; at = c.args.trail.now.at }) z f }
+
+pub script-returns : goal.script-returns
+script-returns t c =
+    let k : c.enter.new.self.nest ≡ c.args.trail.now.meter.nest + 1 = search rules in
+    let z : c.args.room ≡ suc (c.args.room - 1) = search rules in
+    record {
+      retraces = script_entered c.args.self.now.cert.now c.args.self.now.env.now (test_of c.args.self.now.env.now) (values c.args.ctx.now) c.args.equal c.args.a.now c.args.b.now c.args.room (c.args.room - 1) _
+          c.args.trail.now (record { meter = c.enter.new.self; at = c.args.trail.now.at }) c.item-answer.new.trail (record { meter = c.leave.new.self; at = c.item-answer.new.trail.at })
+          z c.enter.ensures.account k refl c.item-answer.ensures.retraces c.leave.ensures.account c.leave.ensures.nest refl;
+    }
+
+pub parts_item-returns-then-former : goal.parts_item-returns-then-former
+parts_item-returns-then-former t c =
+    record { retraces = formers_differ (going c.args.self.now c.args.room) (values c.args.ctx.now) c.args.equal c.args.a.now c.args.b.now c.args.trail.now (λ e. c.if-former.true (c.former.ensures.is ∙ e ∙ sym c.former-2.ensures.is)) }
+
+pub parts_item-returns : goal.parts_item-returns
+parts_item-returns t c = record { retraces = from_past c.parts.ensures.retraces }
+
+pub product-returns-in_err-script : goal.product-returns-in_err-script
+product-returns-in_err-script t c =
+    let eb = rw c.in-Prod.is at c.view.ensures.is in
+    record { retraces = λ i. retraces_passed c.from_residual.ensures.1 (rw (← eb) (product_err i (going c.args.self.now c.args.room) (values c.args.ctx.now) c.args.equal c.args.domain.now c.args.codomain.now c.in-Prod.other c.in-Prod.target c.args.trail.now _ _ c.in_err-script.ensures.retraces)) }
+
+pub product-returns : goal.product-returns
+product-returns t c =
+    let eb = rw c.in-Prod.is at c.view.ensures.is in
+    let u = values_under c.args.ctx.now c.in_ok-under.under _ _ c.in_ok-under.ensures.longer c.in_ok-share.ensures.ok in
+    record { retraces = λ i. rw (← eb) (product_go i (going c.args.self.now c.args.room) (values c.args.ctx.now) c.args.equal c.args.domain.now c.args.codomain.now c.in-Prod.other c.in-Prod.target c.args.trail.now _ _ _ c.in_ok-script.ensures.retraces _ u c.script.ensures.retraces) }
+
+pub lambda-returns-in_err-script : goal.lambda-returns-in_err-script
+lambda-returns-in_err-script t c =
+    let eb = rw c.in-Lambda.is at c.view.ensures.is in
+    record { retraces = λ i equal. retraces_passed c.from_residual.ensures.1 (rw (← eb) (lambda_err i (going c.args.self.now c.args.room) (values c.args.ctx.now) equal c.args.domain.now c.args.body.now c.in-Lambda.other c.in-Lambda.target c.args.trail.now _ _ c.in_err-script.ensures.retraces)) }
+
+pub lambda-returns : goal.lambda-returns
+lambda-returns t c =
+    let eb = rw c.in-Lambda.is at c.view.ensures.is in
+    let u = values_under c.args.ctx.now c.in_ok-under.under _ _ c.in_ok-under.ensures.longer c.in_ok-share.ensures.ok in
+    record { retraces = λ i equal. rw (← eb) (lambda_go i (going c.args.self.now c.args.room) (values c.args.ctx.now) equal c.args.domain.now c.args.body.now c.in-Lambda.other c.in-Lambda.target c.args.trail.now _ _ _ c.in_ok-script.ensures.retraces _ u c.script.ensures.retraces) }
