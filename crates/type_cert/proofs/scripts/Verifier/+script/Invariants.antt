@@ -1,5 +1,6 @@
-use Rattle.std.proofs.Common.{◌≡◌, ◌+◌, ◌*◌, Result, drop}
+use Rattle.std.proofs.Common.{◌+◌, ◌*◌, Result, drop}
 use Rattle.calculus_rules.specs.Context.{values}
+use Rattle.pc_rules.specs.Follows.{IsAfter}
 use Rattle.cert_rules.specs.Walk.{walk_all}
 use Rattle.type_cert.specs.declared.halt.WalkHalt.{WalkHalt}
 use Rattle.type_cert.specs.declared.trail.Trail.{Trail}
@@ -53,5 +54,5 @@ invariant-each_part-loop-i l = record {
   rest : (r : Result (Unit {0}) WalkHalt) (t : Trail)
       → Retraces (walk_all (acts_of (going l.self l.room) (values l.ctx) (drop l.i l.parts)) (stand l.trail)) r l.trail t
       → Retraces (walk_all (acts_of (going l.self l.room) (values l.ctx) l.parts) (stand l.fn.trail)) r l.fn.trail t;
-  nest : l.trail.meter.nest ≡ l.fn.trail.meter.nest;
+  after : IsAfter l.fn.trail.meter l.trail.meter;
 }
