@@ -1,5 +1,5 @@
 -- How reading goes on at the next token.
-use Rattle.std.proofs.Common.{◌≡◌, ◌∙◌, sym, ap, refl, subst, ℕ, ◌^◌, ◌<◌, ◌≤◌, Ok, Err, Bool, true, false, if◌then◌else◌, List, [], ◌∷◌, length, Option, Some, None, arith}
+use Rattle.std.proofs.Common.{◌≡◌, ◌∙◌, sym, ap, refl, subst, ℕ, ◌^◌, ◌<◌, ◌≤◌, Result, Ok, Err, Bool, true, false, if◌then◌else◌, List, [], ◌∷◌, length, Option, Some, None, arith}
 use Rattle.std.specs.Prelude.{nat_lt, bytes_eq, slice_range}
 use Rattle.std.proofs.lemmas.Bool.{lt-ltb, le-ltb}
 use Rattle.sexp_reader.specs.Text.{Text, Open, Close, Atom, Stray}
@@ -20,8 +20,8 @@ use Rattle.cert_text.specs.Numeral.{number_of_text, IsNumeral}
 use Rattle.cert_text.specs.Answering.{Refuses, Expects, Counts, behind, TakesSide, TakesWord, TakesAtom, Ends, Takes}
 
 -- another reading that is the same
-pub refuses_along : {x y : CertRead} {e : CertText} → x ≡ y → Refuses y e → Refuses x e
-refuses_along {e = e} p h = subst (λ r. Refuses r e) (sym p) h
+pub refuses_along : {x y : CertRead} (e : CertText) → x ≡ y → Refuses y e → Refuses x e
+refuses_along e p h = subst (λ r. Refuses r e) (sym p) h
 
 pub small_number : (start : ℕ) (item : ℕ → CertItem) (n : ℕ) (go : CertRead) → n < 2 ^ 32 → with_number start item n go ≡ with_item (item n) go
 small_number start item n go h = ap (λ b. if b then with_item (item n) go else TooGreat start) (lt-ltb n (2 ^ 32) h)
@@ -31,13 +31,13 @@ great_number start item n go h = ap (λ b. if b then with_item (item n) go else 
 
 -- words of an item
 
-read_left : (start : ℕ) (a : List ℕ) (go : Wants → CertRead) → bytes_eq a left_word ≡ true → read_side start a go ≡ go LeftSteps
+pub read_left : (start : ℕ) (a : List ℕ) (go : Wants → CertRead) → bytes_eq a left_word ≡ true → read_side start a go ≡ go LeftSteps
 read_left start a go e = ap (λ b. if b then go LeftSteps else if bytes_eq a right_word then go RightSteps else WrongToken start) e
 
 not_left : (start : ℕ) (a : List ℕ) (go : Wants → CertRead) → bytes_eq a left_word ≡ false → read_side start a go ≡ (if bytes_eq a right_word then go RightSteps else WrongToken start)
 not_left start a go e = ap (λ b. if b then go LeftSteps else if bytes_eq a right_word then go RightSteps else WrongToken start) e
 
-read_right : (start : ℕ) (a : List ℕ) (go : Wants → CertRead) → bytes_eq a left_word ≡ false → bytes_eq a right_word ≡ true → read_side start a go ≡ go RightSteps
+pub read_right : (start : ℕ) (a : List ℕ) (go : Wants → CertRead) → bytes_eq a left_word ≡ false → bytes_eq a right_word ≡ true → read_side start a go ≡ go RightSteps
 read_right start a go e f = not_left start a go e ∙ ap (λ b. if b then go RightSteps else WrongToken start) f
 
 pub no_side : (start : ℕ) (a : List ℕ) (go : Wants → CertRead) → bytes_eq a left_word ≡ false → bytes_eq a right_word ≡ false → read_side start a go ≡ WrongToken start
@@ -97,6 +97,16 @@ module _ (bytes : List ℕ) where
   pub no_item_here : (at : ℕ) (k : Token) → IsNext bytes at (Some k) → (t : Text) → text_of bytes k ≡ t → read_token AnItem k.start t (left k.end bytes) (behind bytes k.end) ≡ WrongToken k.start →
       Takes bytes at (Err (refusals.Syntax k.start))
   no_item_here at k e t f h = items_at AnItem at k e ∙ ap (λ t. read_token AnItem k.start t (left k.end bytes) (behind bytes k.end)) f ∙ h
+
+  -- the bracket that closes, and the end behind it
+  module _ (at : ℕ) (k : Token) (e : IsNext bytes at (Some k)) (close : k.kind ≡ kinds.Close) where
+    whole : behind bytes at AnItem ≡ read_end (left k.end bytes)
+    whole = items_at AnItem at k e ∙ ap (λ x. read_token AnItem k.start (text_of_kind x (slice_range bytes k.start k.end)) (left k.end bytes) (behind bytes k.end)) close
+
+    pub close_takes : (r : Result (Option Taken) CertText) → Ends bytes k.end r → Takes bytes at r
+    close_takes (Ok None) h = whole ∙ h
+    close_takes (Ok (Some x)) h = absurd h
+    close_takes (Err f) h = refuses_along f whole h
 
   -- the number of a side, by what the side's tokens are
 

@@ -6,13 +6,14 @@
 //! What is promised: `read_cert` answers exactly what reading as a function answers, refusals with their offsets included (`exact`), so what is
 //! read is what the tokens spell (`spells`); `print_cert` writes the certificate's text (`all`), or exactly its first `written` bytes where the
 //! sink's count of faults rose (`part`, `cause`), and that text is read back as the certificate behind any bytes (`read_back`). The law
-//! `certificates_are_read` says that all that tokens spell is read (`exact`).
+//! `certificates_are_read` says that all that tokens spell is read (`exact`), and that a wrong token is the first that continues no text of a
+//! certificate (`first`).
 //!
 //! Below stand `kio` (sinks), `sexp_reader` (which tokens a text has), `dump_grammar` and `dump_printer` (numbers, spacing, tokens to a sink) and
 //! `cert_rules` (items); above, the jobs that write and verify certificates, which are still to come, and `text_rows`.
 #![tactic(auto)]
 
-ghost use Rattle.cert_text.specs.TextLaws.{ReadingIsExact, PrintedIsRead};
+ghost use Rattle.cert_text.specs.TextLaws.{ReadingIsExact, WrongIsFirst, PrintedIsRead};
 
 mod number;
 mod printing;
@@ -25,8 +26,10 @@ pub use reading::read_cert;
 pub use refusal::CertText;
 
 /// What is read of a text, from an offset on, is a certificate exactly where the tokens from there on are those of the certificate and its
-/// numbers are at most 4,294,967,295; and what is printed of a certificate is read as it, wherever it stands in a text that ends with it.
+/// numbers are at most 4,294,967,295; a wrong token is the first that continues no such text; and what is printed of a certificate is read as it,
+/// wherever it stands in a text that ends with it.
 pub fn certificates_are_read()
     ensures exact { ReadingIsExact }
+    ensures first { WrongIsFirst }
     ensures printed { PrintedIsRead }
 {}

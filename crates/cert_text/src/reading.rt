@@ -103,7 +103,7 @@ fn word(bytes: &[u8], at: usize, word: &[u8]) -> Result<usize, CertText>
 }
 
 /// The number of a side's steps, from an offset on.
-fn count(bytes: &[u8], at: usize) -> Result<Count, CertText>
+fn steps(bytes: &[u8], at: usize) -> Result<Count, CertText>
     requires { at ≤ length bytes.now }
     ensures left { Counts LeftSteps Left bytes.now at result }
     ensures right { Counts RightSteps Right bytes.now at result }
@@ -136,17 +136,17 @@ fn side_item(bytes: &[u8], text: &[u8], start: usize, end: usize) -> Result<Take
     ensures within { IfOk result (λ x. (end ≤ x.end) × (x.end ≤ length bytes.now)) }
 {
     if is(text, b"l") {
-        let steps = count(bytes, end)?;
+        let found = steps(bytes, end)?;
         return Ok(Taken {
-            item: CertItem::Left(steps.count),
-            end: steps.end,
+            item: CertItem::Left(found.count),
+            end: found.end,
         });
     }
     if is(text, b"r") {
-        let steps = count(bytes, end)?;
+        let found = steps(bytes, end)?;
         return Ok(Taken {
-            item: CertItem::Right(steps.count),
-            end: steps.end,
+            item: CertItem::Right(found.count),
+            end: found.end,
         });
     }
     Err(CertText::Syntax { offset: start })
@@ -229,7 +229,10 @@ fn item(bytes: &[u8], at: usize) -> Result<Option<Taken>, CertText>
                 Ok(Some(taken))
             }
             Kind::Close => end(bytes, token.end),
-            Kind::Open | Kind::Stray => Err(CertText::Syntax {
+            Kind::Open => Err(CertText::Syntax {
+                offset: token.start,
+            }),
+            Kind::Stray => Err(CertText::Syntax {
                 offset: token.start,
             }),
         },

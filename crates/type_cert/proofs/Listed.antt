@@ -11,9 +11,7 @@ use Rattle.pc_terms.specs.declared.term.Node.TheVariants as nodes
 use Rattle.calculus_rules.specs.Environment.{Env}
 use Rattle.calculus_rules.specs.Context.{Values, under}
 use Rattle.calculus_rules.specs.Same.{same_labels}
-use Rattle.pc_rules.specs.declared.stop.Stop.TheVariants.{Memory}
-use Rattle.pc_rules.specs.Follows.{IsAfter}
-use Rattle.pc_rules.specs.WellCounted.{IsCounted, IsCountedNode, AreCountedValues}
+use Rattle.pc_rules.specs.WellCounted.{IsCounted, IsCountedEnv, IsCountedNode, AreCountedValues}
 use Rattle.pc_rules.proofs.ListSteps.{next_is, none_left}
 use Rattle.cert_rules.specs.Walk.{Walk, walk_all}
 use Rattle.cert_rules.specs.Scripts.{Script, parts_of, walk_parts}
@@ -63,20 +61,20 @@ part_counted E (q ∷ ps) zero p h e k = subst (λ (p : Part). IsCounted E p.lef
 part_counted E (q ∷ ps) (suc i) p h e k = part_counted E ps i p (omega arith) e k.1
 
 -- two terms stand in a script, with their values
-pub part_ready : (E : Env) (V W : Values) (a b : Term) (ps : List Part) (i : ℕ) (p : Part) → AreScriptable E V a b → W ≡ under p.under V → i < length ps → p ≡ get_or ps i p →
+pub part_ready : (E : Env) (V W : Values) (ps : List Part) (i : ℕ) (p : Part) → IsCountedEnv E → AreCountedValues E V → W ≡ under p.under V → i < length ps → p ≡ get_or ps i p →
     AreCountedParts E ps → AreScriptable E W p.left p.right
-part_ready E V W a b ps i p r u h e k =
+part_ready E V W ps i p r v u h e k =
     let q = part_counted E ps i p h e k in
-    record { env = r.env; values = subst (λ X. AreCountedValues E X) (sym u) (under_counted E p.under V r.values); left = q.0; right = q.1 }
+    record { env = r; values = subst (λ X. AreCountedValues E X) (sym u) (under_counted E p.under V v); left = q.0; right = q.1 }
 
 -- the parts of two well-counted terms are well counted
 
 with_pair_some : (p : Part) (o : Option (List Part)) (ps : List Part) → with_pair p o ≡ Some ps → (qs : List Part) × (o ≡ Some qs) × (p ∷ qs ≡ ps)
 with_pair_some p None ps e = absurd (cc)
-with_pair_some p (Some qs) ps e = (qs, refl, cc)
+with_pair_some p (Some qs) ps e = let f : p ∷ qs ≡ ps = cc in (qs, refl, f)
 
 module _ (E : Env) where
-  Countable : Option (List Part) → Type 0
+  abbrev Countable : Option (List Part) → Type 0
   Countable o = (ps : List Part) → o ≡ Some ps → AreCountedParts E ps
 
   none_countable : Countable None

@@ -1,6 +1,6 @@
 -- How a script goes along its item.
 use Rattle.std.proofs.Common.{◌≡◌, ◌∙◌, sym, ap, refl, subst, ℕ, zero, suc, ◌<◌, ◌-◌, ◌+◌, ◌||◌, ◌&&◌, ◌==◌, Result, Ok, Err, IsTrue, Bool, true, false, if◌then◌else◌, List, [], ◌∷◌, length, Option, Some, None, arith, slice_get}
-use Rattle.pc_terms.specs.Syntax.{Label, SortOf, ProdOf, LambdaOf, LetInOf, AppOf, ConstOf, IndOf, ConstructOf, CaseOf, FixOf, slots, Children, End, Child, Group, Node, Term, Rel, SortT, Prod, Lambda, LetIn, App, Const, Ind, Construct}
+use Rattle.pc_terms.specs.Syntax.{Label, SortOf, ProdOf, LambdaOf, LetInOf, AppOf, ConstOf, IndOf, ConstructOf, CaseOf, FixOf, slots, Children, End, Child, Group, Node, Term, Rel, SortT, Prod, Lambda, LetIn, App, Const, Ind, Construct, Case, Fix}
 use Rattle.pc_rules.specs.declared.stop.Stop.TheVariants.{Spent, TooDeep, Memory}
 use Rattle.calculus_rules.specs.Environment.{Env}
 use Rattle.calculus_rules.specs.Context.{Values}

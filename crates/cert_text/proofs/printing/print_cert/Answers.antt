@@ -1,7 +1,7 @@
 use Rattle.std.proofs.Common.{[]}
 use Rattle.dump_printer.proofs.Finished.{start_of, begun, all-out, part-out, cause-of-fault, cause-of-end}
 use Rattle.cert_text.specs.CertText.{cert_tokens}
-use Rattle.cert_text.proofs.Printing.{printed_read}
+use Rattle.cert_text.proofs.PrintedTokens.{printed_read}
 use Rattle.cert_text.proofs.printing.print_cert.Goals as goal
 
 pub returns-then-at-clause-part : goal.returns-then-at-clause-part

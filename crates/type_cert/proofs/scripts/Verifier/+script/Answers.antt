@@ -107,3 +107,21 @@ lambda-returns t c =
     let eb = rw c.in-Lambda.is at c.view.ensures.is in
     let u = values_under c.args.ctx.now c.in_ok-under.under _ _ c.in_ok-under.ensures.longer c.in_ok-share.ensures.ok in
     record { retraces = λ i equal. rw (← eb) (lambda_go i (going c.args.self.now c.args.room) (values c.args.ctx.now) equal c.args.domain.now c.args.body.now c.in-Lambda.other c.in-Lambda.target c.args.trail.now _ _ _ c.in_ok-script.ensures.retraces _ u c.script.ensures.retraces) }
+
+pub application-returns-in_err-script : goal.application-returns-in_err-script
+application-returns-in_err-script t c =
+    let eb = rw c.in-App.is at c.view.ensures.is in
+    record { retraces = λ i equal. retraces_passed c.from_residual.ensures.1 (rw (← eb) (app_err i (going c.args.self.now c.args.room) (values c.args.ctx.now) equal c.args.f.now c.args.x.now c.in-App.g c.in-App.y c.args.trail.now _ _ c.in_err-script.ensures.retraces)) }
+
+pub application-returns : goal.application-returns
+application-returns t c =
+    let eb = rw c.in-App.is at c.view.ensures.is in
+    record { retraces = λ i equal. rw (← eb) (app_go i (going c.args.self.now c.args.room) (values c.args.ctx.now) equal c.args.f.now c.args.x.now c.in-App.g c.in-App.y c.args.trail.now _ _ _ c.in_ok-script.ensures.retraces c.script-2.ensures.retraces) }
+
+pub definition-returns-in_err-script : goal.definition-returns-in_err-script
+definition-returns-in_err-script t c =
+    let eb = rw c.in-LetIn.is at c.view.ensures.is in
+    record { retraces = λ i equal. retraces_passed c.from_residual.ensures.1 (rw (← eb) (let_first i (going c.args.self.now c.args.room) (values c.args.ctx.now) equal c.args.value.now c.args.ty.now c.args.body.now c.in-LetIn.other c.in-LetIn.kind c.in-LetIn.target c.args.trail.now _ _ c.in_err-script.ensures.retraces)) }
+
+pub parts-returns-in_default : goal.parts-returns-in_default
+parts-returns-in_default t c = record { retraces = rw c.leaf.ensures.is (leaves c.args.at (going c.args.self.now c.args.room) (values c.args.ctx.now) c.args.equal c.args.trail.now c.args.a.now c.args.b.now (search rules) c.requires.number) }

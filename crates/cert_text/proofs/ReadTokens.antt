@@ -37,7 +37,7 @@ with_item_read x (Read js) is e = (js, refl, sym (one_read e))
 with_item_read x (WrongToken n) is e = wrong_read e
 with_item_read x (TooGreat n) is e = great_read e
 
-less_from : (a b : ℕ) → nat_lt a b ≡ true → a < b
+pub less_from : (a b : ℕ) → nat_lt a b ≡ true → a < b
 less_from a b e = ltb-true a b e
 
 with_number_read : (start : ℕ) (item : ℕ → CertItem) (n : ℕ) (go : CertRead) (is : Items) (b : Bool) → nat_lt n (2 ^ 32) ≡ b →
@@ -67,7 +67,7 @@ end_read : (ss : List Spanned) (is : Items) → read_end ss ≡ Read is → (tex
 end_read [] is e = (refl, one_read e)
 end_read (s ∷ ss) is e = wrong_read e
 
-bytes_are : (a b : List ℕ) → bytes_eq a b ≡ true → a ≡ b
+pub bytes_are : (a b : List ℕ) → bytes_eq a b ≡ true → a ≡ b
 bytes_are a b e = (bytes_eq-Decides a b).0 e
 
 module _ (start : ℕ) (a : List ℕ) (ss : List Spanned) (go : Wants → CertRead) (is : Items)
@@ -132,7 +132,7 @@ unfolding read_items
 items_read len w [] is e = wrong_read e
 items_read len w (s ∷ ss) is e = token_read w s.start s.text ss (λ w. read_items len w ss) is (λ w js h. items_read len w ss js h) e
 
-text_is : (t u : Text) → is_text t u ≡ true → t ≡ u
+pub text_is : (t u : Text) → is_text t u ≡ true → t ≡ u
 text_is Open Open e = refl
 text_is (Atom a) (Atom b) e = ap Atom (bytes_are a b e)
 text_is _ _ e = absurd (cc)

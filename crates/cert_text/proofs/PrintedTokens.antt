@@ -16,7 +16,7 @@ use Rattle.cert_rules.specs.Walk.{Items}
 use Rattle.cert_text.specs.CertText.{cert_word, one_word, same_word, conv_word, left_word, right_word, parts_word, item_tokens, items_tokens, cert_tokens, cert_text, IsSmall, AreSmall}
 use Rattle.cert_text.specs.CertReading.{CertRead, Read, WrongToken, Wants, AnItem, LeftSteps, RightSteps, with_item, read_number, read_side, read_word, read_item, read_end, read_token, read_items, is_text, read_next, read_certificate, read_bytes}
 use Rattle.cert_text.specs.TextLaws.{IsReadBack}
-use Rattle.cert_text.proofs.Reading.{next_item, no_item}
+use Rattle.cert_text.proofs.ReadTokens.{next_item, no_item}
 use Rattle.cert_text.proofs.Taking.{small_number}
 
 -- tokens by their texts
@@ -72,7 +72,7 @@ right_read start go = refl
 
 module _ (len : ℕ) where
   -- a token with this text
-  token_as : (w : Wants) (s : Spanned) (ss : List Spanned) (t : Text) → s.text ≡ t → read_items len w (s ∷ ss) ≡ read_token w s.start t ss (λ w. read_items len w ss)
+  pub token_as : (w : Wants) (s : Spanned) (ss : List Spanned) (t : Text) → s.text ≡ t → read_items len w (s ∷ ss) ≡ read_token w s.start t ss (λ w. read_items len w ss)
   unfolding read_items
   token_as w s ss t e = ap (λ t. read_token w s.start t ss (λ w. read_items len w ss)) e
 
