@@ -163,17 +163,17 @@ module _ (len o : ℕ) where
 
         word_fails : (b1 b2 b3 b4 b5 : Bool) → bytes_eq a same_word ≡ b1 → bytes_eq a conv_word ≡ b2 → bytes_eq a parts_word ≡ b3 → bytes_eq a left_word ≡ b4 → bytes_eq a right_word ≡ b5 →
             read_items len AnItem (s ∷ ss) ≡ WrongToken o → ItemsFail AnItem (s ∷ ss)
-        word_fails true b2 b3 b4 b5 h1 h2 h3 h4 h5 e = goes_item Same tt (word_is same_word h1) (λ rest. at_word rest ∙ word_same s.start a _ h1) e
-        word_fails false true b3 b4 b5 h1 h2 h3 h4 h5 e = goes_item Conv tt (word_is conv_word h2) (λ rest. at_word rest ∙ word_conv s.start a _ h1 h2) e
-        word_fails false false true b4 b5 h1 h2 h3 h4 h5 e = goes_item Parts tt (word_is parts_word h3) (λ rest. at_word rest ∙ word_parts s.start a _ h1 h2 h3) e
+        word_fails true b2 b3 b4 b5 h1 h2 h3 h4 h5 e = goes_item Same tt (word_is same_word h1) (λ rest. at_word rest ∙ word_same s.start a (λ w. read_items len w rest) h1) e
+        word_fails false true b3 b4 b5 h1 h2 h3 h4 h5 e = goes_item Conv tt (word_is conv_word h2) (λ rest. at_word rest ∙ word_conv s.start a (λ w. read_items len w rest) h1 h2) e
+        word_fails false false true b4 b5 h1 h2 h3 h4 h5 e = goes_item Parts tt (word_is parts_word h3) (λ rest. at_word rest ∙ word_parts s.start a (λ w. read_items len w rest) h1 h2 h3) e
         word_fails false false false true b5 h1 h2 h3 h4 h5 e =
             goes_side LeftSteps Left left_word h4 (λ ts g. side_read Left left_word ts (λ n k. k) (λ n rest. refl) g)
-            (λ rest. at_word rest ∙ word_side s.start a _ h1 h2 h3 ∙ read_left s.start a _ h4) e
+            (λ rest. at_word rest ∙ word_side s.start a (λ w. read_items len w rest) h1 h2 h3 ∙ read_left s.start a (λ w. read_items len w rest) h4) e
         word_fails false false false false true h1 h2 h3 h4 h5 e =
             goes_side RightSteps Right right_word h5 (λ ts g. side_read Right right_word ts (λ n k. k) (λ n rest. refl) g)
-            (λ rest. at_word rest ∙ word_side s.start a _ h1 h2 h3 ∙ read_right s.start a _ h4 h5) e
+            (λ rest. at_word rest ∙ word_side s.start a (λ w. read_items len w rest) h1 h2 h3 ∙ read_right s.start a (λ w. read_items len w rest) h4 h5) e
         word_fails false false false false false h1 h2 h3 h4 h5 e =
-            wrong_here (λ ss. read_items len AnItem ss) (Opens []) s ss (nothing_opened []) (λ rest. at_word rest ∙ word_side s.start a _ h1 h2 h3 ∙ no_side s.start a _ h4 h5) e
+            wrong_here (λ ss. read_items len AnItem ss) (Opens []) s ss (nothing_opened []) (λ rest. at_word rest ∙ word_side s.start a (λ w. read_items len w rest) h1 h2 h3 ∙ no_side s.start a (λ w. read_items len w rest) h4 h5) e
 
       -- a number
       module _ (n : ℕ) (some : number_of a ≡ Some n) where

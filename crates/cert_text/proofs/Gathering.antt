@@ -4,7 +4,10 @@ use Rattle.cert_rules.specs.declared.item.CertItem.{CertItem}
 use Rattle.cert_rules.specs.Walk.{Items}
 use Rattle.cert_text.specs.declared.refusal.CertText.{CertText}
 use Rattle.cert_text.specs.declared.refusal.CertText.TheVariants as refusals
-use Rattle.cert_text.specs.CertReading.{CertRead, Read, WrongToken, TooGreat, with_item}
+use Rattle.sexp_reader.specs.Text.{Atom}
+use Rattle.sexp_reader.specs.Lex.{Spanned}
+use Rattle.cert_text.specs.CertText.{cert_word, one_word}
+use Rattle.cert_text.specs.CertReading.{CertRead, Read, WrongToken, TooGreat, AnItem, with_item, read_items, read_next}
 use Rattle.cert_text.specs.Answering.{Refuses, AnswersText}
 
 abbrev pub with_items : Items → CertRead → CertRead
@@ -38,3 +41,14 @@ pub refused : (r : CertRead) (e : CertText) → Refuses r e → AnswersText r (E
 refused r (refusals.Syntax o) h = h
 refused r (refusals.Number o) h = h
 refused r refusals.Memory h = absurd h
+
+-- what is read behind the bracket that opens, the word and the version
+
+abbrev pub behind_open : ℕ → List Spanned → CertRead
+behind_open len ss = read_next (Atom cert_word) len ss (λ ss. read_next (Atom one_word) len ss (λ ss. read_items len AnItem ss))
+
+abbrev pub behind_word : ℕ → List Spanned → CertRead
+behind_word len ss = read_next (Atom one_word) len ss (λ ss. read_items len AnItem ss)
+
+abbrev pub behind_version : ℕ → List Spanned → CertRead
+behind_version len ss = read_items len AnItem ss
