@@ -3,7 +3,7 @@ use Rattle.std.proofs.Common.{◌≡◌, ℕ, suc, ◌+◌, ◌<◌, ◌≤◌, 
 use Rattle.anf_convert.specs.Anf.{Atom, AnfOp, ConOp, AnfBlock, AnfProgram}
 use Rattle.anf_convert.specs.Captured.{Scope, Plain}
 use Rattle.anf_convert.specs.AnfEvaluation.{AnfVal, WCon, AnfVals, WCons, count, Gives, give_empty, AnfDoes, op_con, AnfGets, block_atom, block_op, block_let, block_bind}
-use Rattle.anf_convert.specs.ToAnf.{Level, LVar, Binding, AtomIs, OpIs, Res, RAtom, RCon, ROp, NamedResult, at_depth, binding_of, tail_of, block_of, named}
+use Rattle.anf_convert.specs.ToAnf.{Level, LVar, AnfBinding, AtomIs, OpIs, Res, RAtom, RCon, ROp, NamedResult, at_depth, binding_of, tail_of, block_of, named}
 use Rattle.anf_convert.proofs.Levels.{Ext, ext_same, ext_push, ext_trans, AtLevel, l_word, l_empty, AllLevels, ls_none, ls_more, gives, gives_all, top_word}
 
 length_levels : (f : Level → Atom) (xs : List Level) → length (map f xs) ≡ length xs
@@ -16,10 +16,10 @@ con_blocks (x ∷ xs) = 1
 
 module _ (Q : AnfProgram) (W : ℕ) where
   -- the bindings lead from one environment to another
-  pub data Binds : Scope → AnfVals → List Binding → Scope → AnfVals → ℕ → ℕ → ℕ → ℕ → Type 0 where
+  pub data Binds : Scope → AnfVals → List AnfBinding → Scope → AnfVals → ℕ → ℕ → ℕ → ℕ → Type 0 where
     binds_none : {s : Scope} {w : AnfVals} → Binds s w [] s w 0 0 0 0
-    binds_atom : {s g : Scope} {w f : AnfVals} {a : Atom} {ps : List Binding} {v : AnfVal} {c k b b1 l l1 : ℕ} → Gives W s w a v b1 l1 → Binds (Plain s) (WCons v w) ps g f c k b l → Binds s w (AtomIs a ∷ ps) g f (suc c) k (b1 + b) (l1 + l)
-    binds_op : {s g : Scope} {w f : AnfVals} {op : AnfOp} {ps : List Binding} {v : AnfVal} {c c1 k k1 b b1 l l1 : ℕ} → AnfDoes Q W s w op v c1 k1 b1 l1 → Binds (Plain s) (WCons v w) ps g f c k b l → Binds s w (OpIs op ∷ ps) g f (c1 + c) (k1 + k) (b1 + b) (l1 + l)
+    binds_atom : {s g : Scope} {w f : AnfVals} {a : Atom} {ps : List AnfBinding} {v : AnfVal} {c k b b1 l l1 : ℕ} → Gives W s w a v b1 l1 → Binds (Plain s) (WCons v w) ps g f c k b l → Binds s w (AtomIs a ∷ ps) g f (suc c) k (b1 + b) (l1 + l)
+    binds_op : {s g : Scope} {w f : AnfVals} {op : AnfOp} {ps : List AnfBinding} {v : AnfVal} {c c1 k k1 b b1 l l1 : ℕ} → AnfDoes Q W s w op v c1 k1 b1 l1 → Binds (Plain s) (WCons v w) ps g f c k b l → Binds s w (OpIs op ∷ ps) g f (c1 + c) (k1 + k) (b1 + b) (l1 + l)
 
   -- a result in its environment
   pub data Stands (s : Scope) (w : AnfVals) : Res → AnfVal → ℕ → ℕ → ℕ → Type 0 where
@@ -27,7 +27,7 @@ module _ (Q : AnfProgram) (W : ℕ) where
     st_con : {c : ℕ} {as' : List Level} {us : AnfVals} {b l : ℕ} → AllLevels W s w as' us b l → (0 < length as' → length as' < W) → Stands s w (RCon c as') (WCon c us) 0 0 (b + con_blocks as')
     st_op : {op : AnfOp} {u : AnfVal} {c k b l : ℕ} → AnfDoes Q W s w op u c k b l → Stands s w (ROp op) u c k b
 
-  binds_as : {s g : Scope} {w f : AnfVals} {ps : List Binding} {c c' k k' b b' l l' : ℕ} → c ≡ c' → k ≡ k' → b ≡ b' → l ≡ l' → Binds s w ps g f c k b l → Binds s w ps g f c' k' b' l'
+  binds_as : {s g : Scope} {w f : AnfVals} {ps : List AnfBinding} {c c' k k' b b' l l' : ℕ} → c ≡ c' → k ≡ k' → b ≡ b' → l ≡ l' → Binds s w ps g f c k b l → Binds s w ps g f c' k' b' l'
   binds_as {s} {g} {w} {f} {ps} {c} {c'} {k} {k'} {b} {b'} {l} {l'} ec ek eb el h =
       transport (λ z. Binds s w ps g f c' k' b' z) el (transport (λ z. Binds s w ps g f c' k' z l) eb (transport (λ z. Binds s w ps g f c' z b l) ek (transport (λ z. Binds s w ps g f z k b l) ec h)))
 
@@ -35,22 +35,22 @@ module _ (Q : AnfProgram) (W : ℕ) where
   gets_as {s} {w} {t} {v} {c} {c'} {k} {k'} {b} {b'} {l} {l'} ec ek eb el h =
       transport (λ z. AnfGets Q W s w t v c' k' b' z) el (transport (λ z. AnfGets Q W s w t v c' k' z l) eb (transport (λ z. AnfGets Q W s w t v c' z b l) ek (transport (λ z. AnfGets Q W s w t v z k b l) ec h)))
 
-  pub binds_ext : {s g : Scope} {w f : AnfVals} {ps : List Binding} {c k b l : ℕ} → Binds s w ps g f c k b l → Ext s w g f
+  pub binds_ext : {s g : Scope} {w f : AnfVals} {ps : List AnfBinding} {c k b l : ℕ} → Binds s w ps g f c k b l → Ext s w g f
   binds_ext binds_none = ext_same
   binds_ext (binds_atom h bs) = ext_trans (ext_push ext_same) (binds_ext bs)
   binds_ext (binds_op h bs) = ext_trans (ext_push ext_same) (binds_ext bs)
 
-  pub binds_size : {s g : Scope} {w f : AnfVals} {ps : List Binding} {c k b l : ℕ} → Binds s w ps g f c k b l → count f ≡ count w + length ps
+  pub binds_size : {s g : Scope} {w f : AnfVals} {ps : List AnfBinding} {c k b l : ℕ} → Binds s w ps g f c k b l → count f ≡ count w + length ps
   binds_size binds_none = omega arith
   binds_size (binds_atom h bs) = omega (arith, binds_size bs)
   binds_size (binds_op h bs) = omega (arith, binds_size bs)
 
-  pub binds_then : {s g g' : Scope} {w f f' : AnfVals} {ps qs : List Binding} {c c' k k' b b' l l' : ℕ} → Binds s w ps g f c k b l → Binds g f qs g' f' c' k' b' l' → Binds s w (ps ++ qs) g' f' (c + c') (k + k') (b + b') (l + l')
+  pub binds_then : {s g g' : Scope} {w f f' : AnfVals} {ps qs : List AnfBinding} {c c' k k' b b' l l' : ℕ} → Binds s w ps g f c k b l → Binds g f qs g' f' c' k' b' l' → Binds s w (ps ++ qs) g' f' (c + c') (k + k') (b + b') (l + l')
   binds_then binds_none h = binds_as (omega arith) (omega arith) (omega arith) (omega arith) h
   binds_then (binds_atom x bs) h = binds_as (omega arith) (omega arith) (omega arith) (omega arith) (binds_atom x (binds_then bs h))
   binds_then (binds_op x bs) h = binds_as (omega arith) (omega arith) (omega arith) (omega arith) (binds_op x (binds_then bs h))
 
-  pub binds_block : {s g : Scope} {w f : AnfVals} {ps : List Binding} {t : AnfBlock} {v : AnfVal} {c c' k k' b b' l l' : ℕ} → Binds s w ps g f c k b l → AnfGets Q W g f t v c' k' b' l' → AnfGets Q W s w (block_of ps t) v (c + c') (k + k') (b + b') (l + l')
+  pub binds_block : {s g : Scope} {w f : AnfVals} {ps : List AnfBinding} {t : AnfBlock} {v : AnfVal} {c c' k k' b b' l l' : ℕ} → Binds s w ps g f c k b l → AnfGets Q W g f t v c' k' b' l' → AnfGets Q W s w (block_of ps t) v (c + c') (k + k') (b + b') (l + l')
   binds_block binds_none h = gets_as (omega arith) (omega arith) (omega arith) (omega arith) h
   binds_block (binds_atom x bs) h = gets_as (omega arith) (omega arith) (omega arith) (omega arith) (block_let x (binds_block bs h))
   binds_block (binds_op x bs) h = gets_as (omega arith) (omega arith) (omega arith) (omega arith) (block_bind x (binds_block bs h))
@@ -61,7 +61,7 @@ module _ (Q : AnfProgram) (W : ℕ) where
   made {x = x} {xs = xs} d eq all few = let long = length_levels (at_depth d) (x ∷ xs) in let narrow = few (omega arith) in op_con (gives_all d eq all) (omega arith)
 
   -- a variable for a result
-  pub record Bound (s : Scope) (w : AnfVals) (p : Binding) (u : AnfVal) (c k b : ℕ) : Type 0 where
+  pub record Bound (s : Scope) (w : AnfVals) (p : AnfBinding) (u : AnfVal) (c k b : ℕ) : Type 0 where
     pub c' : ℕ
     pub l' : ℕ
     pub binds : Binds s w (p ∷ []) (Plain s) (WCons u w) c' k b l'
@@ -88,11 +88,11 @@ module _ (Q : AnfProgram) (W : ℕ) where
     pub blocks : b1 + b2 ≡ b
 
   -- an operation's
-  pub bound_op : {s g : Scope} {w f : AnfVals} {ps : List Binding} {op : AnfOp} {u : AnfVal} {c c1 k k1 b b1 l l1 : ℕ} (x : ℕ) → x ≡ count f → Binds s w ps g f c1 k1 b1 l1 → AnfDoes Q W g f op u c k b l → NameDone s w (record { ops = ps ++ OpIs op ∷ []; atom = LVar x }) u (c1 + c) (k1 + k) (b1 + b)
+  pub bound_op : {s g : Scope} {w f : AnfVals} {ps : List AnfBinding} {op : AnfOp} {u : AnfVal} {c c1 k k1 b b1 l l1 : ℕ} (x : ℕ) → x ≡ count f → Binds s w ps g f c1 k1 b1 l1 → AnfDoes Q W g f op u c k b l → NameDone s w (record { ops = ps ++ OpIs op ∷ []; atom = LVar x }) u (c1 + c) (k1 + k) (b1 + b)
   bound_op {g = g} {f = f} {u = u} x eq bs h =
       record { g = Plain g; f = WCons u f; c' = _; b1 = _; b2 = 0; l1 = _; l2 = 0; binds = binds_as refl (omega arith) refl refl (binds_then bs (binds_op h binds_none)); at = l_word (top_word g f u x eq); le_c = omega arith; blocks = omega arith }
 
-  pub name_done : {s g : Scope} {w f : AnfVals} {ps : List Binding} {res : Res} {u : AnfVal} {c c1 k k1 b b1 l1 : ℕ} (d : ℕ) → d ≡ count w → Binds s w ps g f c1 k1 b1 l1 → Stands g f res u c k b → NameDone s w (named d ps res) u (c1 + c) (k1 + k) (b1 + b)
+  pub name_done : {s g : Scope} {w f : AnfVals} {ps : List AnfBinding} {res : Res} {u : AnfVal} {c c1 k k1 b b1 l1 : ℕ} (d : ℕ) → d ≡ count w → Binds s w ps g f c1 k1 b1 l1 → Stands g f res u c k b → NameDone s w (named d ps res) u (c1 + c) (k1 + k) (b1 + b)
   name_done {c1 = c1} d eq bs (st_atom h) = record { g = _; f = _; c' = c1; b1 = _; b2 = _; l1 = _; l2 = _; binds = binds_as refl (omega arith) refl refl bs; at = h; le_c = omega arith; blocks = refl }
   name_done {c1 = c1} d eq bs (st_con ls_none few) = record { g = _; f = _; c' = c1; b1 = _; b2 = 0; l1 = _; l2 = 0; binds = binds_as refl (omega arith) refl refl bs; at = l_empty; le_c = omega arith; blocks = omega arith }
   name_done {f = f} {ps = ps} d eq bs (st_con (ls_more h hs) few) =

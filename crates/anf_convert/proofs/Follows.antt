@@ -12,7 +12,7 @@ use Rattle.anf_convert.specs.Anf.{Atom, AnfOp, AppOp, AnfBlock, Bind, AnfProgram
 use Rattle.anf_convert.specs.Captured.{Scope, Outside, Plain, depth, plains, shares, fix_captured}
 use Rattle.anf_convert.specs.AnfEvaluation.{AnfVal, WBox, WCon, WClos, WFix, AnfVals, WNil, WCons, count, ◌+w◌, fixes, LamAt, lam_here, lam_after_lam, lam_after_box, BoxAt, box_here, box_after_lam, box_after_box, AnfBranchAt, at_branch, after_branch, Gives, AnfDoes, op_const, op_app, op_app_box, op_app_fix, op_app_fix_box, op_lam, op_fix, op_case, AnfGets, AnfAnswers, main_alone, main_applied}
 use Rattle.anf_convert.specs.AnfData.{DataTree, DataTrees, AnfIsData, anf_data, AnfAreData, anf_data_none, anf_data_more}
-use Rattle.anf_convert.specs.ToAnf.{Level, LVar, Binding, OpIs, Res, RAtom, RCon, ROp, Norm, binding_of, sealed, with_variable, named, levels, call, name_at, then_arg, then_body, then_case, just, norm, norm_branches, norm_defs, code_of, number_in, to_anf}
+use Rattle.anf_convert.specs.ToAnf.{Level, LVar, AnfBinding, OpIs, Res, RAtom, RCon, ROp, Norm, binding_of, sealed, with_variable, named, levels, call, name_at, then_arg, then_body, then_case, just, norm, norm_branches, norm_defs, code_of, number_in, to_anf}
 use Rattle.anf_convert.specs.ToAnfKeeps.{AreUnder, Ready, ReadyTerms, BoxAnswers, box_alone, box_applied, ValueIs, value_is, ValuesAre, no_values, and_value, ToAnfKeeps}
 use Rattle.anf_convert.proofs.Levels.{Ext, ext_same, ext_push, ext_trans, top_word, VR, vr_box, vr_con, vr_clos, vr_fix, VRs, vrs_nil, vrs_cons, ER, er_empty, er_bind, er_fix, vrs_size, er_ext, HeldAt, holds_word, holds_fix, held_at, AtLevel, l_word, l_fix, l_box, AllLevels, ls_none, ls_more, level_ext, levels_ext, gives, levels_size, plains_size, er_args, fixes_size, fixes_ext, fixes_at}
 use Rattle.anf_convert.proofs.Widths.{lam_width, fix_width}
@@ -142,7 +142,7 @@ module _ (P : BoxProgram) (K : Name → ℕ) (Q : AnfProgram) (W : ℕ) where
     matches : k1 ≡ k
     blocks : b1 + (b2 + b3) ≡ b
 
-  called : {s g : Scope} {w f : AnfVals} {ops : List Binding} {a : Level} {u : AnfVal} {v : ClosureValue} {c3 : Counts} {c1 k1 b1 l1 b2 l2 : ℕ} (d : ℕ) (arg : ℕ → Norm) → d ≡ count w → Binds Q W s w ops g f c1 k1 b1 l1 → AtLevel W g f a u b2 l2 → DoneTerm g f (arg
+  called : {s g : Scope} {w f : AnfVals} {ops : List AnfBinding} {a : Level} {u : AnfVal} {v : ClosureValue} {c3 : Counts} {c1 k1 b1 l1 b2 l2 : ℕ} (d : ℕ) (arg : ℕ → Norm) → d ≡ count w → Binds Q W s w ops g f c1 k1 b1 l1 → AtLevel W g f a u b2 l2 → DoneTerm g f (arg
       (d + length ops)) v c3 → Applied s w (call d ops a (name_at arg (d + length ops))) u v (c1 + c3.contractions) (k1 + c3.matches) (b1 + b2 + c3.blocks)
   called {f = f} {ops = ops} {a = a} {c3 = c3} {c1 = c1} {k1 = k1} {b1 = b1} {b2 = b2} {l2 = l2} d arg eq bs at h =
       let deep : d + length ops ≡ count f = omega (arith, binds_size Q W bs) in
@@ -172,7 +172,7 @@ module _ (P : BoxProgram) (K : Name → ℕ) (Q : AnfProgram) (W : ℕ) where
         blocks = omega (arith, n.blocks, h.blocks);
       }
 
-  binds_matches : {s g : Scope} {w f : AnfVals} {ps : List Binding} {c k k' b l : ℕ} → k ≡ k' → Binds Q W s w ps g f c k b l → Binds Q W s w ps g f c k' b l
+  binds_matches : {s g : Scope} {w f : AnfVals} {ps : List AnfBinding} {c k k' b l : ℕ} → k ≡ k' → Binds Q W s w ps g f c k b l → Binds Q W s w ps g f c k' b l
   binds_matches {s} {g} {w} {f} {ps} {c} {b = b} {l = l} ek h = transport (λ z. Binds Q W s w ps g f c z b l) ek h
 
   applied_as : {s : Scope} {w : AnfVals} {n : Norm} {u : AnfVal} {v : ClosureValue} {c c' k k' b b' : ℕ} → c ≤ c' → k ≡ k' → b ≡ b' → Applied s w n u v c k b → Applied s w n u v c' k' b'
@@ -209,7 +209,7 @@ module _ (P : BoxProgram) (K : Name → ℕ) (Q : AnfProgram) (W : ℕ) where
       c3.contractions) (c.matches + c3.matches) (c.blocks + c3.blocks)
   applied {s} {w} {fn} {v1} {v} {c} {c3} d arg eq h other next = go h.binds h.stands other h.le_c h.matches h.blocks
     where
-      go : {g : Scope} {f : AnfVals} {ops : List Binding} {res : Res} {u : AnfVal} {c1 c2 k1 k2 b1 b2 l1 : ℕ} → Binds Q W s w ops g f c1 k1 b1 l1 → Stands Q W g f res u c2 k2 b2 → NotCon u → c1 + c2 ≤ c.contractions → k1 + k2 ≡ c.matches → b1 + b2 ≡ c.blocks →
+      go : {g : Scope} {f : AnfVals} {ops : List AnfBinding} {res : Res} {u : AnfVal} {c1 c2 k1 k2 b1 b2 l1 : ℕ} → Binds Q W s w ops g f c1 k1 b1 l1 → Stands Q W g f res u c2 k2 b2 → NotCon u → c1 + c2 ≤ c.contractions → k1 + k2 ≡ c.matches → b1 + b2 ≡ c.blocks →
           Applied s w (then_arg d ops res arg) u v (c.contractions + c3.contractions) (c.matches + c3.matches) (c.blocks + c3.blocks)
       go {g} {f} {ops} bs (st_atom at) other cl km bm =
           applied_as (omega arith) (omega arith) (omega arith) (called d arg eq bs at (next g f (d + length ops) (binds_ext Q W bs) (omega (arith, binds_size Q W bs))))

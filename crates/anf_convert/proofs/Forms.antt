@@ -7,7 +7,7 @@ use Rattle.pc_terms.specs.BoxSyntax.{BoxTerm, BoxTerms, Box, BLambda, BLetIn, BA
 use Rattle.lambda_box.specs.BoxProgram.{BoxConstant, Has, here, there}
 use Rattle.anf_convert.specs.Anf.{Atom, AnfOp, AppOp, AnfBlock}
 use Rattle.anf_convert.specs.AnfForm.{constructors, fields, branch_count, AtomFits, AtomsFit, AnfOpFits, AnfFits, AnfBranchesFit, DefsFit}
-use Rattle.anf_convert.specs.ToAnf.{Level, LVar, LBoxed, LEmpty, Binding, AtomIs, OpIs, Res, RAtom, RCon, ROp, Norm, NamedResult, at_depth, binding_of, tail_of, block_of, sealed, with_variable, named, nth, levels, call, name_at, then_arg, then_body, norm, norm_branches, norm_defs, code_of, number_in, to_anf}
+use Rattle.anf_convert.specs.ToAnf.{Level, LVar, LBoxed, LEmpty, AnfBinding, AtomIs, OpIs, Res, RAtom, RCon, ROp, Norm, NamedResult, at_depth, binding_of, tail_of, block_of, sealed, with_variable, named, nth, levels, call, name_at, then_arg, then_body, norm, norm_branches, norm_defs, code_of, number_in, to_anf}
 use Rattle.anf_convert.specs.ToAnfKeeps.{AreUnder}
 use Rattle.anf_convert.specs.TermForm.{more_args, constructor_args, FewBinders, TermFits, TermsFit, ToAnfForms}
 use Rattle.anf_convert.proofs.Widths.{def_total}
@@ -63,13 +63,13 @@ env_levels {d} {n} {env} (suc j) h =
     transport (λ z. EnvFits (d + suc j) z (levels d (suc j) env)) (omega arith) (env_push (LVar (d + j)) (fits_var (omega arith)) (env_up {d = d + j} (omega arith) (env_levels j h)))
 
 module _ (k m : ℕ) where
-  abbrev BindingFits : ℕ → Binding → Type 0
+  abbrev BindingFits : ℕ → AnfBinding → Type 0
   BindingFits d (AtomIs a) = AtomFits d a
   BindingFits d (OpIs op) = AnfOpFits k m d op
 
-  data OpsFit : ℕ → List Binding → Type 0 where
+  data OpsFit : ℕ → List AnfBinding → Type 0 where
     ops_none : {d : ℕ} → OpsFit d []
-    ops_more : {d : ℕ} {p : Binding} {ps : List Binding} → BindingFits d p → OpsFit (suc d) ps → OpsFit d (p ∷ ps)
+    ops_more : {d : ℕ} {p : AnfBinding} {ps : List AnfBinding} → BindingFits d p → OpsFit (suc d) ps → OpsFit d (p ∷ ps)
 
   data ResFits (d : ℕ) : Res → Type 0 where
     res_atom : {a : Level} → LevelFits d a → ResFits d (RAtom a)
@@ -84,13 +84,13 @@ module _ (k m : ℕ) where
     ops : OpsFit d n.ops
     at : LevelFits (d + length n.ops) n.atom
 
-  ops_as : {d d' : ℕ} {ps : List Binding} → d ≡ d' → OpsFit d ps → OpsFit d' ps
+  ops_as : {d d' : ℕ} {ps : List AnfBinding} → d ≡ d' → OpsFit d ps → OpsFit d' ps
   ops_as {ps = ps} eq h = transport (λ z. OpsFit z ps) eq h
 
   res_as : {d d' : ℕ} {r : Res} → d ≡ d' → ResFits d r → ResFits d' r
   res_as {r = r} eq h = transport (λ z. ResFits z r) eq h
 
-  ops_then : {d : ℕ} {ps qs : List Binding} → OpsFit d ps → OpsFit (d + length ps) qs → OpsFit d (ps ++ qs)
+  ops_then : {d : ℕ} {ps qs : List AnfBinding} → OpsFit d ps → OpsFit (d + length ps) qs → OpsFit d (ps ++ qs)
   ops_then ops_none g = ops_as (omega arith) g
   ops_then (ops_more h hs) g = ops_more h (ops_then hs (ops_as (omega arith) g))
 
@@ -100,11 +100,11 @@ module _ (k m : ℕ) where
   binding_fits {d} (res_con lt few (fits_more {a = a} {as' = as'} h hs)) = let long = length_levels (at_depth d) (a ∷ as') in (lt, omega arith, omega arith, atoms_fit (fits_more h hs))
   binding_fits (res_op h) = h
 
-  tail_fits : (d : ℕ) (p : Binding) → BindingFits d p → AnfFits k m d (tail_of p)
+  tail_fits : (d : ℕ) (p : AnfBinding) → BindingFits d p → AnfFits k m d (tail_of p)
   tail_fits d (AtomIs a) h = h
   tail_fits d (OpIs op) h = h
 
-  block_fits : {d : ℕ} {ps : List Binding} (t : AnfBlock) → OpsFit d ps → AnfFits k m (d + length ps) t → AnfFits k m d (block_of ps t)
+  block_fits : {d : ℕ} {ps : List AnfBinding} (t : AnfBlock) → OpsFit d ps → AnfFits k m (d + length ps) t → AnfFits k m d (block_of ps t)
   block_fits {d} t ops_none g = transport (λ z. AnfFits k m z t) (omega arith) g
   block_fits {d} t (ops_more {p = AtomIs a} h hs) g = (h, block_fits t hs (transport (λ z. AnfFits k m z t) (omega arith) g))
   block_fits {d} t (ops_more {p = OpIs op} h hs) g = (h, block_fits t hs (transport (λ z. AnfFits k m z t) (omega arith) g))
@@ -112,18 +112,18 @@ module _ (k m : ℕ) where
   seal_fits : {d : ℕ} {n : Norm} → NormFits d n → AnfFits k m d (sealed d n)
   seal_fits {d} {n} h = block_fits (tail_of (binding_of (d + length n.ops) n.res)) h.ops (tail_fits (d + length n.ops) (binding_of (d + length n.ops) n.res) (binding_fits h.res))
 
-  with_fits : {d : ℕ} {ps : List Binding} {r : Res} → OpsFit d ps → ResFits (d + length ps) r → NameFits d (with_variable d ps r)
+  with_fits : {d : ℕ} {ps : List AnfBinding} {r : Res} → OpsFit d ps → ResFits (d + length ps) r → NameFits d (with_variable d ps r)
   with_fits {d} {ps} {r} os h =
       let long = length-append ps (binding_of (d + length ps) r ∷ []) in
       record { ops = ops_then os (ops_more (binding_fits h) ops_none); at = fits_var (omega arith) }
 
-  name_fits : {d : ℕ} {ps : List Binding} {r : Res} → OpsFit d ps → ResFits (d + length ps) r → NameFits d (named d ps r)
+  name_fits : {d : ℕ} {ps : List AnfBinding} {r : Res} → OpsFit d ps → ResFits (d + length ps) r → NameFits d (named d ps r)
   name_fits os (res_atom h) = record { ops = os; at = h }
   name_fits os (res_con lt few fits_none) = record { ops = os; at = fits_empty lt }
   name_fits os (res_con lt few (fits_more h hs)) = with_fits os (res_con lt few (fits_more h hs))
   name_fits os (res_op h) = with_fits os (res_op h)
 
-  call_fits : {d : ℕ} {ps : List Binding} {a : Level} (arg : ℕ → Norm) → OpsFit d ps → LevelFits (d + length ps) a → NormFits (d + length ps) (arg (d + length ps)) → NormFits d (call d ps a (name_at arg (d + length ps)))
+  call_fits : {d : ℕ} {ps : List AnfBinding} {a : Level} (arg : ℕ → Norm) → OpsFit d ps → LevelFits (d + length ps) a → NormFits (d + length ps) (arg (d + length ps)) → NormFits d (call d ps a (name_at arg (d + length ps)))
   call_fits {d} {ps} {a} arg os at n =
       let x = name_fits n.ops n.res in
       let qs = (name_at arg (d + length ps)).ops in
@@ -136,12 +136,12 @@ module _ (k m : ℕ) where
   args_of (RCon c xs) = suc (length xs)
   args_of (ROp op) = 0
 
-  then_args : (d : ℕ) (ps : List Binding) (r : Res) (arg : ℕ → Norm) → args_of (then_arg d ps r arg).res ≡ more_args (args_of r)
+  then_args : (d : ℕ) (ps : List AnfBinding) (r : Res) (arg : ℕ → Norm) → args_of (then_arg d ps r arg).res ≡ more_args (args_of r)
   then_args d ps (RAtom a) arg = refl
   then_args d ps (RCon c xs) arg = refl
   then_args d ps (ROp op) arg = refl
 
-  arg_fits : {d : ℕ} {ps : List Binding} {r : Res} (arg : ℕ → Norm) → OpsFit d ps → ResFits (d + length ps) r → more_args (args_of r) ≤ fields → ((d' : ℕ) → d ≤ d' → NormFits d' (arg d')) → NormFits d (then_arg d ps r arg)
+  arg_fits : {d : ℕ} {ps : List AnfBinding} {r : Res} (arg : ℕ → Norm) → OpsFit d ps → ResFits (d + length ps) r → more_args (args_of r) ≤ fields → ((d' : ℕ) → d ≤ d' → NormFits d' (arg d')) → NormFits d (then_arg d ps r arg)
   arg_fits {d} {ps} arg os (res_atom h) few next = call_fits arg os h (next (d + length ps) (omega arith))
   arg_fits {d} {ps} arg os (res_con {as' = as'} lt less hs) few next =
       let n = next (d + length ps) (omega arith) in

@@ -9,7 +9,7 @@ use Rattle.box_terms.specs.declared.term.BoxDef.{BoxDef}
 use Rattle.anf_convert.specs.Anf.{FixOp, Branch, AnfDefs, LamDef, BoxDef as boxed}
 use Rattle.anf_convert.specs.AnfView.{branches_of, defs_of}
 use Rattle.anf_convert.specs.declared.program.AnfDef.{AnfDef}
-use Rattle.anf_convert.specs.ToAnf.{Level, LVar, LEmpty, Binding, Res, RAtom, RCon, ROp, Norm, sealed, named, levels, name_at, norm, norm_branches, norm_defs}
+use Rattle.anf_convert.specs.ToAnf.{Level, LVar, LEmpty, AnfBinding, Res, RAtom, RCon, ROp, Norm, sealed, named, levels, name_at, norm, norm_branches, norm_defs}
 use Rattle.anf_convert.specs.Writing.{number_of, written, named_at, branch_code, term_def, def_code}
 use Rattle.anf_convert.specs.declared.builder.Builder.{Builder}
 use Rattle.anf_convert.proofs.LevelLists.{drop_levels}
@@ -24,12 +24,12 @@ written_none b = (λ i. record { ops = sym (append-nil b.ops) i; depth = nothing
     nothing : b.depth ≡ b.depth + 0
     nothing = omega arith
 
-pub written_twice : (b : Builder) (ps qs : List Binding) → written (written b ps) qs ≡ written b (ps ++ qs)
+pub written_twice : (b : Builder) (ps qs : List AnfBinding) → written (written b ps) qs ≡ written b (ps ++ qs)
 written_twice b ps qs =
     let deep : b.depth + length ps + length qs ≡ b.depth + length (ps ++ qs) = omega (arith, length-append ps qs) in
     λ i. record { ops = append_assoc b.ops ps qs i; depth = deep i }
 
-pub named_split : (d : ℕ) (ops : List Binding) (r : Res) → named d ops r ≡ record { ops = ops ++ (named_at (d + length ops) r).ops; atom = (named_at (d + length ops) r).atom }
+pub named_split : (d : ℕ) (ops : List AnfBinding) (r : Res) → named d ops r ≡ record { ops = ops ++ (named_at (d + length ops) r).ops; atom = (named_at (d + length ops) r).atom }
 named_split d ops (RAtom a) = ap (λ ps. record { ops = ps; atom = a }) (sym (append-nil ops))
 named_split d ops (RCon c []) = ap (λ ps. record { ops = ps; atom = LEmpty c }) (sym (append-nil ops))
 named_split d ops (RCon c (x ∷ xs)) = refl

@@ -11,7 +11,7 @@ use Rattle.anf_convert.specs.Anf.{AnfOp, AnfBlock, AnfBranches, def_count}
 use Rattle.anf_convert.specs.Captured.{Scope, Plain, Shared, depth, Word, Words, entry, words_of, plains, shares, atom_words, atoms_words, op_words, block_words, branches_words, defs_words, is_in, add_word, captured, lam_captured, fix_captured}
 use Rattle.anf_convert.specs.AnfEvaluation.{AnfVals, count}
 use Rattle.anf_convert.proofs.Scopes.{Each, each_join, each_map, captured_each}
-use Rattle.anf_convert.specs.ToAnf.{Level, LVar, LBoxed, LEmpty, Binding, AtomIs, OpIs, Res, RAtom, RCon, ROp, Norm, NamedResult, at_depth, binding_of, tail_of, block_of, sealed, with_variable, named, nth, levels, call, name_at, then_arg, then_body, then_case, norm, norm_branches, norm_defs}
+use Rattle.anf_convert.specs.ToAnf.{Level, LVar, LBoxed, LEmpty, AnfBinding, AtomIs, OpIs, Res, RAtom, RCon, ROp, Norm, NamedResult, at_depth, binding_of, tail_of, block_of, sealed, with_variable, named, nth, levels, call, name_at, then_arg, then_body, then_case, norm, norm_branches, norm_defs}
 use Rattle.anf_convert.specs.ToAnfKeeps.{AreUnder, Ready, ReadyTerms}
 use Rattle.anf_convert.proofs.Levels.{ER, er_empty, er_bind, er_fix, nth_levels, nth_past}
 
@@ -25,7 +25,7 @@ or_right false h = h
 both : {a b : Bool} → a ≡ true → b ≡ true → (a && b) ≡ true
 both h g = rw (h, g) refl
 
-abbrev binding_words : Scope → Binding → List ℕ
+abbrev binding_words : Scope → AnfBinding → List ℕ
 binding_words s (AtomIs a) = atom_words s a
 binding_words s (OpIs op) = op_words s op
 
@@ -93,19 +93,19 @@ data ResFine (Q : ℕ → Type 0) (S : Scope) (D : ℕ) : Res → Type 0 where
   res_con : {c : ℕ} {as' : List Level} → AllFine Q S D as' → ResFine Q S D (RCon c as')
   res_op : {op : AnfOp} → Each Q (op_words S op) → ResFine Q S D (ROp op)
 
-data OpsFine (Q : ℕ → Type 0) : Scope → ℕ → List Binding → Scope → ℕ → Type 0 where
+data OpsFine (Q : ℕ → Type 0) : Scope → ℕ → List AnfBinding → Scope → ℕ → Type 0 where
   ops_none : {S : Scope} {D : ℕ} → OpsFine Q S D [] S D
-  ops_more : {S S' : Scope} {D D' : ℕ} {p : Binding} {ps : List Binding} → Each Q (binding_words S p) → OpsFine Q (Plain S) (suc D) ps S' D' → OpsFine Q S D (p ∷ ps) S' D'
+  ops_more : {S S' : Scope} {D D' : ℕ} {p : AnfBinding} {ps : List AnfBinding} → Each Q (binding_words S p) → OpsFine Q (Plain S) (suc D) ps S' D' → OpsFine Q S D (p ∷ ps) S' D'
 
-ops_ext : {Q : ℕ → Type 0} {S S' : Scope} {D D' : ℕ} {ps : List Binding} → OpsFine Q S D ps S' D' → SExt S D S' D'
+ops_ext : {Q : ℕ → Type 0} {S S' : Scope} {D D' : ℕ} {ps : List AnfBinding} → OpsFine Q S D ps S' D' → SExt S D S' D'
 ops_ext ops_none = sext_same
 ops_ext (ops_more h hs) = sext_trans (sext_push sext_same) (ops_ext hs)
 
-ops_deep : {Q : ℕ → Type 0} {S S' : Scope} {D D' : ℕ} {ps : List Binding} → OpsFine Q S D ps S' D' → D' ≡ D + length ps
+ops_deep : {Q : ℕ → Type 0} {S S' : Scope} {D D' : ℕ} {ps : List AnfBinding} → OpsFine Q S D ps S' D' → D' ≡ D + length ps
 ops_deep ops_none = omega arith
 ops_deep (ops_more h hs) = omega (arith, ops_deep hs)
 
-ops_then : {Q : ℕ → Type 0} {S S' S'' : Scope} {D D' D'' : ℕ} {ps qs : List Binding} → OpsFine Q S D ps S' D' → OpsFine Q S' D' qs S'' D'' → OpsFine Q S D (ps ++ qs) S'' D''
+ops_then : {Q : ℕ → Type 0} {S S' S'' : Scope} {D D' D'' : ℕ} {ps qs : List AnfBinding} → OpsFine Q S D ps S' D' → OpsFine Q S' D' qs S'' D'' → OpsFine Q S D (ps ++ qs) S'' D''
 ops_then ops_none g = g
 ops_then (ops_more h hs) g = ops_more h (ops_then hs g)
 
@@ -127,11 +127,11 @@ binding_fine d eq (res_con fine_none) = tt
 binding_fine d eq (res_con (fine_more h hs)) = fine_atoms d eq (fine_more h hs)
 binding_fine d eq (res_op h) = h
 
-tail_fine : (Q : ℕ → Type 0) (S : Scope) (p : Binding) → Each Q (binding_words S p) → Each Q (block_words S (tail_of p))
+tail_fine : (Q : ℕ → Type 0) (S : Scope) (p : AnfBinding) → Each Q (binding_words S p) → Each Q (block_words S (tail_of p))
 tail_fine Q S (AtomIs a) h = h
 tail_fine Q S (OpIs op) h = h
 
-block_fine : {Q : ℕ → Type 0} {S S' : Scope} {D D' : ℕ} {ps : List Binding} (t : AnfBlock) → OpsFine Q S D ps S' D' → Each Q (block_words S' t) → Each Q (block_words S (block_of ps t))
+block_fine : {Q : ℕ → Type 0} {S S' : Scope} {D D' : ℕ} {ps : List AnfBinding} (t : AnfBlock) → OpsFine Q S D ps S' D' → Each Q (block_words S' t) → Each Q (block_words S (block_of ps t))
 block_fine t ops_none g = g
 block_fine {Q} {S} t (ops_more {p = AtomIs a} h hs) g = each_join Q (atom_words S a) _ h (block_fine t hs g)
 block_fine {Q} {S} t (ops_more {p = OpIs op} h hs) g = each_join Q (op_words S op) _ h (block_fine t hs g)
@@ -163,12 +163,12 @@ module _ (Q : ℕ → Type 0) (k0 : ℕ) (high : (y : ℕ) → k0 ≤ y → Q y)
   fine_top : (S : Scope) (D d : ℕ) → D ≡ d → k0 ≤ depth S → Fine Q (Plain S) (suc D) (LVar d)
   fine_top S D d eq le = let z : 0 ≡ suc D - suc d = omega arith in fine_var (omega arith) (transport (λ i. Each Q (words_of (entry (Plain S) i))) z (high (depth S) le, tt))
 
-  with_fine : {S S' : Scope} {D D' : ℕ} {ps : List Binding} {res : Res} → k0 ≤ depth S' → OpsFine Q S D ps S' D' → ResFine Q S' D' res → NameFine Q S D (with_variable D ps res)
+  with_fine : {S S' : Scope} {D D' : ℕ} {ps : List AnfBinding} {res : Res} → k0 ≤ depth S' → OpsFine Q S D ps S' D' → ResFine Q S' D' res → NameFine Q S D (with_variable D ps res)
   with_fine {S' = S'} {D} {D'} {ps} low os r =
       let eq = ops_deep os in
       record { S' = Plain S'; D' = suc D'; ops = ops_then os (ops_more (binding_fine (D + length ps) eq r) ops_none); at = fine_top S' D' (D + length ps) eq low }
 
-  name_fine : {S S' : Scope} {D D' : ℕ} {ps : List Binding} {res : Res} → k0 ≤ depth S' → OpsFine Q S D ps S' D' → ResFine Q S' D' res → NameFine Q S D (named D ps res)
+  name_fine : {S S' : Scope} {D D' : ℕ} {ps : List AnfBinding} {res : Res} → k0 ≤ depth S' → OpsFine Q S D ps S' D' → ResFine Q S' D' res → NameFine Q S D (named D ps res)
   name_fine low os (res_atom h) = record { S' = _; D' = _; ops = os; at = h }
   name_fine low os (res_con fine_none) = record { S' = _; D' = _; ops = os; at = fine_empty }
   name_fine low os (res_con (fine_more h hs)) = with_fine low os (res_con (fine_more h hs))
@@ -181,7 +181,7 @@ module _ (Q : ℕ → Type 0) (k0 : ℕ) (high : (y : ℕ) → k0 ≤ y → Q y)
   low_ext : {S S' : Scope} {D D' : ℕ} → k0 ≤ depth S → SExt S D S' D' → k0 ≤ depth S'
   low_ext low x = omega (arith, sext_depth x)
 
-  call_fine : {S S' : Scope} {D D' : ℕ} {ops : List Binding} {a : Level} (arg : ℕ → Norm) → k0 ≤ depth S' → OpsFine Q S D ops S' D' → Fine Q S' D' a → ((d : ℕ) → D' ≡ d → NormFine Q S' d (arg d)) → NormFine Q S D (call D ops a (name_at arg (D + length ops)))
+  call_fine : {S S' : Scope} {D D' : ℕ} {ops : List AnfBinding} {a : Level} (arg : ℕ → Norm) → k0 ≤ depth S' → OpsFine Q S D ops S' D' → Fine Q S' D' a → ((d : ℕ) → D' ≡ d → NormFine Q S' d (arg d)) → NormFine Q S D (call D ops a (name_at arg (D + length ops)))
   call_fine {S} {S'} {D} {D'} {ops} {a} arg low os at next =
       let deep = ops_deep os in
       let n = next (D + length ops) deep in
@@ -191,7 +191,7 @@ module _ (Q : ℕ → Type 0) (k0 : ℕ) (high : (y : ℕ) → k0 ≤ y → Q y)
       let deeper = ops_deep m.ops in
       record { S' = m.S'; D' = m.D'; ops = ops_then os' m.ops; res = res_op (each_join Q (atom_words m.S' (at_depth (D + length ops + length (name_at arg (D + length ops)).ops) a)) _ (fine_atom _ deeper (fine_ext (ops_ext m.ops) at')) (fine_atom _ deeper m.at)) }
 
-  arg_fine : {S S' : Scope} {D D' : ℕ} {ops : List Binding} {res : Res} (arg : ℕ → Norm) → k0 ≤ depth S' → OpsFine Q S D ops S' D' → ResFine Q S' D' res → ArgFine S D arg → NormFine Q S D (then_arg D ops res arg)
+  arg_fine : {S S' : Scope} {D D' : ℕ} {ops : List AnfBinding} {res : Res} (arg : ℕ → Norm) → k0 ≤ depth S' → OpsFine Q S D ops S' D' → ResFine Q S' D' res → ArgFine S D arg → NormFine Q S D (then_arg D ops res arg)
   arg_fine {S' = S'} {D' = D'} arg low os (res_atom h) next = call_fine arg low os h (λ d eq. next S' D' d (ops_ext os) eq)
   arg_fine {S} {S'} {D} {D'} {ops} arg low os (res_con {as' = as'} hs) next =
       let deep = ops_deep os in

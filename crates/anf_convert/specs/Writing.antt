@@ -5,7 +5,7 @@ use Rattle.pc_terms.specs.BoxSyntax.{BoxTerm, BLambda}
 use Rattle.box_terms.specs.declared.term.BoxBranch.{BoxBranch}
 use Rattle.box_terms.specs.declared.term.BoxDef.{BoxDef}
 use Rattle.anf_convert.specs.Anf.{AppOp}
-use Rattle.anf_convert.specs.ToAnf.{Level, LVar, LEmpty, Binding, OpIs, Res, RAtom, RCon, ROp, Norm, NamedResult, at_depth, binding_of, norm, sealed, levels}
+use Rattle.anf_convert.specs.ToAnf.{Level, LVar, LEmpty, AnfBinding, OpIs, Res, RAtom, RCon, ROp, Norm, NamedResult, at_depth, binding_of, norm, sealed, levels}
 use Rattle.anf_convert.specs.declared.program.AnfBranch.{AnfBranch}
 use Rattle.anf_convert.specs.declared.program.AnfDef.{AnfDef}
 use Rattle.anf_convert.specs.declared.program.AnfDef.TheVariants as def
@@ -23,7 +23,7 @@ res_of (made.Construct c ls) = RCon c (reverse ls.items)
 res_of (made.Other o) = ROp o
 
 -- the block with more bindings
-abbrev pub written : Builder → List Binding → Builder
+abbrev pub written : Builder → List AnfBinding → Builder
 written b ps = record { ops = b.ops ++ ps; depth = b.depth + length ps }
 
 -- the atom of a result under d variables, with what is bound for it

@@ -17,7 +17,7 @@ use Rattle.wasm_core.specs.MachineStep.{State, Reach}
 use Rattle.wasm_core.specs.Runs.{store_of}
 use Rattle.wasm_core.specs.RunTree.{Fate, goes_on, ended, ran_out}
 use Rattle.wasm_core.specs.Answer.{Answers, Exhausted, exhausted, AnswersWithin}
-use Rattle.wasm_core.specs.WordData.{Data as Nodes}
+use Rattle.wasm_core.specs.WordData.{DataNodes as Nodes}
 use Rattle.wasm_core.proofs.Small.{inj}
 use Rattle.wasm_emit.specs.EmitLaws.{Finished, Spent, spent}
 use Rattle.wasm_emit.proofs.Composition.{longer}

@@ -37,7 +37,7 @@ use Rattle.driver.specs.ExecEnds.{
   erasure_of,
   ErasureSays,
   PassesSay,
-  RunSays,
+  ExecRunSays,
   TextRefuses,
   Accepting,
   Searching,
@@ -46,7 +46,7 @@ use Rattle.driver.specs.ExecEnds.{
   its_module,
   its_shapes,
   Answering,
-  Refuses,
+  StageRefuses,
   in_search,
   in_erasure,
   in_passes,
@@ -132,7 +132,7 @@ pub record IsOfRun (m : Parts) (pages steps : ℕ) (r : Refusal) : Type 0 where
   pub other : refused why ≢ refused running.Memory
   pub status : status_of r ≡ run_status (Err why)
 
-pub of_run : (m : Parts) (pages steps : ℕ) (r : Refusal) → RunSays m pages steps (Err r) → r ≢ refusals.Memory → IsOfRun m pages steps r
+pub of_run : (m : Parts) (pages steps : ℕ) (r : Refusal) → ExecRunSays m pages steps (Err r) → r ≢ refusals.Memory → IsOfRun m pages steps r
 of_run m pages steps (refusals.Program limits.ModuleBytes) h n = record { why = running.ModuleBytes; ends = h; other = λ e. cc; status = refl }
 of_run m pages steps (refusals.Run ends.Exhausted) h n = record { why = running.Exhausted; ends = (h.0, (h.1.0, h.1.1)); other = λ e. cc; status = refl }
 of_run m pages steps (refusals.Run ends.StepsSpent) h n = record { why = running.StepsSpent; ends = h; other = λ e. cc; status = refl }
@@ -227,16 +227,16 @@ module _ (turns : ℕ) (e : RawEnv) where
       pub no_passes : (r : Refusal) (x : Erasing turns e) → PassesSay pages x.program (Err r) → r ≢ refusals.Memory → Compiling turns e → ⊥
       no_passes r x h n y = (not_passed pages x.program r h n).1 (subst Fits (one_program y.before x) y.fits)
 
-      run_stops : (r : Refusal) (x : Compiling turns e) → RunSays (its_module pages x) pages steps (Err r) → r ≢ refusals.Memory → (y : Compiling turns e) → IsOfRun (its_module pages y) pages steps r
+      run_stops : (r : Refusal) (x : Compiling turns e) → ExecRunSays (its_module pages x) pages steps (Err r) → r ≢ refusals.Memory → (y : Compiling turns e) → IsOfRun (its_module pages y) pages steps r
       run_stops r x h n y = subst (λ m. IsOfRun m pages steps r) (one_module pages x y) (of_run (its_module pages x) pages steps r h n)
 
-      no_run : (r : Refusal) (x : Compiling turns e) → RunSays (its_module pages x) pages steps (Err r) → r ≢ refusals.Memory → Answering turns e pages steps → ⊥
+      no_run : (r : Refusal) (x : Compiling turns e) → ExecRunSays (its_module pages x) pages steps (Err r) → r ≢ refusals.Memory → Answering turns e pages steps → ⊥
       no_run r x h n y =
           let o = run_stops r x h n y.before in
           let same : Err o.why ≡ Ok y.answer = end_is_one (its_module pages y.before) pages steps (Err o.why) (Ok y.answer) o.ends y.ends o.other (not_memory y.answer) in
           cc
 
-      run_same : (r q : Refusal) (x y : Compiling turns e) → RunSays (its_module pages x) pages steps (Err r) → RunSays (its_module pages y) pages steps (Err q) → r ≢ refusals.Memory → q ≢ refusals.Memory → status_of r ≡ status_of q
+      run_same : (r q : Refusal) (x y : Compiling turns e) → ExecRunSays (its_module pages x) pages steps (Err r) → ExecRunSays (its_module pages y) pages steps (Err q) → r ≢ refusals.Memory → q ≢ refusals.Memory → status_of r ≡ status_of q
       run_same r q x y h k n m =
           let o = run_stops r x h n y in
           let p = of_run (its_module pages y) pages steps q k m in
@@ -249,7 +249,7 @@ module _ (turns : ℕ) (e : RawEnv) where
           (no_text_of (its_shapes x.before.before) x.answer r h n).1
           (subst (λ (a : Answered). FitsShapes (members (its_shapes x.before.before)) 0 a.tree) (one_answer y x) (subst (λ S. FitsShapes S 0 y.answer.tree) (one_set y.before.before.before x.before.before.before) fits))
 
-      refuse_alike : (r q : Refusal) → Refuses turns e pages steps r → Refuses turns e pages steps q → r ≢ refusals.Memory → q ≢ refusals.Memory → status_of r ≡ status_of q
+      refuse_alike : (r q : Refusal) → StageRefuses turns e pages steps r → StageRefuses turns e pages steps q → r ≢ refusals.Memory → q ≢ refusals.Memory → status_of r ≡ status_of q
       refuse_alike r q (in_search x w h) (in_search y v k) n m = search_stops r x w h n y ∙ sym (search_stops q y v k m y)
       refuse_alike r q (in_search x w h) (in_erasure y v k) n m = absurd (no_search r x w h n y)
       refuse_alike r q (in_search x w h) (in_passes y k) n m = absurd (no_search r x w h n y.before)
@@ -276,7 +276,7 @@ module _ (turns : ℕ) (e : RawEnv) where
       refuse_alike r q (in_text x a h) (in_run y b k) n m = absurd (no_run q y k m x)
       refuse_alike r q (in_text x a h) (in_text y b k) n m = (no_text_of (its_shapes x.before.before) x.answer r h n).0 ∙ sym (no_text_of (its_shapes y.before.before) y.answer q k m).0
 
-      never_both : (text : List ℕ) (r : Refusal) → ExecEnds turns e pages steps (Ok text) → Refuses turns e pages steps r → r ≢ refusals.Memory → ⊥
+      never_both : (text : List ℕ) (r : Refusal) → ExecEnds turns e pages steps (Ok text) → StageRefuses turns e pages steps r → r ≢ refusals.Memory → ⊥
       never_both text r (y, line) (in_search x w h) n = no_search r x w h n y.before.before.before
       never_both text r (y, line) (in_erasure x w h) n = no_erasure r x w h n y.before.before
       never_both text r (y, line) (in_passes x h) n = no_passes r x h n y.before
@@ -289,7 +289,7 @@ module _ (turns : ℕ) (e : RawEnv) where
       end_alike (Err r) (Ok t) (n, h) k = absurd (never_both t r k h n)
       end_alike (Err r) (Err q) (n, h) (m, k) = refuse_alike r q h k n m
 
-    pub accepting_of : (r : Refusal) → Refuses turns e pages steps r → Accepting turns e
+    pub accepting_of : (r : Refusal) → StageRefuses turns e pages steps r → Accepting turns e
     accepting_of r (in_search x w h) = x
     accepting_of r (in_erasure x w h) = x.before
     accepting_of r (in_passes x h) = x.before.before
@@ -316,7 +316,7 @@ module _ (turns : ℕ) (e : RawEnv) (pages steps : ℕ) (c : IsCompilable turns 
   late_of running.AnswerNodes h n status q = record { among = (2, lit< tt, sym q); many = λ z. (c.stages, h.1) }
   late_of running.Memory h n status q = absurd (n refl)
 
-  refuses_late : (r : Refusal) → Refuses turns e pages steps r → r ≢ refusals.Memory → Finishes turns e pages steps (status_of r)
+  refuses_late : (r : Refusal) → StageRefuses turns e pages steps r → r ≢ refusals.Memory → Finishes turns e pages steps (status_of r)
   refuses_late r (in_search x w h) n = absurd (no_search turns e pages steps c.search_within c.erasure_within r x w h n c.stages.before.before)
   refuses_late r (in_erasure x w h) n = absurd (no_erasure turns e pages steps c.search_within c.erasure_within r x w h n c.stages.before)
   refuses_late r (in_passes x h) n = absurd (no_passes turns e pages steps c.search_within c.erasure_within r x h n c.stages)
@@ -357,7 +357,7 @@ pub length_early : IsLate 7 → ⊥
 length_early h = early 7 h (lit≤ tt) (lit≤ tt) (λ q. omega (arith, q))
 
 -- what stops after the check stands in an environment that is well formed
-pub well_of : (turns : ℕ) (e : RawEnv) (pages steps : ℕ) (r : Refusal) → Refuses turns e pages steps r → IsWell e
+pub well_of : (turns : ℕ) (e : RawEnv) (pages steps : ℕ) (r : Refusal) → StageRefuses turns e pages steps r → IsWell e
 well_of turns e pages steps r h = (let x = accepting_of turns e pages steps r h in record { kept = x.kept; type = x.type; checked = x.checked })
 
 pub exec_status : (turns : ℕ) → (r : Refusal) (e : RawEnv) (pages steps status : ℕ) → IsCheckCause turns r e ⊎ IsExecCause turns pages steps r e → (IsSure r → ⊥) → ExecEndsWith turns e pages steps status → status ≡ status_of r

@@ -116,6 +116,8 @@ front_of_entry entries.Main = codes "no entry main"
 front_of_entry entries.Memory = codes "no entry memory"
 front_of_entry entries.Result = codes "no entry result"
 front_of_entry entries.Status = codes "no entry status"
+front_of_entry entries.Heap = codes "no entry heap"
+front_of_entry entries.Args = codes "no entry args"
 
 unfoldable pub front_of_module : ModuleFault → List ℕ
 front_of_module (modules.Bad o) = codes "bad module at "

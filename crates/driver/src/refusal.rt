@@ -233,6 +233,8 @@ fn entry_front(entry: Entry) -> &'static [u8]
         Entry::Memory => b"no entry memory",
         Entry::Result => b"no entry result",
         Entry::Status => b"no entry status",
+        Entry::Heap => b"no entry heap",
+        Entry::Args => b"no entry args",
     }
 }
 

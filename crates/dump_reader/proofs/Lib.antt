@@ -8,3 +8,4 @@ pub mod Universes
 pub mod Members
 pub mod Spelled
 pub mod Verdicts
+pub mod Fronts

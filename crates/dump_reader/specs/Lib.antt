@@ -6,3 +6,4 @@ pub mod Spelled
 pub mod Formed
 pub mod Growth
 pub mod Made
+pub mod Front

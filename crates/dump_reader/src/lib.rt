@@ -15,6 +15,7 @@
 pub mod declaration;
 mod declared;
 pub mod environment;
+mod front;
 mod lists;
 pub mod names;
 mod numbering;

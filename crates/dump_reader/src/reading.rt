@@ -1,5 +1,5 @@
 //! Reading a text as the environment that it spells.
-ghost use Rattle.std.specs.Prelude.{◌≡◌, ◌≢◌, ◌⊎◌, ℕ, List, [], length, Result, Ok, Err, IfOk, IfErr};
+ghost use Rattle.std.specs.Prelude.{◌≡◌, ◌≢◌, ◌≤◌, ◌⊎◌, ℕ, List, [], length, take, Result, Ok, Err, IfOk, IfErr};
 ghost use Rattle.sexp_reader.specs.Lex.{tokens_of};
 ghost use Rattle.dump_grammar.specs.declared.refusal.Foreign.{Foreign as Forms};
 ghost use Rattle.dump_grammar.specs.declared.refusal.Limit.{Limit as Limits};
@@ -11,9 +11,11 @@ ghost use Rattle.dump_grammar.specs.Law.{SyntaxAt, UnsupportedAt, LimitAt};
 ghost use Rattle.dump_grammar.specs.FirstRefusal.{IsFirstRefusal};
 ghost use Rattle.dump_reader.specs.declared.environment.RawEnv.{RawEnv as Env};
 ghost use Rattle.dump_reader.specs.NumberedEnvironment.{numbered};
-ghost use Rattle.dump_reader.specs.Spelling.{Spells, IsVerdict};
+ghost use Rattle.dump_reader.specs.Front.{front_length as length_of_front, front_bytes};
+ghost use Rattle.dump_reader.specs.Spelling.{Spells, IsVerdict, IsFrontVerdict, IsReadAs};
 
 use crate::environment::RawEnv;
+use crate::front::front_length;
 use crate::whole::environment_of;
 use dump_grammar::ReadRefusal;
 use dump_parser::parse;
@@ -40,6 +42,25 @@ fn read(alloc: Global, bytes: &[u8]) -> Result<RawEnv, ReadRefusal>
     let tree = parse(alloc, bytes)?;
     let env = environment_of(alloc, &tree)?;
     Ok(env)
+}
+
+/// The environment that a text begins with, and the offset behind its last bracket: the text up to the bracket that closes the first one is read as
+/// `read_env` reads a whole text, with its refusals, and what follows that bracket isn't looked at. Where the first bracket isn't closed, or a token
+/// before is refused, that is the whole text. Offsets are bytes from the start of the text. `Memory` comes only where there is no memory.
+pub fn read_call(alloc: Global, bytes: &[u8]) -> Result<(RawEnv, usize), ReadRefusal>
+    ensures exact { IsFrontVerdict bytes.now result }
+    ensures behind { IfOk result (λ read. read.1 ≡ length_of_front bytes.now) }
+    ensures within { IfOk result (λ read. read.1 ≤ length bytes.now) }
+    ensures spells { IfOk result (λ read. Spells (take read.1 bytes.now) read.0) }
+    ensures first { IfErr result (λ r. r ≢ Memory → IsFirstRefusal (length (front_bytes bytes.now)) (tokens_of (front_bytes bytes.now)) r) }
+    ensures syntax { (o : ℕ) → result ≡ Err (Syntax o) → SyntaxAt (length (front_bytes bytes.now)) (tokens_of (front_bytes bytes.now)) o }
+    ensures unsupported { (what : Forms) (o : ℕ) → result ≡ Err (Unsupported what o) → UnsupportedAt (tokens_of (front_bytes bytes.now)) what o }
+    ensures limit { (which : Limits) (o : ℕ) → result ≡ Err (Past which o) → LimitAt (tokens_of (front_bytes bytes.now)) which o }
+    ensures complete { (d : Dump) → texts (tokens_of (front_bytes bytes.now)) ≡ dump d [] → DumpIsWithin d → IsReadAs bytes.now d result }
+{
+    let end = front_length(bytes);
+    let env = read_env(alloc, &bytes[..end])?;
+    Ok((env, end))
 }
 
 /// A text spells one environment at most.

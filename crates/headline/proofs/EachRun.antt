@@ -10,7 +10,7 @@ use Rattle.wasm_core.specs.declared.ended.TrapKind.{TrapKind}
 use Rattle.wasm_core.specs.MachineStep.{State, Store, Over, Reach}
 use Rattle.wasm_core.specs.Runs.{store_of}
 use Rattle.wasm_core.specs.Answer.{Answers, Exhausted, exhausted}
-use Rattle.wasm_core.specs.WordData.{Data as Nodes}
+use Rattle.wasm_core.specs.WordData.{DataNodes as Nodes}
 use Rattle.wasm_core.proofs.Small.{inj}
 use Rattle.back_end.proofs.Bounds.{bounds}
 use Rattle.back_end.proofs.Total.{total_back_end}

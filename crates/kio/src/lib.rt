@@ -1,27 +1,30 @@
 //! Input and output by two traits: a `Source` gives bytes, a `Sink` takes bytes, and both count their faults.
 //!
-//! A source has two meanings, the bytes that it has still to give, where it tells them, and a count of faults; a sink has the
-//! bytes that it has taken, where it tells them, and the same kind of count. The traits' clauses say what one call does to them:
-//! `bound`, `bytes`, `tells`, `cause`, and for a write `some`. A count never falls, a call fails only where it rose, and a count
-//! that stands at u64's last value counts as risen.
+//! A source has three meanings, the bytes that it has still to give, where it tells them, a history of the pieces that its reads
+//! gave, and a count of faults; a sink has the bytes that it has taken, where it tells them, those that its writes took, and the
+//! same kind of count. The traits' clauses say what one call does to them: `bound`, `bytes`, `tells`, `history`, `cause`, and for a
+//! write `some`. A count never falls, a call fails only where it rose, and a count that stands at u64's last value counts as risen.
 //!
 //! What is promised: `read_all` gives the whole input where it has at most `limit` bytes (`bytes`, `rest`), refuses it as too
 //! long exactly where more came, says Fault only where the count rose (`cause`), and makes at most `limit + 2` reads (`cost` of
 //! `read_all_counted`). `write_all` writes all the bytes (`all`); it fails only where the count rose (`cause`), and then exactly
-//! the first `written` bytes went out (`part`). The objects in memory are exact to the call (`exact`).
+//! the first `written` bytes went out (`part`). By the histories both say so of each source and sink (`history`, `received`): the
+//! input is what the reads of this call gave before one met its end. The objects in memory are exact to the call (`exact`).
 //!
-//! Below stand `thiserror` and std; `ReaderSource` and `WriterSink` are the edge to std, and that a real stream behaves as it says
-//! is not proved. Above stand `dump_printer`, `driver` and the program `erasec`.
+//! Below stand `thiserror` and std; `ReaderSource` and `WriterSink` are the edge to std: their histories are what std's read and
+//! write answered, and that a real stream behaves as it says is not proved. Above stand `dump_printer`, `driver` and the program `erasec`.
 #![tactic(auto)]
 
-ghost use Rattle.std.specs.Prelude.{◌≡◌, ℕ, ◌+◌, ◌≤◌, ◌<◌, List, length, take, Option, IfOk, IfErr, OnOk};
+ghost use Rattle.std.specs.Prelude.{◌≡◌, ℕ, ◌+◌, ◌≤◌, ◌<◌, List, ◌++◌, length, take, Option, Some, IfOk, IfErr, OnOk};
 ghost use Rattle.std.specs.Io.{ReadsAtMost, WritesAtMost};
 ghost use Rattle.std.specs.Io.KnownBytes.{ReadConsumes, WriteAppends, Appends};
 ghost use Rattle.kio.specs.Causes.{HasCause, Rose};
 ghost use Rattle.kio.specs.Known.{StillTells, ReadsInput, LeavesRest};
+ghost use Rattle.kio.specs.Histories.{GivesAll, IsLater, ReadGives};
 ghost use Rattle.kio.specs.declared.ReadAll.TheVariants.{Memory};
 
 mod adapters;
+mod history;
 mod memory;
 mod steps;
 
@@ -77,16 +80,19 @@ impl<T: Drop> From<AllocFailed<T>> for ReadAll {
 pub trait Source {
     /// The bytes that it has still to give, where the source tells them.
     ghost left: { Self → Option (List ℕ) };
+    /// What its reads gave so far: a piece for each read into a buffer with room, an empty one where it met the end of the input.
+    ghost given: { Self → List (List ℕ) };
     /// A count of faults, which never falls.
     ghost faults: { Self → ℕ };
 
     /// Gives a prefix of the bytes that are left: as many as it answers, at most the buffer's length, at the buffer's front. It
     /// gives 0 into a buffer that isn't empty only at the end of input. It fails only where the count of faults rose, and then
-    /// gives nothing.
+    /// gives nothing. What it gave is the last piece of the history.
     fn read(&mut self, buf: &mut [u8]) -> Result<usize, Failed>
         ensures bound { ReadsAtMost result buf.new }
         ensures bytes { ReadConsumes (left self.old) (left self.new) result buf.new }
         ensures tells { StillTells (left self.old) (left self.new) }
+        ensures history { ReadGives (given self.old) (given self.new) result buf.new }
         ensures cause { HasCause (faults self.old) (faults self.new) result };
 }
 
@@ -94,6 +100,8 @@ pub trait Source {
 pub trait Sink {
     /// The bytes that it has taken, where the sink tells them.
     ghost taken: { Self → Option (List ℕ) };
+    /// The bytes that its writes took so far.
+    ghost received: { Self → List ℕ };
     /// A count of faults, which never falls.
     ghost faults: { Self → ℕ };
 
@@ -104,6 +112,7 @@ pub trait Sink {
         ensures some { IfOk result (λ n. 0 < length piece.now → 0 < n) }
         ensures bytes { WriteAppends (taken self.old) (taken self.new) result piece.now }
         ensures tells { StillTells (taken self.old) (taken self.new) }
+        ensures history { WriteAppends (Some (received self.old)) (Some (received self.new)) result piece.now }
         ensures cause { HasCause (faults self.old) (faults self.new) result };
 }
 
@@ -113,6 +122,8 @@ pub fn write_all<K: Sink>(out: &mut K, bytes: &[u8]) -> Result<(), WriteFault>
     ensures all { OnOk result (Appends (K.taken out.old) (K.taken out.new) bytes.now) }
     ensures part { IfErr result (λ f. (f.written ≤ length bytes.now) × Appends (K.taken out.old) (K.taken out.new) (take f.written bytes.now)) }
     ensures tells { StillTells (K.taken out.old) (K.taken out.new) }
+    ensures received { OnOk result (K.received out.new ≡ K.received out.old ++ bytes.now) }
+    ensures received_part { IfErr result (λ f. K.received out.new ≡ K.received out.old ++ take f.written bytes.now) }
     ensures cause { HasCause (K.faults out.old) (K.faults out.new) result }
 {
     let mut done = 0;
@@ -134,6 +145,7 @@ fn read_once<S: Source, L: Ledger>(
     ensures bound { ReadsAtMost result buf.new }
     ensures bytes { ReadConsumes (S.left src.old) (S.left src.new) result buf.new }
     ensures tells { StillTells (S.left src.old) (S.left src.new) }
+    ensures history { ReadGives (S.given src.old) (S.given src.new) result buf.new }
     ensures cause { HasCause (S.faults src.old) (S.faults src.new) result }
     ensures one { steps.new ≡ steps.old + 1 }
 {
@@ -151,6 +163,8 @@ pub fn read_all_counted<S: Source, L: Ledger>(
     ensures bytes { ReadsInput (λ v. v.items) result limit (S.left src.old) (S.left src.new) }
     ensures rest { LeavesRest result limit (S.left src.old) (S.left src.new) }
     ensures tells { StillTells (S.left src.old) (S.left src.new) }
+    ensures grows { IsLater (S.given src.old) (S.given src.new) }
+    ensures history { GivesAll (λ v. v.items) result limit (S.given src.old) (S.given src.new) }
     ensures later { S.faults src.old ≤ S.faults src.new }
     ensures cause { result ≡ Err ReadAll.Fault → Rose (S.faults src.old) (S.faults src.new) }
     ensures cost { steps.new ≤ steps.old + limit + 2 }
@@ -183,6 +197,8 @@ fn read_all_from<S: Source, L: Ledger>(
     ensures bytes { ReadsInput (λ v. v.items) result limit (S.left src.old) (S.left src.new) }
     ensures rest { LeavesRest result limit (S.left src.old) (S.left src.new) }
     ensures tells { StillTells (S.left src.old) (S.left src.new) }
+    ensures grows { IsLater (S.given src.old) (S.given src.new) }
+    ensures history { GivesAll (λ v. v.items) result limit (S.given src.old) (S.given src.new) }
     ensures later { S.faults src.old ≤ S.faults src.new }
     ensures cause { result ≡ Err ReadAll.Fault → Rose (S.faults src.old) (S.faults src.new) }
 {
@@ -193,12 +209,14 @@ fn read_all_from<S: Source, L: Ledger>(
 /// The whole input, if it has at most `limit` bytes.
 ///
 /// TooLong comes exactly where the source gave more than `limit` bytes in this call, Fault only where the count of faults rose
-/// in this call, and Memory where there is no memory for the bytes. Where the source tells its bytes, what it gave and what is
-/// left are what was left before. It makes at most `limit + 2` reads: that is a clause of `read_all_counted`.
+/// in this call, and Memory where there is no memory for the bytes. The input is what the reads of this call gave, up to one that met
+/// its end (`history`). Where the source tells its bytes, what it gave and what is left are what was left before. It makes at most `limit + 2` reads: that is a clause of `read_all_counted`.
 pub fn read_all<S: Source>(alloc: Global, src: &mut S, limit: usize) -> Result<Vec<u8>, ReadAll>
     ensures bytes { ReadsInput (λ v. v.items) result limit (S.left src.old) (S.left src.new) }
     ensures rest { LeavesRest result limit (S.left src.old) (S.left src.new) }
     ensures tells { StillTells (S.left src.old) (S.left src.new) }
+    ensures grows { IsLater (S.given src.old) (S.given src.new) }
+    ensures history { GivesAll (λ v. v.items) result limit (S.given src.old) (S.given src.new) }
     ensures later { S.faults src.old ≤ S.faults src.new }
     ensures cause { result ≡ Err ReadAll.Fault → Rose (S.faults src.old) (S.faults src.new) }
 {

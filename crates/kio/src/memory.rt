@@ -3,9 +3,11 @@ ghost use Rattle.std.specs.Prelude.{◌≡◌, ◌<◌, IfOk, Some, [], length};
 ghost use Rattle.kio.specs.Memory.{MemReads, MemWrites};
 ghost use Rattle.kio.specs.Causes.{HasCause};
 ghost use Rattle.kio.specs.Known.{StillTells};
+ghost use Rattle.kio.specs.Histories.{ReadGives};
 ghost use Rattle.std.specs.Io.{ReadsAtMost, WritesAtMost};
 ghost use Rattle.std.specs.Io.KnownBytes.{ReadConsumes, WriteAppends};
 
+use crate::history::History;
 use crate::{Failed, Sink, Source};
 use std::alloc::Global;
 use std::marker::Model;
@@ -16,6 +18,7 @@ use std::marker::Model;
 pub struct MemSource {
     bytes: Vec<u8>,
     at: usize,
+    history: History,
     fails: Vec<u64>,
     calls: u64,
     faults: u64,
@@ -27,7 +30,7 @@ impl Model for MemSource {
 
     ghost Value = { SourceState };
 
-    ghost view = { λ s. record { left = drop s.at s.bytes.items; fails = s.fails.items; calls = s.calls; faults = s.faults } };
+    ghost view = { λ s. record { left = drop s.at s.bytes.items; given = s.history.pieces; fails = s.fails.items; calls = s.calls; faults = s.faults } };
 
     ghost invariant = { λ s. s.at ≤ length s.bytes.items };
 }
@@ -35,11 +38,12 @@ impl Model for MemSource {
 impl MemSource {
     /// A source that gives these bytes, and fails at the calls with these numbers. It takes no memory and has no refusal.
     pub fn new(bytes: Vec<u8>, fails: Vec<u64>) -> Self
-        ensures fresh { result ≡ record { left = bytes.items; fails = fails.items; calls = 0; faults = 0 } }
+        ensures fresh { result ≡ record { left = bytes.items; given = []; fails = fails.items; calls = 0; faults = 0 } }
     {
         MemSource {
             bytes,
             at: 0,
+            history: History::new(),
             fails,
             calls: 0,
             faults: 0,
@@ -50,6 +54,8 @@ impl MemSource {
 impl Source for MemSource {
     ghost left = { λ s. Some s.left };
 
+    ghost given = { λ s. s.given };
+
     ghost faults = { λ s. s.faults };
 
     /// Gives as many of its bytes as there is room for, or fails where the call's number is listed.
@@ -57,6 +63,7 @@ impl Source for MemSource {
         ensures bound { ReadsAtMost result buf.new }
         ensures bytes { ReadConsumes (Some self.old.left) (Some self.new.left) result buf.new }
         ensures tells { StillTells (Some self.old.left) (Some self.new.left) }
+        ensures history { ReadGives self.old.given self.new.given result buf.new }
         ensures cause { HasCause self.old.faults self.new.faults result }
         ensures exact { MemReads self.old self.new result buf.new }
     {
@@ -68,6 +75,9 @@ impl Source for MemSource {
         let n = buf.len().min(self.bytes.len() - self.at);
         buf[..n].copy_from_slice(&self.bytes[self.at..self.at + n]);
         self.at += n;
+        if !buf.is_empty() {
+            self.history.add(&buf[..n]);
+        }
         Ok(n)
     }
 }
@@ -121,6 +131,8 @@ impl MemSink {
 impl Sink for MemSink {
     ghost taken = { λ s. Some s.taken };
 
+    ghost received = { λ s. s.taken };
+
     ghost faults = { λ s. s.faults };
 
     /// Takes the first `most` bytes of the piece, or all of a shorter one. It fails where the call's number is listed, and
@@ -130,6 +142,7 @@ impl Sink for MemSink {
         ensures some { IfOk result (λ n. 0 < length piece.now → 0 < n) }
         ensures bytes { WriteAppends (Some self.old.taken) (Some self.new.taken) result piece.now }
         ensures tells { StillTells (Some self.old.taken) (Some self.new.taken) }
+        ensures history { WriteAppends (Some self.old.taken) (Some self.new.taken) result piece.now }
         ensures cause { HasCause self.old.faults self.new.faults result }
         ensures exact { MemWrites self.old self.new result piece.now }
     {

@@ -6,7 +6,7 @@ use Rattle.anf_convert.specs.AnfEvaluation.{AnfVal, WNil, AnfAnswers}
 use Rattle.anf_convert.specs.AnfForm.{AnfFormed}
 use Rattle.anf_convert.specs.Preorder.{fields_of as count, preorder}
 use Rattle.closure_lift.specs.Lift.{lift}
-use Rattle.closure_lift.specs.Lifted.{Program, Val, Vals, VNil, Answers as Evaluates}
+use Rattle.closure_lift.specs.Lifted.{Program, Val, Vals, VNil, LiftedAnswers as Evaluates}
 use Rattle.closure_lift.specs.LiftedForm.{Formed, Limits as IsWithin}
 use Rattle.closure_lift.specs.LiftKeeps.{IsData, AreData}
 use Rattle.wasm_core.specs.declared.entries.Entry.TheVariants.{Main, Status}
@@ -20,7 +20,7 @@ use Rattle.wasm_core.specs.ModuleTyping.{IsValid}
 use Rattle.wasm_core.specs.ModuleCondition.{IsModule}
 use Rattle.wasm_core.specs.Runs.{main_start, store_of}
 use Rattle.wasm_core.specs.Answer.{global_of, IsAnswer, AnswersWithin, Answers, Exhausted, IsAtEnd}
-use Rattle.wasm_core.specs.WordData.{Data as Nodes}
+use Rattle.wasm_core.specs.WordData.{DataNodes as Nodes}
 use Rattle.wasm_core.specs.RunTree.{Fate}
 use Rattle.wasm_emit.specs.EmitLaws.{CountsFit, Spent}
 use Rattle.wasm_emit.specs.EmittedModule.{type_main}

@@ -12,6 +12,8 @@ fn entry_name(entry: Entry) -> &'static str {
         Entry::Memory => "memory",
         Entry::Result => "result",
         Entry::Status => "status",
+        Entry::Heap => "heap",
+        Entry::Args => "args",
     }
 }
 

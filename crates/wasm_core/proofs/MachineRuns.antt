@@ -6,7 +6,7 @@ use Rattle.wasm_core.specs.MachineStep.{State, At, Over, Reach}
 use Rattle.wasm_core.specs.Runs.{Moves, main_start}
 use Rattle.wasm_core.specs.Answer.{IsAtEnd}
 use Rattle.wasm_core.specs.MachineRun.{MachineShown, IsFreshMachine, HasEndedAs}
-use Rattle.wasm_core.specs.Laws.{EndedAnswers, SpentIsFew}
+use Rattle.wasm_core.specs.Laws.{EndedAnswers, SpentIsFew, EndedAnswersFrom, SpentIsFewFrom}
 use Rattle.wasm_core.proofs.Small.{inj}
 use Rattle.wasm_core.proofs.Trees.{moves_are_steps}
 
@@ -27,3 +27,10 @@ ended_answers m cap most k d a b e fresh ran over h =
 
 pub spent_few : SpentIsFew
 spent_few m cap most k d a b fresh ran h = h.bounded k b.state (ran_from m cap a b k h.first fresh h.starts ran.moves)
+
+pub ended_from : EndedAnswersFrom
+ended_from most k d a b e ran over h =
+    let r = moves_are_steps a.program a.cap k a.state b.state ran.moves in (h.bounded k b.state r, h.answers k b.state r (over_ends a.program e b.state over))
+
+pub spent_from : SpentIsFewFrom
+spent_from most k d a b ran h = h.bounded k b.state (moves_are_steps a.program a.cap k a.state b.state ran.moves)

@@ -12,11 +12,12 @@ use Rattle.wasm_core.specs.declared.entries.Entry.TheVariants.{Main}
 use Rattle.wasm_core.specs.Parts.{Parts}
 use Rattle.wasm_core.specs.Instance.{Func, func_of, zero_of, segments_fit}
 use Rattle.wasm_core.specs.ModuleTyping.{OperandTypes, Of, known, type_of, IsValid, Globals, results_of}
-use Rattle.wasm_core.specs.MachineStep.{State, At, Over, StepsTo, Reach}
+use Rattle.wasm_core.specs.MachineStep.{Store, State, At, Over, StepsTo, Reach}
 use Rattle.wasm_core.specs.Entries.{index_of, fitting, named, name_of, as_func, typed_func, from_nothing}
-use Rattle.wasm_core.specs.Runs.{start, start_at, main_start, HasSteps}
-use Rattle.wasm_core.specs.Safe.{HasType, is_i32, is_i64, HaveTypes, no_values, values, Goes, goes, fin, GoodState}
-use Rattle.wasm_core.specs.Laws.{NeverStuck, StepsAreDetermined}
+use Rattle.wasm_core.specs.Runs.{start, start_at, main_start, first_store, HasSteps}
+use Rattle.wasm_core.specs.HostStore.{start_in, start_at_in, main_start_in, with_store}
+use Rattle.wasm_core.specs.Safe.{HasType, is_i32, is_i64, HaveTypes, no_values, values, Goes, goes, fin, GoodState, global_types}
+use Rattle.wasm_core.specs.Laws.{NeverStuck, HostedNeverStuck, HostedStarts, StepsAreDetermined}
 use Rattle.wasm_core.proofs.Small.{inj, no, some_of}
 use Rattle.wasm_core.proofs.Values.{zeros_have}
 use Rattle.wasm_core.proofs.Functions.{found_at}
@@ -81,19 +82,42 @@ first_locals : (ps bs : OperandTypes) → ps ≡ [] → HaveTypes (reverse (take
 first_locals [] bs e = zeros_have bs
 first_locals (p ∷ ps) bs e = cc
 
-pub start_good : (m : Parts) → IsValid m → (first : State) → main_start m ≡ Some first → GoodState m first
-start_good m valid first e =
+pub hosted_starts : HostedStarts
+hosted_starts m st first e =
     let s = started m first e in
+    ap (λ (b : Bool). if b then option_and_then (λ f. start_at_in m st f) (index_of Main m) else None) s.fits
+    ∙ ap (option_and_then (λ f. start_at_in m st f)) s.exported
+    ∙ ap (option_and_then (λ (g : Func). Some (start_in st g))) s.is
+    ∙ ap (λ (x : State). Some (with_store x st)) (sym s.starts)
+
+-- what a start in a store says
+pub record StartedIn (m : Parts) (s : Store) (first : State) : Type 0 where
+  pub index : ℕ
+  pub func : Func
+  pub exported : index_of Main m ≡ Some index
+  pub is : func_of m index ≡ Some func
+  pub starts : first ≡ start_in s func
+
+pub started_in : (m : Parts) (s : Store) (first : State) → main_start_in m s ≡ Some first → StartedIn m s first
+started_in m s first e =
+    let (fits, e0) = if_some (segments_fit m) (option_and_then (λ f. start_at_in m s f) (index_of Main m)) first e in
+    let (f, hf, e1) = some_of (λ f. start_at_in m s f) (index_of Main m) first e0 in
+    let (g, hg, e2) = some_of (λ (g : Func). Some (start_in s g)) (func_of m f) first e1 in
+    record { index = f; func = g; exported = hf; is = hg; starts = sym (inj e2) }
+
+pub good_in : (m : Parts) → IsValid m → (s : Store) (first : State) → HaveTypes s.globals (global_types m) → main_start_in m s ≡ Some first → GoodState m first
+good_in m valid st first typed e =
+    let s = started_in m st first e in
     let h = main_there m s.index s.exported in
     let (x, t) = found_at m valid s.index h.index h.is_func in
     let same : x.func ≡ s.func = inj (sym x.is ∙ s.is) in
     let none : x.func.type.params ≡ [] = ap (λ (u : FuncType). u.params) (inj (sym t ∙ h.is_type)) ∙ h.no_params in
-    subst (GoodState m) (ap (start m) same ∙ sym s.starts)
+    subst (GoodState m) (ap (start_in st) same ∙ sym s.starts)
     (record {
       ls = x.func.type.params ++ x.func.body.locals;
       rs = results_of x.func.type;
       chain = tt;
-      globals = first_globals m.globals (valid.outside Globals);
+      globals = typed;
       runs = record {
         labels = results_of x.func.type ∷ [];
         ts = [];
@@ -103,6 +127,12 @@ start_good m valid first e =
         goes_on = subst (Goes m (x.func.type.params ++ x.func.body.locals) (results_of x.func.type) [] (results_of x.func.type ∷ []) []) (sym x.typed.ends) (goes x.typed.typed (fin x.typed.matched));
       };
     })
+
+pub first_typed : (m : Parts) → IsValid m → HaveTypes (first_store m).globals (global_types m)
+first_typed m valid = first_globals m.globals (valid.outside Globals)
+
+pub start_good : (m : Parts) → IsValid m → (first : State) → main_start m ≡ Some first → GoodState m first
+start_good m valid first e = good_in m valid (first_store m) first (first_typed m valid) e
 
 good_step : (m : Parts) → IsValid m → (s t : State) (granted : Bool) → GoodState m s → StepsTo m granted s t → GoodState m t
 good_step m valid (At c) t granted good e = stays_good m granted c t valid good e
@@ -118,6 +148,9 @@ good_steps m valid (Over e store) good = tt
 
 pub never_stuck : NeverStuck
 never_stuck m first k t valid e r = good_steps m valid t (good_reach m valid k first t (start_good m valid first e) r)
+
+pub hosted_never_stuck : HostedNeverStuck
+hosted_never_stuck m s first k t valid ready e r = good_steps m valid t (good_reach m valid k first t (good_in m valid s first ready.typed e) r)
 
 pub determined : StepsAreDetermined
 determined m granted (At c) t u a b = inj (sym a ∙ b)

@@ -13,7 +13,7 @@ use Rattle.wasm_core.specs.Parts.{Parts}
 use Rattle.wasm_core.specs.Memory.{byte, word, put_byte, put_word}
 use Rattle.wasm_core.specs.Arithmetic.{is_unary, unary, binary}
 use Rattle.wasm_core.specs.Instance.{Func, func_of, table_of}
-use Rattle.wasm_core.specs.MachineStep.{after_end, BlockLabel, Frame, Store, Conf, State, At, step, act, arm, branch, jump, leave, back, leave_block, at_end, call, call_entry, same_func_type, frame_of, has_value, enter, on_some, on_i32, going_on, storing, within, operation, unless_zero, trap, grown, next}
+use Rattle.wasm_core.specs.MachineStep.{after_end, BlockLabel, Frame, Store, Conf, State, At, act, arm, branch, jump, leave, back, leave_block, at_end, call, call_entry, same_func_type, frame_of, has_value, enter, on_some, on_i32, going_on, storing, within, operation, unless_zero, trap, grown, next}
 use Rattle.wasm_core.specs.Runs.{store_of}
 use Rattle.wasm_core.proofs.Bits.{put_byte_length, put_word_length}
 use Rattle.wasm_core.proofs.Gives.{Gives, g_some, g_if, a_i32, a_one, a_taking}

@@ -1,15 +1,18 @@
 -- What a tree of runs says of each run.
 use Rattle.std.proofs.Common.{◌≡◌, ℕ, zero, suc, ◌≤◌, Bool, true, false, refl, sym, ◌∙◌, subst, arith, inl, inr}
 use Rattle.std.specs.Prelude.{◌⊎◌}
+use Rattle.wasm_core.specs.declared.ended.Ended.{Ended}
 use Rattle.wasm_core.specs.Parts.{Parts}
-use Rattle.wasm_core.specs.MachineStep.{State, At, Over, StepsTo, Reach}
+use Rattle.wasm_core.specs.ModuleTyping.{IsValid}
+use Rattle.wasm_core.specs.Safe.{GoodState}
+use Rattle.wasm_core.specs.MachineStep.{Store, State, At, Over, StepsTo, Reach}
 use Rattle.wasm_core.specs.Runs.{Move, grants}
 use Rattle.wasm_core.specs.WordData.{DataNodes}
 use Rattle.wasm_core.specs.Answer.{Answers, answers, Exhausted, exhausted, IsAtEnd}
 use Rattle.wasm_core.specs.RunTree.{Within, now, gone, moves, Fate, goes_on, ended, ran_out}
-use Rattle.wasm_core.specs.Laws.{EndsAreOver, MovesAreSteps, TreeAnswers}
+use Rattle.wasm_core.specs.Laws.{EndsAreOver, HostedEndsAreOver, MovesAreSteps, TreeAnswers}
 use Rattle.wasm_core.proofs.Small.{inj}
-use Rattle.wasm_core.proofs.Starting.{start_good, good_reach, good_steps}
+use Rattle.wasm_core.proofs.Starting.{start_good, good_in, good_reach, good_steps}
 
 -- the same steps, the first one first
 abbrev Walk : Parts → ℕ → State → State → Type 0
@@ -70,7 +73,12 @@ pub moves_are_steps : MovesAreSteps
 moves_are_steps m cap zero s t h = h
 moves_are_steps m cap (suc k) s t (mid, r, h) = (mid, moves_are_steps m cap k s mid r, move_step m cap mid t h)
 
+good_is_over : (m : Parts) → IsValid m → (t : State) → GoodState m t → IsAtEnd m t → (e : Ended) × (store : Store) × (t ≡ Over e store)
+good_is_over m valid (At c) good last = let (s, h) = good_steps m valid (At c) good true in absurd (last true s h)
+good_is_over m valid (Over end store) good last = (end, store, refl)
+
 pub ends_are_over : EndsAreOver
-ends_are_over m first k (At c) valid e r last =
-    let (s, h) = good_steps m valid (At c) (good_reach m valid k first (At c) (start_good m valid first e) r) true in absurd (last true s h)
-ends_are_over m first k (Over end store) valid e r last = (end, store, refl)
+ends_are_over m first k t valid e r last = good_is_over m valid t (good_reach m valid k first t (start_good m valid first e) r) last
+
+pub hosted_ends_are_over : HostedEndsAreOver
+hosted_ends_are_over m s first k t valid ready e r last = good_is_over m valid t (good_reach m valid k first t (good_in m valid s first ready.typed e) r) last

@@ -22,15 +22,16 @@ use Rattle.wasm_core.specs.Arithmetic.{is_unary, unary, binary}
 use Rattle.wasm_core.specs.Instance.{Func, func_of, func_with, least, greatest_pages, table_of, zero_of}
 use Rattle.wasm_core.specs.MachineStep.{Bracket, Opens, Divides, Closes, Plain, bracket, past_end, after_end, to_else, else_arm, BlockLabel, Frame, Store, Conf, State, At, Over, step, act, arm, branch, jump, leave, back, leave_block, at_end, call, call_entry, same_func_type, frame_of, has_value, enter, on_some, on_i32, going_on, storing, within, operation, unless_zero, trap, grown, StepsTo, Reach}
 use Rattle.wasm_core.specs.ModuleTyping.{AreLimits}
-use Rattle.wasm_core.specs.Runs.{start}
+use Rattle.wasm_core.specs.Runs.{first_store}
+use Rattle.wasm_core.specs.HostStore.{start_in, main_start_in}
 use Rattle.wasm_core.specs.ModuleCondition.{All as Each}
 use Rattle.wasm_core.specs.Words.{IsWord, HasWord, IsByte, HasWords, IsLabel, IsFrame, IsStore, IsConf, IsWordy}
-use Rattle.wasm_core.specs.Laws.{WordsStay}
+use Rattle.wasm_core.specs.Laws.{WordsStay, HostedWordsStay, FirstIsReady}
 use Rattle.wasm_core.proofs.Small.{inj, some_of}
 use Rattle.wasm_core.proofs.Eaches.{each_append, each_reverse, each_take, each_drop, each_get, each_set, each_replicate, each_map, each_all}
 use Rattle.wasm_core.proofs.Bits.{unary_small, binary_small, byte_small, word_small, put_byte_bytes, put_word_bytes, put_byte_length, put_word_length}
 use Rattle.wasm_core.proofs.Gives.{Gives, gives_at, g_some, g_if, g_i32, g_one, g_taking}
-use Rattle.wasm_core.proofs.Starting.{started}
+use Rattle.wasm_core.proofs.Starting.{started_in, first_typed}
 
 past_words : (b : Bracket) (d : ℕ) (go : ℕ → List Instr) (rest : List Instr) → ((e : ℕ) → Each HasWord (go e)) → Each HasWord rest → Each HasWord (past_end b d go rest)
 past_words Opens d go rest h r = h (suc d)
@@ -288,14 +289,17 @@ module _ (m : Parts) (hm : HasWords m) (g : Bool) where
 first_words : (gs : List GlobalDef) → Each (λ (g : GlobalDef). IsWord g.init) gs → Each IsWord (map (λ (g : GlobalDef). g.init) gs)
 first_words gs h = each_map IsWord (λ (g : GlobalDef). g.init) gs h
 
-start_words : (m : Parts) → HasWords m → (f : ℕ) (g : Func) → func_of m f ≡ Some g → IsWordy (start m g)
-start_words m hm f g e = record {
-  store = record {
-    pages = (pages_of m.memory hm.memory).1;
-    size = zeroed_length (least m.memory);
-    bytes = zeroed_bytes (least m.memory);
-    globals = first_words m.globals hm.globals;
-  };
+first_store_words : (m : Parts) → HasWords m → IsStore (first_store m)
+first_store_words m hm = record {
+  pages = (pages_of m.memory hm.memory).1;
+  size = zeroed_length (least m.memory);
+  bytes = zeroed_bytes (least m.memory);
+  globals = first_words m.globals hm.globals;
+}
+
+start_words : (m : Parts) → HasWords m → (s : Store) → IsStore s → (f : ℕ) (g : Func) → func_of m f ≡ Some g → IsWordy (start_in s g)
+start_words m hm s hs f g e = record {
+  store = hs;
   current = record {
     locals = each_append IsWord (reverse (take (length g.type.params) [])) (map zero_of g.body.locals) (each_reverse IsWord (take (length g.type.params) []) (each_take IsWord (length g.type.params) [] tt)) (each_map IsWord zero_of g.body.locals
         (each_all (λ t. IsWord (zero_of t)) zero_word g.body.locals));
@@ -314,6 +318,15 @@ word_reach : (m : Parts) → HasWords m → (k : ℕ) (s t : State) → IsWordy 
 word_reach m hm zero s t h r = subst IsWordy r h
 word_reach m hm (suc k) s t h (mid, r, (granted, e)) = word_step m hm mid t granted (word_reach m hm k s mid h r) e
 
+words_from : (m : Parts) (st : Store) (first : State) (k : ℕ) (t : State) → HasWords m → IsStore st → main_start_in m st ≡ Some first → Reach m k first t → IsWordy t
+words_from m st first k t hm hs e r =
+    let s = started_in m st first e in word_reach m hm k first t (subst IsWordy (sym s.starts) (start_words m hm st hs s.index s.func s.is)) r
+
 pub words_stay : WordsStay
-words_stay m first k t hm e r =
-    let s = started m first e in word_reach m hm k first t (subst IsWordy (sym s.starts) (start_words m hm s.index s.func s.is)) r
+words_stay m first k t hm e r = words_from m (first_store m) first k t hm (first_store_words m hm) e r
+
+pub hosted_words_stay : HostedWordsStay
+hosted_words_stay m s first k t hm ready e r = words_from m s first k t hm ready.words e r
+
+pub first_is_ready : FirstIsReady
+first_is_ready m valid hm = record { typed = first_typed m valid; words = first_store_words m hm }

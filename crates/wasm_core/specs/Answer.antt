@@ -52,6 +52,11 @@ pub record AnswersWithin (m : Parts) (most : ℕ) (d : DataNodes) : Type 0 where
   pub bounded : (k : ℕ) (t : State) → Reach m k first t → k ≤ most
   pub answers : (k : ℕ) (t : State) → Reach m k first t → IsAtEnd m t → Answers m d t ⊎ Exhausted m t
 
+-- no run from this state is longer than so many steps, whichever grows are refused, and each one that can go no further answers the data or is exhausted
+pub record AnswersFrom (m : Parts) (most : ℕ) (d : DataNodes) (first : State) : Type 0 where
+  pub bounded : (k : ℕ) (t : State) → Reach m k first t → k ≤ most
+  pub answers : (k : ℕ) (t : State) → Reach m k first t → IsAtEnd m t → Answers m d t ⊎ Exhausted m t
+
 -- every run that is long enough answers the data or is exhausted
 abbrev pub AlwaysAnswers : Parts → DataNodes → Type 0
 AlwaysAnswers m d = (most : ℕ) × AnswersWithin m most d

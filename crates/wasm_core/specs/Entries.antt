@@ -17,6 +17,8 @@ name_of entry.Main = codes "main"
 name_of entry.Memory = codes "memory"
 name_of entry.Result = codes "result"
 name_of entry.Status = codes "status"
+name_of entry.Heap = codes "heap"
+name_of entry.Args = codes "args"
 
 -- the export with this name
 abbrev pub named : List ℕ → List Export → Option Export
@@ -66,9 +68,11 @@ fitting entry.Main m e = option_and_then (λ f. typed_func m f) (as_func e.kind 
 fitting entry.Memory m e = as_memory e.kind e.index
 fitting entry.Result m e = option_and_then (λ x. typed_global m x) (as_global e.kind e.index)
 fitting entry.Status m e = option_and_then (λ x. typed_global m x) (as_global e.kind e.index)
+fitting entry.Heap m e = option_and_then (λ x. typed_global m x) (as_global e.kind e.index)
+fitting entry.Args m e = option_and_then (λ x. typed_global m x) (as_global e.kind e.index)
 
 -- the index of an entry, where the export of its name is of its kind and type:
--- `main` a function from nothing to nothing, `memory` a memory, `result` and `status` mutable i32 globals
+-- `main` a function from nothing to nothing, `memory` a memory, `result`, `status`, `heap` and `args` mutable i32 globals
 abbrev pub index_of : Entry → Parts → Option ℕ
 index_of n m = option_and_then (λ e. fitting n m e) (named (name_of n) m.exports)
 
@@ -76,12 +80,20 @@ abbrev pub or_missing : Entry → Option ℕ → Option Entry → Option Entry
 or_missing n None others = Some n
 or_missing n (Some i) others = others
 
--- the first entry that is missing
-abbrev pub missing : Parts → Option Entry
-missing m =
+-- the first entry that is missing of the four that a run asks for, or one that is missing behind them
+abbrev pub missing_before : Parts → Option Entry → Option Entry
+missing_before m others =
     or_missing entry.Main (index_of entry.Main m)
     (or_missing entry.Memory (index_of entry.Memory m)
-    (or_missing entry.Result (index_of entry.Result m) (or_missing entry.Status (index_of entry.Status m) None)))
+    (or_missing entry.Result (index_of entry.Result m) (or_missing entry.Status (index_of entry.Status m) others)))
+
+-- the first entry that is missing, where a host gives no arguments
+abbrev pub missing : Parts → Option Entry
+missing m = missing_before m None
+
+-- the first entry that is missing, where a host gives arguments: it asks for `heap` and `args` too
+abbrev pub missing_for_call : Parts → Option Entry
+missing_for_call m = missing_before m (or_missing entry.Heap (index_of entry.Heap m) (or_missing entry.Args (index_of entry.Args m) None))
 
 -- the entry is a global
 abbrev pub IsGlobalEntry : Entry → Type 0
@@ -89,3 +101,5 @@ IsGlobalEntry entry.Main = ⊥
 IsGlobalEntry entry.Memory = ⊥
 IsGlobalEntry entry.Result = Unit {0}
 IsGlobalEntry entry.Status = Unit {0}
+IsGlobalEntry entry.Heap = Unit {0}
+IsGlobalEntry entry.Args = Unit {0}

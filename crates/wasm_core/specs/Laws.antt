@@ -5,15 +5,16 @@ use Rattle.wasm_core.specs.Parts.{Parts}
 use Rattle.wasm_core.specs.MachineStep.{Store, State, Over, StepsTo, Reach}
 use Rattle.wasm_core.specs.ModuleTyping.{OperandTypes, TypedBody, IsValid}
 use Rattle.wasm_core.specs.FirstFault.{CanGoOn, IsFaultAt, FirstFault}
-use Rattle.wasm_core.specs.Runs.{main_start, HasSteps, store_of, Moves}
+use Rattle.wasm_core.specs.Runs.{main_start, first_store, HasSteps, store_of, Moves}
+use Rattle.wasm_core.specs.HostStore.{main_start_in, with_store, IsReady, IsForCall}
 use Rattle.wasm_core.specs.Words.{HasWords, IsWordy}
 use Rattle.wasm_core.specs.WordData.{DataNodes, StandsFor}
-use Rattle.wasm_core.specs.Answer.{IsAnswer, Answers, Exhausted, IsAtEnd, AnswersWithin, global_of}
+use Rattle.wasm_core.specs.Answer.{IsAnswer, Answers, Exhausted, IsAtEnd, AnswersWithin, AnswersFrom, global_of}
 use Rattle.wasm_core.specs.Entries.{index_of, IsGlobalEntry}
 use Rattle.wasm_core.specs.ModuleGrammar.{GrammarIsExact, SpellsModule}
 use Rattle.wasm_core.specs.ShortestBytes.{module_bytes}
 use Rattle.wasm_core.specs.ModuleCondition.{All, IsInstr, IsClosed, IsModule}
-use Rattle.wasm_core.specs.MachineRun.{MachineShown, Ran, IsFreshMachine, HasEndedAs, refusal}
+use Rattle.wasm_core.specs.MachineRun.{MachineShown, Ran, IsFreshMachine, HasEndedAs, refusal, refusal_for_call}
 use Rattle.wasm_core.specs.RunTree.{Within}
 use Rattle.wasm_core.specs.declared.entries.Entry.{Entry}
 use Rattle.wasm_core.specs.declared.ended.Ended.{Ended}
@@ -59,7 +60,7 @@ AnswerIsUnique = (m : Parts) (store : Store) (d e : DataNodes) → IsAnswer m d 
 abbrev pub EndsAreOver : Type 0
 EndsAreOver = (m : Parts) (first : State) (k : ℕ) (t : State) → IsValid m → main_start m ≡ Some first → Reach m k first t → IsAtEnd m t → (e : Ended) × (store : Store) × (t ≡ Over e store)
 
--- in each state that a run of a valid module reaches, the globals `result` and `status` are i32s, where they are exported
+-- in each state that a run of a valid module reaches, the globals of the entries are i32s, where they are exported
 abbrev pub EntriesAreThere : Type 0
 EntriesAreThere = (m : Parts) (first : State) (k : ℕ) (t : State) (n : Entry) (x : ℕ) → IsGlobalEntry n → IsValid m → main_start m ≡ Some first → Reach m k first t → index_of n m ≡ Some x → (w : ℕ) × (global_of n m (store_of t) ≡ Some w)
 
@@ -118,3 +119,39 @@ SpentIsFew = (m : Parts) (cap most k : ℕ) (d : DataNodes) (a b : MachineShown)
 -- a run of a valid module starts wherever nothing is refused
 abbrev pub StartsUnlessRefused : Type 0
 StartsUnlessRefused = (m : Parts) (cap : ℕ) → IsValid m → refusal m cap ≡ None → (s : State) × (main_start m ≡ Some s)
+
+-- the store in which a run of a valid module starts by itself is one in which a run may start
+abbrev pub FirstIsReady : Type 0
+FirstIsReady = (m : Parts) → IsValid m → HasWords m → IsReady m (first_store m)
+
+-- a run starts in any store as it starts by itself, but for the store
+abbrev pub HostedStarts : Type 0
+HostedStarts = (m : Parts) (s : Store) (first : State) → main_start m ≡ Some first → main_start_in m s ≡ Some (with_store first s)
+
+-- The same of runs from a store that a host has made ready: until such a run of a valid module ends, there is a step,
+abbrev pub HostedNeverStuck : Type 0
+HostedNeverStuck = (m : Parts) (s : Store) (first : State) (k : ℕ) (t : State) → IsValid m → IsReady m s → main_start_in m s ≡ Some first → Reach m k first t → HasSteps m t
+
+-- its numbers stay within their types, and its memory is whole pages of bytes,
+abbrev pub HostedWordsStay : Type 0
+HostedWordsStay = (m : Parts) (s : Store) (first : State) (k : ℕ) (t : State) → HasWords m → IsReady m s → main_start_in m s ≡ Some first → Reach m k first t → IsWordy t
+
+-- where it can go no further it is over,
+abbrev pub HostedEndsAreOver : Type 0
+HostedEndsAreOver = (m : Parts) (s : Store) (first : State) (k : ℕ) (t : State) → IsValid m → IsReady m s → main_start_in m s ≡ Some first → Reach m k first t → IsAtEnd m t → (e : Ended) × (store : Store) × (t ≡ Over e store)
+
+-- and the globals of its entries are i32s.
+abbrev pub HostedEntriesAreThere : Type 0
+HostedEntriesAreThere = (m : Parts) (s : Store) (first : State) (k : ℕ) (t : State) (n : Entry) (x : ℕ) → IsGlobalEntry n → IsValid m → IsReady m s → main_start_in m s ≡ Some first → Reach m k first t → index_of n m ≡ Some x → (w : ℕ) × (global_of n m (store_of t) ≡ Some w)
+
+-- where a machine's run from a state is over, and all runs from there answer the data or are exhausted, it answers it or is exhausted
+abbrev pub EndedAnswersFrom : Type 0
+EndedAnswersFrom = (most k : ℕ) (d : DataNodes) (a b : MachineShown) (e : Ended) → Ran a b k → HasEndedAs e b.state → AnswersFrom a.program most d a.state → (k ≤ most) × (Answers a.program d b.state ⊎ Exhausted a.program b.state)
+
+-- where it still goes on after so many steps, they are at most as many as the bound
+abbrev pub SpentIsFewFrom : Type 0
+SpentIsFewFrom = (most k : ℕ) (d : DataNodes) (a b : MachineShown) → Ran a b k → AnswersFrom a.program most d a.state → k ≤ most
+
+-- a module for which nothing is refused to a host that gives arguments exports what such a host asks for, and nothing is refused for a run without them
+abbrev pub CallsAreRuns : Type 0
+CallsAreRuns = (m : Parts) (cap : ℕ) → refusal_for_call m cap ≡ None → IsForCall m × (refusal m cap ≡ None)

@@ -9,7 +9,7 @@ use Rattle.wasm_core.specs.declared.ended.NewFault.TheVariants as new
 use Rattle.wasm_core.specs.declared.entries.Entry.{Entry}
 use Rattle.wasm_core.specs.declared.elements.Segment.{Segment}
 use Rattle.wasm_core.specs.Instance.{least, segment_fits}
-use Rattle.wasm_core.specs.Entries.{missing}
+use Rattle.wasm_core.specs.Entries.{missing, missing_for_call}
 use Rattle.wasm_core.specs.Parts.{Parts}
 use Rattle.wasm_core.specs.MachineStep.{State, At, Over}
 use Rattle.wasm_core.specs.Runs.{Moves, main_start}
@@ -61,13 +61,26 @@ abbrev pub unless_missing : Option Entry → Option NewFault → Option NewFault
 unless_missing None others = others
 unless_missing (Some n) others = Some (NoEntry n)
 
--- Why no machine with this bound on its pages is made of a module: a missing entry comes first, then its pages, its table and its segments.
+-- why no machine with this bound on its pages is made of a module whose entries are there: its pages come first, then its table and its segments
+abbrev pub size_refusal : Parts → ℕ → Option NewFault
+size_refusal m cap = if nat_le (least m.memory) cap then (if nat_le (least m.table) 65536 then past_fault (first_past 0 (least m.table) m.elements) else Some Table) else Some Pages
+
+-- Why no machine with this bound on its pages is made of a module: a missing entry comes first.
 abbrev pub refusal : Parts → ℕ → Option NewFault
-refusal m cap =
-    unless_missing (missing m) (if nat_le (least m.memory) cap then (if nat_le (least m.table) 65536 then past_fault (first_past 0 (least m.table) m.elements) else Some Table) else Some Pages)
+refusal m cap = unless_missing (missing m) (size_refusal m cap)
+
+-- why none is made for a host that gives arguments
+abbrev pub refusal_for_call : Parts → ℕ → Option NewFault
+refusal_for_call m cap = unless_missing (missing_for_call m) (size_refusal m cap)
 
 -- what making a machine answers; want of memory says nothing
 abbrev pub Makes : Parts → ℕ → Result MachineShown NewFault → Type 0
 Makes m cap (Ok a) = (refusal m cap ≡ None) × IsFreshMachine m cap a
 Makes m cap (Err new.Memory) = Unit {0}
 Makes m cap (Err fault) = refusal m cap ≡ Some fault
+
+-- what making one answers for a host that gives arguments
+abbrev pub MakesForCall : Parts → ℕ → Result MachineShown NewFault → Type 0
+MakesForCall m cap (Ok a) = (refusal_for_call m cap ≡ None) × IsFreshMachine m cap a
+MakesForCall m cap (Err new.Memory) = Unit {0}
+MakesForCall m cap (Err fault) = refusal_for_call m cap ≡ Some fault

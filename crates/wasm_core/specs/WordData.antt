@@ -1,4 +1,4 @@
--- DataNodes, and the words that stand for it in a memory.
+-- Data, and the words that stand for it in a memory.
 use Rattle.std.specs.Prelude.{ℕ, suc, ◌≡◌, ◌+◌, ◌*◌, ◌<◌, ◌≤◌, List, [], ◌∷◌, ◌++◌, length}
 use Rattle.wasm_core.specs.Memory.{word}
 

@@ -1,6 +1,6 @@
 //! Laws of the definitions, as functions with no result but their contracts.
 
-ghost use Rattle.wasm_core.specs.Laws.{AnswerIsUnique, BodiesAreJudged, DataIsUnique, EndedAnswers, EndsAreOver, EntriesAreThere, FaultPlaceIsUnique, FirstFaultIsFault, FirstFaultIsUnique, FrontsCanGoOn, MemoryGrows, ModulesAreJudged, ModulesHaveWords, MovesAreSteps, NeverStuck, ReadingIsExact, ShortestBytesSpell, SpelledIsModule, SpentIsFew, StartsUnlessRefused, StepsAreDetermined, TreeAnswers, TypedIsClosed, WordsStay};
+ghost use Rattle.wasm_core.specs.Laws.{AnswerIsUnique, BodiesAreJudged, CallsAreRuns, DataIsUnique, EndedAnswers, EndedAnswersFrom, EndsAreOver, EntriesAreThere, FaultPlaceIsUnique, FirstFaultIsFault, FirstFaultIsUnique, FirstIsReady, FrontsCanGoOn, HostedEndsAreOver, HostedEntriesAreThere, HostedNeverStuck, HostedStarts, HostedWordsStay, MemoryGrows, ModulesAreJudged, ModulesHaveWords, MovesAreSteps, NeverStuck, ReadingIsExact, ShortestBytesSpell, SpelledIsModule, SpentIsFew, SpentIsFewFrom, StartsUnlessRefused, StepsAreDetermined, TreeAnswers, TypedIsClosed, WordsStay};
 
 /// A step is determined by whether a grow of memory is granted.
 pub fn steps_are_determined()
@@ -27,7 +27,7 @@ pub fn memory_grows()
     ensures holds { MemoryGrows }
 {}
 
-/// The globals `result` and `status` are i32s in each state of a run of a valid module.
+/// The globals of the entries are i32s in each state of a run of a valid module.
 pub fn entries_are_there()
     ensures holds { EntriesAreThere }
 {}
@@ -120,4 +120,49 @@ pub fn spent_is_few()
 /// A run of a valid module starts wherever nothing is refused.
 pub fn starts_unless_refused()
     ensures holds { StartsUnlessRefused }
+{}
+
+/// The store in which a run of a valid module starts by itself is one in which a run may start.
+pub fn first_is_ready()
+    ensures holds { FirstIsReady }
+{}
+
+/// A run starts in any store as it starts by itself, but for the store.
+pub fn hosted_starts()
+    ensures holds { HostedStarts }
+{}
+
+/// Until a run of `main` in a valid module ends, which started in a store that a host has made ready, there is a step, whether a grow is granted or refused.
+pub fn hosted_never_stuck()
+    ensures holds { HostedNeverStuck }
+{}
+
+/// Where a module's numbers are within their types, so are those of each state that a run from such a store reaches, and its memory is whole pages of bytes.
+pub fn hosted_words_stay()
+    ensures holds { HostedWordsStay }
+{}
+
+/// A run of a valid module from such a store that can go no further is over.
+pub fn hosted_ends_are_over()
+    ensures holds { HostedEndsAreOver }
+{}
+
+/// The globals of the entries are i32s in each state of a run of a valid module from such a store.
+pub fn hosted_entries_are_there()
+    ensures holds { HostedEntriesAreThere }
+{}
+
+/// Where a machine's run from a state is over, it answers the data that all runs from there answer, or is exhausted.
+pub fn ended_answers_from()
+    ensures holds { EndedAnswersFrom }
+{}
+
+/// A machine makes at most as many steps from a state as the runs from there are long.
+pub fn spent_is_few_from()
+    ensures holds { SpentIsFewFrom }
+{}
+
+/// Where nothing is refused to a host that gives arguments, the module exports what such a host asks for, and nothing is refused for a run without them.
+pub fn calls_are_runs()
+    ensures holds { CallsAreRuns }
 {}

@@ -1,7 +1,7 @@
 -- Emitted instructions have all their brackets closed.
 use Rattle.std.proofs.Common.{◌≡◌, ℕ, zero, suc, List, [], ◌∷◌, Option, Some, None, refl, ◌∙◌}
 use Rattle.std.specs.Prelude.{slice_get}
-use Rattle.wasm_emit.proofs.Source.{Atom, AVar, ABox, AEmpty, Op, OConst, OApp, OCon, OClos, OCase, Block, RetAtom, LetAtom, Ret, Let, Branches, BNil, BCons, Program}
+use Rattle.wasm_emit.proofs.Source.{Atom, AVar, ABox, AEmpty, Op, OConst, OApp, OCon, OClos, OCase, Block, RetAtom, LetAtom, Ret, Let, BranchBlocks, BNil, BCons, Program}
 use Rattle.wasm_core.specs.declared.instrs.Instr.{Instr}
 use Rattle.wasm_core.specs.declared.instrs.Instr.TheVariants.{End}
 use Rattle.wasm_core.specs.MachineStep.{after_end, else_arm}
@@ -36,12 +36,12 @@ module _ (P : Program) where
     skip_code_end env d (Ret x) k rest = skip_op_end env d x k rest
     skip_code_end env d (Let x t) k rest = skip_op_end env d x k _ ∙ skip_code_end (InLocal d ∷ env) (suc d) t k rest
 
-    pub skip_empties_end : (env : List Place) (d c : ℕ) (bs : Branches) (others : List Instr → List Instr) → ((j : ℕ) (r : List Instr) → after_end j (others r) ≡ after_end j r) → (k : ℕ) (rest : List Instr) → after_end k (empties P env d c bs others rest) ≡ after_end k rest
+    pub skip_empties_end : (env : List Place) (d c : ℕ) (bs : BranchBlocks) (others : List Instr → List Instr) → ((j : ℕ) (r : List Instr) → after_end j (others r) ≡ after_end j r) → (k : ℕ) (rest : List Instr) → after_end k (empties P env d c bs others rest) ≡ after_end k rest
     skip_empties_end env d c BNil others ho k rest = ho k rest
     skip_empties_end env d c (BCons zero t bs) others ho k rest = skip_code_end env (suc d) t (suc k) _ ∙ skip_empties_end env d (suc c) bs others ho (suc k) (End ∷ rest)
     skip_empties_end env d c (BCons (suc n) t bs) others ho k rest = skip_empties_end env d (suc c) bs others ho k rest
 
-    pub skip_heads_end : (env : List Place) (d c : ℕ) (bs : Branches) (k : ℕ) (rest : List Instr) → after_end k (heads P env d c bs rest) ≡ after_end k rest
+    pub skip_heads_end : (env : List Place) (d c : ℕ) (bs : BranchBlocks) (k : ℕ) (rest : List Instr) → after_end k (heads P env d c bs rest) ≡ after_end k rest
     skip_heads_end env d c BNil k rest = refl
     skip_heads_end env d c (BCons zero t bs) k rest = skip_heads_end env d (suc c) bs k rest
     skip_heads_end env d c (BCons (suc n) t bs) k rest = skip_code_end (fields_of d (suc n) env) (suc d) t (suc k) _ ∙ skip_heads_end env d (suc c) bs (suc k) (End ∷ rest)
@@ -74,12 +74,12 @@ module _ (P : Program) where
     skip_code_else env d (Ret x) k rest = skip_op_else env d x k rest
     skip_code_else env d (Let x t) k rest = skip_op_else env d x k _ ∙ skip_code_else (InLocal d ∷ env) (suc d) t k rest
 
-    pub skip_empties_else : (env : List Place) (d c : ℕ) (bs : Branches) (others : List Instr → List Instr) → ((j : ℕ) (r : List Instr) → else_arm j (others r) ≡ else_arm j r) → (k : ℕ) (rest : List Instr) → else_arm k (empties P env d c bs others rest) ≡ else_arm k rest
+    pub skip_empties_else : (env : List Place) (d c : ℕ) (bs : BranchBlocks) (others : List Instr → List Instr) → ((j : ℕ) (r : List Instr) → else_arm j (others r) ≡ else_arm j r) → (k : ℕ) (rest : List Instr) → else_arm k (empties P env d c bs others rest) ≡ else_arm k rest
     skip_empties_else env d c BNil others ho k rest = ho k rest
     skip_empties_else env d c (BCons zero t bs) others ho k rest = skip_code_else env (suc d) t (suc k) _ ∙ skip_empties_else env d (suc c) bs others ho (suc k) (End ∷ rest)
     skip_empties_else env d c (BCons (suc n) t bs) others ho k rest = skip_empties_else env d (suc c) bs others ho k rest
 
-    pub skip_heads_else : (env : List Place) (d c : ℕ) (bs : Branches) (k : ℕ) (rest : List Instr) → else_arm k (heads P env d c bs rest) ≡ else_arm k rest
+    pub skip_heads_else : (env : List Place) (d c : ℕ) (bs : BranchBlocks) (k : ℕ) (rest : List Instr) → else_arm k (heads P env d c bs rest) ≡ else_arm k rest
     skip_heads_else env d c BNil k rest = refl
     skip_heads_else env d c (BCons zero t bs) k rest = skip_heads_else env d (suc c) bs k rest
     skip_heads_else env d c (BCons (suc n) t bs) k rest = skip_code_else (fields_of d (suc n) env) (suc d) t (suc k) _ ∙ skip_heads_else env d (suc c) bs (suc k) (End ∷ rest)

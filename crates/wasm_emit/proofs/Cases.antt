@@ -1,7 +1,7 @@
 -- Matches.
 use Rattle.std.proofs.Common.{◌≡◌, ℕ, zero, suc, ◌+◌, ◌*◌, ◌<◌, ◌≤◌, List, [], ◌∷◌, length, Some, Bool, true, ap, sym, ◌∙◌, subst, arith}
 use Rattle.std.specs.Prelude.{slice_get}
-use Rattle.wasm_emit.proofs.Source.{Block, Branches, BNil, BCons, Program, Val, many, BranchAt, branch_here, branch_after}
+use Rattle.wasm_emit.proofs.Source.{Block, BranchBlocks, BNil, BCons, Program, Val, many, BranchAt, branch_here, branch_after}
 use Rattle.wasm_core.specs.Memory.{word}
 use Rattle.wasm_emit.proofs.Bytes.{Mem}
 use Rattle.wasm_core.specs.declared.types.ConstValue.{ConstValue}
@@ -68,7 +68,7 @@ module _ (P : Program) (M : Parts) (cap : Limits) (Q : State → Type 0) where
 
   module _ {m : Mem} {p h : ℕ} {ls : List ConstValue} {d w : ℕ} {v : Val} {tail : Bool} {D k s n : ℕ} (at : slice_get ls d ≡ Some (I32 w)) where
     -- an even word meets no constructor without arguments
-    pub pass_empties : (ps : List Place) (q c : ℕ) (bs : Branches) (others : List Instr → List Instr) → w ≡ 2 * q → Yields m p h ls d v tail D k s n others → Yields m p h ls d v tail D k s (5 * many bs + n) (empties P ps d c bs others)
+    pub pass_empties : (ps : List Place) (q c : ℕ) (bs : BranchBlocks) (others : List Instr → List Instr) → w ≡ 2 * q → Yields m p h ls d v tail D k s n others → Yields m p h ls d v tail D k s (5 * many bs + n) (empties P ps d c bs others)
     pass_empties ps q c BNil others even y = record { run = λ f vals rest l u bound deep fits go out. y.run f vals rest l u bound deep (omega arith) go out }
     pass_empties ps q c (BCons (suc i) t bs) others even y =
         let r = pass_empties ps q (suc c) bs others even y in
@@ -83,7 +83,7 @@ module _ (P : Program) (M : Parts) (cap : Limits) (Q : State → Type 0) where
         }
 
     -- a constructor without arguments
-    pub take_empty : (ps : List Place) (c : ℕ) {i j : ℕ} {bs : Branches} {t : Block} (others : List Instr → List Instr) → j ≡ 0 → w ≡ 2 * (c + i) + 1 → ((j : ℕ) (r : List Instr) → after_end j (others r) ≡ after_end j r) → BranchAt bs i j t →
+    pub take_empty : (ps : List Place) (c : ℕ) {i j : ℕ} {bs : BranchBlocks} {t : Block} (others : List Instr → List Instr) → j ≡ 0 → w ≡ 2 * (c + i) + 1 → ((j : ℕ) (r : List Instr) → after_end j (others r) ≡ after_end j r) → BranchAt bs i j t →
         Yields m p h ls d v tail D k s n (code P ps (suc d) t) → Yields m p h ls d v tail D k s (5 * many bs + n) (empties P ps d c bs others)
     take_empty ps c others none is ends (branch_here {n = zero} {b = t} {rest = bs}) y =
         record {
@@ -106,7 +106,7 @@ module _ (P : Program) (M : Parts) (cap : Limits) (Q : State → Type 0) where
         record { run = λ f vals rest l u bound deep fits go out. r.run f vals rest l u bound deep (omega arith) go out }
 
     -- a constructor with arguments
-    pub take_head : (ps : List Place) (c : ℕ) {i j : ℕ} {bs : Branches} {t : Block} → 0 < j → w + 4 ≤ length m → word m w ≡ j * 65536 + (c + i) → c + i < 65536 → BranchAt bs i j t → Yields m p h ls d v tail D k s n (code P (fields_of d j ps) (suc d) t) →
+    pub take_head : (ps : List Place) (c : ℕ) {i j : ℕ} {bs : BranchBlocks} {t : Block} → 0 < j → w + 4 ≤ length m → word m w ≡ j * 65536 + (c + i) → c + i < 65536 → BranchAt bs i j t → Yields m p h ls d v tail D k s n (code P (fields_of d j ps) (suc d) t) →
         Yields m p h ls d v tail D k s (6 * many bs + n) (heads P ps d c bs)
     take_head ps c some within is small (branch_here {n = zero}) y = absurd (omega arith)
     take_head ps c some within is small (branch_here {n = suc a} {b = t} {rest = bs}) y =

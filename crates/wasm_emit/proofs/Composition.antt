@@ -1,7 +1,7 @@
 -- The laws of lifting and of emission together.
 use Rattle.std.proofs.Common.{◌≡◌, ℕ, ◌+◌, ◌-◌, ◌*◌, ◌≤◌, subst, sym, arith}
 use Rattle.wasm_core.specs.Answer.{AnswersWithin}
-use Rattle.wasm_core.specs.WordData.{Data as Nodes}
+use Rattle.wasm_core.specs.WordData.{DataNodes as Nodes}
 use Rattle.wasm_core.specs.Parts.{Parts}
 use Rattle.closure_lift.specs.Lifted.{Program, VNil}
 use Rattle.anf_convert.specs.AnfEvaluation.{WNil}

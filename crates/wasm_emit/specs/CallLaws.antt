@@ -1,6 +1,6 @@
 -- Main applied to arguments that a host has put into memory before the run.
 use Rattle.std.specs.Prelude.{◌≡◌, ℕ, suc, ◌+◌, ◌*◌, ◌<◌, ◌≤◌, ◌⊎◌, List, [], ◌∷◌, length, slice_get, true, false, Some}
-use Rattle.closure_lift.specs.Lifted.{Program, Val, Vals, Answers as Evaluates}
+use Rattle.closure_lift.specs.Lifted.{Program, Val, Vals, LiftedAnswers as Evaluates}
 use Rattle.closure_lift.specs.LiftedForm.{Formed, Limits as IsWithin}
 use Rattle.anf_convert.specs.AnfData.{DataTree, Made, DataTrees, DNil, DCons}
 use Rattle.closure_lift.specs.LiftKeeps.{IsData, AreData}

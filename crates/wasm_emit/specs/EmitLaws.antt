@@ -1,6 +1,6 @@
 -- The laws of emission: what the runs of an emitted module do.
 use Rattle.std.specs.Prelude.{◌≡◌, ℕ, ◌+◌, ◌-◌, ◌*◌, ◌<◌, ◌≤◌, length, slice_get, false, true, Some}
-use Rattle.closure_lift.specs.Lifted.{Block, Fn, Program, Val, VNil, Answers as Evaluates}
+use Rattle.closure_lift.specs.Lifted.{Block, Fn, Program, Val, VNil, LiftedAnswers as Evaluates}
 use Rattle.closure_lift.specs.LiftedForm.{Formed, Limits as IsWithin}
 use Rattle.anf_convert.specs.AnfData.{DataTree}
 use Rattle.closure_lift.specs.LiftKeeps.{IsData}
@@ -15,7 +15,7 @@ use Rattle.wasm_core.specs.ModuleTyping.{IsValid}
 use Rattle.wasm_core.specs.ModuleCondition.{IsModule}
 use Rattle.wasm_core.specs.Runs.{main_start, store_of}
 use Rattle.wasm_core.specs.Answer.{global_of, HasNoMemory, IsAnswer, AnswersWithin}
-use Rattle.wasm_core.specs.WordData.{Data as Nodes}
+use Rattle.wasm_core.specs.WordData.{DataNodes as Nodes}
 use Rattle.wasm_core.specs.RunTree.{Fate}
 use Rattle.wasm_emit.specs.EmittedModule.{module_of}
 use Rattle.wasm_emit.specs.EmittedLocals.{top}

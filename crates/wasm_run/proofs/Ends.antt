@@ -5,7 +5,7 @@ use Rattle.std.proofs.lemmas.List.{length-reverse, get_or-reverse}
 use Rattle.std.proofs.lemmas.Option.{slice_get-get_or, slice_get_within, get_or_from_slice_get}
 use Rattle.wasm_run.proofs.Bodies.{inj}
 use Rattle.wasm_core.specs.declared.instrs.Instr.{Instr}
-use Rattle.wasm_core.specs.MachineStep.{Bracket, Opens, Divides, Closes, Plain, bracket, after_end, past_end, else_arm, to_else}
+use Rattle.wasm_core.specs.MachineStep.{Opens, Divides, Closes, Plain, bracket, after_end, past_end, else_arm, to_else}
 use Rattle.wasm_run.specs.declared.targets.Target.{Target}
 use Rattle.wasm_run.specs.Targets.{IsTarget, AreTargets, Opened, target_at, tail_of}
 

@@ -1,10 +1,9 @@
 -- Counts of what the steps of a run tell.
-use Rattle.std.proofs.Common.{◌≡◌, ℕ, zero, suc, ◌+◌, ◌*◌, ◌-◌, ◌^◌, ◌<◌, ◌≤◌, List, [], ◌∷◌, ◌++◌, length, replicate, get_or, set, Bool, true, false, refl, sym, ap, subst, ◌∙◌, arith, append_assoc}
+use Rattle.std.proofs.Common.{◌≡◌, ℕ, zero, suc, ◌+◌, ◌*◌, ◌-◌, ◌^◌, ◌<◌, List, [], ◌∷◌, ◌++◌, length, replicate, get_or, set, Bool, true, false, refl, sym, ap, subst, ◌∙◌, arith, append_assoc}
 use Rattle.std.specs.Prelude.{min, count_by, cond, slice_get, Option, Some, None, Result, Ok, Err}
-use Rattle.std.proofs.lemmas.List.{append-nil}
 use Rattle.std.proofs.lemmas.List.Sums.{sum_by-append}
 use Rattle.std.proofs.lemmas.List.Folds.{sum_by-replicate}
-use Rattle.reports.specs.Counting.{after_all, last, numbered}
+use Rattle.reports.specs.Counting.{last, numbered}
 use Rattle.reports.specs.declared.fact.Fact.{Fact}
 use Rattle.reports.specs.declared.fact.Fact.TheVariants.{StepDone, Grew}
 use Rattle.reports.proofs.FactByFact.{numbered_set}
@@ -16,13 +15,13 @@ use Rattle.wasm_core.specs.declared.instrs.Instr.{Instr}
 use Rattle.wasm_core.specs.MachineStep.{State, At}
 use Rattle.wasm_core.specs.MachineRun.{MachineShown, MachineSays, GoesOn}
 use Rattle.wasm_core.specs.Runs.{Move, Moves}
-use Rattle.wasm_run.specs.Tallies.{IsTally, counted_facts}
+use Rattle.wasm_run.specs.Tallies.{IsTally}
 use Rattle.wasm_run.specs.ToldSteps.{Tells, class_of, facts_at, grow_facts, is_grow, step_facts}
 use Rattle.wasm_run.specs.Programs.{code_of}
 use Rattle.wasm_run.specs.Threads.{conf_of, state_of}
 use Rattle.wasm_run.specs.declared.thread.Thread.{Thread}
 use Rattle.wasm_run.proofs.Bodies.{drop_here}
-use Rattle.wasm_run.specs.ToldRuns.{SaysTold, Told, ToldUntil}
+use Rattle.wasm_run.specs.ToldRuns.{SaysTold, Told}
 use Rattle.wasm_run.specs.declared.tally.Tally.{Tally}
 
 counted : (w : Fact → Bool) (xs ys : List Fact) → count_by w (xs ++ ys) ≡ count_by w xs + count_by w ys

@@ -1,12 +1,12 @@
 -- What a machine keeps.
 use Rattle.std.specs.Prelude.{ℕ, ◌≡◌, Some, false}
-use Rattle.wasm_core.specs.declared.entries.Entry.TheVariants.{Result, Status}
+use Rattle.wasm_core.specs.declared.entries.Entry.TheVariants.{Result, Status, Heap, Args}
 use Rattle.wasm_core.specs.Parts.{Parts}
 use Rattle.wasm_core.specs.Entries.{index_of}
-use Rattle.wasm_core.specs.MachineStep.{State, Reach}
+use Rattle.wasm_core.specs.HostStore.{IsReady, main_start_in}
+use Rattle.wasm_core.specs.MachineStep.{Store, State, Reach}
 use Rattle.wasm_core.specs.MachineRun.{MachineShown}
 use Rattle.wasm_core.specs.ModuleTyping.{IsValid}
-use Rattle.wasm_core.specs.Runs.{main_start}
 use Rattle.wasm_core.specs.Words.{HasWords}
 use Rattle.wasm_run.specs.Threads.{state_of}
 use Rattle.wasm_run.specs.declared.machine.Machine.TheInside.{Inside}
@@ -20,16 +20,21 @@ shown a = record {
   failed = a.failed;
 }
 
--- a state that a run of `main` reaches
-pub record Reached (m : Parts) (s : State) : Type 0 where
+-- a state that a run of `main` reaches from a store in which a run may start; where no step is counted, none was made
+pub record Reached (m : Parts) (made : ℕ) (s : State) : Type 0 where
+  pub store : Store
+  pub ready : IsReady m store
   pub first : State
-  pub starts : main_start m ≡ Some first
+  pub starts : main_start_in m store ≡ Some first
   pub steps : ℕ
   pub reach : Reach m steps first s
+  pub none_made : made ≡ 0 → steps ≡ 0
 
 pub record IsMachine (a : Inside) : Type 0 where
   pub valid : IsValid a.program
   pub words : HasWords a.program
-  pub reached : a.failed ≡ false → Reached a.program (state_of a.program a.ended a.thread)
+  pub reached : a.failed ≡ false → Reached a.program a.made (state_of a.program a.ended a.thread)
   pub result_at : index_of Result a.program ≡ Some a.result_at
   pub status_at : index_of Status a.program ≡ Some a.status_at
+  pub heap_at : (x : ℕ) → index_of Heap a.program ≡ Some x → a.heap_at ≡ x
+  pub args_at : (x : ℕ) → index_of Args a.program ≡ Some x → a.args_at ≡ x

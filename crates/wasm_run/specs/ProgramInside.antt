@@ -1,6 +1,5 @@
 -- What a module that is ready to run keeps.
 use Rattle.std.specs.Prelude.{ℕ, ◌≡◌, Some, length, slice_get, List}
-use Rattle.wasm_core.specs.declared.instrs.Body.{Body}
 use Rattle.wasm_core.specs.Instance.{table_of}
 use Rattle.wasm_run.specs.Targets.{AreTargets}
 use Rattle.wasm_run.specs.Programs.{code_of}

@@ -6,7 +6,7 @@ use Rattle.wasm_core.specs.declared.types.FuncType.{FuncType}
 use Rattle.wasm_core.specs.declared.instrs.Instr.{Instr}
 use Rattle.wasm_core.specs.declared.instrs.Body.{Body}
 use Rattle.wasm_core.specs.Parts.{Parts}
-use Rattle.wasm_core.specs.Instance.{Func, func_of}
+use Rattle.wasm_core.specs.Instance.{func_of}
 
 abbrev pub code_in : Option Body → List Instr
 code_in None = []

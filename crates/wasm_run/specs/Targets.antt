@@ -1,5 +1,5 @@
 -- The targets of a body's places: of the innermost block that is open after a place.
-use Rattle.std.specs.Prelude.{ℕ, zero, suc, ◌≡◌, ◌+◌, ◌<◌, List, [], ◌∷◌, length, drop, Some, slice_get, reverse}
+use Rattle.std.specs.Prelude.{ℕ, zero, suc, ◌≡◌, ◌+◌, List, [], ◌∷◌, length, drop, Some, slice_get}
 use Rattle.wasm_core.specs.declared.instrs.Instr.{Instr}
 use Rattle.wasm_core.specs.MachineStep.{after_end, else_arm}
 use Rattle.wasm_run.specs.declared.targets.Target.{Target}

@@ -1,9 +1,9 @@
 -- A run's parts as a state of the definitions.
-use Rattle.std.specs.Prelude.{ℕ, ◌+◌, List, ◌∷◌, map, drop, reverse, Bool, Option, Some, None, slice_get}
+use Rattle.std.specs.Prelude.{◌+◌, List, map, drop, reverse, Bool, Option, Some, None}
 use Rattle.wasm_core.specs.declared.ended.Ended.{Ended}
 use Rattle.wasm_core.specs.declared.instrs.Instr.{Instr}
 use Rattle.wasm_core.specs.Parts.{Parts}
-use Rattle.wasm_core.specs.MachineStep.{BlockLabel, Frame, Store, Conf, State, At, Over, act}
+use Rattle.wasm_core.specs.MachineStep.{Frame, Store, Conf, State, At, Over, act}
 use Rattle.wasm_run.specs.Shape.{Shape}
 use Rattle.wasm_run.specs.View.{frame_at}
 use Rattle.wasm_run.specs.Programs.{code_of}

@@ -1,5 +1,5 @@
 -- What a call of `run_told` says: the answer of `run`, and the facts of the steps that it made.
-use Rattle.std.specs.Prelude.{ℕ, ◌≡◌, ◌≤◌, ◌<◌, ◌+◌, ◌-◌, ◌^◌, List, [], Bool, true, false, min, Result, Ok, Err}
+use Rattle.std.specs.Prelude.{ℕ, ◌≡◌, ◌≤◌, ◌<◌, ◌+◌, ◌-◌, ◌^◌, List, [], true, false, min, Result, Ok, Err}
 use Rattle.reports.specs.declared.fact.Fact.{Fact}
 use Rattle.wasm_core.specs.declared.ended.Ended.{Ended}
 use Rattle.wasm_core.specs.declared.ended.RunFault.{RunFault}

@@ -22,6 +22,8 @@ pub fn name_of(entry: Entry) -> &'static [u8]
         Entry::Memory => b"memory",
         Entry::Result => b"result",
         Entry::Status => b"status",
+        Entry::Heap => b"heap",
+        Entry::Args => b"args",
     }
 }
 
@@ -70,7 +72,7 @@ fn fitting(m: &Module, entry: Entry, export: &Export) -> Option<u32>
             ExportKind::Memory => Some(export.index),
             _ => None,
         },
-        Entry::Result | Entry::Status => match export.kind {
+        Entry::Result | Entry::Status | Entry::Heap | Entry::Args => match export.kind {
             ExportKind::Global => typed_global(m, export.index),
             _ => None,
         },

@@ -236,7 +236,7 @@ fn run_table(
 }
 
 /// The most pages that a memory may have.
-fn most_pages(limits: Option<Limits>) -> u32
+pub fn most_pages(limits: Option<Limits>) -> u32
     ensures is { result ≡ greatest_pages limits }
 {
     match limits {
@@ -250,7 +250,7 @@ fn most_pages(limits: Option<Limits>) -> u32
 
 /// More pages of zeros.
 #[tactic(auto, unfolding(wasm_core::specs::Memory::zeroed))]
-fn grow_bytes(memory: &mut Vec<u8>, more: usize) -> Result<(), AllocError>
+pub fn grow_bytes(memory: &mut Vec<u8>, more: usize) -> Result<(), AllocError>
     requires few { length memory.old.items + 65536 * more < 2 ^ 60 }
     ensures is { OnOk result (memory.new.items ≡ memory.old.items ++ zeroed more) }
 {

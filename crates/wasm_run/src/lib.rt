@@ -15,6 +15,7 @@
 mod entries;
 mod exec;
 mod frame;
+mod hosting;
 mod inside;
 mod machine;
 mod memory;

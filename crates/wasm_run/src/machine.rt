@@ -2,13 +2,15 @@
 
 ghost use Rattle.std.specs.Prelude.{◌≡◌, ◌+◌, ◌-◌, ◌^◌, ◌<◌, ◌≤◌, ◌∷◌, [], List, IfOk, OnOk, OnErr, MatchOption, MatchResult, Some, false, length, map, min, slice_get, true, ℕ};
 ghost use Rattle.wasm_core.specs.Answer.{global_of};
-ghost use Rattle.wasm_core.specs.Entries.{missing};
+ghost use Rattle.wasm_core.specs.Entries.{missing, missing_for_call};
+ghost use Rattle.wasm_core.specs.HostStore.{IsForCall, set_entry, with_store};
 ghost use Rattle.wasm_core.specs.Instance.{segments_fit, segment_fits, zero_of};
-ghost use Rattle.wasm_core.specs.MachineRun.{GoesOn, IsFreshMachine, HasEndedAs, Makes, MachineSays, first_past};
+ghost use Rattle.wasm_core.specs.MachineRun.{GoesOn, IsFreshMachine, HasEndedAs, Makes, MakesForCall, MachineSays, first_past};
 ghost use Rattle.wasm_core.specs.Memory.{zeroed};
 ghost use Rattle.wasm_core.specs.ModuleTyping.{IsValid};
 ghost use Rattle.wasm_core.specs.Runs.{Move, store_of};
 ghost use Rattle.wasm_core.specs.Words.{HasWords};
+ghost use Rattle.wasm_run.specs.Hosting.{IsAtStart, MakesOfSize, SaysPut};
 ghost use Rattle.wasm_run.specs.MachineEntries.{HasEntries};
 ghost use Rattle.wasm_run.specs.Tallies.{IsTally};
 ghost use Rattle.wasm_run.specs.ToldRuns.{SaysTold};
@@ -21,6 +23,7 @@ ghost use Rattle.reports.specs.declared.fact.Fact.TheVariants.{StepDone};
 use crate::entries::index_of;
 use crate::exec::{next_facts, run_step, zero};
 use crate::frame::Frame;
+use crate::hosting::{has_room, put_block, set_i32};
 use crate::program::{Program, least_of};
 use crate::tally::{StepFacts, Tally, tell_counted};
 use crate::thread::Thread;
@@ -28,8 +31,9 @@ use reports::Report;
 use std::alloc::{AllocError, Global};
 use std::marker::Model;
 use wasm_core::{
-    ConstValue, Ended, Entry, Module, NewFault, RunFault, Segment, ValType, Valid,
-    entries_are_there, modules_have_words, never_stuck, words_stay,
+    ConstValue, Ended, Entry, Module, NewFault, RunFault, Segment, ValType, Valid, calls_are_runs,
+    first_is_ready, hosted_entries_are_there, hosted_never_stuck, hosted_words_stay,
+    modules_have_words,
 };
 
 /// A machine that runs `main` of a valid module (WebAssembly Core Specification, chapter 4).
@@ -41,6 +45,8 @@ pub struct Machine<'m> {
     cap: u32,
     result_at: u32,
     status_at: u32,
+    heap_at: u32,
+    args_at: u32,
     made: u64,
     ended: Option<Ended>,
     failed: bool,
@@ -64,9 +70,21 @@ pub struct Entries {
     main: u32,
     result: u32,
     status: u32,
+    heap: u32,
+    args: u32,
 }
 
-/// The places of the entries, or the first that is missing.
+/// A place, or 0 where there is none.
+fn or_zero(place: Option<u32>) -> u32
+    ensures is { (x : ℕ) → place ≡ Some x → result ≡ x }
+{
+    match place {
+        Some(x) => x,
+        None => 0,
+    }
+}
+
+/// The places of the entries, or the first that is missing of the four that a run asks for.
 fn entries_of(m: &Module) -> Result<Entries, Entry>
     ensures is { MatchResult result (HasEntries m.now) (λ e. missing m.now ≡ Some e) }
 {
@@ -86,7 +104,24 @@ fn entries_of(m: &Module) -> Result<Entries, Entry>
         main,
         result,
         status,
+        heap: or_zero(index_of(m, Entry::Heap)),
+        args: or_zero(index_of(m, Entry::Args)),
     })
+}
+
+/// The places of the entries, or the first that is missing of all six.
+fn call_entries_of(m: &Module) -> Result<Entries, Entry>
+    ensures is { MatchResult result (HasEntries m.now) (λ e. missing_for_call m.now ≡ Some e) }
+    ensures all { IfOk result (λ e. missing_for_call m.now ≡ None) }
+{
+    let entries = entries_of(m)?;
+    if index_of(m, Entry::Heap).is_none() {
+        return Err(Entry::Heap);
+    }
+    if index_of(m, Entry::Args).is_none() {
+        return Err(Entry::Args);
+    }
+    Ok(entries)
 }
 
 /// Whether a segment fits a table of this size.
@@ -158,16 +193,46 @@ impl<'m> Machine<'m> {
     /// `NoEntry` names the first of `main`, `memory`, `result` and `status` that the module doesn't export as asked.
     /// `Pages` comes where the entries are there and the memory's least pages pass `cap`; `Table` where also these don't pass it, and the
     /// table has over 65,536 entries; `ElementPastTable` names the first element segment that doesn't fit the table where nothing else is refused.
-    #[tactic(auto, using(crate::proofs::Starts::all_held))]
     pub fn new(alloc: Global, valid: &'m Valid, cap: u32) -> Result<Machine<'m>, NewFault>
         ensures makes { Makes valid.now cap result }
     {
+        match entries_of(valid.module()) {
+            Ok(entries) => Machine::with_entries(alloc, valid, cap, entries),
+            Err(entry) => Err(NewFault::NoEntry(entry)),
+        }
+    }
+
+    /// A machine as `new` makes one, for a host that gives arguments: before the run it may put words into memory (`host_block`) and say where the
+    /// arguments are (`set_args`).
+    ///
+    /// `NoEntry` names the first of `main`, `memory`, `result`, `status`, `heap` and `args` that the module doesn't export as asked. The other refusals, and
+    /// their order, are those of `new`.
+    pub fn new_call(alloc: Global, valid: &'m Valid, cap: u32) -> Result<Machine<'m>, NewFault>
+        ensures makes { MakesForCall valid.now cap result }
+        ensures for_call { IfOk result (λ a. IsForCall a.program) }
+        ensures start { IfOk result IsAtStart }
+    {
+        calls_are_runs();
+        match call_entries_of(valid.module()) {
+            Ok(entries) => Machine::with_entries(alloc, valid, cap, entries),
+            Err(entry) => Err(NewFault::NoEntry(entry)),
+        }
+    }
+
+    /// A machine at the start of a run of `main`, where the entries are there.
+    #[tactic(auto, using(crate::proofs::Starts::all_held))]
+    fn with_entries(
+        alloc: Global,
+        valid: &'m Valid,
+        cap: u32,
+        entries: Entries,
+    ) -> Result<Machine<'m>, NewFault>
+        requires entries { HasEntries valid.now entries }
+        ensures makes { MakesOfSize valid.now cap result }
+        ensures start { IfOk result IsAtStart }
+    {
         let module = valid.module();
         module.spelled();
-        let entries = match entries_of(module) {
-            Ok(entries) => entries,
-            Err(entry) => return Err(NewFault::NoEntry(entry)),
-        };
         if cap < least_of(module.memory()) {
             return Err(NewFault::Pages);
         }
@@ -197,7 +262,9 @@ impl<'m> Machine<'m> {
         requires entries { HasEntries m.now entries }
         requires fit { segments_fit m.now ≡ true }
         ensures is { IfOk result (λ a. IsFreshMachine m.now cap a) }
+        ensures start { IfOk result IsAtStart }
     {
+        first_is_ready();
         let pages = least_of(m.memory());
         let program = Program::new(alloc, m)?;
         let main = entries.main as usize;
@@ -222,6 +289,8 @@ impl<'m> Machine<'m> {
             cap,
             result_at: entries.result,
             status_at: entries.status,
+            heap_at: entries.heap,
+            args_at: entries.args,
             made: 0,
             ended: None,
             failed: false,
@@ -246,8 +315,8 @@ impl<'m> Machine<'m> {
         ensures err { OnErr result (self.new.failed ≡ true) }
         ensures unmade { OnErr result (self.new.made ≡ self.old.made) }
     {
-        never_stuck();
-        words_stay();
+        hosted_never_stuck();
+        hosted_words_stay();
         match run_step(self.alloc, &self.program, self.cap, &mut self.thread) {
             Ok(ended) => {
                 self.ended = ended;
@@ -295,7 +364,7 @@ impl<'m> Machine<'m> {
         ensures range { (1 ≤ result.class) × (result.class ≤ 6) }
         ensures is { step_facts self.now.program self.now.cap self.now.state ≡ StepDone result.class ∷ grow_facts result.grows }
     {
-        never_stuck();
+        hosted_never_stuck();
         next_facts(&self.program, self.cap, &self.thread)
     }
 
@@ -350,7 +419,7 @@ impl<'m> Machine<'m> {
     pub fn result(&self) -> u32
         ensures is { self.now.failed ≡ false → global_of Entry.Result self.now.program (store_of self.now.state) ≡ Some result }
     {
-        entries_are_there();
+        hosted_entries_are_there();
         i32_at(self.thread.globals.as_slice(), self.result_at)
     }
 
@@ -358,8 +427,53 @@ impl<'m> Machine<'m> {
     pub fn status(&self) -> u32
         ensures is { self.now.failed ≡ false → global_of Entry.Status self.now.program (store_of self.now.state) ≡ Some result }
     {
-        entries_are_there();
+        hosted_entries_are_there();
         i32_at(self.thread.globals.as_slice(), self.status_at)
+    }
+
+    /// The value of the global `heap`: the first address that is free for a host's words, and for the run.
+    pub fn heap(&self) -> u32
+        requires for_call { IsForCall self.now.program }
+        ensures is { self.now.failed ≡ false → global_of Entry.Heap self.now.program (store_of self.now.state) ≡ Some result }
+    {
+        hosted_entries_are_there();
+        i32_at(self.thread.globals.as_slice(), self.heap_at)
+    }
+
+    /// Before the first step, puts words at `heap` and `heap` past them, where memory grows by the fewest pages, and gives their address. All else stays.
+    ///
+    /// None comes exactly where the address past the words would be over 4,294,967,295, or the pages that are needed pass the smaller of the machine's bound and
+    /// the module's maximum; nothing changes then. `Failed` comes as in `run`, and `StepsSpent` never.
+    pub fn host_block(&mut self, words: &[u32]) -> Result<Option<u32>, RunFault>
+        requires unmade { self.old.made ≡ 0 }
+        requires for_call { IsForCall self.old.program }
+        ensures kept { (self.new.program ≡ self.old.program) × (self.new.cap ≡ self.old.cap) × (self.new.made ≡ self.old.made) }
+        ensures says { SaysPut self.old self.new words.now result }
+        ensures start { self.new.failed ≡ false → IsAtStart self.new }
+    {
+        if self.failed {
+            return Err(RunFault::Failed);
+        }
+        let at = self.heap();
+        if !has_room(&self.program, self.cap, at as u64 + 4 * words.len() as u64) {
+            return Ok(None);
+        }
+        hosted_words_stay();
+        if let Err(_) = put_block(&mut self.thread, self.heap_at, at, words) {
+            self.failed = true;
+            return Err(RunFault::Memory);
+        }
+        Ok(Some(at))
+    }
+
+    /// Before the first step, sets the global `args`: the address where the arguments' words are. All else stays.
+    pub fn set_args(&mut self, address: u32)
+        requires unmade { self.old.made ≡ 0 }
+        requires for_call { IsForCall self.old.program }
+        ensures is { self.new ≡ record self.old { state = with_store self.old.state (set_entry Entry.Args self.old.program address (store_of self.old.state)) } }
+        ensures start { self.new.failed ≡ false → IsAtStart self.new }
+    {
+        set_i32(&mut self.thread.globals, self.args_at, address);
     }
 
     /// The pages of memory, of 65,536 bytes each.

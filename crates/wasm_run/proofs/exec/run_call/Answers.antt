@@ -1,4 +1,4 @@
-use Rattle.std.proofs.Common.{ℕ, ◌+◌, ◌∙◌, ◌≡◌, ◌++◌, ◌∷◌, [], List, Bool, length, take, drop, reverse, map, sym, ap, refl}
+use Rattle.std.proofs.Common.{ℕ, ◌+◌, ◌∙◌, ◌≡◌, ◌++◌, ◌∷◌, [], List, Bool, length, take, drop, reverse, map, ap, refl}
 use Rattle.std.specs.Prelude.{is_some}
 use Rattle.wasm_core.specs.declared.types.ConstValue.{ConstValue}
 use Rattle.wasm_core.specs.Instance.{func_of, zero_of}

@@ -1,6 +1,5 @@
-use Rattle.std.proofs.Common.{◌∙◌, ◌≡◌, sym, ap, subst, Some, Option, true}
-use Rattle.std.specs.Prelude.{slice_get, IfOk, is_some}
-use Rattle.wasm_core.specs.declared.instrs.Instr.{Instr}
+use Rattle.std.proofs.Common.{◌≡◌, sym, subst, Some, Option, true}
+use Rattle.std.specs.Prelude.{IfOk, is_some}
 use Rattle.wasm_core.specs.MachineStep.{State}
 use Rattle.wasm_core.specs.Runs.{grants}
 use Rattle.wasm_run.specs.Threads.{conf_of, state_of}

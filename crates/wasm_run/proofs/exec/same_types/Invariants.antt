@@ -1,4 +1,4 @@
-use Rattle.std.proofs.Common.{◌≡◌, take, drop}
+use Rattle.std.proofs.Common.{◌≡◌, drop}
 use Rattle.wasm_core.specs.MachineStep.{same_types}
 use Rattle.wasm_run.proofs.exec.same_types.Given as goal
 

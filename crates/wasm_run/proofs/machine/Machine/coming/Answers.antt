@@ -11,7 +11,7 @@ next_facts-requires c =
     let sound = rw (← c.self.view_is) at c.requires.sound in
     let on = rw (← c.self.view_is) at c.requires.goes_on in
     let a = c.self.inside in let m = a.program in
-    record { some = can_step c.never_stuck.ensures.holds m c.self.invariant.valid (conf_of m a.thread) (going m a.ended a.thread on (c.self.invariant.reached sound)) (grants a.cap (conf_of m a.thread)) }
+    record { some = can_step c.hosted_never_stuck.ensures.holds m c.self.invariant.valid (conf_of m a.thread) a.made (going m a.ended a.thread on a.made (c.self.invariant.reached sound)) (grants a.cap (conf_of m a.thread)) }
 
 pub returns : goal.returns
 returns c =

@@ -12,6 +12,6 @@ returns c =
     let a = c.self.inside in
     record {
       is = rw (← c.self.view_is) (λ sound.
-          answer_is c.entries_are_there.ensures.holds a.program Result a.result_at (state_of a.program a.ended a.thread) tt c.self.invariant.valid (c.self.invariant.reached sound) c.self.invariant.result_at c.i32_at.result
+          answer_is c.hosted_entries_are_there.ensures.holds a.program Result a.result_at (state_of a.program a.ended a.thread) a.made tt c.self.invariant.valid (c.self.invariant.reached sound) c.self.invariant.result_at c.i32_at.result
           (λ k e. c.i32_at.ensures.is k (ap (λ (gs : List ConstValue). slice_get gs a.result_at) (c.as_slice.ensures.value ∙ sym (ap (λ (s : Store). s.globals) (store_of_state a.program a.ended a.thread))) ∙ e)));
     }

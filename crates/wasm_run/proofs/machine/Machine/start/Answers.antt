@@ -1,8 +1,8 @@
-use Rattle.std.proofs.Common.{◌≡◌, ◌∙◌, List, [], Some, None, refl, map, sym, ap, subst, false, true, length}
+use Rattle.std.proofs.Common.{◌≡◌, ◌∙◌, List, [], None, refl, map, sym, ap, subst, false, true}
 use Rattle.std.specs.Prelude.{is_some}
 use Rattle.std.specs.Option.{option_map}
 use Rattle.wasm_core.specs.declared.types.ConstValue.{ConstValue}
-use Rattle.wasm_core.specs.declared.entries.Entry.TheVariants.{Result, Status}
+use Rattle.wasm_core.specs.declared.entries.Entry.TheVariants.{Result, Status, Heap, Args}
 use Rattle.wasm_core.specs.Parts.{Parts}
 use Rattle.wasm_core.specs.Memory.{zeroed}
 use Rattle.wasm_core.specs.Instance.{Func, func_of, least, zero_of}
@@ -10,9 +10,9 @@ use Rattle.wasm_core.specs.Entries.{index_of}
 use Rattle.wasm_core.specs.MachineStep.{State}
 use Rattle.wasm_core.specs.ModuleTyping.{IsValid}
 use Rattle.wasm_core.specs.Words.{HasWords}
-use Rattle.wasm_core.specs.Runs.{start}
+use Rattle.wasm_core.specs.Runs.{start, first_store}
 use Rattle.wasm_run.specs.Programs.{locals_at}
-use Rattle.wasm_run.specs.Shape.{Shape}
+use Rattle.wasm_run.specs.Hosting.{IsAtStart}
 use Rattle.wasm_run.specs.Machines.{Reached}
 use Rattle.wasm_run.specs.Threads.{state_of}
 use Rattle.wasm_run.specs.declared.thread.Thread.{Thread}
@@ -40,9 +40,12 @@ invariant_of-result c =
     record {
       valid = subst (λ (x : Parts). IsValid x) (sym pe) c.requires.valid;
       words = subst (λ (x : Parts). HasWords x) (sym pe) c.requires.words;
-      reached = λ _. subst (λ (x : Parts). Reached x (state_of x None t)) (sym pe) (record { first = start m g; starts = main_starts m f g c.requires.fit c.requires.entries.main is; steps = 0; reach = sym e });
+      reached = λ _. subst (λ (x : Parts). Reached x 0 (state_of x None t)) (sym pe)
+          (record { store = first_store m; ready = c.first_is_ready.ensures.holds m c.requires.valid c.requires.words; first = start m g; starts = main_starts m f g c.requires.fit c.requires.entries.main is; steps = 0; reach = sym e; none_made = λ _. refl });
       result_at = ap (index_of Result) pe ∙ c.requires.entries.result;
       status_at = ap (index_of Status) pe ∙ c.requires.entries.status;
+      heap_at = λ x h. c.requires.entries.heap x (sym (ap (index_of Heap) pe) ∙ h);
+      args_at = λ x h. c.requires.entries.args x (sym (ap (index_of Args) pe) ∙ h);
     }
 
 pub returns : goal.returns
@@ -56,11 +59,11 @@ returns c =
     let size = c.least_of-pages.ensures.is ∙ ap least c.memory.ensures.is in
     let store = first_is m g t size (c.in_ok-memory.ensures.is ∙ ap zeroed size) c.in_ok-globals.ensures.is refl refl in
     let e = fresh m g f is params none t cur c.new-callers.ensures.items store in
+    let seen =
+    ap (λ (x : Parts). record { program = x; cap = c.args.cap; state = state_of x None t; made = 0; failed = false }) pe
+    ∙ ap (λ (s : State). record { program = m; cap = c.args.cap; state = s; made = 0; failed = false }) e in
+    let starts = main_starts m f g c.requires.fit c.requires.entries.main is in
     record {
-      is = (
-        start m g,
-        main_starts m f g c.requires.fit c.requires.entries.main is,
-        ap (λ (x : Parts). record { program = x; cap = c.args.cap; state = state_of x None t; made = 0; failed = false }) pe
-            ∙ ap (λ (s : State). record { program = m; cap = c.args.cap; state = s; made = 0; failed = false }) e,
-      );
+      is = (start m g, starts, seen);
+      start = subst IsAtStart (sym seen) (record { ready = c.first_is_ready.ensures.holds m c.requires.valid c.requires.words; starts = starts });
     }
