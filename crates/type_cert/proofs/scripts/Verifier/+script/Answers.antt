@@ -1,11 +1,13 @@
-use Rattle.std.proofs.Common.{rules, arith, ◌≡◌, ◌∙◌, ap, sym, refl, ◌<◌, Some, length, slice_get, suc, ◌-◌, ◌+◌}
+use Rattle.std.proofs.Common.{rules, arith, ◌≡◌, ◌∙◌, ap, sym, refl, ◌<◌, Some, length, slice_get, suc, ◌-◌, ◌+◌, ◌≤◌}
 use Rattle.calculus_rules.specs.Context.{values}
 use Rattle.pc_rules.specs.Entailment.{test_of}
+use Rattle.pc_rules.proofs.Meters.{after-trans}
 use Rattle.cert_rules.specs.declared.item.CertItem.TheVariants.{Same}
 use Rattle.type_cert.specs.Going.{going}
 use Rattle.type_cert.specs.Comparable.{AreScriptable}
 use Rattle.type_cert.proofs.Retracing.{retraces_on, retraces_err, retraces_passed, retraces_bar}
 use Rattle.type_cert.proofs.Scripting.{item_there, retraces_is, from_past, left_none, right_none, left_goes, right_goes, script_nested, script_entered, product_err, product_go, lambda_err, lambda_go, app_err, app_go, let_first, let_second, let_go, leaves, formers_differ, values_defined, values_under, after_same, left_ready, right_ready}
+use Rattle.type_cert.proofs.Listed.{part_ready, part_next, part_stops, parts_done, match_goes, match_differs, fix_goes, fix_differs, matches_counted, fixpoints_counted}
 use Rattle.type_cert.proofs.scripts.Verifier.+script.Goals as goal
 
 pub item-left_item-requires : goal.item-left_item-requires
@@ -125,3 +127,34 @@ definition-returns-in_err-script t c =
 
 pub parts-returns-in_default : goal.parts-returns-in_default
 parts-returns-in_default t c = record { retraces = rw c.leaf.ensures.is (leaves c.args.at (going c.args.self.now c.args.room) (values c.args.ctx.now) c.args.equal c.args.trail.now c.args.a.now c.args.b.now (search rules) c.requires.number) }
+
+-- each part of a list
+
+pub each_part-script-requires : goal.each_part-script-requires
+each_part-script-requires t c =
+    let l : c.loop-i.i < length c.args.parts.now = grind arith in
+    let h = part_ready c.args.self.now.env.now (values c.args.ctx.now) (values c.in_ok-inner.inner) c.args.parts.now c.loop-i.i c.index-parts-i.result c.requires.env c.requires.values c.in_ok-inner.ensures.longer l c.index-parts-i.is c.requires.parts in
+    let n = c.loop-i.invariant.after.nest in
+    search (rules, h, n)
+
+pub each_part-loop-i-preserved : goal.each_part-loop-i-preserved
+each_part-loop-i-preserved t c =
+    let l : c.loop-i.i < length c.args.parts.now = grind arith in
+    let f = c.in_ok-script.ensures.retraces in
+    record {
+      rest = λ r x y. c.loop-i.invariant.rest r x
+          (part_next (going c.args.self.now c.args.room) (values c.args.ctx.now) c.args.parts.now c.loop-i.i c.index-parts-i.result (values c.in_ok-inner.inner) r c.loop-i.trail c.script.new.trail x l c.index-parts-i.is c.in_ok-inner.ensures.longer f y);
+      after = after-trans c.args.trail.now.meter c.loop-i.trail.meter c.script.new.trail.meter c.loop-i.invariant.after f.after;
+    }
+
+pub each_part-returns-in_err-script : goal.each_part-returns-in_err-script
+each_part-returns-in_err-script t c =
+    let l : c.loop-i.i < length c.args.parts.now = grind arith in
+    let f = c.in_err-script.ensures.retraces in
+    record { retraces = retraces_passed c.from_residual-in_err-script.ensures.1 (c.loop-i.invariant.rest _ _
+        (part_stops (going c.args.self.now c.args.room) (values c.args.ctx.now) c.args.parts.now c.loop-i.i c.index-parts-i.result (values c.in_ok-inner.inner) _ c.loop-i.trail c.script.new.trail l c.index-parts-i.is c.in_ok-inner.ensures.longer f)) }
+
+pub each_part-returns : goal.each_part-returns
+each_part-returns t c =
+    let h : length c.args.parts.now ≤ c.loop-i.i = search rules in
+    record { retraces = c.loop-i.invariant.rest _ _ (parts_done (going c.args.self.now c.args.room) (values c.args.ctx.now) c.args.parts.now c.loop-i.i c.loop-i.trail h) }
