@@ -12,8 +12,8 @@ returns-then-xs-i-clause-ok c =
     let h : c.loop-i.i < length c.args.xs.now = grind arith in
     let k : c.loop-i.i < length c.args.ys.now = omega (arith, n) in
     λ o. c.loop-i.invariant.rest o
-        ∙ arms_differ c.args.xs.now c.args.ys.now c.loop-i.i c.loop-i.out.items o c.index-xs-i.result c.index-ys-i.result h k c.index-xs-i.is c.index-ys-i.is
-        (rw (← c.index-xs-i.is, ← c.index-ys-i.is) at c.if-xs-i.true)
+    ∙ arms_differ c.args.xs.now c.args.ys.now c.loop-i.i c.loop-i.out.items o c.index-xs-i.result c.index-ys-i.result h k c.index-xs-i.is c.index-ys-i.is
+    (rw (← c.index-xs-i.is, ← c.index-ys-i.is) at c.if-xs-i.true)
 
 pub loop-i-preserved : goal.loop-i-preserved
 loop-i-preserved c =

@@ -12,8 +12,8 @@ returns-then-ds-i-clause-same c =
     let h : c.loop-i.i < length c.args.ds.now = grind arith in
     let k : c.loop-i.i < length c.args.es.now = omega (arith, n) in
     sym (c.loop-i.invariant.same
-        ∙ rargs_differ c.args.ds.now c.args.es.now c.loop-i.i c.index-ds-i.result c.index-es-i.result h k c.index-ds-i.is c.index-es-i.is
-        (rw (← c.index-ds-i.is, ← c.index-es-i.is) at c.if-ds-i.true))
+    ∙ rargs_differ c.args.ds.now c.args.es.now c.loop-i.i c.index-ds-i.result c.index-es-i.result h k c.index-ds-i.is c.index-es-i.is
+    (rw (← c.index-ds-i.is, ← c.index-es-i.is) at c.if-ds-i.true))
 
 pub loop-i-preserved : goal.loop-i-preserved
 loop-i-preserved c =

@@ -151,8 +151,10 @@ pub each_part-returns-in_err-script : goal.each_part-returns-in_err-script
 each_part-returns-in_err-script t c =
     let l : c.loop-i.i < length c.args.parts.now = grind arith in
     let f = c.in_err-script.ensures.retraces in
-    record { retraces = retraces_passed c.from_residual-in_err-script.ensures.1 (c.loop-i.invariant.rest _ _
-        (part_stops (going c.args.self.now c.args.room) (values c.args.ctx.now) c.args.parts.now c.loop-i.i c.index-parts-i.result (values c.in_ok-inner.inner) _ c.loop-i.trail c.script.new.trail l c.index-parts-i.is c.in_ok-inner.ensures.longer f)) }
+    record {
+      retraces = retraces_passed c.from_residual-in_err-script.ensures.1 (c.loop-i.invariant.rest _ _
+          (part_stops (going c.args.self.now c.args.room) (values c.args.ctx.now) c.args.parts.now c.loop-i.i c.index-parts-i.result (values c.in_ok-inner.inner) _ c.loop-i.trail c.script.new.trail l c.index-parts-i.is c.in_ok-inner.ensures.longer f));
+    }
 
 pub each_part-returns : goal.each_part-returns
 each_part-returns t c =
