@@ -40,8 +40,10 @@ compile() {
 }
 
 cd "$here/tests" || exit 2
+"$erasec" export </dev/null >/dev/null 2>&1
+exports=$?
 for file in *.v; do
-  compile "$file"
+  if [ "$file" = exporting.v ] && [ "$exports" = 2 ]; then skipped=$((skipped + 1)); else compile "$file"; fi
 done
 for left in older late; do
   if [ -e "out/$left.dump" ]; then fail "a refusal left out/$left.dump"; else pass; fi
@@ -78,12 +80,12 @@ cd .. || exit 2
 
 # ------------------------------------------------------------------ examples
 
-# The dumps of examples/ that come from here, and their values by Coq, are those that are written today.
+# The dumps of examples/ that come from here, and their values by Coq, or their answers to some calls, are those that are written today.
 cd ../examples || exit 2
 ln -sfn ../tests/out out
 for file in *.v; do
   compile "$file"
-  for text in "${file%.v}.dump" "${file%.v}.value"; do
+  for text in "${file%.v}.dump" "${file%.v}.value" "${file%.v}.answers"; do
     [ -e "../../examples/$text" ] || [ -e "out/$text" ] || continue
     if cmp -s "out/$text" "../../examples/$text"; then pass; else fail "examples/$text isn't what $file gives now"; fi
   done
@@ -142,7 +144,10 @@ cd .. || exit 2
 
 if command -v node >/dev/null; then
   for module in out/*.wasm; do
-    answer=$(node "$here/../tools/read-answer.mjs" "$module" $(cat "${module%.wasm}.types") 2>out/err)
+    given=()
+    arguments=$(basename "${module%.wasm}").arguments
+    [ -f "$arguments" ] && given=(-- "$(cat "$arguments")")
+    answer=$(node "$here/../tools/read-answer.mjs" "$module" $(cat "${module%.wasm}.types") "${given[@]}" 2>out/err)
     if [ "$answer" = "$(cat "${module%.wasm}.value")" ]; then pass; else fail "node $module: $answer $(cat out/err)"; fi
   done
 else

@@ -1,4 +1,4 @@
-(* `Erasec Check`, `Erasec Compute` and `Erasec Compile`: the program run on a dump from inside Coq, and its answer shown with Coq's own names. *)
+(* `Erasec Check`, `Erasec Compute`, `Erasec Compile` and `Erasec Export`: the program run on a dump from inside Coq, and its answer shown with Coq's own names. *)
 open Names
 
 (* Of --turns; none leaves the program's own number. *)
@@ -115,11 +115,15 @@ let write_types dump types =
     if status = 0 then Printf.sprintf "%s: %s" types (String.concat " " (String.split_on_char '\n' (String.trim (text_of types))))
     else begin Dumping.remove types; "its types aren't written: " ^ said end
 
-let compile reference file =
+(* The module that a job makes of the constant, and the types beside it. *)
+let write_module job reference file =
   let c = Dumping.constant_of reference in
   with_dump c Preparing.Body (fun prepared dump answer ->
     Dumping.remove file;
-    asked "compile" c prepared ~dump ~answer;
+    asked job c prepared ~dump ~answer;
     let bytes = text_of answer in
     Dumping.to_file file (fun put -> put bytes);
     Dumping.notice "%s: %d bytes\n%s" file (String.length bytes) (write_types dump (Filename.remove_extension file ^ ".types")))
+
+let compile = write_module "compile"
+let export = write_module "export"

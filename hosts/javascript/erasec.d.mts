@@ -21,6 +21,7 @@ export interface Constructor {
 
 export declare class Types {
   constructor(text: string | readonly string[]);
+  readonly text: string;
   /** The types of main's arguments, none where main is data. */
   readonly args: readonly string[];
   /** The type of main's answer. */
@@ -39,16 +40,17 @@ export declare class Data {
 /** Text of types, in the form of `tools/types-of`, or types read of it. */
 export type TypesText = Types | string | readonly string[];
 
-export interface Raw {
-  readonly buffer: ArrayBuffer;
-  readonly word: number;
-}
+export declare function typesOf(types: TypesText): Types;
 
 export declare function readData(buffer: ArrayBuffer, word: number, types: TypesText, type?: string): Data;
 
+/** Nodes in preorder: for each its constructor's number and its count of arguments. */
+export declare function readNodes(buffer: ArrayBuffer, word: number, types: TypesText, type?: string): Uint32Array;
+export declare function dataOf(nodes: Uint32Array, types: TypesText, type?: string): Data;
+
 export declare class Program {
-  constructor(module: WebAssembly.Module, types: TypesText);
-  readonly module: WebAssembly.Module;
+  constructor(module: WebAssembly.Module | null, types: TypesText);
+  readonly module: WebAssembly.Module | null;
   readonly types: Types;
   run(...args: Data[]): Data;
   open(): Session;
@@ -59,12 +61,10 @@ export declare class Session {
   constructor(program: Program);
   readonly program: Program;
   run(...args: Data[]): Data;
-  runNodes(nodes: Uint32Array): Raw;
+  runNodes(nodes: Uint32Array): Uint32Array;
 }
 
 export declare function load(bytes: BufferSource, types: TypesText): Promise<Program>;
-
-export declare function parseArguments(text: string, types: TypesText): Data[];
 
 /** Between data and values of JavaScript. */
 export interface Conversion<Value, Given = Value> {
@@ -78,7 +78,7 @@ export declare const positive: Conversion<bigint, number | bigint>;
 export declare const N: Conversion<bigint, number | bigint>;
 export declare const Z: Conversion<bigint, number | bigint>;
 export declare const ascii: Conversion<number>;
-export declare const bytes: Conversion<Uint8Array, Iterable<number>>;
+export declare const bytes: Conversion<Uint8Array, Uint8Array | readonly number[]>;
 export declare const string: Conversion<string>;
 export declare function list<V, G>(item: Conversion<V, G>): Conversion<V[], G[]>;
 export declare function option<V, G>(item: Conversion<V, G>): Conversion<{ some: V } | null, { some: G } | null>;

@@ -1,4 +1,5 @@
 // Runs modules of erasec, stores the arguments of those whose main is a function, and reads their answers along main's types. Without dependencies, for node and browsers.
+// limited.mjs does so in a Worker with a limit of time, notation.mjs reads and writes data as text.
 //
 // A program's types are those that `tools/types-of` writes of its dump: 'list=nil,cons:nat+list' and 'nat=O,S:nat', main's first; where main is a function, 'nat+list->list' stands before
 // them. docs/RUNNING.md has the layout of values and how arguments are stored, README.md beside this file an example of each call, erasec.d.mts the types of TypeScript.
@@ -52,7 +53,8 @@ export class OutOfTime extends ErasecError {}
 export class Types {
   /** Of lines or words in the form of `tools/types-of`: one string, or several. */
   constructor(text) {
-    const given = (Array.isArray(text) ? text : [text]).join("\n").split(/\s+/).filter(Boolean);
+    this.text = (Array.isArray(text) ? text : [text]).join("\n");
+    const given = this.text.split(/\s+/).filter(Boolean);
     const arrow = given[0]?.indexOf("->") ?? -1;
     const signature = arrow < 0 ? null : given.shift();
     if (!given.length) throw new BadTypes("no type is given");
@@ -84,7 +86,8 @@ export class Types {
   }
 }
 
-const typesOf = (types) => (types instanceof Types ? types : new Types(types));
+/** The types of a text, or types that were read of one. */
+export const typesOf = (types) => (types instanceof Types ? types : new Types(types));
 
 // ------------------------------------------------------------------ data
 
@@ -113,23 +116,44 @@ export class Data {
   }
 }
 
+/** Whether a value is Data whose parts have the right form; its arguments may be anything. */
+const isData = (it) => it instanceof Data && Number.isInteger(it.number) && Array.isArray(it.args);
+
 /** Reads the data that a word stands for in a memory, along the types. Every block's address, constructor and number of arguments is compared with them. */
 export function readData(buffer, word, types, type) {
+  return dataOf(readNodes(buffer, word, types, type), types, type);
+}
+
+/** The nodes of that data in preorder: for each its constructor's number and its count of arguments. */
+export function readNodes(buffer, word, types, type) {
   const { constructors, main } = typesOf(types);
   const view = new DataView(buffer);
-  const root = [null];
-  const todo = [{ into: root, at: 0, word: word >>> 0, type: type ?? main }];
-  let nodes = 0;
+  const todo = [{ word: word >>> 0, type: type ?? main }];
+  const nodes = [];
   while (todo.length) {
-    const next = todo.pop();
-    if (++nodes > MAX_NODES) throw new TooLarge(`the answer has more than ${MAX_NODES} nodes`);
-    const { number, count } = headOf(view, next.word);
-    const constructor = constructors.get(next.type)?.[number];
-    if (!constructor) throw new NotData(`constructor ${number} of ${next.type} is met, which has ${constructors.get(next.type)?.length ?? "none"}`);
-    if (constructor.args.length !== count) throw new NotData(`${constructor.name} of ${next.type} is met with ${count} arguments, and has ${constructor.args.length}`);
-    const data = new Data(constructor.name, number, new Array(count));
-    next.into[next.at] = data;
-    for (let i = 0; i < count; i++) todo.push({ into: data.args, at: i, word: view.getUint32(next.word + 4 + 4 * i, true), type: constructor.args[i] });
+    const { word, type } = todo.pop();
+    if (nodes.length === 2 * MAX_NODES) throw new TooLarge(`the answer has more than ${MAX_NODES} nodes`);
+    const { number, count } = headOf(view, word);
+    const constructor = constructors.get(type)?.[number];
+    if (!constructor) throw new NotData(`constructor ${number} of ${type} is met, which has ${constructors.get(type)?.length || "none"}`);
+    if (constructor.args.length !== count) throw new NotData(`${constructor.name} of ${type} is met with ${count} arguments, and has ${constructor.args.length}`);
+    nodes.push(number, count);
+    for (let i = count; i > 0; i--) todo.push({ word: view.getUint32(word + 4 * i, true), type: constructor.args[i - 1] });
+  }
+  return Uint32Array.from(nodes);
+}
+
+/** The data of such nodes, which were compared with the types. */
+export function dataOf(nodes, types, type) {
+  const { constructors, main } = typesOf(types);
+  const root = [];
+  const todo = [{ into: root, at: 0, type: type ?? main }];
+  for (let i = 0; todo.length; i += 2) {
+    const { into, at, type } = todo.pop();
+    const { name, args } = constructors.get(type)[nodes[i]];
+    const data = new Data(name, nodes[i], new Array(args.length));
+    into[at] = data;
+    for (let k = args.length; k > 0; k--) todo.push({ into: data.args, at: k - 1, type: args[k - 1] });
   }
   return root[0];
 }
@@ -154,7 +178,7 @@ function nodesOf(args, { constructors, args: types }) {
   while (todo.length) {
     const { data, type, argument } = todo.pop();
     if (nodes.length === 2 * MAX_NODES) throw new TooLarge(`the arguments have more than ${MAX_NODES} nodes`);
-    if (!(data instanceof Data)) throw new BadArgument(`argument ${argument} holds ${String(data)}, which isn't data`);
+    if (!isData(data)) throw new BadArgument(`argument ${argument} holds ${data instanceof Data ? data.name : typeof data}, which isn't data`);
     const constructor = constructors.get(type)[data.number];
     if (!constructor) throw new BadArgument(`argument ${argument} holds constructor ${data.number} of ${type}, which has ${constructors.get(type).length || "none"}`);
     if (constructor.args.length !== data.args.length) throw new BadArgument(`argument ${argument} holds ${constructor.name} of ${type} with ${data.args.length} arguments, and it has ${constructor.args.length}`);
@@ -162,46 +186,6 @@ function nodesOf(args, { constructors, args: types }) {
     for (let i = data.args.length; i > 0; i--) todo.push({ data: data.args[i - 1], type: constructor.args[i - 1], argument });
   }
   return Uint32Array.from(nodes);
-}
-
-/** Main's arguments of a text, as erasec writes data, one behind the other: `(S O) (cons O nil)`. Names are those of the types. */
-export function parseArguments(text, types) {
-  const { constructors, args } = typesOf(types);
-  const token = /([ \t\n\r]+|;[^\n]*)|[()]|[A-Za-z0-9_.'-]+/y;
-  const given = [];
-  // the brackets that are open, the innermost last: what stands in them, and the types of that
-  const open = [{ items: given, types: args }];
-  let named = false;
-  const refuse = (why) => { throw new BadArgument(`argument at ${token.at}: ${why}`); };
-  for (;;) {
-    token.at = token.lastIndex;
-    const { items, types: due } = open.at(-1);
-    if (token.at === text.length) break;
-    const found = token.exec(text) ?? refuse("no token");
-    if (found[1] !== undefined) continue;
-    const type = due[items.length];
-    if (named && found[0].length === 1 && "()".includes(found[0])) refuse("a constructor's name is due");
-    if (found[0] === ")") {
-      if (open.length === 1 || !items.length) refuse("a bracket that closes nothing");
-      if (type !== undefined) refuse(`data of ${type} is missing`);
-      open.pop();
-    } else if (type === undefined) {
-      refuse("one too many");
-    } else if (found[0] === "(") {
-      named = true;
-    } else {
-      const number = constructors.get(type).findIndex((it) => it.name === found[0]);
-      if (number < 0) refuse(`${found[0]} is no constructor of ${type}`);
-      const data = new Data(found[0], number);
-      if (!named && constructors.get(type)[number].args.length) refuse(`${found[0]} has arguments`);
-      items.push(data);
-      if (named) open.push({ items: data.args, types: constructors.get(type)[number].args });
-      named = false;
-    }
-  }
-  if (named || open.length > 1) refuse("the text ends early");
-  if (given.length < args.length) refuse(`data of ${args[given.length]} is missing`);
-  return given;
 }
 
 /** Stores arguments behind the end of the heap, each block behind those of its fields, then their words; and tells the module of both. */
@@ -214,6 +198,7 @@ function store({ memory, heap, args }, nodes) {
   }
   count -= 1;
   const from = heap.value >>> 0;
+  if (from % 4 || from > memory.buffer.byteLength) throw new BadModule(`heap is ${from}, which is no address in the module's memory`);
   const end = from + 4 * (words + count);
   makeRoom(memory, end);
   const view = new DataView(memory.buffer);
@@ -240,24 +225,30 @@ function makeRoom(memory, bytes) {
   try {
     memory.grow(pages);
   } catch (cause) {
+    if (!(cause instanceof RangeError)) throw new BadModule(`the module's memory can't grow: ${cause.message}`, { cause });
     throw new MemoryExhausted("the arguments have no room in the program's memory", { cause });
   }
 }
 
 // ------------------------------------------------------------------ programs
 
-/** A global of type i32 that can be set. */
+/** A global of type i32 that can be set: it takes of a number the integer alone, and globals of type i64 take none. */
 function isWord(it) {
   if (!(it instanceof WebAssembly.Global) || typeof it.value !== "number") return false;
+  const first = it.value;
   try {
-    it.value = it.value;
-    return true;
+    it.value = 0.5;
   } catch {
     return false;
   }
+  const taken = it.value;
+  it.value = first;
+  return taken === 0;
 }
 
-const ENTRIES = [["main", (it) => typeof it === "function"], ["memory", (it) => it instanceof WebAssembly.Memory], ["result", isWord], ["status", isWord]];
+const isMain = (it) => typeof it === "function" && it.length === 0;
+const isMemory = (it) => it instanceof WebAssembly.Memory && it.buffer instanceof ArrayBuffer;
+const ENTRIES = [["main", isMain], ["memory", isMemory], ["result", isWord], ["status", isWord]];
 const CALL_ENTRIES = [...ENTRIES, ["heap", isWord], ["args", isWord]];
 
 /** A module of erasec, and the types of its main. */
@@ -297,23 +288,24 @@ export class Session {
 
   /** Runs main on the arguments, if it takes any, and reads its answer. */
   run(...args) {
-    const { buffer, word } = this.runNodes(this.program.nodesOf(args));
-    return readData(buffer, word, this.program.types);
+    return dataOf(this.runNodes(this.program.nodesOf(args)), this.program.types);
   }
 
-  /** Runs main on arguments that `nodesOf` has taken apart; what stands in the memory afterwards, and the word of the answer. */
+  /** Runs main on arguments that `nodesOf` has taken apart, and gives the nodes of its answer. */
   runNodes(nodes) {
     if (this.#ended) throw this.#ended;
     const { main, memory, result, status } = this.#entries;
     if (nodes.length) store(this.#entries, nodes);
     result.value = this.#first;
+    let given;
     try {
-      main();
+      given = main();
     } catch (trap) {
       this.#ended = causeOf(trap, status.value);
       throw this.#ended;
     }
-    return { buffer: memory.buffer, word: result.value >>> 0 };
+    if (given !== undefined) throw new BadModule("main gives a result");
+    return readNodes(memory.buffer, result.value, this.program.types);
   }
 }
 
@@ -328,6 +320,7 @@ function instanceOf({ module, types }) {
   for (const [name, isEntry] of types.args.length ? CALL_ENTRIES : ENTRIES) {
     if (!isEntry(entries[name])) throw new BadModule(`the module has no entry ${name}`);
   }
+  if (!types.args.length && "args" in entries) throw new BadModule("the module's main takes arguments, and by its types it takes none");
   return entries;
 }
 
@@ -351,11 +344,11 @@ export async function load(bytes, types) {
 
 // ------------------------------------------------------------------ conversions
 
-const refuse = (what, value) => { throw new NotConvertible(`${value instanceof Data ? value.name : String(value)} isn't ${what}`); };
+const refuse = (what, value) => { throw new NotConvertible(`${value instanceof Data ? value.name : typeof value === "object" ? "an object" : String(value)} isn't ${what}`); };
 
 /** A constructor's number, where the data is one of a type with as many arguments for each constructor as listed. */
 function numberOf(data, what, counts) {
-  if (!(data instanceof Data) || counts[data.number] !== data.args.length) refuse(what, data);
+  if (!isData(data) || counts[data.number] !== data.args.length) refuse(what, data);
   return data.number;
 }
 
@@ -467,16 +460,20 @@ export const ascii = {
   },
 };
 
-/** Coq's string, as the text that its bytes are in UTF-8; `bytes` has them as they are. */
+/** Coq's string, as its bytes. */
 export const bytes = {
   of(data) {
     const values = [];
     for (let at = data; numberOf(at, "a string", [0, 2]) === 1; at = at.args[1]) values.push(ascii.of(at.args[0]));
     return Uint8Array.from(values);
   },
-  data: (values) => Array.from(values).reduceRight((rest, byte) => new Data("String", 1, [ascii.data(byte), rest]), new Data("EmptyString", 0)),
+  data(values) {
+    if (!Array.isArray(values) && !(values instanceof Uint8Array)) refuse("bytes", values);
+    return values.reduceRight((rest, byte) => new Data("String", 1, [ascii.data(byte), rest]), new Data("EmptyString", 0));
+  },
 };
 
+/** Coq's string, as the text whose bytes in UTF-8 it has. */
 export const string = {
   of(data) {
     try {
@@ -486,5 +483,9 @@ export const string = {
       throw new NotConvertible("the string's bytes aren't UTF-8: use bytes", { cause });
     }
   },
-  data: (value) => (typeof value === "string" ? bytes.data(new TextEncoder().encode(value)) : refuse("a string", value)),
+  data(value) {
+    // a half of a pair of surrogates has no UTF-8
+    if (typeof value !== "string" || /\p{Surrogate}/u.test(value)) refuse("a text", value);
+    return bytes.data(new TextEncoder().encode(value));
+  },
 };

@@ -1,14 +1,15 @@
 // Runs a program in a Worker that is ended after a time, in node and in browsers.
-import { BadModule, ErasecError, MemoryExhausted, OutOfTime, Program, StackExhausted, Trapped, readData } from "./erasec.mjs";
+import * as erasec from "./erasec.mjs";
 
-const KINDS = { BadModule, MemoryExhausted, StackExhausted, Trapped };
 const WORKER = new URL("./worker.mjs", import.meta.url);
+// megabytes of stack of a Worker in node, which a program's recursion needs; browsers let nobody choose
+const STACK = 64;
 
 /** A Worker with one way to listen, as browsers have it. */
 async function newWorker() {
   if (typeof Worker === "function") return new Worker(WORKER, { type: "module" });
   const { Worker: NodeWorker } = await import("node:worker_threads");
-  const worker = new NodeWorker(WORKER);
+  const worker = new NodeWorker(WORKER, { resourceLimits: { stackSizeMb: STACK } });
   return {
     postMessage: (it) => worker.postMessage(it),
     terminate: () => worker.terminate(),
@@ -16,24 +17,37 @@ async function newWorker() {
   };
 }
 
-/** The answer of a module's bytes, on the arguments if main takes any, or an error; OutOfTime where it isn't there after the milliseconds. */
-export async function runLimited(bytes, types, milliseconds, ...args) {
-  // the module is made in the Worker alone
-  const program = new Program(null, types);
-  const nodes = program.nodesOf(args);
+/** What the Worker sends, or its error; OutOfTime where nothing is there after the milliseconds, or where the signal ends it before. */
+async function asked(message, milliseconds, signal) {
   const worker = await newWorker();
   let timer;
   try {
     const told = await new Promise((resolve, reject) => {
-      timer = setTimeout(() => reject(new OutOfTime(`no answer after ${milliseconds} ms`)), milliseconds);
+      const end = (why) => reject(new erasec.OutOfTime(why));
+      timer = setTimeout(end, milliseconds, `no answer after ${milliseconds} ms`);
+      signal?.addEventListener("abort", () => end("the run was ended"));
       worker.addEventListener("message", (it) => resolve(it.data));
-      worker.addEventListener("error", (it) => reject(new ErasecError(`the Worker ended: ${it.message}`)));
-      worker.postMessage({ bytes, nodes });
+      worker.addEventListener("error", (it) => reject(new erasec.ErasecError(`the Worker ended: ${it.message ?? "it can't be loaded"}`)));
+      worker.postMessage(message);
     });
-    if (told.error) throw new (KINDS[told.error.name] ?? ErasecError)(told.error.message);
-    return readData(told.buffer, told.word, program.types);
+    if (!told.error) return told;
+    const kind = erasec[told.error.name];
+    throw new (kind?.prototype instanceof erasec.ErasecError ? kind : erasec.ErasecError)(told.error.message);
   } finally {
     clearTimeout(timer);
     worker.terminate();
   }
+}
+
+/** The answer of a module's bytes, on the arguments if main takes any, or an error; OutOfTime where it isn't there after the milliseconds. */
+export async function runLimited(bytes, types, milliseconds, ...args) {
+  // the module is made in the Worker alone
+  const program = new erasec.Program(null, types);
+  const { nodes } = await asked({ bytes, types: program.types.text, nodes: program.nodesOf(args) }, milliseconds);
+  return erasec.dataOf(nodes, program.types);
+}
+
+/** The same from text to text: `text` has the arguments as `parseArguments` reads them, and the answer is given as erasec writes it, in short, and with its count of nodes. */
+export async function textLimited(bytes, types, milliseconds, text = "", signal = undefined) {
+  return asked({ bytes, types: erasec.typesOf(types).text, text }, milliseconds, signal);
 }

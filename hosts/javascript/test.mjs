@@ -1,46 +1,21 @@
-// Tests of the reader: `node --test hosts/javascript/test.mjs`. Modules that are written out here show each error; with ERASEC, the program, its modules of examples/ and of the folders of
-// ERASEC_CASES are run too, and each text is compared with that of `erasec exec`.
+// Tests of the host: `node --test hosts/javascript/test.mjs`. Modules that are written out here show each error; the calculator is called as in its source; with the program, its modules of
+// examples/ and of the folders of ERASEC_CASES are run too, and each text is compared with that of `erasec exec` (../programs.mjs).
 import { test } from "node:test";
 import assert from "node:assert/strict";
-import { execFileSync, spawnSync } from "node:child_process";
-import { existsSync, readFileSync, readdirSync } from "node:fs";
-import { basename, join } from "node:path";
-import { fileURLToPath } from "node:url";
+import { spawnSync } from "node:child_process";
+import { readFileSync } from "node:fs";
+import { join } from "node:path";
 import * as erasec from "./erasec.mjs";
-import { runLimited } from "./limited.mjs";
+import { runLimited, textLimited } from "./limited.mjs";
+import { kindOf, notation, parseArguments } from "./notation.mjs";
+import { CALLABLE, CALL_ITSELF, EXHAUSTED, FOREVER, ONE_IN_A_LIST, UNREACHABLE, answersArgument, constant, written } from "../written.mjs";
+import { TOP, calculator, listText, programs, ran, skipsPrograms, typesOfDump } from "../programs.mjs";
 
 const { Data, N, Z, ascii, bool, bytes, list, load, nat, option, positive, prod, readData, string } = erasec;
-const TOP = fileURLToPath(new URL("../..", import.meta.url));
 const NAT = "nat=O,S:nat";
 const LIST = `list=nil,cons:nat+list ${NAT}`;
 
 // ------------------------------------------------------------------ modules written out
-
-const number = (n) => { const out = []; do { out.push((n & 127) | (n > 127 ? 128 : 0)); n >>>= 7; } while (n); return out; };
-const signed = (n) => { const out = []; for (;;) { const low = n & 127; n >>= 7; if ((n === 0 && !(low & 64)) || (n === -1 && low & 64)) return [...out, low]; out.push(low | 128); } };
-const named = (name) => [name.length, ...Buffer.from(name)];
-const section = (id, items) => { const body = [...number(items.length), ...items.flat()]; return [id, ...number(body.length), ...body]; };
-const constant = (n) => [0x41, ...signed(n)];
-
-/** A module whose main has this code, with words in memory from address 4, and words in result, status, heap and args; memory has one page, and so many at most. */
-function written({ code = [], words = [], result = 1, heap = 8, pages = 2, mutable = 1, entries = ["main", "memory", "result", "status"] }) {
-  const exports = { main: [0, 0], memory: [2, 0], result: [3, 0], status: [3, 1], heap: [3, 2], args: [3, 3] };
-  const data = words.flatMap((w) => [w & 255, (w >>> 8) & 255, (w >>> 16) & 255, w >>> 24]);
-  const body = [0, ...code, 0x0b];
-  return Uint8Array.from([0, 0x61, 0x73, 0x6d, 1, 0, 0, 0,
-    ...section(1, [[0x60, 0, 0]]), ...section(3, [[0]]), ...section(5, [[1, 1, pages]]),
-    ...section(6, [result, 0, heap, 0].map((it) => [0x7f, mutable, ...constant(it), 0x0b])),
-    ...section(7, entries.map((it) => [...named(it), ...exports[it]])),
-    ...section(10, [[...number(body.length), ...body]]),
-    ...section(11, [[0, ...constant(4), 0x0b, ...number(data.length), ...data]])]);
-}
-
-const CALLABLE = ["main", "memory", "result", "status", "heap", "args"];
-const answersArgument = (n) => ({ code: [0x23, 3, 0x28, 2, 4 * n, 0x24, 0], entries: CALLABLE });
-const UNREACHABLE = [0x00], CALL_ITSELF = [0x10, 0], FOREVER = [0x03, 0x40, 0x0c, 0, 0x0b];
-const EXHAUSTED = [...constant(1), 0x24, 1, ...UNREACHABLE];
-// cons 1 nil at 4, S O at 16
-const ONE_IN_A_LIST = { words: [2 * 65536 + 1, 16, 1, 65536 + 1, 1], result: 4 };
 
 const answerOf = async (module, types, ...args) => (await load(written(module), types)).run(...args);
 
@@ -99,10 +74,22 @@ test("a compiled function adds", async () => {
   assert.throws(() => add.run(nat.data(1), nat.data(3_999_999)), erasec.TooLarge);
 });
 
+test("a compiled function uses its memory up, by arguments or in its run", async () => {
+  const add = await load(readFileSync(join(TOP, "examples/add.wasm")), "nat+nat->nat nat=O,S:nat");
+  const seen = new Set();
+  for (let n = 5_000; seen.size < 2 && n > 4_000; n -= 100) {
+    const session = add.open();
+    const exhausted = (error) => error instanceof erasec.MemoryExhausted && seen.add(error.message).size > 0;
+    assert.throws(() => { for (;;) assert.equal(nat.of(session.run(nat.data(n), nat.data(0))), n); }, exhausted);
+  }
+  assert.equal(seen.size, 2);
+});
+
 test("arguments that aren't main's are found", async () => {
   const program = await load(written(answersArgument(1)), PAIR);
   for (const given of [[], [nat.data(1)], [nat.data(1), list(nat).data([]), nat.data(1)], [bool.data(true), 5], [nat.data(1), nat.data(1)], [nat.data(1), new Data("red", 2)],
-    [nat.data(0), new Data("cons", 1, [nat.data(0)])], [nat.data(0), new Data("nil", 0, [nat.data(0)])], [1, list(nat).data([])]]) {
+    [nat.data(0), new Data("cons", 1, [nat.data(0)])], [nat.data(0), new Data("nil", 0, [nat.data(0)])], [1, list(nat).data([])],
+    [new Data("O", "0"), list(nat).data([])], [new Data("O", "length"), list(nat).data([])], [new Data("O", 0, null), list(nat).data([])], [Object.create(null), list(nat).data([])], [new Data("S", 1, new Array(1)), list(nat).data([])]]) {
     assert.throws(() => program.run(...given), erasec.BadArgument);
   }
   await assert.rejects(answerOf(ONE_IN_A_LIST, LIST, nat.data(1)), erasec.BadArgument);
@@ -111,11 +98,11 @@ test("arguments that aren't main's are found", async () => {
 });
 
 test("arguments are read of their text", () => {
-  for (const text of ["O nil", "(S (S O)) (cons O (cons (S O) nil))"]) assert.equal(erasec.parseArguments(text, PAIR).join(" "), text);
-  assert.deepEqual(erasec.parseArguments(" ( S;x\nO)nil\t", PAIR).map(String), ["(S O)", "nil"]);
-  assert.equal(nat.of(erasec.parseArguments("(S ".repeat(10_000) + "O" + ")".repeat(10_000), "nat->nat nat=O,S:nat")[0]), 10_000);
+  for (const text of ["O nil", "(S (S O)) (cons O (cons (S O) nil))"]) assert.equal(parseArguments(text, PAIR).join(" "), text);
+  assert.deepEqual(parseArguments(" ( S;x\nO)nil\t", PAIR).map(String), ["(S O)", "nil"]);
+  assert.equal(nat.of(parseArguments("(S ".repeat(10_000) + "O" + ")".repeat(10_000), "nat->nat nat=O,S:nat")[0]), 10_000);
   for (const [text, offset] of [["", 0], ["O", 1], ["O nil O", 6], ["S nil", 0], ["(S) nil", 2], ["(O O) nil", 3], ["(S O", 4], ["(S O O) nil", 5], ["(cons O) nil", 1], ["O (cons O)", 9], ["O )", 2], ["O ((", 3], ["O ?", 2], ["O (", 3], ["true nil", 0]]) {
-    assert.throws(() => erasec.parseArguments(text, PAIR), { name: "BadArgument", message: new RegExp(`^argument at ${offset}:`) }, text);
+    assert.throws(() => parseArguments(text, PAIR), { name: "BadArgument", message: new RegExp(`^argument at ${offset}:`) }, text);
   }
 });
 
@@ -132,9 +119,24 @@ test("an instance runs as often as its memory lasts", async () => {
   for (let i = 0; i < 2; i++) assert.throws(() => ended.run(nat.data(0), numbers), erasec.Trapped);
 });
 
+test("entries have the right types", async () => {
+  // a result of type f32, a main with a parameter, and one with a result
+  const float = written({ result: 1 }), parameter = written({}), result = written({ code: constant(1) });
+  const spliced = (module, ...changes) => { for (const [from, to] of changes) { const at = Buffer.from(module).indexOf(Buffer.from(from)); module.splice(at, from.length, ...to); } return Uint8Array.from(module); };
+  const FLOAT = spliced([...float], [[0x7f, 1, 0x41, 1, 0x0b], [0x7d, 1, 0x43, 0, 0, 0, 0, 0x0b]], [[6, 21], [6, 24]]);
+  const PARAMETER = spliced([...parameter], [[1, 4, 1, 0x60, 0, 0], [1, 5, 1, 0x60, 1, 0x7f, 0]]);
+  const RESULT = spliced([...result], [[1, 4, 1, 0x60, 0, 0], [1, 5, 1, 0x60, 0, 1, 0x7f]]);
+  for (const module of [FLOAT, PARAMETER, RESULT]) {
+    assert.ok(WebAssembly.validate(module));
+    assert.throws(() => new erasec.Program(new WebAssembly.Module(module), NAT).run(), erasec.BadModule);
+  }
+});
+
 test("a module for calls has two more entries", async () => {
   for (const entries of [CALLABLE.slice(0, 4), CALLABLE.slice(0, 5)]) await assert.rejects(answerOf({ ...answersArgument(0), entries }, PAIR, nat.data(0), list(nat).data([])), erasec.BadModule);
   await assert.rejects(answerOf({ mutable: 0 }, NAT), erasec.BadModule);
+  await assert.rejects(answerOf(answersArgument(0), NAT), erasec.BadModule);
+  for (const heap of [2, 65_540, -4]) await assert.rejects(answerOf({ ...answersArgument(0), heap }, PAIR, nat.data(0), list(nat).data([])), erasec.BadModule);
 });
 
 test("a text of types is checked", () => {
@@ -144,15 +146,48 @@ test("a text of types is checked", () => {
   assert.equal(new erasec.Types(["list=nil,cons:nat+list\n", NAT]).main, "list");
 });
 
+test("data in short is read and written", () => {
+  const COQ = "list=nil,cons:nat+list nat=O,S:nat positive=xI:positive,xO:positive,xH N=N0,Npos:positive Z=Z0,Zpos:positive,Zneg:positive bool=true,false ascii=Ascii:bool+bool+bool+bool+bool+bool+bool+bool string=EmptyString,String:ascii+string pair=pair:list-2+option list-2=nil,cons:Z+list-2 option=Some:string,None";
+  const kinds = ["list", "nat", "positive", "N", "Z", "bool", "ascii", "string"];
+  for (const kind of kinds) assert.equal(kindOf(COQ, kind), kind);
+  assert.deepEqual([kindOf(COQ, "pair"), kindOf(COQ, "list-2"), kindOf("nat=S:nat,O", "nat"), kindOf("list=nil,cons:list", "list")], [undefined, "list", undefined, undefined]);
+  for (const [type, text, long] of [["nat", "2", "(S (S O))"], ["positive", "6", "(xO (xI xH))"], ["N", "0", "N0"], ["Z", "-3", "(Zneg (xI xH))"], ["bool", "true", "true"], ["list", "[0, 1]", "(cons O (cons (S O) nil))"],
+    ["list", "[]", "nil"], ["ascii", '"a"', "(Ascii true false false false false true true false)"], ["string", '""', "EmptyString"], ["pair", '(pair [-1, 0] (Some "\\"\u00fc\\n"))', null], ["pair", "(pair [] None)", "(pair nil None)"],
+    ["ascii", "(Ascii true false false true false false false false)", undefined], ["string", "(String (Ascii true true true true true true true true) EmptyString)", undefined]]) {
+    const [data] = parseArguments(text, `${type}->nat ${COQ}`);
+    assert.equal(notation(data, COQ, type), text);
+    if (long !== null) assert.equal(String(data), long ?? text);
+    assert.deepEqual(parseArguments(String(data), `${type}->nat ${COQ}`), [data]);
+  }
+  assert.equal(notation(list(nat).data(new Array(200_000).fill(1)), COQ, "list").length, 600_000);
+  for (const [type, text, offset] of [["nat", "-1", 0], ["nat", "1.5", 0], ["positive", "0", 0], ["bool", "1", 0], ["string", "a", 0], ["string", '"\\x"', 0], ["string", '"\\ud800"', 0], ["string", '"a', 0], ["ascii", '"ab"', 0],
+    ["ascii", '"\u00fc"', 0], ["nat", '"1"', 0], ["nat", "[1]", 0], ["list", "[1", 2], ["list", "[1)", 2], ["list", "(cons 1 ]", 8], ["list", "[nil]", 1], ["list", "()", 1], ["list", "(nil)", 4], ["pair", "pair", 0]]) {
+    assert.throws(() => parseArguments(text, `${type}->nat ${COQ}`), { name: "BadArgument", message: new RegExp(`^argument at ${offset}:`) }, text);
+  }
+});
+
 test("a Worker has a time limit", async () => {
   assert.equal(String(await runLimited(written(ONE_IN_A_LIST), LIST, 10_000)), "(cons (S O) nil)");
   await assert.rejects(runLimited(written({ code: FOREVER }), NAT, 500), erasec.OutOfTime);
   await assert.rejects(runLimited(written({ code: EXHAUSTED }), NAT, 10_000), erasec.MemoryExhausted);
-  await assert.rejects(runLimited(written({ code: CALL_ITSELF }), NAT, 10_000), erasec.StackExhausted);
+  await assert.rejects(runLimited(written({ code: CALL_ITSELF }), NAT, 60_000), erasec.StackExhausted);
   await assert.rejects(runLimited(written(ONE_IN_A_LIST), NAT, 10_000), erasec.NotData);
   assert.equal(String(await runLimited(written(answersArgument(1)), PAIR, 10_000, nat.data(300), list(nat).data([1]))), "(cons (S O) nil)");
   await assert.rejects(runLimited(written({ ...answersArgument(1), code: FOREVER }), PAIR, 500, nat.data(300), list(nat).data([1])), erasec.OutOfTime);
   await assert.rejects(runLimited(written(answersArgument(1)), PAIR, 10_000, nat.data(300)), erasec.BadArgument);
+  await assert.rejects(runLimited(Uint8Array.of(1), NAT, 10_000), erasec.BadModule);
+});
+
+test("a Worker reads and writes texts", async () => {
+  assert.deepEqual(await textLimited(written(ONE_IN_A_LIST), LIST, 10_000), { count: 4, text: "(cons (S O) nil)", notation: "[1]" });
+  assert.equal((await textLimited(written(answersArgument(1)), PAIR, 10_000, "0 [7, 1]")).notation, "[7, 1]");
+  for (const [module, types, text, kind] of [[written(answersArgument(1)), PAIR, "0", erasec.BadArgument], [written(answersArgument(1)), "nat->", "0", erasec.BadTypes], [written({ result: 2 }), NAT, "", erasec.NotData],
+    [written({ words: [65536 + 1, 4], result: 4 }), NAT, "", erasec.TooLarge], [written({ code: FOREVER }), NAT, "", erasec.OutOfTime]]) {
+    await assert.rejects(textLimited(module, types, kind === erasec.OutOfTime ? 500 : 10_000, text), kind);
+  }
+  const stop = new AbortController();
+  setTimeout(() => stop.abort(), 100);
+  await assert.rejects(textLimited(written({ code: FOREVER }), NAT, 60_000, "", stop.signal), erasec.OutOfTime);
 });
 
 test("conversions go both ways", () => {
@@ -174,14 +209,31 @@ test("conversions go both ways", () => {
 });
 
 test("what can't be converted is refused", () => {
-  for (const [conversion, value] of [[nat, -1], [nat, 1.5], [positive, 0], [Z, "1"], [ascii, 256], [bool, 1], [list(nat), 1], [prod(nat, nat), [1]], [option(nat), 1], [string, 1]]) {
+  for (const [conversion, value] of [[nat, -1], [nat, 1.5], [positive, 0], [Z, "1"], [ascii, 256], [bool, 1], [list(nat), 1], [prod(nat, nat), [1]], [option(nat), 1], [string, 1], [string, "\ud800"], [bytes, 5], [bytes, "a"], [bytes, null],
+    [bytes, [256]], [list(nat), null], [prod(nat, nat), null], [option(nat), undefined]]) {
     assert.throws(() => conversion.data(value), erasec.NotConvertible, String(value));
   }
-  for (const [conversion, data] of [[nat, new Data("cons", 1, [nat.data(0), nat.data(0)])], [bool, nat.data(1)], [list(nat), new Data("nil", 2)], [prod(nat, nat), nat.data(1)], [ascii, nat.data(0)]]) {
-    assert.throws(() => conversion.of(data), erasec.NotConvertible, String(data));
+  for (const [conversion, data] of [[nat, new Data("cons", 1, [nat.data(0), nat.data(0)])], [bool, nat.data(1)], [list(nat), new Data("nil", 2)], [prod(nat, nat), nat.data(1)], [ascii, nat.data(0)], [bool, new Data("x", "length", [nat.data(0), nat.data(0)])],
+    [nat, new Data("O", 0, null)], [nat, Object.create(null)], [nat, undefined]]) {
+    assert.throws(() => conversion.of(data), erasec.NotConvertible);
   }
   assert.throws(() => string.of(bytes.data([255])), erasec.NotConvertible);
   assert.throws(() => nat.data(4_000_000), erasec.TooLarge);
+});
+
+test("the types for TypeScript name what is exported", async () => {
+  for (const name of ["erasec", "limited", "notation"]) {
+    const text = readFileSync(new URL(`${name}.d.mts`, import.meta.url), "utf8");
+    const declared = [...text.matchAll(/^export declare (?:const|function|class) (\w+)/gm)].map((it) => it[1]);
+    assert.deepEqual(declared.sort(), Object.keys(await import(`./${name}.mjs`)).sort());
+  }
+});
+
+const tsc = spawnSync("tsc", ["--version"]).status === 0 ? false : "tsc isn't installed";
+
+test("they are right for a program that uses all of them", { skip: tsc }, () => {
+  const words = ["--noEmit", "--strict", "--target", "es2022", "--module", "nodenext", "--moduleResolution", "nodenext", "--lib", "es2022,dom", join(TOP, "hosts/javascript/sample.mts")];
+  assert.deepEqual([spawnSync("tsc", words, { encoding: "utf8" }).stdout], [""]);
 });
 
 test("tools/read-answer.mjs tells causes by its status", () => {
@@ -191,27 +243,43 @@ test("tools/read-answer.mjs tells causes by its status", () => {
   const read = run(join(TOP, "examples/one.wasm"), "two=a,b");
   assert.deepEqual([read.status, read.stdout], [0, "b\n"]);
   assert.equal(run(join(TOP, "examples/one.wasm"), "one=a").status, 15);
+  const add = (...words) => run(join(TOP, "examples/add.wasm"), "nat+nat->nat", NAT, "--", ...words);
+  assert.deepEqual([add("2", "1").status, add("(S (S O)) 1").stdout, add("2").status, add("500000 0").status, add("1 3999999").status], [0, "(S (S (S O)))\n", 16, 17, 7]);
 });
 
 // ------------------------------------------------------------------ modules of the program
 
-const program = process.env.ERASEC ?? join(TOP, "crates/erasec/out/erasec");
-const folders = [join(TOP, "examples"), ...(process.env.ERASEC_CASES ?? "").split(":").filter(Boolean)];
-const dumps = folders.flatMap((folder) => readdirSync(folder).filter((it) => it.endsWith(".dump")).map((it) => join(folder, it)));
+test("the calculator answers each call as Coq does", async () => {
+  const types = readFileSync(calculator.types, "utf8");
+  assert.equal(types, typesOfDump(calculator.dump));
+  const program = await load(readFileSync(calculator.module), types);
+  const session = program.open();
+  for (const run of [(it) => program.run(string.data(it)), (it) => session.run(string.data(it))]) {
+    assert.equal(listText(calculator.strings.map((it) => String(run(it)))), calculator.answers);
+  }
+  const told = async (it) => (await textLimited(readFileSync(calculator.module), types, 10_000, JSON.stringify(it))).notation;
+  assert.equal(await told("2 + (3 + 1) * 4"), "(equals 18)");
+  assert.equal(await told("100 - 2*-3"), '(stuck_at "-3")');
+  // as deep as the text is long: beyond the stack of the main thread, and within that of a Worker in node
+  const deep = "(".repeat(20_000) + "7" + ")".repeat(20_000);
+  assert.throws(() => program.run(string.data(deep + "\u00fc")), erasec.StackExhausted);
+  assert.equal(await told(deep + "\u00fc"), '(stuck_at "\u00fc")');
+});
 
-test("each example and case gives the text of exec", { skip: existsSync(program) ? false : "the program isn't built" }, async () => {
-  const ran = (job, input) => spawnSync(program, [job, "--turns", "4294967295", "--steps", "30000000"], { input, maxBuffer: 1 << 28 });
+test("the program exports these modules, and calls them with the same answers", { skip: skipsPrograms }, (t) => {
+  const dump = readFileSync(calculator.dump);
+  const exported = ran("export", dump);
+  if (exported.status === 2) return t.skip("the program has no such job yet");
+  assert.deepEqual(exported.stdout, readFileSync(calculator.module));
+  const called = calculator.strings.map((it) => ran("call", `${dump}(args ${string.data(it)})`));
+  if (called[0].status !== 2) assert.equal(listText(called.map((it) => it.stdout.toString().trimEnd())), calculator.answers);
+});
+
+test("each example and case gives the text of exec", { skip: skipsPrograms }, async () => {
   let answered = 0;
-  for (const dump of dumps) {
-    const input = readFileSync(dump);
-    const wanted = ran("exec", input);
-    // no data, or a run that needn't end (a false axiom)
-    if (wanted.status === 10 || wanted.status === 12) continue;
-    assert.equal(wanted.status, 0, basename(dump));
-    const types = execFileSync(join(TOP, "tools/types-of"), [dump], { encoding: "utf8" });
-    const answer = (await load(ran("compile", input).stdout, types)).run();
-    assert.equal(`${answer}\n`, wanted.stdout.toString(), basename(dump));
+  for (const { name, module, types, text } of programs()) {
+    assert.equal(String((await load(module, types)).run()), text, name);
     answered++;
   }
-  console.log(`${answered} of ${dumps.length} dumps have an answer`);
+  console.log(`${answered} dumps have an answer`);
 });

@@ -1,7 +1,7 @@
 -- The names of the jobs.
 use Rattle.std.specs.Prelude.{ℕ, List, Option, Some, None, bytes_eq, codes, if◌then◌else◌}
 use Rattle.command_line.specs.declared.job.Job.{Job}
-use Rattle.command_line.specs.declared.job.Job.TheVariants.{Exec, Check, Eval, Run, Compile, Bench, Explain}
+use Rattle.command_line.specs.declared.job.Job.TheVariants.{Exec, Check, Eval, Run, Compile, Bench, Explain, Export}
 
 abbrev pub job_named : List ℕ → Option Job
 job_named name =
@@ -11,4 +11,5 @@ job_named name =
     else (if bytes_eq name (codes "run") then Some Run
     else (if bytes_eq name (codes "compile") then Some Compile
     else (if bytes_eq name (codes "bench") then Some Bench
-    else (if bytes_eq name (codes "explain") then Some Explain else None))))))
+    else (if bytes_eq name (codes "explain") then Some Explain
+    else (if bytes_eq name (codes "export") then Some Export else None)))))))

@@ -20,6 +20,8 @@ pub enum Job {
     Bench,
     /// An environment is checked, and a refusal is explained.
     Explain,
+    /// An environment whose main is a function is checked and compiled, and the module for calls of main is written.
+    Export,
 }
 
 /// The job of this name.
@@ -34,6 +36,7 @@ pub(crate) fn job_of(name: &str) -> Option<Job>
         "compile" => Some(Job::Compile),
         "bench" => Some(Job::Bench),
         "explain" => Some(Job::Explain),
+        "export" => Some(Job::Export),
         _ => None,
     }
 }

@@ -30,7 +30,7 @@ use Rattle.wasm_emit.specs.declared.fault.EmitFault.TheVariants as emission
 use Rattle.back_end.specs.BackEnd.{passed}
 use Rattle.compile.specs.declared.fault.CompileFault.{CompileFault}
 use Rattle.compile.specs.declared.fault.CompileFault.TheVariants as refusals
-use Rattle.compile.specs.Passes.{IsShallow, CapturesFew, function_count, Fits, CompileIsRefused, of_pass, of_lifting, of_emission}
+use Rattle.compile.specs.Passes.{IsShallow, CapturesFew, function_count, IsLowered, Fits, CompileIsRefused, of_pass, of_lifting, of_emission}
 use Rattle.compile.proofs.Within.{lifted_formed, program_limits}
 
 pub few_constructors : (P : BoxProgram) → IsBoxProgram P → ConstructorsWithin P 1024
@@ -105,13 +105,19 @@ module _ (P S : BoxProgram) (A : AnfProgram) (x : Passed P S A) where
           branches = omega arith;
         }
 
-    pub all_fit : (IsDeep S → ⊥) → ProgramCaptures most_words A → length A.constants + length Q.functions ≤ most_functions → FewLocals Q → Fits P
-    all_fit h c few locals = record { shallow = is_shallow h; captures = captured c; few = counted few; locals = subst FewLocals lifted_is locals }
+    pub all_lower : (IsDeep S → ⊥) → ProgramCaptures most_words A → length A.constants + length Q.functions ≤ most_functions → IsLowered P
+    all_lower h c few = (is_shallow h, captured c, counted few)
 
-    -- a refusal of emission
-    pub not_emitted : (IsDeep S → ⊥) → ProgramCaptures most_words A → length A.constants + length Q.functions ≤ most_functions → (f : EmitFault) → MemoryOrNot f (FewLocals Q) → CompileIsRefused P (of_emission f)
-    not_emitted h c few f n =
-        elim n [
-          | inl e ↦ subst (λ x. CompileIsRefused P (of_emission x)) (sym e) tt
-          | inr m ↦ subst (λ x. CompileIsRefused P (of_emission x)) (sym m.0) (is_shallow h, captured c, counted few, λ l. m.1 (subst FewLocals (sym lifted_is) l))
-        ]
+-- ---- emission
+
+module _ (P : BoxProgram) (Q : Program) (q : Q ≡ passed P) (low : IsLowered P) where
+  pub all_fit : FewLocals Q → Fits P
+  all_fit locals = record { shallow = low.0; captures = low.1; few = low.2; locals = subst FewLocals q locals }
+
+  -- its refusals
+  pub not_emitted : (f : EmitFault) → MemoryOrNot f (FewLocals Q) → CompileIsRefused P (of_emission f)
+  not_emitted f n =
+      elim n [
+        | inl e ↦ subst (λ x. CompileIsRefused P (of_emission x)) (sym e) tt
+        | inr m ↦ subst (λ x. CompileIsRefused P (of_emission x)) (sym m.0) (low.0, low.1, low.2, λ l. m.1 (subst FewLocals (sym q) l))
+      ]

@@ -16,13 +16,14 @@ use Rattle.anf_convert.proofs.Prepared.{form_kept}
 use Rattle.closure_lift.specs.LiftedForm.{Limits, Formed}
 use Rattle.closure_lift.proofs.CapturedLimit.{captured_exactly}
 use Rattle.closure_lift.proofs.Forms.{lift_forms}
+use Rattle.wasm_emit.proofs.Valid.{call_valid}
 use Rattle.back_end.specs.BackEnd.{passed}
 use Rattle.back_end.proofs.Whole.{families}
 use Rattle.back_end.proofs.Total.{total_back_end, total_valid}
 use Rattle.back_end.proofs.Bounds.{bounds}
 use Rattle.compile.specs.declared.fault.CompileFault.{CompileFault}
 use Rattle.compile.specs.declared.fault.CompileFault.TheVariants as refusals
-use Rattle.compile.specs.Passes.{IsShallow, CapturesFew, Fits, CompileIsRefused, CausesAreOne, FittingProgramsAreWithin, FittingProgramsAnswer, FittingProgramsAreValid}
+use Rattle.compile.specs.Passes.{IsShallow, CapturesFew, Fits, CompileIsRefused, CausesAreOne, FittingProgramsAreWithin, FittingCallsAreValid, FittingProgramsAnswer, FittingProgramsAreValid}
 
 not_more : (n d : ℕ) → (n < d → ⊥) → d ≤ n
 not_more n d h = elim (cases_lt n d) [ inl lt ↦ absurd (h lt) | inr le ↦ le ]
@@ -73,6 +74,9 @@ fits_answer P pages m w ns n matched pos small some form fits few evaluates read
 
 pub fits_valid : FittingProgramsAreValid
 fits_valid P pages pos small form fits = total_valid P pages 1024 pos small (fits_within P 1024 form fits (λ F has. (form.counts F has).constructors))
+
+pub fits_call_valid : FittingCallsAreValid
+fits_call_valid P k pages pos small form fits = call_valid (passed P) k pages 1024 pos small (lifted_formed P 1024 form fits.shallow (λ F has. (form.counts F has).constructors))
 
 one_refusal : (P : BoxProgram) (a b : CompileFault) → CompileIsRefused P a → CompileIsRefused P b → (a ≡ refusals.Memory → ⊥) → (b ≡ refusals.Memory → ⊥) → a ≡ b
 one_refusal P refusals.Memory b h k n m = absurd (n refl)

@@ -20,6 +20,7 @@ use Rattle.closure_lift.specs.declared.fault.LiftFault.TheVariants as lifting
 use Rattle.wasm_core.specs.ModuleTyping.{IsValid}
 use Rattle.wasm_core.specs.MachineRun.{refusal}
 use Rattle.wasm_emit.specs.EmittedModule.{module_of}
+use Rattle.wasm_emit.specs.CallModule.{module_of_call}
 use Rattle.wasm_emit.specs.EmittedBodies.{FewLocals}
 use Rattle.wasm_emit.specs.declared.fault.EmitFault.{EmitFault}
 use Rattle.wasm_emit.specs.declared.fault.EmitFault.TheVariants as emission
@@ -39,6 +40,10 @@ CapturesFew P = ProgramCaptures most_words (to_anf (shrunk_program P))
 -- how many its constants, the definitions of its fixpoints and its other lambdas are
 abbrev pub function_count : BoxProgram → ℕ
 function_count P = length (to_anf (shrunk_program P)).constants + length (passed P).functions
+
+-- no pass before emission refuses the program
+abbrev pub IsLowered : BoxProgram → Type 0
+IsLowered P = IsShallow P × CapturesFew P × (function_count P ≤ most_functions)
 
 -- the program has a module
 pub record Fits (P : BoxProgram) : Type 0 where
@@ -88,6 +93,10 @@ FittingProgramsAnswer = (P : BoxProgram) (pages m : ℕ) (w : BoxTerm) (ns : Nod
 -- the module has a typing
 abbrev pub FittingProgramsAreValid : Type 0
 FittingProgramsAreValid = (P : BoxProgram) (pages : ℕ) → 0 < pages → pages ≤ 16384 → IsBoxProgram P → Fits P → IsValid (module_of (passed P) pages)
+
+-- so has the module for calls of its main, for any number of arguments
+abbrev pub FittingCallsAreValid : Type 0
+FittingCallsAreValid = (P : BoxProgram) (k pages : ℕ) → 0 < pages → pages ≤ 16384 → IsBoxProgram P → Fits P → IsValid (module_of_call (passed P) k pages)
 
 -- no machine of the module of a program that has one is refused
 abbrev pub MachinesAreMade : Type 0

@@ -2,7 +2,7 @@
 //!
 //! `compile` drops matches on propositional families, saturates constructors, puts constants with one use in its place, drops parameters that are always box, brings
 //! the program into A-normal form, lifts it and emits its module, which is exactly the module of `back_end`'s theorems (`is`); each refusal but want of memory has its
-//! cause, of the program alone (`refused`), and the program has a module where it has none (`fits`). `one_cause` says that no two causes stand together. Where main
+//! cause, of the program alone (`refused`), and the program has a module where it has none (`fits`). `compile_call` does the same for the module of calls of a main that is a function. `one_cause` says that no two causes stand together. Where main
 //! evaluates by substitution to data, every run of the module answers the data or is exhausted, within bounds (`compiled_modules_answer`).
 //!
 //! Below stand the passes and `back_end`; above, the driver writes, reads, checks and runs the module.
@@ -11,10 +11,10 @@
 mod fault;
 mod passes;
 
-ghost use Rattle.compile.specs.Passes.{CausesAreOne, FittingProgramsAnswer, FittingProgramsAreValid, FittingProgramsAreWithin, MachinesAreMade};
+ghost use Rattle.compile.specs.Passes.{CausesAreOne, FittingCallsAreValid, FittingProgramsAnswer, FittingProgramsAreValid, FittingProgramsAreWithin, MachinesAreMade};
 
 pub use fault::CompileFault;
-pub use passes::compile;
+pub use passes::{compile, compile_call};
 
 /// No program is refused for two causes, and none that has a module is refused.
 pub fn one_cause()
@@ -36,4 +36,9 @@ pub fn compiled_modules_answer()
 /// A machine with so many pages is made of the module of each program that has one: no entry is missing, and neither pages, table nor segments are refused.
 pub fn machines_are_made()
     ensures made { MachinesAreMade }
+{}
+
+/// The module for calls of a program that has a module is valid, for any number of arguments.
+pub fn call_modules_are_valid()
+    ensures valid { FittingCallsAreValid }
 {}

@@ -13,6 +13,8 @@ pub mod ExecCauses
 pub mod AcceptedAs
 pub mod Sizes
 pub mod MadeCauses
+pub mod CallCauses
+pub mod ExportCauses
 pub mod JobCauses
 pub mod Erased
 pub mod ModuleRuns
@@ -20,6 +22,7 @@ pub mod ExecSaying
 pub mod FigureLines
 pub mod BenchSaying
 pub mod MadeSaying
+pub mod ExportSaying
 pub mod ExecValues
 pub mod RunCauses
 pub mod PlainAccepted
@@ -29,6 +32,7 @@ pub mod Headlines
 pub mod Checking
 pub mod Explaining
 pub mod BesideCheck
+pub mod ReadToEnd
 pub mod Serving
 pub mod Shallow
 pub mod OneStatus

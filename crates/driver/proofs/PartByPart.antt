@@ -82,6 +82,12 @@ pub line_ends : (a b : Option (List ℕ)) (m n : ℕ) (xs : List ℕ) (r : Resul
 line_ends a b m n xs (Ok u) whole part cause = record { count = cause.later; line_or_prefix = inl whole }
 line_ends a b m n xs (Err f) whole part cause = record { count = cause.later; line_or_prefix = inr (cause.failed, (f.written, part.0, part.1)) }
 
+-- a part that faults, as the history tells it
+pub part_by_history : {T : Type 0} (a b : Option (List ℕ)) (xs ys : List ℕ) (r : Result T WriteFault) (part : List ℕ) → IfErr r (λ f. (f.written ≤ length part) × Appends a b (take f.written part)) → IfErr r (λ f. ys ≡ xs ++ take f.written part) →
+    IfErr r (λ f. (f.written ≤ length part) × Appends (Some xs) (Some ys) (take f.written part))
+part_by_history a b xs ys (Ok v) part told history = tt
+part_by_history a b xs ys (Err f) part told history = (told.0, history)
+
 -- An object that tells its bytes after two calls in a row where it did before.
 pub tells_then : (a b c : Option (List ℕ)) → StillTells a b → StillTells b c → StillTells a c
 tells_then None None None h k = tt

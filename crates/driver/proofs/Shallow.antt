@@ -2,7 +2,7 @@
 use Rattle.std.proofs.Common.{ℕ, List, Result, Ok, Err, ◌⊎◌, inl, inr, refl, sym, ap}
 use Rattle.dump_reader.specs.declared.environment.RawEnv.{RawEnv}
 use Rattle.command_line.specs.declared.job.Job.{Job}
-use Rattle.command_line.specs.declared.job.Job.TheVariants.{Exec, Check, Eval, Run, Compile, Bench, Explain}
+use Rattle.command_line.specs.declared.job.Job.TheVariants.{Exec, Check, Eval, Run, Compile, Bench, Explain, Export}
 use Rattle.command_line.specs.declared.line.Request.{Request}
 use Rattle.driver.specs.declared.refusal.Refusal.{Refusal}
 use Rattle.driver.specs.declared.refusal.Refusal.TheVariants as refusals
@@ -10,6 +10,7 @@ use Rattle.driver.specs.Judged.{EndsWith, IsAcceptedBy, status_by}
 use Rattle.driver.specs.Lines.{status_of}
 use Rattle.driver.specs.ExecEnds.{Accepting, ExecEnds, ExecEndsWith, RestEndsWith, status_of_end}
 use Rattle.driver.specs.MadeModule.{IsMakeCause, MakeEndsWith}
+use Rattle.driver.specs.Exported.{IsExportCause, ExportEndsWith}
 use Rattle.driver.specs.RunFile.{IsRunCause, RunEndsWith}
 use Rattle.driver.specs.SourceEnds.{EvalEndsWith, IsSourceCause}
 use Rattle.driver.specs.Texts.{SpellsWithin}
@@ -17,8 +18,9 @@ use Rattle.driver.specs.Serve.{IsAnswerOf, IsCheckCause, IsDumpCause, IsJobCause
 use Rattle.driver.proofs.CheckCauses.{deep_or_not, not_zero}
 use Rattle.driver.proofs.ExecCauses.{accepting_of}
 use Rattle.driver.proofs.MadeCauses.{as_exec}
+use Rattle.driver.proofs.ExportCauses.{export_accepts}
 use Rattle.driver.proofs.SourceCauses.{accepted_by, end_status}
-use Rattle.driver.specs.Shallow.{CheckIsShallow, EvalIsShallow, ModuleIsShallow, IsShallow, IsShallowOn}
+use Rattle.driver.specs.Shallow.{CheckIsShallow, EvalIsShallow, ModuleIsShallow, CallIsShallow, IsShallow, IsShallowOn}
 
 -- ---- the check
 
@@ -70,6 +72,16 @@ module _ (turns : ℕ) (e : RawEnv) (s : ModuleIsShallow turns e) (pages steps :
     status_is = refl;
   }))
 
+export_ends : {P : Type 0} (turns : ℕ) (e : RawEnv) (s : CallIsShallow turns e) (pages : ℕ) (r : Refusal) → IsCheckCause turns r e ⊎ (IsExportCause turns pages r e × P) → ExportEndsWith turns e pages (status_of r)
+export_ends turns e s pages r (inl c) = inl (check_ends turns r e s.check c, not_zero r)
+export_ends turns e s pages r (inr (c, p)) = inr (inr (record {
+  check = accepting_ends turns e s.check (export_accepts turns e pages r c.1);
+  refusal = r;
+  cause = c;
+  within = s.rules;
+  status_is = refl;
+}))
+
 -- ---- a job's refusal on an environment
 
 job_ends : (job : Job) (q : Request) (r : Refusal) (e : RawEnv) → IsShallow job q.turns e → IsJobCause job q r e → JobEndsWith job q e (status_of r)
@@ -79,6 +91,7 @@ job_ends Eval q r e s c = eval_ends q.turns r e s c
 job_ends Run q r e s c = absurd c
 job_ends Explain q r e s c = absurd c
 job_ends Compile q r e s c = make_ends q.turns e s q.pages 0 r c
+job_ends Export q r e s c = export_ends q.turns e s q.pages r c
 job_ends Bench q r e s c = exec_ends q.turns e s q.pages q.steps r c
 
 -- of a dump the text itself refuses, or the environment that it spells does
@@ -136,6 +149,13 @@ answer_judged Compile q bytes text s a =
         record { check = accepting_ends q.turns e shallow.check a.stages.before.before.before; stages = a.stages; small = a.small; search_within = shallow.search; erasure_within = shallow.erasure },
         refl,
       )),
+    )
+answer_judged Export q bytes text s a =
+    let e = a.environment in
+    let shallow = s e a.spelled in (
+      e,
+      a.spelled,
+      inr (inl (record { check = accepting_ends q.turns e shallow.check a.stages.before.before.before; stages = a.stages; small = a.small; within = shallow.rules }, refl)),
     )
 answer_judged Bench q bytes text s a =
     let x = a.executed in

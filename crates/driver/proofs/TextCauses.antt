@@ -18,7 +18,7 @@ use Rattle.driver.specs.declared.refusal.Refusal.{Refusal}
 use Rattle.driver.specs.declared.refusal.Refusal.TheVariants as refusals
 use Rattle.driver.specs.Lines.{refusal_of}
 use Rattle.command_line.specs.declared.job.Job.{Job}
-use Rattle.command_line.specs.declared.job.Job.TheVariants.{Exec, Check, Eval, Run, Compile, Bench, Explain}
+use Rattle.command_line.specs.declared.job.Job.TheVariants.{Exec, Check, Eval, Run, Compile, Bench, Explain, Export}
 use Rattle.driver.specs.Lines.{status_of}
 use Rattle.driver.specs.Texts.{SpellsWithin, Refuses}
 use Rattle.driver.specs.Judged.{IsAcceptedBy, EndsWith}
@@ -29,6 +29,7 @@ use Rattle.driver.specs.Benched.{IsBenched}
 use Rattle.driver.specs.Bench.{lines_of}
 use Rattle.driver.specs.SourceSays.{IsLine}
 use Rattle.driver.specs.MadeModule.{IsMade, MakeEndsWith}
+use Rattle.driver.specs.Exported.{ExportEndsWith}
 use Rattle.command_line.specs.declared.line.Request.{Request}
 use Rattle.wasm_core.specs.ModuleGrammar.{SpellsModule}
 use Rattle.wasm_core.specs.ShortestBytes.{most_bytes}
@@ -39,6 +40,7 @@ use Rattle.driver.proofs.SourceCauses.{accepted_by, same_run}
 use Rattle.driver.proofs.ExecCauses.{executed_status, check_early, text_early, well_of}
 use Rattle.driver.proofs.JobCauses.{answerable_status, compile_cause, exec_cause, job_status}
 use Rattle.driver.proofs.MadeCauses.{made_status, make_cause}
+use Rattle.driver.proofs.ExportCauses.{exported_status}
 
 abbrev pub verdict_on : List ℕ → Verdict
 verdict_on bytes = verdict (length bytes) (tokens_of bytes)
@@ -213,6 +215,8 @@ judged_answer Compile q bytes text status short (e, s, ends) a =
 judged_answer Bench q bytes text status short (e, s, ends) a = executed_status q.turns e q.pages q.steps a.answer status (executed_on q bytes a.answer e s a.executed) ends
 judged_answer Run q bytes text status short h a = run_judged_answer q.pages q.steps bytes text status short h a
 judged_answer Explain q bytes text status short (e, s, ends) a = ends
+judged_answer Export q bytes text status short (e, s, ends) a =
+    exported_status q.turns a.environment q.pages status a.stages a.small (subst (λ x. ExportEndsWith q.turns x q.pages status) (one_environment bytes e a.environment s a.spelled) ends)
 
 -- What the reader gives is spelled within the limits.
 pub within_limits : (bytes : List ℕ) (e : RawEnv) → IsVerdict bytes (Ok e) → SpellsWithin bytes e

@@ -12,13 +12,17 @@ pub mod ErasureParts
 pub mod ExecEnds
 pub mod Executed
 pub mod MadeModule
+pub mod CallStages
+pub mod Exported
 pub mod RunFile
 pub mod Explained
 pub mod Serve
 pub mod ExplainSays
 pub mod BesideCheck
+pub mod ByHistory
 pub mod PlainAnswer
 pub mod MainModule
+pub mod ExportSays
 pub mod Promises
 pub mod Served
 pub mod Shallow

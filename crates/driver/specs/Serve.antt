@@ -13,7 +13,7 @@ use Rattle.env_check.specs.Rules.{givens}
 use Rattle.driver.specs.declared.refusal.Refusal.{Refusal}
 use Rattle.driver.specs.declared.refusal.Refusal.TheVariants as refusals
 use Rattle.command_line.specs.declared.job.Job.{Job}
-use Rattle.command_line.specs.declared.job.Job.TheVariants.{Exec, Check, Eval, Run, Compile, Bench, Explain}
+use Rattle.command_line.specs.declared.job.Job.TheVariants.{Exec, Check, Eval, Run, Compile, Bench, Explain, Export}
 use Rattle.command_line.specs.declared.line.Request.{Request}
 use Rattle.command_line.specs.Line.{request_of}
 use Rattle.driver.specs.Answerable.{IsAnswerable}
@@ -28,6 +28,7 @@ use Rattle.driver.specs.Takes.{TakesLine, TakesPrefix}
 use Rattle.driver.specs.Executed.{IsExecuted}
 use Rattle.driver.specs.Benched.{IsBenched}
 use Rattle.driver.specs.MadeModule.{IsMade, IsMakeCause, MakeEndsWith}
+use Rattle.driver.specs.Exported.{IsExported, IsExportCause, IsLargeForCall, IsExportable, ExportEndsWith}
 use Rattle.driver.specs.RunFile.{IsRunAnswer, IsRunCause, RunEndsWith}
 use Rattle.driver.specs.Explained.{IsExplained}
 use Rattle.driver.specs.Judged.{IsAcceptedBy, IsSpentBy, IsTooDeepFor, IsBrokenBy, EndsWith}
@@ -79,6 +80,7 @@ IsAnswerOf Run q bytes text = IsRunAnswer q.pages q.steps bytes text
 IsAnswerOf Compile q bytes text = IsMade q.turns q.pages bytes text
 IsAnswerOf Bench q bytes text = IsBenched q.turns q.pages q.steps bytes text
 IsAnswerOf Explain q bytes text = IsCheckAnswer q.turns bytes text ⊎ IsExplained q.turns bytes text
+IsAnswerOf Export q bytes text = IsExported q.turns q.pages bytes text
 
 -- The input, and the answer on it of the job that the words ask for.
 pub record HasAnswer (words : List (List ℕ)) (left : Option (List ℕ)) (text : List ℕ) : Type 0 where
@@ -95,7 +97,7 @@ IsCheckCause turns refusals.Depth e = IsTooDeepFor turns e
 IsCheckCause turns (refusals.Broken n p) e = IsBrokenBy turns e n p
 IsCheckCause turns _ e = ⊥
 
--- what of an environment shows a refusal of a job: its check, and with `eval`, `exec` and `compile` what comes after it; `explain` answers them all
+-- what of an environment shows a refusal of a job: its check, and with `eval`, `exec`, `compile` and `export` what comes after it; `explain` answers them all
 abbrev pub IsJobCause : Job → Request → Refusal → RawEnv → Type 0
 IsJobCause Exec q r e = IsCheckCause q.turns r e ⊎ (IsExecCause q.turns q.pages q.steps r e × IsLargeFor q.turns r e)
 IsJobCause Check q r e = IsCheckCause q.turns r e
@@ -104,6 +106,7 @@ IsJobCause Run q r e = ⊥
 IsJobCause Compile q r e = IsCheckCause q.turns r e ⊎ (IsMakeCause q.turns q.pages r e × IsLargeFor q.turns r e)
 IsJobCause Bench q r e = IsCheckCause q.turns r e ⊎ (IsExecCause q.turns q.pages q.steps r e × IsLargeFor q.turns r e)
 IsJobCause Explain q r e = ⊥
+IsJobCause Export q r e = IsCheckCause q.turns r e ⊎ (IsExportCause q.turns q.pages r e × IsLargeForCall q.turns r e)
 
 -- the environment that the text spells shows it
 abbrev pub IsOfCheck : Job → Request → Refusal → List ℕ → Type 0
@@ -132,6 +135,7 @@ IsSure refusals.TurnsSpent = ⊥
 IsSure refusals.Depth = ⊥
 IsSure (refusals.Broken n p) = ⊥
 IsSure refusals.Types = ⊥
+IsSure refusals.Arguments = ⊥
 IsSure refusals.AnswerNodes = ⊥
 IsSure refusals.NotFirstOrder = ⊥
 IsSure refusals.Stuck = ⊥
@@ -279,6 +283,7 @@ JobEndsWith Run q e status = ⊥
 JobEndsWith Compile q e status = MakeEndsWith q.turns e q.pages status
 JobEndsWith Bench q e status = ExecEndsWith q.turns e q.pages q.steps status
 JobEndsWith Explain q e status = status ≡ 0
+JobEndsWith Export q e status = ExportEndsWith q.turns e q.pages status
 
 -- the text spells an environment, and the job ends with this status
 abbrev pub IsDumpJudgedWith : Job → Request → ℕ → List ℕ → Type 0
@@ -290,7 +295,8 @@ IsJudgedWith Run q status bytes = RunEndsWith q.pages q.steps bytes status
 IsJudgedWith job q status bytes = IsDumpJudgedWith job q status bytes
 
 -- an environment on which the job has an answer: by `exec` one whose main's module answers data of main's type, by `check` a plain one that keeps all rules,
--- by `eval` one whose main has a value that is data, by `compile` one whose main has a module within 16 MiB, as the passes or its sizes show, by `explain` each
+-- by `eval` one whose main has a value that is data, by `compile` one whose main has a module within 16 MiB, as the passes or its sizes show, by `explain` each, by `export` one whose main has
+-- a module for calls within 16 MiB
 abbrev pub IsAnswerableBy : Job → Request → RawEnv → Type 0
 IsAnswerableBy Exec q e = RestEndsWith q.turns e q.pages q.steps 0
 IsAnswerableBy Check q e = (0 < q.turns) × IsAnswerable e
@@ -299,6 +305,7 @@ IsAnswerableBy Run q e = ⊥
 IsAnswerableBy Compile q e = HasModule q.turns e q.pages
 IsAnswerableBy Bench q e = RestEndsWith q.turns e q.pages q.steps 0
 IsAnswerableBy Explain q e = Unit {0}
+IsAnswerableBy Export q e = IsExportable q.turns e q.pages
 
 -- a status that comes after the check: 0, 4 and those from 10 on
 abbrev pub IsLate : ℕ → Type 0

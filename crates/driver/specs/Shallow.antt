@@ -5,13 +5,14 @@ use Rattle.pc_rules.specs.DirectedFirstOrder.{first_order_search}
 use Rattle.pc_rules.specs.DirectedRun.{Run as RuleRun}
 use Rattle.dump_reader.specs.declared.environment.RawEnv.{RawEnv}
 use Rattle.command_line.specs.declared.job.Job.{Job}
-use Rattle.command_line.specs.declared.job.Job.TheVariants.{Check, Eval, Run, Explain}
+use Rattle.command_line.specs.declared.job.Job.TheVariants.{Check, Eval, Run, Explain, Export}
+use Rattle.driver.specs.Exported.{CallRulesAreWithin}
 use Rattle.driver.specs.ExecEnds.{Accepting, Searching, erasure_of}
 use Rattle.driver.specs.Judged.{IsJudged}
 use Rattle.driver.specs.SourceEnds.{Ended, IsSourceRun}
 use Rattle.driver.specs.Texts.{SpellsWithin}
 
--- by those of the check; and of what comes after it by `eval`, and by the jobs that make main's module; `explain` answers whatever they come to
+-- by those of the check; and of what comes after it by `eval`, by the jobs that make main's module, and by `export`; `explain` answers whatever they come to
 
 abbrev pub CheckIsShallow : (turns : ℕ) → RawEnv → Type 0
 CheckIsShallow turns e = (rules : Checked) → IsJudged turns e rules → rules.deep ≡ false
@@ -25,11 +26,16 @@ pub record ModuleIsShallow (turns : ℕ) (e : RawEnv) : Type 0 where
   pub search : (x : Accepting turns e) → (first_order_search x.kept x.type x.left).deep ≡ false
   pub erasure : (x : Searching turns e) → (erasure_of x.before.kept e.main x.left).deep ≡ false
 
+pub record CallIsShallow (turns : ℕ) (e : RawEnv) : Type 0 where
+  pub check : CheckIsShallow turns e
+  pub rules : CallRulesAreWithin turns e
+
 abbrev pub IsShallow : Job → (turns : ℕ) → RawEnv → Type 0
 IsShallow Check turns e = CheckIsShallow turns e
 IsShallow Eval turns e = EvalIsShallow turns e
 IsShallow Run turns e = Unit {0}
 IsShallow Explain turns e = Unit {0}
+IsShallow Export turns e = CallIsShallow turns e
 IsShallow _ turns e = ModuleIsShallow turns e
 
 -- so of the environment that the bytes spell

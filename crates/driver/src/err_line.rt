@@ -1,6 +1,6 @@
 //! The line of a refusal on err.
 
-ghost use Rattle.std.specs.Prelude.{◌≡◌, ◌∷◌, ◌++◌, [], OnOk};
+ghost use Rattle.std.specs.Prelude.{◌≡◌, ◌∷◌, ◌++◌, [], OnOk, Some};
 ghost use Rattle.std.specs.Io.KnownBytes.{Appends};
 ghost use Rattle.kio.specs.Known.{StillTells};
 ghost use Rattle.driver.specs.Lines.{line_of, number_text};
@@ -16,6 +16,8 @@ pub(crate) fn write_line<E: Sink>(err: &mut E, refusal: &Refusal) -> Result<(), 
     ensures all { OnOk result (Appends (E.taken err.old) (E.taken err.new) (line_of refusal.now)) }
     ensures line { TakesLine (E.taken err.old) (E.taken err.new) (E.faults err.old) (E.faults err.new) (line_of refusal.now) }
     ensures tells { StillTells (E.taken err.old) (E.taken err.new) }
+    ensures history_all { OnOk result (Appends (Some (E.received err.old)) (Some (E.received err.new)) (line_of refusal.now)) }
+    ensures history_line { TakesLine (Some (E.received err.old)) (Some (E.received err.new)) (E.faults err.old) (E.faults err.new) (line_of refusal.now) }
 {
     let mut buffer = Buffer::new();
     let digits = match number(refusal) {

@@ -18,8 +18,9 @@
 //! `named`). By `exec`, where main has a module, the status is one that a run shows (`finishes`). Each other status has its cause, and the line of that refusal goes to err (`refused`, `usage`,
 //! `prefix`); where the line is at fault nothing is read, and the status is 2 but for want of memory (`faulty`), and no other status comes (`statuses`). Where no count of faults rises,
 //! the answer up to want of memory (`judged`, `complete`, `refuses_text`, `refuses_length`). On status 0 err takes the lines of the reports (`reported`). And what is left behind (`unread`, `nothing_out`, `quiet`, `counts`, `tells`).
+//! All of this holds once more by the histories of the objects, so of real streams: of the bytes that the source's reads gave in this call, up to the end (`history`, `ended`), and of those that the writes to out and err took.
 //!
-//! The definitions in `specs/`: `Serve` (answers, causes, and when a call is asked for what), `Promises` (the long clauses of `serve` by name), `Served` (all its clauses as one record), `Lines` (statuses and lines; what
+//! The definitions in `specs/`: `Serve` (answers, causes, and when a call is asked for what), `Promises` (the long clauses of `serve` by name), `Served` (all its clauses as one record), `ByHistory` (that record by the histories of the objects), `Lines` (statuses and lines; what
 //! words ask for is a definition of `command_line`), `Texts` (what a text spells within the limits), `Judged` (what the directed rules say of an environment), `Plain` and `Answerable` (small environments that keep all
 //! rules), `PlainAnswer` (what is answered on them), `SourceEnds` (how `eval` ends after the check), `SourceSays` (what its stages say), `EvaluatedSource` (its answer), `Evaluable` (where it has one), `ExecEnds` (what the
 //! stages of `exec` say, and how it ends), `Executed` (its answer), `ErasureParts` (what the code of erasure says), `MainModule` (what the stages to main's module hand on), `MadeModule` (the answer of `compile`, and how it
@@ -34,12 +35,14 @@
 #![tactic(auto)]
 
 mod bench;
+mod callable;
 mod check;
 mod erasing;
 mod err_line;
 mod eval;
 mod exec;
 mod explain;
+mod export;
 mod facts;
 mod main_module;
 mod object;

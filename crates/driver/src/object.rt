@@ -15,7 +15,7 @@ use wasm_core::{EncodeFault, Valid};
 use wasm_encode::encode;
 
 /// The module's shortest bytes.
-fn written(alloc: Global, module: &Valid) -> Result<Vec<u8>, Refusal>
+pub(crate) fn written(alloc: Global, module: &Valid) -> Result<Vec<u8>, Refusal>
     ensures says { BytesSay (λ v. v.items) module.now result }
 {
     match encode(alloc, module) {

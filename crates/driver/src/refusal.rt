@@ -76,9 +76,11 @@ pub(crate) enum Refusal {
     TurnsSpent,
     /// More types than the limit would be put in the list of a first-order search.
     Types,
+    /// Main's type takes more arguments than the limit.
+    Arguments,
     /// The answer has more nodes than the limit.
     AnswerNodes,
-    /// Main's type has no first-order set.
+    /// Main's type has no first-order set, or where main is to be called no signature.
     NotFirstOrder,
     /// By `eval`: main has no value, or its value is no data of main's type.
     Stuck,
@@ -129,7 +131,8 @@ pub(crate) fn status(refusal: &Refusal) -> u8
         Refusal::Syntax { .. } => 5,
         Refusal::Unsupported { .. } => 6,
         Refusal::Limit { .. } | Refusal::InputBytes | Refusal::Depth => 7,
-        Refusal::Types | Refusal::AnswerNodes | Refusal::Program { .. } => 7,
+        Refusal::Types | Refusal::Arguments | Refusal::AnswerNodes => 7,
+        Refusal::Program { .. } => 7,
         Refusal::TurnsSpent => 8,
         Refusal::Broken { .. } => 9,
         Refusal::NotFirstOrder | Refusal::Axiom { .. } => 10,
@@ -269,6 +272,7 @@ pub(crate) fn front(refusal: &Refusal) -> &'static [u8]
         Refusal::InputBytes => b"limit InputBytes",
         Refusal::Depth => b"limit Depth",
         Refusal::Types => b"limit Types",
+        Refusal::Arguments => b"limit Arguments",
         Refusal::AnswerNodes => b"limit AnswerNodes",
         Refusal::NotFirstOrder => b"main is not first-order",
         Refusal::Stuck => b"stuck",

@@ -3,6 +3,7 @@
 ghost use Rattle.std.specs.Prelude.{◌≡◌, ◌≢◌, ◌⊎◌, ◌≤◌, ℕ, List, [], ◌∷◌, Contains, IfErr, IfOk, OnOk, map, None, Some};
 ghost use Rattle.std.specs.Io.KnownBytes.{Appends};
 ghost use Rattle.kio.specs.Known.{StillTells};
+ghost use Rattle.kio.specs.Histories.{MetEnd, given_since};
 ghost use Rattle.calculus_rules.specs.FirstOrder.{Data};
 ghost use Rattle.lambda_box.specs.ClosureEvaluation.{Counts};
 ghost use Rattle.dump_reader.specs.declared.environment.RawEnv.{RawEnv};
@@ -18,6 +19,7 @@ ghost use Rattle.driver.specs.Headline.{ServesValue, EvaluatesErased, GivesErase
 ghost use Rattle.driver.specs.Serve.{HasAnswer, AsksModule, ConcludesOn, HasWell, InputSays, IsAsked, IsLate, JobSays, MakesModule, ReadSays, ReadsNothing, RequestSays, Says};
 ghost use Rattle.driver.specs.Promises.{AnswersPlain, AnswersWhereItCan, EndsAsJudged, EndsAsLength, EndsAsRun, EndsAsText, NamesPlain, ShowsCause, TellsReports};
 ghost use Rattle.driver.specs.Served.{ServedOn};
+ghost use Rattle.driver.specs.ByHistory.{EndSays, ReadsToEnd, ServedByHistory, by_history};
 
 use crate::bench::{bench, made_text};
 use crate::check::check;
@@ -25,6 +27,7 @@ use crate::err_line::write_line;
 use crate::eval::eval;
 use crate::exec::exec;
 use crate::explain::explain;
+use crate::export::export;
 use crate::object::object;
 use crate::refusal::{Refusal, status};
 use crate::reporting::write_lines;
@@ -40,6 +43,8 @@ const INPUT_BYTES: usize = 16_777_216;
 /// The whole input, within the limit.
 fn read_input<S: Source>(alloc: Global, src: &mut S) -> Result<Vec<u8>, Refusal>
     ensures says { ReadSays (λ v. v.items) result (S.left src.old) (S.faults src.old) (S.faults src.new) }
+    ensures history { ReadSays (λ v. v.items) result (Some (given_since (S.given src.old) (S.given src.new))) (S.faults src.old) (S.faults src.new) }
+    ensures ended { OnOk result (MetEnd (S.given src.old) (S.given src.new)) }
     ensures later { S.faults src.old ≤ S.faults src.new }
     ensures tells { StillTells (S.left src.old) (S.left src.new) }
 {
@@ -54,15 +59,16 @@ fn read_input<S: Source>(alloc: Global, src: &mut S) -> Result<Vec<u8>, Refusal>
 /// The bytes that a job works on: the whole input; by `bench` the text of the request's number, and then nothing is read.
 fn input_of<S: Source>(alloc: Global, request: Request, src: &mut S) -> Result<Vec<u8>, Refusal>
     ensures says { InputSays (λ v. v.items) result request (S.left src.old) (S.faults src.old) (S.faults src.new) }
+    ensures history { InputSays (λ v. v.items) result request (Some (given_since (S.given src.old) (S.given src.new))) (S.faults src.old) (S.faults src.new) }
+    ensures ended { request.job ≢ Bench → OnOk result (MetEnd (S.given src.old) (S.given src.new)) }
     ensures unread { request.job ≡ Bench → src.new ≡ src.old }
     ensures later { S.faults src.old ≤ S.faults src.new }
     ensures tells { StillTells (S.left src.old) (S.left src.new) }
 {
     match request.job {
         Job::Bench => made_text(alloc, request.size),
-        Job::Exec | Job::Check | Job::Eval | Job::Run | Job::Compile | Job::Explain => {
-            read_input(alloc, src)
-        }
+        Job::Exec | Job::Check | Job::Eval | Job::Run => read_input(alloc, src),
+        Job::Compile | Job::Explain | Job::Export => read_input(alloc, src),
     }
 }
 
@@ -85,6 +91,7 @@ fn answer_on<R: Report>(
         Job::Compile => object(alloc, request, bytes, reports),
         Job::Bench => bench(alloc, request, bytes, reports),
         Job::Explain => explain(alloc, request, bytes, reports),
+        Job::Export => export(alloc, request, bytes, reports),
     }
 }
 
@@ -110,6 +117,9 @@ fn answer<S: Source, R: Report>(
 ) -> Result<Vec<u8>, Refusal>
     ensures says { Says (λ v. v.items) result (words_of words.now) (S.left src.old) (S.faults src.old) (S.faults src.new) }
     ensures told { OnOk result (CallIsTold R.shown (words_of words.now) (S.left src.old) reports.old.items reports.new.items) }
+    ensures history { Says (λ v. v.items) result (words_of words.now) (Some (given_since (S.given src.old) (S.given src.new))) (S.faults src.old) (S.faults src.new) }
+    ensures told_history { OnOk result (CallIsTold R.shown (words_of words.now) (Some (given_since (S.given src.old) (S.given src.new))) reports.old.items reports.new.items) }
+    ensures ended { EndSays result (words_of words.now) (S.given src.old) (S.given src.new) }
     ensures unread { ReadsNothing (words_of words.now) → src.new ≡ src.old }
     ensures later { S.faults src.old ≤ S.faults src.new }
     ensures tells { StillTells (S.left src.old) (S.left src.new) }
@@ -123,6 +133,7 @@ fn answer<S: Source, R: Report>(
 fn refuse<E: Sink>(err: &mut E, refusal: Refusal) -> u8
     ensures status { result ≡ status_of refusal }
     ensures line { TakesLine (E.taken err.old) (E.taken err.new) (E.faults err.old) (E.faults err.new) (line_of refusal) }
+    ensures history { TakesLine (Some (E.received err.old)) (Some (E.received err.new)) (E.faults err.old) (E.faults err.new) (line_of refusal) }
     ensures tells { StillTells (E.taken err.old) (E.taken err.new) }
 {
     let _ = write_line(err, &refusal);
@@ -139,6 +150,8 @@ fn conclude<K: Sink, E: Sink>(
 ) -> u8
     ensures concludes { ConcludesOn (λ v. v.items) answered (lines (map (λ b. shown b) reports.items)) result
         K.taken K.faults out.old out.new E.taken E.faults err.old err.new }
+    ensures history { ConcludesOn (λ v. v.items) answered (lines (map (λ b. shown b) reports.items)) result
+        (by_history K.received) K.faults out.old out.new (by_history E.received) E.faults err.old err.new }
     ensures tells { StillTells (K.taken out.old) (K.taken out.new) × StillTells (E.taken err.old) (E.taken err.new) }
     ensures counts { (K.faults out.old ≤ K.faults out.new) × (E.faults err.old ≤ E.faults err.new) }
 {
@@ -164,6 +177,9 @@ fn serve_whole<S: Source, K: Sink, E: Sink>(
     mut reports: Vec<Box<dyn Report>>,
 ) -> u8
     ensures served { ServedOn result (words_of words.now) (map (λ b. shown b) reports.items) S.left S.faults src.old src.new K.taken K.faults out.old out.new E.taken E.faults err.old err.new }
+    ensures history { ServedByHistory result (words_of words.now) (map (λ b. shown b) reports.items) S.given S.faults src.old src.new
+        K.received K.faults out.old out.new E.received E.faults err.old err.new }
+    ensures ended { ReadsToEnd result (words_of words.now) (S.given src.old) (S.given src.new) }
 {
     let answered = answer(alloc, words, src, &mut reports);
     conclude(out, err, answered, reports)
@@ -189,6 +205,8 @@ fn serve_whole<S: Source, K: Sink, E: Sink>(
 /// Each report is told the facts of the check before a run: a declaration each, a constant without a body each, a use of a rule each, up to the end of main's check; and by `exec`, `bench` and
 /// `run` those of the run: each step with its class, each grow of memory that wasn't refused. `run` has no check, and by `explain` there are none where the check doesn't accept. On status 0 `err` then takes a line `report NAME COUNT` for each, in order; the
 /// reports are dropped at every status.
+///
+/// Of a source that tells nothing before it is read, as standard input, `history` says all of this: its input is the bytes that its reads give in this call, the last of which meets the end (`ended`).
 ///
 /// A refusal writes one line to `err`, which takes no memory; a fault on `err` changes no status. Nothing goes to `out` before
 /// the whole answer is there, so a refusal other than a write fault leaves it as it was.
@@ -245,6 +263,12 @@ pub fn serve<S: Source, K: Sink, E: Sink>(
     ensures unread { ReadsNothing (words_of words.now) → src.new ≡ src.old }
     ensures nothing_out { result ≢ 0 → result ≢ 4 → out.new ≡ out.old }
     ensures quiet { result ≡ 0 → reports.items ≡ [] → err.new ≡ err.old }
+    // And all of this by the histories of the objects, so of real streams too: where the clauses above say what the source tells, it is what its reads gave in this call; what out and err
+    // take is what their writes took.
+    ensures history { ServedByHistory result (words_of words.now) (map (λ b. shown b) reports.items) S.given S.faults src.old src.new
+        K.received K.faults out.old out.new E.received E.faults err.old err.new }
+    // These bytes are the whole input: a read met its end, on each status but 1 and 3, unless they pass the limit.
+    ensures ended { ReadsToEnd result (words_of words.now) (S.given src.old) (S.given src.new) }
     // No count falls, and each object tells its bytes where it did.
     ensures counts { (S.faults src.old ≤ S.faults src.new) × (K.faults out.old ≤ K.faults out.new) × (E.faults err.old ≤ E.faults err.new) }
     ensures tells { StillTells (S.left src.old) (S.left src.new) × StillTells (K.taken out.old) (K.taken out.new) × StillTells (E.taken err.old) (E.taken err.new) }

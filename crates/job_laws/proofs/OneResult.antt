@@ -18,12 +18,14 @@ use Rattle.module_run.specs.FileEnds.{FileEnds}
 use Rattle.module_run.proofs.OneFileEnd.{file_end_is_one}
 use Rattle.module_run.proofs.OneRun.{one_run, went_on}
 use Rattle.command_line.specs.declared.job.Job.{Job}
-use Rattle.command_line.specs.declared.job.Job.TheVariants.{Exec, Check, Eval, Run, Compile, Bench, Explain}
+use Rattle.command_line.specs.declared.job.Job.TheVariants.{Exec, Check, Eval, Run, Compile, Bench, Explain, Export}
 use Rattle.command_line.specs.declared.line.Request.{Request}
 use Rattle.driver.specs.Bench.{five_lines, lines_of}
 use Rattle.driver.specs.ExecEnds.{Answering, Compiling, its_module, its_shapes}
 use Rattle.driver.specs.Serve.{IsAnswerOf, input_limit}
 use Rattle.driver.specs.SourceSays.{IsLine}
+use Rattle.driver.specs.CallStages.{CallCompiling, its_call_module}
+use Rattle.driver.proofs.CallCauses.{one_call_module}
 use Rattle.driver.proofs.ExecCauses.{one_acceptance, one_answer, one_module, one_set}
 use Rattle.driver.proofs.TextCauses.{benched_on, executed_on, one_environment}
 use Rattle.job_laws.proofs.OneText.{names_alike, text_is_one}
@@ -85,6 +87,11 @@ bench_text_is_one turns e pages steps x y text text' same =
 made_is_one : (turns : ℕ) (e f : RawEnv) (pages : ℕ) → e ≡ f → (x : Compiling turns e) (y : Compiling turns f) → module_bytes (its_module pages x) ≡ module_bytes (its_module pages y)
 made_is_one turns e f pages same x = subst (λ z. (y : Compiling turns z) → module_bytes (its_module pages x) ≡ module_bytes (its_module pages y)) same (λ y. ap module_bytes (one_module turns e pages x y))
 
+-- and of `export`
+exported_is_one : (turns : ℕ) (e f : RawEnv) (pages : ℕ) → e ≡ f → (x : CallCompiling turns e) (y : CallCompiling turns f) → module_bytes (its_call_module pages x) ≡ module_bytes (its_call_module pages y)
+exported_is_one turns e f pages same x =
+    subst (λ z. (y : CallCompiling turns z) → module_bytes (its_call_module pages x) ≡ module_bytes (its_call_module pages y)) same (λ y. ap module_bytes (one_call_module turns e pages x y))
+
 -- ---- any job but `eval` and `explain`
 
 tree_is_one : (bytes : List ℕ) (cap n : ℕ) (d e : Data) → length bytes ≤ input_limit → FileEnds bytes cap n (Ok d) → FileEnds bytes cap n (Ok e) → d ≡ e
@@ -99,6 +106,7 @@ answer_is_one Eval q bytes text text' short n m a b = absurd (n refl)
 answer_is_one Explain q bytes text text' short n m a b = absurd (m refl)
 answer_is_one Run q bytes text text' short n m a b = line_is_one by_tags a.tree b.tree a.line b.line text text' (tree_is_one bytes q.pages q.steps a.tree b.tree short a.ends b.ends) a.line_is b.line_is a.text_is b.text_is
 answer_is_one Compile q bytes text text' short n m a b = a.text_is ∙ made_is_one q.turns a.environment b.environment q.pages (one_environment bytes a.environment b.environment a.spelled b.spelled) a.stages b.stages ∙ sym b.text_is
+answer_is_one Export q bytes text text' short n m a b = a.text_is ∙ exported_is_one q.turns a.environment b.environment q.pages (one_environment bytes a.environment b.environment a.spelled b.spelled) a.stages b.stages ∙ sym b.text_is
 answer_is_one Bench q bytes text text' short n m a b =
     let e = b.executed.environment in
     let (answer, x, line, is) = benched_on q bytes text e b.executed.spelled a in

@@ -21,6 +21,7 @@ fn name_of(job: Job) -> &'static str {
         Job::Compile => "compile",
         Job::Bench => "bench",
         Job::Explain => "explain",
+        Job::Export => "export",
     }
 }
 

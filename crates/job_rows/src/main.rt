@@ -12,6 +12,7 @@
 //! | `compiled` | `serve twice`: the job of `words:`, and then that of `then:` on what it wrote |
 //! | `lines` | `line` (`words:`) |
 //! | `explained` | `serve`, of the job `explain` |
+//! | `exported` | `serve` and `serve twice`, of the job `export` |
 //! | `faults` | `serve at each prefix`, `serve with each fault` (`failing:` says whose calls, `calls:` how many), `serve` |
 #![tactic(auto)]
 
@@ -40,6 +41,7 @@ enum Layer {
     Lines,
     Faults,
     Explained,
+    Exported,
 }
 
 impl Table for Layer {
@@ -55,6 +57,7 @@ impl Table for Layer {
             Layer::Lines => "lines.rows",
             Layer::Faults => "faults.rows",
             Layer::Explained => "explained.rows",
+            Layer::Exported => "exported.rows",
         }
     }
 
@@ -67,7 +70,8 @@ impl Table for Layer {
             | Layer::Reports
             | Layer::Limits
             | Layer::Compiled
-            | Layer::Explained => { jobs::run(case, out) }
+            | Layer::Explained
+            | Layer::Exported => { jobs::run(case, out) }
             Layer::Lines => lines::run(case, out),
             Layer::Faults => faults::run(case, out),
         }
@@ -88,6 +92,7 @@ fn main(rt: HostRuntime) -> io::Result<()> {
             Layer::Lines,
             Layer::Faults,
             Layer::Explained,
+            Layer::Exported,
         ],
     )
 }

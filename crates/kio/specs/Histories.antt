@@ -21,8 +21,8 @@ abbrev pub MetEnd : List (List ℕ) → List (List ℕ) → Type 0
 MetEnd old new = (pieces : List (List ℕ)) × (new ≡ old ++ (pieces ++ [] ∷ []))
 
 -- What was given in reading a whole input within a limit: its bytes, and then its end; or more bytes than the limit; or at most as many.
-abbrev pub GivesAll : {V : Type 0} → (V → List ℕ) → Result V ReadAll → ℕ → List (List ℕ) → List (List ℕ) → Type 0
-GivesAll view (Ok v) limit old new = (view v ≡ given_since old new) × (length (view v) ≤ limit) × MetEnd old new
-GivesAll view (Err reads.TooLong) limit old new = limit < length (given_since old new)
-GivesAll view (Err reads.Fault) limit old new = length (given_since old new) ≤ limit
-GivesAll view (Err reads.Memory) limit old new = length (given_since old new) ≤ limit
+abbrev pub GivesWhole : {V : Type 0} → (V → List ℕ) → Result V ReadAll → ℕ → List (List ℕ) → List (List ℕ) → Type 0
+GivesWhole view (Ok v) limit old new = (view v ≡ given_since old new) × (length (view v) ≤ limit) × MetEnd old new
+GivesWhole view (Err reads.TooLong) limit old new = limit < length (given_since old new)
+GivesWhole view (Err reads.Fault) limit old new = length (given_since old new) ≤ limit
+GivesWhole view (Err reads.Memory) limit old new = length (given_since old new) ≤ limit

@@ -20,7 +20,7 @@ ghost use Rattle.std.specs.Io.{ReadsAtMost, WritesAtMost};
 ghost use Rattle.std.specs.Io.KnownBytes.{ReadConsumes, WriteAppends, Appends};
 ghost use Rattle.kio.specs.Causes.{HasCause, Rose};
 ghost use Rattle.kio.specs.Known.{StillTells, ReadsInput, LeavesRest};
-ghost use Rattle.kio.specs.Histories.{GivesAll, IsLater, ReadGives};
+ghost use Rattle.kio.specs.Histories.{GivesWhole, IsLater, ReadGives};
 ghost use Rattle.kio.specs.declared.ReadAll.TheVariants.{Memory};
 
 mod adapters;
@@ -164,7 +164,7 @@ pub fn read_all_counted<S: Source, L: Ledger>(
     ensures rest { LeavesRest result limit (S.left src.old) (S.left src.new) }
     ensures tells { StillTells (S.left src.old) (S.left src.new) }
     ensures grows { IsLater (S.given src.old) (S.given src.new) }
-    ensures history { GivesAll (λ v. v.items) result limit (S.given src.old) (S.given src.new) }
+    ensures history { GivesWhole (λ v. v.items) result limit (S.given src.old) (S.given src.new) }
     ensures later { S.faults src.old ≤ S.faults src.new }
     ensures cause { result ≡ Err ReadAll.Fault → Rose (S.faults src.old) (S.faults src.new) }
     ensures cost { steps.new ≤ steps.old + limit + 2 }
@@ -198,7 +198,7 @@ fn read_all_from<S: Source, L: Ledger>(
     ensures rest { LeavesRest result limit (S.left src.old) (S.left src.new) }
     ensures tells { StillTells (S.left src.old) (S.left src.new) }
     ensures grows { IsLater (S.given src.old) (S.given src.new) }
-    ensures history { GivesAll (λ v. v.items) result limit (S.given src.old) (S.given src.new) }
+    ensures history { GivesWhole (λ v. v.items) result limit (S.given src.old) (S.given src.new) }
     ensures later { S.faults src.old ≤ S.faults src.new }
     ensures cause { result ≡ Err ReadAll.Fault → Rose (S.faults src.old) (S.faults src.new) }
 {
@@ -216,7 +216,7 @@ pub fn read_all<S: Source>(alloc: Global, src: &mut S, limit: usize) -> Result<V
     ensures rest { LeavesRest result limit (S.left src.old) (S.left src.new) }
     ensures tells { StillTells (S.left src.old) (S.left src.new) }
     ensures grows { IsLater (S.given src.old) (S.given src.new) }
-    ensures history { GivesAll (λ v. v.items) result limit (S.given src.old) (S.given src.new) }
+    ensures history { GivesWhole (λ v. v.items) result limit (S.given src.old) (S.given src.new) }
     ensures later { S.faults src.old ≤ S.faults src.new }
     ensures cause { result ≡ Err ReadAll.Fault → Rose (S.faults src.old) (S.faults src.new) }
 {

@@ -1,5 +1,5 @@
 //! The lines of reports.
-ghost use Rattle.std.specs.Prelude.{◌≡◌, [], map, OnErr, OnOk};
+ghost use Rattle.std.specs.Prelude.{◌≡◌, [], map, OnErr, OnOk, Some};
 ghost use Rattle.std.specs.Io.KnownBytes.{Appends};
 ghost use Rattle.kio.specs.Causes.{Rose};
 ghost use Rattle.kio.specs.Known.{StillTells};
@@ -17,6 +17,8 @@ fn write_numbers<E: Sink>(err: &mut E, name: u8, count: u64) -> Result<(), Write
     ensures fault { OnErr result (Rose (E.faults err.old) (E.faults err.new)) }
     ensures line { TakesLine (E.taken err.old) (E.taken err.new) (E.faults err.old) (E.faults err.new) (line name count) }
     ensures tells { StillTells (E.taken err.old) (E.taken err.new) }
+    ensures history_all { OnOk result (Appends (Some (E.received err.old)) (Some (E.received err.new)) (line name count)) }
+    ensures history_line { TakesLine (Some (E.received err.old)) (Some (E.received err.new)) (E.faults err.old) (E.faults err.new) (line name count) }
 {
     let mut first = Buffer::new();
     let mut second = Buffer::new();
@@ -31,6 +33,8 @@ fn write_line<E: Sink>(err: &mut E, report: &Box<dyn Report>) -> Result<(), Writ
     ensures fault { OnErr result (Rose (E.faults err.old) (E.faults err.new)) }
     ensures line { TakesLine (E.taken err.old) (E.taken err.new) (E.faults err.old) (E.faults err.new) (line_of (shown report.now)) }
     ensures tells { StillTells (E.taken err.old) (E.taken err.new) }
+    ensures history_all { OnOk result (Appends (Some (E.received err.old)) (Some (E.received err.new)) (line_of (shown report.now))) }
+    ensures history_line { TakesLine (Some (E.received err.old)) (Some (E.received err.new)) (E.faults err.old) (E.faults err.new) (line_of (shown report.now)) }
 {
     write_numbers(err, report.name(), report.count())
 }
@@ -42,6 +46,7 @@ pub(crate) fn write_lines<E: Sink>(
 ) -> Result<(), WriteFault>
     ensures line { TakesLine (E.taken err.old) (E.taken err.new) (E.faults err.old) (E.faults err.new) (lines (map (λ b. shown b) reports.now)) }
     ensures tells { StillTells (E.taken err.old) (E.taken err.new) }
+    ensures history { TakesLine (Some (E.received err.old)) (Some (E.received err.new)) (E.faults err.old) (E.faults err.new) (lines (map (λ b. shown b) reports.now)) }
     ensures none { reports.now ≡ [] → err.new ≡ err.old }
 {
     for report in reports {

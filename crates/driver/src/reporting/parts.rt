@@ -1,5 +1,5 @@
 //! A line that is written in five parts.
-ghost use Rattle.std.specs.Prelude.{◌++◌, OnErr, OnOk};
+ghost use Rattle.std.specs.Prelude.{◌++◌, OnErr, OnOk, Some};
 ghost use Rattle.std.specs.Io.KnownBytes.{Appends};
 ghost use Rattle.kio.specs.Causes.{Rose};
 ghost use Rattle.kio.specs.Known.{StillTells};
@@ -20,6 +20,8 @@ pub fn write_parts<E: Sink>(
     ensures fault { OnErr result (Rose (E.faults err.old) (E.faults err.new)) }
     ensures line { TakesLine (E.taken err.old) (E.taken err.new) (E.faults err.old) (E.faults err.new) (front.now ++ (digits.now ++ (place.now ++ (name.now ++ end.now)))) }
     ensures tells { StillTells (E.taken err.old) (E.taken err.new) }
+    ensures history_all { OnOk result (Appends (Some (E.received err.old)) (Some (E.received err.new)) (front.now ++ (digits.now ++ (place.now ++ (name.now ++ end.now))))) }
+    ensures history_line { TakesLine (Some (E.received err.old)) (Some (E.received err.new)) (E.faults err.old) (E.faults err.new) (front.now ++ (digits.now ++ (place.now ++ (name.now ++ end.now)))) }
 {
     write_all(err, front)?;
     write_all(err, digits)?;

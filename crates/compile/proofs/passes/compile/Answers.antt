@@ -1,91 +1,38 @@
 use Rattle.std.proofs.Common.{ap, ◌∙◌}
 use Rattle.std.proofs.lemmas.Result.{err_from_is_err_and}
-use Rattle.anf_convert.specs.Renumbering.{anf_of}
 use Rattle.closure_lift.specs.LiftedProgram.{lifted_of}
 use Rattle.wasm_emit.specs.EmittedModule.{module_of}
-use Rattle.compile.specs.Passes.{of_pass, of_lifting, of_emission}
-use Rattle.compile.proofs.Emitting.{none_ok, refused_at, no_memory, too_deep, Passed, not_lifted, lifted_is, emits, all_fit, not_emitted}
+use Rattle.compile.specs.Passes.{of_emission}
+use Rattle.compile.proofs.Emitting.{none_ok, refused_at, all_fit, not_emitted}
 use Rattle.compile.proofs.passes.compile.Goals as goal
-
-pub returns-in_err-ordinary : goal.returns-in_err-ordinary
-returns-in_err-ordinary c =
-    let P = c.args.p.now in
-    let f = c.in_err-ordinary.field-0.0 in
-    let r = c.from_residual.result in
-    let exit = err_from_is_err_and r c.from_residual.ensures.1 in
-    record { is = none_ok _ r (of_pass f) exit; fits = none_ok _ r (of_pass f) exit; refused = refused_at P r (of_pass f) exit (no_memory P f c.in_err-ordinary.ensures.only_memory) }
-
-pub returns-in_err-saturated : goal.returns-in_err-saturated
-returns-in_err-saturated c =
-    let P = c.args.p.now in
-    let f = c.in_err-saturated.field-0.0 in
-    let r = c.from_residual-in_err-saturated.result in
-    let exit = err_from_is_err_and r c.from_residual-in_err-saturated.ensures.1 in
-    record { is = none_ok _ r (of_pass f) exit; fits = none_ok _ r (of_pass f) exit; refused = refused_at P r (of_pass f) exit (too_deep P c.in_ok-ordinary.ordinary c.in_ok-ordinary.ensures.is f c.in_err-saturated.ensures.too_deep) }
-
-pub returns-in_err-inlined : goal.returns-in_err-inlined
-returns-in_err-inlined c =
-    let P = c.args.p.now in
-    let f = c.in_err-inlined.field-0.0 in
-    let r = c.from_residual-in_err-inlined.result in
-    let exit = err_from_is_err_and r c.from_residual-in_err-inlined.ensures.1 in
-    record { is = none_ok _ r (of_pass f) exit; fits = none_ok _ r (of_pass f) exit; refused = refused_at P r (of_pass f) exit (no_memory P f c.in_err-inlined.ensures.only_memory) }
-
-pub returns-in_err-shrunk : goal.returns-in_err-shrunk
-returns-in_err-shrunk c =
-    let P = c.args.p.now in
-    let f = c.in_err-shrunk.field-0.0 in
-    let r = c.from_residual-in_err-shrunk.result in
-    let exit = err_from_is_err_and r c.from_residual-in_err-shrunk.ensures.1 in
-    record { is = none_ok _ r (of_pass f) exit; fits = none_ok _ r (of_pass f) exit; refused = refused_at P r (of_pass f) exit (no_memory P f c.in_err-shrunk.ensures.only_memory) }
-
-pub returns-in_err-normal : goal.returns-in_err-normal
-returns-in_err-normal c =
-    let P = c.args.p.now in
-    let f = c.in_err-normal.field-0.0 in
-    let r = c.from_residual-in_err-normal.result in
-    let exit = err_from_is_err_and r c.from_residual-in_err-normal.ensures.1 in
-    record { is = none_ok _ r (of_pass f) exit; fits = none_ok _ r (of_pass f) exit; refused = refused_at P r (of_pass f) exit (no_memory P f c.in_err-normal.ensures.only_memory) }
 
 pub returns-in_err-lifted : goal.returns-in_err-lifted
 returns-in_err-lifted c =
-    let x : Passed c.args.p.now c.in_ok-saturated.saturated (anf_of c.in_ok-normal.normal) =
-    record { O = c.in_ok-ordinary.ordinary; I = c.in_ok-inlined.inlined; D = c.in_ok-shrunk.shrunk; o = c.in_ok-ordinary.ensures.is; s = c.in_ok-saturated.ensures.is; i = c.in_ok-inlined.ensures.is; d = c.in_ok-shrunk.ensures.is; a = c.in_ok-normal.ensures.is } in
     let P = c.args.p.now in
     let f = c.in_err-lifted.field-0.0 in
-    let r = c.from_residual-in_err-lifted.result in
-    let exit = err_from_is_err_and r c.from_residual-in_err-lifted.ensures.1 in
-    let h = not_lifted P c.in_ok-saturated.saturated (anf_of c.in_ok-normal.normal) x c.in_ok-saturated.ensures.shallow f c.in_err-lifted.ensures.refused in
-    record { is = none_ok _ r (of_lifting f) exit; fits = none_ok _ r (of_lifting f) exit; refused = refused_at P r (of_lifting f) exit h }
+    let r = c.from_residual.result in
+    let exit = err_from_is_err_and r c.from_residual.ensures.1 in
+    record { is = none_ok _ r f exit; fits = none_ok _ r f exit; refused = refused_at P r f exit c.in_err-lifted.ensures.refused }
 
 pub emit-requires-clause-form : goal.emit-requires-clause-form
-emit-requires-clause-form c =
-    let x : Passed c.args.p.now c.in_ok-saturated.saturated (anf_of c.in_ok-normal.normal) =
-    record { O = c.in_ok-ordinary.ordinary; I = c.in_ok-inlined.inlined; D = c.in_ok-shrunk.shrunk; o = c.in_ok-ordinary.ensures.is; s = c.in_ok-saturated.ensures.is; i = c.in_ok-inlined.ensures.is; d = c.in_ok-shrunk.ensures.is; a = c.in_ok-normal.ensures.is } in
-    emits c.args.p.now c.in_ok-saturated.saturated (anf_of c.in_ok-normal.normal) x (lifted_of c.in_ok-lifted.lifted) c.in_ok-lifted.ensures.is
-    c.requires.form c.in_ok-saturated.ensures.shallow c.in_ok-lifted.ensures.captures c.in_ok-lifted.ensures.constants c.in_ok-lifted.ensures.functions
+emit-requires-clause-form c = c.in_ok-lifted.ensures.emits
 
 pub returns-in_err-module : goal.returns-in_err-module
 returns-in_err-module c =
-    let x : Passed c.args.p.now c.in_ok-saturated.saturated (anf_of c.in_ok-normal.normal) =
-    record { O = c.in_ok-ordinary.ordinary; I = c.in_ok-inlined.inlined; D = c.in_ok-shrunk.shrunk; o = c.in_ok-ordinary.ensures.is; s = c.in_ok-saturated.ensures.is; i = c.in_ok-inlined.ensures.is; d = c.in_ok-shrunk.ensures.is; a = c.in_ok-normal.ensures.is } in
     let P = c.args.p.now in
+    let l = c.in_ok-lifted.ensures in
     let f = c.in_err-module.field-0.0 in
     let r = c.from_residual-in_err-module.result in
     let exit = err_from_is_err_and r c.from_residual-in_err-module.ensures.1 in
-    let h = not_emitted P c.in_ok-saturated.saturated (anf_of c.in_ok-normal.normal) x (lifted_of c.in_ok-lifted.lifted) c.in_ok-lifted.ensures.is
-    c.in_ok-saturated.ensures.shallow c.in_ok-lifted.ensures.captures c.in_ok-lifted.ensures.functions f c.in_err-module.ensures.refused in
+    let h = not_emitted P (lifted_of c.in_ok-lifted.lifted) l.is l.lowers f c.in_err-module.ensures.refused in
     record { is = none_ok _ r (of_emission f) exit; fits = none_ok _ r (of_emission f) exit; refused = refused_at P r (of_emission f) exit h }
 
 pub returns : goal.returns
 returns c =
-    let x : Passed c.args.p.now c.in_ok-saturated.saturated (anf_of c.in_ok-normal.normal) =
-    record { O = c.in_ok-ordinary.ordinary; I = c.in_ok-inlined.inlined; D = c.in_ok-shrunk.shrunk; o = c.in_ok-ordinary.ensures.is; s = c.in_ok-saturated.ensures.is; i = c.in_ok-inlined.ensures.is; d = c.in_ok-shrunk.ensures.is; a = c.in_ok-normal.ensures.is } in
-    let P = c.args.p.now in
+    let l = c.in_ok-lifted.ensures in
+    let m = c.in_ok-module.ensures in
     record {
-      is = c.in_ok-module.ensures.is ∙ ap (λ x. module_of x c.args.pages) (lifted_is P c.in_ok-saturated.saturated (anf_of c.in_ok-normal.normal) x
-          (lifted_of c.in_ok-lifted.lifted) c.in_ok-lifted.ensures.is);
-      fits = all_fit P c.in_ok-saturated.saturated (anf_of c.in_ok-normal.normal) x (lifted_of c.in_ok-lifted.lifted) c.in_ok-lifted.ensures.is
-          c.in_ok-saturated.ensures.shallow c.in_ok-lifted.ensures.captures c.in_ok-lifted.ensures.functions c.in_ok-module.ensures.few;
+      is = m.is ∙ ap (λ x. module_of x c.args.pages) l.is;
+      fits = all_fit c.args.p.now (lifted_of c.in_ok-lifted.lifted) l.is l.lowers m.few;
       refused = tt;
     }

@@ -71,6 +71,12 @@ returns-clause-nothing_out g c = c.serve_whole.ensures.served.nothing_out
 pub returns-clause-quiet : goal.returns-clause-quiet
 returns-clause-quiet g c = λ z none. c.serve_whole.ensures.served.quiet z (ap (λ xs. map (λ b. (goal.Report-dyn g (b.vtable, b.value)).shown b.value) xs) none)
 
+pub returns-clause-history : goal.returns-clause-history
+returns-clause-history g c = c.serve_whole.ensures.history
+
+pub returns-clause-ended : goal.returns-clause-ended
+returns-clause-ended g c = c.serve_whole.ensures.ended
+
 pub returns-clause-counts : goal.returns-clause-counts
 returns-clause-counts g c = let s = c.serve_whole.ensures.served in (s.source.count, s.sinks.0.count, s.sinks.1.count)
 

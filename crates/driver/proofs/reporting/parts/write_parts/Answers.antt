@@ -1,6 +1,6 @@
-use Rattle.std.proofs.Common.{◌++◌}
+use Rattle.std.proofs.Common.{◌++◌, Some}
 use Rattle.std.proofs.lemmas.Result.{on_ok_weaker}
-use Rattle.driver.proofs.PartByPart.{appends_both, err_anyway, fault_later, line_ends, line_stops, line_then, rose_later, tells_then}
+use Rattle.driver.proofs.PartByPart.{appends_both, err_anyway, fault_later, line_ends, line_stops, line_then, part_by_history, rose_later, tells_then}
 use Rattle.driver.proofs.reporting.parts.write_parts.Goals as goal
 
 pub returns-in_err-write_all-clause-line : goal.returns-in_err-write_all-clause-line
@@ -59,6 +59,38 @@ pub returns-in_err-write_all-4-clause-tells : goal.returns-in_err-write_all-4-cl
 returns-in_err-write_all-4-clause-tells g c =
     tells_then _ _ _ c.in_ok-write_all.ensures.tells (tells_then _ _ _ c.in_ok-write_all-2.ensures.tells (tells_then _ _ _ c.in_ok-write_all-3.ensures.tells c.in_err-write_all-4.ensures.tells))
 
+pub returns-in_err-write_all-clause-history_line : goal.returns-in_err-write_all-clause-history_line
+returns-in_err-write_all-clause-history_line g c =
+    let e = c.in_err-write_all.ensures in
+    line_stops _ _ _ _ _ c.args.front.now (c.args.digits.now ++ (c.args.place.now ++ (c.args.name.now ++ c.args.end.now))) e.part.0 e.received_part e.cause.later e.cause.failed
+
+pub returns-in_err-write_all-2-clause-history_line : goal.returns-in_err-write_all-2-clause-history_line
+returns-in_err-write_all-2-clause-history_line g c =
+    let w = c.in_ok-write_all.ensures in
+    let e = c.in_err-write_all-2.ensures in
+    line_then _ (Some (g.E.Sink.received c.write_all.new.out)) _ _ _ _ c.args.front.now (c.args.digits.now ++ (c.args.place.now ++ (c.args.name.now ++ c.args.end.now))) w.received w.cause.later
+    (line_stops _ _ _ _ _ c.args.digits.now (c.args.place.now ++ (c.args.name.now ++ c.args.end.now)) e.part.0 e.received_part e.cause.later e.cause.failed)
+
+pub returns-in_err-write_all-3-clause-history_line : goal.returns-in_err-write_all-3-clause-history_line
+returns-in_err-write_all-3-clause-history_line g c =
+    let w = c.in_ok-write_all.ensures in
+    let x = c.in_ok-write_all-2.ensures in
+    let e = c.in_err-write_all-3.ensures in
+    line_then _ (Some (g.E.Sink.received c.write_all.new.out)) _ _ _ _ c.args.front.now (c.args.digits.now ++ (c.args.place.now ++ (c.args.name.now ++ c.args.end.now))) w.received w.cause.later
+    (line_then _ (Some (g.E.Sink.received c.write_all-2.new.out)) _ _ _ _ c.args.digits.now (c.args.place.now ++ (c.args.name.now ++ c.args.end.now)) x.received x.cause.later
+    (line_stops _ _ _ _ _ c.args.place.now (c.args.name.now ++ c.args.end.now) e.part.0 e.received_part e.cause.later e.cause.failed))
+
+pub returns-in_err-write_all-4-clause-history_line : goal.returns-in_err-write_all-4-clause-history_line
+returns-in_err-write_all-4-clause-history_line g c =
+    let w = c.in_ok-write_all.ensures in
+    let x = c.in_ok-write_all-2.ensures in
+    let y = c.in_ok-write_all-3.ensures in
+    let e = c.in_err-write_all-4.ensures in
+    line_then _ (Some (g.E.Sink.received c.write_all.new.out)) _ _ _ _ c.args.front.now (c.args.digits.now ++ (c.args.place.now ++ (c.args.name.now ++ c.args.end.now))) w.received w.cause.later
+    (line_then _ (Some (g.E.Sink.received c.write_all-2.new.out)) _ _ _ _ c.args.digits.now (c.args.place.now ++ (c.args.name.now ++ c.args.end.now)) x.received x.cause.later
+    (line_then _ (Some (g.E.Sink.received c.write_all-3.new.out)) _ _ _ _ c.args.place.now (c.args.name.now ++ c.args.end.now) y.received y.cause.later
+    (line_stops _ _ _ _ _ c.args.name.now c.args.end.now e.part.0 e.received_part e.cause.later e.cause.failed)))
+
 pub returns : goal.returns
 returns g c =
     let w = c.in_ok-write_all.ensures in
@@ -76,4 +108,15 @@ returns g c =
           (line_then _ _ _ _ _ _ c.args.place.now rest y.all y.cause.later (line_then _ _ _ _ _ _ c.args.name.now c.args.end.now z.all z.cause.later (line_ends _ _ _ _ c.args.end.now c.write_all-5.result e.all e.part e.cause))));
       tells =
           tells_then _ _ _ w.tells (tells_then _ _ _ x.tells (tells_then _ _ _ y.tells (tells_then _ _ _ z.tells e.tells)));
+      history_all = on_ok_weaker c.write_all-5.result
+          (λ h. appends_both (Some (g.E.Sink.received c.args.err.now)) (Some (g.E.Sink.received c.write_all.new.out)) (Some (g.E.Sink.received c.write_all-5.new.out)) c.args.front.now (c.args.digits.now ++ (c.args.place.now ++ (c.args.name.now ++ c.args.end.now))) w.received
+          (appends_both (Some (g.E.Sink.received c.write_all.new.out)) (Some (g.E.Sink.received c.write_all-2.new.out)) (Some (g.E.Sink.received c.write_all-5.new.out)) c.args.digits.now (c.args.place.now ++ (c.args.name.now ++ c.args.end.now)) x.received
+          (appends_both (Some (g.E.Sink.received c.write_all-2.new.out)) (Some (g.E.Sink.received c.write_all-3.new.out)) (Some (g.E.Sink.received c.write_all-5.new.out)) c.args.place.now (c.args.name.now ++ c.args.end.now) y.received
+          (appends_both (Some (g.E.Sink.received c.write_all-3.new.out)) (Some (g.E.Sink.received c.write_all-4.new.out)) (Some (g.E.Sink.received c.write_all-5.new.out)) c.args.name.now c.args.end.now z.received h)))) e.received;
+      history_line = line_then _ (Some (g.E.Sink.received c.write_all.new.out)) _ _ _ _ c.args.front.now (c.args.digits.now ++ (c.args.place.now ++ (c.args.name.now ++ c.args.end.now))) w.received w.cause.later
+          (line_then _ (Some (g.E.Sink.received c.write_all-2.new.out)) _ _ _ _ c.args.digits.now (c.args.place.now ++ (c.args.name.now ++ c.args.end.now)) x.received x.cause.later
+          (line_then _ (Some (g.E.Sink.received c.write_all-3.new.out)) _ _ _ _ c.args.place.now (c.args.name.now ++ c.args.end.now) y.received y.cause.later
+          (line_then _ (Some (g.E.Sink.received c.write_all-4.new.out)) _ _ _ _ c.args.name.now c.args.end.now z.received z.cause.later
+          (line_ends _ _ _ _ c.args.end.now c.write_all-5.result e.received
+          (part_by_history (g.E.Sink.taken c.write_all-4.new.out) (g.E.Sink.taken c.write_all-5.new.out) _ _ c.write_all-5.result c.args.end.now e.part e.received_part) e.cause))));
     }
