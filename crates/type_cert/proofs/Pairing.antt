@@ -47,7 +47,7 @@ module _ (ts us : List Term) (i : ℕ) (ps : List Part) (o : Option (List Part))
   pub terms_next : (t u : Term) (qs : List Part) → i < length ts → i < length us → t ≡ get_or ts i t → u ≡ get_or us i u → qs ≡ ps ++ (pair_under 0 t u ∷ []) →
       terms_from i ps ≡ terms_from (i + 1) qs
   terms_next t u qs h k e e' r =
-      (λ j. joined ps (term_pairs (terms_of (next_is ts i t h e j)) (terms_of (next_is us i u k e' j)) o)) ∙ pair_next ps qs 0 0 t u _ _ o refl r
+      (λ j. joined ps (term_pairs (terms_of (next_is ts i t h e j)) (terms_of (next_is us i u k e' j)) o)) ∙ pair_next ps qs 0 0 t u (terms_of (drop (i + 1) ts)) (terms_of (drop (i + 1) us)) o refl r
 
   pub terms_end : length ts ≤ i → length us ≤ i → terms_from i ps ≡ joined ps o
   terms_end h k = λ j. joined ps (term_pairs (terms_of (none_left ts i h j)) (terms_of (none_left us i k j)) o)
@@ -66,10 +66,10 @@ module _ (xs ys : List Branch) (i : ℕ) (ps : List Part) (o : Option (List Part
   arms_here = λ j. joined ps (term_pairs (arms_of (next_is xs i x h e j)) (arms_of (next_is ys i y k e' j)) o)
 
   pub arms_next : (qs : List Part) → x.binders ≡ y.binders → qs ≡ ps ++ (pair_under x.binders x.body y.body ∷ []) → arms_from i ps ≡ arms_from (i + 1) qs
-  arms_next qs b r = arms_here ∙ pair_next ps qs x.binders y.binders x.body y.body _ _ o b r
+  arms_next qs b r = arms_here ∙ pair_next ps qs x.binders y.binders x.body y.body (arms_of (drop (i + 1) xs)) (arms_of (drop (i + 1) ys)) o b r
 
   pub arms_differ : (x.binders == y.binders) ≡ false → arms_from i ps ≡ None
-  arms_differ b = arms_here ∙ other_next ps x.binders y.binders x.body y.body _ _ o b
+  arms_differ b = arms_here ∙ other_next ps x.binders y.binders x.body y.body (arms_of (drop (i + 1) xs)) (arms_of (drop (i + 1) ys)) o b
 
 pub arms_end : (xs ys : List Branch) (i : ℕ) (ps : List Part) (o : Option (List Part)) → length xs ≤ i → length ys ≤ i →
     joined ps (term_pairs (arms_of (drop i xs)) (arms_of (drop i ys)) o) ≡ joined ps o
@@ -89,7 +89,7 @@ module _ (ds es : List Def) (i : ℕ) (ps : List Part) (o : Option (List Part)) 
   pub types_next : (d e : Def) (qs : List Part) → i < length ds → i < length es → d ≡ get_or ds i d → e ≡ get_or es i e → qs ≡ ps ++ (pair_under 0 d.ty e.ty ∷ []) →
       joined ps (term_pairs (types_of (drop i ds)) (types_of (drop i es)) o) ≡ joined qs (term_pairs (types_of (drop (i + 1) ds)) (types_of (drop (i + 1) es)) o)
   types_next d e qs h k p p' r =
-      (λ j. joined ps (term_pairs (types_of (next_is ds i d h p j)) (types_of (next_is es i e k p' j)) o)) ∙ pair_next ps qs 0 0 d.ty e.ty _ _ o refl r
+      (λ j. joined ps (term_pairs (types_of (next_is ds i d h p j)) (types_of (next_is es i e k p' j)) o)) ∙ pair_next ps qs 0 0 d.ty e.ty (types_of (drop (i + 1) ds)) (types_of (drop (i + 1) es)) o refl r
 
   pub types_end : length ds ≤ i → length es ≤ i → joined ps (term_pairs (types_of (drop i ds)) (types_of (drop i es)) o) ≡ joined ps o
   types_end h k = λ j. joined ps (term_pairs (types_of (none_left ds i h j)) (types_of (none_left es i k j)) o)
@@ -97,7 +97,7 @@ module _ (ds es : List Def) (i : ℕ) (ps : List Part) (o : Option (List Part)) 
   pub bodies_next : (n : ℕ) (d e : Def) (qs : List Part) → i < length ds → i < length es → d ≡ get_or ds i d → e ≡ get_or es i e → qs ≡ ps ++ (pair_under n d.body e.body ∷ []) →
       joined ps (term_pairs (bodies_of n (drop i ds)) (bodies_of n (drop i es)) o) ≡ joined qs (term_pairs (bodies_of n (drop (i + 1) ds)) (bodies_of n (drop (i + 1) es)) o)
   bodies_next n d e qs h k p p' r =
-      (λ j. joined ps (term_pairs (bodies_of n (next_is ds i d h p j)) (bodies_of n (next_is es i e k p' j)) o)) ∙ pair_next ps qs n n d.body e.body _ _ o refl r
+      (λ j. joined ps (term_pairs (bodies_of n (next_is ds i d h p j)) (bodies_of n (next_is es i e k p' j)) o)) ∙ pair_next ps qs n n d.body e.body (bodies_of n (drop (i + 1) ds)) (bodies_of n (drop (i + 1) es)) o refl r
 
   pub bodies_end : (n : ℕ) → length ds ≤ i → length es ≤ i → joined ps (term_pairs (bodies_of n (drop i ds)) (bodies_of n (drop i es)) o) ≡ joined ps o
   bodies_end n h k = λ j. joined ps (term_pairs (bodies_of n (none_left ds i h j)) (bodies_of n (none_left es i k j)) o)

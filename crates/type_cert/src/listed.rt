@@ -31,7 +31,8 @@ fn assumed(alloc: Global, ctx: &Ctx, count: usize, ty: &Term) -> Result<Ctx, Sto
     let mut out = ctx.share()?;
     for _ in 0..count {
         let entry = Entry::Assumed(ty.share()?);
-        out = out.extended(alloc, entry)?;
+        let longer = out.extended(alloc, entry)?;
+        out = longer;
     }
     Ok(out)
 }
@@ -57,7 +58,8 @@ impl Verifier<'_> {
         let Node::Case(y) = b.view() else {
             unreachable!()
         };
-        let Some(parts) = match_parts(alloc, x, y)? else {
+        let found = match_parts(alloc, x, y)?;
+        let Some(parts) = found else {
             return Err(WalkHalt::Barred { item: at });
         };
         self.each_part(alloc, ctx, room, parts.as_slice(), trail)
@@ -84,7 +86,8 @@ impl Verifier<'_> {
         let Node::Fix(es, j) = b.view() else {
             unreachable!()
         };
-        let Some(parts) = fix_parts(alloc, ds, i, es, *j)? else {
+        let found = fix_parts(alloc, ds, i, es, *j)?;
+        let Some(parts) = found else {
             return Err(WalkHalt::Barred { item: at });
         };
         self.each_part(alloc, ctx, room, parts.as_slice(), trail)

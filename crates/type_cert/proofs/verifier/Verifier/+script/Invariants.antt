@@ -7,7 +7,7 @@ use Rattle.type_cert.specs.declared.trail.Trail.{Trail}
 use Rattle.type_cert.specs.Retraces.{Retraces, stand}
 use Rattle.type_cert.specs.Going.{going}
 use Rattle.type_cert.specs.Pairs.{acts_of}
-use Rattle.type_cert.proofs.scripts.Verifier.+script.Given as goal
+use Rattle.type_cert.proofs.verifier.Verifier.+script.Given as goal
 
 abbrev pub decreases-script : goal.decreases-script
 decreases-script l = l.room * 8

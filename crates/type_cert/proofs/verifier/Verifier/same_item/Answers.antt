@@ -5,8 +5,8 @@ use Rattle.cert_rules.specs.Scripts.{sorts_at}
 use Rattle.pc_rules.proofs.SameTrees.{same_yes, same_no}
 use Rattle.type_cert.proofs.Retracing.{retraces_then, retraces_else, retraces_pass, retraces_bar}
 use Rattle.type_cert.proofs.Scripting.{either_left, either_right, neither, from_past}
-use Rattle.type_cert.proofs.scripts.Verifier.same_item.Goals as goal
-use Rattle.type_cert.proofs.scripts.Verifier.same_item.Goals.{then-same-via-then-same, then-same-via-else-same+then-sorts_stand}
+use Rattle.type_cert.proofs.verifier.Verifier.same_item.Goals as goal
+use Rattle.type_cert.proofs.verifier.Verifier.same_item.Goals.{then-same-via-then-same, then-same-via-else-same+then-sorts_stand}
 
 pub returns-then-same : goal.returns-then-same
 returns-then-same c =

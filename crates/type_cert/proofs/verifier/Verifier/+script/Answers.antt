@@ -7,8 +7,8 @@ use Rattle.type_cert.specs.Going.{going}
 use Rattle.type_cert.specs.Comparable.{AreScriptable}
 use Rattle.type_cert.proofs.Retracing.{retraces_on, retraces_err, retraces_passed, retraces_bar}
 use Rattle.type_cert.proofs.Scripting.{item_there, retraces_is, from_past, left_none, right_none, left_goes, right_goes, script_nested, script_entered, product_err, product_go, lambda_err, lambda_go, app_err, app_go, let_first, let_second, let_go, leaves, formers_differ, values_defined, values_under, after_same, left_ready, right_ready}
-use Rattle.type_cert.proofs.Listed.{part_ready, part_next, part_stops, parts_done, match_goes, match_differs, fix_goes, fix_differs, matches_counted, fixpoints_counted}
-use Rattle.type_cert.proofs.scripts.Verifier.+script.Goals as goal
+use Rattle.type_cert.proofs.PartScripts.{part_ready, part_next, part_stops, parts_done, match_goes, match_differs, fix_goes, fix_differs, matches_counted, fixpoints_counted}
+use Rattle.type_cert.proofs.verifier.Verifier.+script.Goals as goal
 
 pub item-left_item-requires : goal.item-left_item-requires
 item-left_item-requires t c =
@@ -97,7 +97,7 @@ pub product-returns : goal.product-returns
 product-returns t c =
     let eb = rw c.in-Prod.is at c.view.ensures.is in
     let u = values_under c.args.ctx.now c.in_ok-under.under _ _ c.in_ok-under.ensures.longer c.in_ok-share.ensures.ok in
-    record { retraces = λ i. rw (← eb) (product_go i (going c.args.self.now c.args.room) (values c.args.ctx.now) c.args.equal c.args.domain.now c.args.codomain.now c.in-Prod.other c.in-Prod.target c.args.trail.now _ _ _ c.in_ok-script.ensures.retraces _ u c.script.ensures.retraces) }
+    record { retraces = λ i. rw (← eb) (product_go i (going c.args.self.now c.args.room) (values c.args.ctx.now) c.args.equal c.args.domain.now c.args.codomain.now c.in-Prod.other c.in-Prod.target c.args.trail.now _ _ _ c.in_ok-script.ensures.retraces _ u c.script-2.ensures.retraces) }
 
 pub lambda-returns-in_err-script : goal.lambda-returns-in_err-script
 lambda-returns-in_err-script t c =
@@ -108,7 +108,7 @@ pub lambda-returns : goal.lambda-returns
 lambda-returns t c =
     let eb = rw c.in-Lambda.is at c.view.ensures.is in
     let u = values_under c.args.ctx.now c.in_ok-under.under _ _ c.in_ok-under.ensures.longer c.in_ok-share.ensures.ok in
-    record { retraces = λ i equal. rw (← eb) (lambda_go i (going c.args.self.now c.args.room) (values c.args.ctx.now) equal c.args.domain.now c.args.body.now c.in-Lambda.other c.in-Lambda.target c.args.trail.now _ _ _ c.in_ok-script.ensures.retraces _ u c.script.ensures.retraces) }
+    record { retraces = λ i equal. rw (← eb) (lambda_go i (going c.args.self.now c.args.room) (values c.args.ctx.now) equal c.args.domain.now c.args.body.now c.in-Lambda.other c.in-Lambda.target c.args.trail.now _ _ _ c.in_ok-script.ensures.retraces _ u c.script-2.ensures.retraces) }
 
 pub application-returns-in_err-script : goal.application-returns-in_err-script
 application-returns-in_err-script t c =
@@ -160,3 +160,57 @@ pub each_part-returns : goal.each_part-returns
 each_part-returns t c =
     let h : length c.args.parts.now ≤ c.loop-i.i = search rules in
     record { retraces = c.loop-i.invariant.rest _ _ (parts_done (going c.args.self.now c.args.room) (values c.args.ctx.now) c.args.parts.now c.loop-i.i c.loop-i.trail h) }
+
+pub parts-returns-in-Prod : goal.parts-returns-in-Prod
+parts-returns-in-Prod t c =
+    let ea = rw c.in-Prod.is at c.view.ensures.is in
+    record { retraces = rw (← ea) (c.product.ensures.retraces c.args.at) }
+
+pub parts-returns-in-Lambda : goal.parts-returns-in-Lambda
+parts-returns-in-Lambda t c =
+    let ea = rw c.in-Lambda.is at c.view.ensures.is in
+    record { retraces = rw (← ea) (c.lambda.ensures.retraces c.args.at c.args.equal) }
+
+pub parts-returns-in-LetIn : goal.parts-returns-in-LetIn
+parts-returns-in-LetIn t c =
+    let ea = rw c.in-LetIn.is at c.view.ensures.is in
+    record { retraces = rw (← ea) (c.definition.ensures.retraces c.args.at c.args.equal) }
+
+pub parts-returns-in-App : goal.parts-returns-in-App
+parts-returns-in-App t c =
+    let ea = rw c.in-App.is at c.view.ensures.is in
+    record { retraces = rw (← ea) (c.application.ensures.retraces c.args.at c.args.equal) }
+
+pub parts-returns-in-Case : goal.parts-returns-in-Case
+parts-returns-in-Case t c =
+    let ea = rw c.in-Case.is at c.view.ensures.is in
+    record { retraces = rw (← ea) (c.matches.ensures.retraces c.args.equal) }
+
+pub parts-returns-in-Fix : goal.parts-returns-in-Fix
+parts-returns-in-Fix t c =
+    let ea = rw c.in-Fix.is at c.view.ensures.is in
+    record { retraces = rw (← ea) (c.fixpoints.ensures.retraces c.args.equal) }
+
+pub definition-returns-in_err-script-2 : goal.definition-returns-in_err-script-2
+definition-returns-in_err-script-2 t c = ?
+
+pub definition-returns : goal.definition-returns
+definition-returns t c = ?
+
+pub matches-returns-in_default-2 : goal.matches-returns-in_default-2
+matches-returns-in_default-2 t c = ?
+
+pub matches-each_part-requires : goal.matches-each_part-requires
+matches-each_part-requires t c = ?
+
+pub matches-returns : goal.matches-returns
+matches-returns t c = ?
+
+pub fixpoints-returns-in_default-2 : goal.fixpoints-returns-in_default-2
+fixpoints-returns-in_default-2 t c = ?
+
+pub fixpoints-each_part-requires : goal.fixpoints-each_part-requires
+fixpoints-each_part-requires t c = ?
+
+pub fixpoints-returns : goal.fixpoints-returns
+fixpoints-returns t c = ?
