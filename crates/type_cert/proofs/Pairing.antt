@@ -1,5 +1,6 @@
 -- Parts that are put behind others, and what scripts make of them.
-use Rattle.std.proofs.Common.{◌≡◌, ◌∙◌, sym, ap, refl, subst, cond, ℕ, ◌<◌, ◌≤◌, ◌+◌, ◌==◌, ◌&&◌, if◌then◌else◌, Bool, true, false, List, [], ◌∷◌, ◌++◌, length, drop, get_or, Option, Some, None, eq-eqb, append_assoc, append-nil, arith}
+use Rattle.std.proofs.lemmas.Bool.{ne_eqb}
+use Rattle.std.proofs.Common.{◌≡◌, ◌≢◌, ◌∙◌, sym, ap, refl, subst, cond, ℕ, ◌<◌, ◌≤◌, ◌+◌, ◌==◌, ◌&&◌, if◌then◌else◌, Bool, true, false, List, [], ◌∷◌, ◌++◌, length, drop, get_or, Option, Some, None, eq-eqb, append_assoc, append-nil, arith}
 use Rattle.trees.specs.Tree.{terms_of}
 use Rattle.pc_terms.specs.Syntax.{Term, Terms, Slot, Children, End, Child, Group, Done, Next, Case, Fix, CaseOf, FixOf}
 use Rattle.pc_terms.specs.View.{tree_of}
@@ -68,8 +69,8 @@ module _ (xs ys : List Branch) (i : ℕ) (ps : List Part) (o : Option (List Part
   pub arms_next : (qs : List Part) → x.binders ≡ y.binders → qs ≡ ps ++ (pair_under x.binders x.body y.body ∷ []) → arms_from i ps ≡ arms_from (i + 1) qs
   arms_next qs b r = arms_here ∙ pair_next ps qs x.binders y.binders x.body y.body (arms_of (drop (i + 1) xs)) (arms_of (drop (i + 1) ys)) o b r
 
-  pub arms_differ : (x.binders == y.binders) ≡ false → arms_from i ps ≡ None
-  arms_differ b = arms_here ∙ other_next ps x.binders y.binders x.body y.body (arms_of (drop (i + 1) xs)) (arms_of (drop (i + 1) ys)) o b
+  pub arms_differ : x.binders ≢ y.binders → arms_from i ps ≡ None
+  arms_differ b = arms_here ∙ other_next ps x.binders y.binders x.body y.body (arms_of (drop (i + 1) xs)) (arms_of (drop (i + 1) ys)) o (ne_eqb x.binders y.binders b)
 
 pub arms_end : (xs ys : List Branch) (i : ℕ) (ps : List Part) (o : Option (List Part)) → length xs ≤ i → length ys ≤ i →
     joined ps (term_pairs (arms_of (drop i xs)) (arms_of (drop i ys)) o) ≡ joined ps o

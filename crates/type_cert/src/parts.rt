@@ -64,10 +64,12 @@ fn put_branches(out: &mut Vec<Part>, xs: &[Branch], ys: &[Branch]) -> Result<boo
         return Ok(false);
     }
     for i in 0..xs.len() {
-        if xs[i].binders != ys[i].binders {
+        let x = &xs[i];
+        let y = &ys[i];
+        if x.binders != y.binders {
             return Ok(false);
         }
-        put(out, &xs[i].body, &ys[i].body, xs[i].binders as usize)?;
+        put(out, &x.body, &y.body, x.binders as usize)?;
     }
     Ok(true)
 }
@@ -83,10 +85,12 @@ fn put_types(out: &mut Vec<Part>, ds: &[Def], es: &[Def]) -> Result<bool, Stop>
         return Ok(false);
     }
     for i in 0..ds.len() {
-        if ds[i].rarg != es[i].rarg {
+        let d = &ds[i];
+        let e = &es[i];
+        if d.rarg != e.rarg {
             return Ok(false);
         }
-        put(out, &ds[i].ty, &es[i].ty, 0)?;
+        put(out, &d.ty, &e.ty, 0)?;
     }
     Ok(true)
 }

@@ -8,7 +8,7 @@ loop-i-preserved c =
     let h : c.loop-i.i < length c.args.ds.now = grind arith in
     let k : c.loop-i.i < length c.args.es.now = omega (arith, n) in
     λ o. c.loop-i.invariant o
-    ∙ bodies_next c.args.ds.now c.args.es.now c.loop-i.i c.loop-i.out.items o c.args.count c.index-ds-i.result c.index-es-i.result c.put.new.out.items h k c.index-ds-i.is c.index-es-i.is c.in_ok-put.ensures.ok
+    ∙ bodies_next c.args.ds.now c.args.es.now c.loop-i.i c.loop-i.out.items o c.args.count c.index-ds-i.result c.index-es-i.result c.put.new.out.items h k c.index-ds-i.is c.index-es-i.is (rw (← c.index-ds-i.is, ← c.index-es-i.is) at c.in_ok-put.ensures.ok)
 
 pub returns-clause-ok : goal.returns-clause-ok
 returns-clause-ok c =

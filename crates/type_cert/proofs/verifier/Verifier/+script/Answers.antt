@@ -1,6 +1,8 @@
-use Rattle.std.proofs.Common.{rules, arith, ◌≡◌, ◌∙◌, ap, sym, refl, ◌<◌, Some, length, slice_get, suc, ◌-◌, ◌+◌, ◌≤◌}
+use Rattle.std.proofs.Common.{rules, arith, ◌≡◌, ◌∙◌, ap, sym, refl, ◌<◌, Some, length, slice_get, suc, ◌-◌, ◌+◌, ◌≤◌, subst}
 use Rattle.calculus_rules.specs.Context.{values}
 use Rattle.pc_rules.specs.Entailment.{test_of}
+use Rattle.pc_rules.specs.WellCounted.{IsCounted}
+use Rattle.type_cert.specs.Pairs.{AreCountedParts}
 use Rattle.pc_rules.proofs.Meters.{after-trans}
 use Rattle.cert_rules.specs.declared.item.CertItem.TheVariants.{Same}
 use Rattle.type_cert.specs.Going.{going}
@@ -192,25 +194,58 @@ parts-returns-in-Fix t c =
     record { retraces = rw (← ea) (c.fixpoints.ensures.retraces c.args.equal) }
 
 pub definition-returns-in_err-script-2 : goal.definition-returns-in_err-script-2
-definition-returns-in_err-script-2 t c = ?
+definition-returns-in_err-script-2 t c =
+    let eb = rw c.in-LetIn.is at c.view.ensures.is in
+    record { retraces = λ i equal. retraces_passed c.from_residual-in_err-script-2.ensures.1
+        (rw (← eb) (let_second i (going c.args.self.now c.args.room) (values c.args.ctx.now) equal c.args.value.now c.args.ty.now c.args.body.now c.in-LetIn.other c.in-LetIn.kind c.in-LetIn.target c.args.trail.now _ _ _ c.in_ok-script.ensures.retraces c.in_err-script-2.ensures.retraces)) }
 
 pub definition-returns : goal.definition-returns
-definition-returns t c = ?
+definition-returns t c =
+    let eb = rw c.in-LetIn.is at c.view.ensures.is in
+    let u = values_defined c.args.ctx.now c.in_ok-under.under _ _ _ c.in_ok-under.ensures.longer c.in_ok-share.ensures.ok in
+    record { retraces = λ i equal.
+        rw (← eb) (let_go i (going c.args.self.now c.args.room) (values c.args.ctx.now) equal c.args.value.now c.args.ty.now c.args.body.now c.in-LetIn.other c.in-LetIn.kind c.in-LetIn.target c.args.trail.now _ _ _ _ c.in_ok-script.ensures.retraces c.in_ok-script-2.ensures.retraces _ u c.script-3.ensures.retraces) }
 
-pub matches-returns-in_default-2 : goal.matches-returns-in_default-2
-matches-returns-in_default-2 t c = ?
+pub matches-returns-in_default : goal.matches-returns-in_default
+matches-returns-in_default t c =
+    let eb = rw c.in-Case.is at c.view.ensures.is in
+    let e = rw c.in_default.is at c.in_ok-found.ensures.parts in
+    record { retraces = λ equal. match_differs c.args.at (going c.args.self.now c.args.room) (values c.args.ctx.now) equal c.args.trail.now c.args.x.now c.in-Case.y c.args.b.now eb e }
 
 pub matches-each_part-requires : goal.matches-each_part-requires
-matches-each_part-requires t c = ?
+matches-each_part-requires t c =
+    let eb = rw c.in-Case.is at c.view.ensures.is in
+    let e = rw c.in-Some.is at c.in_ok-found.ensures.parts in
+    let r = subst (λ u. IsCounted c.args.self.now.env.now u) (sym eb) c.requires.scriptable.right in
+    let k = matches_counted c.args.self.now.env.now c.args.x.now c.in-Case.y c.in-Some.parts.items c.requires.scriptable.left r e in
+    let l : AreCountedParts c.args.self.now.env.now c.as_slice.result.now = rw c.as_slice.ensures.value k in
+    search (rules, l)
 
 pub matches-returns : goal.matches-returns
-matches-returns t c = ?
+matches-returns t c =
+    let eb = rw c.in-Case.is at c.view.ensures.is in
+    let e = rw c.in-Some.is at c.in_ok-found.ensures.parts in
+    let f = rw c.as_slice.ensures.value at c.each_part.ensures.retraces in
+    record { retraces = λ equal. match_goes c.args.at (going c.args.self.now c.args.room) (values c.args.ctx.now) equal c.args.trail.now c.args.x.now c.in-Case.y c.args.b.now c.in-Some.parts.items _ _ eb e f }
 
-pub fixpoints-returns-in_default-2 : goal.fixpoints-returns-in_default-2
-fixpoints-returns-in_default-2 t c = ?
+pub fixpoints-returns-in_default : goal.fixpoints-returns-in_default
+fixpoints-returns-in_default t c =
+    let eb = rw c.in-Fix.is at c.view.ensures.is in
+    let e = rw c.in_default.is at c.in_ok-found.ensures.parts in
+    record { retraces = λ equal. fix_differs c.args.at (going c.args.self.now c.args.room) (values c.args.ctx.now) equal c.args.trail.now c.args.ds.now c.in-Fix.es c.args.i c.in-Fix.j c.args.b.now eb e }
 
 pub fixpoints-each_part-requires : goal.fixpoints-each_part-requires
-fixpoints-each_part-requires t c = ?
+fixpoints-each_part-requires t c =
+    let eb = rw c.in-Fix.is at c.view.ensures.is in
+    let e = rw c.in-Some.is at c.in_ok-found.ensures.parts in
+    let r = subst (λ u. IsCounted c.args.self.now.env.now u) (sym eb) c.requires.scriptable.right in
+    let k = fixpoints_counted c.args.self.now.env.now c.args.ds.now c.in-Fix.es c.args.i c.in-Fix.j c.in-Some.parts.items c.requires.scriptable.left r e in
+    let l : AreCountedParts c.args.self.now.env.now c.as_slice.result.now = rw c.as_slice.ensures.value k in
+    search (rules, l)
 
 pub fixpoints-returns : goal.fixpoints-returns
-fixpoints-returns t c = ?
+fixpoints-returns t c =
+    let eb = rw c.in-Fix.is at c.view.ensures.is in
+    let e = rw c.in-Some.is at c.in_ok-found.ensures.parts in
+    let f = rw c.as_slice.ensures.value at c.each_part.ensures.retraces in
+    record { retraces = λ equal. fix_goes c.args.at (going c.args.self.now c.args.room) (values c.args.ctx.now) equal c.args.trail.now c.args.ds.now c.in-Fix.es c.args.i c.in-Fix.j c.args.b.now c.in-Some.parts.items _ _ eb e f }
