@@ -54,6 +54,7 @@ async function takeFiles(files) {
     }
   });
   showMain();
+  document.body.dataset.taken = Number(document.body.dataset.taken ?? 0) + 1;
 }
 
 /** The files that the address names, as ?module=sort.wasm&types=sort.types. */
@@ -125,9 +126,12 @@ async function run() {
 
 // ------------------------------------------------------------------ what a person does
 
+// a file that is chosen again may have changed
+$("files").addEventListener("click", () => { $("files").value = ""; });
 $("files").addEventListener("change", () => takeFiles($("files").files));
 $("run").addEventListener("click", run);
 $("stop").addEventListener("click", () => program.ending?.abort());
+$("arguments").addEventListener("keydown", (it) => { if (it.key === "Enter" && (it.ctrlKey || it.metaKey) && !$("run").disabled) run(); });
 for (const kind of ["dragover", "dragenter"]) {
   document.addEventListener(kind, (it) => { it.preventDefault(); $("drop").classList.add("over"); });
 }

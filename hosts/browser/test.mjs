@@ -2,9 +2,11 @@
 // program each example and case must give the text of `erasec exec` (../programs.mjs). ERASEC_PICTURE names a file for a picture of the page.
 import { after, before, test } from "node:test";
 import assert from "node:assert/strict";
+import { execFileSync } from "node:child_process";
 import { mkdtempSync, readFileSync, rmSync, writeFileSync } from "node:fs";
 import { tmpdir } from "node:os";
 import { join } from "node:path";
+import { pathToFileURL } from "node:url";
 import { Page, chromium, served } from "./chromium.mjs";
 import { CALL_ITSELF, EXHAUSTED, FOREVER, UNREACHABLE, written } from "../written.mjs";
 import { TOP, calculator, listText, programs, skipsPrograms } from "../programs.mjs";
@@ -37,8 +39,11 @@ function file(name, content) {
 
 /** Chooses a module and types, gives arguments, runs them, and tells what the page shows. */
 async function shown(files, given = "", seconds = 60) {
+  const taken = await page.value("document.body.dataset.taken");
+  // as the click does that opens the dialog
+  await page.value("document.getElementById('files').value = ''");
   await page.choose("#files", files);
-  await page.until("!document.getElementById('run').disabled || !document.getElementById('error').hidden");
+  await page.until(`document.body.dataset.taken !== ${JSON.stringify(taken)}`);
   if (await page.value("document.getElementById('run').disabled")) return told();
   await page.value(`document.getElementById("arguments").value = ${JSON.stringify(given)}; document.getElementById("seconds").value = ${seconds}; document.getElementById("run").click()`);
   await page.until("document.getElementById('running').hidden", seconds + 60);
@@ -107,6 +112,13 @@ test("a run can be stopped, and the next one goes on", { skip }, async () => {
   await page.until("document.getElementById('running').hidden");
   assert.equal((await told()).kind, "OutOfTime");
   assert.equal((await shown([join(TOP, "examples/one.wasm"), file("nat.types", "two=a,b")])).short, "b");
+});
+
+test("the page is one file too, opened from the disk", { skip }, async () => {
+  const whole = file("erasec.html", execFileSync(process.execPath, [join(TOP, "hosts/browser/one-file.mjs")]));
+  await page.go(pathToFileURL(whole).href, "document.body?.dataset.ready === 'yes'");
+  assert.equal((await shown([calculator.module, calculator.types], '"12*12-200"')).short, "(equals -56)");
+  assert.equal((await shown([file("endless.wasm", written({ code: FOREVER })), file("nat.types", NAT)], "", 1)).kind, "OutOfTime");
 });
 
 test("a large answer is cut", { skip }, async () => {

@@ -1,6 +1,8 @@
 // Runs a program in a Worker that is ended after a time, in node and in browsers.
-import * as erasec from "./erasec.mjs";
+import { BadArgument, BadModule, BadTypes, ErasecError, MemoryExhausted, NotConvertible, NotData, OutOfTime, Program, StackExhausted, TooLarge, Trapped, dataOf, typesOf } from "./erasec.mjs";
 
+// those that the Worker meets
+const ERRORS = { BadArgument, BadModule, BadTypes, MemoryExhausted, NotConvertible, NotData, StackExhausted, TooLarge, Trapped };
 const WORKER = new URL("./worker.mjs", import.meta.url);
 // megabytes of stack of a Worker in node, which a program's recursion needs; browsers let nobody choose
 const STACK = 64;
@@ -23,16 +25,15 @@ async function asked(message, milliseconds, signal) {
   let timer;
   try {
     const told = await new Promise((resolve, reject) => {
-      const end = (why) => reject(new erasec.OutOfTime(why));
+      const end = (why) => reject(new OutOfTime(why));
       timer = setTimeout(end, milliseconds, `no answer after ${milliseconds} ms`);
       signal?.addEventListener("abort", () => end("the run was ended"));
       worker.addEventListener("message", (it) => resolve(it.data));
-      worker.addEventListener("error", (it) => reject(new erasec.ErasecError(`the Worker ended: ${it.message ?? "it can't be loaded"}`)));
+      worker.addEventListener("error", (it) => reject(new ErasecError(`the Worker ended: ${it.message ?? "it can't be loaded"}`)));
       worker.postMessage(message);
     });
     if (!told.error) return told;
-    const kind = erasec[told.error.name];
-    throw new (kind?.prototype instanceof erasec.ErasecError ? kind : erasec.ErasecError)(told.error.message);
+    throw new (ERRORS[told.error.name] ?? ErasecError)(told.error.message);
   } finally {
     clearTimeout(timer);
     worker.terminate();
@@ -42,12 +43,12 @@ async function asked(message, milliseconds, signal) {
 /** The answer of a module's bytes, on the arguments if main takes any, or an error; OutOfTime where it isn't there after the milliseconds. */
 export async function runLimited(bytes, types, milliseconds, ...args) {
   // the module is made in the Worker alone
-  const program = new erasec.Program(null, types);
+  const program = new Program(null, types);
   const { nodes } = await asked({ bytes, types: program.types.text, nodes: program.nodesOf(args) }, milliseconds);
-  return erasec.dataOf(nodes, program.types);
+  return dataOf(nodes, program.types);
 }
 
 /** The same from text to text: `text` has the arguments as `parseArguments` reads them, and the answer is given as erasec writes it, in short, and with its count of nodes. */
 export async function textLimited(bytes, types, milliseconds, text = "", signal = undefined) {
-  return asked({ bytes, types: erasec.typesOf(types).text, text }, milliseconds, signal);
+  return asked({ bytes, types: typesOf(types).text, text }, milliseconds, signal);
 }

@@ -12,11 +12,10 @@ use Rattle.wasm_core.specs.MachineStep.{State}
 use Rattle.wasm_core.specs.Entries.{index_of, from_nothing}
 use Rattle.wasm_core.specs.Runs.{start, start_at, main_start}
 use Rattle.wasm_core.specs.Answer.{Answers, answers, IsAtEnd}
-use Rattle.wasm_core.specs.RunTree.{Within as Tree, now, gone, moves}
+use Rattle.wasm_core.specs.RunTree.{now}
 use Rattle.wasm_core.proofs.Rules as rule
 use Rattle.wasm_core.proofs.Trees.{tree_tells, tree_answers}
-use Rattle.closure_lift.specs.Lifted.{Program, Val, VNil, LiftedAnswers as Evaluates, answers_alone}
-use Rattle.closure_lift.specs.Lifted as lifted
+use Rattle.closure_lift.specs.Lifted.{Program, Val, VNil}
 use Rattle.anf_convert.specs.AnfData.{DataTree}
 use Rattle.closure_lift.specs.LiftKeeps.{IsData}
 use Rattle.wasm_emit.specs.EmittedLocals.{top}
@@ -30,7 +29,7 @@ use Rattle.wasm_emit.proofs.Read.{reads}
 use Rattle.wasm_emit.proofs.Staged.{staged}
 use Rattle.wasm_emit.proofs.Source.{Gets}
 use Rattle.wasm_emit.proofs.Follows.{zeros_length}
-use Rattle.wasm_emit.proofs.Answering.{is_exhausted}
+use Rattle.wasm_emit.proofs.Answering.{alone, forget, is_exhausted}
 use Rattle.known_calls.specs.KnownCode.{Inside}
 use Rattle.known_calls.specs.KnownModule.{worker_type, main_function, module_of}
 use Rattle.known_calls.specs.KnownLaws.{Finished, finished, KnownAnswers}
@@ -51,9 +50,6 @@ starts P pages =
     ap (λ (b : Bool). if b then option_and_then (λ f. start_at (module_of P pages) f) (index_of Main (module_of P pages)) else None) fits
     ∙ ap (option_and_then (λ f. start_at (module_of P pages) f)) exported
     ∙ ap (option_and_then (λ (g : Func). Some (start (module_of P pages) g))) (main_at P (main_function P) [] [] pages)
-
-alone : {P : Program} {w : ℕ} {v : Val} {c k b l : ℕ} → Evaluates P w VNil v c k b l → lifted.Gets P w VNil P.main v c k b l
-alone (answers_alone g) = g
 
 -- the tree of all runs
 whole : (P : Program) (pages w m D : ℕ) (v : Val) (d : DataTree) (c k b s : ℕ) → 0 < pages → pages ≤ 16384 → 0 < m → Gets P w m false D VNil P.main v c k b s → IsData v d →
@@ -81,12 +77,6 @@ whole P pages w m D v d c k b s pos small some g is =
 pub at_end : (m : Parts) (bytes : ℕ) (d : List (ℕ × ℕ)) (t : State) → Finished m d bytes t ⊎ Spent m bytes t → IsAtEnd m t
 at_end m bytes d t (inl (finished h x y z)) granted u s = s
 at_end m bytes d t (inr (spent h x)) granted u s = s
-
--- other ends
-forget : {m : Parts} {frames : ℕ} {Q R E F : State → Type 0} → ((t : State) → Q t → R t) → ((t : State) → E t → F t) → {least most : ℕ} {t : State} → Tree m frames Q E least most t → Tree m frames R F least most t
-forget f g (now {s = s} q) = now (f s q)
-forget f g (gone {s = s} e) = gone (g s e)
-forget f g (moves s t deep le x y j k) = moves s t deep le x y (forget f g j) (forget f g k)
 
 pub has_answered : (m : Parts) (bytes : ℕ) (d : List (ℕ × ℕ)) (t : State) → Finished m d bytes t → Answers m d t
 has_answered m bytes d t (finished h x y z) = answers h

@@ -1,3 +1,4 @@
 pub mod Tells
 pub mod Marks
 pub mod Waiting
+pub mod Storing

@@ -11,9 +11,12 @@
 //! | `validate` | that; or the function and the place, or the section, that has no typing; or `valid` |
 //! | `encode` | that; or the shortest bytes of the valid module |
 //! | `run` | that; or how a run with at most `cap:` pages and `steps:` steps (1,000,000 where it isn't told) ends and what the machine then shows. The run is made again step by step, and must show the same. Behind a run that returned: the data that it answers, as `answers` prints it |
+//! | `call` | that, of a run on arguments that are stored before, behind `heap` as it is then; or `no room` where they don't fit. A line `argument:` is an argument's nodes in preorder, each as its constructor's number and its number of arguments |
 #![tactic(auto)]
 
 mod answers;
+mod arguments;
+mod calling;
 mod hex;
 mod running;
 
@@ -113,6 +116,7 @@ enum Question {
     Valid,
     Encoded,
     Ran,
+    Called,
 }
 
 /// Answers a question about a valid module.
@@ -127,6 +131,7 @@ fn answer(
         Question::Valid => Ok(out.push_str("valid")?),
         Question::Encoded => put_encoded(alloc, valid, out),
         Question::Ran => running::run(alloc, valid, row, out),
+        Question::Called => calling::call(alloc, valid, row, out),
     }
 }
 
@@ -163,6 +168,7 @@ fn run(alloc: Global, row: &Row, out: &mut String) -> Result<(), Fault> {
         "validate" => answer_valid(alloc, row, Question::Valid, out),
         "encode" => answer_valid(alloc, row, Question::Encoded, out),
         "run" => answer_valid(alloc, row, Question::Ran, out),
+        "call" => answer_valid(alloc, row, Question::Called, out),
         _ => Err(Fault::Faulty("no such call")),
     }
 }

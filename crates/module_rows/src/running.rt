@@ -29,7 +29,7 @@ fn trap_name(kind: TrapKind) -> &'static str {
 }
 
 /// Why no machine is made.
-fn put_refusal(out: &mut String, fault: NewFault) -> Result<(), AllocError> {
+pub fn put_refusal(out: &mut String, fault: NewFault) -> Result<(), AllocError> {
     match fault {
         NewFault::NoEntry(entry) => write!(out, "no entry {}", entry_name(entry)),
         NewFault::ElementPastTable { segment } => write!(out, "element {segment} past table"),
@@ -51,7 +51,7 @@ fn put_end(out: &mut String, end: Result<Ended, RunFault>) -> Result<(), AllocEr
 }
 
 /// Prints a number behind some words.
-fn put_number(out: &mut String, words: &str, number: u64) -> Result<(), AllocError> {
+pub fn put_number(out: &mut String, words: &str, number: u64) -> Result<(), AllocError> {
     write!(out, "{words}{number}")
 }
 
@@ -100,7 +100,7 @@ fn compare_in_steps(
 }
 
 /// Makes a run with one of two fresh machines, and that run again step by step with the other one.
-fn put_run(
+pub fn put_run(
     alloc: Global,
     machine: &mut Machine,
     cut: &mut Machine,

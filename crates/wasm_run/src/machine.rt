@@ -440,6 +440,14 @@ impl<'m> Machine<'m> {
         i32_at(self.thread.globals.as_slice(), self.heap_at)
     }
 
+    /// Before the first step a machine that hasn't failed is at the start of a run of `main`, in a store in which a run may start. It does nothing.
+    pub fn at_start(&self)
+        requires unmade { self.now.made ≡ 0 }
+        ensures start { self.now.failed ≡ false → IsAtStart self.now }
+    {
+        let _made = self.made;
+    }
+
     /// Before the first step, puts words at `heap` and `heap` past them, where memory grows by the fewest pages, and gives their address. All else stays.
     ///
     /// None comes exactly where the address past the words would be over 4,294,967,295, or the pages that are needed pass the smaller of the machine's bound and

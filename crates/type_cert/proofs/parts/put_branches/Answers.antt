@@ -13,7 +13,7 @@ returns-then-x-y-clause-ok c =
     let k : c.loop-i.i < length c.args.ys.now = omega (arith, n) in
     λ o. c.loop-i.invariant.rest o
     ∙ arms_differ c.args.xs.now c.args.ys.now c.loop-i.i c.loop-i.out.items o c.index-xs-i.result c.index-ys-i.result h k c.index-xs-i.is c.index-ys-i.is
-    (rw (← c.index-xs-i.is, ← c.index-ys-i.is) at c.if-x-y.true)
+    c.if-x-y.true
 
 pub loop-i-preserved : goal.loop-i-preserved
 loop-i-preserved c =
@@ -23,7 +23,7 @@ loop-i-preserved c =
     record {
       rest = λ o. c.loop-i.invariant.rest o
           ∙ arms_next c.args.xs.now c.args.ys.now c.loop-i.i c.loop-i.out.items o c.index-xs-i.result c.index-ys-i.result h k c.index-xs-i.is c.index-ys-i.is c.put.new.out.items
-          (rw (← c.index-xs-i.is, ← c.index-ys-i.is) at c.if-x-y.false) (rw (← c.index-xs-i.is, ← c.index-ys-i.is) at c.in_ok-put.ensures.ok);
+          c.if-x-y.false c.in_ok-put.ensures.ok;
       count = n;
     }
 

@@ -13,7 +13,7 @@ returns-then-d-e-clause-same c =
     let k : c.loop-i.i < length c.args.es.now = omega (arith, n) in
     sym (c.loop-i.invariant.same
     ∙ rargs_differ c.args.ds.now c.args.es.now c.loop-i.i c.index-ds-i.result c.index-es-i.result h k c.index-ds-i.is c.index-es-i.is
-    (rw (← c.index-ds-i.is, ← c.index-es-i.is) at c.if-d-e.true))
+    c.if-d-e.true)
 
 pub loop-i-preserved : goal.loop-i-preserved
 loop-i-preserved c =
@@ -22,10 +22,10 @@ loop-i-preserved c =
     let k : c.loop-i.i < length c.args.es.now = omega (arith, n) in
     record {
       rest = λ o. c.loop-i.invariant.rest o
-          ∙ types_next c.args.ds.now c.args.es.now c.loop-i.i c.loop-i.out.items o c.index-ds-i.result c.index-es-i.result c.put.new.out.items h k c.index-ds-i.is c.index-es-i.is (rw (← c.index-ds-i.is, ← c.index-es-i.is) at c.in_ok-put.ensures.ok);
+          ∙ types_next c.args.ds.now c.args.es.now c.loop-i.i c.loop-i.out.items o c.index-ds-i.result c.index-es-i.result c.put.new.out.items h k c.index-ds-i.is c.index-es-i.is c.in_ok-put.ensures.ok;
       same = c.loop-i.invariant.same
           ∙ rargs_same c.args.ds.now c.args.es.now c.loop-i.i c.index-ds-i.result c.index-es-i.result h k c.index-ds-i.is c.index-es-i.is
-          (rw (← c.index-ds-i.is, ← c.index-es-i.is) at c.if-d-e.false);
+          c.if-d-e.false;
       count = n;
     }
 

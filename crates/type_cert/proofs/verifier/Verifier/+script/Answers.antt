@@ -206,10 +206,10 @@ definition-returns t c =
     record { retraces = λ i equal.
         rw (← eb) (let_go i (going c.args.self.now c.args.room) (values c.args.ctx.now) equal c.args.value.now c.args.ty.now c.args.body.now c.in-LetIn.other c.in-LetIn.kind c.in-LetIn.target c.args.trail.now _ _ _ _ c.in_ok-script.ensures.retraces c.in_ok-script-2.ensures.retraces _ u c.script-3.ensures.retraces) }
 
-pub matches-returns-in_default : goal.matches-returns-in_default
-matches-returns-in_default t c =
+pub matches-returns-in_default-found : goal.matches-returns-in_default-found
+matches-returns-in_default-found t c =
     let eb = rw c.in-Case.is at c.view.ensures.is in
-    let e = rw c.in_default.is at c.in_ok-found.ensures.parts in
+    let e = rw c.in_default-found.is at c.in_ok-found.ensures.parts in
     record { retraces = λ equal. match_differs c.args.at (going c.args.self.now c.args.room) (values c.args.ctx.now) equal c.args.trail.now c.args.x.now c.in-Case.y c.args.b.now eb e }
 
 pub matches-each_part-requires : goal.matches-each_part-requires
@@ -228,10 +228,10 @@ matches-returns t c =
     let f = rw c.as_slice.ensures.value at c.each_part.ensures.retraces in
     record { retraces = λ equal. match_goes c.args.at (going c.args.self.now c.args.room) (values c.args.ctx.now) equal c.args.trail.now c.args.x.now c.in-Case.y c.args.b.now c.in-Some.parts.items _ _ eb e f }
 
-pub fixpoints-returns-in_default : goal.fixpoints-returns-in_default
-fixpoints-returns-in_default t c =
+pub fixpoints-returns-in_default-found : goal.fixpoints-returns-in_default-found
+fixpoints-returns-in_default-found t c =
     let eb = rw c.in-Fix.is at c.view.ensures.is in
-    let e = rw c.in_default.is at c.in_ok-found.ensures.parts in
+    let e = rw c.in_default-found.is at c.in_ok-found.ensures.parts in
     record { retraces = λ equal. fix_differs c.args.at (going c.args.self.now c.args.room) (values c.args.ctx.now) equal c.args.trail.now c.args.ds.now c.in-Fix.es c.args.i c.in-Fix.j c.args.b.now eb e }
 
 pub fixpoints-each_part-requires : goal.fixpoints-each_part-requires

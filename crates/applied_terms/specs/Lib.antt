@@ -1,0 +1,2 @@
+pub mod CallEvaluation
+pub mod Laws

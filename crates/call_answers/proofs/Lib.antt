@@ -1,0 +1,5 @@
+mod Narrowing
+mod SpineAnswers
+mod StoredTrees
+pub mod CalledPrograms
+pub mod Composed

@@ -1,0 +1,3 @@
+pub mod HostedCall
+pub mod EveryCall
+pub mod CallHeadline
