@@ -1,21 +1,21 @@
 -- Parts that are put behind others, and what scripts make of them.
 use Rattle.std.proofs.lemmas.Bool.{ne_eqb}
-use Rattle.std.proofs.Common.{◌≡◌, ◌≢◌, ◌∙◌, sym, ap, refl, subst, cond, ℕ, ◌<◌, ◌≤◌, ◌+◌, ◌==◌, ◌&&◌, if◌then◌else◌, Bool, true, false, List, [], ◌∷◌, ◌++◌, length, drop, get_or, Option, Some, None, eq-eqb, append_assoc, append-nil, arith}
+use Rattle.std.proofs.Common.{◌≡◌, ◌≢◌, ◌∙◌, sym, ap, refl, ℕ, ◌<◌, ◌≤◌, ◌+◌, ◌==◌, if◌then◌else◌, Bool, true, false, List, [], ◌∷◌, ◌++◌, length, drop, get_or, Option, Some, None, eq-eqb, append_assoc, append-nil, arith}
 use Rattle.trees.specs.Tree.{terms_of}
-use Rattle.pc_terms.specs.Syntax.{Term, Terms, Slot, Children, End, Child, Group, Done, Next, Case, Fix, CaseOf, FixOf}
+use Rattle.pc_terms.specs.Syntax.{Term, Terms, Done, Next, CaseOf, FixOf}
 use Rattle.pc_terms.specs.View.{tree_of}
 use Rattle.pc_terms.specs.Lists.{arms_of, types_of, bodies_of, rargs_of}
 use Rattle.pc_terms.specs.declared.term.Branch.{Branch}
 use Rattle.pc_terms.specs.declared.term.Def.{Def}
 use Rattle.pc_terms.specs.declared.term.Match.{Match}
 use Rattle.pc_terms.specs.declared.term.Node.TheVariants as nodes
-use Rattle.calculus_rules.specs.Context.{Values, under}
+use Rattle.calculus_rules.specs.Context.{Values}
 use Rattle.calculus_rules.specs.Same.{same_labels}
 use Rattle.pc_rules.proofs.ListSteps.{next_is, none_left}
 use Rattle.cert_rules.specs.Walk.{WalkAct}
-use Rattle.cert_rules.specs.Scripts.{Script, with_part, term_parts, child_parts, parts_of}
+use Rattle.cert_rules.specs.Scripts.{Script, with_part, term_parts, parts_of}
 use Rattle.type_cert.specs.declared.parts.Part.{Part}
-use Rattle.type_cert.specs.Pairs.{with_pair, pair_under, term_pairs, joined, match_pairs, fix_pairs, paired_matches, paired_fixpoints, act_of, acted}
+use Rattle.type_cert.specs.Pairs.{with_pair, pair_under, term_pairs, joined, paired_matches, paired_fixpoints, act_of, acted}
 
 -- one part more
 

@@ -20,7 +20,7 @@ use Rattle.type_cert.specs.declared.halt.WalkHalt.TheVariants as walks
 use Rattle.type_cert.specs.declared.parts.Part.{Part}
 use Rattle.type_cert.specs.declared.trail.Trail.{Trail}
 use Rattle.type_cert.specs.Comparable.{AreScriptable}
-use Rattle.type_cert.specs.Pairs.{with_pair, pair_under, term_pairs, match_pairs, fix_pairs, paired_matches, paired_fixpoints, acts_of, acted, AreCountedParts}
+use Rattle.type_cert.specs.Pairs.{with_pair, pair_under, term_pairs, paired_matches, paired_fixpoints, acts_of, acted, AreCountedParts}
 use Rattle.type_cert.specs.Retraces.{stand, Retraces}
 use Rattle.type_cert.proofs.Retracing.{retraces_on, retraces_err, retraces_pass, retraces_bar}
 use Rattle.type_cert.proofs.Pairing.{matches_acted, fixpoints_acted}

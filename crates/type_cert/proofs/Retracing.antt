@@ -1,18 +1,14 @@
 -- How answers go along walks that are made one after the other.
-use Rattle.std.proofs.Common.{◌≡◌, ◌∙◌, sym, ap, refl, ℕ, zero, suc, ◌<◌, ◌-◌, ◌+◌, ◌||◌, Result, Ok, Err, IsTrue, Bool, true, false, if◌then◌else◌, List, [], ◌∷◌, Option, Some, None, IsErrAnd, IfOk, arith}
+use Rattle.std.proofs.Common.{◌≡◌, ◌∙◌, ap, refl, ℕ, zero, suc, ◌<◌, ◌||◌, Result, Ok, Err, IsTrue, Bool, true, false, if◌then◌else◌, IsErrAnd, IfOk, arith}
 use Rattle.std.proofs.lemmas.Result.{err_from_is_err_and}
-use Rattle.pc_terms.specs.Syntax.{Term}
 use Rattle.pc_rules.specs.declared.meter.Account.{Account}
-use Rattle.pc_rules.specs.declared.meter.Meter.{Meter}
-use Rattle.pc_rules.specs.declared.stop.Stop.{Stop as StopKind}
 use Rattle.pc_rules.specs.declared.stop.Stop.TheVariants.{Spent, TooDeep, Memory}
 use Rattle.pc_rules.specs.declared.stop.Halt.{Halt}
 use Rattle.pc_rules.specs.declared.stop.Halt.TheVariants as halts
-use Rattle.pc_rules.specs.DirectedRun as run
-use Rattle.pc_rules.specs.DirectedRun.{Run, ticked, is_beyond}
-use Rattle.pc_rules.specs.Follows.{Follows, IsAfter, Answers}
+use Rattle.pc_rules.specs.DirectedRun.{Run, ticked}
+use Rattle.pc_rules.specs.Follows.{Follows, Answers}
 use Rattle.pc_rules.proofs.Meters.{after-refl, after-trans, after-tick}
-use Rattle.cert_rules.specs.Walk.{Stand, Walk, WalkEnd, WalkAct, Passed, Barred, Unpaid, Crowded, pass, bar, crowded, tick, paid_walk, walk_ticking, end_on, walk_on, walk_all, end_at, by_rules}
+use Rattle.cert_rules.specs.Walk.{Stand, Walk, Passed, Unpaid, pass, bar, crowded, tick, paid_walk, walk_ticking, end_on, walk_on, end_at, by_rules}
 use Rattle.type_cert.specs.declared.halt.WalkHalt.{WalkHalt}
 use Rattle.type_cert.specs.declared.halt.WalkHalt.TheVariants as walks
 use Rattle.type_cert.specs.declared.trail.Trail.{Trail}

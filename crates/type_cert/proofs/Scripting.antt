@@ -1,17 +1,13 @@
 -- How a script goes along its item.
-use Rattle.std.proofs.Common.{◌≡◌, ◌∙◌, sym, ap, refl, subst, ℕ, zero, suc, ◌<◌, ◌-◌, ◌+◌, ◌||◌, ◌&&◌, ◌==◌, Result, Ok, Err, IsTrue, Bool, true, false, if◌then◌else◌, List, [], ◌∷◌, length, Option, Some, None, arith, slice_get}
+use Rattle.std.proofs.Common.{◌≡◌, ◌∙◌, sym, ap, refl, subst, ℕ, zero, suc, ◌<◌, ◌-◌, ◌+◌, ◌||◌, ◌&&◌, ◌==◌, Result, Ok, Err, Bool, true, false, if◌then◌else◌, List, [], ◌∷◌, length, Some, None, arith, slice_get}
 use Rattle.pc_terms.specs.Syntax.{Label, SortOf, ProdOf, LambdaOf, LetInOf, AppOf, ConstOf, IndOf, ConstructOf, CaseOf, FixOf, slots, Children, End, Child, Group, Node, Term, Rel, SortT, Prod, Lambda, LetIn, App, Const, Ind, Construct, Case, Fix}
-use Rattle.pc_rules.specs.declared.stop.Stop.TheVariants.{Spent, TooDeep, Memory}
+use Rattle.pc_rules.specs.declared.stop.Stop.TheVariants.{TooDeep}
 use Rattle.calculus_rules.specs.Environment.{Env}
 use Rattle.calculus_rules.specs.Context.{Values}
 use Rattle.calculus_rules.specs.WeakHead.{WeakSteps}
 use Rattle.pc_rules.specs.Follows.{IsAfter}
-use Rattle.pc_rules.specs.WellCounted.{IsCounted, IsCountedEnv, AreCountedValues}
 use Rattle.pc_rules.specs.DirectedComparison.{Test}
 use Rattle.pc_rules.proofs.WeakNext.{none_some}
-use Rattle.pc_terms.specs.declared.leaf.Name.{Name}
-use Rattle.pc_terms.specs.declared.leaf.FamilyId.{FamilyId}
-use Rattle.universe_levels.specs.declared.sort.Sort.{Sort}
 use Rattle.calculus_rules.specs.Same.{same, same_labels}
 use Rattle.pc_rules.specs.DirectedTyping.{rule_number}
 use Rattle.pc_rules.proofs.SameTrees.{not_true}
@@ -21,15 +17,14 @@ use Rattle.calculus_rules.specs.Context.{Context, values}
 use Rattle.calculus_rules.specs.declared.entry.Entry.TheVariants.{Assumed, Defined}
 use Rattle.pc_rules.specs.declared.meter.Meter.{Meter}
 use Rattle.rule_laws.proofs.KeepCounts.{steps_counted}
-use Rattle.cert_rules.specs.declared.item.CertItem.{CertItem}
-use Rattle.cert_rules.specs.declared.item.CertItem.TheVariants.{Same, Left, Right, Parts}
-use Rattle.cert_rules.specs.Walk.{Items, Stand, Walk, WalkEnd, WalkAct, Passed, Barred, Unpaid, Crowded, pass, bar, crowded, past, end_on, deep_on, walk_on, walk_all}
+use Rattle.cert_rules.specs.declared.item.CertItem.TheVariants.{Left, Right}
+use Rattle.cert_rules.specs.Walk.{Items, Stand, Walk, WalkEnd, WalkAct, Passed, Barred, Unpaid, Crowded, bar, past, end_on, deep_on, walk_on, walk_all}
 use Rattle.cert_rules.specs.WalkSteps.{walk_steps}
 use Rattle.cert_rules.specs.Scripts.{Script, parts_of, walk_parts, script_by, script}
 use Rattle.type_cert.specs.declared.halt.WalkHalt.{WalkHalt}
 use Rattle.type_cert.specs.declared.halt.WalkHalt.TheVariants as walks
 use Rattle.type_cert.specs.declared.trail.Trail.{Trail}
-use Rattle.type_cert.specs.Retraces.{stand, WalkHalts, WalkAnswers, Retraces}
+use Rattle.type_cert.specs.Retraces.{stand, WalkAnswers, Retraces}
 use Rattle.type_cert.specs.Comparable.{AreScriptable, leaf_answer}
 use Rattle.type_cert.proofs.Retracing.{retraces_on, retraces_err, retraces_pass, retraces_bar}
 

@@ -1,7 +1,6 @@
 -- Weak-head steps of a walk, one after the other.
-use Rattle.std.proofs.Common.{◌≡◌, ◌∙◌, sym, ap, refl, subst, ℕ, zero, suc, ◌<◌, ◌-◌, ◌+◌, ◌||◌, Ok, Err, IsTrue, Bool, true, false, Option, Some, None, arith}
+use Rattle.std.proofs.Common.{◌≡◌, ◌∙◌, sym, ap, refl, subst, ℕ, zero, suc, ◌<◌, ◌-◌, ◌||◌, Ok, Err, IsTrue, Bool, true, false, Option, Some, None, arith}
 use Rattle.pc_terms.specs.Syntax.{Term}
-use Rattle.pc_rules.specs.declared.meter.Account.{Account}
 use Rattle.pc_rules.specs.declared.stop.Stop.{Stop as StopKind}
 use Rattle.pc_rules.specs.declared.stop.Stop.TheVariants.{Spent, TooDeep, Memory}
 use Rattle.calculus_rules.specs.Environment.{Env}
@@ -10,7 +9,7 @@ use Rattle.pc_rules.specs.DirectedRun.{ticked, is_beyond}
 use Rattle.pc_rules.specs.DirectedWeakHead.{weak_next}
 use Rattle.pc_rules.specs.Follows.{IsAfter}
 use Rattle.pc_rules.proofs.Meters.{after-trans, after-tick}
-use Rattle.cert_rules.specs.Walk.{Stand, Walk, Passed, Barred, Unpaid, tick, paid_walk}
+use Rattle.cert_rules.specs.Walk.{Stand, Walk, Passed, tick, paid_walk}
 use Rattle.cert_rules.specs.WalkSteps.{stepped, walk_steps}
 use Rattle.type_cert.specs.declared.halt.WalkHalt.TheVariants as walks
 use Rattle.type_cert.specs.declared.trail.Trail.{Trail}

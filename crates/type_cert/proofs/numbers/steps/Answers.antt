@@ -1,4 +1,4 @@
-use Rattle.std.proofs.Common.{rules, arith, ◌≡◌, ◌<◌, ◌∙◌, refl}
+use Rattle.std.proofs.Common.{rules, ◌<◌, refl}
 use Rattle.calculus_rules.specs.Context.{values}
 use Rattle.calculus_rules.specs.WeakHead.{no_step, then_step}
 use Rattle.pc_rules.proofs.WeakNext.{weak_next_found}

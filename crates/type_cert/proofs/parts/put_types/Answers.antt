@@ -1,4 +1,4 @@
-use Rattle.std.proofs.Common.{◌∙◌, ◌<◌, length, ap, sym, arith}
+use Rattle.std.proofs.Common.{◌∙◌, ◌<◌, length, sym, arith}
 use Rattle.type_cert.proofs.Pairing.{types_next, types_end}
 use Rattle.type_cert.proofs.Recursive.{rargs_same, rargs_differ, rargs_other, rargs_end}
 use Rattle.type_cert.proofs.parts.put_types.Goals as goal

@@ -6,9 +6,8 @@ use Rattle.type_cert.specs.Pairs.{AreCountedParts}
 use Rattle.pc_rules.proofs.Meters.{after-trans}
 use Rattle.cert_rules.specs.declared.item.CertItem.TheVariants.{Same}
 use Rattle.type_cert.specs.Going.{going}
-use Rattle.type_cert.specs.Comparable.{AreScriptable}
-use Rattle.type_cert.proofs.Retracing.{retraces_on, retraces_err, retraces_passed, retraces_bar}
-use Rattle.type_cert.proofs.Scripting.{item_there, retraces_is, from_past, left_none, right_none, left_goes, right_goes, script_nested, script_entered, product_err, product_go, lambda_err, lambda_go, app_err, app_go, let_first, let_second, let_go, leaves, formers_differ, values_defined, values_under, after_same, left_ready, right_ready}
+use Rattle.type_cert.proofs.Retracing.{retraces_on, retraces_err, retraces_passed}
+use Rattle.type_cert.proofs.Scripting.{item_there, retraces_is, from_past, left_goes, right_goes, script_nested, script_entered, product_err, product_go, lambda_err, lambda_go, app_err, app_go, let_first, let_second, let_go, leaves, formers_differ, values_defined, values_under, after_same, left_ready, right_ready}
 use Rattle.type_cert.proofs.PartScripts.{part_ready, part_next, part_stops, parts_done, match_goes, match_differs, fix_goes, fix_differs, matches_counted, fixpoints_counted}
 use Rattle.type_cert.proofs.verifier.Verifier.+script.Goals as goal
 
@@ -196,15 +195,19 @@ parts-returns-in-Fix t c =
 pub definition-returns-in_err-script-2 : goal.definition-returns-in_err-script-2
 definition-returns-in_err-script-2 t c =
     let eb = rw c.in-LetIn.is at c.view.ensures.is in
-    record { retraces = λ i equal. retraces_passed c.from_residual-in_err-script-2.ensures.1
-        (rw (← eb) (let_second i (going c.args.self.now c.args.room) (values c.args.ctx.now) equal c.args.value.now c.args.ty.now c.args.body.now c.in-LetIn.other c.in-LetIn.kind c.in-LetIn.target c.args.trail.now _ _ _ c.in_ok-script.ensures.retraces c.in_err-script-2.ensures.retraces)) }
+    record {
+      retraces = λ i equal. retraces_passed c.from_residual-in_err-script-2.ensures.1
+          (rw (← eb) (let_second i (going c.args.self.now c.args.room) (values c.args.ctx.now) equal c.args.value.now c.args.ty.now c.args.body.now c.in-LetIn.other c.in-LetIn.kind c.in-LetIn.target c.args.trail.now _ _ _ c.in_ok-script.ensures.retraces c.in_err-script-2.ensures.retraces));
+    }
 
 pub definition-returns : goal.definition-returns
 definition-returns t c =
     let eb = rw c.in-LetIn.is at c.view.ensures.is in
     let u = values_defined c.args.ctx.now c.in_ok-under.under _ _ _ c.in_ok-under.ensures.longer c.in_ok-share.ensures.ok in
-    record { retraces = λ i equal.
-        rw (← eb) (let_go i (going c.args.self.now c.args.room) (values c.args.ctx.now) equal c.args.value.now c.args.ty.now c.args.body.now c.in-LetIn.other c.in-LetIn.kind c.in-LetIn.target c.args.trail.now _ _ _ _ c.in_ok-script.ensures.retraces c.in_ok-script-2.ensures.retraces _ u c.script-3.ensures.retraces) }
+    record {
+      retraces = λ i equal.
+          rw (← eb) (let_go i (going c.args.self.now c.args.room) (values c.args.ctx.now) equal c.args.value.now c.args.ty.now c.args.body.now c.in-LetIn.other c.in-LetIn.kind c.in-LetIn.target c.args.trail.now _ _ _ _ c.in_ok-script.ensures.retraces c.in_ok-script-2.ensures.retraces _ u c.script-3.ensures.retraces);
+    }
 
 pub matches-returns-in_default-found : goal.matches-returns-in_default-found
 matches-returns-in_default-found t c =

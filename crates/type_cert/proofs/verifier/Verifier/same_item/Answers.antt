@@ -1,4 +1,4 @@
-use Rattle.std.proofs.Common.{rules, ◌≡◌, ◌∙◌, ◌||◌, refl, true, false, sym, ap}
+use Rattle.std.proofs.Common.{◌≡◌, ◌∙◌, ◌||◌, true, false, sym}
 use Rattle.calculus_rules.specs.Same.{same}
 use Rattle.pc_rules.specs.Entailment.{test_of}
 use Rattle.cert_rules.specs.Scripts.{sorts_at}
