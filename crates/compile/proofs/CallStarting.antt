@@ -8,13 +8,15 @@ use Rattle.wasm_core.specs.declared.entries.Entry.TheVariants.{Main}
 use Rattle.wasm_core.specs.Entries.{index_of, from_nothing, missing_for_call, or_missing}
 use Rattle.wasm_core.specs.MachineRun.{refusal_for_call, unless_missing, past_fault}
 use Rattle.closure_lift.specs.Lifted.{Program}
-use Rattle.wasm_emit.specs.CallModule.{module_of_call}
 use Rattle.wasm_emit.specs.EmittedModule.{main_index, entries}
-use Rattle.wasm_emit.proofs.Indices.{main_in, entries_length}
+use Rattle.known_calls.specs.KnownModule.{worker_type}
+use Rattle.known_calls.specs.KnownCalls.{module_of_call}
+use Rattle.wasm_emit.proofs.Indices.{entries_length}
+use Rattle.known_calls.proofs.KnownIndices.{main_in}
 
 module _ (P : Program) (k pages : ℕ) where
   exported : index_of Main (module_of_call P k pages) ≡ Some (main_index P)
-  exported = ap (λ (o : Option ℕ). option_and_then (λ index. option_and_then (λ t. from_nothing t.params t.result (main_index P)) (slice_get (module_of_call P k pages).types index)) o) (main_in P (λ f. 2) (λ t. 1) 0)
+  exported = ap (λ (o : Option ℕ). option_and_then (λ index. option_and_then (λ t. from_nothing t.params t.result (main_index P)) (slice_get (module_of_call P k pages).types index)) o) (main_in P (λ g f. 2) (λ t. 1) 0 (λ g f. worker_type f))
 
   none_missing : missing_for_call (module_of_call P k pages) ≡ None
   none_missing = ap (λ (o : Option ℕ). or_missing Main o None) exported

@@ -4,7 +4,7 @@ use Rattle.dump_reader.specs.Front.{front_bytes}
 use Rattle.lambda_box.specs.BoxForm.{IsBoxProgram}
 use Rattle.lambda_box.specs.BoxProgram.{BoxProgram}
 use Rattle.wasm_core.specs.Parts.{Parts}
-use Rattle.wasm_emit.specs.CallModule.{module_of_call}
+use Rattle.known_calls.specs.KnownCalls.{module_of_call}
 use Rattle.back_end.specs.BackEnd.{passed}
 use Rattle.compile.specs.Passes.{Fits}
 use Rattle.command_line.specs.declared.job.Job.TheVariants.{Call}

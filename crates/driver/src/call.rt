@@ -22,7 +22,7 @@ use module_run::{Answer, RunRefusal, answer_of_call};
 use reports::Report;
 use std::alloc::Global;
 use wasm_core::Valid;
-use wasm_emit::calls_of_main_answer;
+use known_calls::known_calls_of_main_answer;
 
 /// What a call of a module's main with these arguments answers, in at most so many steps. Where it answers, each report is told the facts of the run.
 fn called<R: Report>(
@@ -39,7 +39,7 @@ fn called<R: Report>(
     ensures spelled { IfOk result (λ _. SpellsModule (module_bytes module.now) module.now) }
     ensures told { OnOk result (CallRunIsTold R.shown module.now request.pages request.steps arguments.now reports.old.items reports.new.items) }
 {
-    calls_of_main_answer();
+    known_calls_of_main_answer();
     let steps = u64::from(request.steps);
     match answer_of_call(alloc, module, arguments, request.pages, steps, reports) {
         Ok(answer) => Ok(answer),

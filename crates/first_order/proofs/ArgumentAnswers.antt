@@ -1,6 +1,6 @@
 -- What an answer says that is the reading of arguments from an offset on.
-use Rattle.std.proofs.Common.{◌≡◌, ◌∙◌, ℕ, ◌+◌, ◌≤◌, List, ◌∷◌, length, drop, map, Result, Ok, Err, IfOk, IfErr, refl, sym, ap, subst as along, arith, length-map}
-use Rattle.std.proofs.lemmas.List.{length-drop}
+use Rattle.std.proofs.Common.{◌≡◌, ◌∙◌, ℕ, ◌+◌, ◌≤◌, List, ◌∷◌, length, drop, map, Result, Ok, Err, IfOk, IfErr, refl, sym, ap, subst as along, arith}
+use Rattle.std.proofs.lemmas.List.{length-drop, length-map}
 use Rattle.std.specs.Prelude.{Vec}
 use Rattle.std.specs.declared.alloc.Global.{Global}
 use Rattle.sexp_reader.specs.Lex.{tokens_of}
@@ -18,7 +18,7 @@ use Rattle.first_order.proofs.ArgumentSpelling.{read-spelled, whole-spelled}
 use Rattle.first_order.proofs.ArgumentComplete.{arguments-read, one_cut, arguments_trees}
 
 pub sets_count : (ss : List Shapes) → length (argument_sets ss) ≡ length ss
-sets_count ss = length-map (λ s. s.types) ss
+sets_count ss = length-map ss (λ s. s.types)
 
 are_behind : (n : ℕ) (r : ArgumentReading) (ds : Data) → reading_behind n r ≡ ArgumentsAre ds → r ≡ ArgumentsAre ds
 are_behind n (ArgumentsAre es) ds e = e

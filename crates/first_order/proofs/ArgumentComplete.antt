@@ -1,5 +1,5 @@
 -- What is spelled is read, where no token passes a limit of tokens; and data is cut into trees in one way.
-use Rattle.std.proofs.Common.{◌≡◌, ◌∙◌, ℕ, zero, suc, ◌+◌, List, [], ◌∷◌, ◌++◌, length, Option, Some, None, Result, Ok, Err, true, refl, sym, ap, subst as along, append_assoc, append-nil}
+use Rattle.std.proofs.Common.{◌≡◌, ◌∙◌, ℕ, zero, suc, ◌+◌, List, [], ◌∷◌, ◌++◌, length, Option, Some, None, Result, Ok, Err, true, refl, sym, ap, subst as along, append_assoc, append-nil, arith}
 use Rattle.std.specs.Prelude.{if◌then◌else◌}
 use Rattle.sexp_reader.specs.Text.{Text, Open, Close, Atom}
 use Rattle.sexp_reader.specs.Lex.{Spanned, answer_at, nesting_after_text}
@@ -16,7 +16,8 @@ use Rattle.first_order.specs.declared.shapes.Shape.{Shape}
 use Rattle.first_order.specs.declared.given.Turn.{Turn}
 use Rattle.first_order.specs.declared.given.Turn.TheVariants.{First, Later}
 use Rattle.first_order.specs.ArgumentTexts.{ctor_at, SpellsItem, name_alone, in_brackets, SpellsItems, no_item, one_item, SpellsEach, no_argument, one_argument, SpellsArguments}
-use Rattle.first_order.specs.Awaited.{Awaited, AwaitsOpen, AwaitsWord, AwaitsItem, AwaitsName, AwaitsClose, items_in, arguments_in, whole_call, TakesToken, BreaksForm, alone, opened, taking, ArgumentReading, ArgumentsAre, with_nodes, answered, taken, at_token, reading_of, joined, AreTrees, HasNoFault}
+use Rattle.first_order.specs.Awaited.{Awaited, AwaitsOpen, AwaitsWord, AwaitsItem, AwaitsName, AwaitsClose, items_in, arguments_in, whole_call}
+use Rattle.first_order.specs.Awaited.{TakesToken, BreaksForm, alone, opened, taking, ArgumentReading, ArgumentsAre, with_nodes, answered, taken, at_token, reading_of, joined, AreTrees, HasNoFault}
 use Rattle.first_order.proofs.ArgumentSpelling.{SpellsNext, SpellsAll, join, only, come_inside, come_behind}
 
 -- what a token begins
@@ -33,14 +34,29 @@ record Begins (names : List (List ℕ)) (x : Awaited) (ts : List Text) (ds : Dat
 
 item-begins : (names : List (List ℕ)) (turn : Turn) (S : List Shape) (i : ℕ) (ts : List Text) (ds : Data) → SpellsItem names S i ts ds → Begins names (AwaitsItem turn S i) ts ds
 item-begins names turn S i _ _ (name_alone {c = c} {a = a} e) = record {
-  text = Atom a; more = []; texts_are = refl; then_awaited = []; node = (c, 0) ∷ []; later = []; nodes_are = refl; is = ap alone e; spelled = (refl, refl);
+  text = Atom a;
+  more = [];
+  texts_are = refl;
+  then_awaited = [];
+  node = (c, 0) ∷ [];
+  later = [];
+  nodes_are = refl;
+  is = ap alone e;
+  spelled = (refl, refl);
 }
 item-begins names turn S i _ _ (in_brackets {c = c} {j = j} {a = a} {js = js} {ts = ts} {ds = ds} e h) = record {
-  text = Open; more = Atom a ∷ (ts ++ (Close ∷ [])); texts_are = refl; then_awaited = AwaitsName S i ∷ []; node = []; later = (c, suc (length js)) ∷ ds; nodes_are = refl; is = refl;
+  text = Open;
+  more = Atom a ∷ (ts ++ (Close ∷ []));
+  texts_are = refl;
+  then_awaited = AwaitsName S i ∷ [];
+  node = [];
+  later = (c, suc (length js)) ∷ ds;
+  nodes_are = refl;
+  is = refl;
   spelled = only names (AwaitsName S i) (Atom a ∷ (ts ++ (Close ∷ []))) ((c, suc (length js)) ∷ ds) (in_brackets e h);
 }
 
-tail_of : List Text → List Text
+abbrev tail_of : List Text → List Text
 tail_of [] = []
 tail_of (t ∷ ts) = ts
 
@@ -50,8 +66,15 @@ open_not_atom a ts us e = cc
 name-begins : (names : List (List ℕ)) (S : List Shape) (i : ℕ) (us : List Text) (ds : Data) (ts : List Text) → ts ≡ Open ∷ us → SpellsItem names S i ts ds → Begins names (AwaitsName S i) us ds
 name-begins names S i us _ _ p (name_alone {a = a} e) = absurd (open_not_atom a us [] (sym p))
 name-begins names S i us _ _ p (in_brackets {c = c} {j = j} {a = a} {js = js} {ts = ts} {ds = ds} e h) = record {
-  text = Atom a; more = ts ++ (Close ∷ []); texts_are = sym (ap tail_of p); then_awaited = items_in First S (j ∷ js); node = (c, suc (length js)) ∷ []; later = ds; nodes_are = refl;
-  is = ap (opened S) e; spelled = come_inside names S j js ts ds h;
+  text = Atom a;
+  more = ts ++ (Close ∷ []);
+  texts_are = sym (ap tail_of p);
+  then_awaited = items_in First S (j ∷ js);
+  node = (c, suc (length js)) ∷ [];
+  later = ds;
+  nodes_are = refl;
+  is = ap (opened S) e;
+  spelled = come_inside names S j js ts ds h;
 }
 
 bracket : (names : List (List ℕ)) (x : Awaited) (t : Text) (ts : List Text) (ds : Data) → taking names x t ≡ TakesToken [] [] → (ts ≡ t ∷ []) × (ds ≡ []) → Begins names x ts ds
@@ -121,15 +144,21 @@ one_cut (d ∷ ds) (e ∷ es) f g l p =
     let more = one_cut ds es f.1 g.1 (cc) h.1 in
     (λ i. h.0 i ∷ more i)
 
+nothing_more : (n : ℕ) → n ≡ 0 + n
+nothing_more n = omega arith
+
+one_more : (m n : ℕ) → suc (m + n) ≡ suc m + n
+one_more m n = omega arith
+
 mutual
   item-tree : (names : List (List ℕ)) (S : List Shape) (i : ℕ) (ts : List Text) (ds : Data) → SpellsItem names S i ts ds → (n : ℕ) (rest : Data) → IsForest n rest → IsForest (suc n) (ds ++ rest)
-  item-tree names S i _ _ (name_alone e) n rest f = f
+  item-tree names S i _ _ (name_alone e) n rest f = along (λ m. IsForest m rest) (nothing_more n) f
   item-tree names S i _ _ (in_brackets {j = j} {js = js} {ts = ts} {ds = ds} e h) n rest f = items-forest names S (j ∷ js) ts ds h n rest f
 
   items-forest : (names : List (List ℕ)) (S : List Shape) (js : List ℕ) (ts : List Text) (ds : Data) → SpellsItems names S js ts ds → (n : ℕ) (rest : Data) → IsForest n rest → IsForest (length js + n) (ds ++ rest)
-  items-forest names S _ _ _ no_item n rest f = f
+  items-forest names S _ _ _ no_item n rest f = along (λ m. IsForest m rest) (nothing_more n) f
   items-forest names S _ _ _ (one_item {j = j} {js = js} {ts = ts} {us = us} {d = d} {ds = ds} h k) n rest f =
-      along (IsForest (suc (length js + n))) (sym (append_assoc d ds rest)) (item-tree names S j ts d h (length js + n) (ds ++ rest) (items-forest names S js us ds k n rest f))
+      along (λ m. IsForest m ((d ++ ds) ++ rest)) (one_more (length js) n) (along (IsForest (suc (length js + n))) (sym (append_assoc d ds rest)) (item-tree names S j ts d h (length js + n) (ds ++ rest) (items-forest names S js us ds k n rest f)))
 
 each-trees : (names : List (List ℕ)) (Ss : List (List Shape)) (ts : List Text) (ds : List Data) → SpellsEach names Ss ts ds → AreTrees ds × (length ds ≡ length Ss)
 each-trees names _ _ _ no_argument = (tt, refl)

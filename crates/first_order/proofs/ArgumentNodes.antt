@@ -104,7 +104,8 @@ argument_ends names S new ws ns ms whole xs z e h = h ∙ (λ i. with_nodes (sym
 pub tree_ends : (ws : List Next) (ns : Data) → ws ≡ [] → ((rest : Data) → IsForest (trees (reverse ws)) rest → IsTree (ns ++ rest)) → IsTree ns
 tree_ends ws ns z h = along IsTree (append-nil ns) (h [] (along (λ l. IsForest (trees (reverse l)) []) (sym z) tt))
 
-pub argument_refused : {X Y : Type 0} (names : List (List ℕ)) (x : Result X ArgsFault) (f : ArgsFault) → x ≡ Err f → (old new : Tokens) (y : Awaited) (g : X → ArgumentReading → ArgumentReading) (h : Y → List Awaited → ArgumentReading) (r : List Awaited → ArgumentReading) (ns : Data) →
+pub argument_refused : {X Y : Type 0} (names : List (List ℕ)) (x : Result X ArgsFault) (f : ArgsFault) → x ≡ Err f → (old new : Tokens) (y : Awaited) (g : X → ArgumentReading → ArgumentReading) →
+    (h : Y → List Awaited → ArgumentReading) (r : List Awaited → ArgumentReading) (ns : Data) →
     source new ≡ source old → ((xs : List Awaited) → reading_on names old (y ∷ xs) ≡ with_nodes ns (r xs)) → ((xs : List Awaited) → GivesReading {X = Y} (Err f) (λ z. h z xs) (r xs)) → PassesFirst {X = X} names x old new y g
 argument_refused {X} names x f q old new y g h r ns same e k =
     along (λ z. PassesFirst {X = X} names z old new y g) (sym q) (record { same = same; goes = λ xs. refused (reading_on names old (y ∷ xs)) (r xs) ns f (λ z. h z xs) (λ z. g z (reading_on names new xs)) (e xs) (k xs) })

@@ -16,7 +16,8 @@ use Rattle.first_order.specs.declared.shapes.Shape.{Shape}
 use Rattle.first_order.specs.declared.given.Turn.{Turn}
 use Rattle.first_order.specs.declared.given.Turn.TheVariants.{First, Later}
 use Rattle.first_order.specs.ArgumentTexts.{ctor_at, SpellsItem, name_alone, in_brackets, SpellsItems, no_item, one_item, SpellsEach, no_argument, one_argument, SpellsArguments}
-use Rattle.first_order.specs.Awaited.{Awaited, AwaitsOpen, AwaitsWord, AwaitsItem, AwaitsName, AwaitsClose, items_in, arguments_in, whole_call, Taking, BreaksForm, Misplaced, TakesToken, alone, opened, taking, ArgumentReading, ArgumentsAre, ArgumentsFail, with_nodes, token_fault, answered, taken, at_token, reading_of, joined}
+use Rattle.first_order.specs.Awaited.{Awaited, AwaitsOpen, AwaitsWord, AwaitsItem, AwaitsName, AwaitsClose, items_in, arguments_in, whole_call}
+use Rattle.first_order.specs.Awaited.{Taking, BreaksForm, Misplaced, TakesToken, alone, opened, taking, ArgumentReading, ArgumentsAre, ArgumentsFail, with_nodes, answered, taken, at_token, reading_of, joined}
 
 -- ---- what is spelled by what is to come
 
@@ -122,10 +123,13 @@ word-begins names a zs ns e =
 
 alone-begins : (names : List (List ℕ)) (turn : Turn) (S : List Shape) (i : ℕ) (a : List ℕ) (o : Option (ℕ × List ℕ)) → ctor_at names S i a ≡ o → (zs : List Awaited) (ns : Data) → alone o ≡ TakesToken zs ns → Begun names (AwaitsItem turn S i) (Atom a) zs ns
 alone-begins names turn S i a None at zs ns e = absurd cc
-alone-begins names turn S i a (Some (c, [])) at zs ns e = begun_so names (AwaitsItem turn S i) (Atom a) [] zs ((c, 0) ∷ []) ns e (λ us ms h. along (λ ws. SpellsItem names S i (Atom a ∷ ws) ((c, 0) ∷ ms)) (sym h.0) (along (λ ws. SpellsItem names S i (Atom a ∷ []) ((c, 0) ∷ ws)) (sym h.1) (name_alone at)))
+alone-begins names turn S i a (Some (c, [])) at zs ns e =
+    begun_so names (AwaitsItem turn S i) (Atom a) [] zs ((c, 0) ∷ []) ns e
+    (λ us ms h. along (λ ws. SpellsItem names S i (Atom a ∷ ws) ((c, 0) ∷ ms)) (sym h.0) (along (λ ws. SpellsItem names S i (Atom a ∷ []) ((c, 0) ∷ ws)) (sym h.1) (name_alone at)))
 alone-begins names turn S i a (Some (c, j ∷ js)) at zs ns e = absurd cc
 
-item-inside : (names : List (List ℕ)) (S : List Shape) (i : ℕ) (a : List ℕ) (c : ℕ) (js : List ℕ) → ctor_at names S i a ≡ Some (c, js) → (us : List Text) (ms : Data) → SpellsAll names (items_in First S js) us ms → SpellsItem names S i (Open ∷ Atom a ∷ us) ((c, length js) ∷ ms)
+item-inside : (names : List (List ℕ)) (S : List Shape) (i : ℕ) (a : List ℕ) (c : ℕ) (js : List ℕ) → ctor_at names S i a ≡ Some (c, js) → (us : List Text) (ms : Data) →
+    SpellsAll names (items_in First S js) us ms → SpellsItem names S i (Open ∷ Atom a ∷ us) ((c, length js) ∷ ms)
 item-inside names S i a c js at us ms h =
     let (j, ks, ts, e, p, k) = items_inside names S js us ms h in
     let is : ctor_at names S i a ≡ Some (c, j ∷ ks) = at ∙ ap (λ l. Some (c, l)) e in
@@ -184,8 +188,7 @@ read-spelled names len (s ∷ ss) d xs ds e =
             | Misplaced ↦ λ q e. absurd cc
             | TakesToken ys ms ↦ λ q e.
                 let b = read_behind ms ds (go (ys ++ xs)) e in
-                let r = part names ys xs (texts ss) b.0 (read-spelled names len ss (nesting_after_text d s.text) (ys ++ xs) b.0 b.1) in
-                (
+                let r = part names ys xs (texts ss) b.0 (read-spelled names len ss (nesting_after_text d s.text) (ys ++ xs) b.0 b.1) in (
                   s.text ∷ r.front,
                   r.back,
                   ms ++ r.first_nodes,

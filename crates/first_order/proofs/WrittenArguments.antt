@@ -15,7 +15,7 @@ use Rattle.dump_grammar.proofs.Words.{same_bytes}
 use Rattle.calculus_rules.specs.FirstOrder.{Data}
 use Rattle.calculus_rules.specs.Lookups.{if_some}
 use Rattle.pc_rules.proofs.WeakNext.{if_some_is}
-use Rattle.calculus_rules.proofs.Spines.{one_item}
+use Rattle.calculus_rules.proofs.Spines.{one_item as one_is}
 use Rattle.first_order.specs.declared.shapes.Shape.{Shape}
 use Rattle.first_order.specs.declared.shapes.ShapeCtor.{ShapeCtor}
 use Rattle.first_order.specs.Texts.{Naming, IsText, alone, with_arguments, AreTexts, no_text, one_text, counted_ctor, constructor_in, named_ctor, by_shapes}
@@ -34,7 +34,7 @@ found : (names : List (List ℕ)) (name : List ℕ) (ks : List ShapeCtor) (c e :
 unfolding ctor_from
 found names name [] c e k at is own = absurd cc
 found names name (x ∷ ks) zero e k at is own =
-    let same : x ≡ k = one_item at in
+    let same : x ≡ k = one_is at in
     let here : is_text name (slice_get names x.name.0) ≡ true = ap (is_text name) (ap (λ z. slice_get names z.name.0) same ∙ is) ∙ nat_list_eq_equiv.refl name in
     let num : e ≡ e + 0 = omega arith in
     ap (λ b. if b then Some (e, x.args) else ctor_from names name (suc e) ks) here ∙ (λ i. Some (num i, (same i).args))
@@ -59,7 +59,7 @@ named_node names S own i d name js e =
     let same : t.0 ≡ k = (counted_is t.0 k d.1 t.2).0 in
     let at : slice_get h.ctors d.0 ≡ Some k = t.1 ∙ ap Some same in
     let u = if_some_is (slice_get names k.name.0) (λ name. Some (name, k.args)) r.2 in
-    let pair : (u.0, k.args) ≡ (name, js) = one_item u.2 in
+    let pair : (u.0, k.args) ≡ (name, js) = one_is u.2 in
     let text : slice_get names k.name.0 ≡ Some name = u.1 ∙ ap (λ p. Some p.0) pair in
     let first : ctor_from names name 0 h.ctors ≡ Some (0 + d.0, k.args) = found names name h.ctors d.0 0 k at text (λ c l p q. own i h s.1 c d.0 l k name p at q text) in
     let num : 0 + d.0 ≡ d.0 = omega arith in
@@ -67,7 +67,7 @@ named_node names S own i d name js e =
 
 -- ---- the layout of a text
 
-layout_texts : Layout → List Text
+abbrev layout_texts : Layout → List Text
 layout_texts End = []
 layout_texts (LastComment comment) = []
 layout_texts (CommentThen comment more) = layout_texts more
@@ -180,18 +180,16 @@ record EachLaid (names : List (List ℕ)) (Ss : List (List Shape)) (ds : List Da
   apart : BeginsNoAtom laid.layout
   spells : SpellsEach names Ss tokens ds
 
-each-laid : (names : List (List ℕ)) → AreAtoms names → (Ss : List (List Shape)) (ds : List Data) (ts : List (List ℕ)) → AllHaveOwnNames names Ss → AreWritten names Ss ds ts → (more : Layout) → IsLayout more → BeginsNoAtom more → EachLaid names Ss ds (behind_blanks ts) more
-each-laid names atoms _ _ _ own none_written more m b = record { tokens = []; laid = record { layout = more; bytes_are = refl; texts_are = refl; is = m }; apart = b; spells = no_argument }
-each-laid names atoms _ _ _ own (one_written {S = S} {Ss = Ss} {d = d} {ds = ds} {t = t} {ts = ts} h k) more m b =
-    let rest = each-laid names atoms Ss ds ts own.1 k more m b in
+one-argument-laid : (names : List (List ℕ)) (S : List Shape) (Ss : List (List Shape)) (d : Data) (ds : List Data) (t bs : List ℕ) (more : Layout) → (rest : EachLaid names Ss ds bs more) → ItemLaid names S 0 d t rest.laid.layout →
+    EachLaid names (S ∷ Ss) (d ∷ ds) (32 ∷ (t ++ bs)) more
+one-argument-laid names S Ss d ds t bs more rest item =
     let outer = rest.laid in
-    let item = item-laid names S own.0 atoms 0 d t h outer.layout outer.is rest.apart in
     let inner = item.laid in
     record {
       tokens = item.tokens ++ rest.tokens;
       laid = record {
         layout = BlankThen 32 inner.layout;
-        bytes_are = ap (λ bs. 32 ∷ bs) (inner.bytes_are ∙ ap (λ bs. t ++ bs) outer.bytes_are ∙ sym (append_assoc t (behind_blanks ts) (bytes_of more)));
+        bytes_are = ap (λ cs. 32 ∷ cs) (inner.bytes_are ∙ ap (λ cs. t ++ cs) outer.bytes_are ∙ sym (append_assoc t bs (bytes_of more)));
         texts_are = inner.texts_are ∙ ap (λ us. item.tokens ++ us) outer.texts_are ∙ sym (append_assoc item.tokens rest.tokens (layout_texts more));
         is = (refl, inner.is);
       };
@@ -199,16 +197,25 @@ each-laid names atoms _ _ _ own (one_written {S = S} {Ss = Ss} {d = d} {ds = ds}
       spells = one_argument item.spells rest.spells;
     }
 
+each-laid : (names : List (List ℕ)) → AreAtoms names → (Ss : List (List Shape)) (ds : List Data) (ts : List (List ℕ)) → AllHaveOwnNames names Ss → AreWritten names Ss ds ts → (more : Layout) → IsLayout more → BeginsNoAtom more →
+    EachLaid names Ss ds (behind_blanks ts) more
+each-laid names atoms _ _ _ own none_written more m b = record { tokens = []; laid = record { layout = more; bytes_are = refl; texts_are = refl; is = m }; apart = b; spells = no_argument }
+each-laid names atoms _ _ _ own (one_written {S = S} {Ss = Ss} {d = d} {ds = ds} {t = t} {ts = ts} h k) more m b =
+    let rest = each-laid names atoms Ss ds ts own.1 k more m b in
+    one-argument-laid names S Ss d ds t (behind_blanks ts) more rest (item-laid names S own.0 atoms 0 d t h rest.laid.layout rest.laid.is rest.apart)
+
 args-atom : (0 < length (spelling words.Args)) × Each (λ b. is_atom_byte b ≡ true) (spelling words.Args)
 unfolding spelling
-args-atom = (omega arith, (refl, refl, refl, refl, tt))
+args-atom = (omega arith, (refl, (refl, (refl, (refl, tt)))))
 
-pub written-spelled : WhatIsWrittenIsSpelled
-written-spelled names Ss ds ts atoms own some w =
-    let each = each-laid names atoms Ss ds ts own w (CloseThen End) tt tt in
+whole-written : (names : List (List ℕ)) (Ss : List (List Shape)) (ds : List Data) (ts : List (List ℕ)) → Ss ≢ [] → EachLaid names Ss ds (behind_blanks ts) (CloseThen End) → SpellsArguments names Ss (texts (tokens_of (arguments_text ts))) ds
+whole-written names Ss ds ts some each =
     let inner = each.laid in
     let layout = OpenThen (AtomThen (spelling words.Args) inner.layout) in
     let bytes : bytes_of layout ≡ arguments_text ts = ap (λ bs. 40 ∷ (spelling words.Args ++ bs)) inner.bytes_are in
     let text : texts (tokens_of (arguments_text ts)) ≡ Open ∷ word words.Args ∷ (each.tokens ++ (Close ∷ [])) =
     tokens-are (arguments_text ts) layout (args-atom.0, args-atom.1, each.apart, inner.is) bytes ∙ ap (λ us. Open ∷ word words.Args ∷ us) inner.texts_are in
     (some, each.tokens, text, each.spells)
+
+pub written-spelled : WhatIsWrittenIsSpelled
+written-spelled names Ss ds ts atoms own some w = whole-written names Ss ds ts some (each-laid names atoms Ss ds ts own w (CloseThen End) tt tt)

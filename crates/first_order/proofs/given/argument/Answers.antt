@@ -19,10 +19,10 @@ returns-in_err-node-clause-passes c =
     let q : c.from_residual-in_err-node.result ≡ Err c.in_err-node.field-0.0 = search rules in
     let S = c.args.shapes.now.types in
     let inv = c.next.invariant in
-      argument_refused c.args.names.now c.from_residual-in_err-node.result c.in_err-node.field-0.0 q c.args.tokens.now c.take_next.new.tokens (AwaitsItem c.args.turn S 0) with_nodes _ _ c.next.nodes.items
-          (c.in_err-node.ensures.passes.same ∙ inv.same)
-          (λ xs. here c.args.names.now S c.next.tokens c.next.waiting.items c.take_last.new.items.items c.in-Some.next c.in-Some.ensures.last (reading_on c.args.names.now c.args.tokens.now (AwaitsItem c.args.turn S 0 ∷ xs)) c.next.nodes.items xs (inv.goes xs))
-          c.in_err-node.ensures.passes.goes
+    argument_refused c.args.names.now c.from_residual-in_err-node.result c.in_err-node.field-0.0 q c.args.tokens.now c.take_next.new.tokens (AwaitsItem c.args.turn S 0) with_nodes _ _ c.next.nodes.items
+    (c.in_err-node.ensures.passes.same ∙ inv.same)
+    (λ xs. here c.args.names.now S c.next.tokens c.next.waiting.items c.take_last.new.items.items c.in-Some.next c.in-Some.ensures.last (reading_on c.args.names.now c.args.tokens.now (AwaitsItem c.args.turn S 0 ∷ xs)) c.next.nodes.items xs (inv.goes xs))
+    c.in_err-node.ensures.passes.goes
 
 pub next-preserved : goal.next-preserved
 next-preserved c =
@@ -42,8 +42,8 @@ next-preserved c =
 pub returns-in_err-put_node-clause-passes : goal.returns-in_err-put_node-clause-passes
 returns-in_err-put_node-clause-passes c =
     let q : c.from_residual-in_err-put_node.result ≡ Err c.in_err-put_node.field-0.0 = search rules in
-      lacks_memory c.args.names.now c.from_residual-in_err-put_node.result c.in_err-put_node.field-0.0 q c.in_err-put_node.ensures.only_memory c.args.tokens.now c.take_next.new.tokens (AwaitsItem c.args.turn c.args.shapes.now.types 0) with_nodes
-          (c.in_ok-node.ensures.passes.same ∙ c.next.invariant.same)
+    lacks_memory c.args.names.now c.from_residual-in_err-put_node.result c.in_err-put_node.field-0.0 q c.in_err-put_node.ensures.only_memory c.args.tokens.now c.take_next.new.tokens (AwaitsItem c.args.turn c.args.shapes.now.types 0) with_nodes
+    (c.in_ok-node.ensures.passes.same ∙ c.next.invariant.same)
 
 pub of-requires-clause-tree : goal.of-requires-clause-tree
 of-requires-clause-tree c = tree_ends c.next.waiting.items c.next.nodes.items c.in_default.ensures.last c.next.invariant.forest
@@ -54,7 +54,8 @@ of-requires-clause-few c = c.next.invariant.few
 pub returns-clause-passes : goal.returns-clause-passes
 returns-clause-passes c = record {
   same = c.next.invariant.same;
-  goes = λ xs. argument_ends c.args.names.now c.args.shapes.now.types c.next.tokens c.next.waiting.items c.next.nodes.items c.of.result (reading_on c.args.names.now c.args.tokens.now (AwaitsItem c.args.turn c.args.shapes.now.types 0 ∷ xs)) xs c.in_default.ensures.last c.of.ensures.is (c.next.invariant.goes xs);
+  goes = λ xs. argument_ends c.args.names.now c.args.shapes.now.types c.next.tokens c.next.waiting.items c.next.nodes.items c.of.result
+      (reading_on c.args.names.now c.args.tokens.now (AwaitsItem c.args.turn c.args.shapes.now.types 0 ∷ xs)) xs c.in_default.ensures.last c.of.ensures.is (c.next.invariant.goes xs);
 }
 
 pub returns-clause-tree : goal.returns-clause-tree
