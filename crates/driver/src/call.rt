@@ -18,11 +18,11 @@ use crate::exec::line_of;
 use crate::refusal::{ProgramLimit, Refusal, RunEnd};
 use command_line::Request;
 use data_trees::Data;
+use known_calls::known_calls_of_main_answer;
 use module_run::{Answer, RunRefusal, answer_of_call};
 use reports::Report;
 use std::alloc::Global;
 use wasm_core::Valid;
-use known_calls::known_calls_of_main_answer;
 
 /// What a call of a module's main with these arguments answers, in at most so many steps. Where it answers, each report is told the facts of the run.
 fn called<R: Report>(
