@@ -1,0 +1,7 @@
+mod StoredRuns
+mod SmallArguments
+mod OneSignature
+mod ValuesOfCalls
+mod CallStatuses
+mod Serving
+mod Finishing
