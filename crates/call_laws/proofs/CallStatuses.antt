@@ -93,7 +93,7 @@ module _ (q : Request) (range : IsInRange q) (bytes : List ℕ) (e : RawEnv) (s 
   count_is : (x : CallCompiling q.turns e) → length h.arguments ≡ argument_count x.before.before
   count_is x =
       (arguments_trees e.names (argument_sets h.signing.signature.args) (texts (tokens_behind bytes)) h.arguments h.spelled).1
-      ∙ length-map (λ (t : Shapes). t.types) h.signing.signature.args
+      ∙ length-map h.signing.signature.args (λ (t : Shapes). t.types)
       ∙ one_argument_count q.turns e h.signing x.before.before
 
   -- ---- the modules

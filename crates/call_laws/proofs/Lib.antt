@@ -3,5 +3,7 @@ mod SmallArguments
 mod OneSignature
 mod ValuesOfCalls
 mod CallStatuses
+mod ValuesServed
 mod Serving
 mod Finishing
+mod Meaning

@@ -34,13 +34,13 @@ one_constructors (k ∷ ks) (l ∷ ls) e f =
 module _ (E : Env) (one : OneEach E) where
   one_shape : (h k : Shape) → IsNamed E h → IsNamed E k → member h ≡ member k → h ≡ k
   one_shape h k n m e =
-      let family : n.family ≡ m.family = ap family_in (sym n.head_is) ∙ ap (λ z. z.family) e ∙ ap family_in m.head_is in
+      let family : n.family ≡ m.family = ap family_in (sym n.head_is) ∙ ap (λ (z : Member). z.family) e ∙ ap family_in m.head_is in
       let heads : head h.ty ≡ head k.ty = n.head_is ∙ ap Ind family ∙ sym m.head_is in
-      let parameters : args h.ty ≡ args k.ty = ap (λ z. z.parameters) e in
+      let parameters : args h.ty ≡ args k.ty = ap (λ (z : Member). z.parameters) e in
       let types : h.ty ≡ k.ty = spine_is h.ty ∙ (λ i. apply (heads i) (parameters i)) ∙ sym (spine_is k.ty) in
       let declared : n.declared ≡ m.declared = one.families m.family n.declared m.declared (subst (λ f. KeepsFamily E f n.declared) family n.keeps) m.keeps in
       let names : map ctor_name h.ctors ≡ map ctor_name k.ctors = n.names ∙ ap (λ (F : FamilyDecl). map (λ C. C.name) F.constructors) declared ∙ sym m.names in
-      let ctors = one_constructors h.ctors k.ctors names (ap (λ z. z.constructors) e) in
+      let ctors = one_constructors h.ctors k.ctors names (ap (λ (z : Member). z.constructors) e) in
       λ i. record { ty = types i; ctors = ctors i }
 
   one_types : (hs ks : List Shape) → AreNamed E hs → AreNamed E ks → members hs ≡ members ks → hs ≡ ks

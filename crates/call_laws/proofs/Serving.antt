@@ -2,21 +2,17 @@
 use Rattle.std.proofs.Common.{◌≡◌, ◌≢◌, ◌∙◌, ℕ, zero, suc, List, [], ◌∷◌, Option, Some, Result, Ok, Err, ◌⊎◌, inl, inr, refl, sym, ap, subst, arith, lit<}
 use Rattle.std.specs.Io.KnownBytes.{Appends}
 use Rattle.pc_terms.specs.Syntax.{Term}
-use Rattle.calculus_rules.specs.FirstOrder.{Data, FitsShapes, Reads}
+use Rattle.calculus_rules.specs.FirstOrder.{Data, FitsShapes}
 use Rattle.calculus_rules.specs.Environment.{Env}
 use Rattle.calculus_rules.proofs.Bare.{bare_types}
 use Rattle.calculus_rules.proofs.Spines.{one_item}
-use Rattle.typing_laws.proofs.DataAlong.{reading_is_determined}
 use Rattle.dump_reader.specs.Front.{front_bytes}
 use Rattle.dump_reader.specs.declared.environment.RawEnv.{RawEnv}
 use Rattle.first_order.specs.Searching.{members, AreNamed}
 use Rattle.first_order.specs.Awaited.{ArgumentReading, ArgumentsAre, ArgumentsFail}
 use Rattle.first_order.specs.DirectedSignature.{set_of, sets_of}
-use Rattle.erase_laws.specs.ErasedProgram.{IsErased}
-use Rattle.headline.specs.Headline.{IsExactly}
 use Rattle.reports.specs.Shown.{Shown}
 use Rattle.applied_terms.specs.CallEvaluation.{CallEvaluatesTo}
-use Rattle.applied_terms.proofs.KeptValues.{applied_values_are_kept}
 use Rattle.applied_terms.proofs.SourceTerms.{applied_terms_are_there}
 use Rattle.applied_terms.proofs.TypedTerms.{applied_terms_are_typed}
 use Rattle.command_line.specs.declared.job.Job.{Job}
@@ -41,7 +37,8 @@ use Rattle.driver.proofs.TextCauses.{one_environment}
 use Rattle.call_laws.specs.CallValues.{AsksCall, AnswersCallData, HasArguments, HasCallData, HasCallValue, IsAppliedWell, IsTextOfCall, ServesCall, answer_types, argument_types, kept_environment}
 use Rattle.call_laws.specs.Laws.{CallsAnswerData, CallsAnswerValues, SpelledArgumentsApply}
 use Rattle.call_laws.proofs.CallStatuses.{answer_is, call_runs, module_valid, no_fifteen, one_environment_kept}
-use Rattle.call_laws.proofs.ValuesOfCalls.{DataOfValue, spelled_fits, value_is_data}
+use Rattle.call_laws.proofs.ValuesOfCalls.{spelled_fits}
+use Rattle.call_laws.proofs.ValuesServed.{data_of_value, erased_value, value_exactly}
 
 -- ---- the input of a call
 
@@ -146,27 +143,9 @@ module _ {S K E : Type 0} (status : ℕ) (words : List (List ℕ)) (reports : Li
 
   pub value_served : (n : ℕ) (v : HasCallValue q.turns e bytes h n) → ServesCall q e bytes h n v.value status out.told out'.told
   value_served n v =
-      let a = h.signing.before in
-      let E = kept_environment h in
-      let accepted = a.checked.formed.accepted in
-      let typed = bare_types a.checked.formed.typed in
-      let d = value_is_data E accepted e.main a.type typed (argument_types h) (answer_types h) h.signing.is h.arguments v.applied v.is v.value n v.evaluation in
-      record {
-        tree = d.tree;
-        exactly = record { reads = d.reads; only = λ other r. reading_is_determined E accepted (answer_types h) 0 v.value other d.tree r d.reads };
-        fits = d.fits;
-        answers = owed n d.tree (λ x. erased_answer x d.tree d.reads) d.fits;
-      }
-    where
-      erased_answer : (x : CallErasing q.turns e) (tree : Data) → Reads (kept_environment h) (answer_types h) 0 v.value tree → CallEvaluatesTo x.program h.arguments tree n
-      erased_answer x tree reads =
-          let a = h.signing.before in
-          let E = kept_environment h in
-          let accepted = a.checked.formed.accepted in
-          let typed = bare_types a.checked.formed.typed in
-          let here : IsErased E e.main x.program = subst (λ E. IsErased E e.main x.program) (one_environment_kept q (range q e bytes words src.told asks) bytes e asks.spelled h x.before) x.is in
-          let k = applied_values_are_kept E accepted e.main a.type typed x.program here (argument_types h) (answer_types h) h.signing.is h.arguments v.applied v.is v.value n v.evaluation in
-          subst (λ t. CallEvaluatesTo x.program h.arguments t n) (reading_is_determined E accepted (answer_types h) 0 v.value k.0 tree k.1 reads) k.2
+      let r = range q e bytes words src.told asks in
+      let d = data_of_value q r bytes e asks.spelled h n v in
+      record { tree = d.tree; exactly = value_exactly q r bytes e asks.spelled h n v; fits = d.fits; answers = owed n d.tree (erased_value q r bytes e asks.spelled h n v) d.fits }
 
 pub calls_answer_data : {S K E : Type 0} → CallsAnswerData S K E
 calls_answer_data status words reports src src' out out' err err' s q e bytes asks h n tree d = data_answered status words reports src src' out out' err err' s q e bytes asks h n tree d

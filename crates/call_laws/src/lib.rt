@@ -7,10 +7,14 @@
 //! (`calls_answer_data`, `serves`). And where main has a module for calls within 16 MiB, the rules pass no limit and no fault is met, the status is 0, or 1, or it is one of the run: 7 where the answer has over
 //! 4,000,000 nodes, 11, 12, or 15, the last only where the erased main evaluates to no data of the answer's types (`calls_finish`, `finishes`). These are laws of the record `Served`, so they hold of each call of `serve`.
 //!
+//! Where nothing is told of the source, status 0 means the same of some bytes within the limit: out took the text of data, and each value of main, applied to the arguments that stand behind the front, is
+//! exactly that (`call_means`, `means`).
+//!
 //! Below stand `driver` with the contract, `call_answers` with the headline for calls, and `stored_calls` with what storing makes; nothing stands above.
 #![tactic(auto)]
 
 ghost use Rattle.call_laws.specs.Laws.{CallsAnswerData, CallsAnswerValues, CallsFinish, SpelledArgumentsApply};
+ghost use Rattle.call_laws.specs.Meaning.{CallMeans};
 
 /// Main can be applied to the source terms of arguments that are spelled, and the applied term has a type, with the first-order set of the signature's answer.
 pub fn spelled_arguments_apply()
@@ -30,4 +34,9 @@ pub fn calls_answer_data<S, K, E>()
 /// Completeness of `call`: where main has a module for calls and the arguments are whole, the status is 0, 1, or one that a run of the module shows.
 pub fn calls_finish<S, K, E>()
     ensures finishes { CallsFinish S K E }
+{}
+
+/// On status 0 of `call` out took the text of data; and each value to which main evaluates, applied to the source terms of the arguments that the input spells, is exactly that data.
+pub fn call_means<S, K, E>()
+    ensures means { CallMeans S K E }
 {}
