@@ -1,5 +1,5 @@
--- What a call of `call` ends with: where the erased main, applied to the arguments, evaluates to data of the answer's types, the answer is that data and no refusal has status 15; and where main has a
--- module and the arguments are whole, a refusal is one of the run.
+-- What a call of `call` ends with: the arguments of each of its stages are those that are spelled; and where the erased main, applied to them, evaluates to data of the answer's types, the answer is that data and
+-- nothing shows the status 15.
 use Rattle.std.proofs.Common.{◌≡◌, ◌≢◌, ◌∙◌, ℕ, ◌+◌, ◌*◌, ◌<◌, ◌≤◌, List, [], ◌∷◌, length, drop, Option, Some, Result, Ok, Err, ◌⊎◌, inl, inr, refl, sym, ap, subst, arith, lit<}
 use Rattle.std.proofs.lemmas.List.{length-map}
 use Rattle.calculus_rules.specs.FirstOrder.{Data, FitsShapes}
@@ -15,7 +15,6 @@ use Rattle.first_order.specs.Searching.{members}
 use Rattle.first_order.specs.declared.shapes.Shapes.{Shapes}
 use Rattle.first_order.proofs.ArgumentComplete.{arguments-read, arguments_trees}
 use Rattle.lambda_box.specs.BoxProgram.{BoxProgram}
-use Rattle.wasm_core.specs.declared.ended.TrapKind.{TrapKind}
 use Rattle.wasm_core.specs.ModuleCondition.{All as Each}
 use Rattle.wasm_core.specs.ModuleTyping.{IsValid}
 use Rattle.wasm_core.specs.WordData.{DataNodes}
@@ -35,16 +34,11 @@ use Rattle.call_answers.specs.EveryCall.{EveryCallAnswers, call_module_for}
 use Rattle.call_answers.proofs.CalledPrograms.{call_modules_are_valid, called_programs_answer}
 use Rattle.command_line.specs.declared.line.Request.{Request}
 use Rattle.command_line.specs.Line.{IsInRange}
-use Rattle.driver.specs.declared.refusal.Refusal.{Refusal}
-use Rattle.driver.specs.declared.refusal.Refusal.TheVariants as refusals
-use Rattle.driver.specs.declared.refusal.RunEnd.TheVariants as run_ends
-use Rattle.driver.specs.declared.refusal.ArgumentFault.TheVariants as faults
-use Rattle.driver.specs.declared.refusal.ProgramLimit.TheVariants as limits
-use Rattle.driver.specs.Lines.{status_of}
 use Rattle.driver.specs.CallStages.{CallCompiling, CallErasing, Signing, argument_count, its_call_module}
-use Rattle.driver.specs.CallEnds.{ArgumentsSay, CallAnswering, CallStops, ReadingArguments, arguments_read, in_arguments, in_call_erasure, in_call_passes, in_call_run, in_call_text, in_signature}
+use Rattle.driver.specs.CallEnds.{CallAnswering, ReadingArguments, arguments_read}
 use Rattle.driver.specs.Texts.{SpellsWithin}
 use Rattle.driver.proofs.AcceptedAs.{accepted_as}
+use Rattle.driver.proofs.CallLate.{LateEnd, of_answer, of_run}
 use Rattle.driver.proofs.CallCauses.{one_answer_set, one_argument_count, one_argument_sets, one_call_program}
 use Rattle.driver.proofs.ExecCauses.{one_acceptance}
 use Rattle.driver.proofs.StoredAlike.{ends_alike}
@@ -130,28 +124,10 @@ module _ (q : Request) (range : IsInRange q) (bytes : List ℕ) (e : RawEnv) (s 
     pub answer_is : (x : CallAnswering q.turns e bytes q.pages q.steps) → x.answer.tree ≡ tree
     answer_is x = (run_answers x.before x.reading (Ok x.answer) x.ends).1
 
-    trapped : (kind : TrapKind) → CallStops q.turns e bytes q.pages q.steps (refusals.Run (run_ends.Trapped kind)) → ⊥
-    trapped kind (in_signature x w k) = k
-    trapped kind (in_arguments x k) = k
-    trapped kind (in_call_erasure y x w k) = k
-    trapped kind (in_call_passes y x k) = k
-    trapped kind (in_call_run y x valid k) = (run_answers x y (Err (running.Trapped kind)) k).1
-    trapped kind (in_call_text x valid k) = k
-
-    no_value : (word : ℕ) → CallStops q.turns e bytes q.pages q.steps (refusals.Run (run_ends.NoValue word)) → ⊥
-    no_value word (in_signature x w k) = k
-    no_value word (in_arguments x k) = k
-    no_value word (in_call_erasure y x w k) = k
-    no_value word (in_call_passes y x k) = k
-    no_value word (in_call_run y x valid k) = (run_answers x y (Err (running.NoValue word)) k).1
-    no_value word (in_call_text x valid k) =
-        k.1 (subst (λ S. FitsShapes S 0 x.answer.tree) (sym (one_answer_set q.turns e x.before.before.before h.signing)) (subst (FitsShapes (answer_types h) 0) (sym (answer_is x)) fits))
-
-    -- so no refusal after the check has status 15
-    pub no_fifteen : (r : Refusal) → CallStops q.turns e bytes q.pages q.steps r → status_of r ≡ 15 → ⊥
-    no_fifteen refusals.Stuck c is = elim c [ in_signature x w k ↦ k | in_arguments x k ↦ k | in_call_erasure y x w k ↦ k | in_call_passes y x k ↦ k | in_call_run y x valid k ↦ k | in_call_text x valid k ↦ k ]
-    no_fifteen (refusals.Run (run_ends.Trapped kind)) c is = trapped kind c
-    no_fifteen (refusals.Run (run_ends.NoValue word)) c is = no_value word c
-    no_fifteen (refusals.Module w) c is = elim c [ in_signature x w k ↦ k | in_arguments x k ↦ k | in_call_erasure y x w k ↦ k | in_call_passes y x k ↦ k | in_call_run y x valid k ↦ k | in_call_text x valid k ↦ k ]
-    no_fifteen (refusals.Argument faults.Nesting) c is = omega (arith, is)
-    no_fifteen _ c is = omega (arith, is)
+    -- so nothing shows the status 15
+    pub never_fifteen : LateEnd q.turns e bytes q.pages q.steps 15 → ⊥
+    never_fifteen (of_run y x (running.Trapped kind) k other is) = (run_answers x y (Err (running.Trapped kind)) k).1
+    never_fifteen (of_run y x (running.NoValue word) k other is) = (run_answers x y (Err (running.NoValue word)) k).1
+    never_fifteen (of_run y x _ k other is) = omega (arith, is)
+    never_fifteen (of_answer x none is) =
+        none (subst (λ S. FitsShapes S 0 x.answer.tree) (sym (one_answer_set q.turns e x.before.before.before h.signing)) (subst (FitsShapes (answer_types h) 0) (sym (answer_is x)) fits))

@@ -1,15 +1,13 @@
--- What is served of `call`: a refusal is of the environment that the front of the input spells, and so the laws of its statuses hold of the record that the top call promises.
+-- What is served of `call` where its source tells the input, by the record that the top call promises.
 use Rattle.std.proofs.Common.{◌≡◌, ◌≢◌, ◌∙◌, ℕ, zero, suc, List, [], ◌∷◌, Option, Some, Result, Ok, Err, ◌⊎◌, inl, inr, refl, sym, ap, subst, arith, lit<}
 use Rattle.std.specs.Io.KnownBytes.{Appends}
 use Rattle.pc_terms.specs.Syntax.{Term}
 use Rattle.calculus_rules.specs.FirstOrder.{Data, FitsShapes}
 use Rattle.calculus_rules.specs.Environment.{Env}
 use Rattle.calculus_rules.proofs.Bare.{bare_types}
-use Rattle.calculus_rules.proofs.Spines.{one_item}
 use Rattle.dump_reader.specs.Front.{front_bytes}
 use Rattle.dump_reader.specs.declared.environment.RawEnv.{RawEnv}
 use Rattle.first_order.specs.Searching.{members, AreNamed}
-use Rattle.first_order.specs.Awaited.{ArgumentReading, ArgumentsAre, ArgumentsFail}
 use Rattle.first_order.specs.DirectedSignature.{set_of, sets_of}
 use Rattle.reports.specs.Shown.{Shown}
 use Rattle.applied_terms.specs.CallEvaluation.{CallEvaluatesTo}
@@ -20,92 +18,44 @@ use Rattle.command_line.specs.declared.job.Job.TheVariants.{Call}
 use Rattle.command_line.specs.declared.line.Request.{Request}
 use Rattle.command_line.specs.Line.{IsInRange, request_of}
 use Rattle.command_line.proofs.Ranges.{requests_lie_in_range}
-use Rattle.driver.specs.declared.refusal.Refusal.{Refusal}
-use Rattle.driver.specs.declared.refusal.Refusal.TheVariants as refusals
-use Rattle.driver.specs.declared.refusal.RunEnd.TheVariants as run_ends
-use Rattle.driver.specs.declared.refusal.ArgumentFault.TheVariants as faults
 use Rattle.driver.specs.CallStages.{CallErasing}
-use Rattle.driver.specs.CallEnds.{CallAnswering, CallStops, answer_shapes}
-use Rattle.driver.specs.Called.{IsCalled}
-use Rattle.driver.specs.Lines.{status_of}
-use Rattle.driver.specs.Serve.{HasAnswer, IsAnswerOf, IsCallCause, IsCause, IsCheckCause, IsInputOf, IsOfCall, IsOfText, IsTextCause, SourceTells}
+use Rattle.driver.specs.CallEnds.{CallAnswering, answer_shapes}
+use Rattle.driver.specs.Serve.{HasAnswer, SourceTells}
 use Rattle.driver.specs.Served.{Seen, Served}
 use Rattle.driver.specs.SourceSays.{IsLine}
 use Rattle.driver.specs.Texts.{SpellsWithin}
+use Rattle.driver.proofs.CallLate.{LateEnd, call_fifteen, called_on}
 use Rattle.driver.proofs.CallCauses.{one_answer_set, one_call_program}
-use Rattle.driver.proofs.TextCauses.{one_environment}
 use Rattle.call_laws.specs.CallValues.{AsksCall, AnswersCallData, HasArguments, HasCallData, HasCallValue, IsAppliedWell, IsTextOfCall, ServesCall, answer_types, argument_types, kept_environment}
 use Rattle.call_laws.specs.Laws.{CallsAnswerData, CallsAnswerValues, SpelledArgumentsApply}
-use Rattle.call_laws.proofs.CallStatuses.{answer_is, call_runs, module_valid, no_fifteen, one_environment_kept}
+use Rattle.call_laws.proofs.CallStatuses.{answer_is, call_runs, module_valid, never_fifteen, one_environment_kept}
 use Rattle.call_laws.proofs.ValuesOfCalls.{spelled_fits}
 use Rattle.call_laws.proofs.ValuesServed.{data_of_value, erased_value, value_exactly}
-
--- ---- the input of a call
 
 module _ (q : Request) (e : RawEnv) (bytes : List ℕ) (words : List (List ℕ)) (left : Option (List ℕ)) (asks : AsksCall q e bytes words left) where
   range : IsInRange q
   range = requests_lie_in_range words q asks.asked.words_are
 
   told : left ≡ Some bytes
-  told = of q.job asks.job asks.asked.bytes_are
+  told = tells q.job asks.job asks.asked.bytes_are
     where
-      of : (job : Job) → job ≡ Call → SourceTells job q left bytes → left ≡ Some bytes
-      of job is t = subst (λ j. SourceTells j q left bytes) is t
+      tells : (job : Job) → job ≡ Call → SourceTells job q left bytes → left ≡ Some bytes
+      tells job is t = subst (λ j. SourceTells j q left bytes) is t
 
-  -- the input of a job that was asked for is this one
-  one_input : (r : Request) (other : List ℕ) → request_of words ≡ Some r → IsInputOf r.job r left other → (r ≡ q) × (other ≡ bytes)
-  one_input r other asked input =
-      let same : r ≡ q = one_item (sym asked ∙ asks.asked.words_are) in
-      let here : IsInputOf Call q left other = subst (λ j. IsInputOf j q left other) asks.job (subst (λ r. IsInputOf r.job r left other) same input) in
-      let there : IsInputOf Call q (Some bytes) other = subst (λ l. IsInputOf Call q l other) told here in
-      (same, there.0)
-
-  -- a refusal of the input
-  call_cause : (r : Refusal) → IsOfText r words left → IsCallCause q r bytes
-  call_cause r (p, (asked, (other, (input, cause)))) =
-      let same = one_input p other asked input in
-      subst (λ b. IsCallCause q r b) same.1 (subst (λ j. IsTextCause j q r other) asks.job (subst (λ p. IsTextCause p.job p r other) same.0 cause))
-
-  -- that of the environment which the front spells
-  of_front : (r : Refusal) → IsOfCall q r bytes → IsCheckCause q.turns r e ⊎ CallStops q.turns e bytes q.pages q.steps r
-  of_front r (f, (t, inl c)) = inl (subst (IsCheckCause q.turns r) (one_environment (front_bytes bytes) f e t asks.spelled) c)
-  of_front r (f, (t, inr c)) = inr (subst (λ f. CallStops q.turns f bytes q.pages q.steps r) (one_environment (front_bytes bytes) f e t asks.spelled) c.0.1)
-
-  -- the answer
-  pub record Called (text : List ℕ) : Type 0 where
-    pub stages : CallAnswering q.turns e bytes q.pages q.steps
-    pub line : IsLine (answer_shapes stages.before.before.before) e.names stages.answer.tree text
-
-  of_called : (text : List ℕ) → IsCalled q.turns q.pages q.steps bytes text → Called text
-  of_called text a =
-      let same = one_environment (front_bytes bytes) a.environment e a.spelled asks.spelled in
-      let x = subst (λ f. (x : CallAnswering q.turns f bytes q.pages q.steps) × IsLine (answer_shapes x.before.before.before) f.names x.answer.tree text) same (a.stages, a.text_is) in
-      record { stages = x.0; line = x.1 }
+  -- the text on status 0
+  record Called (text : List ℕ) : Type 0 where
+    stages : CallAnswering q.turns e bytes q.pages q.steps
+    line : IsLine (answer_shapes stages.before.before.before) e.names stages.answer.tree text
 
   called : (text : List ℕ) → HasAnswer words left text → Called text
   called text a =
-      let same = one_input a.request a.bytes a.asked a.input in
-      of_called text (subst (λ b. IsCalled q.turns q.pages q.steps b text) same.1 (subst (λ j. IsAnswerOf j q a.bytes text) asks.job (subst (λ p. IsAnswerOf p.job p a.bytes text) same.0 a.answer)))
+      let (c, same) = called_on q e bytes words left asks.asked.words_are asks.job told asks.spelled text a in
+      let x = subst (λ (f : RawEnv). (x : CallAnswering q.turns f bytes q.pages q.steps) × IsLine (answer_shapes x.before.before.before) f.names x.answer.tree text) same (c.stages, c.text_is) in
+      record { stages = x.0; line = x.1 }
 
-  -- ---- what is owed to data of the erased main, applied to the arguments
+  -- what is owed to data of the erased main, applied to the arguments
 
   module _ (h : HasArguments q.turns e bytes) (n : ℕ) (tree : Data) (data_of : (x : CallErasing q.turns e) → CallEvaluatesTo x.program h.arguments tree n) (fits : FitsShapes (answer_types h) 0 tree) where
-    of_either : (r : Refusal) → IsCheckCause q.turns r e ⊎ CallStops q.turns e bytes q.pages q.steps r → status_of r ≡ 15 → ⊥
-    of_either refusals.Stuck (inl c) is = c
-    of_either (refusals.Run why) (inl c) is = c
-    of_either (refusals.Module why) (inl c) is = c
-    of_either (refusals.Argument faults.Nesting) (inl c) is = c
-    of_either r (inr c) is = no_fifteen q range bytes e asks.spelled h n tree data_of fits r c is
-    of_either _ (inl c) is = omega (arith, is)
-
-    -- no refusal has status 15
-    never : (r : Refusal) (before now faulty faulty' : ℕ) → IsCause r words left before now faulty faulty' → status_of r ≡ 15 → ⊥
-    never refusals.Stuck before now faulty faulty' c is = of_either refusals.Stuck (of_front refusals.Stuck (call_cause refusals.Stuck c)) is
-    never (refusals.Run why) before now faulty faulty' c is = of_either (refusals.Run why) (of_front (refusals.Run why) (call_cause (refusals.Run why) c)) is
-    never (refusals.Module why) before now faulty faulty' c is = of_either (refusals.Module why) (of_front (refusals.Module why) (call_cause (refusals.Module why) c)) is
-    never (refusals.Argument faults.Nesting) before now faulty faulty' c is = omega (arith, is)
-    never _ before now faulty faulty' c is = omega (arith, is)
-
     text_of_call : (text : List ℕ) → Called text → IsTextOfCall q.turns e bytes h tree text
     text_of_call text c =
         let x = c.stages in
@@ -117,17 +67,14 @@ module _ (q : Request) (e : RawEnv) (bytes : List ℕ) (words : List (List ℕ))
           line = subst (λ d. IsLine (answer_shapes g) e.names d text) (answer_is q range bytes e asks.spelled h n tree data_of fits x) c.line;
         }
 
-    pub answers_data : (status : ℕ) (taken taken' : Option (List ℕ)) (before now faulty faulty' : ℕ) → (status ≡ 0 → (text : List ℕ) × HasAnswer words left text × Appends taken taken' text) →
-        (status ≢ 0 → (r : Refusal) × (status ≡ status_of r) × IsCause r words left before now faulty faulty') → AnswersCallData q e bytes h n tree status taken taken'
-    answers_data status taken taken' before now faulty faulty' done refused = record {
+    answers_data : (status : ℕ) (taken taken' : Option (List ℕ)) → (status ≡ 0 → (text : List ℕ) × HasAnswer words left text × Appends taken taken' text) →
+        (status ≡ 15 → LateEnd q.turns e bytes q.pages q.steps 15) → AnswersCallData q e bytes h n tree status taken taken'
+    answers_data status taken taken' done shown = record {
       valid = module_valid q range bytes e asks.spelled h;
       runs = call_runs q range bytes e asks.spelled h n tree data_of fits;
       text = λ is. (let (text, answer, w) = done is in (text, text_of_call text (called text answer), w));
-      answers = λ is. (let (r, status_is, cause) = refused (λ zero. fifteen status zero is) in never r before now faulty faulty' cause (sym status_is ∙ is));
+      answers = λ is. never_fifteen q range bytes e asks.spelled h n tree data_of fits (shown is);
     }
-      where
-        fifteen : (status : ℕ) → status ≡ 0 → status ≡ 15 → ⊥
-        fifteen status zero is = omega (arith, zero, is)
 
 -- ---- the laws
 
@@ -135,8 +82,13 @@ module _ {S K E : Type 0} (status : ℕ) (words : List (List ℕ)) (reports : Li
     (q : Request) (e : RawEnv) (bytes : List ℕ) (asks : AsksCall q e bytes words src.told) (h : HasArguments q.turns e bytes) where
   owed : (n : ℕ) (tree : Data) → ((x : CallErasing q.turns e) → CallEvaluatesTo x.program h.arguments tree n) → FitsShapes (answer_types h) 0 tree → AnswersCallData q e bytes h n tree status out.told out'.told
   owed n tree data_of fits =
-      answers_data q e bytes words src.told asks h n tree data_of fits status out.told out'.told src.faults src'.faults out.faults out'.faults s.done
-      (λ other. let r = s.refused other in (r.refusal, r.status_is, r.cause))
+      answers_data q e bytes words src.told asks h n tree data_of fits status out.told out'.told s.done
+      (λ is.
+          call_fifteen q e bytes words src.told asks.asked.words_are asks.job (told q e bytes words src.told asks) asks.spelled status src.faults src'.faults out.faults out'.faults err.told err'.told err.faults err'.faults
+          (s.refused (λ zero. fifteen status zero is)) is)
+    where
+      fifteen : (status : ℕ) → status ≡ 0 → status ≡ 15 → ⊥
+      fifteen status zero is = omega (arith, zero, is)
 
   pub data_answered : (n : ℕ) (tree : Data) → HasCallData q.turns e bytes h n tree → AnswersCallData q e bytes h n tree status out.told out'.told
   data_answered n tree d = owed n tree (λ x. subst (λ P. CallEvaluatesTo P h.arguments tree n) (one_call_program q.turns e d.stages x) d.evaluates) d.fits

@@ -32,7 +32,7 @@ module _ (P : BoxProgram) (form : IsBoxProgram P) where
 
   mutual
     term_small : (w : BoxTerm) (d : Data) → DataTerm P w d → IsSmallData d
-    term_small w _ (data_term {f = f} {c = c} {qs = qs} {xs = xs} {ds = ds} is evaluable fields) = (node_small f c w qs xs is, fields_small xs ds fields)
+    term_small w _ (data_term {f = f} {c = c} {qs = qs} {xs = xs} {ds = ds} is _ fields) = (node_small f c w qs xs is, fields_small xs ds fields)
 
     fields_small : (xs : List BoxTerm) (ds : Data) → DataFields P xs ds → IsSmallData ds
     fields_small _ _ no_data_field = tt

@@ -11,6 +11,7 @@ use Rattle.calculus_rules.specs.Environment.{Env}
 use Rattle.calculus_rules.specs.Evaluation.{Evaluates}
 use Rattle.calculus_rules.specs.FirstOrder.{Data, FieldsFit, FitsShapes, Reads, Shape as Member, field_fits, fits, no_field_fits}
 use Rattle.calculus_rules.specs.Typing.{bare, Types}
+use Rattle.calculus_rules.proofs.Spines.{one_item as one_is}
 use Rattle.first_order.specs.declared.shapes.Shape.{Shape}
 use Rattle.first_order.specs.declared.shapes.ShapeCtor.{ShapeCtor}
 use Rattle.first_order.specs.declared.shapes.Shapes.{Shapes}
@@ -36,16 +37,17 @@ record Found (ks : List ShapeCtor) (c js_of : ℕ) (js : List ℕ) : Type 0 wher
   is : c ≡ js_of + number
   at : slice_get (map places ks) number ≡ Some js
 
+pair_is : (a b : ℕ) (x y : List ℕ) → Some (a, x) ≡ Some (b, y) → (a ≡ b) × (x ≡ y)
+pair_is a b x y e = let p : (a, x) ≡ (b, y) = one_is e in (λ i. (p i).0, λ i. (p i).1)
+
 found : (names : List (List ℕ)) (a : List ℕ) (n : ℕ) (ks : List ShapeCtor) (c : ℕ) (js : List ℕ) → ctor_from names a n ks ≡ Some (c, js) → Found ks c n js
 unfolding ctor_from
 found names a n [] c js e = absurd cc
 found names a n (k ∷ ks) c js e =
     elim (cases_Bool (is_text a (slice_get names k.name.0))) [
       | inl h ↦
-          let here : Some (n, k.args) ≡ Some (c, js) = sym (ap (λ b. if b then Some (n, k.args) else ctor_from names a (suc n) ks) h) ∙ e in
-          let number : n ≡ c = cc in
-          let args : k.args ≡ js = cc in
-          record { number = 0; is = omega (arith, number); at = ap Some args }
+          let (same, args) = pair_is n c k.args js (sym (ap (λ b. if b then Some (n, k.args) else ctor_from names a (suc n) ks) h) ∙ e) in
+          record { number = 0; is = omega (arith, same); at = ap Some args }
       | inr h ↦
           let more = found names a (suc n) ks c js (sym (ap (λ b. if b then Some (n, k.args) else ctor_from names a (suc n) ks) h) ∙ e) in
           record { number = suc more.number; is = omega (arith, more.is); at = more.at }

@@ -30,6 +30,7 @@ pub mod RunCauses
 pub mod PlainAccepted
 pub mod PlainCauses
 pub mod TextCauses
+pub mod CallLate
 pub mod Headlines
 pub mod Checking
 pub mod Explaining
