@@ -12,7 +12,7 @@ use Rattle.module_run.specs.Ends.{IsLargeFrom, IsSmall}
 use Rattle.reports.specs.Shown.{Shown}
 use Rattle.command_line.specs.declared.line.Request.{Request}
 use Rattle.command_line.specs.Line.{IsInRange}
-use Rattle.driver.specs.CallStages.{CallCompiling, its_call_module}
+use Rattle.driver.specs.CallStages.{CallCompiling, Signing, its_call_module}
 use Rattle.driver.specs.Served.{Seen, Served}
 use Rattle.driver.specs.Texts.{SpellsWithin}
 use Rattle.driver.proofs.CallCauses.{one_call_module}
@@ -50,8 +50,8 @@ zero_or (suc n) = inr (λ e. cc)
 pub calls_finish : {S K E : Type 0} → CallsFinish S K E
 calls_finish status words reports src src' out out' err err' s q e bytes asks c calm =
     let r = range q e bytes words src.told asks in
-    let whole = λ x. they_are_read q r bytes e asks.spelled c.given x in
-    let late = λ other.
+    let whole = λ (x : Signing q.turns e). they_are_read q r bytes e asks.spelled c.given x in
+    let late = λ (other : status ≢ 0).
     call_late q e bytes words src.told asks.asked.words_are asks.job (told q e bytes words src.told asks) asks.spelled asks.short c.check c.stages c.within (joined c.given.arguments) whole
     status src.faults src'.faults out.faults out'.faults err.told err'.told err.faults err'.faults (s.refused other) calm in
     let ended : Late q r bytes e asks.spelled c status =

@@ -33,10 +33,10 @@ use Rattle.call_laws.proofs.ValuesOfCalls.{spelled_fits}
 use Rattle.call_laws.proofs.ValuesServed.{data_of_value, erased_value, value_exactly}
 
 module _ (q : Request) (e : RawEnv) (bytes : List ℕ) (words : List (List ℕ)) (left : Option (List ℕ)) (asks : AsksCall q e bytes words left) where
-  range : IsInRange q
+  pub range : IsInRange q
   range = requests_lie_in_range words q asks.asked.words_are
 
-  told : left ≡ Some bytes
+  pub told : left ≡ Some bytes
   told = tells q.job asks.job asks.asked.bytes_are
     where
       tells : (job : Job) → job ≡ Call → SourceTells job q left bytes → left ≡ Some bytes
@@ -81,14 +81,14 @@ module _ (q : Request) (e : RawEnv) (bytes : List ℕ) (words : List (List ℕ))
 module _ {S K E : Type 0} (status : ℕ) (words : List (List ℕ)) (reports : List Shown) (src src' : Seen S) (out out' : Seen K) (err err' : Seen E) (s : Served status words reports src src' out out' err err')
     (q : Request) (e : RawEnv) (bytes : List ℕ) (asks : AsksCall q e bytes words src.told) (h : HasArguments q.turns e bytes) where
   owed : (n : ℕ) (tree : Data) → ((x : CallErasing q.turns e) → CallEvaluatesTo x.program h.arguments tree n) → FitsShapes (answer_types h) 0 tree → AnswersCallData q e bytes h n tree status out.told out'.told
-  owed n tree data_of fits =
-      answers_data q e bytes words src.told asks h n tree data_of fits status out.told out'.told s.done
+  owed n tree data_of fit =
+      answers_data q e bytes words src.told asks h n tree data_of fit status out.told out'.told s.done
       (λ is.
           call_fifteen q e bytes words src.told asks.asked.words_are asks.job (told q e bytes words src.told asks) asks.spelled status src.faults src'.faults out.faults out'.faults err.told err'.told err.faults err'.faults
-          (s.refused (λ zero. fifteen status zero is)) is)
+          (s.refused (λ none. fifteen status none is)) is)
     where
       fifteen : (status : ℕ) → status ≡ 0 → status ≡ 15 → ⊥
-      fifteen status zero is = omega (arith, zero, is)
+      fifteen status none is = omega (arith, none, is)
 
   pub data_answered : (n : ℕ) (tree : Data) → HasCallData q.turns e bytes h n tree → AnswersCallData q e bytes h n tree status out.told out'.told
   data_answered n tree d = owed n tree (λ x. subst (λ P. CallEvaluatesTo P h.arguments tree n) (one_call_program q.turns e d.stages x) d.evaluates) d.fits

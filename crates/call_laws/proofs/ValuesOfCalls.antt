@@ -37,8 +37,8 @@ record Found (ks : List ShapeCtor) (c js_of : ℕ) (js : List ℕ) : Type 0 wher
   is : c ≡ js_of + number
   at : slice_get (map places ks) number ≡ Some js
 
-pair_is : (a b : ℕ) (x y : List ℕ) → Some (a, x) ≡ Some (b, y) → (a ≡ b) × (x ≡ y)
-pair_is a b x y e = let p : (a, x) ≡ (b, y) = one_is e in (λ i. (p i).0, λ i. (p i).1)
+pair_is : (o p : ℕ × List ℕ) → Some o ≡ Some p → (o.0 ≡ p.0) × (o.1 ≡ p.1)
+pair_is o p e = let same = one_is e in (ap (λ (z : ℕ × List ℕ). z.0) same, ap (λ (z : ℕ × List ℕ). z.1) same)
 
 found : (names : List (List ℕ)) (a : List ℕ) (n : ℕ) (ks : List ShapeCtor) (c : ℕ) (js : List ℕ) → ctor_from names a n ks ≡ Some (c, js) → Found ks c n js
 unfolding ctor_from
@@ -46,7 +46,7 @@ found names a n [] c js e = absurd cc
 found names a n (k ∷ ks) c js e =
     elim (cases_Bool (is_text a (slice_get names k.name.0))) [
       | inl h ↦
-          let (same, args) = pair_is n c k.args js (sym (ap (λ b. if b then Some (n, k.args) else ctor_from names a (suc n) ks) h) ∙ e) in
+          let (same, args) = pair_is (n, k.args) (c, js) (sym (ap (λ b. if b then Some (n, k.args) else ctor_from names a (suc n) ks) h) ∙ e) in
           record { number = 0; is = omega (arith, same); at = ap Some args }
       | inr h ↦
           let more = found names a (suc n) ks c js (sym (ap (λ b. if b then Some (n, k.args) else ctor_from names a (suc n) ks) h) ∙ e) in
