@@ -9,7 +9,7 @@ use Rattle.wasm_core.specs.ModuleTyping.{IsValid}
 use Rattle.wasm_core.specs.Runs.{store_of}
 use Rattle.wasm_core.specs.HostStore.{main_start_in}
 use Rattle.wasm_core.specs.Answer.{global_of, Answers, Exhausted, IsAtEnd}
-use Rattle.wasm_emit.specs.CallModule.{module_of_call}
+use Rattle.known_calls.specs.KnownCalls.{module_of_call}
 use Rattle.back_end.specs.BackEnd.{passed, IsWithinPasses}
 use Rattle.applied_terms.specs.CallEvaluation.{CallEvaluatesTo}
 use Rattle.call_answers.specs.HostedCall.{HoldsArguments}

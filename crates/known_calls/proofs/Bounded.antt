@@ -19,6 +19,7 @@ use Rattle.wasm_emit.specs.EmittedCode.{Load, StoreWord, ConstWord, IfWord, IfOn
 use Rattle.wasm_emit.specs.EmittedLocals.{top, top_op, top_branches}
 use Rattle.wasm_emit.specs.EmitLaws.{CountsFit}
 use Rattle.wasm_emit.proofs.Lengths.{bytes_of, size, u_2, z_unreachable, z_if, z_else, z_end, z_op, z_call, z_indirect, z_get, z_set, z_tee, z_heap, z_size, z_room, z_small, z_header, z_global, z_load, z_store, z_const}
+use Rattle.wasm_emit.proofs.Spelled.{Good, fits}
 use Rattle.known_calls.specs.KnownPlaces.{Word, InLocal, InField, IsConst, Place, At, fields_of, word_of, known_function, block_reads}
 use Rattle.known_calls.specs.KnownCode.{Position, Inside, InTail, deeper, worker_index, jumps, most_blocks, read_word, read, atom, push_words, fill, block, into_params, call_worker, application, choose, unmade, known, op, code, empties, heads}
 use Rattle.known_calls.specs.KnownModule.{captured_words}
@@ -26,15 +27,6 @@ use Rattle.known_calls.specs.KnownWeight.{op_weight, weight, branches_weight}
 use Rattle.known_calls.proofs.Unreading.{and_true, unmade_some}
 use Rattle.known_calls.proofs.SameLocals.{top_less}
 use Rattle.known_calls.proofs.Fitting.{WordFits, PlaceFits, fields_fit, word_fits, function_fits, known_fits}
-
--- instructions whose immediates have their bits
-pub data Good : List Instr → Type 0 where
-  good : Good []
-  fits : {i : Instr} {rest : List Instr} → IsInstr i → Good rest → Good (i ∷ rest)
-
-pub all_of : {is : List Instr} → Good is → All IsInstr is
-all_of good = tt
-all_of (fits h k) = (h, all_of k)
 
 -- at most k bytes in front of the rest
 pub record Bounded (k : ℕ) (g : List Instr → List Instr) : Type 0 where
@@ -179,7 +171,7 @@ module _ (P : Program) (m : ℕ) (form : Formed P m) (counts : CountsFit P m) (l
   b_choice (Some q) x y = x q refl
 
   mutual
-    b_op : (n d : ℕ) (ps : List Place) (at : Position) (x : Op) → top_op d x < 100000 → Near ps → OpFits P.functions (length P.constants) m n x → Bounded (op_weight x) (op P ps d at x)
+    pub b_op : (n d : ℕ) (ps : List Place) (at : Position) (x : Op) → top_op d x < 100000 → Near ps → OpFits P.functions (length P.constants) m n x → Bounded (op_weight x) (op P ps d at x)
     b_op n d ps at (OConst x) le h fit = b_call (constant_index P x) (omega (arith, limits.few, counts.constants, fit))
     b_op n d ps at (OApp f a) le h fit = b_application n ps at f a (known_function ps f) refl fit.0 fit.1 h
     b_op n d ps at (OCon c as') le h fit = let small = fit.0 in let few = fit.2 in b_block n d _ ps as' (omega arith) (omega (arith, small, few)) (omega (arith, few)) fit.3 h

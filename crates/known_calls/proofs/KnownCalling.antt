@@ -1,61 +1,42 @@
 -- Every run of a module with workers whose main takes arguments answers main's data, or is exhausted.
-use Rattle.std.proofs.Common.{◌≡◌, ℕ, suc, ◌+◌, ◌*◌, ◌<◌, ◌≤◌, List, [], ◌∷◌, max, Option, true, false, refl, ap, sym, subst, inl, inr, arith}
+use Rattle.std.proofs.Common.{ℕ, ◌+◌, ◌*◌, ◌<◌, ◌≤◌, List, [], ◌∷◌, max, Option, true, false, refl, ap, sym, subst, inl, inr, arith}
 use Rattle.std.specs.Prelude.{slice_get, ◌⊎◌}
 use Rattle.std.specs.Option.{option_and_then}
 use Rattle.wasm_core.specs.declared.types.ConstValue.TheVariants.{I32}
 use Rattle.wasm_core.specs.declared.instrs.Instr.TheVariants.{GlobalSet, End}
 use Rattle.wasm_core.specs.Parts.{Parts}
-use Rattle.wasm_core.specs.Memory.{word}
 use Rattle.wasm_core.specs.MachineStep.{State}
 use Rattle.wasm_core.specs.Entries.{from_nothing}
-use Rattle.wasm_core.specs.WordData.{IsBelow}
 use Rattle.wasm_core.specs.Answer.{Answers, Exhausted, IsAtEnd}
 use Rattle.wasm_core.specs.RunTree.{Fate, goes_on, ended, ran_out, now}
 use Rattle.wasm_core.proofs.Rules as rule
 use Rattle.wasm_core.proofs.Trees.{tree_tells}
-use Rattle.closure_lift.specs.Lifted.{Program, Val, Vals, size}
+use Rattle.closure_lift.specs.Lifted.{Program, Val, Vals}
 use Rattle.anf_convert.specs.AnfData.{DataTree, DataTrees}
-use Rattle.closure_lift.specs.LiftKeeps.{IsData, is_data, AreData, are_data_none, are_data_more}
+use Rattle.closure_lift.specs.LiftKeeps.{IsData, AreData}
 use Rattle.wasm_emit.specs.EmittedLocals.{top}
 use Rattle.wasm_emit.specs.EmittedModule.{type_main, main_index}
 use Rattle.wasm_emit.specs.CallModule.{call_globals, call_exports}
 use Rattle.wasm_emit.specs.EmitLaws.{Spent}
 use Rattle.anf_convert.specs.Preorder.{fields_of as count, preorder}
-use Rattle.wasm_emit.specs.CallLaws.{Stored, stored_odd, stored_block, FieldsStored, no_fields, last_field, ArgumentsStored, no_arguments, last_argument, IsHosted, hosted, call_start}
+use Rattle.wasm_emit.specs.CallLaws.{IsHosted, hosted, call_start}
 use Rattle.wasm_emit.proofs.Bytes.{Mem}
-use Rattle.wasm_emit.proofs.Values.{Stands, s_empty, s_con, Fields, no_field, field, ArgsAt, args_none, args_more}
 use Rattle.wasm_emit.proofs.Rules.{Limits, Within, zeros, looser}
 use Rattle.wasm_emit.proofs.Read.{reads, all_count}
 use Rattle.wasm_emit.proofs.Source.{Applies}
 use Rattle.wasm_emit.proofs.Staged.{staged_all}
 use Rattle.wasm_emit.proofs.Follows.{zeros_length}
 use Rattle.wasm_emit.proofs.Answering.{is_exhausted}
+use Rattle.wasm_emit.proofs.Calling.{args_of}
 use Rattle.known_calls.specs.KnownModule.{worker_type}
 use Rattle.known_calls.specs.KnownCalls.{applied, call_function, module_of_call}
-use Rattle.known_calls.specs.KnownLaws.{Finished, finished, CallsAnswer}
+use Rattle.known_calls.specs.KnownLaws.{FinishedWithin, finished, CallsAnswer}
 use Rattle.known_calls.proofs.KnownHolds.{stood_inside}
 use Rattle.known_calls.proofs.KnownIndices.{main_in, main_at}
 use Rattle.known_calls.proofs.KnownFollows.{applies}
 use Rattle.known_calls.proofs.KnownAnswering.{at_end, has_answered}
 
-mutual
-  stands_of : {m : Mem} {h w : ℕ} {v : Val} {d : DataTree} → IsData v d → Stored m h w d → Stands m h w v
-  stands_of (is_data are_data_none) (stored_odd lt e) = s_empty lt e
-  stands_of (is_data hs) (stored_block b within fs) = s_con b.quarter b.small b.aligned b.there (omega (arith, b.some, all_count hs)) (omega (arith, all_count hs)) (omega (arith, b.header, all_count hs)) (fields_of hs fs)
-
-  fields_of : {m : Mem} {h w : ℕ} {vs : Vals} {ds : DataTrees} → AreData vs ds → FieldsStored m h w ds → Fields m h w vs
-  fields_of are_data_none no_fields = no_field
-  fields_of {m} {h} {w} (are_data_more {v = v} {vs = vs} {ds = ds} x hs) (last_field s low fs) =
-      let same : word m (w + 4 * suc (count ds)) ≡ word m (w + 4 * suc (size vs)) = ap (λ n. word m (w + 4 * suc n)) (all_count hs) in
-      field (subst (λ z. Stands m h z v) same (stands_of x s)) (subst (IsBelow w) same low) (fields_of hs fs)
-
-args_of : {m : Mem} {h a : ℕ} {vs : Vals} {ds : DataTrees} → AreData vs ds → ArgumentsStored m h a ds → ArgsAt m h a vs
-args_of are_data_none no_arguments = args_none
-args_of {m} {h} {a} (are_data_more {v = v} {vs = vs} {ds = ds} x hs) (last_argument s within fs) =
-    let same : word m (a + 4 * count ds) ≡ word m (a + 4 * size vs) = ap (λ n. word m (a + 4 * n)) (all_count hs) in
-    args_more (subst (λ z. Stands m h z v) same (stands_of x s)) (omega (arith, within, all_count hs)) (args_of hs fs)
-
-ends : (m : Parts) (bytes frames least n : ℕ) (d : List (ℕ × ℕ)) (t : State) → Fate m frames (Finished m d bytes) (Spent m bytes) least n t → IsAtEnd m t → Answers m d t ⊎ Exhausted m t
+ends : (m : Parts) (bytes frames least n : ℕ) (d : List (ℕ × ℕ)) (t : State) → Fate m frames (FinishedWithin m d bytes) (Spent m bytes) least n t → IsAtEnd m t → Answers m d t ⊎ Exhausted m t
 ends m bytes frames least n d t (goes_on s u deep x y) last = absurd (last true s x)
 ends m bytes frames least n d t (ended q h) last = inl (has_answered m bytes d t q)
 ends m bytes frames least n d t (ran_out e) last = inr (is_exhausted m bytes t e)
@@ -63,12 +44,12 @@ ends m bytes frames least n d t (ran_out e) last = inr (is_exhausted m bytes t e
 -- the tree of all runs
 whole : (P : Program) (pages w m D : ℕ) (args : Vals) (ds : DataTrees) (v : Val) (d : DataTree) (c k b s : ℕ) (memory : Mem) (pages_now heap address : ℕ) → 0 < pages → pages ≤ 16384 → 0 < m → Applies P w m D args v c k b s → AreData args ds → IsData v d →
     IsHosted pages memory pages_now heap address ds →
-    Within (module_of_call P (count ds) pages) (record { frames = 2 * D + 1; bytes = heap + 4 * s; more = I32 address ∷ [] }) (Finished (module_of_call P (count ds) pages) (preorder d) (heap + 4 * s)) k (64 * (b + c + 1) * (w + m))
+    Within (module_of_call P (count ds) pages) (record { frames = 2 * D + 1; bytes = heap + 4 * s; more = I32 address ∷ [] }) (FinishedWithin (module_of_call P (count ds) pages) (preorder d) (heap + 4 * s)) k (64 * (b + c + 1) * (w + m))
     (call_start (record { type = type_main; body = call_function P (count ds) }) (hosted memory pages_now heap address))
 whole P pages w m D args ds v d c k b s memory pages_now heap address pos small some g are is host =
     let M = module_of_call P (count ds) pages in
     let cap : Limits = record { frames = 2 * D + 1; bytes = heap + 4 * s; more = I32 address ∷ [] } in
-    let Q = Finished M (preorder d) (heap + 4 * s) in
+    let Q = FinishedWithin M (preorder d) (heap + 4 * s) in
     let n = max 2 (top 0 P.main) in
     let y = applies P (call_function P (count ds)) call_globals call_exports pages small w m some cap Q {a = address} refl g memory pages_now heap (zeros n)
     (record { long = host.whole; q = host.quarter; aligned = host.aligned; above = host.above; fits = omega (arith, host.inside, host.whole); inside = host.inside; tight = host.fewest; pages = host.most_pages }) host.zero (args_of are host.arguments)
@@ -92,6 +73,6 @@ calls_answer P pages w m args ds v d c k b s memory pages_now heap address pos s
       exported = ap (λ (o : Option ℕ). option_and_then (λ index. option_and_then (λ t. from_nothing t.params t.result (main_index P)) (slice_get M.types index)) o) (main_in P (λ g f. 2) (λ t. 1) 0 (λ g f. worker_type f));
       is = main_at P (call_function P (count ds)) call_globals call_exports pages;
       depth = 2 * y.D;
-      run = λ n t r. tree_tells M (2 * y.D + 1) k (64 * (b + c + 1) * (w + m)) (Finished M (preorder d) (heap + 4 * s)) (Spent M (heap + 4 * s)) first (at_end M (heap + 4 * s) (preorder d)) tree n t r;
-      answers = λ n t r last. ends M (heap + 4 * s) (2 * y.D + 1) k n (preorder d) t (tree_tells M (2 * y.D + 1) k (64 * (b + c + 1) * (w + m)) (Finished M (preorder d) (heap + 4 * s)) (Spent M (heap + 4 * s)) first (at_end M (heap + 4 * s) (preorder d)) tree n t r).1 last;
+      run = λ n t r. tree_tells M (2 * y.D + 1) k (64 * (b + c + 1) * (w + m)) (FinishedWithin M (preorder d) (heap + 4 * s)) (Spent M (heap + 4 * s)) first (at_end M (heap + 4 * s) (preorder d)) tree n t r;
+      answers = λ n t r last. ends M (heap + 4 * s) (2 * y.D + 1) k n (preorder d) t (tree_tells M (2 * y.D + 1) k (64 * (b + c + 1) * (w + m)) (FinishedWithin M (preorder d) (heap + 4 * s)) (Spent M (heap + 4 * s)) first (at_end M (heap + 4 * s) (preorder d)) tree n t r).1 last;
     }

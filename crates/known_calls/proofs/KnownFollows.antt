@@ -23,14 +23,14 @@ use Rattle.closure_lift.specs.Lifted.{Op, OConst, OApp, OCon, OClos, OCase, Bloc
 use Rattle.wasm_emit.specs.EmitLaws.{Spent}
 use Rattle.wasm_emit.specs.EmittedLocals.{top, top_op}
 use Rattle.wasm_emit.proofs.Source.{Applies, applies_alone, applies_more, Is, AllAre, Does, do_const, do_app, do_box_app, do_con, do_clos, do_case, Gets, gets_atom, gets_let_atom, gets_ret, gets_let}
-use Rattle.wasm_emit.proofs.Bytes.{Mem, word_same}
+use Rattle.wasm_emit.proofs.Bytes.{Mem}
 use Rattle.wasm_emit.proofs.Values.{ArgsAt, args_more, Stands, s_box, s_empty, s_con, s_clos, Fields, no_field, field}
 use Rattle.wasm_emit.proofs.Holds.{args_on, Same, Keeps, keeps_trans, keeps_same, keeps_set, set_this, stands_on}
 use Rattle.wasm_emit.proofs.Rules.{Limits, Within, here, callee, in_block, zeros, looser, r_const, r_get, r_set, r_load, r_end, r_back, r_return, r_call_0, r_indirect}
 use Rattle.wasm_emit.proofs.Alloc.{Room, HasRunTime}
 use Rattle.wasm_emit.proofs.Making.{all_size}
 use Rattle.wasm_emit.proofs.Cases.{at_zero}
-use Rattle.wasm_emit.proofs.Follows.{zeros_length, branch_top}
+use Rattle.wasm_emit.proofs.Follows.{zeros_length, branch_top, append_nil, closure, box_word, low_word, top_arg}
 use Rattle.known_calls.specs.KnownPlaces.{Word, InLocal, Place, At, Known, fields_of, known_function, names, branches_read, block_reads}
 use Rattle.known_calls.specs.KnownCode.{Position, Inside, InTail, is_wide, into_params, worker_index, most_blocks, jumps, application, call_worker, choose, unmade, known, op, code, empties, heads}
 use Rattle.known_calls.specs.KnownModule.{params, captured_words, module_with}
@@ -47,10 +47,6 @@ use Rattle.known_calls.proofs.Jumping.{r_br_out}
 use Rattle.known_calls.proofs.Working.{params_env, params_made, set_all, set_all_length, set_params_env, in_loop, same_around, r_call_words, r_params, loaded}
 use Rattle.known_calls.proofs.Shapes.{shaped_heads}
 
-append_nil : (vs : Vals) → vs +v VNil ≡ vs
-append_nil VNil = refl
-append_nil (VCons v vs) = ap (VCons v) (append_nil vs)
-
 -- the fields of a block are places
 fields_env : {m : Mem} {h : ℕ} {ls : List ConstValue} {d : ℕ} {ps : List Place} {e : Vals} {vs : Vals} (x w : ℕ) → x < d → slice_get ls x ≡ Some (I32 w) → w + 4 * suc (size vs) ≤ h → Fields m h w vs → Env m h ls d ps e → Env m h ls d (fields_of x (size vs) ps) (vs +v e)
 fields_env x w lt at within no_field env = env
@@ -62,24 +58,6 @@ fields_made : (x n i g : ℕ) (ws : List Word) → slice_get (fields_of x n []) 
 fields_made x zero i g ws e = cc
 fields_made x (suc n) zero g ws e = cc
 fields_made x (suc n) (suc i) g ws e = fields_made x n i g ws e
-
--- what the word of a closure says
-record Closure (m : Mem) (h w g : ℕ) (vs : Vals) : Type 0 where
-  within : w + 4 * suc (size vs) ≤ h
-  head : word m w ≡ suc g
-  fields : Fields m h w vs
-
-closure : {m : Mem} {h w g : ℕ} {vs : Vals} → Stands m h w (VClos g vs) → Closure m h w g vs
-closure (s_clos q lt e pos within head fs) = record { within = within; head = head; fields = fs }
-
-box_word : {m : Mem} {h w : ℕ} → Stands m h w VBox → w ≡ 0
-box_word (s_box e) = e
-
-low_word : {M : Parts} (m m' : Mem) {p h : ℕ} → Room M m p h → Same h m m' → word m 0 ≡ 0 → word m' 0 ≡ 0
-low_word m m' room same nil = word_same m m' 0 (λ x a b. same x (omega (arith, room.above))) ∙ nil
-
-top_arg : {m : Mem} {l a : ℕ} {v : Val} {vs : Vals} → ArgsAt m l a (VCons v vs) → Stands m l (word m (a + 4 * size vs)) v
-top_arg (args_more h within args) = h
 
 module _ (P : Program) (main : Body) (gs : List GlobalDef) (es : List Export) (pages : ℕ) (small : pages ≤ 16384) (W N : ℕ) (some : 0 < N) (cap : Limits) (Q : State → Type 0) where
   abbrev M : Parts

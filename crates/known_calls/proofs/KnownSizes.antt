@@ -1,22 +1,19 @@
 -- How long the bytes of a module with workers are.
-use Rattle.std.proofs.Common.{◌≡◌, ℕ, suc, ◌+◌, ◌-◌, ◌*◌, ◌≤◌, List, [], ◌∷◌, ◌++◌, length, length-append, map, Some, Bool, true, false, refl, subst, arith}
-use Rattle.std.specs.Prelude.{slice_get, codes, if◌then◌else◌}
+use Rattle.std.proofs.Common.{◌≡◌, ℕ, suc, ◌+◌, ◌-◌, ◌*◌, ◌≤◌, List, [], ◌∷◌, ◌++◌, length, map, Some, Bool, true, false, refl, subst, arith}
+use Rattle.std.specs.Prelude.{slice_get, if◌then◌else◌}
 use Rattle.wasm_core.specs.declared.types.ValType.TheVariants.{I32}
 use Rattle.wasm_core.specs.declared.instrs.BlockType.TheVariants.{Value}
 use Rattle.wasm_core.specs.declared.instrs.Instr.TheVariants.{Unreachable, Loop, End, GlobalSet}
 use Rattle.wasm_core.specs.declared.instrs.Body.{Body}
-use Rattle.wasm_core.specs.declared.exports.Export.{Export}
-use Rattle.wasm_core.specs.declared.exports.ExportKind.TheVariants as kind
-use Rattle.wasm_core.specs.Parts.{Parts}
-use Rattle.wasm_core.specs.ShortestBytes.{put_u32, put_all, put_list, put_body, put_section, put_segment, put_sections, put_func_type, put_table_type, put_limits, put_global, put_export, kind_code, put_instr, unsigned, signed, sizes, module_bytes}
+use Rattle.wasm_core.specs.ShortestBytes.{put_u32, put_all, put_body, put_section, put_segment, put_func_type, put_table_type, put_limits, put_global, put_export, put_instr, unsigned, sizes}
 use Rattle.closure_lift.specs.Lifted.{Op, OConst, OApp, OCon, OClos, OCase, Block, RetAtom, LetAtom, Ret, Let, BranchBlocks, BNil, BCons, Program, Fn}
 use Rattle.closure_lift.specs.LiftedForm.{Formed, Limits}
-use Rattle.wasm_emit.specs.EmittedCode.{ConstWord}
-use Rattle.wasm_emit.specs.EmittedModule.{type_main, type_constant, type_function, word_global, body, room_code, main_index, entries}
+use Rattle.wasm_emit.specs.EmittedModule.{type_main, type_constant, type_function, body, entries}
 use Rattle.wasm_emit.specs.EmittedLocals.{top, top_op, top_branches}
 use Rattle.wasm_emit.specs.EmitLaws.{CountsFit}
 use Rattle.wasm_emit.proofs.Indices.{entries_length}
-use Rattle.wasm_emit.proofs.Lengths.{u_any, s_any, size, z_end, z_global, body_size}
+use Rattle.wasm_emit.proofs.Lengths.{u_any, size, z_end, z_global, body_size}
+use Rattle.wasm_emit.proofs.Sized.{no_bytes, section_size, items_size, globals_size, table_size, memory_size, exports_size, segment_size, first_bodies, header_size}
 use Rattle.known_calls.specs.KnownPlaces.{At, InLocal, fields_of}
 use Rattle.known_calls.specs.KnownCode.{Inside, is_wide, code}
 use Rattle.known_calls.specs.KnownModule.{words_type, wide_body, stub_code, entry, worker_code, worker, worker_type, numbered, constant, main_function, module_of}
@@ -25,27 +22,9 @@ use Rattle.known_calls.proofs.KnownIndices.{narrow_few, order_length}
 use Rattle.known_calls.proofs.Bounded.{b_code}
 use Rattle.known_calls.proofs.KnownSpelling.{b_stub, b_wide, b_loop_of}
 
-no_bytes : size [] ≡ 0
-unfolding put_all
-no_bytes = refl
-
 trap_size : size (Unreachable ∷ End ∷ []) ≤ 2
 unfolding put_all put_instr
 trap_size = omega arith
-
--- a section: its id, its size, its count, and its items
-section_size : {A : Type 0} (id : ℕ) (one : A → List ℕ → List ℕ) (xs : List A) (w : List ℕ) → length (put_section id one xs w) ≤ 11 + length (put_all one xs []) + length w
-unfolding put_section
-section_size id one [] w = omega arith
-section_size id one (x ∷ xs) w =
-    let part = put_list one (x ∷ xs) [] in
-    omega (arith, u_any 5 (length part) (part ++ w), length-append part w, u_any 5 (length (x ∷ xs)) (put_all one (x ∷ xs) []))
-
--- items of at most k bytes each
-items_size : {A : Type 0} (k : ℕ) (one : A → List ℕ → List ℕ) (xs : List A) (w : List ℕ) → ((x : A) (w : List ℕ) → length (one x w) ≤ k + length w) → length (put_all one xs w) ≤ k * length xs + length w
-unfolding put_all
-items_size k one [] w h = omega arith
-items_size k one (x ∷ xs) w h = omega (arith, h x (put_all one xs w), items_size k one xs w h)
 
 -- the bodies
 module _ (P : Program) (m : ℕ) (form : Formed P m) (counts : CountsFit P m) (limits : Limits P) where
@@ -120,64 +99,13 @@ module _ (P : Program) (m : ℕ) (form : Formed P m) (counts : CountsFit P m) (l
   constants_size [] bs w h = omega arith
   constants_size (t ∷ ts) bs w h = omega (arith, h 0 t (put_all put_body (map (constant P) ts ++ bs) w) refl, constants_size ts bs w (λ i t w e. h (suc i) t w e))
 
--- the parts that are the same in all modules
-room_size : size room_code ≤ 100
-unfolding put_all put_instr unsigned signed
-room_size = omega arith
-
-box_size : size (ConstWord 0 ∷ End ∷ []) ≤ 10
-unfolding put_all put_instr unsigned signed
-box_size = omega arith
-
 types_size : length (put_all put_func_type (type_main ∷ type_constant ∷ type_function ∷ words_type 0 ∷ words_type 1 ∷ words_type 2 ∷ words_type 3 ∷ words_type 4 ∷ words_type 5 ∷ words_type 6 ∷ words_type 7 ∷ []) []) ≤ 140
 unfolding put_all put_func_type unsigned
 types_size = omega arith
 
-globals_size : length (put_all put_global (word_global 0 ∷ word_global 0 ∷ word_global 8 ∷ []) []) ≤ 30
-unfolding put_all put_global signed
-globals_size = omega arith
-
--- with one number each
-limits_size : (lo hi : ℕ) (w : List ℕ) → length (put_limits (record { min = lo; max = Some hi }) w) ≤ 11 + length w
-unfolding put_limits
-limits_size lo hi w = omega (arith, u_any 5 lo (put_u32 hi w), u_any 5 hi w)
-
-table_size : (n : ℕ) → length (put_all put_table_type (record { min = n; max = Some n } ∷ []) []) ≤ 12
-unfolding put_all put_table_type
-table_size n = omega (arith, limits_size n n [])
-
-memory_size : (n : ℕ) → length (put_all put_limits (record { min = 1; max = Some n } ∷ []) []) ≤ 11
-unfolding put_all
-memory_size n = limits_size 1 n []
-
-export_size : (e : Export) (w : List ℕ) → length (put_export e w) ≤ 11 + length e.name + length w
-unfolding put_export
-export_size e w = omega (arith, u_any 5 (length e.name) (e.name ++ (kind_code e.kind ∷ put_u32 e.index w)), length-append e.name (kind_code e.kind ∷ put_u32 e.index w), u_any 5 e.index w)
-
-exports_size : (P : Program) (pages : ℕ) → length (put_all put_export (module_of P pages).exports []) ≤ 68
-unfolding put_all
-exports_size P pages =
-    let e3 : Export = record { name = codes "status"; kind = kind.Global; index = 1 } in
-    let e2 : Export = record { name = codes "result"; kind = kind.Global; index = 0 } in
-    let e1 : Export = record { name = codes "memory"; kind = kind.Memory; index = 0 } in
-    let e0 : Export = record { name = codes "main"; kind = kind.Func; index = main_index P } in
-    omega (arith, export_size e3 [], export_size e2 (put_export e3 []), export_size e1 (put_export e2 (put_export e3 [])), export_size e0 (put_export e1 (put_export e2 (put_export e3 []))))
-
-segment_size : (n : ℕ) (fs : List ℕ) → length (put_all put_segment (record { offset = n; funcs = fs } ∷ []) []) ≤ 13 + 5 * length fs
-unfolding put_all put_segment
-segment_size n fs = omega (arith, s_any 5 32 n (11 ∷ put_list put_u32 fs []), u_any 5 (length fs) (put_all put_u32 fs []), items_size 5 put_u32 fs [] (λ x w. u_any 5 x w))
-
-first_bodies : (bs : List Body) → length (put_all put_body (body 0 room_code ∷ body 0 (ConstWord 0 ∷ End ∷ []) ∷ bs) []) ≤ 144 + length (put_all put_body bs [])
-unfolding put_all
-first_bodies bs = omega (arith, body_size 0 room_code (put_body (body 0 (ConstWord 0 ∷ End ∷ [])) (put_all put_body bs [])), room_size, body_size 0 (ConstWord 0 ∷ End ∷ []) (put_all put_body bs []), box_size)
-
 main_body : (b : Body) (bs : List Body) → length (put_all put_body (b ∷ bs) []) ≡ length (put_body b (put_all put_body bs []))
 unfolding put_all
 main_body b bs = refl
-
-header_size : (m : Parts) → length (module_bytes m) ≡ 8 + length (put_sections m [])
-unfolding module_bytes
-header_size m = omega arith
 
 pub known_sized : KnownSized
 known_sized P pages m form limits counts =

@@ -1,38 +1,39 @@
 -- The numbers of a module with workers fit its format, so that bytes can spell it.
-use Rattle.std.proofs.Common.{◌≡◌, ℕ, zero, suc, ◌+◌, ◌-◌, ◌≤◌, List, [], ◌∷◌, ◌++◌, map, replicate, Some, Bool, true, false, refl, arith, subst}
+use Rattle.std.proofs.Common.{◌≡◌, ℕ, zero, suc, ◌+◌, ◌-◌, ◌<◌, ◌≤◌, List, [], ◌∷◌, ◌++◌, max, Some, Bool, true, false, refl, arith, subst}
 use Rattle.std.specs.Prelude.{slice_get, if◌then◌else◌}
-use Rattle.std.proofs.lemmas.List.{length-replicate}
 use Rattle.std.proofs.lemmas.Option.{slice_get_within}
-use Rattle.wasm_core.specs.declared.types.ValType.{ValType}
 use Rattle.wasm_core.specs.declared.types.ValType.TheVariants.{I32}
 use Rattle.wasm_core.specs.declared.instrs.BlockType.TheVariants.{Value}
 use Rattle.wasm_core.specs.declared.instrs.Instr.{Instr}
 use Rattle.wasm_core.specs.declared.instrs.Instr.TheVariants.{Unreachable, Loop, End, Call, LocalGet, GlobalSet}
 use Rattle.wasm_core.specs.Parts.{Parts}
-use Rattle.wasm_core.specs.ModuleTyping.{TypedFunc, results_of}
-use Rattle.wasm_core.specs.ModuleCondition.{All, IsU32, IsBody}
-use Rattle.wasm_core.proofs.Closed.{typed_is_closed}
-use Rattle.closure_lift.specs.Lifted.{Block, Fn, Program}
+use Rattle.wasm_core.specs.ModuleTyping.{TypedFunc}
+use Rattle.wasm_core.specs.declared.instrs.Body.{Body}
+use Rattle.wasm_core.specs.declared.types.GlobalDef.{GlobalDef}
+use Rattle.wasm_core.specs.declared.exports.Export.{Export}
+use Rattle.wasm_core.specs.ModuleCondition.{All, IsU32, IsBody, IsModule}
+use Rattle.anf_convert.specs.declared.program.Atom.TheVariants.{Var as AVar}
+use Rattle.closure_lift.specs.Lifted.{OApp, Block, Fn, Program}
 use Rattle.closure_lift.specs.LiftedForm.{Formed, Limits}
 use Rattle.wasm_emit.specs.EmittedCode.{ConstWord}
 use Rattle.wasm_emit.specs.EmittedLocals.{top}
 use Rattle.wasm_emit.specs.EmittedModule.{body, room_code}
+use Rattle.wasm_emit.specs.EmittedModule as emitted
+use Rattle.wasm_emit.specs.CallModule.{call_globals, call_exports}
+use Rattle.wasm_emit.specs.CallModule as emitted_call
 use Rattle.wasm_emit.specs.EmitLaws.{CountsFit}
-use Rattle.wasm_emit.proofs.Spelled.{emit_spelled}
+use Rattle.wasm_emit.proofs.Spelled.{Good, good, fits, all_then, body_fits, room_good, emit_spelled, call_spelled}
 use Rattle.known_calls.specs.KnownPlaces.{At, InLocal, fields_of}
 use Rattle.known_calls.specs.KnownCode.{Inside, InTail, is_wide, worker_index, code}
-use Rattle.known_calls.specs.KnownModule.{params, captured_words, wide_body, stub_code, entry, worker_code, worker, worker_type, numbered, constant, main_function, module_of}
+use Rattle.known_calls.specs.KnownModule.{params, captured_words, wide_body, stub_code, entry, worker_code, worker, worker_type, numbered, constant, main_function, module_with, module_of}
+use Rattle.known_calls.specs.KnownCalls.{applied, call_function, module_of_call}
 use Rattle.known_calls.specs.KnownLaws.{KnownSpelled}
 use Rattle.known_calls.specs.KnownWeight.{weight}
 use Rattle.known_calls.proofs.SameLocals.{worker_top}
 use Rattle.known_calls.proofs.Fitting.{fields_fit, params_fit}
 use Rattle.known_calls.proofs.KnownIndices.{narrow_few, order_length}
-use Rattle.known_calls.proofs.KnownValidity.{entry_typed, worker_typed, constant_typed, main_typed, box_typed, room_typed}
-use Rattle.known_calls.proofs.Bounded.{Good, good, fits, all_of, Bounded, ◌then◌, b_most, b_get, b_call, b_end, b_loop, b_captured, b_code}
-
-all_then : {A B : Type 0} (Q : B → Type 0) (h : A → B) (xs : List A) (bs : List B) → ((i : ℕ) (x : A) → slice_get xs i ≡ Some x → Q (h x)) → All Q bs → All Q (map h xs ++ bs)
-all_then Q h [] bs a r = r
-all_then Q h (x ∷ xs) bs a r = (a zero x refl, all_then Q h xs bs (λ i y e. a (suc i) y e) r)
+use Rattle.known_calls.proofs.KnownValidity.{entry_typed, worker_typed, constant_typed, main_typed, call_typed, box_typed, room_typed}
+use Rattle.known_calls.proofs.Bounded.{Bounded, ◌then◌, b_most, b_get, b_call, b_end, b_loop, b_captured, b_op, b_code}
 
 numbered_then : {B : Type 0} (Q : B → Type 0) (h : ℕ → Fn → B) (from : ℕ) (fs : List Fn) (bs : List B) → ((g j : ℕ) (x : Fn) → slice_get fs g ≡ Some x → j ≡ from + g → Q (h j x)) → All Q bs → All Q (numbered h from fs ++ bs)
 numbered_then Q h from [] bs a r = r
@@ -41,13 +42,6 @@ numbered_then Q h from (x ∷ xs) bs a r = (a zero from x refl (omega arith), nu
 numbered_all : {B : Type 0} (Q : B → Type 0) (h : ℕ → Fn → B) (from : ℕ) (fs : List Fn) → ((g j : ℕ) (x : Fn) → slice_get fs g ≡ Some x → j ≡ from + g → Q (h j x)) → All Q (numbered h from fs)
 numbered_all Q h from [] a = tt
 numbered_all Q h from (x ∷ xs) a = (a zero from x refl (omega arith), numbered_all Q h (suc from) xs (λ g j y at is. a (suc g) j y at (omega arith)))
-
--- a typed body whose immediates fit
-body_fits : (M : Parts) (index n : ℕ) (is : List Instr) → n ≤ 50000 → TypedFunc M index (record { locals = replicate n I32; code = is }) → Good is → IsBody (record { locals = replicate n I32; code = is })
-body_fits M index n is few t all = (omega (arith, length-replicate {A = ValType} n I32), typed_is_closed M (t.type.params ++ replicate n I32) (results_of t.type) is t.typed (all_of all))
-
-room_good : Good room_code
-room_good = fits (omega arith) (fits tt (fits (omega arith) (fits tt (fits (omega arith) (fits (omega arith) (fits tt (fits tt (fits tt (fits tt good)))))))))
 
 -- the code of an entry's stub, of the body of a function without a worker, and of a worker
 module _ (P : Program) (m : ℕ) (form : Formed P m) (counts : CountsFit P m) (limits : Limits P) (g : ℕ) (fn : Fn) (at : slice_get P.functions g ≡ Some fn) where
@@ -66,19 +60,20 @@ module _ (P : Program) (m : ℕ) (form : Formed P m) (counts : CountsFit P m) (l
       (suc fn.captured) (omega (arith, low)))
       (form.functions g fn at) then (b_end then b_end)))
 
-module _ (P : Program) (pages m : ℕ) (form : Formed P m) (counts : CountsFit P m) (limits : Limits P) where
+-- a module whose main fits
+module _ (P : Program) (main : Body) (gs : List GlobalDef) (es : List Export) (pages m : ℕ) (form : Formed P m) (counts : CountsFit P m) (limits : Limits P) where
   abbrev M : Parts
-  M = module_of P pages
+  M = module_with P main gs es pages
 
   entry_fits : (g : ℕ) (fn : Fn) → slice_get P.functions g ≡ Some fn → IsBody (entry P g fn)
-  entry_fits g fn at = either (is_wide fn) refl (entry_typed P m form (main_function P) [] [] pages g fn at)
+  entry_fits g fn at = either (is_wide fn) refl (entry_typed P m form main gs es pages g fn at)
     where
       either : (b : Bool) → is_wide fn ≡ b → TypedFunc M 2 (if b then wide_body P fn else body 0 (stub_code P g fn.captured)) → IsBody (if b then wide_body P fn else body 0 (stub_code P g fn.captured))
       either true wide t = body_fits M 2 (top 2 fn.body - 2) (code P (At (InLocal 1) ∷ fields_of 0 fn.captured []) 2 Inside fn.body (End ∷ [])) (counts.functions g fn at) t ((b_wide P m form counts limits g fn at).spelled good)
       either false narrow t = body_fits M 2 0 (stub_code P g fn.captured) (omega arith) t ((b_stub P m form counts limits g fn at (narrow_few fn narrow)).spelled good)
 
   worker_fits : (g : ℕ) (fn : Fn) → slice_get P.functions g ≡ Some fn → IsBody (worker P g fn)
-  worker_fits g fn at = either (is_wide fn) refl (worker_typed P m form (main_function P) [] [] pages g fn at)
+  worker_fits g fn at = either (is_wide fn) refl (worker_typed P m form main gs es pages g fn at)
     where
       either : (b : Bool) → is_wide fn ≡ b → TypedFunc M (worker_type fn) (if b then body 0 (Unreachable ∷ End ∷ []) else body (top 2 fn.body - 2) (Loop (Value I32) ∷ worker_code P g fn)) →
           IsBody (if b then body 0 (Unreachable ∷ End ∷ []) else body (top 2 fn.body - 2) (Loop (Value I32) ∷ worker_code P g fn))
@@ -87,13 +82,8 @@ module _ (P : Program) (pages m : ℕ) (form : Formed P m) (counts : CountsFit P
 
   constant_fits : (x : ℕ) (t : Block) → slice_get P.constants x ≡ Some t → IsBody (constant P t)
   constant_fits x t at =
-      body_fits M 1 (top 0 t) (code P [] 0 Inside t (End ∷ [])) (counts.bodies x t at) (constant_typed P m form (main_function P) [] [] pages t (form.constants x t at))
+      body_fits M 1 (top 0 t) (code P [] 0 Inside t (End ∷ [])) (counts.bodies x t at) (constant_typed P m form main gs es pages t (form.constants x t at))
       ((b_code P m form counts limits 0 0 [] Inside t (omega (arith, counts.bodies x t at)) tt (form.constants x t at)).spelled (fits tt good))
-
-  main_fits : IsBody (main_function P)
-  main_fits =
-      body_fits M 0 (top 0 P.main) (code P [] 0 Inside P.main (GlobalSet 0 ∷ End ∷ [])) counts.main (main_typed P m form (main_function P) [] [] pages)
-      ((b_code P m form counts limits 0 0 [] Inside P.main (omega (arith, counts.main)) tt form.main).spelled (fits (omega arith) (fits tt good)))
 
   same_number : (g j : ℕ) (x : Fn) → slice_get P.functions g ≡ Some x → j ≡ 0 + g → slice_get P.functions j ≡ Some x
   same_number g j x at is = let z : g ≡ j = omega arith in subst (λ (i : ℕ). slice_get P.functions i ≡ Some x) z at
@@ -105,17 +95,17 @@ module _ (P : Program) (pages m : ℕ) (form : Formed P m) (counts : CountsFit P
       either true wide = omega arith
       either false narrow = omega (arith, narrow_few fn narrow)
 
-  pub all_bodies : All IsBody M.bodies
-  all_bodies = (
-    body_fits M 0 0 room_code (omega arith) (room_typed P m form (main_function P) [] [] pages) room_good,
+  all_bodies : IsBody main → All IsBody M.bodies
+  all_bodies main_fits = (
+    body_fits M 0 0 room_code (omega arith) (room_typed P m form main gs es pages) room_good,
     (
-      body_fits M 2 0 (ConstWord 0 ∷ End ∷ []) (omega arith) (box_typed P m form (main_function P) [] [] pages) (fits (omega arith) (fits tt good)),
+      body_fits M 2 0 (ConstWord 0 ∷ End ∷ []) (omega arith) (box_typed P m form main gs es pages) (fits (omega arith) (fits tt good)),
       numbered_then IsBody (entry P) 0 P.functions _ (λ g j x at is. entry_fits j x (same_number g j x at is))
           (all_then IsBody (constant P) P.constants _ (λ i t at. constant_fits i t at) (main_fits, numbered_all IsBody (worker P) 0 P.functions (λ g j x at is. worker_fits j x (same_number g j x at is)))),
     ),
   )
 
-  pub all_types : All IsU32 M.funcs
+  all_types : All IsU32 M.funcs
   all_types = (
     omega arith,
     (
@@ -124,19 +114,40 @@ module _ (P : Program) (pages m : ℕ) (form : Formed P m) (counts : CountsFit P
     ),
   )
 
+  -- where the rest is that of a module that fits
+  with_spelled : (other : Body) → IsModule (emitted.module_with P other gs es pages) → IsBody main → IsModule M
+  with_spelled other old last =
+      let size = order_length {A = ℕ} P (λ g f. 2) (λ t. 1) 0 (λ g f. worker_type f) in
+      let bodies = order_length P (entry P) (constant P) main (worker P) in
+      record {
+        types = (omega arith, (omega arith, (omega arith, (omega arith, (omega arith, (omega arith, (omega arith, (omega arith, (omega arith, (omega arith, (omega arith, (omega arith, tt))))))))))));
+        funcs = (omega (arith, size, limits.few, counts.constants), all_types);
+        table = old.table;
+        memory = old.memory;
+        globals = old.globals;
+        exports = old.exports;
+        elements = old.elements;
+        bodies = (omega (arith, bodies, limits.few, counts.constants), all_bodies last);
+        whole = omega (arith, size, bodies);
+      }
+
 pub known_spelled : KnownSpelled
 known_spelled P pages m pos small form limits counts =
-    let old = emit_spelled P pages m pos small form limits counts in
-    let size = order_length {A = ℕ} P (λ g f. 2) (λ t. 1) 0 (λ g f. worker_type f) in
-    let bodies = order_length P (entry P) (constant P) (main_function P) (worker P) in
-    record {
-      types = (omega arith, (omega arith, (omega arith, (omega arith, (omega arith, (omega arith, (omega arith, (omega arith, (omega arith, (omega arith, (omega arith, (omega arith, tt))))))))))));
-      funcs = (omega (arith, size, limits.few, counts.constants), all_types P pages m form counts limits);
-      table = old.table;
-      memory = old.memory;
-      globals = old.globals;
-      exports = old.exports;
-      elements = old.elements;
-      bodies = (omega (arith, bodies, limits.few, counts.constants), all_bodies P pages m form counts limits);
-      whole = omega (arith, size, bodies);
-    }
+    let last : IsBody (main_function P) =
+    body_fits (module_of P pages) 0 (top 0 P.main) (code P [] 0 Inside P.main (GlobalSet 0 ∷ End ∷ [])) counts.main (main_typed P m form (main_function P) [] [] pages)
+    ((b_code P m form counts limits 0 0 [] Inside P.main (omega (arith, counts.main)) tt form.main).spelled (fits (omega arith) (fits tt good))) in
+    with_spelled P (main_function P) [] [] pages m form counts limits (emitted.main_function P) (emit_spelled P pages m pos small form limits counts) last
+
+-- main applied to so many arguments
+f_applied : (P : Program) (m : ℕ) (form : Formed P m) (counts : CountsFit P m) (limits : Limits P) (k : ℕ) {rest : List Instr} → k ≤ 255 → Good rest → Good (applied P k rest)
+f_applied P m form counts limits zero few h = (b_code P m form counts limits 0 0 [] Inside P.main (omega (arith, counts.main)) tt form.main).spelled h
+f_applied P m form counts limits (suc n) few h =
+    f_applied P m form counts limits n (omega arith) (fits (omega arith) (fits (omega arith) (fits (omega arith, omega arith) (fits (omega arith)
+    ((b_op P m form counts limits 2 2 (At (InLocal 1) ∷ At (InLocal 0) ∷ []) Inside (OApp (AVar 1) (AVar 0)) (omega arith) (omega arith, (omega arith, tt)) (omega arith, omega arith)).spelled h)))))
+
+pub known_call_spelled : (P : Program) (k pages m : ℕ) → k ≤ 255 → 0 < pages → pages ≤ 16384 → Formed P m → Limits P → CountsFit P m → IsModule (module_of_call P k pages)
+known_call_spelled P k pages m few pos small form limits counts =
+    let last : IsBody (call_function P k) =
+    body_fits (module_of_call P k pages) 0 (max 2 (top 0 P.main)) (applied P k (GlobalSet 0 ∷ End ∷ [])) (omega (arith, counts.main)) (call_typed P m form k pages)
+    (f_applied P m form counts limits k few (fits (omega arith) (fits tt good))) in
+    with_spelled P (call_function P k) call_globals call_exports pages m form counts limits (emitted_call.call_function P k) (call_spelled P k pages m few pos small form limits counts) last

@@ -1,20 +1,16 @@
 -- The functions of a module with workers set the status only from a test of a grow, so every run is honest.
-use Rattle.std.proofs.Common.{◌≡◌, ℕ, zero, suc, ◌-◌, List, [], ◌∷◌, ◌++◌, map, Option, Some, Bool, true, false, refl, ap, sym, ◌∙◌, subst, arith}
+use Rattle.std.proofs.Common.{◌≡◌, ℕ, zero, suc, ◌-◌, List, [], ◌∷◌, ◌++◌, map, Some, Bool, true, false, refl, ap, sym, ◌∙◌, subst, arith}
 use Rattle.std.specs.Prelude.{slice_get, if◌then◌else◌}
-use Rattle.std.specs.Option.{option_and_then}
 use Rattle.wasm_core.specs.declared.types.ValType.TheVariants as type
-use Rattle.wasm_core.specs.declared.types.FuncType.{FuncType}
 use Rattle.wasm_core.specs.declared.types.ConstValue.{ConstValue}
-use Rattle.wasm_core.specs.declared.types.ConstValue.TheVariants.{I32, I64}
+use Rattle.wasm_core.specs.declared.types.ConstValue.TheVariants.{I32}
 use Rattle.wasm_core.specs.declared.types.GlobalDef.{GlobalDef}
 use Rattle.wasm_core.specs.declared.exports.Export.{Export}
 use Rattle.wasm_core.specs.declared.instrs.BlockType.TheVariants.{Value}
 use Rattle.wasm_core.specs.declared.instrs.Instr.{Instr}
 use Rattle.wasm_core.specs.declared.instrs.Instr.TheVariants.{Unreachable, Loop, End}
 use Rattle.wasm_core.specs.declared.instrs.Body.{Body}
-use Rattle.wasm_core.specs.Parts.{Parts}
-use Rattle.wasm_core.specs.Instance.{Func, func_of, func_with}
-use Rattle.wasm_core.specs.MachineStep.{State, At, Over}
+use Rattle.wasm_core.specs.MachineStep.{At}
 use Rattle.wasm_core.specs.Runs.{store_of}
 use Rattle.wasm_core.specs.Answer.{i32_of}
 use Rattle.wasm_core.proofs.Small.{inj, no, some_of}
@@ -28,9 +24,10 @@ use Rattle.known_calls.specs.KnownPlaces.{At, InLocal}
 use Rattle.known_calls.specs.KnownCode.{Inside, is_wide}
 use Rattle.known_calls.specs.KnownModule.{wide_body, stub_code, entry, worker_code, worker, numbered, constant, main_function, module_with, module_of}
 use Rattle.known_calls.specs.KnownCalls.{applied, call_function, module_of_call}
-use Rattle.known_calls.specs.KnownLaws.{StatusTells, CallsTell}
+use Rattle.known_calls.specs.KnownLaws.{KnownStatusTells, CallsTell}
 use Rattle.known_calls.proofs.KnownAnswering.{first_of, starts}
-use Rattle.known_calls.proofs.KnownHonest.{Wary, w_nil, w_cons, w_grow, at_wary, HonestState, Tells, stays}
+use Rattle.wasm_emit.proofs.Honest.{Wary, w_nil, w_cons, w_grow, at_wary, HonestState, stays}
+use Rattle.wasm_emit.proofs.Status.{AllWary, wary_body, mapped_then, of_bodies, tells_of, word_is}
 use Rattle.known_calls.proofs.Shapes.{shaped_captured, shaped_code, shaped_op}
 
 main_wary : (P : Program) → Wary (main_function P).code
@@ -54,18 +51,6 @@ worker_wary P g f = either (is_wide f)
     either true = w_cons tt (w_cons tt w_nil)
     either false = w_cons tt ((shaped_code P _ _ _ f.body).wary (w_cons tt (w_cons tt w_nil)))
 
--- bodies that set the status only so
-abbrev AllWary : List Body → Type 0
-AllWary bs = (f : ℕ) (b : Body) → slice_get bs f ≡ Some b → Wary b.code
-
-wary_body : {a b : Body} → ◌≡◌ {A = Option Body} (Some a) (Some b) → Wary a.code → Wary b.code
-wary_body e w = subst (λ (g : Body). Wary g.code) (inj e) w
-
-mapped_then : {A : Type 0} (h : A → Body) (xs : List A) (bs : List Body) → ((x : A) → Wary (h x).code) → AllWary bs → AllWary (map h xs ++ bs)
-mapped_then h [] bs a r f g e = r f g e
-mapped_then h (x ∷ xs) bs a r zero g e = wary_body e (a x)
-mapped_then h (x ∷ xs) bs a r (suc f) g e = mapped_then h xs bs a r f g e
-
 numbered_then : (h : ℕ → Fn → Body) (i : ℕ) (fs : List Fn) (bs : List Body) → ((g : ℕ) (f : Fn) → Wary (h g f).code) → AllWary bs → AllWary (numbered h i fs ++ bs)
 numbered_then h i [] bs a r f g e = r f g e
 numbered_then h i (x ∷ xs) bs a r zero g e = wary_body e (a i x)
@@ -87,26 +72,7 @@ all_wary P main gs es pages wm (suc (suc f)) g e =
     last zero g e = wary_body e wm
     last (suc f) g e = numbered_all (worker P) 0 P.functions (λ i x. worker_wary P i x) f g e
 
-abbrev made : FuncType → Body → Option Func
-made t b = Some (record { type = t; body = b })
-
--- a function's body is one of the bodies
-of_bodies : (m : Parts) → AllWary m.bodies → (f : ℕ) (g : Func) → func_of m f ≡ Some g → Wary g.body.code
-of_bodies m all f g e =
-    let (index, h1, e1) = some_of (λ index. func_with m f index) (slice_get m.funcs f) g e in
-    let (t, h2, e2) = some_of (λ (t : FuncType). option_and_then (λ (b : Body). Some (record { type = t; body = b })) (slice_get m.bodies f)) (slice_get m.types index) g e1 in
-    let (b, h3, e3) = some_of (λ (b : Body). made t b) (slice_get m.bodies f) g e2 in
-    subst (λ (g : Func). Wary g.body.code) (inj e3) (all f b h3)
-
-tells_of : (t : State) → HonestState t → Tells (store_of t)
-tells_of (At c) h = h.status
-tells_of (Over e s) h = h
-
-word_is : (v : ConstValue) → i32_of v ≡ Some 1 → v ≡ I32 1
-word_is (I32 n) e = ap I32 (inj e)
-word_is (I64 n) e = no e
-
-pub status_tells : StatusTells
+pub status_tells : KnownStatusTells
 status_tells P pages first n t small start r one =
     let first_is : first_of P pages ≡ first = inj (sym (starts P pages) ∙ start) in
     let begins : HonestState (first_of P pages) = record { now = at_wary (main_wary P); labels = tt; callers = tt; status = λ e. absurd (no_one e); pages = omega arith } in

@@ -271,7 +271,7 @@ module _ (P : Program) (most : ℕ) (form : Formed P most) (k pages : ℕ) where
       (t_set P most form (call_function P k) call_globals call_exports pages 16384 (omega arith) size ls rs all (omega arith)
       (t_op P most form (call_function P k) call_globals call_exports pages 16384 (omega arith) size ls rs all 2 2 (At (InLocal 1) ∷ At (InLocal 0) ∷ []) Inside (OApp (AVar 1) (AVar 0)) (omega arith) (omega arith, omega arith) (omega arith, (omega arith, tt)) tt k')))))
 
-  call_typed : TypedFunc C 0 (call_function P k)
+  pub call_typed : TypedFunc C 0 (call_function P k)
   call_typed =
       let size = max 2 (top 0 P.main) in
       record {

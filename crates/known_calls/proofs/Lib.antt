@@ -1,4 +1,3 @@
-pub mod KnownHonest
 pub mod Shapes
 pub mod KnownHolds
 pub mod Unreading
@@ -23,3 +22,8 @@ pub mod KnownCalling
 pub mod KnownSizes
 pub mod KnownLight
 pub mod KnownShare
+pub mod KnownMarking
+pub mod KnownPushing
+pub mod KnownFinding
+pub mod KnownBuilt
+pub mod KnownEmitting

@@ -11,7 +11,7 @@ use Rattle.wasm_emit.specs.EmittedCode.{Load, StoreWord, ConstWord, IfWord, Call
 use Rattle.known_calls.specs.KnownPlaces.{Word, InLocal, InField, IsConst, Place, At, fields_of, word_of, known_function}
 use Rattle.known_calls.specs.KnownCode.{Position, Inside, InTail, deeper, read_word, read, atom, push_words, fill, block, into_params, worker_index, jumps, call_worker, application, choose, unmade, op, code, empties, heads}
 use Rattle.known_calls.specs.KnownModule.{captured_words}
-use Rattle.known_calls.proofs.KnownHonest.{Wary, w_cons, NotStatus}
+use Rattle.wasm_emit.proofs.Honest.{Wary, w_cons, NotStatus}
 
 pub record Shaped (g : List Instr → List Instr) : Type 0 where
   pub front : (rest : List Instr) → g rest ≡ g [] ++ rest

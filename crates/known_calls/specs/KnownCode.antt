@@ -8,6 +8,9 @@ use Rattle.wasm_core.specs.declared.instrs.I32Op.TheVariants as op32
 use Rattle.wasm_core.specs.declared.instrs.Instr.{Instr}
 use Rattle.wasm_core.specs.declared.instrs.Instr.TheVariants.{Unreachable, Else, End, Br, Call, LocalGet, LocalSet, LocalTee, GlobalGet, GlobalSet, I32 as Operation}
 use Rattle.wasm_emit.specs.EmittedCode.{Load, StoreWord, ConstWord, IfWord, CallClosure, constant_index, ensure_room}
+-- what a call in some place may be: a call; or, in the tail of the body of worker g, a branch out of so many blocks to its beginning
+pub use Rattle.known_calls.specs.declared.site.Position.{Position}
+pub use Rattle.known_calls.specs.declared.site.Position.TheVariants.{Inside, InTail}
 use Rattle.known_calls.specs.KnownPlaces.{Word, InLocal, InField, IsConst, Place, At, Known, word_of, words_of, all_at, fields_of, known_function, block_reads}
 
 -- a closure of more captured words is never known, and its function has no worker
@@ -84,11 +87,6 @@ block env d header as' rest =
     GlobalGet 2 ∷ LocalTee d ∷ ConstWord (4 * suc (length as')) ∷ Operation op32.Add ∷ GlobalSet 2 ∷ ensure_room (LocalGet d ∷ ConstWord header ∷ StoreWord 0 ∷ fill env d as' (LocalGet d ∷ rest))
 
 -- Calls.
-
--- what a call in this place may be: a call; or, in the tail of the body of worker g, a branch out of so many blocks to its beginning
-pub data Position : Type 0 where
-  Inside : Position
-  InTail : (g depth : ℕ) → Position
 
 abbrev pub deeper : Position → Position
 deeper Inside = Inside

@@ -7,11 +7,9 @@ use Rattle.closure_lift.specs.Lifted.{Op, OConst, OApp, OCon, OClos, OCase, Bloc
 -- where a word is: in a local, or in a field of the block whose address is in a local; or which word it is
 pub use Rattle.known_calls.specs.declared.words.Word.{Word}
 pub use Rattle.known_calls.specs.declared.words.Word.TheVariants.{Local as InLocal, Field as InField, Const as IsConst}
-
 -- what an environment has for a variable: where its word is; or the closure that it is, which is made nowhere: its function, and where its captured words are, the last one first
-pub data Place : Type 0 where
-  At : Word → Place
-  Known : (g : ℕ) → (ws : List Word) → Place
+pub use Rattle.known_calls.specs.declared.places.Place.{Place}
+pub use Rattle.known_calls.specs.declared.places.Place.TheVariants.{At, Known}
 
 abbrev pub word_at : Place → Option Word
 word_at (At w) = Some w

@@ -4,3 +4,6 @@ pub mod KnownModule
 pub mod KnownCalls
 pub mod KnownLaws
 pub mod KnownWeight
+pub mod KnownMarks
+pub mod KnownPushed
+pub mod KnownEmission

@@ -1,5 +1,5 @@
 //! Runs of a module on arguments that are stored before.
-ghost use Rattle.std.specs.Prelude.{◌≡◌, false};
+ghost use Rattle.std.specs.Prelude.{◌≡◌, false, true};
 ghost use Rattle.wasm_core.specs.HostStore.{IsForCall};
 ghost use Rattle.wasm_core.specs.ModuleCondition.{All as Each};
 ghost use Rattle.wasm_core.specs.Runs.{store_of};

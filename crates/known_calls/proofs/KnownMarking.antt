@@ -1,0 +1,396 @@
+-- Marks: which variables a part of a block reads, and the marks of its parts one after another.
+use Rattle.std.proofs.Common.{◌≡◌, ℕ, zero, suc, ◌+◌, ◌-◌, ◌<◌, ◌≤◌, List, [], ◌∷◌, ◌++◌, length, length-append, append_assoc, reverse, drop, take, get_or, set, replicate, Bool, true, false, refl, ap, sym, ◌∙◌, subst, arith}
+use Rattle.std.proofs.Math.Seq.{drop-append_seam}
+use Rattle.std.proofs.lemmas.List.{reverse-append, length-reverse, length-drop, length-replicate, set-append_left, set-append_right, drop_all, take_more, take-append-drop}
+use Rattle.std.proofs.lemmas.Bool.Decides.{nat_tests}
+use Rattle.std.specs.Prelude.{◌||◌, nat_eq}
+use Rattle.anf_convert.specs.declared.program.Atom.{Atom}
+use Rattle.anf_convert.specs.declared.program.Atom.TheVariants.{Var as AVar, Box as ABox, Empty as AEmpty}
+use Rattle.closure_lift.specs.Lifted.{Op, OConst, OApp, OCon, OClos, OCase, Block, RetAtom, LetAtom, Ret, Let, BranchBlocks, BNil, BCons, Bound, AtomBound, OpBound, ret_of, lets_of}
+use Rattle.closure_lift.specs.LiftedProgram.{renumber_op, renumber, renumber_branches}
+use Rattle.closure_lift.specs.LiftedView.{seen, bounds_of, branches_of}
+use Rattle.closure_lift.specs.declared.program.LiftedBranch.{LiftedBranch}
+use Rattle.closure_lift.specs.declared.program.LiftedOp.{LiftedOp}
+use Rattle.wasm_emit.proofs.Pushing.{next_of}
+use Rattle.known_calls.specs.KnownPlaces.{names, some_names, op_reads, block_reads, branches_read}
+use Rattle.known_calls.specs.KnownMarks.{block_marks, empty_marks, head_marks, bound_marks, bound_reads, empties_read, heads_read, Begins, also}
+
+-- What is read.
+
+or_assoc : (a b c : Bool) → a || (b || c) ≡ (a || b) || c
+or_assoc true b c = refl
+or_assoc false b c = refl
+
+or_false : (a : Bool) → a || false ≡ a
+or_false true = refl
+or_false false = refl
+
+or_swap : (a b c : Bool) → a || (b || c) ≡ b || (a || c)
+or_swap true true c = refl
+or_swap true false c = refl
+or_swap false b c = refl
+
+-- for one reason, and then for another
+pub also_both : (f g : ℕ → Bool) (rs : List Bool) → also g (also f rs) ≡ also (λ i. g i || f i) rs
+also_both f g [] = refl
+also_both f g (r ∷ rs) = ap (λ (z : Bool). z ∷ also (λ i. g (suc i)) (also (λ i. f (suc i)) rs)) (or_assoc (g 0) (f 0) r) ∙ ap (λ (zs : List Bool). ((g 0 || f 0) || r) ∷ zs) (also_both (λ i. f (suc i)) (λ i. g (suc i)) rs)
+
+pub also_same : (f g : ℕ → Bool) (rs : List Bool) → ((i : ℕ) → f i ≡ g i) → also f rs ≡ also g rs
+also_same f g [] h = refl
+also_same f g (r ∷ rs) h = ap (λ (z : Bool). (z || r) ∷ also (λ i. f (suc i)) rs) (h 0) ∙ ap (λ (zs : List Bool). (g 0 || r) ∷ zs) (also_same (λ i. f (suc i)) (λ i. g (suc i)) rs (λ i. h (suc i)))
+
+pub also_none : (f : ℕ → Bool) (rs : List Bool) → ((i : ℕ) → f i ≡ false) → also f rs ≡ rs
+also_none f [] h = refl
+also_none f (r ∷ rs) h = ap (λ (z : Bool). (z || r) ∷ also (λ i. f (suc i)) rs) (h 0) ∙ ap (λ (zs : List Bool). r ∷ zs) (also_none (λ i. f (suc i)) rs (λ i. h (suc i)))
+
+-- the variables past n more ones, of which none was read before
+pub also_past : (f : ℕ → Bool) (n : ℕ) (rs : List Bool) → drop n (also f (replicate n false ++ rs)) ≡ also (λ i. f (n + i)) rs
+also_past f zero rs = also_same f (λ i. f (0 + i)) rs (λ i. let e : i ≡ 0 + i = omega arith in ap f e)
+also_past f (suc n) rs = also_past (λ i. f (suc i)) n rs ∙ also_same (λ i. f (suc (n + i))) (λ i. f (suc n + i)) rs (λ i. let e : suc (n + i) ≡ suc n + i = omega arith in ap f e)
+
+pub also_first : (f : ℕ → Bool) (n : ℕ) (rs : List Bool) → get_or (also f (replicate (suc n) false ++ rs)) 0 true ≡ f 0
+also_first f n rs = or_false (f 0)
+
+pub also_length : (f : ℕ → Bool) (rs : List Bool) → length (also f rs) ≡ length rs
+also_length f [] = refl
+also_length f (r ∷ rs) = ap suc (also_length (λ i. f (suc i)) rs)
+
+same_next : (i j : ℕ) → nat_eq (suc i) (suc j) ≡ nat_eq i j
+same_next i j = grind (arith, nat_tests)
+
+not_first : (i : ℕ) → nat_eq (suc i) zero ≡ false
+not_first i = grind (arith, nat_tests)
+
+not_later : (j : ℕ) → nat_eq zero (suc j) ≡ false
+not_later j = grind (arith, nat_tests)
+
+one_further : (r : Bool) (rs : List Bool) (j : ℕ) → also (λ i. nat_eq i (suc j)) (r ∷ rs) ≡ r ∷ also (λ i. nat_eq i j) rs
+one_further r rs j = ap (λ (z : Bool). (z || r) ∷ also (λ i. nat_eq (suc i) (suc j)) rs) (not_later j) ∙ ap (λ (zs : List Bool). r ∷ zs) (also_same (λ i. nat_eq (suc i) (suc j)) (λ i. nat_eq i j) rs (λ i. same_next i j))
+
+-- one variable
+pub set_noted : (rs : List Bool) (j : ℕ) → j < length rs → set rs j true ≡ also (λ i. nat_eq i j) rs
+set_noted [] j lt = absurd (omega arith)
+set_noted (r ∷ rs) zero lt = ap (λ (zs : List Bool). true ∷ zs) (sym (also_none (λ i. nat_eq (suc i) zero) rs not_first))
+set_noted (r ∷ rs) (suc j) lt = ap (λ (zs : List Bool). r ∷ zs) (set_noted rs j (omega arith)) ∙ sym (one_further r rs j)
+
+pub beyond_noted : (rs : List Bool) (j : ℕ) → length rs ≤ j → also (λ i. nat_eq i j) rs ≡ rs
+beyond_noted [] j le = refl
+beyond_noted (r ∷ rs) zero le = absurd (omega arith)
+beyond_noted (r ∷ rs) (suc j) le = one_further r rs j ∙ ap (λ (zs : List Bool). r ∷ zs) (beyond_noted rs j (omega arith))
+
+pub not_named : (a : Atom) → ((x : ℕ) → a ≡ AVar x → ⊥) → (i : ℕ) → names i a ≡ false
+not_named (AVar x) h i = absurd (h x refl)
+not_named ABox h i = refl
+not_named (AEmpty c) h i = refl
+
+-- a note of a list that stands with its first item last
+pub reverse_set : (xs : List Bool) (i : ℕ) (v : Bool) → i < length xs → reverse (set xs (length xs - 1 - i) v) ≡ set (reverse xs) i v
+reverse_set [] i v lt = absurd (omega arith)
+reverse_set (x ∷ xs) i v lt = here (length xs - i) refl (reverse_set xs i v)
+  where
+    here : (k : ℕ) → length xs - i ≡ k → (i < length xs → reverse (set xs (length xs - 1 - i) v) ≡ set (reverse xs) i v) → reverse (set (x ∷ xs) (length (x ∷ xs) - 1 - i) v) ≡ set (reverse (x ∷ xs)) i v
+    here zero e h =
+        let at : length (x ∷ xs) - 1 - i ≡ 0 = omega arith in
+        let on : i - length xs ≡ 0 = omega arith in
+        ap (λ (m : ℕ). reverse (set (x ∷ xs) m v)) at ∙ reverse-append (v ∷ []) xs
+        ∙ sym (ap (λ (zs : List Bool). set zs i v) (reverse-append (x ∷ []) xs) ∙ set-append_right (reverse xs) (x ∷ []) (length xs) i v (length-reverse xs) (omega arith) ∙ ap (λ (m : ℕ). reverse xs ++ set (x ∷ []) m v) on)
+    here (suc k) e h =
+        let at : length (x ∷ xs) - 1 - i ≡ suc (length xs - 1 - i) = omega arith in
+        ap (λ (m : ℕ). reverse (set (x ∷ xs) m v)) at ∙ reverse-append (x ∷ []) (set xs (length xs - 1 - i) v) ∙ ap (λ (zs : List Bool). zs ++ x ∷ []) (h (omega arith))
+        ∙ sym (ap (λ (zs : List Bool). set zs i v) (reverse-append (x ∷ []) xs) ∙ set-append_left (reverse xs) (x ∷ []) i v (omega (arith, length-reverse xs)))
+
+pub noted_at : (xs : List Bool) (i : ℕ) (v : Bool) → i < length xs → reverse (set xs (length xs - 1 - i) true) ≡ also (λ k. nat_eq k i) (reverse xs)
+noted_at xs i v lt = reverse_set xs i true lt ∙ set_noted (reverse xs) i (omega (arith, length-reverse xs))
+
+-- What the parts of a block read.
+
+pub block_reads_step : (i : ℕ) (x : Bound) (xs : List Bound) (t : Block) → block_reads i (lets_of (x ∷ xs) t) ≡ bound_reads i x || block_reads (suc i) (lets_of xs t)
+block_reads_step i (AtomBound a) xs t = refl
+block_reads_step i (OpBound p) xs t = refl
+
+pub block_reads_end : (i : ℕ) (x : Bound) → block_reads i (ret_of x) ≡ bound_reads i x
+block_reads_end i (AtomBound a) = refl
+block_reads_end i (OpBound p) = refl
+
+-- a match's branches with binders, and those without
+pub branches_both : (i : ℕ) (bs : BranchBlocks) → empties_read i bs || heads_read i bs ≡ branches_read i bs
+branches_both i BNil = refl
+branches_both i (BCons zero t bs) =
+    let e : i ≡ 0 + i = omega arith in
+    sym (or_assoc (block_reads i t) (empties_read i bs) (heads_read i bs)) ∙ ap (λ (z : Bool). block_reads i t || z) (branches_both i bs) ∙ ap (λ (k : ℕ). block_reads k t || branches_read i bs) e
+branches_both i (BCons (suc n) t bs) = or_swap (empties_read i bs) (block_reads (suc n + i) t) (heads_read i bs) ∙ ap (λ (z : Bool). block_reads (suc n + i) t || z) (branches_both i bs)
+
+pub heads_step : (i n : ℕ) (t : Block) (bs : BranchBlocks) → heads_read i (BCons n t BNil) || heads_read i bs ≡ heads_read i (BCons n t bs)
+heads_step i zero t bs = refl
+heads_step i (suc n) t bs = ap (λ (z : Bool). z || heads_read i bs) (or_false (block_reads (suc n + i) t))
+
+pub empties_step : (i n : ℕ) (t : Block) (bs : BranchBlocks) → empties_read i (BCons n t BNil) || empties_read i bs ≡ empties_read i (BCons n t bs)
+empties_step i zero t bs = ap (λ (z : Bool). z || empties_read i bs) (or_false (block_reads i t))
+empties_step i (suc n) t bs = refl
+
+-- Their marks.
+
+pub block_marks_step : (x : Bound) (xs : List Bound) (t : Block) → block_marks (lets_of (x ∷ xs) t) ≡ block_reads 0 (lets_of xs t) ∷ (bound_marks x ++ block_marks (lets_of xs t))
+block_marks_step (AtomBound a) xs t = refl
+block_marks_step (OpBound p) xs t = refl
+
+pub block_marks_end : (x : Bound) → block_marks (ret_of x) ≡ bound_marks x
+block_marks_end (AtomBound a) = refl
+block_marks_end (OpBound p) = refl
+
+pub head_marks_step : (n : ℕ) (t : Block) (bs : BranchBlocks) → head_marks (BCons n t bs) ≡ head_marks (BCons n t BNil) ++ head_marks bs
+head_marks_step zero t bs = refl
+head_marks_step (suc n) t bs = sym (append_assoc (block_marks t) [] (head_marks bs))
+
+pub empty_marks_step : (n : ℕ) (t : Block) (bs : BranchBlocks) → empty_marks (BCons n t bs) ≡ empty_marks (BCons n t BNil) ++ empty_marks bs
+empty_marks_step zero t bs = sym (append_assoc (block_marks t) [] (empty_marks bs))
+empty_marks_step (suc n) t bs = refl
+
+-- Numbers of constants play no part.
+mutual
+  pub op_reads_renumbered : (f : ℕ → ℕ) (i : ℕ) (p : Op) → op_reads i (renumber_op f p) ≡ op_reads i p
+  op_reads_renumbered f i (OConst x) = refl
+  op_reads_renumbered f i (OApp g a) = refl
+  op_reads_renumbered f i (OCon c as') = refl
+  op_reads_renumbered f i (OClos g as') = refl
+  op_reads_renumbered f i (OCase a bs) = ap (λ (z : Bool). names i a || z) (branches_reads_renumbered f i bs)
+
+  pub reads_renumbered : (f : ℕ → ℕ) (i : ℕ) (t : Block) → block_reads i (renumber f t) ≡ block_reads i t
+  reads_renumbered f i (RetAtom a) = refl
+  reads_renumbered f i (LetAtom a t) = ap (λ (z : Bool). names i a || z) (reads_renumbered f (suc i) t)
+  reads_renumbered f i (Ret p) = op_reads_renumbered f i p
+  reads_renumbered f i (Let p t) = ap (λ (z : Bool). z || block_reads (suc i) (renumber f t)) (op_reads_renumbered f i p) ∙ ap (λ (z : Bool). op_reads i p || z) (reads_renumbered f (suc i) t)
+
+  branches_reads_renumbered : (f : ℕ → ℕ) (i : ℕ) (bs : BranchBlocks) → branches_read i (renumber_branches f bs) ≡ branches_read i bs
+  branches_reads_renumbered f i BNil = refl
+  branches_reads_renumbered f i (BCons n t bs) =
+      ap (λ (z : Bool). z || branches_read i (renumber_branches f bs)) (reads_renumbered f (n + i) t) ∙ ap (λ (z : Bool). block_reads (n + i) t || z) (branches_reads_renumbered f i bs)
+
+-- The first marks of some.
+
+pub begins : (ms more all : List Bool) → all ≡ ms ++ more → Begins ms all
+begins ms more all e = e ∙ ap (λ (zs : List Bool). ms ++ zs) (sym (drop-append_seam ms more) ∙ ap (λ (zs : List Bool). drop (length ms) zs) (sym e))
+
+-- of two lists of marks
+pub begins_first : (ms ns all : List Bool) → Begins (ms ++ ns) all → Begins ms all
+begins_first ms ns all h = begins ms (ns ++ drop (length (ms ++ ns)) all) all (h ∙ append_assoc ms ns (drop (length (ms ++ ns)) all))
+
+pub begins_then : (ms ns all : List Bool) → Begins (ms ++ ns) all → drop (length ms) all ≡ ns ++ drop (length (ms ++ ns)) all
+begins_then ms ns all h = ap (λ (zs : List Bool). drop (length ms) zs) (h ∙ append_assoc ms ns (drop (length (ms ++ ns)) all)) ∙ drop-append_seam ms (ns ++ drop (length (ms ++ ns)) all)
+
+pub begins_second : (ms ns all : List Bool) → Begins (ms ++ ns) all → Begins ns (drop (length ms) all)
+begins_second ms ns all h = begins ns (drop (length (ms ++ ns)) all) (drop (length ms) all) (begins_then ms ns all h)
+
+pub drops : (ms ns all : List Bool) → Begins (ms ++ ns) all → drop (length ns) (drop (length ms) all) ≡ drop (length (ms ++ ns)) all
+drops ms ns all h = ap (λ (zs : List Bool). drop (length ns) zs) (begins_then ms ns all h) ∙ drop-append_seam ns (drop (length (ms ++ ns)) all)
+
+-- of a mark and others
+pub first_mark : (m : Bool) (ms all : List Bool) → Begins (m ∷ ms) all → get_or all 0 true ≡ m
+first_mark m ms all h = ap (λ (zs : List Bool). get_or zs 0 true) h
+
+pub next_marks : (m : Bool) (ms all : List Bool) → Begins (m ∷ ms) all → Begins ms (drop 1 all)
+next_marks m ms all h = begins_second (m ∷ []) ms all h
+
+pub drop_next : (m : Bool) (ms all : List Bool) → Begins (m ∷ ms) all → drop (length ms) (drop 1 all) ≡ drop (length (m ∷ ms)) all
+drop_next m ms all h = drops (m ∷ []) ms all h
+
+-- What a walk has noted.
+
+pub reverse_take : (xs : List Bool) (k : ℕ) → k ≤ length xs → reverse (take k xs) ≡ drop (length xs - k) (reverse xs)
+reverse_take xs k le =
+    let long : length xs - k ≡ length (reverse (drop k xs)) = sym (length-drop k xs) ∙ sym (length-reverse (drop k xs)) in
+    sym (ap (λ (n : ℕ). drop n (reverse xs)) long ∙ ap (λ (zs : List Bool). drop (length (reverse (drop k xs))) zs) (ap reverse (sym (take-append-drop k xs)) ∙ reverse-append (take k xs) (drop k xs)) ∙ drop-append_seam (reverse (drop k xs)) (reverse (take k xs)))
+
+-- the next of some atoms
+pub atoms_more : {a : Atom} (slice : List Atom) (k : ℕ) (old notes new : List Bool) → k < length slice → a ≡ get_or slice k a → notes ≡ also (λ i. some_names i (reverse (take k slice))) old → new ≡ also (λ i. names i a) notes →
+    new ≡ also (λ i. some_names i (reverse (take (k + 1) slice))) old
+atoms_more {a} slice k old notes new lt is inv e =
+    let next : reverse (take (k + 1) slice) ≡ a ∷ reverse (take k slice) =
+    ap reverse (take_more slice k a lt ∙ ap (λ (z : Atom). take k slice ++ z ∷ []) (sym is)) ∙ reverse-append (take k slice) (a ∷ []) in
+    e ∙ ap (λ (zs : List Bool). also (λ i. names i a) zs) inv ∙ also_both (λ i. some_names i (reverse (take k slice))) (λ i. names i a) old
+    ∙ also_same (λ i. names i a || some_names i (reverse (take k slice))) (λ i. some_names i (reverse (take (k + 1) slice))) old (λ i. ap (λ (zs : List Atom). some_names i zs) (sym next))
+
+-- a block without its first j bindings
+abbrev pub past : ℕ → Block → Block
+past zero t = t
+past (suc j) (RetAtom a) = RetAtom a
+past (suc j) (LetAtom a t) = past j t
+past (suc j) (Ret p) = Ret p
+past (suc j) (Let p t) = past j t
+
+past_end : (j : ℕ) (x : Bound) → past j (ret_of x) ≡ ret_of x
+past_end zero x = refl
+past_end (suc j) (AtomBound a) = refl
+past_end (suc j) (OpBound p) = refl
+
+past_step : (j : ℕ) (x : Bound) (xs : List Bound) (t : Block) → past (suc j) (lets_of (x ∷ xs) t) ≡ past j (lets_of xs t)
+past_step j (AtomBound a) xs t = refl
+past_step j (OpBound p) xs t = refl
+
+past_is : (ops : List LiftedOp) (x : Bound) (j : ℕ) → past j (lets_of (bounds_of ops) (ret_of x)) ≡ lets_of (bounds_of (drop j ops)) (ret_of x)
+past_is [] x j = past_end j x ∙ ap (λ (os : List LiftedOp). lets_of (bounds_of os) (ret_of x)) (sym (drop_all j [] (omega arith)))
+past_is (o ∷ ops) x zero = refl
+past_is (o ∷ ops) x (suc j) = past_step j (seen o) (bounds_of ops) (ret_of x) ∙ past_is ops x j
+
+-- a block's bindings from the last on
+module _ (ops : List LiftedOp) (x : Bound) (b : Block) (n : ℕ) (whole : lets_of (bounds_of ops) (ret_of x) ≡ b) (size : n ≡ length ops) where
+  past_all : past (n - 0) b ≡ ret_of x
+  past_all = ap (λ (t : Block). past (n - 0) t) (sym whole) ∙ past_is ops x (n - 0) ∙ ap (λ (os : List LiftedOp). lets_of (bounds_of os) (ret_of x)) (drop_all (n - 0) ops (omega (arith, size)))
+
+  pub noted_init : (old mid new : List Bool) → mid ≡ replicate n false ++ old → new ≡ also (λ i. bound_reads i x) mid → new ≡ also (λ i. block_reads i (past (n - 0) b)) (replicate (n - 0) false ++ old)
+  noted_init old mid new em en =
+      let m : n ≡ n - 0 = omega arith in
+      en ∙ ap (λ (zs : List Bool). also (λ i. bound_reads i x) zs) (em ∙ ap (λ (k : ℕ). replicate k false ++ old) m)
+      ∙ also_same (λ i. bound_reads i x) (λ i. block_reads i (past (n - 0) b)) (replicate (n - 0) false ++ old) (λ i. sym (block_reads_end i x) ∙ ap (λ (t : Block). block_reads i t) (sym past_all))
+
+  pub marked_init : (old new : List Bool) → new ≡ bound_marks x ++ old → new ≡ block_marks (past (n - 0) b) ++ old
+  marked_init old new e = e ∙ ap (λ (ms : List Bool). ms ++ old) (sym (ap block_marks past_all ∙ block_marks_end x))
+
+  module _ (k : ℕ) (o : LiftedOp) (lt : k < n) (is : o ≡ get_or ops (n - 1 - k) o) where
+    abbrev behind : Block
+    behind = lets_of (bounds_of (drop (n - k) ops)) (ret_of x)
+
+    past_now : past (n - k) b ≡ behind
+    past_now = ap (λ (t : Block). past (n - k) t) (sym whole) ∙ past_is ops x (n - k)
+
+    past_next : past (n - (k + 1)) b ≡ lets_of (seen o ∷ bounds_of (drop (n - k) ops)) (ret_of x)
+    past_next =
+        let j : n - 1 - k ≡ n - (k + 1) = omega arith in
+        let s : n - (k + 1) + 1 ≡ n - k = omega arith in
+        ap (λ (t : Block). past (n - (k + 1)) t) (sym whole) ∙ past_is ops x (n - (k + 1))
+        ∙ ap (λ (os : List LiftedOp). lets_of (bounds_of os) (ret_of x)) (next_of ops (n - (k + 1)) o (omega (arith, size, lt)) (is ∙ ap (λ (i : ℕ). get_or ops i o) j))
+        ∙ ap (λ (i : ℕ). lets_of (seen o ∷ bounds_of (drop i ops)) (ret_of x)) s
+
+    pub noted_more : (old notes new : List Bool) → notes ≡ also (λ i. block_reads i (past (n - k) b)) (replicate (n - k) false ++ old) → new ≡ also (λ i. bound_reads i (seen o)) (drop 1 notes) →
+        new ≡ also (λ i. block_reads i (past (n - (k + 1)) b)) (replicate (n - (k + 1)) false ++ old)
+    noted_more old notes new inv e =
+        let s : n - k ≡ suc (n - (k + 1)) = omega arith in
+        let rs = replicate (n - (k + 1)) false ++ old in
+        let one : notes ≡ also (λ i. block_reads i behind) (replicate (suc (n - (k + 1))) false ++ old) =
+        inv ∙ ap (λ (t : Block). also (λ i. block_reads i t) (replicate (n - k) false ++ old)) past_now ∙ ap (λ (j : ℕ). also (λ i. block_reads i behind) (replicate j false ++ old)) s in
+        e ∙ ap (λ (zs : List Bool). also (λ i. bound_reads i (seen o)) (drop 1 zs)) one ∙ also_both (λ i. block_reads (suc i) behind) (λ i. bound_reads i (seen o)) rs
+        ∙ also_same (λ i. bound_reads i (seen o) || block_reads (suc i) behind) (λ i. block_reads i (past (n - (k + 1)) b)) rs
+        (λ i. sym (block_reads_step i (seen o) (bounds_of (drop (n - k) ops)) (ret_of x)) ∙ ap (λ (t : Block). block_reads i t) (sym past_next))
+
+    pub marked_more : (old notes notes0 marks new : List Bool) → notes ≡ also (λ i. block_reads i (past (n - k) b)) (replicate (n - k) false ++ notes0) → marks ≡ block_marks (past (n - k) b) ++ old → new ≡ get_or notes 0 true ∷ (bound_marks (seen o) ++ marks) →
+        new ≡ block_marks (past (n - (k + 1)) b) ++ old
+    marked_more old notes notes0 marks new inv at e =
+        let s : n - k ≡ suc (n - (k + 1)) = omega arith in
+        let first : get_or notes 0 true ≡ block_reads 0 behind =
+        ap (λ (zs : List Bool). get_or zs 0 true) (inv ∙ ap (λ (t : Block). also (λ i. block_reads i t) (replicate (n - k) false ++ notes0)) past_now ∙ ap (λ (j : ℕ). also (λ i. block_reads i behind) (replicate j false ++ notes0)) s)
+        ∙ also_first (λ i. block_reads i behind) (n - (k + 1)) notes0 in
+        e ∙ ap (λ (z : Bool). z ∷ (bound_marks (seen o) ++ marks)) first ∙ ap (λ (zs : List Bool). block_reads 0 behind ∷ (bound_marks (seen o) ++ zs)) (at ∙ ap (λ (t : Block). block_marks t ++ old) past_now)
+        ∙ ap (λ (zs : List Bool). block_reads 0 behind ∷ zs) (sym (append_assoc (bound_marks (seen o)) (block_marks behind) old))
+        ∙ ap (λ (ms : List Bool). ms ++ old) (sym (ap block_marks past_next ∙ block_marks_step (seen o) (bounds_of (drop (n - k) ops)) (ret_of x)))
+
+-- the branches of one kind from the last on
+module _ (read : ℕ → BranchBlocks → Bool) (marks_of : BranchBlocks → List Bool) (none : (i : ℕ) → read i BNil ≡ false) (no_marks : marks_of BNil ≡ [])
+    (step : (i n : ℕ) (t : Block) (bs : BranchBlocks) → read i (BCons n t BNil) || read i bs ≡ read i (BCons n t bs)) (marks_step : (n : ℕ) (t : Block) (bs : BranchBlocks) → marks_of (BCons n t bs) ≡ marks_of (BCons n t BNil) ++ marks_of bs)
+    (bs : List LiftedBranch) (n : ℕ) (size : n ≡ length bs) where
+  nothing_left : branches_of (drop (n - 0) bs) ≡ BNil
+  nothing_left = ap branches_of (drop_all (n - 0) bs (omega (arith, size)))
+
+  pub arms_noted_init : (old : List Bool) → old ≡ also (λ i. read i (branches_of (drop (n - 0) bs))) old
+  arms_noted_init old = sym (also_none (λ i. read i (branches_of (drop (n - 0) bs))) old (λ i. ap (λ (z : BranchBlocks). read i z) nothing_left ∙ none i))
+
+  pub arms_marked_init : (old : List Bool) → old ≡ marks_of (branches_of (drop (n - 0) bs)) ++ old
+  arms_marked_init old = ap (λ (ms : List Bool). ms ++ old) (sym (ap marks_of nothing_left ∙ no_marks))
+
+  module _ (k : ℕ) (b : LiftedBranch) (lt : k < n) (is : b ≡ get_or bs (n - 1 - k) b) where
+    next_branch : branches_of (drop (n - (k + 1)) bs) ≡ BCons b.binders b.body (branches_of (drop (n - k) bs))
+    next_branch =
+        let j : n - 1 - k ≡ n - (k + 1) = omega arith in
+        let s : n - (k + 1) + 1 ≡ n - k = omega arith in
+        ap branches_of (next_of bs (n - (k + 1)) b (omega (arith, size, lt)) (is ∙ ap (λ (i : ℕ). get_or bs i b) j)) ∙ ap (λ (i : ℕ). BCons b.binders b.body (branches_of (drop i bs))) s
+
+    pub arms_noted_more : (old notes new : List Bool) → notes ≡ also (λ i. read i (branches_of (drop (n - k) bs))) old → new ≡ also (λ i. read i (branches_of (b ∷ []))) notes → new ≡ also (λ i. read i (branches_of (drop (n - (k + 1)) bs))) old
+    arms_noted_more old notes new inv e =
+        e ∙ ap (λ (zs : List Bool). also (λ i. read i (branches_of (b ∷ []))) zs) inv ∙ also_both (λ i. read i (branches_of (drop (n - k) bs))) (λ i. read i (branches_of (b ∷ []))) old
+        ∙ also_same (λ i. read i (branches_of (b ∷ [])) || read i (branches_of (drop (n - k) bs))) (λ i. read i (branches_of (drop (n - (k + 1)) bs))) old
+        (λ i. step i b.binders b.body (branches_of (drop (n - k) bs)) ∙ ap (λ (z : BranchBlocks). read i z) (sym next_branch))
+
+    pub arms_marked_more : (old marks new : List Bool) → marks ≡ marks_of (branches_of (drop (n - k) bs)) ++ old → new ≡ marks_of (branches_of (b ∷ [])) ++ marks → new ≡ marks_of (branches_of (drop (n - (k + 1)) bs)) ++ old
+    arms_marked_more old marks new at e =
+        e ∙ ap (λ (zs : List Bool). marks_of (branches_of (b ∷ [])) ++ zs) at ∙ sym (append_assoc (marks_of (branches_of (b ∷ []))) (marks_of (branches_of (drop (n - k) bs))) old)
+        ∙ ap (λ (ms : List Bool). ms ++ old) (sym (ap marks_of next_branch ∙ marks_step b.binders b.body (branches_of (drop (n - k) bs))))
+
+-- a branch's binders are gone behind it
+pub binders_gone : (n : ℕ) (t : Block) (xs0 xs1 xs2 xs3 : List Bool) → 0 < n → reverse xs1 ≡ replicate n false ++ reverse xs0 → reverse xs2 ≡ also (λ i. block_reads i t) (reverse xs1) → xs3 ≡ take (length xs0) xs2 → reverse xs3 ≡ also (λ i. heads_read i (BCons n t BNil)) (reverse xs0)
+binders_gone zero t xs0 xs1 xs2 xs3 some e1 e2 e3 = absurd (omega arith)
+binders_gone (suc n) t xs0 xs1 xs2 xs3 some e1 e2 e3 =
+    let all : reverse xs2 ≡ also (λ i. block_reads i t) (replicate (suc n) false ++ reverse xs0) = e2 ∙ ap (λ (zs : List Bool). also (λ i. block_reads i t) zs) e1 in
+    let long : length xs2 ≡ suc n + length xs0 =
+    sym (length-reverse xs2) ∙ ap length all ∙ also_length (λ i. block_reads i t) (replicate (suc n) false ++ reverse xs0) ∙ length-append (replicate (suc n) false) (reverse xs0) ∙ ap (λ (k : ℕ). k + length (reverse xs0)) (length-replicate (suc n) false) ∙ ap (λ (k : ℕ). suc n + k) (length-reverse xs0) in
+    let gone : length xs2 - length xs0 ≡ suc n = omega (arith, long) in
+    ap reverse e3 ∙ reverse_take xs2 (length xs0) (omega (arith, long)) ∙ ap (λ (k : ℕ). drop k (reverse xs2)) gone ∙ ap (λ (zs : List Bool). drop (suc n) zs) all ∙ also_past (λ i. block_reads i t) (suc n) (reverse xs0)
+    ∙ also_same (λ i. block_reads (suc n + i) t) (λ i. heads_read i (BCons (suc n) t BNil)) (reverse xs0) (λ i. sym (or_false (block_reads (suc n + i) t)))
+
+-- the walk has come to the front of a block
+pub noted_end : (b : Block) (n k : ℕ) → n ≤ k → (old new : List Bool) → new ≡ also (λ i. block_reads i (past (n - k) b)) (replicate (n - k) false ++ old) → new ≡ also (λ i. block_reads i b) old
+noted_end b n k le old new e = let z : n - k ≡ 0 = omega arith in e ∙ ap (λ (j : ℕ). also (λ i. block_reads i (past j b)) (replicate j false ++ old)) z
+
+pub marked_end : (b : Block) (n k : ℕ) → n ≤ k → (old new : List Bool) → new ≡ block_marks (past (n - k) b) ++ old → new ≡ block_marks b ++ old
+marked_end b n k le old new e = let z : n - k ≡ 0 = omega arith in e ∙ ap (λ (j : ℕ). block_marks (past j b) ++ old) z
+
+-- a branch of the other kind
+pub no_heads : (i n : ℕ) (t : Block) → n ≡ 0 → heads_read i (BCons n t BNil) ≡ false
+no_heads i zero t e = refl
+no_heads i (suc n) t e = absurd (omega arith)
+
+pub no_empties : (i n : ℕ) (t : Block) → 0 < n → empties_read i (BCons n t BNil) ≡ false
+no_empties i zero t e = absurd (omega arith)
+no_empties i (suc n) t e = refl
+
+-- the branches of both kinds
+pub branches_noted : (bs : BranchBlocks) (xs ys : List LiftedBranch) (old mid new : List Bool) → branches_of xs ≡ bs → branches_of ys ≡ bs → mid ≡ also (λ i. heads_read i (branches_of xs)) old → new ≡ also (λ i. empties_read i (branches_of ys)) mid → new ≡ also (λ i. branches_read i bs) old
+branches_noted bs xs ys old mid new ex ey em en =
+    en ∙ ap (λ (z : BranchBlocks). also (λ i. empties_read i z) mid) ey ∙ ap (λ (zs : List Bool). also (λ i. empties_read i bs) zs) (em ∙ ap (λ (z : BranchBlocks). also (λ i. heads_read i z) old) ex)
+    ∙ also_both (λ i. heads_read i bs) (λ i. empties_read i bs) old ∙ also_same (λ i. empties_read i bs || heads_read i bs) (λ i. branches_read i bs) old (λ i. branches_both i bs)
+
+-- The first marks where the code of a block has come to a binding.
+
+pub end_marks : (items : List LiftedOp) (i : ℕ) (x : Bound) → length items ≤ i → block_marks (lets_of (bounds_of (drop i items)) (ret_of x)) ≡ bound_marks x
+end_marks items i x le = ap (λ (os : List LiftedOp). block_marks (lets_of (bounds_of os) (ret_of x))) (drop_all i items le) ∙ block_marks_end x
+
+module _ (items : List LiftedOp) (i : ℕ) (o : LiftedOp) (t : Block) (lt : i < length items) (is : o ≡ get_or items i o) (all : List Bool) (h : Begins (block_marks (lets_of (bounds_of (drop i items)) t)) all) where
+  abbrev rest : Block
+  rest = lets_of (bounds_of (drop (i + 1) items)) t
+
+  marks_now : block_marks (lets_of (bounds_of (drop i items)) t) ≡ block_reads 0 rest ∷ (bound_marks (seen o) ++ block_marks rest)
+  marks_now = ap (λ (os : List LiftedOp). block_marks (lets_of (bounds_of os) t)) (next_of items i o lt is) ∙ block_marks_step (seen o) (bounds_of (drop (i + 1) items)) t
+
+  begin_now : Begins (block_reads 0 rest ∷ (bound_marks (seen o) ++ block_marks rest)) all
+  begin_now = subst (λ ms. Begins ms all) marks_now h
+
+  pub mark_now : get_or all 0 true ≡ block_reads 0 rest
+  mark_now = first_mark (block_reads 0 rest) (bound_marks (seen o) ++ block_marks rest) all begin_now
+
+  pub begin_op : Begins (bound_marks (seen o)) (drop 1 all)
+  begin_op = begins_first (bound_marks (seen o)) (block_marks rest) (drop 1 all) (next_marks (block_reads 0 rest) (bound_marks (seen o) ++ block_marks rest) all begin_now)
+
+  pub begin_behind : (new : List Bool) → new ≡ drop (length (bound_marks (seen o))) (drop 1 all) → Begins (block_marks rest) new
+  begin_behind new e = subst (λ ms. Begins (block_marks rest) ms) (sym e) (begins_second (bound_marks (seen o)) (block_marks rest) (drop 1 all) (next_marks (block_reads 0 rest) (bound_marks (seen o) ++ block_marks rest) all begin_now))
+
+  pub left_behind : (new : List Bool) → new ≡ drop (length (bound_marks (seen o))) (drop 1 all) → drop (length (block_marks rest)) new ≡ drop (length (block_marks (lets_of (bounds_of (drop i items)) t))) all
+  left_behind new e =
+      ap (λ (ms : List Bool). drop (length (block_marks rest)) ms) e ∙ drops (bound_marks (seen o)) (block_marks rest) (drop 1 all) (next_marks (block_reads 0 rest) (bound_marks (seen o) ++ block_marks rest) all begin_now)
+      ∙ drop_next (block_reads 0 rest) (bound_marks (seen o) ++ block_marks rest) all begin_now ∙ ap (λ (ms : List Bool). drop (length ms) all) (sym marks_now)
+
+-- and to a branch of one kind
+module _ (marks_of : BranchBlocks → List Bool) (marks_step : (n : ℕ) (t : Block) (bs : BranchBlocks) → marks_of (BCons n t bs) ≡ marks_of (BCons n t BNil) ++ marks_of bs)
+    (bs : List LiftedBranch) (c : ℕ) (b : LiftedBranch) (lt : c < length bs) (is : b ≡ get_or bs c b) (all : List Bool) (h : Begins (marks_of (branches_of (drop c bs))) all) where
+  arm_marks : marks_of (branches_of (drop c bs)) ≡ marks_of (branches_of (b ∷ [])) ++ marks_of (branches_of (drop (c + 1) bs))
+  arm_marks = ap (λ (xs : List LiftedBranch). marks_of (branches_of xs)) (next_of bs c b lt is) ∙ marks_step b.binders b.body (branches_of (drop (c + 1) bs))
+
+  begin_arms : Begins (marks_of (branches_of (b ∷ [])) ++ marks_of (branches_of (drop (c + 1) bs))) all
+  begin_arms = subst (λ ms. Begins ms all) arm_marks h
+
+  pub begin_arm : Begins (marks_of (branches_of (b ∷ []))) all
+  begin_arm = begins_first (marks_of (branches_of (b ∷ []))) (marks_of (branches_of (drop (c + 1) bs))) all begin_arms
+
+  pub begin_more : (new : List Bool) → new ≡ drop (length (marks_of (branches_of (b ∷ [])))) all → Begins (marks_of (branches_of (drop (c + 1) bs))) new
+  begin_more new e = subst (λ ms. Begins (marks_of (branches_of (drop (c + 1) bs))) ms) (sym e) (begins_second (marks_of (branches_of (b ∷ []))) (marks_of (branches_of (drop (c + 1) bs))) all begin_arms)
+
+  pub left_more : (new : List Bool) → new ≡ drop (length (marks_of (branches_of (b ∷ [])))) all → drop (length (marks_of (branches_of (drop (c + 1) bs)))) new ≡ drop (length (marks_of (branches_of (drop c bs)))) all
+  left_more new e =
+      ap (λ (ms : List Bool). drop (length (marks_of (branches_of (drop (c + 1) bs)))) ms) e ∙ drops (marks_of (branches_of (b ∷ []))) (marks_of (branches_of (drop (c + 1) bs))) all begin_arms ∙ ap (λ (ms : List Bool). drop (length ms) all) (sym arm_marks)

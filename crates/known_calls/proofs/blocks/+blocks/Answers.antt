@@ -1,0 +1,114 @@
+use Rattle.std.proofs.Common.{rules, arith, ap, refl, subst, sym, ◌*◌, ◌+◌, ◌<◌, ◌∷◌, ◌++◌, [], List, true, length, length-append, drop, get_or, reverse, take, ◌∙◌}
+use Rattle.std.proofs.lemmas.List.{take-append-le, drop_all}
+use Rattle.closure_lift.specs.Lifted.{ret_of}
+use Rattle.closure_lift.specs.LiftedProgram.{renumber_branches, place_in, lifted_of}
+use Rattle.closure_lift.specs.LiftedView.{seen, branches_of}
+use Rattle.closure_lift.specs.LiftedWeight.{block_weight, branches_weight, bound_weight}
+use Rattle.closure_lift.specs.declared.program.LiftedBranch.{LiftedBranch}
+use Rattle.wasm_emit.specs.Pushed.{ends}
+use Rattle.wasm_emit.proofs.Lighter.{op_lighter, tail_lighter, arm_lighter}
+use Rattle.known_calls.specs.KnownPlaces.{Place}
+use Rattle.known_calls.specs.KnownCode.{empties, heads}
+use Rattle.known_calls.specs.KnownMarks.{Begins, bound_marks, empty_marks, head_marks}
+use Rattle.known_calls.specs.KnownPushed.{EmptyArm, BlockArm, under_position, block_code, empty_arms, block_arms, place_bound, op_unmade}
+use Rattle.known_calls.proofs.KnownMarking.{empty_marks_step, head_marks_step, end_marks, mark_now, begin_op, begin_behind, left_behind, begin_arm, begin_more, left_more}
+use Rattle.known_calls.proofs.KnownPushing.{block_more, empties_more, heads_more}
+use Rattle.known_calls.proofs.blocks.+blocks.Goals as goal
+
+pub push_block-push_binding-requires : goal.push_block-push_binding-requires
+push_block-push_binding-requires t c =
+    let ops = c.as_slice-op-items.result.now in
+    let d = op_lighter ops c.b.inside.bindings c.loop-op.op-index c.op-item.result c.b.inside.tail c.args.b.now c.loop-op-test.true c.op-item.is c.as_slice-op-items.ensures.is c.b.view_is in
+    let e : 4 * bound_weight (seen c.op-item.result) + 3 < 4 * block_weight c.args.b.now = omega (arith, d) in
+    let m : Begins (bound_marks (seen c.op-item.result)) (drop 1 (reverse c.loop-op.marks.items)) = begin_op ops c.loop-op.op-index c.op-item.result (ret_of (seen c.b.inside.tail)) c.loop-op-test.true c.op-item.is (reverse c.loop-op.marks.items) c.loop-op.invariant.marked in
+    search (rules, e, m)
+
+pub push_block-push_op-requires : goal.push_block-push_op-requires
+push_block-push_op-requires t c =
+    let d = tail_lighter c.b.inside.bindings c.b.inside.tail c.args.b.now c.b.view_is in
+    let e : 4 * bound_weight (seen c.b.inside.tail) + 1 < 4 * block_weight c.args.b.now = omega (arith, d) in
+    let m : Begins (bound_marks (seen c.b.inside.tail)) (reverse c.loop-op.marks.items) =
+    subst (λ ms. Begins ms (reverse c.loop-op.marks.items)) (end_marks c.as_slice-op-items.result.now c.loop-op.op-index (seen c.b.inside.tail) c.loop-op-test.false) c.loop-op.invariant.marked in
+    search (rules, e, m)
+
+pub push_block-loop-op-preserved : goal.push_block-loop-op-preserved
+push_block-loop-op-preserved t c =
+    let ops = c.as_slice-op-items.result.now in
+    let tail = ret_of (seen c.b.inside.tail) in
+    let all = reverse c.loop-op.marks.items in
+    let now = place_bound c.loop-op.local (op_unmade c.args.p.now (reverse c.loop-op.places.items) (get_or all 0 true) (seen c.op-item.result)) in
+    record {
+      pushed = block_more c.args.p.now ops c.loop-op.op-index c.op-item.result tail c.loop-op.places.items c.push_binding.new.places.items c.loop-op.local c.in_ok-local.local c.args.site.at (get_or all 0 true) c.loop-op.out.items c.push_binding.new.out.items c.args.out.now.items
+          (block_code c.args.p.now (reverse c.args.places.now.items) c.args.site.local c.args.site.at c.args.b.now) c.loop-op-test.true c.op-item.is (mark_now ops c.loop-op.op-index c.op-item.result tail c.loop-op-test.true c.op-item.is all c.loop-op.invariant.marked)
+          c.in_ok-local.ensures.place c.in_ok-local.ensures.next c.in_ok-local.ensures.pushed c.loop-op.invariant.pushed;
+      marked = begin_behind ops c.loop-op.op-index c.op-item.result tail c.loop-op-test.true c.op-item.is all c.loop-op.invariant.marked (reverse c.push_binding.new.marks.items) c.in_ok-local.ensures.left;
+      left = left_behind ops c.loop-op.op-index c.op-item.result tail c.loop-op-test.true c.op-item.is all c.loop-op.invariant.marked (reverse c.push_binding.new.marks.items) c.in_ok-local.ensures.left ∙ c.loop-op.invariant.left;
+      kept = ap (λ (zs : List Place). take c.len-outer.result zs) c.in_ok-local.ensures.place ∙ take-append-le c.len-outer.result c.loop-op.places.items (now ∷ []) c.loop-op.invariant.more ∙ c.loop-op.invariant.kept;
+      more = omega (arith, ap length c.in_ok-local.ensures.place, length-append c.loop-op.places.items (now ∷ []), c.loop-op.invariant.more);
+    }
+
+pub push_block_branches-push_block_arm-requires : goal.push_block_branches-push_block_arm-requires
+push_block_branches-push_block_arm-requires t c =
+    let d = arm_lighter c.args.bs.now c.loop-c.c c.index-bs-c.result c.loop-c-test.true c.index-bs-c.is in
+    let e : 4 * block_weight c.index-bs-c.result.body + 2 < 4 * branches_weight (branches_of c.args.bs.now) = omega (arith, d) in
+    let m = begin_arm head_marks head_marks_step c.args.bs.now c.loop-c.c c.index-bs-c.result c.loop-c-test.true c.index-bs-c.is (reverse c.loop-c.marks.items) c.loop-c.invariant.marked in
+    search (rules, e, m)
+
+pub push_block_branches-loop-c-preserved : goal.push_block_branches-loop-c-preserved
+push_block_branches-loop-c-preserved t c =
+    let b = c.index-bs-c.result in
+    let Q = c.args.p.now in
+    let env = reverse c.args.places.now.items in
+    let at = c.args.site.at in
+    let all = reverse c.loop-c.marks.items in
+    let z : BlockArm Q env c.in_ok-arm.arm.site.local c.in_ok-arm.arm.site.at c.in_ok-arm.arm.number b c.loop-c.out.items c.push_block_arm.new.out.items c.in_ok-arms.arms =
+    subst (λ zs. BlockArm Q (reverse zs) c.in_ok-arm.arm.site.local c.in_ok-arm.arm.site.at c.in_ok-arm.arm.number b c.loop-c.out.items c.push_block_arm.new.out.items c.in_ok-arms.arms) c.loop-c.invariant.same c.in_ok-arms.ensures.pushed in
+    let x : BlockArm Q env c.args.site.local (under_position c.loop-c.begun at) c.loop-c.c b c.loop-c.out.items c.push_block_arm.new.out.items c.in_ok-arms.arms =
+    subst (λ a. BlockArm Q env a.site.local a.site.at a.number b c.loop-c.out.items c.push_block_arm.new.out.items c.in_ok-arms.arms) c.in_ok-arm.ensures.is z in
+    record {
+      pushed = heads_more Q env c.args.site.local at c.loop-c.c c.args.bs.now b c.loop-c.begun c.in_ok-arms.arms (c.loop-c.begun + c.in_ok-arms.arms) c.loop-c.out.items c.push_block_arm.new.out.items c.args.out.now.items c.loop-c-test.true c.index-bs-c.is refl x
+          (block_arms Q env c.args.site.local at (branches_of c.args.bs.now)) c.loop-c.invariant.pushed;
+      marked = begin_more head_marks head_marks_step c.args.bs.now c.loop-c.c b c.loop-c-test.true c.index-bs-c.is all c.loop-c.invariant.marked (reverse c.push_block_arm.new.marks.items) c.in_ok-arms.ensures.left;
+      left = left_more head_marks head_marks_step c.args.bs.now c.loop-c.c b c.loop-c-test.true c.index-bs-c.is all c.loop-c.invariant.marked (reverse c.push_block_arm.new.marks.items) c.in_ok-arms.ensures.left ∙ c.loop-c.invariant.left;
+      same = c.in_ok-arms.ensures.same ∙ c.loop-c.invariant.same;
+      few = omega (arith, x.few, c.loop-c.invariant.few);
+    }
+
+pub push_block_branches-returns-clause-pushed : goal.push_block_branches-returns-clause-pushed
+push_block_branches-returns-clause-pushed t c = record {
+  is = λ rest. ap (λ (xs : List LiftedBranch). c.loop-c.out.items ++ heads (lifted_of c.args.p.now) (reverse c.args.places.now.items) c.args.site.local (under_position c.loop-c.begun c.args.site.at) c.loop-c.c (renumber_branches (place_in c.args.p.now.constants) (branches_of xs)) (ends c.loop-c.begun rest))
+      (sym (drop_all c.loop-c.c c.args.bs.now c.loop-c-test.false)) ∙ c.loop-c.invariant.pushed rest;
+}
+
+pub push_empty_branches-push_empty_arm-requires : goal.push_empty_branches-push_empty_arm-requires
+push_empty_branches-push_empty_arm-requires t c =
+    let d = arm_lighter c.args.bs.now c.loop-c.c c.index-bs-c.result c.loop-c-test.true c.index-bs-c.is in
+    let e : 4 * block_weight c.index-bs-c.result.body + 1 < 4 * branches_weight (branches_of c.args.bs.now) = omega (arith, d) in
+    let m = begin_arm empty_marks empty_marks_step c.args.bs.now c.loop-c.c c.index-bs-c.result c.loop-c-test.true c.index-bs-c.is (reverse c.loop-c.marks.items) c.loop-c.invariant.marked in
+    search (rules, e, m)
+
+pub push_empty_branches-loop-c-preserved : goal.push_empty_branches-loop-c-preserved
+push_empty_branches-loop-c-preserved t c =
+    let b = c.index-bs-c.result in
+    let Q = c.args.p.now in
+    let env = reverse c.args.places.now.items in
+    let at = c.args.site.at in
+    let all = reverse c.loop-c.marks.items in
+    let z : EmptyArm Q env c.in_ok-arm.arm.site.local c.in_ok-arm.arm.site.at c.in_ok-arm.arm.number b c.loop-c.out.items c.push_empty_arm.new.out.items c.in_ok-arms.arms =
+    subst (λ zs. EmptyArm Q (reverse zs) c.in_ok-arm.arm.site.local c.in_ok-arm.arm.site.at c.in_ok-arm.arm.number b c.loop-c.out.items c.push_empty_arm.new.out.items c.in_ok-arms.arms) c.loop-c.invariant.same c.in_ok-arms.ensures.pushed in
+    let x : EmptyArm Q env c.args.site.local (under_position c.loop-c.begun at) c.loop-c.c b c.loop-c.out.items c.push_empty_arm.new.out.items c.in_ok-arms.arms =
+    subst (λ a. EmptyArm Q env a.site.local a.site.at a.number b c.loop-c.out.items c.push_empty_arm.new.out.items c.in_ok-arms.arms) c.in_ok-arm.ensures.is z in
+    record {
+      pushed = empties_more Q env c.args.site.local at c.loop-c.c c.args.bs.now b c.loop-c.begun c.in_ok-arms.arms (c.loop-c.begun + c.in_ok-arms.arms) c.loop-c.out.items c.push_empty_arm.new.out.items c.args.out.now.items c.loop-c-test.true c.index-bs-c.is refl x
+          (empty_arms Q env c.args.site.local at (branches_of c.args.bs.now)) c.loop-c.invariant.pushed;
+      marked = begin_more empty_marks empty_marks_step c.args.bs.now c.loop-c.c b c.loop-c-test.true c.index-bs-c.is all c.loop-c.invariant.marked (reverse c.push_empty_arm.new.marks.items) c.in_ok-arms.ensures.left;
+      left = left_more empty_marks empty_marks_step c.args.bs.now c.loop-c.c b c.loop-c-test.true c.index-bs-c.is all c.loop-c.invariant.marked (reverse c.push_empty_arm.new.marks.items) c.in_ok-arms.ensures.left ∙ c.loop-c.invariant.left;
+      same = c.in_ok-arms.ensures.same ∙ c.loop-c.invariant.same;
+      few = omega (arith, x.few, c.loop-c.invariant.few);
+    }
+
+pub push_empty_branches-returns-clause-pushed : goal.push_empty_branches-returns-clause-pushed
+push_empty_branches-returns-clause-pushed t c = record {
+  is = λ others rest. ap (λ (xs : List LiftedBranch). c.loop-c.out.items ++ empties (lifted_of c.args.p.now) (reverse c.args.places.now.items) c.args.site.local (under_position c.loop-c.begun c.args.site.at) c.loop-c.c (renumber_branches (place_in c.args.p.now.constants) (branches_of xs)) others (ends c.loop-c.begun rest))
+      (sym (drop_all c.loop-c.c c.args.bs.now c.loop-c-test.false)) ∙ c.loop-c.invariant.pushed others rest;
+}

@@ -1,0 +1,388 @@
+//! The instructions of the blocks of a lifted program.
+//!
+//! A binding gets the local whose number is how many stand before it; but one that is known, and read as a word nowhere, gets no local and no code. A match puts its
+//! scrutinee into the next local and compares it with the words of the constructors without arguments, and then its block's header with those of the others; what a
+//! branch binds is read from the block.
+ghost use Rattle.std.specs.Prelude.{◌≡◌, ◌+◌, ◌*◌, ◌∷◌, ◌++◌, [], IfOk, IfErr, OnOk, drop, get_or, length, reverse, true};
+ghost use Rattle.closure_lift.specs.LiftedView.{seen, branches_of};
+ghost use Rattle.closure_lift.specs.LiftedProgram.{lifted_of};
+ghost use Rattle.wasm_emit.specs.ConstantNumbers.{AreNumbered};
+ghost use Rattle.wasm_emit.specs.Pushed.{BlockArms, Pushed};
+ghost use Rattle.wasm_emit.specs.declared.fault.EmitFault.TheVariants.{Memory};
+ghost use Rattle.known_calls.specs.KnownMarks.{Begins, block_marks, bound_marks, empty_marks, head_marks};
+ghost use Rattle.known_calls.specs.KnownPushed.{BlockArm, EmptyArm, EmptyArms, binding_code, block_arms, block_code, branches_code, empty_arms, local_behind, op_code, op_unmade, place_bound, under_position};
+ghost use Rattle.known_calls.specs.KnownPlaces.{At, InLocal, fields_of};
+ghost use Rattle.known_calls.specs.KnownCode.{Inside, block};
+ghost use Rattle.wasm_core.specs.declared.instrs.Instr.TheVariants.{LocalSet};
+
+use crate::calls::push_application;
+use crate::closures::known;
+use crate::instructions::{push_atom, push_new_block};
+use crate::marks::take_mark;
+use crate::places::{Place, push_field_places};
+use crate::site::{Arm, Position, Site, under};
+use crate::words::Word;
+use anf_convert::lists::Atoms;
+use closure_lift::program::{Lifted, LiftedBlock, LiftedBranch, LiftedBranches, LiftedOp};
+use std::collections::HashMap;
+use wasm_core::Instr;
+use wasm_emit::EmitFault;
+use wasm_emit::blocks::{index_of_constant, push_ends, push_test};
+use wasm_emit::instructions::{empty_word, header_word, push, push_load};
+
+/// Puts the value of a block on the operands; the places are those of the variables, the innermost last, and the first marks are those of the block. Only `Memory`.
+#[cycle(blocks)]
+pub(crate) fn push_block(
+    p: &Lifted,
+    numbers: &HashMap<u32, usize>,
+    places: &mut Vec<Place>,
+    site: Site,
+    b: &LiftedBlock,
+    marks: &mut Vec<bool>,
+    out: &mut Vec<Instr>,
+) -> Result<(), EmitFault>
+    requires numbered { AreNumbered numbers.now p.now.constants }
+    requires marked { Begins (block_marks b.now) (reverse marks.old.items) }
+    ensures pushed { OnOk result (Pushed out.old.items out.new.items (block_code p.now (reverse places.old.items) site.local site.at b.now)) }
+    ensures left { OnOk result (reverse marks.new.items ≡ drop (length (block_marks b.now)) (reverse marks.old.items)) }
+    ensures same { OnOk result (places.new.items ≡ places.old.items) }
+    ensures only_memory { IfErr result (λ e. e ≡ Memory) }
+{
+    let outer = places.len();
+    let mut local = site.local;
+    for op in b.bindings.as_slice() {
+        local = push_binding(p, numbers, places, local, op, marks, out)?;
+    }
+    let last = Site { local, at: site.at };
+    push_op(p, numbers, places, last, &b.tail, marks, out)?;
+    places.truncate(outer);
+    Ok(())
+}
+
+/// Binds the value of an operation, which has the first mark and the next ones, and gives the first local that is free behind it. Only `Memory`.
+#[cycle(blocks)]
+fn push_binding(
+    p: &Lifted,
+    numbers: &HashMap<u32, usize>,
+    places: &mut Vec<Place>,
+    local: u32,
+    op: &LiftedOp,
+    marks: &mut Vec<bool>,
+    out: &mut Vec<Instr>,
+) -> Result<u32, EmitFault>
+    requires numbered { AreNumbered numbers.now p.now.constants }
+    requires marked { Begins (bound_marks (seen op.now)) (drop 1 (reverse marks.old.items)) }
+    ensures pushed { OnOk result (Pushed out.old.items out.new.items (binding_code p.now (reverse places.old.items) local (get_or (reverse marks.old.items) 0 true) (seen op.now))) }
+    ensures left { OnOk result (reverse marks.new.items ≡ drop (length (bound_marks (seen op.now))) (drop 1 (reverse marks.old.items))) }
+    ensures place { OnOk result (places.new.items ≡ places.old.items ++ place_bound local (op_unmade p.now (reverse places.old.items) (get_or (reverse marks.old.items) 0 true) (seen op.now)) ∷ []) }
+    ensures next { IfOk result (λ n. n ≡ local_behind local (op_unmade p.now (reverse places.old.items) (get_or (reverse marks.old.items) 0 true) (seen op.now))) }
+    ensures only_memory { IfErr result (λ e. e ≡ Memory) }
+{
+    if take_mark(marks) {
+        return push_made(p, numbers, places, local, op, marks, out);
+    }
+    match known(p, numbers, places, op)? {
+        Some(place) => {
+            places.push(place)?;
+            Ok(local)
+        }
+        None => push_made(p, numbers, places, local, op, marks, out),
+    }
+}
+
+/// Puts the value of an operation into the first free local, and gives the next one. Only `Memory`.
+#[cycle(blocks)]
+fn push_made(
+    p: &Lifted,
+    numbers: &HashMap<u32, usize>,
+    places: &mut Vec<Place>,
+    local: u32,
+    op: &LiftedOp,
+    marks: &mut Vec<bool>,
+    out: &mut Vec<Instr>,
+) -> Result<u32, EmitFault>
+    requires numbered { AreNumbered numbers.now p.now.constants }
+    requires marked { Begins (bound_marks (seen op.now)) (reverse marks.old.items) }
+    ensures pushed { OnOk result (Pushed out.old.items out.new.items (λ rest. op_code p.now (reverse places.old.items) local Inside (seen op.now) (LocalSet local ∷ rest))) }
+    ensures left { OnOk result (reverse marks.new.items ≡ drop (length (bound_marks (seen op.now))) (reverse marks.old.items)) }
+    ensures place { OnOk result (places.new.items ≡ places.old.items ++ At (InLocal local) ∷ []) }
+    ensures next { IfOk result (λ n. n ≡ local + 1) }
+    ensures only_memory { IfErr result (λ e. e ≡ Memory) }
+{
+    let site = Site {
+        local,
+        at: Position::Inside,
+    };
+    push_op(p, numbers, places, site, op, marks, out)?;
+    push(out, Instr::LocalSet(local))?;
+    places.push(Place::At(Word::Local(local)))?;
+    match local.checked_add(1) {
+        Some(next) => Ok(next),
+        None => Err(EmitFault::Memory),
+    }
+}
+
+/// Puts the value of an operation on the operands. Only `Memory`.
+#[cycle(blocks)]
+fn push_op(
+    p: &Lifted,
+    numbers: &HashMap<u32, usize>,
+    places: &mut Vec<Place>,
+    site: Site,
+    op: &LiftedOp,
+    marks: &mut Vec<bool>,
+    out: &mut Vec<Instr>,
+) -> Result<(), EmitFault>
+    requires numbered { AreNumbered numbers.now p.now.constants }
+    requires marked { Begins (bound_marks (seen op.now)) (reverse marks.old.items) }
+    ensures pushed { OnOk result (Pushed out.old.items out.new.items (op_code p.now (reverse places.old.items) site.local site.at (seen op.now))) }
+    ensures left { OnOk result (reverse marks.new.items ≡ drop (length (bound_marks (seen op.now))) (reverse marks.old.items)) }
+    ensures same { OnOk result (places.new.items ≡ places.old.items) }
+    ensures only_memory { IfErr result (λ e. e ≡ Memory) }
+{
+    match op {
+        LiftedOp::Atom(a) => push_atom(places.as_slice(), *a, out),
+        LiftedOp::Const(name) => {
+            let index = index_of_constant(p, numbers, *name)?;
+            push(out, Instr::Call(index))
+        }
+        LiftedOp::App(f, a) => push_application(p, places.as_slice(), site.at, *f, *a, out),
+        LiftedOp::Construct(c, args) => {
+            push_construct(places.as_slice(), site.local, *c, args, out)
+        }
+        LiftedOp::Closure(g, words) => {
+            let Some(entry) = g.checked_add(1) else {
+                return Err(EmitFault::Memory);
+            };
+            push_new_block(places.as_slice(), site.local, entry, words, out)
+        }
+        LiftedOp::Case(a, bs) => {
+            push_atom(places.as_slice(), *a, out)?;
+            push(out, Instr::LocalSet(site.local))?;
+            push_branches(p, numbers, places, site, bs, marks, out)
+        }
+    }
+}
+
+/// Makes the block of a constructor with arguments. Only `Memory`.
+fn push_construct(
+    places: &[Place],
+    d: u32,
+    c: u32,
+    args: &Atoms,
+    out: &mut Vec<Instr>,
+) -> Result<(), EmitFault>
+    ensures pushed { OnOk result (Pushed out.old.items out.new.items (block (reverse places.now) d (length args.now * 65536 + c) args.now)) }
+    ensures only_memory { IfErr result (λ e. e ≡ Memory) }
+{
+    let Ok(fields) = u32::try_from(args.len()) else {
+        return Err(EmitFault::Memory);
+    };
+    let header = header_word(c, fields)?;
+    push_new_block(places, d, header, args, out)
+}
+
+/// The branches of a match on the word in the site's local. Only `Memory`.
+#[cycle(blocks)]
+fn push_branches(
+    p: &Lifted,
+    numbers: &HashMap<u32, usize>,
+    places: &mut Vec<Place>,
+    site: Site,
+    bs: &LiftedBranches,
+    marks: &mut Vec<bool>,
+    out: &mut Vec<Instr>,
+) -> Result<(), EmitFault>
+    requires numbered { AreNumbered numbers.now p.now.constants }
+    requires marked { Begins (empty_marks bs.now ++ head_marks bs.now) (reverse marks.old.items) }
+    ensures pushed { OnOk result (Pushed out.old.items out.new.items (branches_code p.now (reverse places.old.items) site.local site.at bs.now)) }
+    ensures left { OnOk result (reverse marks.new.items ≡ drop (length (empty_marks bs.now ++ head_marks bs.now)) (reverse marks.old.items)) }
+    ensures same { OnOk result (places.new.items ≡ places.old.items) }
+    ensures only_memory { IfErr result (λ e. e ≡ Memory) }
+{
+    let empties = push_empty_branches(p, numbers, places, site, bs.as_slice(), marks, out)?;
+    let at = under(site.at, empties)?;
+    let inner = Site {
+        local: site.local,
+        at,
+    };
+    let blocks = push_block_branches(p, numbers, places, inner, bs.as_slice(), marks, out)?;
+    push(out, Instr::Unreachable)?;
+    push_ends(blocks, out)?;
+    push_ends(empties, out)
+}
+
+/// The branches without binders, each in an arm of its own, up to the `else` of the last. It gives how many arms it has begun. Only `Memory`.
+#[cycle(blocks)]
+fn push_empty_branches(
+    p: &Lifted,
+    numbers: &HashMap<u32, usize>,
+    places: &mut Vec<Place>,
+    site: Site,
+    bs: &[LiftedBranch],
+    marks: &mut Vec<bool>,
+    out: &mut Vec<Instr>,
+) -> Result<usize, EmitFault>
+    requires numbered { AreNumbered numbers.now p.now.constants }
+    requires marked { Begins (empty_marks (branches_of bs.now)) (reverse marks.old.items) }
+    ensures pushed { IfOk result (λ n. EmptyArms site.at out.old.items out.new.items (empty_arms p.now (reverse places.old.items) site.local site.at (branches_of bs.now)) n) }
+    ensures left { OnOk result (reverse marks.new.items ≡ drop (length (empty_marks (branches_of bs.now))) (reverse marks.old.items)) }
+    ensures same { OnOk result (places.new.items ≡ places.old.items) }
+    ensures only_memory { IfErr result (λ e. e ≡ Memory) }
+{
+    let mut begun = 0;
+    for c in 0..bs.len() {
+        let arm = arm_of(site, begun, c)?;
+        let arms = push_empty_arm(p, numbers, places, arm, &bs[c], marks, out)?;
+        begun += arms;
+    }
+    Ok(begun)
+}
+
+/// Branch c of a match that stands there, behind so many arms that have begun. Only `Memory`.
+fn arm_of(site: Site, begun: usize, c: usize) -> Result<Arm, EmitFault>
+    ensures is { IfOk result (λ a. a ≡ record { number = c; site = record { local = site.local; at = under_position begun site.at } }) }
+    ensures only_memory { IfErr result (λ e. e ≡ Memory) }
+{
+    let at = under(site.at, begun)?;
+    Ok(Arm {
+        number: c,
+        site: Site {
+            local: site.local,
+            at,
+        },
+    })
+}
+
+/// The arm of a branch without binders, up to its `else`. It gives how many arms it has begun: 1, or 0 where the branch has binders. Only `Memory`.
+#[cycle(blocks)]
+fn push_empty_arm(
+    p: &Lifted,
+    numbers: &HashMap<u32, usize>,
+    places: &mut Vec<Place>,
+    arm: Arm,
+    b: &LiftedBranch,
+    marks: &mut Vec<bool>,
+    out: &mut Vec<Instr>,
+) -> Result<usize, EmitFault>
+    requires numbered { AreNumbered numbers.now p.now.constants }
+    requires marked { Begins (empty_marks (branches_of (b.now ∷ []))) (reverse marks.old.items) }
+    ensures pushed { IfOk result (λ n. EmptyArm p.now (reverse places.old.items) arm.site.local arm.site.at arm.number b.now out.old.items out.new.items n) }
+    ensures left { OnOk result (reverse marks.new.items ≡ drop (length (empty_marks (branches_of (b.now ∷ [])))) (reverse marks.old.items)) }
+    ensures same { OnOk result (places.new.items ≡ places.old.items) }
+    ensures only_memory { IfErr result (λ e. e ≡ Memory) }
+{
+    if b.binders > 0 {
+        return Ok(0);
+    }
+    let Ok(number) = u32::try_from(arm.number) else {
+        return Err(EmitFault::Memory);
+    };
+    let word = empty_word(number)?;
+    let inner = inside(arm.site)?;
+    push(out, Instr::LocalGet(arm.site.local))?;
+    push(out, Instr::I32Const(word))?;
+    push_test(out)?;
+    push_block(p, numbers, places, inner, &b.body, marks, out)?;
+    push(out, Instr::Else)?;
+    Ok(1)
+}
+
+/// Where the body of an arm stands that begins there: behind the scrutinee's local, and under a block more. Only `Memory`.
+fn inside(site: Site) -> Result<Site, EmitFault>
+    ensures is { IfOk result (λ s. s ≡ record { local = site.local + 1; at = under_position 1 site.at }) }
+    ensures only_memory { IfErr result (λ e. e ≡ Memory) }
+{
+    let Some(local) = site.local.checked_add(1) else {
+        return Err(EmitFault::Memory);
+    };
+    let at = under(site.at, 1)?;
+    Ok(Site { local, at })
+}
+
+/// The branches with binders, each in an arm of its own, up to the `else` of the last. It gives how many arms it has begun. Only `Memory`.
+#[cycle(blocks)]
+fn push_block_branches(
+    p: &Lifted,
+    numbers: &HashMap<u32, usize>,
+    places: &mut Vec<Place>,
+    site: Site,
+    bs: &[LiftedBranch],
+    marks: &mut Vec<bool>,
+    out: &mut Vec<Instr>,
+) -> Result<usize, EmitFault>
+    requires numbered { AreNumbered numbers.now p.now.constants }
+    requires marked { Begins (head_marks (branches_of bs.now)) (reverse marks.old.items) }
+    ensures pushed { IfOk result (λ n. BlockArms out.old.items out.new.items (block_arms p.now (reverse places.old.items) site.local site.at (branches_of bs.now)) n) }
+    ensures left { OnOk result (reverse marks.new.items ≡ drop (length (head_marks (branches_of bs.now))) (reverse marks.old.items)) }
+    ensures same { OnOk result (places.new.items ≡ places.old.items) }
+    ensures only_memory { IfErr result (λ e. e ≡ Memory) }
+{
+    let mut begun = 0;
+    for c in 0..bs.len() {
+        let arm = arm_of(site, begun, c)?;
+        let arms = push_block_arm(p, numbers, places, arm, &bs[c], marks, out)?;
+        begun += arms;
+    }
+    Ok(begun)
+}
+
+/// The arm of a branch with binders, up to its `else`. It gives how many arms it has begun: 1, or 0 where the branch has no binders. Only `Memory`.
+#[cycle(blocks)]
+fn push_block_arm(
+    p: &Lifted,
+    numbers: &HashMap<u32, usize>,
+    places: &mut Vec<Place>,
+    arm: Arm,
+    b: &LiftedBranch,
+    marks: &mut Vec<bool>,
+    out: &mut Vec<Instr>,
+) -> Result<usize, EmitFault>
+    requires numbered { AreNumbered numbers.now p.now.constants }
+    requires marked { Begins (head_marks (branches_of (b.now ∷ []))) (reverse marks.old.items) }
+    ensures pushed { IfOk result (λ n. BlockArm p.now (reverse places.old.items) arm.site.local arm.site.at arm.number b.now out.old.items out.new.items n) }
+    ensures left { OnOk result (reverse marks.new.items ≡ drop (length (head_marks (branches_of (b.now ∷ [])))) (reverse marks.old.items)) }
+    ensures same { OnOk result (places.new.items ≡ places.old.items) }
+    ensures only_memory { IfErr result (λ e. e ≡ Memory) }
+{
+    if b.binders == 0 {
+        return Ok(0);
+    }
+    let Ok(number) = u32::try_from(arm.number) else {
+        return Err(EmitFault::Memory);
+    };
+    let header = header_word(number, b.binders)?;
+    push(out, Instr::LocalGet(arm.site.local))?;
+    push_load(out, 0)?;
+    push(out, Instr::I32Const(header))?;
+    push_test(out)?;
+    push_fielded(p, numbers, places, arm.site, b, marks, out)?;
+    push(out, Instr::Else)?;
+    Ok(1)
+}
+
+/// The body of a branch whose variables are the fields of the block whose address is in the site's local, in an arm that begins there. Only `Memory`.
+#[cycle(blocks)]
+fn push_fielded(
+    p: &Lifted,
+    numbers: &HashMap<u32, usize>,
+    places: &mut Vec<Place>,
+    site: Site,
+    b: &LiftedBranch,
+    marks: &mut Vec<bool>,
+    out: &mut Vec<Instr>,
+) -> Result<(), EmitFault>
+    requires numbered { AreNumbered numbers.now p.now.constants }
+    requires marked { Begins (block_marks b.now.body) (reverse marks.old.items) }
+    ensures pushed { OnOk result (Pushed out.old.items out.new.items (block_code p.now (fields_of site.local b.now.binders (reverse places.old.items)) (site.local + 1) (under_position 1 site.at) b.now.body)) }
+    ensures left { OnOk result (reverse marks.new.items ≡ drop (length (block_marks b.now.body)) (reverse marks.old.items)) }
+    ensures same { OnOk result (places.new.items ≡ places.old.items) }
+    ensures only_memory { IfErr result (λ e. e ≡ Memory) }
+{
+    let inner = inside(site)?;
+    let outer = places.len();
+    push_field_places(places, site.local, b.binders)?;
+    push_block(p, numbers, places, inner, &b.body, marks, out)?;
+    places.truncate(outer);
+    Ok(())
+}

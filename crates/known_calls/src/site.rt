@@ -1,0 +1,52 @@
+//! Where a block stands in the code of a function.
+ghost use Rattle.std.specs.Prelude.{◌≡◌, IfOk, IfErr};
+ghost use Rattle.known_calls.specs.KnownPushed.{under_position};
+ghost use Rattle.wasm_emit.specs.declared.fault.EmitFault.TheVariants.{Memory};
+
+use wasm_emit::EmitFault;
+
+/// What a call in some place may be.
+#[derive(Clone, Copy, Debug, PartialEq, Eq)]
+pub enum Position {
+    /// A call.
+    Inside,
+    /// In the tail of the body of this function's worker: a branch out of so many blocks to the worker's beginning.
+    InTail(u32, u32),
+}
+
+/// Where a block stands: the first local that is free, and what a call in its tail may be.
+#[derive(Clone, Copy, Debug, PartialEq, Eq)]
+pub(crate) struct Site {
+    /// The first local that is free.
+    pub local: u32,
+    /// What a call in the block's tail may be.
+    pub at: Position,
+}
+
+/// A branch of a match.
+#[derive(Clone, Copy, Debug, PartialEq, Eq)]
+pub(crate) struct Arm {
+    /// The branch's number, from 0.
+    pub number: usize,
+    /// Where the match stands, with the arms that have begun before; the scrutinee is in the first local.
+    pub site: Site,
+}
+
+/// The position under n blocks more. A depth past 32 bits is `Memory`: so many blocks have no room.
+pub(crate) fn under(at: Position, n: usize) -> Result<Position, EmitFault>
+    ensures is { IfOk result (λ q. q ≡ under_position n at) }
+    ensures only_memory { IfErr result (λ e. e ≡ Memory) }
+{
+    match at {
+        Position::Inside => Ok(Position::Inside),
+        Position::InTail(g, depth) => {
+            let Some(sum) = (depth as usize).checked_add(n) else {
+                return Err(EmitFault::Memory);
+            };
+            match u32::try_from(sum) {
+                Ok(deep) => Ok(Position::InTail(g, deep)),
+                Err(_) => Err(EmitFault::Memory),
+            }
+        }
+    }
+}
