@@ -88,7 +88,7 @@ of_call_run m pages steps args refusals.AnswerNodes h n = record { why = running
 of_call_run m pages steps args refusals.Memory h n = absurd (n refl)
 of_call_run m pages steps args _ h n = absurd h
 
-answers : Answered → Result Answered RunRefusal
+abbrev answers : Answered → Result Answered RunRefusal
 answers a = Ok a
 
 not_memory : (a : Answered) → answers a ≢ refused running.Memory

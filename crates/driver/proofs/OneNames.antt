@@ -2,7 +2,7 @@
 use Rattle.std.proofs.Common.{◌≡◌, List, [], ◌∷◌, map, refl, sym, ap, subst, ◌∙◌}
 use Rattle.std.specs.List.{All}
 use Rattle.std.proofs.lemmas.List.Elements.{All-head, All-tail}
-use Rattle.pc_terms.specs.Syntax.{Term, Ind, apply, args, head}
+use Rattle.pc_terms.specs.Syntax.{Ind, apply, args, head}
 use Rattle.calculus_rules.specs.Environment.{Env, KeepsFamily}
 use Rattle.calculus_rules.specs.Laws.{OneEach}
 use Rattle.calculus_rules.proofs.Spines.{spine_is}
@@ -56,7 +56,6 @@ module _ (E : Env) (one : OneEach E) where
   sets_alike [] (g ∷ rs) s r e = absurd cc
   sets_alike (h ∷ ss) [] s r e = absurd cc
   sets_alike (h ∷ ss) (g ∷ rs) s r e =
-      let named : Shapes → Type 0 = λ x. AreNamed E x.types in
-      let first = shapes_alike h.types g.types (All-head named h ss s) (All-head named g rs r) (head_is (set_of h) (set_of g) (sets_of ss) (sets_of rs) e) in
-      let rest = sets_alike ss rs (All-tail named h ss s) (All-tail named g rs r) (tail_is (set_of h) (set_of g) (sets_of ss) (sets_of rs) e) in
+      let first = shapes_alike h.types g.types (All-head (λ (x : Shapes). AreNamed E x.types) h ss s) (All-head (λ (x : Shapes). AreNamed E x.types) g rs r) (head_is (set_of h) (set_of g) (sets_of ss) (sets_of rs) e) in
+      let rest = sets_alike ss rs (All-tail (λ (x : Shapes). AreNamed E x.types) h ss s) (All-tail (λ (x : Shapes). AreNamed E x.types) g rs r) (tail_is (set_of h) (set_of g) (sets_of ss) (sets_of rs) e) in
       λ i. first i ∷ rest i
