@@ -21,11 +21,14 @@ pub mod CallJobCauses
 pub mod JobCauses
 pub mod Erased
 pub mod ModuleRuns
+pub mod CallRuns
+pub mod SmallArguments
 pub mod ExecSaying
 pub mod FigureLines
 pub mod BenchSaying
 pub mod MadeSaying
 pub mod ExportSaying
+pub mod CallSaying
 pub mod ExecValues
 pub mod RunCauses
 pub mod PlainAccepted
