@@ -16,7 +16,7 @@ pub says : {V : Type 0} (view : V → List ℕ) (job : Job) (q : Request) (r : R
 says view job q (Ok v) bytes wanted answer text memory = answer (view v) text
 says {V = V} view job q (Err e) bytes wanted answer text memory = subst (λ x. JobSays {V = V} job q view (Err x) bytes) (sym memory) tt
 
--- a job on a whole dump that refuses what its check refuses
+-- a job on a dump alone that refuses what its check refuses
 abbrev pub IsDumpJob : Job → Type 0
 IsDumpJob Run = ⊥
 IsDumpJob Explain = ⊥

@@ -16,6 +16,7 @@ pub mod MadeCauses
 pub mod CallCauses
 pub mod ExportCauses
 pub mod StoredAlike
+pub mod OneNames
 pub mod CallJobCauses
 pub mod JobCauses
 pub mod Erased
