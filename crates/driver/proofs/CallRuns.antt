@@ -1,5 +1,5 @@
 -- What a call of a module for calls says: a machine of it is made, a host finds its heap, and its status tells of a refused grow.
-use Rattle.std.proofs.Common.{ℕ, ◌≡◌, ◌<◌, ◌≤◌, List, length, None, Some, Err, IsTrue, inl, inr, sym, ap, subst, ◌∙◌, arith}
+use Rattle.std.proofs.Common.{ℕ, ◌≡◌, ◌*◌, ◌<◌, ◌≤◌, List, length, None, Some, Err, IsTrue, inl, inr, refl, sym, ap, subst, ◌∙◌, arith}
 use Rattle.lambda_box.specs.BoxProgram.{BoxProgram}
 use Rattle.data_trees.specs.Preorder.{IsTree}
 use Rattle.wasm_core.specs.declared.ended.Ended.TheVariants.{Trapped}
@@ -11,18 +11,18 @@ use Rattle.wasm_core.specs.MachineRun.{refusal_for_call}
 use Rattle.wasm_core.specs.HostStore.{main_start_in, with_store}
 use Rattle.wasm_core.specs.Runs.{first_store, main_start, store_of}
 use Rattle.wasm_core.specs.WordData.{DataNodes}
-use Rattle.wasm_core.proofs.Small.{inj, some_of}
+use Rattle.wasm_core.proofs.Small.{some_of}
 use Rattle.wasm_core.proofs.Starting.{hosted_starts, started}
 use Rattle.wasm_core.proofs.Trees.{moves_are_steps}
 use Rattle.mem_value.specs.Storing.{HasHeap, HasStored, IsSmallData, put_arguments}
-use Rattle.mem_value.proofs.Placing.{has_stored, heap_there}
+use Rattle.mem_value.proofs.Placing.{has_stored}
 use Rattle.mem_value.proofs.Stacks.{mapped}
 use Rattle.wasm_emit.proofs.Bytes.{zeroed_length}
 use Rattle.known_calls.specs.KnownCalls.{module_of_call}
 use Rattle.back_end.specs.BackEnd.{passed}
 use Rattle.call_answers.specs.HostedCall.{HoldsArguments}
 use Rattle.call_answers.specs.EveryCall.{CallStatusTells}
-use Rattle.stored_calls.proofs.HostedStores.{call_modules_have_entries, new_machines_have_a_heap, stored_arguments_are_held}
+use Rattle.stored_calls.proofs.HostedStores.{new_machines_have_a_heap, stored_arguments_are_held}
 use Rattle.compile.specs.Passes.{Fits}
 use Rattle.compile.proofs.CallStarting.{never_refused_for_call}
 use Rattle.module_run.specs.declared.refusal.RunRefusal.TheVariants as running
@@ -54,10 +54,8 @@ module _ (P : BoxProgram) (k pages : ℕ) (args : List DataNodes) (small : Each 
 
   stored : (new : Store) → put_arguments M pages args (first_store M) ≡ Some new → HasStored M pages (first_store M) new args
   stored new e =
-      let call = (call_modules_have_entries (passed P) k pages).1 in
-      let h = new_machines_have_a_heap (passed P) k pages in
       let size : length (first_store M).memory ≡ 65536 * (first_store M).pages = zeroed_length 1 in
-      has_stored M pages call.heap_at call.heap (first_store M) h.heap (heap_there M call.heap_at h.heap (first_store M) call.heap h.is) size h.there h.inside h.quarter h.aligned args small trees new e
+      has_stored M pages 2 refl (first_store M) 8 refl size (omega arith) (omega (arith, size)) 2 (omega arith) args small trees new e
 
   -- where a call starts its store holds the arguments
   record IsHeldAt (first : State) : Type 0 where

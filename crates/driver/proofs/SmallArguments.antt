@@ -26,6 +26,7 @@ use Rattle.data_trees.specs.Preorder.{IsTree}
 use Rattle.wasm_core.specs.ModuleCondition.{All as Each}
 use Rattle.wasm_core.specs.WordData.{DataNodes}
 use Rattle.wasm_core.proofs.Eaches.{each_append}
+use Rattle.wasm_core.proofs.Small.{inj}
 use Rattle.mem_value.specs.Storing.{IsSmallData, IsSmallNode}
 
 -- ---- the counts of a type that is found
@@ -89,11 +90,14 @@ record IsCtorIn (ks : List ShapeCtor) (n c : ℕ) (js : List ℕ) : Type 0 where
 found_in : (names : List (List ℕ)) (a : List ℕ) (n : ℕ) (ks : List ShapeCtor) (c : ℕ) (js : List ℕ) → ctor_from names a n ks ≡ Some (c, js) → IsCtorIn ks n c js
 unfolding ctor_from
 found_in names a n [] c js e = absurd cc
-found_in names a n (k ∷ ks) c js e = split (is_text a (slice_get names k.name.0)) e
+found_in names a n (k ∷ ks) c js e = split (is_text a (slice_get names k.name.0)) e (λ more. found_in names a (suc n) ks c js more)
   where
-    split : (b : Bool) → (if b then Some (n, k.args) else ctor_from names a (suc n) ks) ≡ Some (c, js) → IsCtorIn (k ∷ ks) n c js
-    split true e = (let number : n ≡ c = cc in let args : k.args ≡ js = cc in record { below = omega (arith, number); place = 0; ctor = k; at = refl; is = args })
-    split false e = (let r = found_in names a (suc n) ks c js e in let lt = r.below in record { below = omega (arith, lt); place = suc r.place; ctor = r.ctor; at = r.at; is = r.is })
+    split : (b : Bool) → (if b then Some (n, k.args) else ctor_from names a (suc n) ks) ≡ Some (c, js) → (ctor_from names a (suc n) ks ≡ Some (c, js) → IsCtorIn ks (suc n) c js) → IsCtorIn (k ∷ ks) n c js
+    split true e later =
+        let same : (n, k.args) ≡ (c, js) = inj e in
+        let number : n ≡ c = ap (λ (p : ℕ × List ℕ). p.0) same in
+        record { below = subst (λ x. x < n + suc (length ks)) number (omega arith); place = 0; ctor = k; at = refl; is = ap (λ (p : ℕ × List ℕ). p.1) same }
+    split false e later = (let r = later e in let lt = r.below in record { below = omega (arith, lt); place = suc r.place; ctor = r.ctor; at = r.at; is = r.is })
 
 ctor_small : (names : List (List ℕ)) (S : List Shape) → AreFewShapes S → (i : ℕ) (a : List ℕ) (c : ℕ) (js : List ℕ) → ctor_at names S i a ≡ Some (c, js) → (c < 1024) × (length js ≤ 255)
 ctor_small names S few i a c js e = at (slice_get S i) refl e
