@@ -1,6 +1,7 @@
 -- How `call` ends after the check: main's signature, the text of the arguments, erasure, the passes, the storing of the arguments, the run of the module, and the text of its answer. The input is the text
 -- of an environment and behind it that of the arguments.
-use Rattle.std.specs.Prelude.{ℕ, ◌≡◌, ◌≢◌, ◌⊎◌, List, length, IsTrue, Result, Ok, Err}
+use Rattle.std.specs.Prelude.{ℕ, ◌≡◌, ◌≢◌, ◌⊎◌, List, length, IsTrue, Result, Ok, Err, Vec}
+use Rattle.std.specs.declared.alloc.Global.{Global}
 use Rattle.dump_reader.specs.Front.{front_length}
 use Rattle.pc_rules.specs.declared.meter.Account.{Account}
 use Rattle.first_order.specs.declared.shapes.Signature.{Signature}
@@ -36,8 +37,8 @@ abbrev pub AreRead : List ℕ → Signature → (names : List (List ℕ)) → Li
 AreRead bytes s names ds = (arguments_read bytes s names ≡ ArgumentsAre (joined ds)) × (length ds ≡ length s.args)
 
 -- that, or the first token that refuses it
-abbrev pub ArgumentsSay : List ℕ → Signature → (names : List (List ℕ)) → Result (List DataNodes) Refusal → Type 0
-ArgumentsSay bytes s names (Ok ds) = AreRead bytes s names ds
+abbrev pub ArgumentsSay : List ℕ → Signature → (names : List (List ℕ)) → Result (Vec DataNodes Global) Refusal → Type 0
+ArgumentsSay bytes s names (Ok v) = AreRead bytes s names v.items
 ArgumentsSay bytes s names (Err (refusals.Argument (arguments.Syntax o))) = arguments_read bytes s names ≡ ArgumentsFail (texts.Syntax o)
 ArgumentsSay bytes s names (Err (refusals.Argument arguments.Nesting)) = arguments_read bytes s names ≡ ArgumentsFail texts.Nesting
 ArgumentsSay bytes s names (Err (refusals.Argument arguments.NameBytes)) = arguments_read bytes s names ≡ ArgumentsFail texts.NameBytes
