@@ -7,7 +7,7 @@ use Rattle.first_order.specs.Awaited.{ArgumentReading, ArgumentsAre, ArgumentsFa
 use Rattle.first_order.specs.declared.faults.ArgsFault.TheVariants as texts
 use Rattle.first_order.specs.declared.shapes.Shape.{Shape}
 use Rattle.first_order.specs.declared.shapes.Signature.{Signature}
-use Rattle.first_order.specs.DirectedSignature.{AreAllNamed, set_of}
+use Rattle.first_order.specs.DirectedSignature.{AreAllNamed}
 use Rattle.first_order.specs.Searching.{members}
 use Rattle.dump_reader.specs.Front.{front_length}
 use Rattle.wasm_core.specs.Parts.{Parts}

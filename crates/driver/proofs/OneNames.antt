@@ -1,6 +1,5 @@
 -- First-order sets with the same members, whose constructors have the names of one environment, are the same.
 use Rattle.std.proofs.Common.{◌≡◌, List, [], ◌∷◌, map, refl, sym, ap, subst, ◌∙◌}
-use Rattle.std.specs.List.{All}
 use Rattle.std.proofs.lemmas.List.Elements.{All-head, All-tail}
 use Rattle.pc_terms.specs.Syntax.{Ind, apply, args, head}
 use Rattle.calculus_rules.specs.Environment.{Env, KeepsFamily}

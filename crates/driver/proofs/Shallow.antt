@@ -1,5 +1,6 @@
 -- Where no limit of depth is passed, an answer or a refusal shows the status to which the rules, the passes and the run come.
 use Rattle.std.proofs.Common.{◌≢◌, ℕ, List, Result, Ok, Err, ◌⊎◌, inl, inr, refl, sym, ap}
+use Rattle.dump_reader.specs.Front.{front_bytes}
 use Rattle.dump_reader.specs.declared.environment.RawEnv.{RawEnv}
 use Rattle.command_line.specs.declared.job.Job.{Job}
 use Rattle.command_line.specs.declared.job.Job.TheVariants.{Exec, Check, Eval, Run, Compile, Bench, Explain, Export, Call}
@@ -23,7 +24,7 @@ use Rattle.driver.proofs.MadeCauses.{as_exec}
 use Rattle.driver.proofs.ExportCauses.{export_accepts}
 use Rattle.driver.proofs.CallJobCauses.{call_accepts}
 use Rattle.driver.proofs.SourceCauses.{accepted_by, end_status}
-use Rattle.driver.specs.Shallow.{CheckIsShallow, EvalIsShallow, ModuleIsShallow, CallIsShallow, IsShallow, IsShallowOn}
+use Rattle.driver.specs.Shallow.{CheckIsShallow, EvalIsShallow, ModuleIsShallow, CallIsShallow, IsShallow, IsShallowFor, IsShallowOn}
 
 -- ---- the check
 
@@ -99,7 +100,7 @@ job_ends Export q r e s c = export_ends q.turns e s q.pages r c
 job_ends Bench q r e s c = exec_ends q.turns e s q.pages q.steps r c
 
 -- of a dump the text itself refuses, or the environment that it spells does
-dump_ends : (job : Job) (q : Request) (bytes : List ℕ) (r : Refusal) → IsShallowOn job q.turns bytes → IsDumpCause job q r bytes →
+dump_ends : (job : Job) (q : Request) (bytes : List ℕ) (r : Refusal) → IsShallowFor job q.turns bytes → IsDumpCause job q r bytes →
     IsSure r ⊎ ((e : RawEnv) × SpellsWithin bytes e × JobEndsWith job q e (status_of r))
 dump_ends job q bytes refusals.Memory s h = absurd h
 dump_ends job q bytes refusals.Usage s h = absurd h
@@ -121,7 +122,7 @@ call_ends_on : {P : Type 0} (q : Request) (bytes : List ℕ) (e : RawEnv) (r : R
 call_ends_on q bytes e r s (inl c) = inl (check_ends q.turns r e s.check c, not_zero r)
 call_ends_on q bytes e r s (inr (c, p)) = inr (called_ends q bytes e s (call_accepts q.turns e bytes q.pages q.steps r c.1) (Err r) c)
 
-call_ends : (q : Request) (bytes : List ℕ) (r : Refusal) → IsShallowOn Call q.turns bytes → IsCallCause q r bytes → IsSure r ⊎ CallIsJudged q (status_of r) bytes
+call_ends : (q : Request) (bytes : List ℕ) (r : Refusal) → IsShallowFor Call q.turns (front_bytes bytes) → IsCallCause q r bytes → IsSure r ⊎ CallIsJudged q (status_of r) bytes
 call_ends q bytes refusals.Memory s h = absurd h
 call_ends q bytes refusals.Usage s h = absurd h
 call_ends q bytes refusals.ReadFault s h = absurd h

@@ -78,10 +78,7 @@ data Of (Shows : RawEnv → Type 0) (bytes : List ℕ) (r : Refusal) : Type 0 wh
   OfRefusal : (x : ReadRefusal) → verdict_on bytes ≡ Refuse x → r ≡ refusal_of x → Of Shows bytes r
   OfCheck : (e : RawEnv) → SpellsWithin bytes e → Shows e → (IsSure r → ⊥) → Of Shows bytes r
 
-abbrev JobShows : Job → Request → Refusal → RawEnv → Type 0
-JobShows job q r e = IsJobCause job q r e
-
-of : (job : Job) (q : Request) (bytes : List ℕ) (r : Refusal) → IsDumpCause job q r bytes → Of (JobShows job q r) bytes r
+of : (job : Job) (q : Request) (bytes : List ℕ) (r : Refusal) → IsDumpCause job q r bytes → Of (IsJobCause job q r) bytes r
 of job q bytes refusals.Memory h = absurd h
 of job q bytes refusals.Usage h = absurd h
 of job q bytes refusals.ReadFault h = absurd h
@@ -239,7 +236,6 @@ judged_answer Run q bytes text status short h a = run_judged_answer q.pages q.st
 judged_answer Explain q bytes text status short (e, s, ends) a = ends
 judged_answer Export q bytes text status short (e, s, ends) a =
     exported_status q.turns a.environment q.pages status a.stages a.small (subst (λ x. ExportEndsWith q.turns x q.pages status) (one_environment bytes e a.environment s a.spelled) ends)
-
 judged_answer Call q bytes text status short (e, s, ends) a = called_status q.turns e bytes q.pages q.steps text status (called_on q bytes text e s a) ends
 
 -- What the reader gives is spelled within the limits.

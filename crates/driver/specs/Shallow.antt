@@ -40,7 +40,11 @@ IsShallow Export turns e = CallIsShallow turns e
 IsShallow Call turns e = CallIsShallow turns e
 IsShallow _ turns e = ModuleIsShallow turns e
 
--- so of the environment that the bytes spell; by `call` their front
+-- so of the environment that a text spells
+abbrev pub IsShallowFor : Job → (turns : ℕ) → List ℕ → Type 0
+IsShallowFor job turns text = (e : RawEnv) → SpellsWithin text e → IsShallow job turns e
+
+-- so of that of a job's input, which by `call` its front spells
 abbrev pub IsShallowOn : Job → (turns : ℕ) → List ℕ → Type 0
-IsShallowOn Call turns bytes = (e : RawEnv) → SpellsWithin (front_bytes bytes) e → IsShallow Call turns e
-IsShallowOn job turns bytes = (e : RawEnv) → SpellsWithin bytes e → IsShallow job turns e
+IsShallowOn Call turns bytes = IsShallowFor Call turns (front_bytes bytes)
+IsShallowOn job turns bytes = IsShallowFor job turns bytes
