@@ -31,7 +31,7 @@ use Rattle.driver.specs.Called.{CallRestEndsWith}
 use Rattle.driver.specs.ExecEnds.{Accepting, ErasureSays, PassesSay, TextRefuses, status_of_end}
 use Rattle.driver.specs.CallStages.{CallCompiling, CallErasing, SignatureSays, Signing, its_call_module}
 use Rattle.driver.specs.Exported.{CallRulesAreWithin}
-use Rattle.driver.specs.CallEnds.{ArgumentsSay, CallAnswering, CallJobEnds, CallSays, CallStops, IsCallStop, in_signature, in_arguments, in_call_erasure, in_call_passes, in_call_run, in_call_text, ReadingArguments, answer_shapes, arguments_read}
+use Rattle.driver.specs.CallEnds.{ArgumentsRefuse, CallAnswering, CallJobEnds, CallSays, CallStops, IsCallStop, in_signature, in_arguments, in_call_erasure, in_call_passes, in_call_run, in_call_text, ReadingArguments, answer_shapes, arguments_read}
 use Rattle.driver.proofs.CheckCauses.{accepted_status, cause_status, not_zero}
 use Rattle.driver.proofs.SourceCauses.{accepted_by}
 use Rattle.driver.proofs.TextFits.{line_fits}
@@ -50,7 +50,7 @@ reading_status (ArgumentsFail texts.NameBytes) = 7
 reading_status (ArgumentsFail (texts.Wrong o)) = 16
 reading_status (ArgumentsFail texts.Memory) = 1
 
-pub arguments_status : (bytes : List ℕ) (s : Signature) (names : List (List ℕ)) (r : Refusal) → ArgumentsSay bytes s names (Err r) → r ≢ refusals.Memory → status_of r ≡ reading_status (arguments_read bytes s names)
+pub arguments_status : (bytes : List ℕ) (s : Signature) (names : List (List ℕ)) (r : Refusal) → ArgumentsRefuse bytes s names r → r ≢ refusals.Memory → status_of r ≡ reading_status (arguments_read bytes s names)
 arguments_status bytes s names (refusals.Argument (arguments.Syntax o)) h n = ap reading_status (sym h)
 arguments_status bytes s names (refusals.Argument arguments.Nesting) h n = ap reading_status (sym h)
 arguments_status bytes s names (refusals.Argument arguments.NameBytes) h n = ap reading_status (sym h)
@@ -115,10 +115,10 @@ module _ (turns : ℕ) (e : RawEnv) (bytes : List ℕ) where
       let same : ArgumentsAre (joined x.arguments) ≡ ArgumentsAre (joined y.arguments) = sym x.read.0 ∙ one_reading x.before y.before ∙ y.read.0 in
       cc
 
-  reading_stops : (r : Refusal) (x : Signing turns e) → ArgumentsSay bytes x.signature e.names (Err r) → r ≢ refusals.Memory → (y : Signing turns e) → status_of r ≡ reading_status (reading_by y)
+  reading_stops : (r : Refusal) (x : Signing turns e) → ArgumentsRefuse bytes x.signature e.names r → r ≢ refusals.Memory → (y : Signing turns e) → status_of r ≡ reading_status (reading_by y)
   reading_stops r x h n y = arguments_status bytes x.signature e.names r h n ∙ ap reading_status (one_reading x y)
 
-  no_reading : (r : Refusal) (x : Signing turns e) → ArgumentsSay bytes x.signature e.names (Err r) → r ≢ refusals.Memory → ReadingArguments turns e bytes → ⊥
+  no_reading : (r : Refusal) (x : Signing turns e) → ArgumentsRefuse bytes x.signature e.names r → r ≢ refusals.Memory → ReadingArguments turns e bytes → ⊥
   no_reading r x h n y = not_zero r (reading_stops r x h n y.before ∙ ap reading_status y.read.0)
 
   module _ (pages steps : ℕ) where

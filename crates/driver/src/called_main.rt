@@ -52,7 +52,7 @@ fn arguments_of(
 ) -> Result<Vec<Data>, Refusal>
     requires from { from ≡ front_length bytes.now }
     requires within { from ≤ length bytes.now }
-    ensures says { ArgumentsSay bytes.now signature.now names.now result }
+    ensures says { ArgumentsSay (λ v. v.items) bytes.now signature.now names.now result }
     ensures spells { IfOk result (λ v. SpellsArguments names.now (argument_sets signature.now.args) (texts (tokens_of (drop from bytes.now))) v.items) }
 {
     match read_args(alloc, bytes, from, signature, names) {
