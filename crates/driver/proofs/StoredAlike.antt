@@ -3,7 +3,7 @@ use Rattle.std.proofs.Common.{◌≡◌, ℕ, List, [], ◌∷◌, ◌++◌, Opt
 use Rattle.std.specs.Option.{option_and_then, option_map}
 use Rattle.first_order.specs.Awaited.{joined}
 use Rattle.wasm_core.specs.HostStore.{with_store}
-use Rattle.wasm_core.specs.MachineStep.{State, Store}
+use Rattle.wasm_core.specs.MachineStep.{Store}
 use Rattle.wasm_core.specs.Parts.{Parts}
 use Rattle.wasm_core.specs.Runs.{main_start, store_of}
 use Rattle.wasm_core.specs.WordData.{DataNodes}

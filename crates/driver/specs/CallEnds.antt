@@ -35,15 +35,19 @@ arguments_read bytes s names = arguments_from names (argument_sets s.args) bytes
 abbrev pub AreRead : List ℕ → Signature → (names : List (List ℕ)) → List DataNodes → Type 0
 AreRead bytes s names ds = (arguments_read bytes s names ≡ ArgumentsAre (joined ds)) × (length ds ≡ length s.args)
 
--- that, or the first token that refuses it
-abbrev pub ArgumentsSay : List ℕ → Signature → (names : List (List ℕ)) → Result (List DataNodes) Refusal → Type 0
-ArgumentsSay bytes s names (Ok ds) = AreRead bytes s names ds
-ArgumentsSay bytes s names (Err (refusals.Argument (arguments.Syntax o))) = arguments_read bytes s names ≡ ArgumentsFail (texts.Syntax o)
-ArgumentsSay bytes s names (Err (refusals.Argument arguments.Nesting)) = arguments_read bytes s names ≡ ArgumentsFail texts.Nesting
-ArgumentsSay bytes s names (Err (refusals.Argument arguments.NameBytes)) = arguments_read bytes s names ≡ ArgumentsFail texts.NameBytes
-ArgumentsSay bytes s names (Err (refusals.Argument (arguments.Wrong o))) = arguments_read bytes s names ≡ ArgumentsFail (texts.Wrong o)
-ArgumentsSay bytes s names (Err refusals.Memory) = Unit {0}
-ArgumentsSay bytes s names (Err _) = ⊥
+-- the first token that refuses it
+abbrev pub ArgumentsRefuse : List ℕ → Signature → (names : List (List ℕ)) → Refusal → Type 0
+ArgumentsRefuse bytes s names (refusals.Argument (arguments.Syntax o)) = arguments_read bytes s names ≡ ArgumentsFail (texts.Syntax o)
+ArgumentsRefuse bytes s names (refusals.Argument arguments.Nesting) = arguments_read bytes s names ≡ ArgumentsFail texts.Nesting
+ArgumentsRefuse bytes s names (refusals.Argument arguments.NameBytes) = arguments_read bytes s names ≡ ArgumentsFail texts.NameBytes
+ArgumentsRefuse bytes s names (refusals.Argument (arguments.Wrong o)) = arguments_read bytes s names ≡ ArgumentsFail (texts.Wrong o)
+ArgumentsRefuse bytes s names refusals.Memory = Unit {0}
+ArgumentsRefuse bytes s names _ = ⊥
+
+-- it is read, or refused
+abbrev pub ArgumentsSay : {V : Type 0} → (V → List DataNodes) → List ℕ → Signature → (names : List (List ℕ)) → Result V Refusal → Type 0
+ArgumentsSay view bytes s names (Ok v) = AreRead bytes s names (view v)
+ArgumentsSay view bytes s names (Err r) = ArgumentsRefuse bytes s names r
 
 -- there is no room for the arguments; or the run trapped with the status 1, after a grow of memory was refused
 abbrev pub CallHasNoMemory : Parts → (pages steps : ℕ) → List DataNodes → Type 0
@@ -85,7 +89,7 @@ answer_shapes x = x.signature.answer.types
 -- the stage that refuses, with what it says; where it is the storing, the run or what comes after, the module has a typing
 pub data CallStops (turns : ℕ) (e : RawEnv) (bytes : List ℕ) (pages steps : ℕ) (r : Refusal) : Type 0 where
   in_signature : (x : Accepting turns e) (w : Account) → SignatureSays x.kept x.type x.left (Err r) w → CallStops turns e bytes pages steps r
-  in_arguments : (x : Signing turns e) → ArgumentsSay bytes x.signature e.names (Err r) → CallStops turns e bytes pages steps r
+  in_arguments : (x : Signing turns e) → ArgumentsRefuse bytes x.signature e.names r → CallStops turns e bytes pages steps r
   in_call_erasure : (y : ReadingArguments turns e bytes) (x : Signing turns e) (w : Account) → ErasureSays e x.before.kept e.main x.left (Err r) w → CallStops turns e bytes pages steps r
   in_call_passes : (y : ReadingArguments turns e bytes) (x : CallErasing turns e) → PassesSay pages x.program (Err r) → CallStops turns e bytes pages steps r
   in_call_run : (y : ReadingArguments turns e bytes) (x : CallCompiling turns e) → IsValid (its_call_module pages x) → CallSays (its_call_module pages x) pages steps y.arguments (Err r) →

@@ -29,6 +29,6 @@ abbrev pub CalledMainSays : Request → Result CalledMain Refusal → List ℕ �
 CalledMainSays q (Ok m) bytes = IsCalledMain q bytes m
 CalledMainSays q (Err r) bytes = RefusalSays Call q r bytes
 
--- the module is one for calls, of a program that has one
-abbrev pub IsCallCompiled : Parts → ℕ → Type 0
-IsCallCompiled m pages = (P : BoxProgram) × (k : ℕ) × IsBoxProgram P × Fits P × (m ≡ module_of_call (passed P) k pages)
+-- the module is one for calls with k arguments, of a program that has one
+abbrev pub IsCallCompiled : Parts → (k pages : ℕ) → Type 0
+IsCallCompiled m k pages = (P : BoxProgram) × IsBoxProgram P × Fits P × (m ≡ module_of_call (passed P) k pages)

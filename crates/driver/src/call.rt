@@ -1,6 +1,7 @@
 //! The job `call`: from the bytes of a dump and of arguments behind it to the text of what main's module answers to them. `called_main` has the stages to the module; then come its call (`called`) and the
 //! text of the answer (`line_of`).
-ghost use Rattle.std.specs.Prelude.{IfOk, OnOk};
+ghost use Rattle.std.specs.Prelude.{IfOk, OnOk, length};
+ghost use Rattle.data_trees.specs.Preorder.{IsTree};
 ghost use Rattle.mem_value.specs.Storing.{IsSmallData};
 ghost use Rattle.wasm_core.specs.ModuleCondition.{All as Each};
 ghost use Rattle.wasm_core.specs.ModuleGrammar.{SpellsModule};
@@ -16,9 +17,9 @@ ghost use Rattle.driver.specs.Serve.{JobSays};
 use crate::called_main::called_main;
 use crate::exec::line_of;
 use crate::refusal::{ProgramLimit, Refusal, RunEnd};
+use call_answers::called_programs_answer;
 use command_line::Request;
 use data_trees::Data;
-use known_calls::known_calls_of_main_answer;
 use module_run::{Answer, RunRefusal, answer_of_call};
 use reports::Report;
 use std::alloc::Global;
@@ -33,13 +34,14 @@ fn called<R: Report>(
     reports: &mut Vec<R>,
 ) -> Result<Answer, Refusal>
     requires range { IsInRange request }
-    requires compiled { IsCallCompiled module.now request.pages }
+    requires compiled { IsCallCompiled module.now (length arguments.now) request.pages }
     requires small { Each IsSmallData arguments.now }
+    requires trees { Each IsTree arguments.now }
     ensures says { CallSays module.now request.pages request.steps arguments.now result }
     ensures spelled { IfOk result (λ _. SpellsModule (module_bytes module.now) module.now) }
     ensures told { OnOk result (CallRunIsTold R.shown module.now request.pages request.steps arguments.now reports.old.items reports.new.items) }
 {
-    known_calls_of_main_answer();
+    called_programs_answer();
     let steps = u64::from(request.steps);
     match answer_of_call(alloc, module, arguments, request.pages, steps, reports) {
         Ok(answer) => Ok(answer),

@@ -1,6 +1,13 @@
 //! Main's module for calls and the arguments of an input: the stages of `call` before the module's bytes.
-ghost use Rattle.std.specs.Prelude.{◌≡◌, ◌≤◌, OnOk, length};
+ghost use Rattle.std.specs.Prelude.{◌≡◌, ◌≤◌, IfOk, OnOk, drop, length};
+ghost use Rattle.sexp_reader.specs.Lex.{tokens_of};
+ghost use Rattle.dump_grammar.specs.Judge.{texts};
 ghost use Rattle.dump_reader.specs.Front.{front_length};
+ghost use Rattle.data_trees.specs.Preorder.{IsTree};
+ghost use Rattle.first_order.specs.ArgumentTexts.{SpellsArguments};
+ghost use Rattle.first_order.specs.Awaited.{argument_sets};
+ghost use Rattle.mem_value.specs.Storing.{IsSmallData};
+ghost use Rattle.wasm_core.specs.ModuleCondition.{All as Each};
 ghost use Rattle.command_line.specs.Line.{IsInRange};
 ghost use Rattle.driver.specs.CallEnds.{ArgumentsSay};
 ghost use Rattle.driver.specs.CalledMain.{CalledMainSays};
@@ -45,7 +52,8 @@ fn arguments_of(
 ) -> Result<Vec<Data>, Refusal>
     requires from { from ≡ front_length bytes.now }
     requires within { from ≤ length bytes.now }
-    ensures says { ArgumentsSay bytes.now signature.now names.now result }
+    ensures says { ArgumentsSay (λ v. v.items) bytes.now signature.now names.now result }
+    ensures spells { IfOk result (λ v. SpellsArguments names.now (argument_sets signature.now.args) (texts (tokens_of (drop from bytes.now))) v.items) }
 {
     match read_args(alloc, bytes, from, signature, names) {
         Ok(arguments) => Ok(arguments),
@@ -75,6 +83,8 @@ pub(crate) fn called_main<R: Report>(
 ) -> Result<CalledMain, Refusal>
     requires range { IsInRange request }
     ensures says { CalledMainSays request result bytes.now }
+    ensures small { IfOk result (λ m. Each IsSmallData m.arguments.items) }
+    ensures trees { IfOk result (λ m. Each IsTree m.arguments.items) }
     ensures told { OnOk result (FrontIsTold R.shown request.turns bytes.now reports.old.items reports.new.items) }
 {
     let (environment, from) = read_call(alloc, bytes)?;
