@@ -41,11 +41,12 @@ use Rattle.driver.proofs.AcceptedAs.{accepted_as}
 use Rattle.driver.proofs.CallLate.{LateEnd, of_answer, of_run}
 use Rattle.driver.proofs.CallCauses.{one_answer_set, one_argument_count, one_argument_sets, one_call_program}
 use Rattle.driver.proofs.ExecCauses.{one_acceptance}
+use Rattle.driver.proofs.OneNames.{sets_alike}
+use Rattle.driver.proofs.SmallArguments.{each_tree}
 use Rattle.driver.proofs.StoredAlike.{ends_alike}
 use Rattle.driver.proofs.TextCauses.{is_spelled}
 use Rattle.call_laws.specs.CallValues.{HasArguments, answer_types, argument_types, kept_environment, tokens_behind}
-use Rattle.call_laws.proofs.OneSignature.{one_argument_types}
-use Rattle.call_laws.proofs.SmallArguments.{arguments_small, each_tree}
+use Rattle.call_laws.proofs.SmallTerms.{terms_small}
 use Rattle.call_laws.proofs.StoredRuns.{call_ends_answer, most}
 
 are_is : (ds es : Data) → ArgumentsAre ds ≡ ArgumentsAre es → ds ≡ es
@@ -67,7 +68,7 @@ module _ (q : Request) (range : IsInRange q) (bytes : List ℕ) (e : RawEnv) (s 
   same_sets x =
       let E = kept_environment h in
       let named = subst (λ (E : Env). AreAllNamed E x.signature.args) (one_environment_kept x) x.named.0 in
-      one_argument_types E (accepted_ready E h.signing.before.checked.formed.accepted).one_each x.signature.args h.signing.signature.args named h.signing.named.0 (one_argument_sets q.turns e x h.signing)
+      sets_alike E (accepted_ready E h.signing.before.checked.formed.accepted).one_each x.signature.args h.signing.signature.args named h.signing.named.0 (one_argument_sets q.turns e x h.signing)
 
   pub they_are_read : (x : Signing q.turns e) → arguments_read bytes x.signature e.names ≡ ArgumentsAre (joined h.arguments)
   they_are_read x =
@@ -118,7 +119,7 @@ module _ (q : Request) (range : IsInRange q) (bytes : List ℕ) (e : RawEnv) (s 
         let P = passed x.before.program in
         let count = argument_count x.before.before in
         let b = source_branches (kept_environment h) in
-        let are_small = arguments_small x.before.program x.before.form (data_of x.before).terms h.arguments (data_of x.before).are in
+        let are_small = terms_small x.before.program x.before.form (data_of x.before).terms h.arguments (data_of x.before).are in
         (most P count q.pages h.arguments are_small are_trees b n tree (call_runs x) q.steps, call_ends_answer P count q.pages h.arguments are_small are_trees b n tree (call_runs x) q.steps r (ends_on_them x y r k))
 
     pub answer_is : (x : CallAnswering q.turns e bytes q.pages q.steps) → x.answer.tree ≡ tree

@@ -1,6 +1,5 @@
 mod StoredRuns
-mod SmallArguments
-mod OneSignature
+mod SmallTerms
 mod ValuesOfCalls
 mod CallStatuses
 mod ValuesServed

@@ -20,7 +20,7 @@ use Rattle.driver.specs.declared.refusal.Refusal.TheVariants as refusals
 use Rattle.driver.specs.declared.refusal.RunEnd.TheVariants as run_ends
 use Rattle.driver.specs.declared.refusal.ArgumentFault.TheVariants as faults
 use Rattle.driver.specs.CallStages.{CallCompiling, Signing, its_call_module}
-use Rattle.driver.specs.CallEnds.{ArgumentsSay, CallAnswering, CallSays, CallStops, IsCallStop, ReadingArguments, answer_shapes, arguments_read, in_arguments, in_call_erasure, in_call_passes, in_call_run, in_call_text, in_signature}
+use Rattle.driver.specs.CallEnds.{ArgumentsRefuse, CallAnswering, CallSays, CallStops, IsCallStop, ReadingArguments, answer_shapes, arguments_read, in_arguments, in_call_erasure, in_call_passes, in_call_run, in_call_text, in_signature}
 use Rattle.driver.specs.Exported.{CallRulesAreWithin}
 use Rattle.driver.specs.Judged.{EndsWith}
 use Rattle.driver.specs.Lines.{status_of}
@@ -74,7 +74,7 @@ module _ (turns : ℕ) (e : RawEnv) (bytes : List ℕ) (pages steps : ℕ) where
 
   -- ---- where main has a module for calls, and the arguments are whole
 
-  none_fail : (x : Signing turns e) (ds : Data) → arguments_read bytes x.signature e.names ≡ ArgumentsAre ds → (r : Refusal) → ArgumentsSay bytes x.signature e.names (Err r) → r ≢ refusals.Memory → ⊥
+  none_fail : (x : Signing turns e) (ds : Data) → arguments_read bytes x.signature e.names ≡ ArgumentsAre ds → (r : Refusal) → ArgumentsRefuse bytes x.signature e.names r → r ≢ refusals.Memory → ⊥
   none_fail x ds is (refusals.Argument (faults.Syntax o)) k n = (let both = sym is ∙ k in cc)
   none_fail x ds is (refusals.Argument faults.Nesting) k n = (let both = sym is ∙ k in cc)
   none_fail x ds is (refusals.Argument faults.NameBytes) k n = (let both = sym is ∙ k in cc)

@@ -1,11 +1,9 @@
--- Data that terms of a box program are, and data that is spelled, can be stored: each constructor's number and count of arguments fit a block's header, and each argument is one tree.
+-- Data that terms of a box program are can be stored: each constructor's number and count of arguments fit a block's header.
 use Rattle.std.proofs.Common.{◌≡◌, ℕ, zero, suc, ◌<◌, ◌≤◌, List, [], ◌∷◌, ◌++◌, length, Some, sym, subst, arith, slice_get}
 use Rattle.std.proofs.lemmas.Option.{slice_get_within}
 use Rattle.pc_terms.specs.BoxSyntax.{BoxTerm}
 use Rattle.pc_terms.specs.declared.leaf.FamilyId.{FamilyId}
 use Rattle.calculus_rules.specs.FirstOrder.{Data}
-use Rattle.data_trees.specs.Preorder.{IsTree}
-use Rattle.first_order.specs.Awaited.{AreTrees}
 use Rattle.lambda_box.specs.BoxEvaluation.{IsBoxConstructor, is_box_constructor}
 use Rattle.lambda_box.specs.BoxForm.{AreFew, IsBoxProgram}
 use Rattle.lambda_box.specs.BoxProgram.{BoxProgram}
@@ -38,10 +36,6 @@ module _ (P : BoxProgram) (form : IsBoxProgram P) where
     fields_small _ _ no_data_field = tt
     fields_small _ _ (data_field {x = x} {xs = xs} {d = d} {ds = ds} h k) = both_small d ds (term_small x d h) (fields_small xs ds k)
 
-  pub arguments_small : (us : List BoxTerm) (args : List Data) → DataTerms P us args → Each IsSmallData args
-  arguments_small _ _ no_data = tt
-  arguments_small _ _ (more_data {x = x} {xs = xs} {d = d} {ds = ds} h k) = (term_small x d h, arguments_small xs ds k)
-
-pub each_tree : (args : List Data) → AreTrees args → Each IsTree args
-each_tree [] h = tt
-each_tree (d ∷ args) h = (h.0, each_tree args h.1)
+  pub terms_small : (us : List BoxTerm) (args : List Data) → DataTerms P us args → Each IsSmallData args
+  terms_small _ _ no_data = tt
+  terms_small _ _ (more_data {x = x} {xs = xs} {d = d} {ds = ds} h k) = (term_small x d h, terms_small xs ds k)
