@@ -1,6 +1,6 @@
 -- What a call of `call` ends with: the arguments of each of its stages are those that are spelled; and where the erased main, applied to them, evaluates to data of the answer's types, the answer is that data and
 -- nothing shows the status 15.
-use Rattle.std.proofs.Common.{◌≡◌, ◌≢◌, ◌∙◌, ℕ, ◌+◌, ◌*◌, ◌<◌, ◌≤◌, List, [], ◌∷◌, length, drop, Option, Some, Result, Ok, Err, ◌⊎◌, inl, inr, refl, sym, ap, subst, arith, lit<}
+use Rattle.std.proofs.Common.{◌≡◌, ◌∙◌, ℕ, ◌<◌, ◌≤◌, List, length, drop, Result, Ok, Err, sym, ap, subst, arith}
 use Rattle.std.proofs.lemmas.List.{length-map}
 use Rattle.calculus_rules.specs.FirstOrder.{Data, FitsShapes}
 use Rattle.calculus_rules.specs.Environment.{Env}
@@ -9,16 +9,12 @@ use Rattle.dump_reader.specs.Front.{front_bytes, front_length}
 use Rattle.dump_reader.specs.declared.environment.RawEnv.{RawEnv}
 use Rattle.data_trees.specs.Preorder.{IsTree}
 use Rattle.erase_laws.proofs.AcceptedReady.{accepted_ready}
-use Rattle.first_order.specs.Awaited.{ArgumentReading, ArgumentsAre, ArgumentsFail, argument_sets, arguments_from, joined, reading_behind}
-use Rattle.first_order.specs.DirectedSignature.{AreAllNamed, sets_of}
-use Rattle.first_order.specs.Searching.{members}
+use Rattle.first_order.specs.Awaited.{ArgumentsAre, argument_sets, arguments_from, joined, reading_behind}
+use Rattle.first_order.specs.DirectedSignature.{AreAllNamed}
 use Rattle.first_order.specs.declared.shapes.Shapes.{Shapes}
 use Rattle.first_order.proofs.ArgumentComplete.{arguments-read, arguments_trees}
-use Rattle.lambda_box.specs.BoxProgram.{BoxProgram}
 use Rattle.wasm_core.specs.ModuleCondition.{All as Each}
 use Rattle.wasm_core.specs.ModuleTyping.{IsValid}
-use Rattle.wasm_core.specs.WordData.{DataNodes}
-use Rattle.mem_value.specs.Storing.{IsSmallData}
 use Rattle.module_run.specs.declared.answer.Answer.{Answer as Answered}
 use Rattle.module_run.specs.declared.refusal.RunRefusal.{RunRefusal}
 use Rattle.module_run.specs.declared.refusal.RunRefusal.TheVariants as running
@@ -39,13 +35,13 @@ use Rattle.driver.specs.CallEnds.{CallAnswering, ReadingArguments, arguments_rea
 use Rattle.driver.specs.Texts.{SpellsWithin}
 use Rattle.driver.proofs.AcceptedAs.{accepted_as}
 use Rattle.driver.proofs.CallLate.{LateEnd, of_answer, of_run}
-use Rattle.driver.proofs.CallCauses.{one_answer_set, one_argument_count, one_argument_sets, one_call_program}
+use Rattle.driver.proofs.CallCauses.{one_answer_set, one_argument_count, one_argument_sets}
 use Rattle.driver.proofs.ExecCauses.{one_acceptance}
 use Rattle.driver.proofs.OneNames.{sets_alike}
 use Rattle.driver.proofs.SmallArguments.{each_tree}
 use Rattle.driver.proofs.StoredAlike.{ends_alike}
 use Rattle.driver.proofs.TextCauses.{is_spelled}
-use Rattle.call_laws.specs.CallValues.{HasArguments, answer_types, argument_types, kept_environment, tokens_behind}
+use Rattle.call_laws.specs.CallValues.{HasArguments, answer_types, kept_environment, tokens_behind}
 use Rattle.call_laws.proofs.SmallTerms.{terms_small}
 use Rattle.call_laws.proofs.StoredRuns.{call_ends_answer, most}
 

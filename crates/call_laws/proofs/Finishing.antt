@@ -1,7 +1,6 @@
 -- Completeness: where main has a module for calls and the arguments are whole, the status is 0, or 1, or the run shows it.
-use Rattle.std.proofs.Common.{◌≡◌, ◌≢◌, ◌∙◌, ℕ, zero, suc, ◌<◌, List, [], ◌∷◌, Err, ◌⊎◌, inl, inr, refl, sym, subst, arith, lit<}
+use Rattle.std.proofs.Common.{◌≡◌, ◌≢◌, ℕ, zero, suc, List, [], ◌∷◌, Err, ◌⊎◌, inl, inr, refl, sym, subst, arith, lit<}
 use Rattle.std.specs.Prelude.{Contains}
-use Rattle.calculus_rules.specs.FirstOrder.{Data}
 use Rattle.dump_reader.specs.Front.{front_bytes}
 use Rattle.dump_reader.specs.declared.environment.RawEnv.{RawEnv}
 use Rattle.first_order.specs.Awaited.{joined}
@@ -9,16 +8,14 @@ use Rattle.module_run.specs.declared.refusal.RunRefusal.{RunRefusal}
 use Rattle.module_run.specs.declared.refusal.RunRefusal.TheVariants as running
 use Rattle.module_run.specs.CallEnds.{CallEnds, start_with}
 use Rattle.module_run.specs.Ends.{IsLargeFrom, IsSmall}
-use Rattle.reports.specs.Shown.{Shown}
 use Rattle.command_line.specs.declared.line.Request.{Request}
 use Rattle.command_line.specs.Line.{IsInRange}
 use Rattle.driver.specs.CallStages.{CallCompiling, Signing, its_call_module}
-use Rattle.driver.specs.Served.{Seen, Served}
 use Rattle.driver.specs.Texts.{SpellsWithin}
 use Rattle.driver.proofs.CallCauses.{one_call_module}
 use Rattle.driver.proofs.CallJobCauses.{call_run_status}
 use Rattle.driver.proofs.CallLate.{LateEnd, call_late, of_answer, of_run}
-use Rattle.call_laws.specs.CallValues.{AsksCall, CallFinishes, HasCallData, IsCallable}
+use Rattle.call_laws.specs.CallValues.{IsCallable}
 use Rattle.call_laws.specs.Laws.{CallsFinish}
 use Rattle.call_laws.proofs.CallStatuses.{ends_on_them, they_are_read}
 use Rattle.call_laws.proofs.Serving.{data_answered, range, told}

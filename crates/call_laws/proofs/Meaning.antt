@@ -1,16 +1,15 @@
 -- The stages of a call of `call` that ends with status 0 show its arguments and its answer.
-use Rattle.std.proofs.Common.{◌≡◌, ◌∙◌, ℕ, List, [], ◌∷◌, ◌++◌, drop, length, Option, Some, Result, Ok, Err, refl, sym, ap, subst}
+use Rattle.std.proofs.Common.{◌≡◌, ◌∙◌, ℕ, List, [], ◌∷◌, ◌++◌, drop, length, Option, Some, Result, Ok, Err, refl, sym, subst}
 use Rattle.std.specs.Io.KnownBytes.{Appends}
 use Rattle.sexp_reader.specs.Lex.{Spanned, answer_at, nesting_after_text}
 use Rattle.sexp_reader.specs.declared.Token.{Token}
 use Rattle.sexp_reader.specs.declared.TokenFault.{TokenFault}
 use Rattle.dump_grammar.specs.Judge.{texts}
-use Rattle.dump_reader.specs.Front.{front_bytes, front_length}
+use Rattle.dump_reader.specs.Front.{front_length}
 use Rattle.dump_reader.specs.declared.environment.RawEnv.{RawEnv}
 use Rattle.calculus_rules.specs.FirstOrder.{Data}
 use Rattle.calculus_rules.specs.Environment.{Env}
 use Rattle.calculus_rules.proofs.Spines.{one_item}
-use Rattle.first_order.specs.declared.shapes.Shape.{Shape}
 use Rattle.first_order.specs.Awaited.{ArgumentReading, ArgumentsAre, ArgumentsFail, Awaited, HasNoFault, answered, argument_sets, at_token, call_arguments, joined, reading_behind, reading_of, whole_call}
 use Rattle.first_order.specs.Awaited.{Taking, BreaksForm, Misplaced, TakesToken, taken, taking, with_nodes}
 use Rattle.first_order.specs.Searching.{AreNamed}
@@ -24,14 +23,11 @@ use Rattle.command_line.proofs.Ranges.{requests_lie_in_range}
 use Rattle.driver.specs.Called.{IsCalled}
 use Rattle.driver.specs.CallEnds.{ReadingArguments, answer_shapes}
 use Rattle.driver.specs.Serve.{HasAnswer, IsAnswerOf, IsInput, IsInputOf}
-use Rattle.driver.specs.Served.{Seen, Served}
-use Rattle.driver.specs.Texts.{SpellsWithin}
 use Rattle.driver.proofs.CallCauses.{one_answer_set}
-use Rattle.call_laws.specs.CallValues.{HasArguments, HasCallValue, answer_types, kept_environment, tokens_behind}
+use Rattle.call_laws.specs.CallValues.{HasArguments, answer_types, kept_environment, tokens_behind}
 use Rattle.call_laws.specs.Meaning.{CallMeans, HasCalled}
 use Rattle.call_laws.proofs.CallStatuses.{answer_is, one_environment_kept}
 use Rattle.call_laws.proofs.ValuesServed.{data_of_value, erased_value, value_exactly}
-use Rattle.reports.specs.Shown.{Shown}
 
 -- ---- what is read is spelled, by tokens of which none passes a limit
 

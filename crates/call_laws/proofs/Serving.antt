@@ -1,14 +1,11 @@
 -- What is served of `call` where its source tells the input, by the record that the top call promises.
-use Rattle.std.proofs.Common.{◌≡◌, ◌≢◌, ◌∙◌, ℕ, zero, suc, List, [], ◌∷◌, Option, Some, Result, Ok, Err, ◌⊎◌, inl, inr, refl, sym, ap, subst, arith, lit<}
+use Rattle.std.proofs.Common.{◌≡◌, ℕ, List, Option, Some, subst, arith}
 use Rattle.std.specs.Io.KnownBytes.{Appends}
-use Rattle.pc_terms.specs.Syntax.{Term}
 use Rattle.calculus_rules.specs.FirstOrder.{Data, FitsShapes}
 use Rattle.calculus_rules.specs.Environment.{Env}
 use Rattle.calculus_rules.proofs.Bare.{bare_types}
-use Rattle.dump_reader.specs.Front.{front_bytes}
 use Rattle.dump_reader.specs.declared.environment.RawEnv.{RawEnv}
-use Rattle.first_order.specs.Searching.{members, AreNamed}
-use Rattle.first_order.specs.DirectedSignature.{set_of, sets_of}
+use Rattle.first_order.specs.Searching.{AreNamed}
 use Rattle.reports.specs.Shown.{Shown}
 use Rattle.applied_terms.specs.CallEvaluation.{CallEvaluatesTo}
 use Rattle.applied_terms.proofs.SourceTerms.{applied_terms_are_there}
@@ -16,17 +13,16 @@ use Rattle.applied_terms.proofs.TypedTerms.{applied_terms_are_typed}
 use Rattle.command_line.specs.declared.job.Job.{Job}
 use Rattle.command_line.specs.declared.job.Job.TheVariants.{Call}
 use Rattle.command_line.specs.declared.line.Request.{Request}
-use Rattle.command_line.specs.Line.{IsInRange, request_of}
+use Rattle.command_line.specs.Line.{IsInRange}
 use Rattle.command_line.proofs.Ranges.{requests_lie_in_range}
 use Rattle.driver.specs.CallStages.{CallErasing}
 use Rattle.driver.specs.CallEnds.{CallAnswering, answer_shapes}
 use Rattle.driver.specs.Serve.{HasAnswer, SourceTells}
 use Rattle.driver.specs.Served.{Seen, Served}
 use Rattle.driver.specs.SourceSays.{IsLine}
-use Rattle.driver.specs.Texts.{SpellsWithin}
 use Rattle.driver.proofs.CallLate.{LateEnd, call_fifteen, called_on}
 use Rattle.driver.proofs.CallCauses.{one_answer_set, one_call_program}
-use Rattle.call_laws.specs.CallValues.{AsksCall, AnswersCallData, HasArguments, HasCallData, HasCallValue, IsAppliedWell, IsTextOfCall, ServesCall, answer_types, argument_types, kept_environment}
+use Rattle.call_laws.specs.CallValues.{AsksCall, AnswersCallData, HasArguments, HasCallData, HasCallValue, IsTextOfCall, ServesCall, answer_types, argument_types, kept_environment}
 use Rattle.call_laws.specs.Laws.{CallsAnswerData, CallsAnswerValues, SpelledArgumentsApply}
 use Rattle.call_laws.proofs.CallStatuses.{answer_is, call_runs, module_valid, never_fifteen, one_environment_kept}
 use Rattle.call_laws.proofs.ValuesOfCalls.{spelled_fits}
@@ -84,8 +80,8 @@ module _ {S K E : Type 0} (status : ℕ) (words : List (List ℕ)) (reports : Li
   owed n tree data_of fit =
       answers_data q e bytes words src.told asks h n tree data_of fit status out.told out'.told s.done
       (λ is.
-          call_fifteen q e bytes words src.told asks.asked.words_are asks.job (told q e bytes words src.told asks) asks.spelled status src.faults src'.faults out.faults out'.faults err.told err'.told err.faults err'.faults
-          (s.refused (λ none. fifteen status none is)) is)
+      call_fifteen q e bytes words src.told asks.asked.words_are asks.job (told q e bytes words src.told asks) asks.spelled status src.faults src'.faults out.faults out'.faults err.told err'.told err.faults err'.faults
+      (s.refused (λ none. fifteen status none is)) is)
     where
       fifteen : (status : ℕ) → status ≡ 0 → status ≡ 15 → ⊥
       fifteen status none is = omega (arith, none, is)

@@ -1,7 +1,7 @@
 -- How a call of a module for calls ends, where every run from a store that holds its arguments answers the same data: a host stores them, and so its run is one of these.
-use Rattle.std.proofs.Common.{◌≡◌, ℕ, ◌+◌, ◌*◌, ◌≤◌, List, length, Bool, true, false, Option, Some, None, Result, Ok, Err, refl, sym, ap, subst, ◌∙◌, arith}
+use Rattle.std.proofs.Common.{◌≡◌, ℕ, ◌+◌, ◌*◌, List, length, Bool, true, false, Option, Some, None, Result, Ok, Err, refl, sym, ap, subst, ◌∙◌, arith}
 use Rattle.std.specs.Prelude.{if◌then◌else◌}
-use Rattle.std.specs.Option.{option_and_then, option_map}
+use Rattle.std.specs.Option.{option_and_then}
 use Rattle.data_trees.specs.Preorder.{IsTree}
 use Rattle.closure_lift.specs.Lifted.{Program}
 use Rattle.wasm_core.specs.declared.entries.Entry.TheVariants.{Main}

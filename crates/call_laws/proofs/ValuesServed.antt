@@ -1,6 +1,5 @@
 -- The value of main, applied to the source terms of the arguments of a call: it is exactly one tree of data, to which the erased main of each stage evaluates, applied to the arguments' data.
-use Rattle.std.proofs.Common.{◌≡◌, ℕ, List, subst}
-use Rattle.calculus_rules.specs.FirstOrder.{Data, FitsShapes, Reads}
+use Rattle.std.proofs.Common.{ℕ, List, subst}
 use Rattle.calculus_rules.specs.Environment.{Env}
 use Rattle.calculus_rules.proofs.Bare.{bare_types}
 use Rattle.typing_laws.proofs.DataAlong.{reading_is_determined}
