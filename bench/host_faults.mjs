@@ -273,6 +273,7 @@ async function main(words) {
     const made = dump.length < 20_000 && name !== "false_axiom.dump" ? spawnSync(program, ["compile"], { input: dump, maxBuffer: 1 << 26 }) : { status: 1 };
     if (made.status !== 0) continue;
     const types = spawnSync(TYPES_OF, [join(EXAMPLES, name)], { encoding: "utf8" }).stdout;
+    if (readTypes(types).args.length) continue;
     const compiled = new WebAssembly.Module(made.stdout);
     programs.push({ name, module: made.stdout, compiled, types, given: [], answer: new erasec.Program(compiled, types).run() });
   }

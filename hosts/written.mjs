@@ -23,5 +23,8 @@ export const CALLABLE = ["main", "memory", "result", "status", "heap", "args"];
 export const answersArgument = (n) => ({ code: [0x23, 3, 0x28, 2, 4 * n, 0x24, 0], entries: CALLABLE });
 export const UNREACHABLE = [0x00], CALL_ITSELF = [0x10, 0], FOREVER = [0x03, 0x40, 0x0c, 0, 0x0b];
 export const EXHAUSTED = [...constant(1), 0x24, 1, ...UNREACHABLE];
-// cons 1 nil at 4, S O at 16
-export const ONE_IN_A_LIST = { words: [2 * 65536 + 1, 16, 1, 65536 + 1, 1], result: 4 };
+// S O at 4, and cons of that and nil at 12
+export const ONE_IN_A_LIST = { words: [65536 + 1, 1, 2 * 65536 + 1, 4, 1], result: 12 };
+// a tree of 2^23 - 1 nodes in 22 blocks, each with the one before twice
+export const SHARED_TREE = { words: Array.from({ length: 22 }, (_, i) => [2 * 65536 + 1, i ? 12 * i - 8 : 1, i ? 12 * i - 8 : 1]).flat(), result: 4 + 12 * 21 };
+export const TREE = "tree=leaf,node:tree+tree";

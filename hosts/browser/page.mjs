@@ -54,6 +54,7 @@ async function takeFiles(files) {
     }
   });
   showMain();
+  document.body.dataset.taken = Number(document.body.dataset.taken ?? 0) + 1;
 }
 
 /** The files that the address names, as ?module=sort.wasm&types=sort.types. */
@@ -125,6 +126,8 @@ async function run() {
 
 // ------------------------------------------------------------------ what a person does
 
+// a file that is chosen again may have changed
+$("files").addEventListener("click", () => { $("files").value = ""; });
 $("files").addEventListener("change", () => takeFiles($("files").files));
 $("run").addEventListener("click", run);
 $("stop").addEventListener("click", () => program.ending?.abort());

@@ -39,8 +39,11 @@ function file(name, content) {
 
 /** Chooses a module and types, gives arguments, runs them, and tells what the page shows. */
 async function shown(files, given = "", seconds = 60) {
+  const taken = await page.value("document.body.dataset.taken");
+  // as the click does that opens the dialog
+  await page.value("document.getElementById('files').value = ''");
   await page.choose("#files", files);
-  await page.until("!document.getElementById('run').disabled || !document.getElementById('error').hidden");
+  await page.until(`document.body.dataset.taken !== ${JSON.stringify(taken)}`);
   if (await page.value("document.getElementById('run').disabled")) return told();
   await page.value(`document.getElementById("arguments").value = ${JSON.stringify(given)}; document.getElementById("seconds").value = ${seconds}; document.getElementById("run").click()`);
   await page.until("document.getElementById('running').hidden", seconds + 60);

@@ -119,7 +119,7 @@ export class Data {
 /** Whether a value is Data whose parts have the right form; its arguments may be anything. */
 const isData = (it) => it instanceof Data && Number.isInteger(it.number) && Array.isArray(it.args);
 
-/** Reads the data that a word stands for in a memory, along the types. Every block's address, constructor and number of arguments is compared with them. */
+/** Reads the data that a word stands for in a memory, along the types. Every block's address, constructor and number of arguments is compared with them; a block lies behind those in it. */
 export function readData(buffer, word, types, type) {
   return dataOf(readNodes(buffer, word, types, type), types, type);
 }
@@ -128,17 +128,17 @@ export function readData(buffer, word, types, type) {
 export function readNodes(buffer, word, types, type) {
   const { constructors, main } = typesOf(types);
   const view = new DataView(buffer);
-  const todo = [{ word: word >>> 0, type: type ?? main }];
+  const todo = [{ word: word >>> 0, type: type ?? main, above: buffer.byteLength }];
   const nodes = [];
   while (todo.length) {
-    const { word, type } = todo.pop();
+    const { word, type, above } = todo.pop();
     if (nodes.length === 2 * MAX_NODES) throw new TooLarge(`the answer has more than ${MAX_NODES} nodes`);
-    const { number, count } = headOf(view, word);
+    const { number, count } = headOf(view, word, above);
     const constructor = constructors.get(type)?.[number];
     if (!constructor) throw new NotData(`constructor ${number} of ${type} is met, which has ${constructors.get(type)?.length || "none"}`);
     if (constructor.args.length !== count) throw new NotData(`${constructor.name} of ${type} is met with ${count} arguments, and has ${constructor.args.length}`);
     nodes.push(number, count);
-    for (let i = count; i > 0; i--) todo.push({ word: view.getUint32(word + 4 * i, true), type: constructor.args[i - 1] });
+    for (let i = count; i > 0; i--) todo.push({ word: view.getUint32(word + 4 * i, true), type: constructor.args[i - 1], above: word });
   }
   return Uint32Array.from(nodes);
 }
@@ -158,10 +158,10 @@ export function dataOf(nodes, types, type) {
   return root[0];
 }
 
-/** The constructor's number and the count of arguments that a word has; a block lies in memory as a whole. */
-function headOf(view, word) {
+/** The constructor's number and the count of arguments that a word has; a block lies in memory as a whole, and below the block in which it stands. */
+function headOf(view, word, above) {
   if (word & 1) return { number: word >>> 1, count: 0 };
-  if (word === 0 || word % 4 || word + 4 > view.byteLength) throw new NotData(`no value at ${word}`);
+  if (word === 0 || word % 4 || word >= above || word + 4 > view.byteLength) throw new NotData(`no value at ${word}`);
   const header = view.getUint32(word, true);
   const count = header >>> 16;
   if (count === 0 || word + 4 + 4 * count > view.byteLength) throw new NotData(`no value at ${word}`);

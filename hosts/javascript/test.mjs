@@ -8,7 +8,7 @@ import { join } from "node:path";
 import * as erasec from "./erasec.mjs";
 import { runLimited, textLimited } from "./limited.mjs";
 import { kindOf, notation, parseArguments } from "./notation.mjs";
-import { CALLABLE, CALL_ITSELF, EXHAUSTED, FOREVER, ONE_IN_A_LIST, UNREACHABLE, answersArgument, constant, written } from "../written.mjs";
+import { CALLABLE, CALL_ITSELF, EXHAUSTED, FOREVER, ONE_IN_A_LIST, SHARED_TREE, TREE, UNREACHABLE, answersArgument, constant, written } from "../written.mjs";
 import { TOP, calculator, listText, programs, ran, skipsPrograms, typesOfDump } from "../programs.mjs";
 
 const { Data, N, Z, ascii, bool, bytes, list, load, nat, option, positive, prod, readData, string } = erasec;
@@ -40,7 +40,10 @@ test("types that aren't the module's are found", async () => {
 test("addresses, headers and cycles are looked at", async () => {
   for (const result of [0, 2, 6, 65_532, 65_536, -4]) await assert.rejects(answerOf({ result }, NAT), erasec.NotData, String(result));
   await assert.rejects(answerOf({ words: [1], result: 4 }, NAT), erasec.NotData);
-  await assert.rejects(answerOf({ words: [65536 + 1, 4], result: 4 }, NAT), erasec.TooLarge);
+  // a block in itself, and one in front of a block that stands in it
+  await assert.rejects(answerOf({ words: [65536 + 1, 4], result: 4 }, NAT), erasec.NotData);
+  await assert.rejects(answerOf({ words: [65536 + 1, 12, 65536 + 1, 1], result: 4 }, NAT), erasec.NotData);
+  await assert.rejects(answerOf(SHARED_TREE, TREE), erasec.TooLarge);
 });
 
 test("each fault of a run has its own error", async () => {
@@ -60,7 +63,7 @@ test("arguments are stored along their types", async () => {
   const given = [nat.data(3), list(nat).data([2, 0, 1])];
   assert.equal(String(await answerOf(answersArgument(1), PAIR, ...given)), "(cons (S (S O)) (cons O (cons (S O) nil)))");
   assert.equal(String(await answerOf(answersArgument(0), PAIR.replace("->list", "->nat"), ...given)), "(S (S (S O)))");
-  // memory grows for them, and a block lies behind its fields, which the reader asks of no block
+  // memory grows for them, and the reader asks that a block lies behind those in it
   const numbers = Array.from({ length: 3_000 }, (_, i) => i % 3);
   assert.deepEqual(list(nat).of(await answerOf(answersArgument(1), PAIR, nat.data(1), list(nat).data(numbers))), numbers);
 });
@@ -183,7 +186,7 @@ test("a Worker reads and writes texts", async () => {
   assert.deepEqual(await textLimited(written(ONE_IN_A_LIST), LIST, 10_000), { count: 4, text: "(cons (S O) nil)", notation: "[1]" });
   assert.equal((await textLimited(written(answersArgument(1)), PAIR, 10_000, "0 [7, 1]")).notation, "[7, 1]");
   for (const [module, types, text, kind] of [[written(answersArgument(1)), PAIR, "0", erasec.BadArgument], [written(answersArgument(1)), "nat->", "0", erasec.BadTypes], [written({ result: 2 }), NAT, "", erasec.NotData],
-    [written({ words: [65536 + 1, 4], result: 4 }), NAT, "", erasec.TooLarge], [written({ code: FOREVER }), NAT, "", erasec.OutOfTime]]) {
+    [written(SHARED_TREE), TREE, "", erasec.TooLarge], [written({ code: FOREVER }), NAT, "", erasec.OutOfTime]]) {
     await assert.rejects(textLimited(module, types, kind === erasec.OutOfTime ? 500 : 10_000, text), kind);
   }
   const stop = new AbortController();

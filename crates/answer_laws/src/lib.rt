@@ -10,7 +10,8 @@
 //!
 //! Nothing is asked of the source: where it doesn't tell its bytes, the input is some bytes within the limit. These are laws of the record `Served`, so they hold of each call of `serve`.
 //!
-//! Below stand `driver` with the contract, `headline` with the law, `checked_laws` with that of False, and `wasm_core` with the module; nothing stands above.
+//! Below stand `driver` with the contract, `headline` with the law, `checked_laws` with that of False, and `wasm_core` with the module; above stands `export_laws`, with
+//! the same of `export`.
 #![tactic(auto)]
 
 ghost use Rattle.answer_laws.specs.Laws.{CheckMeans, CompileMeans, ExecMeans};

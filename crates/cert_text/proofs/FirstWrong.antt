@@ -1,6 +1,6 @@
 -- A wrong token is the first that continues no text of a certificate: what was read before it is the beginning of one, and a text that began with
 -- these tokens and it would be refused there too, whatever came behind.
-use Rattle.std.proofs.Common.{◌≡◌, ◌∙◌, ℕ, ◌+◌, ◌^◌, ◌<◌, ◌≤◌, Bool, true, false, if◌then◌else◌, List, [], ◌∷◌, ◌++◌, Option, Some, None, refl, sym, ap, subst, arith, decimal}
+use Rattle.std.proofs.Common.{◌≡◌, ◌∙◌, ℕ, ◌^◌, ◌<◌, Bool, true, false, if◌then◌else◌, List, [], ◌∷◌, ◌++◌, Option, Some, None, refl, sym, ap, subst, arith}
 use Rattle.std.specs.Prelude.{nat_lt, bytes_eq}
 use Rattle.sexp_reader.specs.Text.{Text, Open, Close, Atom, Stray}
 use Rattle.sexp_reader.specs.Lex.{Spanned}
@@ -11,8 +11,8 @@ use Rattle.dump_printer.proofs.Decimals.{decimal-is}
 use Rattle.cert_rules.specs.declared.item.CertItem.{CertItem}
 use Rattle.cert_rules.specs.declared.item.CertItem.TheVariants.{Number, Same, Conv, Left, Right, Parts}
 use Rattle.cert_rules.specs.Walk.{Items}
-use Rattle.cert_text.specs.CertText.{cert_word, one_word, same_word, conv_word, left_word, right_word, parts_word, item_tokens, items_tokens, cert_tokens, IsSmall, AreSmall}
-use Rattle.cert_text.specs.CertReading.{CertRead, Read, WrongToken, TooGreat, Wants, AnItem, LeftSteps, RightSteps, with_item, with_number, read_number, read_side, read_word, read_item, read_end, read_token, read_items, is_text, read_next, read_certificate}
+use Rattle.cert_text.specs.CertText.{cert_word, one_word, same_word, conv_word, left_word, right_word, parts_word, item_tokens, items_tokens, IsSmall, AreSmall}
+use Rattle.cert_text.specs.CertReading.{CertRead, Read, WrongToken, TooGreat, Wants, AnItem, LeftSteps, RightSteps, with_item, read_number, read_word, read_item, read_token, read_items, is_text, read_next, read_certificate}
 use Rattle.cert_text.specs.TextLaws.{Begins, FailsAt, WrongIsFirst}
 use Rattle.cert_text.proofs.ReadTokens.{next_item, no_item, bytes_are, text_is, less_from}
 use Rattle.cert_text.proofs.Taking.{small_number, word_same, word_conv, word_parts, word_side, read_left, read_right, no_side}

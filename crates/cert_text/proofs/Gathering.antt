@@ -1,5 +1,5 @@
 -- Items that were read, before those that are still to come.
-use Rattle.std.proofs.Common.{◌≡◌, ◌∙◌, sym, ap, refl, subst, ℕ, Ok, Err, List, [], ◌∷◌, ◌++◌}
+use Rattle.std.proofs.Common.{◌≡◌, ◌∙◌, ap, refl, ℕ, Err, List, [], ◌∷◌, ◌++◌}
 use Rattle.cert_rules.specs.declared.item.CertItem.{CertItem}
 use Rattle.cert_rules.specs.Walk.{Items}
 use Rattle.cert_text.specs.declared.refusal.CertText.{CertText}

@@ -1,20 +1,19 @@
 -- All that the tokens of a certificate spell is read, and so is what is printed.
-use Rattle.std.proofs.Common.{◌≡◌, ◌∙◌, ℕ, zero, suc, ◌+◌, ◌^◌, ◌<◌, Bool, true, false, if◌then◌else◌, List, [], ◌∷◌, ◌++◌, length, drop, Option, Some, None, refl, sym, ap, subst, arith, decimal}
-use Rattle.std.specs.Prelude.{nat_eq, bytes_eq}
+use Rattle.std.proofs.Common.{◌≡◌, ◌∙◌, ℕ, ◌+◌, ◌^◌, ◌<◌, Bool, true, false, if◌then◌else◌, List, [], ◌∷◌, ◌++◌, length, drop, refl, sym, ap, subst, arith, decimal}
+use Rattle.std.specs.Prelude.{nat_eq}
 use Rattle.std.proofs.lemmas.Slice.Eq.{bytes_eq-Decides}
 use Rattle.sexp_reader.specs.Text.{Text, Open, Close, Atom, Stray}
-use Rattle.sexp_reader.specs.Lex.{Spanned, is_blank, is_atom_byte, begins_atom, more_bytes, longer, atom_before, single, lex, tokens_of, left}
+use Rattle.sexp_reader.specs.Lex.{Spanned, is_blank, is_atom_byte, begins_atom, more_bytes, longer, atom_before, single, lex, left}
 use Rattle.dump_grammar.specs.Numbers.{number_of}
 use Rattle.dump_grammar.specs.Judge.{texts}
-use Rattle.dump_printer.specs.CanonicalTerms.{numeral, each}
-use Rattle.dump_printer.specs.Layout.{spaced}
+use Rattle.dump_printer.specs.CanonicalTerms.{numeral}
 use Rattle.dump_printer.proofs.Decimals.{decimal-read}
-use Rattle.dump_printer.proofs.Good.{IsGood, AreGood, is_good, decimal-good, spaced-read}
+use Rattle.dump_printer.proofs.Good.{AreGood, decimal-good, spaced-read}
 use Rattle.cert_rules.specs.declared.item.CertItem.{CertItem}
 use Rattle.cert_rules.specs.declared.item.CertItem.TheVariants.{Number, Same, Conv, Left, Right, Parts}
 use Rattle.cert_rules.specs.Walk.{Items}
 use Rattle.cert_text.specs.CertText.{cert_word, one_word, same_word, conv_word, left_word, right_word, parts_word, item_tokens, items_tokens, cert_tokens, cert_text, IsSmall, AreSmall}
-use Rattle.cert_text.specs.CertReading.{CertRead, Read, WrongToken, Wants, AnItem, LeftSteps, RightSteps, with_item, read_number, read_side, read_word, read_item, read_end, read_token, read_items, is_text, read_next, read_certificate, read_bytes}
+use Rattle.cert_text.specs.CertReading.{CertRead, Read, WrongToken, Wants, AnItem, LeftSteps, RightSteps, with_item, read_number, read_item, read_token, read_items, is_text, read_next, read_certificate}
 use Rattle.cert_text.specs.TextLaws.{IsReadBack}
 use Rattle.cert_text.proofs.ReadTokens.{next_item, no_item}
 use Rattle.cert_text.proofs.Taking.{small_number}

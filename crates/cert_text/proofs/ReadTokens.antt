@@ -1,20 +1,20 @@
 -- What is read is what the tokens spell, and all that they spell is read.
-use Rattle.std.proofs.Common.{◌≡◌, ◌∙◌, ◌↔◌, ℕ, zero, suc, ◌+◌, ◌^◌, ◌<◌, ◌⊎◌, inl, inr, Bool, true, false, if◌then◌else◌, List, [], ◌∷◌, ◌++◌, length, Option, Some, None, refl, sym, ap, subst, arith, decimal}
+use Rattle.std.proofs.Common.{◌≡◌, ◌∙◌, ℕ, ◌^◌, ◌<◌, Bool, true, false, if◌then◌else◌, List, [], ◌∷◌, Option, Some, None, refl, sym, ap, subst, arith}
 use Rattle.std.specs.Prelude.{nat_lt, bytes_eq}
 use Rattle.std.proofs.lemmas.Bool.{ltb-true}
 use Rattle.std.proofs.lemmas.Slice.Eq.{bytes_eq-Decides}
-use Rattle.sexp_reader.specs.Text.{Text, Open, Close, Atom, Stray}
+use Rattle.sexp_reader.specs.Text.{Text, Open, Close, Atom}
 use Rattle.sexp_reader.specs.Lex.{Spanned}
 use Rattle.dump_grammar.specs.Numbers.{number_of}
 use Rattle.dump_grammar.specs.Judge.{texts}
-use Rattle.dump_printer.specs.CanonicalTerms.{numeral, each}
-use Rattle.dump_printer.proofs.Decimals.{decimal-read, decimal-is}
+use Rattle.dump_printer.specs.CanonicalTerms.{numeral}
+use Rattle.dump_printer.proofs.Decimals.{decimal-is}
 use Rattle.dump_printer.proofs.Lists.{each-none, each-next}
 use Rattle.cert_rules.specs.declared.item.CertItem.{CertItem}
 use Rattle.cert_rules.specs.declared.item.CertItem.TheVariants.{Number, Same, Conv, Left, Right, Parts}
 use Rattle.cert_rules.specs.Walk.{Items}
 use Rattle.cert_text.specs.CertText.{cert_word, one_word, same_word, conv_word, left_word, right_word, parts_word, item_tokens, items_tokens, cert_tokens, IsSmall, AreSmall}
-use Rattle.cert_text.specs.CertReading.{CertRead, Read, WrongToken, TooGreat, Wants, AnItem, LeftSteps, RightSteps, with_item, with_number, read_number, read_side, read_word, read_item, read_end, read_token, read_items, is_text, read_next, read_certificate}
+use Rattle.cert_text.specs.CertReading.{CertRead, Read, WrongToken, TooGreat, Wants, AnItem, LeftSteps, RightSteps, with_item, read_number, read_item, read_end, read_token, read_items, is_text, read_next, read_certificate}
 
 -- what is no certificate
 

@@ -1,6 +1,6 @@
 -- How reading goes on at the next token.
-use Rattle.std.proofs.Common.{◌≡◌, ◌∙◌, sym, ap, refl, subst, ℕ, ◌^◌, ◌<◌, ◌≤◌, Result, Ok, Err, Bool, true, false, if◌then◌else◌, List, [], ◌∷◌, length, Option, Some, None, arith}
-use Rattle.std.specs.Prelude.{nat_lt, bytes_eq, slice_range}
+use Rattle.std.proofs.Common.{◌≡◌, ◌∙◌, sym, ap, refl, subst, ℕ, ◌^◌, ◌<◌, ◌≤◌, Result, Ok, Err, true, false, if◌then◌else◌, List, length, Option, Some, None, arith}
+use Rattle.std.specs.Prelude.{bytes_eq, slice_range}
 use Rattle.std.proofs.lemmas.Bool.{lt-ltb, le-ltb}
 use Rattle.sexp_reader.specs.Text.{Text, Open, Close, Atom, Stray}
 use Rattle.sexp_reader.specs.Lex.{Spanned, left}
@@ -11,13 +11,12 @@ use Rattle.cert_text.specs.declared.refusal.CertText.TheVariants as refusals
 use Rattle.cert_text.specs.declared.number.Numeral.TheVariants as numerals
 use Rattle.cert_text.specs.declared.scan.Kind.TheVariants as kinds
 use Rattle.cert_text.specs.declared.scan.Token.{Token}
-use Rattle.cert_text.specs.declared.reading.Count.{Count}
 use Rattle.cert_text.specs.declared.reading.Taken.{Taken}
 use Rattle.cert_text.specs.CertText.{same_word, conv_word, left_word, right_word, parts_word}
-use Rattle.cert_text.specs.CertReading.{CertRead, Read, WrongToken, TooGreat, Wants, AnItem, LeftSteps, RightSteps, with_item, with_number, read_number, read_side, read_word, read_item, read_end, read_token, read_items, is_text, read_next}
+use Rattle.cert_text.specs.CertReading.{CertRead, WrongToken, TooGreat, Wants, AnItem, LeftSteps, RightSteps, with_item, with_number, read_number, read_side, read_word, read_item, read_end, read_token, read_items, is_text, read_next}
 use Rattle.cert_text.specs.Scanned.{text_of, text_of_kind, IsNext}
 use Rattle.cert_text.specs.Numeral.{number_of_text, IsNumeral}
-use Rattle.cert_text.specs.Answering.{Refuses, Expects, Counts, behind, TakesSide, TakesWord, TakesAtom, Ends, Takes}
+use Rattle.cert_text.specs.Answering.{Refuses, Expects, behind, Ends, Takes}
 
 -- another reading that is the same
 pub refuses_along : {x y : CertRead} (e : CertText) → x ≡ y → Refuses y e → Refuses x e

@@ -1,7 +1,7 @@
 -- Reading a certificate, as a function of a text's tokens: the certificate; or the offset of the first token that continues no text of one, or
 -- the text's length; or the offset of a number that is too great. Of a wrong token and such a number, what comes first in the text is answered.
 use Rattle.std.specs.Prelude.{ℕ, ◌^◌, Bool, true, false, if◌then◌else◌, nat_lt, bytes_eq, List, [], ◌∷◌, length, Option, Some, None}
-use Rattle.sexp_reader.specs.Text.{Text, Open, Close, Atom, Stray}
+use Rattle.sexp_reader.specs.Text.{Text, Open, Close, Atom}
 use Rattle.sexp_reader.specs.Lex.{Spanned, left}
 use Rattle.dump_grammar.specs.Numbers.{number_of}
 use Rattle.cert_rules.specs.declared.item.CertItem.{CertItem}

@@ -1,6 +1,6 @@
 -- The text of a certificate: `(cert 1 item*)`. An item is a number, `s`, `c`, `l N`, `r N` or `k`. Blanks and comments stand where they stand in
 -- every text of tokens; what is printed has one space between parts. A number is decimal, without a leading zero.
-use Rattle.std.specs.Prelude.{◌≡◌, ℕ, ◌^◌, ◌<◌, List, [], ◌∷◌}
+use Rattle.std.specs.Prelude.{ℕ, ◌^◌, ◌<◌, List, [], ◌∷◌}
 use Rattle.sexp_reader.specs.Text.{Text, Open, Close, Atom}
 use Rattle.dump_printer.specs.CanonicalTerms.{numeral, each}
 use Rattle.dump_printer.specs.Layout.{spaced}

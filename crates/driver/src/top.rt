@@ -192,13 +192,15 @@ fn serve_whole<S: Source, K: Sink, E: Sink>(
 /// LF to `out`. `explain` does the same, and where the environment isn't accepted it answers the line of that refusal, its place and what the rules keep of it.
 /// `eval` accepts it so, finds the first-order types of main's type, evaluates main by the source's own evaluation, and writes the text of the data that the value is, with LF.
 /// `exec` accepts it so and finds these types, erases main, makes a module of that, which is encoded, decoded, validated and run, and writes the text of the data that it answers, with LF.
-/// `compile` does the same up to the module, and writes its bytes. `bench` reads nothing: it makes the text of `--size`, does with it what `exec` does, and writes five lines, the
+/// `compile` does the same up to the module, and writes its bytes. `export` accepts it so, finds the signature of main's type, which are the first-order types of each argument and of the answer,
+/// and writes the bytes of the module for calls of main. `bench` reads nothing: it makes the text of `--size`, does with it what `exec` does, and writes five lines, the
 /// declarations, the module's bytes, the run's steps and pages, and the answer.
 /// `run` decodes, validates and runs a module, and writes the data that it answers by the numbers of constructors, with LF.
 ///
 /// Statuses: 0 done; 1 want of memory; 2 the line is at fault, and then nothing is read; 3 a read fault; 4 a write fault; 5 the text's first refusal is a syntax fault; 6 its first refusal is
-/// a form that is known and not read; 7 a limit is passed: of the text, of the input's 16,777,216 bytes, of depth, types or nodes, of a program or its module, or by `run` of pages
-/// or of a table; 8 the directed rules have no end within the turns; 9 a rule is broken; 10 main's type has no first-order set, or by `exec`, `bench` and `compile` a constant without a body is reached; 11 memory is
+/// a form that is known and not read; 7 a limit is passed: of the text, of the input's 16,777,216 bytes, of depth, types, arguments or nodes, of a program or its module, or by `run` of pages
+/// or of a table; 8 the directed rules have no end within the turns; 9 a rule is broken; 10 main's type has no first-order set, or by `export` no signature, or by `exec`, `bench`, `compile` and
+/// `export` a constant without a body is reached; 11 memory is
 /// exhausted; 12 the steps are spent; 13 the bytes spell no module; 14 the module is invalid; 15 the run trapped, an entry is missing, a segment passes the table, the result is no
 /// data, or by `eval` main has no value or its value is no data of its type. By `explain` 8, 9 and the limit of depth behind the text never come.
 ///
@@ -218,7 +220,7 @@ pub fn serve<S: Source, K: Sink, E: Sink>(
     err: &mut E,
     reports: Vec<Box<dyn Report>>,
 ) -> u8
-    // The answer: the text spells an environment that is well formed, and out takes `ok`, the text of main's value, or of what main's module answers; by `run` of what the
+    // The answer: the text spells an environment that is well formed, and out takes `ok`, the text of main's value, or of what main's module answers, or the bytes of that module or of the one for calls; by `run` the text of what the
     // module of the input answers; by `explain` the check may refuse it, and then out takes what explains that.
     ensures done { result ≡ 0 → (text : List ℕ) × HasAnswer (words_of words.now) (S.left src.old) text × Appends (K.taken out.old) (K.taken out.new) text }
     ensures statuses { Contains (0 ∷ 1 ∷ 2 ∷ 3 ∷ 4 ∷ 5 ∷ 6 ∷ 7 ∷ 8 ∷ 9 ∷ 10 ∷ 11 ∷ 12 ∷ 13 ∷ 14 ∷ 15 ∷ []) result }

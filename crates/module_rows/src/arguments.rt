@@ -63,7 +63,7 @@ fn tree_of(nodes: Vec<(u32, u32)>) -> Result<Data, Fault>
 
 /// The arguments of a row, the first line first.
 pub fn arguments_of(alloc: Global, row: &Row) -> Result<Vec<Data>, Fault>
-    ensures small { IfOk result (λ v. Each IsSmallData v.now.items) }
+    ensures small { IfOk result (λ v. Each IsSmallData v.items) }
 {
     let mut arguments: Vec<Data> = Vec::new(alloc);
     for field in row.fields() {

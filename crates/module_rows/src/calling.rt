@@ -1,5 +1,5 @@
 //! Runs of a module on arguments that are stored before.
-ghost use Rattle.std.specs.Prelude.{◌≡◌, false};
+ghost use Rattle.std.specs.Prelude.{◌≡◌, false, true};
 ghost use Rattle.wasm_core.specs.HostStore.{IsForCall};
 ghost use Rattle.wasm_core.specs.ModuleCondition.{All as Each};
 ghost use Rattle.wasm_core.specs.Runs.{store_of};
@@ -15,12 +15,16 @@ use wasm_core::Valid;
 use wasm_run::Machine;
 
 /// Whether blocks may begin at `heap`: it is a multiple of 4 other than 0, at most the memory's size.
+#[tactic(auto, using(crate::proofs::Heaps::heap_is))]
 fn may_begin(machine: &Machine) -> bool
     requires for_call { IsForCall machine.now.program }
     ensures heap { result ≡ true → machine.now.failed ≡ false → HasHeap machine.now.program (store_of machine.now.state) }
 {
     let heap = machine.heap();
-    heap > 0 && heap % 4 == 0 && heap as usize <= machine.memory().len()
+    if heap == 0 || heap % 4 != 0 {
+        return false;
+    }
+    heap as usize <= machine.memory().len()
 }
 
 /// Stores arguments in a machine; false where there is no room, which is told.

@@ -1,0 +1,2 @@
+pub mod ModuleForCalls
+pub mod Laws
