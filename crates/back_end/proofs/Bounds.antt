@@ -12,8 +12,9 @@ use Rattle.wasm_core.specs.MachineStep.{State, Store, Over, Reach}
 use Rattle.wasm_core.specs.WordData.{DataNodes}
 use Rattle.wasm_core.specs.RunTree.{Fate, ended, ran_out}
 use Rattle.wasm_core.proofs.Small.{inj}
-use Rattle.wasm_emit.specs.EmittedModule.{module_of}
-use Rattle.wasm_emit.specs.EmitLaws.{Finished, Spent, spent}
+use Rattle.known_calls.specs.KnownModule.{module_of}
+use Rattle.wasm_emit.specs.EmitLaws.{Spent, spent}
+use Rattle.known_calls.specs.KnownLaws.{FinishedWithin}
 use Rattle.back_end.specs.StepsAndMemory.{StepsAndMemoryAreBounded}
 use Rattle.back_end.specs.BackEnd.{passed}
 use Rattle.back_end.proofs.Total.{total_back_end}
@@ -40,7 +41,7 @@ by_choice_of : (M : Parts) (bytes : ℕ) (s : Store) (b : Bool) → s.by_choice 
 by_choice_of M bytes s true e le h = e
 by_choice_of M bytes s false e le h = let lt = h e in absurd (omega arith)
 
-chosen : {M : Parts} {frames bytes : ℕ} {d : DataNodes} {least k : ℕ} {trap : TrapKind} {s : Store} → bytes ≤ 65536 * greatest_pages M.memory → Fate M frames (Finished M d bytes) (Spent M bytes) least k (Over (Trapped trap) s) → s.by_choice ≡ true
+chosen : {M : Parts} {frames bytes : ℕ} {d : DataNodes} {least k : ℕ} {trap : TrapKind} {s : Store} → bytes ≤ 65536 * greatest_pages M.memory → Fate M frames (FinishedWithin M d bytes) (Spent M bytes) least k (Over (Trapped trap) s) → s.by_choice ≡ true
 chosen le (ended q l) = elim q [ ]
 chosen {M} {bytes = bytes} {s = s} le (ran_out (spent x h)) = by_choice_of M bytes s s.by_choice refl le h
 

@@ -10,7 +10,7 @@ use Rattle.wasm_core.specs.Parts.{Parts}
 use Rattle.wasm_core.specs.MachineStep.{State, Store, Over, Reach}
 use Rattle.wasm_core.specs.RunTree.{Fate, ended, ran_out}
 use Rattle.wasm_core.proofs.Small.{inj}
-use Rattle.wasm_emit.specs.EmittedModule.{module_of}
+use Rattle.known_calls.specs.KnownModule.{module_of}
 use Rattle.wasm_emit.specs.EmitLaws.{Spent}
 use Rattle.closure_lift.specs.Lift.{lift}
 use Rattle.anf_convert.specs.ToAnf.{to_anf}

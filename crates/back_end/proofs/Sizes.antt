@@ -18,14 +18,14 @@ use Rattle.anf_convert.specs.ToAnfKeeps.{Ready}
 use Rattle.anf_convert.proofs.Forms.{to_anf_forms}
 use Rattle.closure_lift.specs.CapturedLimit.{BlocksCapture, ProgramCaptures}
 use Rattle.closure_lift.proofs.Forms.{lift_forms}
-use Rattle.wasm_emit.proofs.LiftedWeight.{lifted_weight}
-use Rattle.wasm_emit.proofs.Sized.{emit_sized}
+use Rattle.known_calls.proofs.KnownLight.{lifted_is_light}
+use Rattle.known_calls.proofs.KnownSizes.{known_sized}
 use Rattle.back_end.specs.BackEnd.{passed, IsWithinPasses}
 use Rattle.back_end.specs.ModuleSizes.{LocalsAreFew, ModulesAreSmall}
 use Rattle.back_end.proofs.CapturedWords.{code_few}
 use Rattle.back_end.proofs.LiftedLocals.{normal_constants_locals, few_locals}
 use Rattle.back_end.proofs.NormalLocals.{code_few as locals_few}
-use Rattle.back_end.proofs.NormalWeight.{normal_program_light}
+use Rattle.known_calls.proofs.KnownShare.{known_is_small}
 use Rattle.back_end.proofs.Total.{suffices}
 use Rattle.back_end.proofs.Whole.{product_le}
 
@@ -53,9 +53,9 @@ modules_are_small P pages m ok counts =
     let C = most_words Q in
     let fewer = (shrunk_forms P ok.form).nodes in
     let form = lift_forms (to_anf S) m (to_anf_forms S m (suffices P m ok).1) in
-    let bytes = emit_sized (passed P) pages m form ok.limits counts in
-    let lifted = lifted_weight (to_anf S) C (program_captures P m ok) in
-    let weight = normal_program_light S C in
+    let bytes = known_sized (passed P) pages m form ok.limits counts in
+    let lifted = lifted_is_light (to_anf S) C (program_captures P m ok) in
+    let weight = known_is_small S C in
     let words : 4 + C ≤ greatest_words P = omega (arith, (prop_match_program_sizes P).1) in
     omega (arith, bytes, lifted, weight, product_le (64 * program_nodes S) (64 * program_nodes (saturated_program P)) (4 + C) (greatest_words P) (omega (arith, fewer)) words)
 

@@ -25,10 +25,11 @@ use Rattle.wasm_core.specs.RunTree.{Fate}
 use Rattle.anf_convert.specs.ToAnf.{to_anf}
 use Rattle.anf_convert.proofs.Forms.{to_anf_forms}
 use Rattle.closure_lift.proofs.Forms.{lift_forms}
-use Rattle.wasm_emit.specs.EmittedModule.{module_of}
-use Rattle.wasm_emit.specs.EmitLaws.{Finished, Spent}
+use Rattle.known_calls.specs.KnownModule.{module_of}
+use Rattle.wasm_emit.specs.EmitLaws.{Spent}
+use Rattle.known_calls.specs.KnownLaws.{FinishedWithin}
 use Rattle.wasm_emit.proofs.Composition.{longer}
-use Rattle.wasm_emit.proofs.Spelled.{emit_spelled}
+use Rattle.known_calls.proofs.KnownSpelling.{known_spelled}
 use Rattle.back_end.specs.BackEnd.{passed, deepest, IsWithinPasses, ModulesAnswer, ModulesAreValid, ModulesCanBeSpelled}
 use Rattle.back_end.proofs.Composition.{back_end, back_end_valid}
 use Rattle.back_end.proofs.Whole.{families, product_le}
@@ -144,7 +145,7 @@ total_back_end P pages m w ns n matched pos small some ok evaluates reads =
       run = λ k t reach.
           let h = r.runs.run k t reach in (
             omega (arith, h.0, bound),
-            subst (λ z. Fate M (r.runs.depth + 1) (Finished M ns (8 + 4 * r.words)) (Spent M (8 + 4 * r.words)) z k t) x.matches (subst (λ (y : Nodes). Fate M (r.runs.depth + 1) (Finished M y (8 + 4 * r.words)) (Spent M (8 + 4 * r.words)) c.matches k t) d.2 h.1),
+            subst (λ z. Fate M (r.runs.depth + 1) (FinishedWithin M ns (8 + 4 * r.words)) (Spent M (8 + 4 * r.words)) z k t) x.matches (subst (λ (y : Nodes). Fate M (r.runs.depth + 1) (FinishedWithin M y (8 + 4 * r.words)) (Spent M (8 + 4 * r.words)) c.matches k t) d.2 h.1),
           );
       always = longer bound (subst (λ (y : Nodes). AnswersWithin M (64 * (c.blocks + c.contractions + 1) * (c.greatest + m)) y) d.2 r.runs.always);
     }
@@ -153,4 +154,4 @@ pub total_valid : ModulesAreValid
 total_valid P pages m pos small ok = back_end_valid (shrunk_program P) pages m pos small (suffices P m ok).1
 
 pub total_spelled : ModulesCanBeSpelled
-total_spelled P pages m pos small ok counts = emit_spelled (passed P) pages m pos small (lift_forms (to_anf (shrunk_program P)) m (to_anf_forms (shrunk_program P) m (suffices P m ok).1)) ok.limits counts
+total_spelled P pages m pos small ok counts = known_spelled (passed P) pages m pos small (lift_forms (to_anf (shrunk_program P)) m (to_anf_forms (shrunk_program P) m (suffices P m ok).1)) ok.limits counts

@@ -19,8 +19,9 @@ use Rattle.wasm_core.specs.MachineStep.{State, Reach}
 use Rattle.wasm_core.specs.Runs.{main_start}
 use Rattle.wasm_core.specs.Answer.{AnswersWithin}
 use Rattle.wasm_core.specs.RunTree.{Fate}
-use Rattle.wasm_emit.specs.EmittedModule.{module_of}
-use Rattle.wasm_emit.specs.EmitLaws.{Finished, Spent, CountsFit}
+use Rattle.known_calls.specs.KnownModule.{module_of}
+use Rattle.wasm_emit.specs.EmitLaws.{Spent, CountsFit}
+use Rattle.known_calls.specs.KnownLaws.{FinishedWithin}
 
 -- the program after all passes: matches on propositional families dropped, constructors saturated, constants with one use put in its place, parameters that are always box
 -- dropped, A-normal form, lifted
@@ -52,7 +53,7 @@ pub record Answered (P : BoxProgram) (pages m : ℕ) (ns : Nodes) (n : ℕ) : Ty
   pub nodes : ℕ
   pub matches : ℕ
   pub saturated : BoxEvaluates (saturated_program P) (saturated_program P).main w nodes matches
-  pub run : (k : ℕ) (t : State) → Reach (module_of (passed P) pages) k first t → (k ≤ 64 * (3 * n + 1) * (greatest_words P + m)) × Fate (module_of (passed P) pages) (calls + 1) (Finished (module_of (passed P) pages) ns (8 + 4 * words)) (Spent (module_of (passed P) pages) (8 + 4 * words)) matches k t
+  pub run : (k : ℕ) (t : State) → Reach (module_of (passed P) pages) k first t → (k ≤ 64 * (3 * n + 1) * (greatest_words P + m)) × Fate (module_of (passed P) pages) (calls + 1) (FinishedWithin (module_of (passed P) pages) ns (8 + 4 * words)) (Spent (module_of (passed P) pages) (8 + 4 * words)) matches k t
   pub always : AnswersWithin (module_of (passed P) pages) (64 * (3 * n + 1) * (greatest_words P + m)) ns
 
 -- where main evaluates by substitution to data with n nodes, every run of the module answers that data or is exhausted

@@ -6,7 +6,7 @@ use Rattle.lambda_box.specs.SaturatedForm.{program_nodes}
 use Rattle.box_passes.specs.PassLaws.{saturated_program}
 use Rattle.wasm_core.specs.ShortestBytes.{module_bytes}
 use Rattle.wasm_emit.specs.EmittedBodies.{FewLocals}
-use Rattle.wasm_emit.specs.EmittedModule.{module_of}
+use Rattle.known_calls.specs.KnownModule.{module_of}
 use Rattle.wasm_emit.specs.EmitLaws.{CountsFit}
 use Rattle.back_end.specs.BackEnd.{passed, IsWithinPasses}
 

@@ -9,7 +9,7 @@ use Rattle.wasm_core.specs.declared.ended.Ended.TheVariants.{Trapped}
 use Rattle.wasm_core.specs.declared.ended.TrapKind.{TrapKind}
 use Rattle.wasm_core.specs.MachineStep.{State, Store, Over, Reach}
 use Rattle.wasm_core.specs.Runs.{main_start}
-use Rattle.wasm_emit.specs.EmittedModule.{module_of}
+use Rattle.known_calls.specs.KnownModule.{module_of}
 use Rattle.back_end.specs.BackEnd.{passed, IsWithinPasses}
 
 -- of an evaluation with n nodes: no run makes more steps than this, and where this many bytes are within the maximum, a run traps only where a grow within the maximum was

@@ -13,7 +13,7 @@ use Rattle.anf_convert.specs.BoxForms.{Prepared}
 use Rattle.wasm_core.specs.declared.ended.Ended.TheVariants.{Returned}
 use Rattle.wasm_core.specs.MachineStep.{State, Store, Over, Reach}
 use Rattle.wasm_core.specs.Runs.{main_start}
-use Rattle.wasm_emit.specs.EmittedModule.{module_of}
+use Rattle.known_calls.specs.KnownModule.{module_of}
 
 -- a saturated program, from the passes before
 pub record IsSaturatedProgram (P : BoxProgram) (m : ℕ) : Type 0 where

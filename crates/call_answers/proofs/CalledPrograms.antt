@@ -37,13 +37,17 @@ use Rattle.wasm_core.specs.RunTree.{Fate, goes_on, ended, ran_out}
 use Rattle.wasm_core.specs.WordData.{DataNodes}
 use Rattle.wasm_core.proofs.Small.{inj}
 use Rattle.wasm_emit.specs.CallLaws.{IsHosted, hosted}
-use Rattle.wasm_emit.specs.CallModule.{call_function, call_globals, call_exports, module_of_call}
-use Rattle.wasm_emit.specs.EmitLaws.{Finished, Spent, spent}
+use Rattle.wasm_emit.specs.CallModule.{call_globals, call_exports}
+use Rattle.known_calls.specs.KnownModule.{worker_type}
+use Rattle.known_calls.specs.KnownCalls.{call_function, module_of_call}
+use Rattle.wasm_emit.specs.EmitLaws.{Spent, spent}
+use Rattle.known_calls.specs.KnownLaws.{FinishedWithin}
 use Rattle.wasm_emit.specs.EmittedModule.{type_main, main_index}
-use Rattle.wasm_emit.proofs.Calling.{emit_calls}
-use Rattle.wasm_emit.proofs.Indices.{main_in, main_at, entries_length}
-use Rattle.wasm_emit.proofs.Status.{call_status}
-use Rattle.wasm_emit.proofs.Valid.{call_valid}
+use Rattle.known_calls.proofs.KnownCalling.{calls_answer}
+use Rattle.wasm_emit.proofs.Indices.{entries_length}
+use Rattle.known_calls.proofs.KnownIndices.{main_in, main_at}
+use Rattle.known_calls.proofs.KnownStatus.{calls_tell}
+use Rattle.known_calls.proofs.KnownValidity.{calls_valid}
 use Rattle.back_end.specs.BackEnd.{passed}
 use Rattle.back_end.proofs.Total.{suffices}
 use Rattle.call_answers.specs.HostedCall.{HoldsArguments}
@@ -72,12 +76,12 @@ module _ (P : Program) (k pages : ℕ) where
 
   call_starts : (s : Store) → main_start_in M s ≡ Some (start_in s (record { type = type_main; body = call_function P k }))
   call_starts s =
-      let exported : index_of Main M ≡ Some (main_index P) = ap (λ (o : Option ℕ). option_and_then (λ index. option_and_then (λ t. from_nothing t.params t.result (main_index P)) (slice_get M.types index)) o) (main_in P (λ f. 2) (λ t. 1) 0) in
+      let exported : index_of Main M ≡ Some (main_index P) = ap (λ (o : Option ℕ). option_and_then (λ index. option_and_then (λ t. from_nothing t.params t.result (main_index P)) (slice_get M.types index)) o) (main_in P (λ g f. 2) (λ t. 1) 0 (λ g f. worker_type f)) in
       starts_at s (main_index P) (record { type = type_main; body = call_function P k }) exported (main_at P (call_function P k) call_globals call_exports pages)
 
 -- ---- runs that end
 
-chosen : {M : Parts} {frames bytes least k : ℕ} {d : DataNodes} {t : State} → bytes ≤ 65536 * greatest_pages M.memory → Fate M frames (Finished M d bytes) (Spent M bytes) least k t → Exhausted M t →
+chosen : {M : Parts} {frames bytes least k : ℕ} {d : DataNodes} {t : State} → bytes ≤ 65536 * greatest_pages M.memory → Fate M frames (FinishedWithin M d bytes) (Spent M bytes) least k t → Exhausted M t →
     (store_of t).by_choice ≡ false → ⊥
 chosen le (goes_on s u deep x y) gone e = elim gone [ ]
 chosen le (ended q l) (exhausted z) e = elim q [ ]
@@ -141,7 +145,7 @@ called_programs_answer P args pages b n tree pos small some ok e =
       runs = λ s h.
           let host = is_hosted s h ds ht.same in
           let at : Store = hosted s.memory s.pages h.heap h.address in
-          let z = emit_calls (passed P) pages c.greatest b vals.0 ds y.v rt.0 y.contractions c.matches c.blocks x.words s.memory s.pages h.heap h.address pos small some formed ok.limits vals.1 y.answers y.is host in
+          let z = calls_answer (passed P) pages c.greatest b vals.0 ds y.v rt.0 y.contractions c.matches c.blocks x.words s.memory s.pages h.heap h.address pos small some formed ok.limits vals.1 y.answers y.is host in
           let given : (j : ℕ) (t : State) → Reach M j (start_in at z.main) t → IsAtEnd M t → Answers M tree t ⊎ Exhausted M t = λ j t r l. subst (λ (ns : DataNodes). Answers M ns t ⊎ Exhausted M t) rt.2 (z.answers j t r l) in
           let all : CallRuns M pages most (h.heap + 4 * x.words) tree at = record {
             first = start_in at z.main;
@@ -160,11 +164,11 @@ called_programs_answer P args pages b n tree pos small some ok e =
 
 pub call_modules_are_valid : CallModulesAreValid
 call_modules_are_valid P k pages b pos small ok =
-    let S = shrunk_program P in call_valid (passed P) k pages b pos small (lift_forms (to_anf S) b (to_anf_forms S b (suffices P b ok).1))
+    let S = shrunk_program P in calls_valid (passed P) k pages b pos small (lift_forms (to_anf S) b (to_anf_forms S b (suffices P b ok).1))
 
 pub call_status_tells : CallStatusTells
 call_status_tells P args pages s small h first start k t r =
     let n = length args in
     let at = start_in s (record { type = type_main; body = call_function (passed P) n }) in
     let same : first ≡ at = inj (sym start ∙ call_starts (passed P) n pages s) in
-    call_status (passed P) n pages s k t small (omega (arith, h.few, small)) (ap (λ gs. slice_get gs 1) h.globals) (subst (λ (f : State). Reach (call_module_for P n pages) k f t) same r)
+    calls_tell (passed P) n pages s k t small (omega (arith, h.few, small)) (ap (λ gs. slice_get gs 1) h.globals) (subst (λ (f : State). Reach (call_module_for P n pages) k f t) same r)

@@ -9,7 +9,7 @@ use Rattle.wasm_core.specs.ModuleTyping.{IsValid}
 use Rattle.wasm_core.specs.Runs.{store_of}
 use Rattle.wasm_core.specs.HostStore.{main_start_in}
 use Rattle.wasm_core.specs.Answer.{global_of, Answers, Exhausted, IsAtEnd}
-use Rattle.wasm_emit.specs.CallModule.{module_of_call}
+use Rattle.known_calls.specs.KnownCalls.{module_of_call}
 use Rattle.back_end.specs.BackEnd.{passed, IsWithinPasses}
 use Rattle.applied_terms.specs.CallEvaluation.{CallEvaluatesTo}
 use Rattle.call_answers.specs.HostedCall.{HoldsArguments}
@@ -29,7 +29,8 @@ pub record CallRuns (m : Parts) (pages most bytes : ℕ) (tree : Data) (s : Stor
   pub enough : bytes ≤ 65536 * pages → (k : ℕ) (t : State) → Reach m k first t → IsAtEnd m t → (store_of t).by_choice ≡ false → Answers m tree t
 
 -- Every run of the module from a store that holds the arguments answers the data or is exhausted. The bounds go by the numbers of an evaluation with closures: its contractions, its blocks, the words of
--- the widest block, and the words of all blocks. They are the same for each such store, behind whose heap a run asks for no more bytes than these words have
+-- the widest block, and the words of all blocks. They are the same for each such store: where the maximum holds its heap and these words, a run
+-- is exhausted only after a refused grow that the maximum allows. Nothing here bounds the widest block
 pub record EveryCallAnswers (m : Parts) (arguments : List Data) (pages b n : ℕ) (tree : Data) : Type 0 where
   pub contractions : ℕ
   pub blocks : ℕ

@@ -8,7 +8,7 @@
 //! evaluation (`called_programs_answer`, `runs`), that the module is valid (`valid`) and that its status is 1 only after a refused grow (`status`). The store that a
 //! host makes is told in `specs/HostedCall.antt`, in the words that the calls which store arguments use.
 //!
-//! Below stand the laws of the layers: `applied_terms`, `erase_rules`, `box_passes`, `shrink_passes`, `anf_convert`, `closure_lift`, `wasm_emit`, `back_end`, and
+//! Below stand the laws of the layers: `applied_terms`, `erase_rules`, `box_passes`, `shrink_passes`, `anf_convert`, `closure_lift`, `wasm_emit`, `known_calls`, `back_end`, and
 //! `headline` with what the two headlines share; above stand `stored_calls`, which
 //! says that storing makes such a store, and `export_laws`, what the job `export` owes.
 #![tactic(auto)]

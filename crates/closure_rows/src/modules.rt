@@ -1,6 +1,7 @@
 //! The layer of modules: `compile`, of what the row's environment is erased to, and a run of the module.
 ghost use Rattle.lambda_box.specs.BoxForm.{IsBoxProgram};
 
+use crate::calls::run_calls;
 use crate::erasing::program_of;
 use box_terms::program::BoxProgram;
 use compile::{CompileFault, compile};
@@ -30,6 +31,9 @@ fn run_erased(case: &Case, program: &BoxProgram, out: &mut String) -> Result<(),
     if pages < 1 || pages > 16_384 {
         return Err(Fault::Faulty("no number of pages"));
     }
+    if case.row.given("call")? == "calls" {
+        return run_calls(case, program, pages, out);
+    }
     match compile(case.alloc, program, pages) {
         Ok(module) => run_compiled(case, &module, pages, out),
         Err(fault) => Ok(put_fault(out, fault)?),
@@ -54,7 +58,7 @@ fn put_module(alloc: Global, module: &Valid, out: &mut String) -> Result<(), Fau
 }
 
 /// Why there is no module.
-fn put_fault(out: &mut String, fault: CompileFault) -> Result<(), AllocError> {
+pub fn put_fault(out: &mut String, fault: CompileFault) -> Result<(), AllocError> {
     out.push_str(match fault {
         CompileFault::Depth => "depth",
         CompileFault::Captured => "captured",
@@ -119,7 +123,7 @@ fn put_end(out: &mut String, end: Result<Ended, RunFault>) -> Result<(), AllocEr
 
 /// Prints the data that a machine answers, in a line of its own: how many nodes it has, and the first in preorder, each as its constructor's number and
 /// its number of arguments.
-fn put_answer(alloc: Global, machine: &Machine, out: &mut String) -> Result<(), AllocError> {
+pub fn put_answer(alloc: Global, machine: &Machine, out: &mut String) -> Result<(), AllocError> {
     match answer_tree(alloc, machine) {
         Ok(data) => {
             let count = data.len();

@@ -8,12 +8,14 @@ use Rattle.wasm_core.specs.declared.entries.Entry.TheVariants.{Main}
 use Rattle.wasm_core.specs.Entries.{index_of, from_nothing, missing, or_missing}
 use Rattle.wasm_core.specs.MachineRun.{refusal, unless_missing, past_fault}
 use Rattle.closure_lift.specs.Lifted.{Program}
-use Rattle.wasm_emit.specs.EmittedModule.{main_index, module_of, entries}
-use Rattle.wasm_emit.proofs.Indices.{main_in, entries_length}
+use Rattle.wasm_emit.specs.EmittedModule.{main_index, entries}
+use Rattle.known_calls.specs.KnownModule.{worker_type, module_of}
+use Rattle.wasm_emit.proofs.Indices.{entries_length}
+use Rattle.known_calls.proofs.KnownIndices.{main_in}
 
 module _ (P : Program) (pages : ℕ) where
   exported : index_of Main (module_of P pages) ≡ Some (main_index P)
-  exported = ap (λ (o : Option ℕ). option_and_then (λ index. option_and_then (λ t. from_nothing t.params t.result (main_index P)) (slice_get (module_of P pages).types index)) o) (main_in P (λ f. 2) (λ t. 1) 0)
+  exported = ap (λ (o : Option ℕ). option_and_then (λ index. option_and_then (λ t. from_nothing t.params t.result (main_index P)) (slice_get (module_of P pages).types index)) o) (main_in P (λ g f. 2) (λ t. 1) 0 (λ g f. worker_type f))
 
   none_missing : missing (module_of P pages) ≡ None
   none_missing = ap (λ (o : Option ℕ). or_missing Main o None) exported

@@ -16,7 +16,7 @@ use Rattle.anf_convert.proofs.Prepared.{form_kept}
 use Rattle.closure_lift.specs.LiftedForm.{Limits, Formed}
 use Rattle.closure_lift.proofs.CapturedLimit.{captured_exactly}
 use Rattle.closure_lift.proofs.Forms.{lift_forms}
-use Rattle.wasm_emit.proofs.Valid.{call_valid}
+use Rattle.known_calls.proofs.KnownValidity.{calls_valid}
 use Rattle.back_end.specs.BackEnd.{passed}
 use Rattle.back_end.proofs.Whole.{families}
 use Rattle.back_end.proofs.Total.{total_back_end, total_valid}
@@ -76,7 +76,7 @@ pub fits_valid : FittingProgramsAreValid
 fits_valid P pages pos small form fits = total_valid P pages 1024 pos small (fits_within P 1024 form fits (λ F has. (form.counts F has).constructors))
 
 pub fits_call_valid : FittingCallsAreValid
-fits_call_valid P k pages pos small form fits = call_valid (passed P) k pages 1024 pos small (lifted_formed P 1024 form fits.shallow (λ F has. (form.counts F has).constructors))
+fits_call_valid P k pages pos small form fits = calls_valid (passed P) k pages 1024 pos small (lifted_formed P 1024 form fits.shallow (λ F has. (form.counts F has).constructors))
 
 one_refusal : (P : BoxProgram) (a b : CompileFault) → CompileIsRefused P a → CompileIsRefused P b → (a ≡ refusals.Memory → ⊥) → (b ≡ refusals.Memory → ⊥) → a ≡ b
 one_refusal P refusals.Memory b h k n m = absurd (n refl)

@@ -19,8 +19,8 @@ use Rattle.closure_lift.specs.declared.fault.LiftFault.{LiftFault}
 use Rattle.closure_lift.specs.declared.fault.LiftFault.TheVariants as lifting
 use Rattle.wasm_core.specs.ModuleTyping.{IsValid}
 use Rattle.wasm_core.specs.MachineRun.{refusal}
-use Rattle.wasm_emit.specs.EmittedModule.{module_of}
-use Rattle.wasm_emit.specs.CallModule.{module_of_call}
+use Rattle.known_calls.specs.KnownModule.{module_of}
+use Rattle.known_calls.specs.KnownCalls.{module_of_call}
 use Rattle.wasm_emit.specs.EmittedBodies.{FewLocals}
 use Rattle.wasm_emit.specs.declared.fault.EmitFault.{EmitFault}
 use Rattle.wasm_emit.specs.declared.fault.EmitFault.TheVariants as emission

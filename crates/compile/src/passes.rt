@@ -4,8 +4,8 @@ ghost use Rattle.lambda_box.specs.BoxForm.{IsBoxProgram};
 ghost use Rattle.back_end.specs.BackEnd.{passed};
 ghost use Rattle.closure_lift.specs.LiftedProgram.{lifted_of};
 ghost use Rattle.wasm_emit.specs.Emission.{Emits};
-ghost use Rattle.wasm_emit.specs.EmittedModule.{module_of};
-ghost use Rattle.wasm_emit.specs.CallModule.{module_of_call};
+ghost use Rattle.known_calls.specs.KnownModule.{module_of};
+ghost use Rattle.known_calls.specs.KnownCalls.{module_of_call};
 ghost use Rattle.compile.specs.Passes.{Fits, IsLowered, CompileIsRefused};
 
 use crate::fault::CompileFault;
@@ -14,10 +14,10 @@ use box_passes::{prop_match, saturate};
 use box_terms::program::BoxProgram;
 use closure_lift::lift_program;
 use closure_lift::program::Lifted;
+use known_calls::{emit, emit_call};
 use shrink_passes::{drop_dead_params, inline};
 use std::alloc::Global;
 use wasm_core::Valid;
-use wasm_emit::{emit, emit_call};
 
 /// The lifted program of a program: the passes before emission, in their order.
 ///

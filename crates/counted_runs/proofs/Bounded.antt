@@ -19,7 +19,8 @@ use Rattle.wasm_core.specs.RunTree.{Fate, goes_on, ended, ran_out}
 use Rattle.wasm_core.specs.Answer.{Answers, Exhausted, exhausted, AnswersWithin}
 use Rattle.wasm_core.specs.WordData.{DataNodes as Nodes}
 use Rattle.wasm_core.proofs.Small.{inj}
-use Rattle.wasm_emit.specs.EmitLaws.{Finished, Spent, spent}
+use Rattle.wasm_emit.specs.EmitLaws.{Spent, spent}
+use Rattle.known_calls.specs.KnownLaws.{FinishedWithin}
 use Rattle.wasm_emit.proofs.Composition.{longer}
 use Rattle.headline.specs.SourceWords.{source_branches}
 use Rattle.headline.specs.EveryRun.{module_for}
@@ -28,13 +29,13 @@ use Rattle.headline.proofs.SourceSizes.{of_source}
 use Rattle.counted_runs.specs.CountedRuns.{CountsBoundRuns, EvaluationsHaveCounts, CountsAreOne, ValuesAreAnsweredByCounts}
 
 -- a run that no refused grow within the maximum ended, and whose memory suffices, isn't exhausted
-past_memory : {M : Parts} {frames bytes least k : ℕ} {tree : Nodes} {t : State} → Fate M frames (Finished M tree bytes) (Spent M bytes) least k t → Exhausted M t →
+past_memory : {M : Parts} {frames bytes least k : ℕ} {tree : Nodes} {t : State} → Fate M frames (FinishedWithin M tree bytes) (Spent M bytes) least k t → Exhausted M t →
     bytes ≤ 65536 * greatest_pages M.memory → (store_of t).by_choice ≡ false → Answers M tree t
 past_memory (goes_on s t l p q) x le e = elim x [ ]
 past_memory (ended q l) (exhausted x) le e = elim q [ ]
 past_memory (ran_out (spent x h)) (exhausted y) le e = let lt = h e in absurd (omega arith)
 
-unless_exhausted : {M : Parts} {frames bytes least k : ℕ} {tree : Nodes} {t : State} → Answers M tree t ⊎ Exhausted M t → Fate M frames (Finished M tree bytes) (Spent M bytes) least k t →
+unless_exhausted : {M : Parts} {frames bytes least k : ℕ} {tree : Nodes} {t : State} → Answers M tree t ⊎ Exhausted M t → Fate M frames (FinishedWithin M tree bytes) (Spent M bytes) least k t →
     bytes ≤ 65536 * greatest_pages M.memory → (store_of t).by_choice ≡ false → Answers M tree t
 unless_exhausted (inl a) f le e = a
 unless_exhausted (inr x) f le e = past_memory f x le e
@@ -63,7 +64,7 @@ counts_bound_runs P pages m tree c pos small some ok given =
           let fate = (r.runs.run n t (subst (λ (f : State). Reach M n f t) (inj (sym all.starts ∙ r.runs.starts)) reach)).1 in
           let few = r.few in
           unless_exhausted (all.answers n t reach end)
-          (subst (λ (y : Nodes). Fate M (r.runs.depth + 1) (Finished M y (8 + 4 * r.words)) (Spent M (8 + 4 * r.words)) k.matches n t) d.2 fate) (omega (arith, few, bytes, big)) free;
+          (subst (λ (y : Nodes). Fate M (r.runs.depth + 1) (FinishedWithin M y (8 + 4 * r.words)) (Spent M (8 + 4 * r.words)) k.matches n t) d.2 fate) (omega (arith, few, bytes, big)) free;
     }
 
 pub evaluations_have_counts : EvaluationsHaveCounts

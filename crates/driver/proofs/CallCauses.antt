@@ -9,7 +9,7 @@ use Rattle.pc_rules.specs.DirectedPlaces.{Placed}
 use Rattle.pc_rules.specs.DirectedFirstOrder.{Searched, Found, NotFirstOrder, TooManyTypes}
 use Rattle.first_order.specs.DirectedSignature.{Signed, Takes, TooManyArguments, signature_search, signed_by, set_of, sets_of}
 use Rattle.erase_rules.specs.DirectedProgram.{Answer}
-use Rattle.wasm_emit.specs.CallModule.{module_of_call}
+use Rattle.known_calls.specs.KnownCalls.{module_of_call}
 use Rattle.back_end.specs.BackEnd.{passed}
 use Rattle.compile.specs.Passes.{Fits}
 use Rattle.dump_reader.specs.declared.environment.RawEnv.{RawEnv}

@@ -12,7 +12,7 @@ use Rattle.first_order.specs.Searching.{members}
 use Rattle.lambda_box.specs.BoxProgram.{BoxProgram}
 use Rattle.erase_rules.specs.DirectedProgram.{Answer, Program, ReachesAxiom}
 use Rattle.wasm_core.specs.Parts.{Parts}
-use Rattle.wasm_emit.specs.EmittedModule.{module_of}
+use Rattle.known_calls.specs.KnownModule.{module_of}
 use Rattle.back_end.specs.BackEnd.{passed}
 use Rattle.compile.specs.Passes.{Fits}
 use Rattle.compile.specs.declared.fault.CompileFault.TheVariants as compiling

@@ -19,7 +19,7 @@ use Rattle.compile.proofs.Within.{fits_call_valid}
 use Rattle.source_limits.proofs.Sizes.{refusals_show_sizes}
 use Rattle.wasm_core.specs.ModuleTyping.{IsValid}
 use Rattle.wasm_core.specs.Parts.{Parts}
-use Rattle.wasm_emit.specs.CallModule.{module_of_call}
+use Rattle.known_calls.specs.KnownCalls.{module_of_call}
 use Rattle.back_end.specs.BackEnd.{passed}
 use Rattle.dump_reader.specs.declared.environment.RawEnv.{RawEnv}
 use Rattle.command_line.specs.declared.job.Job.TheVariants.{Export}

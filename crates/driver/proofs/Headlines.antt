@@ -21,7 +21,7 @@ use Rattle.wasm_core.specs.Answer.{Answers, AnswersWithin, IsAtEnd}
 use Rattle.wasm_core.specs.Runs.{main_start, store_of}
 use Rattle.wasm_core.proofs.Small.{inj}
 use Rattle.wasm_core.proofs.Trees.{moves_are_steps}
-use Rattle.wasm_emit.specs.EmittedModule.{module_of}
+use Rattle.known_calls.specs.KnownModule.{module_of}
 use Rattle.back_end.specs.BackEnd.{passed, IsWithinPasses}
 use Rattle.back_end.proofs.Total.{total_valid}
 use Rattle.compile.proofs.Within.{fits_within}

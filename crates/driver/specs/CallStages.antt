@@ -16,7 +16,7 @@ use Rattle.lambda_box.specs.BoxForm.{IsBoxProgram}
 use Rattle.erase_laws.specs.ErasedProgram.{HasErased, IsErased}
 use Rattle.erase_rules.specs.DirectedProgram.{Program}
 use Rattle.wasm_core.specs.Parts.{Parts}
-use Rattle.wasm_emit.specs.CallModule.{module_of_call}
+use Rattle.known_calls.specs.KnownCalls.{module_of_call}
 use Rattle.back_end.specs.BackEnd.{passed}
 use Rattle.compile.specs.Passes.{Fits}
 use Rattle.dump_reader.specs.declared.environment.RawEnv.{RawEnv}

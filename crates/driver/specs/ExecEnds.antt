@@ -24,7 +24,7 @@ use Rattle.erase_rules.specs.DirectedProgram.{Answer, Program, ReachesAxiom, era
 use Rattle.wasm_core.specs.declared.ended.TrapKind.{TrapKind}
 use Rattle.wasm_core.specs.Parts.{Parts}
 use Rattle.wasm_core.specs.ModuleTyping.{IsValid}
-use Rattle.wasm_emit.specs.EmittedModule.{module_of}
+use Rattle.known_calls.specs.KnownModule.{module_of}
 use Rattle.back_end.specs.BackEnd.{passed}
 use Rattle.compile.specs.Passes.{Fits, CompileIsRefused}
 use Rattle.compile.specs.declared.fault.CompileFault.TheVariants as compiling

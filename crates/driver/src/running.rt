@@ -4,7 +4,7 @@ ghost use Rattle.lambda_box.specs.BoxForm.{IsBoxProgram};
 ghost use Rattle.lambda_box.specs.BoxProgram.{BoxProgram as Program};
 ghost use Rattle.wasm_core.specs.ModuleGrammar.{SpellsModule};
 ghost use Rattle.wasm_core.specs.ShortestBytes.{module_bytes};
-ghost use Rattle.wasm_emit.specs.EmittedModule.{module_of};
+ghost use Rattle.known_calls.specs.KnownModule.{module_of};
 ghost use Rattle.back_end.specs.BackEnd.{passed};
 ghost use Rattle.compile.specs.Passes.{Fits};
 ghost use Rattle.module_run.specs.RunFacts.{RunIsTold};
@@ -13,11 +13,11 @@ ghost use Rattle.driver.specs.ExecEnds.{MeasuredSays, PassesSay};
 use crate::refusal::{ProgramLimit, Refusal, RunEnd};
 use box_terms::program::BoxProgram;
 use compile::{CompileFault, compile};
+use known_calls::known_status_tells;
 use module_run::{Measured, RunRefusal, answer_of};
 use reports::Report;
 use std::alloc::Global;
 use wasm_core::Valid;
-use wasm_emit::status_tells_of_a_refused_grow;
 
 /// The module of a program, whose memory grows to at most so many pages of 65,536 bytes.
 pub(crate) fn compiled(alloc: Global, pages: u32, program: &BoxProgram) -> Result<Valid, Refusal>
@@ -55,7 +55,7 @@ pub(crate) fn measured<R: Report>(
     ensures spelled { IfOk result (λ _. SpellsModule (module_bytes module.now) module.now) }
     ensures told { OnOk result (RunIsTold R.shown module.now pages steps reports.old.items reports.new.items) }
 {
-    status_tells_of_a_refused_grow();
+    known_status_tells();
     match answer_of(alloc, module, pages, u64::from(steps), reports) {
         Ok(run) => Ok(run),
         Err(RunRefusal::ModuleBytes) => Err(Refusal::Program {

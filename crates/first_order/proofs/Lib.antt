@@ -8,3 +8,11 @@ pub mod ReadTexts
 pub mod Lowered
 pub mod AllRead
 pub mod Signing
+pub mod ArgumentTokens
+pub mod ArgumentNodes
+pub mod ArgumentOffsets
+pub mod ArgumentSpelling
+pub mod ArgumentComplete
+pub mod ConstructorNames
+pub mod ArgumentAnswers
+pub mod WrittenArguments

@@ -81,7 +81,7 @@ read_has_text S names h v ds e m w = all_named S names h 4000000 0 (field 0 v �
 
 -- ---- the namings give a node as many places as it has arguments
 
-counted_is : (k l : ShapeCtor) (n : ℕ) → counted_ctor n k ≡ Some l → (k ≡ l) × (length l.args ≡ n)
+pub counted_is : (k l : ShapeCtor) (n : ℕ) → counted_ctor n k ≡ Some l → (k ≡ l) × (length l.args ≡ n)
 counted_is k l n e =
     let q = if_is (length k.args == n) (Some k) e in
     let same : k ≡ l = one_item q.1 in

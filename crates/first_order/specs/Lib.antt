@@ -5,3 +5,7 @@ pub mod Laws
 pub mod Signature
 pub mod DirectedSignature
 pub mod Applied
+pub mod ArgumentTexts
+pub mod Awaited
+pub mod Nexts
+pub mod WrittenArguments

@@ -47,6 +47,23 @@ pub enum TextFault {
     Memory,
 }
 
+/// Why a text of arguments is not read. Offsets are bytes from the start of the input.
+#[derive(Clone, Copy, Debug, PartialEq, Eq)]
+pub enum ArgsFault {
+    /// The start of the first token such that no text of the form begins with the tokens up to and including it, or of a byte that belongs to no token,
+    /// or the length where the text ended early.
+    Syntax { offset: usize },
+    /// Brackets stand in one another more than 1,000 deep.
+    Nesting,
+    /// An atom has more than 255 bytes.
+    NameBytes,
+    /// The start of what doesn't stand at its type: a name that isn't a constructor of the type, an item that is one too many, a name without a bracket
+    /// whose constructor has arguments, or a closing bracket where an item is missing.
+    Wrong { offset: usize },
+    /// There is no memory.
+    Memory,
+}
+
 impl From<Stop> for ShapeRefusal {
     ghost use Rattle.std.specs.Prelude.{◌≡◌};
     ghost use Rattle.first_order.specs.Searching.{refusal_of};
@@ -157,5 +174,17 @@ impl From<MakeFault> for SignatureRefusal {
             MakeFault::TooDeep => SignatureRefusal::TooDeep,
             MakeFault::Memory => SignatureRefusal::Memory,
         }
+    }
+}
+
+impl From<MakeFault> for ArgsFault {
+    ghost use Rattle.std.specs.Prelude.{◌≡◌};
+    ghost use Rattle.first_order.specs.declared.faults.ArgsFault.TheVariants.{Memory};
+
+    ghost from_gives = { λ _ f. f ≡ Memory };
+
+    /// Only want of memory is met here: no term is made.
+    fn from(_f: MakeFault) -> ArgsFault {
+        ArgsFault::Memory
     }
 }

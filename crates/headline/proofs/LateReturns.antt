@@ -25,7 +25,7 @@ use Rattle.wasm_core.specs.MachineStep.{State, Store, Over, Reach}
 use Rattle.wasm_core.specs.RunTree.{Fate, ended, ran_out}
 use Rattle.wasm_core.proofs.Small.{inj}
 use Rattle.wasm_emit.specs.EmitLaws.{Spent}
-use Rattle.wasm_emit.proofs.Composition.{anf_emits}
+use Rattle.known_calls.proofs.KnownComposition.{anf_answers_known}
 use Rattle.back_end.proofs.Whole.{families, no_values}
 use Rattle.headline.specs.EveryRun.{module_for, ReturnsTakeMatches}
 
@@ -55,6 +55,6 @@ late_returns P pages b pos small some ok value tree nodes matches evaluates read
     let d = reads_tree r.v tree r.reads in
     let c = r.counts in
     let y = to_anf_keeps S NoValue WNil DNil r.v d.0 c ready anf.no_values anf_data_none (box_alone r.run) d.1 in
-    let z = anf_emits (to_anf S) pages c.greatest b y.v d.0 y.contractions c.matches c.blocks y.words pos small some formed ok.limits y.answers y.is in
+    let z = anf_answers_known (to_anf S) pages c.greatest b y.v d.0 y.contractions c.matches c.blocks y.words pos small some formed ok.limits y.answers y.is in
     let least = returned_late (z.run k (Over Returned s) (subst (λ (f : State). Reach (module_for P pages) k f (Over Returned s)) (inj (sym starts ∙ z.starts)) reach)).1 in
     omega (arith, first_run.matches, r.no_more.matches, least)

@@ -11,7 +11,7 @@ use Rattle.wasm_core.specs.declared.ended.Ended.TheVariants.{Returned}
 use Rattle.wasm_core.specs.MachineStep.{State, Store, Over, Reach}
 use Rattle.wasm_core.specs.Runs.{main_start, store_of}
 use Rattle.wasm_core.specs.Answer.{Answers, AnswersWithin, IsAtEnd}
-use Rattle.wasm_emit.specs.EmittedModule.{module_of}
+use Rattle.known_calls.specs.KnownModule.{module_of}
 use Rattle.back_end.specs.BackEnd.{passed, IsWithinPasses}
 
 -- the module that the passes and emission make of the program, whose memory may grow to so many pages

@@ -32,7 +32,7 @@ use Rattle.wasm_emit.proofs.Follows.{zeros_length}
 use Rattle.wasm_emit.proofs.Answering.{alone, forget, is_exhausted}
 use Rattle.known_calls.specs.KnownCode.{Inside}
 use Rattle.known_calls.specs.KnownModule.{worker_type, main_function, module_of}
-use Rattle.known_calls.specs.KnownLaws.{Finished, finished, KnownAnswers}
+use Rattle.known_calls.specs.KnownLaws.{FinishedWithin, finished, KnownAnswers}
 use Rattle.known_calls.proofs.KnownHolds.{env_nil, stood_inside}
 use Rattle.known_calls.proofs.KnownIndices.{main_in, main_at}
 use Rattle.known_calls.proofs.KnownFollows.{follows}
@@ -53,11 +53,11 @@ starts P pages =
 
 -- the tree of all runs
 whole : (P : Program) (pages w m D : ℕ) (v : Val) (d : DataTree) (c k b s : ℕ) → 0 < pages → pages ≤ 16384 → 0 < m → Gets P w m false D VNil P.main v c k b s → IsData v d →
-    Within (module_of P pages) (record { frames = 2 * D + 1; bytes = 8 + 4 * s; more = [] }) (Finished (module_of P pages) (preorder d) (8 + 4 * s)) k (64 * (b + c + 1) * (w + m)) (first_of P pages)
+    Within (module_of P pages) (record { frames = 2 * D + 1; bytes = 8 + 4 * s; more = [] }) (FinishedWithin (module_of P pages) (preorder d) (8 + 4 * s)) k (64 * (b + c + 1) * (w + m)) (first_of P pages)
 whole P pages w m D v d c k b s pos small some g is =
     let M = module_of P pages in
     let cap : Limits = record { frames = 2 * D + 1; bytes = 8 + 4 * s; more = [] } in
-    let Q = Finished M (preorder d) (8 + 4 * s) in
+    let Q = FinishedWithin M (preorder d) (8 + 4 * s) in
     let y = (follows P (main_function P) [] [] pages small w m some cap Q g).sim Inside (zeroed 1) 1 8 (zeros (top 0 P.main)) 0 [] (record {
       long = zeroed_length 1;
       q = 2;
@@ -74,11 +74,11 @@ whole P pages w m D v d c k b s pos small some g is =
     (rule.r_over M cap.frames Q (Spent M cap.bytes) (now (finished (record { status = refl; word = w'; result = refl; stands = reads room.inside st is }) refl (omega (arith, z)) (omega (arith, room.tight)))))) (omega arith) (omega arith))
     (λ z. cc)) (omega arith) (omega arith)
 
-pub at_end : (m : Parts) (bytes : ℕ) (d : List (ℕ × ℕ)) (t : State) → Finished m d bytes t ⊎ Spent m bytes t → IsAtEnd m t
+pub at_end : (m : Parts) (bytes : ℕ) (d : List (ℕ × ℕ)) (t : State) → FinishedWithin m d bytes t ⊎ Spent m bytes t → IsAtEnd m t
 at_end m bytes d t (inl (finished h x y z)) granted u s = s
 at_end m bytes d t (inr (spent h x)) granted u s = s
 
-pub has_answered : (m : Parts) (bytes : ℕ) (d : List (ℕ × ℕ)) (t : State) → Finished m d bytes t → Answers m d t
+pub has_answered : (m : Parts) (bytes : ℕ) (d : List (ℕ × ℕ)) (t : State) → FinishedWithin m d bytes t → Answers m d t
 has_answered m bytes d t (finished h x y z) = answers h
 
 pub known_answers : KnownAnswers
@@ -90,6 +90,6 @@ known_answers P pages w m v d c k b s pos small some form limits run is =
       first = first_of P pages;
       starts = starts P pages;
       depth = 2 * y.D;
-      run = λ n t r. tree_tells M (2 * y.D + 1) k (64 * (b + c + 1) * (w + m)) (Finished M (preorder d) (8 + 4 * s)) (Spent M (8 + 4 * s)) (first_of P pages) (at_end M (8 + 4 * s) (preorder d)) tree n t r;
+      run = λ n t r. tree_tells M (2 * y.D + 1) k (64 * (b + c + 1) * (w + m)) (FinishedWithin M (preorder d) (8 + 4 * s)) (Spent M (8 + 4 * s)) (first_of P pages) (at_end M (8 + 4 * s) (preorder d)) tree n t r;
       always = tree_answers M (2 * y.D + 1) k (64 * (b + c + 1) * (w + m)) (preorder d) (first_of P pages) (starts P pages) (forget (has_answered M (8 + 4 * s) (preorder d)) (is_exhausted M (8 + 4 * s)) tree);
     }

@@ -30,13 +30,13 @@ use Rattle.wasm_emit.proofs.Answering.{is_exhausted}
 use Rattle.wasm_emit.proofs.Calling.{args_of}
 use Rattle.known_calls.specs.KnownModule.{worker_type}
 use Rattle.known_calls.specs.KnownCalls.{applied, call_function, module_of_call}
-use Rattle.known_calls.specs.KnownLaws.{Finished, finished, CallsAnswer}
+use Rattle.known_calls.specs.KnownLaws.{FinishedWithin, finished, CallsAnswer}
 use Rattle.known_calls.proofs.KnownHolds.{stood_inside}
 use Rattle.known_calls.proofs.KnownIndices.{main_in, main_at}
 use Rattle.known_calls.proofs.KnownFollows.{applies}
 use Rattle.known_calls.proofs.KnownAnswering.{at_end, has_answered}
 
-ends : (m : Parts) (bytes frames least n : ℕ) (d : List (ℕ × ℕ)) (t : State) → Fate m frames (Finished m d bytes) (Spent m bytes) least n t → IsAtEnd m t → Answers m d t ⊎ Exhausted m t
+ends : (m : Parts) (bytes frames least n : ℕ) (d : List (ℕ × ℕ)) (t : State) → Fate m frames (FinishedWithin m d bytes) (Spent m bytes) least n t → IsAtEnd m t → Answers m d t ⊎ Exhausted m t
 ends m bytes frames least n d t (goes_on s u deep x y) last = absurd (last true s x)
 ends m bytes frames least n d t (ended q h) last = inl (has_answered m bytes d t q)
 ends m bytes frames least n d t (ran_out e) last = inr (is_exhausted m bytes t e)
@@ -44,12 +44,12 @@ ends m bytes frames least n d t (ran_out e) last = inr (is_exhausted m bytes t e
 -- the tree of all runs
 whole : (P : Program) (pages w m D : ℕ) (args : Vals) (ds : DataTrees) (v : Val) (d : DataTree) (c k b s : ℕ) (memory : Mem) (pages_now heap address : ℕ) → 0 < pages → pages ≤ 16384 → 0 < m → Applies P w m D args v c k b s → AreData args ds → IsData v d →
     IsHosted pages memory pages_now heap address ds →
-    Within (module_of_call P (count ds) pages) (record { frames = 2 * D + 1; bytes = heap + 4 * s; more = I32 address ∷ [] }) (Finished (module_of_call P (count ds) pages) (preorder d) (heap + 4 * s)) k (64 * (b + c + 1) * (w + m))
+    Within (module_of_call P (count ds) pages) (record { frames = 2 * D + 1; bytes = heap + 4 * s; more = I32 address ∷ [] }) (FinishedWithin (module_of_call P (count ds) pages) (preorder d) (heap + 4 * s)) k (64 * (b + c + 1) * (w + m))
     (call_start (record { type = type_main; body = call_function P (count ds) }) (hosted memory pages_now heap address))
 whole P pages w m D args ds v d c k b s memory pages_now heap address pos small some g are is host =
     let M = module_of_call P (count ds) pages in
     let cap : Limits = record { frames = 2 * D + 1; bytes = heap + 4 * s; more = I32 address ∷ [] } in
-    let Q = Finished M (preorder d) (heap + 4 * s) in
+    let Q = FinishedWithin M (preorder d) (heap + 4 * s) in
     let n = max 2 (top 0 P.main) in
     let y = applies P (call_function P (count ds)) call_globals call_exports pages small w m some cap Q {a = address} refl g memory pages_now heap (zeros n)
     (record { long = host.whole; q = host.quarter; aligned = host.aligned; above = host.above; fits = omega (arith, host.inside, host.whole); inside = host.inside; tight = host.fewest; pages = host.most_pages }) host.zero (args_of are host.arguments)
@@ -73,6 +73,6 @@ calls_answer P pages w m args ds v d c k b s memory pages_now heap address pos s
       exported = ap (λ (o : Option ℕ). option_and_then (λ index. option_and_then (λ t. from_nothing t.params t.result (main_index P)) (slice_get M.types index)) o) (main_in P (λ g f. 2) (λ t. 1) 0 (λ g f. worker_type f));
       is = main_at P (call_function P (count ds)) call_globals call_exports pages;
       depth = 2 * y.D;
-      run = λ n t r. tree_tells M (2 * y.D + 1) k (64 * (b + c + 1) * (w + m)) (Finished M (preorder d) (heap + 4 * s)) (Spent M (heap + 4 * s)) first (at_end M (heap + 4 * s) (preorder d)) tree n t r;
-      answers = λ n t r last. ends M (heap + 4 * s) (2 * y.D + 1) k n (preorder d) t (tree_tells M (2 * y.D + 1) k (64 * (b + c + 1) * (w + m)) (Finished M (preorder d) (heap + 4 * s)) (Spent M (heap + 4 * s)) first (at_end M (heap + 4 * s) (preorder d)) tree n t r).1 last;
+      run = λ n t r. tree_tells M (2 * y.D + 1) k (64 * (b + c + 1) * (w + m)) (FinishedWithin M (preorder d) (heap + 4 * s)) (Spent M (heap + 4 * s)) first (at_end M (heap + 4 * s) (preorder d)) tree n t r;
+      answers = λ n t r last. ends M (heap + 4 * s) (2 * y.D + 1) k n (preorder d) t (tree_tells M (2 * y.D + 1) k (64 * (b + c + 1) * (w + m)) (FinishedWithin M (preorder d) (heap + 4 * s)) (Spent M (heap + 4 * s)) first (at_end M (heap + 4 * s) (preorder d)) tree n t r).1 last;
     }

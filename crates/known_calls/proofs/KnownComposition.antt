@@ -8,12 +8,12 @@ use Rattle.closure_lift.specs.LiftKeeps.{are_data_none}
 use Rattle.closure_lift.proofs.Follows.{lift_keeps}
 use Rattle.closure_lift.proofs.Forms.{lift_forms}
 use Rattle.wasm_emit.proofs.Composition.{longer, steps}
-use Rattle.known_calls.specs.KnownLaws.{Emitted, AnfAnswersKnown, AnfKnownValid}
+use Rattle.known_calls.specs.KnownLaws.{KnownEmitted, AnfAnswersKnown, AnfKnownValid}
 use Rattle.known_calls.proofs.KnownAnswering.{known_answers}
 use Rattle.known_calls.proofs.KnownValidity.{known_valid}
 
 -- more contractions
-pub looser_emitted : {P : Program} {pages w m : ℕ} {d : DataTree} {c c' k b s : ℕ} → c' ≤ c → Emitted P pages w m d c' k b s → Emitted P pages w m d c k b s
+pub looser_emitted : {P : Program} {pages w m : ℕ} {d : DataTree} {c c' k b s : ℕ} → c' ≤ c → KnownEmitted P pages w m d c' k b s → KnownEmitted P pages w m d c k b s
 looser_emitted {w = w} {m = m} {c = c} {c' = c'} {b = b} le h =
     let z : c ≡ c' + (c - c') = omega arith in
     let bound : 64 * (b + c' + 1) * (w + m) ≤ 64 * (b + c + 1) * (w + m) = subst (λ q. 64 * (b + c' + 1) * (w + m) ≤ 64 * (b + q + 1) * (w + m)) (sym z) (steps b c' (c - c') (w + m)) in

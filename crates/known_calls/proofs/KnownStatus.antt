@@ -24,7 +24,7 @@ use Rattle.known_calls.specs.KnownPlaces.{At, InLocal}
 use Rattle.known_calls.specs.KnownCode.{Inside, is_wide}
 use Rattle.known_calls.specs.KnownModule.{wide_body, stub_code, entry, worker_code, worker, numbered, constant, main_function, module_with, module_of}
 use Rattle.known_calls.specs.KnownCalls.{applied, call_function, module_of_call}
-use Rattle.known_calls.specs.KnownLaws.{StatusTells, CallsTell}
+use Rattle.known_calls.specs.KnownLaws.{KnownStatusTells, CallsTell}
 use Rattle.known_calls.proofs.KnownAnswering.{first_of, starts}
 use Rattle.wasm_emit.proofs.Honest.{Wary, w_nil, w_cons, w_grow, at_wary, HonestState, stays}
 use Rattle.wasm_emit.proofs.Status.{AllWary, wary_body, mapped_then, of_bodies, tells_of, word_is}
@@ -72,7 +72,7 @@ all_wary P main gs es pages wm (suc (suc f)) g e =
     last zero g e = wary_body e wm
     last (suc f) g e = numbered_all (worker P) 0 P.functions (λ i x. worker_wary P i x) f g e
 
-pub status_tells : StatusTells
+pub status_tells : KnownStatusTells
 status_tells P pages first n t small start r one =
     let first_is : first_of P pages ≡ first = inj (sym (starts P pages) ∙ start) in
     let begins : HonestState (first_of P pages) = record { now = at_wary (main_wary P); labels = tt; callers = tt; status = λ e. absurd (no_one e); pages = omega arith } in

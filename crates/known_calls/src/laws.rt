@@ -1,6 +1,6 @@
 //! Laws of emission with workers, as functions with no result but their contracts.
 
-ghost use Rattle.known_calls.specs.KnownLaws.{AnfAnswersKnown, AnfKnownValid, CallsAnswer, CallsTell, CallsValid, KnownAnswers, KnownSpelled, KnownValid, StatusTells};
+ghost use Rattle.known_calls.specs.KnownLaws.{AnfAnswersKnown, AnfKnownValid, CallsAnswer, CallsTell, CallsValid, KnownAnswers, KnownSpelled, KnownValid, KnownStatusTells};
 ghost use Rattle.known_calls.specs.KnownWeight.{KnownIsSmall, KnownSized, LiftedIsLight, LocalsBound};
 
 /// Where main of a lifted program evaluates to data, every run of the program's module answers that data or is exhausted after a refused grow,
@@ -11,7 +11,7 @@ pub fn known_runs_answer()
 
 /// In every run of such a module, whether main has a value or not, the status is 1 only after a refused grow of that run.
 pub fn known_status_tells()
-    ensures told { StatusTells }
+    ensures told { KnownStatusTells }
 {}
 
 /// The module of a program whose names are in scope is valid.

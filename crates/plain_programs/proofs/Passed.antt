@@ -21,11 +21,11 @@ use Rattle.closure_lift.specs.Lift.{lift}
 use Rattle.closure_lift.specs.CapturedLimit.{ProgramCaptures}
 use Rattle.closure_lift.specs.Lifting.{most_words}
 use Rattle.wasm_core.specs.ShortestBytes.{module_bytes}
-use Rattle.wasm_emit.specs.EmittedModule.{module_of}
+use Rattle.known_calls.specs.KnownModule.{module_of}
 use Rattle.wasm_emit.specs.EmittedBodies.{FewLocals}
 use Rattle.wasm_emit.specs.EmitLaws.{CountsFit}
-use Rattle.wasm_emit.specs.Weight.{program_weight}
-use Rattle.wasm_emit.proofs.Sized.{emit_sized}
+use Rattle.known_calls.specs.KnownWeight.{program_weight}
+use Rattle.known_calls.proofs.KnownSizes.{known_sized}
 use Rattle.back_end.specs.BackEnd.{passed}
 use Rattle.compile.specs.Passes.{Fits}
 use Rattle.compile.proofs.Within.{lifted_formed, fits_within}
@@ -107,7 +107,7 @@ module _ (Fs : List BoxFamily) (f : FamilyId) (c : ℕ) (h : HaveNoCounts Fs) wh
   bytes pages form =
       let w = fits_within P 1024 form fits (λ F has. (form.counts F has).constructors) in
       let formed = lifted_formed P 1024 form fits.shallow (λ F has. (form.counts F has).constructors) in
-      let sized = emit_sized (passed P) pages 1024 formed w.limits (subst (λ L. CountsFit L 1024) (sym passed_is) (counts 1024 (lit≤ tt))) in
+      let sized = known_sized (passed P) pages 1024 formed w.limits (subst (λ L. CountsFit L 1024) (sym passed_is) (counts 1024 (lit≤ tt))) in
       let weight : program_weight (passed P) ≡ 8 = ap program_weight passed_is in
       omega (arith, sized, weight)
 

@@ -11,7 +11,7 @@ use Rattle.wasm_core.specs.Instance.{greatest_pages}
 use Rattle.wasm_core.specs.MachineStep.{State, Over}
 use Rattle.wasm_core.specs.WordData.{DataNodes}
 use Rattle.wasm_core.proofs.Trees.{moves_are_steps}
-use Rattle.wasm_emit.specs.EmittedModule.{module_of}
+use Rattle.known_calls.specs.KnownModule.{module_of}
 use Rattle.back_end.specs.BackEnd.{passed, Answered}
 use Rattle.back_end.specs.StepsAndMemory.{Bounded}
 use Rattle.compile.proofs.Within.{fits_answer}

@@ -15,7 +15,7 @@ use Rattle.lambda_box.specs.BoxEvaluation.{BoxEvaluates}
 use Rattle.lambda_box.specs.BoxData.{BoxReads}
 use Rattle.lambda_box.specs.DataTerms.{greatest_words}
 use Rattle.erase_rules.specs.DirectedProgram.{Program, box_families, erased_program}
-use Rattle.wasm_emit.specs.EmittedModule.{module_of}
+use Rattle.known_calls.specs.KnownModule.{module_of}
 use Rattle.back_end.specs.BackEnd.{passed}
 use Rattle.compile.specs.Passes.{Fits}
 use Rattle.module_run.specs.Ends.{Ends, IsSmall}

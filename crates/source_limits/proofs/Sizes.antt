@@ -12,7 +12,7 @@ use Rattle.anf_convert.specs.ToAnf.{to_anf}
 use Rattle.closure_lift.specs.NamedLift.{most_functions}
 use Rattle.closure_lift.specs.Lifting.{most_words}
 use Rattle.wasm_core.specs.ShortestBytes.{module_bytes}
-use Rattle.wasm_emit.specs.EmittedModule.{module_of}
+use Rattle.known_calls.specs.KnownModule.{module_of}
 use Rattle.wasm_emit.specs.EmittedBodies.{FewLocals}
 use Rattle.wasm_emit.specs.EmitLaws.{CountsFit}
 use Rattle.wasm_emit.proofs.Emitting.{lifted_can_be_emitted, counts_fit}

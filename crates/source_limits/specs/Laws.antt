@@ -13,7 +13,7 @@ use Rattle.anf_convert.specs.ToAnf.{to_anf}
 use Rattle.closure_lift.specs.CapturedLimit.{ProgramCaptures}
 use Rattle.closure_lift.specs.Lift.{lift}
 use Rattle.wasm_core.specs.ShortestBytes.{module_bytes}
-use Rattle.wasm_emit.specs.EmittedModule.{module_of}
+use Rattle.known_calls.specs.KnownModule.{module_of}
 use Rattle.back_end.specs.BackEnd.{passed}
 use Rattle.compile.specs.Passes.{IsShallow, Fits, CompileIsRefused}
 use Rattle.compile.specs.declared.fault.CompileFault.{CompileFault}

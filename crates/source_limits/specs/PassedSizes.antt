@@ -9,7 +9,7 @@ use Rattle.box_passes.specs.PassLaws.{saturated_program}
 use Rattle.box_passes.specs.PassResults.{IsDeep}
 use Rattle.closure_lift.specs.NamedLift.{most_functions}
 use Rattle.wasm_core.specs.ShortestBytes.{module_bytes}
-use Rattle.wasm_emit.specs.EmittedModule.{module_of}
+use Rattle.known_calls.specs.KnownModule.{module_of}
 use Rattle.back_end.specs.BackEnd.{passed}
 use Rattle.compile.specs.Passes.{IsShallow}
 use Rattle.compile.specs.declared.fault.CompileFault.{CompileFault}

@@ -11,10 +11,11 @@ use Rattle.wasm_core.specs.MachineStep.{Store}
 use Rattle.wasm_core.specs.HostStore.{pages_for}
 use Rattle.wasm_core.specs.StoredData.{ArgumentsWithin}
 use Rattle.wasm_core.proofs.Small.{inj}
-use Rattle.wasm_emit.specs.CallModule.{module_of_call}
+use Rattle.known_calls.specs.KnownModule.{worker_type}
+use Rattle.known_calls.specs.KnownCalls.{module_of_call}
 use Rattle.wasm_emit.specs.EmittedModule.{main_index}
 use Rattle.wasm_emit.proofs.Bytes.{zeroed_word, zeroed_length}
-use Rattle.wasm_emit.proofs.Indices.{main_in}
+use Rattle.known_calls.proofs.KnownIndices.{main_in}
 use Rattle.mem_value.proofs.Bytes.{word_same}
 use Rattle.call_answers.specs.HostedCall.{HoldsArguments}
 use Rattle.stored_calls.specs.Laws.{CallModulesHaveEntries, NewMachinesHaveAHeap, StoredArgumentsAreHeld}
@@ -22,7 +23,7 @@ use Rattle.stored_calls.specs.Laws.{CallModulesHaveEntries, NewMachinesHaveAHeap
 pub call_modules_have_entries : CallModulesHaveEntries
 call_modules_have_entries P k pages =
     let M = module_of_call P k pages in
-    let exported : index_of entry.Main M ≡ Some (main_index P) = ap (λ (o : Option ℕ). option_and_then (λ index. option_and_then (λ t. from_nothing t.params t.result (main_index P)) (slice_get M.types index)) o) (main_in P (λ f. 2) (λ t. 1) 0) in
+    let exported : index_of entry.Main M ≡ Some (main_index P) = ap (λ (o : Option ℕ). option_and_then (λ index. option_and_then (λ t. from_nothing t.params t.result (main_index P)) (slice_get M.types index)) o) (main_in P (λ g f. 2) (λ t. 1) 0 (λ g f. worker_type f)) in
     (ap (λ o. or_missing entry.Main o None) exported, record { heap_at = 2; heap = refl; args_at = 3; args = refl })
 
 pub new_machines_have_a_heap : NewMachinesHaveAHeap

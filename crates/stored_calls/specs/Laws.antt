@@ -6,7 +6,7 @@ use Rattle.wasm_core.specs.HostStore.{IsForCall}
 use Rattle.wasm_core.specs.MachineStep.{Store}
 use Rattle.wasm_core.specs.Runs.{first_store}
 use Rattle.wasm_core.specs.WordData.{DataNodes}
-use Rattle.wasm_emit.specs.CallModule.{module_of_call}
+use Rattle.known_calls.specs.KnownCalls.{module_of_call}
 use Rattle.mem_value.specs.Storing.{HasHeap, HasStored}
 use Rattle.call_answers.specs.HostedCall.{HoldsArguments}
 

@@ -3,11 +3,13 @@
 //! | Table | Calls |
 //! |---|---|
 //! | `texts` | `parse`, `parse each prefix`, `read`, `print` (`most:`, `failing write:`), `lists` |
+//! | `calls` | `read_call`, `read_args` (`set:` for each argument, the types of its set with `;` between them, each with its constructors as `NAME/PLACE/PLACE`; `from:`), `read_call, read_args` |
 //! | `certificates` | `read certificate` (`from:`, `most:`, `failing write:`) |
 //! | `terms` | `lift` (`by:`, `from:`), `subst` (`at:`), `subst_list`, `subst_list_at` (`at:`), `apply`, `measures`, `same`, `doubled`, `put in again` (`times:`), `lists` |
 #![tactic(auto)]
 
 mod again;
+mod calls;
 mod certificates;
 mod lists;
 mod printing;
@@ -21,6 +23,7 @@ use std::io;
 #[derive(Clone, Copy)]
 enum Layer {
     Texts,
+    Calls,
     Certificates,
     Terms,
 }
@@ -29,6 +32,7 @@ impl Table for Layer {
     fn file(&self) -> &str {
         match self {
             Layer::Texts => "texts.rows",
+            Layer::Calls => "calls.rows",
             Layer::Certificates => "certificates.rows",
             Layer::Terms => "terms.rows",
         }
@@ -37,6 +41,7 @@ impl Table for Layer {
     fn run(&self, case: &Case, out: &mut String) -> Result<(), Fault> {
         match self {
             Layer::Texts => texts::run(case, out),
+            Layer::Calls => calls::run(case, out),
             Layer::Certificates => certificates::run(case, out),
             Layer::Terms => terms::run(case, out),
         }
@@ -44,5 +49,13 @@ impl Table for Layer {
 }
 
 fn main(rt: HostRuntime) -> io::Result<()> {
-    run_tables(&rt, &[Layer::Texts, Layer::Certificates, Layer::Terms])
+    run_tables(
+        &rt,
+        &[
+            Layer::Texts,
+            Layer::Calls,
+            Layer::Certificates,
+            Layer::Terms,
+        ],
+    )
 }

@@ -1,7 +1,7 @@
 use Rattle.std.proofs.Common.{ap, ◌∙◌}
 use Rattle.std.proofs.lemmas.Result.{err_from_is_err_and}
 use Rattle.closure_lift.specs.LiftedProgram.{lifted_of}
-use Rattle.wasm_emit.specs.EmittedModule.{module_of}
+use Rattle.known_calls.specs.KnownModule.{module_of}
 use Rattle.compile.specs.Passes.{of_emission}
 use Rattle.compile.proofs.Emitting.{none_ok, refused_at, all_fit, not_emitted}
 use Rattle.compile.proofs.passes.compile.Goals as goal

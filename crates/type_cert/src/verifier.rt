@@ -1,0 +1,9 @@
+//! What a walk goes along: a certificate, and the environment so far.
+use cert_rules::item::CertItem;
+use pc_rules::environment::Env;
+
+/// A certificate's items, and the environment in which terms are typed.
+pub struct Verifier<'a> {
+    pub cert: &'a [CertItem],
+    pub env: &'a Env,
+}
