@@ -1,4 +1,4 @@
-use Rattle.std.proofs.Common.{◌≡◌, Err, refl, subst, sym, arith}
+use Rattle.std.proofs.Common.{Err, refl, subst, arith}
 use Rattle.command_line.specs.declared.job.Job.TheVariants.{Call}
 use Rattle.dump_reader.specs.Front.{front_bytes}
 use Rattle.read_counts.proofs.KeptBlocks.{few_counts}
