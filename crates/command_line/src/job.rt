@@ -22,6 +22,8 @@ pub enum Job {
     Explain,
     /// An environment whose main is a function is checked and compiled, and the module for calls of main is written.
     Export,
+    /// An environment whose main is a function is checked and compiled, and main is called with the arguments that stand behind it.
+    Call,
 }
 
 /// The job of this name.
@@ -37,6 +39,7 @@ pub(crate) fn job_of(name: &str) -> Option<Job>
         "bench" => Some(Job::Bench),
         "explain" => Some(Job::Explain),
         "export" => Some(Job::Export),
+        "call" => Some(Job::Call),
         _ => None,
     }
 }

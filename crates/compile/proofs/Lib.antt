@@ -1,3 +1,4 @@
 pub mod Within
 pub mod Emitting
 pub mod Starting
+pub mod CallStarting

@@ -18,7 +18,7 @@ use Rattle.closure_lift.specs.NamedLift.{most_functions}
 use Rattle.closure_lift.specs.declared.fault.LiftFault.{LiftFault}
 use Rattle.closure_lift.specs.declared.fault.LiftFault.TheVariants as lifting
 use Rattle.wasm_core.specs.ModuleTyping.{IsValid}
-use Rattle.wasm_core.specs.MachineRun.{refusal}
+use Rattle.wasm_core.specs.MachineRun.{refusal, refusal_for_call}
 use Rattle.known_calls.specs.KnownModule.{module_of}
 use Rattle.known_calls.specs.KnownCalls.{module_of_call}
 use Rattle.wasm_emit.specs.EmittedBodies.{FewLocals}
@@ -101,3 +101,7 @@ FittingCallsAreValid = (P : BoxProgram) (k pages : ℕ) → 0 < pages → pages 
 -- no machine of the module of a program that has one is refused
 abbrev pub MachinesAreMade : Type 0
 MachinesAreMade = (P : BoxProgram) (pages : ℕ) → 1 ≤ pages → Fits P → refusal (module_of (passed P) pages) pages ≡ None
+
+-- nor is one of the module for calls of its main, for a host that gives arguments
+abbrev pub MachinesAreMadeForCalls : Type 0
+MachinesAreMadeForCalls = (P : BoxProgram) (k pages : ℕ) → 1 ≤ pages → Fits P → refusal_for_call (module_of_call (passed P) k pages) pages ≡ None

@@ -11,7 +11,7 @@
 mod fault;
 mod passes;
 
-ghost use Rattle.compile.specs.Passes.{CausesAreOne, FittingCallsAreValid, FittingProgramsAnswer, FittingProgramsAreValid, FittingProgramsAreWithin, MachinesAreMade};
+ghost use Rattle.compile.specs.Passes.{CausesAreOne, FittingCallsAreValid, FittingProgramsAnswer, FittingProgramsAreValid, FittingProgramsAreWithin, MachinesAreMade, MachinesAreMadeForCalls};
 
 pub use fault::CompileFault;
 pub use passes::{compile, compile_call};
@@ -38,7 +38,8 @@ pub fn machines_are_made()
     ensures made { MachinesAreMade }
 {}
 
-/// The module for calls of a program that has a module is valid, for any number of arguments.
+/// The module for calls of a program that has a module is valid, for any number of arguments, and a machine is made of it for a host that gives arguments.
 pub fn call_modules_are_valid()
     ensures valid { FittingCallsAreValid }
+    ensures made { MachinesAreMadeForCalls }
 {}

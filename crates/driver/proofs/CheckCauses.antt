@@ -5,6 +5,7 @@ use Rattle.driver.specs.declared.refusal.Refusal.{Refusal}
 use Rattle.driver.specs.declared.refusal.Refusal.TheVariants as refusals
 use Rattle.driver.specs.declared.refusal.RunEnd.TheVariants as runs
 use Rattle.driver.specs.declared.refusal.ModuleFault.TheVariants as modules
+use Rattle.driver.specs.declared.refusal.ArgumentFault.TheVariants as arguments
 use Rattle.driver.specs.Lines.{status_of}
 use Rattle.driver.specs.Judged.{IsAcceptedBy, EndsWith, status_by}
 use Rattle.driver.specs.Serve.{IsCheckCause, IsSure}
@@ -31,6 +32,7 @@ cause_status turns _ e status c n h = absurd c
 pub not_zero : (r : Refusal) → status_of r ≡ 0 → ⊥
 not_zero (refusals.Run runs.Exhausted) e = omega (arith, e)
 not_zero (refusals.Module modules.Pages) e = omega (arith, e)
+not_zero (refusals.Argument arguments.Nesting) e = omega (arith, e)
 not_zero _ e = omega (arith, e)
 
 -- an environment that the rules accept ends with 0 alone

@@ -3,23 +3,28 @@ use Rattle.std.proofs.Common.{ℕ, List, ◌++◌, Result, Ok, Err, refl, subst}
 use Rattle.std.specs.Prelude.{OnOk}
 use Rattle.reports.specs.Shown.{Shown}
 use Rattle.reports.proofs.FactByFact.{all_told_then}
+use Rattle.module_run.specs.CallFacts.{AreCallFacts, CallRunIsTold}
 use Rattle.module_run.specs.RunFacts.{AreRunFacts, AreTold, FileIsTold, RunIsTold}
 use Rattle.pc_terms.specs.Syntax.{Term}
 use Rattle.pc_rules.specs.declared.accepted.Accepted.{Accepted}
 use Rattle.pc_rules.specs.declared.meter.Account.{Account}
 use Rattle.calculus_rules.specs.Environment.{Env}
 use Rattle.dump_reader.specs.declared.environment.RawEnv.{RawEnv}
-use Rattle.command_line.specs.declared.job.Job.TheVariants.{Check, Exec, Run}
+use Rattle.command_line.specs.declared.job.Job.TheVariants.{Call, Check, Exec, Run}
 use Rattle.command_line.specs.declared.line.Request.{Request}
+use Rattle.command_line.specs.Line.{IsInRange}
+use Rattle.driver.specs.declared.called_main.CalledMain.{CalledMain}
 use Rattle.driver.specs.declared.main_module.MainModule.{MainModule}
 use Rattle.driver.specs.declared.refusal.Refusal.{Refusal}
 use Rattle.driver.specs.CheckFacts.{facts_of_check}
-use Rattle.driver.specs.JobFacts.{CheckIsTold, JobIsTold}
+use Rattle.driver.specs.CalledMain.{IsCalledMain}
+use Rattle.driver.specs.JobFacts.{CheckIsTold, FrontIsTold, JobIsTold}
 use Rattle.driver.specs.MainModule.{IsMainModule}
 use Rattle.driver.specs.ReportedFacts.{facts_of}
 use Rattle.driver.specs.Serve.{AcceptSays}
 use Rattle.driver.specs.SourceEnds.{IsAcceptedWith}
 use Rattle.driver.specs.Texts.{SpellsWithin}
+use Rattle.driver.proofs.CallSaying.{reading}
 
 module _ {X : Type 0} (shown : X → Shown) where
   -- where the check accepts, the facts that it noted
@@ -53,3 +58,21 @@ module _ {X : Type 0} (shown : X → Shown) where
     -- those of the run of the module that the bytes spell
     pub of_file : (old new : List X) → FileIsTold shown bytes q.pages q.steps old new → JobIsTold shown Run q bytes old new
     of_file old new (m, spelled, (facts, run, told)) = (facts, (m, spelled, run), told)
+
+    -- those of the check of the environment in front of the arguments, and then those of the run of main's module with the arguments stored
+    pub of_call : IsInRange q → (m : CalledMain) (old mid new : List X) → IsCalledMain q bytes m → FrontIsTold shown q.turns bytes old mid → CallRunIsTold shown m.module q.pages q.steps m.arguments.items mid new → JobIsTold shown Call q bytes old new
+    of_call range m old mid new made (check, checked, first) (ran, run, then) = (
+      check ++ ran,
+      record {
+        check = check;
+        checked = checked;
+        environment = m.environment;
+        spelled = made.spelled;
+        reading = reading q range bytes m made;
+        stages = made.stages;
+        ran = ran;
+        run = subst (λ x. AreCallFacts x q.pages q.steps m.arguments.items ran) made.module_is run;
+        are = refl;
+      },
+      all_told_then shown check ran old mid new first then,
+    )

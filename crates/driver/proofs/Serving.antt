@@ -9,6 +9,7 @@ use Rattle.driver.specs.declared.refusal.Refusal.{Refusal}
 use Rattle.driver.specs.declared.refusal.Refusal.TheVariants as refusals
 use Rattle.driver.specs.declared.refusal.RunEnd.TheVariants as runs
 use Rattle.driver.specs.declared.refusal.ModuleFault.TheVariants as modules
+use Rattle.driver.specs.declared.refusal.ArgumentFault.TheVariants as arguments
 use Rattle.command_line.specs.declared.line.Request.{Request}
 use Rattle.command_line.specs.declared.job.Job.{Job}
 use Rattle.command_line.specs.declared.job.Job.TheVariants.{Bench, Compile, Exec}
@@ -83,16 +84,18 @@ of_usage : (r : Refusal) → status_of r ≡ 2 → r ≡ refusals.Usage
 of_usage refusals.Usage e = refl
 of_usage (refusals.Run runs.Exhausted) e = absurd (omega (arith, e))
 of_usage (refusals.Module modules.Pages) e = absurd (omega (arith, e))
+of_usage (refusals.Argument arguments.Nesting) e = absurd (omega (arith, e))
 of_usage _ e = absurd (omega (arith, e))
 
 of_write_fault : (r : Refusal) → status_of r ≡ 4 → r ≡ refusals.WriteFault
 of_write_fault refusals.WriteFault e = refl
 of_write_fault (refusals.Run runs.Exhausted) e = absurd (omega (arith, e))
 of_write_fault (refusals.Module modules.Pages) e = absurd (omega (arith, e))
+of_write_fault (refusals.Argument arguments.Nesting) e = absurd (omega (arith, e))
 of_write_fault _ e = absurd (omega (arith, e))
 
 abbrev all_statuses : List ℕ
-all_statuses = 0 ∷ 1 ∷ 2 ∷ 3 ∷ 4 ∷ 5 ∷ 6 ∷ 7 ∷ 8 ∷ 9 ∷ 10 ∷ 11 ∷ 12 ∷ 13 ∷ 14 ∷ 15 ∷ []
+all_statuses = 0 ∷ 1 ∷ 2 ∷ 3 ∷ 4 ∷ 5 ∷ 6 ∷ 7 ∷ 8 ∷ 9 ∷ 10 ∷ 11 ∷ 12 ∷ 13 ∷ 14 ∷ 15 ∷ 16 ∷ []
 
 module _ {V S K E : Type 0} (view : V → List ℕ) (lines : List ℕ) (status : ℕ) (words : List (List ℕ)) (src src' : Seen S) (out out' : Seen K) (err err' : Seen E) where
   -- what a job's result says, before anything is written
@@ -180,6 +183,7 @@ module _ {V S K E : Type 0} (view : V → List ℕ) (lines : List ℕ) (status :
   listed : (r : Refusal) → status ≡ status_of r → Contains all_statuses status
   listed (refusals.Run runs.Exhausted) e = (11, lit< tt, sym e)
   listed (refusals.Module modules.Pages) e = (7, lit< tt, sym e)
+  listed (refusals.Argument arguments.Nesting) e = (7, lit< tt, sym e)
   listed r e = (status_of r, lit< tt, sym e)
 
   statuses : (a : Result V Refusal) → Before a → After a → Contains all_statuses status

@@ -1,8 +1,9 @@
 -- Where no limit of depth is passed, an answer or a refusal shows the status to which the rules, the passes and the run come.
-use Rattle.std.proofs.Common.{ℕ, List, Result, Ok, Err, ◌⊎◌, inl, inr, refl, sym, ap}
+use Rattle.std.proofs.Common.{◌≢◌, ℕ, List, Result, Ok, Err, ◌⊎◌, inl, inr, refl, sym, ap}
+use Rattle.dump_reader.specs.Front.{front_bytes}
 use Rattle.dump_reader.specs.declared.environment.RawEnv.{RawEnv}
 use Rattle.command_line.specs.declared.job.Job.{Job}
-use Rattle.command_line.specs.declared.job.Job.TheVariants.{Exec, Check, Eval, Run, Compile, Bench, Explain, Export}
+use Rattle.command_line.specs.declared.job.Job.TheVariants.{Exec, Check, Eval, Run, Compile, Bench, Explain, Export, Call}
 use Rattle.command_line.specs.declared.line.Request.{Request}
 use Rattle.driver.specs.declared.refusal.Refusal.{Refusal}
 use Rattle.driver.specs.declared.refusal.Refusal.TheVariants as refusals
@@ -11,16 +12,19 @@ use Rattle.driver.specs.Lines.{status_of}
 use Rattle.driver.specs.ExecEnds.{Accepting, ExecEnds, ExecEndsWith, RestEndsWith, status_of_end}
 use Rattle.driver.specs.MadeModule.{IsMakeCause, MakeEndsWith}
 use Rattle.driver.specs.Exported.{IsExportCause, ExportEndsWith}
+use Rattle.driver.specs.CallEnds.{CallJobEnds, IsCallStop}
+use Rattle.driver.specs.Called.{CallIsJudged, CallRestEndsWith}
 use Rattle.driver.specs.RunFile.{IsRunCause, RunEndsWith}
 use Rattle.driver.specs.SourceEnds.{EvalEndsWith, IsSourceCause}
 use Rattle.driver.specs.Texts.{SpellsWithin}
-use Rattle.driver.specs.Serve.{IsAnswerOf, IsCheckCause, IsDumpCause, IsJobCause, IsJudgedWith, IsSure, IsTextCause, JobEndsWith}
+use Rattle.driver.specs.Serve.{IsAnswerOf, IsCallCause, IsCheckCause, IsDumpCause, IsJobCause, IsJudgedWith, IsSure, IsTextCause, JobEndsWith}
 use Rattle.driver.proofs.CheckCauses.{deep_or_not, not_zero}
 use Rattle.driver.proofs.ExecCauses.{accepting_of}
 use Rattle.driver.proofs.MadeCauses.{as_exec}
 use Rattle.driver.proofs.ExportCauses.{export_accepts}
+use Rattle.driver.proofs.CallJobCauses.{call_accepts}
 use Rattle.driver.proofs.SourceCauses.{accepted_by, end_status}
-use Rattle.driver.specs.Shallow.{CheckIsShallow, EvalIsShallow, ModuleIsShallow, CallIsShallow, IsShallow, IsShallowOn}
+use Rattle.driver.specs.Shallow.{CheckIsShallow, EvalIsShallow, ModuleIsShallow, CallIsShallow, IsShallow, IsShallowFor, IsShallowOn}
 
 -- ---- the check
 
@@ -90,12 +94,13 @@ job_ends Check q r e s c = check_ends q.turns r e s c
 job_ends Eval q r e s c = eval_ends q.turns r e s c
 job_ends Run q r e s c = absurd c
 job_ends Explain q r e s c = absurd c
+job_ends Call q r e s c = absurd c
 job_ends Compile q r e s c = make_ends q.turns e s q.pages 0 r c
 job_ends Export q r e s c = export_ends q.turns e s q.pages r c
 job_ends Bench q r e s c = exec_ends q.turns e s q.pages q.steps r c
 
 -- of a dump the text itself refuses, or the environment that it spells does
-dump_ends : (job : Job) (q : Request) (bytes : List ℕ) (r : Refusal) → IsShallowOn job q.turns bytes → IsDumpCause job q r bytes →
+dump_ends : (job : Job) (q : Request) (bytes : List ℕ) (r : Refusal) → IsShallowFor job q.turns bytes → IsDumpCause job q r bytes →
     IsSure r ⊎ ((e : RawEnv) × SpellsWithin bytes e × JobEndsWith job q e (status_of r))
 dump_ends job q bytes refusals.Memory s h = absurd h
 dump_ends job q bytes refusals.Usage s h = absurd h
@@ -107,6 +112,27 @@ dump_ends job q bytes (refusals.Unsupported w o) s h = inl tt
 dump_ends job q bytes (refusals.Limit l) s h = inl tt
 dump_ends job q bytes r s (e, spelled, c) = inr (e, spelled, job_ends job q r e (s e spelled) c)
 
+-- so by `call`
+called_ends : (q : Request) (bytes : List ℕ) (e : RawEnv) → CallIsShallow q.turns e → Accepting q.turns e → (end : Result (List ℕ) Refusal) → CallJobEnds q.turns e bytes q.pages q.steps end →
+    CallRestEndsWith q.turns e bytes q.pages q.steps (status_of_end end)
+called_ends q bytes e s x end h = record { check = accepting_ends q.turns e s.check x; end = end; ends = h; within = s.rules; status_is = refl }
+
+call_ends_on : {P : Type 0} (q : Request) (bytes : List ℕ) (e : RawEnv) (r : Refusal) → CallIsShallow q.turns e → IsCheckCause q.turns r e ⊎ (IsCallStop q.turns q.pages q.steps bytes r e × P) →
+    (EndsWith q.turns e (status_of r) × (status_of r ≢ 0)) ⊎ CallRestEndsWith q.turns e bytes q.pages q.steps (status_of r)
+call_ends_on q bytes e r s (inl c) = inl (check_ends q.turns r e s.check c, not_zero r)
+call_ends_on q bytes e r s (inr (c, p)) = inr (called_ends q bytes e s (call_accepts q.turns e bytes q.pages q.steps r c.1) (Err r) c)
+
+call_ends : (q : Request) (bytes : List ℕ) (r : Refusal) → IsShallowFor Call q.turns (front_bytes bytes) → IsCallCause q r bytes → IsSure r ⊎ CallIsJudged q (status_of r) bytes
+call_ends q bytes refusals.Memory s h = absurd h
+call_ends q bytes refusals.Usage s h = absurd h
+call_ends q bytes refusals.ReadFault s h = absurd h
+call_ends q bytes refusals.WriteFault s h = absurd h
+call_ends q bytes refusals.InputBytes s h = absurd h
+call_ends q bytes (refusals.Syntax o) s h = inl tt
+call_ends q bytes (refusals.Unsupported w o) s h = inl tt
+call_ends q bytes (refusals.Limit l) s h = inl tt
+call_ends q bytes r s (e, spelled, c) = inr (e, spelled, call_ends_on q bytes e r (s e spelled) c)
+
 run_ends : (pages steps : ℕ) (r : Refusal) (bytes : List ℕ) → IsRunCause pages steps r bytes → RunEndsWith pages steps bytes (status_of r)
 run_ends pages steps refusals.Memory bytes h = absurd h
 run_ends pages steps refusals.Usage bytes h = absurd h
@@ -117,6 +143,7 @@ run_ends pages steps r bytes h = record { end = Err h.why; ends = h.ends; other 
 
 pub cause_judged : (job : Job) (q : Request) (bytes : List ℕ) (r : Refusal) → IsShallowOn job q.turns bytes → IsTextCause job q r bytes → IsSure r ⊎ IsJudgedWith job q (status_of r) bytes
 cause_judged Run q bytes r s h = inr (run_ends q.pages q.steps r bytes h)
+cause_judged Call q bytes r s h = call_ends q bytes r s h
 cause_judged job q bytes r s h = dump_ends job q bytes r s h
 
 -- ---- a job's answer
@@ -156,6 +183,12 @@ answer_judged Export q bytes text s a =
       e,
       a.spelled,
       inr (inl (record { check = accepting_ends q.turns e shallow.check a.stages.before.before.before; stages = a.stages; small = a.small; within = shallow.rules }, refl)),
+    )
+answer_judged Call q bytes text s a =
+    let e = a.environment in (
+      e,
+      a.spelled,
+      inr (called_ends q bytes e (s e a.spelled) a.stages.before.before.before.before (Ok text) (a.stages, a.text_is)),
     )
 answer_judged Bench q bytes text s a =
     let x = a.executed in

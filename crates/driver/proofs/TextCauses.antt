@@ -10,6 +10,7 @@ use Rattle.dump_grammar.specs.Judge.{Verdict, Fine, Refuse, verdict}
 use Rattle.dump_grammar.proofs.FirstRefusal.{first_refusal}
 use Rattle.dump_grammar.proofs.Law.{judged}
 use Rattle.dump_grammar.proofs.Within.{limited}
+use Rattle.dump_reader.specs.Front.{front_bytes}
 use Rattle.dump_reader.specs.declared.environment.RawEnv.{RawEnv}
 use Rattle.dump_reader.specs.NumberedEnvironment.{numbered}
 use Rattle.dump_reader.specs.Spelled.{IsSpelled}
@@ -18,7 +19,7 @@ use Rattle.driver.specs.declared.refusal.Refusal.{Refusal}
 use Rattle.driver.specs.declared.refusal.Refusal.TheVariants as refusals
 use Rattle.driver.specs.Lines.{refusal_of}
 use Rattle.command_line.specs.declared.job.Job.{Job}
-use Rattle.command_line.specs.declared.job.Job.TheVariants.{Exec, Check, Eval, Run, Compile, Bench, Explain, Export}
+use Rattle.command_line.specs.declared.job.Job.TheVariants.{Exec, Check, Eval, Run, Compile, Bench, Explain, Export, Call}
 use Rattle.driver.specs.Lines.{status_of}
 use Rattle.driver.specs.Texts.{SpellsWithin, Refuses}
 use Rattle.driver.specs.Judged.{IsAcceptedBy, EndsWith}
@@ -29,18 +30,21 @@ use Rattle.driver.specs.Benched.{IsBenched}
 use Rattle.driver.specs.Bench.{lines_of}
 use Rattle.driver.specs.SourceSays.{IsLine}
 use Rattle.driver.specs.MadeModule.{IsMade, MakeEndsWith}
-use Rattle.driver.specs.Exported.{ExportEndsWith}
+use Rattle.driver.specs.Exported.{ExportEndsWith, IsLargeForCall}
+use Rattle.driver.specs.CallEnds.{CallJobEnds, IsCallStop}
+use Rattle.driver.specs.Called.{CallIsJudged, IsCalled}
 use Rattle.command_line.specs.declared.line.Request.{Request}
 use Rattle.wasm_core.specs.ModuleGrammar.{SpellsModule}
 use Rattle.wasm_core.specs.ShortestBytes.{most_bytes}
-use Rattle.driver.specs.Serve.{IsAnswerableBy, IsAnswerOf, HasWell, IsLate, IsCheckCause, IsDumpCause, IsDumpJudgedWith, IsJobCause, IsTextCause, IsSure, IsJudgedWith, MakesModule}
+use Rattle.driver.specs.Serve.{IsAnswerableBy, IsAnswerOf, HasWell, IsLate, IsCallCause, IsCheckCause, IsDumpCause, IsDumpJudgedWith, IsJobCause, IsTextCause, IsSure, IsJudgedWith, MakesModule}
 use Rattle.driver.proofs.RunCauses.{run_judged_answer, run_judged_cause, run_not_sure}
 use Rattle.driver.proofs.CheckCauses.{accepted_status, not_zero}
 use Rattle.driver.proofs.SourceCauses.{accepted_by, same_run}
 use Rattle.driver.proofs.ExecCauses.{executed_status, check_early, text_early, well_of}
-use Rattle.driver.proofs.JobCauses.{answerable_status, compile_cause, exec_cause, job_status}
+use Rattle.driver.proofs.JobCauses.{answerable_status, call_cause, compile_cause, exec_cause, job_status}
 use Rattle.driver.proofs.MadeCauses.{made_status, make_cause}
 use Rattle.driver.proofs.ExportCauses.{exported_status}
+use Rattle.driver.proofs.CallJobCauses.{call_status, called_status}
 
 abbrev pub verdict_on : List ℕ → Verdict
 verdict_on bytes = verdict (length bytes) (tokens_of bytes)
@@ -69,12 +73,12 @@ one_environment bytes a b s t = s.means ∙ ap numbered (fine-inj (env_of s.form
 never_both : (bytes : List ℕ) (e : RawEnv) (q : ReadRefusal) → SpellsWithin bytes e → verdict_on bytes ≡ Refuse q → ⊥
 never_both bytes e q s h = let c : Refuse q ≡ Fine (VEnv (env_of s.form) ∷ []) = sym h ∙ fine bytes e s in absurd cc
 
--- What a cause is of: the first refusal of the text, or the environment that it spells.
-data Of (job : Job) (q : Request) (bytes : List ℕ) (r : Refusal) : Type 0 where
-  OfRefusal : (x : ReadRefusal) → verdict_on bytes ≡ Refuse x → r ≡ refusal_of x → Of job q bytes r
-  OfCheck : (e : RawEnv) → SpellsWithin bytes e → IsJobCause job q r e → (IsSure r → ⊥) → Of job q bytes r
+-- What a cause is of: the first refusal of the text, or the environment that it spells, which shows it.
+data Of (Shows : RawEnv → Type 0) (bytes : List ℕ) (r : Refusal) : Type 0 where
+  OfRefusal : (x : ReadRefusal) → verdict_on bytes ≡ Refuse x → r ≡ refusal_of x → Of Shows bytes r
+  OfCheck : (e : RawEnv) → SpellsWithin bytes e → Shows e → (IsSure r → ⊥) → Of Shows bytes r
 
-of : (job : Job) (q : Request) (bytes : List ℕ) (r : Refusal) → IsDumpCause job q r bytes → Of job q bytes r
+of : (job : Job) (q : Request) (bytes : List ℕ) (r : Refusal) → IsDumpCause job q r bytes → Of (IsJobCause job q r) bytes r
 of job q bytes refusals.Memory h = absurd h
 of job q bytes refusals.Usage h = absurd h
 of job q bytes refusals.ReadFault h = absurd h
@@ -85,43 +89,51 @@ of job q bytes (refusals.Limit l) h = OfRefusal (reads.Limit l h.0) (refuses byt
 of job q bytes refusals.InputBytes h = absurd h
 of job q bytes _ h = OfCheck h.0 h.1 h.2 (λ x. x)
 
+-- by `call` the text is the front of the bytes
+abbrev CallShows : Request → List ℕ → Refusal → RawEnv → Type 0
+CallShows q bytes r e = IsCheckCause q.turns r e ⊎ (IsCallStop q.turns q.pages q.steps bytes r e × IsLargeForCall q.turns r e)
+
+of_call : (q : Request) (bytes : List ℕ) (r : Refusal) → IsCallCause q r bytes → Of (CallShows q bytes r) (front_bytes bytes) r
+of_call q bytes refusals.Memory h = absurd h
+of_call q bytes refusals.Usage h = absurd h
+of_call q bytes refusals.ReadFault h = absurd h
+of_call q bytes refusals.WriteFault h = absurd h
+of_call q bytes (refusals.Syntax o) h = OfRefusal (reads.Syntax o) (refuses (front_bytes bytes) (reads.Syntax o) h) refl
+of_call q bytes (refusals.Unsupported w o) h = OfRefusal (reads.Unsupported w o) (refuses (front_bytes bytes) (reads.Unsupported w o) h) refl
+of_call q bytes (refusals.Limit l) h = OfRefusal (reads.Limit l h.0) (refuses (front_bytes bytes) (reads.Limit l h.0) h.1) refl
+of_call q bytes refusals.InputBytes h = absurd h
+of_call q bytes _ h = OfCheck h.0 h.1 h.2 (λ x. x)
+
 -- a cause that the text itself shows is the only one
-dump_one_cause : (job : Job) (q : Request) (bytes : List ℕ) (a r : Refusal) → IsDumpCause job q a bytes → IsDumpCause job q r bytes → IsSure r → a ≡ r
-dump_one_cause job q bytes a r h k sure =
-    elim (of job q bytes r k) [
-      | OfRefusal b vb eb ↦ elim (of job q bytes a h) [
-        | OfRefusal x va ea ↦ ea ∙ ap refusal_of (refuse-inj x b (sym va ∙ vb)) ∙ sym eb
-        | OfCheck e s c n ↦ absurd (never_both bytes e b s vb)
-      ]
-      | OfCheck f t c n ↦ absurd (n sure)
-    ]
+sure_is_one : {P Q : RawEnv → Type 0} (bytes : List ℕ) (a r : Refusal) → Of P bytes a → Of Q bytes r → IsSure r → a ≡ r
+sure_is_one bytes a r h (OfCheck f t c n) sure = absurd (n sure)
+sure_is_one bytes a r (OfRefusal x va ea) (OfRefusal b vb eb) sure = ea ∙ ap refusal_of (refuse-inj x b (sym va ∙ vb)) ∙ sym eb
+sure_is_one bytes a r (OfCheck e s c n) (OfRefusal b vb eb) sure = absurd (never_both bytes e b s vb)
+
+-- and where the text spells an environment, it is that which shows a cause
+shown_by : {P : RawEnv → Type 0} (bytes : List ℕ) (e : RawEnv) (r : Refusal) → SpellsWithin bytes e → Of P bytes r → P e × (IsSure r → ⊥)
+shown_by bytes e r s (OfRefusal x v k) = absurd (never_both bytes e x s v)
+shown_by {P = P} bytes e r s (OfCheck f t c n) = (subst P (one_environment bytes f e t s) c, n)
 
 -- a text whose environment is judged has no other cause than one of its status
 dump_judged_cause : (job : Job) (q : Request) (bytes : List ℕ) (status : ℕ) (r : Refusal) → IsDumpJudgedWith job q status bytes → IsDumpCause job q r bytes → status ≡ status_of r
-dump_judged_cause job q bytes status r (e, s, ends) h =
-    elim (of job q bytes r h) [
-      | OfRefusal x v k ↦ absurd (never_both bytes e x s v)
-      | OfCheck f t c n ↦ job_status job q r e status (subst (IsJobCause job q r) (one_environment bytes f e t s) c) n ends
-    ]
+dump_judged_cause job q bytes status r (e, s, ends) h = (let c = shown_by bytes e r s (of job q bytes r h) in job_status job q r e status c.0 c.1 ends)
+
+call_judged_cause : (q : Request) (bytes : List ℕ) (status : ℕ) (r : Refusal) → CallIsJudged q status bytes → IsCallCause q r bytes → status ≡ status_of r
+call_judged_cause q bytes status r (e, s, ends) h =
+    (let c = shown_by (front_bytes bytes) e r s (of_call q bytes r h) in call_status q.turns e bytes q.pages q.steps r status (call_cause q r bytes e c.0) c.1 ends)
 
 -- a cause, as one of the environment that the text spells
 pub cause_on : (job : Job) (q : Request) (bytes : List ℕ) (e : RawEnv) (r : Refusal) → SpellsWithin bytes e → IsDumpCause job q r bytes → IsJobCause job q r e
-cause_on job q bytes e r s h =
-    elim (of job q bytes r h) [
-      | OfRefusal x v k ↦ absurd (never_both bytes e x s v)
-      | OfCheck f t c n ↦ subst (IsJobCause job q r) (one_environment bytes f e t s) c
-    ]
+cause_on job q bytes e r s h = (shown_by bytes e r s (of job q bytes r h)).0
 
 -- a text whose environment has an answer has no cause
 dump_answerable : (job : Job) (q : Request) (bytes : List ℕ) (r : Refusal) (e : RawEnv) → SpellsWithin bytes e → IsAnswerableBy job q e → IsDumpCause job q r bytes → ⊥
-dump_answerable job q bytes r e s answerable h =
-    elim (of job q bytes r h) [
-      | OfRefusal x v k ↦ never_both bytes e x s v
-      | OfCheck f t c n ↦ not_zero r (sym (answerable_status job q r e (is_spelled bytes e s) answerable (subst (IsJobCause job q r) (one_environment bytes f e t s) c) n))
-    ]
+dump_answerable job q bytes r e s answerable h = (let c = shown_by bytes e r s (of job q bytes r h) in not_zero r (sym (answerable_status job q r e (is_spelled bytes e s) answerable c.0 c.1)))
 
 pub answerable_cause : (job : Job) (q : Request) (bytes : List ℕ) (r : Refusal) (e : RawEnv) → SpellsWithin bytes e → IsAnswerableBy job q e → IsTextCause job q r bytes → ⊥
 answerable_cause Run q bytes r e s answerable h = answerable
+answerable_cause Call q bytes r e s answerable h = answerable
 answerable_cause job q bytes r e s answerable h = dump_answerable job q bytes r e s answerable h
 
 -- ---- a job that makes main's module
@@ -160,11 +172,10 @@ well_answered q bytes text (inr (inr is)) a =
 
 -- a text that spells an environment has no sure cause
 pub dump_not_sure : (job : Job) (q : Request) (bytes : List ℕ) (e : RawEnv) (r : Refusal) → SpellsWithin bytes e → IsDumpCause job q r bytes → IsSure r → ⊥
-dump_not_sure job q bytes e r s h sure =
-    elim (of job q bytes r h) [
-      | OfRefusal x v k ↦ never_both bytes e x s v
-      | OfCheck f t c n ↦ n sure
-    ]
+dump_not_sure job q bytes e r s h sure = (shown_by bytes e r s (of job q bytes r h)).1 sure
+
+call_not_sure : (q : Request) (bytes : List ℕ) (e : RawEnv) (r : Refusal) → SpellsWithin (front_bytes bytes) e → IsCallCause q r bytes → IsSure r → ⊥
+call_not_sure q bytes e r s h sure = (shown_by (front_bytes bytes) e r s (of_call q bytes r h)).1 sure
 
 -- an answer of a text whose environment is judged is that of an acceptance
 check_judged : (turns : ℕ) (bytes : List ℕ) (e f : RawEnv) (status : ℕ) → SpellsWithin bytes e → EndsWith turns e status → SpellsWithin bytes f → IsAcceptedBy turns f → status ≡ 0
@@ -185,18 +196,26 @@ benched_on q bytes text e s b =
     subst (λ y. (answer : List ℕ) × (x : Answering q.turns y q.pages q.steps) × IsLine (its_shapes x.before.before) y.names x.answer.tree answer × (text ≡ lines_of x answer))
     (one_environment bytes b.executed.environment e b.executed.spelled s) (b.answer, b.executed.stages, b.executed.text_is, b.text_is)
 
+-- and of `call`
+pub called_on : (q : Request) (bytes text : List ℕ) (e : RawEnv) → SpellsWithin (front_bytes bytes) e → (a : IsCalled q.turns q.pages q.steps bytes text) →
+    CallJobEnds q.turns e bytes q.pages q.steps (Ok text)
+called_on q bytes text e s a = subst (λ x. CallJobEnds q.turns x bytes q.pages q.steps (Ok text)) (one_environment (front_bytes bytes) a.environment e a.spelled s) (a.stages, a.text_is)
+
 -- ---- the same of any job's input
 
 pub one_cause : (job : Job) (q : Request) (bytes : List ℕ) (a r : Refusal) → IsTextCause job q a bytes → IsTextCause job q r bytes → IsSure r → a ≡ r
 one_cause Run q bytes a r h k sure = absurd (run_not_sure q.pages q.steps r bytes k sure)
-one_cause job q bytes a r h k sure = dump_one_cause job q bytes a r h k sure
+one_cause Call q bytes a r h k sure = sure_is_one (front_bytes bytes) a r (of_call q bytes a h) (of_call q bytes r k) sure
+one_cause job q bytes a r h k sure = sure_is_one bytes a r (of job q bytes a h) (of job q bytes r k) sure
 
 pub judged_cause : (job : Job) (q : Request) (bytes : List ℕ) (status : ℕ) (r : Refusal) → length bytes ≤ most_bytes → IsJudgedWith job q status bytes → IsTextCause job q r bytes → status ≡ status_of r
 judged_cause Run q bytes status r short h k = run_judged_cause q.pages q.steps bytes status r short h k
+judged_cause Call q bytes status r short h k = call_judged_cause q bytes status r h k
 judged_cause job q bytes status r short h k = dump_judged_cause job q bytes status r h k
 
 pub no_cause_of_answers : (job : Job) (q : Request) (bytes text : List ℕ) (r : Refusal) → IsAnswerOf job q bytes text → IsTextCause job q r bytes → IsSure r → ⊥
 no_cause_of_answers Bench q bytes text r a h sure = dump_not_sure Bench q bytes a.executed.environment r a.executed.spelled h sure
+no_cause_of_answers Call q bytes text r a h sure = call_not_sure q bytes a.environment r a.spelled h sure
 no_cause_of_answers Run q bytes text r a h sure = run_not_sure q.pages q.steps r bytes h sure
 no_cause_of_answers Explain q bytes text r (inl a) h sure = dump_not_sure Explain q bytes a.environment r a.spelled h sure
 no_cause_of_answers Explain q bytes text r (inr a) h sure = dump_not_sure Explain q bytes a.environment r a.spelled h sure
@@ -217,6 +236,7 @@ judged_answer Run q bytes text status short h a = run_judged_answer q.pages q.st
 judged_answer Explain q bytes text status short (e, s, ends) a = ends
 judged_answer Export q bytes text status short (e, s, ends) a =
     exported_status q.turns a.environment q.pages status a.stages a.small (subst (λ x. ExportEndsWith q.turns x q.pages status) (one_environment bytes e a.environment s a.spelled) ends)
+judged_answer Call q bytes text status short (e, s, ends) a = called_status q.turns e bytes q.pages q.steps text status (called_on q bytes text e s a) ends
 
 -- What the reader gives is spelled within the limits.
 pub within_limits : (bytes : List ℕ) (e : RawEnv) → IsVerdict bytes (Ok e) → SpellsWithin bytes e

@@ -4,16 +4,20 @@ use Rattle.reports.specs.declared.fact.Fact.{Fact}
 use Rattle.reports.specs.Shown.{Shown}
 use Rattle.wasm_core.specs.Parts.{Parts}
 use Rattle.wasm_core.specs.ModuleGrammar.{SpellsModule}
+use Rattle.module_run.specs.CallFacts.{AreCallFacts}
 use Rattle.module_run.specs.RunFacts.{AreRunFacts, AreTold}
+use Rattle.dump_reader.specs.Front.{front_bytes}
 use Rattle.dump_reader.specs.declared.environment.RawEnv.{RawEnv}
 use Rattle.command_line.specs.declared.job.Job.{Job}
-use Rattle.command_line.specs.declared.job.Job.TheVariants.{Exec, Run, Bench, Explain}
+use Rattle.command_line.specs.declared.job.Job.TheVariants.{Exec, Run, Bench, Explain, Call}
 use Rattle.command_line.specs.declared.line.Request.{Request}
 use Rattle.command_line.specs.Line.{request_of}
 use Rattle.driver.specs.declared.reporting.facts.Facts.{Facts}
 use Rattle.driver.specs.Texts.{SpellsWithin}
 use Rattle.driver.specs.Explained.{IsExplained}
 use Rattle.driver.specs.CheckFacts.{HasCheckFacts, HasFacts}
+use Rattle.driver.specs.CallEnds.{ReadingArguments}
+use Rattle.driver.specs.CallStages.{CallCompiling, its_call_module}
 use Rattle.driver.specs.ExecEnds.{Compiling, its_module}
 use Rattle.driver.specs.ReportedFacts.{facts_of}
 use Rattle.driver.specs.Serve.{IsInputOf}
@@ -45,10 +49,23 @@ AreFileFacts q bytes facts = (m : Parts) × SpellsModule bytes m × AreRunFacts 
 abbrev pub AreExplainFacts : Request → List ℕ → List Fact → Type 0
 AreExplainFacts q bytes facts = AreCheckFacts q.turns bytes facts ⊎ ((text : List ℕ) × IsExplained q.turns bytes text × (facts ≡ []))
 
+-- those of a call: those of the check of the environment that the front of the bytes spells, and then those of the run of the module for calls, with the arguments stored
+pub record AreCalledFacts (q : Request) (bytes : List ℕ) (facts : List Fact) : Type 0 where
+  pub check : List Fact
+  pub checked : AreCheckFacts q.turns (front_bytes bytes) check
+  pub environment : RawEnv
+  pub spelled : SpellsWithin (front_bytes bytes) environment
+  pub reading : ReadingArguments q.turns environment bytes
+  pub stages : CallCompiling q.turns environment
+  pub ran : List Fact
+  pub run : AreCallFacts (its_call_module q.pages stages) q.pages q.steps reading.arguments ran
+  pub are : facts ≡ check ++ ran
+
 -- those of a job
 abbrev pub AreJobFacts : Job → Request → List ℕ → List Fact → Type 0
 AreJobFacts Exec q bytes facts = AreExecFacts q bytes facts
 AreJobFacts Bench q bytes facts = AreExecFacts q bytes facts
+AreJobFacts Call q bytes facts = AreCalledFacts q bytes facts
 AreJobFacts Run q bytes facts = AreFileFacts q bytes facts
 AreJobFacts Explain q bytes facts = AreExplainFacts q bytes facts
 AreJobFacts _ q bytes facts = AreCheckFacts q.turns bytes facts
@@ -66,6 +83,10 @@ pub record HasJobFacts (words : List (List ℕ)) (left : Option (List ℕ)) (fac
 -- each report is told the facts of the check of an environment
 abbrev pub CheckIsTold : {X : Type 0} → (X → Shown) → (turns : ℕ) → RawEnv → (old new : List X) → Type 0
 CheckIsTold shown turns e old new = (check : Facts) × HasCheckFacts turns e check × AreTold shown (facts_of check) old new
+
+-- those of the check of the environment that the front of the bytes spells
+abbrev pub FrontIsTold : {X : Type 0} → (X → Shown) → (turns : ℕ) → List ℕ → (old new : List X) → Type 0
+FrontIsTold shown turns bytes old new = (facts : List Fact) × AreCheckFacts turns (front_bytes bytes) facts × AreTold shown facts old new
 
 -- those of a job
 abbrev pub JobIsTold : {X : Type 0} → (X → Shown) → Job → Request → List ℕ → (old new : List X) → Type 0

@@ -14,6 +14,8 @@ pub mod Executed
 pub mod MadeModule
 pub mod CallStages
 pub mod Exported
+pub mod CallEnds
+pub mod Called
 pub mod RunFile
 pub mod Explained
 pub mod Serve
@@ -23,6 +25,7 @@ pub mod ByHistory
 pub mod PlainAnswer
 pub mod MainModule
 pub mod ExportSays
+pub mod CalledMain
 pub mod Promises
 pub mod Served
 pub mod Shallow

@@ -18,6 +18,8 @@ use Rattle.driver.specs.declared.refusal.RunEnd.{RunEnd}
 use Rattle.driver.specs.declared.refusal.RunEnd.TheVariants as runs
 use Rattle.driver.specs.declared.refusal.ModuleFault.{ModuleFault}
 use Rattle.driver.specs.declared.refusal.ModuleFault.TheVariants as modules
+use Rattle.driver.specs.declared.refusal.ArgumentFault.{ArgumentFault}
+use Rattle.driver.specs.declared.refusal.ArgumentFault.TheVariants as arguments
 use Rattle.driver.specs.declared.refusal.Where.TheVariants as tells
 
 -- a refusal of the text
@@ -41,6 +43,12 @@ status_of_module modules.Pages = 7
 status_of_module modules.Table = 7
 status_of_module modules.ElementPastTable = 15
 
+abbrev pub status_of_argument : ArgumentFault → ℕ
+status_of_argument (arguments.Syntax o) = 5
+status_of_argument arguments.Nesting = 7
+status_of_argument arguments.NameBytes = 7
+status_of_argument (arguments.Wrong o) = 16
+
 abbrev pub status_of : Refusal → ℕ
 status_of refusals.Memory = 1
 status_of refusals.Usage = 2
@@ -62,6 +70,7 @@ status_of (refusals.Axiom name) = 10
 status_of (refusals.Program l) = 7
 status_of (refusals.Run w) = status_of_run w
 status_of (refusals.Module w) = status_of_module w
+status_of (refusals.Argument w) = status_of_argument w
 
 unfoldable pub front_of_foreign : Foreign → List ℕ
 front_of_foreign foreigns.Var = codes "unsupported Var at "
@@ -128,6 +137,12 @@ front_of_module modules.Pages = codes "limit Pages"
 front_of_module modules.Table = codes "limit Table"
 front_of_module modules.ElementPastTable = codes "element past table"
 
+unfoldable pub front_of_argument : ArgumentFault → List ℕ
+front_of_argument (arguments.Syntax o) = codes "syntax at "
+front_of_argument arguments.Nesting = codes "limit Nesting"
+front_of_argument arguments.NameBytes = codes "limit NameBytes"
+front_of_argument (arguments.Wrong o) = codes "argument at "
+
 -- what a line begins with: all of it but for numbers, a place, a name and its LF
 unfoldable pub front_of : Refusal → List ℕ
 front_of refusals.Memory = codes "out of memory"
@@ -150,6 +165,7 @@ front_of (refusals.Axiom name) = codes "axiom "
 front_of (refusals.Program l) = front_of_program l
 front_of (refusals.Run w) = front_of_run w
 front_of (refusals.Module w) = front_of_module w
+front_of (refusals.Argument w) = front_of_argument w
 
 -- the number in a line: an offset, that of a broken rule or of a function, or a word that stands for no data
 abbrev pub number_in : Refusal → Option ℕ
@@ -159,6 +175,8 @@ number_in (refusals.Broken n p) = Some n
 number_in (refusals.Run (runs.NoValue w)) = Some w
 number_in (refusals.Module (modules.Bad o)) = Some o
 number_in (refusals.Module (modules.Invalid f p)) = Some f
+number_in (refusals.Argument (arguments.Syntax o)) = Some o
+number_in (refusals.Argument (arguments.Wrong o)) = Some o
 number_in _ = None
 
 abbrev pub number_text : Option ℕ → List ℕ

@@ -3,6 +3,7 @@ use Rattle.std.specs.Prelude.{◌≡◌, ◌≢◌, ℕ, ◌≤◌, ◌<◌, Lis
 use Rattle.std.specs.Io.KnownBytes.{Appends}
 use Rattle.kio.specs.Causes.{Rose}
 use Rattle.dump_grammar.specs.declared.refusal.ReadRefusal.TheVariants as reads
+use Rattle.dump_reader.specs.Front.{front_bytes}
 use Rattle.dump_reader.specs.declared.environment.RawEnv.{RawEnv}
 use Rattle.pc_terms.specs.Syntax.{Term}
 use Rattle.pc_rules.specs.declared.accepted.Accepted.{Accepted}
@@ -13,7 +14,7 @@ use Rattle.env_check.specs.Rules.{givens}
 use Rattle.driver.specs.declared.refusal.Refusal.{Refusal}
 use Rattle.driver.specs.declared.refusal.Refusal.TheVariants as refusals
 use Rattle.command_line.specs.declared.job.Job.{Job}
-use Rattle.command_line.specs.declared.job.Job.TheVariants.{Exec, Check, Eval, Run, Compile, Bench, Explain, Export}
+use Rattle.command_line.specs.declared.job.Job.TheVariants.{Exec, Check, Eval, Run, Compile, Bench, Explain, Export, Call}
 use Rattle.command_line.specs.declared.line.Request.{Request}
 use Rattle.command_line.specs.Line.{request_of}
 use Rattle.driver.specs.Answerable.{IsAnswerable}
@@ -29,6 +30,8 @@ use Rattle.driver.specs.Executed.{IsExecuted}
 use Rattle.driver.specs.Benched.{IsBenched}
 use Rattle.driver.specs.MadeModule.{IsMade, IsMakeCause, MakeEndsWith}
 use Rattle.driver.specs.Exported.{IsExported, IsExportCause, IsLargeForCall, IsExportable, ExportEndsWith}
+use Rattle.driver.specs.CallEnds.{IsCallStop}
+use Rattle.driver.specs.Called.{IsCalled, CallIsJudged}
 use Rattle.driver.specs.RunFile.{IsRunAnswer, IsRunCause, RunEndsWith}
 use Rattle.driver.specs.Explained.{IsExplained}
 use Rattle.driver.specs.Judged.{IsAcceptedBy, IsSpentBy, IsTooDeepFor, IsBrokenBy, EndsWith}
@@ -81,6 +84,7 @@ IsAnswerOf Compile q bytes text = IsMade q.turns q.pages bytes text
 IsAnswerOf Bench q bytes text = IsBenched q.turns q.pages q.steps bytes text
 IsAnswerOf Explain q bytes text = IsCheckAnswer q.turns bytes text ⊎ IsExplained q.turns bytes text
 IsAnswerOf Export q bytes text = IsExported q.turns q.pages bytes text
+IsAnswerOf Call q bytes text = IsCalled q.turns q.pages q.steps bytes text
 
 -- The input, and the answer on it of the job that the words ask for.
 pub record HasAnswer (words : List (List ℕ)) (left : Option (List ℕ)) (text : List ℕ) : Type 0 where
@@ -106,6 +110,7 @@ IsJobCause Run q r e = ⊥
 IsJobCause Compile q r e = IsCheckCause q.turns r e ⊎ (IsMakeCause q.turns q.pages r e × IsLargeFor q.turns r e)
 IsJobCause Bench q r e = IsCheckCause q.turns r e ⊎ (IsExecCause q.turns q.pages q.steps r e × IsLargeFor q.turns r e)
 IsJobCause Explain q r e = ⊥
+IsJobCause Call q r e = ⊥
 IsJobCause Export q r e = IsCheckCause q.turns r e ⊎ (IsExportCause q.turns q.pages r e × IsLargeForCall q.turns r e)
 
 -- the environment that the text spells shows it
@@ -124,9 +129,26 @@ IsDumpCause job q refusals.WriteFault bytes = ⊥
 IsDumpCause job q refusals.InputBytes bytes = ⊥
 IsDumpCause job q r bytes = IsOfCheck job q r bytes
 
--- what of an input, a dump or a module, shows a refusal of a job
+-- the front of the input spells an environment whose check shows it, or what comes after the check by `call`
+abbrev pub IsOfCall : Request → Refusal → List ℕ → Type 0
+IsOfCall q r bytes = (e : RawEnv) × SpellsWithin (front_bytes bytes) e × (IsCheckCause q.turns r e ⊎ (IsCallStop q.turns q.pages q.steps bytes r e × IsLargeForCall q.turns r e))
+
+-- what of the input shows a refusal of `call`: the text of the environment, or what it spells
+abbrev pub IsCallCause : Request → Refusal → List ℕ → Type 0
+IsCallCause q (refusals.Syntax o) bytes = Refuses (front_bytes bytes) (reads.Syntax o)
+IsCallCause q (refusals.Unsupported w o) bytes = Refuses (front_bytes bytes) (reads.Unsupported w o)
+IsCallCause q (refusals.Limit l) bytes = (o : ℕ) × Refuses (front_bytes bytes) (reads.Limit l o)
+IsCallCause q refusals.Memory bytes = ⊥
+IsCallCause q refusals.Usage bytes = ⊥
+IsCallCause q refusals.ReadFault bytes = ⊥
+IsCallCause q refusals.WriteFault bytes = ⊥
+IsCallCause q refusals.InputBytes bytes = ⊥
+IsCallCause q r bytes = IsOfCall q r bytes
+
+-- what of an input, a dump, a dump with arguments behind it or a module, shows a refusal of a job
 abbrev pub IsTextCause : Job → Request → Refusal → List ℕ → Type 0
 IsTextCause Run q r bytes = IsRunCause q.pages q.steps r bytes
+IsTextCause Call q r bytes = IsCallCause q r bytes
 IsTextCause job q r bytes = IsDumpCause job q r bytes
 
 -- the text itself refuses: there the answer is determined but for want of memory
@@ -136,6 +158,7 @@ IsSure refusals.Depth = ⊥
 IsSure (refusals.Broken n p) = ⊥
 IsSure refusals.Types = ⊥
 IsSure refusals.Arguments = ⊥
+IsSure (refusals.Argument w) = ⊥
 IsSure refusals.AnswerNodes = ⊥
 IsSure refusals.NotFirstOrder = ⊥
 IsSure refusals.Stuck = ⊥
@@ -283,6 +306,7 @@ JobEndsWith Run q e status = ⊥
 JobEndsWith Compile q e status = MakeEndsWith q.turns e q.pages status
 JobEndsWith Bench q e status = ExecEndsWith q.turns e q.pages q.steps status
 JobEndsWith Explain q e status = status ≡ 0
+JobEndsWith Call q e status = ⊥
 JobEndsWith Export q e status = ExportEndsWith q.turns e q.pages status
 
 -- the text spells an environment, and the job ends with this status
@@ -292,6 +316,7 @@ IsDumpJudgedWith job q status bytes = (e : RawEnv) × SpellsWithin bytes e × Jo
 -- so of a dump, or the run of a module ends with this status
 abbrev pub IsJudgedWith : Job → Request → ℕ → List ℕ → Type 0
 IsJudgedWith Run q status bytes = RunEndsWith q.pages q.steps bytes status
+IsJudgedWith Call q status bytes = CallIsJudged q status bytes
 IsJudgedWith job q status bytes = IsDumpJudgedWith job q status bytes
 
 -- an environment on which the job has an answer: by `exec` one whose main's module answers data of main's type, by `check` a plain one that keeps all rules,
@@ -305,6 +330,7 @@ IsAnswerableBy Run q e = ⊥
 IsAnswerableBy Compile q e = HasModule q.turns e q.pages
 IsAnswerableBy Bench q e = RestEndsWith q.turns e q.pages q.steps 0
 IsAnswerableBy Explain q e = Unit {0}
+IsAnswerableBy Call q e = ⊥
 IsAnswerableBy Export q e = IsExportable q.turns e q.pages
 
 -- a status that comes after the check: 0, 4 and those from 10 on

@@ -3,16 +3,17 @@ use Rattle.std.specs.Prelude.{◌≡◌, ℕ, List, false}
 use Rattle.pc_rules.specs.DirectedDeclarations.{Checked}
 use Rattle.pc_rules.specs.DirectedFirstOrder.{first_order_search}
 use Rattle.pc_rules.specs.DirectedRun.{Run as RuleRun}
+use Rattle.dump_reader.specs.Front.{front_bytes}
 use Rattle.dump_reader.specs.declared.environment.RawEnv.{RawEnv}
 use Rattle.command_line.specs.declared.job.Job.{Job}
-use Rattle.command_line.specs.declared.job.Job.TheVariants.{Check, Eval, Run, Explain, Export}
+use Rattle.command_line.specs.declared.job.Job.TheVariants.{Check, Eval, Run, Explain, Export, Call}
 use Rattle.driver.specs.Exported.{CallRulesAreWithin}
 use Rattle.driver.specs.ExecEnds.{Accepting, Searching, erasure_of}
 use Rattle.driver.specs.Judged.{IsJudged}
 use Rattle.driver.specs.SourceEnds.{Ended, IsSourceRun}
 use Rattle.driver.specs.Texts.{SpellsWithin}
 
--- by those of the check; and of what comes after it by `eval`, by the jobs that make main's module, and by `export`; `explain` answers whatever they come to
+-- by those of the check; and of what comes after it by `eval`, by the jobs that make main's module, and by `export` and `call`; `explain` answers whatever they come to
 
 abbrev pub CheckIsShallow : (turns : ℕ) → RawEnv → Type 0
 CheckIsShallow turns e = (rules : Checked) → IsJudged turns e rules → rules.deep ≡ false
@@ -36,8 +37,14 @@ IsShallow Eval turns e = EvalIsShallow turns e
 IsShallow Run turns e = Unit {0}
 IsShallow Explain turns e = Unit {0}
 IsShallow Export turns e = CallIsShallow turns e
+IsShallow Call turns e = CallIsShallow turns e
 IsShallow _ turns e = ModuleIsShallow turns e
 
--- so of the environment that the bytes spell
+-- so of the environment that a text spells
+abbrev pub IsShallowFor : Job → (turns : ℕ) → List ℕ → Type 0
+IsShallowFor job turns text = (e : RawEnv) → SpellsWithin text e → IsShallow job turns e
+
+-- so of that of a job's input, which by `call` its front spells
 abbrev pub IsShallowOn : Job → (turns : ℕ) → List ℕ → Type 0
-IsShallowOn job turns bytes = (e : RawEnv) → SpellsWithin bytes e → IsShallow job turns e
+IsShallowOn Call turns bytes = IsShallowFor Call turns (front_bytes bytes)
+IsShallowOn job turns bytes = IsShallowFor job turns bytes

@@ -37,7 +37,7 @@ pub(crate) struct Executed {
 }
 
 /// The text of the data at the types, and LF.
-fn line_of(
+pub(crate) fn line_of(
     alloc: Global,
     answer: &Answer,
     shapes: &Shapes,

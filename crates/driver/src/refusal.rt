@@ -1,7 +1,7 @@
 //! The refusals of a job, each with its status and the parts of its line.
 
 ghost use Rattle.std.specs.Prelude.{◌≡◌, Some, None};
-ghost use Rattle.driver.specs.Lines.{status_of, status_of_module, status_of_run, front_of, front_of_foreign, front_of_entry, front_of_limit, front_of_module, front_of_program, front_of_run, front_of_trap, number_in, place_of, name_in, second_in};
+ghost use Rattle.driver.specs.Lines.{status_of, status_of_argument, status_of_module, status_of_run, front_of, front_of_argument, front_of_foreign, front_of_entry, front_of_limit, front_of_module, front_of_program, front_of_run, front_of_trap, number_in, place_of, name_in, second_in};
 
 use dump_grammar::{Foreign, Limit, ReadRefusal};
 use std::alloc::{AllocError, AllocFailed};
@@ -59,6 +59,19 @@ pub(crate) enum ModuleFault {
     ElementPastTable,
 }
 
+/// Why the text of the arguments gives none. Offsets are bytes from the start of the input.
+#[derive(Clone, Copy, Debug, PartialEq, Eq)]
+pub(crate) enum ArgumentFault {
+    /// No text of arguments goes on with the token there.
+    Syntax { offset: usize },
+    /// Over 1,000 brackets are open.
+    Nesting,
+    /// An atom has over 255 bytes.
+    NameBytes,
+    /// What stands there is no item of the type that is asked for there, or an item is missing or one too many.
+    Wrong { offset: usize },
+}
+
 /// Why a job gives no answer. Offsets are bytes from the start of the input.
 #[derive(Drop)]
 pub(crate) enum Refusal {
@@ -94,6 +107,8 @@ pub(crate) enum Refusal {
     Run { why: RunEnd },
     /// A module isn't run.
     Module { why: ModuleFault },
+    /// The text of the arguments gives none.
+    Argument { why: ArgumentFault },
 }
 
 /// The status of a run without an answer.
@@ -119,6 +134,17 @@ fn module_status(why: &ModuleFault) -> u8
     }
 }
 
+/// The status of arguments that are none.
+fn argument_status(why: &ArgumentFault) -> u8
+    ensures value { result ≡ status_of_argument why.now }
+{
+    match why {
+        ArgumentFault::Syntax { .. } => 5,
+        ArgumentFault::Nesting | ArgumentFault::NameBytes => 7,
+        ArgumentFault::Wrong { .. } => 16,
+    }
+}
+
 /// The program's status.
 pub(crate) fn status(refusal: &Refusal) -> u8
     ensures value { result ≡ status_of refusal.now }
@@ -139,6 +165,7 @@ pub(crate) fn status(refusal: &Refusal) -> u8
         Refusal::Stuck => 15,
         Refusal::Run { why } => run_status(why),
         Refusal::Module { why } => module_status(why),
+        Refusal::Argument { why } => argument_status(why),
     }
 }
 
@@ -256,6 +283,19 @@ fn module_front(why: ModuleFault) -> &'static [u8]
     }
 }
 
+/// What the line of arguments that are none begins with.
+#[tactic(auto, unfolding(crate::specs::Lines::front_of_argument))]
+fn argument_front(why: ArgumentFault) -> &'static [u8]
+    ensures bytes { result.now ≡ front_of_argument why }
+{
+    match why {
+        ArgumentFault::Syntax { .. } => b"syntax at ",
+        ArgumentFault::Nesting => b"limit Nesting",
+        ArgumentFault::NameBytes => b"limit NameBytes",
+        ArgumentFault::Wrong { .. } => b"argument at ",
+    }
+}
+
 /// What the line on err begins with: all of it but for numbers, a place, a name and its LF.
 #[tactic(auto, unfolding(crate::specs::Lines::front_of))]
 pub(crate) fn front(refusal: &Refusal) -> &'static [u8]
@@ -282,6 +322,7 @@ pub(crate) fn front(refusal: &Refusal) -> &'static [u8]
         Refusal::Program { which } => program_front(*which),
         Refusal::Run { why } => run_front(*why),
         Refusal::Module { why } => module_front(*why),
+        Refusal::Argument { why } => argument_front(*why),
     }
 }
 
@@ -298,6 +339,12 @@ pub(crate) fn number(refusal: &Refusal) -> Option<usize>
         } => Some(*word as usize),
         Refusal::Module {
             why: ModuleFault::Bad { offset },
+        } => Some(*offset),
+        Refusal::Argument {
+            why: ArgumentFault::Syntax { offset },
+        } => Some(*offset),
+        Refusal::Argument {
+            why: ArgumentFault::Wrong { offset },
         } => Some(*offset),
         Refusal::Module {
             why: ModuleFault::Invalid { func, .. },

@@ -22,6 +22,7 @@ ghost use Rattle.driver.specs.Served.{ServedOn};
 ghost use Rattle.driver.specs.ByHistory.{EndSays, ReadsToEnd, ServedByHistory, by_history};
 
 use crate::bench::{bench, made_text};
+use crate::call::call;
 use crate::check::check;
 use crate::err_line::write_line;
 use crate::eval::eval;
@@ -68,7 +69,7 @@ fn input_of<S: Source>(alloc: Global, request: Request, src: &mut S) -> Result<V
     match request.job {
         Job::Bench => made_text(alloc, request.size),
         Job::Exec | Job::Check | Job::Eval | Job::Run => read_input(alloc, src),
-        Job::Compile | Job::Explain | Job::Export => read_input(alloc, src),
+        Job::Compile | Job::Explain | Job::Export | Job::Call => read_input(alloc, src),
     }
 }
 
@@ -92,6 +93,7 @@ fn answer_on<R: Report>(
         Job::Bench => bench(alloc, request, bytes, reports),
         Job::Explain => explain(alloc, request, bytes, reports),
         Job::Export => export(alloc, request, bytes, reports),
+        Job::Call => call(alloc, request, bytes, reports),
     }
 }
 
@@ -223,7 +225,7 @@ pub fn serve<S: Source, K: Sink, E: Sink>(
     // The answer: the text spells an environment that is well formed, and out takes `ok`, the text of main's value, or of what main's module answers, or the bytes of that module or of the one for calls; by `run` the text of what the
     // module of the input answers; by `explain` the check may refuse it, and then out takes what explains that.
     ensures done { result ≡ 0 → (text : List ℕ) × HasAnswer (words_of words.now) (S.left src.old) text × Appends (K.taken out.old) (K.taken out.new) text }
-    ensures statuses { Contains (0 ∷ 1 ∷ 2 ∷ 3 ∷ 4 ∷ 5 ∷ 6 ∷ 7 ∷ 8 ∷ 9 ∷ 10 ∷ 11 ∷ 12 ∷ 13 ∷ 14 ∷ 15 ∷ []) result }
+    ensures statuses { Contains (0 ∷ 1 ∷ 2 ∷ 3 ∷ 4 ∷ 5 ∷ 6 ∷ 7 ∷ 8 ∷ 9 ∷ 10 ∷ 11 ∷ 12 ∷ 13 ∷ 14 ∷ 15 ∷ 16 ∷ []) result }
 
     // Each refusal has its cause, and its line goes to err.
     ensures refused { ShowsCause result (words_of words.now) S.left S.faults src.old src.new K.faults out.old out.new E.taken E.faults err.old err.new }

@@ -18,16 +18,18 @@ use Rattle.module_run.specs.FileEnds.{FileEnds}
 use Rattle.module_run.proofs.OneFileEnd.{file_end_is_one}
 use Rattle.module_run.proofs.OneRun.{one_run, went_on}
 use Rattle.command_line.specs.declared.job.Job.{Job}
-use Rattle.command_line.specs.declared.job.Job.TheVariants.{Exec, Check, Eval, Run, Compile, Bench, Explain, Export}
+use Rattle.command_line.specs.declared.job.Job.TheVariants.{Exec, Check, Eval, Run, Compile, Bench, Explain, Export, Call}
 use Rattle.command_line.specs.declared.line.Request.{Request}
 use Rattle.driver.specs.Bench.{five_lines, lines_of}
 use Rattle.driver.specs.ExecEnds.{Answering, Compiling, its_module, its_shapes}
 use Rattle.driver.specs.Serve.{IsAnswerOf, input_limit}
 use Rattle.driver.specs.SourceSays.{IsLine}
+use Rattle.driver.specs.CallEnds.{CallAnswering, answer_shapes}
 use Rattle.driver.specs.CallStages.{CallCompiling, its_call_module}
-use Rattle.driver.proofs.CallCauses.{one_call_module}
+use Rattle.driver.proofs.CallCauses.{one_answer_set, one_call_module}
+use Rattle.driver.proofs.CallJobCauses.{one_call_answer}
 use Rattle.driver.proofs.ExecCauses.{one_acceptance, one_answer, one_module, one_set}
-use Rattle.driver.proofs.TextCauses.{benched_on, executed_on, one_environment}
+use Rattle.driver.proofs.TextCauses.{benched_on, called_on, executed_on, one_environment}
 use Rattle.job_laws.proofs.OneText.{names_alike, text_is_one}
 
 line_is_one : (N : Naming) (ds es : Data) (line other text text' : List ℕ) → ds ≡ es → IsText N 0 ds line → IsText N 0 es other → text ≡ line ++ 10 ∷ [] → text' ≡ other ++ 10 ∷ [] → text ≡ text'
@@ -92,6 +94,23 @@ exported_is_one : (turns : ℕ) (e f : RawEnv) (pages : ℕ) → e ≡ f → (x 
 exported_is_one turns e f pages same x =
     subst (λ z. (y : CallCompiling turns z) → module_bytes (its_call_module pages x) ≡ module_bytes (its_call_module pages y)) same (λ y. ap module_bytes (one_call_module turns e pages x y))
 
+-- ---- the answer of `call`
+
+module _ (turns : ℕ) (e : RawEnv) (bytes : List ℕ) (pages steps : ℕ) where
+  answer_naming_is_one : (x y : CallAnswering turns e bytes pages steps) → by_shapes (answer_shapes x.before.before.before) e.names ≡ by_shapes (answer_shapes y.before.before.before) e.names
+  answer_naming_is_one x y =
+      let s = x.before.before.before in
+      let r = y.before.before.before in
+      let kept = (one_acceptance turns e s.before r.before).0 in
+      names_alike r.before.kept (one_of_each r.before.kept r.before.checked.formed.accepted) s.signature.answer.types r.signature.answer.types e.names
+      (subst (λ E. AreNamed E s.signature.answer.types) kept s.named.1) r.named.1 (one_answer_set turns e s r)
+
+  called_text_is_one : (x y : CallAnswering turns e bytes pages steps) (text text' : List ℕ) → IsLine (answer_shapes x.before.before.before) e.names x.answer.tree text →
+      IsLine (answer_shapes y.before.before.before) e.names y.answer.tree text' → text ≡ text'
+  called_text_is_one x y text text' (line, is, e') (line', is', e'') =
+      line_is_one (by_shapes (answer_shapes y.before.before.before) e.names) x.answer.tree y.answer.tree line line' text text'
+      (ap (λ (a : Answer). a.tree) (one_call_answer turns e bytes pages steps x y)) (subst (λ N. IsText N 0 x.answer.tree line) (answer_naming_is_one x y) is) is' e' e''
+
 -- ---- any job but `eval` and `explain`
 
 tree_is_one : (bytes : List ℕ) (cap n : ℕ) (d e : Data) → length bytes ≤ input_limit → FileEnds bytes cap n (Ok d) → FileEnds bytes cap n (Ok e) → d ≡ e
@@ -107,6 +126,9 @@ answer_is_one Explain q bytes text text' short n m a b = absurd (m refl)
 answer_is_one Run q bytes text text' short n m a b = line_is_one by_tags a.tree b.tree a.line b.line text text' (tree_is_one bytes q.pages q.steps a.tree b.tree short a.ends b.ends) a.line_is b.line_is a.text_is b.text_is
 answer_is_one Compile q bytes text text' short n m a b = a.text_is ∙ made_is_one q.turns a.environment b.environment q.pages (one_environment bytes a.environment b.environment a.spelled b.spelled) a.stages b.stages ∙ sym b.text_is
 answer_is_one Export q bytes text text' short n m a b = a.text_is ∙ exported_is_one q.turns a.environment b.environment q.pages (one_environment bytes a.environment b.environment a.spelled b.spelled) a.stages b.stages ∙ sym b.text_is
+answer_is_one Call q bytes text text' short n m a b =
+    let (x, line) = called_on q bytes text b.environment b.spelled a in
+    called_text_is_one q.turns b.environment bytes q.pages q.steps x b.stages text text' line b.text_is
 answer_is_one Bench q bytes text text' short n m a b =
     let e = b.executed.environment in
     let (answer, x, line, is) = benched_on q bytes text e b.executed.spelled a in

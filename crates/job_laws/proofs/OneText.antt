@@ -1,23 +1,13 @@
 -- Data has one text, by one naming; and first-order sets with the same members, whose constructors have the names of one environment, name alike.
-use Rattle.std.proofs.Common.{◌≡◌, ℕ, zero, suc, List, [], ◌∷◌, ◌++◌, map, append_assoc, Option, Some, refl, sym, ap, subst, ◌∙◌}
-use Rattle.std.specs.Prelude.{slice_get}
-use Rattle.std.specs.List.{All}
-use Rattle.std.proofs.lemmas.List.Elements.{All-head, All-tail}
-use Rattle.calculus_rules.specs.Environment.{Env, KeepsFamily}
+use Rattle.std.proofs.Common.{◌≡◌, ℕ, zero, suc, List, [], ◌∷◌, ◌++◌, append_assoc, Option, Some, refl, sym, ap, subst, ◌∙◌}
+use Rattle.calculus_rules.specs.Environment.{Env}
 use Rattle.calculus_rules.specs.FirstOrder.{Data}
 use Rattle.calculus_rules.specs.Laws.{OneEach}
-use Rattle.calculus_rules.specs.Lookups.{if_some}
 use Rattle.calculus_rules.proofs.Spines.{one_item}
 use Rattle.first_order.specs.declared.shapes.Shape.{Shape}
-use Rattle.first_order.specs.declared.shapes.ShapeCtor.{ShapeCtor}
-use Rattle.first_order.specs.Searching.{AreNamed, IsNamed, ctor_name, family_in, member, members, places}
-use Rattle.first_order.specs.Texts.{Naming, IsText, alone, with_arguments, AreTexts, no_text, one_text, by_shapes, constructor_in, counted_ctor, named_ctor}
-
-head_is : {X : Type 0} (x y : X) (xs ys : List X) → x ∷ xs ≡ y ∷ ys → x ≡ y
-head_is x y xs ys e = cc
-
-tail_is : {X : Type 0} (x y : X) (xs ys : List X) → x ∷ xs ≡ y ∷ ys → xs ≡ ys
-tail_is x y xs ys e = cc
+use Rattle.first_order.specs.Searching.{AreNamed, members}
+use Rattle.first_order.specs.Texts.{Naming, IsText, alone, with_arguments, AreTexts, no_text, one_text, by_shapes}
+use Rattle.driver.proofs.OneNames.{head_is, shapes_alike}
 
 -- a node's name and the places of its arguments
 abbrev called : (name js : List ℕ) → Option (List ℕ × List ℕ)
@@ -122,31 +112,6 @@ module _ (N : Naming) where
 
 -- ---- names
 
-same_ctors : (ks ls : List ShapeCtor) → map ctor_name ks ≡ map ctor_name ls → map places ks ≡ map places ls → ks ≡ ls
-same_ctors [] [] e f = refl
-same_ctors [] (l ∷ ls) e f = absurd cc
-same_ctors (k ∷ ks) [] e f = absurd cc
-same_ctors (k ∷ ks) (l ∷ ls) e f =
-    let name = head_is (ctor_name k) (ctor_name l) (map ctor_name ks) (map ctor_name ls) e in
-    let args = head_is (places k) (places l) (map places ks) (map places ls) f in
-    let rest = same_ctors ks ls (tail_is (ctor_name k) (ctor_name l) (map ctor_name ks) (map ctor_name ls) e) (tail_is (places k) (places l) (map places ks) (map places ls) f) in
-    λ i. (record { name = name i; args = args i }) ∷ rest i
-
 module _ (E : Env) (one : OneEach E) where
-  shape_alike : (h g : Shape) → IsNamed E h → IsNamed E g → member h ≡ member g → h.ctors ≡ g.ctors
-  shape_alike h g n m e =
-      let family : n.family ≡ m.family = ap family_in (sym n.head_is) ∙ ap (λ x. x.family) e ∙ ap family_in m.head_is in
-      let declared = one.families m.family n.declared m.declared (subst (λ f. KeepsFamily E f n.declared) family n.keeps) m.keeps in
-      same_ctors h.ctors g.ctors (n.names ∙ ap (λ F. map (λ C. C.name) F.constructors) declared ∙ sym m.names) (ap (λ x. x.constructors) e)
-
-  ctor_alike : (S R : List Shape) → AreNamed E S → AreNamed E R → members S ≡ members R → (i c n : ℕ) → constructor_in S i c n ≡ constructor_in R i c n
-  ctor_alike [] [] s r e i c n = refl
-  ctor_alike [] (g ∷ R) s r e i c n = absurd cc
-  ctor_alike (h ∷ S) [] s r e i c n = absurd cc
-  ctor_alike (h ∷ S) (g ∷ R) s r e zero c n =
-      ap (λ ks. if_some (slice_get ks c) (λ k. counted_ctor n k))
-      (shape_alike h g (All-head (IsNamed E) h S s) (All-head (IsNamed E) g R r) (head_is (member h) (member g) (members S) (members R) e))
-  ctor_alike (h ∷ S) (g ∷ R) s r e (suc i) c n = ctor_alike S R (All-tail (IsNamed E) h S s) (All-tail (IsNamed E) g R r) (tail_is (member h) (member g) (members S) (members R) e) i c n
-
   pub names_alike : (S R : List Shape) (names : List (List ℕ)) → AreNamed E S → AreNamed E R → members S ≡ members R → by_shapes S names ≡ by_shapes R names
-  names_alike S R names s r e = λ k i d. if_some (ctor_alike S R s r e i d.0 d.1 k) (λ x. named_ctor names x)
+  names_alike S R names s r e = ap (λ T. by_shapes T names) (shapes_alike E one S R s r e)

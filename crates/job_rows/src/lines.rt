@@ -22,6 +22,7 @@ fn name_of(job: Job) -> &'static str {
         Job::Bench => "bench",
         Job::Explain => "explain",
         Job::Export => "export",
+        Job::Call => "call",
     }
 }
 

@@ -13,6 +13,7 @@
 //! | `lines` | `line` (`words:`) |
 //! | `explained` | `serve`, of the job `explain` |
 //! | `exported` | `serve` and `serve twice`, of the job `export` |
+//! | `called` | `serve`, of the job `call` |
 //! | `faults` | `serve at each prefix`, `serve with each fault` (`failing:` says whose calls, `calls:` how many), `serve` |
 #![tactic(auto)]
 
@@ -42,6 +43,7 @@ enum Layer {
     Faults,
     Explained,
     Exported,
+    Called,
 }
 
 impl Table for Layer {
@@ -58,6 +60,7 @@ impl Table for Layer {
             Layer::Faults => "faults.rows",
             Layer::Explained => "explained.rows",
             Layer::Exported => "exported.rows",
+            Layer::Called => "called.rows",
         }
     }
 
@@ -71,7 +74,8 @@ impl Table for Layer {
             | Layer::Limits
             | Layer::Compiled
             | Layer::Explained
-            | Layer::Exported => { jobs::run(case, out) }
+            | Layer::Exported
+            | Layer::Called => { jobs::run(case, out) }
             Layer::Lines => lines::run(case, out),
             Layer::Faults => faults::run(case, out),
         }
@@ -93,6 +97,7 @@ fn main(rt: HostRuntime) -> io::Result<()> {
             Layer::Faults,
             Layer::Explained,
             Layer::Exported,
+            Layer::Called,
         ],
     )
 }

@@ -9,7 +9,8 @@ use Rattle.wasm_core.specs.Parts.{Parts}
 use Rattle.wasm_core.specs.ShortestBytes.{module_bytes, most_bytes}
 use Rattle.wasm_core.specs.MachineStep.{Conf, State, Store, At, Over, step, StepsTo, Reach}
 use Rattle.wasm_core.specs.MachineRun.{GoesOn}
-use Rattle.wasm_core.specs.Answer.{global_of, Answers, answers, Exhausted, exhausted, AnswersWithin, IsAtEnd, IsAnswer}
+use Rattle.wasm_core.specs.Runs.{main_start}
+use Rattle.wasm_core.specs.Answer.{global_of, Answers, answers, Exhausted, exhausted, AnswersFrom, IsAtEnd, IsAnswer}
 use Rattle.wasm_core.specs.WordData.{DataNodes, StandsFor}
 use Rattle.wasm_core.proofs.Small.{inj}
 use Rattle.wasm_core.proofs.DataUnique.{data_unique}
@@ -18,9 +19,9 @@ use Rattle.mem_value.specs.Tells.{HasData, HasMany, most_nodes}
 use Rattle.module_run.specs.declared.answer.Answer.{Answer}
 use Rattle.module_run.specs.declared.refusal.RunRefusal.{RunRefusal}
 use Rattle.module_run.specs.declared.refusal.RunRefusal.TheVariants as refusals
-use Rattle.module_run.specs.Ends.{Ends, IsSmall, IsRun, IsLonger, IsReturned}
-use Rattle.module_run.specs.EndLaws.{EndIsOne, EndsAnswer}
-use Rattle.module_run.proofs.OneRun.{one_run, not_longer}
+use Rattle.module_run.specs.Ends.{EndsFrom, IsSmall, IsRunFrom, IsLongerFrom, IsReturnedFrom}
+use Rattle.module_run.specs.EndLaws.{AnswersOrSpends, EndIsOne, EndsAnswer}
+use Rattle.module_run.proofs.OneRun.{one_run_from, not_longer}
 
 -- what an end is of: no bytes, a run that goes on, one that trapped, one that returned
 
@@ -33,24 +34,24 @@ of_return store word (Err (refusals.NoValue x)) = (x ≡ word) × (HasData store
 of_return store word (Err refusals.AnswerNodes) = HasMany store.memory word
 of_return store word (Err r) = ⊥
 
-data Way (m : Parts) (cap n : ℕ) (r : Result Answer RunRefusal) : Type 0 where
-  large : most_bytes < length (module_bytes m) → r ≡ Err refusals.ModuleBytes → Way m cap n r
-  long : IsSmall m → IsLonger m cap n → r ≡ Err refusals.StepsSpent → Way m cap n r
-  trap : IsSmall m → (kind : TrapKind) (store : Store) → IsRun m cap n (Over (Trapped kind) store) → of_trap store kind m r → Way m cap n r
-  back : IsSmall m → (store : Store) (word : ℕ) → IsRun m cap n (Over Returned store) → global_of entry.Result m store ≡ Some word → of_return store word r → Way m cap n r
+data Way (o : Option State) (m : Parts) (cap n : ℕ) (r : Result Answer RunRefusal) : Type 0 where
+  large : most_bytes < length (module_bytes m) → r ≡ Err refusals.ModuleBytes → Way o m cap n r
+  long : IsSmall m → IsLongerFrom o m cap n → r ≡ Err refusals.StepsSpent → Way o m cap n r
+  trap : IsSmall m → (kind : TrapKind) (store : Store) → IsRunFrom o m cap n (Over (Trapped kind) store) → of_trap store kind m r → Way o m cap n r
+  back : IsSmall m → (store : Store) (word : ℕ) → IsRunFrom o m cap n (Over Returned store) → global_of entry.Result m store ≡ Some word → of_return store word r → Way o m cap n r
 
-some_other : {x y : ℕ} (o : Option ℕ) → o ≡ Some x → x ≢ y → o ≢ Some y
-some_other o e n f = n (inj (sym e ∙ f))
+some_other : {x y : ℕ} (p : Option ℕ) → p ≡ Some x → x ≢ y → p ≢ Some y
+some_other p e n f = n (inj (sym e ∙ f))
 
-way_of : (m : Parts) (cap n : ℕ) (r : Result Answer RunRefusal) → Ends m cap n r → r ≢ Err refusals.Memory → Way m cap n r
-way_of m cap n (Ok a) (small, h) k = back small h.returned.store a.word h.returned.run h.returned.word_is (refl, h.stands, h.few)
-way_of m cap n (Err refusals.ModuleBytes) h k = large h refl
-way_of m cap n (Err refusals.StepsSpent) (small, h) k = long small h refl
-way_of m cap n (Err refusals.Exhausted) (small, (kind, h)) k = trap small kind h.store h.run (inl (refl, h.status_is))
-way_of m cap n (Err (refusals.Trapped kind)) (small, (status, other, h)) k = trap small kind h.store h.run (inr (refl, some_other (global_of entry.Status m h.store) h.status_is other))
-way_of m cap n (Err (refusals.NoValue word)) (small, h) k = back small h.returned.store word h.returned.run h.returned.word_is (refl, h.none)
-way_of m cap n (Err refusals.AnswerNodes) (small, h) k = back small h.returned.store h.word h.returned.run h.returned.word_is h.many
-way_of m cap n (Err refusals.Memory) h k = absurd (k refl)
+way_of : (o : Option State) (m : Parts) (cap n : ℕ) (r : Result Answer RunRefusal) → EndsFrom o m cap n r → r ≢ Err refusals.Memory → Way o m cap n r
+way_of o m cap n (Ok a) (small, h) k = back small h.returned.store a.word h.returned.run h.returned.word_is (refl, h.stands, h.few)
+way_of o m cap n (Err refusals.ModuleBytes) h k = large h refl
+way_of o m cap n (Err refusals.StepsSpent) (small, h) k = long small h refl
+way_of o m cap n (Err refusals.Exhausted) (small, (kind, h)) k = trap small kind h.store h.run (inl (refl, h.status_is))
+way_of o m cap n (Err (refusals.Trapped kind)) (small, (status, other, h)) k = trap small kind h.store h.run (inr (refl, some_other (global_of entry.Status m h.store) h.status_is other))
+way_of o m cap n (Err (refusals.NoValue word)) (small, h) k = back small h.returned.store word h.returned.run h.returned.word_is (refl, h.none)
+way_of o m cap n (Err refusals.AnswerNodes) (small, h) k = back small h.returned.store h.word h.returned.run h.returned.word_is h.many
+way_of o m cap n (Err refusals.Memory) h k = absurd (k refl)
 
 -- equal ends
 
@@ -106,44 +107,47 @@ returns_same store word (Err refusals.AnswerNodes) (Err refusals.Exhausted) h k 
 returns_same store word (Err refusals.AnswerNodes) (Err (refusals.Trapped y)) h k = absurd k
 returns_same store word (Err refusals.AnswerNodes) (Err refusals.Memory) h k = absurd k
 
-module _ (m : Parts) (cap n : ℕ) (a b : Result Answer RunRefusal) where
-  trapped_both : (j k : TrapKind) (s t : Store) → IsRun m cap n (Over (Trapped j) s) → IsRun m cap n (Over (Trapped k) t) → of_trap s j m a → of_trap t k m b → a ≡ b
+module _ (o : Option State) (m : Parts) (cap n : ℕ) (a b : Result Answer RunRefusal) where
+  trapped_both : (j k : TrapKind) (s t : Store) → IsRunFrom o m cap n (Over (Trapped j) s) → IsRunFrom o m cap n (Over (Trapped k) t) → of_trap s j m a → of_trap t k m b → a ≡ b
   trapped_both j k s t r q x y =
-      let same = one_run m cap n (Trapped j) (Trapped k) s t r q in
+      let same = one_run_from m cap o n (Trapped j) (Trapped k) s t r q in
       let kinds : j ≡ k = ap (λ z. kind_in (end_in z (Trapped j)) j) same in
       let stores : s ≡ t = ap (λ z. store_in z s) same in
       traps_same m k t a b (subst (λ z. of_trap t z m a) kinds (subst (λ z. of_trap z j m a) stores x)) y
 
-  returned_both : (s t : Store) (v w : ℕ) → IsRun m cap n (Over Returned s) → IsRun m cap n (Over Returned t) → global_of entry.Result m s ≡ Some v → global_of entry.Result m t ≡ Some w →
+  returned_both : (s t : Store) (v w : ℕ) → IsRunFrom o m cap n (Over Returned s) → IsRunFrom o m cap n (Over Returned t) → global_of entry.Result m s ≡ Some v → global_of entry.Result m t ≡ Some w →
       of_return s v a → of_return t w b → a ≡ b
   returned_both s t v w r q e f x y =
-      let stores : s ≡ t = ap (λ z. store_in z s) (one_run m cap n Returned Returned s t r q) in
+      let stores : s ≡ t = ap (λ z. store_in z s) (one_run_from m cap o n Returned Returned s t r q) in
       let words : v ≡ w = inj (sym e ∙ ap (global_of entry.Result m) stores ∙ f) in
       returns_same t w a b (subst (λ z. of_return t z a) words (subst (λ z. of_return z v a) stores x)) y
 
-  never : (k : TrapKind) (s t : Store) → IsRun m cap n (Over (Trapped k) s) → IsRun m cap n (Over Returned t) → ⊥
-  never k s t r q = let same : Trapped k ≡ Returned = ap (λ z. end_in z Returned) (one_run m cap n (Trapped k) Returned s t r q) in cc
+  never : (k : TrapKind) (s t : Store) → IsRunFrom o m cap n (Over (Trapped k) s) → IsRunFrom o m cap n (Over Returned t) → ⊥
+  never k s t r q = let same : Trapped k ≡ Returned = ap (λ z. end_in z Returned) (one_run_from m cap o n (Trapped k) Returned s t r q) in cc
 
-  one_way : Way m cap n a → Way m cap n b → a ≡ b
+  one_way : Way o m cap n a → Way o m cap n b → a ≡ b
   one_way (large h e) (large k f) = e ∙ sym f
   one_way (large h e) (long s k f) = absurd (omega (arith, h, s))
   one_way (large h e) (trap s j st r f) = absurd (omega (arith, h, s))
   one_way (large h e) (back s st w r g f) = absurd (omega (arith, h, s))
   one_way (long s h e) (large k f) = absurd (omega (arith, k, s))
   one_way (long s h e) (long s' k f) = e ∙ sym f
-  one_way (long s h e) (trap s' j st r f) = absurd (not_longer m cap n (Trapped j) st r h)
-  one_way (long s h e) (back s' st w r g f) = absurd (not_longer m cap n Returned st r h)
+  one_way (long s h e) (trap s' j st r f) = absurd (not_longer m cap o n (Trapped j) st r h)
+  one_way (long s h e) (back s' st w r g f) = absurd (not_longer m cap o n Returned st r h)
   one_way (trap s j st r e) (large k f) = absurd (omega (arith, k, s))
-  one_way (trap s j st r e) (long s' k f) = absurd (not_longer m cap n (Trapped j) st r k)
+  one_way (trap s j st r e) (long s' k f) = absurd (not_longer m cap o n (Trapped j) st r k)
   one_way (trap s j st r e) (trap s' j' st' r' f) = trapped_both j j' st st' r r' e f
   one_way (trap s j st r e) (back s' st' w r' g f) = absurd (never j st st' r r')
   one_way (back s st w r g e) (large k f) = absurd (omega (arith, k, s))
-  one_way (back s st w r g e) (long s' k f) = absurd (not_longer m cap n Returned st r k)
+  one_way (back s st w r g e) (long s' k f) = absurd (not_longer m cap o n Returned st r k)
   one_way (back s st w r g e) (trap s' j st' r' f) = absurd (never j st' st r' r)
   one_way (back s st w r g e) (back s' st' w' r' g' f) = returned_both st st' w w' r r' g g' e f
 
+pub end_from_is_one : (o : Option State) (m : Parts) (cap n : ℕ) (a b : Result Answer RunRefusal) → EndsFrom o m cap n a → EndsFrom o m cap n b → a ≢ Err refusals.Memory → b ≢ Err refusals.Memory → a ≡ b
+end_from_is_one o m cap n a b h k x y = one_way o m cap n a b (way_of o m cap n a h x) (way_of o m cap n b k y)
+
 pub end_is_one : EndIsOne
-end_is_one m cap n a b h k x y = one_way m cap n a b (way_of m cap n a h x) (way_of m cap n b k y)
+end_is_one m cap n = end_from_is_one (main_start m) m cap n
 
 -- where every run answers the data or is exhausted
 
@@ -162,28 +166,28 @@ exhausted_status (exhausted h) = h.status
 answer_in : {m : Parts} {d : DataNodes} {s : Store} → Answers m d (Over Returned s) → IsAnswer m d s
 answer_in (answers h) = h
 
-module _ (m : Parts) (cap most n : ℕ) (d : DataNodes) (w : AnswersWithin m most d) where
+module _ (o : Option State) (m : Parts) (cap most n : ℕ) (d : DataNodes) (start : State) (at : o ≡ Some start) (w : AnswersFrom m most d start) where
   -- the run's end
-  ended : (x : Ended) (s : Store) → IsRun m cap n (Over x s) → Answers m d (Over x s) ⊎ Exhausted m (Over x s)
+  ended : (x : Ended) (s : Store) → IsRunFrom o m cap n (Over x s) → Answers m d (Over x s) ⊎ Exhausted m (Over x s)
   ended x s r =
-      let first : r.first ≡ w.first = inj (sym r.starts ∙ w.starts) in
+      let first : r.first ≡ start = inj (sym r.starts ∙ at) in
       let reach = subst (λ z. Reach m r.steps z (Over x s)) first (moves_are_steps m cap r.steps r.first (Over x s) r.moves) in
       w.answers r.steps (Over x s) reach (over_is_end m x s)
 
-  returned : (s : Store) → IsRun m cap n (Over Returned s) → IsAnswer m d s
+  returned : (s : Store) → IsRunFrom o m cap n (Over Returned s) → IsAnswer m d s
   returned s r = elim (ended Returned s r) [ inl a ↦ answer_in a | inr e ↦ absurd (returned_exhausted e) ]
 
-  trapped : (k : TrapKind) (s : Store) → IsRun m cap n (Over (Trapped k) s) → global_of entry.Status m s ≡ Some 1
+  trapped : (k : TrapKind) (s : Store) → IsRunFrom o m cap n (Over (Trapped k) s) → global_of entry.Status m s ≡ Some 1
   trapped k s r = elim (ended (Trapped k) s r) [ inl a ↦ absurd (trapped_answer a) | inr e ↦ exhausted_status e ]
 
-  stands : (x : ℕ) (r : IsReturned m cap n x) → StandsFor r.store.memory x d
+  stands : (x : ℕ) (r : IsReturnedFrom o m cap n x) → StandsFor r.store.memory x d
   stands x r = (let a = returned r.store r.run in subst (λ v. StandsFor r.store.memory v d) (inj (sym a.result ∙ r.word_is)) a.stands)
 
   -- after fewer steps than the bound, where it goes on
-  no_step : (granted : Bool) (k : ℕ) (c : Conf) → Reach m k w.first (At c) → k ≡ most → (o : Option State) → step m granted c ≡ o → (t : State) → StepsTo m granted (At c) t → ⊥
-  no_step granted k c reach same o e t h = (let le = w.bounded (suc k) t (At c, reach, (granted, h)) in omega (arith, le, same))
+  no_step : (granted : Bool) (k : ℕ) (c : Conf) → Reach m k start (At c) → k ≡ most → (next : Option State) → step m granted c ≡ next → (t : State) → StepsTo m granted (At c) t → ⊥
+  no_step granted k c reach same next e t h = (let le = w.bounded (suc k) t (At c, reach, (granted, h)) in omega (arith, le, same))
 
-  still : (k : ℕ) (s : State) → Reach m k w.first s → GoesOn s → k < most
+  still : (k : ℕ) (s : State) → Reach m k start s → GoesOn s → k < most
   still k (Over x s) reach g = absurd g
   still k (At c) reach g =
       elim (cases_lt k most) [
@@ -198,19 +202,22 @@ module _ (m : Parts) (cap most n : ℕ) (d : DataNodes) (w : AnswersWithin m mos
       at_not_exhausted : {m : Parts} {c : Conf} → Exhausted m (At c) → ⊥
       at_not_exhausted h = elim h [ ]
 
-  longer : IsLonger m cap n → n < most
+  longer : IsLongerFrom o m cap n → n < most
   longer l =
-      let first : l.first ≡ w.first = inj (sym l.starts ∙ w.starts) in
+      let first : l.first ≡ start = inj (sym l.starts ∙ at) in
       still n l.state (subst (λ z. Reach m n z l.state) first (moves_are_steps m cap n l.first l.state l.moves)) l.goes_on
 
-pub ends_answer : EndsAnswer
-ends_answer m cap most n d (Ok a) w (small, h) = data_unique h.returned.store.memory a.word a.tree d h.stands (stands m cap most n d w a.word h.returned)
-ends_answer m cap most n d (Err refusals.ModuleBytes) w h = tt
-ends_answer m cap most n d (Err refusals.StepsSpent) w (small, h) = longer m cap most n d w h
-ends_answer m cap most n d (Err refusals.Exhausted) w h = tt
-ends_answer m cap most n d (Err (refusals.Trapped kind)) w (small, (status, other, h)) = other (inj (sym h.status_is ∙ trapped m cap most n d w kind h.store h.run))
-ends_answer m cap most n d (Err (refusals.NoValue word)) w (small, h) = h.none (d, stands m cap most n d w word h.returned)
-ends_answer m cap most n d (Err refusals.AnswerNodes) w (small, h) =
+pub ends_answer_from : (o : Option State) (m : Parts) (cap most n : ℕ) (d : DataNodes) (start : State) (r : Result Answer RunRefusal) → o ≡ Some start → AnswersFrom m most d start → EndsFrom o m cap n r → AnswersOrSpends most n d r
+ends_answer_from o m cap most n d start (Ok a) at w (small, h) = data_unique h.returned.store.memory a.word a.tree d h.stands (stands o m cap most n d start at w a.word h.returned)
+ends_answer_from o m cap most n d start (Err refusals.ModuleBytes) at w h = tt
+ends_answer_from o m cap most n d start (Err refusals.StepsSpent) at w (small, h) = longer o m cap most n d start at w h
+ends_answer_from o m cap most n d start (Err refusals.Exhausted) at w h = tt
+ends_answer_from o m cap most n d start (Err (refusals.Trapped kind)) at w (small, (status, other, h)) = other (inj (sym h.status_is ∙ trapped o m cap most n d start at w kind h.store h.run))
+ends_answer_from o m cap most n d start (Err (refusals.NoValue word)) at w (small, h) = h.none (d, stands o m cap most n d start at w word h.returned)
+ends_answer_from o m cap most n d start (Err refusals.AnswerNodes) at w (small, h) =
     let (e, s, many) = h.many in
-    subst (λ (x : DataNodes). most_nodes < length x) (data_unique h.returned.store.memory h.word e d s (stands m cap most n d w h.word h.returned)) many
-ends_answer m cap most n d (Err refusals.Memory) w h = tt
+    subst (λ (x : DataNodes). most_nodes < length x) (data_unique h.returned.store.memory h.word e d s (stands o m cap most n d start at w h.word h.returned)) many
+ends_answer_from o m cap most n d start (Err refusals.Memory) at w h = tt
+
+pub ends_answer : EndsAnswer
+ends_answer m cap most n d r w h = ends_answer_from (main_start m) m cap most n d w.first r w.starts (record { bounded = w.bounded; answers = w.answers }) h

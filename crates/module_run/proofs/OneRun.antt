@@ -1,13 +1,13 @@
 -- A machine makes one run.
-use Rattle.std.proofs.Common.{◌≡◌, ℕ, zero, suc, ◌<◌, sym, subst, ◌∙◌, arith, inl, inr}
+use Rattle.std.proofs.Common.{◌≡◌, ℕ, zero, suc, ◌<◌, Option, sym, subst, ◌∙◌, arith, inl, inr}
 use Rattle.std.proofs.lemmas.Bool.{cases_lt}
 use Rattle.wasm_core.specs.declared.ended.Ended.{Ended}
 use Rattle.wasm_core.specs.Parts.{Parts}
 use Rattle.wasm_core.specs.MachineStep.{State, Store, At, Over}
 use Rattle.wasm_core.specs.MachineRun.{GoesOn}
-use Rattle.wasm_core.specs.Runs.{Moves, Move}
+use Rattle.wasm_core.specs.Runs.{Moves, Move, main_start}
 use Rattle.wasm_core.proofs.Small.{inj}
-use Rattle.module_run.specs.Ends.{IsRun, IsLonger}
+use Rattle.module_run.specs.Ends.{IsRun, IsRunFrom, IsLongerFrom}
 
 module _ (m : Parts) (cap : ℕ) where
   one_move : (s t u : State) → Move m cap s t → Move m cap s u → t ≡ u
@@ -42,14 +42,17 @@ module _ (m : Parts) (cap : ℕ) where
         ]
       ]
 
-  pub one_run : (n : ℕ) (x y : Ended) (a b : Store) → IsRun m cap n (Over x a) → IsRun m cap n (Over y b) → Over x a ≡ Over y b
-  one_run n x y a b r q =
+  pub one_run_from : (o : Option State) (n : ℕ) (x y : Ended) (a b : Store) → IsRunFrom o m cap n (Over x a) → IsRunFrom o m cap n (Over y b) → Over x a ≡ Over y b
+  one_run_from o n x y a b r q =
       let first : q.first ≡ r.first = inj (sym q.starts ∙ r.starts) in
       one_over r.steps q.steps r.first x y a b r.moves (subst (λ s. Moves m cap q.steps s (Over y b)) first q.moves)
 
+  pub one_run : (n : ℕ) (x y : Ended) (a b : Store) → IsRun m cap n (Over x a) → IsRun m cap n (Over y b) → Over x a ≡ Over y b
+  one_run n x y a b r q = one_run_from (main_start m) n x y a b r q
+
   -- a run that ends within so many steps is no longer one
-  pub not_longer : (n : ℕ) (x : Ended) (a : Store) → IsRun m cap n (Over x a) → IsLonger m cap n → ⊥
-  not_longer n x a r l =
+  pub not_longer : (o : Option State) (n : ℕ) (x : Ended) (a : Store) → IsRunFrom o m cap n (Over x a) → IsLongerFrom o m cap n → ⊥
+  not_longer o n x a r l =
       let first : l.first ≡ r.first = inj (sym l.starts ∙ r.starts) in
       let moves = subst (λ s. Moves m cap n s l.state) first l.moves in
       elim (cases_lt r.steps n) [

@@ -1,13 +1,14 @@
 //! Writing, reading, checking and running of a module, and its answer.
-ghost use Rattle.std.specs.Prelude.{◌≡◌, ℕ, length, None, IfOk, IfErr, OnOk};
+ghost use Rattle.std.specs.Prelude.{◌≡◌, ℕ, length, Option, None, IfOk, IfErr, OnOk};
 ghost use Rattle.wasm_core.specs.Parts.{Parts};
 ghost use Rattle.wasm_core.specs.ModuleGrammar.{SpellsModule};
 ghost use Rattle.wasm_core.specs.ModuleTyping.{IsValid};
 ghost use Rattle.wasm_core.specs.ShortestBytes.{module_bytes};
 ghost use Rattle.wasm_core.specs.MachineRun.{IsFreshMachine, refusal};
-ghost use Rattle.module_run.specs.Ends.{AnswerSays, IsSmall, RunSays, WriteSays};
+ghost use Rattle.wasm_core.specs.MachineStep.{State};
+ghost use Rattle.module_run.specs.Ends.{AnswerSays, IsSmall, RunSaysFrom, StartsAt, WriteSays};
 ghost use Rattle.module_run.specs.Figures.{FigureSays};
-ghost use Rattle.module_run.specs.RunFacts.{RunIsTold};
+ghost use Rattle.module_run.specs.RunFacts.{RunIsTold, RunIsToldFrom};
 ghost use Rattle.module_run.specs.declared.refusal.RunRefusal.TheVariants.{Memory};
 
 use crate::answer::{Answer, Measured};
@@ -22,7 +23,7 @@ use wasm_run::Machine;
 use wasm_validate::{Why, validate};
 
 /// The module's shortest bytes.
-fn written(alloc: Global, m: &Valid) -> Result<Vec<u8>, RunRefusal>
+pub(crate) fn written(alloc: Global, m: &Valid) -> Result<Vec<u8>, RunRefusal>
     ensures says { WriteSays (λ v. v.items) m.now result }
 {
     match encode(alloc, m) {
@@ -61,7 +62,7 @@ fn checked(alloc: Global, program: Module) -> Result<Valid, RunRefusal>
 }
 
 /// The valid module that the bytes spell.
-fn loaded(alloc: Global, bytes: &[u8]) -> Result<Valid, RunRefusal>
+pub(crate) fn loaded(alloc: Global, bytes: &[u8]) -> Result<Valid, RunRefusal>
     requires spelled { (m : Parts) × SpellsModule bytes.now m × IsValid m }
     ensures program { (m : Parts) → SpellsModule bytes.now m → IfOk result (λ v. v ≡ m) }
     ensures only_memory { IfErr result (λ e. e ≡ Memory) }
@@ -86,7 +87,7 @@ fn started<'m>(alloc: Global, program: &'m Valid, cap: u32) -> Result<Machine<'m
     }
 }
 
-/// The run of a machine that has made no step yet, up to its return, in at most so many steps.
+/// The run of a machine that has made no step yet, up to its return, in at most so many steps: from the state in which a run of `main` starts, or in which a host has made it ready.
 ///
 /// `StepsSpent` exactly where it hadn't ended after so many; `Exhausted` exactly where it trapped with the status 1, and `Trapped` exactly where it trapped with
 /// another. No other refusal but `Memory`. Each report is told the facts of the steps that were made, as `Machine::run_told` says.
@@ -95,9 +96,9 @@ pub fn returned<R: Report>(
     steps: u64,
     reports: &mut Vec<R>,
 ) -> Result<(), RunRefusal>
-    requires fresh { (m : Parts) × (cap : ℕ) × IsFreshMachine m cap machine.old }
-    ensures says { (m : Parts) (cap : ℕ) → IsFreshMachine m cap machine.old → RunSays m cap steps machine.new result }
-    ensures told { (m : Parts) (cap : ℕ) → IsFreshMachine m cap machine.old → OnOk result (RunIsTold R.shown m cap steps reports.old.items reports.new.items) }
+    requires start { (o : Option State) × (m : Parts) × (cap : ℕ) × StartsAt o m cap machine.old }
+    ensures says { (o : Option State) (m : Parts) (cap : ℕ) → StartsAt o m cap machine.old → RunSaysFrom o m cap steps machine.new result }
+    ensures told { (o : Option State) (m : Parts) (cap : ℕ) → StartsAt o m cap machine.old → OnOk result (RunIsToldFrom R.shown o m cap steps reports.old.items reports.new.items) }
 {
     match machine.run_told(steps, reports) {
         Ok(Ended::Returned) => Ok(()),

@@ -5,6 +5,8 @@
 //! data or is exhausted. `answer_of_file` says exactly how it ends for a module that is given as bytes (`says`): the data, or the first stage that refuses with its cause: the bytes spell no module, the module has no
 //! typing, no machine is made of it, its run gives no data. `one_file_end` says that this is determined but for want of memory (`one`).
 //!
+//! `answer_of_call` calls `main` with arguments that are stored before the run, and says exactly how that ends (`says`).
+//!
 //! Each of these that runs a module tells reports the facts of the run, where there is an answer: each step with its class, each grow of memory that wasn't refused (`told`).
 //!
 //! Below stand the crates of modules, from `wasm_core` to `mem_value`, and `reports`; above stands `driver`.
@@ -12,6 +14,7 @@
 
 mod answer;
 mod answering;
+mod call_answering;
 mod file_answering;
 mod file_refusal;
 mod refusal;
@@ -21,6 +24,7 @@ ghost use Rattle.module_run.specs.FileLaws.{FileEndIsOne};
 
 pub use answer::{Answer, Measured};
 pub use answering::{answer_of, answered, returned};
+pub use call_answering::answer_of_call;
 pub use file_answering::answer_of_file;
 pub use file_refusal::FileRefusal;
 pub use refusal::RunRefusal;

@@ -11,6 +11,6 @@ returns-in-Ok-Returned g c =
     let (facts, of, told) = c.in-Ok-Returned.ensures.told in
     let made = subst (λ e. SaysTold c.args.machine.now c.run_told.new.self c.args.steps (Ok e) facts) c.in-Ok-Returned.field-0-is of in
     record {
-      says = λ m cap fresh. has_returned m cap c.args.steps c.args.machine.now c.run_told.new.self fresh few says;
-      told = λ m cap fresh. (facts, run_facts m cap c.args.steps c.args.machine.now c.run_told.new.self facts fresh made, told);
+      says = λ o m cap fresh. has_returned o m cap c.args.steps c.args.machine.now c.run_told.new.self fresh few says;
+      told = λ o m cap fresh. (facts, run_facts o m cap c.args.steps c.args.machine.now c.run_told.new.self facts fresh made, told);
     }
