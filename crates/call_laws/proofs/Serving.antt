@@ -84,8 +84,8 @@ module _ {S K E : Type 0} (status : ℕ) (words : List (List ℕ)) (reports : Li
   owed n tree data_of fit =
       answers_data q e bytes words src.told asks h n tree data_of fit status out.told out'.told s.done
       (λ is.
-          call_fifteen q e bytes words src.told asks.asked.words_are asks.job (told q e bytes words src.told asks) asks.spelled status src.faults src'.faults out.faults out'.faults err.told err'.told err.faults err'.faults
-          (s.refused (λ none. fifteen status none is)) is)
+      call_fifteen q e bytes words src.told asks.asked.words_are asks.job (told q e bytes words src.told asks) asks.spelled status src.faults src'.faults out.faults out'.faults err.told err'.told err.faults err'.faults
+      (s.refused (λ none. fifteen status none is)) is)
     where
       fifteen : (status : ℕ) → status ≡ 0 → status ≡ 15 → ⊥
       fifteen status none is = omega (arith, none, is)

@@ -19,23 +19,23 @@ OfServed S K E P =
 abbrev pub CallsAnswerValues : (S K E : Type 0) → Type 0
 CallsAnswerValues S K E =
     OfServed S K E (λ status words src src' out out' err err'.
-        (q : Request) (e : RawEnv) (bytes : List ℕ) → AsksCall q e bytes words src.told → (h : HasArguments q.turns e bytes) (n : ℕ) (v : HasCallValue q.turns e bytes h n) →
-        ServesCall q e bytes h n v.value status out.told out'.told
-        × (status ≢ 0 → (status ≢ 15) × IsRefused status words src.told src.faults src'.faults out.faults out'.faults err.told err'.told err.faults err'.faults))
+    (q : Request) (e : RawEnv) (bytes : List ℕ) → AsksCall q e bytes words src.told → (h : HasArguments q.turns e bytes) (n : ℕ) (v : HasCallValue q.turns e bytes h n) →
+    ServesCall q e bytes h n v.value status out.told out'.told
+    × (status ≢ 0 → (status ≢ 15) × IsRefused status words src.told src.faults src'.faults out.faults out'.faults err.told err'.told err.faults err'.faults))
 
 -- So of the data to which the erased main evaluates, applied to the arguments' data, however that comes.
 abbrev pub CallsAnswerData : (S K E : Type 0) → Type 0
 CallsAnswerData S K E =
     OfServed S K E (λ status words src src' out out' err err'.
-        (q : Request) (e : RawEnv) (bytes : List ℕ) → AsksCall q e bytes words src.told → (h : HasArguments q.turns e bytes) (n : ℕ) (tree : Data) → HasCallData q.turns e bytes h n tree →
-        AnswersCallData q e bytes h n tree status out.told out'.told)
+    (q : Request) (e : RawEnv) (bytes : List ℕ) → AsksCall q e bytes words src.told → (h : HasArguments q.turns e bytes) (n : ℕ) (tree : Data) → HasCallData q.turns e bytes h n tree →
+    AnswersCallData q e bytes h n tree status out.told out'.told)
 
 -- Completeness: where the rules, the passes and the text of the arguments come to a module and to arguments, and no fault is met, the status is one that a run shows, or 1.
 abbrev pub CallsFinish : (S K E : Type 0) → Type 0
 CallsFinish S K E =
     OfServed S K E (λ status words src src' out out' err err'.
-        (q : Request) (e : RawEnv) (bytes : List ℕ) → AsksCall q e bytes words src.told → (c : IsCallable q e bytes) → MeetsNoFault q.job src.faults src'.faults out.faults out'.faults →
-        CallFinishes q e bytes c.given status)
+    (q : Request) (e : RawEnv) (bytes : List ℕ) → AsksCall q e bytes words src.told → (c : IsCallable q e bytes) → MeetsNoFault q.job src.faults src'.faults out.faults out'.faults →
+    CallFinishes q e bytes c.given status)
 
 -- Main can always be applied to arguments that are spelled, and the applied term has a type.
 abbrev pub SpelledArgumentsApply : Type 0
