@@ -34,6 +34,7 @@ pub mod RunCauses
 pub mod PlainAccepted
 pub mod PlainCauses
 pub mod TextCauses
+pub mod CallLate
 pub mod Headlines
 pub mod Checking
 pub mod Explaining

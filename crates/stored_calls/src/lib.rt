@@ -4,7 +4,7 @@
 //! the two meet, with no result but their contracts (`stored_arguments_are_held`): a module for calls has the entries that a host asks for (`entries`), a new machine's `heap` is an
 //! address that blocks may begin at (`heap`), and after storing the store holds the arguments (`held`).
 //!
-//! Below stand `mem_value` with the call that stores, `known_calls` with the module, and `call_answers` with the headline; nothing stands above yet.
+//! Below stand `mem_value` with the call that stores, `known_calls` with the module, and `call_answers` with the headline; above stands `call_laws`, with what the job `call` owes.
 #![tactic(auto)]
 
 ghost use Rattle.stored_calls.specs.Laws.{CallModulesHaveEntries, NewMachinesHaveAHeap, StoredArgumentsAreHeld};

@@ -1,0 +1,9 @@
+mod StoredRuns
+mod SmallArguments
+mod OneSignature
+mod ValuesOfCalls
+mod CallStatuses
+mod ValuesServed
+mod Serving
+mod Finishing
+mod Meaning

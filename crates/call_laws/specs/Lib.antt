@@ -1,0 +1,3 @@
+pub mod CallValues
+pub mod Laws
+pub mod Meaning
