@@ -264,10 +264,17 @@ test("the calculator answers each call as Coq does", async () => {
   const told = async (it) => (await textLimited(readFileSync(calculator.module), types, 10_000, JSON.stringify(it))).notation;
   assert.equal(await told("2 + (3 + 1) * 4"), "(equals 18)");
   assert.equal(await told("100 - 2*-3"), '(stuck_at "-3")');
-  // as deep as the text is long: beyond the stack of the main thread, and within that of a Worker in node
+  // a long text that stops at its last character
   const deep = "(".repeat(20_000) + "7" + ")".repeat(20_000);
-  assert.throws(() => program.run(string.data(deep + "\u00fc")), erasec.StackExhausted);
-  assert.equal(await told(deep + "\u00fc"), '(stuck_at "\u00fc")');
+  assert.equal(await told(`${deep}\u00fc`), '(stuck_at "\u00fc")');
+});
+
+test("a recursion too deep for the main thread has its answer in a Worker of node", async () => {
+  const module = readFileSync(join(TOP, "examples/add.wasm"));
+  const types = "nat+nat->nat nat=O,S:nat";
+  const program = await load(module, types);
+  assert.throws(() => program.run(nat.data(100_000), nat.data(1)), erasec.StackExhausted);
+  assert.equal((await textLimited(module, types, 60_000, "100000 1")).notation, "100001");
 });
 
 test("the program exports these modules, and calls them with the same answers", { skip: skipsPrograms }, (t) => {

@@ -1,13 +1,13 @@
 //! The back end as a whole: the passes from programs after erasure to modules in their order, and what their laws say together.
 //!
 //! `passed` of `specs/BackEnd.antt` is the list of the passes: matches on propositional families are dropped, constructors saturated, constants with one use put in its place,
-//! parameters that are always box dropped, the program brought into A-normal form and lifted; `module_of` of `wasm_emit` is its module. Where main of a program of the form
+//! parameters that are always box dropped, the program brought into A-normal form and lifted; `module_of` of `known_calls` is its module. Where main of a program of the form
 //! evaluates by substitution to data,
 //! every run of that module answers the data or is exhausted after a refused grow (`modules_answer`, clause `runs`), within bounds on steps and memory that
 //! the number of nodes of the evaluation gives (`steps_and_memory_are_bounded`), and no sooner than after as many steps as there are matches
 //! (`answers_take_as_many_steps_as_matches`). Its shortest bytes and its locals are bounded by the nodes of the saturated program (`modules_are_small`). Nothing is asked of the program's source.
 //!
-//! Below stand the crates of the passes, `lambda_box` and `wasm_emit`; above stand `compile`, whose code makes that module, and `headline`.
+//! Below stand the crates of the passes, `lambda_box`, `wasm_emit` and `known_calls`; above stand `compile`, whose code makes that module, and `headline`.
 #![tactic(auto)]
 
 ghost use Rattle.back_end.specs.BackEnd.{ModulesAnswer, ModulesAreValid, ModulesCanBeSpelled};

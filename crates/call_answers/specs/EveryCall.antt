@@ -29,7 +29,8 @@ pub record CallRuns (m : Parts) (pages most bytes : ℕ) (tree : Data) (s : Stor
   pub enough : bytes ≤ 65536 * pages → (k : ℕ) (t : State) → Reach m k first t → IsAtEnd m t → (store_of t).by_choice ≡ false → Answers m tree t
 
 -- Every run of the module from a store that holds the arguments answers the data or is exhausted. The bounds go by the numbers of an evaluation with closures: its contractions, its blocks, the words of
--- the widest block, and the words of all blocks. They are the same for each such store, behind whose heap a run asks for no more bytes than these words have
+-- the widest block, and the words of all blocks. They are the same for each such store: where the maximum holds its heap and these words, a run
+-- is exhausted only after a refused grow that the maximum allows. Nothing here bounds the widest block
 pub record EveryCallAnswers (m : Parts) (arguments : List Data) (pages b n : ℕ) (tree : Data) : Type 0 where
   pub contractions : ℕ
   pub blocks : ℕ

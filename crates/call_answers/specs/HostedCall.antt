@@ -6,8 +6,8 @@ use Rattle.wasm_core.specs.MachineStep.{Store}
 use Rattle.wasm_core.specs.StoredData.{ArgumentsWithin}
 use Rattle.wasm_core.specs.WordData.{DataNodes}
 
--- The module's own globals but for `heap` and `args`; whole pages, at most so many and the fewest that have the heap; the word at 0 as it was; and behind the first two
--- words and below the heap the words of the arguments, the first one first, and all blocks that they reach
+-- The module's own globals but for `heap` and `args`; whole pages, at most so many and the fewest that have the heap; the word at 0 as it was; below the heap the
+-- words of the arguments, the first one first; and behind the first two words and below the heap all blocks that they reach
 pub record HoldsArguments (pages : ℕ) (arguments : List DataNodes) (s : Store) : Type 0 where
   pub heap : ℕ
   pub address : ℕ

@@ -20,7 +20,7 @@ use Rattle.command_line.specs.declared.job.Job.TheVariants.{Call}
 use Rattle.command_line.specs.declared.line.Request.{Request}
 use Rattle.command_line.specs.Line.{IsInRange, request_of}
 use Rattle.command_line.proofs.Ranges.{requests_lie_in_range}
-use Rattle.driver.specs.Called.{IsCalled}
+use Rattle.driver.specs.Called.{IsCallAnswer}
 use Rattle.driver.specs.CallEnds.{ReadingArguments, answer_shapes}
 use Rattle.driver.specs.Serve.{HasAnswer, IsAnswerOf, IsInput, IsInputOf}
 use Rattle.driver.proofs.CallCauses.{one_answer_set}
@@ -78,7 +78,7 @@ answer_of words left text q job e is a =
     subst (λ job. AnswerOf job q left text) is
     (subst (λ q. AnswerOf q.job q left text) (one_item (sym a.asked ∙ e)) (record { bytes = a.bytes; input = a.input; answer = a.answer }))
 
-called : (q : Request) → IsInRange q → (left taken taken' : Option (List ℕ)) (bytes text : List ℕ) → IsInput left bytes → IsCalled q.turns q.pages q.steps bytes text → Appends taken taken' text →
+called : (q : Request) → IsInRange q → (left taken taken' : Option (List ℕ)) (bytes text : List ℕ) → IsInput left bytes → IsCallAnswer q.turns q.pages q.steps bytes text → Appends taken taken' text →
     HasCalled q left taken taken'
 called q range left taken taken' bytes text input m w =
     let e = m.environment in

@@ -25,7 +25,7 @@ use Rattle.driver.specs.Exported.{CallRulesAreWithin}
 use Rattle.driver.specs.Judged.{EndsWith}
 use Rattle.driver.specs.Lines.{status_of}
 use Rattle.driver.specs.Serve.{HasAnswer, IsAnswerOf, IsCallCause, IsCause, IsCheckCause, IsInputOf, IsOfCall, IsOfText, IsRefused, IsSure, IsTextCause, IsTooLong, MeetsNoFault, input_limit}
-use Rattle.driver.specs.Called.{IsCalled}
+use Rattle.driver.specs.Called.{IsCallAnswer}
 use Rattle.driver.specs.Texts.{Refuses, SpellsWithin}
 use Rattle.driver.proofs.CallCauses.{no_call_erasure, no_call_passes, no_signature}
 use Rattle.driver.proofs.CallJobCauses.{call_run_status, of_call_run}
@@ -123,11 +123,11 @@ module _ (q : Request) (e : RawEnv) (bytes : List ℕ) (words : List (List ℕ))
   never_refused r h = (let both = sym (refuses (front_bytes bytes) r h) ∙ fine (front_bytes bytes) e spelled in cc)
 
   -- the answer on status 0
-  pub called_on : (text : List ℕ) → HasAnswer words left text → (a : IsCalled q.turns q.pages q.steps bytes text) × (a.environment ≡ e)
+  pub called_on : (text : List ℕ) → HasAnswer words left text → (a : IsCallAnswer q.turns q.pages q.steps bytes text) × (a.environment ≡ e)
   called_on text a =
       let same = one_input a.request a.bytes a.asked a.input in
-      let c : IsCalled q.turns q.pages q.steps bytes text =
-      subst (λ b. IsCalled q.turns q.pages q.steps b text) same.1 (subst (λ j. IsAnswerOf j q a.bytes text) job (subst (λ (p : Request). IsAnswerOf p.job p a.bytes text) same.0 a.answer)) in
+      let c : IsCallAnswer q.turns q.pages q.steps bytes text =
+      subst (λ b. IsCallAnswer q.turns q.pages q.steps b text) same.1 (subst (λ j. IsAnswerOf j q a.bytes text) job (subst (λ (p : Request). IsAnswerOf p.job p a.bytes text) same.0 a.answer)) in
       (c, one_environment (front_bytes bytes) c.environment e c.spelled spelled)
 
   fifteen_cause : (r : Refusal) (before now faulty faulty' : ℕ) → IsCause r words left before now faulty faulty' → status_of r ≡ 15 → LateEnd q.turns e bytes q.pages q.steps 15

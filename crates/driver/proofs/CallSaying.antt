@@ -1,5 +1,5 @@
 -- What the stages of `call` say, as what its end shows.
-use Rattle.std.proofs.Common.{◌≡◌, ◌≢◌, inl, inr, ℕ, List, length, Result, Ok, Err, sym, ap, subst, ◌∙◌, ◌⊎◌, arith}
+use Rattle.std.proofs.Common.{◌≡◌, inl, inr, ℕ, List, length, Result, Ok, Err, sym, ap, subst, ◌∙◌, ◌⊎◌, arith}
 use Rattle.dump_reader.specs.Front.{front_bytes}
 use Rattle.first_order.specs.Texts.{HasNames}
 use Rattle.first_order.specs.declared.shapes.Signature.{Signature}

@@ -1,5 +1,5 @@
 -- Arguments that a text spells along main's signature fit a block's header: a constructor's number is below 1,024, and it has at most 255 arguments.
-use Rattle.std.proofs.Common.{◌≡◌, ℕ, zero, suc, ◌+◌, ◌<◌, ◌≤◌, List, [], ◌∷◌, map, length, Bool, true, false, Option, Some, None, refl, sym, ap, ◌∙◌, subst, arith}
+use Rattle.std.proofs.Common.{◌≡◌, ℕ, zero, suc, ◌+◌, ◌<◌, ◌≤◌, List, [], ◌∷◌, map, length, Bool, true, false, Option, Some, None, refl, ap, ◌∙◌, subst, arith}
 use Rattle.std.specs.Prelude.{if◌then◌else◌, option_map, slice_get}
 use Rattle.std.proofs.lemmas.List.{length-map}
 use Rattle.std.proofs.lemmas.Option.{slice_get-map}
@@ -21,7 +21,7 @@ use Rattle.first_order.specs.ArgumentTexts.{is_text, ctor_from, ctor_at, SpellsI
 use Rattle.first_order.specs.Awaited.{argument_sets, AreTrees}
 use Rattle.first_order.specs.Searching.{member, members, places}
 use Rattle.first_order.specs.Signature.{IsSignature, takes}
-use Rattle.first_order.specs.DirectedSignature.{set_of, sets_of}
+use Rattle.first_order.specs.DirectedSignature.{sets_of}
 use Rattle.data_trees.specs.Preorder.{IsTree}
 use Rattle.wasm_core.specs.ModuleCondition.{All as Each}
 use Rattle.wasm_core.specs.WordData.{DataNodes}

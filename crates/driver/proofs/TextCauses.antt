@@ -32,7 +32,7 @@ use Rattle.driver.specs.SourceSays.{IsLine}
 use Rattle.driver.specs.MadeModule.{IsMade, MakeEndsWith}
 use Rattle.driver.specs.Exported.{ExportEndsWith, IsLargeForCall}
 use Rattle.driver.specs.CallEnds.{CallJobEnds, IsCallStop}
-use Rattle.driver.specs.Called.{CallIsJudged, IsCalled}
+use Rattle.driver.specs.Called.{CallIsJudged, IsCallAnswer}
 use Rattle.command_line.specs.declared.line.Request.{Request}
 use Rattle.wasm_core.specs.ModuleGrammar.{SpellsModule}
 use Rattle.wasm_core.specs.ShortestBytes.{most_bytes}
@@ -197,7 +197,7 @@ benched_on q bytes text e s b =
     (one_environment bytes b.executed.environment e b.executed.spelled s) (b.answer, b.executed.stages, b.executed.text_is, b.text_is)
 
 -- and of `call`
-pub called_on : (q : Request) (bytes text : List ℕ) (e : RawEnv) → SpellsWithin (front_bytes bytes) e → (a : IsCalled q.turns q.pages q.steps bytes text) →
+pub called_on : (q : Request) (bytes text : List ℕ) (e : RawEnv) → SpellsWithin (front_bytes bytes) e → (a : IsCallAnswer q.turns q.pages q.steps bytes text) →
     CallJobEnds q.turns e bytes q.pages q.steps (Ok text)
 called_on q bytes text e s a = subst (λ x. CallJobEnds q.turns x bytes q.pages q.steps (Ok text)) (one_environment (front_bytes bytes) a.environment e a.spelled s) (a.stages, a.text_is)
 

@@ -16,7 +16,7 @@ use Rattle.driver.specs.Exported.{CallRulesAreWithin}
 use Rattle.driver.specs.CallEnds.{CallAnswering, CallJobEnds, answer_shapes}
 
 -- The text is the answer of `call` on the input: the front of the input spells the environment, and what stands behind it the arguments.
-pub record IsCalled (turns pages steps : ℕ) (bytes text : List ℕ) : Type 0 where
+pub record IsCallAnswer (turns pages steps : ℕ) (bytes text : List ℕ) : Type 0 where
   pub environment : RawEnv
   pub spelled : SpellsWithin (front_bytes bytes) environment
   -- what the stages hand on: the environment, well formed, and main's type; its signature; the arguments; the erased program; its module for calls; the call's answer

@@ -31,7 +31,7 @@ use Rattle.driver.specs.Benched.{IsBenched}
 use Rattle.driver.specs.MadeModule.{IsMade, IsMakeCause, MakeEndsWith}
 use Rattle.driver.specs.Exported.{IsExported, IsExportCause, IsLargeForCall, IsExportable, ExportEndsWith}
 use Rattle.driver.specs.CallEnds.{IsCallStop}
-use Rattle.driver.specs.Called.{IsCalled, CallIsJudged}
+use Rattle.driver.specs.Called.{IsCallAnswer, CallIsJudged}
 use Rattle.driver.specs.RunFile.{IsRunAnswer, IsRunCause, RunEndsWith}
 use Rattle.driver.specs.Explained.{IsExplained}
 use Rattle.driver.specs.Judged.{IsAcceptedBy, IsSpentBy, IsTooDeepFor, IsBrokenBy, EndsWith}
@@ -84,7 +84,7 @@ IsAnswerOf Compile q bytes text = IsMade q.turns q.pages bytes text
 IsAnswerOf Bench q bytes text = IsBenched q.turns q.pages q.steps bytes text
 IsAnswerOf Explain q bytes text = IsCheckAnswer q.turns bytes text ⊎ IsExplained q.turns bytes text
 IsAnswerOf Export q bytes text = IsExported q.turns q.pages bytes text
-IsAnswerOf Call q bytes text = IsCalled q.turns q.pages q.steps bytes text
+IsAnswerOf Call q bytes text = IsCallAnswer q.turns q.pages q.steps bytes text
 
 -- The input, and the answer on it of the job that the words ask for.
 pub record HasAnswer (words : List (List ℕ)) (left : Option (List ℕ)) (text : List ℕ) : Type 0 where

@@ -77,6 +77,17 @@ pub(crate) fn call<R: Report>(
     ensures told { OnOk result (JobIsTold R.shown Call request bytes.now reports.old.items reports.new.items) }
 {
     let main = called_main(alloc, request, bytes, reports)?;
-    let answer = called(alloc, request, &main.module, main.arguments.as_slice(), reports)?;
-    line_of(alloc, &answer, &main.signature.answer, &main.environment.names)
+    let answer = called(
+        alloc,
+        request,
+        &main.module,
+        main.arguments.as_slice(),
+        reports,
+    )?;
+    line_of(
+        alloc,
+        &answer,
+        &main.signature.answer,
+        &main.environment.names,
+    )
 }

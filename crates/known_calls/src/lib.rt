@@ -1,4 +1,4 @@
-//! Known calls: an emission in which functions that are known are called directly, its definition, its code and its laws. It isn't in the chain of passes yet.
+//! Known calls: the emission of modules, in which functions that are known are called directly: its definition, its code and its laws. It ends the chain of passes.
 //!
 //! In the modules of `wasm_emit` each call of a function of two arguments makes two closures and calls twice through the table. Here an environment may hold a
 //! closure that is known (`specs/KnownPlaces.antt`): its function, and where its captured words are, seven at most. Where a closure or a partial application
@@ -17,8 +17,8 @@
 //! bounded by the program's size (`known_bytes_are_bounded`); and the same of programs in A-normal form (`known_programs_in_normal_form_answer`) and of a
 //! main with arguments (`known_calls_of_main_answer`).
 //!
-//! Below stands `wasm_emit`, which makes today's modules, whose calls make the parts that all modules have, and whose rules of the machine, memory and
-//! evaluation the proofs cite; above stands nothing yet.
+//! Below stands `wasm_emit`, with an emission that calls through the table alone, whose calls make the parts that all modules have, and whose rules of the machine,
+//! memory and evaluation the proofs cite; above stand `back_end`, with the laws of all passes, and `compile`.
 #![tactic(auto)]
 
 mod blocks;

@@ -5,7 +5,7 @@
 //! saturated program (`refusals_show_sizes`, `refused` and `bytes`), and of the source (`sources_bound_sizes`, `bounds` and `refused`); and a program whose sizes are within the limits is refused by no
 //! pass, and has a module within 16 MiB (`small_programs_fit`, `fit` and `sources`).
 //!
-//! Below stand the laws of the layers: `box_passes`, `closure_lift`, `wasm_emit`, `back_end`, `compile` and `headline`; above stands `driver`.
+//! Below stand the laws of the layers: `box_passes`, `closure_lift`, `wasm_emit`, `known_calls`, `back_end`, `compile` and `headline`; above stands `driver`.
 #![tactic(auto)]
 
 ghost use Rattle.source_limits.specs.Laws.{

@@ -1,11 +1,11 @@
-use Rattle.std.proofs.Common.{◌≡◌, Err, refl, subst, sym, arith}
+use Rattle.std.proofs.Common.{Err, refl, subst, arith}
 use Rattle.command_line.specs.declared.job.Job.TheVariants.{Call}
 use Rattle.dump_reader.specs.Front.{front_bytes}
 use Rattle.read_counts.proofs.KeptBlocks.{few_counts}
 use Rattle.first_order.proofs.ArgumentComplete.{arguments_trees}
 use Rattle.first_order.specs.DirectedSignature.{set_of}
 use Rattle.driver.specs.ExecEnds.{ErasureSays}
-use Rattle.driver.specs.CallEnds.{in_signature, in_arguments, in_call_erasure, in_call_passes}
+use Rattle.driver.specs.CallEnds.{in_signature, in_arguments, in_call_erasure, in_call_passes, ReadingArguments}
 use Rattle.driver.specs.CalledMain.{CalledMainSays}
 use Rattle.driver.proofs.Answering.{cause_of, exit_at}
 use Rattle.driver.proofs.MadeSaying.{accepting}
@@ -74,7 +74,7 @@ returns-in_err-program-clause-says g c =
     let w = c.erased.new.m.account in
     let f = c.in_ok-signature.ensures in
     let there = signing q e a.env a.main a.main_type u known.0 known.1 known.2 c.in_ok-signature.signature f.is f.takes f.few f.named v f.says in
-    let given = record { before = there; arguments = c.in_ok-arguments.arguments.items; read = c.in_ok-arguments.ensures.says } in
+    let given : ReadingArguments q.turns e bytes = record { before = there; arguments = c.in_ok-arguments.arguments.items; read = c.in_ok-arguments.ensures.says } in
     let r = c.in_err-program.field-0.0 in
     exit_at (λ x. CalledMainSays q x bytes) c.from_residual-in_err-program.result r c.from_residual-in_err-program.ensures.1
     (call_says q r bytes e s (in_call_erasure given there w (subst (λ t. ErasureSays e a.env t v (Err r) w) known.1 c.in_err-program.ensures.says)))
@@ -104,7 +104,7 @@ returns-in_err-module-clause-says g c =
     let f = c.in_ok-signature.ensures in
     let p = c.in_ok-program.ensures in
     let there = signing q e a.env a.main a.main_type u known.0 known.1 known.2 c.in_ok-signature.signature f.is f.takes f.few f.named v f.says in
-    let given = record { before = there; arguments = c.in_ok-arguments.arguments.items; read = c.in_ok-arguments.ensures.says } in
+    let given : ReadingArguments q.turns e bytes = record { before = there; arguments = c.in_ok-arguments.arguments.items; read = c.in_ok-arguments.ensures.says } in
     let program = call_erasing q e a.env a.main a.main_type u known.0 known.1 known.2 c.in_ok-signature.signature f.is f.takes f.few f.named v f.says c.in_ok-program.program p.form p.sources p.erased c.erased.new.m.account p.says in
     let r = c.in_err-module.field-0.0 in
     exit_at (λ x. CalledMainSays q x bytes) c.from_residual-in_err-module.result r c.from_residual-in_err-module.ensures.1 (call_says q r bytes e s (in_call_passes given program c.in_err-module.ensures.says))
