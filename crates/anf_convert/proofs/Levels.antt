@@ -1,4 +1,4 @@
--- Values and environments of a program after erasure, and of the program in A-normal form.
+-- ClosureValues and environments of a program after erasure, and of the program in A-normal form.
 use Rattle.std.proofs.Common.{◌≡◌, ℕ, zero, suc, ◌+◌, ◌-◌, ◌<◌, List, [], ◌∷◌, map, length, Some, refl, sym, ap, ◌∙◌, subst as transport, ⊎_elim, arith}
 use Rattle.std.proofs.lemmas.Bool.{cases_lt}
 use Rattle.pc_terms.specs.declared.leaf.Name.{Name}
