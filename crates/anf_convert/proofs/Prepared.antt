@@ -13,7 +13,7 @@ use Rattle.anf_convert.specs.Anf.{AnfProgram}
 use Rattle.anf_convert.specs.AnfForm.{AnfFormed}
 use Rattle.anf_convert.specs.TermForm.{constructor_args, more_args, ProgramFits}
 use Rattle.anf_convert.specs.ToAnf.{to_anf}
-use Rattle.anf_convert.specs.ToAnfKeeps.{IsReady, KeepsAnswers}
+use Rattle.anf_convert.specs.ToAnfKeeps.{CanBeConverted, KeepsAnswers}
 use Rattle.anf_convert.specs.BoxForms.{Prepared, PreparedTerms, AreShallow, ConstructorsWithin, ToAnfKeepsData, HasAnfForm}
 use Rattle.anf_convert.proofs.BoxForms.{form_suffices}
 use Rattle.anf_convert.proofs.Follows.{to_anf_keeps}
@@ -69,7 +69,7 @@ shallow_at [] h c m = elim m [ ]
 shallow_at (d ∷ cs) h c here = h.0
 shallow_at (d ∷ cs) h c (there m) = shallow_at cs h.1 c m
 
-suffices : (P : BoxProgram) → IsBoxProgram P → IsOrdinaryProgram P → AreShallow P.constants → depth P.main ≤ 2048 → (m : ℕ) → ConstructorsWithin P m → IsReady P × ProgramFits P m
+suffices : (P : BoxProgram) → IsBoxProgram P → IsOrdinaryProgram P → AreShallow P.constants → depth P.main ≤ 2048 → (m : ℕ) → ConstructorsWithin P m → CanBeConverted P × ProgramFits P m
 suffices P form ordinary shallow main m few =
     form_suffices P m form (λ d h. prepared P form d.body (ordinary.constants d h) (shallow_at P.constants shallow d h)) (prepared P form P.main ordinary.main main) few
 

@@ -8,7 +8,7 @@ use Rattle.lambda_box.specs.BoxForm.{IsBoxProgram}
 use Rattle.lambda_box.specs.OrdinaryForm.{IsOrdinaryProgram}
 use Rattle.anf_convert.specs.Anf.{AnfProgram}
 use Rattle.anf_convert.specs.AnfForm.{fields, AnfFormed}
-use Rattle.anf_convert.specs.ToAnfKeeps.{IsReady, KeepsAnswers}
+use Rattle.anf_convert.specs.ToAnfKeeps.{CanBeConverted, KeepsAnswers}
 use Rattle.anf_convert.specs.TermForm.{constructor_args, ProgramFits}
 
 -- what the passes before leave: no constructor has more arguments than a block has fields, and no match is on a propositional family that has a constructor
@@ -35,7 +35,7 @@ abbrev mutual
 abbrev pub FormSuffices : Type 0
 FormSuffices =
     (P : BoxProgram) (m : ℕ) → IsBoxProgram P → ((d : BoxConstant) → Has P.constants d → Prepared P d.body) → Prepared P P.main → ((F : BoxFamily) → Has P.families F → length F.args ≤ m) →
-    IsReady P × ProgramFits P m
+    CanBeConverted P × ProgramFits P m
 
 -- no term is deeper than terms are
 abbrev pub AreShallow : List BoxConstant → Type 0
@@ -48,7 +48,7 @@ ConstructorsWithin P m = (F : BoxFamily) → Has P.families F → length F.args 
 
 -- what `to_anf` promises of its program
 abbrev pub ToAnfKeepsData : BoxProgram → AnfProgram → Type 0
-ToAnfKeepsData P Q = IsBoxProgram P → IsOrdinaryProgram P → IsReady P × KeepsAnswers P Q
+ToAnfKeepsData P Q = IsBoxProgram P → IsOrdinaryProgram P → CanBeConverted P × KeepsAnswers P Q
 
 abbrev pub HasAnfForm : BoxProgram → AnfProgram → Type 0
 HasAnfForm P Q = IsBoxProgram P → IsOrdinaryProgram P → (m : ℕ) → ConstructorsWithin P m → AnfFormed Q m

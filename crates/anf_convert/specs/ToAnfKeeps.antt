@@ -61,14 +61,14 @@ pub record AnfGivesData (Q : AnfProgram) (args : AnfVals) (d : DataTree) (c : Co
   pub no_more : contractions ≤ c.contractions
 
 -- what the translation asks of a program
-pub record IsReady (P : BoxProgram) : Type 0 where
+pub record CanBeConverted (P : BoxProgram) : Type 0 where
   pub distinct : AllPairs (λ c d. c.name ≢ d.name) P.constants
   pub constants : (k : Name) (b : BoxTerm) → KeepsBoxConstant P k b → Ready P b
   pub main : Ready P P.main
 
 -- where main of the one, applied to values that are data, gives data, so does main of the other, applied to the same data
 abbrev pub KeepsAnswers : BoxProgram → AnfProgram → Type 0
-KeepsAnswers P Q = (args : ClosureValues) (args' : AnfVals) (ds : DataTrees) (v : ClosureValue) (d : DataTree) (c : Counts) → IsReady P → ValuesAre args ds → AnfAreData args' ds → BoxAnswers P args v c → ValueIs v d → AnfGivesData Q args' d c
+KeepsAnswers P Q = (args : ClosureValues) (args' : AnfVals) (ds : DataTrees) (v : ClosureValue) (d : DataTree) (c : Counts) → CanBeConverted P → ValuesAre args ds → AnfAreData args' ds → BoxAnswers P args v c → ValueIs v d → AnfGivesData Q args' d c
 
 -- so it is with the translation of a program of which constructors stand with all their arguments, and matches on propositional families are gone
 abbrev pub ToAnfKeeps : Type 0

@@ -5,7 +5,7 @@ use Rattle.anf_convert.specs.AnfEvaluation.{WNil}
 use Rattle.anf_convert.specs.AnfData.{DNil, anf_data_none, DataTree}
 use Rattle.anf_convert.proofs.Words.{words_bound}
 use Rattle.anf_convert.specs.ToAnf.{to_anf}
-use Rattle.anf_convert.specs.ToAnfKeeps.{box_alone, no_values, IsReady, ValueIs}
+use Rattle.anf_convert.specs.ToAnfKeeps.{box_alone, no_values, CanBeConverted, ValueIs}
 use Rattle.anf_convert.proofs.Follows.{to_anf_keeps}
 use Rattle.anf_convert.proofs.Forms.{to_anf_forms}
 use Rattle.known_calls.proofs.KnownComposition.{anf_answers_known, anf_known_valid, looser_emitted}
@@ -24,7 +24,7 @@ pub record Runs (P : BoxProgram) (pages m : ℕ) (d : DataTree) (c : Counts) : T
   pub runs : KnownEmitted (lift (to_anf P)) pages c.greatest m d c.contractions c.matches c.blocks words
 
 abbrev pub BackEnd : Type 0
-BackEnd = (P : BoxProgram) (pages m : ℕ) (v : ClosureValue) (d : DataTree) (c : Counts) → 0 < pages → pages ≤ 16384 → 0 < m → IsReady P → ProgramFits P m → Limits (lift (to_anf P)) → ClosureRun P Empty P.main v c → ValueIs v d → Runs P pages m d c
+BackEnd = (P : BoxProgram) (pages m : ℕ) (v : ClosureValue) (d : DataTree) (c : Counts) → 0 < pages → pages ≤ 16384 → 0 < m → CanBeConverted P → ProgramFits P m → Limits (lift (to_anf P)) → ClosureRun P Empty P.main v c → ValueIs v d → Runs P pages m d c
 
 abbrev pub BackEndValid : Type 0
 BackEndValid = (P : BoxProgram) (pages m : ℕ) → 0 < pages → pages ≤ 16384 → ProgramFits P m → IsValid (module_of (lift (to_anf P)) pages)

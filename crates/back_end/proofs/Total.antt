@@ -15,7 +15,7 @@ use Rattle.lambda_box.specs.DataTerms.{greatest_words}
 use Rattle.shrink_passes.specs.ShrunkProgram.{shrunk_program}
 use Rattle.lambda_box.proofs.Families.{family_found, unique_family}
 use Rattle.shrink_passes.proofs.ShrunkPrograms.{shrunk_forms, shrunk_shallow, shrunk_runs}
-use Rattle.anf_convert.specs.ToAnfKeeps.{IsReady}
+use Rattle.anf_convert.specs.ToAnfKeeps.{CanBeConverted}
 use Rattle.anf_convert.specs.TermForm.{ProgramFits}
 use Rattle.anf_convert.specs.BoxForms.{Prepared, PreparedTerms}
 use Rattle.anf_convert.proofs.Preorder.{reads_tree}
@@ -111,7 +111,7 @@ module _ (P : BoxProgram) (form : IsBoxProgram P) where
     prepared_all Done h few = tt
     prepared_all (Next n t ts) h few = (prepared t h.0 few.0, prepared_all ts h.1 few.1)
 
-pub suffices : (P : BoxProgram) (m : ℕ) → IsWithinPasses P m → IsReady (shrunk_program P) × ProgramFits (shrunk_program P) m
+pub suffices : (P : BoxProgram) (m : ℕ) → IsWithinPasses P m → CanBeConverted (shrunk_program P) × ProgramFits (shrunk_program P) m
 suffices P m ok =
     let S = shrunk_program P in
     let form = shrunk_forms P ok.form in

@@ -10,7 +10,7 @@ use Rattle.anf_convert.specs.Captured.{Scope, Outside, Plain, Shared, depth, Ent
 use Rattle.closure_lift.specs.Lifted.{Block, Fn, many}
 use Rattle.closure_lift.specs.Lift.{LiftSlot, Holds, Made, same_slot, position, held, variable, atom, closure_for, closures, atoms_of, op_functions, block_functions, unnumbered, numbered, holding, lift_op, lift_block, lift_branches, lambda_function, def_functions, functions_op, functions_block, functions_branches, functions_defs, constants_functions, lift_constants, functions_constants, lift}
 use Rattle.anf_convert.specs.AnfForm.{branch_count, AtomFits, AtomsFit, AnfOpFits, AnfFits, AnfBranchesFit, DefsFit}
-use Rattle.closure_lift.specs.LiftedForm.{Takes, OpFits, LiftedBlockFits, BranchesFit}
+use Rattle.closure_lift.specs.LiftedForm.{IsMadeWith, OpFits, LiftedBlockFits, BranchesFit}
 use Rattle.closure_lift.specs.LiftKeeps.{LiftForms}
 use Rattle.closure_lift.proofs.Covering.{In, in_here, in_after, Covers, holds_all, covers_bind, covers_plains, lam_covers, fix_covers}
 use Rattle.anf_convert.proofs.Scopes.{Each, each_split, each_map, captured_each, captured_below, depth_shares}
@@ -32,10 +32,10 @@ place_below k (j ∷ fr) (in_after h) = go (same_slot k j) (place_below k fr h)
 pub data Known (fs : List Fn) : Scope → List ℕ → Type 0 where
   known_nil : Known fs Outside []
   known_plain : {s : Scope} {gs : List ℕ} {n : ℕ} → Known fs s gs → Known fs (Plain s) (n ∷ gs)
-  known_fix : {s : Scope} {gs : List ℕ} {n : ℕ} {ws : List ℕ} → Takes fs n (length ws) → Each (λ x. x < depth s) ws → Known fs s gs → Known fs (Shared ws s) (n ∷ gs)
+  known_fix : {s : Scope} {gs : List ℕ} {n : ℕ} {ws : List ℕ} → IsMadeWith fs n (length ws) → Each (λ x. x < depth s) ws → Known fs s gs → Known fs (Shared ws s) (n ∷ gs)
 
 record KnownAt (fs : List Fn) (d n : ℕ) (ws : List ℕ) : Type 0 where
-  takes : Takes fs n (length ws)
+  takes : IsMadeWith fs n (length ws)
   below : Each (λ x. x < d) ws
 
 words_same : {xs ys : List ℕ} → Words xs ≡ Words ys → xs ≡ ys
@@ -71,14 +71,14 @@ many_lifted s gs fr g NoBranch = refl
 many_lifted s gs fr g (Branch n t rest) = ap suc (many_lifted s gs fr (g + block_functions t) rest)
 
 -- the functions of definitions take the words of their fixpoint
-def_takes : {fs : List Fn} (s : Scope) (gs ws : List ℕ) (f g j k : ℕ) (ds : AnfDefs) → k ≡ f + j → j < def_count ds → Placed (def_functions s gs ws g ds) f fs → Takes fs k (length ws)
+def_takes : {fs : List Fn} (s : Scope) (gs ws : List ℕ) (f g j k : ℕ) (ds : AnfDefs) → k ≡ f + j → j < def_count ds → Placed (def_functions s gs ws g ds) f fs → IsMadeWith fs k (length ws)
 def_takes s gs ws f g j k NoDef e lt p = absurd (omega arith)
 def_takes {fs} s gs ws f g zero k (LamDef b rest') e lt p = record { fn = _; at = ap (slice_get fs) (omega arith) ∙ first p; words = refl }
 def_takes {fs} s gs ws f g zero k (BoxDef rest') e lt p = record { fn = _; at = ap (slice_get fs) (omega arith) ∙ first p; words = refl }
 def_takes s gs ws f g (suc j) k (LamDef b rest') e lt p = def_takes s gs ws (suc f) (g + block_functions b) j k rest' (omega arith) (omega arith) (rest p)
 def_takes s gs ws f g (suc j) k (BoxDef rest') e lt p = def_takes s gs ws (suc f) g j k rest' (omega arith) (omega arith) (rest p)
 
-known_fixes : {fs : List Fn} {s : Scope} {gs : List ℕ} (ws : List ℕ) (g n : ℕ) → ((j : ℕ) → j < n → Takes fs (g + j) (length ws)) → Each (λ x. x < depth s) ws → Known fs s gs → Known fs (shares ws n s) (numbered g n gs)
+known_fixes : {fs : List Fn} {s : Scope} {gs : List ℕ} (ws : List ℕ) (g n : ℕ) → ((j : ℕ) → j < n → IsMadeWith fs (g + j) (length ws)) → Each (λ x. x < depth s) ws → Known fs s gs → Known fs (shares ws n s) (numbered g n gs)
 known_fixes ws g zero t b h = h
 known_fixes {fs} {s} ws g (suc n) t b h =
     known_fix (t n (omega arith)) (transport (λ d. Each (λ x. x < d) ws) (sym (depth_shares ws n s)) b) (known_fixes ws g n (λ j lt. t j (omega arith)) b h)
@@ -129,7 +129,7 @@ module _ (fs : List Fn) (k m : ℕ) where
       let c : Covers fr (depth s) ws = transport (λ z. Covers fr (depth s) (words_of z)) is cov in
       let at = known_words i known is in
       let long = length_map (held fr) ws in (
-        (transport (λ z. Takes fs (get_or gs i 0) z) (sym long) at.takes, held_fit fr ws (both (depth s) ws at.below c)),
+        (transport (λ z. IsMadeWith fs (get_or gs i 0) z) (sym long) at.takes, held_fit fr ws (both (depth s) ws at.below c)),
         after (Made i ∷ fr) (made_kept i fr) (λ fr' kept fits. go fr' (kept_trans (made_kept i fr) kept) (transport (λ z. AtomFits (length fr') (variable fr' i z)) (sym is) (place_below (Made i) fr' (kept.kept (Made i) (in_here (eq-eqb i i refl)))), fits)),
       )
     where
@@ -150,7 +150,7 @@ module _ (fs : List Fn) (k m : ℕ) where
   kept_length f xs = length_maps f xs
 
   -- the functions of a fixpoint
-  fix_takes : (s : Scope) (gs : List ℕ) (g : ℕ) (ds : AnfDefs) (i : ℕ) → Placed (functions_op s gs g (FixOp ds i)) g fs → (j : ℕ) → j < def_count ds → Takes fs (g + j) (length (fix_captured s ds))
+  fix_takes : (s : Scope) (gs : List ℕ) (g : ℕ) (ds : AnfDefs) (i : ℕ) → Placed (functions_op s gs g (FixOp ds i)) g fs → (j : ℕ) → j < def_count ds → IsMadeWith fs (g + j) (length (fix_captured s ds))
   fix_takes s gs g ds i p j lt =
       let n = def_count ds in
       let ws = fix_captured s ds in
@@ -170,7 +170,7 @@ module _ (fs : List Fn) (k m : ℕ) where
         (record { fn = _; at = first p; words = sym (length_map (held fr) ws) }, held_fit fr ws (captured_each (λ x. In (Holds x) fr) (depth s) (block_words (Plain s) b) cov))
     op_fits {s} {gs} n fr g (FixOp ds i) known cov fit p fits =
         let ws = fix_captured s ds in
-        (transport (λ z. Takes fs (g + i) z) (sym (length_map (held fr) ws)) (fix_takes s gs g ds i p i fit.0), held_fit fr ws (captured_each (λ x. In (Holds x) fr) (depth s) (defs_words (shares [] (def_count ds) s) ds) cov))
+        (transport (λ z. IsMadeWith fs (g + i) z) (sym (length_map (held fr) ws)) (fix_takes s gs g ds i p i fit.0), held_fit fr ws (captured_each (λ x. In (Holds x) fr) (depth s) (defs_words (shares [] (def_count ds) s) ds) cov))
     op_fits {s} {gs} n fr g (CaseOp a bs) known cov fit p fits =
         let parts = each_split (λ x. x < depth s → In (Holds x) fr) (atom_words s a) _ cov in
         let number = many_lifted s gs fr g bs in

@@ -8,7 +8,7 @@ abbrev pub functions : ℕ
 functions = 32768
 
 -- a closure has as many words as its function takes
-pub record Takes (fs : List Fn) (g n : ℕ) : Type 0 where
+pub record IsMadeWith (fs : List Fn) (g n : ℕ) : Type 0 where
   pub fn : Fn
   pub at : slice_get fs g ≡ Some fn
   pub words : fn.captured ≡ n
@@ -19,7 +19,7 @@ module _ (fs : List Fn) (k m : ℕ) where
     OpFits n (OConst x) = x < k
     OpFits n (OApp f a) = AtomFits n f × AtomFits n a
     OpFits n (OCon c as') = (c < constructors) × (0 < length as') × (length as' < fields) × AtomsFit n as'
-    OpFits n (OClos g as') = Takes fs g (length as') × AtomsFit n as'
+    OpFits n (OClos g as') = IsMadeWith fs g (length as') × AtomsFit n as'
     OpFits n (OCase a bs) = AtomFits n a × (many bs ≤ m) × BranchesFit n bs
 
     pub LiftedBlockFits : ℕ → Block → Type 0

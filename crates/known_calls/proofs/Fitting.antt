@@ -6,7 +6,7 @@ use Rattle.anf_convert.specs.declared.program.Atom.{Atom}
 use Rattle.anf_convert.specs.declared.program.Atom.TheVariants.{Var as AVar, Box as ABox, Empty as AEmpty}
 use Rattle.anf_convert.specs.AnfForm.{AtomFits, AtomsFit}
 use Rattle.closure_lift.specs.Lifted.{Op, OConst, OApp, OCon, OClos, OCase, Block, RetAtom, LetAtom, Ret, Let, Program}
-use Rattle.closure_lift.specs.LiftedForm.{Takes, OpFits, LiftedBlockFits, Formed}
+use Rattle.closure_lift.specs.LiftedForm.{IsMadeWith, OpFits, LiftedBlockFits, Formed}
 use Rattle.wasm_core.specs.ModuleCondition.{All}
 use Rattle.known_calls.specs.KnownPlaces.{Word, InLocal, InField, IsConst, Place, At, Known, word_at, word_of, words_of, all_at, fields_of, known_at, known_function}
 use Rattle.known_calls.specs.KnownCode.{known_closure, closure_alone, known}
@@ -23,7 +23,7 @@ WordFits far d (IsConst n) = n < 4294967296
 module _ (P : Program) (far : ℕ) where
   abbrev pub PlaceFits : ℕ → Place → Type 0
   PlaceFits d (At w) = WordFits far d w
-  PlaceFits d (Known g ws) = Takes P.functions g (length ws) × (length ws ≤ 7) × All (WordFits far d) ws
+  PlaceFits d (Known g ws) = IsMadeWith P.functions g (length ws) × (length ws ≤ 7) × All (WordFits far d) ws
 
   pub word_up : (d d' : ℕ) → d ≤ d' → (w : Word) → WordFits far d w → WordFits far d' w
   word_up d d' le (InLocal x) h = omega arith
@@ -81,11 +81,11 @@ module _ (P : Program) (far : ℕ) where
       let r = words_fit n d ps as' fit.1 h s.more in
       subst (WordsFit d (a ∷ as')) s.is (record { same = ap suc r.same; all = (word_fits n d ps a fit.0 h s.one, r.all) })
 
-  clos_fits : (n d : ℕ) (ps : List Place) (g : ℕ) (as' : List Atom) {q : Place} → Takes P.functions g (length as') → AtomsFit n as' → All (PlaceFits d) ps → known_closure g (words_of ps as') ≡ Some q → PlaceFits d q
+  clos_fits : (n d : ℕ) (ps : List Place) (g : ℕ) (as' : List Atom) {q : Place} → IsMadeWith P.functions g (length as') → AtomsFit n as' → All (PlaceFits d) ps → known_closure g (words_of ps as') ≡ Some q → PlaceFits d q
   clos_fits n d ps g as' takes fit h e =
       let c = closed g (words_of ps as') e in
       let r = words_fit n d ps as' fit h c.all in
-      subst (PlaceFits d) c.is (subst (Takes P.functions g) (sym r.same) takes, c.few, r.all)
+      subst (PlaceFits d) c.is (subst (IsMadeWith P.functions g) (sym r.same) takes, c.few, r.all)
 
   module _ (most : ℕ) (form : Formed P most) where
     alone_fits : (n d : ℕ) (ps : List Place) (t : Block) {q : Place} → LiftedBlockFits P.functions (length P.constants) most n t → All (PlaceFits d) ps → closure_alone ps t ≡ Some q → PlaceFits d q

@@ -21,7 +21,7 @@ use Rattle.box_passes.proofs.SaturatedWidths.{most_depth, main_fits, constant_fi
 use Rattle.box_passes.proofs.Widths.{plain, words_plain}
 use Rattle.anf_convert.specs.BoxForms.{AreShallow}
 use Rattle.anf_convert.specs.ToAnf.{code_of, number_in, to_anf}
-use Rattle.anf_convert.specs.ToAnfKeeps.{IsReady, Ready}
+use Rattle.anf_convert.specs.ToAnfKeeps.{CanBeConverted, Ready}
 use Rattle.anf_convert.proofs.Prepared.{data_kept}
 use Rattle.closure_lift.specs.CapturedLimit.{BlocksCapture, ProgramCaptures}
 use Rattle.back_end.proofs.CapturedWords.{code_few}
@@ -105,7 +105,7 @@ all_shallow [] h = tt
 all_shallow (c ∷ cs) h = (h c here, all_shallow cs (λ d has. h d (there has)))
 
 -- the program that is brought into A-normal form is one that the translation takes
-pub ready : (P : BoxProgram) → IsBoxProgram P → IsShallow P → IsReady (shrunk_program P)
+pub ready : (P : BoxProgram) → IsBoxProgram P → IsShallow P → CanBeConverted (shrunk_program P)
 ready P form shallow =
     let S = shrunk_program P in
     let kept = shrunk_forms P form in

@@ -6,7 +6,7 @@ use Rattle.std.proofs.lemmas.Str.{is_utf8-from_IsUtf8, IsUtf8-from_is_utf8}
 use Rattle.std.proofs.lemmas.Bool.{le-leb, lt-ltb, le-ltb, ltb-true, ltb-false, leb-true, leb-false}
 use Rattle.wasm_core.specs.Leb.{number_at, last, higher}
 use Rattle.wasm_core.specs.Format.{Format, Give, Nothing, Byte, Number, Name, Size, Skip, End, DecodeOutcome, Accepted, Refused, judge, outer, others, name_at, at_length}
-use Rattle.wasm_core.specs.Spelling.{Lasts, IsByte, IsNumber, IsName, IsSize, SpellsPart, Stops, MeetsFormat}
+use Rattle.wasm_core.specs.Spelling.{Lasts, SpellsByte, IsNumber, IsName, IsSize, SpellsPart, Stops, MeetsFormat}
 use Rattle.std.proofs.Common.{Result, Ok, Err}
 use Rattle.wasm_core.specs.Parts.{Parts}
 use Rattle.wasm_core.specs.ModuleGrammar.{file, GrammarIsExact, SpellsModule, StopsModule, Explains, DecodesTo, RefusesAt}
@@ -115,20 +115,20 @@ number_sound s bits (b ∷ w) n k =
 abbrev Dec : {A : Type 0} → (A → ℕ → Type 0) → Type 0
 Dec {A = A} R = ((a : A) × (k : ℕ) × R a k) ⊎ ((a : A) (k : ℕ) → R a k → ⊥)
 
-byte_is : {M : Type 0} (fits : ℕ → Bool) (next : ℕ → Format M) (at b k : ℕ) (w : List ℕ) (ws : List (List ℕ)) → IsByte fits w b k → judge (Byte fits next) at w ws ≡ judge (next b) (at + k) (drop k w) ws
+byte_is : {M : Type 0} (fits : ℕ → Bool) (next : ℕ → Format M) (at b k : ℕ) (w : List ℕ) (ws : List (List ℕ)) → SpellsByte fits w b k → judge (Byte fits next) at w ws ≡ judge (next b) (at + k) (drop k w) ws
 unfolding judge
 byte_is fits next at b k w ws (one, (rest, e), f) = rw (e, one, f) refl
 
-byte_dec : (fits : ℕ → Bool) (w : List ℕ) → Dec (IsByte fits w)
+byte_dec : (fits : ℕ → Bool) (w : List ℕ) → Dec (SpellsByte fits w)
 byte_dec fits [] = inr (λ b k i. let (one, (rest, e), f) = i in absurd cc)
 byte_dec fits (b ∷ w) =
-    let goal : (c : Bool) → fits b ≡ c → Dec (IsByte fits (b ∷ w)) =
-    λ c. elim c as (λ c. fits b ≡ c → Dec (IsByte fits (b ∷ w))) [
+    let goal : (c : Bool) → fits b ≡ c → Dec (SpellsByte fits (b ∷ w)) =
+    λ c. elim c as (λ c. fits b ≡ c → Dec (SpellsByte fits (b ∷ w))) [
       | true ↦ λ t. inl (b, 1, (refl, (w, refl), t))
       | false ↦ λ t. inr (λ a k i. let (one, (rest, e), f) = i in absurd cc)
     ] in goal _ refl
 
-byte_none : {M : Type 0} (fits : ℕ → Bool) (next : ℕ → Format M) (at : ℕ) (w : List ℕ) (ws : List (List ℕ)) → ((b k : ℕ) → IsByte fits w b k → ⊥) → judge (Byte fits next) at w ws ≡ Refused at
+byte_none : {M : Type 0} (fits : ℕ → Bool) (next : ℕ → Format M) (at : ℕ) (w : List ℕ) (ws : List (List ℕ)) → ((b k : ℕ) → SpellsByte fits w b k → ⊥) → judge (Byte fits next) at w ws ≡ Refused at
 unfolding judge
 byte_none fits next at [] ws n = refl
 byte_none fits next at (b ∷ w) ws n =
@@ -235,7 +235,7 @@ name_none next at w ws (Some p) e h no' = absurd (no' p.0 p.1 h)
 
 -- ---- the whole
 
-byte_on : {M : Type 0} (fits : ℕ → Bool) (next : ℕ → Format M) (at b k : ℕ) (w : List ℕ) (ws : List (List ℕ)) → IsByte fits w b k → (o : DecodeOutcome M) → MeetsFormat (next b) (at + k) (drop k w) ws o → MeetsFormat (Byte fits next) at w ws o
+byte_on : {M : Type 0} (fits : ℕ → Bool) (next : ℕ → Format M) (at b k : ℕ) (w : List ℕ) (ws : List (List ℕ)) → SpellsByte fits w b k → (o : DecodeOutcome M) → MeetsFormat (next b) (at + k) (drop k w) ws o → MeetsFormat (Byte fits next) at w ws o
 byte_on fits next at b k w ws i (Accepted x) h = (b, k, i, h)
 byte_on fits next at b k w ws i (Refused o) h = inr (b, k, i, h)
 

@@ -16,8 +16,8 @@ SpellsNumber s bits (b ∷ c ∷ w) n = (128 ≤ b) × (b < 256) × (7 < bits) �
 
 -- ---- items: this value is spelled by the first k bytes of those left in the part
 
-abbrev pub IsByte : (fits : ℕ → Bool) → List ℕ → ℕ → ℕ → Type 0
-IsByte fits w b k = (k ≡ 1) × ((rest : List ℕ) × (w ≡ b ∷ rest)) × (fits b ≡ true)
+abbrev pub SpellsByte : (fits : ℕ → Bool) → List ℕ → ℕ → ℕ → Type 0
+SpellsByte fits w b k = (k ≡ 1) × ((rest : List ℕ) × (w ≡ b ∷ rest)) × (fits b ≡ true)
 
 abbrev pub IsNumber : (signed : Bool) → (bits : ℕ) → List ℕ → ℕ → ℕ → Type 0
 IsNumber s bits w n k = (k ≤ length w) × SpellsNumber s bits (take k w) n
@@ -34,7 +34,7 @@ IsSize w n k = IsNumber false 32 w n k × (n ≤ length (drop k w))
 abbrev pub SpellsPart : {M : Type 0} → Format M → (w : List ℕ) → (ws : List (List ℕ)) → M → Type 0
 SpellsPart (Give m) w ws x = m ≡ x
 SpellsPart Nothing w ws x = ⊥
-SpellsPart (Byte fits next) w ws x = (b k : ℕ) × IsByte fits w b k × SpellsPart (next b) (drop k w) ws x
+SpellsPart (Byte fits next) w ws x = (b k : ℕ) × SpellsByte fits w b k × SpellsPart (next b) (drop k w) ws x
 SpellsPart (Number s bits fits next) w ws x = (n k : ℕ) × (IsNumber s bits w n k × (fits n ≡ true)) × SpellsPart (next n) (drop k w) ws x
 SpellsPart (Name next) w ws x = (s : List ℕ) × (k : ℕ) × IsName w s k × SpellsPart (next s) (drop k w) ws x
 SpellsPart (Size next) w ws x = (n k : ℕ) × IsSize w n k × SpellsPart (next n) (take n (drop k w)) (drop n (drop k w) ∷ ws) x
@@ -46,7 +46,7 @@ SpellsPart (End may over more) (b ∷ w) ws x = SpellsPart more (b ∷ w) ws x
 abbrev pub Stops : {M : Type 0} → Format M → (at : ℕ) → (w : List ℕ) → (ws : List (List ℕ)) → ℕ → Type 0
 Stops (Give m) at w ws o = ⊥
 Stops Nothing at w ws o = o ≡ at
-Stops (Byte fits next) at w ws o = ((o ≡ at) × ((b k : ℕ) → IsByte fits w b k → ⊥)) ⊎ ((b k : ℕ) × IsByte fits w b k × Stops (next b) (at + k) (drop k w) ws o)
+Stops (Byte fits next) at w ws o = ((o ≡ at) × ((b k : ℕ) → SpellsByte fits w b k → ⊥)) ⊎ ((b k : ℕ) × SpellsByte fits w b k × Stops (next b) (at + k) (drop k w) ws o)
 Stops (Number s bits fits next) at w ws o = ((o ≡ at) × ((n k : ℕ) → IsNumber s bits w n k × (fits n ≡ true) → ⊥)) ⊎ ((n k : ℕ) × (IsNumber s bits w n k × (fits n ≡ true)) × Stops (next n) (at + k) (drop k w) ws o)
 Stops (Name next) at w ws o = ((o ≡ at) × ((s : List ℕ) (k : ℕ) → IsName w s k → ⊥)) ⊎ ((s : List ℕ) × (k : ℕ) × IsName w s k × Stops (next s) (at + k) (drop k w) ws o)
 Stops (Size next) at w ws o = ((o ≡ at) × ((n k : ℕ) → IsSize w n k → ⊥)) ⊎ ((n k : ℕ) × IsSize w n k × Stops (next n) (at + k) (take n (drop k w)) (drop n (drop k w) ∷ ws) o)

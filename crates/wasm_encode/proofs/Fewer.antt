@@ -8,7 +8,7 @@ use Rattle.std.proofs.Math.Pow.{pow_mono}
 use Rattle.wasm_core.specs.Parts.{Parts}
 use Rattle.wasm_core.specs.ModuleCondition.{All, opens_after}
 use Rattle.wasm_core.specs.Format.{Name, Number}
-use Rattle.wasm_core.specs.Spelling.{IsByte, IsNumber, IsSize, SpellsNumber, SpellsPart}
+use Rattle.wasm_core.specs.Spelling.{SpellsByte, IsNumber, IsSize, SpellsNumber, SpellsPart}
 use Rattle.wasm_core.specs.ModuleGrammar.{Spelling, byte, u32, s32, s64, on, coded, find, finish, times, val_type, val_types, value_types, func_result, func_type, limits_flag, limits_flags, limits, mutability, mutabilities, block_type, block_kinds, access, row, Row, Plain, Typed}
 use Rattle.wasm_core.specs.ModuleGrammar.{Index, Accessing, Pair, Table, Zeroed, Bits, LongBits, opcodes, operations, operation_row, row_or, opcode, instr, instrs, constant_of, constant_opcodes, constant, table_type, table, segment, groups, locals, body, indices, memory, global}
 use Rattle.wasm_core.specs.ModuleGrammar.{export_kind, export_kinds, exported}
@@ -198,7 +198,7 @@ s64_spends : Spends s64 put_s64
 unfolding s64
 s64_spends k w ws m (n, j, (i, f), h) = (n, drop j w, less_signed 64 10 w n j i, h)
 
-pub byte_left : (fits : ℕ → Bool) (w : List ℕ) (b k : ℕ) → IsByte fits w b k → length (drop k w) + 1 ≤ length w
+pub byte_left : (fits : ℕ → Bool) (w : List ℕ) (b k : ℕ) → SpellsByte fits w b k → length (drop k w) + 1 ≤ length w
 byte_left fits w b k (e, (rest, d), q) = let a = length-drop k w in let l = ap length d in omega (arith, a, l, e)
 
 pub byte_spends : (b : ℕ) (k : Spelling) (w : List ℕ) (ws : List (List ℕ)) (m : Parts) → SpellsPart (byte b k) w ws m → (v : List ℕ) × (length v + 1 ≤ length w) × SpellsPart k v ws m
