@@ -17,11 +17,14 @@ use Rattle.anf_convert.specs.ToAnf.{code_of, number_in, to_anf}
 use Rattle.anf_convert.specs.ToAnfKeeps.{Ready}
 use Rattle.anf_convert.proofs.Forms.{to_anf_forms}
 use Rattle.closure_lift.specs.CapturedLimit.{BlocksCapture, ProgramCaptures}
+use Rattle.closure_lift.specs.LiftedForm.{Formed}
 use Rattle.closure_lift.proofs.Forms.{lift_forms}
 use Rattle.known_calls.proofs.KnownLight.{lifted_is_light}
+use Rattle.known_calls.specs.KnownWeight.{program_weight}
+use Rattle.known_calls.proofs.CallSizes.{calls_sized}
 use Rattle.known_calls.proofs.KnownSizes.{known_sized}
 use Rattle.back_end.specs.BackEnd.{passed, IsWithinPasses}
-use Rattle.back_end.specs.ModuleSizes.{LocalsAreFew, ModulesAreSmall}
+use Rattle.back_end.specs.ModuleSizes.{CallModulesAreSmall, LocalsAreFew, ModulesAreSmall}
 use Rattle.back_end.proofs.CapturedWords.{code_few}
 use Rattle.back_end.proofs.LiftedLocals.{normal_constants_locals, few_locals}
 use Rattle.back_end.proofs.NormalLocals.{code_few as locals_few}
@@ -46,18 +49,26 @@ program_captures P m ok =
       main = code_few (most_words Q) S K S.main ready.main fine.main.narrow;
     }
 
+-- the lifted program's weight
+module _ (P : BoxProgram) (m : ℕ) (ok : IsWithinPasses P m) where
+  lifted_form : Formed (passed P) m
+  lifted_form = let S = shrunk_program P in lift_forms (to_anf S) m (to_anf_forms S m (suffices P m ok).1)
+
+  passed_is_light : program_weight (passed P) ≤ 63 * program_nodes (saturated_program P) * greatest_words P
+  passed_is_light =
+      let S = shrunk_program P in
+      let C = most_words (prop_match_program P) in
+      let fewer = (shrunk_forms P ok.form).nodes in
+      let lifted = lifted_is_light (to_anf S) C (program_captures P m ok) in
+      let weight = known_is_small S C in
+      let words : 4 + C ≤ greatest_words P = omega (arith, (prop_match_program_sizes P).1) in
+      omega (arith, lifted, weight, product_le (63 * program_nodes S) (63 * program_nodes (saturated_program P)) (4 + C) (greatest_words P) (omega (arith, fewer)) words)
+
 pub modules_are_small : ModulesAreSmall
-modules_are_small P pages m ok counts =
-    let S = shrunk_program P in
-    let Q = prop_match_program P in
-    let C = most_words Q in
-    let fewer = (shrunk_forms P ok.form).nodes in
-    let form = lift_forms (to_anf S) m (to_anf_forms S m (suffices P m ok).1) in
-    let bytes = known_sized (passed P) pages m form ok.limits counts in
-    let lifted = lifted_is_light (to_anf S) C (program_captures P m ok) in
-    let weight = known_is_small S C in
-    let words : 4 + C ≤ greatest_words P = omega (arith, (prop_match_program_sizes P).1) in
-    omega (arith, bytes, lifted, weight, product_le (64 * program_nodes S) (64 * program_nodes (saturated_program P)) (4 + C) (greatest_words P) (omega (arith, fewer)) words)
+modules_are_small P pages m ok counts = omega (arith, known_sized (passed P) pages m (lifted_form P m ok) ok.limits counts, passed_is_light P m ok)
+
+pub call_modules_are_small : CallModulesAreSmall
+call_modules_are_small P k pages m few ok counts = omega (arith, calls_sized (passed P) k pages m few (lifted_form P m ok) ok.limits counts, passed_is_light P m ok)
 
 constants_locals : (P : BoxProgram) (K : Name → ℕ) (cs : List BoxConstant) → ((d : BoxConstant) → Has cs d → Ready P d.body) → normal_constants_locals (map (λ (d : BoxConstant). code_of K d.body) cs) ≤ nodes_of_constants cs
 constants_locals P K [] ready = omega arith

@@ -11,7 +11,7 @@
 #![tactic(auto)]
 
 ghost use Rattle.back_end.specs.BackEnd.{ModulesAnswer, ModulesAreValid, ModulesCanBeSpelled};
-ghost use Rattle.back_end.specs.ModuleSizes.{LocalsAreFew, ModulesAreSmall};
+ghost use Rattle.back_end.specs.ModuleSizes.{CallModulesAreSmall, LocalsAreFew, ModulesAreSmall};
 ghost use Rattle.back_end.specs.StepsAndMemory.{StepsAndMemoryAreBounded};
 ghost use Rattle.back_end.specs.StepsAtLeast.{AnswersTakeAsManySteps};
 
@@ -35,10 +35,11 @@ pub fn answers_take_as_many_steps_as_matches()
 {}
 
 /// The shortest bytes of the module are at most `64 * s * W + 4,096`, where s is the number of nodes of the saturated program and W the program's words. So
-/// a module has over 16,777,216 bytes only where that number is greater.
+/// a module has over 16,777,216 bytes only where that number is greater. Those of a module for calls are at most `63 * s * W + 128 * k + 4,096`, where k is the number of arguments.
 ///
 /// A function of it has over 50,000 locals besides its parameters only where s is over 50,000.
 pub fn modules_are_small()
     ensures bytes { ModulesAreSmall }
+    ensures calls { CallModulesAreSmall }
     ensures locals { LocalsAreFew }
 {}

@@ -18,7 +18,7 @@ use Rattle.closure_lift.specs.LiftedForm.{OpFits, LiftedBlockFits, BranchesFit, 
 use Rattle.wasm_emit.specs.EmittedCode.{Load, StoreWord, ConstWord, IfWord, IfOnly, CallClosure, ensure_room, constant_index}
 use Rattle.wasm_emit.specs.EmittedLocals.{top, top_op, top_branches}
 use Rattle.wasm_emit.specs.EmitLaws.{CountsFit}
-use Rattle.wasm_emit.proofs.Lengths.{bytes_of, size, u_2, z_unreachable, z_if, z_else, z_end, z_op, z_call, z_indirect, z_get, z_set, z_tee, z_heap, z_size, z_room, z_small, z_header, z_global, z_load, z_store, z_const}
+use Rattle.wasm_emit.proofs.Lengths.{bytes_of, size, u_1, u_2, z_unreachable, z_if, z_else, z_end, z_op, z_call, z_indirect, z_get, z_set, z_tee, z_heap, z_size, z_room, z_small, z_header, z_global, z_load, z_store, z_const}
 use Rattle.wasm_emit.proofs.Spelled.{Good, fits}
 use Rattle.known_calls.specs.KnownPlaces.{Word, InLocal, InField, IsConst, Place, At, fields_of, word_of, known_function, block_reads}
 use Rattle.known_calls.specs.KnownCode.{Position, Inside, InTail, deeper, worker_index, jumps, most_blocks, read_word, read, atom, push_words, fill, block, into_params, call_worker, application, choose, unmade, known, op, code, empties, heads}
@@ -55,13 +55,21 @@ z_br : (rest : List Instr) (n : ℕ) → n < 16384 → size (Br n ∷ rest) ≤ 
 unfolding put_all put_instr
 z_br rest n h = omega (arith, u_2 3 n (bytes_of rest) h)
 
+-- and one that a main with arguments has
+z_get_global : (rest : List Instr) (x : ℕ) → x < 128 → size (GlobalGet x ∷ rest) ≤ 2 + size rest
+unfolding put_all put_instr
+z_get_global rest x h = omega (arith, u_1 4 x (bytes_of rest) h)
+
+pub b_get_global : (x : ℕ) → x < 128 → Bounded 2 (λ r. GlobalGet x ∷ r)
+b_get_global x h = b_one (GlobalGet x) (λ r. z_get_global r x h) (omega arith)
+
 pub b_loop : (t : BlockType) → Bounded 2 (λ r. Loop t ∷ r)
 b_loop t = b_one (Loop t) (λ r. z_loop r t) tt
 
 pub b_get : (x : ℕ) → x < 100000 → Bounded 4 (λ r. LocalGet x ∷ r)
 b_get x h = b_one (LocalGet x) (λ r. z_get r x (omega arith)) (omega arith)
 
-b_set : (x : ℕ) → x < 100000 → Bounded 4 (λ r. LocalSet x ∷ r)
+pub b_set : (x : ℕ) → x < 100000 → Bounded 4 (λ r. LocalSet x ∷ r)
 b_set x h = b_one (LocalSet x) (λ r. z_set r x (omega arith)) (omega arith)
 
 b_tee : (x : ℕ) → x < 100000 → Bounded 4 (λ r. LocalTee x ∷ r)

@@ -19,7 +19,7 @@ some_node (Node l ts) = omega arith
 module _ (c : ℕ) where
   -- what one node may weigh
   abbrev share : ℕ
-  share = 256 + 64 * c
+  share = 252 + 63 * c
 
   abbrev bound_weight : AnfBinding → ℕ
   bound_weight (AtomIs a) = 12 + atom_weight c

@@ -5,7 +5,10 @@ use Rattle.wasm_core.specs.declared.types.ValType.TheVariants.{I32}
 use Rattle.wasm_core.specs.declared.instrs.BlockType.TheVariants.{Value}
 use Rattle.wasm_core.specs.declared.instrs.Instr.TheVariants.{Unreachable, Loop, End, GlobalSet}
 use Rattle.wasm_core.specs.declared.instrs.Body.{Body}
-use Rattle.wasm_core.specs.ShortestBytes.{put_u32, put_all, put_body, put_section, put_segment, put_func_type, put_table_type, put_limits, put_global, put_export, put_instr, unsigned, sizes}
+use Rattle.wasm_core.specs.declared.types.GlobalDef.{GlobalDef}
+use Rattle.wasm_core.specs.declared.exports.Export.{Export}
+use Rattle.wasm_core.specs.Parts.{Parts}
+use Rattle.wasm_core.specs.ShortestBytes.{put_u32, put_all, put_body, put_section, put_segment, put_func_type, put_table_type, put_limits, put_global, put_export, put_instr, unsigned, sizes, module_bytes}
 use Rattle.closure_lift.specs.Lifted.{Op, OConst, OApp, OCon, OClos, OCase, Block, RetAtom, LetAtom, Ret, Let, BranchBlocks, BNil, BCons, Program, Fn}
 use Rattle.closure_lift.specs.LiftedForm.{Formed, Limits}
 use Rattle.wasm_emit.specs.EmittedModule.{type_main, type_constant, type_function, body, entries}
@@ -16,7 +19,7 @@ use Rattle.wasm_emit.proofs.Lengths.{u_any, size, z_end, z_global, body_size}
 use Rattle.wasm_emit.proofs.Sized.{no_bytes, section_size, items_size, globals_size, table_size, memory_size, exports_size, segment_size, first_bodies, header_size}
 use Rattle.known_calls.specs.KnownPlaces.{At, InLocal, fields_of}
 use Rattle.known_calls.specs.KnownCode.{Inside, is_wide, code}
-use Rattle.known_calls.specs.KnownModule.{words_type, wide_body, stub_code, entry, worker_code, worker, worker_type, numbered, constant, main_function, module_of}
+use Rattle.known_calls.specs.KnownModule.{words_type, wide_body, stub_code, entry, worker_code, worker, worker_type, numbered, constant, main_function, module_with}
 use Rattle.known_calls.specs.KnownWeight.{op_weight, weight, branches_weight, functions_weight, constants_weight, program_weight, KnownSized, LocalsBound}
 use Rattle.known_calls.proofs.KnownIndices.{narrow_few, order_length}
 use Rattle.known_calls.proofs.Bounded.{b_code}
@@ -107,54 +110,67 @@ main_body : (b : Body) (bs : List Body) → length (put_all put_body (b ∷ bs) 
 unfolding put_all
 main_body b bs = refl
 
+-- the bytes of a module of the program: those of its main, of its globals and of its exports are given
+module _ (P : Program) (main : Body) (gs : List GlobalDef) (es : List Export) (pages m : ℕ) (form : Formed P m) (limits : Limits P) (counts : CountsFit P m) where
+  abbrev M : Parts
+  M = module_with P main gs es pages
+
+  code_size : (x : ℕ) → ((w : List ℕ) → length (put_body main w) ≤ x + length w) →
+      length (put_all put_body M.bodies []) + 15 * length P.functions + 10 * length P.constants ≤ 144 + functions_weight P.functions + constants_weight P.constants + x
+  code_size x main_size =
+      let workers = numbered (worker P) 0 P.functions in
+      let from_main = main ∷ numbered (worker P) 0 P.functions in
+      let from_constants = map (constant P) P.constants ++ (main ∷ numbered (worker P) 0 P.functions) in
+      let rest = numbered (entry P) 0 P.functions ++ (map (constant P) P.constants ++ (main ∷ numbered (worker P) 0 P.functions)) in
+      omega (
+        arith,
+        first_bodies rest,
+        entries_size P m form counts limits 0 P.functions from_constants [] (same_number P m form counts limits),
+        constants_size P m form counts limits P.constants from_main [] (λ i t w at. constant_size P m form counts limits i t w at),
+        main_body main workers,
+        main_size (put_all put_body workers []),
+        workers_size P m form counts limits 0 P.functions [] (same_number P m form counts limits),
+        pairs_bytes P m form counts limits P.functions,
+      )
+
+  pub module_sized : (x y z : ℕ) → ((w : List ℕ) → length (put_body main w) ≤ x + length w) → length (put_all put_global M.globals []) ≤ y → length (put_all put_export M.exports []) ≤ z →
+      length (module_bytes M) ≤ functions_weight P.functions + constants_weight P.constants + 522 + x + y + z
+  module_sized x y z main_size globals exports =
+      let n = length P.functions in
+      let s10 = put_section 10 put_body M.bodies [] in
+      let s9 = put_section 9 put_segment M.elements s10 in
+      let s7 = put_section 7 put_export M.exports s9 in
+      let s6 = put_section 6 put_global M.globals s7 in
+      let s5 = put_section 5 put_limits (sizes M.memory) s6 in
+      let s4 = put_section 4 put_table_type (sizes M.table) s5 in
+      let s3 = put_section 3 put_u32 M.funcs s4 in
+      omega (
+        arith,
+        header_size M,
+        section_size 1 put_func_type M.types s3,
+        types_size,
+        section_size 3 put_u32 M.funcs s4,
+        items_size 5 put_u32 M.funcs [] (λ x w. u_any 5 x w),
+        order_length {A = ℕ} P (λ g f. 2) (λ t. 1) 0 (λ g f. worker_type f),
+        section_size 4 put_table_type (sizes M.table) s5,
+        table_size (suc n),
+        section_size 5 put_limits (sizes M.memory) s6,
+        memory_size pages,
+        section_size 6 put_global M.globals s7,
+        globals,
+        section_size 7 put_export M.exports s9,
+        exports,
+        section_size 9 put_segment M.elements s10,
+        segment_size 0 (entries 1 (suc n)),
+        entries_length 1 (suc n),
+        section_size 10 put_body M.bodies [],
+        code_size x main_size,
+      )
+
 pub known_sized : KnownSized
 known_sized P pages m form limits counts =
-    let M = module_of P pages in
-    let n = length P.functions in
-    let s10 = put_section 10 put_body M.bodies [] in
-    let s9 = put_section 9 put_segment M.elements s10 in
-    let s7 = put_section 7 put_export M.exports s9 in
-    let s6 = put_section 6 put_global M.globals s7 in
-    let s5 = put_section 5 put_limits (sizes M.memory) s6 in
-    let s4 = put_section 4 put_table_type (sizes M.table) s5 in
-    let s3 = put_section 3 put_u32 M.funcs s4 in
-    let workers = numbered (worker P) 0 P.functions in
-    let from_main = main_function P ∷ numbered (worker P) 0 P.functions in
-    let from_constants = map (constant P) P.constants ++ (main_function P ∷ numbered (worker P) 0 P.functions) in
-    let rest = numbered (entry P) 0 P.functions ++ (map (constant P) P.constants ++ (main_function P ∷ numbered (worker P) 0 P.functions)) in
-    let code : length (put_all put_body M.bodies []) + 15 * length P.functions + 10 * length P.constants ≤ 164 + program_weight P =
-    omega (
-      arith,
-      first_bodies rest,
-      entries_size P m form counts limits 0 P.functions from_constants [] (same_number P m form counts limits),
-      constants_size P m form counts limits P.constants from_main [] (λ i t w at. constant_size P m form counts limits i t w at),
-      main_body (main_function P) workers,
-      main_size P m form counts limits (put_all put_body workers []),
-      workers_size P m form counts limits 0 P.functions [] (same_number P m form counts limits),
-      pairs_bytes P m form counts limits P.functions,
-    ) in
-    omega (
-      arith,
-      header_size M,
-      section_size 1 put_func_type M.types s3,
-      types_size,
-      section_size 3 put_u32 M.funcs s4,
-      items_size 5 put_u32 M.funcs [] (λ x w. u_any 5 x w),
-      order_length {A = ℕ} P (λ g f. 2) (λ t. 1) 0 (λ g f. worker_type f),
-      section_size 4 put_table_type (sizes M.table) s5,
-      table_size (suc n),
-      section_size 5 put_limits (sizes M.memory) s6,
-      memory_size pages,
-      section_size 6 put_global M.globals s7,
-      globals_size,
-      section_size 7 put_export M.exports s9,
-      exports_size P pages,
-      section_size 9 put_segment M.elements s10,
-      segment_size 0 (entries 1 (suc n)),
-      entries_length 1 (suc n),
-      section_size 10 put_body M.bodies [],
-      code,
-    )
+    let main = main_size P m form counts limits in
+    omega (arith, module_sized P (main_function P) [] [] pages m form limits counts (20 + weight P.main) 30 68 main globals_size (exports_size P pages))
 
 -- each local is set by an instruction
 mutual

@@ -33,7 +33,7 @@ use Rattle.known_calls.proofs.SameLocals.{worker_top}
 use Rattle.known_calls.proofs.Fitting.{fields_fit, params_fit}
 use Rattle.known_calls.proofs.KnownIndices.{narrow_few, order_length}
 use Rattle.known_calls.proofs.KnownValidity.{entry_typed, worker_typed, constant_typed, main_typed, call_typed, box_typed, room_typed}
-use Rattle.known_calls.proofs.Bounded.{Bounded, ◌then◌, b_most, b_get, b_call, b_end, b_loop, b_captured, b_op, b_code}
+use Rattle.known_calls.proofs.Bounded.{Bounded, ◌then◌, b_most, b_get, b_get_global, b_set, b_load, b_call, b_end, b_loop, b_captured, b_op, b_code}
 
 numbered_then : {B : Type 0} (Q : B → Type 0) (h : ℕ → Fn → B) (from : ℕ) (fs : List Fn) (bs : List B) → ((g j : ℕ) (x : Fn) → slice_get fs g ≡ Some x → j ≡ from + g → Q (h j x)) → All Q bs → All Q (numbered h from fs ++ bs)
 numbered_then Q h from [] bs a r = r
@@ -138,16 +138,16 @@ known_spelled P pages m pos small form limits counts =
     ((b_code P m form counts limits 0 0 [] Inside P.main (omega (arith, counts.main)) tt form.main).spelled (fits (omega arith) (fits tt good))) in
     with_spelled P (main_function P) [] [] pages m form counts limits (emitted.main_function P) (emit_spelled P pages m pos small form limits counts) last
 
--- main applied to so many arguments
-f_applied : (P : Program) (m : ℕ) (form : Formed P m) (counts : CountsFit P m) (limits : Limits P) (k : ℕ) {rest : List Instr} → k ≤ 255 → Good rest → Good (applied P k rest)
-f_applied P m form counts limits zero few h = (b_code P m form counts limits 0 0 [] Inside P.main (omega (arith, counts.main)) tt form.main).spelled h
-f_applied P m form counts limits (suc n) few h =
-    f_applied P m form counts limits n (omega arith) (fits (omega arith) (fits (omega arith) (fits (omega arith, omega arith) (fits (omega arith)
-    ((b_op P m form counts limits 2 2 (At (InLocal 1) ∷ At (InLocal 0) ∷ []) Inside (OApp (AVar 1) (AVar 0)) (omega arith) (omega arith, (omega arith, tt)) (omega arith, omega arith)).spelled h)))))
+-- main applied to so many arguments, each of which takes at most 128 bytes
+pub b_applied : (P : Program) (m : ℕ) (form : Formed P m) (counts : CountsFit P m) (limits : Limits P) (k : ℕ) → k ≤ 255 → Bounded (weight P.main + 128 * k) (applied P k)
+b_applied P m form counts limits zero few = b_most _ (omega arith) (b_code P m form counts limits 0 0 [] Inside P.main (omega (arith, counts.main)) tt form.main)
+b_applied P m form counts limits (suc n) few =
+    b_most _ (omega arith) (b_applied P m form counts limits n (omega arith) then (b_set 0 (omega arith) then (b_get_global 3 (omega arith) then (b_load (4 * n) (omega arith) then (b_set 1 (omega arith)
+    then b_op P m form counts limits 2 2 (At (InLocal 1) ∷ At (InLocal 0) ∷ []) Inside (OApp (AVar 1) (AVar 0)) (omega arith) (omega arith, (omega arith, tt)) (omega arith, omega arith))))))
 
 pub known_call_spelled : (P : Program) (k pages m : ℕ) → k ≤ 255 → 0 < pages → pages ≤ 16384 → Formed P m → Limits P → CountsFit P m → IsModule (module_of_call P k pages)
 known_call_spelled P k pages m few pos small form limits counts =
     let last : IsBody (call_function P k) =
     body_fits (module_of_call P k pages) 0 (max 2 (top 0 P.main)) (applied P k (GlobalSet 0 ∷ End ∷ [])) (omega (arith, counts.main)) (call_typed P m form k pages)
-    (f_applied P m form counts limits k few (fits (omega arith) (fits tt good))) in
+    ((b_applied P m form counts limits k few).spelled (fits (omega arith) (fits tt good))) in
     with_spelled P (call_function P k) call_globals call_exports pages m form counts limits (emitted_call.call_function P k) (call_spelled P k pages m few pos small form limits counts) last

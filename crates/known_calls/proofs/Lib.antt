@@ -20,6 +20,7 @@ pub mod KnownSpelling
 pub mod KnownComposition
 pub mod KnownCalling
 pub mod KnownSizes
+pub mod CallSizes
 pub mod KnownLight
 pub mod KnownShare
 pub mod KnownMarking

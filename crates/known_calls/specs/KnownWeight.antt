@@ -90,6 +90,6 @@ module _ (c : ℕ) where
 abbrev pub LiftedIsLight : Type 0
 LiftedIsLight = (P : AnfProgram) (c : ℕ) → ProgramCaptures (suc c) P → program_weight (lift P) ≤ normal_program_weight c P
 
--- made from a program of s nodes by the passes it weighs at most `64 * s * (4 + c)`: so the module has at most 640 bytes more than that
+-- made from a program of s nodes by the passes it weighs at most `63 * s * (4 + c)`: so the module has at most 640 bytes more than that
 abbrev pub KnownIsSmall : Type 0
-KnownIsSmall = (P : BoxProgram) (c : ℕ) → normal_program_weight c (to_anf P) ≤ 64 * program_nodes P * (4 + c)
+KnownIsSmall = (P : BoxProgram) (c : ℕ) → normal_program_weight c (to_anf P) ≤ 63 * program_nodes P * (4 + c)

@@ -4,6 +4,7 @@ pub mod KnownModule
 pub mod KnownCalls
 pub mod KnownLaws
 pub mod KnownWeight
+pub mod CallBytes
 pub mod KnownMarks
 pub mod KnownPushed
 pub mod KnownEmission

@@ -1,6 +1,7 @@
 //! Laws of emission with workers, as functions with no result but their contracts.
 
 ghost use Rattle.known_calls.specs.KnownLaws.{AnfAnswersKnown, AnfKnownValid, CallsAnswer, CallsTell, CallsValid, KnownAnswers, KnownSpelled, KnownValid, KnownStatusTells};
+ghost use Rattle.known_calls.specs.CallBytes.{CallsSized};
 ghost use Rattle.known_calls.specs.KnownWeight.{KnownIsSmall, KnownSized, LiftedIsLight, LocalsBound};
 
 /// Where main of a lifted program evaluates to data, every run of the program's module answers that data or is exhausted after a refused grow,
@@ -32,12 +33,13 @@ pub fn known_programs_in_normal_form_answer()
 {}
 
 /// The bytes of a module, and the locals of its functions, are bounded by the size of the lifted program, and so by that of the program in A-normal
-/// form, and by the number of nodes of the program from which that was made.
+/// form, and by the number of nodes of the program from which that was made; those of a module for calls besides by the number of arguments.
 pub fn known_bytes_are_bounded()
     ensures bytes { KnownSized }
     ensures locals { LocalsBound }
     ensures lifted { LiftedIsLight }
     ensures small { KnownIsSmall }
+    ensures calls { CallsSized }
 {}
 
 /// Every run of the module for a call, on arguments that a host has stored, answers main's data or is exhausted; such a module is valid; and its

@@ -13,18 +13,19 @@ use Rattle.closure_lift.specs.NamedLift.{most_functions}
 use Rattle.closure_lift.specs.Lifting.{most_words}
 use Rattle.wasm_core.specs.ShortestBytes.{module_bytes}
 use Rattle.known_calls.specs.KnownModule.{module_of}
+use Rattle.known_calls.specs.KnownCalls.{module_of_call}
 use Rattle.wasm_emit.specs.EmittedBodies.{FewLocals}
 use Rattle.wasm_emit.specs.EmitLaws.{CountsFit}
 use Rattle.wasm_emit.proofs.Emitting.{lifted_can_be_emitted, counts_fit}
 use Rattle.back_end.specs.BackEnd.{passed, IsWithinPasses}
-use Rattle.back_end.proofs.Sizes.{locals_are_few, modules_are_small}
+use Rattle.back_end.proofs.Sizes.{call_modules_are_small, locals_are_few, modules_are_small}
 use Rattle.back_end.proofs.Whole.{product_le}
 use Rattle.compile.specs.declared.fault.CompileFault.{CompileFault}
 use Rattle.compile.specs.declared.fault.CompileFault.TheVariants as refusals
 use Rattle.compile.specs.Passes.{IsShallow, CapturesFew, function_count, Fits, CompileIsRefused}
 use Rattle.compile.proofs.Within.{main_shallow, constant_shallow, lifted_formed, normal_formed, program_limits}
-use Rattle.source_limits.specs.PassedSizes.{saturated_nodes, saturated_binders, most_binders, most_locals, bytes_bound, IsSmallProgram, HasSmallModule, ShowsSize}
-use Rattle.source_limits.specs.Laws.{RefusalsShowSizes, LargeModulesShowSizes, SmallProgramsFit}
+use Rattle.source_limits.specs.PassedSizes.{saturated_nodes, saturated_binders, most_arguments, most_binders, most_locals, bytes_bound, IsSmallProgram, HasSmallModule, HasSmallCallModule, ShowsSize}
+use Rattle.source_limits.specs.Laws.{RefusalsShowSizes, LargeModulesShowSizes, LargeCallModulesShowSizes, SmallProgramsFit}
 use Rattle.source_limits.proofs.Functions.{functions_fewer}
 use Rattle.source_limits.proofs.SaturatedCaptures.{saturated_captures, words_captures}
 
@@ -55,6 +56,9 @@ module _ (P : BoxProgram) (form : IsBoxProgram P) where
   module_bounded : Fits P → (pages : ℕ) → length (module_bytes (module_of (passed P) pages)) ≤ bytes_bound (saturated_nodes P) (greatest_words P)
   module_bounded fits pages = modules_are_small P pages 1024 (within fits.shallow fits.captures fits.few) (counts fits)
 
+  call_bounded : Fits P → (k pages : ℕ) → k ≤ most_arguments → length (module_bytes (module_of_call (passed P) k pages)) ≤ 63 * saturated_nodes P * greatest_words P + 128 * k + 4096
+  call_bounded fits k pages few = call_modules_are_small P k pages 1024 few (within fits.shallow fits.captures fits.few) (counts fits)
+
   -- no pass refuses a small program
 
   few_functions : saturated_nodes P ≤ most_functions → function_count P ≤ most_functions
@@ -70,6 +74,11 @@ module _ (P : BoxProgram) (form : IsBoxProgram P) where
   small_module w words small pages =
       let s = saturated_nodes P in
       omega (arith, module_bounded (small_fits w small) pages, product_le (64 * s) (64 * s) (greatest_words P) w (omega arith) words, small.bytes)
+
+  small_call_module : (w : ℕ) → greatest_words P ≤ w → IsSmallProgram P w → HasSmallCallModule P
+  small_call_module w words small k pages few =
+      let s = saturated_nodes P in
+      omega (arith, call_bounded (small_fits w small) k pages few, few, product_le s s (greatest_words P) w (omega arith) words, small.bytes)
 
   -- what a refusal shows
 
@@ -98,5 +107,8 @@ refusals_show_sizes P a form h = refused_shows P form a h
 pub large_modules_show_sizes : LargeModulesShowSizes
 large_modules_show_sizes P pages form fits large = omega (arith, large, module_bounded P form fits pages)
 
+pub large_call_modules_show_sizes : LargeCallModulesShowSizes
+large_call_modules_show_sizes P k pages few form fits large = omega (arith, large, few, call_bounded P form fits k pages few)
+
 pub small_programs_fit : SmallProgramsFit
-small_programs_fit P w form words small = (small_fits P form w small, small_module P form w words small)
+small_programs_fit P w form words small = (small_fits P form w small, small_module P form w words small, small_call_module P form w words small)

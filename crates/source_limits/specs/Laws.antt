@@ -14,6 +14,7 @@ use Rattle.closure_lift.specs.CapturedLimit.{ProgramCaptures}
 use Rattle.closure_lift.specs.Lift.{lift}
 use Rattle.wasm_core.specs.ShortestBytes.{module_bytes}
 use Rattle.known_calls.specs.KnownModule.{module_of}
+use Rattle.known_calls.specs.KnownCalls.{module_of_call}
 use Rattle.back_end.specs.BackEnd.{passed}
 use Rattle.compile.specs.Passes.{IsShallow, Fits, CompileIsRefused}
 use Rattle.compile.specs.declared.fault.CompileFault.{CompileFault}
@@ -21,7 +22,7 @@ use Rattle.headline.specs.AcceptedProgram.{IsAcceptedAs, IsErasedTo}
 use Rattle.headline.specs.SourceWords.{source_words}
 use Rattle.source_limits.specs.NormalBinders.{normal_binders}
 use Rattle.source_limits.specs.SourceNodes.{most_nodes}
-use Rattle.source_limits.specs.PassedSizes.{saturated_nodes, saturated_binders, most_bytes, bytes_bound, IsSmallProgram, HasSmallModule, ShowsSize, ShowsSourceSize}
+use Rattle.source_limits.specs.PassedSizes.{saturated_nodes, saturated_binders, most_arguments, most_bytes, bytes_bound, IsSmallProgram, HasSmallModule, HasSmallCallModule, ShowsSize, ShowsSourceSize}
 
 -- where no lambda of a program in A-normal form is under more binders than these, no lambda and no fixpoint has more captured words
 abbrev pub NormalCapturesAreFew : Type 0
@@ -48,9 +49,14 @@ abbrev pub LargeModulesShowSizes : Type 0
 LargeModulesShowSizes =
     (P : BoxProgram) (pages : ℕ) → IsBoxProgram P → Fits P → most_bytes < length (module_bytes (module_of (passed P) pages)) → most_bytes < bytes_bound (saturated_nodes P) (greatest_words P)
 
--- no pass refuses a small program, and its module has few bytes
+-- and one whose module for calls has, though each argument takes bytes besides
+abbrev pub LargeCallModulesShowSizes : Type 0
+LargeCallModulesShowSizes =
+    (P : BoxProgram) (k pages : ℕ) → k ≤ most_arguments → IsBoxProgram P → Fits P → most_bytes < length (module_bytes (module_of_call (passed P) k pages)) → most_bytes < bytes_bound (saturated_nodes P) (greatest_words P)
+
+-- no pass refuses a small program, and its module and its modules for calls have few bytes
 abbrev pub SmallProgramsFit : Type 0
-SmallProgramsFit = (P : BoxProgram) (w : ℕ) → IsBoxProgram P → greatest_words P ≤ w → IsSmallProgram P w → Fits P × HasSmallModule P
+SmallProgramsFit = (P : BoxProgram) (w : ℕ) → IsBoxProgram P → greatest_words P ≤ w → IsSmallProgram P w → Fits P × HasSmallModule P × HasSmallCallModule P
 
 -- the program of an accepted environment has at most the words of its source, and after saturation at most so many nodes
 abbrev pub SourcesBoundSizes : Type 0
@@ -62,4 +68,4 @@ RefusalsShowSourceSizes = (e : RawEnv) (E : Env) (T : Term) (P : BoxProgram) (a 
 
 -- no pass refuses the program of an accepted environment that is small by the words of its source
 abbrev pub SmallSourcesFit : Type 0
-SmallSourcesFit = (e : RawEnv) (E : Env) (T : Term) (P : BoxProgram) → IsAcceptedAs e E T → IsErasedTo E e.main P → IsSmallProgram P (source_words E e.main) → Fits P × HasSmallModule P
+SmallSourcesFit = (e : RawEnv) (E : Env) (T : Term) (P : BoxProgram) → IsAcceptedAs e E T → IsErasedTo E e.main P → IsSmallProgram P (source_words E e.main) → Fits P × HasSmallModule P × HasSmallCallModule P

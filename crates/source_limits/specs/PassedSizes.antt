@@ -10,6 +10,7 @@ use Rattle.box_passes.specs.PassResults.{IsDeep}
 use Rattle.closure_lift.specs.NamedLift.{most_functions}
 use Rattle.wasm_core.specs.ShortestBytes.{module_bytes}
 use Rattle.known_calls.specs.KnownModule.{module_of}
+use Rattle.known_calls.specs.KnownCalls.{module_of_call}
 use Rattle.back_end.specs.BackEnd.{passed}
 use Rattle.compile.specs.Passes.{IsShallow}
 use Rattle.compile.specs.declared.fault.CompileFault.{CompileFault}
@@ -36,6 +37,9 @@ most_locals = 50000
 abbrev pub most_bytes : ℕ
 most_bytes = 16777216
 
+abbrev pub most_arguments : ℕ
+most_arguments = 255
+
 -- the bytes of a module are at most these, for s nodes and w words
 abbrev pub bytes_bound : ℕ → ℕ → ℕ
 bytes_bound s w = 64 * s * w + 4096
@@ -50,6 +54,10 @@ pub record IsSmallProgram (P : BoxProgram) (w : ℕ) : Type 0 where
 -- the shortest bytes of its module are within the limit, whatever the maximum of its pages
 abbrev pub HasSmallModule : BoxProgram → Type 0
 HasSmallModule P = (pages : ℕ) → length (module_bytes (module_of (passed P) pages)) ≤ most_bytes
+
+-- so are those of its module for calls, whatever the number of arguments
+abbrev pub HasSmallCallModule : BoxProgram → Type 0
+HasSmallCallModule P = (k pages : ℕ) → k ≤ most_arguments → length (module_bytes (module_of_call (passed P) k pages)) ≤ most_bytes
 
 -- what a refusal of the passes says of the program's sizes
 abbrev pub ShowsSize : BoxProgram → CompileFault → Type 0

@@ -2,8 +2,8 @@
 //!
 //! No lambda and no fixpoint captures more words than its lambda has binders outside it, and constants, definitions of fixpoints and other lambdas are fewer than
 //! nodes (`captured_words_are_few`, clauses `normal`, `saturated` and `words`; `functions_are_fewer`, `nodes`). So each refusal of the passes, and a module over 16 MiB, shows a size of the
-//! saturated program (`refusals_show_sizes`, `refused` and `bytes`), and of the source (`sources_bound_sizes`, `bounds` and `refused`); and a program whose sizes are within the limits is refused by no
-//! pass, and has a module within 16 MiB (`small_programs_fit`, `fit` and `sources`).
+//! saturated program (`refusals_show_sizes`, `refused`, `bytes` and `calls`), and of the source (`sources_bound_sizes`, `bounds` and `refused`); and a program whose sizes are within the limits is refused by no
+//! pass, and has a module within 16 MiB, and modules for calls (`small_programs_fit`, `fit` and `sources`).
 //!
 //! Below stand the laws of the layers: `box_passes`, `closure_lift`, `wasm_emit`, `known_calls`, `back_end`, `compile` and `headline`; above stands `driver`.
 #![tactic(auto)]
@@ -15,6 +15,7 @@ ghost use Rattle.source_limits.specs.Laws.{
   FunctionsAreFewer,
   RefusalsShowSizes,
   LargeModulesShowSizes,
+  LargeCallModulesShowSizes,
   SmallProgramsFit,
   SourcesBoundSizes,
   RefusalsShowSourceSizes,
@@ -35,10 +36,12 @@ pub fn functions_are_fewer()
 {}
 
 /// `Captured` comes only where a lambda of the saturated program is under more than 1,000 binders, and the program has over 1,004 words; `Functions` only where the saturated program has over 32,768
-/// nodes, and `Locals` only where it has over 50,000. A module has over 16,777,216 bytes only where `64 * s * W + 4,096` is greater, for s nodes and W words.
+/// nodes, and `Locals` only where it has over 50,000. A module has over 16,777,216 bytes only where `64 * s * W + 4,096` is greater, for s nodes and W words; so it is
+/// of a module for calls, of up to 255 arguments (`calls`).
 pub fn refusals_show_sizes()
     ensures refused { RefusalsShowSizes }
     ensures bytes { LargeModulesShowSizes }
+    ensures calls { LargeCallModulesShowSizes }
 {}
 
 /// The program of an accepted environment has at most the words of its source, and after saturation at most `q * (3 * K + 1)` nodes, for q nodes of main and of the bodies of constants and for K
@@ -49,7 +52,7 @@ pub fn sources_bound_sizes()
 {}
 
 /// No pass refuses a program whose saturated program is within the depth limit, has no lambda under more than 1,000 binders and s nodes, at most 32,768, where `64 * s * W + 4,096` is at most
-/// 16,777,216 for its W words; and its module has at most 16,777,216 bytes. So it is for the program of an accepted environment, by the words of its source.
+/// 16,777,216 for its W words; and its module has at most 16,777,216 bytes, as its modules for calls of up to 255 arguments have. So it is for the program of an accepted environment, by the words of its source.
 pub fn small_programs_fit()
     ensures fit { SmallProgramsFit }
     ensures sources { SmallSourcesFit }

@@ -1,3 +1,4 @@
+use Rattle.known_calls.proofs.CallSizes.{calls_sized}
 use Rattle.known_calls.proofs.KnownLight.{lifted_is_light}
 use Rattle.known_calls.proofs.KnownShare.{known_is_small}
 use Rattle.known_calls.proofs.KnownSizes.{known_sized, locals_bound}
@@ -14,3 +15,6 @@ returns-clause-lifted c = lifted_is_light
 
 pub returns-clause-small : goal.returns-clause-small
 returns-clause-small c = known_is_small
+
+pub returns-clause-calls : goal.returns-clause-calls
+returns-clause-calls c = calls_sized
