@@ -8,6 +8,7 @@ use Rattle.dump_reader.specs.declared.environment.RawEnv.{RawEnv}
 use Rattle.dump_reader.specs.Spelled.{IsSpelled}
 use Rattle.driver.specs.Judged.{start}
 use Rattle.driver.specs.SourceEnds.{IsAcceptedWith}
+use Rattle.driver.specs.CallStages.{CallErasing}
 use Rattle.driver.specs.ExecEnds.{Erasing, its_environment}
 
 pub accepted_as : (turns : ℕ) (e : RawEnv) → IsSpelled e → (E : Env) (T : Term) (u : Account) → IsAcceptedWith turns e E T u → IsAcceptedAs e E T
@@ -23,3 +24,6 @@ accepted_as turns e spelled E T u a = record {
 
 pub erased_to : (turns : ℕ) (e : RawEnv) (x : Erasing turns e) → IsErasedTo (its_environment x) e.main x.program
 erased_to turns e x = record { room = 2048; before = x.before.left; after = x.left; gives = x.erased }
+
+pub call_erased_to : (turns : ℕ) (e : RawEnv) (x : CallErasing turns e) → IsErasedTo x.before.before.kept e.main x.program
+call_erased_to turns e x = record { room = 2048; before = x.before.left; after = x.left; gives = x.erased }

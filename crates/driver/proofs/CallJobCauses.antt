@@ -107,7 +107,7 @@ module _ (turns : ℕ) (e : RawEnv) (bytes : List ℕ) where
   abbrev reading_by : Signing turns e → ArgumentReading
   reading_by x = arguments_read bytes x.signature e.names
 
-  one_reading : (x y : Signing turns e) → reading_by x ≡ reading_by y
+  pub one_reading : (x y : Signing turns e) → reading_by x ≡ reading_by y
   one_reading x y = ap (λ Ss. arguments_from e.names Ss bytes (front_length bytes)) (one_reading_sets x y)
 
   pub one_joined : (x y : ReadingArguments turns e bytes) → joined x.arguments ≡ joined y.arguments

@@ -1,9 +1,7 @@
--- The late statuses of `call`, where the source tells its input: 15 comes of the run or of its answer alone; and where main has a module for calls and the arguments are whole, each status but 0 and 1 does.
+-- The late statuses of `call`: where main has a module for calls and the arguments are whole, each status of a refusal comes of the run or of its answer; and where the source tells its input, 15 does in any case.
 use Rattle.std.proofs.Common.{◌≡◌, ◌≢◌, ◌∙◌, ℕ, ◌<◌, ◌≤◌, List, [], length, Option, Some, None, Result, Ok, Err, ◌⊎◌, inl, inr, refl, sym, ap, subst, arith}
-use Rattle.kio.specs.Causes.{Rose}
 use Rattle.calculus_rules.specs.FirstOrder.{Data, FitsShapes}
 use Rattle.calculus_rules.proofs.Spines.{one_item}
-use Rattle.dump_grammar.specs.declared.refusal.ReadRefusal.{ReadRefusal}
 use Rattle.dump_reader.specs.Front.{front_bytes}
 use Rattle.dump_reader.specs.declared.environment.RawEnv.{RawEnv}
 use Rattle.first_order.specs.Awaited.{ArgumentReading, ArgumentsAre, ArgumentsFail}
@@ -12,7 +10,7 @@ use Rattle.first_order.specs.declared.faults.ArgsFault.{ArgsFault}
 use Rattle.module_run.specs.declared.refusal.RunRefusal.{RunRefusal}
 use Rattle.module_run.specs.declared.refusal.RunRefusal.TheVariants as running
 use Rattle.module_run.specs.CallEnds.{CallEnds}
-use Rattle.command_line.specs.declared.job.Job.TheVariants.{Bench, Call}
+use Rattle.command_line.specs.declared.job.Job.TheVariants.{Call}
 use Rattle.command_line.specs.declared.line.Request.{Request}
 use Rattle.command_line.specs.Line.{request_of}
 use Rattle.driver.specs.declared.refusal.Refusal.{Refusal}
@@ -24,14 +22,14 @@ use Rattle.driver.specs.CallEnds.{ArgumentsRefuse, CallAnswering, CallSays, Call
 use Rattle.driver.specs.Exported.{CallRulesAreWithin}
 use Rattle.driver.specs.Judged.{EndsWith}
 use Rattle.driver.specs.Lines.{status_of}
-use Rattle.driver.specs.Serve.{HasAnswer, IsAnswerOf, IsCallCause, IsCause, IsCheckCause, IsInputOf, IsOfCall, IsOfText, IsRefused, IsSure, IsTextCause, IsTooLong, MeetsNoFault, input_limit}
+use Rattle.driver.specs.Serve.{HasAnswer, IsAnswerOf, IsCallCause, IsCause, IsCheckCause, IsInputOf, IsOfCall, IsOfText, IsRefused, IsSure, IsTextCause}
 use Rattle.driver.specs.Called.{IsCallAnswer}
-use Rattle.driver.specs.Texts.{Refuses, SpellsWithin}
+use Rattle.driver.specs.Texts.{SpellsWithin}
 use Rattle.driver.proofs.CallCauses.{no_call_erasure, no_call_passes, no_signature}
 use Rattle.driver.proofs.CallJobCauses.{call_run_status, of_call_run}
 use Rattle.driver.proofs.CheckCauses.{cause_status, not_zero}
 use Rattle.driver.proofs.ExecCauses.{refused}
-use Rattle.driver.proofs.TextCauses.{fine, one_environment, refuses}
+use Rattle.driver.proofs.TextCauses.{one_environment}
 
 -- a status that the run shows, or its answer, which isn't of the answer's types
 pub data LateEnd (turns : ℕ) (e : RawEnv) (bytes : List ℕ) (pages steps status : ℕ) : Type 0 where
@@ -93,7 +91,7 @@ module _ (turns : ℕ) (e : RawEnv) (bytes : List ℕ) (pages steps : ℕ) where
     late_stop refusals.Memory n (in_call_text x valid k) = absurd (n refl)
     late_stop _ n (in_call_text x valid k) = absurd k
 
-    late : (r : Refusal) → (IsSure r → ⊥) → IsCheckCause turns r e ⊎ IsCallStop turns pages steps bytes r e → LateEnd turns e bytes pages steps (status_of r)
+    pub late : (r : Refusal) → (IsSure r → ⊥) → IsCheckCause turns r e ⊎ IsCallStop turns pages steps bytes r e → LateEnd turns e bytes pages steps (status_of r)
     late r n (inl k) = absurd (not_zero r (sym (cause_status turns r e 0 k n check)))
     late r n (inr k) = late_stop r k.0 k.1
 
@@ -119,9 +117,6 @@ module _ (q : Request) (e : RawEnv) (bytes : List ℕ) (words : List (List ℕ))
   of_front r (f, t, inl c) = inl (subst (IsCheckCause q.turns r) (one_environment (front_bytes bytes) f e t spelled) c)
   of_front r (f, t, inr c) = inr (subst (IsCallStop q.turns q.pages q.steps bytes r) (one_environment (front_bytes bytes) f e t spelled) c.0)
 
-  never_refused : (r : ReadRefusal) → Refuses (front_bytes bytes) r → ⊥
-  never_refused r h = (let both = sym (refuses (front_bytes bytes) r h) ∙ fine (front_bytes bytes) e spelled in cc)
-
   -- the answer on status 0
   pub called_on : (text : List ℕ) → HasAnswer words left text → (a : IsCallAnswer q.turns q.pages q.steps bytes text) × (a.environment ≡ e)
   called_on text a =
@@ -141,25 +136,3 @@ module _ (q : Request) (e : RawEnv) (bytes : List ℕ) (words : List (List ℕ))
   pub call_fifteen : (status before now faulty faulty' : ℕ) (line line' : Option (List ℕ)) (errs errs' : ℕ) → IsRefused status words left before now faulty faulty' line line' errs errs' → status ≡ 15 →
       LateEnd q.turns e bytes q.pages q.steps 15
   call_fifteen status before now faulty faulty' line line' errs errs' h is = fifteen_cause h.refusal before now faulty faulty' h.cause (sym h.status_is ∙ is)
-
-  module _ (short : length bytes ≤ input_limit) (check : EndsWith q.turns e 0) (stages : CallCompiling q.turns e) (within : CallRulesAreWithin q.turns e) (ds : Data)
-      (whole : (x : Signing q.turns e) → arguments_read bytes x.signature e.names ≡ ArgumentsAre ds) where
-    not_bench : q.job ≢ Bench
-    not_bench is = (let both : Call ≡ Bench = sym job ∙ is in cc)
-
-    late_cause : (r : Refusal) (before now faulty faulty' : ℕ) → IsCause r words left before now faulty faulty' → MeetsNoFault q.job before now faulty faulty' → (status_of r ≡ 1) ⊎ LateEnd q.turns e bytes q.pages q.steps (status_of r)
-    late_cause refusals.Memory before now faulty faulty' k calm = inl refl
-    late_cause refusals.Usage before now faulty faulty' k calm = absurd (let both : None ≡ Some q = sym k ∙ asked in cc)
-    late_cause refusals.ReadFault before now faulty faulty' k calm = absurd (calm.0 not_bench k.1)
-    late_cause refusals.WriteFault before now faulty faulty' k calm = absurd (calm.1 k.1)
-    late_cause refusals.InputBytes before now faulty faulty' k calm = absurd (let long : IsTooLong (Some bytes) = subst IsTooLong told k.1 in omega (arith, long, short))
-    late_cause (refusals.Syntax o) before now faulty faulty' k calm = absurd (never_refused _ (input_cause (refusals.Syntax o) k))
-    late_cause (refusals.Unsupported w o) before now faulty faulty' k calm = absurd (never_refused _ (input_cause (refusals.Unsupported w o) k))
-    late_cause (refusals.Limit l) before now faulty faulty' k calm = absurd (never_refused _ (input_cause (refusals.Limit l) k).1)
-    late_cause r before now faulty faulty' k calm = inr (late q.turns e bytes q.pages q.steps check stages within ds whole r (λ x. x) (of_front r (input_cause r k)))
-
-    -- where no fault is met each status but 0 and 1 is shown by the run, or by its answer
-    pub call_late : (status before now faulty faulty' : ℕ) (line line' : Option (List ℕ)) (errs errs' : ℕ) → IsRefused status words left before now faulty faulty' line line' errs errs' →
-        MeetsNoFault q.job before now faulty faulty' → (status ≡ 1) ⊎ LateEnd q.turns e bytes q.pages q.steps status
-    call_late status before now faulty faulty' line line' errs errs' h calm =
-        subst (λ n. (n ≡ 1) ⊎ LateEnd q.turns e bytes q.pages q.steps n) (sym h.status_is) (late_cause h.refusal before now faulty faulty' h.cause calm)

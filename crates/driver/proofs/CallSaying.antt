@@ -25,20 +25,21 @@ use Rattle.driver.specs.declared.refusal.ProgramLimit.{ProgramLimit}
 use Rattle.driver.specs.declared.refusal.ProgramLimit.TheVariants as limits
 use Rattle.driver.specs.Texts.{SpellsWithin}
 use Rattle.driver.specs.SourceSays.{IsLine}
-use Rattle.driver.specs.ExecEnds.{TextRefuses, TextSays}
+use Rattle.driver.specs.ExecEnds.{ShowsLarge, TextRefuses, TextSays}
 use Rattle.driver.specs.CallStages.{CallCompiling, CallErasing, CallPassesSay, argument_count, its_call_module}
-use Rattle.driver.specs.Exported.{IsLargeForCall, ShowsLargeProgram}
+use Rattle.driver.specs.Exported.{IsLargeForCall}
 use Rattle.driver.specs.CallEnds.{AreRead, CallAnswering, CallSays, CallStops, in_signature, in_arguments, in_call_erasure, in_call_passes, in_call_run, in_call_text, ReadingArguments}
 use Rattle.driver.specs.CalledMain.{IsCallCompiled, IsCalledMain}
 use Rattle.driver.specs.Serve.{IsCheckCause, JobSays, RefusalSays}
 use Rattle.driver.proofs.CallCauses.{one_call_program}
+use Rattle.driver.proofs.Sizes.{large_for_calls}
 use Rattle.driver.proofs.SourceSaying.{names_there}
 
 -- ---- refusals
 
 module _ (turns : ℕ) (e : RawEnv) (bytes : List ℕ) (pages steps : ℕ) where
   -- the stage that refuses shows it of its program
-  its_size : (l : ProgramLimit) → CallStops turns e bytes pages steps (refusals.Program l) → (x : CallErasing turns e) × ShowsLargeProgram x.program (refusals.Program l)
+  its_size : (l : ProgramLimit) → CallStops turns e bytes pages steps (refusals.Program l) → (x : CallErasing turns e) × ShowsLarge x.program (refusals.Program l)
   its_size l (in_signature x w h) = absurd h
   its_size l (in_arguments x h) = absurd h
   its_size l (in_call_erasure y x w h) = absurd h
@@ -46,13 +47,13 @@ module _ (turns : ℕ) (e : RawEnv) (bytes : List ℕ) (pages steps : ℕ) where
   its_size limits.Functions (in_call_passes y x h) = (x, refusals_show_sizes x.program compiling.Functions x.form h)
   its_size limits.Locals (in_call_passes y x h) = (x, refusals_show_sizes x.program compiling.Locals x.form h)
   its_size limits.ModuleBytes (in_call_passes y x h) = absurd h
-  its_size limits.ModuleBytes (in_call_run y x valid h) = (x.before, tt)
+  its_size limits.ModuleBytes (in_call_run y x valid h) = (x.before, large_for_calls turns e pages x h)
   its_size _ (in_call_run y x valid h) = absurd h
   its_size l (in_call_text x valid h) = absurd h
 
   -- and there is one program
   stop_shows_large : (l : ProgramLimit) → CallStops turns e bytes pages steps (refusals.Program l) → IsLargeForCall turns (refusals.Program l) e
-  stop_shows_large l h x = let s = its_size l h in subst (λ P. ShowsLargeProgram P (refusals.Program l)) (one_call_program turns e s.0 x) s.1
+  stop_shows_large l h x = let s = its_size l h in subst (λ P. ShowsLarge P (refusals.Program l)) (one_call_program turns e s.0 x) s.1
 
 -- a refusal of some stage, or want of memory, is a cause
 pub call_says : (q : Request) (r : Refusal) (bytes : List ℕ) (e : RawEnv) → SpellsWithin (front_bytes bytes) e → CallStops q.turns e bytes q.pages q.steps r → RefusalSays Call q r bytes

@@ -31,13 +31,14 @@ use Rattle.driver.specs.declared.refusal.ProgramLimit.{ProgramLimit}
 use Rattle.driver.specs.declared.refusal.ProgramLimit.TheVariants as limits
 use Rattle.driver.specs.Texts.{SpellsWithin}
 use Rattle.driver.specs.SourceEnds.{IsAcceptedWith}
-use Rattle.driver.specs.ExecEnds.{ErasureSays}
+use Rattle.driver.specs.ExecEnds.{ErasureSays, ShowsLarge}
 use Rattle.driver.specs.MadeModule.{BytesSay, BytesRefuse}
 use Rattle.driver.specs.CallStages.{CallPassesSay, Signing, CallErasing, its_call_module}
-use Rattle.driver.specs.Exported.{ExportsNone, by_signature, by_erasure, by_passes, by_bytes, IsLargeForCall, ShowsLargeProgram}
+use Rattle.driver.specs.Exported.{ExportsNone, by_signature, by_erasure, by_passes, by_bytes, IsLargeForCall}
 use Rattle.driver.specs.ExportSays.{CallModuleSays, IsCallModule}
 use Rattle.driver.specs.Serve.{JobSays, RefusalSays}
 use Rattle.driver.proofs.CallCauses.{one_call_program}
+use Rattle.driver.proofs.Sizes.{large_for_calls}
 use Rattle.driver.proofs.MadeSaying.{accepting}
 
 -- a list that isn't empty has an item
@@ -69,19 +70,19 @@ module _ (q : Request) (e : RawEnv) (E : Env) (main T : Term) (u : Account) (acc
 
 module _ (turns : ℕ) (e : RawEnv) (pages : ℕ) where
   -- the stage that refuses shows it of its program
-  its_size : (l : ProgramLimit) → ExportsNone turns e pages (refusals.Program l) → (x : CallErasing turns e) × ShowsLargeProgram x.program (refusals.Program l)
+  its_size : (l : ProgramLimit) → ExportsNone turns e pages (refusals.Program l) → (x : CallErasing turns e) × ShowsLarge x.program (refusals.Program l)
   its_size l (by_signature x w h) = absurd h
   its_size l (by_erasure x w h) = absurd h
   its_size limits.Captured (by_passes x h) = (x, refusals_show_sizes x.program compiling.Captured x.form h)
   its_size limits.Functions (by_passes x h) = (x, refusals_show_sizes x.program compiling.Functions x.form h)
   its_size limits.Locals (by_passes x h) = (x, refusals_show_sizes x.program compiling.Locals x.form h)
   its_size limits.ModuleBytes (by_passes x h) = absurd h
-  its_size limits.ModuleBytes (by_bytes x valid h) = (x.before, tt)
+  its_size limits.ModuleBytes (by_bytes x valid h) = (x.before, large_for_calls turns e pages x h)
   its_size _ (by_bytes x valid h) = absurd h
 
   -- and there is one program
   pub call_shows_large : (l : ProgramLimit) → ExportsNone turns e pages (refusals.Program l) → IsLargeForCall turns (refusals.Program l) e
-  call_shows_large l h x = let s = its_size l h in subst (λ P. ShowsLargeProgram P (refusals.Program l)) (one_call_program turns e s.0 x) s.1
+  call_shows_large l h x = let s = its_size l h in subst (λ P. ShowsLarge P (refusals.Program l)) (one_call_program turns e s.0 x) s.1
 
 -- a refusal of some stage, or want of memory, is a cause
 pub export_says : (q : Request) (r : Refusal) (bytes : List ℕ) (e : RawEnv) → SpellsWithin bytes e → ExportsNone q.turns e q.pages r → RefusalSays Export q r bytes

@@ -18,7 +18,7 @@ use Rattle.driver.proofs.SourceCauses.{eval_status, evaluable_status}
 use Rattle.driver.proofs.ExecCauses.{exec_status}
 use Rattle.driver.proofs.MadeCauses.{make_status}
 use Rattle.driver.proofs.ExportCauses.{export_status}
-use Rattle.driver.proofs.Sizes.{has_module}
+use Rattle.driver.proofs.Sizes.{has_call_module, has_module}
 
 -- the cause without the sizes that it shows
 
@@ -52,13 +52,13 @@ job_status Call q r e status c n h = absurd c
 job_status Export q r e status c n h = export_status q.turns e q.pages r status (export_cause q r e c) n h
 
 -- where a job has an answer, a refusal of it would have its status
-pub answerable_status : (job : Job) (q : Request) (r : Refusal) (e : RawEnv) → IsSpelled e → IsAnswerableBy job q e → IsJobCause job q r e → (IsSure r → ⊥) → 0 ≡ status_of r
-answerable_status Exec q r e spelled h c n = job_status Exec q r e 0 c n (inr h)
-answerable_status Check q r e spelled h c n = job_status Check q r e 0 c n (answerable_ends q.turns e h.0 h.1)
-answerable_status Eval q r e spelled h c n = evaluable_status q.turns r e h c n
-answerable_status Run q r e spelled h c n = absurd h
-answerable_status Compile q r e spelled h c n = job_status Compile q r e 0 c n (inr (inl (has_module q.turns e q.pages spelled h, refl)))
-answerable_status Bench q r e spelled h c n = job_status Bench q r e 0 c n (inr h)
-answerable_status Explain q r e spelled h c n = absurd c
-answerable_status Call q r e spelled h c n = absurd h
-answerable_status Export q r e spelled h c n = job_status Export q r e 0 c n (inr (inl (h, refl)))
+pub answerable_status : (job : Job) (q : Request) (r : Refusal) (e : RawEnv) (bytes : List ℕ) → IsSpelled e → IsAnswerableBy job q e bytes → IsJobCause job q r e → (IsSure r → ⊥) → 0 ≡ status_of r
+answerable_status Exec q r e bytes spelled h c n = job_status Exec q r e 0 c n (inr h)
+answerable_status Check q r e bytes spelled h c n = job_status Check q r e 0 c n (answerable_ends q.turns e h.0 h.1)
+answerable_status Eval q r e bytes spelled h c n = evaluable_status q.turns r e h c n
+answerable_status Run q r e bytes spelled h c n = absurd h
+answerable_status Compile q r e bytes spelled h c n = job_status Compile q r e 0 c n (inr (inl (has_module q.turns e q.pages spelled h, refl)))
+answerable_status Bench q r e bytes spelled h c n = job_status Bench q r e 0 c n (inr h)
+answerable_status Explain q r e bytes spelled h c n = absurd c
+answerable_status Call q r e bytes spelled h c n = absurd c
+answerable_status Export q r e bytes spelled h c n = job_status Export q r e 0 c n (inr (inl (has_call_module q.turns e q.pages spelled h, refl)))

@@ -35,6 +35,7 @@ pub mod PlainAccepted
 pub mod PlainCauses
 pub mod TextCauses
 pub mod CallLate
+pub mod RunFinishing
 pub mod Headlines
 pub mod Checking
 pub mod Explaining

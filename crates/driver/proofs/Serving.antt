@@ -27,22 +27,23 @@ use Rattle.driver.specs.SourceSays.{IsLine}
 use Rattle.driver.specs.Served.{Seen, IsKept, Served}
 use Rattle.driver.specs.Executed.{AnswersData, HasErasedData}
 use Rattle.driver.specs.MadeModule.{TakesModule}
-use Rattle.driver.specs.Serve.{HasAnswer, Concludes, HasWell, input_limit, IsAnswerableBy, IsAnswerOf, IsAsked, IsAskedOn, IsCause, IsCheckCause, IsForJob, IsForReader, IsInput, IsInputOf, IsJudgedWith, IsLate, IsOfText, IsRefused, IsSure, IsTextCause, IsTooLong, MakesModule, MeetsNoFault, ReadsWell, ReadsNothing, Says, SourceTells}
+use Rattle.driver.specs.Serve.{CompilesMain, HasAnswer, Concludes, HasWell, environment_text, input_limit, IsAnswerableBy, IsAnswerOf, IsAsked, IsAskedOn, IsAskedOnText, IsCause, IsCheckCause, IsForJob, IsForReader, IsInput, IsInputOf, IsJudgedWith, IsLate, IsOfText, IsRefused, IsSure, IsTextCause, IsTooLong, MakesModule, MeetsNoFault, ReadsWell, ReadsNothing, Says, SourceTells}
 use Rattle.driver.specs.Headline.{HasValue, ServesValue, EvaluatesErased, IsBoundedBy, GivesErased, IsCountedBy, HasMatches, TakesMatches}
 use Rattle.driver.proofs.CheckCauses.{not_zero}
 use Rattle.driver.proofs.Headlines.{value_data, value_exact, value_valid, value_runs, value_counts, value_text, no_fault, value_memory, value_steps, data_runs, data_memory, data_steps, counted_runs, counted_memory, counted_steps, late_runs, answered_late, answering_late}
-use Rattle.driver.specs.ExecEnds.{ExecEnds, HasModule, IsExecCause, Finishes, Answering, its_shapes}
-use Rattle.driver.proofs.ExecCauses.{finishes, memory_early, length_early, fault_early}
+use Rattle.driver.specs.ExecEnds.{ExecEnds, IsExecCause, Answering, its_shapes}
+use Rattle.driver.specs.Promises.{CanRun, RunFinishes}
+use Rattle.driver.proofs.ExecCauses.{memory_early, length_early, fault_early}
+use Rattle.driver.proofs.RunFinishing.{answer_finishes, memory_finishes, refusal_finishes}
 use Rattle.pc_terms.specs.declared.leaf.FamilyId.{FamilyId}
 use Rattle.driver.specs.Plain.{IsPlainOf}
 use Rattle.driver.specs.Answerable.{IsAnswerable}
 use Rattle.driver.specs.PlainAnswer.{AnswersConstructor, NamesConstructor}
 use Rattle.driver.proofs.JobCauses.{compile_cause, exec_cause}
 use Rattle.driver.proofs.PlainAccepted.{accepted_plain}
-use Rattle.driver.proofs.Sizes.{has_module}
 use Rattle.driver.proofs.PlainCauses.{has_data, no_cause, not_stopped, constructor_text}
 use Rattle.driver.proofs.ExecValues.{text_is, runs as every_run, no_other}
-use Rattle.driver.proofs.TextCauses.{answerable_cause, cause_on, dump_not_sure, is_spelled, module_cause, well_on, well_answered, benched_on, executed_on, made_on, one_cause, judged_cause, no_cause_of_answers, judged_answer}
+use Rattle.driver.proofs.TextCauses.{answerable_cause, cause_on, dump_not_sure, module_cause, well_on, well_answered, benched_on, executed_on, made_on, one_cause, judged_cause, no_cause_of_answers, judged_answer}
 
 four_of : (n : ℕ) → 4 ≤ n → (rest : ℕ) × (n ≡ suc (suc (suc (suc rest))))
 four_of (suc (suc (suc (suc n)))) le = (n, refl)
@@ -263,6 +264,50 @@ module _ {V S K E : Type 0} (view : V → List ℕ) (lines : List ℕ) (status :
           | OfFault e reader rose ↦ absurd (well rose)
         ]
 
+    -- and where they are within the limit
+    data ToldWithin (r : Refusal) : Type 0 where
+      NoMemory : r ≡ refusals.Memory → ToldWithin r
+      OfEnvironment : IsTextCause q.job q r bytes → ToldWithin r
+      NoRead : r ≡ refusals.ReadFault → q.job ≢ Bench → Rose src.faults src'.faults → ToldWithin r
+
+    told_within : length bytes ≤ input_limit → (r : Refusal) → Before (Err r) → ToldWithin r
+    told_within short r s =
+        elim (told r s) [
+          | OfMemory m ↦ NoMemory m
+          | OfText few cause ↦ OfEnvironment cause
+          | OfLength m long ↦ absurd (omega (arith, long, short))
+          | OfFault m reader rose ↦ NoRead m reader rose
+        ]
+
+  -- no fault is met
+  abbrev Calm : Request → Type 0
+  Calm q = MeetsNoFault q.job src.faults src'.faults out.faults out'.faults
+
+  -- ---- where the bytes, or by `call` their front, spell an environment
+
+  module _ (q : Request) (e : RawEnv) (d : IsAskedOnText q e words src.told) where
+    told_on : (r : Refusal) → Before (Err r) → ToldWithin q d.bytes d.asked r
+    told_on = told_within q d.bytes d.asked d.short
+
+    complete : (a : Result V Refusal) → Before a → After a → IsAnswerableBy q.job q e d.bytes → Calm q → (status ≡ 0) ⊎ (status ≡ 1)
+    complete (Ok v) s c h calm = elim (zero_or status) [ inl z ↦ inl z | inr n ↦ absurd (calm.1 (c.part n).1) ]
+    complete (Err r) s c h calm =
+        elim (told_on r s) [
+          | NoMemory m ↦ inr (c.0 ∙ ap status_of m)
+          | OfEnvironment cause ↦ absurd (answerable_cause q.job q d.bytes r e d.spelled h cause)
+          | NoRead m reader rose ↦ absurd (calm.0 reader rose)
+        ]
+
+    -- where main has a module that the job runs
+    finishing : (a : Result V Refusal) → Before a → After a → CanRun q.job q e d.bytes → Calm q → RunFinishes q.job q e d.bytes status
+    finishing (Ok v) s c h calm = elim (zero_or status) [ inl z ↦ answer_finishes q.job q e d.bytes status z | inr n ↦ absurd (calm.1 (c.part n).1) ]
+    finishing (Err r) s c h calm =
+        elim (told_on r s) [
+          | NoMemory m ↦ memory_finishes q.job q e d.bytes status (c.0 ∙ ap status_of m)
+          | OfEnvironment cause ↦ subst (RunFinishes q.job q e d.bytes) (sym c.0) (refusal_finishes q.job q e d.bytes d.spelled h r cause)
+          | NoRead m reader rose ↦ absurd (calm.0 reader rose)
+        ]
+
   -- ---- where the bytes spell an environment
 
   module _ (q : Request) (e : RawEnv) (d : IsAskedOn q e words src.told) where
@@ -270,24 +315,8 @@ module _ {V S K E : Type 0} (view : V → List ℕ) (lines : List ℕ) (status :
     in_range = range q d.bytes d.asked
 
     -- what a refusal says of it
-    data ToldOf (r : Refusal) : Type 0 where
-      NoMemory : r ≡ refusals.Memory → ToldOf r
-      OfEnvironment : IsTextCause q.job q r d.bytes → ToldOf r
-      NoRead : r ≡ refusals.ReadFault → q.job ≢ Bench → Rose src.faults src'.faults → ToldOf r
-
-    -- no fault is met
-    abbrev Calm : Type 0
-    Calm = MeetsNoFault q.job src.faults src'.faults out.faults out'.faults
-
-    told_of : (r : Refusal) → Before (Err r) → ToldOf r
-    told_of r s =
-        let short = d.short in
-        elim (told q d.bytes d.asked r s) [
-          | OfMemory m ↦ NoMemory m
-          | OfText few cause ↦ OfEnvironment cause
-          | OfLength m long ↦ absurd (omega (arith, long, short))
-          | OfFault m reader rose ↦ NoRead m reader rose
-        ]
+    told_of : (r : Refusal) → Before (Err r) → ToldWithin q d.bytes d.asked r
+    told_of = told_within q d.bytes d.asked d.short
 
     -- an answer, as one of `exec` and of `compile`
 
@@ -318,15 +347,6 @@ module _ {V S K E : Type 0} (view : V → List ℕ) (lines : List ℕ) (status :
           | NoMemory y ↦ (let one : status ≡ 1 = c.0 ∙ ap status_of y in omega (arith, one, z, big))
           | NoRead y reader rose ↦ (let three : status ≡ 3 = c.0 ∙ ap status_of y in omega (arith, three, z, big))
           | OfEnvironment cause ↦ differs (module_cause q d.bytes e r d.spelled makes cause) (sym c.0 ∙ z)
-        ]
-
-    complete : (a : Result V Refusal) → Before a → After a → IsAnswerableBy q.job q e → Calm → (status ≡ 0) ⊎ (status ≡ 1)
-    complete (Ok v) s c h calm = elim (zero_or status) [ inl z ↦ inl z | inr n ↦ absurd (calm.1 (c.part n).1) ]
-    complete (Err r) s c h calm =
-        elim (told_of r s) [
-          | NoMemory m ↦ inr (c.0 ∙ ap status_of m)
-          | OfEnvironment cause ↦ absurd (answerable_cause q.job q d.bytes r e d.spelled h cause)
-          | NoRead m reader rose ↦ absurd (calm.0 reader rose)
         ]
 
     -- where main's erased program evaluates to data
@@ -367,7 +387,7 @@ module _ {V S K E : Type 0} (view : V → List ℕ) (lines : List ℕ) (status :
         not_stopped q rest is e h r (compile_cause q r e (cause_on Compile q d.bytes e r d.spelled it)) (dump_not_sure Compile q d.bytes e r d.spelled it)
 
     plain : (a : Result V Refusal) → Before a → After a → (h : IsAnswerable e) → MakesModule q.job → 4 ≤ q.turns → (q.job ≢ Compile → 1052672 ≤ q.steps) →
-        AnswersConstructor q e h status Calm out.told out'.told
+        AnswersConstructor q e h status (Calm q) out.told out'.told
     plain (Ok v) s c h makes four enough =
         let (rest, is) = four_of q.turns four in
         record {
@@ -401,25 +421,6 @@ module _ {V S K E : Type 0} (view : V → List ℕ) (lines : List ℕ) (status :
         let names = subst (λ i. NamesConstructor e i n t.0) w.1 (subst (λ j. NamesConstructor e (w.0).id j t.0) w.2 t.1) in
         (t.0, names, subst (Appends out.told out'.told) t.2 (c.whole z).0)
     named (Err r) s c f n exec four enough p z = absurd (not_zero r (sym c.0 ∙ z))
-
-    -- where main has a module
-
-    finished : HasModule q.turns e q.pages → (r : Refusal) → RunsModule q.job → IsTextCause q.job q r d.bytes → Finishes q.turns e q.pages q.steps (status_of r)
-    finished h r (inl exec) cause =
-        let it = subst (λ j. IsTextCause j q r d.bytes) exec cause in
-        finishes q.turns e q.pages q.steps (has_module q.turns e q.pages (is_spelled d.bytes e d.spelled) h) r (exec_cause q r e (cause_on Exec q d.bytes e r d.spelled it)) (dump_not_sure Exec q d.bytes e r d.spelled it)
-    finished h r (inr bench) cause =
-        let it = subst (λ j. IsTextCause j q r d.bytes) bench cause in
-        finishes q.turns e q.pages q.steps (has_module q.turns e q.pages (is_spelled d.bytes e d.spelled) h) r (exec_cause q r e (cause_on Bench q d.bytes e r d.spelled it)) (dump_not_sure Bench q d.bytes e r d.spelled it)
-
-    finishing : (a : Result V Refusal) → Before a → After a → RunsModule q.job → HasModule q.turns e q.pages → Calm → Finishes q.turns e q.pages q.steps status
-    finishing (Ok v) s c runs h calm = elim (zero_or status) [ inl z ↦ record { among = (0, lit< tt, sym z); many = λ y. absurd (omega (arith, y, z)) } | inr n ↦ absurd (calm.1 (c.part n).1) ]
-    finishing (Err r) s c runs h calm =
-        elim (told_of r s) [
-          | NoMemory m ↦ (let one : status ≡ 1 = c.0 ∙ ap status_of m in record { among = (1, lit< tt, sym one); many = λ z. absurd (omega (arith, one, z)) })
-          | OfEnvironment cause ↦ subst (Finishes q.turns e q.pages q.steps) (sym c.0) (finished h r runs cause)
-          | NoRead m reader rose ↦ absurd (calm.0 reader rose)
-        ]
 
     -- where main, of a first-order type, evaluates to a value
     valued : (a : Result V Refusal) → Before a → After a → (n : ℕ) → MakesModule q.job → (h : HasValue q.turns e n) → ServesValue q e n status h out.told out'.told
@@ -488,7 +489,7 @@ module _ {V S K E : Type 0} (view : V → List ℕ) (lines : List ℕ) (status :
     }
     matched (Err r) s c matches h = record { runs = late_runs q in_range d.bytes e d.spelled matches h; figure = answering_late q in_range d.bytes e d.spelled matches h; late = λ runs more z. absurd (not_zero r (sym c.0 ∙ z)) }
 
-  well : (a : Result V Refusal) → Before a → After a → (q : Request) (bytes : List ℕ) → IsAsked q words src.told bytes → MakesModule q.job → IsLate status → HasWell bytes
+  well : (a : Result V Refusal) → Before a → After a → (q : Request) (bytes : List ℕ) → IsAsked q words src.told bytes → CompilesMain q.job → IsLate status → HasWell (environment_text q.job bytes)
   well (Ok v) s c q bytes asked makes late = well_answered q bytes (view v) makes (answer_of q bytes asked v s).1
   well (Err r) s c q bytes asked makes late =
       let at = subst IsLate c.0 late in
@@ -515,7 +516,7 @@ module _ {V S K E : Type 0} (view : V → List ℕ) (lines : List ℕ) (status :
     values = λ q e ds n k (d, makes) h. values q e d a s c ds n k makes h;
     plain = λ q e h (d, makes) four enough. plain q e d a s c h makes four enough;
     named = λ q e f n d exec four enough p z. named q e d a s c f n exec four enough p z;
-    finishes = λ q e d runs h calm. finishing q e d a s c runs h calm;
+    finishes = λ q e d h calm. finishing q e d a s c h calm;
     well = well a s c;
     headline = λ q e n (d, makes) h. valued q e d a s c n makes h;
     bounded = λ q e n (d, makes) h. bounded q e d a s c n makes h;

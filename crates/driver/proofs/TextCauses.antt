@@ -24,27 +24,27 @@ use Rattle.driver.specs.Lines.{status_of}
 use Rattle.driver.specs.Texts.{SpellsWithin, Refuses}
 use Rattle.driver.specs.Judged.{IsAcceptedBy, EndsWith}
 use Rattle.driver.specs.SourceEnds.{IsSourceRun, source_status}
-use Rattle.driver.specs.ExecEnds.{Answering, Compiling, ExecEnds, IsExecCause, its_module, its_shapes}
+use Rattle.driver.specs.ExecEnds.{Accepting, Answering, Compiling, ExecEnds, IsExecCause, its_module, its_shapes}
 use Rattle.driver.specs.Executed.{IsExecuted}
 use Rattle.driver.specs.Benched.{IsBenched}
 use Rattle.driver.specs.Bench.{lines_of}
 use Rattle.driver.specs.SourceSays.{IsLine}
 use Rattle.driver.specs.MadeModule.{IsMade, MakeEndsWith}
-use Rattle.driver.specs.Exported.{ExportEndsWith, IsLargeForCall}
+use Rattle.driver.specs.Exported.{ExportEndsWith, IsExportCause, IsLargeForCall}
 use Rattle.driver.specs.CallEnds.{CallJobEnds, IsCallStop}
 use Rattle.driver.specs.Called.{CallIsJudged, IsCallAnswer}
 use Rattle.command_line.specs.declared.line.Request.{Request}
 use Rattle.wasm_core.specs.ModuleGrammar.{SpellsModule}
 use Rattle.wasm_core.specs.ShortestBytes.{most_bytes}
-use Rattle.driver.specs.Serve.{IsAnswerableBy, IsAnswerOf, HasWell, IsLate, IsCallCause, IsCheckCause, IsDumpCause, IsDumpJudgedWith, IsJobCause, IsTextCause, IsSure, IsJudgedWith, MakesModule}
+use Rattle.driver.specs.Serve.{CompilesMain, IsAnswerableBy, IsAnswerOf, HasWell, IsLate, IsCallCause, IsCheckCause, IsDumpCause, IsDumpJudgedWith, IsJobCause, IsTextCause, IsSure, IsJudgedWith, IsWell, MakesModule, environment_text}
 use Rattle.driver.proofs.RunCauses.{run_judged_answer, run_judged_cause, run_not_sure}
 use Rattle.driver.proofs.CheckCauses.{accepted_status, not_zero}
 use Rattle.driver.proofs.SourceCauses.{accepted_by, same_run}
 use Rattle.driver.proofs.ExecCauses.{executed_status, check_early, text_early, well_of}
-use Rattle.driver.proofs.JobCauses.{answerable_status, call_cause, compile_cause, exec_cause, job_status}
+use Rattle.driver.proofs.JobCauses.{answerable_status, call_cause, compile_cause, exec_cause, export_cause, job_status}
 use Rattle.driver.proofs.MadeCauses.{made_status, make_cause}
-use Rattle.driver.proofs.ExportCauses.{exported_status}
-use Rattle.driver.proofs.CallJobCauses.{call_status, called_status}
+use Rattle.driver.proofs.ExportCauses.{export_accepts, exported_status}
+use Rattle.driver.proofs.CallJobCauses.{call_accepts, call_status, called_status}
 
 abbrev pub verdict_on : List ℕ → Verdict
 verdict_on bytes = verdict (length bytes) (tokens_of bytes)
@@ -123,17 +123,21 @@ call_judged_cause : (q : Request) (bytes : List ℕ) (status : ℕ) (r : Refusal
 call_judged_cause q bytes status r (e, s, ends) h =
     (let c = shown_by (front_bytes bytes) e r s (of_call q bytes r h) in call_status q.turns e bytes q.pages q.steps r status (call_cause q r bytes e c.0) c.1 ends)
 
+pub call_cause_on : (q : Request) (bytes : List ℕ) (e : RawEnv) (r : Refusal) → SpellsWithin (front_bytes bytes) e → IsCallCause q r bytes →
+    (IsCheckCause q.turns r e ⊎ IsCallStop q.turns q.pages q.steps bytes r e) × (IsSure r → ⊥)
+call_cause_on q bytes e r s h = (let c = shown_by (front_bytes bytes) e r s (of_call q bytes r h) in (call_cause q r bytes e c.0, c.1))
+
 -- a cause, as one of the environment that the text spells
 pub cause_on : (job : Job) (q : Request) (bytes : List ℕ) (e : RawEnv) (r : Refusal) → SpellsWithin bytes e → IsDumpCause job q r bytes → IsJobCause job q r e
 cause_on job q bytes e r s h = (shown_by bytes e r s (of job q bytes r h)).0
 
 -- a text whose environment has an answer has no cause
-dump_answerable : (job : Job) (q : Request) (bytes : List ℕ) (r : Refusal) (e : RawEnv) → SpellsWithin bytes e → IsAnswerableBy job q e → IsDumpCause job q r bytes → ⊥
-dump_answerable job q bytes r e s answerable h = (let c = shown_by bytes e r s (of job q bytes r h) in not_zero r (sym (answerable_status job q r e (is_spelled bytes e s) answerable c.0 c.1)))
+dump_answerable : (job : Job) (q : Request) (bytes : List ℕ) (r : Refusal) (e : RawEnv) → SpellsWithin bytes e → IsAnswerableBy job q e bytes → IsDumpCause job q r bytes → ⊥
+dump_answerable job q bytes r e s answerable h = (let c = shown_by bytes e r s (of job q bytes r h) in not_zero r (sym (answerable_status job q r e bytes (is_spelled bytes e s) answerable c.0 c.1)))
 
-pub answerable_cause : (job : Job) (q : Request) (bytes : List ℕ) (r : Refusal) (e : RawEnv) → SpellsWithin bytes e → IsAnswerableBy job q e → IsTextCause job q r bytes → ⊥
+pub answerable_cause : (job : Job) (q : Request) (bytes : List ℕ) (r : Refusal) (e : RawEnv) → SpellsWithin (environment_text job bytes) e → IsAnswerableBy job q e bytes → IsTextCause job q r bytes → ⊥
 answerable_cause Run q bytes r e s answerable h = answerable
-answerable_cause Call q bytes r e s answerable h = answerable
+answerable_cause Call q bytes r e s answerable h = not_zero r (sym (call_judged_cause q bytes 0 r (e, s, inr answerable) h))
 answerable_cause job q bytes r e s answerable h = dump_answerable job q bytes r e s answerable h
 
 -- ---- a job that makes main's module
@@ -144,31 +148,59 @@ module_cause q bytes e r s (inl is) h = exec_cause q r e (cause_on Exec q bytes 
 module_cause q bytes e r s (inr (inl is)) h = make_cause q.turns q.pages q.steps r e (compile_cause q r e (cause_on Compile q bytes e r s (subst (λ j. IsTextCause j q r bytes) is h)))
 module_cause q bytes e r s (inr (inr is)) h = exec_cause q r e (cause_on Bench q bytes e r s (subst (λ j. IsTextCause j q r bytes) is h))
 
--- where it refuses after the check the text spells an environment that is well formed
+-- ---- a job that compiles main
 
-well_of_dump : (job : Job) (q : Request) (bytes : List ℕ) (r : Refusal) → ((e : RawEnv) → IsJobCause job q r e → IsCheckCause q.turns r e ⊎ IsExecCause q.turns q.pages q.steps r e) → IsDumpCause job q r bytes →
-    IsLate (status_of r) → HasWell bytes
-well_of_dump job q bytes r causes h late =
-    elim (of job q bytes r h) [
-      | OfRefusal x v k ↦ absurd (text_early x (subst (λ y. IsLate (status_of y)) k late))
-      | OfCheck f t c n ↦ elim (causes f c) [ inl x ↦ absurd (check_early q.turns r f x late) | inr x ↦ (f, t, well_of q.turns f q.pages q.steps r x.1) ]
-    ]
+accepted_well : {turns : ℕ} {e : RawEnv} → Accepting turns e → IsWell e
+accepted_well k = record { kept = k.kept; type = k.type; checked = k.checked }
 
-pub well_on : (q : Request) (bytes : List ℕ) (r : Refusal) → MakesModule q.job → IsTextCause q.job q r bytes → IsLate (status_of r) → HasWell bytes
-well_on q bytes r (inl is) h late = well_of_dump Exec q bytes r (exec_cause q r) (subst (λ j. IsTextCause j q r bytes) is h) late
-well_on q bytes r (inr (inl is)) h late = well_of_dump Compile q bytes r (λ e c. make_cause q.turns q.pages q.steps r e (compile_cause q r e c)) (subst (λ j. IsTextCause j q r bytes) is h) late
-well_on q bytes r (inr (inr is)) h late = well_of_dump Bench q bytes r (exec_cause q r) (subst (λ j. IsTextCause j q r bytes) is h) late
+-- what shows a refusal of it after the check has an environment that is well formed
+
+exec_well : (q : Request) (r : Refusal) (e : RawEnv) → IsCheckCause q.turns r e ⊎ IsExecCause q.turns q.pages q.steps r e → IsCheckCause q.turns r e ⊎ IsWell e
+exec_well q r e (inl c) = inl c
+exec_well q r e (inr c) = inr (well_of q.turns e q.pages q.steps r c.1)
+
+export_well : (q : Request) (r : Refusal) (e : RawEnv) → IsCheckCause q.turns r e ⊎ IsExportCause q.turns q.pages r e → IsCheckCause q.turns r e ⊎ IsWell e
+export_well q r e (inl c) = inl c
+export_well q r e (inr c) = inr (accepted_well (export_accepts q.turns e q.pages r c.1))
+
+call_well : (q : Request) (r : Refusal) (bytes : List ℕ) (e : RawEnv) → IsCheckCause q.turns r e ⊎ IsCallStop q.turns q.pages q.steps bytes r e → IsCheckCause q.turns r e ⊎ IsWell e
+call_well q r bytes e (inl c) = inl c
+call_well q r bytes e (inr c) = inr (accepted_well (call_accepts q.turns e bytes q.pages q.steps r c.1))
+
+-- so where it refuses after the check the text spells such an environment
+
+late_well : {P : RawEnv → Type 0} (q : Request) (bytes : List ℕ) (r : Refusal) → ((e : RawEnv) → P e → IsCheckCause q.turns r e ⊎ IsWell e) → Of P bytes r → IsLate (status_of r) → HasWell bytes
+late_well q bytes r causes (OfRefusal x v k) late = absurd (text_early x (subst (λ y. IsLate (status_of y)) k late))
+late_well q bytes r causes (OfCheck f t c n) late = elim (causes f c) [ inl x ↦ absurd (check_early q.turns r f x late) | inr w ↦ (f, t, w) ]
+
+-- by which job it is
+
+abbrev Cause : Request → Refusal → List ℕ → Job → Type 0
+Cause q r bytes job = IsTextCause job q r bytes
+
+abbrev Well : List ℕ → Job → Type 0
+Well bytes job = HasWell (environment_text job bytes)
+
+pub well_on : (q : Request) (bytes : List ℕ) (r : Refusal) → CompilesMain q.job → IsTextCause q.job q r bytes → IsLate (status_of r) → HasWell (environment_text q.job bytes)
+well_on q bytes r (inl (inl is)) h late = subst (Well bytes) (sym is) (late_well q bytes r (λ e c. exec_well q r e (exec_cause q r e c)) (of Exec q bytes r (subst (Cause q r bytes) is h)) late)
+well_on q bytes r (inl (inr (inl is))) h late =
+    subst (Well bytes) (sym is) (late_well q bytes r (λ e c. exec_well q r e (make_cause q.turns q.pages q.steps r e (compile_cause q r e c))) (of Compile q bytes r (subst (Cause q r bytes) is h)) late)
+well_on q bytes r (inl (inr (inr is))) h late = subst (Well bytes) (sym is) (late_well q bytes r (λ e c. exec_well q r e (exec_cause q r e c)) (of Bench q bytes r (subst (Cause q r bytes) is h)) late)
+well_on q bytes r (inr (inl is)) h late = subst (Well bytes) (sym is) (late_well q bytes r (λ e c. export_well q r e (export_cause q r e c)) (of Export q bytes r (subst (Cause q r bytes) is h)) late)
+well_on q bytes r (inr (inr is)) h late = subst (Well bytes) (sym is) (late_well q (front_bytes bytes) r (λ e c. call_well q r bytes e (call_cause q r bytes e c)) (of_call q bytes r (subst (Cause q r bytes) is h)) late)
 
 -- and where it has an answer
 
-well_before : (bytes : List ℕ) (turns : ℕ) (e : RawEnv) → SpellsWithin bytes e → Compiling turns e → HasWell bytes
-well_before bytes turns e s x = let k = x.before.before.before in (e, s, record { kept = k.kept; type = k.type; checked = k.checked })
+abbrev Answer : Request → (bytes text : List ℕ) → Job → Type 0
+Answer q bytes text job = IsAnswerOf job q bytes text
 
-pub well_answered : (q : Request) (bytes text : List ℕ) → MakesModule q.job → IsAnswerOf q.job q bytes text → HasWell bytes
-well_answered q bytes text (inl is) a = (let x : IsExecuted q.turns q.pages q.steps bytes text = subst (λ j. IsAnswerOf j q bytes text) is a in well_before bytes q.turns x.environment x.spelled x.stages.before)
-well_answered q bytes text (inr (inl is)) a = (let x : IsMade q.turns q.pages bytes text = subst (λ j. IsAnswerOf j q bytes text) is a in well_before bytes q.turns x.environment x.spelled x.stages)
-well_answered q bytes text (inr (inr is)) a =
-    (let b : IsBenched q.turns q.pages q.steps bytes text = subst (λ j. IsAnswerOf j q bytes text) is a in well_before bytes q.turns b.executed.environment b.executed.spelled b.executed.stages.before)
+pub well_answered : (q : Request) (bytes text : List ℕ) → CompilesMain q.job → IsAnswerOf q.job q bytes text → HasWell (environment_text q.job bytes)
+well_answered q bytes text (inl (inl is)) a = (let x : Answer q bytes text Exec = subst (Answer q bytes text) is a in subst (Well bytes) (sym is) (x.environment, x.spelled, accepted_well x.stages.before.before.before.before))
+well_answered q bytes text (inl (inr (inl is))) a = (let x : Answer q bytes text Compile = subst (Answer q bytes text) is a in subst (Well bytes) (sym is) (x.environment, x.spelled, accepted_well x.stages.before.before.before))
+well_answered q bytes text (inl (inr (inr is))) a =
+    (let x : Answer q bytes text Bench = subst (Answer q bytes text) is a in subst (Well bytes) (sym is) (x.executed.environment, x.executed.spelled, accepted_well x.executed.stages.before.before.before.before))
+well_answered q bytes text (inr (inl is)) a = (let x : Answer q bytes text Export = subst (Answer q bytes text) is a in subst (Well bytes) (sym is) (x.environment, x.spelled, accepted_well x.stages.before.before.before))
+well_answered q bytes text (inr (inr is)) a = (let x : Answer q bytes text Call = subst (Answer q bytes text) is a in subst (Well bytes) (sym is) (x.environment, x.spelled, accepted_well x.stages.before.before.before.before))
 
 -- a text that spells an environment has no sure cause
 pub dump_not_sure : (job : Job) (q : Request) (bytes : List ℕ) (e : RawEnv) (r : Refusal) → SpellsWithin bytes e → IsDumpCause job q r bytes → IsSure r → ⊥

@@ -2,9 +2,8 @@
 use Rattle.std.specs.Prelude.{ℕ, ◌≡◌, ◌≢◌, ◌⊎◌, List, false, Err}
 use Rattle.pc_rules.specs.declared.meter.Account.{Account}
 use Rattle.first_order.specs.DirectedSignature.{signature_search}
-use Rattle.lambda_box.specs.BoxProgram.{BoxProgram}
-use Rattle.compile.specs.declared.fault.CompileFault.TheVariants as compiling
-use Rattle.source_limits.specs.PassedSizes.{ShowsSize}
+use Rattle.headline.specs.SourceWords.{source_words}
+use Rattle.source_limits.specs.PassedSizes.{IsSmallProgram}
 use Rattle.wasm_core.specs.ModuleGrammar.{SpellsModule}
 use Rattle.wasm_core.specs.ModuleTyping.{IsValid}
 use Rattle.wasm_core.specs.ShortestBytes.{module_bytes}
@@ -12,11 +11,10 @@ use Rattle.module_run.specs.Ends.{IsSmall}
 use Rattle.dump_reader.specs.declared.environment.RawEnv.{RawEnv}
 use Rattle.driver.specs.declared.refusal.Refusal.{Refusal}
 use Rattle.driver.specs.declared.refusal.Refusal.TheVariants as refusals
-use Rattle.driver.specs.declared.refusal.ProgramLimit.TheVariants as limits
 use Rattle.driver.specs.Texts.{SpellsWithin}
 use Rattle.driver.specs.Judged.{EndsWith}
 use Rattle.driver.specs.Lines.{status_of}
-use Rattle.driver.specs.ExecEnds.{Accepting, ErasureSays, PassesSay, erasure_of}
+use Rattle.driver.specs.ExecEnds.{Accepting, ErasureSays, PassesSay, ShowsLarge, erasure_of}
 use Rattle.driver.specs.MadeModule.{BytesRefuse}
 use Rattle.driver.specs.CallStages.{SignatureSays, Signing, CallErasing, CallCompiling, its_call_module}
 
@@ -42,15 +40,9 @@ pub data ExportsNone (turns : ℕ) (e : RawEnv) (pages : ℕ) (r : Refusal) : Ty
 abbrev pub IsExportCause : (turns pages : ℕ) → Refusal → RawEnv → Type 0
 IsExportCause turns pages r e = (r ≢ refusals.Memory) × ExportsNone turns e pages r
 
--- by a refusal for the program, the program is large after saturation: it has lambdas under over 1,000 binders, or too many nodes
-abbrev pub ShowsLargeProgram : BoxProgram → Refusal → Type 0
-ShowsLargeProgram P (refusals.Program limits.Captured) = ShowsSize P compiling.Captured
-ShowsLargeProgram P (refusals.Program limits.Functions) = ShowsSize P compiling.Functions
-ShowsLargeProgram P (refusals.Program limits.Locals) = ShowsSize P compiling.Locals
-ShowsLargeProgram P r = Unit {0}
-
+-- a refusal for the program or for its module shows the same of the program's size as by `compile`
 abbrev pub IsLargeForCall : (turns : ℕ) → Refusal → RawEnv → Type 0
-IsLargeForCall turns r e = (x : CallErasing turns e) → ShowsLargeProgram x.program r
+IsLargeForCall turns r e = (x : CallErasing turns e) → ShowsLarge x.program r
 
 -- ---- how it ends
 
@@ -65,6 +57,17 @@ pub record IsExportable (turns : ℕ) (e : RawEnv) (pages : ℕ) : Type 0 where
   pub stages : CallCompiling turns e
   pub small : IsSmall (its_call_module pages stages)
   pub within : CallRulesAreWithin turns e
+
+-- the same, and the program is small, by the source's words: no term of it is too deep after saturation, no lambda under over 1,000 binders, and its nodes are few, alone and with the words
+pub record IsSmallCallSource (turns : ℕ) (e : RawEnv) : Type 0 where
+  pub check : EndsWith turns e 0
+  pub stages : CallErasing turns e
+  pub sizes : IsSmallProgram stages.program (source_words stages.before.before.kept e.main)
+  pub within : CallRulesAreWithin turns e
+
+-- main has a module for calls, as the passes or the sizes show
+abbrev pub HasCallModule : (turns : ℕ) → RawEnv → (pages : ℕ) → Type 0
+HasCallModule turns e pages = IsExportable turns e pages ⊎ IsSmallCallSource turns e
 
 -- the check accepts, a stage after it refuses with this status, and the rules pass no limit
 pub record IsExportStopped (turns : ℕ) (e : RawEnv) (pages status : ℕ) : Type 0 where

@@ -16,6 +16,7 @@ pub mod CallStages
 pub mod Exported
 pub mod CallEnds
 pub mod Called
+pub mod CallFinishes
 pub mod RunFile
 pub mod Explained
 pub mod Serve

@@ -4,7 +4,8 @@ use Rattle.std.specs.Io.KnownBytes.{Appends}
 use Rattle.kio.specs.Causes.{Rose}
 use Rattle.pc_terms.specs.declared.leaf.FamilyId.{FamilyId}
 use Rattle.dump_reader.specs.declared.environment.RawEnv.{RawEnv}
-use Rattle.command_line.specs.declared.job.Job.TheVariants.{Bench, Compile, Exec}
+use Rattle.command_line.specs.declared.job.Job.{Job}
+use Rattle.command_line.specs.declared.job.Job.TheVariants.{Bench, Call, Compile, Exec}
 use Rattle.command_line.specs.declared.line.Request.{Request}
 use Rattle.reports.specs.Shown.{Shown}
 use Rattle.reports.specs.declared.fact.Fact.{Fact}
@@ -13,12 +14,12 @@ use Rattle.driver.specs.ReportLines.{told_lines}
 use Rattle.driver.specs.Takes.{TakesLine}
 use Rattle.driver.specs.declared.refusal.Refusal.{Refusal}
 use Rattle.driver.specs.Lines.{status_of}
-use Rattle.driver.specs.Bench.{RunsModule}
+use Rattle.driver.specs.CallFinishes.{CanBeCalled, CallFinishes}
 use Rattle.driver.specs.ExecEnds.{HasModule, Finishes}
 use Rattle.driver.specs.Plain.{IsPlainOf}
 use Rattle.driver.specs.Answerable.{IsAnswerable}
 use Rattle.driver.specs.PlainAnswer.{AnswersConstructor, NamesConstructor}
-use Rattle.driver.specs.Serve.{AsksModule, IsAnswerableBy, IsAsked, IsAskedOn, IsAskedWithin, IsJudgedWith, IsRefused, IsSure, IsTextCause, MeetsNoFault, ReadsWell, input_limit}
+use Rattle.driver.specs.Serve.{AsksModule, CompilesMain, HasWell, IsAnswerableBy, IsAsked, IsAskedOn, IsAskedOnText, IsAskedWithin, IsJudgedWith, IsLate, IsRefused, IsSure, IsTextCause, MeetsNoFault, ReadsWell, environment_text, input_limit}
 
 -- on another status than 0 a refusal of that status has its cause, and its line goes to err; the functions tell bytes and counts of the objects
 abbrev pub ShowsCause : {S K E : Type 0} (status : ℕ) (words : List (List ℕ)) (left : S → Option (List ℕ)) (reads : S → ℕ) (src src' : S) (writes : K → ℕ) (out out' : K)
@@ -35,7 +36,7 @@ EndsAsJudged status words left before now faults faults' =
 -- on an environment for which the job has an answer, with no fault, the status is 0, or 1 for want of memory
 abbrev pub AnswersWhereItCan : (status : ℕ) (words : List (List ℕ)) (left : Option (List ℕ)) (before now faults faults' : ℕ) → Type 0
 AnswersWhereItCan status words left before now faults faults' =
-    (q : Request) (e : RawEnv) → IsAskedOn q e words left → IsAnswerableBy q.job q e → MeetsNoFault q.job before now faults faults' → (status ≡ 0) ⊎ (status ≡ 1)
+    (q : Request) (e : RawEnv) (d : IsAskedOnText q e words left) → IsAnswerableBy q.job q e d.bytes → MeetsNoFault q.job before now faults faults' → (status ≡ 0) ⊎ (status ≡ 1)
 
 -- on a plain environment that keeps all rules a job that makes main's module, given four turns and 1,052,672 steps, answers main's constructor, or its module
 abbrev pub AnswersPlain : (status : ℕ) (words : List (List ℕ)) (left : Option (List ℕ)) (before now faults faults' : ℕ) (taken taken' : Option (List ℕ)) → Type 0
@@ -49,11 +50,28 @@ NamesPlain status words left taken taken' =
     (q : Request) (e : RawEnv) (f : FamilyId) (n : ℕ) → IsAskedOn q e words left →
     q.job ≡ Exec → 4 ≤ q.turns → 1052672 ≤ q.steps → IsPlainOf e f n → status ≡ 0 → (name : List ℕ) × NamesConstructor e f n name × Appends taken taken' (name ++ 10 ∷ [])
 
--- where main has a module, and no fault is met, `exec` and `bench` have a status that its run shows, or want memory
+-- main has a module that a job runs: by `exec` and `bench` its own, by `call` the one for calls, with arguments of its signature behind the environment
+abbrev pub CanRun : Job → Request → RawEnv → List ℕ → Type 0
+CanRun Exec q e bytes = HasModule q.turns e q.pages
+CanRun Bench q e bytes = HasModule q.turns e q.pages
+CanRun Call q e bytes = CanBeCalled q.turns e bytes q.pages
+CanRun _ q e bytes = ⊥
+
+-- the status is one that this run shows, or that of an answer or of want of memory
+abbrev pub RunFinishes : Job → Request → RawEnv → List ℕ → (status : ℕ) → Type 0
+RunFinishes Call q e bytes status = CallFinishes q.turns e bytes q.pages q.steps status
+RunFinishes _ q e bytes status = Finishes q.turns e q.pages q.steps status
+
+-- where main has a module, and no fault is met, `exec`, `bench` and `call` have a status that its run shows, or want memory
 abbrev pub EndsAsRun : (status : ℕ) (words : List (List ℕ)) (left : Option (List ℕ)) (before now faults faults' : ℕ) → Type 0
 EndsAsRun status words left before now faults faults' =
-    (q : Request) (e : RawEnv) → IsAskedOn q e words left →
-    RunsModule q.job → HasModule q.turns e q.pages → MeetsNoFault q.job before now faults faults' → Finishes q.turns e q.pages q.steps status
+    (q : Request) (e : RawEnv) (d : IsAskedOnText q e words left) →
+    CanRun q.job q e d.bytes → MeetsNoFault q.job before now faults faults' → RunFinishes q.job q e d.bytes status
+
+-- by a job that compiles main, on each status that comes after the check the environment is well formed
+abbrev pub IsWellWhereLate : (status : ℕ) (words : List (List ℕ)) (left : Option (List ℕ)) → Type 0
+IsWellWhereLate status words left =
+    (q : Request) (bytes : List ℕ) → IsAsked q words left bytes → CompilesMain q.job → IsLate status → HasWell (environment_text q.job bytes)
 
 -- where the text itself shows a refusal, and no fault comes in reading, the status is that of this refusal, or 1 for want of memory
 abbrev pub EndsAsText : (status : ℕ) (words : List (List ℕ)) (left : Option (List ℕ)) (before now : ℕ) → Type 0

@@ -29,9 +29,9 @@ use Rattle.driver.specs.Takes.{TakesLine, TakesPrefix}
 use Rattle.driver.specs.Executed.{IsExecuted}
 use Rattle.driver.specs.Benched.{IsBenched}
 use Rattle.driver.specs.MadeModule.{IsMade, IsMakeCause, MakeEndsWith}
-use Rattle.driver.specs.Exported.{IsExported, IsExportCause, IsLargeForCall, IsExportable, ExportEndsWith}
+use Rattle.driver.specs.Exported.{IsExported, IsExportCause, IsLargeForCall, HasCallModule, ExportEndsWith}
 use Rattle.driver.specs.CallEnds.{IsCallStop}
-use Rattle.driver.specs.Called.{IsCallAnswer, CallIsJudged}
+use Rattle.driver.specs.Called.{IsCallAnswer, CallIsJudged, CallRestEndsWith}
 use Rattle.driver.specs.RunFile.{IsRunAnswer, IsRunCause, RunEndsWith}
 use Rattle.driver.specs.Explained.{IsExplained}
 use Rattle.driver.specs.Judged.{IsAcceptedBy, IsSpentBy, IsTooDeepFor, IsBrokenBy, EndsWith}
@@ -281,6 +281,18 @@ pub record IsAskedOn (q : Request) (e : RawEnv) (words : List (List ℕ)) (left 
   pub short : length bytes ≤ input_limit
   pub spelled : SpellsWithin bytes e
 
+-- the bytes of a job's input that spell its environment: by `call` those in front of the arguments
+abbrev pub environment_text : Job → List ℕ → List ℕ
+environment_text Call bytes = front_bytes bytes
+environment_text _ bytes = bytes
+
+-- The words ask for this, and the source tells bytes within the limit, those of which that spell the job's environment spell this one.
+pub record IsAskedOnText (q : Request) (e : RawEnv) (words : List (List ℕ)) (left : Option (List ℕ)) : Type 0 where
+  pub bytes : List ℕ
+  pub asked : IsAsked q words left bytes
+  pub short : length bytes ≤ input_limit
+  pub spelled : SpellsWithin (environment_text q.job bytes) e
+
 -- The source's count of faults doesn't rise, where the job reads.
 abbrev pub ReadsWell : Job → (before now : ℕ) → Type 0
 ReadsWell job before now = job ≢ Bench → ¬ Rose before now
@@ -293,7 +305,11 @@ MeetsNoFault job before now faults faults' = ReadsWell job before now × ¬ Rose
 abbrev pub MakesModule : Job → Type 0
 MakesModule job = (job ≡ Exec) ⊎ ((job ≡ Compile) ⊎ (job ≡ Bench))
 
--- the words ask for such a job, on this environment
+-- or one for calls: `call` runs it, and `export` writes it
+abbrev pub CompilesMain : Job → Type 0
+CompilesMain job = MakesModule job ⊎ ((job ≡ Export) ⊎ (job ≡ Call))
+
+-- the words ask for a job that makes main's module, on this environment
 abbrev pub AsksModule : (q : Request) (e : RawEnv) (words : List (List ℕ)) (left : Option (List ℕ)) → Type 0
 AsksModule q e words left = IsAskedOn q e words left × MakesModule q.job
 
@@ -319,19 +335,19 @@ IsJudgedWith Run q status bytes = RunEndsWith q.pages q.steps bytes status
 IsJudgedWith Call q status bytes = CallIsJudged q status bytes
 IsJudgedWith job q status bytes = IsDumpJudgedWith job q status bytes
 
--- an environment on which the job has an answer: by `exec` one whose main's module answers data of main's type, by `check` a plain one that keeps all rules,
--- by `eval` one whose main has a value that is data, by `compile` one whose main has a module within 16 MiB, as the passes or its sizes show, by `explain` each, by `export` one whose main has
--- a module for calls within 16 MiB
-abbrev pub IsAnswerableBy : Job → Request → RawEnv → Type 0
-IsAnswerableBy Exec q e = RestEndsWith q.turns e q.pages q.steps 0
-IsAnswerableBy Check q e = (0 < q.turns) × IsAnswerable e
-IsAnswerableBy Eval q e = IsEvaluable q.turns e
-IsAnswerableBy Run q e = ⊥
-IsAnswerableBy Compile q e = HasModule q.turns e q.pages
-IsAnswerableBy Bench q e = RestEndsWith q.turns e q.pages q.steps 0
-IsAnswerableBy Explain q e = Unit {0}
-IsAnswerableBy Call q e = ⊥
-IsAnswerableBy Export q e = IsExportable q.turns e q.pages
+-- an environment on which the job has an answer, and by `call` besides the input's bytes: by `exec` one whose main's module answers data of main's type, by `check` a plain one that keeps all rules,
+-- by `eval` one whose main has a value that is data, by `compile` one whose main has a module within 16 MiB, as the passes or its sizes show, by `explain` each, by `export` one whose main has so
+-- a module for calls, by `call` one whose main's module answers data of the answer's types on the arguments behind it
+abbrev pub IsAnswerableBy : Job → Request → RawEnv → List ℕ → Type 0
+IsAnswerableBy Exec q e bytes = RestEndsWith q.turns e q.pages q.steps 0
+IsAnswerableBy Check q e bytes = (0 < q.turns) × IsAnswerable e
+IsAnswerableBy Eval q e bytes = IsEvaluable q.turns e
+IsAnswerableBy Run q e bytes = ⊥
+IsAnswerableBy Compile q e bytes = HasModule q.turns e q.pages
+IsAnswerableBy Bench q e bytes = RestEndsWith q.turns e q.pages q.steps 0
+IsAnswerableBy Explain q e bytes = Unit {0}
+IsAnswerableBy Call q e bytes = CallRestEndsWith q.turns e bytes q.pages q.steps 0
+IsAnswerableBy Export q e bytes = HasCallModule q.turns e q.pages
 
 -- a status that comes after the check: 0, 4 and those from 10 on
 abbrev pub IsLate : ℕ → Type 0

@@ -11,8 +11,8 @@ use Rattle.command_line.specs.declared.line.Request.{Request}
 use Rattle.command_line.specs.Line.{request_of}
 use Rattle.driver.specs.Executed.{AnswersData, HasErasedData}
 use Rattle.driver.specs.Headline.{HasValue, ServesValue, EvaluatesErased, IsBoundedBy, GivesErased, IsCountedBy, HasMatches, TakesMatches}
-use Rattle.driver.specs.Serve.{HasAnswer, AsksModule, HasWell, IsAsked, IsLate, IsRefused, MakesModule, ReadsNothing}
-use Rattle.driver.specs.Promises.{AnswersPlain, AnswersWhereItCan, EndsAsJudged, EndsAsLength, EndsAsRun, EndsAsText, NamesPlain, TellsReports}
+use Rattle.driver.specs.Serve.{HasAnswer, AsksModule, IsRefused, ReadsNothing}
+use Rattle.driver.specs.Promises.{AnswersPlain, AnswersWhereItCan, EndsAsJudged, EndsAsLength, EndsAsRun, EndsAsText, IsWellWhereLate, NamesPlain, TellsReports}
 
 -- An object as a call meets it: itself, the bytes that it tells, its count of faults.
 pub record Seen (X : Type 0) : Type 0 where
@@ -41,7 +41,7 @@ pub record Served {S K E : Type 0} (status : ℕ) (words : List (List ℕ)) (rep
   pub plain : AnswersPlain status words src.told src.faults src'.faults out.faults out'.faults out.told out'.told
   pub named : NamesPlain status words src.told out.told out'.told
   pub finishes : EndsAsRun status words src.told src.faults src'.faults out.faults out'.faults
-  pub well : (q : Request) (bytes : List ℕ) → IsAsked q words src.told bytes → MakesModule q.job → IsLate status → HasWell bytes
+  pub well : IsWellWhereLate status words src.told
   pub headline : (q : Request) (e : RawEnv) (n : ℕ) → AsksModule q e words src.told → (h : HasValue q.turns e n) → ServesValue q e n status h out.told out'.told
   pub bounded : (q : Request) (e : RawEnv) (n : ℕ) → AsksModule q e words src.told → (h : EvaluatesErased q.turns e n) → IsBoundedBy q e n h status
   pub counted : (q : Request) (e : RawEnv) (c : Counts) → AsksModule q e words src.told → (h : GivesErased q.turns e c) → IsCountedBy q e c h status

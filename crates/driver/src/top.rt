@@ -16,8 +16,8 @@ ghost use Rattle.driver.specs.Takes.{TakesLine, TakesPrefix};
 ghost use Rattle.driver.specs.Lines.{status_of, line_of};
 ghost use Rattle.driver.specs.Executed.{AnswersData, HasErasedData};
 ghost use Rattle.driver.specs.Headline.{ServesValue, EvaluatesErased, GivesErased, HasMatches, HasValue, IsBoundedBy, IsCountedBy, TakesMatches};
-ghost use Rattle.driver.specs.Serve.{HasAnswer, AsksModule, ConcludesOn, HasWell, InputSays, IsAsked, IsLate, JobSays, MakesModule, ReadSays, ReadsNothing, RequestSays, Says};
-ghost use Rattle.driver.specs.Promises.{AnswersPlain, AnswersWhereItCan, EndsAsJudged, EndsAsLength, EndsAsRun, EndsAsText, NamesPlain, ShowsCause, TellsReports};
+ghost use Rattle.driver.specs.Serve.{HasAnswer, AsksModule, ConcludesOn, InputSays, JobSays, ReadSays, ReadsNothing, RequestSays, Says};
+ghost use Rattle.driver.specs.Promises.{AnswersPlain, AnswersWhereItCan, EndsAsJudged, EndsAsLength, EndsAsRun, EndsAsText, IsWellWhereLate, NamesPlain, ShowsCause, TellsReports};
 ghost use Rattle.driver.specs.Served.{ServedOn};
 ghost use Rattle.driver.specs.ByHistory.{EndSays, ReadsToEnd, ServedByHistory, by_history};
 
@@ -247,10 +247,10 @@ pub fn serve<S: Source, K: Sink, E: Sink>(
     ensures plain { AnswersPlain result (words_of words.now) (S.left src.old) (S.faults src.old) (S.faults src.new) (K.faults out.old) (K.faults out.new) (K.taken out.old) (K.taken out.new) }
     // So by `exec` on status 0 on each plain environment.
     ensures named { NamesPlain result (words_of words.now) (S.left src.old) (K.taken out.old) (K.taken out.new) }
-    // By `exec` and `bench`, where main has a module: an answer or want of memory, or what the run shows.
+    // By `exec` and `bench`, where main has a module, and by `call`, where it has one for calls and the arguments are whole: an answer or want of memory, or what the run shows.
     ensures finishes { EndsAsRun result (words_of words.now) (S.left src.old) (S.faults src.old) (S.faults src.new) (K.faults out.old) (K.faults out.new) }
-    // By `exec`, `bench` and `compile`, on each status that comes after the check the environment is well formed.
-    ensures well { (q : Asked) (bytes : List ℕ) → IsAsked q (words_of words.now) (S.left src.old) bytes → MakesModule q.job → IsLate result → HasWell bytes }
+    // By `exec`, `bench`, `compile`, `export` and `call`, on each status that comes after the check the environment is well formed.
+    ensures well { IsWellWhereLate result (words_of words.now) (S.left src.old) }
     // The headline: where main, of a first-order type, evaluates to a value, every long enough run of the module that `exec` and `bench` run or `compile` writes answers it or is exhausted, and
     // `exec` writes that value's text, `bench` that behind the figures, or shows a cause; with the bounds on memory and on steps, and at least as many steps as matches.
     ensures headline { (q : Asked) (e : RawEnv) (n : ℕ) → AsksModule q e (words_of words.now) (S.left src.old) →
