@@ -1,19 +1,21 @@
 -- Blocks of the saturated program are no wider than the words of the program before.
-use Rattle.std.proofs.Common.{◌≡◌, ℕ, zero, suc, ◌+◌, ◌-◌, max, ◌<◌, ◌≤◌, if◌then◌else◌, List, [], ◌∷◌, length, drop, Option, Some, None, refl, sym, ap, ◌∙◌, subst, ⊎_elim, arith}
+use Rattle.std.proofs.Common.{◌≡◌, ℕ, zero, suc, ◌+◌, ◌-◌, max, ◌<◌, ◌≤◌, if◌then◌else◌, List, [], ◌∷◌, length, drop, Option, Some, None, refl, sym, ap, ◌∙◌, subst, ⊎_elim, arith, length-append}
 use Rattle.std.proofs.lemmas.Bool.{cases_lt, le-leb, lt-leb}
 use Rattle.std.specs.Prelude.{slice_get}
 use Rattle.trees.specs.Tree.{Rel, Done, Next}
 use Rattle.pc_terms.specs.declared.leaf.FamilyId.{FamilyId}
 use Rattle.pc_terms.specs.BoxSyntax.{BoxTerm, BoxTerms, Box, BLambda, BLetIn, BApp, BConst, BConstruct, BCase, BFix}
-use Rattle.lambda_box.specs.BoxProgram.{BoxConstant, BoxFamily, BoxProgram, Has, here, there, box_apply}
-use Rattle.lambda_box.specs.DataTerms.{binder_depth, binder_depth_terms, binder_depth_constants, greatest_arguments}
+use Rattle.lambda_box.specs.BoxProgram.{BoxConstant, BoxFamily, BoxProgram, Has, KeepsBoxFamily, here, there, box_apply}
+use Rattle.lambda_box.specs.DataTerms.{binder_depth, binder_depth_terms, binder_depth_constants, greatest_arguments, greatest_words, ValuesHold, hold_none, hold_last}
+use Rattle.lambda_box.specs.BoxData.{Data}
+use Rattle.lambda_box.specs.ClosureEvaluation.{ClosureValue, ClosureValues, Empty, bind_all, size, Counts, ClosureRun}
 use Rattle.lambda_box.specs.OrdinaryForm.{family_of}
 use Rattle.box_passes.specs.Saturate.{innermost, lambdas, constructor_function, saturate_counted, saturate_arguments, saturate_family, saturate_applied, saturate_terms, saturate_term, saturate_constant, without_parameters, saturate_program}
 use Rattle.box_passes.specs.SaturateLaws.{SaturatedWidths}
 use Rattle.box_passes.proofs.PropMatch.{family_of_is}
 use Rattle.lambda_box.proofs.Families.{of_has_map}
 use Rattle.box_passes.proofs.SaturatedSize.{slice_small}
-use Rattle.box_passes.proofs.Widths.{FitsTerm, fits_rel, fits_box, fits_lambda, fits_let, fits_app, fits_const, fits_construct, fits_case, fits_fix, fits_function, FitsTerms, fits_done, fits_next, main_small}
+use Rattle.box_passes.proofs.Widths.{FitsTerm, fits_rel, fits_box, fits_lambda, fits_let, fits_app, fits_const, fits_construct, fits_case, fits_fix, fits_function, FitsTerms, fits_done, fits_next, fits_more, held_fit, called_small, main_small}
 
 arguments_small : (Fs : List BoxFamily) (F : BoxFamily) (c n : ℕ) → Has Fs F → slice_get F.args c ≡ Some n → n ≤ greatest_arguments Fs
 arguments_small (F ∷ Fs) G c n here e = omega (arith, slice_small F.args c n e)
@@ -87,8 +89,30 @@ constant_fits P d at =
     let r = of_has_map (saturate_constant P.families) P.constants at in
     subst (λ e. FitsTerm (greatest_arguments P.families) (most_depth P) e.body) r.2 (fits_applied (greatest_arguments P.families) P.families (arguments_small P.families) (most_depth P) r.0.body [] (omega (arith, constant_small P.constants r.0 r.1)) tt)
 
+-- its families' constructors have few arguments
+few_arguments : (P : BoxProgram) (f : FamilyId) (F : BoxFamily) (i n : ℕ) → KeepsBoxFamily (saturate_program P) f F → slice_get F.args i ≡ Some n → n ≤ greatest_arguments P.families
+few_arguments P f F i n kept at = let r = of_has_map without_parameters P.families kept.0 in arguments_small P.families r.0 i n r.1 (ap (λ F. slice_get F.args i) r.2 ∙ at)
+
 pub saturated_widths : SaturatedWidths
 saturated_widths P ok v c run =
-    main_small (most_depth P) (greatest_arguments P.families) (saturate_program P) (λ k b at. constant_fits P (record { name = k; body = b }) at)
-    (λ f F i n kept at. let r = of_has_map without_parameters P.families kept.0 in arguments_small P.families r.0 i n r.1 (ap (λ F. slice_get F.args i) r.2 ∙ at))
-    run (main_fits P)
+    main_small (most_depth P) (greatest_arguments P.families) (saturate_program P) (λ k b at. constant_fits P (record { name = k; body = b }) at) (few_arguments P) run (main_fits P)
+
+-- so it is of main applied to values that are data, but for a word of each of them
+
+held_count : {vs : ClosureValues} {args : List Data} → ValuesHold vs args → size vs ≡ length args
+held_count hold_none = refl
+held_count (hold_last {d = d} {ds = ds} hs r) = omega (arith, length-append ds (d ∷ []), held_count hs)
+
+spine_fits : {A d : ℕ} {f : BoxTerm} (n : ℕ) → FitsTerm A d f → FitsTerm A d (box_apply f (innermost n))
+spine_fits zero h = h
+spine_fits {f = f} (suc n) h = spine_fits {f = BApp f (Rel n)} n (fits_app h fits_rel)
+
+pub called_widths : (P : BoxProgram) (vs : ClosureValues) (args : List Data) → ValuesHold vs args → {k : ℕ} (v : ClosureValue) (c : Counts) →
+    ClosureRun (saturate_program P) (bind_all vs Empty) (box_apply (saturate_program P).main (innermost k)) v c → c.greatest ≤ greatest_words P + length args
+called_widths P vs args held {k} v c run =
+    let n = length args in
+    let D = most_depth P in
+    let A = greatest_arguments P.families in
+    let small = called_small (D + n) A (saturate_program P) (λ k b at. fits_more n (constant_fits P (record { name = k; body = b }) at)) (few_arguments P) run (held_fit (D + n) A held) D (spine_fits k (main_fits P))
+    (omega (arith, held_count held)) in
+    omega (arith, small)

@@ -8,9 +8,11 @@ use Rattle.pc_terms.specs.declared.leaf.FamilyId.{FamilyId}
 use Rattle.pc_terms.specs.BoxSyntax.{BoxTerm, BoxTerms, Box, BLambda, BLetIn, BApp, BConst, BConstruct, BCase, BFix}
 use Rattle.lambda_box.specs.BoxProgram.{BoxFamily, BoxProgram, KeepsBoxConstant, KeepsBoxFamily, box_apply}
 use Rattle.box_passes.specs.Saturate.{innermost, lambdas}
-use Rattle.lambda_box.specs.ClosureEvaluation.{names, names_terms, ClosureValue, VBox, VConstruct, VClosure, VFix, ClosureValues, NoValue, Then, ClosureEnv, Empty, Bind, BindFix, bind_all, box_values, size, Held, held_value, Finds, found, later, found_fix, past_fix, one_if, any_below, words}
+use Rattle.lambda_box.specs.ClosureEvaluation.{names, names_terms, ClosureValue, VBox, VConstruct, VClosure, VFix, ClosureValues, NoValue, Then, ClosureEnv, Empty, Bind, BindFix, bind_all, box_values, size, ValueReads, value_reads, ValuesRead, no_values, and_then, Held, held_value, Finds, found, later, found_fix, past_fix, one_if, any_below, words}
 use Rattle.lambda_box.specs.ClosureEvaluation.{closure_words, Counts, constructor_block, ClosureRun, run_box, run_value, run_definition, run_lambda, run_fix, run_constant, run_let, run_app, run_box_app, run_fix_app, run_fix_box, run_construct, run_match, run_only, RunArgs, run_head}
 use Rattle.lambda_box.specs.ClosureEvaluation.{run_arg}
+use Rattle.lambda_box.specs.BoxData.{Data}
+use Rattle.lambda_box.specs.DataTerms.{ValuesHold, hold_none, hold_last}
 use Rattle.lambda_box.proofs.Spines.{one_item}
 
 -- the number of values in an environment
@@ -83,6 +85,24 @@ mutual
     fits_done : {d : ℕ} → FitsTerms A d Done
     fits_next : {d n : ℕ} {t : BoxTerm} {ts : BoxTerms} (e : ℕ) → d ≡ n + e → FitsTerm A e t → FitsTerms A d ts → FitsTerms A d (Next n t ts)
 
+-- so it is under more binders
+mutual
+  pub fits_more : {A d : ℕ} (k : ℕ) {t : BoxTerm} → FitsTerm A d t → FitsTerm A (d + k) t
+  fits_more k fits_rel = fits_rel
+  fits_more k fits_box = fits_box
+  fits_more k (fits_lambda e eq h) = fits_lambda (e + k) (omega arith) (fits_more k h)
+  fits_more k (fits_let e eq h g) = fits_let (e + k) (omega arith) (fits_more k h) (fits_more k g)
+  fits_more k (fits_app h g) = fits_app (fits_more k h) (fits_more k g)
+  fits_more k fits_const = fits_const
+  fits_more k fits_construct = fits_construct
+  fits_more k (fits_case h hs) = fits_case (fits_more k h) (all_fit_more k hs)
+  fits_more k (fits_fix hs) = fits_fix (all_fit_more k hs)
+  fits_more k (fits_function m n f c l le eq) = fits_function m n f c l le eq
+
+  all_fit_more : {A d : ℕ} (k : ℕ) {ts : BoxTerms} → FitsTerms A d ts → FitsTerms A (d + k) ts
+  all_fit_more k fits_done = fits_done
+  all_fit_more k (fits_next e eq h hs) = fits_next (e + k) (omega arith) (fits_more k h) (all_fit_more k hs)
+
 mutual
   pub data FitsValue (D A : ℕ) : ClosureValue → Type 0 where
     value_box : FitsValue D A VBox
@@ -99,6 +119,20 @@ mutual
     env_empty : FitsEnv D A Empty
     env_bind : {v : ClosureValue} {e : ClosureEnv} → FitsValue D A v → FitsEnv D A e → FitsEnv D A (Bind v e)
     env_fix : {e : ClosureEnv} {rargs : List ℕ} {bodies : BoxTerms} (d : ℕ) → FitsEnv D A e → FitsTerms A d bodies → plain e + d ≤ D → FitsEnv D A (BindFix rargs bodies e)
+
+-- values that are data fit
+module _ (D A : ℕ) where
+  mutual
+    data_fits : {v : ClosureValue} {d : Data} → ValueReads v d → FitsValue D A v
+    data_fits (value_reads rs) = value_construct (all_data_fit rs)
+
+    all_data_fit : {vs : ClosureValues} {ds : Data} → ValuesRead vs ds → FitsValues D A vs
+    all_data_fit no_values = values_none
+    all_data_fit (and_then rs r) = values_then (data_fits r) (all_data_fit rs)
+
+  pub held_fit : {vs : ClosureValues} {args : List Data} → ValuesHold vs args → FitsValues D A vs
+  held_fit hold_none = values_none
+  held_fit (hold_last hs r) = values_then (data_fits r) (held_fit hs)
 
 data Spine : BoxTerm → Type 0 where
   spine_head : {f : FamilyId} {c : ℕ} → Spine (BConstruct f c)
@@ -325,6 +359,10 @@ module _ (D A : ℕ) where
           let s1 = args_small r1 es p.0 in
           let s2 = run_small r2 es p.1 in
           record { small = omega (arith, s1.small, s2.small); fits = values_then s2.fits s1.fits }
+
+    -- the words of a run in an environment of values alone, and of one in the empty environment
+    pub called_small : {vs : ClosureValues} {t : BoxTerm} {v : ClosureValue} {c : Counts} → ClosureRun P (bind_all vs Empty) t v c → FitsValues D A vs → (d : ℕ) → FitsTerm A d t → size vs + d ≤ D → c.greatest ≤ 4 + D + A
+    called_small {vs = vs} r hs d h le = let s = run_small r (fits_bind_all hs env_empty) (ordinary d h (omega (arith, plain_bind_all vs Empty, le))) in s.small
 
     pub main_small : {t : BoxTerm} {v : ClosureValue} {c : Counts} → ClosureRun P Empty t v c → FitsTerm A D t → c.greatest ≤ 4 + D + A
     main_small r h = let s = run_small r env_empty (ordinary D h (omega arith)) in s.small

@@ -12,7 +12,8 @@ use Rattle.box_passes.specs.PropMatch.{prop_match_program}
 use Rattle.box_passes.specs.Saturate.{innermost}
 use Rattle.box_passes.proofs.Keeping.{saturated_runs}
 use Rattle.box_passes.proofs.PropMatch.{prop_match_keeps}
-use Rattle.box_passes.proofs.PropMatchForm.{prop_match_form}
+use Rattle.box_passes.proofs.PropMatchForm.{prop_match_form, prop_match_program_sizes}
+use Rattle.box_passes.proofs.SaturatedWidths.{called_widths}
 use Rattle.shrink_passes.specs.ShrunkProgram.{shrunk_program}
 use Rattle.shrink_passes.proofs.ShrunkPrograms.{shrunk_forms, shrunk_keeps}
 use Rattle.anf_convert.specs.AnfData.{DataTrees}
@@ -51,7 +52,7 @@ use Rattle.known_calls.proofs.KnownValidity.{calls_valid}
 use Rattle.back_end.specs.BackEnd.{passed}
 use Rattle.back_end.proofs.Total.{suffices}
 use Rattle.call_answers.specs.HostedCall.{HoldsArguments}
-use Rattle.call_answers.specs.EveryCall.{call_module_for, CallRuns, CalledProgramsAnswer, CallModulesAreValid, CallStatusTells}
+use Rattle.call_answers.specs.EveryCall.{call_module_for, CallRuns, EveryCallAnswers, CalledProgramsAnswer, CallModulesAreValid, CallStatusTells}
 use Rattle.call_answers.proofs.SpineAnswers.{answers_applied}
 use Rattle.call_answers.proofs.StoredTrees.{listed, listed_count, one_list, arguments_stored, held_trees, anf_trees, lifted_trees}
 
@@ -141,6 +142,7 @@ called_programs_answer P args pages b n tree pos small some ok e =
       words = x.words;
       few_contractions = omega (arith, y.no_more, x.no_more, sk.no_more.contractions, q.contractions, pm.1.within, e.few);
       few_blocks = omega (arith, sk.no_more.blocks, q.blocks, pm.1.within, e.few);
+      narrow = omega (arith, sk.no_more.greatest, called_widths (prop_match_program P) vs args sr.1 q.v q.counts q.run, (prop_match_program_sizes P).1);
       few_words = words_bound (to_anf S) c.greatest anf.0 x.v x.contractions c.matches c.blocks x.words x.answers;
       runs = λ s h.
           let host = is_hosted s h ds ht.same in
@@ -172,3 +174,17 @@ call_status_tells P args pages s small h first start k t r =
     let at = start_in s (record { type = type_main; body = call_function (passed P) n }) in
     let same : first ≡ at = inj (sym start ∙ call_starts (passed P) n pages s) in
     calls_tell (passed P) n pages s k t small (omega (arith, h.few, small)) (ap (λ gs. slice_get gs 1) h.globals) (subst (λ (f : State). Reach (call_module_for P n pages) k f t) same r)
+
+-- so it is by more words
+pub with_words : {m : Parts} {args : List Data} {pages w b n : ℕ} {tree : Data} (w' : ℕ) → w ≤ w' → EveryCallAnswers m args pages w b n tree → EveryCallAnswers m args pages w' b n tree
+with_words w' le x = record {
+  contractions = x.contractions;
+  blocks = x.blocks;
+  widest = x.widest;
+  words = x.words;
+  few_contractions = x.few_contractions;
+  few_blocks = x.few_blocks;
+  few_words = x.few_words;
+  narrow = let few = x.narrow in omega (arith, few, le);
+  runs = x.runs;
+}

@@ -23,14 +23,14 @@ use Rattle.headline.proofs.Derived.{derived}
 use Rattle.headline.proofs.SourceSizes.{of_source}
 use Rattle.headline.proofs.Writing.{fitting_is_written}
 use Rattle.headline.specs.AcceptedProgram.{IsAcceptedAs, IsErasedTo, FitsPasses}
-use Rattle.headline.specs.SourceWords.{source_branches}
+use Rattle.headline.specs.SourceWords.{source_branches, source_words}
 use Rattle.call_answers.specs.CallHeadline.{AnswersCall, CallHeadline}
-use Rattle.call_answers.proofs.CalledPrograms.{called_programs_answer, call_modules_are_valid}
+use Rattle.call_answers.proofs.CalledPrograms.{called_programs_answer, call_modules_are_valid, with_words}
 
 module _ (e : RawEnv) (E : Env) (T : Term) (accepted : IsAcceptedAs e E T) where
   -- what an applied term evaluates to is answered
   call_answered : (takes : List (List Shape)) (answer : List Shape) (P : BoxProgram) (pages : ℕ) → IsSignature E T (map members takes) (members answer) → IsErasedTo E e.main P → FitsPasses P → 0 < pages → pages ≤ 16384 →
-      (arguments : List Data) (t : Term) → IsApplied (map members takes) e.main arguments t → (v : Term) (n : ℕ) → Evaluates E t v n → (tree : Data) × AnswersCall E answer P arguments pages v n tree
+      (arguments : List Data) (t : Term) → IsApplied (map members takes) e.main arguments t → (v : Term) (n : ℕ) → Evaluates E t v n → (tree : Data) × AnswersCall E e.main answer P arguments pages v n tree
   call_answered takes answer P pages signature erased fits pos small arguments t is v n x =
       let d = derived e E T accepted in
       let a = d.formed.accepted in
@@ -43,7 +43,7 @@ module _ (e : RawEnv) (E : Env) (T : Term) (accepted : IsAcceptedAs e E T) where
         record {
           exactly = record { reads = k.1; only = λ other s. reading_is_determined E a (members answer) 0 v other k.0 s k.1 };
           kept = k.2;
-          runs = called_programs_answer P arguments pages (source_branches E) n k.0 pos small (omega arith) i.within k.2;
+          runs = with_words (source_words E e.main) i.words (called_programs_answer P arguments pages (source_branches E) n k.0 pos small (omega arith) i.within k.2);
           fits = k.3;
           text = λ names named. fitting_is_written answer names named k.0 k.3;
         },

@@ -16,17 +16,17 @@ use Rattle.lambda_box.specs.BoxProgram.{BoxProgram}
 use Rattle.wasm_core.specs.ModuleTyping.{IsValid}
 use Rattle.headline.specs.AcceptedProgram.{IsAcceptedAs, IsDerived, IsErasedTo, FitsPasses}
 use Rattle.headline.specs.Headline.{IsExactly}
-use Rattle.headline.specs.SourceWords.{source_branches}
+use Rattle.headline.specs.SourceWords.{source_branches, source_words}
 use Rattle.headline.specs.WrittenData.{IsWritten}
 use Rattle.applied_terms.specs.CallEvaluation.{CallEvaluatesTo, ArgumentsFitSets}
 use Rattle.call_answers.specs.EveryCall.{call_module_for, EveryCallAnswers}
 
 -- the value is the data, along the answer's types, and no other; the erased main evaluates to it on the arguments' data, in no more nodes; every run of the module from a store that holds
 -- these answers it or is exhausted; and it has a text at the types, which is the value's
-pub record AnswersCall (E : Env) (answer : List Shape) (P : BoxProgram) (arguments : List Data) (pages : ℕ) (v : Term) (n : ℕ) (tree : Data) : Type 0 where
+pub record AnswersCall (E : Env) (main : Term) (answer : List Shape) (P : BoxProgram) (arguments : List Data) (pages : ℕ) (v : Term) (n : ℕ) (tree : Data) : Type 0 where
   pub exactly : IsExactly E (members answer) v tree
   pub kept : CallEvaluatesTo P arguments tree n
-  pub runs : EveryCallAnswers (call_module_for P (length arguments) pages) arguments pages (source_branches E) n tree
+  pub runs : EveryCallAnswers (call_module_for P (length arguments) pages) arguments pages (source_words E main) (source_branches E) n tree
   pub fits : FitsShapes (members answer) 0 tree
   pub text : (names : List (List ℕ)) → HasNames answer names → IsWritten answer names tree
 
@@ -42,4 +42,4 @@ CallHeadline =
     IsDerived e E T × ((takes : List (List Shape)) (answer : List Shape) (P : BoxProgram) (pages : ℕ) → IsSignature E T (map members takes) (members answer) → IsErasedTo E e.main P → FitsPasses P → 0 < pages → pages ≤ 16384 →
     IsValid (call_module_for P (length takes) pages) × ((arguments : List Data) → ArgumentsFitSets (map members takes) arguments → (t : Term) × IsApplied (map members takes) e.main arguments t) ×
     ((arguments : List Data) (t : Term) → IsApplied (map members takes) e.main arguments t → IsTypedCall E t answer ×
-    ((v : Term) (n : ℕ) → Evaluates E t v n → (tree : Data) × AnswersCall E answer P arguments pages v n tree)))
+    ((v : Term) (n : ℕ) → Evaluates E t v n → (tree : Data) × AnswersCall E e.main answer P arguments pages v n tree)))

@@ -2,6 +2,7 @@
 use Rattle.std.specs.Prelude.{◌≡◌, ℕ, ◌+◌, ◌*◌, ◌<◌, ◌≤◌, ◌⊎◌, List, length, true, false, Some}
 use Rattle.lambda_box.specs.BoxProgram.{BoxProgram}
 use Rattle.lambda_box.specs.BoxData.{Data}
+use Rattle.lambda_box.specs.DataTerms.{greatest_words}
 use Rattle.wasm_core.specs.declared.entries.Entry.TheVariants.{Status}
 use Rattle.wasm_core.specs.Parts.{Parts}
 use Rattle.wasm_core.specs.MachineStep.{State, Store, Reach}
@@ -29,9 +30,9 @@ pub record CallRuns (m : Parts) (pages most bytes : ℕ) (tree : Data) (s : Stor
   pub enough : bytes ≤ 65536 * pages → (k : ℕ) (t : State) → Reach m k first t → IsAtEnd m t → (store_of t).by_choice ≡ false → Answers m tree t
 
 -- Every run of the module from a store that holds the arguments answers the data or is exhausted. The bounds go by the numbers of an evaluation with closures: its contractions, its blocks, the words of
--- the widest block, and the words of all blocks. They are the same for each such store: where the maximum holds its heap and these words, a run
--- is exhausted only after a refused grow that the maximum allows. Nothing here bounds the widest block
-pub record EveryCallAnswers (m : Parts) (arguments : List Data) (pages b n : ℕ) (tree : Data) : Type 0 where
+-- the widest block, at most w and one for each argument, and the words of all blocks. They are the same for each such store: where the maximum holds its heap and these words, a run
+-- is exhausted only after a refused grow that the maximum allows
+pub record EveryCallAnswers (m : Parts) (arguments : List Data) (pages w b n : ℕ) (tree : Data) : Type 0 where
   pub contractions : ℕ
   pub blocks : ℕ
   pub widest : ℕ
@@ -39,14 +40,15 @@ pub record EveryCallAnswers (m : Parts) (arguments : List Data) (pages b n : ℕ
   pub few_contractions : contractions ≤ n
   pub few_blocks : blocks ≤ 2 * n
   pub few_words : words ≤ blocks * widest
+  pub narrow : widest ≤ w + length arguments
   pub runs : (s : Store) (h : HoldsArguments pages arguments s) →
       CallRuns m pages (64 * (blocks + contractions + 1) * (widest + b)) (h.heap + 4 * words) tree s
 
--- of a program of the form within the limits of the passes, with at most b constructors in a family
+-- of a program of the form within the limits of the passes, with at most b constructors in a family, by its words
 abbrev pub CalledProgramsAnswer : Type 0
 CalledProgramsAnswer =
     (P : BoxProgram) (arguments : List Data) (pages b n : ℕ) (tree : Data) → 0 < pages → pages ≤ 16384 → 0 < b → IsWithinPasses P b → CallEvaluatesTo P arguments tree n →
-    EveryCallAnswers (call_module_for P (length arguments) pages) arguments pages b n tree
+    EveryCallAnswers (call_module_for P (length arguments) pages) arguments pages (greatest_words P) b n tree
 
 -- whether main evaluates or not, the module is valid, for any number of arguments
 abbrev pub CallModulesAreValid : Type 0

@@ -74,7 +74,7 @@ module _ (P : Program) (k pages : ℕ) (args : List DataNodes) (small : Each IsS
       let stored = has_stored M pages 2 refl (first_store M) 8 refl sized (omega arith) (omega (arith, zeroed_length 1)) 2 refl args small trees s put_there in
       record { store = s; holds = stored_arguments_are_held P k pages pages s args stored; starts = starts ∙ ap Some e2 }
 
-  module _ (b n : ℕ) (tree : DataNodes) (runs : EveryCallAnswers M args pages b n tree) (steps : ℕ) where
+  module _ (w b n : ℕ) (tree : DataNodes) (runs : EveryCallAnswers M args pages w b n tree) (steps : ℕ) where
     abbrev pub most : ℕ
     most = 64 * (runs.blocks + runs.contractions + 1) * (runs.widest + b)
 

@@ -18,16 +18,15 @@ use Rattle.first_order.specs.DirectedSignature.{set_of, sets_of}
 use Rattle.first_order.specs.Searching.{members, AreNamed}
 use Rattle.wasm_core.specs.ModuleTyping.{IsValid}
 use Rattle.headline.specs.Headline.{IsExactly}
-use Rattle.headline.specs.SourceWords.{source_branches}
+use Rattle.headline.specs.SourceWords.{source_branches, source_words}
 use Rattle.applied_terms.specs.CallEvaluation.{CallEvaluatesTo}
 use Rattle.call_answers.specs.EveryCall.{EveryCallAnswers}
 use Rattle.module_run.specs.CallEnds.{start_with}
-use Rattle.module_run.specs.Ends.{IsLargeFrom, IsSmall}
+use Rattle.module_run.specs.Ends.{IsLargeFrom}
 use Rattle.command_line.specs.declared.job.Job.TheVariants.{Call}
 use Rattle.command_line.specs.declared.line.Request.{Request}
 use Rattle.driver.specs.CallStages.{CallCompiling, CallErasing, Signing, its_call_module}
-use Rattle.driver.specs.Exported.{CallRulesAreWithin}
-use Rattle.driver.specs.Judged.{EndsWith}
+use Rattle.driver.specs.Exported.{HasCallModule}
 use Rattle.driver.specs.Serve.{IsAsked, input_limit}
 use Rattle.driver.specs.SourceSays.{IsLine}
 use Rattle.driver.specs.Texts.{SpellsWithin}
@@ -91,7 +90,7 @@ pub record IsTextOfCall (turns : ℕ) (e : RawEnv) (bytes : List ℕ) (h : HasAr
 -- text and LF; and the status isn't 15
 pub record AnswersCallData (q : Request) (e : RawEnv) (bytes : List ℕ) (h : HasArguments q.turns e bytes) (n : ℕ) (tree : Data) (status : ℕ) (taken taken' : Option (List ℕ)) : Type 0 where
   pub valid : (x : CallCompiling q.turns e) → IsValid (its_call_module q.pages x)
-  pub runs : (x : CallCompiling q.turns e) → EveryCallAnswers (its_call_module q.pages x) h.arguments q.pages (source_branches (kept_environment h)) n tree
+  pub runs : (x : CallCompiling q.turns e) → EveryCallAnswers (its_call_module q.pages x) h.arguments q.pages (source_words (kept_environment h) e.main) (source_branches (kept_environment h)) n tree
   pub text : status ≡ 0 → (text : List ℕ) × IsTextOfCall q.turns e bytes h tree text × Appends taken taken' text
   pub answers : status ≢ 15
 
@@ -114,12 +113,10 @@ pub record IsAppliedWell (turns : ℕ) (e : RawEnv) (bytes : List ℕ) (h : HasA
 
 -- ---- completeness
 
--- the check accepts, main's type has a signature, erasure ends with a program, the directed rules pass no limit of depth, the program has a module for calls within 16 MiB, and the arguments are whole
+-- the check accepts, main's type has a signature, erasure ends with a program, the directed rules pass no limit of depth, the program has a module for calls within 16 MiB, as the passes or its sizes show, and
+-- the arguments are whole
 pub record IsCallable (q : Request) (e : RawEnv) (bytes : List ℕ) : Type 0 where
-  pub check : EndsWith q.turns e 0
-  pub stages : CallCompiling q.turns e
-  pub small : IsSmall (its_call_module q.pages stages)
-  pub within : CallRulesAreWithin q.turns e
+  pub compiled : HasCallModule q.turns e q.pages
   pub given : HasArguments q.turns e bytes
 
 -- then there is an answer, or want of memory; or the run's answer has too many nodes, the run is exhausted, or longer, or its answer is no data of the answer's types; the last where the erased main, applied to

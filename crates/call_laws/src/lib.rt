@@ -4,7 +4,7 @@
 //! units, and where the text behind spells arguments of its types, main can be applied to their source terms, and that term has a type (`spelled_arguments_apply`, `applied`). Where it evaluates weakly call by value to
 //! a value, that is exactly one tree of data; the module for calls validates and answers it or is exhausted, from each store that holds the arguments; and the status is 0 with the text of that data on
 //! out, or neither 0 nor 15, by its cause (`calls_answer_values`, `serves`). So it is of data to which the erased main evaluates, applied to the arguments' data, however that comes
-//! (`calls_answer_data`, `serves`). And where main has a module for calls within 16 MiB, the rules pass no limit and no fault is met, the status is 0, or 1, or it is one of the run: 7 where the answer has over
+//! (`calls_answer_data`, `serves`). And where the program that is made of main is small, or has a module for calls within 16 MiB, the rules pass no limit and no fault is met, the status is 0, or 1, or it is one of the run: 7 where the answer has over
 //! 4,000,000 nodes, 11, 12, or 15, the last only where the erased main evaluates to no data of the answer's types (`calls_finish`, `finishes`). These are laws of the record `Served`, so they hold of each call of `serve`.
 //!
 //! Where nothing is told of the source, status 0 means the same of some bytes within the limit: out took the text of data, and each value of main, applied to the arguments that stand behind the front, is

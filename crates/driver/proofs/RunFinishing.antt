@@ -46,7 +46,7 @@ module _ (turns : ℕ) (e : RawEnv) (bytes : List ℕ) (pages steps : ℕ) (x : 
 
 call_finished : (q : Request) (e : RawEnv) (bytes : List ℕ) → SpellsWithin (front_bytes bytes) e → CanBeCalled q.turns e bytes q.pages → (r : Refusal) → IsCallCause q r bytes → CallFinishes q.turns e bytes q.pages q.steps (status_of r)
 call_finished q e bytes s c r cause =
-    let x = has_call_module q.turns e q.pages (is_spelled (front_bytes bytes) e s) c.module in
+    let x = has_call_module q.turns e q.pages (is_spelled (front_bytes bytes) e s) c.compiled in
     let y = c.reading in
     let (shown, other) = call_cause_on q bytes e r s cause in
     of_late q.turns e bytes q.pages q.steps x.stages x.small (status_of r)

@@ -9,7 +9,7 @@ use Rattle.driver.specs.Exported.{HasCallModule}
 
 -- main has a module for calls within 16 MiB, as the passes or the sizes show, and arguments of its signature stand behind the environment
 pub record CanBeCalled (turns : ℕ) (e : RawEnv) (bytes : List ℕ) (pages : ℕ) : Type 0 where
-  pub module : HasCallModule turns e pages
+  pub compiled : HasCallModule turns e pages
   pub reading : ReadingArguments turns e bytes
 
 -- then there is an answer, or want of memory; or the run's answer has too many nodes, there is no room for the arguments or the run is exhausted, it is longer, or its answer is no data of the answer's types

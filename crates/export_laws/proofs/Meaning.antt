@@ -10,10 +10,9 @@ use Rattle.dump_reader.specs.declared.environment.RawEnv.{RawEnv}
 use Rattle.first_order.specs.Applied.{AreArguments}
 use Rattle.first_order.specs.DirectedSignature.{set_of, sets_of}
 use Rattle.typing_laws.proofs.DataAlong.{reading_is_determined}
-use Rattle.back_end.specs.BackEnd.{IsWithinPasses}
 use Rattle.compile.proofs.Within.{fits_within}
-use Rattle.headline.specs.AcceptedProgram.{FitsPasses}
-use Rattle.headline.specs.SourceWords.{source_branches}
+use Rattle.headline.specs.AcceptedProgram.{FitsPasses, IsWithinSource}
+use Rattle.headline.specs.SourceWords.{source_branches, source_words}
 use Rattle.headline.proofs.SourceSizes.{of_source}
 use Rattle.wasm_core.specs.ModuleTyping.{IsValid}
 use Rattle.wasm_core.specs.ModuleGrammar.{SpellsModule}
@@ -26,14 +25,14 @@ use Rattle.driver.specs.CallStages.{CallCompiling, its_call_module}
 use Rattle.driver.specs.Exported.{IsExported}
 use Rattle.driver.specs.Serve.{HasAnswer, IsInput, IsInputOf, IsAnswerOf}
 use Rattle.driver.specs.Texts.{SpellsWithin}
-use Rattle.driver.proofs.AcceptedAs.{accepted_as}
+use Rattle.driver.proofs.AcceptedAs.{accepted_as, call_erased_to}
 use Rattle.driver.proofs.TextCauses.{is_spelled}
 use Rattle.answer_laws.proofs.Derived.{derived}
 use Rattle.applied_terms.proofs.KeptValues.{applied_values_are_kept}
 use Rattle.applied_terms.proofs.SourceTerms.{applied_terms_are_there}
 use Rattle.applied_terms.proofs.TypedTerms.{applied_terms_are_typed}
 use Rattle.call_answers.specs.EveryCall.{call_module_for, EveryCallAnswers}
-use Rattle.call_answers.proofs.CalledPrograms.{called_programs_answer}
+use Rattle.call_answers.proofs.CalledPrograms.{called_programs_answer, with_words}
 use Rattle.export_laws.specs.ModuleForCalls.{IsModuleForCalls}
 use Rattle.export_laws.specs.Laws.{HasExported, ExportMeans}
 
@@ -59,11 +58,11 @@ module_for_calls q range bytes e s x valid =
       typed = λ arguments t is. applied_terms_are_typed E accepted e.main a.type typed takes answer g.is arguments t is;
       answers = λ arguments t is v n evaluation.
           let k = applied_values_are_kept E accepted e.main a.type typed x.before.program x.before.is takes answer g.is arguments t is v n evaluation in
-          let runs = called_programs_answer x.before.program arguments q.pages (source_branches E) n k.0 pos small (omega arith) within k.2 in
+          let runs = with_words (source_words E e.main) within.words (called_programs_answer x.before.program arguments q.pages (source_branches E) n k.0 pos small (omega arith) within.within k.2) in
           let count : length arguments ≡ length g.signature.args = arguments_count is.sources ∙ length-map g.signature.args set_of in (
             k.0,
             record { reads = k.1; only = λ other r. reading_is_determined E accepted answer 0 v other k.0 r k.1 },
-            subst (λ j. EveryCallAnswers (call_module_for x.before.program j q.pages) arguments q.pages (source_branches E) n k.0) count runs,
+            subst (λ j. EveryCallAnswers (call_module_for x.before.program j q.pages) arguments q.pages (source_words E e.main) (source_branches E) n k.0) count runs,
           );
     }
   where
@@ -78,12 +77,10 @@ module_for_calls q range bytes e s x valid =
         let w = fits_within x.before.program 1024 x.before.form x.fits (λ F has. (x.before.form.counts F has).constructors) in
         record { constants = w.constants; main = w.main; limits = w.limits }
 
-    within : IsWithinPasses x.before.program (source_branches x.before.before.before.kept)
+    within : IsWithinSource x.before.before.before.kept e.main x.before.program
     within =
         let a = x.before.before.before in
-        let i = of_source e a.kept a.type x.before.program (accepted_as q.turns e (is_spelled bytes e s) a.kept a.type a.left a.accepted)
-        (record { room = 2048; before = x.before.before.left; after = x.before.left; gives = x.before.erased }) fits_passes in
-        i.within
+        of_source e a.kept a.type x.before.program (accepted_as q.turns e (is_spelled bytes e s) a.kept a.type a.left a.accepted) (call_erased_to q.turns e x.before) fits_passes
 
 -- the request and the job of an answer are those that were asked for
 record AnswerOf (job : Job) (q : Request) (left : Option (List ℕ)) (text : List ℕ) : Type 0 where

@@ -9,7 +9,7 @@ use Rattle.first_order.specs.Applied.{IsApplied}
 use Rattle.first_order.specs.Signature.{IsSignature}
 use Rattle.wasm_core.specs.Parts.{Parts}
 use Rattle.wasm_core.specs.ModuleTyping.{IsValid}
-use Rattle.headline.specs.SourceWords.{source_branches}
+use Rattle.headline.specs.SourceWords.{source_branches, source_words}
 use Rattle.applied_terms.specs.CallEvaluation.{ArgumentsFitSets}
 use Rattle.call_answers.specs.EveryCall.{EveryCallAnswers}
 use Rattle.answer_laws.specs.MainsModule.{IsReadAs}
@@ -22,4 +22,4 @@ pub record IsModuleForCalls (pages : ℕ) (E : Env) (main type : Term) (takes : 
   pub applied : (arguments : List Data) → ArgumentsFitSets takes arguments → (t : Term) × IsApplied takes main arguments t
   pub typed : (arguments : List Data) (t : Term) → IsApplied takes main arguments t → (U : Term) × Types bare E [] t U × IsFirstOrder E U answer
   pub answers : (arguments : List Data) (t : Term) → IsApplied takes main arguments t → (v : Term) (n : ℕ) → Evaluates E t v n →
-      (tree : Data) × IsReadAs E answer v tree × EveryCallAnswers m arguments pages (source_branches E) n tree
+      (tree : Data) × IsReadAs E answer v tree × EveryCallAnswers m arguments pages (source_words E main) (source_branches E) n tree
