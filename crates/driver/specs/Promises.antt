@@ -68,7 +68,7 @@ EndsAsRun status words left before now faults faults' =
     (q : Request) (e : RawEnv) (d : IsAskedOnText q e words left) →
     CanRun q.job q e d.bytes → MeetsNoFault q.job before now faults faults' → RunFinishes q.job q e d.bytes status
 
--- by a job that compiles main, on each status that comes after the check the environment is well formed
+-- by `exec`, `bench`, `compile`, `export` and `call`, on each status that comes after the check the environment is well formed
 abbrev pub IsWellWhereLate : (status : ℕ) (words : List (List ℕ)) (left : Option (List ℕ)) → Type 0
 IsWellWhereLate status words left =
     (q : Request) (bytes : List ℕ) → IsAsked q words left bytes → CompilesMain q.job → IsLate status → HasWell (environment_text q.job bytes)
