@@ -6,7 +6,7 @@
 //! reads node by node (`reading`). It has no recursion. `wasm_run` stands below it, and `data_trees`, whose `Data` it gives.
 #![tactic(auto)]
 
-ghost use Rattle.std.specs.Prelude.{◌≡◌, OnOk, false};
+ghost use Rattle.std.specs.Prelude.{◌≡◌, false};
 ghost use Rattle.wasm_core.specs.HostStore.{IsForCall};
 ghost use Rattle.wasm_core.specs.ModuleCondition.{All as Each};
 ghost use Rattle.wasm_core.specs.Runs.{store_of};
@@ -54,7 +54,7 @@ pub fn answer_tree(alloc: Global, m: &Machine) -> Result<Data, AnswerFault>
 /// gets. A constructor without arguments is the word 2 * c + 1, another one a block, as `answer_tree` reads them.
 ///
 /// `Exhausted` comes exactly where `host_block` answered None for a block, so where there was no room for it, and `Failed` exactly where it answered `Failed`. After
-/// an error some blocks may lie in memory.
+/// an error, want of memory too, some blocks may lie in memory, and the machine has failed or stands at the start of a run.
 pub fn store_values(alloc: Global, m: &mut Machine, args: &[Data]) -> Result<(), StoreFault>
     requires unmade { m.old.made ≡ 0 }
     requires for_call { IsForCall m.old.program }
@@ -62,13 +62,16 @@ pub fn store_values(alloc: Global, m: &mut Machine, args: &[Data]) -> Result<(),
     requires small { Each IsSmallData args.now }
     ensures kept { (m.new.program ≡ m.old.program) × (m.new.cap ≡ m.old.cap) × (m.new.made ≡ m.old.made) }
     ensures says { StoreSays m.old m.new args.now result }
-    ensures start { OnOk result (IsAtStart m.new) }
+    ensures start { m.new.failed ≡ false → IsAtStart m.new }
 {
     m.at_start();
     let mut words: Vec<u32> = Vec::new(alloc);
     match store_trees(alloc, m, args, &mut words) {
         Ok(()) => {}
-        Err(fault) => return Err(fault),
+        Err(fault) => {
+            m.at_start();
+            return Err(fault);
+        }
     }
     words.reverse();
     match put(m, words.as_slice()) {
@@ -76,6 +79,9 @@ pub fn store_values(alloc: Global, m: &mut Machine, args: &[Data]) -> Result<(),
             m.set_args(address);
             Ok(())
         }
-        Err(fault) => Err(fault),
+        Err(fault) => {
+            m.at_start();
+            Err(fault)
+        }
     }
 }
