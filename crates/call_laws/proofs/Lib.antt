@@ -5,4 +5,5 @@ mod CallStatuses
 mod ValuesServed
 mod Serving
 mod Finishing
+mod Fronts
 mod Meaning

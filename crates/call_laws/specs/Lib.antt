@@ -1,3 +1,4 @@
 pub mod CallValues
 pub mod Laws
+pub mod Texts
 pub mod Meaning

@@ -15,6 +15,7 @@
 
 ghost use Rattle.call_laws.specs.Laws.{CallsAnswerData, CallsAnswerValues, CallsFinish, SpelledArgumentsApply};
 ghost use Rattle.call_laws.specs.Meaning.{CallMeans};
+ghost use Rattle.call_laws.specs.Texts.{FrontAndRestAreTheInput};
 
 /// Main can be applied to the source terms of arguments that are spelled, and the applied term has a type, with the first-order set of the signature's answer.
 pub fn spelled_arguments_apply()
@@ -39,4 +40,9 @@ pub fn calls_finish<S, K, E>()
 /// On status 0 of `call` out took the text of data; and each value to which main evaluates, applied to the source terms of the arguments that the input spells, is exactly that data.
 pub fn call_means<S, K, E>()
     ensures means { CallMeans S K E }
+{}
+
+/// The tokens of an input of `call` are those of its front, which spells the environment, and then those of the text behind it, which spells the arguments: no token is cut, and none is lost.
+pub fn fronts_part_the_input()
+    ensures tokens { FrontAndRestAreTheInput }
 {}
