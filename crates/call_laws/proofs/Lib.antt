@@ -6,4 +6,6 @@ mod ValuesServed
 mod Serving
 mod Finishing
 mod Fronts
+mod FormStates
+mod FormBreaks
 mod Meaning

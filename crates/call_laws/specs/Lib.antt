@@ -1,4 +1,5 @@
 pub mod CallValues
 pub mod Laws
 pub mod Texts
+pub mod ArgumentForm
 pub mod Meaning

@@ -13,6 +13,7 @@
 //! Below stand `driver` with the contract, `call_answers` with the headline for calls, and `stored_calls` with what storing makes; nothing stands above.
 #![tactic(auto)]
 
+ghost use Rattle.call_laws.specs.ArgumentForm.{SyntaxIsOfTheForm};
 ghost use Rattle.call_laws.specs.Laws.{CallsAnswerData, CallsAnswerValues, CallsFinish, SpelledArgumentsApply};
 ghost use Rattle.call_laws.specs.Meaning.{CallMeans};
 ghost use Rattle.call_laws.specs.Texts.{FrontAndRestAreTheInput};
@@ -45,4 +46,9 @@ pub fn call_means<S, K, E>()
 /// The tokens of an input of `call` are those of its front, which spells the environment, and then those of the text behind it, which spells the arguments: no token is cut, and none is lost.
 pub fn fronts_part_the_input()
     ensures tokens { FrontAndRestAreTheInput }
+{}
+
+/// `Syntax` of reading arguments comes at the first token with which no text of their form goes on, or at the end of a text that isn't one, whichever the types are.
+pub fn syntax_faults_break_the_form()
+    ensures syntax { SyntaxIsOfTheForm }
 {}
