@@ -76,7 +76,8 @@ pub fn found_indices(
     Err(Halt::Broken(Broken::NotTheFamily { whnf }))
 }
 
-/// The family `id` applied to parameters, then to indices, all of one context. `TooDeep` only where that is beyond the limits of terms, and else only `Memory`.
+/// The family `id` applied to parameters, then to indices, all of one context. `TooDeep` only where that is beyond the limits of terms, and else
+/// only `Memory`.
 pub fn family_at_indices(
     alloc: Global,
     id: FamilyId,

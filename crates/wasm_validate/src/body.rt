@@ -21,7 +21,7 @@ use crate::plain::{
 use std::alloc::{AllocError, Global};
 use wasm_core::{Body, FuncType, Instr, Module, ValType};
 
-// One instruction of a function of this type and with this body.
+/// One instruction of a function of this type and with this body.
 fn check_instr(
     alloc: Global,
     m: &Module,
@@ -69,7 +69,7 @@ fn check_instr(
     }
 }
 
-// The place at which the pass over a body stops before its own end.
+/// The place at which the pass over a body stops before its own end.
 fn pass_stop(
     alloc: Global,
     m: &Module,
