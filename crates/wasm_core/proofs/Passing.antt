@@ -396,7 +396,8 @@ module _ (m : Parts) (ls rs : OperandTypes) where
       let p = ap (λ (o : Option Known). on_some o (λ k. only (may_end c.one_arm c.ends) (Some (More after)))) hj ∙ ap (λ b. only b (Some (More after))) may in
       subst (λ (o : Option Check). passes o (goes_on rest) (rest ≡ [])) (sym p) on
 
-  forward : {labels : List OperandTypes} {ts us : Operands} {body : List Instr} → Typed m ls rs labels ts body us → (a : Place) → labels_of rs a.ctls ≡ labels → Rep a.now ts → (tail : List Instr) → ((k : Known) → Rep k us → Accepts m ls rs (record a { now = k }) tail) → Accepts m ls rs a (body ++ tail)
+  forward : {labels : List OperandTypes} {ts us : Operands} {body : List Instr} → Typed m ls rs labels ts body us → (a : Place) → labels_of rs a.ctls ≡ labels → Rep a.now ts → (tail : List Instr) →
+      ((k : Known) → Rep k us → Accepts m ls rs (record a { now = k }) tail) → Accepts m ls rs a (body ++ tail)
   forward done a e r tail on = on a.now r
   forward (plain {pops = pops} {pushes = pushes} os ts {i = i} {rest = rest} he ma t) a e r tail on =
       let (k, hk, rk) = off_complete ma a.now.vals a.now.loose ts r in

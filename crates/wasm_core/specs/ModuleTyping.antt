@@ -123,16 +123,24 @@ pub record Reaches (labels : List OperandTypes) (l : ℕ) (os : Operands) : Type
 -- these types along, the innermost first, the code leads from operands of the types ts to operands of the types us
 pub data Typed (m : Parts) (locals results : OperandTypes) : List OperandTypes → Operands → List Instr → Operands → Type 0 where
   done : {labels : List OperandTypes} {ts : Operands} → Typed m locals results labels ts [] ts
-  plain : {labels : List OperandTypes} {us : Operands} {pops pushes : OperandTypes} (os ts : Operands) {i : Instr} {rest : List Instr} → effect m locals i ≡ Some (pops, pushes) → Match os pops → Typed m locals results labels (known pushes ++ ts) rest us → Typed m locals results labels (os ++ ts) (i ∷ rest) us
+  plain : {labels : List OperandTypes} {us : Operands} {pops pushes : OperandTypes} (os ts : Operands) {i : Instr} {rest : List Instr} → effect m locals i ≡ Some (pops, pushes) → Match os pops →
+      Typed m locals results labels (known pushes ++ ts) rest us → Typed m locals results labels (os ++ ts) (i ∷ rest) us
   drop : {labels : List OperandTypes} {t : OperandType} {ts us : Operands} {rest : List Instr} → Typed m locals results labels ts rest us → Typed m locals results labels (t ∷ ts) (Drop ∷ rest) us
   unreachable : {labels : List OperandTypes} {ts any us : Operands} {rest : List Instr} → Typed m locals results labels any rest us → Typed m locals results labels ts (Unreachable ∷ rest) us
-  block : {labels : List OperandTypes} {ts ends us : Operands} {b : BlockType} {body rest : List Instr} → Typed m locals results (left_by b ∷ labels) [] body ends → Match ends (left_by b) → Typed m locals results labels (known (left_by b) ++ ts) rest us → Typed m locals results labels ts (Block b ∷ (body ++ End ∷ rest)) us
-  loop : {labels : List OperandTypes} {ts ends us : Operands} {b : BlockType} {body rest : List Instr} → Typed m locals results ([] ∷ labels) [] body ends → Match ends (left_by b) → Typed m locals results labels (known (left_by b) ++ ts) rest us → Typed m locals results labels ts (Loop b ∷ (body ++ End ∷ rest)) us
-  one_arm : {labels : List OperandTypes} {o : OperandType} {ts us : Operands} {body rest : List Instr} → Match (o ∷ []) (I32 ∷ []) → Typed m locals results ([] ∷ labels) [] body [] → Typed m locals results labels ts rest us → Typed m locals results labels (o ∷ ts) (If Empty ∷ (body ++ End ∷ rest)) us
-  two_arms : {labels : List OperandTypes} {o : OperandType} {ts first_ends second_ends us : Operands} {b : BlockType} {first second rest : List Instr} → Match (o ∷ []) (I32 ∷ []) → Typed m locals results (left_by b ∷ labels) [] first first_ends → Match first_ends (left_by b) → Typed m locals results (left_by b ∷ labels) [] second second_ends → Match second_ends (left_by b) → Typed m locals results labels (known (left_by b) ++ ts) rest us → Typed m locals results labels (o ∷ ts) (If b ∷ (first ++ Else ∷ (second ++ End ∷ rest))) us
+  block : {labels : List OperandTypes} {ts ends us : Operands} {b : BlockType} {body rest : List Instr} → Typed m locals results (left_by b ∷ labels) [] body ends → Match ends (left_by b) →
+      Typed m locals results labels (known (left_by b) ++ ts) rest us → Typed m locals results labels ts (Block b ∷ (body ++ End ∷ rest)) us
+  loop : {labels : List OperandTypes} {ts ends us : Operands} {b : BlockType} {body rest : List Instr} → Typed m locals results ([] ∷ labels) [] body ends → Match ends (left_by b) →
+      Typed m locals results labels (known (left_by b) ++ ts) rest us → Typed m locals results labels ts (Loop b ∷ (body ++ End ∷ rest)) us
+  one_arm : {labels : List OperandTypes} {o : OperandType} {ts us : Operands} {body rest : List Instr} → Match (o ∷ []) (I32 ∷ []) → Typed m locals results ([] ∷ labels) [] body [] → Typed m locals results labels ts rest us →
+      Typed m locals results labels (o ∷ ts) (If Empty ∷ (body ++ End ∷ rest)) us
+  two_arms : {labels : List OperandTypes} {o : OperandType} {ts first_ends second_ends us : Operands} {b : BlockType} {first second rest : List Instr} → Match (o ∷ []) (I32 ∷ []) →
+      Typed m locals results (left_by b ∷ labels) [] first first_ends → Match first_ends (left_by b) → Typed m locals results (left_by b ∷ labels) [] second second_ends → Match second_ends (left_by b) →
+      Typed m locals results labels (known (left_by b) ++ ts) rest us → Typed m locals results labels (o ∷ ts) (If b ∷ (first ++ Else ∷ (second ++ End ∷ rest))) us
   br : {labels : List OperandTypes} {any us : Operands} (os ts : Operands) {l : ℕ} {rest : List Instr} → Reaches labels l os → Typed m locals results labels any rest us → Typed m locals results labels (os ++ ts) (Br l ∷ rest) us
-  br_if : {labels : List OperandTypes} {o : OperandType} {us : Operands} (os ts : Operands) {l : ℕ} {rest : List Instr} → Match (o ∷ []) (I32 ∷ []) → (r : Reaches labels l os) → Typed m locals results labels (known r.wanted ++ ts) rest us → Typed m locals results labels (o ∷ (os ++ ts)) (BrIf l ∷ rest) us
-  br_table : {labels : List OperandTypes} {o : OperandType} {any us : Operands} (os ts : Operands) {ls : List ℕ} {l : ℕ} {rest : List Instr} → Match (o ∷ []) (I32 ∷ []) → ((i k : ℕ) → slice_get ls i ≡ Some k → Reaches labels k os) → Reaches labels l os → Typed m locals results labels any rest us → Typed m locals results labels (o ∷ (os ++ ts)) (BrTable l ls ∷ rest) us
+  br_if : {labels : List OperandTypes} {o : OperandType} {us : Operands} (os ts : Operands) {l : ℕ} {rest : List Instr} → Match (o ∷ []) (I32 ∷ []) → (r : Reaches labels l os) → Typed m locals results labels (known r.wanted ++ ts) rest us →
+      Typed m locals results labels (o ∷ (os ++ ts)) (BrIf l ∷ rest) us
+  br_table : {labels : List OperandTypes} {o : OperandType} {any us : Operands} (os ts : Operands) {ls : List ℕ} {l : ℕ} {rest : List Instr} → Match (o ∷ []) (I32 ∷ []) → ((i k : ℕ) → slice_get ls i ≡ Some k → Reaches labels k os) →
+      Reaches labels l os → Typed m locals results labels any rest us → Typed m locals results labels (o ∷ (os ++ ts)) (BrTable l ls ∷ rest) us
   return : {labels : List OperandTypes} {any us : Operands} (os ts : Operands) {rest : List Instr} → Match os results → Typed m locals results labels any rest us → Typed m locals results labels (os ++ ts) (Return ∷ rest) us
 
 -- a body: instructions that lead from no operands to the results, where a branch out of the body takes the results along, and its own end

@@ -146,7 +146,8 @@ module _ (Q : Lifted) (env : List Place) (d c : ℕ) (b : LiftedBranch) where
   abbrev t : Block
   t = renumber (place_in Q.constants) b.body
 
-  empty_first : (n : ℕ) (more : BranchBlocks) (others : List Instr → List Instr) (rest : List Instr) → n ≡ 0 → empties P env d c (BCons n t more) others rest ≡ LocalGet d ∷ ConstWord (2 * c + 1) ∷ Operation op32.Eq ∷ IfWord ∷ code P env (suc d) t (Else ∷ empties P env d (suc c) more others (End ∷ rest))
+  empty_first : (n : ℕ) (more : BranchBlocks) (others : List Instr → List Instr) (rest : List Instr) → n ≡ 0 →
+      empties P env d c (BCons n t more) others rest ≡ LocalGet d ∷ ConstWord (2 * c + 1) ∷ Operation op32.Eq ∷ IfWord ∷ code P env (suc d) t (Else ∷ empties P env d (suc c) more others (End ∷ rest))
   empty_first zero more others rest e = refl
   empty_first (suc n) more others rest e = absurd (omega arith)
 
