@@ -18,3 +18,6 @@ zeros_byte n x h = get_or-replicate n x 0 0 h
 pub zeroed_word : word (zeroed 1) 0 ≡ 0
 unfolding word zeroed
 zeroed_word = omega (arith, zeros_byte 65536 0 (omega arith), zeros_byte 65536 1 (omega arith), zeros_byte 65536 2 (omega arith), zeros_byte 65536 3 (omega arith))
+
+pub at_zero : (m : Mem) (w : ℕ) → word m (w + 0) ≡ word m w
+at_zero m w = ap (word m) (omega arith)
