@@ -34,7 +34,7 @@ pub(crate) fn apply(
 }
 
 /// Takes a call's arguments off, the last one first. In loose code it stops where no operand is known, however many are asked for.
-fn take_params(checker: &mut Checker, params: &[ValType]) -> bool
+pub(crate) fn take_params(checker: &mut Checker, params: &[ValType]) -> bool
     ensures taken { MatchBool result (off (reverse params.now) checker.old.now ≡ Some checker.new.now) (off (reverse params.now) checker.old.now ≡ None) }
     ensures ctls { checker.new.ctls ≡ checker.old.ctls }
 {
