@@ -35,13 +35,17 @@ fn check_tail_callee(checker: &mut Checker, of: &FuncType, own: Option<ValType>)
 }
 
 // A tail call of a table's entry with this type, whose index lies above the arguments.
+#[tactic(auto, using(crate::proofs::Taking::off_first, crate::proofs::Taking::off_first_none))]
 fn check_tail_entry(checker: &mut Checker, of: &FuncType, own: Option<ValType>) -> Progress
     ensures is { check_tail (option_to_list own) (Some (calling_entry of.now)) checker.old ≡ shows result checker.new }
 {
-    if !same_result(of.result, own)
-        || !checker.take(ValType::I32)
-        || !take_params(checker, of.params.as_slice())
-    {
+    if !same_result(of.result, own) {
+        return Progress::Stuck;
+    }
+    if !checker.take(ValType::I32) {
+        return Progress::Stuck;
+    }
+    if !take_params(checker, of.params.as_slice()) {
         return Progress::Stuck;
     }
     checker.kill();
