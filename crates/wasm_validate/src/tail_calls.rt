@@ -12,7 +12,7 @@ use crate::checker::{Checker, Progress};
 use crate::plain::take_params;
 use wasm_core::{FuncType, Module, ValType};
 
-// Two functions have the same results.
+/// Two functions have the same results.
 fn same_result(x: Option<ValType>, y: Option<ValType>) -> bool
     ensures is { result ≡ same_types (option_to_list x) (option_to_list y) }
 {
@@ -23,7 +23,7 @@ fn same_result(x: Option<ValType>, y: Option<ValType>) -> bool
     }
 }
 
-// A tail call of a function of this type, in one with the result `own`.
+/// A tail call of a function of this type, in one with the result `own`.
 fn check_tail_callee(checker: &mut Checker, of: &FuncType, own: Option<ValType>) -> Progress
     ensures is { check_tail (option_to_list own) (Some (calling of.now)) checker.old ≡ shows result checker.new }
 {
@@ -34,7 +34,7 @@ fn check_tail_callee(checker: &mut Checker, of: &FuncType, own: Option<ValType>)
     Progress::Goes
 }
 
-// A tail call of a table's entry with this type, whose index lies above the arguments.
+/// A tail call of a table's entry with this type, whose index lies above the arguments.
 #[tactic(auto, using(crate::proofs::Taking::off_first, crate::proofs::Taking::off_first_none))]
 fn check_tail_entry(checker: &mut Checker, of: &FuncType, own: Option<ValType>) -> Progress
     ensures is { check_tail (option_to_list own) (Some (calling_entry of.now)) checker.old ≡ shows result checker.new }
