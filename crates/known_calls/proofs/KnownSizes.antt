@@ -11,7 +11,7 @@ use Rattle.wasm_core.specs.Parts.{Parts}
 use Rattle.wasm_core.specs.ShortestBytes.{put_u32, put_all, put_body, put_section, put_segment, put_func_type, put_table_type, put_limits, put_global, put_export, put_instr, unsigned, sizes, module_bytes}
 use Rattle.closure_lift.specs.Lifted.{Op, OConst, OApp, OCon, OClos, OCase, Block, RetAtom, LetAtom, Ret, Let, BranchBlocks, BNil, BCons, Program, Fn}
 use Rattle.closure_lift.specs.LiftedForm.{Formed, Limits}
-use Rattle.wasm_emit.specs.EmittedModule.{type_main, type_constant, type_function, body, entries}
+use Rattle.wasm_emit.specs.EmittedModule.{type_main, type_constant, type_function, body, entries, main_index}
 use Rattle.wasm_emit.specs.EmittedLocals.{top, top_op, top_branches}
 use Rattle.wasm_emit.specs.EmitLaws.{CountsFit}
 use Rattle.wasm_emit.proofs.Indices.{entries_length}
@@ -170,7 +170,7 @@ module _ (P : Program) (main : Body) (gs : List GlobalDef) (es : List Export) (p
 pub known_sized : KnownSized
 known_sized P pages m form limits counts =
     let main = main_size P m form counts limits in
-    omega (arith, module_sized P (main_function P) [] [] pages m form limits counts (20 + weight P.main) 30 68 main globals_size (exports_size P pages))
+    omega (arith, module_sized P (main_function P) [] [] pages m form limits counts (20 + weight P.main) 30 68 main globals_size (exports_size (main_index P)))
 
 -- each local is set by an instruction
 mutual
