@@ -76,7 +76,7 @@ sound_close _ h = absurd h
 
 closed_some : (n : ℕ) → 0 < n → AtItem Later (n - 1) ≡ closed n
 closed_some zero h = absurd (omega (arith, h))
-closed_some (suc n) h = refl
+closed_some (suc n) h = ap (λ m. AtItem Later m) (omega arith)
 
 state_close : (xs : List Awaited) → BehindClose xs → state xs ≡ closed (brackets xs)
 state_close [] h = refl
@@ -86,7 +86,7 @@ state_close _ h = absurd h
 
 state_item : (xs : List Awaited) → BehindItem xs → state xs ≡ AtItem Later (brackets xs - 1)
 state_item (AwaitsItem Later S i ∷ xs) h = refl
-state_item (AwaitsClose Later ∷ xs) h = refl
+state_item (AwaitsClose Later ∷ xs) h = ap (λ n. AtItem Later n) (omega arith)
 state_item _ h = absurd h
 
 -- the items between two brackets
@@ -105,7 +105,7 @@ items_sound S (j ∷ js) xs h = items_behind S js xs h
 
 items_state : (S : List Shape) (js : List ℕ) (xs : List Awaited) → state (items_in First S js ++ xs) ≡ AtItem First (brackets xs)
 items_state S [] xs = refl
-items_state S (j ∷ js) xs = ap (λ n. AtItem First (n - 1)) (items_brackets Later S js xs)
+items_state S (j ∷ js) xs = ap (λ n. AtItem First n) (omega (arith, items_brackets Later S js xs))
 
 -- the arguments
 
@@ -123,7 +123,7 @@ arguments_sound (S ∷ Ss) = arguments_behind Ss
 
 arguments_state : (Ss : List (List Shape)) → state (arguments_in First Ss) ≡ AtItem First 0
 arguments_state [] = refl
-arguments_state (S ∷ Ss) = ap (λ n. AtItem First (n - 1)) (arguments_brackets Later Ss)
+arguments_state (S ∷ Ss) = ap (λ n. AtItem First n) (omega (arith, arguments_brackets Later Ss))
 
 -- ---- a token
 
@@ -197,7 +197,7 @@ awaits_more (AwaitsClose t) xs e = cc
 
 -- ---- the whole text
 
-syntax : ℕ → ArgumentReading
+abbrev syntax : ℕ → ArgumentReading
 syntax o = ArgumentsFail (faults.Syntax o)
 
 same_place : (o p : ℕ) → ArgumentsFail (faults.Syntax o) ≡ ArgumentsFail (faults.Syntax p) → p ≡ o

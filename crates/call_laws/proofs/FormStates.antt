@@ -55,6 +55,7 @@ mutual
       ap (λ ws. steps (Some (AtItem t d)) ws) (append_assoc ts vs us) ∙ item_read t d ts (vs ++ us) h ∙ items_read Later d vs us hs
 
 pub form_read : (ts : List Text) → HasForm ts → steps (Some AtStart) ts ≡ Some AtEnd
+unfolding spelling
 form_read ts h = ap (steps (Some AtStart)) h.is ∙ items_read First 0 h.items (Close ∷ []) h.are
 
 -- so no text of the form begins with what can't be read
@@ -137,14 +138,10 @@ back AtEnd Close us f = absurd f
 back AtEnd (Atom a) us f = absurd f
 back AtEnd Stray us f = absurd f
 
-mutual
-  back_all : (q : State) (ts us : List Text) → FitsSome (steps (Some q) ts) us → Fits q (ts ++ us)
-  back_all q [] us f = f
-  back_all q (t ∷ ts) us f = back q t (ts ++ us) (back_some (step q t) ts us f)
-
-  back_some : (o : Option State) (ts us : List Text) → FitsSome (steps o ts) us → FitsSome o (ts ++ us)
-  back_some None ts us f = absurd f
-  back_some (Some q) ts us f = back_all q ts us f
+back_all : (o : Option State) (ts us : List Text) → FitsSome (steps o ts) us → FitsSome o (ts ++ us)
+back_all None ts us f = absurd f
+back_all (Some q) [] us f = f
+back_all (Some q) (t ∷ ts) us f = back q t (ts ++ us) (back_all (step q t) ts us f)
 
 closes : (d : ℕ) → (vs : List Text) × Closed d vs
 closes zero = ([], refl)
@@ -162,4 +159,4 @@ some_rest (AtName d) = let (vs, h) = name_closes (suc d) in (Atom [] ∷ vs, ([]
 some_rest AtEnd = ([], refl)
 
 pub read_goes_on : (ts : List Text) (q : State) → steps (Some AtStart) ts ≡ Some q → GoesOn ts
-read_goes_on ts q e = let (us, f) = some_rest q in (us, back_all AtStart ts us (subst (λ o. FitsSome o us) (sym e) f))
+read_goes_on ts q e = let (us, f) = some_rest q in (us, back_all (Some AtStart) ts us (subst (λ o. FitsSome o us) (sym e) f))

@@ -58,6 +58,10 @@ record Parted (n d : ℕ) (c : Bool) (bytes : List ℕ) : Type 0 where
   ends : front_end (n + length bytes) d (lex n c bytes) ≡ n + past
   parts : texts (lex n c bytes) ≡ texts (lex n c (take past bytes)) ++ texts (lex (n + past) false (drop past bytes))
 
+no_token : (n : ℕ) (c : Bool) → lex n c [] ≡ []
+unfolding lex
+no_token n c = refl
+
 -- at the end of all bytes
 at_end : (n d : ℕ) (c : Bool) (bytes : List ℕ) → front_end (n + length bytes) d (lex n c bytes) ≡ n + length bytes → Parted n d c bytes
 at_end n d c bytes e =
@@ -68,12 +72,8 @@ at_end n d c bytes e =
       parts =
           sym (append-nil (texts (lex n c bytes)))
           ∙ ap (λ us. texts (lex n c us) ++ []) (sym (take_all k bytes (le_refl k)))
-          ∙ ap (λ us. texts (lex n c (take k bytes)) ++ texts us) (nothing (n + k) ∙ ap (lex (n + k) false) (sym (drop_all k bytes (le_refl k))));
+          ∙ ap (λ us. texts (lex n c (take k bytes)) ++ texts us) (sym (no_token (n + k) false) ∙ ap (lex (n + k) false) (sym (drop_all k bytes (le_refl k))));
     }
-  where
-    nothing : (n : ℕ) → [] ≡ lex n false []
-    unfolding lex
-    nothing n = refl
 
 -- a byte of no token
 skipped : (n d b : ℕ) (c c' : Bool) (bs : List ℕ) → ((xs : List ℕ) → lex n c (b ∷ xs) ≡ lex (n + 1) c' xs) → Parted (n + 1) d c' bs → Parted n d c (b ∷ bs)
@@ -120,10 +120,6 @@ behind len (Err f) k later = at_all refl
 first_token : (len d : ℕ) (s : Spanned) (ss : List Spanned) → front_end len d (s ∷ ss) ≡ end_behind len (answer_at d s.start s.text) (nesting_after_text d s.text) (front_end len (nesting_after_text d s.text) ss)
 unfolding front_end
 first_token len d s ss = refl
-
-no_token : (n : ℕ) (c : Bool) → lex n c [] ≡ []
-unfolding lex
-no_token n c = refl
 
 -- a token of these bytes, whatever part of the rest stands behind it
 module _ (n d : ℕ) (t : Text) (front rest : List ℕ) (size : length front ≡ size_of t)
@@ -227,12 +223,12 @@ atom_reads n b bs e p =
     let rest = take p (drop (atom_len bs) bs) in
     lex-atom_front b (a ++ rest) n e ∙ rw (atom_ends bs (atom_len bs) refl p, take-append_seam a rest, drop-append_seam a rest) refl
 
+none_ends : (n d : ℕ) (c : Bool) → front_end (n + 0) d (lex n c []) ≡ n + 0
+unfolding front_end lex
+none_ends n d c = refl
+
 all_parted : (fuel n d : ℕ) (c : Bool) (bytes : List ℕ) → length bytes ≤ fuel → Parted n d c bytes
-all_parted fuel n d c [] le = at_end n d c [] (none n d c)
-  where
-    none : (n d : ℕ) (c : Bool) → front_end (n + 0) d (lex n c []) ≡ n + 0
-    unfolding front_end lex
-    none n d c = refl
+all_parted fuel n d c [] le = at_end n d c [] (none_ends n d c)
 all_parted zero n d c (b ∷ bs) le = absurd (omega arith)
 all_parted (suc fuel) n d true (b ∷ bs) le =
     elim (cases_Bool (nat_eq b 10)) [
