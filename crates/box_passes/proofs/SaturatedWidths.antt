@@ -107,9 +107,9 @@ spine_fits : {A d : ℕ} {f : BoxTerm} (n : ℕ) → FitsTerm A d f → FitsTerm
 spine_fits zero h = h
 spine_fits {f = f} (suc n) h = spine_fits {f = BApp f (Rel n)} n (fits_app h fits_rel)
 
-pub called_widths : (P : BoxProgram) (vs : ClosureValues) (args : List Data) → ValuesHold vs args → {k : ℕ} (v : ClosureValue) (c : Counts) →
+pub called_widths : (P : BoxProgram) (vs : ClosureValues) (args : List Data) → ValuesHold vs args → (k : ℕ) (v : ClosureValue) (c : Counts) →
     ClosureRun (saturate_program P) (bind_all vs Empty) (box_apply (saturate_program P).main (innermost k)) v c → c.greatest ≤ greatest_words P + length args
-called_widths P vs args held {k} v c run =
+called_widths P vs args held k v c run =
     let n = length args in
     let D = most_depth P in
     let A = greatest_arguments P.families in
