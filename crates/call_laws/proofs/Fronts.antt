@@ -256,7 +256,9 @@ all_parted (suc fuel) n d false (b ∷ bs) le =
 pub front_and_rest : FrontAndRestAreTheInput
 front_and_rest bytes =
     let r = all_parted (length bytes) 0 0 false bytes (le_refl (length bytes)) in
-    let is : front_end (length bytes) 0 (tokens_of bytes) ≡ r.past = r.ends in
+    let size : 0 + length bytes ≡ length bytes = omega arith in
+    let end : 0 + r.past ≡ r.past = omega arith in
+    let is : front_end (length bytes) 0 (tokens_of bytes) ≡ r.past = subst (λ n. front_end n 0 (tokens_of bytes) ≡ r.past) size (r.ends ∙ end) in
     r.parts
     ∙ ap (λ us. texts (tokens_of (take r.past bytes)) ++ us) (texts_anywhere (0 + r.past) 0 false (drop r.past bytes))
     ∙ ap (λ m. texts (tokens_of (take m bytes)) ++ texts (tokens_of (drop m bytes))) (sym is)
