@@ -1,5 +1,5 @@
 -- Where reading arguments along their types answers `Syntax`, no text of their form goes on.
-use Rattle.std.proofs.Common.{◌≡◌, ◌∙◌, ℕ, zero, suc, ◌-◌, ◌<◌, List, [], ◌∷◌, ◌++◌, length, Bool, true, false, Option, Some, None, Result, Ok, Err, ◌⊎◌, inl, inr, refl, sym, ap, append_assoc, arith}
+use Rattle.std.proofs.Common.{◌≡◌, ◌∙◌, ℕ, zero, suc, ◌+◌, ◌-◌, ◌<◌, List, [], ◌∷◌, ◌++◌, drop, length, Bool, true, false, Option, Some, None, Result, Ok, Err, ◌⊎◌, inl, inr, refl, sym, ap, append_assoc, arith}
 use Rattle.std.specs.Prelude.{bytes_eq, nat_le, nat_lt, if◌then◌else◌}
 use Rattle.sexp_reader.specs.Text.{Text, Open, Close, Atom, Stray}
 use Rattle.sexp_reader.specs.Lex.{Spanned, answer_at, nesting_after_text, tokens_of}
@@ -16,7 +16,7 @@ use Rattle.first_order.specs.declared.given.Turn.TheVariants.{First, Later}
 use Rattle.first_order.specs.declared.shapes.Shape.{Shape}
 use Rattle.first_order.specs.ArgumentTexts.{ctor_at}
 use Rattle.first_order.specs.Awaited.{Awaited, AwaitsOpen, AwaitsWord, AwaitsItem, AwaitsName, AwaitsClose, items_in, arguments_in, whole_call}
-use Rattle.first_order.specs.Awaited.{Taking, BreaksForm, Misplaced, TakesToken, alone, closing, opened, taking, ArgumentReading, ArgumentsAre, ArgumentsFail, with_nodes, token_fault, answered, taken, at_token, reading_of}
+use Rattle.first_order.specs.Awaited.{Taking, BreaksForm, Misplaced, TakesToken, alone, closing, opened, taking, ArgumentReading, ArgumentsAre, ArgumentsFail, with_nodes, token_fault, answered, taken, at_token, reading_of, reading_behind, call_arguments}
 use Rattle.calculus_rules.specs.FirstOrder.{Data}
 use Rattle.calculus_rules.proofs.Spines.{one_item}
 use Rattle.call_laws.specs.ArgumentForm.{HasForm, GoesOn, BreaksBehind, BreaksAt, SyntaxIsOfTheForm}
@@ -302,5 +302,16 @@ module _ (names : List (List ℕ)) (len o : ℕ) (all : List Spanned) where
             (ap (steps (Some AtStart)) (texts_behind pre s) ∙ steps_on (Some AtStart) (texts pre) (s.text ∷ []) ∙ ap (λ q. steps q (s.text ∷ [])) read ∙ ap (λ q. steps q []) goes) fails)
       ]
 
+behind_syntax : (n o : ℕ) (r : ArgumentReading) → reading_behind n r ≡ syntax o → (p : ℕ) × (r ≡ syntax p) × (o ≡ n + p)
+behind_syntax n o (ArgumentsAre ds) e = absurd cc
+behind_syntax n o (ArgumentsFail (faults.Syntax p)) e = (p, refl, same_place (n + p) o e)
+behind_syntax n o (ArgumentsFail (faults.Wrong p)) e = absurd cc
+behind_syntax n o (ArgumentsFail faults.Nesting) e = absurd cc
+behind_syntax n o (ArgumentsFail faults.NameBytes) e = absurd cc
+behind_syntax n o (ArgumentsFail faults.Memory) e = absurd cc
+
 pub syntax_of_form : SyntaxIsOfTheForm
-syntax_of_form names Ss bytes o e = found names (length bytes) o (tokens_of bytes) [] (tokens_of bytes) 0 (whole_call Ss) refl (refl, (arguments_state Ss, arguments_sound Ss)) refl e
+syntax_of_form names Ss bytes from o e =
+    let behind = drop from bytes in
+    let (p, is, place) = behind_syntax from o (call_arguments names Ss behind) e in
+    (p, place, found names (length behind) p (tokens_of behind) [] (tokens_of behind) 0 (whole_call Ss) refl (refl, (arguments_state Ss, arguments_sound Ss)) refl is)

@@ -1,5 +1,5 @@
 -- The form of a text of arguments, whatever their types are: `(args d d)`, where each d is a name, or in brackets a name before such items, one at least. And the first place of a text where no text of the form goes on.
-use Rattle.std.specs.Prelude.{◌≡◌, ℕ, List, [], ◌∷◌, ◌++◌, length, drop}
+use Rattle.std.specs.Prelude.{◌≡◌, ℕ, ◌+◌, List, [], ◌∷◌, ◌++◌, length, drop}
 use Rattle.sexp_reader.specs.Text.{Text, Open, Close, Atom}
 use Rattle.sexp_reader.specs.Lex.{Spanned, tokens_of}
 use Rattle.dump_grammar.specs.Judge.{texts}
@@ -7,7 +7,7 @@ use Rattle.dump_grammar.specs.Keywords.{spelling}
 use Rattle.dump_grammar.specs.declared.keyword.Keyword.TheVariants as words
 use Rattle.first_order.specs.declared.faults.ArgsFault.TheVariants as faults
 use Rattle.first_order.specs.declared.shapes.Shape.{Shape}
-use Rattle.first_order.specs.Awaited.{ArgumentsFail, call_arguments}
+use Rattle.first_order.specs.Awaited.{ArgumentsFail, arguments_from}
 
 mutual
   pub data FormItem : List Text → Type 0 where
@@ -41,6 +41,8 @@ pub record BreaksAt (len : ℕ) (ss : List Spanned) (offset : ℕ) : Type 0 wher
   pub begins : GoesOn (texts before)
   pub breaks : BreaksBehind (texts before) len after offset
 
--- `Syntax` comes at the first token with which no text of the form goes on, or at the end of a text that isn't one, whichever the types are
+-- `Syntax` comes at the first token with which no text of the form goes on, or at the end of a text that isn't one, whichever the types are; offsets are counted from the start of the whole
 abbrev pub SyntaxIsOfTheForm : Type 0
-SyntaxIsOfTheForm = (names : List (List ℕ)) (Ss : List (List Shape)) (bytes : List ℕ) (o : ℕ) → call_arguments names Ss bytes ≡ ArgumentsFail (faults.Syntax o) → BreaksAt (length bytes) (tokens_of bytes) o
+SyntaxIsOfTheForm =
+    (names : List (List ℕ)) (Ss : List (List Shape)) (bytes : List ℕ) (from o : ℕ) → arguments_from names Ss bytes from ≡ ArgumentsFail (faults.Syntax o) →
+    (p : ℕ) × (o ≡ from + p) × BreaksAt (length (drop from bytes)) (tokens_of (drop from bytes)) p

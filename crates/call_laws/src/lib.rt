@@ -10,6 +10,9 @@
 //! Where nothing is told of the source, status 0 means the same of some bytes within the limit: out took the text of data, and each value of main, applied to the arguments that stand behind the front, is
 //! exactly that (`call_means`, `means`).
 //!
+//! Of the text: the tokens of the input are those of its front and then those of what stands behind it (`fronts_part_the_input`, `tokens`), and a refusal of the arguments as `Syntax` comes at the first token
+//! with which no text of their form goes on (`syntax_faults_break_the_form`, `syntax`).
+//!
 //! Below stand `driver` with the contract, `call_answers` with the headline for calls, and `stored_calls` with what storing makes; nothing stands above.
 #![tactic(auto)]
 
