@@ -16,10 +16,10 @@ use Rattle.first_order.specs.declared.given.Turn.TheVariants.{First, Later}
 use Rattle.first_order.specs.declared.shapes.Shape.{Shape}
 use Rattle.first_order.specs.ArgumentTexts.{ctor_at}
 use Rattle.first_order.specs.Awaited.{Awaited, AwaitsOpen, AwaitsWord, AwaitsItem, AwaitsName, AwaitsClose, items_in, arguments_in, whole_call}
-use Rattle.first_order.specs.Awaited.{Taking, BreaksForm, Misplaced, TakesToken, alone, closing, opened, taking, ArgumentReading, ArgumentsAre, ArgumentsFail, with_nodes, token_fault, answered, taken, at_token, reading_of, reading_behind, call_arguments}
+use Rattle.first_order.specs.Awaited.{Taking, BreaksForm, Misplaced, TakesToken, alone, opened, taking, ArgumentReading, ArgumentsAre, ArgumentsFail, with_nodes, token_fault, answered, taken, at_token, reading_of, reading_behind, call_arguments}
 use Rattle.calculus_rules.specs.FirstOrder.{Data}
 use Rattle.calculus_rules.proofs.Spines.{one_item}
-use Rattle.call_laws.specs.ArgumentForm.{HasForm, GoesOn, BreaksBehind, BreaksAt, SyntaxIsOfTheForm}
+use Rattle.call_laws.specs.ArgumentForm.{BreaksAt, SyntaxIsOfTheForm}
 use Rattle.call_laws.proofs.FormStates.{State, AtStart, AtWord, AtItem, AtName, AtEnd, closed, step, steps, steps_on, form_read, unread_breaks, read_goes_on}
 
 -- ---- what is awaited, whatever the types are

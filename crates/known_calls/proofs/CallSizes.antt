@@ -11,7 +11,7 @@ use Rattle.wasm_emit.specs.CallModule.{call_globals, call_exports}
 use Rattle.wasm_emit.specs.EmitLaws.{CountsFit}
 use Rattle.wasm_emit.specs.EmittedLocals.{top}
 use Rattle.wasm_emit.specs.EmittedModule.{main_index, word_global}
-use Rattle.wasm_emit.proofs.Lengths.{size, z_end, z_global, body_size}
+use Rattle.wasm_emit.proofs.Lengths.{z_end, z_global, body_size}
 use Rattle.wasm_emit.proofs.Sized.{no_bytes, export_size}
 use Rattle.known_calls.specs.CallBytes.{CallsSized}
 use Rattle.known_calls.specs.KnownCalls.{applied, call_function, module_of_call}

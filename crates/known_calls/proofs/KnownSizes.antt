@@ -20,7 +20,7 @@ use Rattle.wasm_emit.proofs.Sized.{no_bytes, section_size, items_size, globals_s
 use Rattle.known_calls.specs.KnownPlaces.{At, InLocal, fields_of}
 use Rattle.known_calls.specs.KnownCode.{Inside, is_wide, code}
 use Rattle.known_calls.specs.KnownModule.{words_type, wide_body, stub_code, entry, worker_code, worker, worker_type, numbered, constant, main_function, module_with}
-use Rattle.known_calls.specs.KnownWeight.{op_weight, weight, branches_weight, functions_weight, constants_weight, program_weight, KnownSized, LocalsBound}
+use Rattle.known_calls.specs.KnownWeight.{op_weight, weight, branches_weight, functions_weight, constants_weight, KnownSized, LocalsBound}
 use Rattle.known_calls.proofs.KnownIndices.{narrow_few, order_length}
 use Rattle.known_calls.proofs.Bounded.{b_code}
 use Rattle.known_calls.proofs.KnownSpelling.{b_stub, b_wide, b_loop_of}
