@@ -20,7 +20,9 @@ mod clash;
 mod closing;
 mod cover;
 pub mod graph;
+mod hints;
 pub mod numbers;
+mod order;
 mod row;
 mod steps;
 #[cfg(test)]
