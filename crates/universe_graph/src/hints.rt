@@ -18,7 +18,9 @@ struct Hint {
     place: usize,
 }
 
-/// Whether each level expression of `low` is at most one of `high` by the spans; that at the place of its level's hint is tried first. Takes no memory.
+/// Whether each level expression of `low` is at most one of `high` by the spans; that at the place of its level's hint is tried first. Takes no memory,
+/// but some of the stack, which a comparison of small universes doesn't ask for.
+#[inline(never)]
 pub(crate) fn covers_by_hints(
     rows: &[Row],
     order: &Order,
