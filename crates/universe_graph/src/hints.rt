@@ -36,7 +36,7 @@ pub(crate) fn covers_by_hints(
     begin(&mut hints, high);
     climb(&mut hints, order.steps());
     for part in low {
-        let place = hint_of(&hints, part.level.0).place;
+        let place = hint_of(&hints, part.level.0 as usize).place;
         if !covers_hinted(rows, *part, high, place) {
             return false;
         }
@@ -73,7 +73,7 @@ fn covers_at(rows: &[Row], part: LevelExpr, high: &[LevelExpr], place: usize) ->
 fn begin(hints: &mut [Hint], high: &[LevelExpr]) {
     for place in 0..high.len() {
         let most = u64::from(high[place].add) + 1;
-        offer(hints, high[place].level.0, Hint { most, place });
+        offer(hints, high[place].level.0 as usize, Hint { most, place });
     }
 }
 
@@ -96,8 +96,8 @@ fn climb(hints: &mut [Hint], steps: &[Step]) {
 }
 
 /// Keeps a hint for a level, where it is better than the one that is there.
-fn offer(hints: &mut [Hint], level: u32, hint: Hint) {
-    if let Some(kept) = hints.get_mut(level as usize) {
+fn offer(hints: &mut [Hint], level: usize, hint: Hint) {
+    if let Some(kept) = hints.get_mut(level) {
         if kept.most < hint.most {
             *kept = hint;
         }
@@ -105,8 +105,8 @@ fn offer(hints: &mut [Hint], level: u32, hint: Hint) {
 }
 
 /// The hint for a level.
-fn hint_of(hints: &[Hint], level: u32) -> Hint {
-    match hints.get(level as usize) {
+fn hint_of(hints: &[Hint], level: usize) -> Hint {
+    match hints.get(level) {
         Some(hint) => *hint,
         None => Hint { most: 0, place: 0 },
     }

@@ -13,8 +13,8 @@ use universe_levels::constraint::{Constraint, Relation};
 pub(crate) struct Step {
     /// When the step is taken, among the others.
     turn: u32,
-    pub(crate) from: u32,
-    pub(crate) to: u32,
+    pub(crate) from: usize,
+    pub(crate) to: usize,
     /// 1 for a strict step, and else 0.
     pub(crate) added: u32,
 }
@@ -65,8 +65,8 @@ fn push_constraints(
     constraints: &[Constraint],
 ) -> Result<(), AllocError> {
     for constraint in constraints {
-        let from = constraint.left.0;
-        let to = constraint.right.0;
+        let from = constraint.left.0 as usize;
+        let to = constraint.right.0 as usize;
         let height = height_of(heights, from);
         if height != height_of(heights, to) {
             let added = if constraint.relation == Relation::Lt {
@@ -87,9 +87,9 @@ fn push_equals(steps: &mut Vec<Step>, heights: &[u32], rows: &[Row]) -> Result<(
     for i in 0..rows.len() {
         let first = first_equal(&rows[i], heights, i);
         if first < i {
-            let height = height_of(heights, i as u32);
-            steps.push(step_at(height, 1, first as u32, i as u32, 0))?;
-            steps.push(step_at(height, 2, i as u32, first as u32, 0))?;
+            let height = height_of(heights, i);
+            steps.push(step_at(height, 1, first, i, 0))?;
+            steps.push(step_at(height, 2, i, first, 0))?;
         }
     }
     Ok(())
@@ -99,9 +99,9 @@ fn push_equals(steps: &mut Vec<Step>, heights: &[u32], rows: &[Row]) -> Result<(
 fn first_equal(row: &Row, heights: &[u32], level: usize) -> usize
     requires level_in { level < length row.now }
 {
-    let height = height_of(heights, level as u32);
+    let height = height_of(heights, level);
     for j in 0..level {
-        if row.span(j) > 0 && height_of(heights, j as u32) == height {
+        if row.span(j) > 0 && height_of(heights, j) == height {
             return j;
         }
     }
@@ -109,15 +109,15 @@ fn first_equal(row: &Row, heights: &[u32], level: usize) -> usize
 }
 
 /// The height of a level, 0 where there is no such level.
-fn height_of(heights: &[u32], level: u32) -> u32 {
-    match heights.get(level as usize) {
+fn height_of(heights: &[u32], level: usize) -> u32 {
+    match heights.get(level) {
         Some(height) => *height,
         None => 0,
     }
 }
 
 /// A step from a level of that height; at one height the lesser phase comes first.
-fn step_at(height: u32, phase: u32, from: u32, to: u32, added: u32) -> Step {
+fn step_at(height: u32, phase: u32, from: usize, to: usize, added: u32) -> Step {
     Step {
         turn: height.saturating_mul(3).saturating_add(phase),
         from,
