@@ -91,11 +91,6 @@ ends_sum (suc n) k rest =
     let e : suc (k + n) ≡ k + suc n = omega arith in
     ap (λ (z : List Instr). End ∷ z) (ends_sum n k rest) ∙ ap (λ (j : ℕ). ends j rest) e
 
--- branch c of a match on the word in local d
-module _ (Q : Lifted) (env : List Place) (d c : ℕ) (b : LiftedBranch) where
-  abbrev t : Block
-  t = renumber (place_in Q.constants) b.body
-
 pub on_ok : {A E P Q : Type 0} (r : Result A E) → (P → Q) → OnOk r P → OnOk r Q
 on_ok (Ok x) f h = f h
 on_ok (Err e) f h = h
