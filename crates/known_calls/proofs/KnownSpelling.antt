@@ -4,7 +4,6 @@ use Rattle.std.specs.Prelude.{slice_get, if◌then◌else◌}
 use Rattle.std.proofs.lemmas.Option.{slice_get_within}
 use Rattle.wasm_core.specs.declared.types.ValType.TheVariants.{I32}
 use Rattle.wasm_core.specs.declared.instrs.BlockType.TheVariants.{Value}
-use Rattle.wasm_core.specs.declared.instrs.Instr.{Instr}
 use Rattle.wasm_core.specs.declared.instrs.Instr.TheVariants.{Unreachable, Loop, End, Call, LocalGet, GlobalSet}
 use Rattle.wasm_core.specs.Parts.{Parts}
 use Rattle.wasm_core.specs.ModuleTyping.{TypedFunc}
@@ -21,7 +20,7 @@ use Rattle.wasm_emit.specs.EmittedModule.{body, room_code, entries}
 use Rattle.wasm_emit.specs.CallModule.{call_globals, call_exports}
 use Rattle.wasm_emit.specs.EmitLaws.{CountsFit}
 use Rattle.wasm_emit.proofs.Indices.{entries_length}
-use Rattle.wasm_emit.proofs.Spelled.{Good, good, fits, all_then, body_fits, room_good}
+use Rattle.wasm_emit.proofs.Spelled.{good, fits, all_then, body_fits, room_good}
 use Rattle.known_calls.specs.KnownPlaces.{At, InLocal, fields_of}
 use Rattle.known_calls.specs.KnownCode.{Inside, InTail, is_wide, worker_index, code}
 use Rattle.known_calls.specs.KnownModule.{params, captured_words, wide_body, stub_code, entry, worker_code, worker, worker_type, numbered, constant, main_function, module_with, module_of}
