@@ -32,7 +32,7 @@ use Rattle.wasm_emit.proofs.Making.{all_size}
 use Rattle.wasm_emit.proofs.Cases.{at_zero}
 use Rattle.wasm_emit.proofs.Follows.{zeros_length, branch_top, append_nil, closure, box_word, low_word, top_arg}
 use Rattle.known_calls.specs.KnownPlaces.{Word, InLocal, Place, At, Known, fields_of, known_function, names, branches_read, block_reads}
-use Rattle.known_calls.specs.KnownCode.{Position, Inside, InTail, is_wide, into_params, worker_index, most_blocks, jumps, application, call_worker, choose, unmade, known, op, code, empties, heads}
+use Rattle.known_calls.specs.KnownCode.{Position, Inside, InTail, is_wide, into_params, worker_index, most_blocks, jumps, application, call_worker, some_heads, choose, unmade, known, op, code, empties, heads}
 use Rattle.known_calls.specs.KnownModule.{params, captured_words, module_with}
 use Rattle.known_calls.specs.KnownCalls.{applied}
 use Rattle.known_calls.proofs.KnownHolds.{in_local, in_field, Words, words_length, Env, env_nil, env_at, env_known, env_on, Unread, OpUnread, Stood, stood_inside, stood_in_tail, stood_up, loop_of}
@@ -40,7 +40,7 @@ use Rattle.known_calls.proofs.Unreading.{neither, and_true, unmade_some, unread_
 use Rattle.known_calls.proofs.Finding.{There, there, there_unknown, same_some}
 use Rattle.known_calls.proofs.Knowing.{known_is, calls, same_function, same_captured, no_box}
 use Rattle.known_calls.proofs.KnownMaking.{WordsStand, stand_more, words, stand_size, put_atom, pushed, made}
-use Rattle.known_calls.proofs.KnownCases.{Yields, Out, Go, fewer_kept, pass_empties, take_empty, take_head}
+use Rattle.known_calls.proofs.KnownCases.{Yields, Out, Go, fewer_kept, head_some, pass_empties, take_empty, take_head}
 use Rattle.known_calls.proofs.KnownIndices.{not_wide, narrow_few, constant_at, wide_at, stub_at, worker_at, table_entry}
 use Rattle.known_calls.proofs.SameLocals.{worker_top, top_less}
 use Rattle.known_calls.proofs.Jumping.{r_br_out}
@@ -262,16 +262,17 @@ module _ (P : Program) (main : Body) (gs : List GlobalDef) (es : List Export) (p
   -- a value is matched
   chosen : {D : ℕ} {tail : Bool} {e : Vals} {bs : BranchBlocks} {i : ℕ} {vs : Vals} {t : Block} {r : Val} {c k b s : ℕ} → many bs ≤ N → BranchAt bs i (size vs) t → SimCode tail D (vs +v e) t r c k b s →
       (at : Position) (m : Mem) (p h : ℕ) (ls : List ConstValue) (d w : ℕ) (ps : List Place) → Room M m p h → word m 0 ≡ 0 → Env m h ls (suc d) ps e → Unread (fields_of d (size vs) ps) t → top (suc d) t ≤ length ls → h + 4 * s ≤ cap.bytes → slice_get ls d ≡ Some (I32 w) → Stands m h w (VCon i vs) →
-      Yields P M cap Q at m p h ls d r tail D k s (11 * N + (cost c b + 2)) (λ rest. empties P ps d at 0 bs (λ at'. heads P ps d at' 0 bs) rest)
+      Yields P M cap Q at m p h ls d r tail D k s (11 * N + (cost c b + 2)) (λ rest. empties P ps d at 0 (some_heads bs) bs (λ at'. heads P ps d at' 0 bs) rest)
   chosen {bs = bs} few branch body at m p h ls d w ps room nil env un has needed is (s_empty lt e) =
       record {
-        run = λ f vals rest l u bound stood deep fits go out. (take_empty P M cap Q is ps at 0 (λ at'. heads P ps d at' 0 bs) refl (omega arith) (λ at'. shaped_heads P ps d at' 0 bs) branch
+        run = λ f vals rest l u bound stood deep fits go out. (take_empty P M cap Q is ps at 0 (some_heads bs) (λ at'. heads P ps d at' 0 bs) refl (omega arith) (λ at'. shaped_heads P ps d at' 0 bs) branch
             (λ at'. fewer_kept P M cap Q (body.sim at' m p h ls (suc d) ps room nil env un has needed))).run f vals rest l u bound stood deep (omega arith) go out;
       }
-  chosen {bs = bs} {vs = vs} few branch body at m p h ls d w ps room nil env un has needed is (s_con q lt e pos some' within head fs) =
+  chosen {D = D} {tail} {bs = bs} {vs = vs} {r = r} {c} {k} {b} {s} few branch body at m p h ls d w ps room nil env un has needed is (s_con q lt e pos some' within head fs) =
       let y = λ (at' : Position). fewer_kept P M cap Q (body.sim at' m p h ls (suc d) (fields_of d (size vs) ps) room nil (fields_env d w (omega arith) is within fs env) un has needed) in
       let z = λ (at' : Position). take_head P M cap Q is ps at' 0 some' (omega (arith, room.inside)) (omega (arith, head)) (omega arith) branch y in
-      record { run = λ f vals rest l u bound stood deep fits go out. (pass_empties P M cap Q is ps at (2 * q) 0 bs (λ at'. heads P ps d at' 0 bs) (omega arith) z).run f vals rest l u bound stood deep (omega arith) go out }
+      subst (λ (some : Bool). Yields P M cap Q at m p h ls d r tail D k s (11 * N + (cost c b + 2)) (λ rest. empties P ps d at 0 some bs (λ at'. heads P ps d at' 0 bs) rest)) (sym (head_some some' branch))
+      (record { run = λ f vals rest l u bound stood deep fits go out. (pass_empties P M cap Q is ps at (2 * q) 0 bs (λ at'. heads P ps d at' 0 bs) (omega arith) z).run f vals rest l u bound stood deep (omega arith) go out })
 
   sim_case : {D : ℕ} {tail : Bool} {e : Vals} {a : Atom} {bs : BranchBlocks} {i : ℕ} {vs : Vals} {t : Block} {r : Val} {c k b s : ℕ} → Is e a (VCon i vs) → many bs ≤ N → BranchAt bs i (size vs) t → SimCode tail D (vs +v e) t r c k b s → SimOp tail D e (OCase a bs) r (suc c) (suc k) b s
   sim_case {a = a} {bs = bs} {c = c} {k} {b} isa few branch body = record {

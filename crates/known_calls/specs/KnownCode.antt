@@ -1,6 +1,6 @@
 -- The instructions of a block of a lifted program. A saturated call of a known function is a direct call of its worker, which takes the captured words and the argument as parameters; a worker's tail call of
 -- itself is a branch to its beginning; and a closure that is known, and read as a word nowhere, is made nowhere. All else is as in `EmittedCode` of `wasm_emit`. Each function puts its instructions in front of `rest`.
-use Rattle.std.specs.Prelude.{ℕ, zero, suc, ◌+◌, ◌*◌, Bool, ◌&&◌, if◌then◌else◌, nat_eq, nat_le, List, [], ◌∷◌, length, Option, Some, None, slice_get}
+use Rattle.std.specs.Prelude.{ℕ, zero, suc, ◌+◌, ◌*◌, Bool, true, false, ◌&&◌, ◌||◌, if◌then◌else◌, nat_eq, nat_le, List, [], ◌∷◌, length, Option, Some, None, slice_get}
 use Rattle.std.specs.Option.{option_and_then}
 use Rattle.anf_convert.specs.declared.program.Atom.{Atom}
 use Rattle.closure_lift.specs.Lifted.{Op, OConst, OApp, OCon, OClos, OCase, Block, RetAtom, LetAtom, Ret, Let, BranchBlocks, BNil, BCons, Fn, Program}
@@ -114,6 +114,31 @@ abbrev pub application : Program → List Place → Position → Atom → Atom �
 application P env at f a None rest = atom env f (atom env a (atom env f (Load 0 ∷ CallClosure ∷ rest)))
 application P env at f a (Some k) rest = push_words k.1 (atom env a (call_worker P at k.0 (length k.1) rest))
 
+-- Matches.
+
+-- whether one of these branches has binders
+abbrev pub some_heads : BranchBlocks → Bool
+some_heads BNil = false
+some_heads (BCons zero t bs) = some_heads bs
+some_heads (BCons (suc n) t bs) = true
+
+-- whether there is a branch
+abbrev pub some_branches : BranchBlocks → Bool
+some_branches BNil = false
+some_branches (BCons n t bs) = true
+
+-- whether the word in local d is that of constructor c without arguments; or, where it is none of those, whether its block is of constructor c with n arguments
+abbrev pub empty_test : ℕ → ℕ → List Instr → List Instr
+empty_test d c rest = LocalGet d ∷ ConstWord (2 * c + 1) ∷ Operation op32.Eq ∷ rest
+
+abbrev pub head_test : ℕ → ℕ → ℕ → List Instr → List Instr
+head_test d c n rest = LocalGet d ∷ Load 0 ∷ ConstWord (n * 65536 + c) ∷ Operation op32.Eq ∷ rest
+
+-- A branch behind its test, in whose other arm the branches behind it stand. Where there is none behind it, it needs no test: where the evaluation goes on, the scrutinee's constructor has a branch.
+abbrev pub arm : Bool → (List Instr → List Instr) → (Position → List Instr → List Instr) → (Position → List Instr → List Instr) → Position → List Instr → List Instr
+arm true test branch behind at rest = test (IfWord ∷ branch (deeper at) (Else ∷ behind (deeper at) (End ∷ rest)))
+arm false test branch behind at rest = branch at rest
+
 -- a binding that needs no code, or one that has code
 abbrev pub choose : Option Place → (Place → List Instr) → List Instr → List Instr
 choose None known_code made_code = made_code
@@ -126,7 +151,7 @@ module _ (P : Program) where
     op env d at (OApp f a) rest = application P env at f a (known_function env f) rest
     op env d at (OCon c as') rest = block env d (length as' * 65536 + c) as' rest
     op env d at (OClos g as') rest = block env d (suc g) as' rest
-    op env d at (OCase a bs) rest = atom env a (LocalSet d ∷ empties env d at 0 bs (λ at'. heads env d at' 0 bs) rest)
+    op env d at (OCase a bs) rest = atom env a (LocalSet d ∷ empties env d at 0 (some_heads bs) bs (λ at'. heads env d at' 0 bs) rest)
 
     pub code : List Place → ℕ → Position → Block → List Instr → List Instr
     code env d at (RetAtom a) rest = atom env a rest
@@ -134,15 +159,14 @@ module _ (P : Program) where
     code env d at (Ret p) rest = op env d at p rest
     code env d at (Let p t) rest = choose (unmade P env p t) (λ q. code (q ∷ env) d at t rest) (op env d Inside p (LocalSet d ∷ code (At (InLocal d) ∷ env) (suc d) at t rest))
 
-    -- the branches without binders, and then `others`
-    pub empties : List Place → ℕ → Position → ℕ → BranchBlocks → (Position → List Instr → List Instr) → List Instr → List Instr
-    empties env d at c BNil others rest = others at rest
-    empties env d at c (BCons zero t bs) others rest = LocalGet d ∷ ConstWord (2 * c + 1) ∷ Operation op32.Eq ∷ IfWord ∷ code env (suc d) (deeper at) t (Else ∷ empties env d (deeper at) (suc c) bs others (End ∷ rest))
-    empties env d at c (BCons (suc n) t bs) others rest = empties env d at (suc c) bs others rest
+    -- the branches without binders, and then `others`, those with binders, of which the match has some or none
+    pub empties : List Place → ℕ → Position → ℕ → Bool → BranchBlocks → (Position → List Instr → List Instr) → List Instr → List Instr
+    empties env d at c some BNil others rest = others at rest
+    empties env d at c some (BCons zero t bs) others rest = arm (some || some_branches bs) (empty_test d c) (λ at'. code env (suc d) at' t) (λ at'. empties env d at' (suc c) some bs others) at rest
+    empties env d at c some (BCons (suc n) t bs) others rest = empties env d at (suc c) some bs others rest
 
     -- the branches with binders
     pub heads : List Place → ℕ → Position → ℕ → BranchBlocks → List Instr → List Instr
     heads env d at c BNil rest = Unreachable ∷ rest
     heads env d at c (BCons zero t bs) rest = heads env d at (suc c) bs rest
-    heads env d at c (BCons (suc n) t bs) rest =
-        LocalGet d ∷ Load 0 ∷ ConstWord (suc n * 65536 + c) ∷ Operation op32.Eq ∷ IfWord ∷ code (fields_of d (suc n) env) (suc d) (deeper at) t (Else ∷ heads env d (deeper at) (suc c) bs (End ∷ rest))
+    heads env d at c (BCons (suc n) t bs) rest = arm (some_heads bs) (head_test d c (suc n)) (λ at'. code (fields_of d (suc n) env) (suc d) at' t) (λ at'. heads env d at' (suc c) bs) at rest

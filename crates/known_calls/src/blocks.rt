@@ -1,18 +1,18 @@
 //! The instructions of the blocks of a lifted program.
 //!
 //! A binding gets the local whose number is how many stand before it; but one that is known, and read as a word nowhere, gets no local and no code. A match puts its
-//! scrutinee into the next local and compares it with the words of the constructors without arguments, and then its block's header with those of the others; what a
-//! branch binds is read from the block.
-ghost use Rattle.std.specs.Prelude.{◌≡◌, ◌+◌, ◌*◌, ◌∷◌, ◌++◌, [], IfOk, IfErr, OnOk, drop, get_or, length, reverse, true};
+//! scrutinee into the next local and compares it with the words of the constructors without arguments, and then its block's header with those of the others; the last
+//! branch needs no test, and what a branch binds is read from the block.
+ghost use Rattle.std.specs.Prelude.{◌≡◌, ◌+◌, ◌*◌, ◌∷◌, ◌++◌, [], IfOk, IfErr, OnOk, drop, false, get_or, length, reverse, true};
 ghost use Rattle.closure_lift.specs.LiftedView.{seen, branches_of};
 ghost use Rattle.closure_lift.specs.LiftedProgram.{lifted_of};
 ghost use Rattle.wasm_emit.specs.ConstantNumbers.{AreNumbered};
-ghost use Rattle.wasm_emit.specs.Pushed.{BlockArms, Pushed};
+ghost use Rattle.wasm_emit.specs.Pushed.{Pushed};
 ghost use Rattle.wasm_emit.specs.declared.fault.EmitFault.TheVariants.{Memory};
 ghost use Rattle.known_calls.specs.KnownMarks.{Begins, block_marks, bound_marks, empty_marks, head_marks};
-ghost use Rattle.known_calls.specs.KnownPushed.{BlockArm, EmptyArm, EmptyArms, binding_code, block_arms, block_code, branches_code, empty_arms, local_behind, op_code, op_unmade, place_bound, under_position};
+ghost use Rattle.known_calls.specs.KnownPushed.{BlockArm, BlockArms, EmptyArm, EmptyArms, PlainArms, is_last_head as last_head, binding_code, block_arms, block_code, branches_code, empty_arms, local_behind, op_code, op_unmade, place_bound, under_position};
 ghost use Rattle.known_calls.specs.KnownPlaces.{At, InLocal, fields_of};
-ghost use Rattle.known_calls.specs.KnownCode.{Inside, block};
+ghost use Rattle.known_calls.specs.KnownCode.{Inside, block, some_heads};
 ghost use Rattle.wasm_core.specs.declared.instrs.Instr.TheVariants.{LocalSet};
 
 use crate::calls::push_application;
@@ -200,6 +200,10 @@ fn push_branches(
     ensures same { OnOk result (places.new.items ≡ places.old.items) }
     ensures only_memory { IfErr result (λ e. e ≡ Memory) }
 {
+    if !heads_from(bs.as_slice(), 0) {
+        let plain = push_plain_branches(p, numbers, places, site, bs.as_slice(), marks, out)?;
+        return push_ends(plain, out);
+    }
     let empties = push_empty_branches(p, numbers, places, site, bs.as_slice(), marks, out)?;
     let at = under(site.at, empties)?;
     let inner = Site {
@@ -207,9 +211,60 @@ fn push_branches(
         at,
     };
     let blocks = push_block_branches(p, numbers, places, inner, bs.as_slice(), marks, out)?;
-    push(out, Instr::Unreachable)?;
     push_ends(blocks, out)?;
     push_ends(empties, out)
+}
+
+/// Whether one of the branches from this one on has binders.
+fn heads_from(bs: &[LiftedBranch], from: usize) -> bool
+    ensures is { result ≡ some_heads (branches_of (drop from bs.now)) }
+{
+    for c in from..bs.len() {
+        if bs[c].binders > 0 {
+            return true;
+        }
+    }
+    false
+}
+
+/// Whether this branch has binders, and none of those from `behind` on has.
+fn is_last_head(b: &LiftedBranch, bs: &[LiftedBranch], behind: usize) -> bool
+    ensures is { result ≡ last_head b.now.binders (branches_of (drop behind bs.now)) }
+{
+    b.binders > 0 && !heads_from(bs, behind)
+}
+
+/// The branches of a match of which none has binders, each in an arm of its own but for the last. It gives how many arms it has begun. Only `Memory`.
+#[cycle(blocks)]
+fn push_plain_branches(
+    p: &Lifted,
+    numbers: &HashMap<u32, usize>,
+    places: &mut Vec<Place>,
+    site: Site,
+    bs: &[LiftedBranch],
+    marks: &mut Vec<bool>,
+    out: &mut Vec<Instr>,
+) -> Result<usize, EmitFault>
+    requires numbered { AreNumbered numbers.now p.now.constants }
+    requires plain { some_heads (branches_of bs.now) ≡ false }
+    requires marked { Begins (empty_marks (branches_of bs.now)) (reverse marks.old.items) }
+    ensures pushed { IfOk result (λ n. PlainArms out.old.items out.new.items (empty_arms p.now (reverse places.old.items) site.local site.at false (branches_of bs.now)) n) }
+    ensures left { OnOk result (reverse marks.new.items ≡ drop (length (empty_marks (branches_of bs.now))) (reverse marks.old.items)) }
+    ensures same { OnOk result (places.new.items ≡ places.old.items) }
+    ensures only_memory { IfErr result (λ e. e ≡ Memory) }
+{
+    let mut begun = 0;
+    for c in 0..bs.len() {
+        let arm = arm_of(site, begun, c)?;
+        if c + 1 == bs.len() {
+            push_fielded(p, numbers, places, arm.site, &bs[c], marks, out)?;
+            return Ok(begun);
+        }
+        let arms = push_empty_arm(p, numbers, places, arm, &bs[c], marks, out)?;
+        begun += arms;
+    }
+    push(out, Instr::Unreachable)?;
+    Ok(begun)
 }
 
 /// The branches without binders, each in an arm of its own, up to the `else` of the last. It gives how many arms it has begun. Only `Memory`.
@@ -225,7 +280,7 @@ fn push_empty_branches(
 ) -> Result<usize, EmitFault>
     requires numbered { AreNumbered numbers.now p.now.constants }
     requires marked { Begins (empty_marks (branches_of bs.now)) (reverse marks.old.items) }
-    ensures pushed { IfOk result (λ n. EmptyArms site.at out.old.items out.new.items (empty_arms p.now (reverse places.old.items) site.local site.at (branches_of bs.now)) n) }
+    ensures pushed { IfOk result (λ n. EmptyArms site.at out.old.items out.new.items (empty_arms p.now (reverse places.old.items) site.local site.at true (branches_of bs.now)) n) }
     ensures left { OnOk result (reverse marks.new.items ≡ drop (length (empty_marks (branches_of bs.now))) (reverse marks.old.items)) }
     ensures same { OnOk result (places.new.items ≡ places.old.items) }
     ensures only_memory { IfErr result (λ e. e ≡ Memory) }
@@ -300,7 +355,7 @@ fn inside(site: Site) -> Result<Site, EmitFault>
     Ok(Site { local, at })
 }
 
-/// The branches with binders, each in an arm of its own, up to the `else` of the last. It gives how many arms it has begun. Only `Memory`.
+/// The branches with binders, each in an arm of its own, but for the last, which needs no test. It gives how many arms it has begun. Only `Memory`.
 #[cycle(blocks)]
 fn push_block_branches(
     p: &Lifted,
@@ -321,9 +376,14 @@ fn push_block_branches(
     let mut begun = 0;
     for c in 0..bs.len() {
         let arm = arm_of(site, begun, c)?;
+        if is_last_head(&bs[c], bs, c + 1) {
+            push_fielded(p, numbers, places, arm.site, &bs[c], marks, out)?;
+            return Ok(begun);
+        }
         let arms = push_block_arm(p, numbers, places, arm, &bs[c], marks, out)?;
         begun += arms;
     }
+    push(out, Instr::Unreachable)?;
     Ok(begun)
 }
 
@@ -352,16 +412,21 @@ fn push_block_arm(
         return Err(EmitFault::Memory);
     };
     let header = header_word(number, b.binders)?;
+    let at = under(arm.site.at, 1)?;
+    let inner = Site {
+        local: arm.site.local,
+        at,
+    };
     push(out, Instr::LocalGet(arm.site.local))?;
     push_load(out, 0)?;
     push(out, Instr::I32Const(header))?;
     push_test(out)?;
-    push_fielded(p, numbers, places, arm.site, b, marks, out)?;
+    push_fielded(p, numbers, places, inner, b, marks, out)?;
     push(out, Instr::Else)?;
     Ok(1)
 }
 
-/// The body of a branch whose variables are the fields of the block whose address is in the site's local, in an arm that begins there. Only `Memory`.
+/// The body of a branch whose variables are the fields of the block whose address is in the site's local; the local behind that is the first free one. Only `Memory`.
 #[cycle(blocks)]
 fn push_fielded(
     p: &Lifted,
@@ -374,12 +439,15 @@ fn push_fielded(
 ) -> Result<(), EmitFault>
     requires numbered { AreNumbered numbers.now p.now.constants }
     requires marked { Begins (block_marks b.now.body) (reverse marks.old.items) }
-    ensures pushed { OnOk result (Pushed out.old.items out.new.items (block_code p.now (fields_of site.local b.now.binders (reverse places.old.items)) (site.local + 1) (under_position 1 site.at) b.now.body)) }
+    ensures pushed { OnOk result (Pushed out.old.items out.new.items (block_code p.now (fields_of site.local b.now.binders (reverse places.old.items)) (site.local + 1) site.at b.now.body)) }
     ensures left { OnOk result (reverse marks.new.items ≡ drop (length (block_marks b.now.body)) (reverse marks.old.items)) }
     ensures same { OnOk result (places.new.items ≡ places.old.items) }
     ensures only_memory { IfErr result (λ e. e ≡ Memory) }
 {
-    let inner = inside(site)?;
+    let Some(local) = site.local.checked_add(1) else {
+        return Err(EmitFault::Memory);
+    };
+    let inner = Site { local, at: site.at };
     let outer = places.len();
     push_field_places(places, site.local, b.binders)?;
     push_block(p, numbers, places, inner, &b.body, marks, out)?;

@@ -67,7 +67,7 @@ push_block_branches-loop-c-preserved t c =
     subst (λ a. BlockArm Q env a.site.local a.site.at a.number b c.loop-c.out.items c.push_block_arm.new.out.items c.in_ok-arms.arms) c.in_ok-arm.ensures.is z in
     record {
       pushed = heads_more Q env c.args.site.local at c.loop-c.c c.args.bs.now b c.loop-c.begun c.in_ok-arms.arms (c.loop-c.begun + c.in_ok-arms.arms) c.loop-c.out.items c.push_block_arm.new.out.items c.args.out.now.items c.loop-c-test.true c.index-bs-c.is refl x
-          (block_arms Q env c.args.site.local at (branches_of c.args.bs.now)) c.loop-c.invariant.pushed;
+          (sym c.is_last_head.is ∙ c.if-is_last_head.false) (block_arms Q env c.args.site.local at (branches_of c.args.bs.now)) c.loop-c.invariant.pushed;
       marked = begin_more head_marks head_marks_step c.args.bs.now c.loop-c.c b c.loop-c-test.true c.index-bs-c.is all c.loop-c.invariant.marked (reverse c.push_block_arm.new.marks.items) c.in_ok-arms.ensures.left;
       left = left_more head_marks head_marks_step c.args.bs.now c.loop-c.c b c.loop-c-test.true c.index-bs-c.is all c.loop-c.invariant.marked (reverse c.push_block_arm.new.marks.items) c.in_ok-arms.ensures.left ∙ c.loop-c.invariant.left;
       same = c.in_ok-arms.ensures.same ∙ c.loop-c.invariant.same;
@@ -99,8 +99,8 @@ push_empty_branches-loop-c-preserved t c =
     let x : EmptyArm Q env c.args.site.local (under_position c.loop-c.begun at) c.loop-c.c b c.loop-c.out.items c.push_empty_arm.new.out.items c.in_ok-arms.arms =
     subst (λ a. EmptyArm Q env a.site.local a.site.at a.number b c.loop-c.out.items c.push_empty_arm.new.out.items c.in_ok-arms.arms) c.in_ok-arm.ensures.is z in
     record {
-      pushed = empties_more Q env c.args.site.local at c.loop-c.c c.args.bs.now b c.loop-c.begun c.in_ok-arms.arms (c.loop-c.begun + c.in_ok-arms.arms) c.loop-c.out.items c.push_empty_arm.new.out.items c.args.out.now.items c.loop-c-test.true c.index-bs-c.is refl x
-          (empty_arms Q env c.args.site.local at (branches_of c.args.bs.now)) c.loop-c.invariant.pushed;
+      pushed = empties_more Q env c.args.site.local at c.loop-c.c c.args.bs.now b c.loop-c.begun c.in_ok-arms.arms (c.loop-c.begun + c.in_ok-arms.arms) c.loop-c.out.items c.push_empty_arm.new.out.items c.args.out.now.items c.loop-c-test.true c.index-bs-c.is refl x true refl
+          (empty_arms Q env c.args.site.local at true (branches_of c.args.bs.now)) c.loop-c.invariant.pushed;
       marked = begin_more empty_marks empty_marks_step c.args.bs.now c.loop-c.c b c.loop-c-test.true c.index-bs-c.is all c.loop-c.invariant.marked (reverse c.push_empty_arm.new.marks.items) c.in_ok-arms.ensures.left;
       left = left_more empty_marks empty_marks_step c.args.bs.now c.loop-c.c b c.loop-c-test.true c.index-bs-c.is all c.loop-c.invariant.marked (reverse c.push_empty_arm.new.marks.items) c.in_ok-arms.ensures.left ∙ c.loop-c.invariant.left;
       same = c.in_ok-arms.ensures.same ∙ c.loop-c.invariant.same;
@@ -109,6 +109,6 @@ push_empty_branches-loop-c-preserved t c =
 
 pub push_empty_branches-returns-clause-pushed : goal.push_empty_branches-returns-clause-pushed
 push_empty_branches-returns-clause-pushed t c = record {
-  is = λ others rest. ap (λ (xs : List LiftedBranch). c.loop-c.out.items ++ empties (lifted_of c.args.p.now) (reverse c.args.places.now.items) c.args.site.local (under_position c.loop-c.begun c.args.site.at) c.loop-c.c (renumber_branches (place_in c.args.p.now.constants) (branches_of xs)) others (ends c.loop-c.begun rest))
+  is = λ others rest. ap (λ (xs : List LiftedBranch). c.loop-c.out.items ++ empties (lifted_of c.args.p.now) (reverse c.args.places.now.items) c.args.site.local (under_position c.loop-c.begun c.args.site.at) c.loop-c.c true (renumber_branches (place_in c.args.p.now.constants) (branches_of xs)) others (ends c.loop-c.begun rest))
       (sym (drop_all c.loop-c.c c.args.bs.now c.loop-c-test.false)) ∙ c.loop-c.invariant.pushed others rest;
 }
