@@ -17,7 +17,7 @@ use Rattle.wasm_emit.specs.Pushed.{Pushed, ends, renumber_bound}
 use Rattle.wasm_emit.proofs.Pushing.{next_of, ends_sum}
 use Rattle.known_calls.specs.KnownPlaces.{Place, At, InLocal, fields_of, block_reads}
 use Rattle.known_calls.specs.KnownCode.{Position, Inside, InTail, deeper, some_heads, some_branches, empty_test, head_test, arm, choose, known, into_params, atom, fill, block, op, code, empties, heads}
-use Rattle.known_calls.specs.KnownPushed.{under_position, bound_code, bound_unmade, place_bound, local_behind, bind_code, op_unmade, binding_code, block_code, empty_arms, block_arms, branches_code, is_last_head, EmptyArms, PlainArms, BlockArms, EmptyArm, BlockArm}
+use Rattle.known_calls.specs.KnownPushed.{under_position, bound_code, bound_unmade, place_bound, local_behind, bind_code, op_unmade, binding_code, block_code, empty_arms, block_arms, branches_code, is_last_head, EmptyArms, PlainArms, HeadArms, EmptyArm, BlockArm}
 use Rattle.known_calls.proofs.KnownMarking.{reads_renumbered}
 
 -- Positions.
@@ -295,7 +295,7 @@ module _ (Q : Lifted) (env : List Place) (d : ℕ) (at : Position) (bs : BranchB
     is = λ rest. y.is rest ∙ x.is (λ at'. block_arms Q env d at' bs) (λ at' r. heads_none (lifted_of Q) env d at' 0 renumbered r (heads_renumbered (place_in Q.constants) bs ∙ e)) rest ∙ flagged false e o0 rest;
   }
 
-  pub mixed_pushed : (o0 o1 o2 o3 o4 : List Instr) (n k : ℕ) → some_heads bs ≡ true → EmptyArms at o0 o1 (empty_arms Q env d at true bs) n → BlockArms o1 o2 (block_arms Q env d (under_position n at) bs) k → Pushed o2 o3 (ends k) → Pushed o3 o4 (ends n) → Pushed o0 o4 (branches_code Q env d at bs)
+  pub mixed_pushed : (o0 o1 o2 o3 o4 : List Instr) (n k : ℕ) → some_heads bs ≡ true → EmptyArms at o0 o1 (empty_arms Q env d at true bs) n → HeadArms o1 o2 (block_arms Q env d (under_position n at) bs) k → Pushed o2 o3 (ends k) → Pushed o3 o4 (ends n) → Pushed o0 o4 (branches_code Q env d at bs)
   mixed_pushed o0 o1 o2 o3 o4 n k e x y u v = record { is = λ rest. v.is rest ∙ u.is (ends n rest) ∙ y.is (ends n rest) ∙ x.is (λ at'. block_arms Q env d at' bs) rest ∙ flagged true e o0 rest }
 
 -- the next field of a block of memory

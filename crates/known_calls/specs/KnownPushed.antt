@@ -84,7 +84,7 @@ pub record PlainArms (old new : List Instr) (g : (Position → List Instr → Li
   pub is : (others : Position → List Instr → List Instr) → ((at : Position) (rest : List Instr) → others at rest ≡ Unreachable ∷ rest) → (rest : List Instr) → new ++ ends n rest ≡ old ++ g others rest
 
 -- n arms were begun, for the branches with binders; their ends come later
-pub record BlockArms (old new : List Instr) (g : List Instr → List Instr) (n : ℕ) : Type 0 where
+pub record HeadArms (old new : List Instr) (g : List Instr → List Instr) (n : ℕ) : Type 0 where
   pub is : (rest : List Instr) → new ++ ends n rest ≡ old ++ g rest
 
 -- n arms were begun, at most one, for branch c of a match on the word in local d, which isn't the last one of its kind

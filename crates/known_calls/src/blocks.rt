@@ -10,7 +10,7 @@ ghost use Rattle.wasm_emit.specs.ConstantNumbers.{AreNumbered};
 ghost use Rattle.wasm_emit.specs.Pushed.{Pushed};
 ghost use Rattle.wasm_emit.specs.declared.fault.EmitFault.TheVariants.{Memory};
 ghost use Rattle.known_calls.specs.KnownMarks.{Begins, block_marks, bound_marks, empty_marks, head_marks};
-ghost use Rattle.known_calls.specs.KnownPushed.{BlockArm, BlockArms, EmptyArm, EmptyArms, PlainArms, is_last_head as last_head, binding_code, block_arms, block_code, branches_code, empty_arms, local_behind, op_code, op_unmade, place_bound, under_position};
+ghost use Rattle.known_calls.specs.KnownPushed.{BlockArm, HeadArms, EmptyArm, EmptyArms, PlainArms, is_last_head as last_head, binding_code, block_arms, block_code, branches_code, empty_arms, local_behind, op_code, op_unmade, place_bound, under_position};
 ghost use Rattle.known_calls.specs.KnownPlaces.{At, InLocal, fields_of};
 ghost use Rattle.known_calls.specs.KnownCode.{Inside, block, some_heads};
 ghost use Rattle.wasm_core.specs.declared.instrs.Instr.TheVariants.{LocalSet};
@@ -368,7 +368,7 @@ fn push_block_branches(
 ) -> Result<usize, EmitFault>
     requires numbered { AreNumbered numbers.now p.now.constants }
     requires marked { Begins (head_marks (branches_of bs.now)) (reverse marks.old.items) }
-    ensures pushed { IfOk result (λ n. BlockArms out.old.items out.new.items (block_arms p.now (reverse places.old.items) site.local site.at (branches_of bs.now)) n) }
+    ensures pushed { IfOk result (λ n. HeadArms out.old.items out.new.items (block_arms p.now (reverse places.old.items) site.local site.at (branches_of bs.now)) n) }
     ensures left { OnOk result (reverse marks.new.items ≡ drop (length (head_marks (branches_of bs.now))) (reverse marks.old.items)) }
     ensures same { OnOk result (places.new.items ≡ places.old.items) }
     ensures only_memory { IfErr result (λ e. e ≡ Memory) }
