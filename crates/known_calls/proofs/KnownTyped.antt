@@ -141,7 +141,7 @@ module _ (P : Program) (most : ℕ) (form : Formed P most) (main : Body) (gs : L
   pub t_worker : {labels : List OperandTypes} {ts us : Operands} {rest : List Instr} (g : ℕ) (fn : Fn) → slice_get P.functions g ≡ Some fn → fn.captured ≤ 7 → Typed m ls rs labels (Of I32 ∷ ts) rest us → Typed m ls rs labels (words_on (suc fn.captured) ts) (Call (worker_index P g) ∷ rest) us
   t_worker {labels} {ts} {us} {rest} g fn at few k =
       let type_is : func_type m (worker_index P g) ≡ Some (words_type fn.captured) =
-      ap (option_and_then (λ index. slice_get m.types index)) (type_of_worker P main gs es pages g fn at (not_wide fn few)) ∙ type_of_words P main gs es pages fn.captured few in
+      ap (option_and_then (λ index. slice_get m.types index)) (type_of_worker P main gs es pages g fn at (not_wide fn few)) ∙ type_of_words P main gs es pages g fn at (not_wide fn few) in
       subst (λ (os : Operands). Typed m ls rs labels os (Call (worker_index P g) ∷ rest) us) (ap (λ (xs : OperandTypes). known_types xs ++ ts) (turned fn.captured few) ∙ of_words (suc fn.captured) ts)
       (t_plain ts (ap (option_map {U = Effect} calling_type) type_is) k)
 

@@ -101,7 +101,7 @@ module _ (P : Program) (most : ℕ) (form : Formed P most) (main : Body) (gs : L
           let front = (shaped_code P (params i) i (InTail g 0) fn.body).front in
           record {
             type = words_type fn.captured;
-            found = type_of_words P main gs es pages fn.captured (narrow_few fn narrow);
+            found = type_of_words P main gs es pages g fn at narrow;
             typed = record {
               body = Loop (Value I32) ∷ (inner ++ End ∷ []);
               ends = ap (λ (z : List Instr). Loop (Value I32) ∷ z) (front (End ∷ End ∷ []) ∙ sym (append_assoc inner (End ∷ []) (End ∷ [])));
