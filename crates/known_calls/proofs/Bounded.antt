@@ -21,7 +21,7 @@ use Rattle.wasm_emit.specs.EmitLaws.{CountsFit}
 use Rattle.wasm_emit.proofs.Lengths.{bytes_of, size, u_2, z_unreachable, z_if, z_else, z_end, z_op, z_call, z_indirect, z_get, z_set, z_tee, z_heap, z_size, z_room, z_small, z_header, z_global, z_load, z_store, z_const}
 use Rattle.wasm_emit.proofs.Spelled.{Good, fits}
 use Rattle.known_calls.specs.KnownPlaces.{Word, InLocal, InField, IsConst, Place, At, fields_of, word_of, known_function, block_reads}
-use Rattle.known_calls.specs.KnownCode.{Position, Inside, InTail, deeper, worker_index, jumps, most_blocks, read_word, read, atom, push_words, fill, new_block, block, bind, into_params, call_worker, application, some_heads, some_branches, empty_test, head_test, arm, choose, unmade, known, op, code, empties, heads}
+use Rattle.known_calls.specs.KnownCode.{Position, Inside, InTail, deeper, worker_index, jumps, most_blocks, read_word, read, atom, push_words, fill, new_block, block, into_local, into_params, call_worker, application, some_heads, some_branches, empty_test, head_test, arm, choose, unmade, known, op, code, empties, heads}
 use Rattle.known_calls.specs.KnownModule.{captured_words}
 use Rattle.known_calls.specs.KnownWeight.{op_weight, weight, branches_weight}
 use Rattle.known_calls.proofs.Unreading.{and_true, unmade_some}
@@ -146,7 +146,7 @@ module _ (P : Program) (m : ℕ) (form : Formed P m) (counts : CountsFit P m) (l
   b_block n d header ps as' hd hh few fit h = b_most _ (omega arith) (b_new_block n d header ps as' hd hh few fit h then b_get d hd)
 
   -- an operation whose word comes into a local
-  b_bind : {g : List Instr → List Instr} (n d : ℕ) (ps : List Place) (x : Op) → d < 100000 → Near ps → OpFits P.functions (length P.constants) m n x → Bounded (op_weight x) g → Bounded (4 + op_weight x) (bind ps d x g)
+  b_bind : {g : List Instr → List Instr} (n d : ℕ) (ps : List Place) (x : Op) → d < 100000 → Near ps → OpFits P.functions (length P.constants) m n x → Bounded (op_weight x) g → Bounded (4 + op_weight x) (into_local ps d x g)
   b_bind n d ps (OCon c as') hd h fit y = let small = fit.0 in let few = fit.2 in b_most _ (omega arith) (b_new_block n d _ ps as' hd (omega (arith, small, few)) (omega (arith, few)) fit.3 h)
   b_bind n d ps (OClos g as') hd h fit y =
       let takes = fit.0 in

@@ -32,7 +32,7 @@ use Rattle.wasm_emit.proofs.Making.{all_size}
 use Rattle.wasm_emit.proofs.Cases.{at_zero}
 use Rattle.wasm_emit.proofs.Follows.{zeros_length, branch_top, append_nil, closure, box_word, low_word, top_arg}
 use Rattle.known_calls.specs.KnownPlaces.{Word, InLocal, Place, At, Known, fields_of, known_function, names, branches_read, block_reads}
-use Rattle.known_calls.specs.KnownCode.{Position, Inside, InTail, is_wide, into_params, worker_index, most_blocks, jumps, application, call_worker, bind, some_heads, choose, unmade, known, op, code, empties, heads}
+use Rattle.known_calls.specs.KnownCode.{Position, Inside, InTail, is_wide, into_params, worker_index, most_blocks, jumps, application, call_worker, into_local, some_heads, choose, unmade, known, op, code, empties, heads}
 use Rattle.known_calls.specs.KnownModule.{params, captured_words, module_with}
 use Rattle.known_calls.specs.KnownCalls.{applied}
 use Rattle.known_calls.proofs.KnownHolds.{in_local, in_field, Words, words_length, Env, env_nil, env_at, env_known, env_on, Unread, OpUnread, Stood, stood_inside, stood_in_tail, stood_up, loop_of}
@@ -337,7 +337,7 @@ module _ (P : Program) (main : Body) (gs : List GlobalDef) (es : List Export) (p
   Bound D e x v c k b s =
       (m : Mem) (p h : ℕ) (ls : List ConstValue) (d : ℕ) (ps : List Place) → Room M m p h → word m 0 ≡ 0 → Env m h ls d ps e → OpUnread ps x → top_op d x ≤ length ls → d < length ls → h + 4 * s ≤ cap.bytes → (f : Around) (vals : List ConstValue) (rest : List Instr) (l u : ℕ) →
       length f.callers + 2 * D + 1 ≤ cap.frames → ((m' : Mem) (p' h' : ℕ) (ls' : List ConstValue) (w : ℕ) → h ≤ h' → h' ≤ h + 4 * s → Room M m' p' h' → Same h m m' → Keeps d ls ls' → slice_get ls' d ≡ Some (I32 w) → Stands m' h' w v → Within M cap Q l u (here cap f m' p' h' ls' vals rest)) →
-      Within M cap Q (k + l) (cost c b - 19 + u) (here cap f m p h ls vals (bind ps d x (op P ps d Inside x) rest))
+      Within M cap Q (k + l) (cost c b - 19 + u) (here cap f m p h ls vals (into_local ps d x (op P ps d Inside x) rest))
 
   -- from the operands
   from_operands : {D : ℕ} {e : Vals} {x : Op} {v : Val} {c k b s : ℕ} → 64 ≤ cost c b → SimOp false D e x v c k b s → (m : Mem) (p h : ℕ) (ls : List ConstValue) (d : ℕ) (ps : List Place) → Room M m p h → word m 0 ≡ 0 → Env m h ls d ps e → OpUnread ps x → top_op d x ≤ length ls → d < length ls →
@@ -367,7 +367,7 @@ module _ (P : Program) (main : Body) (gs : List GlobalDef) (es : List Export) (p
   module _ {tail : Bool} {D : ℕ} {e : Vals} {x : Op} {t : Block} {v r : Val} {c c' k k' b b' s s' : ℕ} (does : Does P W N false D e x v c k b s) (first : SimOp false D e x v c k b s) (body : SimCode tail D (VCons v e) t r c' k' b' s') where
     -- a binding that has code
     let_made : (at : Position) (m : Mem) (p h : ℕ) (ls : List ConstValue) (d : ℕ) (ps : List Place) → Room M m p h → word m 0 ≡ 0 → Env m h ls d ps e → Unread ps (Let x t) → top d (Let x t) ≤ length ls → h + 4 * (s + s') ≤ cap.bytes →
-        Yields P M cap Q at m p h ls d r tail D (k + k') (s + s') (cost (c + c') (b + b') + 2) (λ rest. bind ps d x (op P ps d Inside x) (code P (At (InLocal d) ∷ ps) (suc d) at t rest))
+        Yields P M cap Q at m p h ls d r tail D (k + k') (s + s') (cost (c + c') (b + b') + 2) (λ rest. into_local ps d x (op P ps d Inside x) (code P (At (InLocal d) ∷ ps) (suc d) at t rest))
     let_made at m p h ls d ps room nil env un has needed = record {
       run = λ f vals rest l u bound stood deep fits go out.
           looser M cap Q (bound does first m p h ls d ps room nil env (unread_op ps x t un) (omega arith) (omega arith) (omega arith) f vals _ (k' + l) (cost c' b' + 2 + u) (omega arith)
@@ -397,7 +397,7 @@ module _ (P : Program) (main : Body) (gs : List GlobalDef) (es : List Export) (p
         }
 
     let_either : (at : Position) (m : Mem) (p h : ℕ) (ls : List ConstValue) (d : ℕ) (ps : List Place) → Room M m p h → word m 0 ≡ 0 → Env m h ls d ps e → Unread ps (Let x t) → top d (Let x t) ≤ length ls → h + 4 * (s + s') ≤ cap.bytes → (o : Option Place) → unmade P ps x t ≡ o →
-        Yields P M cap Q at m p h ls d r tail D (k + k') (s + s') (cost (c + c') (b + b') + 2) (λ rest. choose o (λ q. code P (q ∷ ps) d at t rest) (bind ps d x (op P ps d Inside x) (code P (At (InLocal d) ∷ ps) (suc d) at t rest)))
+        Yields P M cap Q at m p h ls d r tail D (k + k') (s + s') (cost (c + c') (b + b') + 2) (λ rest. choose o (λ q. code P (q ∷ ps) d at t rest) (into_local ps d x (op P ps d Inside x) (code P (At (InLocal d) ∷ ps) (suc d) at t rest)))
     let_either at m p h ls d ps room nil env un has needed None e = let_made at m p h ls d ps room nil env un has needed
     let_either at m p h ls d ps room nil env un has needed (Some q) e = let z = unmade_some (block_reads 0 t) (known P ps x) e in let_known at m p h ls d ps q z.0 z.1 room nil env un has needed
 

@@ -16,7 +16,7 @@ use Rattle.wasm_emit.specs.EmittedCode.{ConstWord, Load, StoreWord, IfWord, ensu
 use Rattle.wasm_emit.specs.Pushed.{Pushed, ends, renumber_bound}
 use Rattle.wasm_emit.proofs.Pushing.{next_of, ends_sum}
 use Rattle.known_calls.specs.KnownPlaces.{Place, At, InLocal, fields_of, block_reads}
-use Rattle.known_calls.specs.KnownCode.{Position, Inside, InTail, deeper, some_heads, some_branches, empty_test, head_test, arm, choose, known, into_params, atom, fill, new_block, bind, op, code, empties, heads}
+use Rattle.known_calls.specs.KnownCode.{Position, Inside, InTail, deeper, some_heads, some_branches, empty_test, head_test, arm, choose, known, into_params, atom, fill, new_block, into_local, op, code, empties, heads}
 use Rattle.known_calls.specs.KnownPushed.{under_position, bound_code, bound_unmade, place_bound, local_behind, bind_code, op_unmade, binding_code, block_code, empty_arms, block_arms, branches_code, is_last_head, EmptyArms, PlainArms, BlockArms, EmptyArm, BlockArm}
 use Rattle.known_calls.proofs.KnownMarking.{reads_renumbered}
 
@@ -37,7 +37,7 @@ under_sum n k (InTail g d) = let e : d + k + n ≡ d + (k + n) = omega arith in 
 -- A binding of a block, and its end.
 module _ (P : Program) (f : ℕ → ℕ) (env : List Place) (d : ℕ) (at : Position) where
   chosen : (x : Op) (t : Block) (rest : List Instr) (o : Option Place) →
-      choose o (λ q. code P (q ∷ env) d at t rest) (bind env d x (op P env d Inside x) (code P (At (InLocal d) ∷ env) (suc d) at t rest)) ≡ bind_code P env d (OpBound x) o (code P (place_bound d o ∷ env) (local_behind d o) at t rest)
+      choose o (λ q. code P (q ∷ env) d at t rest) (into_local env d x (op P env d Inside x) (code P (At (InLocal d) ∷ env) (suc d) at t rest)) ≡ bind_code P env d (OpBound x) o (code P (place_bound d o ∷ env) (local_behind d o) at t rest)
   chosen x t rest None = refl
   chosen x t rest (Some q) = refl
 
@@ -55,7 +55,7 @@ module _ (P : Program) (f : ℕ → ℕ) (env : List Place) (d : ℕ) (at : Posi
   code_step (AtomBound a) xs t rest = made_atom a (renumber f (lets_of xs t)) rest (block_reads 0 (lets_of xs t))
   code_step (OpBound x) xs t rest =
       ap (λ (b : Bool). choose (if b then None else known P env (renumber_op f x)) (λ q. code P (q ∷ env) d at (renumber f (lets_of xs t)) rest)
-      (bind env d (renumber_op f x) (op P env d Inside (renumber_op f x)) (code P (At (InLocal d) ∷ env) (suc d) at (renumber f (lets_of xs t)) rest))) (reads_renumbered f 0 (lets_of xs t))
+      (into_local env d (renumber_op f x) (op P env d Inside (renumber_op f x)) (code P (At (InLocal d) ∷ env) (suc d) at (renumber f (lets_of xs t)) rest))) (reads_renumbered f 0 (lets_of xs t))
       ∙ chosen (renumber_op f x) (renumber f (lets_of xs t)) rest (if block_reads 0 (lets_of xs t) then None else known P env (renumber_op f x))
 
   pub code_end : (x : Bound) (rest : List Instr) → code P env d at (renumber f (ret_of x)) rest ≡ bound_code P env d at (renumber_bound f x) rest

@@ -23,7 +23,7 @@ use Rattle.wasm_emit.specs.EmittedCode.{IfWord, ensure_room}
 use Rattle.wasm_emit.specs.EmittedLocals.{top, top_op, top_branches}
 use Rattle.wasm_emit.proofs.Typed.{AllWords}
 use Rattle.known_calls.specs.KnownPlaces.{Word, InLocal, InField, IsConst, Place, At, fields_of, word_of, known_function, block_reads}
-use Rattle.known_calls.specs.KnownCode.{Position, Inside, InTail, deeper, worker_index, jumps, most_blocks, read_word, read, atom, push_words, fill, new_block, block, bind, into_params, call_worker, application, some_heads, some_branches, empty_test, head_test, arm, choose, unmade, known, op, code, empties, heads}
+use Rattle.known_calls.specs.KnownCode.{Position, Inside, InTail, deeper, worker_index, jumps, most_blocks, read_word, read, atom, push_words, fill, new_block, block, into_local, into_params, call_worker, application, some_heads, some_branches, empty_test, head_test, arm, choose, unmade, known, op, code, empties, heads}
 use Rattle.known_calls.specs.KnownModule.{words_type, worker_type, module_with}
 use Rattle.known_calls.proofs.Shapes.{Shaped, shaped_code, shaped_empties, shaped_heads}
 use Rattle.known_calls.proofs.Finding.{same_some}
@@ -196,7 +196,7 @@ module _ (P : Program) (most : ℕ) (form : Formed P most) (main : Body) (gs : L
         (t_bind n d ps x (omega arith) (omega arith) fit.0 h (t_code (suc n) (suc d) (At (InLocal d) ∷ ps) at t (omega arith) fit.1 (omega arith, places_up P far d (suc d) (omega arith) ps h) l k))
 
     t_bind : {labels : List OperandTypes} {ts us : Operands} {rest : List Instr} (n d : ℕ) (ps : List Place) (x : Op) → suc d ≤ size → top_op d x ≤ size → OpFits P.functions (length P.constants) most n x → All (PlaceFits P far d) ps →
-        Typed m ls rs labels ts rest us → Typed m ls rs labels ts (bind ps d x (op P ps d Inside x) rest) us
+        Typed m ls rs labels ts rest us → Typed m ls rs labels ts (into_local ps d x (op P ps d Inside x) rest) us
     t_bind n d ps (OCon c as') lt le fit h k = t_new_block n d _ ps as' lt fit.3 h k
     t_bind n d ps (OClos g as') lt le fit h k = t_new_block n d _ ps as' lt fit.1 h k
     t_bind n d ps (OConst x) lt le fit h k = t_op n d ps Inside (OConst x) le fit h tt (t_set lt k)

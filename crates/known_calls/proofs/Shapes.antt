@@ -9,7 +9,7 @@ use Rattle.anf_convert.specs.declared.program.Atom.{Atom}
 use Rattle.closure_lift.specs.Lifted.{Op, OConst, OApp, OCon, OClos, OCase, Block, RetAtom, LetAtom, Ret, Let, BranchBlocks, BNil, BCons, Program}
 use Rattle.wasm_emit.specs.EmittedCode.{Load, StoreWord, ConstWord, IfWord, CallClosure, constant_index, ensure_room}
 use Rattle.known_calls.specs.KnownPlaces.{Word, InLocal, InField, IsConst, Place, At, fields_of, word_of, known_function}
-use Rattle.known_calls.specs.KnownCode.{Position, Inside, InTail, deeper, read_word, read, atom, push_words, fill, new_block, block, bind, into_params, worker_index, jumps, call_worker, application, some_heads, some_branches, empty_test, head_test, arm, choose, unmade, op, code, empties, heads}
+use Rattle.known_calls.specs.KnownCode.{Position, Inside, InTail, deeper, read_word, read, atom, push_words, fill, new_block, block, into_local, into_params, worker_index, jumps, call_worker, application, some_heads, some_branches, empty_test, head_test, arm, choose, unmade, op, code, empties, heads}
 use Rattle.known_calls.specs.KnownModule.{captured_words}
 use Rattle.wasm_emit.proofs.Honest.{Wary, w_cons, NotStatus}
 
@@ -87,7 +87,7 @@ shaped_new_block env d header as' =
 shaped_block : (env : List Place) (d header : ℕ) (as' : List Atom) → Shaped (block env d header as')
 shaped_block env d header as' = shaped_new_block env d header as' then one (LocalGet d) refl tt
 
-shaped_bind : (env : List Place) (d : ℕ) (x : Op) {g : List Instr → List Instr} → Shaped g → Shaped (bind env d x g)
+shaped_bind : (env : List Place) (d : ℕ) (x : Op) {g : List Instr → List Instr} → Shaped g → Shaped (into_local env d x g)
 shaped_bind env d (OCon c as') y = shaped_new_block env d _ as'
 shaped_bind env d (OClos h as') y = shaped_new_block env d _ as'
 shaped_bind env d (OConst x) y = y then one (LocalSet d) refl tt

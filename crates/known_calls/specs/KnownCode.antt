@@ -149,12 +149,12 @@ choose None known_code made_code = made_code
 choose (Some q) known_code made_code = known_code q
 
 -- the word of an operation comes into local d: that of a new block is there, another one comes from the operands
-abbrev pub bind : List Place → ℕ → Op → (List Instr → List Instr) → List Instr → List Instr
-bind env d (OCon c as') made rest = new_block env d (length as' * 65536 + c) as' rest
-bind env d (OClos g as') made rest = new_block env d (suc g) as' rest
-bind env d (OConst x) made rest = made (LocalSet d ∷ rest)
-bind env d (OApp f a) made rest = made (LocalSet d ∷ rest)
-bind env d (OCase a bs) made rest = made (LocalSet d ∷ rest)
+abbrev pub into_local : List Place → ℕ → Op → (List Instr → List Instr) → List Instr → List Instr
+into_local env d (OCon c as') made rest = new_block env d (length as' * 65536 + c) as' rest
+into_local env d (OClos g as') made rest = new_block env d (suc g) as' rest
+into_local env d (OConst x) made rest = made (LocalSet d ∷ rest)
+into_local env d (OApp f a) made rest = made (LocalSet d ∷ rest)
+into_local env d (OCase a bs) made rest = made (LocalSet d ∷ rest)
 
 module _ (P : Program) where
   abbrev mutual
@@ -169,7 +169,7 @@ module _ (P : Program) where
     code env d at (RetAtom a) rest = atom env a rest
     code env d at (LetAtom a t) rest = atom env a (LocalSet d ∷ code (At (InLocal d) ∷ env) (suc d) at t rest)
     code env d at (Ret p) rest = op env d at p rest
-    code env d at (Let p t) rest = choose (unmade P env p t) (λ q. code (q ∷ env) d at t rest) (bind env d p (op env d Inside p) (code (At (InLocal d) ∷ env) (suc d) at t rest))
+    code env d at (Let p t) rest = choose (unmade P env p t) (λ q. code (q ∷ env) d at t rest) (into_local env d p (op env d Inside p) (code (At (InLocal d) ∷ env) (suc d) at t rest))
 
     -- the branches without binders, and then `others`, those with binders, of which the match has some or none
     pub empties : List Place → ℕ → Position → ℕ → Bool → BranchBlocks → (Position → List Instr → List Instr) → List Instr → List Instr

@@ -11,7 +11,7 @@ use Rattle.wasm_core.specs.declared.instrs.Instr.TheVariants.{Unreachable, Local
 use Rattle.wasm_emit.specs.EmittedCode.{Load, CallClosure}
 use Rattle.wasm_emit.specs.Pushed.{ends, renumber_bound}
 use Rattle.known_calls.specs.KnownPlaces.{Place, At, InLocal}
-use Rattle.known_calls.specs.KnownCode.{Position, Inside, InTail, known, atom, bind, some_heads, some_branches, op, code, empties, heads}
+use Rattle.known_calls.specs.KnownCode.{Position, Inside, InTail, known, atom, into_local, some_heads, some_branches, op, code, empties, heads}
 
 -- the position under n blocks more
 abbrev pub under_position : ℕ → Position → Position
@@ -42,7 +42,7 @@ local_behind d (Some q) = d
 
 abbrev pub made_code : Program → List Place → ℕ → Bound → List Instr → List Instr
 made_code P env d (AtomBound a) rest = atom env a (LocalSet d ∷ rest)
-made_code P env d (OpBound x) rest = bind env d x (op P env d Inside x) rest
+made_code P env d (OpBound x) rest = into_local env d x (op P env d Inside x) rest
 
 abbrev pub bind_code : Program → List Place → ℕ → Bound → Option Place → List Instr → List Instr
 bind_code P env d x None rest = made_code P env d x rest
