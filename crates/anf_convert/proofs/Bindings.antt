@@ -88,7 +88,8 @@ module _ (Q : AnfProgram) (W : ℕ) where
     pub blocks : b1 + b2 ≡ b
 
   -- an operation's
-  pub bound_op : {s g : Scope} {w f : AnfVals} {ps : List AnfBinding} {op : AnfOp} {u : AnfVal} {c c1 k k1 b b1 l l1 : ℕ} (x : ℕ) → x ≡ count f → Binds s w ps g f c1 k1 b1 l1 → AnfDoes Q W g f op u c k b l → NameDone s w (record { ops = ps ++ OpIs op ∷ []; atom = LVar x }) u (c1 + c) (k1 + k) (b1 + b)
+  pub bound_op : {s g : Scope} {w f : AnfVals} {ps : List AnfBinding} {op : AnfOp} {u : AnfVal} {c c1 k k1 b b1 l l1 : ℕ} (x : ℕ) → x ≡ count f → Binds s w ps g f c1 k1 b1 l1 →
+      AnfDoes Q W g f op u c k b l → NameDone s w (record { ops = ps ++ OpIs op ∷ []; atom = LVar x }) u (c1 + c) (k1 + k) (b1 + b)
   bound_op {g = g} {f = f} {u = u} x eq bs h =
       record { g = Plain g; f = WCons u f; c' = _; b1 = _; b2 = 0; l1 = _; l2 = 0; binds = binds_as refl (omega arith) refl refl (binds_then bs (binds_op h binds_none)); at = l_word (top_word g f u x eq); le_c = omega arith; blocks = omega arith }
 

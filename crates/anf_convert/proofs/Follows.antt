@@ -468,7 +468,8 @@ module _ (P : BoxProgram) (K : Name → ℕ) (Q : AnfProgram) (W : ℕ) where
           case_done bs d eq er (anf r1 ok.1.0 (omega arith) env ys s w d eq er) at (anf r2 (ready_at P bs i (size vs) _ at ok.1.1.0) (omega arith)) (omega arith) (omega arith) (omega arith)
       anf (run_only {F = F} keeps prop r1 r2) ok le env ys s w d eq er = absurd (ok.0 F keeps prop)
 
-      anf_args : {e : ClosureEnv} {f : FamilyId} {i : ℕ} {t : BoxTerm} {vs : ClosureValues} {c : Counts} → RunArgs P e f i t vs c → Ready P t → c.greatest ≤ W → (env : List Level) (ys : List ℕ) (s : Scope) (w : AnfVals) (d : ℕ) → d ≡ count w → ER P K e env ys s w → DoneArgs s w (norm K env d t) i vs c
+      anf_args : {e : ClosureEnv} {f : FamilyId} {i : ℕ} {t : BoxTerm} {vs : ClosureValues} {c : Counts} → RunArgs P e f i t vs c → Ready P t → c.greatest ≤ W →
+          (env : List Level) (ys : List ℕ) (s : Scope) (w : AnfVals) (d : ℕ) → d ≡ count w → ER P K e env ys s w → DoneArgs s w (norm K env d t) i vs c
       anf_args run_head ok le env ys s w d eq er = record { g = s; f = w; c1 = 0; b1 = 0; b2 = 0; l1 = 0; l2 = 0; binds = binds_none; args = []; res_is = refl; us = WNil; all = ls_none; related = vrs_nil; le_c = omega arith; blocks = omega arith }
       anf_args (run_arg {a = a} r1 r2) ok le env ys s w d eq er =
           arg_done d (λ d'. norm K env d' a) eq (anf_args r1 ok.1.0 (omega arith) env ys s w d eq er) (λ g f d' x eq'. anf r2 ok.1.1.0 (omega arith) env ys g f d' eq' (er_ext x er)) (omega arith) (omega arith) (omega arith)

@@ -1,4 +1,4 @@
--- ClosureValues and environments of a program after erasure, and of the program in A-normal form.
+-- Values and environments of a program after erasure, and of the program in A-normal form.
 use Rattle.std.proofs.Common.{◌≡◌, ℕ, zero, suc, ◌+◌, ◌-◌, ◌<◌, List, [], ◌∷◌, map, length, Some, refl, sym, ap, ◌∙◌, subst as transport, ⊎_elim, arith}
 use Rattle.std.proofs.lemmas.Bool.{cases_lt}
 use Rattle.pc_terms.specs.declared.leaf.Name.{Name}
@@ -95,8 +95,8 @@ mutual
   pub data ER (P : BoxProgram) (K : Name → ℕ) : ClosureEnv → List Level → List ℕ → Scope → AnfVals → Type 0 where
     er_empty : {s : Scope} {w : AnfVals} → ER P K Empty [] [] s w
     er_bind : {v : ClosureValue} {e : ClosureEnv} {x y : ℕ} {env : List Level} {ys : List ℕ} {s : Scope} {w : AnfVals} {u : AnfVal} → VR P K v u → WordAt s w x u y → ER P K e env ys s w → ER P K (Bind v e) (LVar x ∷ env) (y ∷ ys) s w
-    er_fix : {rargs : List ℕ} {bodies : BoxTerms} {e : ClosureEnv} {env : List Level} {ys : List ℕ} {s s' : Scope} {w w' : AnfVals} {d' : ℕ} {all : List Level} (d : ℕ) → d' ≡ count w' → AreUnder (length rargs) rargs bodies → ReadyTerms P bodies → ER P K e env ys s' w' → all ≡ levels d (length rargs) env →
-        ((j : ℕ) → j < length rargs → FixAt s w (d + j) (WFix s' w' (norm_defs K env d' (length rargs) bodies) j) (fix_captured s' (norm_defs K env d' (length rargs) bodies))) → ER P K e env ys s w → ER P K (BindFix rargs bodies e) all ys s w
+    er_fix : {rargs : List ℕ} {bodies : BoxTerms} {e : ClosureEnv} {env : List Level} {ys : List ℕ} {s s' : Scope} {w w' : AnfVals} {d' : ℕ} {all : List Level} (d : ℕ) → d' ≡ count w' → AreUnder (length rargs) rargs bodies → ReadyTerms P bodies → ER P K e env ys s' w' →
+        all ≡ levels d (length rargs) env → ((j : ℕ) → j < length rargs → FixAt s w (d + j) (WFix s' w' (norm_defs K env d' (length rargs) bodies) j) (fix_captured s' (norm_defs K env d' (length rargs) bodies))) → ER P K e env ys s w → ER P K (BindFix rargs bodies e) all ys s w
 
 pub vrs_size : {P : BoxProgram} {K : Name → ℕ} {vs : ClosureValues} {ws : AnfVals} → VRs P K vs ws → size vs ≡ count ws
 vrs_size vrs_nil = refl

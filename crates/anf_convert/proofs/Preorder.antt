@@ -1,4 +1,4 @@
--- ClosureValues as data.
+-- Values as data.
 use Rattle.std.proofs.Common.{◌≡◌, ℕ, suc, List, ◌∷◌, ◌++◌, refl, ap, ◌∙◌}
 use Rattle.lambda_box.specs.ClosureEvaluation.{ClosureValue, ClosureValues, size, ValueReads, value_reads, ValuesRead, no_values, and_then}
 use Rattle.anf_convert.specs.AnfData.{DataTree, Made, DataTrees, DNil, DCons}

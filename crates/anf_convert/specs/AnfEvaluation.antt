@@ -70,12 +70,14 @@ mutual
     op_app : {s s' : Scope} {e e' : AnfVals} {f a : Atom} {t : AnfBlock} {v r : AnfVal} {c k b b1 b2 l l1 l2 : ℕ} → Gives w s e f (WClos s' e' t) b1 l1 → Gives w s e a v b2 l2 → AnfGets P w (Plain s') (WCons v e') t r c k b l → AnfDoes P w s e (AppOp f a) r (suc c) k (b1 + b2 + b) (l1 + l2 + l)
     op_app_box : {s : Scope} {e : AnfVals} {f a : Atom} {v : AnfVal} {b1 b2 l1 l2 : ℕ} → Gives w s e f WBox b1 l1 → Gives w s e a v b2 l2 → AnfDoes P w s e (AppOp f a) WBox 1 0 (b1 + b2) (l1 + l2)
     -- a fixpoint is entered at its first argument: an unfolding, and a beta or an application of box
-    op_app_fix : {s s' : Scope} {e e' : AnfVals} {f a : Atom} {ds : AnfDefs} {i : ℕ} {t : AnfBlock} {v r : AnfVal} {c k b b1 b2 l l1 l2 : ℕ} → Gives w s e f (WFix s' e' ds i) b1 l1 → Gives w s e a v b2 l2 → LamAt ds i t → AnfGets P w (Plain (shares (fix_captured s' ds) (def_count ds) s')) (WCons v (fixes s' e' ds (def_count ds) +w e')) t r c k b l → AnfDoes P w s e (AppOp f a) r (suc (suc c)) k (b1 + b2 + b) (l1 + l2 + l)
+    op_app_fix : {s s' : Scope} {e e' : AnfVals} {f a : Atom} {ds : AnfDefs} {i : ℕ} {t : AnfBlock} {v r : AnfVal} {c k b b1 b2 l l1 l2 : ℕ} → Gives w s e f (WFix s' e' ds i) b1 l1 → Gives w s e a v b2 l2 → LamAt ds i t →
+        AnfGets P w (Plain (shares (fix_captured s' ds) (def_count ds) s')) (WCons v (fixes s' e' ds (def_count ds) +w e')) t r c k b l → AnfDoes P w s e (AppOp f a) r (suc (suc c)) k (b1 + b2 + b) (l1 + l2 + l)
     op_app_fix_box : {s s' : Scope} {e e' : AnfVals} {f a : Atom} {ds : AnfDefs} {i : ℕ} {v : AnfVal} {b1 b2 l1 l2 : ℕ} → Gives w s e f (WFix s' e' ds i) b1 l1 → Gives w s e a v b2 l2 → BoxAt ds i → AnfDoes P w s e (AppOp f a) WBox 2 0 (b1 + b2) (l1 + l2)
     op_con : {s : Scope} {e : AnfVals} {c : ℕ} {as' : List Atom} {vs : AnfVals} {b l : ℕ} → GivesAll w s e as' vs b l → length as' < w → AnfDoes P w s e (ConOp c as') (WCon c vs) 0 0 (b + 1) (l + suc (length as'))
     op_lam : {s : Scope} {e : AnfVals} {t : AnfBlock} → length (lam_captured s t) < w → AnfDoes P w s e (LamOp t) (WClos s e t) 0 0 1 (suc (length (lam_captured s t)))
     op_fix : {s : Scope} {e : AnfVals} {ds : AnfDefs} {i : ℕ} → length (fix_captured s ds) < w → AnfDoes P w s e (FixOp ds i) (WFix s e ds i) 0 0 1 (suc (length (fix_captured s ds)))
-    op_case : {s : Scope} {e : AnfVals} {a : Atom} {bs : AnfBranches} {i : ℕ} {vs : AnfVals} {t : AnfBlock} {r : AnfVal} {c k b b1 l l1 : ℕ} → Gives w s e a (WCon i vs) b1 l1 → AnfBranchAt bs i (count vs) t → AnfGets P w (plains (count vs) s) (vs +w e) t r c k b l → AnfDoes P w s e (CaseOp a bs) r (suc c) (suc k) (b1 + b) (l1 + l)
+    op_case : {s : Scope} {e : AnfVals} {a : Atom} {bs : AnfBranches} {i : ℕ} {vs : AnfVals} {t : AnfBlock} {r : AnfVal} {c k b b1 l l1 : ℕ} → Gives w s e a (WCon i vs) b1 l1 → AnfBranchAt bs i (count vs) t →
+        AnfGets P w (plains (count vs) s) (vs +w e) t r c k b l → AnfDoes P w s e (CaseOp a bs) r (suc c) (suc k) (b1 + b) (l1 + l)
 
   pub data AnfGets (P : AnfProgram) (w : ℕ) : Scope → AnfVals → AnfBlock → AnfVal → ℕ → ℕ → ℕ → ℕ → Type 0 where
     block_atom : {s : Scope} {e : AnfVals} {a : Atom} {v : AnfVal} {b l : ℕ} → Gives w s e a v b l → AnfGets P w s e (TailAtom a) v 0 0 b l

@@ -28,7 +28,7 @@ use Rattle.closure_lift.proofs.Forms.{lift_forms}
 use Rattle.known_calls.specs.KnownModule.{module_of}
 use Rattle.wasm_emit.specs.EmitLaws.{Spent}
 use Rattle.known_calls.specs.KnownLaws.{FinishedWithin}
-use Rattle.wasm_emit.proofs.Composition.{longer}
+use Rattle.wasm_emit.proofs.Answering.{longer}
 use Rattle.known_calls.proofs.KnownSpelling.{known_spelled}
 use Rattle.back_end.specs.BackEnd.{passed, deepest, IsWithinPasses, ModulesAnswer, ModulesAreValid, ModulesCanBeSpelled}
 use Rattle.back_end.proofs.Composition.{back_end, back_end_valid}

@@ -53,7 +53,8 @@ pub record Answered (P : BoxProgram) (pages m : ℕ) (ns : Nodes) (n : ℕ) : Ty
   pub nodes : ℕ
   pub matches : ℕ
   pub saturated : BoxEvaluates (saturated_program P) (saturated_program P).main w nodes matches
-  pub run : (k : ℕ) (t : State) → Reach (module_of (passed P) pages) k first t → (k ≤ 64 * (3 * n + 1) * (greatest_words P + m)) × Fate (module_of (passed P) pages) (calls + 1) (FinishedWithin (module_of (passed P) pages) ns (8 + 4 * words)) (Spent (module_of (passed P) pages) (8 + 4 * words)) matches k t
+  pub run : (k : ℕ) (t : State) → Reach (module_of (passed P) pages) k first t →
+      (k ≤ 64 * (3 * n + 1) * (greatest_words P + m)) × Fate (module_of (passed P) pages) (calls + 1) (FinishedWithin (module_of (passed P) pages) ns (8 + 4 * words)) (Spent (module_of (passed P) pages) (8 + 4 * words)) matches k t
   pub always : AnswersWithin (module_of (passed P) pages) (64 * (3 * n + 1) * (greatest_words P + m)) ns
 
 -- where main evaluates by substitution to data with n nodes, every run of the module answers that data or is exhausted

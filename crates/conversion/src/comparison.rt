@@ -61,7 +61,7 @@ impl<R: Reducer + Drop> Compare<R> {
         Compare { reducer }
     }
 
-    // A comparison: a unit, one more rule that stands, and the two terms. `room` is the number of rules that may still stand in one another.
+    /// A comparison: a unit, one more rule that stands, and the two terms. `room` is the number of rules that may still stand in one another.
     #[cycle(compare)]
     pub(crate) fn compare(
         &self,
@@ -89,7 +89,7 @@ impl<R: Reducer + Drop> Compare<R> {
         answer
     }
 
-    // Equal trees, or the weak-head normal forms of both.
+    /// Equal trees, or the weak-head normal forms of both.
     #[cycle(compare)]
     fn entered(
         &self,
@@ -114,7 +114,7 @@ impl<R: Reducer + Drop> Compare<R> {
         self.pair(alloc, env, ctx, room, equal, &x, &y, m)
     }
 
-    // Two terms in weak-head normal form.
+    /// Two terms in weak-head normal form.
     #[cycle(compare)]
     fn pair(
         &self,

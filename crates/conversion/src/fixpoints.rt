@@ -21,7 +21,7 @@ use pc_terms::term::Defs;
 use std::alloc::Global;
 
 impl<R: Reducer + Drop> Compare<R> {
-    // The parts of two fixpoints: the types of their definitions, then the bodies.
+    /// The parts of two fixpoints: the types of their definitions, then the bodies.
     #[cycle(compare)]
     pub(crate) fn fixpoints(
         &self,
@@ -44,7 +44,7 @@ impl<R: Reducer + Drop> Compare<R> {
         self.compare_bodies(alloc, env, ctx, room, ds, es, m)
     }
 
-    // The bodies of two fixpoints, under the definitions of the left one.
+    /// The bodies of two fixpoints, under the definitions of the left one.
     #[cycle(compare)]
     fn compare_bodies(
         &self,

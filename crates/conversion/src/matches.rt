@@ -33,7 +33,7 @@ use pc_terms::term::{Match, Term};
 use std::alloc::Global;
 
 impl<R: Reducer + Drop> Compare<R> {
-    // The parts of two matches: parameters, predicates, scrutinees, branches.
+    /// The parts of two matches: parameters, predicates, scrutinees, branches.
     #[cycle(compare)]
     pub(crate) fn matches(
         &self,
@@ -60,7 +60,7 @@ impl<R: Reducer + Drop> Compare<R> {
         self.branches(alloc, env, ctx, room, &family.ctors, x, y, m)
     }
 
-    // The predicates of two matches, under the entries of the left one's.
+    /// The predicates of two matches, under the entries of the left one's.
     #[cycle(compare)]
     fn predicates(
         &self,
@@ -81,7 +81,7 @@ impl<R: Reducer + Drop> Compare<R> {
         self.under(alloc, env, ctx, room, &entries, &x.ret, &y.ret, m)
     }
 
-    // The bodies of the branches of two matches, under the entries of the left one's.
+    /// The bodies of the branches of two matches, under the entries of the left one's.
     #[cycle(compare)]
     fn branches(
         &self,
@@ -111,7 +111,7 @@ impl<R: Reducer + Drop> Compare<R> {
         Ok(())
     }
 
-    // Two terms under the entries of a telescope.
+    /// Two terms under the entries of a telescope.
     #[cycle(compare)]
     fn under(
         &self,

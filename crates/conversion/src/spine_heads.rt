@@ -14,7 +14,7 @@ fn same_families(f: FamilyId, g: FamilyId) -> bool
     f.block.0 == g.block.0 && f.family == g.family
 }
 
-// Whether there are as many branches, each under as many variables.
+/// Whether there are as many branches, each under as many variables.
 fn same_binders(xs: &[Branch], ys: &[Branch]) -> bool
     ensures is { result ≡ same_numbers (binders_of (arms_of xs.now)) (binders_of (arms_of ys.now)) }
 {
@@ -29,7 +29,7 @@ fn same_binders(xs: &[Branch], ys: &[Branch]) -> bool
     true
 }
 
-// Whether there are as many definitions, each with the same recursive argument.
+/// Whether there are as many definitions, each with the same recursive argument.
 fn same_recursive_arguments(ds: &[Def], es: &[Def]) -> bool
     ensures is { result ≡ same_numbers (rargs_of ds.now) (rargs_of es.now) }
 {
@@ -44,7 +44,7 @@ fn same_recursive_arguments(ds: &[Def], es: &[Def]) -> bool
     true
 }
 
-// Whether two matches are on the same family, with as many parameters, variables of the predicate, branches and variables of each branch.
+/// Whether two matches are on the same family, with as many parameters, variables of the predicate, branches and variables of each branch.
 fn same_counts(x: &Match, y: &Match) -> bool
     ensures is { result
         ≡ (same_families x.now.family y.now.family && ((length x.now.params == length y.now.params) && ((x.now.binders == y.now.binders) && same_numbers (binders_of (arms_of x.now.branches)) (binders_of (arms_of y.now.branches))))) }
@@ -55,8 +55,8 @@ fn same_counts(x: &Match, y: &Match) -> bool
         && same_binders(x.branches.as_slice(), y.branches.as_slice())
 }
 
-// Whether two heads are of one kind: the same variable, constant, family or constructor; matches on the same family with the same
-// counts; or fixpoints of the same index with the same recursive arguments. Takes no memory.
+/// Whether two heads are of one kind: the same variable, constant, family or constructor; matches on the same family with the same
+/// counts; or fixpoints of the same index with the same recursive arguments. Takes no memory.
 fn alike(a: &Term, b: &Term) -> bool
     ensures is { result ≡ alike a.now b.now }
 {

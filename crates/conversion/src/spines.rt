@@ -21,7 +21,7 @@ use pc_rules::stop::Halt;
 use pc_terms::term::{MakeFault, Node, Term, Terms};
 use std::alloc::Global;
 
-// The clash of two weak-head normal forms. Only `Memory`.
+/// The clash of two weak-head normal forms. Only `Memory`.
 fn clash_of(a: &Term, b: &Term) -> Result<Clash, MakeFault>
     ensures ok { IfOk result (λ c. c ≡ ClashOfTerms a.now b.now) }
     ensures only_memory { IfErr result (λ e. e ≡ Memory) }
@@ -32,7 +32,7 @@ fn clash_of(a: &Term, b: &Term) -> Result<Clash, MakeFault>
 }
 
 impl<R: Reducer + Drop> Compare<R> {
-    // Two spines: their heads, and their arguments from left to right.
+    /// Two spines: their heads, and their arguments from left to right.
     #[cycle(compare)]
     pub(crate) fn spines(
         &self,
@@ -58,7 +58,7 @@ impl<R: Reducer + Drop> Compare<R> {
         self.each(alloc, env, ctx, room, &left.1, &right.1, m)
     }
 
-    // Two heads of one kind.
+    /// Two heads of one kind.
     #[cycle(compare)]
     fn heads(
         &self,
@@ -83,7 +83,7 @@ impl<R: Reducer + Drop> Compare<R> {
         }
     }
 
-    // Two lists of terms, one by one.
+    /// Two lists of terms, one by one.
     #[cycle(compare)]
     pub(crate) fn each(
         &self,

@@ -21,7 +21,7 @@ use Rattle.wasm_core.specs.WordData.{DataNodes as Nodes}
 use Rattle.wasm_core.proofs.Small.{inj}
 use Rattle.wasm_emit.specs.EmitLaws.{Spent, spent}
 use Rattle.known_calls.specs.KnownLaws.{FinishedWithin}
-use Rattle.wasm_emit.proofs.Composition.{longer}
+use Rattle.wasm_emit.proofs.Answering.{longer}
 use Rattle.headline.specs.SourceWords.{source_branches}
 use Rattle.headline.specs.EveryRun.{module_for}
 use Rattle.headline.proofs.Composed.{headline}

@@ -1,14 +1,12 @@
 -- The late statuses of `call`, where the source tells its input: 15 comes of the run or of its answer alone; and where main has a module for calls and the arguments are whole, each status but 0 and 1 does.
-use Rattle.std.proofs.Common.{◌≡◌, ◌≢◌, ◌∙◌, ℕ, ◌<◌, ◌≤◌, List, [], length, Option, Some, None, Result, Ok, Err, ◌⊎◌, inl, inr, refl, sym, ap, subst, arith}
-use Rattle.kio.specs.Causes.{Rose}
+use Rattle.std.proofs.Common.{◌≡◌, ◌≢◌, ◌∙◌, ℕ, ◌≤◌, List, length, Option, Some, None, Err, ◌⊎◌, inl, inr, refl, sym, ap, subst, arith}
 use Rattle.calculus_rules.specs.FirstOrder.{Data, FitsShapes}
 use Rattle.calculus_rules.proofs.Spines.{one_item}
 use Rattle.dump_grammar.specs.declared.refusal.ReadRefusal.{ReadRefusal}
 use Rattle.dump_reader.specs.Front.{front_bytes}
 use Rattle.dump_reader.specs.declared.environment.RawEnv.{RawEnv}
-use Rattle.first_order.specs.Awaited.{ArgumentReading, ArgumentsAre, ArgumentsFail}
+use Rattle.first_order.specs.Awaited.{ArgumentsAre}
 use Rattle.first_order.specs.Searching.{members}
-use Rattle.first_order.specs.declared.faults.ArgsFault.{ArgsFault}
 use Rattle.module_run.specs.declared.refusal.RunRefusal.{RunRefusal}
 use Rattle.module_run.specs.declared.refusal.RunRefusal.TheVariants as running
 use Rattle.module_run.specs.CallEnds.{CallEnds}

@@ -28,7 +28,7 @@ use Rattle.driver.specs.SourceSays.{IsLine}
 use Rattle.driver.specs.ExecEnds.{TextRefuses, TextSays}
 use Rattle.driver.specs.CallStages.{CallCompiling, CallErasing, CallPassesSay, argument_count, its_call_module}
 use Rattle.driver.specs.Exported.{IsLargeForCall, ShowsLargeProgram}
-use Rattle.driver.specs.CallEnds.{AreRead, CallAnswering, CallSays, CallStops, in_signature, in_arguments, in_call_erasure, in_call_passes, in_call_run, in_call_text, ReadingArguments}
+use Rattle.driver.specs.CallEnds.{AreItsArguments, CallAnswering, CallSays, CallStops, in_signature, in_arguments, in_call_erasure, in_call_passes, in_call_run, in_call_text, ReadingArguments}
 use Rattle.driver.specs.CalledMain.{IsCallCompiled, IsCalledMain}
 use Rattle.driver.specs.Serve.{IsCheckCause, JobSays, RefusalSays}
 use Rattle.driver.proofs.CallCauses.{one_call_program}
@@ -81,7 +81,7 @@ check_says q _ bytes e s (inr h) = absurd h
 -- ---- the passes, behind the arguments
 
 pub main_is_called : (q : Request) (bytes : List ℕ) (M : CalledMain) → SpellsWithin (front_bytes bytes) M.environment → (x : CallErasing q.turns M.environment) → x.before.signature ≡ M.signature →
-    AreRead bytes M.signature M.environment.names M.arguments.items → (k : ℕ) → k ≡ length M.signature.args → CallPassesSay k q.pages x.program (Ok M.module) → IsCalledMain q bytes M
+    AreItsArguments bytes M.signature M.environment.names M.arguments.items → (k : ℕ) → k ≡ length M.signature.args → CallPassesSay k q.pages x.program (Ok M.module) → IsCalledMain q bytes M
 main_is_called q bytes M s x same read k count (fits, is) = record {
   spelled = s;
   stages = record { before = x; fits = fits };
@@ -97,7 +97,7 @@ module _ (q : Request) (range : IsInRange q) (bytes : List ℕ) (M : CalledMain)
   x = made.stages
 
   abbrev pub reading : ReadingArguments q.turns M.environment bytes
-  reading = record { before = x.before.before; arguments = M.arguments.items; read = subst (λ t. AreRead bytes t M.environment.names M.arguments.items) (sym made.signature_is) made.read }
+  reading = record { before = x.before.before; arguments = M.arguments.items; read = subst (λ t. AreItsArguments bytes t M.environment.names M.arguments.items) (sym made.signature_is) made.read }
 
   valid : IsValid (its_call_module q.pages x)
   valid = fits_call_valid x.before.program (argument_count x.before.before) q.pages (omega (arith, range.pages.0)) (omega (arith, range.pages.1)) x.before.form x.fits

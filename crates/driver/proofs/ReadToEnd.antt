@@ -1,5 +1,5 @@
 -- The end of the input, from what reading and the job say.
-use Rattle.std.proofs.Common.{◌≡◌, ◌≢◌, ℕ, ◌≤◌, List, length, Option, Some, None, Result, Ok, Err, sym, subst, ◌∙◌, arith}
+use Rattle.std.proofs.Common.{◌≡◌, ◌≢◌, ℕ, List, Option, Some, None, Result, Ok, Err, sym, subst, ◌∙◌, arith}
 use Rattle.kio.specs.Histories.{MetEnd, given_since}
 use Rattle.command_line.specs.declared.job.Job.TheVariants.{Bench}
 use Rattle.command_line.specs.declared.line.Request.{Request}
@@ -7,7 +7,7 @@ use Rattle.command_line.specs.Line.{request_of}
 use Rattle.driver.specs.declared.refusal.Refusal.{Refusal}
 use Rattle.driver.specs.declared.refusal.Refusal.TheVariants as refusals
 use Rattle.driver.specs.Lines.{status_of}
-use Rattle.driver.specs.Serve.{Concludes, InputSays, IsForReader, RequestSays, Says, input_limit}
+use Rattle.driver.specs.Serve.{Concludes, InputSays, IsForReader, RequestSays, Says}
 use Rattle.driver.specs.ByHistory.{EndSays, ReadsToEnd}
 
 -- the job that the words ask for reads an input, where one that they ask for does

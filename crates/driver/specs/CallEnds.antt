@@ -32,8 +32,8 @@ abbrev pub arguments_read : List ℕ → Signature → (names : List (List ℕ))
 arguments_read bytes s names = arguments_from names (argument_sets s.args) bytes (front_length bytes)
 
 -- it spells these arguments, one for each of the signature's
-abbrev pub AreRead : List ℕ → Signature → (names : List (List ℕ)) → List DataNodes → Type 0
-AreRead bytes s names ds = (arguments_read bytes s names ≡ ArgumentsAre (joined ds)) × (length ds ≡ length s.args)
+abbrev pub AreItsArguments : List ℕ → Signature → (names : List (List ℕ)) → List DataNodes → Type 0
+AreItsArguments bytes s names ds = (arguments_read bytes s names ≡ ArgumentsAre (joined ds)) × (length ds ≡ length s.args)
 
 -- the first token that refuses it
 abbrev pub ArgumentsRefuse : List ℕ → Signature → (names : List (List ℕ)) → Refusal → Type 0
@@ -46,7 +46,7 @@ ArgumentsRefuse bytes s names _ = ⊥
 
 -- it is read, or refused
 abbrev pub ArgumentsSay : {V : Type 0} → (V → List DataNodes) → List ℕ → Signature → (names : List (List ℕ)) → Result V Refusal → Type 0
-ArgumentsSay view bytes s names (Ok v) = AreRead bytes s names (view v)
+ArgumentsSay view bytes s names (Ok v) = AreItsArguments bytes s names (view v)
 ArgumentsSay view bytes s names (Err r) = ArgumentsRefuse bytes s names r
 
 -- there is no room for the arguments; or the run trapped with the status 1, after a grow of memory was refused
@@ -71,7 +71,7 @@ CallSays m pages steps args (Err _) = ⊥
 pub record ReadingArguments (turns : ℕ) (e : RawEnv) (bytes : List ℕ) : Type 0 where
   pub before : Signing turns e
   pub arguments : List DataNodes
-  pub read : AreRead bytes before.signature e.names arguments
+  pub read : AreItsArguments bytes before.signature e.names arguments
 
 -- the call answers data
 pub record CallAnswering (turns : ℕ) (e : RawEnv) (bytes : List ℕ) (pages steps : ℕ) : Type 0 where

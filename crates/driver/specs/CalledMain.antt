@@ -13,7 +13,7 @@ use Rattle.driver.specs.declared.called_main.CalledMain.{CalledMain}
 use Rattle.driver.specs.declared.refusal.Refusal.{Refusal}
 use Rattle.driver.specs.Texts.{SpellsWithin}
 use Rattle.driver.specs.CallStages.{CallCompiling, its_call_module}
-use Rattle.driver.specs.CallEnds.{AreRead}
+use Rattle.driver.specs.CallEnds.{AreItsArguments}
 use Rattle.driver.specs.Serve.{RefusalSays}
 
 -- the front of the bytes spells the environment, which is well formed; this is main's signature, these are the arguments, and this is the module for calls of the program that main is erased to
@@ -21,7 +21,7 @@ pub record IsCalledMain (q : Request) (bytes : List ℕ) (m : CalledMain) : Type
   pub spelled : SpellsWithin (front_bytes bytes) m.environment
   pub stages : CallCompiling q.turns m.environment
   pub signature_is : stages.before.before.signature ≡ m.signature
-  pub read : AreRead bytes m.signature m.environment.names m.arguments.items
+  pub read : AreItsArguments bytes m.signature m.environment.names m.arguments.items
   pub module_is : m.module ≡ its_call_module q.pages stages
 
 -- that, or the refusal of a stage before the module's bytes

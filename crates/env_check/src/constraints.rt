@@ -26,7 +26,7 @@ fn undeclared_end(levels: u32, constraint: &Constraint) -> Option<Level>
 }
 
 /// Whether each constraint names declared levels. `LevelUndeclared` at the first that does not. Takes no memory.
-pub(crate) fn check_constraints(levels: u32, constraints: &[Constraint]) -> Result<(), Refusal>
+pub fn check_constraints(levels: u32, constraints: &[Constraint]) -> Result<(), Refusal>
     requires few { length constraints.now ≤ 16384 }
     ensures passed { IfOk result (λ _. first_undeclared_end levels 0 constraints.now ≡ None) }
     ensures over { IfOk result (λ _. AreOver levels constraints.now) }
@@ -54,11 +54,7 @@ fn place_of(constraints: &[u32]) -> Place
 }
 
 /// The graph of constraints on declared levels. `UniverseCycle` where no valuation meets them all, and else only `Memory`.
-pub(crate) fn graph_of(
-    alloc: Global,
-    levels: u32,
-    constraints: &[Constraint],
-) -> Result<Graph, Refusal>
+pub fn graph_of(alloc: Global, levels: u32, constraints: &[Constraint]) -> Result<Graph, Refusal>
     requires few_levels { levels ≤ 1024 }
     requires few_constraints { length constraints.now ≤ 16384 }
     requires over { AreOver levels constraints.now }

@@ -33,7 +33,7 @@ use pc_terms::term::{MakeFault, Term};
 use std::alloc::Global;
 
 /// Whether nothing is kept by a name. `DuplicateName` where something is. Takes no memory.
-fn check_name(env: &Env, name: Name) -> Result<(), Halt>
+pub fn check_name(env: &Env, name: Name) -> Result<(), Halt>
     ensures answers { (u : Account) → AnswersRun (fresh_name (kept_at env.now.declarations name) name u) result u }
     ensures new { IfOk result (λ _. IsNew env.now name) }
 {
@@ -63,7 +63,7 @@ fn check_body<T: Typer>(
 }
 
 /// The same body, shared with this one. Only `Memory`.
-fn shared(body: &Option<Term>) -> Result<Option<Term>, MakeFault>
+pub fn shared(body: &Option<Term>) -> Result<Option<Term>, MakeFault>
     ensures same { IfOk result (λ b. b ≡ body.now) }
     ensures only_memory { IfErr result (λ e. e ≡ Memory) }
 {

@@ -10,7 +10,7 @@ use std::collections::HashSet;
 use universe_levels::level::Level;
 
 /// Whether each level is listed once. `DuplicateName` at the first level that was listed before, and else only `Memory`.
-pub(crate) fn check_levels(alloc: Global, levels: &[Level]) -> Result<(), Refusal>
+pub fn check_levels(alloc: Global, levels: &[Level]) -> Result<(), Refusal>
     requires few { length levels.now ≤ 1024 }
     ensures passed { IfOk result (λ _. first_repeated 0 [] levels.now ≡ None) }
     ensures distinct { IfOk result (λ _. AllPairs (λ k l. k ≢ l) levels.now) }

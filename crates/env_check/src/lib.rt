@@ -15,7 +15,7 @@
 #![tactic(auto)]
 
 pub mod check;
-mod constraints;
-mod declarations;
-mod levels;
+pub mod constraints;
+pub mod declarations;
+pub mod levels;
 pub mod refusal;

@@ -1,5 +1,5 @@
 -- What an answer says that is the reading of arguments from an offset on.
-use Rattle.std.proofs.Common.{◌≡◌, ◌∙◌, ℕ, ◌+◌, ◌≤◌, List, ◌∷◌, length, drop, map, Result, Ok, Err, IfOk, IfErr, refl, sym, ap, subst as along, arith}
+use Rattle.std.proofs.Common.{◌≡◌, ◌∙◌, ℕ, ◌+◌, ◌≤◌, List, length, drop, Result, Ok, Err, IfOk, IfErr, refl, sym, ap, subst as along, arith}
 use Rattle.std.proofs.lemmas.List.{length-drop, length-map}
 use Rattle.std.specs.Prelude.{Vec}
 use Rattle.std.specs.declared.alloc.Global.{Global}

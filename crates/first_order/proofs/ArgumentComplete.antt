@@ -1,11 +1,8 @@
 -- What is spelled is read, where no token passes a limit of tokens; and data is cut into trees in one way.
-use Rattle.std.proofs.Common.{◌≡◌, ◌∙◌, ℕ, zero, suc, ◌+◌, List, [], ◌∷◌, ◌++◌, length, Option, Some, None, Result, Ok, Err, true, refl, sym, ap, subst as along, append_assoc, append-nil, arith}
+use Rattle.std.proofs.Common.{◌≡◌, ◌∙◌, ℕ, zero, suc, ◌+◌, List, [], ◌∷◌, ◌++◌, length, refl, sym, ap, subst as along, append_assoc, append-nil, arith}
 use Rattle.std.specs.Prelude.{if◌then◌else◌}
 use Rattle.sexp_reader.specs.Text.{Text, Open, Close, Atom}
-use Rattle.sexp_reader.specs.Lex.{Spanned, answer_at, nesting_after_text}
-use Rattle.sexp_reader.specs.declared.Token.{Token}
-use Rattle.sexp_reader.specs.declared.TokenFault.{TokenFault}
-use Rattle.dump_grammar.specs.Keywords.{spelling}
+use Rattle.sexp_reader.specs.Lex.{Spanned, nesting_after_text}
 use Rattle.dump_grammar.specs.declared.keyword.Keyword.TheVariants as words
 use Rattle.dump_grammar.specs.Numbers.{word}
 use Rattle.dump_grammar.specs.Judge.{texts}
@@ -15,10 +12,10 @@ use Rattle.data_trees.specs.Preorder.{IsForest, IsTree}
 use Rattle.first_order.specs.declared.shapes.Shape.{Shape}
 use Rattle.first_order.specs.declared.given.Turn.{Turn}
 use Rattle.first_order.specs.declared.given.Turn.TheVariants.{First, Later}
-use Rattle.first_order.specs.ArgumentTexts.{ctor_at, SpellsItem, name_alone, in_brackets, SpellsItems, no_item, one_item, SpellsEach, no_argument, one_argument, SpellsArguments}
+use Rattle.first_order.specs.ArgumentTexts.{SpellsItem, name_alone, in_brackets, SpellsItems, no_item, one_item, SpellsEach, no_argument, one_argument, SpellsArguments}
 use Rattle.first_order.specs.Awaited.{Awaited, AwaitsOpen, AwaitsWord, AwaitsItem, AwaitsName, AwaitsClose, items_in, arguments_in, whole_call}
 use Rattle.first_order.specs.Awaited.{TakesToken, BreaksForm, alone, opened, taking, ArgumentReading, ArgumentsAre, with_nodes, answered, taken, at_token, reading_of, joined, AreTrees, HasNoFault}
-use Rattle.first_order.proofs.ArgumentSpelling.{SpellsNext, SpellsAll, join, only, come_inside, come_behind}
+use Rattle.first_order.proofs.ArgumentSpelling.{SpellsNext, SpellsAll, join, only, come_inside}
 
 -- what a token begins
 record Begins (names : List (List ℕ)) (x : Awaited) (ts : List Text) (ds : Data) : Type 0 where

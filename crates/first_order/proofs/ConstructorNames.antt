@@ -1,5 +1,5 @@
 -- The first constructor of a name, one constructor after another.
-use Rattle.std.proofs.Common.{◌≡◌, ◌∙◌, ℕ, suc, ◌+◌, ◌<◌, ◌≤◌, List, [], ◌∷◌, length, drop, get_or, Option, Some, None, Bool, true, false, refl, sym, ap, add-one}
+use Rattle.std.proofs.Common.{◌≡◌, ◌∙◌, ℕ, suc, ◌+◌, ◌<◌, ◌≤◌, List, length, drop, get_or, Some, None, true, false, sym, ap, add-one}
 use Rattle.std.specs.Prelude.{slice_get, if◌then◌else◌}
 use Rattle.pc_rules.proofs.ListSteps.{next_is, none_left}
 use Rattle.first_order.specs.declared.shapes.ShapeCtor.{ShapeCtor}

@@ -1,10 +1,10 @@
 -- What is written of arguments is read as the same data.
-use Rattle.std.proofs.Common.{◌≡◌, ◌≢◌, ◌∙◌, ℕ, zero, suc, ◌+◌, ◌<◌, List, [], ◌∷◌, ◌++◌, length, Option, Some, None, Bool, true, false, slice_get, refl, sym, ap, subst as along, inl, inr, append_assoc, append-nil, arith}
+use Rattle.std.proofs.Common.{◌≡◌, ◌≢◌, ◌∙◌, ℕ, zero, suc, ◌+◌, ◌<◌, List, [], ◌∷◌, ◌++◌, length, Option, Some, None, true, slice_get, refl, sym, ap, subst as along, inl, inr, append_assoc, arith}
 use Rattle.std.specs.Prelude.{if◌then◌else◌}
 use Rattle.std.specs.Cmp.Lexicographic.{nat_list_eq_equiv}
 use Rattle.std.proofs.lemmas.Bool.{cases_Bool}
 use Rattle.sexp_reader.specs.Text.{Text, Open, Close, Atom, Stray}
-use Rattle.sexp_reader.specs.Lex.{Spanned, is_atom_byte, tokens_of}
+use Rattle.sexp_reader.specs.Lex.{is_atom_byte, tokens_of}
 use Rattle.sexp_reader.specs.Tokenization.{Layout, End, LastComment, CommentThen, BlankThen, OpenThen, CloseThen, AtomThen, StrayThen, bytes_of, spans_of, Each, BeginsNoAtom, IsLayout}
 use Rattle.sexp_reader.proofs.Layouts.{tokenization}
 use Rattle.dump_grammar.specs.Keywords.{spelling}
@@ -18,9 +18,9 @@ use Rattle.pc_rules.proofs.WeakNext.{if_some_is}
 use Rattle.calculus_rules.proofs.Spines.{one_item as one_is}
 use Rattle.first_order.specs.declared.shapes.Shape.{Shape}
 use Rattle.first_order.specs.declared.shapes.ShapeCtor.{ShapeCtor}
-use Rattle.first_order.specs.Texts.{Naming, IsText, alone, with_arguments, AreTexts, no_text, one_text, counted_ctor, constructor_in, named_ctor, by_shapes}
+use Rattle.first_order.specs.Texts.{IsText, alone, with_arguments, AreTexts, no_text, one_text, counted_ctor, constructor_in, named_ctor, by_shapes}
 use Rattle.first_order.specs.ArgumentTexts.{is_text, ctor_from, ctor_at, SpellsItem, name_alone, in_brackets, SpellsItems, no_item, one_item, SpellsEach, no_argument, one_argument, SpellsArguments}
-use Rattle.first_order.specs.WrittenArguments.{behind_blanks, arguments_text, AreWritten, none_written, one_written, AreAtoms, HasOwnNames, TypesHaveOwnNames, AllHaveOwnNames, WhatIsWrittenIsSpelled}
+use Rattle.first_order.specs.WrittenArguments.{behind_blanks, arguments_text, AreWritten, none_written, one_written, AreAtoms, TypesHaveOwnNames, AllHaveOwnNames, WhatIsWrittenIsSpelled}
 use Rattle.first_order.proofs.ReadTexts.{counted_is, shapes_count}
 
 -- ---- the constructor that a written name is

@@ -36,7 +36,7 @@ pub(crate) struct CtorPlace {
 
 /// Whether an argument of a sort may stand in a family of a sort: in any in `Prop`, and else in one whose sort is not less.
 /// `SortTooSmall`, and else only `Memory`.
-fn fits_sort(alloc: Global, env: &Env, argument: &Sort, family: &Sort) -> Result<(), Halt>
+pub fn fits_sort(alloc: Global, env: &Env, argument: &Sort, family: &Sort) -> Result<(), Halt>
     requires over { AreOver env.now.levels env.now.constraints }
     requires argument { IsSortOver env.now.levels argument.now }
     requires family { IsSortOver env.now.levels family.now }

@@ -26,7 +26,7 @@ use pc_terms::lists::Telescope;
 use std::alloc::Global;
 
 /// The environment in which the families of a new block are known by their types alone. Only `Memory`.
-fn with_heads(
+pub fn with_heads(
     alloc: Global,
     env: &Env,
     name: Name,

@@ -44,8 +44,8 @@ fn names_none(block: Name, at: CtorPlace, result_terms: &Terms) -> Result<(), Ha
     Err(Halt::Broken(Broken::NotPositive { family, ctor }))
 }
 
-/// The constructor with the sorts of its arguments. Only `Memory`.
-fn with_sorts(alloc: Global, ctor: &RawCtor, arg_sorts: Sorts) -> Result<Constructor, Stop>
+/// The constructor with the sorts of its arguments, the outermost first. Only `Memory`.
+pub fn with_sorts(alloc: Global, ctor: &RawCtor, arg_sorts: Sorts) -> Result<Constructor, Stop>
     ensures ok { IfOk result (λ C. C ≡ with_sorts (ctor_of ctor.now) arg_sorts) }
     ensures only_memory { IfErr result (λ s. s ≡ Memory) }
 {
@@ -147,8 +147,12 @@ fn check_constructors<T: Typer>(
     Ok(Constructors::of(out))
 }
 
-/// The family with other constructors. Only `Memory`.
-fn with_constructors(alloc: Global, family: &RawFamily, ctors: Constructors) -> Result<Family, Stop>
+/// The family with these constructors in place of those that it was read with. Only `Memory`.
+pub fn with_constructors(
+    alloc: Global,
+    family: &RawFamily,
+    ctors: Constructors,
+) -> Result<Family, Stop>
     ensures ok { IfOk result (λ F. F ≡ with_constructors (family_of family.now) ctors) }
     ensures only_memory { IfErr result (λ s. s ≡ Memory) }
 {

@@ -9,7 +9,7 @@ use universe_levels::sort::Sort;
 
 /// Whether the levels of a sort are among the declared ones, of which the last has the number `levels`. `LevelUndeclared` with the first
 /// that is not. Takes no memory.
-pub(crate) fn are_declared(levels: u32, sort: &Sort) -> Result<(), Halt>
+pub fn are_declared(levels: u32, sort: &Sort) -> Result<(), Halt>
     ensures answers { (u : Account) → Answers (levels_declared (undeclared_in levels sort.now) u) result u }
 {
     let Sort::Of(universe) = sort else {

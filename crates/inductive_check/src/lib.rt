@@ -13,18 +13,18 @@
 //! variables) and `dump_reader` (declarations as they are read), above the crate that judges whole environments.
 #![tactic(auto)]
 
-mod arguments;
+pub mod arguments;
 pub mod block;
-mod constructors;
+pub mod constructors;
 mod heads;
-mod levels;
-mod listing;
-mod names;
+pub mod levels;
+pub mod listing;
+pub mod names;
 mod places;
 pub mod positive;
 mod positivity;
 mod results;
-mod sharing;
-mod telescope;
+pub mod sharing;
+pub mod telescope;
 mod types;
 mod waiting;

@@ -5,7 +5,7 @@ ghost use Rattle.pc_rules.specs.declared.stop.Stop.TheVariants.{Memory};
 use pc_rules::stop::Stop;
 
 /// Puts an item at the end. Only `Memory`.
-pub(crate) fn push<X: Drop>(items: &mut Vec<X>, item: X) -> Result<(), Stop>
+pub fn push<X: Drop>(items: &mut Vec<X>, item: X) -> Result<(), Stop>
     ensures longer { IfOk result (λ _. items.new.items ≡ items.old.items ++ item ∷ []) }
     ensures only_memory { IfErr result (λ s. s ≡ Memory) }
 {
@@ -16,7 +16,7 @@ pub(crate) fn push<X: Drop>(items: &mut Vec<X>, item: X) -> Result<(), Stop>
 }
 
 /// The number of items as a number of 32 bits. `Memory` where it is none.
-pub(crate) fn number(items: usize) -> Result<u32, Stop>
+pub fn number(items: usize) -> Result<u32, Stop>
     ensures is { IfOk result (λ n. n ≡ items) }
     ensures only_memory { IfErr result (λ s. s ≡ Memory) }
 {

@@ -23,7 +23,7 @@ fn has_name(ctors: &[RawCtor], name: Name) -> bool
 }
 
 /// Whether no two of the constructors share a name. `DuplicateName` with the first name that an earlier constructor has. Takes no memory.
-pub(crate) fn are_distinct(ctors: &[RawCtor]) -> Result<(), Halt>
+pub fn are_distinct(ctors: &[RawCtor]) -> Result<(), Halt>
     ensures answers { (u : Account) → Answers (distinct_names [] (map ctor_of ctors.now) u) result u }
 {
     for i in 0..ctors.len() {

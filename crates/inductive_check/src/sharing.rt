@@ -21,7 +21,7 @@ pub(crate) fn shared_terms(alloc: Global, terms: &[Term]) -> Result<Terms, MakeF
 }
 
 /// The entries of a telescope as a telescope of its own. Only `Memory`.
-pub(crate) fn shared_telescope(alloc: Global, entries: &Telescope) -> Result<Telescope, MakeFault>
+pub fn shared_telescope(alloc: Global, entries: &Telescope) -> Result<Telescope, MakeFault>
     ensures ok { IfOk result (λ out. out ≡ entries.now) }
     ensures only_memory { IfErr result (λ e. e ≡ Memory) }
 {

@@ -20,7 +20,7 @@ use pc_terms::term::Term;
 use std::alloc::Global;
 
 /// Puts an assumed entry of a type into a context, as the innermost. Only `Memory`, and the context is as before then.
-pub(crate) fn assume(alloc: Global, ctx: &mut Ctx, ty: &Term) -> Result<(), Stop>
+pub fn assume(alloc: Global, ctx: &mut Ctx, ty: &Term) -> Result<(), Stop>
     ensures longer { IfOk result (λ _. ctx.new ≡ extend ctx.old (ty.now ∷ [])) }
     ensures only_memory { IfErr result (λ s. s ≡ Memory) }
 {

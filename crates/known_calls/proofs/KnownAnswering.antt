@@ -23,12 +23,11 @@ use Rattle.wasm_emit.specs.EmittedModule.{type_main, main_index}
 use Rattle.anf_convert.specs.Preorder.{preorder}
 use Rattle.wasm_emit.specs.EmitLaws.{Spent, spent}
 use Rattle.wasm_emit.proofs.Bytes.{zeroed_word, zeroed_length}
-use Rattle.wasm_emit.proofs.Rules.{Limits, Within, zeros, looser}
+use Rattle.wasm_emit.proofs.Rules.{Limits, Within, zeros, looser, zeros_length}
 use Rattle.wasm_emit.proofs.Indices.{entries_length}
 use Rattle.wasm_emit.proofs.Read.{reads}
 use Rattle.wasm_emit.proofs.Staged.{staged}
 use Rattle.wasm_emit.proofs.Source.{Gets}
-use Rattle.wasm_emit.proofs.Follows.{zeros_length}
 use Rattle.wasm_emit.proofs.Answering.{alone, forget, is_exhausted}
 use Rattle.known_calls.specs.KnownCode.{Inside}
 use Rattle.known_calls.specs.KnownModule.{worker_type, main_function, module_of}

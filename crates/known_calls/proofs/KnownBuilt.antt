@@ -18,8 +18,7 @@ use Rattle.wasm_emit.specs.EmittedModule.{room_function, box_function, body}
 use Rattle.wasm_emit.specs.EmittedBodies.{FewInFunction, FewInBlock, FewLocals}
 use Rattle.wasm_emit.specs.Pushed.{Pushed, function_in}
 use Rattle.wasm_emit.proofs.Pushing.{constant_next, next_of, top_renumbered, only_pushed, then_pushed}
-use Rattle.wasm_emit.proofs.Built.{same_body}
-use Rattle.wasm_emit.proofs.Listed.{functions_in, constants_in, one_more}
+use Rattle.wasm_emit.proofs.Listed.{same_body, functions_in, constants_in, one_more}
 use Rattle.known_calls.specs.KnownPlaces.{Place, At, InLocal, fields_of}
 use Rattle.known_calls.specs.KnownCode.{Inside, InTail, worker_index, code}
 use Rattle.known_calls.specs.KnownModule.{params, captured_words, wide_body, stub_code, entry, worker_code, worker, numbered, constant, main_function}

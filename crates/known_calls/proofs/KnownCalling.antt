@@ -21,13 +21,11 @@ use Rattle.wasm_emit.specs.EmitLaws.{Spent}
 use Rattle.anf_convert.specs.Preorder.{fields_of as count, preorder}
 use Rattle.wasm_emit.specs.CallLaws.{IsHosted, hosted, call_start}
 use Rattle.wasm_emit.proofs.Bytes.{Mem}
-use Rattle.wasm_emit.proofs.Rules.{Limits, Within, zeros, looser}
-use Rattle.wasm_emit.proofs.Read.{reads, all_count}
+use Rattle.wasm_emit.proofs.Rules.{Limits, Within, zeros, looser, zeros_length}
+use Rattle.wasm_emit.proofs.Read.{reads, all_count, args_of}
 use Rattle.wasm_emit.proofs.Source.{Applies}
 use Rattle.wasm_emit.proofs.Staged.{staged_all}
-use Rattle.wasm_emit.proofs.Follows.{zeros_length}
 use Rattle.wasm_emit.proofs.Answering.{is_exhausted}
-use Rattle.wasm_emit.proofs.Calling.{args_of}
 use Rattle.known_calls.specs.KnownModule.{worker_type}
 use Rattle.known_calls.specs.KnownCalls.{applied, call_function, module_of_call}
 use Rattle.known_calls.specs.KnownLaws.{FinishedWithin, finished, CallsAnswer}

@@ -11,12 +11,11 @@ use Rattle.wasm_core.specs.MachineStep.{BlockLabel, State, after_end, else_arm}
 use Rattle.wasm_core.proofs.Rules.{Around}
 use Rattle.wasm_emit.specs.EmittedCode.{IfWord}
 use Rattle.wasm_emit.proofs.Source.{Block, BranchBlocks, BNil, BCons, Program, Val, many, BranchAt, branch_here, branch_after}
-use Rattle.wasm_emit.proofs.Bytes.{Mem}
+use Rattle.wasm_emit.proofs.Bytes.{Mem, at_zero}
 use Rattle.wasm_emit.proofs.Values.{Stands}
 use Rattle.wasm_emit.proofs.Holds.{Same, Keeps}
 use Rattle.wasm_emit.proofs.Rules.{Limits, Within, here, in_block, returned, looser, r_const, r_get, r_load, r_eq_yes, r_eq_no, r_if, r_if_not, r_else, r_end}
 use Rattle.wasm_emit.proofs.Alloc.{Room}
-use Rattle.wasm_emit.proofs.Cases.{at_zero}
 use Rattle.known_calls.specs.KnownPlaces.{Place, fields_of}
 use Rattle.known_calls.specs.KnownCode.{Position, deeper, some_heads, some_branches, empty_test, head_test, arm, code, empties, heads}
 use Rattle.known_calls.proofs.KnownHolds.{Stood, stood_up, stood_deeper}

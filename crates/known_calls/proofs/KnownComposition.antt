@@ -7,7 +7,7 @@ use Rattle.anf_convert.specs.AnfData.{DataTree, anf_data_none}
 use Rattle.closure_lift.specs.LiftKeeps.{are_data_none}
 use Rattle.closure_lift.proofs.Follows.{lift_keeps}
 use Rattle.closure_lift.proofs.Forms.{lift_forms}
-use Rattle.wasm_emit.proofs.Composition.{longer, steps}
+use Rattle.wasm_emit.proofs.Answering.{longer, steps}
 use Rattle.known_calls.specs.KnownLaws.{KnownEmitted, AnfAnswersKnown, AnfKnownValid}
 use Rattle.known_calls.proofs.KnownAnswering.{known_answers}
 use Rattle.known_calls.proofs.KnownValidity.{known_valid}

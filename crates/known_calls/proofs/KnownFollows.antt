@@ -22,15 +22,13 @@ use Rattle.anf_convert.specs.declared.program.Atom.{Atom}
 use Rattle.closure_lift.specs.Lifted.{Op, OConst, OApp, OCon, OClos, OCase, Block, RetAtom, LetAtom, Ret, Let, BranchBlocks, Program, Fn, Val, VBox, VCon, VClos, Vals, VNil, VCons, size, ◌+v◌, many, BranchAt}
 use Rattle.wasm_emit.specs.EmitLaws.{Spent}
 use Rattle.wasm_emit.specs.EmittedLocals.{top, top_op}
-use Rattle.wasm_emit.proofs.Source.{Applies, applies_alone, applies_more, Is, AllAre, Does, do_const, do_app, do_box_app, do_con, do_clos, do_case, Gets, gets_atom, gets_let_atom, gets_ret, gets_let}
-use Rattle.wasm_emit.proofs.Bytes.{Mem}
-use Rattle.wasm_emit.proofs.Values.{ArgsAt, args_more, Stands, s_box, s_empty, s_con, s_clos, Fields, no_field, field}
+use Rattle.wasm_emit.proofs.Source.{Applies, applies_alone, applies_more, Is, AllAre, Does, do_const, do_app, do_box_app, do_con, do_clos, do_case, Gets, gets_atom, gets_let_atom, gets_ret, gets_let, all_size}
+use Rattle.wasm_emit.proofs.Bytes.{Mem, at_zero}
+use Rattle.wasm_emit.proofs.Values.{ArgsAt, args_more, Stands, s_box, s_empty, s_con, s_clos, Fields, no_field, field, append_nil, closure, box_word, top_arg}
 use Rattle.wasm_emit.proofs.Holds.{args_on, Same, Keeps, keeps_trans, keeps_same, keeps_set, set_this, stands_on}
-use Rattle.wasm_emit.proofs.Rules.{Limits, Within, here, callee, in_block, zeros, looser, r_const, r_get, r_set, r_load, r_end, r_back, r_return, r_call_0, r_indirect}
-use Rattle.wasm_emit.proofs.Alloc.{Room, HasRunTime}
-use Rattle.wasm_emit.proofs.Making.{all_size}
-use Rattle.wasm_emit.proofs.Cases.{at_zero}
-use Rattle.wasm_emit.proofs.Follows.{zeros_length, branch_top, append_nil, closure, box_word, low_word, top_arg}
+use Rattle.wasm_emit.proofs.Rules.{Limits, Within, here, callee, in_block, zeros, looser, r_const, r_get, r_set, r_load, r_end, r_back, r_return, r_call_0, r_indirect, zeros_length}
+use Rattle.wasm_emit.proofs.Alloc.{Room, HasRunTime, low_word}
+use Rattle.wasm_emit.proofs.Pushing.{branch_top}
 use Rattle.known_calls.specs.KnownPlaces.{Word, InLocal, Place, At, Known, fields_of, known_function, names, branches_read, block_reads}
 use Rattle.known_calls.specs.KnownCode.{Position, Inside, InTail, is_wide, into_params, worker_index, most_blocks, jumps, application, call_worker, into_local, some_heads, choose, unmade, known, op, code, empties, heads}
 use Rattle.known_calls.specs.KnownModule.{params, captured_words, module_with}

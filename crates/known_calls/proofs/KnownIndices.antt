@@ -15,8 +15,7 @@ use Rattle.closure_lift.specs.Lifted.{Block, Program, Fn}
 use Rattle.wasm_emit.specs.EmittedModule.{main_index, body, type_main, type_constant, type_function}
 use Rattle.wasm_emit.specs.EmittedCode.{constant_index}
 use Rattle.wasm_emit.specs.EmittedLocals.{top}
-use Rattle.wasm_emit.proofs.Indices.{at_append, at_front, length_map, func_is}
-use Rattle.wasm_emit.proofs.Indices as emitted
+use Rattle.wasm_emit.proofs.Indices.{at_append, at_front, length_map, func_is, table_at}
 use Rattle.known_calls.specs.KnownCode.{is_wide, worker_index}
 use Rattle.known_calls.specs.KnownModule.{words_type, wide_body, stub_code, entry, worker_code, worker, worker_type, numbered, constant, in_order, module_with}
 
@@ -113,4 +112,4 @@ module _ (P : Program) (main : Body) (gs : List GlobalDef) (es : List Export) (p
 
   pub table_entry : (g : ℕ) → g < suc (length P.functions) → slice_get (table_of (module_with P main gs es pages)) g ≡ Some (Some (suc g))
   unfolding table_of
-  table_entry g h = emitted.entry_at P main gs es pages g h
+  table_entry g h = table_at (suc (length P.functions)) g h

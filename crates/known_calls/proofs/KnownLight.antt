@@ -8,8 +8,7 @@ use Rattle.anf_convert.specs.Captured.{Scope, Outside, Plain, Shared, depth, Ent
 use Rattle.closure_lift.specs.Lifted.{Block, Let, Ret, LetAtom, RetAtom, Fn}
 use Rattle.closure_lift.specs.Lift.{LiftSlot, Holds, Made, held, atom, closure_for, closure, closures, atoms_of, block_functions, op_functions, numbered, unnumbered, holding, lift_op, lift_block, lift_branches, def_functions, functions_op, functions_block, functions_branches, functions_defs, lift_constants, functions_constants, constants_functions}
 use Rattle.closure_lift.specs.CapturedLimit.{OpCaptures, BlockCaptures, BranchesCapture, DefsCapture, BlocksCapture}
-use Rattle.wasm_emit.specs.NormalWeight.{atom_weight, atoms_weight}
-use Rattle.known_calls.specs.KnownWeight.{op_weight, weight, branches_weight, functions_weight, constants_weight, normal_op_weight, normal_weight, normal_branches_weight, normal_defs_weight, normal_constants_weight, LiftedIsLight}
+use Rattle.known_calls.specs.KnownWeight.{atom_weight, atoms_weight, op_weight, weight, branches_weight, functions_weight, constants_weight, normal_op_weight, normal_weight, normal_branches_weight, normal_defs_weight, normal_constants_weight, LiftedIsLight}
 use Rattle.wasm_emit.proofs.Indices.{length_map}
 
 functions_join : (fs gs : List Fn) → functions_weight (fs ++ gs) ≡ functions_weight fs + functions_weight gs

@@ -11,13 +11,12 @@ use Rattle.wasm_core.specs.Parts.{Parts}
 use Rattle.wasm_core.specs.Instance.{greatest_pages}
 use Rattle.wasm_core.specs.MachineStep.{State}
 use Rattle.wasm_core.proofs.Rules.{Around}
-use Rattle.wasm_emit.proofs.Source.{Atom, Val, Vals, VNil, VCons, size, AllAre, are_none, are_more}
+use Rattle.wasm_emit.proofs.Source.{Atom, Val, Vals, VNil, VCons, size, AllAre, are_none, are_more, all_size}
 use Rattle.wasm_emit.proofs.Bytes.{Mem, word_same, word_put, word_put_at, put_other, put_length}
 use Rattle.wasm_emit.proofs.Values.{Stands, Fields, no_field, field}
 use Rattle.wasm_emit.proofs.Holds.{address_below, fields_up, Same, Keeps, keeps_same, keeps_set, set_this, stands_on, stands_small}
 use Rattle.wasm_emit.proofs.Rules.{Limits, Within, here, looser, r_const, r_get, r_tee, r_heap, r_set_heap, r_add, r_load, r_store}
 use Rattle.wasm_emit.proofs.Alloc.{Room, HasRunTime, allocated}
-use Rattle.wasm_emit.proofs.Making.{all_size}
 use Rattle.known_calls.specs.KnownPlaces.{Word, Place, Known, names, some_names}
 use Rattle.known_calls.specs.KnownCode.{read_word, read, atom, push_words, fill, new_block, block}
 use Rattle.known_calls.proofs.KnownHolds.{Reads, in_local, in_field, is_const, Words, no_word, more_words, Env, env_on}

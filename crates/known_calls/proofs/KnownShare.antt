@@ -9,8 +9,7 @@ use Rattle.lambda_box.specs.BoxProgram.{BoxConstant}
 use Rattle.lambda_box.specs.SaturatedForm.{nodes_of_constants}
 use Rattle.anf_convert.specs.Anf.{LamOp, AnfBlock, AnfBranches, Branch, AnfDefs, LamDef, BoxDef, AnfBinding, AtomIs, OpIs, tail_of, block_of}
 use Rattle.anf_convert.specs.ToAnf.{Res, RAtom, RCon, ROp, Norm, at_depth, binding_of, sealed, with_variable, named, levels, name_at, then_arg, then_body, then_case, just, norm, norm_branches, norm_defs, code_of, number_in}
-use Rattle.wasm_emit.specs.NormalWeight.{atom_weight, atoms_weight}
-use Rattle.known_calls.specs.KnownWeight.{normal_op_weight, normal_weight, normal_branches_weight, normal_defs_weight, normal_constants_weight, KnownIsSmall}
+use Rattle.known_calls.specs.KnownWeight.{atom_weight, atoms_weight, normal_op_weight, normal_weight, normal_branches_weight, normal_defs_weight, normal_constants_weight, KnownIsSmall}
 
 some_node : (t : BoxTerm) → 1 ≤ nodes t
 some_node (Rel i) = omega arith

@@ -8,7 +8,7 @@ use Rattle.wasm_core.specs.declared.instrs.Body.{Body}
 use Rattle.wasm_core.specs.ShortestBytes.{put_u32, put_all, put_body, put_section, put_segment, put_func_type, put_table_type, put_limits, put_global, put_export, put_instr, unsigned, sizes}
 use Rattle.closure_lift.specs.Lifted.{Op, OConst, OApp, OCon, OClos, OCase, Block, RetAtom, LetAtom, Ret, Let, BranchBlocks, BNil, BCons, Program, Fn}
 use Rattle.closure_lift.specs.LiftedForm.{Formed, Limits}
-use Rattle.wasm_emit.specs.EmittedModule.{type_main, type_constant, type_function, body, entries}
+use Rattle.wasm_emit.specs.EmittedModule.{type_main, type_constant, type_function, body, entries, main_index}
 use Rattle.wasm_emit.specs.EmittedLocals.{top, top_op, top_branches}
 use Rattle.wasm_emit.specs.EmitLaws.{CountsFit}
 use Rattle.wasm_emit.proofs.Indices.{entries_length}
@@ -148,7 +148,7 @@ known_sized P pages m form limits counts =
       section_size 6 put_global M.globals s7,
       globals_size,
       section_size 7 put_export M.exports s9,
-      exports_size P pages,
+      exports_size (main_index P),
       section_size 9 put_segment M.elements s10,
       segment_size 0 (entries 1 (suc n)),
       entries_length 1 (suc n),

@@ -1,5 +1,5 @@
 -- The numbers of a module with workers fit its format, so that bytes can spell it.
-use Rattle.std.proofs.Common.{◌≡◌, ℕ, zero, suc, ◌+◌, ◌-◌, ◌<◌, ◌≤◌, List, [], ◌∷◌, ◌++◌, max, Some, Bool, true, false, refl, arith, subst}
+use Rattle.std.proofs.Common.{◌≡◌, ℕ, zero, suc, ◌+◌, ◌-◌, ◌<◌, ◌≤◌, List, [], ◌∷◌, ◌++◌, max, Some, Bool, true, false, refl, arith, rules, subst}
 use Rattle.std.specs.Prelude.{slice_get, if◌then◌else◌}
 use Rattle.std.proofs.lemmas.Option.{slice_get_within}
 use Rattle.wasm_core.specs.declared.types.ValType.TheVariants.{I32}
@@ -11,18 +11,17 @@ use Rattle.wasm_core.specs.ModuleTyping.{TypedFunc}
 use Rattle.wasm_core.specs.declared.instrs.Body.{Body}
 use Rattle.wasm_core.specs.declared.types.GlobalDef.{GlobalDef}
 use Rattle.wasm_core.specs.declared.exports.Export.{Export}
-use Rattle.wasm_core.specs.ModuleCondition.{All, IsU32, IsBody, IsModule}
+use Rattle.wasm_core.specs.ModuleCondition.{All, IsU32, IsBody, IsExport, IsGlobal, IsModule}
 use Rattle.anf_convert.specs.declared.program.Atom.TheVariants.{Var as AVar}
 use Rattle.closure_lift.specs.Lifted.{OApp, Block, Fn, Program}
 use Rattle.closure_lift.specs.LiftedForm.{Formed, Limits}
 use Rattle.wasm_emit.specs.EmittedCode.{ConstWord}
 use Rattle.wasm_emit.specs.EmittedLocals.{top}
-use Rattle.wasm_emit.specs.EmittedModule.{body, room_code}
-use Rattle.wasm_emit.specs.EmittedModule as emitted
+use Rattle.wasm_emit.specs.EmittedModule.{body, room_code, entries}
 use Rattle.wasm_emit.specs.CallModule.{call_globals, call_exports}
-use Rattle.wasm_emit.specs.CallModule as emitted_call
 use Rattle.wasm_emit.specs.EmitLaws.{CountsFit}
-use Rattle.wasm_emit.proofs.Spelled.{Good, good, fits, all_then, body_fits, room_good, emit_spelled, call_spelled}
+use Rattle.wasm_emit.proofs.Indices.{entries_length}
+use Rattle.wasm_emit.proofs.Spelled.{Good, good, fits, all_then, body_fits, room_good}
 use Rattle.known_calls.specs.KnownPlaces.{At, InLocal, fields_of}
 use Rattle.known_calls.specs.KnownCode.{Inside, InTail, is_wide, worker_index, code}
 use Rattle.known_calls.specs.KnownModule.{params, captured_words, wide_body, stub_code, entry, worker_code, worker, worker_type, numbered, constant, main_function, module_with, module_of}
@@ -42,6 +41,10 @@ numbered_then Q h from (x ∷ xs) bs a r = (a zero from x refl (omega arith), nu
 numbered_all : {B : Type 0} (Q : B → Type 0) (h : ℕ → Fn → B) (from : ℕ) (fs : List Fn) → ((g j : ℕ) (x : Fn) → slice_get fs g ≡ Some x → j ≡ from + g → Q (h j x)) → All Q (numbered h from fs)
 numbered_all Q h from [] a = tt
 numbered_all Q h from (x ∷ xs) a = (a zero from x refl (omega arith), numbered_all Q h (suc from) xs (λ g j y at is. a (suc g) j y at (omega arith)))
+
+entries_fit : (i n : ℕ) → i + n < 4294967296 → All IsU32 (entries i n)
+entries_fit i zero h = tt
+entries_fit i (suc n) h = (omega arith, entries_fit (suc i) n (omega arith))
 
 -- the code of an entry's stub, of the body of a function without a worker, and of a worker
 module _ (P : Program) (m : ℕ) (form : Formed P m) (counts : CountsFit P m) (limits : Limits P) (g : ℕ) (fn : Fn) (at : slice_get P.functions g ≡ Some fn) where
@@ -114,19 +117,18 @@ module _ (P : Program) (main : Body) (gs : List GlobalDef) (es : List Export) (p
     ),
   )
 
-  -- where the rest is that of a module that fits
-  with_spelled : (other : Body) → IsModule (emitted.module_with P other gs es pages) → IsBody main → IsModule M
-  with_spelled other old last =
+  with_spelled : pages ≤ 16384 → length gs ≤ 8 → All IsGlobal gs → length es ≤ 8 → All IsExport es → IsBody main → IsModule M
+  with_spelled small few_globals globals few_exports exports last =
       let size = order_length {A = ℕ} P (λ g f. 2) (λ t. 1) 0 (λ g f. worker_type f) in
       let bodies = order_length P (entry P) (constant P) main (worker P) in
       record {
         types = (omega arith, (omega arith, (omega arith, (omega arith, (omega arith, (omega arith, (omega arith, (omega arith, (omega arith, (omega arith, (omega arith, (omega arith, tt))))))))))));
         funcs = (omega (arith, size, limits.few, counts.constants), all_types);
-        table = old.table;
-        memory = old.memory;
-        globals = old.globals;
-        exports = old.exports;
-        elements = old.elements;
+        table = (omega (arith, limits.few), omega (arith, limits.few));
+        memory = (omega arith, omega arith);
+        globals = (omega arith, (omega arith, (omega arith, (omega arith, globals))));
+        exports = (omega arith, ((search rules, omega arith, omega (arith, limits.few, counts.constants)), ((search rules, omega arith, omega arith), ((search rules, omega arith, omega arith), ((search rules, omega arith, omega arith), exports)))));
+        elements = (omega arith, ((omega arith, (omega (arith, entries_length 1 (suc (length P.functions)), limits.few), entries_fit 1 (suc (length P.functions)) (omega (arith, limits.few)))), tt));
         bodies = (omega (arith, bodies, limits.few, counts.constants), all_bodies last);
         whole = omega (arith, size, bodies);
       }
@@ -136,7 +138,7 @@ known_spelled P pages m pos small form limits counts =
     let last : IsBody (main_function P) =
     body_fits (module_of P pages) 0 (top 0 P.main) (code P [] 0 Inside P.main (GlobalSet 0 ∷ End ∷ [])) counts.main (main_typed P m form (main_function P) [] [] pages)
     ((b_code P m form counts limits 0 0 [] Inside P.main (omega (arith, counts.main)) tt form.main).spelled (fits (omega arith) (fits tt good))) in
-    with_spelled P (main_function P) [] [] pages m form counts limits (emitted.main_function P) (emit_spelled P pages m pos small form limits counts) last
+    with_spelled P (main_function P) [] [] pages m form counts limits small (omega arith) tt (omega arith) tt last
 
 -- main applied to so many arguments
 f_applied : (P : Program) (m : ℕ) (form : Formed P m) (counts : CountsFit P m) (limits : Limits P) (k : ℕ) {rest : List Instr} → k ≤ 255 → Good rest → Good (applied P k rest)
@@ -150,4 +152,4 @@ known_call_spelled P k pages m few pos small form limits counts =
     let last : IsBody (call_function P k) =
     body_fits (module_of_call P k pages) 0 (max 2 (top 0 P.main)) (applied P k (GlobalSet 0 ∷ End ∷ [])) (omega (arith, counts.main)) (call_typed P m form k pages)
     (f_applied P m form counts limits k few (fits (omega arith) (fits tt good))) in
-    with_spelled P (call_function P k) call_globals call_exports pages m form counts limits (emitted_call.call_function P k) (call_spelled P k pages m few pos small form limits counts) last
+    with_spelled P (call_function P k) call_globals call_exports pages m form counts limits small (omega arith) (omega arith, tt) (omega arith) ((search rules, omega arith, omega arith), ((search rules, omega arith, omega arith), tt)) last

@@ -21,7 +21,6 @@ use Rattle.closure_lift.specs.Lifted.{Op, OConst, OApp, OCon, OClos, OCase, Bloc
 use Rattle.closure_lift.specs.LiftedForm.{OpFits, LiftedBlockFits, BranchesFit, Formed}
 use Rattle.wasm_emit.specs.EmittedCode.{IfWord, ensure_room}
 use Rattle.wasm_emit.specs.EmittedLocals.{top, top_op, top_branches}
-use Rattle.wasm_emit.proofs.Typed.{AllWords}
 use Rattle.known_calls.specs.KnownPlaces.{Word, InLocal, InField, IsConst, Place, At, fields_of, word_of, known_function, block_reads}
 use Rattle.known_calls.specs.KnownCode.{Position, Inside, InTail, deeper, worker_index, jumps, most_blocks, read_word, read, atom, push_words, fill, new_block, block, into_local, into_params, call_worker, application, some_heads, some_branches, empty_test, head_test, arm, choose, unmade, known, op, code, empties, heads}
 use Rattle.known_calls.specs.KnownModule.{words_type, worker_type, module_with}
@@ -31,6 +30,15 @@ use Rattle.known_calls.proofs.Fitting.{WordFits, PlaceFits, places_up, fields_fi
 use Rattle.known_calls.proofs.Unreading.{and_true, unmade_some}
 use Rattle.known_calls.proofs.SameLocals.{top_less}
 use Rattle.known_calls.proofs.KnownIndices.{not_wide, constant_in, type_of_worker, type_of_words}
+
+-- the first locals are all words
+abbrev pub AllWords : ℕ → OperandTypes → Type 0
+AllWords size ls = (x : ℕ) → x < size → slice_get ls x ≡ Some I32
+
+pub all_i32 : (n : ℕ) → AllWords n (replicate n I32)
+all_i32 zero x h = absurd (omega arith)
+all_i32 (suc n) zero h = refl
+all_i32 (suc n) (suc x) h = all_i32 n x (omega arith)
 
 -- so many words on the operands
 abbrev pub words_on : ℕ → Operands → Operands

@@ -4,15 +4,13 @@ use Rattle.std.specs.Prelude.{slice_get, if◌then◌else◌}
 use Rattle.wasm_core.specs.declared.types.ValType.TheVariants.{I32}
 use Rattle.wasm_core.specs.declared.types.GlobalDef.{GlobalDef}
 use Rattle.wasm_core.specs.declared.exports.Export.{Export}
-use Rattle.wasm_core.specs.declared.exports.ExportKind.{ExportKind}
-use Rattle.wasm_core.specs.declared.exports.ExportKind.TheVariants as kind
 use Rattle.wasm_core.specs.declared.instrs.BlockType.TheVariants.{Value}
 use Rattle.wasm_core.specs.declared.instrs.Body.{Body}
 use Rattle.wasm_core.specs.declared.instrs.Instr.{Instr}
 use Rattle.wasm_core.specs.declared.instrs.Instr.TheVariants.{Unreachable, Loop, End, Call, LocalGet, LocalSet, GlobalGet, GlobalSet, MemoryGrow, I32 as Operation}
 use Rattle.wasm_core.specs.declared.instrs.I32Op.TheVariants as op32
 use Rattle.wasm_core.specs.Parts.{Parts}
-use Rattle.wasm_core.specs.ModuleTyping.{Typed, OperandTypes, Operands, Of, match_none, match_same, done, unreachable, loop, TypedFunc, Functions, Tables, Memories, Globals, Exported, Elements, Codes, IsSound, AllSound, IsThere, IsValid}
+use Rattle.wasm_core.specs.ModuleTyping.{Typed, OperandTypes, Operands, Of, match_none, match_same, done, unreachable, loop, TypedFunc, Functions, Tables, Memories, Globals, Exported, Elements, Codes, IsSound, AllSound, DistinctNames, EachIsThere, IsValid}
 use Rattle.wasm_core.proofs.Small.{inj, no}
 use Rattle.wasm_core.proofs.TypedRules.{t_plain, t_one_arm, t_body}
 use Rattle.anf_convert.specs.declared.program.Atom.TheVariants.{Var as AVar}
@@ -21,12 +19,7 @@ use Rattle.closure_lift.specs.LiftedForm.{LiftedBlockFits, Formed}
 use Rattle.wasm_emit.specs.EmittedCode.{Load, ConstWord, IfOnly}
 use Rattle.wasm_emit.specs.EmittedLocals.{top}
 use Rattle.wasm_emit.specs.EmittedModule.{type_main, type_constant, type_function, body, room_function, box_function}
-use Rattle.wasm_emit.specs.EmittedModule as emitted
 use Rattle.wasm_emit.specs.CallModule.{call_globals, call_exports}
-use Rattle.wasm_emit.specs.CallModule as emitted_call
-use Rattle.wasm_emit.proofs.Indices.{row_length}
-use Rattle.wasm_emit.proofs.Typed.{AllWords, all_i32}
-use Rattle.wasm_emit.proofs.Valid.{emit_valid, call_valid}
 use Rattle.known_calls.specs.KnownPlaces.{At, InLocal, fields_of}
 use Rattle.known_calls.specs.KnownCode.{Inside, InTail, is_wide, worker_index, code}
 use Rattle.known_calls.specs.KnownModule.{words_type, params, captured_words, wide_body, stub_code, entry, worker_code, worker, worker_type, numbered, constant, main_function, module_with}
@@ -35,8 +28,9 @@ use Rattle.known_calls.specs.KnownLaws.{KnownValid, CallsValid}
 use Rattle.known_calls.proofs.Shapes.{Shaped, shaped_code, shaped_op, shaped_captured, one, ◌then◌}
 use Rattle.known_calls.proofs.SameLocals.{worker_top}
 use Rattle.known_calls.proofs.Fitting.{fields_fit, params_fit}
-use Rattle.known_calls.proofs.KnownIndices.{narrow_few, type_of_words, order_length}
-use Rattle.known_calls.proofs.KnownTyped.{words_on, t_set, t_worker, t_op, t_code}
+use Rattle.known_calls.proofs.KnownIndices.{narrow_few, type_of_words}
+use Rattle.known_calls.proofs.Outside.{same_length, globals_sound, segment_sound, exports_there, names_distinct, call_globals_sound, call_exports_there, call_names_distinct}
+use Rattle.known_calls.proofs.KnownTyped.{AllWords, all_i32, words_on, t_set, t_worker, t_op, t_code}
 
 two_more : (n : ℕ) → AllWords (2 + n) (I32 ∷ I32 ∷ replicate n I32)
 two_more n zero h = refl
@@ -223,34 +217,20 @@ module _ (P : Program) (most : ℕ) (form : Formed P most) (main : Body) (gs : L
   funcs_sound (suc zero) index e = let p : 2 ≡ index = inj e in omega (arith, p)
   funcs_sound (suc (suc f)) index e = entries_low 0 P.functions f index e
 
-  -- the parts outside the bodies are those of the module without workers, which has fewer functions
-  module _ (other : Body) (old : IsValid (emitted.module_with P other gs es pages)) where
-    abbrev O : Parts
-    O = emitted.module_with P other gs es pages
-
-    more_functions : length O.funcs ≤ length M.funcs
-    more_functions = omega (arith, row_length {A = ℕ} P (λ f. 2) (λ t. 1) 0, order_length {A = ℕ} P (λ g f. 2) (λ t. 1) 0 (λ g f. worker_type f))
-
-    there_too : (k : ExportKind) (i : ℕ) → IsThere O k i → IsThere M k i
-    there_too kind.Func i h = omega (arith, h, more_functions)
-    there_too kind.Table i h = h
-    there_too kind.Memory i h = h
-    there_too kind.Global i h = h
-
-    pub all_sound : AllSound M
-    all_sound Functions = funcs_sound
-    all_sound Tables = old.outside Tables
-    all_sound Memories = old.outside Memories
-    all_sound Globals = old.outside Globals
-    all_sound Exported = let both = old.outside Exported in (both.0, λ i e at. there_too e.kind e.index (both.1 i e at))
-    all_sound Elements = λ i s at. let o = old.outside Elements i s at in record { table = o.table; funcs = λ j f e. omega (arith, o.funcs j f e, more_functions) }
-    all_sound Codes = omega (arith, order_length {A = ℕ} P (λ g f. 2) (λ t. 1) 0 (λ g f. worker_type f), order_length P (entry P) (constant P) main (worker P))
+  pub all_sound : 0 < pages → pages ≤ 16384 → IsSound Globals M → DistinctNames M.exports → EachIsThere M → AllSound M
+  all_sound pos small globals names there Functions = funcs_sound
+  all_sound pos small globals names there Tables = omega arith
+  all_sound pos small globals names there Memories = record { least = omega arith; greatest = (omega arith, omega arith) }
+  all_sound pos small globals names there Globals = globals
+  all_sound pos small globals names there Exported = (names, there)
+  all_sound pos small globals names there Elements = segment_sound P main gs es pages
+  all_sound pos small globals names there Codes = same_length P main gs es pages
 
 pub known_valid : KnownValid
 known_valid P pages m pos small form =
     let main = main_function P in
     record {
-      outside = all_sound P m form main [] [] pages (emitted.main_function P) (emit_valid P pages m pos small form);
+      outside = all_sound P m form main [] [] pages pos small (globals_sound P main [] [] pages (λ x g e. no e)) (names_distinct P pages) (exports_there P main [] [] pages (λ i e h. no h));
       bodies = bodies_typed P m form main [] [] pages (main_typed P m form main [] [] pages);
     }
 
@@ -290,6 +270,6 @@ pub calls_valid : CallsValid
 calls_valid P k pages m pos small form =
     let main = call_function P k in
     record {
-      outside = all_sound P m form main call_globals call_exports pages (emitted_call.call_function P k) (call_valid P k pages m pos small form);
+      outside = all_sound P m form main call_globals call_exports pages pos small (globals_sound P main call_globals call_exports pages call_globals_sound) (call_names_distinct P k pages) (exports_there P main call_globals call_exports pages (call_exports_there P k pages));
       bodies = bodies_typed P m form main call_globals call_exports pages (call_typed P m form k pages);
     }

@@ -13,6 +13,7 @@ pub mod KnownFollows
 pub mod KnownAnswering
 pub mod Fitting
 pub mod KnownTyped
+pub mod Outside
 pub mod KnownValidity
 pub mod KnownStatus
 pub mod Bounded

@@ -1,5 +1,5 @@
 -- The instructions of a block of a lifted program. A saturated call of a known function is a direct call of its worker, which takes the captured words and the argument as parameters; a worker's tail call of
--- itself is a branch to its beginning; and a closure that is known, and read as a word nowhere, is made nowhere. All else is as in `EmittedCode` of `wasm_emit`. Each function puts its instructions in front of `rest`.
+-- itself is a branch to its beginning; and a closure that is known, and read as a word nowhere, is made nowhere. Every other closure is made, and called through the table. Each function puts its instructions in front of `rest`.
 use Rattle.std.specs.Prelude.{ℕ, zero, suc, ◌+◌, ◌*◌, Bool, true, false, ◌&&◌, ◌||◌, if◌then◌else◌, nat_eq, nat_le, List, [], ◌∷◌, length, Option, Some, None, slice_get}
 use Rattle.std.specs.Option.{option_and_then}
 use Rattle.anf_convert.specs.declared.program.Atom.{Atom}

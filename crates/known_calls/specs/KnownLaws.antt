@@ -1,4 +1,4 @@
--- The laws of emission with workers: those of `EmitLaws`, `AnfLaws` and `CallLaws` of `wasm_emit` over its modules, but that the heap may end before the bytes of the evaluation's blocks.
+-- The laws of emission: what the runs of a module with workers do, that it is valid and can be spelled; and the same from A-normal form and for a main with arguments.
 use Rattle.std.specs.Prelude.{◌≡◌, ℕ, ◌+◌, ◌*◌, ◌<◌, ◌≤◌, ◌⊎◌, List, slice_get, true, Some}
 use Rattle.anf_convert.specs.Anf.{AnfProgram}
 use Rattle.anf_convert.specs.AnfData.{DataTree, DataTrees, AnfIsData}

@@ -3,6 +3,7 @@ use Rattle.std.specs.Prelude.{ℕ, suc, ◌+◌, ◌*◌, ◌≤◌, List, [], �
 use Rattle.lambda_box.specs.BoxProgram.{BoxProgram}
 use Rattle.lambda_box.specs.SaturatedForm.{program_nodes}
 use Rattle.anf_convert.specs.ToAnf.{to_anf}
+use Rattle.anf_convert.specs.declared.program.Atom.{Atom}
 use Rattle.anf_convert.specs.Anf.{AnfOp, ConstOp, AppOp, ConOp, LamOp, FixOp, CaseOp, AnfBlock, TailAtom, Tail, BindAtom, Bind, AnfBranches, NoBranch, Branch, AnfDefs, NoDef, LamDef, BoxDef, AnfProgram}
 use Rattle.closure_lift.specs.CapturedLimit.{ProgramCaptures}
 use Rattle.closure_lift.specs.Lift.{lift}
@@ -11,7 +12,6 @@ use Rattle.closure_lift.specs.LiftedForm.{Formed, Limits as IsWithin}
 use Rattle.wasm_core.specs.ShortestBytes.{module_bytes}
 use Rattle.wasm_emit.specs.EmittedLocals.{top}
 use Rattle.wasm_emit.specs.EmitLaws.{CountsFit}
-use Rattle.wasm_emit.specs.NormalWeight.{atom_weight, atoms_weight}
 use Rattle.known_calls.specs.KnownModule.{module_of}
 
 -- bytes that are enough for each operation, block and match: those of an application are enough for seven captured words, the argument, and a branch or a call
@@ -55,19 +55,27 @@ LocalsBound = (d : ℕ) (t : Block) → 4 * top d t ≤ 4 * d + weight t
 
 -- programs in A-normal form, where no lambda and no fixpoint has over c captured words; the functions inside are weighed with the code
 module _ (c : ℕ) where
+  -- a variable, for which a closure is made where it is a fixpoint's
+  abbrev pub atom_weight : ℕ
+  atom_weight = 49 + 16 * c
+
+  abbrev pub atoms_weight : List Atom → ℕ
+  atoms_weight [] = 0
+  atoms_weight (a ∷ as') = atom_weight + atoms_weight as'
+
   abbrev mutual
     pub normal_op_weight : AnfOp → ℕ
     normal_op_weight (ConstOp x) = 4
-    normal_op_weight (AppOp f a) = 102 + atoms_weight c (f ∷ a ∷ [])
-    normal_op_weight (ConOp k as') = 45 + 16 * length as' + atoms_weight c as'
+    normal_op_weight (AppOp f a) = 102 + atoms_weight (f ∷ a ∷ [])
+    normal_op_weight (ConOp k as') = 45 + 16 * length as' + atoms_weight as'
     normal_op_weight (LamOp b) = 163 + 16 * c + normal_weight b
     normal_op_weight (FixOp ds i) = 45 + 16 * c + normal_defs_weight ds
-    normal_op_weight (CaseOp a bs) = 13 + atom_weight c + normal_branches_weight bs
+    normal_op_weight (CaseOp a bs) = 13 + atom_weight + normal_branches_weight bs
 
     pub normal_weight : AnfBlock → ℕ
-    normal_weight (TailAtom a) = 8 + atom_weight c
+    normal_weight (TailAtom a) = 8 + atom_weight
     normal_weight (Tail op) = normal_op_weight op
-    normal_weight (BindAtom a t) = 12 + atom_weight c + normal_weight t
+    normal_weight (BindAtom a t) = 12 + atom_weight + normal_weight t
     normal_weight (Bind op t) = 4 + normal_op_weight op + normal_weight t
 
     pub normal_branches_weight : AnfBranches → ℕ

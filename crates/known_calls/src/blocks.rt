@@ -26,8 +26,8 @@ use closure_lift::program::{Lifted, LiftedBlock, LiftedBranch, LiftedBranches, L
 use std::collections::HashMap;
 use wasm_core::Instr;
 use wasm_emit::EmitFault;
-use wasm_emit::blocks::{index_of_constant, push_ends, push_test};
-use wasm_emit::instructions::{empty_word, header_word, push, push_load};
+use wasm_emit::indices::index_of_constant;
+use wasm_emit::instructions::{empty_word, header_word, push, push_ends, push_load, push_test};
 
 /// Puts the value of a block on the operands; the places are those of the variables, the innermost last, and the first marks are those of the block. Only `Memory`.
 #[cycle(blocks)]

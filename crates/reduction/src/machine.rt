@@ -46,7 +46,7 @@ impl Machine {
         }
     }
 
-    // Puts a frame around the focus.
+    /// Puts a frame around the focus.
     fn push(&mut self, frame: Frame) -> Result<(), MakeFault>
         ensures ok { IfOk result (λ _. self.new.frames.items ≡ self.old.frames.items ++ frame ∷ []) }
         ensures focus { IfOk result (λ _. self.new.focus ≡ self.old.focus) }
@@ -67,7 +67,7 @@ impl Machine {
         self.frames.pop()
     }
 
-    // One layer inwards: the function of an application, or the scrutinee of a match; false where the focus is neither.
+    /// One layer inwards: the function of an application, or the scrutinee of a match; false where the focus is neither.
     fn enter(&mut self) -> Result<bool, MakeFault>
         requires { AreFrames self.old.frames.items }
         ensures whole { IfOk result (λ _. whole self.new ≡ whole self.old) }
@@ -96,7 +96,7 @@ impl Machine {
         }
     }
 
-    // Inwards to a focus that is no application and no match.
+    /// Inwards to a focus that is no application and no match.
     fn descend(&mut self) -> Result<(), MakeFault>
         requires { AreFrames self.old.frames.items }
         ensures whole { IfOk result (λ _. whole self.new ≡ whole self.old) }
@@ -109,7 +109,7 @@ impl Machine {
         Ok(())
     }
 
-    // Outwards from a focus without a step, which is no application and no match.
+    /// Outwards from a focus without a step, which is no application and no match.
     fn settle(&mut self, alloc: Global, env: &Env) -> Result<Settled, MakeFault>
         requires frames { AreFrames self.old.frames.items }
         requires head { IsHead self.old.focus }

@@ -51,7 +51,7 @@ impl Value {
     }
 }
 
-// The place of a fixpoint's recursive argument; none for other terms.
+/// The place of a fixpoint's recursive argument; none for other terms.
 fn recursive_place(t: &Term) -> Option<u32>
     requires { IsHead t.now }
     ensures lacks { result ≡ missing t.now }
@@ -65,7 +65,7 @@ fn recursive_place(t: &Term) -> Option<u32>
     }
 }
 
-// One less, where that is a number.
+/// One less, where that is a number.
 fn less(missing: Option<u32>) -> Option<u32>
     ensures is { result ≡ one_less missing }
 {
@@ -75,7 +75,7 @@ fn less(missing: Option<u32>) -> Option<u32>
     }
 }
 
-// Whether the next argument is the recursive one.
+/// Whether the next argument is the recursive one.
 fn is_next(missing: Option<u32>) -> bool
     ensures is { IsTrue result ↔ (missing ≡ Some 0) }
 {
@@ -85,7 +85,7 @@ fn is_next(missing: Option<u32>) -> bool
     }
 }
 
-// A value that is applied to an argument.
+/// A value that is applied to an argument.
 fn meet_argument(alloc: Global, value: Value, argument: Term) -> Result<Met, MakeFault>
     requires { Lacks value }
     ensures ok { IfOk result (λ m. (E : Env) (V : Values) → weak_next E V value.term ≡ None → IsMet E V (App value.term argument) m) }
@@ -110,7 +110,7 @@ fn meet_argument(alloc: Global, value: Value, argument: Term) -> Result<Met, Mak
     Ok(Met::Stuck(Value { term, missing }))
 }
 
-// The same terms in a list of their own.
+/// The same terms in a list of their own.
 fn shared_terms(alloc: Global, terms: &Terms) -> Result<Terms, MakeFault>
     ensures ok { IfOk result (λ ts. ts ≡ terms.now) }
     ensures only_memory { IfErr result (λ e. e ≡ Memory) }
@@ -123,7 +123,7 @@ fn shared_terms(alloc: Global, terms: &Terms) -> Result<Terms, MakeFault>
     Ok(out)
 }
 
-// The same branches in a list of their own.
+/// The same branches in a list of their own.
 fn shared_branches(alloc: Global, branches: &Branches) -> Result<Branches, MakeFault>
     ensures ok { IfOk result (λ bs. bs ≡ branches.now) }
     ensures only_memory { IfErr result (λ e. e ≡ Memory) }
@@ -158,7 +158,7 @@ pub(crate) fn rebuilt(alloc: Global, m: &Match, scrut: Term) -> Result<Term, Mak
     Term::make(alloc, Node::Case(again))
 }
 
-// A value that is the scrutinee of a match.
+/// A value that is the scrutinee of a match.
 fn meet_match(alloc: Global, env: &Env, value: Value, around: &Term) -> Result<Met, MakeFault>
     requires { IsMatch around.now }
     ensures ok { IfOk result (λ m. (V : Values) → weak_next env.now V value.term ≡ None → IsMet env.now V (with_scrutinee around.now value.term) m) }
@@ -178,7 +178,7 @@ fn meet_match(alloc: Global, env: &Env, value: Value, around: &Term) -> Result<M
     }))
 }
 
-// The step of a fixpoint with all its arguments.
+/// The step of a fixpoint with all its arguments.
 fn unfolding_step(alloc: Global, function: &Term, argument: Term) -> Result<Redex, MakeFault>
     requires { missing function.now ≡ Some 0 }
     ensures ok { IfOk result (λ r. unfold_next (head function.now) (args function.now) argument ≡ Some (contractum r)) }
@@ -195,7 +195,7 @@ fn unfolding_step(alloc: Global, function: &Term, argument: Term) -> Result<Rede
     })
 }
 
-// Whether a term is a constructor with all its parameters and arguments.
+/// Whether a term is a constructor with all its parameters and arguments.
 fn is_built(alloc: Global, env: &Env, t: &Term) -> Result<bool, MakeFault>
     ensures ok { IfOk result (λ b. b ≡ is_some (built env.now t.now)) }
     ensures only_memory { IfErr result (λ e. e ≡ Memory) }
@@ -206,7 +206,7 @@ fn is_built(alloc: Global, env: &Env, t: &Term) -> Result<bool, MakeFault>
     }
 }
 
-// A value that is the recursive argument of a fixpoint.
+/// A value that is the recursive argument of a fixpoint.
 fn meet_fixpoint(alloc: Global, env: &Env, value: Value, function: Term) -> Result<Met, MakeFault>
     requires { missing function ≡ Some 0 }
     ensures ok { IfOk result (λ m. (V : Values) → weak_next env.now V value.term ≡ None → IsMet env.now V (App function value.term) m) }

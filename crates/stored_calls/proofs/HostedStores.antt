@@ -16,7 +16,7 @@ use Rattle.known_calls.specs.KnownCalls.{module_of_call}
 use Rattle.wasm_emit.specs.EmittedModule.{main_index}
 use Rattle.wasm_emit.proofs.Bytes.{zeroed_word, zeroed_length}
 use Rattle.known_calls.proofs.KnownIndices.{main_in}
-use Rattle.mem_value.proofs.Bytes.{word_same}
+use Rattle.wasm_core.proofs.MemoryWords.{word_same}
 use Rattle.call_answers.specs.HostedCall.{HoldsArguments}
 use Rattle.stored_calls.specs.Laws.{CallModulesHaveEntries, NewMachinesHaveAHeap, StoredArgumentsAreHeld}
 

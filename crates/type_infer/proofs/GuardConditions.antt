@@ -50,7 +50,7 @@ no_root f e (fixpoint i rargs types bodies before r l k b p) =
     let r : Fix i rargs types bodies ≡ Ind f = sym (head-apply (Fix i rargs types bodies) before) ∙ q in
     cc
 
-no_step_at : {E : Env} {V : Values} (f : FamilyId) {t u : Term} → head t ≡ Ind f → WeakStep E V t u → ⊥
+pub no_step_at : {E : Env} {V : Values} (f : FamilyId) {t u : Term} → head t ≡ Ind f → WeakStep E V t u → ⊥
 no_step_at f e (at_root r) = no_root f e r
 no_step_at f e (in_function p) = no_step_at f e p
 no_step_at f e (in_scrutinee p) = cc
@@ -61,7 +61,7 @@ no_step_at f e (in_argument i rarg rargs types bodies before p r l q) =
 
 -- the domain of the recursive argument
 
-domain_is : (E : Env) (c : Context) (r : ℕ) (t : Term) (p : Context × Term) (f : FamilyId) (xs : List Term) → recursive_domain c r t ≡ Some p →
+pub domain_is : (E : Env) (c : Context) (r : ℕ) (t : Term) (p : Context × Term) (f : FamilyId) (xs : List Term) → recursive_domain c r t ≡ Some p →
     IsWhnf E (values p.0) p.1 (apply (Ind f) xs) → DomainIsFamily E (values c) r t
 domain_is E c zero (Lambda A b) p f xs e h = (f, (xs, transport (λ p. IsWhnf E (values p.0) p.1 (apply (Ind f) xs)) (sym (one_item e)) h))
 domain_is E c (suc r) (Lambda A b) p f xs e h = domain_is E (Assumed A ∷ c) r b p f xs e h
@@ -101,12 +101,12 @@ module _ (E : Env) (inf : Typing) (cmp : Comparison) (c : Context) (n : ℕ) whe
       )
 
 -- the definitions have no values
-definitions_values : (E : Env) (c : Context) (n : ℕ) (types : Terms) → values (definitions c n types) ≡ under (number types) (values c)
+pub definitions_values : (E : Env) (c : Context) (n : ℕ) (types : Terms) → values (definitions c n types) ≡ under (number types) (values c)
 definitions_values E c n Done = refl
 definitions_values E c n (Next b T ts) = definitions_values E (Assumed (shift n 0 T) ∷ c) (suc n) ts ∙ assumed_under E (number ts) (values c)
 
 -- there is a type for each definition
-type_of_each : (ts : Terms) (i : ℕ) → AreAll 0 (binders_of ts) → i < length (binders_of ts) → (T : Term) × (term_at ts i ≡ Some (0, T))
+pub type_of_each : (ts : Terms) (i : ℕ) → AreAll 0 (binders_of ts) → i < length (binders_of ts) → (T : Term) × (term_at ts i ≡ Some (0, T))
 type_of_each Done i a h = absurd (omega arith)
 type_of_each (Next k t ts) zero a h = (t, ap (λ k. Some (k, t)) a.0)
 type_of_each (Next k t ts) (suc i) a h = type_of_each ts i a.1 (omega arith)

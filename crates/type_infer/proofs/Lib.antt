@@ -5,6 +5,6 @@ pub mod Declaring
 pub mod Fixing
 pub mod GuardConditions
 mod Answering
-mod MatchLists
-mod Matching
-mod Steps
+pub mod MatchLists
+pub mod Matching
+pub mod Steps

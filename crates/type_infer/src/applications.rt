@@ -19,7 +19,7 @@ use pc_terms::term::{Node, Term};
 use std::alloc::Global;
 
 impl<R: Reducer + Drop, C: Converter + Drop, G: Guarder + Drop> Inference<R, C, G> {
-    // An application has the codomain of its function's type with the argument put in.
+    /// An application has the codomain of its function's type with the argument put in.
     #[cycle(infer)]
     pub(crate) fn app_rule(
         &self,

@@ -20,7 +20,7 @@ use std::alloc::Global;
 use universe_levels::sort::Sort;
 
 impl<R: Reducer + Drop, C: Converter + Drop, G: Guarder + Drop> Inference<R, C, G> {
-    // A product has the product sort of its domain's sort and of its codomain's, which is under the domain.
+    /// A product has the product sort of its domain's sort and of its codomain's, which is under the domain.
     #[cycle(infer)]
     pub(crate) fn prod_rule(
         &self,
@@ -43,7 +43,7 @@ impl<R: Reducer + Drop, C: Converter + Drop, G: Guarder + Drop> Inference<R, C, 
         Ok(Term::make(alloc, Node::Sort(sort))?)
     }
 
-    // A lambda has the product of its domain and of its body's type, where the domain has a sort.
+    /// A lambda has the product of its domain and of its body's type, where the domain has a sort.
     #[cycle(infer)]
     pub(crate) fn lambda_rule(
         &self,
@@ -65,7 +65,7 @@ impl<R: Reducer + Drop, C: Converter + Drop, G: Guarder + Drop> Inference<R, C, 
         Ok(Term::make(alloc, Node::Prod(domain.share()?, ty))?)
     }
 
-    // A let has the let of its value and of its body's type, where the value has the written type, and that has a sort.
+    /// A let has the let of its value and of its body's type, where the value has the written type, and that has a sort.
     #[cycle(infer)]
     pub(crate) fn let_rule(
         &self,

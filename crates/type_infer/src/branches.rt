@@ -22,8 +22,8 @@ use pc_terms::term::{Match, Term};
 use std::alloc::Global;
 
 impl<R: Reducer + Drop, C: Converter + Drop, G: Guarder + Drop> Inference<R, C, G> {
-    // The body of the branch of a constructor, which has place `place` in the match's family: the entries have sorts, and under them the
-    // body has the type of the predicate at what the constructor builds.
+    /// The body of the branch of a constructor, which has place `place` in the match's family: the entries have sorts, and under them the
+    /// body has the type of the predicate at what the constructor builds.
     #[cycle(infer)]
     fn branch_rule(
         &self,
@@ -47,7 +47,7 @@ impl<R: Reducer + Drop, C: Converter + Drop, G: Guarder + Drop> Inference<R, C, 
         self.check_at(alloc, env, &inner, room, body, &ty, m)
     }
 
-    // The branches of a match, as far as there are constructors.
+    /// The branches of a match, as far as there are constructors.
     #[cycle(infer)]
     pub(crate) fn branches_rule(
         &self,

@@ -33,7 +33,7 @@ pub(crate) fn conv(m: &mut Meter) -> Result<(), Halt>
 }
 
 impl<R: Reducer + Drop, C: Converter + Drop, G: Guarder + Drop> Inference<R, C, G> {
-    // The sort of a term: its type's weak-head normal form, which is inferred again where it is another term than the type.
+    /// The sort of a term: its type's weak-head normal form, which is inferred again where it is another term than the type.
     #[cycle(infer)]
     pub(crate) fn sort_at(
         &self,
@@ -65,7 +65,7 @@ impl<R: Reducer + Drop, C: Converter + Drop, G: Guarder + Drop> Inference<R, C, 
         }
     }
 
-    // A term against a type: the one found, or one above it that has a sort.
+    /// A term against a type: the one found, or one above it that has a sort.
     #[cycle(infer)]
     pub(crate) fn check_at(
         &self,
@@ -92,7 +92,7 @@ impl<R: Reducer + Drop, C: Converter + Drop, G: Guarder + Drop> Inference<R, C, 
         self.below(alloc, env, ctx, room, &found, ty, m)
     }
 
-    // From a type to the weak-head normal form that is used in its place.
+    /// From a type to the weak-head normal form that is used in its place.
     #[cycle(infer)]
     pub(crate) fn retype(
         &self,
@@ -116,7 +116,7 @@ impl<R: Reducer + Drop, C: Converter + Drop, G: Guarder + Drop> Inference<R, C, 
         Ok(())
     }
 
-    // The comparison, by the number of rules that may still stand in one another.
+    /// The comparison, by the number of rules that may still stand in one another.
     pub(crate) fn below(
         &self,
         alloc: Global,

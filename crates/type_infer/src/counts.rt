@@ -13,8 +13,9 @@ use pc_rules::broken::Broken;
 use pc_rules::stop::{Halt, Stop};
 use pc_terms::term::{Branches, Match};
 
-// Whether a count is the one that is wanted. `CountWrong` where it is not, and else only `Memory`.
-fn counted(want: usize, got: usize) -> Result<(), Halt>
+/// Whether a count is the one that is wanted. `CountWrong` with both where it is not, and else only `Memory`, where one of them is no number of
+/// 32 bits.
+pub fn counted(want: usize, got: usize) -> Result<(), Halt>
     ensures answers { (u : Account) → Answers (counted want got u) result u }
     ensures equal { IfOk result (λ _. got ≡ want) }
 {
@@ -27,7 +28,7 @@ fn counted(want: usize, got: usize) -> Result<(), Halt>
     }
 }
 
-// Whether each branch has a variable for each argument of its constructor, as far as there are both.
+/// Whether each branch has a variable for each argument of its constructor, as far as there are both.
 fn names_counted(ctors: &Constructors, branches: &Branches) -> Result<(), Halt>
     ensures answers { (u : Account) → Answers (names_counted ctors.now (binders_of (arms_of branches.now)) u) result u }
 {
@@ -43,7 +44,7 @@ fn names_counted(ctors: &Constructors, branches: &Branches) -> Result<(), Halt>
 /// Whether the counts of a match are those of its family: as many parameters as the block has, a variable of the predicate for each index
 /// and one for the scrutinee, a branch for each constructor, and in each branch a variable for each argument of its constructor.
 /// `CountWrong` keeps the first of these counts that is not as wanted, and else there is only `Memory`.
-pub(crate) fn match_counted(block: &Block, family: &Family, x: &Match) -> Result<(), Halt>
+pub fn match_counted(block: &Block, family: &Family, x: &Match) -> Result<(), Halt>
     ensures answers { (u : Account) → Answers (match_counted (with_parameters block.now.params family.now) (terms_of x.now.params) x.now.binders (arms_of x.now.branches) u) result u }
     ensures params { IfOk result (λ _. length x.now.params ≡ length block.now.params) }
 {

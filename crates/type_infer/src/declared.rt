@@ -16,8 +16,8 @@ use pc_terms::leaf::{FamilyId, Name};
 use pc_terms::term::Term;
 use std::alloc::Global;
 
-/// The type of a constant. `UnknownName` unless a constant is kept by the name.
-pub(crate) fn const_rule(env: &Env, name: Name) -> Result<Term, Halt>
+/// The type of a constant, rule 7: a closed term, as it is kept. `UnknownName` unless a constant is kept by the name, and else only `Memory`.
+pub fn const_rule(env: &Env, name: Name) -> Result<Term, Halt>
     ensures answers { (u : Account) → Answers (const_rule name (kept_at env.now.declarations name) u) result u }
 {
     match env.find(name) {
@@ -26,8 +26,8 @@ pub(crate) fn const_rule(env: &Env, name: Name) -> Result<Term, Halt>
     }
 }
 
-/// That there is no item of that number; `Memory` where there are more than numbers of 32 bits.
-pub(crate) fn bad_number(number: u32, items: usize) -> Halt
+/// The refusal that there is no item `number` (from 0) of `items` items: `BadNumber`, or `Memory` where `items` is no number of 32 bits.
+pub fn bad_number(number: u32, items: usize) -> Halt
     ensures is { (result ≡ Halt.Broken (Broken.BadNumber number items)) ⊎ (result ≡ Halt.Stop Stop.Memory) }
 {
     match u32::try_from(items) {
@@ -36,22 +36,22 @@ pub(crate) fn bad_number(number: u32, items: usize) -> Halt
     }
 }
 
-// Family i of a block.
+/// Family `i` (from 0) of a block.
 fn family_at(block: &Block, i: u32) -> Option<&Family>
     ensures at { MatchOption result (slice_get block.now.families i ≡ None) (λ F. slice_get block.now.families i ≡ Some F.now) }
 {
     block.families.as_slice().get(i as usize)
 }
 
-// Constructor i of a family.
+/// Constructor `i` (from 0) of a family.
 fn constructor_at(family: &Family, i: u32) -> Option<&Constructor>
     ensures at { MatchOption result (slice_get family.now.ctors i ≡ None) (λ C. slice_get family.now.ctors i ≡ Some C.now) }
 {
     family.ctors.as_slice().get(i as usize)
 }
 
-/// A family of a block. `BadNumber` where the block has not so many.
-pub(crate) fn family_in(block: &Block, id: FamilyId) -> Result<&Family, Halt>
+/// The family of a block by its number (from 0) in `id`. `BadNumber` where the block has not so many.
+pub fn family_in(block: &Block, id: FamilyId) -> Result<&Family, Halt>
     ensures ok { IfOk result (λ F. family_at block.now id.family ≡ Some (with_parameters block.now.params F.now)) }
     ensures err { IfErr result (λ h. (u : Account) → Halts (family_number block.now id (family_at block.now id.family) u) h u) }
 {
@@ -61,8 +61,9 @@ pub(crate) fn family_in(block: &Block, id: FamilyId) -> Result<&Family, Halt>
     }
 }
 
-/// The type of a family: the product over parameters and indices that ends in its sort. `UnknownName`, then `BadNumber`.
-pub(crate) fn ind_rule(alloc: Global, env: &Env, id: FamilyId) -> Result<Term, Halt>
+/// The type of a family, rule 8: the closed product over parameters and indices that ends in its sort. `UnknownName` where neither a block nor
+/// heads are kept by the name, then `BadNumber`.
+pub fn ind_rule(alloc: Global, env: &Env, id: FamilyId) -> Result<Term, Halt>
     ensures answers { (u : Account) → Answers (ind_rule env.now id u) result u }
 {
     let Some(block) = env.block(id.block) else {
@@ -72,14 +73,9 @@ pub(crate) fn ind_rule(alloc: Global, env: &Env, id: FamilyId) -> Result<Term, H
     Ok(family_type(alloc, block, family)?)
 }
 
-/// The type of a constructor of a whole block: the product over parameters and arguments that ends in the family at the parameters and the
-/// result. `UnknownName`, then `BadNumber` for the family, then for the constructor.
-pub(crate) fn construct_rule(
-    alloc: Global,
-    env: &Env,
-    id: FamilyId,
-    number: u32,
-) -> Result<Term, Halt>
+/// The type of constructor `number` (from 0) of a family of a whole block, rule 9: the closed product over parameters and arguments that ends in
+/// the family at the parameters and the result. `UnknownName`, then `BadNumber` for the family, then for the constructor.
+pub fn construct_rule(alloc: Global, env: &Env, id: FamilyId, number: u32) -> Result<Term, Halt>
     ensures answers { (u : Account) → Answers (construct_rule env.now id number u) result u }
 {
     let Some(block) = env.whole_block(id.block) else {

@@ -11,7 +11,7 @@ use pc_rules::stop::Halt;
 use pc_terms::leaf::FamilyId;
 use universe_levels::sort::Sort;
 
-// Whether all sorts are `Prop`.
+/// Whether all sorts are `Prop`.
 fn all_prop(sorts: &Sorts) -> bool
     ensures is { result ≡ all_prop sorts.now }
 {
@@ -24,7 +24,7 @@ fn all_prop(sorts: &Sorts) -> bool
     true
 }
 
-// Whether there is no constructor, or one whose argument sorts are all `Prop`.
+/// Whether there is no constructor, or one whose argument sorts are all `Prop`.
 fn few_constructors(ctors: &[Constructor]) -> bool
     ensures is { result ≡ few_constructors ctors.now }
 {
@@ -35,7 +35,7 @@ fn few_constructors(ctors: &[Constructor]) -> bool
     }
 }
 
-// Whether a match on a family may go into a sort (PCUIC, POPL 2020, section 2: elimination of propositions).
+/// Whether a match on a family of the block may go into a sort (PCUIC, POPL 2020, section 2: elimination of propositions).
 fn may_eliminate(block: &Block, family: &Family, target: &Sort) -> bool
     ensures is { result ≡ may_eliminate (Some block.now) (with_parameters block.now.params family.now) family.now.sort target.now }
 {
@@ -50,12 +50,7 @@ fn may_eliminate(block: &Block, family: &Family, target: &Sort) -> bool
 
 /// Whether a match on a family of a block may go into a sort: the family isn't in `Prop`, or the sort is `Prop`, or the block has one
 /// family, without constructor or with one whose argument sorts are all `Prop`. `ElimNotAllowed` where it may not.
-pub(crate) fn eliminated(
-    block: &Block,
-    id: FamilyId,
-    family: &Family,
-    target: &Sort,
-) -> Result<(), Halt>
+pub fn eliminated(block: &Block, id: FamilyId, family: &Family, target: &Sort) -> Result<(), Halt>
     ensures answers { (u : Account) → Answers (eliminated (Some block.now) id (with_parameters block.now.params family.now) target.now u) result u }
 {
     if may_eliminate(block, family, target) {

@@ -29,9 +29,9 @@ use pc_rules::stop::{Halt, Stop};
 use pc_terms::term::{Def, Defs, Node, Term};
 use std::alloc::Global;
 
-// The domain of lambda number `rarg` of a body, with the context that it stands in; none where the body does not begin with so many
-// lambdas. Only `Memory`.
-fn recursive_domain(
+/// The domain of lambda `rarg` (from 0, the outermost) of a body that stands in the context, with the context that this domain stands in; none
+/// where the body does not begin with `rarg + 1` lambdas. Only `Memory`.
+pub fn recursive_domain(
     alloc: Global,
     ctx: &Ctx,
     rarg: u32,
@@ -52,8 +52,8 @@ fn recursive_domain(
     }
 }
 
-// Whether the head of a term is a family.
-fn is_of_family(t: &Term) -> bool
+/// Whether the head of a term, under all its arguments, is a family.
+pub fn is_of_family(t: &Term) -> bool
     ensures is { result ≡ is_a_family (head t.now) }
 {
     match t.view() {
@@ -63,15 +63,15 @@ fn is_of_family(t: &Term) -> bool
     }
 }
 
-// Definition i.
+/// Definition `i` (from 0); none where there are not so many.
 fn definition_at(defs: &Defs, i: u32) -> Option<&Def>
     ensures at { MatchOption result (slice_get defs.now i ≡ None) (λ d. slice_get defs.now i ≡ Some d.now) }
 {
     defs.as_slice().get(i as usize)
 }
 
-// The type of definition i.
-fn definition_type(defs: &Defs, i: u32) -> Result<Term, Halt>
+/// The type of definition `i` (from 0), as it is written, so in the context of the fixpoint. `BadNumber` where there are not so many definitions.
+pub fn definition_type(defs: &Defs, i: u32) -> Result<Term, Halt>
     ensures answers { (u : Account) → Answers (definition_type i (length (rargs_of defs.now)) (term_at (types_of defs.now) i) u) result u }
 {
     match definition_at(defs, i) {
@@ -81,7 +81,7 @@ fn definition_type(defs: &Defs, i: u32) -> Result<Term, Halt>
 }
 
 impl<R: Reducer + Drop, C: Converter + Drop, G: Guarder + Drop> Inference<R, C, G> {
-    // The sort of each definition's type, lifted, under the definitions before it. Gives the context under all definitions.
+    /// The sort of each definition's type, lifted, under the definitions before it. Gives the context under all definitions.
     #[cycle(infer)]
     fn types_rule(
         &self,
@@ -111,7 +111,7 @@ impl<R: Reducer + Drop, C: Converter + Drop, G: Guarder + Drop> Inference<R, C, 
         Ok(under)
     }
 
-    // Definition `number` of `count`: its lambdas, its body against its lifted type, and the type of its recursive argument.
+    /// Definition `number` (from 0) of `count`: its lambdas, its body against its lifted type, and the type of its recursive argument.
     #[cycle(infer)]
     fn definition_rule(
         &self,
@@ -140,7 +140,7 @@ impl<R: Reducer + Drop, C: Converter + Drop, G: Guarder + Drop> Inference<R, C, 
         Ok(())
     }
 
-    // Each definition in turn, under all of them.
+    /// Each definition in turn, under all of them.
     #[cycle(infer)]
     fn definitions_rule(
         &self,
@@ -165,7 +165,7 @@ impl<R: Reducer + Drop, C: Converter + Drop, G: Guarder + Drop> Inference<R, C, 
         Ok(())
     }
 
-    // A fixpoint has the type of the definition that it names. `fix` is the fixpoint `index` of the definitions.
+    /// A fixpoint has the type of the definition that it names. `fix` is the fixpoint `index` of the definitions.
     #[cycle(infer)]
     pub(crate) fn fix_rule(
         &self,

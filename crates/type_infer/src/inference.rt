@@ -72,7 +72,7 @@ impl<R: Reducer + Drop, C: Converter + Drop, G: Guarder + Drop> Typer for Infere
     }
 }
 
-// The number of the term's rule.
+/// The number of the term's rule.
 fn rule_number(t: &Term) -> u8
     ensures is { result ≡ rule_number t.now }
     ensures low { 1 ≤ result }
@@ -108,8 +108,8 @@ impl<R: Reducer + Drop, C: Converter + Drop, G: Guarder + Drop> Inference<R, C, 
         }
     }
 
-    // A type of a term: a unit, one more rule that stands, the note of its use, and the rule. `room` is the number of rules that may still
-    // stand in one another.
+    /// A type of a term: a unit, one more rule that stands, the note of its use, and the rule. `room` is the number of rules that may still
+    /// stand in one another.
     #[cycle(infer)]
     pub(crate) fn infer_at(
         &self,
@@ -137,7 +137,7 @@ impl<R: Reducer + Drop, C: Converter + Drop, G: Guarder + Drop> Inference<R, C, 
         answer
     }
 
-    // The rule of a term.
+    /// The rule of a term.
     #[cycle(infer)]
     fn rule(
         &self,

@@ -15,8 +15,9 @@ use std::alloc::Global;
 use universe_levels::level::{Level, LevelExpr};
 use universe_levels::sort::Sort;
 
-/// The type of a variable: its entry's, lifted. `UnboundRel` where there is no entry.
-pub(crate) fn rel_rule(alloc: Global, ctx: &Ctx, i: u32) -> Result<Term, Halt>
+/// The type of variable `i` (de Bruijn, the innermost 0) of a context, rule 1: its entry's type, lifted by `i + 1`. `UnboundRel` with the
+/// index and the context's length where there is no entry, and else only `TooDeep` and `Memory`.
+pub fn rel_rule(alloc: Global, ctx: &Ctx, i: u32) -> Result<Term, Halt>
     ensures answers { (u : Account) → Answers (rel_rule ctx.now i (type_at ctx.now i) u) result u }
 {
     let length = ctx.len();
@@ -30,7 +31,7 @@ pub(crate) fn rel_rule(alloc: Global, ctx: &Ctx, i: u32) -> Result<Term, Halt>
     }
 }
 
-// The first level that is not declared; none where all are.
+/// The first level above `levels`, the number of levels that are declared; none where all are declared.
 fn first_undeclared(levels: u32, parts: &[LevelExpr]) -> Option<Level>
     ensures is { result ≡ first_undeclared levels parts.now }
 {
@@ -43,7 +44,7 @@ fn first_undeclared(levels: u32, parts: &[LevelExpr]) -> Option<Level>
     None
 }
 
-// The first level of a sort that is not declared; none where all are.
+/// The first level of a sort above `levels`, the number of levels that are declared; none where all are declared.
 fn undeclared_in(levels: u32, s: &Sort) -> Option<Level>
     ensures is { result ≡ undeclared_in levels s.now }
 {
@@ -53,8 +54,8 @@ fn undeclared_in(levels: u32, s: &Sort) -> Option<Level>
     }
 }
 
-/// The sort of a sort. `LevelUndeclared` at its first level that is not declared.
-pub(crate) fn sort_rule(alloc: Global, env: &Env, s: &Sort) -> Result<Term, Halt>
+/// The sort of a sort, rule 2. `LevelUndeclared` at its first level that the environment does not declare.
+pub fn sort_rule(alloc: Global, env: &Env, s: &Sort) -> Result<Term, Halt>
     ensures answers { (u : Account) → Answers (sort_rule env.now s.now u) result u }
 {
     let levels = env.graph().levels();

@@ -13,9 +13,9 @@ use pc_rules::environment::Env;
 use pc_rules::stop::Halt;
 use pc_terms::leaf::FamilyId;
 
-/// A family of a whole block that is kept, with its block. `UnknownName` where no whole block is kept by that name, `BadNumber` where the
-/// block has no family of that number, and else only `Memory`.
-pub(crate) fn whole_family(env: &Env, id: FamilyId) -> Result<(&Block, &Family), Halt>
+/// The family `id` of a whole block that is kept, with its block; a block's families are counted from 0. `UnknownName` where no whole block is
+/// kept by that name, `BadNumber` where the block has no family of that number, and else only `Memory`.
+pub fn whole_family(env: &Env, id: FamilyId) -> Result<(&Block, &Family), Halt>
     ensures block { IfOk result (λ p. whole_block (kept_at env.now.declarations id.block) ≡ Some p.0.now) }
     ensures family { IfOk result (λ p. family_at p.0.now id.family ≡ Some (with_parameters p.0.now.params p.1.now)) }
     ensures found { IfOk result (λ p. (u : Account) → Answers (find_family id (whole_block (kept_at env.now.declarations id.block)) u) (Ok (with_parameters p.0.now.params p.1.now)) u) }

@@ -26,7 +26,7 @@ use pc_terms::term::{Match, Term};
 use std::alloc::Global;
 
 impl<R: Reducer + Drop, C: Converter + Drop, G: Guarder + Drop> Inference<R, C, G> {
-    // The predicate of a match: its entries have sorts, it has a sort under them, and the family may be eliminated into that.
+    /// The predicate of a match: its entries have sorts, it has a sort under them, and the family may be eliminated into that.
     #[cycle(infer)]
     fn predicate_rule(
         &self,
@@ -49,7 +49,7 @@ impl<R: Reducer + Drop, C: Converter + Drop, G: Guarder + Drop> Inference<R, C, 
         eliminated(block, x.family, family, &target)
     }
 
-    // A match has its predicate at the indices and the scrutinee.
+    /// A match has its predicate at the indices and the scrutinee.
     #[cycle(infer)]
     pub(crate) fn case_rule(
         &self,

@@ -27,7 +27,7 @@ use pc_terms::leaf::FamilyId;
 use pc_terms::term::{MakeFault, Match, Node, Term, Terms};
 use std::alloc::Global;
 
-// Whether a term is the family.
+/// Whether a term is the family.
 fn is_the_family(id: FamilyId, head: &Term) -> bool
     ensures is { result ≡ is_the_family id head.now }
 {
@@ -37,7 +37,7 @@ fn is_the_family(id: FamilyId, head: &Term) -> bool
     }
 }
 
-// The items of a list from a place on. Only `Memory`.
+/// The items of a list from place `start` (from 0) on. Only `Memory`.
 fn items_from(alloc: Global, items: &Terms, start: usize) -> Result<Terms, MakeFault>
     ensures ok { IfOk result (λ out. out ≡ drop start items.now) }
     ensures only_memory { IfErr result (λ e. e ≡ Memory) }
@@ -53,7 +53,7 @@ fn items_from(alloc: Global, items: &Terms, start: usize) -> Result<Terms, MakeF
 
 /// The indices that the type of a scrutinee, in weak-head normal form, has behind its parameters. `NotTheFamily` keeps that normal form
 /// where it is not the family with all its arguments, and else there is only `Memory`.
-pub(crate) fn found_indices(
+pub fn found_indices(
     alloc: Global,
     block: &Block,
     id: FamilyId,
@@ -76,8 +76,9 @@ pub(crate) fn found_indices(
     Err(Halt::Broken(Broken::NotTheFamily { whnf }))
 }
 
-/// A family at parameters and indices. `TooDeep` only where that is beyond the limits of terms, and else only `Memory`.
-pub(crate) fn family_at_indices(
+/// The family `id` applied to parameters, then to indices, all of one context. `TooDeep` only where that is beyond the limits of terms, and else
+/// only `Memory`.
+pub fn family_at_indices(
     alloc: Global,
     id: FamilyId,
     params: &Terms,
@@ -92,7 +93,7 @@ pub(crate) fn family_at_indices(
 }
 
 impl<R: Reducer + Drop, C: Converter + Drop, G: Guarder + Drop> Inference<R, C, G> {
-    // The found type of a scrutinee, in weak-head normal form, in place of the type that is asked for.
+    /// The found type of a scrutinee, in weak-head normal form, in place of the type that is asked for.
     #[cycle(infer)]
     fn scrutinee_fits(
         &self,
@@ -118,7 +119,7 @@ impl<R: Reducer + Drop, C: Converter + Drop, G: Guarder + Drop> Inference<R, C, 
         self.below(alloc, env, ctx, room, found, asked, m)
     }
 
-    // The indices at which the scrutinee of a match has the match's family. The parameters have been checked.
+    /// The indices at which the scrutinee of a match has the match's family. The parameters have been checked.
     #[cycle(infer)]
     pub(crate) fn scrutinee_rule(
         &self,

@@ -24,7 +24,7 @@ use pc_terms::term::Terms;
 use std::alloc::Global;
 
 impl<R: Reducer + Drop, C: Converter + Drop, G: Guarder + Drop> Inference<R, C, G> {
-    // The context with the entries of a telescope, of which each has a sort under those before it.
+    /// The context with the entries of a telescope, of which each has a sort under those before it.
     #[cycle(infer)]
     pub(crate) fn entered(
         &self,
@@ -52,7 +52,7 @@ impl<R: Reducer + Drop, C: Converter + Drop, G: Guarder + Drop> Inference<R, C, 
         Ok(inner)
     }
 
-    // Terms against a telescope: each against its type at the terms before it.
+    /// Terms against a telescope: each against its type at the terms before it.
     #[cycle(infer)]
     pub(crate) fn check_all(
         &self,

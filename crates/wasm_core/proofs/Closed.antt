@@ -8,7 +8,7 @@ use Rattle.wasm_core.specs.declared.instrs.Body.{Body}
 use Rattle.wasm_core.specs.declared.instrs.Instr.{Instr}
 use Rattle.wasm_core.specs.declared.instrs.Instr.TheVariants as instr
 use Rattle.wasm_core.specs.Parts.{Parts}
-use Rattle.wasm_core.specs.ModuleTyping.{OperandTypes, Operands, Effect, Typed, done, plain, drop, unreachable, block, loop, one_arm, two_arms, br, br_if, br_table, return, effect, Memories}
+use Rattle.wasm_core.specs.ModuleTyping.{OperandTypes, Operands, Effect, Typed, done, plain, drop, unreachable, block, loop, one_arm, two_arms, br, br_if, br_table, return, tail_call, effect, tail_effect, Memories}
 use Rattle.wasm_core.specs.ModuleCondition.{All, IsInstr, IsGlobal, IsConstValue, MayCome, opens_after, IsClosed, IsBody}
 use Rattle.wasm_core.specs.Words.{HasWord, IsWord}
 use Rattle.wasm_core.specs.Laws.{TypedIsClosed, ModulesHaveWords}
@@ -22,6 +22,15 @@ plain_opens m ls (instr.If t) e h o os = no h
 plain_opens m ls instr.Else e h o os = no h
 plain_opens m ls instr.End e h o os = no h
 plain_opens m ls _ e h o os = (refl, tt)
+
+-- nor does a tail call
+tail_opens : (m : Parts) (i : Instr) (e : Effect) → tail_effect m i ≡ Some e → (o : Bool) (os : List Bool) → (opens_after i (o ∷ os) ≡ o ∷ os) × MayCome o i
+tail_opens m (instr.Block t) e h o os = no h
+tail_opens m (instr.Loop t) e h o os = no h
+tail_opens m (instr.If t) e h o os = no h
+tail_opens m instr.Else e h o os = no h
+tail_opens m instr.End e h o os = no h
+tail_opens m _ e h o os = (refl, tt)
 
 all_front : {A : Type 0} (P : A → Type 0) (xs ys : List A) → All P (xs ++ ys) → All P xs
 all_front P [] ys a = tt
@@ -61,6 +70,8 @@ module _ (m : Parts) (ls rs : OperandTypes) where
   closes (br_if ps ts k r t) (p, a) o os x c = (tt, p, closes t a o os x c)
   closes (br_table ps ts k rl r t) (p, a) o os x c = (tt, p, closes t a o os x c)
   closes (return ps ts k t) (p, a) o os x c = (tt, p, closes t a o os x c)
+  closes (tail_call ps ts {i = i} {rest = rest} e k t) (p, a) o os x c =
+      let (same, may) = tail_opens m i _ e o os in (may, p, subst (λ l. IsClosed l (rest ++ x)) (sym same) (closes t a o os x c))
 
 pub typed_is_closed : TypedIsClosed
 typed_is_closed m ls rs code t a =

@@ -93,11 +93,20 @@ type_eq type.I32 type.I64 e = cc
 type_eq type.I64 type.I32 e = cc
 type_eq type.I64 type.I64 e = refl
 
-types_eq : (ss ts : OperandTypes) → same_types ss ts ≡ true → ss ≡ ts
+pub types_eq : (ss ts : OperandTypes) → same_types ss ts ≡ true → ss ≡ ts
 types_eq [] [] e = refl
 types_eq [] (t ∷ ts) e = cc
 types_eq (s ∷ ss) [] e = cc
 types_eq (s ∷ ss) (t ∷ ts) e = let (a, b) = both (same_type s t) (same_types ss ts) e in let p = type_eq s t a in let q = types_eq ss ts b in cc
+
+-- and equal ones pass them
+type_same : (t : ValType) → same_type t t ≡ true
+type_same type.I32 = refl
+type_same type.I64 = refl
+
+pub types_same : (ts : OperandTypes) → same_types ts ts ≡ true
+types_same [] = refl
+types_same (t ∷ ts) = ap (λ b. b && same_types ts ts) (type_same t) ∙ types_same ts
 
 result_eq : (s t : Option ValType) → same_result s t ≡ true → s ≡ t
 result_eq None None e = refl

@@ -273,12 +273,18 @@ opcodes_meet may b r e f = found_by_key (Allowed may) b opcodes (
                         (
                           λ f a b l q. (tt, (l, q)),
                           (
-                            λ f. (tt, tt),
+                            λ f n l. (tt, l),
                             (
-                              λ f n l. (tt, l),
+                              λ f a b l q. (tt, (l, q)),
                               (
-                                λ f n l. (tt, l),
-                                (λ f n l. (tt, l), (λ f n l. (tt, l), (λ f n l. (tt, l), (λ f a l. (tt, l), (λ f a l. (tt, l), (λ f a l. (tt, l), (λ f a l. (tt, l), (λ f. (tt, tt), (λ f. (tt, tt), (λ f n l. (tt, l), (λ f n l. (tt, l), tt))))))))))),
+                                λ f. (tt, tt),
+                                (
+                                  λ f n l. (tt, l),
+                                  (
+                                    λ f n l. (tt, l),
+                                    (λ f n l. (tt, l), (λ f n l. (tt, l), (λ f n l. (tt, l), (λ f a l. (tt, l), (λ f a l. (tt, l), (λ f a l. (tt, l), (λ f a l. (tt, l), (λ f. (tt, tt), (λ f. (tt, tt), (λ f n l. (tt, l), (λ f n l. (tt, l), tt))))))))))),
+                                  ),
+                                ),
                               ),
                             ),
                           ),

@@ -5,13 +5,13 @@ use Rattle.std.proofs.lemmas.List.{append-nil}
 use Rattle.std.proofs.Math.Seq.{take-append_seam}
 use Rattle.wasm_core.specs.declared.types.ValType.TheVariants.{I32}
 use Rattle.wasm_core.specs.declared.instrs.Instr.{Instr}
-use Rattle.wasm_core.specs.declared.instrs.Instr.TheVariants.{Unreachable, Block, Loop, If, Else, End, Br, BrIf, BrTable, Return, Drop}
+use Rattle.wasm_core.specs.declared.instrs.Instr.TheVariants.{Unreachable, Block, Loop, If, Else, End, Br, BrIf, BrTable, Return, Drop, ReturnCall, ReturnCallIndirect}
 use Rattle.wasm_core.specs.Parts.{Parts}
-use Rattle.wasm_core.specs.MachineStep.{on_some}
-use Rattle.wasm_core.specs.ModuleTyping.{OperandTypes, Effect, TypedBody, effect, left_by}
+use Rattle.wasm_core.specs.MachineStep.{on_some, same_types}
+use Rattle.wasm_core.specs.ModuleTyping.{OperandTypes, Effect, TypedBody, effect, tail_effect, left_by}
 use Rattle.wasm_core.specs.ModuleCondition.{IsClosed, opens_after}
 use Rattle.wasm_core.specs.FirstFault.{CanGoOn, IsFaultAt}
-use Rattle.wasm_core.specs.Pass.{Known, Ctl, Place, Check, More, Finished, only, off, put_on, closes, drop_one, dead, labels_of, opened, may_end, fit_labels, check, check_end, check_else, outset, one, run}
+use Rattle.wasm_core.specs.Pass.{Known, Ctl, Place, Check, More, Finished, only, off, put_on, closes, drop_one, dead, labels_of, opened, may_end, fit_labels, check, check_end, check_else, check_tail, outset, one, run}
 use Rattle.wasm_core.specs.Laws.{BodiesAreJudged}
 use Rattle.wasm_core.proofs.Small.{inj, no}
 use Rattle.wasm_core.proofs.Passing.{run_none, run-append, run_typed, viable_run, run_viable}
@@ -45,6 +45,11 @@ module _ (m : Parts) (ls rs : OperandTypes) where
   else_sized now (c ∷ cs) n h =
       s_only n c.one_arm (on_some (closes c.ends now) (λ k. Some (opened c.label c.ends false c.below cs))) (s_some n (closes c.ends now) (λ k. Some (opened c.label c.ends false c.below cs)) (λ k. h))
 
+  tail_sized : (a : Place) (n : ℕ) → suc (length a.ctls) ≡ n → (o : Option Effect) → Sized n (check_tail rs o a)
+  tail_sized a n h o =
+      s_some n o (λ e. only (same_types e.1 rs) (on_some (off e.0 a.now) (λ k. Some (dead a))))
+      (λ e. s_only n (same_types e.1 rs) (on_some (off e.0 a.now) (λ k. Some (dead a))) (s_some n (off e.0 a.now) (λ k. Some (dead a)) (λ k. h)))
+
   sized : (i : Instr) (a : Place) (o : Bool) (os : List Bool) → length os ≡ length a.ctls → Sized (length (opens_after i (o ∷ os))) (check m ls rs i a)
   sized Unreachable a o os h = ap suc (sym h)
   sized (Block b) a o os h = ap (λ n. suc (suc n)) (sym h)
@@ -66,6 +71,8 @@ module _ (m : Parts) (ls rs : OperandTypes) where
       (λ k. s_some (suc (length os)) (off lt k) (λ j. only (fit_labels (labels_of rs a.ctls) (length lt) k js) (Some (dead a)))
       (λ j. s_only (suc (length os)) (fit_labels (labels_of rs a.ctls) (length lt) k js) (Some (dead a)) (ap suc (sym h)))))
   sized Return a o os h = s_some (suc (length os)) (off rs a.now) (λ k. Some (dead a)) (λ k. ap suc (sym h))
+  sized (ReturnCall f) a o os h = tail_sized a (suc (length os)) (ap suc (sym h)) (tail_effect m (ReturnCall f))
+  sized (ReturnCallIndirect index table) a o os h = tail_sized a (suc (length os)) (ap suc (sym h)) (tail_effect m (ReturnCallIndirect index table))
   sized Drop a o os h = s_some (suc (length os)) (drop_one a.now.vals a.now.loose) (λ k. Some (More (record a { now = k }))) (λ k. ap suc (sym h))
   sized i a o os h = plain_sized a (suc (length os)) (ap suc (sym h)) (effect m ls i)
 

@@ -8,14 +8,15 @@ use Rattle.wasm_core.specs.declared.types.ValType.TheVariants.{I32, I64}
 use Rattle.wasm_core.specs.declared.instrs.BlockType.{BlockType}
 use Rattle.wasm_core.specs.declared.instrs.BlockType.TheVariants.{Empty, Value}
 use Rattle.wasm_core.specs.declared.instrs.Instr.{Instr}
-use Rattle.wasm_core.specs.declared.instrs.Instr.TheVariants.{Unreachable, Nop, Block, Loop, If, Else, End, Br, BrIf, BrTable, Return, Call, CallIndirect, Drop, LocalGet, LocalSet, LocalTee, GlobalGet, GlobalSet, I32Load, I32Load8U, I32Store, I32Store8, MemorySize, MemoryGrow, I32Const, I64Const, I32 as Operation}
+use Rattle.wasm_core.specs.declared.instrs.Instr.TheVariants.{Unreachable, Nop, Block, Loop, If, Else, End, Br, BrIf, BrTable, Return, Call, CallIndirect, ReturnCall, ReturnCallIndirect, Drop, LocalGet, LocalSet, LocalTee, GlobalGet, GlobalSet, I32Load, I32Load8U, I32Store, I32Store8, MemorySize, MemoryGrow, I32Const, I64Const, I32 as Operation}
 use Rattle.wasm_core.specs.Parts.{Parts}
-use Rattle.wasm_core.specs.MachineStep.{on_some}
-use Rattle.wasm_core.specs.ModuleTyping.{OperandTypes, Operands, OperandType, Of, Bottom, known, Match, match_none, match_same, match_bottom, Effect, Reaches, Typed, TypedBody, done, plain, drop, unreachable, block, loop, one_arm, two_arms, br, br_if, br_table, return, effect, left_by}
+use Rattle.wasm_core.specs.MachineStep.{on_some, same_types}
+use Rattle.wasm_core.specs.ModuleTyping.{OperandTypes, Operands, OperandType, Of, Bottom, known, Match, match_none, match_same, match_bottom, Effect, Reaches, Typed, TypedBody, done, plain, drop, unreachable, block, loop, one_arm, two_arms, br, br_if, br_table, return, tail_call, effect, tail_effect, left_by}
 use Rattle.wasm_core.specs.FirstFault.{CanGoOn}
-use Rattle.wasm_core.specs.Pass.{Known, Ctl, Place, Check, More, Finished, knowing, same, only, take_off, off, put_on, if_none, closes, drop_one, dead, labels_of, opened, may_end, fits_label, fit_labels, check, check_end, check_else, passes, Accepts, outset, one, run}
+use Rattle.wasm_core.specs.Pass.{Known, Ctl, Place, Check, More, Finished, knowing, same, only, take_off, off, put_on, if_none, closes, drop_one, dead, labels_of, opened, may_end, fits_label, fit_labels, check, check_end, check_else, check_tail, passes, Accepts, outset, one, run}
 use Rattle.wasm_core.proofs.Small.{inj, no}
 use Rattle.wasm_core.proofs.TypedRules.{match_known}
+use Rattle.wasm_core.proofs.Functions.{types_eq, types_same}
 
 -- what is known stands for these operands
 abbrev RepOf : Bool → OperandTypes → Operands → Type 0
@@ -241,6 +242,14 @@ module _ (m : Parts) (ls rs : OperandTypes) where
   from_dead : (i : Instr) (rest : List Instr) (a : Place) (to : Operands) → Rep a.now to → ((ts us : Operands) (r : List Instr) → Typed m ls rs (labels_of rs a.ctls) ts r us → Typed m ls rs (labels_of rs a.ctls) to (i ∷ r) us) → Found (record a { now = knowing [] true }) rest → Found a (i ∷ rest)
   from_dead i rest a to r by (ts, q, d) = (to, r, prepend to (λ x. i ∷ x) (λ x y. refl) (λ us y t. by ts us y t) d)
 
+  from_tail : (i : Instr) (rest : List Instr) (a : Place) → Held rest → passes (check_tail rs (tail_effect m i) a) (goes_on rest) (rest ≡ []) → Found a (i ∷ rest)
+  from_tail i rest a ih h =
+      let (e, he, h1) = found (tail_effect m i) (λ e. only (same_types e.1 rs) (on_some (off e.0 a.now) (λ k. Some (dead a)))) (goes_on rest) (rest ≡ []) h in
+      let (same, h2) = allowed (same_types e.1 rs) (on_some (off e.0 a.now) (λ k. Some (dead a))) (goes_on rest) (rest ≡ []) h1 in
+      let (k, hk, h3) = found (off e.0 a.now) (λ k. Some (dead a)) (goes_on rest) (rest ≡ []) h2 in
+      let is : tail_effect m i ≡ Some (e.0, rs) = he ∙ ap (λ (x : OperandTypes). Some (e.0, x)) (types_eq e.1 rs same) in
+      from_dead i rest a (known e.0 ++ known k.vals) (off_sound e.0 a.now.vals a.now.loose k (known k.vals) hk (rep_vals k.loose k.vals)) (λ ts us r t. tail_call (known e.0) (known k.vals) is (match_known e.0) t) (ih (record a { now = knowing [] true }) h3)
+
   from_plain : (i : Instr) (rest : List Instr) (a : Place) → Held rest → passes (on_some (effect m ls i) (λ e. on_some (off e.0 a.now) (λ k. Some (More (record a { now = put_on e.1 k }))))) (goes_on rest) (rest ≡ []) → Found a (i ∷ rest)
   from_plain i rest a ih h =
       let (e, he, h1) = found (effect m ls i) (λ e. on_some (off e.0 a.now) (λ k. Some (More (record a { now = put_on e.1 k })))) (goes_on rest) (rest ≡ []) h in
@@ -352,6 +361,8 @@ module _ (m : Parts) (ls rs : OperandTypes) where
   sound (Nop ∷ rest) a h = from_plain Nop rest a (sound rest) h
   sound (Call f ∷ rest) a h = from_plain (Call f) rest a (sound rest) h
   sound (CallIndirect index table ∷ rest) a h = from_plain (CallIndirect index table) rest a (sound rest) h
+  sound (ReturnCall f ∷ rest) a h = from_tail (ReturnCall f) rest a (sound rest) h
+  sound (ReturnCallIndirect index table ∷ rest) a h = from_tail (ReturnCallIndirect index table) rest a (sound rest) h
   sound (LocalGet x ∷ rest) a h = from_plain (LocalGet x) rest a (sound rest) h
   sound (LocalSet x ∷ rest) a h = from_plain (LocalSet x) rest a (sound rest) h
   sound (LocalTee x ∷ rest) a h = from_plain (LocalTee x) rest a (sound rest) h
@@ -388,6 +399,11 @@ module _ (m : Parts) (ls rs : OperandTypes) where
   check_plain (Operation op) a e h = refl
   check_plain _ a e h = no h
 
+  check_tail_is : (i : Instr) (a : Place) (e : Effect) → tail_effect m i ≡ Some e → check m ls rs i a ≡ check_tail rs (tail_effect m i) a
+  check_tail_is (ReturnCall f) a e h = refl
+  check_tail_is (ReturnCallIndirect index table) a e h = refl
+  check_tail_is _ a e h = no h
+
   -- the end of an inner block, and what comes after it
   inner_end : (c : Ctl) (cs : List Ctl) (us : Operands) (rest : List Instr) → Match us c.ends → may_end c.one_arm c.ends ≡ true → Accepts m ls rs (record { now = put_on c.ends c.below; ctls = cs }) rest → (k : Known) → Rep k us → Accepts m ls rs (record { now = k; ctls = c ∷ cs }) (End ∷ rest)
   inner_end c cs us rest e may on k r =
@@ -396,7 +412,8 @@ module _ (m : Parts) (ls rs : OperandTypes) where
       let p = ap (λ (o : Option Known). on_some o (λ k. only (may_end c.one_arm c.ends) (Some (More after)))) hj ∙ ap (λ b. only b (Some (More after))) may in
       subst (λ (o : Option Check). passes o (goes_on rest) (rest ≡ [])) (sym p) on
 
-  forward : {labels : List OperandTypes} {ts us : Operands} {body : List Instr} → Typed m ls rs labels ts body us → (a : Place) → labels_of rs a.ctls ≡ labels → Rep a.now ts → (tail : List Instr) → ((k : Known) → Rep k us → Accepts m ls rs (record a { now = k }) tail) → Accepts m ls rs a (body ++ tail)
+  forward : {labels : List OperandTypes} {ts us : Operands} {body : List Instr} → Typed m ls rs labels ts body us → (a : Place) → labels_of rs a.ctls ≡ labels → Rep a.now ts → (tail : List Instr) →
+      ((k : Known) → Rep k us → Accepts m ls rs (record a { now = k }) tail) → Accepts m ls rs a (body ++ tail)
   forward done a e r tail on = on a.now r
   forward (plain {pops = pops} {pushes = pushes} os ts {i = i} {rest = rest} he ma t) a e r tail on =
       let (k, hk, rk) = off_complete ma a.now.vals a.now.loose ts r in
@@ -470,6 +487,14 @@ module _ (m : Parts) (ls rs : OperandTypes) where
   forward (return {any = any} os ts {rest = rest} ma t) a e r tail on =
       let (k, hk, rk) = off_complete ma a.now.vals a.now.loose ts r in
       subst (λ (o : Option Check). passes o (goes_on (rest ++ tail)) (rest ++ tail ≡ [])) (sym (ap (λ (o : Option Known). on_some o (λ k. Some (dead a))) hk)) (forward t (record a { now = knowing [] true }) e (any, refl) tail on)
+  forward (tail_call {any = any} {pops = pops} os ts {i = i} {rest = rest} he ma t) a e r tail on =
+      let (k, hk, rk) = off_complete ma a.now.vals a.now.loose ts r in
+      let p =
+      check_tail_is i a (pops, rs) he
+      ∙ ap (λ (o : Option Effect). check_tail rs o a) he
+      ∙ ap (λ (x : Bool). only x (on_some (off pops a.now) (λ k. Some (dead a)))) (types_same rs)
+      ∙ ap (λ (o : Option Known). on_some o (λ k. Some (dead a))) hk in
+      subst (λ (o : Option Check). passes o (goes_on (rest ++ tail)) (rest ++ tail ≡ [])) (sym p) (forward t (record a { now = knowing [] true }) e (any, refl) tail on)
 
   -- exactness: the pass goes through where there is a typing, and only there
   typed_accepts : (code : List Instr) → TypedBody m ls rs code → Accepts m ls rs outset code

@@ -330,6 +330,9 @@ module _ (ws : List (List ℕ)) (m : Parts) where
   instr_printed may (instructions.Call n) q f k w h = op_printed may 16 (Index instructions.Call) (λ c. refl) k _ (u32_printed (λ n. k (instructions.Call n)) n w f h)
   instr_printed may (instructions.CallIndirect index table) q f k w h = op_printed may 17 (Pair instructions.CallIndirect) (λ c. refl) k _ (u32_printed (λ a. u32 (λ b. k (instructions.CallIndirect a b))) index (put_u32 table w) f.0
       (u32_printed (λ b. k (instructions.CallIndirect index b)) table w f.1 h))
+  instr_printed may (instructions.ReturnCall n) q f k w h = op_printed may 18 (Index instructions.ReturnCall) (λ c. refl) k _ (u32_printed (λ n. k (instructions.ReturnCall n)) n w f h)
+  instr_printed may (instructions.ReturnCallIndirect index table) q f k w h = op_printed may 19 (Pair instructions.ReturnCallIndirect) (λ c. refl) k _ (u32_printed (λ a. u32 (λ b. k (instructions.ReturnCallIndirect a b))) index (put_u32 table w) f.0
+      (u32_printed (λ b. k (instructions.ReturnCallIndirect index b)) table w f.1 h))
   instr_printed may instructions.Drop q f k w h = op_printed may 26 (Plain (instructions.Drop)) (λ c. refl) k _ h
   instr_printed may (instructions.LocalGet n) q f k w h = op_printed may 32 (Index instructions.LocalGet) (λ c. refl) k _ (u32_printed (λ n. k (instructions.LocalGet n)) n w f h)
   instr_printed may (instructions.LocalSet n) q f k w h = op_printed may 33 (Index instructions.LocalSet) (λ c. refl) k _ (u32_printed (λ n. k (instructions.LocalSet n)) n w f h)

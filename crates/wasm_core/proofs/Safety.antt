@@ -13,7 +13,7 @@ use Rattle.wasm_core.specs.declared.types.ConstValue.TheVariants.{I32, I64}
 use Rattle.wasm_core.specs.declared.instrs.BlockType.{BlockType}
 use Rattle.wasm_core.specs.declared.instrs.BlockType.TheVariants.{Empty, Value}
 use Rattle.wasm_core.specs.declared.instrs.Instr.{Instr}
-use Rattle.wasm_core.specs.declared.instrs.Instr.TheVariants.{Unreachable, Nop, Block, Loop, If, Else, End, Br, BrIf, BrTable, Return, Call, CallIndirect, Drop, LocalGet, LocalSet, LocalTee, GlobalGet, GlobalSet, I32Load, I32Load8U, I32Store, I32Store8, MemorySize, MemoryGrow, I32Const, I64Const, I32 as Operation}
+use Rattle.wasm_core.specs.declared.instrs.Instr.TheVariants.{Unreachable, Nop, Block, Loop, If, Else, End, Br, BrIf, BrTable, Return, Call, CallIndirect, ReturnCall, ReturnCallIndirect, Drop, LocalGet, LocalSet, LocalTee, GlobalGet, GlobalSet, I32Load, I32Load8U, I32Store, I32Store8, MemorySize, MemoryGrow, I32Const, I64Const, I32 as Operation}
 use Rattle.wasm_core.specs.declared.ended.Ended.TheVariants.{Returned, Trapped}
 use Rattle.wasm_core.specs.declared.ended.TrapKind.{TrapKind}
 use Rattle.wasm_core.specs.declared.ended.TrapKind.TheVariants as kind
@@ -21,10 +21,10 @@ use Rattle.wasm_core.specs.Parts.{Parts}
 use Rattle.wasm_core.specs.Memory.{byte, word, put_byte, put_word, zeroed}
 use Rattle.wasm_core.specs.Arithmetic.{is_unary, unary, binary}
 use Rattle.wasm_core.specs.Instance.{Func, greatest_pages, table_of, zero_of}
-use Rattle.wasm_core.specs.MachineStep.{BlockLabel, Frame, Store, Conf, State, At, Over, step, branch, jump, leave, back, taking, call, call_entry, frame_of, has_value, after_end, else_arm, on_some, going_on, storing, same_func_type, operation, trap}
-use Rattle.wasm_core.specs.ModuleTyping.{OperandTypes, Operands, OperandType, Of, known, Match, Effect, Typed, done, plain, unreachable, block, loop, one_arm, two_arms, br, br_if, br_table, return, effect, left_by, results_of, func_type, calling, calling_entry, getting, setting, keeping, accessing, operating, when, Reaches, TypedBody, IsValid}
+use Rattle.wasm_core.specs.MachineStep.{BlockLabel, Frame, Store, Conf, State, At, Over, step, branch, jump, leave, back, taking, call, tail_call, on_entry, frame_of, has_value, after_end, else_arm, on_some, going_on, storing, same_func_type, operation, trap}
+use Rattle.wasm_core.specs.ModuleTyping.{OperandTypes, Operands, OperandType, Of, known, Match, Effect, Typed, done, plain, unreachable, block, loop, one_arm, two_arms, br, br_if, br_table, return, effect, tail_effect, left_by, results_of, func_type, calling, calling_entry, getting, setting, keeping, accessing, operating, when, Reaches, TypedBody, IsValid}
 use Rattle.wasm_core.specs.ModuleTyping as typing
-use Rattle.wasm_core.specs.Safe.{is_i32, is_i64, HaveTypes, no_values, values, Takes, takes_none, takes_one, Goes, goes, Tail, fin, by_end, by_else, Chain, Good, GoodState, global_types}
+use Rattle.wasm_core.specs.Safe.{is_i32, is_i64, HaveTypes, no_values, values, Takes, takes_none, takes_one, Goes, goes, Tail, fin, by_end, by_else, Runs, Chain, Good, GoodState, global_types}
 use Rattle.wasm_core.proofs.Small.{inj, no, some_of, map_of, when_of}
 use Rattle.wasm_core.proofs.Values.{have_append, have_length, have_matched, have_all, have_front, have_rest, have_reverse, known_reverse, have_get, have_set, known_at, zeros_have, popped, popped_any, popped_test}
 use Rattle.wasm_core.proofs.Balance.{skips, skips_else}
@@ -189,12 +189,11 @@ module _ (m : Parts) (valid : IsValid m) (g : Bool) (store : Store) (gl : HaveTy
       arm zero = on {labels = left_by b ∷ labels} [] [] no_values (subst (Goes m ls rs (k ∷ ks) (left_by b ∷ labels) []) (sym other) (inner tail k ts (left_by b) (left_by b) second rest (left_takes b) lv on_after tb mb (goes td tl)))
       arm (suc x) = on {labels = left_by b ∷ labels} [] [] no_values (subst (Goes m ls rs (k ∷ ks) (left_by b ∷ labels) []) (sym split) (goes ta (by_else ts (left_takes b) lv on_after ma)))
 
-  -- a function is called
-  sound_call : (ks : List BlockLabel) (labels : List OperandTypes) (before : List ConstValue) (whole : List Instr) (f : Func) → TypedBody m (f.type.params ++ f.body.locals) (results_of f.type) f.body.code → (ts : Operands) (vals : List ConstValue) (code : List Instr) → HaveTypes vals (known
-      (reverse f.type.params) ++ ts) → Goes m ls rs ks labels (known (results_of f.type) ++ ts) code → Sound m (call (conf ks before whole) f vals code)
-  sound_call ks labels before whole f typed ts vals code lv go =
+  -- a function is called: its frame, and the operands below its arguments
+  callee : (f : Func) → TypedBody m (f.type.params ++ f.body.locals) (results_of f.type) f.body.code → (ts : Operands) (vals : List ConstValue) → HaveTypes vals (known (reverse f.type.params) ++ ts) →
+      (nat_le (length f.type.params) (length vals) ≡ true) × HaveTypes (drop (length f.type.params) vals) ts × Runs m (frame_of f vals) (f.type.params ++ f.body.locals) (results_of f.type) []
+  callee f typed ts vals lv =
       let n : ℕ = length f.type.params in
-      let c = conf ks before whole in
       let args = known (reverse f.type.params) in
       let len : length args ≡ n = length-map (reverse f.type.params) Of ∙ length-reverse f.type.params in
       let le : n ≤ length vals = omega (arith, have_length lv, length-append args ts, len) in
@@ -203,37 +202,55 @@ module _ (m : Parts) (valid : IsValid m) (g : Bool) (store : Store) (gl : HaveTy
       let back_order : reverse args ≡ known f.type.params = ap reverse (known_reverse f.type.params) ∙ reverse-reverse (known f.type.params) in
       let taken : HaveTypes (reverse (take n vals) ++ map zero_of f.body.locals) (known f.type.params ++ known f.body.locals) = have_append (subst (HaveTypes (reverse (take n vals))) back_order (have_reverse front)) (zeros_have f.body.locals) in
       let all : HaveTypes (reverse (take n vals) ++ map zero_of f.body.locals) (known (f.type.params ++ f.body.locals)) = subst (HaveTypes (reverse (take n vals) ++ map zero_of f.body.locals)) (sym (map-append Of f.type.params f.body.locals)) taken in
-      let to : Conf = record { store = store; current = frame_of f vals; callers = record c.current { operands = drop n vals; rest = code } ∷ callers } in
       let started = subst (Goes m (f.type.params ++ f.body.locals) (results_of f.type) [] (results_of f.type ∷ []) []) (sym typed.ends) (goes typed.typed (fin typed.matched)) in (
+        le-leb n (length vals) le,
+        left,
+        record { labels = results_of f.type ∷ []; ts = []; keeps = result_takes f.type.result; locals = all; operands = no_values; goes_on = started },
+      )
+
+  sound_call : (ks : List BlockLabel) (labels : List OperandTypes) (before : List ConstValue) (whole : List Instr) (f : Func) → TypedBody m (f.type.params ++ f.body.locals) (results_of f.type) f.body.code → (ts : Operands) (vals : List ConstValue) (code : List Instr) → HaveTypes vals (known
+      (reverse f.type.params) ++ ts) → Goes m ls rs ks labels (known (results_of f.type) ++ ts) code → Sound m (call (conf ks before whole) f vals code)
+  sound_call ks labels before whole f typed ts vals code lv go =
+      let n : ℕ = length f.type.params in
+      let c = conf ks before whole in
+      let (le, left, runs) = callee f typed ts vals lv in
+      let to : Conf = record { store = store; current = frame_of f vals; callers = record c.current { operands = drop n vals; rest = code } ∷ callers } in (
         At to,
-        ap (λ (b : Bool). if b then Some (At to) else None) (le-leb n (length vals) le),
+        ap (λ (b : Bool). if b then Some (At to) else None) le,
         record {
           ls = f.type.params ++ f.body.locals;
           rs = results_of f.type;
           globals = gl;
-          runs = record { labels = results_of f.type ∷ []; ts = []; keeps = result_takes f.type.result; locals = all; operands = no_values; goes_on = started };
+          runs = runs;
           chain = (ls, rs, record { labels = labels; ts = ts; keeps = tk; locals = ll; operands = left; goes_on = go }, chain);
         },
+      )
+
+  -- in place of the one that runs, where its results are that one's
+  sound_tail_call : (ks : List BlockLabel) (before : List ConstValue) (whole : List Instr) (f : Func) → TypedBody m (f.type.params ++ f.body.locals) (results_of f.type) f.body.code → (ts : Operands) (vals : List ConstValue) → HaveTypes vals (known (reverse f.type.params) ++ ts) → results_of f.type ≡ rs → Sound m (tail_call (conf ks before whole) f vals)
+  sound_tail_call ks before whole f typed ts vals lv same =
+      let (le, left, runs) = callee f typed ts vals lv in
+      let to : Conf = record { store = store; current = frame_of f vals; callers = callers } in (
+        At to,
+        ap (λ (b : Bool). if b then Some (At to) else None) le,
+        record { ls = f.type.params ++ f.body.locals; rs = results_of f.type; globals = gl; runs = runs; chain = subst (Chain m callers) (sym same) chain },
       )
 
   sound_trap : (k : TrapKind) (ks : List BlockLabel) (before : List ConstValue) (whole : List Instr) → Sound m (trap k (conf ks before whole))
   sound_trap k ks before whole = (Over (Trapped k) store, refl, gl)
 
-  sound_entry : (ks : List BlockLabel) (labels : List OperandTypes) (before : List ConstValue) (whole : List Instr) (t : FuncType) (ts : Operands) (vals : List ConstValue) (code : List Instr) → HaveTypes vals (known (reverse t.params) ++ ts) → Goes m ls rs ks labels (known (results_of t) ++
-      ts) code → (x : ℕ) (o : Option (Option ℕ)) → slice_get (table_of m) x ≡ o → Sound m (call_entry m t o vals code (conf ks before whole))
-  sound_entry ks labels before whole t ts vals code lv go x None e = sound_trap kind.UndefinedElement ks before whole
-  sound_entry ks labels before whole t ts vals code lv go x (Some None) e = sound_trap kind.UninitializedElement ks before whole
-  sound_entry ks labels before whole t ts vals code lv go x (Some (Some f)) e =
+  sound_entry : (ks : List BlockLabel) (before : List ConstValue) (whole : List Instr) (t : FuncType) (go : Func → Option State) → ((k : Func) → TypedBody m (k.type.params ++ k.body.locals) (results_of k.type) k.body.code → t.params ≡ k.type.params → t.result ≡ k.type.result → Sound m (go k)) → (x : ℕ) (o : Option (Option ℕ)) → slice_get (table_of m) x ≡ o → Sound m (on_entry m t o (conf ks before whole) go)
+  sound_entry ks before whole t go each x None e = sound_trap kind.UndefinedElement ks before whole
+  sound_entry ks before whole t go each x (Some None) e = sound_trap kind.UninitializedElement ks before whole
+  sound_entry ks before whole t go each x (Some (Some f)) e =
       let c = conf ks before whole in
       let h = found_in m valid f (entry_there m valid x f e) in
-      subst (Sound m) (sym (ap (λ (o : Option Func). on_some o (λ k. if same_func_type t k.type then call c k vals code else trap kind.IndirectType c)) h.is))
+      subst (Sound m) (sym (ap (λ (o : Option Func). on_some o (λ k. if same_func_type t k.type then go k else trap kind.IndirectType c)) h.is))
       (by_type h.func h.typed (same_func_type t h.func.type) refl)
     where
-      by_type : (f : Func) → TypedBody m (f.type.params ++ f.body.locals) (results_of f.type) f.body.code → (b : Bool) → same_func_type t f.type ≡ b → Sound m (if b then call (conf ks before whole) f vals code else trap kind.IndirectType (conf ks before whole))
-      by_type f typed true e =
-          let (p, r) = func_type_eq t f.type e in
-          sound_call ks labels before whole f typed ts vals code (subst (λ ps. HaveTypes vals (known (reverse ps) ++ ts)) p lv) (subst (λ r. Goes m ls rs ks labels (known (option_to_list r) ++ ts) code) r go)
-      by_type f typed false e = sound_trap kind.IndirectType ks before whole
+      by_type : (k : Func) → TypedBody m (k.type.params ++ k.body.locals) (results_of k.type) k.body.code → (b : Bool) → same_func_type t k.type ≡ b → Sound m (if b then go k else trap kind.IndirectType (conf ks before whole))
+      by_type k typed true e = let (p, r) = func_type_eq t k.type e in each k typed p r
+      by_type k typed false e = sound_trap kind.IndirectType ks before whole
 
   -- what an instruction's effect says
   given : (ts : Operands) {pops pushes : OperandTypes} {ks : List BlockLabel} {labels : List OperandTypes} {code : List Instr} (a b : OperandTypes) (vals : List ConstValue) → ◌≡◌ {A = Effect} (a, b) (pops, pushes) → HaveTypes vals (known pops ++ ts) → Goes m ls rs ks labels (known pushes ++
@@ -347,8 +364,9 @@ module _ (m : Parts) (valid : IsValid m) (g : Bool) (store : Store) (gl : HaveTy
       popped (λ v. Sound m (step m g (conf ks v (CallIndirect index table ∷ code)))) d.0
       (λ x r h.
       let c = conf ks (I32 x ∷ r) (CallIndirect index table ∷ code) in
-      subst (Sound m) (sym (ap (λ (o : Option FuncType). on_some o (λ u. call_entry m u (slice_get (table_of m) x) r code c)) ht))
-      (sound_entry ks labels (I32 x ∷ r) (CallIndirect index table ∷ code) t ts r code h d.1 x (slice_get (table_of m) x) refl))
+      subst (Sound m) (sym (ap (λ (o : Option FuncType). on_some o (λ u. on_entry m u (slice_get (table_of m) x) c (λ k. call c k r code))) ht))
+      (sound_entry ks (I32 x ∷ r) (CallIndirect index table ∷ code) t (λ k. call c k r code)
+      (λ k typed p q. sound_call ks labels (I32 x ∷ r) (CallIndirect index table ∷ code) k typed ts r code (subst (λ ps. HaveTypes r (known (reverse ps) ++ ts)) p h) (subst (λ res. Goes m ls rs ks labels (known (option_to_list res) ++ ts) code) q d.1)) x (slice_get (table_of m) x) refl))
   sound_plain Unreachable ts vals e lv go = no e
   sound_plain (Block b) ts vals e lv go = no e
   sound_plain (Loop b) ts vals e lv go = no e
@@ -359,7 +377,58 @@ module _ (m : Parts) (valid : IsValid m) (g : Bool) (store : Store) (gl : HaveTy
   sound_plain (BrIf l) ts vals e lv go = no e
   sound_plain (BrTable l ks) ts vals e lv go = no e
   sound_plain Return ts vals e lv go = no e
+  sound_plain (ReturnCall f) ts vals e lv go = no e
+  sound_plain (ReturnCallIndirect index table) ts vals e lv go = no e
   sound_plain Drop ts vals e lv go = no e
+
+  sound_tail : (ks : List BlockLabel) (code : List Instr) {pops : OperandTypes} (i : Instr) (ts : Operands) (vals : List ConstValue) → tail_effect m i ≡ Some (pops, rs) → HaveTypes vals (known pops ++ ts) → Sound m (step m g (conf ks vals (i ∷ code)))
+  sound_tail ks code (ReturnCall f) ts vals e lv =
+      let (t, ht, q) = map_of calling (func_type m f) _ e in
+      let (h, is) = found_typed m valid f t ht in
+      let c = conf ks vals (ReturnCall f ∷ code) in
+      let args : HaveTypes vals (known (reverse t.params) ++ ts) = subst (λ (x : Effect). HaveTypes vals (known x.0 ++ ts)) (sym q) lv in
+      let same : results_of h.func.type ≡ rs = ap results_of is ∙ ap (λ (x : Effect). x.1) q in
+      subst (Sound m) (sym (ap (λ (o : Option Func). on_some o (λ k. tail_call c k vals)) h.is))
+      (sound_tail_call ks vals (ReturnCall f ∷ code) h.func h.typed ts vals (subst (λ (u : FuncType). HaveTypes vals (known (reverse u.params) ++ ts)) (sym is) args) same)
+  sound_tail ks code (ReturnCallIndirect index table) ts vals e lv =
+      let (t, ht, q0) = some_of (λ (t : FuncType). when (nat_eq table 0 && is_some m.table) (calling_entry t)) (slice_get m.types index) _ e in
+      let (there, q) = when_of (nat_eq table 0 && is_some m.table) (calling_entry t) _ q0 in
+      let args : HaveTypes vals (known (type.I32 ∷ reverse t.params) ++ ts) = subst (λ (x : Effect). HaveTypes vals (known x.0 ++ ts)) (sym q) lv in
+      let same : results_of t ≡ rs = ap (λ (x : Effect). x.1) q in
+      popped (λ v. Sound m (step m g (conf ks v (ReturnCallIndirect index table ∷ code)))) args
+      (λ x r h.
+      let c = conf ks (I32 x ∷ r) (ReturnCallIndirect index table ∷ code) in
+      subst (Sound m) (sym (ap (λ (o : Option FuncType). on_some o (λ u. on_entry m u (slice_get (table_of m) x) c (λ k. tail_call c k r))) ht))
+      (sound_entry ks (I32 x ∷ r) (ReturnCallIndirect index table ∷ code) t (λ k. tail_call c k r)
+      (λ k typed p s. sound_tail_call ks (I32 x ∷ r) (ReturnCallIndirect index table ∷ code) k typed ts r (subst (λ ps. HaveTypes r (known (reverse ps) ++ ts)) p h) (ap option_to_list (sym s) ∙ same)) x (slice_get (table_of m) x) refl))
+  sound_tail ks code Unreachable ts vals e lv = no e
+  sound_tail ks code Nop ts vals e lv = no e
+  sound_tail ks code (Block b) ts vals e lv = no e
+  sound_tail ks code (Loop b) ts vals e lv = no e
+  sound_tail ks code (If b) ts vals e lv = no e
+  sound_tail ks code Else ts vals e lv = no e
+  sound_tail ks code End ts vals e lv = no e
+  sound_tail ks code (Br l) ts vals e lv = no e
+  sound_tail ks code (BrIf l) ts vals e lv = no e
+  sound_tail ks code (BrTable l js) ts vals e lv = no e
+  sound_tail ks code Return ts vals e lv = no e
+  sound_tail ks code (Call f) ts vals e lv = no e
+  sound_tail ks code (CallIndirect index table) ts vals e lv = no e
+  sound_tail ks code Drop ts vals e lv = no e
+  sound_tail ks code (LocalGet x) ts vals e lv = no e
+  sound_tail ks code (LocalSet x) ts vals e lv = no e
+  sound_tail ks code (LocalTee x) ts vals e lv = no e
+  sound_tail ks code (GlobalGet x) ts vals e lv = no e
+  sound_tail ks code (GlobalSet x) ts vals e lv = no e
+  sound_tail ks code (I32Load x) ts vals e lv = no e
+  sound_tail ks code (I32Load8U x) ts vals e lv = no e
+  sound_tail ks code (I32Store x) ts vals e lv = no e
+  sound_tail ks code (I32Store8 x) ts vals e lv = no e
+  sound_tail ks code MemorySize ts vals e lv = no e
+  sound_tail ks code MemoryGrow ts vals e lv = no e
+  sound_tail ks code (I32Const n) ts vals e lv = no e
+  sound_tail ks code (I64Const n) ts vals e lv = no e
+  sound_tail ks code (Operation op) ts vals e lv = no e
 
   -- a branch to a label that the operands reach
   sound_reach : {ks : List BlockLabel} {labels : List OperandTypes} {us : Operands} {tail : List Instr} → Tail m ls rs ks labels us tail → (os ts : Operands) (l : ℕ) → Reaches labels l os → (before vals : List ConstValue) (rest : List Instr) → HaveTypes vals (os ++ ts) → Sound m (branch
@@ -395,6 +464,7 @@ module _ (m : Parts) (valid : IsValid m) (g : Bool) (store : Store) (gl : HaveTy
       choose x None e q h = sound_reach tl os ts l r (I32 x ∷ q) q (BrTable l js ∷ (rest ++ tail)) h
       choose x (Some j) e q h = sound_reach tl os ts j (rl x j e) (I32 x ∷ q) q (BrTable l js ∷ (rest ++ tail)) h
   sound_code {ks = ks} {tail = tail} (return os ts {rest = rest} ma t) tl vals lv = sound_out ks vals vals (Return ∷ (rest ++ tail)) ts (have_matched ts ma lv)
+  sound_code {ks = ks} {tail = tail} (typing.tail_call os ts {i = i} {rest = rest} e ma t) tl vals lv = sound_tail ks (rest ++ tail) i ts vals e (have_matched ts ma lv)
 
 -- in a valid module a run that has not ended has a step, whether a grow is granted or not, and it leads on to such a state
 pub safe : (m : Parts) → IsValid m → (g : Bool) (c : Conf) → Good m c → (s : State) × (step m g c ≡ Some s) × GoodState m s

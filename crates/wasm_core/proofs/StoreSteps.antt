@@ -7,13 +7,13 @@ use Rattle.wasm_core.specs.declared.types.ConstValue.{ConstValue}
 use Rattle.wasm_core.specs.declared.types.ConstValue.TheVariants.{I32}
 use Rattle.wasm_core.specs.declared.instrs.I32Op.{I32Op}
 use Rattle.wasm_core.specs.declared.instrs.Instr.{Instr}
-use Rattle.wasm_core.specs.declared.instrs.Instr.TheVariants.{Unreachable, Nop, Block, Loop, If, Else, End, Br, BrIf, BrTable, Return, Call, CallIndirect, Drop, LocalGet, LocalSet, LocalTee, GlobalGet, GlobalSet, I32Load, I32Load8U, I32Store, I32Store8, MemorySize, MemoryGrow, I32Const, I64Const, I32 as Operation}
+use Rattle.wasm_core.specs.declared.instrs.Instr.TheVariants.{Unreachable, Nop, Block, Loop, If, Else, End, Br, BrIf, BrTable, Return, Call, CallIndirect, ReturnCall, ReturnCallIndirect, Drop, LocalGet, LocalSet, LocalTee, GlobalGet, GlobalSet, I32Load, I32Load8U, I32Store, I32Store8, MemorySize, MemoryGrow, I32Const, I64Const, I32 as Operation}
 use Rattle.wasm_core.specs.declared.ended.TrapKind.TheVariants as kind
 use Rattle.wasm_core.specs.Parts.{Parts}
 use Rattle.wasm_core.specs.Memory.{byte, word, put_byte, put_word}
 use Rattle.wasm_core.specs.Arithmetic.{is_unary, unary, binary}
 use Rattle.wasm_core.specs.Instance.{Func, func_of, table_of}
-use Rattle.wasm_core.specs.MachineStep.{after_end, BlockLabel, Frame, Store, Conf, State, At, act, arm, branch, jump, leave, back, leave_block, at_end, call, call_entry, same_func_type, frame_of, has_value, enter, on_some, on_i32, going_on, storing, within, operation, unless_zero, trap, grown, next}
+use Rattle.wasm_core.specs.MachineStep.{after_end, BlockLabel, Frame, Store, Conf, State, At, act, arm, branch, jump, leave, back, leave_block, at_end, call, tail_call, on_entry, call_entry, same_func_type, frame_of, has_value, enter, on_some, on_i32, going_on, storing, within, operation, unless_zero, trap, grown, next}
 use Rattle.wasm_core.specs.Runs.{store_of}
 use Rattle.wasm_core.proofs.Bits.{put_byte_length, put_word_length}
 use Rattle.wasm_core.proofs.Gives.{Gives, g_some, g_if, a_i32, a_one, a_taking}
@@ -51,12 +51,15 @@ module _ (m : Parts) (g : Bool) (c : Conf) (K : Store → Type 0) (keeps : Keeps
   calls : (k : Func) (vals : List ConstValue) (rest : List Instr) → Gives P (call c k vals rest)
   calls k vals rest = g_if P (nat_le (length k.type.params) (length vals)) (Some (At (record { store = c.store; current = frame_of k vals; callers = record c.current { operands = drop (length k.type.params) vals; rest = rest } ∷ c.callers }))) None (λ e. keeps.same) tt
 
-  entries : (t : FuncType) (o : Option (Option ℕ)) (vals : List ConstValue) (rest : List Instr) → Gives P (call_entry m t o vals rest c)
-  entries t None vals rest = keeps.same
-  entries t (Some None) vals rest = keeps.same
-  entries t (Some (Some f)) vals rest =
-      g_some P (func_of m f) (λ k. if same_func_type t k.type then call c k vals rest else trap kind.IndirectType c)
-      (λ k e. g_if P (same_func_type t k.type) (call c k vals rest) (trap kind.IndirectType c) (λ s. calls k vals rest) keeps.same)
+  tail_calls : (k : Func) (vals : List ConstValue) → Gives P (tail_call c k vals)
+  tail_calls k vals = g_if P (nat_le (length k.type.params) (length vals)) (Some (At (record c { current = frame_of k vals }))) None (λ e. keeps.same) tt
+
+  entries : (t : FuncType) (o : Option (Option ℕ)) (go : Func → Option State) → ((k : Func) → Gives P (go k)) → Gives P (on_entry m t o c go)
+  entries t None go h = keeps.same
+  entries t (Some None) go h = keeps.same
+  entries t (Some (Some f)) go h =
+      g_some P (func_of m f) (λ k. if same_func_type t k.type then go k else trap kind.IndirectType c)
+      (λ k e. g_if P (same_func_type t k.type) (go k) (trap kind.IndirectType c) (λ s. h k) keeps.same)
 
   accesses : (end : ℕ) (go : Option State) → Gives P go → Gives P (within end c go)
   accesses end go k = g_if P (nat_le end (length c.store.memory)) go (trap kind.OutOfBounds c) (λ e. k) keeps.same
@@ -90,7 +93,11 @@ module _ (m : Parts) (g : Bool) (c : Conf) (K : Store → Type 0) (keeps : Keeps
   acts (Call f) rest = g_some P (func_of m f) (λ k. call c k c.current.operands rest) (λ k e. calls k c.current.operands rest)
   acts (CallIndirect index table) rest =
       g_some P (slice_get m.types index) (λ t. on_i32 c.current.operands (λ x operands. call_entry m t (slice_get (table_of m) x) operands rest c))
-      (λ t e. a_i32 P c.current.operands (λ x operands. call_entry m t (slice_get (table_of m) x) operands rest c) (λ x vals. entries t (slice_get (table_of m) x) vals rest))
+      (λ t e. a_i32 P c.current.operands (λ x operands. call_entry m t (slice_get (table_of m) x) operands rest c) (λ x vals. entries t (slice_get (table_of m) x) (λ k. call c k vals rest) (λ k. calls k vals rest)))
+  acts (ReturnCall f) rest = g_some P (func_of m f) (λ k. tail_call c k c.current.operands) (λ k e. tail_calls k c.current.operands)
+  acts (ReturnCallIndirect index table) rest =
+      g_some P (slice_get m.types index) (λ t. on_i32 c.current.operands (λ x operands. on_entry m t (slice_get (table_of m) x) c (λ k. tail_call c k operands)))
+      (λ t e. a_i32 P c.current.operands (λ x operands. on_entry m t (slice_get (table_of m) x) c (λ k. tail_call c k operands)) (λ x vals. entries t (slice_get (table_of m) x) (λ k. tail_call c k vals) (λ k. tail_calls k vals)))
   acts Drop rest = a_one P c.current.operands (λ x operands. going_on c operands rest) (λ x vals. keeps.same)
   acts (LocalGet x) rest = g_some P (slice_get c.current.locals x) (λ v. going_on c (v ∷ c.current.operands) rest) (λ y e. keeps.same)
   acts (LocalSet x) rest =

@@ -81,6 +81,8 @@ instr_longer (instructions.BrTable l ls) w = let h = u32_longer l w in let g = l
 instr_longer instructions.Return w = omega arith
 instr_longer (instructions.Call n) w = let h = u32_longer n w in omega (arith, h)
 instr_longer (instructions.CallIndirect index table) w = let h = u32_longer table w in let g = u32_longer index (put_u32 table w) in omega (arith, h, g)
+instr_longer (instructions.ReturnCall n) w = let h = u32_longer n w in omega (arith, h)
+instr_longer (instructions.ReturnCallIndirect index table) w = let h = u32_longer table w in let g = u32_longer index (put_u32 table w) in omega (arith, h, g)
 instr_longer instructions.Drop w = omega arith
 instr_longer (instructions.LocalGet n) w = let h = u32_longer n w in omega (arith, h)
 instr_longer (instructions.LocalSet n) w = let h = u32_longer n w in omega (arith, h)

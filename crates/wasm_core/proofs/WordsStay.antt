@@ -14,13 +14,13 @@ use Rattle.wasm_core.specs.declared.types.ConstValue.TheVariants.{I32, I64}
 use Rattle.wasm_core.specs.declared.instrs.Body.{Body}
 use Rattle.wasm_core.specs.declared.instrs.I32Op.{I32Op}
 use Rattle.wasm_core.specs.declared.instrs.Instr.{Instr}
-use Rattle.wasm_core.specs.declared.instrs.Instr.TheVariants.{Unreachable, Nop, Block, Loop, If, Else, End, Br, BrIf, BrTable, Return, Call, CallIndirect, Drop, LocalGet, LocalSet, LocalTee, GlobalGet, GlobalSet, I32Load, I32Load8U, I32Store, I32Store8, MemorySize, MemoryGrow, I32Const, I64Const, I32 as Operation}
+use Rattle.wasm_core.specs.declared.instrs.Instr.TheVariants.{Unreachable, Nop, Block, Loop, If, Else, End, Br, BrIf, BrTable, Return, Call, CallIndirect, ReturnCall, ReturnCallIndirect, Drop, LocalGet, LocalSet, LocalTee, GlobalGet, GlobalSet, I32Load, I32Load8U, I32Store, I32Store8, MemorySize, MemoryGrow, I32Const, I64Const, I32 as Operation}
 use Rattle.wasm_core.specs.declared.ended.TrapKind.TheVariants as kind
 use Rattle.wasm_core.specs.Parts.{Parts}
 use Rattle.wasm_core.specs.Memory.{byte, word, put_byte, put_word, zeroed}
 use Rattle.wasm_core.specs.Arithmetic.{is_unary, unary, binary}
 use Rattle.wasm_core.specs.Instance.{Func, func_of, func_with, least, greatest_pages, table_of, zero_of}
-use Rattle.wasm_core.specs.MachineStep.{Bracket, Opens, Divides, Closes, Plain, bracket, past_end, after_end, to_else, else_arm, BlockLabel, Frame, Store, Conf, State, At, Over, step, act, arm, branch, jump, leave, back, leave_block, at_end, call, call_entry, same_func_type, frame_of, has_value, enter, on_some, on_i32, going_on, storing, within, operation, unless_zero, trap, grown, StepsTo, Reach}
+use Rattle.wasm_core.specs.MachineStep.{Bracket, Opens, Divides, Closes, Plain, bracket, past_end, after_end, to_else, else_arm, BlockLabel, Frame, Store, Conf, State, At, Over, step, act, arm, branch, jump, leave, back, leave_block, at_end, call, tail_call, on_entry, call_entry, same_func_type, frame_of, has_value, enter, on_some, on_i32, going_on, storing, within, operation, unless_zero, trap, grown, StepsTo, Reach}
 use Rattle.wasm_core.specs.ModuleTyping.{AreLimits}
 use Rattle.wasm_core.specs.Runs.{first_store}
 use Rattle.wasm_core.specs.HostStore.{start_in, main_start_in}
@@ -150,27 +150,35 @@ module _ (m : Parts) (hm : HasWords m) (g : Bool) where
   branches : (c : Conf) → IsConf c → (l : ℕ) (vals : List ConstValue) → Each IsWord vals → Gives IsWordy (branch c l vals)
   branches c h l vals v = jumps c h l vals v (slice_get c.current.labels l) refl
 
+  -- the frame of a function that is called
+  called : (f : ℕ) (k : Func) → func_of m f ≡ Some k → (vals : List ConstValue) → Each IsWord vals → IsFrame (frame_of k vals)
+  called f k e vals v = record {
+    locals = each_append IsWord (reverse (take (length k.type.params) vals)) (map zero_of k.body.locals) (each_reverse IsWord (take (length k.type.params) vals) (each_take IsWord (length k.type.params) vals v)) (each_map IsWord zero_of k.body.locals
+        (each_all (λ t. IsWord (zero_of t)) zero_word k.body.locals));
+    labels = tt;
+    operands = tt;
+    rest = hm.bodies f k.body (body_of m f k e);
+  }
+
   calls : (c : Conf) → IsConf c → (f : ℕ) (k : Func) → func_of m f ≡ Some k → (vals : List ConstValue) (rest : List Instr) → Each IsWord vals → Each HasWord rest → Gives IsWordy (call c k vals rest)
   calls c h f k e vals rest v r =
       g_if IsWordy (nat_le (length k.type.params) (length vals)) (Some (At (record { store = c.store; current = frame_of k vals; callers = record c.current { operands = drop (length k.type.params) vals; rest = rest } ∷ c.callers }))) None
       (λ t. record {
         store = h.store;
-        current = record {
-          locals = each_append IsWord (reverse (take (length k.type.params) vals)) (map zero_of k.body.locals) (each_reverse IsWord (take (length k.type.params) vals) (each_take IsWord (length k.type.params) vals v)) (each_map IsWord zero_of k.body.locals
-              (each_all (λ t. IsWord (zero_of t)) zero_word k.body.locals));
-          labels = tt;
-          operands = tt;
-          rest = hm.bodies f k.body (body_of m f k e);
-        };
+        current = called f k e vals v;
         callers = (record { locals = h.current.locals; labels = h.current.labels; operands = each_drop IsWord (length k.type.params) vals v; rest = r }, h.callers);
       }) tt
 
-  entries : (c : Conf) → IsConf c → (t : FuncType) (o : Option (Option ℕ)) (vals : List ConstValue) (rest : List Instr) → Each IsWord vals → Each HasWord rest → Gives IsWordy (call_entry m t o vals rest c)
-  entries c h t None vals rest v r = h.store
-  entries c h t (Some None) vals rest v r = h.store
-  entries c h t (Some (Some f)) vals rest v r =
-      g_some IsWordy (func_of m f) (λ k. if same_func_type t k.type then call c k vals rest else trap kind.IndirectType c)
-      (λ k e. g_if IsWordy (same_func_type t k.type) (call c k vals rest) (trap kind.IndirectType c) (λ s. calls c h f k e vals rest v r) h.store)
+  tail_calls : (c : Conf) → IsConf c → (f : ℕ) (k : Func) → func_of m f ≡ Some k → (vals : List ConstValue) → Each IsWord vals → Gives IsWordy (tail_call c k vals)
+  tail_calls c h f k e vals v =
+      g_if IsWordy (nat_le (length k.type.params) (length vals)) (Some (At (record c { current = frame_of k vals }))) None (λ t. record { store = h.store; current = called f k e vals v; callers = h.callers }) tt
+
+  entries : (c : Conf) → IsConf c → (t : FuncType) (o : Option (Option ℕ)) (go : Func → Option State) → ((f : ℕ) (k : Func) → func_of m f ≡ Some k → Gives IsWordy (go k)) → Gives IsWordy (on_entry m t o c go)
+  entries c h t None go q = h.store
+  entries c h t (Some None) go q = h.store
+  entries c h t (Some (Some f)) go q =
+      g_some IsWordy (func_of m f) (λ k. if same_func_type t k.type then go k else trap kind.IndirectType c)
+      (λ k e. g_if IsWordy (same_func_type t k.type) (go k) (trap kind.IndirectType c) (λ s. q f k e) h.store)
 
   grows : (c : Conf) → IsConf c → (n : ℕ) (vals : List ConstValue) (rest : List Instr) → Each IsWord vals → Each HasWord rest → Gives IsWordy (grown m g n vals rest c)
   grows c h n vals rest v r =
@@ -232,7 +240,12 @@ module _ (m : Parts) (hm : HasWords m) (g : Bool) where
   acts (CallIndirect index table) rest c h p r =
       g_some IsWordy (slice_get m.types index) (λ t. on_i32 c.current.operands (λ x operands. call_entry m t (slice_get (table_of m) x) operands rest c))
       (λ t e. g_i32 IsWordy c.current.operands (λ x operands. call_entry m t (slice_get (table_of m) x) operands rest c) h.current.operands
-      (λ x vals q v. entries c h t (slice_get (table_of m) x) vals rest v r))
+      (λ x vals q v. entries c h t (slice_get (table_of m) x) (λ k. call c k vals rest) (λ f k e. calls c h f k e vals rest v r)))
+  acts (ReturnCall f) rest c h p r = g_some IsWordy (func_of m f) (λ k. tail_call c k c.current.operands) (λ k e. tail_calls c h f k e c.current.operands h.current.operands)
+  acts (ReturnCallIndirect index table) rest c h p r =
+      g_some IsWordy (slice_get m.types index) (λ t. on_i32 c.current.operands (λ x operands. on_entry m t (slice_get (table_of m) x) c (λ k. tail_call c k operands)))
+      (λ t e. g_i32 IsWordy c.current.operands (λ x operands. on_entry m t (slice_get (table_of m) x) c (λ k. tail_call c k operands)) h.current.operands
+      (λ x vals q v. entries c h t (slice_get (table_of m) x) (λ k. tail_call c k vals) (λ f k e. tail_calls c h f k e vals v)))
   acts Drop rest c h p r = g_one IsWordy c.current.operands (λ x operands. going_on c operands rest) h.current.operands (λ x vals q v. goes_on c h vals rest v r)
   acts (LocalGet x) rest c h p r =
       g_some IsWordy (slice_get c.current.locals x) (λ v. going_on c (v ∷ c.current.operands) rest)

@@ -11,7 +11,7 @@ use Rattle.wasm_core.specs.declared.instrs.BlockType.{BlockType}
 use Rattle.wasm_core.specs.declared.instrs.BlockType.TheVariants.{Empty, Value}
 use Rattle.wasm_core.specs.declared.instrs.I32Op.{I32Op}
 use Rattle.wasm_core.specs.declared.instrs.Instr.{Instr}
-use Rattle.wasm_core.specs.declared.instrs.Instr.TheVariants.{Unreachable, Nop, Block, Loop, If, Else, End, Br, BrIf, BrTable, Return, Call, CallIndirect, Drop, LocalGet, LocalSet, LocalTee, GlobalGet, GlobalSet, I32Load, I32Load8U, I32Store, I32Store8, MemorySize, MemoryGrow, I32Const, I64Const, I32 as Operation}
+use Rattle.wasm_core.specs.declared.instrs.Instr.TheVariants.{Unreachable, Nop, Block, Loop, If, Else, End, Br, BrIf, BrTable, Return, Call, CallIndirect, ReturnCall, ReturnCallIndirect, Drop, LocalGet, LocalSet, LocalTee, GlobalGet, GlobalSet, I32Load, I32Load8U, I32Store, I32Store8, MemorySize, MemoryGrow, I32Const, I64Const, I32 as Operation}
 use Rattle.wasm_core.specs.declared.ended.Ended.{Ended}
 use Rattle.wasm_core.specs.declared.ended.Ended.TheVariants.{Returned, Trapped}
 use Rattle.wasm_core.specs.declared.ended.TrapKind.{TrapKind}
@@ -200,6 +200,10 @@ call c g operands rest =
     }))
     else None
 
+-- a function is called in place of the one that runs, whose labels and frame go
+abbrev pub tail_call : Conf → Func → List ConstValue → Option State
+tail_call c g operands = if nat_le (length g.type.params) (length operands) then Some (At (record c { current = frame_of g operands })) else None
+
 abbrev pub same_type : ValType → ValType → Bool
 same_type type.I32 type.I32 = true
 same_type type.I32 type.I64 = false
@@ -222,12 +226,15 @@ same_result (Some s) (Some t) = same_type s t
 abbrev pub same_func_type : FuncType → FuncType → Bool
 same_func_type s t = same_types s.params t.params && same_result s.result t.result
 
--- an entry of the table is called, where it is a function of this type
+-- what is done with an entry of the table, where it is a function of this type
+abbrev pub on_entry : Parts → FuncType → Option (Option ℕ) → Conf → (Func → Option State) → Option State
+on_entry m t None c go = trap kind.UndefinedElement c
+on_entry m t (Some None) c go = trap kind.UninitializedElement c
+on_entry m t (Some (Some f)) c go = on_some (func_of m f) (λ g. if same_func_type t g.type then go g else trap kind.IndirectType c)
+
+-- an entry of the table is called
 abbrev pub call_entry : Parts → FuncType → Option (Option ℕ) → List ConstValue → List Instr → Conf → Option State
-call_entry m t None operands rest c = trap kind.UndefinedElement c
-call_entry m t (Some None) operands rest c = trap kind.UninitializedElement c
-call_entry m t (Some (Some f)) operands rest c =
-    on_some (func_of m f) (λ g. if same_func_type t g.type then call c g operands rest else trap kind.IndirectType c)
+call_entry m t entry operands rest c = on_entry m t entry c (λ g. call c g operands rest)
 
 -- an access to so many bytes of memory
 abbrev pub within : ℕ → Conf → Option State → Option State
@@ -261,6 +268,9 @@ act m granted Return rest c = leave c c.current.operands
 act m granted (Call f) rest c = on_some (func_of m f) (λ g. call c g c.current.operands rest)
 act m granted (CallIndirect index table) rest c =
     on_some (slice_get m.types index) (λ t. on_i32 c.current.operands (λ x operands. call_entry m t (slice_get (table_of m) x) operands rest c))
+act m granted (ReturnCall f) rest c = on_some (func_of m f) (λ g. tail_call c g c.current.operands)
+act m granted (ReturnCallIndirect index table) rest c =
+    on_some (slice_get m.types index) (λ t. on_i32 c.current.operands (λ x operands. on_entry m t (slice_get (table_of m) x) c (λ g. tail_call c g operands)))
 act m granted Drop rest c = on_one c.current.operands (λ x operands. going_on c operands rest)
 act m granted (LocalGet x) rest c = on_some (slice_get c.current.locals x) (λ v. going_on c (v ∷ c.current.operands) rest)
 act m granted (LocalSet x) rest c =

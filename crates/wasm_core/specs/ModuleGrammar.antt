@@ -139,7 +139,8 @@ abbrev pub opcodes : List (ℕ × Row)
 opcodes =
     (0, Plain instructions.Unreachable) ∷ (1, Plain instructions.Nop) ∷ (2, Typed instructions.Block) ∷ (3, Typed instructions.Loop) ∷ (4, Typed instructions.If) ∷
     (5, Plain instructions.Else) ∷ (11, Plain instructions.End) ∷ (12, Index instructions.Br) ∷ (13, Index instructions.BrIf) ∷ (14, Table (λ ls l. instructions.BrTable l ls)) ∷
-    (15, Plain instructions.Return) ∷ (16, Index instructions.Call) ∷ (17, Pair instructions.CallIndirect) ∷ (26, Plain instructions.Drop) ∷ (32, Index instructions.LocalGet) ∷
+    (15, Plain instructions.Return) ∷ (16, Index instructions.Call) ∷ (17, Pair instructions.CallIndirect) ∷
+    (18, Index instructions.ReturnCall) ∷ (19, Pair instructions.ReturnCallIndirect) ∷ (26, Plain instructions.Drop) ∷ (32, Index instructions.LocalGet) ∷
     (33, Index instructions.LocalSet) ∷ (34, Index instructions.LocalTee) ∷ (35, Index instructions.GlobalGet) ∷ (36, Index instructions.GlobalSet) ∷
     (40, Accessing instructions.I32Load) ∷ (45, Accessing instructions.I32Load8U) ∷ (54, Accessing instructions.I32Store) ∷ (58, Accessing instructions.I32Store8) ∷
     (63, Zeroed instructions.MemorySize) ∷ (64, Zeroed instructions.MemoryGrow) ∷ (65, Bits instructions.I32Const) ∷ (66, LongBits instructions.I64Const) ∷ []

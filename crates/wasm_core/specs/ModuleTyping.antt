@@ -13,7 +13,7 @@ use Rattle.wasm_core.specs.declared.instrs.BlockType.{BlockType}
 use Rattle.wasm_core.specs.declared.instrs.BlockType.TheVariants.{Empty, Value}
 use Rattle.wasm_core.specs.declared.instrs.Access.{Access}
 use Rattle.wasm_core.specs.declared.instrs.Instr.{Instr}
-use Rattle.wasm_core.specs.declared.instrs.Instr.TheVariants.{Unreachable, Nop, Block, Loop, If, Else, End, Br, BrIf, BrTable, Return, Call, CallIndirect, Drop, LocalGet, LocalSet, LocalTee, GlobalGet, GlobalSet, I32Load, I32Load8U, I32Store, I32Store8, MemorySize, MemoryGrow, I32Const, I64Const, I32 as Operation}
+use Rattle.wasm_core.specs.declared.instrs.Instr.TheVariants.{Unreachable, Nop, Block, Loop, If, Else, End, Br, BrIf, BrTable, Return, Call, CallIndirect, ReturnCall, ReturnCallIndirect, Drop, LocalGet, LocalSet, LocalTee, GlobalGet, GlobalSet, I32Load, I32Load8U, I32Store, I32Store8, MemorySize, MemoryGrow, I32Const, I64Const, I32 as Operation}
 use Rattle.wasm_core.specs.declared.instrs.Body.{Body}
 use Rattle.wasm_core.specs.declared.exports.Export.{Export}
 use Rattle.wasm_core.specs.declared.exports.ExportKind.{ExportKind}
@@ -82,6 +82,10 @@ calling t = (reverse t.params, results_of t)
 abbrev pub calling_entry : FuncType → Effect
 calling_entry t = (I32 ∷ reverse t.params, results_of t)
 
+-- a call of an entry of the table, the only one, by the type with this index
+abbrev pub entry_effect : Parts → ℕ → ℕ → Option Effect
+entry_effect m index table = option_and_then (λ t. when (nat_eq table 0 && is_some m.table) (calling_entry t)) (slice_get m.types index)
+
 -- an access to memory, whose alignment may be at most its natural one
 abbrev pub accessing : Parts → ℕ → Access → Effect → Option Effect
 accessing m most a e = when (is_some m.memory && nat_le a.align most) e
@@ -95,8 +99,7 @@ operating false = (I32 ∷ I32 ∷ [], I32 ∷ [])
 abbrev pub effect : Parts → OperandTypes → Instr → Option Effect
 effect m locals Nop = Some ([], [])
 effect m locals (Call f) = option_map calling (func_type m f)
-effect m locals (CallIndirect index table) =
-    option_and_then (λ t. when (nat_eq table 0 && is_some m.table) (calling_entry t)) (slice_get m.types index)
+effect m locals (CallIndirect index table) = entry_effect m index table
 effect m locals (LocalGet x) = option_map getting (slice_get locals x)
 effect m locals (LocalSet x) = option_map setting (slice_get locals x)
 effect m locals (LocalTee x) = option_map keeping (slice_get locals x)
@@ -113,6 +116,12 @@ effect m locals (I64Const n) = Some ([], I64 ∷ [])
 effect m locals (Operation op) = Some (operating (is_unary op))
 effect m locals _ = None
 
+-- what a tail call takes off the operands, and the results of its callee
+abbrev pub tail_effect : Parts → Instr → Option Effect
+tail_effect m (ReturnCall f) = option_map calling (func_type m f)
+tail_effect m (ReturnCallIndirect index table) = entry_effect m index table
+tail_effect m _ = None
+
 -- a label's types are matched by these operands
 pub record Reaches (labels : List OperandTypes) (l : ℕ) (os : Operands) : Type 0 where
   pub wanted : OperandTypes
@@ -123,17 +132,26 @@ pub record Reaches (labels : List OperandTypes) (l : ℕ) (os : Operands) : Type
 -- these types along, the innermost first, the code leads from operands of the types ts to operands of the types us
 pub data Typed (m : Parts) (locals results : OperandTypes) : List OperandTypes → Operands → List Instr → Operands → Type 0 where
   done : {labels : List OperandTypes} {ts : Operands} → Typed m locals results labels ts [] ts
-  plain : {labels : List OperandTypes} {us : Operands} {pops pushes : OperandTypes} (os ts : Operands) {i : Instr} {rest : List Instr} → effect m locals i ≡ Some (pops, pushes) → Match os pops → Typed m locals results labels (known pushes ++ ts) rest us → Typed m locals results labels (os ++ ts) (i ∷ rest) us
+  plain : {labels : List OperandTypes} {us : Operands} {pops pushes : OperandTypes} (os ts : Operands) {i : Instr} {rest : List Instr} → effect m locals i ≡ Some (pops, pushes) → Match os pops →
+      Typed m locals results labels (known pushes ++ ts) rest us → Typed m locals results labels (os ++ ts) (i ∷ rest) us
   drop : {labels : List OperandTypes} {t : OperandType} {ts us : Operands} {rest : List Instr} → Typed m locals results labels ts rest us → Typed m locals results labels (t ∷ ts) (Drop ∷ rest) us
   unreachable : {labels : List OperandTypes} {ts any us : Operands} {rest : List Instr} → Typed m locals results labels any rest us → Typed m locals results labels ts (Unreachable ∷ rest) us
-  block : {labels : List OperandTypes} {ts ends us : Operands} {b : BlockType} {body rest : List Instr} → Typed m locals results (left_by b ∷ labels) [] body ends → Match ends (left_by b) → Typed m locals results labels (known (left_by b) ++ ts) rest us → Typed m locals results labels ts (Block b ∷ (body ++ End ∷ rest)) us
-  loop : {labels : List OperandTypes} {ts ends us : Operands} {b : BlockType} {body rest : List Instr} → Typed m locals results ([] ∷ labels) [] body ends → Match ends (left_by b) → Typed m locals results labels (known (left_by b) ++ ts) rest us → Typed m locals results labels ts (Loop b ∷ (body ++ End ∷ rest)) us
-  one_arm : {labels : List OperandTypes} {o : OperandType} {ts us : Operands} {body rest : List Instr} → Match (o ∷ []) (I32 ∷ []) → Typed m locals results ([] ∷ labels) [] body [] → Typed m locals results labels ts rest us → Typed m locals results labels (o ∷ ts) (If Empty ∷ (body ++ End ∷ rest)) us
-  two_arms : {labels : List OperandTypes} {o : OperandType} {ts first_ends second_ends us : Operands} {b : BlockType} {first second rest : List Instr} → Match (o ∷ []) (I32 ∷ []) → Typed m locals results (left_by b ∷ labels) [] first first_ends → Match first_ends (left_by b) → Typed m locals results (left_by b ∷ labels) [] second second_ends → Match second_ends (left_by b) → Typed m locals results labels (known (left_by b) ++ ts) rest us → Typed m locals results labels (o ∷ ts) (If b ∷ (first ++ Else ∷ (second ++ End ∷ rest))) us
+  block : {labels : List OperandTypes} {ts ends us : Operands} {b : BlockType} {body rest : List Instr} → Typed m locals results (left_by b ∷ labels) [] body ends → Match ends (left_by b) →
+      Typed m locals results labels (known (left_by b) ++ ts) rest us → Typed m locals results labels ts (Block b ∷ (body ++ End ∷ rest)) us
+  loop : {labels : List OperandTypes} {ts ends us : Operands} {b : BlockType} {body rest : List Instr} → Typed m locals results ([] ∷ labels) [] body ends → Match ends (left_by b) →
+      Typed m locals results labels (known (left_by b) ++ ts) rest us → Typed m locals results labels ts (Loop b ∷ (body ++ End ∷ rest)) us
+  one_arm : {labels : List OperandTypes} {o : OperandType} {ts us : Operands} {body rest : List Instr} → Match (o ∷ []) (I32 ∷ []) → Typed m locals results ([] ∷ labels) [] body [] → Typed m locals results labels ts rest us →
+      Typed m locals results labels (o ∷ ts) (If Empty ∷ (body ++ End ∷ rest)) us
+  two_arms : {labels : List OperandTypes} {o : OperandType} {ts first_ends second_ends us : Operands} {b : BlockType} {first second rest : List Instr} → Match (o ∷ []) (I32 ∷ []) →
+      Typed m locals results (left_by b ∷ labels) [] first first_ends → Match first_ends (left_by b) → Typed m locals results (left_by b ∷ labels) [] second second_ends → Match second_ends (left_by b) →
+      Typed m locals results labels (known (left_by b) ++ ts) rest us → Typed m locals results labels (o ∷ ts) (If b ∷ (first ++ Else ∷ (second ++ End ∷ rest))) us
   br : {labels : List OperandTypes} {any us : Operands} (os ts : Operands) {l : ℕ} {rest : List Instr} → Reaches labels l os → Typed m locals results labels any rest us → Typed m locals results labels (os ++ ts) (Br l ∷ rest) us
-  br_if : {labels : List OperandTypes} {o : OperandType} {us : Operands} (os ts : Operands) {l : ℕ} {rest : List Instr} → Match (o ∷ []) (I32 ∷ []) → (r : Reaches labels l os) → Typed m locals results labels (known r.wanted ++ ts) rest us → Typed m locals results labels (o ∷ (os ++ ts)) (BrIf l ∷ rest) us
-  br_table : {labels : List OperandTypes} {o : OperandType} {any us : Operands} (os ts : Operands) {ls : List ℕ} {l : ℕ} {rest : List Instr} → Match (o ∷ []) (I32 ∷ []) → ((i k : ℕ) → slice_get ls i ≡ Some k → Reaches labels k os) → Reaches labels l os → Typed m locals results labels any rest us → Typed m locals results labels (o ∷ (os ++ ts)) (BrTable l ls ∷ rest) us
+  br_if : {labels : List OperandTypes} {o : OperandType} {us : Operands} (os ts : Operands) {l : ℕ} {rest : List Instr} → Match (o ∷ []) (I32 ∷ []) → (r : Reaches labels l os) → Typed m locals results labels (known r.wanted ++ ts) rest us →
+      Typed m locals results labels (o ∷ (os ++ ts)) (BrIf l ∷ rest) us
+  br_table : {labels : List OperandTypes} {o : OperandType} {any us : Operands} (os ts : Operands) {ls : List ℕ} {l : ℕ} {rest : List Instr} → Match (o ∷ []) (I32 ∷ []) → ((i k : ℕ) → slice_get ls i ≡ Some k → Reaches labels k os) →
+      Reaches labels l os → Typed m locals results labels any rest us → Typed m locals results labels (o ∷ (os ++ ts)) (BrTable l ls ∷ rest) us
   return : {labels : List OperandTypes} {any us : Operands} (os ts : Operands) {rest : List Instr} → Match os results → Typed m locals results labels any rest us → Typed m locals results labels (os ++ ts) (Return ∷ rest) us
+  tail_call : {labels : List OperandTypes} {any us : Operands} {pops : OperandTypes} (os ts : Operands) {i : Instr} {rest : List Instr} → tail_effect m i ≡ Some (pops, results) → Match os pops → Typed m locals results labels any rest us → Typed m locals results labels (os ++ ts) (i ∷ rest) us
 
 -- a body: instructions that lead from no operands to the results, where a branch out of the body takes the results along, and its own end
 pub record TypedBody (m : Parts) (locals results : OperandTypes) (code : List Instr) : Type 0 where

@@ -3,10 +3,10 @@ use Rattle.std.specs.Prelude.{ℕ, length, ◌&&◌, nat_eq, is_some, List, [], 
 use Rattle.wasm_core.specs.declared.types.ValType.{ValType}
 use Rattle.wasm_core.specs.declared.types.ValType.TheVariants.{I32, I64}
 use Rattle.wasm_core.specs.declared.instrs.Instr.{Instr}
-use Rattle.wasm_core.specs.declared.instrs.Instr.TheVariants.{Unreachable, Block, Loop, If, Else, End, Br, BrIf, BrTable, Return, Drop}
+use Rattle.wasm_core.specs.declared.instrs.Instr.TheVariants.{Unreachable, Block, Loop, If, Else, End, Br, BrIf, BrTable, Return, ReturnCall, ReturnCallIndirect, Drop}
 use Rattle.wasm_core.specs.Parts.{Parts}
-use Rattle.wasm_core.specs.MachineStep.{on_some}
-use Rattle.wasm_core.specs.ModuleTyping.{OperandTypes, effect, left_by}
+use Rattle.wasm_core.specs.MachineStep.{on_some, same_types}
+use Rattle.wasm_core.specs.ModuleTyping.{OperandTypes, Effect, effect, tail_effect, left_by}
 
 -- the operands of the innermost block, the topmost first; where it is loose, any others may lie below them
 pub record Known : Type 0 where
@@ -105,6 +105,10 @@ abbrev pub fit_labels : List OperandTypes → ℕ → Known → List ℕ → Boo
 fit_labels labels n k [] = true
 fit_labels labels n k (l ∷ ls) = fits_label (slice_get labels l) n k && fit_labels labels n k ls
 
+-- a tail call with this effect, in a function with these results
+abbrev pub check_tail : OperandTypes → Option Effect → Place → Option Check
+check_tail rs o a = on_some o (λ e. only (same_types e.1 rs) (on_some (off e.0 a.now) (λ k. Some (dead a))))
+
 -- one instruction
 abbrev pub check : Parts → OperandTypes → OperandTypes → Instr → Place → Option Check
 check m ls rs Unreachable a = Some (dead a)
@@ -120,6 +124,8 @@ check m ls rs (BrIf l) a =
 check m ls rs (BrTable l js) a =
     on_some (slice_get (labels_of rs a.ctls) l) (λ lt. on_some (off (I32 ∷ []) a.now) (λ k. on_some (off lt k) (λ j. only (fit_labels (labels_of rs a.ctls) (length lt) k js) (Some (dead a)))))
 check m ls rs Return a = on_some (off rs a.now) (λ k. Some (dead a))
+check m ls rs (ReturnCall f) a = check_tail rs (tail_effect m (ReturnCall f)) a
+check m ls rs (ReturnCallIndirect index table) a = check_tail rs (tail_effect m (ReturnCallIndirect index table)) a
 check m ls rs i a = on_some (effect m ls i) (λ e. on_some (off e.0 a.now) (λ k. Some (More (record a { now = put_on e.1 k }))))
 
 abbrev pub passes : Option Check → (Place → Type 0) → Type 0 → Type 0

@@ -33,8 +33,10 @@ mutual
 
   pub data Tail (m : Parts) (ls rs : OperandTypes) : List BlockLabel → List OperandTypes → Operands → List Instr → Type 0 where
     fin : {us : Operands} → Match us rs → Tail m ls rs [] (rs ∷ []) us (End ∷ [])
-    by_end : {k : BlockLabel} {ks : List BlockLabel} {lt ends : OperandTypes} {us : Operands} {labels : List OperandTypes} {after : List Instr} (below : Operands) → Takes k.keeps lt → HaveTypes k.below below → Goes m ls rs ks labels (known lt ++ below) k.goes_on → Match us ends → Goes m ls rs ks labels (known ends ++ below) after → Tail m ls rs (k ∷ ks) (lt ∷ labels) us (End ∷ after)
-    by_else : {k : BlockLabel} {ks : List BlockLabel} {lt : OperandTypes} {us : Operands} {labels : List OperandTypes} {other : List Instr} (below : Operands) → Takes k.keeps lt → HaveTypes k.below below → Goes m ls rs ks labels (known lt ++ below) k.goes_on → Match us lt → Tail m ls rs (k ∷ ks) (lt ∷ labels) us (Else ∷ other)
+    by_end : {k : BlockLabel} {ks : List BlockLabel} {lt ends : OperandTypes} {us : Operands} {labels : List OperandTypes} {after : List Instr} (below : Operands) → Takes k.keeps lt → HaveTypes k.below below →
+        Goes m ls rs ks labels (known lt ++ below) k.goes_on → Match us ends → Goes m ls rs ks labels (known ends ++ below) after → Tail m ls rs (k ∷ ks) (lt ∷ labels) us (End ∷ after)
+    by_else : {k : BlockLabel} {ks : List BlockLabel} {lt : OperandTypes} {us : Operands} {labels : List OperandTypes} {other : List Instr} (below : Operands) → Takes k.keeps lt → HaveTypes k.below below →
+        Goes m ls rs ks labels (known lt ++ below) k.goes_on → Match us lt → Tail m ls rs (k ∷ ks) (lt ∷ labels) us (Else ∷ other)
 
 -- the function that runs, where res is what a call that it waits for will put on its operands
 pub record Runs (m : Parts) (a : Frame) (ls rs res : OperandTypes) : Type 0 where

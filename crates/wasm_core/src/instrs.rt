@@ -47,7 +47,7 @@ pub enum I32Op {
 
 /// An instruction, under the standard's name. Indices count from 0 in the module's order. A constant keeps its bits.
 /// `BrTable` has the labels for the indices from 0 up, and before them the one for all others, since fields lie in memory in the order of the
-/// source; `CallIndirect` has a type index and then a table index.
+/// source; `CallIndirect` and `ReturnCallIndirect` have a type index and then a table index.
 #[derive(Drop)]
 pub enum Instr {
     Unreachable,
@@ -63,6 +63,8 @@ pub enum Instr {
     Return,
     Call(u32),
     CallIndirect(u32, u32),
+    ReturnCall(u32),
+    ReturnCallIndirect(u32, u32),
     Drop,
     LocalGet(u32),
     LocalSet(u32),

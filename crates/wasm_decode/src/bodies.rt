@@ -80,6 +80,12 @@ fn instr(alloc: Global, c: &mut Cursor, may_else: bool) -> Result<Instr, DecodeF
             let table = u32(c)?;
             Ok(Instr::CallIndirect(ty, table))
         }
+        0x12 => Ok(Instr::ReturnCall(u32(c)?)),
+        0x13 => {
+            let ty = u32(c)?;
+            let table = u32(c)?;
+            Ok(Instr::ReturnCallIndirect(ty, table))
+        }
         0x1A => Ok(Instr::Drop),
         0x20 => Ok(Instr::LocalGet(u32(c)?)),
         0x21 => Ok(Instr::LocalSet(u32(c)?)),

@@ -1,20 +1,19 @@
 -- The test that makes sure that memory reaches the heap's end.
-use Rattle.std.proofs.Common.{◌≡◌, ℕ, suc, ◌+◌, ◌-◌, ◌*◌, ◌^◌, ◌<◌, ◌≤◌, List, ◌∷◌, Option, Some, Bool, false, refl, ap, arith}
+use Rattle.std.proofs.Common.{◌≡◌, ℕ, suc, ◌+◌, ◌-◌, ◌*◌, ◌^◌, ◌<◌, ◌≤◌, List, ◌∷◌, Option, Some, Bool, false, refl, ap, ◌∙◌, arith}
 use Rattle.std.proofs.lemmas.Bool.{cases_lt}
 use Rattle.std.specs.Prelude.{slice_get, ◌⊎◌}
 use Rattle.std.specs.Option.{option_and_then}
 use Rattle.std.proofs.Common.{inl, inr}
 use Rattle.std.proofs.Common.{length, ◌++◌, length-append}
-use Rattle.wasm_emit.proofs.Bytes.{more_same, zeroed_length}
+use Rattle.wasm_emit.proofs.Bytes.{Mem, word_same, more_same, zeroed_length}
 use Rattle.wasm_emit.proofs.Holds.{Same}
-use Rattle.wasm_emit.proofs.Bytes.{Mem}
 use Rattle.wasm_core.specs.declared.types.ConstValue.{ConstValue}
 use Rattle.wasm_core.specs.declared.types.ConstValue.TheVariants.{I32}
 use Rattle.wasm_core.specs.declared.instrs.Instr.{Instr}
 use Rattle.wasm_core.specs.declared.instrs.I32Op.TheVariants as op32
 use Rattle.wasm_core.specs.declared.instrs.Instr.TheVariants.{Unreachable, End, Call, GlobalGet, GlobalSet, I32 as Operation}
 use Rattle.wasm_core.specs.declared.entries.Entry.TheVariants.{Status}
-use Rattle.wasm_core.specs.Memory.{zeroed}
+use Rattle.wasm_core.specs.Memory.{word, zeroed}
 use Rattle.wasm_core.specs.Parts.{Parts}
 use Rattle.wasm_core.specs.Instance.{func_of, greatest_pages}
 use Rattle.wasm_core.specs.Entries.{index_of}
@@ -76,3 +75,7 @@ module _ (M : Parts) (fixed : HasRunTime M) (cap : Limits) (Q : State → Type 0
           (r_heap M cap Q (omega arith) (r_size M cap Q (omega arith) (r_const M cap Q (omega arith) 16 (r_bytes M cap Q (omega arith) (omega (arith, room.pages, fixed.small))
           (r_gt_no M cap Q (omega arith) enough (r_if_not M cap Q (omega arith) (r_end M cap Q {k = label} (omega arith) (k m p (λ x lt. refl) room.long room.pages enough (omega (arith, room.tight))))))))))
           (omega arith) (omega arith)
+
+-- where memory is the same below the end of the heap, its first word is too
+pub low_word : {M : Parts} (m m' : Mem) {p h : ℕ} → Room M m p h → Same h m m' → word m 0 ≡ 0 → word m' 0 ≡ 0
+low_word m m' room same nil = word_same m m' 0 (λ x a b. same x (omega (arith, room.above))) ∙ nil

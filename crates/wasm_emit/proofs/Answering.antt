@@ -1,80 +1,17 @@
--- Every run of an emitted module answers main's data, or is exhausted.
-use Rattle.std.proofs.Common.{◌≡◌, ℕ, suc, ◌+◌, ◌*◌, ◌<◌, ◌≤◌, List, [], ◌∷◌, length, Option, Some, None, Bool, true, false, refl, ap, ◌∙◌, inl, inr, arith, le-leb}
-use Rattle.std.specs.Prelude.{slice_get, ◌⊎◌, ◌&&◌, if◌then◌else◌}
-use Rattle.std.specs.Option.{option_and_then}
-use Rattle.wasm_core.specs.declared.types.ConstValue.TheVariants.{I32}
-use Rattle.wasm_core.specs.declared.instrs.Instr.TheVariants.{GlobalSet, End}
-use Rattle.wasm_core.specs.declared.entries.Entry.TheVariants.{Main}
+-- From runs that end one way to runs that end another, and greater bounds.
+use Rattle.std.proofs.Common.{ℕ, ◌+◌, ◌*◌, ◌≤◌, arith}
 use Rattle.wasm_core.specs.Parts.{Parts}
-use Rattle.wasm_core.specs.Memory.{zeroed}
-use Rattle.wasm_core.specs.Instance.{Func, segments_fit}
 use Rattle.wasm_core.specs.MachineStep.{State}
-use Rattle.wasm_core.specs.Entries.{index_of, from_nothing}
-use Rattle.wasm_core.specs.Runs.{start, start_at, main_start}
-use Rattle.wasm_core.specs.Answer.{Answers, answers, Exhausted, exhausted, IsAtEnd}
+use Rattle.wasm_core.specs.Answer.{Exhausted, exhausted, AnswersWithin}
+use Rattle.wasm_core.specs.WordData.{DataNodes as Nodes}
 use Rattle.wasm_core.specs.RunTree.{Within as Tree, now, gone, moves}
-use Rattle.wasm_core.proofs.Rules as rule
-use Rattle.wasm_core.proofs.Trees.{tree_tells, tree_answers}
-use Rattle.closure_lift.specs.Lifted.{Program, Val, Vals, VNil, LiftedAnswers as Evaluates, answers_alone}
+use Rattle.closure_lift.specs.Lifted.{Program, Val, VNil, LiftedAnswers as Evaluates, answers_alone}
 use Rattle.closure_lift.specs.Lifted as lifted
-use Rattle.anf_convert.specs.AnfData.{DataTree}
-use Rattle.closure_lift.specs.LiftKeeps.{IsData}
-use Rattle.wasm_emit.specs.EmittedLocals.{top}
-use Rattle.wasm_emit.specs.EmittedModule.{type_main, main_function, main_index, module_of}
-use Rattle.anf_convert.specs.Preorder.{preorder}
-use Rattle.wasm_emit.specs.EmitLaws.{Finished, finished, Spent, spent, EmitAnswers}
-use Rattle.wasm_emit.proofs.Bytes.{zeroed_word, zeroed_length}
-use Rattle.wasm_emit.proofs.Holds.{env_nil}
-use Rattle.wasm_emit.proofs.Rules.{Limits, Within, zeros, looser}
-use Rattle.wasm_emit.proofs.Indices.{main_in, main_at, entries_length}
-use Rattle.wasm_emit.proofs.Read.{reads}
-use Rattle.wasm_emit.proofs.Staged.{staged}
+use Rattle.wasm_emit.specs.EmitLaws.{Spent, spent}
 use Rattle.wasm_emit.proofs.Source.{Gets}
-use Rattle.wasm_emit.proofs.Follows.{zeros_length, follows}
-
--- the state in which runs start
-abbrev pub first_of : Program → ℕ → State
-first_of P pages = start (module_of P pages) (record { type = type_main; body = main_function P })
-
-pub starts : (P : Program) (pages : ℕ) → main_start (module_of P pages) ≡ Some (first_of P pages)
-starts P pages =
-    let n = suc (length P.functions) in
-    let fits : segments_fit (module_of P pages) ≡ true = ap (λ (b : Bool). b && true) (le-leb _ _ (omega (arith, entries_length 1 n))) in
-    let exported : index_of Main (module_of P pages) ≡ Some (main_index P) = ap (λ (o : Option ℕ). option_and_then (λ index. option_and_then (λ t. from_nothing t.params t.result (main_index P)) (slice_get (module_of P pages).types index)) o) (main_in P (λ f. 2) (λ t. 1) 0) in
-    ap (λ (b : Bool). if b then option_and_then (λ f. start_at (module_of P pages) f) (index_of Main (module_of P pages)) else None) fits
-    ∙ ap (option_and_then (λ f. start_at (module_of P pages) f)) exported
-    ∙ ap (option_and_then (λ (g : Func). Some (start (module_of P pages) g))) (main_at P (main_function P) [] [] pages)
 
 pub alone : {P : Program} {w : ℕ} {v : Val} {c k b l : ℕ} → Evaluates P w VNil v c k b l → lifted.Gets P w VNil P.main v c k b l
 alone (answers_alone g) = g
-
--- the tree of all runs
-whole : (P : Program) (pages w m D : ℕ) (v : Val) (d : DataTree) (c k b s : ℕ) → 0 < pages → pages ≤ 16384 → 0 < m → Gets P w m false D VNil P.main v c k b s → IsData v d →
-    Within (module_of P pages) (record { frames = D + 1; bytes = 8 + 4 * s; more = [] }) (Finished (module_of P pages) (preorder d) (8 + 4 * s)) k (64 * (b + c + 1) * (w + m)) (first_of P pages)
-whole P pages w m D v d c k b s pos small some g is =
-    let M = module_of P pages in
-    let cap : Limits = record { frames = D + 1; bytes = 8 + 4 * s; more = [] } in
-    let Q = Finished M (preorder d) (8 + 4 * s) in
-    let y = (follows P (main_function P) [] [] pages small w m some cap Q g).sim (zeroed 1) 1 8 (zeros (top 0 P.main)) 0 [] (record {
-      long = zeroed_length 1;
-      q = 2;
-      aligned = refl;
-      above = omega arith;
-      fits = omega arith;
-      inside = omega
-          (arith, zeroed_length 1);
-      tight = omega arith;
-      pages = omega arith;
-    }) zeroed_word env_nil (omega (arith, zeros_length (top 0 P.main))) (omega arith) in
-    looser M cap Q (y.run (record { keeps = false; labels = []; callers = [] }) [] (GlobalSet 0 ∷ End ∷ []) 0 2 (64 * (w + m) * (c + b) + 4) (omega arith) (omega arith)
-    (λ m' p' h' ls' w' e room same keeps st.
-    looser M cap Q {l = 2} {u = 2} (rule.r_set_global M cap.frames Q (Spent M cap.bytes) {x = 0} {old = I32 0} {v = I32 w'} (omega arith) refl
-    (rule.r_over M cap.frames Q (Spent M cap.bytes) (now (finished (record { status = refl; word = w'; result = refl; stands = reads room.inside st is }) (ap (λ (n : ℕ). Some (I32 n)) e) (omega (arith, room.tight)))))) (omega arith) (omega arith))
-    (λ z. cc)) (omega arith) (omega arith)
-
-pub at_end : (m : Parts) (bytes : ℕ) (d : List (ℕ × ℕ)) (t : State) → Finished m d bytes t ⊎ Spent m bytes t → IsAtEnd m t
-at_end m bytes d t (inl (finished h x y)) granted u s = s
-at_end m bytes d t (inr (spent h x)) granted u s = s
 
 -- other ends
 pub forget : {m : Parts} {frames : ℕ} {Q R E F : State → Type 0} → ((t : State) → Q t → R t) → ((t : State) → E t → F t) → {least most : ℕ} {t : State} → Tree m frames Q E least most t → Tree m frames R F least most t
@@ -82,21 +19,12 @@ forget f g (now {s = s} q) = now (f s q)
 forget f g (gone {s = s} e) = gone (g s e)
 forget f g (moves s t deep le x y j k) = moves s t deep le x y (forget f g j) (forget f g k)
 
-pub has_answered : (m : Parts) (bytes : ℕ) (d : List (ℕ × ℕ)) (t : State) → Finished m d bytes t → Answers m d t
-has_answered m bytes d t (finished h x y) = answers h
-
 pub is_exhausted : (m : Parts) (bytes : ℕ) (t : State) → Spent m bytes t → Exhausted m t
 is_exhausted m bytes t (spent h x) = exhausted h
 
-pub emit_answers : EmitAnswers
-emit_answers P pages w m v d c k b s pos small some form limits run is =
-    let M = module_of P pages in
-    let y = staged P w m form limits 0 false form.main (alone run) in
-    let tree = whole P pages w m y.D v d c k b s pos small some y.gets is in
-    record {
-      first = first_of P pages;
-      starts = starts P pages;
-      depth = y.D;
-      run = λ n t r. tree_tells M (y.D + 1) k (64 * (b + c + 1) * (w + m)) (Finished M (preorder d) (8 + 4 * s)) (Spent M (8 + 4 * s)) (first_of P pages) (at_end M (8 + 4 * s) (preorder d)) tree n t r;
-      always = tree_answers M (y.D + 1) k (64 * (b + c + 1) * (w + m)) (preorder d) (first_of P pages) (starts P pages) (forget (has_answered M (8 + 4 * s) (preorder d)) (is_exhausted M (8 + 4 * s)) tree);
-    }
+pub steps : (b c' z x : ℕ) → 64 * (b + c' + 1) * x ≤ 64 * (b + (c' + z) + 1) * x
+steps b c' z x = omega arith
+
+-- a greater bound
+pub longer : {m : Parts} {l u : ℕ} {d : Nodes} → l ≤ u → AnswersWithin m l d → AnswersWithin m u d
+longer le a = record { first = a.first; starts = a.starts; bounded = λ k t r. omega (arith, a.bounded k t r); answers = a.answers }

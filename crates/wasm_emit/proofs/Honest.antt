@@ -8,7 +8,7 @@ use Rattle.wasm_core.specs.declared.types.ConstValue.TheVariants.{I32, I64}
 use Rattle.wasm_core.specs.declared.instrs.I32Op.{I32Op}
 use Rattle.wasm_core.specs.declared.instrs.I32Op.TheVariants as op32
 use Rattle.wasm_core.specs.declared.instrs.Instr.{Instr}
-use Rattle.wasm_core.specs.declared.instrs.Instr.TheVariants.{Unreachable, Nop, Block, Loop, If, Else, End, Br, BrIf, BrTable, Return, Call, CallIndirect, Drop, LocalGet, LocalSet, LocalTee, GlobalGet, GlobalSet, I32Load, I32Load8U, I32Store, I32Store8, MemorySize, MemoryGrow, I32Const, I64Const, I32 as Operation}
+use Rattle.wasm_core.specs.declared.instrs.Instr.TheVariants.{Unreachable, Nop, Block, Loop, If, Else, End, Br, BrIf, BrTable, Return, Call, CallIndirect, ReturnCall, ReturnCallIndirect, Drop, LocalGet, LocalSet, LocalTee, GlobalGet, GlobalSet, I32Load, I32Load8U, I32Store, I32Store8, MemorySize, MemoryGrow, I32Const, I64Const, I32 as Operation}
 use Rattle.wasm_core.specs.Parts.{Parts}
 use Rattle.wasm_core.specs.Arithmetic.{flag, is_unary}
 use Rattle.wasm_core.specs.Instance.{Func, func_of, table_of, greatest_pages}
@@ -235,6 +235,8 @@ module _ (m : Parts) (funcs : (f : ℕ) (g : Func) → func_of m f ≡ Some g �
     honest_act (BrIf x) vals rest all n w = absurd n
     honest_act (BrTable x xs) vals rest all n w = absurd n
     honest_act Return vals rest all n w = absurd n
+    honest_act (ReturnCall f) vals rest all n w = absurd n
+    honest_act (ReturnCallIndirect index table) vals rest all n w = absurd n
     honest_act Drop vals rest all n w = absurd n
     honest_act (I32Load8U a) vals rest all n w = absurd n
     honest_act (I32Store8 a) vals rest all n w = absurd n

@@ -1,8 +1,9 @@
--- The bodies of all functions, one after another.
+-- The bodies of functions, from what was pushed, one after another.
 use Rattle.std.proofs.Common.{◌≡◌, ℕ, ◌+◌, ◌-◌, ◌<◌, ◌≤◌, List, [], ◌∷◌, ◌++◌, length, map, drop, get_or, reverse, ap, sym, subst, inl, inr, ◌∙◌, arith}
 use Rattle.std.proofs.Math.ListN.{drop_of_length-le}
 use Rattle.std.proofs.lemmas.List.{append_assoc, length-reverse}
-use Rattle.closure_lift.specs.Lifted.{Block, Fn, Program}
+use Rattle.std.specs.Prelude.{Result, Ok, Err, IfOk}
+use Rattle.closure_lift.specs.Lifted.{Block, Fn}
 use Rattle.closure_lift.specs.LiftedProgram.{renumber, renumber_functions, place_in, lifted_of}
 use Rattle.closure_lift.specs.LiftedView.{functions_of}
 use Rattle.closure_lift.specs.declared.program.Function.{Function}
@@ -10,9 +11,10 @@ use Rattle.closure_lift.specs.declared.program.Lifted.{Lifted}
 use Rattle.closure_lift.specs.declared.program.LiftedConstant.{LiftedConstant}
 use Rattle.wasm_core.specs.ModuleCondition.{All}
 use Rattle.wasm_core.specs.declared.instrs.Body.{Body}
+use Rattle.wasm_core.specs.declared.instrs.Instr.{Instr}
 use Rattle.wasm_emit.specs.EmittedLocals.{top}
-use Rattle.wasm_emit.specs.EmittedModule.{room_function, box_function, function, constant}
-use Rattle.wasm_emit.specs.EmittedBodies.{bodies_before_main, bodies_with, FewInFunction, FewInBlock, FewBeforeMain, FewLocals, MemoryOrNot}
+use Rattle.wasm_emit.specs.EmittedModule.{body}
+use Rattle.wasm_emit.specs.EmittedBodies.{FewInFunction, FewInBlock, FewLocals, MemoryOrNot}
 use Rattle.wasm_emit.specs.Pushed.{function_in, MemoryOrLocals}
 use Rattle.wasm_emit.specs.declared.fault.EmitFault.{EmitFault}
 use Rattle.wasm_emit.proofs.Pushing.{top_renumbered, constant_next, next_of}
@@ -24,6 +26,14 @@ functions_in Q fs = renumber_functions (place_in Q.constants) (functions_of fs)
 abbrev pub constants_in : Lifted → List LiftedConstant → List Block
 constants_in Q cs = map (λ (c : LiftedConstant). renumber (place_in Q.constants) c.body) cs
 
+-- what was made is the same as this
+pub same_made : (r : Result Body EmitFault) (a b : Body) → a ≡ b → IfOk r (λ x. x ≡ a) → IfOk r (λ x. x ≡ b)
+same_made (Ok x) a b e h = h ∙ e
+same_made (Err f) a b e h = h
+
+pub same_body : (n k : ℕ) (is js : List Instr) → n ≡ k → is ≡ js → body n is ≡ body k js
+same_body n k is js a b = ap (λ (i : ℕ). body i is) a ∙ ap (λ (zs : List Instr). body k zs) b
+
 -- one body more
 pub one_more : (v w : List Body) (a b : Body) (rest out : List Body) → w ≡ v ++ a ∷ [] → a ≡ b → v ++ (b ∷ rest) ≡ out → w ++ rest ≡ out
 one_more v w a b rest out more e inv =
@@ -33,11 +43,6 @@ one_more v w a b rest out more e inv =
 module _ (Q : Lifted) (items : List Function) (i : ℕ) (f : Function) (lt : i < length items) (is : f ≡ get_or items i f) where
   next_function : functions_in Q (drop i items) ≡ function_in Q f ∷ functions_in Q (drop (i + 1) items)
   next_function = ap (λ (fs : List Function). functions_in Q fs) (next_of items i f lt is)
-
-  pub functions_more : (a : Body) (v w out : List Body) → a ≡ function (lifted_of Q) (function_in Q f) → w ≡ v ++ a ∷ [] → v ++ map (function (lifted_of Q)) (functions_in Q (drop i items)) ≡ out → w ++ map (function (lifted_of Q)) (functions_in Q (drop (i + 1) items)) ≡ out
-  functions_more a v w out e more inv =
-      one_more v w a (function (lifted_of Q) (function_in Q f)) (map (function (lifted_of Q)) (functions_in Q (drop (i + 1) items))) out more e
-      (sym (ap (λ (fs : List Fn). v ++ map (function (lifted_of Q)) fs) next_function) ∙ inv)
 
   few_renumbered : top 2 (renumber (place_in Q.constants) f.body) - 2 ≡ top 2 f.body - 2
   few_renumbered = ap (λ (k : ℕ). k - 2) (top_renumbered (place_in Q.constants) 2 f.body)
@@ -58,12 +63,6 @@ module _ (Q : Lifted) (items : List Function) (i : ℕ) (f : Function) (lt : i <
 module _ (Q : Lifted) (slice : List LiftedConstant) (k : ℕ) (c : LiftedConstant) (same : reverse slice ≡ Q.constants) (lt : k < length slice) (is : c ≡ get_or slice (length slice - 1 - k) c) where
   next_constant : constants_in Q (drop k Q.constants) ≡ renumber (place_in Q.constants) c.body ∷ constants_in Q (drop (k + 1) Q.constants)
   next_constant = ap (λ (cs : List LiftedConstant). constants_in Q cs) (constant_next slice Q.constants k c same lt is)
-
-  pub constants_more : (a : Body) (v w out : List Body) → a ≡ constant (lifted_of Q) (renumber (place_in Q.constants) c.body) → w ≡ v ++ a ∷ [] → v ++ map (constant (lifted_of Q)) (constants_in Q (drop k Q.constants)) ≡ out → w ++ map (constant (lifted_of Q)) (constants_in Q
-      (drop (k + 1) Q.constants)) ≡ out
-  constants_more a v w out e more inv =
-      one_more v w a (constant (lifted_of Q) (renumber (place_in Q.constants) c.body)) (map (constant (lifted_of Q)) (constants_in Q (drop (k + 1) Q.constants))) out more e
-      (sym (ap (λ (ts : List Block). v ++ map (constant (lifted_of Q)) ts) next_constant) ∙ inv)
 
   pub constants_few : {T : Type 0} → top 0 c.body ≤ 50000 → (All FewInBlock (constants_in Q (drop k Q.constants)) → T) → All FewInBlock (constants_in Q (drop (k + 1) Q.constants)) → T
   constants_few {T} le inv all =
@@ -87,27 +86,3 @@ refused_more {A} {B} e f (inr x) = inr (x.0, λ b. x.1 (f b))
 pub main_refused : (Q : Lifted) (e : EmitFault) → MemoryOrLocals e (top 0 Q.main) → MemoryOrNot e (FewLocals (lifted_of Q))
 main_refused Q e (inl x) = inl x
 main_refused Q e (inr x) = inr (x.0, λ few. let h : top 0 (renumber (place_in Q.constants) Q.main) ≤ 50000 = few.main in omega (arith, h, x.1, top_renumbered (place_in Q.constants) 0 Q.main))
-
--- the bodies before main, one part after another
-pub before_made : (P : Program) (v0 v1 v2 v3 v4 : List Body) (a b : Body) → v0 ≡ [] → v1 ≡ v0 ++ a ∷ [] → a ≡ room_function → v2 ≡ v1 ++ b ∷ [] → b ≡ box_function → v3 ≡ v2 ++ map (function P) P.functions → v4 ≡ v3 ++ map (constant P) P.constants →
-    v4 ≡ bodies_before_main P
-before_made P v0 v1 v2 v3 v4 a b e0 e1 ea e2 eb e3 e4 =
-    let fs : List Body = map (function P) P.functions in
-    let cs : List Body = map (constant P) P.constants in
-    let w2 : v2 ≡ room_function ∷ box_function ∷ [] =
-    e2 ∙ ap (λ (zs : List Body). zs ++ b ∷ []) (e1 ∙ ap (λ (zs : List Body). zs ++ a ∷ []) e0) ∙ ap (λ (x : Body). a ∷ x ∷ []) eb ∙ ap (λ (x : Body). x ∷ box_function ∷ []) ea in
-    e4 ∙ ap (λ (zs : List Body). zs ++ cs) (e3 ∙ ap (λ (zs : List Body). zs ++ fs) w2)
-
--- main's body behind them
-pub bodies_made : (P : Program) (main : Body) (v w : List Body) (m : Body) → v ≡ bodies_before_main P → w ≡ v ++ m ∷ [] → m ≡ main → w ≡ bodies_with P main
-bodies_made P main v w m e0 e1 em =
-    let fs : List Body = map (function P) P.functions in
-    let cs : List Body = map (constant P) P.constants in
-    e1 ∙ ap (λ (zs : List Body). zs ++ m ∷ []) e0 ∙ ap (λ (zs : List Body). room_function ∷ box_function ∷ zs) (append_assoc fs cs (m ∷ [])) ∙ ap (λ (x : Body). room_function ∷ box_function ∷ (fs ++ (cs ++ x ∷ []))) em
-
--- main too has few locals
-pub few_locals : (Q : Lifted) → FewBeforeMain (lifted_of Q) → top 0 Q.main ≤ 50000 → FewLocals (lifted_of Q)
-few_locals Q few le = record { functions = few.functions; constants = few.constants; main = omega (arith, le, top_renumbered (place_in Q.constants) 0 Q.main) }
-
-pub before_refused : (Q : Lifted) (e : EmitFault) → MemoryOrNot e (FewBeforeMain (lifted_of Q)) → MemoryOrNot e (FewLocals (lifted_of Q))
-before_refused Q e h = refused_more {A = FewBeforeMain (lifted_of Q)} {B = FewLocals (lifted_of Q)} e (λ x. record { functions = x.functions; constants = x.constants }) h

@@ -1,6 +1,8 @@
 -- The rules of the machine at the stores of an emitted module: three globals, of which the first two are 0 until main returns, and no refused grow.
-use Rattle.std.proofs.Common.{◌≡◌, ℕ, suc, ◌+◌, ◌-◌, ◌*◌, ◌%◌, ◌^◌, ◌<◌, ◌≤◌, List, [], ◌∷◌, ◌++◌, length, map, replicate, Some, Bool, true, false, refl, arith}
+use Rattle.std.proofs.Common.{◌≡◌, ℕ, suc, ◌+◌, ◌-◌, ◌*◌, ◌%◌, ◌^◌, ◌<◌, ◌≤◌, List, [], ◌∷◌, ◌++◌, length, map, replicate, Some, Bool, true, false, refl, ◌∙◌, arith}
+use Rattle.std.proofs.lemmas.List.{length-replicate}
 use Rattle.std.specs.Prelude.{slice_get, slice_set}
+use Rattle.wasm_core.specs.declared.types.ValType.{ValType}
 use Rattle.wasm_core.specs.declared.types.ValType.TheVariants as type
 use Rattle.wasm_core.specs.declared.types.FuncType.{FuncType}
 use Rattle.wasm_core.specs.declared.types.ConstValue.{ConstValue}
@@ -20,6 +22,7 @@ use Rattle.wasm_emit.specs.EmittedCode.{Load, StoreWord as Put, ConstWord}
 use Rattle.wasm_emit.specs.EmittedModule.{body, type_main, type_constant, type_function}
 use Rattle.wasm_emit.specs.EmitLaws.{Spent}
 use Rattle.wasm_emit.proofs.Bytes.{Mem}
+use Rattle.wasm_emit.proofs.Indices.{length_map}
 
 -- what bounds a whole run: its waiting frames, and the bytes of its blocks; and the further globals, which stay
 pub record Limits : Type 0 where
@@ -59,6 +62,9 @@ returned cap callers m p h w = rule.returned callers (store cap m p h) (I32 w)
 -- locals that are zeros
 abbrev pub zeros : ℕ → List ConstValue
 zeros n = map zero_of (replicate n type.I32)
+
+pub zeros_length : (n : ℕ) → length (zeros n) ≡ n
+zeros_length n = length_map zero_of (replicate n type.I32) ∙ length-replicate {A = ValType} n type.I32
 
 -- a function of n locals besides its parameters
 abbrev pub func : FuncType → ℕ → List Instr → Func

@@ -1,5 +1,6 @@
 -- Lifted programs, and their evaluation with the limits and the call depth that emission asks for.
-use Rattle.std.specs.Prelude.{◌≡◌, ℕ, suc, ◌+◌, ◌<◌, ◌≤◌, List, [], ◌∷◌, length, Some, Bool, true, false, slice_get}
+use Rattle.std.proofs.Common.{◌≡◌, ℕ, suc, ◌+◌, ◌<◌, ◌≤◌, List, [], ◌∷◌, length, Some, Bool, true, false, refl, ap}
+use Rattle.std.specs.Prelude.{slice_get}
 pub use Rattle.anf_convert.specs.declared.program.Atom.{Atom}
 pub use Rattle.anf_convert.specs.declared.program.Atom.TheVariants.{Var as AVar, Box as ABox, Empty as AEmpty}
 pub use Rattle.closure_lift.specs.Lifted.{Op, OConst, OApp, OCon, OClos, OCase, Block, RetAtom, LetAtom, Ret, Let, BranchBlocks, BNil, BCons, Fn, Program, Val, VBox, VCon, VClos, Vals, VNil, VCons, lookup, size, ◌+v◌, many, BranchAt, branch_here, branch_after}
@@ -12,6 +13,10 @@ pub data Is (e : Vals) : Atom → Val → Type 0 where
 pub data AllAre (e : Vals) : List Atom → Vals → Type 0 where
   are_none : AllAre e [] VNil
   are_more : {a : Atom} {v : Val} {as' : List Atom} {vs : Vals} → Is e a v → AllAre e as' vs → AllAre e (a ∷ as') (VCons v vs)
+
+pub all_size : {e : Vals} {as' : List Atom} {vs : Vals} → AllAre e as' vs → size vs ≡ length as'
+all_size are_none = refl
+all_size (are_more h hs) = ap suc (all_size hs)
 
 -- `Does P w m e op v c k b s`: the operation gives the value, with c contractions, of which k are matches, and b blocks
 -- of s words in all, where no block has over w words and no match over m branches

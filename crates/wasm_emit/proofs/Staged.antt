@@ -1,15 +1,13 @@
 -- An evaluation of a lifted program of the form has the limits that emission asks for, and a call depth.
-use Rattle.std.proofs.Common.{ℕ, zero, suc, ◌+◌, ◌≤◌, List, [], ◌∷◌, length, Bool, true, false, arith}
+use Rattle.std.proofs.Common.{ℕ, zero, suc, ◌+◌, ◌≤◌, List, length, Bool, true, false, arith}
 use Rattle.std.proofs.lemmas.Option.{slice_get_within}
 use Rattle.std.specs.Prelude.{max}
 use Rattle.anf_convert.specs.declared.program.Atom.{Atom}
-use Rattle.anf_convert.specs.declared.program.Atom.TheVariants.{Var as AVar, Box as ABox, Empty as AEmpty}
-use Rattle.closure_lift.specs.Lifted.{Op, OConst, OApp, OCon, OClos, OCase, Block, RetAtom, LetAtom, Ret, Let, BranchBlocks, BNil, BCons, Fn, Program, Val, VBox, VCon, VClos, Vals, VNil, VCons, size, ◌+v◌, many, BranchAt, branch_here, branch_after}
+use Rattle.closure_lift.specs.Lifted.{Op, Block, Let, BranchBlocks, Program, Val, Vals, VCons, BranchAt, branch_here, branch_after}
 use Rattle.closure_lift.specs.Lifted as lifted
 use Rattle.anf_convert.specs.AnfForm.{AtomFits, AtomsFit}
 use Rattle.closure_lift.specs.LiftedForm.{OpFits, LiftedBlockFits, BranchesFit, Formed, Limits}
 use Rattle.wasm_emit.proofs.Source.{Applies, applies_alone, applies_more, Is, is_var, is_box, is_empty, AllAre, are_none, are_more, Does, do_const, do_app, do_box_app, do_con, do_clos, do_case, Gets, gets_atom, gets_let_atom, gets_ret, gets_let}
-use Rattle.wasm_emit.proofs.Scoped.{AtomOk, AtomsOk, OpOk, BlockOk, BranchesOk, ProgramOk}
 
 pub atom_is : (n : ℕ) {e : Vals} {a : Atom} {v : Val} → AtomFits n a → lifted.Is e a v → Is e a v
 atom_is n fit (lifted.is_var at) = is_var at
@@ -95,39 +93,3 @@ module _ (P : Program) (w m : ℕ) (ok : Formed P m) (limits : Limits P) where
       let x = staged_all h in
       let y = staged_op P w m ok limits 2 false (omega arith, omega arith) d in
       record { D = max x.D y.D; applies = applies_more (raise_all x.applies (max x.D y.D) (omega arith)) (raise_op P w m y.does (max x.D y.D) (omega arith)) }
-
--- names in scope
-atom_scoped : (n : ℕ) (a : Atom) → AtomFits n a → AtomOk n a
-atom_scoped n (AVar i) h = h
-atom_scoped n ABox h = tt
-atom_scoped n (AEmpty c) h = tt
-
-atoms_scoped : (n : ℕ) (as' : List Atom) → AtomsFit n as' → AtomsOk n as'
-atoms_scoped n [] h = tt
-atoms_scoped n (a ∷ as') h = (atom_scoped n a h.0, atoms_scoped n as' h.1)
-
-module _ (P : Program) (m : ℕ) where
-  mutual
-    op_scoped : (n : ℕ) (op : Op) → OpFits P.functions (length P.constants) m n op → OpOk P n op
-    op_scoped n (OConst x) h = h
-    op_scoped n (OApp f a) h = (atom_scoped n f h.0, atom_scoped n a h.1)
-    op_scoped n (OCon c as') h = atoms_scoped n as' h.3
-    op_scoped n (OClos g as') h = atoms_scoped n as' h.1
-    op_scoped n (OCase a bs) h = (atom_scoped n a h.0, branches_scoped n bs h.2)
-
-    pub block_scoped : (n : ℕ) (t : Block) → LiftedBlockFits P.functions (length P.constants) m n t → BlockOk P n t
-    block_scoped n (RetAtom a) h = atom_scoped n a h
-    block_scoped n (LetAtom a t) h = (atom_scoped n a h.0, block_scoped (suc n) t h.1)
-    block_scoped n (Ret op) h = op_scoped n op h
-    block_scoped n (Let op t) h = (op_scoped n op h.0, block_scoped (suc n) t h.1)
-
-    branches_scoped : (n : ℕ) (bs : BranchBlocks) → BranchesFit P.functions (length P.constants) m n bs → BranchesOk P n bs
-    branches_scoped n BNil h = tt
-    branches_scoped n (BCons j t bs) h = (block_scoped (j + n) t h.1, branches_scoped n bs h.2)
-
-pub scoped : (P : Program) (m : ℕ) → Formed P m → ProgramOk P
-scoped P m ok = record {
-  functions = λ g fn at. block_scoped P m (suc fn.captured) fn.body (ok.functions g fn at);
-  constants = λ x t at. block_scoped P m 0 t (ok.constants x t at);
-  main = block_scoped P m 0 P.main ok.main;
-}

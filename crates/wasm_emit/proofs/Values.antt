@@ -1,6 +1,6 @@
 -- Words that stand for values.
-use Rattle.std.specs.Prelude.{◌≡◌, ℕ, suc, ◌+◌, ◌*◌, ◌<◌, ◌≤◌}
-use Rattle.wasm_emit.proofs.Source.{Val, VBox, VCon, VClos, Vals, VNil, VCons, size}
+use Rattle.std.proofs.Common.{◌≡◌, ℕ, suc, ◌+◌, ◌*◌, ◌<◌, ◌≤◌, refl, ap}
+use Rattle.wasm_emit.proofs.Source.{Val, VBox, VCon, VClos, Vals, VNil, VCons, size, ◌+v◌}
 use Rattle.wasm_core.specs.Memory.{word}
 use Rattle.wasm_core.specs.WordData.{IsBelow}
 use Rattle.wasm_emit.proofs.Bytes.{Mem}
@@ -22,3 +22,23 @@ mutual
 pub data ArgsAt (m : Mem) (limit a : ℕ) : Vals → Type 0 where
   args_none : ArgsAt m limit a VNil
   args_more : {v : Val} {vs : Vals} → Stands m limit (word m (a + 4 * size vs)) v → a + 4 * suc (size vs) ≤ limit → ArgsAt m limit a vs → ArgsAt m limit a (VCons v vs)
+
+-- what the word of a closure says
+pub record Closure (m : Mem) (h w g : ℕ) (vs : Vals) : Type 0 where
+  pub within : w + 4 * suc (size vs) ≤ h
+  pub head : word m w ≡ suc g
+  pub fields : Fields m h w vs
+
+pub closure : {m : Mem} {h w g : ℕ} {vs : Vals} → Stands m h w (VClos g vs) → Closure m h w g vs
+closure (s_clos q lt e pos within head fs) = record { within = within; head = head; fields = fs }
+
+pub box_word : {m : Mem} {h w : ℕ} → Stands m h w VBox → w ≡ 0
+box_word (s_box e) = e
+
+-- the word of the last argument
+pub top_arg : {m : Mem} {l a : ℕ} {v : Val} {vs : Vals} → ArgsAt m l a (VCons v vs) → Stands m l (word m (a + 4 * size vs)) v
+top_arg (args_more h within args) = h
+
+pub append_nil : (vs : Vals) → vs +v VNil ≡ vs
+append_nil VNil = refl
+append_nil (VCons v vs) = ap (VCons v) (append_nil vs)

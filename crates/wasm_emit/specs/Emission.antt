@@ -8,10 +8,6 @@ use Rattle.closure_lift.specs.Lifted.{Program}
 use Rattle.closure_lift.specs.LiftedForm.{functions, Formed, Limits as IsWithin}
 use Rattle.wasm_core.specs.declared.exports.Export.{Export}
 use Rattle.wasm_core.specs.declared.exports.ExportKind.TheVariants as kind
-use Rattle.wasm_core.specs.declared.instrs.Body.{Body}
-use Rattle.wasm_core.specs.declared.types.GlobalDef.{GlobalDef}
-use Rattle.wasm_core.specs.Parts.{Parts}
-use Rattle.wasm_emit.specs.EmittedModule.{module_of}
 
 -- names are in scope, and counts are within the limits
 pub record Emits (P : Program) : Type 0 where
@@ -30,7 +26,3 @@ abbrev pub exports_with : ℕ → List Export
 exports_with i =
     record { name = codes "main"; kind = kind.Func; index = i } ∷ record { name = codes "memory"; kind = kind.Memory; index = 0 } ∷
     record { name = codes "result"; kind = kind.Global; index = 0 } ∷ record { name = codes "status"; kind = kind.Global; index = 1 } ∷ []
-
--- the parts of a module with these bodies, globals and exports, whose memory may have at most so many pages
-abbrev pub parts_with : Program → List Body → List GlobalDef → List Export → ℕ → Parts
-parts_with P bodies globals exports pages = record (module_of P pages) { bodies = bodies; globals = globals; exports = exports }

@@ -4,10 +4,7 @@ pub mod EmittedLocals
 pub mod EmittedModule
 pub mod CallModule
 pub mod EmitLaws
-pub mod AnfLaws
-pub mod Weight
 pub mod CallLaws
 pub mod Pushed
 pub mod EmittedBodies
 pub mod Emission
-pub mod NormalWeight

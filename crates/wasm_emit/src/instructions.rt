@@ -1,16 +1,13 @@
-//! Instructions in front of what comes after them: atoms, and blocks of memory.
-ghost use Rattle.std.specs.Prelude.{◌≡◌, ◌∷◌, ◌+◌, ◌*◌, IfOk, IfErr, OnOk, length, reverse};
+//! Instructions in front of what comes after them, and the words of blocks of memory.
+ghost use Rattle.std.specs.Prelude.{◌≡◌, ◌∷◌, ◌+◌, ◌*◌, IfOk, IfErr, OnOk};
 ghost use Rattle.wasm_core.specs.declared.instrs.I32Op.TheVariants as op32;
 ghost use Rattle.wasm_core.specs.declared.instrs.Instr.TheVariants as instr;
-ghost use Rattle.wasm_emit.specs.EmittedCode.{Load, StoreWord, ConstWord, read, atom, fill, ensure_room, block};
-ghost use Rattle.wasm_emit.specs.Pushed.{Pushed};
+ghost use Rattle.wasm_emit.specs.EmittedCode.{Load, StoreWord, ConstWord, IfWord, ensure_room};
+ghost use Rattle.wasm_emit.specs.Pushed.{Pushed, ends};
 ghost use Rattle.wasm_emit.specs.declared.fault.EmitFault.TheVariants.{Memory};
 
 use crate::fault::EmitFault;
-use crate::places::{Place, place_of};
-use anf_convert::lists::Atoms;
-use anf_convert::program::Atom;
-use wasm_core::{Access, BlockType, I32Op, Instr};
+use wasm_core::{Access, BlockType, I32Op, Instr, ValType};
 
 /// One instruction more. Only `Memory`.
 pub fn push(out: &mut Vec<Instr>, i: Instr) -> Result<(), EmitFault>
@@ -73,58 +70,6 @@ pub fn bytes_of(words: usize) -> Result<u32, EmitFault>
     }
 }
 
-/// Puts the word of a place on the operands; where there is none, a trap. Only `Memory`.
-fn push_read(place: Option<Place>, out: &mut Vec<Instr>) -> Result<(), EmitFault>
-    ensures pushed { OnOk result (Pushed out.old.items out.new.items (read place)) }
-    ensures only_memory { IfErr result (λ e. e ≡ Memory) }
-{
-    match place {
-        Some(Place::Local(x)) => push(out, Instr::LocalGet(x)),
-        Some(Place::Field(x, offset)) => {
-            push(out, Instr::LocalGet(x))?;
-            push_load(out, offset)
-        }
-        None => push(out, Instr::Unreachable),
-    }
-}
-
-/// Puts the word of an atom on the operands; the places are those of the variables, the innermost last. Only `Memory`.
-pub(crate) fn push_atom(places: &[Place], a: Atom, out: &mut Vec<Instr>) -> Result<(), EmitFault>
-    ensures pushed { OnOk result (Pushed out.old.items out.new.items (atom (reverse places.now) a)) }
-    ensures only_memory { IfErr result (λ e. e ≡ Memory) }
-{
-    match a {
-        Atom::Var(i) => push_read(place_of(places, i), out),
-        Atom::Box => push(out, Instr::I32Const(0)),
-        Atom::Empty(c) => {
-            let word = empty_word(c)?;
-            push(out, Instr::I32Const(word))
-        }
-    }
-}
-
-/// Stores the words of atoms behind the header of the block whose address is in local d, the last atom first. Only `Memory`.
-fn push_fields(
-    places: &[Place],
-    d: u32,
-    atoms: &Atoms,
-    out: &mut Vec<Instr>,
-) -> Result<(), EmitFault>
-    ensures pushed { OnOk result (Pushed out.old.items out.new.items (fill (reverse places.now) d atoms.now)) }
-    ensures only_memory { IfErr result (λ e. e ≡ Memory) }
-{
-    let fields = atoms.as_slice();
-    let n = fields.len();
-    for k in 0..n {
-        push(out, Instr::LocalGet(d))?;
-        let a = &fields[n - 1 - k];
-        push_atom(places, *a, out)?;
-        let offset = bytes_of(n - k)?;
-        push_store(out, offset)?;
-    }
-    Ok(())
-}
-
 /// Puts the end of the heap into local d, and moves it on by so many bytes, where memory is or is made. Only `Memory`.
 pub fn push_address(d: u32, bytes: u32, out: &mut Vec<Instr>) -> Result<(), EmitFault>
     ensures pushed { OnOk result (Pushed out.old.items out.new.items (λ rest. instr.GlobalGet 2 ∷ instr.LocalTee d ∷ ConstWord bytes ∷ instr.I32 op32.Add ∷ instr.GlobalSet 2 ∷ ensure_room rest)) }
@@ -153,25 +98,22 @@ fn push_room(out: &mut Vec<Instr>) -> Result<(), EmitFault>
     push(out, Instr::End)
 }
 
-/// Makes a block of a header and the words of atoms, puts its address into local d and on the operands. Only `Memory`.
-pub(crate) fn push_new_block(
-    places: &[Place],
-    d: u32,
-    header: u32,
-    atoms: &Atoms,
-    out: &mut Vec<Instr>,
-) -> Result<(), EmitFault>
-    ensures pushed { OnOk result (Pushed out.old.items out.new.items (block (reverse places.now) d header atoms.now)) }
+/// So many ends. Only `Memory`.
+pub fn push_ends(n: usize, out: &mut Vec<Instr>) -> Result<(), EmitFault>
+    ensures pushed { OnOk result (Pushed out.old.items out.new.items (ends n)) }
     ensures only_memory { IfErr result (λ e. e ≡ Memory) }
 {
-    let Some(words) = atoms.len().checked_add(1) else {
-        return Err(EmitFault::Memory);
-    };
-    let bytes = bytes_of(words)?;
-    push_address(d, bytes, out)?;
-    push(out, Instr::LocalGet(d))?;
-    push(out, Instr::I32Const(header))?;
-    push_store(out, 0)?;
-    push_fields(places, d, atoms, out)?;
-    push(out, Instr::LocalGet(d))
+    for _ in 0..n {
+        push(out, Instr::End)?;
+    }
+    Ok(())
+}
+
+/// Compares the two words on the operands, and begins an arm that leaves a word. Only `Memory`.
+pub fn push_test(out: &mut Vec<Instr>) -> Result<(), EmitFault>
+    ensures pushed { OnOk result (Pushed out.old.items out.new.items (λ rest. instr.I32 op32.Eq ∷ IfWord ∷ rest)) }
+    ensures only_memory { IfErr result (λ e. e ≡ Memory) }
+{
+    push(out, Instr::I32(I32Op::Eq))?;
+    push(out, Instr::If(BlockType::Value(ValType::I32)))
 }

@@ -102,6 +102,11 @@ fn put_instr(out: &mut Vec<u8>, i: &Instr) -> Result<(), AllocError>
             put_indexed(out, 0x11, *ty)?;
             put_u32(out, *table)
         }
+        Instr::ReturnCall(n) => put_indexed(out, 0x12, *n),
+        Instr::ReturnCallIndirect(ty, table) => {
+            put_indexed(out, 0x13, *ty)?;
+            put_u32(out, *table)
+        }
         Instr::Drop => put(out, 0x1A),
         Instr::LocalGet(n) => put_indexed(out, 0x20, *n),
         Instr::LocalSet(n) => put_indexed(out, 0x21, *n),

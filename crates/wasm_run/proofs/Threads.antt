@@ -14,7 +14,7 @@ use Rattle.wasm_core.specs.Instance.{Func, func_of, zero_of}
 use Rattle.wasm_run.specs.View.{frame_at}
 use Rattle.wasm_run.proofs.Stack.{reverse-snoc}
 use Rattle.wasm_run.proofs.Starts.{code_is}
-use Rattle.wasm_core.specs.MachineStep.{BlockLabel, Frame, Store, Conf, State, At, branch, jump, taking, act, step, next, call, frame_of, same_type, same_types}
+use Rattle.wasm_core.specs.MachineStep.{BlockLabel, Frame, Store, Conf, State, At, branch, jump, taking, act, step, next, call, tail_call, frame_of, same_type, same_types}
 use Rattle.wasm_run.specs.Shape.{Shape, Open, branched, leave_to, leave_with, keeping}
 use Rattle.wasm_run.specs.View.{label_of}
 use Rattle.wasm_run.specs.Programs.{code_of}
@@ -138,3 +138,34 @@ call_some m store cs s f (Some g) is some h of ht others hl new hn cs' hc =
     ∙ ap (λ (x : List ValType). record { func = f; keeps = is_some g.type.result; at = 0; locals = reverse (take (length g.type.params) s.vals) ++ map zero_of x; vals = []; labels = [] }) l)
     cs'
     (hc ∙ ap (λ (x : FuncType). cs ++ record s { at = s.at + 1; vals = drop (length x.params) s.vals } ∷ []) t)
+
+-- a function is called in place of the one that runs
+tail_is : (m : Parts) (store : Store) (callers : List Frame) (s : Shape) (f : ℕ) (g : Func) → func_of m f ≡ Some g → is_some (tail_call (record { store = store; current = frame_in m s; callers = callers }) g s.vals) ≡ true →
+    (new : Shape) → new ≡ record { func = f; keeps = is_some g.type.result; at = 0; locals = reverse (take (length g.type.params) s.vals) ++ map zero_of g.body.locals; vals = []; labels = [] } →
+    tail_call (record { store = store; current = frame_in m s; callers = callers }) g s.vals ≡ Some (At (record { store = store; current = frame_in m new; callers = callers }))
+tail_is m store callers s f g is some new hn = by (nat_le (length g.type.params) (length s.vals)) some
+  where
+    state : Frame → State
+    state a = At (record { store = store; current = a; callers = callers })
+
+    begun : Shape
+    begun = record { func = f; keeps = is_some g.type.result; at = 0; locals = reverse (take (length g.type.params) s.vals) ++ map zero_of g.body.locals; vals = []; labels = [] }
+
+    same : state (frame_in m new) ≡ state (frame_of g s.vals)
+    same = ap (λ (x : Shape). state (frame_in m x)) hn ∙ ap (λ code. state (frame_at code begun)) (code_is m g f is)
+
+    by : (b : Bool) → is_some (if b then Some (state (frame_of g s.vals)) else None) ≡ true → (if b then Some (state (frame_of g s.vals)) else None) ≡ Some (state (frame_in m new))
+    by true h = ap Some (sym same)
+    by false h = cc
+
+pub tail_some : (m : Parts) (store : Store) (callers : List Frame) (s : Shape) (f : ℕ) (o : Option Func) → func_of m f ≡ o → is_some o ≡ true →
+    IfSome o (λ g. is_some (tail_call (record { store = store; current = frame_in m s; callers = callers }) g s.vals) ≡ true) →
+    (of : FuncType) → option_map (λ (g : Func). g.type) o ≡ Some of → (others : List ValType) → option_map (λ (g : Func). g.body.locals) o ≡ Some others →
+    (new : Shape) → new ≡ record { func = f; keeps = is_some of.result; at = 0; locals = reverse (take (length of.params) s.vals) ++ map zero_of others; vals = []; labels = [] } →
+    IfSome o (λ g. tail_call (record { store = store; current = frame_in m s; callers = callers }) g s.vals ≡ Some (At (record { store = store; current = frame_in m new; callers = callers })))
+tail_some m store callers s f None is some h of ht others hl new hn = cc
+tail_some m store callers s f (Some g) is some h of ht others hl new hn =
+    tail_is m store callers s f g is h new
+    (hn
+    ∙ ap (λ (x : FuncType). record { func = f; keeps = is_some x.result; at = 0; locals = reverse (take (length x.params) s.vals) ++ map zero_of others; vals = []; labels = [] }) (sym (inj ht))
+    ∙ ap (λ (x : List ValType). record { func = f; keeps = is_some g.type.result; at = 0; locals = reverse (take (length g.type.params) s.vals) ++ map zero_of x; vals = []; labels = [] }) (sym (inj hl)))

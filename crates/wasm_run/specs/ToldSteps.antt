@@ -3,7 +3,7 @@ use Rattle.std.specs.Prelude.{ℕ, zero, suc, ◌≡◌, List, [], ◌∷◌, �
 use Rattle.reports.specs.declared.fact.Fact.{Fact}
 use Rattle.reports.specs.declared.fact.Fact.TheVariants.{StepDone, Grew}
 use Rattle.wasm_core.specs.declared.instrs.Instr.{Instr}
-use Rattle.wasm_core.specs.declared.instrs.Instr.TheVariants.{Unreachable, Nop, Block, Loop, If, Else, End, Br, BrIf, BrTable, Return, Call, CallIndirect, Drop, LocalGet, LocalSet, LocalTee, GlobalGet, GlobalSet, I32Load, I32Load8U, I32Store, I32Store8, MemorySize, MemoryGrow, I32Const, I64Const, I32}
+use Rattle.wasm_core.specs.declared.instrs.Instr.TheVariants.{Unreachable, Nop, Block, Loop, If, Else, End, Br, BrIf, BrTable, Return, Call, CallIndirect, ReturnCall, ReturnCallIndirect, Drop, LocalGet, LocalSet, LocalTee, GlobalGet, GlobalSet, I32Load, I32Load8U, I32Store, I32Store8, MemorySize, MemoryGrow, I32Const, I64Const, I32}
 use Rattle.wasm_core.specs.Parts.{Parts}
 use Rattle.wasm_core.specs.Instance.{greatest_pages}
 use Rattle.wasm_core.specs.MachineStep.{Conf, State, At, Over}
@@ -23,6 +23,8 @@ class_of Return = 1
 class_of Drop = 1
 class_of (Call f) = 2
 class_of (CallIndirect t x) = 2
+class_of (ReturnCall f) = 2
+class_of (ReturnCallIndirect t x) = 2
 class_of (LocalGet x) = 3
 class_of (LocalSet x) = 3
 class_of (LocalTee x) = 3

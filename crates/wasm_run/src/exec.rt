@@ -18,6 +18,7 @@ use crate::frame::Frame;
 use crate::inside::{pop_i32, run_inside};
 use crate::memory::{load, load_byte, store, store_byte};
 use crate::program::Program;
+use crate::tail_calls::{run_tail_call, run_tail_indirect};
 use crate::tally::{StepFacts, class_of};
 use crate::thread::Thread;
 use std::alloc::{AllocError, Global};
@@ -67,7 +68,7 @@ fn run_branch(
 }
 
 /// Takes the arguments of a call off, and makes the locals of them.
-fn take_locals(
+pub fn take_locals(
     alloc: Global,
     frame: &mut Frame,
     params: usize,
@@ -167,7 +168,7 @@ fn same_result(x: Option<ValType>, y: Option<ValType>) -> bool
 }
 
 /// Two function types are the same.
-fn same_func_type(s: &FuncType, t: &FuncType) -> bool
+pub fn same_func_type(s: &FuncType, t: &FuncType) -> bool
     ensures is { result ≡ is_same_func_type s.now t.now }
 {
     same_types(s.params.as_slice(), t.params.as_slice()) && same_result(s.result, t.result)
@@ -444,6 +445,10 @@ fn run_instr(
         Instr::Call(index) => run_call(alloc, program, thread, *index, next),
         Instr::CallIndirect(index, table) => {
             run_indirect(alloc, program, thread, *index, *table, next)
+        }
+        Instr::ReturnCall(index) => run_tail_call(alloc, program, thread, *index),
+        Instr::ReturnCallIndirect(index, table) => {
+            run_tail_indirect(alloc, program, thread, *index, *table)
         }
         Instr::GlobalGet(index) => run_global_get(program, thread, *index, next),
         Instr::GlobalSet(index) => {

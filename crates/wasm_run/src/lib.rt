@@ -8,7 +8,7 @@
 //!
 //! A machine is a frame that runs, with those that wait for it (`frame`, `thread`), and a module that is made ready once (`program`): its table is filled, and
 //! for each place of a body the end and the second arm of the innermost open block are found (`targets`), so that a branch takes constant time.
-//! One step is `run_step` (`exec`, and `inside` for what touches the frame alone); what steps tell is counted (`tally`), so that no memory grows with them. `wasm_core` stands below with all
+//! One step is `run_step` (`exec`, `tail_calls`, and `inside` for what touches the frame alone); what steps tell is counted (`tally`), so that no memory grows with them. `wasm_core` stands below with all
 //! definitions and their laws but for what is told (`ToldSteps`, `ToldRuns`), and `reports` with what it is told to; `mem_value` reads the answer's data above it, and `module_run` runs modules.
 #![tactic(auto)]
 
@@ -21,6 +21,7 @@ mod machine;
 mod memory;
 mod numeric;
 mod program;
+mod tail_calls;
 mod tally;
 mod targets;
 mod thread;

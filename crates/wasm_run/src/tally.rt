@@ -41,7 +41,10 @@ pub fn class_of(instr: &Instr) -> u8
         | Instr::BrTable(_, _)
         | Instr::Return
         | Instr::Drop => 1,
-        Instr::Call(_) | Instr::CallIndirect(_, _) => 2,
+        Instr::Call(_)
+        | Instr::CallIndirect(_, _)
+        | Instr::ReturnCall(_)
+        | Instr::ReturnCallIndirect(_, _) => 2,
         Instr::LocalGet(_)
         | Instr::LocalSet(_)
         | Instr::LocalTee(_)

@@ -72,3 +72,10 @@ applied_more p ps rs a b h e =
 pub applied_none : (p : ValType) (ps rs : OperandTypes) (a : Place) → off (p ∷ []) a.now ≡ None → applied (Some (p ∷ ps, rs)) a ≡ None
 applied_none p ps rs a h =
     ap (λ (o : Option Known). on_some o (λ k. Some (More (record a { now = put_on rs k })))) (off_cons p ps a.now.vals a.now.loose ∙ ap (λ (o : Option Known). on_some o (off ps)) h)
+
+-- the first is taken off, and then the others; where it isn't there, none are
+pub off_first : (p : ValType) (ps : OperandTypes) (k j : Known) → off (p ∷ []) k ≡ Some j → off (p ∷ ps) k ≡ off ps j
+off_first p ps k j h = off_cons p ps k.vals k.loose ∙ ap (λ (o : Option Known). on_some o (off ps)) h
+
+pub off_first_none : (p : ValType) (ps : OperandTypes) (k : Known) → off (p ∷ []) k ≡ None → off (p ∷ ps) k ≡ None
+off_first_none p ps k h = off_cons p ps k.vals k.loose ∙ ap (λ (o : Option Known). on_some o (off ps)) h

@@ -18,10 +18,11 @@ use crate::plain::{
     check_local_get, check_local_set, check_local_tee, check_memory_grow, check_memory_size,
     check_operation, check_store,
 };
+use crate::tail_calls::{check_return_call, check_return_call_indirect};
 use std::alloc::{AllocError, Global};
 use wasm_core::{Body, FuncType, Instr, Module, ValType};
 
-// One instruction of a function of this type and with this body.
+/// One instruction of a function of this type and with this body.
 fn check_instr(
     alloc: Global,
     m: &Module,
@@ -51,6 +52,14 @@ fn check_instr(
         Instr::Return => Ok(check_return(checker, func.result)),
         Instr::Call(index) => check_call(m, checker, *index),
         Instr::CallIndirect(index, table) => check_call_indirect(m, checker, *index, *table),
+        Instr::ReturnCall(index) => Ok(check_return_call(m, checker, func.result, *index)),
+        Instr::ReturnCallIndirect(index, table) => Ok(check_return_call_indirect(
+            m,
+            checker,
+            func.result,
+            *index,
+            *table,
+        )),
         Instr::Drop => Ok(check_drop(checker)),
         Instr::LocalGet(index) => check_local_get(func, body, checker, *index),
         Instr::LocalSet(index) => check_local_set(func, body, checker, *index),
@@ -69,7 +78,7 @@ fn check_instr(
     }
 }
 
-// The place at which the pass over a body stops before its own end.
+/// The place at which the pass over a body stops before its own end.
 fn pass_stop(
     alloc: Global,
     m: &Module,

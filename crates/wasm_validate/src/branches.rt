@@ -12,7 +12,7 @@ use crate::checker::{Checker, Progress};
 use std::alloc::{AllocError, Global};
 use wasm_core::{BlockType, ValType};
 
-// What a block leaves.
+/// What a block leaves.
 fn left_by(of: BlockType) -> Option<ValType>
     ensures is { option_to_list result ≡ types_left_by of }
 {
@@ -114,7 +114,7 @@ pub(crate) fn check_br_if(
     Ok(Progress::Goes)
 }
 
-// Whether a label is there, takes along as many operands as `along` has, and the operands fit it.
+/// Whether a label is there, takes along as many operands as `along` has, and the operands fit it.
 fn fits(checker: &Checker, own: Option<ValType>, along: Option<ValType>, label: u32) -> bool
     ensures is { result ≡ fits_label (slice_get (labels_of (option_to_list own) checker.now.ctls) label) (length (option_to_list along)) checker.now.now }
 {
@@ -124,7 +124,7 @@ fn fits(checker: &Checker, own: Option<ValType>, along: Option<ValType>, label: 
     wanted.is_some() == along.is_some() && checker.has(wanted)
 }
 
-// Whether all these labels fit.
+/// Whether all these labels fit.
 fn all_fit(checker: &Checker, own: Option<ValType>, along: Option<ValType>, labels: &[u32]) -> bool
     ensures is { result ≡ fit_labels (labels_of (option_to_list own) checker.now.ctls) (length (option_to_list along)) checker.now.now labels.now }
 {

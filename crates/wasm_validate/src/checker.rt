@@ -169,7 +169,7 @@ impl Checker {
         Ok(())
     }
 
-    // Takes an operand of the type off, where there is a type, and says whether it was there and no other is left.
+    /// Takes an operand of the type off, where there is a type, and says whether it was there and no other is left.
     fn takes_all(&mut self, ends: Option<ValType>) -> bool
         ensures taken { MatchBool result (IsSome (closes (option_to_list ends) self.old.now)) (closes (option_to_list ends) self.old.now ≡ None) }
         ensures ctls { self.new.ctls ≡ self.old.ctls }

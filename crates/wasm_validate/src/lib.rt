@@ -7,7 +7,7 @@
 //!
 //! - `outside`: the sections other than the bodies, by rising id; `names`: export names, through an ordered set.
 //! - `checker`: the operands that are known at a place of a body, and the open blocks; it is a place of `wasm_core`'s pass.
-//! - `plain`, `branches`: each instruction, exactly as the pass has it. `body`: all instructions one after another (`pass_stop`), and
+//! - `plain`, `branches`, `tail_calls`: each instruction, exactly as the pass has it. `body`: all instructions one after another (`pass_stop`), and
 //!   what that says of typing (`body_fault`).
 //!
 //! The definition `BodyPass` says where the pass stops, and `proofs/Stopping` that this is where typing fails. The time is linear in the
@@ -20,6 +20,7 @@ mod checker;
 mod names;
 mod outside;
 mod plain;
+mod tail_calls;
 mod validation;
 
 pub use validation::{NotValid, Why, validate};

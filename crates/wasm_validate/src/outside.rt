@@ -9,7 +9,7 @@ use crate::names::names_are_distinct;
 use std::alloc::{AllocError, Global};
 use wasm_core::{ConstValue, ExportKind, Limits, Module, Segment, ValType};
 
-// Whether each function's type is there.
+/// Whether each function's type is there.
 fn types_are_there(m: &Module) -> bool
     ensures is { IsTrue result ↔ IsSound Functions m.now }
 {
@@ -23,7 +23,7 @@ fn types_are_there(m: &Module) -> bool
     true
 }
 
-// Whether a table's greatest size isn't below its least.
+/// Whether a table's greatest size isn't below its least.
 fn are_ordered(of: Limits) -> bool
     ensures is { IsTrue result ↔ LimitsAreOrdered of }
 {
@@ -33,7 +33,7 @@ fn are_ordered(of: Limits) -> bool
     }
 }
 
-// Whether the table's sizes are in order, where there is a table.
+/// Whether the table's sizes are in order, where there is a table.
 fn table_is_sound(m: &Module) -> bool
     ensures is { IsTrue result ↔ IsSound Tables m.now }
 {
@@ -43,7 +43,7 @@ fn table_is_sound(m: &Module) -> bool
     }
 }
 
-// Whether a memory's sizes are within 65,536 pages and in order.
+/// Whether a memory's sizes are within 65,536 pages and in order.
 fn are_limits(of: Limits) -> bool
     ensures is { IsTrue result ↔ AreLimits of }
 {
@@ -54,7 +54,7 @@ fn are_limits(of: Limits) -> bool
     of.min <= most && most <= 65_536
 }
 
-// Whether the memory's sizes are sound, where there is a memory.
+/// Whether the memory's sizes are sound, where there is a memory.
 fn memory_is_sound(m: &Module) -> bool
     ensures is { IsTrue result ↔ IsSound Memories m.now }
 {
@@ -64,7 +64,7 @@ fn memory_is_sound(m: &Module) -> bool
     }
 }
 
-// The type of a value.
+/// The type of a value.
 fn type_of(of: ConstValue) -> ValType
     ensures is { result ≡ type_of_value of }
 {
@@ -74,7 +74,7 @@ fn type_of(of: ConstValue) -> ValType
     }
 }
 
-// Whether each global's first value is of its type.
+/// Whether each global's first value is of its type.
 fn globals_are_sound(m: &Module) -> bool
     ensures is { IsTrue result ↔ IsSound Globals m.now }
 {
@@ -88,7 +88,7 @@ fn globals_are_sound(m: &Module) -> bool
     true
 }
 
-// Whether what an export names is there.
+/// Whether what an export names is there.
 fn is_there(m: &Module, kind: ExportKind, index: u32) -> bool
     ensures is { IsTrue result ↔ IsThere m.now kind index }
 {
@@ -100,7 +100,7 @@ fn is_there(m: &Module, kind: ExportKind, index: u32) -> bool
     }
 }
 
-// Whether what each export names is there.
+/// Whether what each export names is there.
 fn exports_are_there(m: &Module) -> bool
     ensures is { IsTrue result ↔ EachIsThere m.now }
 {
@@ -114,7 +114,7 @@ fn exports_are_there(m: &Module) -> bool
     true
 }
 
-// Whether there is a table for an element segment, and its functions are there.
+/// Whether there is a table for an element segment, and its functions are there.
 fn segment_is_sound(m: &Module, of: &Segment) -> bool
     ensures is { IsTrue result ↔ SegmentIsValid m.now of.now }
 {
@@ -131,7 +131,7 @@ fn segment_is_sound(m: &Module, of: &Segment) -> bool
     true
 }
 
-// Whether each element segment is sound.
+/// Whether each element segment is sound.
 fn elements_are_sound(m: &Module) -> bool
     ensures is { IsTrue result ↔ IsSound Elements m.now }
 {

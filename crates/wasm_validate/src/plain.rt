@@ -33,8 +33,8 @@ pub(crate) fn apply(
     Ok(Progress::Goes)
 }
 
-// Takes a call's arguments off, the last one first. In loose code it stops where no operand is known, however many are asked for.
-fn take_params(checker: &mut Checker, params: &[ValType]) -> bool
+/// Takes a call's arguments off, the last one first. In loose code it stops where no operand is known, however many are asked for.
+pub(crate) fn take_params(checker: &mut Checker, params: &[ValType]) -> bool
     ensures taken { MatchBool result (off (reverse params.now) checker.old.now ≡ Some checker.new.now) (off (reverse params.now) checker.old.now ≡ None) }
     ensures ctls { checker.new.ctls ≡ checker.old.ctls }
 {
@@ -49,7 +49,7 @@ fn take_params(checker: &mut Checker, params: &[ValType]) -> bool
     true
 }
 
-// A call of a function of this type.
+/// A call of a function of this type.
 fn check_callee(checker: &mut Checker, of: &FuncType) -> Result<Progress, AllocError>
     ensures is { IfOk result (λ p. applied (Some (calling of.now)) checker.old ≡ shows p checker.new) }
 {
@@ -60,7 +60,7 @@ fn check_callee(checker: &mut Checker, of: &FuncType) -> Result<Progress, AllocE
     Ok(Progress::Goes)
 }
 
-// A call of a table's entry with this type, whose index lies above the arguments.
+/// A call of a table's entry with this type, whose index lies above the arguments.
 fn check_entry(checker: &mut Checker, of: &FuncType) -> Result<Progress, AllocError>
     ensures is { IfOk result (λ p. applied (Some (calling_entry of.now)) checker.old ≡ shows p checker.new) }
 {
@@ -105,7 +105,7 @@ pub(crate) fn check_call_indirect(
     check_entry(checker, of)
 }
 
-// The type of a local, the parameters being the first; `None` where there is no such local.
+/// The type of a local, the parameters being the first; `None` where there is no such local.
 fn local_type(func: &FuncType, body: &Body, index: u32) -> Option<ValType>
     ensures is { result ≡ slice_get (func.now.params ++ body.now.locals) index }
 {
@@ -193,7 +193,7 @@ pub(crate) fn check_global_set(
     apply(checker, Some(global.ty), None, None)
 }
 
-// Whether there is a memory, and the access promises no more than an alignment of 2 to the power of `most`.
+/// Whether there is a memory, and the access promises no more than an alignment of 2 to the power of `most`.
 fn may_access(m: &Module, most: u32, of: Access) -> bool
     ensures is { result ≡ (is_some m.now.memory && nat_le of.align most) }
 {
@@ -250,7 +250,7 @@ pub(crate) fn check_memory_grow(m: &Module, checker: &mut Checker) -> Result<Pro
     apply(checker, Some(ValType::I32), None, Some(ValType::I32))
 }
 
-// Whether the operation takes one operand.
+/// Whether the operation takes one operand.
 fn is_unary(of: I32Op) -> bool
     ensures is { result ≡ takes_one of }
 {

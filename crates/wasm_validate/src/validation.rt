@@ -28,14 +28,14 @@ pub struct NotValid {
     pub why: Why,
 }
 
-// A count, which stands still at the last value of its 32 bits.
+/// A count, which stands still at the last value of its 32 bits.
 fn counted(n: usize) -> u32
     ensures is { result ≡ counted_to n }
 {
     n.min(u32::MAX as usize) as u32
 }
 
-// The place at which the body of a function fails, where the function has no typing.
+/// The place at which the body of a function fails, where the function has no typing.
 fn func_fault(alloc: Global, m: &Module, func: usize) -> Result<Option<usize>, AllocError>
     requires sound { AllSound m.now }
     requires within { func < length m.now.funcs }
@@ -48,7 +48,7 @@ fn func_fault(alloc: Global, m: &Module, func: usize) -> Result<Option<usize>, A
     body_fault(alloc, m, of, body)
 }
 
-// Where the module first fails, if it does.
+/// Where the module first fails, if it does.
 fn first_fault(alloc: Global, m: &Module) -> Result<Option<(u32, u32)>, AllocError>
     ensures is { IfOk result (λ o. SaysOfModule m.now o) }
 {

@@ -1,4 +1,4 @@
-use Rattle.std.proofs.Common.{Err, sym, ap, subst, slice_range}
+use Rattle.std.proofs.Common.{Err, sym, subst, slice_range}
 use Rattle.sexp_reader.specs.Stream.{source}
 use Rattle.first_order.specs.Awaited.{AwaitsClose}
 use Rattle.first_order.specs.Nexts.{PassesFirst}

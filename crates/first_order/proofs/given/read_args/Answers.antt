@@ -1,4 +1,4 @@
-use Rattle.std.proofs.Common.{length, sym, ap, subst}
+use Rattle.std.proofs.Common.{length, subst}
 use Rattle.first_order.specs.Awaited.{argument_sets, arguments_from, AnswersReading}
 use Rattle.first_order.proofs.ArgumentAnswers.{answer-offset, answer-spelled, answer-complete}
 use Rattle.first_order.proofs.given.read_args.Goals as goal

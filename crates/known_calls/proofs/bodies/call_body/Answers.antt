@@ -1,7 +1,7 @@
 use Rattle.std.proofs.Common.{arith}
 use Rattle.closure_lift.specs.LiftedProgram.{lifted_of}
 use Rattle.wasm_emit.specs.EmittedModule.{body}
-use Rattle.wasm_emit.proofs.Built.{same_made}
+use Rattle.wasm_emit.proofs.Listed.{same_made}
 use Rattle.known_calls.specs.KnownCalls.{call_function}
 use Rattle.known_calls.proofs.KnownBuilt.{call_made}
 use Rattle.known_calls.proofs.bodies.call_body.Goals as goal

@@ -1,6 +1,6 @@
 use Rattle.closure_lift.specs.LiftedProgram.{renumber, place_in, lifted_of}
 use Rattle.wasm_emit.specs.EmittedModule.{body}
-use Rattle.wasm_emit.proofs.Built.{same_made}
+use Rattle.wasm_emit.proofs.Listed.{same_made}
 use Rattle.known_calls.specs.KnownModule.{constant}
 use Rattle.known_calls.proofs.KnownBuilt.{constant_made}
 use Rattle.known_calls.proofs.bodies.constant_body.Goals as goal

@@ -1,6 +1,6 @@
 use Rattle.closure_lift.specs.LiftedProgram.{lifted_of}
 use Rattle.wasm_emit.specs.EmittedModule.{body}
-use Rattle.wasm_emit.proofs.Built.{same_made}
+use Rattle.wasm_emit.proofs.Listed.{same_made}
 use Rattle.known_calls.specs.KnownModule.{main_function}
 use Rattle.known_calls.proofs.KnownBuilt.{main_made}
 use Rattle.known_calls.proofs.bodies.main_body.Goals as goal

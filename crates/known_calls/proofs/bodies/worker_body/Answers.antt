@@ -2,7 +2,7 @@ use Rattle.std.proofs.Common.{arith, ◌-◌, sym, ◌∙◌}
 use Rattle.closure_lift.specs.LiftedProgram.{lifted_of}
 use Rattle.wasm_emit.specs.EmittedModule.{body}
 use Rattle.wasm_emit.specs.Pushed.{function_in}
-use Rattle.wasm_emit.proofs.Built.{same_made}
+use Rattle.wasm_emit.proofs.Listed.{same_made}
 use Rattle.wasm_emit.proofs.Pushing.{top_least}
 use Rattle.known_calls.specs.KnownModule.{worker}
 use Rattle.known_calls.proofs.KnownBuilt.{worker_done}

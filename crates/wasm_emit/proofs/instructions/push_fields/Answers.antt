@@ -1,9 +1,0 @@
-use Rattle.std.proofs.Common.{rules, reverse}
-use Rattle.wasm_emit.specs.EmittedCode.{fill}
-use Rattle.wasm_emit.proofs.Pushing.{field_pushed}
-use Rattle.wasm_emit.proofs.instructions.push_fields.Goals as goal
-
-pub loop-k-preserved : goal.loop-k-preserved
-loop-k-preserved c =
-    field_pushed (reverse c.args.places.now) c.args.d c.as_slice-fields.result.now c.args.atoms.now c.loop-k.k c.in_ok-offset.offset c.loop-k.out.items c.push.new.out.items c.push_atom.new.out.items c.push_store.new.out.items c.args.out.now.items
-    (fill (reverse c.args.places.now) c.args.d c.args.atoms.now) c.as_slice-fields.ensures.is c.loop-k-test.true c.in_ok-offset.ensures.is c.in_ok-push.ensures.pushed c.in_ok-push_atom.ensures.pushed c.in_ok-push_store.ensures.pushed (search rules) c.loop-k.invariant
