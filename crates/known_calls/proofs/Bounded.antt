@@ -21,7 +21,7 @@ use Rattle.wasm_emit.specs.EmitLaws.{CountsFit}
 use Rattle.wasm_emit.proofs.Lengths.{bytes_of, size, u_2, z_unreachable, z_if, z_else, z_end, z_op, z_call, z_indirect, z_get, z_set, z_tee, z_heap, z_size, z_room, z_small, z_header, z_global, z_load, z_store, z_const}
 use Rattle.wasm_emit.proofs.Spelled.{Good, fits}
 use Rattle.known_calls.specs.KnownPlaces.{Word, InLocal, InField, IsConst, Place, At, fields_of, word_of, known_function, block_reads}
-use Rattle.known_calls.specs.KnownCode.{Position, Inside, InTail, deeper, worker_index, jumps, most_blocks, read_word, read, atom, push_words, fill, block, into_params, call_worker, application, some_heads, some_branches, empty_test, head_test, arm, choose, unmade, known, op, code, empties, heads}
+use Rattle.known_calls.specs.KnownCode.{Position, Inside, InTail, deeper, worker_index, jumps, most_blocks, read_word, read, atom, push_words, fill, new_block, block, into_local, into_params, call_worker, application, some_heads, some_branches, empty_test, head_test, arm, choose, unmade, known, op, code, empties, heads}
 use Rattle.known_calls.specs.KnownModule.{captured_words}
 use Rattle.known_calls.specs.KnownWeight.{op_weight, weight, branches_weight}
 use Rattle.known_calls.proofs.Unreading.{and_true, unmade_some}
@@ -137,10 +137,25 @@ module _ (P : Program) (m : ℕ) (form : Formed P m) (counts : CountsFit P m) (l
   b_fill n d ps (a ∷ as') hd few fit h =
       b_most _ (omega arith) (b_get d hd then (b_atom n ps a fit.0 h then (b_one {k = 4} (StoreWord (4 * suc (length as'))) (λ r. z_store r (4 * suc (length as')) (omega arith)) (omega arith, omega arith) then b_fill n d ps as' hd (omega arith) fit.1 h)))
 
-  b_block : (n d header : ℕ) (ps : List Place) (as' : List Atom) → d < 100000 → header < 4294967296 → length as' < 2049 → AtomsFit n as' → Near ps → Bounded (45 + 16 * length as') (block ps d header as')
-  b_block n d header ps as' hd hh few fit h =
+  b_new_block : (n d header : ℕ) (ps : List Place) (as' : List Atom) → d < 100000 → header < 4294967296 → length as' < 2049 → AtomsFit n as' → Near ps → Bounded (41 + 16 * length as') (new_block ps d header as')
+  b_new_block n d header ps as' hd hh few fit h =
       b_most _ (omega arith) (b_one {k = 2} (GlobalGet 2) (λ r. z_heap r) (omega arith) then (b_tee d hd then (b_one {k = 4} (ConstWord (4 * suc (length as'))) (λ r. z_small r (4 * suc (length as')) (omega arith)) (omega arith) then (b_one {k = 1} (Operation op32.Add) (λ r. z_op r op32.Add) tt
-      then (b_global 2 (omega arith) then (b_ensure then (b_get d hd then (b_const header hh then (b_one {k = 3} (StoreWord 0) (λ r. z_header r) (omega arith, omega arith) then (b_fill n d ps as' hd few fit h then b_get d hd))))))))))
+      then (b_global 2 (omega arith) then (b_ensure then (b_get d hd then (b_const header hh then (b_one {k = 3} (StoreWord 0) (λ r. z_header r) (omega arith, omega arith) then b_fill n d ps as' hd few fit h)))))))))
+
+  b_block : (n d header : ℕ) (ps : List Place) (as' : List Atom) → d < 100000 → header < 4294967296 → length as' < 2049 → AtomsFit n as' → Near ps → Bounded (45 + 16 * length as') (block ps d header as')
+  b_block n d header ps as' hd hh few fit h = b_most _ (omega arith) (b_new_block n d header ps as' hd hh few fit h then b_get d hd)
+
+  -- an operation whose word comes into a local
+  b_bind : {g : List Instr → List Instr} (n d : ℕ) (ps : List Place) (x : Op) → d < 100000 → Near ps → OpFits P.functions (length P.constants) m n x → Bounded (op_weight x) g → Bounded (4 + op_weight x) (into_local ps d x g)
+  b_bind n d ps (OCon c as') hd h fit y = let small = fit.0 in let few = fit.2 in b_most _ (omega arith) (b_new_block n d _ ps as' hd (omega (arith, small, few)) (omega (arith, few)) fit.3 h)
+  b_bind n d ps (OClos g as') hd h fit y =
+      let takes = fit.0 in
+      let few = limits.captured g takes.fn takes.at in
+      let low = slice_get_within P.functions g takes.fn takes.at in
+      b_most _ (omega arith) (b_new_block n d (suc g) ps as' hd (omega (arith, low, limits.few)) (omega (arith, few, takes.words)) fit.1 h)
+  b_bind n d ps (OConst x) hd h fit y = b_most _ (omega arith) (y then b_set d hd)
+  b_bind n d ps (OApp f a) hd h fit y = b_most _ (omega arith) (y then b_set d hd)
+  b_bind n d ps (OCase a bs) hd h fit y = b_most _ (omega arith) (y then b_set d hd)
 
   b_jump : (b : Bool) (g h n depth : ℕ) → jumps g h depth ≡ b → n ≤ 7 → worker_index P g < 2097152 → Bounded 38 (λ r. if b then into_params n (Br depth ∷ r) else (Call (worker_index P g) ∷ r))
   b_jump true g h n depth e few low =
@@ -202,7 +217,7 @@ module _ (P : Program) (m : ℕ) (form : Formed P m) (counts : CountsFit P m) (l
     b_code n d ps at (Let x t) le h fit =
         b_choice (unmade P ps x t) {g = λ q. code P (q ∷ ps) d at t}
         (λ q e. let z = unmade_some (block_reads 0 t) (known P ps x) e in b_most _ (omega arith) (b_code (suc n) d (q ∷ ps) at t (omega (arith, top_less d t)) (known_fits P 16384 m form n 100000 ps x fit.0 h z.1, h) fit.1))
-        (b_most _ (omega arith) (b_op n d ps Inside x (omega arith) h fit.0 then (b_set d (omega arith) then b_code (suc n) (suc d) (At (InLocal d) ∷ ps) at t (omega arith) (omega arith, h) fit.1)))
+        (b_most _ (omega arith) (b_bind n d ps x (omega arith) h fit.0 (b_op n d ps Inside x (omega arith) h fit.0) then (b_code (suc n) (suc d) (At (InLocal d) ∷ ps) at t (omega arith) (omega arith, h) fit.1)))
 
     b_empties : (n d : ℕ) (ps : List Place) (at : Position) (c : ℕ) (some : Bool) (bs : BranchBlocks) (others : Position → List Instr → List Instr) (k : ℕ) → max (suc d) (top_branches (suc d) bs) < 100000 → c + many bs ≤ m → Near ps → BranchesFit P.functions (length P.constants) m n bs →
         ((at' : Position) → Bounded k (others at')) → Bounded (empties_weight bs + k) (empties P ps d at c some bs others)

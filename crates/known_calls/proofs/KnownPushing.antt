@@ -16,7 +16,7 @@ use Rattle.wasm_emit.specs.EmittedCode.{ConstWord, Load, StoreWord, IfWord, ensu
 use Rattle.wasm_emit.specs.Pushed.{Pushed, ends, renumber_bound}
 use Rattle.wasm_emit.proofs.Pushing.{next_of, ends_sum}
 use Rattle.known_calls.specs.KnownPlaces.{Place, At, InLocal, fields_of, block_reads}
-use Rattle.known_calls.specs.KnownCode.{Position, Inside, InTail, deeper, some_heads, some_branches, empty_test, head_test, arm, choose, known, into_params, atom, fill, block, op, code, empties, heads}
+use Rattle.known_calls.specs.KnownCode.{Position, Inside, InTail, deeper, some_heads, some_branches, empty_test, head_test, arm, choose, known, into_params, atom, fill, new_block, into_local, op, code, empties, heads}
 use Rattle.known_calls.specs.KnownPushed.{under_position, bound_code, bound_unmade, place_bound, local_behind, bind_code, op_unmade, binding_code, block_code, empty_arms, block_arms, branches_code, is_last_head, EmptyArms, PlainArms, HeadArms, EmptyArm, BlockArm}
 use Rattle.known_calls.proofs.KnownMarking.{reads_renumbered}
 
@@ -37,7 +37,7 @@ under_sum n k (InTail g d) = let e : d + k + n ≡ d + (k + n) = omega arith in 
 -- A binding of a block, and its end.
 module _ (P : Program) (f : ℕ → ℕ) (env : List Place) (d : ℕ) (at : Position) where
   chosen : (x : Op) (t : Block) (rest : List Instr) (o : Option Place) →
-      choose o (λ q. code P (q ∷ env) d at t rest) (op P env d Inside x (LocalSet d ∷ code P (At (InLocal d) ∷ env) (suc d) at t rest)) ≡ bind_code P env d (OpBound x) o (code P (place_bound d o ∷ env) (local_behind d o) at t rest)
+      choose o (λ q. code P (q ∷ env) d at t rest) (into_local env d x (op P env d Inside x) (code P (At (InLocal d) ∷ env) (suc d) at t rest)) ≡ bind_code P env d (OpBound x) o (code P (place_bound d o ∷ env) (local_behind d o) at t rest)
   chosen x t rest None = refl
   chosen x t rest (Some q) = refl
 
@@ -55,7 +55,7 @@ module _ (P : Program) (f : ℕ → ℕ) (env : List Place) (d : ℕ) (at : Posi
   code_step (AtomBound a) xs t rest = made_atom a (renumber f (lets_of xs t)) rest (block_reads 0 (lets_of xs t))
   code_step (OpBound x) xs t rest =
       ap (λ (b : Bool). choose (if b then None else known P env (renumber_op f x)) (λ q. code P (q ∷ env) d at (renumber f (lets_of xs t)) rest)
-      (op P env d Inside (renumber_op f x) (LocalSet d ∷ code P (At (InLocal d) ∷ env) (suc d) at (renumber f (lets_of xs t)) rest))) (reads_renumbered f 0 (lets_of xs t))
+      (into_local env d (renumber_op f x) (op P env d Inside (renumber_op f x)) (code P (At (InLocal d) ∷ env) (suc d) at (renumber f (lets_of xs t)) rest))) (reads_renumbered f 0 (lets_of xs t))
       ∙ chosen (renumber_op f x) (renumber f (lets_of xs t)) rest (if block_reads 0 (lets_of xs t) then None else known P env (renumber_op f x))
 
   pub code_end : (x : Bound) (rest : List Instr) → code P env d at (renumber f (ret_of x)) rest ≡ bound_code P env d at (renumber_bound f x) rest
@@ -310,20 +310,19 @@ fill_step env d slice atoms k a rest same lt is =
     ap (λ (xs : List Atom). fill env d xs rest) more ∙ ap (λ (o : ℕ). LocalGet d ∷ atom env a (StoreWord o ∷ fill env d (drop (k + 1) atoms) rest)) bytes
 
 -- a block of memory was made
-pub block_pushed : (env : List Place) (d header bytes words : ℕ) (as' : List Atom) (o0 o1 o2 o3 o4 o5 o6 : List Instr) → bytes ≡ 4 * words → words ≡ length as' + 1 →
+pub block_pushed : (env : List Place) (d header bytes words : ℕ) (as' : List Atom) (o0 o1 o2 o3 o4 o5 : List Instr) → bytes ≡ 4 * words → words ≡ length as' + 1 →
     Pushed o0 o1 (λ rest. GlobalGet 2 ∷ LocalTee d ∷ ConstWord bytes ∷ Operation op32.Add ∷ GlobalSet 2 ∷ ensure_room rest) → Pushed o1 o2 (λ rest. LocalGet d ∷ rest) → Pushed o2 o3 (λ rest. ConstWord header ∷ rest) →
-    Pushed o3 o4 (λ rest. StoreWord 0 ∷ rest) → Pushed o4 o5 (fill env d as') → Pushed o5 o6 (λ rest. LocalGet d ∷ rest) → Pushed o0 o6 (block env d header as')
-block_pushed env d header bytes words as' o0 o1 o2 o3 o4 o5 o6 eb ew x0 x1 x2 x3 x4 x5 = record { is = is }
+    Pushed o3 o4 (λ rest. StoreWord 0 ∷ rest) → Pushed o4 o5 (fill env d as') → Pushed o0 o5 (new_block env d header as')
+block_pushed env d header bytes words as' o0 o1 o2 o3 o4 o5 eb ew x0 x1 x2 x3 x4 = record { is = is }
   where
-    is : (rest : List Instr) → o6 ++ rest ≡ o0 ++ block env d header as' rest
+    is : (rest : List Instr) → o5 ++ rest ≡ o0 ++ new_block env d header as' rest
     is rest =
         let e : bytes ≡ 4 * suc (length as') = omega arith in
-        let i4 : List Instr = LocalGet d ∷ rest in
-        let i3 : List Instr = fill env d as' i4 in
+        let i3 : List Instr = fill env d as' rest in
         let i2 : List Instr = StoreWord 0 ∷ i3 in
         let i1 : List Instr = ConstWord header ∷ i2 in
         let i0 : List Instr = LocalGet d ∷ i1 in
-        x5.is rest ∙ x4.is i4 ∙ x3.is i3 ∙ x2.is i2 ∙ x1.is i1 ∙ x0.is i0 ∙ ap (λ (k : ℕ). o0 ++ (GlobalGet 2 ∷ LocalTee d ∷ ConstWord k ∷ Operation op32.Add ∷ GlobalSet 2 ∷ ensure_room i0)) e
+        x4.is rest ∙ x3.is i3 ∙ x2.is i2 ∙ x1.is i1 ∙ x0.is i0 ∙ ap (λ (k : ℕ). o0 ++ (GlobalGet 2 ∷ LocalTee d ∷ ConstWord k ∷ Operation op32.Add ∷ GlobalSet 2 ∷ ensure_room i0)) e
 
 -- a field of a block of memory was stored
 pub field_pushed : {a : Atom} (env : List Place) (d : ℕ) (slice atoms : List Atom) (k offset : ℕ) (o0 o1 o2 o3 out : List Instr) (g : List Instr → List Instr) → reverse slice ≡ atoms → k < length slice → offset ≡ 4 * (length slice - k) →

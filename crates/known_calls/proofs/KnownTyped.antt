@@ -22,7 +22,7 @@ use Rattle.closure_lift.specs.LiftedForm.{OpFits, LiftedBlockFits, BranchesFit, 
 use Rattle.wasm_emit.specs.EmittedCode.{IfWord, ensure_room}
 use Rattle.wasm_emit.specs.EmittedLocals.{top, top_op, top_branches}
 use Rattle.known_calls.specs.KnownPlaces.{Word, InLocal, InField, IsConst, Place, At, fields_of, word_of, known_function, block_reads}
-use Rattle.known_calls.specs.KnownCode.{Position, Inside, InTail, deeper, worker_index, jumps, most_blocks, read_word, read, atom, push_words, fill, block, into_params, call_worker, application, some_heads, some_branches, empty_test, head_test, arm, choose, unmade, known, op, code, empties, heads}
+use Rattle.known_calls.specs.KnownCode.{Position, Inside, InTail, deeper, worker_index, jumps, most_blocks, read_word, read, atom, push_words, fill, new_block, block, into_local, into_params, call_worker, application, some_heads, some_branches, empty_test, head_test, arm, choose, unmade, known, op, code, empties, heads}
 use Rattle.known_calls.specs.KnownModule.{words_type, worker_type, module_with}
 use Rattle.known_calls.proofs.Shapes.{Shaped, shaped_code, shaped_empties, shaped_heads}
 use Rattle.known_calls.proofs.Finding.{same_some}
@@ -112,9 +112,12 @@ module _ (P : Program) (most : ℕ) (form : Formed P most) (main : Body) (gs : L
   t_room : {labels : List OperandTypes} {ts us : Operands} {rest : List Instr} → Typed m ls rs labels ts rest us → Typed m ls rs labels ts (ensure_room rest) us
   t_room {ts = ts} k = t_plain ts refl (t_plain (Of I32 ∷ ts) refl (t_plain (Of I32 ∷ Of I32 ∷ ts) refl (t_plain (Of I32 ∷ ts) refl (t_plain ts refl (t_one_arm {body = Call 0 ∷ []} (t_plain [] refl done) k)))))
 
+  t_new_block : {labels : List OperandTypes} {ts us : Operands} {rest : List Instr} (n d header : ℕ) (ps : List Place) (as' : List Atom) → suc d ≤ size → AtomsFit n as' → All (PlaceFits P far d) ps → Typed m ls rs labels ts rest us → Typed m ls rs labels ts (new_block ps d header as' rest) us
+  t_new_block {ts = ts} n d header ps as' le fit h k =
+      t_plain ts refl (t_tee (omega arith) (t_plain (Of I32 ∷ ts) refl (t_plain ts refl (t_plain ts refl (t_room (t_get (omega arith) (t_plain (Of I32 ∷ ts) refl (t_plain ts refl (t_fill n d d ps as' (omega arith) (omega arith) fit h k)))))))))
+
   t_block : {labels : List OperandTypes} {ts us : Operands} {rest : List Instr} (n d header : ℕ) (ps : List Place) (as' : List Atom) → suc d ≤ size → AtomsFit n as' → All (PlaceFits P far d) ps → Typed m ls rs labels (Of I32 ∷ ts) rest us → Typed m ls rs labels ts (block ps d header as' rest) us
-  t_block {ts = ts} n d header ps as' le fit h k =
-      t_plain ts refl (t_tee (omega arith) (t_plain (Of I32 ∷ ts) refl (t_plain ts refl (t_plain ts refl (t_room (t_get (omega arith) (t_plain (Of I32 ∷ ts) refl (t_plain ts refl (t_fill n d d ps as' (omega arith) (omega arith) fit h (t_get (omega arith) k))))))))))
+  t_block n d header ps as' le fit h k = t_new_block n d header ps as' le fit h (t_get (omega arith) k)
 
   arms : {labels : List OperandTypes} {ts us : Operands} {rest : List Instr} {g1 g2 : List Instr → List Instr} → Shaped g1 → Shaped g2 → Typed m ls rs ((I32 ∷ []) ∷ labels) [] (g1 []) (Of I32 ∷ []) → Typed m ls rs ((I32 ∷ []) ∷ labels) [] (g2 []) (Of I32 ∷ []) →
       Typed m ls rs labels (Of I32 ∷ ts) rest us → Typed m ls rs labels (Of I32 ∷ ts) (IfWord ∷ g1 (Else ∷ g2 (End ∷ rest))) us
@@ -198,7 +201,15 @@ module _ (P : Program) (most : ℕ) (form : Formed P most) (main : Body) (gs : L
     t_code n d ps at (Let x t) le fit h l k =
         t_choice (unmade P ps x t)
         (λ q e. let z = unmade_some (block_reads 0 t) (known P ps x) e in t_code (suc n) d (q ∷ ps) at t (omega (arith, top_less d t)) fit.1 (known_fits P far most form n d ps x fit.0 h z.1, h) l k)
-        (t_op n d ps Inside x (omega arith) fit.0 h tt (t_set (omega arith) (t_code (suc n) (suc d) (At (InLocal d) ∷ ps) at t (omega arith) fit.1 (omega arith, places_up P far d (suc d) (omega arith) ps h) l k)))
+        (t_bind n d ps x (omega arith) (omega arith) fit.0 h (t_code (suc n) (suc d) (At (InLocal d) ∷ ps) at t (omega arith) fit.1 (omega arith, places_up P far d (suc d) (omega arith) ps h) l k))
+
+    t_bind : {labels : List OperandTypes} {ts us : Operands} {rest : List Instr} (n d : ℕ) (ps : List Place) (x : Op) → suc d ≤ size → top_op d x ≤ size → OpFits P.functions (length P.constants) most n x → All (PlaceFits P far d) ps →
+        Typed m ls rs labels ts rest us → Typed m ls rs labels ts (into_local ps d x (op P ps d Inside x) rest) us
+    t_bind n d ps (OCon c as') lt le fit h k = t_new_block n d _ ps as' lt fit.3 h k
+    t_bind n d ps (OClos g as') lt le fit h k = t_new_block n d _ ps as' lt fit.1 h k
+    t_bind n d ps (OConst x) lt le fit h k = t_op n d ps Inside (OConst x) le fit h tt (t_set lt k)
+    t_bind n d ps (OApp f a) lt le fit h k = t_op n d ps Inside (OApp f a) le fit h tt (t_set lt k)
+    t_bind n d ps (OCase a bs) lt le fit h k = t_op n d ps Inside (OCase a bs) le fit h tt (t_set lt k)
 
     t_empties : {labels : List OperandTypes} {ts us : Operands} {rest : List Instr} (n d : ℕ) (ps : List Place) (at : Position) (c : ℕ) (some : Bool) (bs : BranchBlocks) (others : Position → List Instr → List Instr) → ((at' : Position) → Shaped (others at')) → max (suc d) (top_branches (suc d) bs) ≤ size →
         BranchesFit P.functions (length P.constants) most n bs → All (PlaceFits P far d) ps → Labelled at labels → Puts others → Typed m ls rs labels (Of I32 ∷ ts) rest us → Typed m ls rs labels ts (empties P ps d at c some bs others rest) us

@@ -9,7 +9,7 @@ use Rattle.anf_convert.specs.declared.program.Atom.{Atom}
 use Rattle.closure_lift.specs.Lifted.{Op, OConst, OApp, OCon, OClos, OCase, Block, RetAtom, LetAtom, Ret, Let, BranchBlocks, BNil, BCons, Program}
 use Rattle.wasm_emit.specs.EmittedCode.{Load, StoreWord, ConstWord, IfWord, CallClosure, constant_index, ensure_room}
 use Rattle.known_calls.specs.KnownPlaces.{Word, InLocal, InField, IsConst, Place, At, fields_of, word_of, known_function}
-use Rattle.known_calls.specs.KnownCode.{Position, Inside, InTail, deeper, read_word, read, atom, push_words, fill, block, into_params, worker_index, jumps, call_worker, application, some_heads, some_branches, empty_test, head_test, arm, choose, unmade, op, code, empties, heads}
+use Rattle.known_calls.specs.KnownCode.{Position, Inside, InTail, deeper, read_word, read, atom, push_words, fill, new_block, block, into_local, into_params, worker_index, jumps, call_worker, application, some_heads, some_branches, empty_test, head_test, arm, choose, unmade, op, code, empties, heads}
 use Rattle.known_calls.specs.KnownModule.{captured_words}
 use Rattle.wasm_emit.proofs.Honest.{Wary, w_cons, NotStatus}
 
@@ -79,10 +79,20 @@ shaped_room = record {
   wary = λ w. w_cons tt (w_cons tt (w_cons tt (w_cons tt (w_cons tt (w_cons tt (w_cons tt (w_cons tt w)))))));
 }
 
-shaped_block : (env : List Place) (d header : ℕ) (as' : List Atom) → Shaped (block env d header as')
-shaped_block env d header as' =
+shaped_new_block : (env : List Place) (d header : ℕ) (as' : List Atom) → Shaped (new_block env d header as')
+shaped_new_block env d header as' =
     one (GlobalGet 2) refl tt then (one (LocalTee d) refl tt then (one (ConstWord (4 * suc (length as'))) refl tt then (one (Operation op32.Add) refl tt then (one (GlobalSet 2) refl (λ z. omega arith) then (shaped_room
-    then (one (LocalGet d) refl tt then (one (ConstWord header) refl tt then (one (StoreWord 0) refl tt then (shaped_fill env d as' then one (LocalGet d) refl tt)))))))))
+    then (one (LocalGet d) refl tt then (one (ConstWord header) refl tt then (one (StoreWord 0) refl tt then shaped_fill env d as'))))))))
+
+shaped_block : (env : List Place) (d header : ℕ) (as' : List Atom) → Shaped (block env d header as')
+shaped_block env d header as' = shaped_new_block env d header as' then one (LocalGet d) refl tt
+
+shaped_bind : (env : List Place) (d : ℕ) (x : Op) {g : List Instr → List Instr} → Shaped g → Shaped (into_local env d x g)
+shaped_bind env d (OCon c as') y = shaped_new_block env d _ as'
+shaped_bind env d (OClos h as') y = shaped_new_block env d _ as'
+shaped_bind env d (OConst x) y = y then one (LocalSet d) refl tt
+shaped_bind env d (OApp f a) y = y then one (LocalSet d) refl tt
+shaped_bind env d (OCase a bs) y = y then one (LocalSet d) refl tt
 
 shaped_params : (n : ℕ) → Shaped (into_params n)
 shaped_params zero = one (LocalSet 0) refl tt
@@ -132,7 +142,7 @@ module _ (P : Program) where
     shaped_code env d at (LetAtom a t) = shaped_atom env a then (one (LocalSet d) refl tt then shaped_code (At (InLocal d) ∷ env) (suc d) at t)
     shaped_code env d at (Ret x) = shaped_op env d at x
     shaped_code env d at (Let x t) =
-        shaped_choice (unmade P env x t) {g = λ q. code P (q ∷ env) d at t} (λ q. shaped_code (q ∷ env) d at t) (shaped_op env d Inside x then (one (LocalSet d) refl tt then shaped_code (At (InLocal d) ∷ env) (suc d) at t))
+        shaped_choice (unmade P env x t) {g = λ q. code P (q ∷ env) d at t} (λ q. shaped_code (q ∷ env) d at t) (shaped_bind env d x (shaped_op env d Inside x) then shaped_code (At (InLocal d) ∷ env) (suc d) at t)
 
     pub shaped_empties : (env : List Place) (d : ℕ) (at : Position) (c : ℕ) (some : Bool) (bs : BranchBlocks) (others : Position → List Instr → List Instr) → ((at' : Position) → Shaped (others at')) → Shaped (empties P env d at c some bs others)
     shaped_empties env d at c some BNil others o = o at

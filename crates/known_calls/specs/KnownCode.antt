@@ -81,10 +81,14 @@ abbrev pub fill : List Place → ℕ → List Atom → List Instr → List Instr
 fill env d [] rest = rest
 fill env d (a ∷ as') rest = LocalGet d ∷ atom env a (StoreWord (4 * suc (length as')) ∷ fill env d as' rest)
 
--- a block begins at the end of the heap, which moves past the block
+-- a block begins at the end of the heap, which moves past the block; its address comes into local d
+abbrev pub new_block : List Place → ℕ → ℕ → List Atom → List Instr → List Instr
+new_block env d header as' rest =
+    GlobalGet 2 ∷ LocalTee d ∷ ConstWord (4 * suc (length as')) ∷ Operation op32.Add ∷ GlobalSet 2 ∷ ensure_room (LocalGet d ∷ ConstWord header ∷ StoreWord 0 ∷ fill env d as' rest)
+
+-- and onto the operands
 abbrev pub block : List Place → ℕ → ℕ → List Atom → List Instr → List Instr
-block env d header as' rest =
-    GlobalGet 2 ∷ LocalTee d ∷ ConstWord (4 * suc (length as')) ∷ Operation op32.Add ∷ GlobalSet 2 ∷ ensure_room (LocalGet d ∷ ConstWord header ∷ StoreWord 0 ∷ fill env d as' (LocalGet d ∷ rest))
+block env d header as' rest = new_block env d header as' (LocalGet d ∷ rest)
 
 -- Calls.
 
@@ -144,6 +148,14 @@ abbrev pub choose : Option Place → (Place → List Instr) → List Instr → L
 choose None known_code made_code = made_code
 choose (Some q) known_code made_code = known_code q
 
+-- the word of an operation comes into local d: that of a new block is there, another one comes from the operands
+abbrev pub into_local : List Place → ℕ → Op → (List Instr → List Instr) → List Instr → List Instr
+into_local env d (OCon c as') made rest = new_block env d (length as' * 65536 + c) as' rest
+into_local env d (OClos g as') made rest = new_block env d (suc g) as' rest
+into_local env d (OConst x) made rest = made (LocalSet d ∷ rest)
+into_local env d (OApp f a) made rest = made (LocalSet d ∷ rest)
+into_local env d (OCase a bs) made rest = made (LocalSet d ∷ rest)
+
 module _ (P : Program) where
   abbrev mutual
     pub op : List Place → ℕ → Position → Op → List Instr → List Instr
@@ -157,7 +169,7 @@ module _ (P : Program) where
     code env d at (RetAtom a) rest = atom env a rest
     code env d at (LetAtom a t) rest = atom env a (LocalSet d ∷ code (At (InLocal d) ∷ env) (suc d) at t rest)
     code env d at (Ret p) rest = op env d at p rest
-    code env d at (Let p t) rest = choose (unmade P env p t) (λ q. code (q ∷ env) d at t rest) (op env d Inside p (LocalSet d ∷ code (At (InLocal d) ∷ env) (suc d) at t rest))
+    code env d at (Let p t) rest = choose (unmade P env p t) (λ q. code (q ∷ env) d at t rest) (into_local env d p (op env d Inside p) (code (At (InLocal d) ∷ env) (suc d) at t rest))
 
     -- the branches without binders, and then `others`, those with binders, of which the match has some or none
     pub empties : List Place → ℕ → Position → ℕ → Bool → BranchBlocks → (Position → List Instr → List Instr) → List Instr → List Instr

@@ -11,7 +11,7 @@ use Rattle.wasm_core.specs.declared.instrs.Instr.TheVariants.{Unreachable, Local
 use Rattle.wasm_emit.specs.EmittedCode.{Load, CallClosure}
 use Rattle.wasm_emit.specs.Pushed.{ends, renumber_bound}
 use Rattle.known_calls.specs.KnownPlaces.{Place, At, InLocal}
-use Rattle.known_calls.specs.KnownCode.{Position, Inside, InTail, known, atom, some_heads, some_branches, op, code, empties, heads}
+use Rattle.known_calls.specs.KnownCode.{Position, Inside, InTail, known, atom, into_local, some_heads, some_branches, op, code, empties, heads}
 
 -- the position under n blocks more
 abbrev pub under_position : ℕ → Position → Position
@@ -40,14 +40,21 @@ abbrev pub local_behind : ℕ → Option Place → ℕ
 local_behind d None = suc d
 local_behind d (Some q) = d
 
+abbrev pub made_code : Program → List Place → ℕ → Bound → List Instr → List Instr
+made_code P env d (AtomBound a) rest = atom env a (LocalSet d ∷ rest)
+made_code P env d (OpBound x) rest = into_local env d x (op P env d Inside x) rest
+
 abbrev pub bind_code : Program → List Place → ℕ → Bound → Option Place → List Instr → List Instr
-bind_code P env d x None rest = bound_code P env d Inside x (LocalSet d ∷ rest)
+bind_code P env d x None rest = made_code P env d x rest
 bind_code P env d x (Some q) rest = rest
 
 -- the code of the parts of a program in memory, in which a constant stands by its name
 module _ (Q : Lifted) where
   abbrev pub op_code : List Place → ℕ → Position → Bound → List Instr → List Instr
   op_code env d at x = bound_code (lifted_of Q) env d at (renumber_bound (place_in Q.constants) x)
+
+  abbrev pub op_made : List Place → ℕ → Bound → List Instr → List Instr
+  op_made env d x = made_code (lifted_of Q) env d (renumber_bound (place_in Q.constants) x)
 
   abbrev pub op_known : List Place → Bound → Option Place
   op_known env x = bound_known (lifted_of Q) env (renumber_bound (place_in Q.constants) x)

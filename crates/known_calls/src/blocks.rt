@@ -3,17 +3,16 @@
 //! A binding gets the local whose number is how many stand before it; but one that is known, and read as a word nowhere, gets no local and no code. A match puts its
 //! scrutinee into the next local and compares it with the words of the constructors without arguments, and then its block's header with those of the others; the last
 //! branch needs no test, and what a branch binds is read from the block.
-ghost use Rattle.std.specs.Prelude.{◌≡◌, ◌+◌, ◌*◌, ◌∷◌, ◌++◌, [], IfOk, IfErr, OnOk, drop, false, get_or, length, reverse, true};
+ghost use Rattle.std.specs.Prelude.{◌≡◌, ◌+◌, ◌*◌, ◌∷◌, ◌++◌, [], IfOk, IfErr, OnOk, drop, false, get_or, length, reverse, suc, true};
 ghost use Rattle.closure_lift.specs.LiftedView.{seen, branches_of};
 ghost use Rattle.closure_lift.specs.LiftedProgram.{lifted_of};
 ghost use Rattle.wasm_emit.specs.ConstantNumbers.{AreNumbered};
 ghost use Rattle.wasm_emit.specs.Pushed.{Pushed};
 ghost use Rattle.wasm_emit.specs.declared.fault.EmitFault.TheVariants.{Memory};
 ghost use Rattle.known_calls.specs.KnownMarks.{Begins, block_marks, bound_marks, empty_marks, head_marks};
-ghost use Rattle.known_calls.specs.KnownPushed.{BlockArm, HeadArms, EmptyArm, EmptyArms, PlainArms, is_last_head as last_head, binding_code, block_arms, block_code, branches_code, empty_arms, local_behind, op_code, op_unmade, place_bound, under_position};
+ghost use Rattle.known_calls.specs.KnownPushed.{BlockArm, HeadArms, EmptyArm, EmptyArms, PlainArms, is_last_head as last_head, binding_code, block_arms, block_code, branches_code, empty_arms, local_behind, op_code, op_made, op_unmade, place_bound, under_position};
 ghost use Rattle.known_calls.specs.KnownPlaces.{At, InLocal, fields_of};
-ghost use Rattle.known_calls.specs.KnownCode.{Inside, block, some_heads};
-ghost use Rattle.wasm_core.specs.declared.instrs.Instr.TheVariants.{LocalSet};
+ghost use Rattle.known_calls.specs.KnownCode.{new_block, some_heads};
 
 use crate::calls::push_application;
 use crate::closures::known;
@@ -103,7 +102,7 @@ fn push_made(
 ) -> Result<u32, EmitFault>
     requires numbered { AreNumbered numbers.now p.now.constants }
     requires marked { Begins (bound_marks (seen op.now)) (reverse marks.old.items) }
-    ensures pushed { OnOk result (Pushed out.old.items out.new.items (λ rest. op_code p.now (reverse places.old.items) local Inside (seen op.now) (LocalSet local ∷ rest))) }
+    ensures pushed { OnOk result (Pushed out.old.items out.new.items (op_made p.now (reverse places.old.items) local (seen op.now))) }
     ensures left { OnOk result (reverse marks.new.items ≡ drop (length (bound_marks (seen op.now))) (reverse marks.old.items)) }
     ensures place { OnOk result (places.new.items ≡ places.old.items ++ At (InLocal local) ∷ []) }
     ensures next { IfOk result (λ n. n ≡ local + 1) }
@@ -113,8 +112,14 @@ fn push_made(
         local,
         at: Position::Inside,
     };
-    push_op(p, numbers, places, site, op, marks, out)?;
-    push(out, Instr::LocalSet(local))?;
+    match op {
+        LiftedOp::Construct(c, args) => push_construct(places.as_slice(), local, *c, args, out)?,
+        LiftedOp::Closure(g, words) => push_closure(places.as_slice(), local, *g, words, out)?,
+        _ => {
+            push_op(p, numbers, places, site, op, marks, out)?;
+            push(out, Instr::LocalSet(local))?;
+        }
+    }
     places.push(Place::At(Word::Local(local)))?;
     match local.checked_add(1) {
         Some(next) => Ok(next),
@@ -148,13 +153,12 @@ fn push_op(
         }
         LiftedOp::App(f, a) => push_application(p, places.as_slice(), site.at, *f, *a, out),
         LiftedOp::Construct(c, args) => {
-            push_construct(places.as_slice(), site.local, *c, args, out)
+            push_construct(places.as_slice(), site.local, *c, args, out)?;
+            push(out, Instr::LocalGet(site.local))
         }
         LiftedOp::Closure(g, words) => {
-            let Some(entry) = g.checked_add(1) else {
-                return Err(EmitFault::Memory);
-            };
-            push_new_block(places.as_slice(), site.local, entry, words, out)
+            push_closure(places.as_slice(), site.local, *g, words, out)?;
+            push(out, Instr::LocalGet(site.local))
         }
         LiftedOp::Case(a, bs) => {
             push_atom(places.as_slice(), *a, out)?;
@@ -164,7 +168,7 @@ fn push_op(
     }
 }
 
-/// Makes the block of a constructor with arguments. Only `Memory`.
+/// Makes the block of a constructor with arguments, and puts its address into local d. Only `Memory`.
 fn push_construct(
     places: &[Place],
     d: u32,
@@ -172,7 +176,7 @@ fn push_construct(
     args: &Atoms,
     out: &mut Vec<Instr>,
 ) -> Result<(), EmitFault>
-    ensures pushed { OnOk result (Pushed out.old.items out.new.items (block (reverse places.now) d (length args.now * 65536 + c) args.now)) }
+    ensures pushed { OnOk result (Pushed out.old.items out.new.items (new_block (reverse places.now) d (length args.now * 65536 + c) args.now)) }
     ensures only_memory { IfErr result (λ e. e ≡ Memory) }
 {
     let Ok(fields) = u32::try_from(args.len()) else {
@@ -180,6 +184,23 @@ fn push_construct(
     };
     let header = header_word(c, fields)?;
     push_new_block(places, d, header, args, out)
+}
+
+/// Makes the block of a closure of function g with these captured words, and puts its address into local d. Only `Memory`.
+fn push_closure(
+    places: &[Place],
+    d: u32,
+    g: u32,
+    words: &Atoms,
+    out: &mut Vec<Instr>,
+) -> Result<(), EmitFault>
+    ensures pushed { OnOk result (Pushed out.old.items out.new.items (new_block (reverse places.now) d (suc g) words.now)) }
+    ensures only_memory { IfErr result (λ e. e ≡ Memory) }
+{
+    let Some(entry) = g.checked_add(1) else {
+        return Err(EmitFault::Memory);
+    };
+    push_new_block(places, d, entry, words, out)
 }
 
 /// The branches of a match on the word in the site's local. Only `Memory`.
