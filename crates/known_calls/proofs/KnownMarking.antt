@@ -161,6 +161,10 @@ no_head_marks BNil e = refl
 no_head_marks (BCons zero t bs) e = no_head_marks bs e
 no_head_marks (BCons (suc n) t bs) e = cc
 
+-- all are those of the branches without binders where no other has any
+pub plain_left : (bs : BranchBlocks) (all new : List Bool) → some_heads bs ≡ false → new ≡ drop (length (empty_marks bs)) all → new ≡ drop (length (empty_marks bs ++ head_marks bs)) all
+plain_left bs all new none e = e ∙ ap (λ (ms : List Bool). drop (length ms) all) (sym (ap (λ (ms : List Bool). empty_marks bs ++ ms) (no_head_marks bs none) ∙ append-nil (empty_marks bs)))
+
 -- Numbers of constants play no part.
 mutual
   pub op_reads_renumbered : (f : ℕ → ℕ) (i : ℕ) (p : Op) → op_reads i (renumber_op f p) ≡ op_reads i p

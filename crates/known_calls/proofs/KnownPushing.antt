@@ -258,13 +258,12 @@ module _ (Q : Lifted) (env : List Place) (d : ℕ) (at : Position) (c : ℕ) (bs
       ∙ inv rest
 
   -- the last branch of all, and of those with binders
-  pub empties_end : Last Q env d (under_position begun at) c b old new → length bs ≤ c + 1 → some_heads (branches_of (drop c bs)) ≡ false → (g : (Position → List Instr → List Instr) → List Instr → List Instr) →
+  pub empties_end : Last Q env d (under_position begun at) c b old new → length bs ≤ c + 1 → b.binders ≡ 0 → (g : (Position → List Instr → List Instr) → List Instr → List Instr) →
       ((others : Position → List Instr → List Instr) (rest : List Instr) → old ++ empties (lifted_of Q) env d (under_position begun at) c false (rest_from c) others (ends begun rest) ≡ out ++ g others rest) →
       (others : Position → List Instr → List Instr) (rest : List Instr) → new ++ ends begun rest ≡ out ++ g others rest
   empties_end x last plain g inv others rest =
       let none : rest_from (c + 1) ≡ BNil = ap (λ (xs : List LiftedBranch). renumber_branches (place_in Q.constants) (branches_of xs)) (drop_all (c + 1) bs last) in
-      let here : some_heads (BCons b.binders b.body (branches_of (drop (c + 1) bs))) ≡ false = ap (λ (xs : List LiftedBranch). some_heads (branches_of xs)) (sym (next_of bs c b lt is)) ∙ plain in
-      empty_ended Q env d (under_position begun at) c b old new (no_binders b.binders b.body (branches_of (drop (c + 1) bs)) here) x others (ends begun rest)
+      empty_ended Q env d (under_position begun at) c b old new plain x others (ends begun rest)
       ∙ ap (λ (xs : BranchBlocks). old ++ empties (lifted_of Q) env d (under_position begun at) c false xs others (ends begun rest)) (ap (λ (xs : BranchBlocks). BCons b.binders (renumber (place_in Q.constants) b.body) xs) (sym none) ∙ sym next_arm)
       ∙ inv others rest
 
@@ -275,6 +274,12 @@ module _ (Q : Lifted) (env : List Place) (d : ℕ) (at : Position) (c : ℕ) (bs
       head_ended Q env d (under_position begun at) c b old new (rest_from (c + 1)) h.0 (heads_renumbered (place_in Q.constants) (branches_of (drop (c + 1) bs)) ∙ h.1) x (ends begun rest)
       ∙ ap (λ (xs : BranchBlocks). old ++ heads (lifted_of Q) env d (under_position begun at) c xs (ends begun rest)) (sym next_arm)
       ∙ inv rest
+
+-- the branch that comes next, where none has binders
+pub plain_here : (bs : List LiftedBranch) (c : ℕ) (b : LiftedBranch) → c < length bs → b ≡ get_or bs c b → some_heads (branches_of (drop c bs)) ≡ false → (b.binders ≡ 0) × (some_heads (branches_of (drop (c + 1) bs)) ≡ false)
+plain_here bs c b lt is plain =
+    let here : some_heads (BCons b.binders b.body (branches_of (drop (c + 1) bs))) ≡ false = ap (λ (xs : List LiftedBranch). some_heads (branches_of xs)) (sym (next_of bs c b lt is)) ∙ plain in
+    (no_binders b.binders b.body (branches_of (drop (c + 1) bs)) here, none_behind b.binders b.body (branches_of (drop (c + 1) bs)) here)
 
 -- there are branches behind one that isn't the last
 pub more_behind : (f : ℕ → ℕ) (bs : List LiftedBranch) (i : ℕ) → i < length bs → some_branches (renumber_branches f (branches_of (drop i bs))) ≡ true

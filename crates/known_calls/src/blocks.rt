@@ -221,19 +221,65 @@ fn push_branches(
     ensures same { OnOk result (places.new.items ≡ places.old.items) }
     ensures only_memory { IfErr result (λ e. e ≡ Memory) }
 {
-    if !heads_from(bs.as_slice(), 0) {
-        let plain = push_plain_branches(p, numbers, places, site, bs.as_slice(), marks, out)?;
-        return push_ends(plain, out);
+    let items = bs.as_slice();
+    if heads_from(items, 0) {
+        push_mixed_branches(p, numbers, places, site, items, marks, out)
+    } else {
+        push_plain_branches(p, numbers, places, site, items, marks, out)
     }
-    let empties = push_empty_branches(p, numbers, places, site, bs.as_slice(), marks, out)?;
+}
+
+/// The branches of a match of which some have binders. Only `Memory`.
+#[cycle(blocks)]
+fn push_mixed_branches(
+    p: &Lifted,
+    numbers: &HashMap<u32, usize>,
+    places: &mut Vec<Place>,
+    site: Site,
+    bs: &[LiftedBranch],
+    marks: &mut Vec<bool>,
+    out: &mut Vec<Instr>,
+) -> Result<(), EmitFault>
+    requires numbered { AreNumbered numbers.now p.now.constants }
+    requires mixed { some_heads (branches_of bs.now) ≡ true }
+    requires marked { Begins (empty_marks (branches_of bs.now) ++ head_marks (branches_of bs.now)) (reverse marks.old.items) }
+    ensures pushed { OnOk result (Pushed out.old.items out.new.items (branches_code p.now (reverse places.old.items) site.local site.at (branches_of bs.now))) }
+    ensures left { OnOk result (reverse marks.new.items ≡ drop (length (empty_marks (branches_of bs.now) ++ head_marks (branches_of bs.now))) (reverse marks.old.items)) }
+    ensures same { OnOk result (places.new.items ≡ places.old.items) }
+    ensures only_memory { IfErr result (λ e. e ≡ Memory) }
+{
+    let empties = push_empty_branches(p, numbers, places, site, bs, marks, out)?;
     let at = under(site.at, empties)?;
     let inner = Site {
         local: site.local,
         at,
     };
-    let blocks = push_block_branches(p, numbers, places, inner, bs.as_slice(), marks, out)?;
+    let blocks = push_block_branches(p, numbers, places, inner, bs, marks, out)?;
     push_ends(blocks, out)?;
     push_ends(empties, out)
+}
+
+/// The branches of a match of which none has binders. Only `Memory`.
+#[cycle(blocks)]
+fn push_plain_branches(
+    p: &Lifted,
+    numbers: &HashMap<u32, usize>,
+    places: &mut Vec<Place>,
+    site: Site,
+    bs: &[LiftedBranch],
+    marks: &mut Vec<bool>,
+    out: &mut Vec<Instr>,
+) -> Result<(), EmitFault>
+    requires numbered { AreNumbered numbers.now p.now.constants }
+    requires plain { some_heads (branches_of bs.now) ≡ false }
+    requires marked { Begins (empty_marks (branches_of bs.now) ++ head_marks (branches_of bs.now)) (reverse marks.old.items) }
+    ensures pushed { OnOk result (Pushed out.old.items out.new.items (branches_code p.now (reverse places.old.items) site.local site.at (branches_of bs.now))) }
+    ensures left { OnOk result (reverse marks.new.items ≡ drop (length (empty_marks (branches_of bs.now) ++ head_marks (branches_of bs.now))) (reverse marks.old.items)) }
+    ensures same { OnOk result (places.new.items ≡ places.old.items) }
+    ensures only_memory { IfErr result (λ e. e ≡ Memory) }
+{
+    let begun = push_plain_arms(p, numbers, places, site, bs, marks, out)?;
+    push_ends(begun, out)
 }
 
 /// Whether one of the branches from this one on has binders.
@@ -257,7 +303,7 @@ fn is_last_head(b: &LiftedBranch, bs: &[LiftedBranch], behind: usize) -> bool
 
 /// The branches of a match of which none has binders, each in an arm of its own but for the last. It gives how many arms it has begun. Only `Memory`.
 #[cycle(blocks)]
-fn push_plain_branches(
+fn push_plain_arms(
     p: &Lifted,
     numbers: &HashMap<u32, usize>,
     places: &mut Vec<Place>,
@@ -277,11 +323,12 @@ fn push_plain_branches(
     let mut begun = 0;
     for c in 0..bs.len() {
         let arm = arm_of(site, begun, c)?;
+        let b = &bs[c];
         if c + 1 == bs.len() {
-            push_fielded(p, numbers, places, arm.site, &bs[c], marks, out)?;
+            push_fielded(p, numbers, places, arm.site, b, marks, out)?;
             return Ok(begun);
         }
-        let arms = push_empty_arm(p, numbers, places, arm, &bs[c], marks, out)?;
+        let arms = push_empty_arm(p, numbers, places, arm, b, marks, out)?;
         begun += arms;
     }
     push(out, Instr::Unreachable)?;
@@ -397,11 +444,12 @@ fn push_block_branches(
     let mut begun = 0;
     for c in 0..bs.len() {
         let arm = arm_of(site, begun, c)?;
-        if is_last_head(&bs[c], bs, c + 1) {
-            push_fielded(p, numbers, places, arm.site, &bs[c], marks, out)?;
+        let b = &bs[c];
+        if is_last_head(b, bs, c + 1) {
+            push_fielded(p, numbers, places, arm.site, b, marks, out)?;
             return Ok(begun);
         }
-        let arms = push_block_arm(p, numbers, places, arm, &bs[c], marks, out)?;
+        let arms = push_block_arm(p, numbers, places, arm, b, marks, out)?;
         begun += arms;
     }
     push(out, Instr::Unreachable)?;

@@ -23,10 +23,16 @@ abbrev pub decreases-push_op : goal.decreases-push_op
 decreases-push_op l = 4 * bound_weight (seen l.op.now) + 1
 
 abbrev pub decreases-push_branches : goal.decreases-push_branches
-decreases-push_branches l = 4 * branches_weight l.bs.now + 1
+decreases-push_branches l = 4 * branches_weight l.bs.now + 2
+
+abbrev pub decreases-push_mixed_branches : goal.decreases-push_mixed_branches
+decreases-push_mixed_branches l = 4 * branches_weight (branches_of l.bs.now) + 1
 
 abbrev pub decreases-push_plain_branches : goal.decreases-push_plain_branches
-decreases-push_plain_branches l = 4 * branches_weight (branches_of l.bs.now)
+decreases-push_plain_branches l = 4 * branches_weight (branches_of l.bs.now) + 1
+
+abbrev pub decreases-push_plain_arms : goal.decreases-push_plain_arms
+decreases-push_plain_arms l = 4 * branches_weight (branches_of l.bs.now)
 
 abbrev pub decreases-push_empty_branches : goal.decreases-push_empty_branches
 decreases-push_empty_branches l = 4 * branches_weight (branches_of l.bs.now)
@@ -52,8 +58,8 @@ invariant-push_block-loop-op l = record {
   more : l.outer ≤ length l.places.items;
 }
 
-abbrev pub invariant-push_plain_branches-loop-c : goal.invariant-push_plain_branches-loop-c
-invariant-push_plain_branches-loop-c l = record {
+abbrev pub invariant-push_plain_arms-loop-c : goal.invariant-push_plain_arms-loop-c
+invariant-push_plain_arms-loop-c l = record {
   pushed : (others : Position → List Instr → List Instr) (rest : List Instr) → l.out.items ++ empties (lifted_of l.p) (reverse l.initial.places.items) l.site.local (under_position l.begun l.site.at) l.c false (renumber_branches (place_in l.p.constants) (branches_of (drop l.c l.bs))) others (ends l.begun
       rest) ≡ l.initial.out.items ++ empty_arms l.p (reverse l.initial.places.items) l.site.local l.site.at false (branches_of l.bs) others rest;
   marked : Begins (empty_marks (branches_of (drop l.c l.bs))) (reverse l.marks.items);
