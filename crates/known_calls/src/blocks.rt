@@ -12,7 +12,8 @@ ghost use Rattle.wasm_emit.specs.declared.fault.EmitFault.TheVariants.{Memory};
 ghost use Rattle.known_calls.specs.KnownMarks.{Begins, block_marks, bound_marks, empty_marks, head_marks};
 ghost use Rattle.known_calls.specs.KnownPushed.{BlockArm, HeadArms, EmptyArm, EmptyArms, PlainArms, is_last_head as last_head, binding_code, block_arms, block_code, branches_code, empty_arms, local_behind, op_code, op_made, op_unmade, place_bound, under_position};
 ghost use Rattle.known_calls.specs.KnownPlaces.{At, InLocal, fields_of};
-ghost use Rattle.known_calls.specs.KnownCode.{new_block, some_heads};
+ghost use Rattle.known_calls.specs.KnownCode.{Inside, new_block, some_heads};
+ghost use Rattle.wasm_core.specs.declared.instrs.Instr.TheVariants.{LocalSet};
 
 use crate::calls::push_application;
 use crate::closures::known;
@@ -108,23 +109,65 @@ fn push_made(
     ensures next { IfOk result (λ n. n ≡ local + 1) }
     ensures only_memory { IfErr result (λ e. e ≡ Memory) }
 {
-    let site = Site {
-        local,
-        at: Position::Inside,
-    };
-    match op {
-        LiftedOp::Construct(c, args) => push_construct(places.as_slice(), local, *c, args, out)?,
-        LiftedOp::Closure(g, words) => push_closure(places.as_slice(), local, *g, words, out)?,
-        _ => {
-            push_op(p, numbers, places, site, op, marks, out)?;
-            push(out, Instr::LocalSet(local))?;
-        }
-    }
+    push_into_local(p, numbers, places, local, op, marks, out)?;
     places.push(Place::At(Word::Local(local)))?;
     match local.checked_add(1) {
         Some(next) => Ok(next),
         None => Err(EmitFault::Memory),
     }
+}
+
+/// Puts the value of an operation into the first free local, in which a new block has its address anyway. Only `Memory`.
+#[cycle(blocks)]
+fn push_into_local(
+    p: &Lifted,
+    numbers: &HashMap<u32, usize>,
+    places: &mut Vec<Place>,
+    local: u32,
+    op: &LiftedOp,
+    marks: &mut Vec<bool>,
+    out: &mut Vec<Instr>,
+) -> Result<(), EmitFault>
+    requires numbered { AreNumbered numbers.now p.now.constants }
+    requires marked { Begins (bound_marks (seen op.now)) (reverse marks.old.items) }
+    ensures pushed { OnOk result (Pushed out.old.items out.new.items (op_made p.now (reverse places.old.items) local (seen op.now))) }
+    ensures left { OnOk result (reverse marks.new.items ≡ drop (length (bound_marks (seen op.now))) (reverse marks.old.items)) }
+    ensures same { OnOk result (places.new.items ≡ places.old.items) }
+    ensures only_memory { IfErr result (λ e. e ≡ Memory) }
+{
+    match op {
+        LiftedOp::Construct(c, args) => push_construct(places.as_slice(), local, *c, args, out),
+        LiftedOp::Closure(g, words) => push_closure(places.as_slice(), local, *g, words, out),
+        LiftedOp::Atom(_) | LiftedOp::Const(_) | LiftedOp::App(_, _) | LiftedOp::Case(_, _) => {
+            push_then_set(p, numbers, places, local, op, marks, out)
+        }
+    }
+}
+
+/// Puts the value of an operation on the operands, and from there into the first free local. Only `Memory`.
+#[cycle(blocks)]
+fn push_then_set(
+    p: &Lifted,
+    numbers: &HashMap<u32, usize>,
+    places: &mut Vec<Place>,
+    local: u32,
+    op: &LiftedOp,
+    marks: &mut Vec<bool>,
+    out: &mut Vec<Instr>,
+) -> Result<(), EmitFault>
+    requires numbered { AreNumbered numbers.now p.now.constants }
+    requires marked { Begins (bound_marks (seen op.now)) (reverse marks.old.items) }
+    ensures pushed { OnOk result (Pushed out.old.items out.new.items (λ rest. op_code p.now (reverse places.old.items) local Inside (seen op.now) (LocalSet local ∷ rest))) }
+    ensures left { OnOk result (reverse marks.new.items ≡ drop (length (bound_marks (seen op.now))) (reverse marks.old.items)) }
+    ensures same { OnOk result (places.new.items ≡ places.old.items) }
+    ensures only_memory { IfErr result (λ e. e ≡ Memory) }
+{
+    let site = Site {
+        local,
+        at: Position::Inside,
+    };
+    push_op(p, numbers, places, site, op, marks, out)?;
+    push(out, Instr::LocalSet(local))
 }
 
 /// Puts the value of an operation on the operands. Only `Memory`.

@@ -21,7 +21,7 @@ pub push_block-push_binding-requires : goal.push_block-push_binding-requires
 push_block-push_binding-requires t c =
     let ops = c.as_slice-op-items.result.now in
     let d = op_lighter ops c.b.inside.bindings c.loop-op.op-index c.op-item.result c.b.inside.tail c.args.b.now c.loop-op-test.true c.op-item.is c.as_slice-op-items.ensures.is c.b.view_is in
-    let e : 4 * bound_weight (seen c.op-item.result) + 3 < 4 * block_weight c.args.b.now = omega (arith, d) in
+    let e : 4 * bound_weight (seen c.op-item.result) + 5 < 4 * block_weight c.args.b.now = omega (arith, d) in
     let m : Begins (bound_marks (seen c.op-item.result)) (drop 1 (reverse c.loop-op.marks.items)) = begin_op ops c.loop-op.op-index c.op-item.result (ret_of (seen c.b.inside.tail)) c.loop-op-test.true c.op-item.is (reverse c.loop-op.marks.items) c.loop-op.invariant.marked in
     search (rules, e, m)
 

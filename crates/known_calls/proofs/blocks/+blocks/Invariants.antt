@@ -14,10 +14,16 @@ abbrev pub decreases-push_block : goal.decreases-push_block
 decreases-push_block l = 4 * block_weight l.b.now
 
 abbrev pub decreases-push_binding : goal.decreases-push_binding
-decreases-push_binding l = 4 * bound_weight (seen l.op.now) + 3
+decreases-push_binding l = 4 * bound_weight (seen l.op.now) + 5
 
 abbrev pub decreases-push_made : goal.decreases-push_made
-decreases-push_made l = 4 * bound_weight (seen l.op.now) + 2
+decreases-push_made l = 4 * bound_weight (seen l.op.now) + 4
+
+abbrev pub decreases-push_into_local : goal.decreases-push_into_local
+decreases-push_into_local l = 4 * bound_weight (seen l.op.now) + 3
+
+abbrev pub decreases-push_then_set : goal.decreases-push_then_set
+decreases-push_then_set l = 4 * bound_weight (seen l.op.now) + 2
 
 abbrev pub decreases-push_op : goal.decreases-push_op
 decreases-push_op l = 4 * bound_weight (seen l.op.now) + 1
