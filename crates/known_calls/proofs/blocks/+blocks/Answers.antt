@@ -21,14 +21,14 @@ pub push_block-push_binding-requires : goal.push_block-push_binding-requires
 push_block-push_binding-requires t c =
     let ops = c.as_slice-op-items.result.now in
     let d = op_lighter ops c.b.inside.bindings c.loop-op.op-index c.op-item.result c.b.inside.tail c.args.b.now c.loop-op-test.true c.op-item.is c.as_slice-op-items.ensures.is c.b.view_is in
-    let e : 4 * bound_weight (seen c.op-item.result) + 5 < 4 * block_weight c.args.b.now = omega (arith, d) in
+    let e : 8 * bound_weight (seen c.op-item.result) + 5 < 8 * block_weight c.args.b.now = omega (arith, d) in
     let m : Begins (bound_marks (seen c.op-item.result)) (drop 1 (reverse c.loop-op.marks.items)) = begin_op ops c.loop-op.op-index c.op-item.result (ret_of (seen c.b.inside.tail)) c.loop-op-test.true c.op-item.is (reverse c.loop-op.marks.items) c.loop-op.invariant.marked in
     search (rules, e, m)
 
 pub push_block-push_op-requires : goal.push_block-push_op-requires
 push_block-push_op-requires t c =
     let d = tail_lighter c.b.inside.bindings c.b.inside.tail c.args.b.now c.b.view_is in
-    let e : 4 * bound_weight (seen c.b.inside.tail) + 1 < 4 * block_weight c.args.b.now = omega (arith, d) in
+    let e : 8 * bound_weight (seen c.b.inside.tail) + 1 < 8 * block_weight c.args.b.now = omega (arith, d) in
     let m : Begins (bound_marks (seen c.b.inside.tail)) (reverse c.loop-op.marks.items) =
     subst (λ ms. Begins ms (reverse c.loop-op.marks.items)) (end_marks c.as_slice-op-items.result.now c.loop-op.op-index (seen c.b.inside.tail) c.loop-op-test.false) c.loop-op.invariant.marked in
     search (rules, e, m)
@@ -52,7 +52,7 @@ push_block-loop-op-preserved t c =
 pub push_block_branches-push_block_arm-requires : goal.push_block_branches-push_block_arm-requires
 push_block_branches-push_block_arm-requires t c =
     let d = arm_lighter c.args.bs.now c.loop-c.c c.index-bs-c.result c.loop-c-test.true c.index-bs-c.is in
-    let e : 4 * block_weight c.index-bs-c.result.body + 2 < 4 * branches_weight (branches_of c.args.bs.now) = omega (arith, d) in
+    let e : 8 * block_weight c.index-bs-c.result.body + 2 < 8 * branches_weight (branches_of c.args.bs.now) = omega (arith, d) in
     let m = begin_arm head_marks head_marks_step c.args.bs.now c.loop-c.c c.index-bs-c.result c.loop-c-test.true c.index-bs-c.is (reverse c.loop-c.marks.items) c.loop-c.invariant.marked in
     search (rules, e, m)
 
@@ -85,7 +85,7 @@ push_block_branches-returns-clause-pushed t c = record {
 pub push_empty_branches-push_empty_arm-requires : goal.push_empty_branches-push_empty_arm-requires
 push_empty_branches-push_empty_arm-requires t c =
     let d = arm_lighter c.args.bs.now c.loop-c.c c.index-bs-c.result c.loop-c-test.true c.index-bs-c.is in
-    let e : 4 * block_weight c.index-bs-c.result.body + 1 < 4 * branches_weight (branches_of c.args.bs.now) = omega (arith, d) in
+    let e : 8 * block_weight c.index-bs-c.result.body + 1 < 8 * branches_weight (branches_of c.args.bs.now) = omega (arith, d) in
     let m = begin_arm empty_marks empty_marks_step c.args.bs.now c.loop-c.c c.index-bs-c.result c.loop-c-test.true c.index-bs-c.is (reverse c.loop-c.marks.items) c.loop-c.invariant.marked in
     search (rules, e, m)
 
@@ -122,7 +122,7 @@ push_block_branches-push_fielded-requires t c =
     let all = reverse c.loop-c.marks.items in
     let last = last_is b.binders (branches_of (drop (c.loop-c.c + 1) c.args.bs.now)) (sym c.is_last_head.ensures.is ∙ c.if-is_last_head.true) in
     let d = arm_lighter c.args.bs.now c.loop-c.c b c.loop-c-test.true c.index-bs-c.is in
-    let e : 4 * block_weight b.body + 1 < 4 * branches_weight (branches_of c.args.bs.now) = omega (arith, d) in
+    let e : 8 * block_weight b.body + 1 < 8 * branches_weight (branches_of c.args.bs.now) = omega (arith, d) in
     let m : Begins (block_marks b.body) all = subst (λ ms. Begins ms all) (fielded_marks b.binders b.body last.0) (begin_arm head_marks head_marks_step c.args.bs.now c.loop-c.c b c.loop-c-test.true c.index-bs-c.is all c.loop-c.invariant.marked) in
     search (rules, e, m)
 
@@ -154,7 +154,7 @@ push_block_branches-returns-then-is_last_head-clause-left t c =
 pub push_plain_arms-push_empty_arm-requires : goal.push_plain_arms-push_empty_arm-requires
 push_plain_arms-push_empty_arm-requires t c =
     let d = arm_lighter c.args.bs.now c.loop-c.c c.index-bs-c.result c.loop-c-test.true c.index-bs-c.is in
-    let e : 4 * block_weight c.index-bs-c.result.body + 1 < 4 * branches_weight (branches_of c.args.bs.now) = omega (arith, d) in
+    let e : 8 * block_weight c.index-bs-c.result.body + 1 < 8 * branches_weight (branches_of c.args.bs.now) = omega (arith, d) in
     let m = begin_arm empty_marks empty_marks_step c.args.bs.now c.loop-c.c c.index-bs-c.result c.loop-c-test.true c.index-bs-c.is (reverse c.loop-c.marks.items) c.loop-c.invariant.marked in
     search (rules, e, m)
 
@@ -164,7 +164,7 @@ push_plain_arms-push_fielded-requires t c =
     let all = reverse c.loop-c.marks.items in
     let plain = plain_here c.args.bs.now c.loop-c.c b c.loop-c-test.true c.index-bs-c.is c.loop-c.invariant.plain in
     let d = arm_lighter c.args.bs.now c.loop-c.c b c.loop-c-test.true c.index-bs-c.is in
-    let e : 4 * block_weight b.body + 1 < 4 * branches_weight (branches_of c.args.bs.now) = omega (arith, d) in
+    let e : 8 * block_weight b.body + 1 < 8 * branches_weight (branches_of c.args.bs.now) = omega (arith, d) in
     let m : Begins (block_marks b.body) all = subst (λ ms. Begins ms all) (plain_marks b.binders b.body plain.0) (begin_arm empty_marks empty_marks_step c.args.bs.now c.loop-c.c b c.loop-c-test.true c.index-bs-c.is all c.loop-c.invariant.marked) in
     search (rules, e, m)
 

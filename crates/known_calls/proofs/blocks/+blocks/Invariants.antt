@@ -11,49 +11,49 @@ use Rattle.known_calls.specs.KnownPushed.{under_position, block_code, empty_arms
 use Rattle.known_calls.proofs.blocks.+blocks.Given as goal
 
 abbrev pub decreases-push_block : goal.decreases-push_block
-decreases-push_block l = 4 * block_weight l.b.now
+decreases-push_block l = 8 * block_weight l.b.now
 
 abbrev pub decreases-push_binding : goal.decreases-push_binding
-decreases-push_binding l = 4 * bound_weight (seen l.op.now) + 5
+decreases-push_binding l = 8 * bound_weight (seen l.op.now) + 5
 
 abbrev pub decreases-push_made : goal.decreases-push_made
-decreases-push_made l = 4 * bound_weight (seen l.op.now) + 4
+decreases-push_made l = 8 * bound_weight (seen l.op.now) + 4
 
 abbrev pub decreases-push_into_local : goal.decreases-push_into_local
-decreases-push_into_local l = 4 * bound_weight (seen l.op.now) + 3
+decreases-push_into_local l = 8 * bound_weight (seen l.op.now) + 3
 
 abbrev pub decreases-push_then_set : goal.decreases-push_then_set
-decreases-push_then_set l = 4 * bound_weight (seen l.op.now) + 2
+decreases-push_then_set l = 8 * bound_weight (seen l.op.now) + 2
 
 abbrev pub decreases-push_op : goal.decreases-push_op
-decreases-push_op l = 4 * bound_weight (seen l.op.now) + 1
+decreases-push_op l = 8 * bound_weight (seen l.op.now) + 1
 
 abbrev pub decreases-push_branches : goal.decreases-push_branches
-decreases-push_branches l = 4 * branches_weight l.bs.now + 2
+decreases-push_branches l = 8 * branches_weight l.bs.now + 2
 
 abbrev pub decreases-push_mixed_branches : goal.decreases-push_mixed_branches
-decreases-push_mixed_branches l = 4 * branches_weight (branches_of l.bs.now) + 1
+decreases-push_mixed_branches l = 8 * branches_weight (branches_of l.bs.now) + 1
 
 abbrev pub decreases-push_plain_branches : goal.decreases-push_plain_branches
-decreases-push_plain_branches l = 4 * branches_weight (branches_of l.bs.now) + 1
+decreases-push_plain_branches l = 8 * branches_weight (branches_of l.bs.now) + 1
 
 abbrev pub decreases-push_plain_arms : goal.decreases-push_plain_arms
-decreases-push_plain_arms l = 4 * branches_weight (branches_of l.bs.now)
+decreases-push_plain_arms l = 8 * branches_weight (branches_of l.bs.now)
 
 abbrev pub decreases-push_empty_branches : goal.decreases-push_empty_branches
-decreases-push_empty_branches l = 4 * branches_weight (branches_of l.bs.now)
+decreases-push_empty_branches l = 8 * branches_weight (branches_of l.bs.now)
 
 abbrev pub decreases-push_block_branches : goal.decreases-push_block_branches
-decreases-push_block_branches l = 4 * branches_weight (branches_of l.bs.now)
+decreases-push_block_branches l = 8 * branches_weight (branches_of l.bs.now)
 
 abbrev pub decreases-push_empty_arm : goal.decreases-push_empty_arm
-decreases-push_empty_arm l = 4 * block_weight l.b.now.body + 1
+decreases-push_empty_arm l = 8 * block_weight l.b.now.body + 1
 
 abbrev pub decreases-push_block_arm : goal.decreases-push_block_arm
-decreases-push_block_arm l = 4 * block_weight l.b.now.body + 2
+decreases-push_block_arm l = 8 * block_weight l.b.now.body + 2
 
 abbrev pub decreases-push_fielded : goal.decreases-push_fielded
-decreases-push_fielded l = 4 * block_weight l.b.now.body + 1
+decreases-push_fielded l = 8 * block_weight l.b.now.body + 1
 
 abbrev pub invariant-push_block-loop-op : goal.invariant-push_block-loop-op
 invariant-push_block-loop-op l = record {
