@@ -1,5 +1,5 @@
 //! The module of a lifted program, with workers.
-ghost use Rattle.std.specs.Prelude.{◌≡◌, ◌+◌, ◌++◌, ◌∷◌, ◌≤◌, [], if◌then◌else◌, IfOk, IfErr, OnOk, length, nat_le};
+ghost use Rattle.std.specs.Prelude.{◌≡◌, ◌+◌, ◌++◌, ◌∷◌, ◌≤◌, [], if◌then◌else◌, IfOk, IfErr, OnOk, length, max, nat_le, suc};
 ghost use Rattle.closure_lift.specs.LiftedProgram.{lifted_of};
 ghost use Rattle.wasm_core.specs.ModuleCondition.{IsModule};
 ghost use Rattle.wasm_core.specs.ModuleTyping.{IsValid};
@@ -42,11 +42,20 @@ fn widest_worker(p: &Lifted) -> u32
 {
     let mut most = 0;
     for f in p.functions.as_slice() {
-        if !is_wide(f) && most <= f.captured {
-            most = f.captured + 1;
-        }
+        most = wider(f, most);
     }
     most
+}
+
+/// So many types, or those up to that of the function's worker where these are more.
+fn wider(f: &Function, most: u32) -> u32
+    ensures is { result ≡ (if nat_le 8 f.now.captured then most else max (suc f.now.captured) most) }
+{
+    if is_wide(f) {
+        most
+    } else {
+        (f.captured + 1).max(most)
+    }
 }
 
 /// The types of main and of the function that makes room, of a constant's function, of the entries, and of the workers by their captured words.
