@@ -99,11 +99,13 @@ module _ (P : Program) (M : Parts) (cap : Limits) (Q : State → Type 0) where
     -- a constructor without arguments
     pub take_empty : (ps : List Place) (at : Position) (c : ℕ) (some : Bool) {i j : ℕ} {bs : BranchBlocks} {t : Block} (others : Position → List Instr → List Instr) → j ≡ 0 → w ≡ 2 * (c + i) + 1 → ((at' : Position) → Shaped (others at')) → BranchAt bs i j t →
         ((at' : Position) → Yields at' m p h ls d v tail D k s n (code P ps (suc d) at' t)) → Yields at m p h ls d v tail D k s (5 * many bs + n) (empties P ps d at c some bs others)
-    take_empty ps at c some others none is shaped (branch_here {n = zero} {b = t} {rest = bs}) y = here (some || some_branches bs)
+    take_empty ps at c some others none is shaped (branch_here {n = zero} {b = t} {rest = bs}) y =
+        let r = either (some || some_branches bs) in
+        record { run = λ f vals rest l u bound stood deep fits go out. r.run f vals rest l u bound stood deep (omega arith) go out }
       where
-        here : (b : Bool) → Yields at m p h ls d v tail D k s (5 * suc (many bs) + n) (arm b (empty_test d c) (λ at'. code P ps (suc d) at' t) (λ at'. empties P ps d at' (suc c) some bs others) at)
-        here false = record { run = λ f vals rest l u bound stood deep fits go out. (y at).run f vals rest l u bound stood deep (omega arith) go out }
-        here true = record {
+        either : (b : Bool) → Yields at m p h ls d v tail D k s (5 * suc (many bs) + n) (arm b (empty_test d c) (λ at'. code P ps (suc d) at' t) (λ at'. empties P ps d at' (suc c) some bs others) at)
+        either false = record { run = λ f vals rest l u bound stood deep fits go out. (y at).run f vals rest l u bound stood deep (omega arith) go out }
+        either true = record {
           run = λ f vals rest l u bound stood deep fits go out.
               looser M cap Q (r_get M cap Q (omega arith) is_at (r_const M cap Q (omega arith) (2 * c + 1) (r_eq_yes M cap Q (omega arith) (omega arith)
               (first at m p h ls d v tail D k s n (code P ps (suc d) (deeper at) t) (empties P ps d (deeper at) (suc c) some bs others) f vals rest l u stood deep (shaped_code P ps (suc d) (deeper at) t).ends (shaped_empties P ps d (deeper at) (suc c) some bs others shaped).ends (y (deeper at)) go out))))
@@ -112,13 +114,14 @@ module _ (P : Program) (M : Parts) (cap : Limits) (Q : State → Type 0) where
     take_empty ps at c some others none is shaped (branch_here {n = suc a}) y = absurd (omega arith)
     take_empty ps at c some others none is shaped (branch_after {m = zero} {d = b} {rest = bs} at') y =
         let r = take_empty ps (deeper at) (suc c) some others none (omega arith) shaped at' y in
-        subst (λ (z : Bool). Yields at m p h ls d v tail D k s (5 * suc (many bs) + n) (arm z (empty_test d c) (λ at'. code P ps (suc d) at' b) (λ at'. empties P ps d at' (suc c) some bs others) at)) (sym (or_true some (branch_some at')))
-        (record {
+        let tested = or_true some (branch_some at') in
+        record {
           run = λ f vals rest l u bound stood deep fits go out.
-              looser M cap Q (r_get M cap Q (omega arith) is_at (r_const M cap Q (omega arith) (2 * c + 1) (r_eq_no M cap Q (omega arith) (λ e. omega arith)
+              subst (λ (z : Bool). Within M cap Q (k + l) bound (here cap f m p h ls vals (arm z (empty_test d c) (λ at'. code P ps (suc d) at' b) (λ at'. empties P ps d at' (suc c) some bs others) at rest))) (sym tested)
+              (looser M cap Q (r_get M cap Q (omega arith) is_at (r_const M cap Q (omega arith) (2 * c + 1) (r_eq_no M cap Q (omega arith) (λ e. omega arith)
               (second at m p h ls d v tail D k s (5 * many bs + n) (code P ps (suc d) (deeper at) b) (empties P ps d (deeper at) (suc c) some bs others) f vals rest l u stood deep (shaped_code P ps (suc d) (deeper at) b).elses r go out))))
-              (omega arith) (omega arith);
-        })
+              (omega arith) (omega arith));
+        }
     take_empty ps at c some others none is shaped (branch_after {m = suc j} at') y =
         let r = take_empty ps at (suc c) some others none (omega arith) shaped at' y in
         record { run = λ f vals rest l u bound stood deep fits go out. r.run f vals rest l u bound stood deep (omega arith) go out }
@@ -127,11 +130,13 @@ module _ (P : Program) (M : Parts) (cap : Limits) (Q : State → Type 0) where
     pub take_head : (ps : List Place) (at : Position) (c : ℕ) {i j : ℕ} {bs : BranchBlocks} {t : Block} → 0 < j → w + 4 ≤ length m → word m w ≡ j * 65536 + (c + i) → c + i < 65536 → BranchAt bs i j t →
         ((at' : Position) → Yields at' m p h ls d v tail D k s n (code P (fields_of d j ps) (suc d) at' t)) → Yields at m p h ls d v tail D k s (6 * many bs + n) (heads P ps d at c bs)
     take_head ps at c some within is small (branch_here {n = zero}) y = absurd (omega arith)
-    take_head ps at c some within is small (branch_here {n = suc a} {b = t} {rest = bs}) y = here (some_heads bs)
+    take_head ps at c some within is small (branch_here {n = suc a} {b = t} {rest = bs}) y =
+        let r = either (some_heads bs) in
+        record { run = λ f vals rest l u bound stood deep fits go out. r.run f vals rest l u bound stood deep (omega arith) go out }
       where
-        here : (b : Bool) → Yields at m p h ls d v tail D k s (6 * suc (many bs) + n) (arm b (head_test d c (suc a)) (λ at'. code P (fields_of d (suc a) ps) (suc d) at' t) (λ at'. heads P ps d at' (suc c) bs) at)
-        here false = record { run = λ f vals rest l u bound stood deep fits go out. (y at).run f vals rest l u bound stood deep (omega arith) go out }
-        here true = record {
+        either : (b : Bool) → Yields at m p h ls d v tail D k s (6 * suc (many bs) + n) (arm b (head_test d c (suc a)) (λ at'. code P (fields_of d (suc a) ps) (suc d) at' t) (λ at'. heads P ps d at' (suc c) bs) at)
+        either false = record { run = λ f vals rest l u bound stood deep fits go out. (y at).run f vals rest l u bound stood deep (omega arith) go out }
+        either true = record {
           run = λ f vals rest l u bound stood deep fits go out.
               looser M cap Q (r_get M cap Q (omega arith) is_at (r_load M cap Q (omega arith) (omega arith) (r_const M cap Q (omega arith) (suc a * 65536 + c) (r_eq_yes M cap Q (omega arith) (omega (arith, at_zero m w, is))
               (first at m p h ls d v tail D k s n (code P (fields_of d (suc a) ps) (suc d) (deeper at) t) (heads P ps d (deeper at) (suc c) bs) f vals rest l u stood deep (shaped_code P (fields_of d (suc a) ps) (suc d) (deeper at) t).ends (shaped_heads P ps d (deeper at)
@@ -143,10 +148,11 @@ module _ (P : Program) (M : Parts) (cap : Limits) (Q : State → Type 0) where
         record { run = λ f vals rest l u bound stood deep fits go out. r.run f vals rest l u bound stood deep (omega arith) go out }
     take_head ps at c some within is small (branch_after {m = suc a} {d = b} {rest = bs} at') y =
         let r = take_head ps (deeper at) (suc c) some within (omega (arith, is)) (omega arith) at' y in
-        subst (λ (z : Bool). Yields at m p h ls d v tail D k s (6 * suc (many bs) + n) (arm z (head_test d c (suc a)) (λ at'. code P (fields_of d (suc a) ps) (suc d) at' b) (λ at'. heads P ps d at' (suc c) bs) at)) (sym (head_some some at'))
-        (record {
+        let tested = head_some some at' in
+        record {
           run = λ f vals rest l u bound stood deep fits go out.
-              looser M cap Q (r_get M cap Q (omega arith) is_at (r_load M cap Q (omega arith) (omega arith) (r_const M cap Q (omega arith) (suc a * 65536 + c) (r_eq_no M cap Q (omega arith) (λ e. omega (arith, is, at_zero m w, e))
+              subst (λ (z : Bool). Within M cap Q (k + l) bound (here cap f m p h ls vals (arm z (head_test d c (suc a)) (λ at'. code P (fields_of d (suc a) ps) (suc d) at' b) (λ at'. heads P ps d at' (suc c) bs) at rest))) (sym tested)
+              (looser M cap Q (r_get M cap Q (omega arith) is_at (r_load M cap Q (omega arith) (omega arith) (r_const M cap Q (omega arith) (suc a * 65536 + c) (r_eq_no M cap Q (omega arith) (λ e. omega (arith, is, at_zero m w, e))
               (second at m p h ls d v tail D k s (6 * many bs + n) (code P (fields_of d (suc a) ps) (suc d) (deeper at) b) (heads P ps d (deeper at) (suc c) bs) f vals rest l u stood deep (shaped_code P (fields_of d (suc a) ps) (suc d) (deeper at) b).elses r go out)))))
-              (omega arith) (omega arith);
-        })
+              (omega arith) (omega arith));
+        }
