@@ -331,8 +331,8 @@ module _ (P : Program) (main : Body) (gs : List GlobalDef) (es : List Export) (p
   does_some (do_case isa few at g) = omega arith
 
   -- the word of the value comes into local d
-  abbrev Bound : ℕ → Vals → Op → Val → ℕ → ℕ → ℕ → ℕ → Type 0
-  Bound D e x v c k b s =
+  abbrev Comes : ℕ → Vals → Op → Val → ℕ → ℕ → ℕ → ℕ → Type 0
+  Comes D e x v c k b s =
       (m : Mem) (p h : ℕ) (ls : List ConstValue) (d : ℕ) (ps : List Place) → Room M m p h → word m 0 ≡ 0 → Env m h ls d ps e → OpUnread ps x → top_op d x ≤ length ls → d < length ls → h + 4 * s ≤ cap.bytes → (f : Around) (vals : List ConstValue) (rest : List Instr) (l u : ℕ) →
       length f.callers + 2 * D + 1 ≤ cap.frames → ((m' : Mem) (p' h' : ℕ) (ls' : List ConstValue) (w : ℕ) → h ≤ h' → h' ≤ h + 4 * s → Room M m' p' h' → Same h m m' → Keeps d ls ls' → slice_get ls' d ≡ Some (I32 w) → Stands m' h' w v → Within M cap Q l u (here cap f m' p' h' ls' vals rest)) →
       Within M cap Q (k + l) (cost c b - 19 + u) (here cap f m p h ls vals (into_local ps d x (op P ps d Inside x) rest))
@@ -348,19 +348,19 @@ module _ (P : Program) (main : Body) (gs : List GlobalDef) (es : List Export) (p
       (go m' p' h' (slice_set ls' d (I32 w)) w y z room' same (keeps_trans (omega arith) keeps (keeps_set ls' d (I32 w))) (set_this ls' d (I32 w) (omega (arith, keeps.size))) st))
       (λ z. cc)) (omega arith) (omega (arith, dear))
 
-  bound : {D : ℕ} {e : Vals} {x : Op} {v : Val} {c k b s : ℕ} → Does P W N false D e x v c k b s → SimOp false D e x v c k b s → Bound D e x v c k b s
-  bound (do_con {as' = as'} lt pos few narrow all) y m p h ls d ps room nil env un has free needed f vals rest l u deep go =
+  comes : {D : ℕ} {e : Vals} {x : Op} {v : Val} {c k b s : ℕ} → Does P W N false D e x v c k b s → SimOp false D e x v c k b s → Comes D e x v c k b s
+  comes (do_con {as' = as'} lt pos few narrow all) y = λ m p h ls d ps room nil env un has free needed f vals rest l u deep go.
       looser M cap Q (new_made M fixed cap Q (omega arith) needed all un few (omega arith) free room env (λ m' p' ls' room' same keeps at head fs.
       go m' p' (h + 4 * suc (length as')) ls' h (omega arith) (omega arith) room' same keeps at (s_con room.q lt room.aligned (omega (arith, room.above)) (omega (arith, all_size all)) (omega (arith, all_size all)) (omega (arith, head, all_size all)) fs)))
       (omega arith) (omega arith)
-  bound (do_clos {as' = as'} lt few narrow all) y m p h ls d ps room nil env un has free needed f vals rest l u deep go =
+  comes (do_clos {as' = as'} lt few narrow all) y = λ m p h ls d ps room nil env un has free needed f vals rest l u deep go.
       looser M cap Q (new_made M fixed cap Q (omega arith) needed all un few (omega arith) free room env (λ m' p' ls' room' same keeps at head fs.
       go m' p' (h + 4 * suc (length as')) ls' h (omega arith) (omega arith) room' same keeps at (s_clos room.q lt room.aligned (omega (arith, room.above)) (omega (arith, all_size all)) head fs)))
       (omega arith) (omega arith)
-  bound {c = c} {b = b} (do_const at g) y = from_operands (cost_some c b (omega arith)) y
-  bound {c = c} {b = b} (do_app isf isa at sz g) y = from_operands (cost_some c b (omega arith)) y
-  bound {c = c} {b = b} (do_box_app isf isa) y = from_operands (cost_some c b (omega arith)) y
-  bound {c = c} {b = b} (do_case isa few at g) y = from_operands (cost_some c b (omega arith)) y
+  comes {c = c} {b = b} (do_const at g) y = from_operands (cost_some c b (omega arith)) y
+  comes {c = c} {b = b} (do_app isf isa at sz g) y = from_operands (cost_some c b (omega arith)) y
+  comes {c = c} {b = b} (do_box_app isf isa) y = from_operands (cost_some c b (omega arith)) y
+  comes {c = c} {b = b} (do_case isa few at g) y = from_operands (cost_some c b (omega arith)) y
 
   module _ {tail : Bool} {D : ℕ} {e : Vals} {x : Op} {t : Block} {v r : Val} {c c' k k' b b' s s' : ℕ} (does : Does P W N false D e x v c k b s) (first : SimOp false D e x v c k b s) (body : SimCode tail D (VCons v e) t r c' k' b' s') where
     -- a binding that has code
@@ -368,7 +368,7 @@ module _ (P : Program) (main : Body) (gs : List GlobalDef) (es : List Export) (p
         Yields P M cap Q at m p h ls d r tail D (k + k') (s + s') (cost (c + c') (b + b') + 2) (λ rest. into_local ps d x (op P ps d Inside x) (code P (At (InLocal d) ∷ ps) (suc d) at t rest))
     let_made at m p h ls d ps room nil env un has needed = record {
       run = λ f vals rest l u bound stood deep fits go out.
-          looser M cap Q (bound does first m p h ls d ps room nil env (unread_op ps x t un) (omega arith) (omega arith) (omega arith) f vals _ (k' + l) (cost c' b' + 2 + u) (omega arith)
+          looser M cap Q (comes does first m p h ls d ps room nil env (unread_op ps x t un) (omega arith) (omega arith) (omega arith) f vals _ (k' + l) (cost c' b' + 2 + u) (omega arith)
           (λ m' p' h' ls1 w y z room' same kept at_d st.
           (body.sim at m' p' h' ls1 (suc d) (At (InLocal d) ∷ ps) room' (low_word m m' room same nil) (env_at w (in_local (omega arith) at_d) st (env_on (omega arith) same (omega arith) kept env)) (unread_at ps x t (InLocal d) un)
           (omega (arith, kept.size)) (omega arith)).run

@@ -41,24 +41,42 @@ numbered_at make i (suc g) j (f ∷ fs) is e = numbered_at make (suc i) g j fs (
 -- a worker has no more captured words than the one with the most
 pub widest_few : (fs : List Fn) → widest_worker fs ≤ 8
 widest_few [] = omega arith
-widest_few (f ∷ fs) = either (is_wide f) refl
+widest_few (f ∷ fs) = either (is_wide f) refl (widest_few fs)
   where
-    either : (b : Bool) → is_wide f ≡ b → (if b then widest_worker fs else max (suc f.captured) (widest_worker fs)) ≤ 8
-    either true e = widest_few fs
-    either false e = omega (arith, narrow_few f e, widest_few fs)
+    either : (b : Bool) → is_wide f ≡ b → widest_worker fs ≤ 8 → (if b then widest_worker fs else max (suc f.captured) (widest_worker fs)) ≤ 8
+    either true e few = few
+    either false e few = omega (arith, narrow_few f e, few)
+
+pub widest_grows : (f : Fn) (fs : List Fn) → widest_worker fs ≤ widest_worker (f ∷ fs)
+widest_grows f fs = either (is_wide f)
+  where
+    either : (b : Bool) → widest_worker fs ≤ (if b then widest_worker fs else max (suc f.captured) (widest_worker fs))
+    either true = omega arith
+    either false = omega arith
+
+-- a worker's type is among those that there are
+here : (f : Fn) (fs : List Fn) (fn : Fn) → f ≡ fn → is_wide fn ≡ false → fn.captured < widest_worker (f ∷ fs)
+here f fs fn same narrow =
+    let count : f.captured ≡ fn.captured = ap (λ (x : Fn). x.captured) same in
+    let slim : is_wide f ≡ false = ap is_wide same ∙ narrow in
+    let is : widest_worker (f ∷ fs) ≡ max (suc f.captured) (widest_worker fs) = ap (λ (b : Bool). if b then widest_worker fs else max (suc f.captured) (widest_worker fs)) slim in
+    omega (arith, count, is)
+
+pub worker_low : (f : Fn) (fs : List Fn) → worker_type f < suc (suc (suc (widest_worker (f ∷ fs))))
+worker_low f fs = either (is_wide f)
+  where
+    either : (b : Bool) → (if b then 0 else suc (suc (suc f.captured))) < suc (suc (suc (if b then widest_worker fs else max (suc f.captured) (widest_worker fs))))
+    either true = omega arith
+    either false = omega arith
 
 narrower : (fs : List Fn) (g : ℕ) (fn : Fn) → slice_get fs g ≡ Some fn → is_wide fn ≡ false → fn.captured < widest_worker fs
 narrower [] g fn e narrow = cc
-narrower (f ∷ fs) g fn e narrow = either (is_wide f) refl g e
-  where
-    either : (b : Bool) → is_wide f ≡ b → (g : ℕ) → slice_get (f ∷ fs) g ≡ Some fn → fn.captured < (if b then widest_worker fs else max (suc f.captured) (widest_worker fs))
-    either true wide zero e = let same : f ≡ fn = cc in absurd (clash (sym wide ∙ ap is_wide same ∙ narrow))
-      where
-        clash : true ≡ false → ⊥
-        clash e = cc
-    either true wide (suc g) e = narrower fs g fn e narrow
-    either false slim zero e = let same : f ≡ fn = cc in let count : f.captured ≡ fn.captured = ap (λ (x : Fn). x.captured) same in omega (arith, count)
-    either false slim (suc g) e = omega (arith, narrower fs g fn e narrow)
+narrower (f ∷ fs) zero fn e narrow = let same : f ≡ fn = cc in here f fs fn same narrow
+narrower (f ∷ fs) (suc g) fn e narrow = omega (arith, narrower fs g fn e narrow, widest_grows f fs)
+
+pub words_types_length : (k n : ℕ) → length (words_types k n) ≡ n
+words_types_length k zero = refl
+words_types_length k (suc n) = ap suc (words_types_length (suc k) n)
 
 words_at : (k n i j : ℕ) → j ≡ k + i → i < n → slice_get (words_types k n) i ≡ Some (words_type j)
 words_at k zero i j is lt = absurd (omega arith)

@@ -1,5 +1,5 @@
 -- The numbers of a module with workers fit its format, so that bytes can spell it.
-use Rattle.std.proofs.Common.{◌≡◌, ℕ, zero, suc, ◌+◌, ◌-◌, ◌<◌, ◌≤◌, List, [], ◌∷◌, ◌++◌, max, Some, Bool, true, false, refl, ap, arith, rules, subst}
+use Rattle.std.proofs.Common.{◌≡◌, ℕ, zero, suc, ◌+◌, ◌-◌, ◌<◌, ◌≤◌, List, [], ◌∷◌, ◌++◌, length, max, replicate, Some, Bool, true, false, refl, arith, rules, subst}
 use Rattle.std.specs.Prelude.{slice_get, if◌then◌else◌}
 use Rattle.std.proofs.lemmas.List.{length-replicate}
 use Rattle.std.proofs.lemmas.Option.{slice_get_within}
@@ -31,7 +31,7 @@ use Rattle.known_calls.specs.KnownLaws.{KnownSpelled}
 use Rattle.known_calls.specs.KnownWeight.{weight}
 use Rattle.known_calls.proofs.SameLocals.{worker_top}
 use Rattle.known_calls.proofs.Fitting.{fields_fit, params_fit}
-use Rattle.known_calls.proofs.KnownIndices.{narrow_few, widest_few, order_length}
+use Rattle.known_calls.proofs.KnownIndices.{narrow_few, widest_few, words_types_length, order_length}
 use Rattle.known_calls.proofs.KnownValidity.{entry_typed, worker_typed, constant_typed, main_typed, call_typed, box_typed, room_typed}
 use Rattle.known_calls.proofs.Bounded.{Bounded, ◌then◌, b_most, b_get, b_call, b_end, b_loop, b_captured, b_op, b_code}
 
@@ -44,10 +44,6 @@ numbered_all Q h from [] a = tt
 numbered_all Q h from (x ∷ xs) a = (a zero from x refl (omega arith), numbered_all Q h (suc from) xs (λ g j y at is. a (suc g) j y at (omega arith)))
 
 -- the types of workers
-words_types_length : (k n : ℕ) → length (words_types k n) ≡ n
-words_types_length k zero = refl
-words_types_length k (suc n) = ap suc (words_types_length (suc k) n)
-
 words_types_fit : (k n : ℕ) → k + n ≤ 8 → All IsFuncType (words_types k n)
 words_types_fit k zero le = tt
 words_types_fit k (suc n) le = (omega (arith, length-replicate (suc k) I32), words_types_fit (suc k) n (omega arith))

@@ -182,6 +182,15 @@ module _ (P : Program) (most : ℕ) (form : Formed P most) (main : Body) (gs : L
   t_choice None x y = y
   t_choice (Some q) x y = x q refl
 
+  -- an operation whose word comes into local d
+  t_bind : {labels : List OperandTypes} {ts us : Operands} {rest : List Instr} (n d : ℕ) (ps : List Place) (x : Op) {g : List Instr → List Instr} → suc d ≤ size → OpFits P.functions (length P.constants) most n x → All (PlaceFits P far d) ps →
+      ((r : List Instr) → Typed m ls rs labels (Of I32 ∷ ts) r us → Typed m ls rs labels ts (g r) us) → Typed m ls rs labels ts rest us → Typed m ls rs labels ts (into_local ps d x g rest) us
+  t_bind n d ps (OCon c as') lt fit h o k = t_new_block n d _ ps as' lt fit.3 h k
+  t_bind n d ps (OClos g as') lt fit h o k = t_new_block n d _ ps as' lt fit.1 h k
+  t_bind n d ps (OConst x) lt fit h o k = o _ (t_set lt k)
+  t_bind n d ps (OApp f a) lt fit h o k = o _ (t_set lt k)
+  t_bind n d ps (OCase a bs) lt fit h o k = o _ (t_set lt k)
+
   mutual
     pub t_op : {labels : List OperandTypes} {ts us : Operands} {rest : List Instr} (n d : ℕ) (ps : List Place) (at : Position) (x : Op) → top_op d x ≤ size → OpFits P.functions (length P.constants) most n x → All (PlaceFits P far d) ps → Labelled at labels →
         Typed m ls rs labels (Of I32 ∷ ts) rest us → Typed m ls rs labels ts (op P ps d at x rest) us
@@ -201,15 +210,7 @@ module _ (P : Program) (most : ℕ) (form : Formed P most) (main : Body) (gs : L
     t_code n d ps at (Let x t) le fit h l k =
         t_choice (unmade P ps x t)
         (λ q e. let z = unmade_some (block_reads 0 t) (known P ps x) e in t_code (suc n) d (q ∷ ps) at t (omega (arith, top_less d t)) fit.1 (known_fits P far most form n d ps x fit.0 h z.1, h) l k)
-        (t_bind n d ps x (omega arith) (omega arith) fit.0 h (t_code (suc n) (suc d) (At (InLocal d) ∷ ps) at t (omega arith) fit.1 (omega arith, places_up P far d (suc d) (omega arith) ps h) l k))
-
-    t_bind : {labels : List OperandTypes} {ts us : Operands} {rest : List Instr} (n d : ℕ) (ps : List Place) (x : Op) → suc d ≤ size → top_op d x ≤ size → OpFits P.functions (length P.constants) most n x → All (PlaceFits P far d) ps →
-        Typed m ls rs labels ts rest us → Typed m ls rs labels ts (into_local ps d x (op P ps d Inside x) rest) us
-    t_bind n d ps (OCon c as') lt le fit h k = t_new_block n d _ ps as' lt fit.3 h k
-    t_bind n d ps (OClos g as') lt le fit h k = t_new_block n d _ ps as' lt fit.1 h k
-    t_bind n d ps (OConst x) lt le fit h k = t_op n d ps Inside (OConst x) le fit h tt (t_set lt k)
-    t_bind n d ps (OApp f a) lt le fit h k = t_op n d ps Inside (OApp f a) le fit h tt (t_set lt k)
-    t_bind n d ps (OCase a bs) lt le fit h k = t_op n d ps Inside (OCase a bs) le fit h tt (t_set lt k)
+        (t_bind n d ps x {g = op P ps d Inside x} (omega arith) fit.0 h (λ r k'. t_op n d ps Inside x (omega arith) fit.0 h tt k') (t_code (suc n) (suc d) (At (InLocal d) ∷ ps) at t (omega arith) fit.1 (omega arith, places_up P far d (suc d) (omega arith) ps h) l k))
 
     t_empties : {labels : List OperandTypes} {ts us : Operands} {rest : List Instr} (n d : ℕ) (ps : List Place) (at : Position) (c : ℕ) (some : Bool) (bs : BranchBlocks) (others : Position → List Instr → List Instr) → ((at' : Position) → Shaped (others at')) → max (suc d) (top_branches (suc d) bs) ≤ size →
         BranchesFit P.functions (length P.constants) most n bs → All (PlaceFits P far d) ps → Labelled at labels → Puts others → Typed m ls rs labels (Of I32 ∷ ts) rest us → Typed m ls rs labels ts (empties P ps d at c some bs others rest) us
