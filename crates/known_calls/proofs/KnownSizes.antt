@@ -100,7 +100,7 @@ module _ (P : Program) (m : ℕ) (form : Formed P m) (counts : CountsFit P m) (l
   constants_size (t ∷ ts) bs w h = omega (arith, h 0 t (put_all put_body (map (constant P) ts ++ bs) w) refl, constants_size ts bs w (λ i t w e. h (suc i) t w e))
 
 word_type_size : (n : ℕ) (w : List ℕ) → n ≤ 7 → length (put_func_type (words_type n) w) ≤ 12 + length w
-unfolding put_func_type unsigned
+unfolding put_all put_func_type unsigned
 word_type_size zero w h = omega arith
 word_type_size (suc zero) w h = omega arith
 word_type_size (suc (suc zero)) w h = omega arith
