@@ -1,8 +1,5 @@
 -- A block that the certified walk accepts fits.
-use Rattle.std.proofs.Common.{◌≡◌, ◌≢◌, ℕ, zero, suc, ◌+◌, Bool, true, false, if◌then◌else◌, List, [], ◌∷◌, map, length, Some, refl, sym, subst, arith, slice_get}
-use Rattle.std.specs.List.{All, AllPairs}
-use Rattle.std.proofs.lemmas.List.Elements.{All-nil, All-cons}
-use Rattle.std.proofs.lemmas.List.Kept.{AllPairs-cons}
+use Rattle.std.proofs.Common.{◌≡◌, ◌≢◌, ℕ, zero, suc, ◌+◌, Bool, true, false, List, [], ◌∷◌, map, length, Some, refl, sym, subst, slice_get}
 use Rattle.universe_levels.specs.declared.sort.Sort.{Sort}
 use Rattle.universe_levels.specs.declared.sort.Sort.TheVariants.{Prop, Of}
 use Rattle.pc_terms.specs.declared.leaf.Name.{Name}
@@ -12,33 +9,33 @@ use Rattle.calculus_rules.specs.declared.declaration.Family.{Family}
 use Rattle.calculus_rules.specs.declared.declaration.Block.{Block}
 use Rattle.calculus_rules.specs.declared.declaration.Kept.TheVariants.{Heads, Block as Whole}
 use Rattle.calculus_rules.specs.declared.entry.Entry.TheVariants.{Assumed}
-use Rattle.pc_rules.specs.declared.broken.Broken.TheVariants.{SortTooSmall, DuplicateName}
+use Rattle.pc_rules.specs.declared.broken.Broken.TheVariants.{SortTooSmall}
 use Rattle.pc_rules.specs.declared.meter.Account.{Account}
-use Rattle.calculus_rules.specs.Environment.{Env, Has, here, there, head_of, heads_of, SortEntails, IsDeclared}
+use Rattle.calculus_rules.specs.Environment.{Env, head_of, heads_of, SortEntails}
 use Rattle.calculus_rules.specs.Context.{Context, extend}
-use Rattle.calculus_rules.specs.Typing.{guarded, Entries, EntrySorts, no_sorts, a_sort}
+use Rattle.calculus_rules.specs.Typing.{guarded, EntrySorts, no_sorts, a_sort}
 use Rattle.calculus_rules.specs.Positivity.{ArePositive, ArePositiveConstructors, ArePositiveFamilies}
 use Rattle.calculus_rules.specs.Accepted.{IsFresh, AllAtMost, ConstructorFits, FamilyFits, BlockFits, env}
-use Rattle.calculus_rules.specs.Same.{same_names}
 use Rattle.pc_rules.specs.DirectedRun as run
 use Rattle.pc_rules.specs.DirectedComparison.{Test, IsTest, sort_below}
 use Rattle.pc_rules.specs.DirectedTyping.{counted, undeclared_in, levels_declared}
 use Rattle.pc_rules.specs.DirectedPositivity.{block_positive}
 use Rattle.calculus_rules.specs.declared.target.Target.TheVariants.{Families}
 use Rattle.calculus_rules.specs.Naming.{some_names}
-use Rattle.pc_rules.specs.DirectedDeclarations.{has_name, distinct_names, fits_sort, with_sorts, with_constructors, with_families, with_heads}
+use Rattle.pc_rules.specs.DirectedDeclarations.{distinct_names, fits_sort, with_sorts, with_constructors, with_families, with_heads}
 use Rattle.pc_rules.specs.WellCounted.{AreSortsOver, AreCounted, AreCountedConstructors, AreCountedFamilies, HasCountedDeclarations, IsCountedContext}
 use Rattle.calculus_rules.proofs.Spines.{one_item}
 use Rattle.pc_rules.proofs.WeakNext.{none_some}
 use Rattle.rule_laws.specs.Inference.{AllFormed}
 use Rattle.rule_laws.specs.Declarations.{plain_constructor, plain_family, ConstructorsFormed, FamiliesFormed, BlockFormed, IsCheckedBlock}
-use Rattle.rule_laws.proofs.Runs.{tested as rules_tested, refused_done}
+use Rattle.rule_laws.proofs.Runs.{tested as rules_tested}
 use Rattle.rule_laws.proofs.CountedParts.{context_extended}
 use Rattle.rule_laws.proofs.SimpleRules.{declared_over, levels_are_declared}
 use Rattle.rule_laws.proofs.MatchRule.{count_is}
 use Rattle.rule_laws.proofs.Extending.{FindsAs, all_more, constructors_more, finds_more, finds_without, env_more}
-use Rattle.rule_laws.proofs.Positive.{or_false, other_name, block_positive_is}
+use Rattle.rule_laws.proofs.Positive.{block_positive_is}
 use Rattle.rule_laws.proofs.Comparing.{entails}
+use Rattle.rule_laws.proofs.Blocks.{names_in, Distinct, are_new, all_pairs, HeadFits, HeadsFit, heads_counted}
 use Rattle.cert_rules.specs.Walk.{Items, Stand, Walk, Passed, pass, walk_on, by_rules}
 use Rattle.cert_rules.specs.Scripts.{Script, script}
 use Rattle.cert_rules.specs.WalkTyping.{Walking, walk_infer, walk_sort_of, walk_sorts_of, walk_check_all}
@@ -49,59 +46,7 @@ use Rattle.cert_rules.proofs.SoundSimple.{Infers, sort_sound}
 use Rattle.cert_rules.proofs.SoundMatch.{entries_sound, all_sound}
 use Rattle.cert_rules.proofs.SoundTyping.{infer_sound}
 
--- the names of constructors are distinct
-
-abbrev names_in : List Constructor → List Name
-names_in [] = []
-names_in (C ∷ Cs) = C.name ∷ names_in Cs
-
-abbrev Differs : Name → List Name → Type 0
-Differs k [] = Unit {0}
-Differs k (l ∷ ls) = (k ≢ l) × Differs k ls
-
-abbrev Distinct : List Name → Type 0
-Distinct [] = Unit {0}
-Distinct (k ∷ ks) = Differs k ks × Distinct ks
-
-has_none : (k : Name) (Bs : List Constructor) → has_name k Bs ≡ false → (X : Constructor) → Has Bs X → X.name ≢ k
-has_none k [] h X p = elim p [ ]
-has_none k (B ∷ Bs) h X here = other_name B.name k (or_false (same_names B.name k) (has_name k Bs) h).0
-has_none k (B ∷ Bs) h X (there p) = has_none k Bs (or_false (same_names B.name k) (has_name k Bs) h).1 X p
-
--- distinct, and different from those before
-abbrev AreNew : List Constructor → List Constructor → Type 0
-AreNew before Cs = Distinct (names_in Cs) × ((X : Constructor) → Has before X → Differs X.name (names_in Cs))
-
-next_new : (before : List Constructor) (C : Constructor) (Cs : List Constructor) (b : Bool) (u v : Account) → has_name C.name before ≡ b →
-    ((distinct_names (C ∷ before) Cs u).end ≡ run.Done tt v → AreNew (C ∷ before) Cs) →
-    (if b then run.refused (DuplicateName C.name.0) u else distinct_names (C ∷ before) Cs u).end ≡ run.Done tt v → AreNew before (C ∷ Cs)
-next_new before C Cs true u v e rec h = absurd (refused_done h)
-next_new before C Cs false u v e rec h =
-    let r = rec h in ((r.1 C here, r.0), λ X p. (has_none C.name before e X p, r.1 X (there p)))
-
-are_new : (before Cs : List Constructor) (u v : Account) → (distinct_names before Cs u).end ≡ run.Done tt v → AreNew before Cs
-are_new before [] u v h = (tt, λ X p. tt)
-are_new before (C ∷ Cs) u v h = next_new before C Cs (has_name C.name before) u v refl (are_new (C ∷ before) Cs u v) h
-
-all_differ : (k : Name) (Cs : List Constructor) → Differs k (names_in Cs) → All (λ D. k ≢ D.name) Cs
-all_differ k [] h = All-nil (λ D. k ≢ D.name)
-all_differ k (C ∷ Cs) h = All-cons (λ D. k ≢ D.name) C Cs h.0 (all_differ k Cs h.1)
-
-all_pairs : (Cs : List Constructor) → Distinct (names_in Cs) → AllPairs (λ C D. C.name ≢ D.name) Cs
-all_pairs [] h = λ i j d lt within. absurd (omega arith)
-all_pairs (C ∷ Cs) h = AllPairs-cons (λ C D. C.name ≢ D.name) C Cs (all_differ C.name Cs h.0) (all_pairs Cs h.1)
-
 -- the heads of a block
-
-record HeadFits (E : Env) (B : Block) (F : Family) : Type 0 where
-  indices : Entries guarded E (extend [] B.params) F.indices
-  sort : IsDeclared E F.sort
-  distinct : Distinct (names_in F.ctors)
-  all : AreCounted E F.indices
-
-abbrev HeadsFit : Env → Block → List Family → Type 0
-HeadsFit E B [] = Unit {0}
-HeadsFit E B (F ∷ Fs) = HeadFits E B F × HeadsFit E B Fs
 
 module _ (cert : Items) (E : Env) (w : HasCountedDeclarations E) (inf : Walking) (si : Infers E inf) (B : Block) (params : AreCounted E B.params) where
   head_sound : (F : Family) (u v : Stand) → AllFormed F.indices → (walk_head cert E inf B F u).end ≡ Passed tt v → HeadFits E B F
@@ -291,10 +236,6 @@ module _ (cert : Items) (H : Env) (w : HasCountedDeclarations H) (inf : Walking)
       }
 
 -- the whole block
-
-heads_counted : (E : Env) (B : Block) (Fs : List Family) → HeadsFit E B Fs → AreCountedFamilies E (map head_of Fs)
-heads_counted E B [] h = tt
-heads_counted E B (F ∷ Fs) h = ((h.0.all, tt, declared_over E F.sort h.0.sort), heads_counted E B Fs h.1)
 
 pub block_sound : (cert : Items) (E : Env) (q : Test) → IsTest E.levels E.constraints q → HasCountedDeclarations E → (n : ℕ) (B D : Block) (u v : Stand) →
     IsFresh B.name E.declarations → BlockFormed B → (walk_block cert E q n B u).end ≡ Passed D v → IsCheckedBlock E B D

@@ -11,19 +11,17 @@ use Rattle.universe_levels.specs.declared.sort.Sort.{Sort}
 use Rattle.calculus_rules.specs.declared.declaration.Block.{Block}
 use Rattle.calculus_rules.specs.declared.declaration.Kept.{Kept}
 use Rattle.calculus_rules.specs.declared.declaration.Kept.TheVariants.{Constant, Block as Whole}
-use Rattle.pc_rules.specs.declared.meter.Account.{Account}
 use Rattle.calculus_rules.specs.Environment.{Env}
 use Rattle.calculus_rules.specs.Typing.{guarded, Types}
 use Rattle.calculus_rules.specs.Accepted.{IsFresh, BodyFits, empty, constant, block, env, IsWellFormed, Accepted}
-use Rattle.pc_rules.specs.DirectedRun as run
 use Rattle.calculus_rules.specs.Lookups.{kept_at}
 use Rattle.pc_rules.specs.DirectedComparison.{Test, IsTest}
 use Rattle.pc_rules.specs.DirectedDeclarations.{fresh_name, Given, GivenConstant, GivenBlock, first_repeated, first_undeclared_end}
 use Rattle.pc_rules.specs.WellCounted.{IsCountedBody, HasCountedDeclarations}
 use Rattle.rule_laws.specs.Declarations.{plain, plain_given, IsCheckedDeclaration, IsCheckedEnvironment, BodyFormed, GivenFormed, AllGivenFormed}
-use Rattle.rule_laws.proofs.Runs.{refused_done}
 use Rattle.rule_laws.proofs.Extending.{fresh_is, env_more}
 use Rattle.rule_laws.proofs.Environments.{distinct_levels, are_over, nothing_counted}
+pub use Rattle.rule_laws.proofs.Environments.{name_is_new}
 use Rattle.cert_rules.specs.Walk.{Items, Stand, Walk, Passed, pass, walk_on, by_rules}
 use Rattle.cert_rules.specs.Scripts.{script}
 use Rattle.cert_rules.specs.WalkTyping.{walk_infer, walk_sort_of}
@@ -33,12 +31,6 @@ use Rattle.cert_rules.proofs.SoundScripts.{script_sound}
 use Rattle.cert_rules.proofs.SoundSimple.{sort_sound, check_sound}
 use Rattle.cert_rules.proofs.SoundTyping.{infer_sound}
 use Rattle.cert_rules.proofs.SoundBlocks.{block_sound}
-
--- a new name
-
-pub name_is_new : (o : Option Kept) (k : Name) (u v : Account) → (fresh_name o k u).end ≡ run.Done tt v → o ≡ None
-name_is_new None k u v h = refl
-name_is_new (Some d) k u v h = absurd (refused_done h)
 
 -- one declaration more
 

@@ -1,34 +1,29 @@
 -- Rule 11 of the certified walk, of fixpoints, gives types.
-use Rattle.std.proofs.Common.{◌≡◌, ℕ, zero, suc, ◌+◌, List, [], ◌∷◌, length, Option, Some, None, sym, ap, ◌∙◌, subst, arith}
-use Rattle.trees.proofs.Shape.{each_renamed}
-use Rattle.pc_terms.specs.declared.leaf.FamilyId.{FamilyId}
-use Rattle.pc_terms.specs.Syntax.{Term, Terms, Done, Next, shift, apply, head, args, term_at, Lambda, Ind, Fix}
+use Rattle.std.proofs.Common.{◌≡◌, ℕ, suc, List, [], ◌∷◌, length, Some, sym, ap, ◌∙◌, subst, arith}
+use Rattle.pc_terms.specs.Syntax.{Term, Terms, Done, Next, shift, apply, head, args, term_at, Ind, Fix}
 use Rattle.pc_terms.specs.Formed.{binders_of, EachTerm, AreAll, HasForm, IsFormed}
 use Rattle.calculus_rules.specs.declared.entry.Entry.TheVariants.{Assumed}
-use Rattle.pc_rules.specs.declared.meter.Account.{Account}
 use Rattle.calculus_rules.specs.Environment.{Env}
 use Rattle.calculus_rules.specs.Context.{Context, values}
 use Rattle.calculus_rules.specs.Instances.{definitions}
 use Rattle.calculus_rules.specs.Conversion.{Equal}
 use Rattle.calculus_rules.specs.Guardedness.{IsGuarded}
-use Rattle.calculus_rules.specs.Typing.{guarded, Types, fix, Recurses, recurses_here, recurses_later, Sorts, no_types, a_type, Bodies, no_bodies, a_body}
-use Rattle.pc_rules.specs.DirectedRun as run
+use Rattle.calculus_rules.specs.Typing.{guarded, Types, fix, Recurses, Sorts, no_types, a_type, Bodies, no_bodies, a_body}
 use Rattle.pc_rules.specs.DirectedRun.{make}
 use Rattle.calculus_rules.specs.Listed.{list_of}
 use Rattle.pc_rules.specs.DirectedGuard.{fix_guard}
 use Rattle.pc_rules.specs.DirectedTyping.{recursive_domain, enough_abstractions, is_a_family, definition_type}
-use Rattle.calculus_rules.proofs.Spines.{one_item, spine_is}
-use Rattle.pc_rules.proofs.WeakNext.{none_some}
+use Rattle.calculus_rules.proofs.Spines.{spine_is}
 use Rattle.pc_rules.specs.FixConditions.{BeginsWith, HaveLambdas}
 use Rattle.pc_rules.specs.WellCounted.{IsCountedNode, IsCounted, HasCountedDeclarations, IsCountedContext}
 use Rattle.rule_laws.specs.Inference.{IsInferred}
-use Rattle.rule_laws.proofs.Runs.{refused_done, done_value}
 use Rattle.rule_laws.proofs.Counted.{shifted_counted, before_shift, term_counted}
 use Rattle.rule_laws.proofs.KeepCounts.{values_counted}
 use Rattle.rule_laws.proofs.Comparing.{names_long}
 use Rattle.rule_laws.proofs.SimpleRules.{formed}
-use Rattle.rule_laws.proofs.FixRule.{enough, a_family}
+use Rattle.rule_laws.proofs.FixRule.{enough, a_family, begins, recurses, named_type, name_at}
 use Rattle.rule_laws.proofs.Guarding.{guard_sound}
+pub use Rattle.rule_laws.proofs.FixRule.{shifted_formed}
 use Rattle.cert_rules.specs.Walk.{Items, Stand, Walk, Passed, pass, walk_on, by_rules}
 use Rattle.cert_rules.specs.WalkSteps.{Reduced, reduced}
 use Rattle.cert_rules.specs.Scripts.{Script}
@@ -36,32 +31,6 @@ use Rattle.cert_rules.specs.WalkTyping.{Walking, walk_sort_of, walk_check, walk_
 use Rattle.cert_rules.proofs.PassedWalks.{on_both, tested, rules_passed, make_then, reduced_passed, steps_equal}
 use Rattle.cert_rules.proofs.SoundScripts.{Shows}
 use Rattle.cert_rules.proofs.SoundSimple.{Infers, sort_sound, check_sound}
-
--- the recursive argument's domain
-
-begins : (c : Context) (r : ℕ) (t : Term) (p : Context × Term) → recursive_domain c r t ≡ Some p → BeginsWith (suc r) t
-begins c zero (Lambda A b) p e = tt
-begins c (suc r) (Lambda A b) p e = begins (Assumed A ∷ c) r b p e
-begins c r t p e = absurd (none_some e)
-
-recurses : (E : Env) (c : Context) (r : ℕ) (t : Term) (p : Context × Term) (f : FamilyId) (xs : List Term) → recursive_domain c r t ≡ Some p →
-    Equal E (values p.0) p.1 (apply (Ind f) xs) → Recurses E (values c) r t
-recurses E c zero (Lambda A b) p f xs e h =
-    recurses_here f xs (subst (λ p. Equal E (values p.0) p.1 (apply (Ind f) xs)) (sym (one_item e)) h)
-recurses E c (suc r) (Lambda A b) p f xs e h = recurses_later (recurses E (Assumed A ∷ c) r b p f xs e h)
-recurses E c r t p f xs e h = absurd (none_some e)
-
-named_type : (i n : ℕ) (o : Option (ℕ × Term)) (T : Term) (u v : Account) → (definition_type i n o u).end ≡ run.Done T v → (m : ℕ) × (o ≡ Some (m, T))
-named_type i n None T u v h = absurd (refused_done h)
-named_type i n (Some p) T u v h = (p.0, ap (λ X. Some (p.0, X)) (done_value h))
-
-name_at : (ts : Terms) (i m n : ℕ) (T : Term) → AreAll m (binders_of ts) → term_at ts i ≡ Some (n, T) → n ≡ m
-name_at Done i m n T h e = absurd (none_some e)
-name_at (Next k t ts) zero m n T h e = let q : (k, t) ≡ (n, T) = one_item e in (λ j. (sym q j).0) ∙ h.0
-name_at (Next k t ts) (suc i) m n T h e = name_at ts i m n T h.1 e
-
-pub shifted_formed : (n : ℕ) (T : Term) → IsFormed T → IsFormed (shift n 0 T)
-shifted_formed n T h = each_renamed HasForm T (λ i. n + i) h
 
 module _ (cert : Items) (E : Env) (w : HasCountedDeclarations E) (inf : Walking) (si : Infers E inf) where
   -- the types of the definitions

@@ -1,9 +1,9 @@
 -- Rule 10 of the certified walk, of matches, gives types.
-use Rattle.std.proofs.Common.{◌≡◌, ◌∙◌, ℕ, suc, ◌+◌, ◌==◌, ◌&&◌, List, [], ◌∷◌, ◌++◌, length, drop, Option, Some, refl, sym, subst, arith}
+use Rattle.std.proofs.Common.{◌≡◌, ◌∙◌, ℕ, suc, ◌+◌, ◌==◌, ◌&&◌, List, [], ◌∷◌, ◌++◌, length, drop, Option, Some, sym, subst, arith}
 use Rattle.std.proofs.lemmas.Bool.{eqb-true}
 use Rattle.universe_levels.specs.declared.sort.Sort.{Sort}
 use Rattle.pc_terms.specs.declared.leaf.FamilyId.{FamilyId}
-use Rattle.pc_terms.specs.Syntax.{Term, Terms, Done, Next, Rel, SortT, Case, first, substitute, apply, head, args, number, terms_of, Ind}
+use Rattle.pc_terms.specs.Syntax.{Term, Terms, Done, Next, Rel, SortT, Case, first, substitute, apply, head, args, terms_of, Ind}
 use Rattle.pc_terms.specs.Formed.{binders_of, EachTerm, HasForm, IsFormed}
 use Rattle.calculus_rules.specs.declared.declaration.Constructor.{Constructor}
 use Rattle.calculus_rules.specs.declared.declaration.Block.{Block}
@@ -13,22 +13,20 @@ use Rattle.calculus_rules.specs.Context.{Context, values, extend}
 use Rattle.calculus_rules.specs.Instances.{predicate_entries, branch_entries, predicate_at, branch_type}
 use Rattle.calculus_rules.specs.Elimination.{MayEliminate}
 use Rattle.calculus_rules.specs.Typing.{guarded, Types, case, TypesAll, no_terms, term, Entries, no_entries, entry, Branches, no_branches, branch, EntrySorts, no_sorts, a_sort}
-use Rattle.pc_rules.specs.declared.meter.Account.{Account}
-use Rattle.pc_rules.specs.DirectedRun as run
 use Rattle.pc_rules.specs.DirectedRun.{make, passing, any_beyond}
 use Rattle.calculus_rules.specs.Lookups.{kept_at, whole_block, family_of}
 use Rattle.calculus_rules.specs.Listed.{list_of}
-use Rattle.pc_rules.specs.DirectedTyping.{find_family, counted, names_counted, match_counted, eliminated, is_the_family, branch_beyond}
+use Rattle.pc_rules.specs.DirectedTyping.{find_family, match_counted, eliminated, is_the_family, branch_beyond}
 use Rattle.pc_rules.specs.WellCounted.{IsCountedNode, arities, IsCounted, AreCounted, AreCountedConstructors, HasCountedDeclarations, IsCountedContext}
 use Rattle.pc_rules.proofs.WeakNext.{family_found, drop_long, both_true}
 use Rattle.rule_laws.specs.Inference.{IsInferred, AllFormed}
-use Rattle.rule_laws.proofs.Runs.{bind_both}
 use Rattle.rule_laws.proofs.Counted.{PutsCounted, rel_counted, first_counted, substituted_counted, apply_counted, appended_counted, args_counted, terms_counted}
 use Rattle.rule_laws.proofs.KeepCounts.{IsCountedFamilyDecl, values_counted, steps_counted, kept_counted}
 use Rattle.rule_laws.proofs.CountedParts.{ind_counted, predicate_entries_counted, branch_entries_counted, predicate_at_counted, branch_type_counted, context_extended}
 use Rattle.rule_laws.proofs.Comparing.{names_long, list_long, first_same, rest_same, no_suc}
 use Rattle.rule_laws.proofs.SimpleRules.{formed, whole_family}
-use Rattle.rule_laws.proofs.MatchRule.{all_formed, formed_list, terms_are, Counted, count_is, eliminated_is, dropped_counted}
+use Rattle.rule_laws.proofs.MatchRule.{all_formed, formed_list, terms_are, Counted, eliminated_is, dropped_counted}
+pub use Rattle.rule_laws.proofs.MatchRule.{match_is_counted}
 use Rattle.cert_rules.specs.Walk.{Items, Stand, Walk, Passed, pass, walk_on, by_rules}
 use Rattle.cert_rules.specs.WalkSteps.{Reduced, reduced}
 use Rattle.cert_rules.specs.Scripts.{Script}
@@ -36,32 +34,6 @@ use Rattle.cert_rules.specs.WalkTyping.{Walking, walk_sort_of, walk_retype, walk
 use Rattle.cert_rules.proofs.PassedWalks.{on_both, tested, passed_value, rules_passed, make_then, pass_then, reduced_passed, steps_equal}
 use Rattle.cert_rules.proofs.SoundScripts.{Shows}
 use Rattle.cert_rules.proofs.SoundSimple.{Infers, made_is, sort_sound, retype_sound, fits_sound, check_sound}
-
--- counts
-
-names_are : (Cs : List Constructor) (ns : List ℕ) (u v : Account) → length Cs ≡ length ns → (names_counted Cs ns u).end ≡ run.Done tt v → ns ≡ arities Cs
-names_are [] [] u v l h = refl
-names_are [] (n ∷ ns) u v l h = no_suc (sym l)
-names_are (C ∷ Cs) [] u v l h = no_suc l
-names_are (C ∷ Cs) (n ∷ ns) u v l h =
-    let p = bind_both (counted (length C.args) n u) (λ _ v. names_counted Cs ns v) tt v h in
-    λ i. sym (count_is (length C.args) n u p.1 p.2) i ∷ names_are Cs ns p.1 v (omega arith) p.3 i
-
-pub match_is_counted : (F : FamilyDecl) (ps : Terms) (n : ℕ) (bs : Terms) (u v : Account) → (match_counted F ps n bs u).end ≡ run.Done tt v → Counted F ps n bs
-match_is_counted F ps n bs u v h =
-    let k3 : Unit {0} → Account → run.Run (Unit {0}) = λ _ x. names_counted F.constructors (binders_of bs) x in
-    let k2 : Unit {0} → Account → run.Run (Unit {0}) = λ _ w. run.bind (counted (length F.constructors) (number bs) w) k3 in
-    let k1 : Unit {0} → Account → run.Run (Unit {0}) = λ _ v. run.bind (counted (length F.indices + 1) n v) k2 in
-    let p1 = bind_both (counted (length F.parameters) (number ps) u) k1 tt v h in
-    let p2 = bind_both (counted (length F.indices + 1) n p1.1) k2 tt v p1.3 in
-    let p3 = bind_both (counted (length F.constructors) (number bs) p2.1) k3 tt v p2.3 in
-    let indices : length F.indices + 1 ≡ n = count_is (length F.indices + 1) n p1.1 p2.1 p2.2 in
-    let branches : length F.constructors ≡ number bs = count_is (length F.constructors) (number bs) p2.1 p3.1 p3.2 in
-    record {
-      parameters = sym (count_is (length F.parameters) (number ps) u p1.1 p1.2);
-      variables = omega arith;
-      branches = names_are F.constructors (binders_of bs) p3.1 v (branches ∙ sym (names_long bs)) p3.3;
-    }
 
 module _ (cert : Items) (E : Env) (w : HasCountedDeclarations E) (inf : Walking) (si : Infers E inf) where
   -- telescopes

@@ -12,7 +12,7 @@ use Rattle.calculus_rules.specs.Conversion.{Equal, EqualChildren, EqualTerms, in
 use Rattle.calculus_rules.specs.Conversion as conversion
 use Rattle.calculus_rules.specs.Same.{same, same_parts, same_sorts, same_labels, same_families, same_numbers}
 use Rattle.pc_rules.specs.DirectedComparison.{Test, IsTest, sort_below, sorts_stand}
-use Rattle.pc_rules.proofs.WeakNext.{same_names_is, same_families_is, both_true}
+use Rattle.pc_rules.proofs.WeakNext.{same_names_is, same_families_is, both_true, none_some}
 use Rattle.pc_rules.proofs.SameTrees.{same_is, same_numbers_is, false_true}
 use Rattle.calculus_rules.proofs.Congruence.{equal_products, equal_lets}
 use Rattle.rule_laws.specs.Comparison.{Compares}
@@ -55,9 +55,6 @@ same_labels_is (CaseOf f n) (CaseOf g m) e =
 same_labels_is (FixOf i rargs) (FixOf j rargs') e =
     let both = both_true (i == j) (same_numbers rargs rargs') e in λ x. FixOf (eqb-true i j both.0 x) (same_numbers_is rargs rargs' both.1 x)
 same_labels_is _ _ e = false_true e
-
-none_some : {A : Type 0} {x : A} → None ≡ Some x → ⊥
-none_some e = cc
 
 list_or : Option (List WalkAct) → List WalkAct → List WalkAct
 list_or None o = o

@@ -11,7 +11,7 @@ use Rattle.calculus_rules.specs.Context.{Context, Values, values, under, extend}
 use Rattle.calculus_rules.specs.Instances.{entries_at, predicate_entries, branch_entries}
 use Rattle.calculus_rules.specs.Same.{same, same_families, same_numbers}
 use Rattle.pc_rules.specs.DirectedRun as run
-use Rattle.pc_rules.specs.DirectedRun.{Run, bind, ticking, any_beyond, too_nested}
+use Rattle.pc_rules.specs.DirectedRun.{Run, bind, any_beyond}
 use Rattle.calculus_rules.specs.Lookups.{family_of}
 use Rattle.pc_rules.specs.DirectedComparison.{Test, Comparison, alike, each_equal, branches_equal, matches_equal, lifted_types, fixpoints_equal, heads_equal}
 use Rattle.calculus_rules.specs.Listed.{list_of}
@@ -20,7 +20,7 @@ use Rattle.pc_rules.proofs.WeakNext.{same_names_is, same_families_is, both_true}
 use Rattle.pc_rules.proofs.SameTrees.{same_numbers_is, same_itself, one_number, one_family, and_true, false_true}
 use Rattle.rule_laws.proofs.Runs.{done_value}
 use Rattle.rule_laws.proofs.KeepCounts.{under_counted, values_extended}
-use Rattle.rule_laws.proofs.Comparing.{entries_long, names_long, list_long, first_same, rest_same, no_suc}
+use Rattle.rule_laws.proofs.Comparing.{entries_long, names_long, list_long, first_same, rest_same, no_suc, no_cons, lifted_long}
 use Rattle.cert_rules.specs.declared.item.CertItem.{CertItem}
 use Rattle.cert_rules.specs.declared.item.CertItem.TheVariants.{Same, Parts}
 use Rattle.cert_rules.specs.Walk.{Items, Stand, WalkAct, WalkEnd, Passed, Barred, Unpaid, Crowded, pass, bar_here, past, end_on, walk_on, walk_all}
@@ -36,9 +36,6 @@ act_list : Script → Values → Terms → Terms → List WalkAct
 act_list go V (Next n t ts) (Next m u us) = go (under n V) true t u ∷ act_list go V ts us
 act_list go V _ _ = []
 
-no_number : {A : Type 0} {n : ℕ} {ns : List ℕ} → n ∷ ns ≡ [] → A
-no_number e = absurd (cc)
-
 part_first : (act : WalkAct) (o : Option (List WalkAct)) (acts : List WalkAct) → o ≡ Some acts → with_part act o ≡ Some (act ∷ acts)
 part_first act o acts e = ap (λ o. with_part act o) e
 
@@ -50,8 +47,8 @@ term_parts_are go V (Next n t ts) (Next m u us) o rest b e =
     let z : n ≡ m = first_same b in
     ap (λ c. if c then with_part (go (under n V) true t u) (term_parts go V ts us o) else None) (eq-eqb n m z)
     ∙ part_first (go (under n V) true t u) (term_parts go V ts us o) (act_list go V ts us ++ rest) (term_parts_are go V ts us o rest (rest_same b) e)
-term_parts_are go V Done (Next m u us) o rest b e = no_number (sym b)
-term_parts_are go V (Next n t ts) Done o rest b e = no_number b
+term_parts_are go V Done (Next m u us) o rest b e = no_cons (sym b)
+term_parts_are go V (Next n t ts) Done o rest b e = no_cons b
 
 -- walks of lists
 
@@ -141,10 +138,6 @@ all_binders n (Next k t ts) (Next m u us) a b e =
     let r = all_binders n ts us a.1 b.1 (omega arith) in
     let z : k ≡ m = a.0 ∙ sym b.0 in
     λ i. z i ∷ r i
-
-lifted_long : (n : ℕ) (Ts : List Term) → length (lifted_types n Ts) ≡ length Ts
-lifted_long n [] = refl
-lifted_long n (T ∷ Ts) = ap suc (lifted_long (suc n) Ts)
 
 pub no_args : (b : Term) → length (args b) ≡ 0 → (head b ≡ b) × (args b ≡ [])
 no_args (App g y) e = let l : length (args g ++ (y ∷ [])) ≡ length (args g) + 1 = length-append (args g) (y ∷ []) in absurd (omega arith)
@@ -243,10 +236,10 @@ module _ (cert : Items) (E : Env) (q : Test) where
         (act_list (script cert E q m) (values c) bs bs')
     unfolding act_list
     branches_trace m c vs ps [] Done Done n n' h h' = no_trace
-    branches_trace m c vs ps [] (Next k t ts) bs' n n' h h' = no_number n
-    branches_trace m c vs ps [] Done (Next k t ts) n n' h h' = no_number n'
-    branches_trace m c vs ps (C ∷ Cs) Done bs' n n' h h' = no_number (sym n)
-    branches_trace m c vs ps (C ∷ Cs) (Next k t ts) Done n n' h h' = no_number (sym n')
+    branches_trace m c vs ps [] (Next k t ts) bs' n n' h h' = no_cons n
+    branches_trace m c vs ps [] Done (Next k t ts) n n' h h' = no_cons n'
+    branches_trace m c vs ps (C ∷ Cs) Done bs' n n' h h' = no_cons (sym n)
+    branches_trace m c vs ps (C ∷ Cs) (Next k t ts) Done n n' h h' = no_cons (sym n')
     branches_trace m c vs ps (C ∷ Cs) (Next k t ts) (Next k' t' ts') n n' h h' =
         let As : List Term = branch_entries C ps in
         let l : length As ≡ k = entries_long _ C.args ∙ sym (first_same n) in

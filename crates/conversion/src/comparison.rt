@@ -5,7 +5,9 @@ ghost use Rattle.pc_rules.specs.Entailment.{test_of};
 ghost use Rattle.pc_rules.specs.Follows.{Follows};
 ghost use Rattle.pc_rules.specs.DirectedComparison.{compare, entered, pair};
 ghost use Rattle.conversion.specs.Comparable.{AreComparable};
+ghost use Rattle.conversion.specs.Modes.{is_equal};
 
+use crate::mode::Mode;
 use crate::sorts::compare_sorts;
 use calculus_rules::entry::Entry;
 use pc_rules::context::Ctx;
@@ -36,7 +38,7 @@ impl<R: Reducer + Drop> Converter for Compare<R> {
     ) -> Result<(), Halt> {
         // The constraints of an environment are consistent.
         let _ = env.graph();
-        self.compare(alloc, env, ctx, m.room(), false, a, b, m)
+        self.compare(alloc, env, ctx, m.room(), Mode::Below, a, b, m)
     }
 
     fn equal(
@@ -49,7 +51,7 @@ impl<R: Reducer + Drop> Converter for Compare<R> {
         m: &mut Meter,
     ) -> Result<(), Halt> {
         let _ = env.graph();
-        self.compare(alloc, env, ctx, m.room(), true, a, b, m)
+        self.compare(alloc, env, ctx, m.room(), Mode::Equal, a, b, m)
     }
 }
 
@@ -69,14 +71,14 @@ impl<R: Reducer + Drop> Compare<R> {
         env: &Env,
         ctx: &Ctx,
         room: u32,
-        equal: bool,
+        mode: Mode,
         a: &Term,
         b: &Term,
         m: &mut Meter,
     ) -> Result<(), Halt>
         requires nest { room + m.old.nest ≡ 2048 }
         requires comparable { AreComparable env.now (values ctx.now) (a.now ∷ []) (b.now ∷ []) }
-        ensures follows { Follows (compare env.now (test_of env.now) room ctx.now equal a.now b.now m.old.account) result m.old m.new }
+        ensures follows { Follows (compare env.now (test_of env.now) room ctx.now (is_equal mode) a.now b.now m.old.account) result m.old m.new }
     {
         if !m.tick() {
             return Err(Halt::Stop(Stop::Spent));
@@ -84,7 +86,7 @@ impl<R: Reducer + Drop> Compare<R> {
         if !m.enter() {
             return Err(Halt::Stop(Stop::TooDeep));
         }
-        let answer = self.entered(alloc, env, ctx, room - 1, equal, a, b, m);
+        let answer = self.entered(alloc, env, ctx, room - 1, mode, a, b, m);
         m.leave();
         answer
     }
@@ -97,21 +99,21 @@ impl<R: Reducer + Drop> Compare<R> {
         env: &Env,
         ctx: &Ctx,
         room: u32,
-        equal: bool,
+        mode: Mode,
         a: &Term,
         b: &Term,
         m: &mut Meter,
     ) -> Result<(), Halt>
         requires nest { room + m.old.nest ≡ 2048 }
         requires comparable { AreComparable env.now (values ctx.now) (a.now ∷ []) (b.now ∷ []) }
-        ensures follows { Follows (entered env.now (test_of env.now) (compare env.now (test_of env.now) room) ctx.now equal a.now b.now m.old.account) result m.old m.new }
+        ensures follows { Follows (entered env.now (test_of env.now) (compare env.now (test_of env.now) room) ctx.now (is_equal mode) a.now b.now m.old.account) result m.old m.new }
     {
         if a.same(b) {
             return Ok(());
         }
         let x = self.reducer.whnf(alloc, env, ctx, a, m)?;
         let y = self.reducer.whnf(alloc, env, ctx, b, m)?;
-        self.pair(alloc, env, ctx, room, equal, &x, &y, m)
+        self.pair(alloc, env, ctx, room, mode, &x, &y, m)
     }
 
     /// Two terms in weak-head normal form.
@@ -122,26 +124,26 @@ impl<R: Reducer + Drop> Compare<R> {
         env: &Env,
         ctx: &Ctx,
         room: u32,
-        equal: bool,
+        mode: Mode,
         a: &Term,
         b: &Term,
         m: &mut Meter,
     ) -> Result<(), Halt>
         requires nest { room + m.old.nest ≡ 2048 }
         requires comparable { AreComparable env.now (values ctx.now) (a.now ∷ []) (b.now ∷ []) }
-        ensures follows { Follows (pair env.now (test_of env.now) (compare env.now (test_of env.now) room) ctx.now equal a.now b.now m.old.account) result m.old m.new }
+        ensures follows { Follows (pair env.now (test_of env.now) (compare env.now (test_of env.now) room) ctx.now (is_equal mode) a.now b.now m.old.account) result m.old m.new }
     {
         match (a.view(), b.view()) {
-            (Node::Sort(s), Node::Sort(t)) => compare_sorts(alloc, env, equal, s, t),
+            (Node::Sort(s), Node::Sort(t)) => compare_sorts(alloc, env, mode, s, t),
             (Node::Prod(a, b), Node::Prod(x, y)) => {
-                self.compare(alloc, env, ctx, room, true, a, x, m)?;
+                self.compare(alloc, env, ctx, room, Mode::Equal, a, x, m)?;
                 let under = ctx.extended(alloc, Entry::Assumed(a.share()?))?;
-                self.compare(alloc, env, &under, room, equal, b, y, m)
+                self.compare(alloc, env, &under, room, mode, b, y, m)
             }
             (Node::Lambda(c, s), Node::Lambda(d, t)) => {
-                self.compare(alloc, env, ctx, room, true, c, d, m)?;
+                self.compare(alloc, env, ctx, room, Mode::Equal, c, d, m)?;
                 let under = ctx.extended(alloc, Entry::Assumed(c.share()?))?;
-                self.compare(alloc, env, &under, room, true, s, t, m)
+                self.compare(alloc, env, &under, room, Mode::Equal, s, t, m)
             }
             _ => self.spines(alloc, env, ctx, room, a, b, m),
         }

@@ -15,6 +15,7 @@ pub mod comparison;
 mod definitions;
 mod fixpoints;
 mod matches;
+mod mode;
 mod sorts;
 mod spine_heads;
 mod spines;

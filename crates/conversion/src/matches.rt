@@ -17,6 +17,7 @@ ghost use Rattle.pc_rules.specs.DirectedComparison.{compare, matches_equal, bran
 ghost use Rattle.conversion.specs.Comparable.{AreComparable};
 
 use crate::comparison::Compare;
+use crate::mode::Mode;
 use calculus_rules::declaration::{Constructors, Family};
 use instances::contexts::extended;
 use instances::instances::branches::branch_entries;
@@ -56,7 +57,7 @@ impl<R: Reducer + Drop> Compare<R> {
         };
         self.each(alloc, env, ctx, room, &x.params, &y.params, m)?;
         self.predicates(alloc, env, ctx, room, family, x, y, m)?;
-        self.compare(alloc, env, ctx, room, true, &x.scrut, &y.scrut, m)?;
+        self.compare(alloc, env, ctx, room, Mode::Equal, &x.scrut, &y.scrut, m)?;
         self.branches(alloc, env, ctx, room, &family.ctors, x, y, m)
     }
 
@@ -129,6 +130,6 @@ impl<R: Reducer + Drop> Compare<R> {
         ensures follows { Follows (entering ctx.now entries.now (λ d. compare env.now (test_of env.now) room d true a.now b.now) m.old.account) result m.old m.new }
     {
         let inner = extended(alloc, ctx, entries)?;
-        self.compare(alloc, env, &inner, room, true, a, b, m)
+        self.compare(alloc, env, &inner, room, Mode::Equal, a, b, m)
     }
 }

@@ -11,6 +11,7 @@ ghost use Rattle.pc_rules.specs.DirectedComparison.{compare, spines_equal, heads
 ghost use Rattle.conversion.specs.Comparable.{AreComparable};
 
 use crate::comparison::Compare;
+use crate::mode::Mode;
 use crate::spine_heads::fit;
 use pc_rules::broken::{Broken, Clash};
 use pc_rules::context::Ctx;
@@ -103,7 +104,7 @@ impl<R: Reducer + Drop> Compare<R> {
         let rights = us.as_slice();
         let count = lefts.len().min(rights.len());
         for i in 0..count {
-            self.compare(alloc, env, ctx, room, true, &lefts[i], &rights[i], m)?;
+            self.compare(alloc, env, ctx, room, Mode::Equal, &lefts[i], &rights[i], m)?;
         }
         Ok(())
     }

@@ -27,7 +27,7 @@ use closure_lift::program::{Lifted, LiftedBlock, LiftedBranch, LiftedBranches, L
 use std::collections::HashMap;
 use wasm_core::Instr;
 use wasm_emit::EmitFault;
-use wasm_emit::indices::index_of_constant;
+use wasm_emit::functions::index_of_constant;
 use wasm_emit::instructions::{empty_word, header_word, push, push_ends, push_load, push_test};
 
 /// Puts the value of a block on the operands; the places are those of the variables, the innermost last, and the first marks are those of the block. Only `Memory`.
@@ -297,8 +297,8 @@ fn push_mixed_branches(
         local: site.local,
         at,
     };
-    let blocks = push_block_branches(p, numbers, places, inner, bs, marks, out)?;
-    push_ends(blocks, out)?;
+    let heads = push_block_branches(p, numbers, places, inner, bs, marks, out)?;
+    push_ends(heads, out)?;
     push_ends(empties, out)
 }
 

@@ -15,7 +15,7 @@ use anf_convert::program::Atom;
 use closure_lift::program::Lifted;
 use wasm_core::Instr;
 use wasm_emit::EmitFault;
-use wasm_emit::indices::function_index;
+use wasm_emit::functions::function_index;
 use wasm_emit::instructions::{bytes_of, push, push_load};
 
 /// A branch out of more blocks is a call.

@@ -18,7 +18,7 @@ use wasm_core::{
     Bodies, Body, Exports, FuncType, FuncTypes, GlobalDefs, Limits, Module, Numbers, ValType, Valid,
 };
 use wasm_emit::EmitFault;
-use wasm_emit::indices::function_index;
+use wasm_emit::functions::function_index;
 use wasm_emit::parts::{
     call_exports_of, call_globals_of, elements_of, entry_count, exports_of, globals_of, push_times,
     type_of,

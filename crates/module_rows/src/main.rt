@@ -11,7 +11,8 @@
 //! | `validate` | that; or the function and the place, or the section, that has no typing; or `valid` |
 //! | `encode` | that; or the shortest bytes of the valid module |
 //! | `run` | that; or how a run with at most `cap:` pages and `steps:` steps (1,000,000 where it isn't told) ends and what the machine then shows. The run is made again step by step, and must show the same. Behind a run that returned: the data that it answers, as `answers` prints it |
-//! | `call` | that, of a run on arguments that are stored before, behind `heap` as it is then; or `no room` where they don't fit. A line `argument:` is an argument's nodes in preorder, each as its constructor's number and its number of arguments |
+//! | `frames` | how such a run ends, how many frames stand then, and the most that stood at once |
+//! | `call` | that of `run`, of a run on arguments that are stored before, behind `heap` as it is then; or `no room` where they don't fit. A line `argument:` is an argument's nodes in preorder, each as its constructor's number and its number of arguments |
 #![tactic(auto)]
 
 mod answers;
@@ -117,6 +118,7 @@ enum Question {
     Encoded,
     Ran,
     Called,
+    Frames,
 }
 
 /// Answers a question about a valid module.
@@ -132,6 +134,7 @@ fn answer(
         Question::Encoded => put_encoded(alloc, valid, out),
         Question::Ran => running::run(alloc, valid, row, out),
         Question::Called => calling::call(alloc, valid, row, out),
+        Question::Frames => running::frames(alloc, valid, row, out),
     }
 }
 
@@ -169,6 +172,7 @@ fn run(alloc: Global, row: &Row, out: &mut String) -> Result<(), Fault> {
         "encode" => answer_valid(alloc, row, Question::Encoded, out),
         "run" => answer_valid(alloc, row, Question::Ran, out),
         "call" => answer_valid(alloc, row, Question::Called, out),
+        "frames" => answer_valid(alloc, row, Question::Frames, out),
         _ => Err(Fault::Faulty("no such call")),
     }
 }

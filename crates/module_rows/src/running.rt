@@ -132,6 +132,24 @@ fn put_runs(
     }
 }
 
+/// Makes a run with a fresh machine, and prints how many frames stand then, and the most that stood at once.
+fn put_frames(machine: &mut Machine, steps: u64, out: &mut String) -> Result<(), Fault> {
+    let end = machine.run(steps);
+    put_end(out, end)?;
+    put_number(out, " with frames: ", machine.frames())?;
+    Ok(put_number(out, ", at most ", machine.peak())?)
+}
+
+/// Runs `main` of a module with at most `cap` pages and at most `steps` steps, and tells of its frames.
+pub fn frames(alloc: Global, valid: &Valid, row: &Row, out: &mut String) -> Result<(), Fault> {
+    let cap = row.index("cap")?;
+    let steps = row.number("steps", 1_000_000)?;
+    match Machine::new(alloc, valid, cap) {
+        Ok(mut machine) => put_frames(&mut machine, steps, out),
+        Err(fault) => Ok(put_refusal(out, fault)?),
+    }
+}
+
 /// Runs `main` of a module with at most `cap` pages and at most `steps` steps, whole and cut into steps, which must show the same.
 pub fn run(alloc: Global, valid: &Valid, row: &Row, out: &mut String) -> Result<(), Fault> {
     let cap = row.index("cap")?;

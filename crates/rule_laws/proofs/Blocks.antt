@@ -44,15 +44,15 @@ use Rattle.pc_rules.proofs.WeakNext.{none_some}
 
 -- the names of constructors are distinct
 
-abbrev names_in : List Constructor → List Name
+abbrev pub names_in : List Constructor → List Name
 names_in [] = []
 names_in (C ∷ Cs) = C.name ∷ names_in Cs
 
-abbrev Differs : Name → List Name → Type 0
+abbrev pub Differs : Name → List Name → Type 0
 Differs k [] = Unit {0}
 Differs k (l ∷ ls) = (k ≢ l) × Differs k ls
 
-abbrev Distinct : List Name → Type 0
+abbrev pub Distinct : List Name → Type 0
 Distinct [] = Unit {0}
 Distinct (k ∷ ks) = Differs k ks × Distinct ks
 
@@ -62,7 +62,7 @@ has_none k (B ∷ Bs) h X here = other_name B.name k (or_false (same_names B.nam
 has_none k (B ∷ Bs) h X (there p) = has_none k Bs (or_false (same_names B.name k) (has_name k Bs) h).1 X p
 
 -- distinct, and different from those before
-abbrev AreNew : List Constructor → List Constructor → Type 0
+abbrev pub AreNew : List Constructor → List Constructor → Type 0
 AreNew before Cs = Distinct (names_in Cs) × ((X : Constructor) → Has before X → Differs X.name (names_in Cs))
 
 next_new : (before : List Constructor) (C : Constructor) (Cs : List Constructor) (b : Bool) (u v : Account) → has_name C.name before ≡ b →
@@ -72,7 +72,7 @@ next_new before C Cs true u v e rec h = absurd (refused_done h)
 next_new before C Cs false u v e rec h =
     let r = rec h in ((r.1 C here, r.0), λ X p. (has_none C.name before e X p, r.1 X (there p)))
 
-are_new : (before Cs : List Constructor) (u v : Account) → (distinct_names before Cs u).end ≡ run.Done tt v → AreNew before Cs
+pub are_new : (before Cs : List Constructor) (u v : Account) → (distinct_names before Cs u).end ≡ run.Done tt v → AreNew before Cs
 are_new before [] u v h = (tt, λ X p. tt)
 are_new before (C ∷ Cs) u v h = next_new before C Cs (has_name C.name before) u v refl (are_new (C ∷ before) Cs u v) h
 
@@ -80,19 +80,19 @@ all_differ : (k : Name) (Cs : List Constructor) → Differs k (names_in Cs) → 
 all_differ k [] h = All-nil (λ D. k ≢ D.name)
 all_differ k (C ∷ Cs) h = All-cons (λ D. k ≢ D.name) C Cs h.0 (all_differ k Cs h.1)
 
-all_pairs : (Cs : List Constructor) → Distinct (names_in Cs) → AllPairs (λ C D. C.name ≢ D.name) Cs
+pub all_pairs : (Cs : List Constructor) → Distinct (names_in Cs) → AllPairs (λ C D. C.name ≢ D.name) Cs
 all_pairs [] h = λ i j d lt within. absurd (omega arith)
 all_pairs (C ∷ Cs) h = AllPairs-cons (λ C D. C.name ≢ D.name) C Cs (all_differ C.name Cs h.0) (all_pairs Cs h.1)
 
 -- the heads of a block
 
-record HeadFits (E : Env) (B : Block) (F : Family) : Type 0 where
-  indices : Entries guarded E (extend [] B.params) F.indices
-  sort : IsDeclared E F.sort
-  distinct : Distinct (names_in F.ctors)
-  all : AreCounted E F.indices
+pub record HeadFits (E : Env) (B : Block) (F : Family) : Type 0 where
+  pub indices : Entries guarded E (extend [] B.params) F.indices
+  pub sort : IsDeclared E F.sort
+  pub distinct : Distinct (names_in F.ctors)
+  pub all : AreCounted E F.indices
 
-abbrev HeadsFit : Env → Block → List Family → Type 0
+abbrev pub HeadsFit : Env → Block → List Family → Type 0
 HeadsFit E B [] = Unit {0}
 HeadsFit E B (F ∷ Fs) = HeadFits E B F × HeadsFit E B Fs
 
@@ -298,7 +298,7 @@ module _ (H : Env) (w : HasCountedDeclarations H) (inf : Typing) (si : Infers H 
 
 -- the whole block
 
-heads_counted : (E : Env) (B : Block) (Fs : List Family) → HeadsFit E B Fs → AreCountedFamilies E (map head_of Fs)
+pub heads_counted : (E : Env) (B : Block) (Fs : List Family) → HeadsFit E B Fs → AreCountedFamilies E (map head_of Fs)
 heads_counted E B [] h = tt
 heads_counted E B (F ∷ Fs) h = ((h.0.all, tt, declared_over E F.sort h.0.sort), heads_counted E B Fs h.1)
 

@@ -47,7 +47,7 @@ pub list_long : (ts : Terms) → length (list_of ts) ≡ number ts
 list_long Done = refl
 list_long (Next n t ts) = ap suc (list_long ts)
 
-lifted_long : (n : ℕ) (Ts : List Term) → length (lifted_types n Ts) ≡ length Ts
+pub lifted_long : (n : ℕ) (Ts : List Term) → length (lifted_types n Ts) ≡ length Ts
 lifted_long n [] = refl
 lifted_long n (T ∷ Ts) = ap suc (lifted_long (suc n) Ts)
 

@@ -41,7 +41,7 @@ use Rattle.rule_laws.proofs.Blocks.{block_sound}
 
 -- a new name
 
-name_is_new : (o : Option Kept) (k : Name) (u v : Account) → (fresh_name o k u).end ≡ run.Done tt v → o ≡ None
+pub name_is_new : (o : Option Kept) (k : Name) (u v : Account) → (fresh_name o k u).end ≡ run.Done tt v → o ≡ None
 name_is_new None k u v h = refl
 name_is_new (Some d) k u v h = absurd (refused_done h)
 
@@ -118,7 +118,7 @@ one_type : {E E' : Env} {T T' : Term} {u u' : Account} → Accepts E T u ≡ Acc
 unfolding type_of_main
 one_type {T = T} e = ap (λ r. type_of_main r T) e
 
-breaks_accepts : {E : Env} {T : Term} {p : Place} {b : Broken} {u v : Account} → Breaks p b u ≡ Accepts E T v → ⊥
+pub breaks_accepts : {E : Env} {T : Term} {p : Place} {b : Broken} {u v : Account} → Breaks p b u ≡ Accepts E T v → ⊥
 breaks_accepts e = cc
 
 end_placed : {A : Type 0} (p : Place) (e : End A) (k : A → Account → Outcome (Env × Term)) (E : Env) (T : Term) (v : Account) → placed_end p e k ≡ Accepts E T v →
@@ -231,12 +231,12 @@ are_over n i (c ∷ cs) h =
 
 -- the whole
 
-levels_passed : (o : Option (ℕ × Level)) (go : Checked) (u : Account) (E : Env) (T : Term) (v : Account) → (levels_rule o go u).outcome ≡ Accepts E T v →
+pub levels_passed : (o : Option (ℕ × Level)) (go : Checked) (u : Account) (E : Env) (T : Term) (v : Account) → (levels_rule o go u).outcome ≡ Accepts E T v →
     (o ≡ None) × (go.outcome ≡ Accepts E T v)
 levels_passed None go u E T v h = (refl, h)
 levels_passed (Some p) go u E T v h = absurd (breaks_accepts h)
 
-constraints_passed : (o : Option (ℕ × Level)) (go : Checked) (u : Account) (E : Env) (T : Term) (v : Account) → (constraints_rule o go u).outcome ≡ Accepts E T v →
+pub constraints_passed : (o : Option (ℕ × Level)) (go : Checked) (u : Account) (E : Env) (T : Term) (v : Account) → (constraints_rule o go u).outcome ≡ Accepts E T v →
     (o ≡ None) × (go.outcome ≡ Accepts E T v)
 constraints_passed None go u E T v h = (refl, h)
 constraints_passed (Some p) go u E T v h = absurd (breaks_accepts h)

@@ -36,12 +36,12 @@ use Rattle.pc_rules.proofs.SameTrees.{false_true}
 
 -- the recursive argument's domain
 
-begins : (c : Context) (r : ℕ) (t : Term) (p : Context × Term) → recursive_domain c r t ≡ Some p → BeginsWith (suc r) t
+pub begins : (c : Context) (r : ℕ) (t : Term) (p : Context × Term) → recursive_domain c r t ≡ Some p → BeginsWith (suc r) t
 begins c zero (Lambda A b) p e = tt
 begins c (suc r) (Lambda A b) p e = begins (Assumed A ∷ c) r b p e
 begins c r t p e = absurd (none_some e)
 
-recurses : (E : Env) (c : Context) (r : ℕ) (t : Term) (p : Context × Term) (f : FamilyId) (xs : List Term) → recursive_domain c r t ≡ Some p →
+pub recurses : (E : Env) (c : Context) (r : ℕ) (t : Term) (p : Context × Term) (f : FamilyId) (xs : List Term) → recursive_domain c r t ≡ Some p →
     Equal E (values p.0) p.1 (apply (Ind f) xs) → Recurses E (values c) r t
 recurses E c zero (Lambda A b) p f xs e h =
     recurses_here f xs (subst (λ p. Equal E (values p.0) p.1 (apply (Ind f) xs)) (sym (one_item e)) h)
@@ -56,16 +56,16 @@ pub a_family : (t : Term) → is_a_family t ≡ true → (f : FamilyId) × (t �
 a_family (Ind f) h = (f, refl)
 a_family t h = false_true h
 
-named_type : (i n : ℕ) (o : Option (ℕ × Term)) (T : Term) (u v : Account) → (definition_type i n o u).end ≡ run.Done T v → (m : ℕ) × (o ≡ Some (m, T))
+pub named_type : (i n : ℕ) (o : Option (ℕ × Term)) (T : Term) (u v : Account) → (definition_type i n o u).end ≡ run.Done T v → (m : ℕ) × (o ≡ Some (m, T))
 named_type i n None T u v h = absurd (refused_done h)
 named_type i n (Some p) T u v h = (p.0, ap (λ X. Some (p.0, X)) (done_value h))
 
-name_at : (ts : Terms) (i m n : ℕ) (T : Term) → AreAll m (binders_of ts) → term_at ts i ≡ Some (n, T) → n ≡ m
+pub name_at : (ts : Terms) (i m n : ℕ) (T : Term) → AreAll m (binders_of ts) → term_at ts i ≡ Some (n, T) → n ≡ m
 name_at Done i m n T h e = absurd (none_some e)
 name_at (Next k t ts) zero m n T h e = let q : (k, t) ≡ (n, T) = one_item e in (λ j. (sym q j).0) ∙ h.0
 name_at (Next k t ts) (suc i) m n T h e = name_at ts i m n T h.1 e
 
-shifted_formed : (n : ℕ) (T : Term) → IsFormed T → IsFormed (shift n 0 T)
+pub shifted_formed : (n : ℕ) (T : Term) → IsFormed T → IsFormed (shift n 0 T)
 shifted_formed n T h = each_renamed HasForm T (λ i. n + i) h
 
 module _ (E : Env) (w : HasCountedDeclarations E) (inf : Typing) (si : Infers E inf) where

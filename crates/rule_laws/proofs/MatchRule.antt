@@ -71,7 +71,7 @@ pub record Counted (F : FamilyDecl) (ps : Terms) (n : ℕ) (bs : Terms) : Type 0
   pub variables : n ≡ suc (length F.indices)
   pub branches : binders_of bs ≡ arities F.constructors
 
-match_is_counted : (F : FamilyDecl) (ps : Terms) (n : ℕ) (bs : Terms) (u v : Account) → (match_counted F ps n bs u).end ≡ run.Done tt v → Counted F ps n bs
+pub match_is_counted : (F : FamilyDecl) (ps : Terms) (n : ℕ) (bs : Terms) (u v : Account) → (match_counted F ps n bs u).end ≡ run.Done tt v → Counted F ps n bs
 match_is_counted F ps n bs u v h =
     let k3 : Unit {0} → Account → Run (Unit {0}) = λ _ x. names_counted F.constructors (binders_of bs) x in
     let k2 : Unit {0} → Account → Run (Unit {0}) = λ _ w. bind (counted (length F.constructors) (number bs) w) k3 in

@@ -88,7 +88,7 @@ number_is : (B : Block) (f : FamilyId) (o : Option FamilyDecl) (F : FamilyDecl) 
 number_is B f None F u v h = absurd (refused_done h)
 number_is B f (Some G) F u v h = ap Some (done_value h)
 
-known_family : (E : Env) (f : FamilyId) (F : FamilyDecl) (o : Option Kept) (u v : Account) → kept_at E.declarations f.block ≡ o →
+pub known_family : (E : Env) (f : FamilyId) (F : FamilyDecl) (o : Option Kept) (u v : Account) → kept_at E.declarations f.block ≡ o →
     (find_family f (known_block o) u).end ≡ run.Done F v → KnowsFamily E f F
 known_family E f F None u v e h = absurd (refused_done h)
 known_family E f F (Some (Constant k T b)) u v e h = absurd (refused_done h)
@@ -104,7 +104,7 @@ pub whole_family : (E : Env) (f : FamilyId) (F : FamilyDecl) (u v : Account) →
     family_of E f ≡ Some F
 whole_family E f F u v h = found_in f F (whole_block (kept_at E.declarations f.block)) u v h
 
-constructor_is : (F : FamilyDecl) (n : ℕ) (o : Option Constructor) (C : Constructor) (u v : Account) → (constructor_number F n o u).end ≡ run.Done C v → o ≡ Some C
+pub constructor_is : (F : FamilyDecl) (n : ℕ) (o : Option Constructor) (C : Constructor) (u v : Account) → (constructor_number F n o u).end ≡ run.Done C v → o ≡ Some C
 constructor_is F n None C u v h = absurd (refused_done h)
 constructor_is F n (Some D) C u v h = ap Some (done_value h)
 

@@ -8,6 +8,7 @@ use crate::clash::clash;
 use crate::closing::close;
 use crate::cover::covers;
 use crate::numbers::Numbers;
+use crate::order::Order;
 use crate::row::Row;
 use crate::steps::steps;
 use std::alloc::{AllocError, Global};
@@ -46,6 +47,7 @@ struct Table {
     levels: u32,
     constraints: Vec<Constraint>,
     rows: Vec<Row>,
+    order: Order,
 }
 
 impl Model for Graph {
@@ -84,6 +86,7 @@ impl Graph {
                 constraints: Numbers::of(places),
             });
         }
+        let order = Order::of(alloc, rows.as_slice(), constraints)?;
         let constraints = constraints.to_vec(alloc)?;
         let table = shared(
             alloc,
@@ -91,6 +94,7 @@ impl Graph {
                 levels,
                 constraints,
                 rows,
+                order,
             },
         )?;
         Ok(Graph { table })
@@ -111,7 +115,12 @@ impl Graph {
         requires high_over { IsOver self.now.levels high.now }
         ensures entailed { IsTrue result ↔ Entails self.now.levels self.now.constraints low.now high.now }
     {
-        covers(self.table.rows.as_slice(), low.parts(), high.parts())
+        covers(
+            self.table.rows.as_slice(),
+            &self.table.order,
+            low.parts(),
+            high.parts(),
+        )
     }
 
     /// The number of declared levels. Takes no memory.

@@ -11,7 +11,8 @@
 //!
 //! How: the table of spans (`specs/Spans.antt`) has, for each two levels, one more than the largest number of strict steps in a chain of
 //! constraints from the one up to the other. `steps` fills it with the constraints' own steps, `closing` adds all chains, and `cover` reads
-//! it. Where there is a strict chain from a level to itself, `clash` walks along a cycle and checks on the way that its constraints clash.
+//! it; for large universes `hints` finds what is tried first, by the constraints in the order that `order` makes. Where there is a strict
+//! chain from a level to itself, `clash` walks along a cycle and checks on the way that its constraints clash.
 //!
 //! Below stands `universe_levels`; above stand the rules of typing.
 #![tactic(auto)]
@@ -20,7 +21,9 @@ mod clash;
 mod closing;
 mod cover;
 pub mod graph;
+mod hints;
 pub mod numbers;
+mod order;
 mod row;
 mod steps;
 #[cfg(test)]

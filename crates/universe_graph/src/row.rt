@@ -37,6 +37,17 @@ impl Row {
         self.spans[level]
     }
 
+    /// To how many levels there is a chain.
+    pub(crate) fn reached(&self) -> u32 {
+        let mut reached: u32 = 0;
+        for span in &self.spans {
+            if *span > 0 {
+                reached = reached.saturating_add(1);
+            }
+        }
+        reached
+    }
+
     /// Keeps a span to a level, where it is greater than the one that is there.
     pub(crate) fn offer(&mut self, level: usize, span: u16)
         requires level_in { level < length self.old }

@@ -149,7 +149,7 @@ fn judges_two_levels(rt: HostRuntime) -> Result<(), Fail> {
     Ok(())
 }
 
-/// Graphs on three levels, judged by trying all valuations up to 12.
+/// Graphs on three levels, judged by trying all valuations up to 12. The last four are compared by hints.
 #[test]
 fn agrees_with_all_small_valuations(rt: HostRuntime) -> Result<(), Fail> {
     for (triples, low, high, want) in ROWS {
@@ -166,7 +166,7 @@ type Row = (
     u32,
 );
 
-const ROWS: [Row; 32] = [
+const ROWS: [Row; 36] = [
     (
         &[(1, 1, 0), (2, 1, 1), (0, 1, 3), (0, 0, 1)],
         &[(2, 1), (3, 1)],
@@ -358,5 +358,29 @@ const ROWS: [Row; 32] = [
         &[(1, 1), (3, 1)],
         &[(0, 1), (3, 0)],
         2,
+    ),
+    (
+        &[(1, 0, 3), (2, 0, 3)],
+        &[(1, 1), (2, 1), (3, 1)],
+        &[(0, 0), (1, 0), (2, 0), (3, 1)],
+        1,
+    ),
+    (
+        &[(1, 0, 3), (2, 0, 3)],
+        &[(1, 1), (2, 1), (3, 2)],
+        &[(0, 0), (1, 0), (2, 0), (3, 1)],
+        2,
+    ),
+    (
+        &[(1, 1, 3), (2, 1, 3)],
+        &[(1, 1), (2, 1), (3, 1)],
+        &[(0, 0), (1, 0), (2, 0), (3, 1)],
+        1,
+    ),
+    (
+        &[(1, 2, 3), (2, 2, 3)],
+        &[(0, 1), (1, 1), (2, 1), (3, 1)],
+        &[(0, 0), (1, 0), (2, 0), (3, 1)],
+        1,
     ),
 ];

@@ -5,10 +5,9 @@ use Rattle.std.proofs.lemmas.List.{drop_more, get_or-reverse, length-reverse}
 use Rattle.std.specs.Prelude.{Result, Ok, Err, IfOk, OnOk}
 use Rattle.anf_convert.specs.declared.program.Atom.{Atom}
 use Rattle.closure_lift.specs.Lifted.{Op, OConst, OApp, OCon, OClos, OCase, Block, RetAtom, LetAtom, Ret, Let, BranchBlocks, BNil, BCons, BranchAt, branch_here, branch_after, Fn, Bound, AtomBound, OpBound, ret_of, lets_of}
-use Rattle.closure_lift.specs.LiftedProgram.{renumber_op, renumber, renumber_branches, renumber_functions, place_in}
+use Rattle.closure_lift.specs.LiftedProgram.{renumber_op, renumber, renumber_branches, renumber_functions}
 use Rattle.closure_lift.specs.LiftedView.{seen, bounds_of, branches_of, functions_of}
 use Rattle.closure_lift.specs.declared.program.Function.{Function}
-use Rattle.closure_lift.specs.declared.program.Lifted.{Lifted}
 use Rattle.closure_lift.specs.declared.program.LiftedBranch.{LiftedBranch}
 use Rattle.closure_lift.specs.declared.program.LiftedConstant.{LiftedConstant}
 use Rattle.closure_lift.specs.declared.program.LiftedOp.{LiftedOp}
@@ -90,11 +89,6 @@ ends_sum zero k rest = ap (λ (j : ℕ). ends j rest) (add_zero k)
 ends_sum (suc n) k rest =
     let e : suc (k + n) ≡ k + suc n = omega arith in
     ap (λ (z : List Instr). End ∷ z) (ends_sum n k rest) ∙ ap (λ (j : ℕ). ends j rest) e
-
--- branch c of a match on the word in local d
-module _ (Q : Lifted) (env : List Place) (d c : ℕ) (b : LiftedBranch) where
-  abbrev t : Block
-  t = renumber (place_in Q.constants) b.body
 
 pub on_ok : {A E P Q : Type 0} (r : Result A E) → (P → Q) → OnOk r P → OnOk r Q
 on_ok (Ok x) f h = f h

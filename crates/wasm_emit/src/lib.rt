@@ -1,7 +1,7 @@
 //! What every emitted module has: the parts of which emission makes the module of a lifted program, and the facts of its runs that don't depend on the code of blocks.
 //!
 //! `instructions` pushes the instructions that the code of blocks is made of (clause `pushed`), `bodies` makes the functions of the run time (`is`), `parts` the types,
-//! exports, globals and the table's segment (`is`), `indices` and `numbers` find the functions (`is`), and `locals` counts the locals of a block and refuses exactly
+//! exports, globals and the table's segment (`is`), `functions` and `numbers` find the functions (`is`), and `locals` counts the locals of a block and refuses exactly
 //! where these are too many (`ok`, `locals`). `specs/EmittedCode.antt` and `EmittedModule` define these parts, `EmittedLocals` how many locals a block has,
 //! `Emission` what a program must be (`Emits`), which each program is that lifting gives (`lifted_programs_can_be_emitted`, clause `emits`), `EmitLaws` when a run has
 //! spent its memory, and `CallLaws` what a host puts into memory before a run with arguments. `docs/EMISSION.md` tells it as a whole.
@@ -15,7 +15,7 @@
 
 pub mod bodies;
 mod fault;
-pub mod indices;
+pub mod functions;
 pub mod instructions;
 mod laws;
 pub mod locals;

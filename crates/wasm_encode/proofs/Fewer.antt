@@ -518,7 +518,7 @@ same_is I64 I64 e = refl
 same_is I32 I64 e = absurd cc
 same_is I64 I32 e = absurd cc
 
-same_self : (t : ValType) → same_type t t ≡ true
+pub same_self : (t : ValType) → same_type t t ≡ true
 same_self I32 = refl
 same_self I64 = refl
 

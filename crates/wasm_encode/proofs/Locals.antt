@@ -3,6 +3,7 @@ use Rattle.std.proofs.Common.{◌≡◌, ℕ, zero, suc, ◌+◌, ◌<◌, ◌�
 use Rattle.std.specs.Prelude.{if◌then◌else◌}
 use Rattle.std.proofs.lemmas.List.{reverse-append, length-reverse}
 use Rattle.std.proofs.Math.ListN.{drop_of_length-le}
+use Rattle.wasm_encode.proofs.Fewer.{same_self}
 use Rattle.wasm_core.specs.ShortestBytes.{same_type, add_local, runs, put_run, put_all}
 use Rattle.wasm_core.specs.ModuleCondition.{All, IsInstr, IsClosed, opens_after}
 use Rattle.wasm_core.specs.declared.types.ValType.{ValType}
@@ -16,10 +17,6 @@ Run = ℕ × ValType
 
 reverse_last : (now old : List Run) (r : Run) → now ≡ old ++ r ∷ [] → reverse now ≡ r ∷ reverse old
 reverse_last now old r e = rw e (reverse-append old (r ∷ []))
-
-same_self : (t : ValType) → same_type t t ≡ true
-same_self I32 = refl
-same_self I64 = refl
 
 not_same : (t u : ValType) → (u ≡ t → ⊥) → same_type t u ≡ false
 not_same I32 I32 n = absurd (n refl)

@@ -1,5 +1,5 @@
 -- What a host's calls keep: the machine stays at the start of a run of `main`, in a store in which a run may start.
-use Rattle.std.proofs.Common.{◌≡◌, ℕ, ◌+◌, ◌-◌, ◌*◌, ◌<◌, ◌≤◌, List, [], ◌∷◌, ◌++◌, length, drop, Option, Some, None, Bool, true, false, refl, ap, sym, ◌∙◌, subst, arith, length-append, ⊎_elim}
+use Rattle.std.proofs.Common.{◌≡◌, ℕ, zero, suc, ◌+◌, ◌-◌, ◌*◌, ◌<◌, ◌≤◌, List, [], ◌∷◌, ◌++◌, length, drop, Option, Some, None, Bool, true, false, refl, ap, sym, ◌∙◌, subst, arith, length-append, ⊎_elim}
 use Rattle.std.proofs.lemmas.Option.{slice_get-map}
 use Rattle.std.proofs.lemmas.Bool.{leb-true, le-leb, lt-leb, cases_lt}
 use Rattle.std.proofs.lemmas.List.{drop_more, drop_all}
@@ -31,6 +31,7 @@ use Rattle.wasm_core.proofs.Values.{have_set}
 use Rattle.wasm_core.proofs.WordsStay.{zeroed_length}
 use Rattle.wasm_run.specs.Hosting.{put_in, IsAtStart}
 use Rattle.wasm_run.specs.Machines.{Reached}
+use Rattle.wasm_run.specs.Standing.{frames, most_frames}
 use Rattle.wasm_run.specs.Threads.{state_of, store_in}
 use Rattle.wasm_run.specs.declared.thread.Thread.{Thread}
 use Rattle.wasm_run.proofs.Bodies.{inj}
@@ -111,7 +112,7 @@ store_again (At c) st = refl
 store_again (Over e old) st = refl
 
 -- where no step is counted, the machine is at such a start
-pub at_start : (m : Parts) (made : ℕ) (s : State) → made ≡ 0 → Reached m made s → IsReady m (store_of s) × (main_start_in m (store_of s) ≡ Some s)
+pub at_start : (m : Parts) (made : ℕ) {peak : ℕ} (s : State) → made ≡ 0 → Reached m made peak s → IsReady m (store_of s) × (main_start_in m (store_of s) ≡ Some s)
 at_start m made s none r =
     let here : r.first ≡ s = subst (λ n. Reach m n r.first s) (r.none_made none) r.reach in
     let x = started_in m r.store r.first r.starts in
@@ -120,8 +121,17 @@ at_start m made s none r =
       subst (λ st. main_start_in m st ≡ Some s) same (r.starts ∙ ap Some here),
     )
 
+-- where no step was made the frames are those of the state, whose store doesn't matter
+none_most : (m : Parts) (k : ℕ) (s t : State) (run : Reach m k s t) → k ≡ 0 → most_frames m k s t run ≡ frames t
+none_most m zero s t run e = refl
+none_most m (suc k) s t run e = absurd (omega arith)
+
+frames_stay : (s : State) (st : Store) → frames (with_store s st) ≡ frames s
+frames_stay (At c) st = refl
+frames_stay (Over e old) st = refl
+
 -- and stays there with another such store
-pub starts_with : (m : Parts) (made : ℕ) (s : State) (st : Store) → made ≡ 0 → Reached m made s → IsReady m st → Reached m made (with_store s st)
+pub starts_with : (m : Parts) (made : ℕ) {peak : ℕ} (s : State) (st : Store) → made ≡ 0 → Reached m made peak s → IsReady m st → Reached m made peak (with_store s st)
 starts_with m made s st none r ready = record {
   store = st;
   ready = ready;
@@ -130,6 +140,7 @@ starts_with m made s st none r ready = record {
   steps = 0;
   reach = refl;
   none_made = λ _. refl;
+  most = r.most ∙ none_most m r.steps r.first s r.reach (r.none_made none) ∙ sym (frames_stay s st);
 }
 
 -- a global of an entry is set
@@ -192,16 +203,16 @@ store_is m None t = refl
 store_is m (Some e) t = refl
 
 -- a machine whose store is another one stays at its start
-pub kept_start : (m : Parts) (made : ℕ) (e : Option Ended) (t t' : Thread) (st : Store) → made ≡ 0 → t'.current ≡ t.current → t'.callers ≡ t.callers → store_in t' ≡ st → IsReady m st →
-    Reached m made (state_of m e t) → Reached m made (state_of m e t')
+pub kept_start : (m : Parts) (made : ℕ) {peak : ℕ} (e : Option Ended) (t t' : Thread) (st : Store) → made ≡ 0 → t'.current ≡ t.current → t'.callers ≡ t.callers → store_in t' ≡ st → IsReady m st →
+    Reached m made peak (state_of m e t) → Reached m made peak (state_of m e t')
 kept_start m made e t t' st none current callers same ready r =
-    subst (Reached m made) (sym (with_thread m e t t' current callers ∙ ap (with_store (state_of m e t)) same)) (starts_with m made (state_of m e t) st none r ready)
+    subst (Reached m made _) (sym (with_thread m e t t' current callers ∙ ap (with_store (state_of m e t)) same)) (starts_with m made (state_of m e t) st none r ready)
 
-pub is_at_start : (m : Parts) (cap made : ℕ) (failed : Bool) (s : State) → made ≡ 0 → Reached m made s → IsAtStart (record { program = m; cap = cap; state = s; made = made; failed = failed })
+pub is_at_start : (m : Parts) (cap made : ℕ) {peak : ℕ} (failed : Bool) (s : State) → made ≡ 0 → Reached m made peak s → IsAtStart (record { program = m; cap = cap; state = s; made = made; failed = failed })
 is_at_start m cap made failed s none r = let h = at_start m made s none r in record { ready = h.0; starts = h.1 }
 
 -- the store of a thread from which a run may start
-pub thread_ready : (m : Parts) (made : ℕ) (e : Option Ended) (t : Thread) → made ≡ 0 → Reached m made (state_of m e t) → IsReady m (store_in t)
+pub thread_ready : (m : Parts) (made : ℕ) {peak : ℕ} (e : Option Ended) (t : Thread) → made ≡ 0 → Reached m made peak (state_of m e t) → IsReady m (store_in t)
 thread_ready m made e t none r = subst (IsReady m) (store_is m e t) (at_start m made (state_of m e t) none r).0
 
 -- a grown memory has so many bytes

@@ -8,6 +8,7 @@ use Rattle.wasm_core.specs.MachineStep.{Store, State, Reach}
 use Rattle.wasm_core.specs.MachineRun.{MachineShown}
 use Rattle.wasm_core.specs.ModuleTyping.{IsValid}
 use Rattle.wasm_core.specs.Words.{HasWords}
+use Rattle.wasm_run.specs.Standing.{most_frames}
 use Rattle.wasm_run.specs.Threads.{state_of}
 use Rattle.wasm_run.specs.declared.machine.Machine.TheInside.{Inside}
 
@@ -20,8 +21,8 @@ shown a = record {
   failed = a.failed;
 }
 
--- a state that a run of `main` reaches from a store in which a run may start; where no step is counted, none was made
-pub record Reached (m : Parts) (made : ℕ) (s : State) : Type 0 where
+-- a state that a run of `main` reaches from a store in which a run may start, with the most frames at one of its states; where no step is counted, none was made
+pub record Reached (m : Parts) (made peak : ℕ) (s : State) : Type 0 where
   pub store : Store
   pub ready : IsReady m store
   pub first : State
@@ -29,11 +30,12 @@ pub record Reached (m : Parts) (made : ℕ) (s : State) : Type 0 where
   pub steps : ℕ
   pub reach : Reach m steps first s
   pub none_made : made ≡ 0 → steps ≡ 0
+  pub most : peak ≡ most_frames m steps first s reach
 
 pub record IsMachine (a : Inside) : Type 0 where
   pub valid : IsValid a.program
   pub words : HasWords a.program
-  pub reached : a.failed ≡ false → Reached a.program a.made (state_of a.program a.ended a.thread)
+  pub reached : a.failed ≡ false → Reached a.program a.made a.peak (state_of a.program a.ended a.thread)
   pub result_at : index_of Result a.program ≡ Some a.result_at
   pub status_at : index_of Status a.program ≡ Some a.status_at
   pub heap_at : (x : ℕ) → index_of Heap a.program ≡ Some x → a.heap_at ≡ x

@@ -3,7 +3,8 @@
 //! `Machine::new` makes a machine at the start of a run of `main` in a valid module, or says what stands against it (`makes`). `Machine::run` makes the steps
 //! of the definition of execution, at most as many as it is given, and says how the run ended or that its steps are spent (`says`); memory grows up to the
 //! smaller of the machine's bound and the module's maximum. `Machine::run_told` does the same, and tells each report of a list the facts of exactly these steps: each with its
-//! class, and each grow of memory that wasn't refused (`told`). `result`, `status`, `pages`, `memory` and `steps` show its state (`is`). A run of a valid
+//! class, and each grow of memory that wasn't refused (`told`). `result`, `status`, `pages`, `memory`, `steps` and `frames` show its state (`is`), `peak` the most
+//! frames that stood at once in its run (`HasPeak`). A run of a valid
 //! module is never stuck, so a step has no answer of its own for that.
 //!
 //! A machine is a frame that runs, with those that wait for it (`frame`, `thread`), and a module that is made ready once (`program`): its table is filled, and

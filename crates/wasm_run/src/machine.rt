@@ -1,6 +1,6 @@
 //! A machine that runs a valid module.
 
-ghost use Rattle.std.specs.Prelude.{◌≡◌, ◌+◌, ◌-◌, ◌^◌, ◌<◌, ◌≤◌, ◌∷◌, [], List, IfOk, OnOk, OnErr, MatchOption, MatchResult, Some, false, length, map, min, slice_get, true, ℕ};
+ghost use Rattle.std.specs.Prelude.{◌≡◌, ◌+◌, ◌-◌, ◌^◌, ◌<◌, ◌≤◌, ◌∷◌, [], List, IfOk, OnOk, OnErr, MatchOption, MatchResult, Some, false, length, map, max, min, slice_get, true, ℕ};
 ghost use Rattle.wasm_core.specs.Answer.{global_of};
 ghost use Rattle.wasm_core.specs.Entries.{missing, missing_for_call};
 ghost use Rattle.wasm_core.specs.HostStore.{IsForCall, set_entry, with_store};
@@ -12,7 +12,9 @@ ghost use Rattle.wasm_core.specs.Runs.{Move, store_of};
 ghost use Rattle.wasm_core.specs.Words.{HasWords};
 ghost use Rattle.wasm_run.specs.Hosting.{IsAtStart, MakesOfSize, SaysPut};
 ghost use Rattle.wasm_run.specs.MachineEntries.{HasEntries};
+ghost use Rattle.wasm_run.specs.Standing.{HasPeak, frames};
 ghost use Rattle.wasm_run.specs.Tallies.{IsTally};
+ghost use Rattle.wasm_run.specs.Threads.{state_of};
 ghost use Rattle.wasm_run.specs.ToldRuns.{SaysTold};
 ghost use Rattle.wasm_run.specs.ToldSteps.{grow_facts, step_facts};
 ghost use Rattle.std.specs.List.{AllZip};
@@ -48,6 +50,7 @@ pub struct Machine<'m> {
     heap_at: u32,
     args_at: u32,
     made: u64,
+    peak: u64,
     ended: Option<Ended>,
     failed: bool,
 }
@@ -186,6 +189,23 @@ fn i32_at(globals: &[ConstValue], place: u32) -> u32
     }
 }
 
+/// The frames that stand: that of the function that runs and those that wait for it, and none after the run's end.
+fn standing(program: &Program, ended: Option<Ended>, thread: &Thread) -> u64
+    ensures is { result ≡ frames (state_of program.now ended thread.now) }
+{
+    match ended {
+        Some(_) => 0,
+        None => thread.callers.len() as u64 + 1,
+    }
+}
+
+/// The greater of two numbers.
+fn higher(m: u64, n: u64) -> u64
+    ensures is { result ≡ max m n }
+{
+    if m < n { n } else { m }
+}
+
 impl<'m> Machine<'m> {
     /// A machine at the start of a run of `main`, whose memory grows to `cap` pages of 65,536 bytes at most, or to the module's maximum where that
     /// is smaller.
@@ -292,6 +312,7 @@ impl<'m> Machine<'m> {
             heap_at: entries.heap,
             args_at: entries.args,
             made: 0,
+            peak: 1,
             ended: None,
             failed: false,
         })
@@ -321,6 +342,8 @@ impl<'m> Machine<'m> {
             Ok(ended) => {
                 self.ended = ended;
                 self.made = self.made.saturating_add(1);
+                let frames = standing(&self.program, ended, &self.thread);
+                self.peak = higher(self.peak, frames);
                 Ok(())
             }
             Err(error) => {
@@ -496,6 +519,20 @@ impl<'m> Machine<'m> {
         ensures is { result.now ≡ (store_of self.now.state).memory }
     {
         self.thread.memory.as_slice()
+    }
+
+    /// The frames that stand now: that of the function that runs and those that wait for it; 0 where the run has ended. It takes no memory.
+    pub fn frames(&self) -> u64
+        ensures is { result ≡ frames self.now.state }
+    {
+        standing(&self.program, self.ended, &self.thread)
+    }
+
+    /// The most frames that have stood at once since `new`. It takes no memory.
+    pub fn peak(&self) -> u64
+        ensures is { self.now.failed ≡ false → HasPeak self.now result }
+    {
+        self.peak
     }
 
     /// The steps made so far, which stop at u64's last value.

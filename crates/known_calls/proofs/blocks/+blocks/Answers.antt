@@ -237,11 +237,11 @@ push_mixed_branches-returns-clause-pushed t c =
     let Q = c.args.p.now in
     let bs = branches_of c.args.bs.now in
     let d = c.args.site.local in
-    let z : HeadArms c.push_empty_branches.new.out.items c.push_block_branches.new.out.items (block_arms Q (reverse c.args.places.now.items) d c.in_ok-at.at bs) c.in_ok-blocks.blocks =
-    subst (λ zs. HeadArms c.push_empty_branches.new.out.items c.push_block_branches.new.out.items (block_arms Q (reverse zs) d c.in_ok-at.at bs) c.in_ok-blocks.blocks) c.in_ok-empties.ensures.same c.in_ok-blocks.ensures.pushed in
-    let x : HeadArms c.push_empty_branches.new.out.items c.push_block_branches.new.out.items (block_arms Q (reverse c.args.places.now.items) d (under_position c.in_ok-empties.empties c.args.site.at) bs) c.in_ok-blocks.blocks =
-    subst (λ a. HeadArms c.push_empty_branches.new.out.items c.push_block_branches.new.out.items (block_arms Q (reverse c.args.places.now.items) d a bs) c.in_ok-blocks.blocks) c.in_ok-at.ensures.is z in
+    let z : HeadArms c.push_empty_branches.new.out.items c.push_block_branches.new.out.items (block_arms Q (reverse c.args.places.now.items) d c.in_ok-at.at bs) c.in_ok-heads.heads =
+    subst (λ zs. HeadArms c.push_empty_branches.new.out.items c.push_block_branches.new.out.items (block_arms Q (reverse zs) d c.in_ok-at.at bs) c.in_ok-heads.heads) c.in_ok-empties.ensures.same c.in_ok-heads.ensures.pushed in
+    let x : HeadArms c.push_empty_branches.new.out.items c.push_block_branches.new.out.items (block_arms Q (reverse c.args.places.now.items) d (under_position c.in_ok-empties.empties c.args.site.at) bs) c.in_ok-heads.heads =
+    subst (λ a. HeadArms c.push_empty_branches.new.out.items c.push_block_branches.new.out.items (block_arms Q (reverse c.args.places.now.items) d a bs) c.in_ok-heads.heads) c.in_ok-at.ensures.is z in
     on_ok c.push_ends-2.result
-    (λ y. mixed_pushed Q (reverse c.args.places.now.items) d c.args.site.at bs c.args.out.now.items c.push_empty_branches.new.out.items c.push_block_branches.new.out.items c.push_ends.new.out.items c.push_ends-2.new.out.items c.in_ok-empties.empties c.in_ok-blocks.blocks c.requires.mixed
+    (λ y. mixed_pushed Q (reverse c.args.places.now.items) d c.args.site.at bs c.args.out.now.items c.push_empty_branches.new.out.items c.push_block_branches.new.out.items c.push_ends.new.out.items c.push_ends-2.new.out.items c.in_ok-empties.empties c.in_ok-heads.heads c.requires.mixed
     c.in_ok-empties.ensures.pushed x c.in_ok-push_ends.ensures.pushed y)
     c.push_ends-2.ensures.pushed

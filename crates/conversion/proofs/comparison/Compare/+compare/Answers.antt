@@ -12,6 +12,7 @@ use Rattle.pc_terms.specs.Lists.{types_of, bodies_of}
 use Rattle.calculus_rules.specs.Same.{same}
 use Rattle.pc_rules.proofs.Following.{follows_bind, follows_err, follows_still}
 use Rattle.std.proofs.lemmas.Result.{err_from_is_err_and}
+use Rattle.conversion.specs.Modes.{is_equal}
 use Rattle.conversion.proofs.Defaults.{sort_and_other, product_and_other, lambda_and_other, other_first}
 use Rattle.conversion.proofs.Comparing.{at_room, compare_spent, compare_nested, compare_entered, entering_fault, entering_goes, each_next, each_stops, each_done, branches_next, branches_stops, branches_done, matched, spines_go, spines_clash}
 use Rattle.conversion.proofs.Parts.{whnfs_comparable, left_sort, right_sort, domains_comparable, codomains_comparable, binders_comparable, lambda_bodies_comparable, heads_comparable, args_comparable, items_comparable, parameters_comparable, predicates_comparable, scrutinees_comparable, branches_comparable, types_comparable, bodies_comparable, extended_comparable, same_comparable}
@@ -156,22 +157,22 @@ pair-returns-in_default g t c =
     elim c.in_default.branch [
       | pair-in_default-via-in-Sort+in_default w ↦
           record {
-            follows = rw (sort_and_other c.args.env.now (test_of c.args.env.now) (at_room c.args.env.now c.args.room) c.args.ctx.now c.args.equal c.args.m.now.account _ _ _ _ c.view.ensures.is c.view-2.ensures.is w.in_default.field-0-0 w.in_default.is-0
+            follows = rw (sort_and_other c.args.env.now (test_of c.args.env.now) (at_room c.args.env.now c.args.room) c.args.ctx.now (is_equal c.args.mode) c.args.m.now.account _ _ _ _ c.view.ensures.is c.view-2.ensures.is w.in_default.field-0-0 w.in_default.is-0
                 w.in_default.not-Sort-1) c.spines.ensures.follows;
           }
       | pair-in_default-via-in-Prod+in_default w ↦
           record {
-            follows = rw (product_and_other c.args.env.now (test_of c.args.env.now) (at_room c.args.env.now c.args.room) c.args.ctx.now c.args.equal c.args.m.now.account _ _ _ _ c.view.ensures.is c.view-2.ensures.is w.in_default.field-0-0 w.in_default.field-1-0
+            follows = rw (product_and_other c.args.env.now (test_of c.args.env.now) (at_room c.args.env.now c.args.room) c.args.ctx.now (is_equal c.args.mode) c.args.m.now.account _ _ _ _ c.view.ensures.is c.view-2.ensures.is w.in_default.field-0-0 w.in_default.field-1-0
                 w.in_default.is-0 w.in_default.not-Prod-1) c.spines.ensures.follows;
           }
       | pair-in_default-via-in-Lambda+in_default w ↦
           record {
-            follows = rw (lambda_and_other c.args.env.now (test_of c.args.env.now) (at_room c.args.env.now c.args.room) c.args.ctx.now c.args.equal c.args.m.now.account _ _ _ _ c.view.ensures.is c.view-2.ensures.is w.in_default.field-0-0 w.in_default.field-1-0
+            follows = rw (lambda_and_other c.args.env.now (test_of c.args.env.now) (at_room c.args.env.now c.args.room) c.args.ctx.now (is_equal c.args.mode) c.args.m.now.account _ _ _ _ c.view.ensures.is c.view-2.ensures.is w.in_default.field-0-0 w.in_default.field-1-0
                 w.in_default.is-0 w.in_default.not-Lambda-1) c.spines.ensures.follows;
           }
       | pair-in_default-via-in_default w ↦
           record {
-            follows = rw (other_first c.args.env.now (test_of c.args.env.now) (at_room c.args.env.now c.args.room) c.args.ctx.now c.args.equal c.args.m.now.account _ _ _ _ c.view.ensures.is c.view-2.ensures.is w.in_default.not-Sort-0 w.in_default.not-Prod-0
+            follows = rw (other_first c.args.env.now (test_of c.args.env.now) (at_room c.args.env.now c.args.room) c.args.ctx.now (is_equal c.args.mode) c.args.m.now.account _ _ _ _ c.view.ensures.is c.view-2.ensures.is w.in_default.not-Sort-0 w.in_default.not-Prod-0
                 w.in_default.not-Lambda-0) c.spines.ensures.follows;
           }
     ]

@@ -14,6 +14,7 @@ use Rattle.wasm_core.specs.Runs.{start, first_store}
 use Rattle.wasm_run.specs.Programs.{locals_at}
 use Rattle.wasm_run.specs.Hosting.{IsAtStart}
 use Rattle.wasm_run.specs.Machines.{Reached}
+use Rattle.wasm_run.specs.Standing.{frames}
 use Rattle.wasm_run.specs.Threads.{state_of}
 use Rattle.wasm_run.specs.declared.thread.Thread.{Thread}
 use Rattle.wasm_run.proofs.Bodies.{inj}
@@ -40,8 +41,8 @@ invariant_of-result c =
     record {
       valid = subst (λ (x : Parts). IsValid x) (sym pe) c.requires.valid;
       words = subst (λ (x : Parts). HasWords x) (sym pe) c.requires.words;
-      reached = λ _. subst (λ (x : Parts). Reached x 0 (state_of x None t)) (sym pe)
-          (record { store = first_store m; ready = c.first_is_ready.ensures.holds m c.requires.valid c.requires.words; first = start m g; starts = main_starts m f g c.requires.fit c.requires.entries.main is; steps = 0; reach = sym e; none_made = λ _. refl });
+      reached = λ _. subst (λ (x : Parts). Reached x 0 1 (state_of x None t)) (sym pe)
+          (record { store = first_store m; ready = c.first_is_ready.ensures.holds m c.requires.valid c.requires.words; first = start m g; starts = main_starts m f g c.requires.fit c.requires.entries.main is; steps = 0; reach = sym e; none_made = λ _. refl; most = sym (ap frames e) });
       result_at = ap (index_of Result) pe ∙ c.requires.entries.result;
       status_at = ap (index_of Status) pe ∙ c.requires.entries.status;
       heap_at = λ x h. c.requires.entries.heap x (sym (ap (index_of Heap) pe) ∙ h);

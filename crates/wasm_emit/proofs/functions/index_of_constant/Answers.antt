@@ -5,8 +5,8 @@ use Rattle.std.specs.HashMap.{get}
 use Rattle.std.specs.Option.{unwrap_or}
 use Rattle.closure_lift.specs.LiftedProgram.{place_in, lifted_of}
 use Rattle.wasm_emit.specs.EmittedCode.{constant_index}
-use Rattle.wasm_emit.proofs.indices.index_of_constant.Goals as goal
-use Rattle.wasm_emit.proofs.indices.index_of_constant.Goals.{in-Some, in-None}
+use Rattle.wasm_emit.proofs.functions.index_of_constant.Goals as goal
+use Rattle.wasm_emit.proofs.functions.index_of_constant.Goals.{in-Some, in-None}
 
 pub returns-clause-is : goal.returns-clause-is
 returns-clause-is c =

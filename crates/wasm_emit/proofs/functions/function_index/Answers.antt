@@ -1,7 +1,7 @@
 use Rattle.std.proofs.Common.{length, ap, arith}
 use Rattle.closure_lift.specs.LiftedProgram.{place_in}
 use Rattle.wasm_emit.proofs.Pushing.{renumbered_count, functions_count}
-use Rattle.wasm_emit.proofs.indices.function_index.Goals as goal
+use Rattle.wasm_emit.proofs.functions.function_index.Goals as goal
 
 pub returns-in-Ok-clause-is : goal.returns-in-Ok-clause-is
 returns-in-Ok-clause-is c =
