@@ -22,6 +22,7 @@ use Rattle.wasm_emit.specs.EmittedBodies.{FewLocals}
 use Rattle.wasm_emit.proofs.Pushing.{renumbered_count, functions_count}
 use Rattle.wasm_emit.proofs.Indices.{length_map}
 use Rattle.wasm_emit.proofs.Emitting.{times, counts_fit}
+use Rattle.known_calls.specs.KnownCode.{is_wide}
 use Rattle.known_calls.specs.KnownModule.{words_type, words_types, widest_worker, worker_type, numbered, main_function, module_of}
 use Rattle.known_calls.specs.KnownCalls.{call_function, module_of_call}
 use Rattle.known_calls.specs.KnownEmission.{bodies_with, worker_types, parts_with}
