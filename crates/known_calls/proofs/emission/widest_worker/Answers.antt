@@ -1,6 +1,5 @@
-use Rattle.std.proofs.Common.{◌≡◌, ◌∷◌, ◌+◌, List, ap, drop, refl, sym, ◌∙◌}
+use Rattle.std.proofs.Common.{◌+◌, List, ap, drop, refl, sym, ◌∙◌}
 use Rattle.std.specs.Prelude.{max}
-use Rattle.closure_lift.specs.Lifted.{Fn}
 use Rattle.closure_lift.specs.declared.program.Function.{Function}
 use Rattle.wasm_emit.specs.Pushed.{function_in}
 use Rattle.wasm_emit.proofs.Listed.{functions_in}
