@@ -8,7 +8,6 @@ use Rattle.wasm_core.specs.RunTree.{Within as Tree, now, gone, moves}
 use Rattle.closure_lift.specs.Lifted.{Program, Val, VNil, LiftedAnswers as Evaluates, answers_alone}
 use Rattle.closure_lift.specs.Lifted as lifted
 use Rattle.wasm_emit.specs.EmitLaws.{Spent, spent}
-use Rattle.wasm_emit.proofs.Source.{Gets}
 
 pub alone : {P : Program} {w : ℕ} {v : Val} {c k b l : ℕ} → Evaluates P w VNil v c k b l → lifted.Gets P w VNil P.main v c k b l
 alone (answers_alone g) = g

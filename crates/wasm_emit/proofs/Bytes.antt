@@ -1,5 +1,5 @@
 -- Words of memory, and the zeroed memory of a page.
-use Rattle.std.proofs.Common.{◌≡◌, ℕ, ◌*◌, ◌<◌, List, length, replicate, arith}
+use Rattle.std.proofs.Common.{◌≡◌, ℕ, ◌+◌, ◌*◌, ◌<◌, List, length, replicate, ap, arith}
 use Rattle.std.proofs.lemmas.List.{get_or-replicate, length-replicate}
 use Rattle.wasm_core.specs.Memory.{byte, word, zeroed}
 pub use Rattle.wasm_core.proofs.Bits.{put_word_length as put_length}

@@ -1,6 +1,6 @@
 -- How long the bytes are of what every emitted module has.
 use Rattle.std.proofs.Common.{◌≡◌, ℕ, ◌+◌, ◌*◌, ◌≤◌, List, [], ◌∷◌, ◌++◌, length, length-append, Some, refl, arith}
-use Rattle.std.specs.Prelude.{max, codes}
+use Rattle.std.specs.Prelude.{codes}
 use Rattle.wasm_core.specs.declared.instrs.Instr.TheVariants.{End}
 use Rattle.wasm_core.specs.declared.instrs.Body.{Body}
 use Rattle.wasm_core.specs.declared.exports.Export.{Export}

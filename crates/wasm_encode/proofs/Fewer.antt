@@ -436,11 +436,11 @@ opcodes_few = (
                         (
                           (λ a b u. omega arith),
                           (
-                            (λ u. omega arith),
+                            (λ n u. omega arith),
                             (
-                              (λ n u. omega arith),
+                              (λ a b u. omega arith),
                               (
-                                (λ n u. omega arith),
+                                (λ u. omega arith),
                                 (
                                   (λ n u. omega arith),
                                   (
@@ -448,8 +448,14 @@ opcodes_few = (
                                     (
                                       (λ n u. omega arith),
                                       (
-                                        (λ a u. omega arith),
-                                        ((λ a u. omega arith), ((λ a u. omega arith), ((λ a u. omega arith), ((λ u. omega arith), ((λ u. omega arith), ((λ n u. omega arith), ((λ n u. omega arith), tt))))))),
+                                        (λ n u. omega arith),
+                                        (
+                                          (λ n u. omega arith),
+                                          (
+                                            (λ a u. omega arith),
+                                            ((λ a u. omega arith), ((λ a u. omega arith), ((λ a u. omega arith), ((λ u. omega arith), ((λ u. omega arith), ((λ n u. omega arith), ((λ n u. omega arith), tt))))))),
+                                          ),
+                                        ),
                                       ),
                                     ),
                                   ),
