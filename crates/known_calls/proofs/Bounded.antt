@@ -2,7 +2,7 @@
 use Rattle.std.proofs.Common.{◌≡◌, ℕ, zero, suc, ◌+◌, ◌*◌, ◌<◌, ◌≤◌, List, [], ◌∷◌, length, Option, Some, None, Bool, true, false, refl, arith}
 use Rattle.std.proofs.lemmas.Bool.{leb-true}
 use Rattle.std.proofs.lemmas.Option.{slice_get_within}
-use Rattle.std.specs.Prelude.{max, nat_eq, nat_le, if◌then◌else◌}
+use Rattle.std.specs.Prelude.{max, nat_eq, nat_le, if◌then◌else◌, ◌||◌}
 use Rattle.wasm_core.specs.declared.types.ValType.TheVariants.{I32}
 use Rattle.wasm_core.specs.declared.instrs.BlockType.{BlockType}
 use Rattle.wasm_core.specs.declared.instrs.BlockType.TheVariants.{Empty, Value}
@@ -21,7 +21,7 @@ use Rattle.wasm_emit.specs.EmitLaws.{CountsFit}
 use Rattle.wasm_emit.proofs.Lengths.{bytes_of, size, u_1, u_2, z_unreachable, z_if, z_else, z_end, z_op, z_call, z_indirect, z_get, z_set, z_tee, z_heap, z_size, z_room, z_small, z_header, z_global, z_load, z_store, z_const}
 use Rattle.wasm_emit.proofs.Spelled.{Good, fits}
 use Rattle.known_calls.specs.KnownPlaces.{Word, InLocal, InField, IsConst, Place, At, fields_of, word_of, known_function, block_reads}
-use Rattle.known_calls.specs.KnownCode.{Position, Inside, InTail, deeper, worker_index, jumps, most_blocks, read_word, read, atom, push_words, fill, block, into_params, call_worker, application, choose, unmade, known, op, code, empties, heads}
+use Rattle.known_calls.specs.KnownCode.{Position, Inside, InTail, deeper, worker_index, jumps, most_blocks, read_word, read, atom, push_words, fill, new_block, block, into_local, into_params, call_worker, application, some_heads, some_branches, empty_test, head_test, arm, choose, unmade, known, op, code, empties, heads}
 use Rattle.known_calls.specs.KnownModule.{captured_words}
 use Rattle.known_calls.specs.KnownWeight.{op_weight, weight, branches_weight}
 use Rattle.known_calls.proofs.Unreading.{and_true, unmade_some}
@@ -96,6 +96,17 @@ b_global x h = b_one (GlobalSet x) (λ r. z_global r x h) (omega arith)
 b_arms : {j k : ℕ} {g1 g2 : List Instr → List Instr} → Bounded j g1 → Bounded k g2 → Bounded (j + k + 4) (λ r. IfWord ∷ g1 (Else ∷ g2 (End ∷ r)))
 b_arms x y = b_most _ (omega arith) (b_one IfWord (λ r. z_if r (Value I32)) tt then (x then (b_one Else (λ r. z_else r) tt then (y then b_end))))
 
+-- the test of a branch, and the branch behind it
+b_empty_test : (d c : ℕ) → d < 100000 → 2 * c + 1 < 4294967296 → Bounded 11 (empty_test d c)
+b_empty_test d c hd hc = b_most 11 (omega arith) (b_get d hd then (b_const (2 * c + 1) hc then b_one {k = 1} (Operation op32.Eq) (λ r. z_op r op32.Eq) tt))
+
+b_head_test : (d c n : ℕ) → d < 100000 → n * 65536 + c < 4294967296 → Bounded 15 (head_test d c n)
+b_head_test d c n hd hc = b_most 15 (omega arith) (b_get d hd then (b_load 0 (omega arith) then (b_const (n * 65536 + c) hc then b_one {k = 1} (Operation op32.Eq) (λ r. z_op r op32.Eq) tt)))
+
+b_arm : (b : Bool) {i j k : ℕ} {test : List Instr → List Instr} {branch behind : Position → List Instr → List Instr} (at : Position) → Bounded i test → ((at' : Position) → Bounded j (branch at')) → ((at' : Position) → Bounded k (behind at')) → Bounded (i + j + k + 4) (arm b test branch behind at)
+b_arm true at t x y = b_most _ (omega arith) (t then b_arms (x (deeper at)) (y (deeper at)))
+b_arm false at t x y = b_most _ (omega arith) (x at)
+
 b_word : (far d : ℕ) (w : Word) → far ≤ 16384 → d ≤ 100000 → WordFits far d w → Bounded 8 (read_word w)
 b_word far d (InLocal x) hf hd h = b_most 8 (omega arith) (b_get x (omega arith))
 b_word far d (InField x o) hf hd h = b_get x (omega (arith, h.0)) then b_load o (omega (arith, h.1))
@@ -134,10 +145,25 @@ module _ (P : Program) (m : ℕ) (form : Formed P m) (counts : CountsFit P m) (l
   b_fill n d ps (a ∷ as') hd few fit h =
       b_most _ (omega arith) (b_get d hd then (b_atom n ps a fit.0 h then (b_one {k = 4} (StoreWord (4 * suc (length as'))) (λ r. z_store r (4 * suc (length as')) (omega arith)) (omega arith, omega arith) then b_fill n d ps as' hd (omega arith) fit.1 h)))
 
-  b_block : (n d header : ℕ) (ps : List Place) (as' : List Atom) → d < 100000 → header < 4294967296 → length as' < 2049 → AtomsFit n as' → Near ps → Bounded (45 + 16 * length as') (block ps d header as')
-  b_block n d header ps as' hd hh few fit h =
+  b_new_block : (n d header : ℕ) (ps : List Place) (as' : List Atom) → d < 100000 → header < 4294967296 → length as' < 2049 → AtomsFit n as' → Near ps → Bounded (41 + 16 * length as') (new_block ps d header as')
+  b_new_block n d header ps as' hd hh few fit h =
       b_most _ (omega arith) (b_one {k = 2} (GlobalGet 2) (λ r. z_heap r) (omega arith) then (b_tee d hd then (b_one {k = 4} (ConstWord (4 * suc (length as'))) (λ r. z_small r (4 * suc (length as')) (omega arith)) (omega arith) then (b_one {k = 1} (Operation op32.Add) (λ r. z_op r op32.Add) tt
-      then (b_global 2 (omega arith) then (b_ensure then (b_get d hd then (b_const header hh then (b_one {k = 3} (StoreWord 0) (λ r. z_header r) (omega arith, omega arith) then (b_fill n d ps as' hd few fit h then b_get d hd))))))))))
+      then (b_global 2 (omega arith) then (b_ensure then (b_get d hd then (b_const header hh then (b_one {k = 3} (StoreWord 0) (λ r. z_header r) (omega arith, omega arith) then b_fill n d ps as' hd few fit h)))))))))
+
+  b_block : (n d header : ℕ) (ps : List Place) (as' : List Atom) → d < 100000 → header < 4294967296 → length as' < 2049 → AtomsFit n as' → Near ps → Bounded (45 + 16 * length as') (block ps d header as')
+  b_block n d header ps as' hd hh few fit h = b_most _ (omega arith) (b_new_block n d header ps as' hd hh few fit h then b_get d hd)
+
+  -- an operation whose word comes into a local
+  b_bind : {g : List Instr → List Instr} (n d : ℕ) (ps : List Place) (x : Op) → d < 100000 → Near ps → OpFits P.functions (length P.constants) m n x → Bounded (op_weight x) g → Bounded (4 + op_weight x) (into_local ps d x g)
+  b_bind n d ps (OCon c as') hd h fit y = let small = fit.0 in let few = fit.2 in b_most _ (omega arith) (b_new_block n d _ ps as' hd (omega (arith, small, few)) (omega (arith, few)) fit.3 h)
+  b_bind n d ps (OClos g as') hd h fit y =
+      let takes = fit.0 in
+      let few = limits.captured g takes.fn takes.at in
+      let low = slice_get_within P.functions g takes.fn takes.at in
+      b_most _ (omega arith) (b_new_block n d (suc g) ps as' hd (omega (arith, low, limits.few)) (omega (arith, few, takes.words)) fit.1 h)
+  b_bind n d ps (OConst x) hd h fit y = b_most _ (omega arith) (y then b_set d hd)
+  b_bind n d ps (OApp f a) hd h fit y = b_most _ (omega arith) (y then b_set d hd)
+  b_bind n d ps (OCase a bs) hd h fit y = b_most _ (omega arith) (y then b_set d hd)
 
   b_jump : (b : Bool) (g h n depth : ℕ) → jumps g h depth ≡ b → n ≤ 7 → worker_index P g < 2097152 → Bounded 38 (λ r. if b then into_params n (Br depth ∷ r) else (Call (worker_index P g) ∷ r))
   b_jump true g h n depth e few low =
@@ -189,7 +215,7 @@ module _ (P : Program) (m : ℕ) (form : Formed P m) (counts : CountsFit P m) (l
         let low = slice_get_within P.functions g takes.fn takes.at in
         b_block n d (suc g) ps as' (omega arith) (omega (arith, low, limits.few)) (omega (arith, few, takes.words)) fit.1 h
     b_op n d ps at (OCase a bs) le h fit =
-        b_most _ (omega (arith, both_chains bs)) (b_atom n ps a fit.0 h then (b_set d (omega arith) then b_empties n d ps at 0 bs (λ at'. heads P ps d at' 0 bs) (1 + heads_weight bs) (omega arith) (omega (arith, fit.1)) h fit.2 (λ at'. b_heads n d ps at' 0 bs (omega arith) (omega
+        b_most _ (omega (arith, both_chains bs)) (b_atom n ps a fit.0 h then (b_set d (omega arith) then b_empties n d ps at 0 (some_heads bs) bs (λ at'. heads P ps d at' 0 bs) (1 + heads_weight bs) (omega arith) (omega (arith, fit.1)) h fit.2 (λ at'. b_heads n d ps at' 0 bs (omega arith) (omega
         (arith, fit.1)) h fit.2)))
 
     pub b_code : (n d : ℕ) (ps : List Place) (at : Position) (t : Block) → top d t < 100000 → Near ps → LiftedBlockFits P.functions (length P.constants) m n t → Bounded (weight t) (code P ps d at t)
@@ -199,20 +225,20 @@ module _ (P : Program) (m : ℕ) (form : Formed P m) (counts : CountsFit P m) (l
     b_code n d ps at (Let x t) le h fit =
         b_choice (unmade P ps x t) {g = λ q. code P (q ∷ ps) d at t}
         (λ q e. let z = unmade_some (block_reads 0 t) (known P ps x) e in b_most _ (omega arith) (b_code (suc n) d (q ∷ ps) at t (omega (arith, top_less d t)) (known_fits P 16384 m form n 100000 ps x fit.0 h z.1, h) fit.1))
-        (b_most _ (omega arith) (b_op n d ps Inside x (omega arith) h fit.0 then (b_set d (omega arith) then b_code (suc n) (suc d) (At (InLocal d) ∷ ps) at t (omega arith) (omega arith, h) fit.1)))
+        (b_most _ (omega arith) (b_bind n d ps x (omega arith) h fit.0 (b_op n d ps Inside x (omega arith) h fit.0) then (b_code (suc n) (suc d) (At (InLocal d) ∷ ps) at t (omega arith) (omega arith, h) fit.1)))
 
-    b_empties : (n d : ℕ) (ps : List Place) (at : Position) (c : ℕ) (bs : BranchBlocks) (others : Position → List Instr → List Instr) (k : ℕ) → max (suc d) (top_branches (suc d) bs) < 100000 → c + many bs ≤ m → Near ps → BranchesFit P.functions (length P.constants) m n bs →
-        ((at' : Position) → Bounded k (others at')) → Bounded (empties_weight bs + k) (empties P ps d at c bs others)
-    b_empties n d ps at c BNil others k le few h fit o = b_most _ (omega arith) (o at)
-    b_empties n d ps at c (BCons zero t bs) others k le few h fit o =
-        b_most _ (omega arith) (b_get d (omega arith) then (b_const (2 * c + 1) (omega (arith, counts.branches)) then (b_one {k = 1} (Operation op32.Eq) (λ r. z_op r op32.Eq) tt
-        then b_arms (b_code (0 + n) (suc d) ps (deeper at) t (omega arith) h fit.1) (b_empties n d ps (deeper at) (suc c) bs others k (omega arith) (omega arith) h fit.2 o))))
-    b_empties n d ps at c (BCons (suc j) t bs) others k le few h fit o = b_empties n d ps at (suc c) bs others k (omega arith) (omega arith) h fit.2 o
+    b_empties : (n d : ℕ) (ps : List Place) (at : Position) (c : ℕ) (some : Bool) (bs : BranchBlocks) (others : Position → List Instr → List Instr) (k : ℕ) → max (suc d) (top_branches (suc d) bs) < 100000 → c + many bs ≤ m → Near ps → BranchesFit P.functions (length P.constants) m n bs →
+        ((at' : Position) → Bounded k (others at')) → Bounded (empties_weight bs + k) (empties P ps d at c some bs others)
+    b_empties n d ps at c some BNil others k le few h fit o = b_most _ (omega arith) (o at)
+    b_empties n d ps at c some (BCons zero t bs) others k le few h fit o =
+        b_most _ (omega arith) (b_arm (some || some_branches bs) {branch = λ at'. code P ps (suc d) at' t} {behind = λ at'. empties P ps d at' (suc c) some bs others} at (b_empty_test d c (omega arith) (omega (arith, counts.branches)))
+        (λ at'. b_code (0 + n) (suc d) ps at' t (omega arith) h fit.1) (λ at'. b_empties n d ps at' (suc c) some bs others k (omega arith) (omega arith) h fit.2 o))
+    b_empties n d ps at c some (BCons (suc j) t bs) others k le few h fit o = b_empties n d ps at (suc c) some bs others k (omega arith) (omega arith) h fit.2 o
 
     b_heads : (n d : ℕ) (ps : List Place) (at : Position) (c : ℕ) (bs : BranchBlocks) → max (suc d) (top_branches (suc d) bs) < 100000 → c + many bs ≤ m → Near ps → BranchesFit P.functions (length P.constants) m n bs → Bounded (1 + heads_weight bs) (heads P ps d at c bs)
     b_heads n d ps at c BNil le few h fit = b_unreachable
     b_heads n d ps at c (BCons zero t bs) le few h fit = b_heads n d ps at (suc c) bs (omega arith) (omega arith) h fit.2
     b_heads n d ps at c (BCons (suc j) t bs) le few h fit =
         let low = fit.0 in
-        b_most _ (omega arith) (b_get d (omega arith) then (b_load 0 (omega arith) then (b_const (suc j * 65536 + c) (omega (arith, counts.branches, low)) then (b_one {k = 1} (Operation op32.Eq) (λ r. z_op r op32.Eq) tt
-        then b_arms (b_code (suc j + n) (suc d) (fields_of d (suc j) ps) (deeper at) t (omega arith) (fields_fit P 16384 100000 d (suc j) ps (omega arith) (omega (arith, low)) h) fit.1) (b_heads n d ps (deeper at) (suc c) bs (omega arith) (omega arith) h fit.2)))))
+        b_most _ (omega arith) (b_arm (some_heads bs) {branch = λ at'. code P (fields_of d (suc j) ps) (suc d) at' t} {behind = λ at'. heads P ps d at' (suc c) bs} at (b_head_test d c (suc j) (omega arith) (omega (arith, counts.branches, low)))
+        (λ at'. b_code (suc j + n) (suc d) (fields_of d (suc j) ps) at' t (omega arith) (fields_fit P 16384 100000 d (suc j) ps (omega arith) (omega (arith, low)) h) fit.1) (λ at'. b_heads n d ps at' (suc c) bs (omega arith) (omega arith) h fit.2))

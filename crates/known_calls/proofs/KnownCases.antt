@@ -1,6 +1,6 @@
 -- What emitted code yields, and matches.
-use Rattle.std.proofs.Common.{◌≡◌, ℕ, zero, suc, ◌+◌, ◌*◌, ◌<◌, ◌≤◌, List, [], ◌∷◌, length, Some, Bool, true, sym, ◌∙◌, subst, arith}
-use Rattle.std.specs.Prelude.{slice_get}
+use Rattle.std.proofs.Common.{◌≡◌, ℕ, zero, suc, ◌+◌, ◌*◌, ◌<◌, ◌≤◌, List, [], ◌∷◌, length, Some, Bool, true, false, refl, sym, ◌∙◌, subst, arith}
+use Rattle.std.specs.Prelude.{slice_get, ◌||◌}
 use Rattle.wasm_core.specs.Memory.{word}
 use Rattle.wasm_core.specs.declared.types.ConstValue.{ConstValue}
 use Rattle.wasm_core.specs.declared.types.ConstValue.TheVariants.{I32}
@@ -17,9 +17,24 @@ use Rattle.wasm_emit.proofs.Holds.{Same, Keeps}
 use Rattle.wasm_emit.proofs.Rules.{Limits, Within, here, in_block, returned, looser, r_const, r_get, r_load, r_eq_yes, r_eq_no, r_if, r_if_not, r_else, r_end}
 use Rattle.wasm_emit.proofs.Alloc.{Room}
 use Rattle.known_calls.specs.KnownPlaces.{Place, fields_of}
-use Rattle.known_calls.specs.KnownCode.{Position, deeper, code, empties, heads}
+use Rattle.known_calls.specs.KnownCode.{Position, deeper, some_heads, some_branches, empty_test, head_test, arm, code, empties, heads}
 use Rattle.known_calls.proofs.KnownHolds.{Stood, stood_up, stood_deeper}
 use Rattle.known_calls.proofs.Shapes.{Shaped, shaped_code, shaped_empties, shaped_heads}
+
+-- where the match has a branch for the constructor
+branch_some : {bs : BranchBlocks} {i j : ℕ} {t : Block} → BranchAt bs i j t → some_branches bs ≡ true
+branch_some branch_here = refl
+branch_some (branch_after at) = refl
+
+or_true : (a : Bool) {b : Bool} → b ≡ true → a || b ≡ true
+or_true true e = refl
+or_true false e = e
+
+pub head_some : {bs : BranchBlocks} {i j : ℕ} {t : Block} → 0 < j → BranchAt bs i j t → some_heads bs ≡ true
+head_some some (branch_here {n = zero}) = absurd (omega arith)
+head_some some (branch_here {n = suc a}) = refl
+head_some some (branch_after {m = zero} at) = head_some some at
+head_some some (branch_after {m = suc a} at) = refl
 
 module _ (P : Program) (M : Parts) (cap : Limits) (Q : State → Type 0) where
   -- how the caller goes on well, from a word of the value
@@ -67,7 +82,7 @@ module _ (P : Program) (M : Parts) (cap : Limits) (Q : State → Type 0) where
 
   module _ {m : Mem} {p h : ℕ} {ls : List ConstValue} {d w : ℕ} {v : Val} {tail : Bool} {D k s n : ℕ} (is_at : slice_get ls d ≡ Some (I32 w)) where
     -- an even word meets no constructor without arguments
-    pub pass_empties : (ps : List Place) (at : Position) (q c : ℕ) (bs : BranchBlocks) (others : Position → List Instr → List Instr) → w ≡ 2 * q → ((at' : Position) → Yields at' m p h ls d v tail D k s n (others at')) → Yields at m p h ls d v tail D k s (5 * many bs + n) (empties P ps d at c bs others)
+    pub pass_empties : (ps : List Place) (at : Position) (q c : ℕ) (bs : BranchBlocks) (others : Position → List Instr → List Instr) → w ≡ 2 * q → ((at' : Position) → Yields at' m p h ls d v tail D k s n (others at')) → Yields at m p h ls d v tail D k s (5 * many bs + n) (empties P ps d at c true bs others)
     pass_empties ps at q c BNil others even y = record { run = λ f vals rest l u bound stood deep fits go out. (y at).run f vals rest l u bound stood deep (omega arith) go out }
     pass_empties ps at q c (BCons (suc i) t bs) others even y =
         let r = pass_empties ps at q (suc c) bs others even y in
@@ -77,31 +92,38 @@ module _ (P : Program) (M : Parts) (cap : Limits) (Q : State → Type 0) where
         record {
           run = λ f vals rest l u bound stood deep fits go out.
               looser M cap Q (r_get M cap Q (omega arith) is_at (r_const M cap Q (omega arith) (2 * c + 1) (r_eq_no M cap Q (omega arith) (λ e. omega arith)
-              (second at m p h ls d v tail D k s (5 * many bs + n) (code P ps (suc d) (deeper at) t) (empties P ps d (deeper at) (suc c) bs others) f vals rest l u stood deep (shaped_code P ps (suc d) (deeper at) t).elses r go out))))
+              (second at m p h ls d v tail D k s (5 * many bs + n) (code P ps (suc d) (deeper at) t) (empties P ps d (deeper at) (suc c) true bs others) f vals rest l u stood deep (shaped_code P ps (suc d) (deeper at) t).elses r go out))))
               (omega arith) (omega arith);
         }
 
     -- a constructor without arguments
-    pub take_empty : (ps : List Place) (at : Position) (c : ℕ) {i j : ℕ} {bs : BranchBlocks} {t : Block} (others : Position → List Instr → List Instr) → j ≡ 0 → w ≡ 2 * (c + i) + 1 → ((at' : Position) → Shaped (others at')) → BranchAt bs i j t →
-        ((at' : Position) → Yields at' m p h ls d v tail D k s n (code P ps (suc d) at' t)) → Yields at m p h ls d v tail D k s (5 * many bs + n) (empties P ps d at c bs others)
-    take_empty ps at c others none is shaped (branch_here {n = zero} {b = t} {rest = bs}) y =
-        record {
+    pub take_empty : (ps : List Place) (at : Position) (c : ℕ) (some : Bool) {i j : ℕ} {bs : BranchBlocks} {t : Block} (others : Position → List Instr → List Instr) → j ≡ 0 → w ≡ 2 * (c + i) + 1 → ((at' : Position) → Shaped (others at')) → BranchAt bs i j t →
+        ((at' : Position) → Yields at' m p h ls d v tail D k s n (code P ps (suc d) at' t)) → Yields at m p h ls d v tail D k s (5 * many bs + n) (empties P ps d at c some bs others)
+    take_empty ps at c some others none is shaped (branch_here {n = zero} {b = t} {rest = bs}) y =
+        let r = either (some || some_branches bs) in
+        record { run = λ f vals rest l u bound stood deep fits go out. r.run f vals rest l u bound stood deep (omega arith) go out }
+      where
+        either : (b : Bool) → Yields at m p h ls d v tail D k s (5 * suc (many bs) + n) (arm b (empty_test d c) (λ at'. code P ps (suc d) at' t) (λ at'. empties P ps d at' (suc c) some bs others) at)
+        either false = record { run = λ f vals rest l u bound stood deep fits go out. (y at).run f vals rest l u bound stood deep (omega arith) go out }
+        either true = record {
           run = λ f vals rest l u bound stood deep fits go out.
               looser M cap Q (r_get M cap Q (omega arith) is_at (r_const M cap Q (omega arith) (2 * c + 1) (r_eq_yes M cap Q (omega arith) (omega arith)
-              (first at m p h ls d v tail D k s n (code P ps (suc d) (deeper at) t) (empties P ps d (deeper at) (suc c) bs others) f vals rest l u stood deep (shaped_code P ps (suc d) (deeper at) t).ends (shaped_empties P ps d (deeper at) (suc c) bs others shaped).ends (y (deeper at)) go out))))
+              (first at m p h ls d v tail D k s n (code P ps (suc d) (deeper at) t) (empties P ps d (deeper at) (suc c) some bs others) f vals rest l u stood deep (shaped_code P ps (suc d) (deeper at) t).ends (shaped_empties P ps d (deeper at) (suc c) some bs others shaped).ends (y (deeper at)) go out))))
               (omega arith) (omega arith);
         }
-    take_empty ps at c others none is shaped (branch_here {n = suc a}) y = absurd (omega arith)
-    take_empty ps at c others none is shaped (branch_after {m = zero} {d = b} {rest = bs} at') y =
-        let r = take_empty ps (deeper at) (suc c) others none (omega arith) shaped at' y in
+    take_empty ps at c some others none is shaped (branch_here {n = suc a}) y = absurd (omega arith)
+    take_empty ps at c some others none is shaped (branch_after {m = zero} {d = b} {rest = bs} at') y =
+        let r = take_empty ps (deeper at) (suc c) some others none (omega arith) shaped at' y in
+        let tested = or_true some (branch_some at') in
         record {
           run = λ f vals rest l u bound stood deep fits go out.
-              looser M cap Q (r_get M cap Q (omega arith) is_at (r_const M cap Q (omega arith) (2 * c + 1) (r_eq_no M cap Q (omega arith) (λ e. omega arith)
-              (second at m p h ls d v tail D k s (5 * many bs + n) (code P ps (suc d) (deeper at) b) (empties P ps d (deeper at) (suc c) bs others) f vals rest l u stood deep (shaped_code P ps (suc d) (deeper at) b).elses r go out))))
-              (omega arith) (omega arith);
+              subst (λ (z : Bool). Within M cap Q (k + l) bound (here cap f m p h ls vals (arm z (empty_test d c) (λ at'. code P ps (suc d) at' b) (λ at'. empties P ps d at' (suc c) some bs others) at rest))) (sym tested)
+              (looser M cap Q (r_get M cap Q (omega arith) is_at (r_const M cap Q (omega arith) (2 * c + 1) (r_eq_no M cap Q (omega arith) (λ e. omega arith)
+              (second at m p h ls d v tail D k s (5 * many bs + n) (code P ps (suc d) (deeper at) b) (empties P ps d (deeper at) (suc c) some bs others) f vals rest l u stood deep (shaped_code P ps (suc d) (deeper at) b).elses r go out))))
+              (omega arith) (omega arith));
         }
-    take_empty ps at c others none is shaped (branch_after {m = suc j} at') y =
-        let r = take_empty ps at (suc c) others none (omega arith) shaped at' y in
+    take_empty ps at c some others none is shaped (branch_after {m = suc j} at') y =
+        let r = take_empty ps at (suc c) some others none (omega arith) shaped at' y in
         record { run = λ f vals rest l u bound stood deep fits go out. r.run f vals rest l u bound stood deep (omega arith) go out }
 
     -- a constructor with arguments
@@ -109,7 +131,12 @@ module _ (P : Program) (M : Parts) (cap : Limits) (Q : State → Type 0) where
         ((at' : Position) → Yields at' m p h ls d v tail D k s n (code P (fields_of d j ps) (suc d) at' t)) → Yields at m p h ls d v tail D k s (6 * many bs + n) (heads P ps d at c bs)
     take_head ps at c some within is small (branch_here {n = zero}) y = absurd (omega arith)
     take_head ps at c some within is small (branch_here {n = suc a} {b = t} {rest = bs}) y =
-        record {
+        let r = either (some_heads bs) in
+        record { run = λ f vals rest l u bound stood deep fits go out. r.run f vals rest l u bound stood deep (omega arith) go out }
+      where
+        either : (b : Bool) → Yields at m p h ls d v tail D k s (6 * suc (many bs) + n) (arm b (head_test d c (suc a)) (λ at'. code P (fields_of d (suc a) ps) (suc d) at' t) (λ at'. heads P ps d at' (suc c) bs) at)
+        either false = record { run = λ f vals rest l u bound stood deep fits go out. (y at).run f vals rest l u bound stood deep (omega arith) go out }
+        either true = record {
           run = λ f vals rest l u bound stood deep fits go out.
               looser M cap Q (r_get M cap Q (omega arith) is_at (r_load M cap Q (omega arith) (omega arith) (r_const M cap Q (omega arith) (suc a * 65536 + c) (r_eq_yes M cap Q (omega arith) (omega (arith, at_zero m w, is))
               (first at m p h ls d v tail D k s n (code P (fields_of d (suc a) ps) (suc d) (deeper at) t) (heads P ps d (deeper at) (suc c) bs) f vals rest l u stood deep (shaped_code P (fields_of d (suc a) ps) (suc d) (deeper at) t).ends (shaped_heads P ps d (deeper at)
@@ -121,9 +148,11 @@ module _ (P : Program) (M : Parts) (cap : Limits) (Q : State → Type 0) where
         record { run = λ f vals rest l u bound stood deep fits go out. r.run f vals rest l u bound stood deep (omega arith) go out }
     take_head ps at c some within is small (branch_after {m = suc a} {d = b} {rest = bs} at') y =
         let r = take_head ps (deeper at) (suc c) some within (omega (arith, is)) (omega arith) at' y in
+        let tested = head_some some at' in
         record {
           run = λ f vals rest l u bound stood deep fits go out.
-              looser M cap Q (r_get M cap Q (omega arith) is_at (r_load M cap Q (omega arith) (omega arith) (r_const M cap Q (omega arith) (suc a * 65536 + c) (r_eq_no M cap Q (omega arith) (λ e. omega (arith, is, at_zero m w, e))
+              subst (λ (z : Bool). Within M cap Q (k + l) bound (here cap f m p h ls vals (arm z (head_test d c (suc a)) (λ at'. code P (fields_of d (suc a) ps) (suc d) at' b) (λ at'. heads P ps d at' (suc c) bs) at rest))) (sym tested)
+              (looser M cap Q (r_get M cap Q (omega arith) is_at (r_load M cap Q (omega arith) (omega arith) (r_const M cap Q (omega arith) (suc a * 65536 + c) (r_eq_no M cap Q (omega arith) (λ e. omega (arith, is, at_zero m w, e))
               (second at m p h ls d v tail D k s (6 * many bs + n) (code P (fields_of d (suc a) ps) (suc d) (deeper at) b) (heads P ps d (deeper at) (suc c) bs) f vals rest l u stood deep (shaped_code P (fields_of d (suc a) ps) (suc d) (deeper at) b).elses r go out)))))
-              (omega arith) (omega arith);
+              (omega arith) (omega arith));
         }

@@ -1,5 +1,5 @@
 -- The parts of modules with workers, and that emission's modules are valid and fit.
-use Rattle.std.proofs.Common.{◌≡◌, ℕ, suc, ◌+◌, ◌-◌, ◌<◌, ◌≤◌, List, [], ◌∷◌, ◌++◌, append_assoc, length, map, replicate, Some, refl, ap, sym, ◌∙◌, arith}
+use Rattle.std.proofs.Common.{◌≡◌, ℕ, suc, ◌+◌, ◌-◌, ◌<◌, ◌≤◌, List, [], ◌∷◌, ◌++◌, append_assoc, length, map, max, replicate, Some, Bool, true, false, refl, ap, sym, ◌∙◌, arith}
 use Rattle.std.specs.Prelude.{nat_le, if◌then◌else◌}
 use Rattle.closure_lift.specs.Lifted.{Block, Fn, Program}
 use Rattle.closure_lift.specs.LiftedProgram.{renumber, place_in, lifted_of}
@@ -22,9 +22,10 @@ use Rattle.wasm_emit.specs.EmittedBodies.{FewLocals}
 use Rattle.wasm_emit.proofs.Pushing.{renumbered_count, functions_count}
 use Rattle.wasm_emit.proofs.Indices.{length_map}
 use Rattle.wasm_emit.proofs.Emitting.{times, counts_fit}
-use Rattle.known_calls.specs.KnownModule.{words_type, worker_type, numbered, main_function, module_of}
+use Rattle.known_calls.specs.KnownCode.{is_wide}
+use Rattle.known_calls.specs.KnownModule.{words_type, words_types, widest_worker, worker_type, numbered, main_function, module_of}
 use Rattle.known_calls.specs.KnownCalls.{call_function, module_of_call}
-use Rattle.known_calls.specs.KnownEmission.{bodies_with, words_types, worker_types, parts_with}
+use Rattle.known_calls.specs.KnownEmission.{bodies_with, worker_types, parts_with}
 use Rattle.known_calls.proofs.KnownSpelling.{known_spelled, known_call_spelled}
 use Rattle.known_calls.proofs.KnownValidity.{known_valid, calls_valid}
 
@@ -40,6 +41,19 @@ words_types_more v w out t k n more is lt inv =
     ∙ ap (λ (x : FuncType). v ++ (x ∷ words_types (k + 1) (n - (k + 1)))) is
     ∙ ap (λ (j : ℕ). v ++ (words_type k ∷ words_types j (n - (k + 1)))) (sym next)
     ∙ ap (λ (j : ℕ). v ++ words_types k j) (sym s) ∙ inv
+
+-- the next function, in the greatest number of types
+pub widest_more : (f : Fn) (fs : List Fn) (n m k : ℕ) → k ≡ f.captured → (if nat_le 8 k then n else max (suc k) n) ≡ m → max n (widest_worker (f ∷ fs)) ≡ max m (widest_worker fs)
+widest_more f fs n m k same e = either (is_wide f) refl e
+  where
+    either : (b : Bool) → is_wide f ≡ b → (if nat_le 8 k then n else max (suc k) n) ≡ m → max n (if is_wide f then widest_worker fs else max (suc f.captured) (widest_worker fs)) ≡ max m (widest_worker fs)
+    either true wide h =
+        let kept : n ≡ m = sym (ap (λ (b : Bool). if b then n else max (suc k) n) (ap (λ (j : ℕ). nat_le 8 j) same ∙ wide)) ∙ h in
+        ap (λ (b : Bool). max n (if b then widest_worker fs else max (suc f.captured) (widest_worker fs))) wide ∙ ap (λ (j : ℕ). max j (widest_worker fs)) kept
+    either false narrow h =
+        let grown : max (suc k) n ≡ m = sym (ap (λ (b : Bool). if b then n else max (suc k) n) (ap (λ (j : ℕ). nat_le 8 j) same ∙ narrow)) ∙ h in
+        let z : max n (max (suc f.captured) (widest_worker fs)) ≡ max m (widest_worker fs) = omega (arith, grown, same) in
+        ap (λ (b : Bool). max n (if b then widest_worker fs else max (suc f.captured) (widest_worker fs))) narrow ∙ z
 
 -- the number of a worker's type
 pub type_is : (f : Fn) → (if nat_le 8 f.captured then 0 else f.captured + 3) ≡ worker_type f

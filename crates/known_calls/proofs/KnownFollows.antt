@@ -30,15 +30,15 @@ use Rattle.wasm_emit.proofs.Rules.{Limits, Within, here, callee, in_block, zeros
 use Rattle.wasm_emit.proofs.Alloc.{Room, HasRunTime, low_word}
 use Rattle.wasm_emit.proofs.Pushing.{branch_top}
 use Rattle.known_calls.specs.KnownPlaces.{Word, InLocal, Place, At, Known, fields_of, known_function, names, branches_read, block_reads}
-use Rattle.known_calls.specs.KnownCode.{Position, Inside, InTail, is_wide, into_params, worker_index, most_blocks, jumps, application, call_worker, choose, unmade, known, op, code, empties, heads}
+use Rattle.known_calls.specs.KnownCode.{Position, Inside, InTail, is_wide, into_params, worker_index, most_blocks, jumps, application, call_worker, into_local, some_heads, choose, unmade, known, op, code, empties, heads}
 use Rattle.known_calls.specs.KnownModule.{params, captured_words, module_with}
 use Rattle.known_calls.specs.KnownCalls.{applied}
 use Rattle.known_calls.proofs.KnownHolds.{in_local, in_field, Words, words_length, Env, env_nil, env_at, env_known, env_on, Unread, OpUnread, Stood, stood_inside, stood_in_tail, stood_up, loop_of}
 use Rattle.known_calls.proofs.Unreading.{neither, and_true, unmade_some, unread_known, unread_at, unread_let_atom, unread_op, unread_branch}
 use Rattle.known_calls.proofs.Finding.{There, there, there_unknown, same_some}
 use Rattle.known_calls.proofs.Knowing.{known_is, calls, same_function, same_captured, no_box}
-use Rattle.known_calls.proofs.KnownMaking.{WordsStand, stand_more, words, stand_size, put_atom, pushed, made}
-use Rattle.known_calls.proofs.KnownCases.{Yields, Out, Go, fewer_kept, pass_empties, take_empty, take_head}
+use Rattle.known_calls.proofs.KnownMaking.{WordsStand, stand_more, words, stand_size, put_atom, pushed, made, new_made}
+use Rattle.known_calls.proofs.KnownCases.{Yields, Out, Go, fewer_kept, head_some, pass_empties, take_empty, take_head}
 use Rattle.known_calls.proofs.KnownIndices.{not_wide, narrow_few, constant_at, wide_at, stub_at, worker_at, table_entry}
 use Rattle.known_calls.proofs.SameLocals.{worker_top, top_less}
 use Rattle.known_calls.proofs.Jumping.{r_br_out}
@@ -260,16 +260,17 @@ module _ (P : Program) (main : Body) (gs : List GlobalDef) (es : List Export) (p
   -- a value is matched
   chosen : {D : ℕ} {tail : Bool} {e : Vals} {bs : BranchBlocks} {i : ℕ} {vs : Vals} {t : Block} {r : Val} {c k b s : ℕ} → many bs ≤ N → BranchAt bs i (size vs) t → SimCode tail D (vs +v e) t r c k b s →
       (at : Position) (m : Mem) (p h : ℕ) (ls : List ConstValue) (d w : ℕ) (ps : List Place) → Room M m p h → word m 0 ≡ 0 → Env m h ls (suc d) ps e → Unread (fields_of d (size vs) ps) t → top (suc d) t ≤ length ls → h + 4 * s ≤ cap.bytes → slice_get ls d ≡ Some (I32 w) → Stands m h w (VCon i vs) →
-      Yields P M cap Q at m p h ls d r tail D k s (11 * N + (cost c b + 2)) (λ rest. empties P ps d at 0 bs (λ at'. heads P ps d at' 0 bs) rest)
+      Yields P M cap Q at m p h ls d r tail D k s (11 * N + (cost c b + 2)) (λ rest. empties P ps d at 0 (some_heads bs) bs (λ at'. heads P ps d at' 0 bs) rest)
   chosen {bs = bs} few branch body at m p h ls d w ps room nil env un has needed is (s_empty lt e) =
       record {
-        run = λ f vals rest l u bound stood deep fits go out. (take_empty P M cap Q is ps at 0 (λ at'. heads P ps d at' 0 bs) refl (omega arith) (λ at'. shaped_heads P ps d at' 0 bs) branch
+        run = λ f vals rest l u bound stood deep fits go out. (take_empty P M cap Q is ps at 0 (some_heads bs) (λ at'. heads P ps d at' 0 bs) refl (omega arith) (λ at'. shaped_heads P ps d at' 0 bs) branch
             (λ at'. fewer_kept P M cap Q (body.sim at' m p h ls (suc d) ps room nil env un has needed))).run f vals rest l u bound stood deep (omega arith) go out;
       }
-  chosen {bs = bs} {vs = vs} few branch body at m p h ls d w ps room nil env un has needed is (s_con q lt e pos some' within head fs) =
+  chosen {D = D} {tail} {bs = bs} {vs = vs} {r = r} {c} {k} {b} {s} few branch body at m p h ls d w ps room nil env un has needed is (s_con q lt e pos some' within head fs) =
       let y = λ (at' : Position). fewer_kept P M cap Q (body.sim at' m p h ls (suc d) (fields_of d (size vs) ps) room nil (fields_env d w (omega arith) is within fs env) un has needed) in
       let z = λ (at' : Position). take_head P M cap Q is ps at' 0 some' (omega (arith, room.inside)) (omega (arith, head)) (omega arith) branch y in
-      record { run = λ f vals rest l u bound stood deep fits go out. (pass_empties P M cap Q is ps at (2 * q) 0 bs (λ at'. heads P ps d at' 0 bs) (omega arith) z).run f vals rest l u bound stood deep (omega arith) go out }
+      subst (λ (some : Bool). Yields P M cap Q at m p h ls d r tail D k s (11 * N + (cost c b + 2)) (λ rest. empties P ps d at 0 some bs (λ at'. heads P ps d at' 0 bs) rest)) (sym (head_some some' branch))
+      (record { run = λ f vals rest l u bound stood deep fits go out. (pass_empties P M cap Q is ps at (2 * q) 0 bs (λ at'. heads P ps d at' 0 bs) (omega arith) z).run f vals rest l u bound stood deep (omega arith) go out })
 
   sim_case : {D : ℕ} {tail : Bool} {e : Vals} {a : Atom} {bs : BranchBlocks} {i : ℕ} {vs : Vals} {t : Block} {r : Val} {c k b s : ℕ} → Is e a (VCon i vs) → many bs ≤ N → BranchAt bs i (size vs) t → SimCode tail D (vs +v e) t r c k b s → SimOp tail D e (OCase a bs) r (suc c) (suc k) b s
   sim_case {a = a} {bs = bs} {c = c} {k} {b} isa few branch body = record {
@@ -329,22 +330,51 @@ module _ (P : Program) (main : Body) (gs : List GlobalDef) (es : List Export) (p
   does_some (do_clos lt few narrow all) = omega arith
   does_some (do_case isa few at g) = omega arith
 
+  -- the word of the value comes into local d
+  abbrev Comes : ℕ → Vals → Op → Val → ℕ → ℕ → ℕ → ℕ → Type 0
+  Comes D e x v c k b s =
+      (m : Mem) (p h : ℕ) (ls : List ConstValue) (d : ℕ) (ps : List Place) → Room M m p h → word m 0 ≡ 0 → Env m h ls d ps e → OpUnread ps x → top_op d x ≤ length ls → d < length ls → h + 4 * s ≤ cap.bytes → (f : Around) (vals : List ConstValue) (rest : List Instr) (l u : ℕ) →
+      length f.callers + 2 * D + 1 ≤ cap.frames → ((m' : Mem) (p' h' : ℕ) (ls' : List ConstValue) (w : ℕ) → h ≤ h' → h' ≤ h + 4 * s → Room M m' p' h' → Same h m m' → Keeps d ls ls' → slice_get ls' d ≡ Some (I32 w) → Stands m' h' w v → Within M cap Q l u (here cap f m' p' h' ls' vals rest)) →
+      Within M cap Q (k + l) (cost c b - 19 + u) (here cap f m p h ls vals (into_local ps d x (op P ps d Inside x) rest))
+
+  -- from the operands
+  from_operands : {D : ℕ} {e : Vals} {x : Op} {v : Val} {c k b s : ℕ} → 64 ≤ cost c b → SimOp false D e x v c k b s → (m : Mem) (p h : ℕ) (ls : List ConstValue) (d : ℕ) (ps : List Place) → Room M m p h → word m 0 ≡ 0 → Env m h ls d ps e → OpUnread ps x → top_op d x ≤ length ls → d < length ls →
+      h + 4 * s ≤ cap.bytes → (f : Around) (vals : List ConstValue) (rest : List Instr) (l u : ℕ) → length f.callers + 2 * D + 1 ≤ cap.frames →
+      ((m' : Mem) (p' h' : ℕ) (ls' : List ConstValue) (w : ℕ) → h ≤ h' → h' ≤ h + 4 * s → Room M m' p' h' → Same h m m' → Keeps d ls ls' → slice_get ls' d ≡ Some (I32 w) → Stands m' h' w v → Within M cap Q l u (here cap f m' p' h' ls' vals rest)) →
+      Within M cap Q (k + l) (cost c b - 19 + u) (here cap f m p h ls vals (op P ps d Inside x (LocalSet d ∷ rest)))
+  from_operands {c = c} {b = b} dear y m p h ls d ps room nil env un has free needed f vals rest l u deep go =
+      looser M cap Q ((y.sim Inside m p h ls d ps (cost c b - 20) (omega arith) room nil env un has needed).run f vals (LocalSet d ∷ rest) (suc l) (suc u) (cost c b - 20 + suc u) stood_inside deep (omega arith)
+      (λ m' p' h' ls' w y z room' same keeps st. r_set M cap Q (omega arith) (slice_get-get_or ls' d (I32 0) (omega (arith, keeps.size)))
+      (go m' p' h' (slice_set ls' d (I32 w)) w y z room' same (keeps_trans (omega arith) keeps (keeps_set ls' d (I32 w))) (set_this ls' d (I32 w) (omega (arith, keeps.size))) st))
+      (λ z. cc)) (omega arith) (omega (arith, dear))
+
+  comes : {D : ℕ} {e : Vals} {x : Op} {v : Val} {c k b s : ℕ} → Does P W N false D e x v c k b s → SimOp false D e x v c k b s → Comes D e x v c k b s
+  comes (do_con {as' = as'} lt pos few narrow all) y = λ m p h ls d ps room nil env un has free needed f vals rest l u deep go.
+      looser M cap Q (new_made M fixed cap Q (omega arith) needed all un few (omega arith) free room env (λ m' p' ls' room' same keeps at head fs.
+      go m' p' (h + 4 * suc (length as')) ls' h (omega arith) (omega arith) room' same keeps at (s_con room.q lt room.aligned (omega (arith, room.above)) (omega (arith, all_size all)) (omega (arith, all_size all)) (omega (arith, head, all_size all)) fs)))
+      (omega arith) (omega arith)
+  comes (do_clos {as' = as'} lt few narrow all) y = λ m p h ls d ps room nil env un has free needed f vals rest l u deep go.
+      looser M cap Q (new_made M fixed cap Q (omega arith) needed all un few (omega arith) free room env (λ m' p' ls' room' same keeps at head fs.
+      go m' p' (h + 4 * suc (length as')) ls' h (omega arith) (omega arith) room' same keeps at (s_clos room.q lt room.aligned (omega (arith, room.above)) (omega (arith, all_size all)) head fs)))
+      (omega arith) (omega arith)
+  comes {c = c} {b = b} (do_const at g) y = from_operands (cost_some c b (omega arith)) y
+  comes {c = c} {b = b} (do_app isf isa at sz g) y = from_operands (cost_some c b (omega arith)) y
+  comes {c = c} {b = b} (do_box_app isf isa) y = from_operands (cost_some c b (omega arith)) y
+  comes {c = c} {b = b} (do_case isa few at g) y = from_operands (cost_some c b (omega arith)) y
+
   module _ {tail : Bool} {D : ℕ} {e : Vals} {x : Op} {t : Block} {v r : Val} {c c' k k' b b' s s' : ℕ} (does : Does P W N false D e x v c k b s) (first : SimOp false D e x v c k b s) (body : SimCode tail D (VCons v e) t r c' k' b' s') where
     -- a binding that has code
     let_made : (at : Position) (m : Mem) (p h : ℕ) (ls : List ConstValue) (d : ℕ) (ps : List Place) → Room M m p h → word m 0 ≡ 0 → Env m h ls d ps e → Unread ps (Let x t) → top d (Let x t) ≤ length ls → h + 4 * (s + s') ≤ cap.bytes →
-        Yields P M cap Q at m p h ls d r tail D (k + k') (s + s') (cost (c + c') (b + b') + 2) (λ rest. op P ps d Inside x (LocalSet d ∷ code P (At (InLocal d) ∷ ps) (suc d) at t rest))
+        Yields P M cap Q at m p h ls d r tail D (k + k') (s + s') (cost (c + c') (b + b') + 2) (λ rest. into_local ps d x (op P ps d Inside x) (code P (At (InLocal d) ∷ ps) (suc d) at t rest))
     let_made at m p h ls d ps room nil env un has needed = record {
       run = λ f vals rest l u bound stood deep fits go out.
-          looser M cap Q ((first.sim Inside m p h ls d ps (cost c b - 20) (omega arith) room nil env (unread_op ps x t un) (omega arith) (omega arith)).run f vals _ (suc (k' + l)) (suc (cost c' b' + 2 + u)) (cost c b - 20 + suc (cost c' b' + 2 + u)) stood_inside (omega arith) (omega arith)
-          (λ m' p' h' ls' w y z room' same keeps st. r_set M cap Q (omega arith) (slice_get-get_or ls' d (I32 0) (omega (arith, keeps.size)))
-          (let ls1 = slice_set ls' d (I32 w) in
-          let kept : Keeps d ls ls1 = keeps_trans (omega arith) keeps (keeps_set ls' d (I32 w)) in
-          (body.sim at m' p' h' ls1 (suc d) (At (InLocal d) ∷ ps) room' (low_word m m' room same nil) (env_at w (in_local (omega arith) (set_this ls' d (I32 w) (omega (arith, keeps.size)))) st (env_on (omega arith) same (omega arith) kept env)) (unread_at ps x t (InLocal d) un)
+          looser M cap Q (comes does first m p h ls d ps room nil env (unread_op ps x t un) (omega arith) (omega arith) (omega arith) f vals _ (k' + l) (cost c' b' + 2 + u) (omega arith)
+          (λ m' p' h' ls1 w y z room' same kept at_d st.
+          (body.sim at m' p' h' ls1 (suc d) (At (InLocal d) ∷ ps) room' (low_word m m' room same nil) (env_at w (in_local (omega arith) at_d) st (env_on (omega arith) same (omega arith) kept env)) (unread_at ps x t (InLocal d) un)
           (omega (arith, kept.size)) (omega arith)).run
           f vals rest l u (cost c' b' + 2 + u) (stood_up P (suc d) (length ls1) (omega arith) (omega (arith, kept.size)) stood) deep (omega arith)
           (λ m2 p2 h2 ls2 w2 y2 z2 room2 same2 keeps2 st2. go m2 p2 h2 ls2 w2 (omega arith) (omega arith) room2 (λ i j. same2 i (omega arith) ∙ same i j) (keeps_trans (omega arith) kept keeps2) st2)
           (λ q m2 p2 h2 w2 y2 z2 room2 same2 st2. out q m2 p2 h2 w2 (omega arith) (omega arith) room2 (λ i j. same2 i (omega arith) ∙ same i j) st2)))
-          (λ z. cc))
           (omega arith) (omega (arith, cost_some c b (does_some does)));
     }
 
@@ -365,7 +395,7 @@ module _ (P : Program) (main : Body) (gs : List GlobalDef) (es : List Export) (p
         }
 
     let_either : (at : Position) (m : Mem) (p h : ℕ) (ls : List ConstValue) (d : ℕ) (ps : List Place) → Room M m p h → word m 0 ≡ 0 → Env m h ls d ps e → Unread ps (Let x t) → top d (Let x t) ≤ length ls → h + 4 * (s + s') ≤ cap.bytes → (o : Option Place) → unmade P ps x t ≡ o →
-        Yields P M cap Q at m p h ls d r tail D (k + k') (s + s') (cost (c + c') (b + b') + 2) (λ rest. choose o (λ q. code P (q ∷ ps) d at t rest) (op P ps d Inside x (LocalSet d ∷ code P (At (InLocal d) ∷ ps) (suc d) at t rest)))
+        Yields P M cap Q at m p h ls d r tail D (k + k') (s + s') (cost (c + c') (b + b') + 2) (λ rest. choose o (λ q. code P (q ∷ ps) d at t rest) (into_local ps d x (op P ps d Inside x) (code P (At (InLocal d) ∷ ps) (suc d) at t rest)))
     let_either at m p h ls d ps room nil env un has needed None e = let_made at m p h ls d ps room nil env un has needed
     let_either at m p h ls d ps room nil env un has needed (Some q) e = let z = unmade_some (block_reads 0 t) (known P ps x) e in let_known at m p h ls d ps q z.0 z.1 room nil env un has needed
 

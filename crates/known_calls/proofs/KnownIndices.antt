@@ -3,7 +3,7 @@ use Rattle.std.proofs.Common.{◌≡◌, ℕ, zero, suc, ◌+◌, ◌-◌, ◌<�
 use Rattle.std.proofs.lemmas.Bool.{leb-true, leb-false}
 use Rattle.std.proofs.lemmas.Option.{slice_get-map}
 use Rattle.std.specs.Option.{option_map}
-use Rattle.std.specs.Prelude.{slice_get, if◌then◌else◌}
+use Rattle.std.specs.Prelude.{slice_get, max, if◌then◌else◌}
 use Rattle.wasm_core.specs.declared.types.ValType.TheVariants as type
 use Rattle.wasm_core.specs.declared.types.GlobalDef.{GlobalDef}
 use Rattle.wasm_core.specs.declared.exports.Export.{Export}
@@ -17,7 +17,7 @@ use Rattle.wasm_emit.specs.EmittedCode.{constant_index}
 use Rattle.wasm_emit.specs.EmittedLocals.{top}
 use Rattle.wasm_emit.proofs.Indices.{at_append, at_front, length_map, func_is, table_at}
 use Rattle.known_calls.specs.KnownCode.{is_wide, worker_index}
-use Rattle.known_calls.specs.KnownModule.{words_type, wide_body, stub_code, entry, worker_code, worker, worker_type, numbered, constant, in_order, module_with}
+use Rattle.known_calls.specs.KnownModule.{words_type, words_types, widest_worker, wide_body, stub_code, entry, worker_code, worker, worker_type, numbered, constant, in_order, module_with}
 
 pub not_wide : (fn : Fn) → fn.captured ≤ 7 → is_wide fn ≡ false
 not_wide fn few = cases (is_wide fn) refl
@@ -37,6 +37,51 @@ pub numbered_at : {A : Type 0} (make : ℕ → Fn → A) (i g j : ℕ) (fs : Lis
 numbered_at make i g j [] is e = cc
 numbered_at make i zero j (f ∷ fs) is e = let same : i ≡ j = omega arith in ap (λ (k : ℕ). Some (make k f)) same ∙ ap (option_map (make j)) e
 numbered_at make i (suc g) j (f ∷ fs) is e = numbered_at make (suc i) g j fs (omega arith) e
+
+-- a worker has no more captured words than the one with the most
+pub widest_few : (fs : List Fn) → widest_worker fs ≤ 8
+widest_few [] = omega arith
+widest_few (f ∷ fs) = either (is_wide f) refl (widest_few fs)
+  where
+    either : (b : Bool) → is_wide f ≡ b → widest_worker fs ≤ 8 → (if b then widest_worker fs else max (suc f.captured) (widest_worker fs)) ≤ 8
+    either true e few = few
+    either false e few = omega (arith, narrow_few f e, few)
+
+pub widest_grows : (f : Fn) (fs : List Fn) → widest_worker fs ≤ widest_worker (f ∷ fs)
+widest_grows f fs = either (is_wide f)
+  where
+    either : (b : Bool) → widest_worker fs ≤ (if b then widest_worker fs else max (suc f.captured) (widest_worker fs))
+    either true = omega arith
+    either false = omega arith
+
+-- a worker's type is among those that there are
+here : (f : Fn) (fs : List Fn) (fn : Fn) → f ≡ fn → is_wide fn ≡ false → fn.captured < widest_worker (f ∷ fs)
+here f fs fn same narrow =
+    let count : f.captured ≡ fn.captured = ap (λ (x : Fn). x.captured) same in
+    let slim : is_wide f ≡ false = ap is_wide same ∙ narrow in
+    let is : widest_worker (f ∷ fs) ≡ max (suc f.captured) (widest_worker fs) = ap (λ (b : Bool). if b then widest_worker fs else max (suc f.captured) (widest_worker fs)) slim in
+    omega (arith, count, is)
+
+pub worker_low : (f : Fn) (fs : List Fn) → worker_type f < suc (suc (suc (widest_worker (f ∷ fs))))
+worker_low f fs = either (is_wide f)
+  where
+    either : (b : Bool) → (if b then 0 else suc (suc (suc f.captured))) < suc (suc (suc (if b then widest_worker fs else max (suc f.captured) (widest_worker fs))))
+    either true = omega arith
+    either false = omega arith
+
+narrower : (fs : List Fn) (g : ℕ) (fn : Fn) → slice_get fs g ≡ Some fn → is_wide fn ≡ false → fn.captured < widest_worker fs
+narrower [] g fn e narrow = cc
+narrower (f ∷ fs) zero fn e narrow = let same : f ≡ fn = cc in here f fs fn same narrow
+narrower (f ∷ fs) (suc g) fn e narrow = omega (arith, narrower fs g fn e narrow, widest_grows f fs)
+
+pub words_types_length : (k n : ℕ) → length (words_types k n) ≡ n
+words_types_length k zero = refl
+words_types_length k (suc n) = ap suc (words_types_length (suc k) n)
+
+words_at : (k n i j : ℕ) → j ≡ k + i → i < n → slice_get (words_types k n) i ≡ Some (words_type j)
+words_at k zero i j is lt = absurd (omega arith)
+words_at k (suc n) zero j is lt = let same : k ≡ j = omega arith in ap (λ (i : ℕ). Some (words_type i)) same
+words_at k (suc n) (suc i) j is lt = words_at (suc k) n i j (omega arith) (omega arith)
 
 module _ {A : Type 0} (P : Program) (of_entry : ℕ → Fn → A) (of_constant : Block → A) (of_main : A) (of_worker : ℕ → Fn → A) where
   abbrev from_main : List A
@@ -89,17 +134,9 @@ module _ (P : Program) (main : Body) (gs : List GlobalDef) (es : List Export) (p
   pub stub_at : (g : ℕ) (fn : Fn) → slice_get P.functions g ≡ Some fn → is_wide fn ≡ false → func_of (module_with P main gs es pages) (suc (suc g)) ≡ Some (record { type = type_function; body = body 0 (stub_code P g fn.captured) })
   stub_at g fn e wide = entry_at g fn e ∙ ap (λ (b : Bool). Some (record { type = type_function; body = if b then wide_body P fn else body 0 (stub_code P g fn.captured) })) wide
 
-  -- the types of workers
-  pub type_of_words : (n : ℕ) → n ≤ 7 → slice_get (module_with P main gs es pages).types (suc (suc (suc n))) ≡ Some (words_type n)
-  type_of_words zero h = refl
-  type_of_words (suc zero) h = refl
-  type_of_words (suc (suc zero)) h = refl
-  type_of_words (suc (suc (suc zero))) h = refl
-  type_of_words (suc (suc (suc (suc zero)))) h = refl
-  type_of_words (suc (suc (suc (suc (suc zero))))) h = refl
-  type_of_words (suc (suc (suc (suc (suc (suc zero)))))) h = refl
-  type_of_words (suc (suc (suc (suc (suc (suc (suc zero))))))) h = refl
-  type_of_words (suc (suc (suc (suc (suc (suc (suc (suc n)))))))) h = absurd (omega arith)
+  -- the type of a worker
+  pub type_of_words : (g : ℕ) (fn : Fn) → slice_get P.functions g ≡ Some fn → is_wide fn ≡ false → slice_get (module_with P main gs es pages).types (suc (suc (suc fn.captured))) ≡ Some (words_type fn.captured)
+  type_of_words g fn e narrow = words_at 0 (widest_worker P.functions) fn.captured fn.captured (omega arith) (narrower P.functions g fn e narrow)
 
   pub type_of_worker : (g : ℕ) (fn : Fn) → slice_get P.functions g ≡ Some fn → is_wide fn ≡ false → slice_get (module_with P main gs es pages).funcs (worker_index P g) ≡ Some (suc (suc (suc fn.captured)))
   type_of_worker g fn e wide = worker_in P (λ g f. 2) (λ t. 1) 0 (λ g f. worker_type f) g fn e ∙ ap (λ (b : Bool). Some (if b then 0 else suc (suc (suc fn.captured)))) wide
@@ -107,7 +144,7 @@ module _ (P : Program) (main : Body) (gs : List GlobalDef) (es : List Export) (p
   pub worker_at : (g : ℕ) (fn : Fn) → slice_get P.functions g ≡ Some fn → is_wide fn ≡ false → fn.captured ≤ 7 →
       func_of (module_with P main gs es pages) (worker_index P g) ≡ Some (record { type = words_type fn.captured; body = body (top 2 fn.body - 2) (Loop (Value type.I32) ∷ worker_code P g fn) })
   worker_at g fn e wide few =
-      func_is (module_with P main gs es pages) (worker_index P g) (suc (suc (suc fn.captured))) (words_type fn.captured) (body (top 2 fn.body - 2) (Loop (Value type.I32) ∷ worker_code P g fn)) (type_of_worker g fn e wide) (type_of_words fn.captured few)
+      func_is (module_with P main gs es pages) (worker_index P g) (suc (suc (suc fn.captured))) (words_type fn.captured) (body (top 2 fn.body - 2) (Loop (Value type.I32) ∷ worker_code P g fn)) (type_of_worker g fn e wide) (type_of_words g fn e wide)
       (worker_in P (entry P) (constant P) main (worker P) g fn e ∙ ap (λ (b : Bool). Some (if b then body 0 (Unreachable ∷ End ∷ []) else body (top 2 fn.body - 2) (Loop (Value type.I32) ∷ worker_code P g fn))) wide)
 
   pub table_entry : (g : ℕ) → g < suc (length P.functions) → slice_get (table_of (module_with P main gs es pages)) g ≡ Some (Some (suc g))

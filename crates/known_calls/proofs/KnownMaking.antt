@@ -18,7 +18,7 @@ use Rattle.wasm_emit.proofs.Holds.{address_below, fields_up, Same, Keeps, keeps_
 use Rattle.wasm_emit.proofs.Rules.{Limits, Within, here, looser, r_const, r_get, r_tee, r_heap, r_set_heap, r_add, r_load, r_store}
 use Rattle.wasm_emit.proofs.Alloc.{Room, HasRunTime, allocated}
 use Rattle.known_calls.specs.KnownPlaces.{Word, Place, Known, names, some_names}
-use Rattle.known_calls.specs.KnownCode.{read_word, read, atom, push_words, fill, block}
+use Rattle.known_calls.specs.KnownCode.{read_word, read, atom, push_words, fill, new_block, block}
 use Rattle.known_calls.proofs.KnownHolds.{Reads, in_local, in_field, is_const, Words, no_word, more_words, Env, env_on}
 use Rattle.known_calls.proofs.Finding.{There, there}
 use Rattle.known_calls.proofs.Unreading.{neither}
@@ -76,19 +76,27 @@ module _ (M : Parts) (fixed : HasRunTime M) (cap : Limits) (Q : State → Type 0
       stored w s m' high =
           ap (λ n. word m' (q + 4 * suc n)) (all_size hs) ∙ word_same (put_word m (q + 4 * suc (length as')) w) m' (q + 4 * suc (length as')) (λ x a b. high x a) ∙ word_put m (q + 4 * suc (length as')) w (omega arith) (stands_small (omega arith) s)
 
-  -- a block is made at the end of the heap
-  pub made : {f : Around} {m : Mem} {p h : ℕ} {ls vals : List ConstValue} {rest : List Instr} {l u : ℕ} {d header : ℕ} {ps : List Place} {e : Vals} {as' : List Atom} {vs : Vals} →
+  -- a block is made at the end of the heap, and its address comes into local d
+  pub new_made : {f : Around} {m : Mem} {p h : ℕ} {ls vals : List ConstValue} {rest : List Instr} {l u : ℕ} {d header : ℕ} {ps : List Place} {e : Vals} {as' : List Atom} {vs : Vals} →
       suc (length f.callers) ≤ cap.frames → h + 4 * suc (length as') ≤ cap.bytes → AllAre e as' vs → NoneNamed ps as' → length as' < 2049 → header < 4294967296 → d < length ls → Room M m p h → Env m h ls d ps e →
-      ((m' : Mem) (p' : ℕ) (ls' : List ConstValue) → Room M m' p' (h + 4 * suc (length as')) → Same h m m' → Keeps d ls ls' → word m' h ≡ header → Fields m' (h + 4 * suc (length as')) h vs → Within M cap Q l u (here cap f m' p' (h + 4 * suc (length as')) ls' (I32 h ∷ vals) rest)) →
-      Within M cap Q l (40 + 4 * length as' + u) (here cap f m p h ls vals (block ps d header as' rest))
-  made {m = m} {h = h} {ls} {d = d} {header} {as' = as'} deep needed all un few fits_word has room env k =
+      ((m' : Mem) (p' : ℕ) (ls' : List ConstValue) → Room M m' p' (h + 4 * suc (length as')) → Same h m m' → Keeps d ls ls' → slice_get ls' d ≡ Some (I32 h) → word m' h ≡ header → Fields m' (h + 4 * suc (length as')) h vs → Within M cap Q l u (here cap f m' p' (h + 4 * suc (length as')) ls' vals rest)) →
+      Within M cap Q l (39 + 4 * length as' + u) (here cap f m p h ls vals (new_block ps d header as' rest))
+  new_made {m = m} {h = h} {ls} {d = d} {header} {as' = as'} deep needed all un few fits_word has room env k =
       let ls' = slice_set ls d (I32 h) in
       let at : slice_get ls' d ≡ Some (I32 h) = set_this ls d (I32 h) has in
       let kept : Keeps d ls ls' = keeps_set ls d (I32 h) in
       looser M cap Q (r_heap M cap Q (omega arith) (r_tee M cap Q (omega arith) (slice_get-get_or ls d (I32 0) has) (r_const M cap Q (omega arith) (4 * suc (length as')) (r_add M cap Q (omega arith) (omega (arith, room.fits, room.pages, fixed.small)) (r_set_heap M cap Q (omega arith)
       (allocated M fixed cap Q deep needed (omega arith) room (λ m0 p' kept_mem long in_max fits tight. r_get M cap Q (omega arith) at (r_const M cap Q (omega arith) header (r_store M cap Q (omega arith) (omega arith)
       (filled (omega arith) all un at (env_on (omega arith) (λ x lt. put_other m0 _ header x (inl (omega arith)) ∙ kept_mem x lt) (omega arith) kept env) (omega arith) in_max (put_length m0 _ header ∙ long) (omega (arith, room.above)) (λ m' low high long' fs.
-      r_get M cap Q (omega arith) at (k m' p' ls' (record { long = long'; q = room.q + suc (length as'); aligned = omega (arith, room.aligned); above = omega (arith, room.above); fits = omega arith; inside = omega arith; tight = omega (arith, tight); pages = in_max })
-      (λ x lt. low x (omega arith) ∙ put_other m0 _ header x (inl (omega arith)) ∙ kept_mem x lt) kept
-      (word_same (put_word m0 (h + 0) header) m' h (λ x a b. low x (omega arith)) ∙ word_put_at m0 (h + 0) h header (omega arith) (omega arith) fits_word) (fields_up (h + 4 * suc (length as')) (omega arith) fs)))))))))))))
+      k m' p' ls' (record { long = long'; q = room.q + suc (length as'); aligned = omega (arith, room.aligned); above = omega (arith, room.above); fits = omega arith; inside = omega arith; tight = omega (arith, tight); pages = in_max })
+      (λ x lt. low x (omega arith) ∙ put_other m0 _ header x (inl (omega arith)) ∙ kept_mem x lt) kept at
+      (word_same (put_word m0 (h + 0) header) m' h (λ x a b. low x (omega arith)) ∙ word_put_at m0 (h + 0) h header (omega arith) (omega arith) fits_word) (fields_up (h + 4 * suc (length as')) (omega arith) fs))))))))))))
       (omega arith) (omega arith)
+
+  -- and onto the operands
+  pub made : {f : Around} {m : Mem} {p h : ℕ} {ls vals : List ConstValue} {rest : List Instr} {l u : ℕ} {d header : ℕ} {ps : List Place} {e : Vals} {as' : List Atom} {vs : Vals} →
+      suc (length f.callers) ≤ cap.frames → h + 4 * suc (length as') ≤ cap.bytes → AllAre e as' vs → NoneNamed ps as' → length as' < 2049 → header < 4294967296 → d < length ls → Room M m p h → Env m h ls d ps e →
+      ((m' : Mem) (p' : ℕ) (ls' : List ConstValue) → Room M m' p' (h + 4 * suc (length as')) → Same h m m' → Keeps d ls ls' → word m' h ≡ header → Fields m' (h + 4 * suc (length as')) h vs → Within M cap Q l u (here cap f m' p' (h + 4 * suc (length as')) ls' (I32 h ∷ vals) rest)) →
+      Within M cap Q l (40 + 4 * length as' + u) (here cap f m p h ls vals (block ps d header as' rest))
+  made deep needed all un few fits_word has room env k =
+      looser M cap Q (new_made deep needed all un few fits_word has room env (λ m' p' ls' room' same keeps at head fs. r_get M cap Q (omega arith) at (k m' p' ls' room' same keeps head fs))) (omega arith) (omega arith)

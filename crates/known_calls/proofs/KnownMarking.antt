@@ -1,5 +1,5 @@
 -- Marks: which variables a part of a block reads, and the marks of its parts one after another.
-use Rattle.std.proofs.Common.{◌≡◌, ℕ, zero, suc, ◌+◌, ◌-◌, ◌<◌, ◌≤◌, List, [], ◌∷◌, ◌++◌, length, length-append, append_assoc, reverse, drop, take, get_or, set, replicate, Bool, true, false, refl, ap, sym, ◌∙◌, subst, arith}
+use Rattle.std.proofs.Common.{◌≡◌, ℕ, zero, suc, ◌+◌, ◌-◌, ◌<◌, ◌≤◌, List, [], ◌∷◌, ◌++◌, length, length-append, append_assoc, append-nil, reverse, drop, take, get_or, set, replicate, Bool, true, false, refl, ap, sym, ◌∙◌, subst, arith}
 use Rattle.std.proofs.Math.Seq.{drop-append_seam}
 use Rattle.std.proofs.lemmas.List.{reverse-append, length-reverse, length-drop, length-replicate, set-append_left, set-append_right, drop_all, take_more, take-append-drop}
 use Rattle.std.proofs.lemmas.Bool.Decides.{nat_tests}
@@ -13,6 +13,7 @@ use Rattle.closure_lift.specs.declared.program.LiftedBranch.{LiftedBranch}
 use Rattle.closure_lift.specs.declared.program.LiftedOp.{LiftedOp}
 use Rattle.wasm_emit.proofs.Pushing.{next_of}
 use Rattle.known_calls.specs.KnownPlaces.{names, some_names, op_reads, block_reads, branches_read}
+use Rattle.known_calls.specs.KnownCode.{some_heads}
 use Rattle.known_calls.specs.KnownMarks.{block_marks, empty_marks, head_marks, bound_marks, bound_reads, empties_read, heads_read, Begins, also}
 
 -- What is read.
@@ -145,6 +146,24 @@ head_marks_step (suc n) t bs = sym (append_assoc (block_marks t) [] (head_marks 
 pub empty_marks_step : (n : ℕ) (t : Block) (bs : BranchBlocks) → empty_marks (BCons n t bs) ≡ empty_marks (BCons n t BNil) ++ empty_marks bs
 empty_marks_step zero t bs = sym (append_assoc (block_marks t) [] (empty_marks bs))
 empty_marks_step (suc n) t bs = refl
+
+-- a branch's own
+pub plain_marks : (n : ℕ) (t : Block) → n ≡ 0 → empty_marks (BCons n t BNil) ≡ block_marks t
+plain_marks zero t e = append-nil (block_marks t)
+plain_marks (suc n) t e = absurd (omega arith)
+
+pub fielded_marks : (n : ℕ) (t : Block) → 0 < n → head_marks (BCons n t BNil) ≡ block_marks t
+fielded_marks zero t e = absurd (omega arith)
+fielded_marks (suc n) t e = append-nil (block_marks t)
+
+pub no_head_marks : (bs : BranchBlocks) → some_heads bs ≡ false → head_marks bs ≡ []
+no_head_marks BNil e = refl
+no_head_marks (BCons zero t bs) e = no_head_marks bs e
+no_head_marks (BCons (suc n) t bs) e = cc
+
+-- all are those of the branches without binders where no other has any
+pub plain_left : (bs : BranchBlocks) (all new : List Bool) → some_heads bs ≡ false → new ≡ drop (length (empty_marks bs)) all → new ≡ drop (length (empty_marks bs ++ head_marks bs)) all
+plain_left bs all new none e = e ∙ ap (λ (ms : List Bool). drop (length ms) all) (sym (ap (λ (ms : List Bool). empty_marks bs ++ ms) (no_head_marks bs none) ∙ append-nil (empty_marks bs)))
 
 -- Numbers of constants play no part.
 mutual
@@ -394,3 +413,6 @@ module _ (marks_of : BranchBlocks → List Bool) (marks_step : (n : ℕ) (t : Bl
   pub left_more : (new : List Bool) → new ≡ drop (length (marks_of (branches_of (b ∷ [])))) all → drop (length (marks_of (branches_of (drop (c + 1) bs)))) new ≡ drop (length (marks_of (branches_of (drop c bs)))) all
   left_more new e =
       ap (λ (ms : List Bool). drop (length (marks_of (branches_of (drop (c + 1) bs)))) ms) e ∙ drops (marks_of (branches_of (b ∷ []))) (marks_of (branches_of (drop (c + 1) bs))) all begin_arms ∙ ap (λ (ms : List Bool). drop (length ms) all) (sym arm_marks)
+
+  pub left_end : (new : List Bool) → marks_of (branches_of (drop (c + 1) bs)) ≡ [] → new ≡ drop (length (marks_of (branches_of (b ∷ [])))) all → new ≡ drop (length (marks_of (branches_of (drop c bs)))) all
+  left_end new none e = sym (ap (λ (ms : List Bool). drop (length ms) new) none) ∙ left_more new e

@@ -1,5 +1,5 @@
 -- How long the bytes of a module with workers are.
-use Rattle.std.proofs.Common.{◌≡◌, ℕ, suc, ◌+◌, ◌-◌, ◌*◌, ◌≤◌, List, [], ◌∷◌, ◌++◌, length, map, Some, Bool, true, false, refl, subst, arith}
+use Rattle.std.proofs.Common.{◌≡◌, ℕ, zero, suc, ◌+◌, ◌-◌, ◌*◌, ◌≤◌, List, [], ◌∷◌, ◌++◌, length, map, Some, Bool, true, false, refl, subst, arith}
 use Rattle.std.specs.Prelude.{slice_get, if◌then◌else◌}
 use Rattle.wasm_core.specs.declared.types.ValType.TheVariants.{I32}
 use Rattle.wasm_core.specs.declared.instrs.BlockType.TheVariants.{Value}
@@ -19,9 +19,9 @@ use Rattle.wasm_emit.proofs.Lengths.{u_any, size, z_end, z_global, body_size}
 use Rattle.wasm_emit.proofs.Sized.{no_bytes, section_size, items_size, globals_size, table_size, memory_size, exports_size, segment_size, first_bodies, header_size}
 use Rattle.known_calls.specs.KnownPlaces.{At, InLocal, fields_of}
 use Rattle.known_calls.specs.KnownCode.{Inside, is_wide, code}
-use Rattle.known_calls.specs.KnownModule.{words_type, wide_body, stub_code, entry, worker_code, worker, worker_type, numbered, constant, main_function, module_with}
+use Rattle.known_calls.specs.KnownModule.{words_type, words_types, widest_worker, wide_body, stub_code, entry, worker_code, worker, worker_type, numbered, constant, main_function, module_with}
 use Rattle.known_calls.specs.KnownWeight.{op_weight, weight, branches_weight, functions_weight, constants_weight, KnownSized, LocalsBound}
-use Rattle.known_calls.proofs.KnownIndices.{narrow_few, order_length}
+use Rattle.known_calls.proofs.KnownIndices.{narrow_few, widest_few, order_length}
 use Rattle.known_calls.proofs.Bounded.{b_code}
 use Rattle.known_calls.proofs.KnownSpelling.{b_stub, b_wide, b_loop_of}
 
@@ -102,9 +102,26 @@ module _ (P : Program) (m : ℕ) (form : Formed P m) (counts : CountsFit P m) (l
   constants_size [] bs w h = omega arith
   constants_size (t ∷ ts) bs w h = omega (arith, h 0 t (put_all put_body (map (constant P) ts ++ bs) w) refl, constants_size ts bs w (λ i t w e. h (suc i) t w e))
 
-types_size : length (put_all put_func_type (type_main ∷ type_constant ∷ type_function ∷ words_type 0 ∷ words_type 1 ∷ words_type 2 ∷ words_type 3 ∷ words_type 4 ∷ words_type 5 ∷ words_type 6 ∷ words_type 7 ∷ []) []) ≤ 140
+word_type_size : (n : ℕ) (w : List ℕ) → n ≤ 7 → length (put_func_type (words_type n) w) ≤ 12 + length w
 unfolding put_all put_func_type unsigned
-types_size = omega arith
+word_type_size zero w h = omega arith
+word_type_size (suc zero) w h = omega arith
+word_type_size (suc (suc zero)) w h = omega arith
+word_type_size (suc (suc (suc zero))) w h = omega arith
+word_type_size (suc (suc (suc (suc zero)))) w h = omega arith
+word_type_size (suc (suc (suc (suc (suc zero))))) w h = omega arith
+word_type_size (suc (suc (suc (suc (suc (suc zero)))))) w h = omega arith
+word_type_size (suc (suc (suc (suc (suc (suc (suc zero))))))) w h = omega arith
+word_type_size (suc (suc (suc (suc (suc (suc (suc (suc n)))))))) w h = absurd (omega arith)
+
+words_types_size : (k n : ℕ) → k + n ≤ 8 → length (put_all put_func_type (words_types k n) []) ≤ 12 * n
+unfolding put_all
+words_types_size k zero h = omega arith
+words_types_size k (suc n) h = omega (arith, word_type_size k (put_all put_func_type (words_types (suc k) n) []) (omega arith), words_types_size (suc k) n (omega arith))
+
+types_size : (P : Program) → length (put_all put_func_type (type_main ∷ type_constant ∷ type_function ∷ words_types 0 (widest_worker P.functions)) []) ≤ 140
+unfolding put_all put_func_type unsigned
+types_size P = omega (arith, words_types_size 0 (widest_worker P.functions) (omega (arith, widest_few P.functions)), widest_few P.functions)
 
 main_body : (b : Body) (bs : List Body) → length (put_all put_body (b ∷ bs) []) ≡ length (put_body b (put_all put_body bs []))
 unfolding put_all
@@ -148,7 +165,7 @@ module _ (P : Program) (main : Body) (gs : List GlobalDef) (es : List Export) (p
         arith,
         header_size M,
         section_size 1 put_func_type M.types s3,
-        types_size,
+        types_size P,
         section_size 3 put_u32 M.funcs s4,
         items_size 5 put_u32 M.funcs [] (λ x w. u_any 5 x w),
         order_length {A = ℕ} P (λ g f. 2) (λ t. 1) 0 (λ g f. worker_type f),

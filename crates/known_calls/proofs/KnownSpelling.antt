@@ -1,6 +1,7 @@
 -- The numbers of a module with workers fit its format, so that bytes can spell it.
 use Rattle.std.proofs.Common.{◌≡◌, ℕ, zero, suc, ◌+◌, ◌-◌, ◌*◌, ◌<◌, ◌≤◌, List, [], ◌∷◌, ◌++◌, length, max, Some, Bool, true, false, refl, arith, rules, subst}
 use Rattle.std.specs.Prelude.{slice_get, if◌then◌else◌}
+use Rattle.std.proofs.lemmas.List.{length-replicate}
 use Rattle.std.proofs.lemmas.Option.{slice_get_within}
 use Rattle.wasm_core.specs.declared.types.ValType.TheVariants.{I32}
 use Rattle.wasm_core.specs.declared.instrs.BlockType.TheVariants.{Value}
@@ -10,7 +11,7 @@ use Rattle.wasm_core.specs.ModuleTyping.{TypedFunc}
 use Rattle.wasm_core.specs.declared.instrs.Body.{Body}
 use Rattle.wasm_core.specs.declared.types.GlobalDef.{GlobalDef}
 use Rattle.wasm_core.specs.declared.exports.Export.{Export}
-use Rattle.wasm_core.specs.ModuleCondition.{All, IsU32, IsBody, IsExport, IsGlobal, IsModule}
+use Rattle.wasm_core.specs.ModuleCondition.{All, IsU32, IsFuncType, IsBody, IsExport, IsGlobal, IsModule}
 use Rattle.anf_convert.specs.declared.program.Atom.TheVariants.{Var as AVar}
 use Rattle.closure_lift.specs.Lifted.{OApp, Block, Fn, Program}
 use Rattle.closure_lift.specs.LiftedForm.{Formed, Limits}
@@ -23,13 +24,13 @@ use Rattle.wasm_emit.proofs.Indices.{entries_length}
 use Rattle.wasm_emit.proofs.Spelled.{good, fits, all_then, body_fits, room_good}
 use Rattle.known_calls.specs.KnownPlaces.{At, InLocal, fields_of}
 use Rattle.known_calls.specs.KnownCode.{Inside, InTail, is_wide, worker_index, code}
-use Rattle.known_calls.specs.KnownModule.{params, captured_words, wide_body, stub_code, entry, worker_code, worker, worker_type, numbered, constant, main_function, module_with, module_of}
+use Rattle.known_calls.specs.KnownModule.{words_types, widest_worker, params, captured_words, wide_body, stub_code, entry, worker_code, worker, worker_type, numbered, constant, main_function, module_with, module_of}
 use Rattle.known_calls.specs.KnownCalls.{applied, call_function, module_of_call}
 use Rattle.known_calls.specs.KnownLaws.{KnownSpelled}
 use Rattle.known_calls.specs.KnownWeight.{weight}
 use Rattle.known_calls.proofs.SameLocals.{worker_top}
 use Rattle.known_calls.proofs.Fitting.{fields_fit, params_fit}
-use Rattle.known_calls.proofs.KnownIndices.{narrow_few, order_length}
+use Rattle.known_calls.proofs.KnownIndices.{narrow_few, widest_few, words_types_length, order_length}
 use Rattle.known_calls.proofs.KnownValidity.{entry_typed, worker_typed, constant_typed, main_typed, call_typed, box_typed, room_typed}
 use Rattle.known_calls.proofs.Bounded.{Bounded, ◌then◌, b_most, b_get, b_get_global, b_set, b_load, b_call, b_end, b_loop, b_captured, b_op, b_code}
 
@@ -40,6 +41,11 @@ numbered_then Q h from (x ∷ xs) bs a r = (a zero from x refl (omega arith), nu
 numbered_all : {B : Type 0} (Q : B → Type 0) (h : ℕ → Fn → B) (from : ℕ) (fs : List Fn) → ((g j : ℕ) (x : Fn) → slice_get fs g ≡ Some x → j ≡ from + g → Q (h j x)) → All Q (numbered h from fs)
 numbered_all Q h from [] a = tt
 numbered_all Q h from (x ∷ xs) a = (a zero from x refl (omega arith), numbered_all Q h (suc from) xs (λ g j y at is. a (suc g) j y at (omega arith)))
+
+-- the types of workers
+words_types_fit : (k n : ℕ) → k + n ≤ 8 → All IsFuncType (words_types k n)
+words_types_fit k zero le = tt
+words_types_fit k (suc n) le = (omega (arith, length-replicate (suc k) I32), words_types_fit (suc k) n (omega arith))
 
 entries_fit : (i n : ℕ) → i + n < 4294967296 → All IsU32 (entries i n)
 entries_fit i zero h = tt
@@ -121,7 +127,7 @@ module _ (P : Program) (main : Body) (gs : List GlobalDef) (es : List Export) (p
       let size = order_length {A = ℕ} P (λ g f. 2) (λ t. 1) 0 (λ g f. worker_type f) in
       let bodies = order_length P (entry P) (constant P) main (worker P) in
       record {
-        types = (omega arith, (omega arith, (omega arith, (omega arith, (omega arith, (omega arith, (omega arith, (omega arith, (omega arith, (omega arith, (omega arith, (omega arith, tt))))))))))));
+        types = (omega (arith, words_types_length 0 (widest_worker P.functions), widest_few P.functions), (omega arith, (omega arith, (omega arith, words_types_fit 0 (widest_worker P.functions) (omega (arith, widest_few P.functions))))));
         funcs = (omega (arith, size, limits.few, counts.constants), all_types);
         table = (omega (arith, limits.few), omega (arith, limits.few));
         memory = (omega arith, omega arith);

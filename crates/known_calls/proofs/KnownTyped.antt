@@ -3,7 +3,7 @@ use Rattle.std.proofs.Common.{◌≡◌, ℕ, zero, suc, ◌+◌, ◌<◌, ◌�
 use Rattle.std.proofs.lemmas.Bool.{eqb-true}
 use Rattle.std.proofs.lemmas.Option.{slice_get-get_or}
 use Rattle.std.specs.Option.{option_map, option_and_then}
-use Rattle.std.specs.Prelude.{slice_get, reverse, max, nat_eq, nat_le, if◌then◌else◌}
+use Rattle.std.specs.Prelude.{slice_get, reverse, max, nat_eq, nat_le, if◌then◌else◌, ◌||◌}
 use Rattle.wasm_core.specs.declared.types.ValType.TheVariants.{I32}
 use Rattle.wasm_core.specs.declared.types.GlobalDef.{GlobalDef}
 use Rattle.wasm_core.specs.declared.exports.Export.{Export}
@@ -22,7 +22,7 @@ use Rattle.closure_lift.specs.LiftedForm.{OpFits, LiftedBlockFits, BranchesFit, 
 use Rattle.wasm_emit.specs.EmittedCode.{IfWord, ensure_room}
 use Rattle.wasm_emit.specs.EmittedLocals.{top, top_op, top_branches}
 use Rattle.known_calls.specs.KnownPlaces.{Word, InLocal, InField, IsConst, Place, At, fields_of, word_of, known_function, block_reads}
-use Rattle.known_calls.specs.KnownCode.{Position, Inside, InTail, deeper, worker_index, jumps, most_blocks, read_word, read, atom, push_words, fill, block, into_params, call_worker, application, choose, unmade, known, op, code, empties, heads}
+use Rattle.known_calls.specs.KnownCode.{Position, Inside, InTail, deeper, worker_index, jumps, most_blocks, read_word, read, atom, push_words, fill, new_block, block, into_local, into_params, call_worker, application, some_heads, some_branches, empty_test, head_test, arm, choose, unmade, known, op, code, empties, heads}
 use Rattle.known_calls.specs.KnownModule.{words_type, worker_type, module_with}
 use Rattle.known_calls.proofs.Shapes.{Shaped, shaped_code, shaped_empties, shaped_heads}
 use Rattle.known_calls.proofs.Finding.{same_some}
@@ -112,20 +112,39 @@ module _ (P : Program) (most : ℕ) (form : Formed P most) (main : Body) (gs : L
   t_room : {labels : List OperandTypes} {ts us : Operands} {rest : List Instr} → Typed m ls rs labels ts rest us → Typed m ls rs labels ts (ensure_room rest) us
   t_room {ts = ts} k = t_plain ts refl (t_plain (Of I32 ∷ ts) refl (t_plain (Of I32 ∷ Of I32 ∷ ts) refl (t_plain (Of I32 ∷ ts) refl (t_plain ts refl (t_one_arm {body = Call 0 ∷ []} (t_plain [] refl done) k)))))
 
+  t_new_block : {labels : List OperandTypes} {ts us : Operands} {rest : List Instr} (n d header : ℕ) (ps : List Place) (as' : List Atom) → suc d ≤ size → AtomsFit n as' → All (PlaceFits P far d) ps → Typed m ls rs labels ts rest us → Typed m ls rs labels ts (new_block ps d header as' rest) us
+  t_new_block {ts = ts} n d header ps as' le fit h k =
+      t_plain ts refl (t_tee (omega arith) (t_plain (Of I32 ∷ ts) refl (t_plain ts refl (t_plain ts refl (t_room (t_get (omega arith) (t_plain (Of I32 ∷ ts) refl (t_plain ts refl (t_fill n d d ps as' (omega arith) (omega arith) fit h k)))))))))
+
   t_block : {labels : List OperandTypes} {ts us : Operands} {rest : List Instr} (n d header : ℕ) (ps : List Place) (as' : List Atom) → suc d ≤ size → AtomsFit n as' → All (PlaceFits P far d) ps → Typed m ls rs labels (Of I32 ∷ ts) rest us → Typed m ls rs labels ts (block ps d header as' rest) us
-  t_block {ts = ts} n d header ps as' le fit h k =
-      t_plain ts refl (t_tee (omega arith) (t_plain (Of I32 ∷ ts) refl (t_plain ts refl (t_plain ts refl (t_room (t_get (omega arith) (t_plain (Of I32 ∷ ts) refl (t_plain ts refl (t_fill n d d ps as' (omega arith) (omega arith) fit h (t_get (omega arith) k))))))))))
+  t_block n d header ps as' le fit h k = t_new_block n d header ps as' le fit h (t_get (omega arith) k)
 
   arms : {labels : List OperandTypes} {ts us : Operands} {rest : List Instr} {g1 g2 : List Instr → List Instr} → Shaped g1 → Shaped g2 → Typed m ls rs ((I32 ∷ []) ∷ labels) [] (g1 []) (Of I32 ∷ []) → Typed m ls rs ((I32 ∷ []) ∷ labels) [] (g2 []) (Of I32 ∷ []) →
       Typed m ls rs labels (Of I32 ∷ ts) rest us → Typed m ls rs labels (Of I32 ∷ ts) (IfWord ∷ g1 (Else ∷ g2 (End ∷ rest))) us
   arms {labels} {ts} {us} {rest} {g1} {g2} f1 f2 a b k =
       subst (λ (z : List Instr). Typed m ls rs labels (Of I32 ∷ ts) (IfWord ∷ z) us) (sym (f1.front (Else ∷ g2 (End ∷ rest)) ∙ ap (λ (z : List Instr). g1 [] ++ Else ∷ z) (f2.front (End ∷ rest)))) (t_two_arms {b = Value I32} {first = g1 []} {second = g2 []} a b k)
 
+  -- instructions that put a word on the operands, wherever they stand
+  abbrev Puts : (Position → List Instr → List Instr) → Type 0
+  Puts g = (at : Position) (labels : List OperandTypes) (ts us : Operands) (rest : List Instr) → Labelled at labels → Typed m ls rs labels (Of I32 ∷ ts) rest us → Typed m ls rs labels ts (g at rest) us
+
+  t_arm : {labels : List OperandTypes} {ts us : Operands} {rest : List Instr} (b : Bool) {test : List Instr → List Instr} {branch behind : Position → List Instr → List Instr} (at : Position) → ((at' : Position) → Shaped (branch at')) → ((at' : Position) → Shaped (behind at')) →
+      ((r : List Instr) → Typed m ls rs labels (Of I32 ∷ ts) r us → Typed m ls rs labels ts (test r) us) → Puts branch → Puts behind → Labelled at labels → Typed m ls rs labels (Of I32 ∷ ts) rest us → Typed m ls rs labels ts (arm b test branch behind at rest) us
+  t_arm {labels} true at f1 f2 test x y l k =
+      test _ (arms (f1 (deeper at)) (f2 (deeper at)) (x (deeper at) ((I32 ∷ []) ∷ labels) [] (Of I32 ∷ []) [] (labelled_deeper at labels (I32 ∷ []) l) done) (y (deeper at) ((I32 ∷ []) ∷ labels) [] (Of I32 ∷ []) [] (labelled_deeper at labels (I32 ∷ []) l) done) k)
+  t_arm {labels} {ts} {us} {rest} false at f1 f2 test x y l k = x at labels ts us rest l k
+
+  t_empty_test : {labels : List OperandTypes} {ts us : Operands} (d c : ℕ) → d < size → (r : List Instr) → Typed m ls rs labels (Of I32 ∷ ts) r us → Typed m ls rs labels ts (empty_test d c r) us
+  t_empty_test {ts = ts} d c lt r k = t_get lt (t_plain (Of I32 ∷ ts) refl (t_plain ts refl k))
+
+  t_head_test : {labels : List OperandTypes} {ts us : Operands} (d c n : ℕ) → d < size → (r : List Instr) → Typed m ls rs labels (Of I32 ∷ ts) r us → Typed m ls rs labels ts (head_test d c n r) us
+  t_head_test {ts = ts} d c n lt r k = t_get lt (t_plain ts refl (t_plain (Of I32 ∷ ts) refl (t_plain ts refl k)))
+
   -- a call of a worker
   pub t_worker : {labels : List OperandTypes} {ts us : Operands} {rest : List Instr} (g : ℕ) (fn : Fn) → slice_get P.functions g ≡ Some fn → fn.captured ≤ 7 → Typed m ls rs labels (Of I32 ∷ ts) rest us → Typed m ls rs labels (words_on (suc fn.captured) ts) (Call (worker_index P g) ∷ rest) us
   t_worker {labels} {ts} {us} {rest} g fn at few k =
       let type_is : func_type m (worker_index P g) ≡ Some (words_type fn.captured) =
-      ap (option_and_then (λ index. slice_get m.types index)) (type_of_worker P main gs es pages g fn at (not_wide fn few)) ∙ type_of_words P main gs es pages fn.captured few in
+      ap (option_and_then (λ index. slice_get m.types index)) (type_of_worker P main gs es pages g fn at (not_wide fn few)) ∙ type_of_words P main gs es pages g fn at (not_wide fn few) in
       subst (λ (os : Operands). Typed m ls rs labels os (Call (worker_index P g) ∷ rest) us) (ap (λ (xs : OperandTypes). known_types xs ++ ts) (turned fn.captured few) ∙ of_words (suc fn.captured) ts)
       (t_plain ts (ap (option_map {U = Effect} calling_type) type_is) k)
 
@@ -163,6 +182,15 @@ module _ (P : Program) (most : ℕ) (form : Formed P most) (main : Body) (gs : L
   t_choice None x y = y
   t_choice (Some q) x y = x q refl
 
+  -- an operation whose word comes into local d
+  t_bind : {labels : List OperandTypes} {ts us : Operands} {rest : List Instr} (n d : ℕ) (ps : List Place) (x : Op) {g : List Instr → List Instr} → suc d ≤ size → OpFits P.functions (length P.constants) most n x → All (PlaceFits P far d) ps →
+      ((r : List Instr) → Typed m ls rs labels (Of I32 ∷ ts) r us → Typed m ls rs labels ts (g r) us) → Typed m ls rs labels ts rest us → Typed m ls rs labels ts (into_local ps d x g rest) us
+  t_bind n d ps (OCon c as') lt fit h o k = t_new_block n d _ ps as' lt fit.3 h k
+  t_bind n d ps (OClos g as') lt fit h o k = t_new_block n d _ ps as' lt fit.1 h k
+  t_bind n d ps (OConst x) lt fit h o k = o _ (t_set lt k)
+  t_bind n d ps (OApp f a) lt fit h o k = o _ (t_set lt k)
+  t_bind n d ps (OCase a bs) lt fit h o k = o _ (t_set lt k)
+
   mutual
     pub t_op : {labels : List OperandTypes} {ts us : Operands} {rest : List Instr} (n d : ℕ) (ps : List Place) (at : Position) (x : Op) → top_op d x ≤ size → OpFits P.functions (length P.constants) most n x → All (PlaceFits P far d) ps → Labelled at labels →
         Typed m ls rs labels (Of I32 ∷ ts) rest us → Typed m ls rs labels ts (op P ps d at x rest) us
@@ -172,7 +200,7 @@ module _ (P : Program) (most : ℕ) (form : Formed P most) (main : Body) (gs : L
     t_op n d ps at (OCon c as') le fit h l k = t_block n d _ ps as' le fit.3 h k
     t_op n d ps at (OClos g as') le fit h l k = t_block n d _ ps as' le fit.1 h k
     t_op n d ps at (OCase a bs) le fit h l k =
-        t_atom n d ps a (omega arith) fit.0 h (t_set (omega arith) (t_empties n d ps at 0 bs (λ at'. heads P ps d at' 0 bs) (λ at'. shaped_heads P ps d at' 0 bs) (omega arith) fit.2 h l (λ at' labels ts us rest l' k'. t_heads n d ps at' 0 bs (omega arith) fit.2 h l' k') k))
+        t_atom n d ps a (omega arith) fit.0 h (t_set (omega arith) (t_empties n d ps at 0 (some_heads bs) bs (λ at'. heads P ps d at' 0 bs) (λ at'. shaped_heads P ps d at' 0 bs) (omega arith) fit.2 h l (λ at' labels ts us rest l' k'. t_heads n d ps at' 0 bs (omega arith) fit.2 h l' k') k))
 
     pub t_code : {labels : List OperandTypes} {ts us : Operands} {rest : List Instr} (n d : ℕ) (ps : List Place) (at : Position) (t : Block) → top d t ≤ size → LiftedBlockFits P.functions (length P.constants) most n t → All (PlaceFits P far d) ps → Labelled at labels →
         Typed m ls rs labels (Of I32 ∷ ts) rest us → Typed m ls rs labels ts (code P ps d at t rest) us
@@ -182,24 +210,22 @@ module _ (P : Program) (most : ℕ) (form : Formed P most) (main : Body) (gs : L
     t_code n d ps at (Let x t) le fit h l k =
         t_choice (unmade P ps x t)
         (λ q e. let z = unmade_some (block_reads 0 t) (known P ps x) e in t_code (suc n) d (q ∷ ps) at t (omega (arith, top_less d t)) fit.1 (known_fits P far most form n d ps x fit.0 h z.1, h) l k)
-        (t_op n d ps Inside x (omega arith) fit.0 h tt (t_set (omega arith) (t_code (suc n) (suc d) (At (InLocal d) ∷ ps) at t (omega arith) fit.1 (omega arith, places_up P far d (suc d) (omega arith) ps h) l k)))
+        (t_bind n d ps x {g = op P ps d Inside x} (omega arith) fit.0 h (λ r k'. t_op n d ps Inside x (omega arith) fit.0 h tt k') (t_code (suc n) (suc d) (At (InLocal d) ∷ ps) at t (omega arith) fit.1 (omega arith, places_up P far d (suc d) (omega arith) ps h) l k))
 
-    t_empties : {labels : List OperandTypes} {ts us : Operands} {rest : List Instr} (n d : ℕ) (ps : List Place) (at : Position) (c : ℕ) (bs : BranchBlocks) (others : Position → List Instr → List Instr) → ((at' : Position) → Shaped (others at')) → max (suc d) (top_branches (suc d) bs) ≤ size →
-        BranchesFit P.functions (length P.constants) most n bs → All (PlaceFits P far d) ps → Labelled at labels →
-        ((at' : Position) (labels : List OperandTypes) (ts us : Operands) (rest : List Instr) → Labelled at' labels → Typed m ls rs labels (Of I32 ∷ ts) rest us → Typed m ls rs labels ts (others at' rest) us) → Typed m ls rs labels (Of I32 ∷ ts) rest us →
-        Typed m ls rs labels ts (empties P ps d at c bs others rest) us
-    t_empties n d ps at c BNil others fo le fit h l o k = o at _ _ _ _ l k
-    t_empties {labels} {ts = ts} n d ps at c (BCons zero t bs) others fo le fit h l o k =
-        t_get (omega arith) (t_plain (Of I32 ∷ ts) refl (t_plain ts refl (arms (shaped_code P ps (suc d) (deeper at) t) (shaped_empties P ps d (deeper at) (suc c) bs others fo)
-        (t_code (0 + n) (suc d) ps (deeper at) t (omega arith) fit.1 (places_up P far d (suc d) (omega arith) ps h) (labelled_deeper at labels (I32 ∷ []) l) done)
-        (t_empties n d ps (deeper at) (suc c) bs others fo (omega arith) fit.2 h (labelled_deeper at labels (I32 ∷ []) l) o done) k)))
-    t_empties n d ps at c (BCons (suc j) t bs) others fo le fit h l o k = t_empties n d ps at (suc c) bs others fo (omega arith) fit.2 h l o k
+    t_empties : {labels : List OperandTypes} {ts us : Operands} {rest : List Instr} (n d : ℕ) (ps : List Place) (at : Position) (c : ℕ) (some : Bool) (bs : BranchBlocks) (others : Position → List Instr → List Instr) → ((at' : Position) → Shaped (others at')) → max (suc d) (top_branches (suc d) bs) ≤ size →
+        BranchesFit P.functions (length P.constants) most n bs → All (PlaceFits P far d) ps → Labelled at labels → Puts others → Typed m ls rs labels (Of I32 ∷ ts) rest us → Typed m ls rs labels ts (empties P ps d at c some bs others rest) us
+    t_empties n d ps at c some BNil others fo le fit h l o k = o at _ _ _ _ l k
+    t_empties n d ps at c some (BCons zero t bs) others fo le fit h l o k =
+        t_arm (some || some_branches bs) {branch = λ at'. code P ps (suc d) at' t} {behind = λ at'. empties P ps d at' (suc c) some bs others} at (λ at'. shaped_code P ps (suc d) at' t) (λ at'. shaped_empties P ps d at' (suc c) some bs others fo) (t_empty_test d c (omega arith))
+        (λ at' labels ts us rest l' k'. t_code (0 + n) (suc d) ps at' t (omega arith) fit.1 (places_up P far d (suc d) (omega arith) ps h) l' k')
+        (λ at' labels ts us rest l' k'. t_empties n d ps at' (suc c) some bs others fo (omega arith) fit.2 h l' o k') l k
+    t_empties n d ps at c some (BCons (suc j) t bs) others fo le fit h l o k = t_empties n d ps at (suc c) some bs others fo (omega arith) fit.2 h l o k
 
     t_heads : {labels : List OperandTypes} {ts us : Operands} {rest : List Instr} (n d : ℕ) (ps : List Place) (at : Position) (c : ℕ) (bs : BranchBlocks) → max (suc d) (top_branches (suc d) bs) ≤ size → BranchesFit P.functions (length P.constants) most n bs → All (PlaceFits P far d) ps → Labelled at labels →
         Typed m ls rs labels (Of I32 ∷ ts) rest us → Typed m ls rs labels ts (heads P ps d at c bs rest) us
     t_heads n d ps at c BNil le fit h l k = unreachable k
     t_heads n d ps at c (BCons zero t bs) le fit h l k = t_heads n d ps at (suc c) bs (omega arith) fit.2 h l k
-    t_heads {labels} {ts = ts} n d ps at c (BCons (suc j) t bs) le fit h l k =
-        t_get (omega arith) (t_plain ts refl (t_plain (Of I32 ∷ ts) refl (t_plain ts refl (arms (shaped_code P (fields_of d (suc j) ps) (suc d) (deeper at) t) (shaped_heads P ps d (deeper at) (suc c) bs)
-        (t_code (suc j + n) (suc d) (fields_of d (suc j) ps) (deeper at) t (omega arith) fit.1 (fields_fit P far (suc d) d (suc j) ps (omega arith) (omega (arith, enough, fit.0)) (places_up P far d (suc d) (omega arith) ps h)) (labelled_deeper at labels (I32 ∷ []) l) done)
-        (t_heads n d ps (deeper at) (suc c) bs (omega arith) fit.2 h (labelled_deeper at labels (I32 ∷ []) l) done) k))))
+    t_heads n d ps at c (BCons (suc j) t bs) le fit h l k =
+        t_arm (some_heads bs) {branch = λ at'. code P (fields_of d (suc j) ps) (suc d) at' t} {behind = λ at'. heads P ps d at' (suc c) bs} at (λ at'. shaped_code P (fields_of d (suc j) ps) (suc d) at' t) (λ at'. shaped_heads P ps d at' (suc c) bs) (t_head_test d c (suc j) (omega arith))
+        (λ at' labels ts us rest l' k'. t_code (suc j + n) (suc d) (fields_of d (suc j) ps) at' t (omega arith) fit.1 (fields_fit P far (suc d) d (suc j) ps (omega arith) (omega (arith, enough, fit.0)) (places_up P far d (suc d) (omega arith) ps h)) l' k')
+        (λ at' labels ts us rest l' k'. t_heads n d ps at' (suc c) bs (omega arith) fit.2 h l' k') l k

@@ -22,13 +22,13 @@ use Rattle.wasm_emit.specs.EmittedModule.{type_main, type_constant, type_functio
 use Rattle.wasm_emit.specs.CallModule.{call_globals, call_exports}
 use Rattle.known_calls.specs.KnownPlaces.{At, InLocal, fields_of}
 use Rattle.known_calls.specs.KnownCode.{Inside, InTail, is_wide, worker_index, code}
-use Rattle.known_calls.specs.KnownModule.{words_type, params, captured_words, wide_body, stub_code, entry, worker_code, worker, worker_type, numbered, constant, main_function, module_with}
+use Rattle.known_calls.specs.KnownModule.{words_type, widest_worker, params, captured_words, wide_body, stub_code, entry, worker_code, worker, worker_type, numbered, constant, main_function, module_with}
 use Rattle.known_calls.specs.KnownCalls.{applied, call_function, module_of_call}
 use Rattle.known_calls.specs.KnownLaws.{KnownValid, CallsValid}
 use Rattle.known_calls.proofs.Shapes.{Shaped, shaped_code, shaped_op, shaped_captured, one, ◌then◌}
 use Rattle.known_calls.proofs.SameLocals.{worker_top}
 use Rattle.known_calls.proofs.Fitting.{fields_fit, params_fit}
-use Rattle.known_calls.proofs.KnownIndices.{narrow_few, type_of_words}
+use Rattle.known_calls.proofs.KnownIndices.{narrow_few, type_of_words, worker_low, widest_grows, words_types_length}
 use Rattle.known_calls.proofs.Outside.{same_length, globals_sound, segment_sound, exports_there, names_distinct, call_globals_sound, call_exports_there, call_names_distinct}
 use Rattle.known_calls.proofs.KnownTyped.{AllWords, all_i32, words_on, t_set, t_worker, t_op, t_code}
 
@@ -101,7 +101,7 @@ module _ (P : Program) (most : ℕ) (form : Formed P most) (main : Body) (gs : L
           let front = (shaped_code P (params i) i (InTail g 0) fn.body).front in
           record {
             type = words_type fn.captured;
-            found = type_of_words P main gs es pages fn.captured (narrow_few fn narrow);
+            found = type_of_words P main gs es pages g fn at narrow;
             typed = record {
               body = Loop (Value I32) ∷ (inner ++ End ∷ []);
               ends = ap (λ (z : List Instr). Loop (Value I32) ∷ z) (front (End ∷ End ∷ []) ∙ sym (append_assoc inner (End ∷ []) (End ∷ [])));
@@ -189,25 +189,18 @@ module _ (P : Program) (most : ℕ) (form : Formed P most) (main : Body) (gs : L
       from_main (suc f) i b e d = numbered_all (λ g f. worker_type f) (worker P) 0 P.functions (λ g j x at is. worker_typed j x (same_number g j x at is)) f i b e d
 
   -- each function has one of the types
-  worker_low : (fn : Fn) → worker_type fn < 11
-  worker_low fn = either (is_wide fn) refl
-    where
-      either : (b : Bool) → is_wide fn ≡ b → (if b then 0 else suc (suc (suc fn.captured))) < 11
-      either true wide = omega arith
-      either false narrow = omega (arith, narrow_few fn narrow)
-
-  workers_low : (from : ℕ) (fs : List Fn) (f index : ℕ) → slice_get (numbered (λ g f. worker_type f) from fs) f ≡ Some index → index < 11
+  workers_low : (from : ℕ) (fs : List Fn) (f index : ℕ) → slice_get (numbered (λ g f. worker_type f) from fs) f ≡ Some index → index < suc (suc (suc (widest_worker fs)))
   workers_low from [] f index e = no e
-  workers_low from (x ∷ xs) zero index e = let p : worker_type x ≡ index = inj e in omega (arith, p, worker_low x)
-  workers_low from (x ∷ xs) (suc f) index e = workers_low (suc from) xs f index e
+  workers_low from (x ∷ xs) zero index e = let p : worker_type x ≡ index = inj e in omega (arith, p, worker_low x xs)
+  workers_low from (x ∷ xs) (suc f) index e = omega (arith, workers_low (suc from) xs f index e, widest_grows x xs)
 
-  constants_low : (ys : List Block) (f index : ℕ) → slice_get (map (λ y. 1) ys ++ (0 ∷ numbered (λ g f. worker_type f) 0 P.functions)) f ≡ Some index → index < 11
+  constants_low : (ys : List Block) (f index : ℕ) → slice_get (map (λ y. 1) ys ++ (0 ∷ numbered (λ g f. worker_type f) 0 P.functions)) f ≡ Some index → index < suc (suc (suc (widest_worker P.functions)))
   constants_low [] zero index e = let p : 0 ≡ index = inj e in omega (arith, p)
   constants_low [] (suc f) index e = workers_low 0 P.functions f index e
   constants_low (y ∷ ys) zero index e = let p : 1 ≡ index = inj e in omega (arith, p)
   constants_low (y ∷ ys) (suc f) index e = constants_low ys f index e
 
-  entries_low : (from : ℕ) (xs : List Fn) (f index : ℕ) → slice_get (numbered (λ g f. 2) from xs ++ (map (λ y. 1) P.constants ++ (0 ∷ numbered (λ g f. worker_type f) 0 P.functions))) f ≡ Some index → index < 11
+  entries_low : (from : ℕ) (xs : List Fn) (f index : ℕ) → slice_get (numbered (λ g f. 2) from xs ++ (map (λ y. 1) P.constants ++ (0 ∷ numbered (λ g f. worker_type f) 0 P.functions))) f ≡ Some index → index < suc (suc (suc (widest_worker P.functions)))
   entries_low from [] f index e = constants_low P.constants f index e
   entries_low from (x ∷ xs) zero index e = let p : 2 ≡ index = inj e in omega (arith, p)
   entries_low from (x ∷ xs) (suc f) index e = entries_low (suc from) xs f index e
@@ -215,7 +208,7 @@ module _ (P : Program) (most : ℕ) (form : Formed P most) (main : Body) (gs : L
   funcs_sound : IsSound Functions M
   funcs_sound zero index e = let p : 0 ≡ index = inj e in omega (arith, p)
   funcs_sound (suc zero) index e = let p : 2 ≡ index = inj e in omega (arith, p)
-  funcs_sound (suc (suc f)) index e = entries_low 0 P.functions f index e
+  funcs_sound (suc (suc f)) index e = omega (arith, entries_low 0 P.functions f index e, words_types_length 0 (widest_worker P.functions))
 
   pub all_sound : 0 < pages → pages ≤ 16384 → IsSound Globals M → DistinctNames M.exports → EachIsThere M → AllSound M
   all_sound pos small globals names there Functions = funcs_sound

@@ -1,6 +1,6 @@
 -- What holds of all emitted code: it stands in front of the rest, all its brackets are closed, and it sets the status only from a test of a grow.
 use Rattle.std.proofs.Common.{◌≡◌, ℕ, zero, suc, ◌+◌, ◌*◌, List, [], ◌∷◌, ◌++◌, length, Option, Some, None, Bool, true, false, refl, ap, sym, ◌∙◌, append_assoc, arith}
-use Rattle.std.specs.Prelude.{if◌then◌else◌}
+use Rattle.std.specs.Prelude.{if◌then◌else◌, ◌||◌}
 use Rattle.wasm_core.specs.declared.instrs.Instr.{Instr}
 use Rattle.wasm_core.specs.declared.instrs.Instr.TheVariants.{Unreachable, Else, End, Br, Call, LocalGet, LocalSet, LocalTee, GlobalGet, GlobalSet, I32 as Operation}
 use Rattle.wasm_core.specs.declared.instrs.I32Op.TheVariants as op32
@@ -9,7 +9,7 @@ use Rattle.anf_convert.specs.declared.program.Atom.{Atom}
 use Rattle.closure_lift.specs.Lifted.{Op, OConst, OApp, OCon, OClos, OCase, Block, RetAtom, LetAtom, Ret, Let, BranchBlocks, BNil, BCons, Program}
 use Rattle.wasm_emit.specs.EmittedCode.{Load, StoreWord, ConstWord, IfWord, CallClosure, constant_index, ensure_room}
 use Rattle.known_calls.specs.KnownPlaces.{Word, InLocal, InField, IsConst, Place, At, fields_of, word_of, known_function}
-use Rattle.known_calls.specs.KnownCode.{Position, Inside, InTail, deeper, read_word, read, atom, push_words, fill, block, into_params, worker_index, jumps, call_worker, application, choose, unmade, op, code, empties, heads}
+use Rattle.known_calls.specs.KnownCode.{Position, Inside, InTail, deeper, read_word, read, atom, push_words, fill, new_block, block, into_local, into_params, worker_index, jumps, call_worker, application, some_heads, some_branches, empty_test, head_test, arm, choose, unmade, op, code, empties, heads}
 use Rattle.known_calls.specs.KnownModule.{captured_words}
 use Rattle.wasm_emit.proofs.Honest.{Wary, w_cons, NotStatus}
 
@@ -79,10 +79,20 @@ shaped_room = record {
   wary = λ w. w_cons tt (w_cons tt (w_cons tt (w_cons tt (w_cons tt (w_cons tt (w_cons tt (w_cons tt w)))))));
 }
 
-shaped_block : (env : List Place) (d header : ℕ) (as' : List Atom) → Shaped (block env d header as')
-shaped_block env d header as' =
+shaped_new_block : (env : List Place) (d header : ℕ) (as' : List Atom) → Shaped (new_block env d header as')
+shaped_new_block env d header as' =
     one (GlobalGet 2) refl tt then (one (LocalTee d) refl tt then (one (ConstWord (4 * suc (length as'))) refl tt then (one (Operation op32.Add) refl tt then (one (GlobalSet 2) refl (λ z. omega arith) then (shaped_room
-    then (one (LocalGet d) refl tt then (one (ConstWord header) refl tt then (one (StoreWord 0) refl tt then (shaped_fill env d as' then one (LocalGet d) refl tt)))))))))
+    then (one (LocalGet d) refl tt then (one (ConstWord header) refl tt then (one (StoreWord 0) refl tt then shaped_fill env d as'))))))))
+
+shaped_block : (env : List Place) (d header : ℕ) (as' : List Atom) → Shaped (block env d header as')
+shaped_block env d header as' = shaped_new_block env d header as' then one (LocalGet d) refl tt
+
+shaped_bind : (env : List Place) (d : ℕ) (x : Op) {g : List Instr → List Instr} → Shaped g → Shaped (into_local env d x g)
+shaped_bind env d (OCon c as') y = shaped_new_block env d _ as'
+shaped_bind env d (OClos h as') y = shaped_new_block env d _ as'
+shaped_bind env d (OConst x) y = y then one (LocalSet d) refl tt
+shaped_bind env d (OApp f a) y = y then one (LocalSet d) refl tt
+shaped_bind env d (OCase a bs) y = y then one (LocalSet d) refl tt
 
 shaped_params : (n : ℕ) → Shaped (into_params n)
 shaped_params zero = one (LocalSet 0) refl tt
@@ -91,6 +101,16 @@ shaped_params (suc n) = one (LocalSet (suc n)) refl tt then shaped_params n
 pub shaped_captured : (n : ℕ) → Shaped (captured_words n)
 shaped_captured zero = same_shaped
 shaped_captured (suc n) = shaped_captured n then (one (LocalGet 0) refl tt then one (Load (4 * suc n)) refl tt)
+
+shaped_empty_test : (d c : ℕ) → Shaped (empty_test d c)
+shaped_empty_test d c = one (LocalGet d) refl tt then (one (ConstWord (2 * c + 1)) refl tt then one (Operation op32.Eq) refl tt)
+
+shaped_head_test : (d c n : ℕ) → Shaped (head_test d c n)
+shaped_head_test d c n = one (LocalGet d) refl tt then (one (Load 0) refl tt then (one (ConstWord (n * 65536 + c)) refl tt then one (Operation op32.Eq) refl tt))
+
+shaped_arm : (b : Bool) {test : List Instr → List Instr} {branch behind : Position → List Instr → List Instr} (at : Position) → Shaped test → ((at' : Position) → Shaped (branch at')) → ((at' : Position) → Shaped (behind at')) → Shaped (arm b test branch behind at)
+shaped_arm true at t x y = t then arms (x (deeper at)) (y (deeper at))
+shaped_arm false at t x y = x at
 
 module _ (P : Program) where
   shaped_jump : (b : Bool) (g n depth : ℕ) → Shaped (λ r. if b then into_params n (Br depth ∷ r) else (Call (worker_index P g) ∷ r))
@@ -115,23 +135,23 @@ module _ (P : Program) where
     shaped_op env d at (OApp f a) = shaped_application env at f a (known_function env f)
     shaped_op env d at (OCon c as') = shaped_block env d _ as'
     shaped_op env d at (OClos g as') = shaped_block env d _ as'
-    shaped_op env d at (OCase a bs) = shaped_atom env a then (one (LocalSet d) refl tt then shaped_empties env d at 0 bs (λ at'. heads P env d at' 0 bs) (λ at'. shaped_heads env d at' 0 bs))
+    shaped_op env d at (OCase a bs) = shaped_atom env a then (one (LocalSet d) refl tt then shaped_empties env d at 0 (some_heads bs) bs (λ at'. heads P env d at' 0 bs) (λ at'. shaped_heads env d at' 0 bs))
 
     pub shaped_code : (env : List Place) (d : ℕ) (at : Position) (t : Block) → Shaped (code P env d at t)
     shaped_code env d at (RetAtom a) = shaped_atom env a
     shaped_code env d at (LetAtom a t) = shaped_atom env a then (one (LocalSet d) refl tt then shaped_code (At (InLocal d) ∷ env) (suc d) at t)
     shaped_code env d at (Ret x) = shaped_op env d at x
     shaped_code env d at (Let x t) =
-        shaped_choice (unmade P env x t) {g = λ q. code P (q ∷ env) d at t} (λ q. shaped_code (q ∷ env) d at t) (shaped_op env d Inside x then (one (LocalSet d) refl tt then shaped_code (At (InLocal d) ∷ env) (suc d) at t))
+        shaped_choice (unmade P env x t) {g = λ q. code P (q ∷ env) d at t} (λ q. shaped_code (q ∷ env) d at t) (shaped_bind env d x (shaped_op env d Inside x) then shaped_code (At (InLocal d) ∷ env) (suc d) at t)
 
-    pub shaped_empties : (env : List Place) (d : ℕ) (at : Position) (c : ℕ) (bs : BranchBlocks) (others : Position → List Instr → List Instr) → ((at' : Position) → Shaped (others at')) → Shaped (empties P env d at c bs others)
-    shaped_empties env d at c BNil others o = o at
-    shaped_empties env d at c (BCons zero t bs) others o =
-        one (LocalGet d) refl tt then (one (ConstWord (2 * c + 1)) refl tt then (one (Operation op32.Eq) refl tt then arms (shaped_code env (suc d) (deeper at) t) (shaped_empties env d (deeper at) (suc c) bs others o)))
-    shaped_empties env d at c (BCons (suc n) t bs) others o = shaped_empties env d at (suc c) bs others o
+    pub shaped_empties : (env : List Place) (d : ℕ) (at : Position) (c : ℕ) (some : Bool) (bs : BranchBlocks) (others : Position → List Instr → List Instr) → ((at' : Position) → Shaped (others at')) → Shaped (empties P env d at c some bs others)
+    shaped_empties env d at c some BNil others o = o at
+    shaped_empties env d at c some (BCons zero t bs) others o =
+        shaped_arm (some || some_branches bs) {branch = λ at'. code P env (suc d) at' t} {behind = λ at'. empties P env d at' (suc c) some bs others} at (shaped_empty_test d c) (λ at'. shaped_code env (suc d) at' t) (λ at'. shaped_empties env d at' (suc c) some bs others o)
+    shaped_empties env d at c some (BCons (suc n) t bs) others o = shaped_empties env d at (suc c) some bs others o
 
     pub shaped_heads : (env : List Place) (d : ℕ) (at : Position) (c : ℕ) (bs : BranchBlocks) → Shaped (heads P env d at c bs)
     shaped_heads env d at c BNil = one Unreachable refl tt
     shaped_heads env d at c (BCons zero t bs) = shaped_heads env d at (suc c) bs
     shaped_heads env d at c (BCons (suc n) t bs) =
-        one (LocalGet d) refl tt then (one (Load 0) refl tt then (one (ConstWord (suc n * 65536 + c)) refl tt then (one (Operation op32.Eq) refl tt then arms (shaped_code (fields_of d (suc n) env) (suc d) (deeper at) t) (shaped_heads env d (deeper at) (suc c) bs))))
+        shaped_arm (some_heads bs) {branch = λ at'. code P (fields_of d (suc n) env) (suc d) at' t} {behind = λ at'. heads P env d at' (suc c) bs} at (shaped_head_test d c (suc n)) (λ at'. shaped_code (fields_of d (suc n) env) (suc d) at' t) (λ at'. shaped_heads env d at' (suc c) bs)

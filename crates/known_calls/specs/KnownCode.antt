@@ -1,6 +1,6 @@
 -- The instructions of a block of a lifted program. A saturated call of a known function is a direct call of its worker, which takes the captured words and the argument as parameters; a worker's tail call of
 -- itself is a branch to its beginning; and a closure that is known, and read as a word nowhere, is made nowhere. Every other closure is made, and called through the table. Each function puts its instructions in front of `rest`.
-use Rattle.std.specs.Prelude.{ℕ, zero, suc, ◌+◌, ◌*◌, Bool, ◌&&◌, if◌then◌else◌, nat_eq, nat_le, List, [], ◌∷◌, length, Option, Some, None, slice_get}
+use Rattle.std.specs.Prelude.{ℕ, zero, suc, ◌+◌, ◌*◌, Bool, true, false, ◌&&◌, ◌||◌, if◌then◌else◌, nat_eq, nat_le, List, [], ◌∷◌, length, Option, Some, None, slice_get}
 use Rattle.std.specs.Option.{option_and_then}
 use Rattle.anf_convert.specs.declared.program.Atom.{Atom}
 use Rattle.closure_lift.specs.Lifted.{Op, OConst, OApp, OCon, OClos, OCase, Block, RetAtom, LetAtom, Ret, Let, BranchBlocks, BNil, BCons, Fn, Program}
@@ -81,10 +81,14 @@ abbrev pub fill : List Place → ℕ → List Atom → List Instr → List Instr
 fill env d [] rest = rest
 fill env d (a ∷ as') rest = LocalGet d ∷ atom env a (StoreWord (4 * suc (length as')) ∷ fill env d as' rest)
 
--- a block begins at the end of the heap, which moves past the block
+-- a block begins at the end of the heap, which moves past the block; its address comes into local d
+abbrev pub new_block : List Place → ℕ → ℕ → List Atom → List Instr → List Instr
+new_block env d header as' rest =
+    GlobalGet 2 ∷ LocalTee d ∷ ConstWord (4 * suc (length as')) ∷ Operation op32.Add ∷ GlobalSet 2 ∷ ensure_room (LocalGet d ∷ ConstWord header ∷ StoreWord 0 ∷ fill env d as' rest)
+
+-- and onto the operands
 abbrev pub block : List Place → ℕ → ℕ → List Atom → List Instr → List Instr
-block env d header as' rest =
-    GlobalGet 2 ∷ LocalTee d ∷ ConstWord (4 * suc (length as')) ∷ Operation op32.Add ∷ GlobalSet 2 ∷ ensure_room (LocalGet d ∷ ConstWord header ∷ StoreWord 0 ∷ fill env d as' (LocalGet d ∷ rest))
+block env d header as' rest = new_block env d header as' (LocalGet d ∷ rest)
 
 -- Calls.
 
@@ -114,10 +118,43 @@ abbrev pub application : Program → List Place → Position → Atom → Atom �
 application P env at f a None rest = atom env f (atom env a (atom env f (Load 0 ∷ CallClosure ∷ rest)))
 application P env at f a (Some k) rest = push_words k.1 (atom env a (call_worker P at k.0 (length k.1) rest))
 
+-- Matches.
+
+-- whether one of these branches has binders
+abbrev pub some_heads : BranchBlocks → Bool
+some_heads BNil = false
+some_heads (BCons zero t bs) = some_heads bs
+some_heads (BCons (suc n) t bs) = true
+
+-- whether there is a branch
+abbrev pub some_branches : BranchBlocks → Bool
+some_branches BNil = false
+some_branches (BCons n t bs) = true
+
+-- whether the word in local d is that of constructor c without arguments; or, where it is none of those, whether its block is of constructor c with n arguments
+abbrev pub empty_test : ℕ → ℕ → List Instr → List Instr
+empty_test d c rest = LocalGet d ∷ ConstWord (2 * c + 1) ∷ Operation op32.Eq ∷ rest
+
+abbrev pub head_test : ℕ → ℕ → ℕ → List Instr → List Instr
+head_test d c n rest = LocalGet d ∷ Load 0 ∷ ConstWord (n * 65536 + c) ∷ Operation op32.Eq ∷ rest
+
+-- A branch behind its test, in whose other arm the branches behind it stand. Where there is none behind it, it needs no test: where the evaluation goes on, the scrutinee's constructor has a branch.
+abbrev pub arm : Bool → (List Instr → List Instr) → (Position → List Instr → List Instr) → (Position → List Instr → List Instr) → Position → List Instr → List Instr
+arm true test branch behind at rest = test (IfWord ∷ branch (deeper at) (Else ∷ behind (deeper at) (End ∷ rest)))
+arm false test branch behind at rest = branch at rest
+
 -- a binding that needs no code, or one that has code
 abbrev pub choose : Option Place → (Place → List Instr) → List Instr → List Instr
 choose None known_code made_code = made_code
 choose (Some q) known_code made_code = known_code q
+
+-- the word of an operation comes into local d: that of a new block is there, another one comes from the operands
+abbrev pub into_local : List Place → ℕ → Op → (List Instr → List Instr) → List Instr → List Instr
+into_local env d (OCon c as') made rest = new_block env d (length as' * 65536 + c) as' rest
+into_local env d (OClos g as') made rest = new_block env d (suc g) as' rest
+into_local env d (OConst x) made rest = made (LocalSet d ∷ rest)
+into_local env d (OApp f a) made rest = made (LocalSet d ∷ rest)
+into_local env d (OCase a bs) made rest = made (LocalSet d ∷ rest)
 
 module _ (P : Program) where
   abbrev mutual
@@ -126,23 +163,22 @@ module _ (P : Program) where
     op env d at (OApp f a) rest = application P env at f a (known_function env f) rest
     op env d at (OCon c as') rest = block env d (length as' * 65536 + c) as' rest
     op env d at (OClos g as') rest = block env d (suc g) as' rest
-    op env d at (OCase a bs) rest = atom env a (LocalSet d ∷ empties env d at 0 bs (λ at'. heads env d at' 0 bs) rest)
+    op env d at (OCase a bs) rest = atom env a (LocalSet d ∷ empties env d at 0 (some_heads bs) bs (λ at'. heads env d at' 0 bs) rest)
 
     pub code : List Place → ℕ → Position → Block → List Instr → List Instr
     code env d at (RetAtom a) rest = atom env a rest
     code env d at (LetAtom a t) rest = atom env a (LocalSet d ∷ code (At (InLocal d) ∷ env) (suc d) at t rest)
     code env d at (Ret p) rest = op env d at p rest
-    code env d at (Let p t) rest = choose (unmade P env p t) (λ q. code (q ∷ env) d at t rest) (op env d Inside p (LocalSet d ∷ code (At (InLocal d) ∷ env) (suc d) at t rest))
+    code env d at (Let p t) rest = choose (unmade P env p t) (λ q. code (q ∷ env) d at t rest) (into_local env d p (op env d Inside p) (code (At (InLocal d) ∷ env) (suc d) at t rest))
 
-    -- the branches without binders, and then `others`
-    pub empties : List Place → ℕ → Position → ℕ → BranchBlocks → (Position → List Instr → List Instr) → List Instr → List Instr
-    empties env d at c BNil others rest = others at rest
-    empties env d at c (BCons zero t bs) others rest = LocalGet d ∷ ConstWord (2 * c + 1) ∷ Operation op32.Eq ∷ IfWord ∷ code env (suc d) (deeper at) t (Else ∷ empties env d (deeper at) (suc c) bs others (End ∷ rest))
-    empties env d at c (BCons (suc n) t bs) others rest = empties env d at (suc c) bs others rest
+    -- the branches without binders, and then `others`, those with binders, of which the match has some or none
+    pub empties : List Place → ℕ → Position → ℕ → Bool → BranchBlocks → (Position → List Instr → List Instr) → List Instr → List Instr
+    empties env d at c some BNil others rest = others at rest
+    empties env d at c some (BCons zero t bs) others rest = arm (some || some_branches bs) (empty_test d c) (λ at'. code env (suc d) at' t) (λ at'. empties env d at' (suc c) some bs others) at rest
+    empties env d at c some (BCons (suc n) t bs) others rest = empties env d at (suc c) some bs others rest
 
     -- the branches with binders
     pub heads : List Place → ℕ → Position → ℕ → BranchBlocks → List Instr → List Instr
     heads env d at c BNil rest = Unreachable ∷ rest
     heads env d at c (BCons zero t bs) rest = heads env d at (suc c) bs rest
-    heads env d at c (BCons (suc n) t bs) rest =
-        LocalGet d ∷ Load 0 ∷ ConstWord (suc n * 65536 + c) ∷ Operation op32.Eq ∷ IfWord ∷ code (fields_of d (suc n) env) (suc d) (deeper at) t (Else ∷ heads env d (deeper at) (suc c) bs (End ∷ rest))
+    heads env d at c (BCons (suc n) t bs) rest = arm (some_heads bs) (head_test d c (suc n)) (λ at'. code (fields_of d (suc n) env) (suc d) at' t) (λ at'. heads env d at' (suc c) bs) at rest

@@ -1,13 +1,12 @@
 -- The parts of a module with workers, in the pieces in which emission makes them.
-use Rattle.std.specs.Prelude.{ℕ, zero, suc, List, [], ◌∷◌, ◌++◌, map}
+use Rattle.std.specs.Prelude.{ℕ, List, [], ◌∷◌, ◌++◌, map}
 use Rattle.closure_lift.specs.Lifted.{Fn, Program}
-use Rattle.wasm_core.specs.declared.types.FuncType.{FuncType}
 use Rattle.wasm_core.specs.declared.types.GlobalDef.{GlobalDef}
 use Rattle.wasm_core.specs.declared.exports.Export.{Export}
 use Rattle.wasm_core.specs.declared.instrs.Body.{Body}
 use Rattle.wasm_core.specs.Parts.{Parts}
 use Rattle.wasm_emit.specs.EmittedModule.{room_function, box_function}
-use Rattle.known_calls.specs.KnownModule.{words_type, entry, worker, worker_type, numbered, constant, in_order, module_of}
+use Rattle.known_calls.specs.KnownModule.{entry, worker, worker_type, numbered, constant, in_order, module_of}
 
 -- the bodies of the functions before main, in the order of their indices
 abbrev pub bodies_before_main : Program → List Body
@@ -16,11 +15,6 @@ bodies_before_main P = room_function ∷ box_function ∷ (numbered (entry P) 0 
 -- the bodies of all functions, with this one for main
 abbrev pub bodies_with : Program → Body → List Body
 bodies_with P main = room_function ∷ box_function ∷ in_order P (entry P) (constant P) main (worker P)
-
--- the types of n workers, from k captured words on
-abbrev pub words_types : ℕ → ℕ → List FuncType
-words_types k zero = []
-words_types k (suc n) = words_type k ∷ words_types (suc k) n
 
 -- the numbers of the workers' types
 abbrev pub worker_types : List Fn → List ℕ

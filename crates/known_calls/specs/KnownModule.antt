@@ -1,5 +1,5 @@
 -- The module of a lifted program with workers: two functions of the run time, an entry for each function of the program, which calls of closures come to, its constants, main, and a worker for each function.
-use Rattle.std.specs.Prelude.{ℕ, zero, suc, ◌-◌, ◌*◌, if◌then◌else◌, List, [], ◌∷◌, ◌++◌, length, map, replicate, Some, codes}
+use Rattle.std.specs.Prelude.{ℕ, zero, suc, ◌-◌, ◌*◌, if◌then◌else◌, List, [], ◌∷◌, ◌++◌, length, map, max, replicate, Some, codes}
 use Rattle.closure_lift.specs.Lifted.{Block, Fn, Program}
 use Rattle.wasm_core.specs.declared.types.ValType.TheVariants as type
 use Rattle.wasm_core.specs.declared.types.FuncType.{FuncType}
@@ -20,6 +20,16 @@ use Rattle.known_calls.specs.KnownCode.{is_wide, worker_index, Inside, InTail, c
 -- the type of a worker of n captured words
 abbrev pub words_type : ℕ → FuncType
 words_type n = record { params = replicate (suc n) type.I32; result = Some type.I32 }
+
+-- the types of n workers, from k captured words on
+abbrev pub words_types : ℕ → ℕ → List FuncType
+words_types k zero = []
+words_types k (suc n) = words_type k ∷ words_types (suc k) n
+
+-- how many there are: up to that of the worker with the most captured words
+abbrev pub widest_worker : List Fn → ℕ
+widest_worker [] = 0
+widest_worker (f ∷ fs) = if is_wide f then widest_worker fs else max (suc f.captured) (widest_worker fs)
 
 -- a worker's variables: the argument, which is its last parameter, and the captured words, the last one first
 abbrev pub params : ℕ → List Place
@@ -71,7 +81,7 @@ in_order P of_entry of_constant of_main of_worker = numbered of_entry 0 P.functi
 -- the module with this main, with further globals and exports, whose memory may have at most so many pages
 abbrev pub module_with : Program → Body → List GlobalDef → List Export → ℕ → Parts
 module_with P main gs es pages = record {
-  types = type_main ∷ type_constant ∷ type_function ∷ words_type 0 ∷ words_type 1 ∷ words_type 2 ∷ words_type 3 ∷ words_type 4 ∷ words_type 5 ∷ words_type 6 ∷ words_type 7 ∷ [];
+  types = type_main ∷ type_constant ∷ type_function ∷ words_types 0 (widest_worker P.functions);
   funcs = 0 ∷ 2 ∷ in_order P (λ g f. 2) (λ t. 1) 0 (λ g f. worker_type f);
   table = Some (record { min = suc (length P.functions); max = Some (suc (length P.functions)) });
   memory = Some (record { min = 1; max = Some pages });

@@ -1,5 +1,5 @@
 //! The module of a lifted program, with workers.
-ghost use Rattle.std.specs.Prelude.{◌≡◌, ◌+◌, ◌++◌, ◌∷◌, ◌≤◌, [], if◌then◌else◌, IfOk, IfErr, OnOk, length, nat_le};
+ghost use Rattle.std.specs.Prelude.{◌≡◌, ◌+◌, ◌++◌, ◌∷◌, ◌≤◌, [], if◌then◌else◌, IfOk, IfErr, OnOk, length, max, nat_le, suc};
 ghost use Rattle.closure_lift.specs.LiftedProgram.{lifted_of};
 ghost use Rattle.wasm_core.specs.ModuleCondition.{IsModule};
 ghost use Rattle.wasm_core.specs.ModuleTyping.{IsValid};
@@ -8,8 +8,8 @@ ghost use Rattle.wasm_emit.specs.EmittedBodies.{FewLocals, MemoryOrNot};
 ghost use Rattle.wasm_emit.specs.EmittedModule.{type_main, type_constant, type_function};
 ghost use Rattle.wasm_emit.specs.declared.fault.EmitFault.TheVariants.{Memory};
 ghost use Rattle.known_calls.specs.KnownCalls.{module_of_call};
-ghost use Rattle.known_calls.specs.KnownEmission.{parts_with, words_types, worker_types};
-ghost use Rattle.known_calls.specs.KnownModule.{module_of};
+ghost use Rattle.known_calls.specs.KnownEmission.{parts_with, worker_types};
+ghost use Rattle.known_calls.specs.KnownModule.{module_of, widest_worker as widest, words_types};
 
 use crate::bodies::{all_bodies, all_call_bodies, is_wide};
 use closure_lift::program::{Function, Lifted};
@@ -36,16 +36,38 @@ fn push_words_types(alloc: Global, types: &mut Vec<FuncType>, n: u32) -> Result<
     Ok(())
 }
 
+/// How many types workers have: one more than the most captured words of one, 0 where there is none.
+fn widest_worker(p: &Lifted) -> u32
+    ensures is { result ≡ widest ((lifted_of p.now).functions) }
+{
+    let mut most = 0;
+    for f in p.functions.as_slice() {
+        most = wider(f, most);
+    }
+    most
+}
+
+/// So many types, or those up to that of the function's worker where these are more.
+fn wider(f: &Function, most: u32) -> u32
+    ensures is { result ≡ (if nat_le 8 f.now.captured then most else max (suc f.now.captured) most) }
+{
+    if is_wide(f) {
+        most
+    } else {
+        (f.captured + 1).max(most)
+    }
+}
+
 /// The types of main and of the function that makes room, of a constant's function, of the entries, and of the workers by their captured words.
-fn types_of(alloc: Global) -> Result<FuncTypes, EmitFault>
-    ensures is { IfOk result (λ ts. ts ≡ type_main ∷ type_constant ∷ type_function ∷ words_types 0 8) }
+fn types_of(alloc: Global, p: &Lifted) -> Result<FuncTypes, EmitFault>
+    ensures is { IfOk result (λ ts. ts ≡ type_main ∷ type_constant ∷ type_function ∷ words_types 0 (widest ((lifted_of p.now).functions))) }
     ensures only_memory { IfErr result (λ e. e ≡ Memory) }
 {
     let main = type_of(alloc, 0, None)?;
     let constant = type_of(alloc, 0, Some(ValType::I32))?;
     let function = type_of(alloc, 2, Some(ValType::I32))?;
     let mut items = vec![in alloc; main, constant, function]?;
-    push_words_types(alloc, &mut items, 8)?;
+    push_words_types(alloc, &mut items, widest_worker(p))?;
     Ok(FuncTypes::of(items))
 }
 
@@ -95,7 +117,7 @@ fn assembled(
     ensures only_memory { IfErr result (λ e. e ≡ Memory) }
 {
     let entries = entry_count(p);
-    let types = types_of(alloc)?;
+    let types = types_of(alloc, p)?;
     let funcs = funcs_of(alloc, p)?;
     let elements = elements_of(alloc, entries)?;
     let table = Limits {

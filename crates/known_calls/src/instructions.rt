@@ -2,7 +2,7 @@
 ghost use Rattle.std.specs.Prelude.{◌≡◌, ◌∷◌, IfErr, OnOk, reverse};
 ghost use Rattle.wasm_emit.specs.Pushed.{Pushed};
 ghost use Rattle.wasm_emit.specs.declared.fault.EmitFault.TheVariants.{Memory};
-ghost use Rattle.known_calls.specs.KnownCode.{read_word, read, atom, push_words as words_code, fill, block, into_params};
+ghost use Rattle.known_calls.specs.KnownCode.{read_word, read, atom, push_words as words_code, fill, new_block, into_params};
 ghost use Rattle.known_calls.specs.KnownModule.{captured_words};
 
 use crate::closures::word_of;
@@ -82,7 +82,7 @@ fn push_fields(
     Ok(())
 }
 
-/// Makes a block of a header and the words of atoms, puts its address into local d and on the operands. Only `Memory`.
+/// Makes a block of a header and the words of atoms, and puts its address into local d. Only `Memory`.
 pub(crate) fn push_new_block(
     places: &[Place],
     d: u32,
@@ -90,7 +90,7 @@ pub(crate) fn push_new_block(
     atoms: &Atoms,
     out: &mut Vec<Instr>,
 ) -> Result<(), EmitFault>
-    ensures pushed { OnOk result (Pushed out.old.items out.new.items (block (reverse places.now) d header atoms.now)) }
+    ensures pushed { OnOk result (Pushed out.old.items out.new.items (new_block (reverse places.now) d header atoms.now)) }
     ensures only_memory { IfErr result (λ e. e ≡ Memory) }
 {
     let Some(words) = atoms.len().checked_add(1) else {
@@ -101,8 +101,7 @@ pub(crate) fn push_new_block(
     push(out, Instr::LocalGet(d))?;
     push(out, Instr::I32Const(header))?;
     push_store(out, 0)?;
-    push_fields(places, d, atoms, out)?;
-    push(out, Instr::LocalGet(d))
+    push_fields(places, d, atoms, out)
 }
 
 /// The operands become the first n + 1 locals. Only `Memory`.

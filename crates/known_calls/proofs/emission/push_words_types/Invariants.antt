@@ -1,5 +1,5 @@
 use Rattle.std.proofs.Common.{◌≡◌, ◌-◌, ◌≤◌, ◌++◌}
-use Rattle.known_calls.specs.KnownEmission.{words_types}
+use Rattle.known_calls.specs.KnownModule.{words_types}
 use Rattle.known_calls.proofs.emission.push_words_types.Given as goal
 
 abbrev pub invariant-loop-k : goal.invariant-loop-k
