@@ -35,7 +35,7 @@ use Rattle.cert_rules.proofs.SoundBlocks.{block_sound}
 -- one declaration more
 
 module _ (cert : Items) (levels : ℕ) (cs : List Constraint) (q : Test) (test : IsTest levels cs q) where
-  abbrev AcceptedSoFar : List Kept → Type 0
+  abbrev pub AcceptedSoFar : List Kept → Type 0
   AcceptedSoFar ds = Accepted levels cs ds × HasCountedDeclarations (env levels cs ds)
 
   record BodyIs (E : Env) (T : Term) (b : Option Term) : Type 0 where
@@ -49,7 +49,7 @@ module _ (cert : Items) (levels : ℕ) (cs : List Constraint) (q : Test) (test :
       let c = check_sound cert E w (walk_infer cert E q n) (infer_sound cert E w q t n) (script cert E q n) (script_sound E q t cert n) [] b T u v tt fb fT h in
       record { fits = c.0; all = c.1 }
 
-  constant_sound : (ds : List Kept) → AcceptedSoFar ds → (n : ℕ) (k : Name) (T : Term) (b : Option Term) (e : Kept) (u v : Stand) → IsFresh k ds → IsFormed T → BodyFormed b →
+  pub constant_sound : (ds : List Kept) → AcceptedSoFar ds → (n : ℕ) (k : Name) (T : Term) (b : Option Term) (e : Kept) (u v : Stand) → IsFresh k ds → IsFormed T → BodyFormed b →
       (walk_constant cert (env levels cs ds) q n k T b u).end ≡ Passed e v → IsCheckedDeclaration levels cs ds (GivenConstant k T b) e
   constant_sound ds a n k T b e u v fresh fT fb h =
       let E : Env = env levels cs ds in
@@ -66,7 +66,7 @@ module _ (cert : Items) (levels : ℕ) (cs : List Constraint) (q : Test) (test :
         same = refl;
       })
 
-  declaration_sound : (ds : List Kept) → AcceptedSoFar ds → (n : ℕ) (d : Given) (e : Kept) (u v : Stand) → GivenFormed d →
+  pub declaration_sound : (ds : List Kept) → AcceptedSoFar ds → (n : ℕ) (d : Given) (e : Kept) (u v : Stand) → GivenFormed d →
       (walk_declaration cert (env levels cs ds) q n d u).end ≡ Passed e v → IsCheckedDeclaration levels cs ds d e
   declaration_sound ds a n (GivenConstant k T b) e u v f h =
       let E : Env = env levels cs ds in

@@ -34,15 +34,15 @@ use Rattle.cert_rules.proofs.SoundSimple.{Infers, sort_sound, check_sound}
 
 module _ (cert : Items) (E : Env) (w : HasCountedDeclarations E) (inf : Walking) (si : Infers E inf) where
   -- the types of the definitions
-  record AreTypes (c : Context) (n : ℕ) (types : Terms) : Type 0 where
-    sorts : Sorts guarded E c n types
-    all : EachTerm (IsCountedNode E) types
-    context : IsCountedContext E (definitions c n types)
+  pub record AreTypes (c : Context) (n : ℕ) (types : Terms) : Type 0 where
+    pub sorts : Sorts guarded E c n types
+    pub all : EachTerm (IsCountedNode E) types
+    pub context : IsCountedContext E (definitions c n types)
 
   next_types : (c : Context) (n m : ℕ) (T : Term) (ts : Terms) → m ≡ 0 → AreTypes c n (Next 0 T ts) → AreTypes c n (Next m T ts)
   next_types c n m T ts e h = subst (λ m. AreTypes c n (Next m T ts)) (sym e) h
 
-  types_sound : (c : Context) (n : ℕ) (types : Terms) (u v : Stand) → IsCountedContext E c → AreAll 0 (binders_of types) → EachTerm HasForm types →
+  pub types_sound : (c : Context) (n : ℕ) (types : Terms) (u v : Stand) → IsCountedContext E c → AreAll 0 (binders_of types) → EachTerm HasForm types →
       (walk_types cert E inf c n (list_of types) u).end ≡ Passed tt v → AreTypes c n types
   unfolding walk_types
   types_sound c n Done u v k a f h = record { sorts = no_types; all = tt; context = k }
@@ -55,10 +55,10 @@ module _ (cert : Items) (E : Env) (w : HasCountedDeclarations E) (inf : Walking)
       next_types c n m T ts a.0 (record { sorts = a_type s.0 r.sorts; all = (before_shift E n 0 T s.1, r.all); context = r.context })
 
   module _ (cmp : Script) (sc : Shows E cmp) where
-    record AreBodies (c : Context) (n : ℕ) (rargs : List ℕ) (types bodies : Terms) : Type 0 where
-      typed : Bodies guarded E c n rargs types bodies
-      all : EachTerm (IsCountedNode E) bodies
-      begin : HaveLambdas rargs bodies
+    pub record AreBodies (c : Context) (n : ℕ) (rargs : List ℕ) (types bodies : Terms) : Type 0 where
+      pub typed : Bodies guarded E c n rargs types bodies
+      pub all : EachTerm (IsCountedNode E) bodies
+      pub begin : HaveLambdas rargs bodies
 
     record IsDefinition (c : Context) (n rarg : ℕ) (T body : Term) : Type 0 where
       recursive : Recurses E (values c) rarg body
@@ -100,7 +100,7 @@ module _ (cert : Items) (E : Env) (w : HasCountedDeclarations E) (inf : Walking)
         subst (λ m. AreBodies c n (r ∷ rargs) (Next m T ts) (Next m' body bs)) (sym e)
         (subst (λ m. AreBodies c n (r ∷ rargs) (Next 0 T ts) (Next m body bs)) (sym e') h)
 
-    bodies_sound : (c : Context) (n d : ℕ) (rargs : List ℕ) (types bodies : Terms) (u v : Stand) → IsCountedContext E c → AreAll 0 (binders_of types) → AreAll n (binders_of bodies) →
+    pub bodies_sound : (c : Context) (n d : ℕ) (rargs : List ℕ) (types bodies : Terms) (u v : Stand) → IsCountedContext E c → AreAll 0 (binders_of types) → AreAll n (binders_of bodies) →
         length (binders_of types) ≡ length rargs → length (binders_of bodies) ≡ length rargs → EachTerm (IsCountedNode E) types → EachTerm HasForm bodies →
         (walk_definitions cert E inf cmp c n d rargs (list_of types) (list_of bodies) u).end ≡ Passed tt v → AreBodies c n rargs types bodies
     unfolding walk_definitions

@@ -18,7 +18,7 @@ use Rattle.calculus_rules.specs.declared.entry.Entry.TheVariants.{Assumed, Defin
 use Rattle.pc_rules.specs.declared.meter.Meter.{Meter}
 use Rattle.rule_laws.proofs.KeepCounts.{steps_counted}
 use Rattle.cert_rules.specs.declared.item.CertItem.TheVariants.{Left, Right}
-use Rattle.cert_rules.specs.Walk.{Items, Stand, Walk, WalkEnd, WalkAct, Passed, Barred, Unpaid, Crowded, bar, past, end_on, deep_on, walk_on, walk_all}
+use Rattle.cert_rules.specs.Walk.{Items, Stand, Walk, WalkEnd, WalkAct, Passed, Barred, Unpaid, Crowded, past, end_on, deep_on, walk_on, walk_all}
 use Rattle.cert_rules.specs.WalkSteps.{walk_steps}
 use Rattle.cert_rules.specs.Scripts.{Script, parts_of, walk_parts, script_by, script}
 use Rattle.type_cert.specs.declared.halt.WalkHalt.{WalkHalt}
@@ -26,12 +26,17 @@ use Rattle.type_cert.specs.declared.halt.WalkHalt.TheVariants as walks
 use Rattle.type_cert.specs.declared.trail.Trail.{Trail}
 use Rattle.type_cert.specs.Retraces.{stand, WalkAnswers, Retraces}
 use Rattle.type_cert.specs.Comparable.{AreScriptable, leaf_answer}
-use Rattle.type_cert.proofs.Retracing.{retraces_on, retraces_err, retraces_pass, retraces_bar}
+use Rattle.type_cert.specs.Going.{script_steps}
+use Rattle.type_cert.proofs.Retracing.{retraces_on, retraces_err, retraces_pass, retraces_bar, nest_after}
 
 pub item_there : {A : Type 0} (xs : List A) (i : ℕ) (x : A) → slice_get xs i ≡ Some x → i < length xs
 item_there [] i x e = absurd (none_some e)
 item_there (y ∷ xs) zero x e = omega arith
 item_there (y ∷ xs) (suc i) x e = let l : i < length xs = item_there xs i x e in omega arith
+
+-- the trail behind one item
+abbrev pub further : Trail → Trail
+further t = record { meter = t.meter; at = t.at + 1 }
 
 -- a refusal leaves the trail as it is
 from_here : {A : Type 0} {d : Walk A} {i : ℕ} {t0 : Trail} → Retraces d (Err (walks.Barred i)) (record { meter = t0.meter; at = t0.at + 1 }) (record { meter = t0.meter; at = t0.at + 1 }) →
@@ -43,35 +48,33 @@ pub from_past : {A : Type 0} {d : Walk A} {r : Result A WalkHalt} {t0 t1 : Trail
 from_past p = record { answer = p.answer; after = p.after }
 
 module _ (E : Env) (q : Test) (go : Script) (V : Values) (equal : Bool) (a b : Term) (t0 : Trail) where
-  pub left_none : (n : ℕ) → n ≡ 0 → script_by E q go (Some (Left n)) V equal a b (stand t0) ≡ bar t0.at (stand t0)
-  left_none zero e = refl
-  left_none (suc n) e = absurd (omega arith)
+  pub left_item : (n : ℕ) → script_by E q go (Some (Left n)) V equal a b (stand t0) ≡ walk_on (script_steps E V n a (stand t0)) (λ x v. go V equal x b v)
+  unfolding walk_on
+  left_item zero = refl
+  left_item (suc n) = refl
 
-  pub right_none : (n : ℕ) → n ≡ 0 → script_by E q go (Some (Right n)) V equal a b (stand t0) ≡ bar t0.at (stand t0)
-  right_none zero e = refl
-  right_none (suc n) e = absurd (omega arith)
+  pub right_item : (n : ℕ) → script_by E q go (Some (Right n)) V equal a b (stand t0) ≡ walk_on (script_steps E V n b (stand t0)) (λ y v. go V equal a y v)
+  unfolding walk_on
+  right_item zero = refl
+  right_item (suc n) = refl
 
-  pub left_goes : (n : ℕ) → 0 < n → script_by E q go (Some (Left n)) V equal a b (stand t0) ≡ walk_on (walk_steps E V t0.at n a (past (stand t0))) (λ x v. go V equal x b v)
-  left_goes zero h = absurd (omega arith)
-  left_goes (suc n) h = refl
+-- the steps for which an item of a script asks
 
-  pub right_goes : (n : ℕ) → 0 < n → script_by E q go (Some (Right n)) V equal a b (stand t0) ≡ walk_on (walk_steps E V t0.at n b (past (stand t0))) (λ y v. go V equal a y v)
-  right_goes zero h = absurd (omega arith)
-  right_goes (suc n) h = refl
+module _ (E : Env) (V : Values) (t : Term) where
+  pub no_script_steps : (n : ℕ) (t0 : Trail) → n ≡ 0 → Retraces (script_steps E V n t (stand t0)) (Err (walks.Barred t0.at)) t0 t0
+  no_script_steps zero t0 e = retraces_bar t0.at t0
+  no_script_steps (suc n) t0 e = absurd (omega arith)
+
+  pub some_script_steps : (n : ℕ) (u : Term) (r : Result Term WalkHalt) (t0 t1 : Trail) → 0 < n → u ≡ t → Retraces (walk_steps E V t0.at n u (stand (further t0))) r (further t0) t1 →
+      Retraces (script_steps E V n t (stand t0)) r t0 t1
+  some_script_steps zero u r t0 t1 h e p = absurd (omega arith)
+  some_script_steps (suc n) u r t0 t1 h e p = from_past (subst (λ x. Retraces (walk_steps E V t0.at (suc n) x (stand (further t0))) r (further t0) t1) e p)
 
 -- the walk is another by an equation
 pub retraces_is : {A : Type 0} {d e : Walk A} {r : Result A WalkHalt} {t0 t1 : Trail} → d ≡ e → Retraces e r t0 t1 → Retraces d r t0 t1
 retraces_is {r = r} {t0 = t0} {t1 = t1} p h = subst (λ d. Retraces d r t0 t1) (sym p) h
 
 -- a nested rule
-
-nest_after : (m0 m1 m2 m3 : Trail) → m1.meter.nest ≡ m0.meter.nest + 1 → m1.meter.account ≡ m0.meter.account → IsAfter m1.meter m2.meter → m3.meter.account ≡ m2.meter.account →
-    m3.meter.nest ≡ m2.meter.nest - 1 → IsAfter m0.meter m3.meter
-nest_after m0 m1 m2 m3 n e f e' n' = record {
-  nest = (let g = f.nest in omega arith);
-  left = rw e' (omega (arith, f.left, ap (λ u. u.left) e));
-  uses = λ i. rw e' (let x = f.uses i in rw e at x);
-}
 
 module _ (cert : Items) (E : Env) (q : Test) (V : Values) (equal : Bool) (a b : Term) where
   pub script_nested : (n : ℕ) (t0 t1 : Trail) → n ≡ 0 → IsAfter t0.meter t1.meter → Retraces (script cert E q n V equal a b (stand t0)) (Err (walks.Stop TooDeep)) t0 t1
@@ -124,10 +127,6 @@ parts_go : (x y : WalkAct) (t0 t1 t2 : Trail) (r : Result (Unit {0}) WalkHalt) �
     Retraces (walk_all (x ∷ y ∷ []) (stand t0)) r t0 t2
 unfolding walk_all
 parts_go x y t0 t1 t2 r p q = retraces_on (λ _ v. walk_all (y ∷ []) v) p (retraces_is (one_act y (stand t1)) q)
-
--- the trail behind one item
-abbrev pub further : Trail → Trail
-further t = record { meter = t.meter; at = t.at + 1 }
 
 -- the parts of two terms of one former, for which item i asks, from here on
 abbrev pub parts_here : ℕ → Script → Values → Bool → Stand → Term → Term → Walk (Unit {0})

@@ -6,6 +6,8 @@ use Rattle.pc_rules.specs.declared.stop.Stop.TheVariants.{Spent, TooDeep, Memory
 use Rattle.pc_rules.specs.declared.stop.Halt.{Halt}
 use Rattle.pc_rules.specs.declared.stop.Halt.TheVariants as halts
 use Rattle.pc_rules.specs.Follows.{IsAfter}
+use Rattle.pc_terms.specs.Syntax.{Term}
+use Rattle.cert_rules.specs.WalkSteps.{Reduced}
 use Rattle.cert_rules.specs.Walk.{Stand, Walk, Passed, Barred, Unpaid}
 use Rattle.type_cert.specs.declared.halt.WalkHalt.{WalkHalt}
 use Rattle.type_cert.specs.declared.halt.WalkHalt.TheVariants as walks
@@ -31,8 +33,21 @@ pub record Retraces {A : Type 0} (d : Walk A) (r : Result A WalkHalt) (old new :
   pub answer : WalkAnswers d r (stand new)
   pub after : IsAfter old.meter new.meter
 
--- a refusal of the directed rules, at the next item
+-- how a walk halts where the directed rules do: what they refuse is refused at item i
+abbrev pub halt_at : ℕ → Halt → WalkHalt
+halt_at i (halts.Stop s) = walks.Stop s
+halt_at i (halts.Broken b) = walks.Barred i
+
 abbrev pub barred_at : {A : Type 0} → ℕ → Result A Halt → Result A WalkHalt
 barred_at i (Ok a) = Ok a
-barred_at i (Err (halts.Stop s)) = Err (walks.Stop s)
-barred_at i (Err (halts.Broken b)) = Err (walks.Barred i)
+barred_at i (Err h) = Err (halt_at i h)
+
+-- an answer without its result
+abbrev pub passed_with : {A : Type 0} → Result A WalkHalt → Result (Unit {0}) WalkHalt
+passed_with (Ok a) = Ok tt
+passed_with (Err h) = Err h
+
+-- a number and the term after so many steps, for which item i asks
+abbrev pub at_number : ℕ → Result (ℕ × Term) WalkHalt → Result Reduced WalkHalt
+at_number i (Ok p) = Ok (record { item = i; count = p.0; term = p.1 })
+at_number i (Err h) = Err h

@@ -7,10 +7,9 @@ ghost use Rattle.pc_rules.specs.declared.stop.Stop.TheVariants.{Memory};
 ghost use Rattle.pc_rules.specs.DirectedTyping.{rule_number};
 ghost use Rattle.pc_rules.specs.WellCounted.{IsCountedEnv, AreCountedValues};
 ghost use Rattle.cert_rules.specs.Walk.{walk_all};
-ghost use Rattle.cert_rules.specs.Scripts.{walk_parts, parts_of};
 ghost use Rattle.type_cert.specs.Retraces.{Retraces, stand};
 ghost use Rattle.type_cert.specs.Comparable.{AreScriptable};
-ghost use Rattle.type_cert.specs.Going.{going};
+ghost use Rattle.type_cert.specs.Going.{going, parting};
 ghost use Rattle.type_cert.specs.Pairs.{acts_of, AreCountedParts};
 
 use crate::halt::WalkHalt;
@@ -44,16 +43,15 @@ impl Verifier<'_> {
         &self,
         alloc: Global,
         ctx: &Ctx,
-        room: u32,
         at: usize,
         x: &Match,
         b: &Term,
         trail: &mut Trail,
     ) -> Result<(), WalkHalt>
-        requires nest { room + trail.old.meter.nest ≡ 2048 }
+        requires nest { self.now.room + trail.old.meter.nest ≡ 2048 }
         requires scriptable { AreScriptable self.now.env.now (values ctx.now) (tree_of (Case x.now)) b.now }
         requires number { rule_number b.now ≡ 10 }
-        ensures retraces { (equal : Bool) → Retraces (walk_parts at (parts_of (going self.now room) (values ctx.now) equal (tree_of (Case x.now)) b.now) (stand trail.old)) result trail.old trail.new }
+        ensures retraces { (equal : Bool) → Retraces (parting self.now at (values ctx.now) equal (tree_of (Case x.now)) b.now (stand trail.old)) result trail.old trail.new }
     {
         let Node::Case(y) = b.view() else {
             unreachable!()
@@ -62,7 +60,7 @@ impl Verifier<'_> {
         let Some(parts) = found else {
             return Err(WalkHalt::Barred { item: at });
         };
-        self.each_part(alloc, ctx, room, parts.as_slice(), trail)
+        self.each_part(alloc, ctx, parts.as_slice(), trail)
     }
 
     /// The parts of two fixpoints; refused at item `at` where their indices or recursive arguments differ.
@@ -71,17 +69,16 @@ impl Verifier<'_> {
         &self,
         alloc: Global,
         ctx: &Ctx,
-        room: u32,
         at: usize,
         ds: &Defs,
         i: u32,
         b: &Term,
         trail: &mut Trail,
     ) -> Result<(), WalkHalt>
-        requires nest { room + trail.old.meter.nest ≡ 2048 }
+        requires nest { self.now.room + trail.old.meter.nest ≡ 2048 }
         requires scriptable { AreScriptable self.now.env.now (values ctx.now) (tree_of (Fix ds.now i)) b.now }
         requires number { rule_number b.now ≡ 11 }
-        ensures retraces { (equal : Bool) → Retraces (walk_parts at (parts_of (going self.now room) (values ctx.now) equal (tree_of (Fix ds.now i)) b.now) (stand trail.old)) result trail.old trail.new }
+        ensures retraces { (equal : Bool) → Retraces (parting self.now at (values ctx.now) equal (tree_of (Fix ds.now i)) b.now (stand trail.old)) result trail.old trail.new }
     {
         let Node::Fix(es, j) = b.view() else {
             unreachable!()
@@ -90,7 +87,7 @@ impl Verifier<'_> {
         let Some(parts) = found else {
             return Err(WalkHalt::Barred { item: at });
         };
-        self.each_part(alloc, ctx, room, parts.as_slice(), trail)
+        self.each_part(alloc, ctx, parts.as_slice(), trail)
     }
 
     /// A script for each two parts, which are to be equal.
@@ -99,20 +96,19 @@ impl Verifier<'_> {
         &self,
         alloc: Global,
         ctx: &Ctx,
-        room: u32,
         parts: &[Part],
         trail: &mut Trail,
     ) -> Result<(), WalkHalt>
-        requires nest { room + trail.old.meter.nest ≡ 2048 }
+        requires nest { self.now.room + trail.old.meter.nest ≡ 2048 }
         requires env { IsCountedEnv self.now.env.now }
         requires values { AreCountedValues self.now.env.now (values ctx.now) }
         requires parts { AreCountedParts self.now.env.now parts.now }
-        ensures retraces { Retraces (walk_all (acts_of (going self.now room) (values ctx.now) parts.now) (stand trail.old)) result trail.old trail.new }
+        ensures retraces { Retraces (walk_all (acts_of (going self.now) (values ctx.now) parts.now) (stand trail.old)) result trail.old trail.new }
     {
         for i in 0..parts.len() {
             let part = &parts[i];
             let inner = assumed(alloc, ctx, part.under, &part.left)?;
-            self.script(alloc, &inner, room, true, &part.left, &part.right, trail)?;
+            self.script(alloc, &inner, true, &part.left, &part.right, trail)?;
         }
         Ok(())
     }

@@ -3,10 +3,11 @@ ghost use Rattle.std.specs.Prelude.{◌≡◌, slice_get, IfOk};
 ghost use Rattle.calculus_rules.specs.Context.{values};
 ghost use Rattle.calculus_rules.specs.WeakHead.{WeakSteps};
 ghost use Rattle.cert_rules.specs.WalkSteps.{number_at, walk_steps, reduced};
-ghost use Rattle.type_cert.specs.Retraces.{Retraces, stand};
+ghost use Rattle.type_cert.specs.Retraces.{Retraces, stand, at_number};
 
 use crate::halt::WalkHalt;
 use crate::trail::Trail;
+use crate::verifier::Verifier;
 use cert_rules::item::CertItem;
 use pc_rules::context::Ctx;
 use pc_rules::environment::Env;
@@ -66,4 +67,21 @@ pub fn steps(
         }
     }
     Ok(term)
+}
+
+/// A term after the steps that the next number asks for, with that number.
+pub fn reduced(
+    alloc: Global,
+    verifier: &Verifier,
+    ctx: &Ctx,
+    t: Term,
+    trail: &mut Trail,
+) -> Result<(u32, Term), WalkHalt>
+    ensures retraces { Retraces (reduced verifier.now.cert.now verifier.now.env.now (values ctx.now) t (stand trail.old)) (at_number trail.old.at result) trail.old trail.new }
+    ensures steps { IfOk result (λ p. WeakSteps verifier.now.env.now (values ctx.now) t p.1) }
+{
+    let item = trail.at;
+    let count = number(verifier.cert, trail)?;
+    let term = steps(alloc, verifier.env, ctx, item, count, t, trail)?;
+    Ok((count, term))
 }

@@ -1,16 +1,17 @@
 //! Scripts: they show that a term is equal to another, or below it.
-ghost use Rattle.std.specs.Prelude.{◌≡◌, ◌+◌, ◌<◌, ℕ, Bool, length, slice_get, Some};
+ghost use Rattle.std.specs.Prelude.{◌≡◌, ◌+◌, ◌<◌, ℕ, Bool, length, slice_get, Some, IfOk};
 ghost use Rattle.pc_terms.specs.Syntax.{Prod, Lambda, LetIn, App};
 ghost use Rattle.calculus_rules.specs.Context.{Values, values};
 ghost use Rattle.calculus_rules.specs.Same.{same};
+ghost use Rattle.calculus_rules.specs.WeakHead.{WeakSteps};
 ghost use Rattle.pc_rules.specs.Entailment.{test_of};
 ghost use Rattle.pc_rules.specs.WellCounted.{IsCountedEnv, IsCounted};
 ghost use Rattle.pc_rules.specs.DirectedTyping.{rule_number};
-ghost use Rattle.cert_rules.specs.declared.item.CertItem.TheVariants.{Same, Left, Right, Parts};
-ghost use Rattle.cert_rules.specs.Scripts.{script_by, sorts_at, walk_parts, parts_of};
+ghost use Rattle.cert_rules.specs.declared.item.CertItem.TheVariants.{Same, Parts};
+ghost use Rattle.cert_rules.specs.Scripts.{sorts_at};
 ghost use Rattle.type_cert.specs.Retraces.{Retraces, stand};
 ghost use Rattle.type_cert.specs.Comparable.{AreScriptable, leaf_answer};
-ghost use Rattle.type_cert.specs.Going.{going};
+ghost use Rattle.type_cert.specs.Going.{going, scripting, parting, script_steps};
 
 use crate::halt::WalkHalt;
 use crate::numbers::{item_at, steps};
@@ -73,7 +74,7 @@ impl Verifier<'_> {
         requires env { IsCountedEnv self.now.env.now }
         requires left { IsCounted self.now.env.now a.now }
         requires right { IsCounted self.now.env.now b.now }
-        ensures retraces { (room : ℕ) (V : Values) → Retraces (script_by self.now.env.now (test_of self.now.env.now) (going self.now room) (Some Same) V equal a.now b.now (stand trail.old)) result trail.old trail.new }
+        ensures retraces { (V : Values) → Retraces (scripting self.now (Some Same) V equal a.now b.now (stand trail.old)) result trail.old trail.new }
     {
         if a.same(b) || sorts_stand(self.env, equal, a, b) {
             trail.at += 1;
@@ -82,26 +83,52 @@ impl Verifier<'_> {
         Err(WalkHalt::Barred { item: trail.at })
     }
 
-    /// A script for two terms; `room` is the number of rules that may still stand in one another.
+    /// A term of a script after the steps for which the item at the trail asks; refused there where it asks for none, or for more than there are.
+    fn stepped(
+        &self,
+        alloc: Global,
+        ctx: &Ctx,
+        n: u32,
+        t: &Term,
+        trail: &mut Trail,
+    ) -> Result<Term, WalkHalt>
+        requires there { trail.old.at < length self.now.cert.now }
+        ensures retraces { Retraces (script_steps self.now.env.now (values ctx.now) n t.now (stand trail.old)) result trail.old trail.new }
+        ensures steps { IfOk result (λ u. WeakSteps self.now.env.now (values ctx.now) t.now u) }
+    {
+        let item = trail.at;
+        if n == 0 {
+            return Err(WalkHalt::Barred { item });
+        }
+        let term = t.share()?;
+        trail.at += 1;
+        steps(alloc, self.env, ctx, item, n, term, trail)
+    }
+
+    /// A script for two terms: one more rule that stands, and its item.
     #[cycle(script)]
     pub fn script(
         &self,
         alloc: Global,
         ctx: &Ctx,
-        room: u32,
         equal: bool,
         a: &Term,
         b: &Term,
         trail: &mut Trail,
     ) -> Result<(), WalkHalt>
-        requires nest { room + trail.old.meter.nest ≡ 2048 }
+        requires nest { self.now.room + trail.old.meter.nest ≡ 2048 }
         requires scriptable { AreScriptable self.now.env.now (values ctx.now) a.now b.now }
-        ensures retraces { Retraces (going self.now room (values ctx.now) equal a.now b.now (stand trail.old)) result trail.old trail.new }
+        ensures retraces { Retraces (going self.now (values ctx.now) equal a.now b.now (stand trail.old)) result trail.old trail.new }
     {
         if !trail.meter.enter() {
             return Err(WalkHalt::Stop(Stop::TooDeep));
         }
-        let answer = self.item(alloc, ctx, room - 1, equal, a, b, trail);
+        let inner = Verifier {
+            cert: self.cert,
+            env: self.env,
+            room: self.room - 1,
+        };
+        let answer = inner.item(alloc, ctx, equal, a, b, trail);
         trail.meter.leave();
         answer
     }
@@ -112,79 +139,28 @@ impl Verifier<'_> {
         &self,
         alloc: Global,
         ctx: &Ctx,
-        room: u32,
         equal: bool,
         a: &Term,
         b: &Term,
         trail: &mut Trail,
     ) -> Result<(), WalkHalt>
-        requires nest { room + trail.old.meter.nest ≡ 2048 }
+        requires nest { self.now.room + trail.old.meter.nest ≡ 2048 }
         requires scriptable { AreScriptable self.now.env.now (values ctx.now) a.now b.now }
-        ensures retraces { Retraces (script_by self.now.env.now (test_of self.now.env.now) (going self.now room) (slice_get self.now.cert.now trail.old.at) (values ctx.now) equal a.now b.now (stand trail.old)) result trail.old trail.new }
+        ensures retraces { Retraces (scripting self.now (slice_get self.now.cert.now trail.old.at) (values ctx.now) equal a.now b.now (stand trail.old)) result trail.old trail.new }
     {
         match item_at(self.cert, trail.at) {
             Some(CertItem::Same) => self.same_item(equal, a, b, trail),
-            Some(CertItem::Left(n)) => self.left_item(alloc, ctx, room, equal, n, a, b, trail),
-            Some(CertItem::Right(n)) => self.right_item(alloc, ctx, room, equal, n, a, b, trail),
-            Some(CertItem::Parts) => self.parts_item(alloc, ctx, room, equal, a, b, trail),
+            Some(CertItem::Left(n)) => {
+                let left = self.stepped(alloc, ctx, n, a, trail)?;
+                self.script(alloc, ctx, equal, &left, b, trail)
+            }
+            Some(CertItem::Right(n)) => {
+                let right = self.stepped(alloc, ctx, n, b, trail)?;
+                self.script(alloc, ctx, equal, a, &right, trail)
+            }
+            Some(CertItem::Parts) => self.parts_item(alloc, ctx, equal, a, b, trail),
             _ => Err(WalkHalt::Barred { item: trail.at }),
         }
-    }
-
-    /// Steps of the left term, and then a script.
-    #[cycle(script)]
-    fn left_item(
-        &self,
-        alloc: Global,
-        ctx: &Ctx,
-        room: u32,
-        equal: bool,
-        n: u32,
-        a: &Term,
-        b: &Term,
-        trail: &mut Trail,
-    ) -> Result<(), WalkHalt>
-        requires nest { room + trail.old.meter.nest ≡ 2048 }
-        requires there { trail.old.at < length self.now.cert.now }
-        requires scriptable { AreScriptable self.now.env.now (values ctx.now) a.now b.now }
-        ensures retraces { Retraces (script_by self.now.env.now (test_of self.now.env.now) (going self.now room) (Some (Left n)) (values ctx.now) equal a.now b.now (stand trail.old)) result trail.old trail.new }
-    {
-        let at = trail.at;
-        if n == 0 {
-            return Err(WalkHalt::Barred { item: at });
-        }
-        let term = a.share()?;
-        trail.at += 1;
-        let x = steps(alloc, self.env, ctx, at, n, term, trail)?;
-        self.script(alloc, ctx, room, equal, &x, b, trail)
-    }
-
-    /// Steps of the right term, and then a script.
-    #[cycle(script)]
-    fn right_item(
-        &self,
-        alloc: Global,
-        ctx: &Ctx,
-        room: u32,
-        equal: bool,
-        n: u32,
-        a: &Term,
-        b: &Term,
-        trail: &mut Trail,
-    ) -> Result<(), WalkHalt>
-        requires nest { room + trail.old.meter.nest ≡ 2048 }
-        requires there { trail.old.at < length self.now.cert.now }
-        requires scriptable { AreScriptable self.now.env.now (values ctx.now) a.now b.now }
-        ensures retraces { Retraces (script_by self.now.env.now (test_of self.now.env.now) (going self.now room) (Some (Right n)) (values ctx.now) equal a.now b.now (stand trail.old)) result trail.old trail.new }
-    {
-        let at = trail.at;
-        if n == 0 {
-            return Err(WalkHalt::Barred { item: at });
-        }
-        let term = b.share()?;
-        trail.at += 1;
-        let y = steps(alloc, self.env, ctx, at, n, term, trail)?;
-        self.script(alloc, ctx, room, equal, a, &y, trail)
     }
 
     /// The parts of two terms of one former.
@@ -193,23 +169,22 @@ impl Verifier<'_> {
         &self,
         alloc: Global,
         ctx: &Ctx,
-        room: u32,
         equal: bool,
         a: &Term,
         b: &Term,
         trail: &mut Trail,
     ) -> Result<(), WalkHalt>
-        requires nest { room + trail.old.meter.nest ≡ 2048 }
+        requires nest { self.now.room + trail.old.meter.nest ≡ 2048 }
         requires there { trail.old.at < length self.now.cert.now }
         requires scriptable { AreScriptable self.now.env.now (values ctx.now) a.now b.now }
-        ensures retraces { Retraces (script_by self.now.env.now (test_of self.now.env.now) (going self.now room) (Some Parts) (values ctx.now) equal a.now b.now (stand trail.old)) result trail.old trail.new }
+        ensures retraces { Retraces (scripting self.now (Some Parts) (values ctx.now) equal a.now b.now (stand trail.old)) result trail.old trail.new }
     {
         let at = trail.at;
         if former(a) != former(b) {
             return Err(WalkHalt::Barred { item: at });
         }
         trail.at += 1;
-        self.parts(alloc, ctx, room, equal, at, a, b, trail)
+        self.parts(alloc, ctx, equal, at, a, b, trail)
     }
 
     /// The parts of two terms of one former, for which item `at` asks.
@@ -218,29 +193,28 @@ impl Verifier<'_> {
         &self,
         alloc: Global,
         ctx: &Ctx,
-        room: u32,
         equal: bool,
         at: usize,
         a: &Term,
         b: &Term,
         trail: &mut Trail,
     ) -> Result<(), WalkHalt>
-        requires nest { room + trail.old.meter.nest ≡ 2048 }
+        requires nest { self.now.room + trail.old.meter.nest ≡ 2048 }
         requires scriptable { AreScriptable self.now.env.now (values ctx.now) a.now b.now }
         requires number { rule_number b.now ≡ rule_number a.now }
-        ensures retraces { Retraces (walk_parts at (parts_of (going self.now room) (values ctx.now) equal a.now b.now) (stand trail.old)) result trail.old trail.new }
+        ensures retraces { Retraces (parting self.now at (values ctx.now) equal a.now b.now (stand trail.old)) result trail.old trail.new }
     {
         match a.view() {
             Node::Prod(domain, codomain) => {
-                self.product(alloc, ctx, room, equal, domain, codomain, b, trail)
+                self.product(alloc, ctx, equal, domain, codomain, b, trail)
             }
-            Node::Lambda(domain, body) => self.lambda(alloc, ctx, room, domain, body, b, trail),
+            Node::Lambda(domain, body) => self.lambda(alloc, ctx, domain, body, b, trail),
             Node::LetIn(value, ty, body) => {
-                self.definition(alloc, ctx, room, value, ty, body, b, trail)
+                self.definition(alloc, ctx, value, ty, body, b, trail)
             }
-            Node::App(f, x) => self.application(alloc, ctx, room, f, x, b, trail),
-            Node::Case(m) => self.matches(alloc, ctx, room, at, m, b, trail),
-            Node::Fix(defs, i) => self.fixpoints(alloc, ctx, room, at, defs, *i, b, trail),
+            Node::App(f, x) => self.application(alloc, ctx, f, x, b, trail),
+            Node::Case(m) => self.matches(alloc, ctx, at, m, b, trail),
+            Node::Fix(defs, i) => self.fixpoints(alloc, ctx, at, defs, *i, b, trail),
             _ => leaf(a, b, at),
         }
     }
@@ -251,24 +225,23 @@ impl Verifier<'_> {
         &self,
         alloc: Global,
         ctx: &Ctx,
-        room: u32,
         equal: bool,
         domain: &Term,
         codomain: &Term,
         b: &Term,
         trail: &mut Trail,
     ) -> Result<(), WalkHalt>
-        requires nest { room + trail.old.meter.nest ≡ 2048 }
+        requires nest { self.now.room + trail.old.meter.nest ≡ 2048 }
         requires scriptable { AreScriptable self.now.env.now (values ctx.now) (Prod domain.now codomain.now) b.now }
         requires number { rule_number b.now ≡ 3 }
-        ensures retraces { (i : ℕ) → Retraces (walk_parts i (parts_of (going self.now room) (values ctx.now) equal (Prod domain.now codomain.now) b.now) (stand trail.old)) result trail.old trail.new }
+        ensures retraces { (i : ℕ) → Retraces (parting self.now i (values ctx.now) equal (Prod domain.now codomain.now) b.now (stand trail.old)) result trail.old trail.new }
     {
         let Node::Prod(other, target) = b.view() else {
             unreachable!()
         };
-        self.script(alloc, ctx, room, true, domain, other, trail)?;
+        self.script(alloc, ctx, true, domain, other, trail)?;
         let under = ctx.extended(alloc, Entry::Assumed(domain.share()?))?;
-        self.script(alloc, &under, room, equal, codomain, target, trail)
+        self.script(alloc, &under, equal, codomain, target, trail)
     }
 
     /// The parts of two lambdas.
@@ -277,23 +250,22 @@ impl Verifier<'_> {
         &self,
         alloc: Global,
         ctx: &Ctx,
-        room: u32,
         domain: &Term,
         body: &Term,
         b: &Term,
         trail: &mut Trail,
     ) -> Result<(), WalkHalt>
-        requires nest { room + trail.old.meter.nest ≡ 2048 }
+        requires nest { self.now.room + trail.old.meter.nest ≡ 2048 }
         requires scriptable { AreScriptable self.now.env.now (values ctx.now) (Lambda domain.now body.now) b.now }
         requires number { rule_number b.now ≡ 4 }
-        ensures retraces { (i : ℕ) (equal : Bool) → Retraces (walk_parts i (parts_of (going self.now room) (values ctx.now) equal (Lambda domain.now body.now) b.now) (stand trail.old)) result trail.old trail.new }
+        ensures retraces { (i : ℕ) (equal : Bool) → Retraces (parting self.now i (values ctx.now) equal (Lambda domain.now body.now) b.now (stand trail.old)) result trail.old trail.new }
     {
         let Node::Lambda(other, target) = b.view() else {
             unreachable!()
         };
-        self.script(alloc, ctx, room, true, domain, other, trail)?;
+        self.script(alloc, ctx, true, domain, other, trail)?;
         let under = ctx.extended(alloc, Entry::Assumed(domain.share()?))?;
-        self.script(alloc, &under, room, true, body, target, trail)
+        self.script(alloc, &under, true, body, target, trail)
     }
 
     /// The parts of two applications.
@@ -302,22 +274,21 @@ impl Verifier<'_> {
         &self,
         alloc: Global,
         ctx: &Ctx,
-        room: u32,
         f: &Term,
         x: &Term,
         b: &Term,
         trail: &mut Trail,
     ) -> Result<(), WalkHalt>
-        requires nest { room + trail.old.meter.nest ≡ 2048 }
+        requires nest { self.now.room + trail.old.meter.nest ≡ 2048 }
         requires scriptable { AreScriptable self.now.env.now (values ctx.now) (App f.now x.now) b.now }
         requires number { rule_number b.now ≡ 6 }
-        ensures retraces { (i : ℕ) (equal : Bool) → Retraces (walk_parts i (parts_of (going self.now room) (values ctx.now) equal (App f.now x.now) b.now) (stand trail.old)) result trail.old trail.new }
+        ensures retraces { (i : ℕ) (equal : Bool) → Retraces (parting self.now i (values ctx.now) equal (App f.now x.now) b.now (stand trail.old)) result trail.old trail.new }
     {
         let Node::App(g, y) = b.view() else {
             unreachable!()
         };
-        self.script(alloc, ctx, room, true, f, g, trail)?;
-        self.script(alloc, ctx, room, true, x, y, trail)
+        self.script(alloc, ctx, true, f, g, trail)?;
+        self.script(alloc, ctx, true, x, y, trail)
     }
 
     /// The parts of two lets: value, type, and the body under the left value.
@@ -326,28 +297,27 @@ impl Verifier<'_> {
         &self,
         alloc: Global,
         ctx: &Ctx,
-        room: u32,
         value: &Term,
         ty: &Term,
         body: &Term,
         b: &Term,
         trail: &mut Trail,
     ) -> Result<(), WalkHalt>
-        requires nest { room + trail.old.meter.nest ≡ 2048 }
+        requires nest { self.now.room + trail.old.meter.nest ≡ 2048 }
         requires scriptable { AreScriptable self.now.env.now (values ctx.now) (LetIn value.now ty.now body.now) b.now }
         requires number { rule_number b.now ≡ 5 }
-        ensures retraces { (i : ℕ) (equal : Bool) → Retraces (walk_parts i (parts_of (going self.now room) (values ctx.now) equal (LetIn value.now ty.now body.now) b.now) (stand trail.old)) result trail.old trail.new }
+        ensures retraces { (i : ℕ) (equal : Bool) → Retraces (parting self.now i (values ctx.now) equal (LetIn value.now ty.now body.now) b.now (stand trail.old)) result trail.old trail.new }
     {
         let Node::LetIn(other, kind, target) = b.view() else {
             unreachable!()
         };
-        self.script(alloc, ctx, room, true, value, other, trail)?;
-        self.script(alloc, ctx, room, true, ty, kind, trail)?;
+        self.script(alloc, ctx, true, value, other, trail)?;
+        self.script(alloc, ctx, true, ty, kind, trail)?;
         let entry = Entry::Defined {
             value: value.share()?,
             ty: ty.share()?,
         };
         let under = ctx.extended(alloc, entry)?;
-        self.script(alloc, &under, room, true, body, target, trail)
+        self.script(alloc, &under, true, body, target, trail)
     }
 }

@@ -2,8 +2,10 @@
 use cert_rules::item::CertItem;
 use pc_rules::environment::Env;
 
-/// A certificate's items, and the environment in which terms are typed.
+/// A certificate's items, the environment in which terms are typed, and how many rules may still stand in one another.
+#[derive(Drop)]
 pub struct Verifier<'a> {
     pub cert: &'a [CertItem],
     pub env: &'a Env,
+    pub room: u32,
 }

@@ -10,49 +10,43 @@ use Rattle.type_cert.specs.Pairs.{acts_of}
 use Rattle.type_cert.proofs.verifier.Verifier.+script.Given as goal
 
 abbrev pub decreases-script : goal.decreases-script
-decreases-script l = l.room * 8
-
-abbrev pub decreases-left_item : goal.decreases-left_item
-decreases-left_item l = l.room * 8 + 1
-
-abbrev pub decreases-right_item : goal.decreases-right_item
-decreases-right_item l = l.room * 8 + 1
+decreases-script l = l.self.now.room * 8
 
 abbrev pub decreases-product : goal.decreases-product
-decreases-product l = l.room * 8 + 1
+decreases-product l = l.self.now.room * 8 + 1
 
 abbrev pub decreases-lambda : goal.decreases-lambda
-decreases-lambda l = l.room * 8 + 1
+decreases-lambda l = l.self.now.room * 8 + 1
 
 abbrev pub decreases-definition : goal.decreases-definition
-decreases-definition l = l.room * 8 + 1
+decreases-definition l = l.self.now.room * 8 + 1
 
 abbrev pub decreases-application : goal.decreases-application
-decreases-application l = l.room * 8 + 1
+decreases-application l = l.self.now.room * 8 + 1
 
 abbrev pub decreases-each_part : goal.decreases-each_part
-decreases-each_part l = l.room * 8 + 1
+decreases-each_part l = l.self.now.room * 8 + 1
 
 abbrev pub decreases-matches : goal.decreases-matches
-decreases-matches l = l.room * 8 + 2
+decreases-matches l = l.self.now.room * 8 + 2
 
 abbrev pub decreases-fixpoints : goal.decreases-fixpoints
-decreases-fixpoints l = l.room * 8 + 2
+decreases-fixpoints l = l.self.now.room * 8 + 2
 
 abbrev pub decreases-parts : goal.decreases-parts
-decreases-parts l = l.room * 8 + 3
+decreases-parts l = l.self.now.room * 8 + 3
 
 abbrev pub decreases-parts_item : goal.decreases-parts_item
-decreases-parts_item l = l.room * 8 + 4
+decreases-parts_item l = l.self.now.room * 8 + 4
 
 abbrev pub decreases-item : goal.decreases-item
-decreases-item l = l.room * 8 + 5
+decreases-item l = l.self.now.room * 8 + 5
 
 -- what answers for the rest of the parts answers for all of them
 abbrev pub invariant-each_part-loop-i : goal.invariant-each_part-loop-i
 invariant-each_part-loop-i l = record {
   rest : (r : Result (Unit {0}) WalkHalt) (t : Trail)
-      → Retraces (walk_all (acts_of (going l.self l.room) (values l.ctx) (drop l.i l.parts)) (stand l.trail)) r l.trail t
-      → Retraces (walk_all (acts_of (going l.self l.room) (values l.ctx) l.parts) (stand l.fn.trail)) r l.fn.trail t;
+      → Retraces (walk_all (acts_of (going l.self) (values l.ctx) (drop l.i l.parts)) (stand l.trail)) r l.trail t
+      → Retraces (walk_all (acts_of (going l.self) (values l.ctx) l.parts) (stand l.fn.trail)) r l.fn.trail t;
   after : IsAfter l.fn.trail.meter l.trail.meter;
 }

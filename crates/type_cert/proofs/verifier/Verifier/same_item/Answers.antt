@@ -15,10 +15,10 @@ returns-then-same c =
       | then-same-via-then-same w ↦ either_left _ _ (same_yes _ _ c.same.result c.same.ensures.is w.if-same.true)
       | then-same-via-else-same+then-sorts_stand w ↦ either_right _ _ (sym w.sorts_stand.ensures.is ∙ w.if-sorts_stand.true)
     ] in
-    record { retraces = λ room V. retraces_then _ _ _ _ c.args.trail.now _ e (from_past (retraces_pass tt _)) }
+    record { retraces = λ V. retraces_then _ _ _ _ c.args.trail.now _ e (from_past (retraces_pass tt _)) }
 
 pub returns : goal.returns
 returns c =
     let e : (same c.args.a.now c.args.b.now || sorts_at (test_of c.args.self.now.env.now) c.args.equal c.args.a.now c.args.b.now) ≡ false =
     neither _ _ (same_no _ _ c.same.result c.same.ensures.is c.if-same.false) (sym c.sorts_stand.ensures.is ∙ c.if-sorts_stand.false) in
-    record { retraces = λ room V. retraces_else _ _ _ _ c.args.trail.now _ e (retraces_bar _ c.args.trail.now) }
+    record { retraces = λ V. retraces_else _ _ _ _ c.args.trail.now _ e (retraces_bar _ c.args.trail.now) }

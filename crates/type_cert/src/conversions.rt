@@ -1,0 +1,124 @@
+//! Conversion: the sort of a term, a term against a type, and a type in place of another.
+ghost use Rattle.std.specs.Prelude.{◌≡◌, ◌+◌, IfOk};
+ghost use Rattle.pc_rules.specs.WellCounted.{IsCounted};
+ghost use Rattle.type_infer.specs.Ready.{IsReady};
+ghost use Rattle.type_cert.specs.Retraces.{Retraces, stand};
+ghost use Rattle.type_cert.specs.Going.{sorting, fitting, checking, retyping};
+
+use crate::halt::WalkHalt;
+use crate::numbers::{item_at, reduced};
+use crate::trail::Trail;
+use crate::typing::TypeWalk;
+use cert_rules::item::CertItem;
+use pc_rules::context::Ctx;
+use pc_rules::guarder::Guarder;
+use pc_terms::term::{Node, Term};
+use std::alloc::Global;
+use universe_levels::sort::Sort;
+
+impl<G: Guarder> TypeWalk<'_, G> {
+    /// The sort of a term: its type after the steps of a number; where there are any, that sort is inferred. Refused at the number where it
+    /// comes to no sort.
+    #[cycle(infer)]
+    pub fn sort_of(
+        &self,
+        alloc: Global,
+        ctx: &Ctx,
+        t: &Term,
+        trail: &mut Trail,
+    ) -> Result<Sort, WalkHalt>
+        requires nest { self.now.verifier.room + trail.old.meter.nest ≡ 2048 }
+        requires ready { IsReady self.now.verifier.env.now ctx.now }
+        ensures retraces { Retraces (sorting self.now.verifier ctx.now t.now (stand trail.old)) result trail.old trail.new }
+        ensures counted { IfOk result (λ _. IsCounted self.now.verifier.env.now t.now) }
+    {
+        let ty = self.infer(alloc, ctx, t, trail)?;
+        let item = trail.at;
+        let (count, found) = reduced(alloc, &self.verifier, ctx, ty, trail)?;
+        match found.view() {
+            Node::Sort(s) => {
+                let sort = s.share(alloc)?;
+                if count == 0 {
+                    return Ok(sort);
+                }
+                let _above = self.infer(alloc, ctx, &found, trail)?;
+                Ok(sort)
+            }
+            _ => Err(WalkHalt::Barred { item }),
+        }
+    }
+
+    /// Whether a type that was found is the one that is asked for, or below it by a script, where that has a sort: as the next item says.
+    #[cycle(infer)]
+    pub(crate) fn fits(
+        &self,
+        alloc: Global,
+        ctx: &Ctx,
+        found: &Term,
+        ty: &Term,
+        trail: &mut Trail,
+    ) -> Result<(), WalkHalt>
+        requires nest { self.now.verifier.room + trail.old.meter.nest ≡ 2048 }
+        requires ready { IsReady self.now.verifier.env.now ctx.now }
+        requires found { IsCounted self.now.verifier.env.now found.now }
+        ensures retraces { Retraces (fitting self.now.verifier ctx.now found.now ty.now (stand trail.old)) result trail.old trail.new }
+        ensures counted { IfOk result (λ _. IsCounted self.now.verifier.env.now ty.now) }
+    {
+        match item_at(self.verifier.cert, trail.at) {
+            Some(CertItem::Same) => {
+                if !found.same(ty) {
+                    return Err(WalkHalt::Barred { item: trail.at });
+                }
+                trail.at += 1;
+                Ok(())
+            }
+            Some(CertItem::Conv) => {
+                trail.at += 1;
+                let _sort = self.sort_of(alloc, ctx, ty, trail)?;
+                self.verifier.script(alloc, ctx, false, found, ty, trail)
+            }
+            _ => Err(WalkHalt::Barred { item: trail.at }),
+        }
+    }
+
+    /// A term against a type.
+    #[cycle(infer)]
+    pub fn check(
+        &self,
+        alloc: Global,
+        ctx: &Ctx,
+        t: &Term,
+        ty: &Term,
+        trail: &mut Trail,
+    ) -> Result<(), WalkHalt>
+        requires nest { self.now.verifier.room + trail.old.meter.nest ≡ 2048 }
+        requires ready { IsReady self.now.verifier.env.now ctx.now }
+        ensures retraces { Retraces (checking self.now.verifier ctx.now t.now ty.now (stand trail.old)) result trail.old trail.new }
+        ensures counted { IfOk result (λ _. IsCounted self.now.verifier.env.now t.now) }
+        ensures type_counted { IfOk result (λ _. IsCounted self.now.verifier.env.now ty.now) }
+    {
+        let found = self.infer(alloc, ctx, t, trail)?;
+        self.fits(alloc, ctx, &found, ty, trail)
+    }
+
+    /// From a type to what it becomes after `count` steps, which is used in its place: where there are any, that has a sort.
+    #[cycle(infer)]
+    pub(crate) fn retype(
+        &self,
+        alloc: Global,
+        ctx: &Ctx,
+        count: u32,
+        found: &Term,
+        trail: &mut Trail,
+    ) -> Result<(), WalkHalt>
+        requires nest { self.now.verifier.room + trail.old.meter.nest ≡ 2048 }
+        requires ready { IsReady self.now.verifier.env.now ctx.now }
+        ensures retraces { Retraces (retyping self.now.verifier ctx.now count found.now (stand trail.old)) result trail.old trail.new }
+    {
+        if count == 0 {
+            return Ok(());
+        }
+        let _sort = self.sort_of(alloc, ctx, found, trail)?;
+        Ok(())
+    }
+}
