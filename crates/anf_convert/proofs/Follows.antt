@@ -5,7 +5,7 @@ use Rattle.std.proofs.lemmas.Bool.{eq-eqb, eqb-true}
 use Rattle.trees.specs.Tree.{Done, Next, term_at}
 use Rattle.pc_terms.specs.declared.leaf.Name.{Name}
 use Rattle.pc_terms.specs.declared.leaf.FamilyId.{FamilyId}
-use Rattle.pc_terms.specs.BoxSyntax.{BoxTerm, BoxTerms, Box, BLambda}
+use Rattle.box_terms.specs.BoxSyntax.{BoxTerm, BoxTerms, Box, BLambda}
 use Rattle.lambda_box.specs.BoxProgram.{BoxConstant, BoxProgram, Has, here, there, KeepsBoxConstant}
 use Rattle.lambda_box.specs.ClosureEvaluation.{ClosureValue, VBox, VConstruct, VClosure, VFix, ClosureValues, Then, ClosureEnv, Bind, BindFix, size, bind_all, Holds, Defines, fix_words, Counts, nothing, block, constructor_block, ◌⊕◌, ClosureRun, run_box, run_value, run_definition, run_lambda, run_fix, run_constant, run_let, run_app, run_box_app, run_fix_app, run_fix_box, run_construct, run_match, run_only, RunArgs, run_head, run_arg}
 use Rattle.anf_convert.specs.Anf.{Atom, AnfOp, AppOp, AnfBlock, Bind, AnfProgram, def_count}

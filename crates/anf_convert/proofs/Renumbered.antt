@@ -2,7 +2,7 @@
 use Rattle.std.proofs.Common.{◌≡◌, ℕ, suc, ◌+◌, nat_eq, if◌then◌else◌, List, [], ◌∷◌, ◌++◌, length, map, refl, sym, ap, ◌∙◌}
 use Rattle.trees.specs.Tree.{Rel, Done, Next}
 use Rattle.pc_terms.specs.declared.leaf.Name.{Name}
-use Rattle.pc_terms.specs.BoxSyntax.{BoxTerm, BoxTerms, Box, BLambda, BLetIn, BApp, BConst, BConstruct, BCase, BFix}
+use Rattle.box_terms.specs.BoxSyntax.{BoxTerm, BoxTerms, Box, BLambda, BLetIn, BApp, BConst, BConstruct, BCase, BFix}
 use Rattle.lambda_box.specs.BoxProgram.{BoxConstant, BoxFamily, BoxProgram}
 use Rattle.anf_convert.specs.Anf.{AnfOp, AnfBlock, BindAtom, Bind, AnfBranches, Branch, LamDef, BoxDef, AppOp, LamOp, FixOp, CaseOp, AnfBinding, AtomIs, OpIs, tail_of, block_of}
 use Rattle.anf_convert.specs.ToAnf.{Level, LVar, Res, RAtom, RCon, ROp, Norm, NamedResult, at_depth, binding_of, sealed, with_variable, named, levels, call, name_at, then_arg, then_body, then_case, just, norm, norm_branches, norm_defs, code_of, number_in, to_anf}

@@ -2,7 +2,7 @@
 use Rattle.std.specs.Prelude.{ℕ, zero, suc, ◌+◌, ◌<◌, ◌≤◌, length}
 use Rattle.trees.specs.Tree.{Rel, Done, Next, number}
 use Rattle.pc_terms.specs.declared.leaf.Name.{Name}
-use Rattle.pc_terms.specs.BoxSyntax.{BoxTerm, BoxTerms, Box, BLambda, BLetIn, BApp, BConst, BConstruct, BCase, BFix}
+use Rattle.box_terms.specs.BoxSyntax.{BoxTerm, BoxTerms, Box, BLambda, BLetIn, BApp, BConst, BConstruct, BCase, BFix}
 use Rattle.lambda_box.specs.BoxProgram.{BoxConstant, BoxProgram, Has}
 use Rattle.anf_convert.specs.AnfForm.{constructors, fields, AnfFormed}
 use Rattle.anf_convert.specs.ToAnf.{number_in, to_anf}

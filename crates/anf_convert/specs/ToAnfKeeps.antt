@@ -3,7 +3,7 @@ use Rattle.std.specs.Prelude.{◌≡◌, ℕ, ◌≤◌, true, List, [], ◌∷�
 use Rattle.trees.specs.Tree.{Slot, Rel, Node, Places, End, Child, Group, Done, Next}
 use Rattle.pc_terms.specs.declared.leaf.Name.{Name}
 use Rattle.pc_terms.specs.declared.leaf.FamilyId.{FamilyId}
-use Rattle.pc_terms.specs.BoxSyntax.{BoxLabel, box_slots, BoxTerm, BoxTerms, BApp, BCase, BFix}
+use Rattle.box_terms.specs.BoxSyntax.{BoxLabel, box_slots, BoxTerm, BoxTerms, BApp, BCase, BFix}
 use Rattle.lambda_box.specs.BoxProgram.{BoxFamily, BoxProgram, KeepsBoxConstant, KeepsBoxFamily}
 use Rattle.lambda_box.specs.ClosureEvaluation.{ClosureValue, VConstruct, ClosureValues, NoValue, Then, Empty, Bind, Counts, ◌⊕◌, ClosureRun}
 use Rattle.anf_convert.specs.Anf.{AnfProgram}

@@ -1,7 +1,7 @@
 -- How a block is written: what a result and a block that is being written are seen as, and what is added to the block.
 use Rattle.std.specs.Prelude.{ℕ, ◌+◌, List, [], ◌∷◌, ◌++◌, length, reverse}
 use Rattle.pc_terms.specs.declared.leaf.Name.{Name}
-use Rattle.pc_terms.specs.BoxSyntax.{BoxTerm, BLambda}
+use Rattle.box_terms.specs.BoxSyntax.{BoxTerm, BLambda}
 use Rattle.box_terms.specs.declared.term.BoxBranch.{BoxBranch}
 use Rattle.box_terms.specs.declared.term.BoxDef.{BoxDef}
 use Rattle.anf_convert.specs.Anf.{AppOp}

@@ -1,7 +1,7 @@
 -- The source terms of data erase to constructors; with box for their parameters these are terms of the same data after erasure.
 use Rattle.std.proofs.Common.{◌≡◌, ℕ, zero, suc, List, [], ◌∷◌, ◌++◌, length, refl, sym, ◌∙◌, subst, arith}
 use Rattle.pc_terms.specs.Syntax.{Term}
-use Rattle.pc_terms.specs.BoxSyntax.{BoxTerm, BConstruct}
+use Rattle.box_terms.specs.BoxSyntax.{BoxTerm, BConstruct}
 use Rattle.calculus_rules.specs.Environment.{Env}
 use Rattle.calculus_rules.specs.Context.{Context}
 use Rattle.calculus_rules.specs.Step.{is_constructor}

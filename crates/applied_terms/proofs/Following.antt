@@ -7,7 +7,7 @@ use Rattle.universe_levels.specs.declared.sort.Sort.{Sort}
 use Rattle.universe_levels.specs.declared.sort.Sort.TheVariants.{Prop, Of}
 use Rattle.pc_terms.specs.declared.leaf.FamilyId.{FamilyId}
 use Rattle.pc_terms.specs.Syntax.{Term, Terms, Rel, Lambda, App, Construct, put, put_all, substitute, terms_of, term_at}
-use Rattle.pc_terms.specs.BoxSyntax.{BoxTerm, BoxTerms, Box, BApp, BConstruct, BCase}
+use Rattle.box_terms.specs.BoxSyntax.{BoxTerm, BoxTerms, Box, BApp, BConstruct, BCase}
 use Rattle.calculus_rules.specs.declared.declaration.Constructor.{Constructor}
 use Rattle.calculus_rules.specs.declared.entry.Entry.TheVariants.{Defined}
 use Rattle.calculus_rules.specs.Environment.{Env, FamilyDecl, KeepsFamily}

@@ -1,6 +1,6 @@
 -- Main after erasure, applied to arguments that are data: what it evaluates to, and that the data fits main's signature.
 use Rattle.std.specs.Prelude.{ℕ, ◌≤◌, List, [], ◌∷◌}
-use Rattle.pc_terms.specs.BoxSyntax.{BoxTerm}
+use Rattle.box_terms.specs.BoxSyntax.{BoxTerm}
 use Rattle.calculus_rules.specs.FirstOrder.{Shape as Member, FitsShapes}
 use Rattle.lambda_box.specs.BoxProgram.{BoxProgram, box_apply}
 use Rattle.lambda_box.specs.BoxEvaluation.{BoxEvaluates}

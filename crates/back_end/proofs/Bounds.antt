@@ -1,6 +1,6 @@
 -- The bounds on steps and on memory.
 use Rattle.std.proofs.Common.{◌≡◌, ◌∙◌, sym, subst, Bool, ℕ, zero, suc, ◌+◌, ◌*◌, ◌<◌, ◌≤◌, true, false, refl, arith}
-use Rattle.pc_terms.specs.BoxSyntax.{BoxTerm}
+use Rattle.box_terms.specs.BoxSyntax.{BoxTerm}
 use Rattle.lambda_box.specs.BoxProgram.{BoxProgram}
 use Rattle.lambda_box.specs.BoxEvaluation.{BoxEvaluates, value, constant, let_in, beta, box_app, extend, unfold_fix, enter, enter_only}
 use Rattle.lambda_box.specs.DataTerms.{greatest_words}

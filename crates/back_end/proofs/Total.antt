@@ -5,7 +5,7 @@ use Rattle.trees.specs.Measures.{depth, depth_trees}
 use Rattle.anf_convert.specs.AnfForm.{fields}
 use Rattle.anf_convert.specs.TermForm.{constructor_args, more_args}
 use Rattle.pc_terms.specs.declared.leaf.FamilyId.{FamilyId}
-use Rattle.pc_terms.specs.BoxSyntax.{BoxTerm, BoxTerms, Box, BLambda, BLetIn, BApp, BConst, BConstruct, BCase, BFix}
+use Rattle.box_terms.specs.BoxSyntax.{BoxTerm, BoxTerms, Box, BLambda, BLetIn, BApp, BConst, BConstruct, BCase, BFix}
 use Rattle.lambda_box.specs.BoxProgram.{BoxFamily, BoxProgram, Has, KeepsBoxFamily}
 use Rattle.lambda_box.specs.BoxData.{Data as Nodes}
 use Rattle.lambda_box.specs.BoxForm.{IsBoxProgram}

@@ -2,7 +2,7 @@
 use Rattle.std.proofs.Common.{◌≡◌, true, false, List, [], ◌∷◌, refl}
 use Rattle.trees.specs.Tree.{Rel, Done, Next}
 use Rattle.pc_terms.specs.declared.leaf.FamilyId.{FamilyId}
-use Rattle.pc_terms.specs.BoxSyntax.{Box, BLambda, BApp, BConstruct, BCase}
+use Rattle.box_terms.specs.BoxSyntax.{Box, BLambda, BApp, BConstruct, BCase}
 use Rattle.lambda_box.specs.BoxProgram.{BoxFamily, BoxProgram, here, there, KeepsBoxFamily}
 use Rattle.box_passes.specs.Saturate.{saturate_term}
 use Rattle.box_passes.specs.PropMatch.{drop_matches}

@@ -5,7 +5,7 @@ use Rattle.trees.specs.Tree.{Rel, term_at}
 use Rattle.trees.specs.Parallel.{first, put, put_all, substitute}
 use Rattle.trees.proofs.Cutoffs.{Order, order, below, past, put_all-past}
 use Rattle.pc_terms.specs.declared.leaf.FamilyId.{FamilyId}
-use Rattle.pc_terms.specs.BoxSyntax.{BoxTerm, BoxTerms, Box, BFix}
+use Rattle.box_terms.specs.BoxSyntax.{BoxTerm, BoxTerms, Box, BFix}
 use Rattle.lambda_box.specs.BoxProgram.{BoxProgram, boxes, box_fixpoints}
 use Rattle.lambda_box.specs.BoxEvaluation.{box_unfolded}
 use Rattle.lambda_box.specs.ClosureEvaluation.{ClosureValue, VBox, VFix, ClosureValues, NoValue, Then, ClosureEnv, Bind, BindFix, bind_all, box_values, size, Holds, Defines, Finds, found, later, found_fix, past_fix}

@@ -3,7 +3,7 @@ use Rattle.std.proofs.Common.{◌≡◌, ℕ, zero, suc, ◌+◌, ◌-◌, ◌�
 use Rattle.std.proofs.lemmas.Bool.{cases_lt}
 use Rattle.trees.specs.Tree.{Rel, Done, Next}
 use Rattle.pc_terms.specs.declared.leaf.FamilyId.{FamilyId}
-use Rattle.pc_terms.specs.BoxSyntax.{BoxTerm, BoxTerms, BLambda, BLetIn, BApp, BConstruct, BCase, BFix}
+use Rattle.box_terms.specs.BoxSyntax.{BoxTerm, BoxTerms, BLambda, BLetIn, BApp, BConstruct, BCase, BFix}
 use Rattle.lambda_box.specs.BoxProgram.{BoxConstant, BoxProgram, Has, box_apply}
 use Rattle.lambda_box.specs.DataTerms.{greatest_arguments}
 use Rattle.lambda_box.specs.ClosureEvaluation.{VBox, ClosureEnv, Empty, Bind, BindFix, box_values, bind_all, words, names, names_terms}

@@ -6,7 +6,7 @@ use Rattle.trees.specs.Parallel.{put, substitute}
 use Rattle.trees.specs.Closed.{Closed}
 use Rattle.pc_terms.specs.declared.leaf.Name.{Name}
 use Rattle.pc_terms.specs.declared.leaf.FamilyId.{FamilyId}
-use Rattle.pc_terms.specs.BoxSyntax.{BoxTerm, BoxTerms, Box, BLambda, BApp, BFix}
+use Rattle.box_terms.specs.BoxSyntax.{BoxTerm, BoxTerms, Box, BLambda, BApp, BFix}
 use Rattle.lambda_box.specs.BoxProgram.{BoxFamily, BoxProgram, Has, KeepsBoxConstant, box_apply}
 use Rattle.lambda_box.specs.BoxForm.{IsFixBody, boxed, last, more}
 use Rattle.lambda_box.specs.BoxEvaluation.{box_is, BoxTakesMore, constructor, fixpoint, box_unfolded, BoxUnfolds, unfolds, BoxEvaluates, value, beta, box_app, extend, unfold_fix}

@@ -1,6 +1,6 @@
 -- The laws of the passes' programs, from their parts.
 use Rattle.std.proofs.Common.{◌≡◌, ◌≤◌, List, map, sym, subst}
-use Rattle.pc_terms.specs.BoxSyntax.{BoxTerm}
+use Rattle.box_terms.specs.BoxSyntax.{BoxTerm}
 use Rattle.lambda_box.specs.BoxProgram.{BoxConstant, BoxFamily, BoxProgram}
 use Rattle.lambda_box.specs.BoxForm.{IsBoxProgram}
 use Rattle.lambda_box.specs.DataTerms.{greatest_words}

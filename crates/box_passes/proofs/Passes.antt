@@ -4,7 +4,7 @@ use Rattle.std.proofs.lemmas.Nat.{mul-le}
 use Rattle.std.specs.Prelude.{slice_get}
 use Rattle.trees.specs.Tree.{Rel, Done, Next}
 use Rattle.pc_terms.specs.declared.leaf.FamilyId.{FamilyId}
-use Rattle.pc_terms.specs.BoxSyntax.{BoxTerm, BoxTerms, Box, BLambda, BLetIn, BApp, BConst, BConstruct, BCase, BFix}
+use Rattle.box_terms.specs.BoxSyntax.{BoxTerm, BoxTerms, Box, BLambda, BLetIn, BApp, BConst, BConstruct, BCase, BFix}
 use Rattle.lambda_box.specs.BoxProgram.{BoxFamily, BoxProgram, box_apply}
 use Rattle.box_passes.specs.PassLaws.{PassesForm, PassesCount}
 use Rattle.lambda_box.specs.OrdinaryForm.{propositional_of, IsOrdinary, AreOrdinary, IsOrdinaryProgram}

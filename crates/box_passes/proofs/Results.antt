@@ -1,7 +1,7 @@
 -- What evaluation gives evaluates to itself, and to nothing else.
 use Rattle.std.proofs.Common.{◌≡◌, ℕ, length, Some, refl, sym, ap, ◌∙◌, subst, arith}
 use Rattle.std.specs.Prelude.{slice_get}
-use Rattle.pc_terms.specs.BoxSyntax.{BoxTerm, BApp}
+use Rattle.box_terms.specs.BoxSyntax.{BoxTerm, BApp}
 use Rattle.lambda_box.specs.BoxProgram.{BoxProgram}
 use Rattle.lambda_box.specs.BoxEvaluation.{IsBoxValue, box_is, BoxTakesMore, constructor, fixpoint, BoxUnfolds, unfolds, BoxEvaluates, value, constant, let_in, beta, box_app, extend, unfold_fix, enter, enter_only}
 use Rattle.lambda_box.proofs.Spines.{constructor_head, fix_head, fix_arguments, one_item}

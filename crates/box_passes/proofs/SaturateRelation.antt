@@ -7,7 +7,7 @@ use Rattle.trees.specs.Closed.{Closed}
 use Rattle.trees.proofs.Put.{substitute_whole}
 use Rattle.pc_terms.specs.declared.leaf.Name.{Name}
 use Rattle.pc_terms.specs.declared.leaf.FamilyId.{FamilyId}
-use Rattle.pc_terms.specs.BoxSyntax.{BoxTerm, BoxTerms, Box, BLambda, BLetIn, BApp, BConst, BConstruct, BCase, BFix}
+use Rattle.box_terms.specs.BoxSyntax.{BoxTerm, BoxTerms, Box, BLambda, BLetIn, BApp, BConst, BConstruct, BCase, BFix}
 use Rattle.lambda_box.specs.BoxProgram.{BoxFamily, BoxProgram, KeepsBoxFamily, box_apply, boxes, box_fixpoints}
 use Rattle.box_passes.specs.Saturate.{innermost, lambdas}
 use Rattle.lambda_box.proofs.Spines.{head_of, arguments, one_item}

@@ -10,7 +10,7 @@ use Rattle.trees.proofs.Cutoffs.{overs_below, overs_past}
 use Rattle.trees.proofs.Put.{each_append, substitute_whole, overs_over}
 use Rattle.pc_terms.specs.declared.leaf.Name.{Name}
 use Rattle.pc_terms.specs.declared.leaf.FamilyId.{FamilyId}
-use Rattle.pc_terms.specs.BoxSyntax.{BoxTerm, BoxTerms, Box, BLambda, BApp, BConstruct, BCase, BFix}
+use Rattle.box_terms.specs.BoxSyntax.{BoxTerm, BoxTerms, Box, BLambda, BApp, BConstruct, BCase, BFix}
 use Rattle.lambda_box.specs.BoxProgram.{BoxFamily, BoxProgram, KeepsBoxConstant, KeepsBoxFamily, box_apply, boxes}
 use Rattle.lambda_box.specs.BoxEvaluation.{box_is, lambda_is, construct_is, fix_is, IsBoxConstructor, is_box_constructor, BoxTakesMore, constructor, fixpoint, box_unfolded, BoxUnfolds, unfolds, BoxEvaluates, value, constant, let_in, beta, box_app, extend, unfold_fix, enter, enter_only}
 use Rattle.lambda_box.specs.BoxData.{Data, BoxReads, BoxReadsAll, box_reads, no_box_field, box_field}

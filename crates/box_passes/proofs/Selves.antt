@@ -5,7 +5,7 @@ use Rattle.trees.specs.Tree.{Done}
 use Rattle.trees.specs.Closed.{Closed}
 use Rattle.pc_terms.specs.declared.leaf.Name.{Name}
 use Rattle.pc_terms.specs.declared.leaf.FamilyId.{FamilyId}
-use Rattle.pc_terms.specs.BoxSyntax.{BoxTerm, BoxTerms, Box, BLambda, BApp, BConstruct, BFix}
+use Rattle.box_terms.specs.BoxSyntax.{BoxTerm, BoxTerms, Box, BLambda, BApp, BConstruct, BFix}
 use Rattle.lambda_box.specs.BoxProgram.{BoxFamily, BoxProgram, Has, KeepsBoxConstant}
 use Rattle.lambda_box.specs.BoxEvaluation.{BoxEvaluates, value, beta, box_app, extend, unfold_fix, BoxUnfolds, unfolds}
 use Rattle.lambda_box.specs.ClosureEvaluation.{ClosureValue, ClosureValues, ClosureEnv}

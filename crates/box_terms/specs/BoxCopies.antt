@@ -2,7 +2,7 @@
 use Rattle.std.specs.Prelude.{ℕ, ◌≡◌, List}
 use Rattle.std.specs.List.{All}
 use Rattle.trees.specs.Substitution.{walk, lift_var}
-use Rattle.pc_terms.specs.BoxSyntax.{BoxTerm}
+use Rattle.box_terms.specs.BoxSyntax.{BoxTerm}
 use Rattle.box_terms.specs.declared.copies.Copied.{Copied}
 use Rattle.box_terms.specs.declared.copies.Way.{Way}
 use Rattle.box_terms.specs.declared.copies.Way.TheVariants.{Walked, Lifted}

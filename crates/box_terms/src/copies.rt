@@ -3,7 +3,7 @@
 //! A shared node keeps a number, the place of its last copy in the table of the walk that met it last. It is a hint: what is found there
 //! is taken only where its stamp shows that it is a copy of the same node. So a hint that is wrong costs time, and changes no answer.
 ghost use Rattle.std.specs.Prelude.{◌≡◌, ℕ, IfSome, IfErr};
-ghost use Rattle.pc_terms.specs.BoxSyntax.{BoxTerm};
+ghost use Rattle.box_terms.specs.BoxSyntax.{BoxTerm};
 ghost use Rattle.box_terms.specs.BoxCopies.{IsCopy, AreCopies};
 ghost use Rattle.pc_terms.specs.declared.term.MakeFault.TheVariants.{Memory};
 

@@ -5,7 +5,7 @@ use Rattle.trees.specs.Closed.{Closed, ClosedTerms}
 use Rattle.trees.proofs.Bounds.{closed_at}
 use Rattle.pc_terms.specs.declared.leaf.Name.{Name}
 use Rattle.pc_terms.specs.declared.leaf.FamilyId.{FamilyId}
-use Rattle.pc_terms.specs.BoxSyntax.{BoxTerm, BoxTerms, BLambda}
+use Rattle.box_terms.specs.BoxSyntax.{BoxTerm, BoxTerms, BLambda}
 use Rattle.lambda_box.specs.BoxProgram.{BoxProgram, KeepsBoxConstant}
 use Rattle.lambda_box.specs.BoxData.{Data}
 use Rattle.lambda_box.specs.ClosureEvaluation.{names, names_terms, ClosureValue, VBox, VConstruct, VClosure, VFix, ClosureValues, NoValue, Then, ClosureEnv, Empty, Bind, BindFix, size, bind_all, box_values, Held, Holds, Defines, Finds, found, later, found_fix, past_fix, any_below, words, Counts, block}

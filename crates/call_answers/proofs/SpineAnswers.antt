@@ -5,7 +5,7 @@ use Rattle.trees.specs.Tree.{Rel}
 use Rattle.trees.specs.Closed.{Closed}
 use Rattle.pc_terms.specs.declared.leaf.Name.{Name}
 use Rattle.pc_terms.specs.declared.leaf.FamilyId.{FamilyId}
-use Rattle.pc_terms.specs.BoxSyntax.{BoxTerm, BApp}
+use Rattle.box_terms.specs.BoxSyntax.{BoxTerm, BApp}
 use Rattle.lambda_box.specs.BoxProgram.{BoxFamily, BoxProgram, KeepsBoxConstant, KeepsBoxFamily, box_apply}
 use Rattle.lambda_box.specs.BoxData.{Data}
 use Rattle.lambda_box.specs.BoxForm.{IsBoxProgram}

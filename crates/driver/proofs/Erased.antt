@@ -5,7 +5,7 @@ use Rattle.std.proofs.lemmas.List.{length-reverse}
 use Rattle.std.proofs.lemmas.Option.{slice_get-map}
 use Rattle.pc_terms.specs.declared.leaf.Name.{Name}
 use Rattle.pc_terms.specs.Syntax.{Term}
-use Rattle.pc_terms.specs.BoxSyntax.{BoxTerm}
+use Rattle.box_terms.specs.BoxSyntax.{BoxTerm}
 use Rattle.pc_rules.specs.declared.broken.Broken.{Broken as Rule}
 use Rattle.pc_rules.specs.declared.broken.Place.{Place}
 use Rattle.pc_rules.specs.declared.broken.Place.TheVariants.{Declaration}

@@ -1,7 +1,7 @@
 -- The answer of `exec`: the text of the data that main's module answers; and what `exec` and `compile` owe the data of the erased program.
 use Rattle.std.specs.Prelude.{◌≡◌, ◌≢◌, ℕ, List, Option}
 use Rattle.std.specs.Io.KnownBytes.{Appends}
-use Rattle.pc_terms.specs.BoxSyntax.{BoxTerm}
+use Rattle.box_terms.specs.BoxSyntax.{BoxTerm}
 use Rattle.calculus_rules.specs.FirstOrder.{Data, FitsShapes}
 use Rattle.first_order.specs.Searching.{members}
 use Rattle.lambda_box.specs.BoxEvaluation.{BoxEvaluates}

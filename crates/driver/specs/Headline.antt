@@ -3,7 +3,7 @@
 use Rattle.std.specs.Prelude.{◌≡◌, ◌≢◌, ℕ, ◌+◌, ◌*◌, ◌<◌, ◌≤◌, List, Option, Some}
 use Rattle.std.specs.Io.KnownBytes.{Appends}
 use Rattle.pc_terms.specs.Syntax.{Term}
-use Rattle.pc_terms.specs.BoxSyntax.{BoxTerm}
+use Rattle.box_terms.specs.BoxSyntax.{BoxTerm}
 use Rattle.pc_rules.specs.declared.meter.Account.{Account}
 use Rattle.calculus_rules.specs.Environment.{Env}
 use Rattle.calculus_rules.specs.Evaluation.{Evaluates}

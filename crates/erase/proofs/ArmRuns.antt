@@ -9,7 +9,7 @@ use Rattle.pc_terms.specs.declared.term.MakeFault.TheVariants.{TooDeep as DeepTe
 use Rattle.pc_terms.specs.Lists.{arms_of}
 use Rattle.pc_terms.specs.Formed.{EachTerm}
 use Rattle.pc_terms.specs.Syntax.{Term, Case}
-use Rattle.pc_terms.specs.BoxSyntax.{BoxTerm, BoxTerms, BCase}
+use Rattle.box_terms.specs.BoxSyntax.{BoxTerm, BoxTerms, BCase}
 use Rattle.calculus_rules.specs.declared.declaration.Constructor.{Constructor}
 use Rattle.pc_rules.specs.declared.broken.Broken.TheVariants.{UnknownName}
 use Rattle.pc_rules.specs.declared.meter.Account.{Account}

@@ -8,7 +8,7 @@ use Rattle.pc_terms.specs.declared.term.MakeFault.TheVariants.{TooDeep as DeepTe
 use Rattle.pc_terms.specs.Lists.{types_of, bodies_of, rargs_of}
 use Rattle.pc_terms.specs.Formed.{EachTerm}
 use Rattle.pc_terms.specs.Syntax.{Term, Terms, Fix, shift}
-use Rattle.pc_terms.specs.BoxSyntax.{BoxTerm, BoxTerms, BFix}
+use Rattle.box_terms.specs.BoxSyntax.{BoxTerm, BoxTerms, BFix}
 use Rattle.calculus_rules.specs.declared.entry.Entry.TheVariants.{Assumed}
 use Rattle.pc_rules.specs.declared.meter.Account.{Account}
 use Rattle.pc_rules.specs.declared.meter.Meter.{Meter}

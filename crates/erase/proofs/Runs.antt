@@ -2,7 +2,7 @@
 use Rattle.std.proofs.Common.{◌∷◌, Option, Some, None, Result, Ok, Err, arith}
 use Rattle.trees.specs.Measures.{IsWithin}
 use Rattle.pc_terms.specs.Syntax.{Term, Lambda, LetIn, App}
-use Rattle.pc_terms.specs.BoxSyntax.{BoxTerm, Box, BLambda, BLetIn, BApp}
+use Rattle.box_terms.specs.BoxSyntax.{BoxTerm, Box, BLambda, BLetIn, BApp}
 use Rattle.calculus_rules.specs.declared.entry.Entry.TheVariants.{Assumed, Defined}
 use Rattle.pc_rules.specs.declared.meter.Account.{Account}
 use Rattle.pc_rules.specs.declared.meter.Meter.{Meter}

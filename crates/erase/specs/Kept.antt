@@ -2,7 +2,7 @@
 use Rattle.std.specs.Prelude.{ℕ, ◌≤◌, List, Some}
 use Rattle.pc_terms.specs.declared.leaf.Name.{Name}
 use Rattle.pc_terms.specs.Syntax.{Term}
-use Rattle.pc_terms.specs.BoxSyntax.{BoxTerm}
+use Rattle.box_terms.specs.BoxSyntax.{BoxTerm}
 use Rattle.calculus_rules.specs.Environment.{Env, KeepsConstant}
 use Rattle.calculus_rules.specs.Evaluation.{Evaluates}
 use Rattle.calculus_rules.specs.FirstOrder.{Shape, IsFirstOrder, Reads, FitsShapes}

@@ -3,7 +3,7 @@ use Rattle.std.proofs.Common.{◌≡◌, ◌≢◌, ℕ, suc, List, [], ◌∷�
 use Rattle.pc_terms.specs.Syntax.{Term, Rel, App, apply}
 use Rattle.calculus_rules.specs.Environment.{Env}
 use Rattle.calculus_rules.specs.Context.{Context}
-use Rattle.pc_terms.specs.BoxSyntax.{BoxTerm, Box, BLambda, BLetIn, BApp, BConst, BConstruct, BCase, BFix}
+use Rattle.box_terms.specs.BoxSyntax.{BoxTerm, Box, BLambda, BLetIn, BApp, BConst, BConstruct, BCase, BFix}
 use Rattle.calculus_rules.specs.Erasable.{Erasable}
 use Rattle.erase_laws.specs.Erases.{Erases, box, app, ErasesAll, none, one}
 use Rattle.lambda_box.specs.BoxProgram.{BoxProgram, box_apply}

@@ -7,7 +7,7 @@ use Rattle.calculus_rules.specs.Context.{Context}
 use Rattle.erase_laws.specs.Laws.{ErasureOfSubstitution, WeakeningOfErasure}
 use Rattle.trees.proofs.Fusion.{substitute_rel, overs_rel}
 use Rattle.typing_laws.proofs.RenamingAndPutting.{puts_one}
-use Rattle.pc_terms.specs.BoxSyntax.{BoxTerm}
+use Rattle.box_terms.specs.BoxSyntax.{BoxTerm}
 use Rattle.erase_laws.specs.Erases.{Erases}
 use Rattle.erase_laws.proofs.ErasingSubstituted.{CarriesErasure, substitute_erases, erases_at, renaming_pair, putting_pair, pairs_one}
 use Rattle.typing_laws.proofs.AcceptedClosed.{accepted_closed}

@@ -3,7 +3,7 @@ use Rattle.std.proofs.Common.{ℕ, Bool, true, false, if◌then◌else◌, List,
 use Rattle.pc_terms.specs.declared.leaf.FamilyId.{FamilyId}
 use Rattle.pc_terms.specs.Syntax.{Term, Terms, Next, Rel, Lambda, LetIn, App, Const, Construct, Case, Fix}
 use Rattle.pc_terms.specs.Syntax as syntax
-use Rattle.pc_terms.specs.BoxSyntax.{BoxTerm, BoxTerms, Box, BLambda, BLetIn, BApp, BConst, BConstruct, BCase, BFix}
+use Rattle.box_terms.specs.BoxSyntax.{BoxTerm, BoxTerms, Box, BLambda, BLetIn, BApp, BConst, BConstruct, BCase, BFix}
 use Rattle.calculus_rules.specs.declared.declaration.Constructor.{Constructor}
 use Rattle.calculus_rules.specs.declared.declaration.Kept.{Kept}
 use Rattle.calculus_rules.specs.declared.declaration.Kept.TheVariants.{Constant, Heads, Block as Whole}

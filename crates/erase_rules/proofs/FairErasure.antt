@@ -4,7 +4,7 @@ use Rattle.universe_levels.specs.declared.sort.Sort.{Sort}
 use Rattle.pc_terms.specs.declared.leaf.FamilyId.{FamilyId}
 use Rattle.pc_terms.specs.Syntax.{Term, Terms, Next, Rel, SortT, Prod, Lambda, LetIn, App, Const, Construct, Case, Fix}
 use Rattle.pc_terms.specs.Syntax as syntax
-use Rattle.pc_terms.specs.BoxSyntax.{BoxTerm, BoxTerms, Box, BLambda, BLetIn, BApp, BConst, BConstruct, BCase, BFix}
+use Rattle.box_terms.specs.BoxSyntax.{BoxTerm, BoxTerms, Box, BLambda, BLetIn, BApp, BConst, BConstruct, BCase, BFix}
 use Rattle.calculus_rules.specs.declared.declaration.Constructor.{Constructor}
 use Rattle.calculus_rules.specs.declared.entry.Entry.TheVariants.{Assumed, Defined}
 use Rattle.pc_rules.specs.declared.broken.Broken.TheVariants.{UnknownName}

@@ -6,7 +6,7 @@ use Rattle.trees.specs.Closed.{Every, EveryChild, EveryTerm}
 use Rattle.pc_terms.specs.declared.leaf.Name.{Name}
 use Rattle.pc_terms.specs.declared.leaf.FamilyId.{FamilyId}
 use Rattle.pc_terms.specs.Syntax.{Term}
-use Rattle.pc_terms.specs.BoxSyntax.{BoxLabel, BoxOf, BLambdaOf, BLetInOf, BAppOf, BConstOf, BConstructOf, BCaseOf, BFixOf, box_slots, BoxTerm, BoxTerms}
+use Rattle.box_terms.specs.BoxSyntax.{BoxLabel, BoxOf, BLambdaOf, BLetInOf, BAppOf, BConstOf, BConstructOf, BCaseOf, BFixOf, box_slots, BoxTerm, BoxTerms}
 use Rattle.calculus_rules.specs.declared.declaration.Block.{Block}
 use Rattle.calculus_rules.specs.declared.declaration.Kept.{Kept}
 use Rattle.calculus_rules.specs.declared.declaration.Kept.TheVariants.{Constant, Heads, Block as Whole}

@@ -3,7 +3,7 @@ use Rattle.std.proofs.Common.{◌≡◌, ℕ, suc, List, [], ◌∷◌, length, 
 use Rattle.pc_terms.specs.Syntax.{Term, Terms, Next, Rel, SortT, Prod, Lambda, LetIn, App, Const, Ind, Construct, Case, Fix, shift, terms_of}
 use Rattle.pc_terms.specs.Syntax as syntax
 use Rattle.pc_terms.specs.Formed.{binders_of, EachTerm, AreAll}
-use Rattle.pc_terms.specs.BoxSyntax.{BoxTerm, BoxTerms, BLambda, BLetIn, BApp, BCase, BFix}
+use Rattle.box_terms.specs.BoxSyntax.{BoxTerm, BoxTerms, BLambda, BLetIn, BApp, BCase, BFix}
 use Rattle.calculus_rules.specs.declared.declaration.Constructor.{Constructor}
 use Rattle.calculus_rules.specs.declared.entry.Entry.TheVariants.{Assumed, Defined}
 use Rattle.pc_rules.specs.declared.meter.Account.{Account}

@@ -10,7 +10,7 @@ use Rattle.pc_terms.specs.declared.leaf.Name.{Name}
 use Rattle.pc_terms.specs.declared.leaf.FamilyId.{FamilyId}
 use Rattle.pc_terms.specs.Syntax.{Term, SortT, Prod, Ind, Construct, Case}
 use Rattle.pc_terms.specs.Formed.{IsFormed}
-use Rattle.pc_terms.specs.BoxSyntax.{BoxTerm}
+use Rattle.box_terms.specs.BoxSyntax.{BoxTerm}
 use Rattle.pc_rules.specs.declared.meter.Account.{Account}
 use Rattle.calculus_rules.specs.Environment.{Env, FamilyDecl, KeepsConstant, KeepsFamily}
 use Rattle.calculus_rules.specs.Context.{Context}

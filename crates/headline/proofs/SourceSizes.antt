@@ -2,7 +2,7 @@
 use Rattle.std.proofs.Common.{◌≡◌, ℕ, zero, suc, ◌≤◌, max, List, [], ◌∷◌, ◌++◌, length, map, Some, None, slice_get, sym, ap, subst, ◌∙◌, arith}
 use Rattle.std.proofs.lemmas.List.{length-map}
 use Rattle.pc_terms.specs.Syntax.{Term, Terms}
-use Rattle.pc_terms.specs.BoxSyntax.{BoxTerm, BoxTerms}
+use Rattle.box_terms.specs.BoxSyntax.{BoxTerm, BoxTerms}
 use Rattle.calculus_rules.specs.declared.declaration.Constructor.{Constructor}
 use Rattle.calculus_rules.specs.declared.declaration.Family.{Family}
 use Rattle.calculus_rules.specs.declared.declaration.Block.{Block}

@@ -4,7 +4,7 @@ use Rattle.std.proofs.Math.Nat.{mul-le-mul_right}
 use Rattle.trees.specs.Tree.{Rel, Node, Done, Next}
 use Rattle.trees.specs.Measures.{nodes, nodes_trees}
 use Rattle.pc_terms.specs.declared.leaf.Name.{Name}
-use Rattle.pc_terms.specs.BoxSyntax.{BoxTerm, BoxTerms, Box, BLambda, BLetIn, BApp, BConst, BConstruct, BCase, BFix}
+use Rattle.box_terms.specs.BoxSyntax.{BoxTerm, BoxTerms, Box, BLambda, BLetIn, BApp, BConst, BConstruct, BCase, BFix}
 use Rattle.lambda_box.specs.BoxProgram.{BoxConstant}
 use Rattle.lambda_box.specs.SaturatedForm.{nodes_of_constants}
 use Rattle.anf_convert.specs.Anf.{LamOp, AnfBlock, AnfBranches, Branch, AnfDefs, LamDef, BoxDef, AnfBinding, AtomIs, OpIs, tail_of, block_of}

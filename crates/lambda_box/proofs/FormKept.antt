@@ -5,7 +5,7 @@ use Rattle.trees.specs.Parallel.{up, ups, rename, rename_children, rename_terms,
 use Rattle.trees.specs.Closed.{Closed, ClosedTerms, ClosedEach}
 use Rattle.trees.proofs.Bounds.{closed_at, Fits, substitute-closed, put_all_fits}
 use Rattle.trees.proofs.Shape.{binders_renamed, binders_substituted}
-use Rattle.pc_terms.specs.BoxSyntax.{BoxLabel, box_slots, BoxOf, BLambdaOf, BLetInOf, BAppOf, BConstOf, BConstructOf, BCaseOf, BFixOf, BoxTerm, BoxTerms, BApp, BConstruct, BFix}
+use Rattle.box_terms.specs.BoxSyntax.{BoxLabel, box_slots, BoxOf, BLambdaOf, BLetInOf, BAppOf, BConstOf, BConstructOf, BCaseOf, BFixOf, BoxTerm, BoxTerms, BApp, BConstruct, BFix}
 use Rattle.lambda_box.specs.BoxProgram.{BoxConstant, BoxFamily, BoxProgram, Has, NamesOnly, box_apply, boxes, box_fixpoints}
 use Rattle.lambda_box.specs.BoxEvaluation.{is_box_constructor, BoxUnfolds, unfolds, box_unfolded, BoxEvaluates, value, constant, let_in, beta, box_app, extend, unfold_fix, enter, enter_only}
 use Rattle.lambda_box.specs.BoxForm.{IsFixBody, boxed, last, more, AreFixBodies, FormAt, HasBoxForm, HasBoxFormChildren, HasBoxFormTerms, IsBoxBody}

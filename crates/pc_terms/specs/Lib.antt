@@ -6,6 +6,4 @@ pub mod View
 pub mod Counted
 pub mod Codes
 pub mod Falls
-pub mod BoxSyntax
-pub mod BoxCode
 pub mod Copies

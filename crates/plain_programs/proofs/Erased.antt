@@ -4,7 +4,7 @@ use Rattle.std.specs.Prelude.{slice_get, option_map}
 use Rattle.std.proofs.lemmas.Option.{slice_get-map}
 use Rattle.pc_terms.specs.declared.leaf.FamilyId.{FamilyId}
 use Rattle.pc_terms.specs.Syntax.{Term, SortT, Ind, Construct}
-use Rattle.pc_terms.specs.BoxSyntax.{BoxTerm, BConstruct}
+use Rattle.box_terms.specs.BoxSyntax.{BoxTerm, BConstruct}
 use Rattle.calculus_rules.specs.declared.declaration.Constructor.{Constructor}
 use Rattle.calculus_rules.specs.declared.declaration.Family.{Family}
 use Rattle.calculus_rules.specs.declared.declaration.Block.{Block}

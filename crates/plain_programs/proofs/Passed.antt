@@ -2,7 +2,7 @@
 use Rattle.std.proofs.Common.{◌≡◌, ℕ, zero, suc, ◌+◌, ◌≤◌, max, Bool, true, false, List, [], ◌∷◌, map, length, Option, Some, refl, sym, ap, subst, ◌∙◌, arith, lit≤}
 use Rattle.std.specs.Prelude.{slice_get, if◌then◌else◌}
 use Rattle.pc_terms.specs.declared.leaf.FamilyId.{FamilyId}
-use Rattle.pc_terms.specs.BoxSyntax.{BoxTerm, BConstruct}
+use Rattle.box_terms.specs.BoxSyntax.{BoxTerm, BConstruct}
 use Rattle.lambda_box.specs.BoxProgram.{BoxFamily, BoxProgram}
 use Rattle.lambda_box.specs.BoxForm.{IsBoxProgram}
 use Rattle.lambda_box.specs.BoxEvaluation.{BoxEvaluates, value, construct_is, IsBoxConstructor, is_box_constructor}

@@ -1,7 +1,7 @@
 -- Programs after erasure without constants whose main is a constructor, and whose families have neither parameters nor arguments.
 use Rattle.std.specs.Prelude.{◌≡◌, ℕ, List, [], ◌∷◌, Some, false, slice_get}
 use Rattle.pc_terms.specs.declared.leaf.FamilyId.{FamilyId}
-use Rattle.pc_terms.specs.BoxSyntax.{BConstruct}
+use Rattle.box_terms.specs.BoxSyntax.{BConstruct}
 use Rattle.lambda_box.specs.BoxProgram.{BoxFamily, BoxProgram, Has}
 
 abbrev pub AreZero : List ℕ → Type 0

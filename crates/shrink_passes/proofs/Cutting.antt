@@ -7,7 +7,7 @@ use Rattle.trees.specs.Measures.{nodes, nodes_trees, depth, depth_trees}
 use Rattle.trees.specs.Closed.{Closed, ClosedTerms, EveryTerm}
 use Rattle.trees.specs.Shape.{binders_of}
 use Rattle.trees.proofs.Bounds.{closed_at}
-use Rattle.pc_terms.specs.BoxSyntax.{BoxTerm, BoxTerms, Box, BLambda, BLetIn, BApp, BConst, BConstruct, BCase, BFix}
+use Rattle.box_terms.specs.BoxSyntax.{BoxTerm, BoxTerms, Box, BLambda, BLetIn, BApp, BConst, BConstruct, BCase, BFix}
 use Rattle.lambda_box.specs.BoxProgram.{BoxConstant, BoxFamily, NamesKept, NamesOnly}
 use Rattle.lambda_box.specs.BoxForm.{IsFixBody, boxed, last, more, AreFixBodies, HasBoxForm, HasBoxFormTerms, IsBoxBody}
 use Rattle.lambda_box.specs.SaturatedForm.{IsSaturatedAt, AreSaturated}

@@ -7,7 +7,7 @@ use Rattle.trees.specs.Tree.{Rel, Done, Next}
 use Rattle.trees.specs.Parallel.{first, over, substitute}
 use Rattle.trees.specs.Closed.{Closed}
 use Rattle.trees.proofs.Put.{substitute_same}
-use Rattle.pc_terms.specs.BoxSyntax.{BoxTerm, BoxTerms, Box, BLambda, BLetIn, BApp, BConst, BConstruct, BCase, BFix}
+use Rattle.box_terms.specs.BoxSyntax.{BoxTerm, BoxTerms, Box, BLambda, BLetIn, BApp, BConst, BConstruct, BCase, BFix}
 use Rattle.lambda_box.specs.BoxProgram.{BoxConstant, BoxFamily, BoxProgram, Has, here, there}
 use Rattle.lambda_box.specs.BoxForm.{AreOrdered, IsBoxProgram}
 use Rattle.box_passes.specs.Saturate.{lambdas}

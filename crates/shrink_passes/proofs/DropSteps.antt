@@ -5,7 +5,7 @@ use Rattle.trees.specs.Measures.{nodes, depth}
 use Rattle.trees.specs.Parallel.{put, substitute}
 use Rattle.trees.proofs.Every.{every_more}
 use Rattle.pc_terms.specs.declared.leaf.Name.{Name}
-use Rattle.pc_terms.specs.BoxSyntax.{BoxLabel, BoxOf, BLambdaOf, BLetInOf, BAppOf, BConstOf, BConstructOf, BCaseOf, BFixOf, BoxTerm, Box, BLambda}
+use Rattle.box_terms.specs.BoxSyntax.{BoxLabel, BoxOf, BLambdaOf, BLetInOf, BAppOf, BConstOf, BConstructOf, BCaseOf, BFixOf, BoxTerm, Box, BLambda}
 use Rattle.lambda_box.specs.BoxProgram.{BoxConstant, BoxFamily, BoxProgram, Has, here, there, NamesKept, NamesOnly, KeepsBoxConstant}
 use Rattle.lambda_box.specs.BoxForm.{IsBoxBody, AreOrdered, IsBoxProgram}
 use Rattle.lambda_box.specs.SaturatedForm.{IsSaturatedAt}

@@ -7,7 +7,7 @@ use Rattle.trees.specs.Closed.{Closed, ClosedTerms, EveryTerm}
 use Rattle.trees.specs.Shape.{binders_of}
 use Rattle.trees.proofs.Closed.{loose-closed, loose-least}
 use Rattle.pc_terms.specs.declared.leaf.Name.{Name}
-use Rattle.pc_terms.specs.BoxSyntax.{BConstOf, BoxTerm, BoxTerms, Box, BLambda, BLetIn, BApp, BConst, BConstruct, BCase, BFix}
+use Rattle.box_terms.specs.BoxSyntax.{BConstOf, BoxTerm, BoxTerms, Box, BLambda, BLetIn, BApp, BConst, BConstruct, BCase, BFix}
 use Rattle.lambda_box.specs.BoxProgram.{BoxConstant, BoxFamily, Has, here, there, NamesKept, NamesOnly}
 use Rattle.lambda_box.specs.BoxForm.{IsFixBody, boxed, last, more, AreFixBodies, HasBoxForm, HasBoxFormTerms, IsBoxBody, AreOrdered, IsBoxProgram}
 use Rattle.lambda_box.proofs.Naming.{named_more}

@@ -2,7 +2,7 @@
 use Rattle.std.proofs.Common.{◌≡◌, List, [], ◌∷◌, ℕ, length, map, refl, sym, ap, ◌∙◌}
 use Rattle.trees.specs.Tree.{Done, Next}
 use Rattle.pc_terms.specs.declared.leaf.FamilyId.{FamilyId}
-use Rattle.pc_terms.specs.BoxSyntax.{BoxTerm, BoxTerms, BCase, BFix}
+use Rattle.box_terms.specs.BoxSyntax.{BoxTerm, BoxTerms, BCase, BFix}
 use Rattle.box_terms.specs.BoxLists.{arms_of, bodies_of, rargs_of}
 use Rattle.box_terms.specs.declared.term.BoxBranch.{BoxBranch}
 use Rattle.box_terms.specs.declared.term.BoxDef.{BoxDef}

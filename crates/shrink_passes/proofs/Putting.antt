@@ -5,7 +5,7 @@ use Rattle.std.proofs.lemmas.Bool.{eqb-true}
 use Rattle.trees.specs.Tree.{Rel, Done, Next}
 use Rattle.trees.specs.Measures.{nodes, nodes_trees, depth, depth_trees}
 use Rattle.pc_terms.specs.declared.leaf.Name.{Name}
-use Rattle.pc_terms.specs.BoxSyntax.{BoxTerm, BoxTerms, Box, BLambda, BLetIn, BApp, BConst, BConstruct, BCase, BFix}
+use Rattle.box_terms.specs.BoxSyntax.{BoxTerm, BoxTerms, Box, BLambda, BLetIn, BApp, BConst, BConstruct, BCase, BFix}
 use Rattle.shrink_passes.specs.Uses.{uses, uses_terms}
 use Rattle.shrink_passes.specs.Inline.{put_in, put_in_terms}
 

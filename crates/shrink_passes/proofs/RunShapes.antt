@@ -3,7 +3,7 @@ use Rattle.std.proofs.Common.{◌≡◌, ℕ, zero, suc, ◌+◌, ◌≤◌, Boo
 use mathlib.Core.Path.{fun_ext}
 use Rattle.trees.specs.Tree.{Rel}
 use Rattle.trees.specs.Parallel.{over, overs}
-use Rattle.pc_terms.specs.BoxSyntax.{BoxTerm, BoxTerms, Box, BLambda, BLetIn, BApp, BConst, BConstruct, BCase, BFix}
+use Rattle.box_terms.specs.BoxSyntax.{BoxTerm, BoxTerms, Box, BLambda, BLetIn, BApp, BConst, BConstruct, BCase, BFix}
 use Rattle.lambda_box.specs.BoxProgram.{BoxProgram}
 use Rattle.lambda_box.specs.ClosureEvaluation.{names, ClosureValue, VBox, VClosure, VFix, ClosureEnv, Empty, closure_words, Counts, nothing, block, ClosureRun, run_box, run_value, run_definition, run_lambda, run_fix, run_constant, run_let, run_app, run_box_app, run_fix_app, run_fix_box, run_construct, run_match, run_only, run_head, run_arg}
 use Rattle.box_passes.specs.Saturate.{lambdas}

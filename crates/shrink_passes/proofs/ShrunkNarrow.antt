@@ -7,7 +7,7 @@ use Rattle.trees.specs.Parallel.{rename, up, ups, over, overs, put, substitute, 
 use Rattle.trees.specs.Closed.{Closed, ClosedTerms}
 use Rattle.trees.proofs.Bounds.{closed_at}
 use Rattle.trees.proofs.Put.{ups_past, ups_below, substitute_same}
-use Rattle.pc_terms.specs.BoxSyntax.{BoxTerm, BoxTerms, Box, BLambda, BLetIn, BApp, BConst, BConstruct, BCase, BFix}
+use Rattle.box_terms.specs.BoxSyntax.{BoxTerm, BoxTerms, Box, BLambda, BLetIn, BApp, BConst, BConstruct, BCase, BFix}
 use Rattle.lambda_box.specs.BoxProgram.{BoxConstant, BoxFamily, BoxProgram, Has, here, there}
 use Rattle.lambda_box.specs.BoxForm.{IsFixBody, boxed, last, more, AreFixBodies, HasBoxForm, HasBoxFormTerms, IsBoxProgram}
 use Rattle.lambda_box.proofs.Naming.{ordered_body}

@@ -1,7 +1,7 @@
 -- Measures of a program as it stands between two steps.
 use Rattle.std.proofs.Common.{◌≡◌, ℕ, zero, suc, ◌+◌, ◌*◌, ◌≤◌, max, List, [], ◌∷◌, refl, arith, ◌⊎◌, inl, inr, ⊎_elim}
 use Rattle.trees.specs.Measures.{nodes}
-use Rattle.pc_terms.specs.BoxSyntax.{BoxTerm}
+use Rattle.box_terms.specs.BoxSyntax.{BoxTerm}
 use Rattle.lambda_box.specs.BoxProgram.{BoxConstant}
 use Rattle.lambda_box.specs.SaturatedForm.{nodes_of_constants}
 use Rattle.shrink_passes.specs.Uses.{total, greatest}

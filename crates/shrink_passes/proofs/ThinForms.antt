@@ -6,7 +6,7 @@ use Rattle.trees.specs.Parallel.{overs, put, substitute, substitute_terms}
 use Rattle.trees.specs.Closed.{Closed}
 use Rattle.trees.proofs.Bounds.{closed_at, put_fits, substitute-closed}
 use Rattle.trees.proofs.Every.{every_substitute}
-use Rattle.pc_terms.specs.BoxSyntax.{BoxTerm, BoxTerms, Box, BLambda, BLetIn, BApp, BConst, BConstruct, BCase, BFix}
+use Rattle.box_terms.specs.BoxSyntax.{BoxTerm, BoxTerms, Box, BLambda, BLetIn, BApp, BConst, BConstruct, BCase, BFix}
 use Rattle.lambda_box.specs.BoxProgram.{BoxConstant, BoxFamily, NamesKept, NamesOnly}
 use Rattle.lambda_box.specs.BoxForm.{HasBoxForm, IsBoxBody}
 use Rattle.lambda_box.specs.SaturatedForm.{IsSaturatedAt, AreSaturated}

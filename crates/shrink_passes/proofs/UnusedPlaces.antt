@@ -6,7 +6,7 @@ use Rattle.std.proofs.lemmas.List.{length-reverse}
 use Rattle.trees.specs.Tree.{Rel, Next}
 use Rattle.trees.specs.Closed.{Closed}
 use Rattle.pc_terms.specs.declared.leaf.FamilyId.{FamilyId}
-use Rattle.pc_terms.specs.BoxSyntax.{BoxTerm, BoxTerms, Box, BLambda, BLetIn, BApp, BConst, BConstruct, BCase, BFix}
+use Rattle.box_terms.specs.BoxSyntax.{BoxTerm, BoxTerms, Box, BLambda, BLetIn, BApp, BConst, BConstruct, BCase, BFix}
 use Rattle.lambda_box.specs.ClosureEvaluation.{names, names_terms}
 use Rattle.shrink_passes.specs.DropParams.{leading, is_unused}
 use Rattle.shrink_passes.specs.DeadPlaces.{flag_at, is_below, is_unnamed, are_unnamed, is_spare}

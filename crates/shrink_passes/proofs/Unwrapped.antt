@@ -9,7 +9,7 @@ use Rattle.trees.specs.Measures.{depth, above, above_trees, IsWithin, IsBeyond}
 use Rattle.trees.specs.Closed.{Closed}
 use Rattle.trees.proofs.Fusion.{rename-rename, rename_same, substitute-rename, substitute-substitute}
 use Rattle.trees.proofs.Put.{Agree, substitute_closed, substitute_same, put_all_agree, agree_none}
-use Rattle.pc_terms.specs.BoxSyntax.{BoxLabel, box_slots, BoxTerm, BoxTerms, Box, BLambda, BLetIn, BApp, BConst, BConstruct, BCase, BFix}
+use Rattle.box_terms.specs.BoxSyntax.{BoxLabel, box_slots, BoxTerm, BoxTerms, Box, BLambda, BLetIn, BApp, BConst, BConstruct, BCase, BFix}
 use Rattle.lambda_box.specs.ClosureEvaluation.{names, names_places, names_terms}
 use Rattle.box_passes.specs.Saturate.{lambdas}
 use Rattle.shrink_passes.specs.DropParams.{leading, is_unused, without_lambda}

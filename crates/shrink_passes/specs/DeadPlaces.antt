@@ -1,6 +1,6 @@
 -- What the walks of a program note of the places of each constant's parameters: whether the parameter isn't used, and every use of the constant has box there.
 use Rattle.std.specs.Prelude.{ℕ, zero, suc, ◌+◌, nat_eq, Bool, true, false, ◌&&◌, if◌then◌else◌, List, [], ◌∷◌, reverse, Option, Some, None}
-use Rattle.pc_terms.specs.BoxSyntax.{BoxTerm, BoxTerms, Box, BLambda, BApp, BConst}
+use Rattle.box_terms.specs.BoxSyntax.{BoxTerm, BoxTerms, Box, BLambda, BApp, BConst}
 use Rattle.lambda_box.specs.BoxProgram.{BoxConstant, BoxProgram}
 use Rattle.lambda_box.specs.ClosureEvaluation.{names, names_terms}
 use Rattle.shrink_passes.specs.declared.flags.Loss.{Loss}

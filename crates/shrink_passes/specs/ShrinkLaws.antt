@@ -1,6 +1,6 @@
 -- What the passes that shrink programs promise.
 use Rattle.std.specs.Prelude.{◌≤◌, ◌≡◌, List, length}
-use Rattle.pc_terms.specs.BoxSyntax.{BoxTerm}
+use Rattle.box_terms.specs.BoxSyntax.{BoxTerm}
 use Rattle.lambda_box.specs.BoxProgram.{BoxProgram, box_apply}
 use Rattle.lambda_box.specs.BoxForm.{IsBoxProgram}
 use Rattle.lambda_box.specs.BoxData.{Data}

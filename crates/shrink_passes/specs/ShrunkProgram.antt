@@ -1,7 +1,7 @@
 -- All passes on programs after erasure, in their order, as statements: matches on proofs dropped, constructors saturated, constants with one use put in its
 -- place, parameters that are always box dropped.
 use Rattle.std.specs.Prelude.{ℕ, ◌+◌, ◌*◌, ◌≤◌, ◌≡◌}
-use Rattle.pc_terms.specs.BoxSyntax.{BoxTerm}
+use Rattle.box_terms.specs.BoxSyntax.{BoxTerm}
 use Rattle.lambda_box.specs.BoxProgram.{BoxProgram}
 use Rattle.lambda_box.specs.BoxForm.{IsBoxProgram}
 use Rattle.lambda_box.specs.BoxEvaluation.{BoxEvaluates}

@@ -1,7 +1,7 @@
 -- What one walk of a program notes of each constant's uses.
 use Rattle.std.specs.Prelude.{ℕ, nat_eq, nat_le, ◌+◌, Bool, false, if◌then◌else◌, List, [], ◌∷◌, reverse, Option, Some, None}
 use Rattle.trees.specs.Tree.{Rel, Done, Next}
-use Rattle.pc_terms.specs.BoxSyntax.{BoxTerm, BoxTerms, Box, BLambda, BLetIn, BApp, BConst, BConstruct, BCase, BFix}
+use Rattle.box_terms.specs.BoxSyntax.{BoxTerm, BoxTerms, Box, BLambda, BLetIn, BApp, BConst, BConstruct, BCase, BFix}
 use Rattle.lambda_box.specs.BoxProgram.{BoxConstant, BoxProgram}
 use Rattle.shrink_passes.specs.declared.counting.Sight.{Sight}
 use Rattle.shrink_passes.specs.declared.counting.Sight.TheVariants.{Once, Often}

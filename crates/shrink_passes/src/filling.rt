@@ -2,7 +2,7 @@
 ghost use Rattle.std.specs.Prelude.{◌≡◌, ◌≤◌, ℕ, IfOk, IfErr, nat_eq, length, map};
 ghost use Rattle.std.specs.HashMap.{get};
 ghost use Rattle.trees.specs.Measures.{depth, depth_trees};
-ghost use Rattle.pc_terms.specs.BoxSyntax.{BConst};
+ghost use Rattle.box_terms.specs.BoxSyntax.{BConst};
 ghost use Rattle.box_terms.specs.BoxLists.{arms_of, bodies_of};
 ghost use Rattle.box_terms.specs.BoxView.{box_of};
 ghost use Rattle.box_passes.specs.Maps.{map_branch, map_def};

@@ -4,7 +4,7 @@ ghost use Rattle.trees.specs.Tree.{Rel as variable};
 ghost use Rattle.trees.specs.Parallel.{put_all, substitute};
 ghost use Rattle.trees.specs.Measures.{depth, IsWithin};
 ghost use Rattle.trees.specs.Closed.{Closed};
-ghost use Rattle.pc_terms.specs.BoxSyntax.{Box, BLambda};
+ghost use Rattle.box_terms.specs.BoxSyntax.{Box, BLambda};
 ghost use Rattle.box_terms.specs.BoxView.{box_of};
 ghost use Rattle.lambda_box.specs.declared.fault.PassFault.TheVariants.{Memory};
 ghost use Rattle.shrink_passes.specs.DropParams.{leading};

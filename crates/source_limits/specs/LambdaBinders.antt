@@ -1,7 +1,7 @@
 -- The greatest number of binders that a lambda of a program after erasure is under: one for each variable of a lambda, of a let, of a branch or of a fixpoint that is bound outside it.
 use Rattle.std.specs.Prelude.{ℕ, suc, ◌+◌, max, List, [], ◌∷◌}
 use Rattle.trees.specs.Tree.{Rel, Done, Next}
-use Rattle.pc_terms.specs.BoxSyntax.{BoxTerm, BoxTerms, Box, BLambda, BLetIn, BApp, BConst, BConstruct, BCase, BFix}
+use Rattle.box_terms.specs.BoxSyntax.{BoxTerm, BoxTerms, Box, BLambda, BLetIn, BApp, BConst, BConstruct, BCase, BFix}
 use Rattle.lambda_box.specs.BoxProgram.{BoxConstant, BoxProgram}
 
 -- of a term under d binders; 0 where it has no lambda

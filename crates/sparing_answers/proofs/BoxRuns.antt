@@ -3,7 +3,7 @@ use Rattle.std.proofs.Common.{◌≡◌, ◌≢◌, ℕ, true, List, [], ◌∷�
 use Rattle.trees.specs.Tree.{Rel, Done, Next, term_at}
 use Rattle.trees.specs.Parallel.{put, put_all, substitute}
 use Rattle.pc_terms.specs.declared.leaf.FamilyId.{FamilyId}
-use Rattle.pc_terms.specs.BoxSyntax.{BoxTerm, BoxTerms, Box, BLambda, BApp, BConstruct, BCase, BFix}
+use Rattle.box_terms.specs.BoxSyntax.{BoxTerm, BoxTerms, Box, BLambda, BApp, BConstruct, BCase, BFix}
 use Rattle.lambda_box.specs.BoxProgram.{BoxFamily, BoxProgram, KeepsBoxFamily, box_apply, boxes}
 use Rattle.lambda_box.specs.BoxEvaluation.{IsBoxConstructor, is_box_constructor, BoxTakesMore, constructor, fixpoint, box_unfolded, BoxUnfolds, unfolds, BoxEvaluates, value, beta, box_app, extend, unfold_fix, enter, enter_only}
 use Rattle.lambda_box.proofs.Determined.{OneBoxEach}

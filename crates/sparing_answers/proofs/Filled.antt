@@ -6,7 +6,7 @@ use Rattle.trees.specs.Data.{Data}
 use Rattle.trees.proofs.Fusion.{substitute_rel}
 use Rattle.trees.proofs.Cutoffs.{overs_sum}
 use Rattle.pc_terms.specs.declared.leaf.FamilyId.{FamilyId}
-use Rattle.pc_terms.specs.BoxSyntax.{BoxLabel, box_slots, BoxTerm, BoxTerms, Box, BApp, BConstruct, BFix}
+use Rattle.box_terms.specs.BoxSyntax.{BoxLabel, box_slots, BoxTerm, BoxTerms, Box, BApp, BConstruct, BFix}
 use Rattle.lambda_box.specs.BoxProgram.{BoxProgram, box_apply, box_fixpoints}
 use Rattle.lambda_box.specs.BoxEvaluation.{IsBoxConstructor, is_box_constructor, BoxTakesMore, constructor, fixpoint, BoxUnfolds, unfolds, box_unfolded}
 use Rattle.lambda_box.specs.BoxData.{BoxReads, box_reads, BoxReadsAll, no_box_field, box_field}

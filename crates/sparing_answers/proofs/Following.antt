@@ -8,7 +8,7 @@ use Rattle.trees.proofs.Fusion.{substitute-rename, substitute-substitute}
 use Rattle.trees.proofs.Put.{substitute_same}
 use Rattle.pc_terms.specs.declared.leaf.FamilyId.{FamilyId}
 use Rattle.pc_terms.specs.Syntax.{Term, Terms, Lambda, App, Case, over, first, put, put_all, substitute, terms_of}
-use Rattle.pc_terms.specs.BoxSyntax.{BoxTerm, BoxTerms, Box, BLambda, BApp, BConstruct, BFix}
+use Rattle.box_terms.specs.BoxSyntax.{BoxTerm, BoxTerms, Box, BLambda, BApp, BConstruct, BFix}
 use Rattle.calculus_rules.specs.declared.declaration.Constructor.{Constructor}
 use Rattle.calculus_rules.specs.declared.entry.Entry.TheVariants.{Defined}
 use Rattle.calculus_rules.specs.Environment.{Env, FamilyDecl, KeepsFamily}

@@ -4,7 +4,7 @@ use Rattle.trees.proofs.Put.{substitute_same}
 use Rattle.pc_terms.specs.declared.leaf.Name.{Name}
 use Rattle.pc_terms.specs.declared.leaf.FamilyId.{FamilyId}
 use Rattle.pc_terms.specs.Syntax.{Term, Terms, Rel, Lambda, App, Case, put, put_all, substitute, terms_of}
-use Rattle.pc_terms.specs.BoxSyntax.{BoxTerm, Box, BApp}
+use Rattle.box_terms.specs.BoxSyntax.{BoxTerm, Box, BApp}
 use Rattle.calculus_rules.specs.declared.declaration.Kept.{Kept}
 use Rattle.calculus_rules.specs.declared.declaration.Kept.TheVariants.{Constant}
 use Rattle.calculus_rules.specs.Environment.{Env, KeepsConstant}

@@ -1,7 +1,7 @@
 -- What programs after erasure, and their modules, answer of a sparing evaluation, as statements.
 use Rattle.std.specs.Prelude.{ℕ, ◌<◌, ◌≤◌, List, []}
 use Rattle.pc_terms.specs.Syntax.{Term}
-use Rattle.pc_terms.specs.BoxSyntax.{BoxTerm}
+use Rattle.box_terms.specs.BoxSyntax.{BoxTerm}
 use Rattle.calculus_rules.specs.Environment.{Env}
 use Rattle.calculus_rules.specs.Typing.{bare, Types}
 use Rattle.calculus_rules.specs.Accepted.{IsAccepted}

@@ -1,6 +1,6 @@
 use Rattle.std.proofs.Common.{rules, arith, ◌≡◌, ◌<◌, ◌≤◌, ◌⊎◌, true, false, [], length, sym, ap, ◌∙◌, subst}
 use Rattle.trees.specs.Measures.{depth, depth_trees}
-use Rattle.pc_terms.specs.BoxSyntax.{BCase, BFix}
+use Rattle.box_terms.specs.BoxSyntax.{BCase, BFix}
 use Rattle.box_terms.specs.BoxLists.{arms_of, bodies_of, rargs_of}
 use Rattle.box_terms.specs.BoxView.{box_of}
 use Rattle.lambda_box.specs.OrdinaryForm.{family_of}

@@ -1,7 +1,7 @@
 use Rattle.std.proofs.Common.{rules, arith, ◌≡◌, ◌<◌, ◌≤◌, ◌+◌, length, refl, sym, ap, ◌∙◌, subst, IfOk, IfErr}
 use Rattle.std.proofs.lemmas.Result.{err_from_is_err_and}
 use Rattle.trees.specs.Measures.{depth, depth_trees}
-use Rattle.pc_terms.specs.BoxSyntax.{BCase, BFix}
+use Rattle.box_terms.specs.BoxSyntax.{BCase, BFix}
 use Rattle.box_terms.specs.BoxLists.{arms_of, bodies_of, rargs_of}
 use Rattle.box_terms.specs.BoxView.{box_of}
 use Rattle.lambda_box.specs.declared.fault.PassFault.TheVariants.{TooDeep}

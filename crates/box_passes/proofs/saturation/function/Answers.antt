@@ -1,6 +1,6 @@
 use Rattle.std.proofs.Common.{arith, ◌<◌, ◌-◌, ap, ◌∙◌}
 use Rattle.std.proofs.lemmas.Result.{err_from_is_err_and}
-use Rattle.pc_terms.specs.BoxSyntax.{BApp, BLambda}
+use Rattle.box_terms.specs.BoxSyntax.{BApp, BLambda}
 use Rattle.lambda_box.specs.BoxProgram.{box_apply}
 use Rattle.box_passes.specs.Saturate.{innermost, lambdas, constructor_function}
 use Rattle.box_passes.proofs.Heading.{next_variable, next_lambda, function_deep, lambdas_deep}

@@ -1,5 +1,5 @@
 use Rattle.std.proofs.Common.{◌≡◌}
-use Rattle.pc_terms.specs.BoxSyntax.{BConstruct}
+use Rattle.box_terms.specs.BoxSyntax.{BConstruct}
 use Rattle.lambda_box.specs.BoxProgram.{box_apply}
 use Rattle.box_passes.specs.Saturate.{innermost, lambdas, constructor_function}
 use Rattle.box_passes.proofs.saturation.function.Given as goal

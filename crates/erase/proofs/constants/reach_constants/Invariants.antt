@@ -7,7 +7,7 @@ use Rattle.pc_rules.specs.Entailment.{test_of}
 use Rattle.calculus_rules.specs.Environment.{Has}
 use Rattle.pc_rules.specs.DirectedRun.{Run}
 use Rattle.pc_rules.specs.DirectedTyping.{infer}
-use Rattle.pc_terms.specs.BoxSyntax.{BoxTerm}
+use Rattle.box_terms.specs.BoxSyntax.{BoxTerm}
 use Rattle.erase_rules.specs.DirectedProgram.{Reached, is_reached, erased_constants}
 use Rattle.erase.specs.declared.refusal.HaltAt.{HaltAt}
 use Rattle.erase.specs.AtPlaces.{FollowsAt}

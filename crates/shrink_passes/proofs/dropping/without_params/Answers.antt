@@ -3,7 +3,7 @@ use Rattle.std.specs.Prelude.{nat_eq}
 use Rattle.std.specs.HashMap.{get}
 use Rattle.trees.specs.Tree.{Rel}
 use Rattle.trees.proofs.Put.{substitute_same}
-use Rattle.pc_terms.specs.BoxSyntax.{BoxTerm}
+use Rattle.box_terms.specs.BoxSyntax.{BoxTerm}
 use Rattle.shrink_passes.specs.DropParams.{leading}
 use Rattle.shrink_passes.specs.DeadPlaces.{has_place, is_place}
 use Rattle.shrink_passes.specs.Pruned.{pruned, unwrapped}

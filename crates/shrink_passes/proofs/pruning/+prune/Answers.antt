@@ -2,7 +2,7 @@ use Rattle.std.proofs.Common.{rules, arith, ◌≡◌, ◌<◌, ◌≤◌, lengt
 use Rattle.std.specs.Prelude.{nat_eq}
 use Rattle.std.specs.HashMap.{get}
 use Rattle.trees.specs.Measures.{depth, depth_trees}
-use Rattle.pc_terms.specs.BoxSyntax.{BCase, BFix}
+use Rattle.box_terms.specs.BoxSyntax.{BCase, BFix}
 use Rattle.box_terms.specs.BoxLists.{arms_of, bodies_of, rargs_of}
 use Rattle.box_terms.specs.BoxView.{box_of}
 use Rattle.box_passes.proofs.Maps.{arm_is_less, body_is_less}

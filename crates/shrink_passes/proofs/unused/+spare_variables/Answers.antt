@@ -1,6 +1,6 @@
 use Rattle.std.proofs.Common.{rules, arith, ◌≡◌, ◌+◌, ◌<◌, ◌≤◌, ap, ◌∙◌, sym}
 use Rattle.trees.specs.Measures.{depth}
-use Rattle.pc_terms.specs.BoxSyntax.{BLambda}
+use Rattle.box_terms.specs.BoxSyntax.{BLambda}
 use Rattle.box_terms.specs.BoxView.{box_of}
 use Rattle.shrink_passes.proofs.unused.+spare_variables.Goals as goal
 

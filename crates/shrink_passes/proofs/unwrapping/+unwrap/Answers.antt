@@ -2,7 +2,7 @@ use Rattle.std.proofs.Common.{rules, arith, ◌≡◌, ◌+◌, ◌-◌, ◌<◌
 use Rattle.trees.specs.Tree.{Rel}
 use Rattle.trees.specs.Parallel.{put_all}
 use Rattle.trees.specs.Measures.{depth, IsWithin}
-use Rattle.pc_terms.specs.BoxSyntax.{BoxTerm, BLambda}
+use Rattle.box_terms.specs.BoxSyntax.{BoxTerm, BLambda}
 use Rattle.box_terms.specs.BoxView.{box_of}
 use Rattle.shrink_passes.specs.DeadPlaces.{flag_at}
 use Rattle.shrink_passes.specs.Pruned.{wrapped}

@@ -1,7 +1,7 @@
 use Rattle.std.proofs.Common.{rules, ◌≡◌, ◌+◌, ◌-◌, ◌<◌, ℕ, Bool, List, [], ◌∷◌, ◌++◌, append_assoc, sym, ap, ◌∙◌, arith}
 use Rattle.std.specs.Prelude.{if◌then◌else◌}
 use Rattle.trees.specs.Tree.{Rel}
-use Rattle.pc_terms.specs.BoxSyntax.{BoxTerm, Box}
+use Rattle.box_terms.specs.BoxSyntax.{BoxTerm, Box}
 use Rattle.shrink_passes.specs.DeadPlaces.{flag_at}
 use Rattle.shrink_passes.specs.Pruned.{kept, variables}
 use Rattle.shrink_passes.proofs.Unwrapped.{kept_next, variables_next}

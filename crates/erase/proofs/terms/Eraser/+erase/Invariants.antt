@@ -1,6 +1,6 @@
 use Rattle.std.proofs.Common.{◌≡◌, ◌+◌, ◌*◌, Result, drop, take, length}
 use Rattle.trees.specs.Measures.{depth, depth_trees}
-use Rattle.pc_terms.specs.BoxSyntax.{BoxTerms}
+use Rattle.box_terms.specs.BoxSyntax.{BoxTerms}
 use Rattle.pc_terms.specs.Lists.{arms_of, bodies_of, rargs_of}
 use Rattle.box_terms.specs.BoxLists.{rargs_of as box_rargs}
 use Rattle.pc_terms.specs.View.{tree_of}
