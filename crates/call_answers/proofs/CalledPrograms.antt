@@ -42,7 +42,7 @@ use Rattle.wasm_emit.specs.CallModule.{call_globals, call_exports}
 use Rattle.known_calls.specs.KnownModule.{worker_type}
 use Rattle.known_calls.specs.KnownCalls.{call_function, module_of_call}
 use Rattle.wasm_emit.specs.EmitLaws.{Spent, spent}
-use Rattle.known_calls.specs.KnownLaws.{FinishedWithin}
+use Rattle.known_calls.specs.KnownLaws.{CallFinished}
 use Rattle.wasm_emit.specs.EmittedModule.{type_main, main_index}
 use Rattle.known_calls.proofs.KnownCalling.{calls_answer}
 use Rattle.wasm_emit.proofs.Indices.{entries_length}
@@ -82,7 +82,7 @@ module _ (P : Program) (k pages : ℕ) where
 
 -- ---- runs that end
 
-chosen : {M : Parts} {frames bytes least k : ℕ} {d : DataNodes} {t : State} → bytes ≤ 65536 * greatest_pages M.memory → Fate M frames (FinishedWithin M d bytes) (Spent M bytes) least k t → Exhausted M t →
+chosen : {M : Parts} {frames first heap bytes least k : ℕ} {d : DataNodes} {t : State} → bytes ≤ 65536 * greatest_pages M.memory → Fate M frames (CallFinished M d first heap bytes) (Spent M bytes) least k t → Exhausted M t →
     (store_of t).by_choice ≡ false → ⊥
 chosen le (goes_on s u deep x y) gone e = elim gone [ ]
 chosen le (ended q l) (exhausted z) e = elim q [ ]
@@ -99,7 +99,6 @@ is_hosted {pages} s h ds e =
     (record {
       whole = h.whole;
       most_pages = h.few;
-      fewest = h.fewest;
       quarter = h.quarter;
       aligned = h.aligned;
       above = h.above;
@@ -154,7 +153,7 @@ called_programs_answer P args pages b n tree pos small some ok e =
             starts = starts_at (passed P) k pages at z.index z.main z.exported z.is;
             bounded = λ j t r. (z.run j t r).0;
             answers = given;
-            enough = λ le j t r l free. unless M tree t (given j t r l) (λ gone. chosen {frames = z.depth + 1} {bytes = h.heap + 4 * x.words} {d = preorder rt.0} le (z.run j t r).1 gone free);
+            enough = λ le j t r l free. unless M tree t (given j t r l) (λ gone. chosen {frames = z.depth + 1} {first = s.pages} {heap = h.heap} {bytes = h.heap + 4 * x.words} {d = preorder rt.0} le (z.run j t r).1 gone free);
           } in
           subst (λ k. CallRuns (call_module_for P k pages) pages most (h.heap + 4 * x.words) tree s) same
           (subst (λ s. CallRuns M pages most (h.heap + 4 * x.words) tree s) (sym (store_is s h)) all);

@@ -24,6 +24,7 @@ use Rattle.anf_convert.specs.Preorder.{preorder}
 use Rattle.wasm_emit.specs.EmitLaws.{Spent, spent}
 use Rattle.wasm_emit.proofs.Bytes.{zeroed_word, zeroed_length}
 use Rattle.wasm_emit.proofs.Rules.{Limits, Within, zeros, looser, zeros_length}
+use Rattle.wasm_emit.proofs.Alloc.{one_page}
 use Rattle.wasm_emit.proofs.Indices.{entries_length}
 use Rattle.wasm_emit.proofs.Read.{reads}
 use Rattle.wasm_emit.proofs.Staged.{staged}
@@ -52,10 +53,10 @@ starts P pages =
 
 -- the tree of all runs
 whole : (P : Program) (pages w m D : ℕ) (v : Val) (d : DataTree) (c k b s : ℕ) → 0 < pages → pages ≤ 16384 → 0 < m → Gets P w m false D VNil P.main v c k b s → IsData v d →
-    Within (module_of P pages) (record { frames = 2 * D + 1; bytes = 8 + 4 * s; more = [] }) (FinishedWithin (module_of P pages) (preorder d) (8 + 4 * s)) k (64 * (b + c + 1) * (w + m)) (first_of P pages)
+    Within (module_of P pages) (record { frames = 2 * D + 1; bytes = 8 + 4 * s; first = 1; more = [] }) (FinishedWithin (module_of P pages) (preorder d) (8 + 4 * s)) k (64 * (b + c + 1) * (w + m)) (first_of P pages)
 whole P pages w m D v d c k b s pos small some g is =
     let M = module_of P pages in
-    let cap : Limits = record { frames = 2 * D + 1; bytes = 8 + 4 * s; more = [] } in
+    let cap : Limits = record { frames = 2 * D + 1; bytes = 8 + 4 * s; first = 1; more = [] } in
     let Q = FinishedWithin M (preorder d) (8 + 4 * s) in
     let y = (follows P (main_function P) [] [] pages small w m some cap Q g).sim Inside (zeroed 1) 1 8 (zeros (top 0 P.main)) 0 [] (record {
       long = zeroed_length 1;
@@ -64,18 +65,22 @@ whole P pages w m D v d c k b s pos small some g is =
       above = omega arith;
       fits = omega arith;
       inside = omega (arith, zeroed_length 1);
-      tight = omega arith;
+      tight = λ grown. omega arith;
       pages = omega arith;
     }) zeroed_word env_nil (λ i g ws z. cc) (omega (arith, zeros_length (top 0 P.main))) (omega arith) in
     looser M cap Q (y.run (record { keeps = false; labels = []; callers = [] }) [] (GlobalSet 0 ∷ End ∷ []) 0 2 (64 * (w + m) * (c + b) + 4) stood_inside (omega arith) (omega arith)
     (λ m' p' h' ls' w' x z room same keeps st.
     looser M cap Q {l = 2} {u = 2} (rule.r_set_global M cap.frames Q (Spent M cap.bytes) {x = 0} {old = I32 0} {v = I32 w'} (omega arith) refl
-    (rule.r_over M cap.frames Q (Spent M cap.bytes) (now (finished (record { status = refl; word = w'; result = refl; stands = reads room.inside st is }) refl (omega (arith, z)) (omega (arith, room.tight)))))) (omega arith) (omega arith))
+    (rule.r_over M cap.frames Q (Spent M cap.bytes) (now (finished (record { status = refl; word = w'; result = refl; stands = reads room.inside st is }) refl (omega (arith, z)) (one_page room (omega arith)))))) (omega arith) (omega arith))
     (λ z. cc)) (omega arith) (omega arith)
 
-pub at_end : (m : Parts) (bytes : ℕ) (d : List (ℕ × ℕ)) (t : State) → FinishedWithin m d bytes t ⊎ Spent m bytes t → IsAtEnd m t
-at_end m bytes d t (inl (finished h x y z)) granted u s = s
-at_end m bytes d t (inr (spent h x)) granted u s = s
+answered_last : (m : Parts) (d : List (ℕ × ℕ)) (t : State) → Answers m d t → IsAtEnd m t
+answered_last m d t (answers h) granted u s = s
+
+-- where those that end well have answered, no run goes on from its end
+pub at_end : {Q : State → Type 0} (m : Parts) (bytes : ℕ) (d : List (ℕ × ℕ)) → ((t : State) → Q t → Answers m d t) → (t : State) → Q t ⊎ Spent m bytes t → IsAtEnd m t
+at_end m bytes d well t (inl q) granted u s = answered_last m d t (well t q) granted u s
+at_end m bytes d well t (inr (spent h x)) granted u s = s
 
 pub has_answered : (m : Parts) (bytes : ℕ) (d : List (ℕ × ℕ)) (t : State) → FinishedWithin m d bytes t → Answers m d t
 has_answered m bytes d t (finished h x y z) = answers h
@@ -89,6 +94,6 @@ known_answers P pages w m v d c k b s pos small some form limits run is =
       first = first_of P pages;
       starts = starts P pages;
       depth = 2 * y.D;
-      run = λ n t r. tree_tells M (2 * y.D + 1) k (64 * (b + c + 1) * (w + m)) (FinishedWithin M (preorder d) (8 + 4 * s)) (Spent M (8 + 4 * s)) (first_of P pages) (at_end M (8 + 4 * s) (preorder d)) tree n t r;
+      run = λ n t r. tree_tells M (2 * y.D + 1) k (64 * (b + c + 1) * (w + m)) (FinishedWithin M (preorder d) (8 + 4 * s)) (Spent M (8 + 4 * s)) (first_of P pages) (at_end M (8 + 4 * s) (preorder d) (has_answered M (8 + 4 * s) (preorder d))) tree n t r;
       always = tree_answers M (2 * y.D + 1) k (64 * (b + c + 1) * (w + m)) (preorder d) (first_of P pages) (starts P pages) (forget (has_answered M (8 + 4 * s) (preorder d)) (is_exhausted M (8 + 4 * s)) tree);
     }

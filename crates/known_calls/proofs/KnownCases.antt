@@ -39,12 +39,12 @@ head_some some (branch_after {m = suc a} at) = refl
 module _ (P : Program) (M : Parts) (cap : Limits) (Q : State → Type 0) where
   -- how the caller goes on well, from a word of the value
   abbrev pub Out : Mem → ℕ → Val → ℕ → Around → ℕ → ℕ → Type 0
-  Out m h v s f l u = (m' : Mem) (p' h' w : ℕ) → h ≤ h' → h' ≤ h + 4 * s → Room M m' p' h' → Same h m m' → Stands m' h' w v → Within M cap Q l u (returned cap f.callers m' p' h' w)
+  Out m h v s f l u = (m' : Mem) (p' h' w : ℕ) → h ≤ h' → h' ≤ h + 4 * s → Room M cap m' p' h' → Same h m m' → Stands m' h' w v → Within M cap Q l u (returned cap f.callers m' p' h' w)
 
   -- how the rest goes well, from a word of the value
   abbrev pub Go : Mem → ℕ → List ConstValue → ℕ → Val → ℕ → Around → List ConstValue → List Instr → ℕ → ℕ → Type 0
   Go m h ls d v s f vals rest l u =
-      (m' : Mem) (p' h' : ℕ) (ls' : List ConstValue) (w : ℕ) → h ≤ h' → h' ≤ h + 4 * s → Room M m' p' h' → Same h m m' → Keeps d ls ls' → Stands m' h' w v → Within M cap Q l u (here cap f m' p' h' ls' (I32 w ∷ vals) rest)
+      (m' : Mem) (p' h' : ℕ) (ls' : List ConstValue) (w : ℕ) → h ≤ h' → h' ≤ h + 4 * s → Room M cap m' p' h' → Same h m m' → Keeps d ls ls' → Stands m' h' w v → Within M cap Q l u (here cap f m' p' h' ls' (I32 w ∷ vals) rest)
 
   -- From this memory and these locals the instructions put a word of the value on the operands, with at least k and at most n steps, at most s words of new blocks, and the locals below d as they were; or, in
   -- the tail of a worker, the function returns a word of the value. Calls within calls are at most D, and each may wait in two frames.

@@ -68,10 +68,10 @@ module _ (P : Program) (main : Body) (gs : List GlobalDef) (es : List Export) (p
   cost c b = 64 * (W + N) * (c + b)
 
   pub record SimCode (tail : Bool) (D : ℕ) (e : Vals) (t : Block) (v : Val) (c k b s : ℕ) : Type 0 where
-    pub sim : (at : Position) (m : Mem) (p h : ℕ) (ls : List ConstValue) (d : ℕ) (ps : List Place) → Room M m p h → word m 0 ≡ 0 → Env m h ls d ps e → Unread ps t → top d t ≤ length ls → h + 4 * s ≤ cap.bytes → Yields P M cap Q at m p h ls d v tail D k s (cost c b + 2) (code P ps d at t)
+    pub sim : (at : Position) (m : Mem) (p h : ℕ) (ls : List ConstValue) (d : ℕ) (ps : List Place) → Room M cap m p h → word m 0 ≡ 0 → Env m h ls d ps e → Unread ps t → top d t ≤ length ls → h + 4 * s ≤ cap.bytes → Yields P M cap Q at m p h ls d v tail D k s (cost c b + 2) (code P ps d at t)
 
   record SimOp (tail : Bool) (D : ℕ) (e : Vals) (x : Op) (v : Val) (c k b s : ℕ) : Type 0 where
-    pub sim : (at : Position) (m : Mem) (p h : ℕ) (ls : List ConstValue) (d : ℕ) (ps : List Place) (n : ℕ) → cost c b ≤ n + 20 → Room M m p h → word m 0 ≡ 0 → Env m h ls d ps e → OpUnread ps x → top_op d x ≤ length ls → h + 4 * s ≤ cap.bytes →
+    pub sim : (at : Position) (m : Mem) (p h : ℕ) (ls : List ConstValue) (d : ℕ) (ps : List Place) (n : ℕ) → cost c b ≤ n + 20 → Room M cap m p h → word m 0 ≡ 0 → Env m h ls d ps e → OpUnread ps x → top_op d x ≤ length ls → h + 4 * s ≤ cap.bytes →
         Yields P M cap Q at m p h ls d v tail D k s n (op P ps d at x)
 
   sim_con : {D : ℕ} {tail : Bool} {e : Vals} {c : ℕ} {as' : List Atom} {vs : Vals} → c < 65536 → 0 < length as' → length as' < 2049 → length as' < W → AllAre e as' vs → SimOp tail D e (OCon c as') (VCon c vs) 0 0 1 (suc (length as'))
@@ -108,11 +108,11 @@ module _ (P : Program) (main : Body) (gs : List GlobalDef) (es : List Export) (p
 
   -- how a call goes on well, from a word of the result
   abbrev Then : Mem → ℕ → List ConstValue → Val → ℕ → Around → List ConstValue → List Instr → ℕ → ℕ → Type 0
-  Then m h ls r s f vals rest l u = (m' : Mem) (p' h' w : ℕ) → h ≤ h' → h' ≤ h + 4 * s → Room M m' p' h' → Same h m m' → Stands m' h' w r → Within M cap Q l u (here cap f m' p' h' ls (I32 w ∷ vals) rest)
+  Then m h ls r s f vals rest l u = (m' : Mem) (p' h' w : ℕ) → h ≤ h' → h' ≤ h + 4 * s → Room M cap m' p' h' → Same h m m' → Stands m' h' w r → Within M cap Q l u (here cap f m' p' h' ls (I32 w ∷ vals) rest)
 
   module _ {D : ℕ} (g : ℕ) {fn : Fn} {e' : Vals} {v r : Val} {c k b s : ℕ} (is_at : slice_get P.functions g ≡ Some fn) (sz : size e' ≡ fn.captured) (body : SimCode true D (VCons v e') fn.body r c k b s) where
     -- the worker is called with words of its captured values and of its argument
-    call_follows : {ws : List ℕ} {f : Around} {m : Mem} {p h : ℕ} {ls vals : List ConstValue} {rest : List Instr} {l u : ℕ} → is_wide fn ≡ false → fn.captured ≤ 7 → WordsStand m h ws (VCons v e') → Room M m p h → word m 0 ≡ 0 → h + 4 * s ≤ cap.bytes →
+    call_follows : {ws : List ℕ} {f : Around} {m : Mem} {p h : ℕ} {ls vals : List ConstValue} {rest : List Instr} {l u : ℕ} → is_wide fn ≡ false → fn.captured ≤ 7 → WordsStand m h ws (VCons v e') → Room M cap m p h → word m 0 ≡ 0 → h + 4 * s ≤ cap.bytes →
         length f.callers + 2 * D + 2 ≤ cap.frames → Then m h ls r s f vals rest l u → Within M cap Q (k + l) (cost c b + 6 + u) (here cap f m p h ls (words ws ++ vals) (Call (worker_index P g) ∷ rest))
     call_follows {ws} {f} {m} {p} {h} {ls} {vals} {rest} {l} {u} narrow few all room nil needed deep go =
         let n = top 2 fn.body - 2 in
@@ -129,7 +129,7 @@ module _ (P : Program) (main : Body) (gs : List GlobalDef) (es : List Export) (p
         (omega arith) (omega arith)
 
     -- the worker's tail begins it again
-    jump_follows : {w0 : ℕ} {ws : List ℕ} {F : Around} {m : Mem} {p h : ℕ} {ls : List ConstValue} (vals : List ConstValue) (rest : List Instr) {l u depth d : ℕ} {tail : Bool} → fn.captured ≤ 7 → WordsStand m h (w0 ∷ ws) (VCons v e') → Room M m p h → word m 0 ≡ 0 → h + 4 * s ≤ cap.bytes →
+    jump_follows : {w0 : ℕ} {ws : List ℕ} {F : Around} {m : Mem} {p h : ℕ} {ls : List ConstValue} (vals : List ConstValue) (rest : List Instr) {l u depth d : ℕ} {tail : Bool} → fn.captured ≤ 7 → WordsStand m h (w0 ∷ ws) (VCons v e') → Room M cap m p h → word m 0 ≡ 0 → h + 4 * s ≤ cap.bytes →
         length F.callers + 2 * D + 1 ≤ cap.frames → Stood P (InTail g depth) tail d (length ls) F.keeps F.labels → d ≤ length ls → (tail ≡ true → Out P M cap Q m h r s F l u) →
         Within M cap Q (k + l) (cost c b + 14 + u) (here cap F m p h ls (words (w0 ∷ ws) ++ vals) (into_params fn.captured (Br depth ∷ rest)))
     jump_follows {w0} {ws} {F} {m} {p} {h} {ls} vals rest {l} {u} {depth} {d} few all room nil needed deep stood has out =
@@ -157,7 +157,7 @@ module _ (P : Program) (main : Body) (gs : List GlobalDef) (es : List Export) (p
         (omega arith) (omega (arith, count))))
 
     -- a closure's call comes to an entry: to the function's body, or to a stub that calls the worker
-    entered : {f : Around} {m : Mem} {p h w1 wa : ℕ} {ls vals : List ConstValue} {rest : List Instr} {l u : ℕ} (wide : Bool) → is_wide fn ≡ wide → Stands m h w1 (VClos g e') → Stands m h wa v → Room M m p h → word m 0 ≡ 0 → h + 4 * s ≤ cap.bytes →
+    entered : {f : Around} {m : Mem} {p h w1 wa : ℕ} {ls vals : List ConstValue} {rest : List Instr} {l u : ℕ} (wide : Bool) → is_wide fn ≡ wide → Stands m h w1 (VClos g e') → Stands m h wa v → Room M cap m p h → word m 0 ≡ 0 → h + 4 * s ≤ cap.bytes →
         length f.callers + 2 * D + 3 ≤ cap.frames → Then m h ls r s f vals rest l u → Within M cap Q (k + l) (cost c b + 23 + u) (here cap f m p h ls (I32 (suc g) ∷ I32 wa ∷ I32 w1 ∷ vals) (CallIndirect 2 0 ∷ rest))
     entered {f} {m} {p} {h} {w1} {wa} {ls} {vals} {rest} {l} {u} true wide s1 sa room nil needed deep go =
         let c1 = closure s1 in
@@ -189,7 +189,7 @@ module _ (P : Program) (main : Body) (gs : List GlobalDef) (es : List Export) (p
         (omega arith) (omega arith)
 
     -- a saturated call of a known function
-    known_follows : {F : Around} {m : Mem} {p h : ℕ} {ls vals : List ConstValue} {rest : List Instr} {l u d : ℕ} {tail : Bool} (at : Position) (ps : List Place) (a : Atom) (us : List Word) → fn.captured ≤ 7 → Words m h ls d us e' → There m h ls d ps a v → Room M m p h → word m 0 ≡ 0 →
+    known_follows : {F : Around} {m : Mem} {p h : ℕ} {ls vals : List ConstValue} {rest : List Instr} {l u d : ℕ} {tail : Bool} (at : Position) (ps : List Place) (a : Atom) (us : List Word) → fn.captured ≤ 7 → Words m h ls d us e' → There m h ls d ps a v → Room M cap m p h → word m 0 ≡ 0 →
         h + 4 * s ≤ cap.bytes → length F.callers + 2 * D + 2 ≤ cap.frames → Stood P at tail d (length ls) F.keeps F.labels → d ≤ length ls → Then m h ls r s F vals rest l u → (tail ≡ true → Out P M cap Q m h r s F l u) →
         Within M cap Q (k + l) (cost c b + 30 + u) (here cap F m p h ls vals (application P ps at a a (Some (g, us)) rest))
     known_follows {F = F} {m} {p} {h} {ls} {vals} {rest} {l} {u} {d} {tail} at ps a us few held arg room nil needed deep stood has go out =
@@ -219,7 +219,7 @@ module _ (P : Program) (main : Body) (gs : List GlobalDef) (es : List Export) (p
     };
   }
     where
-      by_kind : (at : Position) (m : Mem) (p h : ℕ) (ls : List ConstValue) (d : ℕ) (ps : List Place) → Room M m p h → word m 0 ≡ 0 → Env m h ls d ps e → OpUnread ps (OApp f a) → d ≤ length ls → h + 4 * s ≤ cap.bytes → (F : Around) (vals : List ConstValue) (rest : List Instr) (l u : ℕ) →
+      by_kind : (at : Position) (m : Mem) (p h : ℕ) (ls : List ConstValue) (d : ℕ) (ps : List Place) → Room M cap m p h → word m 0 ≡ 0 → Env m h ls d ps e → OpUnread ps (OApp f a) → d ≤ length ls → h + 4 * s ≤ cap.bytes → (F : Around) (vals : List ConstValue) (rest : List Instr) (l u : ℕ) →
           Stood P at tail d (length ls) F.keeps F.labels → length F.callers + 2 * D + 3 ≤ cap.frames → Go P M cap Q m h ls d r s F vals rest l u → (tail ≡ true → Out P M cap Q m h r s F l u) → (o : Option (ℕ × List Word)) → known_function ps f ≡ o →
           Within M cap Q (k + l) (cost c b + 30 + u) (here cap F m p h ls vals (application P ps at f a o rest))
       by_kind at m p h ls d ps room nil env un has needed F vals rest l u stood deep go out None none =
@@ -246,7 +246,7 @@ module _ (P : Program) (main : Body) (gs : List GlobalDef) (es : List Export) (p
     };
   }
     where
-      by_kind : (at : Position) (m : Mem) (p h : ℕ) (ls : List ConstValue) (d : ℕ) (ps : List Place) → Room M m p h → word m 0 ≡ 0 → Env m h ls d ps e → OpUnread ps (OApp f a) → (F : Around) (vals : List ConstValue) (rest : List Instr) (l u : ℕ) →
+      by_kind : (at : Position) (m : Mem) (p h : ℕ) (ls : List ConstValue) (d : ℕ) (ps : List Place) → Room M cap m p h → word m 0 ≡ 0 → Env m h ls d ps e → OpUnread ps (OApp f a) → (F : Around) (vals : List ConstValue) (rest : List Instr) (l u : ℕ) →
           length F.callers + 1 ≤ cap.frames → Go P M cap Q m h ls d VBox 0 F vals rest l u → (o : Option (ℕ × List Word)) → known_function ps f ≡ o → Within M cap Q l (10 + u) (here cap F m p h ls vals (application P ps at f a o rest))
       by_kind at m p h ls d ps room nil env un F vals rest l u deep go None none =
           looser M cap Q (put_atom M fixed cap Q (omega arith) room.inside (there_unknown m h ls d env isf none) (λ w1 s1. put_atom M fixed cap Q (omega arith) room.inside (there m h ls d env isa un) (λ wa sa.
@@ -259,7 +259,8 @@ module _ (P : Program) (main : Body) (gs : List GlobalDef) (es : List Export) (p
 
   -- a value is matched
   chosen : {D : ℕ} {tail : Bool} {e : Vals} {bs : BranchBlocks} {i : ℕ} {vs : Vals} {t : Block} {r : Val} {c k b s : ℕ} → many bs ≤ N → BranchAt bs i (size vs) t → SimCode tail D (vs +v e) t r c k b s →
-      (at : Position) (m : Mem) (p h : ℕ) (ls : List ConstValue) (d w : ℕ) (ps : List Place) → Room M m p h → word m 0 ≡ 0 → Env m h ls (suc d) ps e → Unread (fields_of d (size vs) ps) t → top (suc d) t ≤ length ls → h + 4 * s ≤ cap.bytes → slice_get ls d ≡ Some (I32 w) → Stands m h w (VCon i vs) →
+      (at : Position) (m : Mem) (p h : ℕ) (ls : List ConstValue) (d w : ℕ) (ps : List Place) → Room M cap m p h → word m 0 ≡ 0 → Env m h ls (suc d) ps e → Unread (fields_of d (size vs) ps) t →
+      top (suc d) t ≤ length ls → h + 4 * s ≤ cap.bytes → slice_get ls d ≡ Some (I32 w) → Stands m h w (VCon i vs) →
       Yields P M cap Q at m p h ls d r tail D k s (11 * N + (cost c b + 2)) (λ rest. empties P ps d at 0 (some_heads bs) bs (λ at'. heads P ps d at' 0 bs) rest)
   chosen {bs = bs} few branch body at m p h ls d w ps room nil env un has needed is (s_empty lt e) =
       record {
@@ -333,14 +334,14 @@ module _ (P : Program) (main : Body) (gs : List GlobalDef) (es : List Export) (p
   -- the word of the value comes into local d
   abbrev Comes : ℕ → Vals → Op → Val → ℕ → ℕ → ℕ → ℕ → Type 0
   Comes D e x v c k b s =
-      (m : Mem) (p h : ℕ) (ls : List ConstValue) (d : ℕ) (ps : List Place) → Room M m p h → word m 0 ≡ 0 → Env m h ls d ps e → OpUnread ps x → top_op d x ≤ length ls → d < length ls → h + 4 * s ≤ cap.bytes → (f : Around) (vals : List ConstValue) (rest : List Instr) (l u : ℕ) →
-      length f.callers + 2 * D + 1 ≤ cap.frames → ((m' : Mem) (p' h' : ℕ) (ls' : List ConstValue) (w : ℕ) → h ≤ h' → h' ≤ h + 4 * s → Room M m' p' h' → Same h m m' → Keeps d ls ls' → slice_get ls' d ≡ Some (I32 w) → Stands m' h' w v → Within M cap Q l u (here cap f m' p' h' ls' vals rest)) →
+      (m : Mem) (p h : ℕ) (ls : List ConstValue) (d : ℕ) (ps : List Place) → Room M cap m p h → word m 0 ≡ 0 → Env m h ls d ps e → OpUnread ps x → top_op d x ≤ length ls → d < length ls → h + 4 * s ≤ cap.bytes → (f : Around) (vals : List ConstValue) (rest : List Instr) (l u : ℕ) →
+      length f.callers + 2 * D + 1 ≤ cap.frames → ((m' : Mem) (p' h' : ℕ) (ls' : List ConstValue) (w : ℕ) → h ≤ h' → h' ≤ h + 4 * s → Room M cap m' p' h' → Same h m m' → Keeps d ls ls' → slice_get ls' d ≡ Some (I32 w) → Stands m' h' w v → Within M cap Q l u (here cap f m' p' h' ls' vals rest)) →
       Within M cap Q (k + l) (cost c b - 19 + u) (here cap f m p h ls vals (into_local ps d x (op P ps d Inside x) rest))
 
   -- from the operands
-  from_operands : {D : ℕ} {e : Vals} {x : Op} {v : Val} {c k b s : ℕ} → 64 ≤ cost c b → SimOp false D e x v c k b s → (m : Mem) (p h : ℕ) (ls : List ConstValue) (d : ℕ) (ps : List Place) → Room M m p h → word m 0 ≡ 0 → Env m h ls d ps e → OpUnread ps x → top_op d x ≤ length ls → d < length ls →
+  from_operands : {D : ℕ} {e : Vals} {x : Op} {v : Val} {c k b s : ℕ} → 64 ≤ cost c b → SimOp false D e x v c k b s → (m : Mem) (p h : ℕ) (ls : List ConstValue) (d : ℕ) (ps : List Place) → Room M cap m p h → word m 0 ≡ 0 → Env m h ls d ps e → OpUnread ps x → top_op d x ≤ length ls → d < length ls →
       h + 4 * s ≤ cap.bytes → (f : Around) (vals : List ConstValue) (rest : List Instr) (l u : ℕ) → length f.callers + 2 * D + 1 ≤ cap.frames →
-      ((m' : Mem) (p' h' : ℕ) (ls' : List ConstValue) (w : ℕ) → h ≤ h' → h' ≤ h + 4 * s → Room M m' p' h' → Same h m m' → Keeps d ls ls' → slice_get ls' d ≡ Some (I32 w) → Stands m' h' w v → Within M cap Q l u (here cap f m' p' h' ls' vals rest)) →
+      ((m' : Mem) (p' h' : ℕ) (ls' : List ConstValue) (w : ℕ) → h ≤ h' → h' ≤ h + 4 * s → Room M cap m' p' h' → Same h m m' → Keeps d ls ls' → slice_get ls' d ≡ Some (I32 w) → Stands m' h' w v → Within M cap Q l u (here cap f m' p' h' ls' vals rest)) →
       Within M cap Q (k + l) (cost c b - 19 + u) (here cap f m p h ls vals (op P ps d Inside x (LocalSet d ∷ rest)))
   from_operands {c = c} {b = b} dear y m p h ls d ps room nil env un has free needed f vals rest l u deep go =
       looser M cap Q ((y.sim Inside m p h ls d ps (cost c b - 20) (omega arith) room nil env un has needed).run f vals (LocalSet d ∷ rest) (suc l) (suc u) (cost c b - 20 + suc u) stood_inside deep (omega arith)
@@ -364,7 +365,7 @@ module _ (P : Program) (main : Body) (gs : List GlobalDef) (es : List Export) (p
 
   module _ {tail : Bool} {D : ℕ} {e : Vals} {x : Op} {t : Block} {v r : Val} {c c' k k' b b' s s' : ℕ} (does : Does P W N false D e x v c k b s) (first : SimOp false D e x v c k b s) (body : SimCode tail D (VCons v e) t r c' k' b' s') where
     -- a binding that has code
-    let_made : (at : Position) (m : Mem) (p h : ℕ) (ls : List ConstValue) (d : ℕ) (ps : List Place) → Room M m p h → word m 0 ≡ 0 → Env m h ls d ps e → Unread ps (Let x t) → top d (Let x t) ≤ length ls → h + 4 * (s + s') ≤ cap.bytes →
+    let_made : (at : Position) (m : Mem) (p h : ℕ) (ls : List ConstValue) (d : ℕ) (ps : List Place) → Room M cap m p h → word m 0 ≡ 0 → Env m h ls d ps e → Unread ps (Let x t) → top d (Let x t) ≤ length ls → h + 4 * (s + s') ≤ cap.bytes →
         Yields P M cap Q at m p h ls d r tail D (k + k') (s + s') (cost (c + c') (b + b') + 2) (λ rest. into_local ps d x (op P ps d Inside x) (code P (At (InLocal d) ∷ ps) (suc d) at t rest))
     let_made at m p h ls d ps room nil env un has needed = record {
       run = λ f vals rest l u bound stood deep fits go out.
@@ -379,8 +380,8 @@ module _ (P : Program) (main : Body) (gs : List GlobalDef) (es : List Export) (p
     }
 
     -- one that is known, and needs none: no step, no block and no match
-    let_known : (at : Position) (m : Mem) (p h : ℕ) (ls : List ConstValue) (d : ℕ) (ps : List Place) (q : Place) → block_reads 0 t ≡ false → known P ps x ≡ Some q → Room M m p h → word m 0 ≡ 0 → Env m h ls d ps e → Unread ps (Let x t) → top d (Let x t) ≤ length ls → h + 4 * (s + s') ≤ cap.bytes →
-        Yields P M cap Q at m p h ls d r tail D (k + k') (s + s') (cost (c + c') (b + b') + 2) (λ rest. code P (q ∷ ps) d at t rest)
+    let_known : (at : Position) (m : Mem) (p h : ℕ) (ls : List ConstValue) (d : ℕ) (ps : List Place) (q : Place) → block_reads 0 t ≡ false → known P ps x ≡ Some q → Room M cap m p h → word m 0 ≡ 0 → Env m h ls d ps e → Unread ps (Let x t) → top d (Let x t) ≤ length ls →
+        h + 4 * (s + s') ≤ cap.bytes → Yields P M cap Q at m p h ls d r tail D (k + k') (s + s') (cost (c + c') (b + b') + 2) (λ rest. code P (q ∷ ps) d at t rest)
     let_known at m p h ls d ps q unread is room nil env un has needed =
         let x' = known_is P m h ls d env does is in
         let behind : Env m h ls d (q ∷ ps) (VCons v e) = subst (λ y. Env m h ls d (y ∷ ps) (VCons v e)) x'.place (subst (λ (y : Val). Env m h ls d (Known x'.g x'.ws ∷ ps) (VCons y e)) (sym x'.value) (env_known x'.few x'.words env)) in
@@ -394,7 +395,7 @@ module _ (P : Program) (main : Body) (gs : List GlobalDef) (es : List Export) (p
               (omega (arith, x'.no_match)) (omega arith);
         }
 
-    let_either : (at : Position) (m : Mem) (p h : ℕ) (ls : List ConstValue) (d : ℕ) (ps : List Place) → Room M m p h → word m 0 ≡ 0 → Env m h ls d ps e → Unread ps (Let x t) → top d (Let x t) ≤ length ls → h + 4 * (s + s') ≤ cap.bytes → (o : Option Place) → unmade P ps x t ≡ o →
+    let_either : (at : Position) (m : Mem) (p h : ℕ) (ls : List ConstValue) (d : ℕ) (ps : List Place) → Room M cap m p h → word m 0 ≡ 0 → Env m h ls d ps e → Unread ps (Let x t) → top d (Let x t) ≤ length ls → h + 4 * (s + s') ≤ cap.bytes → (o : Option Place) → unmade P ps x t ≡ o →
         Yields P M cap Q at m p h ls d r tail D (k + k') (s + s') (cost (c + c') (b + b') + 2) (λ rest. choose o (λ q. code P (q ∷ ps) d at t rest) (into_local ps d x (op P ps d Inside x) (code P (At (InLocal d) ∷ ps) (suc d) at t rest)))
     let_either at m p h ls d ps room nil env un has needed None e = let_made at m p h ls d ps room nil env un has needed
     let_either at m p h ls d ps room nil env un has needed (Some q) e = let z = unmade_some (block_reads 0 t) (known P ps x) e in let_known at m p h ls d ps q z.0 z.1 room nil env un has needed
@@ -425,7 +426,7 @@ module _ (P : Program) (main : Body) (gs : List GlobalDef) (es : List Export) (p
   two_made x y (suc (suc i)) g ws e = cc
 
   -- main is applied to the words at a
-  pub applies : {D a : ℕ} {args : Vals} {v : Val} {c k b s : ℕ} → slice_get cap.more 0 ≡ Some (I32 a) → Applies P W N D args v c k b s → (m : Mem) (p h : ℕ) (ls : List ConstValue) → Room M m p h → word m 0 ≡ 0 → ArgsAt m h a args → 2 ≤ length ls →
+  pub applies : {D a : ℕ} {args : Vals} {v : Val} {c k b s : ℕ} → slice_get cap.more 0 ≡ Some (I32 a) → Applies P W N D args v c k b s → (m : Mem) (p h : ℕ) (ls : List ConstValue) → Room M cap m p h → word m 0 ≡ 0 → ArgsAt m h a args → 2 ≤ length ls →
       top 0 P.main ≤ length ls → h + 4 * s ≤ cap.bytes → Yields P M cap Q Inside m p h ls 0 v false D k s (cost c b + 2) (applied P (size args))
   applies at (applies_alone g) m p h ls room nil args two has needed = (follows g).sim Inside m p h ls 0 [] room nil env_nil (λ i g ws z. cc) has needed
   applies {D} {a = address} at (applies_more {args = vs} {c = c} {c1 = c1} {k = k} {k1 = k1} {b = b} {b1 = b1} {s = s} {s1 = s1} first does) m p h ls room nil (args_more {v = v} stands within args) two has needed = record {

@@ -78,8 +78,9 @@ module _ (M : Parts) (fixed : HasRunTime M) (cap : Limits) (Q : State → Type 0
 
   -- a block is made at the end of the heap, and its address comes into local d
   pub new_made : {f : Around} {m : Mem} {p h : ℕ} {ls vals : List ConstValue} {rest : List Instr} {l u : ℕ} {d header : ℕ} {ps : List Place} {e : Vals} {as' : List Atom} {vs : Vals} →
-      suc (length f.callers) ≤ cap.frames → h + 4 * suc (length as') ≤ cap.bytes → AllAre e as' vs → NoneNamed ps as' → length as' < 2049 → header < 4294967296 → d < length ls → Room M m p h → Env m h ls d ps e →
-      ((m' : Mem) (p' : ℕ) (ls' : List ConstValue) → Room M m' p' (h + 4 * suc (length as')) → Same h m m' → Keeps d ls ls' → slice_get ls' d ≡ Some (I32 h) → word m' h ≡ header → Fields m' (h + 4 * suc (length as')) h vs → Within M cap Q l u (here cap f m' p' (h + 4 * suc (length as')) ls' vals rest)) →
+      suc (length f.callers) ≤ cap.frames → h + 4 * suc (length as') ≤ cap.bytes → AllAre e as' vs → NoneNamed ps as' → length as' < 2049 → header < 4294967296 → d < length ls → Room M cap m p h → Env m h ls d ps e →
+      ((m' : Mem) (p' : ℕ) (ls' : List ConstValue) → Room M cap m' p' (h + 4 * suc (length as')) → Same h m m' → Keeps d ls ls' → slice_get ls' d ≡ Some (I32 h) →
+      word m' h ≡ header → Fields m' (h + 4 * suc (length as')) h vs → Within M cap Q l u (here cap f m' p' (h + 4 * suc (length as')) ls' vals rest)) →
       Within M cap Q l (39 + 4 * length as' + u) (here cap f m p h ls vals (new_block ps d header as' rest))
   new_made {m = m} {h = h} {ls} {d = d} {header} {as' = as'} deep needed all un few fits_word has room env k =
       let ls' = slice_set ls d (I32 h) in
@@ -88,15 +89,15 @@ module _ (M : Parts) (fixed : HasRunTime M) (cap : Limits) (Q : State → Type 0
       looser M cap Q (r_heap M cap Q (omega arith) (r_tee M cap Q (omega arith) (slice_get-get_or ls d (I32 0) has) (r_const M cap Q (omega arith) (4 * suc (length as')) (r_add M cap Q (omega arith) (omega (arith, room.fits, room.pages, fixed.small)) (r_set_heap M cap Q (omega arith)
       (allocated M fixed cap Q deep needed (omega arith) room (λ m0 p' kept_mem long in_max fits tight. r_get M cap Q (omega arith) at (r_const M cap Q (omega arith) header (r_store M cap Q (omega arith) (omega arith)
       (filled (omega arith) all un at (env_on (omega arith) (λ x lt. put_other m0 _ header x (inl (omega arith)) ∙ kept_mem x lt) (omega arith) kept env) (omega arith) in_max (put_length m0 _ header ∙ long) (omega (arith, room.above)) (λ m' low high long' fs.
-      k m' p' ls' (record { long = long'; q = room.q + suc (length as'); aligned = omega (arith, room.aligned); above = omega (arith, room.above); fits = omega arith; inside = omega arith; tight = omega (arith, tight); pages = in_max })
+      k m' p' ls' (record { long = long'; q = room.q + suc (length as'); aligned = omega (arith, room.aligned); above = omega (arith, room.above); fits = omega arith; inside = omega arith; tight = λ grown. omega (arith, tight grown); pages = in_max })
       (λ x lt. low x (omega arith) ∙ put_other m0 _ header x (inl (omega arith)) ∙ kept_mem x lt) kept at
       (word_same (put_word m0 (h + 0) header) m' h (λ x a b. low x (omega arith)) ∙ word_put_at m0 (h + 0) h header (omega arith) (omega arith) fits_word) (fields_up (h + 4 * suc (length as')) (omega arith) fs))))))))))))
       (omega arith) (omega arith)
 
   -- and onto the operands
   pub made : {f : Around} {m : Mem} {p h : ℕ} {ls vals : List ConstValue} {rest : List Instr} {l u : ℕ} {d header : ℕ} {ps : List Place} {e : Vals} {as' : List Atom} {vs : Vals} →
-      suc (length f.callers) ≤ cap.frames → h + 4 * suc (length as') ≤ cap.bytes → AllAre e as' vs → NoneNamed ps as' → length as' < 2049 → header < 4294967296 → d < length ls → Room M m p h → Env m h ls d ps e →
-      ((m' : Mem) (p' : ℕ) (ls' : List ConstValue) → Room M m' p' (h + 4 * suc (length as')) → Same h m m' → Keeps d ls ls' → word m' h ≡ header → Fields m' (h + 4 * suc (length as')) h vs → Within M cap Q l u (here cap f m' p' (h + 4 * suc (length as')) ls' (I32 h ∷ vals) rest)) →
+      suc (length f.callers) ≤ cap.frames → h + 4 * suc (length as') ≤ cap.bytes → AllAre e as' vs → NoneNamed ps as' → length as' < 2049 → header < 4294967296 → d < length ls → Room M cap m p h → Env m h ls d ps e →
+      ((m' : Mem) (p' : ℕ) (ls' : List ConstValue) → Room M cap m' p' (h + 4 * suc (length as')) → Same h m m' → Keeps d ls ls' → word m' h ≡ header → Fields m' (h + 4 * suc (length as')) h vs → Within M cap Q l u (here cap f m' p' (h + 4 * suc (length as')) ls' (I32 h ∷ vals) rest)) →
       Within M cap Q l (40 + 4 * length as' + u) (here cap f m p h ls vals (block ps d header as' rest))
   made deep needed all un few fits_word has room env k =
       looser M cap Q (new_made deep needed all un few fits_word has room env (λ m' p' ls' room' same keeps at head fs. r_get M cap Q (omega arith) at (k m' p' ls' room' same keeps head fs))) (omega arith) (omega arith)

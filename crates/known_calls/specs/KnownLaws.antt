@@ -32,6 +32,12 @@ use Rattle.known_calls.specs.KnownCalls.{call_function, module_of_call}
 pub data FinishedWithin (m : Parts) (d : Nodes) (bytes : ℕ) : State → Type 0 where
   finished : {store : Store} {heap : ℕ} → IsAnswer m d store → slice_get store.globals 2 ≡ Some (I32 heap) → heap ≤ bytes → 65536 * store.pages < heap + 65536 → FinishedWithin m d bytes (Over Returned store)
 
+-- The run of a call has returned and answers the data; the heap ends no lower than it did, after at most so many bytes, and memory has more pages than
+-- at first only where the heap takes them.
+pub data CallFinished (m : Parts) (d : Nodes) (first heap bytes : ℕ) : State → Type 0 where
+  call_finished : {store : Store} {now : ℕ} → IsAnswer m d store → slice_get store.globals 2 ≡ Some (I32 now) → heap ≤ now → now ≤ bytes →
+      (first < store.pages → 65536 * store.pages < now + 65536) → CallFinished m d first heap bytes (Over Returned store)
+
 -- a program whose names are in scope gives a valid module
 abbrev pub KnownValid : Type 0
 KnownValid = (P : Program) (pages m : ℕ) → 0 < pages → pages ≤ 16384 → Formed P m → IsValid (module_of P pages)
@@ -79,7 +85,8 @@ pub record KnownCalled (P : Program) (pages w m : ℕ) (ds : DataTrees) (d : Dat
   pub is : func_of (module_of_call P (count ds) pages) index ≡ Some main
   pub depth : ℕ
   pub run : (n : ℕ) (t : State) → Reach (module_of_call P (count ds) pages) n (call_start main store) t →
-      (n ≤ 64 * (b + c + 1) * (w + m)) × Fate (module_of_call P (count ds) pages) (depth + 1) (FinishedWithin (module_of_call P (count ds) pages) (preorder d) (heap + 4 * s)) (Spent (module_of_call P (count ds) pages) (heap + 4 * s)) k n t
+      (n ≤ 64 * (b + c + 1) * (w + m)) ×
+      Fate (module_of_call P (count ds) pages) (depth + 1) (CallFinished (module_of_call P (count ds) pages) (preorder d) store.pages heap (heap + 4 * s)) (Spent (module_of_call P (count ds) pages) (heap + 4 * s)) k n t
   pub answers : (n : ℕ) (t : State) → Reach (module_of_call P (count ds) pages) n (call_start main store) t → IsAtEnd (module_of_call P (count ds) pages) t → Answers (module_of_call P (count ds) pages) (preorder d) t ⊎ Exhausted (module_of_call P (count ds) pages) t
 
 -- where main, applied to values that are the stored data, evaluates to data, every long enough run of the module answers that data or is exhausted

@@ -51,7 +51,6 @@ stored_arguments_are_held P k cap pages new arguments h =
       by_choice = refl;
       whole = omega (arith, long);
       few = omega (arith, few, past, begins, eight);
-      fewest = omega (arith, past, begins, eight);
       quarter = h.quarter + length arguments;
       aligned = omega (arith, past, h.aligned);
       above = omega (arith, past, begins, eight);

@@ -24,10 +24,11 @@ use Rattle.wasm_emit.specs.EmitLaws.{Spent}
 use Rattle.wasm_emit.proofs.Bytes.{Mem}
 use Rattle.wasm_emit.proofs.Indices.{length_map}
 
--- what bounds a whole run: its waiting frames, and the bytes of its blocks; and the further globals, which stay
+-- what bounds a whole run: its waiting frames, and the bytes of its blocks; the pages that it begins with; and the further globals, which stay
 pub record Limits : Type 0 where
   pub frames : ℕ
   pub bytes : ℕ
+  pub first : ℕ
   pub more : List ConstValue
 
 abbrev pub Within : Parts → Limits → (State → Type 0) → ℕ → ℕ → State → Type 0

@@ -24,11 +24,10 @@ pub data ArgumentsStored (memory : List ℕ) (heap address : ℕ) : DataTrees �
   no_arguments : ArgumentsStored memory heap address DNil
   last_argument : {d : DataTree} {ds : DataTrees} → Stored memory heap (word memory (address + 4 * count ds)) d → address + 4 * suc (count ds) ≤ heap → ArgumentsStored memory heap address ds → ArgumentsStored memory heap address (DCons d ds)
 
--- what a host has made of the module's memory of at most so many pages: whole pages, the fewest that the heap takes; the word at 0 is as it was
+-- what a host has made of the module's memory of at most so many pages: whole pages, which have the heap; the word at 0 is as it was
 pub record IsHosted (most : ℕ) (memory : List ℕ) (pages heap address : ℕ) (ds : DataTrees) : Type 0 where
   pub whole : length memory ≡ 65536 * pages
   pub most_pages : pages ≤ most
-  pub fewest : 65536 * pages < heap + 65536
   pub quarter : ℕ
   pub aligned : heap ≡ 4 * quarter
   pub above : 8 ≤ heap
