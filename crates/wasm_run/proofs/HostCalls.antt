@@ -1,5 +1,5 @@
 -- What a host's calls keep: the machine stays at the start of a run of `main`, in a store in which a run may start.
-use Rattle.std.proofs.Common.{◌≡◌, ℕ, zero, suc, ◌+◌, ◌-◌, ◌*◌, ◌<◌, ◌≤◌, List, [], ◌∷◌, ◌++◌, length, drop, Option, Some, None, Bool, true, false, refl, ap, sym, ◌∙◌, subst, arith, length-append, ⊎_elim}
+use Rattle.std.proofs.Common.{◌≡◌, ℕ, zero, suc, ◌+◌, ◌-◌, ◌*◌, ◌^◌, ◌<◌, ◌≤◌, List, [], ◌∷◌, ◌++◌, length, drop, Option, Some, None, Bool, true, false, refl, ap, sym, ◌∙◌, subst, arith, length-append, ⊎_elim}
 use Rattle.std.proofs.lemmas.Option.{slice_get-map}
 use Rattle.std.proofs.lemmas.Bool.{leb-true, le-leb, lt-leb, cases_lt}
 use Rattle.std.proofs.lemmas.List.{drop_more, drop_all}
@@ -16,13 +16,13 @@ use Rattle.wasm_core.specs.Parts.{Parts}
 use Rattle.wasm_core.specs.Memory.{put_word, zeroed}
 use Rattle.wasm_core.specs.Instance.{Func, func_of, greatest_pages, segments_fit}
 use Rattle.wasm_core.specs.Entries.{index_of, IsGlobalEntry}
-use Rattle.wasm_core.specs.MachineStep.{Store, State, At, Over, Reach}
+use Rattle.wasm_core.specs.MachineStep.{Store, State, At, Over}
 use Rattle.wasm_core.specs.ModuleCondition.{All as Each}
 use Rattle.wasm_core.specs.ModuleTyping.{IsValid, Of}
-use Rattle.wasm_core.specs.Runs.{store_of}
+use Rattle.wasm_core.specs.Runs.{Moves, store_of}
 use Rattle.wasm_core.specs.Safe.{is_i32, global_types}
 use Rattle.wasm_core.specs.Words.{IsByte, IsWord}
-use Rattle.wasm_core.specs.HostStore.{IsReady, main_start_in, start_in, start_at_in, with_store, set_at, has_room, held, pages_for, put_words}
+use Rattle.wasm_core.specs.HostStore.{IsForCall, IsReady, main_start_in, start_in, start_at_in, with_store, set_at, has_room, held, pages_for, put_words}
 use Rattle.wasm_core.proofs.Bits.{put_word_bytes, put_word_length}
 use Rattle.wasm_core.proofs.Eaches.{each_append, each_replicate, each_set}
 use Rattle.wasm_core.proofs.EntryGlobals.{entry_global}
@@ -111,10 +111,13 @@ store_again : (s : State) (st : Store) → store_of (with_store s st) ≡ st
 store_again (At c) st = refl
 store_again (Over e old) st = refl
 
+none_made : (made steps : ℕ) → made ≡ min steps (2 ^ 64 - 1) → made ≡ 0 → steps ≡ 0
+none_made made steps counted none = omega (arith, counted, none)
+
 -- where no step is counted, the machine is at such a start
-pub at_start : (m : Parts) (made : ℕ) {peak : ℕ} (s : State) → made ≡ 0 → Reached m made peak s → IsReady m (store_of s) × (main_start_in m (store_of s) ≡ Some s)
-at_start m made s none r =
-    let here : r.first ≡ s = subst (λ n. Reach m n r.first s) (r.none_made none) r.reach in
+pub at_start : (m : Parts) {cap : ℕ} (made : ℕ) {peak : ℕ} (s : State) → made ≡ 0 → Reached m cap made peak s → IsReady m (store_of s) × (main_start_in m (store_of s) ≡ Some s)
+at_start m {cap} made s none r =
+    let here : r.first ≡ s = subst (λ n. Moves m cap n r.first s) (none_made made r.steps r.counted none) r.moves in
     let x = started_in m r.store r.first r.starts in
     let same : r.store ≡ store_of s = ap store_of (sym x.starts ∙ here) in (
       subst (IsReady m) same r.ready,
@@ -122,25 +125,26 @@ at_start m made s none r =
     )
 
 -- where no step was made the frames are those of the state, whose store doesn't matter
-none_most : (m : Parts) (k : ℕ) (s t : State) (run : Reach m k s t) → k ≡ 0 → most_frames m k s t run ≡ frames t
-none_most m zero s t run e = refl
-none_most m (suc k) s t run e = absurd (omega arith)
+none_most : (m : Parts) (cap k : ℕ) (s t : State) (run : Moves m cap k s t) → k ≡ 0 → most_frames m cap k s t run ≡ frames t
+none_most m cap zero s t run e = refl
+none_most m cap (suc k) s t run e = absurd (omega arith)
 
 frames_stay : (s : State) (st : Store) → frames (with_store s st) ≡ frames s
 frames_stay (At c) st = refl
 frames_stay (Over e old) st = refl
 
 -- and stays there with another such store
-pub starts_with : (m : Parts) (made : ℕ) {peak : ℕ} (s : State) (st : Store) → made ≡ 0 → Reached m made peak s → IsReady m st → Reached m made peak (with_store s st)
-starts_with m made s st none r ready = record {
+pub starts_with : (m : Parts) {cap : ℕ} (made : ℕ) {peak : ℕ} (s : State) (st : Store) → made ≡ 0 → IsForCall m → Reached m cap made peak s → IsReady m st → Reached m cap made peak (with_store s st)
+starts_with m {cap} made s st none call r ready = record {
   store = st;
+  own = λ alone. absurd (alone call);
   ready = ready;
   first = with_store s st;
   starts = starts_again m (store_of s) st s (at_start m made s none r).1;
   steps = 0;
-  reach = refl;
-  none_made = λ _. refl;
-  most = r.most ∙ none_most m r.steps r.first s r.reach (r.none_made none) ∙ sym (frames_stay s st);
+  counted = none;
+  moves = refl;
+  most = r.most ∙ none_most m cap r.steps r.first s r.moves (none_made made r.steps r.counted none) ∙ sym (frames_stay s st);
 }
 
 -- a global of an entry is set
@@ -203,16 +207,16 @@ store_is m None t = refl
 store_is m (Some e) t = refl
 
 -- a machine whose store is another one stays at its start
-pub kept_start : (m : Parts) (made : ℕ) {peak : ℕ} (e : Option Ended) (t t' : Thread) (st : Store) → made ≡ 0 → t'.current ≡ t.current → t'.callers ≡ t.callers → store_in t' ≡ st → IsReady m st →
-    Reached m made peak (state_of m e t) → Reached m made peak (state_of m e t')
-kept_start m made e t t' st none current callers same ready r =
-    subst (Reached m made _) (sym (with_thread m e t t' current callers ∙ ap (with_store (state_of m e t)) same)) (starts_with m made (state_of m e t) st none r ready)
+pub kept_start : (m : Parts) {cap : ℕ} (made : ℕ) {peak : ℕ} (e : Option Ended) (t t' : Thread) (st : Store) → made ≡ 0 → IsForCall m → t'.current ≡ t.current → t'.callers ≡ t.callers → store_in t' ≡ st → IsReady m st →
+    Reached m cap made peak (state_of m e t) → Reached m cap made peak (state_of m e t')
+kept_start m {cap} made {peak} e t t' st none call current callers same ready r =
+    subst (Reached m cap made peak) (sym (with_thread m e t t' current callers ∙ ap (with_store (state_of m e t)) same)) (starts_with m made (state_of m e t) st none call r ready)
 
-pub is_at_start : (m : Parts) (cap made : ℕ) {peak : ℕ} (failed : Bool) (s : State) → made ≡ 0 → Reached m made peak s → IsAtStart (record { program = m; cap = cap; state = s; made = made; failed = failed })
+pub is_at_start : (m : Parts) (cap made : ℕ) {peak : ℕ} (failed : Bool) (s : State) → made ≡ 0 → Reached m cap made peak s → IsAtStart (record { program = m; cap = cap; state = s; made = made; failed = failed })
 is_at_start m cap made failed s none r = let h = at_start m made s none r in record { ready = h.0; starts = h.1 }
 
 -- the store of a thread from which a run may start
-pub thread_ready : (m : Parts) (made : ℕ) {peak : ℕ} (e : Option Ended) (t : Thread) → made ≡ 0 → Reached m made peak (state_of m e t) → IsReady m (store_in t)
+pub thread_ready : (m : Parts) {cap : ℕ} (made : ℕ) {peak : ℕ} (e : Option Ended) (t : Thread) → made ≡ 0 → Reached m cap made peak (state_of m e t) → IsReady m (store_in t)
 thread_ready m made e t none r = subst (IsReady m) (store_is m e t) (at_start m made (state_of m e t) none r).0
 
 -- a grown memory has so many bytes

@@ -4,7 +4,7 @@
 //! of the definition of execution, at most as many as it is given, and says how the run ended or that its steps are spent (`says`); memory grows up to the
 //! smaller of the machine's bound and the module's maximum. `Machine::run_told` does the same, and tells each report of a list the facts of exactly these steps: each with its
 //! class, and each grow of memory that wasn't refused (`told`). `result`, `status`, `pages`, `memory`, `steps` and `frames` show its state (`is`), `peak` the most
-//! frames that stood at once in its run (`HasPeak`). A run of a valid
+//! frames that stood at once in its steps (`HasPeak`, `peaks_are_one`). A run of a valid
 //! module is never stuck, so a step has no answer of its own for that.
 //!
 //! A machine is a frame that runs, with those that wait for it (`frame`, `thread`), and a module that is made ready once (`program`): its table is filled, and
@@ -18,6 +18,7 @@ mod exec;
 mod frame;
 mod hosting;
 mod inside;
+mod laws;
 mod machine;
 mod memory;
 mod numeric;
@@ -27,5 +28,6 @@ mod tally;
 mod targets;
 mod thread;
 
+pub use laws::peaks_are_one;
 pub use machine::Machine;
 pub use memory::load;

@@ -528,7 +528,7 @@ impl<'m> Machine<'m> {
         standing(&self.program, self.ended, &self.thread)
     }
 
-    /// The most frames that have stood at once since `new`. It takes no memory.
+    /// The most frames that have stood at once since `new`: at the start of the run and after each of this machine's steps. It takes no memory.
     pub fn peak(&self) -> u64
         ensures is { self.now.failed ≡ false → HasPeak self.now result }
     {

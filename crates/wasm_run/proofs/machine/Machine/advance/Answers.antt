@@ -28,7 +28,7 @@ invariant_of-self c =
     record {
       valid = c.self.invariant.valid;
       words = c.self.invariant.words;
-      reached = λ _. moved m (conf_of m a.thread) (grants a.cap (conf_of m a.thread)) (state_of m c.in-Ok.ended c.run_step.new.thread) a.made c.saturating_add-self-inside.result c.higher-self-inside.result (going m a.ended a.thread on a.made (c.self.invariant.reached sound)) count (c.higher-self-inside.ensures.is ∙ ap (max a.peak) c.standing-frames.ensures.is) c.in-Ok.ensures.is;
+      reached = λ _. moved m a.cap (conf_of m a.thread) (state_of m c.in-Ok.ended c.run_step.new.thread) a.made c.saturating_add-self-inside.result c.higher-self-inside.result (going m a.ended a.thread on a.made (c.self.invariant.reached sound)) count (c.higher-self-inside.ensures.is ∙ ap (max a.peak) c.standing-frames.ensures.is) c.in-Ok.ensures.is;
       result_at = c.self.invariant.result_at;
       status_at = c.self.invariant.status_at;
       heap_at = c.self.invariant.heap_at;

@@ -31,7 +31,7 @@ invariant_of-self-in_default c =
       reached = λ sound.
           let r = c.self.invariant.reached sound in
           let ready = ready_put m at ws (store_in a.thread) small (thread_ready m a.made a.ended a.thread none r) in
-          kept_start m a.made a.ended a.thread c.put_block.new.thread st none c.in_default.ensures.frames.0 c.in_default.ensures.frames.1 c.in_default.ensures.is
+          kept_start m a.made a.ended a.thread c.put_block.new.thread st none call c.in_default.ensures.frames.0 c.in_default.ensures.frames.1 c.in_default.ensures.is
           (ready_set m c.self.invariant.valid Heap tt a.heap_at index past small (put_in at ws (store_in a.thread)) ready) r;
       result_at = c.self.invariant.result_at;
       status_at = c.self.invariant.status_at;

@@ -23,7 +23,7 @@ invariant_of-self c =
       words = c.self.invariant.words;
       reached = λ sound.
           let r = c.self.invariant.reached sound in
-          kept_start m a.made a.ended a.thread t (set_at (Some a.args_at) c.args.address (store_in a.thread)) none refl refl same
+          kept_start m a.made a.ended a.thread t (set_at (Some a.args_at) c.args.address (store_in a.thread)) none call refl refl same
           (ready_set m c.self.invariant.valid Args tt a.args_at at c.args.address small (store_in a.thread) (thread_ready m a.made a.ended a.thread none r)) r;
       result_at = c.self.invariant.result_at;
       status_at = c.self.invariant.status_at;

@@ -41,8 +41,8 @@ invariant_of-result c =
     record {
       valid = subst (λ (x : Parts). IsValid x) (sym pe) c.requires.valid;
       words = subst (λ (x : Parts). HasWords x) (sym pe) c.requires.words;
-      reached = λ _. subst (λ (x : Parts). Reached x 0 1 (state_of x None t)) (sym pe)
-          (record { store = first_store m; ready = c.first_is_ready.ensures.holds m c.requires.valid c.requires.words; first = start m g; starts = main_starts m f g c.requires.fit c.requires.entries.main is; steps = 0; reach = sym e; none_made = λ _. refl; most = sym (ap frames e) });
+      reached = λ _. subst (λ (x : Parts). Reached x c.args.cap 0 1 (state_of x None t)) (sym pe)
+          (record { store = first_store m; own = λ _. refl; ready = c.first_is_ready.ensures.holds m c.requires.valid c.requires.words; first = start m g; starts = main_starts m f g c.requires.fit c.requires.entries.main is; steps = 0; counted = refl; moves = sym e; most = sym (ap frames e) });
       result_at = ap (index_of Result) pe ∙ c.requires.entries.result;
       status_at = ap (index_of Status) pe ∙ c.requires.entries.status;
       heap_at = λ x h. c.requires.entries.heap x (sym (ap (index_of Heap) pe) ∙ h);
