@@ -10,12 +10,12 @@ use Rattle.wasm_core.specs.declared.types.ValType.{ValType}
 use Rattle.wasm_core.specs.declared.types.FuncType.{FuncType}
 use Rattle.wasm_core.specs.declared.instrs.Instr.{Instr}
 use Rattle.wasm_core.specs.Parts.{Parts}
-use Rattle.wasm_core.specs.Instance.{Func, func_of, zero_of}
+use Rattle.wasm_core.specs.Instance.{Func, func_of}
 use Rattle.wasm_run.specs.View.{frame_at}
 use Rattle.wasm_run.proofs.Stack.{reverse-snoc}
 use Rattle.wasm_run.proofs.Starts.{code_is}
 use Rattle.wasm_core.specs.MachineStep.{BlockLabel, Frame, Store, Conf, State, At, branch, jump, taking, act, step, next, call, tail_call, frame_of, same_type, same_types}
-use Rattle.wasm_run.specs.Shape.{Shape, Open, branched, leave_to, leave_with, keeping}
+use Rattle.wasm_run.specs.Shape.{Shape, Open, begun, branched, leave_to, leave_with, keeping}
 use Rattle.wasm_run.specs.View.{label_of}
 use Rattle.wasm_run.specs.Programs.{code_of}
 use Rattle.wasm_run.specs.Threads.{frame_in, conf_of, acting, rest_of}
@@ -92,80 +92,62 @@ lengths_differ [] (y ∷ ys) h = refl
 lengths_differ (x ∷ xs) [] h = refl
 lengths_differ (x ∷ xs) (y ∷ ys) h = ap (λ b. same_type x y && b) (lengths_differ xs ys (λ e. h (ap suc e))) ∙ and_no (same_type x y)
 
--- a function is called
-pub call_is : (m : Parts) (store : Store) (cs : List Shape) (s : Shape) (f : ℕ) (g : Func) → func_of m f ≡ Some g → is_some (call (record { store = store; current = frame_in m s; callers = map (frame_in m) (reverse cs) }) g s.vals
-    (drop (s.at + 1) (code_of m s.func))) ≡ true → (new : Shape) → new ≡ record { func = f; keeps = is_some g.type.result; at = 0; locals = reverse (take (length g.type.params) s.vals) ++ map zero_of g.body.locals; vals = []; labels = [] } → (cs' : List
-    Shape) → cs' ≡ cs ++ record s { at = s.at + 1; vals = drop (length g.type.params) s.vals } ∷ [] → call (record { store = store; current = frame_in m s; callers = map (frame_in m) (reverse cs) }) g s.vals (drop (s.at + 1) (code_of m s.func)) ≡ Some (At
-    (record { store = store; current = frame_in m new; callers = map (frame_in m) (reverse cs') }))
-call_is m store cs s f g is some new hn cs' hc = by (nat_le (length g.type.params) (length s.vals)) some
-  where
-    rest : List Instr
-    rest = drop (s.at + 1) (code_of m s.func)
+module _ (m : Parts) (f : ℕ) (g : Func) (is : func_of m f ≡ Some g) (of : FuncType) (others : List ValType) (ht : Some g.type ≡ Some of) (hl : Some g.body.locals ≡ Some others) (vals : List ConstValue) where
+  -- a called function's frame as it begins, where its type and its further locals were read
+  begins : frame_in m (begun f of others vals) ≡ frame_of g vals
+  begins =
+      ap (λ (t : FuncType). frame_in m (begun f t others vals)) (sym (inj ht))
+      ∙ ap (λ (x : List ValType). frame_in m (begun f g.type x vals)) (sym (inj hl))
+      ∙ ap (λ code. frame_at code (begun f g.type g.body.locals vals)) (code_is m g f is)
 
-    waits : Shape
-    waits = record s { at = s.at + 1; vals = drop (length g.type.params) s.vals }
+  -- what is left of the operands
+  left : drop (length of.params) vals ≡ drop (length g.type.params) vals
+  left = ap (λ (t : FuncType). drop (length t.params) vals) (sym (inj ht))
+
+-- a function is called
+pub call_some : (m : Parts) (store : Store) (cs : List Shape) (s : Shape) (f : ℕ) (o : Option Func) → func_of m f ≡ o → is_some o ≡ true →
+    IfSome o (λ g. is_some (call (record { store = store; current = frame_in m s; callers = map (frame_in m) (reverse cs) }) g s.vals (drop (s.at + 1) (code_of m s.func))) ≡ true) →
+    (of : FuncType) → option_map (λ (g : Func). g.type) o ≡ Some of → (others : List ValType) → option_map (λ (g : Func). g.body.locals) o ≡ Some others →
+    (new : Shape) → new ≡ begun f of others s.vals → (cs' : List Shape) → cs' ≡ cs ++ record s { at = s.at + 1; vals = drop (length of.params) s.vals } ∷ [] →
+    IfSome o (λ g. call (record { store = store; current = frame_in m s; callers = map (frame_in m) (reverse cs) }) g s.vals (drop (s.at + 1) (code_of m s.func)) ≡ Some (At (record { store = store; current = frame_in m new; callers = map (frame_in m) (reverse cs') })))
+call_some m store cs s f None is some h of ht others hl new hn cs' hc = cc
+call_some m store cs s f (Some g) is some h of ht others hl new hn cs' hc = by (nat_le (length g.type.params) (length s.vals)) h
+  where
+    waits : List ConstValue → Shape
+    waits vals = record s { at = s.at + 1; vals = vals }
 
     state : Frame → List Shape → State
     state a xs = At (record { store = store; current = a; callers = map (frame_in m) xs })
 
-    begun : Shape
-    begun = record { func = f; keeps = is_some g.type.result; at = 0; locals = reverse (take (length g.type.params) s.vals) ++ map zero_of g.body.locals; vals = []; labels = [] }
+    called : State
+    called = state (frame_of g s.vals) (waits (drop (length g.type.params) s.vals) ∷ reverse cs)
 
-    same : state (frame_in m new) (reverse cs') ≡ state (frame_of g s.vals) (waits ∷ reverse cs)
+    same : state (frame_in m new) (reverse cs') ≡ called
     same =
         ap (λ (x : Shape). state (frame_in m x) (reverse cs')) hn
-        ∙ ap (λ code. state (frame_at code begun) (reverse cs')) (code_is m g f is)
-        ∙ ap (λ xs. state (frame_of g s.vals) xs) (ap reverse hc ∙ reverse-snoc cs waits)
+        ∙ ap (λ a. state a (reverse cs')) (begins m f g is of others ht hl s.vals)
+        ∙ ap (λ xs. state (frame_of g s.vals) xs) (ap reverse hc ∙ reverse-snoc cs (waits (drop (length of.params) s.vals)))
+        ∙ ap (λ vals. state (frame_of g s.vals) (waits vals ∷ reverse cs)) (left m f g is of others ht hl s.vals)
 
-    by : (b : Bool) → is_some (if b then Some (state (frame_of g s.vals) (waits ∷ reverse cs)) else None) ≡ true → (if b then Some (state (frame_of g s.vals) (waits ∷ reverse cs)) else None) ≡ Some (state (frame_in m new) (reverse cs'))
+    by : (b : Bool) → is_some (if b then Some called else None) ≡ true → (if b then Some called else None) ≡ Some (state (frame_in m new) (reverse cs'))
     by true h = ap Some (sym same)
     by false h = cc
 
--- the same where the function's type and its further locals were read
-pub call_some : (m : Parts) (store : Store) (cs : List Shape) (s : Shape) (f : ℕ) (o : Option Func) → func_of m f ≡ o → is_some o ≡ true →
-    IfSome o (λ g. is_some (call (record { store = store; current = frame_in m s; callers = map (frame_in m) (reverse cs) }) g s.vals (drop (s.at + 1) (code_of m s.func))) ≡ true) →
+-- and in place of the one that runs
+pub tail_some : (m : Parts) (store : Store) (callers : List Frame) (s : Shape) (f : ℕ) (o : Option Func) → func_of m f ≡ o → is_some o ≡ true →
+    IfSome o (λ g. is_some (tail_call (record { store = store; current = frame_in m s; callers = callers }) g s.vals) ≡ true) →
     (of : FuncType) → option_map (λ (g : Func). g.type) o ≡ Some of → (others : List ValType) → option_map (λ (g : Func). g.body.locals) o ≡ Some others →
-    (new : Shape) → new ≡ record { func = f; keeps = is_some of.result; at = 0; locals = reverse (take (length of.params) s.vals) ++ map zero_of others; vals = []; labels = [] } →
-    (cs' : List Shape) → cs' ≡ cs ++ record s { at = s.at + 1; vals = drop (length of.params) s.vals } ∷ [] →
-    IfSome o (λ g. call (record { store = store; current = frame_in m s; callers = map (frame_in m) (reverse cs) }) g s.vals (drop (s.at + 1) (code_of m s.func)) ≡ Some (At (record { store = store; current = frame_in m new; callers = map (frame_in m) (reverse cs') })))
-call_some m store cs s f None is some h of ht others hl new hn cs' hc = cc
-call_some m store cs s f (Some g) is some h of ht others hl new hn cs' hc =
-    let t : of ≡ g.type = sym (inj ht) in
-    let l : others ≡ g.body.locals = sym (inj hl) in
-    call_is m store cs s f g is h new
-    (hn
-    ∙ ap (λ (x : FuncType). record { func = f; keeps = is_some x.result; at = 0; locals = reverse (take (length x.params) s.vals) ++ map zero_of others; vals = []; labels = [] }) t
-    ∙ ap (λ (x : List ValType). record { func = f; keeps = is_some g.type.result; at = 0; locals = reverse (take (length g.type.params) s.vals) ++ map zero_of x; vals = []; labels = [] }) l)
-    cs'
-    (hc ∙ ap (λ (x : FuncType). cs ++ record s { at = s.at + 1; vals = drop (length x.params) s.vals } ∷ []) t)
-
--- a function is called in place of the one that runs
-tail_is : (m : Parts) (store : Store) (callers : List Frame) (s : Shape) (f : ℕ) (g : Func) → func_of m f ≡ Some g → is_some (tail_call (record { store = store; current = frame_in m s; callers = callers }) g s.vals) ≡ true →
-    (new : Shape) → new ≡ record { func = f; keeps = is_some g.type.result; at = 0; locals = reverse (take (length g.type.params) s.vals) ++ map zero_of g.body.locals; vals = []; labels = [] } →
-    tail_call (record { store = store; current = frame_in m s; callers = callers }) g s.vals ≡ Some (At (record { store = store; current = frame_in m new; callers = callers }))
-tail_is m store callers s f g is some new hn = by (nat_le (length g.type.params) (length s.vals)) some
+    (new : Shape) → new ≡ begun f of others s.vals →
+    IfSome o (λ g. tail_call (record { store = store; current = frame_in m s; callers = callers }) g s.vals ≡ Some (At (record { store = store; current = frame_in m new; callers = callers })))
+tail_some m store callers s f None is some h of ht others hl new hn = cc
+tail_some m store callers s f (Some g) is some h of ht others hl new hn = by (nat_le (length g.type.params) (length s.vals)) h
   where
     state : Frame → State
     state a = At (record { store = store; current = a; callers = callers })
 
-    begun : Shape
-    begun = record { func = f; keeps = is_some g.type.result; at = 0; locals = reverse (take (length g.type.params) s.vals) ++ map zero_of g.body.locals; vals = []; labels = [] }
-
     same : state (frame_in m new) ≡ state (frame_of g s.vals)
-    same = ap (λ (x : Shape). state (frame_in m x)) hn ∙ ap (λ code. state (frame_at code begun)) (code_is m g f is)
+    same = ap (λ (x : Shape). state (frame_in m x)) hn ∙ ap state (begins m f g is of others ht hl s.vals)
 
     by : (b : Bool) → is_some (if b then Some (state (frame_of g s.vals)) else None) ≡ true → (if b then Some (state (frame_of g s.vals)) else None) ≡ Some (state (frame_in m new))
     by true h = ap Some (sym same)
     by false h = cc
-
-pub tail_some : (m : Parts) (store : Store) (callers : List Frame) (s : Shape) (f : ℕ) (o : Option Func) → func_of m f ≡ o → is_some o ≡ true →
-    IfSome o (λ g. is_some (tail_call (record { store = store; current = frame_in m s; callers = callers }) g s.vals) ≡ true) →
-    (of : FuncType) → option_map (λ (g : Func). g.type) o ≡ Some of → (others : List ValType) → option_map (λ (g : Func). g.body.locals) o ≡ Some others →
-    (new : Shape) → new ≡ record { func = f; keeps = is_some of.result; at = 0; locals = reverse (take (length of.params) s.vals) ++ map zero_of others; vals = []; labels = [] } →
-    IfSome o (λ g. tail_call (record { store = store; current = frame_in m s; callers = callers }) g s.vals ≡ Some (At (record { store = store; current = frame_in m new; callers = callers })))
-tail_some m store callers s f None is some h of ht others hl new hn = cc
-tail_some m store callers s f (Some g) is some h of ht others hl new hn =
-    tail_is m store callers s f g is h new
-    (hn
-    ∙ ap (λ (x : FuncType). record { func = f; keeps = is_some x.result; at = 0; locals = reverse (take (length x.params) s.vals) ++ map zero_of others; vals = []; labels = [] }) (sym (inj ht))
-    ∙ ap (λ (x : List ValType). record { func = f; keeps = is_some g.type.result; at = 0; locals = reverse (take (length g.type.params) s.vals) ++ map zero_of x; vals = []; labels = [] }) (sym (inj hl)))

@@ -1,6 +1,9 @@
 -- What a frame holds, as its users see it.
 use Rattle.wasm_core.specs.declared.types.ConstValue.{ConstValue}
-use Rattle.std.specs.Prelude.{ℕ, ◌+◌, List, [], ◌∷◌, ◌++◌, Bool, true, false, Option, Some, None, drop, slice_get}
+use Rattle.wasm_core.specs.declared.types.FuncType.{FuncType}
+use Rattle.wasm_core.specs.declared.types.ValType.{ValType}
+use Rattle.wasm_core.specs.Instance.{zero_of}
+use Rattle.std.specs.Prelude.{ℕ, ◌+◌, List, [], ◌∷◌, ◌++◌, Bool, true, false, Option, Some, None, drop, is_some, length, map, reverse, slice_get, take}
 
 -- an open block: whether a branch to it keeps a value, the place where the branch goes on, and the operands below the block
 pub record Open : Type 0 where
@@ -20,6 +23,11 @@ pub record Shape : Type 0 where
   pub locals : List ConstValue
   pub vals : List ConstValue
   pub labels : List Open
+
+-- a function of this type and with these further locals as it begins, where its arguments are the topmost of these operands
+abbrev pub begun : ℕ → FuncType → List ValType → List ConstValue → Shape
+begun f t others operands =
+    record { func = f; keeps = is_some t.result; at = 0; locals = reverse (take (length t.params) operands) ++ map zero_of others; vals = []; labels = [] }
 
 -- goes on with what a branch keeps of the operands: the topmost, or nothing
 abbrev pub keeping : {A : Type 0} → Bool → List ConstValue → (List ConstValue → Option A) → Option A

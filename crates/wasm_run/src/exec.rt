@@ -3,11 +3,13 @@
 ghost use Rattle.std.specs.Prelude.{◌≡◌, ◌+◌, ◌*◌, ◌≤◌, ◌<◌, ◌++◌, ◌∷◌, length, take, drop, reverse, map, Some, None, IsSome, IfOk, IfSome, OnOk, slice_get, slice_set, true, false, ◌^◌};
 ghost use Rattle.wasm_core.specs.declared.instrs.Instr.TheVariants.{End, MemoryGrow, I32Load, I32Load8U, I32Store, I32Store8, GlobalGet, GlobalSet, MemorySize, BrTable, CallIndirect};
 ghost use Rattle.wasm_core.specs.declared.types.ConstValue.TheVariants.{I32 as Word};
-ghost use Rattle.wasm_core.specs.Instance.{zero_of, func_of, greatest_pages};
+ghost use Rattle.wasm_core.specs.Instance.{zero_of, func_of, greatest_pages, table_of};
 ghost use Rattle.wasm_core.specs.MachineStep.{step, leave, branch, call, at_end, same_type as is_same_type, same_types as are_same_types, same_result as is_same_result, same_func_type as is_same_func_type, At};
 ghost use Rattle.wasm_core.specs.Memory.{zeroed};
 ghost use Rattle.wasm_core.specs.Runs.{grants};
 ghost use Rattle.wasm_run.specs.Programs.{code_of};
+ghost use Rattle.wasm_run.specs.Shape.{begun};
+ghost use Rattle.wasm_run.specs.TableEntries.{EntryCalls, EntryIsThere};
 ghost use Rattle.wasm_run.specs.Threads.{conf_of, state_of, rest_of, acting};
 ghost use Rattle.wasm_run.specs.Targets.{IsTarget};
 ghost use Rattle.wasm_run.specs.ToldSteps.{class_of as class_is, grow_facts, is_granted as granted_at, is_grow, step_facts};
@@ -68,7 +70,7 @@ fn run_branch(
 }
 
 /// Takes the arguments of a call off, and makes the locals of them.
-pub fn take_locals(
+fn take_locals(
     alloc: Global,
     frame: &mut Frame,
     params: usize,
@@ -87,6 +89,23 @@ pub fn take_locals(
         locals.push(zero(others[j]))?;
     }
     Ok(locals)
+}
+
+/// The frame of a function that is called, with this type and these further locals. Its arguments are taken off the frame that runs.
+pub fn callee(
+    alloc: Global,
+    frame: &mut Frame,
+    index: usize,
+    of: &FuncType,
+    others: &[ValType],
+) -> Result<Frame, AllocError>
+    requires few { length of.now.params ≤ length frame.old.vals }
+    ensures is { IfOk result (λ f. f ≡ begun index of.now others.now frame.old.vals) }
+    ensures frame { OnOk result (frame.new ≡ record frame.old { vals = drop (length of.now.params) frame.old.vals }) }
+{
+    let keeps = of.result.is_some();
+    let locals = take_locals(alloc, frame, of.params.as_slice().len(), others)?;
+    Ok(Frame::new(alloc, index, keeps, locals))
 }
 
 /// The first value of a local.
@@ -114,15 +133,8 @@ fn run_call(
 {
     let of = program.func_type(index as usize);
     let others = program.locals(index as usize);
-    let keeps = of.result.is_some();
-    let locals = take_locals(
-        alloc,
-        &mut thread.current,
-        of.params.as_slice().len(),
-        others,
-    )?;
+    let frame = callee(alloc, &mut thread.current, index as usize, of, others)?;
     thread.current.go(next);
-    let frame = Frame::new(alloc, index as usize, keeps, locals);
     let caller = mem::replace(&mut thread.current, frame);
     thread.callers.push(caller)?;
     Ok(None)
@@ -168,10 +180,28 @@ fn same_result(x: Option<ValType>, y: Option<ValType>) -> bool
 }
 
 /// Two function types are the same.
-pub fn same_func_type(s: &FuncType, t: &FuncType) -> bool
+fn same_func_type(s: &FuncType, t: &FuncType) -> bool
     ensures is { result ≡ is_same_func_type s.now t.now }
 {
     same_types(s.params.as_slice(), t.params.as_slice()) && same_result(s.result, t.result)
+}
+
+/// The function that an entry of the table holds, where it has this type; or else how a call of it traps.
+pub fn entry_of(program: &Program, wanted: &FuncType, place: u32) -> Result<u32, TrapKind>
+    requires there { EntryIsThere program.now (slice_get (table_of program.now) place) }
+    ensures is { EntryCalls program.now wanted.now (slice_get (table_of program.now) place) result }
+{
+    match program.entry(place as usize) {
+        None => Err(TrapKind::UndefinedElement),
+        Some(None) => Err(TrapKind::UninitializedElement),
+        Some(Some(func)) => {
+            if same_func_type(wanted, program.func_type(func as usize)) {
+                Ok(func)
+            } else {
+                Err(TrapKind::IndirectType)
+            }
+        }
+    }
 }
 
 /// Calls an entry of the table.
@@ -189,16 +219,9 @@ fn run_indirect(
 {
     let wanted = &program.module().types().as_slice()[index as usize];
     let place = pop_i32(&mut thread.current);
-    match program.entry(place as usize) {
-        None => Ok(Some(Ended::Trapped(TrapKind::UndefinedElement))),
-        Some(None) => Ok(Some(Ended::Trapped(TrapKind::UninitializedElement))),
-        Some(Some(func)) => {
-            if same_func_type(wanted, program.func_type(func as usize)) {
-                run_call(alloc, program, thread, func, next)
-            } else {
-                Ok(Some(Ended::Trapped(TrapKind::IndirectType)))
-            }
-        }
+    match entry_of(program, wanted, place) {
+        Ok(func) => run_call(alloc, program, thread, func, next),
+        Err(kind) => Ok(Some(Ended::Trapped(kind))),
     }
 }
 

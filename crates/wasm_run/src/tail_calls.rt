@@ -6,13 +6,12 @@ ghost use Rattle.wasm_core.specs.Instance.{func_of};
 ghost use Rattle.wasm_core.specs.MachineStep.{tail_call};
 ghost use Rattle.wasm_run.specs.Threads.{conf_of, state_of, acting};
 
-use crate::exec::{same_func_type, take_locals};
-use crate::frame::Frame;
+use crate::exec::{callee, entry_of};
 use crate::inside::pop_i32;
 use crate::program::Program;
 use crate::thread::Thread;
 use std::alloc::{AllocError, Global};
-use wasm_core::{Ended, TrapKind};
+use wasm_core::Ended;
 
 /// Calls a function in place of the one that runs.
 pub fn run_tail_call(
@@ -27,14 +26,8 @@ pub fn run_tail_call(
 {
     let of = program.func_type(index as usize);
     let others = program.locals(index as usize);
-    let keeps = of.result.is_some();
-    let locals = take_locals(
-        alloc,
-        &mut thread.current,
-        of.params.as_slice().len(),
-        others,
-    )?;
-    thread.current = Frame::new(alloc, index as usize, keeps, locals);
+    let frame = callee(alloc, &mut thread.current, index as usize, of, others)?;
+    thread.current = frame;
     Ok(None)
 }
 
@@ -51,15 +44,8 @@ pub fn run_tail_indirect(
 {
     let wanted = &program.module().types().as_slice()[index as usize];
     let place = pop_i32(&mut thread.current);
-    match program.entry(place as usize) {
-        None => Ok(Some(Ended::Trapped(TrapKind::UndefinedElement))),
-        Some(None) => Ok(Some(Ended::Trapped(TrapKind::UninitializedElement))),
-        Some(Some(func)) => {
-            if same_func_type(wanted, program.func_type(func as usize)) {
-                run_tail_call(alloc, program, thread, func)
-            } else {
-                Ok(Some(Ended::Trapped(TrapKind::IndirectType)))
-            }
-        }
+    match entry_of(program, wanted, place) {
+        Ok(func) => run_tail_call(alloc, program, thread, func),
+        Err(kind) => Ok(Some(Ended::Trapped(kind))),
     }
 }
