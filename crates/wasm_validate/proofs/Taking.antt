@@ -2,10 +2,10 @@
 use Rattle.std.proofs.Common.{◌≡◌, ℕ, ◌+◌, ◌-◌, ◌<◌, ◌≤◌, List, [], ◌∷◌, length, take, reverse, get_or, Option, Some, None, Bool, true, false, refl, ap, sym, ◌∙◌, arith}
 use Rattle.std.proofs.lemmas.List.{take_more, reverse-append}
 use Rattle.wasm_core.specs.declared.types.ValType.{ValType}
-use Rattle.wasm_core.specs.MachineStep.{on_some}
+use Rattle.wasm_core.specs.MachineStep.{on_some, same_types}
 use Rattle.wasm_core.specs.ModuleTyping.{OperandTypes}
 use Rattle.std.specs.Prelude.{MatchBool}
-use Rattle.wasm_core.specs.Pass.{Known, Ctl, Place, More, knowing, off, only, put_on, same, take_off}
+use Rattle.wasm_core.specs.Pass.{Known, Ctl, Place, More, check_tail, dead, knowing, off, only, put_on, same, take_off}
 use Rattle.wasm_validate.specs.Applied.{applied}
 
 only_on : (b : Bool) (k : Known) (ps : OperandTypes) → only b (off ps k) ≡ on_some (only b (Some k)) (off ps)
@@ -73,9 +73,8 @@ pub applied_none : (p : ValType) (ps rs : OperandTypes) (a : Place) → off (p �
 applied_none p ps rs a h =
     ap (λ (o : Option Known). on_some o (λ k. Some (More (record a { now = put_on rs k })))) (off_cons p ps a.now.vals a.now.loose ∙ ap (λ (o : Option Known). on_some o (off ps)) h)
 
--- the first is taken off, and then the others; where it isn't there, none are
-pub off_first : (p : ValType) (ps : OperandTypes) (k j : Known) → off (p ∷ []) k ≡ Some j → off (p ∷ ps) k ≡ off ps j
-off_first p ps k j h = off_cons p ps k.vals k.loose ∙ ap (λ (o : Option Known). on_some o (off ps)) h
-
-pub off_first_none : (p : ValType) (ps : OperandTypes) (k : Known) → off (p ∷ []) k ≡ None → off (p ∷ ps) k ≡ None
-off_first_none p ps k h = off_cons p ps k.vals k.loose ∙ ap (λ (o : Option Known). on_some o (off ps)) h
+-- a tail call whose first operand has been taken off
+pub tail_more : (p : ValType) (ps rs own : OperandTypes) (a b : Place) → off (p ∷ []) a.now ≡ Some b.now → b.ctls ≡ a.ctls → check_tail own (Some (p ∷ ps, rs)) a ≡ check_tail own (Some (ps, rs)) b
+tail_more p ps rs own a b h e =
+    ap (λ (o : Option Known). only (same_types rs own) (on_some o (λ k. Some (dead a)))) (off_cons p ps a.now.vals a.now.loose ∙ ap (λ (o : Option Known). on_some o (off ps)) h)
+    ∙ ap (λ (cs : List Ctl). only (same_types rs own) (on_some (off ps b.now) (λ k. Some (More (record { now = knowing [] true; ctls = cs }))))) (sym e)

@@ -1,11 +1,11 @@
 //! Instructions that take operands off and put their results on, and change no block.
 
-ghost use Rattle.std.specs.Prelude.{◌≡◌, ◌++◌, [], ◌∷◌, reverse, IfOk, MatchBool, Some, None, slice_get, is_some, nat_le, ◌&&◌};
+ghost use Rattle.std.specs.Prelude.{◌≡◌, ◌++◌, [], ◌∷◌, reverse, IfOk, MatchBool, MatchOption, Some, None, slice_get, is_some, nat_le, ◌&&◌};
 ghost use Rattle.std.specs.Option.{option_to_list, option_map};
 ghost use Rattle.wasm_core.specs.declared.types.ValType.TheVariants.{I32 as Word};
 ghost use Rattle.wasm_core.specs.declared.instrs.Instr.TheVariants.{Call, CallIndirect, GlobalGet, GlobalSet, MemorySize, MemoryGrow};
 ghost use Rattle.wasm_core.specs.Arithmetic.{is_unary as takes_one};
-ghost use Rattle.wasm_core.specs.ModuleTyping.{accessing, calling, calling_entry, effect, getting, keeping, operating, setting};
+ghost use Rattle.wasm_core.specs.ModuleTyping.{accessing, calling, calling_entry, effect, entry_effect, func_type, getting, keeping, operating, setting};
 ghost use Rattle.wasm_core.specs.Pass.{off};
 ghost use Rattle.wasm_validate.specs.Applied.{applied};
 ghost use Rattle.wasm_validate.specs.Progress.{shows};
@@ -49,6 +49,25 @@ pub(crate) fn take_params(checker: &mut Checker, params: &[ValType]) -> bool
     true
 }
 
+/// The type of a function, where both are there.
+pub(crate) fn type_of_func(m: &Module, func: u32) -> Option<&FuncType>
+    ensures is { MatchOption result (func_type m.now func ≡ None) (λ t. func_type m.now func ≡ Some t.now) }
+{
+    let index = m.funcs().as_slice().get(func as usize)?;
+    m.types().as_slice().get(*index as usize)
+}
+
+/// The type by which an entry of a table is called, where the type is there and the table is the one that a module has.
+pub(crate) fn type_of_entry(m: &Module, index: u32, table: u32) -> Option<&FuncType>
+    ensures is { MatchOption result (entry_effect m.now index table ≡ None) (λ t. entry_effect m.now index table ≡ Some (calling_entry t.now)) }
+{
+    let of = m.types().as_slice().get(index as usize)?;
+    if table != 0 || m.table().is_none() {
+        return None;
+    }
+    Some(of)
+}
+
 /// A call of a function of this type.
 fn check_callee(checker: &mut Checker, of: &FuncType) -> Result<Progress, AllocError>
     ensures is { IfOk result (λ p. applied (Some (calling of.now)) checker.old ≡ shows p checker.new) }
@@ -78,10 +97,7 @@ pub(crate) fn check_call(
 ) -> Result<Progress, AllocError>
     ensures is { IfOk result (λ p. applied (effect m.now [] (Call func)) checker.old ≡ shows p checker.new) }
 {
-    let Some(index) = m.funcs().as_slice().get(func as usize) else {
-        return Ok(Progress::Stuck);
-    };
-    match m.types().as_slice().get(*index as usize) {
+    match type_of_func(m, func) {
         Some(of) => check_callee(checker, of),
         None => Ok(Progress::Stuck),
     }
@@ -96,13 +112,10 @@ pub(crate) fn check_call_indirect(
 ) -> Result<Progress, AllocError>
     ensures is { IfOk result (λ p. applied (effect m.now [] (CallIndirect index table)) checker.old ≡ shows p checker.new) }
 {
-    let Some(of) = m.types().as_slice().get(index as usize) else {
-        return Ok(Progress::Stuck);
-    };
-    if table != 0 || m.table().is_none() {
-        return Ok(Progress::Stuck);
+    match type_of_entry(m, index, table) {
+        Some(of) => check_entry(checker, of),
+        None => Ok(Progress::Stuck),
     }
-    check_entry(checker, of)
 }
 
 /// The type of a local, the parameters being the first; `None` where there is no such local.

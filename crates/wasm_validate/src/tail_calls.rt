@@ -3,31 +3,19 @@
 ghost use Rattle.std.specs.Prelude.{◌≡◌, Some};
 ghost use Rattle.std.specs.Option.{option_to_list};
 ghost use Rattle.wasm_core.specs.declared.instrs.Instr.TheVariants.{ReturnCall, ReturnCallIndirect};
-ghost use Rattle.wasm_core.specs.MachineStep.{same_types};
 ghost use Rattle.wasm_core.specs.ModuleTyping.{calling, calling_entry, tail_effect};
 ghost use Rattle.wasm_core.specs.Pass.{check_tail};
 ghost use Rattle.wasm_validate.specs.Progress.{shows};
 
 use crate::checker::{Checker, Progress};
-use crate::plain::take_params;
+use crate::plain::{take_params, type_of_entry, type_of_func};
 use wasm_core::{FuncType, Module, ValType};
-
-/// Two functions have the same results.
-fn same_result(x: Option<ValType>, y: Option<ValType>) -> bool
-    ensures is { result ≡ same_types (option_to_list x) (option_to_list y) }
-{
-    match (x, y) {
-        (None, None) => true,
-        (Some(s), Some(t)) => s == t,
-        _ => false,
-    }
-}
 
 /// A tail call of a function of this type, in one with the result `own`.
 fn check_tail_callee(checker: &mut Checker, of: &FuncType, own: Option<ValType>) -> Progress
     ensures is { check_tail (option_to_list own) (Some (calling of.now)) checker.old ≡ shows result checker.new }
 {
-    if !same_result(of.result, own) || !take_params(checker, of.params.as_slice()) {
+    if of.result != own || !take_params(checker, of.params.as_slice()) {
         return Progress::Stuck;
     }
     checker.kill();
@@ -35,21 +23,13 @@ fn check_tail_callee(checker: &mut Checker, of: &FuncType, own: Option<ValType>)
 }
 
 /// A tail call of a table's entry with this type, whose index lies above the arguments.
-#[tactic(auto, using(crate::proofs::Taking::off_first, crate::proofs::Taking::off_first_none))]
 fn check_tail_entry(checker: &mut Checker, of: &FuncType, own: Option<ValType>) -> Progress
     ensures is { check_tail (option_to_list own) (Some (calling_entry of.now)) checker.old ≡ shows result checker.new }
 {
-    if !same_result(of.result, own) {
-        return Progress::Stuck;
-    }
     if !checker.take(ValType::I32) {
         return Progress::Stuck;
     }
-    if !take_params(checker, of.params.as_slice()) {
-        return Progress::Stuck;
-    }
-    checker.kill();
-    Progress::Goes
+    check_tail_callee(checker, of, own)
 }
 
 /// `return_call`, in a function with the result `own`.
@@ -61,10 +41,7 @@ pub(crate) fn check_return_call(
 ) -> Progress
     ensures is { check_tail (option_to_list own) (tail_effect m.now (ReturnCall func)) checker.old ≡ shows result checker.new }
 {
-    let Some(index) = m.funcs().as_slice().get(func as usize) else {
-        return Progress::Stuck;
-    };
-    match m.types().as_slice().get(*index as usize) {
+    match type_of_func(m, func) {
         Some(of) => check_tail_callee(checker, of, own),
         None => Progress::Stuck,
     }
@@ -80,11 +57,8 @@ pub(crate) fn check_return_call_indirect(
 ) -> Progress
     ensures is { check_tail (option_to_list own) (tail_effect m.now (ReturnCallIndirect index table)) checker.old ≡ shows result checker.new }
 {
-    let Some(of) = m.types().as_slice().get(index as usize) else {
-        return Progress::Stuck;
-    };
-    if table != 0 || m.table().is_none() {
-        return Progress::Stuck;
+    match type_of_entry(m, index, table) {
+        Some(of) => check_tail_entry(checker, of, own),
+        None => Progress::Stuck,
     }
-    check_tail_entry(checker, of, own)
 }
