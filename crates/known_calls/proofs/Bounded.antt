@@ -20,13 +20,13 @@ use Rattle.wasm_emit.specs.EmittedLocals.{top, top_op, top_branches}
 use Rattle.wasm_emit.specs.EmitLaws.{CountsFit}
 use Rattle.wasm_emit.proofs.Lengths.{bytes_of, size, u_1, u_2, z_unreachable, z_if, z_else, z_end, z_op, z_call, z_indirect, z_get, z_set, z_tee, z_heap, z_size, z_room, z_small, z_header, z_global, z_load, z_store, z_const}
 use Rattle.wasm_emit.proofs.Spelled.{Good, fits}
-use Rattle.known_calls.specs.KnownPlaces.{Word, InLocal, InField, IsConst, Place, At, fields_of, word_of, known_function, block_reads}
-use Rattle.known_calls.specs.KnownCode.{Position, Inside, InTail, deeper, worker_index, jumps, most_blocks, read_word, read, atom, push_words, fill, new_block, block, into_local, into_params, call_worker, application, some_heads, some_branches, empty_test, head_test, arm, choose, unmade, known, op, code, empties, heads}
+use Rattle.known_calls.specs.KnownPlaces.{Word, InLocal, InField, IsConst, Place, At, word_of, known_function, is_read, block_reads}
+use Rattle.known_calls.specs.KnownCode.{Position, Inside, InTail, deeper, worker_index, jumps, most_blocks, read_word, read, atom, push_words, fill, new_block, block, into_local, into_params, call_worker, application, some_heads, some_branches, empty_test, head_test, arm, choose, unmade, known, moves, move_field, branch_places, op, code, empties, heads, branch}
 use Rattle.known_calls.specs.KnownModule.{captured_words}
 use Rattle.known_calls.specs.KnownWeight.{op_weight, weight, branches_weight}
 use Rattle.known_calls.proofs.Unreading.{and_true, unmade_some}
 use Rattle.known_calls.proofs.SameLocals.{top_less}
-use Rattle.known_calls.proofs.Fitting.{WordFits, PlaceFits, fields_fit, word_fits, function_fits, known_fits}
+use Rattle.known_calls.proofs.Fitting.{WordFits, PlaceFits, branch_fit, word_fits, function_fits, known_fits}
 
 -- at most k bytes in front of the rest
 pub record Bounded (k : ℕ) (g : List Instr → List Instr) : Type 0 where
@@ -102,6 +102,10 @@ b_empty_test d c hd hc = b_most 11 (omega arith) (b_get d hd then (b_const (2 * 
 
 b_head_test : (d c n : ℕ) → d < 100000 → n * 65536 + c < 4294967296 → Bounded 15 (head_test d c n)
 b_head_test d c n hd hc = b_most 15 (omega arith) (b_get d hd then (b_load 0 (omega arith) then (b_const (n * 65536 + c) hc then b_one {k = 1} (Operation op32.Eq) (λ r. z_op r op32.Eq) tt)))
+
+b_move : (b : Bool) (d : ℕ) → d < 100000 → Bounded 12 (move_field b d)
+b_move false d hd = b_most 12 (omega arith) b_none
+b_move true d hd = b_get d hd then (b_load 4 (omega arith) then b_set d hd)
 
 b_arm : (b : Bool) {i j k : ℕ} {test : List Instr → List Instr} {branch behind : Position → List Instr → List Instr} (at : Position) → Bounded i test → ((at' : Position) → Bounded j (branch at')) → ((at' : Position) → Bounded k (behind at')) → Bounded (i + j + k + 4) (arm b test branch behind at)
 b_arm true at t x y = b_most _ (omega arith) (t then b_arms (x (deeper at)) (y (deeper at)))
@@ -187,13 +191,13 @@ module _ (P : Program) (m : ℕ) (form : Formed P m) (counts : CountsFit P m) (l
   -- what each of the two chains makes of a match's branches
   abbrev empties_weight : BranchBlocks → ℕ
   empties_weight BNil = 0
-  empties_weight (BCons zero t bs) = 19 + weight t + empties_weight bs
+  empties_weight (BCons zero t bs) = 31 + weight t + empties_weight bs
   empties_weight (BCons (suc n) t bs) = empties_weight bs
 
   abbrev heads_weight : BranchBlocks → ℕ
   heads_weight BNil = 0
   heads_weight (BCons zero t bs) = heads_weight bs
-  heads_weight (BCons (suc n) t bs) = 19 + weight t + heads_weight bs
+  heads_weight (BCons (suc n) t bs) = 31 + weight t + heads_weight bs
 
   both_chains : (bs : BranchBlocks) → empties_weight bs + heads_weight bs ≡ branches_weight bs
   both_chains BNil = refl
@@ -224,7 +228,7 @@ module _ (P : Program) (m : ℕ) (form : Formed P m) (counts : CountsFit P m) (l
     b_code n d ps at (Ret x) le h fit = b_op n d ps at x le h fit
     b_code n d ps at (Let x t) le h fit =
         b_choice (unmade P ps x t) {g = λ q. code P (q ∷ ps) d at t}
-        (λ q e. let z = unmade_some (block_reads 0 t) (known P ps x) e in b_most _ (omega arith) (b_code (suc n) d (q ∷ ps) at t (omega (arith, top_less d t)) (known_fits P 16384 m form n 100000 ps x fit.0 h z.1, h) fit.1))
+        (λ q e. let z = unmade_some (is_read (block_reads 0 t)) (known P ps x) e in b_most _ (omega arith) (b_code (suc n) d (q ∷ ps) at t (omega (arith, top_less d t)) (known_fits P 16384 m form n 100000 ps x fit.0 h z.1, h) fit.1))
         (b_most _ (omega arith) (b_bind n d ps x (omega arith) h fit.0 (b_op n d ps Inside x (omega arith) h fit.0) then (b_code (suc n) (suc d) (At (InLocal d) ∷ ps) at t (omega arith) (omega arith, h) fit.1)))
 
     b_empties : (n d : ℕ) (ps : List Place) (at : Position) (c : ℕ) (some : Bool) (bs : BranchBlocks) (others : Position → List Instr → List Instr) (k : ℕ) → max (suc d) (top_branches (suc d) bs) < 100000 → c + many bs ≤ m → Near ps → BranchesFit P.functions (length P.constants) m n bs →
@@ -240,5 +244,5 @@ module _ (P : Program) (m : ℕ) (form : Formed P m) (counts : CountsFit P m) (l
     b_heads n d ps at c (BCons zero t bs) le few h fit = b_heads n d ps at (suc c) bs (omega arith) (omega arith) h fit.2
     b_heads n d ps at c (BCons (suc j) t bs) le few h fit =
         let low = fit.0 in
-        b_most _ (omega arith) (b_arm (some_heads bs) {branch = λ at'. code P (fields_of d (suc j) ps) (suc d) at' t} {behind = λ at'. heads P ps d at' (suc c) bs} at (b_head_test d c (suc j) (omega arith) (omega (arith, counts.branches, low)))
-        (λ at'. b_code (suc j + n) (suc d) (fields_of d (suc j) ps) at' t (omega arith) (fields_fit P 16384 100000 d (suc j) ps (omega arith) (omega (arith, low)) h) fit.1) (λ at'. b_heads n d ps at' (suc c) bs (omega arith) (omega arith) h fit.2))
+        b_most _ (omega arith) (b_arm (some_heads bs) {branch = λ at'. branch P ps d (suc j) at' t} {behind = λ at'. heads P ps d at' (suc c) bs} at (b_head_test d c (suc j) (omega arith) (omega (arith, counts.branches, low)))
+        (λ at'. b_move (moves (suc j) t) d (omega arith) then b_code (suc j + n) (suc d) (branch_places (moves (suc j) t) d (suc j) ps) at' t (omega arith) (branch_fit P 16384 (moves (suc j) t) 100000 d (suc j) ps (omega arith) (omega (arith, low)) h) fit.1) (λ at'. b_heads n d ps at' (suc c) bs (omega arith) (omega arith) h fit.2))

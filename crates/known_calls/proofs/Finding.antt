@@ -1,12 +1,12 @@
 -- What stands at a variable's place.
-use Rattle.std.proofs.Common.{◌≡◌, ℕ, zero, suc, ◌+◌, ◌*◌, ◌≤◌, List, ◌∷◌, length, Option, Some, None, true, false, refl, ap, sym, ◌∙◌, subst, eq-eqb}
-use Rattle.std.specs.Prelude.{slice_get, nat_eq}
+use Rattle.std.proofs.Common.{◌≡◌, ℕ, zero, suc, ◌+◌, ◌*◌, ◌≤◌, List, ◌∷◌, length, Option, Some, None, Bool, refl, ap, sym, ◌∙◌, subst, eq-eqb}
+use Rattle.std.specs.Prelude.{slice_get, if◌then◌else◌}
 use Rattle.std.specs.Option.{option_map, option_and_then}
 use Rattle.wasm_core.specs.declared.types.ConstValue.{ConstValue}
 use Rattle.wasm_emit.proofs.Bytes.{Mem}
 use Rattle.wasm_emit.proofs.Values.{Stands, s_box, s_empty}
 use Rattle.wasm_emit.proofs.Source.{Atom, AVar, Val, VClos, Vals, VNil, VCons, lookup, Is, is_var, is_box, is_empty, AllAre, are_none, are_more}
-use Rattle.known_calls.specs.KnownPlaces.{Word, IsConst, Place, At, Known, word_at, word_of, words_of, all_at, known_at, known_function, names}
+use Rattle.known_calls.specs.KnownPlaces.{Word, IsConst, Place, At, Known, Never, Once, word_at, word_of, words_of, all_at, known_at, known_function, names}
 use Rattle.known_calls.proofs.KnownHolds.{Reads, is_const, Words, no_word, more_words, Env, env_nil, env_at, env_known}
 
 pub same_some : {A : Type 0} {a b : A} → ◌≡◌ {A = Option A} (Some a) (Some b) → a ≡ b
@@ -75,14 +75,14 @@ module _ (m : Mem) (limit : ℕ) (ls : List ConstValue) (d : ℕ) where
   there_held (held_known {g = g} {ws = ws} at is few words) never = absurd (never g ws at)
 
   -- one that names no closure that is made nowhere
-  pub there : {ps : List Place} {e : Vals} {a : Atom} {v : Val} → Env m limit ls d ps e → Is e a v → ((i g : ℕ) (ws : List Word) → slice_get ps i ≡ Some (Known g ws) → names i a ≡ false) → There ps a v
+  pub there : {ps : List Place} {e : Vals} {a : Atom} {v : Val} → Env m limit ls d ps e → Is e a v → ((i g : ℕ) (ws : List Word) → slice_get ps i ≡ Some (Known g ws) → names i a ≡ Never) → There ps a v
   there env (is_var {i = i} at) un = there_held (held i env at) (λ g ws e. itself (un i g ws e))
     where
-      both : true ≡ false → ⊥
+      both : Once ≡ Never → ⊥
       both e = cc
 
-      itself : nat_eq i i ≡ false → ⊥
-      itself e = both (sym (eq-eqb i i refl) ∙ e)
+      itself : names i (AVar i) ≡ Never → ⊥
+      itself e = both (sym (ap (λ (b : Bool). if b then Once else Never) (eq-eqb i i refl)) ∙ e)
   there env is_box un = record { place = IsConst 0; is = refl; w = 0; reads = is_const; stands = s_box refl }
   there env (is_empty {c = c} lt) un = record { place = IsConst (2 * c + 1); is = refl; w = 2 * c + 1; reads = is_const; stands = s_empty lt refl }
 

@@ -1,5 +1,5 @@
 -- The places of variables fit: they use only locals below a number, and a known closure has as many words as its function takes.
-use Rattle.std.proofs.Common.{◌≡◌, ℕ, zero, suc, ◌*◌, ◌<◌, ◌≤◌, List, [], ◌∷◌, length, Option, Some, None, refl, ap, sym, subst, arith}
+use Rattle.std.proofs.Common.{◌≡◌, ℕ, zero, suc, ◌*◌, ◌<◌, ◌≤◌, List, [], ◌∷◌, length, Option, Some, None, Bool, true, false, refl, ap, sym, subst, arith}
 use Rattle.std.specs.Prelude.{slice_get}
 use Rattle.std.specs.Option.{option_and_then}
 use Rattle.anf_convert.specs.declared.program.Atom.{Atom}
@@ -9,7 +9,7 @@ use Rattle.closure_lift.specs.Lifted.{Op, OConst, OApp, OCon, OClos, OCase, Bloc
 use Rattle.closure_lift.specs.LiftedForm.{IsMadeWith, OpFits, LiftedBlockFits, Formed}
 use Rattle.wasm_core.specs.ModuleCondition.{All}
 use Rattle.known_calls.specs.KnownPlaces.{Word, InLocal, InField, IsConst, Place, At, Known, word_at, word_of, words_of, all_at, fields_of, known_at, known_function}
-use Rattle.known_calls.specs.KnownCode.{known_closure, closure_alone, known}
+use Rattle.known_calls.specs.KnownCode.{known_closure, closure_alone, known, branch_places}
 use Rattle.known_calls.specs.KnownModule.{params}
 use Rattle.known_calls.proofs.Finding.{same_some, split}
 use Rattle.known_calls.proofs.Knowing.{closed, opened}
@@ -45,6 +45,10 @@ module _ (P : Program) (far : ℕ) where
   pub fields_fit : (d x n : ℕ) (ps : List Place) → x < d → 4 * n < far → All (PlaceFits d) ps → All (PlaceFits d) (fields_of x n ps)
   fields_fit d x zero ps hx hn h = h
   fields_fit d x (suc n) ps hx hn h = ((hx, omega arith), fields_fit d x n ps hx (omega arith) h)
+
+  pub branch_fit : (b : Bool) (d x n : ℕ) (ps : List Place) → x < d → 4 * n < far → All (PlaceFits d) ps → All (PlaceFits d) (branch_places b x n ps)
+  branch_fit false d x n ps hx hn h = fields_fit d x n ps hx hn h
+  branch_fit true d x n ps hx hn h = (hx, h)
 
   pub params_fit : (d n : ℕ) → n ≤ d → All (PlaceFits d) (params n)
   params_fit d zero h = tt

@@ -16,10 +16,10 @@ use Rattle.wasm_emit.proofs.Values.{Stands}
 use Rattle.wasm_emit.proofs.Holds.{Same, Keeps}
 use Rattle.wasm_emit.proofs.Rules.{Limits, Within, here, in_block, returned, looser, r_const, r_get, r_load, r_eq_yes, r_eq_no, r_if, r_if_not, r_else, r_end}
 use Rattle.wasm_emit.proofs.Alloc.{Room}
-use Rattle.known_calls.specs.KnownPlaces.{Place, fields_of}
-use Rattle.known_calls.specs.KnownCode.{Position, deeper, some_heads, some_branches, empty_test, head_test, arm, code, empties, heads}
+use Rattle.known_calls.specs.KnownPlaces.{Place}
+use Rattle.known_calls.specs.KnownCode.{Position, deeper, some_heads, some_branches, empty_test, head_test, arm, code, empties, heads, branch}
 use Rattle.known_calls.proofs.KnownHolds.{Stood, stood_up, stood_deeper}
-use Rattle.known_calls.proofs.Shapes.{Shaped, shaped_code, shaped_empties, shaped_heads}
+use Rattle.known_calls.proofs.Shapes.{Shaped, shaped_code, shaped_empties, shaped_heads, shaped_branch}
 
 -- where the match has a branch for the constructor
 branch_some : {bs : BranchBlocks} {i j : ℕ} {t : Block} → BranchAt bs i j t → some_branches bs ≡ true
@@ -128,18 +128,18 @@ module _ (P : Program) (M : Parts) (cap : Limits) (Q : State → Type 0) where
 
     -- a constructor with arguments
     pub take_head : (ps : List Place) (at : Position) (c : ℕ) {i j : ℕ} {bs : BranchBlocks} {t : Block} → 0 < j → w + 4 ≤ length m → word m w ≡ j * 65536 + (c + i) → c + i < 65536 → BranchAt bs i j t →
-        ((at' : Position) → Yields at' m p h ls d v tail D k s n (code P (fields_of d j ps) (suc d) at' t)) → Yields at m p h ls d v tail D k s (6 * many bs + n) (heads P ps d at c bs)
+        ((at' : Position) → Yields at' m p h ls d v tail D k s n (branch P ps d j at' t)) → Yields at m p h ls d v tail D k s (6 * many bs + n) (heads P ps d at c bs)
     take_head ps at c some within is small (branch_here {n = zero}) y = absurd (omega arith)
     take_head ps at c some within is small (branch_here {n = suc a} {b = t} {rest = bs}) y =
         let r = either (some_heads bs) in
         record { run = λ f vals rest l u bound stood deep fits go out. r.run f vals rest l u bound stood deep (omega arith) go out }
       where
-        either : (b : Bool) → Yields at m p h ls d v tail D k s (6 * suc (many bs) + n) (arm b (head_test d c (suc a)) (λ at'. code P (fields_of d (suc a) ps) (suc d) at' t) (λ at'. heads P ps d at' (suc c) bs) at)
+        either : (b : Bool) → Yields at m p h ls d v tail D k s (6 * suc (many bs) + n) (arm b (head_test d c (suc a)) (λ at'. branch P ps d (suc a) at' t) (λ at'. heads P ps d at' (suc c) bs) at)
         either false = record { run = λ f vals rest l u bound stood deep fits go out. (y at).run f vals rest l u bound stood deep (omega arith) go out }
         either true = record {
           run = λ f vals rest l u bound stood deep fits go out.
               looser M cap Q (r_get M cap Q (omega arith) is_at (r_load M cap Q (omega arith) (omega arith) (r_const M cap Q (omega arith) (suc a * 65536 + c) (r_eq_yes M cap Q (omega arith) (omega (arith, at_zero m w, is))
-              (first at m p h ls d v tail D k s n (code P (fields_of d (suc a) ps) (suc d) (deeper at) t) (heads P ps d (deeper at) (suc c) bs) f vals rest l u stood deep (shaped_code P (fields_of d (suc a) ps) (suc d) (deeper at) t).ends (shaped_heads P ps d (deeper at)
+              (first at m p h ls d v tail D k s n (branch P ps d (suc a) (deeper at) t) (heads P ps d (deeper at) (suc c) bs) f vals rest l u stood deep (shaped_branch P ps d (suc a) (deeper at) t).ends (shaped_heads P ps d (deeper at)
               (suc c) bs).ends (y (deeper at)) go out)))))
               (omega arith) (omega arith);
         }
@@ -151,8 +151,8 @@ module _ (P : Program) (M : Parts) (cap : Limits) (Q : State → Type 0) where
         let tested = head_some some at' in
         record {
           run = λ f vals rest l u bound stood deep fits go out.
-              subst (λ (z : Bool). Within M cap Q (k + l) bound (here cap f m p h ls vals (arm z (head_test d c (suc a)) (λ at'. code P (fields_of d (suc a) ps) (suc d) at' b) (λ at'. heads P ps d at' (suc c) bs) at rest))) (sym tested)
+              subst (λ (z : Bool). Within M cap Q (k + l) bound (here cap f m p h ls vals (arm z (head_test d c (suc a)) (λ at'. branch P ps d (suc a) at' b) (λ at'. heads P ps d at' (suc c) bs) at rest))) (sym tested)
               (looser M cap Q (r_get M cap Q (omega arith) is_at (r_load M cap Q (omega arith) (omega arith) (r_const M cap Q (omega arith) (suc a * 65536 + c) (r_eq_no M cap Q (omega arith) (λ e. omega (arith, is, at_zero m w, e))
-              (second at m p h ls d v tail D k s (6 * many bs + n) (code P (fields_of d (suc a) ps) (suc d) (deeper at) b) (heads P ps d (deeper at) (suc c) bs) f vals rest l u stood deep (shaped_code P (fields_of d (suc a) ps) (suc d) (deeper at) b).elses r go out)))))
+              (second at m p h ls d v tail D k s (6 * many bs + n) (branch P ps d (suc a) (deeper at) b) (heads P ps d (deeper at) (suc c) bs) f vals rest l u stood deep (shaped_branch P ps d (suc a) (deeper at) b).elses r go out)))))
               (omega arith) (omega arith));
         }

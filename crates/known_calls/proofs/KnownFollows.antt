@@ -29,12 +29,12 @@ use Rattle.wasm_emit.proofs.Holds.{args_on, Same, Keeps, keeps_trans, keeps_same
 use Rattle.wasm_emit.proofs.Rules.{Limits, Within, here, callee, in_block, zeros, looser, r_const, r_get, r_set, r_load, r_end, r_back, r_return, r_call_0, r_indirect, zeros_length}
 use Rattle.wasm_emit.proofs.Alloc.{Room, HasRunTime, low_word}
 use Rattle.wasm_emit.proofs.Pushing.{branch_top}
-use Rattle.known_calls.specs.KnownPlaces.{Word, InLocal, Place, At, Known, fields_of, known_function, names, branches_read, block_reads}
-use Rattle.known_calls.specs.KnownCode.{Position, Inside, InTail, is_wide, into_params, worker_index, most_blocks, jumps, application, call_worker, into_local, some_heads, choose, unmade, known, op, code, empties, heads}
+use Rattle.known_calls.specs.KnownPlaces.{Word, InLocal, InField, Place, At, Known, Never, fields_of, known_function, is_read, names, branches_read, block_reads}
+use Rattle.known_calls.specs.KnownCode.{Position, Inside, InTail, is_wide, into_params, worker_index, most_blocks, jumps, application, call_worker, into_local, some_heads, choose, unmade, known, moves, move_field, branch_places, op, code, empties, heads}
 use Rattle.known_calls.specs.KnownModule.{params, captured_words, module_with}
 use Rattle.known_calls.specs.KnownCalls.{applied}
 use Rattle.known_calls.proofs.KnownHolds.{in_local, in_field, Words, words_length, Env, env_nil, env_at, env_known, env_on, Unread, OpUnread, Stood, stood_inside, stood_in_tail, stood_up, loop_of}
-use Rattle.known_calls.proofs.Unreading.{neither, and_true, unmade_some, unread_known, unread_at, unread_let_atom, unread_op, unread_branch}
+use Rattle.known_calls.proofs.Unreading.{neither, and_true, unmade_some, not_read, unread_known, unread_at, unread_moved, unread_let_atom, unread_op, unread_branch}
 use Rattle.known_calls.proofs.Finding.{There, there, there_unknown, same_some}
 use Rattle.known_calls.proofs.Knowing.{known_is, calls, same_function, same_captured, no_box}
 use Rattle.known_calls.proofs.KnownMaking.{WordsStand, stand_more, words, stand_size, put_atom, pushed, made, new_made}
@@ -257,32 +257,54 @@ module _ (P : Program) (main : Body) (gs : List GlobalDef) (es : List Export) (p
           (omega arith) (omega arith)
       by_kind at m p h ls d ps room nil env un F vals rest l u deep go (Some j) known_f = absurd (no_box P m h ls d (calls P m h ls d env isf known_f).value)
 
+  -- a branch's field that comes into the local in which the block's address is, or that stays where it is
+  branch_follows : {D : ℕ} {tail : Bool} {e : Vals} {vs : Vals} {t : Block} {r : Val} {c k b s : ℕ} (moved : Bool) → moves (size vs) t ≡ moved → SimCode tail D (vs +v e) t r c k b s → (at : Position) (m : Mem) (p h : ℕ) (ls : List ConstValue) (d w : ℕ) (ps : List Place) → Room M cap m p h → word m 0 ≡ 0 →
+      Env m h ls d ps e → Unread (fields_of d (size vs) ps) t → top (suc d) t ≤ length ls → h + 4 * s ≤ cap.bytes → slice_get ls d ≡ Some (I32 w) → d < length ls → w + 4 * suc (size vs) ≤ h → Fields m h w vs →
+      Yields P M cap Q at m p h ls d r tail D k s (3 + (cost c b + 2)) (λ rest. move_field moved d (code P (branch_places moved d (size vs) ps) (suc d) at t rest))
+  branch_follows {vs = vs} false e body at m p h ls d w ps room nil env un has needed is lt within fs =
+      let y = fewer_kept P M cap Q (body.sim at m p h ls (suc d) (fields_of d (size vs) ps) room nil (fields_env d w (omega arith) is within fs (env_on (omega arith) (λ x y. refl) (omega arith) (keeps_same d ls) env)) un has needed) in
+      record { run = λ f vals rest l u bound stood deep fits go out. y.run f vals rest l u bound stood deep (omega arith) go out }
+  branch_follows {vs = VNil} true e body at m p h ls d w ps room nil env un has needed is lt within fs = cc
+  branch_follows {vs = VCons v (VCons v2 vs)} true e body at m p h ls d w ps room nil env un has needed is lt within fs = cc
+  branch_follows {vs = VCons v VNil} {t = t} {c = c} {b = b} true e body at m p h ls d w ps room nil env un has needed is lt within (field st low fs) =
+      let w1 = word m (w + 4) in
+      let ls1 = slice_set ls d (I32 w1) in
+      let kept : Keeps d ls ls1 = keeps_set ls d (I32 w1) in
+      let y = fewer_kept P M cap Q (body.sim at m p h ls1 (suc d) (At (InLocal d) ∷ ps) room nil (env_at w1 (in_local (omega arith) (set_this ls d (I32 w1) lt)) st (env_on (omega arith) (λ x y. refl) (omega arith) kept env)) (unread_moved (InField d 4) (InLocal d) ps t un) (omega (arith, kept.size)) needed) in
+      record {
+        run = λ f vals rest l u bound stood deep fits go out.
+            looser M cap Q (r_get M cap Q (omega arith) is (r_load M cap Q (omega arith) (omega (arith, room.inside)) (r_set M cap Q (omega arith) (slice_get-get_or ls d (I32 0) lt)
+            (y.run f vals rest l u (cost c b + 2 + u) (stood_up P d (length ls1) (omega arith) (omega (arith, kept.size)) stood) deep (omega arith)
+            (λ m' p' h' ls' w' x y room' same keeps st'. go m' p' h' ls' w' x y room' same (keeps_trans (omega arith) kept keeps) st')
+            out))))
+            (omega arith) (omega arith);
+      }
+
   -- a value is matched
   chosen : {D : ℕ} {tail : Bool} {e : Vals} {bs : BranchBlocks} {i : ℕ} {vs : Vals} {t : Block} {r : Val} {c k b s : ℕ} → many bs ≤ N → BranchAt bs i (size vs) t → SimCode tail D (vs +v e) t r c k b s →
-      (at : Position) (m : Mem) (p h : ℕ) (ls : List ConstValue) (d w : ℕ) (ps : List Place) → Room M cap m p h → word m 0 ≡ 0 → Env m h ls (suc d) ps e → Unread (fields_of d (size vs) ps) t →
-      top (suc d) t ≤ length ls → h + 4 * s ≤ cap.bytes → slice_get ls d ≡ Some (I32 w) → Stands m h w (VCon i vs) →
-      Yields P M cap Q at m p h ls d r tail D k s (11 * N + (cost c b + 2)) (λ rest. empties P ps d at 0 (some_heads bs) bs (λ at'. heads P ps d at' 0 bs) rest)
-  chosen {bs = bs} few branch body at m p h ls d w ps room nil env un has needed is (s_empty lt e) =
+      (at : Position) (m : Mem) (p h : ℕ) (ls : List ConstValue) (d w : ℕ) (ps : List Place) → Room M cap m p h → word m 0 ≡ 0 → Env m h ls d ps e → Unread (fields_of d (size vs) ps) t → top (suc d) t ≤ length ls → d < length ls → h + 4 * s ≤ cap.bytes → slice_get ls d ≡ Some (I32 w) → Stands m h w (VCon i vs) →
+      Yields P M cap Q at m p h ls d r tail D k s (11 * N + (cost c b + 5)) (λ rest. empties P ps d at 0 (some_heads bs) bs (λ at'. heads P ps d at' 0 bs) rest)
+  chosen {bs = bs} few branch_at body at m p h ls d w ps room nil env un has lt needed is (s_empty small e) =
       record {
-        run = λ f vals rest l u bound stood deep fits go out. (take_empty P M cap Q is ps at 0 (some_heads bs) (λ at'. heads P ps d at' 0 bs) refl (omega arith) (λ at'. shaped_heads P ps d at' 0 bs) branch
-            (λ at'. fewer_kept P M cap Q (body.sim at' m p h ls (suc d) ps room nil env un has needed))).run f vals rest l u bound stood deep (omega arith) go out;
+        run = λ f vals rest l u bound stood deep fits go out. (take_empty P M cap Q is ps at 0 (some_heads bs) (λ at'. heads P ps d at' 0 bs) refl (omega arith) (λ at'. shaped_heads P ps d at' 0 bs) branch_at
+            (λ at'. fewer_kept P M cap Q (body.sim at' m p h ls (suc d) ps room nil (env_on (omega arith) (λ x y. refl) (omega arith) (keeps_same d ls) env) un has needed))).run f vals rest l u bound stood deep (omega arith) go out;
       }
-  chosen {D = D} {tail} {bs = bs} {vs = vs} {r = r} {c} {k} {b} {s} few branch body at m p h ls d w ps room nil env un has needed is (s_con q lt e pos some' within head fs) =
-      let y = λ (at' : Position). fewer_kept P M cap Q (body.sim at' m p h ls (suc d) (fields_of d (size vs) ps) room nil (fields_env d w (omega arith) is within fs env) un has needed) in
-      let z = λ (at' : Position). take_head P M cap Q is ps at' 0 some' (omega (arith, room.inside)) (omega (arith, head)) (omega arith) branch y in
-      subst (λ (some : Bool). Yields P M cap Q at m p h ls d r tail D k s (11 * N + (cost c b + 2)) (λ rest. empties P ps d at 0 some bs (λ at'. heads P ps d at' 0 bs) rest)) (sym (head_some some' branch))
+  chosen {D = D} {tail} {bs = bs} {vs = vs} {t = t} {r = r} {c} {k} {b} {s} few branch_at body at m p h ls d w ps room nil env un has lt needed is (s_con q small e pos some' within head fs) =
+      let y = λ (at' : Position). branch_follows (moves (size vs) t) refl body at' m p h ls d w ps room nil env un has needed is lt within fs in
+      let z = λ (at' : Position). take_head P M cap Q is ps at' 0 some' (omega (arith, room.inside)) (omega (arith, head)) (omega arith) branch_at y in
+      subst (λ (some : Bool). Yields P M cap Q at m p h ls d r tail D k s (11 * N + (cost c b + 5)) (λ rest. empties P ps d at 0 some bs (λ at'. heads P ps d at' 0 bs) rest)) (sym (head_some some' branch_at))
       (record { run = λ f vals rest l u bound stood deep fits go out. (pass_empties P M cap Q is ps at (2 * q) 0 bs (λ at'. heads P ps d at' 0 bs) (omega arith) z).run f vals rest l u bound stood deep (omega arith) go out })
 
   sim_case : {D : ℕ} {tail : Bool} {e : Vals} {a : Atom} {bs : BranchBlocks} {i : ℕ} {vs : Vals} {t : Block} {r : Val} {c k b s : ℕ} → Is e a (VCon i vs) → many bs ≤ N → BranchAt bs i (size vs) t → SimCode tail D (vs +v e) t r c k b s → SimOp tail D e (OCase a bs) r (suc c) (suc k) b s
-  sim_case {a = a} {bs = bs} {c = c} {k} {b} isa few branch body = record {
+  sim_case {a = a} {bs = bs} {c = c} {k} {b} isa few branch_at body = record {
     sim = λ at m p h ls d ps n is room nil env un has needed. record {
       run = λ f vals rest l u bound stood deep fits go out.
           looser M cap Q (put_atom M fixed cap Q (omega arith) room.inside (there m h ls d env isa (λ i g ws z. (neither (names i a) (branches_read i bs) (un i g ws z)).0)) (λ w s. r_set M cap Q (omega arith) (slice_get-get_or ls d (I32 0) (omega arith))
           (let ls1 = slice_set ls d (I32 w) in
           let kept : Keeps d ls ls1 = keeps_set ls d (I32 w) in
-          (chosen few branch body at m p h ls1 d w ps room nil (env_on (omega arith) (λ x y. refl) (omega arith) kept env) (unread_branch ps a d un branch) (omega (arith, branch_top (suc d) branch, kept.size)) needed (set_this ls d (I32 w) (omega arith)) (stands_on m m h
+          (chosen few branch_at body at m p h ls1 d w ps room nil (env_on (omega arith) (λ x y. refl) (omega arith) kept env) (unread_branch ps a d un branch_at) (omega (arith, branch_top (suc d) branch_at, kept.size)) (omega (arith, kept.size)) needed (set_this ls d (I32 w) (omega arith)) (stands_on m m h
           (omega arith) (λ x y. refl) s)).run
-          f vals rest l u (11 * N + (cost c b + 2) + u) (stood_up P d (length ls1) (omega arith) (omega (arith, kept.size)) stood) deep (omega arith)
+          f vals rest l u (11 * N + (cost c b + 5) + u) (stood_up P d (length ls1) (omega arith) (omega (arith, kept.size)) stood) deep (omega arith)
           (λ m' p' h' ls' w' x y room' same keeps st. go m' p' h' ls' w' x y room' same (keeps_trans (omega arith) kept keeps) st)
           out)))
           (omega arith) (omega arith);
@@ -380,8 +402,8 @@ module _ (P : Program) (main : Body) (gs : List GlobalDef) (es : List Export) (p
     }
 
     -- one that is known, and needs none: no step, no block and no match
-    let_known : (at : Position) (m : Mem) (p h : ℕ) (ls : List ConstValue) (d : ℕ) (ps : List Place) (q : Place) → block_reads 0 t ≡ false → known P ps x ≡ Some q → Room M cap m p h → word m 0 ≡ 0 → Env m h ls d ps e → Unread ps (Let x t) → top d (Let x t) ≤ length ls →
-        h + 4 * (s + s') ≤ cap.bytes → Yields P M cap Q at m p h ls d r tail D (k + k') (s + s') (cost (c + c') (b + b') + 2) (λ rest. code P (q ∷ ps) d at t rest)
+    let_known : (at : Position) (m : Mem) (p h : ℕ) (ls : List ConstValue) (d : ℕ) (ps : List Place) (q : Place) → block_reads 0 t ≡ Never → known P ps x ≡ Some q → Room M cap m p h → word m 0 ≡ 0 → Env m h ls d ps e → Unread ps (Let x t) → top d (Let x t) ≤ length ls → h + 4 * (s + s') ≤ cap.bytes →
+        Yields P M cap Q at m p h ls d r tail D (k + k') (s + s') (cost (c + c') (b + b') + 2) (λ rest. code P (q ∷ ps) d at t rest)
     let_known at m p h ls d ps q unread is room nil env un has needed =
         let x' = known_is P m h ls d env does is in
         let behind : Env m h ls d (q ∷ ps) (VCons v e) = subst (λ y. Env m h ls d (y ∷ ps) (VCons v e)) x'.place (subst (λ (y : Val). Env m h ls d (Known x'.g x'.ws ∷ ps) (VCons y e)) (sym x'.value) (env_known x'.few x'.words env)) in
@@ -398,7 +420,7 @@ module _ (P : Program) (main : Body) (gs : List GlobalDef) (es : List Export) (p
     let_either : (at : Position) (m : Mem) (p h : ℕ) (ls : List ConstValue) (d : ℕ) (ps : List Place) → Room M cap m p h → word m 0 ≡ 0 → Env m h ls d ps e → Unread ps (Let x t) → top d (Let x t) ≤ length ls → h + 4 * (s + s') ≤ cap.bytes → (o : Option Place) → unmade P ps x t ≡ o →
         Yields P M cap Q at m p h ls d r tail D (k + k') (s + s') (cost (c + c') (b + b') + 2) (λ rest. choose o (λ q. code P (q ∷ ps) d at t rest) (into_local ps d x (op P ps d Inside x) (code P (At (InLocal d) ∷ ps) (suc d) at t rest)))
     let_either at m p h ls d ps room nil env un has needed None e = let_made at m p h ls d ps room nil env un has needed
-    let_either at m p h ls d ps room nil env un has needed (Some q) e = let z = unmade_some (block_reads 0 t) (known P ps x) e in let_known at m p h ls d ps q z.0 z.1 room nil env un has needed
+    let_either at m p h ls d ps room nil env un has needed (Some q) e = let z = unmade_some (is_read (block_reads 0 t)) (known P ps x) e in let_known at m p h ls d ps q (not_read (block_reads 0 t) z.0) z.1 room nil env un has needed
 
     sim_let : SimCode tail D e (Let x t) r (c + c') (k + k') (b + b') (s + s')
     sim_let = record { sim = λ at m p h ls d ps room nil env un has needed. let_either at m p h ls d ps room nil env un has needed (unmade P ps x t) refl }

@@ -13,7 +13,7 @@ use Rattle.wasm_emit.specs.EmittedLocals.{top}
 use Rattle.wasm_emit.proofs.Bytes.{Mem, word_same}
 use Rattle.wasm_emit.proofs.Values.{Stands}
 use Rattle.wasm_emit.proofs.Holds.{Same, Keeps, stands_on}
-use Rattle.known_calls.specs.KnownPlaces.{Word, InLocal, InField, IsConst, Place, At, Known, op_reads, block_reads}
+use Rattle.known_calls.specs.KnownPlaces.{Word, InLocal, InField, IsConst, Place, At, Known, Never, op_reads, block_reads}
 use Rattle.known_calls.specs.KnownCode.{Position, Inside, InTail, deeper}
 use Rattle.known_calls.specs.KnownModule.{worker_code}
 
@@ -36,10 +36,10 @@ pub data Env (m : Mem) (limit : ℕ) (ls : List ConstValue) (d : ℕ) : List Pla
 
 -- no closure that is made nowhere is read as a word
 abbrev pub Unread : List Place → Block → Type 0
-Unread ps t = (i g : ℕ) (ws : List Word) → slice_get ps i ≡ Some (Known g ws) → block_reads i t ≡ false
+Unread ps t = (i g : ℕ) (ws : List Word) → slice_get ps i ≡ Some (Known g ws) → block_reads i t ≡ Never
 
 abbrev pub OpUnread : List Place → Op → Type 0
-OpUnread ps x = (i g : ℕ) (ws : List Word) → slice_get ps i ≡ Some (Known g ws) → op_reads i x ≡ false
+OpUnread ps x = (i g : ℕ) (ws : List Word) → slice_get ps i ≡ Some (Known g ws) → op_reads i x ≡ Never
 
 -- the label of a worker's loop
 abbrev pub loop_of : Program → ℕ → Fn → BlockLabel

@@ -1,5 +1,5 @@
 -- Atoms, and blocks of memory.
-use Rattle.std.proofs.Common.{◌≡◌, ℕ, suc, ◌+◌, ◌*◌, ◌<◌, ◌≤◌, List, [], ◌∷◌, ◌++◌, length, Option, Some, false, refl, ap, sym, ◌∙◌, subst, inl, inr, arith}
+use Rattle.std.proofs.Common.{◌≡◌, ℕ, suc, ◌+◌, ◌*◌, ◌<◌, ◌≤◌, List, [], ◌∷◌, ◌++◌, length, Option, Some, refl, ap, sym, ◌∙◌, subst, inl, inr, arith}
 use Rattle.std.proofs.lemmas.Option.{slice_get-get_or}
 use Rattle.std.specs.Prelude.{slice_get, slice_set}
 use Rattle.wasm_core.specs.Memory.{byte, word, put_word}
@@ -17,7 +17,7 @@ use Rattle.wasm_emit.proofs.Values.{Stands, Fields, no_field, field}
 use Rattle.wasm_emit.proofs.Holds.{address_below, fields_up, Same, Keeps, keeps_same, keeps_set, set_this, stands_on, stands_small}
 use Rattle.wasm_emit.proofs.Rules.{Limits, Within, here, looser, r_const, r_get, r_tee, r_heap, r_set_heap, r_add, r_load, r_store}
 use Rattle.wasm_emit.proofs.Alloc.{Room, HasRunTime, allocated}
-use Rattle.known_calls.specs.KnownPlaces.{Word, Place, Known, names, some_names}
+use Rattle.known_calls.specs.KnownPlaces.{Word, Place, Known, Never, names, some_names}
 use Rattle.known_calls.specs.KnownCode.{read_word, read, atom, push_words, fill, new_block, block}
 use Rattle.known_calls.proofs.KnownHolds.{Reads, in_local, in_field, is_const, Words, no_word, more_words, Env, env_on}
 use Rattle.known_calls.proofs.Finding.{There, there}
@@ -38,7 +38,7 @@ stand_size (stand_more s h) = ap suc (stand_size h)
 
 -- no known closure is among these atoms
 abbrev pub NoneNamed : List Place → List Atom → Type 0
-NoneNamed ps as' = (i g : ℕ) (ws : List Word) → slice_get ps i ≡ Some (Known g ws) → some_names i as' ≡ false
+NoneNamed ps as' = (i g : ℕ) (ws : List Word) → slice_get ps i ≡ Some (Known g ws) → some_names i as' ≡ Never
 
 module _ (M : Parts) (fixed : HasRunTime M) (cap : Limits) (Q : State → Type 0) where
   module _ {f : Around} {m : Mem} {p h : ℕ} {ls vals : List ConstValue} {rest : List Instr} {l u : ℕ} where

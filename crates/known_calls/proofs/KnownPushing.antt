@@ -15,9 +15,9 @@ use Rattle.wasm_core.specs.declared.instrs.Instr.TheVariants.{Unreachable, Else,
 use Rattle.wasm_emit.specs.EmittedCode.{ConstWord, Load, StoreWord, IfWord, ensure_room}
 use Rattle.wasm_emit.specs.Pushed.{Pushed, ends, renumber_bound}
 use Rattle.wasm_emit.proofs.Pushing.{next_of, ends_sum}
-use Rattle.known_calls.specs.KnownPlaces.{Place, At, InLocal, fields_of, block_reads}
-use Rattle.known_calls.specs.KnownCode.{Position, Inside, InTail, deeper, some_heads, some_branches, empty_test, head_test, arm, choose, known, into_params, atom, fill, new_block, into_local, op, code, empties, heads}
-use Rattle.known_calls.specs.KnownPushed.{under_position, bound_code, bound_unmade, place_bound, local_behind, bind_code, op_unmade, binding_code, block_code, empty_arms, block_arms, branches_code, is_last_head, EmptyArms, PlainArms, HeadArms, EmptyArm, BlockArm}
+use Rattle.known_calls.specs.KnownPlaces.{Place, At, InLocal, Times, is_read, is_twice, block_reads}
+use Rattle.known_calls.specs.KnownCode.{Position, Inside, InTail, deeper, some_heads, some_branches, empty_test, head_test, arm, choose, known, into_params, atom, fill, new_block, into_local, moves, move_field, branch_places, op, code, empties, heads, branch}
+use Rattle.known_calls.specs.KnownPushed.{under_position, bound_code, bound_unmade, place_bound, local_behind, bind_code, op_unmade, binding_code, block_code, branch_code, empty_arms, block_arms, branches_code, is_last_head, EmptyArms, PlainArms, HeadArms, EmptyArm, BlockArm}
 use Rattle.known_calls.proofs.KnownMarking.{reads_renumbered}
 
 -- Positions.
@@ -51,12 +51,12 @@ module _ (P : Program) (f : ℕ → ℕ) (env : List Place) (d : ℕ) (at : Posi
   behind b x xs t rest = code P (place_bound d (bound_unmade P env b (renumber_bound f x)) ∷ env) (local_behind d (bound_unmade P env b (renumber_bound f x))) at (renumber f (lets_of xs t)) rest
 
   pub code_step : (x : Bound) (xs : List Bound) (t : Block) (rest : List Instr) →
-      code P env d at (renumber f (lets_of (x ∷ xs) t)) rest ≡ bind_code P env d (renumber_bound f x) (bound_unmade P env (block_reads 0 (lets_of xs t)) (renumber_bound f x)) (behind (block_reads 0 (lets_of xs t)) x xs t rest)
-  code_step (AtomBound a) xs t rest = made_atom a (renumber f (lets_of xs t)) rest (block_reads 0 (lets_of xs t))
+      code P env d at (renumber f (lets_of (x ∷ xs) t)) rest ≡ bind_code P env d (renumber_bound f x) (bound_unmade P env (is_read (block_reads 0 (lets_of xs t))) (renumber_bound f x)) (behind (is_read (block_reads 0 (lets_of xs t))) x xs t rest)
+  code_step (AtomBound a) xs t rest = made_atom a (renumber f (lets_of xs t)) rest (is_read (block_reads 0 (lets_of xs t)))
   code_step (OpBound x) xs t rest =
-      ap (λ (b : Bool). choose (if b then None else known P env (renumber_op f x)) (λ q. code P (q ∷ env) d at (renumber f (lets_of xs t)) rest)
+      ap (λ (r : Times). choose (if is_read r then None else known P env (renumber_op f x)) (λ q. code P (q ∷ env) d at (renumber f (lets_of xs t)) rest)
       (into_local env d (renumber_op f x) (op P env d Inside (renumber_op f x)) (code P (At (InLocal d) ∷ env) (suc d) at (renumber f (lets_of xs t)) rest))) (reads_renumbered f 0 (lets_of xs t))
-      ∙ chosen (renumber_op f x) (renumber f (lets_of xs t)) rest (if block_reads 0 (lets_of xs t) then None else known P env (renumber_op f x))
+      ∙ chosen (renumber_op f x) (renumber f (lets_of xs t)) rest (if is_read (block_reads 0 (lets_of xs t)) then None else known P env (renumber_op f x))
 
   pub code_end : (x : Bound) (rest : List Instr) → code P env d at (renumber f (ret_of x)) rest ≡ bound_code P env d at (renumber_bound f x) rest
   code_end (AtomBound a) rest = refl
@@ -64,7 +64,7 @@ module _ (P : Program) (f : ℕ → ℕ) (env : List Place) (d : ℕ) (at : Posi
 
 -- a binding of a block was pushed
 pub block_more : (Q : Lifted) (items : List LiftedOp) (i : ℕ) (o : LiftedOp) (t : Block) (ps ps2 : List Place) (d next : ℕ) (at : Position) (b : Bool) (old new out : List Instr) (g : List Instr → List Instr) → i < length items → o ≡ get_or items i o →
-    b ≡ block_reads 0 (lets_of (bounds_of (drop (i + 1) items)) t) → ps2 ≡ ps ++ place_bound d (op_unmade Q (reverse ps) b (seen o)) ∷ [] → next ≡ local_behind d (op_unmade Q (reverse ps) b (seen o)) → Pushed old new (binding_code Q (reverse ps) d b (seen o)) →
+    b ≡ is_read (block_reads 0 (lets_of (bounds_of (drop (i + 1) items)) t)) → ps2 ≡ ps ++ place_bound d (op_unmade Q (reverse ps) b (seen o)) ∷ [] → next ≡ local_behind d (op_unmade Q (reverse ps) b (seen o)) → Pushed old new (binding_code Q (reverse ps) d b (seen o)) →
     ((rest : List Instr) → old ++ block_code Q (reverse ps) d at (lets_of (bounds_of (drop i items)) t) rest ≡ out ++ g rest) → (rest : List Instr) → new ++ block_code Q (reverse ps2) next at (lets_of (bounds_of (drop (i + 1) items)) t) rest ≡ out ++ g rest
 block_more Q items i o t ps ps2 d next at b old new out g lt is mark more after x inv rest =
     let xs = bounds_of (drop (i + 1) items) in
@@ -77,6 +77,25 @@ block_more Q items i o t ps ps2 d next at b old new out g lt is mark more after 
     ∙ ap (λ (zs : List Instr). old ++ zs) (sym (code_step (lifted_of Q) f (reverse ps) d at (seen o) xs t rest))
     ∙ ap (λ (os : List LiftedOp). old ++ block_code Q (reverse ps) d at (lets_of (bounds_of os) t) rest) (sym (next_of items i o lt is))
     ∙ inv rest
+
+-- A branch's code, where its field was moved or not.
+
+moves_renumbered : (f : ℕ → ℕ) (n : ℕ) (t : Block) → moves n (renumber f t) ≡ moves n t
+moves_renumbered f zero t = refl
+moves_renumbered f (suc zero) t = ap is_twice (reads_renumbered f 0 t)
+moves_renumbered f (suc (suc n)) t = refl
+
+pub branch_pushed : (Q : Lifted) (env inner : List Place) (d first : ℕ) (at : Position) (b : LiftedBranch) (moved : Bool) (o0 o1 o2 : List Instr) → moved ≡ moves b.binders b.body → inner ≡ branch_places moved d b.binders env → first ≡ d + 1 →
+    Pushed o0 o1 (move_field moved d) → Pushed o1 o2 (block_code Q inner first at b.body) → Pushed o0 o2 (branch_code Q env d at b)
+branch_pushed Q env inner d first at b moved o0 o1 o2 em ep ef x y = record { is = is }
+  where
+    is : (rest : List Instr) → o2 ++ rest ≡ o0 ++ branch_code Q env d at b rest
+    is rest =
+        let t = renumber (place_in Q.constants) b.body in
+        let g : first ≡ suc d = omega arith in
+        y.is rest ∙ ap (λ (ps : List Place). o1 ++ code (lifted_of Q) ps first at t rest) ep ∙ ap (λ (k : ℕ). o1 ++ code (lifted_of Q) (branch_places moved d b.binders env) k at t rest) g
+        ∙ x.is (code (lifted_of Q) (branch_places moved d b.binders env) (suc d) at t rest)
+        ∙ ap (λ (z : Bool). o0 ++ move_field z d (code (lifted_of Q) (branch_places z d b.binders env) (suc d) at t rest)) (em ∙ sym (moves_renumbered (place_in Q.constants) b.binders b.body))
 
 -- Branch c of a match on the word in local d.
 module _ (Q : Lifted) (env : List Place) (d : ℕ) (at : Position) (c : ℕ) (b : LiftedBranch) where
@@ -96,22 +115,22 @@ module _ (Q : Lifted) (env : List Place) (d : ℕ) (at : Position) (c : ℕ) (b 
   empty_later (suc n) some more others rest e = refl
 
   head_first : (n : ℕ) (more : BranchBlocks) (rest : List Instr) → 0 < n → some_heads more ≡ true →
-      heads P env d at c (BCons n t more) rest ≡ LocalGet d ∷ Load 0 ∷ ConstWord (n * 65536 + c) ∷ Operation op32.Eq ∷ IfWord ∷ code P (fields_of d n env) (suc d) (deeper at) t (Else ∷ heads P env d (deeper at) (suc c) more (End ∷ rest))
+      heads P env d at c (BCons n t more) rest ≡ LocalGet d ∷ Load 0 ∷ ConstWord (n * 65536 + c) ∷ Operation op32.Eq ∷ IfWord ∷ branch P env d n (deeper at) t (Else ∷ heads P env d (deeper at) (suc c) more (End ∷ rest))
   head_first zero more rest e tested = absurd (omega arith)
-  head_first (suc n) more rest e tested = ap (λ (z : Bool). arm z (head_test d c (suc n)) (λ at'. code P (fields_of d (suc n) env) (suc d) at' t) (λ at'. heads P env d at' (suc c) more) at rest) tested
+  head_first (suc n) more rest e tested = ap (λ (z : Bool). arm z (head_test d c (suc n)) (λ at'. branch P env d (suc n) at' t) (λ at'. heads P env d at' (suc c) more) at rest) tested
 
   head_later : (n : ℕ) (more : BranchBlocks) (rest : List Instr) → n ≡ 0 → heads P env d at c (BCons n t more) rest ≡ heads P env d at (suc c) more rest
   head_later zero more rest e = refl
   head_later (suc n) more rest e = absurd (omega arith)
 
   -- the last branch of a match, without binders or with binders
-  empty_last : (n : ℕ) (others : Position → List Instr → List Instr) (rest : List Instr) → n ≡ 0 → empties P env d at c false (BCons n t BNil) others rest ≡ code P (fields_of d n env) (suc d) at t rest
+  empty_last : (n : ℕ) (others : Position → List Instr → List Instr) (rest : List Instr) → n ≡ 0 → empties P env d at c false (BCons n t BNil) others rest ≡ branch P env d n at t rest
   empty_last zero others rest e = refl
   empty_last (suc n) others rest e = absurd (omega arith)
 
-  head_last : (n : ℕ) (more : BranchBlocks) (rest : List Instr) → 0 < n → some_heads more ≡ false → heads P env d at c (BCons n t more) rest ≡ code P (fields_of d n env) (suc d) at t rest
+  head_last : (n : ℕ) (more : BranchBlocks) (rest : List Instr) → 0 < n → some_heads more ≡ false → heads P env d at c (BCons n t more) rest ≡ branch P env d n at t rest
   head_last zero more rest e none = absurd (omega arith)
-  head_last (suc n) more rest e none = ap (λ (z : Bool). arm z (head_test d c (suc n)) (λ at'. code P (fields_of d (suc n) env) (suc d) at' t) (λ at'. heads P env d at' (suc c) more) at rest) none
+  head_last (suc n) more rest e none = ap (λ (z : Bool). arm z (head_test d c (suc n)) (λ at'. branch P env d (suc n) at' t) (λ at'. heads P env d at' (suc c) more) at rest) none
 
   pub empty_passed : (o0 : List Instr) → 0 < b.binders → EmptyArm Q env d at c b o0 o0 0
   empty_passed o0 bound = record {
@@ -143,17 +162,15 @@ module _ (Q : Lifted) (env : List Place) (d : ℕ) (at : Position) (c : ℕ) (b 
 
   pub head_pushed : (word : ℕ) (inner : Position) (o0 o1 o2 o3 o4 o5 o6 : List Instr) → 0 < b.binders → inner ≡ under_position 1 at → word ≡ b.binders * 65536 + c →
       Pushed o0 o1 (λ rest. LocalGet d ∷ rest) → Pushed o1 o2 (λ rest. Load 0 ∷ rest) → Pushed o2 o3 (λ rest. ConstWord word ∷ rest) → Pushed o3 o4 (λ rest. Operation op32.Eq ∷ IfWord ∷ rest) →
-      Pushed o4 o5 (block_code Q (fields_of d b.binders env) (d + 1) inner b.body) → Pushed o5 o6 (λ rest. Else ∷ rest) → BlockArm Q env d at c b o0 o6 1
+      Pushed o4 o5 (branch_code Q env d inner b) → Pushed o5 o6 (λ rest. Else ∷ rest) → BlockArm Q env d at c b o0 o6 1
   head_pushed word inner o0 o1 o2 o3 o4 o5 o6 some ei ew x0 x1 x2 x3 x4 x5 = record { few = omega arith; is = is }
     where
       is : (more : BranchBlocks) (rest : List Instr) → (0 < b.binders → some_heads more ≡ true) → o6 ++ heads P env d (under_position 1 at) (suc c) more (End ∷ rest) ≡ o0 ++ heads P env d at c (BCons b.binders t more) rest
       is more rest tested =
-          let g : d + 1 ≡ suc d = omega arith in
           let tail : List Instr = heads P env d (deeper at) (suc c) more (End ∷ rest) in
-          let body : List Instr = code P (fields_of d b.binders env) (suc d) (deeper at) t (Else ∷ tail) in
+          let body : List Instr = branch P env d b.binders (deeper at) t (Else ∷ tail) in
           ap (λ (z : Position). o6 ++ heads P env d z (suc c) more (End ∷ rest)) (under_one at)
-          ∙ x5.is tail ∙ x4.is (Else ∷ tail) ∙ ap (λ (k : ℕ). o4 ++ code P (fields_of d b.binders env) k inner t (Else ∷ tail)) g
-          ∙ ap (λ (z : Position). o4 ++ code P (fields_of d b.binders env) (suc d) z t (Else ∷ tail)) (ei ∙ under_one at)
+          ∙ x5.is tail ∙ x4.is (Else ∷ tail) ∙ ap (λ (z : Position). o4 ++ branch P env d b.binders z t (Else ∷ tail)) (ei ∙ under_one at)
           ∙ x3.is body ∙ x2.is (Operation op32.Eq ∷ IfWord ∷ body)
           ∙ ap (λ (k : ℕ). o2 ++ (ConstWord k ∷ Operation op32.Eq ∷ IfWord ∷ body)) ew
           ∙ x1.is (ConstWord (b.binders * 65536 + c) ∷ Operation op32.Eq ∷ IfWord ∷ body) ∙ x0.is (Load 0 ∷ ConstWord (b.binders * 65536 + c) ∷ Operation op32.Eq ∷ IfWord ∷ body)
@@ -161,17 +178,13 @@ module _ (Q : Lifted) (env : List Place) (d : ℕ) (at : Position) (c : ℕ) (b 
 
   -- the last branch's body was pushed
   abbrev pub Last : List Instr → List Instr → Type 0
-  Last o0 o1 = Pushed o0 o1 (block_code Q (fields_of d b.binders env) (d + 1) at b.body)
+  Last o0 o1 = Pushed o0 o1 (branch_code Q env d at b)
 
   pub empty_ended : (o0 o1 : List Instr) → b.binders ≡ 0 → Last o0 o1 → (others : Position → List Instr → List Instr) (rest : List Instr) → o1 ++ rest ≡ o0 ++ empties P env d at c false (BCons b.binders t BNil) others rest
-  empty_ended o0 o1 none x others rest =
-      let g : d + 1 ≡ suc d = omega arith in
-      x.is rest ∙ ap (λ (k : ℕ). o0 ++ code P (fields_of d b.binders env) k at t rest) g ∙ ap (λ (zs : List Instr). o0 ++ zs) (sym (empty_last b.binders others rest none))
+  empty_ended o0 o1 none x others rest = x.is rest ∙ ap (λ (zs : List Instr). o0 ++ zs) (sym (empty_last b.binders others rest none))
 
   pub head_ended : (o0 o1 : List Instr) (more : BranchBlocks) → 0 < b.binders → some_heads more ≡ false → Last o0 o1 → (rest : List Instr) → o1 ++ rest ≡ o0 ++ heads P env d at c (BCons b.binders t more) rest
-  head_ended o0 o1 more some none x rest =
-      let g : d + 1 ≡ suc d = omega arith in
-      x.is rest ∙ ap (λ (k : ℕ). o0 ++ code P (fields_of d b.binders env) k at t rest) g ∙ ap (λ (zs : List Instr). o0 ++ zs) (sym (head_last b.binders more rest some none))
+  head_ended o0 o1 more some none x rest = x.is rest ∙ ap (λ (zs : List Instr). o0 ++ zs) (sym (head_last b.binders more rest some none))
 
 -- Which branches have binders, in memory as in the program.
 

@@ -58,7 +58,7 @@ module _ (c : ℕ) where
 
   -- a term's bindings and result are no heavier than k nodes, and light enough for a block around them
   record Light (n : Norm) (k : ℕ) : Type 0 where
-    is : ops_weight n.ops + res_weight n.res + 89 + 16 * c ≤ k * share
+    is : ops_weight n.ops + res_weight n.res + 92 + 16 * c ≤ k * share
 
   record BranchesLight (bs : AnfBranches) (k : ℕ) : Type 0 where
     is : normal_branches_weight c bs ≤ k * share
@@ -72,7 +72,7 @@ module _ (c : ℕ) where
   more_share : (i j : ℕ) → i < j → i * share + share ≤ j * share
   more_share i j lt = omega (arith, same_share (i + 1) j (omega (arith, lt)))
 
-  sealed_light : {n : Norm} {k : ℕ} (d : ℕ) → Light n k → normal_weight c (sealed d n) + 28 ≤ k * share
+  sealed_light : {n : Norm} {k : ℕ} (d : ℕ) → Light n k → normal_weight c (sealed d n) + 31 ≤ k * share
   sealed_light {n} d h =
       let p = binding_of (d + length n.ops) n.res in
       omega (arith, block_weight n.ops (tail_of p), tail_light p, binding_light (d + length n.ops) n.res, h.is)
@@ -96,10 +96,10 @@ module _ (c : ℕ) where
       record { is = omega (arith, h.is, r.is, with_light d n.ops n.res, ops_join m.ops (body (d + length m.ops) m.atom).ops, more_share (i + j) k lt) }
 
   -- an argument's part, wherever it stands
-  arg_weight : {j : ℕ} (e : ℕ) (arg : ℕ → Norm) → Light (arg e) j → ops_weight (name_at arg e).ops + 89 + 16 * c ≤ j * share
+  arg_weight : {j : ℕ} (e : ℕ) (arg : ℕ → Norm) → Light (arg e) j → ops_weight (name_at arg e).ops + 92 + 16 * c ≤ j * share
   arg_weight e arg h = omega (arith, named_light e (arg e).ops (arg e).res, h.is)
 
-  arg_light : {j k : ℕ} (d i : ℕ) (ops : List AnfBinding) (res : Res) (arg : ℕ → Norm) → ops_weight ops + res_weight res + 89 + 16 * c ≤ i * share → ((e : ℕ) → Light (arg e) j) → i + j < k → Light (then_arg d ops res arg) k
+  arg_light : {j k : ℕ} (d i : ℕ) (ops : List AnfBinding) (res : Res) (arg : ℕ → Norm) → ops_weight ops + res_weight res + 92 + 16 * c ≤ i * share → ((e : ℕ) → Light (arg e) j) → i + j < k → Light (then_arg d ops res arg) k
   arg_light {j} {k} d i ops (RCon x xs) arg h g lt =
       let e = d + length ops in
       record { is = omega (arith, h, arg_weight e arg (g e), ops_join ops (name_at arg e).ops, more_share (i + j) k lt) }
@@ -147,7 +147,7 @@ module _ (c : ℕ) where
       defs_light env d n (Next m (BLambda b) rest) = def_light (suc (d + n)) (norm_light _ (suc (d + n)) b) (defs_light env d n rest) (omega arith)
       defs_light env d n (Next m b rest) = boxed_light (defs_light env d n rest) (omega (arith, some_node b))
 
-    code_light : (t : BoxTerm) → normal_weight c (code_of number t) + 28 ≤ nodes t * share
+    code_light : (t : BoxTerm) → normal_weight c (code_of number t) + 31 ≤ nodes t * share
     code_light t = sealed_light 0 (norm_light [] 0 t)
 
     constants_light : (cs : List BoxConstant) → normal_constants_weight c (map (λ (d : BoxConstant). code_of number d.body) cs) ≤ nodes_of_constants cs * share

@@ -21,12 +21,12 @@ use Rattle.closure_lift.specs.Lifted.{Op, OConst, OApp, OCon, OClos, OCase, Bloc
 use Rattle.closure_lift.specs.LiftedForm.{OpFits, LiftedBlockFits, BranchesFit, Formed}
 use Rattle.wasm_emit.specs.EmittedCode.{IfWord, ensure_room}
 use Rattle.wasm_emit.specs.EmittedLocals.{top, top_op, top_branches}
-use Rattle.known_calls.specs.KnownPlaces.{Word, InLocal, InField, IsConst, Place, At, fields_of, word_of, known_function, block_reads}
-use Rattle.known_calls.specs.KnownCode.{Position, Inside, InTail, deeper, worker_index, jumps, most_blocks, read_word, read, atom, push_words, fill, new_block, block, into_local, into_params, call_worker, application, some_heads, some_branches, empty_test, head_test, arm, choose, unmade, known, op, code, empties, heads}
+use Rattle.known_calls.specs.KnownPlaces.{Word, InLocal, InField, IsConst, Place, At, word_of, known_function, is_read, block_reads}
+use Rattle.known_calls.specs.KnownCode.{Position, Inside, InTail, deeper, worker_index, jumps, most_blocks, read_word, read, atom, push_words, fill, new_block, block, into_local, into_params, call_worker, application, some_heads, some_branches, empty_test, head_test, arm, choose, unmade, known, moves, move_field, branch_places, op, code, empties, heads, branch}
 use Rattle.known_calls.specs.KnownModule.{words_type, worker_type, module_with}
-use Rattle.known_calls.proofs.Shapes.{Shaped, shaped_code, shaped_empties, shaped_heads}
+use Rattle.known_calls.proofs.Shapes.{Shaped, shaped_code, shaped_empties, shaped_heads, shaped_branch}
 use Rattle.known_calls.proofs.Finding.{same_some}
-use Rattle.known_calls.proofs.Fitting.{WordFits, PlaceFits, places_up, fields_fit, word_fits, function_fits, known_fits}
+use Rattle.known_calls.proofs.Fitting.{WordFits, PlaceFits, places_up, branch_fit, word_fits, function_fits, known_fits}
 use Rattle.known_calls.proofs.Unreading.{and_true, unmade_some}
 use Rattle.known_calls.proofs.SameLocals.{top_less}
 use Rattle.known_calls.proofs.KnownIndices.{not_wide, constant_in, type_of_worker, type_of_words}
@@ -140,6 +140,11 @@ module _ (P : Program) (most : ℕ) (form : Formed P most) (main : Body) (gs : L
   t_head_test : {labels : List OperandTypes} {ts us : Operands} (d c n : ℕ) → d < size → (r : List Instr) → Typed m ls rs labels (Of I32 ∷ ts) r us → Typed m ls rs labels ts (head_test d c n r) us
   t_head_test {ts = ts} d c n lt r k = t_get lt (t_plain ts refl (t_plain (Of I32 ∷ ts) refl (t_plain ts refl k)))
 
+  -- a field that comes into the local in which its block's address is
+  t_move : {labels : List OperandTypes} {ts us : Operands} {rest : List Instr} (b : Bool) (d : ℕ) → d < size → Typed m ls rs labels ts rest us → Typed m ls rs labels ts (move_field b d rest) us
+  t_move false d lt k = k
+  t_move {ts = ts} true d lt k = t_get lt (t_plain ts refl (t_set lt k))
+
   -- a call of a worker
   pub t_worker : {labels : List OperandTypes} {ts us : Operands} {rest : List Instr} (g : ℕ) (fn : Fn) → slice_get P.functions g ≡ Some fn → fn.captured ≤ 7 → Typed m ls rs labels (Of I32 ∷ ts) rest us → Typed m ls rs labels (words_on (suc fn.captured) ts) (Call (worker_index P g) ∷ rest) us
   t_worker {labels} {ts} {us} {rest} g fn at few k =
@@ -209,7 +214,7 @@ module _ (P : Program) (most : ℕ) (form : Formed P most) (main : Body) (gs : L
     t_code n d ps at (Ret x) le fit h l k = t_op n d ps at x le fit h l k
     t_code n d ps at (Let x t) le fit h l k =
         t_choice (unmade P ps x t)
-        (λ q e. let z = unmade_some (block_reads 0 t) (known P ps x) e in t_code (suc n) d (q ∷ ps) at t (omega (arith, top_less d t)) fit.1 (known_fits P far most form n d ps x fit.0 h z.1, h) l k)
+        (λ q e. let z = unmade_some (is_read (block_reads 0 t)) (known P ps x) e in t_code (suc n) d (q ∷ ps) at t (omega (arith, top_less d t)) fit.1 (known_fits P far most form n d ps x fit.0 h z.1, h) l k)
         (t_bind n d ps x {g = op P ps d Inside x} (omega arith) fit.0 h (λ r k'. t_op n d ps Inside x (omega arith) fit.0 h tt k') (t_code (suc n) (suc d) (At (InLocal d) ∷ ps) at t (omega arith) fit.1 (omega arith, places_up P far d (suc d) (omega arith) ps h) l k))
 
     t_empties : {labels : List OperandTypes} {ts us : Operands} {rest : List Instr} (n d : ℕ) (ps : List Place) (at : Position) (c : ℕ) (some : Bool) (bs : BranchBlocks) (others : Position → List Instr → List Instr) → ((at' : Position) → Shaped (others at')) → max (suc d) (top_branches (suc d) bs) ≤ size →
@@ -226,6 +231,7 @@ module _ (P : Program) (most : ℕ) (form : Formed P most) (main : Body) (gs : L
     t_heads n d ps at c BNil le fit h l k = unreachable k
     t_heads n d ps at c (BCons zero t bs) le fit h l k = t_heads n d ps at (suc c) bs (omega arith) fit.2 h l k
     t_heads n d ps at c (BCons (suc j) t bs) le fit h l k =
-        t_arm (some_heads bs) {branch = λ at'. code P (fields_of d (suc j) ps) (suc d) at' t} {behind = λ at'. heads P ps d at' (suc c) bs} at (λ at'. shaped_code P (fields_of d (suc j) ps) (suc d) at' t) (λ at'. shaped_heads P ps d at' (suc c) bs) (t_head_test d c (suc j) (omega arith))
-        (λ at' labels ts us rest l' k'. t_code (suc j + n) (suc d) (fields_of d (suc j) ps) at' t (omega arith) fit.1 (fields_fit P far (suc d) d (suc j) ps (omega arith) (omega (arith, enough, fit.0)) (places_up P far d (suc d) (omega arith) ps h)) l' k')
+        t_arm (some_heads bs) {branch = λ at'. branch P ps d (suc j) at' t} {behind = λ at'. heads P ps d at' (suc c) bs} at (λ at'. shaped_branch P ps d (suc j) at' t) (λ at'. shaped_heads P ps d at' (suc c) bs) (t_head_test d c (suc j) (omega arith))
+        (λ at' labels ts us rest l' k'. t_move (moves (suc j) t) d (omega arith) (t_code (suc j + n) (suc d) (branch_places (moves (suc j) t) d (suc j) ps) at' t (omega arith) fit.1
+        (branch_fit P far (moves (suc j) t) (suc d) d (suc j) ps (omega arith) (omega (arith, enough, fit.0)) (places_up P far d (suc d) (omega arith) ps h)) l' k'))
         (λ at' labels ts us rest l' k'. t_heads n d ps at' (suc c) bs (omega arith) fit.2 h l' k') l k

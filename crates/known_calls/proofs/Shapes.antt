@@ -8,8 +8,8 @@ use Rattle.wasm_core.specs.MachineStep.{Plain, bracket, past_end, to_else, after
 use Rattle.anf_convert.specs.declared.program.Atom.{Atom}
 use Rattle.closure_lift.specs.Lifted.{Op, OConst, OApp, OCon, OClos, OCase, Block, RetAtom, LetAtom, Ret, Let, BranchBlocks, BNil, BCons, Program}
 use Rattle.wasm_emit.specs.EmittedCode.{Load, StoreWord, ConstWord, IfWord, CallClosure, constant_index, ensure_room}
-use Rattle.known_calls.specs.KnownPlaces.{Word, InLocal, InField, IsConst, Place, At, fields_of, word_of, known_function}
-use Rattle.known_calls.specs.KnownCode.{Position, Inside, InTail, deeper, read_word, read, atom, push_words, fill, new_block, block, into_local, into_params, worker_index, jumps, call_worker, application, some_heads, some_branches, empty_test, head_test, arm, choose, unmade, op, code, empties, heads}
+use Rattle.known_calls.specs.KnownPlaces.{Word, InLocal, InField, IsConst, Place, At, word_of, known_function}
+use Rattle.known_calls.specs.KnownCode.{Position, Inside, InTail, deeper, read_word, read, atom, push_words, fill, new_block, block, into_local, into_params, worker_index, jumps, call_worker, application, some_heads, some_branches, empty_test, head_test, arm, choose, unmade, moves, move_field, branch_places, op, code, empties, heads, branch}
 use Rattle.known_calls.specs.KnownModule.{captured_words}
 use Rattle.wasm_emit.proofs.Honest.{Wary, w_cons, NotStatus}
 
@@ -108,6 +108,10 @@ shaped_empty_test d c = one (LocalGet d) refl tt then (one (ConstWord (2 * c + 1
 shaped_head_test : (d c n : ℕ) → Shaped (head_test d c n)
 shaped_head_test d c n = one (LocalGet d) refl tt then (one (Load 0) refl tt then (one (ConstWord (n * 65536 + c)) refl tt then one (Operation op32.Eq) refl tt))
 
+shaped_move : (b : Bool) (d : ℕ) → Shaped (move_field b d)
+shaped_move false d = same_shaped
+shaped_move true d = one (LocalGet d) refl tt then (one (Load 4) refl tt then one (LocalSet d) refl tt)
+
 shaped_arm : (b : Bool) {test : List Instr → List Instr} {branch behind : Position → List Instr → List Instr} (at : Position) → Shaped test → ((at' : Position) → Shaped (branch at')) → ((at' : Position) → Shaped (behind at')) → Shaped (arm b test branch behind at)
 shaped_arm true at t x y = t then arms (x (deeper at)) (y (deeper at))
 shaped_arm false at t x y = x at
@@ -154,4 +158,8 @@ module _ (P : Program) where
     shaped_heads env d at c BNil = one Unreachable refl tt
     shaped_heads env d at c (BCons zero t bs) = shaped_heads env d at (suc c) bs
     shaped_heads env d at c (BCons (suc n) t bs) =
-        shaped_arm (some_heads bs) {branch = λ at'. code P (fields_of d (suc n) env) (suc d) at' t} {behind = λ at'. heads P env d at' (suc c) bs} at (shaped_head_test d c (suc n)) (λ at'. shaped_code (fields_of d (suc n) env) (suc d) at' t) (λ at'. shaped_heads env d at' (suc c) bs)
+        shaped_arm (some_heads bs) {branch = λ at'. branch P env d (suc n) at' t} {behind = λ at'. heads P env d at' (suc c) bs} at (shaped_head_test d c (suc n))
+        (λ at'. shaped_move (moves (suc n) t) d then shaped_code (branch_places (moves (suc n) t) d (suc n) env) (suc d) at' t) (λ at'. shaped_heads env d at' (suc c) bs)
+
+  pub shaped_branch : (env : List Place) (d n : ℕ) (at : Position) (t : Block) → Shaped (branch P env d n at t)
+  shaped_branch env d n at t = shaped_move (moves n t) d then shaped_code (branch_places (moves n t) d n env) (suc d) at t

@@ -1,15 +1,22 @@
 -- A closure that is made nowhere is read as a word nowhere in the parts of a block either.
 use Rattle.std.proofs.Common.{◌≡◌, ℕ, zero, suc, ◌+◌, List, ◌∷◌, Option, Some, None, Bool, true, false, refl, ◌∙◌, ap, arith}
-use Rattle.std.specs.Prelude.{slice_get, ◌||◌, ◌&&◌, if◌then◌else◌}
+use Rattle.std.specs.Prelude.{slice_get, ◌&&◌, if◌then◌else◌}
 use Rattle.closure_lift.specs.Lifted.{Op, OCase, Block, LetAtom, Let, BranchBlocks, BranchAt, branch_here, branch_after}
 use Rattle.anf_convert.specs.declared.program.Atom.{Atom}
-use Rattle.known_calls.specs.KnownPlaces.{Word, Place, At, Known, fields_of, names, op_reads, block_reads, branches_read}
+use Rattle.known_calls.specs.KnownPlaces.{Word, Place, At, Known, Times, Never, Once, More, ◌plus◌, is_read, fields_of, names, op_reads, block_reads, branches_read}
 use Rattle.known_calls.proofs.KnownHolds.{Unread, OpUnread}
 
-pub neither : (a b : Bool) → a || b ≡ false → (a ≡ false) × (b ≡ false)
-neither false false e = (refl, refl)
-neither false true e = cc
-neither true b e = cc
+pub neither : (a b : Times) → a plus b ≡ Never → (a ≡ Never) × (b ≡ Never)
+neither Never b e = (refl, e)
+neither Once Never e = cc
+neither Once Once e = cc
+neither Once More e = cc
+neither More b e = cc
+
+pub not_read : (r : Times) → is_read r ≡ false → r ≡ Never
+not_read Never e = refl
+not_read Once e = cc
+not_read More e = cc
 
 pub and_true : (a b : Bool) → (a && b) ≡ true → (a ≡ true) × (b ≡ true)
 and_true true true e = (refl, refl)
@@ -22,7 +29,7 @@ unmade_some true o e = cc
 unmade_some false o e = (refl, e)
 
 -- behind a binding that needs no code
-pub unread_known : (ps : List Place) (p : Op) (t : Block) (g : ℕ) (ws : List Word) → Unread ps (Let p t) → block_reads 0 t ≡ false → Unread (Known g ws ∷ ps) t
+pub unread_known : (ps : List Place) (p : Op) (t : Block) (g : ℕ) (ws : List Word) → Unread ps (Let p t) → block_reads 0 t ≡ Never → Unread (Known g ws ∷ ps) t
 unread_known ps p t g ws un none zero h vs at = none
 unread_known ps p t g ws un none (suc i) h vs at = (neither (op_reads i p) (block_reads (suc i) t) (un i h vs at)).1
 
@@ -30,6 +37,11 @@ unread_known ps p t g ws un none (suc i) h vs at = (neither (op_reads i p) (bloc
 pub unread_at : (ps : List Place) (p : Op) (t : Block) (w : Word) → Unread ps (Let p t) → Unread (At w ∷ ps) t
 unread_at ps p t w un zero h vs at = cc
 unread_at ps p t w un (suc i) h vs at = (neither (op_reads i p) (block_reads (suc i) t) (un i h vs at)).1
+
+-- where its word is, plays no part
+pub unread_moved : (x y : Word) (ps : List Place) (t : Block) → Unread (At x ∷ ps) t → Unread (At y ∷ ps) t
+unread_moved x y ps t un zero h vs at = cc
+unread_moved x y ps t un (suc i) h vs at = un (suc i) h vs at
 
 -- behind a named atom
 pub unread_let_atom : (ps : List Place) (a : Atom) (t : Block) (w : Word) → Unread ps (LetAtom a t) → Unread (At w ∷ ps) t
@@ -50,7 +62,7 @@ outer x zero ps j h vs at = record { i = j; is = omega arith; at = at }
 outer x (suc n) ps zero h vs at = cc
 outer x (suc n) ps (suc j) h vs at = let r = outer x n ps j h vs at in record { i = r.i; is = omega (arith, r.is); at = r.at }
 
-branch_unread : (i : ℕ) {bs : BranchBlocks} {c n : ℕ} {t : Block} → branches_read i bs ≡ false → BranchAt bs c n t → block_reads (n + i) t ≡ false
+branch_unread : (i : ℕ) {bs : BranchBlocks} {c n : ℕ} {t : Block} → branches_read i bs ≡ Never → BranchAt bs c n t → block_reads (n + i) t ≡ Never
 branch_unread i e (branch_here {n = n} {b = t} {rest = bs}) = (neither (block_reads (n + i) t) (branches_read i bs) e).0
 branch_unread i e (branch_after {m = m} {d = t} {rest = bs} at) = branch_unread i (neither (block_reads (m + i) t) (branches_read i bs) e).1 at
 

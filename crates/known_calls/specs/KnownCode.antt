@@ -11,7 +11,7 @@ use Rattle.wasm_emit.specs.EmittedCode.{Load, StoreWord, ConstWord, IfWord, Call
 -- what a call in some place may be: a call; or, in the tail of the body of worker g, a branch out of so many blocks to its beginning
 pub use Rattle.known_calls.specs.declared.site.Position.{Position}
 pub use Rattle.known_calls.specs.declared.site.Position.TheVariants.{Inside, InTail}
-use Rattle.known_calls.specs.KnownPlaces.{Word, InLocal, InField, IsConst, Place, At, Known, word_of, words_of, all_at, fields_of, known_function, block_reads}
+use Rattle.known_calls.specs.KnownPlaces.{Word, InLocal, InField, IsConst, Place, At, Known, word_of, words_of, all_at, fields_of, known_function, is_read, is_twice, block_reads}
 
 -- a closure of more captured words is never known, and its function has no worker
 abbrev pub most_words : ℕ
@@ -55,7 +55,7 @@ known P env (OCase a bs) = None
 
 -- a binding whose closure is known needs no code where the block behind it reads it as a word nowhere
 abbrev pub unmade : Program → List Place → Op → Block → Option Place
-unmade P env p t = if block_reads 0 t then None else known P env p
+unmade P env p t = if is_read (block_reads 0 t) then None else known P env p
 
 -- Words.
 
@@ -138,6 +138,21 @@ empty_test d c rest = LocalGet d ∷ ConstWord (2 * c + 1) ∷ Operation op32.Eq
 abbrev pub head_test : ℕ → ℕ → ℕ → List Instr → List Instr
 head_test d c n rest = LocalGet d ∷ Load 0 ∷ ConstWord (n * 65536 + c) ∷ Operation op32.Eq ∷ rest
 
+-- whether a branch of n variables has one alone, which is read twice: then its field comes into the local in which the block's address is
+abbrev pub moves : ℕ → Block → Bool
+moves zero t = false
+moves (suc zero) t = is_twice (block_reads 0 t)
+moves (suc (suc n)) t = false
+
+abbrev pub move_field : Bool → ℕ → List Instr → List Instr
+move_field false d rest = rest
+move_field true d rest = LocalGet d ∷ Load 4 ∷ LocalSet d ∷ rest
+
+-- the variables of a branch are in that local, or the n fields of the block
+abbrev pub branch_places : Bool → ℕ → ℕ → List Place → List Place
+branch_places false d n env = fields_of d n env
+branch_places true d n env = At (InLocal d) ∷ env
+
 -- A branch behind its test, in whose other arm the branches behind it stand. Where there is none behind it, it needs no test: where the evaluation goes on, the scrutinee's constructor has a branch.
 abbrev pub arm : Bool → (List Instr → List Instr) → (Position → List Instr → List Instr) → (Position → List Instr → List Instr) → Position → List Instr → List Instr
 arm true test branch behind at rest = test (IfWord ∷ branch (deeper at) (Else ∷ behind (deeper at) (End ∷ rest)))
@@ -181,4 +196,10 @@ module _ (P : Program) where
     pub heads : List Place → ℕ → Position → ℕ → BranchBlocks → List Instr → List Instr
     heads env d at c BNil rest = Unreachable ∷ rest
     heads env d at c (BCons zero t bs) rest = heads env d at (suc c) bs rest
-    heads env d at c (BCons (suc n) t bs) rest = arm (some_heads bs) (head_test d c (suc n)) (λ at'. code (fields_of d (suc n) env) (suc d) at' t) (λ at'. heads env d at' (suc c) bs) at rest
+    heads env d at c (BCons (suc n) t bs) rest =
+        arm (some_heads bs) (head_test d c (suc n)) (λ at' r. move_field (moves (suc n) t) d (code (branch_places (moves (suc n) t) d (suc n) env) (suc d) at' t r))
+        (λ at'. heads env d at' (suc c) bs) at rest
+
+  -- a branch of n variables, of a match on the word in local d
+  abbrev pub branch : List Place → ℕ → ℕ → Position → Block → List Instr → List Instr
+  branch env d n at t rest = move_field (moves n t) d (code (branch_places (moves n t) d n env) (suc d) at t rest)

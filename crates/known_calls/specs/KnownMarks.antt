@@ -1,7 +1,14 @@
--- Which bindings of a block are read as a word in the block behind them: their marks, in the order in which emission comes to the bindings.
-use Rattle.std.specs.Prelude.{◌≡◌, ◌+◌, ℕ, zero, suc, Bool, false, ◌||◌, List, [], ◌∷◌, ◌++◌, length, drop}
+-- Which bindings of a block are read as a word in the block behind them, and of which branches the only variable is read twice: their marks, in the order
+-- in which emission comes to them.
+use Rattle.std.specs.Prelude.{◌≡◌, ◌+◌, ℕ, zero, suc, Bool, List, [], ◌∷◌, ◌++◌, length, drop}
 use Rattle.closure_lift.specs.Lifted.{Op, OConst, OApp, OCon, OClos, OCase, Block, RetAtom, LetAtom, Ret, Let, BranchBlocks, BNil, BCons, Bound, AtomBound, OpBound}
-use Rattle.known_calls.specs.KnownPlaces.{names, op_reads, block_reads}
+use Rattle.known_calls.specs.KnownPlaces.{Times, Never, ◌plus◌, is_read, is_twice, names, op_reads, block_reads}
+
+-- that of a branch of n variables, of which the first is read so often
+abbrev pub field_marks : ℕ → Times → List Bool
+field_marks zero r = []
+field_marks (suc zero) r = is_twice r ∷ []
+field_marks (suc (suc n)) r = []
 
 abbrev mutual
   pub op_marks : Op → List Bool
@@ -13,9 +20,9 @@ abbrev mutual
 
   pub block_marks : Block → List Bool
   block_marks (RetAtom a) = []
-  block_marks (LetAtom a t) = block_reads 0 t ∷ block_marks t
+  block_marks (LetAtom a t) = is_read (block_reads 0 t) ∷ block_marks t
   block_marks (Ret p) = op_marks p
-  block_marks (Let p t) = block_reads 0 t ∷ (op_marks p ++ block_marks t)
+  block_marks (Let p t) = is_read (block_reads 0 t) ∷ (op_marks p ++ block_marks t)
 
   -- those of the branches without binders, which come first, and those of the others
   pub empty_marks : BranchBlocks → List Bool
@@ -26,32 +33,36 @@ abbrev mutual
   pub head_marks : BranchBlocks → List Bool
   head_marks BNil = []
   head_marks (BCons zero t bs) = head_marks bs
-  head_marks (BCons (suc n) t bs) = block_marks t ++ head_marks bs
+  head_marks (BCons (suc n) t bs) = (field_marks (suc n) (block_reads 0 t) ++ block_marks t) ++ head_marks bs
+
+-- those of a branch of n variables
+abbrev pub branch_marks : ℕ → Block → List Bool
+branch_marks n t = field_marks n (block_reads 0 t) ++ block_marks t
 
 abbrev pub bound_marks : Bound → List Bool
 bound_marks (AtomBound a) = []
 bound_marks (OpBound p) = op_marks p
 
-abbrev pub bound_reads : ℕ → Bound → Bool
+abbrev pub bound_reads : ℕ → Bound → Times
 bound_reads i (AtomBound a) = names i a
 bound_reads i (OpBound p) = op_reads i p
 
--- whether the branches without binders, and the others, name variable i otherwise than as the function of an application
-abbrev pub empties_read : ℕ → BranchBlocks → Bool
-empties_read i BNil = false
-empties_read i (BCons zero t bs) = block_reads i t || empties_read i bs
+-- how often the branches without binders, and the others, name variable i otherwise than as the function of an application
+abbrev pub empties_read : ℕ → BranchBlocks → Times
+empties_read i BNil = Never
+empties_read i (BCons zero t bs) = block_reads i t plus empties_read i bs
 empties_read i (BCons (suc n) t bs) = empties_read i bs
 
-abbrev pub heads_read : ℕ → BranchBlocks → Bool
-heads_read i BNil = false
+abbrev pub heads_read : ℕ → BranchBlocks → Times
+heads_read i BNil = Never
 heads_read i (BCons zero t bs) = heads_read i bs
-heads_read i (BCons (suc n) t bs) = block_reads (suc n + i) t || heads_read i bs
+heads_read i (BCons (suc n) t bs) = block_reads (suc n + i) t plus heads_read i bs
 
 -- the first of these marks are such
 abbrev pub Begins : List Bool → List Bool → Type 0
 Begins ms all = all ≡ ms ++ drop (length ms) all
 
--- of each variable, the innermost first, whether it is read: as before, or now
-abbrev pub also : (ℕ → Bool) → List Bool → List Bool
+-- of each variable, the innermost first, how often it is read: before, and now
+abbrev pub also : (ℕ → Times) → List Times → List Times
 also reads [] = []
-also reads (r ∷ rs) = (reads 0 || r) ∷ also (λ i. reads (suc i)) rs
+also reads (r ∷ rs) = (reads 0 plus r) ∷ also (λ i. reads (suc i)) rs

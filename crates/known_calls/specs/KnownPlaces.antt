@@ -1,5 +1,5 @@
 -- Where the words of variables are while a function runs, and the closures that are known and made nowhere.
-use Rattle.std.specs.Prelude.{ℕ, zero, suc, ◌+◌, ◌*◌, Bool, false, ◌||◌, nat_eq, List, [], ◌∷◌, Option, Some, None, slice_get}
+use Rattle.std.specs.Prelude.{ℕ, zero, suc, ◌+◌, ◌*◌, Bool, true, false, if◌then◌else◌, nat_eq, List, [], ◌∷◌, Option, Some, None, slice_get}
 use Rattle.std.specs.Option.{option_map, option_and_then}
 use Rattle.anf_convert.specs.declared.program.Atom.{Atom}
 use Rattle.anf_convert.specs.declared.program.Atom.TheVariants.{Var as AVar, Box as ABox, Empty as AEmpty}
@@ -10,6 +10,9 @@ pub use Rattle.known_calls.specs.declared.words.Word.TheVariants.{Local as InLoc
 -- what an environment has for a variable: where its word is; or the closure that it is, which is made nowhere: its function, and where its captured words are, the last one first
 pub use Rattle.known_calls.specs.declared.places.Place.{Place}
 pub use Rattle.known_calls.specs.declared.places.Place.TheVariants.{At, Known}
+-- how often something is read: nowhere, at one place, or at more
+pub use Rattle.known_calls.specs.declared.times.Times.{Times}
+pub use Rattle.known_calls.specs.declared.times.Times.TheVariants.{Never, Once, More}
 
 abbrev pub word_at : Place → Option Word
 word_at (At w) = Some w
@@ -44,31 +47,49 @@ known_function env (AVar i) = option_and_then known_at (slice_get env i)
 known_function env ABox = None
 known_function env (AEmpty c) = None
 
--- whether an atom names variable i
-abbrev pub names : ℕ → Atom → Bool
-names i (AVar j) = nat_eq i j
-names i ABox = false
-names i (AEmpty c) = false
+infixr 40 ◌plus◌
+abbrev pub ◌plus◌ : Times → Times → Times
+Never plus r = r
+Once plus Never = Once
+Once plus Once = More
+Once plus More = More
+More plus r = More
 
-abbrev pub some_names : ℕ → List Atom → Bool
-some_names i [] = false
-some_names i (a ∷ as') = names i a || some_names i as'
+abbrev pub is_read : Times → Bool
+is_read Never = false
+is_read Once = true
+is_read More = true
 
--- whether variable i is named otherwise than as the function of an application
+abbrev pub is_twice : Times → Bool
+is_twice Never = false
+is_twice Once = false
+is_twice More = true
+
+-- how often an atom names variable i
+abbrev pub names : ℕ → Atom → Times
+names i (AVar j) = if nat_eq i j then Once else Never
+names i ABox = Never
+names i (AEmpty c) = Never
+
+abbrev pub some_names : ℕ → List Atom → Times
+some_names i [] = Never
+some_names i (a ∷ as') = names i a plus some_names i as'
+
+-- how often variable i is named otherwise than as the function of an application
 abbrev mutual
-  pub op_reads : ℕ → Op → Bool
-  op_reads i (OConst x) = false
+  pub op_reads : ℕ → Op → Times
+  op_reads i (OConst x) = Never
   op_reads i (OApp f a) = names i a
   op_reads i (OCon c as') = some_names i as'
   op_reads i (OClos g as') = some_names i as'
-  op_reads i (OCase a bs) = names i a || branches_read i bs
+  op_reads i (OCase a bs) = names i a plus branches_read i bs
 
-  pub block_reads : ℕ → Block → Bool
+  pub block_reads : ℕ → Block → Times
   block_reads i (RetAtom a) = names i a
-  block_reads i (LetAtom a t) = names i a || block_reads (suc i) t
+  block_reads i (LetAtom a t) = names i a plus block_reads (suc i) t
   block_reads i (Ret p) = op_reads i p
-  block_reads i (Let p t) = op_reads i p || block_reads (suc i) t
+  block_reads i (Let p t) = op_reads i p plus block_reads (suc i) t
 
-  pub branches_read : ℕ → BranchBlocks → Bool
-  branches_read i BNil = false
-  branches_read i (BCons n t bs) = block_reads (n + i) t || branches_read i bs
+  pub branches_read : ℕ → BranchBlocks → Times
+  branches_read i BNil = Never
+  branches_read i (BCons n t bs) = block_reads (n + i) t plus branches_read i bs

@@ -11,7 +11,7 @@ use Rattle.wasm_core.specs.declared.instrs.Instr.TheVariants.{Unreachable, Local
 use Rattle.wasm_emit.specs.EmittedCode.{Load, CallClosure}
 use Rattle.wasm_emit.specs.Pushed.{ends, renumber_bound}
 use Rattle.known_calls.specs.KnownPlaces.{Place, At, InLocal}
-use Rattle.known_calls.specs.KnownCode.{Position, Inside, InTail, known, atom, into_local, some_heads, some_branches, op, code, empties, heads}
+use Rattle.known_calls.specs.KnownCode.{Position, Inside, InTail, known, atom, into_local, some_heads, some_branches, op, code, empties, heads, branch}
 
 -- the position under n blocks more
 abbrev pub under_position : ℕ → Position → Position
@@ -67,6 +67,9 @@ module _ (Q : Lifted) where
 
   abbrev pub block_code : List Place → ℕ → Position → Block → List Instr → List Instr
   block_code env d at t = code (lifted_of Q) env d at (renumber (place_in Q.constants) t)
+
+  abbrev pub branch_code : List Place → ℕ → Position → LiftedBranch → List Instr → List Instr
+  branch_code env d at b = branch (lifted_of Q) env d b.binders at (renumber (place_in Q.constants) b.body)
 
   abbrev pub empty_arms : List Place → ℕ → Position → Bool → BranchBlocks → (Position → List Instr → List Instr) → List Instr → List Instr
   empty_arms env d at some bs = empties (lifted_of Q) env d at 0 some (renumber_branches (place_in Q.constants) bs)

@@ -31,7 +31,7 @@ abbrev mutual
 
   pub branches_weight : BranchBlocks → ℕ
   branches_weight BNil = 0
-  branches_weight (BCons n t bs) = 19 + weight t + branches_weight bs
+  branches_weight (BCons n t bs) = 31 + weight t + branches_weight bs
 
 -- for each function, with two types, its place in the table, the sizes and locals of its entry and its worker, and the entry's loads
 abbrev pub functions_weight : List Fn → ℕ
@@ -80,7 +80,7 @@ module _ (c : ℕ) where
 
     pub normal_branches_weight : AnfBranches → ℕ
     normal_branches_weight NoBranch = 0
-    normal_branches_weight (Branch n t rest) = 19 + normal_weight t + normal_branches_weight rest
+    normal_branches_weight (Branch n t rest) = 31 + normal_weight t + normal_branches_weight rest
 
     pub normal_defs_weight : AnfDefs → ℕ
     normal_defs_weight NoDef = 0

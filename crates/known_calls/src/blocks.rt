@@ -2,24 +2,25 @@
 //!
 //! A binding gets the local whose number is how many stand before it; but one that is known, and read as a word nowhere, gets no local and no code. A match puts its
 //! scrutinee into the next local and compares it with the words of the constructors without arguments, and then its block's header with those of the others; the last
-//! branch needs no test, and what a branch binds is read from the block.
+//! branch needs no test. What a branch binds is read from the block; but a branch's only variable, where it is read twice, comes into the
+//! scrutinee's local.
 ghost use Rattle.std.specs.Prelude.{◌≡◌, ◌+◌, ◌*◌, ◌∷◌, ◌++◌, [], IfOk, IfErr, OnOk, drop, false, get_or, length, reverse, suc, true};
 ghost use Rattle.closure_lift.specs.LiftedView.{seen, branches_of};
 ghost use Rattle.closure_lift.specs.LiftedProgram.{lifted_of};
 ghost use Rattle.wasm_emit.specs.ConstantNumbers.{AreNumbered};
 ghost use Rattle.wasm_emit.specs.Pushed.{Pushed};
 ghost use Rattle.wasm_emit.specs.declared.fault.EmitFault.TheVariants.{Memory};
-ghost use Rattle.known_calls.specs.KnownMarks.{Begins, block_marks, bound_marks, empty_marks, head_marks};
-ghost use Rattle.known_calls.specs.KnownPushed.{BlockArm, HeadArms, EmptyArm, EmptyArms, PlainArms, is_last_head as last_head, binding_code, block_arms, block_code, branches_code, empty_arms, local_behind, op_code, op_made, op_unmade, place_bound, under_position};
-ghost use Rattle.known_calls.specs.KnownPlaces.{At, InLocal, fields_of};
+ghost use Rattle.known_calls.specs.KnownMarks.{Begins, block_marks, bound_marks, branch_marks, empty_marks, head_marks};
+ghost use Rattle.known_calls.specs.KnownPushed.{BlockArm, HeadArms, EmptyArm, EmptyArms, PlainArms, is_last_head as last_head, binding_code, block_arms, block_code, branch_code, branches_code, empty_arms, local_behind, op_code, op_made, op_unmade, place_bound, under_position};
+ghost use Rattle.known_calls.specs.KnownPlaces.{At, InLocal};
 ghost use Rattle.known_calls.specs.KnownCode.{Inside, new_block, some_heads};
 ghost use Rattle.wasm_core.specs.declared.instrs.Instr.TheVariants.{LocalSet};
 
 use crate::calls::push_application;
 use crate::closures::known;
-use crate::instructions::{push_atom, push_new_block};
-use crate::marks::take_mark;
-use crate::places::{Place, push_field_places};
+use crate::instructions::{push_atom, push_moved_field, push_new_block};
+use crate::marks::{take_field_mark, take_mark};
+use crate::places::{Place, push_branch_places};
 use crate::site::{Arm, Position, Site, under};
 use crate::words::Word;
 use anf_convert::lists::Atoms;
@@ -538,7 +539,9 @@ fn push_block_arm(
     Ok(1)
 }
 
-/// The body of a branch whose variables are the fields of the block whose address is in the site's local; the local behind that is the first free one. Only `Memory`.
+/// The body of a branch of a match on the word in the site's local; the local behind that is the first free one. Where the branch has one
+/// variable, which is read twice, its field first comes into the site's local, in which the block's address was; otherwise its variables are
+/// the fields of that block. Only `Memory`.
 #[cycle(blocks)]
 fn push_fielded(
     p: &Lifted,
@@ -550,9 +553,9 @@ fn push_fielded(
     out: &mut Vec<Instr>,
 ) -> Result<(), EmitFault>
     requires numbered { AreNumbered numbers.now p.now.constants }
-    requires marked { Begins (block_marks b.now.body) (reverse marks.old.items) }
-    ensures pushed { OnOk result (Pushed out.old.items out.new.items (block_code p.now (fields_of site.local b.now.binders (reverse places.old.items)) (site.local + 1) site.at b.now.body)) }
-    ensures left { OnOk result (reverse marks.new.items ≡ drop (length (block_marks b.now.body)) (reverse marks.old.items)) }
+    requires marked { Begins (branch_marks b.now.binders b.now.body) (reverse marks.old.items) }
+    ensures pushed { OnOk result (Pushed out.old.items out.new.items (branch_code p.now (reverse places.old.items) site.local site.at b.now)) }
+    ensures left { OnOk result (reverse marks.new.items ≡ drop (length (branch_marks b.now.binders b.now.body)) (reverse marks.old.items)) }
     ensures same { OnOk result (places.new.items ≡ places.old.items) }
     ensures only_memory { IfErr result (λ e. e ≡ Memory) }
 {
@@ -561,7 +564,9 @@ fn push_fielded(
     };
     let inner = Site { local, at: site.at };
     let outer = places.len();
-    push_field_places(places, site.local, b.binders)?;
+    let moved = take_field_mark(marks, b);
+    push_moved_field(moved, site.local, out)?;
+    push_branch_places(places, moved, site.local, b.binders)?;
     push_block(p, numbers, places, inner, &b.body, marks, out)?;
     places.truncate(outer);
     Ok(())

@@ -2,7 +2,7 @@
 ghost use Rattle.std.specs.Prelude.{◌≡◌, ◌∷◌, IfErr, OnOk, reverse};
 ghost use Rattle.wasm_emit.specs.Pushed.{Pushed};
 ghost use Rattle.wasm_emit.specs.declared.fault.EmitFault.TheVariants.{Memory};
-ghost use Rattle.known_calls.specs.KnownCode.{read_word, read, atom, push_words as words_code, fill, new_block, into_params};
+ghost use Rattle.known_calls.specs.KnownCode.{read_word, read, atom, push_words as words_code, fill, new_block, into_params, move_field};
 ghost use Rattle.known_calls.specs.KnownModule.{captured_words};
 
 use crate::closures::word_of;
@@ -102,6 +102,23 @@ pub(crate) fn push_new_block(
     push(out, Instr::I32Const(header))?;
     push_store(out, 0)?;
     push_fields(places, d, atoms, out)
+}
+
+/// The only field of the block whose address is in local d comes into that local, where it is moved there. Only `Memory`.
+pub(crate) fn push_moved_field(
+    moved: bool,
+    d: u32,
+    out: &mut Vec<Instr>,
+) -> Result<(), EmitFault>
+    ensures pushed { OnOk result (Pushed out.old.items out.new.items (move_field moved d)) }
+    ensures only_memory { IfErr result (λ e. e ≡ Memory) }
+{
+    if !moved {
+        return Ok(());
+    }
+    push(out, Instr::LocalGet(d))?;
+    push_load(out, 4)?;
+    push(out, Instr::LocalSet(d))
 }
 
 /// The operands become the first n + 1 locals. Only `Memory`.

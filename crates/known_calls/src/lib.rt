@@ -9,7 +9,7 @@
 //!
 //! `emit` makes the module of a lifted program (clause `is`), which is valid (`valid`), and refuses exactly where a function would have over 50,000 locals (`few`,
 //! `refused`); `emit_call` makes the module for calls, with the same clauses. Both are linear in the program: `marks` finds in one walk which bindings are read as
-//! words, `closures` which are known, and `blocks` pushes the instructions.
+//! words, and which branches read their only variable twice, `closures` which bindings are known, and `blocks` pushes the instructions.
 //!
 //! The laws are public functions with empty bodies: every run of the module answers the data to which main evaluates, or is exhausted after a refused grow,
 //! within a bound on steps, and its heap ends within the bytes of the evaluation's blocks (`known_runs_answer`); the status tells of a refused grow
@@ -30,6 +30,7 @@ mod laws;
 mod marks;
 mod places;
 mod site;
+mod times;
 mod words;
 
 pub use emission::{emit, emit_call};
@@ -40,4 +41,5 @@ pub use laws::{
 };
 pub use places::Place;
 pub use site::Position;
+pub use times::Times;
 pub use words::{Word, Words};

@@ -1,5 +1,6 @@
 //! What an environment has for the variables of a block.
 ghost use Rattle.std.specs.Prelude.{◌≡◌, ◌++◌, IfErr, OnOk, MatchOption, None, Some, length, reverse, slice_get, take};
+ghost use Rattle.known_calls.specs.KnownCode.{branch_places};
 ghost use Rattle.known_calls.specs.KnownModule.{params};
 ghost use Rattle.known_calls.specs.KnownPlaces.{fields_of};
 ghost use Rattle.wasm_emit.specs.declared.fault.EmitFault.TheVariants.{Memory};
@@ -38,6 +39,26 @@ pub(crate) fn push_field_places(places: &mut Vec<Place>, x: u32, n: u32) -> Resu
         places.push(Place::At(Word::Field(x, offset)))?;
     }
     Ok(())
+}
+
+/// The places of the n variables of a branch of a match on the word in local x: the fields of that block; or the local, where the field of the
+/// only one is moved there. Only `Memory`.
+pub(crate) fn push_branch_places(
+    places: &mut Vec<Place>,
+    moved: bool,
+    x: u32,
+    n: u32,
+) -> Result<(), EmitFault>
+    ensures is { OnOk result (reverse places.new.items ≡ branch_places moved x n (reverse places.old.items)) }
+    ensures kept { OnOk result (take (length places.old.items) places.new.items ≡ places.old.items) }
+    ensures only_memory { IfErr result (λ e. e ≡ Memory) }
+{
+    if moved {
+        places.push(Place::At(Word::Local(x)))?;
+        Ok(())
+    } else {
+        push_field_places(places, x, n)
+    }
 }
 
 /// The places of the variables of a worker with n parameters, the last one innermost. Only `Memory`.

@@ -1,4 +1,4 @@
-use Rattle.std.proofs.Common.{rules, arith, ap, refl, subst, sym, ◌*◌, ◌+◌, ◌<◌, ◌∷◌, ◌++◌, [], List, true, false, length, length-append, drop, get_or, reverse, take, ◌∙◌}
+use Rattle.std.proofs.Common.{rules, arith, ◌≡◌, ap, refl, subst, sym, ◌*◌, ◌+◌, ◌<◌, ◌∷◌, ◌++◌, [], List, true, false, length, length-append, drop, get_or, reverse, take, ◌∙◌}
 use Rattle.std.proofs.lemmas.List.{take-append-le, drop_all}
 use Rattle.closure_lift.specs.Lifted.{ret_of}
 use Rattle.closure_lift.specs.LiftedProgram.{renumber_branches, place_in, lifted_of}
@@ -9,12 +9,12 @@ use Rattle.wasm_core.specs.declared.instrs.Instr.{Instr}
 use Rattle.wasm_emit.specs.Pushed.{Pushed, ends}
 use Rattle.wasm_emit.proofs.Lighter.{op_lighter, tail_lighter, arm_lighter}
 use Rattle.wasm_emit.proofs.Pushing.{on_ok}
-use Rattle.known_calls.specs.KnownPlaces.{Place, fields_of}
+use Rattle.known_calls.specs.KnownPlaces.{Place}
 use Rattle.known_calls.specs.KnownCode.{empties, heads}
-use Rattle.known_calls.specs.KnownMarks.{Begins, block_marks, bound_marks, empty_marks, head_marks}
-use Rattle.known_calls.specs.KnownPushed.{HeadArms, EmptyArm, BlockArm, under_position, block_code, empty_arms, block_arms, place_bound, op_unmade}
-use Rattle.known_calls.proofs.KnownMarking.{empty_marks_step, head_marks_step, end_marks, mark_now, begin_op, begin_behind, left_behind, begin_arm, begin_more, left_more, left_end, plain_marks, plain_left, fielded_marks, no_head_marks}
-use Rattle.known_calls.proofs.KnownPushing.{block_more, empties_more, empties_end, heads_more, heads_end, last_is, plain_here, more_behind, plain_pushed, mixed_pushed}
+use Rattle.known_calls.specs.KnownMarks.{Begins, bound_marks, branch_marks, empty_marks, head_marks}
+use Rattle.known_calls.specs.KnownPushed.{HeadArms, EmptyArm, BlockArm, under_position, block_code, branch_code, empty_arms, block_arms, place_bound, op_unmade}
+use Rattle.known_calls.proofs.KnownMarking.{empty_marks_step, head_marks_step, end_marks, mark_now, begin_op, begin_behind, left_behind, begin_arm, begin_more, left_more, left_end, last_marks, plain_left, fielded_marks, no_head_marks}
+use Rattle.known_calls.proofs.KnownPushing.{branch_pushed, block_more, empties_more, empties_end, heads_more, heads_end, last_is, plain_here, more_behind, plain_pushed, mixed_pushed}
 use Rattle.known_calls.proofs.blocks.+blocks.Goals as goal
 
 pub push_block-push_binding-requires : goal.push_block-push_binding-requires
@@ -123,7 +123,7 @@ push_block_branches-push_fielded-requires t c =
     let last = last_is b.binders (branches_of (drop (c.loop-c.c + 1) c.args.bs.now)) (sym c.is_last_head.ensures.is ∙ c.if-is_last_head.true) in
     let d = arm_lighter c.args.bs.now c.loop-c.c b c.loop-c-test.true c.index-bs-c.is in
     let e : 8 * block_weight b.body + 1 < 8 * branches_weight (branches_of c.args.bs.now) = omega (arith, d) in
-    let m : Begins (block_marks b.body) all = subst (λ ms. Begins ms all) (fielded_marks b.binders b.body last.0) (begin_arm head_marks head_marks_step c.args.bs.now c.loop-c.c b c.loop-c-test.true c.index-bs-c.is all c.loop-c.invariant.marked) in
+    let m : Begins (branch_marks b.binders b.body) all = subst (λ ms. Begins ms all) (fielded_marks b.binders b.body last.0) (begin_arm head_marks head_marks_step c.args.bs.now c.loop-c.c b c.loop-c-test.true c.index-bs-c.is all c.loop-c.invariant.marked) in
     search (rules, e, m)
 
 pub push_block_branches-returns-then-is_last_head-clause-pushed : goal.push_block_branches-returns-then-is_last_head-clause-pushed
@@ -132,10 +132,10 @@ push_block_branches-returns-then-is_last_head-clause-pushed t c =
     let Q = c.args.p.now in
     let env = reverse c.args.places.now.items in
     let at = c.args.site.at in
-    let z : Pushed c.loop-c.out.items c.push_fielded.new.out.items (block_code Q (fields_of c.in_ok-arm.arm.site.local b.binders env) (c.in_ok-arm.arm.site.local + 1) c.in_ok-arm.arm.site.at b.body) =
-    subst (λ zs. Pushed c.loop-c.out.items c.push_fielded.new.out.items (block_code Q (fields_of c.in_ok-arm.arm.site.local b.binders (reverse zs)) (c.in_ok-arm.arm.site.local + 1) c.in_ok-arm.arm.site.at b.body)) c.loop-c.invariant.same c.in_ok-push_fielded.ensures.pushed in
-    let x : Pushed c.loop-c.out.items c.push_fielded.new.out.items (block_code Q (fields_of c.args.site.local b.binders env) (c.args.site.local + 1) (under_position c.loop-c.begun at) b.body) =
-    subst (λ a. Pushed c.loop-c.out.items c.push_fielded.new.out.items (block_code Q (fields_of a.site.local b.binders env) (a.site.local + 1) a.site.at b.body)) c.in_ok-arm.ensures.is z in
+    let z : Pushed c.loop-c.out.items c.push_fielded.new.out.items (branch_code Q env c.in_ok-arm.arm.site.local c.in_ok-arm.arm.site.at b) =
+    subst (λ zs. Pushed c.loop-c.out.items c.push_fielded.new.out.items (branch_code Q (reverse zs) c.in_ok-arm.arm.site.local c.in_ok-arm.arm.site.at b)) c.loop-c.invariant.same c.in_ok-push_fielded.ensures.pushed in
+    let x : Pushed c.loop-c.out.items c.push_fielded.new.out.items (branch_code Q env c.args.site.local (under_position c.loop-c.begun at) b) =
+    subst (λ a. Pushed c.loop-c.out.items c.push_fielded.new.out.items (branch_code Q env a.site.local a.site.at b)) c.in_ok-arm.ensures.is z in
     record {
       is = heads_end Q env c.args.site.local at c.loop-c.c c.args.bs.now b c.loop-c.begun 0 c.loop-c.begun c.loop-c.out.items c.push_fielded.new.out.items c.args.out.now.items c.loop-c-test.true c.index-bs-c.is (omega arith) x (sym c.is_last_head.ensures.is ∙ c.if-is_last_head.true)
           (block_arms Q env c.args.site.local at (branches_of c.args.bs.now)) c.loop-c.invariant.pushed;
@@ -165,7 +165,7 @@ push_plain_arms-push_fielded-requires t c =
     let plain = plain_here c.args.bs.now c.loop-c.c b c.loop-c-test.true c.index-bs-c.is c.loop-c.invariant.plain in
     let d = arm_lighter c.args.bs.now c.loop-c.c b c.loop-c-test.true c.index-bs-c.is in
     let e : 8 * block_weight b.body + 1 < 8 * branches_weight (branches_of c.args.bs.now) = omega (arith, d) in
-    let m : Begins (block_marks b.body) all = subst (λ ms. Begins ms all) (plain_marks b.binders b.body plain.0) (begin_arm empty_marks empty_marks_step c.args.bs.now c.loop-c.c b c.loop-c-test.true c.index-bs-c.is all c.loop-c.invariant.marked) in
+    let m : Begins (branch_marks b.binders b.body) all = subst (λ ms. Begins ms all) (last_marks b.binders b.body plain.0) (begin_arm empty_marks empty_marks_step c.args.bs.now c.loop-c.c b c.loop-c-test.true c.index-bs-c.is all c.loop-c.invariant.marked) in
     search (rules, e, m)
 
 pub push_plain_arms-loop-c-preserved : goal.push_plain_arms-loop-c-preserved
@@ -197,10 +197,10 @@ push_plain_arms-returns-then-c-bs-clause-pushed t c =
     let env = reverse c.args.places.now.items in
     let at = c.args.site.at in
     let plain = plain_here c.args.bs.now c.loop-c.c b c.loop-c-test.true c.index-bs-c.is c.loop-c.invariant.plain in
-    let z : Pushed c.loop-c.out.items c.push_fielded.new.out.items (block_code Q (fields_of c.in_ok-arm.arm.site.local b.binders env) (c.in_ok-arm.arm.site.local + 1) c.in_ok-arm.arm.site.at b.body) =
-    subst (λ zs. Pushed c.loop-c.out.items c.push_fielded.new.out.items (block_code Q (fields_of c.in_ok-arm.arm.site.local b.binders (reverse zs)) (c.in_ok-arm.arm.site.local + 1) c.in_ok-arm.arm.site.at b.body)) c.loop-c.invariant.same c.in_ok-push_fielded.ensures.pushed in
-    let x : Pushed c.loop-c.out.items c.push_fielded.new.out.items (block_code Q (fields_of c.args.site.local b.binders env) (c.args.site.local + 1) (under_position c.loop-c.begun at) b.body) =
-    subst (λ a. Pushed c.loop-c.out.items c.push_fielded.new.out.items (block_code Q (fields_of a.site.local b.binders env) (a.site.local + 1) a.site.at b.body)) c.in_ok-arm.ensures.is z in
+    let z : Pushed c.loop-c.out.items c.push_fielded.new.out.items (branch_code Q env c.in_ok-arm.arm.site.local c.in_ok-arm.arm.site.at b) =
+    subst (λ zs. Pushed c.loop-c.out.items c.push_fielded.new.out.items (branch_code Q (reverse zs) c.in_ok-arm.arm.site.local c.in_ok-arm.arm.site.at b)) c.loop-c.invariant.same c.in_ok-push_fielded.ensures.pushed in
+    let x : Pushed c.loop-c.out.items c.push_fielded.new.out.items (branch_code Q env c.args.site.local (under_position c.loop-c.begun at) b) =
+    subst (λ a. Pushed c.loop-c.out.items c.push_fielded.new.out.items (branch_code Q env a.site.local a.site.at b)) c.in_ok-arm.ensures.is z in
     record {
       is = λ others h rest. empties_end Q env c.args.site.local at c.loop-c.c c.args.bs.now b c.loop-c.begun 0 c.loop-c.begun c.loop-c.out.items c.push_fielded.new.out.items c.args.out.now.items c.loop-c-test.true c.index-bs-c.is (omega arith) x (omega arith) plain.0
           (empty_arms Q env c.args.site.local at false (branches_of c.args.bs.now)) c.loop-c.invariant.pushed others rest;
@@ -212,7 +212,7 @@ push_plain_arms-returns-then-c-bs-clause-left t c =
     let all = reverse c.loop-c.marks.items in
     let plain = plain_here c.args.bs.now c.loop-c.c b c.loop-c-test.true c.index-bs-c.is c.loop-c.invariant.plain in
     left_end empty_marks empty_marks_step c.args.bs.now c.loop-c.c b c.loop-c-test.true c.index-bs-c.is all c.loop-c.invariant.marked (reverse c.push_fielded.new.marks.items) (ap (λ (xs : List LiftedBranch). empty_marks (branches_of xs)) (drop_all (c.loop-c.c + 1) c.args.bs.now (omega arith)))
-    (c.in_ok-push_fielded.ensures.left ∙ ap (λ ms. drop (length ms) all) (sym (plain_marks b.binders b.body plain.0)))
+    (c.in_ok-push_fielded.ensures.left ∙ ap (λ ms. drop (length ms) all) (sym (last_marks b.binders b.body plain.0)))
     ∙ c.loop-c.invariant.left
 
 pub push_plain_arms-returns-clause-pushed : goal.push_plain_arms-returns-clause-pushed
@@ -245,3 +245,13 @@ push_mixed_branches-returns-clause-pushed t c =
     (λ y. mixed_pushed Q (reverse c.args.places.now.items) d c.args.site.at bs c.args.out.now.items c.push_empty_branches.new.out.items c.push_block_branches.new.out.items c.push_ends.new.out.items c.push_ends-2.new.out.items c.in_ok-empties.empties c.in_ok-heads.heads c.requires.mixed
     c.in_ok-empties.ensures.pushed x c.in_ok-push_ends.ensures.pushed y)
     c.push_ends-2.ensures.pushed
+
+-- a branch, whose field was moved or not
+pub push_fielded-returns-clause-pushed : goal.push_fielded-returns-clause-pushed
+push_fielded-returns-clause-pushed t c =
+    let next : c.in-Some.local ≡ c.args.site.local + 1 = search rules in
+    branch_pushed c.args.p.now (reverse c.args.places.now.items) (reverse c.push_branch_places.new.places.items) c.args.site.local c.in-Some.local c.args.site.at c.args.b.now c.take_field_mark-moved.result c.args.out.now.items c.push_moved_field.new.out.items c.push_block.new.out.items
+    c.take_field_mark-moved.ensures.is c.in_ok-push_branch_places.ensures.is next c.in_ok-push_moved_field.ensures.pushed c.in_ok-push_block.ensures.pushed
+
+pub push_fielded-returns-clause-left : goal.push_fielded-returns-clause-left
+push_fielded-returns-clause-left t c = c.in_ok-push_block.ensures.left ∙ c.take_field_mark-moved.ensures.left

@@ -1,13 +1,13 @@
-use Rattle.std.proofs.Common.{rules, arith, ℕ, ◌*◌, ◌+◌, ◌-◌, ◌<◌, ◌≡◌, ◌∷◌, [], List, Bool, false, length, refl, reverse, take, ap, sym, ◌∙◌}
+use Rattle.std.proofs.Common.{rules, arith, ℕ, ◌*◌, ◌+◌, ◌-◌, ◌<◌, ◌≡◌, ◌∷◌, ◌++◌, [], List, length, get_or, refl, reverse, take, ap, sym, ◌∙◌}
 use Rattle.closure_lift.specs.Lifted.{ret_of, lets_of}
 use Rattle.closure_lift.specs.LiftedView.{seen, branches_of}
 use Rattle.closure_lift.specs.declared.program.LiftedOp.{LiftedOp}
 use Rattle.closure_lift.specs.LiftedWeight.{block_weight, branches_weight, bound_weight}
 use Rattle.wasm_emit.proofs.Lighter.{op_lighter, tail_lighter, arm_lighter}
 use Rattle.wasm_emit.proofs.Pushing.{on_ok}
-use Rattle.known_calls.specs.KnownPlaces.{names, branches_read}
-use Rattle.known_calls.specs.KnownMarks.{also, bound_reads, empties_read, empty_marks, head_marks, heads_read}
-use Rattle.known_calls.proofs.KnownMarking.{also_none, also_both, heads_step, empties_step, head_marks_step, empty_marks_step, noted_init, marked_init, noted_more, marked_more, noted_end, marked_end, arms_noted_init, arms_marked_init, arms_noted_more, arms_marked_more, branches_noted, binders_gone, no_heads, no_empties}
+use Rattle.known_calls.specs.KnownPlaces.{Times, Never, More, names, block_reads, branches_read}
+use Rattle.known_calls.specs.KnownMarks.{also, bound_reads, field_marks, empties_read, empty_marks, head_marks, heads_read}
+use Rattle.known_calls.proofs.KnownMarking.{also_none, also_both, field_marked, heads_step, empties_step, head_marks_step, empty_marks_step, noted_init, marked_init, noted_more, marked_more, noted_end, marked_end, arms_noted_init, arms_marked_init, arms_noted_more, arms_marked_more, branches_noted, binders_gone, no_heads, no_empties}
 use Rattle.known_calls.proofs.marks.+notes.Goals as goal
 
 pub note_block-note_op-requires : goal.note_block-note_op-requires
@@ -38,8 +38,8 @@ note_block-loop-k-preserved t c =
     record {
       noted = noted_more ops (seen c.b.inside.tail) c.args.b.now (length ops) whole refl c.loop-k.k c.index-ops-n.result c.loop-k-test.true c.index-ops-n.is (reverse c.args.notes.now.items) (reverse c.loop-k.notes.items) (reverse c.note_binding.new.notes.items)
           c.loop-k.invariant.noted c.in_ok-note_binding.ensures.noted;
-      marked = marked_more ops (seen c.b.inside.tail) c.args.b.now (length ops) whole refl c.loop-k.k c.index-ops-n.result c.loop-k-test.true c.index-ops-n.is (reverse c.args.marks.now.items) (reverse c.loop-k.notes.items) (reverse c.args.notes.now.items) (reverse c.loop-k.marks.items)
-          (reverse c.note_binding.new.marks.items) c.loop-k.invariant.noted c.loop-k.invariant.marked c.in_ok-note_binding.ensures.marked;
+      marked = marked_more ops (seen c.b.inside.tail) c.args.b.now (length ops) whole refl c.loop-k.k c.index-ops-n.result c.loop-k-test.true c.index-ops-n.is (reverse c.args.marks.now.items) (reverse c.loop-k.marks.items) (reverse c.note_binding.new.marks.items)
+          (reverse c.loop-k.notes.items) (reverse c.args.notes.now.items) c.loop-k.invariant.noted c.loop-k.invariant.marked c.in_ok-note_binding.ensures.marked;
     }
 
 pub note_block-returns-clause-noted : goal.note_block-returns-clause-noted
@@ -110,10 +110,19 @@ note_empty-returns-then-b-gt0-clause-noted t c = sym (also_none (λ i. empties_r
 pub note_op-returns-in-Const-clause-noted : goal.note_op-returns-in-Const-clause-noted
 note_op-returns-in-Const-clause-noted t c =
     let rs = reverse c.args.notes.now.items in
-    sym (ap (λ (o : LiftedOp). also (λ i. bound_reads i (seen o)) rs) c.in-Const.is ∙ also_none (λ i. false) rs (λ i. refl))
+    sym (ap (λ (o : LiftedOp). also (λ i. bound_reads i (seen o)) rs) c.in-Const.is ∙ also_none (λ i. Never) rs (λ i. refl))
 
 pub note_op-returns-in_ok-note_branches-in-Case-clause-noted : goal.note_op-returns-in_ok-note_branches-in-Case-clause-noted
 note_op-returns-in_ok-note_branches-in-Case-clause-noted t c =
     let rs = reverse c.args.notes.now.items in
-    c.note_atom-in-Case.ensures.noted ∙ ap (λ (zs : List Bool). also (λ i. names i c.in-Case.a) zs) c.in_ok-note_branches-in-Case.ensures.noted
+    c.note_atom-in-Case.ensures.noted ∙ ap (λ (zs : List Times). also (λ i. names i c.in-Case.a) zs) c.in_ok-note_branches-in-Case.ensures.noted
     ∙ also_both (λ i. branches_read i c.in-Case.bs) (λ i. names i c.in-Case.a) rs ∙ sym (ap (λ (o : LiftedOp). also (λ i. bound_reads i (seen o)) rs) c.in-Case.is)
+
+pub note_head-returns-clause-marked : goal.note_head-returns-clause-marked
+note_head-returns-clause-marked t c =
+    let b = c.args.b.now in
+    let n : 0 < b.binders = omega (arith, c.if-b-eq0.false) in
+    let same : c.as_slice.result.now ≡ c.note_block.new.notes.items = search rules in
+    let noted = c.in_ok-note_block.ensures.noted ∙ ap (λ (zs : List Times). also (λ i. block_reads i b.body) zs) c.in_ok-push_unread.ensures.pushed in
+    field_marked b.binders b.body (reverse c.note_block.new.notes.items) (reverse c.args.notes.now.items) (reverse c.note_block.new.marks.items) (reverse c.args.marks.now.items) (reverse c.mark_field.new.marks.items) n noted c.in_ok-note_block.ensures.marked
+    (c.in_ok-mark_field.ensures.marked ∙ ap (λ (zs : List Times). field_marks b.binders (get_or (reverse zs) 0 More) ++ reverse c.note_block.new.marks.items) same)

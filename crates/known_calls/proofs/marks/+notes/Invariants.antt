@@ -1,7 +1,7 @@
-use Rattle.std.proofs.Common.{◌≡◌, ◌+◌, ◌-◌, ◌*◌, ◌++◌, drop, reverse, replicate, false}
+use Rattle.std.proofs.Common.{◌≡◌, ◌+◌, ◌-◌, ◌*◌, ◌++◌, drop, reverse, replicate}
 use Rattle.closure_lift.specs.LiftedView.{seen, branches_of}
 use Rattle.closure_lift.specs.LiftedWeight.{block_weight, branches_weight, bound_weight}
-use Rattle.known_calls.specs.KnownPlaces.{block_reads}
+use Rattle.known_calls.specs.KnownPlaces.{Never, block_reads}
 use Rattle.known_calls.specs.KnownMarks.{also, block_marks, empties_read, empty_marks, head_marks, heads_read}
 use Rattle.known_calls.proofs.KnownMarking.{past}
 use Rattle.known_calls.proofs.marks.+notes.Given as goal
@@ -32,7 +32,7 @@ decreases-note_empty l = 4 * block_weight l.b.now.body + 1
 
 abbrev pub invariant-note_block-loop-k : goal.invariant-note_block-loop-k
 invariant-note_block-loop-k l = record {
-  noted : reverse l.notes.items ≡ also (λ i. block_reads i (past (l.n - l.k) l.b)) (replicate (l.n - l.k) false ++ reverse l.fn.notes.items);
+  noted : reverse l.notes.items ≡ also (λ i. block_reads i (past (l.n - l.k) l.b)) (replicate (l.n - l.k) Never ++ reverse l.fn.notes.items);
   marked : reverse l.marks.items ≡ block_marks (past (l.n - l.k) l.b) ++ reverse l.fn.marks.items;
 }
 

@@ -1,9 +1,10 @@
-use Rattle.std.proofs.Common.{false, refl, sym, reverse, rules}
+use Rattle.std.proofs.Common.{refl, sym, reverse, rules}
+use Rattle.known_calls.specs.KnownPlaces.{Never}
 use Rattle.known_calls.proofs.KnownMarking.{also_none, atoms_more}
 use Rattle.known_calls.proofs.marks.note_atoms.Goals as goal
 
 pub loop-a-init : goal.loop-a-init
-loop-a-init c = sym (also_none (λ i. false) (reverse c.args.notes.now.items) (λ i. refl))
+loop-a-init c = sym (also_none (λ i. Never) (reverse c.args.notes.now.items) (λ i. refl))
 
 pub loop-a-preserved : goal.loop-a-preserved
 loop-a-preserved c =
