@@ -64,6 +64,9 @@ export declare class Session {
   runNodes(nodes: Uint32Array): Uint32Array;
 }
 
+/** Whether the engine takes tail calls, which modules of erasec make. */
+export declare function takesTailCalls(): boolean;
+
 export declare function load(bytes: BufferSource, types: TypesText): Promise<Program>;
 
 /** Between data and values of JavaScript. */

@@ -333,13 +333,19 @@ function causeOf(trap, status) {
   return new Trapped(`the program trapped: ${trap?.message ?? trap}`, { cause: trap });
 }
 
+/** A module of one function, which ends in a tail call of itself; nothing runs it. */
+const TAIL_CALL = Uint8Array.of(0, 97, 115, 109, 1, 0, 0, 0, 1, 4, 1, 96, 0, 0, 3, 2, 1, 0, 10, 6, 1, 4, 0, 18, 0, 11);
+
+/** Whether the engine takes tail calls, which modules of erasec make: Chrome and Edge since 112, Firefox since 121, Safari since 18.2, node since 20. */
+export const takesTailCalls = () => WebAssembly.validate(TAIL_CALL);
+
 /** The program of a module's bytes. */
 export async function load(bytes, types) {
   const parsed = typesOf(types);
   try {
     return new Program(await WebAssembly.compile(bytes), parsed);
   } catch (cause) {
-    throw new BadModule(`no module: ${cause.message}`, { cause });
+    throw new BadModule(`no module: ${cause.message}${takesTailCalls() ? "" : "; this engine takes no tail calls, which modules of erasec make"}`, { cause });
   }
 }
 

@@ -68,6 +68,18 @@ test("arguments are stored along their types", async () => {
   assert.deepEqual(list(nat).of(await answerOf(answersArgument(1), PAIR, nat.data(1), list(nat).data(numbers))), numbers);
 });
 
+test("an engine without tail calls is named in the error", async () => {
+  assert.equal(erasec.takesTailCalls(), true);
+  const { validate } = WebAssembly;
+  WebAssembly.validate = () => false;
+  try {
+    await assert.rejects(load(Uint8Array.of(0), NAT), (error) => error instanceof erasec.BadModule && error.message.endsWith("this engine takes no tail calls, which modules of erasec make"));
+  } finally {
+    WebAssembly.validate = validate;
+  }
+  await assert.rejects(load(Uint8Array.of(0), NAT), (error) => error instanceof erasec.BadModule && !error.message.includes("tail calls"));
+});
+
 test("a compiled function adds", async () => {
   const add = await load(readFileSync(join(TOP, "examples/add.wasm")), "nat+nat->nat nat=O,S:nat");
   for (const [a, b] of [[1, 2], [0, 0], [7, 0], [400, 5]]) assert.equal(nat.of(add.run(nat.data(a), nat.data(b))), a + b);

@@ -4,7 +4,7 @@
 //! |---|---|
 //! | `closures` | `to_anf`, `lift_program`, of what the row's environment is erased to, without matches on proofs, and saturated |
 //! | | `lift_nest`: the sizes of what a nest of `lambdas:` lambdas is lifted to; `lift_functions`: so of constants that are functions, `count:` of both in all |
-//! | `modules` | `compile`, of what the row's environment is erased to, with `pages:`: the size of the module, and a run of at most `steps:` steps (1,000,000 where it isn't told); `bytes`, the module's bytes |
+//! | `modules` | `compile`, of what the row's environment is erased to, with `pages:`: the size of the module, and a run of at most `steps:` steps (1,000,000 where it isn't told), with the most frames that stood at once; `bytes`, the module's bytes |
 //! | | `compile_call`, of the same, whose main takes `count:` arguments: the call `calls` makes one module, and runs it in a new machine for each line `arguments:`, natural numbers, with the data that it answers |
 //!
 //! A program is printed one item a line, what stands inside indented. A variable is named by how many others are around it: `x0` is the

@@ -92,7 +92,8 @@ fn put_number(out: &mut String, number: u64, what: &str) -> Result<(), AllocErro
     write!(out, "{number}{what}")
 }
 
-/// Makes a run of at most so many steps, and prints how it ends, what the machine then shows, and what it answers.
+/// Makes a run of at most so many steps, and prints how it ends, what the machine then shows, with the most frames that stood at once, and what it
+/// answers.
 fn put_run(
     alloc: Global,
     machine: &mut Machine,
@@ -102,7 +103,8 @@ fn put_run(
     let end = machine.run(steps);
     put_end(out, end)?;
     put_number(out, machine.steps(), " steps, ")?;
-    put_number(out, machine.pages() as u64, " pages, status ")?;
+    put_number(out, machine.pages() as u64, " pages, ")?;
+    put_number(out, machine.peak(), " frames, status ")?;
     put_number(out, machine.status() as u64, "")?;
     if end == Ok(Ended::Returned) {
         put_answer(alloc, machine, out)?;

@@ -8,9 +8,9 @@ use Rattle.wasm_core.specs.declared.instrs.BlockType.{BlockType}
 use Rattle.wasm_core.specs.declared.instrs.BlockType.TheVariants.{Empty, Value}
 use Rattle.wasm_core.specs.declared.instrs.I32Op.TheVariants as op32
 use Rattle.wasm_core.specs.declared.instrs.Instr.{Instr}
-use Rattle.wasm_core.specs.declared.instrs.Instr.TheVariants.{Unreachable, Loop, Else, End, Br, Call, LocalGet, LocalSet, LocalTee, GlobalGet, GlobalSet, MemorySize, I32 as Operation}
+use Rattle.wasm_core.specs.declared.instrs.Instr.TheVariants.{Unreachable, Loop, Else, End, Br, Call, ReturnCall, ReturnCallIndirect, LocalGet, LocalSet, LocalTee, GlobalGet, GlobalSet, MemorySize, I32 as Operation}
 use Rattle.wasm_core.specs.ModuleCondition.{All, IsInstr}
-use Rattle.wasm_core.specs.ShortestBytes.{put_all, put_instr}
+use Rattle.wasm_core.specs.ShortestBytes.{put_all, put_instr, put_u32}
 use Rattle.anf_convert.specs.declared.program.Atom.{Atom}
 use Rattle.anf_convert.specs.AnfForm.{AtomFits, AtomsFit}
 use Rattle.closure_lift.specs.Lifted.{Op, OConst, OApp, OCon, OClos, OCase, Block, RetAtom, LetAtom, Ret, Let, BranchBlocks, BNil, BCons, Program, many}
@@ -18,10 +18,10 @@ use Rattle.closure_lift.specs.LiftedForm.{OpFits, LiftedBlockFits, BranchesFit, 
 use Rattle.wasm_emit.specs.EmittedCode.{Load, StoreWord, ConstWord, IfWord, IfOnly, CallClosure, ensure_room, constant_index}
 use Rattle.wasm_emit.specs.EmittedLocals.{top, top_op, top_branches}
 use Rattle.wasm_emit.specs.EmitLaws.{CountsFit}
-use Rattle.wasm_emit.proofs.Lengths.{bytes_of, size, u_1, u_2, z_unreachable, z_if, z_else, z_end, z_op, z_call, z_indirect, z_get, z_set, z_tee, z_heap, z_size, z_room, z_small, z_header, z_global, z_load, z_store, z_const}
+use Rattle.wasm_emit.proofs.Lengths.{bytes_of, size, u_1, u_2, u_3, z_unreachable, z_if, z_else, z_end, z_op, z_call, z_indirect, z_get, z_set, z_tee, z_heap, z_size, z_room, z_small, z_header, z_global, z_load, z_store, z_const}
 use Rattle.wasm_emit.proofs.Spelled.{Good, fits}
-use Rattle.known_calls.specs.KnownPlaces.{Word, InLocal, InField, IsConst, Place, At, word_of, known_function, is_read, block_reads}
-use Rattle.known_calls.specs.KnownCode.{Position, Inside, InTail, deeper, worker_index, jumps, most_blocks, read_word, read, atom, push_words, fill, new_block, block, into_local, into_params, call_worker, application, some_heads, some_branches, empty_test, head_test, arm, choose, unmade, known, moves, move_field, branch_places, op, code, empties, heads, branch}
+use Rattle.known_calls.specs.KnownPlaces.{Word, InLocal, InField, IsConst, Place, At, word_of, known_function, is_read, block_reads, fields_of}
+use Rattle.known_calls.specs.KnownCode.{Position, Inside, InTail, deeper, worker_index, jumps, most_blocks, read_word, read, atom, push_words, fill, new_block, block, into_local, into_params, call_worker, application, some_heads, some_branches, empty_test, head_test, arm, choose, unmade, known, moves, move_field, branch_places, op, code, empties, heads, branch, Final, call_of, closure_call}
 use Rattle.known_calls.specs.KnownModule.{captured_words}
 use Rattle.known_calls.specs.KnownWeight.{op_weight, weight, branches_weight}
 use Rattle.known_calls.proofs.Unreading.{and_true, unmade_some}
@@ -46,7 +46,7 @@ pub ◌then◌ : {j k : ℕ} {f g : List Instr → List Instr} → Bounded j f �
 pub b_most : {k : ℕ} {g : List Instr → List Instr} (k' : ℕ) → k ≤ k' → Bounded k g → Bounded k' g
 b_most k' le x = record { bytes = λ r. omega (arith, le, x.bytes r); spelled = λ h. x.spelled h }
 
--- the two instructions that only workers have
+-- the instructions that only entries, workers and constants have
 z_loop : (rest : List Instr) (t : BlockType) → size (Loop t ∷ rest) ≤ 2 + size rest
 unfolding put_all put_instr
 z_loop rest t = omega arith
@@ -54,6 +54,14 @@ z_loop rest t = omega arith
 z_br : (rest : List Instr) (n : ℕ) → n < 16384 → size (Br n ∷ rest) ≤ 3 + size rest
 unfolding put_all put_instr
 z_br rest n h = omega (arith, u_2 3 n (bytes_of rest) h)
+
+z_return_call : (rest : List Instr) (f : ℕ) → f < 2097152 → size (ReturnCall f ∷ rest) ≤ 4 + size rest
+unfolding put_all put_instr
+z_return_call rest f h = omega (arith, u_3 2 f (bytes_of rest) h)
+
+z_return_indirect : (rest : List Instr) → size (ReturnCallIndirect 2 0 ∷ rest) ≤ 3 + size rest
+unfolding put_all put_instr
+z_return_indirect rest = omega (arith, u_1 4 2 (put_u32 0 (bytes_of rest)) (omega arith), u_1 4 0 (bytes_of rest) (omega arith))
 
 -- and one that a main with arguments has
 z_get_global : (rest : List Instr) (x : ℕ) → x < 128 → size (GlobalGet x ∷ rest) ≤ 2 + size rest
@@ -81,8 +89,21 @@ b_load o h = b_one (Load o) (λ r. z_load r o h) (omega arith, omega arith)
 b_const : (n : ℕ) → n < 4294967296 → Bounded 6 (λ r. ConstWord n ∷ r)
 b_const n h = b_one (ConstWord n) (λ r. z_const r n) (omega arith)
 
-pub b_call : (f : ℕ) → f < 2097152 → Bounded 4 (λ r. Call f ∷ r)
+b_call : (f : ℕ) → f < 2097152 → Bounded 4 (λ r. Call f ∷ r)
 b_call f h = b_one (Call f) (λ r. z_call r f h) (omega arith)
+
+pub b_return_call : (f : ℕ) → f < 2097152 → Bounded 4 (λ r. ReturnCall f ∷ r)
+b_return_call f h = b_one (ReturnCall f) (λ r. z_return_call r f h) (omega arith)
+
+b_call_of : (at : Position) (f : ℕ) → f < 2097152 → Bounded 4 (λ r. call_of at f ∷ r)
+b_call_of Inside f h = b_call f h
+b_call_of Final f h = b_return_call f h
+b_call_of (InTail g depth) f h = b_return_call f h
+
+b_closure_call : (at : Position) → Bounded 3 (λ r. closure_call at ∷ r)
+b_closure_call Inside = b_one CallClosure (λ r. z_indirect r) (omega arith, omega arith)
+b_closure_call Final = b_one (ReturnCallIndirect 2 0) (λ r. z_return_indirect r) (omega arith, omega arith)
+b_closure_call (InTail g depth) = b_one (ReturnCallIndirect 2 0) (λ r. z_return_indirect r) (omega arith, omega arith)
 
 pub b_end : Bounded 1 (λ r. End ∷ r)
 b_end = b_one End (λ r. z_end r) tt
@@ -169,19 +190,20 @@ module _ (P : Program) (m : ℕ) (form : Formed P m) (counts : CountsFit P m) (l
   b_bind n d ps (OApp f a) hd h fit y = b_most _ (omega arith) (y then b_set d hd)
   b_bind n d ps (OCase a bs) hd h fit y = b_most _ (omega arith) (y then b_set d hd)
 
-  b_jump : (b : Bool) (g h n depth : ℕ) → jumps g h depth ≡ b → n ≤ 7 → worker_index P g < 2097152 → Bounded 38 (λ r. if b then into_params n (Br depth ∷ r) else (Call (worker_index P g) ∷ r))
+  b_jump : (b : Bool) (g h n depth : ℕ) → jumps g h depth ≡ b → n ≤ 7 → worker_index P g < 2097152 → Bounded 38 (λ r. if b then into_params n (Br depth ∷ r) else (ReturnCall (worker_index P g) ∷ r))
   b_jump true g h n depth e few low =
       let shallow = leb-true depth most_blocks (and_true (nat_eq g h) (nat_le depth most_blocks) e).1 in
       b_most 38 (omega (arith, few)) (b_params n (omega arith) then b_one {k = 3} (Br depth) (λ r. z_br r depth (omega (arith, shallow))) (omega (arith, shallow)))
-  b_jump false g h n depth e few low = b_most 38 (omega arith) (b_call (worker_index P g) low)
+  b_jump false g h n depth e few low = b_most 38 (omega arith) (b_return_call (worker_index P g) low)
 
   b_worker : (at : Position) (g n : ℕ) → n ≤ 7 → worker_index P g < 2097152 → Bounded 38 (call_worker P at g n)
   b_worker Inside g n few low = b_most 38 (omega arith) (b_call (worker_index P g) low)
+  b_worker Final g n few low = b_most 38 (omega arith) (b_return_call (worker_index P g) low)
   b_worker (InTail h depth) g n few low = b_jump (jumps g h depth) g h n depth refl few low
 
   b_application : (n : ℕ) (ps : List Place) (at : Position) (f a : Atom) (o : Option (ℕ × List Word)) → known_function ps f ≡ o → AtomFits n f → AtomFits n a → Near ps → Bounded 102 (application P ps at f a o)
   b_application n ps at f a None e ff fa h =
-      b_most 102 (omega arith) (b_atom n ps f ff h then (b_atom n ps a fa h then (b_atom n ps f ff h then (b_load 0 (omega arith) then b_one {k = 3} CallClosure (λ r. z_indirect r) (omega arith, omega arith)))))
+      b_most 102 (omega arith) (b_atom n ps f ff h then (b_atom n ps a fa h then (b_atom n ps f ff h then (b_load 0 (omega arith) then b_closure_call at))))
   b_application n ps at f a (Some j) e ff fa h =
       let fit = function_fits P 16384 m form 100000 ps f h e in
       let takes = fit.0 in
@@ -210,7 +232,7 @@ module _ (P : Program) (m : ℕ) (form : Formed P m) (counts : CountsFit P m) (l
 
   mutual
     pub b_op : (n d : ℕ) (ps : List Place) (at : Position) (x : Op) → top_op d x < 100000 → Near ps → OpFits P.functions (length P.constants) m n x → Bounded (op_weight x) (op P ps d at x)
-    b_op n d ps at (OConst x) le h fit = b_call (constant_index P x) (omega (arith, limits.few, counts.constants, fit))
+    b_op n d ps at (OConst x) le h fit = b_call_of at (constant_index P x) (omega (arith, limits.few, counts.constants, fit))
     b_op n d ps at (OApp f a) le h fit = b_application n ps at f a (known_function ps f) refl fit.0 fit.1 h
     b_op n d ps at (OCon c as') le h fit = let small = fit.0 in let few = fit.2 in b_block n d _ ps as' (omega arith) (omega (arith, small, few)) (omega (arith, few)) fit.3 h
     b_op n d ps at (OClos g as') le h fit =

@@ -53,10 +53,10 @@ starts P pages =
 
 -- the tree of all runs
 whole : (P : Program) (pages w m D : ℕ) (v : Val) (d : DataTree) (c k b s : ℕ) → 0 < pages → pages ≤ 16384 → 0 < m → Gets P w m false D VNil P.main v c k b s → IsData v d →
-    Within (module_of P pages) (record { frames = 2 * D + 1; bytes = 8 + 4 * s; first = 1; more = [] }) (FinishedWithin (module_of P pages) (preorder d) (8 + 4 * s)) k (64 * (b + c + 1) * (w + m)) (first_of P pages)
+    Within (module_of P pages) (record { frames = D + 1; bytes = 8 + 4 * s; first = 1; more = [] }) (FinishedWithin (module_of P pages) (preorder d) (8 + 4 * s)) k (64 * (b + c + 1) * (w + m)) (first_of P pages)
 whole P pages w m D v d c k b s pos small some g is =
     let M = module_of P pages in
-    let cap : Limits = record { frames = 2 * D + 1; bytes = 8 + 4 * s; first = 1; more = [] } in
+    let cap : Limits = record { frames = D + 1; bytes = 8 + 4 * s; first = 1; more = [] } in
     let Q = FinishedWithin M (preorder d) (8 + 4 * s) in
     let y = (follows P (main_function P) [] [] pages small w m some cap Q g).sim Inside (zeroed 1) 1 8 (zeros (top 0 P.main)) 0 [] (record {
       long = zeroed_length 1;
@@ -93,7 +93,7 @@ known_answers P pages w m v d c k b s pos small some form limits run is =
     record {
       first = first_of P pages;
       starts = starts P pages;
-      depth = 2 * y.D;
-      run = λ n t r. tree_tells M (2 * y.D + 1) k (64 * (b + c + 1) * (w + m)) (FinishedWithin M (preorder d) (8 + 4 * s)) (Spent M (8 + 4 * s)) (first_of P pages) (at_end M (8 + 4 * s) (preorder d) (has_answered M (8 + 4 * s) (preorder d))) tree n t r;
-      always = tree_answers M (2 * y.D + 1) k (64 * (b + c + 1) * (w + m)) (preorder d) (first_of P pages) (starts P pages) (forget (has_answered M (8 + 4 * s) (preorder d)) (is_exhausted M (8 + 4 * s)) tree);
+      depth = y.D;
+      run = λ n t r. tree_tells M (y.D + 1) k (64 * (b + c + 1) * (w + m)) (FinishedWithin M (preorder d) (8 + 4 * s)) (Spent M (8 + 4 * s)) (first_of P pages) (at_end M (8 + 4 * s) (preorder d) (has_answered M (8 + 4 * s) (preorder d))) tree n t r;
+      always = tree_answers M (y.D + 1) k (64 * (b + c + 1) * (w + m)) (preorder d) (first_of P pages) (starts P pages) (forget (has_answered M (8 + 4 * s) (preorder d)) (is_exhausted M (8 + 4 * s)) tree);
     }

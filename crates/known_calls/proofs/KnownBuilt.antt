@@ -12,7 +12,7 @@ use Rattle.wasm_core.specs.declared.types.ValType.TheVariants as type
 use Rattle.wasm_core.specs.declared.instrs.BlockType.TheVariants.{Value}
 use Rattle.wasm_core.specs.declared.instrs.Body.{Body}
 use Rattle.wasm_core.specs.declared.instrs.Instr.{Instr}
-use Rattle.wasm_core.specs.declared.instrs.Instr.TheVariants.{Unreachable, Loop, End, Call, LocalGet, GlobalSet}
+use Rattle.wasm_core.specs.declared.instrs.Instr.TheVariants.{Unreachable, Loop, End, ReturnCall, LocalGet, GlobalSet}
 use Rattle.wasm_emit.specs.EmittedLocals.{top}
 use Rattle.wasm_emit.specs.EmittedModule.{room_function, box_function, body}
 use Rattle.wasm_emit.specs.EmittedBodies.{FewInFunction, FewInBlock, FewLocals}
@@ -20,25 +20,25 @@ use Rattle.wasm_emit.specs.Pushed.{Pushed, function_in}
 use Rattle.wasm_emit.proofs.Pushing.{constant_next, next_of, top_renumbered, only_pushed, then_pushed}
 use Rattle.wasm_emit.proofs.Listed.{same_body, functions_in, constants_in, one_more}
 use Rattle.known_calls.specs.KnownPlaces.{Place, At, InLocal, fields_of}
-use Rattle.known_calls.specs.KnownCode.{Inside, InTail, worker_index, code}
+use Rattle.known_calls.specs.KnownCode.{Inside, Final, InTail, worker_index, code}
 use Rattle.known_calls.specs.KnownModule.{params, captured_words, wide_body, stub_code, entry, worker_code, worker, numbered, constant, main_function}
 use Rattle.known_calls.specs.KnownCalls.{applied, call_function}
 use Rattle.known_calls.specs.KnownPushed.{block_code, argument_code, arguments_code}
 use Rattle.known_calls.specs.KnownEmission.{bodies_before_main, bodies_with}
 
 pub wide_made : (Q : Lifted) (f : Function) (ps0 ps1 ps2 : List Place) (n : ℕ) (o0 o1 o2 : List Instr) → ps0 ≡ [] → reverse ps1 ≡ fields_of 0 f.captured (reverse ps0) → ps2 ≡ ps1 ++ At (InLocal 1) ∷ [] → o0 ≡ [] → n ≡ top 2 f.body →
-    Pushed o0 o1 (block_code Q (reverse ps2) 2 Inside f.body) → Pushed o1 o2 (λ rest. End ∷ rest) → body (n - 2) o2 ≡ wide_body (lifted_of Q) (function_in Q f)
+    Pushed o0 o1 (block_code Q (reverse ps2) 2 Final f.body) → Pushed o1 o2 (λ rest. End ∷ rest) → body (n - 2) o2 ≡ wide_body (lifted_of Q) (function_in Q f)
 wide_made Q f ps0 ps1 ps2 n o0 o1 o2 absent fields more none e x y =
     let f' = place_in Q.constants in
     let env : reverse ps2 ≡ At (InLocal 1) ∷ fields_of 0 f.captured [] =
     ap reverse more ∙ reverse-append ps1 (At (InLocal 1) ∷ []) ∙ ap (λ (zs : List Place). At (InLocal 1) ∷ zs) (fields ∙ ap (λ (zs : List Place). fields_of 0 f.captured (reverse zs)) absent) in
     let count : n - 2 ≡ top 2 (renumber f' f.body) - 2 = ap (λ (k : ℕ). k - 2) (e ∙ sym (top_renumbered f' 2 f.body)) in
-    same_body (n - 2) (top 2 (renumber f' f.body) - 2) o2 _ count (only_pushed o0 o2 none (then_pushed o0 o1 o2 x y) ∙ ap (λ (zs : List Place). code (lifted_of Q) zs 2 Inside (renumber f' f.body) (End ∷ [])) env)
+    same_body (n - 2) (top 2 (renumber f' f.body) - 2) o2 _ count (only_pushed o0 o2 none (then_pushed o0 o1 o2 x y) ∙ ap (λ (zs : List Place). code (lifted_of Q) zs 2 Final (renumber f' f.body) (End ∷ [])) env)
 
-pub stub_made : (P : Program) (g captured index : ℕ) (o0 o1 o2 o3 o4 : List Instr) → o0 ≡ [] → index ≡ worker_index P g → Pushed o0 o1 (captured_words captured) → Pushed o1 o2 (λ rest. LocalGet 1 ∷ rest) → Pushed o2 o3 (λ rest. Call index ∷ rest) →
+pub stub_made : (P : Program) (g captured index : ℕ) (o0 o1 o2 o3 o4 : List Instr) → o0 ≡ [] → index ≡ worker_index P g → Pushed o0 o1 (captured_words captured) → Pushed o1 o2 (λ rest. LocalGet 1 ∷ rest) → Pushed o2 o3 (λ rest. ReturnCall index ∷ rest) →
     Pushed o3 o4 (λ rest. End ∷ rest) → body 0 o4 ≡ body 0 (stub_code P g captured)
 stub_made P g captured index o0 o1 o2 o3 o4 none e x y z w =
-    same_body 0 0 o4 _ refl (only_pushed o0 o4 none (then_pushed o0 o1 o4 x (then_pushed o1 o2 o4 y (then_pushed o2 o3 o4 z w))) ∙ ap (λ (i : ℕ). captured_words captured (LocalGet 1 ∷ Call i ∷ End ∷ [])) e)
+    same_body 0 0 o4 _ refl (only_pushed o0 o4 none (then_pushed o0 o1 o4 x (then_pushed o1 o2 o4 y (then_pushed o2 o3 o4 z w))) ∙ ap (λ (i : ℕ). captured_words captured (LocalGet 1 ∷ ReturnCall i ∷ End ∷ [])) e)
 
 pub worker_made : (Q : Lifted) (g : ℕ) (f : Function) (n : ℕ) (ps0 ps1 : List Place) (o0 o1 o2 o3 o4 : List Instr) → n ≡ f.captured + 1 → ps0 ≡ [] → reverse ps1 ≡ params n ++ reverse ps0 → o0 ≡ [] → Pushed o0 o1 (λ rest. Loop (Value type.I32) ∷ rest) →
     Pushed o1 o2 (block_code Q (reverse ps1) n (InTail g 0) f.body) → Pushed o2 o3 (λ rest. End ∷ rest) → Pushed o3 o4 (λ rest. End ∷ rest) → o4 ≡ Loop (Value type.I32) ∷ worker_code (lifted_of Q) g (function_in Q f)
@@ -63,7 +63,7 @@ worker_done Q g f n is count narrow e =
     same_body (n - 2) (top 2 t - 2) is _ k e
     ∙ sym (ap (λ (b : Bool). if b then body 0 (Unreachable ∷ End ∷ []) else body (top 2 t - 2) (Loop (Value type.I32) ∷ worker_code (lifted_of Q) g (function_in Q f))) narrow)
 
-pub constant_made : (Q : Lifted) (t : Block) (n : ℕ) (o1 o2 : List Instr) → n ≡ top 0 t → Pushed [] o1 (block_code Q [] 0 Inside t) → Pushed o1 o2 (λ rest. End ∷ rest) → body n o2 ≡ constant (lifted_of Q) (renumber (place_in Q.constants) t)
+pub constant_made : (Q : Lifted) (t : Block) (n : ℕ) (o1 o2 : List Instr) → n ≡ top 0 t → Pushed [] o1 (block_code Q [] 0 Final t) → Pushed o1 o2 (λ rest. End ∷ rest) → body n o2 ≡ constant (lifted_of Q) (renumber (place_in Q.constants) t)
 constant_made Q t n o1 o2 e x y = same_body n (top 0 (renumber (place_in Q.constants) t)) o2 _ (e ∙ sym (top_renumbered (place_in Q.constants) 0 t)) (only_pushed [] o2 refl (then_pushed [] o1 o2 x y))
 
 pub main_made : (Q : Lifted) (n : ℕ) (o1 o2 o3 : List Instr) → n ≡ top 0 Q.main → Pushed [] o1 (block_code Q [] 0 Inside Q.main) → Pushed o1 o2 (λ rest. GlobalSet 0 ∷ rest) → Pushed o2 o3 (λ rest. End ∷ rest) → body n o3 ≡ main_function (lifted_of Q)

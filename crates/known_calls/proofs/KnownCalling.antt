@@ -45,11 +45,11 @@ ends m first heap bytes frames least n d t (ran_out e) last = inr (is_exhausted 
 -- the tree of all runs
 whole : (P : Program) (pages w m D : ℕ) (args : Vals) (ds : DataTrees) (v : Val) (d : DataTree) (c k b s : ℕ) (memory : Mem) (pages_now heap address : ℕ) → 0 < pages → pages ≤ 16384 → 0 < m → Applies P w m D args v c k b s → AreData args ds → IsData v d →
     IsHosted pages memory pages_now heap address ds →
-    Within (module_of_call P (count ds) pages) (record { frames = 2 * D + 1; bytes = heap + 4 * s; first = pages_now; more = I32 address ∷ [] }) (CallFinished (module_of_call P (count ds) pages) (preorder d) pages_now heap (heap + 4 * s)) k (64 * (b + c + 1) * (w + m))
+    Within (module_of_call P (count ds) pages) (record { frames = D + 1; bytes = heap + 4 * s; first = pages_now; more = I32 address ∷ [] }) (CallFinished (module_of_call P (count ds) pages) (preorder d) pages_now heap (heap + 4 * s)) k (64 * (b + c + 1) * (w + m))
     (call_start (record { type = type_main; body = call_function P (count ds) }) (hosted memory pages_now heap address))
 whole P pages w m D args ds v d c k b s memory pages_now heap address pos small some g are is host =
     let M = module_of_call P (count ds) pages in
-    let cap : Limits = record { frames = 2 * D + 1; bytes = heap + 4 * s; first = pages_now; more = I32 address ∷ [] } in
+    let cap : Limits = record { frames = D + 1; bytes = heap + 4 * s; first = pages_now; more = I32 address ∷ [] } in
     let Q = CallFinished M (preorder d) pages_now heap (heap + 4 * s) in
     let n = max 2 (top 0 P.main) in
     let y = applies P (call_function P (count ds)) call_globals call_exports pages small w m some cap Q {a = address} refl g memory pages_now heap (zeros n)
@@ -70,14 +70,14 @@ calls_answer P pages w m args ds v d c k b s memory pages_now heap address pos s
     let first = call_start (record { type = type_main; body = call_function P (count ds) }) (hosted memory pages_now heap address) in
     let Q = CallFinished M (preorder d) pages_now heap (heap + 4 * s) in
     let most : ℕ = 64 * (b + c + 1) * (w + m) in
-    let run : (n : ℕ) (t : State) → Reach M n first t → (n ≤ most) × Fate M (2 * y.D + 1) Q (Spent M (heap + 4 * s)) k n t =
-        tree_tells M (2 * y.D + 1) k most Q (Spent M (heap + 4 * s)) first (at_end M (heap + 4 * s) (preorder d) (call_answered M pages_now heap (heap + 4 * s) (preorder d))) tree in
+    let run : (n : ℕ) (t : State) → Reach M n first t → (n ≤ most) × Fate M (y.D + 1) Q (Spent M (heap + 4 * s)) k n t =
+    tree_tells M (y.D + 1) k most Q (Spent M (heap + 4 * s)) first (at_end M (heap + 4 * s) (preorder d) (call_answered M pages_now heap (heap + 4 * s) (preorder d))) tree in
     record {
       index = main_index P;
       main = record { type = type_main; body = call_function P (count ds) };
       exported = ap (λ (o : Option ℕ). option_and_then (λ index. option_and_then (λ t. from_nothing t.params t.result (main_index P)) (slice_get M.types index)) o) (main_in P (λ g f. 2) (λ t. 1) 0 (λ g f. worker_type f));
       is = main_at P (call_function P (count ds)) call_globals call_exports pages;
-      depth = 2 * y.D;
+      depth = y.D;
       run = run;
-      answers = λ n t r last. ends M pages_now heap (heap + 4 * s) (2 * y.D + 1) k n (preorder d) t (run n t r).1 last;
+      answers = λ n t r last. ends M pages_now heap (heap + 4 * s) (y.D + 1) k n (preorder d) t (run n t r).1 last;
     }

@@ -47,9 +47,9 @@ module _ (P : Program) (M : Parts) (cap : Limits) (Q : State → Type 0) where
       (m' : Mem) (p' h' : ℕ) (ls' : List ConstValue) (w : ℕ) → h ≤ h' → h' ≤ h + 4 * s → Room M cap m' p' h' → Same h m m' → Keeps d ls ls' → Stands m' h' w v → Within M cap Q l u (here cap f m' p' h' ls' (I32 w ∷ vals) rest)
 
   -- From this memory and these locals the instructions put a word of the value on the operands, with at least k and at most n steps, at most s words of new blocks, and the locals below d as they were; or, in
-  -- the tail of a worker, the function returns a word of the value. Calls within calls are at most D, and each may wait in two frames.
+  -- the tail of a function, the function returns a word of the value. Calls that aren't in tail position are at most D in one another.
   pub record Yields (at : Position) (m : Mem) (p h : ℕ) (ls : List ConstValue) (d : ℕ) (v : Val) (tail : Bool) (D k s n : ℕ) (g : List Instr → List Instr) : Type 0 where
-    pub run : (f : Around) (vals : List ConstValue) (rest : List Instr) (l u bound : ℕ) → Stood P at tail d (length ls) f.keeps f.labels → length f.callers + 2 * D + 1 ≤ cap.frames → n + u ≤ bound →
+    pub run : (f : Around) (vals : List ConstValue) (rest : List Instr) (l u bound : ℕ) → Stood P at tail d (length ls) f.keeps f.labels → length f.callers + D + 1 ≤ cap.frames → n + u ≤ bound →
         Go m h ls d v s f vals rest l u → (tail ≡ true → Out m h v s f l u) → Within M cap Q (k + l) bound (here cap f m p h ls vals (g rest))
 
   keeps_less : {d d' : ℕ} {a b : List ConstValue} → d ≤ d' → Keeps d' a b → Keeps d a b
@@ -58,7 +58,7 @@ module _ (P : Program) (M : Parts) (cap : Limits) (Q : State → Type 0) where
   pub fewer_kept : {at : Position} {m : Mem} {p h : ℕ} {ls : List ConstValue} {d : ℕ} {v : Val} {tail : Bool} {D k s n : ℕ} {g : List Instr → List Instr} → Yields at m p h ls (suc d) v tail D k s n g → Yields at m p h ls d v tail D k s n g
   fewer_kept {ls = ls} {d = d} y = record { run = λ f vals rest l u bound stood deep fits go out. y.run f vals rest l u bound (stood_up P (suc d) (length ls) (omega arith) (omega arith) stood) deep fits (λ m' p' h' ls' w x y b c k e. go m' p' h' ls' w x y b c (keeps_less (omega arith) k) e) out }
 
-  module _ (at : Position) (m : Mem) (p h : ℕ) (ls : List ConstValue) (d : ℕ) (v : Val) (tail : Bool) (D k s n : ℕ) (g1 g2 : List Instr → List Instr) (f : Around) (vals : List ConstValue) (rest : List Instr) (l u : ℕ) (stood : Stood P at tail d (length ls) f.keeps f.labels) (deep : length f.callers + 2 * D + 1 ≤ cap.frames) where
+  module _ (at : Position) (m : Mem) (p h : ℕ) (ls : List ConstValue) (d : ℕ) (v : Val) (tail : Bool) (D k s n : ℕ) (g1 g2 : List Instr → List Instr) (f : Around) (vals : List ConstValue) (rest : List Instr) (l u : ℕ) (stood : Stood P at tail d (length ls) f.keeps f.labels) (deep : length f.callers + D + 1 ≤ cap.frames) where
     abbrev label : BlockLabel
     label = record { keeps = true; goes_on = after_end 0 (g1 (Else ∷ g2 (End ∷ rest))); below = vals }
 

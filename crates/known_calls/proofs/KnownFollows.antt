@@ -12,28 +12,29 @@ use Rattle.wasm_core.specs.declared.exports.Export.{Export}
 use Rattle.wasm_core.specs.declared.instrs.BlockType.TheVariants.{Value}
 use Rattle.wasm_core.specs.declared.instrs.Body.{Body}
 use Rattle.wasm_core.specs.declared.instrs.Instr.{Instr}
-use Rattle.wasm_core.specs.declared.instrs.Instr.TheVariants.{CallIndirect, Call, Br, End, LocalGet, LocalSet}
+use Rattle.wasm_core.specs.declared.instrs.Instr.TheVariants.{Loop, ReturnCall, Br, End, LocalGet, LocalSet}
 use Rattle.wasm_core.specs.Parts.{Parts}
 use Rattle.wasm_core.specs.Memory.{word}
-use Rattle.wasm_core.specs.MachineStep.{State}
+use Rattle.wasm_core.specs.MachineStep.{Frame, State}
 use Rattle.wasm_core.proofs.Rules.{Around}
 use Rattle.wasm_core.proofs.Rules as rule
 use Rattle.anf_convert.specs.declared.program.Atom.{Atom}
 use Rattle.closure_lift.specs.Lifted.{Op, OConst, OApp, OCon, OClos, OCase, Block, RetAtom, LetAtom, Ret, Let, BranchBlocks, Program, Fn, Val, VBox, VCon, VClos, Vals, VNil, VCons, size, ◌+v◌, many, BranchAt}
 use Rattle.wasm_emit.specs.EmitLaws.{Spent}
+use Rattle.wasm_emit.specs.EmittedCode.{constant_index}
 use Rattle.wasm_emit.specs.EmittedLocals.{top, top_op}
-use Rattle.wasm_emit.proofs.Source.{Applies, applies_alone, applies_more, Is, AllAre, Does, do_const, do_app, do_box_app, do_con, do_clos, do_case, Gets, gets_atom, gets_let_atom, gets_ret, gets_let, all_size}
+use Rattle.wasm_emit.proofs.Source.{with_call, Applies, applies_alone, applies_more, Is, AllAre, Does, do_const, do_app, do_box_app, do_con, do_clos, do_case, Gets, gets_atom, gets_let_atom, gets_ret, gets_let, all_size}
 use Rattle.wasm_emit.proofs.Bytes.{Mem, at_zero}
 use Rattle.wasm_emit.proofs.Values.{ArgsAt, args_more, Stands, s_box, s_empty, s_con, s_clos, Fields, no_field, field, append_nil, closure, box_word, top_arg}
 use Rattle.wasm_emit.proofs.Holds.{args_on, Same, Keeps, keeps_trans, keeps_same, keeps_set, set_this, stands_on}
-use Rattle.wasm_emit.proofs.Rules.{Limits, Within, here, callee, in_block, zeros, looser, r_const, r_get, r_set, r_load, r_end, r_back, r_return, r_call_0, r_indirect, zeros_length}
+use Rattle.wasm_emit.proofs.Rules.{Limits, Within, here, in_block, zeros, looser, r_const, r_get, r_set, r_load, r_end, r_return, zeros_length}
 use Rattle.wasm_emit.proofs.Alloc.{Room, HasRunTime, low_word}
 use Rattle.wasm_emit.proofs.Pushing.{branch_top}
 use Rattle.known_calls.specs.KnownPlaces.{Word, InLocal, InField, Place, At, Known, Never, fields_of, known_function, is_read, names, branches_read, block_reads}
-use Rattle.known_calls.specs.KnownCode.{Position, Inside, InTail, is_wide, into_params, worker_index, most_blocks, jumps, application, call_worker, into_local, some_heads, choose, unmade, known, moves, move_field, branch_places, op, code, empties, heads}
-use Rattle.known_calls.specs.KnownModule.{params, captured_words, module_with}
+use Rattle.known_calls.specs.KnownCode.{Position, Inside, InTail, is_wide, into_params, worker_index, most_blocks, jumps, application, call_worker, into_local, some_heads, choose, unmade, known, moves, move_field, branch_places, op, code, empties, heads, Final, call_of, closure_call}
+use Rattle.known_calls.specs.KnownModule.{params, captured_words, module_with, stub_code, worker_code}
 use Rattle.known_calls.specs.KnownCalls.{applied}
-use Rattle.known_calls.proofs.KnownHolds.{in_local, in_field, Words, words_length, Env, env_nil, env_at, env_known, env_on, Unread, OpUnread, Stood, stood_inside, stood_in_tail, stood_up, loop_of}
+use Rattle.known_calls.proofs.KnownHolds.{in_local, in_field, Words, words_length, Env, env_nil, env_at, env_known, env_on, Unread, OpUnread, Stood, stood_inside, stood_in_tail, stood_up, loop_of, stood_final}
 use Rattle.known_calls.proofs.Unreading.{neither, and_true, unmade_some, not_read, unread_known, unread_at, unread_moved, unread_let_atom, unread_op, unread_branch}
 use Rattle.known_calls.proofs.Finding.{There, there, there_unknown, same_some}
 use Rattle.known_calls.proofs.Knowing.{known_is, calls, same_function, same_captured, no_box}
@@ -42,7 +43,8 @@ use Rattle.known_calls.proofs.KnownCases.{Yields, Out, Go, fewer_kept, head_some
 use Rattle.known_calls.proofs.KnownIndices.{not_wide, narrow_few, constant_at, wide_at, stub_at, worker_at, table_entry}
 use Rattle.known_calls.proofs.SameLocals.{worker_top, top_less}
 use Rattle.known_calls.proofs.Jumping.{r_br_out}
-use Rattle.known_calls.proofs.Working.{params_env, params_made, set_all, set_all_length, set_params_env, in_loop, same_around, r_call_words, r_params, loaded}
+use Rattle.known_calls.proofs.Working.{params_env, params_made, set_all, set_all_length, set_params_env, in_loop, same_around, r_params, loaded}
+use Rattle.known_calls.proofs.TailCalling.{entering, waiting, call_0, call_words, call_closure, one_waits, has_room, goes_back}
 use Rattle.known_calls.proofs.Shapes.{shaped_heads}
 
 -- the fields of a block are places
@@ -94,49 +96,53 @@ module _ (P : Program) (main : Body) (gs : List GlobalDef) (es : List Export) (p
     };
   }
 
-  sim_const : {tail : Bool} {D : ℕ} {x : ℕ} {t : Block} {e : Vals} {v : Val} {c k b s : ℕ} → slice_get P.constants x ≡ Some t → SimCode true D VNil t v c k b s → SimOp tail (suc D) e (OConst x) v (suc c) k b s
-  sim_const {x = x} {t} {c = c} {b = b} is_at body = record {
+  sim_const : {tail : Bool} {D : ℕ} {x : ℕ} {t : Block} {e : Vals} {v : Val} {c k b s : ℕ} → slice_get P.constants x ≡ Some t → SimCode true D VNil t v c k b s → SimOp tail (with_call tail D) e (OConst x) v (suc c) k b s
+  sim_const {D = D} {x = x} {t = t} {v = v} {c = c} {b = b} {s = s} is_at body = record {
     sim = λ at m p h ls d ps n is room nil env un has needed. record {
       run = λ f vals rest l u bound stood deep fits go out.
-          looser M cap Q (r_call_0 M cap Q (top 0 t) (omega arith) (constant_at P main gs es pages x t is_at)
-          ((body.sim Inside m p h (zeros (top 0 t)) 0 [] room nil env_nil (λ i g ws z. cc) (omega (arith, zeros_length (top 0 t))) needed).run (callee f ls vals rest) [] (End ∷ []) l (suc u) (cost c b + 2 + suc u) stood_inside (omega arith) (omega arith)
-          (λ m' p' h' ls' w x y room' same keeps st. looser M cap Q (r_back M cap Q (omega arith) (go m' p' h' ls w x y room' same (keeps_same d ls) st)) (omega arith) (omega arith))
-          (λ z m' p' h' w x y room' same st. looser M cap Q (go m' p' h' ls w x y room' same (keeps_same d ls) st) (omega arith) (omega arith))))
+          let callers = waiting at f ls vals rest in
+          let back : Out P M cap Q m h v s (entering callers) l u = goes_back P M cap Q m s f stood go out in
+          let low : length callers + D + 1 ≤ cap.frames = has_room D f ls vals rest stood deep in
+          looser M cap Q (call_0 M cap Q at (top 0 t) (constant_index P x) (omega arith) (constant_at P main gs es pages x t is_at)
+          ((body.sim Final m p h (zeros (top 0 t)) 0 [] room nil env_nil (λ i g ws z. cc) (omega (arith, zeros_length (top 0 t))) needed).run (entering callers) [] (End ∷ []) l (suc u) (cost c b + 2 + suc u) stood_final low (omega arith)
+          (λ m' p' h' ls' w x y room' same keeps st. looser M cap Q (r_return M cap Q callers (omega arith) (back m' p' h' w x y room' same st)) (omega arith) (omega arith))
+          (λ z m' p' h' w x y room' same st. looser M cap Q (back m' p' h' w x y room' same st) (omega arith) (omega arith))))
           (omega arith) (omega arith);
     };
   }
 
-  -- how a call goes on well, from a word of the result
-  abbrev Then : Mem → ℕ → List ConstValue → Val → ℕ → Around → List ConstValue → List Instr → ℕ → ℕ → Type 0
-  Then m h ls r s f vals rest l u = (m' : Mem) (p' h' w : ℕ) → h ≤ h' → h' ≤ h + 4 * s → Room M cap m' p' h' → Same h m m' → Stands m' h' w r → Within M cap Q l u (here cap f m' p' h' ls (I32 w ∷ vals) rest)
+  -- A function of the program, from the place where it begins to those that wait for it: they go on with a word of the result.
+  module _ {D : ℕ} (g : ℕ) {fn : Fn} {e' : Vals} {v r : Val} {c k b s : ℕ} (is_at : slice_get P.functions g ≡ Some fn) (sz : size e' ≡ fn.captured) (body : SimCode true D (VCons v e') fn.body r c k b s)
+      {m : Mem} {p h : ℕ} (room : Room M cap m p h) (nil : word m 0 ≡ 0) (needed : h + 4 * s ≤ cap.bytes) where
+    -- the worker's loop, where its parameters are the places of its variables
+    loop_follows : {L : List ConstValue} {callers : List Frame} {l u : ℕ} → Env m h L (suc fn.captured) (params (suc fn.captured)) (VCons v e') → top (suc fn.captured) fn.body ≤ length L → length callers + D + 1 ≤ cap.frames →
+        Out P M cap Q m h r s (entering callers) l u → Within M cap Q (k + l) (cost c b + 5 + u) (here cap (entering callers) m p h L [] (Loop (Value type.I32) ∷ worker_code P g fn))
+    loop_follows {L} {callers} {l} {u} start enough deep out =
+        looser M cap Q (rule.r_loop M cap.frames Q (Spent M cap.bytes) {b = Value type.I32} (omega arith)
+        ((body.sim (InTail g 0) m p h L (suc fn.captured) (params (suc fn.captured)) room nil start (λ i j us z. absurd (params_made (suc fn.captured) i j us z)) enough needed).run
+        (in_block (loop_of P g fn) (entering callers)) [] (End ∷ End ∷ []) l (suc (suc u)) (cost c b + 2 + suc (suc u)) (stood_in_tail [] refl is_at (omega arith) enough) deep (omega arith)
+        (λ m' p' h' ls' w x y room' same keeps st. looser M cap Q (r_end M cap Q {k = loop_of P g fn} (omega arith) (r_return M cap Q callers (omega arith) (out m' p' h' w x y room' same st))) (omega arith) (omega arith))
+        (λ z m' p' h' w x y room' same st. looser M cap Q (out m' p' h' w x y room' same st) (omega arith) (omega arith))))
+        (omega arith) (omega arith)
 
-  module _ {D : ℕ} (g : ℕ) {fn : Fn} {e' : Vals} {v r : Val} {c k b s : ℕ} (is_at : slice_get P.functions g ≡ Some fn) (sz : size e' ≡ fn.captured) (body : SimCode true D (VCons v e') fn.body r c k b s) where
     -- the worker is called with words of its captured values and of its argument
-    call_follows : {ws : List ℕ} {f : Around} {m : Mem} {p h : ℕ} {ls vals : List ConstValue} {rest : List Instr} {l u : ℕ} → is_wide fn ≡ false → fn.captured ≤ 7 → WordsStand m h ws (VCons v e') → Room M cap m p h → word m 0 ≡ 0 → h + 4 * s ≤ cap.bytes →
-        length f.callers + 2 * D + 2 ≤ cap.frames → Then m h ls r s f vals rest l u → Within M cap Q (k + l) (cost c b + 6 + u) (here cap f m p h ls (words ws ++ vals) (Call (worker_index P g) ∷ rest))
-    call_follows {ws} {f} {m} {p} {h} {ls} {vals} {rest} {l} {u} narrow few all room nil needed deep go =
+    call_follows : {ws : List ℕ} {F : Around} {ls : List ConstValue} {rest : List Instr} {l u : ℕ} (at : Position) (vals : List ConstValue) → fn.captured ≤ 7 → WordsStand m h ws (VCons v e') → length F.callers ≤ cap.frames → length (waiting at F ls vals rest) + D + 1 ≤ cap.frames →
+        Out P M cap Q m h r s (entering (waiting at F ls vals rest)) l u → Within M cap Q (k + l) (cost c b + 6 + u) (here cap F m p h ls (words ws ++ vals) (call_of at (worker_index P g) ∷ rest))
+    call_follows {ws} {F} {ls} {rest} {l} {u} at vals few all low deep out =
         let n = top 2 fn.body - 2 in
         let L = reverse (words ws) ++ zeros n in
         let count : length (words ws) ≡ suc fn.captured = stand_size all ∙ ap suc sz in
         let long : length L ≡ suc fn.captured + n = omega (arith, length-append (reverse (words ws)) (zeros n), length-reverse (words ws), count, zeros_length n) in
         let start : Env m h L (suc fn.captured) (params (suc fn.captured)) (VCons v e') = subst (λ (i : ℕ). Env m h L (suc fn.captured) (params i) (VCons v e')) (ap suc sz) (params_env (zeros n) (omega (arith, sz)) all) in
-        looser M cap Q (r_call_words M cap Q n (words ws) (omega arith) (worker_at P main gs es pages g fn is_at narrow few) count
-        (rule.r_loop M cap.frames Q (Spent M cap.bytes) {b = Value type.I32} (omega arith)
-        ((body.sim (InTail g 0) m p h L (suc fn.captured) (params (suc fn.captured)) room nil start (λ i j us z. absurd (params_made (suc fn.captured) i j us z)) (omega (arith, long, worker_top fn.captured fn.body)) needed).run
-        (in_block (loop_of P g fn) (callee f ls vals rest)) [] (End ∷ End ∷ []) l (suc (suc u)) (cost c b + 2 + suc (suc u)) (stood_in_tail [] refl is_at (omega arith) (omega (arith, long, worker_top fn.captured fn.body))) (omega arith) (omega arith)
-        (λ m' p' h' ls' w x y room' same keeps st. looser M cap Q (r_end M cap Q {k = loop_of P g fn} (omega arith) (r_back M cap Q (omega arith) (go m' p' h' w x y room' same st))) (omega arith) (omega arith))
-        (λ z m' p' h' w x y room' same st. looser M cap Q (go m' p' h' w x y room' same st) (omega arith) (omega arith)))))
-        (omega arith) (omega arith)
+        looser M cap Q (call_words M cap Q at n (worker_index P g) (words ws) vals low (worker_at P main gs es pages g fn is_at (not_wide fn few) few) count (loop_follows start (omega (arith, long, worker_top fn.captured fn.body)) deep out)) (omega arith) (omega arith)
 
     -- the worker's tail begins it again
-    jump_follows : {w0 : ℕ} {ws : List ℕ} {F : Around} {m : Mem} {p h : ℕ} {ls : List ConstValue} (vals : List ConstValue) (rest : List Instr) {l u depth d : ℕ} {tail : Bool} → fn.captured ≤ 7 → WordsStand m h (w0 ∷ ws) (VCons v e') → Room M cap m p h → word m 0 ≡ 0 → h + 4 * s ≤ cap.bytes →
-        length F.callers + 2 * D + 1 ≤ cap.frames → Stood P (InTail g depth) tail d (length ls) F.keeps F.labels → d ≤ length ls → (tail ≡ true → Out P M cap Q m h r s F l u) →
-        Within M cap Q (k + l) (cost c b + 14 + u) (here cap F m p h ls (words (w0 ∷ ws) ++ vals) (into_params fn.captured (Br depth ∷ rest)))
-    jump_follows {w0} {ws} {F} {m} {p} {h} {ls} vals rest {l} {u} {depth} {d} few all room nil needed deep stood has out =
+    jump_follows : {w0 : ℕ} {ws : List ℕ} {F : Around} {ls : List ConstValue} (vals : List ConstValue) (rest : List Instr) {l u depth d : ℕ} {tail : Bool} → fn.captured ≤ 7 → WordsStand m h (w0 ∷ ws) (VCons v e') → length F.callers + D + 1 ≤ cap.frames →
+        Stood P (InTail g depth) tail d (length ls) F.keeps F.labels → d ≤ length ls → (tail ≡ true → Out P M cap Q m h r s F l u) → Within M cap Q (k + l) (cost c b + 14 + u) (here cap F m p h ls (words (w0 ∷ ws) ++ vals) (into_params fn.captured (Br depth ∷ rest)))
+    jump_follows {w0} {ws} {F} {ls} vals rest {l} {u} {depth} {d} few all deep stood has out =
         let i = in_loop P g depth stood in
         let same_fn : i.fn ≡ fn = same_some (sym i.at ∙ is_at) in
         let G : Around = record { keeps = true; labels = i.inner ++ loop_of P g fn ∷ []; callers = F.callers } in
-        let bare : Around = record { keeps = true; labels = []; callers = F.callers } in
         let around : F ≡ G = same_around F true (i.inner ++ loop_of P g fn ∷ []) i.keep (i.is ∙ ap (λ (x : Fn). i.inner ++ loop_of P g x ∷ []) same_fn) in
         let locals : top (suc fn.captured) fn.body ≤ length ls = subst (λ (x : Fn). top (suc x.captured) x.body ≤ length ls) same_fn i.enough in
         let within : suc fn.captured ≤ d = subst (λ (x : Fn). suc x.captured ≤ d) same_fn i.below in
@@ -147,88 +153,91 @@ module _ (P : Program) (main : Body) (gs : List GlobalDef) (es : List Export) (p
         subst (λ (X : Around). Within M cap Q (k + l) (cost c b + 14 + u) (here cap X m p h ls (words (w0 ∷ ws) ++ vals) (into_params fn.captured (Br depth ∷ rest)))) (sym around)
         (subst (λ (x : ℕ). Within M cap Q (k + l) (cost c b + 14 + u) (here cap G m p h ls (words (w0 ∷ ws) ++ vals) (into_params x (Br depth ∷ rest)))) many
         (looser M cap Q (r_params M cap Q (words ws) (I32 w0) {f = G} ls (Br depth ∷ rest) (omega arith) (omega (arith, count))
-        (subst (λ (x : ℕ). Within M cap Q (suc (suc (k + l))) (suc (suc (cost c b + 2 + suc (suc u)))) (here cap G m p h L vals (Br x ∷ rest))) i.count
-        (r_br_out M cap.frames Q (Spent M cap.bytes) bare i.inner [] (omega arith)
-        (rule.r_loop M cap.frames Q (Spent M cap.bytes) {b = Value type.I32} (omega arith)
-        ((body.sim (InTail g 0) m p h L (suc fn.captured) (params (suc fn.captured)) room nil start (λ i j us z. absurd (params_made (suc fn.captured) i j us z)) (omega (arith, set_all_length (words (w0 ∷ ws)) ls)) needed).run
-        (in_block (loop_of P g fn) bare) [] (End ∷ End ∷ []) l (suc (suc u)) (cost c b + 2 + suc (suc u)) (stood_in_tail [] refl is_at (omega arith) (omega (arith, set_all_length (words (w0 ∷ ws)) ls))) (omega arith) (omega arith)
-        (λ m' p' h' ls' w x y room' same keeps st. looser M cap Q (r_end M cap Q {k = loop_of P g fn} (omega arith) (r_return M cap Q F.callers (omega arith) (out i.in_tail m' p' h' w x y room' same st))) (omega arith) (omega arith))
-        (λ z m' p' h' w x y room' same st. looser M cap Q (out i.in_tail m' p' h' w x y room' same st) (omega arith) (omega arith)))))))
+        (subst (λ (x : ℕ). Within M cap Q (suc (k + l)) (suc (cost c b + 5 + u)) (here cap G m p h L vals (Br x ∷ rest))) i.count
+        (r_br_out M cap.frames Q (Spent M cap.bytes) (entering F.callers) i.inner [] (omega arith) (loop_follows start (omega (arith, set_all_length (words (w0 ∷ ws)) ls)) deep (out i.in_tail)))))
         (omega arith) (omega (arith, count))))
 
-    -- a closure's call comes to an entry: to the function's body, or to a stub that calls the worker
-    entered : {f : Around} {m : Mem} {p h w1 wa : ℕ} {ls vals : List ConstValue} {rest : List Instr} {l u : ℕ} (wide : Bool) → is_wide fn ≡ wide → Stands m h w1 (VClos g e') → Stands m h wa v → Room M cap m p h → word m 0 ≡ 0 → h + 4 * s ≤ cap.bytes →
-        length f.callers + 2 * D + 3 ≤ cap.frames → Then m h ls r s f vals rest l u → Within M cap Q (k + l) (cost c b + 23 + u) (here cap f m p h ls (I32 (suc g) ∷ I32 wa ∷ I32 w1 ∷ vals) (CallIndirect 2 0 ∷ rest))
-    entered {f} {m} {p} {h} {w1} {wa} {ls} {vals} {rest} {l} {u} true wide s1 sa room nil needed deep go =
+    -- the body of a function without a worker
+    wide_follows : {w1 wa : ℕ} {callers : List Frame} {l u : ℕ} → Stands m h w1 (VClos g e') → Stands m h wa v → length callers + D + 1 ≤ cap.frames → Out P M cap Q m h r s (entering callers) l u →
+        Within M cap Q (k + l) (cost c b + 3 + u) (here cap (entering callers) m p h (I32 w1 ∷ I32 wa ∷ zeros (top 2 fn.body - 2)) [] (code P (At (InLocal 1) ∷ fields_of 0 fn.captured []) 2 Final fn.body (End ∷ [])))
+    wide_follows {w1} {wa} {callers} {l} {u} s1 sa deep out =
         let c1 = closure s1 in
         let n = top 2 fn.body - 2 in
         let locals : List ConstValue = I32 w1 ∷ I32 wa ∷ zeros n in
         let fields : Env m h locals 2 (fields_of 0 fn.captured []) e' = subst (λ (i : ℕ). Env m h locals 2 (fields_of 0 i []) e') sz (subst (Env m h locals 2 (fields_of 0 (size e') [])) (append_nil e') (fields_env 0 w1 (omega arith) refl c1.within c1.fields env_nil)) in
-        looser M cap Q (r_indirect M cap Q n {y = suc (suc g)} (omega arith) refl (table_entry P main gs es pages (suc g) (omega (arith, slice_get_within P.functions g fn is_at))) (wide_at P main gs es pages g fn is_at wide)
-        ((body.sim Inside m p h locals 2 (At (InLocal 1) ∷ fields_of 0 fn.captured []) room nil (env_at wa (in_local (omega arith) refl) sa fields) (λ i j us z. absurd (not_known i j us z)) (omega (arith, zeros_length n)) needed).run
-        (callee f ls vals rest) [] (End ∷ []) l (suc u) (cost c b + 2 + suc u) stood_inside (omega arith) (omega arith)
-        (λ m' p' h' ls' w x y room' same keeps st. looser M cap Q (r_back M cap Q (omega arith) (go m' p' h' w x y room' same st)) (omega arith) (omega arith))
-        (λ z m' p' h' w x y room' same st. looser M cap Q (go m' p' h' w x y room' same st) (omega arith) (omega arith))))
-        (omega arith) (omega arith)
+        (body.sim Final m p h locals 2 (At (InLocal 1) ∷ fields_of 0 fn.captured []) room nil (env_at wa (in_local (omega arith) refl) sa fields) (λ i j us z. absurd (not_known i j us z)) (omega (arith, zeros_length n)) needed).run
+        (entering callers) [] (End ∷ []) l (suc u) (cost c b + 3 + u) stood_final deep (omega arith)
+        (λ m' p' h' ls' w x y room' same keeps st. looser M cap Q (r_return M cap Q callers (omega arith) (out m' p' h' w x y room' same st)) (omega arith) (omega arith))
+        (λ z m' p' h' w x y room' same st. looser M cap Q (out m' p' h' w x y room' same st) (omega arith) (omega arith))
       where
         not_known : (i j : ℕ) (us : List Word) → slice_get (At (InLocal 1) ∷ fields_of 0 fn.captured []) i ≡ Some (Known j us) → ⊥
         not_known zero j us z = cc
         not_known (suc i) j us z = fields_made 0 fn.captured i j us z
-    entered {f} {m} {p} {h} {w1} {wa} {ls} {vals} {rest} {l} {u} false narrow s1 sa room nil needed deep go =
+
+    -- the stub of one that has a worker
+    stub_follows : {w1 wa : ℕ} {callers : List Frame} {l u : ℕ} → fn.captured ≤ 7 → Stands m h w1 (VClos g e') → Stands m h wa v → length callers + D + 1 ≤ cap.frames → Out P M cap Q m h r s (entering callers) l u →
+        Within M cap Q (k + l) (cost c b + 21 + u) (here cap (entering callers) m p h (I32 w1 ∷ I32 wa ∷ []) [] (stub_code P g fn.captured))
+    stub_follows {w1} {wa} {callers} {l} {u} few s1 sa deep out =
         let c1 = closure s1 in
-        let few : fn.captured ≤ 7 = narrow_few fn narrow in
         let locals : List ConstValue = I32 w1 ∷ I32 wa ∷ [] in
-        let F = callee f ls vals rest in
-        looser M cap Q (r_indirect M cap Q 0 {y = suc (suc g)} (omega arith) refl (table_entry P main gs es pages (suc g) (omega (arith, slice_get_within P.functions g fn is_at))) (stub_at P main gs es pages g fn is_at narrow)
-        (subst (λ (i : ℕ). Within M cap Q (k + l) (2 * fn.captured + suc (cost c b + 6 + suc u)) (here cap F m p h locals [] (captured_words i (LocalGet 1 ∷ Call (worker_index P g) ∷ End ∷ [])))) sz
-        (looser M cap Q (loaded M cap Q {f = F} {l = k + l} {u = suc (cost c b + 6 + suc u)} (omega arith) room.inside refl c1.within c1.fields (λ ws all.
-        looser M cap Q (r_get M cap Q {f = F} {x = 1} {v = I32 wa} (omega arith) refl
-        (call_follows {ws = wa ∷ ws} {f = F} {vals = []} narrow few (stand_more sa all) room nil needed (omega arith)
-        (λ m' p' h' w x y room' same st. r_back M cap Q (omega arith) (go m' p' h' w x y room' same st)))) (omega arith) (omega arith)))
-        (omega arith) (omega (arith, sz)))))
+        let F = entering callers in
+        subst (λ (i : ℕ). Within M cap Q (k + l) (cost c b + 21 + u) (here cap F m p h locals [] (captured_words i (LocalGet 1 ∷ ReturnCall (worker_index P g) ∷ End ∷ [])))) sz
+        (looser M cap Q (loaded M cap Q {f = F} {l = k + l} {u = cost c b + 7 + u} (omega arith) room.inside refl c1.within c1.fields (λ ws all.
+        looser M cap Q (r_get M cap Q {f = F} {x = 1} {v = I32 wa} (omega arith) refl (call_follows {ws = wa ∷ ws} {F = F} {ls = locals} {rest = End ∷ []} Final [] few (stand_more sa all) (omega arith) deep out)) (omega arith) (omega arith)))
+        (omega arith) (omega (arith, sz)))
+
+    -- a closure's call comes to an entry: to the function's body, or to a stub that calls the worker
+    entered : {F : Around} {w1 wa : ℕ} {ls vals : List ConstValue} {rest : List Instr} {l u : ℕ} (at : Position) (wide : Bool) → is_wide fn ≡ wide → Stands m h w1 (VClos g e') → Stands m h wa v → length F.callers ≤ cap.frames →
+        length (waiting at F ls vals rest) + D + 1 ≤ cap.frames → Out P M cap Q m h r s (entering (waiting at F ls vals rest)) l u → Within M cap Q (k + l) (cost c b + 23 + u) (here cap F m p h ls (I32 (suc g) ∷ I32 wa ∷ I32 w1 ∷ vals) (closure_call at ∷ rest))
+    entered at true wide s1 sa low deep out =
+        looser M cap Q (call_closure M cap Q at (top 2 fn.body - 2) {y = suc (suc g)} low refl (table_entry P main gs es pages (suc g) (omega (arith, slice_get_within P.functions g fn is_at))) (wide_at P main gs es pages g fn is_at wide) (wide_follows s1 sa deep out))
+        (omega arith) (omega arith)
+    entered at false narrow s1 sa low deep out =
+        looser M cap Q (call_closure M cap Q at 0 {y = suc (suc g)} low refl (table_entry P main gs es pages (suc g) (omega (arith, slice_get_within P.functions g fn is_at))) (stub_at P main gs es pages g fn is_at narrow) (stub_follows (narrow_few fn narrow) s1 sa deep out))
         (omega arith) (omega arith)
 
     -- a saturated call of a known function
-    known_follows : {F : Around} {m : Mem} {p h : ℕ} {ls vals : List ConstValue} {rest : List Instr} {l u d : ℕ} {tail : Bool} (at : Position) (ps : List Place) (a : Atom) (us : List Word) → fn.captured ≤ 7 → Words m h ls d us e' → There m h ls d ps a v → Room M cap m p h → word m 0 ≡ 0 →
-        h + 4 * s ≤ cap.bytes → length F.callers + 2 * D + 2 ≤ cap.frames → Stood P at tail d (length ls) F.keeps F.labels → d ≤ length ls → Then m h ls r s F vals rest l u → (tail ≡ true → Out P M cap Q m h r s F l u) →
-        Within M cap Q (k + l) (cost c b + 30 + u) (here cap F m p h ls vals (application P ps at a a (Some (g, us)) rest))
-    known_follows {F = F} {m} {p} {h} {ls} {vals} {rest} {l} {u} {d} {tail} at ps a us few held arg room nil needed deep stood has go out =
+    known_follows : {F : Around} {ls vals : List ConstValue} {rest : List Instr} {l u d : ℕ} {tail : Bool} (at : Position) (ps : List Place) (a : Atom) (us : List Word) → fn.captured ≤ 7 → Words m h ls d us e' → There m h ls d ps a v → length F.callers + with_call tail D + 1 ≤ cap.frames →
+        Stood P at tail d (length ls) F.keeps F.labels → d ≤ length ls → Go P M cap Q m h ls d r s F vals rest l u → (tail ≡ true → Out P M cap Q m h r s F l u) → Within M cap Q (k + l) (cost c b + 30 + u) (here cap F m p h ls vals (application P ps at a a (Some (g, us)) rest))
+    known_follows {F = F} {ls} {vals} {rest} {l} {u} {d} {tail} at ps a us few held arg deep stood has go out =
         let many : length us ≡ fn.captured = words_length held ∙ sz in
         looser M cap Q (pushed M fixed cap Q {l = k + l} {u = 2 + (cost c b + 14 + u)} (omega arith) room.inside held (λ ws all. put_atom M fixed cap Q {u = cost c b + 14 + u} (omega arith) room.inside arg (λ wa sa.
         turned at stood wa ws (stand_more sa all) many))) (omega arith) (omega (arith, many))
       where
-        called : (wa : ℕ) (ws : List ℕ) → WordsStand m h (wa ∷ ws) (VCons v e') → Within M cap Q (k + l) (cost c b + 14 + u) (here cap F m p h ls (words (wa ∷ ws) ++ vals) (Call (worker_index P g) ∷ rest))
-        called wa ws all = looser M cap Q (call_follows {ws = wa ∷ ws} (not_wide fn few) few all room nil needed deep go) (omega arith) (omega arith)
+        called : (at' : Position) → Stood P at' tail d (length ls) F.keeps F.labels → (wa : ℕ) (ws : List ℕ) → WordsStand m h (wa ∷ ws) (VCons v e') → Within M cap Q (k + l) (cost c b + 14 + u) (here cap F m p h ls (words (wa ∷ ws) ++ vals) (call_of at' (worker_index P g) ∷ rest))
+        called at' stood' wa ws all = looser M cap Q (call_follows {ws = wa ∷ ws} at' vals few all (omega arith) (has_room D F ls vals rest stood' deep) (goes_back P M cap Q m s F stood' go out)) (omega arith) (omega arith)
 
         either : (same : Bool) (h0 depth : ℕ) → jumps g h0 depth ≡ same → Stood P (InTail h0 depth) tail d (length ls) F.keeps F.labels → (wa : ℕ) (ws : List ℕ) → WordsStand m h (wa ∷ ws) (VCons v e') → length us ≡ fn.captured →
-            Within M cap Q (k + l) (cost c b + 14 + u) (here cap F m p h ls (words (wa ∷ ws) ++ vals) (if same then into_params (length us) (Br depth ∷ rest) else (Call (worker_index P g) ∷ rest)))
-        either false h0 depth e stood' wa ws all many = called wa ws all
+            Within M cap Q (k + l) (cost c b + 14 + u) (here cap F m p h ls (words (wa ∷ ws) ++ vals) (if same then into_params (length us) (Br depth ∷ rest) else (ReturnCall (worker_index P g) ∷ rest)))
+        either false h0 depth e stood' wa ws all many = called (InTail h0 depth) stood' wa ws all
         either true h0 depth e stood' wa ws all many =
             subst (λ (x : ℕ). Within M cap Q (k + l) (cost c b + 14 + u) (here cap F m p h ls (words (wa ∷ ws) ++ vals) (into_params x (Br depth ∷ rest)))) (sym many)
-            (jump_follows vals rest few all room nil needed (omega arith) (subst (λ (x : ℕ). Stood P (InTail x depth) tail d (length ls) F.keeps F.labels) (sym (eqb-true g h0 (and_true (nat_eq g h0) (nat_le depth most_blocks) e).0)) stood') has out)
+            (jump_follows vals rest few all (has_room D F ls vals rest stood' deep) (subst (λ (x : ℕ). Stood P (InTail x depth) tail d (length ls) F.keeps F.labels) (sym (eqb-true g h0 (and_true (nat_eq g h0) (nat_le depth most_blocks) e).0)) stood') has out)
 
         turned : (at' : Position) → Stood P at' tail d (length ls) F.keeps F.labels → (wa : ℕ) (ws : List ℕ) → WordsStand m h (wa ∷ ws) (VCons v e') → length us ≡ fn.captured →
             Within M cap Q (k + l) (cost c b + 14 + u) (here cap F m p h ls (words (wa ∷ ws) ++ vals) (call_worker P at' g (length us) rest))
-        turned Inside stood' wa ws all many = called wa ws all
+        turned Inside stood' wa ws all many = called Inside stood' wa ws all
+        turned Final stood' wa ws all many = called Final stood' wa ws all
         turned (InTail h0 depth) stood' wa ws all many = either (jumps g h0 depth) h0 depth refl stood' wa ws all many
 
-  sim_app : {tail : Bool} {D : ℕ} {e e' : Vals} {f a : Atom} {g : ℕ} {fn : Fn} {v r : Val} {c k b s : ℕ} → Is e f (VClos g e') → Is e a v → slice_get P.functions g ≡ Some fn → size e' ≡ fn.captured → SimCode true D (VCons v e') fn.body r c k b s → SimOp tail (suc D) e (OApp f a) r (suc c) k b s
+  sim_app : {tail : Bool} {D : ℕ} {e e' : Vals} {f a : Atom} {g : ℕ} {fn : Fn} {v r : Val} {c k b s : ℕ} → Is e f (VClos g e') → Is e a v → slice_get P.functions g ≡ Some fn → size e' ≡ fn.captured → SimCode true D (VCons v e') fn.body r c k b s →
+      SimOp tail (with_call tail D) e (OApp f a) r (suc c) k b s
   sim_app {tail} {D} {e} {e'} {f} {a} {g} {fn} {v} {r} {c} {k} {b} {s} isf isa is_at sz body = record {
     sim = λ at m p h ls d ps n is room nil env un has needed. record {
-      run = λ F vals rest l u bound stood deep fits go out. looser M cap Q (by_kind at m p h ls d ps room nil env un has needed F vals rest l u stood (omega arith) go out (known_function ps f) refl) (omega arith) (omega arith);
+      run = λ F vals rest l u bound stood deep fits go out. looser M cap Q (by_kind at m p h ls d ps room nil env un has needed F vals rest l u stood deep go out (known_function ps f) refl) (omega arith) (omega arith);
     };
   }
     where
       by_kind : (at : Position) (m : Mem) (p h : ℕ) (ls : List ConstValue) (d : ℕ) (ps : List Place) → Room M cap m p h → word m 0 ≡ 0 → Env m h ls d ps e → OpUnread ps (OApp f a) → d ≤ length ls → h + 4 * s ≤ cap.bytes → (F : Around) (vals : List ConstValue) (rest : List Instr) (l u : ℕ) →
-          Stood P at tail d (length ls) F.keeps F.labels → length F.callers + 2 * D + 3 ≤ cap.frames → Go P M cap Q m h ls d r s F vals rest l u → (tail ≡ true → Out P M cap Q m h r s F l u) → (o : Option (ℕ × List Word)) → known_function ps f ≡ o →
+          Stood P at tail d (length ls) F.keeps F.labels → length F.callers + with_call tail D + 1 ≤ cap.frames → Go P M cap Q m h ls d r s F vals rest l u → (tail ≡ true → Out P M cap Q m h r s F l u) → (o : Option (ℕ × List Word)) → known_function ps f ≡ o →
           Within M cap Q (k + l) (cost c b + 30 + u) (here cap F m p h ls vals (application P ps at f a o rest))
       by_kind at m p h ls d ps room nil env un has needed F vals rest l u stood deep go out None none =
           looser M cap Q (put_atom M fixed cap Q (omega arith) room.inside (there_unknown m h ls d env isf none) (λ w1 s1. put_atom M fixed cap Q (omega arith) room.inside (there m h ls d env isa un) (λ wa sa.
           put_atom M fixed cap Q (omega arith) room.inside (there_unknown m h ls d env isf none) (λ w2 s2.
           let c2 = closure s2 in
           r_load M cap Q (omega arith) (omega (arith, room.inside, c2.within))
-          (subst (λ (x : ℕ). Within M cap Q (k + l) (cost c b + 23 + u) (here cap F m p h ls (I32 x ∷ I32 wa ∷ I32 w1 ∷ vals) (CallIndirect 2 0 ∷ rest))) (sym (at_zero m w2 ∙ c2.head))
-          (entered g is_at sz body (is_wide fn) refl s1 sa room nil needed deep (λ m' p' h' w x y room' same st. go m' p' h' ls w x y room' same (keeps_same d ls) st)))))))
+          (subst (λ (x : ℕ). Within M cap Q (k + l) (cost c b + 23 + u) (here cap F m p h ls (I32 x ∷ I32 wa ∷ I32 w1 ∷ vals) (closure_call at ∷ rest))) (sym (at_zero m w2 ∙ c2.head))
+          (entered g is_at sz body room nil needed at (is_wide fn) refl s1 sa (omega arith) (has_room D F ls vals rest stood deep) (goes_back P M cap Q m s F stood go out)))))))
           (omega arith) (omega arith)
       by_kind at m p h ls d ps room nil env un has needed F vals rest l u stood deep go out (Some j) known_f =
           let call = calls P m h ls d env isf known_f in
@@ -237,25 +246,27 @@ module _ (P : Program) (main : Body) (gs : List GlobalDef) (es : List Export) (p
           let held : Words m h ls d j.1 e' = subst (Words m h ls d j.1) (sym captured) call.words in
           let few : fn.captured ≤ 7 = omega (arith, words_length held, sz, call.few) in
           let at' : slice_get P.functions j.0 ≡ Some fn = ap (slice_get P.functions) (sym function) ∙ is_at in
-          (known_follows j.0 at' sz body at ps a j.1 few held (there m h ls d env isa un) room nil needed (omega arith) stood has (λ m' p' h' w x y room' same st. go m' p' h' ls w x y room' same (keeps_same d ls) st) out)
+          (known_follows j.0 at' sz body room nil needed at ps a j.1 few held (there m h ls d env isa un) deep stood has go out)
 
   sim_box_app : {tail : Bool} {D : ℕ} {e : Vals} {f a : Atom} {v : Val} → Is e f VBox → Is e a v → SimOp tail D e (OApp f a) VBox 1 0 0 0
   sim_box_app {tail} {D} {e} {f} {a} isf isa = record {
     sim = λ at m p h ls d ps n is room nil env un has needed. record {
-      run = λ F vals rest l u bound stood deep fits go out. looser M cap Q (by_kind at m p h ls d ps room nil env un F vals rest l u (omega arith) go (known_function ps f) refl) (omega arith) (omega arith);
+      run = λ F vals rest l u bound stood deep fits go out. looser M cap Q (by_kind at m p h ls d ps room nil env un F vals rest l u stood (omega arith) go out (known_function ps f) refl) (omega arith) (omega arith);
     };
   }
     where
-      by_kind : (at : Position) (m : Mem) (p h : ℕ) (ls : List ConstValue) (d : ℕ) (ps : List Place) → Room M cap m p h → word m 0 ≡ 0 → Env m h ls d ps e → OpUnread ps (OApp f a) → (F : Around) (vals : List ConstValue) (rest : List Instr) (l u : ℕ) →
-          length F.callers + 1 ≤ cap.frames → Go P M cap Q m h ls d VBox 0 F vals rest l u → (o : Option (ℕ × List Word)) → known_function ps f ≡ o → Within M cap Q l (10 + u) (here cap F m p h ls vals (application P ps at f a o rest))
-      by_kind at m p h ls d ps room nil env un F vals rest l u deep go None none =
+      by_kind : (at : Position) (m : Mem) (p h : ℕ) (ls : List ConstValue) (d : ℕ) (ps : List Place) → Room M cap m p h → word m 0 ≡ 0 → Env m h ls d ps e → OpUnread ps (OApp f a) → (F : Around) (vals : List ConstValue) (rest : List Instr) (l u : ℕ) → Stood P at tail d (length ls) F.keeps F.labels →
+          length F.callers + 1 ≤ cap.frames → Go P M cap Q m h ls d VBox 0 F vals rest l u → (tail ≡ true → Out P M cap Q m h VBox 0 F l u) → (o : Option (ℕ × List Word)) → known_function ps f ≡ o → Within M cap Q l (10 + u) (here cap F m p h ls vals (application P ps at f a o rest))
+      by_kind at m p h ls d ps room nil env un F vals rest l u stood deep go out None none =
+          let back : Out P M cap Q m h VBox 0 (entering (waiting at F ls vals rest)) l u = goes_back P M cap Q m 0 F stood go out in
           looser M cap Q (put_atom M fixed cap Q (omega arith) room.inside (there_unknown m h ls d env isf none) (λ w1 s1. put_atom M fixed cap Q (omega arith) room.inside (there m h ls d env isa un) (λ wa sa.
           put_atom M fixed cap Q (omega arith) room.inside (there_unknown m h ls d env isf none) (λ w2 s2.
           r_load M cap Q (omega arith) (omega (arith, room.inside, room.above, box_word s2))
-          (subst (λ (x : ℕ). Within M cap Q (suc (suc (suc l))) (suc (suc (suc u))) (here cap F m p h ls (I32 x ∷ I32 wa ∷ I32 w1 ∷ vals) (CallIndirect 2 0 ∷ rest))) (sym (at_zero m w2 ∙ ap (word m) (box_word s2) ∙ nil))
-          (r_indirect M cap Q 0 {x = 0} {y = 1} (omega arith) refl (table_entry P main gs es pages 0 (omega arith)) refl (r_const M cap Q (omega arith) 0 (r_back M cap Q (omega arith) (go m p h ls 0 (omega arith) (omega arith) room (λ x y. refl) (keeps_same d ls) (s_box refl))))))))))
+          (subst (λ (x : ℕ). Within M cap Q (suc (suc (suc l))) (suc (suc (suc u))) (here cap F m p h ls (I32 x ∷ I32 wa ∷ I32 w1 ∷ vals) (closure_call at ∷ rest))) (sym (at_zero m w2 ∙ ap (word m) (box_word s2) ∙ nil))
+          (call_closure M cap Q at 0 {x = 0} {y = 1} (omega arith) refl (table_entry P main gs es pages 0 (omega arith)) refl (r_const M cap Q (omega (arith, one_waits at F ls vals rest)) 0
+          (r_return M cap Q (waiting at F ls vals rest) (omega (arith, one_waits at F ls vals rest)) (back m p h 0 (omega arith) (omega arith) room (λ x y. refl) (s_box refl))))))))))
           (omega arith) (omega arith)
-      by_kind at m p h ls d ps room nil env un F vals rest l u deep go (Some j) known_f = absurd (no_box P m h ls d (calls P m h ls d env isf known_f).value)
+      by_kind at m p h ls d ps room nil env un F vals rest l u stood deep go out (Some j) known_f = absurd (no_box P m h ls d (calls P m h ls d env isf known_f).value)
 
   -- a branch's field that comes into the local in which the block's address is, or that stays where it is
   branch_follows : {D : ℕ} {tail : Bool} {e : Vals} {vs : Vals} {t : Block} {r : Val} {c k b s : ℕ} (moved : Bool) → moves (size vs) t ≡ moved → SimCode tail D (vs +v e) t r c k b s → (at : Position) (m : Mem) (p h : ℕ) (ls : List ConstValue) (d w : ℕ) (ps : List Place) → Room M cap m p h → word m 0 ≡ 0 →
@@ -357,12 +368,12 @@ module _ (P : Program) (main : Body) (gs : List GlobalDef) (es : List Export) (p
   abbrev Comes : ℕ → Vals → Op → Val → ℕ → ℕ → ℕ → ℕ → Type 0
   Comes D e x v c k b s =
       (m : Mem) (p h : ℕ) (ls : List ConstValue) (d : ℕ) (ps : List Place) → Room M cap m p h → word m 0 ≡ 0 → Env m h ls d ps e → OpUnread ps x → top_op d x ≤ length ls → d < length ls → h + 4 * s ≤ cap.bytes → (f : Around) (vals : List ConstValue) (rest : List Instr) (l u : ℕ) →
-      length f.callers + 2 * D + 1 ≤ cap.frames → ((m' : Mem) (p' h' : ℕ) (ls' : List ConstValue) (w : ℕ) → h ≤ h' → h' ≤ h + 4 * s → Room M cap m' p' h' → Same h m m' → Keeps d ls ls' → slice_get ls' d ≡ Some (I32 w) → Stands m' h' w v → Within M cap Q l u (here cap f m' p' h' ls' vals rest)) →
+      length f.callers + D + 1 ≤ cap.frames → ((m' : Mem) (p' h' : ℕ) (ls' : List ConstValue) (w : ℕ) → h ≤ h' → h' ≤ h + 4 * s → Room M cap m' p' h' → Same h m m' → Keeps d ls ls' → slice_get ls' d ≡ Some (I32 w) → Stands m' h' w v → Within M cap Q l u (here cap f m' p' h' ls' vals rest)) →
       Within M cap Q (k + l) (cost c b - 19 + u) (here cap f m p h ls vals (into_local ps d x (op P ps d Inside x) rest))
 
   -- from the operands
   from_operands : {D : ℕ} {e : Vals} {x : Op} {v : Val} {c k b s : ℕ} → 64 ≤ cost c b → SimOp false D e x v c k b s → (m : Mem) (p h : ℕ) (ls : List ConstValue) (d : ℕ) (ps : List Place) → Room M cap m p h → word m 0 ≡ 0 → Env m h ls d ps e → OpUnread ps x → top_op d x ≤ length ls → d < length ls →
-      h + 4 * s ≤ cap.bytes → (f : Around) (vals : List ConstValue) (rest : List Instr) (l u : ℕ) → length f.callers + 2 * D + 1 ≤ cap.frames →
+      h + 4 * s ≤ cap.bytes → (f : Around) (vals : List ConstValue) (rest : List Instr) (l u : ℕ) → length f.callers + D + 1 ≤ cap.frames →
       ((m' : Mem) (p' h' : ℕ) (ls' : List ConstValue) (w : ℕ) → h ≤ h' → h' ≤ h + 4 * s → Room M cap m' p' h' → Same h m m' → Keeps d ls ls' → slice_get ls' d ≡ Some (I32 w) → Stands m' h' w v → Within M cap Q l u (here cap f m' p' h' ls' vals rest)) →
       Within M cap Q (k + l) (cost c b - 19 + u) (here cap f m p h ls vals (op P ps d Inside x (LocalSet d ∷ rest)))
   from_operands {c = c} {b = b} dear y m p h ls d ps room nil env un has free needed f vals rest l u deep go =
@@ -427,10 +438,8 @@ module _ (P : Program) (main : Body) (gs : List GlobalDef) (es : List Export) (p
 
   mutual
     follows_op : {D : ℕ} {tail : Bool} {e : Vals} {x : Op} {v : Val} {c k b s : ℕ} → Does P W N tail D e x v c k b s → SimOp tail D e x v c k b s
-    follows_op (do_const {tail = true} at g) = sim_const at (follows g)
-    follows_op (do_const {tail = false} at g) = sim_const at (follows g)
-    follows_op (do_app {tail = true} isf isa at sz g) = sim_app isf isa at sz (follows g)
-    follows_op (do_app {tail = false} isf isa at sz g) = sim_app isf isa at sz (follows g)
+    follows_op (do_const at g) = sim_const at (follows g)
+    follows_op (do_app isf isa at sz g) = sim_app isf isa at sz (follows g)
     follows_op (do_box_app isf isa) = sim_box_app isf isa
     follows_op (do_con lt pos few narrow all) = sim_con lt pos few narrow all
     follows_op (do_clos lt few narrow all) = sim_clos lt few narrow all

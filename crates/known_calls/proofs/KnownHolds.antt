@@ -14,7 +14,7 @@ use Rattle.wasm_emit.proofs.Bytes.{Mem, word_same}
 use Rattle.wasm_emit.proofs.Values.{Stands}
 use Rattle.wasm_emit.proofs.Holds.{Same, Keeps, stands_on}
 use Rattle.known_calls.specs.KnownPlaces.{Word, InLocal, InField, IsConst, Place, At, Known, Never, op_reads, block_reads}
-use Rattle.known_calls.specs.KnownCode.{Position, Inside, InTail, deeper}
+use Rattle.known_calls.specs.KnownCode.{Position, Inside, InTail, deeper, Final}
 use Rattle.known_calls.specs.KnownModule.{worker_code}
 
 -- the word at a place, of locals below d
@@ -45,19 +45,22 @@ OpUnread ps x = (i g : ℕ) (ws : List Word) → slice_get ps i ≡ Some (Known 
 abbrev pub loop_of : Program → ℕ → Fn → BlockLabel
 loop_of P g fn = record { keeps = false; goes_on = Loop (Value type.I32) ∷ worker_code P g fn; below = [] }
 
--- where a block stands that uses locals from d on, in a function of n locals: inside; or in a worker's tail, where the function gives a word, the labels around are those of the block's own branches, so many, and
+-- where a block stands that uses locals from d on, in a function of n locals: inside, where nothing is in tail position; in the tail of a function without a loop; or in a worker's tail, where the function gives a word, the labels around are those of the block's own branches, so many, and
 -- that of the loop, the parameters are among the locals below d, and the locals are enough for the worker's body
 pub data Stood (P : Program) : Position → Bool → ℕ → ℕ → Bool → List BlockLabel → Type 0 where
-  stood_inside : {tail keeps : Bool} {d n : ℕ} {ls : List BlockLabel} → Stood P Inside tail d n keeps ls
+  stood_inside : {keeps : Bool} {d n : ℕ} {ls : List BlockLabel} → Stood P Inside false d n keeps ls
+  stood_final : {keeps : Bool} {d n : ℕ} {ls : List BlockLabel} → Stood P Final true d n keeps ls
   stood_in_tail : {g depth d n : ℕ} {fn : Fn} (inner : List BlockLabel) → length inner ≡ depth → slice_get P.functions g ≡ Some fn → suc fn.captured ≤ d → top (suc fn.captured) fn.body ≤ n → Stood P (InTail g depth) true d n true (inner ++ loop_of P g fn ∷ [])
 
 module _ (P : Program) where
   pub stood_up : {at : Position} {tail keeps : Bool} {d n : ℕ} {ls : List BlockLabel} (d' n' : ℕ) → d ≤ d' → n ≤ n' → Stood P at tail d n keeps ls → Stood P at tail d' n' keeps ls
   stood_up d' n' le more stood_inside = stood_inside
+  stood_up d' n' le more stood_final = stood_final
   stood_up d' n' le more (stood_in_tail inner count at few enough) = stood_in_tail inner count at (omega arith) (omega arith)
 
   pub stood_deeper : {at : Position} {tail keeps : Bool} {d n : ℕ} {ls : List BlockLabel} (k : BlockLabel) → Stood P at tail d n keeps ls → Stood P (deeper at) tail d n keeps (k ∷ ls)
   stood_deeper k stood_inside = stood_inside
+  stood_deeper k stood_final = stood_final
   stood_deeper k (stood_in_tail inner count at few enough) = stood_in_tail (k ∷ inner) (ap suc count) at few enough
 
 module _ {m m' : Mem} {l l' : ℕ} {ls ls' : List ConstValue} {d d' : ℕ} (le : l ≤ l') (same : Same l m m') (up : d ≤ d') (keeps : Keeps d ls ls') where

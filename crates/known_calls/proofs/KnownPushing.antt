@@ -15,8 +15,8 @@ use Rattle.wasm_core.specs.declared.instrs.Instr.TheVariants.{Unreachable, Else,
 use Rattle.wasm_emit.specs.EmittedCode.{ConstWord, Load, StoreWord, IfWord, ensure_room}
 use Rattle.wasm_emit.specs.Pushed.{Pushed, ends, renumber_bound}
 use Rattle.wasm_emit.proofs.Pushing.{next_of, ends_sum}
-use Rattle.known_calls.specs.KnownPlaces.{Place, At, InLocal, Times, is_read, is_twice, block_reads}
-use Rattle.known_calls.specs.KnownCode.{Position, Inside, InTail, deeper, some_heads, some_branches, empty_test, head_test, arm, choose, known, into_params, atom, fill, new_block, into_local, moves, move_field, branch_places, op, code, empties, heads, branch}
+use Rattle.known_calls.specs.KnownPlaces.{Place, At, InLocal, Times, is_read, is_twice, block_reads, fields_of}
+use Rattle.known_calls.specs.KnownCode.{Position, Inside, InTail, deeper, some_heads, some_branches, empty_test, head_test, arm, choose, known, into_params, atom, fill, new_block, into_local, moves, move_field, branch_places, op, code, empties, heads, branch, Final}
 use Rattle.known_calls.specs.KnownPushed.{under_position, bound_code, bound_unmade, place_bound, local_behind, bind_code, op_unmade, binding_code, block_code, branch_code, empty_arms, block_arms, branches_code, is_last_head, EmptyArms, PlainArms, HeadArms, EmptyArm, BlockArm}
 use Rattle.known_calls.proofs.KnownMarking.{reads_renumbered}
 
@@ -24,14 +24,17 @@ use Rattle.known_calls.proofs.KnownMarking.{reads_renumbered}
 
 pub under_one : (at : Position) → under_position 1 at ≡ deeper at
 under_one Inside = refl
+under_one Final = refl
 under_one (InTail g n) = let e : n + 1 ≡ suc n = omega arith in ap (λ (k : ℕ). InTail g k) e
 
 pub under_none : (at : Position) → under_position 0 at ≡ at
 under_none Inside = refl
+under_none Final = refl
 under_none (InTail g n) = let e : n + 0 ≡ n = omega arith in ap (λ (k : ℕ). InTail g k) e
 
 pub under_sum : (n k : ℕ) (at : Position) → under_position n (under_position k at) ≡ under_position (k + n) at
 under_sum n k Inside = refl
+under_sum n k Final = refl
 under_sum n k (InTail g d) = let e : d + k + n ≡ d + (k + n) = omega arith in ap (λ (j : ℕ). InTail g j) e
 
 -- A binding of a block, and its end.

@@ -18,7 +18,7 @@ use Rattle.wasm_emit.proofs.Indices.{entries_length}
 use Rattle.wasm_emit.proofs.Lengths.{u_any, size, z_end, z_global, body_size}
 use Rattle.wasm_emit.proofs.Sized.{no_bytes, section_size, items_size, globals_size, table_size, memory_size, exports_size, segment_size, first_bodies, header_size}
 use Rattle.known_calls.specs.KnownPlaces.{At, InLocal, fields_of}
-use Rattle.known_calls.specs.KnownCode.{Inside, is_wide, code}
+use Rattle.known_calls.specs.KnownCode.{Inside, Final, is_wide, code}
 use Rattle.known_calls.specs.KnownModule.{words_type, words_types, widest_worker, wide_body, stub_code, entry, worker_code, worker, worker_type, numbered, constant, main_function, module_with}
 use Rattle.known_calls.specs.KnownWeight.{op_weight, weight, branches_weight, functions_weight, constants_weight, KnownSized, LocalsBound}
 use Rattle.known_calls.proofs.KnownIndices.{narrow_few, widest_few, order_length}
@@ -37,7 +37,7 @@ module _ (P : Program) (m : ℕ) (form : Formed P m) (counts : CountsFit P m) (l
     where
       either : (b : Bool) → is_wide fn ≡ b → length (put_body (if b then wide_body P fn else body 0 (stub_code P g fn.captured)) w) ≤ (if b then 18 + weight fn.body else 82) + length w
       either true wide =
-          let is = code P (At (InLocal 1) ∷ fields_of 0 fn.captured []) 2 Inside fn.body (End ∷ []) in
+          let is = code P (At (InLocal 1) ∷ fields_of 0 fn.captured []) 2 Final fn.body (End ∷ []) in
           omega (arith, body_size (top 2 fn.body - 2) is w, (b_wide P m form counts limits g fn at).bytes [], no_bytes)
       either false narrow = omega (arith, body_size 0 (stub_code P g fn.captured) w, (b_stub P m form counts limits g fn at (narrow_few fn narrow)).bytes [], no_bytes)
 
@@ -83,7 +83,7 @@ module _ (P : Program) (m : ℕ) (form : Formed P m) (counts : CountsFit P m) (l
 
   constant_size : (i : ℕ) (t : Block) (w : List ℕ) → slice_get P.constants i ≡ Some t → length (put_body (constant P t) w) ≤ 18 + weight t + length w
   constant_size i t w at =
-      omega (arith, body_size (top 0 t) (code P [] 0 Inside t (End ∷ [])) w, z_end [], no_bytes, (b_code P m form counts limits 0 0 [] Inside t (omega (arith, counts.bodies i t at)) tt (form.constants i t at)).bytes (End ∷ []))
+      omega (arith, body_size (top 0 t) (code P [] 0 Final t (End ∷ [])) w, z_end [], no_bytes, (b_code P m form counts limits 0 0 [] Final t (omega (arith, counts.bodies i t at)) tt (form.constants i t at)).bytes (End ∷ []))
 
   main_size : (w : List ℕ) → length (put_body (main_function P) w) ≤ 20 + weight P.main + length w
   main_size w =

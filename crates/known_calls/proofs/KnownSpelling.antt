@@ -5,7 +5,7 @@ use Rattle.std.proofs.lemmas.List.{length-replicate}
 use Rattle.std.proofs.lemmas.Option.{slice_get_within}
 use Rattle.wasm_core.specs.declared.types.ValType.TheVariants.{I32}
 use Rattle.wasm_core.specs.declared.instrs.BlockType.TheVariants.{Value}
-use Rattle.wasm_core.specs.declared.instrs.Instr.TheVariants.{Unreachable, Loop, End, Call, LocalGet, GlobalSet}
+use Rattle.wasm_core.specs.declared.instrs.Instr.TheVariants.{Unreachable, Loop, End, ReturnCall, LocalGet, GlobalSet}
 use Rattle.wasm_core.specs.Parts.{Parts}
 use Rattle.wasm_core.specs.ModuleTyping.{TypedFunc}
 use Rattle.wasm_core.specs.declared.instrs.Body.{Body}
@@ -23,7 +23,7 @@ use Rattle.wasm_emit.specs.EmitLaws.{CountsFit}
 use Rattle.wasm_emit.proofs.Indices.{entries_length}
 use Rattle.wasm_emit.proofs.Spelled.{good, fits, all_then, body_fits, room_good}
 use Rattle.known_calls.specs.KnownPlaces.{At, InLocal, fields_of}
-use Rattle.known_calls.specs.KnownCode.{Inside, InTail, is_wide, worker_index, code}
+use Rattle.known_calls.specs.KnownCode.{Inside, Final, InTail, is_wide, worker_index, code}
 use Rattle.known_calls.specs.KnownModule.{words_types, widest_worker, params, captured_words, wide_body, stub_code, entry, worker_code, worker, worker_type, numbered, constant, main_function, module_with, module_of}
 use Rattle.known_calls.specs.KnownCalls.{applied, call_function, module_of_call}
 use Rattle.known_calls.specs.KnownLaws.{KnownSpelled}
@@ -32,7 +32,7 @@ use Rattle.known_calls.proofs.SameLocals.{worker_top}
 use Rattle.known_calls.proofs.Fitting.{fields_fit, params_fit}
 use Rattle.known_calls.proofs.KnownIndices.{narrow_few, widest_few, words_types_length, order_length}
 use Rattle.known_calls.proofs.KnownValidity.{entry_typed, worker_typed, constant_typed, main_typed, call_typed, box_typed, room_typed}
-use Rattle.known_calls.proofs.Bounded.{Bounded, ◌then◌, b_most, b_get, b_get_global, b_set, b_load, b_call, b_end, b_loop, b_captured, b_op, b_code}
+use Rattle.known_calls.proofs.Bounded.{Bounded, ◌then◌, b_most, b_get, b_get_global, b_set, b_load, b_return_call, b_end, b_loop, b_captured, b_op, b_code}
 
 numbered_then : {B : Type 0} (Q : B → Type 0) (h : ℕ → Fn → B) (from : ℕ) (fs : List Fn) (bs : List B) → ((g j : ℕ) (x : Fn) → slice_get fs g ≡ Some x → j ≡ from + g → Q (h j x)) → All Q bs → All Q (numbered h from fs ++ bs)
 numbered_then Q h from [] bs a r = r
@@ -53,13 +53,13 @@ entries_fit i (suc n) h = (omega arith, entries_fit (suc i) n (omega arith))
 
 -- the code of an entry's stub, of the body of a function without a worker, and of a worker
 module _ (P : Program) (m : ℕ) (form : Formed P m) (counts : CountsFit P m) (limits : Limits P) (g : ℕ) (fn : Fn) (at : slice_get P.functions g ≡ Some fn) where
-  pub b_stub : fn.captured ≤ 7 → Bounded 65 (λ r. captured_words fn.captured (LocalGet 1 ∷ Call (worker_index P g) ∷ End ∷ r))
-  b_stub few = b_most 65 (omega (arith, few)) (b_captured fn.captured (omega arith) then (b_get 1 (omega arith) then (b_call (worker_index P g) (omega (arith, slice_get_within P.functions g fn at, limits.few, counts.constants)) then b_end)))
+  pub b_stub : fn.captured ≤ 7 → Bounded 65 (λ r. captured_words fn.captured (LocalGet 1 ∷ ReturnCall (worker_index P g) ∷ End ∷ r))
+  b_stub few = b_most 65 (omega (arith, few)) (b_captured fn.captured (omega arith) then (b_get 1 (omega arith) then (b_return_call (worker_index P g) (omega (arith, slice_get_within P.functions g fn at, limits.few, counts.constants)) then b_end)))
 
-  pub b_wide : Bounded (weight fn.body + 1) (λ r. code P (At (InLocal 1) ∷ fields_of 0 fn.captured []) 2 Inside fn.body (End ∷ r))
+  pub b_wide : Bounded (weight fn.body + 1) (λ r. code P (At (InLocal 1) ∷ fields_of 0 fn.captured []) 2 Final fn.body (End ∷ r))
   b_wide =
       let low = limits.captured g fn at in
-      b_code P m form counts limits (suc fn.captured) 2 (At (InLocal 1) ∷ fields_of 0 fn.captured []) Inside fn.body (omega (arith, counts.functions g fn at)) (omega arith, fields_fit P 16384 100000 0 fn.captured [] (omega arith) (omega (arith, low)) tt) (form.functions g fn at) then b_end
+      b_code P m form counts limits (suc fn.captured) 2 (At (InLocal 1) ∷ fields_of 0 fn.captured []) Final fn.body (omega (arith, counts.functions g fn at)) (omega arith, fields_fit P 16384 100000 0 fn.captured [] (omega arith) (omega (arith, low)) tt) (form.functions g fn at) then b_end
 
   pub b_loop_of : Bounded (weight fn.body + 4) (λ r. Loop (Value I32) ∷ code P (params (suc fn.captured)) (suc fn.captured) (InTail g 0) fn.body (End ∷ End ∷ r))
   b_loop_of =
@@ -77,7 +77,7 @@ module _ (P : Program) (main : Body) (gs : List GlobalDef) (es : List Export) (p
   entry_fits g fn at = either (is_wide fn) refl (entry_typed P m form main gs es pages g fn at)
     where
       either : (b : Bool) → is_wide fn ≡ b → TypedFunc M 2 (if b then wide_body P fn else body 0 (stub_code P g fn.captured)) → IsBody (if b then wide_body P fn else body 0 (stub_code P g fn.captured))
-      either true wide t = body_fits M 2 (top 2 fn.body - 2) (code P (At (InLocal 1) ∷ fields_of 0 fn.captured []) 2 Inside fn.body (End ∷ [])) (counts.functions g fn at) t ((b_wide P m form counts limits g fn at).spelled good)
+      either true wide t = body_fits M 2 (top 2 fn.body - 2) (code P (At (InLocal 1) ∷ fields_of 0 fn.captured []) 2 Final fn.body (End ∷ [])) (counts.functions g fn at) t ((b_wide P m form counts limits g fn at).spelled good)
       either false narrow t = body_fits M 2 0 (stub_code P g fn.captured) (omega arith) t ((b_stub P m form counts limits g fn at (narrow_few fn narrow)).spelled good)
 
   worker_fits : (g : ℕ) (fn : Fn) → slice_get P.functions g ≡ Some fn → IsBody (worker P g fn)
@@ -90,8 +90,8 @@ module _ (P : Program) (main : Body) (gs : List GlobalDef) (es : List Export) (p
 
   constant_fits : (x : ℕ) (t : Block) → slice_get P.constants x ≡ Some t → IsBody (constant P t)
   constant_fits x t at =
-      body_fits M 1 (top 0 t) (code P [] 0 Inside t (End ∷ [])) (counts.bodies x t at) (constant_typed P m form main gs es pages t (form.constants x t at))
-      ((b_code P m form counts limits 0 0 [] Inside t (omega (arith, counts.bodies x t at)) tt (form.constants x t at)).spelled (fits tt good))
+      body_fits M 1 (top 0 t) (code P [] 0 Final t (End ∷ [])) (counts.bodies x t at) (constant_typed P m form main gs es pages t (form.constants x t at))
+      ((b_code P m form counts limits 0 0 [] Final t (omega (arith, counts.bodies x t at)) tt (form.constants x t at)).spelled (fits tt good))
 
   same_number : (g j : ℕ) (x : Fn) → slice_get P.functions g ≡ Some x → j ≡ 0 + g → slice_get P.functions j ≡ Some x
   same_number g j x at is = let z : g ≡ j = omega arith in subst (λ (i : ℕ). slice_get P.functions i ≡ Some x) z at

@@ -21,7 +21,7 @@ use Rattle.wasm_emit.specs.CallModule.{call_globals, call_exports}
 use Rattle.wasm_emit.specs.EmittedLocals.{top}
 use Rattle.wasm_emit.specs.EmittedModule.{type_main, body}
 use Rattle.known_calls.specs.KnownPlaces.{At, InLocal}
-use Rattle.known_calls.specs.KnownCode.{Inside, is_wide}
+use Rattle.known_calls.specs.KnownCode.{Inside, Final, is_wide}
 use Rattle.known_calls.specs.KnownModule.{wide_body, stub_code, entry, worker_code, worker, numbered, constant, main_function, module_with, module_of}
 use Rattle.known_calls.specs.KnownCalls.{applied, call_function, module_of_call}
 use Rattle.known_calls.specs.KnownLaws.{KnownStatusTells, CallsTell}
@@ -41,7 +41,7 @@ entry_wary : (P : Program) (g : ℕ) (f : Fn) → Wary (entry P g f).code
 entry_wary P g f = either (is_wide f)
   where
     either : (b : Bool) → Wary (if b then wide_body P f else body 0 (stub_code P g f.captured)).code
-    either true = (shaped_code P _ 2 Inside f.body).wary (w_cons tt w_nil)
+    either true = (shaped_code P _ 2 Final f.body).wary (w_cons tt w_nil)
     either false = (shaped_captured f.captured).wary (w_cons tt (w_cons tt (w_cons tt w_nil)))
 
 worker_wary : (P : Program) (g : ℕ) (f : Fn) → Wary (worker P g f).code
@@ -66,7 +66,7 @@ all_wary P main gs es pages wm zero g e = wary_body e (w_cons tt (w_grow refl (w
 all_wary P main gs es pages wm (suc zero) g e = wary_body e (w_cons tt (w_cons tt w_nil))
 all_wary P main gs es pages wm (suc (suc f)) g e =
     numbered_then (entry P) 0 P.functions (map (constant P) P.constants ++ (main ∷ numbered (worker P) 0 P.functions)) (λ i x. entry_wary P i x)
-    (mapped_then (constant P) P.constants (main ∷ numbered (worker P) 0 P.functions) (λ x. (shaped_code P _ 0 Inside x).wary (w_cons tt w_nil)) last) f g e
+    (mapped_then (constant P) P.constants (main ∷ numbered (worker P) 0 P.functions) (λ x. (shaped_code P _ 0 Final x).wary (w_cons tt w_nil)) last) f g e
   where
     last : AllWary (main ∷ numbered (worker P) 0 P.functions)
     last zero g e = wary_body e wm

@@ -10,19 +10,19 @@ use Rattle.wasm_core.specs.declared.exports.Export.{Export}
 use Rattle.wasm_core.specs.declared.instrs.BlockType.TheVariants.{Value}
 use Rattle.wasm_core.specs.declared.instrs.Body.{Body}
 use Rattle.wasm_core.specs.declared.instrs.Instr.{Instr}
-use Rattle.wasm_core.specs.declared.instrs.Instr.TheVariants.{Else, End, Br, Call, LocalGet, LocalSet, LocalTee}
+use Rattle.wasm_core.specs.declared.instrs.Instr.TheVariants.{Else, End, Br, Call, ReturnCall, LocalGet, LocalSet, LocalTee}
 use Rattle.wasm_core.specs.Parts.{Parts}
 use Rattle.wasm_core.specs.ModuleCondition.{All}
-use Rattle.wasm_core.specs.ModuleTyping.{OperandTypes, Operands, Of, known as known_types, Effect, getting, setting, keeping, calling as calling_type, func_type, match_none, Typed, done, unreachable, br}
-use Rattle.wasm_core.proofs.TypedRules.{t_plain, t_one_arm, t_two_arms}
+use Rattle.wasm_core.specs.ModuleTyping.{OperandTypes, Operands, Of, known as known_types, Effect, getting, setting, keeping, calling as calling_type, tail_effect, func_type, match_none, Typed, done, unreachable, br, tail_call}
+use Rattle.wasm_core.proofs.TypedRules.{match_known, t_plain, t_one_arm, t_two_arms}
 use Rattle.anf_convert.specs.declared.program.Atom.{Atom}
 use Rattle.anf_convert.specs.AnfForm.{AtomFits, AtomsFit}
 use Rattle.closure_lift.specs.Lifted.{Op, OConst, OApp, OCon, OClos, OCase, Block, RetAtom, LetAtom, Ret, Let, BranchBlocks, BNil, BCons, Fn, Program}
 use Rattle.closure_lift.specs.LiftedForm.{OpFits, LiftedBlockFits, BranchesFit, Formed}
-use Rattle.wasm_emit.specs.EmittedCode.{IfWord, ensure_room}
+use Rattle.wasm_emit.specs.EmittedCode.{IfWord, constant_index, ensure_room}
 use Rattle.wasm_emit.specs.EmittedLocals.{top, top_op, top_branches}
-use Rattle.known_calls.specs.KnownPlaces.{Word, InLocal, InField, IsConst, Place, At, word_of, known_function, is_read, block_reads}
-use Rattle.known_calls.specs.KnownCode.{Position, Inside, InTail, deeper, worker_index, jumps, most_blocks, read_word, read, atom, push_words, fill, new_block, block, into_local, into_params, call_worker, application, some_heads, some_branches, empty_test, head_test, arm, choose, unmade, known, moves, move_field, branch_places, op, code, empties, heads, branch}
+use Rattle.known_calls.specs.KnownPlaces.{Word, InLocal, InField, IsConst, Place, At, word_of, known_function, is_read, block_reads, fields_of}
+use Rattle.known_calls.specs.KnownCode.{Position, Inside, InTail, deeper, worker_index, jumps, most_blocks, read_word, read, atom, push_words, fill, new_block, block, into_local, into_params, call_worker, application, some_heads, some_branches, empty_test, head_test, arm, choose, unmade, known, moves, move_field, branch_places, op, code, empties, heads, branch, Final, call_of, closure_call}
 use Rattle.known_calls.specs.KnownModule.{words_type, worker_type, module_with}
 use Rattle.known_calls.proofs.Shapes.{Shaped, shaped_code, shaped_empties, shaped_heads, shaped_branch}
 use Rattle.known_calls.proofs.Finding.{same_some}
@@ -64,20 +64,23 @@ module _ (P : Program) (most : ℕ) (form : Formed P most) (main : Body) (gs : L
   abbrev m : Parts
   m = module_with P main gs es pages
 
-  -- the labels around a worker's tail: that of its loop takes nothing, and the parameters are among the locals
+  -- the labels around a worker's tail: that of its loop takes nothing, and the parameters are among the locals; and the function gives a word, as every one does in whose tail a block may stand
   pub record Loops (g depth : ℕ) (labels : List OperandTypes) : Type 0 where
     pub fn : Fn
     pub at : slice_get P.functions g ≡ Some fn
     pub few : suc fn.captured ≤ size
     pub found : slice_get labels depth ≡ Some []
+    pub gives : rs ≡ I32 ∷ []
 
   abbrev pub Labelled : Position → List OperandTypes → Type 0
   Labelled Inside labels = Unit {0}
+  Labelled Final labels = rs ≡ I32 ∷ []
   Labelled (InTail g depth) labels = Loops g depth labels
 
   labelled_deeper : (at : Position) (labels : List OperandTypes) (t : OperandTypes) → Labelled at labels → Labelled (deeper at) (t ∷ labels)
   labelled_deeper Inside labels t l = tt
-  labelled_deeper (InTail g depth) labels t l = record { fn = l.fn; at = l.at; few = l.few; found = l.found }
+  labelled_deeper Final labels t l = l
+  labelled_deeper (InTail g depth) labels t l = record { fn = l.fn; at = l.at; few = l.few; found = l.found; gives = l.gives }
 
   module _ {labels : List OperandTypes} {ts us : Operands} {rest : List Instr} where
     t_get : {x : ℕ} → x < size → Typed m ls rs labels (Of I32 ∷ ts) rest us → Typed m ls rs labels ts (LocalGet x ∷ rest) us
@@ -145,13 +148,25 @@ module _ (P : Program) (most : ℕ) (form : Formed P most) (main : Body) (gs : L
   t_move false d lt k = k
   t_move {ts = ts} true d lt k = t_get lt (t_plain ts refl (t_set lt k))
 
+  -- a tail call, in a function that gives a word, of one that does
+  t_tail : {labels : List OperandTypes} {any us : Operands} {pops : OperandTypes} (ts : Operands) {i : Instr} {rest : List Instr} → rs ≡ I32 ∷ [] → tail_effect m i ≡ Some (pops, I32 ∷ []) → Typed m ls rs labels any rest us → Typed m ls rs labels (known_types pops ++ ts) (i ∷ rest) us
+  t_tail {pops = pops} ts {i} gives e k = tail_call (known_types pops) ts (subst (λ (r : OperandTypes). tail_effect m i ≡ Some (pops, r)) (sym gives) e) (match_known pops) k
+
   -- a call of a worker
-  pub t_worker : {labels : List OperandTypes} {ts us : Operands} {rest : List Instr} (g : ℕ) (fn : Fn) → slice_get P.functions g ≡ Some fn → fn.captured ≤ 7 → Typed m ls rs labels (Of I32 ∷ ts) rest us → Typed m ls rs labels (words_on (suc fn.captured) ts) (Call (worker_index P g) ∷ rest) us
+  type_is : (g : ℕ) (fn : Fn) → slice_get P.functions g ≡ Some fn → fn.captured ≤ 7 → func_type m (worker_index P g) ≡ Some (words_type fn.captured)
+  type_is g fn at few = ap (option_and_then (λ index. slice_get m.types index)) (type_of_worker P main gs es pages g fn at (not_wide fn few)) ∙ type_of_words P main gs es pages g fn at (not_wide fn few)
+
+  in_turn : (n : ℕ) (ts : Operands) → n ≤ 7 → known_types (reverse (replicate (suc n) I32)) ++ ts ≡ words_on (suc n) ts
+  in_turn n ts few = ap (λ (xs : OperandTypes). known_types xs ++ ts) (turned n few) ∙ of_words (suc n) ts
+
+  t_worker : {labels : List OperandTypes} {ts us : Operands} {rest : List Instr} (g : ℕ) (fn : Fn) → slice_get P.functions g ≡ Some fn → fn.captured ≤ 7 → Typed m ls rs labels (Of I32 ∷ ts) rest us → Typed m ls rs labels (words_on (suc fn.captured) ts) (Call (worker_index P g) ∷ rest) us
   t_worker {labels} {ts} {us} {rest} g fn at few k =
-      let type_is : func_type m (worker_index P g) ≡ Some (words_type fn.captured) =
-      ap (option_and_then (λ index. slice_get m.types index)) (type_of_worker P main gs es pages g fn at (not_wide fn few)) ∙ type_of_words P main gs es pages g fn at (not_wide fn few) in
-      subst (λ (os : Operands). Typed m ls rs labels os (Call (worker_index P g) ∷ rest) us) (ap (λ (xs : OperandTypes). known_types xs ++ ts) (turned fn.captured few) ∙ of_words (suc fn.captured) ts)
-      (t_plain ts (ap (option_map {U = Effect} calling_type) type_is) k)
+      subst (λ (os : Operands). Typed m ls rs labels os (Call (worker_index P g) ∷ rest) us) (in_turn fn.captured ts few) (t_plain ts (ap (option_map {U = Effect} calling_type) (type_is g fn at few)) k)
+
+  pub t_tail_worker : {labels : List OperandTypes} {any us : Operands} {rest : List Instr} (ts : Operands) (g : ℕ) (fn : Fn) → slice_get P.functions g ≡ Some fn → fn.captured ≤ 7 → rs ≡ I32 ∷ [] → Typed m ls rs labels any rest us →
+      Typed m ls rs labels (words_on (suc fn.captured) ts) (ReturnCall (worker_index P g) ∷ rest) us
+  t_tail_worker {labels} {any} {us} {rest} ts g fn at few gives k =
+      subst (λ (os : Operands). Typed m ls rs labels os (ReturnCall (worker_index P g) ∷ rest) us) (in_turn fn.captured ts few) (t_tail ts gives (ap (option_map {U = Effect} calling_type) (type_is g fn at few)) k)
 
   t_params : {labels : List OperandTypes} {ts us : Operands} {rest : List Instr} (n : ℕ) → suc n ≤ size → Typed m ls rs labels ts rest us → Typed m ls rs labels (words_on (suc n) ts) (into_params n rest) us
   t_params zero le k = t_set (omega arith) k
@@ -160,9 +175,13 @@ module _ (P : Program) (most : ℕ) (form : Formed P most) (main : Body) (gs : L
   t_direct : {labels : List OperandTypes} {ts us : Operands} {rest : List Instr} (g n : ℕ) (fn : Fn) → slice_get P.functions g ≡ Some fn → fn.captured ≡ n → n ≤ 7 → Typed m ls rs labels (Of I32 ∷ ts) rest us → Typed m ls rs labels (words_on (suc n) ts) (Call (worker_index P g) ∷ rest) us
   t_direct {labels} {ts} {us} {rest} g n fn at is few k = subst (λ (i : ℕ). Typed m ls rs labels (words_on (suc i) ts) (Call (worker_index P g) ∷ rest) us) is (t_worker g fn at (omega arith) k)
 
+  t_returned : {labels : List OperandTypes} {any us : Operands} {rest : List Instr} (ts : Operands) (g n : ℕ) (fn : Fn) → slice_get P.functions g ≡ Some fn → fn.captured ≡ n → n ≤ 7 → rs ≡ I32 ∷ [] → Typed m ls rs labels any rest us →
+      Typed m ls rs labels (words_on (suc n) ts) (ReturnCall (worker_index P g) ∷ rest) us
+  t_returned {labels} {any} {us} {rest} ts g n fn at is few gives k = subst (λ (i : ℕ). Typed m ls rs labels (words_on (suc i) ts) (ReturnCall (worker_index P g) ∷ rest) us) is (t_tail_worker ts g fn at (omega arith) gives k)
+
   t_jump : {labels : List OperandTypes} {ts us : Operands} {rest : List Instr} (b : Bool) (g h n depth : ℕ) (fn : Fn) → jumps g h depth ≡ b → slice_get P.functions g ≡ Some fn → fn.captured ≡ n → n ≤ 7 → Loops h depth labels → Typed m ls rs labels (Of I32 ∷ ts) rest us →
-      Typed m ls rs labels (words_on (suc n) ts) (if b then into_params n (Br depth ∷ rest) else (Call (worker_index P g) ∷ rest)) us
-  t_jump false g h n depth fn e at is few l k = t_direct g n fn at is few k
+      Typed m ls rs labels (words_on (suc n) ts) (if b then into_params n (Br depth ∷ rest) else (ReturnCall (worker_index P g) ∷ rest)) us
+  t_jump {ts = ts} false g h n depth fn e at is few l k = t_returned ts g n fn at is few l.gives k
   t_jump {ts = ts} true g h n depth fn e at is few l k =
       let same : g ≡ h = eqb-true g h (and_true (nat_eq g h) (nat_le depth most_blocks) e).0 in
       let function : fn ≡ l.fn = same_some (sym at ∙ ap (slice_get P.functions) same ∙ l.at) in
@@ -173,11 +192,26 @@ module _ (P : Program) (most : ℕ) (form : Formed P most) (main : Body) (gs : L
   t_call : {labels : List OperandTypes} {ts us : Operands} {rest : List Instr} (at : Position) (g n : ℕ) (fn : Fn) → slice_get P.functions g ≡ Some fn → fn.captured ≡ n → n ≤ 7 → Labelled at labels → Typed m ls rs labels (Of I32 ∷ ts) rest us →
       Typed m ls rs labels (words_on (suc n) ts) (call_worker P at g n rest) us
   t_call Inside g n fn at is few l k = t_direct g n fn at is few k
+  t_call {ts = ts} Final g n fn at is few l k = t_returned ts g n fn at is few l k
   t_call (InTail h depth) g n fn at is few l k = t_jump (jumps g h depth) g h n depth fn refl at is few l k
+
+  -- a call of an unknown closure's function, and of a constant's
+  t_closure_call : {labels : List OperandTypes} {ts us : Operands} {rest : List Instr} (at : Position) → Labelled at labels → Typed m ls rs labels (Of I32 ∷ ts) rest us → Typed m ls rs labels (Of I32 ∷ Of I32 ∷ Of I32 ∷ ts) (closure_call at ∷ rest) us
+  t_closure_call {ts = ts} Inside l k = t_plain ts refl k
+  t_closure_call {ts = ts} Final l k = t_tail ts l refl k
+  t_closure_call {ts = ts} (InTail g depth) l k = t_tail ts l.gives refl k
+
+  constant_gives : (x : ℕ) → x < length P.constants → option_map {U = Effect} calling_type (func_type m (constant_index P x)) ≡ Some ([], I32 ∷ [])
+  constant_gives x fit = ap (λ (o : Option ℕ). option_map {U = Effect} calling_type (option_and_then (λ index. slice_get m.types index) o)) (constant_in P (λ g f. 2) (λ t. 1) 0 (λ g f. worker_type f) x (get_or P.constants x P.main) (slice_get-get_or P.constants x P.main fit))
+
+  t_constant : {labels : List OperandTypes} {ts us : Operands} {rest : List Instr} (at : Position) (x : ℕ) → x < length P.constants → Labelled at labels → Typed m ls rs labels (Of I32 ∷ ts) rest us → Typed m ls rs labels ts (call_of at (constant_index P x) ∷ rest) us
+  t_constant {ts = ts} Inside x fit l k = t_plain ts (constant_gives x fit) k
+  t_constant {ts = ts} Final x fit l k = t_tail ts l (constant_gives x fit) k
+  t_constant {ts = ts} (InTail g depth) x fit l k = t_tail ts l.gives (constant_gives x fit) k
 
   t_application : {labels : List OperandTypes} {ts us : Operands} {rest : List Instr} (n d : ℕ) (ps : List Place) (at : Position) (f a : Atom) (o : Option (ℕ × List Word)) → known_function ps f ≡ o → d ≤ size → AtomFits n f → AtomFits n a → All (PlaceFits P far d) ps → Labelled at labels →
       Typed m ls rs labels (Of I32 ∷ ts) rest us → Typed m ls rs labels ts (application P ps at f a o rest) us
-  t_application {ts = ts} n d ps at f a None e le ff fa h l k = t_atom n d ps f le ff h (t_atom n d ps a le fa h (t_atom n d ps f le ff h (t_plain (Of I32 ∷ Of I32 ∷ ts) refl (t_plain ts refl k))))
+  t_application {ts = ts} n d ps at f a None e le ff fa h l k = t_atom n d ps f le ff h (t_atom n d ps a le fa h (t_atom n d ps f le ff h (t_plain (Of I32 ∷ Of I32 ∷ ts) refl (t_closure_call at l k))))
   t_application {ts = ts} n d ps at f a (Some j) e le ff fa h l k =
       let fit = function_fits P far most form d ps f h e in
       let takes = fit.0 in
@@ -199,8 +233,7 @@ module _ (P : Program) (most : ℕ) (form : Formed P most) (main : Body) (gs : L
   mutual
     pub t_op : {labels : List OperandTypes} {ts us : Operands} {rest : List Instr} (n d : ℕ) (ps : List Place) (at : Position) (x : Op) → top_op d x ≤ size → OpFits P.functions (length P.constants) most n x → All (PlaceFits P far d) ps → Labelled at labels →
         Typed m ls rs labels (Of I32 ∷ ts) rest us → Typed m ls rs labels ts (op P ps d at x rest) us
-    t_op {ts = ts} n d ps at (OConst x) le fit h l k =
-        t_plain ts (ap (λ (o : Option ℕ). option_map {U = Effect} calling_type (option_and_then (λ index. slice_get m.types index) o)) (constant_in P (λ g f. 2) (λ t. 1) 0 (λ g f. worker_type f) x (get_or P.constants x P.main) (slice_get-get_or P.constants x P.main fit))) k
+    t_op n d ps at (OConst x) le fit h l k = t_constant at x fit l k
     t_op n d ps at (OApp f a) le fit h l k = t_application n d ps at f a (known_function ps f) refl le fit.0 fit.1 h l k
     t_op n d ps at (OCon c as') le fit h l k = t_block n d _ ps as' le fit.3 h k
     t_op n d ps at (OClos g as') le fit h l k = t_block n d _ ps as' le fit.1 h k

@@ -7,7 +7,7 @@ use Rattle.wasm_core.specs.declared.exports.Export.{Export}
 use Rattle.wasm_core.specs.declared.instrs.BlockType.TheVariants.{Value}
 use Rattle.wasm_core.specs.declared.instrs.Body.{Body}
 use Rattle.wasm_core.specs.declared.instrs.Instr.{Instr}
-use Rattle.wasm_core.specs.declared.instrs.Instr.TheVariants.{Unreachable, Loop, End, Call, LocalGet, LocalSet, GlobalGet, GlobalSet, MemoryGrow, I32 as Operation}
+use Rattle.wasm_core.specs.declared.instrs.Instr.TheVariants.{Unreachable, Loop, End, ReturnCall, LocalGet, LocalSet, GlobalGet, GlobalSet, MemoryGrow, I32 as Operation}
 use Rattle.wasm_core.specs.declared.instrs.I32Op.TheVariants as op32
 use Rattle.wasm_core.specs.Parts.{Parts}
 use Rattle.wasm_core.specs.ModuleTyping.{Typed, OperandTypes, Operands, Of, match_none, match_same, done, unreachable, loop, TypedFunc, Functions, Tables, Memories, Globals, Exported, Elements, Codes, IsSound, AllSound, DistinctNames, EachIsThere}
@@ -21,7 +21,7 @@ use Rattle.wasm_emit.specs.EmittedLocals.{top}
 use Rattle.wasm_emit.specs.EmittedModule.{type_main, type_constant, type_function, body, room_function, box_function}
 use Rattle.wasm_emit.specs.CallModule.{call_globals, call_exports}
 use Rattle.known_calls.specs.KnownPlaces.{At, InLocal, fields_of}
-use Rattle.known_calls.specs.KnownCode.{Inside, InTail, is_wide, worker_index, code}
+use Rattle.known_calls.specs.KnownCode.{Inside, Final, InTail, is_wide, worker_index, code}
 use Rattle.known_calls.specs.KnownModule.{words_type, widest_worker, params, captured_words, wide_body, stub_code, entry, worker_code, worker, worker_type, numbered, constant, main_function, module_with}
 use Rattle.known_calls.specs.KnownCalls.{applied, call_function, module_of_call}
 use Rattle.known_calls.specs.KnownLaws.{KnownValid, CallsValid}
@@ -30,7 +30,7 @@ use Rattle.known_calls.proofs.SameLocals.{worker_top}
 use Rattle.known_calls.proofs.Fitting.{fields_fit, params_fit}
 use Rattle.known_calls.proofs.KnownIndices.{narrow_few, type_of_words, worker_low, widest_grows, words_types_length}
 use Rattle.known_calls.proofs.Outside.{same_length, globals_sound, segment_sound, exports_there, names_distinct, call_globals_sound, call_exports_there, call_names_distinct}
-use Rattle.known_calls.proofs.KnownTyped.{AllWords, all_i32, words_on, t_set, t_worker, t_op, t_code}
+use Rattle.known_calls.proofs.KnownTyped.{AllWords, all_i32, words_on, t_set, t_tail_worker, t_op, t_code}
 
 two_more : (n : ℕ) → AllWords (2 + n) (I32 ∷ I32 ∷ replicate n I32)
 two_more n zero h = refl
@@ -63,14 +63,14 @@ module _ (P : Program) (most : ℕ) (form : Formed P most) (main : Body) (gs : L
             type = type_function;
             found = refl;
             typed = record {
-              body = code P ps 2 Inside fn.body [];
-              ends = (shaped_code P ps 2 Inside fn.body).front (End ∷ []);
+              body = code P ps 2 Final fn.body [];
+              ends = (shaped_code P ps 2 Final fn.body).front (End ∷ []);
               left = Of I32 ∷ [];
-              typed = t_code P most form main gs es pages (16384 + 4 * fn.captured) (omega arith) (2 + n) (I32 ∷ I32 ∷ replicate n I32) (I32 ∷ []) (two_more n) (suc fn.captured) 2 ps Inside fn.body (omega arith) (form.functions g fn at) (
+              typed = t_code P most form main gs es pages (16384 + 4 * fn.captured) (omega arith) (2 + n) (I32 ∷ I32 ∷ replicate n I32) (I32 ∷ []) (two_more n) (suc fn.captured) 2 ps Final fn.body (omega arith) (form.functions g fn at) (
                 omega arith,
                 fields_fit P
                     (16384 + 4 * fn.captured) 2 0 fn.captured [] (omega arith) (omega arith) tt,
-              ) tt done;
+              ) refl done;
               matched = match_same match_none;
             };
           }
@@ -80,10 +80,10 @@ module _ (P : Program) (most : ℕ) (form : Formed P most) (main : Body) (gs : L
             type = type_function;
             found = refl;
             typed = record {
-              body = captured_words fn.captured (LocalGet 1 ∷ Call (worker_index P g) ∷ []);
-              ends = (shaped_captured fn.captured then (one (LocalGet 1) refl tt then one (Call (worker_index P g)) refl tt)).front (End ∷ []);
+              body = captured_words fn.captured (LocalGet 1 ∷ ReturnCall (worker_index P g) ∷ []);
+              ends = (shaped_captured fn.captured then (one (LocalGet 1) refl tt then one (ReturnCall (worker_index P g)) refl tt)).front (End ∷ []);
               left = Of I32 ∷ [];
-              typed = t_captured M (I32 ∷ []) fn.captured (λ ws us rest o k. t_plain ws refl (t_plain ws refl k)) (t_plain (words_on fn.captured []) refl (t_worker P most form main gs es pages 16384 (omega arith) 2 (I32 ∷ I32 ∷ []) (I32 ∷ []) (two_more 0) g fn at few done));
+              typed = t_captured M (I32 ∷ []) fn.captured (λ ws us rest o k. t_plain ws refl (t_plain ws refl k)) (t_plain (words_on fn.captured []) refl (t_tail_worker P most form main gs es pages 16384 (omega arith) 2 (I32 ∷ I32 ∷ []) (I32 ∷ []) (two_more 0) [] g fn at few refl done));
               matched = match_same match_none;
             };
           }
@@ -108,7 +108,7 @@ module _ (P : Program) (most : ℕ) (form : Formed P most) (main : Body) (gs : L
               left = Of I32 ∷ [];
               typed = loop {b = Value I32} {body = inner} {rest = []}
                   (t_code P most form main gs es pages 16384 (omega arith) (i + n) ls (I32 ∷ []) (more_words i n) i i (params i) (InTail g 0) fn.body (worker_top fn.captured fn.body) (form.functions g fn at) (params_fit P 16384 i i (omega arith))
-                  (record { fn = fn; at = at; few = omega arith; found = refl }) done)
+                  (record { fn = fn; at = at; few = omega arith; found = refl; gives = refl }) done)
                   (match_same match_none) done;
               matched = match_same match_none;
             };
@@ -119,10 +119,10 @@ module _ (P : Program) (most : ℕ) (form : Formed P most) (main : Body) (gs : L
     type = type_constant;
     found = refl;
     typed = record {
-      body = code P [] 0 Inside t [];
-      ends = (shaped_code P [] 0 Inside t).front (End ∷ []);
+      body = code P [] 0 Final t [];
+      ends = (shaped_code P [] 0 Final t).front (End ∷ []);
       left = Of I32 ∷ [];
-      typed = t_code P most form main gs es pages 16384 (omega arith) (top 0 t) (replicate (top 0 t) I32) (I32 ∷ []) (all_i32 (top 0 t)) 0 0 [] Inside t (omega arith) fit tt tt done;
+      typed = t_code P most form main gs es pages 16384 (omega arith) (top 0 t) (replicate (top 0 t) I32) (I32 ∷ []) (all_i32 (top 0 t)) 0 0 [] Final t (omega arith) fit tt refl done;
       matched = match_same match_none;
     };
   }

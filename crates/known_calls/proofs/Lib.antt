@@ -9,6 +9,7 @@ pub mod KnownIndices
 pub mod SameLocals
 pub mod Jumping
 pub mod Working
+pub mod TailCalling
 pub mod KnownFollows
 pub mod KnownAnswering
 pub mod Fitting

@@ -2,14 +2,14 @@
 use Rattle.std.proofs.Common.{◌≡◌, ℕ, zero, suc, ◌+◌, ◌*◌, List, [], ◌∷◌, ◌++◌, length, Option, Some, None, Bool, true, false, refl, ap, sym, ◌∙◌, append_assoc, arith}
 use Rattle.std.specs.Prelude.{if◌then◌else◌, ◌||◌}
 use Rattle.wasm_core.specs.declared.instrs.Instr.{Instr}
-use Rattle.wasm_core.specs.declared.instrs.Instr.TheVariants.{Unreachable, Else, End, Br, Call, LocalGet, LocalSet, LocalTee, GlobalGet, GlobalSet, I32 as Operation}
+use Rattle.wasm_core.specs.declared.instrs.Instr.TheVariants.{Unreachable, Else, End, Br, Call, ReturnCall, ReturnCallIndirect, LocalGet, LocalSet, LocalTee, GlobalGet, GlobalSet, I32 as Operation}
 use Rattle.wasm_core.specs.declared.instrs.I32Op.TheVariants as op32
 use Rattle.wasm_core.specs.MachineStep.{Plain, bracket, past_end, to_else, after_end, else_arm}
 use Rattle.anf_convert.specs.declared.program.Atom.{Atom}
 use Rattle.closure_lift.specs.Lifted.{Op, OConst, OApp, OCon, OClos, OCase, Block, RetAtom, LetAtom, Ret, Let, BranchBlocks, BNil, BCons, Program}
 use Rattle.wasm_emit.specs.EmittedCode.{Load, StoreWord, ConstWord, IfWord, CallClosure, constant_index, ensure_room}
-use Rattle.known_calls.specs.KnownPlaces.{Word, InLocal, InField, IsConst, Place, At, word_of, known_function}
-use Rattle.known_calls.specs.KnownCode.{Position, Inside, InTail, deeper, read_word, read, atom, push_words, fill, new_block, block, into_local, into_params, worker_index, jumps, call_worker, application, some_heads, some_branches, empty_test, head_test, arm, choose, unmade, moves, move_field, branch_places, op, code, empties, heads, branch}
+use Rattle.known_calls.specs.KnownPlaces.{Word, InLocal, InField, IsConst, Place, At, word_of, known_function, fields_of}
+use Rattle.known_calls.specs.KnownCode.{Position, Inside, InTail, deeper, read_word, read, atom, push_words, fill, new_block, block, into_local, into_params, worker_index, jumps, call_worker, application, some_heads, some_branches, empty_test, head_test, arm, choose, unmade, moves, move_field, branch_places, op, code, empties, heads, branch, Final, call_of, closure_call}
 use Rattle.known_calls.specs.KnownModule.{captured_words}
 use Rattle.wasm_emit.proofs.Honest.{Wary, w_cons, NotStatus}
 
@@ -116,17 +116,28 @@ shaped_arm : (b : Bool) {test : List Instr → List Instr} {branch behind : Posi
 shaped_arm true at t x y = t then arms (x (deeper at)) (y (deeper at))
 shaped_arm false at t x y = x at
 
+shaped_call_of : (at : Position) (f : ℕ) → Shaped (λ r. call_of at f ∷ r)
+shaped_call_of Inside f = one (Call f) refl tt
+shaped_call_of Final f = one (ReturnCall f) refl tt
+shaped_call_of (InTail h depth) f = one (ReturnCall f) refl tt
+
+shaped_closure_call : (at : Position) → Shaped (λ r. closure_call at ∷ r)
+shaped_closure_call Inside = one CallClosure refl tt
+shaped_closure_call Final = one (ReturnCallIndirect 2 0) refl tt
+shaped_closure_call (InTail h depth) = one (ReturnCallIndirect 2 0) refl tt
+
 module _ (P : Program) where
-  shaped_jump : (b : Bool) (g n depth : ℕ) → Shaped (λ r. if b then into_params n (Br depth ∷ r) else (Call (worker_index P g) ∷ r))
+  shaped_jump : (b : Bool) (g n depth : ℕ) → Shaped (λ r. if b then into_params n (Br depth ∷ r) else (ReturnCall (worker_index P g) ∷ r))
   shaped_jump true g n depth = shaped_params n then one (Br depth) refl tt
-  shaped_jump false g n depth = one (Call (worker_index P g)) refl tt
+  shaped_jump false g n depth = one (ReturnCall (worker_index P g)) refl tt
 
   shaped_call : (at : Position) (g n : ℕ) → Shaped (call_worker P at g n)
   shaped_call Inside g n = one (Call (worker_index P g)) refl tt
+  shaped_call Final g n = one (ReturnCall (worker_index P g)) refl tt
   shaped_call (InTail h depth) g n = shaped_jump (jumps g h depth) g n depth
 
   shaped_application : (env : List Place) (at : Position) (f a : Atom) (o : Option (ℕ × List Word)) → Shaped (application P env at f a o)
-  shaped_application env at f a None = shaped_atom env f then (shaped_atom env a then (shaped_atom env f then (one (Load 0) refl tt then one CallClosure refl tt)))
+  shaped_application env at f a None = shaped_atom env f then (shaped_atom env a then (shaped_atom env f then (one (Load 0) refl tt then shaped_closure_call at)))
   shaped_application env at f a (Some k) = shaped_push k.1 then (shaped_atom env a then shaped_call at k.0 (length k.1))
 
   shaped_choice : (o : Option Place) {g : Place → List Instr → List Instr} {f : List Instr → List Instr} → ((q : Place) → Shaped (g q)) → Shaped f → Shaped (λ r. choose o (λ q. g q r) (f r))
@@ -135,7 +146,7 @@ module _ (P : Program) where
 
   mutual
     pub shaped_op : (env : List Place) (d : ℕ) (at : Position) (x : Op) → Shaped (op P env d at x)
-    shaped_op env d at (OConst x) = one (Call (constant_index P x)) refl tt
+    shaped_op env d at (OConst x) = shaped_call_of at (constant_index P x)
     shaped_op env d at (OApp f a) = shaped_application env at f a (known_function env f)
     shaped_op env d at (OCon c as') = shaped_block env d _ as'
     shaped_op env d at (OClos g as') = shaped_block env d _ as'

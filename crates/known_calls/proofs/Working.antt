@@ -28,7 +28,7 @@ use Rattle.known_calls.specs.KnownModule.{words_type, params, captured_words}
 use Rattle.known_calls.proofs.KnownHolds.{in_local, Env, env_nil, env_at, Stood, stood_in_tail, loop_of}
 use Rattle.known_calls.proofs.KnownMaking.{WordsStand, stand_none, stand_more, words, stand_size}
 
-take_words : (xs ys : List ConstValue) → take (length xs) (xs ++ ys) ≡ xs
+pub take_words : (xs ys : List ConstValue) → take (length xs) (xs ++ ys) ≡ xs
 take_words [] ys = refl
 take_words (x ∷ xs) ys = ap (λ (zs : List ConstValue). x ∷ zs) (take_words xs ys)
 

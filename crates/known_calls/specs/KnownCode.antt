@@ -1,16 +1,16 @@
 -- The instructions of a block of a lifted program. A saturated call of a known function is a direct call of its worker, which takes the captured words and the argument as parameters; a worker's tail call of
--- itself is a branch to its beginning; and a closure that is known, and read as a word nowhere, is made nowhere. Every other closure is made, and called through the table. Each function puts its instructions in front of `rest`.
+-- itself is a branch to its beginning, and every other call in the tail of a function leaves no frame of it; and a closure that is known, and read as a word nowhere, is made nowhere. Every other closure is made, and called through the table. Each function puts its instructions in front of `rest`.
 use Rattle.std.specs.Prelude.{ℕ, zero, suc, ◌+◌, ◌*◌, Bool, true, false, ◌&&◌, ◌||◌, if◌then◌else◌, nat_eq, nat_le, List, [], ◌∷◌, length, Option, Some, None, slice_get}
 use Rattle.std.specs.Option.{option_and_then}
 use Rattle.anf_convert.specs.declared.program.Atom.{Atom}
 use Rattle.closure_lift.specs.Lifted.{Op, OConst, OApp, OCon, OClos, OCase, Block, RetAtom, LetAtom, Ret, Let, BranchBlocks, BNil, BCons, Fn, Program}
 use Rattle.wasm_core.specs.declared.instrs.I32Op.TheVariants as op32
 use Rattle.wasm_core.specs.declared.instrs.Instr.{Instr}
-use Rattle.wasm_core.specs.declared.instrs.Instr.TheVariants.{Unreachable, Else, End, Br, Call, LocalGet, LocalSet, LocalTee, GlobalGet, GlobalSet, I32 as Operation}
+use Rattle.wasm_core.specs.declared.instrs.Instr.TheVariants.{Unreachable, Else, End, Br, Call, ReturnCall, ReturnCallIndirect, LocalGet, LocalSet, LocalTee, GlobalGet, GlobalSet, I32 as Operation}
 use Rattle.wasm_emit.specs.EmittedCode.{Load, StoreWord, ConstWord, IfWord, CallClosure, constant_index, ensure_room}
--- what a call in some place may be: a call; or, in the tail of the body of worker g, a branch out of so many blocks to its beginning
+-- what a call in some place may be: a call; in the tail of a function without a loop, a tail call; or, in the tail of the body of worker g, where g calls itself, a branch out of so many blocks to its beginning, and else a tail call
 pub use Rattle.known_calls.specs.declared.site.Position.{Position}
-pub use Rattle.known_calls.specs.declared.site.Position.TheVariants.{Inside, InTail}
+pub use Rattle.known_calls.specs.declared.site.Position.TheVariants.{Inside, Final, InTail}
 use Rattle.known_calls.specs.KnownPlaces.{Word, InLocal, InField, IsConst, Place, At, Known, word_of, words_of, all_at, fields_of, known_function, is_read, is_twice, block_reads}
 
 -- a closure of more captured words is never known, and its function has no worker
@@ -94,6 +94,7 @@ block env d header as' rest = new_block env d header as' (LocalGet d ∷ rest)
 
 abbrev pub deeper : Position → Position
 deeper Inside = Inside
+deeper Final = Final
 deeper (InTail g n) = InTail g (suc n)
 
 -- the operands become the n + 1 parameters
@@ -101,21 +102,33 @@ abbrev pub into_params : ℕ → List Instr → List Instr
 into_params zero rest = LocalSet 0 ∷ rest
 into_params (suc n) rest = LocalSet (suc n) ∷ into_params n rest
 
--- a branch out of more blocks is a call
+-- a branch out of more blocks is a tail call
 abbrev pub most_blocks : ℕ
 most_blocks = 16383
 
 abbrev pub jumps : ℕ → ℕ → ℕ → Bool
 jumps g h depth = nat_eq g h && nat_le depth most_blocks
 
+-- a call of the function with this index, and of an unknown closure's function by its entry of table 0: in the tail of a function they are tail calls
+abbrev pub call_of : Position → ℕ → Instr
+call_of Inside f = Call f
+call_of Final f = ReturnCall f
+call_of (InTail h depth) f = ReturnCall f
+
+abbrev pub closure_call : Position → Instr
+closure_call Inside = CallClosure
+closure_call Final = ReturnCallIndirect 2 0
+closure_call (InTail h depth) = ReturnCallIndirect 2 0
+
 -- the worker of g is called with n captured words and an argument
 abbrev pub call_worker : Program → Position → ℕ → ℕ → List Instr → List Instr
 call_worker P Inside g n rest = Call (worker_index P g) ∷ rest
-call_worker P (InTail h depth) g n rest = if jumps g h depth then into_params n (Br depth ∷ rest) else (Call (worker_index P g) ∷ rest)
+call_worker P Final g n rest = ReturnCall (worker_index P g) ∷ rest
+call_worker P (InTail h depth) g n rest = if jumps g h depth then into_params n (Br depth ∷ rest) else (ReturnCall (worker_index P g) ∷ rest)
 
 -- an unknown closure's function is called by its entry of the table; a known one by its worker
 abbrev pub application : Program → List Place → Position → Atom → Atom → Option (ℕ × List Word) → List Instr → List Instr
-application P env at f a None rest = atom env f (atom env a (atom env f (Load 0 ∷ CallClosure ∷ rest)))
+application P env at f a None rest = atom env f (atom env a (atom env f (Load 0 ∷ closure_call at ∷ rest)))
 application P env at f a (Some k) rest = push_words k.1 (atom env a (call_worker P at k.0 (length k.1) rest))
 
 -- Matches.
@@ -174,7 +187,7 @@ into_local env d (OCase a bs) made rest = made (LocalSet d ∷ rest)
 module _ (P : Program) where
   abbrev mutual
     pub op : List Place → ℕ → Position → Op → List Instr → List Instr
-    op env d at (OConst x) rest = Call (constant_index P x) ∷ rest
+    op env d at (OConst x) rest = call_of at (constant_index P x) ∷ rest
     op env d at (OApp f a) rest = application P env at f a (known_function env f) rest
     op env d at (OCon c as') rest = block env d (length as' * 65536 + c) as' rest
     op env d at (OClos g as') rest = block env d (suc g) as' rest

@@ -8,14 +8,14 @@ use Rattle.wasm_core.specs.declared.exports.Export.{Export}
 use Rattle.wasm_core.specs.declared.exports.ExportKind.TheVariants as kind
 use Rattle.wasm_core.specs.declared.instrs.BlockType.TheVariants.{Value}
 use Rattle.wasm_core.specs.declared.instrs.Instr.{Instr}
-use Rattle.wasm_core.specs.declared.instrs.Instr.TheVariants.{Unreachable, Loop, End, Call, LocalGet, GlobalSet}
+use Rattle.wasm_core.specs.declared.instrs.Instr.TheVariants.{Unreachable, Loop, End, ReturnCall, LocalGet, GlobalSet}
 use Rattle.wasm_core.specs.declared.instrs.Body.{Body}
 use Rattle.wasm_core.specs.Parts.{Parts}
 use Rattle.wasm_emit.specs.EmittedCode.{Load}
 use Rattle.wasm_emit.specs.EmittedLocals.{top}
 use Rattle.wasm_emit.specs.EmittedModule.{type_main, type_constant, type_function, body, room_function, box_function, main_index, entries, word_global}
 use Rattle.known_calls.specs.KnownPlaces.{Place, At, InLocal, fields_of}
-use Rattle.known_calls.specs.KnownCode.{is_wide, worker_index, Inside, InTail, code}
+use Rattle.known_calls.specs.KnownCode.{is_wide, worker_index, Inside, Final, InTail, code}
 
 -- the type of a worker of n captured words
 abbrev pub words_type : ℕ → FuncType
@@ -43,11 +43,11 @@ captured_words (suc n) rest = captured_words n (LocalGet 0 ∷ Load (4 * suc n) 
 
 -- the body of a function that has no worker
 abbrev pub wide_body : Program → Fn → Body
-wide_body P f = body (top 2 f.body - 2) (code P (At (InLocal 1) ∷ fields_of 0 f.captured []) 2 Inside f.body (End ∷ []))
+wide_body P f = body (top 2 f.body - 2) (code P (At (InLocal 1) ∷ fields_of 0 f.captured []) 2 Final f.body (End ∷ []))
 
--- what a call of a closure enters: it calls the worker with the captured words and the argument
+-- what a call of a closure enters: it calls the worker with the captured words and the argument, and leaves no frame of its own
 abbrev pub stub_code : Program → ℕ → ℕ → List Instr
-stub_code P g captured = captured_words captured (LocalGet 1 ∷ Call (worker_index P g) ∷ End ∷ [])
+stub_code P g captured = captured_words captured (LocalGet 1 ∷ ReturnCall (worker_index P g) ∷ End ∷ [])
 
 abbrev pub entry : Program → ℕ → Fn → Body
 entry P g f = if is_wide f then wide_body P f else body 0 (stub_code P g f.captured)
@@ -69,7 +69,7 @@ numbered make g [] = []
 numbered make g (f ∷ fs) = make g f ∷ numbered make (suc g) fs
 
 abbrev pub constant : Program → Block → Body
-constant P t = body (top 0 t) (code P [] 0 Inside t (End ∷ []))
+constant P t = body (top 0 t) (code P [] 0 Final t (End ∷ []))
 
 abbrev pub main_function : Program → Body
 main_function P = body (top 0 P.main) (code P [] 0 Inside P.main (GlobalSet 0 ∷ End ∷ []))

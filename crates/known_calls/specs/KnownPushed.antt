@@ -8,14 +8,15 @@ use Rattle.closure_lift.specs.declared.program.Lifted.{Lifted}
 use Rattle.closure_lift.specs.declared.program.LiftedBranch.{LiftedBranch}
 use Rattle.wasm_core.specs.declared.instrs.Instr.{Instr}
 use Rattle.wasm_core.specs.declared.instrs.Instr.TheVariants.{Unreachable, LocalSet, GlobalGet}
-use Rattle.wasm_emit.specs.EmittedCode.{Load, CallClosure}
+use Rattle.wasm_emit.specs.EmittedCode.{Load}
 use Rattle.wasm_emit.specs.Pushed.{ends, renumber_bound}
 use Rattle.known_calls.specs.KnownPlaces.{Place, At, InLocal}
-use Rattle.known_calls.specs.KnownCode.{Position, Inside, InTail, known, atom, into_local, some_heads, some_branches, op, code, empties, heads, branch}
+use Rattle.known_calls.specs.KnownCode.{Position, Inside, InTail, known, atom, into_local, some_heads, some_branches, op, code, empties, heads, branch, Final, closure_call}
 
 -- the position under n blocks more
 abbrev pub under_position : ℕ → Position → Position
 under_position n Inside = Inside
+under_position n Final = Final
 under_position n (InTail g depth) = InTail g (depth + n)
 
 -- what a block binds, or ends in
@@ -109,12 +110,12 @@ pub record BlockArm (Q : Lifted) (env : List Place) (d : ℕ) (at : Position) (c
       new ++ heads (lifted_of Q) env d (under_position n at) (suc c) more (ends n rest) ≡ old ++ heads (lifted_of Q) env d at c (BCons b.binders (renumber (place_in Q.constants) b.body) more) rest
 
 -- a closure that isn't known, applied
-abbrev pub unknown_application : List Place → Atom → Atom → List Instr → List Instr
-unknown_application env f a rest = atom env f (atom env a (atom env f (Load 0 ∷ CallClosure ∷ rest)))
+abbrev pub unknown_application : List Place → Position → Atom → Atom → List Instr → List Instr
+unknown_application env at f a rest = atom env f (atom env a (atom env f (Load 0 ∷ closure_call at ∷ rest)))
 
 -- the word on the operands is applied to argument n
 abbrev pub argument_code : ℕ → List Instr → List Instr
-argument_code n rest = LocalSet 0 ∷ GlobalGet 3 ∷ Load (4 * n) ∷ LocalSet 1 ∷ unknown_application (At (InLocal 1) ∷ At (InLocal 0) ∷ []) (AVar 1) (AVar 0) rest
+argument_code n rest = LocalSet 0 ∷ GlobalGet 3 ∷ Load (4 * n) ∷ LocalSet 1 ∷ unknown_application (At (InLocal 1) ∷ At (InLocal 0) ∷ []) Inside (AVar 1) (AVar 0) rest
 
 -- it is applied to so many arguments, the first first
 abbrev pub arguments_code : ℕ → List Instr → List Instr

@@ -16,7 +16,7 @@ ghost use Rattle.known_calls.specs.KnownPlaces.{At, InLocal};
 ghost use Rattle.known_calls.specs.KnownCode.{Inside, new_block, some_heads};
 ghost use Rattle.wasm_core.specs.declared.instrs.Instr.TheVariants.{LocalSet};
 
-use crate::calls::push_application;
+use crate::calls::{call_of, push_application};
 use crate::closures::known;
 use crate::instructions::{push_atom, push_moved_field, push_new_block};
 use crate::marks::{take_field_mark, take_mark};
@@ -193,7 +193,7 @@ fn push_op(
         LiftedOp::Atom(a) => push_atom(places.as_slice(), *a, out),
         LiftedOp::Const(name) => {
             let index = index_of_constant(p, numbers, *name)?;
-            push(out, Instr::Call(index))
+            push(out, call_of(site.at, index))
         }
         LiftedOp::App(f, a) => push_application(p, places.as_slice(), site.at, *f, *a, out),
         LiftedOp::Construct(c, args) => {

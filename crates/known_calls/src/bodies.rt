@@ -8,7 +8,6 @@ ghost use Rattle.wasm_emit.specs.EmittedBodies.{FewInFunction, FewInBlock, FewLo
 ghost use Rattle.wasm_emit.specs.EmittedModule.{body};
 ghost use Rattle.wasm_emit.specs.Pushed.{Pushed, function_in, MemoryOrLocals};
 ghost use Rattle.wasm_emit.specs.declared.fault.EmitFault.TheVariants.{Memory};
-ghost use Rattle.known_calls.specs.KnownCode.{Inside};
 ghost use Rattle.wasm_core.specs.declared.instrs.Instr.TheVariants.{End, Loop, Unreachable};
 ghost use Rattle.wasm_core.specs.declared.instrs.BlockType.TheVariants.{Value};
 ghost use Rattle.wasm_core.specs.declared.types.ValType.TheVariants as type;
@@ -81,7 +80,7 @@ fn wide_body(
     places.push(Place::At(Word::Local(1)))?;
     let site = Site {
         local: 2,
-        at: Position::Inside,
+        at: Position::Final,
     };
     let mut code = Vec::new(alloc);
     push_whole(p, numbers, &mut places, site, &f.body, &mut code)?;
@@ -89,7 +88,7 @@ fn wide_body(
     body_of(alloc, count - 2, code)
 }
 
-/// The body of an entry that calls the worker of function g, which has so many captured words. Only `Memory`.
+/// The body of an entry that calls the worker of function g, which has so many captured words, in its own place. Only `Memory`.
 fn stub_body(alloc: Global, p: &Lifted, g: u32, captured: u32) -> Result<Body, EmitFault>
     ensures is { IfOk result (λ b. b ≡ body 0 (stub_code (lifted_of p.now) g captured)) }
     ensures only_memory { IfErr result (λ e. e ≡ Memory) }
@@ -98,7 +97,7 @@ fn stub_body(alloc: Global, p: &Lifted, g: u32, captured: u32) -> Result<Body, E
     let mut code = Vec::new(alloc);
     push_captured(captured, &mut code)?;
     push(&mut code, Instr::LocalGet(1))?;
-    push(&mut code, Instr::Call(index))?;
+    push(&mut code, Instr::ReturnCall(index))?;
     push(&mut code, Instr::End)?;
     body_of(alloc, 0, code)
 }
@@ -194,27 +193,25 @@ fn constant_body(
     ensures refused { IfErr result (λ e. MemoryOrLocals e (top 0 b.now)) }
 {
     let count = locals_of_block(0, MOST_LOCALS, b)?;
-    let mut code = main_code(alloc, p, numbers, b)?;
+    let mut code = code_of(alloc, p, numbers, Position::Final, b)?;
     push(&mut code, Instr::End)?;
     body_of(alloc, count, code)
 }
 
 /// The code of a block that stands under no variable. Only `Memory`.
-fn main_code(
+fn code_of(
     alloc: Global,
     p: &Lifted,
     numbers: &HashMap<u32, usize>,
+    at: Position,
     b: &LiftedBlock,
 ) -> Result<Vec<Instr>, EmitFault>
     requires numbered { AreNumbered numbers.now p.now.constants }
-    ensures is { IfOk result (λ v. Pushed [] v.items (block_code p.now [] 0 Inside b.now)) }
+    ensures is { IfOk result (λ v. Pushed [] v.items (block_code p.now [] 0 at b.now)) }
     ensures only_memory { IfErr result (λ e. e ≡ Memory) }
 {
     let mut places = Vec::new(alloc);
-    let site = Site {
-        local: 0,
-        at: Position::Inside,
-    };
+    let site = Site { local: 0, at };
     let mut code = Vec::new(alloc);
     push_whole(p, numbers, &mut places, site, b, &mut code)?;
     Ok(code)
@@ -228,7 +225,7 @@ fn main_body(alloc: Global, p: &Lifted, numbers: &HashMap<u32, usize>) -> Result
     ensures refused { IfErr result (λ e. MemoryOrLocals e (top 0 p.now.main)) }
 {
     let count = locals_of_block(0, MOST_LOCALS, &p.main)?;
-    let mut code = main_code(alloc, p, numbers, &p.main)?;
+    let mut code = code_of(alloc, p, numbers, Position::Inside, &p.main)?;
     push(&mut code, Instr::GlobalSet(0))?;
     push(&mut code, Instr::End)?;
     body_of(alloc, count, code)
@@ -248,7 +245,7 @@ fn call_body(
     ensures refused { IfErr result (λ e. MemoryOrLocals e (top 0 p.now.main)) }
 {
     let count = locals_of_block(0, MOST_LOCALS, &p.main)?;
-    let mut code = main_code(alloc, p, numbers, &p.main)?;
+    let mut code = code_of(alloc, p, numbers, Position::Inside, &p.main)?;
     push_arguments(k, &mut code)?;
     push(&mut code, Instr::GlobalSet(0))?;
     push(&mut code, Instr::End)?;

@@ -5,6 +5,7 @@ ghost use Rattle.wasm_emit.specs.Pushed.{Pushed};
 ghost use Rattle.wasm_emit.specs.declared.fault.EmitFault.TheVariants.{Memory};
 ghost use Rattle.known_calls.specs.KnownPlaces.{known_function};
 ghost use Rattle.known_calls.specs.KnownCode.{application, call_worker, jumps as is_jump, worker_index as index_of_worker};
+ghost use Rattle.known_calls.specs.KnownCode.{call_of as call_at, closure_call as closure_call_at};
 ghost use Rattle.known_calls.specs.KnownPushed.{argument_code, arguments_code, unknown_application};
 
 use crate::instructions::{push_atom, push_into_params, push_words};
@@ -18,7 +19,7 @@ use wasm_emit::EmitFault;
 use wasm_emit::functions::function_index;
 use wasm_emit::instructions::{bytes_of, push, push_load};
 
-/// A branch out of more blocks is a call.
+/// A branch out of more blocks is a tail call.
 const MOST_BLOCKS: u32 = 16_383;
 
 /// The index of the worker of function g. An index past 32 bits is `Memory`.
@@ -42,8 +43,27 @@ fn jumps(g: u32, h: u32, depth: u32) -> bool
     g == h && depth <= MOST_BLOCKS
 }
 
-/// Calls the worker of function g with n captured words and an argument, which are on the operands; in the tail of its own body, branches to its beginning.
-/// Only `Memory`.
+/// The call of the function with this index.
+pub(crate) fn call_of(at: Position, index: u32) -> Instr
+    ensures is { result ≡ call_at at index }
+{
+    match at {
+        Position::Inside => Instr::Call(index),
+        Position::Final | Position::InTail(_, _) => Instr::ReturnCall(index),
+    }
+}
+
+/// The call of an unknown closure's function, by its entry of table 0.
+fn closure_call(at: Position) -> Instr
+    ensures is { result ≡ closure_call_at at }
+{
+    match at {
+        Position::Inside => Instr::CallIndirect(2, 0),
+        Position::Final | Position::InTail(_, _) => Instr::ReturnCallIndirect(2, 0),
+    }
+}
+
+/// Calls the worker of function g with n captured words and an argument, which are on the operands. Only `Memory`.
 fn push_worker_call(
     p: &Lifted,
     at: Position,
@@ -54,26 +74,36 @@ fn push_worker_call(
     ensures pushed { OnOk result (Pushed out.old.items out.new.items (call_worker (lifted_of p.now) at g n)) }
     ensures only_memory { IfErr result (λ e. e ≡ Memory) }
 {
-    if let Position::InTail(h, depth) = at {
-        if jumps(g, h, depth) {
-            push_into_params(n, out)?;
-            return push(out, Instr::Br(depth));
+    let index = worker_index(p, g)?;
+    match at {
+        Position::Inside => push(out, Instr::Call(index)),
+        Position::Final => push(out, Instr::ReturnCall(index)),
+        Position::InTail(h, depth) => {
+            if jumps(g, h, depth) {
+                push_into_params(n, out)?;
+                return push(out, Instr::Br(depth));
+            }
+            push(out, Instr::ReturnCall(index))
         }
     }
-    let index = worker_index(p, g)?;
-    push(out, Instr::Call(index))
 }
 
 /// Calls a closure's function with the closure and the argument: its entry of the table is the first word of its block. Only `Memory`.
-fn push_unknown(places: &[Place], f: Atom, a: Atom, out: &mut Vec<Instr>) -> Result<(), EmitFault>
-    ensures pushed { OnOk result (Pushed out.old.items out.new.items (unknown_application (reverse places.now) f a)) }
+fn push_unknown(
+    places: &[Place],
+    at: Position,
+    f: Atom,
+    a: Atom,
+    out: &mut Vec<Instr>,
+) -> Result<(), EmitFault>
+    ensures pushed { OnOk result (Pushed out.old.items out.new.items (unknown_application (reverse places.now) at f a)) }
     ensures only_memory { IfErr result (λ e. e ≡ Memory) }
 {
     push_atom(places, f, out)?;
     push_atom(places, a, out)?;
     push_atom(places, f, out)?;
     push_load(out, 0)?;
-    push(out, Instr::CallIndirect(2, 0))
+    push(out, closure_call(at))
 }
 
 /// Applies a function to an argument: a known one by its worker, any other by the table. Only `Memory`.
@@ -89,10 +119,10 @@ pub(crate) fn push_application(
     ensures only_memory { IfErr result (λ e. e ≡ Memory) }
 {
     let Atom::Var(i) = f else {
-        return push_unknown(places, f, a, out);
+        return push_unknown(places, at, f, a, out);
     };
     let Some(Place::Known(g, words)) = place_of(places, i) else {
-        return push_unknown(places, f, a, out);
+        return push_unknown(places, at, f, a, out);
     };
     let Ok(n) = u32::try_from(words.len()) else {
         return Err(EmitFault::Memory);
@@ -114,7 +144,7 @@ fn push_argument(n: u32, out: &mut Vec<Instr>) -> Result<(), EmitFault>
     push_load(out, offset)?;
     push(out, Instr::LocalSet(1))?;
     let places = [Place::At(Word::Local(0)), Place::At(Word::Local(1))];
-    push_unknown(&places, Atom::Var(1), Atom::Var(0), out)
+    push_unknown(&places, Position::Inside, Atom::Var(1), Atom::Var(0), out)
 }
 
 /// Applies the word on the operands to `k` arguments, the first first. Only `Memory`.

@@ -105,11 +105,7 @@ pub(crate) fn push_new_block(
 }
 
 /// The only field of the block whose address is in local d comes into that local, where it is moved there. Only `Memory`.
-pub(crate) fn push_moved_field(
-    moved: bool,
-    d: u32,
-    out: &mut Vec<Instr>,
-) -> Result<(), EmitFault>
+pub(crate) fn push_moved_field(moved: bool, d: u32, out: &mut Vec<Instr>) -> Result<(), EmitFault>
     ensures pushed { OnOk result (Pushed out.old.items out.new.items (move_field moved d)) }
     ensures only_memory { IfErr result (λ e. e ≡ Memory) }
 {

@@ -3,7 +3,8 @@
 //! Called through the table, a function of two arguments makes two closures and is called twice. Here an environment may hold a
 //! closure that is known (`specs/KnownPlaces.antt`): its function, and where its captured words are, seven at most. Where a closure or a partial application
 //! is known, and read as a word nowhere, it is made nowhere; a saturated call of a known function calls its worker, whose parameters are the captured words and
-//! the argument; a worker's tail call of itself is a branch to its beginning; and what calls through the table enter is a stub that calls the worker.
+//! the argument; a worker's tail call of itself is a branch to its beginning; every other call in the tail of a function takes that function's frame;
+//! and what calls through the table enter is a stub that calls the worker in its own place.
 //! `KnownCode` says the instructions, `KnownModule` the module, and `KnownCalls` that for a main that takes arguments from memory. A function of over seven
 //! captured words has its body behind the table, and no worker.
 //!

@@ -10,7 +10,10 @@ use wasm_emit::EmitFault;
 pub enum Position {
     /// A call.
     Inside,
-    /// In the tail of the body of this function's worker: a branch out of so many blocks to the worker's beginning.
+    /// In the tail of a function without a loop: a tail call.
+    Final,
+    /// In the tail of the body of this function's worker: of the worker itself a branch out of so many blocks to its beginning, of any other
+    /// function a tail call.
     InTail(u32, u32),
 }
 
@@ -39,6 +42,7 @@ pub(crate) fn under(at: Position, n: usize) -> Result<Position, EmitFault>
 {
     match at {
         Position::Inside => Ok(Position::Inside),
+        Position::Final => Ok(Position::Final),
         Position::InTail(g, depth) => {
             let Some(sum) = (depth as usize).checked_add(n) else {
                 return Err(EmitFault::Memory);

@@ -12,7 +12,7 @@ use Rattle.wasm_core.specs.declared.instrs.Instr.TheVariants.{Unreachable, Nop, 
 use Rattle.wasm_core.specs.Parts.{Parts}
 use Rattle.wasm_core.specs.Arithmetic.{flag, is_unary}
 use Rattle.wasm_core.specs.Instance.{Func, func_of, table_of, greatest_pages}
-use Rattle.wasm_core.specs.MachineStep.{Bracket, Opens, Divides, Closes, Plain, bracket, past_end, to_else, after_end, else_arm, BlockLabel, Frame, Store, Conf, State, At, Over, on_some, taking, arm, leave_block, back, at_end, jump, call, call_entry, same_func_type, within, operation, act, next, step, Reach}
+use Rattle.wasm_core.specs.MachineStep.{Bracket, Opens, Divides, Closes, Plain, bracket, past_end, to_else, after_end, else_arm, BlockLabel, Frame, Store, Conf, State, At, Over, on_some, taking, arm, leave_block, back, at_end, jump, call, tail_call, on_entry, same_func_type, within, operation, act, next, step, Reach}
 use Rattle.wasm_core.proofs.Small.{inj, no}
 
 -- an emitted instruction that neither grows memory nor sets the status
@@ -25,6 +25,8 @@ NotStatus Else = Unit {0}
 NotStatus End = Unit {0}
 NotStatus (Call f) = Unit {0}
 NotStatus (CallIndirect index table) = Unit {0}
+NotStatus (ReturnCall f) = Unit {0}
+NotStatus (ReturnCallIndirect index table) = Unit {0}
 NotStatus (LocalGet x) = Unit {0}
 NotStatus (LocalSet x) = Unit {0}
 NotStatus (LocalTee x) = Unit {0}
@@ -153,6 +155,9 @@ module _ (m : Parts) (funcs : (f : ℕ) (g : Func) → func_of m f ≡ Some g �
     called : (g : Func) (vals operands : List ConstValue) (rest all : List Instr) → Wary g.body.code → Wary rest → HonestNext (call (at vals all) g operands rest)
     called g vals operands rest all wg w = if_ok (nat_le (length g.type.params) (length operands)) _ _ (λ e. record { now = at_wary wg; labels = tt; callers = (w, lw, cw); status = st; pages = pg }) (λ e. tt)
 
+    replaced : (g : Func) (vals operands : List ConstValue) (all : List Instr) → Wary g.body.code → HonestNext (tail_call (at vals all) g operands)
+    replaced g vals operands all wg = if_ok (nat_le (length g.type.params) (length operands)) _ _ (λ e. record { now = at_wary wg; labels = tt; callers = cw; status = st; pages = pg }) (λ e. tt)
+
     going_back : (vals : List ConstValue) (all : List Instr) (as' : List Frame) (top : List ConstValue) → Callers as' → HonestNext (back (at vals all) as' top)
     going_back vals all [] top cs = st
     going_back vals all (a ∷ as') top cs = record { now = at_wary cs.0; labels = cs.1; callers = cs.2; status = st; pages = pg }
@@ -183,10 +188,10 @@ module _ (m : Parts) (funcs : (f : ℕ) (g : Func) → func_of m f ≡ Some g �
     end_ok vals rest all w [] l = leaving keeps vals vals all
     end_ok vals rest all w (k ∷ ls) l = record { now = at_wary w; labels = l.1; callers = cw; status = st; pages = pg }
 
-    entry_ok : (t : FuncType) (vals operands : List ConstValue) (rest all : List Instr) → Wary rest → (o : Option (Option ℕ)) → HonestNext (call_entry m t o operands rest (at vals all))
-    entry_ok t vals operands rest all w None = st
-    entry_ok t vals operands rest all w (Some None) = st
-    entry_ok t vals operands rest all w (Some (Some f)) = some_ok (func_of m f) _ (λ g e. if_ok (same_func_type t g.type) _ _ (λ z. called g vals operands rest all (funcs f g e) w) (λ z. st))
+    entry_ok : (t : FuncType) (vals : List ConstValue) (all : List Instr) (go : Func → Option State) → ((g : Func) → Wary g.body.code → HonestNext (go g)) → (o : Option (Option ℕ)) → HonestNext (on_entry m t o (at vals all) go)
+    entry_ok t vals all go h None = st
+    entry_ok t vals all go h (Some None) = st
+    entry_ok t vals all go h (Some (Some f)) = some_ok (func_of m f) _ (λ g e. if_ok (same_func_type t g.type) _ _ (λ z. h g (funcs f g e)) (λ z. st))
 
     op_ok : (b : Bool) (op : I32Op) (vals : List ConstValue) (rest all : List Instr) → Wary rest → HonestNext (operation b op rest (at vals all))
     op_ok true op [] rest all w = tt
@@ -210,7 +215,11 @@ module _ (m : Parts) (funcs : (f : ℕ) (g : Func) → func_of m f ≡ Some g �
     honest_act (Call f) vals rest all n w = some_ok (func_of m f) _ (λ g e. called g vals vals rest all (funcs f g e) w)
     honest_act (CallIndirect index table) [] rest all n w = some_ok (slice_get m.types index) _ (λ t e. tt)
     honest_act (CallIndirect index table) (I64 x ∷ vals) rest all n w = some_ok (slice_get m.types index) _ (λ t e. tt)
-    honest_act (CallIndirect index table) (I32 x ∷ vals) rest all n w = some_ok (slice_get m.types index) _ (λ t e. entry_ok t (I32 x ∷ vals) vals rest all w (slice_get (table_of m) x))
+    honest_act (CallIndirect index table) (I32 x ∷ vals) rest all n w = some_ok (slice_get m.types index) _ (λ t e. entry_ok t (I32 x ∷ vals) all (λ g. call (at (I32 x ∷ vals) all) g vals rest) (λ g wg. called g (I32 x ∷ vals) vals rest all wg w) (slice_get (table_of m) x))
+    honest_act (ReturnCall f) vals rest all n w = some_ok (func_of m f) _ (λ g e. replaced g vals vals all (funcs f g e))
+    honest_act (ReturnCallIndirect index table) [] rest all n w = some_ok (slice_get m.types index) _ (λ t e. tt)
+    honest_act (ReturnCallIndirect index table) (I64 x ∷ vals) rest all n w = some_ok (slice_get m.types index) _ (λ t e. tt)
+    honest_act (ReturnCallIndirect index table) (I32 x ∷ vals) rest all n w = some_ok (slice_get m.types index) _ (λ t e. entry_ok t (I32 x ∷ vals) all (λ g. tail_call (at (I32 x ∷ vals) all) g vals) (λ g wg. replaced g (I32 x ∷ vals) vals all wg) (slice_get (table_of m) x))
     honest_act (LocalGet x) vals rest all n w = some_ok (slice_get ls x) _ (λ y e. on w)
     honest_act (LocalSet x) [] rest all n w = tt
     honest_act (LocalSet x) (y ∷ vals) rest all n w = some_ok (slice_get ls x) _ (λ z e. on w)
@@ -235,8 +244,6 @@ module _ (m : Parts) (funcs : (f : ℕ) (g : Func) → func_of m f ≡ Some g �
     honest_act (BrIf x) vals rest all n w = absurd n
     honest_act (BrTable x xs) vals rest all n w = absurd n
     honest_act Return vals rest all n w = absurd n
-    honest_act (ReturnCall f) vals rest all n w = absurd n
-    honest_act (ReturnCallIndirect index table) vals rest all n w = absurd n
     honest_act Drop vals rest all n w = absurd n
     honest_act (I32Load8U a) vals rest all n w = absurd n
     honest_act (I32Store8 a) vals rest all n w = absurd n

@@ -151,10 +151,6 @@ module _ (M : Parts) (cap : Limits) (Q : State → Type 0) where
     pub r_end : {k : BlockLabel} → length f.callers ≤ cap.frames → Within M cap Q l u (here cap f m p h ls (vals ++ k.below) rest) → Within M cap Q (suc l) (suc u) (here cap (in_block k f) m p h ls vals (End ∷ rest))
     r_end {k} deep w = rule.r_end M cap.frames Q E {k = k} deep w
 
-    -- a function returns to the one that called it
-    pub r_back : {w : ℕ} {ls' vals' : List ConstValue} {rest' : List Instr} → suc (length f.callers) ≤ cap.frames → Within M cap Q l u (here cap f m p h ls (I32 w ∷ vals) rest) → Within M cap Q (suc l) (suc u) (here cap (callee f ls vals rest) m p h ls' (I32 w ∷ vals') (End ∷ rest'))
-    r_back deep k = rule.one M cap.frames Q E deep (λ g. refl) k
-
     -- `calling false` is the call of a function without parameters
     pub r_call_0 : (n : ℕ) {x : ℕ} {code : List Instr} → length f.callers ≤ cap.frames → func_of M x ≡ Some (func type_constant n code) → Within M cap Q l u (here cap (callee f ls vals rest) m p h (zeros n) [] code) → Within M cap Q (suc l) (suc u) (here cap f m p h ls vals (Call x ∷ rest))
     r_call_0 n {x} {code} deep e k = rule.r_call M cap.frames Q E {x = x} {h = func type_constant n code} deep e (omega arith) k

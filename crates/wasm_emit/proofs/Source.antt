@@ -20,16 +20,16 @@ all_size (are_more h hs) = ap suc (all_size hs)
 
 -- `Does P w m e op v c k b s`: the operation gives the value, with c contractions, of which k are matches, and b blocks
 -- of s words in all, where no block has over w words and no match over m branches
--- a call is one more that stands in another; one in tail position is too, since it is a plain call
-abbrev pub deeper : Bool → ℕ → ℕ
-deeper false d = suc d
-deeper true d = suc d
+-- a call that isn't in tail position is one more that stands in another
+abbrev pub with_call : Bool → ℕ → ℕ
+with_call false d = suc d
+with_call true d = d
 
 mutual
   pub data Does (P : Program) (w m : ℕ) : Bool → ℕ → Vals → Op → Val → ℕ → ℕ → ℕ → ℕ → Type 0 where
-    do_const : {tail : Bool} {D : ℕ} {e : Vals} {x : ℕ} {t : Block} {v : Val} {c k b s : ℕ} → slice_get P.constants x ≡ Some t → Gets P w m true D VNil t v c k b s → Does P w m tail (deeper tail D) e (OConst x) v (suc c) k b s
+    do_const : {tail : Bool} {D : ℕ} {e : Vals} {x : ℕ} {t : Block} {v : Val} {c k b s : ℕ} → slice_get P.constants x ≡ Some t → Gets P w m true D VNil t v c k b s → Does P w m tail (with_call tail D) e (OConst x) v (suc c) k b s
     do_app : {tail : Bool} {D : ℕ} {e e' : Vals} {f a : Atom} {g : ℕ} {fn : Fn} {v r : Val} {c k b s : ℕ} → Is e f (VClos g e') → Is e a v → slice_get P.functions g ≡ Some fn → size e' ≡ fn.captured → Gets P w m true D (VCons v e') fn.body r c k b s →
-        Does P w m tail (deeper tail D) e (OApp f a) r (suc c) k b s
+        Does P w m tail (with_call tail D) e (OApp f a) r (suc c) k b s
     do_box_app : {tail : Bool} {D : ℕ} {e : Vals} {f a : Atom} {v : Val} → Is e f VBox → Is e a v → Does P w m tail D e (OApp f a) VBox 1 0 0 0
     do_con : {tail : Bool} {D : ℕ} {e : Vals} {c : ℕ} {as' : List Atom} {vs : Vals} → c < 65536 → 0 < length as' → length as' < 2049 → length as' < w → AllAre e as' vs → Does P w m tail D e (OCon c as') (VCon c vs) 0 0 1 (suc (length as'))
     do_clos : {tail : Bool} {D : ℕ} {e : Vals} {g : ℕ} {as' : List Atom} {vs : Vals} → g < 32768 → length as' < 2049 → length as' < w → AllAre e as' vs → Does P w m tail D e (OClos g as') (VClos g vs) 0 0 1 (suc (length as'))

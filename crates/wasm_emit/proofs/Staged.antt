@@ -22,10 +22,8 @@ module _ (P : Program) (w m : ℕ) where
   -- a greater depth
   mutual
     pub raise_op : {tail : Bool} {D : ℕ} {e : Vals} {op : Op} {v : Val} {c k b s : ℕ} → Does P w m tail D e op v c k b s → (D' : ℕ) → D ≤ D' → Does P w m tail D' e op v c k b s
-    raise_op (do_const {tail = true} at g) zero le = absurd (omega arith)
-    raise_op (do_const {tail = true} at g) (suc D') le = do_const {tail = true} at (raise g D' (omega arith))
-    raise_op (do_app {tail = true} isf isa at sz g) zero le = absurd (omega arith)
-    raise_op (do_app {tail = true} isf isa at sz g) (suc D') le = do_app {tail = true} isf isa at sz (raise g D' (omega arith))
+    raise_op (do_const {tail = true} at g) D' le = do_const {tail = true} at (raise g D' le)
+    raise_op (do_app {tail = true} isf isa at sz g) D' le = do_app {tail = true} isf isa at sz (raise g D' le)
     raise_op (do_const {tail = false} at g) zero le = absurd (omega arith)
     raise_op (do_const {tail = false} at g) (suc D') le = do_const {tail = false} at (raise g D' (omega arith))
     raise_op (do_app {tail = false} isf isa at sz g) zero le = absurd (omega arith)
