@@ -69,14 +69,15 @@ not_fix n t e k h = node n (along (λ x. IsFixNode x) (sym e) k) h
     node (FixNode ds i) k h = h ds i refl
     node n k h = k
 
--- an item of a list of arguments that is beyond the limits
-pub drop_item : (xs : List Lazy) (i : ℕ) (x : Lazy) → x ≡ get_or xs i x → i < length xs → drop i xs ≡ x ∷ drop (i + 1) xs
+-- an item of a list
+pub drop_item : {A : Type 0} (xs : List A) (i : ℕ) (x : A) → x ≡ get_or xs i x → i < length xs → drop i xs ≡ x ∷ drop (i + 1) xs
 drop_item [] i x e h = absurd (omega arith)
 drop_item (y ∷ xs) zero x e h = ap (λ z. z ∷ xs) (sym e)
 drop_item (y ∷ xs) (suc i) x e h =
     let n : suc (i + 1) ≡ suc i + 1 = omega arith in
     drop_item xs i x e (omega arith) ∙ ap (λ z. x ∷ z) (ap (λ m. drop m (y ∷ xs)) n)
 
+-- an argument that is beyond the limits
 app_deep : (g t : Term) → IsBeyond t → IsBeyond (App g t)
 app_deep g t (inl h) = inl (omega arith)
 app_deep g t (inr h) = inr (omega arith)

@@ -21,7 +21,7 @@ map_drop xs zero = refl
 map_drop [] (suc n) = refl
 map_drop (x ∷ xs) (suc n) = map_drop xs n
 
-drop_all : (xs : List Lazy) (n : ℕ) → length xs ≤ n → drop n xs ≡ []
+pub drop_all : {A : Type 0} (xs : List A) (n : ℕ) → length xs ≤ n → drop n xs ≡ []
 drop_all [] zero h = refl
 drop_all [] (suc n) h = refl
 drop_all (x ∷ xs) zero h = absurd (omega arith)
@@ -49,7 +49,7 @@ apply_more : (h : Term) (xs : List Term) (a : Term) → apply h (xs ++ (a ∷ []
 apply_more h [] a = refl
 apply_more h (x ∷ xs) a = apply_more (App h x) xs a
 
-map_more : (xs : List Lazy) (l : Lazy) → map read (xs ++ (l ∷ [])) ≡ map read xs ++ (read l ∷ [])
+pub map_more : (xs : List Lazy) (l : Lazy) → map read (xs ++ (l ∷ [])) ≡ map read xs ++ (read l ∷ [])
 map_more [] l = refl
 map_more (x ∷ xs) l = ap (◌∷◌ (read x)) (map_more xs l)
 

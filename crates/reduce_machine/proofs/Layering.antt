@@ -17,7 +17,6 @@ use Rattle.reduce_machine.specs.declared.machine.Root.{Root}
 use Rattle.reduce_machine.proofs.Plugging.{plug_append, plug_last, frames_last, frames_before, weights_last}
 use Rattle.reduce_machine.proofs.Entering.{popped_beyond}
 use Rattle.reduce_machine.proofs.Standing.{stands_at}
-use Rattle.trees.proofs.Put.{substitute_same}
 
 pub layers_append : (fs gs : List Frame) → layers (fs ++ gs) ≡ layers fs ++ layers gs
 layers_append [] gs = refl
@@ -200,5 +199,5 @@ popped_count fs gs f e =
     omega arith
 
 -- a term with no frames
-pub start_whole : (m : Machine) (t : Term) → m.focus.term ≡ t → m.focus.env.items ≡ [] → m.frames.items ≡ [] → whole m ≡ t
-start_whole m t p q r = (λ j. plug (layers (r j)) (substitute (stands (q j)) (p j))) ∙ substitute_same t
+pub start_whole : (m : Machine) (l : Lazy) → m.focus ≡ l → m.frames.items ≡ [] → whole m ≡ read l
+start_whole m l p r = λ j. plug (layers (r j)) (read (p j))

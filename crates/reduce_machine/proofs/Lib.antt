@@ -7,8 +7,12 @@ pub mod Entering
 pub mod Layering
 pub mod Normals
 pub mod Bodies
-pub mod Seen
+pub mod HeadKinds
+pub mod Nesting
+pub mod Inner
+pub mod ValueParts
 pub mod Meetings
+pub mod Passed
 pub mod Opens
 pub mod Ending
 pub mod Arms

@@ -1,5 +1,5 @@
 -- A term without a step in a frame, whose parts stand under bindings.
-use Rattle.std.proofs.Common.{◌≡◌, ℕ, ◌==◌, ◌↔◌, if◌then◌else◌, Bool, true, false, IsTrue, inl, inr, List, [], ◌∷◌, length, map, Option, Some, None, Result, Ok, Err, IfOk, IfErr, is_some, refl, sym, ap, ◌∙◌, subst as along, arith}
+use Rattle.std.proofs.Common.{◌≡◌, ℕ, ◌==◌, ◌↔◌, if◌then◌else◌, Bool, true, false, IsTrue, inl, inr, List, [], ◌∷◌, ◌++◌, length, map, Option, Some, None, Result, Ok, Err, IfOk, IfErr, is_some, refl, sym, ap, ◌∙◌, subst as along, arith}
 use Rattle.std.proofs.lemmas.Bool.{false≢true, eqb-true}
 use Rattle.trees.specs.Measures.{IsBeyond}
 use Rattle.trees.proofs.Put.{substituted_term, term_at-substitute}
@@ -10,28 +10,28 @@ use Rattle.calculus_rules.specs.Context.{Values}
 use Rattle.calculus_rules.specs.Same.{same_families}
 use Rattle.calculus_rules.specs.Lookups.{if_some}
 use Rattle.pc_rules.specs.DirectedWeakHead.{branch_of, built, weak_next}
-use Rattle.reduction.specs.Frames.{one_less, missing, with_scrutinee, IsMatch}
+use Rattle.reduction.specs.Frames.{one_less, missing, with_scrutinee}
 use Rattle.reduction.proofs.InFrames.{fixpoint_unfolds, fixpoint_stuck}
 use Rattle.reduction.proofs.Steps.{IsLambda as IsFunction, application_waits, match_chooses}
 use Rattle.reduce_machine.specs.Normal.{IsLambda}
 use Rattle.redexes.proofs.Unfolding.{body_beyond}
 use Rattle.redexes.specs.Redexes.{fix_body, unfold_next}
 use Rattle.reduce_machine.specs.Arms.{arm_at}
-use Rattle.reduce_machine.specs.Layers.{IsFixNode, IsMatchNode, IsShown, IsShownIn}
-use Rattle.reduce_machine.specs.Met.{term_of, IsValue, IsMet}
+use Rattle.reduce_machine.specs.Layers.{IsFixNode, IsMatchNode}
+use Rattle.reduce_machine.specs.Met.{IsMet}
+use Rattle.reduce_machine.specs.Spines.{AreNested}
+use Rattle.reduce_machine.specs.Values.{term_of, IsValue}
 use Rattle.reduce_machine.specs.Reads.{stands, read}
 use Rattle.reduce_machine.specs.Steps.{source}
 use Rattle.reduce_machine.specs.declared.bindings.Lazy.{Lazy}
 use Rattle.reduce_machine.specs.declared.meeting.Met.{Met}
 use Rattle.pc_terms.specs.declared.term.MakeFault.{MakeFault}
 use Rattle.pc_terms.specs.declared.term.MakeFault.TheVariants.{TooDeep}
-use Rattle.reduce_machine.specs.declared.meeting.Value.{Value}
+use Rattle.reduce_machine.specs.declared.values.Value.{Value}
 use Rattle.reduce_machine.specs.declared.steps.Step.{Step}
 use Rattle.reduce_machine.proofs.Standing.{put_all-over}
-use Rattle.reduce_machine.proofs.Bodies.{plain_read}
-use Rattle.reduce_machine.proofs.Plugging.{plug_beyond}
-use Rattle.reduce_machine.specs.Layered.{InMatch, OfFixpoint}
-use Rattle.reduce_machine.proofs.Seen.{fix_head, fix_args, waits_node, fix_shown}
+use Rattle.reduce_machine.proofs.HeadKinds.{fix_head, fix_args}
+use Rattle.reduce_machine.proofs.Nesting.{nested_head, argument_deep}
 
 variable_not_beyond : (t : Term) → IsBeyond {L = Label} {slots = slots} (Rel 0) → IsBeyond t
 variable_not_beyond t (inl h) = absurd (omega arith)
@@ -55,10 +55,10 @@ let_binds E V xs v B b t l e p =
     ∙ ap (λ y. Some (substitute (first y (stands xs)) b)) (sym p)
 
 -- a value with an argument more
-pub more_value : (v w : Value) (a : Lazy) → w.head ≡ v.head → term_of w ≡ App (term_of v) (read a) → w.missing ≡ one_less v.missing → IsValue v → IsValue w
-more_value v w a p q r s = record {
+pub more_value : (v w : Value) (a : Lazy) → w.spine.head ≡ v.spine.head → w.below ≡ v.below → term_of w ≡ App (term_of v) (read a) → w.missing ≡ one_less v.missing → IsValue v → IsValue w
+more_value v w a p b q r s = record {
   lacks = r ∙ ap one_less s.lacks ∙ sym (ap missing q);
-  shown = along (λ l. IsShown l) (sym p) s.shown;
+  nested = along (λ ss. AreNested (ss.items ++ w.spine ∷ [])) (sym b) (nested_head v.below.items v.spine w.spine p s.nested);
 }
 
 falsely : (b : Bool) → b ≡ false → IsTrue b → ⊥
@@ -162,69 +162,19 @@ fix_stuck E V f xs v m b w = fixpoint_stuck E V (apply (read f) (map read xs)) v
 pub fix_part : (f : Lazy) (xs : List Lazy) (v : Term) → IsBeyond (read f) → IsBeyond (App (apply (read f) (map read xs)) v)
 fix_part f xs v h = body_beyond (read f) (map read xs) v h
 
--- a fixpoint that is stuck with its recursive argument
-pub fix_value : (v : Value) (f : Lazy) (xs : List Lazy) (a : Term) → v.head ≡ f → term_of v ≡ App (apply (read f) (map read xs)) a → v.missing ≡ None → IsFixNode f.term →
-    missing (apply (read f) (map read xs)) ≡ Some 0 → IsValue v
-fix_value v f xs a p q r n m = record {
-  lacks = r ∙ sym (ap missing q ∙ ap one_less m);
-  shown = along (λ l. IsShown l) (sym p) (fix_shown f.env.items f.term n);
-}
-
 truly : (b : Bool) → b ≡ true → IsTrue b
 truly true p = refl
 truly false p = absurd (false≢true p)
 
--- a fixpoint whose next argument is its recursive one
-pub next_node : (v : Value) (b : Bool) → IsValue v → (IsTrue b ↔ (v.missing ≡ Some 0)) → b ≡ true →
-    (missing (apply (read v.head) (map read v.args.items)) ≡ Some 0) × IsFixNode v.head.term
-next_node v b w d e =
-    let m = sym w.lacks ∙ d.0 (truly b e) in
-    (m, waits_node v.head (map read v.args.items) 0 w.shown m)
+-- a value whose next argument is its recursive one
+pub next_is : (v : Value) (b : Bool) → IsValue v → (IsTrue b ↔ (v.missing ≡ Some 0)) → b ≡ true → missing (term_of v) ≡ Some 0
+next_is v b w d e = sym w.lacks ∙ d.0 (truly b e)
 
 pub not_none : (b : Bool) (xs : List Lazy) → (IsTrue b ↔ (xs ≡ [])) → b ≡ false → xs ≡ [] → ⊥
 not_none b xs d e h = falsely b e (d.1 h)
 
 pub are_none : (b : Bool) (xs : List Lazy) → (IsTrue b ↔ (xs ≡ [])) → b ≡ true → xs ≡ []
 are_none b xs d e = d.0 (truly b e)
-
-pub head_alone : (v : Value) → v.args.items ≡ [] → term_of v ≡ read v.head
-head_alone v p = ap (λ xs. apply (read v.head) (map read xs)) p
-
--- a match that is stuck
-pub stuck_read : (o : Lazy) (h : Lazy) (x u s v : Term) → x ≡ o.term → h.term ≡ u → h.env.items ≡ [] → u ≡ with_scrutinee (substitute (stands o.env.items) x) s → s ≡ v →
-    read h ≡ with_scrutinee (read o) v
-stuck_read o h x u s v e p q r w = plain_read h u p q ∙ r ∙ (λ j. with_scrutinee (substitute (stands o.env.items) (e j)) (w j))
-
-case_missing : (xs : List Term) (t s : Term) → IsMatchNode t → None ≡ missing (with_scrutinee (substitute (stands xs) t) s)
-case_missing xs (Case f ps k ret u bs) s h = refl
-case_missing xs t s h = absurd h
-
-case_shown : (xs ys : List Term) (t s u : Term) → IsMatchNode t → u ≡ with_scrutinee (substitute (stands xs) t) s → IsShownIn ys u
-case_shown xs ys (Case f ps k ret u bs) s t h e = along (λ x. IsShownIn ys x) (sym e) tt
-case_shown xs ys t s u h e = absurd h
-
-pub stuck_value : (v : Value) (o : Lazy) (x s : Term) → IsMatchNode o.term → x ≡ o.term → v.missing ≡ None → v.args.items ≡ [] → v.head.env.items ≡ [] →
-    v.head.term ≡ with_scrutinee (substitute (stands o.env.items) x) s → IsValue v
-stuck_value v o x s m e n a i h =
-    let g : v.head.term ≡ with_scrutinee (read o) s = h ∙ ap (λ y. with_scrutinee (substitute (stands o.env.items) y) s) e in
-    let t : term_of v ≡ with_scrutinee (read o) s = head_alone v a ∙ plain_read v.head (with_scrutinee (read o) s) g i in
-    record {
-      lacks = n ∙ case_missing o.env.items o.term s m ∙ sym (ap missing t);
-      shown = case_shown o.env.items v.head.env.items o.term s v.head.term m g;
-    }
-
-match_is : (xs : List Term) (t : Term) → IsMatchNode t → IsMatch (substitute (stands xs) t)
-match_is xs (Case f ps k ret u bs) h = tt
-match_is xs t h = absurd h
-
-pub stuck_deep : (o : Lazy) (v : Term) → IsMatchNode o.term → IsBeyond v → IsBeyond (with_scrutinee (read o) v)
-stuck_deep o v m h = plug_beyond (InMatch (read o) ∷ []) v (match_is o.env.items o.term m, tt) h
-
-pub around_deep : (o : Lazy) (x s v : Term) → x ≡ o.term → s ≡ v → IsBeyond (with_scrutinee (substitute (stands o.env.items) x) s) → IsBeyond (with_scrutinee (read o) v)
-around_deep o x s v e p h = along (λ (y : Term). IsBeyond y) (λ j. with_scrutinee (substitute (stands o.env.items) (e j)) (p j)) h
-
-pub argument_deep : (g v : Term) → missing g ≡ Some 0 → IsBeyond v → IsBeyond (App g v)
-argument_deep g v m h = plug_beyond (OfFixpoint g ∷ []) v (m, tt) h
 
 pub deep_around : (g v : Term) (r : Result Met MakeFault) → missing g ≡ Some 0 → IfErr r (λ e. e ≡ TooDeep → IsBeyond v) → IfErr r (λ e. e ≡ TooDeep → IsBeyond (App g v))
 deep_around g v (Ok m) w h = h

@@ -1,12 +1,14 @@
 -- Terms that are seen to have no step by their heads.
-use Rattle.std.proofs.Common.{◌≡◌, ℕ, ◌+◌, ◌≤◌, List, [], ◌∷◌, length, Option, Some, None, refl, sym, ap, ◌∙◌, arith, length-append, slice_get, subst as along}
+use Rattle.std.proofs.Common.{◌≡◌, ℕ, ◌+◌, ◌≤◌, List, [], ◌∷◌, ◌++◌, length, map, Option, Some, None, refl, sym, ap, ◌∙◌, arith, length-append, slice_get, subst as along}
 use Rattle.pc_terms.specs.declared.term.Node.{Node}
 use Rattle.pc_terms.specs.declared.term.Node.TheVariants.{App as AppNode}
-use Rattle.pc_terms.specs.Syntax.{Term, Terms, Rel, Lambda, LetIn, App, Const, Case, Fix, head, args}
+use Rattle.pc_terms.specs.Syntax.{Term, Terms, Rel, Lambda, LetIn, App, Const, Case, Fix, apply, head, args, substitute}
 use Rattle.pc_terms.specs.View.{tree_of}
 use Rattle.calculus_rules.specs.Environment.{Env}
 use Rattle.calculus_rules.specs.Context.{Values}
 use Rattle.pc_rules.specs.DirectedWeakHead.{weak_next}
+use Rattle.trees.proofs.Put.{each_length}
+use Rattle.calculus_rules.proofs.Spines.{head-apply, args-apply, spine_is}
 use Rattle.reduction.proofs.Steps.{IsLambda, missing_is, application_waits}
 use Rattle.reduce_machine.specs.Normal.{IsWaiting, IsNormalHead}
 
@@ -60,12 +62,32 @@ head_itself n t e h = along (λ x. (head x ≡ x) × (args x ≡ [])) e (node n 
     node (AppNode f a) h = absurd (h f a refl)
     node n h = (refl, refl)
 
-pub normal_at : (E : Env) (V : Values) (t g : Term) (c : ℕ) → head t ≡ head g → length (args t) ≡ c + length (args g) → head g ≡ g → args g ≡ [] →
-    IsNormalHead E V g c → weak_next E V t ≡ None
-normal_at E V t g c p q r s h =
-    let z : length (args g) ≡ 0 = ap length s in
-    let n : c ≡ length (args t) = omega arith in
-    normal E V t (along (λ x. IsNormalHead E V x (length (args t))) (sym (p ∙ r)) (along (λ m. IsNormalHead E V g m) n h))
+-- an application under a substitution
+pub substitute_apply : (s : ℕ → Term) (h : Term) (xs : List Term) → substitute s (apply h xs) ≡ apply (substitute s h) (map (substitute s) xs)
+substitute_apply s h [] = refl
+substitute_apply s h (x ∷ xs) = substitute_apply s (App h x) xs
+
+pub substitute_spine : (s : ℕ → Term) (t : Term) → substitute s t ≡ apply (substitute s (head t)) (map (substitute s) (args t))
+substitute_spine s t = ap (substitute s) (spine_is t) ∙ substitute_apply s (head t) (args t)
+
+normal_itself : (E : Env) (V : Values) (h : Term) (n : ℕ) → IsNormalHead E V h n → (head h ≡ h) × (args h ≡ [])
+normal_itself E V (App g a) n k = absurd k
+normal_itself E V h n k = (refl, refl)
+
+normal_applied : (E : Env) (V : Values) (h : Term) (xs : List Term) (n : ℕ) → length xs ≡ n → IsNormalHead E V h n → weak_next E V (apply h xs) ≡ None
+normal_applied E V h xs n e k =
+    let i = normal_itself E V h n k in
+    let p : head (apply h xs) ≡ h = head-apply h xs ∙ i.0 in
+    let q : length (args (apply h xs)) ≡ n = ap length (args-apply h xs ∙ ap (λ ys. ys ++ xs) i.1) ∙ e in
+    normal E V (apply h xs) (along (λ m. IsNormalHead E V (head (apply h xs)) m) (sym q) (along (λ x. IsNormalHead E V x n) (sym p) k))
+
+pub normal_under : (E : Env) (V : Values) (s : ℕ → Term) (t g : Term) (c : ℕ) → head t ≡ head g → length (args t) ≡ c + length (args g) → head g ≡ g → args g ≡ [] →
+    IsNormalHead E V (substitute s g) c → weak_next E V (substitute s t) ≡ None
+normal_under E V s t g c p q r z h =
+    let n : length (args g) ≡ 0 = ap length z in
+    let m : length (map (substitute s) (args t)) ≡ c = each_length (substitute s) (args t) ∙ q ∙ omega arith in
+    ap (weak_next E V) (substitute_spine s t)
+    ∙ normal_applied E V (substitute s (head t)) (map (substitute s) (args t)) c m (along (λ x. IsNormalHead E V (substitute s x) c) (sym (p ∙ r)) h)
 
 pub args_more : (t h f a : Term) (c : ℕ) → App f a ≡ h → length (args t) ≡ c + length (args h) → length (args t) ≡ c + 1 + length (args f)
 args_more t h f a c e p =

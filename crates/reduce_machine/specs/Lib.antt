@@ -8,7 +8,11 @@ pub mod Layered
 pub mod Layers
 pub mod Steps
 pub mod Arms
+pub mod Spines
+pub mod Seen
+pub mod Values
 pub mod Met
 pub mod Sought
 pub mod Payment
 pub mod Normal
+pub mod Passed

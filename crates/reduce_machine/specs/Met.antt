@@ -5,23 +5,15 @@ use Rattle.calculus_rules.specs.Environment.{Env}
 use Rattle.calculus_rules.specs.Context.{Values}
 use Rattle.pc_rules.specs.DirectedWeakHead.{weak_next}
 use Rattle.reduction.specs.Frames.{with_scrutinee, missing, work}
-use Rattle.reduce_machine.specs.declared.meeting.Value.{Value}
+use Rattle.reduce_machine.specs.declared.values.Value.{Value}
 use Rattle.reduce_machine.specs.declared.bindings.Lazy.{Lazy}
 use Rattle.reduce_machine.specs.declared.meeting.Branching.{Branching}
 use Rattle.reduce_machine.specs.declared.meeting.Met.{Met}
 use Rattle.reduce_machine.specs.declared.meeting.Met.TheVariants.{Step, Inward, Stuck}
 use Rattle.reduce_machine.specs.Reads.{stands, read}
 use Rattle.reduce_machine.specs.Steps.{contractum, IsStepIn}
-use Rattle.reduce_machine.specs.Layers.{IsShown, IsFixNode}
-
--- the term that a value is
-abbrev pub term_of : Value → Term
-term_of v = apply (read v.head) (map read v.args.items)
-
--- the number of arguments that a value lacks is that of its term, and its head is seen
-pub record IsValue (v : Value) : Type 0 where
-  pub lacks : v.missing ≡ missing (term_of v)
-  pub shown : IsShown v.head
+use Rattle.reduce_machine.specs.Layers.{IsFixNode}
+use Rattle.reduce_machine.specs.Values.{term_of, IsValue}
 
 -- t is a lambda of this body, which stands under bindings
 abbrev pub IsBodyIn : List Term → Term → Term → Type 0
@@ -42,4 +34,4 @@ Keeps t w (Stuck v) = (term_of v ≡ t) × IsValue v
 -- a match on v steps to the branch, or has no step
 abbrev pub IsBranching : Env → Values → Lazy → Value → Option Branching → Type 0
 IsBranching E V l v None = weak_next E V (with_scrutinee (read l) (term_of v)) ≡ None
-IsBranching E V l v (Some b) = weak_next E V (with_scrutinee (read l) (term_of v)) ≡ Some (substitute (put_all (drop b.params (map read v.args.items)) (stands l.env.items)) b.body)
+IsBranching E V l v (Some b) = weak_next E V (with_scrutinee (read l) (term_of v)) ≡ Some (substitute (put_all (drop b.params (map read v.spine.args.items)) (stands l.env.items)) b.body)

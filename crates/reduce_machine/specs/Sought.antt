@@ -12,10 +12,13 @@ use Rattle.reduce_machine.specs.declared.machine.Machine.{Machine}
 use Rattle.reduce_machine.specs.declared.machine.Root.{Root}
 use Rattle.reduce_machine.specs.declared.machine.Settled.{Settled}
 use Rattle.reduce_machine.specs.declared.machine.Settled.TheVariants.{Step as Stepped, Inward, Whole}
+use Rattle.reduce_machine.specs.declared.machine.Sought.{Sought}
+use Rattle.reduce_machine.specs.declared.machine.Sought.TheVariants.{Step as FoundStep, Value as FoundValue}
 use Rattle.reduce_machine.specs.declared.steps.Step.{Step}
 use Rattle.reduce_machine.specs.Reads.{read}
 use Rattle.reduce_machine.specs.Layers.{layers, AreLayers}
 use Rattle.reduce_machine.specs.Steps.{contractum, IsStepIn}
+use Rattle.reduce_machine.specs.Values.{term_of, IsValue}
 
 -- the term that a machine has taken apart
 abbrev pub whole : Machine → Term
@@ -34,13 +37,13 @@ pub record AreSound (fs : List Frame) : Type 0 where
   pub nodes : AreLayers fs
 
 -- t in the frames behind the first n is the term r
-abbrev pub IsInner : List Frame → ℕ → Term → Term → Type 0
-IsInner fs n t r = (os : List Frame) × (is : List Frame) × (fs ≡ os ++ is) × (length os ≡ n) × (plug (layers is) t ≡ r)
+abbrev pub IsBehind : List Frame → ℕ → Term → Term → Type 0
+IsBehind fs n t r = (os : List Frame) × (is : List Frame) × (fs ≡ os ++ is) × (length os ≡ n) × (plug (layers is) t ≡ r)
 
 -- the root of the innermost frames, where there is one
 abbrev pub IsRoot : List Frame → Term → Option Root → Type 0
 IsRoot fs t None = Unit {0}
-IsRoot fs t (Some r) = r.below < length fs → IsInner fs (suc r.below) t (read r.term)
+IsRoot fs t (Some r) = r.below < length fs → IsBehind fs (suc r.below) t (read r.term)
 
 abbrev pub IsStart : List Frame → Term → Option Root → Type 0
 IsStart fs t None = Unit {0}
@@ -54,17 +57,18 @@ IsGrown m n = (is : List Frame) × (n.frames.items ≡ m.frames.items ++ is) × 
 abbrev pub IsSettled : Env → Values → Term → Machine → Settled → Type 0
 IsSettled E V t m (Stepped s) = weak_next E V t ≡ Some (plug (layers m.frames.items) (contractum s))
 IsSettled E V t m Inward = Unit {0}
-IsSettled E V t m Whole = weak_next E V t ≡ None
+IsSettled E V t m (Whole v) = weak_next E V t ≡ None
 
--- t is the term of m, in which less work is left than w; or it is the focus
+-- t is the term of m, in which less work is left than w; or it is the value
 abbrev pub KeepsWhole : Term → ℕ → Machine → Settled → Type 0
 KeepsWhole t w m (Stepped s) = IsStepIn t s
 KeepsWhole t w m Inward = (whole m ≡ t) × (load m < w)
-KeepsWhole t w m Whole = m.focus.term ≡ t
+KeepsWhole t w m (Whole v) = (term_of v ≡ t) × IsValue v
 
-abbrev pub IsSought : Env → Values → Term → Machine → Option Step → Type 0
-IsSought E V t m (Some s) = (weak_next E V t ≡ Some (plug (layers m.frames.items) (contractum s))) × IsStepIn t s
-IsSought E V t m None = (m.focus.term ≡ t) × (weak_next E V t ≡ None)
+-- t steps in the frames of m, or it is the value, which has no step
+abbrev pub IsSought : Env → Values → Term → Machine → Sought → Type 0
+IsSought E V t m (FoundStep s) = (weak_next E V t ≡ Some (plug (layers m.frames.items) (contractum s))) × IsStepIn t s
+IsSought E V t m (FoundValue v) = (term_of v ≡ t) × IsValue v × (weak_next E V t ≡ None)
 
 -- the root that is there, where so many frames are below its fixpoint's
 abbrev pub IsRooted : Option Root → ℕ → Option Lazy → Type 0

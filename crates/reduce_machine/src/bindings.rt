@@ -2,11 +2,13 @@
 ghost use Rattle.std.specs.Prelude.{◌≡◌, ◌<◌, ◌≤◌, ◌^◌, ◌↔◌, [], ◌∷◌, IfOk, IfErr, IsTrue};
 ghost use Rattle.pc_terms.specs.declared.term.MakeFault.TheVariants.{Memory};
 ghost use Rattle.pc_terms.specs.Syntax.{substitute};
-ghost use Rattle.reduce_machine.specs.Reads.{stands, read};
 ghost use Rattle.reduce_machine.specs.Found.{IsFound};
+ghost use Rattle.reduce_machine.specs.Memos.{number_of_list};
+ghost use Rattle.reduce_machine.specs.Reads.{stands, read};
 
 use crate::memo::{Memo, memo_of};
 use pc_terms::term::{MakeFault, Node, Term};
+use stamps::Stamp;
 use std::alloc::Global;
 use std::marker::Model;
 use std::rc::Rc;
@@ -15,27 +17,35 @@ use std::rc::Rc;
 /// the terms, and how deep bindings lie in one another.
 #[cycle(bindings)]
 #[derive(Drop)]
-pub(crate) struct Bindings {
+pub struct Bindings {
     first: Option<Rc<Cell>>,
 }
 
-/// What one variable is bound to, and the bindings of the variables behind it. `rank` is above that of all bindings that it leads to. A
-/// binding that is no term as it is has a place for the term that it is read to.
+/// What one variable is bound to, and the bindings of the variables behind it.
+#[cycle(bindings)]
+#[derive(Drop)]
+struct Link {
+    item: Lazy,
+    below: Bindings,
+}
+
+/// A link in its place. `rank` is above that of all bindings that it leads to, and `stamp` is for what it binds. A binding that is no term
+/// as it is has a place for the term that it is read to.
 #[cycle(bindings)]
 #[derive(Drop)]
 struct Cell {
     rank: u32,
-    item: Lazy,
-    below: Bindings,
+    link: Link,
     memo: Option<Memo>,
+    stamp: Stamp,
 }
 
 /// A term under bindings.
 #[cycle(bindings)]
 #[derive(Drop)]
-pub(crate) struct Lazy {
-    pub(crate) term: Term,
-    pub(crate) env: Bindings,
+pub struct Lazy {
+    pub term: Term,
+    pub env: Bindings,
 }
 
 impl Model for Bindings {
@@ -58,16 +68,23 @@ impl Model for Bindings {
 
 /// What a variable stands for.
 #[derive(Drop)]
-pub(crate) enum Found<'a> {
+pub enum Found<'a> {
     /// An item, and the place for the term that it is read to.
     Item(&'a Lazy, &'a Option<Memo>),
     /// The variable of this number behind all items.
     Past(u32),
 }
 
+/// A stamp for what a link binds.
+fn stamp_of(_link: &Link) -> Stamp
+    ensures is { result ≡ number_of_list (read _link.now.item ∷ _link.now.below.items) }
+{
+    Stamp::new()
+}
+
 impl Bindings {
     /// No bindings.
-    pub(crate) fn new() -> Bindings
+    pub fn new() -> Bindings
         ensures items { result.items ≡ [] }
         ensures rank { result.rank ≡ 0 }
     {
@@ -75,7 +92,7 @@ impl Bindings {
     }
 
     /// How deep bindings lie in one another here.
-    pub(crate) fn rank(&self) -> u32
+    pub fn rank(&self) -> u32
         ensures is { result ≡ self.now.rank }
         ensures small { self.now.rank < 2 ^ 32 }
     {
@@ -86,7 +103,7 @@ impl Bindings {
     }
 
     /// Whether there is no binding.
-    pub(crate) fn is_empty(&self) -> bool
+    pub fn is_empty(&self) -> bool
         ensures is { IsTrue result ↔ (self.now.items ≡ []) }
     {
         match &self.first {
@@ -96,7 +113,7 @@ impl Bindings {
     }
 
     /// The same bindings.
-    pub(crate) fn share(&self) -> Result<Bindings, MakeFault>
+    pub fn share(&self) -> Result<Bindings, MakeFault>
         ensures ok { IfOk result (λ b. b ≡ self.now) }
         ensures only_memory { IfErr result (λ e. e ≡ Memory) }
     {
@@ -109,8 +126,19 @@ impl Bindings {
         }
     }
 
+    /// Whether both are seen to be the same cells. It takes no memory, and looks at nothing that is bound.
+    pub fn same(&self, other: &Bindings) -> bool
+        ensures is { IsTrue result → self.now.items ≡ other.now.items }
+    {
+        match (&self.first, &other.first) {
+            (None, None) => true,
+            (Some(cell), Some(other)) => cell.stamp.same(&other.stamp),
+            _ => false,
+        }
+    }
+
     /// What variable i stands for.
-    pub(crate) fn find(&self, i: u32) -> Found<'_>
+    pub fn find(&self, i: u32) -> Found<'_>
         ensures found { IsFound self.now i result }
     {
         let mut list = self;
@@ -120,17 +148,17 @@ impl Bindings {
                 None => return Found::Past(left),
                 Some(cell) => {
                     if left == 0 {
-                        return Found::Item(&cell.item, &cell.memo);
+                        return Found::Item(&cell.link.item, &cell.memo);
                     }
                     left -= 1;
-                    list = &cell.below;
+                    list = &cell.link.below;
                 }
             }
         }
     }
 
     /// One more binding, which is that of variable 0.
-    pub(crate) fn with(self, alloc: Global, item: Lazy) -> Result<Bindings, MakeFault>
+    pub fn with(self, alloc: Global, item: Lazy) -> Result<Bindings, MakeFault>
         ensures items { IfOk result (λ b. b.items ≡ read item ∷ self.items) }
         ensures only_memory { IfErr result (λ e. e ≡ Memory) }
     {
@@ -139,11 +167,13 @@ impl Bindings {
             return Err(MakeFault::Memory);
         }
         let memo = memo_of(alloc, &item)?;
+        let link = Link { item, below: self };
+        let stamp = stamp_of(&link);
         let cell = Cell {
             rank: rank + 1,
-            item,
-            below: self,
+            link,
             memo,
+            stamp,
         };
         match Rc::new(alloc, cell) {
             Ok(cell) => Ok(Bindings { first: Some(cell) }),
@@ -154,7 +184,7 @@ impl Bindings {
 
 impl Lazy {
     /// A term as it is.
-    pub(crate) fn plain(term: Term) -> Lazy
+    pub fn plain(term: Term) -> Lazy
         ensures term { result.term ≡ term }
         ensures items { result.env.items ≡ [] }
         ensures rank { result.env.rank ≡ 0 }
@@ -166,7 +196,7 @@ impl Lazy {
     }
 
     /// The same term under the same bindings.
-    pub(crate) fn share(&self) -> Result<Lazy, MakeFault>
+    pub fn share(&self) -> Result<Lazy, MakeFault>
         ensures ok { IfOk result (λ l. l ≡ self.now) }
         ensures only_memory { IfErr result (λ e. e ≡ Memory) }
     {
@@ -176,7 +206,7 @@ impl Lazy {
     }
 
     /// A part of a term under the term's bindings: nothing is kept of them that is seen to be of no use.
-    pub(crate) fn part(part: &Term, env: &Bindings) -> Result<Lazy, MakeFault>
+    pub fn part(part: &Term, env: &Bindings) -> Result<Lazy, MakeFault>
         ensures ok { IfOk result (λ l. read l ≡ substitute (stands env.now.items) part.now) }
         ensures rank { IfOk result (λ l. l.env.rank ≤ env.now.rank) }
         ensures only_memory { IfErr result (λ e. e ≡ Memory) }

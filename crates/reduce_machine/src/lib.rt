@@ -2,26 +2,32 @@
 //!
 //! A term stands under bindings of its innermost variables (`bindings`): so a step copies no body. From the focus the machine goes inwards to a
 //! head (`machine`, `heads`); what is passed by lies in a vector of frames; where the head has no step, it goes outwards frame by frame
-//! (`meeting`), till a step is found (`steps`) or nothing is left. Then what was found is read back (`reading`): closed parts and parts under
-//! no bindings as the shared terms that they were, and what a variable is bound to once, however often it occurs: it is kept beside its
-//! binding (`memo`). A term whose head shows that it has no step is given back as it is (`quick`). A call keeps at most one binding, with one
-//! term that was read, for each variable that its steps bound; they are let go of when it ends.
+//! (`meeting`), till a step is found (`steps`) or nothing is left. What was found then is a value (`values`): a head with its arguments, or a
+//! match or a fixpoint that is stuck on such a spine below it (`spines`), of which nothing is read (`weak`). It can be looked at (`seen`), and
+//! read back (`reading`): closed parts and parts under no bindings as the shared terms that they were, and what a variable is bound to once,
+//! however often it occurs: it is kept beside its binding (`memo`). A term whose head shows that it has no step is a value at once (`quick`).
+//! A call keeps at most one binding, with one term that was read, for each variable that its steps bound; they are let go of with the value.
 //!
-//! What is promised: `Closures` implements `Reducer` of `pc_rules`, as `Subst` of `reduction` does: it follows the directed rules exactly,
-//! units, `Spent` and `TooDeep` included (`follows`), and its result is joined to the term by weak-head steps (`reached`). No unit is
-//! taken for a look-up in bindings or for reading back.
+//! What is promised: `weak_value` follows the directed rules exactly, units, `Spent` and `TooDeep` included (`follows`); its value has no step
+//! (`normal`), is joined to the term by weak-head steps (`reached`), and is beyond the limits of terms only where the run has passed them
+//! (`beyond`). `Closures` implements `Reducer` of `pc_rules`, as `Subst` of `reduction` does, by reading such a value (`follows`, `reached`).
+//! No unit is taken for a look-up in bindings or for reading back.
 //!
 //! Below stand `stamps` (what was read is known again by its binding's), `pc_terms`, `calculus_rules`, `pc_rules`, `redexes` (unfolded bodies,
 //! look-ups) and `reduction` (laws of weak-head steps in a frame); above stand the jobs.
 #![tactic(auto)]
 
-mod bindings;
+pub mod bindings;
 pub mod closures;
 mod frames;
 mod heads;
 mod machine;
 mod meeting;
-mod memo;
+pub mod memo;
 mod quick;
-mod reading;
+pub mod reading;
+pub mod seen;
+pub mod spines;
 mod steps;
+pub mod values;
+pub mod weak;

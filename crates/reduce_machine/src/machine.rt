@@ -16,8 +16,9 @@ ghost use Rattle.reduce_machine.specs.Steps.{contractum, IsStepNode, IsBeyondSte
 use crate::bindings::{Bindings, Found, Lazy};
 use crate::frames::Frame;
 use crate::heads::head_step;
-use crate::meeting::{Met, Value};
+use crate::meeting::Met;
 use crate::steps::{Step, unfolded};
+use crate::values::Value;
 use pc_rules::context::Ctx;
 use pc_rules::environment::Env;
 use pc_terms::term::{MakeFault, Node, Term};
@@ -47,8 +48,17 @@ pub(crate) enum Settled {
     Step(Step),
     /// Another focus, in which a step may happen.
     Inward,
-    /// No step: the focus is the whole term.
-    Whole,
+    /// No step: the whole term is this value.
+    Whole(Value),
+}
+
+/// What comes of a search.
+#[derive(Drop)]
+pub(crate) enum Sought {
+    /// The step of the whole term, in the frames that are left.
+    Step(Step),
+    /// The whole term, which has no step.
+    Value(Value),
 }
 
 /// Takes the last argument away.
@@ -80,13 +90,12 @@ impl Root {
 
 impl Machine {
     /// The whole term as the focus.
-    pub(crate) fn of(alloc: Global, term: Term) -> Machine
-        ensures focus { result.focus.term ≡ term }
-        ensures items { result.focus.env.items ≡ [] }
+    pub(crate) fn of(alloc: Global, term: Lazy) -> Machine
+        ensures focus { result.focus ≡ term }
         ensures frames { result.frames.items ≡ [] }
     {
         Machine {
-            focus: Lazy::plain(term),
+            focus: term,
             frames: Vec::new(alloc),
         }
     }
@@ -210,20 +219,13 @@ impl Machine {
                 Met::Stuck(wider) => value = wider,
             }
         }
-        let term = value.read(alloc)?;
-        self.focus = Lazy::plain(term);
-        Ok(Settled::Whole)
+        Ok(Settled::Whole(value))
     }
 
-    /// The step of the whole term, in the frames that are left then; none where it has no step, and then it is the focus.
-    pub(crate) fn seek(
-        &mut self,
-        alloc: Global,
-        env: &Env,
-        ctx: &Ctx,
-    ) -> Result<Option<Step>, MakeFault>
+    /// The step of the whole term, in the frames that are left then; or the whole term, where it has no step.
+    pub(crate) fn seek(&mut self, alloc: Global, env: &Env, ctx: &Ctx) -> Result<Sought, MakeFault>
         requires sound { AreSound self.old.frames.items }
-        ensures sought { IfOk result (λ o. IsSought env.now (values ctx.now) (whole self.old) self.new o) }
+        ensures sought { IfOk result (λ s. IsSought env.now (values ctx.now) (whole self.old) self.new s) }
         ensures sound { IfOk result (λ _. AreSound self.new.frames.items) }
         ensures too_deep { IfErr result (λ e. e ≡ TooDeep → IsBeyond (whole self.old)) }
     {
@@ -232,13 +234,13 @@ impl Machine {
             self.descend()?;
             let step = head_step(env, ctx, &self.focus)?;
             if let Some(step) = step {
-                return Ok(Some(step));
+                return Ok(Sought::Step(step));
             }
             let settled = self.settle(alloc, env, root)?;
             match settled {
-                Settled::Step(step) => return Ok(Some(step)),
+                Settled::Step(step) => return Ok(Sought::Step(step)),
                 Settled::Inward => {}
-                Settled::Whole => return Ok(None),
+                Settled::Whole(value) => return Ok(Sought::Value(value)),
             }
         }
     }

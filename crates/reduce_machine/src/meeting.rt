@@ -1,5 +1,5 @@
 //! What a term without a step makes of the frame around it.
-ghost use Rattle.std.specs.Prelude.{◌≡◌, ◌+◌, ◌↔◌, ◌++◌, ◌∷◌, [], List, IfOk, IfErr, IfSome, MatchOption, IsTrue, Some, None, drop, length, map};
+ghost use Rattle.std.specs.Prelude.{◌≡◌, ◌+◌, ◌↔◌, [], List, IfOk, IfErr, IfSome, MatchOption, IsTrue, Some, None, drop, length, map};
 ghost use Rattle.trees.specs.Measures.{IsBeyond};
 ghost use Rattle.pc_terms.specs.Lists.{arms_of};
 ghost use Rattle.pc_terms.specs.Syntax.{Term, App, apply};
@@ -9,32 +9,25 @@ ghost use Rattle.calculus_rules.specs.Environment.{Env};
 ghost use Rattle.pc_rules.specs.DirectedWeakHead.{weak_next, built};
 ghost use Rattle.calculus_rules.specs.Same.{same_families};
 ghost use Rattle.redexes.specs.Redexes.{fix_body, unfold_next};
-ghost use Rattle.reduction.specs.Frames.{with_scrutinee, missing, one_less, work, IsHead};
+ghost use Rattle.reduction.specs.Frames.{with_scrutinee, missing, work};
 ghost use Rattle.reduce_machine.specs.Normal.{IsLambda};
 ghost use Rattle.reduce_machine.specs.Layered.{around, weight, IsFrame};
-ghost use Rattle.reduce_machine.specs.Layers.{layer, IsLayer, IsMatchNode, IsFixNode, IsOpen, IsShown};
-ghost use Rattle.reduce_machine.specs.Met.{term_of, IsValue, IsBodyIn, IsMet, IsBranching, Keeps};
+ghost use Rattle.reduce_machine.specs.Layers.{layer, IsLayer, IsMatchNode, IsFixNode, IsOpen};
+ghost use Rattle.reduce_machine.specs.Met.{IsBodyIn, IsMet, IsBranching, Keeps};
+ghost use Rattle.reduce_machine.specs.Values.{term_of, IsValue};
 ghost use Rattle.reduce_machine.specs.Arms.{arm_at};
 ghost use Rattle.reduce_machine.specs.Reads.{read};
 
-use crate::bindings::Lazy;
+use crate::bindings::{Bindings, Lazy};
 use crate::frames::Frame;
-use crate::reading::read_around;
+use crate::spines::{Head, Spine};
 use crate::steps::Step;
+use crate::values::Value;
 use pc_rules::environment::Env;
 use pc_terms::leaf::FamilyId;
 use pc_terms::term::{Branch, MakeFault, Match, Node, Term};
-use redexes::lookup::{branch_at, constructor_at, definition_at, family_at};
+use redexes::lookup::{branch_at, constructor_at, family_at};
 use std::alloc::Global;
-
-/// A term without a step: a head, and what it is applied to; and how many arguments it lacks before its recursive one, where it is a
-/// fixpoint with at most so many.
-#[derive(Drop)]
-pub(crate) struct Value {
-    pub(crate) head: Lazy,
-    pub(crate) args: Vec<Lazy>,
-    pub(crate) missing: Option<u32>,
-}
 
 /// What comes of a term without a step and the frame around it.
 #[derive(Drop)]
@@ -45,6 +38,13 @@ pub(crate) enum Met {
     Inward(Lazy, Vec<Lazy>, Lazy),
     /// A term without a step.
     Stuck(Value),
+}
+
+/// A lambda's body under bindings.
+#[derive(Drop)]
+pub(crate) struct Body {
+    body: Term,
+    env: Bindings,
 }
 
 /// A branch that was found: its body, and how many parameters the constructor has.
@@ -63,59 +63,6 @@ pub(crate) struct Constructed {
     count: usize,
 }
 
-impl Value {
-    /// A head as a value.
-    pub(crate) fn of(alloc: Global, head: Lazy) -> Value
-        requires { IsOpen head }
-        ensures term { term_of result ≡ read head }
-        ensures value { IsValue result }
-    {
-        let missing = recursive_place(&head.term);
-        Value {
-            head,
-            args: Vec::new(alloc),
-            missing,
-        }
-    }
-
-    /// The term that the value is.
-    pub(crate) fn read(&self, alloc: Global) -> Result<Term, MakeFault>
-        ensures ok { IfOk result (λ t. t ≡ term_of self.now) }
-        ensures too_deep { IfErr result (λ e. e ≡ TooDeep → IsBeyond (term_of self.now)) }
-    {
-        let mut term = self.head.read(alloc)?;
-        for x in &self.args {
-            let x = x.read(alloc)?;
-            term = Term::make(alloc, Node::App(term, x))?;
-        }
-        Ok(term)
-    }
-}
-
-/// The place of a fixpoint's recursive argument; none for other terms.
-fn recursive_place(t: &Term) -> Option<u32>
-    requires { IsHead t.now }
-    ensures lacks { result ≡ missing t.now }
-{
-    match t.view() {
-        Node::Fix(defs, i) => match definition_at(defs, *i) {
-            Some(def) => Some(def.rarg),
-            None => None,
-        },
-        _ => None,
-    }
-}
-
-/// One less, where that is a number.
-fn less(missing: Option<u32>) -> Option<u32>
-    ensures is { result ≡ one_less missing }
-{
-    match missing {
-        Some(0) | None => None,
-        Some(k) => Some(k - 1),
-    }
-}
-
 /// Whether the next argument is the recursive one.
 fn is_next(missing: Option<u32>) -> bool
     ensures is { IsTrue result ↔ (missing ≡ Some 0) }
@@ -123,17 +70,6 @@ fn is_next(missing: Option<u32>) -> bool
     match missing {
         Some(0) => true,
         _ => false,
-    }
-}
-
-/// One more at the end.
-fn put(args: &mut Vec<Lazy>, x: Lazy) -> Result<(), MakeFault>
-    ensures ok { IfOk result (λ _. args.new.items ≡ args.old.items ++ x ∷ []) }
-    ensures only_memory { IfErr result (λ e. e ≡ Memory) }
-{
-    match args.push(x) {
-        Ok(()) => Ok(()),
-        Err(_) => Err(MakeFault::Memory),
     }
 }
 
@@ -145,45 +81,48 @@ fn is_alone(args: &Vec<Lazy>) -> bool
 }
 
 /// The body of a head that is a lambda; none where it is none.
-fn head_body(head: &Lazy) -> Result<Option<Term>, MakeFault>
-    requires { IsShown head.now }
-    ensures ok { IfOk result (λ o. MatchOption o (IsLambda (read head.now) → ⊥) (IsBodyIn head.now.env.items (read head.now))) }
+fn head_body(head: &Lazy) -> Result<Option<Body>, MakeFault>
+    requires { IsOpen head.now }
+    ensures ok { IfOk result (λ o. MatchOption o (IsLambda (read head.now) → ⊥) (λ b. IsBodyIn b.env.items (read head.now) b.body)) }
     ensures only_memory { IfErr result (λ e. e ≡ Memory) }
 {
     if let Node::Lambda(_, body) = head.term.view() {
         let body = body.share()?;
-        return Ok(Some(body));
+        let env = head.env.share()?;
+        return Ok(Some(Body { body, env }));
     }
     Ok(None)
 }
 
 /// The body of a lambda; none where the value is none.
-fn lambda(value: &Value) -> Result<Option<Term>, MakeFault>
+fn lambda(value: &Value) -> Result<Option<Body>, MakeFault>
     requires { IsValue value.now }
-    ensures ok { IfOk result (λ o. MatchOption o (IsLambda (term_of value.now) → ⊥) (IsBodyIn value.now.head.env.items (term_of value.now))) }
+    ensures ok { IfOk result (λ o. MatchOption o (IsLambda (term_of value.now) → ⊥) (λ b. IsBodyIn b.env.items (term_of value.now) b.body)) }
     ensures only_memory { IfErr result (λ e. e ≡ Memory) }
 {
-    if is_alone(&value.args) {
-        return head_body(&value.head);
+    match &value.spine.head {
+        Head::Open(head) => {
+            if is_alone(&value.spine.args) {
+                return head_body(head);
+            }
+            Ok(None)
+        }
+        _ => Ok(None),
     }
-    Ok(None)
 }
 
-/// A value that is no lambda and no fixpoint that waits for this argument, with the argument.
-fn extended(value: Value, argument: Lazy) -> Result<Value, MakeFault>
-    ensures head { IfOk result (λ v. v.head ≡ value.head) }
-    ensures args { IfOk result (λ v. term_of v ≡ App (term_of value) (read argument)) }
-    ensures missing { IfOk result (λ v. v.missing ≡ one_less value.missing) }
-    ensures only_memory { IfErr result (λ e. e ≡ Memory) }
+/// A fixpoint whose next argument is its recursive one, with that one.
+fn inward(value: Value, argument: Lazy) -> Met
+    requires value { IsValue value }
+    requires next { missing (term_of value) ≡ Some 0 }
+    ensures keeps { Keeps (App (term_of value) (read argument)) (work (read argument) + 2) result }
+    ensures met { (E : Env) (V : Values) → IsMet E V (App (term_of value) (read argument)) result }
 {
-    let missing = less(value.missing);
-    let mut args = value.args;
-    put(&mut args, argument)?;
-    Ok(Value {
-        head: value.head,
-        args,
-        missing,
-    })
+    let Spine { head, args } = value.spine;
+    let Head::Open(fix) = head else {
+        unreachable!()
+    };
+    Met::Inward(fix, args, argument)
 }
 
 /// A value that is applied to an argument.
@@ -193,28 +132,30 @@ fn meet_argument(value: Value, argument: Lazy) -> Result<Met, MakeFault>
     ensures keeps { IfOk result (Keeps (App (term_of value) (read argument)) (work (read argument) + 2)) }
     ensures only_memory { IfErr result (λ e. e ≡ Memory) }
 {
-    if let Some(body) = lambda(&value)? {
-        let env = value.head.env;
+    if let Some(found) = lambda(&value)? {
         return Ok(Met::Step(Step::Bound {
-            body,
-            env,
+            body: found.body,
+            env: found.env,
             value: argument,
         }));
     }
     if is_next(value.missing) {
-        return Ok(Met::Inward(value.head, value.args, argument));
+        return Ok(inward(value, argument));
     }
-    let wider = extended(value, argument)?;
+    let wider = value.extended(argument)?;
     Ok(Met::Stuck(wider))
 }
 
 /// The constructor that a value is, where it has all parameters and arguments; none where it is no such constructor.
 fn find_constructed(env: &Env, value: &Value) -> Option<Constructed>
     requires { IsValue value.now }
-    ensures is { MatchOption result (built env.now (term_of value.now) ≡ None) (λ c. built env.now (term_of value.now) ≡ Some (c.family, c.number, drop c.params (map read value.now.args.items))) }
-    ensures count { IfSome result (λ c. c.count ≡ length (drop c.params (map read value.now.args.items))) }
+    ensures is { MatchOption result (built env.now (term_of value.now) ≡ None) (λ c. built env.now (term_of value.now) ≡ Some (c.family, c.number, drop c.params (map read value.now.spine.args.items))) }
+    ensures count { IfSome result (λ c. c.count ≡ length (drop c.params (map read value.now.spine.args.items))) }
 {
-    let Node::Construct(id, number) = value.head.term.view() else {
+    let Head::Open(head) = &value.spine.head else {
+        return None;
+    };
+    let Node::Construct(id, number) = head.term.view() else {
         return None;
     };
     let Some(block) = env.whole_block(id.block) else {
@@ -226,7 +167,7 @@ fn find_constructed(env: &Env, value: &Value) -> Option<Constructed>
     let Some(ctor) = constructor_at(family, *number) else {
         return None;
     };
-    let count = value.args.len();
+    let count = value.spine.args.len();
     let params = block.params.len();
     if count < params {
         return None;
@@ -267,34 +208,6 @@ fn chosen(m: &Match, family: FamilyId, number: u32, count: usize) -> Option<&Bra
     Some(arm)
 }
 
-/// A term as a value that lacks no arguments.
-fn stuck(alloc: Global, term: Term) -> Value
-    ensures term { result.head.term ≡ term }
-    ensures items { result.head.env.items ≡ [] }
-    ensures args { result.args.items ≡ [] }
-    ensures missing { result.missing ≡ None }
-{
-    Value {
-        head: Lazy::plain(term),
-        args: Vec::new(alloc),
-        missing: None,
-    }
-}
-
-/// A value that is the scrutinee of a match and chooses no branch.
-fn stuck_match(alloc: Global, value: &Value, outer: &Lazy) -> Result<Value, MakeFault>
-    requires { IsMatchNode outer.now.term }
-    ensures ok { IfOk result (λ v. (term_of v ≡ with_scrutinee (read outer.now) (term_of value.now)) × IsValue v) }
-    ensures too_deep { IfErr result (λ e. e ≡ TooDeep → IsBeyond (with_scrutinee (read outer.now) (term_of value.now))) }
-{
-    let Node::Case(m) = outer.term.view() else {
-        unreachable!()
-    };
-    let scrut = value.read(alloc)?;
-    let term = read_around(m, alloc, &outer.env, scrut)?;
-    Ok(stuck(alloc, term))
-}
-
 /// The step of a match whose scrutinee is a value; none where it chooses no branch.
 fn find_branch(env: &Env, value: &Value, outer: &Lazy) -> Result<Option<Branching>, MakeFault>
     requires node { IsMatchNode outer.now.term }
@@ -324,23 +237,24 @@ fn meet_match(alloc: Global, env: &Env, value: Value, outer: Lazy) -> Result<Met
     requires value { IsValue value }
     ensures ok { IfOk result (λ m. (V : Values) → weak_next env.now V (term_of value) ≡ None → IsMet env.now V (with_scrutinee (read outer) (term_of value)) m) }
     ensures keeps { IfOk result (Keeps (with_scrutinee (read outer) (term_of value)) 1) }
-    ensures too_deep { IfErr result (λ e. e ≡ TooDeep → IsBeyond (with_scrutinee (read outer) (term_of value))) }
+    ensures only_memory { IfErr result (λ e. e ≡ Memory) }
 {
     if let Some(found) = find_branch(env, &value, &outer)? {
         return Ok(Met::Step(Step::Branch {
             body: found.body,
             env: outer.env,
-            args: value.args,
+            args: value.spine.args,
             params: found.params,
         }));
     }
-    let stuck = stuck_match(alloc, &value, &outer)?;
+    let stuck = value.under(alloc, Head::Match(outer))?;
     Ok(Met::Stuck(stuck))
 }
 
 /// A value under bindings: the root where it is known, and else the term that is read.
 fn bound(alloc: Global, value: &Value, root: Option<Lazy>) -> Result<Lazy, MakeFault>
-    requires { IfSome root (λ l. read l ≡ term_of value.now) }
+    requires value { IsValue value.now }
+    requires root { IfSome root (λ l. read l ≡ term_of value.now) }
     ensures ok { IfOk result (λ l. read l ≡ term_of value.now) }
     ensures too_deep { IfErr result (λ e. e ≡ TooDeep → IsBeyond (term_of value.now)) }
 {
@@ -351,29 +265,6 @@ fn bound(alloc: Global, value: &Value, root: Option<Lazy>) -> Result<Lazy, MakeF
             Ok(Lazy::plain(term))
         }
     }
-}
-
-/// A fixpoint with its recursive argument, which is no constructor with all its arguments.
-fn stuck_fixpoint(
-    alloc: Global,
-    value: &Value,
-    fix: Lazy,
-    before: Vec<Lazy>,
-) -> Result<Value, MakeFault>
-    requires node { IsFixNode fix.term }
-    requires waits { missing (apply (read fix) (map read before.items)) ≡ Some 0 }
-    ensures ok { IfOk result (λ v. (term_of v ≡ App (apply (read fix) (map read before.items)) (term_of value.now)) × IsValue v) }
-    ensures too_deep { IfErr result (λ e. e ≡ TooDeep → IsBeyond (term_of value.now)) }
-{
-    let term = value.read(alloc)?;
-    let argument = Lazy::plain(term);
-    let mut args = before;
-    put(&mut args, argument)?;
-    Ok(Value {
-        head: fix,
-        args,
-        missing: None,
-    })
 }
 
 /// A fixpoint as it was written names one of its definitions: so it unfolds with any arguments.
@@ -412,7 +303,7 @@ fn meet_fixpoint(
             argument,
         }));
     }
-    let stuck = stuck_fixpoint(alloc, &value, fix, before)?;
+    let stuck = value.under(alloc, Head::Fixpoint(fix, before))?;
     Ok(Met::Stuck(stuck))
 }
 

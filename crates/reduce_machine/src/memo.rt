@@ -1,5 +1,5 @@
 //! Terms that bindings were read to.
-ghost use Rattle.std.specs.Prelude.{◌≡◌, IfOk, IfErr, IfSome};
+ghost use Rattle.std.specs.Prelude.{◌≡◌, IsTrue, IfOk, IfErr, IfSome};
 ghost use Rattle.pc_terms.specs.Counted.{number_of};
 ghost use Rattle.pc_terms.specs.declared.term.MakeFault.TheVariants.{Memory};
 ghost use Rattle.reduce_machine.specs.Memos.{IsMemo};
@@ -37,7 +37,7 @@ impl Model for Kept {
 
 /// A place for one term, which is written at most once. Contracts see the number of the only term that it can have.
 #[derive(Drop)]
-pub(crate) struct Memo {
+pub struct Memo {
     stamp: Rc<Stamp>,
     kept: OnceCell<Kept>,
 }
@@ -64,6 +64,13 @@ impl Memo {
             }
             None => None,
         }
+    }
+
+    /// Whether both are seen to be one place.
+    pub fn same(&self, other: &Memo) -> bool
+        ensures is { IsTrue result → self.now ≡ other.now }
+    {
+        self.stamp.same(&other.stamp)
     }
 
     /// Writes the term, if there is memory for that.

@@ -21,13 +21,23 @@ use std::alloc::Global;
 impl Lazy {
     /// The term that this is.
     #[tactic(auto, using(crate::proofs::Standing::walk_read, crate::proofs::Limited::limit_laws))]
-    pub(crate) fn read(&self, alloc: Global) -> Result<Term, MakeFault>
+    pub fn read(&self, alloc: Global) -> Result<Term, MakeFault>
         ensures ok { IfOk result (λ t. t ≡ read self.now) }
         ensures within { IfOk result IsWithin }
         ensures too_deep { IfErr result (λ e. e ≡ TooDeep → IsBeyond (read self.now)) }
     {
         read_above(&self.term, alloc, 0, 0, &self.env)
     }
+}
+
+/// What a part of a term under bindings is, below `k` variables of its own.
+#[tactic(auto, using(crate::proofs::Limited::limit_laws))]
+pub fn read_under(t: &Term, alloc: Global, k: u64, env: &Bindings) -> Result<Term, MakeFault>
+    ensures ok { IfOk result (λ out. out ≡ walk (stands_under env.now.items) k t.now) }
+    ensures within { IfOk result IsWithin }
+    ensures too_deep { IfErr result (λ e. e ≡ TooDeep → IsBeyond (walk (stands_under env.now.items) k t.now)) }
+{
+    read_above(t, alloc, 0, k, env)
 }
 
 /// The parts of a match under bindings, but for the scrutinee, around another scrutinee.

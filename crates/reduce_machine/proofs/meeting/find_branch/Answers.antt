@@ -1,6 +1,6 @@
 use Rattle.trees.specs.Tree.{terms_of}
 use Rattle.pc_terms.specs.Lists.{arms_of}
-use Rattle.reduce_machine.specs.Met.{term_of}
+use Rattle.reduce_machine.specs.Values.{term_of}
 use Rattle.reduce_machine.proofs.Arms.{not_case}
 use Rattle.reduce_machine.proofs.Meetings.{match_none, match_no_arm, match_takes}
 use Rattle.reduce_machine.proofs.meeting.find_branch.Goals as goal

@@ -1,20 +1,22 @@
 use Rattle.std.proofs.Common.{sym, IfOk, MatchOption, subst as along}
 use Rattle.reduce_machine.specs.Normal.{IsLambda}
 use Rattle.reduce_machine.specs.Met.{IsBodyIn}
-use Rattle.reduce_machine.specs.Reads.{read}
-use Rattle.reduce_machine.proofs.Meetings.{are_none, not_none, head_alone}
-use Rattle.reduce_machine.proofs.Seen.{some_not_lambda}
+use Rattle.reduce_machine.proofs.Meetings.{are_none, not_none}
+use Rattle.reduce_machine.proofs.ValueParts.{value_open, lambda_term, applied_not_lambda, value_not_lambda}
 use Rattle.reduce_machine.proofs.meeting.lambda.Goals as goal
 
 pub head_body-requires : goal.head_body-requires
-head_body-requires c = c.requires.shown
+head_body-requires c = value_open c.args.value.now c.in-Open.head c.in-Open.is c.requires
 
 pub returns-then-is_alone-clause-ok : goal.returns-then-is_alone-clause-ok
 returns-then-is_alone-clause-ok c =
-    along (λ t. IfOk c.head_body.result (λ o. MatchOption o (IsLambda t → ⊥) (IsBodyIn c.args.value.now.head.env.items t)))
-    (sym (head_alone c.args.value.now (are_none c.is_alone.result c.args.value.now.args.items c.is_alone.ensures.is c.if-is_alone.true))) c.head_body.ensures.ok
+    along (λ t. IfOk c.head_body.result (λ o. MatchOption o (IsLambda t → ⊥) (λ b. IsBodyIn b.env.items t b.body)))
+    (sym (lambda_term c.args.value.now c.in-Open.head c.in-Open.is
+    (are_none c.is_alone.result c.args.value.now.spine.args.items c.is_alone.ensures.is c.if-is_alone.true))) c.head_body.ensures.ok
 
-pub returns-clause-ok : goal.returns-clause-ok
-returns-clause-ok c =
-    some_not_lambda c.args.value.now.args.items (read c.args.value.now.head)
-    (not_none c.is_alone.result c.args.value.now.args.items c.is_alone.ensures.is c.if-is_alone.false)
+pub returns-else-is_alone-clause-ok : goal.returns-else-is_alone-clause-ok
+returns-else-is_alone-clause-ok c =
+    applied_not_lambda c.args.value.now (not_none c.is_alone.result c.args.value.now.spine.args.items c.is_alone.ensures.is c.if-is_alone.false)
+
+pub returns-in_default-clause-ok : goal.returns-in_default-clause-ok
+returns-in_default-clause-ok c = value_not_lambda c.args.value.now c.requires c.in_default.not-Open

@@ -1,4 +1,4 @@
-use Rattle.reduce_machine.specs.Met.{term_of}
+use Rattle.reduce_machine.specs.Values.{term_of}
 use Rattle.reduce_machine.specs.Reads.{read}
 use Rattle.reduce_machine.proofs.Meetings.{argument_met, deep_around}
 use Rattle.reduce_machine.proofs.frames.Frame.meet.Goals as goal
@@ -29,9 +29,6 @@ returns-in-Scrutinee-clause-ok c = rw c.in-Scrutinee.is c.meet_match.ensures.ok
 
 pub returns-in-Scrutinee-clause-keeps : goal.returns-in-Scrutinee-clause-keeps
 returns-in-Scrutinee-clause-keeps c = rw c.in-Scrutinee.is c.meet_match.ensures.keeps
-
-pub returns-in-Scrutinee-clause-too_deep : goal.returns-in-Scrutinee-clause-too_deep
-returns-in-Scrutinee-clause-too_deep c = rw c.in-Scrutinee.is c.meet_match.ensures.too_deep
 
 pub returns-in-Recursive-clause-ok : goal.returns-in-Recursive-clause-ok
 returns-in-Recursive-clause-ok c = rw c.in-Recursive.is c.meet_fixpoint.ensures.ok

@@ -79,7 +79,7 @@ returns-in-Whole-clause-sought c =
     let w = grown_whole c.search.self c.descend.new.self c.in_ok-descend.ensures.grown ∙ c.search.invariant.whole in
     let k = rw c.in-Whole.is at c.in_ok-settled.ensures.keeps in
     let s = rw c.in-Whole.is at (c.in_ok-settled.ensures.settled (values c.args.ctx.now) n) in
-    (k ∙ w, ap (weak_next c.args.env.now (values c.args.ctx.now)) (sym w) ∙ s)
+    (k.0 ∙ w, k.1, ap (weak_next c.args.env.now (values c.args.ctx.now)) (sym w) ∙ s)
 
 pub returns-in-Whole-clause-sound : goal.returns-in-Whole-clause-sound
 returns-in-Whole-clause-sound c = c.in_ok-settled.ensures.sound

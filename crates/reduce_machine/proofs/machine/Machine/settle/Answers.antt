@@ -1,12 +1,10 @@
-use Rattle.std.proofs.Common.{◌≡◌, ◌∙◌, length, sym, ap, arith, subst as along}
+use Rattle.std.proofs.Common.{◌≡◌, ◌∙◌, length, sym, ap, arith}
 use Rattle.std.proofs.lemmas.Result.{err_from_is_err_and}
-use Rattle.trees.specs.Measures.{IsBeyond}
-use Rattle.pc_terms.specs.Syntax.{Term}
 use Rattle.pc_rules.specs.DirectedWeakHead.{weak_next}
 use Rattle.reduction.specs.Frames.{work}
 use Rattle.reduce_machine.specs.Layered.{plug}
 use Rattle.reduce_machine.specs.Layers.{layer, layers}
-use Rattle.reduce_machine.specs.Met.{term_of}
+use Rattle.reduce_machine.specs.Values.{term_of}
 use Rattle.reduce_machine.specs.Reads.{read}
 use Rattle.reduce_machine.specs.Steps.{contractum}
 use Rattle.reduce_machine.specs.declared.frames.Frame.TheVariants.{Recursive}
@@ -106,21 +104,16 @@ outward-preserved c =
           c.outward.invariant.root;
     }
 
-pub returns-in_err-term-clause-too_deep : goal.returns-in_err-term-clause-too_deep
-returns-in_err-term-clause-too_deep c =
-    let p = err_from_is_err_and c.from_residual-in_err-term.result c.from_residual-in_err-term.ensures.1 in
-    let w = settled_whole (layers c.outward.self.frames.items) (term_of c.outward.value) _ (ap layers c.in_default.ensures.frames) c.outward.invariant.whole in
-    rw (p.1, p.2) (λ e. along (λ (t : Term). IsBeyond t) w (c.in_err-term.ensures.too_deep e))
-
 pub returns-clause-settled : goal.returns-clause-settled
 returns-clause-settled c =
     λ V n. ap (weak_next c.args.env.now V) (sym (settled_whole (layers c.outward.self.frames.items) (term_of c.outward.value) _ (ap layers c.in_default.ensures.frames)
     c.outward.invariant.whole)) ∙ c.outward.invariant.none V n
 
 pub returns-clause-keeps : goal.returns-clause-keeps
-returns-clause-keeps c =
-    c.plain.ensures.term ∙ c.in_ok-term.ensures.ok
-    ∙ settled_whole (layers c.outward.self.frames.items) (term_of c.outward.value) _ (ap layers c.in_default.ensures.frames) c.outward.invariant.whole
+returns-clause-keeps c = (
+  settled_whole (layers c.outward.self.frames.items) (term_of c.outward.value) _ (ap layers c.in_default.ensures.frames) c.outward.invariant.whole,
+  c.outward.invariant.value,
+)
 
 pub returns-clause-sound : goal.returns-clause-sound
 returns-clause-sound c = sound_none c.pop.new.self.frames.items c.in_default.ensures.empty

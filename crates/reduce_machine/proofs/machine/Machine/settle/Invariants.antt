@@ -3,7 +3,7 @@ use Rattle.calculus_rules.specs.Context.{Values}
 use Rattle.pc_rules.specs.DirectedWeakHead.{weak_next}
 use Rattle.reduce_machine.specs.Layered.{plug, weights}
 use Rattle.reduce_machine.specs.Layers.{layers}
-use Rattle.reduce_machine.specs.Met.{term_of, IsValue}
+use Rattle.reduce_machine.specs.Values.{term_of, IsValue}
 use Rattle.reduce_machine.specs.Reads.{read}
 use Rattle.reduce_machine.specs.Sought.{whole, AreSound, IsRoot}
 use Rattle.reduce_machine.proofs.machine.Machine.settle.Given as goal

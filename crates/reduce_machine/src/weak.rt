@@ -1,0 +1,94 @@
+//! Weak-head normal forms of terms under bindings, of which nothing is read.
+ghost use Rattle.std.specs.Prelude.{◌≡◌, ◌<◌, IsTrue, IfOk, IfErr, None};
+ghost use Rattle.calculus_rules.specs.Context.{values};
+ghost use Rattle.calculus_rules.specs.WeakHead.{WeakSteps};
+ghost use Rattle.pc_rules.specs.DirectedRun.{ticked, is_beyond};
+ghost use Rattle.pc_rules.specs.DirectedWeakHead.{weak_next};
+ghost use Rattle.pc_rules.specs.Follows.{Follows, halted};
+ghost use Rattle.reduce_machine.specs.Layered.{plug};
+ghost use Rattle.reduce_machine.specs.Layers.{layers};
+ghost use Rattle.reduce_machine.specs.Passed.{reduced, map_ok};
+ghost use Rattle.reduce_machine.specs.Payment.{HasNoResult};
+ghost use Rattle.reduce_machine.specs.Reads.{read};
+ghost use Rattle.reduce_machine.specs.Sought.{whole, AreSound};
+ghost use Rattle.reduce_machine.specs.Steps.{contractum, IsStepNode};
+ghost use Rattle.reduce_machine.specs.Values.{term_of, IsValue};
+
+use crate::bindings::Lazy;
+use crate::machine::{Machine, Sought};
+use crate::quick::{is_normal, spine_value};
+use crate::steps::Step;
+use crate::values::Value;
+use pc_rules::context::Ctx;
+use pc_rules::environment::Env;
+use pc_rules::meter::Meter;
+use pc_rules::stop::Stop;
+use std::alloc::Global;
+
+/// Takes a step. A unit is taken before its result is made.
+fn paid(alloc: Global, machine: &mut Machine, step: Step, m: &mut Meter) -> Result<(), Stop>
+    requires sound { AreSound machine.old.frames.items }
+    requires node { IsStepNode step }
+    ensures ok { IfOk result (λ _. whole machine.new ≡ plug (layers machine.old.frames.items) (contractum step)) }
+    ensures sound { IfOk result (λ _. AreSound machine.new.frames.items) }
+    ensures unit { IfOk result (λ _. 0 < m.old.account.left) }
+    ensures none { IfErr result (HasNoResult step m.old.account) }
+    ensures account { m.new.account ≡ ticked m.old.account }
+    ensures nest { m.new.nest ≡ m.old.nest }
+{
+    if !m.tick() {
+        return Err(Stop::Spent);
+    }
+    machine.take(alloc, step)?;
+    Ok(())
+}
+
+/// The weak-head normal form of a term under bindings, by the machine.
+pub(crate) fn reduced_value(
+    alloc: Global,
+    env: &Env,
+    ctx: &Ctx,
+    term: Lazy,
+    m: &mut Meter,
+) -> Result<Value, Stop>
+    ensures follows { Follows (reduced env.now (values ctx.now) (read term) m.old.account) (halted (map_ok term_of result)) m.old m.new }
+    ensures value { IfOk result (λ v. IsValue v) }
+    ensures normal { IfOk result (λ v. weak_next env.now (values ctx.now) (term_of v) ≡ None) }
+    ensures beyond { IfOk result (λ v. IsTrue (is_beyond (term_of v)) → IsTrue (reduced env.now (values ctx.now) (read term) m.old.account).deep) }
+    ensures reached { IfOk result (λ v. WeakSteps env.now (values ctx.now) (read term) (term_of v)) }
+{
+    let mut machine = Machine::of(alloc, term);
+    'steps: loop {
+        let sought = machine.seek(alloc, env, ctx)?;
+        match sought {
+            Sought::Step(step) => {
+                paid(alloc, &mut machine, step, m)?;
+                machine.flatten(alloc)?;
+            }
+            Sought::Value(value) => return Ok(value),
+        }
+    }
+}
+
+/// The weak-head normal form of a term under bindings, of which nothing is read. Each weak-head step takes a unit (PCUIC, weak-head
+/// reduction). `Spent` exactly where the steps have no end within the units left and `TooDeep` did not come. `TooDeep` only where the term
+/// that it is given as, or one of its steps, is beyond the limits of terms in memory.
+pub fn weak_value(
+    alloc: Global,
+    env: &Env,
+    ctx: &Ctx,
+    term: Lazy,
+    m: &mut Meter,
+) -> Result<Value, Stop>
+    ensures follows { Follows (reduced env.now (values ctx.now) (read term) m.old.account) (halted (map_ok term_of result)) m.old m.new }
+    ensures value { IfOk result (λ v. IsValue v) }
+    ensures normal { IfOk result (λ v. weak_next env.now (values ctx.now) (term_of v) ≡ None) }
+    ensures beyond { IfOk result (λ v. IsTrue (is_beyond (term_of v)) → IsTrue (reduced env.now (values ctx.now) (read term) m.old.account).deep) }
+    ensures reached { IfOk result (λ v. WeakSteps env.now (values ctx.now) (read term) (term_of v)) }
+{
+    if is_normal(env, ctx, &term.env, &term.term) {
+        let value = spine_value(alloc, &term)?;
+        return Ok(value);
+    }
+    reduced_value(alloc, env, ctx, term, m)
+}
