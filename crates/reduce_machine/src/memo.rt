@@ -35,11 +35,31 @@ impl Model for Kept {
     ghost invariant = { λ k. k.stamp.value ≡ number_of k.term };
 }
 
+/// The stamp of another place for the same term, with that of the place itself. Contracts see the number of the term.
+#[derive(Drop)]
+struct Twin {
+    own: Rc<Stamp>,
+    other: Rc<Stamp>,
+}
+
+impl Model for Twin {
+    ghost use Rattle.std.specs.Prelude.{ℕ, ◌≡◌};
+
+    ghost Value = { ℕ };
+
+    ghost view = { λ t. t.other.value };
+
+    ghost invariant = { λ t. t.own.value ≡ t.other.value };
+}
+
 /// A place for one term, which is written at most once. Contracts see the number of the only term that it can have.
+///
+/// It may be joined, once, to another place for the same term, so that the two are known to be for one.
 #[derive(Drop)]
 pub struct Memo {
     stamp: Rc<Stamp>,
     kept: OnceCell<Kept>,
+    twin: OnceCell<Twin>,
 }
 
 impl Model for Memo {
@@ -85,6 +105,54 @@ impl Memo {
         };
         let _ = self.kept.set(Kept { stamp, term });
     }
+
+    /// Whether both are seen to be places for one term: they are one place, or were joined, or were both joined to one place.
+    pub fn same(&self, other: &Memo) -> bool
+        ensures is { IsTrue result → self.now ≡ other.now }
+    {
+        let left = self.mark();
+        let right = other.mark();
+        left.same(right) || left.same(&other.stamp) || self.stamp.same(right)
+    }
+
+    /// Joins two places for one term, where one of them isn't joined yet and there is memory for that.
+    pub fn join(&self, other: &Memo)
+        requires one { self.now ≡ other.now }
+    {
+        if self.twin.get().is_none() {
+            self.follow(other.mark());
+        } else {
+            other.follow(self.mark());
+        }
+    }
+
+    /// The stamp of the place to which this one was joined, and else its own.
+    fn mark(&self) -> &Rc<Stamp>
+        ensures is { result.now.value ≡ self.now }
+    {
+        match self.twin.get() {
+            Some(twin) => {
+                if twin.own.same(&self.stamp) {
+                    return &twin.other;
+                }
+                &self.stamp
+            }
+            None => &self.stamp,
+        }
+    }
+
+    /// Keeps the stamp of another place.
+    fn follow(&self, mark: &Rc<Stamp>)
+        requires one { mark.now.value ≡ self.now }
+    {
+        let Ok(own) = self.stamp.clone() else {
+            return;
+        };
+        let Ok(other) = mark.clone() else {
+            return;
+        };
+        let _ = self.twin.set(Twin { own, other });
+    }
 }
 
 /// A place for the term that an item is; none where that term is at hand.
@@ -100,6 +168,7 @@ pub(crate) fn memo_of(alloc: Global, item: &Lazy) -> Result<Option<Memo>, MakeFa
         Ok(stamp) => Ok(Some(Memo {
             stamp,
             kept: OnceCell::new(),
+            twin: OnceCell::new(),
         })),
         Err(_) => Err(MakeFault::Memory),
     }

@@ -1,0 +1,5 @@
+pub mod Lifting
+pub mod Noding
+pub mod Pairing
+pub mod Deepening
+pub mod Deciding

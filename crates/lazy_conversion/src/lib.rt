@@ -1,0 +1,6 @@
+//! Comparison of terms that stand under bindings.
+#![tactic(auto)]
+
+mod part;
+mod places;
+mod sameness;
