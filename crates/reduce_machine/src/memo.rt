@@ -86,13 +86,6 @@ impl Memo {
         }
     }
 
-    /// Whether both are seen to be one place.
-    pub fn same(&self, other: &Memo) -> bool
-        ensures is { IsTrue result → self.now ≡ other.now }
-    {
-        self.stamp.same(&other.stamp)
-    }
-
     /// Writes the term, if there is memory for that.
     pub(crate) fn keep(&self, term: &Term)
         requires is { self.now ≡ number_of term.now }

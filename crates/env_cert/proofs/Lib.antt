@@ -1,0 +1,4 @@
+pub mod Halted
+pub mod Begun
+pub mod Declaring
+pub mod Whole

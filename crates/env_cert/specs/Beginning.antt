@@ -1,0 +1,33 @@
+-- What is found before the declarations.
+use Rattle.std.specs.Prelude.{◌≡◌, ℕ, [], length, None, Result, Ok, Err}
+use Rattle.universe_levels.specs.Consistency.{AreOver, IsConsistent}
+use Rattle.dump_reader.specs.declared.environment.RawEnv.{RawEnv}
+use Rattle.pc_rules.specs.declared.stop.Stop.TheVariants as stops
+use Rattle.pc_rules.specs.DirectedDeclarations.{first_repeated, first_undeclared_end}
+use Rattle.env_check.specs.declared.refusal.Refusal.{Refusal}
+use Rattle.env_check.specs.declared.refusal.Refusal.TheVariants as refusals
+use Rattle.cert_rules.specs.Walk.{Items}
+use Rattle.type_cert.specs.declared.halt.WalkHalt.{WalkHalt}
+use Rattle.type_cert.specs.declared.halt.WalkHalt.TheVariants.{Stop, Barred}
+use Rattle.type_cert.specs.declared.trail.Trail.{Trail}
+use Rattle.env_cert.specs.Verified.{WalksAlong}
+
+-- how a walk halts where a rule is broken before the declarations: it is refused at item i
+abbrev pub first_halt : ℕ → Refusal → WalkHalt
+first_halt i (refusals.Broken p b) = Barred i
+first_halt i _ = Stop stops.Memory
+
+abbrev pub barred_first : {A : Type 0} → ℕ → Result A Refusal → Result A WalkHalt
+barred_first i (Ok a) = Ok a
+barred_first i (Err e) = Err (first_halt i e)
+
+-- no level is listed twice, the constraints name declared levels, and some valuation meets them all
+pub record HasSoundLevels (raw : RawEnv) : Type 0 where
+  pub once : first_repeated 0 [] raw.levels ≡ None
+  pub declared : first_undeclared_end (length raw.levels) 0 raw.constraints ≡ None
+  pub over : AreOver (length raw.levels) raw.constraints
+  pub consistent : IsConsistent (length raw.levels) raw.constraints
+
+-- the walk halts before the declarations, with each certificate, where it stands at item i
+abbrev pub HaltsFirst : RawEnv → ℕ → WalkHalt → Type 0
+HaltsFirst raw i h = (cert : Items) (t : Trail) → t.at ≡ i → WalksAlong raw cert (Err h) t t

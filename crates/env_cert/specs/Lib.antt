@@ -1,0 +1,3 @@
+pub mod EnvWalks
+pub mod Verified
+pub mod Beginning
