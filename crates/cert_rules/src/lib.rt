@@ -11,8 +11,8 @@
 //! - `making`: but for the items, the rules that write are the directed rules (`directed`); and what they write the walk accepts, with at least
 //!   the units that they took, unless too many rules stand in one another (`accepted`).
 //!
-//! Below stand `calculus_rules`, `pc_rules` (the directed rules) and `rule_laws` (their soundness), above the crates that make, read, print and
-//! verify certificates, which are still to come.
+//! Below stand `calculus_rules`, `pc_rules` (the directed rules) and `rule_laws` (their soundness), above the crates that verify certificates, and
+//! those that read and print their text.
 #![tactic(auto)]
 
 pub mod certificate;

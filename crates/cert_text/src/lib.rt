@@ -10,7 +10,7 @@
 //! certificate (`first`).
 //!
 //! Below stand `kio` (sinks), `sexp_reader` (which tokens a text has), `dump_grammar` and `dump_printer` (numbers, spacing, tokens to a sink) and
-//! `cert_rules` (items); above, the jobs that write and verify certificates, which are still to come, and `text_rows`.
+//! `cert_rules` (items); above, `text_rows`.
 #![tactic(auto)]
 
 ghost use Rattle.cert_text.specs.TextLaws.{ReadingIsExact, WrongIsFirst, PrintedIsRead};

@@ -8,7 +8,7 @@ use pc_terms::term::{Defs, MakeFault, Terms};
 use std::alloc::Global;
 
 /// The types of the definitions. Only `Memory`.
-pub(crate) fn types(alloc: Global, defs: &Defs) -> Result<Terms, MakeFault>
+pub fn types(alloc: Global, defs: &Defs) -> Result<Terms, MakeFault>
     ensures ok { IfOk result (λ out. out ≡ list_of (types_of defs.now)) }
     ensures only_memory { IfErr result (λ e. e ≡ Memory) }
 {
@@ -22,7 +22,7 @@ pub(crate) fn types(alloc: Global, defs: &Defs) -> Result<Terms, MakeFault>
 }
 
 /// The bodies of the definitions, each under all of them. Only `Memory`.
-pub(crate) fn bodies(alloc: Global, defs: &Defs) -> Result<Terms, MakeFault>
+pub fn bodies(alloc: Global, defs: &Defs) -> Result<Terms, MakeFault>
     ensures ok { IfOk result (λ out. out ≡ list_of (bodies_of (length defs.now) defs.now)) }
     ensures only_memory { IfErr result (λ e. e ≡ Memory) }
 {

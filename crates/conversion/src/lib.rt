@@ -12,10 +12,10 @@
 #![tactic(auto)]
 
 pub mod comparison;
-mod definitions;
+pub mod definitions;
 mod fixpoints;
 mod matches;
-mod mode;
-mod sorts;
-mod spine_heads;
+pub mod mode;
+pub mod sorts;
+pub mod spine_heads;
 mod spines;

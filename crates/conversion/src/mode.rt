@@ -2,7 +2,7 @@
 
 /// Whether two terms are to be equal, or the left one below the right one (PCUIC, POPL 2020: conversion and cumulativity).
 #[derive(Clone, Copy, Debug, PartialEq, Eq)]
-pub(crate) enum Mode {
+pub enum Mode {
     /// Conversion.
     Equal,
     /// Cumulativity: a universe may be below another.

@@ -33,7 +33,7 @@ fn stand(env: &Env, mode: Mode, s: &Sort, t: &Sort) -> bool
 
 /// Compares two sorts by the environment's constraints. `Broken` keeps the two where they don't stand as the mode asks. Answers only `Memory`
 /// besides.
-pub(crate) fn compare_sorts(
+pub fn compare_sorts(
     alloc: Global,
     env: &Env,
     mode: Mode,

@@ -57,7 +57,7 @@ fn same_counts(x: &Match, y: &Match) -> bool
 
 /// Whether two heads are of one kind: the same variable, constant, family or constructor; matches on the same family with the same
 /// counts; or fixpoints of the same index with the same recursive arguments. Takes no memory.
-fn alike(a: &Term, b: &Term) -> bool
+pub fn alike(a: &Term, b: &Term) -> bool
     ensures is { result ≡ alike a.now b.now }
 {
     match (a.view(), b.view()) {

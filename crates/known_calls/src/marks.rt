@@ -1,4 +1,4 @@
-//! Which bindings of a block are read as a word in the block behind them, and of which branches the only variable is read twice.
+//! Which bindings of a block are read as a word in the block behind them, and of which branches the only variable is read twice or more.
 //!
 //! One walk, from the back of each block, finds all marks of a body: of each variable that is there it is kept how often it has been read
 //! so far, and where the walk comes to a variable's binding this says the binding's mark; where it comes to a branch of one variable, the

@@ -21,7 +21,7 @@ use std::alloc::Global;
 impl<G: Guarder> TypeWalk<'_, G> {
     /// The context with the entries of a telescope, of which each has a sort under those before it.
     #[cycle(infer)]
-    pub(crate) fn entered(
+    pub fn entered(
         &self,
         alloc: Global,
         ctx: &Ctx,
@@ -48,7 +48,7 @@ impl<G: Guarder> TypeWalk<'_, G> {
 
     /// Terms against a telescope: each against its type at the terms before it, whose other variables are raised by `raise`.
     #[cycle(infer)]
-    pub(crate) fn check_all(
+    pub fn check_all(
         &self,
         alloc: Global,
         ctx: &Ctx,
