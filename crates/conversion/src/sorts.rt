@@ -33,13 +33,7 @@ fn stand(env: &Env, mode: Mode, s: &Sort, t: &Sort) -> bool
 
 /// Compares two sorts by the environment's constraints. `Broken` keeps the two where they don't stand as the mode asks. Answers only `Memory`
 /// besides.
-pub fn compare_sorts(
-    alloc: Global,
-    env: &Env,
-    mode: Mode,
-    s: &Sort,
-    t: &Sort,
-) -> Result<(), Halt>
+pub fn compare_sorts(alloc: Global, env: &Env, mode: Mode, s: &Sort, t: &Sort) -> Result<(), Halt>
     requires constraints { AreOver env.now.levels env.now.constraints }
     requires left { IsSortOver env.now.levels s.now }
     requires right { IsSortOver env.now.levels t.now }

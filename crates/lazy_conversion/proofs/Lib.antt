@@ -3,3 +3,12 @@ pub mod Noding
 pub mod Pairing
 pub mod Deepening
 pub mod Deciding
+pub mod Tracking
+pub mod Beginning
+pub mod Growing
+pub mod Limits
+pub mod SameSpines
+pub mod ValueHeads
+pub mod ValueKinds
+pub mod Comparables
+pub mod Reading

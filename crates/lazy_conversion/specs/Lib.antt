@@ -3,3 +3,10 @@ pub mod Lifted
 pub mod Walked
 pub mod Joined
 pub mod Deep
+pub mod Lists
+pub mod Sound
+pub mod Held
+pub mod Shapes
+pub mod Heads
+pub mod Stuck
+pub mod Tracks

@@ -1,12 +1,29 @@
-//! Terms under bindings, compared without being read: whether two of them are the same.
+//! Conversion by closures: terms are compared by weak-head normal forms of which nothing is read.
 //!
-//! A part is a term that stands under the bindings of `reduce_machine`, below variables of its own. `same_parts` decides whether the terms to
-//! which two parts read are the same (`Same` of `calculus_rules`), `same_around` the same of two matches but for their scrutinees (`ok`); each
-//! answers `TooDeep` only where both are beyond the limits of terms (`too_deep`). Neither allocates a term. What was found the same once is
-//! known from then on, so two chains of n bindings, each used twice by the next, take time in n and not in 2^n; no clause says so.
-//! Below stand `reduce_machine`, whose bindings these are, and `calculus_rules`. Nothing stands above yet: the checker compares by `conversion`.
+//! `LazyCompare` implements `Converter`, as `Compare` of `conversion` does over a reducer, and follows the same directed comparison of
+//! `pc_rules` (`follows`): answers, units and refusals are the same. What it compares are terms under bindings and values of `reduce_machine`: a
+//! weak-head normal form is a head with arguments that nobody has read, and these are compared in turn. Whether two of them are one tree is decided
+//! under their bindings (`sameness`, `same_values`). What stands below binders (codomains, bodies, predicates, branches) is read where it isn't seen to
+//! be the same, and then compared as a plain term; and a refusal reads the two terms that it keeps.
+//! A comparison knows of its context only the values of variables: so a longer context has placeholders, and no types of entries are made.
+//!
+//! Below stand `reduce_machine` (values), `reduction` and `redexes` (terms around a scrutinee), `conversion` (sorts, kinds of heads), `rule_laws` and
+//! `instances` (laws on counts, families of blocks), `pc_rules` (the definitions, the trait), `calculus_rules`, `pc_terms`, `trees` and
+//! `universe_levels`; above, `env_check` and the `driver`, which compare by it.
 #![tactic(auto)]
 
-pub mod part;
+mod assumptions;
+pub mod comparison;
+mod fixpoints;
+mod held;
+mod lists;
+mod matches;
+mod part;
 mod places;
-pub mod sameness;
+mod same_values;
+mod sameness;
+mod shapes;
+mod spine_heads;
+mod spines;
+mod stuck;
+mod units;

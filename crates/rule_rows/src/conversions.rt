@@ -9,6 +9,7 @@ use conversion::comparison::Compare;
 use dump_reader::environment::RawEnv;
 use env_check::check::check_env;
 use guard_check::guard::Guard;
+use lazy_conversion::comparison::LazyCompare;
 use pc_rules::context::Ctx;
 use pc_rules::converter::Converter;
 use pc_rules::environment::Env;
@@ -118,7 +119,8 @@ fn metered(case: &Case) -> Result<Meter, Fault> {
 }
 
 /// Compares two terms in the empty context.
-fn compared(
+fn compared<C: Converter>(
+    converter: &C,
     alloc: Global,
     comparison: Comparison,
     env: &Env,
@@ -130,7 +132,6 @@ fn compared(
     requires left { IsCounted env.now a.now }
     requires right { IsCounted env.now b.now }
 {
-    let converter = Compare::new(Subst);
     match comparison {
         Comparison::Below => converter.below(alloc, env, &Ctx::new(), a, b, m),
         Comparison::Equal => converter.equal(alloc, env, &Ctx::new(), a, b, m),
@@ -158,7 +159,28 @@ fn put_compared(
     write!(out, "\n  units left {left}")
 }
 
-/// Compares two terms with `units`, where `entered` rules stand already, and tells the units that are left.
+/// Compares two terms by a converter with `units`, where `entered` rules stand already, and tells the units that are left.
+fn compared_by<C: Converter>(
+    converter: &C,
+    case: &Case,
+    opened: &Opened,
+    env: &Env,
+    comparison: Comparison,
+    a: &Term,
+    b: &Term,
+) -> Result<String, Fault>
+    requires accepted { IsAccepted env.now }
+    requires left { IsCounted env.now a.now }
+    requires right { IsCounted env.now b.now }
+{
+    let mut m = metered(case)?;
+    let came = compared(converter, case.alloc, comparison, env, a, b, &mut m);
+    let mut out = String::new(case.alloc);
+    put_compared(&mut out, &opened.raw, &came, &m)?;
+    Ok(out)
+}
+
+/// Compares two terms by both converters, which come to the same.
 fn compare(
     case: &Case,
     opened: &Opened,
@@ -172,9 +194,14 @@ fn compare(
     requires left { IsCounted env.now a.now }
     requires right { IsCounted env.now b.now }
 {
-    let mut m = metered(case)?;
-    let came = compared(case.alloc, comparison, env, a, b, &mut m);
-    Ok(put_compared(out, &opened.raw, &came, &m)?)
+    let stepwise = compared_by(&Compare::new(Subst), case, opened, env, comparison, a, b)?;
+    let unread = compared_by(&LazyCompare, case, opened, env, comparison, a, b)?;
+    out.push_str(stepwise.as_str())?;
+    if unread.as_str() != stepwise.as_str() {
+        out.push_str("\n  by closures ")?;
+        out.push_str(unread.as_str())?;
+    }
+    Ok(())
 }
 
 /// Compares a term with `other`.

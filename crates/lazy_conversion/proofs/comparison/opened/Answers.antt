@@ -1,0 +1,14 @@
+use Rattle.std.proofs.Common.{◌≡◌, ◌∙◌, sym, ap, IfOk, subst as along}
+use Rattle.trees.specs.Substitution.{walk}
+use Rattle.reduce_machine.specs.Reads.{read, stands_under}
+use Rattle.reduce_machine.proofs.Bodies.{plain_read}
+use Rattle.reduce_machine.proofs.Standing.{walk_read}
+use Rattle.lazy_conversion.proofs.comparison.opened.Goals as goal
+
+pub returns-then-p-eq0-clause-ok : goal.returns-then-p-eq0-clause-ok
+returns-then-p-eq0-clause-ok c =
+    along (λ t. IfOk c.part.result (λ l. read l ≡ t))
+    (sym (walk_read c.args.p.env.now.items c.args.p.term.now) ∙ ap (λ k. walk (stands_under c.args.p.env.now.items) k c.args.p.term.now) (sym c.if-p-eq0.true)) c.part.ensures.ok
+
+pub returns-clause-ok : goal.returns-clause-ok
+returns-clause-ok c = plain_read c.plain.result c.in_ok-term.term c.plain.ensures.term c.plain.ensures.items ∙ c.in_ok-term.ensures.ok

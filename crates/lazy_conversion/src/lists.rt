@@ -1,0 +1,65 @@
+//! Lists of terms under bindings.
+ghost use Rattle.std.specs.Prelude.{◌≡◌, ◌+◌};
+ghost use Rattle.calculus_rules.specs.Context.{values};
+ghost use Rattle.pc_rules.specs.Entailment.{test_of};
+ghost use Rattle.pc_rules.specs.DirectedRun.{run_all};
+ghost use Rattle.pc_rules.specs.DirectedComparison.{compare, each_equal};
+ghost use Rattle.conversion.specs.Comparable.{AreComparable};
+ghost use Rattle.lazy_conversion.specs.Lists.{read_list};
+ghost use Rattle.lazy_conversion.specs.Tracks.{Tracks, AnyBeyond};
+
+use crate::comparison::LazyCompare;
+use crate::part::Part;
+use conversion::mode::Mode;
+use pc_rules::context::Ctx;
+use pc_rules::environment::Env;
+use pc_rules::meter::Meter;
+use pc_rules::stop::Halt;
+use pc_terms::term::Terms;
+use reduce_machine::bindings::Bindings;
+use std::alloc::Global;
+
+/// Terms under bindings, each below `under` variables of its own.
+#[derive(Clone, Copy, Drop)]
+pub(crate) struct Parts<'a> {
+    pub(crate) terms: &'a Terms,
+    pub(crate) under: u64,
+    pub(crate) env: &'a Bindings,
+}
+
+impl LazyCompare {
+    /// Two lists of terms, one by one.
+    #[cycle(compare)]
+    pub(crate) fn each(
+        &self,
+        alloc: Global,
+        env: &Env,
+        ctx: &Ctx,
+        room: u32,
+        ts: Parts<'_>,
+        us: Parts<'_>,
+        m: &mut Meter,
+    ) -> Result<(), Halt>
+        requires nest { room + m.old.nest ≡ 2048 }
+        requires comparable { AreComparable env.now (values ctx.now) (read_list ts) (read_list us) }
+        ensures tracks { Tracks (values ctx.now) (AnyBeyond (read_list ts.entry) (read_list us.entry)) (λ c. run_all (each_equal (compare env.now (test_of env.now) room) c (read_list ts.entry) (read_list us.entry))) result m.old m.new }
+    {
+        let lefts = ts.terms.as_slice();
+        let rights = us.terms.as_slice();
+        let count = lefts.len().min(rights.len());
+        for i in 0..count {
+            let left = Part {
+                term: &lefts[i],
+                under: ts.under,
+                env: ts.env,
+            };
+            let right = Part {
+                term: &rights[i],
+                under: us.under,
+                env: us.env,
+            };
+            self.part(alloc, env, ctx, room, Mode::Equal, left, right, m)?;
+        }
+        Ok(())
+    }
+}
