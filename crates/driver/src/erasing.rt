@@ -14,11 +14,11 @@ ghost use Rattle.driver.specs.ExecEnds.{ErasureSays};
 use crate::check::{number, told};
 use crate::refusal::Refusal;
 use box_terms::program::BoxProgram;
-use conversion::comparison::Compare;
 use dump_reader::environment::RawEnv;
 use erase::program::erase;
 use erase::refusal::EraseRefusal;
 use guard_check::guard::Guard;
+use lazy_conversion::comparison::LazyCompare;
 use pc_rules::accepted::Accepted;
 use pc_rules::broken::{Broken, Place};
 use pc_rules::meter::Meter;
@@ -89,7 +89,7 @@ pub(crate) fn erased(
     ensures sources { IfOk result (HasErased accepted.now.env) }
 {
     read_counts_are_few();
-    let typer = Inference::new(Closures, Compare::new(Closures), Guard::new(Closures));
+    let typer = Inference::new(Closures, LazyCompare, Guard::new(Closures));
     match erase(alloc, &typer, &Closures, accepted, m) {
         Ok(program) => Ok(program),
         Err(EraseRefusal::Halt { place, halt }) => Err(halted(alloc, raw, place, &halt)),

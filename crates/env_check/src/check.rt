@@ -15,9 +15,9 @@ use crate::constraints::{check_constraints, graph_of};
 use crate::declarations::check_declarations;
 use crate::levels::check_levels;
 use crate::refusal::{Refusal, refusal_at};
-use conversion::comparison::Compare;
 use dump_reader::environment::RawEnv;
 use guard_check::guard::Guard;
+use lazy_conversion::comparison::LazyCompare;
 use pc_rules::accepted::Accepted;
 use pc_rules::broken::Place;
 use pc_rules::context::Ctx;
@@ -69,6 +69,9 @@ fn check_main<T: Typer>(
 /// before, and else with what its type and body or its block break; and main. Places are counted from 0. `Spent` exactly where the rules
 /// have no end within the units left and `TooDeep` did not come. `TooDeep` only where they pass a limit. Both tell the place where they came,
 /// and `Spent` the account with which the rules came there. The environment that is read stays as it is.
+///
+/// `reducer` gives the weak-head normal forms that inference and the guard look at. Comparisons reduce by closures of their own, whatever
+/// it is. By the contract of a reducer no answer depends on which it is.
 pub fn check_env<R: Reducer>(
     alloc: Global,
     reducer: &R,
@@ -87,7 +90,7 @@ pub fn check_env<R: Reducer>(
     check_levels(alloc, raw.levels.as_slice())?;
     check_constraints(levels, constraints)?;
     let graph = graph_of(alloc, levels, constraints)?;
-    let typer = Inference::new(reducer, Compare::new(reducer), Guard::new(reducer));
+    let typer = Inference::new(reducer, LazyCompare, Guard::new(reducer));
     let env = Env::new(alloc, graph);
     let env = check_declarations(alloc, &typer, reducer, env, raw.decls.as_slice(), m)?;
     check_main(alloc, &typer, env, &raw.main, m)

@@ -10,8 +10,8 @@
 //! read, in their order, with the sorts of constructor arguments (`well_formed`), and main as it was read (`main`).
 //!
 //! Below stand `dump_reader` (environments as they are read), `pc_rules` (the rules, environments, meters), `rule_laws` (the directed rules
-//! are sound), `universe_graph`, and the crates that compare, infer, judge fixpoints and check blocks; the reducer is the caller's. Above
-//! stands the driver.
+//! are sound), `universe_graph`, and the crates that compare (`lazy_conversion`, by closures of its own), infer, judge fixpoints and check
+//! blocks; inference and the guard reduce by the caller's reducer. Above stands the driver.
 #![tactic(auto)]
 
 pub mod check;
