@@ -31,5 +31,5 @@ lower_bound P pages m w ns n matches pos small some ok evaluates reads first k s
     let d = reads_tree r.v ns r.reads in
     let both = form_suffices P m ok.form ok.constants ok.main ok.constructors in
     let y = back_end P pages m r.v d.0 r.counts pos small some both.0 both.1 ok.limits run d.1 in
-    let least = returned (y.runs.run k (Over Returned s) (subst (λ (f : State). Reach (module_of (lift (to_anf P)) pages) k f (Over Returned s)) (inj (sym starts ∙ y.runs.starts)) reach)).1 in
+    let least = returned (y.runs.emitted.run k (Over Returned s) (subst (λ (f : State). Reach (module_of (lift (to_anf P)) pages) k f (Over Returned s)) (inj (sym starts ∙ y.runs.emitted.starts)) reach)).1 in
     omega (arith, r.matches, least)

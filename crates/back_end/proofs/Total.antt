@@ -26,6 +26,7 @@ use Rattle.anf_convert.specs.ToAnf.{to_anf}
 use Rattle.anf_convert.proofs.Forms.{to_anf_forms}
 use Rattle.closure_lift.proofs.Forms.{lift_forms}
 use Rattle.known_calls.specs.KnownModule.{module_of}
+use Rattle.wasm_emit.specs.CallDepth.{call_depth}
 use Rattle.wasm_emit.specs.EmitLaws.{Spent}
 use Rattle.known_calls.specs.KnownLaws.{FinishedWithin}
 use Rattle.wasm_emit.proofs.Answering.{longer}
@@ -127,15 +128,18 @@ total_back_end P pages m w ns n matched pos small some ok evaluates reads =
     let d = reads_tree x.v ns x.reads in
     let both = suffices P m ok in
     let r = back_end S pages m x.v d.0 c pos small some both.0 both.1 ok.limits x.run d.1 in
+    let y = r.runs.emitted in
+    let frames = call_depth r.runs.evaluates + 1 in
     let blocks = x.blocks in
     let contractions = x.contractions in
     let wide = x.greatest in
     let M = module_of (passed P) pages in
     let bound : 64 * (c.blocks + c.contractions + 1) * (c.greatest + m) ≤ 64 * (3 * n + 1) * (greatest_words P + m) = product_le (64 * (c.blocks + c.contractions + 1)) (64 * (3 * n + 1)) (c.greatest + m) (greatest_words P + m) (omega arith) (omega arith) in
     record {
-      first = r.runs.first;
-      starts = r.runs.starts;
-      calls = r.runs.depth;
+      first = y.first;
+      starts = y.starts;
+      lifted = record { w = c.greatest; v = r.runs.v; c = r.runs.contractions; k = c.matches; b = c.blocks; l = r.words; evaluates = r.runs.evaluates };
+      shallow = omega (arith, r.runs.shallow, contractions);
       words = r.words;
       few = omega (arith, r.few, product_le c.blocks (2 * n) c.greatest (greatest_words P) blocks wide);
       w = x.substituted.w;
@@ -143,11 +147,11 @@ total_back_end P pages m w ns n matched pos small some ok evaluates reads =
       matches = x.substituted.matches;
       saturated = x.substituted.evaluates;
       run = λ k t reach.
-          let h = r.runs.run k t reach in (
+          let h = y.run k t reach in (
             omega (arith, h.0, bound),
-            subst (λ z. Fate M (r.runs.depth + 1) (FinishedWithin M ns (8 + 4 * r.words)) (Spent M (8 + 4 * r.words)) z k t) x.matches (subst (λ (y : Nodes). Fate M (r.runs.depth + 1) (FinishedWithin M y (8 + 4 * r.words)) (Spent M (8 + 4 * r.words)) c.matches k t) d.2 h.1),
+            subst (λ z. Fate M frames (FinishedWithin M ns (8 + 4 * r.words)) (Spent M (8 + 4 * r.words)) z k t) x.matches (subst (λ (nodes : Nodes). Fate M frames (FinishedWithin M nodes (8 + 4 * r.words)) (Spent M (8 + 4 * r.words)) c.matches k t) d.2 h.1),
           );
-      always = longer bound (subst (λ (y : Nodes). AnswersWithin M (64 * (c.blocks + c.contractions + 1) * (c.greatest + m)) y) d.2 r.runs.always);
+      always = longer bound (subst (λ (nodes : Nodes). AnswersWithin M (64 * (c.blocks + c.contractions + 1) * (c.greatest + m)) nodes) d.2 y.always);
     }
 
 pub total_valid : ModulesAreValid

@@ -9,7 +9,7 @@ use Rattle.lambda_box.specs.BoxData.{Data as Nodes, BoxReads}
 use Rattle.lambda_box.specs.DataTerms.{greatest_words}
 use Rattle.box_passes.specs.PassLaws.{saturated_program}
 use Rattle.shrink_passes.specs.ShrunkProgram.{shrunk_program}
-use Rattle.closure_lift.specs.Lifted.{Program}
+use Rattle.closure_lift.specs.Lifted.{Program, VNil}
 use Rattle.closure_lift.specs.Lift.{lift}
 use Rattle.closure_lift.specs.LiftedForm.{Limits}
 use Rattle.anf_convert.specs.ToAnf.{to_anf}
@@ -20,6 +20,7 @@ use Rattle.wasm_core.specs.Runs.{main_start}
 use Rattle.wasm_core.specs.Answer.{AnswersWithin}
 use Rattle.wasm_core.specs.RunTree.{Fate}
 use Rattle.known_calls.specs.KnownModule.{module_of}
+use Rattle.wasm_emit.specs.CallDepth.{call_depth, MainEvaluates}
 use Rattle.wasm_emit.specs.EmitLaws.{Spent, CountsFit}
 use Rattle.known_calls.specs.KnownLaws.{FinishedWithin}
 
@@ -40,13 +41,14 @@ pub record IsWithinPasses (P : BoxProgram) (m : ℕ) : Type 0 where
   pub main : depth (saturated_program P).main ≤ deepest
   pub limits : Limits (passed P)
 
--- each run of the module, of an evaluation with n nodes that gives these nodes of data: its number of steps is bounded, and it goes on, or answers the data after
--- at least as many steps as the saturated program's evaluation has matches, or is exhausted after a refused grow; a grow past the maximum is its cause only if the
--- maximum is below these words and two more
+-- each run of the module, of an evaluation with n nodes that gives these nodes of data: its number of steps is bounded, and it goes on, where at most one frame more waits than the call depth of the
+-- lifted program's evaluation, which is at most n, or answers the data after at least as many steps as the saturated program's evaluation has matches, or is exhausted after a refused grow; a grow past
+-- the maximum is its cause only if the maximum is below these words and two more
 pub record Answered (P : BoxProgram) (pages m : ℕ) (ns : Nodes) (n : ℕ) : Type 0 where
   pub first : State
   pub starts : main_start (module_of (passed P) pages) ≡ Some first
-  pub calls : ℕ
+  pub lifted : MainEvaluates (passed P) VNil
+  pub shallow : call_depth lifted.evaluates ≤ n
   pub words : ℕ
   pub few : words ≤ 2 * n * greatest_words P
   pub w : BoxTerm
@@ -54,7 +56,7 @@ pub record Answered (P : BoxProgram) (pages m : ℕ) (ns : Nodes) (n : ℕ) : Ty
   pub matches : ℕ
   pub saturated : BoxEvaluates (saturated_program P) (saturated_program P).main w nodes matches
   pub run : (k : ℕ) (t : State) → Reach (module_of (passed P) pages) k first t →
-      (k ≤ 64 * (3 * n + 1) * (greatest_words P + m)) × Fate (module_of (passed P) pages) (calls + 1) (FinishedWithin (module_of (passed P) pages) ns (8 + 4 * words)) (Spent (module_of (passed P) pages) (8 + 4 * words)) matches k t
+      (k ≤ 64 * (3 * n + 1) * (greatest_words P + m)) × Fate (module_of (passed P) pages) (call_depth lifted.evaluates + 1) (FinishedWithin (module_of (passed P) pages) ns (8 + 4 * words)) (Spent (module_of (passed P) pages) (8 + 4 * words)) matches k t
   pub always : AnswersWithin (module_of (passed P) pages) (64 * (3 * n + 1) * (greatest_words P + m)) ns
 
 -- where main evaluates by substitution to data with n nodes, every run of the module answers that data or is exhausted

@@ -29,7 +29,7 @@ use Rattle.closure_lift.proofs.Forms.{lift_forms}
 use Rattle.wasm_core.specs.declared.entries.Entry.TheVariants.{Main}
 use Rattle.wasm_core.specs.Parts.{Parts}
 use Rattle.wasm_core.specs.Instance.{Func, func_of, segments_fit, greatest_pages}
-use Rattle.wasm_core.specs.MachineStep.{State, Store, Reach}
+use Rattle.wasm_core.specs.MachineStep.{State, Store, Conf, At, Reach}
 use Rattle.wasm_core.specs.Entries.{index_of, from_nothing}
 use Rattle.wasm_core.specs.Runs.{store_of}
 use Rattle.wasm_core.specs.HostStore.{start_in, start_at_in, main_start_in}
@@ -44,17 +44,19 @@ use Rattle.known_calls.specs.KnownCalls.{call_function, module_of_call}
 use Rattle.wasm_emit.specs.EmitLaws.{Spent, spent}
 use Rattle.known_calls.specs.KnownLaws.{CallFinished}
 use Rattle.wasm_emit.specs.EmittedModule.{type_main, main_index}
+use Rattle.wasm_emit.specs.CallDepth.{call_depth}
 use Rattle.known_calls.proofs.KnownCalling.{calls_answer}
 use Rattle.wasm_emit.proofs.Indices.{entries_length}
+use Rattle.wasm_emit.proofs.Shallow.{few_calls}
 use Rattle.known_calls.proofs.KnownIndices.{main_in, main_at}
 use Rattle.known_calls.proofs.KnownStatus.{calls_tell}
 use Rattle.known_calls.proofs.KnownValidity.{calls_valid}
 use Rattle.back_end.specs.BackEnd.{passed}
 use Rattle.back_end.proofs.Total.{suffices}
 use Rattle.call_answers.specs.HostedCall.{HoldsArguments}
-use Rattle.call_answers.specs.EveryCall.{call_module_for, CallRuns, EveryCallAnswers, CalledProgramsAnswer, CallModulesAreValid, CallStatusTells}
+use Rattle.call_answers.specs.EveryCall.{call_module_for, listed, CallRuns, EveryCallAnswers, CalledProgramsAnswer, CallModulesAreValid, CallStatusTells}
 use Rattle.call_answers.proofs.SpineAnswers.{answers_applied}
-use Rattle.call_answers.proofs.StoredTrees.{listed, listed_count, one_list, arguments_stored, held_trees, anf_trees, lifted_trees}
+use Rattle.call_answers.proofs.StoredTrees.{listed_count, one_list, arguments_stored, held_trees, anf_trees, lifted_trees}
 
 terms_count : {P : BoxProgram} {us : List BoxTerm} {args : List Data} → DataTerms P us args → length us ≡ length args
 terms_count no_data = refl
@@ -87,6 +89,11 @@ chosen : {M : Parts} {frames first heap bytes least k : ℕ} {d : DataNodes} {t 
 chosen le (goes_on s u deep x y) gone e = elim gone [ ]
 chosen le (ended q l) (exhausted z) e = elim q [ ]
 chosen le (ran_out (spent x h)) (exhausted z) e = let lt = h e in omega (arith, le, lt)
+
+few_wait : {M : Parts} {frames first heap bytes least k : ℕ} {d : DataNodes} {c : Conf} → Fate M frames (CallFinished M d first heap bytes) (Spent M bytes) least k (At c) → length c.callers ≤ frames
+few_wait (goes_on s u few x y) = few
+few_wait (ended q l) = elim q [ ]
+few_wait (ran_out x) = elim x [ ]
 
 -- a host's store is what the law of emission speaks of
 store_is : {pages : ℕ} {args : List DataNodes} (s : Store) (h : HoldsArguments pages args s) → s ≡ hosted s.memory s.pages h.heap h.address
@@ -143,20 +150,32 @@ called_programs_answer P args pages b n tree pos small some ok e =
       few_blocks = omega (arith, sk.no_more.blocks, q.blocks, pm.1.within, e.few);
       narrow = omega (arith, sk.no_more.greatest, called_widths (prop_match_program P) vs args sr.1 (length args) q.v q.counts run, (prop_match_program_sizes P).1);
       few_words = words_bound (to_anf S) c.greatest anf.0 x.v x.contractions c.matches c.blocks x.words x.answers;
+      lifted = record {
+        program = passed P;
+        is = refl;
+        trees = ds;
+        given = ht.same;
+        values = vals.0;
+        are = vals.1;
+        main = record { w = c.greatest; v = y.v; c = y.contractions; k = c.matches; b = c.blocks; l = x.words; evaluates = y.answers };
+      };
+      shallow = few_calls y.answers;
       runs = λ s h.
           let host = is_hosted s h ds ht.same in
           let at : Store = hosted s.memory s.pages h.heap h.address in
           let z = calls_answer (passed P) pages c.greatest b vals.0 ds y.v rt.0 y.contractions c.matches c.blocks x.words s.memory s.pages h.heap h.address pos small some formed ok.limits vals.1 y.answers y.is host in
           let given : (j : ℕ) (t : State) → Reach M j (start_in at z.main) t → IsAtEnd M t → Answers M tree t ⊎ Exhausted M t = λ j t r l. subst (λ (ns : DataNodes). Answers M ns t ⊎ Exhausted M t) rt.2 (z.answers j t r l) in
-          let all : CallRuns M pages most (h.heap + 4 * x.words) tree at = record {
+          let calls : ℕ = call_depth y.answers in
+          let all : CallRuns M pages most (h.heap + 4 * x.words) calls tree at = record {
             first = start_in at z.main;
             starts = starts_at (passed P) k pages at z.index z.main z.exported z.is;
             bounded = λ j t r. (z.run j t r).0;
             answers = given;
-            enough = λ le j t r l free. unless M tree t (given j t r l) (λ gone. chosen {frames = z.depth + 1} {first = s.pages} {heap = h.heap} {bytes = h.heap + 4 * x.words} {d = preorder rt.0} le (z.run j t r).1 gone free);
+            enough = λ le j t r l free. unless M tree t (given j t r l) (λ gone. chosen {frames = calls + 1} {first = s.pages} {heap = h.heap} {bytes = h.heap + 4 * x.words} {d = preorder rt.0} le (z.run j t r).1 gone free);
+            waiting = λ j f r. few_wait (z.run j (At f) r).1;
           } in
-          subst (λ k. CallRuns (call_module_for P k pages) pages most (h.heap + 4 * x.words) tree s) same
-          (subst (λ s. CallRuns M pages most (h.heap + 4 * x.words) tree s) (sym (store_is s h)) all);
+          subst (λ k. CallRuns (call_module_for P k pages) pages most (h.heap + 4 * x.words) calls tree s) same
+          (subst (λ s. CallRuns M pages most (h.heap + 4 * x.words) calls tree s) (sym (store_is s h)) all);
     }
   where
     unless : (m : Parts) (tree : Data) (t : State) → Answers m tree t ⊎ Exhausted m t → (Exhausted m t → ⊥) → Answers m tree t
@@ -185,5 +204,7 @@ with_words w' le x = record {
   few_blocks = x.few_blocks;
   few_words = x.few_words;
   narrow = let few = x.narrow in omega (arith, few, le);
+  lifted = x.lifted;
+  shallow = x.shallow;
   runs = x.runs;
 }

@@ -15,11 +15,7 @@ use Rattle.wasm_core.specs.WordData.{DataNodes, IsBlock, IsBelow}
 use Rattle.wasm_core.specs.StoredData as within
 use Rattle.wasm_core.specs.StoredData.{StandsWithin, FieldsWithin, ArgumentsWithin}
 use Rattle.wasm_emit.specs.CallLaws.{Stored, stored_odd, stored_block, FieldsStored, no_fields, last_field, ArgumentsStored, no_arguments, last_argument}
-
--- a list of trees, the last one first, as lists of nodes, the first one first
-abbrev pub listed : DataTrees → List DataNodes
-listed DNil = []
-listed (DCons d ds) = listed ds ++ preorder d ∷ []
+use Rattle.call_answers.specs.EveryCall.{listed}
 
 pub listed_count : (ds : DataTrees) → length (listed ds) ≡ count ds
 listed_count DNil = refl

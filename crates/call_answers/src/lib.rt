@@ -4,7 +4,7 @@
 //! data along it, evaluates to a value by weak call by value, that is data, and every long enough run of the module for calls, from a store that holds the arguments'
 //! data, answers exactly that or is exhausted after a refused grow of memory. There is no premise on the evaluation, and none that the applied term has a type: it has one.
 //!
-//! What needs no source stands apart: the runs of a program whose main, applied to terms of data, evaluates to data, with bounds on steps and on memory by the
+//! What needs no source stands apart: the runs of a program whose main, applied to terms of data, evaluates to data, with bounds on steps, on memory and on frames by the
 //! evaluation (`called_programs_answer`, `runs`), that the module is valid (`valid`) and that its status is 1 only after a refused grow (`status`). The store that a
 //! host makes is told in `specs/HostedCall.antt`, in the words that the calls which store arguments use.
 //!
@@ -17,7 +17,7 @@ ghost use Rattle.call_answers.specs.CallHeadline.{CallHeadline};
 ghost use Rattle.call_answers.specs.EveryCall.{CallModulesAreValid, CallStatusTells, CalledProgramsAnswer};
 
 /// Where main of a program within the limits of the passes, applied to terms of data, evaluates to data, every run of its module for calls, from a store that holds
-/// the arguments, answers the data or is exhausted, within bounds on steps and on memory; the module is valid, and its status is 1 only after a refused grow.
+/// the arguments, answers the data or is exhausted, within bounds on steps, on memory and on frames; the module is valid, and its status is 1 only after a refused grow.
 pub fn called_programs_answer()
     ensures runs { CalledProgramsAnswer }
     ensures valid { CallModulesAreValid }

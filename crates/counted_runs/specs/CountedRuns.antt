@@ -21,6 +21,7 @@ use Rattle.headline.specs.AcceptedProgram.{IsAcceptedAs, IsErasedTo, FitsPasses}
 use Rattle.headline.specs.EveryRun.{module_for, EvaluatesTo}
 use Rattle.headline.specs.Headline.{IsExactly}
 use Rattle.headline.specs.SourceWords.{source_branches}
+use Rattle.counted_runs.specs.FewFrames.{HasFewFrames}
 
 -- main of the saturated program, which the first two passes make of P, gives the data by evaluation with environments, with these counts; what the later passes make of it gives it with no more
 pub record GivesWith (P : BoxProgram) (tree : Data) (c : Counts) : Type 0 where
@@ -41,6 +42,11 @@ abbrev pub CountsBoundRuns : Type 0
 CountsBoundRuns =
     (P : BoxProgram) (pages m : ℕ) (tree : Data) (c : Counts) → 0 < pages → pages ≤ 16384 → 0 < m → IsWithinPasses P m → GivesWith P tree c → RunsByCounts P pages m tree c
 
+-- and a machine that runs the module has a peak of at most two frames more than the program's call depth, which is at most c
+abbrev pub PeaksGoByCallDepth : Type 0
+PeaksGoByCallDepth =
+    (P : BoxProgram) (pages m : ℕ) (tree : Data) (c : Counts) → 0 < pages → pages ≤ 16384 → 0 < m → IsWithinPasses P m → GivesWith P tree c → HasFewFrames P pages c.contractions
+
 -- the counts of an evaluation by substitution with n nodes: they are there, and no greater than n allows
 pub record HasCountsWithin (P : BoxProgram) (tree : Data) (n : ℕ) : Type 0 where
   pub counts : Counts
@@ -56,11 +62,12 @@ EvaluationsHaveCounts = (P : BoxProgram) (tree : Data) (n : ℕ) → IsBoxProgra
 abbrev pub CountsAreOne : Type 0
 CountsAreOne = (P : BoxProgram) (tree other : Data) (c d : Counts) → IsBoxProgram P → GivesWith P tree c → GivesWith P other d → c ≡ d
 
--- main evaluates to a value in n nodes: it is this data, the erased program gives it with counts that n allows, and every run of its module is within the bounds of these counts
+-- main evaluates to a value in n nodes: it is this data, the erased program gives it with counts that n allows, and every run of its module is within the bounds of these counts and of its call depth
 pub record AnswersByCounts (E : Env) (types : List Shape) (P : BoxProgram) (pages : ℕ) (v : Term) (n : ℕ) (tree : Data) : Type 0 where
   pub exactly : IsExactly E (members types) v tree
   pub counted : HasCountsWithin P tree n
   pub runs : RunsByCounts P pages (source_branches E) tree counted.counts
+  pub frames : HasFewFrames P pages counted.counts.contractions
 
 -- where an environment is accepted, main's type has these first-order types and the erased program fits the passes
 abbrev pub ValuesAreAnsweredByCounts : Type 0

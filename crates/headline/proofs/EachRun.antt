@@ -1,5 +1,5 @@
 -- What every run of a program's module does, from the laws of the passes together.
-use Rattle.std.proofs.Common.{◌≡◌, ◌∙◌, ◌+◌, ◌*◌, ◌≤◌, ◌⊎◌, inl, inr, true, false, refl, sym, subst, arith}
+use Rattle.std.proofs.Common.{◌≡◌, ◌∙◌, ℕ, ◌+◌, ◌*◌, ◌≤◌, ◌⊎◌, length, inl, inr, true, false, refl, sym, subst, arith}
 use Rattle.lambda_box.specs.DataTerms.{greatest_words}
 use Rattle.lambda_box.proofs.Determined.{evaluation_is_determined}
 use Rattle.box_passes.specs.PassLaws.{saturated_program}
@@ -7,11 +7,14 @@ use Rattle.box_passes.proofs.Passes.{passes_form}
 use Rattle.wasm_core.specs.Parts.{Parts}
 use Rattle.wasm_core.specs.declared.ended.Ended.TheVariants.{Returned, Trapped}
 use Rattle.wasm_core.specs.declared.ended.TrapKind.{TrapKind}
-use Rattle.wasm_core.specs.MachineStep.{State, Store, Over, Reach}
+use Rattle.wasm_core.specs.MachineStep.{State, Store, Conf, At, Over, Reach}
 use Rattle.wasm_core.specs.Runs.{store_of}
+use Rattle.wasm_core.specs.RunTree.{Fate, goes_on, ended, ran_out}
 use Rattle.wasm_core.specs.Answer.{Answers, Exhausted, exhausted}
 use Rattle.wasm_core.specs.WordData.{DataNodes as Nodes}
 use Rattle.wasm_core.proofs.Small.{inj}
+use Rattle.wasm_emit.specs.EmitLaws.{Spent}
+use Rattle.known_calls.specs.KnownLaws.{FinishedWithin}
 use Rattle.back_end.proofs.Bounds.{bounds}
 use Rattle.back_end.proofs.Total.{total_back_end}
 use Rattle.back_end.proofs.Whole.{product_le}
@@ -26,6 +29,12 @@ unless_exhausted : (M : Parts) (tree : Nodes) (t : State) → Answers M tree t �
 unless_exhausted M tree t (inl a) h e = a
 unless_exhausted M tree t (inr x) h e = let f : true ≡ false = sym (chosen x h) ∙ e in absurd cc
 
+-- where the run goes on, so many frames wait at most
+pub few_wait : {M : Parts} {frames bytes least n : ℕ} {tree : Nodes} {c : Conf} → Fate M frames (FinishedWithin M tree bytes) (Spent M bytes) least n (At c) → length c.callers ≤ frames
+few_wait (goes_on s t few x y) = few
+few_wait (ended q le) = elim q [ ]
+few_wait (ran_out x) = elim x [ ]
+
 pub each_run : EvaluatedProgramsAnswer
 each_run P pages w b n tree pos small some words within e =
     let M = module_for P pages in
@@ -39,6 +48,9 @@ each_run P pages w b n tree pos small some words within e =
     record {
       answers = record { first = a.first; starts = a.starts; bounded = λ k t r. let s = y.steps a.first k t a.starts r in omega (arith, s, steps); answers = a.answers };
       enough = λ big k t r end. unless_exhausted M tree t (a.answers k t r end) (λ trap s q. y.memory (omega (arith, big, bytes)) a.first k trap s a.starts (subst (λ (u : State). Reach M k a.first u) q r));
+      lifted = x.lifted;
+      shallow = omega (arith, x.shallow, few);
+      waiting = λ k c r. few_wait (x.run k (At c) (subst (λ (f : State). Reach M k f (At c)) (inj (sym a.starts ∙ x.starts)) r)).1;
       least = λ value nodes matches k s evaluates r.
           let same : x.matches ≡ matches = (evaluation_is_determined (saturated_program P) (passes_form P within.form).form (saturated_program P).main x.w value x.nodes nodes x.matches matches x.saturated evaluates).2 in
           let late = returned_late (x.run k (Over Returned s) (subst (λ (f : State). Reach M k f (Over Returned s)) (inj (sym a.starts ∙ x.starts)) r)).1 in

@@ -56,5 +56,5 @@ late_returns P pages b pos small some ok value tree nodes matches evaluates read
     let c = r.counts in
     let y = to_anf_keeps S NoValue WNil DNil r.v d.0 c ready anf.no_values anf_data_none (box_alone r.run) d.1 in
     let z = anf_answers_known (to_anf S) pages c.greatest b y.v d.0 y.contractions c.matches c.blocks y.words pos small some formed ok.limits y.answers y.is in
-    let least = returned_late (z.run k (Over Returned s) (subst (λ (f : State). Reach (module_for P pages) k f (Over Returned s)) (inj (sym starts ∙ z.starts)) reach)).1 in
+    let least = returned_late (z.emitted.run k (Over Returned s) (subst (λ (f : State). Reach (module_for P pages) k f (Over Returned s)) (inj (sym starts ∙ z.emitted.starts)) reach)).1 in
     omega (arith, first_run.matches, r.no_more.matches, least)

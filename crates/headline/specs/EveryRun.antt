@@ -1,16 +1,18 @@
--- What every run of a program's module does, where main evaluates to data, with the bounds on steps and on memory.
-use Rattle.std.specs.Prelude.{◌≡◌, ℕ, ◌+◌, ◌*◌, ◌<◌, ◌≤◌, false, Some}
+-- What every run of a program's module does, where main evaluates to data, with the bounds on steps, on memory and on frames.
+use Rattle.std.specs.Prelude.{◌≡◌, ℕ, ◌+◌, ◌*◌, ◌<◌, ◌≤◌, length, false, Some}
 use Rattle.box_terms.specs.BoxSyntax.{BoxTerm}
 use Rattle.lambda_box.specs.BoxProgram.{BoxProgram}
 use Rattle.lambda_box.specs.BoxEvaluation.{BoxEvaluates}
 use Rattle.lambda_box.specs.BoxData.{Data, BoxReads}
 use Rattle.lambda_box.specs.DataTerms.{greatest_words}
 use Rattle.box_passes.specs.PassLaws.{saturated_program}
+use Rattle.closure_lift.specs.Lifted.{VNil}
 use Rattle.wasm_core.specs.Parts.{Parts}
 use Rattle.wasm_core.specs.declared.ended.Ended.TheVariants.{Returned}
-use Rattle.wasm_core.specs.MachineStep.{State, Store, Over, Reach}
+use Rattle.wasm_core.specs.MachineStep.{State, Store, Conf, At, Over, Reach}
 use Rattle.wasm_core.specs.Runs.{main_start, store_of}
 use Rattle.wasm_core.specs.Answer.{Answers, AnswersWithin, IsAtEnd}
+use Rattle.wasm_emit.specs.CallDepth.{call_depth, MainEvaluates}
 use Rattle.known_calls.specs.KnownModule.{module_of}
 use Rattle.back_end.specs.BackEnd.{passed, IsWithinPasses}
 
@@ -34,6 +36,10 @@ pub record EveryRunAnswers (P : BoxProgram) (pages w b n : ℕ) (tree : Data) : 
   -- where so many bytes are within the maximum, it is exhausted only where a grow that the maximum allows was refused
   pub enough : 32 * n * w + 8 ≤ 65536 * pages → (k : ℕ) (t : State) → Reach (module_for P pages) k answers.first t →
       IsAtEnd (module_for P pages) t → (store_of t).by_choice ≡ false → Answers (module_for P pages) tree t
+  -- the lifted program's main evaluates, with a call depth of at most n, and at most one frame more waits for the function that runs
+  pub lifted : MainEvaluates (passed P) VNil
+  pub shallow : call_depth lifted.evaluates ≤ n
+  pub waiting : (k : ℕ) (c : Conf) → Reach (module_for P pages) k answers.first (At c) → length c.callers ≤ call_depth lifted.evaluates + 1
   -- a run that returns has made at least as many steps as the evaluation of the saturated program has matches
   pub least : (value : BoxTerm) (nodes matches k : ℕ) (s : Store) → BoxEvaluates (saturated_program P) (saturated_program P).main value nodes matches →
       Reach (module_for P pages) k answers.first (Over Returned s) → matches ≤ k

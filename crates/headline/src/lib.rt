@@ -3,7 +3,7 @@
 //! `values_are_answered` (clause `headline`, `specs/Headline.antt`) is the sentence that the product is for. What the directed rules accept is derived by the
 //! typing rules; erasure makes a program of it, and the passes and emission a module, which is valid; and where main, of a first-order type, evaluates to a value by
 //! weak call by value, every long enough run of the module answers exactly that value or is exhausted after a refused grow of memory, within bounds on steps and on
-//! memory that the evaluation's nodes give.
+//! memory that the evaluation's nodes give, and on frames by the call depth.
 //!
 //! What needs no evaluation of main stands apart: acceptance (`accepted_environments_are_derived`, `derived`); that the erased program has the form and is no larger
 //! than its source (`erased_programs_are_within`, `within`); the runs of a program that evaluates to data (`evaluated_programs_answer`, `runs`; `returns_take_matches`,
@@ -31,8 +31,8 @@ pub fn erased_programs_are_within()
     ensures within { ErasedProgramsAreWithin }
 {}
 
-/// Where main of a program within the limits of the passes evaluates to data, every run of its module answers the data or is exhausted, within bounds on steps
-/// and on memory, and no sooner than after as many steps as the saturated program's evaluation has matches.
+/// Where main of a program within the limits of the passes evaluates to data, every run of its module answers the data or is exhausted, within bounds on steps,
+/// on memory and on the frames that stand at once, and no sooner than after as many steps as the saturated program's evaluation has matches.
 pub fn evaluated_programs_answer()
     ensures runs { EvaluatedProgramsAnswer }
 {}

@@ -15,12 +15,13 @@ use Rattle.wasm_core.specs.Answer.{Answers, answers, IsAtEnd}
 use Rattle.wasm_core.specs.RunTree.{now}
 use Rattle.wasm_core.proofs.Rules as rule
 use Rattle.wasm_core.proofs.Trees.{tree_tells, tree_answers}
-use Rattle.closure_lift.specs.Lifted.{Program, Val, VNil}
+use Rattle.closure_lift.specs.Lifted.{Program, Val, VNil, answers_alone}
 use Rattle.anf_convert.specs.AnfData.{DataTree}
 use Rattle.closure_lift.specs.LiftKeeps.{IsData}
 use Rattle.wasm_emit.specs.EmittedLocals.{top}
 use Rattle.wasm_emit.specs.EmittedModule.{type_main, main_index}
 use Rattle.anf_convert.specs.Preorder.{preorder}
+use Rattle.wasm_emit.specs.CallDepth.{block_depth}
 use Rattle.wasm_emit.specs.EmitLaws.{Spent, spent}
 use Rattle.wasm_emit.proofs.Bytes.{zeroed_word, zeroed_length}
 use Rattle.wasm_emit.proofs.Rules.{Limits, Within, zeros, looser, zeros_length}
@@ -29,7 +30,7 @@ use Rattle.wasm_emit.proofs.Indices.{entries_length}
 use Rattle.wasm_emit.proofs.Read.{reads}
 use Rattle.wasm_emit.proofs.Staged.{staged}
 use Rattle.wasm_emit.proofs.Source.{Gets}
-use Rattle.wasm_emit.proofs.Answering.{alone, forget, is_exhausted}
+use Rattle.wasm_emit.proofs.Answering.{forget, is_exhausted}
 use Rattle.known_calls.specs.KnownCode.{Inside}
 use Rattle.known_calls.specs.KnownModule.{worker_type, main_function, module_of}
 use Rattle.known_calls.specs.KnownLaws.{FinishedWithin, finished, KnownAnswers}
@@ -86,14 +87,13 @@ pub has_answered : (m : Parts) (bytes : ℕ) (d : List (ℕ × ℕ)) (t : State)
 has_answered m bytes d t (finished h x y z) = answers h
 
 pub known_answers : KnownAnswers
-known_answers P pages w m v d c k b s pos small some form limits run is =
+known_answers P pages w m v d c k b s pos small some form limits (answers_alone g) is =
     let M = module_of P pages in
-    let y = staged P w m form limits 0 false form.main (alone run) in
-    let tree = whole P pages w m y.D v d c k b s pos small some y.gets is in
+    let D = block_depth false g in
+    let tree = whole P pages w m D v d c k b s pos small some (staged P w m form limits 0 false form.main g) is in
     record {
       first = first_of P pages;
       starts = starts P pages;
-      depth = y.D;
-      run = λ n t r. tree_tells M (y.D + 1) k (64 * (b + c + 1) * (w + m)) (FinishedWithin M (preorder d) (8 + 4 * s)) (Spent M (8 + 4 * s)) (first_of P pages) (at_end M (8 + 4 * s) (preorder d) (has_answered M (8 + 4 * s) (preorder d))) tree n t r;
-      always = tree_answers M (y.D + 1) k (64 * (b + c + 1) * (w + m)) (preorder d) (first_of P pages) (starts P pages) (forget (has_answered M (8 + 4 * s) (preorder d)) (is_exhausted M (8 + 4 * s)) tree);
+      run = λ n t r. tree_tells M (D + 1) k (64 * (b + c + 1) * (w + m)) (FinishedWithin M (preorder d) (8 + 4 * s)) (Spent M (8 + 4 * s)) (first_of P pages) (at_end M (8 + 4 * s) (preorder d) (has_answered M (8 + 4 * s) (preorder d))) tree n t r;
+      always = tree_answers M (D + 1) k (64 * (b + c + 1) * (w + m)) (preorder d) (first_of P pages) (starts P pages) (forget (has_answered M (8 + 4 * s) (preorder d)) (is_exhausted M (8 + 4 * s)) tree);
     }

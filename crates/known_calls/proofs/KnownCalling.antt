@@ -17,6 +17,7 @@ use Rattle.closure_lift.specs.LiftKeeps.{IsData, AreData}
 use Rattle.wasm_emit.specs.EmittedLocals.{top}
 use Rattle.wasm_emit.specs.EmittedModule.{type_main, main_index}
 use Rattle.wasm_emit.specs.CallModule.{call_globals, call_exports}
+use Rattle.wasm_emit.specs.CallDepth.{call_depth}
 use Rattle.wasm_emit.specs.EmitLaws.{Spent}
 use Rattle.anf_convert.specs.Preorder.{fields_of as count, preorder}
 use Rattle.wasm_emit.specs.CallLaws.{IsHosted, hosted, call_start}
@@ -65,19 +66,18 @@ whole P pages w m D args ds v d c k b s memory pages_now heap address pos small 
 pub calls_answer : CallsAnswer
 calls_answer P pages w m args ds v d c k b s memory pages_now heap address pos small some form limits are run is host =
     let M = module_of_call P (count ds) pages in
-    let y = staged_all P w m form limits run in
-    let tree = whole P pages w m y.D args ds v d c k b s memory pages_now heap address pos small some y.applies are is host in
+    let D = call_depth run in
+    let tree = whole P pages w m D args ds v d c k b s memory pages_now heap address pos small some (staged_all P w m form limits run) are is host in
     let first = call_start (record { type = type_main; body = call_function P (count ds) }) (hosted memory pages_now heap address) in
     let Q = CallFinished M (preorder d) pages_now heap (heap + 4 * s) in
     let most : ℕ = 64 * (b + c + 1) * (w + m) in
-    let run : (n : ℕ) (t : State) → Reach M n first t → (n ≤ most) × Fate M (y.D + 1) Q (Spent M (heap + 4 * s)) k n t =
-    tree_tells M (y.D + 1) k most Q (Spent M (heap + 4 * s)) first (at_end M (heap + 4 * s) (preorder d) (call_answered M pages_now heap (heap + 4 * s) (preorder d))) tree in
+    let run : (n : ℕ) (t : State) → Reach M n first t → (n ≤ most) × Fate M (D + 1) Q (Spent M (heap + 4 * s)) k n t =
+    tree_tells M (D + 1) k most Q (Spent M (heap + 4 * s)) first (at_end M (heap + 4 * s) (preorder d) (call_answered M pages_now heap (heap + 4 * s) (preorder d))) tree in
     record {
       index = main_index P;
       main = record { type = type_main; body = call_function P (count ds) };
       exported = ap (λ (o : Option ℕ). option_and_then (λ index. option_and_then (λ t. from_nothing t.params t.result (main_index P)) (slice_get M.types index)) o) (main_in P (λ g f. 2) (λ t. 1) 0 (λ g f. worker_type f));
       is = main_at P (call_function P (count ds)) call_globals call_exports pages;
-      depth = y.D;
       run = run;
-      answers = λ n t r last. ends M pages_now heap (heap + 4 * s) (y.D + 1) k n (preorder d) t (run n t r).1 last;
+      answers = λ n t r last. ends M pages_now heap (heap + 4 * s) (D + 1) k n (preorder d) t (run n t r).1 last;
     }

@@ -20,10 +20,11 @@ use Rattle.wasm_core.proofs.Rules.{Around}
 use Rattle.wasm_core.proofs.Rules as rule
 use Rattle.anf_convert.specs.declared.program.Atom.{Atom}
 use Rattle.closure_lift.specs.Lifted.{Op, OConst, OApp, OCon, OClos, OCase, Block, RetAtom, LetAtom, Ret, Let, BranchBlocks, Program, Fn, Val, VBox, VCon, VClos, Vals, VNil, VCons, size, ◌+v◌, many, BranchAt}
+use Rattle.wasm_emit.specs.CallDepth.{with_call}
 use Rattle.wasm_emit.specs.EmitLaws.{Spent}
 use Rattle.wasm_emit.specs.EmittedCode.{constant_index}
 use Rattle.wasm_emit.specs.EmittedLocals.{top, top_op}
-use Rattle.wasm_emit.proofs.Source.{with_call, Applies, applies_alone, applies_more, Is, AllAre, Does, do_const, do_app, do_box_app, do_con, do_clos, do_case, Gets, gets_atom, gets_let_atom, gets_ret, gets_let, all_size}
+use Rattle.wasm_emit.proofs.Source.{Applies, applies_alone, applies_more, Is, AllAre, Does, do_const, do_app, do_box_app, do_con, do_clos, do_case, Gets, gets_atom, gets_let_atom, gets_ret, gets_let, all_size}
 use Rattle.wasm_emit.proofs.Bytes.{Mem, at_zero}
 use Rattle.wasm_emit.proofs.Values.{ArgsAt, args_more, Stands, s_box, s_empty, s_con, s_clos, Fields, no_field, field, append_nil, closure, box_word, top_arg}
 use Rattle.wasm_emit.proofs.Holds.{args_on, Same, Keeps, keeps_trans, keeps_same, keeps_set, set_this, stands_on}

@@ -19,7 +19,7 @@ use Rattle.wasm_core.proofs.Rules as rule
 use Rattle.closure_lift.specs.Lifted.{Program, Val}
 use Rattle.wasm_emit.specs.EmitLaws.{Spent}
 use Rattle.wasm_emit.specs.EmittedModule.{type_constant, type_function}
-use Rattle.wasm_emit.proofs.Source.{with_call}
+use Rattle.wasm_emit.specs.CallDepth.{with_call}
 use Rattle.wasm_emit.proofs.Bytes.{Mem}
 use Rattle.wasm_emit.proofs.Holds.{keeps_same}
 use Rattle.wasm_emit.proofs.Rules.{Limits, Within, here, zeros, func, r_call_0, r_indirect}

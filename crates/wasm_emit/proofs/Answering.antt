@@ -5,12 +5,7 @@ use Rattle.wasm_core.specs.MachineStep.{State}
 use Rattle.wasm_core.specs.Answer.{Exhausted, exhausted, AnswersWithin}
 use Rattle.wasm_core.specs.WordData.{DataNodes as Nodes}
 use Rattle.wasm_core.specs.RunTree.{Within as Tree, now, gone, moves}
-use Rattle.closure_lift.specs.Lifted.{Program, Val, VNil, LiftedAnswers as Evaluates, answers_alone}
-use Rattle.closure_lift.specs.Lifted as lifted
 use Rattle.wasm_emit.specs.EmitLaws.{Spent, spent}
-
-pub alone : {P : Program} {w : ℕ} {v : Val} {c k b l : ℕ} → Evaluates P w VNil v c k b l → lifted.Gets P w VNil P.main v c k b l
-alone (answers_alone g) = g
 
 -- other ends
 pub forget : {m : Parts} {frames : ℕ} {Q R E F : State → Type 0} → ((t : State) → Q t → R t) → ((t : State) → E t → F t) → {least most : ℕ} {t : State} → Tree m frames Q E least most t → Tree m frames R F least most t

@@ -4,6 +4,7 @@ use Rattle.std.specs.Prelude.{slice_get}
 pub use Rattle.anf_convert.specs.declared.program.Atom.{Atom}
 pub use Rattle.anf_convert.specs.declared.program.Atom.TheVariants.{Var as AVar, Box as ABox, Empty as AEmpty}
 pub use Rattle.closure_lift.specs.Lifted.{Op, OConst, OApp, OCon, OClos, OCase, Block, RetAtom, LetAtom, Ret, Let, BranchBlocks, BNil, BCons, Fn, Program, Val, VBox, VCon, VClos, Vals, VNil, VCons, lookup, size, ◌+v◌, many, BranchAt, branch_here, branch_after}
+use Rattle.wasm_emit.specs.CallDepth.{with_call}
 
 pub data Is (e : Vals) : Atom → Val → Type 0 where
   is_var : {i : ℕ} {v : Val} → lookup e i ≡ Some v → Is e (AVar i) v
@@ -20,10 +21,7 @@ all_size (are_more h hs) = ap suc (all_size hs)
 
 -- `Does P w m e op v c k b s`: the operation gives the value, with c contractions, of which k are matches, and b blocks
 -- of s words in all, where no block has over w words and no match over m branches
--- a call that isn't in tail position is one more that stands in another
-abbrev pub with_call : Bool → ℕ → ℕ
-with_call false d = suc d
-with_call true d = d
+-- and, within the depth D, calls that stand in one another
 
 mutual
   pub data Does (P : Program) (w m : ℕ) : Bool → ℕ → Vals → Op → Val → ℕ → ℕ → ℕ → ℕ → Type 0 where

@@ -1,12 +1,13 @@
--- An evaluation of a lifted program of the form has the limits that emission asks for, and a call depth.
+-- An evaluation of a lifted program of the form has the limits that emission asks for, within its call depth.
 use Rattle.std.proofs.Common.{ℕ, zero, suc, ◌+◌, ◌≤◌, List, length, Bool, true, false, arith}
 use Rattle.std.proofs.lemmas.Option.{slice_get_within}
 use Rattle.std.specs.Prelude.{max}
 use Rattle.anf_convert.specs.declared.program.Atom.{Atom}
-use Rattle.closure_lift.specs.Lifted.{Op, Block, Let, BranchBlocks, Program, Val, Vals, VCons, BranchAt, branch_here, branch_after}
+use Rattle.closure_lift.specs.Lifted.{Op, Block, BranchBlocks, Program, Val, Vals, BranchAt, branch_here, branch_after}
 use Rattle.closure_lift.specs.Lifted as lifted
 use Rattle.anf_convert.specs.AnfForm.{AtomFits, AtomsFit}
 use Rattle.closure_lift.specs.LiftedForm.{OpFits, LiftedBlockFits, BranchesFit, Formed, Limits}
+use Rattle.wasm_emit.specs.CallDepth.{op_depth, block_depth, call_depth}
 use Rattle.wasm_emit.proofs.Source.{Applies, applies_alone, applies_more, Is, is_var, is_box, is_empty, AllAre, are_none, are_more, Does, do_const, do_app, do_box_app, do_con, do_clos, do_case, Gets, gets_atom, gets_let_atom, gets_ret, gets_let}
 
 pub atom_is : (n : ℕ) {e : Vals} {a : Atom} {v : Val} → AtomFits n a → lifted.Is e a v → Is e a v
@@ -39,55 +40,41 @@ module _ (P : Program) (w m : ℕ) where
     raise (gets_ret d) D' le = gets_ret (raise_op d D' le)
     raise (gets_let d g) D' le = gets_let (raise_op d D' le) (raise g D' le)
 
-  pub record Staged (tail : Bool) (e : Vals) (t : Block) (v : Val) (c k b s : ℕ) : Type 0 where
-    pub D : ℕ
-    pub gets : Gets P w m tail D e t v c k b s
-
-  pub record StagedOp (tail : Bool) (e : Vals) (op : Op) (v : Val) (c k b s : ℕ) : Type 0 where
-    pub D : ℕ
-    pub does : Does P w m tail D e op v c k b s
-
   branch_fits : (n : ℕ) {i j : ℕ} {bs : BranchBlocks} {t : Block} → BranchesFit P.functions (length P.constants) m n bs → BranchAt bs i j t → LiftedBlockFits P.functions (length P.constants) m (j + n) t
   branch_fits n fit branch_here = fit.1
   branch_fits n fit (branch_after at) = branch_fits n fit.2 at
 
-  joined : {tail : Bool} {e : Vals} {op : Op} {t : Block} {v r : Val} {c c' k k' b b' s s' : ℕ} → StagedOp false e op v c k b s → Staged tail (VCons v e) t r c' k' b' s' → Staged tail e (Let op t) r (c + c') (k + k') (b + b') (s + s')
-  joined h g = record { D = max h.D g.D; gets = gets_let (raise_op h.does (max h.D g.D) (omega arith)) (raise g.gets (max h.D g.D) (omega arith)) }
-
   module _ (ok : Formed P m) (limits : Limits P) where
     mutual
-      pub staged_op : {e : Vals} {op : Op} {v : Val} {c k b s : ℕ} (n : ℕ) (tail : Bool) → OpFits P.functions (length P.constants) m n op → lifted.Does P w e op v c k b s → StagedOp tail e op v c k b s
-      staged_op n tail fit (lifted.do_const {x = x} {t = t} at g) = let h = staged 0 true (ok.constants x t at) g in record { D = _; does = do_const at h.gets }
-      staged_op n tail fit (lifted.do_app {g = g} {fn = fn} isf isa at sz d) = let h = staged (suc fn.captured) true (ok.functions g fn at) d in record { D = _; does = do_app (atom_is n fit.0 isf) (atom_is n fit.1 isa) at sz h.gets }
-      staged_op n tail fit (lifted.do_box_app isf isa) = record { D = 0; does = do_box_app (atom_is n fit.0 isf) (atom_is n fit.1 isa) }
-      staged_op n tail fit (lifted.do_con narrow all) = record { D = 0; does = do_con fit.0 fit.1 fit.2 narrow (atoms_are n fit.3 all) }
+      pub staged_op : {e : Vals} {op : Op} {v : Val} {c k b s : ℕ} (n : ℕ) (tail : Bool) → OpFits P.functions (length P.constants) m n op → (h : lifted.Does P w e op v c k b s) → Does P w m tail (op_depth tail h) e op v c k b s
+      staged_op n tail fit (lifted.do_const {x = x} {t = t} at g) = do_const at (staged 0 true (ok.constants x t at) g)
+      staged_op n tail fit (lifted.do_app {g = g} {fn = fn} isf isa at sz d) = do_app (atom_is n fit.0 isf) (atom_is n fit.1 isa) at sz (staged (suc fn.captured) true (ok.functions g fn at) d)
+      staged_op n tail fit (lifted.do_box_app isf isa) = do_box_app (atom_is n fit.0 isf) (atom_is n fit.1 isa)
+      staged_op n tail fit (lifted.do_con narrow all) = do_con fit.0 fit.1 fit.2 narrow (atoms_are n fit.3 all)
       staged_op n tail fit (lifted.do_clos {g = g} narrow all) =
           let takes = fit.0 in
           let small = limits.captured g takes.fn takes.at in
           let within = slice_get_within P.functions g takes.fn takes.at in
           let few = limits.few in
           let words = takes.words in
-          record { D = 0; does = do_clos (omega arith) (omega arith) narrow (atoms_are n fit.1 all) }
-      staged_op n tail fit (lifted.do_case isa at d) = let h = staged (_ + n) tail (branch_fits n fit.2 at) d in record { D = _; does = do_case (atom_is n fit.0 isa) fit.1 at h.gets }
+          do_clos (omega arith) (omega arith) narrow (atoms_are n fit.1 all)
+      staged_op n tail fit (lifted.do_case isa at d) = do_case (atom_is n fit.0 isa) fit.1 at (staged (_ + n) tail (branch_fits n fit.2 at) d)
 
-      pub staged : {e : Vals} {t : Block} {v : Val} {c k b s : ℕ} (n : ℕ) (tail : Bool) → LiftedBlockFits P.functions (length P.constants) m n t → lifted.Gets P w e t v c k b s → Staged tail e t v c k b s
-      staged n tail fit (lifted.gets_atom is) = record { D = 0; gets = gets_atom (atom_is n fit is) }
-      staged n tail fit (lifted.gets_let_atom is g) = let h = staged (suc n) tail fit.1 g in record { D = _; gets = gets_let_atom (atom_is n fit.0 is) h.gets }
-      staged n tail fit (lifted.gets_ret d) = let h = staged_op n tail fit d in record { D = _; gets = gets_ret h.does }
-      staged n tail fit (lifted.gets_let d g) = joined (staged_op n false fit.0 d) (staged (suc n) tail fit.1 g)
+      pub staged : {e : Vals} {t : Block} {v : Val} {c k b s : ℕ} (n : ℕ) (tail : Bool) → LiftedBlockFits P.functions (length P.constants) m n t → (h : lifted.Gets P w e t v c k b s) → Gets P w m tail (block_depth tail h) e t v c k b s
+      staged n tail fit (lifted.gets_atom is) = gets_atom (atom_is n fit is)
+      staged n tail fit (lifted.gets_let_atom is g) = gets_let_atom (atom_is n fit.0 is) (staged (suc n) tail fit.1 g)
+      staged n tail fit (lifted.gets_ret d) = gets_ret (staged_op n tail fit d)
+      staged n tail fit (lifted.gets_let d g) =
+          let D = max (op_depth false d) (block_depth tail g) in
+          gets_let (raise_op (staged_op n false fit.0 d) D (omega arith)) (raise (staged (suc n) tail fit.1 g) D (omega arith))
 
 module _ (P : Program) (w m : ℕ) (ok : Formed P m) (limits : Limits P) where
-  pub record StagedCall (args : Vals) (v : Val) (c k b s : ℕ) : Type 0 where
-    pub D : ℕ
-    pub applies : Applies P w m D args v c k b s
-
   raise_all : {D : ℕ} {args : Vals} {v : Val} {c k b s : ℕ} → Applies P w m D args v c k b s → (D' : ℕ) → D ≤ D' → Applies P w m D' args v c k b s
   raise_all (applies_alone g) D' le = applies_alone (raise P w m g D' le)
   raise_all (applies_more h d) D' le = applies_more (raise_all h D' le) (raise_op P w m d D' le)
 
-  pub staged_all : {args : Vals} {v : Val} {c k b s : ℕ} → lifted.LiftedAnswers P w args v c k b s → StagedCall args v c k b s
-  staged_all (lifted.answers_alone g) = let h = staged P w m ok limits 0 false ok.main g in record { D = h.D; applies = applies_alone h.gets }
+  pub staged_all : {args : Vals} {v : Val} {c k b s : ℕ} → (h : lifted.LiftedAnswers P w args v c k b s) → Applies P w m (call_depth h) args v c k b s
+  staged_all (lifted.answers_alone g) = applies_alone (staged P w m ok limits 0 false ok.main g)
   staged_all (lifted.answers_applied h d) =
-      let x = staged_all h in
-      let y = staged_op P w m ok limits 2 false (omega arith, omega arith) d in
-      record { D = max x.D y.D; applies = applies_more (raise_all x.applies (max x.D y.D) (omega arith)) (raise_op P w m y.does (max x.D y.D) (omega arith)) }
+      let D = max (call_depth h) (op_depth false d) in
+      applies_more (raise_all (staged_all h) D (omega arith)) (raise_op P w m (staged_op P w m ok limits 2 false (omega arith, omega arith) d) D (omega arith))

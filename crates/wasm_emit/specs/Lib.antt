@@ -3,6 +3,7 @@ pub mod ConstantNumbers
 pub mod EmittedLocals
 pub mod EmittedModule
 pub mod CallModule
+pub mod CallDepth
 pub mod EmitLaws
 pub mod CallLaws
 pub mod Pushed
