@@ -7,7 +7,6 @@ ghost use Rattle.type_infer.specs.Ready.{IsReady};
 ghost use Rattle.type_cert.specs.Retraces.{Retraces, stand};
 ghost use Rattle.block_cert.specs.BlockWalks.{argument_walk, arguments_walk};
 
-use crate::conditions::at_item;
 use crate::sorts::sort_of;
 use calculus_rules::declaration::Sorts;
 use inductive_check::arguments::fits_sort;
@@ -18,7 +17,7 @@ use pc_rules::guarder::Guarder;
 use pc_terms::lists::Telescope;
 use pc_terms::term::Term;
 use std::alloc::Global;
-use type_cert::halt::WalkHalt;
+use type_cert::halt::{WalkHalt, at_item};
 use type_cert::trail::Trail;
 use type_cert::typing::TypeWalk;
 use universe_levels::sort::Sort;

@@ -13,8 +13,6 @@ ghost use Rattle.type_cert.specs.Retraces.{Retraces, stand};
 ghost use Rattle.block_cert.specs.BlockWalks.{ctor_walk, family_walk, families_walk};
 
 use crate::arguments::arguments;
-use crate::conditions::at_item;
-use crate::results::results;
 use calculus_rules::declaration::{Constructor, Constructors, Families};
 use dump_reader::declaration::{RawCtor, RawFamilies, RawFamily};
 use inductive_check::constructors::{with_constructors, with_sorts};
@@ -22,7 +20,7 @@ use inductive_check::listing::{number, push};
 use pc_rules::context::Ctx;
 use pc_rules::guarder::Guarder;
 use std::alloc::Global;
-use type_cert::halt::WalkHalt;
+use type_cert::halt::{WalkHalt, at_item};
 use type_cert::trail::Trail;
 use type_cert::typing::TypeWalk;
 use type_infer::counts::counted;
@@ -49,15 +47,7 @@ fn constructor<G: Guarder>(
     let sorts = arguments(alloc, walk, &mut inner, &family.sort, &ctor.args, trail)?;
     at_item(trail.at, counted(family.indices.len(), ctor.result.len()))?;
     let args = number(ctor.args.len())?;
-    results(
-        alloc,
-        walk,
-        &inner,
-        args,
-        &ctor.result,
-        &family.indices,
-        trail,
-    )?;
+    walk.check_all(alloc, &inner, args, &ctor.result, &family.indices, trail)?;
     Ok(with_sorts(alloc, ctor, sorts)?)
 }
 

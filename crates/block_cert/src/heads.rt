@@ -11,8 +11,6 @@ ghost use Rattle.inductive_check.specs.Given.{family_of, block_from};
 ghost use Rattle.type_cert.specs.Retraces.{Retraces, stand, passed_with};
 ghost use Rattle.block_cert.specs.BlockWalks.{head_walk, heads_walk, block_heads_walk};
 
-use crate::conditions::at_item;
-use crate::telescope::entered;
 use dump_reader::declaration::{RawFamilies, RawFamily};
 use inductive_check::levels::are_declared;
 use inductive_check::names::are_distinct;
@@ -20,7 +18,7 @@ use pc_rules::context::Ctx;
 use pc_rules::guarder::Guarder;
 use pc_terms::lists::Telescope;
 use std::alloc::Global;
-use type_cert::halt::WalkHalt;
+use type_cert::halt::{WalkHalt, at_item};
 use type_cert::trail::Trail;
 use type_cert::typing::TypeWalk;
 
@@ -43,7 +41,7 @@ fn head<G: Guarder>(
     let env = walk.verifier.env;
     at_item(trail.at, are_distinct(family.ctors.as_slice()))?;
     at_item(trail.at, are_declared(env.graph().levels(), &family.sort))?;
-    let _inner = entered(alloc, walk, ctx, &family.indices, trail)?;
+    let _inner = walk.entered(alloc, ctx, &family.indices, trail)?;
     Ok(())
 }
 
@@ -89,7 +87,7 @@ pub(crate) fn block_heads<G: Guarder>(
     ensures counted { IfOk result (λ _. AreCountedFamilies walk.now.verifier.env.now (map head_of (map family_of families.now))) }
 {
     let none = Ctx::new();
-    let ctx = entered(alloc, walk, &none, params, trail)?;
+    let ctx = walk.entered(alloc, &none, params, trail)?;
     heads(alloc, walk, &ctx, families, trail)?;
     Ok(ctx)
 }

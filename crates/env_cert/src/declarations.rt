@@ -10,7 +10,6 @@ ghost use Rattle.env_cert.specs.EnvWalks.{declaration_walk, LeadsOn, StopsAmong}
 
 use crate::constants::constant;
 use block_cert::block::walk_block;
-use block_cert::conditions::at_item;
 use calculus_rules::declaration::Kept;
 use cert_rules::item::CertItem;
 use dump_reader::declaration::RawDecl;
@@ -18,7 +17,7 @@ use env_check::declarations::check_name;
 use pc_rules::environment::Env;
 use pc_rules::guarder::Guarder;
 use std::alloc::Global;
-use type_cert::halt::WalkHalt;
+use type_cert::halt::{WalkHalt, at_item};
 use type_cert::trail::Trail;
 use type_cert::typing::TypeWalk;
 use type_cert::verifier::Verifier;

@@ -30,22 +30,22 @@ returns-in_err-args-clause-retraces g c = λ B ep.
     rw ep (retraces_passed c.from_residual-in_err-args.ensures.1 (rw c.in_err-args.ensures.only_memory
     (retraces_on _ f1 (retraces_on _ (retraces_answers want _ c.in_ok-at_item.ensures.is a2) (retraces_memory _ _)))))
 
-pub results-requires : goal.results-requires
-results-requires g c =
+pub check_all-requires : goal.check_all-requires
+check_all-requires g c =
     let e = told_of _ _ _ _ c.in_ok-at_item.ensures.is c.counted.ensures.equal in
     let l = rw (c.len.ensures.is, c.len-2.ensures.is) at e in
     let r = c.in_ok-sorts.ensures.ready in
     let n = c.in_ok-sorts.ensures.retraces.after.nest in
     search rules
 
-pub returns-in_err-results-clause-retraces : goal.returns-in_err-results-clause-retraces
-returns-in_err-results-clause-retraces g c = λ B ep.
+pub returns-in_err-check_all-clause-retraces : goal.returns-in_err-check_all-clause-retraces
+returns-in_err-check_all-clause-retraces g c = λ B ep.
     let f1 = rw c.in_ok-inner.ensures.same at c.in_ok-sorts.ensures.retraces in
     let want = counted (length c.args.family.now.indices) (length c.args.ctor.now.result) in
     let a2 = rw (c.len.ensures.is, c.len-2.ensures.is) at c.counted.ensures.answers c.arguments.new.trail.meter.account in
     let longer = c.in_ok-sorts.ensures.longer ∙ ap (λ d. extend d c.args.ctor.now.args) c.in_ok-inner.ensures.same in
-    let f3 = rw (longer, c.in_ok-args.ensures.is ∙ c.len-3.ensures.is) at c.in_err-results.ensures.retraces in
-    rw ep (retraces_passed c.from_residual-in_err-results.ensures.1
+    let f3 = rw (longer, c.in_ok-args.ensures.is ∙ c.len-3.ensures.is) at c.in_err-check_all.ensures.retraces in
+    rw ep (retraces_passed c.from_residual-in_err-check_all.ensures.1
     (retraces_on _ f1 (retraces_on _ (retraces_answers want _ c.in_ok-at_item.ensures.is a2) (retraces_err _ f3))))
 
 pub returns-in_err-with_sorts-clause-retraces : goal.returns-in_err-with_sorts-clause-retraces
@@ -54,7 +54,7 @@ returns-in_err-with_sorts-clause-retraces g c = λ B ep.
     let want = counted (length c.args.family.now.indices) (length c.args.ctor.now.result) in
     let a2 = rw (c.len.ensures.is, c.len-2.ensures.is) at c.counted.ensures.answers c.arguments.new.trail.meter.account in
     let longer = c.in_ok-sorts.ensures.longer ∙ ap (λ d. extend d c.args.ctor.now.args) c.in_ok-inner.ensures.same in
-    let f3 = rw (longer, c.in_ok-args.ensures.is ∙ c.len-3.ensures.is) at c.in_ok-results.ensures.retraces in
+    let f3 = rw (longer, c.in_ok-args.ensures.is ∙ c.len-3.ensures.is) at c.in_ok-check_all.ensures.retraces in
     rw ep (retraces_passed c.from_residual-in_err-with_sorts.ensures.1 (rw c.in_err-with_sorts.ensures.only_memory
     (retraces_on _ f1 (retraces_on _ (retraces_answers want _ c.in_ok-at_item.ensures.is a2) (retraces_on _ f3 (retraces_memory _ _))))))
 
@@ -64,6 +64,6 @@ returns-clause-retraces g c = λ B ep.
     let want = counted (length c.args.family.now.indices) (length c.args.ctor.now.result) in
     let a2 = rw (c.len.ensures.is, c.len-2.ensures.is) at c.counted.ensures.answers c.arguments.new.trail.meter.account in
     let longer = c.in_ok-sorts.ensures.longer ∙ ap (λ d. extend d c.args.ctor.now.args) c.in_ok-inner.ensures.same in
-    let f3 = rw (longer, c.in_ok-args.ensures.is ∙ c.len-3.ensures.is) at c.in_ok-results.ensures.retraces in
+    let f3 = rw (longer, c.in_ok-args.ensures.is ∙ c.len-3.ensures.is) at c.in_ok-check_all.ensures.retraces in
     rw (ep, c.in_ok-with_sorts.ensures.ok)
     (retraces_on _ f1 (retraces_on _ (retraces_answers want _ c.in_ok-at_item.ensures.is a2) (retraces_on _ f3 (retraces_pass _ _))))

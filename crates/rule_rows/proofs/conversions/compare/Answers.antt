@@ -1,5 +1,0 @@
-use Rattle.rule_laws.proofs.TypedCounts.{accepted_counted}
-use Rattle.rule_rows.proofs.conversions.compare.Goals as goal
-
-pub compared-came-requires-clause-env : goal.compared-came-requires-clause-env
-compared-came-requires-clause-env c = accepted_counted c.args.env.now c.requires.accepted
