@@ -1,0 +1,4 @@
+pub mod Making
+pub mod Items
+pub mod Defaults
+pub mod Comparing
