@@ -24,6 +24,8 @@ pub enum Job {
     Export,
     /// An environment whose main is a function is checked and compiled, and main is called with the arguments that stand behind it.
     Call,
+    /// An environment is verified along the certificate that stands behind it.
+    Verify,
 }
 
 /// The job of this name.
@@ -40,6 +42,7 @@ pub(crate) fn job_of(name: &str) -> Option<Job>
         "explain" => Some(Job::Explain),
         "export" => Some(Job::Export),
         "call" => Some(Job::Call),
+        "verify" => Some(Job::Verify),
         _ => None,
     }
 }

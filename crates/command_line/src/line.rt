@@ -15,7 +15,7 @@ use std::alloc::Global;
 #[derive(Clone, Copy, Debug, PartialEq, Eq)]
 pub struct Request {
     pub job: Job,
-    /// The units of checking, of the search for types, of erasure and of evaluation together: 1 to 4,294,967,295.
+    /// The units of checking or verifying, of the search for types, of erasure and of evaluation together: 1 to 4,294,967,295.
     pub turns: u32,
     /// The most pages of a module's memory, of 65,536 bytes each: 1 to 16,384.
     pub pages: u32,

@@ -3,7 +3,7 @@ use Rattle.std.proofs.Common.{◌≡◌, ℕ, List, Result, Ok, Err, ◌⊎◌, 
 use Rattle.std.specs.Prelude.{IfOk, IfErr, OnOk, IsErrAnd}
 use Rattle.dump_reader.specs.declared.environment.RawEnv.{RawEnv}
 use Rattle.command_line.specs.declared.job.Job.{Job}
-use Rattle.command_line.specs.declared.job.Job.TheVariants.{Check, Run, Explain, Call}
+use Rattle.command_line.specs.declared.job.Job.TheVariants.{Check, Run, Explain, Call, Verify}
 use Rattle.command_line.specs.declared.line.Request.{Request}
 use Rattle.driver.specs.declared.refusal.Refusal.{Refusal}
 use Rattle.driver.specs.declared.refusal.Refusal.TheVariants as refusals
@@ -21,11 +21,13 @@ abbrev pub IsDumpJob : Job → Type 0
 IsDumpJob Run = ⊥
 IsDumpJob Explain = ⊥
 IsDumpJob Call = ⊥
+IsDumpJob Verify = ⊥
 IsDumpJob _ = Unit {0}
 
 on_dump : (job : Job) (q : Request) (r : Refusal) (bytes : List ℕ) → IsDumpJob job → IsDumpCause job q r bytes → IsTextCause job q r bytes
 on_dump Run q r bytes d h = absurd d
 on_dump Call q r bytes d h = absurd d
+on_dump Verify q r bytes d h = absurd d
 on_dump _ q r bytes d h = h
 
 -- a refusal of the check, as one of the text
@@ -34,6 +36,7 @@ of_check Check q r e d h = h
 of_check Run q r e d h = absurd d
 of_check Explain q r e d h = absurd d
 of_check Call q r e d h = absurd d
+of_check Verify q r e d h = absurd d
 of_check _ q r e d h = inl h
 
 pub checked_says : (job : Job) (q : Request) (r : Refusal) (bytes : List ℕ) (e : RawEnv) → SpellsWithin bytes e → IsDumpJob job → (r ≡ refusals.Memory) ⊎ IsCheckCause q.turns r e → RefusalSays job q r bytes

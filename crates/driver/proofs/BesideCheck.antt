@@ -8,6 +8,7 @@ use Rattle.driver.specs.declared.refusal.Refusal.TheVariants as refusals
 use Rattle.driver.specs.declared.refusal.RunEnd.TheVariants as runs
 use Rattle.driver.specs.declared.refusal.ModuleFault.TheVariants as modules
 use Rattle.driver.specs.declared.refusal.ArgumentFault.TheVariants as arguments
+use Rattle.driver.specs.declared.refusal.CertificateFault.TheVariants as certificates
 use Rattle.driver.specs.BesideCheck.{IsBesideCheck}
 use Rattle.driver.specs.Lines.{status_of}
 use Rattle.driver.specs.Serve.{IsCause, IsOfText, IsRefused, IsTextCause}
@@ -19,6 +20,7 @@ not_eight refusals.TurnsSpent h e = h
 not_eight (refusals.Run runs.Exhausted) h e = omega (arith, e)
 not_eight (refusals.Module modules.Pages) h e = omega (arith, e)
 not_eight (refusals.Argument arguments.Nesting) h e = omega (arith, e)
+not_eight (refusals.Certificate certificates.Number) h e = omega (arith, e)
 not_eight _ h e = omega (arith, e)
 
 not_nine : (r : Refusal) → IsBesideCheck r → status_of r ≡ 9 → ⊥
@@ -26,6 +28,7 @@ not_nine (refusals.Broken n p) h e = h
 not_nine (refusals.Run runs.Exhausted) h e = omega (arith, e)
 not_nine (refusals.Module modules.Pages) h e = omega (arith, e)
 not_nine (refusals.Argument arguments.Nesting) h e = omega (arith, e)
+not_nine (refusals.Certificate certificates.Number) h e = omega (arith, e)
 not_nine _ h e = omega (arith, e)
 
 module _ (words : List (List ℕ)) (q : Request) (asked : request_of words ≡ Some q) (explain : q.job ≡ Explain) where

@@ -16,6 +16,7 @@ use Rattle.driver.specs.declared.refusal.Refusal.{Refusal}
 use Rattle.driver.specs.declared.refusal.Refusal.TheVariants as refusals
 use Rattle.driver.specs.declared.refusal.RunEnd.TheVariants as run_ends
 use Rattle.driver.specs.declared.refusal.ArgumentFault.TheVariants as faults
+use Rattle.driver.specs.declared.refusal.CertificateFault.TheVariants as certificates
 use Rattle.driver.specs.CallStages.{CallCompiling, Signing, its_call_module}
 use Rattle.driver.specs.CallEnds.{ArgumentsRefuse, CallAnswering, CallSays, CallStops, IsCallStop, ReadingArguments, answer_shapes, arguments_read, in_arguments, in_call_erasure, in_call_passes, in_call_run, in_call_text, in_signature}
 use Rattle.driver.specs.Exported.{CallRulesAreWithin}
@@ -56,6 +57,7 @@ module _ (turns : ℕ) (e : RawEnv) (bytes : List ℕ) (pages steps : ℕ) where
   fifteen_stop (refusals.Module why) n c is =
       absurd (elim c [ in_signature x w k ↦ k | in_arguments x k ↦ k | in_call_erasure y x w k ↦ k | in_call_passes y x k ↦ k | in_call_run y x valid k ↦ k | in_call_text x valid k ↦ k ])
   fifteen_stop (refusals.Argument faults.Nesting) n c is = absurd (omega (arith, is))
+  fifteen_stop (refusals.Certificate certificates.Number) n c is = absurd (omega (arith, is))
   fifteen_stop _ n c is = absurd (omega (arith, is))
 
   fifteen_check : (r : Refusal) → IsCheckCause turns r e → status_of r ≡ 15 → ⊥
@@ -63,6 +65,7 @@ module _ (turns : ℕ) (e : RawEnv) (bytes : List ℕ) (pages steps : ℕ) where
   fifteen_check (refusals.Run why) c is = c
   fifteen_check (refusals.Module why) c is = c
   fifteen_check (refusals.Argument why) c is = c
+  fifteen_check (refusals.Certificate why) c is = c
   fifteen_check _ c is = omega (arith, is)
 
   fifteen : (r : Refusal) → IsCheckCause turns r e ⊎ IsCallStop turns pages steps bytes r e → status_of r ≡ 15 → LateEnd turns e bytes pages steps 15
@@ -129,6 +132,7 @@ module _ (q : Request) (e : RawEnv) (bytes : List ℕ) (words : List (List ℕ))
   fifteen_cause (refusals.Run why) before now faulty faulty' c is = fifteen q.turns e bytes q.pages q.steps (refusals.Run why) (of_front (refusals.Run why) (input_cause (refusals.Run why) c)) is
   fifteen_cause (refusals.Module why) before now faulty faulty' c is = fifteen q.turns e bytes q.pages q.steps (refusals.Module why) (of_front (refusals.Module why) (input_cause (refusals.Module why) c)) is
   fifteen_cause (refusals.Argument faults.Nesting) before now faulty faulty' c is = absurd (omega (arith, is))
+  fifteen_cause (refusals.Certificate certificates.Number) before now faulty faulty' c is = absurd (omega (arith, is))
   fifteen_cause _ before now faulty faulty' c is = absurd (omega (arith, is))
 
   -- status 15 is shown by the run, or by its answer

@@ -6,6 +6,7 @@ use Rattle.driver.specs.declared.refusal.Refusal.TheVariants as refusals
 use Rattle.driver.specs.declared.refusal.RunEnd.TheVariants as runs
 use Rattle.driver.specs.declared.refusal.ModuleFault.TheVariants as modules
 use Rattle.driver.specs.declared.refusal.ArgumentFault.TheVariants as arguments
+use Rattle.driver.specs.declared.refusal.CertificateFault.TheVariants as certificates
 use Rattle.driver.specs.Lines.{status_of}
 use Rattle.driver.specs.Judged.{IsAcceptedBy, EndsWith, status_by}
 use Rattle.driver.specs.Serve.{IsCheckCause, IsSure}
@@ -33,6 +34,7 @@ pub not_zero : (r : Refusal) → status_of r ≡ 0 → ⊥
 not_zero (refusals.Run runs.Exhausted) e = omega (arith, e)
 not_zero (refusals.Module modules.Pages) e = omega (arith, e)
 not_zero (refusals.Argument arguments.Nesting) e = omega (arith, e)
+not_zero (refusals.Certificate certificates.Number) e = omega (arith, e)
 not_zero _ e = omega (arith, e)
 
 -- an environment that the rules accept ends with 0 alone

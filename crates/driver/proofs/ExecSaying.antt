@@ -11,6 +11,7 @@ use Rattle.module_run.specs.declared.answer.Measured.{Measured}
 use Rattle.module_run.specs.Figures.{IsMeasured}
 use Rattle.driver.specs.declared.main_module.MainModule.{MainModule}
 use Rattle.driver.specs.declared.refusal.ArgumentFault.{ArgumentFault}
+use Rattle.driver.specs.declared.refusal.CertificateFault.{CertificateFault}
 use Rattle.driver.specs.declared.refusal.ModuleFault.{ModuleFault}
 use Rattle.driver.specs.declared.refusal.Refusal.{Refusal}
 use Rattle.driver.specs.declared.refusal.Refusal.TheVariants as refusals
@@ -52,6 +53,13 @@ module _ (turns : ℕ) (e : RawEnv) (pages steps : ℕ) where
   no_argument w (in_passes x h) = h
   no_argument w (in_run x a h) = h
   no_argument w (in_text x a h) = h
+
+  pub no_certificate : (w : CertificateFault) → Stops (refusals.Certificate w) → ⊥
+  no_certificate w (in_search x v h) = h
+  no_certificate w (in_erasure x v h) = h
+  no_certificate w (in_passes x h) = h
+  no_certificate w (in_run x a h) = h
+  no_certificate w (in_text x a h) = h
 
 -- a refusal of some stage, or want of memory, is a cause
 exec_says : (q : Request) (r : Refusal) (bytes : List ℕ) (e : RawEnv) → SpellsWithin bytes e → StageRefuses q.turns e q.pages q.steps r → RefusalSays Exec q r bytes

@@ -24,7 +24,7 @@ use Rattle.driver.specs.Serve.{IsCheckCause}
 use Rattle.driver.specs.ExecEnds.{Compiling, its_module, its_shapes, Answering, StageRefuses, in_search, in_erasure, in_passes, in_run, in_text, IsExecCause, ExecEnds}
 use Rattle.driver.specs.Executed.{HasErasedData, IsTextOf}
 use Rattle.driver.proofs.ExecCauses.{one_set, one_program}
-use Rattle.driver.proofs.ExecSaying.{no_argument, no_module, no_stuck}
+use Rattle.driver.proofs.ExecSaying.{no_argument, no_certificate, no_module, no_stuck}
 
 module _ (request : Request) (range : IsInRange request) (e : RawEnv) (ds : Data) (n k : ℕ) (h : HasErasedData request.turns e ds n k) where
   -- what the runs of the module of a program that main is erased to answer
@@ -76,4 +76,6 @@ module _ (request : Request) (range : IsInRange request) (e : RawEnv) (ds : Data
   no_other (refusals.Module w) (inr c) q = no_module request.turns e request.pages request.steps w c.1
   no_other (refusals.Argument w) (inl c) q = c
   no_other (refusals.Argument w) (inr c) q = no_argument request.turns e request.pages request.steps w c.1
+  no_other (refusals.Certificate w) (inl c) q = c
+  no_other (refusals.Certificate w) (inr c) q = no_certificate request.turns e request.pages request.steps w c.1
   no_other _ c q = omega (arith, q)

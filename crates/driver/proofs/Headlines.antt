@@ -59,7 +59,7 @@ use Rattle.driver.proofs.SourceCauses.{accepts_inj, plainly}
 use Rattle.driver.proofs.AcceptedAs.{accepted_as, erased_to}
 use Rattle.driver.proofs.TextCauses.{is_spelled}
 use Rattle.driver.proofs.ExecCauses.{one_program}
-use Rattle.driver.proofs.ExecSaying.{no_argument, no_module, no_stuck}
+use Rattle.driver.proofs.ExecSaying.{no_argument, no_certificate, no_module, no_stuck}
 use Rattle.driver.proofs.ExecValues.{no_other}
 
 -- ---- the refusals of a run, of which the statuses 11, 12 and 15 are
@@ -89,6 +89,8 @@ late_of request e (refusals.Module w) (inl c) le = absurd c
 late_of request e (refusals.Module w) (inr c) le = absurd (no_module request.turns e request.pages request.steps w c.1)
 late_of request e (refusals.Argument w) (inl c) le = absurd c
 late_of request e (refusals.Argument w) (inr c) le = absurd (no_argument request.turns e request.pages request.steps w c.1)
+late_of request e (refusals.Certificate w) (inl c) le = absurd c
+late_of request e (refusals.Certificate w) (inr c) le = absurd (no_certificate request.turns e request.pages request.steps w c.1)
 late_of request e _ c le = absurd (omega (arith, le))
 
 compiled : {request : Request} {e : RawEnv} {why : RunEnd} → Late request e why → Compiling request.turns e

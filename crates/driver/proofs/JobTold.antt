@@ -1,8 +1,8 @@
 -- Reports that are told the facts of a job, from what its stages tell them.
-use Rattle.std.proofs.Common.{ℕ, List, ◌++◌, Result, Ok, Err, refl, subst}
+use Rattle.std.proofs.Common.{◌≡◌, ℕ, List, [], ◌++◌, Result, Ok, Err, refl, sym, subst}
 use Rattle.std.specs.Prelude.{OnOk}
 use Rattle.reports.specs.Shown.{Shown}
-use Rattle.reports.proofs.FactByFact.{all_told_then}
+use Rattle.reports.proofs.FactByFact.{all_told_none, all_told_then}
 use Rattle.module_run.specs.CallFacts.{AreCallFacts, CallRunIsTold}
 use Rattle.module_run.specs.RunFacts.{AreRunFacts, AreTold, FileIsTold, RunIsTold}
 use Rattle.pc_terms.specs.Syntax.{Term}
@@ -10,7 +10,8 @@ use Rattle.pc_rules.specs.declared.accepted.Accepted.{Accepted}
 use Rattle.pc_rules.specs.declared.meter.Account.{Account}
 use Rattle.calculus_rules.specs.Environment.{Env}
 use Rattle.dump_reader.specs.declared.environment.RawEnv.{RawEnv}
-use Rattle.command_line.specs.declared.job.Job.TheVariants.{Call, Check, Exec, Run}
+use Rattle.command_line.specs.declared.job.Job.{Job}
+use Rattle.command_line.specs.declared.job.Job.TheVariants.{Call, Check, Exec, Run, Verify}
 use Rattle.command_line.specs.declared.line.Request.{Request}
 use Rattle.command_line.specs.Line.{IsInRange}
 use Rattle.driver.specs.declared.called_main.CalledMain.{CalledMain}
@@ -18,12 +19,13 @@ use Rattle.driver.specs.declared.main_module.MainModule.{MainModule}
 use Rattle.driver.specs.declared.refusal.Refusal.{Refusal}
 use Rattle.driver.specs.CheckFacts.{facts_of_check}
 use Rattle.driver.specs.CalledMain.{IsCalledMain}
-use Rattle.driver.specs.JobFacts.{CheckIsTold, FrontIsTold, JobIsTold}
+use Rattle.driver.specs.JobFacts.{AreJobFacts, CheckIsTold, FrontIsTold, JobIsTold}
 use Rattle.driver.specs.MainModule.{IsMainModule}
 use Rattle.driver.specs.ReportedFacts.{facts_of}
 use Rattle.driver.specs.Serve.{AcceptSays}
 use Rattle.driver.specs.SourceEnds.{IsAcceptedWith}
 use Rattle.driver.specs.Texts.{SpellsWithin}
+use Rattle.driver.proofs.Answering.{ok_anyway}
 use Rattle.driver.proofs.CallSaying.{reading}
 
 module _ {X : Type 0} (shown : X → Shown) where
@@ -76,3 +78,7 @@ module _ {X : Type 0} (shown : X → Shown) where
       },
       all_told_then shown check ran old mid new first then,
     )
+
+    -- by `verify` there are none
+    pub of_verify : (job : Job) → job ≡ Verify → {V E : Type 0} (r : Result V E) (reports : List X) → OnOk r (JobIsTold shown job q bytes reports reports)
+    of_verify job is r reports = ok_anyway r ([], subst (λ j. AreJobFacts j q bytes []) (sym is) refl, all_told_none shown reports)

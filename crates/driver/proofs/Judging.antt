@@ -33,7 +33,7 @@ meets_at v [] h i = tt
 meets_at v (c ∷ cs) h zero = All-head (Meets v) c cs h
 meets_at v (c ∷ cs) h (suc i) = meets_at v cs (All-tail (Meets v) c cs h) i
 
-no_cycle : (levels : ℕ) (cs : List Constraint) (places : List ℕ) → IsConsistent levels cs → Clashes levels cs places → ⊥
+pub no_cycle : (levels : ℕ) (cs : List Constraint) (places : List ℕ) → IsConsistent levels cs → Clashes levels cs places → ⊥
 no_cycle levels cs places (v, solves) clash =
     clash.alone v solves.valuation (All-from_get_or (MeetsAt v cs) places 0 (λ i l. meets_at v cs solves.meets _))
 

@@ -18,6 +18,7 @@ pub mod ExportCauses
 pub mod StoredAlike
 pub mod OneNames
 pub mod CallJobCauses
+pub mod VerifyCauses
 pub mod JobCauses
 pub mod Erased
 pub mod ModuleRuns
@@ -45,6 +46,7 @@ pub mod Serving
 pub mod Shallow
 pub mod OneStatus
 pub mod Answering
+pub mod VerifySaying
 pub mod Inputs
 pub mod PartByPart
 pub mod LineByLine

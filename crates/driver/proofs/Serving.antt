@@ -10,6 +10,7 @@ use Rattle.driver.specs.declared.refusal.Refusal.TheVariants as refusals
 use Rattle.driver.specs.declared.refusal.RunEnd.TheVariants as runs
 use Rattle.driver.specs.declared.refusal.ModuleFault.TheVariants as modules
 use Rattle.driver.specs.declared.refusal.ArgumentFault.TheVariants as arguments
+use Rattle.driver.specs.declared.refusal.CertificateFault.TheVariants as certificates
 use Rattle.command_line.specs.declared.line.Request.{Request}
 use Rattle.command_line.specs.declared.job.Job.{Job}
 use Rattle.command_line.specs.declared.job.Job.TheVariants.{Bench, Compile, Exec}
@@ -86,6 +87,7 @@ of_usage refusals.Usage e = refl
 of_usage (refusals.Run runs.Exhausted) e = absurd (omega (arith, e))
 of_usage (refusals.Module modules.Pages) e = absurd (omega (arith, e))
 of_usage (refusals.Argument arguments.Nesting) e = absurd (omega (arith, e))
+of_usage (refusals.Certificate certificates.Number) e = absurd (omega (arith, e))
 of_usage _ e = absurd (omega (arith, e))
 
 of_write_fault : (r : Refusal) → status_of r ≡ 4 → r ≡ refusals.WriteFault
@@ -93,10 +95,11 @@ of_write_fault refusals.WriteFault e = refl
 of_write_fault (refusals.Run runs.Exhausted) e = absurd (omega (arith, e))
 of_write_fault (refusals.Module modules.Pages) e = absurd (omega (arith, e))
 of_write_fault (refusals.Argument arguments.Nesting) e = absurd (omega (arith, e))
+of_write_fault (refusals.Certificate certificates.Number) e = absurd (omega (arith, e))
 of_write_fault _ e = absurd (omega (arith, e))
 
 abbrev all_statuses : List ℕ
-all_statuses = 0 ∷ 1 ∷ 2 ∷ 3 ∷ 4 ∷ 5 ∷ 6 ∷ 7 ∷ 8 ∷ 9 ∷ 10 ∷ 11 ∷ 12 ∷ 13 ∷ 14 ∷ 15 ∷ 16 ∷ []
+all_statuses = 0 ∷ 1 ∷ 2 ∷ 3 ∷ 4 ∷ 5 ∷ 6 ∷ 7 ∷ 8 ∷ 9 ∷ 10 ∷ 11 ∷ 12 ∷ 13 ∷ 14 ∷ 15 ∷ 16 ∷ 17 ∷ []
 
 module _ {V S K E : Type 0} (view : V → List ℕ) (lines : List ℕ) (status : ℕ) (words : List (List ℕ)) (src src' : Seen S) (out out' : Seen K) (err err' : Seen E) where
   -- what a job's result says, before anything is written
@@ -185,6 +188,7 @@ module _ {V S K E : Type 0} (view : V → List ℕ) (lines : List ℕ) (status :
   listed (refusals.Run runs.Exhausted) e = (11, lit< tt, sym e)
   listed (refusals.Module modules.Pages) e = (7, lit< tt, sym e)
   listed (refusals.Argument arguments.Nesting) e = (7, lit< tt, sym e)
+  listed (refusals.Certificate certificates.Number) e = (7, lit< tt, sym e)
   listed r e = (status_of r, lit< tt, sym e)
 
   statuses : (a : Result V Refusal) → Before a → After a → Contains all_statuses status
@@ -283,7 +287,7 @@ module _ {V S K E : Type 0} (view : V → List ℕ) (lines : List ℕ) (status :
   abbrev Calm : Request → Type 0
   Calm q = MeetsNoFault q.job src.faults src'.faults out.faults out'.faults
 
-  -- ---- where the bytes, or by `call` their front, spell an environment
+  -- ---- where the bytes, or by `call` and `verify` their front, spell an environment
 
   module _ (q : Request) (e : RawEnv) (d : IsAskedOnText q e words src.told) where
     told_on : (r : Refusal) → Before (Err r) → ToldWithin q d.bytes d.asked r

@@ -3,7 +3,7 @@ use Rattle.std.proofs.Common.{◌≢◌, ℕ, List, Result, Ok, Err, ◌⊎◌, 
 use Rattle.dump_reader.specs.Front.{front_bytes}
 use Rattle.dump_reader.specs.declared.environment.RawEnv.{RawEnv}
 use Rattle.command_line.specs.declared.job.Job.{Job}
-use Rattle.command_line.specs.declared.job.Job.TheVariants.{Exec, Check, Eval, Run, Compile, Bench, Explain, Export, Call}
+use Rattle.command_line.specs.declared.job.Job.TheVariants.{Exec, Check, Eval, Run, Compile, Bench, Explain, Export, Call, Verify}
 use Rattle.command_line.specs.declared.line.Request.{Request}
 use Rattle.driver.specs.declared.refusal.Refusal.{Refusal}
 use Rattle.driver.specs.declared.refusal.Refusal.TheVariants as refusals
@@ -17,13 +17,15 @@ use Rattle.driver.specs.Called.{CallIsJudged, CallRestEndsWith}
 use Rattle.driver.specs.RunFile.{IsRunCause, RunEndsWith}
 use Rattle.driver.specs.SourceEnds.{EvalEndsWith, IsSourceCause}
 use Rattle.driver.specs.Texts.{SpellsWithin}
-use Rattle.driver.specs.Serve.{IsAnswerOf, IsCallCause, IsCheckCause, IsDumpCause, IsJobCause, IsJudgedWith, IsSure, IsTextCause, JobEndsWith}
+use Rattle.driver.specs.Serve.{IsAnswerOf, IsCallCause, IsCheckCause, IsDumpCause, IsJobCause, IsJudgedWith, IsSure, IsTextCause, IsVerifyCause, JobEndsWith}
 use Rattle.driver.proofs.CheckCauses.{deep_or_not, not_zero}
 use Rattle.driver.proofs.ExecCauses.{accepting_of}
 use Rattle.driver.proofs.MadeCauses.{as_exec}
 use Rattle.driver.proofs.ExportCauses.{export_accepts}
 use Rattle.driver.proofs.CallJobCauses.{call_accepts}
+use Rattle.driver.proofs.VerifyCauses.{certificate_ends, walked_ends}
 use Rattle.driver.proofs.SourceCauses.{accepted_by, end_status}
+use Rattle.driver.specs.VerifyEnds.{VerifyIsJudged}
 use Rattle.driver.specs.Shallow.{CheckIsShallow, EvalIsShallow, ModuleIsShallow, CallIsShallow, IsShallow, IsShallowFor, IsShallowOn}
 
 -- ---- the check
@@ -95,6 +97,7 @@ job_ends Eval q r e s c = eval_ends q.turns r e s c
 job_ends Run q r e s c = absurd c
 job_ends Explain q r e s c = absurd c
 job_ends Call q r e s c = absurd c
+job_ends Verify q r e s c = absurd c
 job_ends Compile q r e s c = make_ends q.turns e s q.pages 0 r c
 job_ends Export q r e s c = export_ends q.turns e s q.pages r c
 job_ends Bench q r e s c = exec_ends q.turns e s q.pages q.steps r c
@@ -133,6 +136,18 @@ call_ends q bytes (refusals.Unsupported w o) s h = inl tt
 call_ends q bytes (refusals.Limit l) s h = inl tt
 call_ends q bytes r s (e, spelled, c) = inr (e, spelled, call_ends_on q bytes e r (s e spelled) c)
 
+-- and by `verify`
+verify_ends : (q : Request) (bytes : List ℕ) (r : Refusal) → IsShallowOn Verify q.turns bytes → IsVerifyCause q r bytes → IsSure r ⊎ VerifyIsJudged q.turns (status_of r) bytes
+verify_ends q bytes refusals.Memory s h = absurd h
+verify_ends q bytes refusals.Usage s h = absurd h
+verify_ends q bytes refusals.ReadFault s h = absurd h
+verify_ends q bytes refusals.WriteFault s h = absurd h
+verify_ends q bytes refusals.InputBytes s h = absurd h
+verify_ends q bytes (refusals.Syntax o) s h = inl tt
+verify_ends q bytes (refusals.Unsupported w o) s h = inl tt
+verify_ends q bytes (refusals.Limit l) s h = inl tt
+verify_ends q bytes r s (e, spelled, c) = inr (e, spelled, certificate_ends q.turns e bytes (s e spelled) r c)
+
 run_ends : (pages steps : ℕ) (r : Refusal) (bytes : List ℕ) → IsRunCause pages steps r bytes → RunEndsWith pages steps bytes (status_of r)
 run_ends pages steps refusals.Memory bytes h = absurd h
 run_ends pages steps refusals.Usage bytes h = absurd h
@@ -144,6 +159,7 @@ run_ends pages steps r bytes h = record { end = Err h.why; ends = h.ends; other 
 pub cause_judged : (job : Job) (q : Request) (bytes : List ℕ) (r : Refusal) → IsShallowOn job q.turns bytes → IsTextCause job q r bytes → IsSure r ⊎ IsJudgedWith job q (status_of r) bytes
 cause_judged Run q bytes r s h = inr (run_ends q.pages q.steps r bytes h)
 cause_judged Call q bytes r s h = call_ends q bytes r s h
+cause_judged Verify q bytes r s h = verify_ends q bytes r s h
 cause_judged job q bytes r s h = dump_ends job q bytes r s h
 
 -- ---- a job's answer
@@ -190,6 +206,7 @@ answer_judged Call q bytes text s a =
       a.spelled,
       inr (called_ends q bytes e (s e a.spelled) a.stages.before.before.before.before (Ok text) (a.stages, a.text_is)),
     )
+answer_judged Verify q bytes text s a = (a.environment, a.spelled, walked_ends q.turns a.environment bytes (s a.environment a.spelled) a.walked)
 answer_judged Bench q bytes text s a =
     let x = a.executed in
     (x.environment, x.spelled, exec_answers q.turns x.environment (s x.environment x.spelled) q.pages q.steps a.answer (x.stages, x.text_is))

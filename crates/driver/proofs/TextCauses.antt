@@ -19,7 +19,7 @@ use Rattle.driver.specs.declared.refusal.Refusal.{Refusal}
 use Rattle.driver.specs.declared.refusal.Refusal.TheVariants as refusals
 use Rattle.driver.specs.Lines.{refusal_of}
 use Rattle.command_line.specs.declared.job.Job.{Job}
-use Rattle.command_line.specs.declared.job.Job.TheVariants.{Exec, Check, Eval, Run, Compile, Bench, Explain, Export, Call}
+use Rattle.command_line.specs.declared.job.Job.TheVariants.{Exec, Check, Eval, Run, Compile, Bench, Explain, Export, Call, Verify}
 use Rattle.driver.specs.Lines.{status_of}
 use Rattle.driver.specs.Texts.{SpellsWithin, Refuses}
 use Rattle.driver.specs.Judged.{IsAcceptedBy, EndsWith}
@@ -33,10 +33,11 @@ use Rattle.driver.specs.MadeModule.{IsMade, MakeEndsWith}
 use Rattle.driver.specs.Exported.{ExportEndsWith, IsExportCause, IsLargeForCall}
 use Rattle.driver.specs.CallEnds.{CallJobEnds, IsCallStop}
 use Rattle.driver.specs.Called.{CallIsJudged, IsCallAnswer}
+use Rattle.driver.specs.VerifyEnds.{IsCertificateCause, IsWalked, VerifyIsJudged}
 use Rattle.command_line.specs.declared.line.Request.{Request}
 use Rattle.wasm_core.specs.ModuleGrammar.{SpellsModule}
 use Rattle.wasm_core.specs.ShortestBytes.{most_bytes}
-use Rattle.driver.specs.Serve.{CompilesMain, IsAnswerableBy, IsAnswerOf, HasWell, IsLate, IsCallCause, IsCheckCause, IsDumpCause, IsDumpJudgedWith, IsJobCause, IsTextCause, IsSure, IsJudgedWith, IsWell, MakesModule, environment_text}
+use Rattle.driver.specs.Serve.{CompilesMain, IsAnswerableBy, IsAnswerOf, HasWell, IsLate, IsCallCause, IsCheckCause, IsDumpCause, IsDumpJudgedWith, IsJobCause, IsTextCause, IsSure, IsJudgedWith, IsVerifyAnswer, IsVerifyCause, IsWell, MakesModule, environment_text}
 use Rattle.driver.proofs.RunCauses.{run_judged_answer, run_judged_cause, run_not_sure}
 use Rattle.driver.proofs.CheckCauses.{accepted_status, not_zero}
 use Rattle.driver.proofs.SourceCauses.{accepted_by, same_run}
@@ -45,6 +46,7 @@ use Rattle.driver.proofs.JobCauses.{answerable_status, call_cause, compile_cause
 use Rattle.driver.proofs.MadeCauses.{made_status, make_cause}
 use Rattle.driver.proofs.ExportCauses.{export_accepts, exported_status}
 use Rattle.driver.proofs.CallJobCauses.{call_accepts, call_status, called_status}
+use Rattle.driver.proofs.VerifyCauses.{certificate_status, walked_status}
 
 abbrev pub verdict_on : List ℕ → Verdict
 verdict_on bytes = verdict (length bytes) (tokens_of bytes)
@@ -104,6 +106,18 @@ of_call q bytes (refusals.Limit l) h = OfRefusal (reads.Limit l h.0) (refuses (f
 of_call q bytes refusals.InputBytes h = absurd h
 of_call q bytes _ h = OfCheck h.0 h.1 h.2 (λ x. x)
 
+-- so it is by `verify`
+of_verify : (q : Request) (bytes : List ℕ) (r : Refusal) → IsVerifyCause q r bytes → Of (IsCertificateCause q.turns bytes r) (front_bytes bytes) r
+of_verify q bytes refusals.Memory h = absurd h
+of_verify q bytes refusals.Usage h = absurd h
+of_verify q bytes refusals.ReadFault h = absurd h
+of_verify q bytes refusals.WriteFault h = absurd h
+of_verify q bytes (refusals.Syntax o) h = OfRefusal (reads.Syntax o) (refuses (front_bytes bytes) (reads.Syntax o) h) refl
+of_verify q bytes (refusals.Unsupported w o) h = OfRefusal (reads.Unsupported w o) (refuses (front_bytes bytes) (reads.Unsupported w o) h) refl
+of_verify q bytes (refusals.Limit l) h = OfRefusal (reads.Limit l h.0) (refuses (front_bytes bytes) (reads.Limit l h.0) h.1) refl
+of_verify q bytes refusals.InputBytes h = absurd h
+of_verify q bytes _ h = OfCheck h.0 h.1 h.2 (λ x. x)
+
 -- a cause that the text itself shows is the only one
 sure_is_one : {P Q : RawEnv → Type 0} (bytes : List ℕ) (a r : Refusal) → Of P bytes a → Of Q bytes r → IsSure r → a ≡ r
 sure_is_one bytes a r h (OfCheck f t c n) sure = absurd (n sure)
@@ -123,6 +137,10 @@ call_judged_cause : (q : Request) (bytes : List ℕ) (status : ℕ) (r : Refusal
 call_judged_cause q bytes status r (e, s, ends) h =
     (let c = shown_by (front_bytes bytes) e r s (of_call q bytes r h) in call_status q.turns e bytes q.pages q.steps r status (call_cause q r bytes e c.0) c.1 ends)
 
+verify_judged_cause : (q : Request) (bytes : List ℕ) (status : ℕ) (r : Refusal) → VerifyIsJudged q.turns status bytes → IsVerifyCause q r bytes → status ≡ status_of r
+verify_judged_cause q bytes status r (e, s, ends) h =
+    (let c = shown_by (front_bytes bytes) e r s (of_verify q bytes r h) in certificate_status q.turns e bytes r status c.0 ends)
+
 pub call_cause_on : (q : Request) (bytes : List ℕ) (e : RawEnv) (r : Refusal) → SpellsWithin (front_bytes bytes) e → IsCallCause q r bytes →
     (IsCheckCause q.turns r e ⊎ IsCallStop q.turns q.pages q.steps bytes r e) × (IsSure r → ⊥)
 call_cause_on q bytes e r s h = (let c = shown_by (front_bytes bytes) e r s (of_call q bytes r h) in (call_cause q r bytes e c.0, c.1))
@@ -138,6 +156,7 @@ dump_answerable job q bytes r e s answerable h = (let c = shown_by bytes e r s (
 pub answerable_cause : (job : Job) (q : Request) (bytes : List ℕ) (r : Refusal) (e : RawEnv) → SpellsWithin (environment_text job bytes) e → IsAnswerableBy job q e bytes → IsTextCause job q r bytes → ⊥
 answerable_cause Run q bytes r e s answerable h = answerable
 answerable_cause Call q bytes r e s answerable h = not_zero r (sym (call_judged_cause q bytes 0 r (e, s, inr answerable) h))
+answerable_cause Verify q bytes r e s answerable h = not_zero r (sym (verify_judged_cause q bytes 0 r (e, s, inr answerable) h))
 answerable_cause job q bytes r e s answerable h = dump_answerable job q bytes r e s answerable h
 
 -- ---- a job that makes main's module
@@ -209,6 +228,9 @@ dump_not_sure job q bytes e r s h sure = (shown_by bytes e r s (of job q bytes r
 call_not_sure : (q : Request) (bytes : List ℕ) (e : RawEnv) (r : Refusal) → SpellsWithin (front_bytes bytes) e → IsCallCause q r bytes → IsSure r → ⊥
 call_not_sure q bytes e r s h sure = (shown_by (front_bytes bytes) e r s (of_call q bytes r h)).1 sure
 
+verify_not_sure : (q : Request) (bytes : List ℕ) (e : RawEnv) (r : Refusal) → SpellsWithin (front_bytes bytes) e → IsVerifyCause q r bytes → IsSure r → ⊥
+verify_not_sure q bytes e r s h sure = (shown_by (front_bytes bytes) e r s (of_verify q bytes r h)).1 sure
+
 -- an answer of a text whose environment is judged is that of an acceptance
 check_judged : (turns : ℕ) (bytes : List ℕ) (e f : RawEnv) (status : ℕ) → SpellsWithin bytes e → EndsWith turns e status → SpellsWithin bytes f → IsAcceptedBy turns f → status ≡ 0
 check_judged turns bytes e f status s ends t accepted = accepted_status turns e status (subst (IsAcceptedBy turns) (one_environment bytes f e t s) accepted) ends
@@ -233,21 +255,28 @@ pub called_on : (q : Request) (bytes text : List ℕ) (e : RawEnv) → SpellsWit
     CallJobEnds q.turns e bytes q.pages q.steps (Ok text)
 called_on q bytes text e s a = subst (λ x. CallJobEnds q.turns x bytes q.pages q.steps (Ok text)) (one_environment (front_bytes bytes) a.environment e a.spelled s) (a.stages, a.text_is)
 
+-- and of `verify`
+walked_on : (turns : ℕ) (bytes text : List ℕ) (e : RawEnv) → SpellsWithin (front_bytes bytes) e → IsVerifyAnswer turns bytes text → IsWalked turns e bytes
+walked_on turns bytes text e s a = subst (λ x. IsWalked turns x bytes) (one_environment (front_bytes bytes) a.environment e a.spelled s) a.walked
+
 -- ---- the same of any job's input
 
 pub one_cause : (job : Job) (q : Request) (bytes : List ℕ) (a r : Refusal) → IsTextCause job q a bytes → IsTextCause job q r bytes → IsSure r → a ≡ r
 one_cause Run q bytes a r h k sure = absurd (run_not_sure q.pages q.steps r bytes k sure)
 one_cause Call q bytes a r h k sure = sure_is_one (front_bytes bytes) a r (of_call q bytes a h) (of_call q bytes r k) sure
+one_cause Verify q bytes a r h k sure = sure_is_one (front_bytes bytes) a r (of_verify q bytes a h) (of_verify q bytes r k) sure
 one_cause job q bytes a r h k sure = sure_is_one bytes a r (of job q bytes a h) (of job q bytes r k) sure
 
 pub judged_cause : (job : Job) (q : Request) (bytes : List ℕ) (status : ℕ) (r : Refusal) → length bytes ≤ most_bytes → IsJudgedWith job q status bytes → IsTextCause job q r bytes → status ≡ status_of r
 judged_cause Run q bytes status r short h k = run_judged_cause q.pages q.steps bytes status r short h k
 judged_cause Call q bytes status r short h k = call_judged_cause q bytes status r h k
+judged_cause Verify q bytes status r short h k = verify_judged_cause q bytes status r h k
 judged_cause job q bytes status r short h k = dump_judged_cause job q bytes status r h k
 
 pub no_cause_of_answers : (job : Job) (q : Request) (bytes text : List ℕ) (r : Refusal) → IsAnswerOf job q bytes text → IsTextCause job q r bytes → IsSure r → ⊥
 no_cause_of_answers Bench q bytes text r a h sure = dump_not_sure Bench q bytes a.executed.environment r a.executed.spelled h sure
 no_cause_of_answers Call q bytes text r a h sure = call_not_sure q bytes a.environment r a.spelled h sure
+no_cause_of_answers Verify q bytes text r a h sure = verify_not_sure q bytes a.environment r a.spelled h sure
 no_cause_of_answers Run q bytes text r a h sure = run_not_sure q.pages q.steps r bytes h sure
 no_cause_of_answers Explain q bytes text r (inl a) h sure = dump_not_sure Explain q bytes a.environment r a.spelled h sure
 no_cause_of_answers Explain q bytes text r (inr a) h sure = dump_not_sure Explain q bytes a.environment r a.spelled h sure
@@ -269,6 +298,7 @@ judged_answer Explain q bytes text status short (e, s, ends) a = ends
 judged_answer Export q bytes text status short (e, s, ends) a =
     exported_status q.turns a.environment q.pages status a.stages a.small (subst (λ x. ExportEndsWith q.turns x q.pages status) (one_environment bytes e a.environment s a.spelled) ends)
 judged_answer Call q bytes text status short (e, s, ends) a = called_status q.turns e bytes q.pages q.steps text status (called_on q bytes text e s a) ends
+judged_answer Verify q bytes text status short (e, s, ends) a = walked_status q.turns e bytes status (walked_on q.turns bytes text e s a) ends
 
 -- What the reader gives is spelled within the limits.
 pub within_limits : (bytes : List ℕ) (e : RawEnv) → IsVerdict bytes (Ok e) → SpellsWithin bytes e

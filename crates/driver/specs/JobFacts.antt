@@ -9,7 +9,7 @@ use Rattle.module_run.specs.RunFacts.{AreRunFacts, AreTold}
 use Rattle.dump_reader.specs.Front.{front_bytes}
 use Rattle.dump_reader.specs.declared.environment.RawEnv.{RawEnv}
 use Rattle.command_line.specs.declared.job.Job.{Job}
-use Rattle.command_line.specs.declared.job.Job.TheVariants.{Exec, Run, Bench, Explain, Call}
+use Rattle.command_line.specs.declared.job.Job.TheVariants.{Exec, Run, Bench, Explain, Call, Verify}
 use Rattle.command_line.specs.declared.line.Request.{Request}
 use Rattle.command_line.specs.Line.{request_of}
 use Rattle.driver.specs.declared.reporting.facts.Facts.{Facts}
@@ -61,13 +61,14 @@ pub record AreCalledFacts (q : Request) (bytes : List ℕ) (facts : List Fact) :
   pub run : AreCallFacts (its_call_module q.pages stages) q.pages q.steps reading.arguments ran
   pub are : facts ≡ check ++ ran
 
--- those of a job
+-- those of a job; by `verify`, which makes no check of its own, there are none
 abbrev pub AreJobFacts : Job → Request → List ℕ → List Fact → Type 0
 AreJobFacts Exec q bytes facts = AreExecFacts q bytes facts
 AreJobFacts Bench q bytes facts = AreExecFacts q bytes facts
 AreJobFacts Call q bytes facts = AreCalledFacts q bytes facts
 AreJobFacts Run q bytes facts = AreFileFacts q bytes facts
 AreJobFacts Explain q bytes facts = AreExplainFacts q bytes facts
+AreJobFacts Verify q bytes facts = facts ≡ []
 AreJobFacts _ q bytes facts = AreCheckFacts q.turns bytes facts
 
 -- those of the job that the words ask for

@@ -18,6 +18,7 @@ pub mod CallEnds
 pub mod Called
 pub mod CallFinishes
 pub mod RunFile
+pub mod VerifyEnds
 pub mod Explained
 pub mod Serve
 pub mod ExplainSays

@@ -20,6 +20,8 @@ use Rattle.driver.specs.declared.refusal.ModuleFault.{ModuleFault}
 use Rattle.driver.specs.declared.refusal.ModuleFault.TheVariants as modules
 use Rattle.driver.specs.declared.refusal.ArgumentFault.{ArgumentFault}
 use Rattle.driver.specs.declared.refusal.ArgumentFault.TheVariants as arguments
+use Rattle.driver.specs.declared.refusal.CertificateFault.{CertificateFault}
+use Rattle.driver.specs.declared.refusal.CertificateFault.TheVariants as certificates
 use Rattle.driver.specs.declared.refusal.Where.TheVariants as tells
 
 -- a refusal of the text
@@ -49,6 +51,11 @@ status_of_argument arguments.Nesting = 7
 status_of_argument arguments.NameBytes = 7
 status_of_argument (arguments.Wrong o) = 16
 
+abbrev pub status_of_certificate : CertificateFault → ℕ
+status_of_certificate (certificates.Syntax o) = 5
+status_of_certificate certificates.Number = 7
+status_of_certificate (certificates.Refused i) = 17
+
 abbrev pub status_of : Refusal → ℕ
 status_of refusals.Memory = 1
 status_of refusals.Usage = 2
@@ -71,6 +78,7 @@ status_of (refusals.Program l) = 7
 status_of (refusals.Run w) = status_of_run w
 status_of (refusals.Module w) = status_of_module w
 status_of (refusals.Argument w) = status_of_argument w
+status_of (refusals.Certificate w) = status_of_certificate w
 
 unfoldable pub front_of_foreign : Foreign → List ℕ
 front_of_foreign foreigns.Var = codes "unsupported Var at "
@@ -143,6 +151,11 @@ front_of_argument arguments.Nesting = codes "limit Nesting"
 front_of_argument arguments.NameBytes = codes "limit NameBytes"
 front_of_argument (arguments.Wrong o) = codes "argument at "
 
+unfoldable pub front_of_certificate : CertificateFault → List ℕ
+front_of_certificate (certificates.Syntax o) = codes "syntax at "
+front_of_certificate certificates.Number = codes "limit Number"
+front_of_certificate (certificates.Refused i) = codes "certificate refused at "
+
 -- what a line begins with: all of it but for numbers, a place, a name and its LF
 unfoldable pub front_of : Refusal → List ℕ
 front_of refusals.Memory = codes "out of memory"
@@ -166,8 +179,14 @@ front_of (refusals.Program l) = front_of_program l
 front_of (refusals.Run w) = front_of_run w
 front_of (refusals.Module w) = front_of_module w
 front_of (refusals.Argument w) = front_of_argument w
+front_of (refusals.Certificate w) = front_of_certificate w
 
--- the number in a line: an offset, that of a broken rule or of a function, or a word that stands for no data
+abbrev pub certificate_number : CertificateFault → Option ℕ
+certificate_number (certificates.Syntax o) = Some o
+certificate_number certificates.Number = None
+certificate_number (certificates.Refused i) = Some i
+
+-- the number in a line: an offset, that of a broken rule, of a function or of an item of a certificate, or a word that stands for no data
 abbrev pub number_in : Refusal → Option ℕ
 number_in (refusals.Syntax o) = Some o
 number_in (refusals.Unsupported w o) = Some o
@@ -177,6 +196,7 @@ number_in (refusals.Module (modules.Bad o)) = Some o
 number_in (refusals.Module (modules.Invalid f p)) = Some f
 number_in (refusals.Argument (arguments.Syntax o)) = Some o
 number_in (refusals.Argument (arguments.Wrong o)) = Some o
+number_in (refusals.Certificate w) = certificate_number w
 number_in _ = None
 
 abbrev pub number_text : Option ℕ → List ℕ

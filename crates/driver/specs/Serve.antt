@@ -14,7 +14,7 @@ use Rattle.env_check.specs.Rules.{givens}
 use Rattle.driver.specs.declared.refusal.Refusal.{Refusal}
 use Rattle.driver.specs.declared.refusal.Refusal.TheVariants as refusals
 use Rattle.command_line.specs.declared.job.Job.{Job}
-use Rattle.command_line.specs.declared.job.Job.TheVariants.{Exec, Check, Eval, Run, Compile, Bench, Explain, Export, Call}
+use Rattle.command_line.specs.declared.job.Job.TheVariants.{Exec, Check, Eval, Run, Compile, Bench, Explain, Export, Call, Verify}
 use Rattle.command_line.specs.declared.line.Request.{Request}
 use Rattle.command_line.specs.Line.{request_of}
 use Rattle.driver.specs.Answerable.{IsAnswerable}
@@ -34,6 +34,7 @@ use Rattle.driver.specs.CallEnds.{IsCallStop}
 use Rattle.driver.specs.Called.{IsCallAnswer, CallIsJudged, CallRestEndsWith}
 use Rattle.driver.specs.RunFile.{IsRunAnswer, IsRunCause, RunEndsWith}
 use Rattle.driver.specs.Explained.{IsExplained}
+use Rattle.driver.specs.VerifyEnds.{IsCertificateCause, IsWalked, VerifyIsJudged, WalkEndsWith}
 use Rattle.driver.specs.Judged.{IsAcceptedBy, IsSpentBy, IsTooDeepFor, IsBrokenBy, EndsWith}
 
 -- the most bytes of an input
@@ -74,6 +75,14 @@ pub record IsCheckAnswer (turns : ℕ) (bytes text : List ℕ) : Type 0 where
   pub well : IsWell environment
   pub text_is : text ≡ codes "ok\n"
 
+-- The text is the answer of `verify` on the input: the front spells an environment, which is well formed, and the certificate behind it is accepted.
+pub record IsVerifyAnswer (turns : ℕ) (bytes text : List ℕ) : Type 0 where
+  pub environment : RawEnv
+  pub spelled : SpellsWithin (front_bytes bytes) environment
+  pub walked : IsWalked turns environment bytes
+  pub well : IsWell environment
+  pub text_is : text ≡ codes "ok\n"
+
 -- The text is the answer on the input of a job with the numbers of a request.
 abbrev pub IsAnswerOf : Job → Request → (bytes text : List ℕ) → Type 0
 IsAnswerOf Exec q bytes text = IsExecuted q.turns q.pages q.steps bytes text
@@ -85,6 +94,7 @@ IsAnswerOf Bench q bytes text = IsBenched q.turns q.pages q.steps bytes text
 IsAnswerOf Explain q bytes text = IsCheckAnswer q.turns bytes text ⊎ IsExplained q.turns bytes text
 IsAnswerOf Export q bytes text = IsExported q.turns q.pages bytes text
 IsAnswerOf Call q bytes text = IsCallAnswer q.turns q.pages q.steps bytes text
+IsAnswerOf Verify q bytes text = IsVerifyAnswer q.turns bytes text
 
 -- The input, and the answer on it of the job that the words ask for.
 pub record HasAnswer (words : List (List ℕ)) (left : Option (List ℕ)) (text : List ℕ) : Type 0 where
@@ -111,6 +121,7 @@ IsJobCause Compile q r e = IsCheckCause q.turns r e ⊎ (IsMakeCause q.turns q.p
 IsJobCause Bench q r e = IsCheckCause q.turns r e ⊎ (IsExecCause q.turns q.pages q.steps r e × IsLargeFor q.turns r e)
 IsJobCause Explain q r e = ⊥
 IsJobCause Call q r e = ⊥
+IsJobCause Verify q r e = ⊥
 IsJobCause Export q r e = IsCheckCause q.turns r e ⊎ (IsExportCause q.turns q.pages r e × IsLargeForCall q.turns r e)
 
 -- the environment that the text spells shows it
@@ -145,10 +156,27 @@ IsCallCause q refusals.WriteFault bytes = ⊥
 IsCallCause q refusals.InputBytes bytes = ⊥
 IsCallCause q r bytes = IsOfCall q r bytes
 
--- what of an input, a dump, a dump with arguments behind it or a module, shows a refusal of a job
+-- the front of the input spells an environment, and the text behind it, or the walk along the certificate that it is, shows it
+abbrev pub IsOfVerify : Request → Refusal → List ℕ → Type 0
+IsOfVerify q r bytes = (e : RawEnv) × SpellsWithin (front_bytes bytes) e × IsCertificateCause q.turns bytes r e
+
+-- what of the input shows a refusal of `verify`: the text of the environment, or what comes behind it
+abbrev pub IsVerifyCause : Request → Refusal → List ℕ → Type 0
+IsVerifyCause q (refusals.Syntax o) bytes = Refuses (front_bytes bytes) (reads.Syntax o)
+IsVerifyCause q (refusals.Unsupported w o) bytes = Refuses (front_bytes bytes) (reads.Unsupported w o)
+IsVerifyCause q (refusals.Limit l) bytes = (o : ℕ) × Refuses (front_bytes bytes) (reads.Limit l o)
+IsVerifyCause q refusals.Memory bytes = ⊥
+IsVerifyCause q refusals.Usage bytes = ⊥
+IsVerifyCause q refusals.ReadFault bytes = ⊥
+IsVerifyCause q refusals.WriteFault bytes = ⊥
+IsVerifyCause q refusals.InputBytes bytes = ⊥
+IsVerifyCause q r bytes = IsOfVerify q r bytes
+
+-- what of an input, a dump, a dump with arguments or a certificate behind it or a module, shows a refusal of a job
 abbrev pub IsTextCause : Job → Request → Refusal → List ℕ → Type 0
 IsTextCause Run q r bytes = IsRunCause q.pages q.steps r bytes
 IsTextCause Call q r bytes = IsCallCause q r bytes
+IsTextCause Verify q r bytes = IsVerifyCause q r bytes
 IsTextCause job q r bytes = IsDumpCause job q r bytes
 
 -- the text itself refuses: there the answer is determined but for want of memory
@@ -159,6 +187,7 @@ IsSure (refusals.Broken n p) = ⊥
 IsSure refusals.Types = ⊥
 IsSure refusals.Arguments = ⊥
 IsSure (refusals.Argument w) = ⊥
+IsSure (refusals.Certificate w) = ⊥
 IsSure refusals.AnswerNodes = ⊥
 IsSure refusals.NotFirstOrder = ⊥
 IsSure refusals.Stuck = ⊥
@@ -281,9 +310,10 @@ pub record IsAskedOn (q : Request) (e : RawEnv) (words : List (List ℕ)) (left 
   pub short : length bytes ≤ input_limit
   pub spelled : SpellsWithin bytes e
 
--- the bytes of a job's input that spell its environment: by `call` those in front of the arguments
+-- the bytes of a job's input that spell its environment: by `call` those in front of the arguments, by `verify` those in front of the certificate
 abbrev pub environment_text : Job → List ℕ → List ℕ
 environment_text Call bytes = front_bytes bytes
+environment_text Verify bytes = front_bytes bytes
 environment_text _ bytes = bytes
 
 -- The words ask for this, and the source tells bytes within the limit, those of which that spell the job's environment spell this one.
@@ -323,21 +353,24 @@ JobEndsWith Compile q e status = MakeEndsWith q.turns e q.pages status
 JobEndsWith Bench q e status = ExecEndsWith q.turns e q.pages q.steps status
 JobEndsWith Explain q e status = status ≡ 0
 JobEndsWith Call q e status = ⊥
+JobEndsWith Verify q e status = ⊥
 JobEndsWith Export q e status = ExportEndsWith q.turns e q.pages status
 
 -- the text spells an environment, and the job ends with this status
 abbrev pub IsDumpJudgedWith : Job → Request → ℕ → List ℕ → Type 0
 IsDumpJudgedWith job q status bytes = (e : RawEnv) × SpellsWithin bytes e × JobEndsWith job q e status
 
--- so of a dump, or the run of a module ends with this status
+-- so of a dump, with arguments or a certificate behind it too, or the run of a module ends with this status
 abbrev pub IsJudgedWith : Job → Request → ℕ → List ℕ → Type 0
 IsJudgedWith Run q status bytes = RunEndsWith q.pages q.steps bytes status
 IsJudgedWith Call q status bytes = CallIsJudged q status bytes
+IsJudgedWith Verify q status bytes = VerifyIsJudged q.turns status bytes
 IsJudgedWith job q status bytes = IsDumpJudgedWith job q status bytes
 
--- an environment on which the job has an answer, and by `call` besides the input's bytes: by `exec` one whose main's module answers data of main's type, by `check` a plain one that keeps all rules,
+-- an environment on which the job has an answer, and by `call` and `verify` besides the input's bytes: by `exec` one whose main's module answers data of main's type, by `check` a plain one that keeps all rules,
 -- by `eval` one whose main has a value that is data, by `compile` one whose main has a module within 16 MiB, as the passes or its sizes show, by `explain` each, by `export` one whose main has so
--- a module for calls, by `call` one whose main's module answers data of the answer's types on the arguments behind it
+-- a module for calls, by `call` one whose main's module answers data of the answer's types on the arguments behind it, by `verify` one along whose certificate behind it
+-- the walk comes to its end
 abbrev pub IsAnswerableBy : Job → Request → RawEnv → List ℕ → Type 0
 IsAnswerableBy Exec q e bytes = RestEndsWith q.turns e q.pages q.steps 0
 IsAnswerableBy Check q e bytes = (0 < q.turns) × IsAnswerable e
@@ -347,6 +380,7 @@ IsAnswerableBy Compile q e bytes = HasModule q.turns e q.pages
 IsAnswerableBy Bench q e bytes = RestEndsWith q.turns e q.pages q.steps 0
 IsAnswerableBy Explain q e bytes = Unit {0}
 IsAnswerableBy Call q e bytes = CallRestEndsWith q.turns e bytes q.pages q.steps 0
+IsAnswerableBy Verify q e bytes = WalkEndsWith q.turns e bytes 0
 IsAnswerableBy Export q e bytes = HasCallModule q.turns e q.pages
 
 -- a status that comes after the check: 0, 4 and those from 10 on

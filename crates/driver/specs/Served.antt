@@ -30,7 +30,7 @@ pub record IsKept {X : Type 0} (old new : Seen X) : Type 0 where
 
 pub record Served {S K E : Type 0} (status : ℕ) (words : List (List ℕ)) (reports : List Shown) (src src' : Seen S) (out out' : Seen K) (err err' : Seen E) : Type 0 where
   pub done : status ≡ 0 → (text : List ℕ) × HasAnswer words src.told text × Appends out.told out'.told text
-  pub statuses : Contains (0 ∷ 1 ∷ 2 ∷ 3 ∷ 4 ∷ 5 ∷ 6 ∷ 7 ∷ 8 ∷ 9 ∷ 10 ∷ 11 ∷ 12 ∷ 13 ∷ 14 ∷ 15 ∷ 16 ∷ []) status
+  pub statuses : Contains (0 ∷ 1 ∷ 2 ∷ 3 ∷ 4 ∷ 5 ∷ 6 ∷ 7 ∷ 8 ∷ 9 ∷ 10 ∷ 11 ∷ 12 ∷ 13 ∷ 14 ∷ 15 ∷ 16 ∷ 17 ∷ []) status
   pub refused : status ≢ 0 → IsRefused status words src.told src.faults src'.faults out.faults out'.faults err.told err'.told err.faults err'.faults
   pub usage : status ≡ 2 → request_of words ≡ None
   pub faulty : request_of words ≡ None → (src'.object ≡ src.object) × ((status ≡ 2) ⊎ (status ≡ 1))

@@ -6,12 +6,13 @@ use Rattle.pc_rules.specs.DirectedRun.{Run as RuleRun}
 use Rattle.dump_reader.specs.Front.{front_bytes}
 use Rattle.dump_reader.specs.declared.environment.RawEnv.{RawEnv}
 use Rattle.command_line.specs.declared.job.Job.{Job}
-use Rattle.command_line.specs.declared.job.Job.TheVariants.{Check, Eval, Run, Explain, Export, Call}
+use Rattle.command_line.specs.declared.job.Job.TheVariants.{Check, Eval, Run, Explain, Export, Call, Verify}
 use Rattle.driver.specs.Exported.{CallRulesAreWithin}
 use Rattle.driver.specs.ExecEnds.{Accepting, Searching, erasure_of}
 use Rattle.driver.specs.Judged.{IsJudged}
 use Rattle.driver.specs.SourceEnds.{Ended, IsSourceRun}
 use Rattle.driver.specs.Texts.{SpellsWithin}
+use Rattle.driver.specs.VerifyEnds.{WalkIsShallow}
 
 -- by those of the check; and of what comes after it by `eval`, by the jobs that make main's module, and by `export` and `call`; `explain` answers whatever they come to
 
@@ -38,13 +39,15 @@ IsShallow Run turns e = Unit {0}
 IsShallow Explain turns e = Unit {0}
 IsShallow Export turns e = CallIsShallow turns e
 IsShallow Call turns e = CallIsShallow turns e
+IsShallow Verify turns e = Unit {0}
 IsShallow _ turns e = ModuleIsShallow turns e
 
 -- so of the environment that a text spells
 abbrev pub IsShallowFor : Job → (turns : ℕ) → List ℕ → Type 0
 IsShallowFor job turns text = (e : RawEnv) → SpellsWithin text e → IsShallow job turns e
 
--- so of that of a job's input, which by `call` its front spells
+-- so of that of a job's input, which by `call` and `verify` its front spells; by `verify` the walk along the certificate behind it passes none
 abbrev pub IsShallowOn : Job → (turns : ℕ) → List ℕ → Type 0
 IsShallowOn Call turns bytes = IsShallowFor Call turns (front_bytes bytes)
+IsShallowOn Verify turns bytes = (e : RawEnv) → SpellsWithin (front_bytes bytes) e → WalkIsShallow turns e bytes
 IsShallowOn job turns bytes = IsShallowFor job turns bytes

@@ -1,7 +1,7 @@
 //! The refusals of a job, each with its status and the parts of its line.
 
 ghost use Rattle.std.specs.Prelude.{◌≡◌, Some, None};
-ghost use Rattle.driver.specs.Lines.{status_of, status_of_argument, status_of_module, status_of_run, front_of, front_of_argument, front_of_foreign, front_of_entry, front_of_limit, front_of_module, front_of_program, front_of_run, front_of_trap, number_in, place_of, name_in, second_in};
+ghost use Rattle.driver.specs.Lines.{status_of, status_of_argument, status_of_certificate, status_of_module, status_of_run, front_of, front_of_argument, front_of_certificate, front_of_foreign, front_of_entry, front_of_limit, front_of_module, front_of_program, front_of_run, front_of_trap, certificate_number, number_in, place_of, name_in, second_in};
 
 use dump_grammar::{Foreign, Limit, ReadRefusal};
 use std::alloc::{AllocError, AllocFailed};
@@ -72,6 +72,17 @@ pub(crate) enum ArgumentFault {
     Wrong { offset: usize },
 }
 
+/// Why an environment isn't verified along the certificate behind it. Offsets are bytes from the start of the input, items are numbered from 0.
+#[derive(Clone, Copy, Debug, PartialEq, Eq)]
+pub(crate) enum CertificateFault {
+    /// No text of a certificate goes on with the token there.
+    Syntax { offset: usize },
+    /// A number of the certificate is over 4,294,967,295.
+    Number,
+    /// The walk is refused at the item.
+    Refused { item: u64 },
+}
+
 /// Why a job gives no answer. Offsets are bytes from the start of the input.
 #[derive(Drop)]
 pub(crate) enum Refusal {
@@ -83,9 +94,9 @@ pub(crate) enum Refusal {
     Unsupported { what: Foreign, offset: usize },
     Limit { which: Limit },
     InputBytes,
-    /// A limit was passed in the check, or in what comes after it: the depth of a term, a number, or the rules that stand in one another; or a term of the saturated program is too deep.
+    /// A limit was passed in the check, or in what comes after it, or by `verify` in the walk: the depth of a term, a number, or the rules that stand in one another; or a term of the saturated program is too deep.
     Depth,
-    /// The check, or what comes after it with the same units, has no end within the units of a job.
+    /// The check, or what comes after it with the same units, or by `verify` the walk, has no end within the units of a job.
     TurnsSpent,
     /// More types than the limit would be put in the list of a first-order search.
     Types,
@@ -109,6 +120,8 @@ pub(crate) enum Refusal {
     Module { why: ModuleFault },
     /// The text of the arguments gives none.
     Argument { why: ArgumentFault },
+    /// The environment isn't verified along the certificate.
+    Certificate { why: CertificateFault },
 }
 
 /// The status of a run without an answer.
@@ -145,6 +158,17 @@ fn argument_status(why: &ArgumentFault) -> u8
     }
 }
 
+/// The status of a certificate along which nothing is verified.
+fn certificate_status(why: &CertificateFault) -> u8
+    ensures value { result ≡ status_of_certificate why.now }
+{
+    match why {
+        CertificateFault::Syntax { .. } => 5,
+        CertificateFault::Number => 7,
+        CertificateFault::Refused { .. } => 17,
+    }
+}
+
 /// The program's status.
 pub(crate) fn status(refusal: &Refusal) -> u8
     ensures value { result ≡ status_of refusal.now }
@@ -166,6 +190,7 @@ pub(crate) fn status(refusal: &Refusal) -> u8
         Refusal::Run { why } => run_status(why),
         Refusal::Module { why } => module_status(why),
         Refusal::Argument { why } => argument_status(why),
+        Refusal::Certificate { why } => certificate_status(why),
     }
 }
 
@@ -296,6 +321,18 @@ fn argument_front(why: ArgumentFault) -> &'static [u8]
     }
 }
 
+/// What the line of a certificate along which nothing is verified begins with.
+#[tactic(auto, unfolding(crate::specs::Lines::front_of_certificate))]
+fn certificate_front(why: CertificateFault) -> &'static [u8]
+    ensures bytes { result.now ≡ front_of_certificate why }
+{
+    match why {
+        CertificateFault::Syntax { .. } => b"syntax at ",
+        CertificateFault::Number => b"limit Number",
+        CertificateFault::Refused { .. } => b"certificate refused at ",
+    }
+}
+
 /// What the line on err begins with: all of it but for numbers, a place, a name and its LF.
 #[tactic(auto, unfolding(crate::specs::Lines::front_of))]
 pub(crate) fn front(refusal: &Refusal) -> &'static [u8]
@@ -323,10 +360,22 @@ pub(crate) fn front(refusal: &Refusal) -> &'static [u8]
         Refusal::Run { why } => run_front(*why),
         Refusal::Module { why } => module_front(*why),
         Refusal::Argument { why } => argument_front(*why),
+        Refusal::Certificate { why } => certificate_front(*why),
     }
 }
 
-/// The number in the line, if it tells one: an offset, that of a broken rule, or a word that stands for no data.
+/// The number in a certificate's line, if it tells one: an offset or an item's number.
+fn certificate_number(why: &CertificateFault) -> Option<usize>
+    ensures value { result ≡ certificate_number why.now }
+{
+    match why {
+        CertificateFault::Syntax { offset } => Some(*offset),
+        CertificateFault::Refused { item } => Some(*item as usize),
+        CertificateFault::Number => None,
+    }
+}
+
+/// The number in the line, if it tells one: an offset, that of a broken rule or of an item, or a word that stands for no data.
 pub(crate) fn number(refusal: &Refusal) -> Option<usize>
     ensures value { result ≡ number_in refusal.now }
 {
@@ -349,6 +398,7 @@ pub(crate) fn number(refusal: &Refusal) -> Option<usize>
         Refusal::Module {
             why: ModuleFault::Invalid { func, .. },
         } => Some(*func as usize),
+        Refusal::Certificate { why } => certificate_number(why),
         _ => None,
     }
 }

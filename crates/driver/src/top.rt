@@ -33,6 +33,7 @@ use crate::object::object;
 use crate::refusal::{Refusal, status};
 use crate::reporting::write_lines;
 use crate::run::run;
+use crate::verify::verify;
 use command_line::{Job, LineFault, Request, read_line};
 use kio::{ReadAll, Sink, Source, read_all, write_all};
 use reports::Report;
@@ -69,11 +70,12 @@ fn input_of<S: Source>(alloc: Global, request: Request, src: &mut S) -> Result<V
     match request.job {
         Job::Bench => made_text(alloc, request.size),
         Job::Exec | Job::Check | Job::Eval | Job::Run => read_input(alloc, src),
-        Job::Compile | Job::Explain | Job::Export | Job::Call => read_input(alloc, src),
+        Job::Compile | Job::Explain | Job::Export => read_input(alloc, src),
+        Job::Call | Job::Verify => read_input(alloc, src),
     }
 }
 
-/// The text of the answer of a job on its bytes. Where there is one, each report is told the facts of the job: those of its check, and then those of its run.
+/// The text of the answer of a job on its bytes. Where there is one, each report is told the facts of the job: those of its check, and then those of its run. `verify` has none.
 fn answer_on<R: Report>(
     alloc: Global,
     request: Request,
@@ -94,6 +96,7 @@ fn answer_on<R: Report>(
         Job::Explain => explain(alloc, request, bytes, reports),
         Job::Export => export(alloc, request, bytes, reports),
         Job::Call => call(alloc, request, bytes, reports),
+        Job::Verify => verify(alloc, request, bytes),
     }
 }
 
@@ -190,24 +193,25 @@ fn serve_whole<S: Source, K: Sink, E: Sink>(
 /// Does the job that the words after the program's name ask for, and answers the program's status.
 ///
 /// The words are one simple command of `clap`: JOB and the options `--turns`, `--pages`, `--steps` and `--size`, each a number in its range with a default. The input is the text of
-/// an environment, by `run` the bytes of a module. `check` accepts an environment only where every declaration and main have a derivation by the typing rules, and writes `ok` with
+/// an environment, by `call` with arguments and by `verify` with a typing certificate behind it, by `run` the bytes of a module. `check` accepts an environment only where every declaration and main have a derivation by the typing rules, and writes `ok` with
 /// LF to `out`. `explain` does the same, and where the environment isn't accepted it answers the line of that refusal, its place and what the rules keep of it.
 /// `eval` accepts it so, finds the first-order types of main's type, evaluates main by the source's own evaluation, and writes the text of the data that the value is, with LF.
 /// `exec` accepts it so and finds these types, erases main, makes a module of that, which is encoded, decoded, validated and run, and writes the text of the data that it answers, with LF.
 /// `compile` does the same up to the module, and writes its bytes. `export` accepts it so, finds the signature of main's type, which are the first-order types of each argument and of the answer,
 /// and writes the bytes of the module for calls of main. `bench` reads nothing: it makes the text of `--size`, does with it what `exec` does, and writes five lines, the
 /// declarations, the module's bytes, the run's steps and pages, and the answer.
+/// `verify` goes along the certified walk of an environment, with the certificate behind it, and writes `ok` with LF where that is accepted, so only where every declaration and main have a derivation by the typing rules.
 /// `run` decodes, validates and runs a module, and writes the data that it answers by the numbers of constructors, with LF.
 ///
 /// Statuses: 0 done; 1 want of memory; 2 the line is at fault, and then nothing is read; 3 a read fault; 4 a write fault; 5 the text's first refusal is a syntax fault; 6 its first refusal is
 /// a form that is known and not read; 7 a limit is passed: of the text, of the input's 16,777,216 bytes, of depth, types, arguments or nodes, of a program or its module, or by `run` of pages
-/// or of a table; 8 the directed rules have no end within the turns; 9 a rule is broken; 10 main's type has no first-order set, or by `export` no signature, or by `exec`, `bench`, `compile` and
+/// or of a table; 8 the directed rules, or by `verify` the walk, have no end within the turns; 9 a rule is broken; 10 main's type has no first-order set, or by `export` no signature, or by `exec`, `bench`, `compile` and
 /// `export` a constant without a body is reached; 11 memory is
 /// exhausted; 12 the steps are spent; 13 the bytes spell no module; 14 the module is invalid; 15 the run trapped, an entry is missing, a segment passes the table, the result is no
-/// data, or by `eval` main has no value or its value is no data of its type. By `explain` 8, 9 and the limit of depth behind the text never come.
+/// data, or by `eval` main has no value or its value is no data of its type; 16 by `call` an argument is of another type; 17 by `verify` the walk is refused at an item. By `explain` 8, 9 and the limit of depth behind the text never come.
 ///
 /// Each report is told the facts of the check before a run: a declaration each, a constant without a body each, a use of a rule each, up to the end of main's check; and by `exec`, `bench` and
-/// `run` those of the run: each step with its class, each grow of memory that wasn't refused. `run` has no check, and by `explain` there are none where the check doesn't accept. On status 0 `err` then takes a line `report NAME COUNT` for each, in order; the
+/// `run` those of the run: each step with its class, each grow of memory that wasn't refused. `run` and `verify` have no check, and by `explain` there are none where the check doesn't accept. On status 0 `err` then takes a line `report NAME COUNT` for each, in order; the
 /// reports are dropped at every status.
 ///
 /// Of a source that tells nothing before it is read, as standard input, `history` says all of this: its input is the bytes that its reads give in this call, the last of which meets the end (`ended`).
@@ -222,10 +226,10 @@ pub fn serve<S: Source, K: Sink, E: Sink>(
     err: &mut E,
     reports: Vec<Box<dyn Report>>,
 ) -> u8
-    // The answer: the text spells an environment that is well formed, and out takes `ok`, the text of main's value, or of what main's module answers, or the bytes of that module or of the one for calls; by `run` the text of what the
+    // The answer: the text spells an environment that is well formed, and out takes `ok`, by `verify` too, where the certificate behind it is accepted, the text of main's value, or of what main's module answers, or the bytes of that module or of the one for calls; by `run` the text of what the
     // module of the input answers; by `explain` the check may refuse it, and then out takes what explains that.
     ensures done { result ≡ 0 → (text : List ℕ) × HasAnswer (words_of words.now) (S.left src.old) text × Appends (K.taken out.old) (K.taken out.new) text }
-    ensures statuses { Contains (0 ∷ 1 ∷ 2 ∷ 3 ∷ 4 ∷ 5 ∷ 6 ∷ 7 ∷ 8 ∷ 9 ∷ 10 ∷ 11 ∷ 12 ∷ 13 ∷ 14 ∷ 15 ∷ 16 ∷ []) result }
+    ensures statuses { Contains (0 ∷ 1 ∷ 2 ∷ 3 ∷ 4 ∷ 5 ∷ 6 ∷ 7 ∷ 8 ∷ 9 ∷ 10 ∷ 11 ∷ 12 ∷ 13 ∷ 14 ∷ 15 ∷ 16 ∷ 17 ∷ []) result }
 
     // Each refusal has its cause, and its line goes to err.
     ensures refused { ShowsCause result (words_of words.now) S.left S.faults src.old src.new K.faults out.old out.new E.taken E.faults err.old err.new }

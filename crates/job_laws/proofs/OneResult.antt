@@ -18,7 +18,7 @@ use Rattle.module_run.specs.FileEnds.{FileEnds}
 use Rattle.module_run.proofs.OneFileEnd.{file_end_is_one}
 use Rattle.module_run.proofs.OneRun.{one_run, went_on}
 use Rattle.command_line.specs.declared.job.Job.{Job}
-use Rattle.command_line.specs.declared.job.Job.TheVariants.{Exec, Check, Eval, Run, Compile, Bench, Explain, Export, Call}
+use Rattle.command_line.specs.declared.job.Job.TheVariants.{Exec, Check, Eval, Run, Compile, Bench, Explain, Export, Call, Verify}
 use Rattle.command_line.specs.declared.line.Request.{Request}
 use Rattle.driver.specs.Bench.{five_lines, lines_of}
 use Rattle.driver.specs.ExecEnds.{Answering, Compiling, its_module, its_shapes}
@@ -129,6 +129,7 @@ answer_is_one Export q bytes text text' short n m a b = a.text_is ∙ exported_i
 answer_is_one Call q bytes text text' short n m a b =
     let (x, line) = called_on q bytes text b.environment b.spelled a in
     called_text_is_one q.turns b.environment bytes q.pages q.steps x b.stages text text' line b.text_is
+answer_is_one Verify q bytes text text' short n m a b = a.text_is ∙ sym b.text_is
 answer_is_one Bench q bytes text text' short n m a b =
     let e = b.executed.environment in
     let (answer, x, line, is) = benched_on q bytes text e b.executed.spelled a in

@@ -23,6 +23,7 @@ fn name_of(job: Job) -> &'static str {
         Job::Explain => "explain",
         Job::Export => "export",
         Job::Call => "call",
+        Job::Verify => "verify",
     }
 }
 

@@ -14,6 +14,7 @@
 //! | `explained` | `serve`, of the job `explain` |
 //! | `exported` | `serve` and `serve twice`, of the job `export` |
 //! | `called` | `serve`, of the job `call` |
+//! | `verified` | `serve`, of the job `verify` |
 //! | `faults` | `serve at each prefix`, `serve with each fault` (`failing:` says whose calls, `calls:` how many), `serve` |
 #![tactic(auto)]
 
@@ -44,6 +45,7 @@ enum Layer {
     Explained,
     Exported,
     Called,
+    Verified,
 }
 
 impl Table for Layer {
@@ -61,6 +63,7 @@ impl Table for Layer {
             Layer::Explained => "explained.rows",
             Layer::Exported => "exported.rows",
             Layer::Called => "called.rows",
+            Layer::Verified => "verified.rows",
         }
     }
 
@@ -75,7 +78,8 @@ impl Table for Layer {
             | Layer::Compiled
             | Layer::Explained
             | Layer::Exported
-            | Layer::Called => { jobs::run(case, out) }
+            | Layer::Called
+            | Layer::Verified => { jobs::run(case, out) }
             Layer::Lines => lines::run(case, out),
             Layer::Faults => faults::run(case, out),
         }
@@ -98,6 +102,7 @@ fn main(rt: HostRuntime) -> io::Result<()> {
             Layer::Explained,
             Layer::Exported,
             Layer::Called,
+            Layer::Verified,
         ],
     )
 }
