@@ -1,7 +1,7 @@
 -- Walks over a list, item by item: each in turn, or what is found of each collected.
 use Rattle.std.proofs.Common.{◌≡◌, ◌∙◌, sym, ap, refl, subst, ℕ, ◌+◌, ◌<◌, ◌≤◌, List, [], ◌∷◌, ◌++◌, append_assoc, append-nil, length, drop, get_or, Result, Ok, Err}
 use Rattle.pc_rules.proofs.ListSteps.{next_is, none_left}
-use Rattle.cert_rules.specs.Walk.{Stand, Walk, WalkAct, pass, walk_on}
+use Rattle.cert_rules.specs.Walk.{WalkState, Walk, WalkAct, pass, walk_on}
 use Rattle.type_cert.specs.declared.halt.WalkHalt.{WalkHalt}
 use Rattle.type_cert.specs.declared.trail.Trail.{Trail}
 use Rattle.type_cert.specs.Retraces.{stand, Retraces}
@@ -41,7 +41,7 @@ pub collects_start : {A : Type 0} (whole : Walk (List A)) (t0 : Trail) → (r : 
 collects_start whole t0 r t p = subst (λ a. Retraces whole a t0 t) (sym (found_none r)) p
 
 -- what is found of the first, and the rest
-module _ {A B : Type 0} (one : Walk A) (rest : Stand → Walk (List B)) (g : A → B) where
+module _ {A B : Type 0} (one : Walk A) (rest : WalkState → Walk (List B)) (g : A → B) where
   abbrev pub collected : Walk (List B)
   collected = walk_on one (λ a v. walk_on (rest v) (λ bs w. pass (g a ∷ bs) w))
 
@@ -56,12 +56,12 @@ module _ {A B : Type 0} (one : Walk A) (rest : Stand → Walk (List B)) (g : A �
   collect_stop h t0 t1 p = retraces_err (λ a v. walk_on (rest v) (λ bs w. pass (g a ∷ bs) w)) p
 
 -- each of a list, where what is found is collected
-module _ {X A B : Type 0} (all : List X → Stand → Walk (List B)) (one : X → Stand → Walk A) (g : X → A → B) where
-  pub none_found : ((u : Stand) → all [] u ≡ pass [] u) → (xs : List X) (i : ℕ) (t : Trail) → length xs ≤ i → Retraces (all (drop i xs) (stand t)) (Ok []) t t
+module _ {X A B : Type 0} (all : List X → WalkState → Walk (List B)) (one : X → WalkState → Walk A) (g : X → A → B) where
+  pub none_found : ((u : WalkState) → all [] u ≡ pass [] u) → (xs : List X) (i : ℕ) (t : Trail) → length xs ≤ i → Retraces (all (drop i xs) (stand t)) (Ok []) t t
   none_found none xs i t l = subst (λ d. Retraces d (Ok []) t t) (sym (ap (λ ys. all ys (stand t)) (none_left xs i l) ∙ none (stand t))) (retraces_pass [] t)
 
-  module _ (next : (x : X) (xs : List X) (u : Stand) → all (x ∷ xs) u ≡ collected (one x u) (all xs) (g x)) (xs : List X) (i : ℕ) (x : X) (l : i < length xs) (is : x ≡ get_or xs i x) where
-    from_item : (u : Stand) → all (drop i xs) u ≡ collected (one x u) (all (drop (i + 1) xs)) (g x)
+  module _ (next : (x : X) (xs : List X) (u : WalkState) → all (x ∷ xs) u ≡ collected (one x u) (all xs) (g x)) (xs : List X) (i : ℕ) (x : X) (l : i < length xs) (is : x ≡ get_or xs i x) where
+    from_item : (u : WalkState) → all (drop i xs) u ≡ collected (one x u) (all (drop (i + 1) xs)) (g x)
     from_item u = ap (λ ys. all ys u) (next_is xs i x l is) ∙ next x (drop (i + 1) xs) u
 
     pub item_found : (a : A) (t0 t1 : Trail) → Retraces (one x (stand t0)) (Ok a) t0 t1 → (r : Result (List B) WalkHalt) (t : Trail) →
@@ -74,11 +74,11 @@ module _ {X A B : Type 0} (all : List X → Stand → Walk (List B)) (one : X �
 
 -- each of a list, where nothing is found
 module _ {X : Type 0} (all : List X → WalkAct) (one : X → WalkAct) where
-  pub none_goes : ((u : Stand) → all [] u ≡ pass tt u) → (xs : List X) (i : ℕ) (t : Trail) → length xs ≤ i → Retraces (all (drop i xs) (stand t)) (Ok tt) t t
+  pub none_goes : ((u : WalkState) → all [] u ≡ pass tt u) → (xs : List X) (i : ℕ) (t : Trail) → length xs ≤ i → Retraces (all (drop i xs) (stand t)) (Ok tt) t t
   none_goes none xs i t l = subst (λ d. Retraces d (Ok tt) t t) (sym (ap (λ ys. all ys (stand t)) (none_left xs i l) ∙ none (stand t))) (retraces_pass tt t)
 
-  module _ (next : (x : X) (xs : List X) (u : Stand) → all (x ∷ xs) u ≡ walk_on (one x u) (λ _ v. all xs v)) (xs : List X) (i : ℕ) (x : X) (l : i < length xs) (is : x ≡ get_or xs i x) where
-    at_item : (u : Stand) → all (drop i xs) u ≡ walk_on (one x u) (λ _ v. all (drop (i + 1) xs) v)
+  module _ (next : (x : X) (xs : List X) (u : WalkState) → all (x ∷ xs) u ≡ walk_on (one x u) (λ _ v. all xs v)) (xs : List X) (i : ℕ) (x : X) (l : i < length xs) (is : x ≡ get_or xs i x) where
+    at_item : (u : WalkState) → all (drop i xs) u ≡ walk_on (one x u) (λ _ v. all (drop (i + 1) xs) v)
     at_item u = ap (λ ys. all ys u) (next_is xs i x l is) ∙ next x (drop (i + 1) xs) u
 
     pub item_goes : (t0 t1 : Trail) → Retraces (one x (stand t0)) (Ok tt) t0 t1 → (r : Result (Unit {0}) WalkHalt) (t : Trail) →

@@ -7,7 +7,7 @@ use Rattle.calculus_rules.specs.declared.declaration.Family.{Family}
 use Rattle.calculus_rules.specs.declared.declaration.Block.{Block}
 use Rattle.pc_rules.specs.DirectedDeclarations.{with_constructors}
 use Rattle.inductive_check.specs.Given.{ctor_of, family_of}
-use Rattle.cert_rules.specs.Walk.{Stand, pass}
+use Rattle.cert_rules.specs.Walk.{WalkState, pass}
 use Rattle.cert_rules.specs.WalkDeclarations.{walk_constructors, walk_families}
 use Rattle.type_cert.specs.declared.halt.WalkHalt.{WalkHalt}
 use Rattle.type_cert.specs.declared.trail.Trail.{Trail}
@@ -34,11 +34,11 @@ module _ (v : Verifier) (B : Block) (fs : List RawFamily) (i : ℕ) where
 -- constructors
 
 module _ (v : Verifier) (B : Block) (F : Family) where
-  no_constructors : (u : Stand) → ctors_walk v B F [] u ≡ pass [] u
+  no_constructors : (u : WalkState) → ctors_walk v B F [] u ≡ pass [] u
   unfolding walk_constructors
   no_constructors u = refl
 
-  constructors_split : (c : RawCtor) (cs : List RawCtor) (u : Stand) →
+  constructors_split : (c : RawCtor) (cs : List RawCtor) (u : WalkState) →
       ctors_walk v B F (map ctor_of (c ∷ cs)) u ≡ collected (ctor_walk v B F (ctor_of c) u) (ctors_walk v B F (map ctor_of cs)) (λ D. D)
   unfolding walk_constructors
   constructors_split c cs u = refl
@@ -61,11 +61,11 @@ module _ (v : Verifier) (B : Block) (F : Family) where
 -- families
 
 module _ (v : Verifier) (B : Block) where
-  no_families : (u : Stand) → families_walk v B [] u ≡ pass [] u
+  no_families : (u : WalkState) → families_walk v B [] u ≡ pass [] u
   unfolding walk_families
   no_families u = refl
 
-  families_split : (f : RawFamily) (fs : List RawFamily) (u : Stand) →
+  families_split : (f : RawFamily) (fs : List RawFamily) (u : WalkState) →
       families_walk v B (map family_of (f ∷ fs)) u ≡
       collected (ctors_walk v B (family_of f) (map ctor_of f.ctors) u) (families_walk v B (map family_of fs)) (λ Cs. with_constructors (family_of f) Cs)
   unfolding walk_families

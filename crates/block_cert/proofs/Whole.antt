@@ -9,7 +9,7 @@ use Rattle.rule_laws.specs.Declarations.{BlockFormed, IsCheckedBlock}
 use Rattle.rule_laws.proofs.Extending.{fresh_is}
 use Rattle.type_infer.specs.Ready.{IsReady}
 use Rattle.type_infer.proofs.Beginning.{decides}
-use Rattle.cert_rules.specs.Walk.{Stand, Walk, walk_on, by_rules}
+use Rattle.cert_rules.specs.Walk.{WalkState, Walk, walk_on, by_rules}
 use Rattle.cert_rules.specs.WalkDeclarations.{walk_positive}
 use Rattle.cert_rules.proofs.SoundBlocks.{block_sound}
 use Rattle.type_cert.specs.declared.halt.WalkHalt.{WalkHalt}
@@ -31,11 +31,11 @@ not_positive true t e = absurd (cc)
 not_positive false t e = retraces_bar t.at t
 
 -- positivity, and then the rest
-module _ {A : Type 0} (H : Env) (B : Block) (k : Stand → Walk A) where
-  abbrev pub after_positivity : Stand → Walk A
+module _ {A : Type 0} (H : Env) (B : Block) (k : WalkState → Walk A) where
+  abbrev pub after_positivity : WalkState → Walk A
   after_positivity s = walk_on (by_rules (block_positive H B) s) (λ positive x. walk_on (walk_positive positive x) (λ _ y. k y))
 
-  grouped : (s : Stand) → walk_on (positivity_walk H B s) (λ _ y. k y) ≡ after_positivity s
+  grouped : (s : WalkState) → walk_on (positivity_walk H B s) (λ _ y. k y) ≡ after_positivity s
   grouped s = walk_assoc (λ positive x. walk_positive positive x) (λ _ y. k y) (by_rules (block_positive H B) s)
 
   pub positivity_then : {r : Result A WalkHalt} {t0 t1 t2 : Trail} → Retraces (positivity_walk H B (stand t0)) (Ok tt) t0 t1 → Retraces (k (stand t1)) r t1 t2 →

@@ -8,7 +8,7 @@ use Rattle.pc_rules.specs.DirectedRun as run
 use Rattle.pc_rules.specs.DirectedRun.{Run, bind}
 use Rattle.pc_rules.specs.DirectedPositivity.{both}
 use Rattle.rule_laws.proofs.Runs.{bind_both, tested, done_value}
-use Rattle.cert_rules.specs.Walk.{Items, Stand, Passed, Walk, pass, walk_on, by_rules}
+use Rattle.cert_rules.specs.Walk.{Items, WalkState, Passed, Walk, pass, walk_on, by_rules}
 use Rattle.cert_rules.specs.WalkDeclarations.{walk_positive}
 use Rattle.cert_rules.specs.Writing.{Wrote, silent, write_on, forgotten}
 use Rattle.cert_rules.proofs.Exact.{done_account, IsExact, bind_done}
@@ -55,7 +55,7 @@ then_true t n p w l =
 
 module _ (cert : Items) where
   -- with n units more on both sides
-  led_later : {A : Type 0} (n : ℕ) (u v : Account) (is : Items) (h : Stand → Walk A) (a : A) → Led cert u v is h a → Led cert (more n u) (more n v) is h a
+  led_later : {A : Type 0} (n : ℕ) (u v : Account) (is : Items) (h : WalkState → Walk A) (a : A) → Led cert u v is h a → Led cert (more n u) (more n v) is h a
   led_later n u v is h a p = record {
     falls = (let f : v.left ≤ u.left = p.falls in let z : v.left + n ≤ u.left + n = omega arith in z);
     walks = λ s l m.
@@ -76,23 +76,23 @@ module _ (cert : Items) where
   more_twice n m v = let e : v.left + m + n ≡ v.left + (n + m) = omega arith in λ i. record { left = e i; uses = v.uses }
 
   -- one after the other: what both owe
-  led_owing : {A B : Type 0} (n m : ℕ) (u v w : Account) (is js : Items) (h : Stand → Walk A) (k : A → Stand → Walk B) (a : A) (b : B) → Led cert u (more n v) is h a →
+  led_owing : {A B : Type 0} (n m : ℕ) (u v w : Account) (is js : Items) (h : WalkState → Walk A) (k : A → WalkState → Walk B) (a : A) (b : B) → Led cert u (more n v) is h a →
       Led cert v (more m w) js (k a) b → Led cert u (more (n + m) w) (is ++ js) (λ s. walk_on (h s) k) b
   led_owing n m u v w is js h k a b p q =
       subst (λ x. Led cert u x (is ++ js) (λ s. walk_on (h s) k) b) (more_twice n m w)
       (led_on cert u (more n v) (more n (more m w)) is js h k a b p (led_later n v (more m w) js (k a) b q))
 
   -- the walk is led, and owes a test that holds
-  abbrev pub Owes : {A : Type 0} → (Account → Run Bool) → Account → Account → Items → (Stand → Walk A) → A → Type 0
+  abbrev pub Owes : {A : Type 0} → (Account → Run Bool) → Account → Account → Items → (WalkState → Walk A) → A → Type 0
   Owes t u v is h a = (n : ℕ) × Holds n t × Led cert u (more n v) is h a
 
   -- directed rules that make a test, the same with items, and the walk that does not make it
-  pub record Defers {A : Type 0} (P : A → Type 0) (t : Account → Run Bool) (d : Account → Run A) (g : Account → Run (Wrote A)) (h : Stand → Walk A) : Type 0 where
+  pub record Defers {A : Type 0} (P : A → Type 0) (t : Account → Run Bool) (d : Account → Run A) (g : Account → Run (Wrote A)) (h : WalkState → Walk A) : Type 0 where
     pub forgets : (u : Account) → forgotten (g u) ≡ d u
     pub leads : (u : Account) (r : Wrote A) (v : Account) → (g u).end ≡ run.Done r v → P r.value × Owes t u v r.items h r.value
 
   -- rules without such a test
-  pub defer_none : {A : Type 0} {P : A → Type 0} {d : Account → Run A} {g : Account → Run (Wrote A)} {h : Stand → Walk A} → Traces cert P d g h →
+  pub defer_none : {A : Type 0} {P : A → Type 0} {d : Account → Run A} {g : Account → Run (Wrote A)} {h : WalkState → Walk A} → Traces cert P d g h →
       Defers P (λ u. run.done true u) d g h
   defer_none {h = h} p = record {
     forgets = p.forgets;
@@ -100,7 +100,7 @@ module _ (cert : Items) where
   }
 
   -- another test that takes the same units
-  defer_as : {A : Type 0} {P : A → Type 0} {d : Account → Run A} {g : Account → Run (Wrote A)} {h : Stand → Walk A} (t t' : Account → Run Bool) →
+  defer_as : {A : Type 0} {P : A → Type 0} {d : Account → Run A} {g : Account → Run (Wrote A)} {h : WalkState → Walk A} (t t' : Account → Run Bool) →
       ((n : ℕ) → Holds n t → Holds n t') → Defers P t d g h → Defers P t' d g h
   defer_as t t' f p = record {
     forgets = p.forgets;
@@ -108,15 +108,15 @@ module _ (cert : Items) where
   }
 
   -- a walk that ends alike
-  defer_walk : {A : Type 0} {P : A → Type 0} {d : Account → Run A} {g : Account → Run (Wrote A)} (t : Account → Run Bool) (h k : Stand → Walk A) →
-      ((s : Stand) → (k s).end ≡ (h s).end) → Defers P t d g h → Defers P t d g k
+  defer_walk : {A : Type 0} {P : A → Type 0} {d : Account → Run A} {g : Account → Run (Wrote A)} (t : Account → Run Bool) (h k : WalkState → Walk A) →
+      ((s : WalkState) → (k s).end ≡ (h s).end) → Defers P t d g h → Defers P t d g k
   defer_walk t h k e p = record {
     forgets = p.forgets;
     leads = λ u r v f. (let q = p.leads u r v f in (q.0, (q.1.0, q.1.1, led_as cert u (more q.1.0 v) r.items h k r.value e q.1.2)));
   }
 
-  pub defer_on : {A B : Type 0} {P : A → Type 0} {Q : B → Type 0} (t t' : Account → Run Bool) (d : Account → Run A) (g : Account → Run (Wrote A)) (h : Stand → Walk A)
-      (kd : A → Account → Run B) (kg : A → Account → Run (Wrote B)) (kh : A → Stand → Walk B) →
+  pub defer_on : {A B : Type 0} {P : A → Type 0} {Q : B → Type 0} (t t' : Account → Run Bool) (d : Account → Run A) (g : Account → Run (Wrote A)) (h : WalkState → Walk A)
+      (kd : A → Account → Run B) (kg : A → Account → Run (Wrote B)) (kh : A → WalkState → Walk B) →
       Defers P t d g h → ((a : A) → P a → Defers Q t' (kd a) (kg a) (kh a)) →
       Defers Q (λ u. both (t u) t') (λ u. bind (d u) kd) (λ u. write_on (g u) kg) (λ s. walk_on (h s) kh)
   defer_on {Q = Q} t t' d g h kd kg kh p q = record {
@@ -137,16 +137,16 @@ module _ (cert : Items) where
   }
 
   -- rules without a test, and then some with one
-  pub defer_first : {A B : Type 0} {P : A → Type 0} {Q : B → Type 0} (t : Account → Run Bool) (d : Account → Run A) (g : Account → Run (Wrote A)) (h : Stand → Walk A)
-      (kd : A → Account → Run B) (kg : A → Account → Run (Wrote B)) (kh : A → Stand → Walk B) →
+  pub defer_first : {A B : Type 0} {P : A → Type 0} {Q : B → Type 0} (t : Account → Run Bool) (d : Account → Run A) (g : Account → Run (Wrote A)) (h : WalkState → Walk A)
+      (kd : A → Account → Run B) (kg : A → Account → Run (Wrote B)) (kh : A → WalkState → Walk B) →
       Traces cert P d g h → ((a : A) → P a → Defers Q t (kd a) (kg a) (kh a)) →
       Defers Q t (λ u. bind (d u) kd) (λ u. write_on (g u) kg) (λ s. walk_on (h s) kh)
   defer_first t d g h kd kg kh p q =
       defer_as (λ u. both (run.done true u) t) t (after_true t) (defer_on (λ u. run.done true u) t d g h kd kg kh (defer_none p) q)
 
   -- rules with a test, and then some without one
-  pub defer_last : {A B : Type 0} {P : A → Type 0} {Q : B → Type 0} (t : Account → Run Bool) (d : Account → Run A) (g : Account → Run (Wrote A)) (h : Stand → Walk A)
-      (kd : A → Account → Run B) (kg : A → Account → Run (Wrote B)) (kh : A → Stand → Walk B) →
+  pub defer_last : {A B : Type 0} {P : A → Type 0} {Q : B → Type 0} (t : Account → Run Bool) (d : Account → Run A) (g : Account → Run (Wrote A)) (h : WalkState → Walk A)
+      (kd : A → Account → Run B) (kg : A → Account → Run (Wrote B)) (kh : A → WalkState → Walk B) →
       Defers P t d g h → ((a : A) → P a → Traces cert Q (kd a) (kg a) (kh a)) →
       Defers Q t (λ u. bind (d u) kd) (λ u. write_on (g u) kg) (λ s. walk_on (h s) kh)
   defer_last t d g h kd kg kh p q =
@@ -175,14 +175,14 @@ module _ (cert : Items) where
   }
 
   -- a test, which the walk does not make there, and then the rest
-  pub defer_skip : {B : Type 0} {P : B → Type 0} (t t' : Account → Run Bool) → ((j : ℕ) → IsExact j t t) → (x : Broken) (d : Account → Run B) (g : Account → Run (Wrote B)) (h : Stand → Walk B) →
+  pub defer_skip : {B : Type 0} {P : B → Type 0} (t t' : Account → Run Bool) → ((j : ℕ) → IsExact j t t) → (x : Broken) (d : Account → Run B) (g : Account → Run (Wrote B)) (h : WalkState → Walk B) →
       Defers P t' d g h → Defers P (λ u. both (t u) t') (λ u. bind (tested_by t x u) (λ _ v. d v)) (λ u. write_on (silent (tested_by t x) u) (λ _ v. g v)) h
   defer_skip t t' exact x d g h q =
       defer_walk (λ u. both (t u) t') (λ s. walk_on (pass tt s) (λ _ v. h v)) h (λ s. sym (passed_on cert tt s (λ _ v. h v)))
       (defer_on t t' (λ u. tested_by t x u) (λ u. silent (tested_by t x) u) (λ s. pass tt s) (λ _ v. d v) (λ _ v. g v) (λ _ v. h v) (defer_test t exact x) (λ a e. q))
 
   -- a test without units that is known to be true
-  pub defer_known : {A : Type 0} {d : Account → Run A} {g : Account → Run (Wrote A)} {h : Stand → Walk A} (b : Bool) → Traces cert (λ _. b ≡ false) d g h →
+  pub defer_known : {A : Type 0} {d : Account → Run A} {g : Account → Run (Wrote A)} {h : WalkState → Walk A} (b : Bool) → Traces cert (λ _. b ≡ false) d g h →
       Defers (λ _. Unit {0}) (λ u. run.done (not b) u) d g h
   defer_known {h = h} b p = record {
     forgets = p.forgets;
@@ -193,14 +193,14 @@ module _ (cert : Items) where
   }
 
   -- the walk makes the test at last
-  abbrev pub walk_settled : {A B : Type 0} → (Account → Run Bool) → (A → B) → A → Stand → Walk B
+  abbrev pub walk_settled : {A B : Type 0} → (Account → Run Bool) → (A → B) → A → WalkState → Walk B
   walk_settled t f a s = walk_on (by_rules t s) (λ yes x. walk_on (walk_positive yes x) (λ _ y. pass (f a) y))
 
-  settled_passes : {A B : Type 0} (t : Account → Run Bool) (f : A → B) (a : A) (s : Stand) (x : Account) → (t s.account).end ≡ run.Done true x →
+  settled_passes : {A B : Type 0} (t : Account → Run Bool) (f : A → B) (a : A) (s : WalkState) (x : Account) → (t s.account).end ≡ run.Done true x →
       (walk_settled t f a s).end ≡ Passed (f a) (record { account = x; at = s.at })
   settled_passes {B = B} t f a s x e =
-      let k : Bool → Stand → Walk B = λ yes x. walk_on (walk_positive yes x) (λ _ y. pass (f a) y) in
-      let o : Stand = record { account = x; at = s.at } in
+      let k : Bool → WalkState → Walk B = λ yes x. walk_on (walk_positive yes x) (λ _ y. pass (f a) y) in
+      let o : WalkState = record { account = x; at = s.at } in
       on_passed (by_rules t s) k true o (rules_pass cert t s true x e) ∙ passed_on cert tt o (λ _ y. pass (f a) y)
 
   led_settled : {A B : Type 0} (t : Account → Run Bool) (f : A → B) (a : A) (n : ℕ) (m : Account) → Holds n t → Led cert (more n m) m [] (walk_settled t f a) (f a)
@@ -214,7 +214,7 @@ module _ (cert : Items) where
         inr (record { account = r.0; at = s.at }, settled_passes t f a s r.0 r.1, omega arith, z));
   }
 
-  pub trace_settled : {A B : Type 0} {P : A → Type 0} (t : Account → Run Bool) (f : A → B) (d : Account → Run A) (g : Account → Run (Wrote A)) (h : Stand → Walk A) →
+  pub trace_settled : {A B : Type 0} {P : A → Type 0} (t : Account → Run Bool) (f : A → B) (d : Account → Run A) (g : Account → Run (Wrote A)) (h : WalkState → Walk A) →
       Defers P t d g h → Traces cert (λ _. Unit {0}) (λ u. bind (d u) (λ a v. run.done (f a) v)) (λ u. write_on (g u) (λ a v. silent (run.done (f a)) v))
       (λ s. walk_on (h s) (walk_settled t f))
   trace_settled {B = B} t f d g h p = record {
@@ -229,7 +229,7 @@ module _ (cert : Items) where
         let q = writing_done m (λ n. []) (run.done (f w.value) m) x v s.3.1 in
         let b : f w.value ≡ x.value = done_value q.0 in
         let c : m ≡ v = done_account q.0 in
-        let k : Stand → Walk B = λ s. walk_on (h s) (walk_settled t f) in
+        let k : WalkState → Walk B = λ s. walk_on (h s) (walk_settled t f) in
         let one : Led cert u m (w.items ++ []) k (f w.value) =
         led_on cert u (more p1.1.0 m) m w.items [] h (walk_settled t f) w.value (f w.value) p1.1.2 (led_settled t f w.value p1.1.0 m p1.1.1) in
         let two : Led cert u v (w.items ++ x.items) k x.value =

@@ -12,7 +12,7 @@ use Rattle.pc_rules.specs.DirectedWeakHead.{weak_next, whnf}
 use Rattle.pc_rules.proofs.WeakNext.{weak_next_found, none_some}
 use Rattle.pc_rules.proofs.SameTrees.{same_is, same_itself, not_true}
 use Rattle.cert_rules.specs.declared.item.CertItem.TheVariants.{Number}
-use Rattle.cert_rules.specs.Walk.{Items, Stand, Passed, Walk, pass, past, tick, paid_walk, walk_on}
+use Rattle.cert_rules.specs.Walk.{Items, WalkState, Passed, Walk, pass, past, tick, paid_walk, walk_on}
 use Rattle.cert_rules.specs.WalkSteps.{stepped, walk_steps, number_at, Reduced, reduced}
 use Rattle.cert_rules.specs.Writing.{Wrote, wrote, write_on}
 use Rattle.cert_rules.specs.MakingTyping.{make_whnf}
@@ -24,8 +24,8 @@ paid_walk_goes zero go l = absurd (omega arith)
 paid_walk_goes (suc n) go l = refl
 
 module _ (E : Env) (V : Values) where
-  pub reach_walks : (i n : ℕ) (t W : Term) (s : Stand) → Reach E V n t W → n ≤ s.account.left →
-      (x : Stand) × ((walk_steps E V i n t s).end ≡ Passed W x) × (x.at ≡ s.at) × (s.account.left ≡ n + x.account.left)
+  pub reach_walks : (i n : ℕ) (t W : Term) (s : WalkState) → Reach E V n t W → n ≤ s.account.left →
+      (x : WalkState) × ((walk_steps E V i n t s).end ≡ Passed W x) × (x.at ≡ s.at) × (s.account.left ≡ n + x.account.left)
   unfolding walk_steps
   reach_walks i _ t _ s (arrived e) l = let z : s.account.left ≡ 0 + s.account.left = omega arith in (s, refl, refl, z)
   reach_walks i _ t W s (onward {n = n} {x = x} e p) l =
@@ -63,7 +63,7 @@ module _ (E : Env) (V : Values) where
   reach_other n t W p z = not_true (same t W) (λ e. reach_other_at n t W p z (same_is t W e))
 
   module _ (cert : Items) where
-    pub steps_led : (f : Stand → ℕ) (n : ℕ) (t W : Term) (u v : Account) → Reach E V n t W → u.left ≡ n + v.left → Led cert u v [] (λ s. walk_steps E V (f s) n t s) W
+    pub steps_led : (f : WalkState → ℕ) (n : ℕ) (t W : Term) (u v : Account) → Reach E V n t W → u.left ≡ n + v.left → Led cert u v [] (λ s. walk_steps E V (f s) n t s) W
     steps_led f n t W u v p e = record {
       falls = omega arith;
       walks = λ s l m.
@@ -74,33 +74,33 @@ module _ (E : Env) (V : Values) where
     }
 
     -- the number of the steps, as an item
-    at_number : (n : ℕ) (s : Stand) → slice_get cert s.at ≡ Some (Number n) → (number_at (slice_get cert s.at) s).end ≡ Passed n (past s)
+    at_number : (n : ℕ) (s : WalkState) → slice_get cert s.at ≡ Some (Number n) → (number_at (slice_get cert s.at) s).end ≡ Passed n (past s)
     at_number n s e = ap (λ o. (number_at o s).end) e
 
-    reduced_passes : (n : ℕ) (t W : Term) (s : Stand) → Reach E V n t W → n ≤ s.account.left → slice_get cert s.at ≡ Some (Number n) →
-        (x : Stand) × ((reduced cert E V t s).end ≡ Passed (record { item = s.at; count = n; term = W }) x) × (x.at ≡ s.at + 1) × (s.account.left ≡ n + x.account.left)
+    reduced_passes : (n : ℕ) (t W : Term) (s : WalkState) → Reach E V n t W → n ≤ s.account.left → slice_get cert s.at ≡ Some (Number n) →
+        (x : WalkState) × ((reduced cert E V t s).end ≡ Passed (record { item = s.at; count = n; term = W }) x) × (x.at ≡ s.at + 1) × (s.account.left ≡ n + x.account.left)
     unfolding reduced
     reduced_passes n t W s p l e =
         let r = reach_walks s.at n t W (past s) p l in
-        let k2 : ℕ → Term → Stand → Walk Reduced = λ n W w. pass (record { item = s.at; count = n; term = W }) w in
-        let k1 : ℕ → Stand → Walk Reduced = λ n v. walk_on (walk_steps E V s.at n t v) (k2 n) in (
+        let k2 : ℕ → Term → WalkState → Walk Reduced = λ n W w. pass (record { item = s.at; count = n; term = W }) w in
+        let k1 : ℕ → WalkState → Walk Reduced = λ n v. walk_on (walk_steps E V s.at n t v) (k2 n) in (
           r.0,
           on_passed (number_at (slice_get cert s.at) s) k1 n (past s) (at_number n s e) ∙ on_passed (walk_steps E V s.at n t (past s)) (k2 n) W r.0 r.1,
           r.2,
           r.3,
         )
 
-    module _ {B : Type 0} (n : ℕ) (t W : Term) (u v w : Account) (js : Items) (kh : ℕ → ℕ → Term → Stand → Walk B) (b : B) (p : Reach E V n t W) (z : u.left ≡ n + v.left)
+    module _ {B : Type 0} (n : ℕ) (t W : Term) (u v w : Account) (js : Items) (kh : ℕ → ℕ → Term → WalkState → Walk B) (b : B) (p : Reach E V n t W) (z : u.left ≡ n + v.left)
         (q : (i : ℕ) → Led cert v w js (kh i n W) b) where
-      reduced_walks : (s : Stand) → Lies cert s.at (Number n ∷ js) → u.left ≤ s.account.left + w.left →
+      reduced_walks : (s : WalkState) → Lies cert s.at (Number n ∷ js) → u.left ≤ s.account.left + w.left →
           Goes cert (walk_on (reduced cert E V t s) (λ r x. kh r.item r.count r.term x)) b (s.at + length (Number n ∷ js)) (s.account.left + w.left) u.left
       reduced_walks s l m =
           let f : w.left ≤ v.left = (q 0).falls in
           let r = reduced_passes n t W s p (omega arith) l.0 in
-          let x : Stand = r.0 in
+          let x : WalkState = r.0 in
           let at : x.at ≡ s.at + 1 = r.2 in
           let d : s.account.left ≡ n + x.account.left = r.3 in
-          let k1 : Reduced → Stand → Walk B = λ r x. kh r.item r.count r.term x in
+          let k1 : Reduced → WalkState → Walk B = λ r x. kh r.item r.count r.term x in
           let e = on_passed (reduced cert E V t s) k1 (record { item = s.at; count = n; term = W }) x r.1 in
           elim ((q s.at).walks x (subst (λ i. Lies cert i js) (sym at) l.1) (omega arith)) [
             | inl c ↦ inl (e ∙ c)
@@ -121,7 +121,7 @@ module _ (E : Env) (V : Values) where
         (r.0, r.1, z, omega arith)
 
     -- a reduction with its number, and what follows
-    pub trace_reduced : {B : Type 0} {P : B → Type 0} (t : Term) (kd : Term → Account → Run B) (kg : Term → Account → Run (Wrote B)) (kh : ℕ → ℕ → Term → Stand → Walk B) →
+    pub trace_reduced : {B : Type 0} {P : B → Type 0} (t : Term) (kd : Term → Account → Run B) (kg : Term → Account → Run (Wrote B)) (kh : ℕ → ℕ → Term → WalkState → Walk B) →
         ((n : ℕ) (W : Term) → Reach E V n t W → (i : ℕ) → Traces cert P (kd W) (kg W) (kh i n W)) →
         Traces cert P (λ u. bind (whnf E V t u) kd) (λ u. write_on (make_whnf E V t u) kg) (λ s. walk_on (reduced cert E V t s) (λ r x. kh r.item r.count r.term x))
     trace_reduced {P = P} t kd kg kh q = record {

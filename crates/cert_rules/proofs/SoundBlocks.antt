@@ -36,7 +36,7 @@ use Rattle.rule_laws.proofs.Extending.{FindsAs, all_more, constructors_more, fin
 use Rattle.rule_laws.proofs.Positive.{block_positive_is}
 use Rattle.rule_laws.proofs.Comparing.{entails}
 use Rattle.rule_laws.proofs.Blocks.{names_in, Distinct, are_new, all_pairs, HeadFits, HeadsFit, heads_counted}
-use Rattle.cert_rules.specs.Walk.{Items, Stand, Walk, Passed, pass, walk_on, by_rules}
+use Rattle.cert_rules.specs.Walk.{Items, WalkState, Walk, Passed, pass, walk_on, by_rules}
 use Rattle.cert_rules.specs.Scripts.{Script, script}
 use Rattle.cert_rules.specs.WalkTyping.{Walking, walk_infer, walk_sort_of, walk_sorts_of, walk_check_all}
 use Rattle.cert_rules.specs.WalkDeclarations.{walk_head, walk_heads, walk_block_heads, walk_arguments, walk_constructor, walk_constructors, walk_families, walk_positive, walk_block}
@@ -49,11 +49,11 @@ use Rattle.cert_rules.proofs.SoundTyping.{infer_sound}
 -- the heads of a block
 
 module _ (cert : Items) (E : Env) (w : HasCountedDeclarations E) (inf : Walking) (si : Infers E inf) (B : Block) (params : AreCounted E B.params) where
-  head_sound : (F : Family) (u v : Stand) → AllFormed F.indices → (walk_head cert E inf B F u).end ≡ Passed tt v → HeadFits E B F
+  head_sound : (F : Family) (u v : WalkState) → AllFormed F.indices → (walk_head cert E inf B F u).end ≡ Passed tt v → HeadFits E B F
   head_sound F u v f h =
-      let k3 : List Sort → Stand → Walk (Unit {0}) = λ xs x. pass tt x in
-      let k2 : Unit {0} → Stand → Walk (Unit {0}) = λ _ w. walk_on (walk_sorts_of cert E inf (extend [] B.params) F.indices w) k3 in
-      let k1 : Unit {0} → Stand → Walk (Unit {0}) = λ _ v. walk_on (by_rules (levels_declared (undeclared_in E.levels F.sort)) v) k2 in
+      let k3 : List Sort → WalkState → Walk (Unit {0}) = λ xs x. pass tt x in
+      let k2 : Unit {0} → WalkState → Walk (Unit {0}) = λ _ w. walk_on (walk_sorts_of cert E inf (extend [] B.params) F.indices w) k3 in
+      let k1 : Unit {0} → WalkState → Walk (Unit {0}) = λ _ v. walk_on (by_rules (levels_declared (undeclared_in E.levels F.sort)) v) k2 in
       let p1 = on_both (by_rules (distinct_names [] F.ctors) u) k1 tt v h in
       let p2 = on_both (by_rules (levels_declared (undeclared_in E.levels F.sort)) p1.1) k2 tt v p1.3 in
       let p3 = on_both (walk_sorts_of cert E inf (extend [] B.params) F.indices p2.1) k3 tt v p2.3 in
@@ -67,7 +67,7 @@ module _ (cert : Items) (E : Env) (w : HasCountedDeclarations E) (inf : Walking)
         all = es.all;
       }
 
-  heads_sound : (Fs : List Family) (u v : Stand) → FamiliesFormed Fs → (walk_heads cert E inf B Fs u).end ≡ Passed tt v → HeadsFit E B Fs
+  heads_sound : (Fs : List Family) (u v : WalkState) → FamiliesFormed Fs → (walk_heads cert E inf B Fs u).end ≡ Passed tt v → HeadsFit E B Fs
   heads_sound [] u v f h = tt
   heads_sound (F ∷ Fs) u v f h =
       let p = on_both (walk_head cert E inf B F u) (λ _ v. walk_heads cert E inf B Fs v) tt v h in
@@ -91,15 +91,15 @@ module _ (cert : Items) (H : Env) (w : HasCountedDeclarations H) (inf : Walking)
     all : AreCounted H As
     over : AreSortsOver H.levels ss
 
-  arguments_sound : (r : Sort) (c : Context) (As : List Term) (ss : List Sort) (u v : Stand) → IsCountedContext H c → AllFormed As →
+  arguments_sound : (r : Sort) (c : Context) (As : List Term) (ss : List Sort) (u v : WalkState) → IsCountedContext H c → AllFormed As →
       (walk_arguments cert H q inf r c As u).end ≡ Passed ss v → AreArguments r c As ss
   unfolding walk_arguments
   arguments_sound r c [] ss u v kc fs h =
       subst (λ ss. AreArguments r c [] ss) (passed_value h) (record { sorts = no_sorts; small = λ p. tt; all = tt; over = tt })
   arguments_sound r c (A ∷ As) ss u v kc fs h =
-      let k3 : Sort → List Sort → Stand → Walk (List Sort) = λ x xs y. pass (x ∷ xs) y in
-      let k2 : Sort → Unit {0} → Stand → Walk (List Sort) = λ x _ w. walk_on (walk_arguments cert H q inf r (Assumed A ∷ c) As w) (k3 x) in
-      let k1 : Sort → Stand → Walk (List Sort) = λ x v. walk_on (by_rules (fits_sort q r x) v) (k2 x) in
+      let k3 : Sort → List Sort → WalkState → Walk (List Sort) = λ x xs y. pass (x ∷ xs) y in
+      let k2 : Sort → Unit {0} → WalkState → Walk (List Sort) = λ x _ w. walk_on (walk_arguments cert H q inf r (Assumed A ∷ c) As w) (k3 x) in
+      let k1 : Sort → WalkState → Walk (List Sort) = λ x v. walk_on (by_rules (fits_sort q r x) v) (k2 x) in
       let p1 = on_both (walk_sort_of cert H inf c A u) k1 ss v h in
       let s : Sort = p1.0 in
       let p2 = on_both (by_rules (fits_sort q r s) p1.1) (k2 s) ss v p1.3 in
@@ -122,15 +122,15 @@ module _ (cert : Items) (H : Env) (w : HasCountedDeclarations H) (inf : Walking)
       same : plain_constructor D ≡ plain_constructor C
       all : AreCounted H D.args × AreCounted H D.result × AreSortsOver H.levels D.arg_sorts
 
-    constructor_sound : (F : Family) (C D : Constructor) (u v : Stand) → AreCounted H F.indices → AllFormed C.args × AllFormed C.result → ConstructorPositive H B.name C →
+    constructor_sound : (F : Family) (C D : Constructor) (u v : WalkState) → AreCounted H F.indices → AllFormed C.args × AllFormed C.result → ConstructorPositive H B.name C →
         (walk_constructor cert H q inf cmp B F C u).end ≡ Passed D v → IsConstructor F C D
     constructor_sound F C D u v wi fc positive h =
         let c : Context = extend [] B.params in
         let d : Context = extend c C.args in
         let s : ℕ → Term = λ i. Rel (length C.args + i) in
-        let k3 : List Sort → Unit {0} → Stand → Walk Constructor = λ xs _ x. pass (with_sorts C xs) x in
-        let k2 : List Sort → Unit {0} → Stand → Walk Constructor = λ xs _ w. walk_on (walk_check_all cert H inf cmp d s C.result F.indices w) (k3 xs) in
-        let k1 : List Sort → Stand → Walk Constructor = λ xs v. walk_on (by_rules (counted (length F.indices) (length C.result)) v) (k2 xs) in
+        let k3 : List Sort → Unit {0} → WalkState → Walk Constructor = λ xs _ x. pass (with_sorts C xs) x in
+        let k2 : List Sort → Unit {0} → WalkState → Walk Constructor = λ xs _ w. walk_on (walk_check_all cert H inf cmp d s C.result F.indices w) (k3 xs) in
+        let k1 : List Sort → WalkState → Walk Constructor = λ xs v. walk_on (by_rules (counted (length F.indices) (length C.result)) v) (k2 xs) in
         let p1 = on_both (walk_arguments cert H q inf F.sort c C.args u) k1 D v h in
         let ss : List Sort = p1.0 in
         let p2 = on_both (by_rules (counted (length F.indices) (length C.result)) p1.1) (k2 ss) D v p1.3 in
@@ -158,13 +158,13 @@ module _ (cert : Items) (H : Env) (w : HasCountedDeclarations H) (inf : Walking)
       same : map plain_constructor Ds ≡ map plain_constructor Cs
       all : AreCountedConstructors H Ds
 
-    constructors_sound : (F : Family) (Cs Ds : List Constructor) (u v : Stand) → AreCounted H F.indices → ConstructorsFormed Cs → ArePositiveConstructors H B.name Cs →
+    constructors_sound : (F : Family) (Cs Ds : List Constructor) (u v : WalkState) → AreCounted H F.indices → ConstructorsFormed Cs → ArePositiveConstructors H B.name Cs →
         (walk_constructors cert H q inf cmp B F Cs u).end ≡ Passed Ds v → AreConstructors F Cs Ds
     unfolding walk_constructors
     constructors_sound F [] Ds u v wi fc positive h =
         subst (λ Ds. AreConstructors F [] Ds) (passed_value h) (record { fit = tt; names = refl; same = refl; all = tt })
     constructors_sound F (C ∷ Cs) Ds u v wi fc positive h =
-        let k1 : Constructor → Stand → Walk (List Constructor) = λ D v. walk_on (walk_constructors cert H q inf cmp B F Cs v) (λ Ds w. pass (D ∷ Ds) w) in
+        let k1 : Constructor → WalkState → Walk (List Constructor) = λ D v. walk_on (walk_constructors cert H q inf cmp B F Cs v) (λ Ds w. pass (D ∷ Ds) w) in
         let p1 = on_both (walk_constructor cert H q inf cmp B F C u) k1 Ds v h in
         let D : Constructor = p1.0 in
         let p2 = on_both (walk_constructors cert H q inf cmp B F Cs p1.1) (λ Ds w. pass (D ∷ Ds) w) Ds v p1.3 in
@@ -193,13 +193,13 @@ module _ (cert : Items) (H : Env) (w : HasCountedDeclarations H) (inf : Walking)
         same : map plain_family Gs ≡ map plain_family Fs
         all : AreCountedFamilies E Gs
 
-      families_sound : (Fs Gs : List Family) (u v : Stand) → HeadsFit E B Fs → FamiliesFormed Fs → ArePositiveFamilies H B.name Fs →
+      families_sound : (Fs Gs : List Family) (u v : WalkState) → HeadsFit E B Fs → FamiliesFormed Fs → ArePositiveFamilies H B.name Fs →
           (walk_families cert H q inf cmp B Fs u).end ≡ Passed Gs v → AreFamilies Fs Gs
       unfolding walk_families
       families_sound [] Gs u v hs fs positive h = subst (λ Gs. AreFamilies [] Gs) (passed_value h) (record { fit = tt; heads = refl; same = refl; all = tt })
       families_sound (F ∷ Fs) Gs u v hs fs positive h =
-          let k2 : List Constructor → List Family → Stand → Walk (List Family) = λ Cs Gs w. pass (with_constructors F Cs ∷ Gs) w in
-          let k1 : List Constructor → Stand → Walk (List Family) = λ Cs v. walk_on (walk_families cert H q inf cmp B Fs v) (k2 Cs) in
+          let k2 : List Constructor → List Family → WalkState → Walk (List Family) = λ Cs Gs w. pass (with_constructors F Cs ∷ Gs) w in
+          let k1 : List Constructor → WalkState → Walk (List Family) = λ Cs v. walk_on (walk_families cert H q inf cmp B Fs v) (k2 Cs) in
           let p1 = on_both (walk_constructors cert H q inf cmp B F F.ctors u) k1 Gs v h in
           let Cs : List Constructor = p1.0 in
           let p2 = on_both (walk_families cert H q inf cmp B Fs p1.1) (k2 Cs) Gs v p1.3 in
@@ -237,14 +237,14 @@ module _ (cert : Items) (H : Env) (w : HasCountedDeclarations H) (inf : Walking)
 
 -- the whole block
 
-pub block_sound : (cert : Items) (E : Env) (q : Test) → IsTest E.levels E.constraints q → HasCountedDeclarations E → (n : ℕ) (B D : Block) (u v : Stand) →
+pub block_sound : (cert : Items) (E : Env) (q : Test) → IsTest E.levels E.constraints q → HasCountedDeclarations E → (n : ℕ) (B D : Block) (u v : WalkState) →
     IsFresh B.name E.declarations → BlockFormed B → (walk_block cert E q n B u).end ≡ Passed D v → IsCheckedBlock E B D
 block_sound cert E q test w n B D u v fresh fb h =
     let H : Env = with_heads E B in
-    let k4 : List Family → Unit {0} → Stand → Walk Block = λ Fs _ y. pass (with_families B Fs) y in
-    let k3 : List Family → Bool → Stand → Walk Block = λ Fs positive x. walk_on (walk_positive positive x) (k4 Fs) in
-    let k2 : List Family → Stand → Walk Block = λ Fs w. walk_on (by_rules (block_positive H B) w) (k3 Fs) in
-    let k1 : Unit {0} → Stand → Walk Block = λ _ v. walk_on (walk_families cert H q (walk_infer cert H q n) (script cert H q n) B B.families v) k2 in
+    let k4 : List Family → Unit {0} → WalkState → Walk Block = λ Fs _ y. pass (with_families B Fs) y in
+    let k3 : List Family → Bool → WalkState → Walk Block = λ Fs positive x. walk_on (walk_positive positive x) (k4 Fs) in
+    let k2 : List Family → WalkState → Walk Block = λ Fs w. walk_on (by_rules (block_positive H B) w) (k3 Fs) in
+    let k1 : Unit {0} → WalkState → Walk Block = λ _ v. walk_on (walk_families cert H q (walk_infer cert H q n) (script cert H q n) B B.families v) k2 in
     let p1 = on_both (walk_block_heads cert E (walk_infer cert E q n) B u) k1 D v h in
     let p2 = on_both (walk_families cert H q (walk_infer cert H q n) (script cert H q n) B B.families p1.1) k2 D v p1.3 in
     let Gs : List Family = p2.0 in
@@ -255,7 +255,7 @@ block_sound cert E q test w n B D u v fresh fb h =
     let positive : ArePositiveFamilies H B.name B.families =
     block_positive_is H B p2.1.account r3.0 (subst (λ b. (block_positive H B p2.1.account).end ≡ run.Done b r3.0) yes r3.1) in
     let si = infer_sound cert E w q test n in
-    let k5 : List Sort → Stand → Walk (Unit {0}) = λ xs v. walk_heads cert E (walk_infer cert E q n) B B.families v in
+    let k5 : List Sort → WalkState → Walk (Unit {0}) = λ xs v. walk_heads cert E (walk_infer cert E q n) B B.families v in
     let p5 = on_both (walk_sorts_of cert E (walk_infer cert E q n) [] B.params u) k5 tt p1.1 p1.2 in
     let es = entries_sound cert E w (walk_infer cert E q n) si [] B.params p5.0 u p5.1 tt fb.0 p5.2 in
     let hs : HeadsFit E B B.families = heads_sound cert E w (walk_infer cert E q n) si B es.all B.families p5.1 p1.1 fb.1 p5.3 in

@@ -22,7 +22,7 @@ use Rattle.rule_laws.specs.Declarations.{plain, plain_given, IsCheckedDeclaratio
 use Rattle.rule_laws.proofs.Extending.{fresh_is, env_more}
 use Rattle.rule_laws.proofs.Environments.{distinct_levels, are_over, nothing_counted}
 pub use Rattle.rule_laws.proofs.Environments.{name_is_new}
-use Rattle.cert_rules.specs.Walk.{Items, Stand, Walk, Passed, pass, walk_on, by_rules}
+use Rattle.cert_rules.specs.Walk.{Items, WalkState, Walk, Passed, pass, walk_on, by_rules}
 use Rattle.cert_rules.specs.Scripts.{script}
 use Rattle.cert_rules.specs.WalkTyping.{walk_infer, walk_sort_of}
 use Rattle.cert_rules.specs.WalkDeclarations.{walk_block, walk_body, walk_constant, walk_declaration, walk_end, walk_declarations, walk_unless, walk_environment}
@@ -42,19 +42,19 @@ module _ (cert : Items) (levels : ℕ) (cs : List Constraint) (q : Test) (test :
     fits : BodyFits E T b
     all : IsCountedBody E b
 
-  body_sound : (E : Env) → IsTest E.levels E.constraints q → HasCountedDeclarations E → (n : ℕ) (T : Term) (b : Option Term) (u v : Stand) → IsFormed T → BodyFormed b →
+  body_sound : (E : Env) → IsTest E.levels E.constraints q → HasCountedDeclarations E → (n : ℕ) (T : Term) (b : Option Term) (u v : WalkState) → IsFormed T → BodyFormed b →
       (walk_body cert E (walk_infer cert E q n) (script cert E q n) T b u).end ≡ Passed tt v → BodyIs E T b
   body_sound E t w n T None u v fT fb h = record { fits = tt; all = tt }
   body_sound E t w n T (Some b) u v fT fb h =
       let c = check_sound cert E w (walk_infer cert E q n) (infer_sound cert E w q t n) (script cert E q n) (script_sound E q t cert n) [] b T u v tt fb fT h in
       record { fits = c.0; all = c.1 }
 
-  pub constant_sound : (ds : List Kept) → AcceptedSoFar ds → (n : ℕ) (k : Name) (T : Term) (b : Option Term) (e : Kept) (u v : Stand) → IsFresh k ds → IsFormed T → BodyFormed b →
+  pub constant_sound : (ds : List Kept) → AcceptedSoFar ds → (n : ℕ) (k : Name) (T : Term) (b : Option Term) (e : Kept) (u v : WalkState) → IsFresh k ds → IsFormed T → BodyFormed b →
       (walk_constant cert (env levels cs ds) q n k T b u).end ≡ Passed e v → IsCheckedDeclaration levels cs ds (GivenConstant k T b) e
   constant_sound ds a n k T b e u v fresh fT fb h =
       let E : Env = env levels cs ds in
-      let k2 : Unit {0} → Stand → Walk Kept = λ _ w. pass (Constant k T b) w in
-      let k1 : Sort → Stand → Walk Kept = λ x v. walk_on (walk_body cert E (walk_infer cert E q n) (script cert E q n) T b v) k2 in
+      let k2 : Unit {0} → WalkState → Walk Kept = λ _ w. pass (Constant k T b) w in
+      let k1 : Sort → WalkState → Walk Kept = λ x v. walk_on (walk_body cert E (walk_infer cert E q n) (script cert E q n) T b v) k2 in
       let p1 = on_both (walk_sort_of cert E (walk_infer cert E q n) [] T u) k1 e v h in
       let p2 = on_both (walk_body cert E (walk_infer cert E q n) (script cert E q n) T b p1.1) k2 e v p1.3 in
       let s = sort_sound cert E a.1 (walk_infer cert E q n) (infer_sound cert E a.1 q test n) [] T p1.0 u p1.1 tt fT p1.2 in
@@ -66,7 +66,7 @@ module _ (cert : Items) (levels : ℕ) (cs : List Constraint) (q : Test) (test :
         same = refl;
       })
 
-  pub declaration_sound : (ds : List Kept) → AcceptedSoFar ds → (n : ℕ) (d : Given) (e : Kept) (u v : Stand) → GivenFormed d →
+  pub declaration_sound : (ds : List Kept) → AcceptedSoFar ds → (n : ℕ) (d : Given) (e : Kept) (u v : WalkState) → GivenFormed d →
       (walk_declaration cert (env levels cs ds) q n d u).end ≡ Passed e v → IsCheckedDeclaration levels cs ds d e
   declaration_sound ds a n (GivenConstant k T b) e u v f h =
       let E : Env = env levels cs ds in
@@ -75,8 +75,8 @@ module _ (cert : Items) (levels : ℕ) (cs : List Constraint) (q : Test) (test :
       constant_sound ds a n k T b e p.1 v (fresh_is ds k (name_is_new (kept_at ds k) k u.account r.0 r.1)) f.0 f.1 p.3
   declaration_sound ds a n (GivenBlock B) e u v f h =
       let E : Env = env levels cs ds in
-      let k2 : Block → Stand → Walk Kept = λ D w. pass (Whole D) w in
-      let k1 : Unit {0} → Stand → Walk Kept = λ _ v. walk_on (walk_block cert E q n B v) k2 in
+      let k2 : Block → WalkState → Walk Kept = λ D w. pass (Whole D) w in
+      let k1 : Unit {0} → WalkState → Walk Kept = λ _ v. walk_on (walk_block cert E q n B v) k2 in
       let p1 = on_both (by_rules (fresh_name (kept_at ds B.name) B.name) u) k1 e v h in
       let p2 = on_both (walk_block cert E q n B p1.1) k2 e v p1.3 in
       let r = rules_passed (fresh_name (kept_at ds B.name) B.name) u tt p1.1 p1.2 in
@@ -101,7 +101,7 @@ module _ (cert : Items) (levels : ℕ) (cs : List Constraint) (q : Test) (test :
     typed : Types guarded (env levels cs kept) [] main T
     same : map plain kept ≡ reverse (map plain_given rest) ++ map plain ds
 
-  declarations_sound : (n : ℕ) (ds : List Kept) (rest : List Given) (main T : Term) (E : Env) (u v : Stand) → Accepted levels cs ds → HasCountedDeclarations (env levels cs ds) →
+  declarations_sound : (n : ℕ) (ds : List Kept) (rest : List Given) (main T : Term) (E : Env) (u v : WalkState) → Accepted levels cs ds → HasCountedDeclarations (env levels cs ds) →
       AllGivenFormed rest → IsFormed main → (walk_declarations cert levels cs q n ds rest main u).end ≡ Passed (E, T) v → IsEnd ds rest main E T
   unfolding walk_declarations
   declarations_sound n ds [] main T E u v a w fs fm h =
@@ -132,13 +132,13 @@ module _ (cert : Items) (levels : ℕ) (cs : List Constraint) (q : Test) (test :
 
 -- the whole
 
-unless_passed : {A : Type 0} (o : Option A) (go : Walk (Env × Term)) (s : Stand) (r : Env × Term) (v : Stand) → (walk_unless o go s).end ≡ Passed r v →
+unless_passed : {A : Type 0} (o : Option A) (go : Walk (Env × Term)) (s : WalkState) (r : Env × Term) (v : WalkState) → (walk_unless o go s).end ≡ Passed r v →
     (o ≡ None) × (go.end ≡ Passed r v)
 unless_passed None go s r v h = (refl, h)
 unless_passed (Some a) go s r v h = absurd (barred_passed h)
 
 pub environment_sound : (cert : Items) (levels : List Level) (cs : List Constraint) (cycle : Option (List ℕ)) (q : Test) → IsTest (length levels) cs q →
-    (cycle ≡ None → IsConsistent (length levels) cs) → (n : ℕ) (ds : List Given) (main T : Term) (E : Env) (u v : Stand) → AllGivenFormed ds → IsFormed main →
+    (cycle ≡ None → IsConsistent (length levels) cs) → (n : ℕ) (ds : List Given) (main T : Term) (E : Env) (u v : WalkState) → AllGivenFormed ds → IsFormed main →
     (walk_environment cert levels cs cycle q n ds main u).end ≡ Passed (E, T) v → IsCheckedEnvironment levels cs ds main E T
 environment_sound cert levels cs cycle q test consistent k ds main T E u v fs fm h =
     let n : ℕ = length levels in

@@ -24,7 +24,7 @@ use Rattle.rule_laws.proofs.SimpleRules.{formed}
 use Rattle.rule_laws.proofs.FixRule.{enough, a_family, begins, recurses, named_type, name_at}
 use Rattle.rule_laws.proofs.Guarding.{guard_sound}
 pub use Rattle.rule_laws.proofs.FixRule.{shifted_formed}
-use Rattle.cert_rules.specs.Walk.{Items, Stand, Walk, Passed, pass, walk_on, by_rules}
+use Rattle.cert_rules.specs.Walk.{Items, WalkState, Walk, Passed, pass, walk_on, by_rules}
 use Rattle.cert_rules.specs.WalkSteps.{Reduced, reduced}
 use Rattle.cert_rules.specs.Scripts.{Script}
 use Rattle.cert_rules.specs.WalkTyping.{Walking, walk_sort_of, walk_check, walk_types, walk_family_found, walk_definition, walk_definitions, walk_fix}
@@ -42,7 +42,7 @@ module _ (cert : Items) (E : Env) (w : HasCountedDeclarations E) (inf : Walking)
   next_types : (c : Context) (n m : ℕ) (T : Term) (ts : Terms) → m ≡ 0 → AreTypes c n (Next 0 T ts) → AreTypes c n (Next m T ts)
   next_types c n m T ts e h = subst (λ m. AreTypes c n (Next m T ts)) (sym e) h
 
-  pub types_sound : (c : Context) (n : ℕ) (types : Terms) (u v : Stand) → IsCountedContext E c → AreAll 0 (binders_of types) → EachTerm HasForm types →
+  pub types_sound : (c : Context) (n : ℕ) (types : Terms) (u v : WalkState) → IsCountedContext E c → AreAll 0 (binders_of types) → EachTerm HasForm types →
       (walk_types cert E inf c n (list_of types) u).end ≡ Passed tt v → AreTypes c n types
   unfolding walk_types
   types_sound c n Done u v k a f h = record { sorts = no_types; all = tt; context = k }
@@ -66,14 +66,14 @@ module _ (cert : Items) (E : Env) (w : HasCountedDeclarations E) (inf : Walking)
       subject : IsCounted E body
       begin : BeginsWith (suc rarg) body
 
-    definition_sound : (c : Context) (n d rarg : ℕ) (T body : Term) (u v : Stand) → IsCountedContext E c → IsCounted E T → IsFormed body →
+    definition_sound : (c : Context) (n d rarg : ℕ) (T body : Term) (u v : WalkState) → IsCountedContext E c → IsCounted E T → IsFormed body →
         (walk_definition cert E inf cmp c n d rarg T body u).end ≡ Passed tt v → IsDefinition c n rarg T body
     definition_sound c n d rarg T body u v k wT f h =
         let S : Term = shift n 0 T in
-        let k4 : Reduced → Stand → Walk (Unit {0}) = λ r y. walk_family_found r.item r.term y in
-        let k3 : Context × Term → Unit {0} → Stand → Walk (Unit {0}) = λ p _ x. walk_on (reduced cert E (values p.0) p.1 x) k4 in
-        let k2 : Context × Term → Term → Stand → Walk (Unit {0}) = λ p S w. walk_on (walk_check cert E inf cmp c body S w) (k3 p) in
-        let k1 : Context × Term → Stand → Walk (Unit {0}) = λ p v. walk_on (by_rules (make S) v) (k2 p) in
+        let k4 : Reduced → WalkState → Walk (Unit {0}) = λ r y. walk_family_found r.item r.term y in
+        let k3 : Context × Term → Unit {0} → WalkState → Walk (Unit {0}) = λ p _ x. walk_on (reduced cert E (values p.0) p.1 x) k4 in
+        let k2 : Context × Term → Term → WalkState → Walk (Unit {0}) = λ p S w. walk_on (walk_check cert E inf cmp c body S w) (k3 p) in
+        let k1 : Context × Term → WalkState → Walk (Unit {0}) = λ p v. walk_on (by_rules (make S) v) (k2 p) in
         let p1 = on_both (by_rules (enough_abstractions d (recursive_domain c rarg body)) u) k1 tt v h in
         let q : Context × Term = p1.0 in
         let h2 = make_then S p1.1 (k2 q) p1.3 in
@@ -100,7 +100,7 @@ module _ (cert : Items) (E : Env) (w : HasCountedDeclarations E) (inf : Walking)
         subst (λ m. AreBodies c n (r ∷ rargs) (Next m T ts) (Next m' body bs)) (sym e)
         (subst (λ m. AreBodies c n (r ∷ rargs) (Next 0 T ts) (Next m body bs)) (sym e') h)
 
-    pub bodies_sound : (c : Context) (n d : ℕ) (rargs : List ℕ) (types bodies : Terms) (u v : Stand) → IsCountedContext E c → AreAll 0 (binders_of types) → AreAll n (binders_of bodies) →
+    pub bodies_sound : (c : Context) (n d : ℕ) (rargs : List ℕ) (types bodies : Terms) (u v : WalkState) → IsCountedContext E c → AreAll 0 (binders_of types) → AreAll n (binders_of bodies) →
         length (binders_of types) ≡ length rargs → length (binders_of bodies) ≡ length rargs → EachTerm (IsCountedNode E) types → EachTerm HasForm bodies →
         (walk_definitions cert E inf cmp c n d rargs (list_of types) (list_of bodies) u).end ≡ Passed tt v → AreBodies c n rargs types bodies
     unfolding walk_definitions
@@ -116,14 +116,14 @@ module _ (cert : Items) (E : Env) (w : HasCountedDeclarations E) (inf : Walking)
         next_bodies c n m m' r rargs T body ts bs a.0 b.0
         (record { typed = a_body one.recursive one.typed rest.typed; all = (one.subject, rest.all); begin = (one.begin, rest.begin) })
 
-    pub fix_rule_sound : (c : Context) (i : ℕ) (rargs : List ℕ) (types bodies : Terms) (T : Term) (u v : Stand) → IsCountedContext E c →
+    pub fix_rule_sound : (c : Context) (i : ℕ) (rargs : List ℕ) (types bodies : Terms) (T : Term) (u v : WalkState) → IsCountedContext E c →
         IsFormed (Fix i rargs types bodies) → (walk_fix cert E inf cmp c i rargs types bodies u).end ≡ Passed T v → IsInferred E c (Fix i rargs types bodies) T
     fix_rule_sound c i rargs types bodies T u v k ff h =
         let D : Context = definitions c 0 types in
         let n : ℕ = length rargs in
-        let k3 : Unit {0} → Stand → Walk Term = λ _ x. by_rules (definition_type i n (term_at types i)) x in
-        let k2 : Unit {0} → Stand → Walk Term = λ _ w. walk_on (by_rules (fix_guard E (values c) rargs bodies) w) k3 in
-        let k1 : Unit {0} → Stand → Walk Term = λ _ v. walk_on (walk_definitions cert E inf cmp D n 0 rargs (list_of types) (list_of bodies) v) k2 in
+        let k3 : Unit {0} → WalkState → Walk Term = λ _ x. by_rules (definition_type i n (term_at types i)) x in
+        let k2 : Unit {0} → WalkState → Walk Term = λ _ w. walk_on (by_rules (fix_guard E (values c) rargs bodies) w) k3 in
+        let k1 : Unit {0} → WalkState → Walk Term = λ _ v. walk_on (walk_definitions cert E inf cmp D n 0 rargs (list_of types) (list_of bodies) v) k2 in
         let p1 = on_both (walk_types cert E inf c 0 (list_of types) u) k1 T v h in
         let p2 = on_both (walk_definitions cert E inf cmp D n 0 rargs (list_of types) (list_of bodies) p1.1) k2 T v p1.3 in
         let p3 = on_both (by_rules (fix_guard E (values c) rargs bodies) p2.1) k3 T v p2.3 in

@@ -27,7 +27,7 @@ use Rattle.rule_laws.proofs.Comparing.{names_long, list_long, first_same, rest_s
 use Rattle.rule_laws.proofs.SimpleRules.{formed, whole_family}
 use Rattle.rule_laws.proofs.MatchRule.{all_formed, formed_list, terms_are, Counted, eliminated_is, dropped_counted}
 pub use Rattle.rule_laws.proofs.MatchRule.{match_is_counted}
-use Rattle.cert_rules.specs.Walk.{Items, Stand, Walk, Passed, pass, walk_on, by_rules}
+use Rattle.cert_rules.specs.Walk.{Items, WalkState, Walk, Passed, pass, walk_on, by_rules}
 use Rattle.cert_rules.specs.WalkSteps.{Reduced, reduced}
 use Rattle.cert_rules.specs.Scripts.{Script}
 use Rattle.cert_rules.specs.WalkTyping.{Walking, walk_sort_of, walk_retype, walk_fits, walk_check, walk_check_all, walk_sorts_of, walk_found_family, walk_scrutinee, walk_branch, walk_branches, walk_predicate, walk_case}
@@ -42,7 +42,7 @@ module _ (cert : Items) (E : Env) (w : HasCountedDeclarations E) (inf : Walking)
     pub sorts : EntrySorts guarded E c As ss
     pub all : AreCounted E As
 
-  pub entries_sound : (c : Context) (As : List Term) (ss : List Sort) (u v : Stand) → IsCountedContext E c → AllFormed As →
+  pub entries_sound : (c : Context) (As : List Term) (ss : List Sort) (u v : WalkState) → IsCountedContext E c → AllFormed As →
       (walk_sorts_of cert E inf c As u).end ≡ Passed ss v → AreEntries c As ss
   unfolding walk_sorts_of
   entries_sound c [] ss u v k f h =
@@ -63,14 +63,14 @@ module _ (cert : Items) (E : Env) (w : HasCountedDeclarations E) (inf : Walking)
     may : MayEliminate E f F target
     subject : IsCounted E ret
 
-  predicate_sound : (c : Context) (f : FamilyId) (F : FamilyDecl) (ps : List Term) (ret : Term) (u v : Stand) → IsCountedContext E c →
+  predicate_sound : (c : Context) (f : FamilyId) (F : FamilyDecl) (ps : List Term) (ret : Term) (u v : WalkState) → IsCountedContext E c →
       family_of E f ≡ Some F → IsCountedFamilyDecl E F → AreCounted E ps → IsFormed ret →
       (walk_predicate cert E inf c (whole_block (kept_at E.declarations f.block)) f F ps ret u).end ≡ Passed tt v → IsPredicate c f F ps ret
   predicate_sound c f F ps ret u v k q wF wps fr h =
       let B : Option Block = whole_block (kept_at E.declarations f.block) in
       let D : Context = extend c (predicate_entries f F ps) in
-      let k3 : Sort → Stand → Walk (Unit {0}) = λ x y. by_rules (eliminated B f F x) y in
-      let k2 : List Sort → Stand → Walk (Unit {0}) = λ _ w. walk_on (walk_sort_of cert E inf D ret w) k3 in
+      let k3 : Sort → WalkState → Walk (Unit {0}) = λ x y. by_rules (eliminated B f F x) y in
+      let k2 : List Sort → WalkState → Walk (Unit {0}) = λ _ w. walk_on (walk_sort_of cert E inf D ret w) k3 in
       let h1 = pass_then (any_beyond (predicate_entries f F ps)) u (λ _ v. walk_on (walk_sorts_of cert E inf c (predicate_entries f F ps) v) k2) h in
       let p1 = on_both (walk_sorts_of cert E inf c (predicate_entries f F ps) u) k2 tt v h1 in
       let p2 = on_both (walk_sort_of cert E inf D ret p1.1) k3 tt v p1.3 in
@@ -82,14 +82,14 @@ module _ (cert : Items) (E : Env) (w : HasCountedDeclarations E) (inf : Walking)
 
   module _ (cmp : Script) (sc : Shows E cmp) where
     -- terms against a telescope
-    pub all_sound : (c : Context) (s : ℕ → Term) (ts As : List Term) (u v : Stand) → IsCountedContext E c → PutsCounted E s → length ts ≡ length As →
+    pub all_sound : (c : Context) (s : ℕ → Term) (ts As : List Term) (u v : WalkState) → IsCountedContext E c → PutsCounted E s → length ts ≡ length As →
         AllFormed ts → AreCounted E As → (walk_check_all cert E inf cmp c s ts As u).end ≡ Passed tt v → TypesAll guarded E c s ts As × AreCounted E ts
     unfolding walk_check_all
     all_sound c s [] [] u v k ps l f a h = (no_terms, tt)
     all_sound c s [] (A ∷ As) u v k ps l f a h = no_suc (sym l)
     all_sound c s (t ∷ ts) [] u v k ps l f a h = no_suc l
     all_sound c s (t ∷ ts) (A ∷ As) u v k ps l f a h =
-        let k2 : Unit {0} → Stand → Walk (Unit {0}) = λ _ w. walk_check_all cert E inf cmp c (first t s) ts As w in
+        let k2 : Unit {0} → WalkState → Walk (Unit {0}) = λ _ w. walk_check_all cert E inf cmp c (first t s) ts As w in
         let h1 = make_then (substitute s A) u (λ T v. walk_on (walk_check cert E inf cmp c t T v) k2) h in
         let p = on_both (walk_check cert E inf cmp c t (substitute s A) u) k2 tt v h1 in
         let d = check_sound cert E w inf si cmp sc c t (substitute s A) u p.1 k f.0 (formed E (substitute s A) (substituted_counted E s A ps a.0)) p.2 in
@@ -103,14 +103,14 @@ module _ (cert : Items) (E : Env) (w : HasCountedDeclarations E) (inf : Walking)
       all : AreCounted E is
       subject : IsCounted E t
 
-    scrutinee_sound : (c : Context) (f : FamilyId) (F : FamilyDecl) (ps : List Term) (t : Term) (is : List Term) (u v : Stand) → IsCountedContext E c →
+    scrutinee_sound : (c : Context) (f : FamilyId) (F : FamilyDecl) (ps : List Term) (t : Term) (is : List Term) (u v : WalkState) → IsCountedContext E c →
         AreCounted E ps → IsFormed t → (walk_scrutinee cert E inf cmp c f F ps t u).end ≡ Passed is v → IsScrutinee c f F ps t is
     scrutinee_sound c f F ps t is u v k wps ft h =
         let n : ℕ = length F.parameters in
-        let k5 : Reduced → Term → Stand → Walk (List Term) = λ r S z. walk_on (walk_fits cert E inf cmp c r.term S z) (λ _ o. pass (drop n (args r.term)) o) in
-        let k4 : Reduced → Unit {0} → Stand → Walk (List Term) = λ r _ y. walk_on (by_rules (make (apply (Ind f) (ps ++ drop n (args r.term)))) y) (k5 r) in
-        let k3 : Reduced → Unit {0} → Stand → Walk (List Term) = λ r _ x. walk_on (walk_retype cert E inf c r.count r.term x) (k4 r) in
-        let k2 : Reduced → Stand → Walk (List Term) = λ r w. walk_on (walk_found_family f F r.item r.term w) (k3 r) in
+        let k5 : Reduced → Term → WalkState → Walk (List Term) = λ r S z. walk_on (walk_fits cert E inf cmp c r.term S z) (λ _ o. pass (drop n (args r.term)) o) in
+        let k4 : Reduced → Unit {0} → WalkState → Walk (List Term) = λ r _ y. walk_on (by_rules (make (apply (Ind f) (ps ++ drop n (args r.term)))) y) (k5 r) in
+        let k3 : Reduced → Unit {0} → WalkState → Walk (List Term) = λ r _ x. walk_on (walk_retype cert E inf c r.count r.term x) (k4 r) in
+        let k2 : Reduced → WalkState → Walk (List Term) = λ r w. walk_on (walk_found_family f F r.item r.term w) (k3 r) in
         let p1 = on_both (inf c t u) (λ T v. walk_on (reduced cert E (values c) T v) k2) is v h in
         let T : Term = p1.0 in
         let p2 = on_both (reduced cert E (values c) T p1.1) k2 is v p1.3 in
@@ -138,15 +138,15 @@ module _ (cert : Items) (E : Env) (w : HasCountedDeclarations E) (inf : Walking)
         })
 
     -- branches
-    branch_sound : (c : Context) (f : FamilyId) (n : ℕ) (C : Constructor) (ps : List Term) (ret body : Term) (u v : Stand) → IsCountedContext E c →
+    branch_sound : (c : Context) (f : FamilyId) (n : ℕ) (C : Constructor) (ps : List Term) (ret body : Term) (u v : WalkState) → IsCountedContext E c →
         AreCounted E C.args × AreCounted E C.result → AreCounted E ps → IsCounted E ret → IsFormed body →
         (walk_branch cert E inf cmp c f n C ps ret body u).end ≡ Passed tt v →
         Entries guarded E c (branch_entries C ps) × (Types guarded E (extend c (branch_entries C ps)) body (branch_type f n C ps ret) × IsCounted E body)
     branch_sound c f n C ps ret body u v k wC wps wr fb h =
         let T : Term = branch_type f n C ps ret in
         let D : Context = extend c (branch_entries C ps) in
-        let k3 : Unit {0} → Stand → Walk (Unit {0}) = λ _ x. walk_check cert E inf cmp D body T x in
-        let k2 : List Sort → Stand → Walk (Unit {0}) = λ _ w. walk_on (by_rules (passing (branch_beyond f n C ps ret)) w) k3 in
+        let k3 : Unit {0} → WalkState → Walk (Unit {0}) = λ _ x. walk_check cert E inf cmp D body T x in
+        let k2 : List Sort → WalkState → Walk (Unit {0}) = λ _ w. walk_on (by_rules (passing (branch_beyond f n C ps ret)) w) k3 in
         let h1 = pass_then (any_beyond (branch_entries C ps)) u (λ _ v. walk_on (walk_sorts_of cert E inf c (branch_entries C ps) v) k2) h in
         let p1 = on_both (walk_sorts_of cert E inf c (branch_entries C ps) u) k2 tt v h1 in
         let h2 = pass_then (branch_beyond f n C ps ret) p1.1 k3 p1.3 in
@@ -159,7 +159,7 @@ module _ (cert : Items) (E : Env) (w : HasCountedDeclarations E) (inf : Walking)
     no_name : {A : Type 0} {n : ℕ} {ns : List ℕ} → n ∷ ns ≡ [] → A
     no_name e = absurd (cc)
 
-    branches_sound : (c : Context) (f : FamilyId) (n : ℕ) (Cs : List Constructor) (ps : List Term) (ret : Term) (bs : Terms) (u v : Stand) → IsCountedContext E c →
+    branches_sound : (c : Context) (f : FamilyId) (n : ℕ) (Cs : List Constructor) (ps : List Term) (ret : Term) (bs : Terms) (u v : WalkState) → IsCountedContext E c →
         AreCountedConstructors E Cs → AreCounted E ps → IsCounted E ret → EachTerm HasForm bs → binders_of bs ≡ arities Cs →
         (walk_branches cert E inf cmp c f n Cs ps ret (list_of bs) u).end ≡ Passed tt v →
         Branches guarded E c f ps ret n Cs bs × EachTerm (IsCountedNode E) bs
@@ -173,17 +173,17 @@ module _ (cert : Items) (E : Env) (w : HasCountedDeclarations E) (inf : Walking)
         let r = branches_sound c f (suc n) Cs ps ret ts p.1 v k wCs.1 wps wr fb.1 (rest_same e) p.3 in
         (branch (first_same e) b.0 b.1.0 r.0, (b.1.1, r.1))
 
-    pub case_rule_sound : (c : Context) (f : FamilyId) (ps : Terms) (n : ℕ) (ret t : Term) (bs : Terms) (T : Term) (u v : Stand) → IsCountedContext E c →
+    pub case_rule_sound : (c : Context) (f : FamilyId) (ps : Terms) (n : ℕ) (ret t : Term) (bs : Terms) (T : Term) (u v : WalkState) → IsCountedContext E c →
         IsFormed (Case f ps n ret t bs) → (walk_case cert E inf cmp c f ps n ret t bs u).end ≡ Passed T v → IsInferred E c (Case f ps n ret t bs) T
     case_rule_sound c f ps n ret t bs T u v k fc h =
         let qs : List Term = list_of ps in
         let B : Option Block = whole_block (kept_at E.declarations f.block) in
-        let k6 : List Term → Unit {0} → Stand → Walk Term = λ is _ o. by_rules (make (predicate_at ret is t)) o in
-        let k5 : FamilyDecl → List Term → Stand → Walk Term = λ F is z. walk_on (walk_branches cert E inf cmp c f 0 F.constructors qs ret (list_of bs) z) (k6 is) in
-        let k4 : FamilyDecl → Unit {0} → Stand → Walk Term = λ F _ y. walk_on (walk_scrutinee cert E inf cmp c f F qs t y) (k5 F) in
-        let k3 : FamilyDecl → Unit {0} → Stand → Walk Term = λ F _ x. walk_on (walk_predicate cert E inf c B f F qs ret x) (k4 F) in
-        let k2 : FamilyDecl → Unit {0} → Stand → Walk Term = λ F _ w. walk_on (walk_check_all cert E inf cmp c Rel qs F.parameters w) (k3 F) in
-        let k1 : FamilyDecl → Stand → Walk Term = λ F v. walk_on (by_rules (match_counted F ps n bs) v) (k2 F) in
+        let k6 : List Term → Unit {0} → WalkState → Walk Term = λ is _ o. by_rules (make (predicate_at ret is t)) o in
+        let k5 : FamilyDecl → List Term → WalkState → Walk Term = λ F is z. walk_on (walk_branches cert E inf cmp c f 0 F.constructors qs ret (list_of bs) z) (k6 is) in
+        let k4 : FamilyDecl → Unit {0} → WalkState → Walk Term = λ F _ y. walk_on (walk_scrutinee cert E inf cmp c f F qs t y) (k5 F) in
+        let k3 : FamilyDecl → Unit {0} → WalkState → Walk Term = λ F _ x. walk_on (walk_predicate cert E inf c B f F qs ret x) (k4 F) in
+        let k2 : FamilyDecl → Unit {0} → WalkState → Walk Term = λ F _ w. walk_on (walk_check_all cert E inf cmp c Rel qs F.parameters w) (k3 F) in
+        let k1 : FamilyDecl → WalkState → Walk Term = λ F v. walk_on (by_rules (match_counted F ps n bs) v) (k2 F) in
         let p1 = on_both (by_rules (find_family f B) u) k1 T v h in
         let F : FamilyDecl = p1.0 in
         let p2 = on_both (by_rules (match_counted F ps n bs) p1.1) (k2 F) T v p1.3 in

@@ -18,7 +18,7 @@ use Rattle.calculus_rules.proofs.Congruence.{equal_products, equal_lets}
 use Rattle.rule_laws.specs.Comparison.{Compares}
 use Rattle.cert_rules.specs.declared.item.CertItem.{CertItem}
 use Rattle.cert_rules.specs.declared.item.CertItem.TheVariants.{Same, Left, Right, Parts}
-use Rattle.cert_rules.specs.Walk.{Items, Stand, WalkAct, Passed, pass, bar_here, past, walk_all}
+use Rattle.cert_rules.specs.Walk.{Items, WalkState, WalkAct, Passed, pass, bar_here, past, walk_all}
 use Rattle.cert_rules.specs.WalkSteps.{walk_steps}
 use Rattle.cert_rules.specs.Scripts.{Script, with_part, term_parts, child_parts, node_parts, parts_of, sorts_at, walk_parts, script_by, script}
 use Rattle.cert_rules.proofs.PassedWalks.{on_both, tested, barred_passed, crowded_passed, all_both, steps_lead, steps_equal}
@@ -70,13 +70,13 @@ or_true false b h = inr h
 
 -- what passes from somewhere
 abbrev Passes : WalkAct → Type 0
-Passes act = (s : Stand) × (v : Stand) × ((act s).end ≡ Passed tt v)
+Passes act = (s : WalkState) × (v : WalkState) × ((act s).end ≡ Passed tt v)
 
 abbrev AllPass : List WalkAct → Type 0
 AllPass [] = Unit {0}
 AllPass (act ∷ acts) = Passes act × AllPass acts
 
-all_pass : (acts : List WalkAct) (s v : Stand) → (walk_all acts s).end ≡ Passed tt v → AllPass acts
+all_pass : (acts : List WalkAct) (s v : WalkState) → (walk_all acts s).end ≡ Passed tt v → AllPass acts
 all_pass [] s v h = tt
 all_pass (act ∷ acts) s v h = let p = all_both act acts s v h in ((s, p.0, p.1), all_pass acts p.0 v p.2)
 
@@ -93,7 +93,7 @@ begins act (Some more) acts e p =
 module _ (E : Env) where
   -- a script that has been found sound
   abbrev pub Shows : Script → Type 0
-  Shows go = (V : Values) (equal : Bool) (a b : Term) (s v : Stand) → (go V equal a b s).end ≡ Passed tt v → Compares E equal V a b
+  Shows go = (V : Values) (equal : Bool) (a b : Term) (s v : WalkState) → (go V equal a b s).end ≡ Passed tt v → Compares E equal V a b
 
   weaker : (equal : Bool) (V : Values) (a b : Term) → Equal E V a b → Compares E equal V a b
   weaker true V a b h = h
@@ -173,7 +173,7 @@ module _ (E : Env) where
     parts_shown V equal (Rel i) (Node m us) acts h p = absurd (none_some h)
     parts_shown V equal (Node l ts) (Rel j) acts h p = absurd (none_some h)
 
-    walked_shown : (V : Values) (equal : Bool) (a b : Term) (i : ℕ) (o : Option (List WalkAct)) (s v : Stand) → parts_of go V equal a b ≡ o →
+    walked_shown : (V : Values) (equal : Bool) (a b : Term) (i : ℕ) (o : Option (List WalkAct)) (s v : WalkState) → parts_of go V equal a b ≡ o →
         (walk_parts i o s).end ≡ Passed tt v → Compares E equal V a b
     walked_shown V equal a b i None s v e h = absurd (barred_passed h)
     walked_shown V equal a b i (Some acts) s v e h = parts_shown V equal a b acts e (all_pass acts s v h)
@@ -192,7 +192,7 @@ module _ (E : Env) where
     at_shown V equal (SortT s) (SortT s') h = sorts_shown equal V s s' h
     at_shown V equal a b h = false_true h
 
-    same_shown : (V : Values) (equal : Bool) (a b : Term) (s v : Stand) → (if same a b || sorts_at q equal a b then pass {A = Unit {0}} tt (past s) else bar_here s).end ≡ Passed tt v →
+    same_shown : (V : Values) (equal : Bool) (a b : Term) (s v : WalkState) → (if same a b || sorts_at q equal a b then pass {A = Unit {0}} tt (past s) else bar_here s).end ≡ Passed tt v →
         Compares E equal V a b
     same_shown V equal a b s v h =
         elim (or_true (same a b) (sorts_at q equal a b) (tested (same a b || sorts_at q equal a b) (pass tt (past s)) s.at s tt v h).0) [
@@ -200,7 +200,7 @@ module _ (E : Env) where
           | inr e ↦ at_shown V equal a b e
         ]
 
-    by_shown : (go : Script) → Shows go → (o : Option CertItem) (V : Values) (equal : Bool) (a b : Term) (s v : Stand) →
+    by_shown : (go : Script) → Shows go → (o : Option CertItem) (V : Values) (equal : Bool) (a b : Term) (s v : WalkState) →
         (script_by E q go o V equal a b s).end ≡ Passed tt v → Compares E equal V a b
     by_shown go shows (Some Same) V equal a b s v h = same_shown V equal a b s v h
     by_shown go shows (Some (Left (suc n))) V equal a b s v h =

@@ -10,7 +10,7 @@ use Rattle.pc_rules.specs.DirectedTyping.{rel_rule, sort_rule, const_rule, ind_r
 use Rattle.pc_rules.specs.WellCounted.{HasCountedDeclarations, IsCountedContext}
 use Rattle.rule_laws.specs.Inference.{IsInferred}
 use Rattle.rule_laws.proofs.SimpleRules.{variable_rule_sound, sort_rule_sound, const_rule_sound, ind_rule_sound, construct_rule_sound}
-use Rattle.cert_rules.specs.Walk.{Items, Stand, Passed, crowded, tick}
+use Rattle.cert_rules.specs.Walk.{Items, WalkState, Passed, crowded, tick}
 use Rattle.cert_rules.specs.Scripts.{Script, script}
 use Rattle.cert_rules.specs.WalkTyping.{Walking, walk_rule, walk_infer}
 use Rattle.cert_rules.proofs.PassedWalks.{rules_passed, ticking_passed, crowded_passed}
@@ -20,7 +20,7 @@ use Rattle.cert_rules.proofs.SoundMatch.{case_rule_sound}
 use Rattle.cert_rules.proofs.SoundFix.{fix_rule_sound}
 
 module _ (cert : Items) (E : Env) (w : HasCountedDeclarations E) where
-  rule_sound : (inf : Walking) → Infers E inf → (cmp : Script) → Shows E cmp → (c : Context) (t T : Term) (u v : Stand) → IsCountedContext E c → IsFormed t →
+  rule_sound : (inf : Walking) → Infers E inf → (cmp : Script) → Shows E cmp → (c : Context) (t T : Term) (u v : WalkState) → IsCountedContext E c → IsFormed t →
       (walk_rule cert E inf cmp c t u).end ≡ Passed T v → IsInferred E c t T
   rule_sound inf si cmp sc c (Rel i) T u v k f h =
       let r = rules_passed (rel_rule c i (type_at c i)) u T v h in variable_rule_sound E w c k i T u.account r.0 r.1

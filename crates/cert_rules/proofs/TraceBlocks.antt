@@ -36,7 +36,7 @@ use Rattle.rule_laws.proofs.SimpleRules.{declared_over, levels_are_declared}
 use Rattle.rule_laws.proofs.MatchRule.{count_is}
 use Rattle.rule_laws.proofs.Extending.{FindsAs, all_more, finds_more, fresh_is, env_more}
 use Rattle.rule_laws.proofs.Environments.{declaration_sound}
-use Rattle.cert_rules.specs.Walk.{Items, Stand, Walk, pass, walk_on, by_rules}
+use Rattle.cert_rules.specs.Walk.{Items, WalkState, Walk, pass, walk_on, by_rules}
 use Rattle.cert_rules.specs.Scripts.{Script, script}
 use Rattle.cert_rules.specs.WalkTyping.{Walking, walk_infer, walk_check_all}
 use Rattle.cert_rules.specs.WalkDeclarations.{walk_head, walk_heads, walk_block_heads, walk_arguments, walk_constructor, walk_constructors, walk_families, walk_block, walk_body, walk_constant, walk_declaration}
@@ -58,7 +58,7 @@ module _ (cert : Items) where
   abbrev denied_run : Bool → Broken → Account → Run (Unit {0})
   denied_run b x u = if b then run.refused x u else run.done tt u
 
-  trace_denied : {A : Type 0} {P : A → Type 0} (b : Bool) (x : Broken) (d : Account → Run A) (g : Account → Run (Wrote A)) (h : Stand → Walk A) → (b ≡ false → Traces cert P d g h) →
+  trace_denied : {A : Type 0} {P : A → Type 0} (b : Bool) (x : Broken) (d : Account → Run A) (g : Account → Run (Wrote A)) (h : WalkState → Walk A) → (b ≡ false → Traces cert P d g h) →
       Traces cert P (λ u. bind (denied_run b x u) (λ _ v. d v)) (λ u. write_on (silent (denied_run b x) u) (λ _ v. g v)) h
   trace_denied false x d g h p = trace_skip cert (λ u. run.done tt u) d g h (trace_still cert (λ u. run.done tt u) tt tt (λ u. refl)) (p refl)
   trace_denied {A} {P} true x d g h p =

@@ -14,7 +14,7 @@ use Rattle.rule_laws.proofs.Runs.{ticking_done, nested_done}
 use Rattle.rule_laws.proofs.KeepCounts.{steps_counted}
 use Rattle.cert_rules.specs.declared.item.CertItem.{CertItem}
 use Rattle.cert_rules.specs.declared.item.CertItem.TheVariants.{Left, Right}
-use Rattle.cert_rules.specs.Walk.{Items, Stand, Walk, past, walk_on}
+use Rattle.cert_rules.specs.Walk.{Items, WalkState, Walk, past, walk_on}
 use Rattle.cert_rules.specs.WalkSteps.{walk_steps}
 use Rattle.cert_rules.specs.Scripts.{script}
 use Rattle.cert_rules.specs.Writing.{Wrote, WriteAct, write_on, forgotten}
@@ -45,7 +45,7 @@ module _ (cert : Items) (E : Env) (q : Test) (w : HasCountedDeclarations E) (V :
     walks = λ s l k. inl (script_crowded cert E q V equal a b s);
   }
   left_led equal a b x (suc n) u m1 v is p z h (suc m) =
-      let go : Term → Stand → Walk (Unit {0}) = λ x v. script cert E q m V equal x b v in
+      let go : Term → WalkState → Walk (Unit {0}) = λ x v. script cert E q m V equal x b v in
       led_item cert u v (Left (suc n)) is (λ s. walk_on (walk_steps E V (s.at - 1) (suc n) a s) go) (λ s. script cert E q (suc m) V equal a b s) tt
       (λ s e. script_takes cert E q m V equal a b s (Left (suc n)) e
       ∙ (let i : s.at ≡ s.at + 1 - 1 = omega arith in ap (λ i. (walk_on (walk_steps E V i (suc n) a (past s)) go).end) i))
@@ -61,14 +61,14 @@ module _ (cert : Items) (E : Env) (q : Test) (w : HasCountedDeclarations E) (V :
     walks = λ s l k. inl (script_crowded cert E q V equal a b s);
   }
   right_led equal a b y (suc n) u m1 v is p z h (suc m) =
-      let go : Term → Stand → Walk (Unit {0}) = λ y v. script cert E q m V equal a y v in
+      let go : Term → WalkState → Walk (Unit {0}) = λ y v. script cert E q m V equal a y v in
       led_item cert u v (Right (suc n)) is (λ s. walk_on (walk_steps E V (s.at - 1) (suc n) b s) go) (λ s. script cert E q (suc m) V equal a b s) tt
       (λ s e. script_takes cert E q m V equal a b s (Right (suc n)) e
       ∙ (let i : s.at ≡ s.at + 1 - 1 = omega arith in ap (λ i. (walk_on (walk_steps E V i (suc n) b (past s)) go).end) i))
       (led_on cert u m1 v [] is (λ s. walk_steps E V (s.at - 1) (suc n) b s) go y tt (steps_led E V cert (λ s. s.at - 1) (suc n) b y u m1 p z) (h m))
 
   -- a reduction of a side, the same with items, and what follows
-  module _ (item : ℕ → CertItem) (t : Term) (kd : Term → Account → Run (Unit {0})) (kg : Term → WriteAct) (h : ℕ → Stand → Walk (Unit {0})) (k : Term → ℕ → Stand → Walk (Unit {0}))
+  module _ (item : ℕ → CertItem) (t : Term) (kd : Term → Account → Run (Unit {0})) (kg : Term → WriteAct) (h : ℕ → WalkState → Walk (Unit {0})) (k : Term → ℕ → WalkState → Walk (Unit {0}))
       (led : (x : Term) (n : ℕ) (u m1 v : Account) (is : Items) → Reach E V n t x → u.left ≡ n + m1.left → ((m : ℕ) → Led cert m1 v is (k x m) tt) → (m : ℕ) →
       Led cert u v (side item n ++ is) (h m) tt)
       (rest : (x : Term) (n : ℕ) → Reach E V n t x → (m : ℕ) → Traces cert (λ _. Unit {0}) (kd x) (kg x) (k x m)) where

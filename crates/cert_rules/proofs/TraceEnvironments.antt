@@ -22,7 +22,7 @@ use Rattle.pc_rules.specs.WellCounted.{HasCountedDeclarations}
 use Rattle.rule_laws.specs.Declarations.{AllGivenFormed}
 use Rattle.rule_laws.proofs.Environments.{nothing_counted}
 use Rattle.cert_rules.specs.declared.item.CertItem.{CertItem}
-use Rattle.cert_rules.specs.Walk.{Items, Stand, Walk, Passed, Crowded, pass, bar_here, walk_on}
+use Rattle.cert_rules.specs.Walk.{Items, WalkState, Walk, Passed, Crowded, pass, bar_here, walk_on}
 use Rattle.cert_rules.specs.WalkTyping.{walk_infer}
 use Rattle.cert_rules.specs.WalkDeclarations.{walk_declaration, walk_end, walk_main, walk_declarations, walk_unless, walk_environment, start}
 use Rattle.cert_rules.specs.Writing.{Wrote, wrote, end_forgotten, forgotten}
@@ -147,15 +147,15 @@ environment_forgets levels cs cycle q test n ds main u fs fm =
 
 module _ (cert : Items) where
   abbrev EndsSo : {A : Type 0} → Walk A → A → ℕ → ℕ → Type 0
-  EndsSo w a n m = (w.end ≡ Crowded) ⊎ ((s : Stand) × (w.end ≡ Passed a s) × (n ≤ s.account.left + m))
+  EndsSo w a n m = (w.end ≡ Crowded) ⊎ ((s : WalkState) × (w.end ≡ Passed a s) × (n ≤ s.account.left + m))
 
   -- these items are all that is left of the certificate, and the walk goes along them
-  record LedToEnd {A : Type 0} (u v : Account) (is : Items) (h : Stand → Walk A) (a : A) : Type 0 where
+  record LedToEnd {A : Type 0} (u v : Account) (is : Items) (h : WalkState → Walk A) (a : A) : Type 0 where
     falls : v.left ≤ u.left
-    walks : (s : Stand) → Lies cert s.at is → s.at + length is ≡ length cert → u.left ≤ s.account.left + v.left → EndsSo (h s) a (s.account.left + v.left) u.left
+    walks : (s : WalkState) → Lies cert s.at is → s.at + length is ≡ length cert → u.left ≤ s.account.left + v.left → EndsSo (h s) a (s.account.left + v.left) u.left
 
-  module _ {A B : Type 0} (u v w : Account) (is js : Items) (h : Stand → Walk A) (k : A → Stand → Walk B) (a : A) (b : B) (p : Led cert u v is h a) (q : LedToEnd v w js (k a) b) where
-    end_further : (s : Stand) → Lies cert (s.at + length is) js → s.at + length (is ++ js) ≡ length cert → u.left ≤ s.account.left + w.left → (x : Stand) →
+  module _ {A B : Type 0} (u v w : Account) (is js : Items) (h : WalkState → Walk A) (k : A → WalkState → Walk B) (a : A) (b : B) (p : Led cert u v is h a) (q : LedToEnd v w js (k a) b) where
+    end_further : (s : WalkState) → Lies cert (s.at + length is) js → s.at + length (is ++ js) ≡ length cert → u.left ≤ s.account.left + w.left → (x : WalkState) →
         (h s).end ≡ Passed a x → x.at ≡ s.at + length is → s.account.left + v.left ≤ x.account.left + u.left → EndsSo (walk_on (h s) k) b (s.account.left + w.left) u.left
     end_further s l z m x e at n =
         let f1 : v.left ≤ u.left = p.falls in
@@ -168,7 +168,7 @@ module _ (cert : Items) where
           | inr r ↦ let t : x.account.left + w.left ≤ r.0.account.left + v.left = r.2 in inr (r.0, on_passed (h s) k a x e ∙ r.1, omega arith)
         ]
 
-    end_walks : (s : Stand) → Lies cert s.at (is ++ js) → s.at + length (is ++ js) ≡ length cert → u.left ≤ s.account.left + w.left →
+    end_walks : (s : WalkState) → Lies cert s.at (is ++ js) → s.at + length (is ++ js) ≡ length cert → u.left ≤ s.account.left + w.left →
         EndsSo (walk_on (h s) k) b (s.account.left + w.left) u.left
     end_walks s l z m =
         let f1 : v.left ≤ u.left = p.falls in
@@ -182,7 +182,7 @@ module _ (cert : Items) where
     led_to_end : LedToEnd u w (is ++ js) (λ s. walk_on (h s) k) b
     led_to_end = record { falls = (let f1 : v.left ≤ u.left = p.falls in let f2 : w.left ≤ v.left = q.falls in omega arith); walks = end_walks }
 
-  end_passes : (E : Env) (T : Term) (s : Stand) → s.at ≡ length cert → (walk_end cert E T s).end ≡ Passed (E, T) s
+  end_passes : (E : Env) (T : Term) (s : WalkState) → s.at ≡ length cert → (walk_end cert E T s).end ≡ Passed (E, T) s
   end_passes E T s e = ap (λ b. (if b then pass (E, T) s else bar_here s).end) (eq-eqb s.at (length cert) e)
 
   at_end : (E : Env) (T : Term) (u v : Account) (r : Wrote (Env × Term)) → Gives (wrote [] (E, T)) u ≡ Gives r v → LedToEnd u v r.items (λ s. walk_end cert E T s) r.value
@@ -229,7 +229,7 @@ levels_passed : (o : Option (ℕ × Level)) (g : Made) (u v : Account) (r : Wrot
 levels_passed None g u v r h = (refl, h)
 levels_passed (Some p) g u v r h = absurd (breaks_gives h)
 
-unless_none : {A : Type 0} (o : Option A) (go : Walk (Env × Term)) (s : Stand) → o ≡ None → walk_unless o go s ≡ go
+unless_none : {A : Type 0} (o : Option A) (go : Walk (Env × Term)) (s : WalkState) → o ≡ None → walk_unless o go s ≡ go
 unless_none o go s e = ap (λ o. walk_unless o go s) e
 
 -- a certificate lies in itself
@@ -262,7 +262,7 @@ environment_accepted levels cs cycle q test n ds main u v r fs fm e m w l =
     let p2 = constraints_passed (first_undeclared_end k 0 cs) g2 u v r p1.1 in
     let p3 = graph_passed cycle g3 u v r p2.1 in
     let cert : Items = r.items in
-    let s : Stand = start w in
+    let s : WalkState = start w in
     let h3 : Walk (Env × Term) = walk_declarations cert k cs q m [] ds main s in
     let h2 : Walk (Env × Term) = walk_unless cycle h3 s in
     let h1 : Walk (Env × Term) = walk_unless (first_undeclared_end k 0 cs) h2 s in

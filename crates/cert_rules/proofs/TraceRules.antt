@@ -31,7 +31,7 @@ use Rattle.rule_laws.proofs.Comparing.{list_long}
 use Rattle.rule_laws.proofs.SimpleRules.{formed, whole_family}
 use Rattle.rule_laws.proofs.MatchRule.{all_formed, formed_list, Counted, dropped_counted}
 use Rattle.rule_laws.proofs.Inferring.{infer_sound}
-use Rattle.cert_rules.specs.Walk.{Items, Stand, Walk, pass, crowded, walk_on, walk_ticking, by_rules}
+use Rattle.cert_rules.specs.Walk.{Items, WalkState, Walk, pass, crowded, walk_on, walk_ticking, by_rules}
 use Rattle.cert_rules.specs.Scripts.{Script, script}
 use Rattle.cert_rules.specs.WalkTyping.{Walking, walk_sort_of, walk_retype, walk_fits, walk_prod, walk_lambda, walk_let, walk_app_found, walk_app, walk_found_family, walk_scrutinee, walk_branch, walk_branches, walk_predicate, walk_case, walk_types, walk_family_found, walk_definition, walk_definitions, walk_fix, walk_rule, walk_infer}
 use Rattle.cert_rules.specs.Writing.{Wrote, silent, write_on, end_forgotten, forgotten}
@@ -53,17 +53,17 @@ nested_forgotten : (u : Account) → forgotten (ticking u (λ v. too_nested {A =
 unfolding ticking
 nested_forgotten u = nested_paid u.left
 
-passing_walks : {B : Type 0} (b : Bool) (h : Stand → Walk B) (s : Stand) → (walk_on (by_rules (run.passing b) s) (λ _ v. h v)).end ≡ (h s).end
+passing_walks : {B : Type 0} (b : Bool) (h : WalkState → Walk B) (s : WalkState) → (walk_on (by_rules (run.passing b) s) (λ _ v. h v)).end ≡ (h s).end
 unfolding walk_on by_rules
 passing_walks b h s = refl
 
-passed_through : (cert : Items) {B : Type 0} {P : B → Type 0} (b : Bool) (d : Account → Run B) (g : Account → Run (Wrote B)) (h : Stand → Walk B) → Traces cert P d g h →
+passed_through : (cert : Items) {B : Type 0} {P : B → Type 0} (b : Bool) (d : Account → Run B) (g : Account → Run (Wrote B)) (h : WalkState → Walk B) → Traces cert P d g h →
     Traces cert P (λ u. bind (run.passing b u) (λ _ v. d v)) (λ u. write_on (silent (run.passing b) u) (λ _ v. g v)) (λ s. walk_on (by_rules (run.passing b) s) (λ _ v. h v))
 passed_through cert b d g h p =
     trace_as cert h (λ s. walk_on (by_rules (run.passing b) s) (λ _ v. h v)) (λ s. passing_walks b h s) (trace_passing cert b d g h p)
 
 module _ (cert : Items) (E : Env) (w : HasCountedDeclarations E) (infd : Typing) (infg : MakeTyping) (infh : Walking) (ti : Inferred cert E w infd infg infh) where
-  abbrev Ends : (Account → Run Term) → (Account → Run (Wrote Term)) → (Stand → Walk Term) → Type 0
+  abbrev Ends : (Account → Run Term) → (Account → Run (Wrote Term)) → (WalkState → Walk Term) → Type 0
   Ends d g h = Traces cert (λ _. Unit {0}) d g h
 
   prod_trace : (c : Context) (A B : Term) → IsCountedContext E c → IsFormed A → IsFormed B →
@@ -239,7 +239,7 @@ module _ (cert : Items) (E : Env) (w : HasCountedDeclarations E) (infd : Typing)
 -- inference
 
 module _ (cert : Items) (E : Env) (w : HasCountedDeclarations E) (q : Test) (test : IsTest E.levels E.constraints q) where
-  inferred : (n : ℕ) (c : Context) (t : Term) (h : Stand → Walk Term) → IsCountedContext E c → IsFormed t →
+  inferred : (n : ℕ) (c : Context) (t : Term) (h : WalkState → Walk Term) → IsCountedContext E c → IsFormed t →
       Traces cert (λ _. Unit {0}) (λ u. infer E q n c t u) (λ u. make_infer E q n c t u) h →
       Traces cert (λ T. IsInferred E c t T) (λ u. infer E q n c t u) (λ u. make_infer E q n c t u) h
   inferred n c t h k f p = record {
@@ -249,7 +249,7 @@ module _ (cert : Items) (E : Env) (w : HasCountedDeclarations E) (q : Test) (tes
         (infer_sound E w q test n c t r.value u v k f d, (p.leads u r v e).1));
   }
 
-  crowded_walks : (c : Context) (t : Term) (s : Stand) → (walk_infer cert E q 0 c t s) ≡ walk_ticking s (λ v. crowded)
+  crowded_walks : (c : Context) (t : Term) (s : WalkState) → (walk_infer cert E q 0 c t s) ≡ walk_ticking s (λ v. crowded)
   unfolding walk_infer
   crowded_walks c t s = refl
 

@@ -23,7 +23,7 @@ use Rattle.rule_laws.proofs.KeepCounts.{under_counted, values_extended}
 use Rattle.rule_laws.proofs.Comparing.{entries_long, names_long, list_long, first_same, rest_same, no_suc, no_cons, lifted_long}
 use Rattle.cert_rules.specs.declared.item.CertItem.{CertItem}
 use Rattle.cert_rules.specs.declared.item.CertItem.TheVariants.{Same, Parts}
-use Rattle.cert_rules.specs.Walk.{Items, Stand, WalkAct, WalkEnd, Passed, Barred, Unpaid, Crowded, pass, bar_here, past, end_on, walk_on, walk_all}
+use Rattle.cert_rules.specs.Walk.{Items, WalkState, WalkAct, WalkEnd, Passed, Barred, Unpaid, Crowded, pass, bar_here, past, end_on, walk_on, walk_all}
 use Rattle.cert_rules.specs.Scripts.{Script, with_part, term_parts, node_parts, parts_of, sorts_at, walk_parts, script_by, script}
 use Rattle.cert_rules.specs.Writing.{Wrote, wrote, WriteAct, end_before, writing_steps, noting, noting_all, write_on, write_all, forgotten}
 use Rattle.cert_rules.specs.MakingTyping.{MakeComparison, make_each, make_branches_equal, make_matches_equal, make_fixpoints_equal, make_heads_equal, part_items}
@@ -52,7 +52,7 @@ term_parts_are go V (Next n t ts) Done o rest b e = no_cons b
 
 -- walks of lists
 
-all_on_end : (e : WalkEnd (Unit {0})) (xs ys : List WalkAct) → ((v : Stand) → (walk_all (xs ++ ys) v).end ≡ (walk_on (walk_all xs v) (λ _ v. walk_all ys v)).end) →
+all_on_end : (e : WalkEnd (Unit {0})) (xs ys : List WalkAct) → ((v : WalkState) → (walk_all (xs ++ ys) v).end ≡ (walk_on (walk_all xs v) (λ _ v. walk_all ys v)).end) →
     end_on e (λ _ v. (walk_all (xs ++ ys) v).end) ≡ end_on (end_on e (λ _ v. (walk_all xs v).end)) (λ _ v. (walk_all ys v).end)
 unfolding walk_on
 all_on_end (Passed a v) xs ys h = h v
@@ -60,7 +60,7 @@ all_on_end (Barred i u) xs ys h = refl
 all_on_end Unpaid xs ys h = refl
 all_on_end Crowded xs ys h = refl
 
-all_on : (xs ys : List WalkAct) (s : Stand) → (walk_all (xs ++ ys) s).end ≡ (walk_on (walk_all xs s) (λ _ v. walk_all ys v)).end
+all_on : (xs ys : List WalkAct) (s : WalkState) → (walk_all (xs ++ ys) s).end ≡ (walk_on (walk_all xs s) (λ _ v. walk_all ys v)).end
 unfolding walk_all walk_on
 all_on [] ys s = refl
 all_on (x ∷ xs) ys s = all_on_end (x s).end xs ys (λ v. all_on xs ys v)
@@ -71,11 +71,11 @@ one_end (Barred i u) = refl
 one_end Unpaid = refl
 one_end Crowded = refl
 
-pub one_act : (act : WalkAct) (s : Stand) → (walk_all (act ∷ []) s).end ≡ (act s).end
+pub one_act : (act : WalkAct) (s : WalkState) → (walk_all (act ∷ []) s).end ≡ (act s).end
 unfolding walk_all walk_on
 one_act act s = one_end (act s).end
 
-pub two_acts : (x y : WalkAct) (s : Stand) → (walk_all (x ∷ y ∷ []) s).end ≡ (walk_on (x s) (λ _ v. y v)).end
+pub two_acts : (x y : WalkAct) (s : WalkState) → (walk_all (x ∷ y ∷ []) s).end ≡ (walk_on (x s) (λ _ v. y v)).end
 unfolding walk_all walk_on
 two_acts x y s = λ i. end_on (x s).end (λ _ v. one_act y v i)
 
@@ -144,12 +144,12 @@ no_args (App g y) e = let l : length (args g ++ (y ∷ [])) ≡ length (args g) 
 no_args b e = (refl, refl)
 
 module _ (cert : Items) (E : Env) (q : Test) where
-  pub script_takes : (m : ℕ) (V : Values) (equal : Bool) (a b : Term) (s : Stand) (x : CertItem) → slice_get cert s.at ≡ Some x →
+  pub script_takes : (m : ℕ) (V : Values) (equal : Bool) (a b : Term) (s : WalkState) (x : CertItem) → slice_get cert s.at ≡ Some x →
       (script cert E q (suc m) V equal a b s).end ≡ (script_by E q (script cert E q m) (Some x) V equal a b s).end
   unfolding script
   script_takes m V equal a b s x e = ap (λ o. (script_by E q (script cert E q m) o V equal a b s).end) e
 
-  pub script_crowded : (V : Values) (equal : Bool) (a b : Term) (s : Stand) → (script cert E q zero V equal a b s).end ≡ Crowded
+  pub script_crowded : (V : Values) (equal : Bool) (a b : Term) (s : WalkState) → (script cert E q zero V equal a b s).end ≡ Crowded
   unfolding script
   script_crowded V equal a b s = refl
 
@@ -160,7 +160,7 @@ module _ (cert : Items) (E : Env) (q : Test) where
       trace_crowded cert (λ s. script cert E q 1 V equal a b s) (λ s. script cert E q 0 V equal a b s) (λ s. script_crowded V equal a b s) (h 0)
   by_fuel V equal a b h (suc m) = h m
 
-  pub same_pass : (m : ℕ) (V : Values) (equal : Bool) (a b : Term) (s : Stand) → (same a b || sorts_at q equal a b) ≡ true → slice_get cert s.at ≡ Some Same →
+  pub same_pass : (m : ℕ) (V : Values) (equal : Bool) (a b : Term) (s : WalkState) → (same a b || sorts_at q equal a b) ≡ true → slice_get cert s.at ≡ Some Same →
       (script cert E q (suc m) V equal a b s).end ≡ Passed tt (past s)
   same_pass m V equal a b s h e =
       script_takes m V equal a b s Same e ∙ ap (λ c. (if c then pass {A = Unit {0}} tt (past s) else bar_here s).end) h
@@ -170,7 +170,7 @@ module _ (cert : Items) (E : Env) (q : Test) where
   trace_same V equal a b h m =
       by_fuel V equal a b (λ m. trace_noting cert Same (λ s. script cert E q (suc m) V equal a b s) tt (λ s e. same_pass m V equal a b s h e)) m
 
-  pub parts_take : (m : ℕ) (V : Values) (equal : Bool) (a b : Term) (acts : List WalkAct) (s : Stand) → parts_of (script cert E q m) V equal a b ≡ Some acts →
+  pub parts_take : (m : ℕ) (V : Values) (equal : Bool) (a b : Term) (acts : List WalkAct) (s : WalkState) → parts_of (script cert E q m) V equal a b ≡ Some acts →
       slice_get cert s.at ≡ Some Parts → (script cert E q (suc m) V equal a b s).end ≡ (walk_all acts (past s)).end
   parts_take m V equal a b acts s p e = script_takes m V equal a b s Parts e ∙ ap (λ o. (walk_parts s.at o (past s)).end) p
 

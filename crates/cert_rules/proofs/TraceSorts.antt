@@ -23,7 +23,7 @@ use Rattle.rule_laws.proofs.KeepCounts.{values_counted}
 use Rattle.rule_laws.proofs.Comparing.{no_suc}
 use Rattle.rule_laws.proofs.SimpleRules.{formed}
 use Rattle.cert_rules.specs.declared.item.CertItem.TheVariants.{Same, Conv}
-use Rattle.cert_rules.specs.Walk.{Items, Stand, WalkAct, Passed, pass, bar, bar_here, past, walk_on, by_rules}
+use Rattle.cert_rules.specs.Walk.{Items, WalkState, WalkAct, Passed, pass, bar, bar_here, past, walk_on, by_rules}
 use Rattle.cert_rules.specs.Scripts.{Script}
 use Rattle.cert_rules.specs.WalkTyping.{Walking, sort_after, walk_sort_found, walk_sort_of, walk_retype, fits_by, walk_fits, walk_check, walk_check_all, walk_sorts_of}
 use Rattle.cert_rules.specs.Writing.{WriteAct, writing, silent, write_on}
@@ -59,7 +59,7 @@ module _ (cert : Items) where
   trace_tested false x i = trace_refused cert x (λ s. bar i s)
 
   -- the item of a conversion, and what follows
-  pub trace_conv_item : (d : Account → Run (Unit {0})) (g : WriteAct) (h k : WalkAct) → ((s : Stand) → slice_get cert s.at ≡ Some Conv → (k s).end ≡ (h (past s)).end) →
+  pub trace_conv_item : (d : Account → Run (Unit {0})) (g : WriteAct) (h k : WalkAct) → ((s : WalkState) → slice_get cert s.at ≡ Some Conv → (k s).end ≡ (h (past s)).end) →
       Traces cert (λ _. Unit {0}) d g h →
       Traces cert (λ _. Unit {0}) (λ u. bind (conv u) (λ _ v. d v)) (λ u. write_on (writing (Conv ∷ []) u (conv u)) (λ _ v. g v)) k
   trace_conv_item d g h k f p = record {
@@ -129,12 +129,12 @@ module _ (cert : Items) (E : Env) (w : HasCountedDeclarations E) where
         (λ x h. trace_on cert _ _ _ _ _ _ (sorts_trace (Assumed A ∷ c) As (h, k) f.1) (λ xs hs. trace_done cert (x ∷ xs) (h, hs)))
 
     module _ (cmp : Comparison) (mk : MakeComparison) (sc : Script) (tc : Compared cmp mk sc) where
-      fits_same : (c : Context) (S T : Term) (s : Stand) → same S T ≡ true → slice_get cert s.at ≡ Some Same → (walk_fits cert E infh sc c S T s).end ≡ Passed tt (past s)
+      fits_same : (c : Context) (S T : Term) (s : WalkState) → same S T ≡ true → slice_get cert s.at ≡ Some Same → (walk_fits cert E infh sc c S T s).end ≡ Passed tt (past s)
       unfolding walk_fits
       fits_same c S T s h e =
           ap (λ o. (fits_by cert E infh sc c S T o s).end) e ∙ ap (λ b. (if b then pass {A = Unit {0}} tt (past s) else bar_here s).end) h
 
-      fits_conv : (c : Context) (S T : Term) (s : Stand) → slice_get cert s.at ≡ Some Conv →
+      fits_conv : (c : Context) (S T : Term) (s : WalkState) → slice_get cert s.at ≡ Some Conv →
           (walk_fits cert E infh sc c S T s).end ≡ (walk_on (walk_sort_of cert E infh c T (past s)) (λ _ w. sc (values c) false S T w)).end
       unfolding walk_fits
       fits_conv c S T s e = ap (λ o. (fits_by cert E infh sc c S T o s).end) e

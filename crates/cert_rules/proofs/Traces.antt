@@ -8,7 +8,7 @@ use Rattle.pc_rules.specs.DirectedRun.{Run, ticked, paid, ticking, bind, noted, 
 use Rattle.pc_rules.specs.DirectedTyping.{conv}
 use Rattle.rule_laws.proofs.Runs.{ticking_done, refused_done, unit_done, nested_done, done_value}
 use Rattle.cert_rules.specs.declared.item.CertItem.{CertItem}
-use Rattle.cert_rules.specs.Walk.{Items, Stand, Passed, Crowded, Walk, pass, past, tick, paid_walk, walk_ticking, end_on, WalkAct, walk_on, walk_all, end_at, by_rules}
+use Rattle.cert_rules.specs.Walk.{Items, WalkState, Passed, Crowded, Walk, pass, past, tick, paid_walk, walk_ticking, end_on, WalkAct, walk_on, walk_all, end_at, by_rules}
 use Rattle.cert_rules.specs.Writing.{Wrote, wrote, WriteAct, end_writing, writing_steps, silent, noting, end_before, write_on, write_all, end_forgotten, forgotten}
 use Rattle.cert_rules.proofs.Exact.{done_account, IsExact, ticking_positive}
 
@@ -101,11 +101,11 @@ module _ {A B : Type 0} (kg : A → Account → Run (Wrote B)) (kd : A → Accou
 
 -- walks
 
-pub on_crowded : {A B : Type 0} (w : Walk A) (k : A → Stand → Walk B) → w.end ≡ Crowded → (walk_on w k).end ≡ Crowded
+pub on_crowded : {A B : Type 0} (w : Walk A) (k : A → WalkState → Walk B) → w.end ≡ Crowded → (walk_on w k).end ≡ Crowded
 unfolding walk_on
 on_crowded w k e = ap (λ x. end_on x (λ a s. (k a s).end)) e
 
-pub on_passed : {A B : Type 0} (w : Walk A) (k : A → Stand → Walk B) (a : A) (s : Stand) → w.end ≡ Passed a s → (walk_on w k).end ≡ (k a s).end
+pub on_passed : {A B : Type 0} (w : Walk A) (k : A → WalkState → Walk B) (a : A) (s : WalkState) → w.end ≡ Passed a s → (walk_on w k).end ≡ (k a s).end
 unfolding walk_on
 on_passed w k a s e = ap (λ x. end_on x (λ a s. (k a s).end)) e
 
@@ -113,7 +113,7 @@ paid_walk_goes : {A : Type 0} (n : ℕ) (go : Walk A) → 0 < n → (paid_walk n
 paid_walk_goes zero go l = absurd (omega arith)
 paid_walk_goes (suc n) go l = refl
 
-pub ticking_walks : {A : Type 0} (s : Stand) (go : Stand → Walk A) → 0 < s.account.left → (walk_ticking s go).end ≡ (go (tick s)).end
+pub ticking_walks : {A : Type 0} (s : WalkState) (go : WalkState → Walk A) → 0 < s.account.left → (walk_ticking s go).end ≡ (go (tick s)).end
 unfolding walk_ticking
 ticking_walks s go l = paid_walk_goes s.account.left (go (tick s)) l
 
@@ -132,15 +132,15 @@ module _ (cert : Items) where
 
   -- the walk comes to the result and to item i, with the units that are wanted, unless too many rules stand in one another
   abbrev pub Goes : {A : Type 0} → Walk A → A → ℕ → ℕ → ℕ → Type 0
-  Goes w a i n m = (w.end ≡ Crowded) ⊎ ((s : Stand) × (w.end ≡ Passed a s) × (s.at ≡ i) × (n ≤ s.account.left + m))
+  Goes w a i n m = (w.end ≡ Crowded) ⊎ ((s : WalkState) × (w.end ≡ Passed a s) × (s.at ≡ i) × (n ≤ s.account.left + m))
 
   -- where directed rules go from account u to v and write these items, the walk goes along them and takes no more units
-  pub record Led {A : Type 0} (u v : Account) (is : Items) (h : Stand → Walk A) (a : A) : Type 0 where
+  pub record Led {A : Type 0} (u v : Account) (is : Items) (h : WalkState → Walk A) (a : A) : Type 0 where
     pub falls : v.left ≤ u.left
-    pub walks : (s : Stand) → Lies s.at is → u.left ≤ s.account.left + v.left → Goes (h s) a (s.at + length is) (s.account.left + v.left) u.left
+    pub walks : (s : WalkState) → Lies s.at is → u.left ≤ s.account.left + v.left → Goes (h s) a (s.at + length is) (s.account.left + v.left) u.left
 
-  module _ {A B : Type 0} (u v w : Account) (is js : Items) (h : Stand → Walk A) (k : A → Stand → Walk B) (a : A) (b : B) (p : Led u v is h a) (q : Led v w js (k a) b) where
-    led_further : (s : Stand) → Lies (s.at + length is) js → u.left ≤ s.account.left + w.left → (x : Stand) → (h s).end ≡ Passed a x → x.at ≡ s.at + length is →
+  module _ {A B : Type 0} (u v w : Account) (is js : Items) (h : WalkState → Walk A) (k : A → WalkState → Walk B) (a : A) (b : B) (p : Led u v is h a) (q : Led v w js (k a) b) where
+    led_further : (s : WalkState) → Lies (s.at + length is) js → u.left ≤ s.account.left + w.left → (x : WalkState) → (h s).end ≡ Passed a x → x.at ≡ s.at + length is →
         s.account.left + v.left ≤ x.account.left + u.left → Goes (walk_on (h s) k) b (s.at + length (is ++ js)) (s.account.left + w.left) u.left
     led_further s l m x e at n =
         let f1 : v.left ≤ u.left = p.falls in
@@ -148,14 +148,14 @@ module _ (cert : Items) where
         elim (q.walks x (subst (λ i. Lies i js) (sym at) l) (omega arith)) [
           | inl c ↦ inl (on_passed (h s) k a x e ∙ c)
           | inr r ↦
-              let y : Stand = r.0 in
+              let y : WalkState = r.0 in
               let o : x.account.left + w.left ≤ y.account.left + v.left = r.3 in
               let z : y.at ≡ x.at + length js = r.2 in
               let g : length (is ++ js) ≡ length is + length js = length-append is js in
               inr (y, on_passed (h s) k a x e ∙ r.1, omega arith, omega arith)
         ]
 
-    led_walks : (s : Stand) → Lies s.at (is ++ js) → u.left ≤ s.account.left + w.left → Goes (walk_on (h s) k) b (s.at + length (is ++ js)) (s.account.left + w.left) u.left
+    led_walks : (s : WalkState) → Lies s.at (is ++ js) → u.left ≤ s.account.left + w.left → Goes (walk_on (h s) k) b (s.at + length (is ++ js)) (s.account.left + w.left) u.left
     led_walks s l m =
         let f1 : v.left ≤ u.left = p.falls in
         let f2 : w.left ≤ v.left = q.falls in
@@ -169,8 +169,8 @@ module _ (cert : Items) where
     led_on = record { falls = (let f1 : v.left ≤ u.left = p.falls in let f2 : w.left ≤ v.left = q.falls in omega arith); walks = led_walks }
 
   -- an item is taken, and then what is led on
-  pub led_item : {A : Type 0} (u v : Account) (x : CertItem) (is : Items) (h k : Stand → Walk A) (a : A) →
-      ((s : Stand) → slice_get cert s.at ≡ Some x → (k s).end ≡ (h (past s)).end) → Led u v is h a → Led u v (x ∷ is) k a
+  pub led_item : {A : Type 0} (u v : Account) (x : CertItem) (is : Items) (h k : WalkState → Walk A) (a : A) →
+      ((s : WalkState) → slice_get cert s.at ≡ Some x → (k s).end ≡ (h (past s)).end) → Led u v is h a → Led u v (x ∷ is) k a
   led_item u v x is h k a e p = record {
     falls = p.falls;
     walks = λ s l m. elim (p.walks (past s) l.1 m) [
@@ -183,7 +183,7 @@ module _ (cert : Items) where
   pub led_pass : {A : Type 0} (u : Account) (a : A) → Led u u [] (λ s. pass a s) a
   led_pass u a = record { falls = omega arith; walks = λ s l m. inr (s, refl, omega arith, omega arith) }
 
-  pub led_as : {A : Type 0} (u v : Account) (is : Items) (h k : Stand → Walk A) (a : A) → ((s : Stand) → (k s).end ≡ (h s).end) → Led u v is h a → Led u v is k a
+  pub led_as : {A : Type 0} (u v : Account) (is : Items) (h k : WalkState → Walk A) (a : A) → ((s : WalkState) → (k s).end ≡ (h s).end) → Led u v is h a → Led u v is k a
   led_as u v is h k a e p = record {
     falls = p.falls;
     walks = λ s l m. elim (p.walks s l m) [
@@ -193,12 +193,12 @@ module _ (cert : Items) where
   }
 
   -- directed rules, the same with items, and the walk
-  pub record Traces {A : Type 0} (P : A → Type 0) (d : Account → Run A) (g : Account → Run (Wrote A)) (h : Stand → Walk A) : Type 0 where
+  pub record Traces {A : Type 0} (P : A → Type 0) (d : Account → Run A) (g : Account → Run (Wrote A)) (h : WalkState → Walk A) : Type 0 where
     pub forgets : (u : Account) → forgotten (g u) ≡ d u
     pub leads : (u : Account) (r : Wrote A) (v : Account) → (g u).end ≡ run.Done r v → P r.value × Led u v r.items h r.value
 
-  pub trace_on : {A B : Type 0} {P : A → Type 0} {Q : B → Type 0} (d : Account → Run A) (g : Account → Run (Wrote A)) (h : Stand → Walk A)
-      (kd : A → Account → Run B) (kg : A → Account → Run (Wrote B)) (kh : A → Stand → Walk B) →
+  pub trace_on : {A B : Type 0} {P : A → Type 0} {Q : B → Type 0} (d : Account → Run A) (g : Account → Run (Wrote A)) (h : WalkState → Walk A)
+      (kd : A → Account → Run B) (kg : A → Account → Run (Wrote B)) (kh : A → WalkState → Walk B) →
       Traces P d g h → ((a : A) → P a → Traces Q (kd a) (kg a) (kh a)) →
       Traces Q (λ u. bind (d u) kd) (λ u. write_on (g u) kg) (λ s. walk_on (h s) kh)
   trace_on {Q = Q} d g h kd kg kh p q = record {
@@ -215,17 +215,17 @@ module _ (cert : Items) where
   }
 
   -- what is weaker holds too
-  pub trace_less : {A : Type 0} {P Q : A → Type 0} {d : Account → Run A} {g : Account → Run (Wrote A)} {h : Stand → Walk A} →
+  pub trace_less : {A : Type 0} {P Q : A → Type 0} {d : Account → Run A} {g : Account → Run (Wrote A)} {h : WalkState → Walk A} →
       ((a : A) → P a → Q a) → Traces P d g h → Traces Q d g h
   trace_less f p = record { forgets = p.forgets; leads = λ u r v e. let q = p.leads u r v e in (f r.value q.0, q.1) }
 
   -- a walk that ends alike
-  pub trace_as : {A : Type 0} {P : A → Type 0} {d : Account → Run A} {g : Account → Run (Wrote A)} (h k : Stand → Walk A) →
-      ((s : Stand) → (k s).end ≡ (h s).end) → Traces P d g h → Traces P d g k
+  pub trace_as : {A : Type 0} {P : A → Type 0} {d : Account → Run A} {g : Account → Run (Wrote A)} (h k : WalkState → Walk A) →
+      ((s : WalkState) → (k s).end ≡ (h s).end) → Traces P d g h → Traces P d g k
   trace_as h k e p = record { forgets = p.forgets; leads = λ u r v f. let q = p.leads u r v f in (q.0, led_as u v r.items h k r.value e q.1) }
 
   -- what takes no item is done by the rules
-  pub rules_pass : {A : Type 0} (f : Account → Run A) (s : Stand) (a : A) (x : Account) → (f s.account).end ≡ run.Done a x →
+  pub rules_pass : {A : Type 0} (f : Account → Run A) (s : WalkState) (a : A) (x : Account) → (f s.account).end ≡ run.Done a x →
       (by_rules f s).end ≡ Passed a (record { account = x; at = s.at })
   unfolding by_rules
   rules_pass f s a x e = ap (λ r. end_at s.at r) e
@@ -263,7 +263,7 @@ module _ (cert : Items) where
   }
 
   -- a refusal leads nowhere
-  pub trace_refused : {A : Type 0} {P : A → Type 0} (b : Broken) (h : Stand → Walk A) → Traces P (λ u. run.refused b u) (λ u. silent (run.refused b) u) h
+  pub trace_refused : {A : Type 0} {P : A → Type 0} (b : Broken) (h : WalkState → Walk A) → Traces P (λ u. run.refused b u) (λ u. silent (run.refused b) u) h
   trace_refused {A} b h = record {
     forgets = λ u. writing_forgotten u (λ n. []) (run.refused b u);
     leads = λ u r v e. absurd (refused_done (writing_done u (λ n. []) (run.refused {A = A} b u) r v e).0);
@@ -279,8 +279,8 @@ module _ (cert : Items) where
   unfolding write_on writing_steps
   noting_done x k u r v h = before_done (x ∷ []) (k tt u).end r v h
 
-  pub trace_item : {A : Type 0} {P : A → Type 0} (x : CertItem) (d : Account → Run A) (g : Account → Run (Wrote A)) (h k : Stand → Walk A) →
-      ((s : Stand) → slice_get cert s.at ≡ Some x → (k s).end ≡ (h (past s)).end) → Traces P d g h → Traces P d (λ u. write_on (noting x u) (λ _ v. g v)) k
+  pub trace_item : {A : Type 0} {P : A → Type 0} (x : CertItem) (d : Account → Run A) (g : Account → Run (Wrote A)) (h k : WalkState → Walk A) →
+      ((s : WalkState) → slice_get cert s.at ≡ Some x → (k s).end ≡ (h (past s)).end) → Traces P d g h → Traces P d (λ u. write_on (noting x u) (λ _ v. g v)) k
   trace_item {P = P} x d g h k e p = record {
     forgets = λ u. noting_on x (λ _ v. g v) u ∙ p.forgets u;
     leads = λ u r v f.
@@ -290,8 +290,8 @@ module _ (cert : Items) where
   }
 
   -- an item alone
-  pub trace_noting : {P : Unit {0} → Type 0} (x : CertItem) (k : Stand → Walk (Unit {0})) → P tt →
-      ((s : Stand) → slice_get cert s.at ≡ Some x → (k s).end ≡ Passed tt (past s)) → Traces P (λ u. run.done tt u) (λ u. noting x u) k
+  pub trace_noting : {P : Unit {0} → Type 0} (x : CertItem) (k : WalkState → Walk (Unit {0})) → P tt →
+      ((s : WalkState) → slice_get cert s.at ≡ Some x → (k s).end ≡ Passed tt (past s)) → Traces P (λ u. run.done tt u) (λ u. noting x u) k
   trace_noting {P} x k h e = record {
     forgets = λ u. writing_forgotten u (λ n. x ∷ []) (run.done tt u);
     leads = λ u r v f.
@@ -304,7 +304,7 @@ module _ (cert : Items) where
   }
 
   -- a unit of the directed rules alone
-  pub led_more : {A : Type 0} (u v w : Account) (is : Items) (h : Stand → Walk A) (a : A) → v.left ≤ u.left → Led v w is h a → Led u w is h a
+  pub led_more : {A : Type 0} (u v w : Account) (is : Items) (h : WalkState → Walk A) (a : A) → v.left ≤ u.left → Led v w is h a → Led u w is h a
   led_more u v w is h a l p = record {
     falls = (let f : w.left ≤ v.left = p.falls in omega arith);
     walks = λ s i m. elim (p.walks s i (omega arith)) [
@@ -321,7 +321,7 @@ module _ (cert : Items) where
   unfolding ticking
   ticking_forgotten u d g e = paid_forgotten u.left (g (ticked u)) ∙ ap (λ r. paid u.left r) e
 
-  pub trace_more : {A : Type 0} {P : A → Type 0} (d : Account → Run A) (g : Account → Run (Wrote A)) (h : Stand → Walk A) → Traces P d g h →
+  pub trace_more : {A : Type 0} {P : A → Type 0} (d : Account → Run A) (g : Account → Run (Wrote A)) (h : WalkState → Walk A) → Traces P d g h →
       Traces P (λ u. ticking u d) (λ u. ticking u g) h
   trace_more d g h p = record {
     forgets = λ u. ticking_forgotten u d g (p.forgets (ticked u));
@@ -329,7 +329,7 @@ module _ (cert : Items) where
   }
 
   -- a unit of both
-  led_tick : {A : Type 0} (u w : Account) (is : Items) (h : Stand → Walk A) (a : A) → 0 < u.left → Led (ticked u) w is h a → Led u w is (λ s. walk_ticking s h) a
+  led_tick : {A : Type 0} (u w : Account) (is : Items) (h : WalkState → Walk A) (a : A) → 0 < u.left → Led (ticked u) w is h a → Led u w is (λ s. walk_ticking s h) a
   led_tick u w is h a z p = record {
     falls = (let f : w.left ≤ u.left - 1 = p.falls in omega arith);
     walks = λ s i m.
@@ -341,7 +341,7 @@ module _ (cert : Items) where
         ]);
   }
 
-  pub trace_tick : {A : Type 0} {P : A → Type 0} (d : Account → Run A) (g : Account → Run (Wrote A)) (h : Stand → Walk A) → Traces P d g h →
+  pub trace_tick : {A : Type 0} {P : A → Type 0} (d : Account → Run A) (g : Account → Run (Wrote A)) (h : WalkState → Walk A) → Traces P d g h →
       Traces P (λ u. ticking u d) (λ u. ticking u g) (λ s. walk_ticking s h)
   trace_tick d g h p = record {
     forgets = λ u. ticking_forgotten u d g (p.forgets (ticked u));
@@ -350,7 +350,7 @@ module _ (cert : Items) where
   }
 
   -- a noted use of a rule
-  pub trace_noted : {A : Type 0} {P : A → Type 0} (n : ℕ) (d : Account → Run A) (g : Account → Run (Wrote A)) (h : Stand → Walk A) → Traces P d g h →
+  pub trace_noted : {A : Type 0} {P : A → Type 0} (n : ℕ) (d : Account → Run A) (g : Account → Run (Wrote A)) (h : WalkState → Walk A) → Traces P d g h →
       Traces P (λ u. d (noted n u)) (λ u. g (noted n u)) h
   trace_noted n d g h p = record {
     forgets = λ u. p.forgets (noted n u);
@@ -388,42 +388,42 @@ module _ (cert : Items) where
         ));
   }
 
-  pub passed_on : {A B : Type 0} (a : A) (s : Stand) (k : A → Stand → Walk B) → (walk_on (pass a s) k).end ≡ (k a s).end
+  pub passed_on : {A B : Type 0} (a : A) (s : WalkState) (k : A → WalkState → Walk B) → (walk_on (pass a s) k).end ≡ (k a s).end
   unfolding walk_on
   passed_on a s k = refl
 
   -- what is done by the directed rules alone, and then the rest
-  pub trace_skip : {B : Type 0} {P : B → Type 0} (f : Account → Run (Unit {0})) (d : Account → Run B) (g : Account → Run (Wrote B)) (h : Stand → Walk B) →
+  pub trace_skip : {B : Type 0} {P : B → Type 0} (f : Account → Run (Unit {0})) (d : Account → Run B) (g : Account → Run (Wrote B)) (h : WalkState → Walk B) →
       Traces (λ _. Unit {0}) f (λ u. silent f u) (λ s. pass tt s) → Traces P d g h →
       Traces P (λ u. bind (f u) (λ _ v. d v)) (λ u. write_on (silent f u) (λ _ v. g v)) h
   trace_skip f d g h p q =
       trace_as (λ s. walk_on (pass tt s) (λ _ v. h v)) h (λ s. sym (passed_on tt s (λ _ v. h v)))
       (trace_on f (λ u. silent f u) (λ s. pass tt s) (λ _ v. d v) (λ _ v. g v) (λ _ v. h v) p (λ a t. q))
 
-  pub trace_conv : {B : Type 0} {P : B → Type 0} (d : Account → Run B) (g : Account → Run (Wrote B)) (h : Stand → Walk B) → Traces P d g h →
+  pub trace_conv : {B : Type 0} {P : B → Type 0} (d : Account → Run B) (g : Account → Run (Wrote B)) (h : WalkState → Walk B) → Traces P d g h →
       Traces P (λ u. bind (conv u) (λ _ v. d v)) (λ u. write_on (silent conv u) (λ _ v. g v)) h
   trace_conv d g h p = trace_skip conv d g h conv_trace p
 
-  pub trace_passing : {B : Type 0} {P : B → Type 0} (b : Bool) (d : Account → Run B) (g : Account → Run (Wrote B)) (h : Stand → Walk B) → Traces P d g h →
+  pub trace_passing : {B : Type 0} {P : B → Type 0} (b : Bool) (d : Account → Run B) (g : Account → Run (Wrote B)) (h : WalkState → Walk B) → Traces P d g h →
       Traces P (λ u. bind (run.passing b u) (λ _ v. d v)) (λ u. write_on (silent (run.passing b) u) (λ _ v. g v)) h
   trace_passing b d g h p = trace_skip (run.passing b) d g h (trace_still (run.passing b) tt tt (λ u. refl)) p
 
   -- a test of the directed rules
-  pub trace_if : {A : Type 0} {P : A → Type 0} (b : Bool) (d d' : Account → Run A) (g g' : Account → Run (Wrote A)) (h : Stand → Walk A) →
+  pub trace_if : {A : Type 0} {P : A → Type 0} (b : Bool) (d d' : Account → Run A) (g g' : Account → Run (Wrote A)) (h : WalkState → Walk A) →
       (b ≡ true → Traces P d g h) → (b ≡ false → Traces P d' g' h) → Traces P (λ u. if b then d u else d' u) (λ u. if b then g u else g' u) h
   trace_if true d d' g g' h p q = p refl
   trace_if false d d' g g' h p q = q refl
 
   -- a walk that is crowded
-  pub trace_crowded : {A : Type 0} {P : A → Type 0} {d : Account → Run A} {g : Account → Run (Wrote A)} (h k : Stand → Walk A) →
-      ((s : Stand) → (k s).end ≡ Crowded) → Traces P d g h → Traces P d g k
+  pub trace_crowded : {A : Type 0} {P : A → Type 0} {d : Account → Run A} {g : Account → Run (Wrote A)} (h k : WalkState → Walk A) →
+      ((s : WalkState) → (k s).end ≡ Crowded) → Traces P d g h → Traces P d g k
   trace_crowded h k e p = record {
     forgets = p.forgets;
     leads = λ u r v f. let q = p.leads u r v f in (q.0, record { falls = q.1.falls; walks = λ s l m. inl (e s) });
   }
 
   -- rules that never come to a result
-  pub trace_never : {A : Type 0} {P : A → Type 0} (d : Account → Run A) (g : Account → Run (Wrote A)) (h : Stand → Walk A) → ((u : Account) → forgotten (g u) ≡ d u) →
+  pub trace_never : {A : Type 0} {P : A → Type 0} (d : Account → Run A) (g : Account → Run (Wrote A)) (h : WalkState → Walk A) → ((u : Account) → forgotten (g u) ≡ d u) →
       ((u : Account) (r : Wrote A) (v : Account) → (g u).end ≡ run.Done r v → ⊥) → Traces P d g h
   trace_never d g h f n = record { forgets = f; leads = λ u r v e. absurd (n u r v e) }
 

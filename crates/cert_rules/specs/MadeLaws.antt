@@ -10,7 +10,7 @@ use Rattle.pc_rules.specs.DirectedPlaces.{Gives}
 use Rattle.pc_rules.specs.DirectedComparison.{Test, IsTest}
 use Rattle.pc_rules.specs.DirectedDeclarations.{Given, environment_rule}
 use Rattle.rule_laws.specs.Declarations.{AllGivenFormed}
-use Rattle.cert_rules.specs.Walk.{Stand, Walk, Passed, Crowded}
+use Rattle.cert_rules.specs.Walk.{WalkState, Walk, Passed, Crowded}
 use Rattle.cert_rules.specs.Writing.{Wrote}
 use Rattle.cert_rules.specs.WalkDeclarations.{walk_environment, start}
 use Rattle.cert_rules.specs.MakingDeclarations.{make_environment, placed_forgotten}
@@ -23,7 +23,7 @@ MakingIsDirected = (levels : List Level) (cs : List Constraint) (cycle : Option 
 
 -- the walk accepts with this result and takes at most t units, or too many rules stand in one another
 abbrev pub Accepts : Walk (Env × Term) → Env × Term → ℕ → ℕ → Type 0
-Accepts w r units t = (w.end ≡ Crowded) ⊎ ((s : Stand) × (w.end ≡ Passed r s) × (units ≤ s.account.left + t))
+Accepts w r units t = (w.end ≡ Crowded) ⊎ ((s : WalkState) × (w.end ≡ Passed r s) × (units ≤ s.account.left + t))
 
 -- what is made, the walk accepts with at least the units that were taken in making it, whatever uses were noted before and however many
 -- rules may stand in one another, or too many do; and it takes no more units

@@ -21,26 +21,26 @@ use Rattle.pc_rules.specs.DirectedGuard.{fix_guard}
 use Rattle.pc_rules.specs.DirectedTyping.{rel_rule, sort_rule, const_rule, find_family, ind_rule, construct_rule, match_counted, eliminated, is_the_family, branch_beyond, recursive_domain, enough_abstractions, is_a_family, definition_type}
 use Rattle.cert_rules.specs.declared.item.CertItem.{CertItem}
 use Rattle.cert_rules.specs.declared.item.CertItem.TheVariants.{Same, Conv}
-use Rattle.cert_rules.specs.Walk.{Items, Stand, WalkAct, Walk, pass, bar, bar_here, crowded, past, walk_on, walk_ticking, by_rules}
+use Rattle.cert_rules.specs.Walk.{Items, WalkState, WalkAct, Walk, pass, bar, bar_here, crowded, past, walk_on, walk_ticking, by_rules}
 use Rattle.cert_rules.specs.WalkSteps.{reduced}
 use Rattle.cert_rules.specs.Scripts.{Script, script}
 
 -- a walk that comes to a type of a term
 abbrev pub Walking : Type 0
-Walking = Context → Term → Stand → Walk Term
+Walking = Context → Term → WalkState → Walk Term
 
 -- a sort that n steps came to: it is inferred where there are any
-abbrev pub sort_after : Walking → Context → Sort → ℕ → Stand → Walk Sort
+abbrev pub sort_after : Walking → Context → Sort → ℕ → WalkState → Walk Sort
 sort_after inf c x zero s = pass x s
 sort_after inf c x (suc n) s = walk_on (inf c (SortT x) s) (λ _ w. pass x w)
 
 -- the sort that item i comes to, after n steps
-abbrev pub walk_sort_found : Walking → Context → ℕ → ℕ → Term → Stand → Walk Sort
+abbrev pub walk_sort_found : Walking → Context → ℕ → ℕ → Term → WalkState → Walk Sort
 walk_sort_found inf c i n (SortT x) s = sort_after inf c x n s
 walk_sort_found inf c i n other s = bar i s
 
 -- the sort of a term: its type after so many steps; where there are any, that sort is inferred
-unfoldable pub walk_sort_of : Items → Env → Walking → Context → Term → Stand → Walk Sort
+unfoldable pub walk_sort_of : Items → Env → Walking → Context → Term → WalkState → Walk Sort
 walk_sort_of cert E inf c A s =
     walk_on (inf c A s) (λ T v. walk_on (reduced cert E (values c) T v) (λ r w. walk_sort_found inf c r.item r.count r.term w))
 
@@ -63,30 +63,30 @@ unfoldable pub walk_check : Items → Env → Walking → Script → Context →
 walk_check cert E inf cmp c t T s = walk_on (inf c t s) (λ S v. walk_fits cert E inf cmp c S T v)
 
 -- 3. product
-abbrev pub walk_prod : Items → Env → Walking → Context → Term → Term → Stand → Walk Term
+abbrev pub walk_prod : Items → Env → Walking → Context → Term → Term → WalkState → Walk Term
 walk_prod cert E inf c A B s =
     walk_on (walk_sort_of cert E inf c A s) (λ x v. walk_on (walk_sort_of cert E inf (Assumed A ∷ c) B v) (λ y w. pass (SortT (product_sort x y)) w))
 
 -- 4. lambda
-abbrev pub walk_lambda : Items → Env → Walking → Context → Term → Term → Stand → Walk Term
+abbrev pub walk_lambda : Items → Env → Walking → Context → Term → Term → WalkState → Walk Term
 walk_lambda cert E inf c A b s =
     walk_on (walk_sort_of cert E inf c A s) (λ _ v. walk_on (inf (Assumed A ∷ c) b v) (λ B w. by_rules (make (Prod A B)) w))
 
 -- 5. let
-abbrev pub walk_let : Items → Env → Walking → Script → Context → Term → Term → Term → Stand → Walk Term
+abbrev pub walk_let : Items → Env → Walking → Script → Context → Term → Term → Term → WalkState → Walk Term
 walk_let cert E inf cmp c b B t s =
     walk_on (walk_sort_of cert E inf c B s) (λ _ v.
     walk_on (walk_check cert E inf cmp c b B v) (λ _ w.
     walk_on (inf (Defined b B ∷ c) t w) (λ T x. by_rules (make (LetIn b B T)) x)))
 
 -- 6. application
-abbrev pub walk_app_found : Items → Env → Walking → Script → Context → Term → ℕ → ℕ → Term → Stand → Walk Term
+abbrev pub walk_app_found : Items → Env → Walking → Script → Context → Term → ℕ → ℕ → Term → WalkState → Walk Term
 walk_app_found cert E inf cmp c a i n (Prod A B) s =
     walk_on (walk_retype cert E inf c n (Prod A B) s) (λ _ v.
     walk_on (walk_check cert E inf cmp c a A v) (λ _ w. by_rules (make (substitute (put a) B)) w))
 walk_app_found cert E inf cmp c a i n other s = bar i s
 
-abbrev pub walk_app : Items → Env → Walking → Script → Context → Term → Term → Stand → Walk Term
+abbrev pub walk_app : Items → Env → Walking → Script → Context → Term → Term → WalkState → Walk Term
 walk_app cert E inf cmp c f a s =
     walk_on (inf c f s) (λ T v. walk_on (reduced cert E (values c) T v) (λ r w. walk_app_found cert E inf cmp c a r.item r.count r.term w))
 
@@ -100,7 +100,7 @@ walk_check_all cert E inf cmp c s (t ∷ ts) (A ∷ As) u =
 walk_check_all cert E inf cmp c s _ _ u = pass tt u
 
 -- the sort of each entry of a telescope in turn
-unfoldable pub walk_sorts_of : Items → Env → Walking → Context → List Term → Stand → Walk (List Sort)
+unfoldable pub walk_sorts_of : Items → Env → Walking → Context → List Term → WalkState → Walk (List Sort)
 walk_sorts_of cert E inf c [] s = pass [] s
 walk_sorts_of cert E inf c (A ∷ As) s =
     walk_on (walk_sort_of cert E inf c A s) (λ x v. walk_on (walk_sorts_of cert E inf (Assumed A ∷ c) As v) (λ xs w. pass (x ∷ xs) w))
@@ -111,7 +111,7 @@ walk_found_family f F i W s =
     if is_the_family f (head W) && (length (args W) == length F.parameters + length F.indices) then pass tt s else bar i s
 
 -- the scrutinee: gives the found indices
-abbrev pub walk_scrutinee : Items → Env → Walking → Script → Context → FamilyId → FamilyDecl → List Term → Term → Stand → Walk (List Term)
+abbrev pub walk_scrutinee : Items → Env → Walking → Script → Context → FamilyId → FamilyDecl → List Term → Term → WalkState → Walk (List Term)
 walk_scrutinee cert E inf cmp c f F ps t s =
     walk_on (inf c t s) (λ T v.
     walk_on (reduced cert E (values c) T v) (λ r w.
@@ -139,7 +139,7 @@ walk_predicate cert E inf c B f F ps ret s =
     walk_on (walk_sorts_of cert E inf c (predicate_entries f F ps) v) (λ _ w.
     walk_on (walk_sort_of cert E inf (extend c (predicate_entries f F ps)) ret w) (λ x y. by_rules (eliminated B f F x) y)))
 
-abbrev pub walk_case : Items → Env → Walking → Script → Context → FamilyId → Terms → ℕ → Term → Term → Terms → Stand → Walk Term
+abbrev pub walk_case : Items → Env → Walking → Script → Context → FamilyId → Terms → ℕ → Term → Term → Terms → WalkState → Walk Term
 walk_case cert E inf cmp c f ps n ret t bs s =
     walk_on (by_rules (find_family f (whole_block (kept_at E.declarations f.block))) s) (λ F v.
     walk_on (by_rules (match_counted F ps n bs) v) (λ _ w.
@@ -174,14 +174,14 @@ walk_definitions cert E inf cmp c n d (r ∷ rargs) (T ∷ Ts) (b ∷ bs) s =
     walk_on (walk_definition cert E inf cmp c n d r T b s) (λ _ v. walk_definitions cert E inf cmp c n (suc d) rargs Ts bs v)
 walk_definitions cert E inf cmp c n d _ _ _ s = pass tt s
 
-abbrev pub walk_fix : Items → Env → Walking → Script → Context → ℕ → List ℕ → Terms → Terms → Stand → Walk Term
+abbrev pub walk_fix : Items → Env → Walking → Script → Context → ℕ → List ℕ → Terms → Terms → WalkState → Walk Term
 walk_fix cert E inf cmp c i rargs types bodies s =
     walk_on (walk_types cert E inf c 0 (list_of types) s) (λ _ v.
     walk_on (walk_definitions cert E inf cmp (definitions c 0 types) (length rargs) 0 rargs (list_of types) (list_of bodies) v) (λ _ w.
     walk_on (by_rules (fix_guard E (values c) rargs bodies) w) (λ _ x. by_rules (definition_type i (length rargs) (term_at types i)) x)))
 
 -- the rule of a term's former; rules 1, 2, 7, 8 and 9 take no item
-abbrev pub walk_rule : Items → Env → Walking → Script → Context → Term → Stand → Walk Term
+abbrev pub walk_rule : Items → Env → Walking → Script → Context → Term → WalkState → Walk Term
 walk_rule cert E inf cmp c (Rel i) s = by_rules (rel_rule c i (type_at c i)) s
 walk_rule cert E inf cmp c (SortT x) s = by_rules (sort_rule E x) s
 walk_rule cert E inf cmp c (Prod A B) s = walk_prod cert E inf c A B s

@@ -11,7 +11,7 @@ use Rattle.dump_printer.proofs.Decimals.{decimal-is}
 use Rattle.cert_rules.specs.declared.item.CertItem.{CertItem}
 use Rattle.cert_rules.specs.declared.item.CertItem.TheVariants.{Number, Same, Conv, Left, Right, Parts}
 use Rattle.cert_rules.specs.Walk.{Items}
-use Rattle.cert_text.specs.CertText.{cert_word, one_word, same_word, conv_word, left_word, right_word, parts_word, item_tokens, items_tokens, IsSmall, AreSmall}
+use Rattle.cert_text.specs.CertText.{cert_word, one_word, same_word, conv_word, left_word, right_word, parts_word, item_tokens, items_tokens, IsWithinU32, AreSmall}
 use Rattle.cert_text.specs.CertReading.{CertRead, Read, WrongToken, TooGreat, Wants, AnItem, LeftSteps, RightSteps, with_item, read_number, read_word, read_item, read_token, read_items, is_text, read_next, read_certificate}
 use Rattle.cert_text.specs.TextLaws.{Begins, FailsAt, WrongIsFirst}
 use Rattle.cert_text.proofs.ReadTokens.{next_item, no_item, bytes_are, text_is, less_from}
@@ -54,12 +54,12 @@ nothing_read RightSteps = nothing_counted
 opened : (t : Text) (pre ts : List Text) → Opens pre ts → Opens (t ∷ pre) (t ∷ ts)
 opened t pre ts g = (g.0, g.1, g.2, ap (λ r. t ∷ r) g.3)
 
-item_read : (x : CertItem) (ts : List Text) (t : Text) → IsSmall x → ((rest : List Text) → item_tokens x rest ≡ t ∷ rest) → Opens [] ts → Opens [] (t ∷ ts)
+item_read : (x : CertItem) (ts : List Text) (t : Text) → IsWithinU32 x → ((rest : List Text) → item_tokens x rest ≡ t ∷ rest) → Opens [] ts → Opens [] (t ∷ ts)
 item_read x ts t small e g =
     let is = g.1 in
     (g.0, x ∷ is, (small, g.2), ap (λ r. t ∷ r) g.3 ∙ sym (e (items_tokens is)) ∙ sym (next_item x is))
 
-side_read : (item : ℕ → CertItem) (word : List ℕ) (ts : List Text) → ((n : ℕ) → n < 2 ^ 32 → IsSmall (item n)) → ((n : ℕ) (rest : List Text) → item_tokens (item n) rest ≡ Atom word ∷ numeral n ∷ rest) →
+side_read : (item : ℕ → CertItem) (word : List ℕ) (ts : List Text) → ((n : ℕ) → n < 2 ^ 32 → IsWithinU32 (item n)) → ((n : ℕ) (rest : List Text) → item_tokens (item n) rest ≡ Atom word ∷ numeral n ∷ rest) →
     Counts ts → Opens [] (Atom word ∷ ts)
 side_read item word ts small e g =
     let is = g.1 in
@@ -140,7 +140,7 @@ module _ (len o : ℕ) where
 
     module _ (a : List ℕ) (h : s.text ≡ Atom a) where
       -- an item of one token
-      goes_item : (x : CertItem) → IsSmall x → ((rest : List Text) → item_tokens x rest ≡ Atom a ∷ rest) →
+      goes_item : (x : CertItem) → IsWithinU32 x → ((rest : List Text) → item_tokens x rest ≡ Atom a ∷ rest) →
           ((rest : List Spanned) → read_items len AnItem (s ∷ rest) ≡ with_item x (read_items len AnItem rest)) → read_items len AnItem (s ∷ ss) ≡ WrongToken o → ItemsFail AnItem (s ∷ ss)
       goes_item x small t k e =
           later (λ ss. read_items len AnItem ss) (λ ss. read_items len AnItem ss) (Opens []) (Opens []) s ss (λ rest q. k rest ∙ ap (with_item x) q)

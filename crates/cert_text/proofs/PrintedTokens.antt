@@ -12,7 +12,7 @@ use Rattle.dump_printer.proofs.Good.{AreGood, decimal-good, spaced-read}
 use Rattle.cert_rules.specs.declared.item.CertItem.{CertItem}
 use Rattle.cert_rules.specs.declared.item.CertItem.TheVariants.{Number, Same, Conv, Left, Right, Parts}
 use Rattle.cert_rules.specs.Walk.{Items}
-use Rattle.cert_text.specs.CertText.{cert_word, one_word, same_word, conv_word, left_word, right_word, parts_word, item_tokens, items_tokens, cert_tokens, cert_text, IsSmall, AreSmall}
+use Rattle.cert_text.specs.CertText.{cert_word, one_word, same_word, conv_word, left_word, right_word, parts_word, item_tokens, items_tokens, cert_tokens, cert_text, IsWithinU32, AreSmall}
 use Rattle.cert_text.specs.CertReading.{CertRead, Read, WrongToken, Wants, AnItem, LeftSteps, RightSteps, with_item, read_number, read_item, read_token, read_items, is_text, read_next, read_certificate}
 use Rattle.cert_text.specs.TextLaws.{IsReadBack}
 use Rattle.cert_text.proofs.ReadTokens.{next_item, no_item}
@@ -88,7 +88,7 @@ module _ (len : ℕ) where
       token_as w s ss (numeral n) (first_text e) ∙ r s.start (decimal n) ss (λ w. read_items len w ss) ∙ numeral_read s.start item n (read_items len AnItem ss) h
       ∙ ap (λ g. with_item (item n) g) (rec ss (rest_text e))
 
-  item_read : (x : CertItem) (is : Items) (ss : List Spanned) → texts ss ≡ item_tokens x (items_tokens is) → IsSmall x →
+  item_read : (x : CertItem) (is : Items) (ss : List Spanned) → texts ss ≡ item_tokens x (items_tokens is) → IsWithinU32 x →
       ((ss : List Spanned) → texts ss ≡ items_tokens is → read_items len AnItem ss ≡ Read is) → read_items len AnItem ss ≡ Read (x ∷ is)
   item_read (Number n) is [] e h rec = no_text e
   item_read (Number n) is (s ∷ ss) e h rec =
@@ -158,7 +158,7 @@ texts_lex n m false (b ∷ bs) =
 
 -- what is printed
 
-item_good : (x : CertItem) (rest : List Text) → IsSmall x → AreGood rest → AreGood (item_tokens x rest)
+item_good : (x : CertItem) (rest : List Text) → IsWithinU32 x → AreGood rest → AreGood (item_tokens x rest)
 item_good (Number n) rest h g = (decimal-good n (omega arith), g)
 item_good Same rest h g = (refl, g)
 item_good Conv rest h g = (refl, g)

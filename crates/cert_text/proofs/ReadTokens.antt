@@ -13,7 +13,7 @@ use Rattle.dump_printer.proofs.Lists.{each-none, each-next}
 use Rattle.cert_rules.specs.declared.item.CertItem.{CertItem}
 use Rattle.cert_rules.specs.declared.item.CertItem.TheVariants.{Number, Same, Conv, Left, Right, Parts}
 use Rattle.cert_rules.specs.Walk.{Items}
-use Rattle.cert_text.specs.CertText.{cert_word, one_word, same_word, conv_word, left_word, right_word, parts_word, item_tokens, items_tokens, cert_tokens, IsSmall, AreSmall}
+use Rattle.cert_text.specs.CertText.{cert_word, one_word, same_word, conv_word, left_word, right_word, parts_word, item_tokens, items_tokens, cert_tokens, IsWithinU32, AreSmall}
 use Rattle.cert_text.specs.CertReading.{CertRead, Read, WrongToken, TooGreat, Wants, AnItem, LeftSteps, RightSteps, with_item, read_number, read_item, read_end, read_token, read_items, is_text, read_next, read_certificate}
 
 -- what is no certificate
@@ -59,7 +59,7 @@ pub no_item : items_tokens [] ≡ Close ∷ []
 no_item = each-none item_tokens (Close ∷ [])
 
 -- one item more, by an equation for its tokens
-one_more : (x : CertItem) (ts : List Text) (rest : List Text) (is js : Items) → is ≡ x ∷ js → IsSmall x → (rest ≡ items_tokens js) × AreSmall js → ts ≡ item_tokens x rest → Spells AnItem ts is
+one_more : (x : CertItem) (ts : List Text) (rest : List Text) (is js : Items) → is ≡ x ∷ js → IsWithinU32 x → (rest ≡ items_tokens js) × AreSmall js → ts ≡ item_tokens x rest → Spells AnItem ts is
 one_more x ts rest is js e small h t =
     subst (λ is. Spells AnItem ts is) (sym e) (t ∙ ap (λ r. item_tokens x r) h.0 ∙ sym (next_item x js), (small, h.1))
 
@@ -72,7 +72,7 @@ bytes_are a b e = (bytes_eq-Decides a b).0 e
 
 module _ (start : ℕ) (a : List ℕ) (ss : List Spanned) (go : Wants → CertRead) (is : Items)
     (rec : (w : Wants) (js : Items) → go w ≡ Read js → Spells w (texts ss) js) where
-  item_at_word : (x : CertItem) (word : List ℕ) → IsSmall x → ((rest : List Text) → item_tokens x rest ≡ Atom word ∷ rest) → bytes_eq a word ≡ true → with_item x (go AnItem) ≡ Read is →
+  item_at_word : (x : CertItem) (word : List ℕ) → IsWithinU32 x → ((rest : List Text) → item_tokens x rest ≡ Atom word ∷ rest) → bytes_eq a word ≡ true → with_item x (go AnItem) ≡ Read is →
       Spells AnItem (Atom a ∷ texts ss) is
   item_at_word x word small t h e =
       let r = with_item_read x (go AnItem) is e in

@@ -56,12 +56,12 @@ abbrev pub cert_text : Items → List ℕ
 cert_text is = spaced (cert_tokens is)
 
 -- its numbers are at most 4,294,967,295
-abbrev pub IsSmall : CertItem → Type 0
-IsSmall (Number n) = n < 2 ^ 32
-IsSmall (Left n) = n < 2 ^ 32
-IsSmall (Right n) = n < 2 ^ 32
-IsSmall _ = Unit {0}
+abbrev pub IsWithinU32 : CertItem → Type 0
+IsWithinU32 (Number n) = n < 2 ^ 32
+IsWithinU32 (Left n) = n < 2 ^ 32
+IsWithinU32 (Right n) = n < 2 ^ 32
+IsWithinU32 _ = Unit {0}
 
 abbrev pub AreSmall : Items → Type 0
 AreSmall [] = Unit {0}
-AreSmall (x ∷ is) = IsSmall x × AreSmall is
+AreSmall (x ∷ is) = IsWithinU32 x × AreSmall is

@@ -18,4 +18,4 @@ mod matches;
 pub mod mode;
 pub mod sorts;
 pub mod spine_heads;
-mod spines;
+pub mod spines;

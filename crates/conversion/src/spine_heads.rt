@@ -74,7 +74,7 @@ pub fn alike(a: &Term, b: &Term) -> bool
 }
 
 /// Whether two spines have as many arguments, and heads of one kind. Takes no memory.
-pub(crate) fn fit(f: &Term, xs: &Terms, g: &Term, ys: &Terms) -> bool
+pub fn fit(f: &Term, xs: &Terms, g: &Term, ys: &Terms) -> bool
     ensures is { result ≡ ((length xs.now == length ys.now) && alike f.now g.now) }
 {
     xs.len() == ys.len() && alike(f, g)

@@ -23,7 +23,7 @@ use pc_terms::term::{MakeFault, Node, Term, Terms};
 use std::alloc::Global;
 
 /// The clash of two weak-head normal forms. Only `Memory`.
-fn clash_of(a: &Term, b: &Term) -> Result<Clash, MakeFault>
+pub fn clash_of(a: &Term, b: &Term) -> Result<Clash, MakeFault>
     ensures ok { IfOk result (λ c. c ≡ ClashOfTerms a.now b.now) }
     ensures only_memory { IfErr result (λ e. e ≡ Memory) }
 {

@@ -4,7 +4,7 @@ use Rattle.universe_levels.specs.declared.constraint.Constraint.{Constraint}
 use Rattle.pc_terms.specs.Syntax.{Term}
 use Rattle.calculus_rules.specs.Environment.{Env}
 use Rattle.pc_rules.specs.DirectedDeclarations.{IsCycle, first_repeated, first_undeclared_end}
-use Rattle.cert_rules.specs.Walk.{Items, Stand, Walk}
+use Rattle.cert_rules.specs.Walk.{Items, WalkState, Walk}
 use Rattle.cert_rules.specs.WalkDeclarations.{walk_unless}
 use Rattle.cert_text.specs.CertReading.{CertRead, Read}
 use Rattle.env_check.specs.Rules.{IsFound}
@@ -19,12 +19,12 @@ use Rattle.driver.proofs.Judging.{no_cycle}
 
 -- ---- one walk
 
-unless_same : {A : Type 0} (o : Option A) (v w : Walk (Env × Term)) (s : Stand) → (o ≡ None → v ≡ w) → walk_unless o v s ≡ walk_unless o w s
+unless_same : {A : Type 0} (o : Option A) (v w : Walk (Env × Term)) (s : WalkState) → (o ≡ None → v ≡ w) → walk_unless o v s ≡ walk_unless o w s
 unless_same None v w s h = h refl
 unless_same (Some a) v w s h = refl
 
 -- the constraints have a cycle or none
-cycle_same : (levels : ℕ) (cs : List Constraint) (a b : Option (List ℕ)) (go : Walk (Env × Term)) (s : Stand) → IsCycle levels cs a → IsCycle levels cs b → walk_unless a go s ≡ walk_unless b go s
+cycle_same : (levels : ℕ) (cs : List Constraint) (a b : Option (List ℕ)) (go : Walk (Env × Term)) (s : WalkState) → IsCycle levels cs a → IsCycle levels cs b → walk_unless a go s ≡ walk_unless b go s
 cycle_same levels cs None None go s h k = refl
 cycle_same levels cs None (Some q) go s h k = absurd (no_cycle levels cs q h k)
 cycle_same levels cs (Some p) None go s h k = absurd (no_cycle levels cs p k h)

@@ -5,7 +5,7 @@ use Rattle.pc_terms.specs.Syntax.{Term}
 use Rattle.calculus_rules.specs.Environment.{Env}
 use Rattle.pc_rules.specs.declared.meter.Account.{Account}
 use Rattle.pc_rules.specs.Entailment.{entailed_by}
-use Rattle.cert_rules.specs.Walk.{Items, Stand, Walk, WalkEnd, Passed, Barred, Unpaid, Crowded}
+use Rattle.cert_rules.specs.Walk.{Items, WalkState, Walk, WalkEnd, Passed, Barred, Unpaid, Crowded}
 use Rattle.cert_rules.specs.WalkDeclarations.{walk_environment}
 use Rattle.cert_text.specs.CertReading.{CertRead, Read, WrongToken, TooGreat, read_bytes}
 use Rattle.env_check.specs.Rules.{IsFound, givens}
@@ -45,7 +45,7 @@ CertificateSays bytes (Err _) = ⊥
 
 -- the walk comes to its end, or shows a refusal
 abbrev pub WalkSays : (turns : ℕ) → RawEnv → Items → Result (Unit {0}) Refusal → Type 0
-WalkSays turns e items (Ok a) = (cycle : Option (List ℕ)) × (r : Env × Term) × (s : Stand) × IsFound e cycle × ((walk_along turns e items cycle).end ≡ Passed r s)
+WalkSays turns e items (Ok a) = (cycle : Option (List ℕ)) × (r : Env × Term) × (s : WalkState) × IsFound e cycle × ((walk_along turns e items cycle).end ≡ Passed r s)
 WalkSays turns e items (Err refusals.Memory) = Unit {0}
 WalkSays turns e items (Err r) = (cycle : Option (List ℕ)) × IsFound e cycle × WalkShows (walk_along turns e items cycle) r
 
@@ -58,7 +58,7 @@ pub record IsWalked (turns : ℕ) (e : RawEnv) (bytes : List ℕ) : Type 0 where
   pub cycle : Option (List ℕ)
   pub found : IsFound e cycle
   pub result : Env × Term
-  pub last : Stand
+  pub last : WalkState
   pub passes : (walk_along turns e items cycle).end ≡ Passed result last
 
 -- it is one, and the walk along it shows the refusal

@@ -13,7 +13,7 @@ use Rattle.env_check.specs.declared.refusal.Refusal.TheVariants as refusals
 use Rattle.env_check.specs.Places.{bare}
 use Rattle.env_check.specs.Rules.{givens, IsFound}
 use Rattle.env_check.specs.Steps.{Refuses, level_refusal, end_refusal, RefusesGraph}
-use Rattle.cert_rules.specs.Walk.{Items, Stand, Walk, bar_here}
+use Rattle.cert_rules.specs.Walk.{Items, WalkState, Walk, bar_here}
 use Rattle.cert_rules.specs.WalkDeclarations.{walk_unless}
 use Rattle.type_cert.specs.declared.halt.WalkHalt.{WalkHalt}
 use Rattle.type_cert.specs.declared.halt.WalkHalt.TheVariants as walks
@@ -24,10 +24,10 @@ use Rattle.env_cert.specs.Verified.{walk_from, WalksFound, WalksAlong}
 use Rattle.env_cert.specs.EnvWalks.{declarations_walk}
 use Rattle.env_cert.specs.Beginning.{first_halt, HasSoundLevels, HaltsFirst}
 
-unless_none : {A : Type 0} (o : Option A) (go : Walk (Env × Term)) (s : Stand) → o ≡ None → walk_unless o go s ≡ go
+unless_none : {A : Type 0} (o : Option A) (go : Walk (Env × Term)) (s : WalkState) → o ≡ None → walk_unless o go s ≡ go
 unless_none o go s e = ap (λ x. walk_unless x go s) e
 
-unless_some : {A : Type 0} (o : Option A) (a : A) (go : Walk (Env × Term)) (s : Stand) → o ≡ Some a → walk_unless o go s ≡ bar_here s
+unless_some : {A : Type 0} (o : Option A) (a : A) (go : Walk (Env × Term)) (s : WalkState) → o ≡ Some a → walk_unless o go s ≡ bar_here s
 unless_some o a go s e = ap (λ x. walk_unless x go s) e
 
 module _ (raw : RawEnv) where
@@ -89,6 +89,6 @@ module _ (raw : RawEnv) where
       graph_refused i refusals.Memory h = λ cert t at. tt
 
   -- it comes to the declarations, over an environment that keeps nothing
-  pub comes_to_declarations : HasSoundLevels raw → (cert : Items) (n : ℕ) (s : Stand) → walk_from cert raw None n s ≡ declarations_walk cert n (bare raw) (givens raw) raw.main s
+  pub comes_to_declarations : HasSoundLevels raw → (cert : Items) (n : ℕ) (s : WalkState) → walk_from cert raw None n s ≡ declarations_walk cert n (bare raw) (givens raw) raw.main s
   comes_to_declarations h cert n s =
       unless_none (first_repeated 0 [] raw.levels) _ s h.once ∙ unless_none (first_undeclared_end (length raw.levels) 0 raw.constraints) _ s h.declared

@@ -23,7 +23,7 @@ use Rattle.rule_laws.proofs.TypedCounts.{accepted_counted}
 use Rattle.type_infer.specs.Ready.{IsReady}
 use Rattle.type_infer.proofs.Beginning.{decides}
 use Rattle.inductive_check.specs.Given.{given_of, block_of}
-use Rattle.cert_rules.specs.Walk.{Items, Stand, Walk, walk_on, by_rules}
+use Rattle.cert_rules.specs.Walk.{Items, WalkState, Walk, walk_on, by_rules}
 use Rattle.cert_rules.specs.WalkDeclarations.{walk_declaration, walk_declarations}
 use Rattle.cert_rules.proofs.SoundEnvironments.{declaration_sound}
 use Rattle.type_cert.specs.declared.halt.WalkHalt.{WalkHalt}
@@ -69,10 +69,10 @@ formed_next xs i x l is h k =
 
 module _ (cert : Items) (n : ℕ) (E : Env) (ds : List Given) (t0 : Trail) (H : Env) (xs : List RawDecl) (i : ℕ) (t : Trail) (go : LeadsOn cert n E ds t0 H (map given_of (drop i xs)) t) where
   module _ (x : RawDecl) (l : i < length xs) (is : x ≡ get_or xs i x) where
-    abbrev others : Term → Kept → Stand → Walk (Env × Term)
+    abbrev others : Term → Kept → WalkState → Walk (Env × Term)
     others main k v = declarations_walk cert n (with_kept H k) (map given_of (drop (i + 1) xs)) main v
 
-    here : (main : Term) (s : Stand) → declarations_walk cert n H (map given_of (drop i xs)) main s ≡ walk_on (walk_declaration cert H (test_of H) n (given_of x) s) (others main)
+    here : (main : Term) (s : WalkState) → declarations_walk cert n H (map given_of (drop i xs)) main s ≡ walk_on (walk_declaration cert H (test_of H) n (given_of x) s) (others main)
     unfolding walk_declarations
     here main s = rw (next_is xs i x l is) refl
 

@@ -13,7 +13,7 @@ use Rattle.pc_rules.proofs.Entailing.{entailed_decides}
 use Rattle.rule_laws.specs.Declarations.{AllGivenFormed, IsCheckedEnvironment}
 use Rattle.env_check.specs.Places.{bare}
 use Rattle.env_check.specs.Rules.{givens}
-use Rattle.cert_rules.specs.Walk.{Items, Stand, Walk, Passed, pass, bar}
+use Rattle.cert_rules.specs.Walk.{Items, WalkState, Walk, Passed, pass, bar}
 use Rattle.inductive_check.specs.Given.{given_of}
 use Rattle.cert_rules.specs.WalkDeclarations.{walk_end, walk_main, walk_declarations, start}
 use Rattle.cert_rules.proofs.SoundEnvironments.{environment_sound}
@@ -58,7 +58,7 @@ module _ (raw : RawEnv) (sound : HasSoundLevels raw) (cert : Items) (t0 : Trail)
   whole_along r t p = along_found raw cert r t0 t (whole_found r t p)
 
   -- what is accepted is well formed
-  accepted_well_formed : (cycle : Option (List ℕ)) → AllGivenFormed (givens raw) → IsFormed raw.main → (E : Env) (T : Term) (s s' : Stand) → (walk_from cert raw cycle n s).end ≡ Passed (E, T) s' →
+  accepted_well_formed : (cycle : Option (List ℕ)) → AllGivenFormed (givens raw) → IsFormed raw.main → (E : Env) (T : Term) (s s' : WalkState) → (walk_from cert raw cycle n s).end ≡ Passed (E, T) s' →
       IsCheckedEnvironment raw.levels raw.constraints (givens raw) raw.main E T
   accepted_well_formed cycle fs fm E T s s' e =
       environment_sound cert raw.levels raw.constraints cycle (entailed_by (length raw.levels) raw.constraints) (entailed_decides (length raw.levels) raw.constraints sound.consistent sound.over)
@@ -74,7 +74,7 @@ module _ (raw : RawEnv) (sound : HasSoundLevels raw) (cert : Items) (t0 : Trail)
 -- the same over what the calls have found: so many rules may stand in one another, the environment that keeps nothing, and the declarations
 module _ (raw : RawEnv) (sound : HasSoundLevels raw) (cert : Items) (t0 : Trail) (room : ℕ) (E : Env) (xs : List RawDecl) (er : room ≡ 2048 - t0.meter.nest) (eE : E ≡ bare raw)
     (ex : xs ≡ raw.decls) where
-  abbrev found_walk : Stand → Walk (Env × Term)
+  abbrev found_walk : WalkState → Walk (Env × Term)
   found_walk s = declarations_walk cert room E (map given_of xs) raw.main s
 
   from_bare : (r : Result (Env × Term) WalkHalt) (t : Trail) → Retraces (found_walk (stand t0)) r t0 t →

@@ -10,7 +10,7 @@ use Rattle.pc_rules.specs.declared.stop.Stop.TheVariants as stops
 use Rattle.pc_rules.specs.Entailment.{entailed_by}
 use Rattle.rule_laws.specs.Declarations.{IsCheckedEnvironment}
 use Rattle.env_check.specs.Rules.{givens, IsFound}
-use Rattle.cert_rules.specs.Walk.{Items, Stand, Walk, Passed, Barred, Unpaid}
+use Rattle.cert_rules.specs.Walk.{Items, WalkState, Walk, Passed, Barred, Unpaid}
 use Rattle.cert_rules.specs.WalkDeclarations.{walk_environment, start}
 use Rattle.type_cert.specs.declared.halt.WalkHalt.{WalkHalt}
 use Rattle.type_cert.specs.declared.halt.WalkHalt.TheVariants as walks
@@ -20,7 +20,7 @@ use Rattle.env_cert.specs.declared.refusal.VerifyRefusal.{VerifyRefusal}
 use Rattle.env_cert.specs.declared.refusal.VerifyRefusal.TheVariants.{Bad, Spent, TooDeep, Memory}
 
 -- the walk of an environment that is read, where the graph has this cycle, if one; n rules may stand in one another
-abbrev pub walk_from : Items → RawEnv → Option (List ℕ) → ℕ → Stand → Walk (Env × Term)
+abbrev pub walk_from : Items → RawEnv → Option (List ℕ) → ℕ → WalkState → Walk (Env × Term)
 walk_from cert raw cycle n s = walk_environment cert raw.levels raw.constraints cycle (entailed_by (length raw.levels) raw.constraints) n (givens raw) raw.main s
 
 -- from the first item on

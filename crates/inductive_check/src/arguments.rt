@@ -29,7 +29,7 @@ use universe_levels::sort::Sort;
 
 /// Where a constructor stands in its block: the places of its family and of itself, from 0.
 #[derive(Clone, Copy)]
-pub(crate) struct CtorPlace {
+pub struct CtorPlace {
     pub family: u32,
     pub ctor: u32,
 }
@@ -54,7 +54,7 @@ pub fn fits_sort(alloc: Global, env: &Env, argument: &Sort, family: &Sort) -> Re
 }
 
 /// Whether a type is strictly positive in the block. `NotPositive` with the constructor's place.
-fn positive_at(
+pub fn positive_at(
     alloc: Global,
     env: &Env,
     block: Name,

@@ -34,7 +34,7 @@ use pc_terms::term::Terms;
 use std::alloc::Global;
 
 /// Whether no result term names a family of the block. `NotPositive` with the constructor's place. Takes no memory.
-fn names_none(block: Name, at: CtorPlace, result_terms: &Terms) -> Result<(), Halt>
+pub fn names_none(block: Name, at: CtorPlace, result_terms: &Terms) -> Result<(), Halt>
     ensures answers { (u : Account) → Answers (result_names block at.family at.ctor result_terms.now u) result u }
 {
     if !some_names(Target::Families(block), 0, result_terms.as_slice()) {

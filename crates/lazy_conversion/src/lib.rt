@@ -7,7 +7,7 @@
 //! be the same, and then compared as a plain term; and a refusal reads the two terms that it keeps.
 //! A comparison knows of its context only the values of variables: so a longer context has placeholders, and no types of entries are made.
 //!
-//! Below stand `reduce_machine` (values), `reduction` and `redexes` (terms around a scrutinee), `conversion` (sorts, kinds of heads), `rule_laws` and
+//! Below stand `reduce_machine` (values), `reduction` (terms around a scrutinee), `conversion` (sorts, kinds of heads), `rule_laws` and
 //! `instances` (laws on counts, families of blocks), `pc_rules` (the definitions, the trait), `calculus_rules`, `pc_terms`, `trees` and
 //! `universe_levels`; above, `env_check` and the `driver`, which compare by it.
 #![tactic(auto)]

@@ -1,10 +1,7 @@
 //! Spines: heads, and arguments from left to right.
-ghost use Rattle.std.specs.Prelude.{◌≡◌, ◌+◌, ◌==◌, ◌&&◌, [], ◌∷◌, length, List, IfOk, IfErr};
+ghost use Rattle.std.specs.Prelude.{◌≡◌, ◌+◌, [], ◌∷◌, length, List};
 ghost use Rattle.pc_terms.specs.Syntax.{Term};
-ghost use Rattle.pc_terms.specs.declared.term.MakeFault.TheVariants.{Memory};
 ghost use Rattle.calculus_rules.specs.Context.{values};
-ghost use Rattle.pc_rules.specs.declared.broken.Clash.TheVariants.{Terms as ClashOfTerms};
-ghost use Rattle.pc_rules.specs.DirectedComparison.{alike};
 ghost use Rattle.cert_rules.specs.Writing.{noting_all};
 ghost use Rattle.cert_rules.specs.MakingTyping.{part_items};
 ghost use Rattle.conversion.specs.Comparable.{AreComparable};
@@ -15,30 +12,14 @@ use crate::draft::Draft;
 use crate::maker::Maker;
 use cert_rules::item::CertItem;
 use conversion::mode::Mode;
-use conversion::spine_heads::alike;
-use pc_rules::broken::{Broken, Clash};
+use conversion::spine_heads::fit;
+use conversion::spines::clash_of;
+use pc_rules::broken::Broken;
 use pc_rules::context::Ctx;
 use pc_rules::reducer::Reducer;
 use pc_rules::stop::Halt;
-use pc_terms::term::{MakeFault, Node, Term, Terms};
+use pc_terms::term::{Node, Term, Terms};
 use std::alloc::Global;
-
-/// Whether two spines have as many arguments, and heads of one kind. Takes no memory.
-fn fit(f: &Term, xs: &Terms, g: &Term, ys: &Terms) -> bool
-    ensures is { result ≡ ((length xs.now == length ys.now) && alike f.now g.now) }
-{
-    xs.len() == ys.len() && alike(f, g)
-}
-
-/// The clash of two weak-head normal forms. Only `Memory`.
-fn clash_of(a: &Term, b: &Term) -> Result<Clash, MakeFault>
-    ensures ok { IfOk result (λ c. c ≡ ClashOfTerms a.now b.now) }
-    ensures only_memory { IfErr result (λ e. e ≡ Memory) }
-{
-    let left = a.share()?;
-    let right = b.share()?;
-    Ok(Clash::Terms(left, right))
-}
 
 /// Writes an item for the parts of each of `count` applications. Only `Memory`.
 fn put_parts(count: usize, draft: &mut Draft) -> Result<(), Halt>

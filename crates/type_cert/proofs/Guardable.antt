@@ -17,7 +17,7 @@ use Rattle.pc_rules.specs.FixConditions.{DomainIsFamily, DomainsAreFamilies}
 use Rattle.rule_laws.proofs.Comparing.{names_long}
 use Rattle.rule_laws.proofs.FixRule.{enough, a_family}
 use Rattle.rule_laws.proofs.TypedLambdas.{typed_lambdas}
-use Rattle.cert_rules.specs.Walk.{Items, Stand, Walk, Passed, pass, walk_on, by_rules}
+use Rattle.cert_rules.specs.Walk.{Items, WalkState, Walk, Passed, pass, walk_on, by_rules}
 use Rattle.cert_rules.specs.WalkSteps.{Reduced, reduced}
 use Rattle.cert_rules.specs.Scripts.{Script, script}
 use Rattle.cert_rules.specs.WalkTyping.{Walking, walk_infer, walk_check, walk_types, walk_family_found, walk_definition, walk_definitions}
@@ -32,13 +32,13 @@ use Rattle.type_cert.specs.declared.trail.Trail.{Trail}
 use Rattle.type_cert.specs.Retraces.{stand, Retraces}
 
 module _ (cert : Items) (E : Env) (inf : Walking) (cmp : Script) (c : Context) (n : ℕ) where
-  definition_domain : (d r : ℕ) (T body : Term) (u v : Stand) → (walk_definition cert E inf cmp c n d r T body u).end ≡ Passed tt v → DomainIsFamily E (values c) r body
+  definition_domain : (d r : ℕ) (T body : Term) (u v : WalkState) → (walk_definition cert E inf cmp c n d r T body u).end ≡ Passed tt v → DomainIsFamily E (values c) r body
   definition_domain d r T body u v h =
       let S : Term = shift n 0 T in
-      let k4 : Reduced → Stand → Walk (Unit {0}) = λ r y. walk_family_found r.item r.term y in
-      let k3 : Context × Term → Unit {0} → Stand → Walk (Unit {0}) = λ p _ x. walk_on (reduced cert E (values p.0) p.1 x) k4 in
-      let k2 : Context × Term → Term → Stand → Walk (Unit {0}) = λ p S w. walk_on (walk_check cert E inf cmp c body S w) (k3 p) in
-      let k1 : Context × Term → Stand → Walk (Unit {0}) = λ p v. walk_on (by_rules (make S) v) (k2 p) in
+      let k4 : Reduced → WalkState → Walk (Unit {0}) = λ r y. walk_family_found r.item r.term y in
+      let k3 : Context × Term → Unit {0} → WalkState → Walk (Unit {0}) = λ p _ x. walk_on (reduced cert E (values p.0) p.1 x) k4 in
+      let k2 : Context × Term → Term → WalkState → Walk (Unit {0}) = λ p S w. walk_on (walk_check cert E inf cmp c body S w) (k3 p) in
+      let k1 : Context × Term → WalkState → Walk (Unit {0}) = λ p v. walk_on (by_rules (make S) v) (k2 p) in
       let p1 = on_both (by_rules (enough_abstractions d (recursive_domain c r body)) u) k1 tt v h in
       let q : Context × Term = p1.0 in
       let h2 = make_then S p1.1 (k2 q) p1.3 in
@@ -53,7 +53,7 @@ module _ (cert : Items) (E : Env) (inf : Walking) (cmp : Script) (c : Context) (
       let end : IsWhnf E (values q.0) q.1 W = (lead.steps, λ u s. no_step_at g.0 g.1 s) in
       domain_is E c r body q g.0 (args W) e (subst (λ x. IsWhnf E (values q.0) q.1 x) spine end)
 
-  definitions_domains : (d : ℕ) (rargs : List ℕ) (types bodies : Terms) (u v : Stand) → length (binders_of types) ≡ length rargs → length (binders_of bodies) ≡ length rargs →
+  definitions_domains : (d : ℕ) (rargs : List ℕ) (types bodies : Terms) (u v : WalkState) → length (binders_of types) ≡ length rargs → length (binders_of bodies) ≡ length rargs →
       (walk_definitions cert E inf cmp c n d rargs (list_of types) (list_of bodies) u).end ≡ Passed tt v → DomainsAreFamilies E (values c) rargs bodies
   unfolding walk_definitions
   definitions_domains d [] Done Done u v l l' h = tt

@@ -14,7 +14,7 @@ use Rattle.pc_rules.specs.DirectedRun.{Run, make, passing, ticked}
 use Rattle.pc_rules.specs.Follows.{Follows, Answers, Halts, IsAfter}
 use Rattle.pc_rules.proofs.Following.{follows_still, follows_made, follows_fault, follows_passing, follows_deep}
 use Rattle.pc_rules.proofs.Meters.{after-refl, after-trans, after-tick}
-use Rattle.cert_rules.specs.Walk.{Stand, Walk, WalkEnd, Passed, Barred, Unpaid, Crowded, pass, bar, crowded, tick, paid_walk, walk_ticking, end_on, deep_on, walk_on, end_at, by_rules}
+use Rattle.cert_rules.specs.Walk.{WalkState, Walk, WalkEnd, Passed, Barred, Unpaid, Crowded, pass, bar, crowded, tick, paid_walk, walk_ticking, end_on, deep_on, walk_on, end_at, by_rules}
 use Rattle.cert_rules.specs.WalkSteps.{Reduced}
 use Rattle.type_cert.specs.declared.halt.WalkHalt.{WalkHalt}
 use Rattle.type_cert.specs.declared.halt.WalkHalt.TheVariants as walks
@@ -30,15 +30,15 @@ or_right true b h = refl
 or_right false b h = h
 
 -- the end of a walk whose first part passes, and whether it has passed a limit
-pub on_end : {A B : Type 0} (d : Walk A) (k : A → Stand → Walk B) (a : A) (s : Stand) → d.end ≡ Passed a s → (walk_on d k).end ≡ (k a s).end
+pub on_end : {A B : Type 0} (d : Walk A) (k : A → WalkState → Walk B) (a : A) (s : WalkState) → d.end ≡ Passed a s → (walk_on d k).end ≡ (k a s).end
 unfolding walk_on
 on_end d k a s e = ap (λ x. end_on x (λ a s. (k a s).end)) e
 
-pub on_deep : {A B : Type 0} (d : Walk A) (k : A → Stand → Walk B) (a : A) (s : Stand) → d.end ≡ Passed a s → IsTrue (k a s).deep → IsTrue (walk_on d k).deep
+pub on_deep : {A B : Type 0} (d : Walk A) (k : A → WalkState → Walk B) (a : A) (s : WalkState) → d.end ≡ Passed a s → IsTrue (k a s).deep → IsTrue (walk_on d k).deep
 unfolding walk_on
 on_deep d k a s e h = or_right d.deep _ (rw e h)
 
-pub answers_more : {A B : Type 0} (d : Walk A) (k : A → Stand → Walk B) (a : A) (s x : Stand) (r : Result B WalkHalt) → d.end ≡ Passed a s → WalkAnswers (k a s) r x →
+pub answers_more : {A B : Type 0} (d : Walk A) (k : A → WalkState → Walk B) (a : A) (s x : WalkState) (r : Result B WalkHalt) → d.end ≡ Passed a s → WalkAnswers (k a s) r x →
     WalkAnswers (walk_on d k) r x
 answers_more d k a s x (Ok b) e h = on_end d k a s e ∙ h
 answers_more d k a s x (Err (walks.Stop Spent)) e h = (on_end d k a s e ∙ h.0, h.1)
@@ -46,7 +46,7 @@ answers_more d k a s x (Err (walks.Stop TooDeep)) e h = on_deep d k a s e h
 answers_more d k a s x (Err (walks.Stop Memory)) e h = tt
 answers_more d k a s x (Err (walks.Barred i)) e h = on_end d k a s e ∙ h
 
-pub answers_err : {A B : Type 0} (d : Walk A) (k : A → Stand → Walk B) (u : Account) (h : WalkHalt) → WalkHalts d h u → WalkHalts (walk_on d k) h u
+pub answers_err : {A B : Type 0} (d : Walk A) (k : A → WalkState → Walk B) (u : Account) (h : WalkHalt) → WalkHalts d h u → WalkHalts (walk_on d k) h u
 unfolding walk_on
 answers_err d k u (walks.Stop Spent) h = (ap (λ x. end_on x (λ a s. (k a s).end)) h.0, h.1)
 answers_err d k u (walks.Stop TooDeep) h = or_left d.deep _ h
@@ -54,13 +54,13 @@ answers_err d k u (walks.Stop Memory) h = tt
 answers_err d k u (walks.Barred i) h = ap (λ x. end_on x (λ a s. (k a s).end)) h
 
 -- the first part passes, and the rest goes on from there
-pub retraces_on : {A B : Type 0} {d : Walk A} {a : A} {r : Result B WalkHalt} {t0 t1 t2 : Trail} (k : A → Stand → Walk B) → Retraces d (Ok a) t0 t1 → Retraces (k a (stand t1)) r t1 t2 →
+pub retraces_on : {A B : Type 0} {d : Walk A} {a : A} {r : Result B WalkHalt} {t0 t1 t2 : Trail} (k : A → WalkState → Walk B) → Retraces d (Ok a) t0 t1 → Retraces (k a (stand t1)) r t1 t2 →
     Retraces (walk_on d k) r t0 t2
 retraces_on {d = d} {a = a} {r = r} {t0 = t0} {t1 = t1} {t2 = t2} k p q =
     record { answer = answers_more d k a (stand t1) (stand t2) r p.answer q.answer; after = after-trans t0.meter t1.meter t2.meter p.after q.after }
 
 -- the first part is refused or stops
-pub retraces_err : {A B : Type 0} {d : Walk A} {h : WalkHalt} {t0 t1 : Trail} (k : A → Stand → Walk B) → Retraces d (Err h) t0 t1 → Retraces (walk_on d k) (Err h) t0 t1
+pub retraces_err : {A B : Type 0} {d : Walk A} {h : WalkHalt} {t0 t1 : Trail} (k : A → WalkState → Walk B) → Retraces d (Err h) t0 t1 → Retraces (walk_on d k) (Err h) t0 t1
 retraces_err {d = d} {h = h} {t1 = t1} k p = record { answer = answers_err d k t1.meter.account h p.answer; after = p.after }
 
 pub retraces_pass : {A : Type 0} (a : A) (t : Trail) → Retraces (pass a (stand t)) (Ok a) t t
@@ -90,15 +90,15 @@ pub paid_none : {A : Type 0} (n : ℕ) (go : Walk A) → n ≡ 0 → paid_walk n
 paid_none zero go h = refl
 paid_none (suc n) go h = absurd (omega arith)
 
-pub ticking_more : {A : Type 0} (s : Stand) (go : Stand → Walk A) → 0 < s.account.left → walk_ticking s go ≡ go (tick s)
+pub ticking_more : {A : Type 0} (s : WalkState) (go : WalkState → Walk A) → 0 < s.account.left → walk_ticking s go ≡ go (tick s)
 unfolding walk_ticking
 ticking_more s go h = paid_more s.account.left (go (tick s)) h
 
-pub ticking_none : {A : Type 0} (s : Stand) (go : Stand → Walk A) → s.account.left ≡ 0 → walk_ticking s go ≡ record { end = Unpaid; deep = false }
+pub ticking_none : {A : Type 0} (s : WalkState) (go : WalkState → Walk A) → s.account.left ≡ 0 → walk_ticking s go ≡ record { end = Unpaid; deep = false }
 unfolding walk_ticking
 ticking_none s go h = paid_none s.account.left (go (tick s)) h
 
-pub retraces_spent : {A : Type 0} (go : Stand → Walk A) (t0 t1 : Trail) → t0.meter.account.left ≡ 0 → t1.meter.account ≡ ticked t0.meter.account → t1.meter.nest ≡ t0.meter.nest →
+pub retraces_spent : {A : Type 0} (go : WalkState → Walk A) (t0 t1 : Trail) → t0.meter.account.left ≡ 0 → t1.meter.account ≡ ticked t0.meter.account → t1.meter.nest ≡ t0.meter.nest →
     Retraces (walk_ticking (stand t0) go) (Err (walks.Stop Spent)) t0 t1
 retraces_spent go t0 t1 z e n =
     rw (ticking_none (stand t0) go z) (record { answer = (refl, rw e (omega arith)); after = after-tick t0.meter t1.meter e n })
@@ -110,7 +110,7 @@ retraces_nested t0 t1 h e n =
     rw (ticking_more (stand t0) (λ v. crowded) h) (record { answer = refl; after = after-tick t0.meter t1.meter e n })
 
 -- what takes no item is done by calls that follow the directed rules
-rules_answer : {A : Type 0} (f : Account → Run A) (s : Stand) (r : Result A Halt) (u : Account) → Answers (f s.account) r u →
+rules_answer : {A : Type 0} (f : Account → Run A) (s : WalkState) (r : Result A Halt) (u : Account) → Answers (f s.account) r u →
     WalkAnswers (by_rules f s) (barred_at s.at r) (record { account = u; at = s.at })
 unfolding by_rules
 rules_answer f s (Ok a) u h = ap (λ e. end_at s.at e) h
@@ -164,7 +164,7 @@ pub retraces_fault : (T : Term) (f : MakeFault) (t : Trail) → (f ≡ DeepTerm 
 retraces_fault T f t h = retraces_rules (make T) (Err (halts.Stop (stop_of f))) t t (follows_fault T f t.meter h) refl
 
 -- terms are made, of which some may be beyond the limits
-pub retraces_passing : {B : Type 0} (b : Bool) (k : Unit {0} → Stand → Walk B) {r : Result B WalkHalt} {t0 t1 : Trail} → Retraces (k tt (stand t0)) r t0 t1 →
+pub retraces_passing : {B : Type 0} (b : Bool) (k : Unit {0} → WalkState → Walk B) {r : Result B WalkHalt} {t0 t1 : Trail} → Retraces (k tt (stand t0)) r t0 t1 →
     Retraces (walk_on (by_rules (passing b) (stand t0)) k) r t0 t1
 retraces_passing b k {t0 = t0} p = retraces_on k (retraces_rules (passing b) (Ok tt) t0 t0 (follows_passing b t0.meter) refl) p
 
@@ -172,7 +172,7 @@ deep_passing : (b : Bool) (f : MakeFault) (t : Trail) → (f ≡ DeepTerm → Is
 deep_passing b DeepTerm t h = retraces_rules (passing b) (Err (halts.Stop TooDeep)) t t (follows_deep (passing b t.meter.account) t.meter (h refl)) refl
 deep_passing b NoTerm t h = retraces_memory (by_rules (passing b) (stand t)) t
 
-pub retraces_beyond : {B : Type 0} (b : Bool) (k : Unit {0} → Stand → Walk B) (f : MakeFault) (t : Trail) → (f ≡ DeepTerm → IsTrue b) →
+pub retraces_beyond : {B : Type 0} (b : Bool) (k : Unit {0} → WalkState → Walk B) (f : MakeFault) (t : Trail) → (f ≡ DeepTerm → IsTrue b) →
     Retraces (walk_on (by_rules (passing b) (stand t)) k) (Err (walks.Stop (stop_of f))) t t
 retraces_beyond b k f t h = retraces_err k (deep_passing b f t h)
 
@@ -189,7 +189,7 @@ nest_after m0 m1 m2 m3 n e f e' n' = record {
   uses = λ i. rw e' (let x = f.uses i in rw e at x);
 }
 
-pub retraces_entered : {A : Type 0} (go : Stand → Walk A) (r : Result A WalkHalt) (t0 t1 t2 t3 t4 : Trail) → 0 < t0.meter.account.left →
+pub retraces_entered : {A : Type 0} (go : WalkState → Walk A) (r : Result A WalkHalt) (t0 t1 t2 t3 t4 : Trail) → 0 < t0.meter.account.left →
     t1.meter.account ≡ ticked t0.meter.account → t1.meter.nest ≡ t0.meter.nest → t2.meter.account ≡ t1.meter.account → t2.meter.nest ≡ t1.meter.nest + 1 → t2.at ≡ t0.at →
     Retraces (go (stand t2)) r t2 t3 → t4.meter.account ≡ t3.meter.account → t4.meter.nest ≡ t3.meter.nest - 1 → t4.at ≡ t3.at → Retraces (walk_ticking (stand t0) go) r t0 t4
 retraces_entered go r t0 t1 t2 t3 t4 h e n e2 n2 g p e4 n4 g4 =
@@ -210,7 +210,7 @@ or_false : (a : Bool) → (a || false) ≡ a
 or_false true = refl
 or_false false = refl
 
-module _ {A B C : Type 0} (f : A → Stand → Walk B) (g : B → Stand → Walk C) where
+module _ {A B C : Type 0} (f : A → WalkState → Walk B) (g : B → WalkState → Walk C) where
   assoc_at : (e : WalkEnd A) (b : Bool) → walk_on (walk_on (record { end = e; deep = b }) f) g ≡ walk_on (record { end = e; deep = b }) (λ a s. walk_on (f a s) g)
   unfolding walk_on
   assoc_at (Passed a s) b = λ i. record { end = (walk_on (f a s) g).end; deep = or_assoc b (f a s).deep (deep_on (f a s).end (λ x v. (g x v).deep)) i }
@@ -221,13 +221,13 @@ module _ {A B C : Type 0} (f : A → Stand → Walk B) (g : B → Stand → Walk
   pub walk_assoc : (d : Walk A) → walk_on (walk_on d f) g ≡ walk_on d (λ a s. walk_on (f a s) g)
   walk_assoc d = assoc_at d.end d.deep
 
-pub pass_on : {A B : Type 0} (a : A) (s : Stand) (k : A → Stand → Walk B) → walk_on (pass a s) k ≡ k a s
+pub pass_on : {A B : Type 0} (a : A) (s : WalkState) (k : A → WalkState → Walk B) → walk_on (pass a s) k ≡ k a s
 unfolding walk_on
 pass_on a s k = refl
 
 -- what asks nothing of a result follows what forgets it
 
-module _ {A B : Type 0} (k : Stand → Walk B) where
+module _ {A B : Type 0} (k : WalkState → Walk B) where
   abbrev forgets : Walk A → Walk (Unit {0})
   forgets d = walk_on d (λ _ w. pass tt w)
 

@@ -18,7 +18,7 @@ use Rattle.calculus_rules.specs.declared.entry.Entry.TheVariants.{Assumed, Defin
 use Rattle.pc_rules.specs.declared.meter.Meter.{Meter}
 use Rattle.rule_laws.proofs.KeepCounts.{steps_counted}
 use Rattle.cert_rules.specs.declared.item.CertItem.TheVariants.{Left, Right}
-use Rattle.cert_rules.specs.Walk.{Items, Stand, Walk, WalkEnd, WalkAct, Passed, Barred, Unpaid, Crowded, past, end_on, deep_on, walk_on, walk_all}
+use Rattle.cert_rules.specs.Walk.{Items, WalkState, Walk, WalkEnd, WalkAct, Passed, Barred, Unpaid, Crowded, past, end_on, deep_on, walk_on, walk_all}
 use Rattle.cert_rules.specs.WalkSteps.{walk_steps}
 use Rattle.cert_rules.specs.Scripts.{Script, parts_of, walk_parts, script_by, script}
 use Rattle.type_cert.specs.declared.halt.WalkHalt.{WalkHalt}
@@ -115,7 +115,7 @@ one_deep false (Barred i u) = refl
 one_deep false Unpaid = refl
 one_deep false Crowded = refl
 
-one_act : (act : WalkAct) (s : Stand) → walk_all (act ∷ []) s ≡ act s
+one_act : (act : WalkAct) (s : WalkState) → walk_all (act ∷ []) s ≡ act s
 unfolding walk_all walk_on
 one_act act s = λ i. record { end = one_end (act s).end i; deep = one_deep (act s).deep (act s).end i }
 
@@ -129,7 +129,7 @@ unfolding walk_all
 parts_go x y t0 t1 t2 r p q = retraces_on (λ _ v. walk_all (y ∷ []) v) p (retraces_is (one_act y (stand t1)) q)
 
 -- the parts of two terms of one former, for which item i asks, from here on
-abbrev pub parts_here : ℕ → Script → Values → Bool → Stand → Term → Term → Walk (Unit {0})
+abbrev pub parts_here : ℕ → Script → Values → Bool → WalkState → Term → Term → Walk (Unit {0})
 parts_here i go V equal s a b = walk_parts i (parts_of go V equal a b) s
 
 -- the item that asks for them, and they

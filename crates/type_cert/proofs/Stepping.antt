@@ -9,7 +9,7 @@ use Rattle.pc_rules.specs.DirectedRun.{ticked, is_beyond}
 use Rattle.pc_rules.specs.DirectedWeakHead.{weak_next}
 use Rattle.pc_rules.specs.Follows.{IsAfter}
 use Rattle.pc_rules.proofs.Meters.{after-trans, after-tick}
-use Rattle.cert_rules.specs.Walk.{Stand, Walk, Passed, tick, paid_walk}
+use Rattle.cert_rules.specs.Walk.{WalkState, Walk, Passed, tick, paid_walk}
 use Rattle.cert_rules.specs.WalkSteps.{stepped, walk_steps}
 use Rattle.type_cert.specs.declared.halt.WalkHalt.TheVariants as walks
 use Rattle.type_cert.specs.declared.trail.Trail.{Trail}
@@ -32,17 +32,17 @@ stand_ticked t0 t1 e f = λ i. record { account = e i; at = f i }
 
 module _ (E : Env) (V : Values) (item : ℕ) where
   -- with steps left, the unit first
-  more_steps : (n : ℕ) (t : Term) (s : Stand) → 0 < n →
+  more_steps : (n : ℕ) (t : Term) (s : WalkState) → 0 < n →
       walk_steps E V item n t s ≡ paid_walk s.account.left (stepped item (weak_next E V t) (tick s) (λ x. walk_steps E V item (n - 1) x (tick s)))
   unfolding walk_steps
   more_steps zero t s h = absurd (omega arith)
   more_steps (suc n) t s h = let e : n ≡ suc n - 1 = omega arith in ap (λ k. paid_walk s.account.left (stepped item (weak_next E V t) (tick s) (λ x. walk_steps E V item k x (tick s)))) e
 
-  paid_steps : (n : ℕ) (t : Term) (s : Stand) → 0 < n → 0 < s.account.left →
+  paid_steps : (n : ℕ) (t : Term) (s : WalkState) → 0 < n → 0 < s.account.left →
       walk_steps E V item n t s ≡ stepped item (weak_next E V t) (tick s) (λ x. walk_steps E V item (n - 1) x (tick s))
   paid_steps n t s h z = more_steps n t s h ∙ paid_more s.account.left _ z
 
-  no_more : (n : ℕ) (t : Term) (s : Stand) → n ≡ 0 → (walk_steps E V item n t s).end ≡ Passed t s
+  no_more : (n : ℕ) (t : Term) (s : WalkState) → n ≡ 0 → (walk_steps E V item n t s).end ≡ Passed t s
   unfolding walk_steps
   no_more zero t s e = refl
   no_more (suc n) t s e = absurd (omega arith)

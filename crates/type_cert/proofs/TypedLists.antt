@@ -21,7 +21,7 @@ use Rattle.pc_rules.specs.Stops.{stop_of}
 use Rattle.pc_rules.specs.DirectedRun.{make}
 use Rattle.pc_rules.specs.DirectedTyping.{recursive_domain, enough_abstractions, is_a_family}
 use Rattle.pc_rules.proofs.ListSteps.{next_is, none_left, min_either}
-use Rattle.cert_rules.specs.Walk.{Items, Stand, Walk, WalkAct, pass, walk_on, by_rules}
+use Rattle.cert_rules.specs.Walk.{Items, WalkState, Walk, WalkAct, pass, walk_on, by_rules}
 use Rattle.cert_rules.specs.WalkSteps.{reduced}
 use Rattle.cert_rules.specs.Scripts.{Script}
 use Rattle.cert_rules.specs.WalkTyping.{Walking, walk_sort_of, walk_sorts_of, walk_check, walk_check_all, walk_branch, walk_branches, walk_types, walk_family_found, walk_definition, walk_definitions}
@@ -38,17 +38,17 @@ module _ (cert : Items) (E : Env) (inf : Walking) where
   abbrev entering : Context → List Term → WalkAct
   entering c As s = walk_on (walk_sorts_of cert E inf c As s) (λ _ w. pass tt w)
 
-  entered_cons : (c : Context) (A : Term) (As : List Term) (s : Stand) → entering c (A ∷ As) s ≡ walk_on (walk_sort_of cert E inf c A s) (λ _ v. entering (Assumed A ∷ c) As v)
+  entered_cons : (c : Context) (A : Term) (As : List Term) (s : WalkState) → entering c (A ∷ As) s ≡ walk_on (walk_sort_of cert E inf c A s) (λ _ v. entering (Assumed A ∷ c) As v)
   unfolding walk_sorts_of
   entered_cons c A As s =
-      let more : Sort → List Sort → Stand → Walk (List Sort) = λ x xs w. pass (x ∷ xs) w in
-      let end : List Sort → Stand → Walk (Unit {0}) = λ _ w. pass tt w in
-      let all : Stand → Walk (List Sort) = λ v. walk_sorts_of cert E inf (Assumed A ∷ c) As v in
-      let inner : (x : Sort) (v : Stand) → walk_on (walk_on (all v) (more x)) end ≡ entering (Assumed A ∷ c) As v =
+      let more : Sort → List Sort → WalkState → Walk (List Sort) = λ x xs w. pass (x ∷ xs) w in
+      let end : List Sort → WalkState → Walk (Unit {0}) = λ _ w. pass tt w in
+      let all : WalkState → Walk (List Sort) = λ v. walk_sorts_of cert E inf (Assumed A ∷ c) As v in
+      let inner : (x : Sort) (v : WalkState) → walk_on (walk_on (all v) (more x)) end ≡ entering (Assumed A ∷ c) As v =
       λ x v. walk_assoc (more x) end (all v) ∙ (λ i. walk_on (all v) (λ xs w. pass_on (x ∷ xs) w end i)) in
       walk_assoc (λ x v. walk_on (all v) (more x)) end (walk_sort_of cert E inf c A s) ∙ (λ i. walk_on (walk_sort_of cert E inf c A s) (λ x v. inner x v i))
 
-  entered_nil : (c : Context) (s : Stand) → entering c [] s ≡ pass tt s
+  entered_nil : (c : Context) (s : WalkState) → entering c [] s ≡ pass tt s
   unfolding walk_sorts_of
   entered_nil c s = pass_on [] s (λ _ w. pass tt w)
 
@@ -76,10 +76,10 @@ module _ (cert : Items) (E : Env) (inf : Walking) (cmp : Script) (c : Context) (
     abbrev S : Term
     S = substitute (put_all before s0) A
 
-    abbrev after_type : Term → Stand → Walk (Unit {0})
+    abbrev after_type : Term → WalkState → Walk (Unit {0})
     after_type T v = walk_on (walk_check cert E inf cmp c t T v) (λ _ w. walk_check_all cert E inf cmp c (first t (put_all before s0)) (drop (i + 1) ts) (drop (i + 1) As) w)
 
-    all_is : (u : Stand) → all_from before i u ≡ walk_on (by_rules (make S) u) after_type
+    all_is : (u : WalkState) → all_from before i u ≡ walk_on (by_rules (make S) u) after_type
     unfolding walk_check_all
     all_is u = rw (next_is ts i t l e, next_is As i A k p) refl
 
@@ -108,7 +108,7 @@ module _ (cert : Items) (E : Env) (inf : Walking) (cmp : Script) (c : Context) (
   branches_from i u = walk_branches cert E inf cmp c f i (drop i Cs) ps ret (list_of (arms_of (drop i bs))) u
 
   module _ (i : ℕ) (C : Constructor) (b : Branch) (l : i < length Cs) (k : i < length bs) (e : C ≡ get_or Cs i C) (p : b ≡ get_or bs i b) where
-    branches_here : (u : Stand) → branches_from i u ≡ walk_on (walk_branch cert E inf cmp c f i C ps ret b.body u) (λ _ v. branches_from (i + 1) v)
+    branches_here : (u : WalkState) → branches_from i u ≡ walk_on (walk_branch cert E inf cmp c f i C ps ret b.body u) (λ _ v. branches_from (i + 1) v)
     unfolding walk_branches
     branches_here u =
         let n : suc i ≡ i + 1 = omega arith in
@@ -123,12 +123,12 @@ module _ (cert : Items) (E : Env) (inf : Walking) (cmp : Script) (c : Context) (
         Retraces (branches_from i (stand t0)) (Err h) t0 t1
     branches_stop h t0 t1 g = rw (branches_here (stand t0)) (retraces_err (λ _ v. branches_from (i + 1) v) g)
 
-  no_branches : (i : ℕ) (Ds : List Constructor) (u : Stand) → walk_branches cert E inf cmp c f i Ds ps ret [] u ≡ pass tt u
+  no_branches : (i : ℕ) (Ds : List Constructor) (u : WalkState) → walk_branches cert E inf cmp c f i Ds ps ret [] u ≡ pass tt u
   unfolding walk_branches
   no_branches i [] u = refl
   no_branches i (D ∷ Ds) u = refl
 
-  branches_short : (i : ℕ) (u : Stand) → (length Cs ≤ i) ⊎ (length bs ≤ i) → branches_from i u ≡ pass tt u
+  branches_short : (i : ℕ) (u : WalkState) → (length Cs ≤ i) ⊎ (length bs ≤ i) → branches_from i u ≡ pass tt u
   unfolding walk_branches
   branches_short i u (inl h) = rw (none_left Cs i h) refl
   branches_short i u (inr h) = ap (λ xs. walk_branches cert E inf cmp c f i (drop i Cs) ps ret (list_of (arms_of xs)) u) (none_left bs i h) ∙ no_branches i (drop i Cs) u
@@ -147,10 +147,10 @@ module _ (cert : Items) (E : Env) (inf : Walking) (c : Context) (ds : List Def) 
   types_done t h = rw (none_left ds i h) (retraces_pass tt t)
 
   module _ (d : Def) (h : i < length ds) (e : d ≡ get_or ds i d) where
-    abbrev after_lift : Term → Stand → Walk (Unit {0})
+    abbrev after_lift : Term → WalkState → Walk (Unit {0})
     after_lift S v = walk_on (walk_sort_of cert E inf c S v) (λ _ w. walk_types cert E inf (Assumed S ∷ c) (i + 1) (list_of (types_of (drop (i + 1) ds))) w)
 
-    types_is : (u : Stand) → types_from u ≡ walk_on (by_rules (make (shift i 0 d.ty)) u) after_lift
+    types_is : (u : WalkState) → types_from u ≡ walk_on (by_rules (make (shift i 0 d.ty)) u) after_lift
     unfolding walk_types
     types_is u =
         let n : suc i ≡ i + 1 = omega arith in
@@ -179,7 +179,7 @@ module _ (cert : Items) (E : Env) (inf : Walking) (cmp : Script) (c : Context) (
   definitions_end t h = rw (none_left ds i h) (retraces_pass tt t)
 
   module _ (d : Def) (h : i < length ds) (e : d ≡ get_or ds i d) where
-    definitions_is : (u : Stand) → definitions_from i u ≡ walk_on (walk_definition cert E inf cmp c n i d.rarg d.ty d.body u) (λ _ v. definitions_from (i + 1) v)
+    definitions_is : (u : WalkState) → definitions_from i u ≡ walk_on (walk_definition cert E inf cmp c n i d.rarg d.ty d.body u) (λ _ v. definitions_from (i + 1) v)
     unfolding walk_definitions
     definitions_is u =
         let m : suc i ≡ i + 1 = omega arith in
@@ -205,7 +205,7 @@ all_definitions cert E inf cmp c ds {r = r} {t0 = t0} {t1 = t1} p =
 -- one definition
 
 module _ (cert : Items) (E : Env) (inf : Walking) (cmp : Script) (c : Context) (n d : ℕ) (D : Def) where
-  abbrev after_domain : Context × Term → Stand → Walk (Unit {0})
+  abbrev after_domain : Context × Term → WalkState → Walk (Unit {0})
   after_domain p v =
       walk_on (by_rules (make (shift n 0 D.ty)) v) (λ S w.
       walk_on (walk_check cert E inf cmp c D.body S w) (λ _ x. walk_on (reduced cert E (values p.0) p.1 x) (λ r y. walk_family_found r.item r.term y)))

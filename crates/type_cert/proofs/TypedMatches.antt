@@ -25,7 +25,7 @@ use Rattle.pc_rules.specs.Follows.{Answers, Halts}
 use Rattle.pc_rules.specs.DirectedRun.{make, done, refused, is_beyond}
 use Rattle.pc_rules.specs.DirectedTyping.{find_family, match_counted, is_the_family, found_family}
 use Rattle.pc_rules.proofs.Following.{follows_deep}
-use Rattle.cert_rules.specs.Walk.{Items, Stand, Walk, pass, bar, walk_on, by_rules}
+use Rattle.cert_rules.specs.Walk.{Items, WalkState, Walk, pass, bar, walk_on, by_rules}
 use Rattle.cert_rules.specs.Scripts.{Script}
 use Rattle.cert_rules.specs.WalkTyping.{Walking, walk_check_all, walk_found_family, walk_predicate, walk_scrutinee, walk_branches, walk_case}
 use Rattle.type_cert.specs.declared.halt.WalkHalt.{WalkHalt}
@@ -37,10 +37,10 @@ use Rattle.type_cert.proofs.Retracing.{retraces_on, retraces_err, retraces_pass,
 -- the rule, from the family on
 
 module _ (x : Match) (cert : Items) (E : Env) (inf : Walking) (cmp : Script) (c : Context) where
-  abbrev whole : Stand → Walk Term
+  abbrev whole : WalkState → Walk Term
   whole s = walk_case cert E inf cmp c x.family (terms_of x.params) x.binders x.ret x.scrut (arms_of x.branches) s
 
-  abbrev after_family : Option Block → List Term → FamilyDecl → Stand → Walk Term
+  abbrev after_family : Option Block → List Term → FamilyDecl → WalkState → Walk Term
   after_family o ps F v =
       walk_on (by_rules (match_counted F (terms_of x.params) x.binders (arms_of x.branches)) v) (λ _ w.
       walk_on (walk_check_all cert E inf cmp c Rel ps F.parameters w) (λ _ x'.

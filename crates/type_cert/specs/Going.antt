@@ -14,7 +14,7 @@ use Rattle.calculus_rules.specs.Context.{Context, Values}
 use Rattle.calculus_rules.specs.Listed.{list_of}
 use Rattle.pc_rules.specs.Entailment.{test_of}
 use Rattle.cert_rules.specs.declared.item.CertItem.{CertItem}
-use Rattle.cert_rules.specs.Walk.{Stand, Walk, WalkAct, pass, bar_here, past, walk_on}
+use Rattle.cert_rules.specs.Walk.{WalkState, Walk, WalkAct, pass, bar_here, past, walk_on}
 use Rattle.cert_rules.specs.WalkSteps.{walk_steps}
 use Rattle.cert_rules.specs.Scripts.{Script, parts_of, walk_parts, script_by, script}
 use Rattle.cert_rules.specs.WalkTyping.{Walking, walk_infer, walk_rule, walk_sort_of, walk_fits, walk_check, walk_retype, walk_prod, walk_lambda, walk_let, walk_app, walk_check_all, walk_sorts_of, walk_predicate, walk_scrutinee, walk_branch, walk_branches, walk_case, walk_types, walk_definition, walk_definitions, walk_fix}
@@ -32,7 +32,7 @@ abbrev pub parting : Verifier → ℕ → Values → Bool → Term → Term → 
 parting v i V equal a b = walk_parts i (parts_of (going v) V equal a b)
 
 -- the steps for which the item of a script asks, which are some
-abbrev pub script_steps : Env → Values → ℕ → Term → Stand → Walk Term
+abbrev pub script_steps : Env → Values → ℕ → Term → WalkState → Walk Term
 script_steps E V zero t s = bar_here s
 script_steps E V (suc n) t s = walk_steps E V s.at (suc n) t (past s)
 
@@ -44,7 +44,7 @@ inferring v = walk_infer v.cert.now v.env.now (test_of v.env.now) v.room
 abbrev pub rule_walk : Verifier → Walking
 rule_walk v = walk_rule v.cert.now v.env.now (inferring v) (going v)
 
-abbrev pub sorting : Verifier → Context → Term → Stand → Walk Sort
+abbrev pub sorting : Verifier → Context → Term → WalkState → Walk Sort
 sorting v = walk_sort_of v.cert.now v.env.now (inferring v)
 
 abbrev pub fitting : Verifier → Context → Term → Term → WalkAct
@@ -56,21 +56,21 @@ checking v = walk_check v.cert.now v.env.now (inferring v) (going v)
 abbrev pub retyping : Verifier → Context → ℕ → Term → WalkAct
 retyping v = walk_retype v.cert.now v.env.now (inferring v)
 
-abbrev pub prod_walk : Verifier → Context → Term → Term → Stand → Walk Term
+abbrev pub prod_walk : Verifier → Context → Term → Term → WalkState → Walk Term
 prod_walk v = walk_prod v.cert.now v.env.now (inferring v)
 
-abbrev pub lambda_walk : Verifier → Context → Term → Term → Stand → Walk Term
+abbrev pub lambda_walk : Verifier → Context → Term → Term → WalkState → Walk Term
 lambda_walk v = walk_lambda v.cert.now v.env.now (inferring v)
 
-abbrev pub let_walk : Verifier → Context → Term → Term → Term → Stand → Walk Term
+abbrev pub let_walk : Verifier → Context → Term → Term → Term → WalkState → Walk Term
 let_walk v = walk_let v.cert.now v.env.now (inferring v) (going v)
 
-abbrev pub app_walk : Verifier → Context → Term → Term → Stand → Walk Term
+abbrev pub app_walk : Verifier → Context → Term → Term → WalkState → Walk Term
 app_walk v = walk_app v.cert.now v.env.now (inferring v) (going v)
 
 -- telescopes
 
-abbrev pub sorting_all : Verifier → Context → List Term → Stand → Walk (List Sort)
+abbrev pub sorting_all : Verifier → Context → List Term → WalkState → Walk (List Sort)
 sorting_all v = walk_sorts_of v.cert.now v.env.now (inferring v)
 
 -- that each entry has a sort, whichever it is
@@ -85,7 +85,7 @@ checking_all v = walk_check_all v.cert.now v.env.now (inferring v) (going v)
 abbrev pub predicate_walk : Verifier → Context → Block → FamilyDecl → Match → WalkAct
 predicate_walk v c B F x = walk_predicate v.cert.now v.env.now (inferring v) c (Some B) x.family F x.params x.ret
 
-abbrev pub scrutinee_walk : Verifier → Context → FamilyDecl → Match → Stand → Walk (List Term)
+abbrev pub scrutinee_walk : Verifier → Context → FamilyDecl → Match → WalkState → Walk (List Term)
 scrutinee_walk v c F x = walk_scrutinee v.cert.now v.env.now (inferring v) (going v) c x.family F x.params x.scrut
 
 -- branch i, of constructor C
@@ -96,7 +96,7 @@ branch_walk v c i C x body = walk_branch v.cert.now v.env.now (inferring v) (goi
 abbrev pub branches_walk : Verifier → Context → ℕ → List Constructor → Match → List Branch → WalkAct
 branches_walk v c i Cs x bs = walk_branches v.cert.now v.env.now (inferring v) (going v) c x.family i Cs x.params x.ret (list_of (arms_of bs))
 
-abbrev pub case_walk : Verifier → Context → Match → Stand → Walk Term
+abbrev pub case_walk : Verifier → Context → Match → WalkState → Walk Term
 case_walk v c x = walk_case v.cert.now v.env.now (inferring v) (going v) c x.family (terms_of x.params) x.binders x.ret x.scrut (arms_of x.branches)
 
 -- fixpoints
@@ -114,5 +114,5 @@ abbrev pub definitions_walk : Verifier → Context → ℕ → ℕ → List Def 
 definitions_walk v c k d ds =
     walk_definitions v.cert.now v.env.now (inferring v) (going v) c k d (rargs_of ds) (list_of (types_of ds)) (list_of (bodies_of k ds))
 
-abbrev pub fix_walk : Verifier → Context → ℕ → List Def → Stand → Walk Term
+abbrev pub fix_walk : Verifier → Context → ℕ → List Def → WalkState → Walk Term
 fix_walk v c i ds = walk_fix v.cert.now v.env.now (inferring v) (going v) c i (rargs_of ds) (types_of ds) (bodies_of (length ds) ds)

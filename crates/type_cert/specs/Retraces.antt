@@ -8,13 +8,13 @@ use Rattle.pc_rules.specs.declared.stop.Halt.TheVariants as halts
 use Rattle.pc_rules.specs.Follows.{IsAfter}
 use Rattle.pc_terms.specs.Syntax.{Term}
 use Rattle.cert_rules.specs.WalkSteps.{Reduced}
-use Rattle.cert_rules.specs.Walk.{Stand, Walk, Passed, Barred, Unpaid}
+use Rattle.cert_rules.specs.Walk.{WalkState, Walk, Passed, Barred, Unpaid}
 use Rattle.type_cert.specs.declared.halt.WalkHalt.{WalkHalt}
 use Rattle.type_cert.specs.declared.halt.WalkHalt.TheVariants as walks
 use Rattle.type_cert.specs.declared.trail.Trail.{Trail}
 
 -- where a trail stands
-abbrev pub stand : Trail → Stand
+abbrev pub stand : Trail → WalkState
 stand t = record { account = t.meter.account; at = t.at }
 
 -- no unit is left exactly as the walk finds it; a limit is passed only where the walk passes one; want of memory may come at any time; and a
@@ -25,7 +25,7 @@ WalkHalts d (walks.Stop TooDeep) u = IsTrue d.deep
 WalkHalts d (walks.Stop Memory) u = Unit {0}
 WalkHalts d (walks.Barred i) u = d.end ≡ Barred i u
 
-abbrev pub WalkAnswers : {A : Type 0} → Walk A → Result A WalkHalt → Stand → Type 0
+abbrev pub WalkAnswers : {A : Type 0} → Walk A → Result A WalkHalt → WalkState → Type 0
 WalkAnswers d (Ok a) s = d.end ≡ Passed a s
 WalkAnswers d (Err h) s = WalkHalts d h s.account
 
