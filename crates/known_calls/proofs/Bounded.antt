@@ -1,11 +1,13 @@
 -- How many bytes emitted code has, and that its immediates have their bits.
-use Rattle.std.proofs.Common.{◌≡◌, ℕ, zero, suc, ◌+◌, ◌*◌, ◌<◌, ◌≤◌, List, [], ◌∷◌, length, Option, Some, None, Bool, true, false, refl, arith}
+use Rattle.std.proofs.Common.{◌≡◌, ℕ, zero, suc, ◌+◌, ◌-◌, ◌*◌, ◌/◌, ◌<◌, ◌≤◌, List, [], ◌∷◌, length, take, drop, Option, Some, None, Bool, true, false, refl, arith}
+use Rattle.std.proofs.Common.{length-take-le, length-drop}
 use Rattle.std.proofs.lemmas.Bool.{leb-true}
 use Rattle.std.proofs.lemmas.Option.{slice_get_within}
 use Rattle.std.specs.Prelude.{max, nat_eq, nat_le, if◌then◌else◌, ◌||◌}
 use Rattle.wasm_core.specs.declared.types.ValType.TheVariants.{I32}
 use Rattle.wasm_core.specs.declared.instrs.BlockType.{BlockType}
 use Rattle.wasm_core.specs.declared.instrs.BlockType.TheVariants.{Empty, Value}
+use Rattle.wasm_core.specs.declared.instrs.I32Op.{I32Op}
 use Rattle.wasm_core.specs.declared.instrs.I32Op.TheVariants as op32
 use Rattle.wasm_core.specs.declared.instrs.Instr.{Instr}
 use Rattle.wasm_core.specs.declared.instrs.Instr.TheVariants.{Unreachable, Loop, Else, End, Br, Call, ReturnCall, ReturnCallIndirect, LocalGet, LocalSet, LocalTee, GlobalGet, GlobalSet, MemorySize, I32 as Operation}
@@ -21,7 +23,9 @@ use Rattle.wasm_emit.specs.EmitLaws.{CountsFit}
 use Rattle.wasm_emit.proofs.Lengths.{bytes_of, size, u_1, u_2, u_3, z_unreachable, z_if, z_else, z_end, z_op, z_call, z_indirect, z_get, z_set, z_tee, z_heap, z_size, z_room, z_small, z_header, z_global, z_load, z_store, z_const}
 use Rattle.wasm_emit.proofs.Spelled.{Good, fits}
 use Rattle.known_calls.specs.KnownPlaces.{Word, InLocal, InField, IsConst, Place, At, word_of, known_function, is_read, block_reads, fields_of}
-use Rattle.known_calls.specs.KnownCode.{Position, Inside, InTail, deeper, worker_index, jumps, most_blocks, read_word, read, atom, push_words, fill, new_block, block, into_local, into_params, call_worker, application, some_heads, some_branches, empty_test, head_test, arm, choose, unmade, known, moves, move_field, branch_places, op, code, empties, heads, branch, Final, call_of, closure_call}
+use Rattle.known_calls.specs.KnownCode.{Position, Inside, InTail, deeper, worker_index, jumps, most_blocks, read_word, read, atom, push_words, fill, new_block, block, into_local, into_params, call_worker, application, choose, unmade, known, moves, move_field, branch_places, op, code, alternatives, branch, Final, call_of, closure_call}
+use Rattle.known_calls.specs.KnownTests.{Kind, Bare, Fielded, Alternative, keep, kept, is_of, is_some, first_number, equal_test, below_test, bare_test, arm, none, chain, are_many, many_alternatives, most_rounds, search, tests}
+use Rattle.known_calls.proofs.Parted.{all_kept, all_take, all_drop}
 use Rattle.known_calls.specs.KnownModule.{captured_words}
 use Rattle.known_calls.specs.KnownWeight.{op_weight, weight, branches_weight}
 use Rattle.known_calls.proofs.Unreading.{and_true, unmade_some}
@@ -117,20 +121,140 @@ b_global x h = b_one (GlobalSet x) (λ r. z_global r x h) (omega arith)
 b_arms : {j k : ℕ} {g1 g2 : List Instr → List Instr} → Bounded j g1 → Bounded k g2 → Bounded (j + k + 4) (λ r. IfWord ∷ g1 (Else ∷ g2 (End ∷ r)))
 b_arms x y = b_most _ (omega arith) (b_one IfWord (λ r. z_if r (Value I32)) tt then (x then (b_one Else (λ r. z_else r) tt then (y then b_end))))
 
--- the test of a branch, and the branch behind it
-b_empty_test : (d c : ℕ) → d < 100000 → 2 * c + 1 < 4294967296 → Bounded 11 (empty_test d c)
-b_empty_test d c hd hc = b_most 11 (omega arith) (b_get d hd then (b_const (2 * c + 1) hc then b_one {k = 1} (Operation op32.Eq) (λ r. z_op r op32.Eq) tt))
+-- a load at a low offset
+z_load_low : (rest : List Instr) (o : ℕ) → o < 128 → size (Load o ∷ rest) ≤ 3 + size rest
+unfolding put_all put_instr
+z_load_low rest o h = omega (arith, u_1 4 2 (put_u32 o (bytes_of rest)) (omega arith), u_1 4 o (bytes_of rest) h)
 
-b_head_test : (d c n : ℕ) → d < 100000 → n * 65536 + c < 4294967296 → Bounded 15 (head_test d c n)
-b_head_test d c n hd hc = b_most 15 (omega arith) (b_get d hd then (b_load 0 (omega arith) then (b_const (n * 65536 + c) hc then b_one {k = 1} (Operation op32.Eq) (λ r. z_op r op32.Eq) tt)))
+b_load_low : (o : ℕ) → o < 128 → Bounded 3 (λ r. Load o ∷ r)
+b_load_low o h = b_one (Load o) (λ r. z_load_low r o h) (omega arith, omega arith)
 
-b_move : (b : Bool) (d : ℕ) → d < 100000 → Bounded 12 (move_field b d)
-b_move false d hd = b_most 12 (omega arith) b_none
-b_move true d hd = b_get d hd then (b_load 4 (omega arith) then b_set d hd)
+b_op_of : (o : I32Op) → Bounded 1 (λ r. Operation o ∷ r)
+b_op_of o = b_one {k = 1} (Operation o) (λ r. z_op r o) tt
 
-b_arm : (b : Bool) {i j k : ℕ} {test : List Instr → List Instr} {branch behind : Position → List Instr → List Instr} (at : Position) → Bounded i test → ((at' : Position) → Bounded j (branch at')) → ((at' : Position) → Bounded k (behind at')) → Bounded (i + j + k + 4) (arm b test branch behind at)
-b_arm true at t x y = b_most _ (omega arith) (t then b_arms (x (deeper at)) (y (deeper at)))
-b_arm false at t x y = b_most _ (omega arith) (x at)
+-- the tests of a match
+b_equal_test : (d c n : ℕ) → d < 100000 → 2 * c + 1 < 4294967296 → n * 65536 + c < 4294967296 → Bounded 14 (equal_test d c n)
+b_equal_test d c zero hd hw hh = b_most 14 (omega arith) (b_get d hd then (b_const (2 * c + 1) hw then b_op_of op32.Eq))
+b_equal_test d c (suc n) hd hw hh = b_most 14 (omega arith) (b_get d hd then (b_load_low 0 (omega arith) then (b_const (suc n * 65536 + c) hh then b_op_of op32.Eq)))
+
+b_below_test : (k : Kind) (d c : ℕ) → d < 100000 → 65536 * c < 4294967296 → Bounded 19 (below_test k d c)
+b_below_test Bare d c hd hc = b_most 19 (omega arith) (b_const (2 * c) (omega (arith, hc)) then (b_get d hd then b_op_of op32.GtU))
+b_below_test Fielded d c hd hc =
+    b_most 19 (omega arith) (b_const (65536 * c) hc then (b_get d hd then (b_load_low 0 (omega arith) then (b_one {k = 4} (ConstWord 16) (λ r. z_small r 16 (omega arith)) (omega arith) then (b_op_of op32.Shl then b_op_of op32.GtU)))))
+
+b_bare_test : (d : ℕ) → d < 100000 → Bounded 11 (bare_test d)
+b_bare_test d hd = b_most 11 (omega arith) (b_get d hd then (b_const 1 (omega arith) then b_op_of op32.And))
+
+b_move : (b : Bool) (d : ℕ) → d < 100000 → Bounded 11 (move_field b d)
+b_move false d hd = b_most 11 (omega arith) b_none
+b_move true d hd = b_get d hd then (b_load_low 4 (omega arith) then b_set d hd)
+
+-- instructions of at most so many bytes, wherever they stand
+abbrev Bounds : ℕ → (Position → List Instr → List Instr) → Type 0
+Bounds k g = (at : Position) → Bounded k (g at)
+
+b_arm : (b : Bool) {i j k : ℕ} {test : List Instr → List Instr} {branch behind : Position → List Instr → List Instr} → Bounded i test → Bounds j branch → Bounds k behind → Bounds (i + j + k + 4) (arm b test branch behind)
+b_arm true t x y at = b_most _ (omega arith) (t then b_arms (x (deeper at)) (y (deeper at)))
+b_arm false t x y at = b_most _ (omega arith) (x at)
+
+b_either : (b : Bool) {k : ℕ} {f g : Position → List Instr → List Instr} → ((b ≡ true) → Bounds k f) → ((b ≡ false) → Bounds k g) → (at : Position) → Bounded k (λ r. (if b then f else g) at r)
+b_either true x y at = x refl at
+b_either false x y at = y refl at
+
+-- the bytes of alternatives, of which each has a branch of at most so many, and 19 more
+abbrev all_weight : List Alternative → ℕ
+all_weight [] = 0
+all_weight (a ∷ as') = 31 + weight a.body + all_weight as'
+
+-- what the tests ask of an alternative
+record Light (a : Alternative) : Type 0 where
+  low : a.number < 65536
+  few : a.binders < 65535
+  code : Bounds (11 + weight a.body) a.code
+
+abbrev AllLight : List Alternative → Type 0
+AllLight as' = All Light as'
+
+weight_length : (as' : List Alternative) → 31 * length as' ≤ all_weight as'
+weight_length [] = omega arith
+weight_length (a ∷ as') = omega (arith, weight_length as')
+
+weight_halves : (n : ℕ) (as' : List Alternative) → all_weight (take n as') + all_weight (drop n as') ≡ all_weight as'
+weight_halves zero as' = omega arith
+weight_halves (suc n) [] = omega arith
+weight_halves (suc n) (a ∷ as') = omega (arith, weight_halves n as')
+
+length_halves : (n : ℕ) (as' : List Alternative) → n ≤ length as' → (length (take n as') ≡ n) × (length (drop n as') + n ≡ length as')
+length_halves n as' le = (length-take-le n as' le, omega (arith, le, length-drop n as'))
+
+weight_kinds : (as' : List Alternative) → all_weight (kept Bare as') + all_weight (kept Fielded as') ≡ all_weight as'
+weight_kinds [] = refl
+weight_kinds (a ∷ as') = one a.binders (weight_kinds as')
+  where
+    one : (n : ℕ) → all_weight (kept Bare as') + all_weight (kept Fielded as') ≡ all_weight as' → all_weight (keep (is_of Bare n) a (kept Bare as')) + all_weight (keep (is_of Fielded n) a (kept Fielded as')) ≡ 31 + weight a.body + all_weight as'
+    one zero h = omega (arith, h)
+    one (suc n) h = omega (arith, h)
+
+module _ (d : ℕ) (hd : d < 100000) where
+  b_chain : (as' : List Alternative) (others : Position → List Instr → List Instr) (k : ℕ) → AllLight as' → Bounds k others → Bounds (all_weight as' + k) (chain d true as' others)
+  b_chain [] others k h o at = b_most _ (omega arith) (o at)
+  b_chain (a ∷ as') others k h o at =
+      let x = h.0 in
+      b_most _ (omega arith) (b_arm true {branch = a.code} {behind = chain d true as' others} (b_equal_test d a.number a.binders hd (omega (arith, x.low)) (omega (arith, x.low, x.few))) x.code (b_chain as' others k h.1 o) at)
+
+  -- where the last has no test
+  b_alone : (as' : List Alternative) (k : ℕ) → AllLight as' → 0 < length as' → all_weight as' ≤ k + 18 + 2 * length as' → Bounds k (chain d false as' none)
+  b_alone [] k h some le at = absurd (omega arith)
+  b_alone (a ∷ []) k h some le at = let x = h.0 in b_most k (omega (arith, le)) (x.code at)
+  b_alone (a ∷ b ∷ as') k h some le at =
+      let x = h.0 in
+      let long = weight_length as' in
+      let rest = k - 29 - weight a.body in
+      b_most k (omega (arith, le, long)) (b_arm true {branch = a.code} {behind = chain d false (b ∷ as') none} (b_equal_test d a.number a.binders hd (omega (arith, x.low)) (omega (arith, x.low, x.few))) x.code (b_alone (b ∷ as') rest h.1 (omega arith) (omega (arith, le, long))) at)
+
+  first_low : (as' : List Alternative) → AllLight as' → first_number as' < 65536
+  first_low [] h = omega arith
+  first_low (a ∷ as') h = let x = h.0 in x.low
+
+  b_search : (k : Kind) (rounds : ℕ) (as' : List Alternative) (n spare : ℕ) → AllLight as' → 0 < length as' → spare ≤ 3 → spare ≤ length as' → all_weight as' ≤ n + 18 + 2 * spare → Bounds n (search k d rounds as')
+  b_search k zero as' n spare h some le few within = b_alone as' n h some (omega (arith, few, within))
+  b_search k (suc rounds) as' n spare h some le few within =
+      let half = length as' / 2 in
+      b_either (are_many as')
+      (λ e.
+      let many = leb-true many_alternatives (length as') e in
+      let sizes = length_halves half as' (omega arith) in
+      let w = weight_halves half as' in
+      let w1 = weight_length (take half as') in
+      let w2 = weight_length (drop half as') in
+      let h1 = all_take Light half as' h in
+      let h2 = all_drop Light half as' h in
+      let front = b_search k rounds (take half as') (all_weight (take half as') - 24) 3 h1 (omega (arith, many, sizes.0)) (omega arith) (omega (arith, many, sizes.0)) (omega arith) in
+      let back = b_search k rounds (drop half as') (all_weight (drop half as') - 24) 3 h2 (omega (arith, many, sizes.1)) (omega arith) (omega (arith, many, sizes.1)) (omega arith) in
+      λ at. b_most n (omega (arith, many, sizes.0, sizes.1, w, w1, w2, le, within))
+      (b_arm true {branch = search k d rounds (take half as')} {behind = search k d rounds (drop half as')} (b_below_test k d (first_number (drop half as')) hd (omega (arith, first_low (drop half as') h2))) front back at))
+      (λ e. b_alone as' n h some (omega (arith, few, within)))
+
+  -- with none there is a trap
+  b_search_all : (k : Kind) (as' : List Alternative) → AllLight as' → Bounds (1 + all_weight as') (search k d most_rounds as')
+  b_search_all k [] h at = b_unreachable
+  b_search_all k (a ∷ as') h at = b_search k most_rounds (a ∷ as') (1 + all_weight (a ∷ as')) 0 h (omega arith) (omega arith) (omega arith) (omega arith) at
+
+  b_tests : (as' : List Alternative) → AllLight as' → Bounds (1 + all_weight as') (tests d as')
+  b_tests as' h =
+      let bare = kept Bare as' in
+      let fielded = kept Fielded as' in
+      let w = weight_kinds as' in
+      let h1 = all_kept Light Bare as' h in
+      let y = b_search_all Fielded fielded (all_kept Light Fielded as' h) in
+      b_either (is_some fielded)
+      (λ s. b_either (are_many bare)
+      (λ e.
+      let many = leb-true many_alternatives (length bare) e in
+      let w1 = weight_length bare in
+      λ at. b_most _ (omega (arith, w, w1, many)) (b_arm true {branch = search Bare d most_rounds bare} {behind = search Fielded d most_rounds fielded} (b_bare_test d hd) (b_search Bare most_rounds bare (all_weight bare - 18) 0 h1 (omega (arith, many)) (omega arith) (omega arith) (omega (arith, w1, many))) y at))
+      (λ e at. b_most _ (omega (arith, w)) (b_chain bare (search Fielded d most_rounds fielded) (1 + all_weight fielded) h1 y at)))
+      (λ s at. b_most _ (omega (arith, w)) (b_search_all Bare bare h1 at))
 
 b_word : (far d : ℕ) (w : Word) → far ≤ 16384 → d ≤ 100000 → WordFits far d w → Bounded 8 (read_word w)
 b_word far d (InLocal x) hf hd h = b_most 8 (omega arith) (b_get x (omega arith))
@@ -210,21 +334,10 @@ module _ (P : Program) (m : ℕ) (form : Formed P m) (counts : CountsFit P m) (l
       let few = fit.1 in
       b_most 102 (omega (arith, few)) (b_push j.1 fit.2 then (b_atom n ps a fa h then b_worker at j.0 (length j.1) few (omega (arith, slice_get_within P.functions j.0 takes.fn takes.at, limits.few, counts.constants))))
 
-  -- what each of the two chains makes of a match's branches
-  abbrev empties_weight : BranchBlocks → ℕ
-  empties_weight BNil = 0
-  empties_weight (BCons zero t bs) = 31 + weight t + empties_weight bs
-  empties_weight (BCons (suc n) t bs) = empties_weight bs
-
-  abbrev heads_weight : BranchBlocks → ℕ
-  heads_weight BNil = 0
-  heads_weight (BCons zero t bs) = heads_weight bs
-  heads_weight (BCons (suc n) t bs) = 31 + weight t + heads_weight bs
-
-  both_chains : (bs : BranchBlocks) → empties_weight bs + heads_weight bs ≡ branches_weight bs
-  both_chains BNil = refl
-  both_chains (BCons zero t bs) = omega (arith, both_chains bs)
-  both_chains (BCons (suc n) t bs) = omega (arith, both_chains bs)
+  -- the bytes of a match's branches
+  branches_weight_is : (ps : List Place) (d c : ℕ) (bs : BranchBlocks) → all_weight (alternatives P ps d c bs) ≡ branches_weight bs
+  branches_weight_is ps d c BNil = refl
+  branches_weight_is ps d c (BCons n t bs) = omega (arith, branches_weight_is ps d (suc c) bs)
 
   b_choice : (o : Option Place) {k : ℕ} {g : Place → List Instr → List Instr} {f : List Instr → List Instr} → ((q : Place) → o ≡ Some q → Bounded k (g q)) → Bounded k f → Bounded k (λ r. choose o (λ q. g q r) (f r))
   b_choice None x y = y
@@ -241,8 +354,7 @@ module _ (P : Program) (m : ℕ) (form : Formed P m) (counts : CountsFit P m) (l
         let low = slice_get_within P.functions g takes.fn takes.at in
         b_block n d (suc g) ps as' (omega arith) (omega (arith, low, limits.few)) (omega (arith, few, takes.words)) fit.1 h
     b_op n d ps at (OCase a bs) le h fit =
-        b_most _ (omega (arith, both_chains bs)) (b_atom n ps a fit.0 h then (b_set d (omega arith) then b_empties n d ps at 0 (some_heads bs) bs (λ at'. heads P ps d at' 0 bs) (1 + heads_weight bs) (omega arith) (omega (arith, fit.1)) h fit.2 (λ at'. b_heads n d ps at' 0 bs (omega arith) (omega
-        (arith, fit.1)) h fit.2)))
+        b_most _ (omega (arith, branches_weight_is ps d 0 bs)) (b_atom n ps a fit.0 h then (b_set d (omega arith) then b_tests d (omega arith) (alternatives P ps d 0 bs) (b_alternatives n d ps 0 bs (omega arith) (omega (arith, fit.1)) h fit.2) at))
 
     pub b_code : (n d : ℕ) (ps : List Place) (at : Position) (t : Block) → top d t < 100000 → Near ps → LiftedBlockFits P.functions (length P.constants) m n t → Bounded (weight t) (code P ps d at t)
     b_code n d ps at (RetAtom a) le h fit = b_atom n ps a fit h
@@ -253,18 +365,14 @@ module _ (P : Program) (m : ℕ) (form : Formed P m) (counts : CountsFit P m) (l
         (λ q e. let z = unmade_some (is_read (block_reads 0 t)) (known P ps x) e in b_most _ (omega arith) (b_code (suc n) d (q ∷ ps) at t (omega (arith, top_less d t)) (known_fits P 16384 m form n 100000 ps x fit.0 h z.1, h) fit.1))
         (b_most _ (omega arith) (b_bind n d ps x (omega arith) h fit.0 (b_op n d ps Inside x (omega arith) h fit.0) then (b_code (suc n) (suc d) (At (InLocal d) ∷ ps) at t (omega arith) (omega arith, h) fit.1)))
 
-    b_empties : (n d : ℕ) (ps : List Place) (at : Position) (c : ℕ) (some : Bool) (bs : BranchBlocks) (others : Position → List Instr → List Instr) (k : ℕ) → max (suc d) (top_branches (suc d) bs) < 100000 → c + many bs ≤ m → Near ps → BranchesFit P.functions (length P.constants) m n bs →
-        ((at' : Position) → Bounded k (others at')) → Bounded (empties_weight bs + k) (empties P ps d at c some bs others)
-    b_empties n d ps at c some BNil others k le few h fit o = b_most _ (omega arith) (o at)
-    b_empties n d ps at c some (BCons zero t bs) others k le few h fit o =
-        b_most _ (omega arith) (b_arm (some || some_branches bs) {branch = λ at'. code P ps (suc d) at' t} {behind = λ at'. empties P ps d at' (suc c) some bs others} at (b_empty_test d c (omega arith) (omega (arith, counts.branches)))
-        (λ at'. b_code (0 + n) (suc d) ps at' t (omega arith) h fit.1) (λ at'. b_empties n d ps at' (suc c) some bs others k (omega arith) (omega arith) h fit.2 o))
-    b_empties n d ps at c some (BCons (suc j) t bs) others k le few h fit o = b_empties n d ps at (suc c) some bs others k (omega arith) (omega arith) h fit.2 o
-
-    b_heads : (n d : ℕ) (ps : List Place) (at : Position) (c : ℕ) (bs : BranchBlocks) → max (suc d) (top_branches (suc d) bs) < 100000 → c + many bs ≤ m → Near ps → BranchesFit P.functions (length P.constants) m n bs → Bounded (1 + heads_weight bs) (heads P ps d at c bs)
-    b_heads n d ps at c BNil le few h fit = b_unreachable
-    b_heads n d ps at c (BCons zero t bs) le few h fit = b_heads n d ps at (suc c) bs (omega arith) (omega arith) h fit.2
-    b_heads n d ps at c (BCons (suc j) t bs) le few h fit =
-        let low = fit.0 in
-        b_most _ (omega arith) (b_arm (some_heads bs) {branch = λ at'. branch P ps d (suc j) at' t} {behind = λ at'. heads P ps d at' (suc c) bs} at (b_head_test d c (suc j) (omega arith) (omega (arith, counts.branches, low)))
-        (λ at'. b_move (moves (suc j) t) d (omega arith) then b_code (suc j + n) (suc d) (branch_places (moves (suc j) t) d (suc j) ps) at' t (omega arith) (branch_fit P 16384 (moves (suc j) t) 100000 d (suc j) ps (omega arith) (omega (arith, low)) h) fit.1) (λ at'. b_heads n d ps at' (suc c) bs (omega arith) (omega arith) h fit.2))
+    b_alternatives : (n d : ℕ) (ps : List Place) (c : ℕ) (bs : BranchBlocks) → max (suc d) (top_branches (suc d) bs) < 100000 → c + many bs ≤ m → Near ps → BranchesFit P.functions (length P.constants) m n bs → AllLight (alternatives P ps d c bs)
+    b_alternatives n d ps c BNil le few h fit = tt
+    b_alternatives n d ps c (BCons j t bs) le few h fit =
+        let low = fit.0 in (
+          record {
+            low = omega (arith, counts.branches, few);
+            few = omega (arith, low);
+            code = λ at. b_move (moves j t) d (omega arith) then b_code (j + n) (suc d) (branch_places (moves j t) d j ps) at t (omega arith) (branch_fit P 16384 (moves j t) 100000 d j ps (omega arith) (omega (arith, low)) h) fit.1;
+          },
+          b_alternatives n d ps (suc c) bs (omega arith) (omega (arith, few)) h fit.2,
+        )

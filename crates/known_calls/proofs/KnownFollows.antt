@@ -32,7 +32,7 @@ use Rattle.wasm_emit.proofs.Rules.{Limits, Within, here, in_block, zeros, looser
 use Rattle.wasm_emit.proofs.Alloc.{Room, HasRunTime, low_word}
 use Rattle.wasm_emit.proofs.Pushing.{branch_top}
 use Rattle.known_calls.specs.KnownPlaces.{Word, InLocal, InField, Place, At, Known, Never, fields_of, known_function, is_read, names, branches_read, block_reads}
-use Rattle.known_calls.specs.KnownCode.{Position, Inside, InTail, is_wide, into_params, worker_index, most_blocks, jumps, application, call_worker, into_local, some_heads, choose, unmade, known, moves, move_field, branch_places, op, code, empties, heads, Final, call_of, closure_call}
+use Rattle.known_calls.specs.KnownCode.{Position, Inside, InTail, is_wide, into_params, worker_index, most_blocks, jumps, application, call_worker, into_local, choose, unmade, known, moves, move_field, branch_places, op, code, alternatives, Final, call_of, closure_call}
 use Rattle.known_calls.specs.KnownModule.{params, captured_words, module_with, stub_code, worker_code}
 use Rattle.known_calls.specs.KnownCalls.{applied}
 use Rattle.known_calls.proofs.KnownHolds.{in_local, in_field, Words, words_length, Env, env_nil, env_at, env_known, env_on, Unread, OpUnread, Stood, stood_inside, stood_in_tail, stood_up, loop_of, stood_final}
@@ -40,13 +40,14 @@ use Rattle.known_calls.proofs.Unreading.{neither, and_true, unmade_some, not_rea
 use Rattle.known_calls.proofs.Finding.{There, there, there_unknown, same_some}
 use Rattle.known_calls.proofs.Knowing.{known_is, calls, same_function, same_captured, no_box}
 use Rattle.known_calls.proofs.KnownMaking.{WordsStand, stand_more, words, stand_size, put_atom, pushed, made, new_made}
-use Rattle.known_calls.proofs.KnownCases.{Yields, Out, Go, fewer_kept, head_some, pass_empties, take_empty, take_head}
+use Rattle.known_calls.proofs.KnownCases.{Yields, Out, Go, fewer_kept, ordered_all, all_sizes, branch_is, among_all, more_steps, bare_found, fielded_found}
 use Rattle.known_calls.proofs.KnownIndices.{not_wide, narrow_few, constant_at, wide_at, stub_at, worker_at, table_entry}
 use Rattle.known_calls.proofs.SameLocals.{worker_top, top_less}
 use Rattle.known_calls.proofs.Jumping.{r_br_out}
 use Rattle.known_calls.proofs.Working.{params_env, params_made, set_all, set_all_length, set_params_env, in_loop, same_around, r_params, loaded}
 use Rattle.known_calls.proofs.TailCalling.{entering, waiting, call_0, call_words, call_closure, one_waits, has_room, goes_back}
-use Rattle.known_calls.proofs.Shapes.{shaped_heads}
+use Rattle.known_calls.proofs.Shapes.{shaped_alternatives}
+use Rattle.known_calls.specs.KnownTests.{tests}
 
 -- the fields of a block are places
 fields_env : {m : Mem} {h : ℕ} {ls : List ConstValue} {d : ℕ} {ps : List Place} {e : Vals} {vs : Vals} (x w : ℕ) → x < d → slice_get ls x ≡ Some (I32 w) → w + 4 * suc (size vs) ≤ h → Fields m h w vs → Env m h ls d ps e → Env m h ls d (fields_of x (size vs) ps) (vs +v e)
@@ -295,17 +296,16 @@ module _ (P : Program) (main : Body) (gs : List GlobalDef) (es : List Export) (p
   -- a value is matched
   chosen : {D : ℕ} {tail : Bool} {e : Vals} {bs : BranchBlocks} {i : ℕ} {vs : Vals} {t : Block} {r : Val} {c k b s : ℕ} → many bs ≤ N → BranchAt bs i (size vs) t → SimCode tail D (vs +v e) t r c k b s →
       (at : Position) (m : Mem) (p h : ℕ) (ls : List ConstValue) (d w : ℕ) (ps : List Place) → Room M cap m p h → word m 0 ≡ 0 → Env m h ls d ps e → Unread (fields_of d (size vs) ps) t → top (suc d) t ≤ length ls → d < length ls → h + 4 * s ≤ cap.bytes → slice_get ls d ≡ Some (I32 w) → Stands m h w (VCon i vs) →
-      Yields P M cap Q at m p h ls d r tail D k s (11 * N + (cost c b + 5)) (λ rest. empties P ps d at 0 (some_heads bs) bs (λ at'. heads P ps d at' 0 bs) rest)
-  chosen {bs = bs} few branch_at body at m p h ls d w ps room nil env un has lt needed is (s_empty small e) =
-      record {
-        run = λ f vals rest l u bound stood deep fits go out. (take_empty P M cap Q is ps at 0 (some_heads bs) (λ at'. heads P ps d at' 0 bs) refl (omega arith) (λ at'. shaped_heads P ps d at' 0 bs) branch_at
-            (λ at'. fewer_kept P M cap Q (body.sim at' m p h ls (suc d) ps room nil (env_on (omega arith) (λ x y. refl) (omega arith) (keeps_same d ls) env) un has needed))).run f vals rest l u bound stood deep (omega arith) go out;
-      }
-  chosen {D = D} {tail} {bs = bs} {vs = vs} {t = t} {r = r} {c} {k} {b} {s} few branch_at body at m p h ls d w ps room nil env un has lt needed is (s_con q small e pos some' within head fs) =
+      Yields P M cap Q at m p h ls d r tail D k s (11 * N + (cost c b + 5)) (tests d (alternatives P ps d 0 bs) at)
+  chosen {bs = bs} {i = i} {t = t} few branch_at body at m p h ls d w ps room nil env un has lt needed is (s_empty small e) =
+      let a = branch_is P ps d i 0 t in
+      let y = λ (at' : Position). fewer_kept P M cap Q (body.sim at' m p h ls (suc d) ps room nil (env_on (omega arith) (λ x y. refl) (omega arith) (keeps_same d ls) env) un has needed) in
+      more_steps P M cap Q m p h ls d _ _ _ _ _ _ (omega (arith, some, few, all_sizes P ps d 0 bs)) (bare_found P M cap Q m p h ls d _ _ _ _ _ _ w a is (alternatives P ps d 0 bs) (ordered_all P ps d 0 bs) (shaped_alternatives P ps d 0 bs) (among_all P ps d 0 i (omega arith) branch_at) y refl (omega (arith, e)) at)
+  chosen {bs = bs} {i = i} {vs = vs} {t = t} few branch_at body at m p h ls d w ps room nil env un has lt needed is (s_con q small e pos some' within head fs) =
+      let a = branch_is P ps d i (size vs) t in
       let y = λ (at' : Position). branch_follows (moves (size vs) t) refl body at' m p h ls d w ps room nil env un has needed is lt within fs in
-      let z = λ (at' : Position). take_head P M cap Q is ps at' 0 some' (omega (arith, room.inside)) (omega (arith, head)) (omega arith) branch_at y in
-      subst (λ (some : Bool). Yields P M cap Q at m p h ls d r tail D k s (11 * N + (cost c b + 5)) (λ rest. empties P ps d at 0 some bs (λ at'. heads P ps d at' 0 bs) rest)) (sym (head_some some' branch_at))
-      (record { run = λ f vals rest l u bound stood deep fits go out. (pass_empties P M cap Q is ps at (2 * q) 0 bs (λ at'. heads P ps d at' 0 bs) (omega arith) z).run f vals rest l u bound stood deep (omega arith) go out })
+      more_steps P M cap Q m p h ls d _ _ _ _ _ _ (omega (arith, some, few, all_sizes P ps d 0 bs))
+      (fielded_found P M cap Q m p h ls d _ _ _ _ _ _ w a is (alternatives P ps d 0 bs) (ordered_all P ps d 0 bs) (shaped_alternatives P ps d 0 bs) (among_all P ps d 0 i (omega arith) branch_at) y (2 * q) (omega (arith, e)) some' (omega (arith, room.inside)) (omega (arith, head)) (omega (arith, small)) at)
 
   sim_case : {D : ℕ} {tail : Bool} {e : Vals} {a : Atom} {bs : BranchBlocks} {i : ℕ} {vs : Vals} {t : Block} {r : Val} {c k b s : ℕ} → Is e a (VCon i vs) → many bs ≤ N → BranchAt bs i (size vs) t → SimCode tail D (vs +v e) t r c k b s → SimOp tail D e (OCase a bs) r (suc c) (suc k) b s
   sim_case {a = a} {bs = bs} {c = c} {k} {b} isa few branch_at body = record {

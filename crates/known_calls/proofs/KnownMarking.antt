@@ -13,8 +13,10 @@ use Rattle.closure_lift.specs.declared.program.LiftedBranch.{LiftedBranch}
 use Rattle.closure_lift.specs.declared.program.LiftedOp.{LiftedOp}
 use Rattle.wasm_emit.proofs.Pushing.{next_of}
 use Rattle.known_calls.specs.KnownPlaces.{Times, Never, Once, More, ◌plus◌, is_read, is_twice, names, some_names, op_reads, block_reads, branches_read}
-use Rattle.known_calls.specs.KnownCode.{some_heads, moves}
-use Rattle.known_calls.specs.KnownMarks.{field_marks, branch_marks, block_marks, empty_marks, head_marks, bound_marks, bound_reads, empties_read, heads_read, Begins, also}
+use Rattle.known_calls.specs.KnownTests.{Kind, Bare, Fielded, is_of}
+use Rattle.known_calls.specs.KnownCode.{moves}
+use Rattle.known_calls.specs.KnownPushed.{counted, count_of}
+use Rattle.known_calls.specs.KnownMarks.{kind_marks, field_marks, branch_marks, block_marks, empty_marks, head_marks, bound_marks, bound_reads, empties_read, heads_read, Begins, also}
 
 -- What is read.
 
@@ -171,27 +173,57 @@ pub empty_marks_step : (n : ℕ) (t : Block) (bs : BranchBlocks) → empty_marks
 empty_marks_step zero t bs = sym (append_assoc (block_marks t) [] (empty_marks bs))
 empty_marks_step (suc n) t bs = refl
 
--- a branch's own
-pub plain_marks : (n : ℕ) (t : Block) → n ≡ 0 → empty_marks (BCons n t BNil) ≡ block_marks t
-plain_marks zero t e = append-nil (block_marks t)
-plain_marks (suc n) t e = absurd (omega arith)
-
-pub last_marks : (n : ℕ) (t : Block) → n ≡ 0 → empty_marks (BCons n t BNil) ≡ branch_marks n t
-last_marks zero t e = append-nil (block_marks t)
-last_marks (suc n) t e = absurd (omega arith)
-
 pub fielded_marks : (n : ℕ) (t : Block) → 0 < n → head_marks (BCons n t BNil) ≡ branch_marks n t
 fielded_marks zero t e = absurd (omega arith)
 fielded_marks (suc n) t e = append-nil (branch_marks (suc n) t)
 
-pub no_head_marks : (bs : BranchBlocks) → some_heads bs ≡ false → head_marks bs ≡ []
-no_head_marks BNil e = refl
-no_head_marks (BCons zero t bs) e = no_head_marks bs e
-no_head_marks (BCons (suc n) t bs) e = cc
+-- The marks of the branches of a kind.
+
+pub kind_marks_step : (k : Kind) (n : ℕ) (t : Block) (bs : BranchBlocks) → kind_marks k (BCons n t bs) ≡ kind_marks k (BCons n t BNil) ++ kind_marks k bs
+kind_marks_step Bare n t bs = empty_marks_step n t bs
+kind_marks_step Fielded n t bs = head_marks_step n t bs
+
+-- one of the kind, and one of the other
+pub kind_branch_marks : (k : Kind) (n : ℕ) (t : Block) → is_of k n ≡ true → kind_marks k (BCons n t BNil) ≡ branch_marks n t
+kind_branch_marks Bare zero t e = append-nil (block_marks t)
+kind_branch_marks Bare (suc n) t e = cc
+kind_branch_marks Fielded zero t e = cc
+kind_branch_marks Fielded (suc n) t e = append-nil (branch_marks (suc n) t)
+
+pub other_branch_marks : (k : Kind) (n : ℕ) (t : Block) → is_of k n ≡ false → kind_marks k (BCons n t BNil) ≡ []
+other_branch_marks Bare zero t e = cc
+other_branch_marks Bare (suc n) t e = refl
+other_branch_marks Fielded zero t e = refl
+other_branch_marks Fielded (suc n) t e = cc
+
+-- those of a part and of what is behind it
+pub kind_marks_halves : (k : Kind) (i : ℕ) (bs : List LiftedBranch) → kind_marks k (branches_of bs) ≡ kind_marks k (branches_of (take i bs)) ++ kind_marks k (branches_of (drop i bs))
+kind_marks_halves k zero bs = ap (λ (ms : List Bool). ms ++ kind_marks k (branches_of bs)) (sym (no_marks k))
+  where
+    no_marks : (k : Kind) → kind_marks k BNil ≡ []
+    no_marks Bare = refl
+    no_marks Fielded = refl
+kind_marks_halves Bare (suc i) [] = refl
+kind_marks_halves Fielded (suc i) [] = refl
+kind_marks_halves k (suc i) (b ∷ bs) =
+    let front = branches_of (take i bs) in
+    let back = branches_of (drop i bs) in
+    kind_marks_step k b.binders b.body (branches_of bs) ∙ ap (λ (ms : List Bool). kind_marks k (BCons b.binders b.body BNil) ++ ms) (kind_marks_halves k i bs)
+    ∙ sym (append_assoc (kind_marks k (BCons b.binders b.body BNil)) (kind_marks k front) (kind_marks k back)) ∙ ap (λ (ms : List Bool). ms ++ kind_marks k back) (sym (kind_marks_step k b.binders b.body front))
+
+-- there are none without such branches
+pub no_kind_marks : (k : Kind) (bs : BranchBlocks) → count_of k bs ≡ 0 → kind_marks k bs ≡ []
+no_kind_marks Bare BNil e = refl
+no_kind_marks Fielded BNil e = refl
+no_kind_marks k (BCons n t bs) e = kind_marks_step k n t bs ∙ one (is_of k n) refl e (no_kind_marks k bs)
+  where
+    one : (b : Bool) → is_of k n ≡ b → counted b (count_of k bs) ≡ 0 → (count_of k bs ≡ 0 → kind_marks k bs ≡ []) → kind_marks k (BCons n t BNil) ++ kind_marks k bs ≡ []
+    one true is z h = absurd (omega (arith, z))
+    one false is z h = ap (λ (ms : List Bool). ms ++ kind_marks k bs) (other_branch_marks k n t is) ∙ h z
 
 -- all are those of the branches without binders where no other has any
-pub plain_left : (bs : BranchBlocks) (all new : List Bool) → some_heads bs ≡ false → new ≡ drop (length (empty_marks bs)) all → new ≡ drop (length (empty_marks bs ++ head_marks bs)) all
-plain_left bs all new none e = e ∙ ap (λ (ms : List Bool). drop (length ms) all) (sym (ap (λ (ms : List Bool). empty_marks bs ++ ms) (no_head_marks bs none) ∙ append-nil (empty_marks bs)))
+pub bare_left : (bs : BranchBlocks) (all new : List Bool) → count_of Fielded bs ≡ 0 → new ≡ drop (length (empty_marks bs)) all → new ≡ drop (length (empty_marks bs ++ head_marks bs)) all
+bare_left bs all new none e = e ∙ ap (λ (ms : List Bool). drop (length ms) all) (sym (ap (λ (ms : List Bool). empty_marks bs ++ ms) (no_kind_marks Fielded bs none) ∙ append-nil (empty_marks bs)))
 
 -- Numbers of constants play no part.
 mutual
@@ -230,6 +262,21 @@ begins_second ms ns all h = begins ns (drop (length (ms ++ ns)) all) (drop (leng
 
 pub drops : (ms ns all : List Bool) → Begins (ms ++ ns) all → drop (length ns) (drop (length ms) all) ≡ drop (length (ms ++ ns)) all
 drops ms ns all h = ap (λ (zs : List Bool). drop (length ns) zs) (begins_then ms ns all h) ∙ drop-append_seam ns (drop (length (ms ++ ns)) all)
+
+-- of two parts, of which the first is taken, and then the second
+module _ (ms xs ys all : List Bool) (parts : ms ≡ xs ++ ys) (h : Begins ms all) where
+  in_parts : Begins (xs ++ ys) all
+  in_parts = subst (λ (zs : List Bool). Begins zs all) parts h
+
+  pub first_part : Begins xs all
+  first_part = begins_first xs ys all in_parts
+
+  module _ (new : List Bool) (taken : new ≡ drop (length xs) all) where
+    pub second_part : Begins ys new
+    second_part = subst (λ (zs : List Bool). Begins ys zs) (sym taken) (begins_second xs ys all in_parts)
+
+    pub both_parts : (last : List Bool) → last ≡ drop (length ys) new → last ≡ drop (length ms) all
+    both_parts last e = e ∙ ap (λ (zs : List Bool). drop (length ys) zs) taken ∙ drops xs ys all in_parts ∙ ap (λ (zs : List Bool). drop (length zs) all) (sym parts)
 
 -- of a mark and others
 pub first_mark : (m : Bool) (ms all : List Bool) → Begins (m ∷ ms) all → get_or all 0 true ≡ m

@@ -1,5 +1,5 @@
 -- Emitted code has a typing.
-use Rattle.std.proofs.Common.{◌≡◌, ℕ, zero, suc, ◌+◌, ◌<◌, ◌≤◌, List, [], ◌∷◌, ◌++◌, length, replicate, Option, Some, None, Bool, true, false, refl, ap, sym, ◌∙◌, subst, arith, get_or}
+use Rattle.std.proofs.Common.{◌≡◌, ℕ, zero, suc, ◌+◌, ◌/◌, ◌<◌, ◌≤◌, List, [], ◌∷◌, ◌++◌, length, take, drop, replicate, Option, Some, None, Bool, true, false, refl, ap, sym, ◌∙◌, subst, arith, get_or}
 use Rattle.std.proofs.lemmas.Bool.{eqb-true}
 use Rattle.std.proofs.lemmas.Option.{slice_get-get_or}
 use Rattle.std.specs.Option.{option_map, option_and_then}
@@ -22,9 +22,11 @@ use Rattle.closure_lift.specs.LiftedForm.{OpFits, LiftedBlockFits, BranchesFit, 
 use Rattle.wasm_emit.specs.EmittedCode.{IfWord, constant_index, ensure_room}
 use Rattle.wasm_emit.specs.EmittedLocals.{top, top_op, top_branches}
 use Rattle.known_calls.specs.KnownPlaces.{Word, InLocal, InField, IsConst, Place, At, word_of, known_function, is_read, block_reads, fields_of}
-use Rattle.known_calls.specs.KnownCode.{Position, Inside, InTail, deeper, worker_index, jumps, most_blocks, read_word, read, atom, push_words, fill, new_block, block, into_local, into_params, call_worker, application, some_heads, some_branches, empty_test, head_test, arm, choose, unmade, known, moves, move_field, branch_places, op, code, empties, heads, branch, Final, call_of, closure_call}
+use Rattle.known_calls.specs.KnownCode.{Position, Inside, InTail, deeper, worker_index, jumps, most_blocks, read_word, read, atom, push_words, fill, new_block, block, into_local, into_params, call_worker, application, choose, unmade, known, moves, move_field, branch_places, op, code, alternatives, branch, Final, call_of, closure_call}
 use Rattle.known_calls.specs.KnownModule.{words_type, worker_type, module_with}
-use Rattle.known_calls.proofs.Shapes.{Shaped, shaped_code, shaped_empties, shaped_heads, shaped_branch}
+use Rattle.known_calls.specs.KnownTests.{Kind, Bare, Fielded, Alternative, kept, is_some, first_number, equal_test, below_test, bare_test, arm, none, chain, are_many, most_rounds, search, tests}
+use Rattle.known_calls.proofs.Parted.{all_kept, all_take, all_drop}
+use Rattle.known_calls.proofs.Shapes.{Shaped, Wherever, shaped_none, shaped_chain, shaped_search, shaped_alternatives}
 use Rattle.known_calls.proofs.Finding.{same_some}
 use Rattle.known_calls.proofs.Fitting.{WordFits, PlaceFits, places_up, branch_fit, word_fits, function_fits, known_fits}
 use Rattle.known_calls.proofs.Unreading.{and_true, unmade_some}
@@ -131,17 +133,70 @@ module _ (P : Program) (most : ℕ) (form : Formed P most) (main : Body) (gs : L
   abbrev Puts : (Position → List Instr → List Instr) → Type 0
   Puts g = (at : Position) (labels : List OperandTypes) (ts us : Operands) (rest : List Instr) → Labelled at labels → Typed m ls rs labels (Of I32 ∷ ts) rest us → Typed m ls rs labels ts (g at rest) us
 
-  t_arm : {labels : List OperandTypes} {ts us : Operands} {rest : List Instr} (b : Bool) {test : List Instr → List Instr} {branch behind : Position → List Instr → List Instr} (at : Position) → ((at' : Position) → Shaped (branch at')) → ((at' : Position) → Shaped (behind at')) →
-      ((r : List Instr) → Typed m ls rs labels (Of I32 ∷ ts) r us → Typed m ls rs labels ts (test r) us) → Puts branch → Puts behind → Labelled at labels → Typed m ls rs labels (Of I32 ∷ ts) rest us → Typed m ls rs labels ts (arm b test branch behind at rest) us
-  t_arm {labels} true at f1 f2 test x y l k =
-      test _ (arms (f1 (deeper at)) (f2 (deeper at)) (x (deeper at) ((I32 ∷ []) ∷ labels) [] (Of I32 ∷ []) [] (labelled_deeper at labels (I32 ∷ []) l) done) (y (deeper at) ((I32 ∷ []) ∷ labels) [] (Of I32 ∷ []) [] (labelled_deeper at labels (I32 ∷ []) l) done) k)
-  t_arm {labels} {ts} {us} {rest} false at f1 f2 test x y l k = x at labels ts us rest l k
+  -- and some that put a truth value there
+  abbrev Tests : (List Instr → List Instr) → Type 0
+  Tests test = (labels : List OperandTypes) (ts us : Operands) (r : List Instr) → Typed m ls rs labels (Of I32 ∷ ts) r us → Typed m ls rs labels ts (test r) us
 
-  t_empty_test : {labels : List OperandTypes} {ts us : Operands} (d c : ℕ) → d < size → (r : List Instr) → Typed m ls rs labels (Of I32 ∷ ts) r us → Typed m ls rs labels ts (empty_test d c r) us
-  t_empty_test {ts = ts} d c lt r k = t_get lt (t_plain (Of I32 ∷ ts) refl (t_plain ts refl k))
+  t_equal_test : (d c n : ℕ) → d < size → Tests (equal_test d c n)
+  t_equal_test d c zero lt labels ts us r k = t_get lt (t_plain (Of I32 ∷ ts) refl (t_plain ts refl k))
+  t_equal_test d c (suc n) lt labels ts us r k = t_get lt (t_plain ts refl (t_plain (Of I32 ∷ ts) refl (t_plain ts refl k)))
 
-  t_head_test : {labels : List OperandTypes} {ts us : Operands} (d c n : ℕ) → d < size → (r : List Instr) → Typed m ls rs labels (Of I32 ∷ ts) r us → Typed m ls rs labels ts (head_test d c n r) us
-  t_head_test {ts = ts} d c n lt r k = t_get lt (t_plain ts refl (t_plain (Of I32 ∷ ts) refl (t_plain ts refl k)))
+  t_below_test : (k : Kind) (d c : ℕ) → d < size → Tests (below_test k d c)
+  t_below_test Bare d c lt labels ts us r k = t_plain ts refl (t_get lt (t_plain ts refl k))
+  t_below_test Fielded d c lt labels ts us r k = t_plain ts refl (t_get lt (t_plain (Of I32 ∷ ts) refl (t_plain (Of I32 ∷ Of I32 ∷ ts) refl (t_plain (Of I32 ∷ ts) refl (t_plain ts refl k)))))
+
+  t_bare_test : (d : ℕ) → d < size → Tests (bare_test d)
+  t_bare_test d lt labels ts us r k = t_get lt (t_plain (Of I32 ∷ ts) refl (t_plain ts refl k))
+
+  -- the tests of a match
+  t_arm : (b : Bool) {test : List Instr → List Instr} {branch behind : Position → List Instr → List Instr} → Wherever branch → Wherever behind → Tests test → Puts branch → Puts behind → Puts (arm b test branch behind)
+  t_arm true f1 f2 test x y at labels ts us rest l k =
+      test labels ts us _ (arms (f1 (deeper at)) (f2 (deeper at)) (x (deeper at) ((I32 ∷ []) ∷ labels) [] (Of I32 ∷ []) [] (labelled_deeper at labels (I32 ∷ []) l) done) (y (deeper at) ((I32 ∷ []) ∷ labels) [] (Of I32 ∷ []) [] (labelled_deeper at labels (I32 ∷ []) l) done) k)
+  t_arm false f1 f2 test x y at labels ts us rest l k = x at labels ts us rest l k
+
+  t_either : (b : Bool) {f g : Position → List Instr → List Instr} → Puts f → Puts g → Puts (λ at rest. (if b then f else g) at rest)
+  t_either true x y = x
+  t_either false x y = y
+
+  t_none : Puts none
+  t_none at labels ts us rest l k = unreachable k
+
+  abbrev AllPut : List Alternative → Type 0
+  AllPut as' = All (λ (a : Alternative). Puts a.code) as'
+
+  abbrev AllClosed : List Alternative → Type 0
+  AllClosed as' = All (λ (a : Alternative). Wherever a.code) as'
+
+  t_chain : (d : ℕ) (some : Bool) (as' : List Alternative) (others : Position → List Instr → List Instr) → d < size → AllClosed as' → AllPut as' → Wherever others → Puts others → Puts (chain d some as' others)
+  t_chain d some [] others lt f h fo o = o
+  t_chain d some (a ∷ as') others lt f h fo o =
+      t_arm (some || is_some as') {branch = a.code} {behind = chain d some as' others} f.0 (shaped_chain d some as' others f.1 fo) (t_equal_test d a.number a.binders lt) h.0 (t_chain d some as' others lt f.1 h.1 fo o)
+
+  t_search : (k : Kind) (d rounds : ℕ) (as' : List Alternative) → d < size → AllClosed as' → AllPut as' → Puts (search k d rounds as')
+  t_search k d zero as' lt f h = t_chain d false as' none lt f h shaped_none t_none
+  t_search k d (suc rounds) as' lt f h =
+      let half = length as' / 2 in
+      let f1 = all_take (λ (a : Alternative). Wherever a.code) half as' f in
+      let f2 = all_drop (λ (a : Alternative). Wherever a.code) half as' f in
+      t_either (are_many as')
+      (t_arm true {branch = search k d rounds (take half as')} {behind = search k d rounds (drop half as')} (shaped_search k d rounds (take half as') f1) (shaped_search k d rounds (drop half as') f2)
+      (t_below_test k d (first_number (drop half as')) lt) (t_search k d rounds (take half as') lt f1 (all_take (λ (a : Alternative). Puts a.code) half as' h)) (t_search k d rounds (drop half as') lt f2 (all_drop (λ (a : Alternative). Puts a.code) half as' h)))
+      (t_chain d false as' none lt f h shaped_none t_none)
+
+  t_tests : (d : ℕ) (as' : List Alternative) → d < size → AllClosed as' → AllPut as' → Puts (tests d as')
+  t_tests d as' lt f h =
+      let bare = kept Bare as' in
+      let fielded = kept Fielded as' in
+      let f1 = all_kept (λ (a : Alternative). Wherever a.code) Bare as' f in
+      let f2 = all_kept (λ (a : Alternative). Wherever a.code) Fielded as' f in
+      let h1 = all_kept (λ (a : Alternative). Puts a.code) Bare as' h in
+      let s1 = shaped_search Bare d most_rounds bare f1 in
+      let s2 = shaped_search Fielded d most_rounds fielded f2 in
+      let x = t_search Bare d most_rounds bare lt f1 h1 in
+      let y = t_search Fielded d most_rounds fielded lt f2 (all_kept (λ (a : Alternative). Puts a.code) Fielded as' h) in
+      t_either (is_some fielded)
+      (t_either (are_many bare) (t_arm true {branch = search Bare d most_rounds bare} {behind = search Fielded d most_rounds fielded} s1 s2 (t_bare_test d lt) x y) (t_chain d true bare (search Fielded d most_rounds fielded) lt f1 h1 s2 y))
+      x
 
   -- a field that comes into the local in which its block's address is
   t_move : {labels : List OperandTypes} {ts us : Operands} {rest : List Instr} (b : Bool) (d : ℕ) → d < size → Typed m ls rs labels ts rest us → Typed m ls rs labels ts (move_field b d rest) us
@@ -238,7 +293,7 @@ module _ (P : Program) (most : ℕ) (form : Formed P most) (main : Body) (gs : L
     t_op n d ps at (OCon c as') le fit h l k = t_block n d _ ps as' le fit.3 h k
     t_op n d ps at (OClos g as') le fit h l k = t_block n d _ ps as' le fit.1 h k
     t_op n d ps at (OCase a bs) le fit h l k =
-        t_atom n d ps a (omega arith) fit.0 h (t_set (omega arith) (t_empties n d ps at 0 (some_heads bs) bs (λ at'. heads P ps d at' 0 bs) (λ at'. shaped_heads P ps d at' 0 bs) (omega arith) fit.2 h l (λ at' labels ts us rest l' k'. t_heads n d ps at' 0 bs (omega arith) fit.2 h l' k') k))
+        t_atom n d ps a (omega arith) fit.0 h (t_set (omega arith) (t_tests d (alternatives P ps d 0 bs) (omega arith) (shaped_alternatives P ps d 0 bs) (t_alternatives n d ps 0 bs (omega arith) fit.2 h) at _ _ _ _ l k))
 
     pub t_code : {labels : List OperandTypes} {ts us : Operands} {rest : List Instr} (n d : ℕ) (ps : List Place) (at : Position) (t : Block) → top d t ≤ size → LiftedBlockFits P.functions (length P.constants) most n t → All (PlaceFits P far d) ps → Labelled at labels →
         Typed m ls rs labels (Of I32 ∷ ts) rest us → Typed m ls rs labels ts (code P ps d at t rest) us
@@ -250,21 +305,10 @@ module _ (P : Program) (most : ℕ) (form : Formed P most) (main : Body) (gs : L
         (λ q e. let z = unmade_some (is_read (block_reads 0 t)) (known P ps x) e in t_code (suc n) d (q ∷ ps) at t (omega (arith, top_less d t)) fit.1 (known_fits P far most form n d ps x fit.0 h z.1, h) l k)
         (t_bind n d ps x {g = op P ps d Inside x} (omega arith) fit.0 h (λ r k'. t_op n d ps Inside x (omega arith) fit.0 h tt k') (t_code (suc n) (suc d) (At (InLocal d) ∷ ps) at t (omega arith) fit.1 (omega arith, places_up P far d (suc d) (omega arith) ps h) l k))
 
-    t_empties : {labels : List OperandTypes} {ts us : Operands} {rest : List Instr} (n d : ℕ) (ps : List Place) (at : Position) (c : ℕ) (some : Bool) (bs : BranchBlocks) (others : Position → List Instr → List Instr) → ((at' : Position) → Shaped (others at')) → max (suc d) (top_branches (suc d) bs) ≤ size →
-        BranchesFit P.functions (length P.constants) most n bs → All (PlaceFits P far d) ps → Labelled at labels → Puts others → Typed m ls rs labels (Of I32 ∷ ts) rest us → Typed m ls rs labels ts (empties P ps d at c some bs others rest) us
-    t_empties n d ps at c some BNil others fo le fit h l o k = o at _ _ _ _ l k
-    t_empties n d ps at c some (BCons zero t bs) others fo le fit h l o k =
-        t_arm (some || some_branches bs) {branch = λ at'. code P ps (suc d) at' t} {behind = λ at'. empties P ps d at' (suc c) some bs others} at (λ at'. shaped_code P ps (suc d) at' t) (λ at'. shaped_empties P ps d at' (suc c) some bs others fo) (t_empty_test d c (omega arith))
-        (λ at' labels ts us rest l' k'. t_code (0 + n) (suc d) ps at' t (omega arith) fit.1 (places_up P far d (suc d) (omega arith) ps h) l' k')
-        (λ at' labels ts us rest l' k'. t_empties n d ps at' (suc c) some bs others fo (omega arith) fit.2 h l' o k') l k
-    t_empties n d ps at c some (BCons (suc j) t bs) others fo le fit h l o k = t_empties n d ps at (suc c) some bs others fo (omega arith) fit.2 h l o k
-
-    t_heads : {labels : List OperandTypes} {ts us : Operands} {rest : List Instr} (n d : ℕ) (ps : List Place) (at : Position) (c : ℕ) (bs : BranchBlocks) → max (suc d) (top_branches (suc d) bs) ≤ size → BranchesFit P.functions (length P.constants) most n bs → All (PlaceFits P far d) ps → Labelled at labels →
-        Typed m ls rs labels (Of I32 ∷ ts) rest us → Typed m ls rs labels ts (heads P ps d at c bs rest) us
-    t_heads n d ps at c BNil le fit h l k = unreachable k
-    t_heads n d ps at c (BCons zero t bs) le fit h l k = t_heads n d ps at (suc c) bs (omega arith) fit.2 h l k
-    t_heads n d ps at c (BCons (suc j) t bs) le fit h l k =
-        t_arm (some_heads bs) {branch = λ at'. branch P ps d (suc j) at' t} {behind = λ at'. heads P ps d at' (suc c) bs} at (λ at'. shaped_branch P ps d (suc j) at' t) (λ at'. shaped_heads P ps d at' (suc c) bs) (t_head_test d c (suc j) (omega arith))
-        (λ at' labels ts us rest l' k'. t_move (moves (suc j) t) d (omega arith) (t_code (suc j + n) (suc d) (branch_places (moves (suc j) t) d (suc j) ps) at' t (omega arith) fit.1
-        (branch_fit P far (moves (suc j) t) (suc d) d (suc j) ps (omega arith) (omega (arith, enough, fit.0)) (places_up P far d (suc d) (omega arith) ps h)) l' k'))
-        (λ at' labels ts us rest l' k'. t_heads n d ps at' (suc c) bs (omega arith) fit.2 h l' k') l k
+    t_alternatives : (n d : ℕ) (ps : List Place) (c : ℕ) (bs : BranchBlocks) → max (suc d) (top_branches (suc d) bs) ≤ size → BranchesFit P.functions (length P.constants) most n bs → All (PlaceFits P far d) ps → AllPut (alternatives P ps d c bs)
+    t_alternatives n d ps c BNil le fit h = tt
+    t_alternatives n d ps c (BCons j t bs) le fit h = (
+      λ at labels ts us rest l k. t_move (moves j t) d (omega arith) (t_code (j + n) (suc d) (branch_places (moves j t) d j ps) at t (omega arith) fit.1
+          (branch_fit P far (moves j t) (suc d) d j ps (omega arith) (omega (arith, enough, fit.0)) (places_up P far d (suc d) (omega arith) ps h)) l k),
+      t_alternatives n d ps (suc c) bs (omega arith) fit.2 h,
+    )

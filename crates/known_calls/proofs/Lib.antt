@@ -1,3 +1,4 @@
+pub mod Parted
 pub mod Shapes
 pub mod KnownHolds
 pub mod Unreading
@@ -27,6 +28,7 @@ pub mod KnownLight
 pub mod KnownShare
 pub mod KnownMarking
 pub mod KnownPushing
+pub mod KnownArms
 pub mod KnownFinding
 pub mod KnownBuilt
 pub mod KnownEmitting

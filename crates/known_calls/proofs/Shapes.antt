@@ -1,5 +1,5 @@
 -- What holds of all emitted code: it stands in front of the rest, all its brackets are closed, and it sets the status only from a test of a grow.
-use Rattle.std.proofs.Common.{◌≡◌, ℕ, zero, suc, ◌+◌, ◌*◌, List, [], ◌∷◌, ◌++◌, length, Option, Some, None, Bool, true, false, refl, ap, sym, ◌∙◌, append_assoc, arith}
+use Rattle.std.proofs.Common.{◌≡◌, ℕ, zero, suc, ◌+◌, ◌*◌, ◌/◌, List, [], ◌∷◌, ◌++◌, length, take, drop, Option, Some, None, Bool, true, false, refl, ap, sym, ◌∙◌, append_assoc, arith}
 use Rattle.std.specs.Prelude.{if◌then◌else◌, ◌||◌}
 use Rattle.wasm_core.specs.declared.instrs.Instr.{Instr}
 use Rattle.wasm_core.specs.declared.instrs.Instr.TheVariants.{Unreachable, Else, End, Br, Call, ReturnCall, ReturnCallIndirect, LocalGet, LocalSet, LocalTee, GlobalGet, GlobalSet, I32 as Operation}
@@ -9,7 +9,10 @@ use Rattle.anf_convert.specs.declared.program.Atom.{Atom}
 use Rattle.closure_lift.specs.Lifted.{Op, OConst, OApp, OCon, OClos, OCase, Block, RetAtom, LetAtom, Ret, Let, BranchBlocks, BNil, BCons, Program}
 use Rattle.wasm_emit.specs.EmittedCode.{Load, StoreWord, ConstWord, IfWord, CallClosure, constant_index, ensure_room}
 use Rattle.known_calls.specs.KnownPlaces.{Word, InLocal, InField, IsConst, Place, At, word_of, known_function, fields_of}
-use Rattle.known_calls.specs.KnownCode.{Position, Inside, InTail, deeper, read_word, read, atom, push_words, fill, new_block, block, into_local, into_params, worker_index, jumps, call_worker, application, some_heads, some_branches, empty_test, head_test, arm, choose, unmade, moves, move_field, branch_places, op, code, empties, heads, branch, Final, call_of, closure_call}
+use Rattle.known_calls.specs.KnownTests.{Kind, Bare, Fielded, Alternative, kept, is_some, first_number, empty_test, head_test, equal_test, below_test, bare_test, arm, none, chain, are_many, most_rounds, search, tests}
+use Rattle.wasm_core.specs.ModuleCondition.{All}
+use Rattle.known_calls.proofs.Parted.{all_kept, all_take, all_drop}
+use Rattle.known_calls.specs.KnownCode.{Position, Inside, InTail, deeper, read_word, read, atom, push_words, fill, new_block, block, into_local, into_params, worker_index, jumps, call_worker, application, choose, unmade, moves, move_field, branch_places, op, code, alternatives, branch, Final, call_of, closure_call}
 use Rattle.known_calls.specs.KnownModule.{captured_words}
 use Rattle.wasm_emit.proofs.Honest.{Wary, w_cons, NotStatus}
 
@@ -102,19 +105,65 @@ pub shaped_captured : (n : ℕ) → Shaped (captured_words n)
 shaped_captured zero = same_shaped
 shaped_captured (suc n) = shaped_captured n then (one (LocalGet 0) refl tt then one (Load (4 * suc n)) refl tt)
 
-shaped_empty_test : (d c : ℕ) → Shaped (empty_test d c)
-shaped_empty_test d c = one (LocalGet d) refl tt then (one (ConstWord (2 * c + 1)) refl tt then one (Operation op32.Eq) refl tt)
-
-shaped_head_test : (d c n : ℕ) → Shaped (head_test d c n)
-shaped_head_test d c n = one (LocalGet d) refl tt then (one (Load 0) refl tt then (one (ConstWord (n * 65536 + c)) refl tt then one (Operation op32.Eq) refl tt))
-
 shaped_move : (b : Bool) (d : ℕ) → Shaped (move_field b d)
 shaped_move false d = same_shaped
 shaped_move true d = one (LocalGet d) refl tt then (one (Load 4) refl tt then one (LocalSet d) refl tt)
 
-shaped_arm : (b : Bool) {test : List Instr → List Instr} {branch behind : Position → List Instr → List Instr} (at : Position) → Shaped test → ((at' : Position) → Shaped (branch at')) → ((at' : Position) → Shaped (behind at')) → Shaped (arm b test branch behind at)
-shaped_arm true at t x y = t then arms (x (deeper at)) (y (deeper at))
-shaped_arm false at t x y = x at
+-- The tests of a match.
+
+shaped_equal_test : (d c n : ℕ) → Shaped (equal_test d c n)
+shaped_equal_test d c zero = one (LocalGet d) refl tt then (one (ConstWord (2 * c + 1)) refl tt then one (Operation op32.Eq) refl tt)
+shaped_equal_test d c (suc n) = one (LocalGet d) refl tt then (one (Load 0) refl tt then (one (ConstWord (suc n * 65536 + c)) refl tt then one (Operation op32.Eq) refl tt))
+
+shaped_below_test : (k : Kind) (d c : ℕ) → Shaped (below_test k d c)
+shaped_below_test Bare d c = one (ConstWord (2 * c)) refl tt then (one (LocalGet d) refl tt then one (Operation op32.GtU) refl tt)
+shaped_below_test Fielded d c =
+    one (ConstWord (65536 * c)) refl tt then (one (LocalGet d) refl tt then (one (Load 0) refl tt then (one (ConstWord 16) refl tt then (one (Operation op32.Shl) refl tt then one (Operation op32.GtU) refl tt))))
+
+shaped_bare_test : (d : ℕ) → Shaped (bare_test d)
+shaped_bare_test d = one (LocalGet d) refl tt then (one (ConstWord 1) refl tt then one (Operation op32.And) refl tt)
+
+-- wherever they stand
+abbrev pub Wherever : (Position → List Instr → List Instr) → Type 0
+Wherever g = (at : Position) → Shaped (g at)
+
+abbrev pub AllShaped : List Alternative → Type 0
+AllShaped as' = All (λ (a : Alternative). Wherever a.code) as'
+
+shaped_arm : (b : Bool) {test : List Instr → List Instr} {branch behind : Position → List Instr → List Instr} → Shaped test → Wherever branch → Wherever behind → Wherever (arm b test branch behind)
+shaped_arm true t x y at = t then arms (x (deeper at)) (y (deeper at))
+shaped_arm false t x y at = x at
+
+shaped_either : (b : Bool) {f g : Position → List Instr → List Instr} → Wherever f → Wherever g → (at : Position) → Shaped (λ r. (if b then f else g) at r)
+shaped_either true x y at = x at
+shaped_either false x y at = y at
+
+pub shaped_none : Wherever none
+shaped_none at = one Unreachable refl tt
+
+pub shaped_chain : (d : ℕ) (some : Bool) (as' : List Alternative) (others : Position → List Instr → List Instr) → AllShaped as' → Wherever others → Wherever (chain d some as' others)
+shaped_chain d some [] others h o = o
+shaped_chain d some (a ∷ as') others h o = shaped_arm (some || is_some as') {branch = a.code} {behind = chain d some as' others} (shaped_equal_test d a.number a.binders) h.0 (shaped_chain d some as' others h.1 o)
+
+pub shaped_search : (k : Kind) (d rounds : ℕ) (as' : List Alternative) → AllShaped as' → Wherever (search k d rounds as')
+shaped_search k d zero as' h = shaped_chain d false as' none h shaped_none
+shaped_search k d (suc rounds) as' h =
+    let half = length as' / 2 in
+    shaped_either (are_many as')
+    (shaped_arm true {branch = search k d rounds (take half as')} {behind = search k d rounds (drop half as')} (shaped_below_test k d (first_number (drop half as')))
+    (shaped_search k d rounds (take half as') (all_take (λ (a : Alternative). Wherever a.code) half as' h)) (shaped_search k d rounds (drop half as') (all_drop (λ (a : Alternative). Wherever a.code) half as' h)))
+    (shaped_chain d false as' none h shaped_none)
+
+pub shaped_tests : (d : ℕ) (as' : List Alternative) → AllShaped as' → Wherever (tests d as')
+shaped_tests d as' h =
+    let bare = kept Bare as' in
+    let fielded = kept Fielded as' in
+    let bares = all_kept (λ (a : Alternative). Wherever a.code) Bare as' h in
+    let x = shaped_search Bare d most_rounds bare bares in
+    let y = shaped_search Fielded d most_rounds fielded (all_kept (λ (a : Alternative). Wherever a.code) Fielded as' h) in
+    shaped_either (is_some fielded)
+    (shaped_either (are_many bare) (shaped_arm true {branch = search Bare d most_rounds bare} {behind = search Fielded d most_rounds fielded} (shaped_bare_test d) x y) (shaped_chain d true bare (search Fielded d most_rounds fielded) bares y))
+    x
 
 shaped_call_of : (at : Position) (f : ℕ) → Shaped (λ r. call_of at f ∷ r)
 shaped_call_of Inside f = one (Call f) refl tt
@@ -150,7 +199,7 @@ module _ (P : Program) where
     shaped_op env d at (OApp f a) = shaped_application env at f a (known_function env f)
     shaped_op env d at (OCon c as') = shaped_block env d _ as'
     shaped_op env d at (OClos g as') = shaped_block env d _ as'
-    shaped_op env d at (OCase a bs) = shaped_atom env a then (one (LocalSet d) refl tt then shaped_empties env d at 0 (some_heads bs) bs (λ at'. heads P env d at' 0 bs) (λ at'. shaped_heads env d at' 0 bs))
+    shaped_op env d at (OCase a bs) = shaped_atom env a then (one (LocalSet d) refl tt then shaped_tests d (alternatives P env d 0 bs) (shaped_alternatives env d 0 bs) at)
 
     pub shaped_code : (env : List Place) (d : ℕ) (at : Position) (t : Block) → Shaped (code P env d at t)
     shaped_code env d at (RetAtom a) = shaped_atom env a
@@ -159,18 +208,9 @@ module _ (P : Program) where
     shaped_code env d at (Let x t) =
         shaped_choice (unmade P env x t) {g = λ q. code P (q ∷ env) d at t} (λ q. shaped_code (q ∷ env) d at t) (shaped_bind env d x (shaped_op env d Inside x) then shaped_code (At (InLocal d) ∷ env) (suc d) at t)
 
-    pub shaped_empties : (env : List Place) (d : ℕ) (at : Position) (c : ℕ) (some : Bool) (bs : BranchBlocks) (others : Position → List Instr → List Instr) → ((at' : Position) → Shaped (others at')) → Shaped (empties P env d at c some bs others)
-    shaped_empties env d at c some BNil others o = o at
-    shaped_empties env d at c some (BCons zero t bs) others o =
-        shaped_arm (some || some_branches bs) {branch = λ at'. code P env (suc d) at' t} {behind = λ at'. empties P env d at' (suc c) some bs others} at (shaped_empty_test d c) (λ at'. shaped_code env (suc d) at' t) (λ at'. shaped_empties env d at' (suc c) some bs others o)
-    shaped_empties env d at c some (BCons (suc n) t bs) others o = shaped_empties env d at (suc c) some bs others o
-
-    pub shaped_heads : (env : List Place) (d : ℕ) (at : Position) (c : ℕ) (bs : BranchBlocks) → Shaped (heads P env d at c bs)
-    shaped_heads env d at c BNil = one Unreachable refl tt
-    shaped_heads env d at c (BCons zero t bs) = shaped_heads env d at (suc c) bs
-    shaped_heads env d at c (BCons (suc n) t bs) =
-        shaped_arm (some_heads bs) {branch = λ at'. branch P env d (suc n) at' t} {behind = λ at'. heads P env d at' (suc c) bs} at (shaped_head_test d c (suc n))
-        (λ at'. shaped_move (moves (suc n) t) d then shaped_code (branch_places (moves (suc n) t) d (suc n) env) (suc d) at' t) (λ at'. shaped_heads env d at' (suc c) bs)
+    pub shaped_alternatives : (env : List Place) (d c : ℕ) (bs : BranchBlocks) → AllShaped (alternatives P env d c bs)
+    shaped_alternatives env d c BNil = tt
+    shaped_alternatives env d c (BCons n t bs) = (λ at. shaped_move (moves n t) d then shaped_code (branch_places (moves n t) d n env) (suc d) at t, shaped_alternatives env d (suc c) bs)
 
   pub shaped_branch : (env : List Place) (d n : ℕ) (at : Position) (t : Block) → Shaped (branch P env d n at t)
   shaped_branch env d n at t = shaped_move (moves n t) d then shaped_code (branch_places (moves n t) d n env) (suc d) at t

@@ -8,9 +8,7 @@ use Rattle.wasm_core.specs.declared.instrs.I32Op.TheVariants as op32
 use Rattle.wasm_core.specs.declared.instrs.Instr.{Instr}
 use Rattle.wasm_core.specs.declared.instrs.Instr.TheVariants.{Unreachable, Else, End, Br, Call, ReturnCall, ReturnCallIndirect, LocalGet, LocalSet, LocalTee, GlobalGet, GlobalSet, I32 as Operation}
 use Rattle.wasm_emit.specs.EmittedCode.{Load, StoreWord, ConstWord, IfWord, CallClosure, constant_index, ensure_room}
--- what a call in some place may be: a call; in the tail of a function without a loop, a tail call; or, in the tail of the body of worker g, where g calls itself, a branch out of so many blocks to its beginning, and else a tail call
-pub use Rattle.known_calls.specs.declared.site.Position.{Position}
-pub use Rattle.known_calls.specs.declared.site.Position.TheVariants.{Inside, Final, InTail}
+pub use Rattle.known_calls.specs.KnownTests.{Position, Inside, Final, InTail, deeper, Alternative, tests}
 use Rattle.known_calls.specs.KnownPlaces.{Word, InLocal, InField, IsConst, Place, At, Known, word_of, words_of, all_at, fields_of, known_function, is_read, is_twice, block_reads}
 
 -- a closure of more captured words is never known, and its function has no worker
@@ -92,11 +90,6 @@ block env d header as' rest = new_block env d header as' (LocalGet d ∷ rest)
 
 -- Calls.
 
-abbrev pub deeper : Position → Position
-deeper Inside = Inside
-deeper Final = Final
-deeper (InTail g n) = InTail g (suc n)
-
 -- the operands become the n + 1 parameters
 abbrev pub into_params : ℕ → List Instr → List Instr
 into_params zero rest = LocalSet 0 ∷ rest
@@ -133,24 +126,6 @@ application P env at f a (Some k) rest = push_words k.1 (atom env a (call_worker
 
 -- Matches.
 
--- whether one of these branches has binders
-abbrev pub some_heads : BranchBlocks → Bool
-some_heads BNil = false
-some_heads (BCons zero t bs) = some_heads bs
-some_heads (BCons (suc n) t bs) = true
-
--- whether there is a branch
-abbrev pub some_branches : BranchBlocks → Bool
-some_branches BNil = false
-some_branches (BCons n t bs) = true
-
--- whether the word in local d is that of constructor c without arguments; or, where it is none of those, whether its block is of constructor c with n arguments
-abbrev pub empty_test : ℕ → ℕ → List Instr → List Instr
-empty_test d c rest = LocalGet d ∷ ConstWord (2 * c + 1) ∷ Operation op32.Eq ∷ rest
-
-abbrev pub head_test : ℕ → ℕ → ℕ → List Instr → List Instr
-head_test d c n rest = LocalGet d ∷ Load 0 ∷ ConstWord (n * 65536 + c) ∷ Operation op32.Eq ∷ rest
-
 -- whether a branch of n variables has one alone, which is read twice: then its field comes into the local in which the block's address is
 abbrev pub moves : ℕ → Block → Bool
 moves zero t = false
@@ -165,11 +140,6 @@ move_field true d rest = LocalGet d ∷ Load 4 ∷ LocalSet d ∷ rest
 abbrev pub branch_places : Bool → ℕ → ℕ → List Place → List Place
 branch_places false d n env = fields_of d n env
 branch_places true d n env = At (InLocal d) ∷ env
-
--- A branch behind its test, in whose other arm the branches behind it stand. Where there is none behind it, it needs no test: where the evaluation goes on, the scrutinee's constructor has a branch.
-abbrev pub arm : Bool → (List Instr → List Instr) → (Position → List Instr → List Instr) → (Position → List Instr → List Instr) → Position → List Instr → List Instr
-arm true test branch behind at rest = test (IfWord ∷ branch (deeper at) (Else ∷ behind (deeper at) (End ∷ rest)))
-arm false test branch behind at rest = branch at rest
 
 -- a binding that needs no code, or one that has code
 abbrev pub choose : Option Place → (Place → List Instr) → List Instr → List Instr
@@ -191,7 +161,7 @@ module _ (P : Program) where
     op env d at (OApp f a) rest = application P env at f a (known_function env f) rest
     op env d at (OCon c as') rest = block env d (length as' * 65536 + c) as' rest
     op env d at (OClos g as') rest = block env d (suc g) as' rest
-    op env d at (OCase a bs) rest = atom env a (LocalSet d ∷ empties env d at 0 (some_heads bs) bs (λ at'. heads env d at' 0 bs) rest)
+    op env d at (OCase a bs) rest = atom env a (LocalSet d ∷ tests d (alternatives env d 0 bs) at rest)
 
     pub code : List Place → ℕ → Position → Block → List Instr → List Instr
     code env d at (RetAtom a) rest = atom env a rest
@@ -199,19 +169,10 @@ module _ (P : Program) where
     code env d at (Ret p) rest = op env d at p rest
     code env d at (Let p t) rest = choose (unmade P env p t) (λ q. code (q ∷ env) d at t rest) (into_local env d p (op env d Inside p) (code (At (InLocal d) ∷ env) (suc d) at t rest))
 
-    -- the branches without binders, and then `others`, those with binders, of which the match has some or none
-    pub empties : List Place → ℕ → Position → ℕ → Bool → BranchBlocks → (Position → List Instr → List Instr) → List Instr → List Instr
-    empties env d at c some BNil others rest = others at rest
-    empties env d at c some (BCons zero t bs) others rest = arm (some || some_branches bs) (empty_test d c) (λ at'. code env (suc d) at' t) (λ at'. empties env d at' (suc c) some bs others) at rest
-    empties env d at c some (BCons (suc n) t bs) others rest = empties env d at (suc c) some bs others rest
-
-    -- the branches with binders
-    pub heads : List Place → ℕ → Position → ℕ → BranchBlocks → List Instr → List Instr
-    heads env d at c BNil rest = Unreachable ∷ rest
-    heads env d at c (BCons zero t bs) rest = heads env d at (suc c) bs rest
-    heads env d at c (BCons (suc n) t bs) rest =
-        arm (some_heads bs) (head_test d c (suc n)) (λ at' r. move_field (moves (suc n) t) d (code (branch_places (moves (suc n) t) d (suc n) env) (suc d) at' t r))
-        (λ at'. heads env d at' (suc c) bs) at rest
+    -- the branches of a match on the word in local d, from constructor c on
+    pub alternatives : List Place → ℕ → ℕ → BranchBlocks → List Alternative
+    alternatives env d c BNil = []
+    alternatives env d c (BCons n t bs) = record { number = c; binders = n; body = t; code = λ at rest. move_field (moves n t) d (code (branch_places (moves n t) d n env) (suc d) at t rest) } ∷ alternatives env d (suc c) bs
 
   -- a branch of n variables, of a match on the word in local d
   abbrev pub branch : List Place → ℕ → ℕ → Position → Block → List Instr → List Instr

@@ -3,6 +3,7 @@
 use Rattle.std.specs.Prelude.{◌≡◌, ◌+◌, ℕ, zero, suc, Bool, List, [], ◌∷◌, ◌++◌, length, drop}
 use Rattle.closure_lift.specs.Lifted.{Op, OConst, OApp, OCon, OClos, OCase, Block, RetAtom, LetAtom, Ret, Let, BranchBlocks, BNil, BCons, Bound, AtomBound, OpBound}
 use Rattle.known_calls.specs.KnownPlaces.{Times, Never, ◌plus◌, is_read, is_twice, names, op_reads, block_reads}
+use Rattle.known_calls.specs.KnownTests.{Kind, Bare, Fielded}
 
 -- that of a branch of n variables, of which the first is read so often
 abbrev pub field_marks : ℕ → Times → List Bool
@@ -34,6 +35,10 @@ abbrev mutual
   head_marks BNil = []
   head_marks (BCons zero t bs) = head_marks bs
   head_marks (BCons (suc n) t bs) = (field_marks (suc n) (block_reads 0 t) ++ block_marks t) ++ head_marks bs
+
+abbrev pub kind_marks : Kind → BranchBlocks → List Bool
+kind_marks Bare bs = empty_marks bs
+kind_marks Fielded bs = head_marks bs
 
 -- those of a branch of n variables
 abbrev pub branch_marks : ℕ → Block → List Bool

@@ -1,17 +1,18 @@
 -- What the functions that push instructions of modules with workers have pushed: the instructions that the definitions put in front of any rest.
-use Rattle.std.specs.Prelude.{◌≡◌, ◌<◌, ◌≤◌, ◌+◌, ◌*◌, ℕ, zero, suc, Bool, true, false, not, ◌||◌, if◌then◌else◌, List, [], ◌∷◌, ◌++◌, Option, Some, None}
+use Rattle.std.specs.Prelude.{◌≡◌, ◌<◌, ◌≤◌, ◌+◌, ◌*◌, ℕ, zero, suc, Bool, true, false, ◌&&◌, ◌||◌, if◌then◌else◌, nat_eq, List, [], ◌∷◌, ◌++◌, Option, Some, None}
 use Rattle.anf_convert.specs.declared.program.Atom.{Atom}
 use Rattle.anf_convert.specs.declared.program.Atom.TheVariants.{Var as AVar}
-use Rattle.closure_lift.specs.Lifted.{Block, BranchBlocks, BCons, Program, Bound, AtomBound, OpBound}
+use Rattle.closure_lift.specs.Lifted.{Block, BranchBlocks, BNil, BCons, Program, Bound, AtomBound, OpBound}
 use Rattle.closure_lift.specs.LiftedProgram.{renumber, renumber_branches, place_in, lifted_of}
 use Rattle.closure_lift.specs.declared.program.Lifted.{Lifted}
 use Rattle.closure_lift.specs.declared.program.LiftedBranch.{LiftedBranch}
 use Rattle.wasm_core.specs.declared.instrs.Instr.{Instr}
-use Rattle.wasm_core.specs.declared.instrs.Instr.TheVariants.{Unreachable, LocalSet, GlobalGet}
+use Rattle.wasm_core.specs.declared.instrs.Instr.TheVariants.{LocalSet, GlobalGet}
 use Rattle.wasm_emit.specs.EmittedCode.{Load}
 use Rattle.wasm_emit.specs.Pushed.{ends, renumber_bound}
 use Rattle.known_calls.specs.KnownPlaces.{Place, At, InLocal}
-use Rattle.known_calls.specs.KnownCode.{Position, Inside, InTail, known, atom, into_local, some_heads, some_branches, op, code, empties, heads, branch, Final, closure_call}
+use Rattle.known_calls.specs.KnownTests.{Kind, Bare, Fielded, Alternative, is_of, keep, kept, is_some, bare_test, arm, none, chain, most_rounds, search, tests}
+use Rattle.known_calls.specs.KnownCode.{Position, Inside, InTail, known, atom, into_local, op, code, alternatives, branch, Final, closure_call}
 
 -- the position under n blocks more
 abbrev pub under_position : ℕ → Position → Position
@@ -72,42 +73,60 @@ module _ (Q : Lifted) where
   abbrev pub branch_code : List Place → ℕ → Position → LiftedBranch → List Instr → List Instr
   branch_code env d at b = branch (lifted_of Q) env d b.binders at (renumber (place_in Q.constants) b.body)
 
-  abbrev pub empty_arms : List Place → ℕ → Position → Bool → BranchBlocks → (Position → List Instr → List Instr) → List Instr → List Instr
-  empty_arms env d at some bs = empties (lifted_of Q) env d at 0 some (renumber_branches (place_in Q.constants) bs)
+  -- branch c of a match on the word in local d; and those of one kind, of which the first has number c
+  abbrev pub alternative_of : List Place → ℕ → ℕ → LiftedBranch → Alternative
+  alternative_of env d c b = record { number = c; binders = b.binders; body = renumber (place_in Q.constants) b.body; code = λ at. branch_code env d at b }
 
-  abbrev pub block_arms : List Place → ℕ → Position → BranchBlocks → List Instr → List Instr
-  block_arms env d at bs = heads (lifted_of Q) env d at 0 (renumber_branches (place_in Q.constants) bs)
+  abbrev pub kind_of : List Place → ℕ → Kind → ℕ → BranchBlocks → List Alternative
+  kind_of env d k c bs = kept k (alternatives (lifted_of Q) env d c (renumber_branches (place_in Q.constants) bs))
+
+  abbrev pub search_code : List Place → ℕ → Position → Kind → ℕ → ℕ → BranchBlocks → List Instr → List Instr
+  search_code env d at k c rounds bs = search k d rounds (kind_of env d k c bs) at
+
+  abbrev pub alone_code : List Place → ℕ → Position → Kind → ℕ → BranchBlocks → List Instr → List Instr
+  alone_code env d at k c bs = chain d false (kind_of env d k c bs) none at
+
+  -- matches of both kinds, with few bare branches, and with many
+  abbrev pub few_bare_code : List Place → ℕ → Position → BranchBlocks → List Instr → List Instr
+  few_bare_code env d at bs = chain d true (kind_of env d Bare 0 bs) (search Fielded d most_rounds (kind_of env d Fielded 0 bs)) at
+
+  abbrev pub both_kinds_code : List Place → ℕ → Position → BranchBlocks → List Instr → List Instr
+  both_kinds_code env d at bs = arm true (bare_test d) (search Bare d most_rounds (kind_of env d Bare 0 bs)) (search Fielded d most_rounds (kind_of env d Fielded 0 bs)) at
 
   abbrev pub branches_code : List Place → ℕ → Position → BranchBlocks → List Instr → List Instr
-  branches_code env d at bs rest = empty_arms env d at (some_heads (renumber_branches (place_in Q.constants) bs)) bs (λ at'. block_arms env d at' bs) rest
+  branches_code env d at bs = tests d (alternatives (lifted_of Q) env d 0 (renumber_branches (place_in Q.constants) bs)) at
 
--- whether a branch with so many binders, before these, is the last one that has some
-abbrev pub is_last_head : ℕ → BranchBlocks → Bool
-is_last_head zero more = false
-is_last_head (suc n) more = not (some_heads more)
+-- how many branches are of a kind
+abbrev pub counted : Bool → ℕ → ℕ
+counted true n = suc n
+counted false n = n
 
--- n arms were begun, for the branches without binders; their ends, and what stands in the innermost `else`, come later
-pub record EmptyArms (at : Position) (old new : List Instr) (g : (Position → List Instr → List Instr) → List Instr → List Instr) (n : ℕ) : Type 0 where
-  pub is : (others : Position → List Instr → List Instr) (rest : List Instr) → new ++ others (under_position n at) (ends n rest) ≡ old ++ g others rest
+abbrev pub count_of : Kind → BranchBlocks → ℕ
+count_of k BNil = 0
+count_of k (BCons n t bs) = counted (is_of k n) (count_of k bs)
 
--- n arms were begun, for the branches of a match of which none has binders; their ends come later
-pub record PlainArms (old new : List Instr) (g : (Position → List Instr → List Instr) → List Instr → List Instr) (n : ℕ) : Type 0 where
-  pub is : (others : Position → List Instr → List Instr) → ((at : Position) (rest : List Instr) → others at rest ≡ Unreachable ∷ rest) → (rest : List Instr) → new ++ ends n rest ≡ old ++ g others rest
+-- whether the first is
+abbrev pub begins_with : Kind → BranchBlocks → Bool
+begins_with k BNil = false
+begins_with k (BCons n t bs) = is_of k n
 
--- n arms were begun, for the branches with binders; their ends come later
-pub record HeadArms (old new : List Instr) (g : List Instr → List Instr) (n : ℕ) : Type 0 where
-  pub is : (rest : List Instr) → new ++ ends n rest ≡ old ++ g rest
+-- whether a branch with so many binders, before these, is the last one of a kind
+abbrev pub is_last_of : Kind → ℕ → BranchBlocks → Bool
+is_last_of k n more = is_of k n && nat_eq (count_of k more) 0
 
--- n arms were begun, at most one, for branch c of a match on the word in local d, which isn't the last one of its kind
-pub record EmptyArm (Q : Lifted) (env : List Place) (d : ℕ) (at : Position) (c : ℕ) (b : LiftedBranch) (old new : List Instr) (n : ℕ) : Type 0 where
+-- n arms were begun, for alternatives that all have tests; their ends, and what stands in the innermost `else`, come later
+pub record TestedArms (d : ℕ) (at : Position) (as' : List Alternative) (old new : List Instr) (n : ℕ) : Type 0 where
+  pub is : (others : Position → List Instr → List Instr) (rest : List Instr) → new ++ others (under_position n at) (ends n rest) ≡ old ++ chain d true as' others at rest
+
+-- n arms were begun, for alternatives of which the last has no test; their ends come later
+pub record ToldArms (d : ℕ) (at : Position) (as' : List Alternative) (old new : List Instr) (n : ℕ) : Type 0 where
+  pub is : (rest : List Instr) → new ++ ends n rest ≡ old ++ chain d false as' none at rest
+
+-- n arms were begun, at most one, for a branch, which isn't the last one of its kind
+pub record OneArm (d : ℕ) (at : Position) (k : Kind) (a : Alternative) (old new : List Instr) (n : ℕ) : Type 0 where
   pub few : n ≤ 1
-  pub is : (some : Bool) (more : BranchBlocks) (others : Position → List Instr → List Instr) (rest : List Instr) → some || some_branches more ≡ true →
-      new ++ empties (lifted_of Q) env d (under_position n at) (suc c) some more others (ends n rest) ≡ old ++ empties (lifted_of Q) env d at c some (BCons b.binders (renumber (place_in Q.constants) b.body) more) others rest
-
-pub record BlockArm (Q : Lifted) (env : List Place) (d : ℕ) (at : Position) (c : ℕ) (b : LiftedBranch) (old new : List Instr) (n : ℕ) : Type 0 where
-  pub few : n ≤ 1
-  pub is : (more : BranchBlocks) (rest : List Instr) → (0 < b.binders → some_heads more ≡ true) →
-      new ++ heads (lifted_of Q) env d (under_position n at) (suc c) more (ends n rest) ≡ old ++ heads (lifted_of Q) env d at c (BCons b.binders (renumber (place_in Q.constants) b.body) more) rest
+  pub is : (some : Bool) (more : List Alternative) (others : Position → List Instr → List Instr) (rest : List Instr) → (is_of k a.binders ≡ true → some || is_some more ≡ true) →
+      new ++ chain d some more others (under_position n at) (ends n rest) ≡ old ++ chain d some (keep (is_of k a.binders) a more) others at rest
 
 -- a closure that isn't known, applied
 abbrev pub unknown_application : List Place → Position → Atom → Atom → List Instr → List Instr

@@ -1,4 +1,5 @@
 pub mod KnownPlaces
+pub mod KnownTests
 pub mod KnownCode
 pub mod KnownModule
 pub mod KnownCalls

@@ -2,34 +2,40 @@
 //!
 //! A binding gets the local whose number is how many stand before it; but one that is known, and read as a word nowhere, gets no local and no code. A match puts its
 //! scrutinee into the next local and compares it with the words of the constructors without arguments, and then its block's header with those of the others; the last
-//! branch needs no test. What a branch binds is read from the block; but a branch's only variable, where it is read twice, comes into the
+//! branch needs no test, and six of a kind or more are told by halves. What a branch binds is read from the block; but a branch's only variable, where it is read twice, comes into the
 //! scrutinee's local.
-ghost use Rattle.std.specs.Prelude.{◌≡◌, ◌+◌, ◌*◌, ◌∷◌, ◌++◌, [], IfOk, IfErr, OnOk, drop, false, get_or, length, reverse, suc, true};
+ghost use Rattle.std.specs.Prelude.{◌≡◌, ◌<◌, ◌≤◌, ◌+◌, ◌∷◌, ◌++◌, [], IfOk, IfErr, OnOk, drop, get_or, length, reverse, true};
 ghost use Rattle.closure_lift.specs.LiftedView.{seen, branches_of};
 ghost use Rattle.closure_lift.specs.LiftedProgram.{lifted_of};
 ghost use Rattle.wasm_emit.specs.ConstantNumbers.{AreNumbered};
 ghost use Rattle.wasm_emit.specs.Pushed.{Pushed};
 ghost use Rattle.wasm_emit.specs.declared.fault.EmitFault.TheVariants.{Memory};
-ghost use Rattle.known_calls.specs.KnownMarks.{Begins, block_marks, bound_marks, branch_marks, empty_marks, head_marks};
-ghost use Rattle.known_calls.specs.KnownPushed.{BlockArm, HeadArms, EmptyArm, EmptyArms, PlainArms, is_last_head as last_head, binding_code, block_arms, block_code, branch_code, branches_code, empty_arms, local_behind, op_code, op_made, op_unmade, place_bound, under_position};
+ghost use Rattle.known_calls.specs.KnownMarks.{Begins, block_marks, bound_marks, branch_marks, empty_marks, head_marks, kind_marks};
+ghost use Rattle.known_calls.specs.KnownPushed.{OneArm, TestedArms, ToldArms, alone_code, alternative_of, binding_code, block_code, both_kinds_code, branch_code, branches_code, count_of, few_bare_code, kind_of, local_behind, op_code, op_made, op_unmade, place_bound, search_code, under_position};
 ghost use Rattle.known_calls.specs.KnownPlaces.{At, InLocal};
-ghost use Rattle.known_calls.specs.KnownCode.{Inside, new_block, some_heads};
+ghost use Rattle.known_calls.specs.KnownCode.{Inside};
 ghost use Rattle.wasm_core.specs.declared.instrs.Instr.TheVariants.{LocalSet};
 
+use crate::alternatives::{
+    MANY_ALTERNATIVES, branches_from, by_halves, count_from, is_last_of, is_of, place_of,
+    push_bare_test, push_below_test, push_equal_test,
+};
 use crate::calls::{call_of, push_application};
 use crate::closures::known;
-use crate::instructions::{push_atom, push_moved_field, push_new_block};
+use crate::instructions::{push_atom, push_closure, push_construct, push_moved_field};
 use crate::marks::{take_field_mark, take_mark};
 use crate::places::{Place, push_branch_places};
-use crate::site::{Arm, Position, Site, under};
+use crate::site::{Arm, Kind, Part, Position, Site, under};
 use crate::words::Word;
-use anf_convert::lists::Atoms;
 use closure_lift::program::{Lifted, LiftedBlock, LiftedBranch, LiftedBranches, LiftedOp};
 use std::collections::HashMap;
 use wasm_core::Instr;
 use wasm_emit::EmitFault;
 use wasm_emit::functions::index_of_constant;
-use wasm_emit::instructions::{empty_word, header_word, push, push_ends, push_load, push_test};
+use wasm_emit::instructions::{push, push_ends};
+
+/// By at most so many halvings: these leave fewer than six of 65,536 constructors.
+const MOST_ROUNDS: u32 = 16;
 
 /// Puts the value of a block on the operands; the places are those of the variables, the innermost last, and the first marks are those of the block. Only `Memory`.
 #[cycle(blocks)]
@@ -212,41 +218,6 @@ fn push_op(
     }
 }
 
-/// Makes the block of a constructor with arguments, and puts its address into local d. Only `Memory`.
-fn push_construct(
-    places: &[Place],
-    d: u32,
-    c: u32,
-    args: &Atoms,
-    out: &mut Vec<Instr>,
-) -> Result<(), EmitFault>
-    ensures pushed { OnOk result (Pushed out.old.items out.new.items (new_block (reverse places.now) d (length args.now * 65536 + c) args.now)) }
-    ensures only_memory { IfErr result (λ e. e ≡ Memory) }
-{
-    let Ok(fields) = u32::try_from(args.len()) else {
-        return Err(EmitFault::Memory);
-    };
-    let header = header_word(c, fields)?;
-    push_new_block(places, d, header, args, out)
-}
-
-/// Makes the block of a closure of function g with these captured words, and puts its address into local d. Only `Memory`.
-fn push_closure(
-    places: &[Place],
-    d: u32,
-    g: u32,
-    words: &Atoms,
-    out: &mut Vec<Instr>,
-) -> Result<(), EmitFault>
-    ensures pushed { OnOk result (Pushed out.old.items out.new.items (new_block (reverse places.now) d (suc g) words.now)) }
-    ensures only_memory { IfErr result (λ e. e ≡ Memory) }
-{
-    let Some(entry) = g.checked_add(1) else {
-        return Err(EmitFault::Memory);
-    };
-    push_new_block(places, d, entry, words, out)
-}
-
 /// The branches of a match on the word in the site's local. Only `Memory`.
 #[cycle(blocks)]
 fn push_branches(
@@ -266,16 +237,24 @@ fn push_branches(
     ensures only_memory { IfErr result (λ e. e ≡ Memory) }
 {
     let items = bs.as_slice();
-    if heads_from(items, 0) {
-        push_mixed_branches(p, numbers, places, site, items, marks, out)
-    } else {
-        push_plain_branches(p, numbers, places, site, items, marks, out)
+    if count_from(Kind::Fielded, items, 0) == 0 {
+        let all = Part {
+            kind: Kind::Bare,
+            first: 0,
+            rounds: MOST_ROUNDS,
+            site,
+        };
+        return push_search(p, numbers, places, all, items, marks, out);
     }
+    if count_from(Kind::Bare, items, 0) < MANY_ALTERNATIVES {
+        return push_few_bare(p, numbers, places, site, items, marks, out);
+    }
+    push_both_kinds(p, numbers, places, site, items, marks, out)
 }
 
-/// The branches of a match of which some have binders. Only `Memory`.
+/// The branches of a match of both kinds, of which few are bare: these are told one by one from the others. Only `Memory`.
 #[cycle(blocks)]
-fn push_mixed_branches(
+fn push_few_bare(
     p: &Lifted,
     numbers: &HashMap<u32, usize>,
     places: &mut Vec<Place>,
@@ -285,27 +264,37 @@ fn push_mixed_branches(
     out: &mut Vec<Instr>,
 ) -> Result<(), EmitFault>
     requires numbered { AreNumbered numbers.now p.now.constants }
-    requires mixed { some_heads (branches_of bs.now) ≡ true }
     requires marked { Begins (empty_marks (branches_of bs.now) ++ head_marks (branches_of bs.now)) (reverse marks.old.items) }
-    ensures pushed { OnOk result (Pushed out.old.items out.new.items (branches_code p.now (reverse places.old.items) site.local site.at (branches_of bs.now))) }
+    ensures pushed { OnOk result (Pushed out.old.items out.new.items (few_bare_code p.now (reverse places.old.items) site.local site.at (branches_of bs.now))) }
     ensures left { OnOk result (reverse marks.new.items ≡ drop (length (empty_marks (branches_of bs.now) ++ head_marks (branches_of bs.now))) (reverse marks.old.items)) }
     ensures same { OnOk result (places.new.items ≡ places.old.items) }
     ensures only_memory { IfErr result (λ e. e ≡ Memory) }
 {
-    let empties = push_empty_branches(p, numbers, places, site, bs, marks, out)?;
-    let at = under(site.at, empties)?;
+    let bare = Part {
+        kind: Kind::Bare,
+        first: 0,
+        rounds: MOST_ROUNDS,
+        site,
+    };
+    let begun = push_tested(p, numbers, places, bare, bs, marks, out)?;
+    let at = under(site.at, begun)?;
     let inner = Site {
         local: site.local,
         at,
     };
-    let heads = push_block_branches(p, numbers, places, inner, bs, marks, out)?;
-    push_ends(heads, out)?;
-    push_ends(empties, out)
+    let fielded = Part {
+        kind: Kind::Fielded,
+        first: 0,
+        rounds: MOST_ROUNDS,
+        site: inner,
+    };
+    push_search(p, numbers, places, fielded, bs, marks, out)?;
+    push_ends(begun, out)
 }
 
-/// The branches of a match of which none has binders. Only `Memory`.
+/// The branches of a match of both kinds, of which many are bare: one test tells which kind it is. Only `Memory`.
 #[cycle(blocks)]
-fn push_plain_branches(
+fn push_both_kinds(
     p: &Lifted,
     numbers: &HashMap<u32, usize>,
     places: &mut Vec<Place>,
@@ -315,115 +304,215 @@ fn push_plain_branches(
     out: &mut Vec<Instr>,
 ) -> Result<(), EmitFault>
     requires numbered { AreNumbered numbers.now p.now.constants }
-    requires plain { some_heads (branches_of bs.now) ≡ false }
     requires marked { Begins (empty_marks (branches_of bs.now) ++ head_marks (branches_of bs.now)) (reverse marks.old.items) }
-    ensures pushed { OnOk result (Pushed out.old.items out.new.items (branches_code p.now (reverse places.old.items) site.local site.at (branches_of bs.now))) }
+    ensures pushed { OnOk result (Pushed out.old.items out.new.items (both_kinds_code p.now (reverse places.old.items) site.local site.at (branches_of bs.now))) }
     ensures left { OnOk result (reverse marks.new.items ≡ drop (length (empty_marks (branches_of bs.now) ++ head_marks (branches_of bs.now))) (reverse marks.old.items)) }
     ensures same { OnOk result (places.new.items ≡ places.old.items) }
     ensures only_memory { IfErr result (λ e. e ≡ Memory) }
 {
-    let begun = push_plain_arms(p, numbers, places, site, bs, marks, out)?;
-    push_ends(begun, out)
+    let at = under(site.at, 1)?;
+    let inner = Site {
+        local: site.local,
+        at,
+    };
+    let bare = Part {
+        kind: Kind::Bare,
+        first: 0,
+        rounds: MOST_ROUNDS,
+        site: inner,
+    };
+    let fielded = Part {
+        kind: Kind::Fielded,
+        first: 0,
+        rounds: MOST_ROUNDS,
+        site: inner,
+    };
+    push_bare_test(site.local, out)?;
+    push_search(p, numbers, places, bare, bs, marks, out)?;
+    push(out, Instr::Else)?;
+    push_search(p, numbers, places, fielded, bs, marks, out)?;
+    push(out, Instr::End)
 }
 
-/// Whether one of the branches from this one on has binders.
-fn heads_from(bs: &[LiftedBranch], from: usize) -> bool
-    ensures is { result ≡ some_heads (branches_of (drop from bs.now)) }
-{
-    for c in from..bs.len() {
-        if bs[c].binders > 0 {
-            return true;
-        }
-    }
-    false
-}
-
-/// Whether this branch has binders, and none of those from `behind` on has.
-fn is_last_head(b: &LiftedBranch, bs: &[LiftedBranch], behind: usize) -> bool
-    ensures is { result ≡ last_head b.now.binders (branches_of (drop behind bs.now)) }
-{
-    b.binders > 0 && !heads_from(bs, behind)
-}
-
-/// The branches of a match of which none has binders, each in an arm of its own but for the last. It gives how many arms it has begun. Only `Memory`.
+/// The branches of one kind of a part of a match's branches: many are told by halves, fewer one after another. Only `Memory`.
 #[cycle(blocks)]
-fn push_plain_arms(
+fn push_search(
     p: &Lifted,
     numbers: &HashMap<u32, usize>,
     places: &mut Vec<Place>,
-    site: Site,
+    part: Part,
+    bs: &[LiftedBranch],
+    marks: &mut Vec<bool>,
+    out: &mut Vec<Instr>,
+) -> Result<(), EmitFault>
+    requires numbered { AreNumbered numbers.now p.now.constants }
+    requires marked { Begins (kind_marks part.kind (branches_of bs.now)) (reverse marks.old.items) }
+    ensures pushed { OnOk result (Pushed out.old.items out.new.items (search_code p.now (reverse places.old.items) part.site.local part.site.at part.kind part.first part.rounds (branches_of bs.now))) }
+    ensures left { OnOk result (reverse marks.new.items ≡ drop (length (kind_marks part.kind (branches_of bs.now))) (reverse marks.old.items)) }
+    ensures same { OnOk result (places.new.items ≡ places.old.items) }
+    ensures only_memory { IfErr result (λ e. e ≡ Memory) }
+{
+    if by_halves(part, bs) {
+        return push_halves(p, numbers, places, part, bs, marks, out);
+    }
+    push_alone(p, numbers, places, part, bs, marks, out)
+}
+
+/// The two halves of the branches of one kind of a part, of which there are many, behind a test of the constructor's number. Only `Memory`.
+#[cycle(blocks)]
+fn push_halves(
+    p: &Lifted,
+    numbers: &HashMap<u32, usize>,
+    places: &mut Vec<Place>,
+    part: Part,
+    bs: &[LiftedBranch],
+    marks: &mut Vec<bool>,
+    out: &mut Vec<Instr>,
+) -> Result<(), EmitFault>
+    requires numbered { AreNumbered numbers.now p.now.constants }
+    requires more { 0 < part.rounds }
+    requires many { 6 ≤ count_of part.kind (branches_of bs.now) }
+    requires marked { Begins (kind_marks part.kind (branches_of bs.now)) (reverse marks.old.items) }
+    ensures pushed { OnOk result (Pushed out.old.items out.new.items (search_code p.now (reverse places.old.items) part.site.local part.site.at part.kind part.first part.rounds (branches_of bs.now))) }
+    ensures left { OnOk result (reverse marks.new.items ≡ drop (length (kind_marks part.kind (branches_of bs.now))) (reverse marks.old.items)) }
+    ensures same { OnOk result (places.new.items ≡ places.old.items) }
+    ensures only_memory { IfErr result (λ e. e ≡ Memory) }
+{
+    let half = count_from(part.kind, bs, 0) / 2;
+    let place = place_of(part.kind, bs, half);
+    let behind = branches_from(bs, place);
+    let Some(second) = part.first.checked_add(place) else {
+        return Err(EmitFault::Memory);
+    };
+    let at = under(part.site.at, 1)?;
+    let rounds = part.rounds - 1;
+    let site = Site {
+        local: part.site.local,
+        at,
+    };
+    let front = Part {
+        kind: part.kind,
+        first: part.first,
+        rounds,
+        site,
+    };
+    let back = Part {
+        kind: part.kind,
+        first: second,
+        rounds,
+        site,
+    };
+    push_below_test(part.kind, part.site.local, second, out)?;
+    push_search(p, numbers, places, front, &bs[..place], marks, out)?;
+    push(out, Instr::Else)?;
+    push_search(p, numbers, places, back, behind, marks, out)?;
+    push(out, Instr::End)
+}
+
+/// The branches of one kind of a part, one after another. Only `Memory`.
+#[cycle(blocks)]
+fn push_alone(
+    p: &Lifted,
+    numbers: &HashMap<u32, usize>,
+    places: &mut Vec<Place>,
+    part: Part,
+    bs: &[LiftedBranch],
+    marks: &mut Vec<bool>,
+    out: &mut Vec<Instr>,
+) -> Result<(), EmitFault>
+    requires numbered { AreNumbered numbers.now p.now.constants }
+    requires marked { Begins (kind_marks part.kind (branches_of bs.now)) (reverse marks.old.items) }
+    ensures pushed { OnOk result (Pushed out.old.items out.new.items (alone_code p.now (reverse places.old.items) part.site.local part.site.at part.kind part.first (branches_of bs.now))) }
+    ensures left { OnOk result (reverse marks.new.items ≡ drop (length (kind_marks part.kind (branches_of bs.now))) (reverse marks.old.items)) }
+    ensures same { OnOk result (places.new.items ≡ places.old.items) }
+    ensures only_memory { IfErr result (λ e. e ≡ Memory) }
+{
+    let begun = push_told(p, numbers, places, part, bs, marks, out)?;
+    push_ends(begun, out)
+}
+
+/// The branches of one kind of a part, each in an arm of its own, up to the `else` of the last. It gives how many arms it has begun. Only `Memory`.
+#[cycle(blocks)]
+fn push_tested(
+    p: &Lifted,
+    numbers: &HashMap<u32, usize>,
+    places: &mut Vec<Place>,
+    part: Part,
     bs: &[LiftedBranch],
     marks: &mut Vec<bool>,
     out: &mut Vec<Instr>,
 ) -> Result<usize, EmitFault>
     requires numbered { AreNumbered numbers.now p.now.constants }
-    requires plain { some_heads (branches_of bs.now) ≡ false }
-    requires marked { Begins (empty_marks (branches_of bs.now)) (reverse marks.old.items) }
-    ensures pushed { IfOk result (λ n. PlainArms out.old.items out.new.items (empty_arms p.now (reverse places.old.items) site.local site.at false (branches_of bs.now)) n) }
-    ensures left { OnOk result (reverse marks.new.items ≡ drop (length (empty_marks (branches_of bs.now))) (reverse marks.old.items)) }
+    requires marked { Begins (kind_marks part.kind (branches_of bs.now)) (reverse marks.old.items) }
+    ensures pushed { IfOk result (λ n. TestedArms part.site.local part.site.at (kind_of p.now (reverse places.old.items) part.site.local part.kind part.first (branches_of bs.now)) out.old.items out.new.items n) }
+    ensures left { OnOk result (reverse marks.new.items ≡ drop (length (kind_marks part.kind (branches_of bs.now))) (reverse marks.old.items)) }
     ensures same { OnOk result (places.new.items ≡ places.old.items) }
     ensures only_memory { IfErr result (λ e. e ≡ Memory) }
 {
     let mut begun = 0;
     for c in 0..bs.len() {
-        let arm = arm_of(site, begun, c)?;
+        let arm = arm_of(part, begun, c)?;
+        let arms = push_arm(p, numbers, places, arm, &bs[c], marks, out)?;
+        begun += arms;
+    }
+    Ok(begun)
+}
+
+/// The branches of one kind of a part, each in an arm of its own, but for the last, which needs no test. It gives how many arms it has begun. Only `Memory`.
+#[cycle(blocks)]
+fn push_told(
+    p: &Lifted,
+    numbers: &HashMap<u32, usize>,
+    places: &mut Vec<Place>,
+    part: Part,
+    bs: &[LiftedBranch],
+    marks: &mut Vec<bool>,
+    out: &mut Vec<Instr>,
+) -> Result<usize, EmitFault>
+    requires numbered { AreNumbered numbers.now p.now.constants }
+    requires marked { Begins (kind_marks part.kind (branches_of bs.now)) (reverse marks.old.items) }
+    ensures pushed { IfOk result (λ n. ToldArms part.site.local part.site.at (kind_of p.now (reverse places.old.items) part.site.local part.kind part.first (branches_of bs.now)) out.old.items out.new.items n) }
+    ensures left { OnOk result (reverse marks.new.items ≡ drop (length (kind_marks part.kind (branches_of bs.now))) (reverse marks.old.items)) }
+    ensures same { OnOk result (places.new.items ≡ places.old.items) }
+    ensures only_memory { IfErr result (λ e. e ≡ Memory) }
+{
+    let mut begun = 0;
+    for c in 0..bs.len() {
+        let arm = arm_of(part, begun, c)?;
         let b = &bs[c];
-        if c + 1 == bs.len() {
+        if is_last_of(part.kind, b, bs, c + 1) {
             push_fielded(p, numbers, places, arm.site, b, marks, out)?;
             return Ok(begun);
         }
-        let arms = push_empty_arm(p, numbers, places, arm, b, marks, out)?;
+        let arms = push_arm(p, numbers, places, arm, b, marks, out)?;
         begun += arms;
     }
     push(out, Instr::Unreachable)?;
     Ok(begun)
 }
 
-/// The branches without binders, each in an arm of its own, up to the `else` of the last. It gives how many arms it has begun. Only `Memory`.
-#[cycle(blocks)]
-fn push_empty_branches(
-    p: &Lifted,
-    numbers: &HashMap<u32, usize>,
-    places: &mut Vec<Place>,
-    site: Site,
-    bs: &[LiftedBranch],
-    marks: &mut Vec<bool>,
-    out: &mut Vec<Instr>,
-) -> Result<usize, EmitFault>
-    requires numbered { AreNumbered numbers.now p.now.constants }
-    requires marked { Begins (empty_marks (branches_of bs.now)) (reverse marks.old.items) }
-    ensures pushed { IfOk result (λ n. EmptyArms site.at out.old.items out.new.items (empty_arms p.now (reverse places.old.items) site.local site.at true (branches_of bs.now)) n) }
-    ensures left { OnOk result (reverse marks.new.items ≡ drop (length (empty_marks (branches_of bs.now))) (reverse marks.old.items)) }
-    ensures same { OnOk result (places.new.items ≡ places.old.items) }
+/// Branch c of a part that stands there, behind so many arms that have begun. Only `Memory`.
+fn arm_of(part: Part, begun: usize, c: usize) -> Result<Arm, EmitFault>
+    ensures is { IfOk result (λ a. a ≡ record { kind = part.kind; number = part.first + c; site = record { local = part.site.local; at = under_position begun part.site.at } }) }
     ensures only_memory { IfErr result (λ e. e ≡ Memory) }
 {
-    let mut begun = 0;
-    for c in 0..bs.len() {
-        let arm = arm_of(site, begun, c)?;
-        let arms = push_empty_arm(p, numbers, places, arm, &bs[c], marks, out)?;
-        begun += arms;
-    }
-    Ok(begun)
-}
-
-/// Branch c of a match that stands there, behind so many arms that have begun. Only `Memory`.
-fn arm_of(site: Site, begun: usize, c: usize) -> Result<Arm, EmitFault>
-    ensures is { IfOk result (λ a. a ≡ record { number = c; site = record { local = site.local; at = under_position begun site.at } }) }
-    ensures only_memory { IfErr result (λ e. e ≡ Memory) }
-{
-    let at = under(site.at, begun)?;
+    let Some(number) = part.first.checked_add(c) else {
+        return Err(EmitFault::Memory);
+    };
+    let at = under(part.site.at, begun)?;
     Ok(Arm {
-        number: c,
+        kind: part.kind,
+        number,
         site: Site {
-            local: site.local,
+            local: part.site.local,
             at,
         },
     })
 }
 
-/// The arm of a branch without binders, up to its `else`. It gives how many arms it has begun: 1, or 0 where the branch has binders. Only `Memory`.
+/// The arm of a branch, up to its `else`. It gives how many arms it has begun: 1, or 0 where the branch is of the other kind. Only `Memory`.
 #[cycle(blocks)]
-fn push_empty_arm(
+fn push_arm(
     p: &Lifted,
     numbers: &HashMap<u32, usize>,
     places: &mut Vec<Place>,
@@ -433,107 +522,21 @@ fn push_empty_arm(
     out: &mut Vec<Instr>,
 ) -> Result<usize, EmitFault>
     requires numbered { AreNumbered numbers.now p.now.constants }
-    requires marked { Begins (empty_marks (branches_of (b.now ∷ []))) (reverse marks.old.items) }
-    ensures pushed { IfOk result (λ n. EmptyArm p.now (reverse places.old.items) arm.site.local arm.site.at arm.number b.now out.old.items out.new.items n) }
-    ensures left { OnOk result (reverse marks.new.items ≡ drop (length (empty_marks (branches_of (b.now ∷ [])))) (reverse marks.old.items)) }
+    requires marked { Begins (kind_marks arm.kind (branches_of (b.now ∷ []))) (reverse marks.old.items) }
+    ensures pushed { IfOk result (λ n. OneArm arm.site.local arm.site.at arm.kind (alternative_of p.now (reverse places.old.items) arm.site.local arm.number b.now) out.old.items out.new.items n) }
+    ensures left { OnOk result (reverse marks.new.items ≡ drop (length (kind_marks arm.kind (branches_of (b.now ∷ [])))) (reverse marks.old.items)) }
     ensures same { OnOk result (places.new.items ≡ places.old.items) }
     ensures only_memory { IfErr result (λ e. e ≡ Memory) }
 {
-    if b.binders > 0 {
+    if !is_of(arm.kind, b) {
         return Ok(0);
     }
-    let Ok(number) = u32::try_from(arm.number) else {
-        return Err(EmitFault::Memory);
-    };
-    let word = empty_word(number)?;
-    let inner = inside(arm.site)?;
-    push(out, Instr::LocalGet(arm.site.local))?;
-    push(out, Instr::I32Const(word))?;
-    push_test(out)?;
-    push_block(p, numbers, places, inner, &b.body, marks, out)?;
-    push(out, Instr::Else)?;
-    Ok(1)
-}
-
-/// Where the body of an arm stands that begins there: behind the scrutinee's local, and under a block more. Only `Memory`.
-fn inside(site: Site) -> Result<Site, EmitFault>
-    ensures is { IfOk result (λ s. s ≡ record { local = site.local + 1; at = under_position 1 site.at }) }
-    ensures only_memory { IfErr result (λ e. e ≡ Memory) }
-{
-    let Some(local) = site.local.checked_add(1) else {
-        return Err(EmitFault::Memory);
-    };
-    let at = under(site.at, 1)?;
-    Ok(Site { local, at })
-}
-
-/// The branches with binders, each in an arm of its own, but for the last, which needs no test. It gives how many arms it has begun. Only `Memory`.
-#[cycle(blocks)]
-fn push_block_branches(
-    p: &Lifted,
-    numbers: &HashMap<u32, usize>,
-    places: &mut Vec<Place>,
-    site: Site,
-    bs: &[LiftedBranch],
-    marks: &mut Vec<bool>,
-    out: &mut Vec<Instr>,
-) -> Result<usize, EmitFault>
-    requires numbered { AreNumbered numbers.now p.now.constants }
-    requires marked { Begins (head_marks (branches_of bs.now)) (reverse marks.old.items) }
-    ensures pushed { IfOk result (λ n. HeadArms out.old.items out.new.items (block_arms p.now (reverse places.old.items) site.local site.at (branches_of bs.now)) n) }
-    ensures left { OnOk result (reverse marks.new.items ≡ drop (length (head_marks (branches_of bs.now))) (reverse marks.old.items)) }
-    ensures same { OnOk result (places.new.items ≡ places.old.items) }
-    ensures only_memory { IfErr result (λ e. e ≡ Memory) }
-{
-    let mut begun = 0;
-    for c in 0..bs.len() {
-        let arm = arm_of(site, begun, c)?;
-        let b = &bs[c];
-        if is_last_head(b, bs, c + 1) {
-            push_fielded(p, numbers, places, arm.site, b, marks, out)?;
-            return Ok(begun);
-        }
-        let arms = push_block_arm(p, numbers, places, arm, b, marks, out)?;
-        begun += arms;
-    }
-    push(out, Instr::Unreachable)?;
-    Ok(begun)
-}
-
-/// The arm of a branch with binders, up to its `else`. It gives how many arms it has begun: 1, or 0 where the branch has no binders. Only `Memory`.
-#[cycle(blocks)]
-fn push_block_arm(
-    p: &Lifted,
-    numbers: &HashMap<u32, usize>,
-    places: &mut Vec<Place>,
-    arm: Arm,
-    b: &LiftedBranch,
-    marks: &mut Vec<bool>,
-    out: &mut Vec<Instr>,
-) -> Result<usize, EmitFault>
-    requires numbered { AreNumbered numbers.now p.now.constants }
-    requires marked { Begins (head_marks (branches_of (b.now ∷ []))) (reverse marks.old.items) }
-    ensures pushed { IfOk result (λ n. BlockArm p.now (reverse places.old.items) arm.site.local arm.site.at arm.number b.now out.old.items out.new.items n) }
-    ensures left { OnOk result (reverse marks.new.items ≡ drop (length (head_marks (branches_of (b.now ∷ [])))) (reverse marks.old.items)) }
-    ensures same { OnOk result (places.new.items ≡ places.old.items) }
-    ensures only_memory { IfErr result (λ e. e ≡ Memory) }
-{
-    if b.binders == 0 {
-        return Ok(0);
-    }
-    let Ok(number) = u32::try_from(arm.number) else {
-        return Err(EmitFault::Memory);
-    };
-    let header = header_word(number, b.binders)?;
     let at = under(arm.site.at, 1)?;
     let inner = Site {
         local: arm.site.local,
         at,
     };
-    push(out, Instr::LocalGet(arm.site.local))?;
-    push_load(out, 0)?;
-    push(out, Instr::I32Const(header))?;
-    push_test(out)?;
+    push_equal_test(arm.site.local, arm.number, b.binders, out)?;
     push_fielded(p, numbers, places, inner, b, marks, out)?;
     push(out, Instr::Else)?;
     Ok(1)

@@ -1,5 +1,5 @@
 //! Instructions in front of what comes after them: words, atoms, and blocks of memory.
-ghost use Rattle.std.specs.Prelude.{◌≡◌, ◌∷◌, IfErr, OnOk, reverse};
+ghost use Rattle.std.specs.Prelude.{◌≡◌, ◌+◌, ◌*◌, ◌∷◌, IfErr, OnOk, length, reverse, suc};
 ghost use Rattle.wasm_emit.specs.Pushed.{Pushed};
 ghost use Rattle.wasm_emit.specs.declared.fault.EmitFault.TheVariants.{Memory};
 ghost use Rattle.known_calls.specs.KnownCode.{read_word, read, atom, push_words as words_code, fill, new_block, into_params, move_field};
@@ -12,7 +12,7 @@ use anf_convert::lists::Atoms;
 use anf_convert::program::Atom;
 use wasm_core::Instr;
 use wasm_emit::EmitFault;
-use wasm_emit::instructions::{bytes_of, push, push_address, push_load, push_store};
+use wasm_emit::instructions::{bytes_of, header_word, push, push_address, push_load, push_store};
 
 /// Puts a word on the operands. Only `Memory`.
 fn push_word(w: Word, out: &mut Vec<Instr>) -> Result<(), EmitFault>
@@ -102,6 +102,41 @@ pub(crate) fn push_new_block(
     push(out, Instr::I32Const(header))?;
     push_store(out, 0)?;
     push_fields(places, d, atoms, out)
+}
+
+/// Makes the block of a constructor with arguments, and puts its address into local d. Only `Memory`.
+pub(crate) fn push_construct(
+    places: &[Place],
+    d: u32,
+    c: u32,
+    args: &Atoms,
+    out: &mut Vec<Instr>,
+) -> Result<(), EmitFault>
+    ensures pushed { OnOk result (Pushed out.old.items out.new.items (new_block (reverse places.now) d (length args.now * 65536 + c) args.now)) }
+    ensures only_memory { IfErr result (λ e. e ≡ Memory) }
+{
+    let Ok(fields) = u32::try_from(args.len()) else {
+        return Err(EmitFault::Memory);
+    };
+    let header = header_word(c, fields)?;
+    push_new_block(places, d, header, args, out)
+}
+
+/// Makes the block of a closure of function g with these captured words, and puts its address into local d. Only `Memory`.
+pub(crate) fn push_closure(
+    places: &[Place],
+    d: u32,
+    g: u32,
+    words: &Atoms,
+    out: &mut Vec<Instr>,
+) -> Result<(), EmitFault>
+    ensures pushed { OnOk result (Pushed out.old.items out.new.items (new_block (reverse places.now) d (suc g) words.now)) }
+    ensures only_memory { IfErr result (λ e. e ≡ Memory) }
+{
+    let Some(entry) = g.checked_add(1) else {
+        return Err(EmitFault::Memory);
+    };
+    push_new_block(places, d, entry, words, out)
 }
 
 /// The only field of the block whose address is in local d comes into that local, where it is moved there. Only `Memory`.

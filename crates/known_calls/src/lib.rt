@@ -21,6 +21,7 @@
 //! Below stands `wasm_emit`, whose calls make what all modules have, and whose rules of the machine, memory and evaluation the proofs cite; above stand `back_end`, with the laws of all passes, and `compile`.
 #![tactic(auto)]
 
+mod alternatives;
 mod blocks;
 mod bodies;
 mod calls;
@@ -41,6 +42,6 @@ pub use laws::{
     known_status_tells,
 };
 pub use places::Place;
-pub use site::Position;
+pub use site::{Kind, Position};
 pub use times::Times;
 pub use words::{Word, Words};

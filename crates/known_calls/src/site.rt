@@ -26,9 +26,33 @@ pub(crate) struct Site {
     pub at: Position,
 }
 
+/// The kinds of a match's branches, of which one is told from the others by its constructor's number.
+#[derive(Clone, Copy, Debug, PartialEq, Eq)]
+pub enum Kind {
+    /// Without binders: the scrutinee is a word that tells the constructor.
+    Bare,
+    /// With binders: the scrutinee is the address of a block, whose header does.
+    Fielded,
+}
+
+/// A part of a match's branches, of which those of one kind are told apart.
+#[derive(Clone, Copy, Debug, PartialEq, Eq)]
+pub(crate) struct Part {
+    /// Their kind.
+    pub kind: Kind,
+    /// The number of the part's first branch.
+    pub first: usize,
+    /// By how many halvings they may be told.
+    pub rounds: u32,
+    /// Where they stand; the scrutinee is in the first local.
+    pub site: Site,
+}
+
 /// A branch of a match.
 #[derive(Clone, Copy, Debug, PartialEq, Eq)]
 pub(crate) struct Arm {
+    /// The kind of which it may be.
+    pub kind: Kind,
     /// The branch's number, from 0.
     pub number: usize,
     /// Where the match stands, with the arms that have begun before; the scrutinee is in the first local.

@@ -1,7 +1,6 @@
-use Rattle.std.proofs.Common.{rules, arith, ◌≡◌, ap, refl, subst, sym, ◌*◌, ◌+◌, ◌<◌, ◌∷◌, ◌++◌, [], List, true, false, length, length-append, drop, get_or, reverse, take, ◌∙◌}
+use Rattle.std.proofs.Common.{rules, arith, ◌≡◌, ℕ, suc, ap, refl, subst, sym, ◌*◌, ◌/◌, ◌+◌, ◌-◌, ◌<◌, ◌≤◌, ◌∷◌, ◌++◌, [], List, true, false, length, length-append, drop, get_or, reverse, take, ◌∙◌}
 use Rattle.std.proofs.lemmas.List.{take-append-le, drop_all}
 use Rattle.closure_lift.specs.Lifted.{ret_of}
-use Rattle.closure_lift.specs.LiftedProgram.{renumber_branches, place_in, lifted_of}
 use Rattle.closure_lift.specs.LiftedView.{seen, branches_of}
 use Rattle.closure_lift.specs.LiftedWeight.{block_weight, branches_weight, bound_weight}
 use Rattle.closure_lift.specs.declared.program.LiftedBranch.{LiftedBranch}
@@ -10,25 +9,27 @@ use Rattle.wasm_emit.specs.Pushed.{Pushed, ends}
 use Rattle.wasm_emit.proofs.Lighter.{op_lighter, tail_lighter, arm_lighter}
 use Rattle.wasm_emit.proofs.Pushing.{on_ok}
 use Rattle.known_calls.specs.KnownPlaces.{Place}
-use Rattle.known_calls.specs.KnownCode.{empties, heads}
-use Rattle.known_calls.specs.KnownMarks.{Begins, bound_marks, branch_marks, empty_marks, head_marks}
-use Rattle.known_calls.specs.KnownPushed.{HeadArms, EmptyArm, BlockArm, under_position, block_code, branch_code, empty_arms, block_arms, place_bound, op_unmade}
-use Rattle.known_calls.proofs.KnownMarking.{empty_marks_step, head_marks_step, end_marks, mark_now, begin_op, begin_behind, left_behind, begin_arm, begin_more, left_more, left_end, last_marks, plain_left, fielded_marks, no_head_marks}
-use Rattle.known_calls.proofs.KnownPushing.{branch_pushed, block_more, empties_more, empties_end, heads_more, heads_end, last_is, plain_here, more_behind, plain_pushed, mixed_pushed}
+use Rattle.known_calls.specs.KnownTests.{Alternative, Fielded, none, chain, most_rounds}
+use Rattle.known_calls.specs.KnownCode.{atom}
+use Rattle.known_calls.specs.KnownMarks.{Begins, bound_marks, branch_marks, empty_marks, head_marks, kind_marks}
+use Rattle.known_calls.specs.KnownPushed.{OneArm, op_code, under_position, block_code, branch_code, alternative_of, kind_of, branches_code, search_code, count_of, place_bound, op_unmade}
+use Rattle.known_calls.proofs.KnownMarking.{kind_marks_step, kind_branch_marks, no_kind_marks, end_marks, mark_now, begin_op, begin_behind, left_behind, begin_arm, begin_more, left_more, left_end, bare_left, kind_marks_halves, first_part, second_part, both_parts}
+use Rattle.known_calls.proofs.KnownPushing.{branch_pushed, block_more}
+use Rattle.known_calls.proofs.KnownArms.{last_is, by_halves_is, by_halves_not, front_lighter, back_lighter, all_past, arms_more, more_behind, arms_end, alone_is, halves_pushed, case_pushed, one_kind, few_bare, both_kinds, few_pushed, both_pushed}
 use Rattle.known_calls.proofs.blocks.+blocks.Goals as goal
 
 pub push_block-push_binding-requires : goal.push_block-push_binding-requires
 push_block-push_binding-requires t c =
     let ops = c.as_slice-op-items.result.now in
     let d = op_lighter ops c.b.inside.bindings c.loop-op.op-index c.op-item.result c.b.inside.tail c.args.b.now c.loop-op-test.true c.op-item.is c.as_slice-op-items.ensures.is c.b.view_is in
-    let e : 8 * bound_weight (seen c.op-item.result) + 5 < 8 * block_weight c.args.b.now = omega (arith, d) in
+    let e : 64 * bound_weight (seen c.op-item.result) + 5 < 64 * block_weight c.args.b.now = omega (arith, d) in
     let m : Begins (bound_marks (seen c.op-item.result)) (drop 1 (reverse c.loop-op.marks.items)) = begin_op ops c.loop-op.op-index c.op-item.result (ret_of (seen c.b.inside.tail)) c.loop-op-test.true c.op-item.is (reverse c.loop-op.marks.items) c.loop-op.invariant.marked in
     search (rules, e, m)
 
 pub push_block-push_op-requires : goal.push_block-push_op-requires
 push_block-push_op-requires t c =
     let d = tail_lighter c.b.inside.bindings c.b.inside.tail c.args.b.now c.b.view_is in
-    let e : 8 * bound_weight (seen c.b.inside.tail) + 1 < 8 * block_weight c.args.b.now = omega (arith, d) in
+    let e : 64 * bound_weight (seen c.b.inside.tail) + 1 < 64 * block_weight c.args.b.now = omega (arith, d) in
     let m : Begins (bound_marks (seen c.b.inside.tail)) (reverse c.loop-op.marks.items) =
     subst (λ ms. Begins ms (reverse c.loop-op.marks.items)) (end_marks c.as_slice-op-items.result.now c.loop-op.op-index (seen c.b.inside.tail) c.loop-op-test.false) c.loop-op.invariant.marked in
     search (rules, e, m)
@@ -49,202 +50,292 @@ push_block-loop-op-preserved t c =
       more = omega (arith, ap length c.in_ok-local.ensures.place, length-append c.loop-op.places.items (now ∷ []), c.loop-op.invariant.more);
     }
 
-pub push_block_branches-push_block_arm-requires : goal.push_block_branches-push_block_arm-requires
-push_block_branches-push_block_arm-requires t c =
+-- the branches of a kind, all with tests
+pub push_tested-push_arm-requires : goal.push_tested-push_arm-requires
+push_tested-push_arm-requires t c =
+    let k = c.args.part.kind in
     let d = arm_lighter c.args.bs.now c.loop-c.c c.index-bs-c.result c.loop-c-test.true c.index-bs-c.is in
-    let e : 8 * block_weight c.index-bs-c.result.body + 2 < 8 * branches_weight (branches_of c.args.bs.now) = omega (arith, d) in
-    let m = begin_arm head_marks head_marks_step c.args.bs.now c.loop-c.c c.index-bs-c.result c.loop-c-test.true c.index-bs-c.is (reverse c.loop-c.marks.items) c.loop-c.invariant.marked in
+    let e : 64 * block_weight c.index-bs-c.result.body + 2 < 64 * branches_weight (branches_of c.args.bs.now) + 4 = omega (arith, d) in
+    let m0 : Begins (kind_marks k (branches_of (c.index-bs-c.result ∷ []))) (reverse c.loop-c.marks.items) = begin_arm (kind_marks k) (kind_marks_step k) c.args.bs.now c.loop-c.c c.index-bs-c.result c.loop-c-test.true c.index-bs-c.is (reverse c.loop-c.marks.items) c.loop-c.invariant.marked in
+    let m = subst (λ a. Begins (kind_marks a.kind (branches_of (c.index-bs-c.result ∷ []))) (reverse c.loop-c.marks.items)) (sym c.in_ok-arm.ensures.is) m0 in
     search (rules, e, m)
 
-pub push_block_branches-loop-c-preserved : goal.push_block_branches-loop-c-preserved
-push_block_branches-loop-c-preserved t c =
+pub push_tested-loop-c-preserved : goal.push_tested-loop-c-preserved
+push_tested-loop-c-preserved t c =
     let b = c.index-bs-c.result in
     let Q = c.args.p.now in
     let env = reverse c.args.places.now.items in
-    let at = c.args.site.at in
+    let at = c.args.part.site.at in
+    let d = c.args.part.site.local in
+    let k = c.args.part.kind in
+    let first = c.args.part.first in
     let all = reverse c.loop-c.marks.items in
-    let z : BlockArm Q env c.in_ok-arm.arm.site.local c.in_ok-arm.arm.site.at c.in_ok-arm.arm.number b c.loop-c.out.items c.push_block_arm.new.out.items c.in_ok-arms.arms =
-    subst (λ zs. BlockArm Q (reverse zs) c.in_ok-arm.arm.site.local c.in_ok-arm.arm.site.at c.in_ok-arm.arm.number b c.loop-c.out.items c.push_block_arm.new.out.items c.in_ok-arms.arms) c.loop-c.invariant.same c.in_ok-arms.ensures.pushed in
-    let x : BlockArm Q env c.args.site.local (under_position c.loop-c.begun at) c.loop-c.c b c.loop-c.out.items c.push_block_arm.new.out.items c.in_ok-arms.arms =
-    subst (λ a. BlockArm Q env a.site.local a.site.at a.number b c.loop-c.out.items c.push_block_arm.new.out.items c.in_ok-arms.arms) c.in_ok-arm.ensures.is z in
+    let z : OneArm c.in_ok-arm.arm.site.local c.in_ok-arm.arm.site.at c.in_ok-arm.arm.kind (alternative_of Q env c.in_ok-arm.arm.site.local c.in_ok-arm.arm.number b) c.loop-c.out.items c.push_arm.new.out.items c.in_ok-arms.arms =
+    subst (λ zs. OneArm c.in_ok-arm.arm.site.local c.in_ok-arm.arm.site.at c.in_ok-arm.arm.kind (alternative_of Q (reverse zs) c.in_ok-arm.arm.site.local c.in_ok-arm.arm.number b) c.loop-c.out.items c.push_arm.new.out.items c.in_ok-arms.arms) c.loop-c.invariant.same c.in_ok-arms.ensures.pushed in
+    let x : OneArm d (under_position c.loop-c.begun at) k (alternative_of Q env d (first + c.loop-c.c) b) c.loop-c.out.items c.push_arm.new.out.items c.in_ok-arms.arms =
+    subst (λ a. OneArm a.site.local a.site.at a.kind (alternative_of Q env a.site.local a.number b) c.loop-c.out.items c.push_arm.new.out.items c.in_ok-arms.arms) c.in_ok-arm.ensures.is z in
+    let y = subst (λ a. reverse c.push_arm.new.marks.items ≡ drop (length (kind_marks a.kind (branches_of (b ∷ [])))) all) c.in_ok-arm.ensures.is c.in_ok-arms.ensures.left in
     record {
-      pushed = heads_more Q env c.args.site.local at c.loop-c.c c.args.bs.now b c.loop-c.begun c.in_ok-arms.arms (c.loop-c.begun + c.in_ok-arms.arms) c.loop-c.out.items c.push_block_arm.new.out.items c.args.out.now.items c.loop-c-test.true c.index-bs-c.is refl x
-          (sym c.is_last_head.ensures.is ∙ c.if-is_last_head.false) (block_arms Q env c.args.site.local at (branches_of c.args.bs.now)) c.loop-c.invariant.pushed;
-      marked = begin_more head_marks head_marks_step c.args.bs.now c.loop-c.c b c.loop-c-test.true c.index-bs-c.is all c.loop-c.invariant.marked (reverse c.push_block_arm.new.marks.items) c.in_ok-arms.ensures.left;
-      left = left_more head_marks head_marks_step c.args.bs.now c.loop-c.c b c.loop-c-test.true c.index-bs-c.is all c.loop-c.invariant.marked (reverse c.push_block_arm.new.marks.items) c.in_ok-arms.ensures.left ∙ c.loop-c.invariant.left;
+      pushed = λ others. arms_more Q env d k at first c.loop-c.c c.args.bs.now b c.loop-c.begun c.in_ok-arms.arms (c.loop-c.begun + c.in_ok-arms.arms) c.loop-c.out.items c.push_arm.new.out.items c.args.out.now.items c.loop-c-test.true c.index-bs-c.is refl x true (λ e. refl) others
+          (chain d true (kind_of Q env d k first (branches_of c.args.bs.now)) others at) (c.loop-c.invariant.pushed others);
+      marked = begin_more (kind_marks k) (kind_marks_step k) c.args.bs.now c.loop-c.c b c.loop-c-test.true c.index-bs-c.is all c.loop-c.invariant.marked (reverse c.push_arm.new.marks.items) y;
+      left = left_more (kind_marks k) (kind_marks_step k) c.args.bs.now c.loop-c.c b c.loop-c-test.true c.index-bs-c.is all c.loop-c.invariant.marked (reverse c.push_arm.new.marks.items) y ∙ c.loop-c.invariant.left;
       same = c.in_ok-arms.ensures.same ∙ c.loop-c.invariant.same;
       few = omega (arith, x.few, c.loop-c.invariant.few);
     }
 
-pub push_block_branches-returns-clause-pushed : goal.push_block_branches-returns-clause-pushed
-push_block_branches-returns-clause-pushed t c = record {
-  is = λ rest. c.in_ok-push.ensures.pushed.is (ends c.loop-c.begun rest) ∙ ap (λ (xs : List LiftedBranch). c.loop-c.out.items ++ heads (lifted_of c.args.p.now) (reverse c.args.places.now.items) c.args.site.local (under_position c.loop-c.begun c.args.site.at) c.loop-c.c (renumber_branches (place_in c.args.p.now.constants) (branches_of xs)) (ends c.loop-c.begun rest))
-      (sym (drop_all c.loop-c.c c.args.bs.now c.loop-c-test.false)) ∙ c.loop-c.invariant.pushed rest;
-}
+pub push_tested-returns-clause-pushed : goal.push_tested-returns-clause-pushed
+push_tested-returns-clause-pushed t c =
+    let k = c.args.part.kind in
+    let d = c.args.part.site.local in
+    let env = reverse c.args.places.now.items in
+    record {
+      is = λ others rest. ap (λ (xs : List Alternative). c.loop-c.out.items ++ chain d true xs others (under_position c.loop-c.begun c.args.part.site.at) (ends c.loop-c.begun rest)) (sym (all_past c.args.p.now env d k c.loop-c.c (c.args.part.first + c.loop-c.c) c.args.bs.now c.loop-c-test.false))
+          ∙ c.loop-c.invariant.pushed others rest;
+    }
 
-pub push_empty_branches-push_empty_arm-requires : goal.push_empty_branches-push_empty_arm-requires
-push_empty_branches-push_empty_arm-requires t c =
+-- the branches of a kind, of which the last has no test
+pub push_told-push_arm-requires : goal.push_told-push_arm-requires
+push_told-push_arm-requires t c =
+    let k = c.args.part.kind in
     let d = arm_lighter c.args.bs.now c.loop-c.c c.index-bs-c.result c.loop-c-test.true c.index-bs-c.is in
-    let e : 8 * block_weight c.index-bs-c.result.body + 1 < 8 * branches_weight (branches_of c.args.bs.now) = omega (arith, d) in
-    let m = begin_arm empty_marks empty_marks_step c.args.bs.now c.loop-c.c c.index-bs-c.result c.loop-c-test.true c.index-bs-c.is (reverse c.loop-c.marks.items) c.loop-c.invariant.marked in
+    let e : 64 * block_weight c.index-bs-c.result.body + 2 < 64 * branches_weight (branches_of c.args.bs.now) + 4 = omega (arith, d) in
+    let m0 : Begins (kind_marks k (branches_of (c.index-bs-c.result ∷ []))) (reverse c.loop-c.marks.items) = begin_arm (kind_marks k) (kind_marks_step k) c.args.bs.now c.loop-c.c c.index-bs-c.result c.loop-c-test.true c.index-bs-c.is (reverse c.loop-c.marks.items) c.loop-c.invariant.marked in
+    let m = subst (λ a. Begins (kind_marks a.kind (branches_of (c.index-bs-c.result ∷ []))) (reverse c.loop-c.marks.items)) (sym c.in_ok-arm.ensures.is) m0 in
     search (rules, e, m)
 
-pub push_empty_branches-loop-c-preserved : goal.push_empty_branches-loop-c-preserved
-push_empty_branches-loop-c-preserved t c =
+pub push_told-loop-c-preserved : goal.push_told-loop-c-preserved
+push_told-loop-c-preserved t c =
     let b = c.index-bs-c.result in
     let Q = c.args.p.now in
     let env = reverse c.args.places.now.items in
-    let at = c.args.site.at in
+    let at = c.args.part.site.at in
+    let d = c.args.part.site.local in
+    let k = c.args.part.kind in
+    let first = c.args.part.first in
     let all = reverse c.loop-c.marks.items in
-    let z : EmptyArm Q env c.in_ok-arm.arm.site.local c.in_ok-arm.arm.site.at c.in_ok-arm.arm.number b c.loop-c.out.items c.push_empty_arm.new.out.items c.in_ok-arms.arms =
-    subst (λ zs. EmptyArm Q (reverse zs) c.in_ok-arm.arm.site.local c.in_ok-arm.arm.site.at c.in_ok-arm.arm.number b c.loop-c.out.items c.push_empty_arm.new.out.items c.in_ok-arms.arms) c.loop-c.invariant.same c.in_ok-arms.ensures.pushed in
-    let x : EmptyArm Q env c.args.site.local (under_position c.loop-c.begun at) c.loop-c.c b c.loop-c.out.items c.push_empty_arm.new.out.items c.in_ok-arms.arms =
-    subst (λ a. EmptyArm Q env a.site.local a.site.at a.number b c.loop-c.out.items c.push_empty_arm.new.out.items c.in_ok-arms.arms) c.in_ok-arm.ensures.is z in
+    let z : OneArm c.in_ok-arm.arm.site.local c.in_ok-arm.arm.site.at c.in_ok-arm.arm.kind (alternative_of Q env c.in_ok-arm.arm.site.local c.in_ok-arm.arm.number b) c.loop-c.out.items c.push_arm.new.out.items c.in_ok-arms.arms =
+    subst (λ zs. OneArm c.in_ok-arm.arm.site.local c.in_ok-arm.arm.site.at c.in_ok-arm.arm.kind (alternative_of Q (reverse zs) c.in_ok-arm.arm.site.local c.in_ok-arm.arm.number b) c.loop-c.out.items c.push_arm.new.out.items c.in_ok-arms.arms) c.loop-c.invariant.same c.in_ok-arms.ensures.pushed in
+    let x : OneArm d (under_position c.loop-c.begun at) k (alternative_of Q env d (first + c.loop-c.c) b) c.loop-c.out.items c.push_arm.new.out.items c.in_ok-arms.arms =
+    subst (λ a. OneArm a.site.local a.site.at a.kind (alternative_of Q env a.site.local a.number b) c.loop-c.out.items c.push_arm.new.out.items c.in_ok-arms.arms) c.in_ok-arm.ensures.is z in
+    let y = subst (λ a. reverse c.push_arm.new.marks.items ≡ drop (length (kind_marks a.kind (branches_of (b ∷ [])))) all) c.in_ok-arm.ensures.is c.in_ok-arms.ensures.left in
+    let behind = more_behind Q env d k at first c.loop-c.c c.args.bs.now b c.loop-c.begun c.in_ok-arms.arms (c.loop-c.begun + c.in_ok-arms.arms) c.loop-c.out.items c.push_arm.new.out.items c.args.out.now.items c.loop-c-test.true c.index-bs-c.is refl (sym c.is_last_of.ensures.is ∙ c.if-is_last_of.false) in
     record {
-      pushed = empties_more Q env c.args.site.local at c.loop-c.c c.args.bs.now b c.loop-c.begun c.in_ok-arms.arms (c.loop-c.begun + c.in_ok-arms.arms) c.loop-c.out.items c.push_empty_arm.new.out.items c.args.out.now.items c.loop-c-test.true c.index-bs-c.is refl x true refl
-          (empty_arms Q env c.args.site.local at true (branches_of c.args.bs.now)) c.loop-c.invariant.pushed;
-      marked = begin_more empty_marks empty_marks_step c.args.bs.now c.loop-c.c b c.loop-c-test.true c.index-bs-c.is all c.loop-c.invariant.marked (reverse c.push_empty_arm.new.marks.items) c.in_ok-arms.ensures.left;
-      left = left_more empty_marks empty_marks_step c.args.bs.now c.loop-c.c b c.loop-c-test.true c.index-bs-c.is all c.loop-c.invariant.marked (reverse c.push_empty_arm.new.marks.items) c.in_ok-arms.ensures.left ∙ c.loop-c.invariant.left;
+      pushed = arms_more Q env d k at first c.loop-c.c c.args.bs.now b c.loop-c.begun c.in_ok-arms.arms (c.loop-c.begun + c.in_ok-arms.arms) c.loop-c.out.items c.push_arm.new.out.items c.args.out.now.items c.loop-c-test.true c.index-bs-c.is refl x false behind none
+          (chain d false (kind_of Q env d k first (branches_of c.args.bs.now)) none at) c.loop-c.invariant.pushed;
+      marked = begin_more (kind_marks k) (kind_marks_step k) c.args.bs.now c.loop-c.c b c.loop-c-test.true c.index-bs-c.is all c.loop-c.invariant.marked (reverse c.push_arm.new.marks.items) y;
+      left = left_more (kind_marks k) (kind_marks_step k) c.args.bs.now c.loop-c.c b c.loop-c-test.true c.index-bs-c.is all c.loop-c.invariant.marked (reverse c.push_arm.new.marks.items) y ∙ c.loop-c.invariant.left;
       same = c.in_ok-arms.ensures.same ∙ c.loop-c.invariant.same;
       few = omega (arith, x.few, c.loop-c.invariant.few);
     }
 
-pub push_empty_branches-returns-clause-pushed : goal.push_empty_branches-returns-clause-pushed
-push_empty_branches-returns-clause-pushed t c = record {
-  is = λ others rest. ap (λ (xs : List LiftedBranch). c.loop-c.out.items ++ empties (lifted_of c.args.p.now) (reverse c.args.places.now.items) c.args.site.local (under_position c.loop-c.begun c.args.site.at) c.loop-c.c true (renumber_branches (place_in c.args.p.now.constants) (branches_of xs)) others (ends c.loop-c.begun rest))
-      (sym (drop_all c.loop-c.c c.args.bs.now c.loop-c-test.false)) ∙ c.loop-c.invariant.pushed others rest;
-}
+pub push_told-returns-clause-pushed : goal.push_told-returns-clause-pushed
+push_told-returns-clause-pushed t c =
+    let k = c.args.part.kind in
+    let d = c.args.part.site.local in
+    let env = reverse c.args.places.now.items in
+    record {
+      is = λ rest. c.in_ok-push.ensures.pushed.is (ends c.loop-c.begun rest)
+          ∙ ap (λ (xs : List Alternative). c.loop-c.out.items ++ chain d false xs none (under_position c.loop-c.begun c.args.part.site.at) (ends c.loop-c.begun rest)) (sym (all_past c.args.p.now env d k c.loop-c.c (c.args.part.first + c.loop-c.c) c.args.bs.now c.loop-c-test.false))
+          ∙ c.loop-c.invariant.pushed rest;
+    }
 
--- the last branch with binders
-pub push_block_branches-push_fielded-requires : goal.push_block_branches-push_fielded-requires
-push_block_branches-push_fielded-requires t c =
+pub push_told-push_fielded-requires : goal.push_told-push_fielded-requires
+push_told-push_fielded-requires t c =
     let b = c.index-bs-c.result in
+    let k = c.args.part.kind in
     let all = reverse c.loop-c.marks.items in
-    let last = last_is b.binders (branches_of (drop (c.loop-c.c + 1) c.args.bs.now)) (sym c.is_last_head.ensures.is ∙ c.if-is_last_head.true) in
+    let last = last_is k b.binders (branches_of (drop (c.loop-c.c + 1) c.args.bs.now)) (sym c.is_last_of.ensures.is ∙ c.if-is_last_of.true) in
     let d = arm_lighter c.args.bs.now c.loop-c.c b c.loop-c-test.true c.index-bs-c.is in
-    let e : 8 * block_weight b.body + 1 < 8 * branches_weight (branches_of c.args.bs.now) = omega (arith, d) in
-    let m : Begins (branch_marks b.binders b.body) all = subst (λ ms. Begins ms all) (fielded_marks b.binders b.body last.0) (begin_arm head_marks head_marks_step c.args.bs.now c.loop-c.c b c.loop-c-test.true c.index-bs-c.is all c.loop-c.invariant.marked) in
+    let e : 64 * block_weight b.body + 1 < 64 * branches_weight (branches_of c.args.bs.now) + 4 = omega (arith, d) in
+    let m : Begins (branch_marks b.binders b.body) all = subst (λ ms. Begins ms all) (kind_branch_marks k b.binders b.body last.0) (begin_arm (kind_marks k) (kind_marks_step k) c.args.bs.now c.loop-c.c b c.loop-c-test.true c.index-bs-c.is all c.loop-c.invariant.marked) in
     search (rules, e, m)
 
-pub push_block_branches-returns-then-is_last_head-clause-pushed : goal.push_block_branches-returns-then-is_last_head-clause-pushed
-push_block_branches-returns-then-is_last_head-clause-pushed t c =
+pub push_told-returns-then-is_last_of-clause-pushed : goal.push_told-returns-then-is_last_of-clause-pushed
+push_told-returns-then-is_last_of-clause-pushed t c =
     let b = c.index-bs-c.result in
     let Q = c.args.p.now in
     let env = reverse c.args.places.now.items in
-    let at = c.args.site.at in
+    let at = c.args.part.site.at in
+    let d = c.args.part.site.local in
+    let k = c.args.part.kind in
     let z : Pushed c.loop-c.out.items c.push_fielded.new.out.items (branch_code Q env c.in_ok-arm.arm.site.local c.in_ok-arm.arm.site.at b) =
     subst (λ zs. Pushed c.loop-c.out.items c.push_fielded.new.out.items (branch_code Q (reverse zs) c.in_ok-arm.arm.site.local c.in_ok-arm.arm.site.at b)) c.loop-c.invariant.same c.in_ok-push_fielded.ensures.pushed in
-    let x : Pushed c.loop-c.out.items c.push_fielded.new.out.items (branch_code Q env c.args.site.local (under_position c.loop-c.begun at) b) =
+    let x : Pushed c.loop-c.out.items c.push_fielded.new.out.items (branch_code Q env d (under_position c.loop-c.begun at) b) =
     subst (λ a. Pushed c.loop-c.out.items c.push_fielded.new.out.items (branch_code Q env a.site.local a.site.at b)) c.in_ok-arm.ensures.is z in
     record {
-      is = heads_end Q env c.args.site.local at c.loop-c.c c.args.bs.now b c.loop-c.begun 0 c.loop-c.begun c.loop-c.out.items c.push_fielded.new.out.items c.args.out.now.items c.loop-c-test.true c.index-bs-c.is (omega arith) x (sym c.is_last_head.ensures.is ∙ c.if-is_last_head.true)
-          (block_arms Q env c.args.site.local at (branches_of c.args.bs.now)) c.loop-c.invariant.pushed;
+      is = arms_end Q env d k at c.args.part.first c.loop-c.c c.args.bs.now b c.loop-c.begun 0 c.loop-c.begun c.loop-c.out.items c.push_fielded.new.out.items c.args.out.now.items c.loop-c-test.true c.index-bs-c.is (omega arith) x (sym c.is_last_of.ensures.is ∙ c.if-is_last_of.true)
+          (chain d false (kind_of Q env d k c.args.part.first (branches_of c.args.bs.now)) none at) c.loop-c.invariant.pushed;
     }
 
-pub push_block_branches-returns-then-is_last_head-clause-left : goal.push_block_branches-returns-then-is_last_head-clause-left
-push_block_branches-returns-then-is_last_head-clause-left t c =
+pub push_told-returns-then-is_last_of-clause-left : goal.push_told-returns-then-is_last_of-clause-left
+push_told-returns-then-is_last_of-clause-left t c =
     let b = c.index-bs-c.result in
+    let k = c.args.part.kind in
     let all = reverse c.loop-c.marks.items in
-    let last = last_is b.binders (branches_of (drop (c.loop-c.c + 1) c.args.bs.now)) (sym c.is_last_head.ensures.is ∙ c.if-is_last_head.true) in
-    left_end head_marks head_marks_step c.args.bs.now c.loop-c.c b c.loop-c-test.true c.index-bs-c.is all c.loop-c.invariant.marked (reverse c.push_fielded.new.marks.items) (no_head_marks (branches_of (drop (c.loop-c.c + 1) c.args.bs.now)) last.1)
-    (c.in_ok-push_fielded.ensures.left ∙ ap (λ ms. drop (length ms) all) (sym (fielded_marks b.binders b.body last.0)))
+    let last = last_is k b.binders (branches_of (drop (c.loop-c.c + 1) c.args.bs.now)) (sym c.is_last_of.ensures.is ∙ c.if-is_last_of.true) in
+    left_end (kind_marks k) (kind_marks_step k) c.args.bs.now c.loop-c.c b c.loop-c-test.true c.index-bs-c.is all c.loop-c.invariant.marked (reverse c.push_fielded.new.marks.items) (no_kind_marks k (branches_of (drop (c.loop-c.c + 1) c.args.bs.now)) last.1)
+    (c.in_ok-push_fielded.ensures.left ∙ ap (λ ms. drop (length ms) all) (sym (kind_branch_marks k b.binders b.body last.0)))
     ∙ c.loop-c.invariant.left
 
--- a match of which no branch has binders
-pub push_plain_arms-push_empty_arm-requires : goal.push_plain_arms-push_empty_arm-requires
-push_plain_arms-push_empty_arm-requires t c =
-    let d = arm_lighter c.args.bs.now c.loop-c.c c.index-bs-c.result c.loop-c-test.true c.index-bs-c.is in
-    let e : 8 * block_weight c.index-bs-c.result.body + 1 < 8 * branches_weight (branches_of c.args.bs.now) = omega (arith, d) in
-    let m = begin_arm empty_marks empty_marks_step c.args.bs.now c.loop-c.c c.index-bs-c.result c.loop-c-test.true c.index-bs-c.is (reverse c.loop-c.marks.items) c.loop-c.invariant.marked in
-    search (rules, e, m)
-
-pub push_plain_arms-push_fielded-requires : goal.push_plain_arms-push_fielded-requires
-push_plain_arms-push_fielded-requires t c =
-    let b = c.index-bs-c.result in
-    let all = reverse c.loop-c.marks.items in
-    let plain = plain_here c.args.bs.now c.loop-c.c b c.loop-c-test.true c.index-bs-c.is c.loop-c.invariant.plain in
-    let d = arm_lighter c.args.bs.now c.loop-c.c b c.loop-c-test.true c.index-bs-c.is in
-    let e : 8 * block_weight b.body + 1 < 8 * branches_weight (branches_of c.args.bs.now) = omega (arith, d) in
-    let m : Begins (branch_marks b.binders b.body) all = subst (λ ms. Begins ms all) (last_marks b.binders b.body plain.0) (begin_arm empty_marks empty_marks_step c.args.bs.now c.loop-c.c b c.loop-c-test.true c.index-bs-c.is all c.loop-c.invariant.marked) in
-    search (rules, e, m)
-
-pub push_plain_arms-loop-c-preserved : goal.push_plain_arms-loop-c-preserved
-push_plain_arms-loop-c-preserved t c =
-    let b = c.index-bs-c.result in
+-- a match, and its tests
+pub push_op-returns-in_ok-push-in-Case-clause-pushed : goal.push_op-returns-in_ok-push-in-Case-clause-pushed
+push_op-returns-in_ok-push-in-Case-clause-pushed t c =
     let Q = c.args.p.now in
     let env = reverse c.args.places.now.items in
-    let at = c.args.site.at in
-    let all = reverse c.loop-c.marks.items in
-    let plain = plain_here c.args.bs.now c.loop-c.c b c.loop-c-test.true c.index-bs-c.is c.loop-c.invariant.plain in
-    let z : EmptyArm Q env c.in_ok-arm.arm.site.local c.in_ok-arm.arm.site.at c.in_ok-arm.arm.number b c.loop-c.out.items c.push_empty_arm.new.out.items c.in_ok-arms.arms =
-    subst (λ zs. EmptyArm Q (reverse zs) c.in_ok-arm.arm.site.local c.in_ok-arm.arm.site.at c.in_ok-arm.arm.number b c.loop-c.out.items c.push_empty_arm.new.out.items c.in_ok-arms.arms) c.loop-c.invariant.same c.in_ok-arms.ensures.pushed in
-    let x : EmptyArm Q env c.args.site.local (under_position c.loop-c.begun at) c.loop-c.c b c.loop-c.out.items c.push_empty_arm.new.out.items c.in_ok-arms.arms =
-    subst (λ a. EmptyArm Q env a.site.local a.site.at a.number b c.loop-c.out.items c.push_empty_arm.new.out.items c.in_ok-arms.arms) c.in_ok-arm.ensures.is z in
-    record {
-      pushed = empties_more Q env c.args.site.local at c.loop-c.c c.args.bs.now b c.loop-c.begun c.in_ok-arms.arms (c.loop-c.begun + c.in_ok-arms.arms) c.loop-c.out.items c.push_empty_arm.new.out.items c.args.out.now.items c.loop-c-test.true c.index-bs-c.is refl x false
-          (more_behind (place_in Q.constants) c.args.bs.now (c.loop-c.c + 1) (omega arith)) (empty_arms Q env c.args.site.local at false (branches_of c.args.bs.now)) c.loop-c.invariant.pushed;
-      marked = begin_more empty_marks empty_marks_step c.args.bs.now c.loop-c.c b c.loop-c-test.true c.index-bs-c.is all c.loop-c.invariant.marked (reverse c.push_empty_arm.new.marks.items) c.in_ok-arms.ensures.left;
-      left = left_more empty_marks empty_marks_step c.args.bs.now c.loop-c.c b c.loop-c-test.true c.index-bs-c.is all c.loop-c.invariant.marked (reverse c.push_empty_arm.new.marks.items) c.in_ok-arms.ensures.left ∙ c.loop-c.invariant.left;
-      same = c.in_ok-arms.ensures.same ∙ c.loop-c.invariant.same;
-      few = omega (arith, x.few, c.loop-c.invariant.few);
-      plain = plain.1;
-    }
-
-pub push_plain_arms-returns-then-c-bs-clause-pushed : goal.push_plain_arms-returns-then-c-bs-clause-pushed
-push_plain_arms-returns-then-c-bs-clause-pushed t c =
-    let b = c.index-bs-c.result in
-    let Q = c.args.p.now in
-    let env = reverse c.args.places.now.items in
-    let at = c.args.site.at in
-    let plain = plain_here c.args.bs.now c.loop-c.c b c.loop-c-test.true c.index-bs-c.is c.loop-c.invariant.plain in
-    let z : Pushed c.loop-c.out.items c.push_fielded.new.out.items (branch_code Q env c.in_ok-arm.arm.site.local c.in_ok-arm.arm.site.at b) =
-    subst (λ zs. Pushed c.loop-c.out.items c.push_fielded.new.out.items (branch_code Q (reverse zs) c.in_ok-arm.arm.site.local c.in_ok-arm.arm.site.at b)) c.loop-c.invariant.same c.in_ok-push_fielded.ensures.pushed in
-    let x : Pushed c.loop-c.out.items c.push_fielded.new.out.items (branch_code Q env c.args.site.local (under_position c.loop-c.begun at) b) =
-    subst (λ a. Pushed c.loop-c.out.items c.push_fielded.new.out.items (branch_code Q env a.site.local a.site.at b)) c.in_ok-arm.ensures.is z in
-    record {
-      is = λ others h rest. empties_end Q env c.args.site.local at c.loop-c.c c.args.bs.now b c.loop-c.begun 0 c.loop-c.begun c.loop-c.out.items c.push_fielded.new.out.items c.args.out.now.items c.loop-c-test.true c.index-bs-c.is (omega arith) x (omega arith) plain.0
-          (empty_arms Q env c.args.site.local at false (branches_of c.args.bs.now)) c.loop-c.invariant.pushed others rest;
-    }
-
-pub push_plain_arms-returns-then-c-bs-clause-left : goal.push_plain_arms-returns-then-c-bs-clause-left
-push_plain_arms-returns-then-c-bs-clause-left t c =
-    let b = c.index-bs-c.result in
-    let all = reverse c.loop-c.marks.items in
-    let plain = plain_here c.args.bs.now c.loop-c.c b c.loop-c-test.true c.index-bs-c.is c.loop-c.invariant.plain in
-    left_end empty_marks empty_marks_step c.args.bs.now c.loop-c.c b c.loop-c-test.true c.index-bs-c.is all c.loop-c.invariant.marked (reverse c.push_fielded.new.marks.items) (ap (λ (xs : List LiftedBranch). empty_marks (branches_of xs)) (drop_all (c.loop-c.c + 1) c.args.bs.now (omega arith)))
-    (c.in_ok-push_fielded.ensures.left ∙ ap (λ ms. drop (length ms) all) (sym (last_marks b.binders b.body plain.0)))
-    ∙ c.loop-c.invariant.left
-
-pub push_plain_arms-returns-clause-pushed : goal.push_plain_arms-returns-clause-pushed
-push_plain_arms-returns-clause-pushed t c = record {
-  is = λ others h rest. c.in_ok-push.ensures.pushed.is (ends c.loop-c.begun rest) ∙ ap (λ (zs : List Instr). c.loop-c.out.items ++ zs) (sym (h (under_position c.loop-c.begun c.args.site.at) (ends c.loop-c.begun rest)))
-      ∙ ap (λ (xs : List LiftedBranch). c.loop-c.out.items ++ empties (lifted_of c.args.p.now) (reverse c.args.places.now.items) c.args.site.local (under_position c.loop-c.begun c.args.site.at) c.loop-c.c false (renumber_branches (place_in c.args.p.now.constants) (branches_of xs)) others (ends c.loop-c.begun rest))
-      (sym (drop_all c.loop-c.c c.args.bs.now c.loop-c-test.false)) ∙ c.loop-c.invariant.pushed others rest;
-}
-
-pub push_plain_branches-returns-clause-pushed : goal.push_plain_branches-returns-clause-pushed
-push_plain_branches-returns-clause-pushed t c =
-    on_ok c.push_ends.result
-    (λ y. plain_pushed c.args.p.now (reverse c.args.places.now.items) c.args.site.local c.args.site.at (branches_of c.args.bs.now) c.args.out.now.items c.push_plain_arms.new.out.items c.push_ends.new.out.items c.in_ok-begun.begun c.requires.plain c.in_ok-begun.ensures.pushed y)
-    c.push_ends.ensures.pushed
-
-pub push_plain_branches-returns-clause-left : goal.push_plain_branches-returns-clause-left
-push_plain_branches-returns-clause-left t c =
-    on_ok c.push_ends.result (λ y. plain_left (branches_of c.args.bs.now) (reverse c.args.marks.now.items) (reverse c.push_plain_arms.new.marks.items) c.requires.plain c.in_ok-begun.ensures.left) c.push_ends.ensures.pushed
-
-pub push_mixed_branches-returns-clause-pushed : goal.push_mixed_branches-returns-clause-pushed
-push_mixed_branches-returns-clause-pushed t c =
-    let Q = c.args.p.now in
-    let bs = branches_of c.args.bs.now in
     let d = c.args.site.local in
-    let z : HeadArms c.push_empty_branches.new.out.items c.push_block_branches.new.out.items (block_arms Q (reverse c.args.places.now.items) d c.in_ok-at.at bs) c.in_ok-heads.heads =
-    subst (λ zs. HeadArms c.push_empty_branches.new.out.items c.push_block_branches.new.out.items (block_arms Q (reverse zs) d c.in_ok-at.at bs) c.in_ok-heads.heads) c.in_ok-empties.ensures.same c.in_ok-heads.ensures.pushed in
-    let x : HeadArms c.push_empty_branches.new.out.items c.push_block_branches.new.out.items (block_arms Q (reverse c.args.places.now.items) d (under_position c.in_ok-empties.empties c.args.site.at) bs) c.in_ok-heads.heads =
-    subst (λ a. HeadArms c.push_empty_branches.new.out.items c.push_block_branches.new.out.items (block_arms Q (reverse c.args.places.now.items) d a bs) c.in_ok-heads.heads) c.in_ok-at.ensures.is z in
-    on_ok c.push_ends-2.result
-    (λ y. mixed_pushed Q (reverse c.args.places.now.items) d c.args.site.at bs c.args.out.now.items c.push_empty_branches.new.out.items c.push_block_branches.new.out.items c.push_ends.new.out.items c.push_ends-2.new.out.items c.in_ok-empties.empties c.in_ok-heads.heads c.requires.mixed
-    c.in_ok-empties.ensures.pushed x c.in_ok-push_ends.ensures.pushed y)
-    c.push_ends-2.ensures.pushed
+    let at = c.args.site.at in
+    let o0 = c.args.out.now.items in
+    let o1 = c.push_atom-in-Case.new.out.items in
+    let o2 = c.push-in-Case.new.out.items in
+    let o3 = c.push_branches.new.out.items in
+    let x : Pushed o0 o1 (atom env c.in-Case.a) = subst (λ zs. Pushed o0 o1 (atom (reverse zs) c.in-Case.a)) c.as_slice-in-Case.ensures.value c.in_ok-push_atom-in-Case.ensures.pushed in
+    on_ok c.push_branches.result
+    (λ y. subst (λ o. Pushed o0 o3 (op_code Q env d at (seen o))) (sym c.in-Case.is) (case_pushed Q env d at c.in-Case.a c.in-Case.bs o0 o1 o2 o3 x c.in_ok-push-in-Case.ensures.pushed y))
+    c.push_branches.ensures.pushed
+
+pub push_branches-returns-then-count_from-eq0-clause-pushed : goal.push_branches-returns-then-count_from-eq0-clause-pushed
+push_branches-returns-then-count_from-eq0-clause-pushed t c =
+    let Q = c.args.p.now in
+    let env = reverse c.args.places.now.items in
+    let d = c.args.site.local in
+    let at = c.args.site.at in
+    let o0 = c.args.out.now.items in
+    let o1 = c.push_search.new.out.items in
+    on_ok c.push_search.result
+    (λ y. subst (λ bs. Pushed o0 o1 (branches_code Q env d at bs)) c.as_slice-items.ensures.is (one_kind Q env d at c.as_slice-items.result.now o0 o1 (sym c.count_from.ensures.is ∙ c.if-count_from-eq0.true) y))
+    c.push_search.ensures.pushed
+
+pub push_branches-returns-then-count_from-eq0-clause-left : goal.push_branches-returns-then-count_from-eq0-clause-left
+push_branches-returns-then-count_from-eq0-clause-left t c =
+    let all = reverse c.args.marks.now.items in
+    let new = reverse c.push_search.new.marks.items in
+    on_ok c.push_search.result
+    (λ y. subst (λ bs. new ≡ drop (length (empty_marks bs ++ head_marks bs)) all) c.as_slice-items.ensures.is (bare_left (branches_of c.as_slice-items.result.now) all new (sym c.count_from.ensures.is ∙ c.if-count_from-eq0.true) y))
+    c.push_search.ensures.left
+
+pub push_branches-returns-then-count_from-lt-MANY_ALTERNATIVES-clause-pushed : goal.push_branches-returns-then-count_from-lt-MANY_ALTERNATIVES-clause-pushed
+push_branches-returns-then-count_from-lt-MANY_ALTERNATIVES-clause-pushed t c =
+    let Q = c.args.p.now in
+    let env = reverse c.args.places.now.items in
+    let d = c.args.site.local in
+    let at = c.args.site.at in
+    let o0 = c.args.out.now.items in
+    let o1 = c.push_few_bare.new.out.items in
+    on_ok c.push_few_bare.result
+    (λ y. subst (λ bs. Pushed o0 o1 (branches_code Q env d at bs)) c.as_slice-items.ensures.is
+    (few_bare Q env d at c.as_slice-items.result.now o0 o1 (λ z. omega (arith, z, c.count_from.ensures.is, c.if-count_from-eq0.false)) (omega (arith, c.count_from-2.ensures.is, c.if-count_from-lt-MANY_ALTERNATIVES.true)) y))
+    c.push_few_bare.ensures.pushed
+
+pub push_branches-returns-clause-pushed : goal.push_branches-returns-clause-pushed
+push_branches-returns-clause-pushed t c =
+    let Q = c.args.p.now in
+    let env = reverse c.args.places.now.items in
+    let d = c.args.site.local in
+    let at = c.args.site.at in
+    let o0 = c.args.out.now.items in
+    let o1 = c.push_both_kinds.new.out.items in
+    on_ok c.push_both_kinds.result
+    (λ y. subst (λ bs. Pushed o0 o1 (branches_code Q env d at bs)) c.as_slice-items.ensures.is
+    (both_kinds Q env d at c.as_slice-items.result.now o0 o1 (λ z. omega (arith, z, c.count_from.ensures.is, c.if-count_from-eq0.false)) (omega (arith, c.count_from-2.ensures.is, c.if-count_from-lt-MANY_ALTERNATIVES.false)) y))
+    c.push_both_kinds.ensures.pushed
+
+pub push_few_bare-returns-clause-pushed : goal.push_few_bare-returns-clause-pushed
+push_few_bare-returns-clause-pushed t c =
+    let Q = c.args.p.now in
+    let bs = c.args.bs.now in
+    let d = c.args.site.local in
+    let o1 = c.push_tested.new.out.items in
+    let o2 = c.push_search.new.out.items in
+    let z = subst (λ zs. Pushed o1 o2 (search_code Q (reverse zs) d c.in_ok-at.at Fielded 0 most_rounds (branches_of bs))) c.in_ok-begun.ensures.same c.in_ok-push_search.ensures.pushed in
+    let x = subst (λ a. Pushed o1 o2 (search_code Q (reverse c.args.places.now.items) d a Fielded 0 most_rounds (branches_of bs))) c.in_ok-at.ensures.is z in
+    on_ok c.push_ends.result (λ y. few_pushed Q (reverse c.args.places.now.items) d c.args.site.at bs c.args.out.now.items o1 o2 c.push_ends.new.out.items c.in_ok-begun.begun c.in_ok-begun.ensures.pushed x y) c.push_ends.ensures.pushed
+
+pub push_both_kinds-returns-clause-pushed : goal.push_both_kinds-returns-clause-pushed
+push_both_kinds-returns-clause-pushed t c =
+    let Q = c.args.p.now in
+    let bs = c.args.bs.now in
+    let d = c.args.site.local in
+    let x = subst (λ zs. Pushed c.push.new.out.items c.push_search-2.new.out.items (search_code Q (reverse zs) d c.in_ok-at.at Fielded 0 most_rounds (branches_of bs))) c.in_ok-push_search.ensures.same c.in_ok-push_search-2.ensures.pushed in
+    on_ok c.push-2.result
+    (λ y. both_pushed Q (reverse c.args.places.now.items) d c.args.site.at bs c.in_ok-at.at c.args.out.now.items c.push_bare_test.new.out.items c.push_search.new.out.items c.push.new.out.items c.push_search-2.new.out.items c.push-2.new.out.items c.in_ok-at.ensures.is
+    c.in_ok-push_bare_test.ensures.pushed c.in_ok-push_search.ensures.pushed c.in_ok-push.ensures.pushed x y)
+    c.push-2.ensures.pushed
+
+-- a part, by halves or not
+pub push_search-push_halves-requires : goal.push_search-push_halves-requires
+push_search-push_halves-requires t c =
+    let h = by_halves_is c.args.part.rounds (count_of c.args.part.kind (branches_of c.args.bs.now)) (sym c.by_halves.ensures.is ∙ c.if-by_halves.true) in
+    let more : 0 < c.args.part.rounds = h.0 in
+    let many : 6 ≤ count_of c.args.part.kind (branches_of c.args.bs.now) = h.1 in
+    search (rules, more, many)
+
+pub push_search-returns-clause-pushed : goal.push_search-returns-clause-pushed
+push_search-returns-clause-pushed t c =
+    let few = by_halves_not c.args.part.rounds (count_of c.args.part.kind (branches_of c.args.bs.now)) (sym c.by_halves.ensures.is ∙ c.if-by_halves.false) in
+    on_ok c.push_alone.result
+    (λ y. alone_is c.args.p.now (reverse c.args.places.now.items) c.args.part.site.local c.args.part.kind c.args.part.site.at c.args.part.first c.args.part.rounds c.args.bs.now c.args.out.now.items c.push_alone.new.out.items few y)
+    c.push_alone.ensures.pushed
+
+pub push_halves-push_search-requires : goal.push_halves-push_search-requires
+push_halves-push_search-requires t c =
+    let k = c.args.part.kind in
+    let bs = c.args.bs.now in
+    let i = c.place_of-place.result in
+    let lighter = front_lighter i bs in
+    let some = c.requires.more in
+    let e : 64 * branches_weight (branches_of (take i bs)) + (2 * (c.args.part.rounds - 1) + 8) < 64 * branches_weight (branches_of bs) + (2 * c.args.part.rounds + 7) = omega (arith, lighter, some) in
+    let m : Begins (kind_marks k (branches_of (take i bs))) (reverse c.args.marks.now.items) =
+    first_part (kind_marks k (branches_of bs)) (kind_marks k (branches_of (take i bs))) (kind_marks k (branches_of (drop i bs))) (reverse c.args.marks.now.items) (kind_marks_halves k i bs) c.requires.marked in
+    search (rules, e, m)
+
+pub push_halves-push_search-requires-2 : goal.push_halves-push_search-requires-2
+push_halves-push_search-requires-2 t c =
+    let k = c.args.part.kind in
+    let bs = c.args.bs.now in
+    let i = c.place_of-place.result in
+    let behind = c.branches_from-behind.result.now in
+    let lighter = back_lighter i bs in
+    let same = ap (λ (xs : List LiftedBranch). branches_weight (branches_of xs)) c.branches_from-behind.ensures.is in
+    let some = c.requires.more in
+    let e : 64 * branches_weight (branches_of behind) + (2 * (c.args.part.rounds - 1) + 8) < 64 * branches_weight (branches_of bs) + (2 * c.args.part.rounds + 7) = omega (arith, lighter, same, some) in
+    let m0 : Begins (kind_marks k (branches_of (drop i bs))) (reverse c.push_search.new.marks.items) =
+    second_part (kind_marks k (branches_of bs)) (kind_marks k (branches_of (take i bs))) (kind_marks k (branches_of (drop i bs))) (reverse c.args.marks.now.items) (kind_marks_halves k i bs) c.requires.marked (reverse c.push_search.new.marks.items) c.in_ok-push_search.ensures.left in
+    let m : Begins (kind_marks k (branches_of behind)) (reverse c.push_search.new.marks.items) = subst (λ xs. Begins (kind_marks k (branches_of xs)) (reverse c.push_search.new.marks.items)) (sym c.branches_from-behind.ensures.is) m0 in
+    search (rules, e, m)
+
+pub push_halves-returns-clause-pushed : goal.push_halves-returns-clause-pushed
+push_halves-returns-clause-pushed t c =
+    let Q = c.args.p.now in
+    let k = c.args.part.kind in
+    let bs = c.args.bs.now in
+    let d = c.args.part.site.local in
+    let i = c.place_of-place.result in
+    let left = c.args.part.rounds - 1 in
+    let o3 = c.push.new.out.items in
+    let o4 = c.push_search-2.new.out.items in
+    let half : count_of k (branches_of (take i bs)) ≡ count_of k (branches_of bs) / 2 = c.place_of-place.ensures.before ∙ ap (λ (n : ℕ). n / 2) c.count_from-half.ensures.is in
+    let es : c.in-Some.second ≡ c.args.part.first + i = search rules in
+    let some = c.requires.more in
+    let er : c.args.part.rounds ≡ suc left = omega (arith, some) in
+    let z = subst (λ zs. Pushed o3 o4 (search_code Q (reverse zs) d c.in_ok-at.at k c.in-Some.second left (branches_of c.branches_from-behind.result.now))) c.in_ok-push_search.ensures.same c.in_ok-push_search-2.ensures.pushed in
+    let x = subst (λ xs. Pushed o3 o4 (search_code Q (reverse c.args.places.now.items) d c.in_ok-at.at k c.in-Some.second left (branches_of xs))) c.branches_from-behind.ensures.is z in
+    on_ok c.push-2.result
+    (λ y. halves_pushed Q (reverse c.args.places.now.items) d k c.args.part.site.at c.args.part.first c.args.part.rounds bs i c.in-Some.second left c.in_ok-at.at c.requires.many half c.place_of-place.ensures.here es er c.in_ok-at.ensures.is c.args.out.now.items c.push_below_test.new.out.items
+    c.push_search.new.out.items o3 o4 c.push-2.new.out.items c.in_ok-push_below_test.ensures.pushed c.in_ok-push_search.ensures.pushed c.in_ok-push.ensures.pushed x y)
+    c.push-2.ensures.pushed
+
+pub push_halves-returns-clause-left : goal.push_halves-returns-clause-left
+push_halves-returns-clause-left t c =
+    let k = c.args.part.kind in
+    let bs = c.args.bs.now in
+    let i = c.place_of-place.result in
+    let last = reverse c.push_search-2.new.marks.items in
+    let new = reverse c.push_search.new.marks.items in
+    let x = subst (λ xs. last ≡ drop (length (kind_marks k (branches_of xs))) new) c.branches_from-behind.ensures.is c.in_ok-push_search-2.ensures.left in
+    on_ok c.push-2.result
+    (λ y. both_parts (kind_marks k (branches_of bs)) (kind_marks k (branches_of (take i bs))) (kind_marks k (branches_of (drop i bs))) (reverse c.args.marks.now.items) (kind_marks_halves k i bs) c.requires.marked new c.in_ok-push_search.ensures.left last x)
+    c.push-2.ensures.pushed
 
 -- a branch, whose field was moved or not
 pub push_fielded-returns-clause-pushed : goal.push_fielded-returns-clause-pushed
