@@ -1,0 +1,5 @@
+pub mod Grouping
+pub mod Starting
+pub mod MadeLists
+pub mod MadeMatches
+pub mod Forgetting

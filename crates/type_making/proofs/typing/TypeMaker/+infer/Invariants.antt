@@ -1,0 +1,137 @@
+use Rattle.std.proofs.Common.{◌≡◌, ◌+◌, ◌*◌, Result, drop, length, take}
+use Rattle.pc_terms.specs.Lists.{types_of}
+use Rattle.pc_terms.specs.Syntax.{Rel, put_all}
+use Rattle.calculus_rules.specs.Context.{extend}
+use Rattle.calculus_rules.specs.Instances.{definitions}
+use Rattle.pc_rules.specs.Follows.{IsAfter}
+use Rattle.pc_rules.specs.WellCounted.{AreCounted}
+use Rattle.type_infer.specs.Ready.{IsReady}
+use Rattle.pc_rules.specs.declared.stop.Halt.{Halt}
+use Rattle.script_making.specs.declared.draft.Draft.{Draft}
+use Rattle.script_making.specs.Makes.{Makes}
+use Rattle.type_making.specs.Making.{entries_making, check_all_making, branches_making, types_making, definitions_making}
+use Rattle.type_making.proofs.typing.TypeMaker.+infer.Given as goal
+
+-- a rule that stands takes the room of all that it calls
+
+abbrev pub decreases-infer : goal.decreases-infer
+decreases-infer g l = l.self.now.maker.room * 32
+
+abbrev pub decreases-sort_of : goal.decreases-sort_of
+decreases-sort_of g l = l.self.now.maker.room * 32 + 1
+
+abbrev pub decreases-converted : goal.decreases-converted
+decreases-converted g l = l.self.now.maker.room * 32 + 2
+
+abbrev pub decreases-check : goal.decreases-check
+decreases-check g l = l.self.now.maker.room * 32 + 3
+
+abbrev pub decreases-retype : goal.decreases-retype
+decreases-retype g l = l.self.now.maker.room * 32 + 2
+
+abbrev pub decreases-prod_rule : goal.decreases-prod_rule
+decreases-prod_rule g l = l.self.now.maker.room * 32 + 20
+
+abbrev pub decreases-lambda_rule : goal.decreases-lambda_rule
+decreases-lambda_rule g l = l.self.now.maker.room * 32 + 20
+
+abbrev pub decreases-let_rule : goal.decreases-let_rule
+decreases-let_rule g l = l.self.now.maker.room * 32 + 20
+
+abbrev pub decreases-app_rule : goal.decreases-app_rule
+decreases-app_rule g l = l.self.now.maker.room * 32 + 20
+
+abbrev pub decreases-rule : goal.decreases-rule
+decreases-rule g l = l.self.now.maker.room * 32 + 21
+
+-- fixpoints
+
+abbrev pub decreases-types_rule : goal.decreases-types_rule
+decreases-types_rule g l = l.self.now.maker.room * 32 + 4
+
+abbrev pub decreases-definition_rule : goal.decreases-definition_rule
+decreases-definition_rule g l = l.self.now.maker.room * 32 + 4
+
+abbrev pub decreases-definitions_rule : goal.decreases-definitions_rule
+decreases-definitions_rule g l = l.self.now.maker.room * 32 + 5
+
+abbrev pub decreases-fix_rule : goal.decreases-fix_rule
+decreases-fix_rule g l = l.self.now.maker.room * 32 + 20
+
+-- what answers for the rest of the definitions answers for all
+
+abbrev pub invariant-types_rule-loop-i : goal.invariant-types_rule-loop-i
+invariant-types_rule-loop-i g l = record {
+  rest : (r : Result (Unit {0}) Halt) (t : Draft)
+      → Makes (types_making l.self.maker.env.now l.self.maker.room l.under l.i (drop l.i l.items) l.draft.meter.account) r l.draft t
+      → Makes (types_making l.self.maker.env.now l.self.maker.room l.ctx 0 l.items l.fn.draft.meter.account) r l.fn.draft t;
+  after : IsAfter l.fn.draft.meter l.draft.meter;
+  under : definitions l.ctx 0 (types_of l.items) ≡ definitions l.under l.i (types_of (drop l.i l.items));
+  ready : IsReady l.self.maker.env.now l.under;
+}
+
+abbrev pub invariant-definitions_rule-loop-i : goal.invariant-definitions_rule-loop-i
+invariant-definitions_rule-loop-i g l = record {
+  rest : (r : Result (Unit {0}) Halt) (t : Draft)
+      → Makes (definitions_making l.self.maker.env.now l.self.maker.room l.under (length l.items) l.i (drop l.i l.items) l.draft.meter.account) r l.draft t
+      → Makes (definitions_making l.self.maker.env.now l.self.maker.room l.under (length l.items) 0 l.items l.fn.draft.meter.account) r l.fn.draft t;
+  after : IsAfter l.fn.draft.meter l.draft.meter;
+}
+
+-- matches
+
+abbrev pub decreases-entered : goal.decreases-entered
+decreases-entered g l = l.self.now.maker.room * 32 + 4
+
+-- what answers for the rest of the entries answers for the whole telescope
+abbrev pub invariant-entered-loop-i : goal.invariant-entered-loop-i
+invariant-entered-loop-i g l = record {
+  rest : (r : Result (Unit {0}) Halt) (t : Draft)
+      → Makes (entries_making l.self.maker.env.now l.self.maker.room l.inner (drop l.i l.items) l.draft.meter.account) r l.draft t
+      → Makes (entries_making l.self.maker.env.now l.self.maker.room l.ctx l.items l.fn.draft.meter.account) r l.fn.draft t;
+  longer : extend l.inner (drop l.i l.items) ≡ extend l.ctx l.items;
+  ready : IsReady l.self.maker.env.now l.inner;
+  counted : AreCounted l.self.maker.env.now (take l.i l.items);
+  after : IsAfter l.fn.draft.meter l.draft.meter;
+}
+
+abbrev pub decreases-check_all : goal.decreases-check_all
+decreases-check_all g l = l.self.now.maker.room * 32 + 4
+
+-- what answers for the rest of the terms, with those before them put in, answers for all
+abbrev pub invariant-check_all-loop-i : goal.invariant-check_all-loop-i
+invariant-check_all-loop-i g l = record {
+  rest : (r : Result (Unit {0}) Halt) (t : Draft)
+      → Makes (check_all_making l.self.maker.env.now l.self.maker.room l.ctx (put_all l.before (λ i. Rel (l.raise + i))) (drop l.i l.listed) (drop l.i l.types) l.draft.meter.account) r l.draft t
+      → Makes (check_all_making l.self.maker.env.now l.self.maker.room l.ctx (λ i. Rel (l.raise + i)) l.listed l.types l.fn.draft.meter.account) r l.fn.draft t;
+  before : l.before ≡ take l.i l.listed;
+  counted : AreCounted l.self.maker.env.now l.before;
+  after : IsAfter l.fn.draft.meter l.draft.meter;
+}
+
+abbrev pub decreases-predicate_rule : goal.decreases-predicate_rule
+decreases-predicate_rule g l = l.self.now.maker.room * 32 + 5
+
+abbrev pub decreases-scrutinee_fits : goal.decreases-scrutinee_fits
+decreases-scrutinee_fits g l = l.self.now.maker.room * 32 + 3
+
+abbrev pub decreases-scrutinee_rule : goal.decreases-scrutinee_rule
+decreases-scrutinee_rule g l = l.self.now.maker.room * 32 + 4
+
+abbrev pub decreases-branch_rule : goal.decreases-branch_rule
+decreases-branch_rule g l = l.self.now.maker.room * 32 + 5
+
+abbrev pub decreases-branches_rule : goal.decreases-branches_rule
+decreases-branches_rule g l = l.self.now.maker.room * 32 + 6
+
+-- what answers for the rest of the branches answers for all
+abbrev pub invariant-branches_rule-loop-i : goal.invariant-branches_rule-loop-i
+invariant-branches_rule-loop-i g l = record {
+  rest : (r : Result (Unit {0}) Halt) (t : Draft)
+      → Makes (branches_making l.self.maker.env.now l.self.maker.room l.ctx l.i (drop l.i l.listed) l.x (drop l.i l.bodies) l.draft.meter.account) r l.draft t
+      → Makes (branches_making l.self.maker.env.now l.self.maker.room l.ctx 0 l.listed l.x l.bodies l.fn.draft.meter.account) r l.fn.draft t;
+  after : IsAfter l.fn.draft.meter l.draft.meter;
+}
+
+abbrev pub decreases-case_rule : goal.decreases-case_rule
+decreases-case_rule g l = l.self.now.maker.room * 32 + 20
