@@ -1,12 +1,7 @@
 -- What the directed rules say of an environment: the same status whichever cycle is found; and a broken rule's place is one of it.
-use Rattle.std.proofs.Common.{◌≡◌, ℕ, zero, suc, ◌+◌, ◌<◌, List, [], ◌∷◌, length, Option, Some, None, refl, sym, ap, subst, ◌∙◌, arith}
-use Rattle.std.specs.Prelude.{All}
-use Rattle.std.proofs.lemmas.List.Elements.{All-head, All-tail, All-from_get_or}
+use Rattle.std.proofs.Common.{◌≡◌, ℕ, suc, ◌+◌, ◌<◌, List, [], ◌∷◌, length, Option, Some, None, refl, sym, ap, subst, ◌∙◌, arith}
 use Rattle.universe_levels.specs.declared.level.Level.{Level}
 use Rattle.universe_levels.specs.declared.constraint.Constraint.{Constraint}
-use Rattle.universe_levels.specs.Valuation.{Meets}
-use Rattle.universe_levels.specs.Consistency.{IsConsistent}
-use Rattle.universe_graph.specs.Listed.{MeetsAt, Clashes}
 use Rattle.pc_terms.specs.Syntax.{Term}
 use Rattle.pc_rules.specs.declared.broken.Broken.{Broken}
 use Rattle.pc_rules.specs.declared.broken.Place.{Place}
@@ -23,19 +18,9 @@ use Rattle.pc_rules.specs.DirectedDeclarations.{Given, Outcome, Accepts, Breaks,
 use Rattle.dump_reader.specs.declared.environment.RawEnv.{RawEnv}
 use Rattle.inductive_check.specs.Given.{given_of}
 use Rattle.env_check.specs.Rules.{rules_of, givens, IsFound}
+use Rattle.env_check.proofs.Cycles.{no_cycle}
 use Rattle.driver.specs.Judged.{IsJudged, status_by}
 use Rattle.driver.proofs.Limited.{length-map}
-
--- a cycle has no valuation
-
-meets_at : (v : ℕ → ℕ) (cs : List Constraint) → All (Meets v) cs → (i : ℕ) → MeetsAt v cs i
-meets_at v [] h i = tt
-meets_at v (c ∷ cs) h zero = All-head (Meets v) c cs h
-meets_at v (c ∷ cs) h (suc i) = meets_at v cs (All-tail (Meets v) c cs h) i
-
-pub no_cycle : (levels : ℕ) (cs : List Constraint) (places : List ℕ) → IsConsistent levels cs → Clashes levels cs places → ⊥
-no_cycle levels cs places (v, solves) clash =
-    clash.alone v solves.valuation (All-from_get_or (MeetsAt v cs) places 0 (λ i l. meets_at v cs solves.meets _))
 
 -- two ends with the same status, of which both have passed a limit or none has
 pub record AreAlike (d e : Checked) : Type 0 where

@@ -15,7 +15,7 @@ use Rattle.driver.specs.declared.refusal.CertificateFault.TheVariants as certifi
 use Rattle.driver.specs.Lines.{status_of}
 use Rattle.driver.specs.VerifyEnds.{IsCertificateCause, IsWalked, IsWalkRefused, VerifyEndsWith, WalkIsShallow, WalkShows, certificate_read, reading_status, walk_along, walk_status}
 use Rattle.driver.proofs.CheckCauses.{deep_or_not, not_zero}
-use Rattle.driver.proofs.Judging.{no_cycle}
+use Rattle.env_check.proofs.Cycles.{no_cycle}
 
 -- ---- one walk
 

@@ -13,6 +13,7 @@ use Rattle.env_check.specs.declared.refusal.Refusal.TheVariants as refusals
 use Rattle.env_check.specs.Places.{bare}
 use Rattle.env_check.specs.Rules.{givens, IsFound}
 use Rattle.env_check.specs.Steps.{Refuses, level_refusal, end_refusal, RefusesGraph}
+use Rattle.env_check.specs.Beginning.{HasSoundLevels, IsRefusedFirst, at_levels, at_constraints, at_graph}
 use Rattle.cert_rules.specs.Walk.{Items, WalkState, Walk, bar_here}
 use Rattle.cert_rules.specs.WalkDeclarations.{walk_unless}
 use Rattle.type_cert.specs.declared.halt.WalkHalt.{WalkHalt}
@@ -22,7 +23,7 @@ use Rattle.type_cert.specs.Retraces.{stand, Retraces}
 use Rattle.type_cert.proofs.Retracing.{retraces_bar}
 use Rattle.env_cert.specs.Verified.{walk_from, WalksFound, WalksAlong}
 use Rattle.env_cert.specs.EnvWalks.{declarations_walk}
-use Rattle.env_cert.specs.Beginning.{first_halt, HasSoundLevels, HaltsFirst}
+use Rattle.env_cert.specs.Beginning.{first_halt, HaltsFirst}
 
 unless_none : {A : Type 0} (o : Option A) (go : Walk (Env × Term)) (s : WalkState) → o ≡ None → walk_unless o go s ≡ go
 unless_none o go s e = ap (λ x. walk_unless x go s) e
@@ -54,7 +55,7 @@ module _ (raw : RawEnv) where
   level_barred i a there cert t at =
       refused cert None i t at (λ once. absurd (some_none (sym there ∙ once))) (unless_some (first_repeated 0 [] raw.levels) a _ (stand t) there)
 
-  pub levels_refused : (i : ℕ) (e : Refusal) → Refuses (first_repeated 0 [] raw.levels) level_refusal e → HaltsFirst raw i (first_halt i e)
+  levels_refused : (i : ℕ) (e : Refusal) → Refuses (first_repeated 0 [] raw.levels) level_refusal e → HaltsFirst raw i (first_halt i e)
   levels_refused i (refusals.Broken p b) h = level_barred i h.0 h.1
   levels_refused i (refusals.Spent p v) h = λ cert t at. tt
   levels_refused i (refusals.TooDeep p) h = λ cert t at. tt
@@ -68,7 +69,7 @@ module _ (raw : RawEnv) where
         refused cert None i t at (λ _ declared. absurd (some_none (sym there ∙ declared)))
         (unless_none (first_repeated 0 [] raw.levels) _ (stand t) once ∙ unless_some (first_undeclared_end (length raw.levels) 0 raw.constraints) a _ (stand t) there)
 
-    pub constraints_refused : (i : ℕ) (e : Refusal) → Refuses (first_undeclared_end (length raw.levels) 0 raw.constraints) end_refusal e → HaltsFirst raw i (first_halt i e)
+    constraints_refused : (i : ℕ) (e : Refusal) → Refuses (first_undeclared_end (length raw.levels) 0 raw.constraints) end_refusal e → HaltsFirst raw i (first_halt i e)
     constraints_refused i (refusals.Broken p b) h = end_barred i h.0 h.1
     constraints_refused i (refusals.Spent p v) h = λ cert t at. tt
     constraints_refused i (refusals.TooDeep p) h = λ cert t at. tt
@@ -82,11 +83,16 @@ module _ (raw : RawEnv) where
           refused cert (Some places) i t at (λ _ _. clash)
           (unless_none (first_repeated 0 [] raw.levels) _ (stand t) once ∙ unless_none (first_undeclared_end (length raw.levels) 0 raw.constraints) _ (stand t) declared)
 
-      pub graph_refused : (i : ℕ) (e : Refusal) → RefusesGraph (length raw.levels) raw.constraints e → HaltsFirst raw i (first_halt i e)
+      graph_refused : (i : ℕ) (e : Refusal) → RefusesGraph (length raw.levels) raw.constraints e → HaltsFirst raw i (first_halt i e)
       graph_refused i (refusals.Broken p b) h = cycle_barred i h.0 h.1
       graph_refused i (refusals.Spent p v) h = λ cert t at. tt
       graph_refused i (refusals.TooDeep p) h = λ cert t at. tt
       graph_refused i refusals.Memory h = λ cert t at. tt
+
+  pub halts_first : (i : ℕ) (e : Refusal) → IsRefusedFirst raw e → HaltsFirst raw i (first_halt i e)
+  halts_first i e (at_levels h) = levels_refused i e h
+  halts_first i e (at_constraints once h) = constraints_refused once i e h
+  halts_first i e (at_graph once declared h) = graph_refused once declared i e h
 
   -- it comes to the declarations, over an environment that keeps nothing
   pub comes_to_declarations : HasSoundLevels raw → (cert : Items) (n : ℕ) (s : WalkState) → walk_from cert raw None n s ≡ declarations_walk cert n (bare raw) (givens raw) raw.main s

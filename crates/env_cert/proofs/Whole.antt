@@ -5,13 +5,13 @@ use Rattle.pc_terms.specs.Formed.{IsFormed}
 use Rattle.dump_reader.specs.declared.declaration.RawDecl.{RawDecl}
 use Rattle.dump_reader.specs.declared.environment.RawEnv.{RawEnv}
 use Rattle.calculus_rules.specs.Environment.{Env}
-use Rattle.calculus_rules.specs.Accepted.{empty, IsAccepted}
 use Rattle.pc_rules.specs.declared.meter.Meter.{Meter}
 use Rattle.pc_rules.specs.declared.stop.Stop.TheVariants as stops
 use Rattle.pc_rules.specs.Entailment.{entailed_by, test_of}
 use Rattle.pc_rules.proofs.Entailing.{entailed_decides}
 use Rattle.rule_laws.specs.Declarations.{AllGivenFormed, IsCheckedEnvironment}
 use Rattle.env_check.specs.Places.{bare}
+use Rattle.env_check.specs.Beginning.{HasSoundLevels}
 use Rattle.env_check.specs.Rules.{givens}
 use Rattle.cert_rules.specs.Walk.{Items, WalkState, Walk, Passed, pass, bar}
 use Rattle.inductive_check.specs.Given.{given_of}
@@ -23,7 +23,6 @@ use Rattle.type_cert.specs.declared.trail.Trail.{Trail}
 use Rattle.type_cert.specs.Retraces.{stand, Retraces, WalkAnswers}
 use Rattle.type_cert.proofs.Retracing.{retraces_pass, retraces_bar, retraces_then, retraces_else}
 use Rattle.env_cert.specs.declared.refusal.VerifyRefusal.{VerifyRefusal}
-use Rattle.env_cert.specs.Beginning.{HasSoundLevels}
 use Rattle.env_cert.specs.EnvWalks.{in_env, declarations_walk, LeadsOn, StopsAmong}
 use Rattle.env_cert.specs.Verified.{walk_from, walk_of, WalksFound, WalksAlong, Verifies, IsVerified, verified}
 use Rattle.env_cert.proofs.Begun.{along_found, comes_to_declarations}
@@ -38,9 +37,6 @@ module _ (cert : Items) (E : Env) (T : Term) (t : Trail) where
   some_left e = retraces_else (t.at == length cert) (pass (E, T) (stand t)) (bar t.at (stand t)) (Err (walks.Barred t.at)) t t e (retraces_bar t.at t)
 
 -- the whole
-
-pub bare_accepted : (raw : RawEnv) → HasSoundLevels raw → IsAccepted (bare raw)
-bare_accepted raw h = record { over = h.over; consistent = h.consistent; declarations = empty }
 
 module _ (raw : RawEnv) (sound : HasSoundLevels raw) (cert : Items) (t0 : Trail) where
   abbrev n : ℕ

@@ -1,9 +1,7 @@
--- What is found before the declarations.
-use Rattle.std.specs.Prelude.{◌≡◌, ℕ, [], length, None, Result, Ok, Err}
-use Rattle.universe_levels.specs.Consistency.{AreOver, IsConsistent}
+-- What is found before the declarations, as a walk's answer.
+use Rattle.std.specs.Prelude.{◌≡◌, ℕ, Result, Ok, Err}
 use Rattle.dump_reader.specs.declared.environment.RawEnv.{RawEnv}
 use Rattle.pc_rules.specs.declared.stop.Stop.TheVariants as stops
-use Rattle.pc_rules.specs.DirectedDeclarations.{first_repeated, first_undeclared_end}
 use Rattle.env_check.specs.declared.refusal.Refusal.{Refusal}
 use Rattle.env_check.specs.declared.refusal.Refusal.TheVariants as refusals
 use Rattle.cert_rules.specs.Walk.{Items}
@@ -20,13 +18,6 @@ first_halt i _ = Stop stops.Memory
 abbrev pub barred_first : {A : Type 0} → ℕ → Result A Refusal → Result A WalkHalt
 barred_first i (Ok a) = Ok a
 barred_first i (Err e) = Err (first_halt i e)
-
--- no level is listed twice, the constraints name declared levels, and some valuation meets them all
-pub record HasSoundLevels (raw : RawEnv) : Type 0 where
-  pub once : first_repeated 0 [] raw.levels ≡ None
-  pub declared : first_undeclared_end (length raw.levels) 0 raw.constraints ≡ None
-  pub over : AreOver (length raw.levels) raw.constraints
-  pub consistent : IsConsistent (length raw.levels) raw.constraints
 
 -- the walk halts before the declarations, with each certificate, where it stands at item i
 abbrev pub HaltsFirst : RawEnv → ℕ → WalkHalt → Type 0

@@ -1,12 +1,12 @@
-//! What is looked at before the declarations: the levels as they are listed, the constraints on them, and their graph.
+//! What is looked at before the declarations, as a walk's answer.
 ghost use Rattle.std.specs.Prelude.{◌≡◌, IfOk, IfErr};
 ghost use Rattle.dump_reader.specs.Spelled.{IsSpelled};
 ghost use Rattle.env_check.specs.Places.{bare};
-ghost use Rattle.env_cert.specs.Beginning.{first_halt, barred_first, HasSoundLevels, HaltsFirst};
+ghost use Rattle.env_check.specs.Beginning.{HasSoundLevels};
+ghost use Rattle.env_cert.specs.Beginning.{first_halt, barred_first, HaltsFirst};
 
 use dump_reader::environment::RawEnv;
-use env_check::constraints::{check_constraints, graph_of};
-use env_check::levels::check_levels;
+use env_check::beginning::bare_env;
 use env_check::refusal::Refusal;
 use pc_rules::environment::Env;
 use pc_rules::stop::Stop;
@@ -35,16 +35,11 @@ fn at_first<A: Drop>(at: usize, answer: Result<A, Refusal>) -> Result<A, WalkHal
 
 /// The environment of the levels and constraints that are read, without declarations. Refused at item `at` where a level is listed twice, a
 /// constraint names one that is not declared, or no valuation meets all constraints.
-pub(crate) fn bare_env(alloc: Global, raw: &RawEnv, at: usize) -> Result<Env, WalkHalt>
+pub(crate) fn begun(alloc: Global, raw: &RawEnv, at: usize) -> Result<Env, WalkHalt>
     requires spelled { IsSpelled raw.now }
     ensures bare { IfOk result (λ e. e ≡ bare raw.now) }
     ensures sound { IfOk result (λ _. HasSoundLevels raw.now) }
     ensures refused { IfErr result (HaltsFirst raw.now at) }
 {
-    let levels = raw.levels.len() as u32;
-    let constraints = raw.constraints.as_slice();
-    at_first(at, check_levels(alloc, raw.levels.as_slice()))?;
-    at_first(at, check_constraints(levels, constraints))?;
-    let graph = at_first(at, graph_of(alloc, levels, constraints))?;
-    Ok(Env::new(alloc, graph))
+    at_first(at, bare_env(alloc, raw))
 }

@@ -9,7 +9,7 @@ ghost use Rattle.type_cert.specs.Retraces.{Retraces, stand};
 ghost use Rattle.env_cert.specs.EnvWalks.{main_walk, in_env};
 ghost use Rattle.env_cert.specs.Verified.{WalksAlong, Verifies, IsVerified};
 
-use crate::beginning::bare_env;
+use crate::beginning::begun;
 use crate::declarations::declarations;
 use crate::refusal::{VerifyRefusal, verified};
 use cert_rules::certificate::Cert;
@@ -61,7 +61,7 @@ fn walk_env<'x, G: Guarder>(
     // Main has the form of terms in memory.
     let _ = raw.main.view();
     let room = trail.meter.room();
-    let bare = bare_env(alloc, raw, trail.at)?;
+    let bare = begun(alloc, raw, trail.at)?;
     let env = declarations(
         alloc,
         cert,

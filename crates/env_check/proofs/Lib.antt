@@ -5,3 +5,6 @@ pub mod Constants
 pub mod Declared
 pub mod Declaring
 pub mod Whole
+pub mod Cycles
+pub mod ReadFormed
+pub mod Deriving

@@ -1,22 +1,25 @@
 -- The steps of the check one after the other.
-use Rattle.std.proofs.Common.{◌≡◌, ◌∙◌, ℕ, ◌-◌, refl, sym, ap, subst, List, [], map, length, Option, Some, None, Result, Ok, Err, IfOk, IfErr}
+use Rattle.std.proofs.Common.{◌≡◌, ◌∙◌, ℕ, ◌-◌, refl, sym, ap, subst, List, [], map, length, Option, Some, None, Result, Ok, Err, IfOk, IfErr, IsErrAnd}
 use Rattle.std.proofs.lemmas.List.{length-map}
 use Rattle.universe_levels.specs.declared.level.Level.{Level}
 use Rattle.universe_levels.specs.declared.constraint.Constraint.{Constraint}
 use Rattle.universe_levels.specs.Consistency.{IsConsistent, AreOver}
 use Rattle.universe_graph.specs.Listed.{Clashes}
+use Rattle.pc_terms.specs.Syntax.{Term}
 use Rattle.dump_reader.specs.declared.declaration.RawDecl.{RawDecl}
 use Rattle.dump_reader.specs.declared.environment.RawEnv.{RawEnv}
 use Rattle.pc_rules.specs.declared.accepted.Accepted.{Accepted}
+use Rattle.pc_rules.specs.declared.broken.Broken.{Broken as Rule}
 use Rattle.pc_rules.specs.declared.broken.Broken.TheVariants.{UniverseCycle}
+use Rattle.pc_rules.specs.declared.broken.Place.{Place}
 use Rattle.pc_rules.specs.declared.meter.Account.{Account}
 use Rattle.pc_rules.specs.declared.meter.Meter.{Meter}
 use Rattle.calculus_rules.specs.Environment.{Env}
-use Rattle.calculus_rules.specs.Accepted.{Accepted as Accepts, empty, IsAccepted}
+use Rattle.calculus_rules.specs.Accepted.{empty, IsAccepted}
 use Rattle.calculus_rules.specs.Typing.{Types, guarded}
 use Rattle.pc_rules.specs.Entailment.{entailed_by, test_of}
 use Rattle.pc_rules.specs.Follows.{IsAfter}
-use Rattle.pc_rules.specs.DirectedDeclarations.{Checked, first_repeated, first_undeclared_end, place_of, main_rule, declarations_rule, graph_rule, constraints_rule, levels_rule}
+use Rattle.pc_rules.specs.DirectedDeclarations.{Given, Checked, first_repeated, first_undeclared_end, place_of, main_rule, declarations_rule, graph_rule, constraints_rule, levels_rule}
 use Rattle.rule_laws.specs.Declarations.{IsCheckedEnvironment}
 use Rattle.inductive_check.specs.Given.{given_of}
 use Rattle.env_check.specs.declared.refusal.Refusal.{Refusal}
@@ -24,6 +27,7 @@ use Rattle.env_check.specs.declared.refusal.Refusal.TheVariants.{Broken, Spent, 
 use Rattle.env_check.specs.Rules.{givens, rules_of}
 use Rattle.env_check.specs.Answers.{CheckAnswers, AnswersFound, FollowsRules}
 use Rattle.env_check.specs.Steps.{Refuses, level_refusal, end_refusal, RefusesGraph, HasChecked}
+use Rattle.env_check.specs.Beginning.{HasSoundLevels, IsRefusedFirst, at_levels, at_constraints, at_graph}
 use Rattle.env_check.specs.Places.{StandsAt, StandsInMain, bare}
 use Rattle.env_check.proofs.Steps.{leads_is, leads_answers, place_in_main}
 use Rattle.env_check.proofs.Declaring.{checked_all, checked_whole}
@@ -82,7 +86,7 @@ module _ (raw : RawEnv) where
         answers = level_answer (first_repeated 0 [] raw.levels) (from_constraints None (2048 - m.nest) m.account) m.account e a there is;
       })
 
-  pub levels_refused : (e : Refusal) (m : Meter) → Refuses (first_repeated 0 [] raw.levels) level_refusal e → FollowsRules raw (Err e) m m
+  levels_refused : (e : Refusal) (m : Meter) → Refuses (first_repeated 0 [] raw.levels) level_refusal e → FollowsRules raw (Err e) m m
   levels_refused (Broken p b) m h = level_found (Broken p b) m h.0 h.1 h.2
   levels_refused (Spent p v) m h = level_found (Spent p v) m h.0 h.1 h.2
   levels_refused (TooDeep p) m h = level_found (TooDeep p) m h.0 h.1 h.2
@@ -106,7 +110,7 @@ module _ (raw : RawEnv) where
           answers = leads_answers _ _ (Err e) m.account (leads_is _ _ pass) (end_answer (first_undeclared_end (length raw.levels) 0 raw.constraints) go m.account e a there is);
         })
 
-    pub constraints_refused : (e : Refusal) (m : Meter) → Refuses (first_undeclared_end (length raw.levels) 0 raw.constraints) end_refusal e → FollowsRules raw (Err e) m m
+    constraints_refused : (e : Refusal) (m : Meter) → Refuses (first_undeclared_end (length raw.levels) 0 raw.constraints) end_refusal e → FollowsRules raw (Err e) m m
     constraints_refused (Broken p b) m h = end_found (Broken p b) m h.0 h.1 h.2
     constraints_refused (Spent p v) m h = end_found (Spent p v) m h.0 h.1 h.2
     constraints_refused (TooDeep p) m h = end_found (TooDeep p) m h.0 h.1 h.2
@@ -129,7 +133,7 @@ module _ (raw : RawEnv) where
             answers = leads_answers _ _ (Err e) m.account (leads_is _ _ (passes (Some places) (2048 - m.nest) m.account)) here;
           })
 
-      pub graph_refused : (e : Refusal) (m : Meter) → RefusesGraph (length raw.levels) raw.constraints e → FollowsRules raw (Err e) m m
+      graph_refused : (e : Refusal) (m : Meter) → RefusesGraph (length raw.levels) raw.constraints e → FollowsRules raw (Err e) m m
       graph_refused (Broken p b) m h = cycle_found (Broken p b) m h.0 h.1 h.2
       graph_refused (Spent p v) m h = cycle_found (Spent p v) m h.0 h.1 h.2
       graph_refused (TooDeep p) m h = cycle_found (TooDeep p) m h.0 h.1 h.2
@@ -190,11 +194,39 @@ module _ (raw : RawEnv) where
             (checked_whole E (2048 - m0.nest) (givens raw) m0.account H m1.account givens_checked raw.levels raw.constraints raw.main a.main_type once el ec t)
         main_well_formed (Err x) e t = tt
 
--- an environment without declarations, over constraints on declared levels that are consistent
+-- what is refused before the declarations
 
-pub accepted_empty : (E : Env) (levels : ℕ) (cs : List Constraint) → E.levels ≡ levels → E.constraints ≡ cs → E.declarations ≡ [] → AreOver levels cs → IsConsistent levels cs → IsAccepted E
-accepted_empty E levels cs el ec none over consistent = record {
-  over = subst (λ x. AreOver x E.constraints) (sym el) (subst (λ x. AreOver levels x) (sym ec) over);
-  consistent = subst (λ x. IsConsistent x E.constraints) (sym el) (subst (λ x. IsConsistent levels x) (sym ec) consistent);
-  declarations = subst (λ ds. Accepts E.levels E.constraints ds) (sym none) empty;
-}
+module _ (raw : RawEnv) where
+  pub first_refused : (m : Meter) (e : Refusal) → IsRefusedFirst raw e → FollowsRules raw (Err e) m m
+  first_refused m e (at_levels h) = levels_refused raw e m h
+  first_refused m e (at_constraints once h) = constraints_refused raw once e m h
+  first_refused m e (at_graph once declared h) = graph_refused raw once declared e m h
+
+  spent_broken : {p q : Place} {v : Account} {b : Rule} → Spent p v ≡ Broken q b → ⊥
+  spent_broken e = cc
+
+  deep_broken : {p q : Place} {b : Rule} → TooDeep p ≡ Broken q b → ⊥
+  deep_broken e = cc
+
+  pub first_placed : (E : Env) (n : ℕ) (ds : List Given) (main : Term) (u : Account) (e : Refusal) → IsRefusedFirst raw e → StandsAt E n ds main u e
+  first_placed E n ds main u (Broken p b) h = tt
+  first_placed E n ds main u (Spent p v) (at_levels h) = absurd (spent_broken h.2)
+  first_placed E n ds main u (Spent p v) (at_constraints once h) = absurd (spent_broken h.2)
+  first_placed E n ds main u (Spent p v) (at_graph once declared h) = absurd (spent_broken h.2)
+  first_placed E n ds main u (TooDeep p) (at_levels h) = absurd (deep_broken h.2)
+  first_placed E n ds main u (TooDeep p) (at_constraints once h) = absurd (deep_broken h.2)
+  first_placed E n ds main u (TooDeep p) (at_graph once declared h) = absurd (deep_broken h.2)
+  first_placed E n ds main u Memory h = tt
+
+-- what a `?` gives on is the refusal of its call
+pub given_on : {A : Type 0} (P : Refusal → Type 0) (r : Result A Refusal) (e : Refusal) → IsErrAnd r (λ x. x ≡ e) → P e → IfErr r P
+given_on P (Ok a) e is h = absurd is
+given_on P (Err x) e is h = subst P (sym is) h
+
+pub follows_on : (raw : RawEnv) (m : Meter) (r : Result Accepted Refusal) (e : Refusal) → IsErrAnd r (λ x. x ≡ e) → FollowsRules raw (Err e) m m → FollowsRules raw r m m
+follows_on raw m (Ok a) e is h = absurd is
+follows_on raw m (Err x) e is h = subst (λ y. FollowsRules raw (Err y) m m) (sym is) h
+
+-- the environment of sound levels that keeps nothing
+pub bare_accepted : (raw : RawEnv) → HasSoundLevels raw → IsAccepted (bare raw)
+bare_accepted raw h = record { over = h.over; consistent = h.consistent; declarations = empty }

@@ -11,9 +11,8 @@ ghost use Rattle.env_check.specs.Rules.{givens};
 ghost use Rattle.env_check.specs.Places.{StandsAt, StandsInMain, bare};
 ghost use Rattle.env_check.specs.Answers.{CheckAnswers, FollowsRules};
 
-use crate::constraints::{check_constraints, graph_of};
+use crate::beginning::bare_env;
 use crate::declarations::check_declarations;
-use crate::levels::check_levels;
 use crate::refusal::{Refusal, refusal_at};
 use dump_reader::environment::RawEnv;
 use guard_check::guard::Guard;
@@ -85,13 +84,8 @@ pub fn check_env<R: Reducer>(
     ensures main { IfOk result (λ a. a.main ≡ raw.now.main) }
     ensures well_formed { IfOk result (λ a. IsCheckedEnvironment raw.now.levels raw.now.constraints (givens raw.now) raw.now.main a.env a.main_type) }
 {
-    let levels = raw.levels.len() as u32;
-    let constraints = raw.constraints.as_slice();
-    check_levels(alloc, raw.levels.as_slice())?;
-    check_constraints(levels, constraints)?;
-    let graph = graph_of(alloc, levels, constraints)?;
+    let bare = bare_env(alloc, raw)?;
     let typer = Inference::new(reducer, LazyCompare, Guard::new(reducer));
-    let env = Env::new(alloc, graph);
-    let env = check_declarations(alloc, &typer, reducer, env, raw.decls.as_slice(), m)?;
+    let env = check_declarations(alloc, &typer, reducer, bare, raw.decls.as_slice(), m)?;
     check_main(alloc, &typer, env, &raw.main, m)
 }

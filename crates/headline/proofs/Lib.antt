@@ -1,7 +1,6 @@
 pub mod PastMaximum
 pub mod LateReturns
 pub mod EachRun
-pub mod ReadFormed
 pub mod Derived
 pub mod SourceSizes
 pub mod Writing

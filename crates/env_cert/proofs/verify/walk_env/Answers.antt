@@ -1,7 +1,8 @@
 use Rattle.std.proofs.Common.{rules, ◌≡◌, ◌-◌, [], arith, subst, sym, refl}
 use Rattle.calculus_rules.specs.Accepted.{IsAccepted}
 use Rattle.env_cert.proofs.Declaring.{accepted_ready}
-use Rattle.env_cert.proofs.Whole.{bare_accepted, declarations_along, main_along, main_well_formed, along_halted}
+use Rattle.env_check.proofs.Whole.{bare_accepted}
+use Rattle.env_cert.proofs.Whole.{declarations_along, main_along, main_well_formed, along_halted}
 use Rattle.env_cert.proofs.verify.walk_env.Goals as goal
 
 pub returns-in_err-bare-clause-walks : goal.returns-in_err-bare-clause-walks

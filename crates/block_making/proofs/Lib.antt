@@ -1,0 +1,4 @@
+pub mod InTurn
+pub mod Sorted
+pub mod Arguing
+pub mod Listing

@@ -1,0 +1,2 @@
+pub mod BlockMaking
+pub mod Collected

@@ -1,0 +1,4 @@
+pub mod Placing
+pub mod Declaring
+pub mod Whole
+pub mod Certifying

@@ -1,0 +1,4 @@
+pub mod Certified
+pub mod Refusals
+pub mod Placing
+pub mod EnvMaking
