@@ -1,6 +1,7 @@
 -- All that the tokens of a certificate spell is read, and so is what is printed.
-use Rattle.std.proofs.Common.{◌≡◌, ◌∙◌, ℕ, ◌+◌, ◌^◌, ◌<◌, Bool, true, false, if◌then◌else◌, List, [], ◌∷◌, ◌++◌, length, drop, refl, sym, ap, subst, arith, decimal}
+use Rattle.std.proofs.Common.{◌≡◌, ◌∙◌, ℕ, ◌+◌, ◌^◌, ◌<◌, Bool, true, false, if◌then◌else◌, List, [], ◌∷◌, ◌++◌, length, drop, take, get_or, refl, sym, ap, subst, arith, decimal}
 use Rattle.std.specs.Prelude.{nat_eq}
+use Rattle.std.proofs.lemmas.List.{take_more}
 use Rattle.std.proofs.lemmas.Slice.Eq.{bytes_eq-Decides}
 use Rattle.sexp_reader.specs.Text.{Text, Open, Close, Atom, Stray}
 use Rattle.sexp_reader.specs.Lex.{Spanned, is_blank, is_atom_byte, begins_atom, more_bytes, longer, atom_before, single, lex, left}
@@ -166,9 +167,18 @@ item_good (Left n) rest h g = (refl, (decimal-good n (omega arith), g))
 item_good (Right n) rest h g = (refl, (decimal-good n (omega arith), g))
 item_good Parts rest h g = (refl, g)
 
-items_good : (is : Items) → AreSmall is → AreGood (items_tokens is)
+pub items_good : (is : Items) → AreSmall is → AreGood (items_tokens is)
 items_good [] h = subst (λ ts. AreGood ts) (sym no_item) (tt, tt)
 items_good (x ∷ is) h = subst (λ ts. AreGood ts) (sym (next_item x is)) (item_good x (items_tokens is) h.0 (items_good is h.1))
+
+-- one item more of those that can be held
+
+small_with : (xs : Items) (x : CertItem) → AreSmall xs → IsWithinU32 x → AreSmall (xs ++ (x ∷ []))
+small_with [] x h w = (w, tt)
+small_with (y ∷ ys) x h w = (h.0, small_with ys x h.1 w)
+
+pub small_next : (xs : Items) (i : ℕ) (x : CertItem) → i < length xs → AreSmall (take i xs) → IsWithinU32 (get_or xs i x) → AreSmall (take (i + 1) xs)
+small_next xs i x l h w = subst (λ ys. AreSmall ys) (sym (take_more xs i x l)) (small_with (take i xs) (get_or xs i x) h w)
 
 dropped : (xs ys : List ℕ) → drop (length xs) (xs ++ ys) ≡ ys
 dropped [] ys = refl

@@ -5,12 +5,12 @@
 //!
 //! What is promised: `read_cert` answers exactly what reading as a function answers, refusals with their offsets included (`exact`), so what is
 //! read is what the tokens spell (`spells`); `print_cert` writes the certificate's text (`all`), or exactly its first `written` bytes where the
-//! sink's count of faults rose (`part`, `cause`), and that text is read back as the certificate behind any bytes (`read_back`). The law
+//! sink's count of faults rose (`part`, `cause`), and that text, whose numbers can be held (`small`), is read back as the certificate behind any bytes (`read_back`). The law
 //! `certificates_are_read` says that all that tokens spell is read (`exact`), and that a wrong token is the first that continues no text of a
 //! certificate (`first`).
 //!
 //! Below stand `kio` (sinks), `sexp_reader` (which tokens a text has), `dump_grammar` and `dump_printer` (numbers, spacing, tokens to a sink) and
-//! `cert_rules` (items); above, `text_rows`.
+//! `cert_rules` (items); above, `certified_texts`, `driver` and `text_rows`.
 #![tactic(auto)]
 
 ghost use Rattle.cert_text.specs.TextLaws.{ReadingIsExact, WrongIsFirst, PrintedIsRead};

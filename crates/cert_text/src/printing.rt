@@ -6,7 +6,7 @@ ghost use Rattle.kio.specs.Causes.{HasCause};
 ghost use Rattle.kio.specs.Known.{StillTells};
 ghost use Rattle.dump_printer.specs.CanonicalTerms.{each, numeral};
 ghost use Rattle.dump_printer.specs.Writing.{HasGone, Writes};
-ghost use Rattle.cert_text.specs.CertText.{item_tokens, cert_before, cert_text, AreSmall};
+ghost use Rattle.cert_text.specs.CertText.{item_tokens, cert_before, cert_text, AreSmall, IsWithinU32};
 ghost use Rattle.cert_text.specs.TextLaws.{IsReadBack};
 
 use cert_rules::certificate::Cert;
@@ -25,6 +25,7 @@ fn write_side<K: Sink>(out: &mut K, at: &mut Progress, word: &[u8], n: u32)
 /// An item.
 fn write_item<K: Sink>(out: &mut K, at: &mut Progress, item: CertItem)
     ensures goes { Writes (K.taken out.old) (K.taken out.new) (K.faults out.old) (K.faults out.new) at.old at.new (λ more. item_tokens item more) }
+    ensures small { IsWithinU32 item }
 {
     match item {
         CertItem::Number(n) => number(out, at, n),
@@ -39,6 +40,7 @@ fn write_item<K: Sink>(out: &mut K, at: &mut Progress, item: CertItem)
 /// The items, the first first.
 fn write_items<K: Sink>(out: &mut K, at: &mut Progress, items: &[CertItem])
     ensures goes { Writes (K.taken out.old) (K.taken out.new) (K.faults out.old) (K.faults out.new) at.old at.new (λ more. each item_tokens items.now more) }
+    ensures small { AreSmall items.now }
 {
     for item in items {
         write_item(out, at, *item);
@@ -48,6 +50,7 @@ fn write_items<K: Sink>(out: &mut K, at: &mut Progress, items: &[CertItem])
 /// The whole certificate.
 fn write_cert<K: Sink>(out: &mut K, at: &mut Progress, cert: &Cert)
     ensures goes { Writes (K.taken out.old) (K.taken out.new) (K.faults out.old) (K.faults out.new) at.old at.new (λ more. cert_before cert.now more) }
+    ensures small { AreSmall cert.now }
 {
     open(out, at);
     atom(out, at, b"cert");
@@ -65,7 +68,8 @@ pub fn print_cert<K: Sink>(cert: &Cert, out: &mut K) -> Result<(), WriteFault>
     ensures part { IfErr result (λ f. HasGone (K.taken out.old) (K.taken out.new) (cert_text cert.now) f.written) }
     ensures tells { StillTells (K.taken out.old) (K.taken out.new) }
     ensures cause { HasCause (K.faults out.old) (K.faults out.new) result }
-    ensures read_back { AreSmall cert.now → IsReadBack cert.now }
+    ensures small { AreSmall cert.now }
+    ensures read_back { IsReadBack cert.now }
 {
     let mut at = Progress {
         written: 0,

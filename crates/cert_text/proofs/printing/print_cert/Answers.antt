@@ -14,7 +14,7 @@ pub returns-then-at-clause-cause : goal.returns-then-at-clause-cause
 returns-then-at-clause-cause g c = let ts = cert_tokens c.args.cert.now in cause-of-fault _ _ _ _ _ (c.write_cert.ensures.goes (start_of (g.K.Sink.taken c.args.out.now) (g.K.Sink.faults c.args.out.now) ts) [] (begun _ _ ts)) c.if-at.true
 
 pub returns-then-at-clause-read_back : goal.returns-then-at-clause-read_back
-returns-then-at-clause-read_back g c = λ h. printed_read c.args.cert.now h
+returns-then-at-clause-read_back g c = printed_read c.args.cert.now c.write_cert.ensures.small
 
 pub returns-else-at-clause-all : goal.returns-else-at-clause-all
 returns-else-at-clause-all g c = let ts = cert_tokens c.args.cert.now in all-out _ _ _ _ (c.write_cert.ensures.goes (start_of (g.K.Sink.taken c.args.out.now) (g.K.Sink.faults c.args.out.now) ts) [] (begun _ _ ts)) c.if-at.false
@@ -26,4 +26,4 @@ pub returns-else-at-clause-cause : goal.returns-else-at-clause-cause
 returns-else-at-clause-cause g c = let ts = cert_tokens c.args.cert.now in cause-of-end _ _ _ _ (c.write_cert.ensures.goes (start_of (g.K.Sink.taken c.args.out.now) (g.K.Sink.faults c.args.out.now) ts) [] (begun _ _ ts))
 
 pub returns-else-at-clause-read_back : goal.returns-else-at-clause-read_back
-returns-else-at-clause-read_back g c = λ h. printed_read c.args.cert.now h
+returns-else-at-clause-read_back g c = printed_read c.args.cert.now c.write_cert.ensures.small
