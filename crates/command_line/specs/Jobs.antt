@@ -1,7 +1,7 @@
 -- The names of the jobs.
 use Rattle.std.specs.Prelude.{ℕ, List, Option, Some, None, bytes_eq, codes, if◌then◌else◌}
 use Rattle.command_line.specs.declared.job.Job.{Job}
-use Rattle.command_line.specs.declared.job.Job.TheVariants.{Exec, Check, Eval, Run, Compile, Bench, Explain, Export, Call, Verify}
+use Rattle.command_line.specs.declared.job.Job.TheVariants.{Exec, Check, Eval, Run, Compile, Bench, Explain, Export, Call, Verify, Cert}
 
 abbrev pub job_named : List ℕ → Option Job
 job_named name =
@@ -14,4 +14,5 @@ job_named name =
     else (if bytes_eq name (codes "explain") then Some Explain
     else (if bytes_eq name (codes "export") then Some Export
     else (if bytes_eq name (codes "call") then Some Call
-    else (if bytes_eq name (codes "verify") then Some Verify else None)))))))))
+    else (if bytes_eq name (codes "verify") then Some Verify
+    else (if bytes_eq name (codes "cert") then Some Cert else None))))))))))

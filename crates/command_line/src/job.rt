@@ -26,6 +26,8 @@ pub enum Job {
     Call,
     /// An environment is verified along the certificate that stands behind it.
     Verify,
+    /// An environment is checked, and it is written with the certificate of that.
+    Cert,
 }
 
 /// The job of this name.
@@ -43,6 +45,7 @@ pub(crate) fn job_of(name: &str) -> Option<Job>
         "export" => Some(Job::Export),
         "call" => Some(Job::Call),
         "verify" => Some(Job::Verify),
+        "cert" => Some(Job::Cert),
         _ => None,
     }
 }
