@@ -1,5 +1,5 @@
 -- The stages of a call that ends with status 0 show main's module: the headline holds of it.
-use Rattle.std.proofs.Common.{ℕ, ◌≡◌, ◌∙◌, ◌+◌, ◌*◌, List, Option, Some, Ok, refl, sym, subst}
+use Rattle.std.proofs.Common.{ℕ, ◌≡◌, ◌∙◌, ◌+◌, ◌*◌, ◌-◌, ◌≤◌, List, Option, Some, Ok, refl, sym, subst, arith}
 use Rattle.std.specs.Io.KnownBytes.{Appends}
 use Rattle.pc_terms.specs.Syntax.{Term}
 use Rattle.calculus_rules.specs.Evaluation.{Evaluates}
@@ -12,7 +12,7 @@ use Rattle.module_run.proofs.OneEnd.{ends_answer}
 use Rattle.wasm_core.specs.ModuleTyping.{IsValid}
 use Rattle.wasm_core.specs.ModuleGrammar.{SpellsModule}
 use Rattle.command_line.specs.declared.job.Job.{Job}
-use Rattle.command_line.specs.declared.job.Job.TheVariants.{Check, Compile, Exec}
+use Rattle.command_line.specs.declared.job.Job.TheVariants.{Cert, Check, Compile, Exec}
 use Rattle.command_line.specs.declared.line.Request.{Request}
 use Rattle.command_line.specs.Line.{IsInRange, request_of}
 use Rattle.command_line.proofs.Ranges.{requests_lie_in_range}
@@ -20,14 +20,16 @@ use Rattle.driver.specs.ExecEnds.{Accepting, Compiling, its_environment, its_mod
 use Rattle.driver.specs.Executed.{IsExecuted}
 use Rattle.driver.specs.Headline.{HasValue}
 use Rattle.driver.specs.MadeModule.{IsMade}
-use Rattle.driver.specs.Serve.{HasAnswer, IsInput, IsInputOf, IsAnswerOf, IsCheckAnswer}
+use Rattle.driver.specs.Serve.{HasAnswer, IsInput, IsInputOf, IsAnswerOf, IsCertAnswer, IsCheckAnswer}
 use Rattle.driver.specs.Texts.{SpellsWithin}
 use Rattle.env_check.specs.Rules.{givens}
+use Rattle.certified_texts.proofs.Behind.{both_read}
 use Rattle.checked_laws.proofs.CheckedFalse.{checked_false_has_no_value}
 use Rattle.driver.proofs.Headlines.{given, value_exact, value_runs}
+use Rattle.driver.proofs.TextCauses.{is_spelled}
 use Rattle.answer_laws.specs.MainsModule.{IsReadAs, RunsAnswer, IsMainsModule}
 use Rattle.answer_laws.proofs.Derived.{derived, given_empty}
-use Rattle.answer_laws.specs.Laws.{HasInput, HasChecked, HasCompiled, HasExecuted, CheckMeans, CompileMeans, ExecMeans}
+use Rattle.answer_laws.specs.Laws.{HasInput, HasCertified, HasChecked, HasCompiled, HasExecuted, CertMeans, CheckMeans, CompileMeans, ExecMeans}
 
 -- the input of the stages
 abbrev its_input : (left : Option (List ℕ)) (bytes : List ℕ) → IsInput left bytes → (e : RawEnv) → SpellsWithin bytes e → (turns : ℕ) → Accepting turns e → HasInput left
@@ -85,6 +87,28 @@ check_means words reports src src' out out' err err' s q e job =
     let (text, answer, w) = s.done refl in
     let a = answer_of words src.told text q Check e job answer in
     checked src.told out.told out'.told a.bytes text a.input q.turns a.answer w
+
+certified : (q : Request) (left taken taken' : Option (List ℕ)) (bytes text : List ℕ) → IsInput left bytes → IsCertAnswer q.turns bytes text → Appends taken taken' text → HasCertified q left taken taken'
+certified q left taken taken' bytes text input m w =
+    let e = m.environment in
+    let E = m.well.kept in
+    let T = m.well.type in
+    let units = q.turns - m.certified.left.left in
+    record {
+      of = record { bytes = bytes; input = input; environment = e; spelled = m.spelled; kept = E; type = T; derived = derived e E T m.well.checked };
+      items = m.items;
+      written = subst (Appends taken taken') m.text_is w;
+      read_back = λ shallow. both_read e m.items (is_spelled bytes e m.spelled) shallow m.certified.small;
+      units = units;
+      few = omega arith;
+      verified = m.certified.made.taken;
+    }
+
+pub cert_means : {S K E : Type 0} → CertMeans S K E
+cert_means words reports src src' out out' err err' s q e job =
+    let (text, answer, w) = s.done refl in
+    let a = answer_of words src.told text q Cert e job answer in
+    certified q src.told out.told out'.told a.bytes text a.input a.answer w
 
 compiled : (words : List (List ℕ)) (q : Request) → request_of words ≡ Some q → (left taken taken' : Option (List ℕ)) (bytes text : List ℕ) → IsInput left bytes →
     IsMade q.turns q.pages bytes text → Appends taken taken' text → HasCompiled q left taken taken'

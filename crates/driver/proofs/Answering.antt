@@ -3,7 +3,7 @@ use Rattle.std.proofs.Common.{◌≡◌, ℕ, List, Result, Ok, Err, ◌⊎◌, 
 use Rattle.std.specs.Prelude.{IfOk, IfErr, OnOk, IsErrAnd}
 use Rattle.dump_reader.specs.declared.environment.RawEnv.{RawEnv}
 use Rattle.command_line.specs.declared.job.Job.{Job}
-use Rattle.command_line.specs.declared.job.Job.TheVariants.{Check, Run, Explain, Call, Verify}
+use Rattle.command_line.specs.declared.job.Job.TheVariants.{Cert, Check, Run, Explain, Call, Verify}
 use Rattle.command_line.specs.declared.line.Request.{Request}
 use Rattle.driver.specs.declared.refusal.Refusal.{Refusal}
 use Rattle.driver.specs.declared.refusal.Refusal.TheVariants as refusals
@@ -33,6 +33,7 @@ on_dump _ q r bytes d h = h
 -- a refusal of the check, as one of the text
 of_check : (job : Job) (q : Request) (r : Refusal) (e : RawEnv) → IsDumpJob job → IsCheckCause q.turns r e → IsJobCause job q r e
 of_check Check q r e d h = h
+of_check Cert q r e d h = h
 of_check Run q r e d h = absurd d
 of_check Explain q r e d h = absurd d
 of_check Call q r e d h = absurd d

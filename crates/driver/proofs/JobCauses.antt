@@ -3,7 +3,7 @@ use Rattle.std.proofs.Common.{◌≡◌, ℕ, List, ◌⊎◌, inl, inr, refl}
 use Rattle.dump_reader.specs.declared.environment.RawEnv.{RawEnv}
 use Rattle.dump_reader.specs.Spelled.{IsSpelled}
 use Rattle.command_line.specs.declared.job.Job.{Job}
-use Rattle.command_line.specs.declared.job.Job.TheVariants.{Exec, Check, Eval, Run, Compile, Bench, Explain, Export, Call, Verify}
+use Rattle.command_line.specs.declared.job.Job.TheVariants.{Exec, Check, Eval, Run, Compile, Bench, Explain, Export, Call, Verify, Cert}
 use Rattle.command_line.specs.declared.line.Request.{Request}
 use Rattle.driver.specs.declared.refusal.Refusal.{Refusal}
 use Rattle.driver.specs.Lines.{status_of}
@@ -50,6 +50,7 @@ job_status Bench q r e status c n h = exec_status q.turns r e q.pages q.steps st
 job_status Explain q r e status c n h = absurd c
 job_status Call q r e status c n h = absurd c
 job_status Verify q r e status c n h = absurd c
+job_status Cert q r e status c n h = cause_status q.turns r e status c n h
 job_status Export q r e status c n h = export_status q.turns e q.pages r status (export_cause q r e c) n h
 
 -- where a job has an answer, a refusal of it would have its status
@@ -63,4 +64,5 @@ answerable_status Bench q r e bytes spelled h c n = job_status Bench q r e 0 c n
 answerable_status Explain q r e bytes spelled h c n = absurd c
 answerable_status Call q r e bytes spelled h c n = absurd c
 answerable_status Verify q r e bytes spelled h c n = absurd c
+answerable_status Cert q r e bytes spelled h c n = job_status Cert q r e 0 c n h
 answerable_status Export q r e bytes spelled h c n = job_status Export q r e 0 c n (inr (inl (has_call_module q.turns e q.pages spelled h, refl)))

@@ -47,6 +47,7 @@ pub mod Shallow
 pub mod OneStatus
 pub mod Answering
 pub mod VerifySaying
+pub mod CertSaying
 pub mod Inputs
 pub mod PartByPart
 pub mod LineByLine

@@ -3,7 +3,7 @@ use Rattle.std.proofs.Common.{◌≢◌, ℕ, List, Result, Ok, Err, ◌⊎◌, 
 use Rattle.dump_reader.specs.Front.{front_bytes}
 use Rattle.dump_reader.specs.declared.environment.RawEnv.{RawEnv}
 use Rattle.command_line.specs.declared.job.Job.{Job}
-use Rattle.command_line.specs.declared.job.Job.TheVariants.{Exec, Check, Eval, Run, Compile, Bench, Explain, Export, Call, Verify}
+use Rattle.command_line.specs.declared.job.Job.TheVariants.{Exec, Check, Eval, Run, Compile, Bench, Explain, Export, Call, Verify, Cert}
 use Rattle.command_line.specs.declared.line.Request.{Request}
 use Rattle.driver.specs.declared.refusal.Refusal.{Refusal}
 use Rattle.driver.specs.declared.refusal.Refusal.TheVariants as refusals
@@ -98,6 +98,7 @@ job_ends Run q r e s c = absurd c
 job_ends Explain q r e s c = absurd c
 job_ends Call q r e s c = absurd c
 job_ends Verify q r e s c = absurd c
+job_ends Cert q r e s c = check_ends q.turns r e s c
 job_ends Compile q r e s c = make_ends q.turns e s q.pages 0 r c
 job_ends Export q r e s c = export_ends q.turns e s q.pages r c
 job_ends Bench q r e s c = exec_ends q.turns e s q.pages q.steps r c
@@ -207,6 +208,10 @@ answer_judged Call q bytes text s a =
       inr (called_ends q bytes e (s e a.spelled) a.stages.before.before.before.before (Ok text) (a.stages, a.text_is)),
     )
 answer_judged Verify q bytes text s a = (a.environment, a.spelled, walked_ends q.turns a.environment bytes (s a.environment a.spelled) a.walked)
+answer_judged Cert q bytes text s a =
+    let m = a.certified.made in
+    let e = a.environment in
+    (e, a.spelled, accepted_ends q.turns e (s e a.spelled) (accepted_by q.turns e m.kept m.type a.certified.left m.accepted))
 answer_judged Bench q bytes text s a =
     let x = a.executed in
     (x.environment, x.spelled, exec_answers q.turns x.environment (s x.environment x.spelled) q.pages q.steps a.answer (x.stages, x.text_is))

@@ -19,7 +19,7 @@ use Rattle.driver.specs.declared.refusal.Refusal.{Refusal}
 use Rattle.driver.specs.declared.refusal.Refusal.TheVariants as refusals
 use Rattle.driver.specs.Lines.{refusal_of}
 use Rattle.command_line.specs.declared.job.Job.{Job}
-use Rattle.command_line.specs.declared.job.Job.TheVariants.{Exec, Check, Eval, Run, Compile, Bench, Explain, Export, Call, Verify}
+use Rattle.command_line.specs.declared.job.Job.TheVariants.{Exec, Check, Eval, Run, Compile, Bench, Explain, Export, Call, Verify, Cert}
 use Rattle.driver.specs.Lines.{status_of}
 use Rattle.driver.specs.Texts.{SpellsWithin, Refuses}
 use Rattle.driver.specs.Judged.{IsAcceptedBy, EndsWith}
@@ -299,6 +299,9 @@ judged_answer Export q bytes text status short (e, s, ends) a =
     exported_status q.turns a.environment q.pages status a.stages a.small (subst (λ x. ExportEndsWith q.turns x q.pages status) (one_environment bytes e a.environment s a.spelled) ends)
 judged_answer Call q bytes text status short (e, s, ends) a = called_status q.turns e bytes q.pages q.steps text status (called_on q bytes text e s a) ends
 judged_answer Verify q bytes text status short (e, s, ends) a = walked_status q.turns e bytes status (walked_on q.turns bytes text e s a) ends
+judged_answer Cert q bytes text status short (e, s, ends) a =
+    let m = a.certified.made in
+    check_judged q.turns bytes e a.environment status s ends a.spelled (accepted_by q.turns a.environment m.kept m.type a.certified.left m.accepted)
 
 -- What the reader gives is spelled within the limits.
 pub within_limits : (bytes : List ℕ) (e : RawEnv) → IsVerdict bytes (Ok e) → SpellsWithin bytes e

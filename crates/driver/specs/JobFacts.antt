@@ -61,7 +61,7 @@ pub record AreCalledFacts (q : Request) (bytes : List ℕ) (facts : List Fact) :
   pub run : AreCallFacts (its_call_module q.pages stages) q.pages q.steps reading.arguments ran
   pub are : facts ≡ check ++ ran
 
--- those of a job; by `verify`, which makes no check of its own, there are none
+-- those of a job, by `cert` as by `check`; by `verify`, which makes no check of its own, there are none
 abbrev pub AreJobFacts : Job → Request → List ℕ → List Fact → Type 0
 AreJobFacts Exec q bytes facts = AreExecFacts q bytes facts
 AreJobFacts Bench q bytes facts = AreExecFacts q bytes facts

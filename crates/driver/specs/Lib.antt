@@ -19,9 +19,11 @@ pub mod Called
 pub mod CallFinishes
 pub mod RunFile
 pub mod VerifyEnds
+pub mod CertEnds
 pub mod Explained
 pub mod Serve
 pub mod ExplainSays
+pub mod CertSays
 pub mod BesideCheck
 pub mod ByHistory
 pub mod PlainAnswer

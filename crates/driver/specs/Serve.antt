@@ -9,12 +9,13 @@ use Rattle.pc_terms.specs.Syntax.{Term}
 use Rattle.pc_rules.specs.declared.accepted.Accepted.{Accepted}
 use Rattle.pc_rules.specs.declared.meter.Account.{Account}
 use Rattle.calculus_rules.specs.Environment.{Env}
+use Rattle.cert_rules.specs.Walk.{Items}
 use Rattle.rule_laws.specs.Declarations.{IsCheckedEnvironment}
 use Rattle.env_check.specs.Rules.{givens}
 use Rattle.driver.specs.declared.refusal.Refusal.{Refusal}
 use Rattle.driver.specs.declared.refusal.Refusal.TheVariants as refusals
 use Rattle.command_line.specs.declared.job.Job.{Job}
-use Rattle.command_line.specs.declared.job.Job.TheVariants.{Exec, Check, Eval, Run, Compile, Bench, Explain, Export, Call, Verify}
+use Rattle.command_line.specs.declared.job.Job.TheVariants.{Exec, Check, Eval, Run, Compile, Bench, Explain, Export, Call, Verify, Cert}
 use Rattle.command_line.specs.declared.line.Request.{Request}
 use Rattle.command_line.specs.Line.{request_of}
 use Rattle.driver.specs.Answerable.{IsAnswerable}
@@ -34,6 +35,8 @@ use Rattle.driver.specs.CallEnds.{IsCallStop}
 use Rattle.driver.specs.Called.{IsCallAnswer, CallIsJudged, CallRestEndsWith}
 use Rattle.driver.specs.RunFile.{IsRunAnswer, IsRunCause, RunEndsWith}
 use Rattle.driver.specs.Explained.{IsExplained}
+use Rattle.certified_texts.specs.ReadBack.{certified_text}
+use Rattle.driver.specs.CertEnds.{IsCertified}
 use Rattle.driver.specs.VerifyEnds.{IsCertificateCause, IsWalked, VerifyIsJudged, WalkEndsWith}
 use Rattle.driver.specs.Judged.{IsAcceptedBy, IsSpentBy, IsTooDeepFor, IsBrokenBy, EndsWith}
 
@@ -83,6 +86,15 @@ pub record IsVerifyAnswer (turns : ℕ) (bytes text : List ℕ) : Type 0 where
   pub well : IsWell environment
   pub text_is : text ≡ codes "ok\n"
 
+-- The text is the answer of `cert` on the input: the canonical text of the environment that it spells, which is well formed, and the text of the certificate that the directed rules write of it.
+pub record IsCertAnswer (turns : ℕ) (bytes text : List ℕ) : Type 0 where
+  pub environment : RawEnv
+  pub spelled : SpellsWithin bytes environment
+  pub items : Items
+  pub certified : IsCertified turns environment items
+  pub well : IsWell environment
+  pub text_is : text ≡ certified_text environment items
+
 -- The text is the answer on the input of a job with the numbers of a request.
 abbrev pub IsAnswerOf : Job → Request → (bytes text : List ℕ) → Type 0
 IsAnswerOf Exec q bytes text = IsExecuted q.turns q.pages q.steps bytes text
@@ -95,6 +107,7 @@ IsAnswerOf Explain q bytes text = IsCheckAnswer q.turns bytes text ⊎ IsExplain
 IsAnswerOf Export q bytes text = IsExported q.turns q.pages bytes text
 IsAnswerOf Call q bytes text = IsCallAnswer q.turns q.pages q.steps bytes text
 IsAnswerOf Verify q bytes text = IsVerifyAnswer q.turns bytes text
+IsAnswerOf Cert q bytes text = IsCertAnswer q.turns bytes text
 
 -- The input, and the answer on it of the job that the words ask for.
 pub record HasAnswer (words : List (List ℕ)) (left : Option (List ℕ)) (text : List ℕ) : Type 0 where
@@ -122,6 +135,7 @@ IsJobCause Bench q r e = IsCheckCause q.turns r e ⊎ (IsExecCause q.turns q.pag
 IsJobCause Explain q r e = ⊥
 IsJobCause Call q r e = ⊥
 IsJobCause Verify q r e = ⊥
+IsJobCause Cert q r e = IsCheckCause q.turns r e
 IsJobCause Export q r e = IsCheckCause q.turns r e ⊎ (IsExportCause q.turns q.pages r e × IsLargeForCall q.turns r e)
 
 -- the environment that the text spells shows it
@@ -354,6 +368,7 @@ JobEndsWith Bench q e status = ExecEndsWith q.turns e q.pages q.steps status
 JobEndsWith Explain q e status = status ≡ 0
 JobEndsWith Call q e status = ⊥
 JobEndsWith Verify q e status = ⊥
+JobEndsWith Cert q e status = EndsWith q.turns e status
 JobEndsWith Export q e status = ExportEndsWith q.turns e q.pages status
 
 -- the text spells an environment, and the job ends with this status
@@ -370,7 +385,7 @@ IsJudgedWith job q status bytes = IsDumpJudgedWith job q status bytes
 -- an environment on which the job has an answer, and by `call` and `verify` besides the input's bytes: by `exec` one whose main's module answers data of main's type, by `check` a plain one that keeps all rules,
 -- by `eval` one whose main has a value that is data, by `compile` one whose main has a module within 16 MiB, as the passes or its sizes show, by `explain` each, by `export` one whose main has so
 -- a module for calls, by `call` one whose main's module answers data of the answer's types on the arguments behind it, by `verify` one along whose certificate behind it
--- the walk comes to its end
+-- the walk comes to its end, by `cert` one that the directed rules accept within the units and the limits
 abbrev pub IsAnswerableBy : Job → Request → RawEnv → List ℕ → Type 0
 IsAnswerableBy Exec q e bytes = RestEndsWith q.turns e q.pages q.steps 0
 IsAnswerableBy Check q e bytes = (0 < q.turns) × IsAnswerable e
@@ -381,6 +396,7 @@ IsAnswerableBy Bench q e bytes = RestEndsWith q.turns e q.pages q.steps 0
 IsAnswerableBy Explain q e bytes = Unit {0}
 IsAnswerableBy Call q e bytes = CallRestEndsWith q.turns e bytes q.pages q.steps 0
 IsAnswerableBy Verify q e bytes = WalkEndsWith q.turns e bytes 0
+IsAnswerableBy Cert q e bytes = EndsWith q.turns e 0
 IsAnswerableBy Export q e bytes = HasCallModule q.turns e q.pages
 
 -- a status that comes after the check: 0, 4 and those from 10 on

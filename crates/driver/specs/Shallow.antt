@@ -6,7 +6,7 @@ use Rattle.pc_rules.specs.DirectedRun.{Run as RuleRun}
 use Rattle.dump_reader.specs.Front.{front_bytes}
 use Rattle.dump_reader.specs.declared.environment.RawEnv.{RawEnv}
 use Rattle.command_line.specs.declared.job.Job.{Job}
-use Rattle.command_line.specs.declared.job.Job.TheVariants.{Check, Eval, Run, Explain, Export, Call, Verify}
+use Rattle.command_line.specs.declared.job.Job.TheVariants.{Check, Eval, Run, Explain, Export, Call, Verify, Cert}
 use Rattle.driver.specs.Exported.{CallRulesAreWithin}
 use Rattle.driver.specs.ExecEnds.{Accepting, Searching, erasure_of}
 use Rattle.driver.specs.Judged.{IsJudged}
@@ -14,7 +14,7 @@ use Rattle.driver.specs.SourceEnds.{Ended, IsSourceRun}
 use Rattle.driver.specs.Texts.{SpellsWithin}
 use Rattle.driver.specs.VerifyEnds.{WalkIsShallow}
 
--- by those of the check; and of what comes after it by `eval`, by the jobs that make main's module, and by `export` and `call`; `explain` answers whatever they come to
+-- by those of the check, `cert` has no others; and of what comes after it by `eval`, by the jobs that make main's module, and by `export` and `call`; `explain` answers whatever they come to
 
 abbrev pub CheckIsShallow : (turns : ℕ) → RawEnv → Type 0
 CheckIsShallow turns e = (rules : Checked) → IsJudged turns e rules → rules.deep ≡ false
@@ -40,6 +40,7 @@ IsShallow Explain turns e = Unit {0}
 IsShallow Export turns e = CallIsShallow turns e
 IsShallow Call turns e = CallIsShallow turns e
 IsShallow Verify turns e = Unit {0}
+IsShallow Cert turns e = CheckIsShallow turns e
 IsShallow _ turns e = ModuleIsShallow turns e
 
 -- so of the environment that a text spells

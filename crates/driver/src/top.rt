@@ -23,6 +23,7 @@ ghost use Rattle.driver.specs.ByHistory.{EndSays, ReadsToEnd, ServedByHistory, b
 
 use crate::bench::{bench, made_text};
 use crate::call::call;
+use crate::cert::cert;
 use crate::check::check;
 use crate::err_line::write_line;
 use crate::eval::eval;
@@ -71,7 +72,7 @@ fn input_of<S: Source>(alloc: Global, request: Request, src: &mut S) -> Result<V
         Job::Bench => made_text(alloc, request.size),
         Job::Exec | Job::Check | Job::Eval | Job::Run => read_input(alloc, src),
         Job::Compile | Job::Explain | Job::Export => read_input(alloc, src),
-        Job::Call | Job::Verify => read_input(alloc, src),
+        Job::Call | Job::Verify | Job::Cert => read_input(alloc, src),
     }
 }
 
@@ -97,6 +98,7 @@ fn answer_on<R: Report>(
         Job::Export => export(alloc, request, bytes, reports),
         Job::Call => call(alloc, request, bytes, reports),
         Job::Verify => verify(alloc, request, bytes),
+        Job::Cert => cert(alloc, request, bytes, reports),
     }
 }
 
@@ -200,6 +202,7 @@ fn serve_whole<S: Source, K: Sink, E: Sink>(
 /// `compile` does the same up to the module, and writes its bytes. `export` accepts it so, finds the signature of main's type, which are the first-order types of each argument and of the answer,
 /// and writes the bytes of the module for calls of main. `bench` reads nothing: it makes the text of `--size`, does with it what `exec` does, and writes five lines, the
 /// declarations, the module's bytes, the run's steps and pages, and the answer.
+/// `cert` accepts it as `check` does, and writes its canonical text and the certificate that the rules write while they check, each with LF.
 /// `verify` goes along the certified walk of an environment, with the certificate behind it, and writes `ok` with LF where that is accepted, so only where every declaration and main have a derivation by the typing rules.
 /// `run` decodes, validates and runs a module, and writes the data that it answers by the numbers of constructors, with LF.
 ///
@@ -210,7 +213,7 @@ fn serve_whole<S: Source, K: Sink, E: Sink>(
 /// exhausted; 12 the steps are spent; 13 the bytes spell no module; 14 the module is invalid; 15 the run trapped, an entry is missing, a segment passes the table, the result is no
 /// data, or by `eval` main has no value or its value is no data of its type; 16 by `call` an argument is of another type; 17 by `verify` the walk is refused at an item. By `explain` 8, 9 and the limit of depth behind the text never come.
 ///
-/// Each report is told the facts of the check before a run: a declaration each, a constant without a body each, a use of a rule each, up to the end of main's check; and by `exec`, `bench` and
+/// Each report is told the facts of the check, by `cert` of the one that writes, before a run: a declaration each, a constant without a body each, a use of a rule each, up to the end of main's check; and by `exec`, `bench` and
 /// `run` those of the run: each step with its class, each grow of memory that wasn't refused. `run` and `verify` have no check, and by `explain` there are none where the check doesn't accept. On status 0 `err` then takes a line `report NAME COUNT` for each, in order; the
 /// reports are dropped at every status.
 ///
@@ -226,7 +229,8 @@ pub fn serve<S: Source, K: Sink, E: Sink>(
     err: &mut E,
     reports: Vec<Box<dyn Report>>,
 ) -> u8
-    // The answer: the text spells an environment that is well formed, and out takes `ok`, by `verify` too, where the certificate behind it is accepted, the text of main's value, or of what main's module answers, or the bytes of that module or of the one for calls; by `run` the text of what the
+    // The answer: the text spells an environment that is well formed, and out takes `ok`, by `verify` too, where the certificate behind it is accepted, by `cert` its canonical text and its
+    // certificate, the text of main's value, or of what main's module answers, or the bytes of that module or of the one for calls; by `run` the text of what the
     // module of the input answers; by `explain` the check may refuse it, and then out takes what explains that.
     ensures done { result ≡ 0 → (text : List ℕ) × HasAnswer (words_of words.now) (S.left src.old) text × Appends (K.taken out.old) (K.taken out.new) text }
     ensures statuses { Contains (0 ∷ 1 ∷ 2 ∷ 3 ∷ 4 ∷ 5 ∷ 6 ∷ 7 ∷ 8 ∷ 9 ∷ 10 ∷ 11 ∷ 12 ∷ 13 ∷ 14 ∷ 15 ∷ 16 ∷ 17 ∷ []) result }

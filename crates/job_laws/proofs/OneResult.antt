@@ -18,7 +18,7 @@ use Rattle.module_run.specs.FileEnds.{FileEnds}
 use Rattle.module_run.proofs.OneFileEnd.{file_end_is_one}
 use Rattle.module_run.proofs.OneRun.{one_run, went_on}
 use Rattle.command_line.specs.declared.job.Job.{Job}
-use Rattle.command_line.specs.declared.job.Job.TheVariants.{Exec, Check, Eval, Run, Compile, Bench, Explain, Export, Call, Verify}
+use Rattle.command_line.specs.declared.job.Job.TheVariants.{Exec, Check, Eval, Run, Compile, Bench, Explain, Export, Call, Verify, Cert}
 use Rattle.command_line.specs.declared.line.Request.{Request}
 use Rattle.driver.specs.Bench.{five_lines, lines_of}
 use Rattle.driver.specs.ExecEnds.{Answering, Compiling, its_module, its_shapes}
@@ -30,6 +30,7 @@ use Rattle.driver.proofs.CallCauses.{one_answer_set, one_call_module}
 use Rattle.driver.proofs.CallJobCauses.{one_call_answer}
 use Rattle.driver.proofs.ExecCauses.{one_acceptance, one_answer, one_module, one_set}
 use Rattle.driver.proofs.TextCauses.{benched_on, called_on, executed_on, one_environment}
+use Rattle.job_laws.proofs.OneCertificate.{certified_text_is_one}
 use Rattle.job_laws.proofs.OneText.{names_alike, text_is_one}
 
 line_is_one : (N : Naming) (ds es : Data) (line other text text' : List ℕ) → ds ≡ es → IsText N 0 ds line → IsText N 0 es other → text ≡ line ++ 10 ∷ [] → text' ≡ other ++ 10 ∷ [] → text ≡ text'
@@ -130,6 +131,8 @@ answer_is_one Call q bytes text text' short n m a b =
     let (x, line) = called_on q bytes text b.environment b.spelled a in
     called_text_is_one q.turns b.environment bytes q.pages q.steps x b.stages text text' line b.text_is
 answer_is_one Verify q bytes text text' short n m a b = a.text_is ∙ sym b.text_is
+answer_is_one Cert q bytes text text' short n m a b =
+    a.text_is ∙ certified_text_is_one q.turns a.environment b.environment a.items b.items (one_environment bytes a.environment b.environment a.spelled b.spelled) a.certified b.certified ∙ sym b.text_is
 answer_is_one Bench q bytes text text' short n m a b =
     let e = b.executed.environment in
     let (answer, x, line, is) = benched_on q bytes text e b.executed.spelled a in

@@ -24,6 +24,7 @@ fn name_of(job: Job) -> &'static str {
         Job::Export => "export",
         Job::Call => "call",
         Job::Verify => "verify",
+        Job::Cert => "cert",
     }
 }
 

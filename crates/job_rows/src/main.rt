@@ -15,6 +15,7 @@
 //! | `exported` | `serve` and `serve twice`, of the job `export` |
 //! | `called` | `serve`, of the job `call` |
 //! | `verified` | `serve`, of the job `verify` |
+//! | `certified` | `serve` of the job `cert`, and `serve twice` of `cert` and then `verify` |
 //! | `faults` | `serve at each prefix`, `serve with each fault` (`failing:` says whose calls, `calls:` how many), `serve` |
 #![tactic(auto)]
 
@@ -46,6 +47,7 @@ enum Layer {
     Exported,
     Called,
     Verified,
+    Certified,
 }
 
 impl Table for Layer {
@@ -64,6 +66,7 @@ impl Table for Layer {
             Layer::Exported => "exported.rows",
             Layer::Called => "called.rows",
             Layer::Verified => "verified.rows",
+            Layer::Certified => "certified.rows",
         }
     }
 
@@ -79,7 +82,8 @@ impl Table for Layer {
             | Layer::Explained
             | Layer::Exported
             | Layer::Called
-            | Layer::Verified => { jobs::run(case, out) }
+            | Layer::Verified
+            | Layer::Certified => { jobs::run(case, out) }
             Layer::Lines => lines::run(case, out),
             Layer::Faults => faults::run(case, out),
         }
@@ -103,6 +107,7 @@ fn main(rt: HostRuntime) -> io::Result<()> {
             Layer::Exported,
             Layer::Called,
             Layer::Verified,
+            Layer::Certified,
         ],
     )
 }
