@@ -2,7 +2,7 @@
 import re
 
 NUMBERS = (b"0", b"1", b"7", b"007", b"+3", b"-1", b"4096", b"4097", b"16384", b"16385", b"4294967295", b"4294967296", b"1e3", b"0x10", b"", b" 1", b"9" * 400)
-JOBS = (b"check", b"explain", b"exec", b"eval", b"compile", b"export", b"call", b"verify", b"run", b"bench")
+JOBS = (b"check", b"explain", b"exec", b"eval", b"compile", b"export", b"call", b"cert", b"verify", b"run", b"bench")
 PIECES = (*JOBS, b"walk", b"--turns", b"--pages", b"--steps", b"--size", b"--turn", b"--help", b"-h", b"-V", b"--version", b"help", b"--", b"-", b"",
           b"\xff\xfe", "é".encode(), b"--turns=", b"x" * 100_000, *NUMBERS)
 
