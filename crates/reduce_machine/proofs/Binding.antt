@@ -5,6 +5,9 @@ use Rattle.pc_terms.specs.declared.term.MakeFault.TheVariants.{TooDeep}
 use Rattle.redexes.proofs.Unfolding.{body_beyond}
 use Rattle.pc_terms.specs.declared.term.MakeFault.{MakeFault}
 use Rattle.pc_terms.specs.Syntax.{Term, App, apply, put_all}
+use Rattle.calculus_rules.specs.Context.{Values}
+use Rattle.calculus_rules.specs.Environment.{Env}
+use Rattle.reduce_machine.specs.Reducts.{AreWaiting}
 use Rattle.reduce_machine.specs.Layered.{plug, ToArgument}
 use Rattle.reduce_machine.specs.Layers.{layers}
 use Rattle.reduce_machine.specs.Reads.{stands, read}
@@ -13,6 +16,7 @@ use Rattle.reduce_machine.specs.declared.bindings.Lazy.{Lazy}
 use Rattle.reduce_machine.specs.declared.frames.Frame.{Frame}
 use Rattle.reduce_machine.specs.declared.frames.Frame.TheVariants.{Argument}
 use Rattle.reduce_machine.proofs.Arms.{drop_item}
+use Rattle.reduce_machine.proofs.Keeping.{waiting_pushed}
 use Rattle.reduce_machine.proofs.Layering.{layers_last, sound_pushed}
 use Rattle.reduce_machine.proofs.Plugging.{plug_last}
 
@@ -61,6 +65,11 @@ pub push_plugs : (fs gs : List Frame) (a : Lazy) (r : Result (Unit {0}) MakeFaul
     IfOk r (λ _. (t : Term) → plug (layers gs) t ≡ plug (layers fs) (App t (read a)))
 push_plugs fs gs a (Ok u) e = λ t. pushed_plug fs gs a t e
 push_plugs fs gs a (Err x) e = e
+
+pub push_waits : (fs gs : List Frame) (a : Lazy) (r : Result (Unit {0}) MakeFault) → IfOk r (λ _. gs ≡ fs ++ (Argument a ∷ [])) →
+    IfOk r (λ _. (E : Env) (V : Values) (u : ℕ) (t : Term) → AreWaiting E V u fs (App t (read a)) → AreWaiting E V u gs t)
+push_waits fs gs a (Ok x) e = λ E V u t h. waiting_pushed E V u fs gs (Argument a) t e tt h
+push_waits fs gs a (Err x) e = e
 
 pub push_sounds : (fs gs : List Frame) (a : Lazy) (r : Result (Unit {0}) MakeFault) → AreSound fs → IfOk r (λ _. gs ≡ fs ++ (Argument a ∷ [])) → IfOk r (λ _. AreSound gs)
 push_sounds fs gs a (Ok u) s e = pushed_sound fs gs a e s

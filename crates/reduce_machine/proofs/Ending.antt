@@ -1,5 +1,5 @@
 -- How reduction ends, by the run that it follows.
-use Rattle.std.proofs.Common.{◌≡◌, ◌⊎◌, inl, inr, IsTrue, Err, List, Some, refl, arith}
+use Rattle.std.proofs.Common.{◌≡◌, ℕ, zero, suc, ◌+◌, ◌<◌, ◌≤◌, ◌⊎◌, inl, inr, IsTrue, Err, List, Some, refl, ap, ◌∙◌, arith}
 use Rattle.trees.specs.Measures.{IsBeyond}
 use Rattle.pc_terms.specs.Syntax.{Term}
 use Rattle.pc_rules.specs.declared.meter.Meter.{Meter}
@@ -17,9 +17,11 @@ use Rattle.reduce_machine.specs.declared.steps.Step.{Step}
 use Rattle.reduce_machine.specs.Layered.{Layer, plug, AreFrames}
 use Rattle.reduce_machine.specs.Steps.{contractum, source, IsStepIn}
 use Rattle.reduce_machine.specs.Payment.{HasNoResult}
-use Rattle.reduce_machine.proofs.Plugging.{plug_beyond}
+use Rattle.reduce_machine.specs.Reducts.{after, ticks}
+use Rattle.reduce_machine.proofs.Keeping.{after_first, goes_far}
+use Rattle.reduce_machine.proofs.Plugging.{plug_beyond, plug_steps}
 use Rattle.reduction.proofs.Running.{spent}
-use Rattle.reduction.proofs.Ending.{goes_on}
+use Rattle.reduction.proofs.Ending.{GoesOn, goes_on}
 
 spent_follows : (d : Run Term) (E : Env) (V : Values) (t next : Term) (m0 m1 m2 : Meter) → Leads d (whnf E V t m1.account) → weak_next E V t ≡ Some next →
     IsAfter m0 m1 → m1.account.left ≡ 0 → m2.account ≡ ticked m1.account → m2.nest ≡ m1.nest → Follows d (halted {A = Term} (Err Spent)) m0 m2
@@ -40,3 +42,42 @@ unpaid_follows d E V t fs r TooDeep m0 m1 m2 l y a e q f h k n =
     deep (inl b) g = y (beyond_is t (q.part b))
     deep (inr b) g = g (beyond_is (plug fs (contractum r)) (plug_beyond fs (contractum r) f b))
 unpaid_follows d E V t fs r Memory m0 m1 m2 l y a e q f h k n = record { answer = tt; after = after-trans m0 m1 m2 a (after-tick m1 m2 k n) }
+
+-- units that were taken one after the other
+after_ticks : (n : ℕ) (m1 m2 : Meter) → m2.account ≡ ticks n m1.account → m2.nest ≡ m1.nest → IsAfter m1 m2
+after_ticks zero m1 m2 k e =
+    let q : m2.account ≡ m1.account = k in
+    record { nest = e; left = rw q (omega arith); uses = λ i. rw q (omega arith) }
+after_ticks (suc n) m1 m2 k e =
+    let x : Meter = record { account = ticked m1.account; nest = m1.nest; nested = m1.nested } in
+    after-trans m1 x m2 (after-tick m1 x refl refl) (after_ticks n x m2 k e)
+
+-- what is known of a term in its frames, when its units are taken
+pub known_goes : (d : Run Term) (E : Env) (V : Values) (n : ℕ) (fs : List Layer) (t v : Term) (m0 m1 m2 : Meter) → AreFrames fs → n ≤ m1.account.left →
+    after E V n t ≡ Some v → Leads d (whnf E V (plug fs t) m1.account) → (IsTrue (is_beyond (plug fs t)) → IsTrue d.deep) → IsAfter m0 m1 →
+    m2.account ≡ ticks n m1.account → m2.nest ≡ m1.nest → GoesOn d E V (plug fs v) m0 m2
+known_goes d E V n fs t v m0 m1 m2 f l e h b a k q =
+    let g = goes_far d E V n fs t v m1.account f l e h b in
+    record { leads = rw k g.leads; beyond = g.beyond; after = after-trans m0 m1 m2 a (after_ticks n m1 m2 k q) }
+
+-- and where there are not so many
+spends_by : (d : Run Term) (E : Env) (V : Values) (k n : ℕ) (fs : List Layer) (t v : Term) (m0 m1 m2 : Meter) → AreFrames fs → m1.account.left ≡ k → k < n →
+    after E V n t ≡ Some v → Leads d (whnf E V (plug fs t) m1.account) → IsAfter m0 m1 → m2.account ≡ ticks (suc k) m1.account → m2.nest ≡ m1.nest →
+    Follows d (halted {A = Term} (Err Spent)) m0 m2
+spends_by d E V k zero fs t v m0 m1 m2 f z l e h a p q = absurd (omega (arith, l))
+spends_by d E V zero (suc n) fs t v m0 m1 m2 f z l e h a p q =
+    let s = after_first E V n t v e in
+    spent_follows d E V (plug fs t) (plug fs s.next) m0 m1 m2 h (plug_steps E V fs t s.next f s.step) a z p q
+spends_by d E V (suc k) (suc n) fs t v m0 m1 m2 f z l e h a p q =
+    let s = after_first E V n t v e in
+    let x : Meter = record { account = ticked m1.account; nest = m1.nest; nested = m1.nested } in
+    let w : x.account.left ≡ k = omega (arith, z) in
+    let g = goes_on d E V (plug fs t) (plug fs s.next) (plug fs s.next) m0 m1 x h a (plug_steps E V fs t s.next f s.step) refl (omega (arith, z)) refl refl in
+    spends_by d E V k n fs s.next v m0 x m2 f w (omega (arith, l)) s.rest g.leads g.after p q
+
+pub known_spends : (d : Run Term) (E : Env) (V : Values) (n : ℕ) (fs : List Layer) (t v : Term) (m0 m1 m2 : Meter) → AreFrames fs → m1.account.left < n →
+    after E V n t ≡ Some v → Leads d (whnf E V (plug fs t) m1.account) → IsAfter m0 m1 → m2.account ≡ ticks (m1.account.left + 1) m1.account →
+    m2.nest ≡ m1.nest → Follows d (halted {A = Term} (Err Spent)) m0 m2
+known_spends d E V n fs t v m0 m1 m2 f l e h a p q =
+    let z : m1.account.left + 1 ≡ suc m1.account.left = omega arith in
+    spends_by d E V m1.account.left n fs t v m0 m1 m2 f refl l e h a (p ∙ ap (λ k. ticks k m1.account) z) q

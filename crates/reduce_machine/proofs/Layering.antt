@@ -1,9 +1,9 @@
 -- Frames whose parts stand under bindings: one put on, one taken off, and what is in them.
-use Rattle.std.proofs.Common.{◌≡◌, ℕ, suc, ◌+◌, ◌<◌, ◌≤◌, List, [], ◌∷◌, ◌++◌, length, Option, Some, None, refl, sym, ap, ◌∙◌, subst as along, arith, length-append, append_assoc, append-nil, slice_get, IfSome}
+use Rattle.std.proofs.Common.{◌≡◌, ℕ, suc, ◌+◌, ◌<◌, ◌≤◌, ◌⊎◌, inl, inr, List, [], ◌∷◌, ◌++◌, length, Option, Some, None, refl, sym, ap, ◌∙◌, subst as along, arith, length-append, append_assoc, append-nil, slice_get, IfSome}
 use Rattle.pc_terms.specs.declared.leaf.FamilyId.{FamilyId}
 use Rattle.pc_terms.specs.Syntax.{Term, Terms, Rel, App, Case, substitute}
 use Rattle.reduction.specs.Frames.{with_scrutinee, work, IsMatch}
-use Rattle.reduce_machine.specs.Layered.{Layer, ToArgument, InMatch, around, plug, IsFrame, AreFrames, weights}
+use Rattle.reduce_machine.specs.Layered.{Layer, ToArgument, InMatch, ByItself, around, plug, IsFrame, AreFrames, weights}
 use Rattle.reduce_machine.specs.Layers.{layer, layers, IsLayer, AreLayers, IsMatchNode}
 use Rattle.reduce_machine.specs.Reads.{stands, read}
 use Rattle.reduce_machine.specs.Sought.{whole, load, way, AreSound, IsRoot, IsStart, IsRooted, IsGrown}
@@ -11,7 +11,7 @@ use Rattle.reduce_machine.specs.Steps.{IsStepIn}
 use Rattle.reduce_machine.specs.declared.steps.Step.{Step}
 use Rattle.reduce_machine.specs.declared.bindings.Lazy.{Lazy}
 use Rattle.reduce_machine.specs.declared.frames.Frame.{Frame}
-use Rattle.reduce_machine.specs.declared.frames.Frame.TheVariants.{Argument, Scrutinee}
+use Rattle.reduce_machine.specs.declared.frames.Frame.TheVariants.{Argument, Scrutinee, Update}
 use Rattle.reduce_machine.specs.declared.machine.Machine.{Machine}
 use Rattle.reduce_machine.specs.declared.machine.Root.{Root}
 use Rattle.reduce_machine.proofs.Plugging.{plug_append, plug_last, frames_last, frames_before, weights_last}
@@ -70,7 +70,7 @@ grown_on m n o g h = (
 )
 
 -- into the function of an application
-app_read : (m n : Machine) (g a : Term) (l : Lazy) → n.focus.env ≡ m.focus.env → n.focus.term ≡ g → App g a ≡ m.focus.term → read l ≡ substitute (stands m.focus.env.items) a →
+pub app_read : (m n : Machine) (g a : Term) (l : Lazy) → n.focus.env ≡ m.focus.env → n.focus.term ≡ g → App g a ≡ m.focus.term → read l ≡ substitute (stands m.focus.env.items) a →
     App (read n.focus) (read l) ≡ read m.focus
 app_read m n g a l p q v r =
     (λ j. App (substitute (stands (p j).items) (q j)) (r j)) ∙ ap (substitute (stands m.focus.env.items)) v
@@ -97,7 +97,7 @@ app_entered m n g a l s e p q v r =
     }
 
 -- into the scrutinee of a match
-case_read : (m n : Machine) (f : FamilyId) (ps : Terms) (k : ℕ) (ret t : Term) (bs : Terms) (o : Lazy) → o ≡ m.focus → Case f ps k ret t bs ≡ m.focus.term →
+pub case_read : (m n : Machine) (f : FamilyId) (ps : Terms) (k : ℕ) (ret t : Term) (bs : Terms) (o : Lazy) → o ≡ m.focus → Case f ps k ret t bs ≡ m.focus.term →
     read n.focus ≡ substitute (stands m.focus.env.items) t → with_scrutinee (read o) (read n.focus) ≡ read m.focus
 case_read m n f ps k ret t bs o p v r =
     (λ j. with_scrutinee (read (p j)) (r j)) ∙ sym (ap (λ x. with_scrutinee (substitute (stands m.focus.env.items) x) (substitute (stands m.focus.env.items) t)) v)
@@ -123,16 +123,35 @@ case_entered m n f ps k ret t bs o s e p v r d =
     }
 
 -- to what a variable is bound to
-pub item_entered : (m n : Machine) (i : ℕ) (l : Lazy) → AreSound m.frames.items → n.frames.items ≡ m.frames.items → n.focus ≡ l → Rel i ≡ m.focus.term →
-    slice_get m.focus.env.items i ≡ Some (read l) → l.env.rank < m.focus.env.rank → IsEntered m n
-item_entered m n i l s e p v f d =
-    let w : read n.focus ≡ read m.focus = ap read p ∙ sym (stands_at m.focus.env.items i (read l) f) ∙ ap (substitute (stands m.focus.env.items)) v in
+pub item_read : (m : Machine) (i : ℕ) (l : Lazy) → Rel i ≡ m.focus.term → slice_get m.focus.env.items i ≡ Some (read l) → read m.focus ≡ read l
+item_read m i l v f = sym (ap (substitute (stands m.focus.env.items)) v) ∙ stands_at m.focus.env.items i (read l) f
+
+pub item_entered : (m n : Machine) (l : Lazy) → AreSound m.frames.items → n.frames.items ≡ m.frames.items → n.focus ≡ l → read m.focus ≡ read l →
+    l.env.rank < m.focus.env.rank → IsEntered m n
+item_entered m n l s e p r d =
+    let w : read n.focus ≡ read m.focus = ap read p ∙ sym r in
     let x : work (read n.focus) ≡ work (read m.focus) = ap work w in
     let y : weights (layers n.frames.items) ≡ weights (layers m.frames.items) = ap (λ l. weights (layers l)) e in
     let z : n.focus.env.rank ≡ l.env.rank = ap (λ q. q.env.rank) p in
     record {
       grown = ([], e ∙ sym (append-nil m.frames.items), w);
       sound = along (λ l. AreSound l) (sym e) s;
+      load = omega arith;
+      falls = omega arith;
+    }
+
+-- with a frame that waits for what that is reduced to
+pub wanted_entered : (m n : Machine) (o : Lazy) (b : ℕ) (l : Lazy) → AreSound m.frames.items → n.frames.items ≡ m.frames.items ++ (Update o b ∷ []) → n.focus ≡ l →
+    read m.focus ≡ read l → l.env.rank < m.focus.env.rank → IsEntered m n
+wanted_entered m n o b l s e p r d =
+    let w : read n.focus ≡ read m.focus = ap read p ∙ sym r in
+    let x : work (read n.focus) ≡ work (read m.focus) = ap work w in
+    let y : weights (layers n.frames.items) ≡ weights (layers m.frames.items) + 0 =
+    ap weights (layers_last m.frames.items n.frames.items (Update o b) e) ∙ weights_last (layers m.frames.items) ByItself in
+    let z : n.focus.env.rank ≡ l.env.rank = ap (λ q. q.env.rank) p in
+    record {
+      grown = (Update o b ∷ [], e, w);
+      sound = sound_pushed m.frames.items n.frames.items (Update o b) e s tt tt;
       load = omega arith;
       falls = omega arith;
     }
@@ -181,6 +200,12 @@ pub root_at : (fs gs : List Frame) (f : Frame) (t : Term) (o : Option Root) (n :
 root_at fs gs f t o n None e h p i = tt
 root_at fs gs f t None n (Some l) e h p i = absurd i
 root_at fs gs f t (Some r) n (Some l) e h p i = ap read i.1 ∙ root_here fs gs f t r e h (i.0 ∙ p)
+
+-- what is known, or the root that is there
+pub known_or : (fs gs : List Frame) (f : Frame) (t : Term) (o : Option Root) (n : ℕ) (k l : Option Lazy) → fs ≡ gs ++ (f ∷ []) → IsRoot fs t o → n ≡ length gs →
+    IfSome k (λ x. read x ≡ t) → (l ≡ k) ⊎ IsRooted o n l → IfSome l (λ x. read x ≡ t)
+known_or fs gs f t o n k l e h p i (inl q) = along (λ m. IfSome m (λ x. read x ≡ t)) (sym q) i
+known_or fs gs f t o n k l e h p i (inr q) = root_at fs gs f t o n l e h p q
 
 pub root_grown : (m n : Machine) (o : Option Root) → IsStart m.frames.items (read m.focus) o → IsGrown m n → IsRoot n.frames.items (read n.focus) o
 root_grown m n None s g = tt

@@ -5,6 +5,7 @@ pub mod Limited
 pub mod Plugging
 pub mod Entering
 pub mod Layering
+pub mod Keeping
 pub mod Normals
 pub mod Bodies
 pub mod HeadKinds
@@ -17,3 +18,4 @@ pub mod Opens
 pub mod Ending
 pub mod Arms
 pub mod Binding
+pub mod Closing

@@ -162,7 +162,7 @@ fix_stuck E V f xs v m b w = fixpoint_stuck E V (apply (read f) (map read xs)) v
 pub fix_part : (f : Lazy) (xs : List Lazy) (v : Term) → IsBeyond (read f) → IsBeyond (App (apply (read f) (map read xs)) v)
 fix_part f xs v h = body_beyond (read f) (map read xs) v h
 
-truly : (b : Bool) → b ≡ true → IsTrue b
+pub truly : (b : Bool) → b ≡ true → IsTrue b
 truly true p = refl
 truly false p = absurd (false≢true p)
 

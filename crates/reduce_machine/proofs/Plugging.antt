@@ -6,7 +6,7 @@ use Rattle.calculus_rules.specs.Environment.{Env}
 use Rattle.calculus_rules.specs.Context.{Values}
 use Rattle.pc_rules.specs.DirectedWeakHead.{case_step, weak_next}
 use Rattle.redexes.proofs.Unfolding.{function_beyond}
-use Rattle.reduce_machine.specs.Layered.{Layer, ToArgument, InMatch, OfFixpoint, around, plug, IsFrame, AreFrames, weight, weights}
+use Rattle.reduce_machine.specs.Layered.{Layer, ToArgument, InMatch, OfFixpoint, ByItself, around, plug, IsFrame, AreFrames, weight, weights}
 use Rattle.reduction.proofs.Steps.{function_steps, argument_steps}
 
 -- a step in a frame is a step
@@ -15,6 +15,7 @@ around_steps E V (ToArgument a) t u h e = function_steps E V t a u e
 around_steps E V (InMatch (Case f ps n ret s bs)) t u h e = ap (λ o. case_step E f ps n ret t bs o) e
 around_steps E V (InMatch c) t u h e = absurd h
 around_steps E V (OfFixpoint g) t u h e = argument_steps E V g t u h e
+around_steps E V ByItself t u h e = e
 
 pub plug_steps : (E : Env) (V : Values) (fs : List Layer) (t u : Term) → AreFrames fs → weak_next E V t ≡ Some u → weak_next E V (plug fs t) ≡ Some (plug fs u)
 plug_steps E V [] t u h e = e
@@ -47,6 +48,7 @@ around_beyond (InMatch (Case f ps n ret s bs)) t k (inl h) = inl (omega arith)
 around_beyond (InMatch (Case f ps n ret s bs)) t k (inr h) = inr (omega arith)
 around_beyond (InMatch c) t k h = absurd k
 around_beyond (OfFixpoint g) t k h = argument_beyond g t h
+around_beyond ByItself t k h = h
 
 pub plug_beyond : (fs : List Layer) (t : Term) → AreFrames fs → IsBeyond t → IsBeyond (plug fs t)
 plug_beyond [] t k h = h

@@ -1,16 +1,17 @@
 -- Frames whose parts stand under bindings, as the frames that they are; and heads whose kind is that of their node.
 use Rattle.std.specs.Prelude.{◌≤◌, List, [], ◌∷◌, length, map}
 use Rattle.pc_terms.specs.Syntax.{Term, Rel, App, Case, Fix, apply}
-use Rattle.reduce_machine.specs.Layered.{Layer, ToArgument, InMatch, OfFixpoint}
+use Rattle.reduce_machine.specs.Layered.{Layer, ToArgument, InMatch, OfFixpoint, ByItself}
 use Rattle.reduce_machine.specs.Reads.{read}
 use Rattle.reduce_machine.specs.declared.bindings.Lazy.{Lazy}
 use Rattle.reduce_machine.specs.declared.frames.Frame.{Frame}
-use Rattle.reduce_machine.specs.declared.frames.Frame.TheVariants.{Argument, Scrutinee, Recursive}
+use Rattle.reduce_machine.specs.declared.frames.Frame.TheVariants.{Argument, Scrutinee, Recursive, Update}
 
 abbrev pub layer : Frame → Layer
 layer (Argument a) = ToArgument (read a)
 layer (Scrutinee c) = InMatch (read c)
 layer (Recursive f xs) = OfFixpoint (apply (read f) (map read xs.items))
+layer (Update l b) = ByItself
 
 abbrev pub layers : List Frame → List Layer
 layers [] = []
@@ -29,6 +30,7 @@ abbrev pub IsLayer : Frame → Type 0
 IsLayer (Argument a) = Unit {0}
 IsLayer (Scrutinee c) = IsMatchNode c.term
 IsLayer (Recursive f xs) = IsFixNode f.term
+IsLayer (Update l b) = Unit {0}
 
 abbrev pub AreLayers : List Frame → Type 0
 AreLayers [] = Unit {0}

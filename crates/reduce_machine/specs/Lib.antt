@@ -12,6 +12,7 @@ pub mod Spines
 pub mod Seen
 pub mod Values
 pub mod Met
+pub mod Reducts
 pub mod Sought
 pub mod Payment
 pub mod Normal

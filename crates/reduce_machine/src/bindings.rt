@@ -1,5 +1,5 @@
 //! Terms whose variables are bound to terms.
-ghost use Rattle.std.specs.Prelude.{◌≡◌, ◌<◌, ◌≤◌, ◌^◌, ◌↔◌, [], ◌∷◌, IfOk, IfErr, IsTrue};
+ghost use Rattle.std.specs.Prelude.{◌≡◌, ◌<◌, ◌≤◌, ◌^◌, ◌↔◌, [], ◌∷◌, length, slice_get, IfOk, IfErr, IfSome, IsTrue};
 ghost use Rattle.pc_terms.specs.declared.term.MakeFault.TheVariants.{Memory};
 ghost use Rattle.pc_terms.specs.Syntax.{substitute};
 ghost use Rattle.reduce_machine.specs.Found.{IsFound};
@@ -137,6 +137,14 @@ impl Bindings {
         }
     }
 
+    /// How many hold the first of these bindings; 0 where there is none.
+    pub(crate) fn holders(&self) -> usize {
+        match &self.first {
+            None => 0,
+            Some(cell) => Rc::strong_count(cell),
+        }
+    }
+
     /// What variable i stands for.
     pub fn find(&self, i: u32) -> Found<'_>
         ensures found { IsFound self.now i result }
@@ -149,6 +157,28 @@ impl Bindings {
                 Some(cell) => {
                     if left == 0 {
                         return Found::Item(&cell.link.item, &cell.memo);
+                    }
+                    left -= 1;
+                    list = &cell.link.below;
+                }
+            }
+        }
+    }
+
+    /// The bindings of variable i and those behind it; none where it is behind all items.
+    pub(crate) fn from(&self, i: u32) -> Option<&Bindings>
+        ensures items { IfSome result (λ b. slice_get b.now.items 0 ≡ slice_get self.now.items i) }
+        ensures rank { IfSome result (λ b. b.now.rank ≤ self.now.rank) }
+        ensures some { IfSome result (λ b. i < length self.now.items) }
+    {
+        let mut list = self;
+        let mut left = i;
+        loop {
+            match &list.first {
+                None => return None,
+                Some(cell) => {
+                    if left == 0 {
+                        return Some(list);
                     }
                     left -= 1;
                     list = &cell.link.below;
@@ -203,6 +233,22 @@ impl Lazy {
         let term = self.term.share()?;
         let env = self.env.share()?;
         Ok(Lazy { term, env })
+    }
+
+    /// Whether the term's form tells that it may have a step: a match, a definition, a constant, or an application that is none of a constructor
+    /// or a family. A lone variable may have one too, and isn't told. It is asked only to see what is worth a place.
+    pub(crate) fn may_step(&self) -> bool {
+        let mut head = &self.term;
+        let mut applied = false;
+        'inward: while let Node::App(function, _) = head.view() {
+            head = function;
+            applied = true;
+        }
+        match head.view() {
+            Node::Case(_) | Node::LetIn(_, _, _) | Node::Const(_) => true,
+            Node::Construct(_, _) | Node::Ind(_) => false,
+            _ => applied,
+        }
     }
 
     /// A part of a term under the term's bindings: nothing is kept of them that is seen to be of no use.

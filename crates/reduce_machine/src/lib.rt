@@ -6,12 +6,16 @@
 //! match or a fixpoint that is stuck on such a spine below it (`spines`), of which nothing is read (`weak`). It can be looked at (`seen`), and
 //! read back (`reading`): closed parts and parts under no bindings as the shared terms that they were, and what a variable is bound to once,
 //! however often it occurs: it is kept beside its binding (`memo`). A term whose head shows that it has no step is a value at once (`quick`).
-//! A call keeps at most one binding, with one term that was read, for each variable that its steps bound; they are let go of with the value.
+//! Where a variable's term was reduced to a constructor with arguments, or to a term that stands by itself, that is kept with the units that this
+//! took, if there is memory (`reducts`): where the variable is met again, the units are taken, and nothing is reduced. A call keeps at most one
+//! binding, with one term that was read, for each variable that its steps bound; they are let go of with the value. Besides it keeps at most 65,536
+//! entries of a table, each with one binding for each argument of the constructor that it is; they are let go of when the call ends, a full table
+//! is emptied, or another takes the place of one whose binding has gone. What is kept no clause says.
 //!
 //! What is promised: `weak_value` follows the directed rules exactly, units, `Spent` and `TooDeep` included (`follows`); its value has no step
 //! (`normal`), is joined to the term by weak-head steps (`reached`), and is beyond the limits of terms only where the run has passed them
 //! (`beyond`). `Closures` implements `Reducer` of `pc_rules`, as `Subst` of `reduction` does, by reading such a value (`follows`, `reached`).
-//! No unit is taken for a look-up in bindings or for reading back.
+//! No unit is taken for reading back, nor for a look-up in bindings but those of the steps to what is known of the variable.
 //!
 //! Below stand `stamps` (what was read is known again by its binding's), `pc_terms`, `calculus_rules`, `pc_rules`, `redexes` (unfolded bodies,
 //! look-ups) and `reduction` (laws of weak-head steps in a frame); above stand the jobs.
@@ -26,6 +30,7 @@ mod meeting;
 pub mod memo;
 mod quick;
 pub mod reading;
+mod reducts;
 pub mod seen;
 pub mod spines;
 mod steps;

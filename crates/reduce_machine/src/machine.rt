@@ -1,13 +1,15 @@
 //! The search for the place where a step happens.
-ghost use Rattle.std.specs.Prelude.{◌≡◌, ◌≤◌, ◌<◌, ◌⊎◌, [], ◌∷◌, ◌++◌, true, false, IfOk, IfErr, IfNone, MatchOption, map};
+ghost use Rattle.std.specs.Prelude.{ℕ, ◌≡◌, ◌≤◌, ◌<◌, ◌⊎◌, [], ◌∷◌, ◌++◌, IfOk, IfErr, IfNone, MatchOption, map};
 ghost use Rattle.trees.specs.Measures.{IsBeyond};
 ghost use Rattle.pc_terms.specs.declared.term.MakeFault.TheVariants.{TooDeep, Memory};
 ghost use Rattle.calculus_rules.specs.Context.{Values, values};
+ghost use Rattle.calculus_rules.specs.Environment.{Env};
 ghost use Rattle.pc_rules.specs.DirectedWeakHead.{weak_next};
 ghost use Rattle.reduce_machine.specs.Layered.{plug};
 ghost use Rattle.reduce_machine.specs.Layers.{layers, IsOpen, IsFixNode};
 ghost use Rattle.reduce_machine.specs.Reads.{read};
-ghost use Rattle.reduce_machine.specs.Sought.{whole, load, way, AreSound, IsRoot, IsStart, IsGrown, IsSettled, KeepsWhole, IsSought, IsRooted};
+ghost use Rattle.reduce_machine.specs.Reducts.{IsKnown, IsLooked, IsItemOf, IsReady, AreReducts, AreWaiting};
+ghost use Rattle.reduce_machine.specs.Sought.{whole, load, AreSound, IsRoot, IsStart, IsGrown, IsSettled, KeepsWhole, IsSought, IsRooted, IsFalling, IsOpened, IsKnownFocus, IsEnd, WaitsSettled, WaitsSought};
 ghost use Rattle.pc_terms.specs.Syntax.{Term, App, apply};
 ghost use Rattle.redexes.specs.Redexes.{fix_body};
 ghost use Rattle.reduce_machine.specs.declared.steps.Step.TheVariants.{Branch};
@@ -17,6 +19,7 @@ use crate::bindings::{Bindings, Found, Lazy};
 use crate::frames::Frame;
 use crate::heads::head_step;
 use crate::meeting::Met;
+use crate::reducts::{Known, Looked, Reducts, Uses};
 use crate::steps::{Step, unfolded};
 use crate::values::Value;
 use pc_rules::context::Ctx;
@@ -57,8 +60,21 @@ pub(crate) enum Settled {
 pub(crate) enum Sought {
     /// The step of the whole term, in the frames that are left.
     Step(Step),
+    /// What the focus is after so many steps.
+    Known(Known),
     /// The whole term, which has no step.
     Value(Value),
+}
+
+/// What comes of going one layer inwards.
+#[derive(Drop)]
+pub(crate) enum Entered {
+    /// Another focus.
+    Deeper,
+    /// The focus is no application, no match and no bound variable.
+    Open,
+    /// The focus is a variable of which this is known.
+    Known(Known),
 }
 
 /// Takes the last argument away.
@@ -84,6 +100,29 @@ impl Root {
                 Ok(None)
             }
             None => Ok(None),
+        }
+    }
+
+    /// Whether the first binding of a term may be looked up again: it is held by others than the term and the root.
+    fn uses(root: &Option<Root>, own: &Lazy) -> Uses {
+        let here = match root {
+            Some(root) => root.term.env.same(&own.env),
+            None => false,
+        };
+        if own.env.holders() > 1 + usize::from(here) {
+            return Uses::More;
+        }
+        Uses::Last
+    }
+
+    /// What is known; or else the root, where so many frames are below that of its fixpoint.
+    fn or(known: Option<Lazy>, root: &Option<Root>, below: usize) -> Result<Option<Lazy>, MakeFault>
+        ensures ok { IfOk result (λ o. (o ≡ known) ⊎ IsRooted root.now below o) }
+        ensures only_memory { IfErr result (λ e. e ≡ Memory) }
+    {
+        match known {
+            Some(known) => Ok(Some(known)),
+            None => Root::at(root, below),
         }
     }
 }
@@ -121,55 +160,92 @@ impl Machine {
         self.frames.pop()
     }
 
-    /// One layer inwards: the function of an application, the scrutinee of a match, or what a variable is bound to; false where the focus
-    /// is none of these.
-    fn enter(&mut self) -> Result<bool, MakeFault>
-        requires { AreSound self.old.frames.items }
+    /// What a variable is bound to as the focus, where nothing is known of it; a frame waits for what that is reduced to, where it is wanted.
+    fn enter_item(&mut self, looked: Looked, left: u64) -> Result<Entered, MakeFault>
+        requires sound { AreSound self.old.frames.items }
+        requires item { IsItemOf self.old.focus looked }
         ensures grown { IfOk result (λ _. IsGrown self.old self.new) }
         ensures sound { IfOk result (λ _. AreSound self.new.frames.items) }
         ensures load { IfOk result (λ _. load self.new ≤ load self.old) }
-        ensures falls { IfOk result (λ more. more ≡ true → way self.new.focus < way self.old.focus) }
-        ensures open { IfOk result (λ more. more ≡ false → IsOpen self.new.focus) }
+        ensures falls { IfOk result (IsFalling self.old.focus self.new.focus) }
+        ensures open { IfOk result (IsOpened self.new.focus) }
+        ensures known { IfOk result (λ e. (E : Env) (V : Values) → IsLooked E V (read self.old.focus) looked → IsKnownFocus E V (read self.new.focus) e) }
+        ensures waiting { IfOk result (λ _. (E : Env) (V : Values) → AreWaiting E V left self.old.frames.items (read self.old.focus) → AreWaiting E V left self.new.frames.items (read self.new.focus)) }
+        ensures only_memory { IfErr result (λ e. e ≡ Memory) }
+    {
+        match looked {
+            Looked::Known(known) => Ok(Entered::Known(known)),
+            Looked::Plain(item) => {
+                self.focus = item;
+                Ok(Entered::Deeper)
+            }
+            Looked::Wanted(item) => {
+                let own = self.focus.share()?;
+                self.push(Frame::Update(own, left))?;
+                self.focus = item;
+                Ok(Entered::Deeper)
+            }
+        }
+    }
+
+    /// One layer inwards: the function of an application, the scrutinee of a match, or what a variable is bound to.
+    fn enter(&mut self, kept: &Reducts) -> Result<Entered, MakeFault>
+        requires sound { AreSound self.old.frames.items }
+        requires ready { IsReady kept.now }
+        ensures grown { IfOk result (λ _. IsGrown self.old self.new) }
+        ensures sound { IfOk result (λ _. AreSound self.new.frames.items) }
+        ensures load { IfOk result (λ _. load self.new ≤ load self.old) }
+        ensures falls { IfOk result (IsFalling self.old.focus self.new.focus) }
+        ensures open { IfOk result (IsOpened self.new.focus) }
+        ensures known { IfOk result (λ e. (E : Env) (V : Values) → AreReducts E V kept.now.entries.items → IsKnownFocus E V (read self.new.focus) e) }
+        ensures waiting { IfOk result (λ _. (E : Env) (V : Values) → AreWaiting E V kept.now.left self.old.frames.items (read self.old.focus) → AreWaiting E V kept.now.left self.new.frames.items (read self.new.focus)) }
         ensures only_memory { IfErr result (λ e. e ≡ Memory) }
     {
         match self.focus.term.view() {
             Node::App(function, argument) => {
-                let argument = Lazy::part(argument, &self.focus.env)?;
+                let argument = kept.argument(argument, &self.focus.env)?;
                 let function = function.share()?;
                 self.push(Frame::Argument(argument))?;
                 self.focus.term = function;
-                Ok(true)
+                Ok(Entered::Deeper)
             }
             Node::Case(m) => {
-                let scrutinee = Lazy::part(&m.scrut, &self.focus.env)?;
+                let scrutinee = kept.argument(&m.scrut, &self.focus.env)?;
                 let outer = self.focus.share()?;
                 self.push(Frame::Scrutinee(outer))?;
                 self.focus = scrutinee;
-                Ok(true)
+                Ok(Entered::Deeper)
             }
             Node::Rel(i) => match self.focus.env.find(*i) {
-                Found::Item(item, _) => {
-                    let item = item.share()?;
-                    self.focus = item;
-                    Ok(true)
+                Found::Item(item, memo) => {
+                    let looked = kept.look(item, memo)?;
+                    self.enter_item(looked, kept.left)
                 }
-                Found::Past(_) => Ok(false),
+                Found::Past(_) => Ok(Entered::Open),
             },
-            _ => Ok(false),
+            _ => Ok(Entered::Open),
         }
     }
 
-    /// Inwards to a focus that is no application, no match and no bound variable.
-    fn descend(&mut self) -> Result<(), MakeFault>
-        requires { AreSound self.old.frames.items }
+    /// Inwards to a focus that is no application, no match and no bound variable; or to a variable of which something is known.
+    fn descend(&mut self, kept: &Reducts) -> Result<Option<Known>, MakeFault>
+        requires sound { AreSound self.old.frames.items }
+        requires ready { IsReady kept.now }
         ensures grown { IfOk result (λ _. IsGrown self.old self.new) }
         ensures sound { IfOk result (λ _. AreSound self.new.frames.items) }
         ensures load { IfOk result (λ _. load self.new ≤ load self.old) }
-        ensures open { IfOk result (λ _. IsOpen self.new.focus) }
+        ensures end { IfOk result (IsEnd self.new.focus) }
+        ensures known { IfOk result (λ o. (E : Env) (V : Values) → AreReducts E V kept.now.entries.items → IsKnown E V (read self.new.focus) o) }
+        ensures waiting { IfOk result (λ _. (E : Env) (V : Values) → AreWaiting E V kept.now.left self.old.frames.items (read self.old.focus) → AreWaiting E V kept.now.left self.new.frames.items (read self.new.focus)) }
         ensures only_memory { IfErr result (λ e. e ≡ Memory) }
     {
-        'inward: while self.enter()? {}
-        Ok(())
+        'inward: loop {
+            match self.enter(kept)? {
+                Entered::Deeper => {}
+                Entered::Open => return Ok(None),
+                Entered::Known(known) => return Ok(Some(known)),
+            }
+        }
     }
 
     /// The focus, where a fixpoint waits for it.
@@ -194,10 +270,21 @@ impl Machine {
     }
 
     /// Outwards from a focus without a step.
-    fn settle(&mut self, alloc: Global, env: &Env, root: Option<Root>) -> Result<Settled, MakeFault>
+    fn settle(
+        &mut self,
+        alloc: Global,
+        env: &Env,
+        root: Option<Root>,
+        kept: &mut Reducts,
+    ) -> Result<Settled, MakeFault>
         requires sound { AreSound self.old.frames.items }
         requires open { IsOpen self.old.focus }
         requires root { IsRoot self.old.frames.items (read self.old.focus) root }
+        requires ready { IsReady kept.old }
+        ensures ready { IsReady kept.new }
+        ensures left { kept.new.left ≡ kept.old.left }
+        ensures reducts { (V : Values) → AreReducts env.now V kept.old.entries.items → AreWaiting env.now V kept.old.left self.old.frames.items (read self.old.focus) → AreReducts env.now V kept.new.entries.items }
+        ensures waiting { IfOk result (λ s. (V : Values) → weak_next env.now V (read self.old.focus) ≡ None → AreWaiting env.now V kept.old.left self.old.frames.items (read self.old.focus) → WaitsSettled env.now V kept.old.left self.new s) }
         ensures settled { IfOk result (λ s. (V : Values) → weak_next env.now V (read self.old.focus) ≡ None → IsSettled env.now V (whole self.old) self.new s) }
         ensures keeps { IfOk result (KeepsWhole (whole self.old) (load self.old) self.new) }
         ensures sound { IfOk result (λ _. AreSound self.new.frames.items) }
@@ -205,38 +292,64 @@ impl Machine {
     {
         let start = self.focus.share()?;
         let mut value = Value::of(alloc, start);
+        let mut known: Option<Lazy> = None;
         'outward: while let Some(frame) = self.pop() {
             let below = self.frames.len();
-            let at = Root::at(&root, below)?;
-            let met = frame.meet(alloc, env, value, at)?;
-            match met {
-                Met::Step(step) => return Ok(Settled::Step(step)),
-                Met::Inward(fix, before, argument) => {
-                    self.push(Frame::Recursive(fix, before))?;
-                    self.focus = argument;
-                    return Ok(Settled::Inward);
+            let at = Root::or(known, &root, below)?;
+            known = None;
+            match frame {
+                Frame::Update(own, began) => {
+                    let uses = Root::uses(&root, &own);
+                    known = kept.keep(alloc, &own, began, &value, at, uses);
                 }
-                Met::Stuck(wider) => value = wider,
+                waiting => {
+                    let met = waiting.meet(alloc, env, value, at)?;
+                    match met {
+                        Met::Step(step) => return Ok(Settled::Step(step)),
+                        Met::Inward(fix, before, argument) => {
+                            self.push(Frame::Recursive(fix, before))?;
+                            self.focus = argument;
+                            return Ok(Settled::Inward);
+                        }
+                        Met::Stuck(wider) => value = wider,
+                    }
+                }
             }
         }
         Ok(Settled::Whole(value))
     }
 
     /// The step of the whole term, in the frames that are left then; or the whole term, where it has no step.
-    pub(crate) fn seek(&mut self, alloc: Global, env: &Env, ctx: &Ctx) -> Result<Sought, MakeFault>
+    pub(crate) fn seek(
+        &mut self,
+        alloc: Global,
+        env: &Env,
+        ctx: &Ctx,
+        kept: &mut Reducts,
+    ) -> Result<Sought, MakeFault>
         requires sound { AreSound self.old.frames.items }
+        requires ready { IsReady kept.old }
+        requires reducts { AreReducts env.now (values ctx.now) kept.old.entries.items }
+        requires waiting { AreWaiting env.now (values ctx.now) kept.old.left self.old.frames.items (read self.old.focus) }
+        ensures ready { IsReady kept.new }
+        ensures left { kept.new.left ≡ kept.old.left }
+        ensures reducts { AreReducts env.now (values ctx.now) kept.new.entries.items }
+        ensures waiting { IfOk result (WaitsSought env.now (values ctx.now) kept.old.left self.new) }
         ensures sought { IfOk result (λ s. IsSought env.now (values ctx.now) (whole self.old) self.new s) }
         ensures sound { IfOk result (λ _. AreSound self.new.frames.items) }
         ensures too_deep { IfErr result (λ e. e ≡ TooDeep → IsBeyond (whole self.old)) }
     {
         'search: loop {
             let root = self.root()?;
-            self.descend()?;
+            let known = self.descend(kept)?;
+            if let Some(known) = known {
+                return Ok(Sought::Known(known));
+            }
             let step = head_step(env, ctx, &self.focus)?;
             if let Some(step) = step {
                 return Ok(Sought::Step(step));
             }
-            let settled = self.settle(alloc, env, root)?;
+            let settled = self.settle(alloc, env, root, kept)?;
             match settled {
                 Settled::Step(step) => return Ok(Sought::Step(step)),
                 Settled::Inward => {}
@@ -274,6 +387,7 @@ impl Machine {
     fn push_argument(&mut self, argument: Lazy) -> Result<(), MakeFault>
         requires { AreSound self.old.frames.items }
         ensures plug { IfOk result (λ _. (t : Term) → plug (layers self.new.frames.items) t ≡ plug (layers self.old.frames.items) (App t (read argument))) }
+        ensures waiting { IfOk result (λ _. (E : Env) (V : Values) (u : ℕ) (t : Term) → AreWaiting E V u self.old.frames.items (App t (read argument)) → AreWaiting E V u self.new.frames.items t) }
         ensures sound { IfOk result (λ _. AreSound self.new.frames.items) }
         ensures only_memory { IfErr result (λ e. e ≡ Memory) }
     {
@@ -291,6 +405,7 @@ impl Machine {
         requires sound { AreSound self.old.frames.items }
         requires node { IsFixNode fix.now.term }
         ensures ok { IfOk result (λ _. whole self.new ≡ plug (layers self.old.frames.items) (App (apply (fix_body (read fix.now)) (map read before.items)) (read argument))) }
+        ensures waiting { IfOk result (λ _. (E : Env) (V : Values) (u : ℕ) → AreWaiting E V u self.old.frames.items (App (apply (fix_body (read fix.now)) (map read before.items)) (read argument)) → AreWaiting E V u self.new.frames.items (read self.new.focus)) }
         ensures sound { IfOk result (λ _. AreSound self.new.frames.items) }
         ensures too_deep { IfErr result (λ e. e ≡ TooDeep → IsBeyond (read fix.now) ⊎ IsBeyond (fix_body (read fix.now))) }
     {
@@ -309,6 +424,7 @@ impl Machine {
         requires sound { AreSound self.old.frames.items }
         requires node { IsStepNode step }
         ensures ok { IfOk result (λ _. whole self.new ≡ plug (layers self.old.frames.items) (contractum step)) }
+        ensures waiting { IfOk result (λ _. (E : Env) (V : Values) (u : ℕ) → AreWaiting E V u self.old.frames.items (contractum step) → AreWaiting E V u self.new.frames.items (read self.new.focus)) }
         ensures sound { IfOk result (λ _. AreSound self.new.frames.items) }
         ensures too_deep { IfErr result (λ e. e ≡ TooDeep → IsBeyondStep step) }
     {
@@ -349,6 +465,8 @@ impl Machine {
     pub(crate) fn flatten(&mut self, alloc: Global) -> Result<(), MakeFault>
         requires sound { AreSound self.old.frames.items }
         ensures ok { IfOk result (λ _. whole self.new ≡ whole self.old) }
+        ensures focus { IfOk result (λ _. read self.new.focus ≡ read self.old.focus) }
+        ensures frames { IfOk result (λ _. self.new.frames.items ≡ self.old.frames.items) }
         ensures sound { IfOk result (λ _. AreSound self.new.frames.items) }
         ensures too_deep { IfErr result (λ e. e ≡ TooDeep → IsBeyond (whole self.old)) }
     {

@@ -74,7 +74,7 @@ fn is_next(missing: Option<u32>) -> bool
 }
 
 /// Whether there are no arguments.
-fn is_alone(args: &Vec<Lazy>) -> bool
+pub(crate) fn is_alone(args: &Vec<Lazy>) -> bool
     ensures is { IsTrue result ↔ (args.now.items ≡ []) }
 {
     args.is_empty()
@@ -308,8 +308,8 @@ fn meet_fixpoint(
 }
 
 impl Frame {
-    /// What comes of a value in the frame. `root` is the value under bindings, where it is known. `TooDeep` only where the value in its
-    /// frame is beyond the limits of terms.
+    /// What comes of a value in the frame: itself, where the frame waits for what a variable is reduced to. `root` is the value under bindings,
+    /// where it is known. `TooDeep` only where the value in its frame is beyond the limits of terms.
     pub(crate) fn meet(
         self,
         alloc: Global,
@@ -329,6 +329,7 @@ impl Frame {
             Frame::Argument(argument) => meet_argument(value, argument),
             Frame::Scrutinee(outer) => meet_match(alloc, env, value, outer),
             Frame::Recursive(fix, before) => meet_fixpoint(alloc, env, value, root, fix, before),
+            Frame::Update(_, _) => Ok(Met::Stuck(value)),
         }
     }
 }

@@ -9,7 +9,7 @@ use crate::bindings::Lazy;
 use pc_terms::term::{MakeFault, Term};
 use stamps::Stamp;
 use std::alloc::Global;
-use std::cell::OnceCell;
+use std::cell::{Cell, OnceCell};
 use std::marker::Model;
 use std::rc::Rc;
 
@@ -54,12 +54,14 @@ impl Model for Twin {
 
 /// A place for one term, which is written at most once. Contracts see the number of the only term that it can have.
 ///
-/// It may be joined, once, to another place for the same term, so that the two are known to be for one.
+/// It may be joined, once, to another place for the same term, so that the two are known to be for one. Besides it has a hint, which may be
+/// set again: where a table may have what the term was reduced to.
 #[derive(Drop)]
 pub struct Memo {
     stamp: Rc<Stamp>,
     kept: OnceCell<Kept>,
     twin: OnceCell<Twin>,
+    hint: Cell<u32>,
 }
 
 impl Model for Memo {
@@ -84,6 +86,34 @@ impl Memo {
             }
             None => None,
         }
+    }
+
+    /// The number that was said last of the place in a table; it may be of another table.
+    pub(crate) fn hint(&self) -> u32 {
+        self.hint.get()
+    }
+
+    /// Says the number of the place in a table.
+    pub(crate) fn set_hint(&self, number: u32) {
+        self.hint.set(number);
+    }
+
+    /// The stamp of the place.
+    pub(crate) fn key(&self) -> Result<Rc<Stamp>, MakeFault>
+        ensures ok { IfOk result (λ k. k.value ≡ self.now) }
+        ensures only_memory { IfErr result (λ e. e ≡ Memory) }
+    {
+        match self.stamp.clone() {
+            Ok(stamp) => Ok(stamp),
+            Err(_) => Err(MakeFault::Memory),
+        }
+    }
+
+    /// Whether a stamp is seen to be that of the place.
+    pub(crate) fn is_of(&self, key: &Rc<Stamp>) -> bool
+        ensures is { IsTrue result → key.now.value ≡ self.now }
+    {
+        key.same(&self.stamp)
     }
 
     /// Writes the term, if there is memory for that.
@@ -162,6 +192,7 @@ pub(crate) fn memo_of(alloc: Global, item: &Lazy) -> Result<Option<Memo>, MakeFa
             stamp,
             kept: OnceCell::new(),
             twin: OnceCell::new(),
+            hint: Cell::new(0),
         })),
         Err(_) => Err(MakeFault::Memory),
     }

@@ -1,10 +1,13 @@
 //! Weak-head normal forms of terms under bindings, of which nothing is read.
-ghost use Rattle.std.specs.Prelude.{◌≡◌, ◌<◌, IsTrue, IfOk, IfErr, None};
-ghost use Rattle.calculus_rules.specs.Context.{values};
+ghost use Rattle.std.specs.Prelude.{ℕ, ◌≡◌, ◌+◌, ◌<◌, ◌≤◌, IsTrue, IfOk, IfErr, None};
+ghost use Rattle.calculus_rules.specs.Context.{Values, values};
+ghost use Rattle.calculus_rules.specs.Environment.{Env};
+ghost use Rattle.pc_rules.specs.declared.stop.Stop.TheVariants.{Spent};
 ghost use Rattle.calculus_rules.specs.WeakHead.{WeakSteps};
 ghost use Rattle.pc_rules.specs.DirectedRun.{ticked, is_beyond};
 ghost use Rattle.pc_rules.specs.DirectedWeakHead.{weak_next};
 ghost use Rattle.pc_rules.specs.Follows.{Follows, halted};
+ghost use Rattle.reduce_machine.specs.Reducts.{ticks, AreWaiting};
 ghost use Rattle.reduce_machine.specs.Layered.{plug};
 ghost use Rattle.reduce_machine.specs.Layers.{layers};
 ghost use Rattle.reduce_machine.specs.Passed.{reduced, map_ok};
@@ -17,6 +20,7 @@ ghost use Rattle.reduce_machine.specs.Values.{term_of, IsValue};
 use crate::bindings::Lazy;
 use crate::machine::{Machine, Sought};
 use crate::quick::{is_normal, spine_value};
+use crate::reducts::{Known, Reducts};
 use crate::steps::Step;
 use crate::values::Value;
 use pc_rules::context::Ctx;
@@ -30,6 +34,7 @@ fn paid(alloc: Global, machine: &mut Machine, step: Step, m: &mut Meter) -> Resu
     requires sound { AreSound machine.old.frames.items }
     requires node { IsStepNode step }
     ensures ok { IfOk result (λ _. whole machine.new ≡ plug (layers machine.old.frames.items) (contractum step)) }
+    ensures waiting { IfOk result (λ _. (E : Env) (V : Values) (u : ℕ) → AreWaiting E V u machine.old.frames.items (contractum step) → AreWaiting E V u machine.new.frames.items (read machine.new.focus)) }
     ensures sound { IfOk result (λ _. AreSound machine.new.frames.items) }
     ensures unit { IfOk result (λ _. 0 < m.old.account.left) }
     ensures none { IfErr result (HasNoResult step m.old.account) }
@@ -40,6 +45,36 @@ fn paid(alloc: Global, machine: &mut Machine, step: Step, m: &mut Meter) -> Resu
         return Err(Stop::Spent);
     }
     machine.take(alloc, step)?;
+    Ok(())
+}
+
+/// Takes the units of what is known of the focus, which is then the focus.
+fn charged(machine: &mut Machine, known: Known, m: &mut Meter) -> Result<(), Stop>
+    ensures focus { IfOk result (λ _. machine.new.focus ≡ known.term) }
+    ensures frames { machine.new.frames ≡ machine.old.frames }
+    ensures ok { IfOk result (λ _. (known.units ≤ m.old.account.left) × (m.new.account ≡ ticks known.units m.old.account)) }
+    ensures none { IfErr result (λ e. (e ≡ Spent) × (m.old.account.left < known.units) × (m.new.account ≡ ticks (m.old.account.left + 1) m.old.account)) }
+    ensures nest { m.new.nest ≡ m.old.nest }
+{
+    take_units(known.units, m)?;
+    machine.focus = known.term;
+    Ok(())
+}
+
+/// Takes so many units, one after the other; `Spent` where there are not so many, and then none is left.
+fn take_units(units: u64, m: &mut Meter) -> Result<(), Stop>
+    ensures ok { IfOk result (λ _. (units ≤ m.old.account.left) × (m.new.account ≡ ticks units m.old.account)) }
+    ensures none { IfErr result (λ e. (e ≡ Spent) × (m.old.account.left < units) × (m.new.account ≡ ticks (m.old.account.left + 1) m.old.account)) }
+    ensures nest { m.new.nest ≡ m.old.nest }
+{
+    let mut left = units;
+    'units: while left > 0 {
+        let taken = m.tick();
+        if !taken {
+            return Err(Stop::Spent);
+        }
+        left -= 1;
+    }
     Ok(())
 }
 
@@ -58,13 +93,18 @@ pub(crate) fn reduced_value(
     ensures reached { IfOk result (λ v. WeakSteps env.now (values ctx.now) (read term) (term_of v)) }
 {
     let mut machine = Machine::of(alloc, term);
+    let units = m.left();
+    let mut kept = Reducts::new(alloc, units)?;
     'steps: loop {
-        let sought = machine.seek(alloc, env, ctx)?;
+        let now = m.left();
+        kept.left = now;
+        let sought = machine.seek(alloc, env, ctx, &mut kept)?;
         match sought {
             Sought::Step(step) => {
                 paid(alloc, &mut machine, step, m)?;
                 machine.flatten(alloc)?;
             }
+            Sought::Known(known) => charged(&mut machine, known, m)?,
             Sought::Value(value) => return Ok(value),
         }
     }

@@ -1,3 +1,4 @@
+use Rattle.std.proofs.Common.{refl}
 use Rattle.reduce_machine.specs.Values.{term_of}
 use Rattle.reduce_machine.specs.Reads.{read}
 use Rattle.reduce_machine.proofs.Meetings.{argument_met, deep_around}
@@ -35,6 +36,12 @@ returns-in-Recursive-clause-ok c = rw c.in-Recursive.is c.meet_fixpoint.ensures.
 
 pub returns-in-Recursive-clause-keeps : goal.returns-in-Recursive-clause-keeps
 returns-in-Recursive-clause-keeps c = rw c.in-Recursive.is c.meet_fixpoint.ensures.keeps
+
+pub returns-clause-ok : goal.returns-clause-ok
+returns-clause-ok c = rw c.in-Update.is (λ V n. n)
+
+pub returns-clause-keeps : goal.returns-clause-keeps
+returns-clause-keeps c = rw c.in-Update.is (refl, c.requires.value)
 
 pub returns-in-Recursive-clause-too_deep : goal.returns-in-Recursive-clause-too_deep
 returns-in-Recursive-clause-too_deep c =

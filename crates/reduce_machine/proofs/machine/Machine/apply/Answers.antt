@@ -1,5 +1,6 @@
-use Rattle.std.proofs.Common.{◌∙◌, [], ◌∷◌, length, length-append, map, sym, ap, arith}
+use Rattle.std.proofs.Common.{◌∙◌, [], ◌∷◌, length, length-append, map, sym, ap, subst as along, arith}
 use Rattle.pc_terms.specs.Syntax.{App, apply}
+use Rattle.reduce_machine.specs.Reducts.{AreWaiting}
 use Rattle.reduce_machine.specs.Layered.{plug}
 use Rattle.reduce_machine.specs.Layers.{layers}
 use Rattle.reduce_machine.specs.Reads.{read}
@@ -16,6 +17,7 @@ pub next-init : goal.next-init
 next-init c = record {
   applied = λ t. c.in_ok-push_argument.ensures.plug (apply t (map read c.args.before.items));
   sound = c.in_ok-push_argument.ensures.sound;
+  waiting = λ E V u t h. c.in_ok-push_argument.ensures.waiting E V u (apply t (map read c.args.before.items)) h;
 }
 
 pub next-smaller : goal.next-smaller
@@ -33,6 +35,9 @@ next-preserved c = record {
       ∙ ap (plug (layers c.next.self.frames.items)) (sym (last_applied t c.last.new.args.items c.next.rest.items c.in-Some.x c.in-Some.ensures.items))
       ∙ c.next.invariant.applied t;
   sound = c.in_ok-push_argument-2.ensures.sound;
+  waiting = λ E V u t h. c.in_ok-push_argument-2.ensures.waiting E V u (apply t (map read c.last.new.args.items))
+      (along (λ x. AreWaiting E V u c.next.self.frames.items x) (last_applied t c.last.new.args.items c.next.rest.items c.in-Some.x c.in-Some.ensures.items)
+      (c.next.invariant.waiting E V u t h));
 }
 
 pub returns-clause-ok : goal.returns-clause-ok
@@ -43,3 +48,9 @@ returns-clause-ok c =
 
 pub returns-clause-sound : goal.returns-clause-sound
 returns-clause-sound c = c.next.invariant.sound
+
+pub returns-clause-waiting : goal.returns-clause-waiting
+returns-clause-waiting c = λ E V u h.
+    along (λ ys. AreWaiting E V u c.next.self.frames.items (apply (read c.in_ok-body.body) (map read ys))) c.in_default.ensures.items
+    (c.next.invariant.waiting E V u (read c.in_ok-body.body)
+    (along (λ t. AreWaiting E V u c.args.self.now.frames.items (App (apply t (map read c.args.before.items)) (read c.args.argument))) (sym c.in_ok-body.ensures.ok) h))

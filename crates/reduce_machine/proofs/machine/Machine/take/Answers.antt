@@ -1,8 +1,9 @@
-use Rattle.std.proofs.Common.{◌∙◌, ap, inr, map, subst as along}
+use Rattle.std.proofs.Common.{◌∙◌, sym, ap, inr, map, subst as along}
 use Rattle.std.proofs.lemmas.Result.{err_from_is_err_and}
 use Rattle.trees.specs.Measures.{IsBeyond}
 use Rattle.trees.proofs.Cutoffs.{lift-shift}
 use Rattle.pc_terms.specs.Syntax.{Term, substitute}
+use Rattle.reduce_machine.specs.Reducts.{AreWaiting}
 use Rattle.reduce_machine.specs.Layered.{plug}
 use Rattle.reduce_machine.specs.Layers.{layers}
 use Rattle.reduce_machine.specs.Reads.{stands, read}
@@ -43,3 +44,24 @@ returns-in-Fixpoint-clause-ok c = rw c.in-Fixpoint.is c.apply.ensures.ok
 
 pub returns-in-Fixpoint-clause-too_deep : goal.returns-in-Fixpoint-clause-too_deep
 returns-in-Fixpoint-clause-too_deep c = rw c.in-Fixpoint.is (step_deep (read c.in-Fixpoint.fix) (fix_body (read c.in-Fixpoint.fix)) (map read c.in-Fixpoint.before.items) (read c.in-Fixpoint.argument) c.apply.result c.apply.ensures.too_deep)
+
+-- the frames are the same, and the focus is the result of the step
+pub returns-in_ok-term-in-Variable-clause-waiting : goal.returns-in_ok-term-in-Variable-clause-waiting
+returns-in_ok-term-in-Variable-clause-waiting c =
+    rw c.in-Variable.is (λ E V u h. along (λ x. AreWaiting E V u c.args.self.now.frames.items x) (sym (plain_read c.plain.result c.in_ok-term-in-Variable.term c.plain.ensures.term c.plain.ensures.items
+    ∙ c.in_ok-term-in-Variable.ensures.parallel)) h)
+
+pub returns-in-Constant-clause-waiting : goal.returns-in-Constant-clause-waiting
+returns-in-Constant-clause-waiting c =
+    rw c.in-Constant.is (λ E V u h. along (λ x. AreWaiting E V u c.args.self.now.frames.items x) (sym (plain_read c.plain-in-Constant.result c.in-Constant.body c.plain-in-Constant.ensures.term
+    c.plain-in-Constant.ensures.items)) h)
+
+pub returns-in_ok-env-in-Bound-clause-waiting : goal.returns-in_ok-env-in-Bound-clause-waiting
+returns-in_ok-env-in-Bound-clause-waiting c =
+    rw c.in-Bound.is (λ E V u h. along (λ x. AreWaiting E V u c.args.self.now.frames.items x) (sym (ap (λ xs. substitute (stands xs) c.in-Bound.body) c.in_ok-env-in-Bound.ensures.items)) h)
+
+pub returns-in_ok-bound-in-Branch-clause-waiting : goal.returns-in_ok-bound-in-Branch-clause-waiting
+returns-in_ok-bound-in-Branch-clause-waiting c = rw c.in-Branch.is (λ E V u h. along (λ x. AreWaiting E V u c.args.self.now.frames.items x) (sym c.in_ok-bound-in-Branch.ensures.ok) h)
+
+pub returns-in-Fixpoint-clause-waiting : goal.returns-in-Fixpoint-clause-waiting
+returns-in-Fixpoint-clause-waiting c = rw c.in-Fixpoint.is c.apply.ensures.waiting
