@@ -21,7 +21,7 @@ use Rattle.dump_reader.specs.declared.numbering.Tables.{Tables}
 use Rattle.dump_reader.specs.Numbered.{name_number, numbered_sort, recursive_arguments, numbered_term, numbered_bodies}
 use Rattle.dump_reader.specs.Growth.{unused, Numbers}
 use Rattle.dump_reader.specs.Made.{IsTerm, AreTerms, AreBranches, AreDefs, numbered_def}
-use Rattle.dump_reader.proofs.Growth.{plain, on, both, restated}
+use Rattle.dump_reader.proofs.Growth.{plain, on, both, kept, restated}
 use Rattle.dump_reader.proofs.Depths.{depth-numbered}
 use Rattle.dump_reader.proofs.Items.{term-names, term-levels, branch-names, branch-levels, def-names, def-levels, applied-names, applied-levels, term-values, branch-values, rarg-values, type-values, body-values, applied-value, rargs-length, small-applied}
 
@@ -41,6 +41,10 @@ pub term-within : {t : Named} {old new : Tables} {x : terms.Term} → IsTerm t o
 term-within {t} {old} {new} {x} p h =
     let same : m.depth x ≡ depth t = ap (λ (z : terms.Term). m.depth z) (p.numbers.is_value [] []) ∙ depth-numbered _ _ t in
     (omega arith, p.small)
+
+-- tables with the same texts
+pub kept-term : {t : Named} {old mid new : Tables} {x : terms.Term} → IsTerm t old mid x → new.names ≡ mid.names → new.levels ≡ mid.levels → IsTerm t old new x
+kept-term p ns-same ls-same = record { numbers = kept p.numbers ns-same ls-same; small = p.small }
 
 -- lists in other words
 pub terms-along : {ts us : List Named} {xs ys : List terms.Term} {old new : Tables} → ts ≡ us → ys ≡ xs → AreTerms ts old new xs → AreTerms us old new ys

@@ -117,6 +117,14 @@ module _ {X Y : Type 0} {u v : Uses} {f : List (List ℕ) → List (List ℕ) �
         λ i. h (first i) (q.is_value ns ls i);
   }
 
+-- tables with the same texts
+pub kept : {X : Type 0} {u v : Uses} {f : List (List ℕ) → List (List ℕ) → X} {old mid new : Tables} {x : X} → Numbers u v f old mid x → new.names ≡ mid.names → new.levels ≡ mid.levels → Numbers u v f old new x
+kept {f = f} {mid = mid} {new = new} p ns-same ls-same = record {
+  names_grow = λ after. p.names_grow after ∙ ap (λ t. after_uses t after) (sym ns-same);
+  levels_grow = λ after. p.levels_grow after ∙ ap (λ t. after_uses t after) (sym ls-same);
+  is_value = λ ns ls. p.is_value ns ls ∙ ap (λ t. f (after_uses t ns) (after_uses mid.levels ls)) (sym ns-same) ∙ ap (λ t. f (after_uses new.names ns) (after_uses t ls)) (sym ls-same);
+}
+
 -- the same number of uses in other words
 pub restated : {X : Type 0} {u v u' v' : Uses} {f g : List (List ℕ) → List (List ℕ) → X} {old new : Tables} {x y : X} → Numbers u v f old new x
     → ((after : List (List ℕ)) → u' after ≡ u after) → ((after : List (List ℕ)) → v' after ≡ v after) → ((ns ls : List (List ℕ)) → f ns ls ≡ g ns ls) → y ≡ x → Numbers u' v' g old new y
@@ -164,7 +172,7 @@ module _ {X Y : Type 0} (u v : X → Uses) (value : List (List ℕ) → List (Li
 -- ---- one use
 
 pub used-level : (a b : List ℕ) (old : Tables) (table : List (List ℕ)) (n : ℕ) → b ≡ a → table ≡ with_text b old.levels → n ≡ place_of b old.levels
-    → Numbers unused (λ after. a ∷ after) (λ ns ls. level_number ls a) old (record { names = old.names; levels = table }) (record { 0 = n })
+    → Numbers unused (λ after. a ∷ after) (λ ns ls. level_number ls a) old (record { names = old.names; levels = table; leaves = old.leaves }) (record { 0 = n })
 unfolding after_uses
 used-level a b old table n same grown place =
     let now : table ≡ with_text a old.levels = grown ∙ ap (λ c. with_text c old.levels) same in
@@ -177,7 +185,7 @@ used-level a b old table n same grown place =
     }
 
 pub used-name : (a b : List ℕ) (old : Tables) (table : List (List ℕ)) (n : ℕ) → b ≡ a → table ≡ with_text b old.names → n ≡ place_of b old.names
-    → Numbers (λ after. a ∷ after) unused (λ ns ls. name_number ns a) old (record { names = table; levels = old.levels }) (record { 0 = n })
+    → Numbers (λ after. a ∷ after) unused (λ ns ls. name_number ns a) old (record { names = table; levels = old.levels; leaves = old.leaves }) (record { 0 = n })
 unfolding after_uses
 used-name a b old table n same grown place =
     let now : table ≡ with_text a old.names = grown ∙ ap (λ c. with_text c old.names) same in

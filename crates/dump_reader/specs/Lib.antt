@@ -1,4 +1,5 @@
 pub mod Tables
+pub mod Leaves
 pub mod Numbered
 pub mod NumberedEnvironment
 pub mod Spelling

@@ -7,7 +7,8 @@
 //! spells (`spells`), each refusal is the first of the text and stands where its cause is (`first`, `syntax`, `unsupported`, `limit`), and a
 //! text that spells an environment within the limits is read as that environment unless memory runs out (`complete`). A text spells one
 //! environment at most (`meaning_is_unique`). `read_call` reads the environment that a text begins with, up to the bracket that closes the
-//! first one, with the same promises of that front, and gives the offset behind it (`behind`, `within`).
+//! first one, with the same promises of that front, and gives the offset behind it (`behind`, `within`). Terms without subterms are shared (`leaves`); no
+//! clause says what is.
 //!
 //! Below stand `dump_grammar` (the format and its refusals), `dump_parser` (the text as a tree), `pc_terms` and `universe_levels`. Above stand the
 //! printer and the checker.
@@ -17,7 +18,9 @@ pub mod declaration;
 mod declared;
 pub mod environment;
 mod front;
+mod leaves;
 mod lists;
+mod making;
 pub mod names;
 mod numbering;
 pub mod reading;

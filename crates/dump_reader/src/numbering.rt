@@ -1,23 +1,30 @@
-//! The tables of names and of levels, which grow as a tree is read.
+//! The tables of names and of levels, which grow as a tree is read, and the terms without subterms that were made.
 ghost use Rattle.std.specs.Prelude.{◌≡◌, ◌∷◌, [], IfOk, IfErr};
 ghost use Rattle.std.specs.Str.{IsAscii};
 ghost use Rattle.dump_grammar.specs.declared.refusal.ReadRefusal.TheVariants.{Memory};
 ghost use Rattle.dump_grammar.specs.declared.keyword.Keyword.TheVariants as words;
 ghost use Rattle.dump_grammar.specs.Keywords.{spelling};
 ghost use Rattle.dump_reader.specs.Numbered.{name_number, level_number};
+ghost use Rattle.pc_terms.specs.Syntax.{SortT};
 ghost use Rattle.dump_reader.specs.Growth.{Numbers, unused};
+ghost use Rattle.dump_reader.specs.Leaves.{leaf_term};
 
+use crate::leaves::{Leaf, Leaves};
+use crate::making::made;
 use crate::names::Names;
 use dump_grammar::{Keyword, ReadRefusal, spelling_of};
 use pc_terms::leaf::Name;
+use pc_terms::term::{Node, Term};
 use std::alloc::Global;
 use universe_levels::level::Level;
+use universe_levels::sort::Sort;
 
-/// The names and the levels that have been used, by number.
+/// The names and the levels that have been used, by number, and the terms without subterms that were made.
 #[derive(Drop)]
 pub(crate) struct Tables {
     pub(crate) names: Names,
     pub(crate) levels: Names,
+    leaves: Leaves,
 }
 
 impl Tables {
@@ -30,7 +37,12 @@ impl Tables {
         let mut levels = Names::new(alloc);
         levels.number(alloc, text_of(spelling_of(Keyword::Set)))?;
         let names = Names::new(alloc);
-        Ok(Tables { names, levels })
+        let leaves = Leaves::new(alloc);
+        Ok(Tables {
+            names,
+            levels,
+            leaves,
+        })
     }
 
     /// The number of a name at a use of it.
@@ -51,6 +63,29 @@ impl Tables {
     {
         let number = self.levels.number(alloc, text_of(text))?;
         Ok(Level(number))
+    }
+
+    /// The term of a leaf.
+    pub(crate) fn leaf(&mut self, alloc: Global, leaf: Leaf) -> Result<Term, ReadRefusal>
+        ensures ok { IfOk result (λ t. t ≡ leaf_term leaf) }
+        ensures names { self.new.names ≡ self.old.names }
+        ensures levels { self.new.levels ≡ self.old.levels }
+        ensures only_memory { IfErr result (λ e. e ≡ Memory) }
+    {
+        self.leaves.term(alloc, leaf)
+    }
+
+    /// The term of a sort.
+    pub(crate) fn sort(&mut self, alloc: Global, sort: Sort) -> Result<Term, ReadRefusal>
+        ensures ok { IfOk result (λ t. t ≡ SortT sort) }
+        ensures names { self.new.names ≡ self.old.names }
+        ensures levels { self.new.levels ≡ self.old.levels }
+        ensures only_memory { IfErr result (λ e. e ≡ Memory) }
+    {
+        match sort {
+            Sort::Prop => self.leaf(alloc, Leaf::Prop),
+            Sort::Of(universe) => made(alloc, Node::Sort(Sort::Of(universe))),
+        }
     }
 }
 

@@ -2,8 +2,7 @@
 ghost use Rattle.std.specs.Prelude.{◌≡◌, ◌≤◌, map, IfOk, IfErr};
 ghost use Rattle.trees.specs.Measures.{IsWithin};
 ghost use Rattle.trees.specs.Tree.{terms_of};
-ghost use Rattle.pc_terms.specs.Syntax.{HasIndex, apply};
-ghost use Rattle.pc_terms.specs.View.{tree_of};
+ghost use Rattle.pc_terms.specs.Syntax.{apply};
 ghost use Rattle.dump_grammar.specs.declared.refusal.ReadRefusal.TheVariants.{Memory};
 ghost use Rattle.dump_grammar.specs.Named.{branches_of, defs_of, depth, depth_terms, depth_branches, depth_defs};
 ghost use Rattle.dump_grammar.specs.Named as named;
@@ -12,6 +11,8 @@ ghost use Rattle.dump_parser.specs.declared.tree.Node.TheVariants as nodes;
 ghost use Rattle.dump_reader.specs.Formed.{IsFormed, AreFormed, AreFormedBranches, AreFormedDefs, Each};
 ghost use Rattle.dump_reader.specs.Made.{IsTerm, AreTerms, AreBranches, AreDefs};
 
+use crate::leaves::Leaf;
+use crate::making::made;
 use crate::numbering::Tables;
 use crate::universe::sort;
 use dump_grammar::ReadRefusal;
@@ -20,20 +21,6 @@ use dump_parser::tree::Tree;
 use pc_terms::leaf::FamilyId;
 use pc_terms::term::{Branch, Branches, Def, Defs, MakeFault, Match, Node, Term, Terms};
 use std::alloc::Global;
-
-/// The term of a node that is within the limits of terms.
-fn made(alloc: Global, node: Node) -> Result<Term, ReadRefusal>
-    requires indexed { HasIndex (tree_of node) }
-    requires within { IsWithin (tree_of node) }
-    ensures ok { IfOk result (λ t. t ≡ tree_of node) }
-    ensures only_memory { IfErr result (λ e. e ≡ Memory) }
-{
-    match Term::make(alloc, node) {
-        Ok(term) => Ok(term),
-        Err(MakeFault::Memory) => Err(ReadRefusal::Memory),
-        Err(MakeFault::TooDeep) => unreachable!(),
-    }
-}
 
 /// A function applied to arguments, where the whole is within the limits of terms.
 fn applied(alloc: Global, function: &Term, arguments: &Terms) -> Result<Term, ReadRefusal>
@@ -56,10 +43,10 @@ pub(crate) fn term(alloc: Global, tables: &mut Tables, tree: &Tree) -> Result<Te
     ensures only_memory { IfErr result (λ e. e ≡ Memory) }
 {
     match tree.node() {
-        tree::Node::Rel(n) => made(alloc, Node::Rel(*n)),
+        tree::Node::Rel(n) => tables.leaf(alloc, Leaf::Rel(*n)),
         tree::Node::Sort(s) => {
             let s = sort(alloc, tables, s)?;
-            made(alloc, Node::Sort(s))
+            tables.sort(alloc, s)
         }
         tree::Node::Prod(domain, codomain) => {
             let domain = term(alloc, tables, domain)?;
@@ -75,17 +62,17 @@ pub(crate) fn term(alloc: Global, tables: &mut Tables, tree: &Tree) -> Result<Te
         tree::Node::App(function, first, more) => run(alloc, tables, function, first, more),
         tree::Node::Const(name) => {
             let name = tables.name(alloc, name)?;
-            made(alloc, Node::Const(name))
+            tables.leaf(alloc, Leaf::Const(name))
         }
         tree::Node::Ind(block, family) => {
             let block = tables.name(alloc, block)?;
             let family = *family;
-            made(alloc, Node::Ind(FamilyId { block, family }))
+            tables.leaf(alloc, Leaf::Ind(FamilyId { block, family }))
         }
         tree::Node::Construct(block, family, place) => {
             let block = tables.name(alloc, block)?;
             let family = *family;
-            made(alloc, Node::Construct(FamilyId { block, family }, *place))
+            tables.leaf(alloc, Leaf::Construct(FamilyId { block, family }, *place))
         }
         tree::Node::Case(m) => case(alloc, tables, m),
         tree::Node::Fix(defs, index) => fixpoint(alloc, tables, defs, *index),
@@ -163,7 +150,7 @@ fn cast(alloc: Global, tables: &mut Tables, subject: &Tree, ty: &Tree) -> Result
     ensures only_memory { IfErr result (λ e. e ≡ Memory) }
 {
     let ty = term(alloc, tables, ty)?;
-    let variable = made(alloc, Node::Rel(0))?;
+    let variable = tables.leaf(alloc, Leaf::Rel(0))?;
     let function = made(alloc, Node::Lambda(ty, variable))?;
     let subject = term(alloc, tables, subject)?;
     let whole = made(alloc, Node::App(function, subject))?;

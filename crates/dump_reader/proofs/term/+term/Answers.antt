@@ -6,7 +6,7 @@ use Rattle.dump_parser.specs.Tree.{named_sort, named_def, named_branch}
 use Rattle.dump_reader.specs.Formed.{Each, IsFormed, AreFormedBranches, AreFormedDefs}
 use Rattle.dump_reader.proofs.Parts.{seen, term-at, branch-at, def-at, sort-part, const-part, ind-part, construct-part, prod-parts, lambda-parts, let-parts, fix-parts, cast-parts, cast-function, case-parts, case-depths, each-formed, run-parts, run-depths}
 use Rattle.dump_reader.proofs.Items.{no-terms, no-branches, no-defs, one-term, one-branch, one-def}
-use Rattle.dump_reader.proofs.Formers.{as-term, of-tree, terms-along, branches-along, defs-along, term-result, term-within, rel-term, sort-term, const-term, ind-term, construct-term, prod-term, lambda-term, app-term, let-term, cast-term, run-term, case-term, fix-term, fix-index}
+use Rattle.dump_reader.proofs.Formers.{as-term, of-tree, kept-term, terms-along, branches-along, defs-along, term-result, term-within, rel-term, sort-term, const-term, ind-term, construct-term, prod-term, lambda-term, app-term, let-term, cast-term, run-term, case-term, fix-term, fix-index}
 use Rattle.dump_reader.proofs.term.+term.Goals as goal
 
 pub terms-loop-tree-init : goal.terms-loop-tree-init
@@ -52,20 +52,20 @@ pub term-name-requires-in-Construct : goal.term-name-requires-in-Construct
 term-name-requires-in-Construct t c = construct-part c.args.tree.now c.in-Construct.block.now c.in-Construct.family c.in-Construct.place (seen c.node.ensures.is c.in-Construct.is) c.requires
 
 pub term-returns-in-Rel-clause-made : goal.term-returns-in-Rel-clause-made
-term-returns-in-Rel-clause-made t c = term-result (of-tree (seen c.node.ensures.is c.in-Rel.is) (rel-term c.in-Rel.n c.args.tables.now (omega arith))) c.made.result c.made.ensures.ok
+term-returns-in-Rel-clause-made t c = term-result (kept-term (of-tree (seen c.node.ensures.is c.in-Rel.is) (rel-term c.in-Rel.n c.args.tables.now (omega arith))) c.leaf.ensures.names c.leaf.ensures.levels) c.leaf.result c.leaf.ensures.ok
 
 pub term-returns-in_ok-s-in-Sort-clause-made : goal.term-returns-in_ok-s-in-Sort-clause-made
-term-returns-in_ok-s-in-Sort-clause-made t c = term-result (of-tree (seen c.node.ensures.is c.in-Sort.is) (sort-term (named_sort c.in-Sort.s) c.in_ok-s-in-Sort.s c.in_ok-s-in-Sort.ensures.made)) c.made-in-Sort.result c.made-in-Sort.ensures.ok
+term-returns-in_ok-s-in-Sort-clause-made t c = term-result (kept-term (of-tree (seen c.node.ensures.is c.in-Sort.is) (sort-term (named_sort c.in-Sort.s) c.in_ok-s-in-Sort.s c.in_ok-s-in-Sort.ensures.made)) c.sort-in-Sort.ensures.names c.sort-in-Sort.ensures.levels) c.sort-in-Sort.result c.sort-in-Sort.ensures.ok
 
 pub term-returns-in_ok-name-in-Const-clause-made : goal.term-returns-in_ok-name-in-Const-clause-made
-term-returns-in_ok-name-in-Const-clause-made t c = term-result (of-tree (seen c.node.ensures.is c.in-Const.is) (const-term c.in-Const.name.now c.in_ok-name-in-Const.name c.in_ok-name-in-Const.ensures.made)) c.made-in-Const.result c.made-in-Const.ensures.ok
+term-returns-in_ok-name-in-Const-clause-made t c = term-result (kept-term (of-tree (seen c.node.ensures.is c.in-Const.is) (const-term c.in-Const.name.now c.in_ok-name-in-Const.name c.in_ok-name-in-Const.ensures.made)) c.leaf-in-Const.ensures.names c.leaf-in-Const.ensures.levels) c.leaf-in-Const.result c.leaf-in-Const.ensures.ok
 
 pub term-returns-in_ok-block-in-Ind-clause-made : goal.term-returns-in_ok-block-in-Ind-clause-made
-term-returns-in_ok-block-in-Ind-clause-made t c = term-result (of-tree (seen c.node.ensures.is c.in-Ind.is) (ind-term c.in-Ind.block.now c.in_ok-block-in-Ind.block c.in_ok-block-in-Ind.ensures.made c.in-Ind.family)) c.made-in-Ind.result c.made-in-Ind.ensures.ok
+term-returns-in_ok-block-in-Ind-clause-made t c = term-result (kept-term (of-tree (seen c.node.ensures.is c.in-Ind.is) (ind-term c.in-Ind.block.now c.in_ok-block-in-Ind.block c.in_ok-block-in-Ind.ensures.made c.in-Ind.family)) c.leaf-in-Ind.ensures.names c.leaf-in-Ind.ensures.levels) c.leaf-in-Ind.result c.leaf-in-Ind.ensures.ok
 
 pub term-returns-in_ok-block-in-Construct-clause-made : goal.term-returns-in_ok-block-in-Construct-clause-made
-term-returns-in_ok-block-in-Construct-clause-made t c = term-result (of-tree (seen c.node.ensures.is c.in-Construct.is) (construct-term c.in-Construct.block.now c.in_ok-block-in-Construct.block c.in_ok-block-in-Construct.ensures.made c.in-Construct.family
-    c.in-Construct.place)) c.made-in-Construct.result c.made-in-Construct.ensures.ok
+term-returns-in_ok-block-in-Construct-clause-made t c = term-result (kept-term (of-tree (seen c.node.ensures.is c.in-Construct.is) (construct-term c.in-Construct.block.now c.in_ok-block-in-Construct.block c.in_ok-block-in-Construct.ensures.made c.in-Construct.family
+    c.in-Construct.place)) c.leaf-in-Construct.ensures.names c.leaf-in-Construct.ensures.levels) c.leaf-in-Construct.result c.leaf-in-Construct.ensures.ok
 
 pub term-term-requires : goal.term-term-requires
 term-term-requires t c = (let p = prod-parts c.args.tree.now c.in-Prod.domain c.in-Prod.codomain (seen c.node.ensures.is c.in-Prod.is) c.requires in (omega (arith, p.0), p.2))
@@ -73,11 +73,11 @@ term-term-requires t c = (let p = prod-parts c.args.tree.now c.in-Prod.domain c.
 pub term-term-requires-in-Prod : goal.term-term-requires-in-Prod
 term-term-requires-in-Prod t c = (let p = prod-parts c.args.tree.now c.in-Prod.domain c.in-Prod.codomain (seen c.node.ensures.is c.in-Prod.is) c.requires in (omega (arith, p.1), p.3))
 
-pub term-made-requires-in-Prod-clause-within : goal.term-made-requires-in-Prod-clause-within
-term-made-requires-in-Prod-clause-within t c = term-within (of-tree (seen c.node.ensures.is c.in-Prod.is) (prod-term c.in_ok-domain-in-Prod.ensures.made c.in_ok-codomain-in-Prod.ensures.made)) c.node.ensures.within
+pub term-made-requires-clause-within : goal.term-made-requires-clause-within
+term-made-requires-clause-within t c = term-within (of-tree (seen c.node.ensures.is c.in-Prod.is) (prod-term c.in_ok-domain-in-Prod.ensures.made c.in_ok-codomain-in-Prod.ensures.made)) c.node.ensures.within
 
 pub term-returns-in_ok-codomain-in-Prod-clause-made : goal.term-returns-in_ok-codomain-in-Prod-clause-made
-term-returns-in_ok-codomain-in-Prod-clause-made t c = term-result (of-tree (seen c.node.ensures.is c.in-Prod.is) (prod-term c.in_ok-domain-in-Prod.ensures.made c.in_ok-codomain-in-Prod.ensures.made)) c.made-in-Prod.result c.made-in-Prod.ensures.ok
+term-returns-in_ok-codomain-in-Prod-clause-made t c = term-result (of-tree (seen c.node.ensures.is c.in-Prod.is) (prod-term c.in_ok-domain-in-Prod.ensures.made c.in_ok-codomain-in-Prod.ensures.made)) c.made.result c.made.ensures.ok
 
 pub term-term-requires-in-Lambda : goal.term-term-requires-in-Lambda
 term-term-requires-in-Lambda t c = (let p = lambda-parts c.args.tree.now c.in-Lambda.domain c.in-Lambda.body (seen c.node.ensures.is c.in-Lambda.is) c.requires in (omega (arith, p.0), p.2))
@@ -131,17 +131,17 @@ case-name-requires t c = (case-parts c.args.m.now.block.now c.args.m.now.family 
 pub cast-term-requires : goal.cast-term-requires
 cast-term-requires t c = (let p = cast-parts c.args.subject.now c.args.ty.now c.requires.formed in (omega (arith, p.1), p.3))
 
-pub cast-made-requires-2-clause-within : goal.cast-made-requires-2-clause-within
-cast-made-requires-2-clause-within t c = term-within (lambda-term c.in_ok-ty.ensures.made (as-term c.in_ok-variable.ensures.ok (rel-term 0 c.term.new.tables (omega arith)))) (cast-function c.args.subject.now c.args.ty.now c.requires.within)
+pub cast-made-requires-clause-within : goal.cast-made-requires-clause-within
+cast-made-requires-clause-within t c = term-within (lambda-term c.in_ok-ty.ensures.made (as-term c.in_ok-variable.ensures.ok (kept-term {new = c.leaf.new.self} (rel-term 0 c.term.new.tables (omega arith)) c.leaf.ensures.names c.leaf.ensures.levels))) (cast-function c.args.subject.now c.args.ty.now c.requires.within)
 
 pub cast-term-requires-2 : goal.cast-term-requires-2
 cast-term-requires-2 t c = (let p = cast-parts c.args.subject.now c.args.ty.now c.requires.formed in (omega (arith, p.0), p.2))
 
-pub cast-made-requires-3-clause-within : goal.cast-made-requires-3-clause-within
-cast-made-requires-3-clause-within t c = term-within (app-term (as-term c.in_ok-function.ensures.ok (lambda-term c.in_ok-ty.ensures.made (as-term c.in_ok-variable.ensures.ok (rel-term 0 c.term.new.tables (omega arith))))) c.in_ok-subject.ensures.made) c.requires.within
+pub cast-made-requires-2-clause-within : goal.cast-made-requires-2-clause-within
+cast-made-requires-2-clause-within t c = term-within (app-term (as-term c.in_ok-function.ensures.ok (lambda-term c.in_ok-ty.ensures.made (as-term c.in_ok-variable.ensures.ok (kept-term (rel-term 0 c.term.new.tables (omega arith)) c.leaf.ensures.names c.leaf.ensures.levels)))) c.in_ok-subject.ensures.made) c.requires.within
 
 pub cast-returns-clause-made : goal.cast-returns-clause-made
-cast-returns-clause-made t c = as-term c.in_ok-whole.ensures.ok (app-term (as-term c.in_ok-function.ensures.ok (lambda-term c.in_ok-ty.ensures.made (as-term c.in_ok-variable.ensures.ok (rel-term 0 c.term.new.tables (omega arith))))) c.in_ok-subject.ensures.made)
+cast-returns-clause-made t c = as-term c.in_ok-whole.ensures.ok (app-term (as-term c.in_ok-function.ensures.ok (lambda-term c.in_ok-ty.ensures.made (as-term c.in_ok-variable.ensures.ok (kept-term (rel-term 0 c.term.new.tables (omega arith)) c.leaf.ensures.names c.leaf.ensures.levels)))) c.in_ok-subject.ensures.made)
 
 pub run-term-requires : goal.run-term-requires
 run-term-requires t c = (let d = run-depths c.args.function.now c.args.first.now c.args.more.now.items in (omega (arith, d.0), (run-parts c.args.function.now c.args.first.now c.args.more.now.items c.requires.formed).0))
