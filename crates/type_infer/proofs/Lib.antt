@@ -8,3 +8,4 @@ mod Answering
 pub mod MatchLists
 pub mod Matching
 pub mod Steps
+pub mod Pendings

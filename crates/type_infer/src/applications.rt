@@ -1,12 +1,16 @@
-//! Applications: rule 6.
+//! Applications: rule 6. The types of functions stay products of which arguments are still to be put in as long as they are written as such,
+//! so an application to many arguments puts these in all at once.
 ghost use Rattle.std.specs.Prelude.{◌≡◌, ◌+◌};
 ghost use Rattle.pc_rules.specs.Entailment.{test_of};
 ghost use Rattle.pc_rules.specs.Follows.{Follows};
+ghost use Rattle.pc_terms.specs.Syntax.{App};
 ghost use Rattle.pc_rules.specs.DirectedComparison.{compare};
 ghost use Rattle.pc_rules.specs.DirectedTyping.{infer, app_rule};
+ghost use Rattle.type_infer.specs.Pending.{FollowsPending, reduced_rule};
 ghost use Rattle.type_infer.specs.Ready.{IsReady};
 
 use crate::inference::Inference;
+use crate::pending::PendingType;
 use pc_rules::broken::Broken;
 use pc_rules::context::Ctx;
 use pc_rules::converter::Converter;
@@ -14,7 +18,7 @@ use pc_rules::environment::Env;
 use pc_rules::guarder::Guarder;
 use pc_rules::meter::Meter;
 use pc_rules::reducer::Reducer;
-use pc_rules::stop::Halt;
+use pc_rules::stop::{Halt, Stop};
 use pc_terms::term::{Node, Term};
 use std::alloc::Global;
 
@@ -35,15 +39,117 @@ impl<R: Reducer + Drop, C: Converter + Drop, G: Guarder + Drop> Inference<R, C, 
         requires ready { IsReady env.now ctx.now }
         ensures follows { Follows (app_rule env.now (infer env.now (test_of env.now) room) (compare env.now (test_of env.now) room) ctx.now function.now argument.now m.old.account) result m.old m.new }
     {
-        let ty = self.infer_at(alloc, env, ctx, room, function, m)?;
-        let whnf = self.reducer.whnf(alloc, env, ctx, &ty, m)?;
+        let ty = self.application_type(alloc, env, ctx, room, function, argument, m)?;
+        Ok(ty.whole(alloc)?)
+    }
+
+    /// The same, of which arguments are still to be put in.
+    #[cycle(infer)]
+    fn application_type(
+        &self,
+        alloc: Global,
+        env: &Env,
+        ctx: &Ctx,
+        room: u32,
+        function: &Term,
+        argument: &Term,
+        m: &mut Meter,
+    ) -> Result<PendingType, Halt>
+        requires nest { room + m.old.nest ≡ 2048 }
+        requires ready { IsReady env.now ctx.now }
+        ensures follows { FollowsPending (app_rule env.now (infer env.now (test_of env.now) room) (compare env.now (test_of env.now) room) ctx.now function.now argument.now m.old.account) result m.old m.new }
+    {
+        let ty = self.function_type(alloc, env, ctx, room, function, m)?;
+        match ty.base.view() {
+            Node::Prod(domain, codomain) => {
+                let wanted = ty.instance(alloc, domain)?;
+                self.check_at(alloc, env, ctx, room, argument, &wanted, m)?;
+                let base = codomain.share()?;
+                Ok(ty.and(base, argument)?)
+            }
+            _ => {
+                let whole = ty.whole(alloc)?;
+                self.reduced_type(alloc, env, ctx, room, &whole, argument, m)
+            }
+        }
+    }
+
+    /// The type of an application by the weak-head normal form of its function's type.
+    #[cycle(infer)]
+    fn reduced_type(
+        &self,
+        alloc: Global,
+        env: &Env,
+        ctx: &Ctx,
+        room: u32,
+        ty: &Term,
+        argument: &Term,
+        m: &mut Meter,
+    ) -> Result<PendingType, Halt>
+        requires nest { room + m.old.nest ≡ 2048 }
+        requires ready { IsReady env.now ctx.now }
+        ensures follows { FollowsPending (reduced_rule env.now (infer env.now (test_of env.now) room) (compare env.now (test_of env.now) room) ctx.now argument.now ty.now m.old.account) result m.old m.new }
+    {
+        let whnf = self.reducer.whnf(alloc, env, ctx, ty, m)?;
         match whnf.view() {
             Node::Prod(domain, codomain) => {
-                self.retype(alloc, env, ctx, room, &ty, &whnf, m)?;
+                self.retype(alloc, env, ctx, room, ty, &whnf, m)?;
                 self.check_at(alloc, env, ctx, room, argument, domain, m)?;
-                Ok(codomain.subst(alloc, 0, argument)?)
+                Ok(PendingType::of_one(alloc, codomain, argument)?)
             }
             _ => Err(Halt::Broken(Broken::NotAProduct { whnf })),
         }
+    }
+
+    /// The type of a function, of which arguments are still to be put in where it is an application itself.
+    #[cycle(infer)]
+    fn function_type(
+        &self,
+        alloc: Global,
+        env: &Env,
+        ctx: &Ctx,
+        room: u32,
+        t: &Term,
+        m: &mut Meter,
+    ) -> Result<PendingType, Halt>
+        requires nest { room + m.old.nest ≡ 2048 }
+        requires ready { IsReady env.now ctx.now }
+        ensures follows { FollowsPending (infer env.now (test_of env.now) room ctx.now t.now m.old.account) result m.old m.new }
+    {
+        match t.view() {
+            Node::App(f, a) => self.inner_type(alloc, env, ctx, room, f, a, m),
+            _ => {
+                let ty = self.infer_at(alloc, env, ctx, room, t, m)?;
+                Ok(PendingType::of(alloc, ty))
+            }
+        }
+    }
+
+    /// The type of an application that is a function: a unit, one more rule that stands, the note of rule 6, and the rule.
+    #[cycle(infer)]
+    fn inner_type(
+        &self,
+        alloc: Global,
+        env: &Env,
+        ctx: &Ctx,
+        room: u32,
+        function: &Term,
+        argument: &Term,
+        m: &mut Meter,
+    ) -> Result<PendingType, Halt>
+        requires nest { room + m.old.nest ≡ 2048 }
+        requires ready { IsReady env.now ctx.now }
+        ensures follows { FollowsPending (infer env.now (test_of env.now) room ctx.now (App function.now argument.now) m.old.account) result m.old m.new }
+    {
+        if !m.tick() {
+            return Err(Halt::Stop(Stop::Spent));
+        }
+        if !m.enter() {
+            return Err(Halt::Stop(Stop::TooDeep));
+        }
+        m.note(6);
+        let answer = self.application_type(alloc, env, ctx, room - 1, function, argument, m);
+        m.leave();
+        answer
     }
 }

@@ -6,7 +6,7 @@
 //! are left and the uses of rules are those of the directed rules. What it infers or lets pass is so by the rules of typing (`typed`).
 //!
 //! The rules call one another, and only the number of rules that may still stand falls, so they are one cycle of calls: its start is in
-//! `inference`, sorts and checks against a type in `conversions`, products, lambdas and lets in `binders`, applications in `applications`,
+//! `inference`, sorts and checks against a type in `conversions`, products, lambdas and lets in `binders`, applications in `applications` with `pending`,
 //! matches in `matches` with `telescopes`, `scrutinees` and `branches`, and fixpoints in `fixpoints`. What calls no rule stands apart:
 //! variables and sorts in `leaves`, constants, families and constructors in `declared`, and in `lookup`, `counts` and `elimination` what a
 //! match asks of its block.
@@ -30,5 +30,6 @@ pub mod inference;
 pub mod leaves;
 pub mod lookup;
 mod matches;
+pub mod pending;
 pub mod scrutinees;
 mod telescopes;

@@ -3,3 +3,4 @@ pub mod Starting
 pub mod MadeLists
 pub mod MadeMatches
 pub mod Forgetting
+pub mod MadePendings

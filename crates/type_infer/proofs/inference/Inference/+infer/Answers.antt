@@ -1,13 +1,14 @@
-use Rattle.std.proofs.Common.{rules, arith, ◌≡◌, ◌∙◌, ap, ◌<◌, ◌-◌, ◌+◌, sym, length, ◌++◌, ◌∷◌, [], refl}
-use Rattle.pc_terms.specs.Syntax.{SortT}
+use Rattle.std.proofs.Common.{rules, arith, ◌≡◌, ◌∙◌, ap, ◌<◌, ◌-◌, ◌+◌, sym, length, ◌++◌, ◌∷◌, [], refl, Ok}
+use Rattle.pc_terms.specs.Syntax.{SortT, App}
 use Rattle.pc_rules.specs.DirectedRun.{noted}
 use Rattle.pc_rules.specs.DirectedTyping.{rule_number, sort_of, check, retype}
 use Rattle.pc_rules.proofs.Following.{follows_made, follows_fault, follows_memory, follows_then, follows_else, follows_done}
 use Rattle.type_infer.proofs.Fixing.{types_next, types_stop, types_fault, types_done, definitions_next, definitions_done, lift_beyond, few_lambdas, lambdas_found, is_family, no_family_found, definitions_go, definitions_stop, definitions_end}
 use Rattle.type_infer.proofs.Steps.{and_then, halts, still, passed_on, passed_with}
 use Rattle.type_infer.proofs.GuardConditions.{guardable}
+use Rattle.type_infer.proofs.Pendings.{pending_product, pending_beyond, ends_made, pends_there, pends_whole, pends_fault, pends_from, pends_passed, pends_halts, pends_each, product_stays}
 use Rattle.type_infer.specs.Ready.{IsReady}
-use Rattle.type_infer.proofs.Finding.{follows_is, if_ok, put_beyond, sort_found_same, sort_found_goes, product_found}
+use Rattle.type_infer.proofs.Finding.{follows_is, if_ok, sort_found_same, sort_found_goes, product_found}
 use Rattle.type_infer.proofs.Beginning.{infer_spent, infer_nested, infer_entered, inferred_from, assumed_ready, defined_ready}
 use Rattle.calculus_rules.specs.Context.{extend}
 use Rattle.type_infer.proofs.Matching.{entered_next, entered_stop, entered_end, longer_next, all_next, all_stop, all_fault, all_end, pass_fault, pass_go, entered_then, entered_err, whnf_is_counted, asked_counted, branches_next, branches_stop, branches_end, case_goes, case_unknown, pred_fault}
@@ -144,37 +145,112 @@ let_rule-returns g t c =
 
 -- applications
 pub app_rule-returns-in_err-ty : goal.app_rule-returns-in_err-ty
-app_rule-returns-in_err-ty g t c = record { follows = passed_on c.from_residual.ensures.1 (halts _ c.in_err-ty.ensures.follows) }
+app_rule-returns-in_err-ty g t c = record { follows = passed_on c.from_residual.ensures.1 c.in_err-ty.ensures.follows.pends }
 
-pub app_rule-returns-in_err-whnf : goal.app_rule-returns-in_err-whnf
-app_rule-returns-in_err-whnf g t c = record { follows = passed_on c.from_residual-in_err-whnf.ensures.1 (and_then _ c.in_ok-ty.ensures.follows (halts _ c.in_err-whnf.ensures.follows)) }
-
-pub app_rule-returns-in_err-retype-in-Prod : goal.app_rule-returns-in_err-retype-in-Prod
-app_rule-returns-in_err-retype-in-Prod g t c =
-    let e = rw c.in-Prod.is at c.view.ensures.is in
-    record { follows = passed_on c.from_residual-in_err-retype-in-Prod.ensures.1 (and_then _ c.in_ok-ty.ensures.follows (and_then _ c.in_ok-whnf.ensures.follows (product_found _ _ _ _ _ _ e (halts _ c.in_err-retype-in-Prod.ensures.follows)))) }
-
-pub app_rule-returns-in_err-check_at-in-Prod : goal.app_rule-returns-in_err-check_at-in-Prod
-app_rule-returns-in_err-check_at-in-Prod g t c =
-    let e = rw c.in-Prod.is at c.view.ensures.is in
-    record { follows = passed_on c.from_residual-in_err-check_at-in-Prod.ensures.1 (and_then _ c.in_ok-ty.ensures.follows (and_then _ c.in_ok-whnf.ensures.follows (product_found _ _ _ _ _ _ e (and_then _ c.in_ok-retype-in-Prod.ensures.follows (halts _ c.in_err-check_at-in-Prod.ensures.follows))))) }
-
-pub app_rule-returns-in_err-subst-in-Prod : goal.app_rule-returns-in_err-subst-in-Prod
-app_rule-returns-in_err-subst-in-Prod g t c =
-    let e = rw c.in-Prod.is at c.view.ensures.is in
-    let k = put_beyond c.args.argument.now c.in-Prod.codomain c.in_err-subst-in-Prod.field-0.0 c.in_err-subst-in-Prod.ensures.too_deep in
-    record {
-      follows = passed_on c.from_residual-in_err-subst-in-Prod.ensures.1 (and_then _ c.in_ok-ty.ensures.follows (and_then _ c.in_ok-whnf.ensures.follows (product_found _ _ _ _ _ _ e (and_then _ c.in_ok-retype-in-Prod.ensures.follows
-          (and_then _ c.in_ok-check_at-in-Prod.ensures.follows (follows_fault _ _ _ k))))));
-    }
-
-pub app_rule-returns-in-Prod : goal.app_rule-returns-in-Prod
-app_rule-returns-in-Prod g t c =
-    let e = rw c.in-Prod.is at c.view.ensures.is in
-    record { follows = and_then _ c.in_ok-ty.ensures.follows (and_then _ c.in_ok-whnf.ensures.follows (product_found _ _ _ _ _ _ e (and_then _ c.in_ok-retype-in-Prod.ensures.follows (and_then _ c.in_ok-check_at-in-Prod.ensures.follows (follows_made _ _ _ c.in_ok-subst-in-Prod.ensures.parallel))))) }
+pub app_rule-returns-in_err-whole : goal.app_rule-returns-in_err-whole
+app_rule-returns-in_err-whole g t c =
+    record { follows = passed_on c.from_residual-in_err-whole.ensures.1 (pends_fault _ c.in_err-whole.ensures.making c.in_ok-ty.ensures.follows) }
 
 pub app_rule-returns : goal.app_rule-returns
-app_rule-returns g t c = record { follows = and_then _ c.in_ok-ty.ensures.follows (and_then _ c.in_ok-whnf.ensures.follows (search rules)) }
+app_rule-returns g t c = record { follows = c.in_ok-ty.ensures.follows.pends (Ok _) c.in_ok-whole.ensures.making }
+
+pub application_type-returns-in_err-ty : goal.application_type-returns-in_err-ty
+application_type-returns-in_err-ty g t c = record { follows = pends_passed c.from_residual.ensures.1 (halts _ c.in_err-ty.ensures.follows.pends) }
+
+pub application_type-returns-in_err-wanted-in-Prod : goal.application_type-returns-in_err-wanted-in-Prod
+application_type-returns-in_err-wanted-in-Prod g t c =
+    let e = rw c.in-Prod.is at c.view.ensures.is in
+    let k = pending_beyond _ e _ c.in_err-wanted-in-Prod.ensures.making in
+    record { follows = pends_passed c.from_residual-in_err-wanted-in-Prod.ensures.1 (halts _ (pends_fault _ k c.in_ok-ty.ensures.follows)) }
+
+pub application_type-returns-in_err-check_at-in-Prod : goal.application_type-returns-in_err-check_at-in-Prod
+application_type-returns-in_err-check_at-in-Prod g t c =
+    let e = rw c.in-Prod.is at c.view.ensures.is in
+    let h = rw c.in_ok-wanted-in-Prod.ensures.making.0 at c.in_err-check_at-in-Prod.ensures.follows in
+    record {
+      follows = pends_passed c.from_residual-in_err-check_at-in-Prod.ensures.1 (and_then _ (pends_whole c.in_ok-ty.ensures.follows)
+          (product_stays _ _ _ _ _ (pending_product _ e) (halts _ h)));
+    }
+
+pub application_type-returns-in_err-and-in-Prod : goal.application_type-returns-in_err-and-in-Prod
+application_type-returns-in_err-and-in-Prod g t c =
+    let e = rw c.in-Prod.is at c.view.ensures.is in
+    let h = rw c.in_ok-wanted-in-Prod.ensures.making.0 at c.in_ok-check_at-in-Prod.ensures.follows in
+    record {
+      follows = pends_passed c.from_residual-in_err-and-in-Prod.ensures.1 (rw c.in_err-and-in-Prod.ensures.only_memory (and_then _ (pends_whole c.in_ok-ty.ensures.follows)
+          (product_stays _ _ _ _ _ (pending_product _ e) (and_then _ h (follows_memory _ _)))));
+    }
+
+pub application_type-returns-in_ok-and-in-Prod : goal.application_type-returns-in_ok-and-in-Prod
+application_type-returns-in_ok-and-in-Prod g t c =
+    let e = rw c.in-Prod.is at c.view.ensures.is in
+    let h = rw c.in_ok-wanted-in-Prod.ensures.making.0 at c.in_ok-check_at-in-Prod.ensures.follows in
+    let k = rw c.in_ok-base-in-Prod.ensures.ok at c.in_ok-and-in-Prod.ensures.ok in
+    record {
+      follows = pends_each (λ r m. and_then _ (pends_whole c.in_ok-ty.ensures.follows) (product_stays _ _ _ _ _ (pending_product _ e) (and_then _ h (ends_made r k m))));
+    }
+
+pub application_type-returns-in_err-whole-in_default : goal.application_type-returns-in_err-whole-in_default
+application_type-returns-in_err-whole-in_default g t c =
+    record { follows = pends_passed c.from_residual-in_err-whole-in_default.ensures.1 (halts _ (pends_fault _ c.in_err-whole-in_default.ensures.making c.in_ok-ty.ensures.follows)) }
+
+pub application_type-returns-in_ok-whole-in_default : goal.application_type-returns-in_ok-whole-in_default
+application_type-returns-in_ok-whole-in_default g t c =
+    record { follows = pends_from (λ q f. and_then _ (c.in_ok-ty.ensures.follows.pends (Ok _) c.in_ok-whole-in_default.ensures.making) f) c.reduced_type.ensures.follows }
+
+pub reduced_type-returns-in_err-whnf : goal.reduced_type-returns-in_err-whnf
+reduced_type-returns-in_err-whnf g t c = record { follows = pends_passed c.from_residual.ensures.1 (halts _ c.in_err-whnf.ensures.follows) }
+
+pub reduced_type-returns-in_err-retype-in-Prod : goal.reduced_type-returns-in_err-retype-in-Prod
+reduced_type-returns-in_err-retype-in-Prod g t c =
+    let e = rw c.in-Prod.is at c.view.ensures.is in
+    record { follows = pends_passed c.from_residual-in_err-retype-in-Prod.ensures.1 (and_then _ c.in_ok-whnf.ensures.follows (product_found _ _ _ _ _ _ e (halts _ c.in_err-retype-in-Prod.ensures.follows))) }
+
+pub reduced_type-returns-in_err-check_at-in-Prod : goal.reduced_type-returns-in_err-check_at-in-Prod
+reduced_type-returns-in_err-check_at-in-Prod g t c =
+    let e = rw c.in-Prod.is at c.view.ensures.is in
+    record {
+      follows = pends_passed c.from_residual-in_err-check_at-in-Prod.ensures.1 (and_then _ c.in_ok-whnf.ensures.follows (product_found _ _ _ _ _ _ e
+          (and_then _ c.in_ok-retype-in-Prod.ensures.follows (halts _ c.in_err-check_at-in-Prod.ensures.follows))));
+    }
+
+pub reduced_type-returns-in_ok-of_one-in-Prod : goal.reduced_type-returns-in_ok-of_one-in-Prod
+reduced_type-returns-in_ok-of_one-in-Prod g t c =
+    let e = rw c.in-Prod.is at c.view.ensures.is in
+    record {
+      follows = pends_each (λ r m. and_then _ c.in_ok-whnf.ensures.follows (product_found _ _ _ _ _ _ e
+          (and_then _ c.in_ok-retype-in-Prod.ensures.follows (and_then _ c.in_ok-check_at-in-Prod.ensures.follows (ends_made r c.in_ok-of_one-in-Prod.ensures.ok m)))));
+    }
+
+pub reduced_type-returns-in_default : goal.reduced_type-returns-in_default
+reduced_type-returns-in_default g t c = record { follows = pends_halts (and_then _ c.in_ok-whnf.ensures.follows (search rules)) }
+
+pub function_type-returns-in-App : goal.function_type-returns-in-App
+function_type-returns-in-App g t c = record { follows = rw (← c.view.ensures.is, c.in-App.is) c.inner_type.ensures.follows }
+
+pub function_type-returns-in_err-ty-in_default : goal.function_type-returns-in_err-ty-in_default
+function_type-returns-in_err-ty-in_default g t c = record { follows = pends_passed c.from_residual.ensures.1 c.in_err-ty-in_default.ensures.follows }
+
+pub function_type-returns-in_ok-ty-in_default : goal.function_type-returns-in_ok-ty-in_default
+function_type-returns-in_ok-ty-in_default g t c = record { follows = pends_there c.of.ensures.within c.of.ensures.is c.in_ok-ty-in_default.ensures.follows }
+
+-- the start of an inference of a function
+pub inner_type-returns-then-not-tick : goal.inner_type-returns-then-not-tick
+inner_type-returns-then-not-tick g t c = record { follows = pends_halts (infer_spent _ _ _ _ c.args.room c.args.m.now _ (search rules) c.tick.ensures.account c.tick.ensures.nest) }
+
+pub inner_type-returns-then-not-enter : goal.inner_type-returns-then-not-enter
+inner_type-returns-then-not-enter g t c =
+    record {
+      follows = pends_halts (infer_nested _ _ _ _ c.args.room c.args.m.now c.tick.new.self c.enter.new.self (search rules) (search rules) c.tick.ensures.account c.tick.ensures.nest c.enter.ensures.account (search rules));
+    }
+
+pub inner_type-returns : goal.inner_type-returns
+inner_type-returns g t c =
+    let n : c.note.new.self.account ≡ noted (rule_number (App c.args.function.now c.args.argument.now)) c.enter.new.self.account = cc in
+    record {
+      follows = pends_from (λ q f. infer_entered _ _ _ _ c.args.room (c.args.room - 1) q c.args.m.now c.tick.new.self c.enter.new.self c.note.new.self c.application_type-answer.new.m c.leave.new.self
+          (search rules) (search rules) c.tick.ensures.account c.tick.ensures.nest c.enter.ensures.account (search rules) n c.note.ensures.nest f c.leave.ensures.account c.leave.ensures.nest) c.application_type-answer.ensures.follows;
+    }
 
 -- the sort of a term
 pub sort_at-returns-in_err-ty-clause-follows : goal.sort_at-returns-in_err-ty-clause-follows

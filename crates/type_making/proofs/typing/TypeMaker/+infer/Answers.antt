@@ -1,7 +1,7 @@
-use Rattle.std.proofs.Common.{rules, arith, ◌≡◌, ◌∙◌, ap, ◌<◌, ◌-◌, ◌+◌, sym, length, ◌++◌, ◌∷◌, [], refl, subst}
+use Rattle.std.proofs.Common.{rules, arith, ◌≡◌, ◌∙◌, ap, ◌<◌, ◌-◌, ◌+◌, sym, length, ◌++◌, ◌∷◌, [], refl, subst, Ok}
 use Rattle.std.proofs.lemmas.List.{take_all}
 use Rattle.pc_terms.specs.Lists.{rargs_of, bodies_of}
-use Rattle.pc_terms.specs.Syntax.{Rel, SortT}
+use Rattle.pc_terms.specs.Syntax.{Rel, SortT, App}
 use Rattle.calculus_rules.specs.Environment.{with_parameters}
 use Rattle.calculus_rules.specs.Context.{values}
 use Rattle.pc_rules.specs.DirectedRun.{done, noted}
@@ -18,11 +18,13 @@ use Rattle.cert_rules.specs.MakingTyping.{make_sort_of, make_check, make_retype}
 use Rattle.conversion.proofs.Sound.{asked}
 use Rattle.type_infer.specs.Ready.{IsReady}
 use Rattle.type_infer.proofs.Beginning.{assumed_ready, defined_ready}
-use Rattle.type_infer.proofs.Finding.{if_ok, put_beyond}
+use Rattle.type_infer.proofs.Finding.{if_ok}
 use Rattle.type_infer.proofs.Fixing.{definitions_next, definitions_done, lift_beyond}
 use Rattle.type_infer.proofs.Matching.{longer_next, whnf_is_counted}
 use Rattle.script_making.proofs.Making.{makes_on, makes_err, makes_done, makes_memory, makes_passed, passed_nothing, makes_then, makes_else, makes_value, makes_made, makes_fault, makes_answers, makes_metered, makes_passing, makes_beyond}
 use Rattle.type_making.specs.Making.{infer_making}
+use Rattle.type_infer.proofs.Pendings.{pending_product, pending_beyond}
+use Rattle.type_making.proofs.MadePendings.{ends_made, pends_there, pends_whole, pends_fault, pends_from, pends_passed, pends_halts, pends_each, product_stays}
 use Rattle.type_making.proofs.Grouping.{makes_after, makes_before}
 use Rattle.type_making.proofs.Starting.{makes_with, makes_still, infer_spent, infer_nested, infer_entered, made_inferred, sort_there, sort_goes, no_sort, product_found, no_product}
 use Rattle.type_making.proofs.MadeLists.{entered_next, entered_stop, entered_end, all_next, all_stop, all_fault, all_end, branches_next, branches_stop, branches_end}
@@ -179,44 +181,125 @@ let_rule-returns g t c =
 
 -- applications
 pub app_rule-returns-in_err-ty : goal.app_rule-returns-in_err-ty
-app_rule-returns-in_err-ty g t c = record { makes = makes_passed c.from_residual.ensures.1 (makes_err _ c.in_err-ty.ensures.makes) }
+app_rule-returns-in_err-ty g t c = record { makes = makes_passed c.from_residual.ensures.1 c.in_err-ty.ensures.makes.pends }
 
-pub app_rule-returns-in_err-whnf : goal.app_rule-returns-in_err-whnf
-app_rule-returns-in_err-whnf g t c =
-    record { makes = makes_passed c.from_residual-in_err-whnf.ensures.1 (makes_on _ c.in_ok-ty.ensures.makes (makes_err _ c.in_err-whnf.ensures.makes)) }
-
-pub app_rule-returns-in_err-retype-in-Prod : goal.app_rule-returns-in_err-retype-in-Prod
-app_rule-returns-in_err-retype-in-Prod g t c =
-    let e = rw c.in-Prod.is at c.view.ensures.is in
-    record { makes = makes_passed c.from_residual-in_err-retype-in-Prod.ensures.1 (makes_on _ c.in_ok-ty.ensures.makes (makes_on _ c.in_ok-whnf.ensures.makes (product_found _ _ _ _ _ _ e (makes_err _ c.in_err-retype-in-Prod.ensures.makes)))) }
-
-pub app_rule-returns-in_err-check-in-Prod : goal.app_rule-returns-in_err-check-in-Prod
-app_rule-returns-in_err-check-in-Prod g t c =
-    let e = rw c.in-Prod.is at c.view.ensures.is in
-    record {
-      makes = makes_passed c.from_residual-in_err-check-in-Prod.ensures.1 (makes_on _ c.in_ok-ty.ensures.makes (makes_on _ c.in_ok-whnf.ensures.makes
-          (product_found _ _ _ _ _ _ e (makes_on _ c.in_ok-retype-in-Prod.ensures.makes (makes_err _ c.in_err-check-in-Prod.ensures.makes)))));
-    }
-
-pub app_rule-returns-in_err-subst-in-Prod : goal.app_rule-returns-in_err-subst-in-Prod
-app_rule-returns-in_err-subst-in-Prod g t c =
-    let e = rw c.in-Prod.is at c.view.ensures.is in
-    let k = put_beyond c.args.argument.now c.in-Prod.codomain c.in_err-subst-in-Prod.field-0.0 c.in_err-subst-in-Prod.ensures.too_deep in
-    record {
-      makes = makes_passed c.from_residual-in_err-subst-in-Prod.ensures.1 (makes_on _ c.in_ok-ty.ensures.makes (makes_on _ c.in_ok-whnf.ensures.makes
-          (product_found _ _ _ _ _ _ e (makes_on _ c.in_ok-retype-in-Prod.ensures.makes (makes_on _ c.in_ok-check-in-Prod.ensures.makes (makes_fault _ _ _ k))))));
-    }
-
-pub app_rule-returns-in-Prod : goal.app_rule-returns-in-Prod
-app_rule-returns-in-Prod g t c =
-    let e = rw c.in-Prod.is at c.view.ensures.is in
-    record {
-      makes = makes_on _ c.in_ok-ty.ensures.makes (makes_on _ c.in_ok-whnf.ensures.makes
-          (product_found _ _ _ _ _ _ e (makes_on _ c.in_ok-retype-in-Prod.ensures.makes (makes_on _ c.in_ok-check-in-Prod.ensures.makes (makes_made _ _ _ c.in_ok-subst-in-Prod.ensures.parallel)))));
-    }
+pub app_rule-returns-in_err-whole : goal.app_rule-returns-in_err-whole
+app_rule-returns-in_err-whole g t c =
+    record { makes = makes_passed c.from_residual-in_err-whole.ensures.1 (pends_fault _ c.in_err-whole.ensures.making c.in_ok-ty.ensures.makes) }
 
 pub app_rule-returns : goal.app_rule-returns
-app_rule-returns g t c = record { makes = makes_on _ c.in_ok-ty.ensures.makes (makes_on _ c.in_ok-whnf.ensures.makes (no_product _ _ _ _ _ _ _ c.view.ensures.is (λ A B e. c.in_default.not-Prod A B e))) }
+app_rule-returns g t c = record { makes = c.in_ok-ty.ensures.makes.pends (Ok _) c.in_ok-whole.ensures.making }
+
+pub application_type-returns-in_err-ty : goal.application_type-returns-in_err-ty
+application_type-returns-in_err-ty g t c = record { makes = pends_passed c.from_residual.ensures.1 (makes_err _ c.in_err-ty.ensures.makes.pends) }
+
+pub application_type-returns-in_err-wanted-in-Prod : goal.application_type-returns-in_err-wanted-in-Prod
+application_type-returns-in_err-wanted-in-Prod g t c =
+    let e = rw c.in-Prod.is at c.view.ensures.is in
+    let k = pending_beyond _ e _ c.in_err-wanted-in-Prod.ensures.making in
+    record { makes = pends_passed c.from_residual-in_err-wanted-in-Prod.ensures.1 (makes_err _ (pends_fault _ k c.in_ok-ty.ensures.makes)) }
+
+pub application_type-returns-in_err-check-in-Prod : goal.application_type-returns-in_err-check-in-Prod
+application_type-returns-in_err-check-in-Prod g t c =
+    let e = rw c.in-Prod.is at c.view.ensures.is in
+    let h = rw c.in_ok-wanted-in-Prod.ensures.making.0 at c.in_err-check-in-Prod.ensures.makes in
+    record {
+      makes = pends_passed c.from_residual-in_err-check-in-Prod.ensures.1 (makes_on _ (pends_whole c.in_ok-ty.ensures.makes)
+          (product_stays _ _ _ _ _ (pending_product _ e) c.in_ok-put-in-Prod.ensures.meter c.in_ok-put-in-Prod.ensures.written (makes_err _ h)));
+    }
+
+pub application_type-returns-in_err-and-in-Prod : goal.application_type-returns-in_err-and-in-Prod
+application_type-returns-in_err-and-in-Prod g t c =
+    let e = rw c.in-Prod.is at c.view.ensures.is in
+    let h = rw c.in_ok-wanted-in-Prod.ensures.making.0 at c.in_ok-check-in-Prod.ensures.makes in
+    record {
+      makes = pends_passed c.from_residual-in_err-and-in-Prod.ensures.1 (rw c.in_err-and-in-Prod.ensures.only_memory (makes_on _ (pends_whole c.in_ok-ty.ensures.makes)
+          (product_stays _ _ _ _ _ (pending_product _ e) c.in_ok-put-in-Prod.ensures.meter c.in_ok-put-in-Prod.ensures.written (makes_on _ h (makes_memory _ _)))));
+    }
+
+pub application_type-returns-in_ok-and-in-Prod : goal.application_type-returns-in_ok-and-in-Prod
+application_type-returns-in_ok-and-in-Prod g t c =
+    let e = rw c.in-Prod.is at c.view.ensures.is in
+    let h = rw c.in_ok-wanted-in-Prod.ensures.making.0 at c.in_ok-check-in-Prod.ensures.makes in
+    let k = rw c.in_ok-base-in-Prod.ensures.ok at c.in_ok-and-in-Prod.ensures.ok in
+    record {
+      makes = pends_each (λ r m. makes_on _ (pends_whole c.in_ok-ty.ensures.makes)
+          (product_stays _ _ _ _ _ (pending_product _ e) c.in_ok-put-in-Prod.ensures.meter c.in_ok-put-in-Prod.ensures.written (makes_on _ h (ends_made r k m))));
+    }
+
+pub application_type-returns-in_err-whole-in_default : goal.application_type-returns-in_err-whole-in_default
+application_type-returns-in_err-whole-in_default g t c =
+    record { makes = pends_passed c.from_residual-in_err-whole-in_default.ensures.1 (makes_err _ (pends_fault _ c.in_err-whole-in_default.ensures.making c.in_ok-ty.ensures.makes)) }
+
+pub application_type-returns-in_ok-whole-in_default : goal.application_type-returns-in_ok-whole-in_default
+application_type-returns-in_ok-whole-in_default g t c =
+    record { makes = pends_from (λ q f. makes_on _ (c.in_ok-ty.ensures.makes.pends (Ok _) c.in_ok-whole-in_default.ensures.making) f) c.reduced_type.ensures.makes }
+
+pub reduced_type-returns-in_err-whnf : goal.reduced_type-returns-in_err-whnf
+reduced_type-returns-in_err-whnf g t c = record { makes = pends_passed c.from_residual.ensures.1 (makes_err _ c.in_err-whnf.ensures.makes) }
+
+pub reduced_type-returns-in_err-retype-in-Prod : goal.reduced_type-returns-in_err-retype-in-Prod
+reduced_type-returns-in_err-retype-in-Prod g t c =
+    let e = rw c.in-Prod.is at c.view.ensures.is in
+    record { makes = pends_passed c.from_residual-in_err-retype-in-Prod.ensures.1 (makes_on _ c.in_ok-whnf.ensures.makes (product_found _ _ _ _ _ _ e (makes_err _ c.in_err-retype-in-Prod.ensures.makes))) }
+
+pub reduced_type-returns-in_err-check-in-Prod : goal.reduced_type-returns-in_err-check-in-Prod
+reduced_type-returns-in_err-check-in-Prod g t c =
+    let e = rw c.in-Prod.is at c.view.ensures.is in
+    record {
+      makes = pends_passed c.from_residual-in_err-check-in-Prod.ensures.1 (makes_on _ c.in_ok-whnf.ensures.makes
+          (product_found _ _ _ _ _ _ e (makes_on _ c.in_ok-retype-in-Prod.ensures.makes (makes_err _ c.in_err-check-in-Prod.ensures.makes))));
+    }
+
+pub reduced_type-returns-in_ok-of_one-in-Prod : goal.reduced_type-returns-in_ok-of_one-in-Prod
+reduced_type-returns-in_ok-of_one-in-Prod g t c =
+    let e = rw c.in-Prod.is at c.view.ensures.is in
+    record {
+      makes = pends_each (λ r m. makes_on _ c.in_ok-whnf.ensures.makes
+          (product_found _ _ _ _ _ _ e (makes_on _ c.in_ok-retype-in-Prod.ensures.makes (makes_on _ c.in_ok-check-in-Prod.ensures.makes (ends_made r c.in_ok-of_one-in-Prod.ensures.ok m)))));
+    }
+
+pub reduced_type-returns-in_default : goal.reduced_type-returns-in_default
+reduced_type-returns-in_default g t c =
+    record { makes = pends_halts (makes_on _ c.in_ok-whnf.ensures.makes (no_product _ _ _ _ _ _ _ c.view.ensures.is (λ A B e. c.in_default.not-Prod A B e))) }
+
+pub function_type-returns-in-App : goal.function_type-returns-in-App
+function_type-returns-in-App g t c = record { makes = rw (← c.view.ensures.is, c.in-App.is) c.inner_type.ensures.makes }
+
+pub function_type-returns-in_err-ty-in_default : goal.function_type-returns-in_err-ty-in_default
+function_type-returns-in_err-ty-in_default g t c = record { makes = pends_passed c.from_residual.ensures.1 c.in_err-ty-in_default.ensures.makes }
+
+pub function_type-returns-in_ok-ty-in_default : goal.function_type-returns-in_ok-ty-in_default
+function_type-returns-in_ok-ty-in_default g t c = record { makes = pends_there c.of.ensures.within c.of.ensures.is c.in_ok-ty-in_default.ensures.makes }
+
+-- the start of an inference of a function
+pub inner_type-returns-then-not-tick : goal.inner_type-returns-then-not-tick
+inner_type-returns-then-not-tick g t c =
+    let v = c.args.self.now.maker in
+    let f = App c.args.function.now c.args.argument.now in
+    let m = infer_spent v.env.now (test_of v.env.now) c.args.ctx.now f v.room c.args.draft.now (record { meter = c.tick.new.self; written = c.args.draft.now.written })
+    (search rules) c.tick.ensures.account c.tick.ensures.nest in
+    record { makes = pends_halts m }
+
+pub inner_type-returns-then-not-enter : goal.inner_type-returns-then-not-enter
+inner_type-returns-then-not-enter g t c =
+    let v = c.args.self.now.maker in
+    let f = App c.args.function.now c.args.argument.now in
+    let m = infer_nested v.env.now (test_of v.env.now) c.args.ctx.now f v.room c.args.draft.now (record { meter = c.tick.new.self; written = c.args.draft.now.written })
+    (record { meter = c.enter.new.self; written = c.args.draft.now.written }) (search rules) (search rules) c.tick.ensures.account c.tick.ensures.nest c.enter.ensures.account (search rules) in
+    record { makes = pends_halts m }
+
+pub inner_type-returns : goal.inner_type-returns
+inner_type-returns g t c =
+    let v = c.args.self.now.maker in
+    let f = App c.args.function.now c.args.argument.now in
+    let n : c.note.new.self.account ≡ noted (rule_number f) c.enter.new.self.account = cc in
+    record {
+      makes = pends_from (λ q m. infer_entered v.env.now (test_of v.env.now) c.args.ctx.now f v.room (v.room - 1) q c.args.draft.now (record { meter = c.tick.new.self; written = c.args.draft.now.written })
+          (record { meter = c.enter.new.self; written = c.args.draft.now.written }) (record { meter = c.note.new.self; written = c.args.draft.now.written }) c.application_type-answer.new.draft
+          (record { meter = c.leave.new.self; written = c.application_type-answer.new.draft.written }) (search rules) (search rules) c.tick.ensures.account c.tick.ensures.nest c.enter.ensures.account
+          (search rules) refl n c.note.ensures.nest refl m c.leave.ensures.account c.leave.ensures.nest refl) c.application_type-answer.ensures.makes;
+    }
 
 -- the sort of a term
 pub sort_of-returns-in_err-ty-clause-makes : goal.sort_of-returns-in_err-ty-clause-makes
