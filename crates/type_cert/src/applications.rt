@@ -1,17 +1,42 @@
-//! Applications: rule 6.
-ghost use Rattle.std.specs.Prelude.{◌≡◌, ◌+◌};
+//! Applications: rule 6, which puts the arguments in all at once where the types of functions are written as products (`type_infer`: `pending`).
+ghost use Rattle.std.specs.Prelude.{◌≡◌, ◌+◌, IsTrue, IsFalse, Ok, Some, slice_get};
+ghost use Rattle.cert_rules.specs.Walk.{Walk, walk_on};
 ghost use Rattle.type_infer.specs.Ready.{IsReady};
 ghost use Rattle.type_cert.specs.Retraces.{Retraces, stand};
-ghost use Rattle.type_cert.specs.Going.{app_walk};
+ghost use Rattle.type_cert.specs.Going.{app_walk, inferring};
+ghost use Rattle.type_cert.specs.PendingWalk.{RetracesPending, reduced_walk};
+ghost use Rattle.pc_terms.specs.Syntax.{App, Term};
+ghost use Rattle.type_cert.specs.declared.trail.Trail.{Trail};
+ghost use Rattle.cert_rules.specs.declared.item.CertItem.TheVariants.{Number};
 
 use crate::halt::WalkHalt;
 use crate::numbers::reduced;
 use crate::trail::Trail;
 use crate::typing::TypeWalk;
+use crate::verifier::Verifier;
+use cert_rules::item::CertItem;
 use pc_rules::context::Ctx;
 use pc_rules::guarder::Guarder;
+use pc_rules::stop::Stop;
 use pc_terms::term::{Node, Term};
 use std::alloc::Global;
+use type_infer::pending::PendingType;
+
+/// Passes the next item where it is the number of no steps; whether it was.
+fn passes_no_step(cert: &[CertItem], trail: &mut Trail) -> bool
+    ensures there { IsTrue result → slice_get cert.now trail.old.at ≡ Some (Number 0) }
+    ensures passed { IsTrue result → trail.new.at ≡ trail.old.at + 1 }
+    ensures stays { IsFalse result → trail.new ≡ trail.old }
+    ensures meter { trail.new.meter ≡ trail.old.meter }
+{
+    match cert.get(trail.at) {
+        Some(CertItem::Number(0)) => {
+            trail.at += 1;
+            true
+        }
+        _ => false,
+    }
+}
 
 impl<G: Guarder> TypeWalk<'_, G> {
     /// An application has the codomain of its function's type, after the steps of a number, with the argument put in. Refused at that number
@@ -29,16 +54,135 @@ impl<G: Guarder> TypeWalk<'_, G> {
         requires ready { IsReady self.now.verifier.env.now ctx.now }
         ensures retraces { Retraces (app_walk self.now.verifier ctx.now function.now argument.now (stand trail.old)) result trail.old trail.new }
     {
-        let ty = self.infer(alloc, ctx, function, trail)?;
+        let ty = self.application_type(alloc, ctx, function, argument, trail)?;
+        Ok(ty.whole(alloc)?)
+    }
+
+    /// The same, of which arguments are still to be put in.
+    #[cycle(infer)]
+    fn application_type(
+        &self,
+        alloc: Global,
+        ctx: &Ctx,
+        function: &Term,
+        argument: &Term,
+        trail: &mut Trail,
+    ) -> Result<PendingType, WalkHalt>
+        requires nest { self.now.verifier.room + trail.old.meter.nest ≡ 2048 }
+        requires ready { IsReady self.now.verifier.env.now ctx.now }
+        ensures retraces { RetracesPending (app_walk self.now.verifier ctx.now function.now argument.now (stand trail.old)) result trail.old trail.new }
+    {
+        let ty = self.function_type(alloc, ctx, function, trail)?;
+        match ty.base.view() {
+            Node::Prod(domain, codomain) => {
+                if !passes_no_step(self.verifier.cert, trail) {
+                    return self.whole_type(alloc, ctx, &ty, argument, trail);
+                }
+                let wanted = ty.instance(alloc, domain)?;
+                self.check(alloc, ctx, argument, &wanted, trail)?;
+                let base = codomain.share()?;
+                Ok(ty.and(base, argument)?)
+            }
+            _ => self.whole_type(alloc, ctx, &ty, argument, trail),
+        }
+    }
+
+    /// The type of an application whose function's type is put together first.
+    #[cycle(infer)]
+    fn whole_type(
+        &self,
+        alloc: Global,
+        ctx: &Ctx,
+        ty: &PendingType,
+        argument: &Term,
+        trail: &mut Trail,
+    ) -> Result<PendingType, WalkHalt>
+        requires nest { self.now.verifier.room + trail.old.meter.nest ≡ 2048 }
+        requires ready { IsReady self.now.verifier.env.now ctx.now }
+        ensures retraces { (d : Walk Term) (t : Trail) → RetracesPending d (Ok ty.now) t trail.old → RetracesPending (walk_on d (reduced_walk self.now.verifier ctx.now argument.now)) result t trail.new }
+    {
+        let whole = ty.whole(alloc)?;
+        self.reduced_type(alloc, ctx, whole, argument, trail)
+    }
+
+    /// The type of an application by what its function's type comes to after the steps of a number. Refused at that number where it comes to no product.
+    #[cycle(infer)]
+    fn reduced_type(
+        &self,
+        alloc: Global,
+        ctx: &Ctx,
+        ty: Term,
+        argument: &Term,
+        trail: &mut Trail,
+    ) -> Result<PendingType, WalkHalt>
+        requires nest { self.now.verifier.room + trail.old.meter.nest ≡ 2048 }
+        requires ready { IsReady self.now.verifier.env.now ctx.now }
+        ensures retraces { RetracesPending (reduced_walk self.now.verifier ctx.now argument.now ty (stand trail.old)) result trail.old trail.new }
+    {
         let item = trail.at;
         let (count, found) = reduced(alloc, &self.verifier, ctx, ty, trail)?;
         match found.view() {
             Node::Prod(domain, codomain) => {
                 self.retype(alloc, ctx, count, &found, trail)?;
                 self.check(alloc, ctx, argument, domain, trail)?;
-                Ok(codomain.subst(alloc, 0, argument)?)
+                Ok(PendingType::of_one(alloc, codomain, argument)?)
             }
             _ => Err(WalkHalt::Barred { item }),
         }
+    }
+
+    /// The type of a function, of which arguments are still to be put in where it is an application itself.
+    #[cycle(infer)]
+    fn function_type(
+        &self,
+        alloc: Global,
+        ctx: &Ctx,
+        t: &Term,
+        trail: &mut Trail,
+    ) -> Result<PendingType, WalkHalt>
+        requires nest { self.now.verifier.room + trail.old.meter.nest ≡ 2048 }
+        requires ready { IsReady self.now.verifier.env.now ctx.now }
+        ensures retraces { RetracesPending (inferring self.now.verifier ctx.now t.now (stand trail.old)) result trail.old trail.new }
+    {
+        match t.view() {
+            Node::App(f, a) => self.inner_type(alloc, ctx, f, a, trail),
+            _ => {
+                let ty = self.infer(alloc, ctx, t, trail)?;
+                Ok(PendingType::of(alloc, ty))
+            }
+        }
+    }
+
+    /// The type of an application that is a function: a unit, one more rule that stands, and the rule.
+    #[cycle(infer)]
+    fn inner_type(
+        &self,
+        alloc: Global,
+        ctx: &Ctx,
+        function: &Term,
+        argument: &Term,
+        trail: &mut Trail,
+    ) -> Result<PendingType, WalkHalt>
+        requires nest { self.now.verifier.room + trail.old.meter.nest ≡ 2048 }
+        requires ready { IsReady self.now.verifier.env.now ctx.now }
+        ensures retraces { RetracesPending (inferring self.now.verifier ctx.now (App function.now argument.now) (stand trail.old)) result trail.old trail.new }
+    {
+        if !trail.meter.tick() {
+            return Err(WalkHalt::Stop(Stop::Spent));
+        }
+        if !trail.meter.enter() {
+            return Err(WalkHalt::Stop(Stop::TooDeep));
+        }
+        let inner = TypeWalk {
+            verifier: Verifier {
+                cert: self.verifier.cert,
+                env: self.verifier.env,
+                room: self.verifier.room - 1,
+            },
+            guarder: self.guarder,
+        };
+        let answer = inner.application_type(alloc, ctx, function, argument, trail);
+        trail.meter.leave();
+        answer
     }
 }

@@ -1,6 +1,6 @@
-use Rattle.std.proofs.Common.{rules, arith, ◌≡◌, ◌∙◌, ap, ◌<◌, ◌-◌, ◌+◌, sym, length, ◌++◌, ◌∷◌, [], refl, Some, subst, slice_get}
+use Rattle.std.proofs.Common.{rules, arith, ◌≡◌, ◌∙◌, ap, ◌<◌, ◌-◌, ◌+◌, sym, length, ◌++◌, ◌∷◌, [], refl, Some, subst, slice_get, Ok}
 use Rattle.std.proofs.lemmas.List.{take_all}
-use Rattle.pc_terms.specs.Syntax.{Rel, SortT}
+use Rattle.pc_terms.specs.Syntax.{Rel, SortT, App}
 use Rattle.calculus_rules.specs.Environment.{with_parameters}
 use Rattle.calculus_rules.specs.Context.{values}
 use Rattle.pc_rules.specs.Entailment.{test_of}
@@ -16,11 +16,13 @@ use Rattle.cert_rules.specs.Walk.{pass}
 use Rattle.cert_rules.specs.WalkTyping.{walk_sort_of, walk_fits, walk_check}
 use Rattle.type_infer.specs.Ready.{IsReady}
 use Rattle.type_infer.proofs.Beginning.{assumed_ready, defined_ready}
-use Rattle.type_infer.proofs.Finding.{if_ok, put_beyond}
+use Rattle.type_infer.proofs.Finding.{if_ok}
 use Rattle.type_infer.proofs.Fixing.{definitions_next, definitions_done, lift_beyond}
 use Rattle.type_infer.proofs.Matching.{longer_next}
 use Rattle.type_cert.specs.Going.{inferring}
 use Rattle.type_cert.proofs.Retracing.{retraces_on, retraces_err, retraces_pass, retraces_memory, retraces_passed, passed_nothing, retraces_with, retraces_value, retraces_made, retraces_fault, retraces_answers, retraces_follows, retraces_passing, retraces_beyond, retraces_after, retraces_before, told_of}
+use Rattle.type_infer.proofs.Pendings.{pending_product, pending_beyond}
+use Rattle.type_cert.proofs.WalkedPendings.{ends_made, pends_there, pends_whole, pends_fault, pends_from, pends_passed, pends_halts, pends_each, fault_later, product_stays}
 use Rattle.type_cert.proofs.Inferring.{infer_spent, infer_nested, infer_entered, inferred_from, reached_counted, sort_there, sort_goes, product_found, no_retype, retype_stops, retype_goes, fits_same, fits_differ, fits_conv}
 use Rattle.type_cert.proofs.TypedLists.{entered_next, entered_stop, entered_end, all_next, all_stop, all_fault, all_end, branches_next, branches_stop, branches_end, types_next, types_stop, types_fault, types_done, definitions_go, definitions_stop, definitions_end, all_definitions, few_lambdas, lambdas_found, is_family, no_family_found}
 use Rattle.type_cert.proofs.TypedMatches.{case_goes, case_unknown, pred_fault, family_there, family_halts, raised_by_none}
@@ -171,44 +173,134 @@ let_rule-returns g t c =
 
 -- applications
 pub app_rule-returns-in_err-ty : goal.app_rule-returns-in_err-ty
-app_rule-returns-in_err-ty g t c = record { retraces = retraces_passed c.from_residual.ensures.1 (retraces_err _ c.in_err-ty.ensures.retraces) }
+app_rule-returns-in_err-ty g t c = record { retraces = retraces_passed c.from_residual.ensures.1 c.in_err-ty.ensures.retraces.pends }
 
-pub app_rule-returns-in_err-count : goal.app_rule-returns-in_err-count
-app_rule-returns-in_err-count g t c =
-    record { retraces = retraces_passed c.from_residual-in_err-count.ensures.1 (retraces_on _ c.in_ok-ty.ensures.retraces (retraces_err _ c.in_err-count.ensures.retraces)) }
-
-pub app_rule-returns-in_err-retype-in-Prod : goal.app_rule-returns-in_err-retype-in-Prod
-app_rule-returns-in_err-retype-in-Prod g t c =
-    let e = rw c.in-Prod.is at c.view.ensures.is in
-    record { retraces = retraces_passed c.from_residual-in_err-retype-in-Prod.ensures.1 (retraces_on _ c.in_ok-ty.ensures.retraces (retraces_on _ c.in_ok-count.ensures.retraces (product_found _ _ _ _ _ _ _ _ e (retraces_err _ c.in_err-retype-in-Prod.ensures.retraces)))) }
-
-pub app_rule-returns-in_err-check-in-Prod : goal.app_rule-returns-in_err-check-in-Prod
-app_rule-returns-in_err-check-in-Prod g t c =
-    let e = rw c.in-Prod.is at c.view.ensures.is in
-    record {
-      retraces = retraces_passed c.from_residual-in_err-check-in-Prod.ensures.1 (retraces_on _ c.in_ok-ty.ensures.retraces (retraces_on _ c.in_ok-count.ensures.retraces
-          (product_found _ _ _ _ _ _ _ _ e (retraces_on _ c.in_ok-retype-in-Prod.ensures.retraces (retraces_err _ c.in_err-check-in-Prod.ensures.retraces)))));
-    }
-
-pub app_rule-returns-in_err-subst-in-Prod : goal.app_rule-returns-in_err-subst-in-Prod
-app_rule-returns-in_err-subst-in-Prod g t c =
-    let e = rw c.in-Prod.is at c.view.ensures.is in
-    let k = put_beyond c.args.argument.now c.in-Prod.codomain c.in_err-subst-in-Prod.field-0.0 c.in_err-subst-in-Prod.ensures.too_deep in
-    record {
-      retraces = retraces_passed c.from_residual-in_err-subst-in-Prod.ensures.1 (retraces_on _ c.in_ok-ty.ensures.retraces (retraces_on _ c.in_ok-count.ensures.retraces
-          (product_found _ _ _ _ _ _ _ _ e (retraces_on _ c.in_ok-retype-in-Prod.ensures.retraces (retraces_on _ c.in_ok-check-in-Prod.ensures.retraces (retraces_fault _ _ _ k))))));
-    }
-
-pub app_rule-returns-in-Prod : goal.app_rule-returns-in-Prod
-app_rule-returns-in-Prod g t c =
-    let e = rw c.in-Prod.is at c.view.ensures.is in
-    record {
-      retraces = retraces_on _ c.in_ok-ty.ensures.retraces (retraces_on _ c.in_ok-count.ensures.retraces
-          (product_found _ _ _ _ _ _ _ _ e (retraces_on _ c.in_ok-retype-in-Prod.ensures.retraces (retraces_on _ c.in_ok-check-in-Prod.ensures.retraces (retraces_made _ _ _ c.in_ok-subst-in-Prod.ensures.parallel)))));
-    }
+pub app_rule-returns-in_err-whole : goal.app_rule-returns-in_err-whole
+app_rule-returns-in_err-whole g t c =
+    record { retraces = retraces_passed c.from_residual-in_err-whole.ensures.1 (pends_fault _ c.in_err-whole.ensures.making c.in_ok-ty.ensures.retraces) }
 
 pub app_rule-returns : goal.app_rule-returns
-app_rule-returns g t c = record { retraces = retraces_on _ c.in_ok-ty.ensures.retraces (retraces_on _ c.in_ok-count.ensures.retraces (search rules)) }
+app_rule-returns g t c = record { retraces = c.in_ok-ty.ensures.retraces.pends (Ok _) c.in_ok-whole.ensures.making }
+
+pub application_type-returns-in_err-ty : goal.application_type-returns-in_err-ty
+application_type-returns-in_err-ty g t c = record { retraces = pends_passed c.from_residual.ensures.1 (retraces_err _ c.in_err-ty.ensures.retraces.pends) }
+
+pub application_type-returns-then-not-passes_no_step : goal.application_type-returns-then-not-passes_no_step
+application_type-returns-then-not-passes_no_step g t c =
+    let stays : c.passes_no_step.new.trail ≡ c.function_type.new.trail = search rules in
+    record { retraces = c.whole_type.ensures.retraces _ _ (rw stays c.in_ok-ty.ensures.retraces) }
+
+pub application_type-returns-in_err-wanted-in-Prod : goal.application_type-returns-in_err-wanted-in-Prod
+application_type-returns-in_err-wanted-in-Prod g t c =
+    let e = rw c.in-Prod.is at c.view.ensures.is in
+    let p = pends_fault _ (pending_beyond _ e _ c.in_err-wanted-in-Prod.ensures.making) c.in_ok-ty.ensures.retraces in
+    record { retraces = pends_passed c.from_residual-in_err-wanted-in-Prod.ensures.1 (retraces_err _ (fault_later _ c.passes_no_step.ensures.meter p)) }
+
+pub application_type-returns-in_err-check-in-Prod : goal.application_type-returns-in_err-check-in-Prod
+application_type-returns-in_err-check-in-Prod g t c =
+    let e = rw c.in-Prod.is at c.view.ensures.is in
+    let h = rw c.in_ok-wanted-in-Prod.ensures.making.0 at c.in_err-check-in-Prod.ensures.retraces in
+    record {
+      retraces = pends_passed c.from_residual-in_err-check-in-Prod.ensures.1 (retraces_on _ (pends_whole c.in_ok-ty.ensures.retraces)
+          (product_stays _ _ _ _ _ _ (pending_product _ e) (search rules) c.passes_no_step.ensures.meter (search rules) (retraces_err _ h)));
+    }
+
+pub application_type-returns-in_err-and-in-Prod : goal.application_type-returns-in_err-and-in-Prod
+application_type-returns-in_err-and-in-Prod g t c =
+    let e = rw c.in-Prod.is at c.view.ensures.is in
+    let h = rw c.in_ok-wanted-in-Prod.ensures.making.0 at c.in_ok-check-in-Prod.ensures.retraces in
+    record {
+      retraces = pends_passed c.from_residual-in_err-and-in-Prod.ensures.1 (rw c.in_err-and-in-Prod.ensures.only_memory (retraces_on _ (pends_whole c.in_ok-ty.ensures.retraces)
+          (product_stays _ _ _ _ _ _ (pending_product _ e) (search rules) c.passes_no_step.ensures.meter (search rules) (retraces_on _ h (retraces_memory _ _)))));
+    }
+
+pub application_type-returns-in_ok-and-in-Prod : goal.application_type-returns-in_ok-and-in-Prod
+application_type-returns-in_ok-and-in-Prod g t c =
+    let e = rw c.in-Prod.is at c.view.ensures.is in
+    let h = rw c.in_ok-wanted-in-Prod.ensures.making.0 at c.in_ok-check-in-Prod.ensures.retraces in
+    let k = rw c.in_ok-base-in-Prod.ensures.ok at c.in_ok-and-in-Prod.ensures.ok in
+    record {
+      retraces = pends_each (λ r m. retraces_on _ (pends_whole c.in_ok-ty.ensures.retraces)
+          (product_stays _ _ _ _ _ _ (pending_product _ e) (search rules) c.passes_no_step.ensures.meter (search rules) (retraces_on _ h (ends_made r k m))));
+    }
+
+pub application_type-returns-in_default : goal.application_type-returns-in_default
+application_type-returns-in_default g t c = record { retraces = c.whole_type-in_default.ensures.retraces _ _ c.in_ok-ty.ensures.retraces }
+
+pub whole_type-returns-in_err-whole : goal.whole_type-returns-in_err-whole
+whole_type-returns-in_err-whole g t c =
+    record { retraces = λ d t0 p. pends_passed c.from_residual.ensures.1 (retraces_err _ (pends_fault _ c.in_err-whole.ensures.making p)) }
+
+pub whole_type-returns : goal.whole_type-returns
+whole_type-returns g t c =
+    record { retraces = λ d t0 p. pends_from (λ q f. retraces_on _ (p.pends (Ok _) c.in_ok-whole.ensures.making) f) c.reduced_type.ensures.retraces }
+
+pub reduced_type-returns-in_err-count : goal.reduced_type-returns-in_err-count
+reduced_type-returns-in_err-count g t c = record { retraces = pends_passed c.from_residual.ensures.1 (retraces_err _ c.in_err-count.ensures.retraces) }
+
+pub reduced_type-returns-in_err-retype-in-Prod : goal.reduced_type-returns-in_err-retype-in-Prod
+reduced_type-returns-in_err-retype-in-Prod g t c =
+    let e = rw c.in-Prod.is at c.view.ensures.is in
+    record {
+      retraces = pends_passed c.from_residual-in_err-retype-in-Prod.ensures.1 (retraces_on _ c.in_ok-count.ensures.retraces
+          (product_found _ _ _ _ _ _ _ _ e (retraces_err _ c.in_err-retype-in-Prod.ensures.retraces)));
+    }
+
+pub reduced_type-returns-in_err-check-in-Prod : goal.reduced_type-returns-in_err-check-in-Prod
+reduced_type-returns-in_err-check-in-Prod g t c =
+    let e = rw c.in-Prod.is at c.view.ensures.is in
+    record {
+      retraces = pends_passed c.from_residual-in_err-check-in-Prod.ensures.1 (retraces_on _ c.in_ok-count.ensures.retraces
+          (product_found _ _ _ _ _ _ _ _ e (retraces_on _ c.in_ok-retype-in-Prod.ensures.retraces (retraces_err _ c.in_err-check-in-Prod.ensures.retraces))));
+    }
+
+pub reduced_type-returns-in-Prod : goal.reduced_type-returns-in-Prod
+reduced_type-returns-in-Prod g t c =
+    let e = rw c.in-Prod.is at c.view.ensures.is in
+    record {
+      retraces = pends_each (λ r m. retraces_on _ c.in_ok-count.ensures.retraces
+          (product_found _ _ _ _ _ _ _ _ e (retraces_on _ c.in_ok-retype-in-Prod.ensures.retraces (retraces_on _ c.in_ok-check-in-Prod.ensures.retraces (ends_made r c.in_ok-of_one-in-Prod.ensures.ok m)))));
+    }
+
+pub reduced_type-returns : goal.reduced_type-returns
+reduced_type-returns g t c = record { retraces = pends_halts (retraces_on _ c.in_ok-count.ensures.retraces (search rules)) }
+
+pub function_type-returns-in-App : goal.function_type-returns-in-App
+function_type-returns-in-App g t c = record { retraces = rw (← c.view.ensures.is, c.in-App.is) c.inner_type.ensures.retraces }
+
+pub function_type-returns-in_err-ty-in_default : goal.function_type-returns-in_err-ty-in_default
+function_type-returns-in_err-ty-in_default g t c = record { retraces = pends_passed c.from_residual.ensures.1 c.in_err-ty-in_default.ensures.retraces }
+
+pub function_type-returns-in_ok-ty-in_default : goal.function_type-returns-in_ok-ty-in_default
+function_type-returns-in_ok-ty-in_default g t c = record { retraces = pends_there c.of.ensures.within c.of.ensures.is c.in_ok-ty-in_default.ensures.retraces }
+
+-- the start of an inference of a function
+pub inner_type-returns-then-not-tick : goal.inner_type-returns-then-not-tick
+inner_type-returns-then-not-tick g t c =
+    let v = c.args.self.now.verifier in
+    let f = App c.args.function.now c.args.argument.now in
+    let m = infer_spent v.cert.now v.env.now (test_of v.env.now) c.args.ctx.now f v.room c.args.trail.now (record { meter = c.tick.new.self; at = c.args.trail.now.at })
+    (search rules) c.tick.ensures.account c.tick.ensures.nest in
+    record { retraces = pends_halts m }
+
+pub inner_type-returns-then-not-enter : goal.inner_type-returns-then-not-enter
+inner_type-returns-then-not-enter g t c =
+    let v = c.args.self.now.verifier in
+    let f = App c.args.function.now c.args.argument.now in
+    let m = infer_nested v.cert.now v.env.now (test_of v.env.now) c.args.ctx.now f v.room c.args.trail.now (record { meter = c.tick.new.self; at = c.args.trail.now.at })
+    (record { meter = c.enter.new.self; at = c.args.trail.now.at }) (search rules) (search rules) c.tick.ensures.account c.tick.ensures.nest c.enter.ensures.account (search rules) in
+    record { retraces = pends_halts m }
+
+pub inner_type-returns : goal.inner_type-returns
+inner_type-returns g t c =
+    let v = c.args.self.now.verifier in
+    let f = App c.args.function.now c.args.argument.now in
+    record {
+      retraces = pends_from (λ q m. infer_entered v.cert.now v.env.now (test_of v.env.now) c.args.ctx.now f v.room (v.room - 1) q c.args.trail.now (record { meter = c.tick.new.self; at = c.args.trail.now.at })
+          (record { meter = c.enter.new.self; at = c.args.trail.now.at }) c.application_type-answer.new.trail (record { meter = c.leave.new.self; at = c.application_type-answer.new.trail.at })
+          (search rules) (search rules) c.tick.ensures.account c.tick.ensures.nest c.enter.ensures.account (search rules) refl m c.leave.ensures.account c.leave.ensures.nest refl)
+          c.application_type-answer.ensures.retraces;
+    }
 
 -- the sort of a term
 pub sort_of-returns-in_err-ty-clause-retraces : goal.sort_of-returns-in_err-ty-clause-retraces

@@ -39,10 +39,25 @@ abbrev pub decreases-let_rule : goal.decreases-let_rule
 decreases-let_rule g l = l.self.now.verifier.room * 32 + 20
 
 abbrev pub decreases-app_rule : goal.decreases-app_rule
-decreases-app_rule g l = l.self.now.verifier.room * 32 + 20
+decreases-app_rule g l = l.self.now.verifier.room * 32 + 21
+
+abbrev pub decreases-application_type : goal.decreases-application_type
+decreases-application_type g l = l.self.now.verifier.room * 32 + 20
+
+abbrev pub decreases-whole_type : goal.decreases-whole_type
+decreases-whole_type g l = l.self.now.verifier.room * 32 + 19
+
+abbrev pub decreases-reduced_type : goal.decreases-reduced_type
+decreases-reduced_type g l = l.self.now.verifier.room * 32 + 18
+
+abbrev pub decreases-function_type : goal.decreases-function_type
+decreases-function_type g l = l.self.now.verifier.room * 32 + 1
+
+abbrev pub decreases-inner_type : goal.decreases-inner_type
+decreases-inner_type g l = l.self.now.verifier.room * 32
 
 abbrev pub decreases-rule : goal.decreases-rule
-decreases-rule g l = l.self.now.verifier.room * 32 + 21
+decreases-rule g l = l.self.now.verifier.room * 32 + 22
 
 -- fixpoints
 

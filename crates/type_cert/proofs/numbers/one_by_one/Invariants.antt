@@ -6,7 +6,7 @@ use Rattle.pc_rules.specs.Follows.{IsAfter}
 use Rattle.cert_rules.specs.WalkSteps.{walk_steps}
 use Rattle.type_cert.specs.Retraces.{stand}
 use Rattle.type_cert.specs.WalkLeads.{WalkLeads}
-use Rattle.type_cert.proofs.numbers.steps.Given as goal
+use Rattle.type_cert.proofs.numbers.one_by_one.Given as goal
 
 -- the whole walk has come to the steps that are left
 abbrev pub invariant-steps : goal.invariant-steps
