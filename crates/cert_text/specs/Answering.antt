@@ -1,7 +1,8 @@
 -- What the calls that read a certificate answer, by reading as a function.
-use Rattle.std.specs.Prelude.{◌≡◌, ℕ, ◌<◌, ◌≤◌, List, [], length, Option, Some, None, Result, Ok, Err}
+use Rattle.std.specs.Prelude.{◌≡◌, ℕ, ◌<◌, ◌≤◌, List, [], ◌∷◌, length, Option, Some, None, Result, Ok, Err}
 use Rattle.sexp_reader.specs.Text.{Text}
 use Rattle.sexp_reader.specs.Lex.{Spanned, left}
+use Rattle.dump_grammar.specs.Numbers.{number_of}
 use Rattle.cert_rules.specs.declared.item.CertItem.{CertItem}
 use Rattle.cert_rules.specs.Walk.{Items}
 use Rattle.cert_text.specs.declared.refusal.CertText.{CertText}
@@ -10,7 +11,7 @@ use Rattle.cert_text.specs.declared.scan.Token.{Token}
 use Rattle.cert_text.specs.Scanned.{text_of}
 use Rattle.cert_text.specs.declared.reading.Count.{Count}
 use Rattle.cert_text.specs.declared.reading.Taken.{Taken}
-use Rattle.cert_text.specs.CertReading.{CertRead, Read, WrongToken, TooGreat, Wants, AnItem, with_item, read_side, read_word, read_end, read_token, read_items, read_next}
+use Rattle.cert_text.specs.CertReading.{CertRead, Read, WrongToken, TooGreat, Wants, AnItem, with_item, read_item, read_side, read_word, read_end, read_token, read_items, read_next}
 
 -- a refusal at its offset, by a call that takes no memory
 abbrev pub Refuses : CertRead → CertText → Type 0
@@ -53,6 +54,10 @@ TakesWord bytes a start «end» (Err e) = Refuses (read_word start a (behind byt
 abbrev pub TakesAtom : List ℕ → Token → Result Taken CertText → Type 0
 TakesAtom bytes t (Ok x) = read_token AnItem t.start (text_of bytes t) (left t.end bytes) (behind bytes t.end) ≡ with_item x.item (behind bytes x.end AnItem)
 TakesAtom bytes t (Err e) = Refuses (read_token AnItem t.start (text_of bytes t) (left t.end bytes) (behind bytes t.end)) e
+
+-- the item that an atom of one byte is
+abbrev pub IsOfByte : ℕ → CertItem → Type 0
+IsOfByte b x = (start : ℕ) (go : Wants → CertRead) → read_item start (b ∷ []) (number_of (b ∷ [])) go ≡ with_item x (go AnItem)
 
 -- nothing comes from an offset on
 abbrev pub Ends : List ℕ → ℕ → Result (Option Taken) CertText → Type 0

@@ -1,18 +1,18 @@
-//! A certificate out of its text, item by item.
-ghost use Rattle.std.specs.Prelude.{◌≡◌, ◌≤◌, ◌<◌, [], ◌∷◌, ◌++◌, length, bytes_eq, IfOk, IfErr};
+//! A certificate out of its text, item by item. An item of one byte behind one space is read at once, any other by its tokens.
+ghost use Rattle.std.specs.Prelude.{◌≡◌, ◌≤◌, ◌<◌, true, [], ◌∷◌, ◌++◌, length, bytes_eq, Ok, Some, IfOk, IfErr, IfSome};
 ghost use Rattle.sexp_reader.specs.Text.{Open, Atom};
 ghost use Rattle.cert_rules.specs.declared.item.CertItem.TheVariants.{Left, Right};
 ghost use Rattle.cert_text.specs.CertReading.{is_text, read_items, read_bytes, AnItem, LeftSteps, RightSteps};
 ghost use Rattle.cert_text.specs.Scanned.{text_of};
-ghost use Rattle.cert_text.specs.Answering.{AnswersText, Expects, Counts, TakesSide, TakesWord, TakesAtom, Ends, Takes, TakesWithin};
+ghost use Rattle.cert_text.specs.Answering.{AnswersText, Expects, Counts, TakesSide, TakesWord, TakesAtom, Ends, Takes, TakesWithin, IsOfByte};
 ghost use Rattle.cert_text.specs.TextLaws.{SpellsCert};
 ghost use Rattle.cert_text.specs.declared.refusal.CertText.TheVariants.{Memory};
 ghost use Rattle.cert_text.specs.declared.scan.Kind.TheVariants as Kind;
-ghost use Rattle.sexp_reader.specs.Lex.{left};
+ghost use Rattle.sexp_reader.specs.Lex.{is_atom_byte as atom_byte, left};
 
 use crate::number::{Numeral, numeral_at};
 use crate::refusal::CertText;
-use crate::scan::{Kind, Token, next};
+use crate::scan::{Kind, Token, is_atom_byte, next};
 use cert_rules::certificate::{Cert, CertItems};
 use cert_rules::item::CertItem;
 use std::alloc::Global;
@@ -216,8 +216,38 @@ fn end(bytes: &[u8], at: usize) -> Result<Option<Taken>, CertText>
     }
 }
 
-/// The item that comes next from an offset on; none at the bracket that closes, behind which nothing may come.
-fn item(bytes: &[u8], at: usize) -> Result<Option<Taken>, CertText>
+/// The item that an atom of this one byte is.
+fn byte_item(b: u8) -> Option<CertItem>
+    ensures atom { IfSome result (λ _. atom_byte b ≡ true) }
+    ensures is { IfSome result (IsOfByte b) }
+{
+    match b {
+        b'0'..=b'9' => Some(CertItem::Number((b - b'0') as u32)),
+        b's' => Some(CertItem::Same),
+        b'c' => Some(CertItem::Conv),
+        b'k' => Some(CertItem::Parts),
+        _ => None,
+    }
+}
+
+/// The item of one byte that stands from an offset on behind one space, as nearly all items of a certificate do; none where what comes next is
+/// anything else.
+fn short_item(bytes: &[u8], at: usize) -> Option<Taken>
+    requires { at ≤ length bytes.now }
+    ensures takes { IfSome result (λ x. Takes bytes.now at (Ok (Some x))) }
+    ensures within { IfSome result (λ x. (at < x.end) × (x.end ≤ length bytes.now)) }
+{
+    if bytes.len() - at < 3 || bytes[at] != b' ' || is_atom_byte(bytes[at + 2]) {
+        return None;
+    }
+    match byte_item(bytes[at + 1]) {
+        Some(item) => Some(Taken { item, end: at + 2 }),
+        None => None,
+    }
+}
+
+/// The item that comes next from an offset on, by its tokens; none at the bracket that closes, behind which nothing may come.
+fn any_item(bytes: &[u8], at: usize) -> Result<Option<Taken>, CertText>
     requires { at ≤ length bytes.now }
     ensures takes { Takes bytes.now at result }
     ensures within { IfOk result (TakesWithin bytes.now at) }
@@ -239,6 +269,18 @@ fn item(bytes: &[u8], at: usize) -> Result<Option<Taken>, CertText>
         None => Err(CertText::Syntax {
             offset: bytes.len(),
         }),
+    }
+}
+
+/// The item that comes next from an offset on; none at the bracket that closes, behind which nothing may come.
+fn item(bytes: &[u8], at: usize) -> Result<Option<Taken>, CertText>
+    requires { at ≤ length bytes.now }
+    ensures takes { Takes bytes.now at result }
+    ensures within { IfOk result (TakesWithin bytes.now at) }
+{
+    match short_item(bytes, at) {
+        Some(taken) => Ok(Some(taken)),
+        None => any_item(bytes, at),
     }
 }
 

@@ -29,7 +29,7 @@ fn is_blank(b: u8) -> bool
 }
 
 /// Whether a byte is one of an atom: a letter, a digit, `_`, `.`, `'` or `-`.
-fn is_atom_byte(b: u8) -> bool
+pub(crate) fn is_atom_byte(b: u8) -> bool
     ensures atom { result ≡ atom_byte b }
 {
     b.is_ascii_alphanumeric() || b == b'_' || b == b'.' || b == b'\'' || b == b'-'

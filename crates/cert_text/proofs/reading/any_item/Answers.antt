@@ -4,7 +4,7 @@ use Rattle.sexp_reader.specs.Text.{Open, Stray}
 use Rattle.cert_text.specs.Scanned.{text_of_kind}
 use Rattle.cert_text.specs.CertReading.{AnItem}
 use Rattle.cert_text.proofs.Taking.{refuses_along, items_at, items_none, no_item_here, close_takes}
-use Rattle.cert_text.proofs.reading.item.Goals as goal
+use Rattle.cert_text.proofs.reading.any_item.Goals as goal
 
 pub returns-in_err-taken-in-Atom-clause-takes : goal.returns-in_err-taken-in-Atom-clause-takes
 returns-in_err-taken-in-Atom-clause-takes c =
