@@ -9,6 +9,7 @@ use Rattle.pc_rules.specs.DirectedDeclarations.{fits_sort}
 use Rattle.pc_rules.proofs.ListSteps.{next_is, none_left}
 use Rattle.cert_rules.specs.Walk.{WalkState, Walk, pass, walk_on, by_rules}
 use Rattle.cert_rules.specs.WalkDeclarations.{walk_arguments}
+use Rattle.cert_rules.proofs.Collecting.{collected_before}
 use Rattle.type_cert.specs.declared.halt.WalkHalt.{WalkHalt}
 use Rattle.type_cert.specs.declared.trail.Trail.{Trail}
 use Rattle.type_cert.specs.declared.verifier.Verifier.{Verifier}
@@ -16,7 +17,6 @@ use Rattle.type_cert.specs.Retraces.{stand, Retraces}
 use Rattle.type_cert.specs.Going.{sorting}
 use Rattle.type_cert.proofs.Retracing.{retraces_pass, walk_assoc, pass_on}
 use Rattle.block_cert.specs.BlockWalks.{argument_walk, arguments_walk}
-use Rattle.block_cert.specs.Collected.{found_before}
 use Rattle.block_cert.proofs.InTurn.{collected, collect_next, collect_stop}
 
 module _ (v : Verifier) (r : Sort) where
@@ -45,9 +45,9 @@ module _ (v : Verifier) (r : Sort) where
       from_argument u = ap (λ xs. arguments_walk v r c xs u) (next_is As i A l is) ∙ arguments_split c A (drop (i + 1) As) u
 
       pub argument_next : (x : Sort) (t0 t1 : Trail) → Retraces (argument_walk v r c A (stand t0)) (Ok x) t0 t1 → (a : Result (List Sort) WalkHalt) (t : Trail) →
-          Retraces (arguments_walk v r (Assumed A ∷ c) (drop (i + 1) As) (stand t1)) a t1 t → Retraces (arguments_walk v r c (drop i As) (stand t0)) (found_before (x ∷ []) a) t0 t
+          Retraces (arguments_walk v r (Assumed A ∷ c) (drop (i + 1) As) (stand t1)) a t1 t → Retraces (arguments_walk v r c (drop i As) (stand t0)) (collected_before (x ∷ []) a) t0 t
       argument_next x t0 t1 p a t q =
-          subst (λ d. Retraces d (found_before (x ∷ []) a) t0 t) (sym (from_argument (stand t0)))
+          subst (λ d. Retraces d (collected_before (x ∷ []) a) t0 t) (sym (from_argument (stand t0)))
           (collect_next (argument_walk v r c A (stand t0)) (arguments_walk v r (Assumed A ∷ c) (drop (i + 1) As)) (λ x. x) x a t0 t1 t p q)
 
       pub argument_halts : (h : WalkHalt) (t0 t1 : Trail) → Retraces (argument_walk v r c A (stand t0)) (Err h) t0 t1 →

@@ -9,12 +9,12 @@ use Rattle.pc_rules.specs.DirectedDeclarations.{with_constructors}
 use Rattle.inductive_check.specs.Given.{ctor_of, family_of}
 use Rattle.cert_rules.specs.Walk.{WalkState, pass}
 use Rattle.cert_rules.specs.WalkDeclarations.{walk_constructors, walk_families}
+use Rattle.cert_rules.proofs.Collecting.{collected_before}
 use Rattle.type_cert.specs.declared.halt.WalkHalt.{WalkHalt}
 use Rattle.type_cert.specs.declared.trail.Trail.{Trail}
 use Rattle.type_cert.specs.declared.verifier.Verifier.{Verifier}
 use Rattle.type_cert.specs.Retraces.{stand, Retraces}
 use Rattle.block_cert.specs.BlockWalks.{head_walk, heads_walk, ctor_walk, ctors_walk, families_walk}
-use Rattle.block_cert.specs.Collected.{found_before}
 use Rattle.block_cert.proofs.InTurn.{collected, none_found, item_found, item_halts, none_goes, item_goes, item_stays}
 
 -- heads
@@ -49,7 +49,7 @@ module _ (v : Verifier) (B : Block) (F : Family) where
 
     module _ (c : RawCtor) (l : i < length cs) (is : c ≡ get_or cs i c) (t0 t1 : Trail) where
       pub constructor_next : (D : Constructor) → Retraces (ctor_walk v B F (ctor_of c) (stand t0)) (Ok D) t0 t1 → (r : Result (List Constructor) WalkHalt) (t : Trail) →
-          Retraces (ctors_walk v B F (map ctor_of (drop (i + 1) cs)) (stand t1)) r t1 t → Retraces (ctors_walk v B F (map ctor_of (drop i cs)) (stand t0)) (found_before (D ∷ []) r) t0 t
+          Retraces (ctors_walk v B F (map ctor_of (drop (i + 1) cs)) (stand t1)) r t1 t → Retraces (ctors_walk v B F (map ctor_of (drop i cs)) (stand t0)) (collected_before (D ∷ []) r) t0 t
       constructor_next D p =
           item_found (λ xs. ctors_walk v B F (map ctor_of xs)) (λ c. ctor_walk v B F (ctor_of c)) (λ c D. D) constructors_split cs i c l is D t0 t1 p
 
@@ -79,7 +79,7 @@ module _ (v : Verifier) (B : Block) where
     module _ (f : RawFamily) (l : i < length fs) (is : f ≡ get_or fs i f) (t0 t1 : Trail) where
       pub family_next : (Cs : List Constructor) → Retraces (ctors_walk v B (family_of f) (map ctor_of f.ctors) (stand t0)) (Ok Cs) t0 t1 →
           (r : Result (List Family) WalkHalt) (t : Trail) → Retraces (families_walk v B (map family_of (drop (i + 1) fs)) (stand t1)) r t1 t →
-          Retraces (families_walk v B (map family_of (drop i fs)) (stand t0)) (found_before (with_constructors (family_of f) Cs ∷ []) r) t0 t
+          Retraces (families_walk v B (map family_of (drop i fs)) (stand t0)) (collected_before (with_constructors (family_of f) Cs ∷ []) r) t0 t
       family_next Cs p =
           item_found (λ xs. families_walk v B (map family_of xs)) (λ f. ctors_walk v B (family_of f) (map ctor_of f.ctors)) (λ f Cs. with_constructors (family_of f) Cs)
           families_split fs i f l is Cs t0 t1 p

@@ -1,2 +1,1 @@
 pub mod BlockWalks
-pub mod Collected

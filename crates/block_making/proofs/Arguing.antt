@@ -14,13 +14,13 @@ use Rattle.pc_rules.specs.Entailment.{test_of}
 use Rattle.pc_rules.proofs.ListSteps.{next_is, none_left}
 use Rattle.cert_rules.specs.Writing.{Wrote, silent, write_on}
 use Rattle.cert_rules.specs.MakingDeclarations.{make_arguments}
+use Rattle.cert_rules.proofs.Collecting.{collected_before}
 use Rattle.script_making.specs.declared.draft.Draft.{Draft}
 use Rattle.script_making.specs.Makes.{Makes}
 use Rattle.script_making.proofs.Making.{makes_done}
 use Rattle.type_making.specs.Making.{sort_making}
 use Rattle.type_making.proofs.Grouping.{write_assoc, done_on}
 use Rattle.block_making.specs.BlockMaking.{argument_making, arguments_making}
-use Rattle.block_making.specs.Collected.{made_before}
 use Rattle.block_making.proofs.InTurn.{collected, collect_next, collect_stop}
 
 module _ (E : Env) (n : ℕ) (k : Name) (f j : ℕ) (r : Sort) where
@@ -53,9 +53,9 @@ module _ (E : Env) (n : ℕ) (k : Name) (f j : ℕ) (r : Sort) where
       from_argument u = ap (λ xs. arguments_making E n k f j r c xs u) (next_is As i A l is) ∙ arguments_split c A (drop (i + 1) As) u
 
       pub argument_next : (s : Sort) (t0 t1 : Draft) → Makes (argument_making E n k f j r c A t0.meter.account) (Ok s) t0 t1 → (a : Result (List Sort) Halt) (t : Draft) →
-          Makes (arguments_making E n k f j r (Assumed A ∷ c) (drop (i + 1) As) t1.meter.account) a t1 t → Makes (arguments_making E n k f j r c (drop i As) t0.meter.account) (made_before (s ∷ []) a) t0 t
+          Makes (arguments_making E n k f j r (Assumed A ∷ c) (drop (i + 1) As) t1.meter.account) a t1 t → Makes (arguments_making E n k f j r c (drop i As) t0.meter.account) (collected_before (s ∷ []) a) t0 t
       argument_next s t0 t1 p a t q =
-          subst (λ d. Makes d (made_before (s ∷ []) a) t0 t) (sym (from_argument t0.meter.account))
+          subst (λ d. Makes d (collected_before (s ∷ []) a) t0 t) (sym (from_argument t0.meter.account))
           (collect_next (argument_making E n k f j r c A t0.meter.account) (arguments_making E n k f j r (Assumed A ∷ c) (drop (i + 1) As)) (λ s. s) s a t0 t1 t p q)
 
       pub argument_halts : (h : Halt) (t0 t1 : Draft) → Makes (argument_making E n k f j r c A t0.meter.account) (Err h) t0 t1 →

@@ -13,10 +13,10 @@ use Rattle.pc_rules.specs.DirectedDeclarations.{with_constructors}
 use Rattle.inductive_check.specs.Given.{ctor_of, family_of}
 use Rattle.cert_rules.specs.Writing.{silent, write_on}
 use Rattle.cert_rules.specs.MakingDeclarations.{make_constructors, make_families}
+use Rattle.cert_rules.proofs.Collecting.{collected_before}
 use Rattle.script_making.specs.declared.draft.Draft.{Draft}
 use Rattle.script_making.specs.Makes.{Makes}
 use Rattle.block_making.specs.BlockMaking.{head_making, heads_making, ctor_making, ctors_making, families_making}
-use Rattle.block_making.specs.Collected.{made_before}
 use Rattle.block_making.proofs.InTurn.{collected, none_made, item_made, item_halts, none_goes, item_goes, item_stays}
 
 -- heads
@@ -53,7 +53,7 @@ module _ (E : Env) (n : ℕ) (B : Block) (F : Family) (k : ℕ) where
     module _ (c : RawCtor) (l : i < length cs) (is : c ≡ get_or cs i c) (t0 t1 : Draft) where
       pub constructor_next : (D : Constructor) → Makes (ctor_making E n B F k i (ctor_of c) t0.meter.account) (Ok D) t0 t1 → (r : Result (List Constructor) Halt) (t : Draft) →
           Makes (ctors_making E n B F k (i + 1) (map ctor_of (drop (i + 1) cs)) t1.meter.account) r t1 t →
-          Makes (ctors_making E n B F k i (map ctor_of (drop i cs)) t0.meter.account) (made_before (D ∷ []) r) t0 t
+          Makes (ctors_making E n B F k i (map ctor_of (drop i cs)) t0.meter.account) (collected_before (D ∷ []) r) t0 t
       constructor_next D p =
           item_made (λ i xs. ctors_making E n B F k i (map ctor_of xs)) (λ i c. ctor_making E n B F k i (ctor_of c)) (λ c D. D) constructors_split cs i c l is D t0 t1 p
 
@@ -84,7 +84,7 @@ module _ (E : Env) (n : ℕ) (B : Block) where
     module _ (f : RawFamily) (l : i < length fs) (is : f ≡ get_or fs i f) (t0 t1 : Draft) where
       pub family_next : (Cs : List Constructor) → Makes (ctors_making E n B (family_of f) i 0 (map ctor_of f.ctors) t0.meter.account) (Ok Cs) t0 t1 →
           (r : Result (List Family) Halt) (t : Draft) → Makes (families_making E n B (i + 1) (map family_of (drop (i + 1) fs)) t1.meter.account) r t1 t →
-          Makes (families_making E n B i (map family_of (drop i fs)) t0.meter.account) (made_before (with_constructors (family_of f) Cs ∷ []) r) t0 t
+          Makes (families_making E n B i (map family_of (drop i fs)) t0.meter.account) (collected_before (with_constructors (family_of f) Cs ∷ []) r) t0 t
       family_next Cs p =
           item_made (λ i xs. families_making E n B i (map family_of xs)) (λ i f. ctors_making E n B (family_of f) i 0 (map ctor_of f.ctors)) (λ f Cs. with_constructors (family_of f) Cs)
           families_split fs i f l is Cs t0 t1 p

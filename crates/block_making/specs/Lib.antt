@@ -1,2 +1,2 @@
 pub mod BlockMaking
-pub mod Collected
+pub mod BlockMakes

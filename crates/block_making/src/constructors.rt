@@ -1,15 +1,12 @@
 //! The constructors of a block's families, over the environment that knows the families by their types alone.
-ghost use Rattle.std.specs.Prelude.{◌≡◌, ◌+◌, [], map, IfOk};
+ghost use Rattle.std.specs.Prelude.{◌≡◌, ◌+◌, map};
 ghost use Rattle.universe_levels.specs.Consistency.{IsSortOver};
-ghost use Rattle.calculus_rules.specs.declared.declaration.Block.{Block};
-ghost use Rattle.calculus_rules.specs.Context.{extend};
 ghost use Rattle.calculus_rules.specs.Environment.{head_of};
 ghost use Rattle.pc_rules.specs.Follows.{IsAfter};
 ghost use Rattle.pc_rules.specs.WellCounted.{AreCountedFamilies};
 ghost use Rattle.type_infer.specs.Ready.{IsReady};
 ghost use Rattle.inductive_check.specs.Given.{ctor_of, family_of};
-ghost use Rattle.script_making.specs.Makes.{Makes};
-ghost use Rattle.block_making.specs.BlockMaking.{ctor_making, ctors_making, families_making};
+ghost use Rattle.block_making.specs.BlockMakes.{MakesCtor, MakesCtors, MakesFamilies};
 
 use crate::arguments::arguments;
 use calculus_rules::declaration::{Constructor, Constructors, Families};
@@ -44,7 +41,7 @@ fn constructor<R: Reducer, G: Guarder>(
     requires nest { typer.now.maker.room + draft.old.meter.nest ≡ 2048 }
     requires ready { IsReady typer.now.maker.env.now ctx.now }
     requires sort { IsSortOver typer.now.maker.env.now.levels family.now.sort }
-    ensures makes { (B : Block) → B.name ≡ block → extend [] B.params ≡ ctx.now → Makes (ctor_making typer.now.maker.env.now typer.now.maker.room B (family_of family.now) at.family at.ctor (ctor_of ctor.now) draft.old.meter.account) result draft.old draft.new }
+    ensures makes { MakesCtor typer.now.maker.env.now typer.now.maker.room ctx.now block (family_of family.now) at.family at.ctor (ctor_of ctor.now) result draft.old draft.new }
     ensures after { IsAfter draft.old.meter draft.new.meter }
 {
     let mut inner = ctx.share()?;
@@ -79,7 +76,7 @@ fn constructors<R: Reducer, G: Guarder>(
     requires nest { typer.now.maker.room + draft.old.meter.nest ≡ 2048 }
     requires ready { IsReady typer.now.maker.env.now ctx.now }
     requires sort { IsSortOver typer.now.maker.env.now.levels family.now.sort }
-    ensures makes { (B : Block) → B.name ≡ block → extend [] B.params ≡ ctx.now → Makes (ctors_making typer.now.maker.env.now typer.now.maker.room B (family_of family.now) place 0 (map ctor_of family.now.ctors) draft.old.meter.account) result draft.old draft.new }
+    ensures makes { MakesCtors typer.now.maker.env.now typer.now.maker.room ctx.now block (family_of family.now) place result draft.old draft.new }
     ensures after { IsAfter draft.old.meter draft.new.meter }
 {
     let mut out = Vec::new(alloc);
@@ -108,7 +105,7 @@ pub(crate) fn families<R: Reducer, G: Guarder>(
     requires nest { typer.now.maker.room + draft.old.meter.nest ≡ 2048 }
     requires ready { IsReady typer.now.maker.env.now ctx.now }
     requires heads { AreCountedFamilies typer.now.maker.env.now (map head_of (map family_of families.now)) }
-    ensures makes { (B : Block) → B.name ≡ block → extend [] B.params ≡ ctx.now → Makes (families_making typer.now.maker.env.now typer.now.maker.room B 0 (map family_of families.now) draft.old.meter.account) result draft.old draft.new }
+    ensures makes { MakesFamilies typer.now.maker.env.now typer.now.maker.room ctx.now block (map family_of families.now) result draft.old draft.new }
     ensures after { IsAfter draft.old.meter draft.new.meter }
 {
     let mut out = Vec::new(alloc);

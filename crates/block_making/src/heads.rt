@@ -1,15 +1,12 @@
 //! The heads of a block: what is looked at of its families before its constructors are.
 ghost use Rattle.std.specs.Prelude.{◌≡◌, ◌+◌, [], ◌∷◌, map, IfOk};
-ghost use Rattle.pc_terms.specs.declared.leaf.Name.{Name};
-ghost use Rattle.calculus_rules.specs.declared.declaration.Block.{Block};
 ghost use Rattle.calculus_rules.specs.Context.{extend};
 ghost use Rattle.calculus_rules.specs.Environment.{head_of};
 ghost use Rattle.pc_rules.specs.Follows.{IsAfter};
 ghost use Rattle.pc_rules.specs.WellCounted.{AreCounted, AreCountedFamilies};
 ghost use Rattle.type_infer.specs.Ready.{IsReady, done_with};
-ghost use Rattle.inductive_check.specs.Given.{family_of, block_from};
-ghost use Rattle.script_making.specs.Makes.{Makes};
-ghost use Rattle.block_making.specs.BlockMaking.{head_making, heads_making, block_heads_making};
+ghost use Rattle.inductive_check.specs.Given.{family_of};
+ghost use Rattle.block_making.specs.BlockMakes.{MakesHead, MakesHeads, MakesBlockHeads};
 
 use dump_reader::declaration::{RawFamilies, RawFamily};
 use inductive_check::levels::are_declared;
@@ -35,7 +32,7 @@ fn head<R: Reducer, G: Guarder>(
 ) -> Result<(), Halt>
     requires nest { typer.now.maker.room + draft.old.meter.nest ≡ 2048 }
     requires ready { IsReady typer.now.maker.env.now ctx.now }
-    ensures makes { (B : Block) → extend [] B.params ≡ ctx.now → Makes (head_making typer.now.maker.env.now typer.now.maker.room B (family_of family.now) draft.old.meter.account) result draft.old draft.new }
+    ensures makes { MakesHead typer.now.maker.env.now typer.now.maker.room ctx.now (family_of family.now) result draft.old draft.new }
     ensures after { IsAfter draft.old.meter draft.new.meter }
     ensures counted { IfOk result (λ _. AreCountedFamilies typer.now.maker.env.now (head_of (family_of family.now) ∷ [])) }
 {
@@ -56,7 +53,7 @@ fn heads<R: Reducer, G: Guarder>(
 ) -> Result<(), Halt>
     requires nest { typer.now.maker.room + draft.old.meter.nest ≡ 2048 }
     requires ready { IsReady typer.now.maker.env.now ctx.now }
-    ensures makes { (B : Block) → extend [] B.params ≡ ctx.now → Makes (heads_making typer.now.maker.env.now typer.now.maker.room B (map family_of families.now) draft.old.meter.account) result draft.old draft.new }
+    ensures makes { MakesHeads typer.now.maker.env.now typer.now.maker.room ctx.now (map family_of families.now) result draft.old draft.new }
     ensures after { IsAfter draft.old.meter draft.new.meter }
     ensures counted { IfOk result (λ _. AreCountedFamilies typer.now.maker.env.now (map head_of (map family_of families.now))) }
 {
@@ -79,7 +76,7 @@ pub(crate) fn block_heads<R: Reducer, G: Guarder>(
 ) -> Result<Ctx, Halt>
     requires nest { typer.now.maker.room + draft.old.meter.nest ≡ 2048 }
     requires ready { IsReady typer.now.maker.env.now [] }
-    ensures makes { (k : Name) → Makes (block_heads_making typer.now.maker.env.now typer.now.maker.room (block_from k params.now families.now) draft.old.meter.account) (done_with result) draft.old draft.new }
+    ensures makes { MakesBlockHeads typer.now.maker.env.now typer.now.maker.room params.now families.now (done_with result) draft.old draft.new }
     ensures after { IsAfter draft.old.meter draft.new.meter }
     ensures longer { IfOk result (λ d. d ≡ extend [] params.now) }
     ensures ready { IfOk result (λ d. IsReady typer.now.maker.env.now d) }

@@ -1,5 +1,5 @@
 -- The walk before the declarations: it is refused at the first item, or comes to the declarations.
-use Rattle.std.proofs.Common.{◌≡◌, ◌∙◌, ℕ, ◌-◌, refl, sym, ap, subst, List, [], length, Option, Some, None, Result, Ok, Err}
+use Rattle.std.proofs.Common.{◌≡◌, ◌∙◌, ℕ, ◌-◌, sym, ap, subst, List, [], length, Option, Some, None, Result, Ok, Err}
 use Rattle.universe_levels.specs.declared.level.Level.{Level}
 use Rattle.universe_graph.specs.Listed.{Clashes}
 use Rattle.pc_terms.specs.Syntax.{Term}
@@ -8,12 +8,11 @@ use Rattle.calculus_rules.specs.Environment.{Env}
 use Rattle.pc_rules.specs.declared.stop.Stop.TheVariants as stops
 use Rattle.pc_rules.specs.DirectedDeclarations.{first_repeated, first_undeclared_end}
 use Rattle.rule_laws.proofs.SimpleRules.{some_none}
-use Rattle.env_check.specs.declared.refusal.Refusal.{Refusal}
-use Rattle.env_check.specs.declared.refusal.Refusal.TheVariants as refusals
+use Rattle.env_check.specs.declared.refusal.BareRefusal.{BareRefusal}
+use Rattle.env_check.specs.declared.refusal.BareRefusal.TheVariants as refusals
 use Rattle.env_check.specs.Places.{bare}
 use Rattle.env_check.specs.Rules.{givens, IsFound}
-use Rattle.env_check.specs.Steps.{Refuses, level_refusal, end_refusal, RefusesGraph}
-use Rattle.env_check.specs.Beginning.{HasSoundLevels, IsRefusedFirst, at_levels, at_constraints, at_graph}
+use Rattle.env_check.specs.Beginning.{HasSoundLevels, Refuses, level_refusal, end_refusal, RefusesGraph, IsRefusedFirst, at_levels, at_constraints, at_graph}
 use Rattle.cert_rules.specs.Walk.{Items, WalkState, Walk, bar_here}
 use Rattle.cert_rules.specs.WalkDeclarations.{walk_unless}
 use Rattle.type_cert.specs.declared.halt.WalkHalt.{WalkHalt}
@@ -55,10 +54,8 @@ module _ (raw : RawEnv) where
   level_barred i a there cert t at =
       refused cert None i t at (λ once. absurd (some_none (sym there ∙ once))) (unless_some (first_repeated 0 [] raw.levels) a _ (stand t) there)
 
-  levels_refused : (i : ℕ) (e : Refusal) → Refuses (first_repeated 0 [] raw.levels) level_refusal e → HaltsFirst raw i (first_halt i e)
+  levels_refused : (i : ℕ) (e : BareRefusal) → Refuses (first_repeated 0 [] raw.levels) level_refusal e → HaltsFirst raw i (first_halt i e)
   levels_refused i (refusals.Broken p b) h = level_barred i h.0 h.1
-  levels_refused i (refusals.Spent p v) h = λ cert t at. tt
-  levels_refused i (refusals.TooDeep p) h = λ cert t at. tt
   levels_refused i refusals.Memory h = λ cert t at. tt
 
   module _ (once : first_repeated 0 [] raw.levels ≡ None) where
@@ -69,10 +66,8 @@ module _ (raw : RawEnv) where
         refused cert None i t at (λ _ declared. absurd (some_none (sym there ∙ declared)))
         (unless_none (first_repeated 0 [] raw.levels) _ (stand t) once ∙ unless_some (first_undeclared_end (length raw.levels) 0 raw.constraints) a _ (stand t) there)
 
-    constraints_refused : (i : ℕ) (e : Refusal) → Refuses (first_undeclared_end (length raw.levels) 0 raw.constraints) end_refusal e → HaltsFirst raw i (first_halt i e)
+    constraints_refused : (i : ℕ) (e : BareRefusal) → Refuses (first_undeclared_end (length raw.levels) 0 raw.constraints) end_refusal e → HaltsFirst raw i (first_halt i e)
     constraints_refused i (refusals.Broken p b) h = end_barred i h.0 h.1
-    constraints_refused i (refusals.Spent p v) h = λ cert t at. tt
-    constraints_refused i (refusals.TooDeep p) h = λ cert t at. tt
     constraints_refused i refusals.Memory h = λ cert t at. tt
 
     module _ (declared : first_undeclared_end (length raw.levels) 0 raw.constraints ≡ None) where
@@ -83,13 +78,11 @@ module _ (raw : RawEnv) where
           refused cert (Some places) i t at (λ _ _. clash)
           (unless_none (first_repeated 0 [] raw.levels) _ (stand t) once ∙ unless_none (first_undeclared_end (length raw.levels) 0 raw.constraints) _ (stand t) declared)
 
-      graph_refused : (i : ℕ) (e : Refusal) → RefusesGraph (length raw.levels) raw.constraints e → HaltsFirst raw i (first_halt i e)
+      graph_refused : (i : ℕ) (e : BareRefusal) → RefusesGraph (length raw.levels) raw.constraints e → HaltsFirst raw i (first_halt i e)
       graph_refused i (refusals.Broken p b) h = cycle_barred i h.0 h.1
-      graph_refused i (refusals.Spent p v) h = λ cert t at. tt
-      graph_refused i (refusals.TooDeep p) h = λ cert t at. tt
       graph_refused i refusals.Memory h = λ cert t at. tt
 
-  pub halts_first : (i : ℕ) (e : Refusal) → IsRefusedFirst raw e → HaltsFirst raw i (first_halt i e)
+  pub halts_first : (i : ℕ) (e : BareRefusal) → IsRefusedFirst raw e → HaltsFirst raw i (first_halt i e)
   halts_first i e (at_levels h) = levels_refused i e h
   halts_first i e (at_constraints once h) = constraints_refused once i e h
   halts_first i e (at_graph once declared h) = graph_refused once declared i e h

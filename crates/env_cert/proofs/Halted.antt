@@ -1,6 +1,6 @@
 -- What is told of an answer that is taken apart.
 use Rattle.std.proofs.Common.{◌≡◌, sym, subst, ℕ, Result, Ok, Err, IfOk, IfErr, IsErrAnd}
-use Rattle.env_check.specs.declared.refusal.Refusal.{Refusal}
+use Rattle.env_check.specs.declared.refusal.BareRefusal.{BareRefusal}
 use Rattle.type_cert.specs.declared.halt.WalkHalt.{WalkHalt}
 use Rattle.env_cert.specs.Beginning.{first_halt, barred_first}
 
@@ -10,11 +10,11 @@ given_on P (Ok a) h e p = absurd e
 given_on P (Err y) h e p = subst P (sym e) p
 
 -- what is told of an answer before the declarations
-pub first_told : {A : Type 0} (P : A → Type 0) (i : ℕ) (r : Result A Refusal) → IfOk r P → IfOk (barred_first i r) P
+pub first_told : {A : Type 0} (P : A → Type 0) (i : ℕ) (r : Result A BareRefusal) → IfOk r P → IfOk (barred_first i r) P
 first_told P i (Ok a) h = h
 first_told P i (Err e) h = tt
 
-pub first_refused : {A : Type 0} (P : Refusal → Type 0) (Q : WalkHalt → Type 0) (i : ℕ) (r : Result A Refusal) → IfErr r P → ((e : Refusal) → P e → Q (first_halt i e)) →
+pub first_refused : {A : Type 0} (P : BareRefusal → Type 0) (Q : WalkHalt → Type 0) (i : ℕ) (r : Result A BareRefusal) → IfErr r P → ((e : BareRefusal) → P e → Q (first_halt i e)) →
     IfErr (barred_first i r) Q
 first_refused P Q i (Ok a) h k = tt
 first_refused P Q i (Err e) h k = k e h

@@ -1,5 +1,5 @@
 -- The walk of a whole environment, and what its end means.
-use Rattle.std.proofs.Common.{◌≡◌, ◌∙◌, ℕ, ◌-◌, ◌==◌, Bool, true, false, eq-eqb, refl, sym, ap, subst, List, [], length, Option, None, map, Result, Ok, Err, IfOk, IsErrAnd}
+use Rattle.std.proofs.Common.{◌≡◌, ℕ, ◌-◌, ◌==◌, false, eq-eqb, sym, subst, List, [], length, Option, None, map, Result, Ok, Err, IfOk, IsErrAnd}
 use Rattle.pc_terms.specs.Syntax.{Term}
 use Rattle.pc_terms.specs.Formed.{IsFormed}
 use Rattle.dump_reader.specs.declared.declaration.RawDecl.{RawDecl}
@@ -22,7 +22,6 @@ use Rattle.type_cert.specs.declared.halt.WalkHalt.TheVariants as walks
 use Rattle.type_cert.specs.declared.trail.Trail.{Trail}
 use Rattle.type_cert.specs.Retraces.{stand, Retraces, WalkAnswers}
 use Rattle.type_cert.proofs.Retracing.{retraces_pass, retraces_bar, retraces_then, retraces_else}
-use Rattle.env_cert.specs.declared.refusal.VerifyRefusal.{VerifyRefusal}
 use Rattle.env_cert.specs.EnvWalks.{in_env, declarations_walk, LeadsOn, StopsAmong}
 use Rattle.env_cert.specs.Verified.{walk_from, walk_of, WalksFound, WalksAlong, Verifies, IsVerified, verified}
 use Rattle.env_cert.proofs.Begun.{along_found, comes_to_declarations}

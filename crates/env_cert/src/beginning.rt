@@ -7,24 +7,24 @@ ghost use Rattle.env_cert.specs.Beginning.{first_halt, barred_first, HaltsFirst}
 
 use dump_reader::environment::RawEnv;
 use env_check::beginning::bare_env;
-use env_check::refusal::Refusal;
+use env_check::refusal::BareRefusal;
 use pc_rules::environment::Env;
 use pc_rules::stop::Stop;
 use std::alloc::Global;
 use type_cert::halt::WalkHalt;
 
 /// What breaks a rule before the declarations, as what halts a walk: it is refused at item `at`. Takes no memory.
-fn first_halt(at: usize, refusal: Refusal) -> WalkHalt
+fn first_halt(at: usize, refusal: BareRefusal) -> WalkHalt
     ensures is { result ≡ first_halt at refusal }
 {
     match refusal {
-        Refusal::Broken { .. } => WalkHalt::Barred { item: at },
-        _ => WalkHalt::Stop(Stop::Memory),
+        BareRefusal::Broken { .. } => WalkHalt::Barred { item: at },
+        BareRefusal::Memory => WalkHalt::Stop(Stop::Memory),
     }
 }
 
 /// What is answered before the declarations, as a walk's answer: what is refused is refused at item `at`. Takes no memory.
-fn at_first<A: Drop>(at: usize, answer: Result<A, Refusal>) -> Result<A, WalkHalt>
+fn at_first<A: Drop>(at: usize, answer: Result<A, BareRefusal>) -> Result<A, WalkHalt>
     ensures is { result ≡ barred_first at answer }
 {
     match answer {

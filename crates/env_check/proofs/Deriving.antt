@@ -1,7 +1,6 @@
 -- What the directed rules accept of what is read has sound levels, and is well formed.
 use Rattle.std.proofs.Common.{◌≡◌, ℕ, List, [], length, Option, Some, None, refl, subst}
 use Rattle.universe_levels.specs.declared.level.Level.{Level}
-use Rattle.universe_levels.specs.Consistency.{IsConsistent}
 use Rattle.pc_terms.specs.Syntax.{Term}
 use Rattle.dump_reader.specs.declared.environment.RawEnv.{RawEnv}
 use Rattle.dump_reader.specs.Spelled.{IsSpelled}

@@ -2,16 +2,13 @@
 use Rattle.std.proofs.Common.{◌≡◌, ◌∙◌, ℕ, ◌-◌, refl, sym, ap, subst, List, [], map, length, Option, Some, None, Result, Ok, Err, IfOk, IfErr, IsErrAnd}
 use Rattle.std.proofs.lemmas.List.{length-map}
 use Rattle.universe_levels.specs.declared.level.Level.{Level}
-use Rattle.universe_levels.specs.declared.constraint.Constraint.{Constraint}
-use Rattle.universe_levels.specs.Consistency.{IsConsistent, AreOver}
+use Rattle.universe_levels.specs.Consistency.{IsConsistent}
 use Rattle.universe_graph.specs.Listed.{Clashes}
 use Rattle.pc_terms.specs.Syntax.{Term}
 use Rattle.dump_reader.specs.declared.declaration.RawDecl.{RawDecl}
 use Rattle.dump_reader.specs.declared.environment.RawEnv.{RawEnv}
 use Rattle.pc_rules.specs.declared.accepted.Accepted.{Accepted}
-use Rattle.pc_rules.specs.declared.broken.Broken.{Broken as Rule}
 use Rattle.pc_rules.specs.declared.broken.Broken.TheVariants.{UniverseCycle}
-use Rattle.pc_rules.specs.declared.broken.Place.{Place}
 use Rattle.pc_rules.specs.declared.meter.Account.{Account}
 use Rattle.pc_rules.specs.declared.meter.Meter.{Meter}
 use Rattle.calculus_rules.specs.Environment.{Env}
@@ -24,10 +21,12 @@ use Rattle.rule_laws.specs.Declarations.{IsCheckedEnvironment}
 use Rattle.inductive_check.specs.Given.{given_of}
 use Rattle.env_check.specs.declared.refusal.Refusal.{Refusal}
 use Rattle.env_check.specs.declared.refusal.Refusal.TheVariants.{Broken, Spent, TooDeep, Memory}
+use Rattle.env_check.specs.declared.refusal.BareRefusal.{BareRefusal}
+use Rattle.env_check.specs.declared.refusal.BareRefusal.TheVariants as bare_refusals
 use Rattle.env_check.specs.Rules.{givens, rules_of}
 use Rattle.env_check.specs.Answers.{CheckAnswers, AnswersFound, FollowsRules}
-use Rattle.env_check.specs.Steps.{Refuses, level_refusal, end_refusal, RefusesGraph, HasChecked}
-use Rattle.env_check.specs.Beginning.{HasSoundLevels, IsRefusedFirst, at_levels, at_constraints, at_graph}
+use Rattle.env_check.specs.Steps.{HasChecked}
+use Rattle.env_check.specs.Beginning.{HasSoundLevels, Refuses, level_refusal, end_refusal, RefusesGraph, IsRefusedFirst, at_levels, at_constraints, at_graph, refused_bare}
 use Rattle.env_check.specs.Places.{StandsAt, StandsInMain, bare}
 use Rattle.env_check.proofs.Steps.{leads_is, leads_answers, place_in_main}
 use Rattle.env_check.proofs.Declaring.{checked_all, checked_whole}
@@ -73,48 +72,44 @@ module _ (raw : RawEnv) where
 
   -- levels
 
-  level_answer : (o : Option (ℕ × Level)) (go : Checked) (u : Account) (e : Refusal) (a : ℕ × Level) → o ≡ Some a → e ≡ level_refusal a → CheckAnswers (levels_rule o go u) (Err e) u
+  level_answer : (o : Option (ℕ × Level)) (go : Checked) (u : Account) (e : BareRefusal) (a : ℕ × Level) → o ≡ Some a → e ≡ level_refusal a → CheckAnswers (levels_rule o go u) (Err (refused_bare e)) u
   level_answer o go u e a there is =
-      let here : CheckAnswers (levels_rule o go u) (Err (level_refusal a)) u = subst (λ x. CheckAnswers (levels_rule x go u) (Err (level_refusal a)) u) (sym there) refl in
-      subst (λ x. CheckAnswers (levels_rule o go u) (Err x) u) (sym is) here
+      let here : CheckAnswers (levels_rule o go u) (Err (refused_bare (level_refusal a))) u = subst (λ x. CheckAnswers (levels_rule x go u) (Err (refused_bare (level_refusal a))) u) (sym there) refl in
+      subst (λ x. CheckAnswers (levels_rule o go u) (Err (refused_bare x)) u) (sym is) here
 
-  level_found : (e : Refusal) (m : Meter) (a : ℕ × Level) → first_repeated 0 [] raw.levels ≡ Some a → e ≡ level_refusal a → FollowsRules raw (Err e) m m
+  level_found : (e : BareRefusal) (m : Meter) (a : ℕ × Level) → first_repeated 0 [] raw.levels ≡ Some a → e ≡ level_refusal a → FollowsRules raw (Err (refused_bare e)) m m
   level_found e m a there is =
-      follows_found raw (Err e) m m (record {
+      follows_found raw (Err (refused_bare e)) m m (record {
         cycle = None;
         found = λ once. absurd (some_none (sym there ∙ once));
         answers = level_answer (first_repeated 0 [] raw.levels) (from_constraints None (2048 - m.nest) m.account) m.account e a there is;
       })
 
-  levels_refused : (e : Refusal) (m : Meter) → Refuses (first_repeated 0 [] raw.levels) level_refusal e → FollowsRules raw (Err e) m m
-  levels_refused (Broken p b) m h = level_found (Broken p b) m h.0 h.1 h.2
-  levels_refused (Spent p v) m h = level_found (Spent p v) m h.0 h.1 h.2
-  levels_refused (TooDeep p) m h = level_found (TooDeep p) m h.0 h.1 h.2
-  levels_refused Memory m h = tt
+  levels_refused : (e : BareRefusal) (m : Meter) → Refuses (first_repeated 0 [] raw.levels) level_refusal e → FollowsRules raw (Err (refused_bare e)) m m
+  levels_refused (bare_refusals.Broken p b) m h = level_found (bare_refusals.Broken p b) m h.0 h.1 h.2
+  levels_refused bare_refusals.Memory m h = tt
 
   module _ (once : first_repeated 0 [] raw.levels ≡ None) where
     -- constraints
 
-    end_answer : (o : Option (ℕ × Level)) (go : Checked) (u : Account) (e : Refusal) (a : ℕ × Level) → o ≡ Some a → e ≡ end_refusal a → CheckAnswers (constraints_rule o go u) (Err e) u
+    end_answer : (o : Option (ℕ × Level)) (go : Checked) (u : Account) (e : BareRefusal) (a : ℕ × Level) → o ≡ Some a → e ≡ end_refusal a → CheckAnswers (constraints_rule o go u) (Err (refused_bare e)) u
     end_answer o go u e a there is =
-        let here : CheckAnswers (constraints_rule o go u) (Err (end_refusal a)) u = subst (λ x. CheckAnswers (constraints_rule x go u) (Err (end_refusal a)) u) (sym there) refl in
-        subst (λ x. CheckAnswers (constraints_rule o go u) (Err x) u) (sym is) here
+        let here : CheckAnswers (constraints_rule o go u) (Err (refused_bare (end_refusal a))) u = subst (λ x. CheckAnswers (constraints_rule x go u) (Err (refused_bare (end_refusal a))) u) (sym there) refl in
+        subst (λ x. CheckAnswers (constraints_rule o go u) (Err (refused_bare x)) u) (sym is) here
 
-    end_found : (e : Refusal) (m : Meter) (a : ℕ × Level) → first_undeclared_end (length raw.levels) 0 raw.constraints ≡ Some a → e ≡ end_refusal a → FollowsRules raw (Err e) m m
+    end_found : (e : BareRefusal) (m : Meter) (a : ℕ × Level) → first_undeclared_end (length raw.levels) 0 raw.constraints ≡ Some a → e ≡ end_refusal a → FollowsRules raw (Err (refused_bare e)) m m
     end_found e m a there is =
         let go = from_graph None (2048 - m.nest) m.account in
         let pass : rules_of raw None (2048 - m.nest) m.account ≡ from_constraints None (2048 - m.nest) m.account = levels_pass (first_repeated 0 [] raw.levels) (from_constraints None (2048 - m.nest) m.account) m.account once in
-        follows_found raw (Err e) m m (record {
+        follows_found raw (Err (refused_bare e)) m m (record {
           cycle = None;
           found = λ _ declared. absurd (some_none (sym there ∙ declared));
-          answers = leads_answers _ _ (Err e) m.account (leads_is _ _ pass) (end_answer (first_undeclared_end (length raw.levels) 0 raw.constraints) go m.account e a there is);
+          answers = leads_answers _ _ (Err (refused_bare e)) m.account (leads_is _ _ pass) (end_answer (first_undeclared_end (length raw.levels) 0 raw.constraints) go m.account e a there is);
         })
 
-    constraints_refused : (e : Refusal) (m : Meter) → Refuses (first_undeclared_end (length raw.levels) 0 raw.constraints) end_refusal e → FollowsRules raw (Err e) m m
-    constraints_refused (Broken p b) m h = end_found (Broken p b) m h.0 h.1 h.2
-    constraints_refused (Spent p v) m h = end_found (Spent p v) m h.0 h.1 h.2
-    constraints_refused (TooDeep p) m h = end_found (TooDeep p) m h.0 h.1 h.2
-    constraints_refused Memory m h = tt
+    constraints_refused : (e : BareRefusal) (m : Meter) → Refuses (first_undeclared_end (length raw.levels) 0 raw.constraints) end_refusal e → FollowsRules raw (Err (refused_bare e)) m m
+    constraints_refused (bare_refusals.Broken p b) m h = end_found (bare_refusals.Broken p b) m h.0 h.1 h.2
+    constraints_refused bare_refusals.Memory m h = tt
 
     module _ (declared : first_undeclared_end (length raw.levels) 0 raw.constraints ≡ None) where
       passes : (cycle : Option (List ℕ)) (n : ℕ) (u : Account) → rules_of raw cycle n u ≡ from_graph cycle n u
@@ -124,20 +119,18 @@ module _ (raw : RawEnv) where
 
       -- the graph
 
-      cycle_found : (e : Refusal) (m : Meter) (places : List ℕ) → Clashes (length raw.levels) raw.constraints places → e ≡ Broken (place_of places) (UniverseCycle places) → FollowsRules raw (Err e) m m
+      cycle_found : (e : BareRefusal) (m : Meter) (places : List ℕ) → Clashes (length raw.levels) raw.constraints places → e ≡ bare_refusals.Broken (place_of places) (UniverseCycle places) → FollowsRules raw (Err (refused_bare e)) m m
       cycle_found e m places clash is =
-          let here : CheckAnswers (from_graph (Some places) (2048 - m.nest) m.account) (Err e) m.account = subst (λ x. CheckAnswers (from_graph (Some places) (2048 - m.nest) m.account) (Err x) m.account) (sym is) refl in
-          follows_found raw (Err e) m m (record {
+          let here : CheckAnswers (from_graph (Some places) (2048 - m.nest) m.account) (Err (refused_bare e)) m.account = subst (λ x. CheckAnswers (from_graph (Some places) (2048 - m.nest) m.account) (Err (refused_bare x)) m.account) (sym is) refl in
+          follows_found raw (Err (refused_bare e)) m m (record {
             cycle = Some places;
             found = λ _ _. clash;
-            answers = leads_answers _ _ (Err e) m.account (leads_is _ _ (passes (Some places) (2048 - m.nest) m.account)) here;
+            answers = leads_answers _ _ (Err (refused_bare e)) m.account (leads_is _ _ (passes (Some places) (2048 - m.nest) m.account)) here;
           })
 
-      graph_refused : (e : Refusal) (m : Meter) → RefusesGraph (length raw.levels) raw.constraints e → FollowsRules raw (Err e) m m
-      graph_refused (Broken p b) m h = cycle_found (Broken p b) m h.0 h.1 h.2
-      graph_refused (Spent p v) m h = cycle_found (Spent p v) m h.0 h.1 h.2
-      graph_refused (TooDeep p) m h = cycle_found (TooDeep p) m h.0 h.1 h.2
-      graph_refused Memory m h = tt
+      graph_refused : (e : BareRefusal) (m : Meter) → RefusesGraph (length raw.levels) raw.constraints e → FollowsRules raw (Err (refused_bare e)) m m
+      graph_refused (bare_refusals.Broken p b) m h = cycle_found (bare_refusals.Broken p b) m h.0 h.1 h.2
+      graph_refused bare_refusals.Memory m h = tt
 
       -- what comes after, over an environment without declarations
 
@@ -197,26 +190,14 @@ module _ (raw : RawEnv) where
 -- what is refused before the declarations
 
 module _ (raw : RawEnv) where
-  pub first_refused : (m : Meter) (e : Refusal) → IsRefusedFirst raw e → FollowsRules raw (Err e) m m
+  pub first_refused : (m : Meter) (e : BareRefusal) → IsRefusedFirst raw e → FollowsRules raw (Err (refused_bare e)) m m
   first_refused m e (at_levels h) = levels_refused raw e m h
   first_refused m e (at_constraints once h) = constraints_refused raw once e m h
   first_refused m e (at_graph once declared h) = graph_refused raw once declared e m h
 
-  spent_broken : {p q : Place} {v : Account} {b : Rule} → Spent p v ≡ Broken q b → ⊥
-  spent_broken e = cc
-
-  deep_broken : {p q : Place} {b : Rule} → TooDeep p ≡ Broken q b → ⊥
-  deep_broken e = cc
-
-  pub first_placed : (E : Env) (n : ℕ) (ds : List Given) (main : Term) (u : Account) (e : Refusal) → IsRefusedFirst raw e → StandsAt E n ds main u e
-  first_placed E n ds main u (Broken p b) h = tt
-  first_placed E n ds main u (Spent p v) (at_levels h) = absurd (spent_broken h.2)
-  first_placed E n ds main u (Spent p v) (at_constraints once h) = absurd (spent_broken h.2)
-  first_placed E n ds main u (Spent p v) (at_graph once declared h) = absurd (spent_broken h.2)
-  first_placed E n ds main u (TooDeep p) (at_levels h) = absurd (deep_broken h.2)
-  first_placed E n ds main u (TooDeep p) (at_constraints once h) = absurd (deep_broken h.2)
-  first_placed E n ds main u (TooDeep p) (at_graph once declared h) = absurd (deep_broken h.2)
-  first_placed E n ds main u Memory h = tt
+pub first_placed : (E : Env) (n : ℕ) (ds : List Given) (main : Term) (u : Account) (e : BareRefusal) → StandsAt E n ds main u (refused_bare e)
+first_placed E n ds main u (bare_refusals.Broken p b) = tt
+first_placed E n ds main u bare_refusals.Memory = tt
 
 -- what a `?` gives on is the refusal of its call
 pub given_on : {A : Type 0} (P : Refusal → Type 0) (r : Result A Refusal) (e : Refusal) → IsErrAnd r (λ x. x ≡ e) → P e → IfErr r P

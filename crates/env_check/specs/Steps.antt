@@ -1,11 +1,6 @@
 -- What the steps of the check answer.
-use Rattle.std.specs.Prelude.{◌≡◌, ℕ, List, [], map, reverse, take, drop, Option, Some, IsTrue}
-use Rattle.universe_levels.specs.declared.level.Level.{Level}
-use Rattle.universe_levels.specs.declared.constraint.Constraint.{Constraint}
-use Rattle.universe_graph.specs.Listed.{Clashes}
-use Rattle.pc_rules.specs.declared.broken.Broken.TheVariants.{LevelUndeclared, UniverseCycle, DuplicateName}
+use Rattle.std.specs.Prelude.{◌≡◌, ℕ, List, [], map, reverse, take, drop, Option, Err, IsTrue}
 use Rattle.pc_rules.specs.declared.broken.Place.{Place}
-use Rattle.pc_rules.specs.declared.broken.Place.TheVariants.{Level as AtLevel, Constraint as AtConstraint}
 use Rattle.pc_rules.specs.declared.stop.Stop.TheVariants as stops
 use Rattle.pc_rules.specs.declared.stop.Halt.{Halt}
 use Rattle.pc_rules.specs.declared.stop.Halt.TheVariants as halts
@@ -14,29 +9,15 @@ use Rattle.pc_rules.specs.declared.meter.Account.{Account}
 use Rattle.calculus_rules.specs.Environment.{Env}
 use Rattle.calculus_rules.specs.Accepted.{IsAccepted}
 use Rattle.pc_rules.specs.Entailment.{test_of}
-use Rattle.pc_rules.specs.DirectedDeclarations.{Given, Checked, declarations_rule, place_of}
+use Rattle.pc_rules.specs.DirectedRun.{Act}
+use Rattle.pc_rules.specs.DirectedTyping.{infer}
+use Rattle.pc_rules.specs.DirectedComparison.{compare}
+use Rattle.pc_rules.specs.DirectedDeclarations.{Given, Checked, body_rule, declarations_rule}
 use Rattle.rule_laws.specs.Declarations.{plain, plain_given}
 use Rattle.env_check.specs.Places.{ComesTo}
+use Rattle.env_check.specs.Answers.{CheckAnswers}
 use Rattle.env_check.specs.declared.refusal.Refusal.{Refusal}
 use Rattle.env_check.specs.declared.refusal.Refusal.TheVariants.{Broken, Spent, TooDeep, Memory}
-
--- want of memory, or the refusal of what is there
-abbrev pub Refuses : {A : Type 0} → Option A → (A → Refusal) → Refusal → Type 0
-Refuses o refusal Memory = Unit {0}
-Refuses {A} o refusal e = (a : A) × (o ≡ Some a) × (e ≡ refusal a)
-
--- a level that was listed before, with its place
-abbrev pub level_refusal : ℕ × Level → Refusal
-level_refusal p = Broken (AtLevel p.0) (DuplicateName p.1.0)
-
--- an end that is not declared, with the place of its constraint
-abbrev pub end_refusal : ℕ × Level → Refusal
-end_refusal p = Broken (AtConstraint p.0) (LevelUndeclared p.1)
-
--- want of memory, or constraints that alone have no valuation
-abbrev pub RefusesGraph : ℕ → List Constraint → Refusal → Type 0
-RefusesGraph levels cs Memory = Unit {0}
-RefusesGraph levels cs e = (places : List ℕ) × Clashes levels cs places × (e ≡ Broken (place_of places) (UniverseCycle places))
 
 -- what halts a step, at its place, to which the rules came with this account
 abbrev pub refusal_at : Place → Account → Halt → Refusal
@@ -44,6 +25,14 @@ refusal_at p v (halts.Stop stops.Spent) = Spent p v
 refusal_at p v (halts.Stop stops.TooDeep) = TooDeep p
 refusal_at p v (halts.Stop stops.Memory) = Memory
 refusal_at p v (halts.Broken b) = Broken p b
+
+-- the rule of a constant's body, where n rules may stand in one another
+abbrev pub body_within : Env → ℕ → Term → Option Term → Act
+body_within E n = body_rule E (infer E (test_of E) n) (compare E (test_of E) n)
+
+-- whatever main is, the declarations are refused, with that account
+abbrev pub RefusesDeclarations : Env → ℕ → List Given → Account → Refusal → Account → Type 0
+RefusesDeclarations E n ds u e v = (main : Term) → CheckAnswers (declarations_rule E.levels E.constraints (test_of E) n 0 [] ds main u) (Err e) v
 
 -- a check that has come to another one
 pub record LeadsTo (whole rest : Checked) : Type 0 where

@@ -6,7 +6,7 @@ ghost use Rattle.env_check.specs.Beginning.{HasSoundLevels, IsRefusedFirst};
 
 use crate::constraints::{check_constraints, graph_of};
 use crate::levels::check_levels;
-use crate::refusal::Refusal;
+use crate::refusal::BareRefusal;
 use dump_reader::environment::RawEnv;
 use pc_rules::environment::Env;
 use std::alloc::Global;
@@ -14,7 +14,7 @@ use std::alloc::Global;
 /// The environment of the levels and constraints that are read, without declarations. `DuplicateName` at a level that was listed before;
 /// `LevelUndeclared` at a constraint with a level that is not declared; `UniverseCycle` at the first of some constraints, by their places in rising
 /// order, that alone have no valuation; and else only `Memory`.
-pub fn bare_env(alloc: Global, raw: &RawEnv) -> Result<Env, Refusal>
+pub fn bare_env(alloc: Global, raw: &RawEnv) -> Result<Env, BareRefusal>
     requires spelled { IsSpelled raw.now }
     ensures bare { IfOk result (λ e. e ≡ bare raw.now) }
     ensures sound { IfOk result (λ _. HasSoundLevels raw.now) }

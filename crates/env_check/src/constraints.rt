@@ -2,9 +2,9 @@
 ghost use Rattle.std.specs.Prelude.{◌≡◌, ◌≤◌, length, None, IfOk, IfErr};
 ghost use Rattle.universe_levels.specs.Consistency.{AreOver, IsConsistent};
 ghost use Rattle.pc_rules.specs.DirectedDeclarations.{undeclared_end, first_undeclared_end, place_of};
-ghost use Rattle.env_check.specs.Steps.{Refuses, end_refusal, RefusesGraph};
+ghost use Rattle.env_check.specs.Beginning.{Refuses, end_refusal, RefusesGraph};
 
-use crate::refusal::Refusal;
+use crate::refusal::BareRefusal;
 use pc_rules::broken::{Broken, Place};
 use pc_terms::lists::Numbers;
 use std::alloc::Global;
@@ -26,7 +26,7 @@ fn undeclared_end(levels: u32, constraint: &Constraint) -> Option<Level>
 }
 
 /// Whether each constraint names declared levels. `LevelUndeclared` at the first that does not. Takes no memory.
-pub fn check_constraints(levels: u32, constraints: &[Constraint]) -> Result<(), Refusal>
+pub fn check_constraints(levels: u32, constraints: &[Constraint]) -> Result<(), BareRefusal>
     requires few { length constraints.now ≤ 16384 }
     ensures passed { IfOk result (λ _. first_undeclared_end levels 0 constraints.now ≡ None) }
     ensures over { IfOk result (λ _. AreOver levels constraints.now) }
@@ -34,7 +34,7 @@ pub fn check_constraints(levels: u32, constraints: &[Constraint]) -> Result<(), 
 {
     for (i, constraint) in constraints.iter().enumerate() {
         if let Some(level) = undeclared_end(levels, constraint) {
-            return Err(Refusal::Broken {
+            return Err(BareRefusal::Broken {
                 place: Place::Constraint(i as u32),
                 rule: Broken::LevelUndeclared { level },
             });
@@ -54,7 +54,11 @@ fn place_of(constraints: &[u32]) -> Place
 }
 
 /// The graph of constraints on declared levels. `UniverseCycle` where no valuation meets them all, and else only `Memory`.
-pub fn graph_of(alloc: Global, levels: u32, constraints: &[Constraint]) -> Result<Graph, Refusal>
+pub fn graph_of(
+    alloc: Global,
+    levels: u32,
+    constraints: &[Constraint],
+) -> Result<Graph, BareRefusal>
     requires few_levels { levels ≤ 1024 }
     requires few_constraints { length constraints.now ≤ 16384 }
     requires over { AreOver levels constraints.now }
@@ -65,11 +69,11 @@ pub fn graph_of(alloc: Global, levels: u32, constraints: &[Constraint]) -> Resul
 {
     match Graph::build(alloc, levels, constraints) {
         Ok(graph) => Ok(graph),
-        Err(GraphFault::Memory) => Err(Refusal::Memory),
+        Err(GraphFault::Memory) => Err(BareRefusal::Memory),
         Err(GraphFault::Cycle { constraints }) => {
             let place = place_of(constraints.as_slice());
             let constraints = Numbers::of(constraints.into_vec());
-            Err(Refusal::Broken {
+            Err(BareRefusal::Broken {
                 place,
                 rule: Broken::UniverseCycle { constraints },
             })

@@ -1,5 +1,5 @@
 //! Declarations, in their order.
-ghost use Rattle.std.specs.Prelude.{◌≡◌, ◌≤◌, ◌-◌, length, [], map, Err, IfOk, IfErr};
+ghost use Rattle.std.specs.Prelude.{◌≡◌, ◌≤◌, ◌-◌, length, [], map, IfOk, IfErr};
 ghost use Rattle.pc_terms.specs.Syntax.{Term as Main};
 ghost use Rattle.pc_terms.specs.declared.term.MakeFault.TheVariants.{Memory};
 ghost use Rattle.pc_rules.specs.declared.meter.Account.{Account};
@@ -8,14 +8,11 @@ ghost use Rattle.calculus_rules.specs.Accepted.{IsAccepted, BodyFits};
 ghost use Rattle.pc_rules.specs.Entailment.{test_of};
 ghost use Rattle.pc_rules.specs.Follows.{Follows, Answers as AnswersRun, IsAfter};
 ghost use Rattle.calculus_rules.specs.Lookups.{kept_at};
-ghost use Rattle.pc_rules.specs.DirectedTyping.{infer};
-ghost use Rattle.pc_rules.specs.DirectedComparison.{compare};
-ghost use Rattle.pc_rules.specs.DirectedDeclarations.{fresh_name, body_rule, constant_rule, declaration_rule, declarations_rule, GivenConstant};
+ghost use Rattle.pc_rules.specs.DirectedDeclarations.{fresh_name, constant_rule, declaration_rule, GivenConstant};
 ghost use Rattle.rule_laws.specs.Declarations.{IsCheckedDeclaration};
 ghost use Rattle.inductive_check.specs.Given.{given_of};
-ghost use Rattle.env_check.specs.Answers.{CheckAnswers};
 ghost use Rattle.env_check.specs.Places.{StandsAt};
-ghost use Rattle.env_check.specs.Steps.{HasChecked};
+ghost use Rattle.env_check.specs.Steps.{HasChecked, RefusesDeclarations, body_within};
 
 use crate::refusal::{Refusal, refusal_at};
 use calculus_rules::declaration::Kept;
@@ -53,7 +50,7 @@ fn check_body<T: Typer>(
     m: &mut Meter,
 ) -> Result<(), Halt>
     requires accepted { IsAccepted env.now }
-    ensures follows { Follows (body_rule env.now (infer env.now (test_of env.now) (2048 - m.old.nest)) (compare env.now (test_of env.now) (2048 - m.old.nest)) ty.now body.now m.old.account) result m.old m.new }
+    ensures follows { Follows (body_within env.now (2048 - m.old.nest) ty.now body.now m.old.account) result m.old m.new }
     ensures fits { IfOk result (λ _. BodyFits env.now ty.now body.now) }
 {
     match body {
@@ -135,7 +132,7 @@ pub(crate) fn check_declarations<T: Typer, R: Reducer>(
     requires accepted { IsAccepted env }
     requires empty { env.declarations ≡ [] }
     ensures checked { IfOk result (λ e. HasChecked env (2048 - m.old.nest) (map given_of decls.now) m.old.account (length decls.now) e m.new.account) }
-    ensures refused { IfErr result (λ e. (main : Main) → CheckAnswers (declarations_rule env.levels env.constraints (test_of env) (2048 - m.old.nest) 0 [] (map given_of decls.now) main m.old.account) (Err e) m.new.account) }
+    ensures refused { IfErr result (λ e. RefusesDeclarations env (2048 - m.old.nest) (map given_of decls.now) m.old.account e m.new.account) }
     ensures placed { IfErr result (λ e. (main : Main) → StandsAt env (2048 - m.old.nest) (map given_of decls.now) main m.old.account e) }
     ensures after { IsAfter m.old m.new }
 {

@@ -19,6 +19,28 @@ pub enum Refusal {
     Memory,
 }
 
+/// Why an environment is refused before its declarations are looked at.
+#[derive(Drop)]
+pub enum BareRefusal {
+    /// A rule is broken at a level or at a constraint: the first one in the order of the rules.
+    Broken { place: Place, rule: Broken },
+    /// There is no memory.
+    Memory,
+}
+
+impl From<BareRefusal> for Refusal {
+    ghost use Rattle.env_check.specs.Beginning.{refused_bare};
+
+    ghost from_gives = { λ e r. r ≡ refused_bare e };
+
+    fn from(refusal: BareRefusal) -> Refusal {
+        match refusal {
+            BareRefusal::Broken { place, rule } => Refusal::Broken { place, rule },
+            BareRefusal::Memory => Refusal::Memory,
+        }
+    }
+}
+
 /// What halts the rules at a place, to which they came with this account, as a refusal. Takes no memory.
 pub(crate) fn refusal_at(place: Place, before: Account, halt: Halt) -> Refusal
     ensures is { result ≡ refusal_at place before halt }

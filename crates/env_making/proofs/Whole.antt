@@ -12,12 +12,11 @@ use Rattle.pc_rules.specs.DirectedDeclarations.{first_repeated, first_undeclared
 use Rattle.pc_rules.proofs.Meters.{after-refl}
 use Rattle.rule_laws.proofs.SimpleRules.{some_none}
 use Rattle.inductive_check.specs.Given.{given_of}
-use Rattle.env_check.specs.declared.refusal.Refusal.{Refusal}
-use Rattle.env_check.specs.declared.refusal.Refusal.TheVariants as refusals
+use Rattle.env_check.specs.declared.refusal.BareRefusal.{BareRefusal}
+use Rattle.env_check.specs.declared.refusal.BareRefusal.TheVariants as refusals
 use Rattle.env_check.specs.Places.{bare}
 use Rattle.env_check.specs.Rules.{givens}
-use Rattle.env_check.specs.Steps.{Refuses, level_refusal, end_refusal, RefusesGraph}
-use Rattle.env_check.specs.Beginning.{HasSoundLevels, IsRefusedFirst, at_levels, at_constraints, at_graph}
+use Rattle.env_check.specs.Beginning.{HasSoundLevels, Refuses, level_refusal, end_refusal, RefusesGraph, IsRefusedFirst, at_levels, at_constraints, at_graph}
 use Rattle.cert_rules.specs.Writing.{wrote}
 use Rattle.cert_rules.specs.MakingDeclarations.{Made, make_graph, make_constraints, make_levels}
 use Rattle.script_making.specs.declared.draft.Draft.{Draft}
@@ -53,7 +52,7 @@ module _ (raw : RawEnv) where
 
   -- levels
 
-  level_found : (t : Draft) (e : Refusal) (a : ℕ × Level) → first_repeated 0 [] raw.levels ≡ Some a → e ≡ level_refusal a → DraftsAlong raw (Err (refused_first e)) t t
+  level_found : (t : Draft) (e : BareRefusal) (a : ℕ × Level) → first_repeated 0 [] raw.levels ≡ Some a → e ≡ level_refusal a → DraftsAlong raw (Err (refused_first e)) t t
   level_found t e a there is =
       subst (λ x. DraftsAlong raw (Err (refused_first x)) t t) (sym is) (record {
         cycle = None;
@@ -61,16 +60,14 @@ module _ (raw : RawEnv) where
         makes = record { answer = ap (λ o. (make_levels o (from_constraints None (2048 - t.meter.nest) t.meter.account) t.meter.account).outcome) there; after = after-refl t.meter };
       })
 
-  levels_refused : (t : Draft) (e : Refusal) → Refuses (first_repeated 0 [] raw.levels) level_refusal e → DraftsAlong raw (Err (refused_first e)) t t
+  levels_refused : (t : Draft) (e : BareRefusal) → Refuses (first_repeated 0 [] raw.levels) level_refusal e → DraftsAlong raw (Err (refused_first e)) t t
   levels_refused t (refusals.Broken p b) h = level_found t (refusals.Broken p b) h.0 h.1 h.2
-  levels_refused t (refusals.Spent p v) h = tt
-  levels_refused t (refusals.TooDeep p) h = tt
   levels_refused t refusals.Memory h = tt
 
   module _ (once : first_repeated 0 [] raw.levels ≡ None) where
     -- constraints
 
-    end_found : (t : Draft) (e : Refusal) (a : ℕ × Level) → first_undeclared_end (length raw.levels) 0 raw.constraints ≡ Some a → e ≡ end_refusal a → DraftsAlong raw (Err (refused_first e)) t t
+    end_found : (t : Draft) (e : BareRefusal) (a : ℕ × Level) → first_undeclared_end (length raw.levels) 0 raw.constraints ≡ Some a → e ≡ end_refusal a → DraftsAlong raw (Err (refused_first e)) t t
     end_found t e a there is =
         let n = 2048 - t.meter.nest in
         let u = t.meter.account in
@@ -83,10 +80,8 @@ module _ (raw : RawEnv) where
           };
         })
 
-    constraints_refused : (t : Draft) (e : Refusal) → Refuses (first_undeclared_end (length raw.levels) 0 raw.constraints) end_refusal e → DraftsAlong raw (Err (refused_first e)) t t
+    constraints_refused : (t : Draft) (e : BareRefusal) → Refuses (first_undeclared_end (length raw.levels) 0 raw.constraints) end_refusal e → DraftsAlong raw (Err (refused_first e)) t t
     constraints_refused t (refusals.Broken p b) h = end_found t (refusals.Broken p b) h.0 h.1 h.2
-    constraints_refused t (refusals.Spent p v) h = tt
-    constraints_refused t (refusals.TooDeep p) h = tt
     constraints_refused t refusals.Memory h = tt
 
     module _ (declared : first_undeclared_end (length raw.levels) 0 raw.constraints ≡ None) where
@@ -96,19 +91,17 @@ module _ (raw : RawEnv) where
           ∙ constraints_pass (first_undeclared_end (length raw.levels) 0 raw.constraints) (from_graph cycle n u) u declared
 
       -- the graph
-      graph_refused : (t : Draft) (e : Refusal) → RefusesGraph (length raw.levels) raw.constraints e → DraftsAlong raw (Err (refused_first e)) t t
+      graph_refused : (t : Draft) (e : BareRefusal) → RefusesGraph (length raw.levels) raw.constraints e → DraftsAlong raw (Err (refused_first e)) t t
       graph_refused t (refusals.Broken p b) h =
           subst (λ x. DraftsAlong raw (Err (refused_first x)) t t) (sym h.2) (record {
             cycle = Some h.0;
             found = λ _ _. h.1;
             makes = record { answer = ap (λ g. g.outcome) (passes (Some h.0) (2048 - t.meter.nest) t.meter.account); after = after-refl t.meter };
           })
-      graph_refused t (refusals.Spent p v) h = tt
-      graph_refused t (refusals.TooDeep p) h = tt
       graph_refused t refusals.Memory h = tt
 
   -- what is refused before the declarations
-  pub first_refused : (t : Draft) (e : Refusal) → IsRefusedFirst raw e → DraftsAlong raw (Err (refused_first e)) t t
+  pub first_refused : (t : Draft) (e : BareRefusal) → IsRefusedFirst raw e → DraftsAlong raw (Err (refused_first e)) t t
   first_refused t e (at_levels h) = levels_refused t e h
   first_refused t e (at_constraints once h) = constraints_refused once t e h
   first_refused t e (at_graph once declared h) = graph_refused once declared t e h

@@ -6,8 +6,8 @@ use Rattle.pc_rules.specs.declared.broken.Place.{Place}
 use Rattle.pc_rules.specs.declared.stop.Stop.TheVariants as stops
 use Rattle.pc_rules.specs.declared.stop.Halt.{Halt}
 use Rattle.pc_rules.specs.declared.stop.Halt.TheVariants as halts
-use Rattle.env_check.specs.declared.refusal.Refusal.{Refusal}
-use Rattle.env_check.specs.declared.refusal.Refusal.TheVariants as refusals
+use Rattle.env_check.specs.declared.refusal.BareRefusal.{BareRefusal}
+use Rattle.env_check.specs.declared.refusal.BareRefusal.TheVariants as refusals
 use Rattle.cert_rules.specs.Walk.{Items}
 use Rattle.env_making.specs.declared.refusal.CertRefusal.{CertRefusal}
 use Rattle.env_making.specs.declared.refusal.CertRefusal.TheVariants.{Broken, Spent, TooDeep, Memory}
@@ -20,9 +20,9 @@ halted_at p (halts.Stop stops.Memory) = Memory
 halted_at p (halts.Broken b) = Broken p b
 
 -- what is refused before the declarations
-abbrev pub refused_first : Refusal → CertRefusal
+abbrev pub refused_first : BareRefusal → CertRefusal
 refused_first (refusals.Broken p b) = Broken p b
-refused_first _ = Memory
+refused_first refusals.Memory = Memory
 
 -- an end, with what was written
 abbrev pub certified : Items → Result (Env × Term) CertRefusal → Result Items CertRefusal

@@ -8,7 +8,7 @@ ghost use Rattle.env_making.specs.EnvMaking.{DraftsAlong};
 ghost use Rattle.env_making.specs.Certified.{MakesCert, FollowsDirected, IsCertificateOf};
 
 use crate::declarations::declarations;
-use crate::refusal::{CertRefusal, halted_at, refused_first};
+use crate::refusal::{CertRefusal, halted_at};
 use cert_rules::certificate::{Cert, CertItems};
 use cert_rules::item::CertItem;
 use dump_reader::environment::RawEnv;
@@ -38,10 +38,7 @@ fn make_env<'x, R: Reducer, G: Guarder>(
     ensures after { IsAfter draft.old.meter draft.new.meter }
 {
     let room = draft.meter.room();
-    let bare = match bare_env(alloc, raw) {
-        Ok(bare) => bare,
-        Err(refusal) => return Err(refused_first(refusal)),
-    };
+    let bare = bare_env(alloc, raw)?;
     let env = declarations(
         alloc,
         reducer,

@@ -1,8 +1,8 @@
 //! Why there is no certificate of an environment.
 ghost use Rattle.std.specs.Prelude.{◌≡◌};
-ghost use Rattle.env_making.specs.Refusals.{halted_at, refused_first};
+ghost use Rattle.env_making.specs.Refusals.{halted_at};
 
-use env_check::refusal::Refusal;
+use env_check::refusal::BareRefusal;
 use pc_rules::broken::{Broken, Place};
 use pc_rules::stop::{Halt, Stop};
 
@@ -19,6 +19,19 @@ pub enum CertRefusal {
     Memory,
 }
 
+impl From<BareRefusal> for CertRefusal {
+    ghost use Rattle.env_making.specs.Refusals.{refused_first};
+
+    ghost from_gives = { λ e r. r ≡ refused_first e };
+
+    fn from(refusal: BareRefusal) -> CertRefusal {
+        match refusal {
+            BareRefusal::Broken { place, rule } => CertRefusal::Broken { place, rule },
+            BareRefusal::Memory => CertRefusal::Memory,
+        }
+    }
+}
+
 /// What halts the rules at a place, as a refusal. Takes no memory.
 pub(crate) fn halted_at(place: Place, halt: Halt) -> CertRefusal
     ensures is { result ≡ halted_at place halt }
@@ -28,15 +41,5 @@ pub(crate) fn halted_at(place: Place, halt: Halt) -> CertRefusal
         Halt::Stop(Stop::TooDeep) => CertRefusal::TooDeep,
         Halt::Stop(Stop::Memory) => CertRefusal::Memory,
         Halt::Broken(rule) => CertRefusal::Broken { place, rule },
-    }
-}
-
-/// What is refused before the declarations, as a refusal. Takes no memory.
-pub(crate) fn refused_first(refusal: Refusal) -> CertRefusal
-    ensures is { result ≡ refused_first refusal }
-{
-    match refusal {
-        Refusal::Broken { place, rule } => CertRefusal::Broken { place, rule },
-        _ => CertRefusal::Memory,
     }
 }

@@ -1,8 +1,7 @@
-use Rattle.std.proofs.Common.{rules, [], ◌∙◌, ap, sym}
+use Rattle.std.proofs.Common.{rules, ◌∙◌, ap, sym}
 use Rattle.calculus_rules.specs.Context.{extend}
 use Rattle.type_infer.specs.Ready.{IsReady}
 use Rattle.inductive_check.specs.Given.{block_from}
-use Rattle.type_making.specs.Making.{sorts_making}
 use Rattle.type_making.proofs.Grouping.{makes_after, makes_before}
 use Rattle.type_making.proofs.Starting.{makes_with}
 use Rattle.block_making.specs.BlockMaking.{heads_making}

@@ -1,4 +1,4 @@
-use Rattle.std.proofs.Common.{rules, [], ◌≡◌}
+use Rattle.std.proofs.Common.{rules}
 use Rattle.type_infer.specs.Ready.{IsReady}
 use Rattle.type_infer.proofs.Finding.{if_ok}
 use Rattle.type_cert.proofs.Retracing.{retraces_pass}

@@ -1,4 +1,4 @@
-use Rattle.std.proofs.Common.{rules, [], ◌≡◌}
+use Rattle.std.proofs.Common.{rules}
 use Rattle.type_infer.specs.Ready.{IsReady}
 use Rattle.type_cert.proofs.Retracing.{retraces_on, retraces_err, retraces_pass, retraces_memory, retraces_passed}
 use Rattle.env_cert.proofs.constants.constant.Goals as goal

@@ -1,8 +1,7 @@
-use Rattle.std.proofs.Common.{rules, ◌≡◌, [], map}
+use Rattle.std.proofs.Common.{rules}
 use Rattle.calculus_rules.specs.Lookups.{kept_at}
 use Rattle.pc_rules.specs.Lookup.{IsNew}
 use Rattle.pc_rules.specs.DirectedDeclarations.{fresh_name}
-use Rattle.inductive_check.specs.Given.{given_of, block_of}
 use Rattle.type_cert.proofs.Retracing.{retraces_on, retraces_err, retraces_passed, retraces_answers, told_of}
 use Rattle.env_cert.proofs.Declaring.{block_halts, block_kept}
 use Rattle.env_cert.proofs.declarations.declaration.Goals as goal

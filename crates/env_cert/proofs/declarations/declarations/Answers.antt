@@ -1,13 +1,10 @@
-use Rattle.std.proofs.Common.{rules, ◌≡◌, [], map, subst, sym}
+use Rattle.std.proofs.Common.{rules, map, subst}
 use Rattle.std.proofs.lemmas.List.{take_all}
-use Rattle.calculus_rules.specs.Accepted.{IsAccepted}
-use Rattle.pc_rules.specs.Lookup.{with_kept}
 use Rattle.pc_rules.proofs.Meters.{after-refl, after-trans}
 use Rattle.rule_laws.specs.Declarations.{AllGivenFormed}
-use Rattle.type_infer.specs.Ready.{IsReady}
 use Rattle.inductive_check.specs.Given.{given_of}
 use Rattle.env_check.proofs.Declaring.{checked_new}
-use Rattle.env_cert.specs.EnvWalks.{LeadsOn, StopsAmong}
+use Rattle.env_cert.specs.EnvWalks.{StopsAmong}
 use Rattle.env_cert.proofs.Halted.{given_on}
 use Rattle.env_cert.proofs.Declaring.{accepted_ready, not_heads, declaration_checked, kept_accepted, formed_next, goes_further, goes_no_further, goes_short, goes_through, goes_nowhere}
 use Rattle.env_cert.proofs.declarations.declarations.Goals as goal

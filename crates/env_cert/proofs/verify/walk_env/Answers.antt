@@ -1,4 +1,4 @@
-use Rattle.std.proofs.Common.{rules, ◌≡◌, ◌-◌, [], arith, subst, sym, refl}
+use Rattle.std.proofs.Common.{rules, ◌≡◌, ◌-◌, arith, subst, sym, refl}
 use Rattle.calculus_rules.specs.Accepted.{IsAccepted}
 use Rattle.env_cert.proofs.Declaring.{accepted_ready}
 use Rattle.env_check.proofs.Whole.{bare_accepted}

@@ -1,7 +1,6 @@
-use Rattle.std.proofs.Common.{rules, ◌≡◌, ◌∙◌, [], length}
+use Rattle.std.proofs.Common.{rules, length}
 use Rattle.std.proofs.lemmas.Bool.{ne_eqb}
 use Rattle.type_infer.specs.Ready.{IsReady}
-use Rattle.type_cert.specs.declared.halt.WalkHalt.{WalkHalt}
 use Rattle.type_cert.proofs.Retracing.{retraces_on, retraces_err}
 use Rattle.env_cert.proofs.Whole.{all_used, some_left, main_halted}
 use Rattle.env_cert.proofs.verify.walk_main.Goals as goal

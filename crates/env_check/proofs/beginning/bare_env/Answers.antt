@@ -1,4 +1,4 @@
-use Rattle.std.proofs.Common.{◌≡◌, arith}
+use Rattle.std.proofs.Common.{arith}
 use Rattle.env_check.proofs.Limits.{spelled_few}
 use Rattle.env_check.proofs.beginning.bare_env.Goals as goal
 

@@ -1,6 +1,5 @@
-use Rattle.std.proofs.Common.{rules, ◌≡◌, ◌-◌, ap, subst, sym}
+use Rattle.std.proofs.Common.{rules, ◌-◌, ap, subst, sym}
 use Rattle.calculus_rules.specs.Accepted.{IsAccepted}
-use Rattle.inductive_check.specs.Given.{given_of}
 use Rattle.env_check.specs.Places.{StandsAt, bare}
 use Rattle.env_check.specs.Rules.{givens}
 use Rattle.env_check.proofs.Limits.{spelled_few}
@@ -17,7 +16,7 @@ returns-in_err-bare-clause-placed g c =
     let raw = c.args.raw.now in
     let m = c.args.m.now in
     given_on (λ e. StandsAt (bare raw) (2048 - m.nest) (givens raw) raw.main m.account e) c.from_residual.result _ c.from_residual.ensures.1
-    (first_placed raw (bare raw) (2048 - m.nest) (givens raw) raw.main m.account _ c.in_err-bare.ensures.refused)
+    (first_placed (bare raw) (2048 - m.nest) (givens raw) raw.main m.account _)
 
 pub check_declarations-requires-clause-few : goal.check_declarations-requires-clause-few
 check_declarations-requires-clause-few g c = rw c.as_slice.ensures.is (spelled_few c.args.raw.now c.requires.spelled).declarations
