@@ -1,17 +1,15 @@
 -- An environment's canonical text with a certificate behind it is read as both.
 use Rattle.std.proofs.Common.{◌≡◌, ◌∙◌, ℕ, ◌+◌, ◌≤◌, List, [], ◌∷◌, ◌++◌, length, take, drop, true, false, Ok, refl, sym, ap, subst, arith}
 use Rattle.std.proofs.Math.Seq.{drop-append_seam, take-append_seam}
-use Rattle.sexp_reader.specs.Text.{Text}
 use Rattle.sexp_reader.specs.Lex.{Spanned, left, lex, tokens_of}
 use Rattle.sexp_reader.specs.Tokenization.{Layout, BlankThen, End, IsLayout, bytes_of, spans_of}
 use Rattle.sexp_reader.proofs.Layouts.{spans-read}
 use Rattle.cert_rules.specs.Walk.{Items}
-use Rattle.cert_text.specs.CertReading.{Read, read_bytes, read_certificate}
+use Rattle.cert_text.specs.CertReading.{Read, read_bytes}
 use Rattle.cert_text.specs.CertText.{AreSmall, cert_text, cert_tokens}
 use Rattle.cert_text.proofs.PrintedTokens.{certificate_read, items_good}
 use Rattle.dump_grammar.specs.Judge.{texts}
 use Rattle.dump_printer.specs.Canonical.{canonical_text, canonical_tokens}
-use Rattle.dump_printer.specs.Layout.{spaced}
 use Rattle.dump_printer.specs.Nesting.{nesting}
 use Rattle.dump_printer.proofs.Good.{AreGood}
 use Rattle.dump_printer.proofs.ReadBack.{text-read-back}

@@ -1,5 +1,5 @@
 -- The brackets of an environment's canonical tokens are all closed for the first time at their end.
-use Rattle.std.proofs.Common.{◌≡◌, ℕ, zero, suc, ◌+◌, ◌-◌, ◌<◌, List, [], ◌∷◌, Option, Some, None, Bool, true, false, cond, ◌⊎◌, inl, inr, refl, sym, subst, arith}
+use Rattle.std.proofs.Common.{◌≡◌, ℕ, zero, suc, ◌+◌, ◌-◌, ◌<◌, List, [], ◌∷◌, Option, Some, None, Bool, true, false, cond, ◌⊎◌, inl, inr, refl, subst, arith}
 use Rattle.sexp_reader.specs.Text.{Text, Open, Close, Atom}
 use Rattle.sexp_reader.specs.Lex.{nesting_after_text}
 use Rattle.universe_levels.specs.declared.constraint.Constraint.{Constraint}
@@ -15,7 +15,7 @@ use Rattle.dump_reader.specs.declared.declaration.RawFamily.{RawFamily}
 use Rattle.dump_reader.specs.declared.declaration.RawDecl.{RawDecl}
 use Rattle.dump_reader.specs.declared.declaration.RawDecl.TheVariants as decls
 use Rattle.dump_reader.specs.declared.environment.RawEnv.{RawEnv}
-use Rattle.dump_printer.specs.CanonicalTerms.{text_of, numeral, anonymous, anonymous_names, each, is_set, part, sort, term, terms, branches, pieces, definitions}
+use Rattle.dump_printer.specs.CanonicalTerms.{numeral, anonymous, anonymous_names, each, is_set, part, sort, term, terms, branches, pieces, definitions}
 use Rattle.dump_printer.specs.Canonical as c
 
 -- behind so many open brackets, all are closed for the first time at the end of the tokens

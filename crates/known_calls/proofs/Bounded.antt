@@ -3,7 +3,7 @@ use Rattle.std.proofs.Common.{◌≡◌, ℕ, zero, suc, ◌+◌, ◌-◌, ◌*�
 use Rattle.std.proofs.Common.{length-take-le, length-drop}
 use Rattle.std.proofs.lemmas.Bool.{leb-true}
 use Rattle.std.proofs.lemmas.Option.{slice_get_within}
-use Rattle.std.specs.Prelude.{max, nat_eq, nat_le, if◌then◌else◌, ◌||◌}
+use Rattle.std.specs.Prelude.{max, nat_eq, nat_le, if◌then◌else◌}
 use Rattle.wasm_core.specs.declared.types.ValType.TheVariants.{I32}
 use Rattle.wasm_core.specs.declared.instrs.BlockType.{BlockType}
 use Rattle.wasm_core.specs.declared.instrs.BlockType.TheVariants.{Empty, Value}
@@ -22,7 +22,7 @@ use Rattle.wasm_emit.specs.EmittedLocals.{top, top_op, top_branches}
 use Rattle.wasm_emit.specs.EmitLaws.{CountsFit}
 use Rattle.wasm_emit.proofs.Lengths.{bytes_of, size, u_1, u_2, u_3, z_unreachable, z_if, z_else, z_end, z_op, z_call, z_indirect, z_get, z_set, z_tee, z_heap, z_size, z_room, z_small, z_header, z_global, z_load, z_store, z_const}
 use Rattle.wasm_emit.proofs.Spelled.{Good, fits}
-use Rattle.known_calls.specs.KnownPlaces.{Word, InLocal, InField, IsConst, Place, At, word_of, known_function, is_read, block_reads, fields_of}
+use Rattle.known_calls.specs.KnownPlaces.{Word, InLocal, InField, IsConst, Place, At, word_of, known_function, is_read, block_reads}
 use Rattle.known_calls.specs.KnownCode.{Position, Inside, InTail, deeper, worker_index, jumps, most_blocks, read_word, read, atom, push_words, fill, new_block, block, into_local, into_params, call_worker, application, choose, unmade, known, moves, move_field, branch_places, op, code, alternatives, branch, Final, call_of, closure_call}
 use Rattle.known_calls.specs.KnownTests.{Kind, Bare, Fielded, Alternative, keep, kept, is_of, is_some, first_number, equal_test, below_test, bare_test, arm, none, chain, are_many, many_alternatives, most_rounds, search, tests}
 use Rattle.known_calls.proofs.Parted.{all_kept, all_take, all_drop}

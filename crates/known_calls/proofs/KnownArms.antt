@@ -1,14 +1,13 @@
 -- Steps of the functions that push the tests of a match.
-use Rattle.std.proofs.Common.{◌≡◌, ℕ, zero, suc, ◌+◌, ◌-◌, ◌*◌, ◌/◌, ◌<◌, ◌≤◌, List, [], ◌∷◌, ◌++◌, length, take, drop, get_or, Bool, true, false, refl, ap, sym, ◌∙◌, subst, arith}
+use Rattle.std.proofs.Common.{◌≡◌, ℕ, zero, suc, ◌+◌, ◌*◌, ◌/◌, ◌<◌, ◌≤◌, List, [], ◌∷◌, ◌++◌, length, take, drop, get_or, Bool, true, false, refl, ap, sym, ◌∙◌, arith}
 use Rattle.std.proofs.Math.Seq.{take-append_seam, drop-append_seam}
 use Rattle.std.proofs.lemmas.List.{drop_all, take_more}
 use Rattle.std.proofs.lemmas.Bool.{eqb-true, le-leb, lt-leb, leb-true, leb-false}
 use Rattle.std.specs.Prelude.{if◌then◌else◌, nat_eq, nat_le, nat_lt, ◌||◌, ◌&&◌}
 use Rattle.anf_convert.specs.declared.program.Atom.{Atom}
-use Rattle.closure_lift.specs.Lifted.{OCase, Block, BranchBlocks, BNil, BCons, OpBound}
-use Rattle.closure_lift.specs.LiftedProgram.{renumber, renumber_branches, place_in, lifted_of}
+use Rattle.closure_lift.specs.Lifted.{OCase, BranchBlocks, OpBound}
 use Rattle.closure_lift.specs.LiftedView.{branches_of}
-use Rattle.closure_lift.specs.LiftedWeight.{block_weight, branches_weight}
+use Rattle.closure_lift.specs.LiftedWeight.{branches_weight}
 use Rattle.closure_lift.specs.declared.program.Lifted.{Lifted}
 use Rattle.closure_lift.specs.declared.program.LiftedBranch.{LiftedBranch}
 use Rattle.wasm_core.specs.declared.instrs.Instr.{Instr}
@@ -18,8 +17,8 @@ use Rattle.wasm_emit.specs.EmittedCode.{Load, ConstWord, IfWord}
 use Rattle.wasm_emit.specs.Pushed.{Pushed, ends}
 use Rattle.wasm_emit.proofs.Pushing.{next_of, ends_sum}
 use Rattle.known_calls.specs.KnownPlaces.{Place}
-use Rattle.known_calls.specs.KnownTests.{Kind, Bare, Fielded, Alternative, Position, deeper, is_of, keep, kept, is_some, first_number, equal_test, below_test, bare_test, arm, none, chain, many_alternatives, are_many, most_rounds, search, tests}
-use Rattle.known_calls.specs.KnownCode.{atom, alternatives, branch}
+use Rattle.known_calls.specs.KnownTests.{Kind, Bare, Fielded, Alternative, Position, deeper, is_of, keep, is_some, first_number, equal_test, below_test, bare_test, arm, none, chain, many_alternatives, are_many, most_rounds, search}
+use Rattle.known_calls.specs.KnownCode.{atom}
 use Rattle.known_calls.specs.KnownPushed.{under_position, op_code, branch_code, alternative_of, kind_of, search_code, alone_code, few_bare_code, both_kinds_code, branches_code, counted, count_of, begins_with, is_last_of, TestedArms, ToldArms, OneArm}
 use Rattle.known_calls.proofs.Unreading.{and_true}
 use Rattle.known_calls.proofs.KnownPushing.{under_one, under_none, under_sum}

@@ -1,5 +1,5 @@
 -- What emitted code yields, and matches.
-use Rattle.std.proofs.Common.{◌≡◌, ℕ, zero, suc, ◌+◌, ◌-◌, ◌*◌, ◌/◌, ◌%◌, ◌^◌, ◌<◌, ◌≤◌, List, [], ◌∷◌, length, length-take-le, length-drop, take, drop, Some, Bool, true, false, refl, ap, sym, ◌∙◌, subst, arith}
+use Rattle.std.proofs.Common.{◌≡◌, ℕ, zero, suc, ◌+◌, ◌*◌, ◌/◌, ◌%◌, ◌^◌, ◌<◌, ◌≤◌, List, [], ◌∷◌, length, length-take-le, length-drop, take, drop, Some, Bool, true, false, refl, ap, sym, ◌∙◌, subst, arith}
 use Rattle.std.proofs.lemmas.Bool.{leb-true}
 use Rattle.std.proofs.lemmas.Nat.{and_mask}
 use Rattle.std.specs.Prelude.{slice_get, ◌||◌, if◌then◌else◌, bit_and}
@@ -27,7 +27,7 @@ use Rattle.known_calls.specs.KnownTests.{Kind, Bare, Fielded, Alternative, Posit
 use Rattle.known_calls.specs.KnownCode.{alternatives, branch}
 use Rattle.known_calls.proofs.KnownHolds.{Stood, stood_up, stood_deeper}
 use Rattle.known_calls.proofs.Parted.{OfKind, kept_of_kind, kept_sizes, all_kept, all_take, all_drop, Ordered, ordered_kept, ordered_take, ordered_drop, Among, among_first, among_later, among_some, among_from, among_kept, side_of, Side, before, behind}
-use Rattle.known_calls.proofs.Shapes.{Shaped, Wherever, AllShaped, shaped_none, shaped_chain, shaped_search}
+use Rattle.known_calls.proofs.Shapes.{Wherever, AllShaped, shaped_none, shaped_chain, shaped_search}
 
 differ : false ≡ true → ⊥
 differ e = cc

@@ -1,22 +1,22 @@
 -- Steps of the functions that push the instructions of modules with workers.
-use Rattle.std.proofs.Common.{◌≡◌, ℕ, zero, suc, ◌+◌, ◌-◌, ◌*◌, ◌<◌, ◌≤◌, List, [], ◌∷◌, ◌++◌, length, reverse, drop, get_or, Option, Some, None, Bool, true, false, refl, ap, sym, ◌∙◌, arith}
-use Rattle.std.proofs.lemmas.List.{length-drop, get_or-reverse, length-reverse, reverse-append, drop_all}
-use Rattle.std.specs.Prelude.{if◌then◌else◌, not, ◌||◌}
+use Rattle.std.proofs.Common.{◌≡◌, ℕ, zero, suc, ◌+◌, ◌-◌, ◌*◌, ◌<◌, List, [], ◌∷◌, ◌++◌, length, reverse, drop, get_or, Option, Some, None, Bool, true, false, refl, ap, sym, ◌∙◌, arith}
+use Rattle.std.proofs.lemmas.List.{length-drop, get_or-reverse, length-reverse, reverse-append}
+use Rattle.std.specs.Prelude.{if◌then◌else◌}
 use Rattle.anf_convert.specs.declared.program.Atom.{Atom}
-use Rattle.closure_lift.specs.Lifted.{Op, Block, BranchBlocks, BNil, BCons, Program, Bound, AtomBound, OpBound, ret_of, lets_of}
-use Rattle.closure_lift.specs.LiftedProgram.{renumber_op, renumber, renumber_branches, place_in, lifted_of}
-use Rattle.closure_lift.specs.LiftedView.{seen, bounds_of, branches_of}
+use Rattle.closure_lift.specs.Lifted.{Op, Block, Program, Bound, AtomBound, OpBound, ret_of, lets_of}
+use Rattle.closure_lift.specs.LiftedProgram.{renumber_op, renumber, place_in, lifted_of}
+use Rattle.closure_lift.specs.LiftedView.{seen, bounds_of}
 use Rattle.closure_lift.specs.declared.program.Lifted.{Lifted}
 use Rattle.closure_lift.specs.declared.program.LiftedBranch.{LiftedBranch}
 use Rattle.closure_lift.specs.declared.program.LiftedOp.{LiftedOp}
 use Rattle.wasm_core.specs.declared.instrs.I32Op.TheVariants as op32
 use Rattle.wasm_core.specs.declared.instrs.Instr.{Instr}
-use Rattle.wasm_core.specs.declared.instrs.Instr.TheVariants.{Unreachable, Else, End, LocalGet, LocalSet, LocalTee, GlobalGet, GlobalSet, I32 as Operation}
-use Rattle.wasm_emit.specs.EmittedCode.{ConstWord, Load, StoreWord, IfWord, ensure_room}
-use Rattle.wasm_emit.specs.Pushed.{Pushed, ends, renumber_bound}
-use Rattle.wasm_emit.proofs.Pushing.{next_of, ends_sum}
-use Rattle.known_calls.specs.KnownPlaces.{Place, At, InLocal, Times, is_read, is_twice, block_reads, fields_of}
-use Rattle.known_calls.specs.KnownCode.{Position, Inside, InTail, deeper, choose, known, into_params, atom, fill, new_block, into_local, moves, move_field, branch_places, op, code, branch, Final}
+use Rattle.wasm_core.specs.declared.instrs.Instr.TheVariants.{LocalGet, LocalSet, LocalTee, GlobalGet, GlobalSet, I32 as Operation}
+use Rattle.wasm_emit.specs.EmittedCode.{ConstWord, StoreWord, ensure_room}
+use Rattle.wasm_emit.specs.Pushed.{Pushed, renumber_bound}
+use Rattle.wasm_emit.proofs.Pushing.{next_of}
+use Rattle.known_calls.specs.KnownPlaces.{Place, At, InLocal, Times, is_read, is_twice, block_reads}
+use Rattle.known_calls.specs.KnownCode.{Position, Inside, InTail, deeper, choose, known, into_params, atom, fill, new_block, into_local, moves, move_field, branch_places, op, code, Final}
 use Rattle.known_calls.specs.KnownPushed.{under_position, bound_code, bound_unmade, place_bound, local_behind, bind_code, op_unmade, binding_code, block_code, branch_code}
 use Rattle.known_calls.proofs.KnownMarking.{reads_renumbered}
 

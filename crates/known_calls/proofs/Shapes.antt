@@ -8,8 +8,8 @@ use Rattle.wasm_core.specs.MachineStep.{Plain, bracket, past_end, to_else, after
 use Rattle.anf_convert.specs.declared.program.Atom.{Atom}
 use Rattle.closure_lift.specs.Lifted.{Op, OConst, OApp, OCon, OClos, OCase, Block, RetAtom, LetAtom, Ret, Let, BranchBlocks, BNil, BCons, Program}
 use Rattle.wasm_emit.specs.EmittedCode.{Load, StoreWord, ConstWord, IfWord, CallClosure, constant_index, ensure_room}
-use Rattle.known_calls.specs.KnownPlaces.{Word, InLocal, InField, IsConst, Place, At, word_of, known_function, fields_of}
-use Rattle.known_calls.specs.KnownTests.{Kind, Bare, Fielded, Alternative, kept, is_some, first_number, empty_test, head_test, equal_test, below_test, bare_test, arm, none, chain, are_many, most_rounds, search, tests}
+use Rattle.known_calls.specs.KnownPlaces.{Word, InLocal, InField, IsConst, Place, At, word_of, known_function}
+use Rattle.known_calls.specs.KnownTests.{Kind, Bare, Fielded, Alternative, kept, is_some, first_number, equal_test, below_test, bare_test, arm, none, chain, are_many, most_rounds, search, tests}
 use Rattle.wasm_core.specs.ModuleCondition.{All}
 use Rattle.known_calls.proofs.Parted.{all_kept, all_take, all_drop}
 use Rattle.known_calls.specs.KnownCode.{Position, Inside, InTail, deeper, read_word, read, atom, push_words, fill, new_block, block, into_local, into_params, worker_index, jumps, call_worker, application, choose, unmade, moves, move_field, branch_places, op, code, alternatives, branch, Final, call_of, closure_call}

@@ -5,12 +5,13 @@
 //! is known, and read as a word nowhere, it is made nowhere; a saturated call of a known function calls its worker, whose parameters are the captured words and
 //! the argument; a worker's tail call of itself is a branch to its beginning; every other call in the tail of a function takes that function's frame;
 //! and what calls through the table enter is a stub that calls the worker in its own place.
-//! `KnownCode` says the instructions, `KnownModule` the module, and `KnownCalls` that for a main that takes arguments from memory. A function of over seven
-//! captured words has its body behind the table, and no worker.
+//! `KnownCode` says the instructions, `KnownTests` the tests by which a match finds its branch, `KnownModule` the module, and `KnownCalls` that for a main that takes
+//! arguments from memory. A function of over seven captured words has its body behind the table, and no worker.
 //!
 //! `emit` makes the module of a lifted program (clause `is`), which is valid (`valid`), and refuses exactly where a function would have over 50,000 locals (`few`,
 //! `refused`); `emit_call` makes the module for calls, with the same clauses. Both are linear in the program: `marks` finds in one walk which bindings are read as
-//! words, and which branches read their only variable twice, `closures` which bindings are known, and `blocks` pushes the instructions.
+//! words, and which branches read their only variable twice, `closures` which bindings are known, `alternatives` which branches of a match are of which kind, with
+//! their tests, and `blocks` pushes the instructions.
 //!
 //! The laws are public functions with empty bodies: every run of the module answers the data to which main evaluates, or is exhausted after a refused grow,
 //! within a bound on steps, and its heap ends within the bytes of the evaluation's blocks (`known_runs_answer`); the status tells of a refused grow

@@ -41,12 +41,14 @@ module _ (E : Env) (q : Test) (c : Context) (equal : Bool) (a b : Term) where
   compare_spent zero t0 t1 z e n = makes_spent (λ v. too_nested) t0 t1 z e n
   compare_spent (suc k) t0 t1 z e n = makes_spent (λ v. make_entered E q (make_compare E q k) c equal a b v) t0 t1 z e n
 
-  pub compare_nested : (n : ℕ) (t0 t1 t2 : Draft) → n ≡ 0 → 0 < t0.meter.account.left → t1.meter.account ≡ ticked t0.meter.account → t1.meter.nest ≡ t0.meter.nest → t2.meter.account ≡ t1.meter.account → t2.meter.nest ≡ t1.meter.nest → Makes (make_compare E q n c equal a b t0.meter.account) (Err (Stop TooDeep)) t0 t2
+  pub compare_nested : (n : ℕ) (t0 t1 t2 : Draft) → n ≡ 0 → 0 < t0.meter.account.left → t1.meter.account ≡ ticked t0.meter.account → t1.meter.nest ≡ t0.meter.nest → t2.meter.account ≡ t1.meter.account → t2.meter.nest ≡ t1.meter.nest →
+      Makes (make_compare E q n c equal a b t0.meter.account) (Err (Stop TooDeep)) t0 t2
   unfolding make_compare
   compare_nested zero t0 t1 t2 z h e n e' n' = makes_nested t0 t1 t2 h e n e' n'
   compare_nested (suc k) t0 t1 t2 z h e n e' n' = absurd (omega arith)
 
-  pub compare_entered : (n k : ℕ) (r : Result (Unit {0}) Halt) (t0 t1 t2 t3 t4 : Draft) → n ≡ suc k → 0 < t0.meter.account.left → t1.meter.account ≡ ticked t0.meter.account → t1.meter.nest ≡ t0.meter.nest → t2.meter.account ≡ t1.meter.account → t2.meter.nest ≡ t1.meter.nest + 1 → t2.written.items ≡ t0.written.items →
+  pub compare_entered : (n k : ℕ) (r : Result (Unit {0}) Halt) (t0 t1 t2 t3 t4 : Draft) → n ≡ suc k → 0 < t0.meter.account.left → t1.meter.account ≡ ticked t0.meter.account → t1.meter.nest ≡ t0.meter.nest →
+      t2.meter.account ≡ t1.meter.account → t2.meter.nest ≡ t1.meter.nest + 1 → t2.written.items ≡ t0.written.items →
       Makes (make_entered E q (make_compare E q k) c equal a b t2.meter.account) r t2 t3 → t4.meter.account ≡ t3.meter.account → t4.meter.nest ≡ t3.meter.nest - 1 → t4.written.items ≡ t3.written.items →
       Makes (make_compare E q n c equal a b t0.meter.account) r t0 t4
   unfolding make_compare

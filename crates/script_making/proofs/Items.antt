@@ -5,7 +5,6 @@ use Rattle.std.proofs.lemmas.List.{replicate-append-replicate}
 use Rattle.pc_terms.specs.Syntax.{Term}
 use Rattle.cert_rules.specs.declared.item.CertItem.{CertItem}
 use Rattle.cert_rules.specs.declared.item.CertItem.TheVariants.{Parts}
-use Rattle.cert_rules.specs.Walk.{Items}
 use Rattle.cert_rules.specs.MakingTyping.{side, part_items}
 
 pub as_many_parts : (xs : List Term) → part_items xs ≡ replicate (length xs) Parts

@@ -14,11 +14,10 @@ use Rattle.pc_rules.specs.declared.stop.Halt.TheVariants.{Stop, Broken as Refusa
 use Rattle.pc_rules.specs.Stops.{stop_of}
 use Rattle.pc_rules.specs.DirectedRun.{Run, Done, ticked, noted, done, make, passing, end_then, too_nested, ticking}
 use Rattle.pc_rules.specs.Follows.{Follows, IsAfter, Answers, Halts}
-use Rattle.pc_rules.proofs.Following.{or_left, or_right, ticking-more, ticking-none, follows_still, follows_made, follows_fault, follows_passing, follows_deep, follows_entered, follows_spent, follows_nested, follows_noted}
+use Rattle.pc_rules.proofs.Following.{or_left, or_right, ticking-more, follows_still, follows_made, follows_fault, follows_passing, follows_deep, follows_entered, follows_spent, follows_nested, follows_noted}
 use Rattle.pc_rules.proofs.Meters.{after-refl, after-trans}
-use Rattle.cert_rules.specs.declared.item.CertItem.{CertItem}
 use Rattle.cert_rules.specs.Walk.{Items}
-use Rattle.cert_rules.specs.Writing.{Wrote, wrote, WriteAct, end_writing, writing_steps, silent, noting, noting_all, end_before, write_on, write_all, end_forgotten, forgotten}
+use Rattle.cert_rules.specs.Writing.{Wrote, wrote, WriteAct, end_writing, writing_steps, silent, noting_all, end_before, write_on, write_all, end_forgotten, forgotten}
 use Rattle.script_making.specs.declared.draft.Draft.{Draft}
 use Rattle.script_making.specs.Makes.{Writes, Makes, without_count}
 

@@ -1,4 +1,4 @@
-use Rattle.std.proofs.Common.{◌≡◌, ◌+◌, ◌∙◌, Bool, true, false, sym, arith}
+use Rattle.std.proofs.Common.{◌∙◌, Bool, true, false, sym, arith}
 use Rattle.known_calls.proofs.KnownArms.{count_taken}
 use Rattle.known_calls.proofs.alternatives.place_of.Goals as goal
 use Rattle.known_calls.proofs.alternatives.place_of.Goals.{then-is_of+else-seen-before, else-is_of}

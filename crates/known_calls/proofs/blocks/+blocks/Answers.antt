@@ -1,10 +1,9 @@
 use Rattle.std.proofs.Common.{rules, arith, ◌≡◌, ℕ, suc, ap, refl, subst, sym, ◌*◌, ◌/◌, ◌+◌, ◌-◌, ◌<◌, ◌≤◌, ◌∷◌, ◌++◌, [], List, true, false, length, length-append, drop, get_or, reverse, take, ◌∙◌}
-use Rattle.std.proofs.lemmas.List.{take-append-le, drop_all}
+use Rattle.std.proofs.lemmas.List.{take-append-le}
 use Rattle.closure_lift.specs.Lifted.{ret_of}
 use Rattle.closure_lift.specs.LiftedView.{seen, branches_of}
 use Rattle.closure_lift.specs.LiftedWeight.{block_weight, branches_weight, bound_weight}
 use Rattle.closure_lift.specs.declared.program.LiftedBranch.{LiftedBranch}
-use Rattle.wasm_core.specs.declared.instrs.Instr.{Instr}
 use Rattle.wasm_emit.specs.Pushed.{Pushed, ends}
 use Rattle.wasm_emit.proofs.Lighter.{op_lighter, tail_lighter, arm_lighter}
 use Rattle.wasm_emit.proofs.Pushing.{on_ok}

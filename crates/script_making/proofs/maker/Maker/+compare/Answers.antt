@@ -11,14 +11,15 @@ use Rattle.pc_rules.specs.DirectedComparison.{lifted_types}
 use Rattle.pc_rules.specs.Entailment.{test_of}
 use Rattle.pc_rules.proofs.SameTrees.{same_yes, same_no}
 use Rattle.conversion.specs.Modes.{is_equal}
-use Rattle.conversion.proofs.Parts.{whnfs_comparable, left_sort, right_sort, domains_comparable, codomains_comparable, binders_comparable, lambda_bodies_comparable, heads_comparable, args_comparable, items_comparable, parameters_comparable, predicates_comparable, scrutinees_comparable, branches_comparable, types_comparable, bodies_comparable, extended_comparable, same_comparable}
-use Rattle.script_making.specs.declared.draft.Draft.{Draft}
+use Rattle.conversion.proofs.Parts.{whnfs_comparable, left_sort, right_sort, domains_comparable, codomains_comparable, binders_comparable, lambda_bodies_comparable, heads_comparable, args_comparable, items_comparable, parameters_comparable}
+use Rattle.conversion.proofs.Parts.{predicates_comparable, scrutinees_comparable, branches_comparable, types_comparable, bodies_comparable, extended_comparable, same_comparable}
 use Rattle.script_making.specs.Comparing.{compare_making, each_making}
 use Rattle.script_making.proofs.Making.{makes_on, makes_err, makes_passed}
 use Rattle.script_making.proofs.Defaults.{sort_and_other, product_and_other, lambda_and_other, other_first, match_and_other, fixpoint_and_other, neither_head}
 use Rattle.script_making.proofs.Comparing.{compare_spent, compare_nested, compare_entered, entering_fault, entering_goes, each_next, each_stops, each_done, branches_next, branches_stops, branches_done, matched, unmatched, spines_go, spines_clash, under_comparable}
 use Rattle.script_making.proofs.maker.Maker.+compare.Goals as goal
-use Rattle.script_making.proofs.maker.Maker.+compare.Goals.{pair-in_default-via-in-Sort+in_default, pair-in_default-via-in-Prod+in_default, pair-in_default-via-in-Lambda+in_default, pair-in_default-via-in_default, heads-in_default-via-in-Case+in_default, heads-in_default-via-in-Fix+in_default, heads-in_default-via-in_default}
+use Rattle.script_making.proofs.maker.Maker.+compare.Goals.{pair-in_default-via-in-Sort+in_default, pair-in_default-via-in-Prod+in_default, pair-in_default-via-in-Lambda+in_default, pair-in_default-via-in_default}
+use Rattle.script_making.proofs.maker.Maker.+compare.Goals.{heads-in_default-via-in-Case+in_default, heads-in_default-via-in-Fix+in_default, heads-in_default-via-in_default}
 
 -- the start of a comparison
 
@@ -261,7 +262,8 @@ each-returns-in_err-compare g t c =
     let l : c.loop-i.i < length c.as_slice-lefts.result.now = grind arith in
     let k : c.loop-i.i < length c.as_slice-rights.result.now = grind arith in
     let f = c.in_err-compare.ensures.makes in
-    let whole = c.loop-i.invariant.rest _ _ (each_stops (compare_making c.args.self.now.env.now c.args.self.now.room) c.args.ctx.now c.as_slice-lefts.result.now c.as_slice-rights.result.now c.loop-i.i c.index-lefts-i.result c.index-rights-i.result _ c.loop-i.draft c.compare.new.draft l k c.index-lefts-i.is c.index-rights-i.is f) in
+    let whole = c.loop-i.invariant.rest _ _ (each_stops (compare_making c.args.self.now.env.now c.args.self.now.room) c.args.ctx.now c.as_slice-lefts.result.now c.as_slice-rights.result.now c.loop-i.i
+    c.index-lefts-i.result c.index-rights-i.result _ c.loop-i.draft c.compare.new.draft l k c.index-lefts-i.is c.index-rights-i.is f) in
     record { makes = makes_passed c.from_residual.ensures.1 (rw (c.as_slice-lefts.ensures.is, c.as_slice-rights.ensures.is) at whole) }
 
 pub each-returns : goal.each-returns

@@ -1,5 +1,4 @@
-use Rattle.std.proofs.Common.{rules}
-use Rattle.script_making.proofs.Making.{counted_passed, passed_nothing}
+use Rattle.script_making.proofs.Making.{counted_passed}
 use Rattle.script_making.proofs.maker.Maker.counted.Goals as goal
 
 pub returns-in_err-whnf-clause-follows : goal.returns-in_err-whnf-clause-follows

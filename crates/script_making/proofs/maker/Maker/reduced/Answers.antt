@@ -1,7 +1,6 @@
 use Rattle.cert_rules.specs.MakingTyping.{side}
 use Rattle.script_making.specs.Sides.{steps_of}
-use Rattle.script_making.specs.declared.draft.Draft.{Draft}
-use Rattle.script_making.proofs.Making.{makes_passed, makes_halt, makes_unwritten, makes_put, passed_nothing}
+use Rattle.script_making.proofs.Making.{makes_passed, makes_halt, makes_unwritten, makes_put}
 use Rattle.script_making.proofs.maker.Maker.reduced.Goals as goal
 
 pub returns-in_err-count-clause-makes : goal.returns-in_err-count-clause-makes

@@ -1,6 +1,6 @@
 use Rattle.std.proofs.Common.{◌∷◌, []}
 use Rattle.cert_rules.specs.declared.item.CertItem.TheVariants.{Number}
-use Rattle.script_making.proofs.Making.{makes_passed, makes_halt, makes_unwritten, makes_put, passed_nothing}
+use Rattle.script_making.proofs.Making.{makes_passed, makes_halt, makes_unwritten, makes_put}
 use Rattle.script_making.proofs.maker.Maker.whnf.Goals as goal
 
 pub returns-in_err-count-clause-makes : goal.returns-in_err-count-clause-makes
