@@ -84,6 +84,17 @@ def long_texts():
     yield "16,384 constraints between 1,024 levels", environment(BOOL, "(tConstruct bool 0 0)", " ".join(names), chain)
 
 
+def deep_certificates():
+    """Environments with certificates of at most 16 MiB."""
+    constant = f"(ConstantDecl c {N} {O})"
+    for what, items in (("numbers", b" 0"), ("steps", b" l 1"), ("parts", b" k"), ("numbers that are too large", b" 4294967296")):
+        yield f"a certificate of {what} alone", filled(environment(NAT + constant, O) + b" (cert 1 0", items, b")")
+    yield "one number", filled(environment(NAT, O) + b" (cert 1 ", b"1", b")")
+    yield "a certificate behind a comment", filled(environment(NAT, O) + b" ;", b";", b"\n(cert 1 0)")
+    yield "a comment behind a certificate", filled(environment(NAT, O) + b" (cert 1 0) ;", b";", b"")
+    yield "certificates again and again", filled(environment(NAT, O), b" (cert 1)", b"")
+
+
 def deep_modules():
     """Modules of at most 16 MiB that nest, repeat or run deep."""
     def module(bodies, table=b"", element=b""):

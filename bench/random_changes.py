@@ -1,4 +1,4 @@
-"""Random changes of dumps, modules and command lines, for `bench/faults`. Each takes a source of random numbers, so a seed draws the same again."""
+"""Random changes of dumps, certificates, modules and command lines, for `bench/faults`. Each takes a source of random numbers, so a seed draws the same again."""
 import re
 
 NUMBERS = (b"0", b"1", b"7", b"007", b"+3", b"-1", b"4096", b"4097", b"16384", b"16385", b"4294967295", b"4294967296", b"1e3", b"0x10", b"", b" 1", b"9" * 400)
@@ -112,6 +112,35 @@ def changed_dump(draw, dumps):
     for _ in range(draw.choice((1, 1, 1, 2, 3))):
         tokens = change(draw, tokens, other_tokens) or [b"("]
     return b" ".join(tokens)
+
+
+ITEMS = (b"0", b"0", b"1", b"2", b"s", b"c", b"k", b"l", b"r", b"4294967295", b"4294967296", b"007", b"x", b"(", b")")
+
+
+def change_items(draw, items):
+    """One change to the tokens of a certificate: some go, come twice, change places, come between, or are other ones."""
+    at = draw.randrange(len(items) + 1)
+    some = draw.choice((1, 1, 1, 2, 3))
+    kind = draw.randrange(5)
+    if kind == 0:
+        return items[:at] + items[at + some:]
+    if kind == 1:
+        return items[:at + some] + items[at:]
+    if kind == 2:
+        return items[:at] + items[at:at + 2][::-1] + items[at + 2:]
+    more = draw.choices(ITEMS, k=some)
+    return items[:at] + more + items[at if kind == 3 else at + some:]
+
+
+def changed_certified(draw, texts):
+    """An environment and a certificate of it, one of which is changed: its two parts."""
+    (text, cert), (others, _) = draw.choice(texts), draw.choice(texts)
+    if draw.randrange(3) == 0:
+        return b" ".join(change_kept(draw, TOKEN.findall(text), TOKEN.findall(others))), cert
+    items = TOKEN.findall(cert)[3:-1]
+    for _ in range(draw.choice((1, 1, 1, 2, 3))):
+        items = change_items(draw, items)
+    return text, b" ".join([b"(cert 1", *items, b")"])
 
 
 def leb(value):
