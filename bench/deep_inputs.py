@@ -49,6 +49,34 @@ def nests():
     yield "a product of 810,000", environment(NAT + ADD + MUL, f"(tApp (tConst mul) {number(900)} {number(900)})")
 
 
+def compared(declarations, kind, types, body):
+    """A constant whose type is compared with that of its body: a predicate of a term of `kind` that nests 490 levels, four times in itself, and of another such term, which
+    differs from it at the innermost place alone. `body` is a term in the context of a truth value and of the innermost place, closed by lambdas of `types`."""
+    bool_of, place_of = types
+    nest = f"(ConstantDecl f (tProd b {bool_of} (tProd x {place_of} {kind})) (tLambda b {bool_of} (tLambda x {place_of} {body})))"
+    of = f"(InductiveDecl V (params (x {kind})) (family V (sort (Type (Set 1))) (indices) (ctor v (args) (result))))"
+
+    def deep(end, b):
+        return f"(tApp (tInd V 0) {f'(tApp (tConst f) (tRel {b}) ' * 4}{end}{')' * 4})"
+
+    return lambda left, right: environment(f"{BOOL} {NAT} {declarations} {nest} {of} (ConstantDecl c (tProd b {bool_of} (tProd v {deep(left, 0)} {deep(right, 1)})) "
+                                           f"(tLambda b {bool_of} (tLambda v {deep(left, 0)} (tRel 0))))", "(tSort Prop)")
+
+
+def comparisons():
+    """Texts whose check compares 1,960 parts in one another, and finds a difference at the last."""
+    one, two = O, f"(tApp (tConstruct nat 0 1) {O})"
+    both = ("(tInd bool 0)", N)
+    in_branches = f"(tCase (bool 0) (params) (pred (y) {N}) (tRel 1) (br () " * 490 + "(tRel 0)" + f") (br () {O}))" * 490
+    yield "branches that are compared", compared("", N, both, in_branches)(one, two)
+    in_scrutinees = f"(tCase (nat 0) (params) (pred (y) {N}) " * 490 + "(tApp (tConst s) (tRel 0))" + f" (br () {O}) (br (p) (tRel 0)))" * 490
+    yield "scrutinees that are compared", compared(f"(ConstantDecl s (tProd n {N} {N}) None)", N, both, in_scrutinees)(one, two)
+    in_arguments = "(tApp (tConst s) " * 490 + "(tRel 0)" + ")" * 490
+    yield "arguments that are compared", compared(f"(ConstantDecl s (tProd n {N} {N}) None)", N, both, in_arguments)(one, two)
+    in_products = f"(tProd y {N} " * 490 + "(tRel 490)" + ")" * 490
+    yield "products that are compared", compared("", "(tSort Set)", ("(tInd bool 0)", "(tSort Set)"), in_products)(N, "(tInd bool 0)")
+
+
 def long_texts():
     """Texts of 16 MiB."""
     front = b"(env 1 (levels) (constraints) (main "
