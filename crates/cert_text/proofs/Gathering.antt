@@ -8,11 +8,7 @@ use Rattle.sexp_reader.specs.Text.{Atom}
 use Rattle.sexp_reader.specs.Lex.{Spanned}
 use Rattle.cert_text.specs.CertText.{cert_word, one_word}
 use Rattle.cert_text.specs.CertReading.{CertRead, Read, WrongToken, TooGreat, AnItem, with_item, read_items, read_next}
-use Rattle.cert_text.specs.Answering.{Refuses, AnswersText}
-
-abbrev pub with_items : Items → CertRead → CertRead
-with_items [] r = r
-with_items (x ∷ is) r = with_item x (with_items is r)
+use Rattle.cert_text.specs.Answering.{Refuses, AnswersText, with_items}
 
 pub items_last : (is : Items) (x : CertItem) (r : CertRead) → with_items (is ++ x ∷ []) r ≡ with_items is (with_item x r)
 items_last [] x r = refl

@@ -75,3 +75,8 @@ Takes bytes at (Err e) = Refuses (read_items (length bytes) AnItem (left at byte
 abbrev pub TakesWithin : List ℕ → ℕ → Option Taken → Type 0
 TakesWithin bytes at None = Unit {0}
 TakesWithin bytes at (Some x) = (at < x.end) × (x.end ≤ length bytes)
+
+-- items that were read, before those that are still to come
+abbrev pub with_items : Items → CertRead → CertRead
+with_items [] r = r
+with_items (x ∷ is) r = with_item x (with_items is r)

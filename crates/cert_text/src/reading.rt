@@ -1,10 +1,10 @@
 //! A certificate out of its text, item by item. An item of one byte behind one space is read at once, any other by its tokens.
-ghost use Rattle.std.specs.Prelude.{◌≡◌, ◌≤◌, ◌<◌, true, [], ◌∷◌, ◌++◌, length, bytes_eq, Ok, Some, IfOk, IfErr, IfSome};
+ghost use Rattle.std.specs.Prelude.{◌≡◌, ◌≤◌, ◌<◌, true, false, [], ◌∷◌, ◌++◌, length, bytes_eq, Ok, Some, IsTrue, IfOk, IfErr, IfSome};
 ghost use Rattle.sexp_reader.specs.Text.{Open, Atom};
 ghost use Rattle.cert_rules.specs.declared.item.CertItem.TheVariants.{Left, Right};
 ghost use Rattle.cert_text.specs.CertReading.{is_text, read_items, read_bytes, AnItem, LeftSteps, RightSteps};
 ghost use Rattle.cert_text.specs.Scanned.{text_of};
-ghost use Rattle.cert_text.specs.Answering.{AnswersText, Expects, Counts, TakesSide, TakesWord, TakesAtom, Ends, Takes, TakesWithin, IsOfByte};
+ghost use Rattle.cert_text.specs.Answering.{AnswersText, Expects, Counts, behind, with_items, TakesSide, TakesWord, TakesAtom, Ends, Takes, TakesWithin, IsOfByte};
 ghost use Rattle.cert_text.specs.TextLaws.{SpellsCert};
 ghost use Rattle.cert_text.specs.declared.refusal.CertText.TheVariants.{Memory};
 ghost use Rattle.cert_text.specs.declared.scan.Kind.TheVariants as Kind;
@@ -230,6 +230,13 @@ fn byte_item(b: u8) -> Option<CertItem>
     }
 }
 
+/// Whether an atom ends before a byte; a space, which mostly comes, is told first.
+fn ends_atom(b: u8) -> bool
+    ensures is { IsTrue result → atom_byte b ≡ false }
+{
+    b == b' ' || !is_atom_byte(b)
+}
+
 /// The item of one byte that stands from an offset on behind one space, as nearly all items of a certificate do; none where what comes next is
 /// anything else.
 fn short_item(bytes: &[u8], at: usize) -> Option<Taken>
@@ -237,7 +244,7 @@ fn short_item(bytes: &[u8], at: usize) -> Option<Taken>
     ensures takes { IfSome result (λ x. Takes bytes.now at (Ok (Some x))) }
     ensures within { IfSome result (λ x. (at < x.end) × (x.end ≤ length bytes.now)) }
 {
-    if bytes.len() - at < 3 || bytes[at] != b' ' || is_atom_byte(bytes[at + 2]) {
+    if bytes.len() - at < 3 || bytes[at] != b' ' || !ends_atom(bytes[at + 2]) {
         return None;
     }
     match byte_item(bytes[at + 1]) {
@@ -272,18 +279,6 @@ fn any_item(bytes: &[u8], at: usize) -> Result<Option<Taken>, CertText>
     }
 }
 
-/// The item that comes next from an offset on; none at the bracket that closes, behind which nothing may come.
-fn item(bytes: &[u8], at: usize) -> Result<Option<Taken>, CertText>
-    requires { at ≤ length bytes.now }
-    ensures takes { Takes bytes.now at result }
-    ensures within { IfOk result (TakesWithin bytes.now at) }
-{
-    match short_item(bytes, at) {
-        Some(taken) => Ok(Some(taken)),
-        None => any_item(bytes, at),
-    }
-}
-
 /// Puts an item behind others.
 fn push(out: &mut Vec<CertItem>, item: CertItem) -> Result<(), CertText>
     ensures ok { IfOk result (λ _. out.new.items ≡ out.old.items ++ item ∷ []) }
@@ -295,16 +290,31 @@ fn push(out: &mut Vec<CertItem>, item: CertItem) -> Result<(), CertText>
     }
 }
 
+/// Puts the items of one byte that stand from an offset on behind others, and gives the offset of what is none of them.
+fn short_items(bytes: &[u8], from: usize, out: &mut Vec<CertItem>) -> Result<usize, CertText>
+    requires { from ≤ length bytes.now }
+    ensures read { IfOk result (λ n. with_items out.old.items (behind bytes.now from AnItem) ≡ with_items out.new.items (behind bytes.now n AnItem)) }
+    ensures within { IfOk result (λ n. (from ≤ n) × (n ≤ length bytes.now)) }
+    ensures only_memory { IfErr result (λ e. e ≡ Memory) }
+{
+    let mut at = from;
+    'short: while let Some(taken) = short_item(bytes, at) {
+        push(out, taken.item)?;
+        at = taken.end;
+    }
+    Ok(at)
+}
+
 /// The items from an offset on, up to the end of the text.
 fn items(alloc: Global, bytes: &[u8], from: usize) -> Result<CertItems, CertText>
     requires { from ≤ length bytes.now }
     ensures answers { AnswersText (read_items (length bytes.now) AnItem (left from bytes.now)) result }
 {
     let mut out = Vec::new(alloc);
-    let mut at = from;
-    'items: while let Some(taken) = item(bytes, at)? {
+    let mut at = short_items(bytes, from, &mut out)?;
+    'items: while let Some(taken) = any_item(bytes, at)? {
         push(&mut out, taken.item)?;
-        at = taken.end;
+        at = short_items(bytes, taken.end, &mut out)?;
     }
     Ok(CertItems::of(out))
 }

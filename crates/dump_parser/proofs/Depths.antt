@@ -9,6 +9,9 @@ use Rattle.dump_grammar.specs.Limits.{depth_over}
 use Rattle.dump_parser.specs.declared.tree.Branch.{Branch}
 use Rattle.dump_parser.specs.declared.tree.Def.{Def}
 use Rattle.dump_parser.specs.Tree.{named_branch, named_def, applied}
+use Rattle.dump_parser.specs.declared.leaves.Leaf.{Leaf}
+use Rattle.dump_parser.specs.declared.leaves.Leaf.TheVariants as leaves
+use Rattle.dump_parser.specs.Leaves.{leaf_named}
 
 pub depth_terms-most : (xs : List Named) → depth_terms (terms_of xs) ≡ most (λ x. depth x) xs
 unfolding depth
@@ -48,3 +51,12 @@ unfolding depth_over
 depth-over t h = rw (lt-leb (depth t) 2048 h) refl
 
 pub ruleset depth_limit = (depth-fits, depth-over)
+
+pub leaf_fits : (l : Leaf) → depth_over (leaf_named l) ≡ None
+unfolding depth_over depth
+leaf_fits (leaves.Rel n) = refl
+leaf_fits (leaves.Const k) = refl
+leaf_fits (leaves.Ind k n) = refl
+leaf_fits (leaves.Construct k n c) = refl
+
+pub ruleset leaf_depth = (leaf_fits)

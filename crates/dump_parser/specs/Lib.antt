@@ -1,6 +1,7 @@
 pub mod Code
 pub mod Tree
 pub mod Falls
+pub mod Leaves
 pub mod Environment
 pub mod Reading
 pub mod Number

@@ -8,6 +8,7 @@ ghost use Rattle.dump_parser.specs.Tree.{named_sort};
 ghost use Rattle.dump_parser.specs.Environment.{named_ctor, named_family, family_values, declared};
 
 use crate::environment::{CtorTree, DeclTree, FamilyTree};
+use crate::leaves::Leaves;
 use crate::list::{Member, next_member};
 use crate::sort::sort;
 use crate::telescope::{params, telescope};
@@ -25,13 +26,17 @@ const MAX_FAMILIES: usize = 255;
 
 /// A constructor, after its bracket.
 #[tactic(auto, using(crate::proofs::Steps::judged_do))]
-fn constructor<'a>(alloc: Global, tokens: &mut Tokens<'a>) -> Result<CtorTree<'a>, ReadRefusal>
+fn constructor<'a>(
+    alloc: Global,
+    leaves: &mut Leaves<'a>,
+    tokens: &mut Tokens<'a>,
+) -> Result<CtorTree<'a>, ReadRefusal>
     ensures reads { Reads result tokens.old tokens.new (IWord words.Ctor ∷ IName ∷ IOpen ∷ IWord words.Args ∷ Do NoTypes (IList Telescope) ∷ IOpen ∷ IWord words.Result ∷ Do NoTerms (IList Terms) ∷ Do AddCtor IClose ∷ []) [] (λ c vs. act AddCtor (VTerms c.result.items ∷ VTypes c.args.items ∷ VName c.name.now ∷ vs)) }
 {
     word(tokens, Keyword::Ctor)?;
     let text = name(tokens)?;
-    let args = telescope(alloc, tokens, Keyword::Args)?;
-    let result = term_list(alloc, tokens, Keyword::Result)?;
+    let args = telescope(alloc, leaves, tokens, Keyword::Args)?;
+    let result = term_list(alloc, leaves, tokens, Keyword::Result)?;
     close(tokens)?;
     Ok(CtorTree {
         name: text,
@@ -44,6 +49,7 @@ fn constructor<'a>(alloc: Global, tokens: &mut Tokens<'a>) -> Result<CtorTree<'a
 #[tactic(auto, using(crate::proofs::Steps::judged_do, crate::proofs::Maps::map_laws))]
 fn constructors<'a>(
     alloc: Global,
+    leaves: &mut Leaves<'a>,
     tokens: &mut Tokens<'a>,
 ) -> Result<Vec<CtorTree<'a>>, ReadRefusal>
     ensures reads { Reads result tokens.old tokens.new (Do NoCtors (IList Constructors) ∷ []) [] (λ v vs. VCtors (map named_ctor v.items) ∷ vs) }
@@ -59,7 +65,7 @@ fn constructors<'a>(
                         offset,
                     });
                 }
-                let c = constructor(alloc, tokens)?;
+                let c = constructor(alloc, leaves, tokens)?;
                 list.push(c)?;
             }
         }
@@ -78,14 +84,18 @@ fn family_sort<'a>(alloc: Global, tokens: &mut Tokens<'a>) -> Result<SortTree<'a
 }
 
 /// A family, after its bracket.
-fn family<'a>(alloc: Global, tokens: &mut Tokens<'a>) -> Result<FamilyTree<'a>, ReadRefusal>
+fn family<'a>(
+    alloc: Global,
+    leaves: &mut Leaves<'a>,
+    tokens: &mut Tokens<'a>,
+) -> Result<FamilyTree<'a>, ReadRefusal>
     ensures reads { Reads result tokens.old tokens.new (IWord words.Family ∷ IName ∷ IOpen ∷ IWord words.Sort ∷ ISort ∷ IClose ∷ IOpen ∷ IWord words.Indices ∷ Do NoTypes (IList Telescope) ∷ Do NoCtors (IList Constructors) ∷ []) [] (λ f vs. family_values f ++ vs) }
 {
     word(tokens, Keyword::Family)?;
     let text = name(tokens)?;
     let s = family_sort(alloc, tokens)?;
-    let indices = telescope(alloc, tokens, Keyword::Indices)?;
-    let ctors = constructors(alloc, tokens)?;
+    let indices = telescope(alloc, leaves, tokens, Keyword::Indices)?;
+    let ctors = constructors(alloc, leaves, tokens)?;
     Ok(FamilyTree {
         name: text,
         sort: s,
@@ -98,6 +108,7 @@ fn family<'a>(alloc: Global, tokens: &mut Tokens<'a>) -> Result<FamilyTree<'a>, 
 #[tactic(auto, using(crate::proofs::Steps::judged_do, crate::proofs::Maps::map_laws))]
 fn families<'a>(
     alloc: Global,
+    leaves: &mut Leaves<'a>,
     tokens: &mut Tokens<'a>,
     first: FamilyTree<'a>,
 ) -> Result<Vec<FamilyTree<'a>>, ReadRefusal>
@@ -115,7 +126,7 @@ fn families<'a>(
                         offset,
                     });
                 }
-                let f = family(alloc, tokens)?;
+                let f = family(alloc, leaves, tokens)?;
                 list.push(f)?;
             }
         }
@@ -124,14 +135,18 @@ fn families<'a>(
 
 /// A block after its word.
 #[tactic(auto, using(crate::proofs::Steps::judged_do))]
-pub(crate) fn block<'a>(alloc: Global, tokens: &mut Tokens<'a>) -> Result<DeclTree<'a>, ReadRefusal>
+pub(crate) fn block<'a>(
+    alloc: Global,
+    leaves: &mut Leaves<'a>,
+    tokens: &mut Tokens<'a>,
+) -> Result<DeclTree<'a>, ReadRefusal>
     ensures reads { Reads result tokens.old tokens.new (IName ∷ IOpen ∷ IParams ∷ Do NoTypes (IList Telescope) ∷ Do NoFamilies IOpen ∷ IWord words.Family ∷ IName ∷ IOpen ∷ IWord words.Sort ∷ ISort ∷ IClose ∷ IOpen ∷ IWord words.Indices ∷ Do NoTypes (IList Telescope) ∷ Do NoCtors (IList Constructors) ∷ Do AddFamily (IList Families) ∷ []) [] declared }
 {
     let text = name(tokens)?;
-    let telescope = params(alloc, tokens)?;
+    let telescope = params(alloc, leaves, tokens)?;
     open(tokens)?;
-    let first = family(alloc, tokens)?;
-    let all = families(alloc, tokens, first)?;
+    let first = family(alloc, leaves, tokens)?;
+    let all = families(alloc, leaves, tokens, first)?;
     Ok(DeclTree::Block {
         name: text,
         params: telescope,

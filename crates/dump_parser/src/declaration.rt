@@ -11,6 +11,7 @@ ghost use Rattle.dump_parser.specs.Opening.{IsOpening, ReadsOpening};
 use crate::block::block;
 use crate::constant::constant;
 use crate::environment::DeclTree;
+use crate::leaves::Leaves;
 use crate::token::next;
 use dump_grammar::{Foreign, Keyword, Limit, Opening, ReadRefusal, is_word, opening_of};
 use sexp_reader::{TokenKind, Tokens};
@@ -93,6 +94,7 @@ fn opening(tokens: &mut Tokens, before: &[DeclTree]) -> Result<Opening, ReadRefu
 #[tactic(auto, using(crate::proofs::Steps::judged_do, crate::proofs::Declarations::declared_more))]
 pub(crate) fn declarations<'a>(
     alloc: Global,
+    leaves: &mut Leaves<'a>,
     tokens: &mut Tokens<'a>,
 ) -> Result<Vec<DeclTree<'a>>, ReadRefusal>
     ensures leads { Leads result tokens.old tokens.new (Do NoDecls IDecls ∷ []) [] (λ v. opened openings.Main) (λ v vs. VDecls (map named_decl v.items) ∷ vs) }
@@ -102,11 +104,11 @@ pub(crate) fn declarations<'a>(
         match opening(tokens, list.as_slice())? {
             Opening::Main => return Ok(list),
             Opening::Constant => {
-                let d = constant(alloc, tokens)?;
+                let d = constant(alloc, leaves, tokens)?;
                 list.push(d)?;
             }
             Opening::Block => {
-                let d = block(alloc, tokens)?;
+                let d = block(alloc, leaves, tokens)?;
                 list.push(d)?;
             }
         }

@@ -7,7 +7,8 @@ ghost use Rattle.dump_grammar.specs.Table.{IOpen, IClose, IWord, IName, INumber,
 ghost use Rattle.dump_parser.specs.Reading.{Reads};
 ghost use Rattle.dump_parser.specs.Tree.{named_def};
 
-use crate::measure::finish;
+use crate::leaves::{Leaf, Leaves};
+use crate::measure::{finish, finish_leaf};
 use crate::number::{Numeral, number, numeral_of};
 use crate::sort::sort;
 use crate::token::{close, name, next, open, word};
@@ -18,11 +19,15 @@ use std::alloc::Global;
 
 /// A variable after its head.
 #[tactic(auto, using(crate::proofs::Steps::judged_do))]
-pub(crate) fn variable<'a>(alloc: Global, tokens: &mut Tokens<'a>) -> Result<Tree<'a>, ReadRefusal>
+pub(crate) fn variable<'a>(
+    alloc: Global,
+    leaves: &mut Leaves<'a>,
+    tokens: &mut Tokens<'a>,
+) -> Result<Tree<'a>, ReadRefusal>
     ensures reads { Reads result tokens.old tokens.new (row formers.Rel) [] (λ t vs. VTerm t ∷ vs) }
 {
     let n = number(tokens)?;
-    let t = finish(alloc, tokens, Node::Rel(n))?;
+    let t = finish_leaf(alloc, leaves, tokens, Leaf::Rel(n))?;
     Ok(t)
 }
 
@@ -40,12 +45,13 @@ pub(crate) fn sort_term<'a>(alloc: Global, tokens: &mut Tokens<'a>) -> Result<Tr
 #[tactic(auto, using(crate::proofs::Steps::judged_do))]
 pub(crate) fn constant_name<'a>(
     alloc: Global,
+    leaves: &mut Leaves<'a>,
     tokens: &mut Tokens<'a>,
 ) -> Result<Tree<'a>, ReadRefusal>
     ensures reads { Reads result tokens.old tokens.new (row formers.Const) [] (λ t vs. VTerm t ∷ vs) }
 {
     let text = name(tokens)?;
-    let t = finish(alloc, tokens, Node::Const(text))?;
+    let t = finish_leaf(alloc, leaves, tokens, Leaf::Const(text))?;
     Ok(t)
 }
 
@@ -53,13 +59,14 @@ pub(crate) fn constant_name<'a>(
 #[tactic(auto, using(crate::proofs::Steps::judged_do))]
 pub(crate) fn family_name<'a>(
     alloc: Global,
+    leaves: &mut Leaves<'a>,
     tokens: &mut Tokens<'a>,
 ) -> Result<Tree<'a>, ReadRefusal>
     ensures reads { Reads result tokens.old tokens.new (row formers.Ind) [] (λ t vs. VTerm t ∷ vs) }
 {
     let text = name(tokens)?;
     let n = number(tokens)?;
-    let t = finish(alloc, tokens, Node::Ind(text, n))?;
+    let t = finish_leaf(alloc, leaves, tokens, Leaf::Ind(text, n))?;
     Ok(t)
 }
 
@@ -67,6 +74,7 @@ pub(crate) fn family_name<'a>(
 #[tactic(auto, using(crate::proofs::Steps::judged_do))]
 pub(crate) fn constructor_name<'a>(
     alloc: Global,
+    leaves: &mut Leaves<'a>,
     tokens: &mut Tokens<'a>,
 ) -> Result<Tree<'a>, ReadRefusal>
     ensures reads { Reads result tokens.old tokens.new (row formers.Construct) [] (λ t vs. VTerm t ∷ vs) }
@@ -74,7 +82,7 @@ pub(crate) fn constructor_name<'a>(
     let text = name(tokens)?;
     let n = number(tokens)?;
     let c = number(tokens)?;
-    let t = finish(alloc, tokens, Node::Construct(text, n, c))?;
+    let t = finish_leaf(alloc, leaves, tokens, Leaf::Construct(text, n, c))?;
     Ok(t)
 }
 

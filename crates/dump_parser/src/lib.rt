@@ -1,7 +1,8 @@
 //! The reader of the text of a dump: one pass over its tokens, from left to right, into a tree whose names are slices of the text.
 //!
 //! A function stands for each bracketed form, so that calls nest with brackets, a few for each of at most 1,000; a run of applications is one node, however
-//! many arguments it has. Names of binders are dropped. The format is the one of `dump_grammar`, whose table the code follows.
+//! many arguments it has. Names of binders are dropped. The format is the one of `dump_grammar`, whose table the code follows. A variable, constant,
+//! family or constructor that comes again is mostly the node that was made before, shared.
 //!
 //! What is promised: `exact` of `parse` says that the answer is the verdict of the grammar on the text: the environment that the grammar means by
 //! it (`specs/Environment`), or the text's first refusal with its offset; want of memory alone is free. `within` of `Tree::node` says that no term
@@ -20,6 +21,7 @@ mod declaration;
 pub mod environment;
 mod head;
 mod leaf;
+mod leaves;
 mod level;
 mod list;
 mod measure;

@@ -6,12 +6,15 @@ ghost use Rattle.dump_parser.specs.Reading.{Reads};
 ghost use Rattle.dump_grammar.specs.Named.{Named, terms_of, branches_of, defs_of, depth, depth_terms, depth_branches, depth_defs};
 ghost use Rattle.dump_parser.specs.Tree.{named, named_branch, named_def, applied};
 ghost use Rattle.dump_parser.specs.Making.{Makes};
+ghost use Rattle.dump_parser.specs.Leaves.{leaf_named};
 
+use crate::leaves::{Leaf, Leaves};
 use crate::token::next;
 use crate::tree::{Branch, Def, Node, Tree};
 use dump_grammar::{Limit, ReadRefusal};
 use sexp_reader::{TokenKind, Tokens};
 use std::alloc::Global;
+use std::rc::Rc;
 
 /// The greatest depth of a term.
 const MAX_DEPTH: usize = 2048;
@@ -105,7 +108,7 @@ pub(crate) fn make<'a>(alloc: Global, node: Node<'a>, close: usize) -> Result<Tr
             offset: close,
         });
     }
-    let node = Box::new(alloc, node)?;
+    let node = Rc::new(alloc, node)?;
     Ok(Tree { nesting, node })
 }
 
@@ -120,6 +123,30 @@ pub(crate) fn finish<'a>(
     match next(tokens)? {
         Some(token) if token.kind == TokenKind::Close => {
             let t = make(alloc, node, token.start)?;
+            Ok(t)
+        }
+        Some(token) => Err(ReadRefusal::Syntax {
+            offset: token.start,
+        }),
+        None => Err(ReadRefusal::Syntax {
+            offset: tokens.len(),
+        }),
+    }
+}
+
+/// The bracket that closes a term without subterms, and the term.
+#[tactic(auto, using(crate::proofs::Depths::leaf_depth))]
+pub(crate) fn finish_leaf<'a>(
+    alloc: Global,
+    leaves: &mut Leaves<'a>,
+    tokens: &mut Tokens<'a>,
+    leaf: Leaf<'a>,
+) -> Result<Tree<'a>, ReadRefusal>
+    ensures reads { Reads result tokens.old tokens.new (IEnd ∷ []) (VTerm (leaf_named leaf.entry) ∷ []) (λ t vs. VTerm t ∷ vs) }
+{
+    match next(tokens)? {
+        Some(token) if token.kind == TokenKind::Close => {
+            let t = leaves.term(alloc, leaf)?;
             Ok(t)
         }
         Some(token) => Err(ReadRefusal::Syntax {

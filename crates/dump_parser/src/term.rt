@@ -13,6 +13,7 @@ use crate::leaf::{
     constant_name, constructor_name, family_name, index, matched, names, predicate_binders,
     sort_term, variable,
 };
+use crate::leaves::Leaves;
 use crate::list::{Member, next_member};
 use crate::measure::{finish, make};
 use crate::number::number;
@@ -28,11 +29,15 @@ const MAX_DEFINITIONS: usize = 255;
 /// A term.
 #[cycle(reading)]
 #[tactic(auto, using(crate::proofs::Steps::judged_term))]
-pub(crate) fn term<'a>(alloc: Global, tokens: &mut Tokens<'a>) -> Result<Tree<'a>, ReadRefusal>
+pub(crate) fn term<'a>(
+    alloc: Global,
+    leaves: &mut Leaves<'a>,
+    tokens: &mut Tokens<'a>,
+) -> Result<Tree<'a>, ReadRefusal>
     ensures reads { Reads result tokens.old tokens.new (ITerm ∷ []) [] (λ t vs. VTerm t ∷ vs) }
 {
     open(tokens)?;
-    let t = after_bracket(alloc, tokens)?;
+    let t = after_bracket(alloc, leaves, tokens)?;
     Ok(t)
 }
 
@@ -41,12 +46,13 @@ pub(crate) fn term<'a>(alloc: Global, tokens: &mut Tokens<'a>) -> Result<Tree<'a
 #[tactic(auto)]
 pub(crate) fn after_bracket<'a>(
     alloc: Global,
+    leaves: &mut Leaves<'a>,
     tokens: &mut Tokens<'a>,
 ) -> Result<Tree<'a>, ReadRefusal>
     ensures reads { Reads result tokens.old tokens.new (IHead ∷ []) [] (λ t vs. VTerm t ∷ vs) }
 {
     let former = head_word(tokens)?;
-    let t = after_head(alloc, tokens, former)?;
+    let t = after_head(alloc, leaves, tokens, former)?;
     Ok(t)
 }
 
@@ -55,72 +61,89 @@ pub(crate) fn after_bracket<'a>(
 #[tactic(auto)]
 pub(crate) fn after_head<'a>(
     alloc: Global,
+    leaves: &mut Leaves<'a>,
     tokens: &mut Tokens<'a>,
     former: Former,
 ) -> Result<Tree<'a>, ReadRefusal>
     ensures reads { Reads result tokens.old tokens.new (row former) [] (λ t vs. VTerm t ∷ vs) }
 {
     match former {
-        Former::Rel => variable(alloc, tokens),
+        Former::Rel => variable(alloc, leaves, tokens),
         Former::Sort => sort_term(alloc, tokens),
-        Former::Prod => product(alloc, tokens),
-        Former::Lambda => lambda(alloc, tokens),
-        Former::LetIn => let_in(alloc, tokens),
-        Former::App => application(alloc, tokens),
-        Former::Const => constant_name(alloc, tokens),
-        Former::Ind => family_name(alloc, tokens),
-        Former::Construct => constructor_name(alloc, tokens),
-        Former::Case => match_term(alloc, tokens),
-        Former::Fix => fixpoint(alloc, tokens),
-        Former::Cast => cast(alloc, tokens),
+        Former::Prod => product(alloc, leaves, tokens),
+        Former::Lambda => lambda(alloc, leaves, tokens),
+        Former::LetIn => let_in(alloc, leaves, tokens),
+        Former::App => application(alloc, leaves, tokens),
+        Former::Const => constant_name(alloc, leaves, tokens),
+        Former::Ind => family_name(alloc, leaves, tokens),
+        Former::Construct => constructor_name(alloc, leaves, tokens),
+        Former::Case => match_term(alloc, leaves, tokens),
+        Former::Fix => fixpoint(alloc, leaves, tokens),
+        Former::Cast => cast(alloc, leaves, tokens),
     }
 }
 
 #[cycle(reading)]
 #[tactic(auto, using(crate::proofs::Steps::judged_do))]
-fn product<'a>(alloc: Global, tokens: &mut Tokens<'a>) -> Result<Tree<'a>, ReadRefusal>
+fn product<'a>(
+    alloc: Global,
+    leaves: &mut Leaves<'a>,
+    tokens: &mut Tokens<'a>,
+) -> Result<Tree<'a>, ReadRefusal>
     ensures reads { Reads result tokens.old tokens.new (row formers.Prod) [] (λ t vs. VTerm t ∷ vs) }
 {
     binder(tokens)?;
-    let domain = term(alloc, tokens)?;
-    let codomain = term(alloc, tokens)?;
+    let domain = term(alloc, leaves, tokens)?;
+    let codomain = term(alloc, leaves, tokens)?;
     let t = finish(alloc, tokens, Node::Prod(domain, codomain))?;
     Ok(t)
 }
 
 #[cycle(reading)]
 #[tactic(auto, using(crate::proofs::Steps::judged_do))]
-fn lambda<'a>(alloc: Global, tokens: &mut Tokens<'a>) -> Result<Tree<'a>, ReadRefusal>
+fn lambda<'a>(
+    alloc: Global,
+    leaves: &mut Leaves<'a>,
+    tokens: &mut Tokens<'a>,
+) -> Result<Tree<'a>, ReadRefusal>
     ensures reads { Reads result tokens.old tokens.new (row formers.Lambda) [] (λ t vs. VTerm t ∷ vs) }
 {
     binder(tokens)?;
-    let domain = term(alloc, tokens)?;
-    let body = term(alloc, tokens)?;
+    let domain = term(alloc, leaves, tokens)?;
+    let body = term(alloc, leaves, tokens)?;
     let t = finish(alloc, tokens, Node::Lambda(domain, body))?;
     Ok(t)
 }
 
 #[cycle(reading)]
 #[tactic(auto, using(crate::proofs::Steps::judged_do))]
-fn let_in<'a>(alloc: Global, tokens: &mut Tokens<'a>) -> Result<Tree<'a>, ReadRefusal>
+fn let_in<'a>(
+    alloc: Global,
+    leaves: &mut Leaves<'a>,
+    tokens: &mut Tokens<'a>,
+) -> Result<Tree<'a>, ReadRefusal>
     ensures reads { Reads result tokens.old tokens.new (row formers.LetIn) [] (λ t vs. VTerm t ∷ vs) }
 {
     binder(tokens)?;
-    let value = term(alloc, tokens)?;
-    let ty = term(alloc, tokens)?;
-    let body = term(alloc, tokens)?;
+    let value = term(alloc, leaves, tokens)?;
+    let ty = term(alloc, leaves, tokens)?;
+    let body = term(alloc, leaves, tokens)?;
     let t = finish(alloc, tokens, Node::LetIn(value, ty, body))?;
     Ok(t)
 }
 
 #[cycle(reading)]
 #[tactic(auto, using(crate::proofs::Steps::judged_do))]
-fn cast<'a>(alloc: Global, tokens: &mut Tokens<'a>) -> Result<Tree<'a>, ReadRefusal>
+fn cast<'a>(
+    alloc: Global,
+    leaves: &mut Leaves<'a>,
+    tokens: &mut Tokens<'a>,
+) -> Result<Tree<'a>, ReadRefusal>
     ensures reads { Reads result tokens.old tokens.new (row formers.Cast) [] (λ t vs. VTerm t ∷ vs) }
 {
-    let subject = term(alloc, tokens)?;
+    let subject = term(alloc, leaves, tokens)?;
     binder(tokens)?;
-    let ty = term(alloc, tokens)?;
+    let ty = term(alloc, leaves, tokens)?;
     let t = finish(alloc, tokens, Node::Cast(subject, ty))?;
     Ok(t)
 }
@@ -128,12 +151,16 @@ fn cast<'a>(alloc: Global, tokens: &mut Tokens<'a>) -> Result<Tree<'a>, ReadRefu
 /// A run of applications. It nests by its brackets alone, however many arguments there are.
 #[cycle(reading)]
 #[tactic(auto, using(crate::proofs::Steps::judged_do))]
-fn application<'a>(alloc: Global, tokens: &mut Tokens<'a>) -> Result<Tree<'a>, ReadRefusal>
+fn application<'a>(
+    alloc: Global,
+    leaves: &mut Leaves<'a>,
+    tokens: &mut Tokens<'a>,
+) -> Result<Tree<'a>, ReadRefusal>
     ensures reads { Reads result tokens.old tokens.new (row formers.App) [] (λ t vs. VTerm t ∷ vs) }
 {
-    let function = term(alloc, tokens)?;
-    let argument = term(alloc, tokens)?;
-    let t = arguments(alloc, tokens, function, argument)?;
+    let function = term(alloc, leaves, tokens)?;
+    let argument = term(alloc, leaves, tokens)?;
+    let t = arguments(alloc, leaves, tokens, function, argument)?;
     Ok(t)
 }
 
@@ -142,6 +169,7 @@ fn application<'a>(alloc: Global, tokens: &mut Tokens<'a>) -> Result<Tree<'a>, R
 #[tactic(auto, using(crate::proofs::Steps::judged_do, crate::proofs::Lists::applied_more))]
 fn arguments<'a>(
     alloc: Global,
+    leaves: &mut Leaves<'a>,
     tokens: &mut Tokens<'a>,
     function: Tree<'a>,
     argument: Tree<'a>,
@@ -156,7 +184,7 @@ fn arguments<'a>(
                 return Ok(t);
             }
             Member::Open(_) => {
-                let t = after_bracket(alloc, tokens)?;
+                let t = after_bracket(alloc, leaves, tokens)?;
                 list.push(t)?;
             }
         }
@@ -166,7 +194,11 @@ fn arguments<'a>(
 /// Terms up to the bracket that closes them.
 #[cycle(reading)]
 #[tactic(auto, using(crate::proofs::Steps::judged_do))]
-fn terms<'a>(alloc: Global, tokens: &mut Tokens<'a>) -> Result<Vec<Tree<'a>>, ReadRefusal>
+fn terms<'a>(
+    alloc: Global,
+    leaves: &mut Leaves<'a>,
+    tokens: &mut Tokens<'a>,
+) -> Result<Vec<Tree<'a>>, ReadRefusal>
     ensures reads { Reads result tokens.old tokens.new (Do NoTerms (IList Terms) ∷ []) [] (λ v vs. VTerms v.items ∷ vs) }
 {
     let mut list = Vec::new(alloc);
@@ -174,7 +206,7 @@ fn terms<'a>(alloc: Global, tokens: &mut Tokens<'a>) -> Result<Vec<Tree<'a>>, Re
         match next_member(tokens)? {
             Member::Close(_) => return Ok(list),
             Member::Open(_) => {
-                let t = after_bracket(alloc, tokens)?;
+                let t = after_bracket(alloc, leaves, tokens)?;
                 list.push(t)?;
             }
         }
@@ -186,6 +218,7 @@ fn terms<'a>(alloc: Global, tokens: &mut Tokens<'a>) -> Result<Vec<Tree<'a>>, Re
 #[tactic(auto)]
 pub(crate) fn term_list<'a>(
     alloc: Global,
+    leaves: &mut Leaves<'a>,
     tokens: &mut Tokens<'a>,
     expected: Keyword,
 ) -> Result<Vec<Tree<'a>>, ReadRefusal>
@@ -193,17 +226,21 @@ pub(crate) fn term_list<'a>(
 {
     open(tokens)?;
     word(tokens, expected)?;
-    let list = terms(alloc, tokens)?;
+    let list = terms(alloc, leaves, tokens)?;
     Ok(list)
 }
 
 /// A term and a bracket that closes what it stands in.
 #[cycle(reading)]
 #[tactic(auto)]
-pub(crate) fn last_term<'a>(alloc: Global, tokens: &mut Tokens<'a>) -> Result<Tree<'a>, ReadRefusal>
+pub(crate) fn last_term<'a>(
+    alloc: Global,
+    leaves: &mut Leaves<'a>,
+    tokens: &mut Tokens<'a>,
+) -> Result<Tree<'a>, ReadRefusal>
     ensures reads { Reads result tokens.old tokens.new (ITerm ∷ IClose ∷ []) [] (λ t vs. VTerm t ∷ vs) }
 {
-    let t = term(alloc, tokens)?;
+    let t = term(alloc, leaves, tokens)?;
     close(tokens)?;
     Ok(t)
 }
@@ -211,13 +248,17 @@ pub(crate) fn last_term<'a>(alloc: Global, tokens: &mut Tokens<'a>) -> Result<Tr
 /// A branch of a match, after its bracket.
 #[cycle(reading)]
 #[tactic(auto, using(crate::proofs::Steps::judged_do))]
-fn branch<'a>(alloc: Global, tokens: &mut Tokens<'a>) -> Result<Branch<'a>, ReadRefusal>
+fn branch<'a>(
+    alloc: Global,
+    leaves: &mut Leaves<'a>,
+    tokens: &mut Tokens<'a>,
+) -> Result<Branch<'a>, ReadRefusal>
     ensures reads { Reads result tokens.old tokens.new (IWord words.Branch ∷ IOpen ∷ Do Zero INames ∷ ITerm ∷ Do AddBranch IClose ∷ []) [] (λ b vs. act AddBranch (VTerm b.body ∷ VNumber b.binders ∷ vs)) }
 {
     word(tokens, Keyword::Branch)?;
     open(tokens)?;
     let binders = names(tokens)?;
-    let body = term(alloc, tokens)?;
+    let body = term(alloc, leaves, tokens)?;
     close(tokens)?;
     Ok(Branch { binders, body })
 }
@@ -227,6 +268,7 @@ fn branch<'a>(alloc: Global, tokens: &mut Tokens<'a>) -> Result<Branch<'a>, Read
 #[tactic(auto, using(crate::proofs::Steps::judged_do))]
 fn branches<'a>(
     alloc: Global,
+    leaves: &mut Leaves<'a>,
     tokens: &mut Tokens<'a>,
     front: Match<'a>,
 ) -> Result<Tree<'a>, ReadRefusal>
@@ -240,7 +282,7 @@ fn branches<'a>(
                 return Ok(t);
             }
             Member::Open(_) => {
-                let b = branch(alloc, tokens)?;
+                let b = branch(alloc, leaves, tokens)?;
                 whole.branches.push(b)?;
             }
         }
@@ -252,6 +294,7 @@ fn branches<'a>(
 #[tactic(auto, using(crate::proofs::Steps::judged_do))]
 fn match_rest<'a>(
     alloc: Global,
+    leaves: &mut Leaves<'a>,
     tokens: &mut Tokens<'a>,
     block: &'a [u8],
     family: u32,
@@ -260,8 +303,8 @@ fn match_rest<'a>(
     ensures reads { Reads result tokens.old tokens.new (IOpen ∷ IWord words.Pred ∷ IOpen ∷ Do Zero INames ∷ ITerm ∷ IClose ∷ ITerm ∷ Do NoBranches (IList Branches) ∷ []) (VTerms params.entry.items ∷ VNumber family ∷ VName block.now ∷ []) (λ t vs. VTerm t ∷ vs) }
 {
     let binders = predicate_binders(tokens)?;
-    let ret = last_term(alloc, tokens)?;
-    let scrut = term(alloc, tokens)?;
+    let ret = last_term(alloc, leaves, tokens)?;
+    let scrut = term(alloc, leaves, tokens)?;
     let front = Match {
         block,
         family,
@@ -271,32 +314,40 @@ fn match_rest<'a>(
         scrut,
         branches: Vec::new(alloc),
     };
-    let t = branches(alloc, tokens, front)?;
+    let t = branches(alloc, leaves, tokens, front)?;
     Ok(t)
 }
 
 /// A match after its head.
 #[cycle(reading)]
 #[tactic(auto)]
-fn match_term<'a>(alloc: Global, tokens: &mut Tokens<'a>) -> Result<Tree<'a>, ReadRefusal>
+fn match_term<'a>(
+    alloc: Global,
+    leaves: &mut Leaves<'a>,
+    tokens: &mut Tokens<'a>,
+) -> Result<Tree<'a>, ReadRefusal>
     ensures reads { Reads result tokens.old tokens.new (row formers.Case) [] (λ t vs. VTerm t ∷ vs) }
 {
     let of = matched(tokens)?;
-    let params = term_list(alloc, tokens, Keyword::Params)?;
-    let t = match_rest(alloc, tokens, of.0, of.1, params)?;
+    let params = term_list(alloc, leaves, tokens, Keyword::Params)?;
+    let t = match_rest(alloc, leaves, tokens, of.0, of.1, params)?;
     Ok(t)
 }
 
 /// A definition of a fixpoint, after its bracket.
 #[cycle(reading)]
 #[tactic(auto, using(crate::proofs::Steps::judged_do))]
-fn definition<'a>(alloc: Global, tokens: &mut Tokens<'a>) -> Result<Def<'a>, ReadRefusal>
+fn definition<'a>(
+    alloc: Global,
+    leaves: &mut Leaves<'a>,
+    tokens: &mut Tokens<'a>,
+) -> Result<Def<'a>, ReadRefusal>
     ensures reads { Reads result tokens.old tokens.new (IWord words.Def ∷ IBinder ∷ ITerm ∷ ITerm ∷ INumber ∷ Do AddDef IClose ∷ []) [] (λ d vs. act AddDef (VNumber d.rarg ∷ VTerm d.body ∷ VTerm d.ty ∷ vs)) }
 {
     word(tokens, Keyword::Def)?;
     binder(tokens)?;
-    let ty = term(alloc, tokens)?;
-    let body = term(alloc, tokens)?;
+    let ty = term(alloc, leaves, tokens)?;
+    let body = term(alloc, leaves, tokens)?;
     let rarg = number(tokens)?;
     close(tokens)?;
     Ok(Def { ty, body, rarg })
@@ -307,6 +358,7 @@ fn definition<'a>(alloc: Global, tokens: &mut Tokens<'a>) -> Result<Def<'a>, Rea
 #[tactic(auto, using(crate::proofs::Steps::judged_do))]
 fn definitions<'a>(
     alloc: Global,
+    leaves: &mut Leaves<'a>,
     tokens: &mut Tokens<'a>,
     first: Def<'a>,
 ) -> Result<Vec<Def<'a>>, ReadRefusal>
@@ -325,7 +377,7 @@ fn definitions<'a>(
                         offset,
                     });
                 }
-                let d = definition(alloc, tokens)?;
+                let d = definition(alloc, leaves, tokens)?;
                 list.push(d)?;
             }
         }
@@ -335,24 +387,32 @@ fn definitions<'a>(
 /// The definitions of a fixpoint, in brackets.
 #[cycle(reading)]
 #[tactic(auto, using(crate::proofs::Steps::judged_do))]
-fn definition_list<'a>(alloc: Global, tokens: &mut Tokens<'a>) -> Result<Vec<Def<'a>>, ReadRefusal>
+fn definition_list<'a>(
+    alloc: Global,
+    leaves: &mut Leaves<'a>,
+    tokens: &mut Tokens<'a>,
+) -> Result<Vec<Def<'a>>, ReadRefusal>
     ensures reads { Reads result tokens.old tokens.new (IOpen ∷ Do NoDefs IOpen ∷ next Definitions) [] (λ v vs. VDefs (map named_def v.items) ∷ vs) }
     ensures many { IfOk result (λ v. (0 < length v.items) × (length v.items ≤ 255)) }
 {
     open(tokens)?;
     open(tokens)?;
-    let first = definition(alloc, tokens)?;
-    let defs = definitions(alloc, tokens, first)?;
+    let first = definition(alloc, leaves, tokens)?;
+    let defs = definitions(alloc, leaves, tokens, first)?;
     Ok(defs)
 }
 
 /// A fixpoint after its head.
 #[cycle(reading)]
 #[tactic(auto, using(crate::proofs::Steps::judged_do))]
-fn fixpoint<'a>(alloc: Global, tokens: &mut Tokens<'a>) -> Result<Tree<'a>, ReadRefusal>
+fn fixpoint<'a>(
+    alloc: Global,
+    leaves: &mut Leaves<'a>,
+    tokens: &mut Tokens<'a>,
+) -> Result<Tree<'a>, ReadRefusal>
     ensures reads { Reads result tokens.old tokens.new (row formers.Fix) [] (λ t vs. VTerm t ∷ vs) }
 {
-    let defs = definition_list(alloc, tokens)?;
+    let defs = definition_list(alloc, leaves, tokens)?;
     let i = index(tokens, defs.as_slice())?;
     let t = finish(alloc, tokens, Node::Fix(defs, i))?;
     Ok(t)

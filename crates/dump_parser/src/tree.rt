@@ -1,10 +1,11 @@
 //! The terms of a text, without the names of binders, each name as the slice of the text where it stands.
 
-ghost use Rattle.std.specs.Prelude.{◌≡◌, ◌≤◌, IfOk, IfErr};
+ghost use Rattle.std.specs.Prelude.{◌≡◌, ◌≤◌, IfSome};
 ghost use Rattle.dump_grammar.specs.Named.{depth};
 ghost use Rattle.dump_parser.specs.Tree.{named};
 
 use std::marker::Model;
+use std::rc::Rc;
 
 /// A level of a sort, and what is added to it.
 #[derive(Clone, Copy, Debug)]
@@ -21,14 +22,14 @@ pub enum SortTree<'a> {
 }
 
 /// A term of a text, with its depth, which is at most 2,048: 1 for a node without subterms, and else one more than its deepest subterm's, where an
-/// application takes one argument and a cast is a lambda applied.
+/// application takes one argument and a cast is a lambda applied. Two terms may share a node.
 ///
 /// Contracts see it as the term that the grammar means by it.
 #[cycle(tree)]
 #[derive(Drop)]
 pub struct Tree<'a> {
     pub(crate) nesting: usize,
-    pub(crate) node: Box<Node<'a>>,
+    pub(crate) node: Rc<Node<'a>>,
 }
 
 /// A node of a term: one of the forms of the text, with its parts. Names of binders are dropped. Variables are de Bruijn indices: the innermost
@@ -115,6 +116,19 @@ impl<'a> Tree<'a> {
         ensures within { depth self.now ≤ 2048 }
     {
         &self.node
+    }
+
+    /// The same term, shared with this one, or None where no more can share it.
+    pub(crate) fn share(&self) -> Option<Tree<'a>>
+        ensures same { IfSome result (λ t. t ≡ self.now) }
+    {
+        match self.node.clone() {
+            Ok(node) => Some(Tree {
+                nesting: self.nesting,
+                node,
+            }),
+            Err(_) => None,
+        }
     }
 
     /// The depth of the term. It takes no memory.

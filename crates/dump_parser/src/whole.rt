@@ -11,6 +11,7 @@ ghost use Rattle.dump_parser.specs.Environment.{Gives, env_named};
 
 use crate::declaration::declarations;
 use crate::environment::EnvTree;
+use crate::leaves::Leaves;
 use crate::level::{constraints, levels};
 use crate::number::version;
 use crate::term::last_term;
@@ -31,14 +32,18 @@ fn header(tokens: &mut Tokens) -> Result<(), ReadRefusal>
 
 /// The environment, in its brackets.
 #[tactic(auto, using(crate::proofs::Steps::judged_do))]
-fn environment<'a>(alloc: Global, tokens: &mut Tokens<'a>) -> Result<EnvTree<'a>, ReadRefusal>
+fn environment<'a>(
+    alloc: Global,
+    leaves: &mut Leaves<'a>,
+    tokens: &mut Tokens<'a>,
+) -> Result<EnvTree<'a>, ReadRefusal>
     ensures reads { Reads result tokens.old tokens.new start [] (λ e vs. VEnv (env_named e) ∷ vs) }
 {
     header(tokens)?;
     let levels = levels(alloc, tokens)?;
     let constraints = constraints(alloc, tokens)?;
-    let declarations = declarations(alloc, tokens)?;
-    let main = last_term(alloc, tokens)?;
+    let declarations = declarations(alloc, leaves, tokens)?;
+    let main = last_term(alloc, leaves, tokens)?;
     close(tokens)?;
     Ok(EnvTree {
         levels,
@@ -68,7 +73,8 @@ pub fn parse<'a>(alloc: Global, bytes: &'a [u8]) -> Result<EnvTree<'a>, ReadRefu
     ensures exact { Gives (verdict (length bytes.now) (tokens_of bytes.now)) result }
 {
     let mut tokens = Tokens::new(bytes);
-    let env = environment(alloc, &mut tokens)?;
+    let mut leaves = Leaves::new(alloc);
+    let env = environment(alloc, &mut leaves, &mut tokens)?;
     end(&mut tokens)?;
     Ok(env)
 }

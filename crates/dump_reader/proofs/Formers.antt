@@ -1,5 +1,5 @@
 -- What is made of each former of a tree, from what is made of its parts.
-use Rattle.std.proofs.Common.{◌≡◌, ℕ, suc, ◌+◌, ◌<◌, ◌≤◌, ◌^◌, max, List, [], ◌∷◌, map, length, Result, IfOk, refl, sym, ap, subst, ◌∙◌, arith}
+use Rattle.std.proofs.Common.{◌≡◌, ℕ, ◌<◌, ◌≤◌, ◌^◌, List, [], ◌∷◌, map, length, Result, IfOk, refl, sym, ap, subst, ◌∙◌, arith}
 use Rattle.std.proofs.lemmas.Result.{IfOk-weaker}
 use Rattle.trees.specs.Tree as trees
 use Rattle.trees.specs.Measures.{above, above_trees, IsWithin}
@@ -16,14 +16,14 @@ use Rattle.dump_grammar.specs.Named.{NamedSort, Named, Rel, Sort, Prod, Lambda, 
 use Rattle.dump_grammar.specs.Uses.{names, levels, levels_of_sort, names_of_branches, levels_of_branches, each}
 use Rattle.dump_parser.specs.declared.tree.Branch.{Branch}
 use Rattle.dump_parser.specs.declared.tree.Def.{Def}
-use Rattle.dump_parser.specs.Tree.{named_branch, named_def, applied}
+use Rattle.dump_parser.specs.Tree.{named_branch, named_def}
 use Rattle.dump_reader.specs.declared.numbering.Tables.{Tables}
 use Rattle.dump_reader.specs.Numbered.{name_number, numbered_sort, recursive_arguments, numbered_term, numbered_bodies}
 use Rattle.dump_reader.specs.Growth.{unused, Numbers}
 use Rattle.dump_reader.specs.Made.{IsTerm, AreTerms, AreBranches, AreDefs, numbered_def}
 use Rattle.dump_reader.proofs.Growth.{plain, on, both, kept, restated}
 use Rattle.dump_reader.proofs.Depths.{depth-numbered}
-use Rattle.dump_reader.proofs.Items.{term-names, term-levels, branch-names, branch-levels, def-names, def-levels, applied-names, applied-levels, term-values, branch-values, rarg-values, type-values, body-values, applied-value, rargs-length, small-applied}
+use Rattle.dump_reader.proofs.Items.{term-names, term-levels, branch-names, branch-levels, def-names, def-levels, term-values, branch-values, rarg-values, type-values, body-values, rargs-length}
 
 -- ---- results
 
@@ -104,12 +104,6 @@ module _ {old mid new : Tables} {A B : Named} {x y : terms.Term} (p : IsTerm A o
 
 pub cast-term : {old mid new : Tables} {t T : Named} {x y : terms.Term} → IsTerm T old mid y → IsTerm t mid new x → IsTerm (cast t T) old new (terms.App (terms.Lambda y (terms.Rel 0)) x)
 cast-term {mid = mid} p q = app-term (lambda-term p (rel-term 0 mid (omega arith))) q
-
-pub run-term : {old mid new : Tables} {f : Named} {ts : List Named} {x : terms.Term} {xs : List terms.Term} → IsTerm f old mid x → AreTerms ts mid new xs → IsTerm (applied f ts) old new (terms.apply x xs)
-run-term {f = f} {ts = ts} {x = x} {xs = xs} p q = record {
-  numbers = restated (both p.numbers (λ a b. terms.apply a b) q.numbers) (applied-names f ts) (applied-levels f ts) (λ ns ls. applied-value ns ls f ts) refl;
-  small = small-applied x xs (2 ^ 32) p.small q.small;
-}
 
 pub case-term : {t0 t1 t2 t3 t4 t5 : Tables} (k : List ℕ) (n : ℕ) (ps : List Named) (b : ℕ) (r s : Named) (bs : List Branch) {kx : Name} {xs : List terms.Term} {rx sx : terms.Term} {ys : List Arm}
     → Numbers (λ after. k ∷ after) unused (λ ns ls. name_number ns k) t0 t1 kx → AreTerms ps t1 t2 xs → IsTerm r t2 t3 rx → IsTerm s t3 t4 sx → AreBranches bs t4 t5 ys

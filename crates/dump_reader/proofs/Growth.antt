@@ -172,7 +172,7 @@ module _ {X Y : Type 0} (u v : X → Uses) (value : List (List ℕ) → List (Li
 -- ---- one use
 
 pub used-level : (a b : List ℕ) (old : Tables) (table : List (List ℕ)) (n : ℕ) → b ≡ a → table ≡ with_text b old.levels → n ≡ place_of b old.levels
-    → Numbers unused (λ after. a ∷ after) (λ ns ls. level_number ls a) old (record { names = old.names; levels = table; leaves = old.leaves }) (record { 0 = n })
+    → Numbers unused (λ after. a ∷ after) (λ ns ls. level_number ls a) old (record { names = old.names; levels = table; recent = old.recent; leaves = old.leaves }) (record { 0 = n })
 unfolding after_uses
 used-level a b old table n same grown place =
     let now : table ≡ with_text a old.levels = grown ∙ ap (λ c. with_text c old.levels) same in
@@ -184,16 +184,16 @@ used-level a b old table n same grown place =
           λ i. record { 0 = number i };
     }
 
-pub used-name : (a b : List ℕ) (old : Tables) (table : List (List ℕ)) (n : ℕ) → b ≡ a → table ≡ with_text b old.names → n ≡ place_of b old.names
-    → Numbers (λ after. a ∷ after) unused (λ ns ls. name_number ns a) old (record { names = table; levels = old.levels; leaves = old.leaves }) (record { 0 = n })
+pub used-name : (a b : List ℕ) {old new : Tables} (n : ℕ) → b ≡ a → new.names ≡ with_text b old.names → new.levels ≡ old.levels → n ≡ place_of b old.names
+    → Numbers (λ after. a ∷ after) unused (λ ns ls. name_number ns a) old new (record { 0 = n })
 unfolding after_uses
-used-name a b old table n same grown place =
-    let now : table ≡ with_text a old.names = grown ∙ ap (λ c. with_text c old.names) same in
+used-name a b {old} {new} n same grown others place =
+    let now : new.names ≡ with_text a old.names = grown ∙ ap (λ c. with_text c old.names) same in
     record {
       names_grow = λ after. ap (λ t. after_uses t after) (sym now);
-      levels_grow = λ after. refl;
+      levels_grow = λ after. ap (λ t. after_uses t after) (sym others);
       is_value = λ ns ls.
-          let number : n ≡ place_of a (after_uses table ns) = place ∙ ap (λ c. place_of c old.names) same ∙ place-now a old.names ns ∙ ap (λ t. place_of a (after_uses t ns)) (sym now) in
+          let number : n ≡ place_of a (after_uses new.names ns) = place ∙ ap (λ c. place_of c old.names) same ∙ place-now a old.names ns ∙ ap (λ t. place_of a (after_uses t ns)) (sym now) in
           λ i. record { 0 = number i };
     }
 

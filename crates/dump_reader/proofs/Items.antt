@@ -1,19 +1,18 @@
 -- The lists within a tree: their uses and their values, item by item.
-use Rattle.std.proofs.Common.{◌≡◌, ℕ, zero, suc, ◌+◌, ◌<◌, ◌≤◌, ◌^◌, max, List, [], ◌∷◌, ◌++◌, map, length, take, get_or, refl, sym, ap, subst, ◌∙◌, arith}
+use Rattle.std.proofs.Common.{◌≡◌, ℕ, suc, ◌+◌, ◌<◌, ◌≤◌, ◌^◌, List, [], ◌∷◌, ◌++◌, map, length, take, get_or, refl, sym, ap, subst, arith}
 use Rattle.trees.specs.Tree as trees
 use Rattle.trees.specs.Measures.{above, above_trees}
 use Rattle.pc_terms.specs.Syntax as terms
 use Rattle.pc_terms.specs.Lists.{arms_of, types_of, bodies_of, rargs_of}
 use Rattle.pc_terms.specs.declared.term.Branch.{Branch as Arm}
 use Rattle.pc_terms.specs.declared.term.Def.{Def as Definition}
-use Rattle.dump_grammar.specs.Named.{Named, App, terms_of, branches_of, defs_of}
+use Rattle.dump_grammar.specs.Named.{Named, terms_of, branches_of, defs_of}
 use Rattle.dump_grammar.specs.Uses.{names, levels, names_of_terms, levels_of_terms, names_of_branches, levels_of_branches, names_of_defs, levels_of_defs, each}
 use Rattle.dump_parser.specs.declared.tree.Branch.{Branch}
 use Rattle.dump_parser.specs.declared.tree.Def.{Def}
-use Rattle.dump_parser.specs.Tree.{named_branch, named_def, applied}
+use Rattle.dump_parser.specs.Tree.{named_branch, named_def}
 use Rattle.dump_reader.specs.declared.numbering.Tables.{Tables}
 use Rattle.dump_reader.specs.Numbered.{recursive_arguments, numbered_term, numbered_terms, numbered_branches, numbered_types, numbered_bodies}
-use Rattle.dump_reader.specs.Growth.{Numbers}
 use Rattle.dump_reader.specs.Made.{IsTerm, AreTerms, branch_names, branch_levels, numbered_branch, AreBranches, def_names, def_levels, numbered_def, AreDefs}
 use Rattle.dump_reader.proofs.Growth.{both, restated, none-yet, one-more-at}
 
@@ -49,16 +48,6 @@ unfolding levels each
 def-levels [] after = refl
 def-levels (d ∷ ds) after = ap (λ more. levels d.ty (levels d.body more)) (def-levels ds after)
 
-pub applied-names : (f : Named) (ts : List Named) (after : List (List ℕ)) → names (applied f ts) after ≡ names f (each names ts after)
-unfolding names each
-applied-names f [] after = refl
-applied-names f (t ∷ ts) after = applied-names (App f t) ts after
-
-pub applied-levels : (f : Named) (ts : List Named) (after : List (List ℕ)) → levels (applied f ts) after ≡ levels f (each levels ts after)
-unfolding levels each
-applied-levels f [] after = refl
-applied-levels f (t ∷ ts) after = applied-levels (App f t) ts after
-
 -- ---- values
 
 module _ (ns ls : List (List ℕ)) where
@@ -87,11 +76,6 @@ module _ (ns ls : List (List ℕ)) where
   body-values m [] = refl
   body-values m (d ∷ ds) = ap (trees.Next m (numbered_term ns ls d.body)) (body-values m ds)
 
-  pub applied-value : (f : Named) (ts : List Named) → terms.apply (numbered_term ns ls f) (map (numbered_term ns ls) ts) ≡ numbered_term ns ls (applied f ts)
-  unfolding numbered_term
-  applied-value f [] = refl
-  applied-value f (t ∷ ts) = applied-value (App f t) ts
-
 pub rargs-length : (ds : List Definition) → length (rargs_of ds) ≡ length ds
 rargs-length [] = refl
 rargs-length (d ∷ ds) = ap (λ n. suc n) (rargs-length ds)
@@ -113,10 +97,6 @@ small-types (x ∷ xs) y n h k = (let l : above_trees (types_of (xs ++ y ∷ [])
 small-bodies : (m : ℕ) (xs : List Definition) (y : Definition) (n : ℕ) → above_trees (bodies_of m xs) ≤ n → above y.body ≤ n → above_trees (bodies_of m (xs ++ y ∷ [])) ≤ n
 small-bodies m [] y n h k = omega arith
 small-bodies m (x ∷ xs) y n h k = (let l : above_trees (bodies_of m (xs ++ y ∷ [])) ≤ n = small-bodies m xs y n (omega arith) k in omega arith)
-
-pub small-applied : (f : terms.Term) (xs : List terms.Term) (n : ℕ) → above f ≤ n → above_trees (trees.terms_of xs) ≤ n → above (terms.apply f xs) ≤ n
-small-applied f [] n h k = h
-small-applied f (x ∷ xs) n h k = small-applied (terms.App f x) xs n (omega arith) (omega arith)
 
 -- ---- lists as loops make them
 

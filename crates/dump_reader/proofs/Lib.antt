@@ -9,3 +9,5 @@ pub mod Members
 pub mod Spelled
 pub mod Verdicts
 pub mod Fronts
+pub mod Counting
+pub mod Passing

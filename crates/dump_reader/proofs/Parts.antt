@@ -1,5 +1,6 @@
 -- The parts of a tree: they are formed where it is, and less deep.
-use Rattle.std.proofs.Common.{◌≡◌, ℕ, zero, suc, ◌+◌, ◌<◌, ◌≤◌, max, List, [], ◌∷◌, map, length, get_or, refl, sym, ap, subst, ◌∙◌, arith}
+use Rattle.std.proofs.Common.{◌≡◌, ℕ, zero, suc, ◌+◌, ◌<◌, ◌≤◌, max, List, [], ◌∷◌, ◌++◌, map, length, take, get_or, refl, sym, ap, subst, ◌∙◌, arith}
+use Rattle.std.proofs.lemmas.List.{take_more}
 use Rattle.std.specs.Str.{IsAscii}
 use Rattle.dump_grammar.specs.Terms.{cast}
 use Rattle.dump_grammar.specs.Named.{NamedSort, Named, Rel, Sort, Prod, Lambda, LetIn, App, Const, Ind, Construct, Case, Fix, terms_of, branches_of, defs_of, depth, depth_terms, depth_branches, depth_defs}
@@ -148,6 +149,28 @@ applied-depths : (f : Named) (ts : List Named) → 0 < depth f → (depth f ≤ 
 unfolding depth
 applied-depths f [] h = (omega arith, omega arith)
 applied-depths f (t ∷ ts) h = (let k = applied-depths (App f t) ts (omega arith) in (omega (arith, k.0, k.1), omega (arith, k.0, k.1)))
+
+-- the function applied to some of the arguments, from the first on
+applied-front : (f : Named) (ts : List Named) (n : ℕ) → 0 < depth f → depth (applied f (take n ts)) ≤ depth (applied f ts)
+unfolding depth
+applied-front f ts zero h = (applied-depths f ts h).0
+applied-front f [] (suc n) h = omega arith
+applied-front f (t ∷ ts) (suc n) h = applied-front (App f t) ts n (omega arith)
+
+applied-push : (f : Named) (ts : List Named) (t : Named) → applied f (ts ++ t ∷ []) ≡ App (applied f ts) t
+applied-push f [] t = refl
+applied-push f (u ∷ ts) t = applied-push (App f u) ts t
+
+-- one argument more, at an item that a loop has read
+pub applied-more : (f : Named) (ts : List Named) (i : ℕ) (t : Named) → t ≡ get_or ts i t → i < length ts → applied f (take (i + 1) ts) ≡ App (applied f (take i ts)) t
+applied-more f ts i t at within =
+    let longer : take (i + 1) ts ≡ take i ts ++ t ∷ [] = take_more ts i t within ∙ ap (λ (u : Named). take i ts ++ u ∷ []) (sym at) in
+    ap (applied f) longer ∙ applied-push f (take i ts) t
+
+-- the application of one argument more is within the run
+pub run-within : (f a : Named) (ts : List Named) (i : ℕ) (t : Named) → t ≡ get_or ts i t → i < length ts → depth (App (applied (App f a) (take i ts)) t) ≤ depth (applied (App f a) ts)
+unfolding depth
+run-within f a ts i t at within = subst (λ (u : Named). depth u ≤ depth (applied (App f a) ts)) (applied-more (App f a) ts i t at within) (applied-front (App f a) ts (i + 1) (omega arith))
 
 pub run-parts : (f a : Named) (ts : List Named) → IsFormed (applied (App f a) ts) → IsFormed f × IsFormed a × Each IsFormed ts
 unfolding IsFormed

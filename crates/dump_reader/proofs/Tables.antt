@@ -8,6 +8,7 @@ use Rattle.std.specs.String.{string_eq}
 use Rattle.std.specs.Cmp.Lexicographic.{nat_list_eq_equiv}
 use Rattle.std.proofs.lemmas.Option.{cond_some, slice_get_past}
 use Rattle.std.proofs.lemmas.List.{map-append, length-map}
+use Rattle.std.proofs.lemmas.Slice.Eq.{bytes_eq-Decides}
 use Rattle.std.proofs.lemmas.Map.Keys.{IsDistinct-head, IsDistinct-tail}
 use Rattle.indexmap.specs.IndexSet.{insert_key}
 use Rattle.dump_grammar.specs.Numbering.{is_in, place_of}
@@ -80,3 +81,23 @@ stands-once ks t seen n k a h same e = ap (λ b. place_of b t) same ∙ ap (plac
 
 pub past-table : {Z : Type 0} (ks : List (String Z)) (t : List (List ℕ)) → t ≡ map string_bytes ks → (n : ℕ) → length ks ≤ n → ◌≡◌ {A = Option (List ℕ)} None (slice_get t n)
 past-table ks t seen n h = sym (slice_get_past t n (rw (seen, length-map ks string_bytes) h))
+
+-- ---- a text that is seen to stand at a number
+
+stands-in : (a : List ℕ) (t : List (List ℕ)) (n : ℕ) → slice_get t n ≡ Some a → is_in a t ≡ true
+unfolding is_in
+stands-in a [] n e = absurd cc
+stands-in a (x ∷ xs) zero e =
+    let at : a ≡ x = cc in
+    let same : bytes_eq a x ≡ true = (bytes_eq-Decides a x).1 at in
+    rw same refl
+stands-in a (x ∷ xs) (suc n) e =
+    let rest : is_in a xs ≡ true = stands-in a xs n e in
+    let P : Bool → Type 0 = λ y. (y || is_in a xs) ≡ true in
+    let on : (y : Bool) → P y = λ y. elim y as P [ true ↦ refl | false ↦ rest ] in
+    on (bytes_eq a x)
+
+pub seen-there : (a b : List ℕ) (t : List (List ℕ)) (n : ℕ) → bytes_eq a b ≡ true → Some a ≡ slice_get t n → with_text b t ≡ t
+seen-there a b t n same at =
+    let there : is_in b t ≡ true = ap (λ c. is_in c t) (sym ((bytes_eq-Decides a b).0 same)) ∙ stands-in a t n (sym at) in
+    ap (λ x. cond x t (t ++ b ∷ [])) there

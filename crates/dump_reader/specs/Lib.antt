@@ -8,3 +8,4 @@ pub mod Formed
 pub mod Growth
 pub mod Made
 pub mod Front
+pub mod CountedUpTo

@@ -125,19 +125,32 @@ fn declaration(alloc: Global, tables: &mut Tables, tree: &DeclTree) -> Result<Ra
     }
 }
 
-/// The declarations of an environment.
+/// The declaration of a tree that is let go of.
+fn declaration_of(
+    alloc: Global,
+    tables: &mut Tables,
+    tree: DeclTree,
+) -> Result<RawDecl, ReadRefusal>
+    requires { IsFormedDecl (named_decl tree) }
+    ensures made { IfOk result (Numbers (decl_names tree.entry) (decl_levels tree.entry) (λ ns ls. decl_value ns ls tree.entry) tables.old tables.new) }
+    ensures only_memory { IfErr result (λ e. e ≡ Memory) }
+{
+    declaration(alloc, tables, &tree)
+}
+
+/// The declarations of an environment. The tree of each is let go of before the next is read, so that few stand beside the terms that are made of them.
 pub(crate) fn declarations(
     alloc: Global,
     tables: &mut Tables,
-    trees: &[DeclTree],
+    trees: Vec<DeclTree>,
 ) -> Result<Vec<RawDecl>, ReadRefusal>
-    requires { Each IsFormedDecl (map named_decl trees.now) }
-    ensures made { IfOk result (λ made. NumbersEach decl_names decl_levels decl_value trees.now tables.old tables.new made.items) }
+    requires { Each IsFormedDecl (map named_decl trees.items) }
+    ensures made { IfOk result (λ made. NumbersEach decl_names decl_levels decl_value trees.entry.items tables.old tables.new made.items) }
     ensures only_memory { IfErr result (λ e. e ≡ Memory) }
 {
     let mut items = Vec::new(alloc);
     for tree in trees {
-        let item = declaration(alloc, tables, tree)?;
+        let item = declaration_of(alloc, tables, tree)?;
         items.push(item)?;
     }
     Ok(items)

@@ -14,6 +14,7 @@
 //! printer and the checker.
 #![tactic(auto)]
 
+mod blocks;
 pub mod declaration;
 mod declared;
 pub mod environment;
@@ -24,6 +25,7 @@ mod making;
 pub mod names;
 mod numbering;
 pub mod reading;
+mod recent;
 mod term;
 mod universe;
 mod whole;

@@ -1,5 +1,5 @@
 //! The table of texts by number.
-ghost use Rattle.std.specs.Prelude.{◌≡◌, ◌↔◌, ◌≤◌, ◌<◌, ◌^◌, [], length, IfOk, IfErr, OnOk, OnErr, IfSome, IsNone, IsTrue, slice_get, option_copied};
+ghost use Rattle.std.specs.Prelude.{◌≡◌, ◌↔◌, ◌≤◌, ◌<◌, ◌^◌, [], length, IfOk, IfErr, OnOk, OnErr, IfSome, IsNone, IsTrue, bytes_eq, slice_get, option_copied};
 ghost use Rattle.dump_grammar.specs.Numbering.{place_of};
 ghost use Rattle.dump_grammar.specs.declared.refusal.ReadRefusal.TheVariants.{Memory};
 ghost use Rattle.dump_reader.specs.Tables.{with_text};
@@ -8,6 +8,24 @@ use dump_grammar::ReadRefusal;
 use indexmap::IndexSet;
 use std::alloc::Global;
 use std::marker::Model;
+
+/// Whether two texts have the same bytes. Each is tested by itself: most names are short.
+#[inline(always)]
+fn same_bytes(text: &[u8], other: &[u8]) -> bool
+    ensures same { result ≡ bytes_eq text.now other.now }
+{
+    if text.len() != other.len() {
+        return false;
+    }
+    let mut at = 0;
+    while at < text.len() {
+        if text[at] != other[at] {
+            return false;
+        }
+        at += 1;
+    }
+    true
+}
 
 /// Texts by number: from 0 on, in the order in which they were first seen. Contracts see the list of the texts' bytes, in which no text
 /// stands twice.
@@ -48,6 +66,17 @@ impl Names {
         match self.texts.as_slice().get(n as usize) {
             Some(text) => Some(text.as_str()),
             None => None,
+        }
+    }
+
+    /// Whether a number is that of a text, by the text's bytes alone.
+    pub(crate) fn is_text_of(&self, n: u32, text: &[u8]) -> bool
+        ensures place { IsTrue result → place_of text.now self.now ≡ n }
+        ensures there { IsTrue result → with_text text.now self.now ≡ self.now }
+    {
+        match self.text(n) {
+            Some(kept) => same_bytes(kept.as_bytes(), text),
+            None => false,
         }
     }
 

@@ -1,4 +1,5 @@
-//! The tables of names and of levels, which grow as a tree is read, and the terms without subterms that were made.
+//! The tables of names and of levels, which grow as a tree is read, with the numbers that names had last and the terms without subterms that
+//! were made.
 ghost use Rattle.std.specs.Prelude.{◌≡◌, ◌∷◌, [], IfOk, IfErr};
 ghost use Rattle.std.specs.Str.{IsAscii};
 ghost use Rattle.dump_grammar.specs.declared.refusal.ReadRefusal.TheVariants.{Memory};
@@ -12,6 +13,7 @@ ghost use Rattle.dump_reader.specs.Leaves.{leaf_term};
 use crate::leaves::{Leaf, Leaves};
 use crate::making::made;
 use crate::names::Names;
+use crate::recent::Recent;
 use dump_grammar::{Keyword, ReadRefusal, spelling_of};
 use pc_terms::leaf::Name;
 use pc_terms::term::{Node, Term};
@@ -19,11 +21,12 @@ use std::alloc::Global;
 use universe_levels::level::Level;
 use universe_levels::sort::Sort;
 
-/// The names and the levels that have been used, by number, and the terms without subterms that were made.
+/// The names and the levels that have been used, by number, the numbers that names had last, and the terms without subterms that were made.
 #[derive(Drop)]
 pub(crate) struct Tables {
     pub(crate) names: Names,
     pub(crate) levels: Names,
+    recent: Recent,
     leaves: Leaves,
 }
 
@@ -37,21 +40,28 @@ impl Tables {
         let mut levels = Names::new(alloc);
         levels.number(alloc, text_of(spelling_of(Keyword::Set)))?;
         let names = Names::new(alloc);
+        let recent = Recent::new(alloc);
         let leaves = Leaves::new(alloc);
         Ok(Tables {
             names,
             levels,
+            recent,
             leaves,
         })
     }
 
-    /// The number of a name at a use of it.
+    /// The number of a name at a use of it. Mostly it is the one that was last at the name's place.
     pub(crate) fn name(&mut self, alloc: Global, text: &[u8]) -> Result<Name, ReadRefusal>
         requires { IsAscii text.now }
         ensures made { IfOk result (Numbers (λ after. text.now ∷ after) unused (λ ns ls. name_number ns text.now) self.old self.new) }
         ensures only_memory { IfErr result (λ e. e ≡ Memory) }
     {
+        let last = self.recent.last(text);
+        if self.names.is_text_of(last, text) {
+            return Ok(Name(last));
+        }
         let number = self.names.number(alloc, text_of(text))?;
+        self.recent.keep(text, number);
         Ok(Name(number))
     }
 

@@ -40,7 +40,7 @@ fn read(alloc: Global, bytes: &[u8]) -> Result<RawEnv, ReadRefusal>
     ensures exact { IsVerdict bytes.now result }
 {
     let tree = parse(alloc, bytes)?;
-    let env = environment_of(alloc, &tree)?;
+    let env = environment_of(alloc, tree)?;
     Ok(env)
 }
 

@@ -1,8 +1,6 @@
 //! Terms, with numbers for names and levels, made of the trees of a text.
 ghost use Rattle.std.specs.Prelude.{◌≡◌, ◌≤◌, map, IfOk, IfErr};
-ghost use Rattle.trees.specs.Measures.{IsWithin};
 ghost use Rattle.trees.specs.Tree.{terms_of};
-ghost use Rattle.pc_terms.specs.Syntax.{apply};
 ghost use Rattle.dump_grammar.specs.declared.refusal.ReadRefusal.TheVariants.{Memory};
 ghost use Rattle.dump_grammar.specs.Named.{branches_of, defs_of, depth, depth_terms, depth_branches, depth_defs};
 ghost use Rattle.dump_grammar.specs.Named as named;
@@ -19,21 +17,8 @@ use dump_grammar::ReadRefusal;
 use dump_parser::tree;
 use dump_parser::tree::Tree;
 use pc_terms::leaf::FamilyId;
-use pc_terms::term::{Branch, Branches, Def, Defs, MakeFault, Match, Node, Term, Terms};
+use pc_terms::term::{Branch, Branches, Def, Defs, Match, Node, Term, Terms};
 use std::alloc::Global;
-
-/// A function applied to arguments, where the whole is within the limits of terms.
-fn applied(alloc: Global, function: &Term, arguments: &Terms) -> Result<Term, ReadRefusal>
-    requires { IsWithin (apply function.now arguments.now) }
-    ensures ok { IfOk result (λ t. t ≡ apply function.now arguments.now) }
-    ensures only_memory { IfErr result (λ e. e ≡ Memory) }
-{
-    match function.apply(alloc, arguments) {
-        Ok(term) => Ok(term),
-        Err(MakeFault::Memory) => Err(ReadRefusal::Memory),
-        Err(MakeFault::TooDeep) => unreachable!(),
-    }
-}
 
 /// The term of a tree.
 #[cycle(term)]
@@ -119,7 +104,7 @@ fn fixpoint(
     Ok(whole)
 }
 
-/// A run of applications, from the function on.
+/// A run of applications, from the function on. Each argument goes into the term as it is read.
 #[cycle(term)]
 fn run(
     alloc: Global,
@@ -135,9 +120,11 @@ fn run(
 {
     let function = term(alloc, tables, function)?;
     let first = term(alloc, tables, first)?;
-    let head = made(alloc, Node::App(function, first))?;
-    let items = terms(alloc, tables, more.as_slice())?;
-    let whole = applied(alloc, &head, &Terms::of(items))?;
+    let mut whole = made(alloc, Node::App(function, first))?;
+    for tree in more {
+        let argument = term(alloc, tables, tree)?;
+        whole = made(alloc, Node::App(whole, argument))?;
+    }
     Ok(whole)
 }
 

@@ -69,15 +69,15 @@ fn constraints(
 }
 
 /// The environment of a tree.
-pub(crate) fn environment_of(alloc: Global, tree: &EnvTree) -> Result<RawEnv, ReadRefusal>
-    requires { IsFormedEnv (env_named tree.now) }
-    ensures made { IfOk result (λ env. env ≡ numbered (env_named tree.now)) }
+pub(crate) fn environment_of(alloc: Global, tree: EnvTree) -> Result<RawEnv, ReadRefusal>
+    requires { IsFormedEnv (env_named tree) }
+    ensures made { IfOk result (λ env. env ≡ numbered (env_named tree.entry)) }
     ensures only_memory { IfErr result (λ e. e ≡ Memory) }
 {
     let mut tables = Tables::new(alloc)?;
     let levels = levels(alloc, &mut tables, tree.levels.as_slice())?;
     let constraints = constraints(alloc, &mut tables, tree.constraints.as_slice())?;
-    let decls = declarations(alloc, &mut tables, tree.declarations.as_slice())?;
+    let decls = declarations(alloc, &mut tables, tree.declarations)?;
     let main = term(alloc, &mut tables, &tree.main)?;
     Ok(RawEnv {
         names: tables.names,

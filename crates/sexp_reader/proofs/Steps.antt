@@ -43,6 +43,22 @@ pub lex-blank : (bs : List ℕ) (n : ℕ) (c c' : Bool) → n < length bs → c 
 unfolding lex
 lex-blank bs n c c' h e b t e' = rw (e', e, front bs n h, blank_is_no_atom _ t, ne_eqb _ _ b, t) refl
 
+-- outside of a comment: one begins, and a blank is passed over
+pub comment_begins : (bs : List ℕ) (n : ℕ) → n < length bs → get_or bs n 0 ≡ 59 → lex n false (drop n bs) ≡ lex (n + 1) true (drop (n + 1) bs)
+comment_begins bs n h b = lex-comment bs n false true h refl b refl
+
+pub blank_is_passed : (bs : List ℕ) (n : ℕ) → n < length bs → (get_or bs n 0 ≡ 59 → ⊥) → is_blank (get_or bs n 0) ≡ true → lex n false (drop n bs) ≡ lex (n + 1) false (drop (n + 1) bs)
+blank_is_passed bs n h b t = lex-blank bs n false false h refl b t refl
+
+-- within a comment: it goes on, and ends
+pub comment_goes_on : (bs : List ℕ) (n : ℕ) → n < length bs → (get_or bs n 0 ≡ 10 → ⊥) → lex n true (drop n bs) ≡ lex (n + 1) true (drop (n + 1) bs)
+unfolding lex
+comment_goes_on bs n h b = rw (front bs n h, ne_eqb _ _ b) refl
+
+pub comment_ends : (bs : List ℕ) (n : ℕ) → n < length bs → get_or bs n 0 ≡ 10 → lex n true (drop n bs) ≡ lex (n + 1) false (drop (n + 1) bs)
+unfolding lex
+comment_ends bs n h b = rw (front bs n h, b) refl
+
 pub atom_len-more : (bs : List ℕ) (n : ℕ) → n < length bs → is_atom_byte (get_or bs n 0) ≡ true → atom_len (drop n bs) ≡ suc (atom_len (drop (n + 1) bs))
 unfolding atom_len
 atom_len-more bs n h e = rw (front bs n h, e) refl

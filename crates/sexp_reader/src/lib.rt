@@ -56,16 +56,39 @@ fn is_blank(b: u8) -> bool
     b == b' ' || b == b'\t' || b == b'\n' || b == b'\r'
 }
 
+/// For each byte `1` where it is one of an atom, and else `0`.
+static ATOM_BYTES: [u8; 256] = *b"\
+    00000000000000000000000000000000\
+    00000001000001101111111111000000\
+    01111111111111111111111111100001\
+    01111111111111111111111111100000\
+    00000000000000000000000000000000\
+    00000000000000000000000000000000\
+    00000000000000000000000000000000\
+    00000000000000000000000000000000";
+
+/// Whether the byte is one of an atom.
+#[inline(always)]
 fn is_atom_byte(b: u8) -> bool
     ensures atom { result ≡ atom_byte b }
 {
-    (b'a' <= b && b <= b'z')
-        || (b'A' <= b && b <= b'Z')
-        || (b'0' <= b && b <= b'9')
-        || b == b'_'
-        || b == b'.'
-        || b == b'\''
-        || b == b'-'
+    ATOM_BYTES[b as usize] == b'1'
+}
+
+/// The offset behind a comment in which `from` stands: behind the LF that ends it, or the text's length.
+fn comment_end(bytes: &[u8], from: usize) -> usize
+    requires { from ≤ length bytes.now }
+    ensures within { (from ≤ result) × (result ≤ length bytes.now) }
+    ensures same { lex from true (drop from bytes.now) ≡ lex result false (drop result bytes.now) }
+{
+    let mut at = from;
+    while at < bytes.len() {
+        if bytes[at] == b'\n' {
+            return at + 1;
+        }
+        at += 1;
+    }
+    at
 }
 
 /// The offset of the first byte from `from` on that is neither blank nor in a comment, or the text's length.
@@ -76,28 +99,27 @@ fn skip(bytes: &[u8], from: usize) -> usize
     ensures stops { result < length bytes.now → (blank (get_or bytes.now result 0) ≡ false) × (nat_eq (get_or bytes.now result 0) 59 ≡ false) }
 {
     let mut at = from;
-    let mut in_comment = false;
     while at < bytes.len() {
         let b = bytes[at];
-        if in_comment {
-            in_comment = b != b'\n';
-        } else if b == b';' {
-            in_comment = true;
-        } else if !is_blank(b) {
+        if b == b';' {
+            at = comment_end(bytes, at + 1);
+        } else if is_blank(b) {
+            at += 1;
+        } else {
             return at;
         }
-        at += 1;
     }
     at
 }
 
-/// The offset behind the atom bytes that stand from `from` on.
+/// The offset behind the atom bytes that stand from `from` on, where one stands.
 fn atom_end(bytes: &[u8], from: usize) -> usize
-    requires { from ≤ length bytes.now }
+    requires inside { from < length bytes.now }
+    requires atom { atom_byte (get_or bytes.now from 0) ≡ true }
     ensures within { result ≤ length bytes.now }
     ensures end { result ≡ from + atom_len (drop from bytes.now) }
 {
-    let mut at = from;
+    let mut at = from + 1;
     while at < bytes.len() {
         if !is_atom_byte(bytes[at]) {
             return at;
@@ -158,14 +180,6 @@ impl<'a> Tokens<'a> {
             return Ok(None);
         }
         let b = self.bytes[start];
-        if is_atom_byte(b) {
-            let end = atom_end(self.bytes, start);
-            if end - start > MAX_ATOM {
-                return Err(TokenFault::NameBytes { offset: start });
-            }
-            self.at = end;
-            return Ok(Some(token_at(TokenKind::Atom, start, end)));
-        }
         if b == b'(' {
             if self.nesting >= MAX_NESTING {
                 return Err(TokenFault::Nesting { offset: start });
@@ -178,6 +192,14 @@ impl<'a> Tokens<'a> {
             self.nesting = self.nesting.saturating_sub(1);
             self.at = start + 1;
             return Ok(Some(token_at(TokenKind::Close, start, start + 1)));
+        }
+        if is_atom_byte(b) {
+            let end = atom_end(self.bytes, start);
+            if end - start > MAX_ATOM {
+                return Err(TokenFault::NameBytes { offset: start });
+            }
+            self.at = end;
+            return Ok(Some(token_at(TokenKind::Atom, start, end)));
         }
         Err(TokenFault::Stray { offset: start })
     }

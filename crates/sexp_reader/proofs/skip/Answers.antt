@@ -1,17 +1,18 @@
-use Rattle.std.proofs.Common.{arith, ◌∙◌, sym}
-use Rattle.sexp_reader.proofs.Steps.{lex-in_comment, lex-comment, lex-blank, lex-end}
+use Rattle.std.proofs.Common.{false, arith, ◌∙◌, sym}
+use Rattle.sexp_reader.proofs.Steps.{comment_begins, blank_is_passed, lex-end}
 use Rattle.sexp_reader.proofs.skip.Goals as goal
-use Rattle.sexp_reader.proofs.skip.Goals.{then-in_comment, else-in_comment+then-b-eq59, else-in_comment+else-b-eq59+else-not-is_blank}
+
+pub loop-at-preserved-then-b-eq59 : goal.loop-at-preserved-then-b-eq59
+loop-at-preserved-then-b-eq59 c = (
+  c.comment_end-at.ensures.within.1,
+  c.loop-at.invariant.1 ∙ comment_begins c.args.bytes.now c.loop-at.at c.loop-at-test.true c.if-b-eq59.true ∙ c.comment_end-at.ensures.same,
+)
 
 pub loop-at-preserved : goal.loop-at-preserved
 loop-at-preserved c = (
   omega arith,
-  c.loop-at.invariant.1 ∙ elim c.if-in_comment.branch [
-    | then-in_comment w ↦ lex-in_comment _ _ _ _ c.loop-at-test.true w.if-in_comment.true w.in_comment-is
-    | else-in_comment+then-b-eq59 w ↦ lex-comment _ _ _ _ c.loop-at-test.true w.if-in_comment.false w.if-b-eq59.true w.in_comment-is
-    | else-in_comment+else-b-eq59+else-not-is_blank w ↦ lex-blank _ _ _ _ c.loop-at-test.true w.if-in_comment.false w.if-b-eq59.false (sym w.is_blank.ensures.blank ∙ w.if-not-is_blank.false) w.in_comment-is
-  ],
+  c.loop-at.invariant.1 ∙ blank_is_passed c.args.bytes.now c.loop-at.at c.loop-at-test.true c.if-b-eq59.false (sym c.is_blank.ensures.blank ∙ c.if-is_blank.true),
 )
 
 pub returns-clause-same : goal.returns-clause-same
-returns-clause-same c = c.loop-at.invariant.1 ∙ lex-end c.loop-at.at c.loop-at.in_comment c.args.bytes.now c.loop-at-test.false ∙ sym (lex-end c.loop-at.at _ c.args.bytes.now c.loop-at-test.false)
+returns-clause-same c = c.loop-at.invariant.1 ∙ lex-end c.loop-at.at false c.args.bytes.now c.loop-at-test.false ∙ sym (lex-end c.loop-at.at false c.args.bytes.now c.loop-at-test.false)

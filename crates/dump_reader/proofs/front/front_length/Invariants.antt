@@ -1,14 +1,14 @@
-use Rattle.std.proofs.Common.{◌≡◌, length}
-use Rattle.sexp_reader.specs.Stream.{source, stream, depth}
-use Rattle.dump_reader.specs.Front.{front_length, front_end}
+use Rattle.std.proofs.Common.{◌≡◌, ◌≤◌, ◌-◌, length}
+use Rattle.dump_reader.specs.Front.{front_length}
+use Rattle.dump_reader.specs.CountedUpTo.{ends_from}
 use Rattle.dump_reader.proofs.front.front_length.Given as goal
 
-abbrev pub invariant-loop-token : goal.invariant-loop-token
-invariant-loop-token l = record {
-  same : source l.tokens ≡ l.bytes;
-  counted : l.nesting ≡ depth l.tokens;
-  ends : front_length l.bytes ≡ front_end (length l.bytes) (depth l.tokens) (stream l.tokens);
+abbrev pub invariant-loop-place : goal.invariant-loop-place
+invariant-loop-place l = record {
+  within : l.place.at ≤ length l.bytes;
+  nested : l.place.nesting ≤ 1000;
+  ends : front_length l.bytes ≡ ends_from l.bytes l.place.nesting l.place.at;
 }
 
-abbrev pub decreases-loop-token : goal.decreases-loop-token
-decreases-loop-token l = length (stream l.tokens)
+abbrev pub decreases-loop-place : goal.decreases-loop-place
+decreases-loop-place l = length l.bytes - l.place.at

@@ -1,12 +1,10 @@
-use Rattle.std.proofs.Common.{rules, ◌≡◌, ◌+◌, ◌*◌, ◌<◌, ◌≤◌, ◌^◌, ℕ, List, map, subst, length, refl, sym, ap, ◌∙◌, arith}
-use Rattle.pc_terms.specs.Syntax as terms
-use Rattle.dump_grammar.specs.Named.{Rel, Sort, Prod, Lambda, LetIn, App, Const, Ind, Construct, Case, Fix, depth, terms_of, branches_of, defs_of, depth_terms, depth_branches, depth_defs}
-use Rattle.dump_grammar.specs.Named as g
+use Rattle.std.proofs.Common.{rules, ◌≡◌, map, subst, refl, sym, ap, arith}
+use Rattle.dump_grammar.specs.Named.{LetIn, App, Fix, terms_of, branches_of, defs_of, depth_terms, depth_branches, depth_defs}
 use Rattle.dump_parser.specs.Tree.{named_sort, named_def, named_branch}
 use Rattle.dump_reader.specs.Formed.{Each, IsFormed, AreFormedBranches, AreFormedDefs}
-use Rattle.dump_reader.proofs.Parts.{seen, term-at, branch-at, def-at, sort-part, const-part, ind-part, construct-part, prod-parts, lambda-parts, let-parts, fix-parts, cast-parts, cast-function, case-parts, case-depths, each-formed, run-parts, run-depths}
+use Rattle.dump_reader.proofs.Parts.{seen, term-at, branch-at, def-at, sort-part, const-part, ind-part, construct-part, prod-parts, lambda-parts, let-parts, fix-parts, cast-parts, cast-function, case-parts, case-depths, each-formed, applied-more, run-within, run-parts, run-depths}
 use Rattle.dump_reader.proofs.Items.{no-terms, no-branches, no-defs, one-term, one-branch, one-def}
-use Rattle.dump_reader.proofs.Formers.{as-term, of-tree, kept-term, terms-along, branches-along, defs-along, term-result, term-within, rel-term, sort-term, const-term, ind-term, construct-term, prod-term, lambda-term, app-term, let-term, cast-term, run-term, case-term, fix-term, fix-index}
+use Rattle.dump_reader.proofs.Formers.{as-term, of-tree, kept-term, terms-along, branches-along, defs-along, term-result, term-within, rel-term, sort-term, const-term, ind-term, construct-term, prod-term, lambda-term, app-term, let-term, case-term, fix-term, fix-index}
 use Rattle.dump_reader.proofs.term.+term.Goals as goal
 
 pub terms-loop-tree-init : goal.terms-loop-tree-init
@@ -152,17 +150,30 @@ run-term-requires-2 t c = (let d = run-depths c.args.function.now c.args.first.n
 pub run-made-requires-clause-within : goal.run-made-requires-clause-within
 run-made-requires-clause-within t c = (let d = run-depths c.args.function.now c.args.first.now c.args.more.now.items in term-within (app-term c.in_ok-function.ensures.made c.in_ok-first.ensures.made) (omega (arith, d.2)))
 
-pub run-terms-requires : goal.run-terms-requires
-run-terms-requires t c =
-    let d = run-depths c.args.function.now c.args.first.now c.args.more.now.items in
-    let same : depth_terms (terms_of c.as_slice.result.now) ≡ depth_terms (terms_of c.args.more.now.items) = ap (λ ts. depth_terms (terms_of ts)) c.as_slice.ensures.value in
-    (omega (arith, d.3), subst (λ ts. Each IsFormed ts) (sym c.as_slice.ensures.value) (run-parts c.args.function.now c.args.first.now c.args.more.now.items c.requires.formed).2)
+pub run-loop-tree-init : goal.run-loop-tree-init
+run-loop-tree-init t c = as-term c.in_ok-whole.ensures.ok (app-term c.in_ok-function.ensures.made c.in_ok-first.ensures.made)
 
-pub run-applied-requires : goal.run-applied-requires
-run-applied-requires t c = term-within (run-term (as-term c.in_ok-head.ensures.ok (app-term c.in_ok-function.ensures.made c.in_ok-first.ensures.made)) (terms-along c.as_slice.ensures.value c.of.ensures.is c.in_ok-items.ensures.made)) c.requires.within
+pub run-term-requires-in-loop-tree : goal.run-term-requires-in-loop-tree
+run-term-requires-in-loop-tree t c =
+    let ts = c.args.more.now.items in
+    let same : c.deref-tree-items.result.now ≡ ts = c.deref-tree-items.ensures.value in
+    let d = run-depths c.args.function.now c.args.first.now ts in
+    let p = term-at ts c.loop-tree.tree-index c.tree-item.result (rw same at c.tree-item.is) (rw same at c.loop-tree-test.true) (run-parts c.args.function.now c.args.first.now ts c.requires.formed).2 in
+    (omega (arith, d.3, p.0), p.1)
 
-pub run-returns-clause-made : goal.run-returns-clause-made
-run-returns-clause-made t c = as-term c.in_ok-whole.ensures.ok (run-term (as-term c.in_ok-head.ensures.ok (app-term c.in_ok-function.ensures.made c.in_ok-first.ensures.made)) (terms-along c.as_slice.ensures.value c.of.ensures.is c.in_ok-items.ensures.made))
+pub run-made-requires-in-loop-tree-clause-within : goal.run-made-requires-in-loop-tree-clause-within
+run-made-requires-in-loop-tree-clause-within t c =
+    let ts = c.args.more.now.items in
+    let same : c.deref-tree-items.result.now ≡ ts = c.deref-tree-items.ensures.value in
+    let within = run-within c.args.function.now c.args.first.now ts c.loop-tree.tree-index c.tree-item.result (rw same at c.tree-item.is) (rw same at c.loop-tree-test.true) in
+    term-within (app-term c.loop-tree.invariant c.in_ok-argument.ensures.made) (omega (arith, within, c.requires.within))
+
+pub run-loop-tree-preserved : goal.run-loop-tree-preserved
+run-loop-tree-preserved t c =
+    let ts = c.args.more.now.items in
+    let same : c.deref-tree-items.result.now ≡ ts = c.deref-tree-items.ensures.value in
+    let more = applied-more (App c.args.function.now c.args.first.now) ts c.loop-tree.tree-index c.tree-item.result (rw same at c.tree-item.is) (rw same at c.loop-tree-test.true) in
+    of-tree more (as-term c.in_ok-whole-2.ensures.ok (app-term c.loop-tree.invariant c.in_ok-argument.ensures.made))
 
 pub let_in-term-requires : goal.let_in-term-requires
 let_in-term-requires t c = (let p = let-parts (LetIn c.args.value.now c.args.ty.now c.args.body.now) c.args.value.now c.args.ty.now c.args.body.now refl c.requires.formed in (omega (arith, p.0), p.3))

@@ -1,8 +1,8 @@
-use Rattle.std.proofs.Common.{ℕ, ◌+◌, ◌*◌, take, map}
-use Rattle.dump_grammar.specs.Named.{terms_of, branches_of, defs_of, depth, depth_terms, depth_branches, depth_defs}
-use Rattle.dump_parser.specs.Tree.{named, named_branch, named_def}
+use Rattle.std.proofs.Common.{◌+◌, ◌*◌, take, map}
+use Rattle.dump_grammar.specs.Named.{App, terms_of, branches_of, defs_of, depth, depth_terms, depth_branches, depth_defs}
+use Rattle.dump_parser.specs.Tree.{named, named_branch, named_def, applied}
 use Rattle.dump_parser.specs.declared.tree.Node.TheVariants as nodes
-use Rattle.dump_reader.specs.Made.{AreTerms, AreBranches, AreDefs}
+use Rattle.dump_reader.specs.Made.{IsTerm, AreTerms, AreBranches, AreDefs}
 use Rattle.dump_reader.proofs.term.+term.Given as goal
 
 abbrev pub decreases-term : goal.decreases-term
@@ -31,6 +31,9 @@ decreases-branches l = 3 * depth_branches (branches_of (map named_branch l.trees
 
 abbrev pub decreases-definitions : goal.decreases-definitions
 decreases-definitions l = 3 * depth_defs (defs_of (map named_def l.trees.now)) + 3
+
+abbrev pub invariant-run-loop-tree : goal.invariant-run-loop-tree
+invariant-run-loop-tree l = IsTerm (applied (App l.fn.function l.fn.first) (take l.tree-index l.fn.more.items)) l.fn.tables l.tables l.whole
 
 abbrev pub invariant-terms-loop-tree : goal.invariant-terms-loop-tree
 invariant-terms-loop-tree l = AreTerms (take l.tree-index l.trees) l.fn.tables l.tables l.items.items

@@ -15,7 +15,7 @@ returns-then-end-start-gt-MAX_ATOM-clause-answer c =
 
 pub returns-then-is_atom_byte-clause-answer : goal.returns-then-is_atom_byte-clause-answer
 returns-then-is_atom_byte-clause-answer c =
-    rw (c.token_at.ensures.parts, c.skip-start.ensures.same, c.atom_end-end.ensures.end) (atom-short c.args.self.now.bytes.now c.args.self.now.nesting c.skip-start.result (omega arith) (sym c.is_atom_byte.ensures.atom ∙ c.if-is_atom_byte.true) (omega arith) (omega arith))
+    rw (c.token_at-then-is_atom_byte.ensures.parts, c.skip-start.ensures.same, c.atom_end-end.ensures.end) (atom-short c.args.self.now.bytes.now c.args.self.now.nesting c.skip-start.result (omega arith) (sym c.is_atom_byte.ensures.atom ∙ c.if-is_atom_byte.true) (omega arith) (omega arith))
 
 pub returns-then-is_atom_byte-clause-ok : goal.returns-then-is_atom_byte-clause-ok
 returns-then-is_atom_byte-clause-ok c = rw (c.skip-start.ensures.same, c.atom_end-end.ensures.end) (atom-after c.args.self.now.bytes.now c.args.self.now.nesting c.skip-start.result (omega arith) (sym c.is_atom_byte.ensures.atom ∙ c.if-is_atom_byte.true))
@@ -24,7 +24,7 @@ pub returns-then-self-ge-MAX_NESTING-clause-answer : goal.returns-then-self-ge-M
 returns-then-self-ge-MAX_NESTING-clause-answer c = rw c.skip-start.ensures.same (open-deep c.args.self.now.bytes.now c.args.self.now.nesting c.skip-start.result (omega arith) c.if-b-eq40.true c.if-self-ge-MAX_NESTING.true)
 
 pub returns-then-b-eq40-clause-answer : goal.returns-then-b-eq40-clause-answer
-returns-then-b-eq40-clause-answer c = rw (c.token_at-then-b-eq40.ensures.parts, c.skip-start.ensures.same) (open-answer c.args.self.now.bytes.now c.args.self.now.nesting c.skip-start.result (omega arith) c.if-b-eq40.true c.if-self-ge-MAX_NESTING.false)
+returns-then-b-eq40-clause-answer c = rw (c.token_at.ensures.parts, c.skip-start.ensures.same) (open-answer c.args.self.now.bytes.now c.args.self.now.nesting c.skip-start.result (omega arith) c.if-b-eq40.true c.if-self-ge-MAX_NESTING.false)
 
 pub returns-then-b-eq40-clause-ok : goal.returns-then-b-eq40-clause-ok
 returns-then-b-eq40-clause-ok c = rw c.skip-start.ensures.same (open-after c.args.self.now.bytes.now c.args.self.now.nesting c.skip-start.result (omega arith) c.if-b-eq40.true)
@@ -45,10 +45,10 @@ returns-then-start-self-clause-gave c =
 
 pub returns-then-is_atom_byte-clause-gave : goal.returns-then-is_atom_byte-clause-gave
 returns-then-is_atom_byte-clause-gave c =
-    rw (c.token_at.ensures.parts, c.atom_end-end.ensures.end) (c.skip-start.ensures.same ∙ atom-gave c.args.self.now.bytes.now c.args.self.now.nesting c.skip-start.result (omega arith) (sym c.is_atom_byte.ensures.atom ∙ c.if-is_atom_byte.true), omega arith, omega arith)
+    rw (c.token_at-then-is_atom_byte.ensures.parts, c.atom_end-end.ensures.end) (c.skip-start.ensures.same ∙ atom-gave c.args.self.now.bytes.now c.args.self.now.nesting c.skip-start.result (omega arith) (sym c.is_atom_byte.ensures.atom ∙ c.if-is_atom_byte.true), omega arith, omega arith)
 
 pub returns-then-b-eq40-clause-gave : goal.returns-then-b-eq40-clause-gave
-returns-then-b-eq40-clause-gave c = rw c.token_at-then-b-eq40.ensures.parts (c.skip-start.ensures.same ∙ open-gave c.args.self.now.bytes.now c.args.self.now.nesting c.skip-start.result (omega arith) c.if-b-eq40.true, omega arith, omega arith)
+returns-then-b-eq40-clause-gave c = rw c.token_at.ensures.parts (c.skip-start.ensures.same ∙ open-gave c.args.self.now.bytes.now c.args.self.now.nesting c.skip-start.result (omega arith) c.if-b-eq40.true, omega arith, omega arith)
 
 pub returns-then-b-eq41-clause-gave : goal.returns-then-b-eq41-clause-gave
 returns-then-b-eq41-clause-gave c = rw c.token_at-then-b-eq41.ensures.parts (c.skip-start.ensures.same ∙ close-gave c.args.self.now.bytes.now c.args.self.now.nesting c.skip-start.result (omega arith) c.if-b-eq41.true, omega arith, omega arith)
@@ -57,10 +57,10 @@ pub returns-then-is_atom_byte-clause-rises : goal.returns-then-is_atom_byte-clau
 returns-then-is_atom_byte-clause-rises c =
     let bytes = c.args.self.now.bytes.now in
     let some = atom_len-some bytes c.skip-start.result (omega arith) (sym c.is_atom_byte.ensures.atom ∙ c.if-is_atom_byte.true) in
-    rw c.token_at.ensures.parts (omega (arith, c.atom_end-end.ensures.end, some), lex-from (drop c.atom_end-end.result bytes) c.atom_end-end.result false)
+    rw c.token_at-then-is_atom_byte.ensures.parts (omega (arith, c.atom_end-end.ensures.end, some), lex-from (drop c.atom_end-end.result bytes) c.atom_end-end.result false)
 
 pub returns-then-b-eq40-clause-rises : goal.returns-then-b-eq40-clause-rises
-returns-then-b-eq40-clause-rises c = rw c.token_at-then-b-eq40.ensures.parts (omega arith, lex-from (drop (c.skip-start.result + 1) c.args.self.now.bytes.now) (c.skip-start.result + 1) false)
+returns-then-b-eq40-clause-rises c = rw c.token_at.ensures.parts (omega arith, lex-from (drop (c.skip-start.result + 1) c.args.self.now.bytes.now) (c.skip-start.result + 1) false)
 
 pub returns-then-b-eq41-clause-rises : goal.returns-then-b-eq41-clause-rises
 returns-then-b-eq41-clause-rises c = rw c.token_at-then-b-eq41.ensures.parts (omega arith, lex-from (drop (c.skip-start.result + 1) c.args.self.now.bytes.now) (c.skip-start.result + 1) false)
