@@ -34,6 +34,7 @@ use pc_terms::term::{MakeFault, Term};
 use reduce_machine::bindings::Lazy;
 use reduce_machine::reading::read_under;
 use reduce_machine::seen::{Argument, Seen};
+use reduce_machine::setting::{Setting, TableCell};
 use std::alloc::Global;
 
 /// Compares terms by weak-head normal forms of which nothing is read, layer by layer: conversion and cumulativity of PCUIC (Sozeau et al.,
@@ -114,10 +115,11 @@ impl LazyCompare {
         let right = b.share()?;
         let x = Lazy::plain(left);
         let y = Lazy::plain(right);
+        let tables = TableCell::new();
+        let at = Setting::new(env, ctx, &tables);
         self.compare(
             alloc,
-            env,
-            ctx,
+            &at,
             room,
             mode,
             Argument::Lazy(&x),
@@ -126,13 +128,14 @@ impl LazyCompare {
         )
     }
 
-    /// A comparison: a unit, one more rule that stands, and the two terms. `room` is the number of rules that may still stand in one another.
+    /// A comparison: a unit, one more rule that stands, and the two terms. `at` is the environment with the context, and `room` is the number of
+    /// rules that may still stand in one another.
     #[cycle(compare)]
+    #[inline(never)]
     pub(crate) fn compare(
         &self,
         alloc: Global,
-        env: &Env,
-        ctx: &Ctx,
+        at: &Setting<'_>,
         room: u32,
         mode: Mode,
         a: Argument<'_>,
@@ -140,10 +143,10 @@ impl LazyCompare {
         m: &mut Meter,
     ) -> Result<(), Halt>
         requires nest { room + m.old.nest ≡ 2048 }
-        requires left { IsSound env.now (values ctx.now) a }
-        requires right { IsSound env.now (values ctx.now) b }
-        requires comparable { AreComparable env.now (values ctx.now) (argument_term a ∷ []) (argument_term b ∷ []) }
-        ensures tracks { Tracks (values ctx.now) (EitherBeyond (argument_term a.entry) (argument_term b.entry)) (λ c. compare env.now (test_of env.now) room c (is_equal mode) (argument_term a.entry) (argument_term b.entry)) result m.old m.new }
+        requires left { IsSound at.now.env.now (values at.now.ctx.now) a }
+        requires right { IsSound at.now.env.now (values at.now.ctx.now) b }
+        requires comparable { AreComparable at.now.env.now (values at.now.ctx.now) (argument_term a ∷ []) (argument_term b ∷ []) }
+        ensures tracks { Tracks (values at.now.ctx.now) (EitherBeyond (argument_term a.entry) (argument_term b.entry)) (λ c. compare at.now.env.now (test_of at.now.env.now) room c (is_equal mode) (argument_term a.entry) (argument_term b.entry)) result m.old m.new }
     {
         if !m.tick() {
             return Err(Halt::Stop(Stop::Spent));
@@ -151,7 +154,7 @@ impl LazyCompare {
         if !m.enter() {
             return Err(Halt::Stop(Stop::TooDeep));
         }
-        let answer = self.entered(alloc, env, ctx, room - 1, mode, a, b, m);
+        let answer = self.entered(alloc, at, room - 1, mode, a, b, m);
         m.leave();
         answer
     }
@@ -161,8 +164,7 @@ impl LazyCompare {
     fn entered(
         &self,
         alloc: Global,
-        env: &Env,
-        ctx: &Ctx,
+        at: &Setting<'_>,
         room: u32,
         mode: Mode,
         a: Argument<'_>,
@@ -170,27 +172,27 @@ impl LazyCompare {
         m: &mut Meter,
     ) -> Result<(), Halt>
         requires nest { room + m.old.nest ≡ 2048 }
-        requires left { IsSound env.now (values ctx.now) a }
-        requires right { IsSound env.now (values ctx.now) b }
-        requires comparable { AreComparable env.now (values ctx.now) (argument_term a ∷ []) (argument_term b ∷ []) }
-        ensures tracks { Tracks (values ctx.now) (EitherBeyond (argument_term a.entry) (argument_term b.entry)) (λ c. entered env.now (test_of env.now) (compare env.now (test_of env.now) room) c (is_equal mode) (argument_term a.entry) (argument_term b.entry)) result m.old m.new }
+        requires left { IsSound at.now.env.now (values at.now.ctx.now) a }
+        requires right { IsSound at.now.env.now (values at.now.ctx.now) b }
+        requires comparable { AreComparable at.now.env.now (values at.now.ctx.now) (argument_term a ∷ []) (argument_term b ∷ []) }
+        ensures tracks { Tracks (values at.now.ctx.now) (EitherBeyond (argument_term a.entry) (argument_term b.entry)) (λ c. entered at.now.env.now (test_of at.now.env.now) (compare at.now.env.now (test_of at.now.env.now) room) c (is_equal mode) (argument_term a.entry) (argument_term b.entry)) result m.old m.new }
     {
         let same = same_arguments(alloc, a, b)?;
         if same {
             return Ok(());
         }
-        let x = reduce(alloc, env, ctx, a, m)?;
-        let y = reduce(alloc, env, ctx, b, m)?;
-        self.pair(alloc, env, ctx, room, mode, x.seen(), y.seen(), m)
+        let x = reduce(alloc, at, a, m)?;
+        let y = reduce(alloc, at, b, m)?;
+        self.pair(alloc, at, room, mode, x.seen(), y.seen(), m)
     }
 
     /// Two values.
     #[cycle(compare)]
+    #[inline(always)]
     fn pair(
         &self,
         alloc: Global,
-        env: &Env,
-        ctx: &Ctx,
+        at: &Setting<'_>,
         room: u32,
         mode: Mode,
         x: Seen<'_>,
@@ -198,20 +200,20 @@ impl LazyCompare {
         m: &mut Meter,
     ) -> Result<(), Halt>
         requires nest { room + m.old.nest ≡ 2048 }
-        requires left { IsNormal env.now (values ctx.now) x }
-        requires right { IsNormal env.now (values ctx.now) y }
-        requires comparable { AreComparable env.now (values ctx.now) (seen_term x ∷ []) (seen_term y ∷ []) }
-        ensures tracks { Tracks (values ctx.now) (EitherBeyond (seen_term x.entry) (seen_term y.entry)) (λ c. pair env.now (test_of env.now) (compare env.now (test_of env.now) room) c (is_equal mode) (seen_term x.entry) (seen_term y.entry)) result m.old m.new }
+        requires left { IsNormal at.now.env.now (values at.now.ctx.now) x }
+        requires right { IsNormal at.now.env.now (values at.now.ctx.now) y }
+        requires comparable { AreComparable at.now.env.now (values at.now.ctx.now) (seen_term x ∷ []) (seen_term y ∷ []) }
+        ensures tracks { Tracks (values at.now.ctx.now) (EitherBeyond (seen_term x.entry) (seen_term y.entry)) (λ c. pair at.now.env.now (test_of at.now.env.now) (compare at.now.env.now (test_of at.now.env.now) room) c (is_equal mode) (seen_term x.entry) (seen_term y.entry)) result m.old m.new }
     {
         match (shape_of(x), shape_of(y)) {
-            (Shape::Sort(s), Shape::Sort(t)) => compare_sorts(alloc, env, mode, s, t),
+            (Shape::Sort(s), Shape::Sort(t)) => compare_sorts(alloc, at.env, mode, s, t),
             (Shape::Product(f), Shape::Product(g)) => {
-                self.binders(alloc, env, ctx, room, mode, f, g, m)
+                self.binders(alloc, at, room, mode, f, g, m)
             }
             (Shape::Lambda(f), Shape::Lambda(g)) => {
-                self.binders(alloc, env, ctx, room, Mode::Equal, f, g, m)
+                self.binders(alloc, at, room, Mode::Equal, f, g, m)
             }
-            _ => self.spines(alloc, env, ctx, room, x, y, m),
+            _ => self.spines(alloc, at, room, x, y, m),
         }
     }
 
@@ -220,8 +222,7 @@ impl LazyCompare {
     fn binders(
         &self,
         alloc: Global,
-        env: &Env,
-        ctx: &Ctx,
+        at: &Setting<'_>,
         room: u32,
         mode: Mode,
         f: Binder<'_>,
@@ -229,22 +230,23 @@ impl LazyCompare {
         m: &mut Meter,
     ) -> Result<(), Halt>
         requires nest { room + m.old.nest ≡ 2048 }
-        requires domains { AreComparable env.now (values ctx.now) (read_part f.domain ∷ []) (read_part g.domain ∷ []) }
-        requires bodies { AreComparable env.now (under 1 (values ctx.now)) (read_part f.body ∷ []) (read_part g.body ∷ []) }
-        ensures tracks { Tracks (values ctx.now) (EitherBeyond (product_of f.entry) (product_of g.entry)) (binders_equal (compare env.now (test_of env.now) room) (is_equal mode) f.entry g.entry) result m.old m.new }
+        requires domains { AreComparable at.now.env.now (values at.now.ctx.now) (read_part f.domain ∷ []) (read_part g.domain ∷ []) }
+        requires bodies { AreComparable at.now.env.now (under 1 (values at.now.ctx.now)) (read_part f.body ∷ []) (read_part g.body ∷ []) }
+        ensures tracks { Tracks (values at.now.ctx.now) (EitherBeyond (product_of f.entry) (product_of g.entry)) (binders_equal (compare at.now.env.now (test_of at.now.env.now) room) (is_equal mode) f.entry g.entry) result m.old m.new }
     {
-        self.part(alloc, env, ctx, room, Mode::Equal, f.domain, g.domain, m)?;
-        let inner = assume(alloc, ctx)?;
-        self.part(alloc, env, &inner, room, mode, f.body, g.body, m)
+        self.part(alloc, at, room, Mode::Equal, f.domain, g.domain, m)?;
+        let inner = assume(alloc, at.ctx)?;
+        let setting = Setting::new(at.env, &inner, at.tables);
+        self.part(alloc, &setting, room, mode, f.body, g.body, m)
     }
 
     /// Two parts: below variables of their own they are read, unless they are seen to be the same.
     #[cycle(compare)]
+    #[inline(always)]
     pub(crate) fn part(
         &self,
         alloc: Global,
-        env: &Env,
-        ctx: &Ctx,
+        at: &Setting<'_>,
         room: u32,
         mode: Mode,
         a: Part<'_>,
@@ -252,8 +254,8 @@ impl LazyCompare {
         m: &mut Meter,
     ) -> Result<(), Halt>
         requires nest { room + m.old.nest ≡ 2048 }
-        requires comparable { AreComparable env.now (values ctx.now) (read_part a ∷ []) (read_part b ∷ []) }
-        ensures tracks { Tracks (values ctx.now) (EitherBeyond (read_part a.entry) (read_part b.entry)) (λ c. compare env.now (test_of env.now) room c (is_equal mode) (read_part a.entry) (read_part b.entry)) result m.old m.new }
+        requires comparable { AreComparable at.now.env.now (values at.now.ctx.now) (read_part a ∷ []) (read_part b ∷ []) }
+        ensures tracks { Tracks (values at.now.ctx.now) (EitherBeyond (read_part a.entry) (read_part b.entry)) (λ c. compare at.now.env.now (test_of at.now.env.now) room c (is_equal mode) (read_part a.entry) (read_part b.entry)) result m.old m.new }
     {
         let same = seen_same(a, b)?;
         if same {
@@ -263,8 +265,7 @@ impl LazyCompare {
         let y = opened(alloc, b)?;
         self.compare(
             alloc,
-            env,
-            ctx,
+            at,
             room,
             mode,
             Argument::Lazy(&x),

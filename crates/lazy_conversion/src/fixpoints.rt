@@ -14,11 +14,10 @@ use crate::comparison::LazyCompare;
 use crate::lists::Parts;
 use crate::stuck::Recursive;
 use conversion::definitions::{bodies, types};
-use pc_rules::context::Ctx;
-use pc_rules::environment::Env;
 use pc_rules::meter::Meter;
 use pc_rules::stop::Halt;
 use pc_terms::term::Terms;
+use reduce_machine::setting::Setting;
 use std::alloc::Global;
 
 /// The types of the definitions of a fixpoint, which are given, under its bindings.
@@ -48,27 +47,27 @@ fn body_parts<'a>(f: Recursive<'a>, terms: &'a Terms) -> Parts<'a>
 impl LazyCompare {
     /// The parts of two fixpoints: the types of their definitions, then the bodies.
     #[cycle(compare)]
+    #[inline(never)]
     pub(crate) fn fixpoints(
         &self,
         alloc: Global,
-        env: &Env,
-        ctx: &Ctx,
+        at: &Setting<'_>,
         room: u32,
         f: Recursive<'_>,
         g: Recursive<'_>,
         m: &mut Meter,
     ) -> Result<(), Halt>
         requires nest { room + m.old.nest ≡ 2048 }
-        requires types { AreComparable env.now (values ctx.now) (type_list (defs_of f)) (type_list (defs_of g)) }
-        requires bodies { AreComparable env.now (values ctx.now) (body_list (defs_of f)) (body_list (defs_of g)) }
-        ensures tracks { Tracks (values ctx.now) (DefsBeyond (defs_of f.entry) (defs_of g.entry)) (recursive_equal (compare env.now (test_of env.now) room) (defs_of f.entry) (defs_of g.entry)) result m.old m.new }
+        requires types { AreComparable at.now.env.now (values at.now.ctx.now) (type_list (defs_of f)) (type_list (defs_of g)) }
+        requires bodies { AreComparable at.now.env.now (values at.now.ctx.now) (body_list (defs_of f)) (body_list (defs_of g)) }
+        ensures tracks { Tracks (values at.now.ctx.now) (DefsBeyond (defs_of f.entry) (defs_of g.entry)) (recursive_equal (compare at.now.env.now (test_of at.now.env.now) room) (defs_of f.entry) (defs_of g.entry)) result m.old m.new }
     {
         let left = types(alloc, f.defs)?;
         let right = types(alloc, g.defs)?;
         let ts = type_parts(f, &left);
         let us = type_parts(g, &right);
-        self.each(alloc, env, ctx, room, ts, us, m)?;
-        self.bodies(alloc, env, ctx, room, f, g, m)
+        self.each(alloc, at, room, ts, us, m)?;
+        self.bodies(alloc, at, room, f, g, m)
     }
 
     /// The bodies of two fixpoints, under as many entries as the left one has definitions.
@@ -76,22 +75,22 @@ impl LazyCompare {
     fn bodies(
         &self,
         alloc: Global,
-        env: &Env,
-        ctx: &Ctx,
+        at: &Setting<'_>,
         room: u32,
         f: Recursive<'_>,
         g: Recursive<'_>,
         m: &mut Meter,
     ) -> Result<(), Halt>
         requires nest { room + m.old.nest ≡ 2048 }
-        requires bodies { AreComparable env.now (values ctx.now) (body_list (defs_of f)) (body_list (defs_of g)) }
-        ensures tracks { Tracks (values ctx.now) (DefsBeyond (defs_of f.entry) (defs_of g.entry)) (λ c. entering c (lifted_types 0 (type_list (defs_of f.entry))) (λ d. run_all (each_equal (compare env.now (test_of env.now) room) d (body_list (defs_of f.entry)) (body_list (defs_of g.entry))))) result m.old m.new }
+        requires bodies { AreComparable at.now.env.now (values at.now.ctx.now) (body_list (defs_of f)) (body_list (defs_of g)) }
+        ensures tracks { Tracks (values at.now.ctx.now) (DefsBeyond (defs_of f.entry) (defs_of g.entry)) (λ c. entering c (lifted_types 0 (type_list (defs_of f.entry))) (λ d. run_all (each_equal (compare at.now.env.now (test_of at.now.env.now) room) d (body_list (defs_of f.entry)) (body_list (defs_of g.entry))))) result m.old m.new }
     {
         let left = bodies(alloc, f.defs)?;
         let right = bodies(alloc, g.defs)?;
-        let inner = assume_definitions(alloc, ctx, f.defs)?;
+        let inner = assume_definitions(alloc, at.ctx, f.defs)?;
+        let setting = Setting::new(at.env, &inner, at.tables);
         let ts = body_parts(f, &left);
         let us = body_parts(g, &right);
-        self.each(alloc, env, &inner, room, ts, us, m)
+        self.each(alloc, &setting, room, ts, us, m)
     }
 }

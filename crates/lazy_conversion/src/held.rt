@@ -10,13 +10,11 @@ ghost use Rattle.reduce_machine.specs.Seen.{argument_term, seen_term, IsSeen};
 ghost use Rattle.lazy_conversion.specs.Sound.{IsSound};
 ghost use Rattle.lazy_conversion.specs.Held.{held_term, IsHeld};
 
-use pc_rules::context::Ctx;
-use pc_rules::environment::Env;
 use pc_rules::meter::Meter;
 use pc_rules::stop::Stop;
 use reduce_machine::seen::{Argument, Seen};
+use reduce_machine::setting::Setting;
 use reduce_machine::values::Value;
-use reduce_machine::weak::weak_value;
 use std::alloc::Global;
 
 /// A value that was made now, or one that was at hand.
@@ -43,22 +41,21 @@ impl<'a> Held<'a> {
 /// The weak-head normal form of an argument, of which nothing is read. Each weak-head step takes a unit; a value has none.
 pub(crate) fn reduce<'a>(
     alloc: Global,
-    env: &Env,
-    ctx: &Ctx,
+    at: &Setting<'_>,
     a: Argument<'a>,
     m: &mut Meter,
 ) -> Result<Held<'a>, Stop>
-    requires sound { IsSound env.now (values ctx.now) a }
-    ensures follows { Follows (reduced env.now (values ctx.now) (argument_term a.entry) m.old.account) (halted (map_ok held_term result)) m.old m.new }
+    requires sound { IsSound at.now.env.now (values at.now.ctx.now) a }
+    ensures follows { Follows (reduced at.now.env.now (values at.now.ctx.now) (argument_term a.entry) m.old.account) (halted (map_ok held_term result)) m.old m.new }
     ensures held { IfOk result IsHeld }
-    ensures normal { IfOk result (λ h. weak_next env.now (values ctx.now) (held_term h) ≡ None) }
-    ensures beyond { IfOk result (λ h. IsTrue (is_beyond (held_term h)) → IsTrue (reduced env.now (values ctx.now) (argument_term a.entry) m.old.account).deep) }
-    ensures reached { IfOk result (λ h. WeakSteps env.now (values ctx.now) (argument_term a.entry) (held_term h)) }
+    ensures normal { IfOk result (λ h. weak_next at.now.env.now (values at.now.ctx.now) (held_term h) ≡ None) }
+    ensures beyond { IfOk result (λ h. IsTrue (is_beyond (held_term h)) → IsTrue (reduced at.now.env.now (values at.now.ctx.now) (argument_term a.entry) m.old.account).deep) }
+    ensures reached { IfOk result (λ h. WeakSteps at.now.env.now (values at.now.ctx.now) (argument_term a.entry) (held_term h)) }
 {
     match a {
         Argument::Lazy(l) => {
             let l = l.share()?;
-            let value = weak_value(alloc, env, ctx, l, m)?;
+            let value = at.weak_value(alloc, l, m)?;
             Ok(Held::Made(value))
         }
         Argument::Value(seen) => Ok(Held::Given(seen)),

@@ -5,11 +5,14 @@
 //! weak-head normal form is a head with arguments that nobody has read, and these are compared in turn. Whether two of them are one tree is decided
 //! under their bindings (`sameness`, `same_values`). What stands below binders (codomains, bodies, predicates, branches) is read where it isn't seen to
 //! be the same, and then compared as a plain term; and a refusal reads the two terms that it keeps.
+//! From the first spine inwards, what bindings were reduced to is kept from one reduction to the next in the same context (`Setting::keeping`).
 //! A comparison knows of its context only the values of variables: so a longer context has placeholders, and no types of entries are made.
+//! Hints on inlining hold down what a rule takes of the stack, of which 2,048 must fit: as built, below four kilobytes (measured and not proved).
 //!
 //! Below stand `reduce_machine` (values), `reduction` (terms around a scrutinee), `conversion` (sorts, kinds of heads), `rule_laws` and
 //! `instances` (laws on counts, families of blocks), `pc_rules` (the definitions, the trait), `calculus_rules`, `pc_terms`, `trees` and
-//! `universe_levels`; above, `env_check` and the `driver`, which compare by it.
+//! `universe_levels`; above, `env_check` and the `driver`, which compare by it, and `type_cert`, which goes along scripts by what
+//! is known here of values.
 #![tactic(auto)]
 
 mod assumptions;
@@ -18,12 +21,12 @@ mod fixpoints;
 mod held;
 mod lists;
 mod matches;
-mod part;
+pub mod part;
 mod places;
-mod same_values;
-mod sameness;
-mod shapes;
-mod spine_heads;
+pub mod same_values;
+pub mod sameness;
+pub mod shapes;
+pub mod spine_heads;
 mod spines;
-mod stuck;
+pub mod stuck;
 mod units;

@@ -11,12 +11,11 @@ ghost use Rattle.lazy_conversion.specs.Tracks.{Tracks, AnyBeyond};
 use crate::comparison::LazyCompare;
 use crate::part::Part;
 use conversion::mode::Mode;
-use pc_rules::context::Ctx;
-use pc_rules::environment::Env;
 use pc_rules::meter::Meter;
 use pc_rules::stop::Halt;
 use pc_terms::term::Terms;
 use reduce_machine::bindings::Bindings;
+use reduce_machine::setting::Setting;
 use std::alloc::Global;
 
 /// Terms under bindings, each below `under` variables of its own.
@@ -33,16 +32,15 @@ impl LazyCompare {
     pub(crate) fn each(
         &self,
         alloc: Global,
-        env: &Env,
-        ctx: &Ctx,
+        at: &Setting<'_>,
         room: u32,
         ts: Parts<'_>,
         us: Parts<'_>,
         m: &mut Meter,
     ) -> Result<(), Halt>
         requires nest { room + m.old.nest ≡ 2048 }
-        requires comparable { AreComparable env.now (values ctx.now) (read_list ts) (read_list us) }
-        ensures tracks { Tracks (values ctx.now) (AnyBeyond (read_list ts.entry) (read_list us.entry)) (λ c. run_all (each_equal (compare env.now (test_of env.now) room) c (read_list ts.entry) (read_list us.entry))) result m.old m.new }
+        requires comparable { AreComparable at.now.env.now (values at.now.ctx.now) (read_list ts) (read_list us) }
+        ensures tracks { Tracks (values at.now.ctx.now) (AnyBeyond (read_list ts.entry) (read_list us.entry)) (λ c. run_all (each_equal (compare at.now.env.now (test_of at.now.env.now) room) c (read_list ts.entry) (read_list us.entry))) result m.old m.new }
     {
         let lefts = ts.terms.as_slice();
         let rights = us.terms.as_slice();
@@ -58,7 +56,7 @@ impl LazyCompare {
                 under: us.under,
                 env: us.env,
             };
-            self.part(alloc, env, ctx, room, Mode::Equal, left, right, m)?;
+            self.part(alloc, at, room, Mode::Equal, left, right, m)?;
         }
         Ok(())
     }

@@ -24,13 +24,12 @@ use calculus_rules::declaration::{Constructors, Family};
 use conversion::mode::Mode;
 use instances::kept::kept_family;
 use pc_rules::broken::Broken;
-use pc_rules::context::Ctx;
-use pc_rules::environment::Env;
 use pc_rules::meter::Meter;
 use pc_rules::stop::Halt;
 use pc_terms::term::Branch;
 use reduce_machine::bindings::Bindings;
 use reduce_machine::seen::Argument;
+use reduce_machine::setting::Setting;
 use std::alloc::Global;
 
 impl<'a> Stuck<'a> {
@@ -71,49 +70,48 @@ fn body<'a>(arm: &'a Branch, env: &'a Bindings) -> Part<'a>
 impl LazyCompare {
     /// The parts of two matches: parameters, predicates, scrutinees, branches.
     #[cycle(compare)]
+    #[inline(never)]
     pub(crate) fn matches(
         &self,
         alloc: Global,
-        env: &Env,
-        ctx: &Ctx,
+        at: &Setting<'_>,
         room: u32,
         x: Stuck<'_>,
         y: Stuck<'_>,
         m: &mut Meter,
     ) -> Result<(), Halt>
         requires nest { room + m.old.nest ≡ 2048 }
-        requires left { IsNormal env.now (values ctx.now) x.scrut }
-        requires right { IsNormal env.now (values ctx.now) y.scrut }
-        requires comparable { AreComparable env.now (values ctx.now) (match_term x ∷ []) (match_term y ∷ []) }
-        ensures tracks { Tracks (values ctx.now) (EitherBeyond (match_term x.entry) (match_term y.entry)) (stuck_equal env.now (compare env.now (test_of env.now) room) (match_of x.entry) (match_of y.entry)) result m.old m.new }
+        requires left { IsNormal at.now.env.now (values at.now.ctx.now) x.scrut }
+        requires right { IsNormal at.now.env.now (values at.now.ctx.now) y.scrut }
+        requires comparable { AreComparable at.now.env.now (values at.now.ctx.now) (match_term x ∷ []) (match_term y ∷ []) }
+        ensures tracks { Tracks (values at.now.ctx.now) (EitherBeyond (match_term x.entry) (match_term y.entry)) (stuck_equal at.now.env.now (compare at.now.env.now (test_of at.now.env.now) room) (match_of x.entry) (match_of y.entry)) result m.old m.new }
     {
-        let Some(family) = kept_family(env, x.outer.family) else {
+        let Some(family) = kept_family(at.env, x.outer.family) else {
             return Err(Halt::Broken(Broken::UnknownName {
                 name: x.outer.family.block,
             }));
         };
-        self.each(alloc, env, ctx, room, x.params(), y.params(), m)?;
-        self.predicates(alloc, env, ctx, room, family, x, y, m)?;
+        self.each(alloc, at, room, x.params(), y.params(), m)?;
+        self.predicates(alloc, at, room, family, x, y, m)?;
         self.compare(
             alloc,
-            env,
-            ctx,
+            at,
             room,
             Mode::Equal,
             Argument::Value(x.scrut),
             Argument::Value(y.scrut),
             m,
         )?;
-        self.branches(alloc, env, ctx, room, &family.ctors, x, y, m)
+        self.branches(alloc, at, room, &family.ctors, x, y, m)
     }
 
     /// The predicates of two matches, under as many entries as the family has indices, and one for the scrutinee.
     #[cycle(compare)]
+    #[inline(never)]
     fn predicates(
         &self,
         alloc: Global,
-        env: &Env,
-        ctx: &Ctx,
+        at: &Setting<'_>,
         room: u32,
         family: &Family,
         x: Stuck<'_>,
@@ -121,14 +119,14 @@ impl LazyCompare {
         m: &mut Meter,
     ) -> Result<(), Halt>
         requires nest { room + m.old.nest ≡ 2048 }
-        requires comparable { AreComparable env.now (values ctx.now) (match_term x ∷ []) (match_term y ∷ []) }
-        ensures tracks { (Ps : List Term) → Tracks (values ctx.now) (EitherBeyond (match_term x.entry) (match_term y.entry)) (λ c. entering c (predicate_entries x.entry.outer.now.family (with_parameters Ps family.now) (match_of x.entry).params) (λ d. compare env.now (test_of env.now) room d true (match_of x.entry).ret (match_of y.entry).ret)) result m.old m.new }
+        requires comparable { AreComparable at.now.env.now (values at.now.ctx.now) (match_term x ∷ []) (match_term y ∷ []) }
+        ensures tracks { (Ps : List Term) → Tracks (values at.now.ctx.now) (EitherBeyond (match_term x.entry) (match_term y.entry)) (λ c. entering c (predicate_entries x.entry.outer.now.family (with_parameters Ps family.now) (match_of x.entry).params) (λ d. compare at.now.env.now (test_of at.now.env.now) room d true (match_of x.entry).ret (match_of y.entry).ret)) result m.old m.new }
     {
-        let inner = assume_indices(alloc, ctx, family)?;
+        let inner = assume_indices(alloc, at.ctx, family)?;
+        let setting = Setting::new(at.env, &inner, at.tables);
         self.part(
             alloc,
-            env,
-            &inner,
+            &setting,
             room,
             Mode::Equal,
             x.predicate(),
@@ -139,11 +137,11 @@ impl LazyCompare {
 
     /// The bodies of the branches of two matches, each under as many entries as its constructor has arguments.
     #[cycle(compare)]
+    #[inline(never)]
     fn branches(
         &self,
         alloc: Global,
-        env: &Env,
-        ctx: &Ctx,
+        at: &Setting<'_>,
         room: u32,
         ctors: &Constructors,
         x: Stuck<'_>,
@@ -151,18 +149,19 @@ impl LazyCompare {
         m: &mut Meter,
     ) -> Result<(), Halt>
         requires nest { room + m.old.nest ≡ 2048 }
-        requires comparable { AreComparable env.now (values ctx.now) (match_term x ∷ []) (match_term y ∷ []) }
-        ensures tracks { Tracks (values ctx.now) (EitherBeyond (match_term x.entry) (match_term y.entry)) (arms_equal (compare env.now (test_of env.now) room) ctors.now (match_of x.entry) (match_of y.entry)) result m.old m.new }
+        requires comparable { AreComparable at.now.env.now (values at.now.ctx.now) (match_term x ∷ []) (match_term y ∷ []) }
+        ensures tracks { Tracks (values at.now.ctx.now) (EitherBeyond (match_term x.entry) (match_term y.entry)) (arms_equal (compare at.now.env.now (test_of at.now.env.now) room) ctors.now (match_of x.entry) (match_of y.entry)) result m.old m.new }
     {
         let listed = ctors.as_slice();
         let xs = x.outer.branches.as_slice();
         let ys = y.outer.branches.as_slice();
         let count = listed.len().min(xs.len().min(ys.len()));
         for i in 0..count {
-            let inner = assume_arguments(alloc, ctx, &listed[i])?;
+            let inner = assume_arguments(alloc, at.ctx, &listed[i])?;
+            let setting = Setting::new(at.env, &inner, at.tables);
             let left = body(&xs[i], x.env);
             let right = body(&ys[i], y.env);
-            self.part(alloc, env, &inner, room, Mode::Equal, left, right, m)?;
+            self.part(alloc, &setting, room, Mode::Equal, left, right, m)?;
         }
         Ok(())
     }

@@ -61,13 +61,10 @@ fn same_read(alloc: Global, a: Argument<'_>, b: Argument<'_>) -> Result<bool, Ma
     Ok(left.same(&right))
 }
 
-/// Whether two arguments are one tree. Where one is a value and the other is none, both are read.
+/// Whether two arguments are one tree. Where one is a value and the other is none, both are read. `TooDeep` only where one of them is beyond the limits
+/// of terms, and else `Memory`.
 #[cycle(same)]
-pub(crate) fn same_arguments(
-    alloc: Global,
-    a: Argument<'_>,
-    b: Argument<'_>,
-) -> Result<bool, MakeFault>
+pub fn same_arguments(alloc: Global, a: Argument<'_>, b: Argument<'_>) -> Result<bool, MakeFault>
     requires left { IsSeenArgument a }
     requires right { IsSeenArgument b }
     ensures ok { IfOk result (λ r. IsTrue r ↔ (argument_term a.entry ≡ argument_term b.entry)) }
@@ -121,9 +118,9 @@ fn same_seen(alloc: Global, x: Seen<'_>, y: Seen<'_>) -> Result<bool, MakeFault>
     Ok(true)
 }
 
-/// Whether the heads of two values are one tree.
+/// Whether the heads of two values are one tree. `TooDeep` only where one of the values is beyond the limits of terms, and else `Memory`.
 #[cycle(same)]
-fn same_heads(alloc: Global, x: Seen<'_>, y: Seen<'_>) -> Result<bool, MakeFault>
+pub fn same_heads(alloc: Global, x: Seen<'_>, y: Seen<'_>) -> Result<bool, MakeFault>
     requires left { IsSeen x }
     requires right { IsSeen y }
     ensures ok { IfOk result (λ r. IsTrue r ↔ (head (seen_term x.entry) ≡ head (seen_term y.entry))) }

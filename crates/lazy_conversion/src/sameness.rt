@@ -47,7 +47,12 @@ pub fn same_parts(a: Part<'_>, b: Part<'_>) -> Result<bool, MakeFault>
 }
 
 /// Whether two matches under bindings are the same but for their scrutinees. `TooDeep` only where both are beyond the limits of terms.
-pub fn same_around(x: &Match, xs: &Bindings, y: &Match, ys: &Bindings) -> Result<bool, MakeFault>
+pub(crate) fn same_around(
+    x: &Match,
+    xs: &Bindings,
+    y: &Match,
+    ys: &Bindings,
+) -> Result<bool, MakeFault>
     ensures ok { IfOk result (λ r. (t u : Term) → same (read_around x.now xs.now.items t) (read_around y.now ys.now.items u) ≡ (r && same t u)) }
     ensures too_deep { IfErr result (λ e. (e ≡ TooDeep) × ((t u : Term) → IsBeyond (read_around x.now xs.now.items t) × IsBeyond (read_around y.now ys.now.items u))) }
 {

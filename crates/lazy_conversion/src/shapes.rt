@@ -13,14 +13,14 @@ use universe_levels::sort::Sort;
 
 /// A product or a lambda: its domain, and what stands below its variable.
 #[derive(Clone, Copy, Drop)]
-pub(crate) struct Binder<'a> {
-    pub(crate) domain: Part<'a>,
-    pub(crate) body: Part<'a>,
+pub struct Binder<'a> {
+    pub domain: Part<'a>,
+    pub body: Part<'a>,
 }
 
 /// A value by its former.
 #[derive(Clone, Copy, Drop)]
-pub(crate) enum Shape<'a> {
+pub enum Shape<'a> {
     Sort(&'a Sort),
     Product(Binder<'a>),
     Lambda(Binder<'a>),
@@ -64,7 +64,7 @@ fn head_shape(l: &Lazy) -> Shape<'_>
 }
 
 /// The kind of a value.
-pub(crate) fn shape_of(x: Seen<'_>) -> Shape<'_>
+pub fn shape_of(x: Seen<'_>) -> Shape<'_>
     requires { IsSeen x }
     ensures is { IsShape (seen_term x.entry) result }
 {

@@ -48,7 +48,7 @@ pub(crate) fn code(head: &Head) -> &Lazy
 }
 
 /// Whether two values have as many arguments, and heads of one kind. Takes no memory.
-pub(crate) fn fit(x: Seen<'_>, y: Seen<'_>) -> bool
+pub fn fit(x: Seen<'_>, y: Seen<'_>) -> bool
     requires left { IsSeen x }
     requires right { IsSeen y }
     ensures is { result ≡ ((length (args (seen_term x.entry)) == length (args (seen_term y.entry))) && alike (head (seen_term x.entry)) (head (seen_term y.entry))) }

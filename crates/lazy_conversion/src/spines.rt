@@ -18,12 +18,11 @@ use crate::spine_heads::fit;
 use crate::stuck::{fixpoint, stuck_match};
 use conversion::mode::Mode;
 use pc_rules::broken::{Broken, Clash};
-use pc_rules::context::Ctx;
-use pc_rules::environment::Env;
 use pc_rules::meter::Meter;
 use pc_rules::stop::Halt;
 use pc_terms::term::MakeFault;
 use reduce_machine::seen::Seen;
+use reduce_machine::setting::Setting;
 use std::alloc::Global;
 
 /// The clash of two values, which are read.
@@ -39,30 +38,32 @@ fn clash_of(alloc: Global, x: Seen<'_>, y: Seen<'_>) -> Result<Clash, MakeFault>
 }
 
 impl LazyCompare {
-    /// Two spines: their heads, and their arguments from left to right.
+    /// Two spines: their heads, and their arguments from left to right. What is reduced for one argument is kept for those that follow, and for what
+    /// they lead to, as where two numbers are compared successor by successor.
     #[cycle(compare)]
+    #[inline(never)]
     pub(crate) fn spines(
         &self,
         alloc: Global,
-        env: &Env,
-        ctx: &Ctx,
+        at: &Setting<'_>,
         room: u32,
         x: Seen<'_>,
         y: Seen<'_>,
         m: &mut Meter,
     ) -> Result<(), Halt>
         requires nest { room + m.old.nest ≡ 2048 }
-        requires left { IsNormal env.now (values ctx.now) x }
-        requires right { IsNormal env.now (values ctx.now) y }
-        requires comparable { AreComparable env.now (values ctx.now) (seen_term x ∷ []) (seen_term y ∷ []) }
-        ensures tracks { Tracks (values ctx.now) (EitherBeyond (seen_term x.entry) (seen_term y.entry)) (λ c. spines_equal env.now (compare env.now (test_of env.now) room) c (seen_term x.entry) (seen_term y.entry)) result m.old m.new }
+        requires left { IsNormal at.now.env.now (values at.now.ctx.now) x }
+        requires right { IsNormal at.now.env.now (values at.now.ctx.now) y }
+        requires comparable { AreComparable at.now.env.now (values at.now.ctx.now) (seen_term x ∷ []) (seen_term y ∷ []) }
+        ensures tracks { Tracks (values at.now.ctx.now) (EitherBeyond (seen_term x.entry) (seen_term y.entry)) (λ c. spines_equal at.now.env.now (compare at.now.env.now (test_of at.now.env.now) room) c (seen_term x.entry) (seen_term y.entry)) result m.old m.new }
     {
         if !fit(x, y) {
             let clash = clash_of(alloc, x, y)?;
             return Err(Halt::Broken(Broken::NotBelow { clash }));
         }
-        self.heads(alloc, env, ctx, room, x, y, m)?;
-        self.arguments(alloc, env, ctx, room, x, y, m)
+        self.heads(alloc, at, room, x, y, m)?;
+        let keeping = at.keeping(alloc)?;
+        self.arguments(alloc, &keeping, room, x, y, m)
     }
 
     /// The heads of two values.
@@ -70,26 +71,25 @@ impl LazyCompare {
     fn heads(
         &self,
         alloc: Global,
-        env: &Env,
-        ctx: &Ctx,
+        at: &Setting<'_>,
         room: u32,
         x: Seen<'_>,
         y: Seen<'_>,
         m: &mut Meter,
     ) -> Result<(), Halt>
         requires nest { room + m.old.nest ≡ 2048 }
-        requires left { IsNormal env.now (values ctx.now) x }
-        requires right { IsNormal env.now (values ctx.now) y }
-        requires comparable { AreComparable env.now (values ctx.now) (seen_term x ∷ []) (seen_term y ∷ []) }
-        ensures tracks { Tracks (values ctx.now) (EitherBeyond (seen_term x.entry) (seen_term y.entry)) (λ c. heads_equal env.now (compare env.now (test_of env.now) room) c (head (seen_term x.entry)) (head (seen_term y.entry))) result m.old m.new }
+        requires left { IsNormal at.now.env.now (values at.now.ctx.now) x }
+        requires right { IsNormal at.now.env.now (values at.now.ctx.now) y }
+        requires comparable { AreComparable at.now.env.now (values at.now.ctx.now) (seen_term x ∷ []) (seen_term y ∷ []) }
+        ensures tracks { Tracks (values at.now.ctx.now) (EitherBeyond (seen_term x.entry) (seen_term y.entry)) (λ c. heads_equal at.now.env.now (compare at.now.env.now (test_of at.now.env.now) room) c (head (seen_term x.entry)) (head (seen_term y.entry))) result m.old m.new }
     {
         let Some(f) = stuck_match(x) else {
-            return self.recursive_heads(alloc, env, ctx, room, x, y, m);
+            return self.recursive_heads(alloc, at, room, x, y, m);
         };
         let Some(g) = stuck_match(y) else {
             return Ok(());
         };
-        self.matches(alloc, env, ctx, room, f, g, m)
+        self.matches(alloc, at, room, f, g, m)
     }
 
     /// The heads of two values, of which the left one is no match.
@@ -97,19 +97,18 @@ impl LazyCompare {
     fn recursive_heads(
         &self,
         alloc: Global,
-        env: &Env,
-        ctx: &Ctx,
+        at: &Setting<'_>,
         room: u32,
         x: Seen<'_>,
         y: Seen<'_>,
         m: &mut Meter,
     ) -> Result<(), Halt>
         requires nest { room + m.old.nest ≡ 2048 }
-        requires left { IsNormal env.now (values ctx.now) x }
-        requires right { IsNormal env.now (values ctx.now) y }
+        requires left { IsNormal at.now.env.now (values at.now.ctx.now) x }
+        requires right { IsNormal at.now.env.now (values at.now.ctx.now) y }
         requires other { IsMatchNode (head (seen_term x)) → ⊥ }
-        requires comparable { AreComparable env.now (values ctx.now) (seen_term x ∷ []) (seen_term y ∷ []) }
-        ensures tracks { Tracks (values ctx.now) (EitherBeyond (seen_term x.entry) (seen_term y.entry)) (λ c. heads_equal env.now (compare env.now (test_of env.now) room) c (head (seen_term x.entry)) (head (seen_term y.entry))) result m.old m.new }
+        requires comparable { AreComparable at.now.env.now (values at.now.ctx.now) (seen_term x ∷ []) (seen_term y ∷ []) }
+        ensures tracks { Tracks (values at.now.ctx.now) (EitherBeyond (seen_term x.entry) (seen_term y.entry)) (λ c. heads_equal at.now.env.now (compare at.now.env.now (test_of at.now.env.now) room) c (head (seen_term x.entry)) (head (seen_term y.entry))) result m.old m.new }
     {
         let Some(f) = fixpoint(x) else {
             return Ok(());
@@ -117,7 +116,7 @@ impl LazyCompare {
         let Some(g) = fixpoint(y) else {
             return Ok(());
         };
-        self.fixpoints(alloc, env, ctx, room, f, g, m)
+        self.fixpoints(alloc, at, room, f, g, m)
     }
 
     /// The arguments of two values, one by one.
@@ -125,24 +124,23 @@ impl LazyCompare {
     fn arguments(
         &self,
         alloc: Global,
-        env: &Env,
-        ctx: &Ctx,
+        at: &Setting<'_>,
         room: u32,
         x: Seen<'_>,
         y: Seen<'_>,
         m: &mut Meter,
     ) -> Result<(), Halt>
         requires nest { room + m.old.nest ≡ 2048 }
-        requires left { IsNormal env.now (values ctx.now) x }
-        requires right { IsNormal env.now (values ctx.now) y }
-        requires comparable { AreComparable env.now (values ctx.now) (seen_term x ∷ []) (seen_term y ∷ []) }
-        ensures tracks { Tracks (values ctx.now) (EitherBeyond (seen_term x.entry) (seen_term y.entry)) (λ c. run_all (each_equal (compare env.now (test_of env.now) room) c (args (seen_term x.entry)) (args (seen_term y.entry)))) result m.old m.new }
+        requires left { IsNormal at.now.env.now (values at.now.ctx.now) x }
+        requires right { IsNormal at.now.env.now (values at.now.ctx.now) y }
+        requires comparable { AreComparable at.now.env.now (values at.now.ctx.now) (seen_term x ∷ []) (seen_term y ∷ []) }
+        ensures tracks { Tracks (values at.now.ctx.now) (EitherBeyond (seen_term x.entry) (seen_term y.entry)) (λ c. run_all (each_equal (compare at.now.env.now (test_of at.now.env.now) room) c (args (seen_term x.entry)) (args (seen_term y.entry)))) result m.old m.new }
     {
         let count = x.count().min(y.count());
         for i in 0..count {
             let left = x.argument(i);
             let right = y.argument(i);
-            self.compare(alloc, env, ctx, room, Mode::Equal, left, right, m)?;
+            self.compare(alloc, at, room, Mode::Equal, left, right, m)?;
         }
         Ok(())
     }

@@ -13,23 +13,23 @@ use reduce_machine::bindings::{Bindings, Lazy};
 use reduce_machine::seen::Seen;
 use reduce_machine::spines::Head;
 
-/// A match that is stuck on a value, under its bindings.
+/// A match that is stuck on a value, under its bindings: `outer` is the match, whose variables `env` binds, and `scrut` what its scrutinee came to.
 #[derive(Clone, Copy, Drop)]
-pub(crate) struct Stuck<'a> {
-    pub(crate) outer: &'a Match,
-    pub(crate) env: &'a Bindings,
-    pub(crate) scrut: Seen<'a>,
+pub struct Stuck<'a> {
+    pub outer: &'a Match,
+    pub env: &'a Bindings,
+    pub scrut: Seen<'a>,
 }
 
-/// The definitions of a fixpoint, under its bindings.
+/// The definitions of a fixpoint, under its bindings: `env` binds the variables behind the definitions.
 #[derive(Clone, Copy, Drop)]
-pub(crate) struct Recursive<'a> {
-    pub(crate) defs: &'a Defs,
-    pub(crate) env: &'a Bindings,
+pub struct Recursive<'a> {
+    pub defs: &'a Defs,
+    pub env: &'a Bindings,
 }
 
-/// The head of a value, where it is a match that is stuck.
-pub(crate) fn stuck_match(x: Seen<'_>) -> Option<Stuck<'_>>
+/// The head of a value, where it is a match that is stuck; none exactly where it is another. Takes no memory.
+pub fn stuck_match(x: Seen<'_>) -> Option<Stuck<'_>>
     requires { IsSeen x }
     ensures is { MatchOption result (IsMatchNode (head (seen_term x.entry)) → ⊥) (λ s. head (seen_term x.entry) ≡ tree_of (Case (match_of s))) }
     ensures scrut { IfSome result (λ s. IsInner x.entry s.scrut) }
@@ -61,8 +61,8 @@ fn definitions(l: &Lazy) -> Option<Recursive<'_>>
     }
 }
 
-/// The head of a value, where it is a fixpoint.
-pub(crate) fn fixpoint(x: Seen<'_>) -> Option<Recursive<'_>>
+/// The head of a value, where it is a fixpoint; none exactly where it is another. Takes no memory.
+pub fn fixpoint(x: Seen<'_>) -> Option<Recursive<'_>>
     requires { IsSeen x }
     ensures is { MatchOption result (IsFixNode (head (seen_term x.entry)) → ⊥) (λ f. (i : ℕ) × (head (seen_term x.entry) ≡ tree_of (Fix (defs_of f) i))) }
 {

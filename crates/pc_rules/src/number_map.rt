@@ -60,15 +60,22 @@ impl<T: Drop> NumberMap<T> {
     pub fn get(&self, number: u32) -> Option<&T>
         ensures at { MatchOption result (at self.now number ≡ None) (λ x. at self.now number ≡ Some x.now) }
     {
-        match &self.root {
-            None => None,
-            Some(rc) => {
-                if number == 0 {
-                    rc.item_ref()
-                } else if number % 2 == 1 {
-                    rc.odd.get(number / 2)
-                } else {
-                    rc.even.get(number / 2 - 1)
+        let mut map = self;
+        let mut rest = number;
+        loop {
+            match &map.root {
+                None => return None,
+                Some(rc) => {
+                    if rest == 0 {
+                        return rc.item_ref();
+                    }
+                    if rest % 2 == 1 {
+                        map = &rc.odd;
+                        rest /= 2;
+                    } else {
+                        map = &rc.even;
+                        rest = rest / 2 - 1;
+                    }
                 }
             }
         }

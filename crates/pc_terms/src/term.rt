@@ -5,7 +5,7 @@ ghost use Rattle.trees.specs.Measures.{depth, loose, IsWithin, IsBeyond};
 ghost use Rattle.pc_terms.specs.Syntax.{HasIndex};
 ghost use Rattle.pc_terms.specs.Formed.{IsFormed};
 ghost use Rattle.pc_terms.specs.View.{tree_of};
-ghost use Rattle.pc_terms.specs.Counted.{number_of};
+ghost use Rattle.pc_terms.specs.Counted.{number_of, loose_of};
 ghost use Rattle.pc_terms.specs.declared.term.MakeFault.TheVariants.{TooDeep, Memory};
 
 use crate::copies::Walk;
@@ -29,13 +29,15 @@ pub struct Term {
     rc: Rc<Inner>,
 }
 
+// With the two counts of its `Rc` it has 120 bytes, and not 8 more: up to there an allocator such as glibc's takes it from lists of freed places of one size.
 #[cycle(term)]
 #[derive(Drop)]
 struct Inner {
-    depth: u32,
-    lifted: Cell<u32>,
-    loose: u64,
+    depth: u16,
+    is_open: bool,
     stamp: Stamp,
+    outermost: u32,
+    lifted: Cell<u32>,
     substituted: Cell<u32>,
     node: Node,
 }
@@ -198,12 +200,12 @@ impl Model for Term {
 
     ghost coded = { coded_term };
 
-    ghost use Rattle.pc_terms.specs.Counted.{IsCounted};
+    ghost use Rattle.pc_terms.specs.Counted.{IsCounted, loose_of};
     ghost use Rattle.pc_terms.specs.View.{tree_of};
 
     ghost view = { λ t. tree_of t.rc.value.node };
 
-    ghost invariant = { λ t. IsCounted t.rc.value.depth t.rc.value.loose t.rc.value.stamp (tree_of t.rc.value.node) };
+    ghost invariant = { λ t. IsCounted t.rc.value.depth (loose_of t.rc.value.is_open t.rc.value.outermost) t.rc.value.stamp (tree_of t.rc.value.node) };
 
     ghost size = { λ t. 2 * depth t };
 }
@@ -235,15 +237,16 @@ impl Term {
         if depth > 2048 {
             return Err(MakeFault::TooDeep);
         }
-        let loose = node.loose();
+        let loose = kept_bound(node.loose());
         let stamp = stamp_of(&node);
         match Rc::new(
             alloc,
             Inner {
-                depth,
-                lifted: Cell::new(0),
-                loose,
+                depth: depth as u16,
+                is_open: loose.0,
                 stamp,
+                outermost: loose.1,
+                lifted: Cell::new(0),
                 substituted: Cell::new(0),
                 node,
             },
@@ -268,7 +271,7 @@ impl Term {
         ensures within { IsWithin self.now }
         ensures formed { IsFormed self.now }
     {
-        self.rc.depth
+        u32::from(self.rc.depth)
     }
 
     /// The least k such that the term is closed below k: no variable that its own binders leave free has a number of k or more.
@@ -279,7 +282,7 @@ impl Term {
         ensures least { (k : ℕ) → Closed k self.now → result ≤ k }
         ensures small { result ≤ 2 ^ 32 }
     {
-        self.rc.loose
+        bound_of(self.rc.is_open, self.rc.outermost)
     }
 
     // Whether the two are seen to share one node, without a walk.
@@ -321,6 +324,27 @@ impl Term {
             Err(_) => Err(MakeFault::Memory),
         }
     }
+}
+
+// A loose bound as a node keeps it: whether there is a variable that no binder of the term binds, and the number of the outermost.
+#[tactic(auto, unfolding(crate::specs::Counted::loose_of))]
+fn kept_bound(loose: u64) -> (bool, u32)
+    requires { loose ≤ 2 ^ 32 }
+    ensures is { loose_of result.0 result.1 ≡ loose }
+{
+    if loose == 0 {
+        (false, 0)
+    } else {
+        (true, (loose - 1) as u32)
+    }
+}
+
+// The loose bound that a node keeps.
+#[tactic(auto, unfolding(crate::specs::Counted::loose_of))]
+fn bound_of(is_open: bool, outermost: u32) -> u64
+    ensures is { result ≡ loose_of is_open outermost }
+{
+    if is_open { u64::from(outermost) + 1 } else { 0 }
 }
 
 // A stamp for the tree of a node.

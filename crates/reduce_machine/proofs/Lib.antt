@@ -19,3 +19,4 @@ pub mod Ending
 pub mod Arms
 pub mod Binding
 pub mod Closing
+pub mod Settings

@@ -17,3 +17,4 @@ pub mod Sought
 pub mod Payment
 pub mod Normal
 pub mod Passed
+pub mod Settings

@@ -9,10 +9,11 @@
 //! Where a variable's term was reduced to a constructor with arguments, or to a term that stands by itself, that is kept with the units that this
 //! took, if there is memory (`reducts`): where the variable is met again, the units are taken, and nothing is reduced. A call keeps at most one
 //! binding, with one term that was read, for each variable that its steps bound; they are let go of with the value. Besides it keeps at most 65,536
-//! entries of a table, each with one binding for each argument of the constructor that it is; they are let go of when the call ends, a full table
-//! is emptied, or another takes the place of one whose binding has gone. What is kept no clause says.
+//! entries of a table, each with one binding for each argument of the constructor that it is; they are let go of when the table is, a full table
+//! is emptied, or another takes the place of one whose binding has gone. What is kept no clause says. The table of `Closures` lives for one call;
+//! the arguments of a value are often reduced next, as by a comparison, and where that is asked for, the table is put away and used there (`setting`).
 //!
-//! What is promised: `weak_value` follows the directed rules exactly, units, `Spent` and `TooDeep` included (`follows`); its value has no step
+//! What is promised: `Setting::weak_value` follows the directed rules exactly, units, `Spent` and `TooDeep` included (`follows`); its value has no step
 //! (`normal`), is joined to the term by weak-head steps (`reached`), and is beyond the limits of terms only where the run has passed them
 //! (`beyond`). `Closures` implements `Reducer` of `pc_rules`, as `Subst` of `reduction` does, by reading such a value (`follows`, `reached`).
 //! No unit is taken for reading back, nor for a look-up in bindings but those of the steps to what is known of the variable.
@@ -32,7 +33,8 @@ mod quick;
 pub mod reading;
 mod reducts;
 pub mod seen;
+pub mod setting;
 pub mod spines;
 mod steps;
 pub mod values;
-pub mod weak;
+mod weak;

@@ -1,15 +1,15 @@
 //! What the terms of bindings were reduced to, with the units that this took.
 //!
-//! A call has a table, and a binding whose term may have a step has an entry there once the term was reduced, as the term of its variable, to what
+//! A reduction has a table, and a binding whose term may have a step has an entry there once the term was reduced, as the term of its variable, to what
 //! can be kept: a head by itself, or a constructor applied to variables that are bound to its arguments; so the arguments are at one place too,
 //! and have entries of their own. Nothing is kept of other values, of bindings that nothing else holds, or where there is no memory for it.
 //! Where the variable is met again, the units of the entry are taken, and nothing is reduced: the directed rules say how many units a run
 //! takes, and not that its work is done again.
 //!
-//! Memory: a table lives for one call and has at most 65,536 entries (2 MB), each with at most one binding for each argument of its constructor; a
-//! full one is emptied. What these bindings lead to was made by the steps of the call, and may live longer by the table: till its end, or till
-//! the binding whose entry it is has gone and the entry's place is taken by another. Two entries are looked at for that when one is put in, in
-//! turn; so where nothing is used twice a table stays small.
+//! Memory: a table lives for one reduction, or for those that share it (`setting`). It has at most 65,536 entries (2 MB), each with at most one
+//! binding for each argument of its constructor; a full one is emptied. What these bindings lead to was made by the steps of these reductions, and
+//! may live longer by the table: till its end, or till the binding whose entry it is has gone and the entry's place is taken by another. Two entries
+//! are looked at for that when one is put in, in turn; so where nothing is used twice a table stays small.
 ghost use Rattle.std.specs.Prelude.{◌≡◌, ◌<◌, ◌≤◌, ◌-◌, [], IfOk, IfErr, IfSome, IsTrue, Some, length, map};
 ghost use Rattle.pc_terms.specs.Syntax.{Term, Rel, apply, put_all, substitute, variables};
 ghost use Rattle.pc_terms.specs.Counted.{number_of};
@@ -77,7 +77,7 @@ pub(crate) struct Made {
     whole: Term,
 }
 
-/// The table of a call; the units left, as they were told last; variable 0; the head that was applied to variables last; and the place of the entry
+/// A table; the units left, as they were told last; variable 0; the head that was applied to variables last; and the place of the entry
 /// that is looked at next, to see whether it's still of use.
 #[derive(Drop)]
 pub(crate) struct Reducts {

@@ -7,7 +7,7 @@ ghost use Rattle.calculus_rules.specs.WeakHead.{WeakSteps};
 ghost use Rattle.pc_rules.specs.DirectedRun.{ticked, is_beyond};
 ghost use Rattle.pc_rules.specs.DirectedWeakHead.{weak_next};
 ghost use Rattle.pc_rules.specs.Follows.{Follows, halted};
-ghost use Rattle.reduce_machine.specs.Reducts.{ticks, AreWaiting};
+ghost use Rattle.reduce_machine.specs.Reducts.{ticks, AreReducts, AreWaiting, IsReady};
 ghost use Rattle.reduce_machine.specs.Layered.{plug};
 ghost use Rattle.reduce_machine.specs.Layers.{layers};
 ghost use Rattle.reduce_machine.specs.Passed.{reduced, map_ok};
@@ -19,7 +19,6 @@ ghost use Rattle.reduce_machine.specs.Values.{term_of, IsValue};
 
 use crate::bindings::Lazy;
 use crate::machine::{Machine, Sought};
-use crate::quick::{is_normal, spine_value};
 use crate::reducts::{Known, Reducts};
 use crate::steps::Step;
 use crate::values::Value;
@@ -78,6 +77,41 @@ fn take_units(units: u64, m: &mut Meter) -> Result<(), Stop>
     Ok(())
 }
 
+/// The weak-head normal form of a term under bindings, by the machine, with a table.
+pub(crate) fn value_with(
+    alloc: Global,
+    env: &Env,
+    ctx: &Ctx,
+    term: Lazy,
+    kept: &mut Reducts,
+    m: &mut Meter,
+) -> Result<Value, Stop>
+    requires ready { IsReady kept.old }
+    requires reducts { AreReducts env.now (values ctx.now) kept.old.entries.items }
+    ensures ready { IfOk result (λ _. IsReady kept.new) }
+    ensures reducts { IfOk result (λ _. AreReducts env.now (values ctx.now) kept.new.entries.items) }
+    ensures follows { Follows (reduced env.now (values ctx.now) (read term) m.old.account) (halted (map_ok term_of result)) m.old m.new }
+    ensures value { IfOk result (λ v. IsValue v) }
+    ensures normal { IfOk result (λ v. weak_next env.now (values ctx.now) (term_of v) ≡ None) }
+    ensures beyond { IfOk result (λ v. IsTrue (is_beyond (term_of v)) → IsTrue (reduced env.now (values ctx.now) (read term) m.old.account).deep) }
+    ensures reached { IfOk result (λ v. WeakSteps env.now (values ctx.now) (read term) (term_of v)) }
+{
+    let mut machine = Machine::of(alloc, term);
+    'steps: loop {
+        let now = m.left();
+        kept.left = now;
+        let sought = machine.seek(alloc, env, ctx, kept)?;
+        match sought {
+            Sought::Step(step) => {
+                paid(alloc, &mut machine, step, m)?;
+                machine.flatten(alloc)?;
+            }
+            Sought::Known(known) => charged(&mut machine, known, m)?,
+            Sought::Value(value) => return Ok(value),
+        }
+    }
+}
+
 /// The weak-head normal form of a term under bindings, by the machine.
 pub(crate) fn reduced_value(
     alloc: Global,
@@ -92,43 +126,7 @@ pub(crate) fn reduced_value(
     ensures beyond { IfOk result (λ v. IsTrue (is_beyond (term_of v)) → IsTrue (reduced env.now (values ctx.now) (read term) m.old.account).deep) }
     ensures reached { IfOk result (λ v. WeakSteps env.now (values ctx.now) (read term) (term_of v)) }
 {
-    let mut machine = Machine::of(alloc, term);
     let units = m.left();
     let mut kept = Reducts::new(alloc, units)?;
-    'steps: loop {
-        let now = m.left();
-        kept.left = now;
-        let sought = machine.seek(alloc, env, ctx, &mut kept)?;
-        match sought {
-            Sought::Step(step) => {
-                paid(alloc, &mut machine, step, m)?;
-                machine.flatten(alloc)?;
-            }
-            Sought::Known(known) => charged(&mut machine, known, m)?,
-            Sought::Value(value) => return Ok(value),
-        }
-    }
-}
-
-/// The weak-head normal form of a term under bindings, of which nothing is read. Each weak-head step takes a unit (PCUIC, weak-head
-/// reduction). `Spent` exactly where the steps have no end within the units left and `TooDeep` did not come. `TooDeep` only where the term
-/// that it is given as, or one of its steps, is beyond the limits of terms in memory.
-pub fn weak_value(
-    alloc: Global,
-    env: &Env,
-    ctx: &Ctx,
-    term: Lazy,
-    m: &mut Meter,
-) -> Result<Value, Stop>
-    ensures follows { Follows (reduced env.now (values ctx.now) (read term) m.old.account) (halted (map_ok term_of result)) m.old m.new }
-    ensures value { IfOk result (λ v. IsValue v) }
-    ensures normal { IfOk result (λ v. weak_next env.now (values ctx.now) (term_of v) ≡ None) }
-    ensures beyond { IfOk result (λ v. IsTrue (is_beyond (term_of v)) → IsTrue (reduced env.now (values ctx.now) (read term) m.old.account).deep) }
-    ensures reached { IfOk result (λ v. WeakSteps env.now (values ctx.now) (read term) (term_of v)) }
-{
-    if is_normal(env, ctx, &term.env, &term.term) {
-        let value = spine_value(alloc, &term)?;
-        return Ok(value);
-    }
-    reduced_value(alloc, env, ctx, term, m)
+    value_with(alloc, env, ctx, term, &mut kept, m)
 }

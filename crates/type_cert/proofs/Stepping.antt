@@ -53,7 +53,7 @@ module _ (E : Env) (V : Values) where
 
 module _ (E : Env) (V : Values) (item : ℕ) where
   -- so many steps where the units for them are there
-  after_walks : (n : ℕ) (t W : Term) (s : WalkState) (o : Option Term) → weak_next E V t ≡ o → after E V n t ≡ Some W → n ≤ s.account.left →
+  pub after_walks : (n : ℕ) (t W : Term) (s : WalkState) (o : Option Term) → weak_next E V t ≡ o → after E V n t ≡ Some W → n ≤ s.account.left →
       (walk_steps E V item n t s).end ≡ Passed W (record { account = record { left = s.account.left - n; uses = s.account.uses }; at = s.at })
   unfolding walk_steps
   after_walks zero t W s o q e l =

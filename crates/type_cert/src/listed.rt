@@ -23,7 +23,7 @@ use pc_terms::term::{Defs, Match, Node, Term};
 use std::alloc::Global;
 
 /// A context with so many more entries, none of which is defined; their type, which nothing reads, is any term. Only `Memory`.
-fn assumed(alloc: Global, ctx: &Ctx, count: usize, ty: &Term) -> Result<Ctx, Stop>
+pub(crate) fn assumed(alloc: Global, ctx: &Ctx, count: usize, ty: &Term) -> Result<Ctx, Stop>
     ensures longer { IfOk result (λ c. values c ≡ under count (values ctx.now)) }
     ensures only_memory { IfErr result (λ e. e ≡ Memory) }
 {
@@ -108,7 +108,7 @@ impl Verifier<'_> {
         for i in 0..parts.len() {
             let part = &parts[i];
             let inner = assumed(alloc, ctx, part.under, &part.left)?;
-            self.script(alloc, &inner, true, &part.left, &part.right, trail)?;
+            self.terms_script(alloc, &inner, true, &part.left, &part.right, trail)?;
         }
         Ok(())
     }

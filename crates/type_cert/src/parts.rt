@@ -21,7 +21,7 @@ pub(crate) struct Part {
 }
 
 /// Whether two families are one.
-fn same_families(f: FamilyId, g: FamilyId) -> bool
+pub(crate) fn same_families(f: FamilyId, g: FamilyId) -> bool
     ensures is { result ≡ same_families f g }
 {
     f.block.0 == g.block.0 && f.family == g.family

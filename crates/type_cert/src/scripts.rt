@@ -1,5 +1,5 @@
 //! Scripts: they show that a term is equal to another, or below it.
-ghost use Rattle.std.specs.Prelude.{◌≡◌, ◌+◌, ◌<◌, ℕ, Bool, length, slice_get, Some, IfOk};
+ghost use Rattle.std.specs.Prelude.{◌≡◌, ◌+◌, ◌<◌, ℕ, Bool, length, slice_get, Some, IfOk, IfSome};
 ghost use Rattle.pc_terms.specs.Syntax.{Prod, Lambda, LetIn, App};
 ghost use Rattle.calculus_rules.specs.Context.{Values, values};
 ghost use Rattle.calculus_rules.specs.Same.{same};
@@ -11,10 +11,12 @@ ghost use Rattle.cert_rules.specs.declared.item.CertItem.TheVariants.{Same, Part
 ghost use Rattle.cert_rules.specs.Scripts.{sorts_at};
 ghost use Rattle.type_cert.specs.Retraces.{Retraces, stand};
 ghost use Rattle.type_cert.specs.Comparable.{AreScriptable, leaf_answer};
+ghost use Rattle.type_cert.specs.Passes.{Passes, pace_of};
 ghost use Rattle.type_cert.specs.Going.{going, scripting, parting, script_steps};
 
 use crate::halt::WalkHalt;
 use crate::numbers::{item_at, steps};
+use crate::pace::Pace;
 use crate::trail::Trail;
 use crate::verifier::Verifier;
 use calculus_rules::entry::Entry;
@@ -23,6 +25,8 @@ use pc_rules::context::Ctx;
 use pc_rules::environment::Env;
 use pc_rules::stop::Stop;
 use pc_terms::term::{Node, Term};
+use reduce_machine::bindings::Lazy;
+use reduce_machine::seen::Argument;
 use std::alloc::Global;
 
 /// Whether two terms are sorts that stand as asked. Takes no memory.
@@ -105,9 +109,68 @@ impl Verifier<'_> {
         steps(alloc, self.env, ctx, item, n, term, trail)
     }
 
-    /// A script for two terms: one more rule that stands, and its item.
-    #[cycle(script)]
+    /// A script for two terms. First it is gone along by values of which nothing is read (`unread`); where it isn't seen to pass so, the terms decide.
     pub fn script(
+        &self,
+        alloc: Global,
+        ctx: &Ctx,
+        equal: bool,
+        a: &Term,
+        b: &Term,
+        trail: &mut Trail,
+    ) -> Result<(), WalkHalt>
+        requires nest { self.now.room + trail.old.meter.nest ≡ 2048 }
+        requires scriptable { AreScriptable self.now.env.now (values ctx.now) a.now b.now }
+        ensures retraces { Retraces (going self.now (values ctx.now) equal a.now b.now (stand trail.old)) result trail.old trail.new }
+    {
+        match self.passes(alloc, ctx, equal, a, b, trail) {
+            Some(pace) => {
+                trail.meter.account.left = pace.left;
+                trail.at = pace.at;
+                Ok(())
+            }
+            None => self.terms_script(alloc, ctx, equal, a, b, trail),
+        }
+    }
+
+    /// Where a script is seen to pass by values of which nothing is read: the pace behind it. A script of one item isn't looked at.
+    fn passes(
+        &self,
+        alloc: Global,
+        ctx: &Ctx,
+        equal: bool,
+        a: &Term,
+        b: &Term,
+        trail: &Trail,
+    ) -> Option<Pace>
+        ensures passes { IfSome result (λ q. Passes (going self.now (values ctx.now) equal a.now b.now) (pace_of trail.now) q) }
+    {
+        if let Some(CertItem::Same) = item_at(self.cert, trail.at) {
+            return None;
+        }
+        let Ok(left) = a.share() else {
+            return None;
+        };
+        let Ok(right) = b.share() else {
+            return None;
+        };
+        let x = Lazy::plain(left);
+        let y = Lazy::plain(right);
+        let mut pace = Pace {
+            left: trail.meter.account.left,
+            at: trail.at,
+        };
+        let left = Argument::Lazy(&x);
+        let right = Argument::Lazy(&y);
+        if self.unread(alloc, ctx, equal, left, right, &mut pace) {
+            return Some(pace);
+        }
+        None
+    }
+
+    /// A script for two terms, which are at hand: one more rule that stands, and its item.
+    #[cycle(script)]
+    pub(crate) fn terms_script(
         &self,
         alloc: Global,
         ctx: &Ctx,
@@ -152,11 +215,11 @@ impl Verifier<'_> {
             Some(CertItem::Same) => self.same_item(equal, a, b, trail),
             Some(CertItem::Left(n)) => {
                 let left = self.stepped(alloc, ctx, n, a, trail)?;
-                self.script(alloc, ctx, equal, &left, b, trail)
+                self.terms_script(alloc, ctx, equal, &left, b, trail)
             }
             Some(CertItem::Right(n)) => {
                 let right = self.stepped(alloc, ctx, n, b, trail)?;
-                self.script(alloc, ctx, equal, a, &right, trail)
+                self.terms_script(alloc, ctx, equal, a, &right, trail)
             }
             Some(CertItem::Parts) => self.parts_item(alloc, ctx, equal, a, b, trail),
             _ => Err(WalkHalt::Barred { item: trail.at }),
@@ -239,9 +302,9 @@ impl Verifier<'_> {
         let Node::Prod(other, target) = b.view() else {
             unreachable!()
         };
-        self.script(alloc, ctx, true, domain, other, trail)?;
+        self.terms_script(alloc, ctx, true, domain, other, trail)?;
         let under = ctx.extended(alloc, Entry::Assumed(domain.share()?))?;
-        self.script(alloc, &under, equal, codomain, target, trail)
+        self.terms_script(alloc, &under, equal, codomain, target, trail)
     }
 
     /// The parts of two lambdas.
@@ -263,9 +326,9 @@ impl Verifier<'_> {
         let Node::Lambda(other, target) = b.view() else {
             unreachable!()
         };
-        self.script(alloc, ctx, true, domain, other, trail)?;
+        self.terms_script(alloc, ctx, true, domain, other, trail)?;
         let under = ctx.extended(alloc, Entry::Assumed(domain.share()?))?;
-        self.script(alloc, &under, true, body, target, trail)
+        self.terms_script(alloc, &under, true, body, target, trail)
     }
 
     /// The parts of two applications.
@@ -287,8 +350,8 @@ impl Verifier<'_> {
         let Node::App(g, y) = b.view() else {
             unreachable!()
         };
-        self.script(alloc, ctx, true, f, g, trail)?;
-        self.script(alloc, ctx, true, x, y, trail)
+        self.terms_script(alloc, ctx, true, f, g, trail)?;
+        self.terms_script(alloc, ctx, true, x, y, trail)
     }
 
     /// The parts of two lets: value, type, and the body under the left value.
@@ -311,13 +374,13 @@ impl Verifier<'_> {
         let Node::LetIn(other, kind, target) = b.view() else {
             unreachable!()
         };
-        self.script(alloc, ctx, true, value, other, trail)?;
-        self.script(alloc, ctx, true, ty, kind, trail)?;
+        self.terms_script(alloc, ctx, true, value, other, trail)?;
+        self.terms_script(alloc, ctx, true, ty, kind, trail)?;
         let entry = Entry::Defined {
             value: value.share()?,
             ty: ty.share()?,
         };
         let under = ctx.extended(alloc, entry)?;
-        self.script(alloc, &under, true, body, target, trail)
+        self.terms_script(alloc, &under, true, body, target, trail)
     }
 }

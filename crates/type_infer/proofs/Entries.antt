@@ -19,6 +19,7 @@ use Rattle.pc_terms.specs.Syntax.{Term, SortT, shift}
 use Rattle.pc_rules.specs.declared.broken.Broken.TheVariants.{UnboundRel, LevelUndeclared}
 use Rattle.calculus_rules.specs.declared.entry.Entry.{Entry}
 use Rattle.pc_rules.specs.declared.meter.Account.{Account}
+use Rattle.pc_rules.specs.declared.stop.Stop.TheVariants.{TooDeep}
 use Rattle.pc_rules.specs.declared.stop.Halt.TheVariants.{Stop, Broken as Refusal}
 use Rattle.calculus_rules.specs.Environment.{Env}
 use Rattle.calculus_rules.specs.Context.{Context, type_of, lifted, type_at}
@@ -90,7 +91,7 @@ passes_from (x ∷ es) zero e l q h =
     or_left (nat_le (2 ^ 32) (x.add + 1)) (passes_limit es) (le-leb (2 ^ 32) (x.add + 1) (subst (λ (y : LevelExpr). 2 ^ 32 ≤ y.add + 1) (sym q) h))
 passes_from (x ∷ es) (suc k) e l q h = or_right (nat_le (2 ^ 32) (x.add + 1)) (passes_limit es) (passes_from es k e (omega arith) q h)
 
-raises : (s : Sort) → PassesLimit s → IsTrue (raises_past s)
+pub raises : (s : Sort) → PassesLimit s → IsTrue (raises_past s)
 raises Prop h = absurd h
 raises (Of u) h = passes_from u h.0 h.1 h.2 h.3 h.4
 
@@ -110,3 +111,6 @@ module _ (E : Env) (s : Sort) (u : Account) where
   pub sort_fault : (f : UniverseFault) → undeclared_in E.levels s ≡ None → (f ≡ TooBig → PassesLimit s) → f ≢ Empty →
       Answers (sort_rule E s u) (Err (Stop (universe_stop f))) u
   sort_fault f e h k = rw (e, bind_done) (raise_answers s f u h k)
+
+  pub sort_past : undeclared_in E.levels s ≡ None → IsTrue (raises_past s) → Answers (sort_rule E s u) (Err (Stop TooDeep)) u
+  sort_past e h = rw (e, bind_done) h

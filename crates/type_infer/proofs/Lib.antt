@@ -9,3 +9,6 @@ pub mod MatchLists
 pub mod Matching
 pub mod Steps
 pub mod Pendings
+pub mod Sorts
+pub mod ClosedPendings
+pub mod MadeTypes

@@ -8,6 +8,7 @@ use Rattle.pc_rules.specs.DirectedRun.{Run, bind}
 use Rattle.pc_rules.specs.Follows.{Follows, Answers}
 use Rattle.pc_rules.proofs.Following.{follows_bind, follows_err, follows_still}
 use Rattle.type_infer.specs.Ready.{done_with}
+use Rattle.type_infer.specs.Unread.{FollowsUnread}
 
 -- a step is done, and the rest follows
 pub and_then : {A B : Type 0} {d : Run A} {a : A} {r : Result B Halt} {m0 m1 m2 : Meter} (k : A → Account → Run B) →
@@ -32,3 +33,15 @@ pub passed_with : {A : Type 0} (r : Result A Halt) {d : Run (Unit {0})} {h : Hal
 passed_with r e f =
     let p = err_from_is_err_and r e in
     rw (p.1, p.2) f
+
+-- a call that leaves its result out
+pub unread_done : {A : Type 0} {d : Run A} {a : A} {m0 m1 : Meter} → Follows d (Ok a) m0 m1 → FollowsUnread d (Ok tt) m0 m1
+unread_done {a = a} f = record { unread = (a, f); after = f.after }
+
+pub unread_halts : {A : Type 0} {d : Run A} {h : Halt} {m0 m1 : Meter} → Follows d (Err h) m0 m1 → FollowsUnread d (Err h) m0 m1
+unread_halts f = record { unread = f; after = f.after }
+
+pub unread_passed : {A : Type 0} {d : Run A} {r : Result (Unit {0}) Halt} {h : Halt} {m0 m1 : Meter} → IsErrAnd r (λ e. e ≡ h) → Follows d (Err h) m0 m1 → FollowsUnread d r m0 m1
+unread_passed {r = r} e f =
+    let p = err_from_is_err_and r e in
+    rw (p.1, p.2) (unread_halts f)

@@ -1,3 +1,4 @@
 pub mod Ready
 pub mod Entering
 pub mod Pending
+pub mod Unread

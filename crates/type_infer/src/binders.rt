@@ -59,7 +59,7 @@ impl<R: Reducer + Drop, C: Converter + Drop, G: Guarder + Drop> Inference<R, C, 
         requires ready { IsReady env.now ctx.now }
         ensures follows { Follows (lambda_rule env.now (infer env.now (test_of env.now) room) ctx.now domain.now body.now m.old.account) result m.old m.new }
     {
-        let _sort = self.sort_at(alloc, env, ctx, room, domain, m)?;
+        self.sorted_at(alloc, env, ctx, room, domain, m)?;
         let under = ctx.extended(alloc, Entry::Assumed(domain.share()?))?;
         let ty = self.infer_at(alloc, env, &under, room, body, m)?;
         Ok(Term::make(alloc, Node::Prod(domain.share()?, ty))?)
@@ -82,7 +82,7 @@ impl<R: Reducer + Drop, C: Converter + Drop, G: Guarder + Drop> Inference<R, C, 
         requires ready { IsReady env.now ctx.now }
         ensures follows { Follows (let_rule env.now (infer env.now (test_of env.now) room) (compare env.now (test_of env.now) room) ctx.now value.now ty.now body.now m.old.account) result m.old m.new }
     {
-        let _sort = self.sort_at(alloc, env, ctx, room, ty, m)?;
+        self.sorted_at(alloc, env, ctx, room, ty, m)?;
         self.check_at(alloc, env, ctx, room, value, ty, m)?;
         let entry = Entry::Defined {
             value: value.share()?,

@@ -7,8 +7,10 @@ ghost use Rattle.pc_rules.specs.WellCounted.{IsCounted};
 ghost use Rattle.pc_rules.specs.DirectedComparison.{compare};
 ghost use Rattle.pc_rules.specs.DirectedTyping.{infer, conv, sort_of, check, retype};
 ghost use Rattle.type_infer.specs.Ready.{IsReady};
+ghost use Rattle.type_infer.specs.Unread.{FollowsUnread, sort_of_type};
 
 use crate::inference::Inference;
+use crate::universes::{is_sort, sort_of_sort, sorts_below};
 use pc_rules::broken::Broken;
 use pc_rules::context::Ctx;
 use pc_rules::converter::Converter;
@@ -50,7 +52,74 @@ impl<R: Reducer + Drop, C: Converter + Drop, G: Guarder + Drop> Inference<R, C, 
         ensures counted { IfOk result (λ _. IsCounted env.now t.now) }
     {
         let ty = self.infer_at(alloc, env, ctx, room, t, m)?;
-        let whnf = self.reducer.whnf(alloc, env, ctx, &ty, m)?;
+        match ty.view() {
+            Node::Sort(s) => Ok(s.share(alloc)?),
+            _ => self.reduced_sort(alloc, env, ctx, room, &ty, m),
+        }
+    }
+
+    /// That a term has a sort, which is not given.
+    #[cycle(infer)]
+    pub(crate) fn sorted_at(
+        &self,
+        alloc: Global,
+        env: &Env,
+        ctx: &Ctx,
+        room: u32,
+        t: &Term,
+        m: &mut Meter,
+    ) -> Result<(), Halt>
+        requires nest { room + m.old.nest ≡ 2048 }
+        requires ready { IsReady env.now ctx.now }
+        ensures follows { FollowsUnread (sort_of env.now (infer env.now (test_of env.now) room) ctx.now t.now m.old.account) result m.old m.new }
+        ensures counted { IfOk result (λ _. IsCounted env.now t.now) }
+    {
+        match t.view() {
+            Node::Sort(s) => sort_of_sort(env, s, m),
+            _ => self.inferred_sorted(alloc, env, ctx, room, t, m),
+        }
+    }
+
+    /// The same, by the term's type.
+    #[cycle(infer)]
+    fn inferred_sorted(
+        &self,
+        alloc: Global,
+        env: &Env,
+        ctx: &Ctx,
+        room: u32,
+        t: &Term,
+        m: &mut Meter,
+    ) -> Result<(), Halt>
+        requires nest { room + m.old.nest ≡ 2048 }
+        requires ready { IsReady env.now ctx.now }
+        ensures follows { FollowsUnread (sort_of env.now (infer env.now (test_of env.now) room) ctx.now t.now m.old.account) result m.old m.new }
+        ensures counted { IfOk result (λ _. IsCounted env.now t.now) }
+    {
+        let ty = self.infer_at(alloc, env, ctx, room, t, m)?;
+        if is_sort(&ty) {
+            return Ok(());
+        }
+        let _sort = self.reduced_sort(alloc, env, ctx, room, &ty, m)?;
+        Ok(())
+    }
+
+    /// The sort of a term by its type's weak-head normal form.
+    #[cycle(infer)]
+    fn reduced_sort(
+        &self,
+        alloc: Global,
+        env: &Env,
+        ctx: &Ctx,
+        room: u32,
+        ty: &Term,
+        m: &mut Meter,
+    ) -> Result<Sort, Halt>
+        requires nest { room + m.old.nest ≡ 2048 }
+        requires ready { IsReady env.now ctx.now }
+        ensures follows { Follows (sort_of_type env.now (infer env.now (test_of env.now) room) ctx.now ty.now m.old.account) result m.old m.new }
+    {
+        let whnf = self.reducer.whnf(alloc, env, ctx, ty, m)?;
         match whnf.view() {
             Node::Sort(s) => {
                 let sort = s.share(alloc)?;
@@ -88,7 +157,7 @@ impl<R: Reducer + Drop, C: Converter + Drop, G: Guarder + Drop> Inference<R, C, 
             return Ok(());
         }
         conv(m)?;
-        let _sort = self.sort_at(alloc, env, ctx, room, ty, m)?;
+        self.sorted_at(alloc, env, ctx, room, ty, m)?;
         self.below(alloc, env, ctx, room, &found, ty, m)
     }
 
@@ -112,11 +181,11 @@ impl<R: Reducer + Drop, C: Converter + Drop, G: Guarder + Drop> Inference<R, C, 
             return Ok(());
         }
         conv(m)?;
-        let _sort = self.sort_at(alloc, env, ctx, room, whnf, m)?;
+        self.sorted_at(alloc, env, ctx, room, whnf, m)?;
         Ok(())
     }
 
-    /// The comparison, by the number of rules that may still stand in one another.
+    /// The comparison, by the number of rules that may still stand in one another. Two sorts are compared here.
     pub(crate) fn below(
         &self,
         alloc: Global,
@@ -133,6 +202,9 @@ impl<R: Reducer + Drop, C: Converter + Drop, G: Guarder + Drop> Inference<R, C, 
         requires right { IsCounted env.now b.now }
         ensures follows { Follows (compare env.now (test_of env.now) room ctx.now false a.now b.now m.old.account) result m.old m.new }
     {
-        self.converter.below(alloc, env, ctx, a, b, m)
+        match (a.view(), b.view()) {
+            (Node::Sort(s), Node::Sort(t)) => sorts_below(alloc, env, a, b, s, t, m),
+            _ => self.converter.below(alloc, env, ctx, a, b, m),
+        }
     }
 }

@@ -6,9 +6,8 @@ ghost use Rattle.pc_rules.specs.Follows.{Halts, Answers};
 ghost use Rattle.calculus_rules.specs.Lookups.{kept_at};
 ghost use Rattle.pc_rules.specs.DirectedTyping.{const_rule, family_number, ind_rule, construct_rule};
 
+use crate::made_types::MadeTypes;
 use calculus_rules::declaration::{Block, Constructor, Family, Kept};
-use instances::instances::constructors::constructor_type;
-use instances::instances::families::family_type;
 use pc_rules::broken::Broken;
 use pc_rules::environment::Env;
 use pc_rules::stop::{Halt, Stop};
@@ -66,11 +65,23 @@ pub fn family_in(block: &Block, id: FamilyId) -> Result<&Family, Halt>
 pub fn ind_rule(alloc: Global, env: &Env, id: FamilyId) -> Result<Term, Halt>
     ensures answers { (u : Account) → Answers (ind_rule env.now id u) result u }
 {
+    family_rule(alloc, &MadeTypes::none(), env, id)
+}
+
+/// The type of a family, rule 8, which is taken from the table where it was made before.
+pub(crate) fn family_rule(
+    alloc: Global,
+    made: &MadeTypes,
+    env: &Env,
+    id: FamilyId,
+) -> Result<Term, Halt>
+    ensures answers { (u : Account) → Answers (ind_rule env.now id u) result u }
+{
     let Some(block) = env.block(id.block) else {
         return Err(Halt::Broken(Broken::UnknownName { name: id.block }));
     };
     let family = family_in(block, id)?;
-    Ok(family_type(alloc, block, family)?)
+    Ok(made.family_type(alloc, id, block, family)?)
 }
 
 /// The type of constructor `number` (from 0) of a family of a whole block, rule 9: the closed product over parameters and arguments that ends in
@@ -78,12 +89,25 @@ pub fn ind_rule(alloc: Global, env: &Env, id: FamilyId) -> Result<Term, Halt>
 pub fn construct_rule(alloc: Global, env: &Env, id: FamilyId, number: u32) -> Result<Term, Halt>
     ensures answers { (u : Account) → Answers (construct_rule env.now id number u) result u }
 {
+    constructor_rule(alloc, &MadeTypes::none(), env, id, number)
+}
+
+/// The type of a constructor, rule 9, which is taken from the table where it was made before.
+pub(crate) fn constructor_rule(
+    alloc: Global,
+    made: &MadeTypes,
+    env: &Env,
+    id: FamilyId,
+    number: u32,
+) -> Result<Term, Halt>
+    ensures answers { (u : Account) → Answers (construct_rule env.now id number u) result u }
+{
     let Some(block) = env.whole_block(id.block) else {
         return Err(Halt::Broken(Broken::UnknownName { name: id.block }));
     };
     let family = family_in(block, id)?;
     match constructor_at(family, number) {
-        Some(ctor) => Ok(constructor_type(alloc, id, block, ctor)?),
+        Some(ctor) => Ok(made.constructor_type(alloc, id, number, block, ctor)?),
         None => Err(bad_number(number, family.ctors.len())),
     }
 }

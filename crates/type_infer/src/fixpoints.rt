@@ -105,7 +105,7 @@ impl<R: Reducer + Drop, C: Converter + Drop, G: Guarder + Drop> Inference<R, C, 
         let mut under = ctx.share()?;
         for i in 0..count {
             let ty = items[i as usize].ty.lift(alloc, i, 0)?;
-            let _sort = self.sort_at(alloc, env, &under, room, &ty, m)?;
+            self.sorted_at(alloc, env, &under, room, &ty, m)?;
             under = under.extended(alloc, Entry::Assumed(ty))?;
         }
         Ok(under)

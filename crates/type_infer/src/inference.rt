@@ -9,8 +9,9 @@ ghost use Rattle.pc_rules.specs.DirectedTyping.{infer, rule, rule_number};
 ghost use Rattle.rule_laws.specs.Inference.{IsInferred};
 ghost use Rattle.type_infer.specs.Ready.{IsReady};
 
-use crate::declared::{const_rule, construct_rule, ind_rule};
+use crate::declared::{const_rule, constructor_rule, family_rule};
 use crate::leaves::{rel_rule, sort_rule};
+use crate::made_types::MadeTypes;
 use pc_rules::context::Ctx;
 use pc_rules::converter::Converter;
 use pc_rules::environment::Env;
@@ -30,6 +31,7 @@ pub struct Inference<R: Drop, C: Drop, G: Drop> {
     pub(crate) reducer: R,
     pub(crate) converter: C,
     pub(crate) guarder: G,
+    made: MadeTypes,
 }
 
 impl<R: Reducer + Drop, C: Converter + Drop, G: Guarder + Drop> Typer for Inference<R, C, G> {
@@ -105,6 +107,7 @@ impl<R: Reducer + Drop, C: Converter + Drop, G: Guarder + Drop> Inference<R, C, 
             reducer,
             converter,
             guarder,
+            made: MadeTypes::new(),
         }
     }
 
@@ -160,8 +163,8 @@ impl<R: Reducer + Drop, C: Converter + Drop, G: Guarder + Drop> Inference<R, C, 
             Node::LetIn(b, ty, t) => self.let_rule(alloc, env, ctx, room, b, ty, t, m),
             Node::App(f, a) => self.app_rule(alloc, env, ctx, room, f, a, m),
             Node::Const(k) => const_rule(env, *k),
-            Node::Ind(f) => ind_rule(alloc, env, *f),
-            Node::Construct(f, c) => construct_rule(alloc, env, *f, *c),
+            Node::Ind(f) => family_rule(alloc, &self.made, env, *f),
+            Node::Construct(f, c) => constructor_rule(alloc, &self.made, env, *f, *c),
             Node::Case(x) => self.case_rule(alloc, env, ctx, room, x, m),
             Node::Fix(ds, i) => self.fix_rule(alloc, env, ctx, room, t, ds, *i, m),
         }

@@ -45,7 +45,7 @@ fn first_undeclared(levels: u32, parts: &[LevelExpr]) -> Option<Level>
 }
 
 /// The first level of a sort above `levels`, the number of levels that are declared; none where all are declared.
-fn undeclared_in(levels: u32, s: &Sort) -> Option<Level>
+pub(crate) fn undeclared_in(levels: u32, s: &Sort) -> Option<Level>
     ensures is { result ≡ undeclared_in levels s.now }
 {
     match s {

@@ -8,8 +8,9 @@
 //! The rules call one another, and only the number of rules that may still stand falls, so they are one cycle of calls: its start is in
 //! `inference`, sorts and checks against a type in `conversions`, products, lambdas and lets in `binders`, applications in `applications` with `pending`,
 //! matches in `matches` with `telescopes`, `scrutinees` and `branches`, and fixpoints in `fixpoints`. What calls no rule stands apart:
-//! variables and sorts in `leaves`, constants, families and constructors in `declared`, and in `lookup`, `counts` and `elimination` what a
-//! match asks of its block.
+//! variables and sorts in `leaves`, in `universes` what is asked of sorts of which no term is made (that one has a sort, that one is below another), constants,
+//! families and constructors in `declared`, with the types that were made before in `made_types`, and in `lookup`, `counts` and `elimination` what a match asks
+//! of its block.
 //!
 //! That comparison and guard are asked only for what their conditions allow comes from the laws of `rule_laws`: what has been inferred is
 //! a type, and it and the term are well counted (`inferred`, `counted`).
@@ -29,7 +30,9 @@ pub mod fixpoints;
 pub mod inference;
 pub mod leaves;
 pub mod lookup;
+mod made_types;
 mod matches;
 pub mod pending;
 pub mod scrutinees;
 mod telescopes;
+mod universes;

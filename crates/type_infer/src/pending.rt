@@ -44,12 +44,16 @@ impl PendingType {
         })
     }
 
-    /// A codomain under the arguments, of which these and one more are to be put in.
+    /// A codomain under the arguments, of which these and one more are to be put in. A closed one keeps no argument more.
     #[tactic(auto, using(crate::proofs::Pendings::pending_laws))]
     pub fn and(mut self, codomain: Term, argument: &Term) -> Result<PendingType, MakeFault>
         ensures ok { IfOk result (λ p. standing p ≡ substitute (put argument.now) (subst_list 1 self.arguments codomain)) }
         ensures only_memory { IfErr result (λ e. e ≡ Memory) }
     {
+        if codomain.loose() == 0 {
+            self.base = codomain;
+            return Ok(self);
+        }
         self.arguments.push(argument.share()?)?;
         self.base = codomain;
         Ok(self)

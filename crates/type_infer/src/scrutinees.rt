@@ -115,7 +115,7 @@ impl<R: Reducer + Drop, C: Converter + Drop, G: Guarder + Drop> Inference<R, C, 
             return Ok(());
         }
         conv(m)?;
-        let _sort = self.sort_at(alloc, env, ctx, room, asked, m)?;
+        self.sorted_at(alloc, env, ctx, room, asked, m)?;
         self.below(alloc, env, ctx, room, found, asked, m)
     }
 

@@ -45,7 +45,7 @@ impl<R: Reducer + Drop, C: Converter + Drop, G: Guarder + Drop> Inference<R, C, 
         let items = entries.as_slice();
         for i in 0..items.len() {
             let ty = &items[i];
-            let _sort = self.sort_at(alloc, env, &inner, room, ty, m)?;
+            self.sorted_at(alloc, env, &inner, room, ty, m)?;
             let entry = Entry::Assumed(ty.share()?);
             inner = inner.extended(alloc, entry)?;
         }

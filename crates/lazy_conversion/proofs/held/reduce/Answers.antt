@@ -10,7 +10,7 @@ use Rattle.lazy_conversion.proofs.held.reduce.Goals as goal
 pub returns-in-Value-clause-follows : goal.returns-in-Value-clause-follows
 returns-in-Value-clause-follows c =
     let s = rw c.in-Value.is at c.requires.sound in
-    rw c.in-Value.is (passed_none _ _ _ _ _ (follows_whnf_stays c.args.env.now (values c.args.ctx.now) (seen_term c.in-Value.seen) (seen_term c.in-Value.seen) c.args.m.now s.normal refl))
+    rw c.in-Value.is (passed_none _ _ _ _ _ (follows_whnf_stays c.args.at.now.env.now (values c.args.at.now.ctx.now) (seen_term c.in-Value.seen) (seen_term c.in-Value.seen) c.args.m.now s.normal refl))
 
 pub returns-in-Value-clause-held : goal.returns-in-Value-clause-held
 returns-in-Value-clause-held c = (rw c.in-Value.is at c.requires.sound).seen

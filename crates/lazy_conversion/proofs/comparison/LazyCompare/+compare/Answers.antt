@@ -70,22 +70,22 @@ entered-returns-in_err-same t c =
 pub entered-returns-then-same : goal.entered-returns-then-same
 entered-returns-then-same t c =
     let e = same_yes _ _ c.in_ok-same.same c.in_ok-same.ensures.ok c.if-same.true in
-    let cmp = compare c.args.env.now (test_of c.args.env.now) c.args.room in
-    record { tracks = entered_same c.args.env.now (test_of c.args.env.now) cmp (values c.args.ctx.now) (is_equal c.args.mode) (argument_term c.args.a) (argument_term c.args.b) c.args.m.now e }
+    let cmp = compare c.args.at.now.env.now (test_of c.args.at.now.env.now) c.args.room in
+    record { tracks = entered_same c.args.at.now.env.now (test_of c.args.at.now.env.now) cmp (values c.args.at.now.ctx.now) (is_equal c.args.mode) (argument_term c.args.a) (argument_term c.args.b) c.args.m.now e }
 
 pub entered-returns-in_err-x : goal.entered-returns-in_err-x
 entered-returns-in_err-x t c =
     let p = err_from_is_err_and c.from_residual-in_err-x.result c.from_residual-in_err-x.ensures.1 in
     let e = same_no _ _ c.in_ok-same.same c.in_ok-same.ensures.ok c.if-same.false in
-    let cmp = compare c.args.env.now (test_of c.args.env.now) c.args.room in
-    record { tracks = rw (p.1, p.2) (left_stops c.args.env.now (test_of c.args.env.now) cmp (values c.args.ctx.now) (is_equal c.args.mode) (argument_term c.args.a) (argument_term c.args.b) e _ _ _ c.in_err-x.ensures.follows) }
+    let cmp = compare c.args.at.now.env.now (test_of c.args.at.now.env.now) c.args.room in
+    record { tracks = rw (p.1, p.2) (left_stops c.args.at.now.env.now (test_of c.args.at.now.env.now) cmp (values c.args.at.now.ctx.now) (is_equal c.args.mode) (argument_term c.args.a) (argument_term c.args.b) e _ _ _ c.in_err-x.ensures.follows) }
 
 pub entered-returns-in_err-y : goal.entered-returns-in_err-y
 entered-returns-in_err-y t c =
     let p = err_from_is_err_and c.from_residual-in_err-y.result c.from_residual-in_err-y.ensures.1 in
     let e = same_no _ _ c.in_ok-same.same c.in_ok-same.ensures.ok c.if-same.false in
-    let cmp = compare c.args.env.now (test_of c.args.env.now) c.args.room in
-    record { tracks = rw (p.1, p.2) (right_stops c.args.env.now (test_of c.args.env.now) cmp (values c.args.ctx.now) (is_equal c.args.mode) (argument_term c.args.a) (argument_term c.args.b) e _ _ _ c.in_ok-x.ensures.follows _ _ c.in_err-y.ensures.follows) }
+    let cmp = compare c.args.at.now.env.now (test_of c.args.at.now.env.now) c.args.room in
+    record { tracks = rw (p.1, p.2) (right_stops c.args.at.now.env.now (test_of c.args.at.now.env.now) cmp (values c.args.at.now.ctx.now) (is_equal c.args.mode) (argument_term c.args.a) (argument_term c.args.b) e _ _ _ c.in_ok-x.ensures.follows _ _ c.in_err-y.ensures.follows) }
 
 pub entered-pair-requires : goal.entered-pair-requires
 entered-pair-requires t c =
@@ -106,9 +106,9 @@ pub entered-returns : goal.entered-returns
 entered-returns t c =
     let e = same_no _ _ c.in_ok-same.same c.in_ok-same.ensures.ok c.if-same.false in
     let f = rw (c.seen.ensures.term, c.seen-2.ensures.term) at c.pair.ensures.tracks in
-    let cmp = compare c.args.env.now (test_of c.args.env.now) c.args.room in
+    let cmp = compare c.args.at.now.env.now (test_of c.args.at.now.env.now) c.args.room in
     record {
-      tracks = both_reduced c.args.env.now (test_of c.args.env.now) cmp (values c.args.ctx.now) (is_equal c.args.mode) (argument_term c.args.a) (argument_term c.args.b) e _ _ _ c.in_ok-x.ensures.follows _ _ _ _ c.in_ok-x.ensures.beyond c.in_ok-y.ensures.follows c.in_ok-y.ensures.beyond f;
+      tracks = both_reduced c.args.at.now.env.now (test_of c.args.at.now.env.now) cmp (values c.args.at.now.ctx.now) (is_equal c.args.mode) (argument_term c.args.a) (argument_term c.args.b) e _ _ _ c.in_ok-x.ensures.follows _ _ _ _ c.in_ok-x.ensures.beyond c.in_ok-y.ensures.follows c.in_ok-y.ensures.beyond f;
     }
 
 -- sorts, products and lambdas
@@ -162,22 +162,22 @@ pair-returns-in_default t c =
     elim c.in_default.branch [
       | pair-in_default-via-in-Sort+in_default w ↦
           record {
-            tracks = tracks_same _ _ _ _ _ (λ d. sort_and_other c.args.env.now (test_of c.args.env.now) (compare c.args.env.now (test_of c.args.env.now) c.args.room) d (is_equal c.args.mode) c.args.m.now.account _ _ _ _ c.shape_of.ensures.is c.shape_of-2.ensures.is
+            tracks = tracks_same _ _ _ _ _ (λ d. sort_and_other c.args.at.now.env.now (test_of c.args.at.now.env.now) (compare c.args.at.now.env.now (test_of c.args.at.now.env.now) c.args.room) d (is_equal c.args.mode) c.args.m.now.account _ _ _ _ c.shape_of.ensures.is c.shape_of-2.ensures.is
                 w.in_default.field-0-0 w.in_default.is-0 w.in_default.not-Sort-1) c.spines.ensures.tracks;
           }
       | pair-in_default-via-in-Product+in_default w ↦
           record {
-            tracks = tracks_same _ _ _ _ _ (λ d. product_and_other c.args.env.now (test_of c.args.env.now) (compare c.args.env.now (test_of c.args.env.now) c.args.room) d (is_equal c.args.mode) c.args.m.now.account _ _ _ _ c.shape_of.ensures.is c.shape_of-2.ensures.is
+            tracks = tracks_same _ _ _ _ _ (λ d. product_and_other c.args.at.now.env.now (test_of c.args.at.now.env.now) (compare c.args.at.now.env.now (test_of c.args.at.now.env.now) c.args.room) d (is_equal c.args.mode) c.args.m.now.account _ _ _ _ c.shape_of.ensures.is c.shape_of-2.ensures.is
                 w.in_default.field-0-0 w.in_default.is-0 w.in_default.not-Product-1) c.spines.ensures.tracks;
           }
       | pair-in_default-via-in-Lambda+in_default w ↦
           record {
-            tracks = tracks_same _ _ _ _ _ (λ d. lambda_and_other c.args.env.now (test_of c.args.env.now) (compare c.args.env.now (test_of c.args.env.now) c.args.room) d (is_equal c.args.mode) c.args.m.now.account _ _ _ _ c.shape_of.ensures.is c.shape_of-2.ensures.is
+            tracks = tracks_same _ _ _ _ _ (λ d. lambda_and_other c.args.at.now.env.now (test_of c.args.at.now.env.now) (compare c.args.at.now.env.now (test_of c.args.at.now.env.now) c.args.room) d (is_equal c.args.mode) c.args.m.now.account _ _ _ _ c.shape_of.ensures.is c.shape_of-2.ensures.is
                 w.in_default.field-0-0 w.in_default.is-0 w.in_default.not-Lambda-1) c.spines.ensures.tracks;
           }
       | pair-in_default-via-in_default w ↦
           record {
-            tracks = tracks_same _ _ _ _ _ (λ d. spine_first c.args.env.now (test_of c.args.env.now) (compare c.args.env.now (test_of c.args.env.now) c.args.room) d (is_equal c.args.mode) c.args.m.now.account _ _ _ _ c.shape_of.ensures.is c.shape_of-2.ensures.is
+            tracks = tracks_same _ _ _ _ _ (λ d. spine_first c.args.at.now.env.now (test_of c.args.at.now.env.now) (compare c.args.at.now.env.now (test_of c.args.at.now.env.now) c.args.room) d (is_equal c.args.mode) c.args.m.now.account _ _ _ _ c.shape_of.ensures.is c.shape_of-2.ensures.is
                 w.in_default.is-0) c.spines.ensures.tracks;
           }
     ]
@@ -188,7 +188,7 @@ binders-part-requires t c = (search rules, (c.requires.nest, c.requires.domains)
 pub binders-part-requires-2 : goal.binders-part-requires-2
 binders-part-requires-2 t c =
     let n = c.in_ok-part.ensures.tracks.after.nest in
-    (search rules, (search rules, rw c.in_ok-inner.ensures.longer c.requires.bodies))
+    (search rules, (search rules, rw (c.new-setting.ensures.env, c.new-setting.ensures.ctx, c.in_ok-inner.ensures.longer) c.requires.bodies))
 
 pub binders-returns-in_err-part : goal.binders-returns-in_err-part
 binders-returns-in_err-part t c =
@@ -198,7 +198,7 @@ binders-returns-in_err-part t c =
 pub binders-returns : goal.binders-returns
 binders-returns t c =
     let f = tracks_where _ _ _ _ (domain_beyond c.args.f c.args.g) c.in_ok-part.ensures.tracks in
-    let g = tracks_where _ _ _ _ (body_beyond c.args.f c.args.g) (rw c.in_ok-inner.ensures.longer at c.part-2.ensures.tracks) in
+    let g = tracks_where _ _ _ _ (body_beyond c.args.f c.args.g) (rw (c.new-setting.ensures.env, c.new-setting.ensures.ctx, c.in_ok-inner.ensures.longer) at c.part-2.ensures.tracks) in
     record { tracks = tracks_bind _ _ _ _ _ _ f (tracks_assumed _ _ _ _ _ g) }
 
 -- parts
@@ -211,8 +211,8 @@ part-returns-in_err-same t c =
 pub part-returns-then-same : goal.part-returns-then-same
 part-returns-then-same t c =
     let e = c.in_ok-same.ensures.ok c.if-same.true in
-    let f = c.compare_same.ensures.follows c.args.env.now (test_of c.args.env.now) c.args.ctx.now (is_equal c.args.mode) _ _ e in
-    record { tracks = tracks_each _ _ _ _ f.after (λ d. c.compare_same.ensures.follows c.args.env.now (test_of c.args.env.now) d (is_equal c.args.mode) _ _ e) }
+    let f = c.compare_same.ensures.follows c.args.at.now.env.now (test_of c.args.at.now.env.now) c.args.at.now.ctx.now (is_equal c.args.mode) _ _ e in
+    record { tracks = tracks_each _ _ _ _ f.after (λ d. c.compare_same.ensures.follows c.args.at.now.env.now (test_of c.args.at.now.env.now) d (is_equal c.args.mode) _ _ e) }
 
 pub part-returns-in_err-x : goal.part-returns-in_err-x
 part-returns-in_err-x t c =
@@ -252,24 +252,34 @@ spines-returns-in_err-clash t c =
 
 pub spines-returns-then-not-fit : goal.spines-returns-then-not-fit
 spines-returns-then-not-fit t c =
-    let cmp = compare c.args.env.now (test_of c.args.env.now) c.args.room in
-    record { tracks = rw c.in_ok-clash.ensures.ok (spines_clash c.args.env.now cmp (seen_term c.args.x) (seen_term c.args.y) c.args.m.now (sym c.fit.ensures.is ∙ c.if-not-fit.true)) }
+    let cmp = compare c.args.at.now.env.now (test_of c.args.at.now.env.now) c.args.room in
+    record { tracks = rw c.in_ok-clash.ensures.ok (spines_clash c.args.at.now.env.now cmp (seen_term c.args.x) (seen_term c.args.y) c.args.m.now (sym c.fit.ensures.is ∙ c.if-not-fit.true)) }
 
 pub spines-returns-in_err-heads : goal.spines-returns-in_err-heads
 spines-returns-in_err-heads t c =
     let p = err_from_is_err_and c.from_residual-in_err-heads.result c.from_residual-in_err-heads.ensures.1 in
-    let cmp = compare c.args.env.now (test_of c.args.env.now) c.args.room in
+    let cmp = compare c.args.at.now.env.now (test_of c.args.at.now.env.now) c.args.room in
     record {
-      tracks = rw (p.1, p.2) (spines_go c.args.env.now cmp (seen_term c.args.x) (seen_term c.args.y) _ _ _ (sym c.fit.ensures.is ∙ c.if-not-fit.false) (tracks_err (λ d. heads_equal c.args.env.now cmp d (head (seen_term c.args.x)) (head (seen_term c.args.y)))
+      tracks = rw (p.1, p.2) (spines_go c.args.at.now.env.now cmp (seen_term c.args.x) (seen_term c.args.y) _ _ _ (sym c.fit.ensures.is ∙ c.if-not-fit.false) (tracks_err (λ d. heads_equal c.args.at.now.env.now cmp d (head (seen_term c.args.x)) (head (seen_term c.args.y)))
           (λ d. run_all (each_equal cmp d (args (seen_term c.args.x)) (args (seen_term c.args.y)))) _ _ _ c.in_err-heads.ensures.tracks));
     }
 
+pub spines-returns-in_err-keeping : goal.spines-returns-in_err-keeping
+spines-returns-in_err-keeping t c =
+    let p = err_from_is_err_and c.from_residual-in_err-keeping.result c.from_residual-in_err-keeping.ensures.1 in
+    record { tracks = rw (p.1, p.2, c.in_err-keeping.ensures.only_memory) (tracks_memory _ c.args.m.now c.heads.new.m c.in_ok-heads.ensures.tracks.after) }
+
+pub spines-arguments-requires : goal.spines-arguments-requires
+spines-arguments-requires t c =
+    let n = c.in_ok-heads.ensures.tracks.after.nest in
+    (search rules, (search rules, (rw (c.in_ok-keeping.ensures.env, c.in_ok-keeping.ensures.ctx) c.requires.left, (rw (c.in_ok-keeping.ensures.env, c.in_ok-keeping.ensures.ctx) c.requires.right, rw (c.in_ok-keeping.ensures.env, c.in_ok-keeping.ensures.ctx) c.requires.comparable))))
+
 pub spines-returns : goal.spines-returns
 spines-returns t c =
-    let cmp = compare c.args.env.now (test_of c.args.env.now) c.args.room in
+    let cmp = compare c.args.at.now.env.now (test_of c.args.at.now.env.now) c.args.room in
     record {
-      tracks = spines_go c.args.env.now cmp (seen_term c.args.x) (seen_term c.args.y) _ _ _ (sym c.fit.ensures.is ∙ c.if-not-fit.false) (tracks_bind (λ d. heads_equal c.args.env.now cmp d (head (seen_term c.args.x)) (head (seen_term c.args.y)))
-          (λ d. run_all (each_equal cmp d (args (seen_term c.args.x)) (args (seen_term c.args.y)))) _ _ _ _ c.in_ok-heads.ensures.tracks c.arguments.ensures.tracks);
+      tracks = spines_go c.args.at.now.env.now cmp (seen_term c.args.x) (seen_term c.args.y) _ _ _ (sym c.fit.ensures.is ∙ c.if-not-fit.false) (tracks_bind (λ d. heads_equal c.args.at.now.env.now cmp d (head (seen_term c.args.x)) (head (seen_term c.args.y)))
+          (λ d. run_all (each_equal cmp d (args (seen_term c.args.x)) (args (seen_term c.args.y)))) _ _ _ _ c.in_ok-heads.ensures.tracks (rw (c.in_ok-keeping.ensures.env, c.in_ok-keeping.ensures.ctx) at c.arguments.ensures.tracks));
     }
 
 -- heads
@@ -292,10 +302,10 @@ pub heads-returns-in_default-stuck_match : goal.heads-returns-in_default-stuck_m
 heads-returns-in_default-stuck_match t c =
     let e = rw c.in-Some.is at c.stuck_match.ensures.is in
     let n = rw c.in_default-stuck_match.is at c.stuck_match-2.ensures.is in
-    let cmp = compare c.args.env.now (test_of c.args.env.now) c.args.room in
+    let cmp = compare c.args.at.now.env.now (test_of c.args.at.now.env.now) c.args.room in
     record {
-      tracks = tracks_same (λ d u. done tt u) (λ d. heads_equal c.args.env.now cmp d (head (seen_term c.args.x)) (head (seen_term c.args.y))) _ c.args.m.now c.args.m.now
-          (λ d. no_parts c.args.env.now cmp d (head (seen_term c.args.x)) (head (seen_term c.args.y)) c.args.m.now.account (λ a b. n b) (λ a b. both_match (head (seen_term c.args.x)) (head (seen_term c.args.y)) (rw e tt) a b)) (tracks_done c.args.m.now);
+      tracks = tracks_same (λ d u. done tt u) (λ d. heads_equal c.args.at.now.env.now cmp d (head (seen_term c.args.x)) (head (seen_term c.args.y))) _ c.args.m.now c.args.m.now
+          (λ d. no_parts c.args.at.now.env.now cmp d (head (seen_term c.args.x)) (head (seen_term c.args.y)) c.args.m.now.account (λ a b. n b) (λ a b. both_match (head (seen_term c.args.x)) (head (seen_term c.args.y)) (rw e tt) a b)) (tracks_done c.args.m.now);
     }
 
 pub heads-matches-requires : goal.heads-matches-requires
@@ -326,19 +336,19 @@ recursive_heads-fixpoint-requires-2 t c = c.requires.right.seen
 pub recursive_heads-returns-in_default : goal.recursive_heads-returns-in_default
 recursive_heads-returns-in_default t c =
     let n = rw c.in_default.is at c.fixpoint.ensures.is in
-    let cmp = compare c.args.env.now (test_of c.args.env.now) c.args.room in
+    let cmp = compare c.args.at.now.env.now (test_of c.args.at.now.env.now) c.args.room in
     record {
-      tracks = tracks_same (λ d u. done tt u) (λ d. heads_equal c.args.env.now cmp d (head (seen_term c.args.x)) (head (seen_term c.args.y))) _ c.args.m.now c.args.m.now
-          (λ d. no_parts c.args.env.now cmp d (head (seen_term c.args.x)) (head (seen_term c.args.y)) c.args.m.now.account (λ a b. c.requires.other a) (λ a b. n a)) (tracks_done c.args.m.now);
+      tracks = tracks_same (λ d u. done tt u) (λ d. heads_equal c.args.at.now.env.now cmp d (head (seen_term c.args.x)) (head (seen_term c.args.y))) _ c.args.m.now c.args.m.now
+          (λ d. no_parts c.args.at.now.env.now cmp d (head (seen_term c.args.x)) (head (seen_term c.args.y)) c.args.m.now.account (λ a b. c.requires.other a) (λ a b. n a)) (tracks_done c.args.m.now);
     }
 
 pub recursive_heads-returns-in_default-fixpoint : goal.recursive_heads-returns-in_default-fixpoint
 recursive_heads-returns-in_default-fixpoint t c =
     let n = rw c.in_default-fixpoint.is at c.fixpoint-2.ensures.is in
-    let cmp = compare c.args.env.now (test_of c.args.env.now) c.args.room in
+    let cmp = compare c.args.at.now.env.now (test_of c.args.at.now.env.now) c.args.room in
     record {
-      tracks = tracks_same (λ d u. done tt u) (λ d. heads_equal c.args.env.now cmp d (head (seen_term c.args.x)) (head (seen_term c.args.y))) _ c.args.m.now c.args.m.now
-          (λ d. no_parts c.args.env.now cmp d (head (seen_term c.args.x)) (head (seen_term c.args.y)) c.args.m.now.account (λ a b. c.requires.other a) (λ a b. n b)) (tracks_done c.args.m.now);
+      tracks = tracks_same (λ d u. done tt u) (λ d. heads_equal c.args.at.now.env.now cmp d (head (seen_term c.args.x)) (head (seen_term c.args.y))) _ c.args.m.now c.args.m.now
+          (λ d. no_parts c.args.at.now.env.now cmp d (head (seen_term c.args.x)) (head (seen_term c.args.y)) c.args.m.now.account (λ a b. c.requires.other a) (λ a b. n b)) (tracks_done c.args.m.now);
     }
 
 pub recursive_heads-fixpoints-requires : goal.recursive_heads-fixpoints-requires
@@ -385,7 +395,7 @@ arguments-loop-i-preserved t c =
     let d = item_at (args (seen_term c.args.y)) c.loop-i.i _ c.argument-right.ensures.is in
     let f = tracks_where _ _ _ _ (arguments_beyond (seen_term c.args.x) (seen_term c.args.y) c.loop-i.i _ _ h k e d) c.in_ok-compare.ensures.tracks in
     record {
-      rest = λ r n x. c.loop-i.invariant.rest r n (list_next (compare c.args.env.now (test_of c.args.env.now) c.args.room) (args (seen_term c.args.x)) (args (seen_term c.args.y)) c.loop-i.i _ _ r c.loop-i.m c.compare.new.m n h k e d f x);
+      rest = λ r n x. c.loop-i.invariant.rest r n (list_next (compare c.args.at.now.env.now (test_of c.args.at.now.env.now) c.args.room) (args (seen_term c.args.x)) (args (seen_term c.args.y)) c.loop-i.i _ _ r c.loop-i.m c.compare.new.m n h k e d f x);
       nest = c.in_ok-compare.ensures.tracks.after.nest ∙ c.loop-i.invariant.nest;
     }
 
@@ -397,12 +407,12 @@ arguments-returns-in_err-compare t c =
     let e = item_at (args (seen_term c.args.x)) c.loop-i.i _ c.argument-left.ensures.is in
     let d = item_at (args (seen_term c.args.y)) c.loop-i.i _ c.argument-right.ensures.is in
     let f = tracks_where _ _ _ _ (arguments_beyond (seen_term c.args.x) (seen_term c.args.y) c.loop-i.i _ _ h k e d) c.in_err-compare.ensures.tracks in
-    record { tracks = rw (p.1, p.2) (c.loop-i.invariant.rest _ _ (list_stops (compare c.args.env.now (test_of c.args.env.now) c.args.room) (args (seen_term c.args.x)) (args (seen_term c.args.y)) c.loop-i.i _ _ _ c.loop-i.m c.compare.new.m h k e d f)) }
+    record { tracks = rw (p.1, p.2) (c.loop-i.invariant.rest _ _ (list_stops (compare c.args.at.now.env.now (test_of c.args.at.now.env.now) c.args.room) (args (seen_term c.args.x)) (args (seen_term c.args.y)) c.loop-i.i _ _ _ c.loop-i.m c.compare.new.m h k e d f)) }
 
 pub arguments-returns : goal.arguments-returns
 arguments-returns t c =
     let h : min (length (args (seen_term c.args.x))) (length (args (seen_term c.args.y))) ≤ c.loop-i.i = search rules in
-    record { tracks = c.loop-i.invariant.rest _ _ (list_done (compare c.args.env.now (test_of c.args.env.now) c.args.room) (args (seen_term c.args.x)) (args (seen_term c.args.y)) c.loop-i.i c.loop-i.m h) }
+    record { tracks = c.loop-i.invariant.rest _ _ (list_done (compare c.args.at.now.env.now (test_of c.args.at.now.env.now) c.args.room) (args (seen_term c.args.x)) (args (seen_term c.args.y)) c.loop-i.i c.loop-i.m h) }
 
 -- two lists
 
@@ -415,7 +425,7 @@ each-part-requires t c =
     let e = mapped_at (walk (stands_under c.args.ts.env.now.items) c.args.ts.under) c.args.ts.terms.now c.loop-i.i c.index-lefts-i.result il (cc) in
     let d = mapped_at (walk (stands_under c.args.us.env.now.items) c.args.us.under) c.args.us.terms.now c.loop-i.i c.index-rights-i.result ik (cc) in
     let n = c.loop-i.invariant.nest in
-    (search rules, (search rules, items_comparable c.args.env.now (values c.args.ctx.now) (read_list c.args.ts) (read_list c.args.us) c.loop-i.i _ _ l k e d c.requires.comparable))
+    (search rules, (search rules, items_comparable c.args.at.now.env.now (values c.args.at.now.ctx.now) (read_list c.args.ts) (read_list c.args.us) c.loop-i.i _ _ l k e d c.requires.comparable))
 
 pub each-loop-i-preserved : goal.each-loop-i-preserved
 each-loop-i-preserved t c =
@@ -427,7 +437,7 @@ each-loop-i-preserved t c =
     let d = mapped_at (walk (stands_under c.args.us.env.now.items) c.args.us.under) c.args.us.terms.now c.loop-i.i c.index-rights-i.result ik (cc) in
     let f = tracks_where _ _ _ _ (items_beyond (read_list c.args.ts) (read_list c.args.us) c.loop-i.i _ _ l k e d) c.in_ok-part.ensures.tracks in
     record {
-      rest = λ r n x. c.loop-i.invariant.rest r n (list_next (compare c.args.env.now (test_of c.args.env.now) c.args.room) (read_list c.args.ts) (read_list c.args.us) c.loop-i.i _ _ r c.loop-i.m c.part.new.m n l k e d f x);
+      rest = λ r n x. c.loop-i.invariant.rest r n (list_next (compare c.args.at.now.env.now (test_of c.args.at.now.env.now) c.args.room) (read_list c.args.ts) (read_list c.args.us) c.loop-i.i _ _ r c.loop-i.m c.part.new.m n l k e d f x);
       nest = c.in_ok-part.ensures.tracks.after.nest ∙ c.loop-i.invariant.nest;
     }
 
@@ -441,31 +451,31 @@ each-returns-in_err-part t c =
     let e = mapped_at (walk (stands_under c.args.ts.env.now.items) c.args.ts.under) c.args.ts.terms.now c.loop-i.i c.index-lefts-i.result il (cc) in
     let d = mapped_at (walk (stands_under c.args.us.env.now.items) c.args.us.under) c.args.us.terms.now c.loop-i.i c.index-rights-i.result ik (cc) in
     let f = tracks_where _ _ _ _ (items_beyond (read_list c.args.ts) (read_list c.args.us) c.loop-i.i _ _ l k e d) c.in_err-part.ensures.tracks in
-    record { tracks = rw (p.1, p.2) (c.loop-i.invariant.rest _ _ (list_stops (compare c.args.env.now (test_of c.args.env.now) c.args.room) (read_list c.args.ts) (read_list c.args.us) c.loop-i.i _ _ _ c.loop-i.m c.part.new.m l k e d f)) }
+    record { tracks = rw (p.1, p.2) (c.loop-i.invariant.rest _ _ (list_stops (compare c.args.at.now.env.now (test_of c.args.at.now.env.now) c.args.room) (read_list c.args.ts) (read_list c.args.us) c.loop-i.i _ _ _ c.loop-i.m c.part.new.m l k e d f)) }
 
 pub each-returns : goal.each-returns
 each-returns t c =
     let m : min (length c.as_slice-lefts.result.now) (length c.as_slice-rights.result.now) ≤ c.loop-i.i = search rules in
     let h = mapped_least (walk (stands_under c.args.ts.env.now.items) c.args.ts.under) (walk (stands_under c.args.us.env.now.items) c.args.us.under) c.args.ts.terms.now c.args.us.terms.now c.loop-i.i (rw (c.as_slice-lefts.ensures.is, c.as_slice-rights.ensures.is) at m) in
-    record { tracks = c.loop-i.invariant.rest _ _ (list_done (compare c.args.env.now (test_of c.args.env.now) c.args.room) (read_list c.args.ts) (read_list c.args.us) c.loop-i.i c.loop-i.m h) }
+    record { tracks = c.loop-i.invariant.rest _ _ (list_done (compare c.args.at.now.env.now (test_of c.args.at.now.env.now) c.args.room) (read_list c.args.ts) (read_list c.args.us) c.loop-i.i c.loop-i.m h) }
 
 -- matches
 
 pub matches-returns-in_default : goal.matches-returns-in_default
 matches-returns-in_default t c =
     let n = rw c.in_default.is at c.kept_family.ensures.kept in
-    record { tracks = stuck_unknown c.args.env.now (compare c.args.env.now (test_of c.args.env.now) c.args.room) (match_of c.args.x) (match_of c.args.y) c.args.m.now n }
+    record { tracks = stuck_unknown c.args.at.now.env.now (compare c.args.at.now.env.now (test_of c.args.at.now.env.now) c.args.room) (match_of c.args.x) (match_of c.args.y) c.args.m.now n }
 
 pub matches-each-requires : goal.matches-each-requires
 matches-each-requires t c =
-    (search rules, (c.requires.nest, rw (c.params.ensures.is, c.params-2.ensures.is) (params_of c.args.env.now (values c.args.ctx.now) (match_of c.args.x) (match_of c.args.y) c.requires.comparable)))
+    (search rules, (c.requires.nest, rw (c.params.ensures.is, c.params-2.ensures.is) (params_of c.args.at.now.env.now (values c.args.at.now.ctx.now) (match_of c.args.x) (match_of c.args.y) c.requires.comparable)))
 
 pub matches-returns-in_err-each : goal.matches-returns-in_err-each
 matches-returns-in_err-each t c =
     let e = c.in-Some.ensures.kept in
     let p = err_from_is_err_and c.from_residual.result c.from_residual.ensures.1 in
     let f = rw (c.params.ensures.is, c.params-2.ensures.is) at c.in_err-each.ensures.tracks in
-    record { tracks = rw (p.1, p.2) (stuck_goes c.args.env.now (compare c.args.env.now (test_of c.args.env.now) c.args.room) (match_of c.args.x) (match_of c.args.y) (with_parameters e.0 c.in-Some.family.now) _ _ _ e.1 (tracks_err _ _ _ _ _ (tracks_where _ _ _ _ (params_beyond (match_of c.args.x) (match_of c.args.y)) f))) }
+    record { tracks = rw (p.1, p.2) (stuck_goes c.args.at.now.env.now (compare c.args.at.now.env.now (test_of c.args.at.now.env.now) c.args.room) (match_of c.args.x) (match_of c.args.y) (with_parameters e.0 c.in-Some.family.now) _ _ _ e.1 (tracks_err _ _ _ _ _ (tracks_where _ _ _ _ (params_beyond (match_of c.args.x) (match_of c.args.y)) f))) }
 
 pub matches-predicates-requires : goal.matches-predicates-requires
 matches-predicates-requires t c =
@@ -478,14 +488,14 @@ matches-returns-in_err-predicates t c =
     let p = err_from_is_err_and c.from_residual-in_err-predicates.result c.from_residual-in_err-predicates.ensures.1 in
     let f = tracks_where _ _ _ _ (params_beyond (match_of c.args.x) (match_of c.args.y)) (rw (c.params.ensures.is, c.params-2.ensures.is) at c.in_ok-each.ensures.tracks) in
     record {
-      tracks = rw (p.1, p.2) (stuck_goes c.args.env.now (compare c.args.env.now (test_of c.args.env.now) c.args.room) (match_of c.args.x) (match_of c.args.y) (with_parameters e.0 c.in-Some.family.now) _ _ _ e.1 (tracks_bind _ _ _ _ _ _ f (tracks_err _ _ _ _ _ (c.in_err-predicates.ensures.tracks e.0))));
+      tracks = rw (p.1, p.2) (stuck_goes c.args.at.now.env.now (compare c.args.at.now.env.now (test_of c.args.at.now.env.now) c.args.room) (match_of c.args.x) (match_of c.args.y) (with_parameters e.0 c.in-Some.family.now) _ _ _ e.1 (tracks_bind _ _ _ _ _ _ f (tracks_err _ _ _ _ _ (c.in_err-predicates.ensures.tracks e.0))));
     }
 
 pub matches-compare-requires : goal.matches-compare-requires
 matches-compare-requires t c =
     let e = c.in-Some.ensures.kept in
     let n : c.predicates.new.m.nest ≡ c.args.m.now.nest = (c.in_ok-predicates.ensures.tracks e.0).after.nest ∙ c.in_ok-each.ensures.tracks.after.nest in
-    (search rules, (search rules, (c.requires.left, (c.requires.right, scrutinees_of c.args.env.now (values c.args.ctx.now) (match_of c.args.x) (match_of c.args.y) c.requires.comparable))))
+    (search rules, (search rules, (c.requires.left, (c.requires.right, scrutinees_of c.args.at.now.env.now (values c.args.at.now.ctx.now) (match_of c.args.x) (match_of c.args.y) c.requires.comparable))))
 
 pub matches-returns-in_err-compare : goal.matches-returns-in_err-compare
 matches-returns-in_err-compare t c =
@@ -494,7 +504,7 @@ matches-returns-in_err-compare t c =
     let f = tracks_where _ _ _ _ (params_beyond (match_of c.args.x) (match_of c.args.y)) (rw (c.params.ensures.is, c.params-2.ensures.is) at c.in_ok-each.ensures.tracks) in
     let s = tracks_where _ _ _ _ (scrutinee_beyond (match_of c.args.x) (match_of c.args.y)) c.in_err-compare.ensures.tracks in
     record {
-      tracks = rw (p.1, p.2) (stuck_goes c.args.env.now (compare c.args.env.now (test_of c.args.env.now) c.args.room) (match_of c.args.x) (match_of c.args.y) (with_parameters e.0 c.in-Some.family.now) _ _ _ e.1 (tracks_bind _ _ _ _ _ _ f (tracks_bind _ _ _ _ _ _ (c.in_ok-predicates.ensures.tracks e.0) (tracks_err _ _ _ _ _ s))));
+      tracks = rw (p.1, p.2) (stuck_goes c.args.at.now.env.now (compare c.args.at.now.env.now (test_of c.args.at.now.env.now) c.args.room) (match_of c.args.x) (match_of c.args.y) (with_parameters e.0 c.in-Some.family.now) _ _ _ e.1 (tracks_bind _ _ _ _ _ _ f (tracks_bind _ _ _ _ _ _ (c.in_ok-predicates.ensures.tracks e.0) (tracks_err _ _ _ _ _ s))));
     }
 
 pub matches-branches-requires : goal.matches-branches-requires
@@ -509,21 +519,21 @@ matches-returns t c =
     let f = tracks_where _ _ _ _ (params_beyond (match_of c.args.x) (match_of c.args.y)) (rw (c.params.ensures.is, c.params-2.ensures.is) at c.in_ok-each.ensures.tracks) in
     let s = tracks_where _ _ _ _ (scrutinee_beyond (match_of c.args.x) (match_of c.args.y)) c.in_ok-compare.ensures.tracks in
     record {
-      tracks = stuck_goes c.args.env.now (compare c.args.env.now (test_of c.args.env.now) c.args.room) (match_of c.args.x) (match_of c.args.y) (with_parameters e.0 c.in-Some.family.now) _ _ _ e.1 (tracks_bind _ _ _ _ _ _ f (tracks_bind _ _ _ _ _ _ (c.in_ok-predicates.ensures.tracks e.0) (tracks_bind _ _ _ _ _ _ s c.branches.ensures.tracks)));
+      tracks = stuck_goes c.args.at.now.env.now (compare c.args.at.now.env.now (test_of c.args.at.now.env.now) c.args.room) (match_of c.args.x) (match_of c.args.y) (with_parameters e.0 c.in-Some.family.now) _ _ _ e.1 (tracks_bind _ _ _ _ _ _ f (tracks_bind _ _ _ _ _ _ (c.in_ok-predicates.ensures.tracks e.0) (tracks_bind _ _ _ _ _ _ s c.branches.ensures.tracks)));
     }
 
 pub predicates-part-requires : goal.predicates-part-requires
 predicates-part-requires t c =
-    let k = predicates_of c.args.env.now (values c.args.ctx.now) (match_of c.args.x) (match_of c.args.y) c.requires.comparable in
-    let h = under_comparable c.args.env.now (values c.args.ctx.now) _ (suc (length c.args.family.now.indices)) _ _ c.in_ok-inner.ensures.longer k in
-    (search rules, (c.requires.nest, rw (c.predicate.ensures.is, c.predicate-2.ensures.is) h))
+    let k = predicates_of c.args.at.now.env.now (values c.args.at.now.ctx.now) (match_of c.args.x) (match_of c.args.y) c.requires.comparable in
+    let h = under_comparable c.args.at.now.env.now (values c.args.at.now.ctx.now) _ (suc (length c.args.family.now.indices)) _ _ c.in_ok-inner.ensures.longer k in
+    (search rules, (c.requires.nest, rw (c.new-setting.ensures.env, c.new-setting.ensures.ctx, c.predicate.ensures.is, c.predicate-2.ensures.is) h))
 
 pub predicates-returns : goal.predicates-returns
 predicates-returns t c =
-    let f = rw (c.predicate.ensures.is, c.predicate-2.ensures.is, c.in_ok-inner.ensures.longer) at c.part.ensures.tracks in
+    let f = rw (c.new-setting.ensures.env, c.new-setting.ensures.ctx, c.predicate.ensures.is, c.predicate-2.ensures.is, c.in_ok-inner.ensures.longer) at c.part.ensures.tracks in
     record {
-      tracks = λ Ps. tracks_entering c.args.env.now (predicate_entries c.args.x.outer.now.family (with_parameters Ps c.args.family.now) (match_of c.args.x).params) (suc (length c.args.family.now.indices))
-          (λ d. compare c.args.env.now (test_of c.args.env.now) c.args.room d true (match_of c.args.x).ret (match_of c.args.y).ret) c.part.result c.args.m.now c.part.new.m (predicate_count c.args.x.outer.now.family Ps c.args.family.now (match_of c.args.x).params)
+      tracks = λ Ps. tracks_entering c.args.at.now.env.now (predicate_entries c.args.x.outer.now.family (with_parameters Ps c.args.family.now) (match_of c.args.x).params) (suc (length c.args.family.now.indices))
+          (λ d. compare c.args.at.now.env.now (test_of c.args.at.now.env.now) c.args.room d true (match_of c.args.x).ret (match_of c.args.y).ret) c.part.result c.args.m.now c.part.new.m (predicate_count c.args.x.outer.now.family Ps c.args.family.now (match_of c.args.x).params)
           (tracks_where _ _ _ _ (predicate_beyond (match_of c.args.x) (match_of c.args.y)) f);
     }
 
@@ -535,10 +545,10 @@ branches-part-requires t c =
     let l = mapped_within (walk_branch (stands_under c.args.y.env.now.items) 0) c.args.y.outer.now.branches c.loop-i.i il in
     let e = mapped_at (walk_branch (stands_under c.args.x.env.now.items) 0) c.args.x.outer.now.branches c.loop-i.i c.index-xs-i.result ik (cc) in
     let d = mapped_at (walk_branch (stands_under c.args.y.env.now.items) 0) c.args.y.outer.now.branches c.loop-i.i c.index-ys-i.result il (cc) in
-    let b = arms_of_both c.args.env.now (values c.args.ctx.now) (match_of c.args.x) (match_of c.args.y) c.requires.comparable c.loop-i.i _ _ k l e d in
-    let w = under_comparable c.args.env.now (values c.args.ctx.now) _ (length c.index-listed-i.result.args) _ _ c.in_ok-inner.ensures.longer b in
+    let b = arms_of_both c.args.at.now.env.now (values c.args.at.now.ctx.now) (match_of c.args.x) (match_of c.args.y) c.requires.comparable c.loop-i.i _ _ k l e d in
+    let w = under_comparable c.args.at.now.env.now (values c.args.at.now.ctx.now) _ (length c.index-listed-i.result.args) _ _ c.in_ok-inner.ensures.longer b in
     let n = c.loop-i.invariant.nest in
-    (search rules, (search rules, rw (c.body-left.ensures.is, c.body-right.ensures.is) w))
+    (search rules, (search rules, rw (c.new-setting.ensures.env, c.new-setting.ensures.ctx, c.body-left.ensures.is, c.body-right.ensures.is) w))
 
 pub branches-loop-i-preserved : goal.branches-loop-i-preserved
 branches-loop-i-preserved t c =
@@ -549,11 +559,11 @@ branches-loop-i-preserved t c =
     let l = mapped_within (walk_branch (stands_under c.args.y.env.now.items) 0) c.args.y.outer.now.branches c.loop-i.i il in
     let e = mapped_at (walk_branch (stands_under c.args.x.env.now.items) 0) c.args.x.outer.now.branches c.loop-i.i c.index-xs-i.result ik (cc) in
     let d = mapped_at (walk_branch (stands_under c.args.y.env.now.items) 0) c.args.y.outer.now.branches c.loop-i.i c.index-ys-i.result il (cc) in
-    let g = rw (c.body-left.ensures.is, c.body-right.ensures.is, c.in_ok-inner.ensures.longer) at c.in_ok-part.ensures.tracks in
+    let g = rw (c.new-setting.ensures.env, c.new-setting.ensures.ctx, c.body-left.ensures.is, c.body-right.ensures.is, c.in_ok-inner.ensures.longer) at c.in_ok-part.ensures.tracks in
     let left = walk_branch (stands_under c.args.x.env.now.items) 0 c.index-xs-i.result in
     let right = walk_branch (stands_under c.args.y.env.now.items) 0 c.index-ys-i.result in
-    let cmp = compare c.args.env.now (test_of c.args.env.now) c.args.room in
-    let f = tracks_entering c.args.env.now (branch_entries c.index-listed-i.result (match_of c.args.x).params) (length c.index-listed-i.result.args) (λ b. cmp b true left.body right.body) _ c.loop-i.m c.part.new.m
+    let cmp = compare c.args.at.now.env.now (test_of c.args.at.now.env.now) c.args.room in
+    let f = tracks_entering c.args.at.now.env.now (branch_entries c.index-listed-i.result (match_of c.args.x).params) (length c.index-listed-i.result.args) (λ b. cmp b true left.body right.body) _ c.loop-i.m c.part.new.m
     (branch_count c.index-listed-i.result (match_of c.args.x).params) (tracks_where _ _ _ _ (arm_beyond (match_of c.args.x) (match_of c.args.y) c.loop-i.i left right k l e d) g) in
     record {
       rest = λ r n x. c.loop-i.invariant.rest r n (arms_next cmp (match_of c.args.x).params c.args.ctors.now (match_of c.args.x).branches (match_of c.args.y).branches c.loop-i.i c.index-listed-i.result left right r c.loop-i.m c.part.new.m n h k l (cc) e d f x);
@@ -570,11 +580,11 @@ branches-returns-in_err-part t c =
     let l = mapped_within (walk_branch (stands_under c.args.y.env.now.items) 0) c.args.y.outer.now.branches c.loop-i.i il in
     let e = mapped_at (walk_branch (stands_under c.args.x.env.now.items) 0) c.args.x.outer.now.branches c.loop-i.i c.index-xs-i.result ik (cc) in
     let d = mapped_at (walk_branch (stands_under c.args.y.env.now.items) 0) c.args.y.outer.now.branches c.loop-i.i c.index-ys-i.result il (cc) in
-    let g = rw (c.body-left.ensures.is, c.body-right.ensures.is, c.in_ok-inner.ensures.longer) at c.in_err-part.ensures.tracks in
+    let g = rw (c.new-setting.ensures.env, c.new-setting.ensures.ctx, c.body-left.ensures.is, c.body-right.ensures.is, c.in_ok-inner.ensures.longer) at c.in_err-part.ensures.tracks in
     let left = walk_branch (stands_under c.args.x.env.now.items) 0 c.index-xs-i.result in
     let right = walk_branch (stands_under c.args.y.env.now.items) 0 c.index-ys-i.result in
-    let cmp = compare c.args.env.now (test_of c.args.env.now) c.args.room in
-    let f = tracks_entering c.args.env.now (branch_entries c.index-listed-i.result (match_of c.args.x).params) (length c.index-listed-i.result.args) (λ b. cmp b true left.body right.body) _ c.loop-i.m c.part.new.m
+    let cmp = compare c.args.at.now.env.now (test_of c.args.at.now.env.now) c.args.room in
+    let f = tracks_entering c.args.at.now.env.now (branch_entries c.index-listed-i.result (match_of c.args.x).params) (length c.index-listed-i.result.args) (λ b. cmp b true left.body right.body) _ c.loop-i.m c.part.new.m
     (branch_count c.index-listed-i.result (match_of c.args.x).params) (tracks_where _ _ _ _ (arm_beyond (match_of c.args.x) (match_of c.args.y) c.loop-i.i left right k l e d) g) in
     record {
       tracks = rw (p.1, p.2) (c.loop-i.invariant.rest _ _ (arms_stop cmp (match_of c.args.x).params c.args.ctors.now (match_of c.args.x).branches (match_of c.args.y).branches c.loop-i.i c.index-listed-i.result left right _ c.loop-i.m c.part.new.m h k l (cc) e d f));
@@ -590,7 +600,7 @@ branches-returns t c =
     let p = length-map c.args.x.outer.now.branches (walk_branch (stands_under c.args.x.env.now.items) 0) in
     let q = length-map c.args.y.outer.now.branches (walk_branch (stands_under c.args.y.env.now.items) 0) in
     let h : min (length c.args.ctors.now) (min (length (match_of c.args.x).branches) (length (match_of c.args.y).branches)) ≤ c.loop-i.i = grind arith in
-    let cmp = compare c.args.env.now (test_of c.args.env.now) c.args.room in
+    let cmp = compare c.args.at.now.env.now (test_of c.args.at.now.env.now) c.args.room in
     record { tracks = c.loop-i.invariant.rest _ _ (arms_done cmp (match_of c.args.x).params c.args.ctors.now (match_of c.args.x).branches (match_of c.args.y).branches c.loop-i.i c.loop-i.m h) }
 
 -- fixpoints
@@ -617,14 +627,14 @@ fixpoints-returns t c =
 
 pub bodies-each-requires : goal.bodies-each-requires
 bodies-each-requires t c =
-    let h = under_comparable c.args.env.now (values c.args.ctx.now) _ (length c.args.f.defs.now) _ _ c.in_ok-inner.ensures.longer c.requires.bodies in
-    (search rules, (c.requires.nest, rw (c.body_parts-ts.ensures.is, c.body_parts-us.ensures.is) h))
+    let h = under_comparable c.args.at.now.env.now (values c.args.at.now.ctx.now) _ (length c.args.f.defs.now) _ _ c.in_ok-inner.ensures.longer c.requires.bodies in
+    (search rules, (c.requires.nest, rw (c.new-setting.ensures.env, c.new-setting.ensures.ctx, c.body_parts-ts.ensures.is, c.body_parts-us.ensures.is) h))
 
 pub bodies-returns : goal.bodies-returns
 bodies-returns t c =
-    let g = tracks_where _ _ _ _ (bodies_beyond (defs_of c.args.f) (defs_of c.args.g)) (rw (c.body_parts-ts.ensures.is, c.body_parts-us.ensures.is, c.in_ok-inner.ensures.longer) at c.each.ensures.tracks) in
+    let g = tracks_where _ _ _ _ (bodies_beyond (defs_of c.args.f) (defs_of c.args.g)) (rw (c.new-setting.ensures.env, c.new-setting.ensures.ctx, c.body_parts-ts.ensures.is, c.body_parts-us.ensures.is, c.in_ok-inner.ensures.longer) at c.each.ensures.tracks) in
     record {
-      tracks = tracks_entering c.args.env.now (lifted_types 0 (type_list (defs_of c.args.f))) (length c.args.f.defs.now)
-          (λ d. run_all (each_equal (compare c.args.env.now (test_of c.args.env.now) c.args.room) d (body_list (defs_of c.args.f)) (body_list (defs_of c.args.g)))) c.each.result c.args.m.now c.each.new.m
+      tracks = tracks_entering c.args.at.now.env.now (lifted_types 0 (type_list (defs_of c.args.f))) (length c.args.f.defs.now)
+          (λ d. run_all (each_equal (compare c.args.at.now.env.now (test_of c.args.at.now.env.now) c.args.room) d (body_list (defs_of c.args.f)) (body_list (defs_of c.args.g)))) c.each.result c.args.m.now c.each.new.m
           (lifted_count (defs_of c.args.f) ∙ defs_count c.args.f) g;
     }

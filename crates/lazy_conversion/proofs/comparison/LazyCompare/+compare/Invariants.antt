@@ -62,24 +62,24 @@ decreases-arguments l = l.room * 16 + 1
 abbrev pub invariant-each-loop-i : goal.invariant-each-loop-i
 invariant-each-loop-i l = record {
   rest : (r : Result (Unit {0}) Halt) (n : Meter)
-      → Tracks (values l.ctx) (AnyBeyond (read_list l.ts) (read_list l.us)) (list_from (compare l.env (test_of l.env) l.room) (read_list l.ts) (read_list l.us) l.i) r l.m n
-      → Tracks (values l.ctx) (AnyBeyond (read_list l.ts) (read_list l.us)) (λ c. run_all (each_equal (compare l.env (test_of l.env) l.room) c (read_list l.ts) (read_list l.us))) r l.fn.m n;
+      → Tracks (values l.at.ctx.now) (AnyBeyond (read_list l.ts) (read_list l.us)) (list_from (compare l.at.env.now (test_of l.at.env.now) l.room) (read_list l.ts) (read_list l.us) l.i) r l.m n
+      → Tracks (values l.at.ctx.now) (AnyBeyond (read_list l.ts) (read_list l.us)) (λ c. run_all (each_equal (compare l.at.env.now (test_of l.at.env.now) l.room) c (read_list l.ts) (read_list l.us))) r l.fn.m n;
   nest : l.m.nest ≡ l.fn.m.nest;
 }
 
 abbrev pub invariant-arguments-loop-i : goal.invariant-arguments-loop-i
 invariant-arguments-loop-i l = record {
   rest : (r : Result (Unit {0}) Halt) (n : Meter)
-      → Tracks (values l.ctx) (EitherBeyond (seen_term l.x) (seen_term l.y)) (list_from (compare l.env (test_of l.env) l.room) (args (seen_term l.x)) (args (seen_term l.y)) l.i) r l.m n
-      → Tracks (values l.ctx) (EitherBeyond (seen_term l.x) (seen_term l.y)) (λ c. run_all (each_equal (compare l.env (test_of l.env) l.room) c (args (seen_term l.x)) (args (seen_term l.y)))) r l.fn.m n;
+      → Tracks (values l.at.ctx.now) (EitherBeyond (seen_term l.x) (seen_term l.y)) (list_from (compare l.at.env.now (test_of l.at.env.now) l.room) (args (seen_term l.x)) (args (seen_term l.y)) l.i) r l.m n
+      → Tracks (values l.at.ctx.now) (EitherBeyond (seen_term l.x) (seen_term l.y)) (λ c. run_all (each_equal (compare l.at.env.now (test_of l.at.env.now) l.room) c (args (seen_term l.x)) (args (seen_term l.y)))) r l.fn.m n;
   nest : l.m.nest ≡ l.fn.m.nest;
 }
 
 abbrev pub invariant-branches-loop-i : goal.invariant-branches-loop-i
 invariant-branches-loop-i l = record {
   rest : (r : Result (Unit {0}) Halt) (n : Meter)
-      → Tracks (values l.ctx) (EitherBeyond (match_term l.x) (match_term l.y))
-      (arms_from (compare l.env (test_of l.env) l.room) (match_of l.x).params l.ctors (match_of l.x).branches (match_of l.y).branches l.i) r l.m n
-      → Tracks (values l.ctx) (EitherBeyond (match_term l.x) (match_term l.y)) (arms_equal (compare l.env (test_of l.env) l.room) l.ctors (match_of l.x) (match_of l.y)) r l.fn.m n;
+      → Tracks (values l.at.ctx.now) (EitherBeyond (match_term l.x) (match_term l.y))
+      (arms_from (compare l.at.env.now (test_of l.at.env.now) l.room) (match_of l.x).params l.ctors (match_of l.x).branches (match_of l.y).branches l.i) r l.m n
+      → Tracks (values l.at.ctx.now) (EitherBeyond (match_term l.x) (match_term l.y)) (arms_equal (compare l.at.env.now (test_of l.at.env.now) l.room) l.ctors (match_of l.x) (match_of l.y)) r l.fn.m n;
   nest : l.m.nest ≡ l.fn.m.nest;
 }

@@ -7,13 +7,13 @@ pub compare-requires : goal.compare-requires
 compare-requires c =
     let x = plain_read c.plain-x.result c.in_ok-left.left c.plain-x.ensures.term c.plain-x.ensures.items ∙ c.in_ok-left.ensures.ok in
     let y = plain_read c.plain-y.result c.in_ok-right.right c.plain-y.ensures.term c.plain-y.ensures.items ∙ c.in_ok-right.ensures.ok in
-    record { nest = c.requires.nest; left = tt; right = tt; comparable = rw (x, y) c.requires.comparable }
+    record { nest = c.requires.nest; left = tt; right = tt; comparable = rw (x, y, c.new-at.ensures.env, c.new-at.ensures.ctx) c.requires.comparable }
 
 pub returns : goal.returns
 returns c =
     let x = plain_read c.plain-x.result c.in_ok-left.left c.plain-x.ensures.term c.plain-x.ensures.items ∙ c.in_ok-left.ensures.ok in
     let y = plain_read c.plain-y.result c.in_ok-right.right c.plain-y.ensures.term c.plain-y.ensures.items ∙ c.in_ok-right.ensures.ok in
-    let f = rw (x, y) at c.compare.ensures.tracks in
+    let f = rw (x, y, c.new-at.ensures.env, c.new-at.ensures.ctx) at c.compare.ensures.tracks in
     let v = rw c.in_ok-left.ensures.ok at c.in_ok-left.ensures.within in
     let w = rw c.in_ok-right.ensures.ok at c.in_ok-right.ensures.within in
     record { follows = tracked_within _ _ _ _ _ _ f v w c.args.ctx.now refl }

@@ -22,14 +22,14 @@ item-stepped-requires-in-Some-Right t c =
     let there : c.args.trail.now.at < length c.args.self.now.cert.now = item_there _ _ _ (sym c.item_at.ensures.is ∙ c.in-Some-Right.is) in
     search rules
 
-pub item-script-requires : goal.item-script-requires
-item-script-requires t c =
+pub item-terms_script-requires : goal.item-terms_script-requires
+item-terms_script-requires t c =
     let r = left_ready c.requires.scriptable c.in_ok-left-in-Some-Left.ensures.steps in
     let n = c.in_ok-left-in-Some-Left.ensures.retraces.after.nest in
     search rules
 
-pub item-script-requires-in-Some-Right : goal.item-script-requires-in-Some-Right
-item-script-requires-in-Some-Right t c =
+pub item-terms_script-requires-in-Some-Right : goal.item-terms_script-requires-in-Some-Right
+item-terms_script-requires-in-Some-Right t c =
     let r = right_ready c.requires.scriptable c.in_ok-right-in-Some-Right.ensures.steps in
     let n = c.in_ok-right-in-Some-Right.ensures.retraces.after.nest in
     search rules
@@ -44,7 +44,7 @@ pub item-returns-in_ok-left-in-Some-Left : goal.item-returns-in_ok-left-in-Some-
 item-returns-in_ok-left-in-Some-Left t c =
     let v = c.args.self.now in
     let e : slice_get v.cert.now c.args.trail.now.at ≡ Some (Left c.in-Some-Left.n) = sym c.item_at.ensures.is ∙ c.in-Some-Left.is ∙ ap (λ x. Some x) c.in-Some-Left.field-0-is in
-    record { retraces = rw e (retraces_is (left_item v.env.now (test_of v.env.now) (going v) (values c.args.ctx.now) c.args.equal c.args.a.now c.args.b.now c.args.trail.now c.in-Some-Left.n) (retraces_on _ c.in_ok-left-in-Some-Left.ensures.retraces c.script.ensures.retraces)) }
+    record { retraces = rw e (retraces_is (left_item v.env.now (test_of v.env.now) (going v) (values c.args.ctx.now) c.args.equal c.args.a.now c.args.b.now c.args.trail.now c.in-Some-Left.n) (retraces_on _ c.in_ok-left-in-Some-Left.ensures.retraces c.terms_script.ensures.retraces)) }
 
 pub item-returns-in_err-right-in-Some-Right : goal.item-returns-in_err-right-in-Some-Right
 item-returns-in_err-right-in-Some-Right t c =
@@ -56,7 +56,7 @@ pub item-returns-in_ok-right-in-Some-Right : goal.item-returns-in_ok-right-in-So
 item-returns-in_ok-right-in-Some-Right t c =
     let v = c.args.self.now in
     let e : slice_get v.cert.now c.args.trail.now.at ≡ Some (Right c.in-Some-Right.n) = sym c.item_at.ensures.is ∙ c.in-Some-Right.is ∙ ap (λ x. Some x) c.in-Some-Right.field-0-is in
-    record { retraces = rw e (retraces_is (right_item v.env.now (test_of v.env.now) (going v) (values c.args.ctx.now) c.args.equal c.args.a.now c.args.b.now c.args.trail.now c.in-Some-Right.n) (retraces_on _ c.in_ok-right-in-Some-Right.ensures.retraces c.script-in-Some-Right.ensures.retraces)) }
+    record { retraces = rw e (retraces_is (right_item v.env.now (test_of v.env.now) (going v) (values c.args.ctx.now) c.args.equal c.args.a.now c.args.b.now c.args.trail.now c.in-Some-Right.n) (retraces_on _ c.in_ok-right-in-Some-Right.ensures.retraces c.terms_script-in-Some-Right.ensures.retraces)) }
 
 pub item-parts_item-requires : goal.item-parts_item-requires
 item-parts_item-requires t c =
@@ -68,15 +68,15 @@ item-returns-in-Some-Same t c =
     let e : slice_get c.args.self.now.cert.now c.args.trail.now.at ≡ Some Same = sym c.item_at.ensures.is ∙ c.in-Some-Same.is ∙ ap (λ x. Some x) c.in-Some-Same.field-0-is in
     record { retraces = rw e (c.same_item.ensures.retraces (values c.args.ctx.now)) }
 
-pub script-returns-then-not-enter : goal.script-returns-then-not-enter
-script-returns-then-not-enter t c =
+pub terms_script-returns-then-not-enter : goal.terms_script-returns-then-not-enter
+terms_script-returns-then-not-enter t c =
     let z : c.args.self.now.room ≡ 0 = search rules in
     let k : c.enter.new.self.nest ≡ c.args.trail.now.meter.nest = search rules in
     let f = after_same c.args.trail.now.meter c.enter.new.self c.enter.ensures.account k in
     record { retraces = script_nested c.args.self.now.cert.now c.args.self.now.env.now (test_of c.args.self.now.env.now) (values c.args.ctx.now) c.args.equal c.args.a.now c.args.b.now c.args.self.now.room c.args.trail.now (record { meter = c.enter.new.self; at = c.args.trail.now.at }) z f }
 
-pub script-returns : goal.script-returns
-script-returns t c =
+pub terms_script-returns : goal.terms_script-returns
+terms_script-returns t c =
     let k : c.enter.new.self.nest ≡ c.args.trail.now.meter.nest + 1 = search rules in
     let z : c.args.self.now.room ≡ suc (c.args.self.now.room - 1) = search rules in
     record {
@@ -92,50 +92,50 @@ parts_item-returns-then-former t c =
 pub parts_item-returns : goal.parts_item-returns
 parts_item-returns t c = record { retraces = from_past c.parts.ensures.retraces }
 
-pub product-returns-in_err-script : goal.product-returns-in_err-script
-product-returns-in_err-script t c =
+pub product-returns-in_err-terms_script : goal.product-returns-in_err-terms_script
+product-returns-in_err-terms_script t c =
     let eb = rw c.in-Prod.is at c.view.ensures.is in
-    record { retraces = λ i. retraces_passed c.from_residual.ensures.1 (rw (← eb) (product_err i (going c.args.self.now) (values c.args.ctx.now) c.args.equal c.args.domain.now c.args.codomain.now c.in-Prod.other c.in-Prod.target c.args.trail.now _ _ c.in_err-script.ensures.retraces)) }
+    record { retraces = λ i. retraces_passed c.from_residual.ensures.1 (rw (← eb) (product_err i (going c.args.self.now) (values c.args.ctx.now) c.args.equal c.args.domain.now c.args.codomain.now c.in-Prod.other c.in-Prod.target c.args.trail.now _ _ c.in_err-terms_script.ensures.retraces)) }
 
 pub product-returns : goal.product-returns
 product-returns t c =
     let eb = rw c.in-Prod.is at c.view.ensures.is in
     let u = values_under c.args.ctx.now c.in_ok-under.under _ _ c.in_ok-under.ensures.longer c.in_ok-share.ensures.ok in
-    record { retraces = λ i. rw (← eb) (product_go i (going c.args.self.now) (values c.args.ctx.now) c.args.equal c.args.domain.now c.args.codomain.now c.in-Prod.other c.in-Prod.target c.args.trail.now _ _ _ c.in_ok-script.ensures.retraces _ u c.script-2.ensures.retraces) }
+    record { retraces = λ i. rw (← eb) (product_go i (going c.args.self.now) (values c.args.ctx.now) c.args.equal c.args.domain.now c.args.codomain.now c.in-Prod.other c.in-Prod.target c.args.trail.now _ _ _ c.in_ok-terms_script.ensures.retraces _ u c.terms_script-2.ensures.retraces) }
 
-pub lambda-returns-in_err-script : goal.lambda-returns-in_err-script
-lambda-returns-in_err-script t c =
+pub lambda-returns-in_err-terms_script : goal.lambda-returns-in_err-terms_script
+lambda-returns-in_err-terms_script t c =
     let eb = rw c.in-Lambda.is at c.view.ensures.is in
-    record { retraces = λ i equal. retraces_passed c.from_residual.ensures.1 (rw (← eb) (lambda_err i (going c.args.self.now) (values c.args.ctx.now) equal c.args.domain.now c.args.body.now c.in-Lambda.other c.in-Lambda.target c.args.trail.now _ _ c.in_err-script.ensures.retraces)) }
+    record { retraces = λ i equal. retraces_passed c.from_residual.ensures.1 (rw (← eb) (lambda_err i (going c.args.self.now) (values c.args.ctx.now) equal c.args.domain.now c.args.body.now c.in-Lambda.other c.in-Lambda.target c.args.trail.now _ _ c.in_err-terms_script.ensures.retraces)) }
 
 pub lambda-returns : goal.lambda-returns
 lambda-returns t c =
     let eb = rw c.in-Lambda.is at c.view.ensures.is in
     let u = values_under c.args.ctx.now c.in_ok-under.under _ _ c.in_ok-under.ensures.longer c.in_ok-share.ensures.ok in
-    record { retraces = λ i equal. rw (← eb) (lambda_go i (going c.args.self.now) (values c.args.ctx.now) equal c.args.domain.now c.args.body.now c.in-Lambda.other c.in-Lambda.target c.args.trail.now _ _ _ c.in_ok-script.ensures.retraces _ u c.script-2.ensures.retraces) }
+    record { retraces = λ i equal. rw (← eb) (lambda_go i (going c.args.self.now) (values c.args.ctx.now) equal c.args.domain.now c.args.body.now c.in-Lambda.other c.in-Lambda.target c.args.trail.now _ _ _ c.in_ok-terms_script.ensures.retraces _ u c.terms_script-2.ensures.retraces) }
 
-pub application-returns-in_err-script : goal.application-returns-in_err-script
-application-returns-in_err-script t c =
+pub application-returns-in_err-terms_script : goal.application-returns-in_err-terms_script
+application-returns-in_err-terms_script t c =
     let eb = rw c.in-App.is at c.view.ensures.is in
-    record { retraces = λ i equal. retraces_passed c.from_residual.ensures.1 (rw (← eb) (app_err i (going c.args.self.now) (values c.args.ctx.now) equal c.args.f.now c.args.x.now c.in-App.g c.in-App.y c.args.trail.now _ _ c.in_err-script.ensures.retraces)) }
+    record { retraces = λ i equal. retraces_passed c.from_residual.ensures.1 (rw (← eb) (app_err i (going c.args.self.now) (values c.args.ctx.now) equal c.args.f.now c.args.x.now c.in-App.g c.in-App.y c.args.trail.now _ _ c.in_err-terms_script.ensures.retraces)) }
 
 pub application-returns : goal.application-returns
 application-returns t c =
     let eb = rw c.in-App.is at c.view.ensures.is in
-    record { retraces = λ i equal. rw (← eb) (app_go i (going c.args.self.now) (values c.args.ctx.now) equal c.args.f.now c.args.x.now c.in-App.g c.in-App.y c.args.trail.now _ _ _ c.in_ok-script.ensures.retraces c.script-2.ensures.retraces) }
+    record { retraces = λ i equal. rw (← eb) (app_go i (going c.args.self.now) (values c.args.ctx.now) equal c.args.f.now c.args.x.now c.in-App.g c.in-App.y c.args.trail.now _ _ _ c.in_ok-terms_script.ensures.retraces c.terms_script-2.ensures.retraces) }
 
-pub definition-returns-in_err-script : goal.definition-returns-in_err-script
-definition-returns-in_err-script t c =
+pub definition-returns-in_err-terms_script : goal.definition-returns-in_err-terms_script
+definition-returns-in_err-terms_script t c =
     let eb = rw c.in-LetIn.is at c.view.ensures.is in
-    record { retraces = λ i equal. retraces_passed c.from_residual.ensures.1 (rw (← eb) (let_first i (going c.args.self.now) (values c.args.ctx.now) equal c.args.value.now c.args.ty.now c.args.body.now c.in-LetIn.other c.in-LetIn.kind c.in-LetIn.target c.args.trail.now _ _ c.in_err-script.ensures.retraces)) }
+    record { retraces = λ i equal. retraces_passed c.from_residual.ensures.1 (rw (← eb) (let_first i (going c.args.self.now) (values c.args.ctx.now) equal c.args.value.now c.args.ty.now c.args.body.now c.in-LetIn.other c.in-LetIn.kind c.in-LetIn.target c.args.trail.now _ _ c.in_err-terms_script.ensures.retraces)) }
 
 pub parts-returns-in_default : goal.parts-returns-in_default
 parts-returns-in_default t c = record { retraces = rw c.leaf.ensures.is (leaves c.args.at (going c.args.self.now) (values c.args.ctx.now) c.args.equal c.args.trail.now c.args.a.now c.args.b.now (search rules) c.requires.number) }
 
 -- each part of a list
 
-pub each_part-script-requires : goal.each_part-script-requires
-each_part-script-requires t c =
+pub each_part-terms_script-requires : goal.each_part-terms_script-requires
+each_part-terms_script-requires t c =
     let l : c.loop-i.i < length c.args.parts.now = grind arith in
     let h = part_ready c.args.self.now.env.now (values c.args.ctx.now) (values c.in_ok-inner.inner) c.args.parts.now c.loop-i.i c.index-parts-i.result c.requires.env c.requires.values c.in_ok-inner.ensures.longer l c.index-parts-i.is c.requires.parts in
     let n = c.loop-i.invariant.after.nest in
@@ -144,20 +144,20 @@ each_part-script-requires t c =
 pub each_part-loop-i-preserved : goal.each_part-loop-i-preserved
 each_part-loop-i-preserved t c =
     let l : c.loop-i.i < length c.args.parts.now = grind arith in
-    let f = c.in_ok-script.ensures.retraces in
+    let f = c.in_ok-terms_script.ensures.retraces in
     record {
       rest = λ r x y. c.loop-i.invariant.rest r x
-          (part_next (going c.args.self.now) (values c.args.ctx.now) c.args.parts.now c.loop-i.i c.index-parts-i.result (values c.in_ok-inner.inner) r c.loop-i.trail c.script.new.trail x l c.index-parts-i.is c.in_ok-inner.ensures.longer f y);
-      after = after-trans c.args.trail.now.meter c.loop-i.trail.meter c.script.new.trail.meter c.loop-i.invariant.after f.after;
+          (part_next (going c.args.self.now) (values c.args.ctx.now) c.args.parts.now c.loop-i.i c.index-parts-i.result (values c.in_ok-inner.inner) r c.loop-i.trail c.terms_script.new.trail x l c.index-parts-i.is c.in_ok-inner.ensures.longer f y);
+      after = after-trans c.args.trail.now.meter c.loop-i.trail.meter c.terms_script.new.trail.meter c.loop-i.invariant.after f.after;
     }
 
-pub each_part-returns-in_err-script : goal.each_part-returns-in_err-script
-each_part-returns-in_err-script t c =
+pub each_part-returns-in_err-terms_script : goal.each_part-returns-in_err-terms_script
+each_part-returns-in_err-terms_script t c =
     let l : c.loop-i.i < length c.args.parts.now = grind arith in
-    let f = c.in_err-script.ensures.retraces in
+    let f = c.in_err-terms_script.ensures.retraces in
     record {
-      retraces = retraces_passed c.from_residual-in_err-script.ensures.1 (c.loop-i.invariant.rest _ _
-          (part_stops (going c.args.self.now) (values c.args.ctx.now) c.args.parts.now c.loop-i.i c.index-parts-i.result (values c.in_ok-inner.inner) _ c.loop-i.trail c.script.new.trail l c.index-parts-i.is c.in_ok-inner.ensures.longer f));
+      retraces = retraces_passed c.from_residual-in_err-terms_script.ensures.1 (c.loop-i.invariant.rest _ _
+          (part_stops (going c.args.self.now) (values c.args.ctx.now) c.args.parts.now c.loop-i.i c.index-parts-i.result (values c.in_ok-inner.inner) _ c.loop-i.trail c.terms_script.new.trail l c.index-parts-i.is c.in_ok-inner.ensures.longer f));
     }
 
 pub each_part-returns : goal.each_part-returns
@@ -195,12 +195,12 @@ parts-returns-in-Fix t c =
     let ea = rw c.in-Fix.is at c.view.ensures.is in
     record { retraces = rw (← ea) (c.fixpoints.ensures.retraces c.args.equal) }
 
-pub definition-returns-in_err-script-2 : goal.definition-returns-in_err-script-2
-definition-returns-in_err-script-2 t c =
+pub definition-returns-in_err-terms_script-2 : goal.definition-returns-in_err-terms_script-2
+definition-returns-in_err-terms_script-2 t c =
     let eb = rw c.in-LetIn.is at c.view.ensures.is in
     record {
-      retraces = λ i equal. retraces_passed c.from_residual-in_err-script-2.ensures.1
-          (rw (← eb) (let_second i (going c.args.self.now) (values c.args.ctx.now) equal c.args.value.now c.args.ty.now c.args.body.now c.in-LetIn.other c.in-LetIn.kind c.in-LetIn.target c.args.trail.now _ _ _ c.in_ok-script.ensures.retraces c.in_err-script-2.ensures.retraces));
+      retraces = λ i equal. retraces_passed c.from_residual-in_err-terms_script-2.ensures.1
+          (rw (← eb) (let_second i (going c.args.self.now) (values c.args.ctx.now) equal c.args.value.now c.args.ty.now c.args.body.now c.in-LetIn.other c.in-LetIn.kind c.in-LetIn.target c.args.trail.now _ _ _ c.in_ok-terms_script.ensures.retraces c.in_err-terms_script-2.ensures.retraces));
     }
 
 pub definition-returns : goal.definition-returns
@@ -209,7 +209,7 @@ definition-returns t c =
     let u = values_defined c.args.ctx.now c.in_ok-under.under _ _ _ c.in_ok-under.ensures.longer c.in_ok-share.ensures.ok in
     record {
       retraces = λ i equal.
-          rw (← eb) (let_go i (going c.args.self.now) (values c.args.ctx.now) equal c.args.value.now c.args.ty.now c.args.body.now c.in-LetIn.other c.in-LetIn.kind c.in-LetIn.target c.args.trail.now _ _ _ _ c.in_ok-script.ensures.retraces c.in_ok-script-2.ensures.retraces _ u c.script-3.ensures.retraces);
+          rw (← eb) (let_go i (going c.args.self.now) (values c.args.ctx.now) equal c.args.value.now c.args.ty.now c.args.body.now c.in-LetIn.other c.in-LetIn.kind c.in-LetIn.target c.args.trail.now _ _ _ _ c.in_ok-terms_script.ensures.retraces c.in_ok-terms_script-2.ensures.retraces _ u c.terms_script-3.ensures.retraces);
     }
 
 pub matches-returns-in_default-found : goal.matches-returns-in_default-found

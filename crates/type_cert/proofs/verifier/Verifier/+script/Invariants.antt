@@ -9,8 +9,8 @@ use Rattle.type_cert.specs.Going.{going}
 use Rattle.type_cert.specs.Pairs.{acts_of}
 use Rattle.type_cert.proofs.verifier.Verifier.+script.Given as goal
 
-abbrev pub decreases-script : goal.decreases-script
-decreases-script l = l.self.now.room * 8
+abbrev pub decreases-terms_script : goal.decreases-terms_script
+decreases-terms_script l = l.self.now.room * 8
 
 abbrev pub decreases-product : goal.decreases-product
 decreases-product l = l.self.now.room * 8 + 1

@@ -4,10 +4,11 @@ use Rattle.pc_rules.specs.DirectedRun.{noted}
 use Rattle.pc_rules.specs.DirectedTyping.{rule_number, sort_of, check, retype}
 use Rattle.pc_rules.proofs.Following.{follows_made, follows_fault, follows_memory, follows_then, follows_else, follows_done}
 use Rattle.type_infer.proofs.Fixing.{types_next, types_stop, types_fault, types_done, definitions_next, definitions_done, lift_beyond, few_lambdas, lambdas_found, is_family, no_family_found, definitions_go, definitions_stop, definitions_end}
-use Rattle.type_infer.proofs.Steps.{and_then, halts, still, passed_on, passed_with}
+use Rattle.type_infer.proofs.Steps.{and_then, halts, still, passed_on, passed_with, unread_done, unread_passed}
 use Rattle.type_infer.proofs.GuardConditions.{guardable}
 use Rattle.type_infer.proofs.Pendings.{pending_product, pending_beyond, ends_made, pends_there, pends_whole, pends_fault, pends_from, pends_passed, pends_halts, pends_each, product_stays}
 use Rattle.type_infer.specs.Ready.{IsReady}
+use Rattle.type_infer.proofs.Sorts.{sort_stays, sort_unread, sort_counted}
 use Rattle.type_infer.proofs.Finding.{follows_is, if_ok, sort_found_same, sort_found_goes, product_found}
 use Rattle.type_infer.proofs.Beginning.{infer_spent, infer_nested, infer_entered, inferred_from, assumed_ready, defined_ready}
 use Rattle.calculus_rules.specs.Context.{extend}
@@ -64,10 +65,10 @@ pub rule-returns-in-Const : goal.rule-returns-in-Const
 rule-returns-in-Const g t c = record { follows = rw (← c.view.ensures.is, c.in-Const.is) (still (c.const_rule.ensures.answers c.args.m.now.account)) }
 
 pub rule-returns-in-Ind : goal.rule-returns-in-Ind
-rule-returns-in-Ind g t c = record { follows = rw (← c.view.ensures.is, c.in-Ind.is) (still (c.ind_rule.ensures.answers c.args.m.now.account)) }
+rule-returns-in-Ind g t c = record { follows = rw (← c.view.ensures.is, c.in-Ind.is) (still (c.family_rule.ensures.answers c.args.m.now.account)) }
 
 pub rule-returns-in-Construct : goal.rule-returns-in-Construct
-rule-returns-in-Construct g t c = record { follows = rw (← c.view.ensures.is, c.in-Construct.is) (still (c.construct_rule.ensures.answers c.args.m.now.account)) }
+rule-returns-in-Construct g t c = record { follows = rw (← c.view.ensures.is, c.in-Construct.is) (still (c.constructor_rule.ensures.answers c.args.m.now.account)) }
 
 pub rule-returns-in-Case : goal.rule-returns-in-Case
 rule-returns-in-Case g t c = record { follows = rw (← c.view.ensures.is, c.in-Case.is) c.case_rule.ensures.follows }
@@ -97,51 +98,52 @@ pub prod_rule-returns : goal.prod_rule-returns
 prod_rule-returns g t c = record { follows = and_then _ c.in_ok-low.ensures.follows (and_then _ (rw (c.in_ok-under.ensures.longer, c.in_ok-share.ensures.ok) at c.in_ok-high.ensures.follows) (follows_is _ _ _ (c.in_ok-make.ensures.ok ∙ ap SortT c.in_ok-sort.ensures.value))) }
 
 -- lambdas
-pub lambda_rule-returns-in_err-_sort : goal.lambda_rule-returns-in_err-_sort
-lambda_rule-returns-in_err-_sort g t c = record { follows = passed_on c.from_residual.ensures.1 (halts _ c.in_err-_sort.ensures.follows) }
+pub lambda_rule-returns-in_err-sorted_at : goal.lambda_rule-returns-in_err-sorted_at
+lambda_rule-returns-in_err-sorted_at g t c = record { follows = passed_on c.from_residual.ensures.1 (halts _ c.in_err-sorted_at.ensures.follows.unread) }
 
 pub lambda_rule-infer_at-requires : goal.lambda_rule-infer_at-requires
 lambda_rule-infer_at-requires g t c =
-    let r : IsReady c.args.env.now c.in_ok-under.under = rw (c.in_ok-under.ensures.longer, c.in_ok-share.ensures.ok) (assumed_ready _ _ _ c.requires.ready c.in_ok-_sort.ensures.counted) in
+    let r : IsReady c.args.env.now c.in_ok-under.under = rw (c.in_ok-under.ensures.longer, c.in_ok-share.ensures.ok) (assumed_ready _ _ _ c.requires.ready c.in_ok-sorted_at.ensures.counted) in
     search rules
 
 pub lambda_rule-returns-in_err-ty : goal.lambda_rule-returns-in_err-ty
-lambda_rule-returns-in_err-ty g t c = record { follows = passed_on c.from_residual-in_err-ty.ensures.1 (and_then _ c.in_ok-_sort.ensures.follows (halts _ (rw (c.in_ok-under.ensures.longer, c.in_ok-share.ensures.ok) at c.in_err-ty.ensures.follows))) }
+lambda_rule-returns-in_err-ty g t c = record { follows = passed_on c.from_residual-in_err-ty.ensures.1 (and_then _ c.in_ok-sorted_at.ensures.follows.unread.1 (halts _ (rw (c.in_ok-under.ensures.longer, c.in_ok-share.ensures.ok) at c.in_err-ty.ensures.follows))) }
 
 pub lambda_rule-returns-in_err-make : goal.lambda_rule-returns-in_err-make
 lambda_rule-returns-in_err-make g t c =
     let h = rw (c.in_ok-under.ensures.longer, c.in_ok-share.ensures.ok) at c.in_ok-ty.ensures.follows in
-    record { follows = passed_on c.from_residual-in_err-make.ensures.1 (and_then _ c.in_ok-_sort.ensures.follows (and_then _ h (follows_fault _ _ _ (rw c.in_ok-share-2.ensures.ok at c.in_err-make.ensures.too_deep)))) }
+    record { follows = passed_on c.from_residual-in_err-make.ensures.1 (and_then _ c.in_ok-sorted_at.ensures.follows.unread.1 (and_then _ h (follows_fault _ _ _ (rw c.in_ok-share-2.ensures.ok at c.in_err-make.ensures.too_deep)))) }
 
 pub lambda_rule-returns : goal.lambda_rule-returns
-lambda_rule-returns g t c = record { follows = and_then _ c.in_ok-_sort.ensures.follows (and_then _ (rw (c.in_ok-under.ensures.longer, c.in_ok-share.ensures.ok) at c.in_ok-ty.ensures.follows) (follows_made _ _ _ (rw c.in_ok-share-2.ensures.ok at c.in_ok-make.ensures.ok))) }
+lambda_rule-returns g t c = record { follows = and_then _ c.in_ok-sorted_at.ensures.follows.unread.1 (and_then _ (rw (c.in_ok-under.ensures.longer, c.in_ok-share.ensures.ok) at c.in_ok-ty.ensures.follows) (follows_made _ _ _ (rw c.in_ok-share-2.ensures.ok at c.in_ok-make.ensures.ok))) }
 
 -- lets
-pub let_rule-returns-in_err-_sort : goal.let_rule-returns-in_err-_sort
-let_rule-returns-in_err-_sort g t c = record { follows = passed_on c.from_residual.ensures.1 (halts _ c.in_err-_sort.ensures.follows) }
+pub let_rule-returns-in_err-sorted_at : goal.let_rule-returns-in_err-sorted_at
+let_rule-returns-in_err-sorted_at g t c = record { follows = passed_on c.from_residual.ensures.1 (halts _ c.in_err-sorted_at.ensures.follows.unread) }
 
 pub let_rule-returns-in_err-check_at : goal.let_rule-returns-in_err-check_at
-let_rule-returns-in_err-check_at g t c = record { follows = passed_on c.from_residual-in_err-check_at.ensures.1 (and_then _ c.in_ok-_sort.ensures.follows (halts _ c.in_err-check_at.ensures.follows)) }
+let_rule-returns-in_err-check_at g t c = record { follows = passed_on c.from_residual-in_err-check_at.ensures.1 (and_then _ c.in_ok-sorted_at.ensures.follows.unread.1 (halts _ c.in_err-check_at.ensures.follows)) }
 
 pub let_rule-infer_at-requires : goal.let_rule-infer_at-requires
 let_rule-infer_at-requires g t c =
-    let r : IsReady c.args.env.now c.in_ok-under.under = rw (c.in_ok-under.ensures.longer, c.in_ok-share.ensures.ok, c.in_ok-share-2.ensures.ok) (defined_ready _ _ _ _ c.requires.ready c.in_ok-check_at.ensures.counted c.in_ok-_sort.ensures.counted) in
+    let r : IsReady c.args.env.now c.in_ok-under.under = rw (c.in_ok-under.ensures.longer, c.in_ok-share.ensures.ok, c.in_ok-share-2.ensures.ok) (defined_ready _ _ _ _ c.requires.ready c.in_ok-check_at.ensures.counted c.in_ok-sorted_at.ensures.counted) in
     search rules
 
 pub let_rule-returns-in_err-found : goal.let_rule-returns-in_err-found
 let_rule-returns-in_err-found g t c =
-    record { follows = passed_on c.from_residual-in_err-found.ensures.1 (and_then _ c.in_ok-_sort.ensures.follows (and_then _ c.in_ok-check_at.ensures.follows (halts _ (rw (c.in_ok-under.ensures.longer, c.in_ok-share.ensures.ok, c.in_ok-share-2.ensures.ok) at c.in_err-found.ensures.follows)))) }
+    let h = rw (c.in_ok-under.ensures.longer, c.in_ok-share.ensures.ok, c.in_ok-share-2.ensures.ok) at c.in_err-found.ensures.follows in
+    record { follows = passed_on c.from_residual-in_err-found.ensures.1 (and_then _ c.in_ok-sorted_at.ensures.follows.unread.1 (and_then _ c.in_ok-check_at.ensures.follows (halts _ h))) }
 
 pub let_rule-returns-in_err-made : goal.let_rule-returns-in_err-made
 let_rule-returns-in_err-made g t c =
     let h = rw (c.in_ok-under.ensures.longer, c.in_ok-share.ensures.ok, c.in_ok-share-2.ensures.ok) at c.in_ok-found.ensures.follows in
     let k = rw (c.in_ok-share-3.ensures.ok, c.in_ok-share-4.ensures.ok) at c.in_err-made.ensures.too_deep in
-    record { follows = passed_on c.from_residual-in_err-made.ensures.1 (and_then _ c.in_ok-_sort.ensures.follows (and_then _ c.in_ok-check_at.ensures.follows (and_then _ h (follows_fault _ _ _ k)))) }
+    record { follows = passed_on c.from_residual-in_err-made.ensures.1 (and_then _ c.in_ok-sorted_at.ensures.follows.unread.1 (and_then _ c.in_ok-check_at.ensures.follows (and_then _ h (follows_fault _ _ _ k)))) }
 
 pub let_rule-returns : goal.let_rule-returns
 let_rule-returns g t c =
     let h = rw (c.in_ok-under.ensures.longer, c.in_ok-share.ensures.ok, c.in_ok-share-2.ensures.ok) at c.in_ok-found.ensures.follows in
-    record { follows = and_then _ c.in_ok-_sort.ensures.follows (and_then _ c.in_ok-check_at.ensures.follows (and_then _ h (follows_made _ _ _ (rw (c.in_ok-share-3.ensures.ok, c.in_ok-share-4.ensures.ok) at c.in_ok-made.ensures.ok)))) }
+    record { follows = and_then _ c.in_ok-sorted_at.ensures.follows.unread.1 (and_then _ c.in_ok-check_at.ensures.follows (and_then _ h (follows_made _ _ _ (rw (c.in_ok-share-3.ensures.ok, c.in_ok-share-4.ensures.ok) at c.in_ok-made.ensures.ok)))) }
 
 -- applications
 pub app_rule-returns-in_err-ty : goal.app_rule-returns-in_err-ty
@@ -257,37 +259,83 @@ pub sort_at-returns-in_err-ty-clause-follows : goal.sort_at-returns-in_err-ty-cl
 unfolding sort_of
 sort_at-returns-in_err-ty-clause-follows g t c = passed_on c.from_residual.ensures.1 (halts _ c.in_err-ty.ensures.follows)
 
-pub sort_at-returns-in_err-whnf-clause-follows : goal.sort_at-returns-in_err-whnf-clause-follows
-unfolding sort_of
-sort_at-returns-in_err-whnf-clause-follows g t c = passed_on c.from_residual-in_err-whnf.ensures.1 (and_then _ c.in_ok-ty.ensures.follows (halts _ c.in_err-whnf.ensures.follows))
-
-pub sort_at-returns-then-same-clause-follows : goal.sort_at-returns-then-same-clause-follows
-unfolding sort_of
-sort_at-returns-then-same-clause-follows g t c = and_then _ c.in_ok-ty.ensures.follows (and_then _ c.in_ok-whnf.ensures.follows
-    (sort_found_same c.args.env.now c.args.room c.args.ctx.now _ _ _ (rw c.in-Sort.is at c.view.ensures.is) (same_yes _ _ c.same.result c.same.ensures.is c.if-same.true) c.in_ok-sort-in-Sort.ensures.value))
-
-pub sort_at-returns-in_err-conv-in-Sort-clause-follows : goal.sort_at-returns-in_err-conv-in-Sort-clause-follows
-unfolding sort_of
-sort_at-returns-in_err-conv-in-Sort-clause-follows g t c =
-    passed_on c.from_residual-in_err-conv-in-Sort.ensures.1 (and_then _ c.in_ok-ty.ensures.follows (and_then _ c.in_ok-whnf.ensures.follows
-    (sort_found_goes c.args.env.now c.args.room c.args.ctx.now _ _ _ (rw c.in-Sort.is at c.view.ensures.is) (same_no _ _ c.same.result c.same.ensures.is c.if-same.false) (halts _ c.in_err-conv-in-Sort.ensures.follows))))
-
-pub sort_at-returns-in_err-_above-in-Sort-clause-follows : goal.sort_at-returns-in_err-_above-in-Sort-clause-follows
-unfolding sort_of
-sort_at-returns-in_err-_above-in-Sort-clause-follows g t c =
-    passed_on c.from_residual-in_err-_above-in-Sort.ensures.1 (and_then _ c.in_ok-ty.ensures.follows (and_then _ c.in_ok-whnf.ensures.follows
-    (sort_found_goes c.args.env.now c.args.room c.args.ctx.now _ _ _ (rw c.in-Sort.is at c.view.ensures.is) (same_no _ _ c.same.result c.same.ensures.is c.if-same.false) (and_then _ c.in_ok-conv-in-Sort.ensures.follows (halts _ c.in_err-_above-in-Sort.ensures.follows)))))
-
 pub sort_at-returns-in-Sort-clause-follows : goal.sort_at-returns-in-Sort-clause-follows
 unfolding sort_of
 sort_at-returns-in-Sort-clause-follows g t c =
-    and_then _ c.in_ok-ty.ensures.follows (and_then _ c.in_ok-whnf.ensures.follows
-    (sort_found_goes c.args.env.now c.args.room c.args.ctx.now _ _ _ (rw c.in-Sort.is at c.view.ensures.is) (same_no _ _ c.same.result c.same.ensures.is c.if-same.false)
-    (and_then _ c.in_ok-conv-in-Sort.ensures.follows (and_then _ c.in_ok-_above-in-Sort.ensures.follows (follows_is _ _ _ c.in_ok-sort-in-Sort.ensures.value)))))
+    and_then _ c.in_ok-ty.ensures.follows (sort_stays c.args.env.now c.args.room c.args.ctx.now _ _ _ (rw c.in-Sort.is at c.view.ensures.is) c.in_ok-share-in-Sort.ensures.value)
 
-pub sort_at-returns : goal.sort_at-returns
+pub sort_at-returns-clause-follows : goal.sort_at-returns-clause-follows
 unfolding sort_of
-sort_at-returns g t c = record { follows = and_then _ c.in_ok-ty.ensures.follows (and_then _ c.in_ok-whnf.ensures.follows (search rules)); counted = tt }
+sort_at-returns-clause-follows g t c = and_then _ c.in_ok-ty.ensures.follows c.reduced_sort.ensures.follows
+
+pub sort_at-returns-clause-counted : goal.sort_at-returns-clause-counted
+sort_at-returns-clause-counted g t c = if_ok _ c.reduced_sort.result c.in_ok-ty.ensures.inferred.subject
+
+-- that a term has a sort
+pub sorted_at-returns-in-Sort-clause-follows : goal.sorted_at-returns-in-Sort-clause-follows
+sorted_at-returns-in-Sort-clause-follows g t c =
+    let e = rw c.in-Sort.is at c.view.ensures.is in
+    sort_unread c.args.env.now c.args.room c.args.ctx.now _ c.args.t.now c.sort_of_sort.result e (c.sort_of_sort.ensures.follows c.args.ctx.now c.args.room c.requires.nest)
+
+pub sorted_at-returns-in-Sort-clause-counted : goal.sorted_at-returns-in-Sort-clause-counted
+sorted_at-returns-in-Sort-clause-counted g t c =
+    let e = rw c.in-Sort.is at c.view.ensures.is in
+    let f = c.sort_of_sort.ensures.follows c.args.ctx.now c.args.room c.requires.nest in
+    sort_counted c.args.env.now c.args.room c.args.ctx.now _ c.args.t.now c.sort_of_sort.result e c.requires.ready c.view.ensures.formed f
+
+-- the same, by the term's type
+pub inferred_sorted-returns-in_err-ty-clause-follows : goal.inferred_sorted-returns-in_err-ty-clause-follows
+unfolding sort_of
+inferred_sorted-returns-in_err-ty-clause-follows g t c = unread_passed c.from_residual.ensures.1 (halts _ c.in_err-ty.ensures.follows)
+
+pub inferred_sorted-returns-then-is_sort-clause-follows : goal.inferred_sorted-returns-then-is_sort-clause-follows
+unfolding sort_of
+inferred_sorted-returns-then-is_sort-clause-follows g t c =
+    let s = c.is_sort.ensures.sort c.if-is_sort.true in
+    unread_done (and_then _ c.in_ok-ty.ensures.follows (sort_stays c.args.env.now c.args.room c.args.ctx.now _ s.0 s.0 s.1 refl))
+
+pub inferred_sorted-returns-in_err-_sort-clause-follows : goal.inferred_sorted-returns-in_err-_sort-clause-follows
+unfolding sort_of
+inferred_sorted-returns-in_err-_sort-clause-follows g t c = unread_passed c.from_residual-in_err-_sort.ensures.1 (and_then _ c.in_ok-ty.ensures.follows c.in_err-_sort.ensures.follows)
+
+pub inferred_sorted-returns-clause-follows : goal.inferred_sorted-returns-clause-follows
+unfolding sort_of
+inferred_sorted-returns-clause-follows g t c = unread_done (and_then _ c.in_ok-ty.ensures.follows c.in_ok-_sort.ensures.follows)
+
+-- the sort of a term by its type's weak-head normal form
+pub reduced_sort-returns-in_err-whnf : goal.reduced_sort-returns-in_err-whnf
+reduced_sort-returns-in_err-whnf g t c = record { follows = passed_on c.from_residual.ensures.1 (halts _ c.in_err-whnf.ensures.follows) }
+
+pub reduced_sort-returns-then-same : goal.reduced_sort-returns-then-same
+reduced_sort-returns-then-same g t c = record {
+  follows = and_then _ c.in_ok-whnf.ensures.follows
+      (sort_found_same c.args.env.now c.args.room c.args.ctx.now _ _ _ (rw c.in-Sort.is at c.view.ensures.is) (same_yes _ _ c.same.result c.same.ensures.is c.if-same.true) c.in_ok-sort-in-Sort.ensures.value);
+}
+
+pub reduced_sort-returns-in_err-conv-in-Sort : goal.reduced_sort-returns-in_err-conv-in-Sort
+reduced_sort-returns-in_err-conv-in-Sort g t c =
+    record {
+      follows = passed_on c.from_residual-in_err-conv-in-Sort.ensures.1 (and_then _ c.in_ok-whnf.ensures.follows
+          (sort_found_goes c.args.env.now c.args.room c.args.ctx.now _ _ _ (rw c.in-Sort.is at c.view.ensures.is) (same_no _ _ c.same.result c.same.ensures.is c.if-same.false) (halts _ c.in_err-conv-in-Sort.ensures.follows)));
+    }
+
+pub reduced_sort-returns-in_err-_above-in-Sort : goal.reduced_sort-returns-in_err-_above-in-Sort
+reduced_sort-returns-in_err-_above-in-Sort g t c =
+    record {
+      follows = passed_on c.from_residual-in_err-_above-in-Sort.ensures.1 (and_then _ c.in_ok-whnf.ensures.follows
+          (sort_found_goes c.args.env.now c.args.room c.args.ctx.now _ _ _ (rw c.in-Sort.is at c.view.ensures.is) (same_no _ _ c.same.result c.same.ensures.is c.if-same.false) (and_then _ c.in_ok-conv-in-Sort.ensures.follows (halts _ c.in_err-_above-in-Sort.ensures.follows))));
+    }
+
+pub reduced_sort-returns-in_ok-_above-in-Sort : goal.reduced_sort-returns-in_ok-_above-in-Sort
+reduced_sort-returns-in_ok-_above-in-Sort g t c =
+    record {
+      follows = and_then _ c.in_ok-whnf.ensures.follows
+          (sort_found_goes c.args.env.now c.args.room c.args.ctx.now _ _ _ (rw c.in-Sort.is at c.view.ensures.is) (same_no _ _ c.same.result c.same.ensures.is c.if-same.false)
+          (and_then _ c.in_ok-conv-in-Sort.ensures.follows (and_then _ c.in_ok-_above-in-Sort.ensures.follows (follows_is _ _ _ c.in_ok-sort-in-Sort.ensures.value))));
+    }
+
+pub reduced_sort-returns-in_default : goal.reduced_sort-returns-in_default
+reduced_sort-returns-in_default g t c = record { follows = and_then _ c.in_ok-whnf.ensures.follows (search rules) }
 
 -- a term against a type
 pub check_at-returns-in_err-found-clause-follows : goal.check_at-returns-in_err-found-clause-follows
@@ -302,26 +350,26 @@ pub check_at-returns-in_err-conv-clause-follows : goal.check_at-returns-in_err-c
 unfolding check
 check_at-returns-in_err-conv-clause-follows g t c = passed_on c.from_residual-in_err-conv.ensures.1 (and_then _ c.in_ok-found.ensures.follows (follows_else _ _ _ _ _ _ (same_no _ _ c.same.result c.same.ensures.is c.if-same.false) (halts _ c.in_err-conv.ensures.follows)))
 
-pub check_at-returns-in_err-_sort-clause-follows : goal.check_at-returns-in_err-_sort-clause-follows
+pub check_at-returns-in_err-sorted_at-clause-follows : goal.check_at-returns-in_err-sorted_at-clause-follows
 unfolding check
-check_at-returns-in_err-_sort-clause-follows g t c =
-    passed_on c.from_residual-in_err-_sort.ensures.1 (and_then _ c.in_ok-found.ensures.follows (follows_else _ _ _ _ _ _ (same_no _ _ c.same.result c.same.ensures.is c.if-same.false) (and_then _ c.in_ok-conv.ensures.follows (halts _ c.in_err-_sort.ensures.follows))))
+check_at-returns-in_err-sorted_at-clause-follows g t c =
+    passed_on c.from_residual-in_err-sorted_at.ensures.1 (and_then _ c.in_ok-found.ensures.follows (follows_else _ _ _ _ _ _ (same_no _ _ c.same.result c.same.ensures.is c.if-same.false) (and_then _ c.in_ok-conv.ensures.follows (halts _ c.in_err-sorted_at.ensures.follows.unread))))
 
 pub check_at-below-requires-clause-left : goal.check_at-below-requires-clause-left
 check_at-below-requires-clause-left g t c = c.in_ok-found.ensures.inferred.classifier
 
 pub check_at-below-requires-clause-right : goal.check_at-below-requires-clause-right
-check_at-below-requires-clause-right g t c = c.in_ok-_sort.ensures.counted
+check_at-below-requires-clause-right g t c = c.in_ok-sorted_at.ensures.counted
 
 pub check_at-returns-clause-follows : goal.check_at-returns-clause-follows
 unfolding check
-check_at-returns-clause-follows g t c = and_then _ c.in_ok-found.ensures.follows (follows_else _ _ _ _ _ _ (same_no _ _ c.same.result c.same.ensures.is c.if-same.false) (and_then _ c.in_ok-conv.ensures.follows (and_then _ c.in_ok-_sort.ensures.follows c.below.ensures.follows)))
+check_at-returns-clause-follows g t c = and_then _ c.in_ok-found.ensures.follows (follows_else _ _ _ _ _ _ (same_no _ _ c.same.result c.same.ensures.is c.if-same.false) (and_then _ c.in_ok-conv.ensures.follows (and_then _ c.in_ok-sorted_at.ensures.follows.unread.1 c.below.ensures.follows)))
 
 pub check_at-returns-clause-counted : goal.check_at-returns-clause-counted
 check_at-returns-clause-counted g t c = if_ok _ c.below.result c.in_ok-found.ensures.inferred.subject
 
 pub check_at-returns-clause-type_counted : goal.check_at-returns-clause-type_counted
-check_at-returns-clause-type_counted g t c = if_ok _ c.below.result c.in_ok-_sort.ensures.counted
+check_at-returns-clause-type_counted g t c = if_ok _ c.below.result c.in_ok-sorted_at.ensures.counted
 
 -- a type in place of another
 pub retype-returns-then-same : goal.retype-returns-then-same
@@ -332,17 +380,17 @@ pub retype-returns-in_err-conv : goal.retype-returns-in_err-conv
 unfolding retype
 retype-returns-in_err-conv g t c = record { follows = passed_on c.from_residual.ensures.1 (follows_else _ _ _ _ _ _ (same_no _ _ c.same.result c.same.ensures.is c.if-same.false) (halts _ c.in_err-conv.ensures.follows)) }
 
-pub retype-returns-in_err-_sort : goal.retype-returns-in_err-_sort
+pub retype-returns-in_err-sorted_at : goal.retype-returns-in_err-sorted_at
 unfolding retype
-retype-returns-in_err-_sort g t c = record { follows = passed_on c.from_residual-in_err-_sort.ensures.1 (follows_else _ _ _ _ _ _ (same_no _ _ c.same.result c.same.ensures.is c.if-same.false) (and_then _ c.in_ok-conv.ensures.follows (halts _ c.in_err-_sort.ensures.follows))) }
+retype-returns-in_err-sorted_at g t c = record { follows = passed_on c.from_residual-in_err-sorted_at.ensures.1 (follows_else _ _ _ _ _ _ (same_no _ _ c.same.result c.same.ensures.is c.if-same.false) (and_then _ c.in_ok-conv.ensures.follows (halts _ c.in_err-sorted_at.ensures.follows.unread))) }
 
 pub retype-returns : goal.retype-returns
 unfolding retype
-retype-returns g t c = record { follows = follows_else _ _ _ _ _ _ (same_no _ _ c.same.result c.same.ensures.is c.if-same.false) (and_then _ c.in_ok-conv.ensures.follows (and_then _ c.in_ok-_sort.ensures.follows (search rules))) }
+retype-returns g t c = record { follows = follows_else _ _ _ _ _ _ (same_no _ _ c.same.result c.same.ensures.is c.if-same.false) (and_then _ c.in_ok-conv.ensures.follows (and_then _ c.in_ok-sorted_at.ensures.follows.unread.1 (search rules))) }
 
 -- the types of the definitions of a fixpoint
-pub types_rule-sort_at-requires : goal.types_rule-sort_at-requires
-types_rule-sort_at-requires g t c =
+pub types_rule-sorted_at-requires : goal.types_rule-sorted_at-requires
+types_rule-sorted_at-requires g t c =
     let r = c.loop-i.invariant.ready in
     let n = c.loop-i.invariant.nest in
     search rules
@@ -352,15 +400,15 @@ types_rule-returns-in_err-ty-clause-follows g t c =
     passed_with c.from_residual-in_err-ty.result c.from_residual-in_err-ty.ensures.1 (rw c.as_slice-items.ensures.is at (c.loop-i.invariant.rest _ _
     (types_fault _ _ _ _ _ _ (grind arith) c.index-items-i.is _ _ (rw (← c.index-items-i.is) at c.in_err-ty.ensures.too_deep))))
 
-pub types_rule-returns-in_err-_sort-clause-follows : goal.types_rule-returns-in_err-_sort-clause-follows
-types_rule-returns-in_err-_sort-clause-follows g t c =
-    passed_with c.from_residual-in_err-_sort.result c.from_residual-in_err-_sort.ensures.1 (rw c.as_slice-items.ensures.is at (c.loop-i.invariant.rest _ _
-    (types_stop _ _ _ _ _ _ (grind arith) c.index-items-i.is _ _ _ _ (rw (← c.index-items-i.is) at c.in_ok-ty.ensures.parallel) c.in_err-_sort.ensures.follows)))
+pub types_rule-returns-in_err-sorted_at-clause-follows : goal.types_rule-returns-in_err-sorted_at-clause-follows
+types_rule-returns-in_err-sorted_at-clause-follows g t c =
+    passed_with c.from_residual-in_err-sorted_at.result c.from_residual-in_err-sorted_at.ensures.1 (rw c.as_slice-items.ensures.is at (c.loop-i.invariant.rest _ _
+    (types_stop _ _ _ _ _ _ (grind arith) c.index-items-i.is _ _ _ _ (rw (← c.index-items-i.is) at c.in_ok-ty.ensures.parallel) c.in_err-sorted_at.ensures.follows.unread)))
 
 pub types_rule-returns-in_err-under-2-clause-follows : goal.types_rule-returns-in_err-under-2-clause-follows
 types_rule-returns-in_err-under-2-clause-follows g t c =
     passed_with c.from_residual-in_err-under-2.result c.from_residual-in_err-under-2.ensures.1 (rw c.in_err-under-2.ensures.only_memory (rw c.as_slice-items.ensures.is at (c.loop-i.invariant.rest _ _
-    (types_next _ _ _ _ _ _ (grind arith) c.index-items-i.is _ _ _ _ _ _ (rw (← c.index-items-i.is) at c.in_ok-ty.ensures.parallel) c.in_ok-_sort.ensures.follows (follows_memory _ _)))))
+    (types_next _ _ _ _ _ _ (grind arith) c.index-items-i.is _ _ _ _ _ _ (rw (← c.index-items-i.is) at c.in_ok-ty.ensures.parallel) c.in_ok-sorted_at.ensures.follows.unread.1 (follows_memory _ _)))))
 
 pub types_rule-loop-i-preserved : goal.types_rule-loop-i-preserved
 types_rule-loop-i-preserved g t c =
@@ -368,10 +416,10 @@ types_rule-loop-i-preserved g t c =
     let k = rw (← c.index-items-i.is) at c.in_ok-ty.ensures.parallel in
     let e = c.in_ok-under-2.ensures.longer in
     record {
-      rest = λ r n x. c.loop-i.invariant.rest r n (types_next _ _ _ _ _ _ l c.index-items-i.is _ _ r _ _ n k c.in_ok-_sort.ensures.follows (rw e at x));
-      nest = c.in_ok-_sort.ensures.follows.after.nest ∙ c.loop-i.invariant.nest;
+      rest = λ r n x. c.loop-i.invariant.rest r n (types_next _ _ _ _ _ _ l c.index-items-i.is _ _ r _ _ n k c.in_ok-sorted_at.ensures.follows.unread.1 (rw e at x));
+      nest = c.in_ok-sorted_at.ensures.follows.after.nest ∙ c.loop-i.invariant.nest;
       under = c.loop-i.invariant.under ∙ rw e (definitions_next _ _ _ _ l c.index-items-i.is _ k);
-      ready = rw e (assumed_ready _ _ _ c.loop-i.invariant.ready c.in_ok-_sort.ensures.counted);
+      ready = rw e (assumed_ready _ _ _ c.loop-i.invariant.ready c.in_ok-sorted_at.ensures.counted);
     }
 
 pub types_rule-returns-clause-follows : goal.types_rule-returns-clause-follows
@@ -455,22 +503,24 @@ entered-loop-i-init g t c = rw c.in_ok-inner.ensures.same (record { rest = λ r 
 pub entered-loop-i-preserved : goal.entered-loop-i-preserved
 entered-loop-i-preserved g t c =
     rw (c.in_ok-inner-2.ensures.longer, c.in_ok-share.ensures.ok) (record {
-      rest = λ r n x. c.loop-i.invariant.rest r n (entered_next _ _ _ _ _ _ _ r _ _ n c.loop-i-test.true c.index-items-i.is c.in_ok-_sort.ensures.follows x);
+      rest = λ r n x. c.loop-i.invariant.rest r n (entered_next _ _ _ _ _ _ _ r _ _ n c.loop-i-test.true c.index-items-i.is c.in_ok-sorted_at.ensures.follows.unread.1 x);
       longer = longer_next _ _ _ _ c.loop-i-test.true c.index-items-i.is ∙ c.loop-i.invariant.longer;
-      ready = assumed_ready _ _ _ c.loop-i.invariant.ready c.in_ok-_sort.ensures.counted;
-      nest = c.in_ok-_sort.ensures.follows.after.nest ∙ c.loop-i.invariant.nest;
+      ready = assumed_ready _ _ _ c.loop-i.invariant.ready c.in_ok-sorted_at.ensures.counted;
+      nest = c.in_ok-sorted_at.ensures.follows.after.nest ∙ c.loop-i.invariant.nest;
     })
 
-pub entered-returns-in_err-_sort-clause-follows : goal.entered-returns-in_err-_sort-clause-follows
-entered-returns-in_err-_sort-clause-follows g t c = passed_on c.from_residual-in_err-_sort.ensures.1 (rw c.as_slice-items.ensures.is at (c.loop-i.invariant.rest _ _ (entered_stop _ _ _ _ _ _ _ _ _ c.loop-i-test.true c.index-items-i.is c.in_err-_sort.ensures.follows)))
+pub entered-returns-in_err-sorted_at-clause-follows : goal.entered-returns-in_err-sorted_at-clause-follows
+entered-returns-in_err-sorted_at-clause-follows g t c = passed_on c.from_residual-in_err-sorted_at.ensures.1 (rw c.as_slice-items.ensures.is at (c.loop-i.invariant.rest _ _ (entered_stop _ _ _ _ _ _ _ _ _ c.loop-i-test.true c.index-items-i.is c.in_err-sorted_at.ensures.follows.unread)))
 
 pub entered-returns-in_err-share-clause-follows : goal.entered-returns-in_err-share-clause-follows
 entered-returns-in_err-share-clause-follows g t c =
-    passed_on c.from_residual-in_err-share.ensures.1 (rw c.in_err-share.ensures.only_memory (rw c.as_slice-items.ensures.is at (c.loop-i.invariant.rest _ _ (entered_next _ _ _ _ _ _ _ _ _ _ _ c.loop-i-test.true c.index-items-i.is c.in_ok-_sort.ensures.follows (follows_memory _ _)))))
+    passed_on c.from_residual-in_err-share.ensures.1 (rw c.in_err-share.ensures.only_memory (rw c.as_slice-items.ensures.is at (c.loop-i.invariant.rest _ _
+    (entered_next _ _ _ _ _ _ _ _ _ _ _ c.loop-i-test.true c.index-items-i.is c.in_ok-sorted_at.ensures.follows.unread.1 (follows_memory _ _)))))
 
 pub entered-returns-in_err-inner-2-clause-follows : goal.entered-returns-in_err-inner-2-clause-follows
 entered-returns-in_err-inner-2-clause-follows g t c =
-    passed_on c.from_residual-in_err-inner-2.ensures.1 (rw c.in_err-inner-2.ensures.only_memory (rw c.as_slice-items.ensures.is at (c.loop-i.invariant.rest _ _ (entered_next _ _ _ _ _ _ _ _ _ _ _ c.loop-i-test.true c.index-items-i.is c.in_ok-_sort.ensures.follows (follows_memory _ _)))))
+    passed_on c.from_residual-in_err-inner-2.ensures.1 (rw c.in_err-inner-2.ensures.only_memory (rw c.as_slice-items.ensures.is at (c.loop-i.invariant.rest _ _
+    (entered_next _ _ _ _ _ _ _ _ _ _ _ c.loop-i-test.true c.index-items-i.is c.in_ok-sorted_at.ensures.follows.unread.1 (follows_memory _ _)))))
 
 pub entered-returns-clause-follows : goal.entered-returns-clause-follows
 entered-returns-clause-follows g t c = rw c.as_slice-items.ensures.is at (c.loop-i.invariant.rest _ _ (entered_end _ _ _ _ _ _ c.loop-i-test.false))
@@ -541,13 +591,13 @@ scrutinee_fits-returns-then-same g t c = record { follows = follows_then _ _ _ _
 pub scrutinee_fits-returns-in_err-conv : goal.scrutinee_fits-returns-in_err-conv
 scrutinee_fits-returns-in_err-conv g t c = record { follows = passed_on c.from_residual.ensures.1 (follows_else _ _ _ _ _ _ (same_no _ _ c.same.result c.same.ensures.is c.if-same.false) (halts _ c.in_err-conv.ensures.follows)) }
 
-pub scrutinee_fits-returns-in_err-_sort : goal.scrutinee_fits-returns-in_err-_sort
-scrutinee_fits-returns-in_err-_sort g t c =
-    record { follows = passed_on c.from_residual-in_err-_sort.ensures.1 (follows_else _ _ _ _ _ _ (same_no _ _ c.same.result c.same.ensures.is c.if-same.false) (and_then _ c.in_ok-conv.ensures.follows (halts _ c.in_err-_sort.ensures.follows))) }
+pub scrutinee_fits-returns-in_err-sorted_at : goal.scrutinee_fits-returns-in_err-sorted_at
+scrutinee_fits-returns-in_err-sorted_at g t c =
+    record { follows = passed_on c.from_residual-in_err-sorted_at.ensures.1 (follows_else _ _ _ _ _ _ (same_no _ _ c.same.result c.same.ensures.is c.if-same.false) (and_then _ c.in_ok-conv.ensures.follows (halts _ c.in_err-sorted_at.ensures.follows.unread))) }
 
 pub scrutinee_fits-returns : goal.scrutinee_fits-returns
 scrutinee_fits-returns g t c =
-    record { follows = follows_else _ _ _ _ _ _ (same_no _ _ c.same.result c.same.ensures.is c.if-same.false) (and_then _ c.in_ok-conv.ensures.follows (and_then _ c.in_ok-_sort.ensures.follows c.below.ensures.follows)) }
+    record { follows = follows_else _ _ _ _ _ _ (same_no _ _ c.same.result c.same.ensures.is c.if-same.false) (and_then _ c.in_ok-conv.ensures.follows (and_then _ c.in_ok-sorted_at.ensures.follows.unread.1 c.below.ensures.follows)) }
 
 -- a scrutinee
 pub scrutinee_rule-scrutinee_fits-requires : goal.scrutinee_rule-scrutinee_fits-requires

@@ -21,13 +21,22 @@ abbrev pub decreases-infer_at : goal.decreases-infer_at
 decreases-infer_at g l = l.room * 32
 
 abbrev pub decreases-sort_at : goal.decreases-sort_at
-decreases-sort_at g l = l.room * 32 + 1
+decreases-sort_at g l = l.room * 32 + 3
+
+abbrev pub decreases-sorted_at : goal.decreases-sorted_at
+decreases-sorted_at g l = l.room * 32 + 3
+
+abbrev pub decreases-inferred_sorted : goal.decreases-inferred_sorted
+decreases-inferred_sorted g l = l.room * 32 + 2
+
+abbrev pub decreases-reduced_sort : goal.decreases-reduced_sort
+decreases-reduced_sort g l = l.room * 32 + 1
 
 abbrev pub decreases-check_at : goal.decreases-check_at
-decreases-check_at g l = l.room * 32 + 2
+decreases-check_at g l = l.room * 32 + 4
 
 abbrev pub decreases-retype : goal.decreases-retype
-decreases-retype g l = l.room * 32 + 2
+decreases-retype g l = l.room * 32 + 4
 
 abbrev pub decreases-prod_rule : goal.decreases-prod_rule
 decreases-prod_rule g l = l.room * 32 + 20
@@ -59,13 +68,13 @@ decreases-rule g l = l.room * 32 + 22
 -- fixpoints
 
 abbrev pub decreases-types_rule : goal.decreases-types_rule
-decreases-types_rule g l = l.room * 32 + 3
+decreases-types_rule g l = l.room * 32 + 4
 
 abbrev pub decreases-definition_rule : goal.decreases-definition_rule
-decreases-definition_rule g l = l.room * 32 + 3
+decreases-definition_rule g l = l.room * 32 + 5
 
 abbrev pub decreases-definitions_rule : goal.decreases-definitions_rule
-decreases-definitions_rule g l = l.room * 32 + 4
+decreases-definitions_rule g l = l.room * 32 + 6
 
 abbrev pub decreases-fix_rule : goal.decreases-fix_rule
 decreases-fix_rule g l = l.room * 32 + 20
@@ -93,7 +102,7 @@ invariant-definitions_rule-loop-i g l = record {
 -- matches
 
 abbrev pub decreases-entered : goal.decreases-entered
-decreases-entered g l = l.room * 32 + 3
+decreases-entered g l = l.room * 32 + 4
 
 -- what answers for the rest of the entries answers for the whole telescope
 abbrev pub invariant-entered-loop-i : goal.invariant-entered-loop-i
@@ -107,7 +116,7 @@ invariant-entered-loop-i g l = record {
 }
 
 abbrev pub decreases-check_all : goal.decreases-check_all
-decreases-check_all g l = l.room * 32 + 3
+decreases-check_all g l = l.room * 32 + 5
 
 -- what answers for the rest of the terms, with those before them put in, answers for all
 abbrev pub invariant-check_all-loop-i : goal.invariant-check_all-loop-i
@@ -121,19 +130,19 @@ invariant-check_all-loop-i g l = record {
 }
 
 abbrev pub decreases-predicate_rule : goal.decreases-predicate_rule
-decreases-predicate_rule g l = l.room * 32 + 4
+decreases-predicate_rule g l = l.room * 32 + 5
 
 abbrev pub decreases-scrutinee_fits : goal.decreases-scrutinee_fits
-decreases-scrutinee_fits g l = l.room * 32 + 3
+decreases-scrutinee_fits g l = l.room * 32 + 4
 
 abbrev pub decreases-scrutinee_rule : goal.decreases-scrutinee_rule
-decreases-scrutinee_rule g l = l.room * 32 + 4
+decreases-scrutinee_rule g l = l.room * 32 + 5
 
 abbrev pub decreases-branch_rule : goal.decreases-branch_rule
-decreases-branch_rule g l = l.room * 32 + 4
+decreases-branch_rule g l = l.room * 32 + 5
 
 abbrev pub decreases-branches_rule : goal.decreases-branches_rule
-decreases-branches_rule g l = l.room * 32 + 5
+decreases-branches_rule g l = l.room * 32 + 6
 
 -- what answers for the rest of the branches answers for all
 abbrev pub invariant-branches_rule-loop-i : goal.invariant-branches_rule-loop-i
