@@ -1,15 +1,12 @@
 -- An evaluation is followed after erasure, in no more nodes, by a term in which box stands for parameters of constructors. What the parameters erase to isn't evaluated, and need name no
 -- constant of the program.
-use Rattle.std.proofs.Common.{◌≡◌, ◌≢◌, ℕ, zero, suc, ◌+◌, ◌≤◌, List, [], ◌∷◌, ◌++◌, length, Some, ◌⊎◌, inl, inr, refl, sym, ap, ◌∙◌, subst, arith, slice_get}
+use Rattle.std.proofs.Common.{◌≡◌, ◌≢◌, ℕ, suc, ◌+◌, ◌≤◌, List, [], ◌∷◌, ◌++◌, length, Some, ◌⊎◌, inl, inr, refl, sym, ap, ◌∙◌, subst, arith, slice_get}
 use Rattle.trees.specs.Tree.{Done, Next}
 use Rattle.trees.specs.Closed.{EveryTerm}
-use Rattle.universe_levels.specs.declared.sort.Sort.{Sort}
-use Rattle.universe_levels.specs.declared.sort.Sort.TheVariants.{Prop, Of}
+use Rattle.universe_levels.specs.declared.sort.Sort.TheVariants.{Prop}
 use Rattle.pc_terms.specs.declared.leaf.FamilyId.{FamilyId}
 use Rattle.pc_terms.specs.Syntax.{Term, Terms, Rel, Lambda, App, Construct, put, put_all, substitute, terms_of, term_at}
 use Rattle.box_terms.specs.BoxSyntax.{BoxTerm, BoxTerms, Box, BApp, BConstruct, BCase}
-use Rattle.calculus_rules.specs.declared.declaration.Constructor.{Constructor}
-use Rattle.calculus_rules.specs.declared.entry.Entry.TheVariants.{Defined}
 use Rattle.calculus_rules.specs.Environment.{Env, FamilyDecl, KeepsFamily}
 use Rattle.calculus_rules.specs.Context as context
 use Rattle.calculus_rules.specs.Conversion.{Equal}
@@ -21,9 +18,7 @@ use Rattle.calculus_rules.specs.Lawful.{ArgumentsFit, StaysBuilt, IsLawful}
 use Rattle.calculus_rules.specs.Step.{IsConstructor, is_constructor}
 use Rattle.calculus_rules.specs.Typing.{bare, Types, TypesAll}
 use Rattle.calculus_rules.proofs.Listing.{same_list}
-use Rattle.calculus_rules.proofs.Spines.{one_item}
 use Rattle.trees.proofs.Put.{substitute_same}
-use Rattle.typing_laws.specs.Substituting.{Fits}
 use Rattle.typing_laws.proofs.Generating.{of_app, of_let_in, of_case}
 use Rattle.typing_laws.proofs.LawfulEquality.{in_equality}
 use Rattle.typing_laws.proofs.PuttingAll.{puts_all, puts_none, types_entries}
@@ -35,10 +30,11 @@ use Rattle.lambda_box.proofs.Naming.{named_put, named_put_list, named_at, named_
 use Rattle.erase_laws.specs.Erases.{Erases, box, rel, lambda, app, const, construct, case, fix, ErasesBranches}
 use Rattle.erase_laws.specs.ErasedProgram.{is_prop}
 use Rattle.erase_laws.proofs.ErasedRedexes.{Ready, extended, unfolds_erased, erases_from, of_construct, counts_at, not_prop, branch_at, only_branch}
+use Rattle.erase_laws.proofs.ErasedRedexes.{prop_or_not, only_item, no_item}
 use Rattle.erase_laws.proofs.ErasedSpines.{Settled, is_box, of_box, Spine, of_spine, all_lengths, split_erases}
 use Rattle.erase_laws.proofs.ErasingArguments.{put_all_erases, arguments_erase}
 use Rattle.erase_laws.proofs.ErasingSubstituted.{put_erases}
-use Rattle.erase_laws.proofs.Following.{value_has}
+use Rattle.erase_laws.proofs.Following.{value_has, fits_defined as fits_value}
 use Rattle.erase_laws.proofs.Serves.{Serves}
 use Rattle.erase_laws.proofs.Total.{erases}
 use Rattle.applied_terms.proofs.Built.{Built, WantsParameter, built_value, built_not_box, built_not_lambda, built_not_unfolds}
@@ -110,9 +106,6 @@ at_box h = record { nodes = 1; matches = 0; before = Box; result = Box; fewer = 
 at_value : {E : Env} {P : BoxProgram} {v : Term} {w u : BoxTerm} → IsBoxValue u → Erases E [] v w → Settled w → Pared P w u → NamesOnly P.constants u → FollowsPared E P v u 1
 at_value {w = w} {u = u} i p s q g = record { nodes = 1; matches = 0; before = w; result = u; fewer = omega arith; runs = BoxEvaluates.value i; erased = p; settles = s; pared = q; named = g }
 
-fits_value : {E : Env} {b B v : Term} → Types bare E [] v B → Equal E [] v b → Fits E [] (Defined b B) v
-fits_value {E} {b} {B} {v} h q = record { has_type = h; equals = λ b' e. let p : b ≡ b' = grind arith in subst (λ b. Equal E [] v b) p q }
-
 -- an application whose function's value is followed to box
 applied_box : {E : Env} {P : BoxProgram} {f a : BoxTerm} {g u v : Term} {n m : ℕ} (k : ℕ) (r : FollowsPared E P g f n) (s : FollowsPared E P u a m) → r.before ≡ Box →
     (Erasable E [] g → Erasable E [] v) → FollowsPared E P v (BApp f a) (suc (n + m + k))
@@ -132,20 +125,6 @@ applied_box {E} {P} {f} {g = g} k r s e h =
     }
 
 -- ---- matches
-
-prop_or_not : (s : Sort) → (s ≡ Prop) ⊎ (s ≢ Prop)
-prop_or_not Prop = inl refl
-prop_or_not (Of u) = inr (λ e. cc)
-
-only_item : (Cs : List Constructor) (c : ℕ) (C D : Constructor) → slice_get Cs c ≡ Some C → Cs ≡ D ∷ [] → D ≡ C
-only_item Cs c C D i e = go c (sym (ap (λ Cs. slice_get Cs c) e) ∙ i)
-  where
-    go : (c : ℕ) → slice_get (D ∷ []) c ≡ Some C → D ≡ C
-    go zero i = one_item i
-    go (suc c) i = absurd (cc)
-
-no_item : (Cs : List Constructor) (c : ℕ) (C : Constructor) → slice_get Cs c ≡ Some C → Cs ≡ [] → ⊥
-no_item Cs c C i e = let h : slice_get [] c ≡ Some C = sym (ap (λ Cs. slice_get Cs c) e) ∙ i in cc
 
 -- the only branch, with box for parameters
 record ParedBranch (P : BoxProgram) (n : ℕ) (t : BoxTerm) (bs : BoxTerms) : Type 0 where

@@ -1,5 +1,5 @@
 -- From programs after saturation to runs of modules: the laws of the passes together.
-use Rattle.std.proofs.Common.{ℕ, ◌+◌, ◌*◌, ◌≤◌, arith, ◌<◌}
+use Rattle.std.proofs.Common.{ℕ, ◌*◌, ◌≤◌, ◌<◌}
 use Rattle.lambda_box.specs.ClosureEvaluation.{NoValue, ClosureValue, Empty, Counts, ClosureRun}
 use Rattle.anf_convert.specs.AnfEvaluation.{WNil}
 use Rattle.anf_convert.specs.AnfData.{DNil, anf_data_none, DataTree}
@@ -28,9 +28,6 @@ BackEnd = (P : BoxProgram) (pages m : ℕ) (v : ClosureValue) (d : DataTree) (c 
 
 abbrev pub BackEndValid : Type 0
 BackEndValid = (P : BoxProgram) (pages m : ℕ) → 0 < pages → pages ≤ 16384 → ProgramFits P m → IsValid (module_of (lift (to_anf P)) pages)
-
-steps : (b c' z x : ℕ) → 64 * (b + c' + 1) * x ≤ 64 * (b + (c' + z) + 1) * x
-steps b c' z x = omega arith
 
 pub back_end : BackEnd
 back_end P pages m v d c pos small some ready fits limits run is =

@@ -19,7 +19,7 @@ use Rattle.back_end.proofs.Composition.{back_end}
 use Rattle.back_end.proofs.Whole.{no_values}
 
 -- what has returned isn't exhausted
-returned : {M : Parts} {frames bytes : ℕ} {Q : State → Type 0} {least k : ℕ} {s : Store} → Fate M frames Q (Spent M bytes) least k (Over Returned s) → least ≤ k
+pub returned : {M : Parts} {frames bytes : ℕ} {Q : State → Type 0} {least k : ℕ} {s : Store} → Fate M frames Q (Spent M bytes) least k (Over Returned s) → least ≤ k
 returned (ended q le) = le
 returned (ran_out x) = elim x [ ]
 

@@ -32,7 +32,7 @@ use Rattle.known_calls.proofs.KnownShare.{known_is_small}
 use Rattle.back_end.proofs.Total.{suffices}
 use Rattle.back_end.proofs.Whole.{product_le}
 
-constants_capture : (P : BoxProgram) (C : ℕ) (K : Name → ℕ) (cs : List BoxConstant) → ((d : BoxConstant) → Has cs d → Ready P d.body) → ((d : BoxConstant) → Has cs d → Narrow C Empty d.body) → BlocksCapture (suc C) (map (λ (d : BoxConstant). code_of K d.body) cs)
+pub constants_capture : (P : BoxProgram) (C : ℕ) (K : Name → ℕ) (cs : List BoxConstant) → ((d : BoxConstant) → Has cs d → Ready P d.body) → ((d : BoxConstant) → Has cs d → Narrow C Empty d.body) → BlocksCapture (suc C) (map (λ (d : BoxConstant). code_of K d.body) cs)
 constants_capture P C K [] ready narrow = tt
 constants_capture P C K (d ∷ ds) ready narrow = (code_few C P K d.body (ready d here) (narrow d here), constants_capture P C K ds (λ e at. ready e (there at)) (λ e at. narrow e (there at)))
 

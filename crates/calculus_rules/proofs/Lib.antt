@@ -6,3 +6,4 @@ pub mod Determined
 pub mod WeakHead
 pub mod Shifts
 pub mod Listing
+pub mod Telescopes

@@ -1,5 +1,5 @@
 -- The head and the arguments of an application to a list, and what tells heads apart.
-use Rattle.std.proofs.Common.{◌≡◌, ℕ, List, [], ◌∷◌, ◌++◌, length, drop, Some, refl, sym, ap, ◌∙◌, arith, append_assoc, append-nil}
+use Rattle.std.proofs.Common.{◌≡◌, ℕ, List, [], ◌∷◌, ◌++◌, length, drop, Some, refl, sym, ap, ◌∙◌, arith, append_assoc, append-nil, slice_get}
 use Rattle.pc_terms.specs.Syntax.{Term, Terms, Done, App, Lambda, Construct, Fix, apply, head, args}
 
 pub head-apply : (f : Term) (xs : List Term) → head (apply f xs) ≡ head f
@@ -9,6 +9,13 @@ head-apply f (a ∷ xs) = head-apply (App f a) xs
 pub args-apply : (f : Term) (xs : List Term) → args (apply f xs) ≡ args f ++ xs
 args-apply f [] = sym (append-nil (args f))
 args-apply f (a ∷ xs) = args-apply (App f a) xs ∙ append_assoc (args f) (a ∷ []) xs
+
+-- the head and the arguments of a spine, by an equation for the term
+pub head_is : {g : Term} (f : Term) (xs : List Term) → g ≡ apply f xs → head g ≡ head f
+head_is f xs e = ap head e ∙ head-apply f xs
+
+pub args_are : {g : Term} (f : Term) (xs : List Term) → g ≡ apply f xs → args g ≡ args f ++ xs
+args_are f xs e = ap args e ∙ args-apply f xs
 
 pub drop_past : {A : Type 0} (xs ys : List A) → drop (length xs) (xs ++ ys) ≡ ys
 drop_past [] ys = refl
@@ -45,6 +52,10 @@ bodies_of t = Done
 pub apply_one_more : (h a : Term) (xs : List Term) → apply h (xs ++ (a ∷ [])) ≡ App (apply h xs) a
 apply_one_more h a [] = refl
 apply_one_more h a (x ∷ xs) = apply_one_more (App h x) a xs
+
+-- the recursive argument's place, read off a head
+pub place_is : {h h' : Term} (r r' : ℕ) → h ≡ h' → slice_get (rargs_of h) (index_of h) ≡ Some r → slice_get (rargs_of h') (index_of h') ≡ Some r' → r ≡ r'
+place_is r r' e p p' = one_item (sym p ∙ (λ j. slice_get (rargs_of (e j)) (index_of (e j))) ∙ p')
 
 -- a term is its head applied to its arguments
 pub spine_is : (t : Term) → t ≡ apply (head t) (args t)

@@ -9,16 +9,9 @@ use Rattle.calculus_rules.specs.Step.{IsConstructor, is_constructor, Root, beta,
 use Rattle.calculus_rules.specs.Conversion.{Equal, same, chain}
 use Rattle.calculus_rules.specs.WeakHead.{WeakStep, at_root, in_function, in_scrutinee, in_argument, WeakSteps, no_step, then_step}
 use Rattle.calculus_rules.specs.Laws.{OneEach}
-use Rattle.calculus_rules.proofs.Spines.{head-apply, args-apply, one_item, index_of, rargs_of, types_of, bodies_of}
+use Rattle.calculus_rules.proofs.Spines.{one_item, index_of, rargs_of, types_of, bodies_of, head_is, args_are, place_is}
 use Rattle.calculus_rules.proofs.Determined.{one_constructor}
 use Rattle.calculus_rules.proofs.Congruence.{step_equal}
-
--- the head of a spine, by an equation for the term
-head_is : {g : Term} (f : Term) (xs : List Term) → g ≡ apply f xs → head g ≡ head f
-head_is f xs e = ap head e ∙ head-apply f xs
-
-args_are : {g : Term} (f : Term) (xs : List Term) → g ≡ apply f xs → args g ≡ args f ++ xs
-args_are f xs e = ap args e ∙ args-apply f xs
 
 construct_not_fix : (f : FamilyId) (c i : ℕ) (rargs : List ℕ) (types bodies : Terms) → Construct f c ≡ Fix i rargs types bodies → ⊥
 construct_not_fix f c i rargs types bodies e = cc
@@ -42,10 +35,6 @@ construct_waits f c h (in_argument i rarg rargs types bodies before e r l p) =
 
 built_waits : {E : Env} {V : Values} {f : FamilyId} {c : ℕ} {t u : Term} {qs xs : List Term} → IsConstructor E f c t qs xs → WeakStep E V t u → ⊥
 built_waits {f = f} {c = c} {qs = qs} {xs = xs} (is_constructor k i l m e) p = construct_waits f c (head_is _ (qs ++ xs) e) p
-
--- the recursive argument's place, read off a head
-place_is : {h h' : Term} (r r' : ℕ) → h ≡ h' → slice_get (rargs_of h) (index_of h) ≡ Some r → slice_get (rargs_of h') (index_of h') ≡ Some r' → r ≡ r'
-place_is r r' e p p' = one_item (sym p ∙ (λ j. slice_get (rargs_of (e j)) (index_of (e j))) ∙ p')
 
 -- a fixpoint with rarg arguments at most has no weak-head step
 fix_waits : {E : Env} {V : Values} {g u : Term} (i rarg : ℕ) (rargs : List ℕ) (types bodies : Terms) → head g ≡ Fix i rargs types bodies →

@@ -11,6 +11,7 @@ use Rattle.lambda_box.specs.BoxData.{Data}
 use Rattle.lambda_box.specs.ClosureEvaluation.{names, names_terms, ClosureValue, VBox, VConstruct, VClosure, VFix, ClosureValues, NoValue, Then, ClosureEnv, Empty, Bind, BindFix, size, bind_all, box_values, Held, Holds, Defines, Finds, found, later, found_fix, past_fix, any_below, words, Counts, block}
 use Rattle.lambda_box.specs.ClosureEvaluation.{ClosureRun, run_box, run_value, run_definition, run_lambda, run_fix, run_constant, run_let, run_app, run_box_app, run_fix_app, run_fix_box, run_construct, run_match, run_only, RunArgs, run_head, run_arg, ValueReads, value_reads, ValuesRead, no_values, and_then}
 use Rattle.lambda_box.proofs.Spines.{closed_term_at}
+use Rattle.box_passes.proofs.Filling.{box_values_size}
 use Rattle.shrink_passes.proofs.Following.{neither, neither_and, names_past, names_past_terms, words_none, span}
 
 -- the second is the first without what stands past some variable; the terms in it are closed by what is left
@@ -82,10 +83,6 @@ span_bind (Then v vs) e = omega (arith, span_bind vs e)
 boxes_narrow : (n : ℕ) → NarrowsAll (box_values n) (box_values n)
 boxes_narrow zero = narrow_none
 boxes_narrow (suc n) = narrow_more narrow_box (boxes_narrow n)
-
-size_boxes : (n : ℕ) → size (box_values n) ≡ n
-size_boxes zero = refl
-size_boxes (suc n) = ap suc (size_boxes n)
 
 -- what a narrower value is
 
@@ -186,7 +183,7 @@ module _ (P : BoxProgram) (bodies : (c : Name) (t : BoxTerm) → KeepsBoxConstan
         record { value = y.value; run = run_match {w = y.value} kept p (subst (λ (u : ClosureValue). ClosureRun P e' s u k) g.is x.run) (at ∙ ap (λ (n : ℕ). Some (n, t)) (sym (size_narrow g.narrows))) y.run; narrows = y.narrows }
     narrowed {e' = e'} (run_only {k = n} {s = s} {t = t} {c = k} kept p r q) h c =
         let x = narrowed r h (bound (0 + span e') (span e') s (omega arith) c.0) in
-        let y = narrowed q (bind_narrow (boxes_narrow n) h) (bound (n + span e') (span (bind_all (box_values n) e')) t (omega (arith, span_bind (box_values n) e', size_boxes n)) c.1.0.0) in
+        let y = narrowed q (bind_narrow (boxes_narrow n) h) (bound (n + span e') (span (bind_all (box_values n) e')) t (omega (arith, span_bind (box_values n) e', box_values_size n)) c.1.0.0) in
         record { value = y.value; run = run_only kept p (subst (λ (u : ClosureValue). ClosureRun P e' s u k) (box_narrow x.narrows) x.run) y.run; narrows = y.narrows }
 
     narrowed_args : {e e' : ClosureEnv} {f : FamilyId} {i : ℕ} {t : BoxTerm} {vs : ClosureValues} {c : Counts} → RunArgs P e f i t vs c → NarrowsEnv e e' → Closed (span e') t → NarrowedArgs e' f i t vs c

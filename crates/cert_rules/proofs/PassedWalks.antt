@@ -4,13 +4,11 @@ use Rattle.pc_terms.specs.Syntax.{Term}
 use Rattle.pc_rules.specs.declared.meter.Account.{Account}
 use Rattle.calculus_rules.specs.Environment.{Env}
 use Rattle.calculus_rules.specs.Context.{Values}
-use Rattle.calculus_rules.specs.Conversion.{Equal}
 use Rattle.calculus_rules.specs.WeakHead.{WeakSteps, no_step, then_step}
 use Rattle.pc_rules.specs.DirectedRun as run
 use Rattle.pc_rules.specs.DirectedRun.{Run, make, passing}
 use Rattle.pc_rules.specs.DirectedWeakHead.{weak_next}
 use Rattle.pc_rules.proofs.WeakNext.{weak_next_found}
-use Rattle.calculus_rules.proofs.WeakHead.{weak_equal}
 use Rattle.cert_rules.specs.Walk.{Items, WalkState, WalkEnd, Passed, Barred, Unpaid, Crowded, Walk, WalkAct, pass, bar, tick, paid_walk, walk_ticking, end_on, walk_on, walk_all, end_at, by_rules}
 use Rattle.cert_rules.specs.WalkSteps.{stepped, walk_steps, number_at, Reduced, reduced}
 
@@ -125,6 +123,3 @@ module _ (E : Env) (V : Values) where
       let p2 = on_both (walk_steps E V s.at p1.0 t p1.1) (k2 p1.0) r v p1.3 in
       subst (λ r. Reduces cert t r) (passed_value p2.3)
       (record { steps = steps_lead s.at p1.0 t p2.0 p1.1 p2.1 p2.2; still = λ e. still_at s.at p1.0 t p2.0 p1.1 p2.1 p2.2 e })
-
-pub steps_equal : {E : Env} {V : Values} {a x : Term} → WeakSteps E V a x → Equal E V a x
-steps_equal p = weak_equal p

@@ -1,5 +1,5 @@
 -- What the certified walk does along the steps of a weak-head reduction.
-use Rattle.std.proofs.Common.{◌≡◌, ◌∙◌, ℕ, zero, suc, ◌+◌, ◌-◌, ◌≤◌, ◌<◌, inl, inr, true, false, [], ◌∷◌, ◌++◌, length, Some, None, refl, sym, ap, subst, arith, slice_get}
+use Rattle.std.proofs.Common.{◌≡◌, ◌∙◌, ℕ, ◌+◌, ◌-◌, ◌≤◌, ◌<◌, inl, inr, true, false, [], ◌∷◌, ◌++◌, length, Some, None, refl, sym, ap, subst, arith, slice_get}
 use Rattle.pc_terms.specs.Syntax.{Term}
 use Rattle.pc_rules.specs.declared.meter.Account.{Account}
 use Rattle.calculus_rules.specs.Environment.{Env}
@@ -12,16 +12,12 @@ use Rattle.pc_rules.specs.DirectedWeakHead.{weak_next, whnf}
 use Rattle.pc_rules.proofs.WeakNext.{weak_next_found, none_some}
 use Rattle.pc_rules.proofs.SameTrees.{same_is, same_itself, not_true}
 use Rattle.cert_rules.specs.declared.item.CertItem.TheVariants.{Number}
-use Rattle.cert_rules.specs.Walk.{Items, WalkState, Passed, Walk, pass, past, tick, paid_walk, walk_on}
+use Rattle.cert_rules.specs.Walk.{Items, WalkState, Passed, Walk, pass, past, tick, walk_on}
 use Rattle.cert_rules.specs.WalkSteps.{stepped, walk_steps, number_at, Reduced, reduced}
 use Rattle.cert_rules.specs.Writing.{Wrote, wrote, write_on}
 use Rattle.cert_rules.specs.MakingTyping.{make_whnf}
 use Rattle.cert_rules.proofs.ExactGuard.{Reach, arrived, onward, whnf_reach}
-use Rattle.cert_rules.proofs.Traces.{write_both, writing_done, writing_forgotten, on_forgotten, on_passed, Lies, Goes, Led, Traces}
-
-paid_walk_goes : {A : Type 0} (n : ℕ) (go : Walk A) → 0 < n → (paid_walk n go).end ≡ go.end
-paid_walk_goes zero go l = absurd (omega arith)
-paid_walk_goes (suc n) go l = refl
+use Rattle.cert_rules.proofs.Traces.{write_both, writing_done, writing_forgotten, on_forgotten, on_passed, Lies, Goes, Led, Traces, paid_walk_goes}
 
 module _ (E : Env) (V : Values) where
   pub reach_walks : (i n : ℕ) (t W : Term) (s : WalkState) → Reach E V n t W → n ≤ s.account.left →

@@ -14,6 +14,7 @@ use Rattle.calculus_rules.specs.Listed.{list_of}
 use Rattle.pc_rules.specs.DirectedGuard.{fix_guard}
 use Rattle.pc_rules.specs.DirectedTyping.{recursive_domain, enough_abstractions, is_a_family, definition_type}
 use Rattle.calculus_rules.proofs.Spines.{spine_is}
+use Rattle.calculus_rules.proofs.WeakHead.{weak_equal}
 use Rattle.pc_rules.specs.FixConditions.{BeginsWith, HaveLambdas}
 use Rattle.pc_rules.specs.WellCounted.{IsCountedNode, IsCounted, HasCountedDeclarations, IsCountedContext}
 use Rattle.rule_laws.specs.Inference.{IsInferred}
@@ -28,7 +29,7 @@ use Rattle.cert_rules.specs.Walk.{Items, WalkState, Walk, Passed, pass, walk_on,
 use Rattle.cert_rules.specs.WalkSteps.{Reduced, reduced}
 use Rattle.cert_rules.specs.Scripts.{Script}
 use Rattle.cert_rules.specs.WalkTyping.{Walking, walk_sort_of, walk_check, walk_types, walk_family_found, walk_definition, walk_definitions, walk_fix}
-use Rattle.cert_rules.proofs.PassedWalks.{on_both, tested, rules_passed, make_then, reduced_passed, steps_equal}
+use Rattle.cert_rules.proofs.PassedWalks.{on_both, tested, rules_passed, make_then, reduced_passed}
 use Rattle.cert_rules.proofs.SoundScripts.{Shows}
 use Rattle.cert_rules.proofs.SoundSimple.{Infers, sort_sound, check_sound}
 
@@ -88,7 +89,7 @@ module _ (cert : Items) (E : Env) (w : HasCountedDeclarations E) (inf : Walking)
         let spine : W ≡ apply (Ind g.0) (args W) = spine_is W ∙ ap (λ x. apply x (args W)) g.1 in
         let d' = reduced_passed E (values q.0) cert q.1 r p2.1 p3.1 p3.2 in
         record {
-          recursive = recurses E c rarg body q g.0 (args W) e (subst (λ x. Equal E (values q.0) q.1 x) spine (steps_equal d'.steps));
+          recursive = recurses E c rarg body q g.0 (args W) e (subst (λ x. Equal E (values q.0) q.1 x) spine (weak_equal d'.steps));
           typed = checked.0;
           subject = checked.1;
           begin = begins c rarg body q e;

@@ -16,6 +16,7 @@ use Rattle.calculus_rules.specs.Typing.{guarded, Types, case, TypesAll, no_terms
 use Rattle.pc_rules.specs.DirectedRun.{make, passing, any_beyond}
 use Rattle.calculus_rules.specs.Lookups.{kept_at, whole_block, family_of}
 use Rattle.calculus_rules.specs.Listed.{list_of}
+use Rattle.calculus_rules.proofs.WeakHead.{weak_equal}
 use Rattle.pc_rules.specs.DirectedTyping.{find_family, match_counted, eliminated, is_the_family, branch_beyond}
 use Rattle.pc_rules.specs.WellCounted.{IsCountedNode, arities, IsCounted, AreCounted, AreCountedConstructors, HasCountedDeclarations, IsCountedContext}
 use Rattle.pc_rules.proofs.WeakNext.{family_found, drop_long, both_true}
@@ -31,7 +32,7 @@ use Rattle.cert_rules.specs.Walk.{Items, WalkState, Walk, Passed, pass, walk_on,
 use Rattle.cert_rules.specs.WalkSteps.{Reduced, reduced}
 use Rattle.cert_rules.specs.Scripts.{Script}
 use Rattle.cert_rules.specs.WalkTyping.{Walking, walk_sort_of, walk_retype, walk_fits, walk_check, walk_check_all, walk_sorts_of, walk_found_family, walk_scrutinee, walk_branch, walk_branches, walk_predicate, walk_case}
-use Rattle.cert_rules.proofs.PassedWalks.{on_both, tested, passed_value, rules_passed, make_then, pass_then, reduced_passed, steps_equal}
+use Rattle.cert_rules.proofs.PassedWalks.{on_both, tested, passed_value, rules_passed, make_then, pass_then, reduced_passed}
 use Rattle.cert_rules.proofs.SoundScripts.{Shows}
 use Rattle.cert_rules.proofs.SoundSimple.{Infers, made_is, sort_sound, retype_sound, fits_sound, check_sound}
 
@@ -128,7 +129,7 @@ module _ (cert : Items) (E : Env) (w : HasCountedDeclarations E) (inf : Walking)
         let wS : IsCounted E S = apply_counted E (Ind f) (ps ++ drop n (args W)) (ind_counted E f) (appended_counted E ps (drop n (args W)) wps wis) in
         let tests = both_true (is_the_family f (head W)) (length (args W) == n + length F.indices)
         (tested (is_the_family f (head W) && (length (args W) == n + length F.indices)) (pass tt p2.1) r.item p2.1 tt p3.1 p3.2).0 in
-        let at : Types guarded E c t W = retype_sound cert E w inf si c t T W r.count p3.1 p4.1 k wW i.typed (steps_equal d.steps) d.still p4.2 in
+        let at : Types guarded E c t W = retype_sound cert E w inf si c t T W r.count p3.1 p4.1 k wW i.typed (weak_equal d.steps) d.still p4.2 in
         subst (λ is. IsScrutinee c f F ps t is) (passed_value {s = p5.1} {t = v} p5.3)
         (record {
           typed = fits_sound cert E w inf si cmp sc c t W S p4.1 p5.1 k at (formed E S wS) p5.2;

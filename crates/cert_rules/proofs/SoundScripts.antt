@@ -15,13 +15,15 @@ use Rattle.pc_rules.specs.DirectedComparison.{Test, IsTest, sort_below, sorts_st
 use Rattle.pc_rules.proofs.WeakNext.{same_names_is, same_families_is, both_true, none_some}
 use Rattle.pc_rules.proofs.SameTrees.{same_is, same_numbers_is, false_true}
 use Rattle.calculus_rules.proofs.Congruence.{equal_products, equal_lets}
+use Rattle.calculus_rules.proofs.WeakHead.{weak_equal}
 use Rattle.rule_laws.specs.Comparison.{Compares}
+use Rattle.rule_laws.proofs.Comparing.{weaker}
 use Rattle.cert_rules.specs.declared.item.CertItem.{CertItem}
 use Rattle.cert_rules.specs.declared.item.CertItem.TheVariants.{Same, Left, Right, Parts}
 use Rattle.cert_rules.specs.Walk.{Items, WalkState, WalkAct, Passed, pass, bar_here, past, walk_all}
 use Rattle.cert_rules.specs.WalkSteps.{walk_steps}
 use Rattle.cert_rules.specs.Scripts.{Script, with_part, term_parts, child_parts, node_parts, parts_of, sorts_at, walk_parts, script_by, script}
-use Rattle.cert_rules.proofs.PassedWalks.{on_both, tested, barred_passed, crowded_passed, all_both, steps_lead, steps_equal}
+use Rattle.cert_rules.proofs.PassedWalks.{on_both, tested, barred_passed, crowded_passed, all_both, steps_lead}
 
 -- labels
 
@@ -95,10 +97,6 @@ module _ (E : Env) where
   abbrev pub Shows : Script → Type 0
   Shows go = (V : Values) (equal : Bool) (a b : Term) (s v : WalkState) → (go V equal a b s).end ≡ Passed tt v → Compares E equal V a b
 
-  weaker : (equal : Bool) (V : Values) (a b : Term) → Equal E V a b → Compares E equal V a b
-  weaker true V a b h = h
-  weaker false V a b h = of_equal h
-
   left_first : (equal : Bool) (V : Values) (a b x : Term) → Equal E V a x → Compares E equal V x b → Compares E equal V a b
   left_first true V a b x p h = chain p h
   left_first false V a b x p h = Below.chain (of_equal p) h
@@ -152,8 +150,8 @@ module _ (E : Env) where
         product_shown equal V A A' B B' (shown V A A' q.0) (shows (None ∷ V) equal B B' q.1.0.0 q.1.0.1 q.1.0.2)
     node_shown V equal LetInOf (Child b (Child B (Child t End))) (Child b' (Child B' (Child t' End))) acts h p =
         let q : AllPass (go V true b b' ∷ go V true B B' ∷ go (Some b ∷ V) true t t' ∷ []) = subst (λ xs. AllPass xs) (sym (one_list h)) p in
-        weaker equal V (LetIn b B t) (LetIn b' B' t') (equal_lets E V b b' B B' t t' (shown V b b' q.0) (shown V B B' q.1.0) (shown (Some b ∷ V) t t' q.1.1.0))
-    node_shown V equal l ts us acts h p = weaker equal V (Node l ts) (Node l us) (inside (children_shown V (slots l) ts us acts h p))
+        weaker E equal V (LetIn b B t) (LetIn b' B' t') (equal_lets E V b b' B B' t t' (shown V b b' q.0) (shown V B B' q.1.0) (shown (Some b ∷ V) t t' q.1.1.0))
+    node_shown V equal l ts us acts h p = weaker E equal V (Node l ts) (Node l us) (inside (children_shown V (slots l) ts us acts h p))
 
     nodes_shown : (V : Values) (equal : Bool) (l m : Label) (ts : Children (slots l)) (us : Children (slots m)) (acts : List WalkAct) (b : Bool) → same_labels l m ≡ b →
         (if b then node_parts go V equal l ts us else None) ≡ Some acts → AllPass acts → Compares E equal V (Node l ts) (Node m us)
@@ -165,7 +163,7 @@ module _ (E : Env) where
     variables_shown : (V : Values) (equal : Bool) (i j : ℕ) (acts : List WalkAct) (b : Bool) → (i == j) ≡ b → (if b then Some [] else None) ≡ Some acts →
         Compares E equal V (Rel i) (Rel j)
     variables_shown V equal i j acts false e h = absurd (none_some h)
-    variables_shown V equal i j acts true e h = weaker equal V (Rel i) (Rel j) (subst (λ x. Equal E V (Rel i) (Rel x)) (eqb-true i j e) the_same)
+    variables_shown V equal i j acts true e h = weaker E equal V (Rel i) (Rel j) (subst (λ x. Equal E V (Rel i) (Rel x)) (eqb-true i j e) the_same)
 
     parts_shown : (V : Values) (equal : Bool) (a b : Term) (acts : List WalkAct) → parts_of go V equal a b ≡ Some acts → AllPass acts → Compares E equal V a b
     parts_shown V equal (Rel i) (Rel j) acts h p = variables_shown V equal i j acts (i == j) refl h
@@ -196,7 +194,7 @@ module _ (E : Env) where
         Compares E equal V a b
     same_shown V equal a b s v h =
         elim (or_true (same a b) (sorts_at q equal a b) (tested (same a b || sorts_at q equal a b) (pass tt (past s)) s.at s tt v h).0) [
-          | inl e ↦ weaker equal V a b (subst (λ x. Equal E V a x) (same_is a b e) the_same)
+          | inl e ↦ weaker E equal V a b (subst (λ x. Equal E V a x) (same_is a b e) the_same)
           | inr e ↦ at_shown V equal a b e
         ]
 
@@ -205,10 +203,10 @@ module _ (E : Env) where
     by_shown go shows (Some Same) V equal a b s v h = same_shown V equal a b s v h
     by_shown go shows (Some (Left (suc n))) V equal a b s v h =
         let p = on_both (walk_steps E V s.at (suc n) a (past s)) (λ x v. go V equal x b v) tt v h in
-        left_first equal V a b p.0 (steps_equal (steps_lead E V s.at (suc n) a p.0 (past s) p.1 p.2)) (shows V equal p.0 b p.1 v p.3)
+        left_first equal V a b p.0 (weak_equal (steps_lead E V s.at (suc n) a p.0 (past s) p.1 p.2)) (shows V equal p.0 b p.1 v p.3)
     by_shown go shows (Some (Right (suc n))) V equal a b s v h =
         let p = on_both (walk_steps E V s.at (suc n) b (past s)) (λ y v. go V equal a y v) tt v h in
-        right_first equal V a b p.0 (steps_equal (steps_lead E V s.at (suc n) b p.0 (past s) p.1 p.2)) (shows V equal a p.0 p.1 v p.3)
+        right_first equal V a b p.0 (weak_equal (steps_lead E V s.at (suc n) b p.0 (past s) p.1 p.2)) (shows V equal a p.0 p.1 v p.3)
     by_shown go shows (Some Parts) V equal a b s v h = walked_shown go shows V equal a b s.at (parts_of go V equal a b) (past s) v refl h
     by_shown go shows o V equal a b s v h = absurd (barred_passed h)
 

@@ -12,6 +12,7 @@ use Rattle.calculus_rules.specs.Context.{Context, values}
 use Rattle.calculus_rules.specs.Conversion.{Equal, equal as of_equal}
 use Rattle.calculus_rules.specs.Typing.{guarded, Types, sort, prod, lambda, let_in, app, conv as convert}
 use Rattle.calculus_rules.specs.Same.{same}
+use Rattle.calculus_rules.proofs.WeakHead.{weak_equal}
 use Rattle.pc_rules.specs.DirectedRun.{make}
 use Rattle.pc_rules.specs.WellCounted.{IsCounted, HasCountedDeclarations, IsCountedContext}
 use Rattle.pc_rules.proofs.SameTrees.{same_is}
@@ -27,7 +28,7 @@ use Rattle.cert_rules.specs.Walk.{Items, WalkState, Walk, Passed, pass, past, wa
 use Rattle.cert_rules.specs.WalkSteps.{Reduced, reduced}
 use Rattle.cert_rules.specs.Scripts.{Script}
 use Rattle.cert_rules.specs.WalkTyping.{Walking, sort_after, walk_sort_found, walk_sort_of, walk_retype, fits_by, walk_fits, walk_check, walk_prod, walk_lambda, walk_let, walk_app_found, walk_app}
-use Rattle.cert_rules.proofs.PassedWalks.{on_both, tested, barred_passed, passed_value, rules_passed, reduced_passed, steps_equal}
+use Rattle.cert_rules.proofs.PassedWalks.{on_both, tested, barred_passed, passed_value, rules_passed, reduced_passed}
 use Rattle.cert_rules.proofs.SoundScripts.{Shows}
 
 -- a walk that has been found sound
@@ -74,7 +75,7 @@ module _ (cert : Items) (E : Env) (w : HasCountedDeclarations E) (inf : Walking)
       let r : Reduced = p2.0 in
       let i = si c A p1.0 s p1.1 k f p1.2 in
       let d = reduced_passed E (values c) cert p1.0 r p1.1 p2.1 p2.2 in (
-        found_sound c A p1.0 r.term r.item r.count x p2.1 v k i.typed (steps_equal d.steps) d.still p2.3,
+        found_sound c A p1.0 r.term r.item r.count x p2.1 v k i.typed (weak_equal d.steps) d.still p2.3,
         i.subject,
         found_over c r.term r.item r.count x p2.1 v (steps_counted E w (values_counted E c k) d.steps i.classifier) p2.3,
       )
@@ -176,4 +177,4 @@ module _ (cert : Items) (E : Env) (w : HasCountedDeclarations E) (inf : Walking)
         let i = si c f p1.0 s p1.1 k ff p1.2 in
         let d = reduced_passed E (values c) cert p1.0 r p1.1 p2.1 p2.2 in
         app_found_sound c f a p1.0 r.term T r.item r.count p2.1 v k i.subject fa
-        (steps_counted E w (values_counted E c k) d.steps i.classifier) i.typed (steps_equal d.steps) d.still p2.3
+        (steps_counted E w (values_counted E c k) d.steps i.classifier) i.typed (weak_equal d.steps) d.still p2.3

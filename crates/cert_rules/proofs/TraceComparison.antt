@@ -1,5 +1,5 @@
 -- What directed comparison writes of any two terms is accepted as a script.
-use Rattle.std.proofs.Common.{◌≡◌, ◌∙◌, ℕ, zero, suc, ◌+◌, ◌-◌, ◌≤◌, ◌||◌, inl, Bool, true, false, [], ◌++◌, refl, sym, ap, subst, arith}
+use Rattle.std.proofs.Common.{◌≡◌, ◌∙◌, ℕ, zero, suc, ◌+◌, ◌-◌, ◌≤◌, inl, Bool, [], ◌++◌, refl, sym, ap, subst, arith}
 use Rattle.pc_terms.specs.Syntax.{Term}
 use Rattle.pc_rules.specs.declared.meter.Account.{Account}
 use Rattle.calculus_rules.specs.Environment.{Env}
@@ -12,6 +12,7 @@ use Rattle.pc_rules.specs.DirectedComparison.{Test, Comparison, pair, entered, c
 use Rattle.pc_rules.specs.WellCounted.{HasCountedDeclarations}
 use Rattle.rule_laws.proofs.Runs.{ticking_done, nested_done}
 use Rattle.rule_laws.proofs.KeepCounts.{steps_counted}
+use Rattle.rule_laws.proofs.Alternatives.{or_left}
 use Rattle.cert_rules.specs.declared.item.CertItem.{CertItem}
 use Rattle.cert_rules.specs.declared.item.CertItem.TheVariants.{Left, Right}
 use Rattle.cert_rules.specs.Walk.{Items, WalkState, Walk, past, walk_on}
@@ -28,10 +29,6 @@ use Rattle.cert_rules.proofs.TraceSpines.{pair_trace}
 nested_paid : (n : ℕ) → forgotten (run.paid n (too_nested {A = Wrote (Unit {0})})) ≡ run.paid n too_nested
 nested_paid zero = refl
 nested_paid (suc n) = refl
-
-or_left : (a b : Bool) → a ≡ true → (a || b) ≡ true
-or_left true b h = refl
-or_left false b h = absurd (cc)
 
 module _ (cert : Items) (E : Env) (q : Test) (w : HasCountedDeclarations E) (V : Values) where
   -- the steps of the left side, and what follows

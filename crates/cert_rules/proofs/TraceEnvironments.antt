@@ -21,6 +21,7 @@ use Rattle.pc_rules.specs.DirectedTyping.{infer}
 use Rattle.pc_rules.specs.WellCounted.{HasCountedDeclarations}
 use Rattle.rule_laws.specs.Declarations.{AllGivenFormed}
 use Rattle.rule_laws.proofs.Environments.{nothing_counted}
+use Rattle.rule_laws.proofs.Outcomes.{given_value}
 use Rattle.cert_rules.specs.declared.item.CertItem.{CertItem}
 use Rattle.cert_rules.specs.Walk.{Items, WalkState, Walk, Passed, Crowded, pass, bar_here, walk_on}
 use Rattle.cert_rules.specs.WalkTyping.{walk_infer}
@@ -35,17 +36,9 @@ use Rattle.cert_rules.proofs.TraceBlocks.{declaration_trace}
 
 -- outcomes
 
-gives_or : {A : Type 0} → Outcome A → A → A
-gives_or (Gives a u) o = a
-gives_or _ o = o
-
 account_or : {A : Type 0} → Outcome A → Account → Account
 account_or (Gives a u) o = u
 account_or _ o = o
-
-given_value : {A : Type 0} {a b : A} {u v : Account} → Gives a u ≡ Gives b v → a ≡ b
-unfolding gives_or
-given_value {a = a} e = ap (λ o. gives_or o a) e
 
 given_account : {A : Type 0} {a b : A} {u v : Account} → Gives a u ≡ Gives b v → u ≡ v
 unfolding account_or

@@ -15,12 +15,13 @@ use Rattle.pc_rules.specs.DirectedRun.{Run, bind, any_beyond}
 use Rattle.calculus_rules.specs.Lookups.{family_of}
 use Rattle.pc_rules.specs.DirectedComparison.{Test, Comparison, alike, each_equal, branches_equal, matches_equal, lifted_types, fixpoints_equal, heads_equal}
 use Rattle.calculus_rules.specs.Listed.{list_of}
+use Rattle.calculus_rules.proofs.Telescopes.{entries_at_length}
 use Rattle.pc_rules.specs.WellCounted.{arities, IsCountedNode, IsCounted, AreCountedValues}
 use Rattle.pc_rules.proofs.WeakNext.{same_names_is, same_families_is, both_true}
 use Rattle.pc_rules.proofs.SameTrees.{same_numbers_is, same_itself, one_number, one_family, and_true, false_true}
 use Rattle.rule_laws.proofs.Runs.{done_value}
 use Rattle.rule_laws.proofs.KeepCounts.{under_counted, values_extended}
-use Rattle.rule_laws.proofs.Comparing.{entries_long, names_long, list_long, first_same, rest_same, no_suc, no_cons, lifted_long}
+use Rattle.rule_laws.proofs.Comparing.{names_long, list_long, first_same, rest_same, no_suc, no_cons, lifted_long}
 use Rattle.cert_rules.specs.declared.item.CertItem.{CertItem}
 use Rattle.cert_rules.specs.declared.item.CertItem.TheVariants.{Same, Parts}
 use Rattle.cert_rules.specs.Walk.{Items, WalkState, WalkAct, WalkEnd, Passed, Barred, Unpaid, Crowded, pass, bar_here, past, end_on, walk_on, walk_all}
@@ -242,7 +243,7 @@ module _ (cert : Items) (E : Env) (q : Test) where
     branches_trace m c vs ps (C ∷ Cs) (Next k t ts) Done n n' h h' = no_cons (sym n')
     branches_trace m c vs ps (C ∷ Cs) (Next k t ts) (Next k' t' ts') n n' h h' =
         let As : List Term = branch_entries C ps in
-        let l : length As ≡ k = entries_long _ C.args ∙ sym (first_same n) in
+        let l : length As ≡ k = entries_at_length _ C.args ∙ sym (first_same n) in
         a_trace
         (trace_passing cert (any_beyond As) (λ u. cmp (extend c As) true t t' u) (λ u. mk (extend c As) true t t' u) (λ s. script cert E q m (under k (values c)) true t t' s)
         (under_trace (extend c As) (under k (values c)) (values_extended E c As ∙ ap (λ k. under k (values c)) l) (extended_counted c As vs) t t' h.0 h'.0 m))
@@ -278,7 +279,7 @@ module _ (cert : Items) (E : Env) (q : Test) where
       matches_trace m f F n ps qs bs bs' ret ret' s s' en eb eb' ap' kp kq kr kr' ks ks' kb kb' =
           let As : List Term = predicate_entries f F (list_of ps) in
           let go : Script = script cert E q m in
-          let long : length As ≡ n = length-append (entries_at _ F.indices) _ ∙ ap (λ m. m + 1) (entries_long _ F.indices) ∙ (omega arith) in
+          let long : length As ≡ n = length-append (entries_at _ F.indices) _ ∙ ap (λ m. m + 1) (entries_at_length _ F.indices) ∙ (omega arith) in
           let rets = trace_passing cert (any_beyond As) (λ u. cmp (extend c As) true ret ret' u) (λ u. mk (extend c As) true ret ret' u) (λ z. go (under n (values c)) true ret ret' z)
           (under_trace (extend c As) (under n (values c)) (values_extended E c As ∙ ap (λ k. under k (values c)) long) (extended_counted c As vs) ret ret' kr kr' m) in
           let brs = subst (λ hs. Traces cert (λ _. Unit {0}) (λ u. run.run_all (branches_equal cmp c (list_of ps) F.constructors (list_of bs) (list_of bs')) u)

@@ -106,18 +106,14 @@ module _ (cert : Items) (E : Env) (w : HasCountedDeclarations E) where
         (λ T i. trace_reduced E (values c) cert T (λ W w. sort_found infd c T W w) (λ W w. make_sort_found infg c T W w) (λ j n W s. walk_sort_found infh c j n W s)
         (λ n W p j. found_trace c T W n j (λ r. i.subject) k p))
 
-    retyped_trace : (c : Context) (T W : Term) (n : ℕ) → IsCountedContext E c → IsFormed W → Reach E (values c) n T W →
-        Traces cert (λ _. Unit {0}) (λ u. retype E infd c T W u) (λ u. make_retype E infg c T W u) (λ s. walk_retype cert E infh c n W s)
-    unfolding retype make_retype walk_retype
-    retyped_trace c T W zero k f p =
-        trace_if cert (same T W) _ _ _ _ _ (λ e. trace_done cert tt tt) (λ e. true_false (reach_same E (values c) 0 T W p refl) e)
-    retyped_trace c T W (suc n) k f p =
-        trace_if cert (same T W) _ _ _ _ _ (λ e. true_false e (reach_other E (values c) (suc n) T W p (omega arith)))
-        (λ e. trace_conv cert _ _ _ (trace_on cert _ _ _ _ _ _ (sort_trace c W k f) (λ a i. trace_done cert tt tt)))
-
     pub retype_trace : (c : Context) (T W : Term) (n : ℕ) → IsCountedContext E c → IsFormed W → Reach E (values c) n T W →
         Traces cert (λ _. Unit {0}) (λ u. retype E infd c T W u) (λ u. make_retype E infg c T W u) (λ s. walk_retype cert E infh c n W s)
-    retype_trace c T W n k f p = retyped_trace c T W n k f p
+    unfolding retype make_retype walk_retype
+    retype_trace c T W zero k f p =
+        trace_if cert (same T W) _ _ _ _ _ (λ e. trace_done cert tt tt) (λ e. true_false (reach_same E (values c) 0 T W p refl) e)
+    retype_trace c T W (suc n) k f p =
+        trace_if cert (same T W) _ _ _ _ _ (λ e. true_false e (reach_other E (values c) (suc n) T W p (omega arith)))
+        (λ e. trace_conv cert _ _ _ (trace_on cert _ _ _ _ _ _ (sort_trace c W k f) (λ a i. trace_done cert tt tt)))
 
     -- the sorts of a telescope's entries
     pub sorts_trace : (c : Context) (As : List Term) → IsCountedContext E c → AllFormed As →

@@ -1,5 +1,5 @@
 -- What directed comparison writes is accepted as a script: spines, weak-head normal forms, and any two terms.
-use Rattle.std.proofs.Common.{◌≡◌, ◌∙◌, ℕ, zero, suc, ◌+◌, ◌==◌, ◌&&◌, ◌||◌, inl, Bool, true, false, List, [], ◌∷◌, ◌++◌, length, None, refl, sym, ap, subst, arith, length-append, append-nil, append_assoc}
+use Rattle.std.proofs.Common.{◌≡◌, ◌∙◌, ℕ, zero, suc, ◌+◌, ◌==◌, ◌&&◌, ◌||◌, inl, Bool, true, List, [], ◌∷◌, ◌++◌, length, None, refl, sym, ap, subst, arith, length-append, append-nil, append_assoc}
 use Rattle.std.proofs.lemmas.Bool.{eqb-true}
 use Rattle.universe_levels.specs.declared.sort.Sort.{Sort}
 use Rattle.pc_terms.specs.Syntax.{Term, SortT, head, args, Prod, Lambda, App}
@@ -17,6 +17,7 @@ use Rattle.pc_rules.specs.WellCounted.{IsCounted, AreCounted, AreCountedValues}
 use Rattle.pc_rules.proofs.WeakNext.{both_true}
 use Rattle.rule_laws.proofs.Runs.{done_value}
 use Rattle.rule_laws.proofs.Counted.{head_counted, args_counted}
+use Rattle.rule_laws.proofs.Alternatives.{or_right}
 use Rattle.cert_rules.specs.declared.item.CertItem.TheVariants.{Parts}
 use Rattle.cert_rules.specs.Walk.{Items, WalkAct, walk_on, walk_all}
 use Rattle.cert_rules.specs.Scripts.{Script, sorts_at, script}
@@ -25,10 +26,6 @@ use Rattle.cert_rules.specs.MakingTyping.{MakeComparison, make_each, make_heads_
 use Rattle.cert_rules.proofs.Exact.{done_account}
 use Rattle.cert_rules.proofs.Traces.{write_both, on_forgotten, Led, led_on, led_item, led_as, Traces, trace_refused, trace_if, AllTrace, no_trace, a_trace, trace_all}
 use Rattle.cert_rules.proofs.TraceScripts.{two_acts, split_all, nothing_written, all_noted, all_noted_done, parts_last, no_args, script_crowded, trace_same, parts_take, trace_parts, trace_two, Scripted, heads_trace}
-
-or_right : (a b : Bool) → b ≡ true → (a || b) ≡ true
-or_right true b h = refl
-or_right false b h = h
 
 each_last : (mk : MakeComparison) (c : Context) (xs ys : List Term) (x y : Term) → length xs ≡ length ys →
     make_each mk c (xs ++ (x ∷ [])) (ys ++ (y ∷ [])) ≡ make_each mk c xs ys ++ (mk c true x y ∷ [])

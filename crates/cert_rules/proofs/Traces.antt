@@ -14,10 +14,6 @@ use Rattle.cert_rules.proofs.Exact.{done_account, IsExact, ticking_positive}
 
 -- runs that write, and are done
 
-value_of_end : {A : Type 0} → run.End A → A → A
-value_of_end (run.Done a u) o = a
-value_of_end _ o = o
-
 pub before_done : {A : Type 0} (is : Items) (e : run.End (Wrote A)) (r : Wrote A) (v : Account) → end_before is e ≡ run.Done r v →
     (w : Wrote A) × (e ≡ run.Done w v) × (wrote (is ++ w.items) w.value ≡ r)
 before_done is (run.Done w u) r v h = (w, ap (λ x. run.Done w x) (done_account h), done_value h)
@@ -109,7 +105,7 @@ pub on_passed : {A B : Type 0} (w : Walk A) (k : A → WalkState → Walk B) (a 
 unfolding walk_on
 on_passed w k a s e = ap (λ x. end_on x (λ a s. (k a s).end)) e
 
-paid_walk_goes : {A : Type 0} (n : ℕ) (go : Walk A) → 0 < n → (paid_walk n go).end ≡ go.end
+pub paid_walk_goes : {A : Type 0} (n : ℕ) (go : Walk A) → 0 < n → (paid_walk n go).end ≡ go.end
 paid_walk_goes zero go l = absurd (omega arith)
 paid_walk_goes (suc n) go l = refl
 

@@ -1,5 +1,5 @@
 -- What the directed rules infer is below each type of the term: by the rule of its former, since what they infer for its parts is below each of theirs.
-use Rattle.std.proofs.Common.{◌≡◌, ℕ, zero, suc, ◌+◌, ◌==◌, ◌&&◌, inl, inr, true, List, [], ◌∷◌, ◌++◌, Option, Some, None, length, take, drop, refl, sym, ap, ◌∙◌, subst, slice_get, arith, length-take-le}
+use Rattle.std.proofs.Common.{◌≡◌, ℕ, zero, suc, ◌+◌, ◌==◌, ◌&&◌, inl, inr, List, [], ◌∷◌, ◌++◌, Option, Some, None, length, take, drop, refl, sym, ap, ◌∙◌, subst, slice_get, arith, length-take-le}
 use Rattle.std.proofs.lemmas.Bool.{eqb-true}
 use Rattle.universe_levels.specs.declared.sort.Sort.{Sort}
 use Rattle.universe_levels.specs.Sorts.{super_sort, product_sort}
@@ -11,7 +11,7 @@ use Rattle.calculus_rules.specs.declared.declaration.Block.{Block}
 use Rattle.calculus_rules.specs.declared.declaration.Kept.{Kept}
 use Rattle.calculus_rules.specs.declared.declaration.Kept.TheVariants.{Constant, Heads, Block as Whole}
 use Rattle.calculus_rules.specs.declared.entry.Entry.TheVariants.{Assumed, Defined}
-use Rattle.calculus_rules.specs.Environment.{Env, SortEntails, FamilyDecl, family_at, KeepsConstant, KnowsFamily, KeepsFamily}
+use Rattle.calculus_rules.specs.Environment.{Env, SortEntails, FamilyDecl, KeepsConstant, KeepsFamily}
 use Rattle.calculus_rules.specs.Context.{Context, values, type_at}
 use Rattle.calculus_rules.specs.Conversion.{same, back, Below, equal, product}
 use Rattle.calculus_rules.specs.Instances.{family_type, constructor_type, predicate_at, definitions}
@@ -27,16 +27,18 @@ use Rattle.pc_rules.specs.DirectedRun as run
 use Rattle.pc_rules.specs.DirectedRun.{Run, done, refused, make, made, bind, too_nested, noted, ticked}
 use Rattle.pc_rules.specs.DirectedComparison.{Test, Comparison, compare}
 use Rattle.pc_rules.specs.DirectedGuard.{fix_guard}
-use Rattle.pc_rules.specs.DirectedTyping.{Typing, conv, sort_found, sort_of, check, retype, rel_rule, undeclared_in, raises_past, levels_declared, sort_rule, prod_rule, lambda_rule, let_rule, app_found, app_rule, const_rule, family_number, find_family, ind_rule, constructor_number, construct_rule, match_counted, check_all, predicate_rule, is_the_family, found_family, scrutinee_fits, scrutinee_rule, branches_rule, case_rule, types_rule, definitions_rule, definition_type, fix_rule, rule, rule_number, infer}
+use Rattle.pc_rules.specs.DirectedTyping.{Typing, conv, sort_found, sort_of, check, retype, rel_rule, undeclared_in, raises_past, levels_declared, sort_rule, prod_rule, lambda_rule, let_rule, app_found, app_rule, const_rule, find_family, ind_rule, constructor_number, construct_rule, match_counted, check_all, predicate_rule, is_the_family, found_family, scrutinee_fits, scrutinee_rule, branches_rule, case_rule, types_rule, definitions_rule, definition_type, fix_rule, rule, rule_number, infer}
 use Rattle.pc_rules.specs.DirectedWeakHead.{whnf}
 use Rattle.pc_rules.specs.declared.broken.Broken.TheVariants.{NotTheFamily}
-use Rattle.pc_rules.proofs.WeakNext.{kept_is, family_found, both_true, same_families_is, take_drop}
+use Rattle.pc_rules.proofs.WeakNext.{kept_is, family_found, both_true, take_drop}
 use Rattle.rule_laws.proofs.Comparing.{whnf_equal}
 use Rattle.rule_laws.proofs.Runs.{bind_both, if_done, refused_done, done_value, tested, make_then, ticking_done, nested_done}
-use Rattle.rule_laws.proofs.SimpleRules.{whole_family}
+use Rattle.rule_laws.proofs.SimpleRules.{whole_family, known_family, constructor_is}
+use Rattle.rule_laws.proofs.FixRule.{named_type}
+use Rattle.rule_laws.proofs.MatchRule.{the_family}
 use Rattle.typing_laws.proofs.Generating.{of_rel, of_sort, of_prod, of_lambda, of_let_in, of_app, of_const, of_ind, of_case, of_fix}
 use Rattle.typing_laws.proofs.MiddleEntries.{substitution_of_below}
-use Rattle.typing_laws.proofs.Traversal.{below_at}
+use Rattle.typing_laws.proofs.Traversal.{below_at, types_length}
 use Rattle.equality_laws.specs.Laws.{EqualEach, no_terms, a_term}
 use Rattle.equality_laws.proofs.Spines.{spine_is}
 use Rattle.type_laws.proofs.Apart.{products_below, sorts_below, families_below}
@@ -45,9 +47,8 @@ use Rattle.type_laws.proofs.EqualLists.{each_equal_append, each_equal_parts}
 use Rattle.type_laws.proofs.MatchesKeep.{above_declared}
 use Rattle.type_laws.proofs.RootsKeep.{fits_assumed, one_type}
 use Rattle.type_laws.proofs.Spines.{put_equal}
-use Rattle.type_laws.proofs.TelescopeParts.{all_length}
 use Rattle.type_laws.proofs.Validity.{known_once}
-use Rattle.metatheory.proofs.Principal.{products_entail, lets_below}
+use Rattle.type_laws.proofs.CommonTypes.{products_entail, lets_below}
 use Rattle.checked_laws.specs.InferredTypes.{InferredTypesAreLeast}
 
 -- an inference that finds types below each
@@ -68,27 +69,6 @@ constant_is E k (Some (Whole B)) T u v e h = absurd (refused_done h)
 constant_is E k (Some (Constant m X b)) T u v e h =
     let (has, name) = kept_is E.declarations k (Constant m X b) e in (b, subst (λ T. KeepsConstant E k T b) (done_value h) (subst (λ x. KeepsConstant E x X b) name has))
 
-number_is : (B : Block) (f : FamilyId) (o : Option FamilyDecl) (F : FamilyDecl) (u v : Account) → (family_number B f o u).end ≡ run.Done F v → o ≡ Some F
-number_is B f None F u v h = absurd (refused_done h)
-number_is B f (Some G) F u v h = ap Some (done_value h)
-
-family_known : (E : Env) (f : FamilyId) (F : FamilyDecl) (o : Option Kept) (u v : Account) → kept_at E.declarations f.block ≡ o →
-    (find_family f (known_block o) u).end ≡ run.Done F v → KnowsFamily E f F
-family_known E f F None u v e h = absurd (refused_done h)
-family_known E f F (Some (Constant k T b)) u v e h = absurd (refused_done h)
-family_known E f F (Some (Heads B)) u v e h =
-    let (has, name) = kept_is E.declarations f.block (Heads B) e in (B, inr has, name, number_is B f (family_at B f.family) F u v h)
-family_known E f F (Some (Whole B)) u v e h =
-    let (has, name) = kept_is E.declarations f.block (Whole B) e in (B, inl has, name, number_is B f (family_at B f.family) F u v h)
-
-constructor_is : (F : FamilyDecl) (n : ℕ) (o : Option Constructor) (C : Constructor) (u v : Account) → (constructor_number F n o u).end ≡ run.Done C v → o ≡ Some C
-constructor_is F n None C u v h = absurd (refused_done h)
-constructor_is F n (Some D) C u v h = ap Some (done_value h)
-
-definition_is : (i n : ℕ) (o : Option (ℕ × Term)) (T : Term) (u v : Account) → (definition_type i n o u).end ≡ run.Done T v → (m : ℕ) × (o ≡ Some (m, T))
-definition_is i n None T u v h = absurd (refused_done h)
-definition_is i n (Some p) T u v h = (p.0, ap (λ T. Some (p.0, T)) (done_value h))
-
 sort_is : (E : Env) (inf : Typing) (c : Context) (T W : Term) (s : Sort) (u v : Account) → (sort_found inf c T W u).end ≡ run.Done s v → W ≡ SortT s
 sort_is E inf c T (SortT r) s u v h =
     let go : Run Sort = bind (conv u) (λ _ v. bind (inf c (SortT r) v) (λ _ w. done r w)) in
@@ -100,10 +80,6 @@ sort_is E inf c T (SortT r) s u v h =
           ap (λ s. SortT s) (done_value p2.3)
     ]
 sort_is E inf c T W s u v h = absurd (refused_done h)
-
-the_family : (f : FamilyId) (h : Term) → is_the_family f h ≡ true → h ≡ Ind f
-the_family f (Ind g) e = ap (λ f. Ind f) (sym (same_families_is f g e))
-the_family f _ e = absurd (cc)
 
 module _ (E : Env) (h : IsAccepted E) where
   variable_least : (c : Context) (i : ℕ) (T U : Term) (u v : Account) → (rel_rule c i (type_at c i) u).end ≡ run.Done T v → Types bare E c (Rel i) U → Below E (values c) T U
@@ -123,7 +99,7 @@ module _ (E : Env) (h : IsAccepted E) where
   family_least : (c : Context) (f : FamilyId) (T U : Term) (u v : Account) → (ind_rule E f u).end ≡ run.Done T v → Types bare E c (Ind f) U → Below E (values c) T U
   family_least c f T U u v r d =
       let p = bind_both (find_family f (known_block (kept_at E.declarations f.block)) u) (λ F v. make (family_type F) v) T v r in
-      let known = family_known E f p.0 (kept_at E.declarations f.block) u p.1 refl p.2 in
+      let known = known_family E f p.0 (kept_at E.declarations f.block) u p.1 refl p.2 in
       let o = of_ind d in
       below_at (ap family_type (known_once E h f p.0 o.family (known_is_kept E h f p.0 known) o.known) ∙ done_value p.3) refl o.below
 
@@ -242,7 +218,7 @@ module _ (E : Env) (h : IsAccepted E) where
           let p6 = bind_both (branches_rule E inf cmp c f 0 F.constructors qs ret (list_of bs) p5.1) (k6 is) T v p5.3 in
           let o = of_case d in
           let one : o.family ≡ F = (one_of_each E h).families f o.family F o.kept (family_found E f F (whole_family E f F u p1.1 p1.2)) in
-          let equals = indices_equal c f F qs t is o.parameters o.indices p4.1 p5.1 (all_length o.fit ∙ ap (λ F. length F.parameters) one) p5.2 o.scrutinee in
+          let equals = indices_equal c f F qs t is o.parameters o.indices p4.1 p5.1 (types_length o.fit ∙ ap (λ F. length F.parameters) one) p5.2 o.scrutinee in
           let both = each_equal_append equals (a_term {t = t} same no_terms) in
           below_at (done_value p6.3) refl (Below.chain (equal (put_equal E h c (is ++ (t ∷ [])) (o.indices ++ (t ∷ [])) ret both)) o.below)
 
@@ -257,7 +233,7 @@ module _ (E : Env) (h : IsAccepted E) where
           let p1 = bind_both (types_rule E inf c 0 (list_of types) u) k1 T v q in
           let p2 = bind_both (definitions_rule E inf cmp D n 0 rargs (list_of types) (list_of bodies) p1.1) k2 T v p1.3 in
           let p3 = bind_both (fix_guard E (values c) rargs bodies p2.1) k3 T v p2.3 in
-          let (m, at) = definition_is i n (term_at types i) T p3.1 v p3.3 in
+          let (m, at) = named_type i n (term_at types i) T p3.1 v p3.3 in
           let o = of_fix d in
           below_at (ap (λ q. q.1) (one_item (sym o.at ∙ at))) refl o.below
 

@@ -48,7 +48,7 @@ meets_first s V b h (suc i) v e =
 
 -- a let's body under the substitution, with the let's own value put in
 
-put_over : (a : Term) (s : ℕ → Term) (t : Term) → substitute (put a) (substitute (over s) t) ≡ substitute (first a s) t
+pub put_over : (a : Term) (s : ℕ → Term) (t : Term) → substitute (put a) (substitute (over s) t) ≡ substitute (first a s) t
 put_over a s t = substitute-substitute t (over s) (put a) ∙ ap (λ q. substitute q t) (fun_ext each)
   where
     each : (j : ℕ) → substitute (put a) (over s j) ≡ first a s j

@@ -4,16 +4,10 @@ use Rattle.pc_terms.specs.declared.leaf.FamilyId.{FamilyId}
 use Rattle.pc_terms.specs.Syntax.{Term, Terms, App, Ind, Construct, Fix, SortOf, ProdOf, LambdaOf, LetInOf, AppOf, ConstOf, IndOf, ConstructOf, CaseOf, FixOf, apply, head, args}
 use Rattle.calculus_rules.specs.Environment.{Env}
 use Rattle.calculus_rules.specs.Step.{IsConstructor, is_constructor, Root, beta, fixpoint}
-use Rattle.calculus_rules.proofs.Spines.{head-apply, args-apply, one_item, index_of, rargs_of, types_of, bodies_of}
+use Rattle.calculus_rules.proofs.Spines.{index_of, rargs_of, types_of, bodies_of, head_is, args_are, place_is}
 use Rattle.term_laws.proofs.Arguments.{spine-whole}
+pub use Rattle.term_laws.proofs.Arguments.{apply-append}
 use Rattle.equality_laws.proofs.Reducing.{Par, ParTerms, ParEach, rel, sorts, inside, contract, end, and, group, each_none, each_one}
-
--- the head of a spine, by an equation for the term
-pub head_is : {g : Term} (f : Term) (xs : List Term) → g ≡ apply f xs → head g ≡ head f
-head_is f xs e = ap head e ∙ head-apply f xs
-
-pub args_are : {g : Term} (f : Term) (xs : List Term) → g ≡ apply f xs → args g ≡ args f ++ xs
-args_are f xs e = ap args e ∙ args-apply f xs
 
 -- a term is its head applied to its arguments
 pub spine_is : (t h : Term) (xs : List Term) → head t ≡ h → args t ≡ xs → t ≡ apply h xs
@@ -114,10 +108,6 @@ pub record FixKept (E : Env) (t u : Term) : Type 0 where
   pub types : ParTerms E (types_of (head t)) (types_of (head u))
   pub bodies : ParTerms E (bodies_of (head t)) (bodies_of (head u))
   pub arguments : ParEach E (args t) (args u)
-
--- the recursive argument's place, read off a head
-place_is : {h h' : Term} (r r' : ℕ) → h ≡ h' → slice_get (rargs_of h) (index_of h) ≡ Some r → slice_get (rargs_of h') (index_of h') ≡ Some r' → r ≡ r'
-place_is r r' e p p' = one_item (sym p ∙ (λ j. slice_get (rargs_of (e j)) (index_of (e j))) ∙ p')
 
 fix_not_redex : {E : Env} {g a w : Term} (rarg : ℕ) → IsFix (head g) → slice_get (rargs_of (head g)) (index_of (head g)) ≡ Some rarg → length (args g) + 1 ≤ rarg →
     Root E [] (App g a) w → ⊥

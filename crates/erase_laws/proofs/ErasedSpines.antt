@@ -27,7 +27,7 @@ is_box (BConstruct f c) = inr (λ e. cc)
 is_box (BCase f s bs) = inr (λ e. cc)
 is_box (BFix i rargs bodies) = inr (λ e. cc)
 
-more_not_box : {P : BoxProgram} {g : BoxTerm} → BoxTakesMore P g → g ≢ Box
+pub more_not_box : {P : BoxProgram} {g : BoxTerm} → BoxTakesMore P g → g ≢ Box
 more_not_box (constructor f c xs k i l e) q = let h = constructor_head {f = f} {c = c} xs (sym q ∙ e) in cc
 more_not_box (fixpoint i rargs bodies xs r l e) q = let h = fix_head {i = i} {rargs = rargs} {bodies = bodies} xs (sym q ∙ e) in cc
 

@@ -148,7 +148,7 @@ erased_from (not_reached es) d h = let (T, b, m, e) = erased_from es d h in (T, 
 erased_from (reached {T = T} {b = b} e es) d here = (T, b, here, e)
 erased_from (reached e es) d (there h) = let (T, b, m, e) = erased_from es d h in (T, b, there m, e)
 
-has_at : {A : Type 0} (xs : List A) (i : ℕ) (d : A) → i < length xs → Has xs (get_or xs i d)
+pub has_at : {A : Type 0} (xs : List A) (i : ℕ) (d : A) → i < length xs → Has xs (get_or xs i d)
 has_at [] i d l = absurd (omega arith)
 has_at (x ∷ xs) zero d l = here
 has_at (x ∷ xs) (suc i) d l = there (has_at xs i d (omega arith))

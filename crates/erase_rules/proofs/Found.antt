@@ -1,5 +1,5 @@
 -- What the test of erasable terms says where it finds no evidence.
-use Rattle.std.proofs.Common.{◌≡◌, ◌≢◌, ℕ, zero, suc, inl, inr, Bool, true, false, if◌then◌else◌, List, [], ◌∷◌, Option, Some, None, slice_get, refl, sym, ap, ◌∙◌, subst, arith}
+use Rattle.std.proofs.Common.{◌≡◌, ◌≢◌, ℕ, zero, suc, inl, inr, Bool, true, false, if◌then◌else◌, List, [], ◌∷◌, Option, Some, None, slice_get, refl, sym, ap, ◌∙◌, subst}
 use Rattle.universe_levels.specs.declared.level.LevelExpr.{LevelExpr}
 use Rattle.universe_levels.specs.declared.sort.Sort.{Sort}
 use Rattle.universe_levels.specs.declared.sort.Sort.TheVariants.{Prop, Of}
@@ -27,10 +27,10 @@ use Rattle.pc_rules.specs.DirectedErasable.{TypeEnding, ending_on, end_of, ends_
 use Rattle.calculus_rules.specs.PropSorts.{is_prop}
 use Rattle.pc_rules.proofs.WeakNext.{none_some}
 use Rattle.calculus_rules.proofs.Spines.{one_item}
-use Rattle.pc_rules.proofs.SameTrees.{false_true}
-use Rattle.rule_laws.proofs.Runs.{bind_both, ticking_done, refused_done, nested_done, done_value, pass_then}
-use Rattle.rule_laws.proofs.SimpleRules.{whole_family, some_none}
+use Rattle.rule_laws.proofs.Runs.{bind_both, ticking_done, nested_done, done_value, pass_then}
+use Rattle.rule_laws.proofs.SimpleRules.{whole_family, some_none, constructor_is as constructor_there}
 use Rattle.rule_laws.proofs.MatchRule.{eliminated_is}
+use Rattle.rule_laws.proofs.Positive.{none_true as true_false}
 use Rattle.agreeing.proofs.Unique.{one_result}
 use Rattle.agreeing.proofs.AgreeTyping.{agree_sort_of, agree_infer}
 
@@ -43,9 +43,6 @@ may_erase E f F s far (inr (inl p)) = absurd (far p)
 may_erase E f F s far (inr (inr p)) = inr p
 
 -- products that end in a sort
-
-true_false : {A : Type 0} → true ≡ false → A
-true_false e = false_true (sym e)
 
 some_is_none : {A : Type 0} {k : Evidence} {v w : Account} → run.Done (Some k) v ≡ run.Done None w → A
 some_is_none h = absurd (some_none (done_value h))
@@ -121,10 +118,6 @@ module _ (E : Env) where
           let p = bind_both (find_family f (known_block (kept_at E.declarations f.block)) r.1) (λ F v. make (family_type F) v) h.type h.after r.3 in
           ends_both h.after.left c h.type (family_type p.0) h.after h.last (done_value p.3)
           (products_end p.0.parameters _ (products_end p.0.indices _ (sort_ends p.0.sort))) h.ends
-
-      constructor_there : (F : FamilyDecl) (k : ℕ) (o : Option Constructor) (C : Constructor) (u v : Account) → (constructor_number F k o u).end ≡ run.Done C v → o ≡ Some C
-      constructor_there F k None C u v h = absurd (refused_done h)
-      constructor_there F k (Some D) C u v h = ap Some (done_value h)
 
       -- a constructor that has an inferred type is there
       pub constructor_known : (f : FamilyId) (k : ℕ) → IsPlain (infer E q n) c (Construct f k) →

@@ -25,10 +25,12 @@ use Rattle.pc_rules.proofs.SameTrees.{false_true, one_number}
 use Rattle.calculus_rules.proofs.Spines.{one_item}
 use Rattle.pc_rules.proofs.WeakNext.{none_some}
 use Rattle.rule_laws.proofs.TypedCounts.{typed_counted, accepted_counted}
+use Rattle.rule_laws.proofs.Alternatives.{or_left, or_right}
 use Rattle.rule_laws.proofs.Names.{accepted_once}
+pub use Rattle.rule_laws.proofs.Outcomes.{given_value}
 use Rattle.lambda_box.specs.BoxProgram.{BoxConstant, BoxProgram, Has, here, there, NamesKept, NamesOnly}
 use Rattle.lambda_box.specs.BoxForm.{HasFewCounts}
-use Rattle.trees.proofs.Every.{every_more}
+use Rattle.lambda_box.proofs.Naming.{named_more}
 use Rattle.erase_laws.specs.Erases.{Erases}
 use Rattle.erase_laws.specs.ErasedProgram.{counts_of, AreErased, none_erased, not_reached, reached, IsErased}
 use Rattle.erase_rules.specs.DirectedErasure.{erased}
@@ -58,29 +60,11 @@ outcome_done p (run.Refused b v) a u h = absurd (cc)
 outcome_done p run.NoUnit a u h = absurd (cc)
 outcome_done p run.Nested a u h = absurd (cc)
 
-given_or : {A : Type 0} → Outcome A → A → A
-given_or (Gives a u) o = a
-given_or (Breaks p b u) o = o
-given_or Spends o = o
-given_or Nests o = o
-
-pub given_value : {A : Type 0} {a b : A} {u v : Account} → Gives a u ≡ Gives b v → a ≡ b
-unfolding given_or
-given_value {a = a} e = ap (λ r. given_or r a) e
-
 -- names
 
 or_is : (a b : Bool) → (a || b) ≡ true → (a ≡ true) ⊎ (b ≡ true)
 or_is true b h = inl refl
 or_is false b h = inr h
-
-or_left : (a b : Bool) → a ≡ true → (a || b) ≡ true
-or_left true b h = refl
-or_left false b h = false_true h
-
-or_right : (a b : Bool) → b ≡ true → (a || b) ≡ true
-or_right true b h = refl
-or_right false b h = h
 
 -- a term that names declared constants alone names constants of a list, where each that it names is there
 module _ (ds : List Kept) (cs : List BoxConstant) where
@@ -128,20 +112,6 @@ module _ (ds : List Kept) (cs : List BoxConstant) where
       named_by t h.0 (left_there (λ k. names_constant k t) (λ k. names_constant_terms k ts) g),
       terms_named ts h.1 (right_there (λ k. names_constant k t) (λ k. names_constant_terms k ts) g),
     )
-
--- with one constant more
-named_more : (d : BoxConstant) (cs : List BoxConstant) (t : BoxTerm) → NamesOnly cs t → NamesOnly (d ∷ cs) t
-named_more d cs t h = every_more (NamesKept cs) (NamesKept (d ∷ cs)) later t h
-  where
-    later : (l : BoxLabel) → NamesKept cs l → NamesKept (d ∷ cs) l
-    later BoxOf h = tt
-    later BLambdaOf h = tt
-    later BLetInOf h = tt
-    later BAppOf h = tt
-    later (BConstOf k) (b, m) = (b, there m)
-    later (BConstructOf f c) h = tt
-    later (BCaseOf f) h = tt
-    later (BFixOf i rargs) h = tt
 
 no_axiom : {A : Type 0} (k : Name) (o : Option Name) → first_declared k o ≡ None → A
 no_axiom k None e = absurd (none_some (sym e))

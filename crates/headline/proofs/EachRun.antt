@@ -18,7 +18,7 @@ use Rattle.known_calls.specs.KnownLaws.{FinishedWithin}
 use Rattle.back_end.proofs.Bounds.{bounds}
 use Rattle.back_end.proofs.Total.{total_back_end}
 use Rattle.back_end.proofs.Whole.{product_le}
-use Rattle.headline.proofs.LateReturns.{returned_late}
+use Rattle.back_end.proofs.Lower.{returned}
 use Rattle.headline.specs.EveryRun.{module_for, EvaluatedProgramsAnswer}
 
 chosen : {M : Parts} {t : State} → Exhausted M t → ((trap : TrapKind) (s : Store) → t ≡ Over (Trapped trap) s → s.by_choice ≡ true) → (store_of t).by_choice ≡ true
@@ -53,6 +53,6 @@ each_run P pages w b n tree pos small some words within e =
       waiting = λ k c r. few_wait (x.run k (At c) (subst (λ (f : State). Reach M k f (At c)) (inj (sym a.starts ∙ x.starts)) r)).1;
       least = λ value nodes matches k s evaluates r.
           let same : x.matches ≡ matches = (evaluation_is_determined (saturated_program P) (passes_form P within.form).form (saturated_program P).main x.w value x.nodes nodes x.matches matches x.saturated evaluates).2 in
-          let late = returned_late (x.run k (Over Returned s) (subst (λ (f : State). Reach M k f (Over Returned s)) (inj (sym a.starts ∙ x.starts)) r)).1 in
+          let late = returned (x.run k (Over Returned s) (subst (λ (f : State). Reach M k f (Over Returned s)) (inj (sym a.starts ∙ x.starts)) r)).1 in
           omega (arith, same, late);
     }

@@ -1,5 +1,5 @@
 -- A run that returns has made at least as many steps as the evaluation of the saturated program has matches.
-use Rattle.std.proofs.Common.{◌∙◌, ℕ, ◌≤◌, List, [], ◌∷◌, length, refl, sym, subst, arith}
+use Rattle.std.proofs.Common.{◌∙◌, ◌≤◌, List, [], ◌∷◌, length, refl, sym, subst, arith}
 use Rattle.trees.specs.Measures.{depth}
 use Rattle.lambda_box.specs.BoxProgram.{BoxConstant, BoxFamily, Has, here, there}
 use Rattle.lambda_box.specs.ClosureEvaluation.{Empty, NoValue, bind_all, ClosureRun}
@@ -20,20 +20,14 @@ use Rattle.anf_convert.proofs.Follows.{to_anf_keeps}
 use Rattle.anf_convert.proofs.Preorder.{reads_tree}
 use Rattle.anf_convert.proofs.Prepared.{data_kept, form_kept}
 use Rattle.wasm_core.specs.declared.ended.Ended.TheVariants.{Returned}
-use Rattle.wasm_core.specs.Parts.{Parts}
-use Rattle.wasm_core.specs.MachineStep.{State, Store, Over, Reach}
-use Rattle.wasm_core.specs.RunTree.{Fate, ended, ran_out}
+use Rattle.wasm_core.specs.MachineStep.{State, Over, Reach}
 use Rattle.wasm_core.proofs.Small.{inj}
-use Rattle.wasm_emit.specs.EmitLaws.{Spent}
 use Rattle.known_calls.proofs.KnownComposition.{anf_answers_known}
 use Rattle.back_end.proofs.Whole.{families, no_values}
+use Rattle.back_end.proofs.Lower.{returned}
 use Rattle.headline.specs.EveryRun.{module_for, ReturnsTakeMatches}
 
-pub returned_late : {M : Parts} {frames bytes : ℕ} {Q : State → Type 0} {least k : ℕ} {s : Store} → Fate M frames Q (Spent M bytes) least k (Over Returned s) → least ≤ k
-returned_late (ended q le) = le
-returned_late (ran_out x) = elim x [ ]
-
-all_shallow : (cs : List BoxConstant) → ((d : BoxConstant) → Has cs d → depth d.body ≤ 2048) → AreShallow cs
+pub all_shallow : (cs : List BoxConstant) → ((d : BoxConstant) → Has cs d → depth d.body ≤ 2048) → AreShallow cs
 all_shallow [] h = tt
 all_shallow (c ∷ cs) h = (h c here, all_shallow cs (λ d m. h d (there m)))
 
@@ -56,5 +50,5 @@ late_returns P pages b pos small some ok value tree nodes matches evaluates read
     let c = r.counts in
     let y = to_anf_keeps S NoValue WNil DNil r.v d.0 c ready anf.no_values anf_data_none (box_alone r.run) d.1 in
     let z = anf_answers_known (to_anf S) pages c.greatest b y.v d.0 y.contractions c.matches c.blocks y.words pos small some formed ok.limits y.answers y.is in
-    let least = returned_late (z.emitted.run k (Over Returned s) (subst (λ (f : State). Reach (module_for P pages) k f (Over Returned s)) (inj (sym starts ∙ z.emitted.starts)) reach)).1 in
+    let least = returned (z.emitted.run k (Over Returned s) (subst (λ (f : State). Reach (module_for P pages) k f (Over Returned s)) (inj (sym starts ∙ z.emitted.starts)) reach)).1 in
     omega (arith, first_run.matches, r.no_more.matches, least)

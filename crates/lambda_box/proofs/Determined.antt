@@ -1,5 +1,6 @@
 -- Evaluation by substitution has one value, one number of nodes and one of matches; and a value is read as one tree of data.
 use Rattle.std.proofs.Common.{◌≡◌, ℕ, suc, ◌+◌, true, List, [], ◌∷◌, ◌++◌, length, drop, refl, sym, ap, ◌∙◌, subst, arith, slice_get}
+use Rattle.std.proofs.Math.Seq.{drop-append_seam}
 use Rattle.trees.specs.Tree.{Rel, Done, term_at}
 use Rattle.trees.specs.Parallel.{put, put_all, substitute}
 use Rattle.pc_terms.specs.declared.leaf.Name.{Name}
@@ -46,14 +47,10 @@ abbrev bodies_of : BoxTerm → BoxTerms
 bodies_of (BFix i rargs bodies) = bodies
 bodies_of t = Done
 
-drop_past : {A : Type 0} (xs ys : List A) → drop (length xs) (xs ++ ys) ≡ ys
-drop_past [] ys = refl
-drop_past (x ∷ xs) ys = drop_past xs ys
-
-one_constructor : {P : BoxProgram} → OneBoxEach P → {f : FamilyId} {c d : ℕ} {v : BoxTerm} {ps qs xs ys : List BoxTerm} →
+pub one_constructor : {P : BoxProgram} → OneBoxEach P → {f : FamilyId} {c d : ℕ} {v : BoxTerm} {ps qs xs ys : List BoxTerm} →
     IsBoxConstructor P f c v ps xs → IsBoxConstructor P f d v qs ys → (c ≡ d) × (xs ≡ ys)
 one_constructor u {f} {c} {d} {v} {ps} {qs} {xs} {ys} (is_box_constructor {F = F} k o i p a e) (is_box_constructor {F = G} k' o' i' p' a' e') =
-    (ap constructor_of heads, sym (drop_past ps xs) ∙ (λ i. drop (long i) (spines i)) ∙ drop_past qs ys)
+    (ap constructor_of heads, sym (drop-append_seam ps xs) ∙ (λ i. drop (long i) (spines i)) ∙ drop-append_seam qs ys)
   where
     heads : BConstruct f c ≡ BConstruct f d
     heads = sym (constructor_head (ps ++ xs) e) ∙ constructor_head (qs ++ ys) e'
@@ -64,21 +61,21 @@ one_constructor u {f} {c} {d} {v} {ps} {qs} {xs} {ys} (is_box_constructor {F = F
     long : length ps ≡ length qs
     long = p ∙ ap (λ F. F.params) (u.families f F G k k') ∙ sym p'
 
-lambda_takes_no_more : {P : BoxProgram} {b : BoxTerm} → BoxTakesMore P (BLambda b) → ⊥
+pub lambda_takes_no_more : {P : BoxProgram} {b : BoxTerm} → BoxTakesMore P (BLambda b) → ⊥
 lambda_takes_no_more (constructor f c xs k i l e) = let h = constructor_head {f = f} {c = c} xs e in cc
 lambda_takes_no_more (fixpoint i rargs bodies xs r l e) = let h = fix_head {i = i} {rargs = rargs} {bodies = bodies} xs e in cc
 
-box_takes_no_more : {P : BoxProgram} → BoxTakesMore P Box → ⊥
+pub box_takes_no_more : {P : BoxProgram} → BoxTakesMore P Box → ⊥
 box_takes_no_more (constructor f c xs k i l e) = let h = constructor_head {f = f} {c = c} xs e in cc
 box_takes_no_more (fixpoint i rargs bodies xs r l e) = let h = fix_head {i = i} {rargs = rargs} {bodies = bodies} xs e in cc
 
-lambda_stays : {b v u : BoxTerm} → BoxUnfolds (BLambda b) v u → ⊥
+pub lambda_stays : {b v u : BoxTerm} → BoxUnfolds (BLambda b) v u → ⊥
 lambda_stays (unfolds i rargs bodies xs r l b e) = let h = fix_head {i = i} {rargs = rargs} {bodies = bodies} xs e in cc
 
-box_stays : {v u : BoxTerm} → BoxUnfolds Box v u → ⊥
+pub box_stays : {v u : BoxTerm} → BoxUnfolds Box v u → ⊥
 box_stays (unfolds i rargs bodies xs r l b e) = let h = fix_head {i = i} {rargs = rargs} {bodies = bodies} xs e in cc
 
-more_or_unfolds : {P : BoxProgram} {g v u : BoxTerm} → BoxTakesMore P g → BoxUnfolds g v u → ⊥
+pub more_or_unfolds : {P : BoxProgram} {g v u : BoxTerm} → BoxTakesMore P g → BoxUnfolds g v u → ⊥
 more_or_unfolds (constructor f c xs k j m e) (unfolds i rargs bodies ys r l b e') =
     let h = sym (constructor_head {f = f} {c = c} xs e) ∙ fix_head {i = i} {rargs = rargs} {bodies = bodies} ys e' in cc
 more_or_unfolds (fixpoint i rargs bodies xs r l e) (unfolds i' rargs' bodies' ys r' l' b e') =
@@ -88,7 +85,7 @@ more_or_unfolds (fixpoint i rargs bodies xs r l e) (unfolds i' rargs' bodies' ys
     let rarg = one_item (sym r ∙ (λ j. slice_get (rargs_of (h j)) (index_of (h j))) ∙ r') in
     omega arith
 
-one_unfolding : {g v u w : BoxTerm} → BoxUnfolds g v u → BoxUnfolds g v w → u ≡ w
+pub one_unfolding : {g v u w : BoxTerm} → BoxUnfolds g v u → BoxUnfolds g v w → u ≡ w
 one_unfolding {v = v} (unfolds i rargs bodies xs {body = b₁} r l b e) (unfolds i' rargs' bodies' ys {body = b₂} r' l' b' e') =
     let h = sym (fix_head {i = i} {rargs = rargs} {bodies = bodies} xs e) ∙ fix_head {i = i'} {rargs = rargs'} {bodies = bodies'} ys e' in
     let spines = sym (fix_arguments i rargs bodies xs e) ∙ fix_arguments i' rargs' bodies' ys e' in
@@ -119,12 +116,9 @@ three p q r = omega arith
 three_only : {n n' n'' m m' m'' : ℕ} → n ≡ m → n' ≡ m' → n'' ≡ m'' → n + n' + n'' ≡ m + m' + m''
 three_only p q r = omega arith
 
-different : {P : BoxProgram} → OneBoxEach P → {f : FamilyId} {F : BoxFamily} {c : ℕ} {v : BoxTerm} {ps xs : List BoxTerm} → IsBoxConstructor P f c v ps xs → KeepsBoxFamily P f F →
+pub different : {P : BoxProgram} → OneBoxEach P → {f : FamilyId} {F : BoxFamily} {c : ℕ} {v : BoxTerm} {ps xs : List BoxTerm} → IsBoxConstructor P f c v ps xs → KeepsBoxFamily P f F →
     F.propositional ≡ true → ⊥
 different u {f} {F} (is_box_constructor {F = G} k o i p a e) k' q = let same = ap (λ F. F.propositional) (u.families f G F k k') in cc
-
-abbrev Same : BoxTerm → BoxTerm → ℕ → ℕ → ℕ → ℕ → Type 0
-Same v w n m a b = (v ≡ w) × (n ≡ m) × (a ≡ b)
 
 pub determined : {P : BoxProgram} → OneBoxEach P → {t v w : BoxTerm} {n m a b : ℕ} → BoxEvaluates P t v n a → BoxEvaluates P t w m b → (v ≡ w) × (n ≡ m) × (a ≡ b)
 determined u (value i) e = value_only i e

@@ -1,6 +1,7 @@
 -- Members of lists without equal names, and families by their ids.
 use Rattle.std.proofs.Common.{◌≡◌, ◌≢◌, ℕ, zero, suc, ◌+◌, ◌-◌, ◌<◌, ◌≤◌, Bool, true, false, ◌&&◌, ◌==◌, if◌then◌else◌, List, [], ◌∷◌, length, map, get_or, AllPairs, Some, refl, sym, ap, ◌∙◌, subst, arith, ⊎_elim}
 use Rattle.std.proofs.lemmas.Bool.{cases_lt, le-leb, lt-leb, eqb-true, eq-eqb}
+use Rattle.trees.proofs.Put.{each_length}
 use Rattle.pc_terms.specs.declared.leaf.FamilyId.{FamilyId}
 use Rattle.lambda_box.specs.BoxProgram.{BoxFamily, BoxProgram, Has, here, there, KeepsBoxFamily}
 use Rattle.lambda_box.specs.BoxForm.{IsBoxProgram}
@@ -77,15 +78,11 @@ item_mapped f [] i d d' l = absurd (omega arith)
 item_mapped f (x ∷ xs) zero d d' l = refl
 item_mapped f (x ∷ xs) (suc i) d d' l = item_mapped f xs i d d' (omega arith)
 
-length_mapped : {A B : Type 0} (f : A → B) (xs : List A) → length (map f xs) ≡ length xs
-length_mapped f [] = refl
-length_mapped f (x ∷ xs) = ap suc (length_mapped f xs)
-
 pub distinct_mapped : {A B C : Type 0} (f : A → B) (name : A → C) (name' : B → C) (xs : List A) → ((x : A) → name' (f x) ≡ name x) → AllPairs (λ x y. name x ≢ name y) xs → AllPairs (λ x y. name' x ≢ name' y) (map f xs)
 distinct_mapped f name name' [] same all i j d lt l = absurd (omega arith)
 distinct_mapped f name name' (x ∷ xs) same all i j d lt l =
     λ e.
-    let n = length_mapped f (x ∷ xs) in
+    let n = each_length f (x ∷ xs) in
     let a = item_mapped f (x ∷ xs) i d x (omega (arith, n)) in
     let b = item_mapped f (x ∷ xs) j d x (omega (arith, n)) in
     all i j x lt (omega (arith, n)) (sym (ap name' a ∙ same (get_or (x ∷ xs) i x)) ∙ e ∙ ap name' b ∙ same (get_or (x ∷ xs) j x))

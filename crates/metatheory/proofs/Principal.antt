@@ -1,19 +1,13 @@
 -- Each term that has a type has a principal one: by the rule of the term's former, from principal types of its parts.
-use Rattle.std.proofs.Common.{ℕ, ◌≡◌, max, List, [], ◌∷◌, ◌++◌, length, refl, sym, ap, ◌∙◌, arith}
-use Rattle.universe_levels.specs.declared.level.LevelExpr.{LevelExpr}
+use Rattle.std.proofs.Common.{List, [], ◌∷◌, ◌++◌, length, refl, sym, ap, ◌∙◌}
 use Rattle.universe_levels.specs.declared.sort.Sort.{Sort}
-use Rattle.universe_levels.specs.declared.sort.Sort.TheVariants.{Prop, Of}
-use Rattle.universe_levels.specs.Maximum.{maximum_of, with_parts}
 use Rattle.universe_levels.specs.Sorts.{product_sort}
-use Rattle.universe_levels.specs.Valuation.{value_of}
-use Rattle.universe_levels.proofs.MaximumLemmas.{value_of-with_parts, with_parts-append}
 use Rattle.pc_terms.specs.declared.leaf.FamilyId.{FamilyId}
 use Rattle.pc_terms.specs.Syntax.{Term, SortT, Prod, LetIn, Ind, put, substitute, apply}
-use Rattle.calculus_rules.specs.declared.entry.Entry.TheVariants.{Assumed, Defined}
+use Rattle.calculus_rules.specs.declared.entry.Entry.TheVariants.{Assumed}
 use Rattle.calculus_rules.specs.Environment.{Env, SortEntails}
 use Rattle.calculus_rules.specs.Context.{Context, values}
-use Rattle.calculus_rules.specs.Conversion.{same, step, back, Below, equal, product}
-use Rattle.calculus_rules.specs.Step.{zeta}
+use Rattle.calculus_rules.specs.Conversion.{same, back, Below, equal, product}
 use Rattle.calculus_rules.specs.Instances.{family_type, constructor_type, predicate_at}
 use Rattle.calculus_rules.specs.Typing.{bare, Types, rel, sort, prod, lambda, let_in, app, const, ind, construct, case, fix, conv}
 use Rattle.calculus_rules.specs.Accepted.{IsAccepted}
@@ -28,31 +22,15 @@ use Rattle.type_laws.proofs.Apart.{reduces_equal, ProductsBelow, products_below,
 use Rattle.type_laws.proofs.EnvironmentSorts.{known_is_kept}
 use Rattle.type_laws.proofs.EqualLists.{each_equal_back, each_equal_chain, each_equal_append, each_equal_parts}
 use Rattle.type_laws.proofs.MatchesKeep.{above_declared}
-use Rattle.type_laws.proofs.RootsKeep.{fits_assumed, fits_defined, one_type}
+use Rattle.type_laws.proofs.RootsKeep.{fits_assumed, one_type}
 use Rattle.type_laws.proofs.Spines.{put_equal}
 use Rattle.type_laws.proofs.StepsKeep.{reduces_keeps}
 use Rattle.type_laws.proofs.Validity.{known_once, types_have_sorts}
+use Rattle.type_laws.proofs.CommonTypes.{products_entail, lets_below}
 use Rattle.metatheory.specs.PrincipalTypes.{IsPrincipal, TermsHavePrincipalTypes}
 
 abbrev Principal : Env → Context → Term → Type 0
 Principal E c t = (P : Term) × IsPrincipal E c t P
-
--- the sort of a product rises with the sorts of domain and codomain
-
-value_of_both : (v : ℕ → ℕ) (u w : List LevelExpr) → value_of v (maximum_of (u ++ w)) ≡ max (value_of v u) (value_of v w)
-value_of_both v u w =
-    ap (value_of v) (with_parts-append [] u w) ∙ value_of-with_parts v (with_parts [] u) w ∙ ap (λ n. max n (value_of v w)) (value_of-with_parts v [] u ∙ max_zero (value_of v u))
-  where
-    max_zero : (n : ℕ) → max 0 n ≡ n
-    max_zero n = omega arith
-
-pub products_entail : (E : Env) (s w s' w' : Sort) → SortEntails E s s' → SortEntails E w w' → SortEntails E (product_sort s w) (product_sort s' w')
-products_entail E s Prop s' w' p q = tt
-products_entail E s (Of x) s' Prop p q = absurd q
-products_entail E Prop (Of x) Prop (Of x') p q = q
-products_entail E Prop (Of x) (Of u') (Of x') p q = λ v h. omega (arith, q v h, value_of_both v u' x')
-products_entail E (Of u) (Of x) Prop (Of x') p q = absurd p
-products_entail E (Of u) (Of x) (Of u') (Of x') p q = λ v h. omega (arith, p v h, q v h, value_of_both v u x, value_of_both v u' x')
 
 -- of a term that has a sort, the least one; of a function, the least product
 
@@ -95,11 +73,6 @@ least_product E h c f A B k d (P, p) =
       typed = conv p.typed (equal e) w;
       least = λ A B d. products_below E h (values c) D C A B (Below.chain (equal (back e)) (p.below (Prod A B) d));
     }
-
--- lets of the same value whose bodies are below, since each is equal to its body with the value put in
-pub lets_below : (E : Env) → IsAccepted E → (c : Context) (b B T U : Term) → Types bare E c b B → Below E (values (Defined b B ∷ c)) T U → Below E (values c) (LetIn b B T) (LetIn b B U)
-lets_below E h c b B T U p q =
-    Below.chain (equal (step zeta)) (Below.chain (substitution_of_below E h [] c (Defined b B) b T U (fits_defined p) q) (equal (back (step zeta))))
 
 -- two types of a term that are a family's have equal parameters and indices, since its principal type is below both
 arguments_equal : (E : Env) → IsAccepted E → (c : Context) (f : FamilyId) (t : Term) (xs ys : List Term) → Principal E c t →

@@ -1,5 +1,5 @@
 -- What has no type: sorts in themselves, arguments of constructors that have all theirs, and data by a match on a disjunction.
-use Rattle.std.proofs.Common.{subst, ℕ, ◌≡◌, ◌≢◌, ◌≤◌, ◌+◌, ◌⊎◌, List, [], ◌∷◌, ◌++◌, inl, inr, map, refl, sym, ap, ◌∙◌, arith}
+use Rattle.std.proofs.Common.{subst, ℕ, ◌≡◌, ◌≤◌, ◌+◌, ◌⊎◌, List, [], ◌∷◌, ◌++◌, inl, inr, map, refl, sym, ap, ◌∙◌, arith}
 use Rattle.universe_levels.specs.declared.level.LevelExpr.{LevelExpr}
 use Rattle.universe_levels.specs.declared.sort.Sort.{Sort}
 use Rattle.universe_levels.specs.declared.sort.Sort.TheVariants.{Prop, Of}
@@ -31,6 +31,7 @@ use Rattle.type_laws.proofs.RootsKeep.{fits_assumed}
 use Rattle.type_laws.proofs.Spines.{arguments_put}
 use Rattle.type_laws.proofs.StepsKeep.{reduces_keeps}
 use Rattle.type_laws.proofs.Validity.{known_below, scrutinee_fits, types_have_sorts}
+use Rattle.type_laws.proofs.Solid.{not_in_prop}
 use Rattle.metatheory.specs.Untypable.{NoSortInItself, BuiltTermsTakeNoMore, IsOutsideProp, GivesNoData, DisjunctionsGiveNoData, ExistentialsGiveNoData}
 
 -- sorts
@@ -79,10 +80,6 @@ arity_rest E h c (x ∷ xs) [] f s T g d =
 arity_rest E h c (x ∷ xs) (A ∷ As) f s T g d =
     arity_rest E h c xs (entries_at (put x) As) (App f x) s T
     (λ U k. below_at (substitute-products As (put x) (SortT s)) refl (applied E h c f x A (products As (SortT s)) g U k)) d
-
-not_in_prop : (E : Env) (s : Sort) → s ≢ Prop → SortEntails E s Prop → ⊥
-not_in_prop E Prop n e = n refl
-not_in_prop E (Of u) n e = e
 
 -- a family outside Prop has no sort Prop, whatever its arguments
 not_a_proposition : (E : Env) → IsAccepted E → (c : Context) (g : FamilyId) (ys : List Term) → IsOutsideProp E g → Types bare E c (apply (Ind g) ys) (SortT Prop) → ⊥

@@ -1,5 +1,5 @@
 -- Canonical forms of products: what evaluation leaves of a product type is a lambda, or a value that goes on with an argument.
-use Rattle.std.proofs.Common.{◌≡◌, ℕ, suc, ◌+◌, ◌<◌, ◌≤◌, List, [], ◌∷◌, ◌++◌, ◌⊎◌, inl, inr, length, Some, slice_get, map, refl, sym, ap, ◌∙◌, arith, length-append}
+use Rattle.std.proofs.Common.{◌≡◌, ℕ, ◌+◌, ◌<◌, ◌≤◌, List, [], ◌∷◌, ◌++◌, ◌⊎◌, inl, inr, length, Some, slice_get, map, refl, sym, ap, ◌∙◌, arith, length-append}
 use Rattle.std.proofs.Math.Nat.{eq-or-lt_of_le}
 use Rattle.pc_terms.specs.declared.leaf.FamilyId.{FamilyId}
 use Rattle.pc_terms.specs.Syntax.{Term, Terms, Prod, Lambda, App, Ind, Construct, Fix, shift, substitute, apply, variables}
@@ -15,6 +15,7 @@ use Rattle.typing_laws.proofs.Generating.{of_sort, of_prod, of_construct, of_app
 use Rattle.typing_laws.proofs.Telescopes.{substitute-apply, products_append}
 use Rattle.typing_laws.proofs.Traversal.{types_at, below_at}
 use Rattle.type_laws.proofs.Apart.{sort_not_product, family_not_product}
+use Rattle.type_laws.proofs.Canonical.{one_longer}
 use Rattle.type_laws.proofs.MatchesKeep.{above_declared}
 use Rattle.type_laws.proofs.Results.{IsResult, plain, extended, rest, Rest, fixpoint_body}
 use Rattle.progress.proofs.Tests.{GoesOn, family_goes, constructor_goes, fixpoint_grows, fixpoint_turns}
@@ -22,9 +23,6 @@ use Rattle.progress.proofs.Tests.{GoesOn, family_goes, constructor_goes, fixpoin
 -- a value with head h and one argument more
 longer_spine : {g : Term} (h w : Term) (xs : List Term) → g ≡ apply h xs → App g w ≡ apply h (xs ++ (w ∷ []))
 longer_spine h w xs e = ap (λ g. App g w) e ∙ sym (apply_one_more h w xs)
-
-one_longer : {A : Type 0} (xs : List A) (a : A) → length (xs ++ (a ∷ [])) ≡ suc (length xs)
-one_longer xs a = let e = length-append xs (a ∷ []) in omega arith
 
 -- a constructor of product type has arguments missing
 constructor_on : (E : Env) → IsAccepted E → (g v A B : Term) (f : FamilyId) (c : ℕ) (F : FamilyDecl) (C : Constructor) (xs : List Term) → KeepsFamily E f F →

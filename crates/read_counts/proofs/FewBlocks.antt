@@ -1,7 +1,8 @@
 -- Blocks whose counts are within the limits of the text: those that are read, and what the check keeps of them.
-use Rattle.std.proofs.Common.{◌≡◌, ℕ, zero, suc, ◌+◌, ◌≤◌, ◌<◌, List, [], ◌∷◌, length, map, Option, Some, None, Bool, true, false, nat_lt, refl, sym, ap, subst, ◌∙◌, arith}
+use Rattle.std.proofs.Common.{◌≡◌, ℕ, zero, suc, ◌+◌, ◌≤◌, ◌<◌, List, [], ◌∷◌, length, map, Option, Some, None, Bool, true, false, nat_lt, refl, sym, subst, ◌∙◌, arith}
 use Rattle.std.specs.Prelude.{slice_get}
 use Rattle.std.proofs.lemmas.Bool.{ltb-true}
+use Rattle.std.proofs.lemmas.List.{length-map}
 use Rattle.dump_grammar.specs.declared.refusal.Limit.{Limit}
 use Rattle.dump_grammar.specs.declared.refusal.Limit.TheVariants as limits
 use Rattle.dump_grammar.specs.Named.{Named}
@@ -111,17 +112,13 @@ module _ (ns ls : List (List ℕ)) where
 
 -- what is kept of them
 
-same_length : {X Y : Type 0} (g : X → Y) (xs : List X) → length (map g xs) ≡ length xs
-same_length g [] = refl
-same_length g (x ∷ xs) = ap suc (same_length g xs)
-
 few_arguments : (Cs : List Constructor) → FewArguments (map plain_constructor Cs) → FewArguments Cs
 few_arguments [] h = record {}
 few_arguments (C ∷ Cs) h = (h.0, few_arguments Cs h.1)
 
 few_of_plain : (Fs : List Family) → FewFamilies (map plain_family Fs) → FewFamilies Fs
 few_of_plain [] h = record {}
-few_of_plain (F ∷ Fs) h = (subst (λ n. n ≤ 1024) (same_length plain_constructor F.ctors) h.0, few_arguments F.ctors h.1, few_of_plain Fs h.2)
+few_of_plain (F ∷ Fs) h = (subst (λ n. n ≤ 1024) (length-map F.ctors plain_constructor) h.0, few_arguments F.ctors h.1, few_of_plain Fs h.2)
 
 pub few_block : (B : Block) → FewKept (Whole (plain_block B)) → FewKept (Whole B)
 few_block B h = (h.0, few_of_plain B.families h.1)

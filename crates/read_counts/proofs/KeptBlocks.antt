@@ -29,15 +29,12 @@ use Rattle.rule_laws.specs.Declarations.{plain, plain_given, plain_block, IsChec
 use Rattle.inductive_check.specs.Given.{given_of}
 use Rattle.env_check.specs.Rules.{givens}
 use Rattle.lambda_box.specs.BoxForm.{AreFew, HasFewCounts}
+use Rattle.lambda_box.proofs.Families.{has_map}
 use Rattle.erase_laws.specs.ErasedProgram.{arguments_of, counts_of}
 use Rattle.erase_rules.specs.Laws.{AreFewCounts}
 use Rattle.read_counts.proofs.FewBlocks.{FewArguments, FewKept, none_both, few_declaration, few_block, few_at}
 
 -- members of lists
-
-has_mapped : {X Y : Type 0} (g : X → Y) {xs : List X} {x : X} → Has xs x → Has (map g xs) (g x)
-has_mapped g here = here
-has_mapped g (there h) = there (has_mapped g h)
 
 -- P holds of each member
 
@@ -103,7 +100,7 @@ from_map g (Some x) y e = let q : y ≡ g x = cc in (x, refl, q)
 pub few_counts : (e : RawEnv) → IsSpelled e → (E : Env) (T : Term) → IsCheckedEnvironment e.levels e.constraints (givens e) e.main E T → AreFewCounts E
 few_counts e spelled E T checked f F (B, has, name, at) =
     let all : Each FewKept (map plain E.declarations) = subst (Each FewKept) (sym checked.declarations) (each_turned FewKept (map plain_given (givens e)) (few_read e spelled)) in
-    let few = few_block B (each_has FewKept all (has_mapped plain has)) in
+    let few = few_block B (each_has FewKept all (has_map plain has)) in
     let family = from_map (with_parameters B.params) (slice_get B.families f.family) F at in
     let G : Family = family.0 in
     subst (λ D. HasFewCounts (counts_of f D)) (sym family.2) (has_few f B.params G few.0 (few_at B.families f.family G few.1 family.1))

@@ -39,7 +39,8 @@ use Rattle.rule_laws.proofs.SimpleRules.{Infers, declared_over, levels_are_decla
 use Rattle.rule_laws.proofs.MatchRule.{count_is, entries_sound, all_sound}
 use Rattle.rule_laws.proofs.Inferring.{infer_sound}
 use Rattle.rule_laws.proofs.Extending.{FindsAs, all_more, constructors_more, finds_more, finds_without, env_more}
-use Rattle.rule_laws.proofs.Positive.{or_false, other_name, positive_is}
+use Rattle.rule_laws.proofs.Positive.{other_name, positive_is}
+use Rattle.rule_laws.proofs.Alternatives.{or_false}
 use Rattle.pc_rules.proofs.WeakNext.{none_some}
 
 -- the names of constructors are distinct

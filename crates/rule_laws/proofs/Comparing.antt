@@ -30,14 +30,11 @@ use Rattle.pc_rules.proofs.SameTrees.{same_is, same_numbers_is, false_true}
 use Rattle.calculus_rules.proofs.WeakHead.{weak_equal}
 use Rattle.pc_rules.proofs.FairReduction.{steps_lead}
 use Rattle.calculus_rules.proofs.Congruence.{equal_products, equal_lambdas, equal_applications, equal_matches, equal_fixpoints}
+use Rattle.calculus_rules.proofs.Telescopes.{entries_at_length}
 use Rattle.rule_laws.specs.Comparison.{Compares}
 use Rattle.rule_laws.proofs.Runs.{bind_both, ticking_done, if_done, tested, nested_done, run_both}
 use Rattle.rule_laws.proofs.Counted.{head_counted, args_counted, list_counted}
 use Rattle.rule_laws.proofs.KeepCounts.{under_counted, values_extended, steps_counted}
-
-pub entries_long : (s : ℕ → Term) (As : List Term) → length (entries_at s As) ≡ length As
-entries_long s [] = refl
-entries_long s (A ∷ As) = ap suc (entries_long _ As)
 
 pub names_long : (ts : Terms) → length (binders_of ts) ≡ number ts
 names_long Done = refl
@@ -155,7 +152,7 @@ module _ (E : Env) where
     branches_sound ps (C ∷ Cs) (Next m t ts) (Next m' t' ts') u v n n' h h' e =
         let r = run_both (λ u. entering c (branch_entries C ps) (λ d. cmp d true t t') u) (branches_equal cmp c ps Cs (list_of ts) (list_of ts')) u v e in
         next_equal (values c) (length C.args) m m' t t' ts ts' (first_same n) (first_same n')
-        (entering_sound (branch_entries C ps) (length C.args) t t' u r.0 (entries_long _ C.args) h.0 h'.0 r.1)
+        (entering_sound (branch_entries C ps) (length C.args) t t' u r.0 (entries_at_length _ C.args) h.0 h'.0 r.1)
         (branches_sound ps Cs ts ts' r.0 v (rest_same n) (rest_same n') h.1 h'.1 r.2)
 
     matches_sound : (f : FamilyId) (F : FamilyDecl) (n : ℕ) (ps qs bs bs' : Terms) (ret ret' s s' : Term) (u v : Account) → IsCounted E (Case f ps n ret s bs) →
@@ -172,7 +169,7 @@ module _ (E : Env) where
         let p2 = bind_both (entering c (predicate_entries f F (list_of ps)) (λ d. cmp d true ret ret') p1.1) k2 tt v p1.3 in
         let p3 = bind_both (cmp c true s s' p2.1) k3 tt v p2.3 in
         let long : length (predicate_entries f F (list_of ps)) ≡ n =
-        length-append (entries_at _ F.indices) _ ∙ ap (λ m. m + 1) (entries_long _ F.indices) ∙ (omega arith) in
+        length-append (entries_at _ F.indices) _ ∙ ap (λ m. m + 1) (entries_at_length _ F.indices) ∙ (omega arith) in
         equal_matches E (values c) f n ps qs bs bs' ret ret' s s'
         (all_equal (values c) 0 ps qs ap' aq (each_sound cmp sound c vs (list_of ps) (list_of qs) u p1.1 (list_long ps ∙ el ∙ sym (list_long qs)) (list_counted E ps h.1.0) kq p1.2))
         (entering_sound (predicate_entries f F (list_of ps)) n ret ret' p1.1 p2.1 long h.1.1.0 kr p2.2)

@@ -1,5 +1,5 @@
 -- What is formed from well-counted declarations is well counted.
-use Rattle.std.proofs.Common.{◌≡◌, ℕ, zero, suc, ◌+◌, List, [], ◌∷◌, ◌++◌, map, length, Option, Some, None, refl, subst, slice_get}
+use Rattle.std.proofs.Common.{◌≡◌, ℕ, zero, suc, ◌+◌, List, [], ◌∷◌, ◌++◌, map, length, Some, subst, slice_get}
 use Rattle.universe_levels.specs.declared.sort.Sort.{Sort}
 use Rattle.universe_levels.specs.Consistency.{IsSortOver}
 use Rattle.trees.proofs.Shape.{overs_each}
@@ -8,12 +8,12 @@ use Rattle.pc_terms.specs.Syntax.{Term, Rel, SortT, Prod, Ind, Construct, over, 
 use Rattle.calculus_rules.specs.declared.declaration.Constructor.{Constructor}
 use Rattle.calculus_rules.specs.declared.entry.Entry.TheVariants.{Assumed, Defined}
 use Rattle.calculus_rules.specs.Environment.{Env, FamilyDecl}
-use Rattle.calculus_rules.specs.Context.{Context, type_at, lifted, extend}
+use Rattle.calculus_rules.specs.Context.{Context, type_at, extend}
 use Rattle.calculus_rules.specs.Instances.{entries_at, products, family_type, constructor_type, predicate_entries, branch_entries, predicate_at, result_at, built_at, branch_type}
 use Rattle.pc_rules.specs.WellCounted.{IsCounted, AreCounted, IsCountedNode, AreCountedConstructors, IsCountedContext}
 use Rattle.calculus_rules.proofs.Spines.{one_item}
 use Rattle.rule_laws.proofs.Counted.{PutsCounted, rel_counted, put_all_counted, substituted_counted, renamed_counted, shifted_counted, apply_counted, appended_counted}
-use Rattle.rule_laws.proofs.KeepCounts.{IsCountedFamilyDecl}
+use Rattle.rule_laws.proofs.KeepCounts.{IsCountedFamilyDecl, lifted_counted}
 use Rattle.pc_rules.proofs.WeakNext.{none_some}
 
 module _ (E : Env) where
@@ -95,16 +95,12 @@ module _ (E : Env) where
       (put_all_counted E (result_at C ps ++ (built_at f c C ps ∷ [])) (λ i. Rel (length C.args + i))
       (appended_counted E (result_at C ps) (built_at f c C ps ∷ []) results (built, tt)) (λ i. tt)) l
 
-  lifted_type : (o : Option Term) {T : Term} → ((x : Term) → o ≡ Some x → IsCounted E x) → lifted o ≡ Some T → IsCounted E T
-  lifted_type None f e = absurd (none_some e)
-  lifted_type (Some x) f e = subst (λ y. IsCounted E y) (one_item e) (renamed_counted E suc x (f x refl))
-
   pub type_counted : (c : Context) (i : ℕ) (T : Term) → IsCountedContext E c → type_at c i ≡ Some T → IsCounted E T
   type_counted [] i T h e = absurd (none_some e)
   type_counted (Assumed A ∷ c) zero T h e = subst (λ y. IsCounted E y) (one_item e) (renamed_counted E suc A h.0)
   type_counted (Defined b B ∷ c) zero T h e = subst (λ y. IsCounted E y) (one_item e) (renamed_counted E suc B h.0.1)
-  type_counted (Assumed A ∷ c) (suc i) T h e = lifted_type (type_at c i) (λ x q. type_counted c i x h.1 q) e
-  type_counted (Defined b B ∷ c) (suc i) T h e = lifted_type (type_at c i) (λ x q. type_counted c i x h.1 q) e
+  type_counted (Assumed A ∷ c) (suc i) T h e = lifted_counted E (type_at c i) (λ x q. type_counted c i x h.1 q) e
+  type_counted (Defined b B ∷ c) (suc i) T h e = lifted_counted E (type_at c i) (λ x q. type_counted c i x h.1 q) e
 
   pub context_extended : (c : Context) (As : List Term) → IsCountedContext E c → AreCounted E As → IsCountedContext E (extend c As)
   context_extended c [] h k = h

@@ -36,8 +36,9 @@ use Rattle.rule_laws.proofs.Comparing.{compare_sound}
 use Rattle.rule_laws.proofs.SimpleRules.{sort_sound, check_sound, some_none}
 use Rattle.rule_laws.proofs.Inferring.{infer_sound}
 use Rattle.rule_laws.proofs.Extending.{fresh_is, env_more}
-use Rattle.rule_laws.proofs.Positive.{or_false, none_true}
+use Rattle.rule_laws.proofs.Positive.{none_true}
 use Rattle.rule_laws.proofs.Blocks.{block_sound}
+use Rattle.rule_laws.proofs.Alternatives.{or_false}
 
 -- a new name
 
@@ -128,7 +129,7 @@ end_placed p (run.Refused b u) k E T v h = absurd (breaks_accepts h)
 end_placed p run.NoUnit k E T v h = absurd (cc)
 end_placed p run.Nested k E T v h = absurd (cc)
 
-placed_both : {A : Type 0} (p : Place) (r : Run A) (k : A → Account → Checked) (E : Env) (T : Term) (v : Account) → (placed p r k).outcome ≡ Accepts E T v →
+pub placed_both : {A : Type 0} (p : Place) (r : Run A) (k : A → Account → Checked) (E : Env) (T : Term) (v : Account) → (placed p r k).outcome ≡ Accepts E T v →
     (a : A) × (u : Account) × (r.end ≡ run.Done a u) × ((k a u).outcome ≡ Accepts E T v)
 unfolding and_then
 placed_both p r k E T v h = end_placed p r.end (λ a u. (k a u).outcome) E T v h

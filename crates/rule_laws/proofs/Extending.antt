@@ -66,12 +66,9 @@ module _ (E H : Env) (finds : FindsAs E H) where
 
 -- a new name
 
-fresh_from : (ds : List Kept) (k : Name) → kept_at ds k ≡ None → IsFresh k ds
-fresh_from ds k e d h p =
-    let r = kept_there h in none_some (sym e ∙ subst (λ k. kept_at ds k ≡ Some r.0) p r.1)
-
 pub fresh_is : (ds : List Kept) (k : Name) → kept_at ds k ≡ None → IsFresh k ds
-fresh_is = fresh_from
+fresh_is ds k e d h p =
+    let r = kept_there h in none_some (sym e ∙ subst (λ k. kept_at ds k ≡ Some r.0) p r.1)
 
 pub not_found : (ds : List Kept) (k : Name) (o : Option Kept) → IsFresh k ds → kept_at ds k ≡ o → o ≡ None
 not_found ds k None f e = refl

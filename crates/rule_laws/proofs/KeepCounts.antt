@@ -38,7 +38,7 @@ module _ (E : Env) where
   values_extended c [] = refl
   values_extended c (A ∷ As) = values_extended (Assumed A ∷ c) As ∙ assumed_under (length As) (values c)
 
-  lifted_counted : (o : Option Term) {v : Term} → ((x : Term) → o ≡ Some x → IsCounted E x) → lifted o ≡ Some v → IsCounted E v
+  pub lifted_counted : (o : Option Term) {v : Term} → ((x : Term) → o ≡ Some x → IsCounted E x) → lifted o ≡ Some v → IsCounted E v
   lifted_counted None f e = absurd (none_some e)
   lifted_counted (Some x) f e = subst (λ y. IsCounted E y) (one_item e) (renamed_counted E suc x (f x refl))
 

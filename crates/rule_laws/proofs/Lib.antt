@@ -2,6 +2,8 @@ pub mod Names
 pub mod NoStep
 pub mod Counted
 pub mod KeepCounts
+pub mod Alternatives
+pub mod Outcomes
 pub mod Runs
 pub mod Settled
 pub mod Comparing

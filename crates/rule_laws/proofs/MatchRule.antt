@@ -130,9 +130,9 @@ eliminated_is E f F s u v q h =
 
 -- the family of a scrutinee
 
-family_head : (f : FamilyId) (t : Term) → is_the_family f t ≡ true → t ≡ Ind f
-family_head f (Ind g) h = ap (λ x. Ind x) (sym (same_families_is f g h))
-family_head f t h = false_true h
+pub the_family : (f : FamilyId) (t : Term) → is_the_family f t ≡ true → t ≡ Ind f
+the_family f (Ind g) h = ap (λ x. Ind x) (sym (same_families_is f g h))
+the_family f t h = false_true h
 
 pub dropped_counted : (E : Env) (n : ℕ) (xs : List Term) → AreCounted E xs → AreCounted E (drop n xs)
 dropped_counted E zero xs h = h

@@ -28,10 +28,6 @@ use Rattle.rule_laws.proofs.Runs.{bind_both, ticking_done, unit_done, done_value
 pub none_true : {A : Type 0} → true ≡ false → A
 none_true e = absurd (cc)
 
-pub or_false : (a b : Bool) → (a || b) ≡ false → (a ≡ false) × (b ≡ false)
-or_false false b h = (refl, h)
-or_false true b h = none_true h
-
 pub other_name : (k l : Name) → same_names k l ≡ false → k ≡ l → ⊥
 other_name k l h e = none_true (sym (eq-eqb k.0 l.0 (ap (λ n. n.0) e)) ∙ h)
 

@@ -1,12 +1,10 @@
 -- Of the passed program: captured words are at most the binders of the saturated program, and at most the words of the program before the passes.
-use Rattle.std.proofs.Common.{◌≡◌, ◌⊎◌, ℕ, zero, suc, ◌+◌, ◌-◌, ◌≤◌, List, [], ◌∷◌, length, map, Bool, false, ◌&&◌, ◌||◌, refl, ap, ◌∙◌, subst, inl, inr, arith}
+use Rattle.std.proofs.Common.{◌≡◌, ◌⊎◌, ℕ, zero, suc, ◌+◌, ◌-◌, ◌≤◌, List, [], ◌∷◌, length, false, refl, subst, inl, inr, arith}
 use Rattle.trees.specs.Tree.{Rel, Done, Next}
-use Rattle.trees.specs.Measures.{depth}
-use Rattle.pc_terms.specs.declared.leaf.Name.{Name}
 use Rattle.box_terms.specs.BoxSyntax.{BoxTerm, BoxTerms, Box, BLambda, BLetIn, BApp, BConst, BConstruct, BCase, BFix}
 use Rattle.lambda_box.specs.BoxProgram.{BoxConstant, BoxFamily, BoxProgram, Has, here, there}
 use Rattle.lambda_box.specs.BoxForm.{IsFixBody, boxed, last, more, AreFixBodies, HasBoxForm, HasBoxFormTerms, IsBoxProgram}
-use Rattle.lambda_box.specs.ClosureEvaluation.{VBox, ClosureEnv, Empty, Bind, BindFix, box_values, bind_all, one_if, any_below, words, names, names_terms}
+use Rattle.lambda_box.specs.ClosureEvaluation.{VBox, ClosureEnv, Empty, Bind, BindFix, box_values, bind_all, words, names, names_terms}
 use Rattle.lambda_box.specs.DataTerms.{greatest_arguments}
 use Rattle.lambda_box.proofs.Naming.{ordered_body}
 use Rattle.box_passes.specs.PropMatch.{prop_match_program}
@@ -16,36 +14,25 @@ use Rattle.box_passes.proofs.Passes.{passes_form}
 use Rattle.shrink_passes.specs.ShrunkProgram.{shrunk_program}
 use Rattle.shrink_passes.proofs.ShrunkNarrow.{AreFine, shrunk_narrow}
 use Rattle.shrink_passes.proofs.ShrunkPrograms.{shrunk_forms, shrunk_shallow}
+use Rattle.shrink_passes.proofs.Following.{words_none}
 use Rattle.box_passes.proofs.PropMatchForm.{prop_match_program_sizes}
 use Rattle.box_passes.proofs.SaturatedWidths.{most_depth, main_fits, constant_fits}
 use Rattle.box_passes.proofs.Widths.{plain, words_plain}
-use Rattle.anf_convert.specs.BoxForms.{AreShallow}
-use Rattle.anf_convert.specs.ToAnf.{code_of, number_in, to_anf}
-use Rattle.anf_convert.specs.ToAnfKeeps.{CanBeConverted, Ready}
+use Rattle.anf_convert.specs.ToAnf.{number_in, to_anf}
+use Rattle.anf_convert.specs.ToAnfKeeps.{CanBeConverted}
 use Rattle.anf_convert.proofs.Prepared.{data_kept}
-use Rattle.closure_lift.specs.CapturedLimit.{BlocksCapture, ProgramCaptures}
+use Rattle.closure_lift.specs.CapturedLimit.{ProgramCaptures}
 use Rattle.back_end.proofs.CapturedWords.{code_few}
+use Rattle.back_end.proofs.Sizes.{constants_capture}
 use Rattle.compile.specs.Passes.{IsShallow}
 use Rattle.compile.proofs.Within.{main_shallow, constant_shallow}
+use Rattle.headline.proofs.LateReturns.{all_shallow}
 use Rattle.source_limits.specs.LambdaBinders.{lambda_binders, lambda_binders_terms, constants_binders}
 use Rattle.source_limits.specs.Laws.{SaturatedCapturesAreFew, WordsBoundCaptures}
 
 plain_boxes : (n : ℕ) (e : ClosureEnv) → plain (bind_all (box_values n) e) ≡ n + plain e
 plain_boxes zero e = omega arith
 plain_boxes (suc n) e = omega (arith, plain_boxes n e)
-
--- where nothing is named there are no words
-
-any_none : (n : ℕ) (N : ℕ → Bool) → ((i : ℕ) → N i ≡ false) → any_below n N ≡ false
-any_none zero N h = refl
-any_none (suc n) N h = ap (λ b. b || any_below n N) (h n) ∙ any_none n N h
-
-words_none : (e : ClosureEnv) (N : ℕ → Bool) → ((i : ℕ) → N i ≡ false) → words e N ≡ 0
-words_none Empty N h = refl
-words_none (Bind v e) N h = omega (arith, words_none e (λ i. N (suc i)) (λ i. h (suc i)), ap one_if (h zero))
-words_none (BindFix rargs bodies e) N h =
-    let n = length rargs in
-    words_none e (λ i. N (n + i) || (any_below n N && names_terms bodies i)) (λ i. ap (λ b. b || (any_below n N && names_terms bodies i)) (h (n + i)) ∙ ap (λ b. b && names_terms bodies i) (any_none n N h))
 
 -- bodies of a fixpoint that aren't all box have a lambda
 
@@ -93,16 +80,6 @@ module _ (Fs : List BoxFamily) (C : ℕ) where
     defs_narrow e d (Next m (BLambda b) rest) p form le =
         (narrow (Bind VBox e) (suc (m + d)) b (omega (arith, p)) form.0.1.0 (omega (arith, le)), defs_narrow e d rest p form.1 (omega (arith, le)))
     defs_narrow e d (Next m t rest) p form le = defs_narrow e d rest p form.1 (omega (arith, le))
-
--- code that takes few words captures few
-
-constants_capture : (P : BoxProgram) (C : ℕ) (K : Name → ℕ) (cs : List BoxConstant) → ((d : BoxConstant) → Has cs d → Ready P d.body) → ((d : BoxConstant) → Has cs d → Narrow C Empty d.body) → BlocksCapture (suc C) (map (λ (d : BoxConstant). code_of K d.body) cs)
-constants_capture P C K [] ready narrow = tt
-constants_capture P C K (d ∷ ds) ready narrow = (code_few C P K d.body (ready d here) (narrow d here), constants_capture P C K ds (λ e at. ready e (there at)) (λ e at. narrow e (there at)))
-
-all_shallow : (cs : List BoxConstant) → ((d : BoxConstant) → Has cs d → depth d.body ≤ 2048) → AreShallow cs
-all_shallow [] h = tt
-all_shallow (c ∷ cs) h = (h c here, all_shallow cs (λ d has. h d (there has)))
 
 -- the program that is brought into A-normal form is one that the translation takes
 pub ready : (P : BoxProgram) → IsBoxProgram P → IsShallow P → CanBeConverted (shrunk_program P)

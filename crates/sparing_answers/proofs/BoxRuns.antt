@@ -1,13 +1,11 @@
 -- How an application and a match went on that evaluation after erasure has evaluated.
-use Rattle.std.proofs.Common.{◌≡◌, ◌≢◌, ℕ, true, List, [], ◌∷◌, ◌++◌, length, drop, Some, refl, sym, ap, ◌∙◌, subst, arith, slice_get}
+use Rattle.std.proofs.Common.{◌≡◌, ℕ, true, List, length, Some, refl}
 use Rattle.trees.specs.Tree.{Rel, Done, Next, term_at}
 use Rattle.trees.specs.Parallel.{put, put_all, substitute}
 use Rattle.pc_terms.specs.declared.leaf.FamilyId.{FamilyId}
-use Rattle.box_terms.specs.BoxSyntax.{BoxTerm, BoxTerms, Box, BLambda, BApp, BConstruct, BCase, BFix}
-use Rattle.lambda_box.specs.BoxProgram.{BoxFamily, BoxProgram, KeepsBoxFamily, box_apply, boxes}
-use Rattle.lambda_box.specs.BoxEvaluation.{IsBoxConstructor, is_box_constructor, BoxTakesMore, constructor, fixpoint, box_unfolded, BoxUnfolds, unfolds, BoxEvaluates, value, beta, box_app, extend, unfold_fix, enter, enter_only}
-use Rattle.lambda_box.proofs.Determined.{OneBoxEach}
-use Rattle.lambda_box.proofs.Spines.{constructor_head, constructor_arguments, fix_head, fix_arguments, one_item}
+use Rattle.box_terms.specs.BoxSyntax.{BoxTerm, BoxTerms, Box, BLambda, BApp, BCase}
+use Rattle.lambda_box.specs.BoxProgram.{BoxFamily, BoxProgram, KeepsBoxFamily, boxes}
+use Rattle.lambda_box.specs.BoxEvaluation.{IsBoxConstructor, BoxTakesMore, BoxUnfolds, BoxEvaluates, value, beta, box_app, extend, unfold_fix, enter, enter_only}
 
 -- from a function's value and an argument's to the application's
 pub data Goes (P : BoxProgram) : BoxTerm → BoxTerm → BoxTerm → Type 0 where
@@ -56,81 +54,3 @@ pub of_match : {P : BoxProgram} {f : FamilyId} {s w : BoxTerm} {bs : BoxTerms} {
 of_match (value i) = elim i [ ]
 of_match (enter {n = n} {m = m} {v = v} e c b e') = record { scrutinee = v; nodes = n; matches = m; scrutinee_runs = e; goes = enters c b e' }
 of_match (enter_only {n = n} {m = m} k p e e') = record { scrutinee = Box; nodes = n; matches = m; scrutinee_runs = e; goes = enters_only k p refl e' }
-
--- no value goes on in two ways
-
-abbrev constructor_of : BoxTerm → ℕ
-constructor_of (BConstruct f c) = c
-constructor_of t = 0
-
-abbrev body_of : BoxTerm → BoxTerm
-body_of (BLambda b) = b
-body_of t = t
-
-abbrev index_of : BoxTerm → ℕ
-index_of (BFix i rargs bodies) = i
-index_of t = 0
-
-abbrev rargs_of : BoxTerm → List ℕ
-rargs_of (BFix i rargs bodies) = rargs
-rargs_of t = []
-
-abbrev bodies_of : BoxTerm → BoxTerms
-bodies_of (BFix i rargs bodies) = bodies
-bodies_of t = Done
-
-drop_past : {A : Type 0} (xs ys : List A) → drop (length xs) (xs ++ ys) ≡ ys
-drop_past [] ys = refl
-drop_past (x ∷ xs) ys = drop_past xs ys
-
-pub one_constructor : {P : BoxProgram} → OneBoxEach P → {f : FamilyId} {c d : ℕ} {v : BoxTerm} {ps qs xs ys : List BoxTerm} →
-    IsBoxConstructor P f c v ps xs → IsBoxConstructor P f d v qs ys → (c ≡ d) × (xs ≡ ys)
-one_constructor u {f} {c} {d} {v} {ps} {qs} {xs} {ys} (is_box_constructor {F = F} k o i p a e) (is_box_constructor {F = G} k' o' i' p' a' e') =
-    (ap constructor_of heads, sym (drop_past ps xs) ∙ (λ i. drop (long i) (spines i)) ∙ drop_past qs ys)
-  where
-    heads : BConstruct f c ≡ BConstruct f d
-    heads = sym (constructor_head (ps ++ xs) e) ∙ constructor_head (qs ++ ys) e'
-
-    spines : ps ++ xs ≡ qs ++ ys
-    spines = sym (constructor_arguments f c (ps ++ xs) e) ∙ constructor_arguments f d (qs ++ ys) e'
-
-    long : length ps ≡ length qs
-    long = p ∙ ap (λ F. F.params) (u.families f F G k k') ∙ sym p'
-
-pub lambda_takes_no_more : {P : BoxProgram} {b : BoxTerm} → BoxTakesMore P (BLambda b) → ⊥
-lambda_takes_no_more (constructor f c xs k i l e) = let h = constructor_head {f = f} {c = c} xs e in cc
-lambda_takes_no_more (fixpoint i rargs bodies xs r l e) = let h = fix_head {i = i} {rargs = rargs} {bodies = bodies} xs e in cc
-
-pub box_takes_no_more : {P : BoxProgram} → BoxTakesMore P Box → ⊥
-box_takes_no_more (constructor f c xs k i l e) = let h = constructor_head {f = f} {c = c} xs e in cc
-box_takes_no_more (fixpoint i rargs bodies xs r l e) = let h = fix_head {i = i} {rargs = rargs} {bodies = bodies} xs e in cc
-
-pub lambda_stays : {b v u : BoxTerm} → BoxUnfolds (BLambda b) v u → ⊥
-lambda_stays (unfolds i rargs bodies xs r l b e) = let h = fix_head {i = i} {rargs = rargs} {bodies = bodies} xs e in cc
-
-pub box_stays : {v u : BoxTerm} → BoxUnfolds Box v u → ⊥
-box_stays (unfolds i rargs bodies xs r l b e) = let h = fix_head {i = i} {rargs = rargs} {bodies = bodies} xs e in cc
-
-pub more_or_unfolds : {P : BoxProgram} {g v u : BoxTerm} → BoxTakesMore P g → BoxUnfolds g v u → ⊥
-more_or_unfolds (constructor f c xs k j m e) (unfolds i rargs bodies ys r l b e') =
-    let h = sym (constructor_head {f = f} {c = c} xs e) ∙ fix_head {i = i} {rargs = rargs} {bodies = bodies} ys e' in cc
-more_or_unfolds (fixpoint i rargs bodies xs r l e) (unfolds i' rargs' bodies' ys r' l' b e') =
-    let h = sym (fix_head {i = i} {rargs = rargs} {bodies = bodies} xs e) ∙ fix_head {i = i'} {rargs = rargs'} {bodies = bodies'} ys e' in
-    let spines = sym (fix_arguments i rargs bodies xs e) ∙ fix_arguments i' rargs' bodies' ys e' in
-    let longs = ap length spines in
-    let rarg = one_item (sym r ∙ (λ j. slice_get (rargs_of (h j)) (index_of (h j))) ∙ r') in
-    omega arith
-
-pub one_unfolding : {g v u w : BoxTerm} → BoxUnfolds g v u → BoxUnfolds g v w → u ≡ w
-one_unfolding {v = v} (unfolds i rargs bodies xs {body = b₁} r l b e) (unfolds i' rargs' bodies' ys {body = b₂} r' l' b' e') =
-    let h = sym (fix_head {i = i} {rargs = rargs} {bodies = bodies} xs e) ∙ fix_head {i = i'} {rargs = rargs'} {bodies = bodies'} ys e' in
-    let spines = sym (fix_arguments i rargs bodies xs e) ∙ fix_arguments i' rargs' bodies' ys e' in
-    let body = one_item (sym b ∙ (λ j. term_at (bodies_of (h j)) (index_of (h j))) ∙ b') in
-    λ j. BApp (box_apply (box_unfolded (rargs_of (h j)) (bodies_of (h j)) ((body j).1)) (spines j)) v
-
-pub different : {P : BoxProgram} → OneBoxEach P → {f : FamilyId} {F : BoxFamily} {c : ℕ} {v : BoxTerm} {ps xs : List BoxTerm} → IsBoxConstructor P f c v ps xs → KeepsBoxFamily P f F →
-    F.propositional ≡ true → ⊥
-different u {f} {F} (is_box_constructor {F = G} k o i p a e) k' q = let same = ap (λ F. F.propositional) (u.families f G F k k') in cc
-
-pub more_not_box : {P : BoxProgram} {g : BoxTerm} → BoxTakesMore P g → g ≢ Box
-more_not_box {P} m e = box_takes_no_more (subst (λ g. BoxTakesMore P g) e m)

@@ -1,13 +1,10 @@
 -- A sparing evaluation is followed by the evaluation of whatever the term erases to, where that has one: the value that it gives is an erasure of the sparing value, with whatever for its boxes.
-use Rattle.std.proofs.Common.{◌≡◌, ◌≢◌, ℕ, zero, suc, true, List, [], ◌∷◌, length, Some, ◌⊎◌, inl, inr, refl, sym, ap, ◌∙◌, subst, slice_get}
-use Rattle.universe_levels.specs.declared.sort.Sort.{Sort}
-use Rattle.universe_levels.specs.declared.sort.Sort.TheVariants.{Prop, Of}
+use Rattle.std.proofs.Common.{◌≡◌, ◌≢◌, ℕ, true, List, [], ◌∷◌, length, Some, ◌⊎◌, inl, inr, refl, sym, ap, ◌∙◌, subst, slice_get}
+use Rattle.universe_levels.specs.declared.sort.Sort.TheVariants.{Prop}
 use Rattle.trees.specs.Tree.{Rel, Done, Next, term_at}
-use mathlib.Core.Path.{fun_ext}
-use Rattle.trees.proofs.Fusion.{substitute-rename, substitute-substitute}
 use Rattle.trees.proofs.Put.{substitute_same}
 use Rattle.pc_terms.specs.declared.leaf.FamilyId.{FamilyId}
-use Rattle.pc_terms.specs.Syntax.{Term, Terms, Lambda, App, Case, over, first, put, put_all, substitute, terms_of}
+use Rattle.pc_terms.specs.Syntax.{Term, Terms, Lambda, App, Case, put, put_all, substitute, terms_of}
 use Rattle.box_terms.specs.BoxSyntax.{BoxTerm, BoxTerms, Box, BLambda, BApp, BConstruct, BFix}
 use Rattle.calculus_rules.specs.declared.declaration.Constructor.{Constructor}
 use Rattle.calculus_rules.specs.declared.entry.Entry.TheVariants.{Defined}
@@ -16,24 +13,24 @@ use Rattle.calculus_rules.specs.Conversion.{Equal, back}
 use Rattle.calculus_rules.specs.Elimination.{AllProp, IsSingle, MayErase}
 use Rattle.calculus_rules.specs.Erasable.{Erasable}
 use Rattle.calculus_rules.specs.Evaluation.{TakesMore, lambda_is, construct_is, fix_is, Unfolds}
-use Rattle.calculus_rules.specs.Context.{Context, extend as under_entries}
-use Rattle.calculus_rules.specs.Instances.{branch_entries, entries_at}
+use Rattle.calculus_rules.specs.Context.{extend as under_entries}
+use Rattle.calculus_rules.specs.Instances.{branch_entries}
 use Rattle.calculus_rules.specs.Step.{IsConstructor, is_constructor}
-use Rattle.calculus_rules.specs.Typing.{bare, Types, TypesAll, no_terms, term}
+use Rattle.calculus_rules.specs.Typing.{bare, Types, TypesAll}
 use Rattle.calculus_rules.specs.Accepted.{IsAccepted}
 use Rattle.calculus_rules.proofs.Listing.{same_list}
 use Rattle.calculus_rules.proofs.Spines.{one_item}
 use Rattle.lambda_box.specs.BoxProgram.{BoxProgram, boxes}
 use Rattle.lambda_box.specs.BoxEvaluation.{is_box_constructor, BoxTakesMore, BoxUnfolds, BoxEvaluates, BoxEvaluates.value, BoxEvaluates.let_in}
-use Rattle.lambda_box.proofs.Determined.{OneBoxEach}
+use Rattle.lambda_box.proofs.Determined.{OneBoxEach, lambda_takes_no_more, box_takes_no_more, lambda_stays, box_stays, more_or_unfolds, one_unfolding, one_constructor, different}
 use Rattle.typing_laws.specs.Substituting.{Fits}
 use Rattle.typing_laws.specs.TypedParts.{OfCase}
 use Rattle.typing_laws.proofs.Generating.{of_app, of_let_in, of_case}
 use Rattle.typing_laws.proofs.PuttingAll.{puts_all, puts_none, types_entries}
 use Rattle.typing_laws.proofs.RenamingAndPutting.{PutsEntries}
-use Rattle.typing_laws.proofs.Traversal.{types_at}
 use Rattle.type_laws.specs.Contexts.{IsContext}
 use Rattle.type_laws.proofs.EvaluationKeeps.{AllKept, let_contracts, application_kept, beta_contracts, unfolding_keeps, unfold_contracts, match_kept, enter_contracts}
+use Rattle.type_laws.proofs.Lawful.{entries_put}
 use Rattle.type_laws.proofs.MatchesKeep.{matched_arguments}
 use Rattle.type_laws.proofs.RootsKeep.{fits_assumed, beta_keeps, beta_argument, constant_keeps}
 use Rattle.type_laws.proofs.Solid.{families_stay, erasable_kept}
@@ -41,7 +38,8 @@ use Rattle.erase_laws.specs.Erases.{Erases, box, rel, lambda, app, const, constr
 use Rattle.erase_laws.specs.ErasedProgram.{counts_of, is_prop}
 use Rattle.erase_laws.proofs.ErasedData.{BuiltErased, built_erased}
 use Rattle.erase_laws.proofs.ErasedRedexes.{Ready, extended, unfolds_erased, BranchAt, branch_at, OnlyBranch, only_branch}
-use Rattle.erase_laws.proofs.ErasedSpines.{Settled, of_box}
+use Rattle.erase_laws.proofs.ErasedRedexes.{prop_or_not, only_item, no_item}
+use Rattle.erase_laws.proofs.ErasedSpines.{Settled, of_box, more_not_box}
 use Rattle.erase_laws.proofs.ErasingArguments.{put_all_erases, arguments_erase}
 use Rattle.erase_laws.proofs.ErasingSubstituted.{put_erases}
 use Rattle.erase_laws.proofs.Serves.{Serves}
@@ -49,7 +47,7 @@ use Rattle.sparing_laws.specs.SparingEvaluation.{EvaluatesSparingly, value, let_
 use Rattle.sparing_laws.proofs.Evidence.{application_erasable}
 use Rattle.sparing_laws.proofs.Keeping.{sparing_keeps, handed_keeps}
 use Rattle.sparing_answers.proofs.Filled.{Fills, node, and, group, end, blank, FillsTerms, FillsEach, one_more, no_more, fills_same, fills_app, fills_put, fills_put_all, each_same, ToConstructor, to_constructor, ToItem, to_item, filled_takes, filled_unfolds}
-use Rattle.sparing_answers.proofs.BoxRuns.{of_application, Goes, runs, boxed, takes, turns, Enters, enters, enters_only, of_match, lambda_takes_no_more, box_takes_no_more, lambda_stays, box_stays, more_or_unfolds, one_unfolding, one_constructor, different, more_not_box}
+use Rattle.sparing_answers.proofs.BoxRuns.{of_application, Goes, runs, boxed, takes, turns, Enters, enters, enters_only, of_match}
 
 -- the value that box evaluation gives is an erasure of v, with whatever for its boxes
 pub record Agrees (E : Env) (v : Term) (w : BoxTerm) : Type 0 where
@@ -119,28 +117,6 @@ unfold_agrees {E} {P} K {g} {u} {x} {v} {G} {g'} {u'} {w} h typed a r goes passe
 
 -- matches, with the scrutinee followed
 
-prop_or_not : (s : Sort) → (s ≡ Prop) ⊎ (s ≢ Prop)
-prop_or_not Prop = inl refl
-prop_or_not (Of u) = inr (λ e. cc)
-
-only_item : {C D : Constructor} (c : ℕ) → slice_get (D ∷ []) c ≡ Some C → D ≡ C
-only_item zero e = one_item e
-only_item (suc c) e = absurd (cc)
-
-no_item : {C : Constructor} (c : ℕ) → slice_get [] c ≡ Some C → ⊥
-no_item c e = cc
-
--- a telescope in which terms are put in, and the terms put in later
-pub entries_put : {E : Env} {c : Context} (As : List Term) {xs : List Term} (s p q : ℕ → Term) → ((i : ℕ) → substitute p (s i) ≡ q i) → TypesAll bare E c p xs (entries_at s As) →
-    TypesAll bare E c q xs As
-entries_put [] s p q h no_terms = no_terms
-entries_put {E} {c} (A ∷ As) s p q h (term {t = x} r rs) =
-    term (types_at refl (substitute-substitute A s p ∙ ap (λ q. substitute q A) (fun_ext h)) r) (entries_put As (over s) (first x p) (first x q) next rs)
-  where
-    next : (i : ℕ) → substitute (first x p) (over s i) ≡ first x q i
-    next zero = refl
-    next (suc i) = substitute-rename (s i) suc (first x p) ∙ h i
-
 record Matched (E : Env) (f : FamilyId) (F : FamilyDecl) (c : ℕ) (s : Term) (ps qs xs : List Term) (bs : Terms) (body : Term) (bs₀ : BoxTerms) : Type 0 where
   kept : KeepsFamily E f F
   constructor : IsConstructor E f c s qs xs
@@ -185,14 +161,14 @@ ordinary_agrees {E} {P} K {f} {F} {c} {s} {body} {v} {ps} {qs} {xs} {bs} {bs₀}
 single_agrees : {E : Env} {P : BoxProgram} → Together E P → {f : FamilyId} {F : FamilyDecl} {c : ℕ} {s body v : Term} {ps qs xs : List Term} {bs : Terms} {bs₀ bs' : BoxTerms} {s' w : BoxTerm} →
     Matched E f F c s ps qs xs bs body bs₀ → F.sort ≡ Prop → IsSingle E f F → FillsTerms bs₀ bs' → Enters P f s' bs' w → Continues E P (substitute (put_all xs Rel) body) v w → Agrees E v w
 single_agrees {E} {P} K {f} {F} {c} {s} {body} {v} {ps} {qs} {xs} {bs} {bs₀} {bs'} {s'} {w} M prop (_, inl empty) fb goes continues =
-    absurd (no_item c (sym (ap (λ Cs. slice_get Cs c) empty) ∙ M.constructors.1))
+    absurd (no_item F.constructors c M.constructors.0 M.constructors.1 empty)
 single_agrees {E} {P} K {f} {F} {c} {s} {body} {v} {ps} {qs} {xs} {bs} {bs₀} {bs'} {s'} {w} M prop (_, inr (D, only, props)) fb goes continues = go goes
   where
     C : Constructor
     C = M.constructors.0
 
     same : D ≡ C
-    same = only_item c (sym (ap (λ Cs. slice_get Cs c) only) ∙ M.constructors.1)
+    same = only_item F.constructors c C D M.constructors.1 only
 
     arm : OnlyBranch E ps C body bs₀
     arm = only_branch (subst (λ Cs. ErasesBranches E [] ps Cs bs bs₀) (only ∙ ap (λ C. C ∷ []) same) M.erased) c (length xs) body M.branch

@@ -1,9 +1,7 @@
 -- An evaluation over lemmas is followed after erasure, in no more nodes: what a lemma erases to is box, since no program keeps a constant without a body.
-use Rattle.std.proofs.Common.{◌≡◌, ℕ, suc, ◌+◌, ◌≤◌, List, [], Option, Some, None, ◌⊎◌, inl, inr, refl, sym, ap, subst, arith}
-use Rattle.trees.proofs.Put.{substitute_same}
+use Rattle.std.proofs.Common.{◌≡◌, ℕ, suc, ◌+◌, ◌≤◌, [], Option, Some, None, ◌⊎◌, inl, inr, refl, sym, ap, subst, arith}
 use Rattle.pc_terms.specs.declared.leaf.Name.{Name}
-use Rattle.pc_terms.specs.declared.leaf.FamilyId.{FamilyId}
-use Rattle.pc_terms.specs.Syntax.{Term, Terms, Rel, Lambda, App, Case, put, put_all, substitute, terms_of}
+use Rattle.pc_terms.specs.Syntax.{Term, Rel, Lambda, App, put, substitute, terms_of}
 use Rattle.box_terms.specs.BoxSyntax.{BoxTerm, Box, BApp}
 use Rattle.calculus_rules.specs.declared.declaration.Kept.{Kept}
 use Rattle.calculus_rules.specs.declared.declaration.Kept.TheVariants.{Constant}
@@ -11,33 +9,30 @@ use Rattle.calculus_rules.specs.Environment.{Env, KeepsConstant}
 use Rattle.calculus_rules.specs.Elimination.{MayErase}
 use Rattle.calculus_rules.specs.Erasable.{Erasable}
 use Rattle.calculus_rules.specs.Evaluation.{lambda_is, construct_is, fix_is}
-use Rattle.calculus_rules.specs.Lawful.{ArgumentsFit}
-use Rattle.calculus_rules.specs.Step.{IsConstructor}
 use Rattle.calculus_rules.specs.Typing.{bare, Types, TypesAll}
 use Rattle.calculus_rules.specs.Accepted.{IsAccepted}
 use Rattle.calculus_rules.proofs.Listing.{same_list}
 use Rattle.calculus_rules.proofs.OneEach.{one_declaration}
 use Rattle.lambda_box.specs.BoxProgram.{BoxProgram, NamesOnly}
 use Rattle.lambda_box.specs.BoxEvaluation as after
-use Rattle.lambda_box.specs.BoxEvaluation.{IsBoxValue, BoxEvaluates, box_app, BoxTakesMore, BoxUnfolds}
+use Rattle.lambda_box.specs.BoxEvaluation.{BoxEvaluates, box_app, BoxTakesMore, BoxUnfolds}
 use Rattle.lambda_box.proofs.Naming.{named_put, named_unfolds}
 use Rattle.typing_laws.proofs.Generating.{of_app, of_let_in, of_case}
-use Rattle.typing_laws.proofs.Traversal.{types_at}
 use Rattle.type_laws.specs.Contexts.{IsContext}
 use Rattle.type_laws.proofs.EvaluationKeeps.{let_contracts, application_kept, beta_contracts, unfolding_keeps, unfold_contracts, match_kept, enter_contracts}
-use Rattle.type_laws.proofs.MatchesKeep.{matched_arguments}
+use Rattle.type_laws.proofs.Lawful.{arguments_fit}
 use Rattle.type_laws.proofs.RootsKeep.{fits_assumed, beta_keeps, beta_argument, constant_keeps}
 use Rattle.type_laws.proofs.Solid.{families_stay, erasable_kept}
 use Rattle.erase_laws.specs.Erases.{Erases, box, rel, lambda, app, const, construct, case, fix}
 use Rattle.erase_laws.proofs.ErasedRedexes.{extended, unfolds_erased, entered}
 use Rattle.erase_laws.proofs.ErasedSpines.{Settled, of_box, value_settled}
 use Rattle.erase_laws.proofs.ErasingSubstituted.{put_erases}
-use Rattle.erase_laws.proofs.Following.{Follows}
+use Rattle.erase_laws.proofs.Following.{Follows, at_value as itself}
 use Rattle.sparing_laws.specs.LemmaEvaluation.{IsLemma, without_body, among_proofs, IsAppliedLemma, alone, applied, EvaluatesOverLemmas, value, lemma_is, let_in, beta, extend, lemma_takes, unfold_fix, enter}
 use Rattle.sparing_laws.proofs.Evidence.{application_erasable}
 use Rattle.sparing_laws.proofs.LemmaKeeping.{lemmas_keep, some_nodes}
 use Rattle.sparing_laws.proofs.LemmaValues.{lemma_erasable}
-use Rattle.sparing_answers.proofs.Following.{Together, fits_kept, entries_put}
+use Rattle.sparing_answers.proofs.Following.{Together, fits_kept}
 
 -- a lemma erases to box
 
@@ -74,9 +69,6 @@ applied_boxed K (applied a) (app p q) s g = absurd (s.0 (applied_boxed K a p s.1
 boxed : {E : Env} {P : BoxProgram} {v : Term} {n : ℕ} → 1 ≤ n → Erasable E [] v → Follows E P v Box n
 boxed le p = record { nodes = 1; matches = 0; result = Box; fewer = le; runs = after.value after.box_is; erased = box p; named = (tt, tt) }
 
-itself : {E : Env} {P : BoxProgram} {v : Term} {w : BoxTerm} → IsBoxValue w → Erases E [] v w → NamesOnly P.constants w → Follows E P v w 1
-itself {w = w} i p g = record { nodes = 1; matches = 0; result = w; fewer = omega arith; runs = after.value i; erased = p; named = g }
-
 boxed_function : {E : Env} {P : BoxProgram} {f' a' : BoxTerm} {g u v : Term} {n m j : ℕ} (r : Follows E P g f' n) (s : Follows E P u a' m) → suc (n + m) ≤ j → r.result ≡ Box →
     (Erasable E [] g → Erasable E [] v) → Follows E P v (BApp f' a') j
 boxed_function {E} {P} {f'} {g = g} r s le e passes =
@@ -91,13 +83,6 @@ boxed_function {E} {P} {f'} {g = g} r s le e passes =
       erased = box (passes (of_box (subst (λ x. Erases E [] g x) e r.erased)));
       named = (tt, tt);
     }
-
--- the arguments of a scrutinee's constructor
-arguments_fit : (E : Env) → IsAccepted E → (f : FamilyId) (ps bs : Terms) (n c : ℕ) (ret v T : Term) (qs xs : List Term) → IsConstructor E f c v qs xs →
-    Types bare E [] (Case f ps n ret v bs) T → ArgumentsFit E f c ps xs
-arguments_fit E h f ps bs n c ret v T qs xs i d F C rs k at e =
-    entries_put C.args (put_all rs Rel) Rel (put_all rs Rel) (λ i. substitute_same (put_all rs Rel i))
-    (matched_arguments E h [] f F C c n rs qs xs bs ret v T IsContext.empty k at i (types_at (ap (λ ps. Case f ps n ret v bs) e) refl d))
 
 -- what a contractum is followed by
 abbrev Continues : Env → BoxProgram → Term → Term → ℕ → Type 0

@@ -1,27 +1,17 @@
 -- A sparing evaluation of a typed closed term keeps its types, and lies in equality.
 use Rattle.std.proofs.Common.{ℕ, [], refl}
-use Rattle.pc_terms.specs.Syntax.{Term, Lambda, App}
+use Rattle.pc_terms.specs.Syntax.{Term, Lambda}
 use Rattle.calculus_rules.specs.Environment.{Env}
-use Rattle.calculus_rules.specs.Conversion.{Equal, step, same, chain, inside, end, and}
+use Rattle.calculus_rules.specs.Conversion.{step, same, chain, inside, end, and}
 use Rattle.calculus_rules.specs.Step.{Root, zeta, matched}
-use Rattle.calculus_rules.specs.Evaluation.{Unfolds, unfolds, IsBuilt}
-use Rattle.calculus_rules.specs.Typing.{bare, Types}
 use Rattle.calculus_rules.specs.Accepted.{IsAccepted}
-use Rattle.calculus_rules.specs.Lawful.{KeepsTypes}
 use Rattle.typing_laws.proofs.Generating.{of_let_in}
 use Rattle.type_laws.specs.Contexts.{IsContext}
 use Rattle.type_laws.proofs.RootsKeep.{constant_keeps}
-use Rattle.type_laws.proofs.EvaluationKeeps.{AllKept, let_contracts, application_kept, beta_contracts, unfold_contracts, match_kept, enter_contracts}
+use Rattle.type_laws.proofs.EvaluationKeeps.{AllKept, let_contracts, application_kept, beta_contracts, unfold_contracts, match_kept, enter_contracts, contracted, unfolding_equal}
 use Rattle.sparing_laws.specs.SparingEvaluation.{EvaluatesSparingly, value, let_in, beta, extend, unfold_fix, enter, HandsOn, left, evaluated}
 use Rattle.sparing_laws.specs.Laws.{SparingKeepsTypes, SparingIsEquality}
 use Rattle.sparing_laws.proofs.Results.{looked_at_is_built}
-
--- what a term's contractum keeps, the term does
-pub contracted : {E : Env} {t u v : Term} → KeepsTypes E t u → ((T : Term) → Types bare E [] t T → Equal E [] t u) → AllKept E u v → AllKept E t v
-contracted k e k' T d = let q = k' T (k T d) in record { typed = q.typed; equals = chain (e T d) q.equals }
-
-pub unfolding_equal : {E : Env} {g v u : Term} → Unfolds g v u → IsBuilt E v → Equal E [] (App g v) u
-unfolding_equal (unfolds i rargs types bodies xs r l b e) (f, c, qs, ys, k) = step (Root.fixpoint i rargs types bodies xs r l k b e)
 
 mutual
   pub sparing_keeps : (E : Env) → IsAccepted E → {t v : Term} {n : ℕ} → EvaluatesSparingly E t v n → AllKept E t v

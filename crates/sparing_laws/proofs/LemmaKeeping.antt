@@ -11,11 +11,10 @@ use Rattle.calculus_rules.specs.Lawful.{IsLawful}
 use Rattle.typing_laws.proofs.Generating.{of_let_in}
 use Rattle.type_laws.specs.Contexts.{IsContext}
 use Rattle.type_laws.proofs.RootsKeep.{constant_keeps}
-use Rattle.type_laws.proofs.EvaluationKeeps.{AllKept, let_contracts, application_kept, beta_contracts, unfold_contracts, match_kept, enter_contracts}
+use Rattle.type_laws.proofs.EvaluationKeeps.{AllKept, let_contracts, application_kept, beta_contracts, unfold_contracts, match_kept, enter_contracts, contracted, unfolding_equal}
 use Rattle.type_laws.proofs.Lawful.{evaluations_are_lawful}
 use Rattle.sparing_laws.specs.LemmaEvaluation.{EvaluatesOverLemmas, value, lemma_is, let_in, beta, extend, lemma_takes, unfold_fix, enter}
 use Rattle.sparing_laws.specs.LemmaLaws.{EvaluationsAreOverLemmas, OverLemmasKeepsTypes, OverLemmasIsEquality}
-use Rattle.sparing_laws.proofs.Keeping.{contracted, unfolding_equal}
 
 pub lemmas_keep : (E : Env) → IsAccepted E → {t v : Term} {n : ℕ} → EvaluatesOverLemmas E t v n → AllKept E t v
 lemmas_keep E h (value i) T d = record { typed = d; equals = same }

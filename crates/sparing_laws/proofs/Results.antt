@@ -1,27 +1,20 @@
 -- What sparing evaluation leaves: values, and values extended by what was handed on. Of a family it is one of its constructors with all parameters and arguments.
-use Rattle.std.proofs.Common.{◌≡◌, ℕ, suc, ◌+◌, ◌≤◌, List, [], ◌∷◌, ◌++◌, length, take, drop, Some, refl, sym, ap, ◌∙◌, subst, arith, slice_get, map, append-nil, length-append, length-drop}
-use Rattle.std.proofs.lemmas.List.{length-take-le, take-append-drop}
-use Rattle.universe_levels.specs.declared.sort.Sort.{Sort}
+use Rattle.std.proofs.Common.{◌≡◌, ℕ, List, [], ◌∷◌, ◌++◌, refl, sym, ap, ◌∙◌, arith}
 use Rattle.pc_terms.specs.declared.leaf.FamilyId.{FamilyId}
-use Rattle.pc_terms.specs.Syntax.{Term, Terms, SortT, App, Ind, Construct, Fix, substitute, shift, variables, apply}
-use Rattle.calculus_rules.specs.declared.declaration.Constructor.{Constructor}
-use Rattle.calculus_rules.specs.Environment.{Env, FamilyDecl, KeepsFamily}
+use Rattle.pc_terms.specs.Syntax.{Term, App, Ind, Construct, Fix, apply}
+use Rattle.calculus_rules.specs.Environment.{Env}
 use Rattle.calculus_rules.specs.Conversion.{Below, equal}
 use Rattle.calculus_rules.specs.Erasable.{Erasable}
-use Rattle.calculus_rules.specs.Instances.{products}
-use Rattle.calculus_rules.specs.Step.{IsConstructor, is_constructor}
 use Rattle.calculus_rules.specs.Evaluation.{IsValue, sort_is, prod_is, lambda_is, ind_is, construct_is, fix_is, TakesMore, family, constructor, fixpoint, Unfolds, unfolds, IsBuilt}
 use Rattle.calculus_rules.specs.Typing.{bare, Types, Recurses, recurses_here, recurses_later}
 use Rattle.calculus_rules.specs.Accepted.{IsAccepted}
 use Rattle.calculus_rules.proofs.Spines.{apply_one_more}
 use Rattle.typing_laws.proofs.Generating.{of_sort, of_prod, of_lambda, of_construct}
-use Rattle.typing_laws.proofs.Telescopes.{substitute-apply, products_append}
-use Rattle.typing_laws.proofs.Traversal.{types_at, below_at}
 use Rattle.type_laws.specs.Contexts.{IsContext}
-use Rattle.type_laws.proofs.Apart.{sort_not_family, product_not_family, families_below}
+use Rattle.type_laws.proofs.Apart.{sort_not_family, product_not_family}
 use Rattle.type_laws.proofs.RootsKeep.{beta_argument}
-use Rattle.type_laws.proofs.MatchesKeep.{above_declared}
-use Rattle.type_laws.proofs.Results.{rest, Rest, family_rest, fixpoint_body, fixpoint_reduced}
+use Rattle.type_laws.proofs.Results.{fixpoint_body, fixpoint_reduced}
+use Rattle.type_laws.proofs.Canonical.{one_more, family_is_not, fixpoint_is_not, Built, constructor_built, one_longer}
 use Rattle.sparing_laws.specs.SparingEvaluation.{EvaluatesSparingly, value, let_in, beta, extend, unfold_fix, enter, HandsOn, left, evaluated}
 
 mutual
@@ -46,70 +39,6 @@ mutual
   pub handed_result : {E : Env} {t v : Term} {n : ℕ} → HandsOn E t v n → IsHanded E v
   handed_result (left e) = spared e
   handed_result (evaluated e) = kept (sparing_result e)
-
--- one more argument
-one_more : {E : Env} {g a T : Term} (h : Term) (xs : List Term) → g ≡ apply h xs → Types bare E [] (App g a) T → Types bare E [] (apply h (xs ++ (a ∷ []))) T
-one_more {a = a} h xs e d = types_at (ap (λ g. App g a) e ∙ sym (apply_one_more h a xs)) refl d
-
-one_longer : {A : Type 0} (xs : List A) (a : A) → length (xs ++ (a ∷ [])) ≡ suc (length xs)
-one_longer xs a = let e = length-append xs (a ∷ []) in omega arith
-
--- products that end in a sort are below no family, so a family applied to terms has no type of a family
-arity_not_family : (E : Env) → IsAccepted E → (As : List Term) (s : Sort) (f : FamilyId) (is : List Term) → Below E [] (products As (SortT s)) (apply (Ind f) is) → ⊥
-arity_not_family E h [] s f is b = sort_not_family E h [] s f is b
-arity_not_family E h (A ∷ As) s f is b = product_not_family E h [] A (products As (SortT s)) f is b
-
-family_is_not : (E : Env) → IsAccepted E → (g : FamilyId) (xs : List Term) (T : Term) (f : FamilyId) (is : List Term) → Types bare E [] (apply (Ind g) xs) T →
-    Below E [] T (apply (Ind f) is) → ⊥
-family_is_not E h g xs T f is d b = let (F, Bs, k, p) = family_rest E h g xs T d in arity_not_family E h Bs F.sort f is (Below.chain p b)
-
--- a fixpoint without its recursive argument is a lambda after its arguments are put in
-lambda_is_not : (E : Env) → IsAccepted E → {r : ℕ} {t : Term} (T : Term) (f : FamilyId) (is : List Term) → Recurses E [] r t → Types bare E [] t T →
-    Below E [] T (apply (Ind f) is) → ⊥
-lambda_is_not E h T f is (recurses_here {A = A} g xs e) d b = let r = of_lambda d in product_not_family E h [] A r.codomain f is (Below.chain r.below b)
-lambda_is_not E h T f is (recurses_later {A = A} p) d b = let r = of_lambda d in product_not_family E h [] A r.codomain f is (Below.chain r.below b)
-
-fixpoint_is_not : (E : Env) → IsAccepted E → (i rarg : ℕ) (rargs : List ℕ) (types bodies : Terms) (xs : List Term) (T : Term) (f : FamilyId) (is : List Term) → slice_get rargs i ≡ Some rarg →
-    length xs ≤ rarg → Types bare E [] (apply (Fix i rargs types bodies) xs) T → Below E [] T (apply (Ind f) is) → ⊥
-fixpoint_is_not E h i rarg rargs types bodies xs T f is e l d b =
-    let r = fixpoint_reduced E h i rarg rargs types bodies xs [] T e l (types_at (ap (apply (Fix i rargs types bodies)) (sym (append-nil xs))) refl d) in
-    lambda_is_not E h T f is r.recurses r.typed b
-
--- a constructor of a family has all its parameters and arguments
-abbrev pub Built : Env → FamilyId → Term → Type 0
-Built E f v = (c : ℕ) × (qs : List Term) × (xs : List Term) × IsConstructor E f c v qs xs
-
-constructor_built : (E : Env) → IsAccepted E → (g : FamilyId) (n : ℕ) (F : FamilyDecl) (C : Constructor) (xs : List Term) (v T : Term) (f : FamilyId) (is : List Term) → KeepsFamily E g F →
-    slice_get F.constructors n ≡ Some C → length xs ≤ length F.parameters + length C.args → v ≡ apply (Construct g n) xs → Types bare E [] (apply (Construct g n) xs) T →
-    Below E [] T (apply (Ind f) is) → Built E f v
-constructor_built E h g n F C xs v T f is k i l ev d b =
-    let long = length-append F.parameters C.args in
-    go (rest E h xs (F.parameters ++ C.args) (Construct g n) end T
-    (λ U q. below_at (sym (products_append F.parameters C.args end)) refl (above_declared E h [] g F n C U k i q)) (omega arith) d)
-  where
-    ends : List Term
-    ends = map (shift (length C.args) 0) (variables (length F.parameters)) ++ C.result
-
-    end : Term
-    end = apply (Ind g) ends
-
-    all : length xs ≡ length F.parameters + length C.args → (s : ℕ → Term) → Below E [] (substitute s end) T → Built E f v
-    all e s below =
-        let same = families_below E h [] g f (map (substitute s) ends) is (below_at (substitute-apply s (Ind g) ends) refl (Below.chain below b)) in
-        subst (λ f. Built E f v) same.family (
-          n,
-          take (length F.parameters) xs,
-          drop (length F.parameters) xs,
-          is_constructor k i (length-take-le (length F.parameters) xs (omega arith)) (let q = length-drop (length F.parameters) xs in omega arith)
-              (ev ∙ ap (apply (Construct g n)) (sym (take-append-drop (length F.parameters) xs))),
-        )
-
-    go : Rest E (length xs) (length (F.parameters ++ C.args)) end T → Built E f v
-    go r = at r.entries r.count r.below
-      where
-        at : (entries : List Term) → length entries + length xs ≡ length (F.parameters ++ C.args) → Below E [] (products entries (substitute r.puts end)) T → Built E f v
-        at [] e below = let long = length-append F.parameters C.args in all (omega arith) r.puts below
-        at (A ∷ As) e below = absurd (product_not_family E h [] A (products As (substitute r.puts end)) f is (Below.chain below b))
 
 pub sparing_canonical : (E : Env) → IsAccepted E → (f : FamilyId) (is : List Term) {v : Term} (T : Term) → IsSparingResult E v → Types bare E [] v T → Below E [] T (apply (Ind f) is) → Built E f v
 sparing_canonical E h f is T (plain (sort_is {s = s})) d b = absurd (sort_not_family E h [] _ f is (Below.chain (of_sort d).below b))

@@ -24,10 +24,10 @@ use Rattle.type_laws.proofs.MatchesKeep.{above_declared}
 use Rattle.type_laws.proofs.Results.{IsResult, plain, extended, result, rest, Rest, family_rest, fixpoint_body, fixpoint_reduced}
 
 -- one more argument
-one_more : {E : Env} {g a T : Term} (h : Term) (xs : List Term) → g ≡ apply h xs → Types bare E [] (App g a) T → Types bare E [] (apply h (xs ++ (a ∷ []))) T
+pub one_more : {E : Env} {g a T : Term} (h : Term) (xs : List Term) → g ≡ apply h xs → Types bare E [] (App g a) T → Types bare E [] (apply h (xs ++ (a ∷ []))) T
 one_more {a = a} h xs e d = types_at (ap (λ g. App g a) e ∙ sym (apply_one_more h a xs)) refl d
 
-one_longer : {A : Type 0} (xs : List A) (a : A) → length (xs ++ (a ∷ [])) ≡ suc (length xs)
+pub one_longer : {A : Type 0} (xs : List A) (a : A) → length (xs ++ (a ∷ [])) ≡ suc (length xs)
 one_longer xs a = let e = length-append xs (a ∷ []) in omega arith
 
 -- products that end in a sort are below no family, so a family applied to terms has no type of a family
@@ -35,7 +35,7 @@ arity_not_family : (E : Env) → IsAccepted E → (As : List Term) (s : Sort) (f
 arity_not_family E h [] s f is b = sort_not_family E h [] s f is b
 arity_not_family E h (A ∷ As) s f is b = product_not_family E h [] A (products As (SortT s)) f is b
 
-family_is_not : (E : Env) → IsAccepted E → (g : FamilyId) (xs : List Term) (T : Term) (f : FamilyId) (is : List Term) → Types bare E [] (apply (Ind g) xs) T →
+pub family_is_not : (E : Env) → IsAccepted E → (g : FamilyId) (xs : List Term) (T : Term) (f : FamilyId) (is : List Term) → Types bare E [] (apply (Ind g) xs) T →
     Below E [] T (apply (Ind f) is) → ⊥
 family_is_not E h g xs T f is d b = let (F, Bs, k, p) = family_rest E h g xs T d in arity_not_family E h Bs F.sort f is (Below.chain p b)
 
@@ -45,7 +45,7 @@ lambda_is_not : (E : Env) → IsAccepted E → {r : ℕ} {t : Term} (T : Term) (
 lambda_is_not E h T f is (recurses_here {A = A} g xs e) d b = let r = of_lambda d in product_not_family E h [] A r.codomain f is (Below.chain r.below b)
 lambda_is_not E h T f is (recurses_later {A = A} p) d b = let r = of_lambda d in product_not_family E h [] A r.codomain f is (Below.chain r.below b)
 
-fixpoint_is_not : (E : Env) → IsAccepted E → (i rarg : ℕ) (rargs : List ℕ) (types bodies : Terms) (xs : List Term) (T : Term) (f : FamilyId) (is : List Term) → slice_get rargs i ≡ Some rarg →
+pub fixpoint_is_not : (E : Env) → IsAccepted E → (i rarg : ℕ) (rargs : List ℕ) (types bodies : Terms) (xs : List Term) (T : Term) (f : FamilyId) (is : List Term) → slice_get rargs i ≡ Some rarg →
     length xs ≤ rarg → Types bare E [] (apply (Fix i rargs types bodies) xs) T → Below E [] T (apply (Ind f) is) → ⊥
 fixpoint_is_not E h i rarg rargs types bodies xs T f is e l d b =
     let r = fixpoint_reduced E h i rarg rargs types bodies xs [] T e l (types_at (ap (apply (Fix i rargs types bodies)) (sym (append-nil xs))) refl d) in
@@ -55,7 +55,7 @@ fixpoint_is_not E h i rarg rargs types bodies xs T f is e l d b =
 abbrev pub Built : Env → FamilyId → Term → Type 0
 Built E f v = (c : ℕ) × (qs : List Term) × (xs : List Term) × IsConstructor E f c v qs xs
 
-constructor_built : (E : Env) → IsAccepted E → (g : FamilyId) (n : ℕ) (F : FamilyDecl) (C : Constructor) (xs : List Term) (v T : Term) (f : FamilyId) (is : List Term) → KeepsFamily E g F →
+pub constructor_built : (E : Env) → IsAccepted E → (g : FamilyId) (n : ℕ) (F : FamilyDecl) (C : Constructor) (xs : List Term) (v T : Term) (f : FamilyId) (is : List Term) → KeepsFamily E g F →
     slice_get F.constructors n ≡ Some C → length xs ≤ length F.parameters + length C.args → v ≡ apply (Construct g n) xs → Types bare E [] (apply (Construct g n) xs) T →
     Below E [] T (apply (Ind f) is) → Built E f v
 constructor_built E h g n F C xs v T f is k i l ev d b =

@@ -47,7 +47,7 @@ value_of_both v u w =
     max_zero : (n : ℕ) → max 0 n ≡ n
     max_zero n = omega arith
 
-products_entail : (E : Env) (s w s' w' : Sort) → SortEntails E s s' → SortEntails E w w' → SortEntails E (product_sort s w) (product_sort s' w')
+pub products_entail : (E : Env) (s w s' w' : Sort) → SortEntails E s s' → SortEntails E w w' → SortEntails E (product_sort s w) (product_sort s' w')
 products_entail E s Prop s' w' p q = tt
 products_entail E s (Of x) s' Prop p q = absurd q
 products_entail E Prop (Of x) Prop (Of x') p q = q
@@ -109,7 +109,7 @@ common_family E h c f t xs ys (P, p, l, r) =
     (families_below E h (values c) f f zs ys (Below.chain (equal (back e)) r)).arguments
 
 -- lets of the same value whose bodies are below, since each is equal to its body with the value put in
-lets_below : (E : Env) → IsAccepted E → (c : Context) (b B T U : Term) → Types bare E c b B → Below E (values (Defined b B ∷ c)) T U → Below E (values c) (LetIn b B T) (LetIn b B U)
+pub lets_below : (E : Env) → IsAccepted E → (c : Context) (b B T U : Term) → Types bare E c b B → Below E (values (Defined b B ∷ c)) T U → Below E (values c) (LetIn b B T) (LetIn b B U)
 lets_below E h c b B T U p q =
     Below.chain (equal (step zeta)) (Below.chain (substitution_of_below E h [] c (Defined b B) b T U (fits_defined p) q) (equal (back (step zeta))))
 

@@ -12,7 +12,7 @@ use Rattle.calculus_rules.specs.declared.declaration.Constructor.{Constructor}
 use Rattle.calculus_rules.specs.declared.declaration.Family.{Family}
 use Rattle.calculus_rules.specs.declared.declaration.Block.{Block}
 use Rattle.calculus_rules.specs.declared.declaration.Kept.{Kept}
-use Rattle.calculus_rules.specs.declared.declaration.Kept.TheVariants.{Constant, Heads, Block as Whole}
+use Rattle.calculus_rules.specs.declared.declaration.Kept.TheVariants.{Constant, Block as Whole}
 use Rattle.calculus_rules.specs.declared.entry.Entry.TheVariants.{Assumed}
 use Rattle.calculus_rules.specs.Environment.{Env, FamilyDecl, Has, here, there, with_parameters, KeepsConstant, KeepsFamily, KnowsFamily}
 use Rattle.calculus_rules.specs.Context.{Context, type_at, lifted, extend}
@@ -20,9 +20,9 @@ use Rattle.calculus_rules.specs.Instances.{products, family_type, constructor_ty
 use Rattle.calculus_rules.specs.Typing.{bare, Types, rel, sort, prod, ind, TypesAll, no_terms, term, Entries, no_entries, entry, EntrySorts, no_sorts, a_sort}
 use Rattle.calculus_rules.specs.Accepted.{Accepted, empty, constant, block, IsAccepted, env}
 use Rattle.calculus_rules.proofs.Bare.{bare_types, bare_all, bare_entries}
-use Rattle.trees.proofs.Fusion.{rename-rename, rename_same, substitute_rel}
+use Rattle.trees.proofs.Fusion.{rename-rename, substitute_rel}
 use Rattle.trees.proofs.Put.{substitute_whole}
-use Rattle.typing_laws.proofs.AcceptedClosed.{accepted_closed, mapped}
+use Rattle.typing_laws.proofs.AcceptedClosed.{accepted_closed, mapped, no_heads}
 use Rattle.typing_laws.proofs.KeptSorts.{argument_sorts}
 use Rattle.typing_laws.proofs.ClosedTypes.{closed_family_type}
 use Rattle.typing_laws.proofs.Declarations.{Extends, one_more, extends_types, extends_all, extends_entries}
@@ -33,6 +33,7 @@ use Rattle.type_laws.proofs.Spines.{typed_from}
 use Rattle.type_laws.proofs.TelescopeParts.{all_append}
 use Rattle.type_laws.proofs.ContextConversion.{Widens, widens_extend, widens_types, widens_entries}
 use Rattle.typing_laws.proofs.DeclaredBlock.{declared}
+use Rattle.typing_laws.proofs.MiddleEntries.{lift_none}
 
 -- each context widens the empty one
 pub widens_none : {E : Env} (c : Context) → Widens E [] c
@@ -87,11 +88,6 @@ kept_sorts {levels} {cs} n G (block {ds = ds} {B = B} a f p) here e = record {
 }
 kept_sorts {levels} {cs} n G (block {ds = ds} a f p) (there h) e = extends_sorts (one_more levels cs ds _) (kept_sorts n G a h e)
 
-no_heads : {levels : ℕ} {cs : List Constraint} {ds : List Kept} {B : Block} → Accepted levels cs ds → Has ds (Heads B) → ⊥
-no_heads empty h = elim h [ ]
-no_heads (constant a f p q) (there h) = no_heads a h
-no_heads (block a f p) (there h) = no_heads a h
-
 -- what is kept is known
 pub kept_is_known : (E : Env) (f : FamilyId) (F : FamilyDecl) → KeepsFamily E f F → KnowsFamily E f F
 kept_is_known E f F (B, k, q, i) = (B, inl k, q, i)
@@ -143,12 +139,6 @@ family_sorted E h c f F q =
 
 -- a telescope's variables have its types
 
-past_none : (T : Term) → T ≡ rename (λ j. 0 + j) T
-past_none T = sym (rename_same T) ∙ ap (λ r. rename r T) (fun_ext each)
-  where
-    each : (i : ℕ) → i ≡ 0 + i
-    each i = omega arith
-
 past_one : (n : ℕ) (T : Term) → rename (λ j. n + j) (rename suc T) ≡ rename (λ j. suc n + j) T
 past_one n T = rename-rename T suc (λ j. n + j) ∙ ap (λ r. rename r T) (fun_ext each)
   where
@@ -163,7 +153,7 @@ past_both n m T = rename-rename T (λ j. m + j) (λ j. n + j) ∙ ap (λ r. rena
 
 -- an entry's type, seen from under a telescope
 pub type_extended : (As : List Term) (c : Context) (i : ℕ) (T : Term) → type_at c i ≡ Some T → type_at (extend c As) (length As + i) ≡ Some (rename (λ j. length As + j) T)
-type_extended [] c i T e = let z : 0 + i ≡ i = omega arith in ap (type_at c) z ∙ e ∙ ap Some (past_none T)
+type_extended [] c i T e = let z : 0 + i ≡ i = omega arith in ap (type_at c) z ∙ e ∙ ap Some (lift_none T)
 type_extended (A ∷ As) c i T e =
     let z : suc (length As) + i ≡ length As + suc i = omega arith in
     ap (type_at (extend (Assumed A ∷ c) As)) z ∙ type_extended As (Assumed A ∷ c) (suc i) (rename suc T) (ap lifted e) ∙ ap Some (past_one (length As) T)

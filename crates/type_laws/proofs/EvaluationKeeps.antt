@@ -70,7 +70,7 @@ unfolding_keeps E h g v u (unfolds i rargs types bodies xs {body = body} r l b e
 pub unfold_contracts : (E : Env) → IsAccepted E → (f a g v u : Term) → AllKept E f g → AllKept E a v → Unfolds g v u → KeepsTypes E (App f a) u
 unfold_contracts E h f a g v u k k' n T d = unfolding_keeps E h g v u n T (application_kept E h f a g v k k' T d).typed
 
-unfolding_equal : {E : Env} {g v u : Term} → Unfolds g v u → IsBuilt E v → Equal E [] (App g v) u
+pub unfolding_equal : {E : Env} {g v u : Term} → Unfolds g v u → IsBuilt E v → Equal E [] (App g v) u
 unfolding_equal (unfolds i rargs types bodies xs r l b e) (f, c, qs, ys, k) = step (Root.fixpoint i rargs types bodies xs r l k b e)
 
 -- matches
@@ -96,7 +96,7 @@ enter_contracts E h f ps bs n c ret s v body qs xs k i b T d =
 -- evaluations
 
 -- what a term's contractum keeps
-contracted : {E : Env} {t u v : Term} → KeepsTypes E t u → ((T : Term) → Types bare E [] t T → Equal E [] t u) → AllKept E u v → AllKept E t v
+pub contracted : {E : Env} {t u v : Term} → KeepsTypes E t u → ((T : Term) → Types bare E [] t T → Equal E [] t u) → AllKept E u v → AllKept E t v
 contracted k e k' T d = let q = k' T (k T d) in record { typed = q.typed; equals = chain (e T d) q.equals }
 
 pub evaluation_keeps : (E : Env) → IsAccepted E → {t v : Term} {n : ℕ} → Evaluates E t v n → AllKept E t v

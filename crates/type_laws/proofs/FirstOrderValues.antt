@@ -44,11 +44,11 @@ record ReadableAll (E : Env) (S : List Shape) (js : List ℕ) (xs : List Term) :
 abbrev pub IsRead : Env → List Shape → Term → Type 0
 IsRead E S v = (i : ℕ) (k : Shape) (T : Term) → slice_get S i ≡ Some k → Types bare E [] v T → Below E [] T (shape_type k) → Readable E S i v
 
-abbrev AllRead : Env → List Shape → List Term → Type 0
+abbrev pub AllRead : Env → List Shape → List Term → Type 0
 AllRead E S [] = Unit {0}
 AllRead E S (x ∷ xs) = IsRead E S x × AllRead E S xs
 
-all_last : (E : Env) (S : List Shape) (xs : List Term) {y : Term} → AllRead E S xs → IsRead E S y → AllRead E S (xs ++ (y ∷ []))
+pub all_last : (E : Env) (S : List Shape) (xs : List Term) {y : Term} → AllRead E S xs → IsRead E S y → AllRead E S (xs ++ (y ∷ []))
 all_last E S [] a r = (r, tt)
 all_last E S (x ∷ xs) a r = (a.0, all_last E S xs a.1 r)
 
@@ -93,7 +93,7 @@ no_results qs (x ∷ rs) ps e es = absurd (omega arith)
 
 -- a value whose arguments are read
 
-built_read : (E : Env) → IsAccepted E → (S : List Shape) → Members E S → {v : Term} → AllRead E S (args v) → (i c : ℕ) (k : Shape) (T : Term) (qs xs : List Term) → slice_get S i ≡ Some k →
+pub built_read : (E : Env) → IsAccepted E → (S : List Shape) → Members E S → {v : Term} → AllRead E S (args v) → (i c : ℕ) (k : Shape) (T : Term) (qs xs : List Term) → slice_get S i ≡ Some k →
     Types bare E [] v T → Below E [] T (shape_type k) → IsConstructor E k.family c v qs xs → Readable E S i v
 built_read E h S M {v} a i c k T qs xs e d b (is_constructor {F = G} {C = C} kG iG lq lx ev) =
     record { answer = (c, length xs) ∷ all.answers; reading = reads e place.1 con all.reading; solid = (families_stay E h k.family m.declared c v qs xs T m.kept m.not_prop con d, all.solid) }

@@ -28,7 +28,7 @@ use Rattle.type_laws.proofs.EvaluationKeeps.{let_contracts, application_kept, be
 use Rattle.type_laws.proofs.FirstOrderValues.{result_read}
 
 -- a telescope in which terms are put in, and the terms put in later
-entries_put : {E : Env} {c : Context} (As : List Term) {xs : List Term} (s p q : ℕ → Term) → ((i : ℕ) → substitute p (s i) ≡ q i) → TypesAll bare E c p xs (entries_at s As) →
+pub entries_put : {E : Env} {c : Context} (As : List Term) {xs : List Term} (s p q : ℕ → Term) → ((i : ℕ) → substitute p (s i) ≡ q i) → TypesAll bare E c p xs (entries_at s As) →
     TypesAll bare E c q xs As
 entries_put [] s p q h no_terms = no_terms
 entries_put {E} {c} (A ∷ As) s p q h (term {t = x} r rs) =
@@ -45,7 +45,7 @@ kept E h {t} {v} e T d = record { types = types; erasable = erasable_kept E h t 
     types : KeepsTypes E t v
     types U p = (evaluation_keeps E h e U p).typed
 
-arguments_fit : (E : Env) → IsAccepted E → (f : FamilyId) (ps bs : Terms) (n c : ℕ) (ret v T : Term) (qs xs : List Term) → IsConstructor E f c v qs xs →
+pub arguments_fit : (E : Env) → IsAccepted E → (f : FamilyId) (ps bs : Terms) (n c : ℕ) (ret v T : Term) (qs xs : List Term) → IsConstructor E f c v qs xs →
     Types bare E [] (Case f ps n ret v bs) T → ArgumentsFit E f c ps xs
 arguments_fit E h f ps bs n c ret v T qs xs i d F C rs k at e =
     entries_put C.args (put_all rs Rel) Rel (put_all rs Rel) (λ i. substitute_same (put_all rs Rel i))

@@ -20,24 +20,20 @@ use Rattle.typing_laws.proofs.ClosedEnv.{ClosedFamily}
 use Rattle.typing_laws.proofs.AcceptedClosed.{accepted_closed}
 use Rattle.typing_laws.proofs.Generating.{of_prod}
 use Rattle.typing_laws.proofs.Telescopes.{substitute-apply, substituted_entries, entries_at_length, each_lift-substitute, substitute_predicate_entries}
-use Rattle.typing_laws.proofs.Traversal.{types_at, equal_at, substitute_types, substitute_types_all, substitute_equal}
+use Rattle.typing_laws.proofs.Traversal.{types_at, equal_at, substitute_types, substitute_types_all, substitute_equal, types_length}
 use Rattle.typing_laws.proofs.RenamingAndPutting.{weaken_types, PutsEntries, putting, putting_values}
 use Rattle.typing_laws.proofs.PuttingAll.{puts_all}
+use Rattle.equality_laws.proofs.Spines.{apply-append}
 use Rattle.type_laws.specs.Contexts.{HasSort, IsContext}
 use Rattle.type_laws.proofs.ContextConversion.{context_extended}
 use Rattle.type_laws.proofs.EnvironmentSorts.{kept_is_known}
-use Rattle.type_laws.proofs.TelescopeParts.{all_length, entries_append}
+use Rattle.type_laws.proofs.TelescopeParts.{entries_append}
 use Rattle.type_laws.proofs.PutLists.{variables_put}
 use Rattle.type_laws.proofs.Spines.{spine_typed}
 use Rattle.type_laws.proofs.Validity.{scrutinee_fits, types_have_sorts}
 use Rattle.type_laws.proofs.Over.{Over, over_none, over_types, over_equal, over_extend}
 
 -- terms
-
--- a list of arguments in two parts
-pub apply_append : (f : Term) (xs ys : List Term) → apply f (xs ++ ys) ≡ apply (apply f xs) ys
-apply_append f [] ys = refl
-apply_append f (x ∷ xs) ys = apply_append (App f x) xs ys
 
 pub shift_none : (t : Term) → shift 0 0 t ≡ t
 shift_none t = ap (λ r. rename r t) (fun_ext zero_more) ∙ rename_same t
@@ -118,7 +114,7 @@ predicate_sorted {E} h {c} {f} {F} {ps} k q fit =
     last =
         ap (λ n. apply (shift n 0 (apply (Ind f) ps)) (variables n)) (entries_at_length (put_all ps Rel) F.indices)
         ∙ ap (λ g. apply g (variables (length F.indices))) (shift-apply (length F.indices) (Ind f) ps)
-        ∙ sym (apply_append (Ind f) (map (shift (length F.indices) 0) ps) (variables (length F.indices)))
+        ∙ sym (apply-append (Ind f) (map (shift (length F.indices) 0) ps) (variables (length F.indices)))
 
 -- the result of a constructor at the parameters
 result_there : (f : FamilyId) (F : FamilyDecl) (C : Constructor) (ps : List Term) → length ps ≡ length F.parameters →
@@ -146,7 +142,7 @@ pub branch_sorts : {E : Env} → IsAccepted E → {c : Context} {f : FamilyId} {
     slice_get F.constructors n ≡ Some C → TypesAll bare E c Rel ps F.parameters → BranchSorts E c f n C ps
 branch_sorts {E} h {c} {f} {F} {n} {C} {ps} k q e fit =
     let d : Types bare E c (apply (Construct f n) ps) (products As R) =
-    types_at refl (substitute-products C.args (put_all ps Rel) _ ∙ ap (products As) (result_there f F C ps (all_length fit)))
+    types_at refl (substitute-products C.args (put_all ps Rel) _ ∙ ap (products As) (result_there f F C ps (types_length fit)))
     (spine_typed E h c (Construct f n) F.parameters ps (products C.args _) (construct q e) fit) in
     let r = products_parts As (types_have_sorts E h c (apply (Construct f n) ps) (products As R) k d).1 in
     record {
@@ -165,7 +161,7 @@ branch_sorts {E} h {c} {f} {F} {n} {C} {ps} k q e fit =
     last =
         ap (λ n'. apply (shift n' 0 (apply (Construct f n) ps)) (variables n')) (entries_at_length (put_all ps Rel) C.args)
         ∙ ap (λ g. apply g (variables (length C.args))) (shift-apply (length C.args) (Construct f n) ps)
-        ∙ sym (apply_append (Construct f n) (map (shift (length C.args) 0) ps) (variables (length C.args)))
+        ∙ sym (apply-append (Construct f n) (map (shift (length C.args) 0) ps) (variables (length C.args)))
 
 -- the predicate's entries, in the branch's context
 
@@ -225,7 +221,7 @@ branch_puts {E} h {c} {f} {F} n {C} {ps} k q e fit =
         (substitute_types_all (putting E (accepted_closed E h)) (accepted_closed E h) fit 0 Rel (past m) d base (agree_none (past m) Rel) closed.parameters)
 
     there : predicate_entries f F (map (shift m 0) ps) ≡ substituted_entries (past m) (predicate_entries f F ps)
-    there = ap (predicate_entries f F) (sym shifted) ∙ sym (substitute_predicate_entries f F ps (past m) closed (all_length fit))
+    there = ap (predicate_entries f F) (sym shifted) ∙ sym (substitute_predicate_entries f F ps (past m) closed (types_length fit))
 
 -- the type of a branch has the predicate's sort
 pub branch_type_sorted : {E : Env} → IsAccepted E → {c : Context} {f : FamilyId} {F : FamilyDecl} (n : ℕ) {C : Constructor} {ps : List Term} {ret : Term} {s : Sort} → IsContext E c →

@@ -15,14 +15,14 @@ use Rattle.calculus_rules.proofs.Spines.{one_item}
 use Rattle.trees.proofs.Put.{each_length}
 use Rattle.typing_laws.proofs.AcceptedClosed.{accepted_closed}
 use Rattle.typing_laws.proofs.Telescopes.{products_append}
-use Rattle.typing_laws.proofs.Traversal.{types_at, equal_at, below_at}
+use Rattle.typing_laws.proofs.Traversal.{types_at, equal_at, below_at, types_length}
 use Rattle.typing_laws.proofs.Generating.{of_construct, of_case}
 use Rattle.calculus_rules.proofs.Listing.{same_list}
 use Rattle.type_laws.specs.Contexts.{IsContext}
 use Rattle.equality_laws.specs.Laws.{EqualEach, no_terms, a_term}
 use Rattle.type_laws.proofs.Apart.{families_below}
 use Rattle.type_laws.proofs.EnvironmentSorts.{kept_is_known, parameters_sorted, arguments_sorted}
-use Rattle.type_laws.proofs.TelescopeParts.{all_length, entries_append, all_parts}
+use Rattle.type_laws.proofs.TelescopeParts.{entries_append, all_parts}
 use Rattle.type_laws.proofs.Spines.{spine_types, arguments_put, arguments_at_equal, put_equal}
 use Rattle.type_laws.proofs.PutLists.{put_all_append, result_put, branch_type_put}
 use Rattle.type_laws.proofs.EqualLists.{each_equal_same, each_equal_back, each_equal_append, each_equal_chain, each_equal_parts, each_put_equal, equal_apply}
@@ -153,7 +153,7 @@ matched_arguments E h c f F C n m ps qs xs bs ret v T k q e i d =
     let one : r.family ≡ F = (one_of_each E h).families f r.family F r.kept q in
     let same_parameters : r.parameters ≡ ps = sym (same_list ps r.parameters r.are) in
     subst (λ ps. TypesAll bare E c Rel xs (branch_entries C ps)) same_parameters
-    (matching E h c f F n C r.parameters qs xs r.indices v k q e i (all_length r.fit ∙ ap (λ F. length F.parameters) one)
+    (matching E h c f F n C r.parameters qs xs r.indices v k q e i (types_length r.fit ∙ ap (λ F. length F.parameters) one)
     (branch_sorted r.branches n C (ap (λ F. slice_get F.constructors n) one ∙ e)) r.scrutinee).arguments
 
 pub matched_keeps : (E : Env) → IsAccepted E → (c : Context) (f : FamilyId) (n m i : ℕ) (ps bs : Terms) (qs xs : List Term) (ret v body T : Term) → IsContext E c →
@@ -163,7 +163,7 @@ matched_keeps E h c f n m i ps bs qs xs ret v body T k (is_constructor {F = F} {
     let r = of_case d in
     let one : r.family ≡ F = (one_of_each E h).families f r.family F r.kept q in
     let b = branch_of r.branches n n i C body (omega arith) (ap (λ F. slice_get F.constructors n) one ∙ at) e in
-    let w = matching E h c f F n C r.parameters qs xs r.indices v k q at (is_constructor q at lq lx eq) (all_length r.fit ∙ ap (λ F. length F.parameters) one) b.entries r.scrutinee in
+    let w = matching E h c f F n C r.parameters qs xs r.indices v k q at (is_constructor q at lq lx eq) (types_length r.fit ∙ ap (λ F. length F.parameters) one) b.entries r.scrutinee in
     carried E h c (Case f ps m ret v bs) (substitute (put_all xs Rel) body) (substitute (put_all xs Rel) (branch_type f n C r.parameters ret)) T k d
     (arguments_put E h c (branch_entries C r.parameters) xs body (branch_type f n C r.parameters ret) w.arguments b.typed)
     (Below.chain (equal (equal_at (sym (branch_type_put f n C r.parameters xs ret lx)) refl (put_equal E h c _ _ ret w.equals))) r.below)

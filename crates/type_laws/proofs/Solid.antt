@@ -39,7 +39,7 @@ use Rattle.type_laws.proofs.Results.{family_rest}
 
 -- sorts and Prop
 
-not_in_prop : (E : Env) (s : Sort) → s ≢ Prop → SortEntails E s Prop → ⊥
+pub not_in_prop : (E : Env) (s : Sort) → s ≢ Prop → SortEntails E s Prop → ⊥
 not_in_prop E Prop n e = n refl
 not_in_prop E (Of u) n e = e
 
@@ -51,12 +51,12 @@ codomain_in_prop E (Of u) (Of w) e = absurd e
 
 -- families
 
-family_not_arity : (E : Env) → IsAccepted E → (f : FamilyId) (xs As : List Term) (s : Sort) → Below E [] (apply (Ind f) xs) (products As (SortT s)) → ⊥
+pub family_not_arity : (E : Env) → IsAccepted E → (f : FamilyId) (xs As : List Term) (s : Sort) → Below E [] (apply (Ind f) xs) (products As (SortT s)) → ⊥
 family_not_arity E h f xs [] s b = family_not_sort E h [] s f xs b
 family_not_arity E h f xs (A ∷ As) s b = family_not_product E h [] A (products As (SortT s)) f xs b
 
 -- a family that has sort Prop is of sort Prop
-family_in_prop : (E : Env) → IsAccepted E → (f : FamilyId) (F : FamilyDecl) (xs : List Term) → KeepsFamily E f F → F.sort ≢ Prop → Types bare E [] (apply (Ind f) xs) (SortT Prop) → ⊥
+pub family_in_prop : (E : Env) → IsAccepted E → (f : FamilyId) (F : FamilyDecl) (xs : List Term) → KeepsFamily E f F → F.sort ≢ Prop → Types bare E [] (apply (Ind f) xs) (SortT Prop) → ⊥
 family_in_prop E h f F xs k n d =
     let (G, Bs, k', b) = family_rest E h f xs (SortT Prop) d in
     at Bs (subst (λ s. Below E [] (products Bs (SortT s)) (SortT Prop)) (ap (λ F. F.sort) ((one_of_each E h).families f G F k' k)) b)
@@ -94,7 +94,7 @@ families_stay E h f F c v qs xs T k n (is_constructor {F = G} {C = C} k' i lq lx
 
 -- evidence by a type
 
-data ByType (E : Env) (t : Term) : Type 0 where
+pub data ByType (E : Env) (t : Term) : Type 0 where
   by_arity : {T : Term} (As : List Term) (s : Sort) → Types bare E [] t T → Equal E [] T (products As (SortT s)) → ByType E t
   by_proof : {T : Term} → Types bare E [] t T → Types bare E [] T (SortT Prop) → ByType E t
 
@@ -110,7 +110,7 @@ match_in_prop E h f F n ret t bs ps T k p r =
     (subst (λ As. Types bare E (extend [] As) ret (SortT Prop))
     (λ i. predicate_entries f ((one_of_each E h).families f F r.family k r.kept i) (same_list ps r.parameters r.are i)) p))
 
-by_type : (E : Env) → IsAccepted E → {t : Term} (T : Term) → Types bare E [] t T → Erasable E [] t → ByType E t
+pub by_type : (E : Env) → IsAccepted E → {t : Term} (T : Term) → Types bare E [] t T → Erasable E [] t → ByType E t
 by_type E h T d (arity As s p q) = by_arity As s p q
 by_type E h T d (proof p q) = by_proof p q
 by_type E h T d (prop_match {f = f} {F = F} {bs = bs} {n = n} {ret = ret} {t = t} ps k l l' p) = match_in_prop E h f F n ret t bs ps T k p (of_case d)
@@ -138,7 +138,7 @@ below_arity E h V (A ∷ As) s B b =
     (X ∷ Bs, u, chain e (equal_products E V X X Y (products Bs (SortT u)) same q))
 
 -- a product below one more type of an application's function, that is a type of it, and whose domain is one of the argument
-record FunctionTypes (E : Env) (g a T : Term) : Type 0 where
+pub record FunctionTypes (E : Env) (g a T : Term) : Type 0 where
   pub domain : Term
   pub codomain : Term
   pub sort : Sort
@@ -147,7 +147,7 @@ record FunctionTypes (E : Env) (g a T : Term) : Type 0 where
   pub argument : Types bare E [] a domain
   pub below : Below E [] (Prod domain codomain) T
 
-function_types : (E : Env) → IsAccepted E → (g a T U : Term) → Types bare E [] (App g a) T → Types bare E [] g U → FunctionTypes E g a U
+pub function_types : (E : Env) → IsAccepted E → (g a T U : Term) → Types bare E [] (App g a) T → Types bare E [] g U → FunctionTypes E g a U
 function_types E h g a T U d p =
     let r = of_app d in
     let (P, q, b, b') = types_have_a_common_one E h [] g U (Prod r.domain r.codomain) IsContext.empty p r.function in
@@ -168,7 +168,7 @@ function_types E h g a T U d p =
     }
 
 -- a value g that is erasable: so is what has the types of its application
-passes_arity : (E : Env) → IsAccepted E → (g a v U : Term) (As : List Term) (s : Sort) → FunctionTypes E g a U → Equal E [] U (products As (SortT s)) → KeepsTypes E (App g a) v →
+pub passes_arity : (E : Env) → IsAccepted E → (g a v U : Term) (As : List Term) (s : Sort) → FunctionTypes E g a U → Equal E [] U (products As (SortT s)) → KeepsTypes E (App g a) v →
     Erasable E [] v
 passes_arity E h g a v U [] s r q k = absurd (product_not_sort E h [] r.domain r.codomain s (Below.chain r.below (equal q)))
 passes_arity E h g a v U (A ∷ As) s r q k =
@@ -178,7 +178,7 @@ passes_arity E h g a v U (A ∷ As) s r q k =
     (equal_at refl (substitute-products Bs (put a) (SortT u))
     (substitution_of_equality E h [] [] (Assumed r.domain) a r.codomain (products Bs (SortT u)) (fits_assumed r.argument) e))
 
-passes_proof : (E : Env) → IsAccepted E → (g a v U : Term) → Types bare E [] g U → Types bare E [] U (SortT Prop) → FunctionTypes E g a U → KeepsTypes E (App g a) v → Erasable E [] v
+pub passes_proof : (E : Env) → IsAccepted E → (g a v U : Term) → Types bare E [] g U → Types bare E [] U (SortT Prop) → FunctionTypes E g a U → KeepsTypes E (App g a) v → Erasable E [] v
 passes_proof E h g a v U p q r k =
     let (A, B, steps) = above_product E h [] U r.domain r.codomain r.below in
     let w = reduces_keeps E h [] U (Prod A B) (SortT Prop) IsContext.empty steps q in

@@ -1,6 +1,5 @@
 -- Applications to several arguments: the arguments have the types of the telescope, and what is left of the function's type is below the whole's type.
-use Rattle.std.proofs.Common.{◌≡◌, ℕ, zero, suc, List, [], ◌∷◌, None, length, refl, sym, ap, ◌∙◌, arith}
-use mathlib.Core.Path.{fun_ext}
+use Rattle.std.proofs.Common.{◌≡◌, ℕ, zero, suc, List, [], ◌∷◌, None, length, refl, sym, arith}
 use Rattle.trees.proofs.Fusion.{substitute-rename, substitute-substitute}
 use Rattle.trees.proofs.Put.{substitute_same}
 use Rattle.pc_terms.specs.Syntax.{Slot, Term, Children, Terms, Rel, Node, End, Child, Group, Done, Next, Prod, App, over, overs, first, put, put_all, substitute, substitute_children, substitute_terms, apply, slots}
@@ -20,6 +19,7 @@ use Rattle.typing_laws.proofs.PuttingAll.{puts_first, puts_all, puts_none}
 use Rattle.typing_laws.proofs.Generating.{of_app, of_apply}
 use Rattle.type_laws.specs.Contexts.{HasSort, IsContext}
 use Rattle.equality_laws.specs.Laws.{EqualEach, no_terms, a_term}
+use Rattle.equality_laws.proofs.FromEquality.{put_over}
 use Rattle.type_laws.proofs.Apart.{products_below}
 
 -- a telescope's terms put in at once
@@ -36,14 +36,6 @@ record SpineFrom (E : Env) (c : Context) (s : ℕ → Term) (As xs : List Term) 
   arguments : TypesAll bare E c s xs As
   below : Below E (values c) (substitute (put_all xs s) T) U
 
--- a term put in after others
-put_first : (x : Term) (s : ℕ → Term) (T : Term) → substitute (put x) (substitute (over s) T) ≡ substitute (first x s) T
-put_first x s T = substitute-substitute T (over s) (put x) ∙ ap (λ q. substitute q T) (fun_ext each)
-  where
-    each : (i : ℕ) → substitute (put x) (over s i) ≡ first x s i
-    each zero = refl
-    each (suc i) = substitute-rename (s i) suc (put x) ∙ substitute_same (s i)
-
 -- an argument has the type of its entry, whose sort it has where terms are put in
 argument_fits : (E : Env) → IsAccepted E → (c d : Context) (s : ℕ → Term) (A x A' : Term) → PutsEntries E s d c → HasSort E d A → Equal E (values c) (substitute s A) A' → Types bare E c x A' →
     Types bare E c x (substitute s A)
@@ -58,7 +50,7 @@ next_types E h c s f x A P W g q d =
     let r = of_app d in
     let b = products_below E h (values c) (substitute s A) (substitute (over s) P) r.domain r.codomain (g (Prod r.domain r.codomain) r.function) in
     let fits : Fits E c (Assumed (substitute s A)) x = record { has_type = q; equals = λ v e. absurd (cc) } in
-    Below.chain (below_at (put_first x s P) refl
+    Below.chain (below_at (put_over x s P) refl
     (substitute_below (putting E (accepted_closed E h)).carries (accepted_closed E h) b.codomains (put x) (values c) (puts_one fits).at_values)) r.below
 
 spine_from : (E : Env) → IsAccepted E → (c d : Context) (s : ℕ → Term) (f : Term) (As xs : List Term) (T U : Term) → PutsEntries E s d c → Entries bare E d As →
@@ -85,7 +77,7 @@ pub typed_from : (E : Env) → IsAccepted E → (c : Context) (s : ℕ → Term)
     Types bare E c (apply f xs) (substitute (put_all xs s) T)
 typed_from E h c s f [] [] T d no_terms = d
 typed_from E h c s f (A ∷ As) (x ∷ xs) T d (term p ps) =
-    typed_from E h c (first x s) (App f x) As xs T (types_at refl (put_first x s (products As T)) (app d p)) ps
+    typed_from E h c (first x s) (App f x) As xs T (types_at refl (put_over x s (products As T)) (app d p)) ps
 typed_from E h c s f [] (x ∷ xs) T d a = elim a [ ]
 typed_from E h c s f (A ∷ As) [] T d a = elim a [ ]
 

@@ -20,7 +20,7 @@ use Rattle.typing_laws.proofs.ClosedEnv.{ClosedEnv}
 use Rattle.typing_laws.proofs.AcceptedClosed.{accepted_closed}
 use Rattle.typing_laws.proofs.Generating.{of_case}
 use Rattle.typing_laws.proofs.Telescopes.{entries_at_length, products_append}
-use Rattle.typing_laws.proofs.Traversal.{types_at, equal_at, below_at, predicate_length, substitute_equal}
+use Rattle.typing_laws.proofs.Traversal.{types_at, equal_at, below_at, predicate_length, substitute_equal, types_length}
 use Rattle.typing_laws.proofs.RenamingAndPutting.{weaken_equal, putting_values}
 use Rattle.typing_laws.proofs.PuttingAll.{puts_none, puts_all}
 use Rattle.type_laws.specs.Contexts.{IsContext}
@@ -28,7 +28,6 @@ use Rattle.equality_laws.specs.Laws.{EqualEach, no_terms, a_term}
 use Rattle.type_laws.proofs.EqualLists.{each_equal_same, each_equal_append, equal_apply}
 use Rattle.type_laws.proofs.ContextConversion.{ContextBelow, assume, context_same, context_extended, equal_in, types_in}
 use Rattle.type_laws.proofs.EnvironmentSorts.{kept_is_known, parameters_sorted}
-use Rattle.type_laws.proofs.TelescopeParts.{all_length}
 use Rattle.type_laws.proofs.Spines.{EqualAt, equal_over, equal_under, equal_put, each_put, put_equal, spine_types}
 use Rattle.type_laws.proofs.Validity.{known_below, scrutinee_fits, types_have_sorts}
 use Rattle.type_laws.proofs.MatchTelescopes.{shift_none, family_at_parameters, predicate_sorted, branch_sorts, branch_type_sorted, branch_type_equal}
@@ -145,7 +144,7 @@ kept_spine h k (each_later {x = x} q) f = kept_spine h k q (App f x)
 fit_kept : {E : Env} → IsAccepted E → {c : Context} {f : FamilyId} {F : FamilyDecl} {ps qs : List Term} → IsContext E c → KeepsFamily E f F → TypesAll bare E c Rel ps F.parameters →
     KeptEach E c ps qs → TypesAll bare E c Rel qs F.parameters
 fit_kept {E} h {c} {f} {F} {ps} {qs} k q fit keep =
-    (spine_types E h c (Ind f) F.parameters qs (products F.indices (SortT F.sort)) _ k (parameters_sorted E h c f F (kept_is_known E f F q)) above (each_kept_length keep ∙ all_length fit)
+    (spine_types E h c (Ind f) F.parameters qs (products F.indices (SortT F.sort)) _ k (parameters_sorted E h c f F (kept_is_known E f F q)) above (each_kept_length keep ∙ types_length fit)
     (kept_spine h k keep (Ind f) _ (family_at_parameters h q fit))).arguments
   where
     above : (W : Term) → Types bare E c (Ind f) W → Below E (values c) (products F.parameters (products F.indices (SortT F.sort))) W

@@ -11,10 +11,10 @@ use Rattle.calculus_rules.specs.Accepted.{IsAccepted}
 use Rattle.type_laws.specs.Contexts.{IsContext, Reduces, none, more}
 use Rattle.type_laws.specs.Laws.{ReductionKeepsTypes}
 use Rattle.typing_laws.proofs.Traversal.{types_at}
+use Rattle.equality_laws.proofs.Spines.{apply-append}
 use Rattle.type_laws.proofs.RootsKeep.{beta_keeps, zeta_keeps, constant_keeps, variable_keeps}
 use Rattle.type_laws.proofs.MatchesKeep.{matched_keeps}
 use Rattle.type_laws.proofs.FixpointsKeep.{unfolded_typed, head_replaced}
-use Rattle.type_laws.proofs.MatchTelescopes.{apply_append}
 use Rattle.type_laws.proofs.Kept.{Keeps, KeptTerms, kept_first, kept_rest, covers_all, covers_same, covers_given, root_covered, equal_covered, product_domain, product_codomain, lambda_domain, lambda_body, let_value, let_type, let_inner, app_function, app_argument}
 use Rattle.type_laws.proofs.StepsInMatches.{case_parameters, case_predicate, case_scrutinee, case_branches}
 use Rattle.type_laws.proofs.StepsInFixpoints.{fix_types, fix_bodies}
@@ -29,9 +29,9 @@ root_keeps E h c t u T k (matched {f = f} {ps = ps} {bs = bs} {n = n} {c = m} {m
 root_keeps E h c t u T k (fixpoint i rargs types bodies {body = body} {g = g} {a = a} before r l q e p) d =
     let f : Term = Fix i rargs types bodies in
     let g : Term = unfolded rargs types bodies body in
-    types_at (apply_append g before (a ∷ [])) refl
+    types_at (apply-append g before (a ∷ [])) refl
     (head_replaced E h c f g (before ++ (a ∷ [])) T (λ U. unfolded_typed E h c i rargs types bodies body U k e)
-    (types_at ((λ i. App (p i) a) ∙ sym (apply_append f before (a ∷ []))) refl d))
+    (types_at ((λ i. App (p i) a) ∙ sym (apply-append f before (a ∷ []))) refl d))
 
 -- by induction on the step
 mutual

@@ -1,15 +1,10 @@
 -- Telescopes and the terms put in for them, taken apart and put together.
-use Rattle.std.proofs.Common.{◌≡◌, ℕ, suc, List, [], ◌∷◌, ◌++◌, length, refl, ap, arith}
+use Rattle.std.proofs.Common.{◌≡◌, ℕ, List, [], ◌∷◌, ◌++◌, length, arith}
 use Rattle.pc_terms.specs.Syntax.{Term, first, put_all}
 use Rattle.calculus_rules.specs.Environment.{Env}
 use Rattle.calculus_rules.specs.declared.entry.Entry.TheVariants.{Assumed}
 use Rattle.calculus_rules.specs.Context.{Context, extend}
 use Rattle.calculus_rules.specs.Typing.{bare, TypesAll, no_terms, term, Entries, no_entries, entry}
-
--- as many terms as entries
-pub all_length : {E : Env} {c : Context} {s : ℕ → Term} {ts As : List Term} → TypesAll bare E c s ts As → length ts ≡ length As
-all_length no_terms = refl
-all_length (term p ps) = ap suc (all_length ps)
 
 pub entries_append : {E : Env} (c : Context) (As Bs : List Term) → Entries bare E c As → Entries bare E (extend c As) Bs → Entries bare E c (As ++ Bs)
 entries_append c [] Bs no_entries qs = qs

@@ -20,14 +20,14 @@ use Rattle.calculus_rules.proofs.OneEach.{one_of_each}
 use Rattle.typing_laws.specs.Substituting.{Fits}
 use Rattle.typing_laws.proofs.AcceptedClosed.{accepted_closed}
 use Rattle.typing_laws.proofs.Telescopes.{substitute-apply, products_append}
-use Rattle.typing_laws.proofs.Traversal.{types_at, substitute_types}
+use Rattle.typing_laws.proofs.Traversal.{types_at, substitute_types, types_length}
 use Rattle.typing_laws.proofs.RenamingAndPutting.{PutsEntries, putting, puts_one, lifted_some, weaken_types}
 use Rattle.typing_laws.proofs.PuttingAll.{puts_first, puts_none, types_entries}
 use Rattle.typing_laws.proofs.Generating.{of_prod, of_ind}
 use Rattle.type_laws.specs.Contexts.{HasSort, IsContext, assume, define}
 use Rattle.type_laws.specs.Laws.{TypesHaveSorts}
 use Rattle.type_laws.proofs.EnvironmentSorts.{kept_is_known, known_is_kept, constant_sorted, family_sorted, constructor_sorted, parameters_sorted, indices_sorted}
-use Rattle.type_laws.proofs.TelescopeParts.{all_length, entries_append, all_append, all_parts}
+use Rattle.type_laws.proofs.TelescopeParts.{entries_append, all_append, all_parts}
 use Rattle.type_laws.proofs.PutLists.{variables_put, lifted_put, each_same}
 use Rattle.type_laws.proofs.DeclaredSorts.{super_declared, product_declared, sort_declared}
 use Rattle.type_laws.proofs.Spines.{arguments_put, spine_types}
@@ -57,8 +57,8 @@ scrutinee_fits E h c f F ps is t k q l p (u, s) d =
     let known = kept_is_known E f F q in
     let spine = spine_types E h c (Ind f) (F.parameters ++ F.indices) (ps ++ is) (SortT F.sort) (SortT u) k
     (entries_append c F.parameters F.indices (parameters_sorted E h c f F known) (indices_sorted E h c f F known)) (λ W w. known_below E h c f F W q w)
-    (together (length-append ps is) (length-append F.parameters F.indices) (all_length p) l) s in
-    let inner = (all_parts Rel ps is F.parameters F.indices (all_length p) spine.arguments).inner in
+    (together (length-append ps is) (length-append F.parameters F.indices) (types_length p) l) s in
+    let inner = (all_parts Rel ps is F.parameters F.indices (types_length p) spine.arguments).inner in
     all_append (t ∷ []) (apply (Ind f) (map (shift (length F.indices) 0) ps ++ variables (length F.indices)) ∷ [])
     (types_entries inner (put_all ps Rel) Rel (λ i. substitute_same (put_all ps Rel i)))
     (term (types_at refl

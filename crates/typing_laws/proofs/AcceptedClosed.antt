@@ -65,7 +65,7 @@ kept_closed n G (block a f p) here e = family_closed p (p.families n G e)
 kept_closed n G (block a f p) (there h) e = kept_closed n G a h e
 
 -- no heads of a block are kept
-no_heads : {levels : ℕ} {cs : List Constraint} {ds : List Kept} {B : Block} → Accepted levels cs ds → Has ds (Heads B) → ⊥
+pub no_heads : {levels : ℕ} {cs : List Constraint} {ds : List Kept} {B : Block} → Accepted levels cs ds → Has ds (Heads B) → ⊥
 no_heads empty h = elim h [ ]
 no_heads (constant a f p q) (there h) = no_heads a h
 no_heads (block a f p) (there h) = no_heads a h

@@ -4,7 +4,7 @@ use Rattle.std.proofs.Common.{◌≡◌, ℕ, zero, suc, ◌+◌, ◌-◌, List,
 use mathlib.Core.Path.{fun_ext}
 use Rattle.trees.proofs.Fusion.{rename-rename, rename_same}
 use Rattle.pc_terms.specs.declared.leaf.FamilyId.{FamilyId}
-use Rattle.pc_terms.specs.Syntax.{Term, Terms, Ind, Fix, rename, shift, apply, head, args}
+use Rattle.pc_terms.specs.Syntax.{Term, Terms, Ind, Fix, rename, shift, head, args}
 use Rattle.calculus_rules.specs.declared.declaration.Constructor.{Constructor}
 use Rattle.calculus_rules.specs.Environment.{Env, KeepsFamily}
 use Rattle.calculus_rules.specs.Context.{Values}
@@ -12,7 +12,7 @@ use Rattle.calculus_rules.specs.Step.{IsConstructor, beta, zeta, constant, varia
 use Rattle.calculus_rules.specs.WeakHead.{WeakStep, at_root, in_function, in_scrutinee, in_argument}
 use Rattle.calculus_rules.specs.FirstOrder.{Shape, shape_type, IsAt, ArgumentsAt, no_argument, an_argument, ConstructorsAt, no_constructor, a_constructor, IsMember, IsFirstOrder, Data, Reads, reads, ReadsAll, no_field, field, NothingErasable, NothingErasableInside}
 use Rattle.calculus_rules.specs.Laws.{OneEach}
-use Rattle.calculus_rules.proofs.Spines.{head-apply, args-apply, one_item}
+use Rattle.calculus_rules.proofs.Spines.{head-apply, args-apply, one_item, head_is}
 use Rattle.calculus_rules.proofs.Determined.{one_constructor}
 use Rattle.calculus_rules.proofs.WeakHead.{whnf_determined}
 use Rattle.calculus_rules.proofs.OneEach.{one_of_each}
@@ -22,9 +22,6 @@ use Rattle.typing_laws.specs.Laws.{DataIsAlongEach, ReadingIsDetermined}
 
 ind_not_fix : (f : FamilyId) (i : ℕ) (rargs : List ℕ) (types bodies : Terms) → Ind f ≡ Fix i rargs types bodies → ⊥
 ind_not_fix f i rargs types bodies e = cc
-
-head_is : {g : Term} (f : Term) (xs : List Term) → g ≡ apply f xs → head g ≡ head f
-head_is f xs e = ap head e ∙ head-apply f xs
 
 ind_waits : {E : Env} {V : Values} {t u : Term} (f : FamilyId) → head t ≡ Ind f → WeakStep E V t u → ⊥
 ind_waits f h (at_root beta) = cc

@@ -41,7 +41,7 @@ lift_next n t = rename-rename t (λ i. n + i) suc ∙ ap (λ r. rename r t) (fun
     next : (i : ℕ) → suc (n + i) ≡ suc n + i
     next i = omega arith
 
-lift_none : (t : Term) → t ≡ rename (λ i. 0 + i) t
+pub lift_none : (t : Term) → t ≡ rename (λ i. 0 + i) t
 lift_none t = sym (rename_same t) ∙ ap (λ r. rename r t) (fun_ext none_more)
   where
     none_more : (i : ℕ) → i ≡ 0 + i

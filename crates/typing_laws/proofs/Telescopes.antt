@@ -7,6 +7,7 @@ use Rattle.calculus_rules.specs.declared.declaration.Constructor.{Constructor}
 use Rattle.calculus_rules.specs.Environment.{FamilyDecl}
 use Rattle.typing_laws.proofs.ClosedEnv.{ClosedFamily, ClosedConstructor, ClosedEntries}
 use Rattle.calculus_rules.specs.Instances.{products, fixpoints, unfolded, entries_at, predicate_entries, branch_type}
+pub use Rattle.calculus_rules.proofs.Telescopes.{entries_at_length}
 use Rattle.typing_laws.proofs.ClosedTypes.{entries_at_agree, fixpoints_length}
 use Rattle.trees.proofs.Fusion.{substitute-substitute, substitute_rel, overs_overs}
 use Rattle.trees.proofs.Cutoffs.{overs_past, overs_below}
@@ -54,10 +55,6 @@ pub substituted_entries_append : (As Bs : List Term) (s : ℕ → Term) → subs
 substituted_entries_append [] Bs s = refl
 substituted_entries_append (A ∷ As) Bs s =
     ap (◌∷◌ (substitute s A)) (substituted_entries_append As Bs (over s) ∙ ap (λ q. substituted_entries (over s) As ++ substituted_entries q Bs) (overs_over (length As) s))
-
-pub entries_at_length : (s : ℕ → Term) (As : List Term) → length (entries_at s As) ≡ length As
-entries_at_length s [] = refl
-entries_at_length s (A ∷ As) = ap suc (entries_at_length (over s) As)
 
 pub substitute_entries_at : (As ps : List Term) (n : ℕ) (s : ℕ → Term) → length ps ≡ n → ClosedEntries n As →
     substituted_entries s (entries_at (put_all ps Rel) As) ≡ entries_at (put_all (map (substitute s) ps) Rel) As

@@ -137,7 +137,7 @@ substitute_recurses K closed (recurses_here f xs e) s W g =
     recurses_here f (map (substitute s) xs) (equal_at refl (substitute-apply s (Ind f) xs) (substitute_equal K closed e s W g))
 substitute_recurses K closed (recurses_later r) s W g = recurses_later (substitute_recurses K closed r (over s) (None ∷ W) (K.good_over g None))
 
-types_length : {E : Env} {c : Context} {s : ℕ → Term} {ts As : List Term} → TypesAll bare E c s ts As → length ts ≡ length As
+pub types_length : {E : Env} {c : Context} {s : ℕ → Term} {ts As : List Term} → TypesAll bare E c s ts As → length ts ≡ length As
 types_length no_terms = refl
 types_length (term t ts) = ap suc (types_length ts)
 
