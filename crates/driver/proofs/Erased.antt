@@ -17,13 +17,12 @@ use Rattle.pc_rules.specs.declared.stop.Halt.TheVariants as halts
 use Rattle.calculus_rules.specs.Environment.{Env, Has, KeepsConstant, name_of as kept_name}
 use Rattle.pc_rules.specs.Entailment.{test_of}
 use Rattle.pc_rules.specs.DirectedRun.{Run}
-use Rattle.pc_rules.specs.DirectedPlaces.{Gives}
 use Rattle.pc_rules.specs.DirectedTyping.{Typing}
 use Rattle.rule_laws.specs.Declarations.{plain, plain_given, IsCheckedEnvironment}
 use Rattle.inductive_check.specs.Given.{given_of}
 use Rattle.env_check.specs.Rules.{givens}
 use Rattle.lambda_box.specs.BoxProgram.{BoxProgram}
-use Rattle.erase_rules.specs.DirectedProgram.{ReachesAxiom, erased_program}
+use Rattle.erase_rules.specs.DirectedProgram.{erased_program}
 use Rattle.erase.specs.AtPlaces.{AnswersAt, HaltsAt, answered}
 use Rattle.erase.specs.HaltPlaces.{IsAtBody, now, later, passed, IsAt, at_main, at_body, HaltsAtPlace}
 use Rattle.erase.specs.declared.refusal.EraseRefusal.{EraseRefusal}
@@ -35,7 +34,7 @@ use Rattle.dump_reader.specs.Spelled.{IsSpelled}
 use Rattle.driver.specs.declared.refusal.Refusal.{Refusal}
 use Rattle.driver.specs.declared.refusal.Refusal.TheVariants as refusals
 use Rattle.driver.specs.Judged.{IsTableName, name_of}
-use Rattle.driver.specs.ErasureParts.{AxiomSays, HaltSays}
+use Rattle.driver.specs.ErasureParts.{HaltSays}
 use Rattle.driver.specs.ExecEnds.{erasure_of, ErasureSays}
 use Rattle.driver.proofs.Checking.{declared_name_there}
 use Rattle.driver.proofs.Limited.{length-map}
@@ -86,11 +85,6 @@ module _ (e : RawEnv) (E : Env) (t : Term) (u w : Account) where
   halt_says p h refusals.Depth x y = subst (λ z. HaltsAt (erasure_of E t u) p z w) x y
   halt_says p h (refusals.Broken n told) (b, is, number, place) y = (p, b, subst (λ z. HaltsAt (erasure_of E t u) p z w) is y, number, place)
   halt_says p h _ x y = absurd x
-
-  pub axiom_says : (k : Name) (r : Refusal) → AxiomSays e k r → (erasure_of E t u).outcome ≡ Gives (ReachesAxiom k) w → ErasureSays e E t u (Err r) w
-  axiom_says k refusals.Memory x y = tt
-  axiom_says k (refusals.Axiom name) x y = (k, y, x)
-  axiom_says k _ x y = absurd x
 
 -- the rules for nothing that stands around, as those of a job
 pub as_of_job : (E : Env) (t : Term) (n : ℕ) (u w : Account) (r : Result BoxProgram EraseRefusal) → n ≡ 0 → AnswersAt (erased_program E (test_of E) (2048 - n) t u) (answered r) w →

@@ -15,7 +15,7 @@ use crate::check::{number, told};
 use crate::refusal::Refusal;
 use box_terms::program::BoxProgram;
 use dump_reader::environment::RawEnv;
-use erase::program::erase;
+use erase::program::erase_at_sites;
 use erase::refusal::EraseRefusal;
 use guard_check::guard::Guard;
 use lazy_conversion::comparison::LazyCompare;
@@ -90,7 +90,7 @@ pub(crate) fn erased(
 {
     read_counts_are_few();
     let typer = Inference::new(Closures, LazyCompare, Guard::new(Closures));
-    match erase(alloc, &typer, &Closures, accepted, m) {
+    match erase_at_sites(alloc, &typer, &Closures, accepted, m) {
         Ok(program) => Ok(program),
         Err(EraseRefusal::Halt { place, halt }) => Err(halted(alloc, raw, place, &halt)),
         Err(EraseRefusal::AxiomReached { name }) => Err(axiom(alloc, raw, name)),

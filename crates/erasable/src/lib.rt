@@ -4,10 +4,13 @@
 //! four kinds of evidence that there is, or none. Evidence is answered only where there is evidence of that kind (`evidence`). The test of a
 //! type, `endings::ends_in_sort`, goes through products in a loop.
 //!
-//! Below stand `pc_rules` (the definitions, the traits `Typer` and `Reducer`), `rule_laws` (what evidence that is found means), `instances`
+//! `test::test_in` does the same at a site, where types that were inferred before may be taken again; `anywhere` makes each `Typer` one that is asked at sites.
+//!
+//! Below stand `pc_rules` (the definitions, the traits `Typer` and `Reducer`), `known_types` (sites, and the trait `SiteTyper`), `rule_laws` (what evidence that is found means), `instances`
 //! (entries of predicates, contexts under binders); above, the crate that erases.
 #![tactic(auto)]
 
+pub mod anywhere;
 mod endings;
 mod families;
 pub mod test;

@@ -17,13 +17,15 @@ use crate::terms::Eraser;
 use box_terms::program::BoxConstant;
 use box_terms::term::BoxTerm;
 use calculus_rules::declaration::Kept;
+use known_types::site::Site;
+use known_types::table::Table;
+use known_types::typer::SiteTyper;
 use pc_rules::broken::Place;
 use pc_rules::context::Ctx;
 use pc_rules::environment::Env;
 use pc_rules::meter::Meter;
 use pc_rules::reducer::Reducer;
 use pc_rules::stop::Stop;
-use pc_rules::typer::Typer;
 use pc_terms::leaf::Name;
 use pc_terms::term::Term;
 use std::alloc::Global;
@@ -53,10 +55,11 @@ fn count(env: &Env) -> Result<u32, Stop>
 }
 
 /// What a closed term erases to. It halts at `place`, where the term stands.
-pub(crate) fn erased_at<T: Typer + Drop, R: Reducer + Drop>(
+pub(crate) fn erased_at<T: SiteTyper + Drop, R: Reducer + Drop>(
     alloc: Global,
     eraser: &Eraser<T, R>,
     env: &Env,
+    table: &Table,
     room: u32,
     place: Place,
     t: &Term,
@@ -68,7 +71,9 @@ pub(crate) fn erased_at<T: Typer + Drop, R: Reducer + Drop>(
     ensures follows { Follows (erased env.now (infer env.now (test_of env.now) room) [] t.now m.old.account) (halted_at result) m.old m.new }
     ensures place { IfErr result (λ x. x.place ≡ place) }
 {
-    match eraser.erased(alloc, env, &Ctx::new(), room, t, m) {
+    let empty = Ctx::new();
+    let site = Site::of(alloc, table, env, &empty);
+    match eraser.erased(alloc, env, &empty, &site, room, t, m) {
         Ok(t) => Ok(t),
         Err(halt) => Err(HaltAt { place, halt }),
     }
@@ -76,10 +81,11 @@ pub(crate) fn erased_at<T: Typer + Drop, R: Reducer + Drop>(
 
 /// The constants that erased terms reach, from the latest declared to the earliest: those that `main` names, and those that the erased body
 /// of a reached constant names. A body is erased when it is reached; what halts that has the declaration's place.
-pub(crate) fn reach_constants<T: Typer + Drop, R: Reducer + Drop>(
+pub(crate) fn reach_constants<T: SiteTyper + Drop, R: Reducer + Drop>(
     alloc: Global,
     eraser: &Eraser<T, R>,
     env: &Env,
+    table: &Table,
     room: u32,
     main: &BoxTerm,
     m: &mut Meter,
@@ -113,7 +119,7 @@ pub(crate) fn reach_constants<T: Typer + Drop, R: Reducer + Drop>(
             continue;
         };
         let at = Place::Declaration(place);
-        let body = erased_at(alloc, eraser, env, room, at, body, m)?;
+        let body = erased_at(alloc, eraser, env, table, room, at, body, m)?;
         let Ok(()) = add_names(&body, &mut names) else {
             return Err(no_memory(at));
         };

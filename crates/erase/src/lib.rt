@@ -9,7 +9,10 @@
 //! The code is in layers: terms of box that are made within the limits (`making`), erasure of a term (`terms`), the set of the names that
 //! erased terms name (`names`), the walk over declarations (`constants`), the counts of families (`families`), and the whole (`program`).
 //!
-//! Below stand `erasable` (the test), `instances` (contexts under binders), `box_terms` (terms and programs after erasure),
+//! In `erase_at_sites` the tests of a program share a table of types that were inferred (`known_types`): each subterm is tested for itself, and its test takes all its
+//! units, but what the tests of the terms around it inferred isn't inferred again while the table has it.
+//!
+//! Below stand `erasable` (the test), `known_types` (the table), `instances` (contexts under binders), `box_terms` (terms and programs after erasure),
 //! and the definitions and laws of `erase_rules`, `erase_laws` and `lambda_box`; above, the passes on box programs.
 #![tactic(auto)]
 

@@ -23,6 +23,9 @@ use crate::families::families;
 use crate::refusal::{EraseRefusal, no_memory};
 use crate::terms::Eraser;
 use box_terms::program::{BoxConstants, BoxProgram};
+use erasable::anywhere::Anywhere;
+use known_types::table::Table;
+use known_types::typer::SiteTyper;
 use pc_rules::accepted::Accepted;
 use pc_rules::broken::Place;
 use pc_rules::meter::Meter;
@@ -59,11 +62,36 @@ pub fn erase<T: Typer, R: Reducer>(
     ensures value { IfOk result (KeepsValue acc.now.env acc.now.main acc.now.main_type) }
     ensures axiom { IfErr result (λ e. (k : Name) → e ≡ AxiomReached k → (T : Term) × KeepsConstant acc.now.env k T None) }
 {
+    erase_at_sites(alloc, &Anywhere::of(typer), reducer, acc, m)
+}
+
+/// The same as `erase`, where the tests of the program's subterms share what they infer: the typer is asked at sites of one table.
+pub fn erase_at_sites<T: SiteTyper, R: Reducer>(
+    alloc: Global,
+    typer: &T,
+    reducer: &R,
+    acc: &Accepted,
+    m: &mut Meter,
+) -> Result<BoxProgram, EraseRefusal>
+    requires accepted { IsAccepted acc.now.env }
+    requires typed { Types guarded acc.now.env [] acc.now.main acc.now.main_type }
+    requires few { AreFewCounts acc.now.env }
+    ensures follows { FollowsAt (erased_program acc.now.env (test_of acc.now.env) (2048 - m.old.nest) acc.now.main m.old.account) (answered result) m.old m.new }
+    ensures halted { IfErr result (λ e. HaltsAtPlace acc.now.env (infer acc.now.env (test_of acc.now.env) (2048 - m.old.nest)) acc.now.main m.old.account e m.new.account) }
+    ensures erased { IfOk result (IsErased acc.now.env acc.now.main) }
+    ensures sources { IfOk result (HasErased acc.now.env) }
+    ensures form { IfOk result IsBoxProgram }
+    ensures fewer_nodes { IfOk result (λ P. program_nodes P ≤ nodes acc.now.main + body_nodes acc.now.env.declarations) }
+    ensures no_deeper { IfOk result (AreNoGreater acc.now.env acc.now.main) }
+    ensures value { IfOk result (KeepsValue acc.now.env acc.now.main acc.now.main_type) }
+    ensures axiom { IfErr result (λ e. (k : Name) → e ≡ AxiomReached k → (T : Term) × KeepsConstant acc.now.env k T None) }
+{
     let env = &acc.env;
     let eraser = Eraser::new(typer, reducer);
+    let table = Table::new(alloc);
     let room = m.room();
-    let main = erased_at(alloc, &eraser, env, room, Place::Main, &acc.main, m)?;
-    let reached = reach_constants(alloc, &eraser, env, room, &main, m)?;
+    let main = erased_at(alloc, &eraser, env, &table, room, Place::Main, &acc.main, m)?;
+    let reached = reach_constants(alloc, &eraser, env, &table, room, &main, m)?;
     if let Some(name) = reached.without_body {
         return Err(EraseRefusal::AxiomReached { name });
     }

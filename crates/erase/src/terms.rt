@@ -7,6 +7,7 @@ ghost use Rattle.pc_rules.specs.Follows.{Follows};
 ghost use Rattle.pc_rules.specs.DirectedTyping.{infer};
 ghost use Rattle.pc_rules.specs.DirectedErasable.{erasable_test};
 ghost use Rattle.pc_rules.specs.WellCounted.{IsCounted, IsCountedContext, IsCountedEnv};
+ghost use Rattle.known_types.specs.Located.{IsOf};
 ghost use Rattle.erase_rules.specs.DirectedErasure.{erased, kept, kept_branches, kept_bodies};
 ghost use Rattle.erase.specs.Arms.{arms_in, bodies_in, under_entries};
 ghost use Rattle.calculus_rules.specs.Instances.{branch_entries};
@@ -22,28 +23,30 @@ use box_terms::term::{BoxBranch, BoxBranches, BoxDef, BoxDefs, BoxNode, BoxTerm}
 use calculus_rules::declaration::{Constructor, Constructors};
 use calculus_rules::entry::Entry;
 use calculus_rules::evidence::Evidence;
-use erasable::test::test;
+use erasable::test::test_in;
 use instances::contexts::{definition_entries, extended};
 use instances::instances::branches::branch_entries;
 use instances::kept::kept_family;
+use known_types::site::Site;
+use known_types::sited::Sited;
+use known_types::typer::SiteTyper;
 use pc_rules::broken::Broken;
 use pc_rules::context::Ctx;
 use pc_rules::environment::Env;
 use pc_rules::meter::Meter;
 use pc_rules::reducer::Reducer;
 use pc_rules::stop::Halt;
-use pc_rules::typer::Typer;
 use pc_terms::term::{Defs, Match, Node, Term, Terms};
 use std::alloc::Global;
 
 /// Erases terms, by a typer and a reducer.
 #[derive(Drop)]
-pub(crate) struct Eraser<T: Typer + Drop, R: Reducer + Drop> {
+pub(crate) struct Eraser<T: SiteTyper + Drop, R: Reducer + Drop> {
     typer: T,
     reducer: R,
 }
 
-impl<T: Typer + Drop, R: Reducer + Drop> Eraser<T, R> {
+impl<T: SiteTyper + Drop, R: Reducer + Drop> Eraser<T, R> {
     /// Erasure by a typer and a reducer.
     pub(crate) fn new(typer: T, reducer: R) -> Eraser<T, R> {
         Eraser { typer, reducer }
@@ -55,6 +58,7 @@ impl<T: Typer + Drop, R: Reducer + Drop> Eraser<T, R> {
         alloc: Global,
         env: &Env,
         ctx: &Ctx,
+        site: &Site<'_>,
         room: u32,
         t: &Term,
         m: &mut Meter,
@@ -62,10 +66,11 @@ impl<T: Typer + Drop, R: Reducer + Drop> Eraser<T, R> {
         requires nest { room + m.old.nest ≡ 2048 }
         requires env { IsCountedEnv env.now }
         requires ctx { IsCountedContext env.now ctx.now }
+        requires site { IsOf site.now env.now ctx.now }
         requires counted { IsCounted env.now t.now }
         ensures follows { Follows (erasable_test env.now (infer env.now (test_of env.now) room) ctx.now t.now m.old.account) result m.old m.new }
     {
-        test(alloc, &self.typer, &self.reducer, env, ctx, t, m)
+        test_in(alloc, &self.typer, &self.reducer, env, ctx, site, t, m)
     }
 
     /// A term: box where there is evidence, and else its former.
@@ -75,6 +80,7 @@ impl<T: Typer + Drop, R: Reducer + Drop> Eraser<T, R> {
         alloc: Global,
         env: &Env,
         ctx: &Ctx,
+        site: &Site<'_>,
         room: u32,
         t: &Term,
         m: &mut Meter,
@@ -82,13 +88,14 @@ impl<T: Typer + Drop, R: Reducer + Drop> Eraser<T, R> {
         requires nest { room + m.old.nest ≡ 2048 }
         requires env { IsCountedEnv env.now }
         requires ctx { IsCountedContext env.now ctx.now }
+        requires site { IsOf site.now env.now ctx.now }
         requires counted { IsCounted env.now t.now }
         ensures follows { Follows (erased env.now (infer env.now (test_of env.now) room) ctx.now t.now m.old.account) result m.old m.new }
     {
-        let evidence = self.evidence(alloc, env, ctx, room, t, m)?;
+        let evidence = self.evidence(alloc, env, ctx, site, room, t, m)?;
         match evidence {
             Some(_) => Ok(made(alloc, BoxNode::Boxed)?),
-            None => self.kept(alloc, env, ctx, room, t, m),
+            None => self.kept(alloc, env, ctx, site, room, t, m),
         }
     }
 
@@ -99,6 +106,7 @@ impl<T: Typer + Drop, R: Reducer + Drop> Eraser<T, R> {
         alloc: Global,
         env: &Env,
         ctx: &Ctx,
+        site: &Site<'_>,
         room: u32,
         t: &Term,
         m: &mut Meter,
@@ -106,23 +114,24 @@ impl<T: Typer + Drop, R: Reducer + Drop> Eraser<T, R> {
         requires nest { room + m.old.nest ≡ 2048 }
         requires env { IsCountedEnv env.now }
         requires ctx { IsCountedContext env.now ctx.now }
+        requires site { IsOf site.now env.now ctx.now }
         requires counted { IsCounted env.now t.now }
         ensures follows { Follows (kept env.now (infer env.now (test_of env.now) room) ctx.now t.now m.old.account) result m.old m.new }
     {
         let _depth = t.depth();
         match t.view() {
             Node::Rel(i) => Ok(made(alloc, BoxNode::Rel(*i))?),
-            Node::Lambda(ty, body) => self.lambda(alloc, env, ctx, room, ty, body, m),
+            Node::Lambda(ty, body) => self.lambda(alloc, env, ctx, site, room, ty, body, m),
             Node::LetIn(value, ty, body) => {
-                self.let_in(alloc, env, ctx, room, value, ty, body, m)
+                self.let_in(alloc, env, ctx, site, room, value, ty, body, m)
             }
             Node::App(function, argument) => {
-                self.application(alloc, env, ctx, room, function, argument, m)
+                self.application(alloc, env, ctx, site, room, function, argument, m)
             }
             Node::Const(name) => Ok(made(alloc, BoxNode::Const(*name))?),
             Node::Construct(id, number) => Ok(made(alloc, BoxNode::Construct(*id, *number))?),
-            Node::Case(x) => self.case(alloc, env, ctx, room, x, m),
-            Node::Fix(defs, i) => self.fixpoint(alloc, env, ctx, room, defs, *i, m),
+            Node::Case(x) => self.case(alloc, env, ctx, site, room, x, m),
+            Node::Fix(defs, i) => self.fixpoint(alloc, env, ctx, site, room, defs, *i, m),
             _ => Ok(made(alloc, BoxNode::Boxed)?),
         }
     }
@@ -134,6 +143,7 @@ impl<T: Typer + Drop, R: Reducer + Drop> Eraser<T, R> {
         alloc: Global,
         env: &Env,
         ctx: &Ctx,
+        site: &Site<'_>,
         room: u32,
         ty: &Term,
         body: &Term,
@@ -142,13 +152,15 @@ impl<T: Typer + Drop, R: Reducer + Drop> Eraser<T, R> {
         requires nest { room + m.old.nest ≡ 2048 }
         requires env { IsCountedEnv env.now }
         requires ctx { IsCountedContext env.now ctx.now }
+        requires site { IsOf site.now env.now ctx.now }
         requires counted { IsCounted env.now (Lambda ty.now body.now) }
         requires within { IsWithin (Lambda ty.now body.now) }
         ensures follows { Follows (kept env.now (infer env.now (test_of env.now) room) ctx.now (Lambda ty.now body.now) m.old.account) result m.old m.new }
     {
         let ty = ty.share()?;
         let inner = ctx.extended(alloc, Entry::Assumed(ty))?;
-        let body = self.erased(alloc, env, &inner, room, body, m)?;
+        let within = site.deeper(alloc, env, ctx, &inner);
+        let body = self.erased(alloc, env, &inner, &within, room, body, m)?;
         Ok(made(alloc, BoxNode::Lambda(body))?)
     }
 
@@ -159,6 +171,7 @@ impl<T: Typer + Drop, R: Reducer + Drop> Eraser<T, R> {
         alloc: Global,
         env: &Env,
         ctx: &Ctx,
+        site: &Site<'_>,
         room: u32,
         value: &Term,
         ty: &Term,
@@ -168,15 +181,17 @@ impl<T: Typer + Drop, R: Reducer + Drop> Eraser<T, R> {
         requires nest { room + m.old.nest ≡ 2048 }
         requires env { IsCountedEnv env.now }
         requires ctx { IsCountedContext env.now ctx.now }
+        requires site { IsOf site.now env.now ctx.now }
         requires counted { IsCounted env.now (LetIn value.now ty.now body.now) }
         requires within { IsWithin (LetIn value.now ty.now body.now) }
         ensures follows { Follows (kept env.now (infer env.now (test_of env.now) room) ctx.now (LetIn value.now ty.now body.now) m.old.account) result m.old m.new }
     {
-        let first = self.erased(alloc, env, ctx, room, value, m)?;
+        let first = self.erased(alloc, env, ctx, site, room, value, m)?;
         let value = value.share()?;
         let ty = ty.share()?;
         let inner = ctx.extended(alloc, Entry::Defined { value, ty })?;
-        let second = self.erased(alloc, env, &inner, room, body, m)?;
+        let within = site.deeper(alloc, env, ctx, &inner);
+        let second = self.erased(alloc, env, &inner, &within, room, body, m)?;
         Ok(made(alloc, BoxNode::LetIn(first, second))?)
     }
 
@@ -187,6 +202,7 @@ impl<T: Typer + Drop, R: Reducer + Drop> Eraser<T, R> {
         alloc: Global,
         env: &Env,
         ctx: &Ctx,
+        site: &Site<'_>,
         room: u32,
         function: &Term,
         argument: &Term,
@@ -195,12 +211,13 @@ impl<T: Typer + Drop, R: Reducer + Drop> Eraser<T, R> {
         requires nest { room + m.old.nest ≡ 2048 }
         requires env { IsCountedEnv env.now }
         requires ctx { IsCountedContext env.now ctx.now }
+        requires site { IsOf site.now env.now ctx.now }
         requires counted { IsCounted env.now (App function.now argument.now) }
         requires within { IsWithin (App function.now argument.now) }
         ensures follows { Follows (kept env.now (infer env.now (test_of env.now) room) ctx.now (App function.now argument.now) m.old.account) result m.old m.new }
     {
-        let first = self.erased(alloc, env, ctx, room, function, m)?;
-        let second = self.erased(alloc, env, ctx, room, argument, m)?;
+        let first = self.erased(alloc, env, ctx, site, room, function, m)?;
+        let second = self.erased(alloc, env, ctx, site, room, argument, m)?;
         Ok(made(alloc, BoxNode::App(first, second))?)
     }
 
@@ -211,6 +228,7 @@ impl<T: Typer + Drop, R: Reducer + Drop> Eraser<T, R> {
         alloc: Global,
         env: &Env,
         ctx: &Ctx,
+        site: &Site<'_>,
         room: u32,
         x: &Match,
         m: &mut Meter,
@@ -218,17 +236,18 @@ impl<T: Typer + Drop, R: Reducer + Drop> Eraser<T, R> {
         requires nest { room + m.old.nest ≡ 2048 }
         requires env { IsCountedEnv env.now }
         requires ctx { IsCountedContext env.now ctx.now }
+        requires site { IsOf site.now env.now ctx.now }
         requires counted { IsCounted env.now (tree_of (Case x.now)) }
         requires within { IsWithin (tree_of (Case x.now)) }
         ensures follows { Follows (kept env.now (infer env.now (test_of env.now) room) ctx.now (tree_of (Case x.now)) m.old.account) result m.old m.new }
     {
-        let scrut = self.erased(alloc, env, ctx, room, &x.scrut, m)?;
+        let scrut = self.erased(alloc, env, ctx, site, room, &x.scrut, m)?;
         let Some(family) = kept_family(env, x.family) else {
             return Err(Halt::Broken(Broken::UnknownName {
                 name: x.family.block,
             }));
         };
-        let branches = self.branches(alloc, env, ctx, room, &family.ctors, x, m)?;
+        let branches = self.branches(alloc, env, ctx, site, room, &family.ctors, x, m)?;
         Ok(made(alloc, BoxNode::Case(x.family, scrut, branches))?)
     }
 
@@ -239,6 +258,7 @@ impl<T: Typer + Drop, R: Reducer + Drop> Eraser<T, R> {
         alloc: Global,
         env: &Env,
         ctx: &Ctx,
+        site: &Site<'_>,
         room: u32,
         ctors: &Constructors,
         x: &Match,
@@ -247,6 +267,7 @@ impl<T: Typer + Drop, R: Reducer + Drop> Eraser<T, R> {
         requires nest { room + m.old.nest ≡ 2048 }
         requires env { IsCountedEnv env.now }
         requires ctx { IsCountedContext env.now ctx.now }
+        requires site { IsOf site.now env.now ctx.now }
         requires ctors { AreCountedConstructors env.now ctors.now }
         requires counted { IsCounted env.now (tree_of (Case x.now)) }
         ensures follows { Follows (kept_branches env.now (infer env.now (test_of env.now) room) ctx.now x.now.params ctors.now (arms_of x.now.branches) m.old.account) (arms_in result) m.old m.new }
@@ -257,7 +278,9 @@ impl<T: Typer + Drop, R: Reducer + Drop> Eraser<T, R> {
         let mut out = BoxBranches::new(alloc);
         for i in 0..count {
             let arm = &xs[i];
-            let body = self.branch(alloc, env, ctx, room, &listed[i], &x.params, &arm.body, m)?;
+            let body = self.branch(
+                alloc, env, ctx, site, room, &listed[i], &x.params, &arm.body, m,
+            )?;
             let binders = arm.binders;
             out.push(BoxBranch { binders, body })?;
         }
@@ -271,6 +294,7 @@ impl<T: Typer + Drop, R: Reducer + Drop> Eraser<T, R> {
         alloc: Global,
         env: &Env,
         ctx: &Ctx,
+        site: &Site<'_>,
         room: u32,
         ctor: &Constructor,
         params: &Terms,
@@ -280,6 +304,7 @@ impl<T: Typer + Drop, R: Reducer + Drop> Eraser<T, R> {
         requires nest { room + m.old.nest ≡ 2048 }
         requires env { IsCountedEnv env.now }
         requires ctx { IsCountedContext env.now ctx.now }
+        requires site { IsOf site.now env.now ctx.now }
         requires args { AreCounted env.now ctor.now.args }
         requires params { AreCounted env.now params.now }
         requires counted { IsCounted env.now body.now }
@@ -287,7 +312,8 @@ impl<T: Typer + Drop, R: Reducer + Drop> Eraser<T, R> {
     {
         let entries = branch_entries(alloc, ctor, params)?;
         let inner = extended(alloc, ctx, &entries)?;
-        self.erased(alloc, env, &inner, room, body, m)
+        let within = site.deeper(alloc, env, ctx, &inner);
+        self.erased(alloc, env, &inner, &within, room, body, m)
     }
 
     /// A fixpoint keeps its definitions' bodies, under all definitions.
@@ -297,6 +323,7 @@ impl<T: Typer + Drop, R: Reducer + Drop> Eraser<T, R> {
         alloc: Global,
         env: &Env,
         ctx: &Ctx,
+        site: &Site<'_>,
         room: u32,
         defs: &Defs,
         i: u32,
@@ -305,13 +332,15 @@ impl<T: Typer + Drop, R: Reducer + Drop> Eraser<T, R> {
         requires nest { room + m.old.nest ≡ 2048 }
         requires env { IsCountedEnv env.now }
         requires ctx { IsCountedContext env.now ctx.now }
+        requires site { IsOf site.now env.now ctx.now }
         requires counted { IsCounted env.now (tree_of (Fix defs.now i)) }
         requires within { IsWithin (tree_of (Fix defs.now i)) }
         ensures follows { Follows (kept env.now (infer env.now (test_of env.now) room) ctx.now (tree_of (Fix defs.now i)) m.old.account) result m.old m.new }
     {
         let entries = definition_entries(alloc, defs)?;
         let inner = extended(alloc, ctx, &entries)?;
-        let bodies = self.bodies(alloc, env, &inner, room, defs, m)?;
+        let within = site.deeper(alloc, env, ctx, &inner);
+        let bodies = self.bodies(alloc, env, &inner, &within, room, defs, m)?;
         Ok(made(alloc, BoxNode::Fix(bodies, i))?)
     }
 
@@ -322,6 +351,7 @@ impl<T: Typer + Drop, R: Reducer + Drop> Eraser<T, R> {
         alloc: Global,
         env: &Env,
         ctx: &Ctx,
+        site: &Site<'_>,
         room: u32,
         defs: &Defs,
         m: &mut Meter,
@@ -329,6 +359,7 @@ impl<T: Typer + Drop, R: Reducer + Drop> Eraser<T, R> {
         requires nest { room + m.old.nest ≡ 2048 }
         requires env { IsCountedEnv env.now }
         requires ctx { IsCountedContext env.now ctx.now }
+        requires site { IsOf site.now env.now ctx.now }
         requires counted { EachTerm (IsCountedNode env.now) (bodies_of (length defs.now) defs.now) }
         ensures follows { Follows (kept_bodies env.now (infer env.now (test_of env.now) room) ctx.now (bodies_of (length defs.now) defs.now) m.old.account) (bodies_in (length defs.now) result) m.old m.new }
         ensures rargs { IfOk result (λ ds. box_rargs ds ≡ rargs_of defs.now) }
@@ -337,7 +368,7 @@ impl<T: Typer + Drop, R: Reducer + Drop> Eraser<T, R> {
         let mut out = BoxDefs::new(alloc);
         for i in 0..items.len() {
             let def = &items[i];
-            let body = self.erased(alloc, env, ctx, room, &def.body, m)?;
+            let body = self.erased(alloc, env, ctx, site, room, &def.body, m)?;
             let rarg = def.rarg;
             out.push(BoxDef { body, rarg })?;
         }

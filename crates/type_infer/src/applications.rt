@@ -11,6 +11,7 @@ ghost use Rattle.type_infer.specs.Ready.{IsReady};
 
 use crate::inference::Inference;
 use crate::pending::PendingType;
+use known_types::sited::Sited;
 use pc_rules::broken::Broken;
 use pc_rules::context::Ctx;
 use pc_rules::converter::Converter;
@@ -25,11 +26,12 @@ use std::alloc::Global;
 impl<R: Reducer + Drop, C: Converter + Drop, G: Guarder + Drop> Inference<R, C, G> {
     /// An application has the codomain of its function's type with the argument put in.
     #[cycle(infer)]
-    pub(crate) fn app_rule(
+    pub(crate) fn app_rule<S: Sited>(
         &self,
         alloc: Global,
         env: &Env,
         ctx: &Ctx,
+        site: &S,
         room: u32,
         function: &Term,
         argument: &Term,
@@ -37,19 +39,21 @@ impl<R: Reducer + Drop, C: Converter + Drop, G: Guarder + Drop> Inference<R, C, 
     ) -> Result<Term, Halt>
         requires nest { room + m.old.nest ≡ 2048 }
         requires ready { IsReady env.now ctx.now }
+        requires site { S.is_of site.now env.now ctx.now }
         ensures follows { Follows (app_rule env.now (infer env.now (test_of env.now) room) (compare env.now (test_of env.now) room) ctx.now function.now argument.now m.old.account) result m.old m.new }
     {
-        let ty = self.application_type(alloc, env, ctx, room, function, argument, m)?;
+        let ty = self.application_type(alloc, env, ctx, site, room, function, argument, m)?;
         Ok(ty.whole(alloc)?)
     }
 
     /// The same, of which arguments are still to be put in.
     #[cycle(infer)]
-    fn application_type(
+    fn application_type<S: Sited>(
         &self,
         alloc: Global,
         env: &Env,
         ctx: &Ctx,
+        site: &S,
         room: u32,
         function: &Term,
         argument: &Term,
@@ -57,30 +61,32 @@ impl<R: Reducer + Drop, C: Converter + Drop, G: Guarder + Drop> Inference<R, C, 
     ) -> Result<PendingType, Halt>
         requires nest { room + m.old.nest ≡ 2048 }
         requires ready { IsReady env.now ctx.now }
+        requires site { S.is_of site.now env.now ctx.now }
         ensures follows { FollowsPending (app_rule env.now (infer env.now (test_of env.now) room) (compare env.now (test_of env.now) room) ctx.now function.now argument.now m.old.account) result m.old m.new }
     {
-        let ty = self.function_type(alloc, env, ctx, room, function, m)?;
+        let ty = self.function_type(alloc, env, ctx, site, room, function, m)?;
         match ty.base.view() {
             Node::Prod(domain, codomain) => {
                 let wanted = ty.instance(alloc, domain)?;
-                self.check_at(alloc, env, ctx, room, argument, &wanted, m)?;
+                self.check_at(alloc, env, ctx, site, room, argument, &wanted, m)?;
                 let base = codomain.share()?;
                 Ok(ty.and(base, argument)?)
             }
             _ => {
                 let whole = ty.whole(alloc)?;
-                self.reduced_type(alloc, env, ctx, room, &whole, argument, m)
+                self.reduced_type(alloc, env, ctx, site, room, &whole, argument, m)
             }
         }
     }
 
     /// The type of an application by the weak-head normal form of its function's type.
     #[cycle(infer)]
-    fn reduced_type(
+    fn reduced_type<S: Sited>(
         &self,
         alloc: Global,
         env: &Env,
         ctx: &Ctx,
+        site: &S,
         room: u32,
         ty: &Term,
         argument: &Term,
@@ -88,13 +94,14 @@ impl<R: Reducer + Drop, C: Converter + Drop, G: Guarder + Drop> Inference<R, C, 
     ) -> Result<PendingType, Halt>
         requires nest { room + m.old.nest ≡ 2048 }
         requires ready { IsReady env.now ctx.now }
+        requires site { S.is_of site.now env.now ctx.now }
         ensures follows { FollowsPending (reduced_rule env.now (infer env.now (test_of env.now) room) (compare env.now (test_of env.now) room) ctx.now argument.now ty.now m.old.account) result m.old m.new }
     {
         let whnf = self.reducer.whnf(alloc, env, ctx, ty, m)?;
         match whnf.view() {
             Node::Prod(domain, codomain) => {
-                self.retype(alloc, env, ctx, room, ty, &whnf, m)?;
-                self.check_at(alloc, env, ctx, room, argument, domain, m)?;
+                self.retype(alloc, env, ctx, site, room, ty, &whnf, m)?;
+                self.check_at(alloc, env, ctx, site, room, argument, domain, m)?;
                 Ok(PendingType::of_one(alloc, codomain, argument)?)
             }
             _ => Err(Halt::Broken(Broken::NotAProduct { whnf })),
@@ -103,35 +110,73 @@ impl<R: Reducer + Drop, C: Converter + Drop, G: Guarder + Drop> Inference<R, C, 
 
     /// The type of a function, of which arguments are still to be put in where it is an application itself.
     #[cycle(infer)]
-    fn function_type(
+    fn function_type<S: Sited>(
         &self,
         alloc: Global,
         env: &Env,
         ctx: &Ctx,
+        site: &S,
         room: u32,
         t: &Term,
         m: &mut Meter,
     ) -> Result<PendingType, Halt>
         requires nest { room + m.old.nest ≡ 2048 }
         requires ready { IsReady env.now ctx.now }
+        requires site { S.is_of site.now env.now ctx.now }
         ensures follows { FollowsPending (infer env.now (test_of env.now) room ctx.now t.now m.old.account) result m.old m.new }
     {
         match t.view() {
-            Node::App(f, a) => self.inner_type(alloc, env, ctx, room, f, a, m),
+            Node::App(f, a) => self.prefix_type(alloc, env, ctx, site, room, t, f, a, m),
             _ => {
-                let ty = self.infer_at(alloc, env, ctx, room, t, m)?;
+                let ty = self.infer_at(alloc, env, ctx, site, room, t, m)?;
                 Ok(PendingType::of(alloc, ty))
             }
         }
     }
 
-    /// The type of an application that is a function: a unit, one more rule that stands, the note of rule 6, and the rule.
+    /// The type of the application `t` that is a function: as it is known, or else inferred. What is kept has its arguments put in.
     #[cycle(infer)]
-    fn inner_type(
+    fn prefix_type<S: Sited>(
         &self,
         alloc: Global,
         env: &Env,
         ctx: &Ctx,
+        site: &S,
+        room: u32,
+        t: &Term,
+        function: &Term,
+        argument: &Term,
+        m: &mut Meter,
+    ) -> Result<PendingType, Halt>
+        requires nest { room + m.old.nest ≡ 2048 }
+        requires ready { IsReady env.now ctx.now }
+        requires site { S.is_of site.now env.now ctx.now }
+        requires whole { App function.now argument.now ≡ t.now }
+        ensures follows { FollowsPending (infer env.now (test_of env.now) room ctx.now t.now m.old.account) result m.old m.new }
+    {
+        if let Some(ty) = site.known(room, t, m) {
+            return Ok(PendingType::of(alloc, ty));
+        }
+        let before = m.account;
+        let ty = self.inner_type(alloc, env, ctx, site, room, function, argument, m)?;
+        if !site.keeps() {
+            return Ok(ty);
+        }
+        let Ok(whole) = ty.whole(alloc) else {
+            return Ok(ty);
+        };
+        site.keep(alloc, room, t, &whole, &before, &m.account);
+        Ok(PendingType::of(alloc, whole))
+    }
+
+    /// The type of an application that is a function: a unit, one more rule that stands, the note of rule 6, and the rule.
+    #[cycle(infer)]
+    fn inner_type<S: Sited>(
+        &self,
+        alloc: Global,
+        env: &Env,
+        ctx: &Ctx,
+        site: &S,
         room: u32,
         function: &Term,
         argument: &Term,
@@ -139,6 +184,7 @@ impl<R: Reducer + Drop, C: Converter + Drop, G: Guarder + Drop> Inference<R, C, 
     ) -> Result<PendingType, Halt>
         requires nest { room + m.old.nest ≡ 2048 }
         requires ready { IsReady env.now ctx.now }
+        requires site { S.is_of site.now env.now ctx.now }
         ensures follows { FollowsPending (infer env.now (test_of env.now) room ctx.now (App function.now argument.now) m.old.account) result m.old m.new }
     {
         if !m.tick() {
@@ -148,7 +194,7 @@ impl<R: Reducer + Drop, C: Converter + Drop, G: Guarder + Drop> Inference<R, C, 
             return Err(Halt::Stop(Stop::TooDeep));
         }
         m.note(6);
-        let answer = self.application_type(alloc, env, ctx, room - 1, function, argument, m);
+        let answer = self.application_type(alloc, env, ctx, site, room - 1, function, argument, m);
         m.leave();
         answer
     }

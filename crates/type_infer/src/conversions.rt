@@ -11,6 +11,7 @@ ghost use Rattle.type_infer.specs.Unread.{FollowsUnread, sort_of_type};
 
 use crate::inference::Inference;
 use crate::universes::{is_sort, sort_of_sort, sorts_below};
+use known_types::sited::Sited;
 use pc_rules::broken::Broken;
 use pc_rules::context::Ctx;
 use pc_rules::converter::Converter;
@@ -37,86 +38,94 @@ pub(crate) fn conv(m: &mut Meter) -> Result<(), Halt>
 impl<R: Reducer + Drop, C: Converter + Drop, G: Guarder + Drop> Inference<R, C, G> {
     /// The sort of a term: its type's weak-head normal form, which is inferred again where it is another term than the type.
     #[cycle(infer)]
-    pub(crate) fn sort_at(
+    pub(crate) fn sort_at<S: Sited>(
         &self,
         alloc: Global,
         env: &Env,
         ctx: &Ctx,
+        site: &S,
         room: u32,
         t: &Term,
         m: &mut Meter,
     ) -> Result<Sort, Halt>
         requires nest { room + m.old.nest ≡ 2048 }
         requires ready { IsReady env.now ctx.now }
+        requires site { S.is_of site.now env.now ctx.now }
         ensures follows { Follows (sort_of env.now (infer env.now (test_of env.now) room) ctx.now t.now m.old.account) result m.old m.new }
         ensures counted { IfOk result (λ _. IsCounted env.now t.now) }
     {
-        let ty = self.infer_at(alloc, env, ctx, room, t, m)?;
+        let ty = self.infer_at(alloc, env, ctx, site, room, t, m)?;
         match ty.view() {
             Node::Sort(s) => Ok(s.share(alloc)?),
-            _ => self.reduced_sort(alloc, env, ctx, room, &ty, m),
+            _ => self.reduced_sort(alloc, env, ctx, site, room, &ty, m),
         }
     }
 
     /// That a term has a sort, which is not given.
     #[cycle(infer)]
-    pub(crate) fn sorted_at(
+    pub(crate) fn sorted_at<S: Sited>(
         &self,
         alloc: Global,
         env: &Env,
         ctx: &Ctx,
+        site: &S,
         room: u32,
         t: &Term,
         m: &mut Meter,
     ) -> Result<(), Halt>
         requires nest { room + m.old.nest ≡ 2048 }
         requires ready { IsReady env.now ctx.now }
+        requires site { S.is_of site.now env.now ctx.now }
         ensures follows { FollowsUnread (sort_of env.now (infer env.now (test_of env.now) room) ctx.now t.now m.old.account) result m.old m.new }
         ensures counted { IfOk result (λ _. IsCounted env.now t.now) }
     {
         match t.view() {
             Node::Sort(s) => sort_of_sort(env, s, m),
-            _ => self.inferred_sorted(alloc, env, ctx, room, t, m),
+            _ => self.inferred_sorted(alloc, env, ctx, site, room, t, m),
         }
     }
 
     /// The same, by the term's type.
     #[cycle(infer)]
-    fn inferred_sorted(
+    fn inferred_sorted<S: Sited>(
         &self,
         alloc: Global,
         env: &Env,
         ctx: &Ctx,
+        site: &S,
         room: u32,
         t: &Term,
         m: &mut Meter,
     ) -> Result<(), Halt>
         requires nest { room + m.old.nest ≡ 2048 }
         requires ready { IsReady env.now ctx.now }
+        requires site { S.is_of site.now env.now ctx.now }
         ensures follows { FollowsUnread (sort_of env.now (infer env.now (test_of env.now) room) ctx.now t.now m.old.account) result m.old m.new }
         ensures counted { IfOk result (λ _. IsCounted env.now t.now) }
     {
-        let ty = self.infer_at(alloc, env, ctx, room, t, m)?;
+        let ty = self.infer_at(alloc, env, ctx, site, room, t, m)?;
         if is_sort(&ty) {
             return Ok(());
         }
-        let _sort = self.reduced_sort(alloc, env, ctx, room, &ty, m)?;
+        let _sort = self.reduced_sort(alloc, env, ctx, site, room, &ty, m)?;
         Ok(())
     }
 
     /// The sort of a term by its type's weak-head normal form.
     #[cycle(infer)]
-    fn reduced_sort(
+    fn reduced_sort<S: Sited>(
         &self,
         alloc: Global,
         env: &Env,
         ctx: &Ctx,
+        site: &S,
         room: u32,
         ty: &Term,
         m: &mut Meter,
     ) -> Result<Sort, Halt>
         requires nest { room + m.old.nest ≡ 2048 }
         requires ready { IsReady env.now ctx.now }
+        requires site { S.is_of site.now env.now ctx.now }
         ensures follows { Follows (sort_of_type env.now (infer env.now (test_of env.now) room) ctx.now ty.now m.old.account) result m.old m.new }
     {
         let whnf = self.reducer.whnf(alloc, env, ctx, ty, m)?;
@@ -127,7 +136,7 @@ impl<R: Reducer + Drop, C: Converter + Drop, G: Guarder + Drop> Inference<R, C, 
                     return Ok(sort);
                 }
                 conv(m)?;
-                let _above = self.infer_at(alloc, env, ctx, room, &whnf, m)?;
+                let _above = self.infer_at(alloc, env, ctx, site, room, &whnf, m)?;
                 Ok(sort)
             }
             _ => Err(Halt::Broken(Broken::NotASort { whnf })),
@@ -136,11 +145,12 @@ impl<R: Reducer + Drop, C: Converter + Drop, G: Guarder + Drop> Inference<R, C, 
 
     /// A term against a type: the one found, or one above it that has a sort.
     #[cycle(infer)]
-    pub(crate) fn check_at(
+    pub(crate) fn check_at<S: Sited>(
         &self,
         alloc: Global,
         env: &Env,
         ctx: &Ctx,
+        site: &S,
         room: u32,
         t: &Term,
         ty: &Term,
@@ -148,26 +158,28 @@ impl<R: Reducer + Drop, C: Converter + Drop, G: Guarder + Drop> Inference<R, C, 
     ) -> Result<(), Halt>
         requires nest { room + m.old.nest ≡ 2048 }
         requires ready { IsReady env.now ctx.now }
+        requires site { S.is_of site.now env.now ctx.now }
         ensures follows { Follows (check env.now (infer env.now (test_of env.now) room) (compare env.now (test_of env.now) room) ctx.now t.now ty.now m.old.account) result m.old m.new }
         ensures counted { IfOk result (λ _. IsCounted env.now t.now) }
         ensures type_counted { IfOk result (λ _. IsCounted env.now ty.now) }
     {
-        let found = self.infer_at(alloc, env, ctx, room, t, m)?;
+        let found = self.infer_at(alloc, env, ctx, site, room, t, m)?;
         if found.same(ty) {
             return Ok(());
         }
         conv(m)?;
-        self.sorted_at(alloc, env, ctx, room, ty, m)?;
+        self.sorted_at(alloc, env, ctx, site, room, ty, m)?;
         self.below(alloc, env, ctx, room, &found, ty, m)
     }
 
     /// From a type to the weak-head normal form that is used in its place.
     #[cycle(infer)]
-    pub(crate) fn retype(
+    pub(crate) fn retype<S: Sited>(
         &self,
         alloc: Global,
         env: &Env,
         ctx: &Ctx,
+        site: &S,
         room: u32,
         ty: &Term,
         whnf: &Term,
@@ -175,13 +187,14 @@ impl<R: Reducer + Drop, C: Converter + Drop, G: Guarder + Drop> Inference<R, C, 
     ) -> Result<(), Halt>
         requires nest { room + m.old.nest ≡ 2048 }
         requires ready { IsReady env.now ctx.now }
+        requires site { S.is_of site.now env.now ctx.now }
         ensures follows { Follows (retype env.now (infer env.now (test_of env.now) room) ctx.now ty.now whnf.now m.old.account) result m.old m.new }
     {
         if ty.same(whnf) {
             return Ok(());
         }
         conv(m)?;
-        self.sorted_at(alloc, env, ctx, room, whnf, m)?;
+        self.sorted_at(alloc, env, ctx, site, room, whnf, m)?;
         Ok(())
     }
 

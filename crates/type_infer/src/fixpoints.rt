@@ -18,6 +18,7 @@ ghost use Rattle.type_infer.specs.Ready.{IsReady, done_with};
 use crate::declared::bad_number;
 use crate::inference::Inference;
 use calculus_rules::entry::Entry;
+use known_types::sited::Sited;
 use pc_rules::broken::Broken;
 use pc_rules::context::Ctx;
 use pc_rules::converter::Converter;
@@ -83,17 +84,19 @@ pub fn definition_type(defs: &Defs, i: u32) -> Result<Term, Halt>
 impl<R: Reducer + Drop, C: Converter + Drop, G: Guarder + Drop> Inference<R, C, G> {
     /// The sort of each definition's type, lifted, under the definitions before it. Gives the context under all definitions.
     #[cycle(infer)]
-    fn types_rule(
+    fn types_rule<S: Sited>(
         &self,
         alloc: Global,
         env: &Env,
         ctx: &Ctx,
+        site: &S,
         room: u32,
         defs: &Defs,
         m: &mut Meter,
     ) -> Result<Ctx, Halt>
         requires nest { room + m.old.nest ≡ 2048 }
         requires ready { IsReady env.now ctx.now }
+        requires site { S.is_of site.now env.now ctx.now }
         ensures follows { Follows (types_rule env.now (infer env.now (test_of env.now) room) ctx.now 0 (list_of (types_of defs.now)) m.old.account) (done_with result) m.old m.new }
         ensures under { IfOk result (λ d. d ≡ definitions ctx.now 0 (types_of defs.now)) }
         ensures inner { IfOk result (λ d. IsReady env.now d) }
@@ -105,7 +108,8 @@ impl<R: Reducer + Drop, C: Converter + Drop, G: Guarder + Drop> Inference<R, C, 
         let mut under = ctx.share()?;
         for i in 0..count {
             let ty = items[i as usize].ty.lift(alloc, i, 0)?;
-            self.sorted_at(alloc, env, &under, room, &ty, m)?;
+            let within = site.deeper(alloc, env, ctx, &under);
+            self.sorted_at(alloc, env, &under, &within, room, &ty, m)?;
             under = under.extended(alloc, Entry::Assumed(ty))?;
         }
         Ok(under)
@@ -113,11 +117,12 @@ impl<R: Reducer + Drop, C: Converter + Drop, G: Guarder + Drop> Inference<R, C, 
 
     /// Definition `number` (from 0) of `count`: its lambdas, its body against its lifted type, and the type of its recursive argument.
     #[cycle(infer)]
-    fn definition_rule(
+    fn definition_rule<S: Sited>(
         &self,
         alloc: Global,
         env: &Env,
         under: &Ctx,
+        site: &S,
         room: u32,
         count: u32,
         number: u32,
@@ -126,13 +131,14 @@ impl<R: Reducer + Drop, C: Converter + Drop, G: Guarder + Drop> Inference<R, C, 
     ) -> Result<(), Halt>
         requires nest { room + m.old.nest ≡ 2048 }
         requires ready { IsReady env.now under.now }
+        requires site { S.is_of site.now env.now under.now }
         ensures follows { Follows (definition_rule env.now (infer env.now (test_of env.now) room) (compare env.now (test_of env.now) room) under.now count number def.now.rarg def.now.ty def.now.body m.old.account) result m.old m.new }
     {
         let Some((inner, domain)) = recursive_domain(alloc, under, def.rarg, &def.body)? else {
             return Err(Halt::Broken(Broken::NotEnoughAbstractions { def: number }));
         };
         let ty = def.ty.lift(alloc, count, 0)?;
-        self.check_at(alloc, env, under, room, &def.body, &ty, m)?;
+        self.check_at(alloc, env, under, site, room, &def.body, &ty, m)?;
         let whnf = self.reducer.whnf(alloc, env, &inner, &domain, m)?;
         if !is_of_family(&whnf) {
             return Err(Halt::Broken(Broken::RecArgNotInductive { whnf }));
@@ -142,17 +148,19 @@ impl<R: Reducer + Drop, C: Converter + Drop, G: Guarder + Drop> Inference<R, C, 
 
     /// Each definition in turn, under all of them.
     #[cycle(infer)]
-    fn definitions_rule(
+    fn definitions_rule<S: Sited>(
         &self,
         alloc: Global,
         env: &Env,
         under: &Ctx,
+        site: &S,
         room: u32,
         defs: &Defs,
         m: &mut Meter,
     ) -> Result<(), Halt>
         requires nest { room + m.old.nest ≡ 2048 }
         requires ready { IsReady env.now under.now }
+        requires site { S.is_of site.now env.now under.now }
         ensures follows { Follows (definitions_rule env.now (infer env.now (test_of env.now) room) (compare env.now (test_of env.now) room) under.now (length (rargs_of defs.now)) 0 (rargs_of defs.now) (list_of (types_of defs.now)) (list_of (bodies_of (length defs.now) defs.now)) m.old.account) result m.old m.new }
     {
         let items = defs.as_slice();
@@ -160,18 +168,29 @@ impl<R: Reducer + Drop, C: Converter + Drop, G: Guarder + Drop> Inference<R, C, 
             return Err(Halt::Stop(Stop::Memory));
         };
         for i in 0..count {
-            self.definition_rule(alloc, env, under, room, count, i, &items[i as usize], m)?;
+            self.definition_rule(
+                alloc,
+                env,
+                under,
+                site,
+                room,
+                count,
+                i,
+                &items[i as usize],
+                m,
+            )?;
         }
         Ok(())
     }
 
     /// A fixpoint has the type of the definition that it names. `fix` is the fixpoint `index` of the definitions.
     #[cycle(infer)]
-    pub(crate) fn fix_rule(
+    pub(crate) fn fix_rule<S: Sited>(
         &self,
         alloc: Global,
         env: &Env,
         ctx: &Ctx,
+        site: &S,
         room: u32,
         fix: &Term,
         defs: &Defs,
@@ -180,12 +199,14 @@ impl<R: Reducer + Drop, C: Converter + Drop, G: Guarder + Drop> Inference<R, C, 
     ) -> Result<Term, Halt>
         requires nest { room + m.old.nest ≡ 2048 }
         requires ready { IsReady env.now ctx.now }
+        requires site { S.is_of site.now env.now ctx.now }
         requires whole { tree_of (Fix defs.now index) ≡ fix.now }
         requires formed { IsFormed fix.now }
         ensures follows { Follows (fix_rule env.now (infer env.now (test_of env.now) room) (compare env.now (test_of env.now) room) ctx.now index (rargs_of defs.now) (types_of defs.now) (bodies_of (length defs.now) defs.now) m.old.account) result m.old m.new }
     {
-        let under = self.types_rule(alloc, env, ctx, room, defs, m)?;
-        self.definitions_rule(alloc, env, &under, room, defs, m)?;
+        let under = self.types_rule(alloc, env, ctx, site, room, defs, m)?;
+        let within = site.deeper(alloc, env, ctx, &under);
+        self.definitions_rule(alloc, env, &under, &within, room, defs, m)?;
         self.guarder.fix(alloc, env, ctx, fix, m)?;
         definition_type(defs, index)
     }

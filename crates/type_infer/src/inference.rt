@@ -12,6 +12,9 @@ ghost use Rattle.type_infer.specs.Ready.{IsReady};
 use crate::declared::{const_rule, constructor_rule, family_rule};
 use crate::leaves::{rel_rule, sort_rule};
 use crate::made_types::MadeTypes;
+use known_types::site::Site;
+use known_types::sited::{Nowhere, Sited};
+use known_types::typer::SiteTyper;
 use pc_rules::context::Ctx;
 use pc_rules::converter::Converter;
 use pc_rules::environment::Env;
@@ -34,6 +37,34 @@ pub struct Inference<R: Drop, C: Drop, G: Drop> {
     made: MadeTypes,
 }
 
+impl<R: Reducer + Drop, C: Converter + Drop, G: Guarder + Drop> SiteTyper for Inference<R, C, G> {
+    fn infer_in(
+        &self,
+        alloc: Global,
+        env: &Env,
+        ctx: &Ctx,
+        site: &Site<'_>,
+        t: &Term,
+        m: &mut Meter,
+    ) -> Result<Term, Halt> {
+        let _ = env.graph();
+        self.infer_at(alloc, env, ctx, site, m.room(), t, m)
+    }
+
+    fn sort_in(
+        &self,
+        alloc: Global,
+        env: &Env,
+        ctx: &Ctx,
+        site: &Site<'_>,
+        t: &Term,
+        m: &mut Meter,
+    ) -> Result<Sort, Halt> {
+        let _ = env.graph();
+        self.sort_at(alloc, env, ctx, site, m.room(), t, m)
+    }
+}
+
 impl<R: Reducer + Drop, C: Converter + Drop, G: Guarder + Drop> Typer for Inference<R, C, G> {
     fn infer(
         &self,
@@ -45,7 +76,7 @@ impl<R: Reducer + Drop, C: Converter + Drop, G: Guarder + Drop> Typer for Infere
     ) -> Result<Term, Halt> {
         // The constraints of an environment are consistent.
         let _ = env.graph();
-        self.infer_at(alloc, env, ctx, m.room(), t, m)
+        self.infer_at(alloc, env, ctx, &Nowhere, m.room(), t, m)
     }
 
     fn sort_of(
@@ -57,7 +88,7 @@ impl<R: Reducer + Drop, C: Converter + Drop, G: Guarder + Drop> Typer for Infere
         m: &mut Meter,
     ) -> Result<Sort, Halt> {
         let _ = env.graph();
-        self.sort_at(alloc, env, ctx, m.room(), t, m)
+        self.sort_at(alloc, env, ctx, &Nowhere, m.room(), t, m)
     }
 
     fn check(
@@ -70,7 +101,7 @@ impl<R: Reducer + Drop, C: Converter + Drop, G: Guarder + Drop> Typer for Infere
         m: &mut Meter,
     ) -> Result<(), Halt> {
         let _ = env.graph();
-        self.check_at(alloc, env, ctx, m.room(), t, ty, m)
+        self.check_at(alloc, env, ctx, &Nowhere, m.room(), t, ty, m)
     }
 }
 
@@ -111,20 +142,48 @@ impl<R: Reducer + Drop, C: Converter + Drop, G: Guarder + Drop> Inference<R, C, 
         }
     }
 
-    /// A type of a term: a unit, one more rule that stands, the note of its use, and the rule. `room` is the number of rules that may still
-    /// stand in one another.
+    /// A type of a term: as it is known, or else inferred. `room` is the number of rules that may still stand in one another.
     #[cycle(infer)]
-    pub(crate) fn infer_at(
+    pub(crate) fn infer_at<S: Sited>(
         &self,
         alloc: Global,
         env: &Env,
         ctx: &Ctx,
+        site: &S,
         room: u32,
         t: &Term,
         m: &mut Meter,
     ) -> Result<Term, Halt>
         requires nest { room + m.old.nest ≡ 2048 }
         requires ready { IsReady env.now ctx.now }
+        requires site { S.is_of site.now env.now ctx.now }
+        ensures follows { Follows (infer env.now (test_of env.now) room ctx.now t.now m.old.account) result m.old m.new }
+        ensures inferred { IfOk result (λ ty. IsInferred env.now ctx.now t.now ty) }
+    {
+        if let Some(ty) = site.known(room, t, m) {
+            return Ok(ty);
+        }
+        let before = m.account;
+        let ty = self.infer_anew(alloc, env, ctx, site, room, t, m)?;
+        site.keep(alloc, room, t, &ty, &before, &m.account);
+        Ok(ty)
+    }
+
+    /// The same, inferred: a unit, one more rule that stands, the note of its use, and the rule.
+    #[cycle(infer)]
+    fn infer_anew<S: Sited>(
+        &self,
+        alloc: Global,
+        env: &Env,
+        ctx: &Ctx,
+        site: &S,
+        room: u32,
+        t: &Term,
+        m: &mut Meter,
+    ) -> Result<Term, Halt>
+        requires nest { room + m.old.nest ≡ 2048 }
+        requires ready { IsReady env.now ctx.now }
+        requires site { S.is_of site.now env.now ctx.now }
         ensures follows { Follows (infer env.now (test_of env.now) room ctx.now t.now m.old.account) result m.old m.new }
         ensures inferred { IfOk result (λ ty. IsInferred env.now ctx.now t.now ty) }
     {
@@ -135,38 +194,40 @@ impl<R: Reducer + Drop, C: Converter + Drop, G: Guarder + Drop> Inference<R, C, 
             return Err(Halt::Stop(Stop::TooDeep));
         }
         m.note(rule_number(t));
-        let answer = self.rule(alloc, env, ctx, room - 1, t, m);
+        let answer = self.rule(alloc, env, ctx, site, room - 1, t, m);
         m.leave();
         answer
     }
 
     /// The rule of a term.
     #[cycle(infer)]
-    fn rule(
+    fn rule<S: Sited>(
         &self,
         alloc: Global,
         env: &Env,
         ctx: &Ctx,
+        site: &S,
         room: u32,
         t: &Term,
         m: &mut Meter,
     ) -> Result<Term, Halt>
         requires nest { room + m.old.nest ≡ 2048 }
         requires ready { IsReady env.now ctx.now }
+        requires site { S.is_of site.now env.now ctx.now }
         ensures follows { Follows (rule env.now (infer env.now (test_of env.now) room) (compare env.now (test_of env.now) room) ctx.now t.now m.old.account) result m.old m.new }
     {
         match t.view() {
             Node::Rel(i) => rel_rule(alloc, ctx, *i),
             Node::Sort(s) => sort_rule(alloc, env, s),
-            Node::Prod(a, b) => self.prod_rule(alloc, env, ctx, room, a, b, m),
-            Node::Lambda(a, b) => self.lambda_rule(alloc, env, ctx, room, a, b, m),
-            Node::LetIn(b, ty, t) => self.let_rule(alloc, env, ctx, room, b, ty, t, m),
-            Node::App(f, a) => self.app_rule(alloc, env, ctx, room, f, a, m),
+            Node::Prod(a, b) => self.prod_rule(alloc, env, ctx, site, room, a, b, m),
+            Node::Lambda(a, b) => self.lambda_rule(alloc, env, ctx, site, room, a, b, m),
+            Node::LetIn(b, ty, t) => self.let_rule(alloc, env, ctx, site, room, b, ty, t, m),
+            Node::App(f, a) => self.app_rule(alloc, env, ctx, site, room, f, a, m),
             Node::Const(k) => const_rule(env, *k),
             Node::Ind(f) => family_rule(alloc, &self.made, env, *f),
             Node::Construct(f, c) => constructor_rule(alloc, &self.made, env, *f, *c),
-            Node::Case(x) => self.case_rule(alloc, env, ctx, room, x, m),
-            Node::Fix(ds, i) => self.fix_rule(alloc, env, ctx, room, t, ds, *i, m),
+            Node::Case(x) => self.case_rule(alloc, env, ctx, site, room, x, m),
+            Node::Fix(ds, i) => self.fix_rule(alloc, env, ctx, site, room, t, ds, *i, m),
         }
     }
 }

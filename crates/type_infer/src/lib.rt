@@ -15,7 +15,10 @@
 //! That comparison and guard are asked only for what their conditions allow comes from the laws of `rule_laws`: what has been inferred is
 //! a type, and it and the term are well counted (`inferred`, `counted`).
 //!
-//! Below stand `pc_rules` (the rules, the interfaces, environments and contexts), `rule_laws` (the laws of the directed rules), `instances`
+//! It infers at a site, too (`SiteTyper`): there it asks a table first for what was inferred before (`known_types`), and puts there what it infers.
+//! Without a site nothing is asked and nothing is kept.
+//!
+//! Below stand `pc_rules` (the rules, the interfaces, environments and contexts), `known_types` (the table), `rule_laws` (the laws of the directed rules), `instances`
 //! (types and entries formed from declarations), `pc_terms` and `universe_levels`, above the crates that check blocks and environments.
 #![tactic(auto)]
 

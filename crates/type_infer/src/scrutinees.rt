@@ -15,6 +15,7 @@ ghost use Rattle.type_infer.specs.Ready.{IsReady};
 use crate::conversions::conv;
 use crate::inference::Inference;
 use calculus_rules::declaration::{Block, Family};
+use known_types::sited::Sited;
 use pc_rules::broken::Broken;
 use pc_rules::context::Ctx;
 use pc_rules::converter::Converter;
@@ -95,11 +96,12 @@ pub fn family_at_indices(
 impl<R: Reducer + Drop, C: Converter + Drop, G: Guarder + Drop> Inference<R, C, G> {
     /// The found type of a scrutinee, in weak-head normal form, in place of the type that is asked for.
     #[cycle(infer)]
-    fn scrutinee_fits(
+    fn scrutinee_fits<S: Sited>(
         &self,
         alloc: Global,
         env: &Env,
         ctx: &Ctx,
+        site: &S,
         room: u32,
         found: &Term,
         asked: &Term,
@@ -107,6 +109,7 @@ impl<R: Reducer + Drop, C: Converter + Drop, G: Guarder + Drop> Inference<R, C, 
     ) -> Result<(), Halt>
         requires nest { room + m.old.nest ≡ 2048 }
         requires ready { IsReady env.now ctx.now }
+        requires site { S.is_of site.now env.now ctx.now }
         requires found { IsCounted env.now found.now }
         requires asked { IsCounted env.now asked.now }
         ensures follows { Follows (scrutinee_fits env.now (infer env.now (test_of env.now) room) (compare env.now (test_of env.now) room) ctx.now found.now asked.now m.old.account) result m.old m.new }
@@ -115,17 +118,18 @@ impl<R: Reducer + Drop, C: Converter + Drop, G: Guarder + Drop> Inference<R, C, 
             return Ok(());
         }
         conv(m)?;
-        self.sorted_at(alloc, env, ctx, room, asked, m)?;
+        self.sorted_at(alloc, env, ctx, site, room, asked, m)?;
         self.below(alloc, env, ctx, room, found, asked, m)
     }
 
     /// The indices at which the scrutinee of a match has the match's family. The parameters have been checked.
     #[cycle(infer)]
-    pub(crate) fn scrutinee_rule(
+    pub(crate) fn scrutinee_rule<S: Sited>(
         &self,
         alloc: Global,
         env: &Env,
         ctx: &Ctx,
+        site: &S,
         room: u32,
         block: &Block,
         family: &Family,
@@ -134,15 +138,16 @@ impl<R: Reducer + Drop, C: Converter + Drop, G: Guarder + Drop> Inference<R, C, 
     ) -> Result<Terms, Halt>
         requires nest { room + m.old.nest ≡ 2048 }
         requires ready { IsReady env.now ctx.now }
+        requires site { S.is_of site.now env.now ctx.now }
         requires params { AreCounted env.now x.now.params }
         ensures follows { Follows (scrutinee_rule env.now (infer env.now (test_of env.now) room) (compare env.now (test_of env.now) room) ctx.now x.now.family (with_parameters block.now.params family.now) x.now.params x.now.scrut m.old.account) result m.old m.new }
     {
-        let ty = self.infer_at(alloc, env, ctx, room, &x.scrut, m)?;
+        let ty = self.infer_at(alloc, env, ctx, site, room, &x.scrut, m)?;
         let whnf = self.reducer.whnf(alloc, env, ctx, &ty, m)?;
         let indices = found_indices(alloc, block, x.family, family, &whnf)?;
-        self.retype(alloc, env, ctx, room, &ty, &whnf, m)?;
+        self.retype(alloc, env, ctx, site, room, &ty, &whnf, m)?;
         let asked = family_at_indices(alloc, x.family, &x.params, &indices)?;
-        self.scrutinee_fits(alloc, env, ctx, room, &whnf, &asked, m)?;
+        self.scrutinee_fits(alloc, env, ctx, site, room, &whnf, &asked, m)?;
         Ok(indices)
     }
 }

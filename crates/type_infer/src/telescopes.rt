@@ -12,6 +12,7 @@ ghost use Rattle.type_infer.specs.Ready.{IsReady};
 
 use crate::inference::Inference;
 use calculus_rules::entry::Entry;
+use known_types::sited::Sited;
 use pc_rules::context::Ctx;
 use pc_rules::converter::Converter;
 use pc_rules::environment::Env;
@@ -26,17 +27,19 @@ use std::alloc::Global;
 impl<R: Reducer + Drop, C: Converter + Drop, G: Guarder + Drop> Inference<R, C, G> {
     /// The context with the entries of a telescope, of which each has a sort under those before it.
     #[cycle(infer)]
-    pub(crate) fn entered(
+    pub(crate) fn entered<S: Sited>(
         &self,
         alloc: Global,
         env: &Env,
         ctx: &Ctx,
+        site: &S,
         room: u32,
         entries: &Telescope,
         m: &mut Meter,
     ) -> Result<Ctx, Halt>
         requires nest { room + m.old.nest ≡ 2048 }
         requires ready { IsReady env.now ctx.now }
+        requires site { S.is_of site.now env.now ctx.now }
         ensures follows { Follows (entries_entered env.now (infer env.now (test_of env.now) room) ctx.now entries.now m.old.account) result m.old m.new }
         ensures longer { IfOk result (λ d. d ≡ extend ctx.now entries.now) }
         ensures ready { IfOk result (λ d. IsReady env.now d) }
@@ -45,7 +48,8 @@ impl<R: Reducer + Drop, C: Converter + Drop, G: Guarder + Drop> Inference<R, C, 
         let items = entries.as_slice();
         for i in 0..items.len() {
             let ty = &items[i];
-            self.sorted_at(alloc, env, &inner, room, ty, m)?;
+            let within = site.deeper(alloc, env, ctx, &inner);
+            self.sorted_at(alloc, env, &inner, &within, room, ty, m)?;
             let entry = Entry::Assumed(ty.share()?);
             inner = inner.extended(alloc, entry)?;
         }
@@ -54,11 +58,12 @@ impl<R: Reducer + Drop, C: Converter + Drop, G: Guarder + Drop> Inference<R, C, 
 
     /// Terms against a telescope: each against its type at the terms before it.
     #[cycle(infer)]
-    pub(crate) fn check_all(
+    pub(crate) fn check_all<S: Sited>(
         &self,
         alloc: Global,
         env: &Env,
         ctx: &Ctx,
+        site: &S,
         room: u32,
         terms: &Terms,
         telescope: &Telescope,
@@ -66,6 +71,7 @@ impl<R: Reducer + Drop, C: Converter + Drop, G: Guarder + Drop> Inference<R, C, 
     ) -> Result<(), Halt>
         requires nest { room + m.old.nest ≡ 2048 }
         requires ready { IsReady env.now ctx.now }
+        requires site { S.is_of site.now env.now ctx.now }
         requires counts { length terms.now ≡ length telescope.now }
         ensures follows { Follows (check_all env.now (infer env.now (test_of env.now) room) (compare env.now (test_of env.now) room) ctx.now Rel terms.now telescope.now m.old.account) result m.old m.new }
         ensures counted { IfOk result (λ _. AreCounted env.now terms.now) }
@@ -76,7 +82,7 @@ impl<R: Reducer + Drop, C: Converter + Drop, G: Guarder + Drop> Inference<R, C, 
         for i in 0..listed.len() {
             let term = &listed[i];
             let ty = types[i].subst_list(alloc, &before)?;
-            self.check_at(alloc, env, ctx, room, term, &ty, m)?;
+            self.check_at(alloc, env, ctx, site, room, term, &ty, m)?;
             before.push(term.share()?)?;
         }
         Ok(())

@@ -24,7 +24,7 @@ The stages are read, check, erase and drop, for callgrind stage_read, stage_chec
 #[inline(never)]
 fn stage_erase(accepted: &Accepted, meter: &mut Meter) -> Result<BoxProgram, EraseRefusal> {
     let typer = Inference::new(Closures, LazyCompare, Guard::new(Closures));
-    erase::program::erase(Global, &typer, &Closures, accepted, meter)
+    erase::program::erase_at_sites(Global, &typer, &Closures, accepted, meter)
 }
 
 /// Checks and erases a dump.

@@ -13,6 +13,7 @@ use Rattle.box_terms.specs.BoxLists.{arms_of as box_arms}
 use Rattle.erase.proofs.ArmRuns.{entries_err, entries_go, branch_context, arms_all, after_more, arms_stop, arms_memory, arms_next, arms_end, scrutinee_err, arms_err, case_done, case_within, constructors_counted, arm_is_less, arm_counted, args_counted, are_counted}
 use Rattle.box_terms.specs.declared.term.BoxDef.{BoxDef}
 use Rattle.erase.proofs.BodyRuns.{entries_counted, bodies_all, after_body, rargs_next, bodies_stop, bodies_next, bodies_end, fix_fault, fix_err, fix_done, fix_within, body_is_less, body_counted}
+use Rattle.known_types.proofs.Longer.{one_longer, extends_longer}
 use Rattle.erase.proofs.terms.Eraser.+erase.Goals as goal
 
 -- a term
@@ -303,3 +304,17 @@ bodies-returns-clause-follows g t c =
     let h : length c.as_slice-items.result.now ≤ c.loop-i.i = search rules in
     let whole = c.loop-i.invariant.rest _ _ (bodies_end c.args.env.now (infer c.args.env.now (test_of c.args.env.now) c.args.room) c.args.ctx.now (length c.as_slice-items.result.now) c.as_slice-items.result.now c.loop-i.i c.loop-i.m h) in
     rw (bodies_all (length c.as_slice-items.result.now) c.loop-i.out, c.as_slice-items.ensures.is) at whole
+
+-- sites of longer contexts
+
+pub lambda-deeper-within-requires-clause-longer : goal.lambda-deeper-within-requires-clause-longer
+lambda-deeper-within-requires-clause-longer g t c = one_longer _ _ _ c.in_ok-inner.ensures.longer
+
+pub let_in-deeper-within-requires-clause-longer : goal.let_in-deeper-within-requires-clause-longer
+let_in-deeper-within-requires-clause-longer g t c = one_longer _ _ _ c.in_ok-inner.ensures.longer
+
+pub branch-deeper-within-requires-clause-longer : goal.branch-deeper-within-requires-clause-longer
+branch-deeper-within-requires-clause-longer g t c = extends_longer _ _ c.in_ok-entries.entries c.in_ok-inner.ensures.longer
+
+pub fixpoint-deeper-within-requires-clause-longer : goal.fixpoint-deeper-within-requires-clause-longer
+fixpoint-deeper-within-requires-clause-longer g t c = extends_longer _ _ c.in_ok-entries.entries c.in_ok-inner.ensures.longer

@@ -1,5 +1,6 @@
 use Rattle.std.proofs.Common.{rules, arith, ◌≡◌, ◌∙◌, ap, ◌<◌, ◌-◌, ◌+◌, sym, length, ◌++◌, ◌∷◌, [], refl, Ok}
 use Rattle.pc_terms.specs.Syntax.{SortT, App}
+use Rattle.pc_terms.specs.Lists.{types_of}
 use Rattle.pc_rules.specs.DirectedRun.{noted}
 use Rattle.pc_rules.specs.DirectedTyping.{rule_number, sort_of, check, retype}
 use Rattle.pc_rules.proofs.Following.{follows_made, follows_fault, follows_memory, follows_then, follows_else, follows_done}
@@ -16,27 +17,38 @@ use Rattle.type_infer.proofs.Matching.{entered_next, entered_stop, entered_end, 
 use Rattle.std.proofs.lemmas.List.{take_all}
 use Rattle.pc_rules.specs.WellCounted.{IsCounted}
 use Rattle.rule_laws.proofs.Counted.{appended_counted}
+use Rattle.known_types.proofs.Longer.{one_longer, more_longer, extends_longer, defines_longer}
 use Rattle.type_infer.proofs.inference.Inference.+infer.Goals as goal
 use Rattle.pc_rules.proofs.ListSteps.{take_next}
 use Rattle.pc_rules.proofs.SameTrees.{same_yes, same_no}
 use Rattle.pc_terms.proofs.Parts.{rargs_length}
 
--- the start of an inference
-pub infer_at-returns-then-not-tick-clause-follows : goal.infer_at-returns-then-not-tick-clause-follows
-infer_at-returns-then-not-tick-clause-follows g t c = infer_spent _ _ _ _ c.args.room c.args.m.now _ (search rules) c.tick.ensures.account c.tick.ensures.nest
+-- what is known
+pub infer_at-returns-in-Some-clause-inferred : goal.infer_at-returns-in-Some-clause-inferred
+infer_at-returns-in-Some-clause-inferred g t c =
+    inferred_from _ _ _ c.requires.ready c.in-Some.ensures.formed c.args.room _ c.args.m.now _ (c.in-Some.ensures.gives c.args.env.now c.args.ctx.now c.requires.site)
 
-pub infer_at-returns-then-not-enter-clause-follows : goal.infer_at-returns-then-not-enter-clause-follows
-infer_at-returns-then-not-enter-clause-follows g t c =
+pub prefix_type-keep-requires : goal.prefix_type-keep-requires
+prefix_type-keep-requires g t c =
+    let f = rw c.requires.whole at (c.in_ok-ty.ensures.follows.pends (Ok _) c.in-Ok.ensures.making) in
+    record { run = (c.args.env.now, c.args.ctx.now, c.requires.site, f.answer) }
+
+-- the start of an inference
+pub infer_anew-returns-then-not-tick-clause-follows : goal.infer_anew-returns-then-not-tick-clause-follows
+infer_anew-returns-then-not-tick-clause-follows g t c = infer_spent _ _ _ _ c.args.room c.args.m.now _ (search rules) c.tick.ensures.account c.tick.ensures.nest
+
+pub infer_anew-returns-then-not-enter-clause-follows : goal.infer_anew-returns-then-not-enter-clause-follows
+infer_anew-returns-then-not-enter-clause-follows g t c =
     infer_nested _ _ _ _ c.args.room c.args.m.now c.tick.new.self c.enter.new.self (search rules) (search rules) c.tick.ensures.account c.tick.ensures.nest c.enter.ensures.account (search rules)
 
-pub infer_at-returns-clause-follows : goal.infer_at-returns-clause-follows
-infer_at-returns-clause-follows g t c =
+pub infer_anew-returns-clause-follows : goal.infer_anew-returns-clause-follows
+infer_anew-returns-clause-follows g t c =
     let n : c.note.new.self.account ≡ noted (rule_number c.args.t.now) c.enter.new.self.account = cc in
     infer_entered _ _ _ _ c.args.room (c.args.room - 1) _ c.args.m.now c.tick.new.self c.enter.new.self c.note.new.self c.rule-answer.new.m c.leave.new.self
     (search rules) (search rules) c.tick.ensures.account c.tick.ensures.nest c.enter.ensures.account (search rules) n c.note.ensures.nest c.rule-answer.ensures.follows c.leave.ensures.account c.leave.ensures.nest
 
-pub infer_at-returns-clause-inferred : goal.infer_at-returns-clause-inferred
-infer_at-returns-clause-inferred g t c =
+pub infer_anew-returns-clause-inferred : goal.infer_anew-returns-clause-inferred
+infer_anew-returns-clause-inferred g t c =
     let n : c.note.new.self.account ≡ noted (rule_number c.args.t.now) c.enter.new.self.account = cc in
     inferred_from _ _ _ c.requires.ready c.rule_number.ensures.formed c.args.room _ c.args.m.now c.leave.new.self
     (infer_entered _ _ _ _ c.args.room (c.args.room - 1) _ c.args.m.now c.tick.new.self c.enter.new.self c.note.new.self c.rule-answer.new.m c.leave.new.self
@@ -228,7 +240,7 @@ pub reduced_type-returns-in_default : goal.reduced_type-returns-in_default
 reduced_type-returns-in_default g t c = record { follows = pends_halts (and_then _ c.in_ok-whnf.ensures.follows (search rules)) }
 
 pub function_type-returns-in-App : goal.function_type-returns-in-App
-function_type-returns-in-App g t c = record { follows = rw (← c.view.ensures.is, c.in-App.is) c.inner_type.ensures.follows }
+function_type-returns-in-App g t c = record { follows = c.prefix_type.ensures.follows }
 
 pub function_type-returns-in_err-ty-in_default : goal.function_type-returns-in_err-ty-in_default
 function_type-returns-in_err-ty-in_default g t c = record { follows = pends_passed c.from_residual.ensures.1 c.in_err-ty-in_default.ensures.follows }
@@ -389,6 +401,9 @@ unfolding retype
 retype-returns g t c = record { follows = follows_else _ _ _ _ _ _ (same_no _ _ c.same.result c.same.ensures.is c.if-same.false) (and_then _ c.in_ok-conv.ensures.follows (and_then _ c.in_ok-sorted_at.ensures.follows.unread.1 (search rules))) }
 
 -- the types of the definitions of a fixpoint
+pub types_rule-loop-i-init : goal.types_rule-loop-i-init
+types_rule-loop-i-init g t c = rw c.in_ok-under.ensures.same (record { rest = λ r n x. x; nest = refl; under = refl; ready = c.requires.ready; deeper = ([], refl) })
+
 pub types_rule-sorted_at-requires : goal.types_rule-sorted_at-requires
 types_rule-sorted_at-requires g t c =
     let r = c.loop-i.invariant.ready in
@@ -420,6 +435,7 @@ types_rule-loop-i-preserved g t c =
       nest = c.in_ok-sorted_at.ensures.follows.after.nest ∙ c.loop-i.invariant.nest;
       under = c.loop-i.invariant.under ∙ rw e (definitions_next _ _ _ _ l c.index-items-i.is _ k);
       ready = rw e (assumed_ready _ _ _ c.loop-i.invariant.ready c.in_ok-sorted_at.ensures.counted);
+      deeper = rw e (more_longer _ _ _ c.loop-i.invariant.deeper);
     }
 
 pub types_rule-returns-clause-follows : goal.types_rule-returns-clause-follows
@@ -498,11 +514,12 @@ fix_rule-returns g t c =
 
 -- the entries of a telescope
 pub entered-loop-i-init : goal.entered-loop-i-init
-entered-loop-i-init g t c = rw c.in_ok-inner.ensures.same (record { rest = λ r n x. x; longer = λ i. extend c.args.ctx.now c.as_slice-items.result.now; ready = c.requires.ready; nest = λ i. c.args.m.now.nest })
+entered-loop-i-init g t c = rw c.in_ok-inner.ensures.same (record { rest = λ r n x. x; longer = λ i. extend c.args.ctx.now c.as_slice-items.result.now; ready = c.requires.ready; deeper = ([], refl); nest = λ i. c.args.m.now.nest })
 
 pub entered-loop-i-preserved : goal.entered-loop-i-preserved
 entered-loop-i-preserved g t c =
     rw (c.in_ok-inner-2.ensures.longer, c.in_ok-share.ensures.ok) (record {
+      deeper = more_longer _ _ _ c.loop-i.invariant.deeper;
       rest = λ r n x. c.loop-i.invariant.rest r n (entered_next _ _ _ _ _ _ _ r _ _ n c.loop-i-test.true c.index-items-i.is c.in_ok-sorted_at.ensures.follows.unread.1 x);
       longer = longer_next _ _ _ _ c.loop-i-test.true c.index-items-i.is ∙ c.loop-i.invariant.longer;
       ready = assumed_ready _ _ _ c.loop-i.invariant.ready c.in_ok-sorted_at.ensures.counted;
@@ -720,3 +737,28 @@ case_rule-returns g t c =
       follows = case_goes c.args.x.now _ _ _ _ b.block (b.found _) (and_then _ (still (c.in_ok-match_counted.ensures.answers _)) (and_then _ c.in_ok-check_all.ensures.follows
           (and_then _ c.in_ok-predicate_rule.ensures.follows (and_then _ c.in_ok-indices.ensures.follows (and_then _ c.in_ok-branches_rule.ensures.follows (follows_made _ _ _ c.in_ok-pred_at.ensures.ok))))));
     }
+
+-- sites of longer contexts
+pub prod_rule-deeper-within-requires-clause-longer : goal.prod_rule-deeper-within-requires-clause-longer
+prod_rule-deeper-within-requires-clause-longer g t c = one_longer _ _ _ c.in_ok-under.ensures.longer
+
+pub lambda_rule-deeper-within-requires-clause-longer : goal.lambda_rule-deeper-within-requires-clause-longer
+lambda_rule-deeper-within-requires-clause-longer g t c = one_longer _ _ _ c.in_ok-under.ensures.longer
+
+pub let_rule-deeper-within-requires-clause-longer : goal.let_rule-deeper-within-requires-clause-longer
+let_rule-deeper-within-requires-clause-longer g t c = one_longer _ _ _ c.in_ok-under.ensures.longer
+
+pub predicate_rule-deeper-within-requires-clause-longer : goal.predicate_rule-deeper-within-requires-clause-longer
+predicate_rule-deeper-within-requires-clause-longer g t c = extends_longer _ _ c.in_ok-entries.entries c.in_ok-inner.ensures.longer
+
+pub branch_rule-deeper-within-requires-clause-longer : goal.branch_rule-deeper-within-requires-clause-longer
+branch_rule-deeper-within-requires-clause-longer g t c = extends_longer _ _ c.in_ok-entries.entries c.in_ok-inner.ensures.longer
+
+pub entered-deeper-within-requires-clause-longer : goal.entered-deeper-within-requires-clause-longer
+entered-deeper-within-requires-clause-longer g t c = c.loop-i.invariant.deeper
+
+pub types_rule-deeper-within-requires-clause-longer : goal.types_rule-deeper-within-requires-clause-longer
+types_rule-deeper-within-requires-clause-longer g t c = c.loop-i.invariant.deeper
+
+pub fix_rule-deeper-within-requires-clause-longer : goal.fix_rule-deeper-within-requires-clause-longer
+fix_rule-deeper-within-requires-clause-longer g t c = defines_longer _ _ 0 (types_of c.args.defs.now) c.in_ok-under.ensures.under

@@ -17,7 +17,7 @@ use Rattle.erase.specs.HaltPlaces.{IsAtBody, IsAt, at_main, at_body, HaltsIn}
 use Rattle.erase.proofs.HaltRuns.{none_by, halts_in, halts_on}
 use Rattle.erase.proofs.WholeRuns.{main_halts, walk_halts, axiom_answered, program_answered}
 use Rattle.erase.proofs.Sources.{programs_no_greater}
-use Rattle.erase.proofs.program.erase.Goals as goal
+use Rattle.erase.proofs.program.erase_at_sites.Goals as goal
 
 pub erased_at-requires-clause-env : goal.erased_at-requires-clause-env
 erased_at-requires-clause-env g c = accepted_counted c.args.acc.now.env c.requires.accepted

@@ -1,0 +1,5 @@
+mod Numbers
+mod Counts
+pub mod Longer
+mod Giving
+mod Worlds

@@ -1,0 +1,4 @@
+pub mod Sites
+pub mod Located
+pub mod Knowing
+pub mod Raising
