@@ -3,15 +3,15 @@ ghost use Rattle.std.specs.Prelude.{◌≡◌, ◌+◌, IfOk};
 ghost use Rattle.universe_levels.specs.Consistency.{IsSortOver, AreOver};
 ghost use Rattle.pc_rules.specs.declared.meter.Account.{Account};
 ghost use Rattle.calculus_rules.specs.Context.{extend};
-ghost use Rattle.pc_rules.specs.DirectedTyping.{infer};
-ghost use Rattle.pc_rules.specs.DirectedDeclarations.{fits_sort, positive_rule, arguments_rule};
+ghost use Rattle.pc_rules.specs.DirectedDeclarations.{fits_sort, positive_rule};
 ghost use Rattle.pc_rules.specs.Entailment.{test_of};
 ghost use Rattle.pc_rules.specs.Follows.{Follows, Answers};
 ghost use Rattle.pc_rules.specs.WellCounted.{IsCounted, AreCounted, IsCountedContext, IsCountedEnv};
-ghost use Rattle.inductive_check.specs.Arguments.{argument_rule};
+ghost use Rattle.inductive_check.specs.Arguments.{argument_within, arguments_within};
 
 use crate::listing::push;
 use crate::positivity::is_positive;
+use crate::setting::BlockSetting;
 use crate::telescope::assume;
 use crate::types::sort_of;
 use calculus_rules::declaration::Sorts;
@@ -75,54 +75,48 @@ pub fn positive_at(
 /// `Typer::sort_of`, then `SortTooSmall`, then `NotPositive`.
 fn argument<T: Typer>(
     alloc: Global,
-    typer: &T,
-    env: &Env,
-    room: u32,
+    setting: &BlockSetting<'_, T>,
     ctx: &Ctx,
-    block: Name,
     at: CtorPlace,
     family: &Sort,
     ty: &Term,
     m: &mut Meter,
 ) -> Result<Sort, Halt>
-    requires nest { room + m.old.nest ≡ 2048 }
-    requires env { IsCountedEnv env.now }
-    requires ctx { IsCountedContext env.now ctx.now }
-    requires family { IsSortOver env.now.levels family.now }
-    ensures follows { Follows (argument_rule env.now (test_of env.now) (infer env.now (test_of env.now) room) block at.family at.ctor family.now ctx.now ty.now m.old.account) result m.old m.new }
-    ensures counted { IfOk result (λ _. IsCounted env.now ty.now) }
+    requires nest { setting.now.room + m.old.nest ≡ 2048 }
+    requires env { IsCountedEnv setting.now.env.now }
+    requires ctx { IsCountedContext setting.now.env.now ctx.now }
+    requires family { IsSortOver setting.now.env.now.levels family.now }
+    ensures follows { Follows (argument_within setting.now.env.now setting.now.room setting.now.block at.family at.ctor family.now ctx.now ty.now m.old.account) result m.old m.new }
+    ensures counted { IfOk result (λ _. IsCounted setting.now.env.now ty.now) }
 {
-    let sort = sort_of(alloc, typer, env, room, ctx, ty, m)?;
-    fits_sort(alloc, env, &sort, family)?;
-    positive_at(alloc, env, block, at, ty, m)?;
+    let sort = sort_of(alloc, setting.typer, setting.env, setting.room, ctx, ty, m)?;
+    fits_sort(alloc, setting.env, &sort, family)?;
+    positive_at(alloc, setting.env, setting.block, at, ty, m)?;
     Ok(sort)
 }
 
 /// The sorts of the arguments of a constructor, each in turn with the refusals of `argument`, and puts each into the context.
 pub(crate) fn arguments<T: Typer>(
     alloc: Global,
-    typer: &T,
-    env: &Env,
-    room: u32,
+    setting: &BlockSetting<'_, T>,
     ctx: &mut Ctx,
-    block: Name,
     at: CtorPlace,
     family: &Sort,
     args: &Telescope,
     m: &mut Meter,
 ) -> Result<Sorts, Halt>
-    requires nest { room + m.old.nest ≡ 2048 }
-    requires env { IsCountedEnv env.now }
-    requires ctx { IsCountedContext env.now ctx.old }
-    requires family { IsSortOver env.now.levels family.now }
-    ensures follows { Follows (arguments_rule env.now (test_of env.now) (infer env.now (test_of env.now) room) block at.family at.ctor family.now ctx.old args.now m.old.account) result m.old m.new }
+    requires nest { setting.now.room + m.old.nest ≡ 2048 }
+    requires env { IsCountedEnv setting.now.env.now }
+    requires ctx { IsCountedContext setting.now.env.now ctx.old }
+    requires family { IsSortOver setting.now.env.now.levels family.now }
+    ensures follows { Follows (arguments_within setting.now.env.now setting.now.room setting.now.block at.family at.ctor family.now ctx.old args.now m.old.account) result m.old m.new }
     ensures longer { IfOk result (λ _. ctx.new ≡ extend ctx.old args.now) }
-    ensures counted { IfOk result (λ _. AreCounted env.now args.now) }
-    ensures context { IfOk result (λ _. IsCountedContext env.now ctx.new) }
+    ensures counted { IfOk result (λ _. AreCounted setting.now.env.now args.now) }
+    ensures context { IfOk result (λ _. IsCountedContext setting.now.env.now ctx.new) }
 {
     let mut sorts = Vec::new(alloc);
     for ty in args.as_slice() {
-        let sort = argument(alloc, typer, env, room, ctx, block, at, family, ty, m)?;
+        let sort = argument(alloc, setting, ctx, at, family, ty, m)?;
         push(&mut sorts, sort)?;
         assume(alloc, ctx, ty)?;
     }

@@ -11,6 +11,7 @@ ghost use Rattle.inductive_check.specs.Given.{IsRawBlock, block_of, block_from};
 
 use crate::constructors::check_families;
 use crate::heads::{check_heads, heads};
+use crate::setting::BlockSetting;
 use crate::sharing::shared_telescope;
 use crate::telescope::enter;
 use calculus_rules::declaration::Block;
@@ -49,28 +50,47 @@ pub fn with_heads(
 #[tactic(auto, using(crate::proofs::Leading::after_laws))]
 fn check_parts<T: Typer>(
     alloc: Global,
-    typer: &T,
-    env: &Env,
-    room: u32,
-    name: Name,
+    setting: &BlockSetting<'_, T>,
     params: &Telescope,
     families: &RawFamilies,
     m: &mut Meter,
 ) -> Result<Block, Halt>
-    requires nest { room + m.old.nest ≡ 2048 }
-    requires env { IsCountedEnv env.now }
-    requires new { IsNew env.now name }
-    ensures follows { Follows (block_rule env.now (test_of env.now) room (block_from name params.now families.now) m.old.account) result m.old m.new }
-    ensures formed { IfOk result (λ _. BlockFormed (block_from name params.now families.now)) }
+    requires nest { setting.now.room + m.old.nest ≡ 2048 }
+    requires env { IsCountedEnv setting.now.env.now }
+    requires new { IsNew setting.now.env.now setting.now.block }
+    ensures follows { Follows (block_rule setting.now.env.now (test_of setting.now.env.now) setting.now.room (block_from setting.now.block params.now families.now) m.old.account) result m.old m.new }
+    ensures formed { IfOk result (λ _. BlockFormed (block_from setting.now.block params.now families.now)) }
 {
     let mut ctx = Ctx::new();
-    enter(alloc, typer, env, room, &mut ctx, params, m)?;
-    check_heads(alloc, typer, env, room, &ctx, families, m)?;
-    let under = with_heads(alloc, env, name, params, families)?;
-    let families = check_families(alloc, typer, &under, room, &ctx, name, families, m)?;
+    enter(
+        alloc,
+        setting.typer,
+        setting.env,
+        setting.room,
+        &mut ctx,
+        params,
+        m,
+    )?;
+    check_heads(
+        alloc,
+        setting.typer,
+        setting.env,
+        setting.room,
+        &ctx,
+        families,
+        m,
+    )?;
+    let under = with_heads(alloc, setting.env, setting.block, params, families)?;
+    let inner = BlockSetting {
+        typer: setting.typer,
+        env: &under,
+        room: setting.room,
+        block: setting.block,
+    };
+    let families = check_families(alloc, &inner, &ctx, families, m)?;
     let params = shared_telescope(alloc, params)?;
     Ok(Block {
-        name,
+        name: setting.block,
         params,
         families,
     })
@@ -109,7 +129,15 @@ pub fn check_block<T: Typer, R: Reducer>(
             name,
             params,
             families,
-        } => check_parts(alloc, typer, env, room, *name, params, families, m),
+        } => {
+            let setting = BlockSetting {
+                typer,
+                env,
+                room,
+                block: *name,
+            };
+            check_parts(alloc, &setting, params, families, m)
+        }
         RawDecl::Constant { .. } => unreachable!(),
     }
 }

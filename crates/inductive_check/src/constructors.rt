@@ -6,25 +6,23 @@ ghost use Rattle.pc_rules.specs.declared.meter.Account.{Account};
 ghost use Rattle.pc_rules.specs.declared.stop.Stop.TheVariants.{Memory};
 ghost use Rattle.calculus_rules.specs.Context.{extend};
 ghost use Rattle.calculus_rules.specs.Environment.{head_of};
-ghost use Rattle.pc_rules.specs.DirectedComparison.{compare};
-ghost use Rattle.pc_rules.specs.DirectedTyping.{infer};
-ghost use Rattle.pc_rules.specs.DirectedDeclarations.{constructor_rule, constructors_rule, families_rule, with_sorts, with_constructors, result_names};
-ghost use Rattle.pc_rules.specs.Entailment.{test_of};
+ghost use Rattle.pc_rules.specs.DirectedDeclarations.{with_sorts, with_constructors, result_names};
 ghost use Rattle.pc_rules.specs.Follows.{Follows, Answers, IsAfter};
 ghost use Rattle.pc_rules.specs.WellCounted.{AreCounted, AreCountedFamilies, IsCountedContext, IsCountedEnv};
 ghost use Rattle.rule_laws.specs.Declarations.{ConstructorsFormed, FamiliesFormed};
+ghost use Rattle.inductive_check.specs.Arguments.{constructor_within, constructors_within, families_within};
 ghost use Rattle.inductive_check.specs.Given.{ctor_of, family_of};
 
 use crate::arguments::{CtorPlace, arguments};
 use crate::listing::{number, push};
 use crate::results::{check_results, counted};
+use crate::setting::BlockSetting;
 use crate::sharing::{shared_telescope, shared_terms};
 use calculus_rules::declaration::{Constructor, Constructors, Families, Family, Sorts};
 use calculus_rules::target::Target;
 use dump_reader::declaration::{RawCtor, RawFamilies, RawFamily};
 use pc_rules::broken::Broken;
 use pc_rules::context::Ctx;
-use pc_rules::environment::Env;
 use pc_rules::meter::Meter;
 use pc_rules::naming::some_names;
 use pc_rules::stop::{Halt, Stop};
@@ -63,51 +61,35 @@ pub fn with_sorts(alloc: Global, ctor: &RawCtor, arg_sorts: Sorts) -> Result<Con
 #[tactic(auto, using(crate::proofs::Leading::after_laws))]
 fn check_constructor<T: Typer>(
     alloc: Global,
-    typer: &T,
-    env: &Env,
-    room: u32,
+    setting: &BlockSetting<'_, T>,
     ctx: &Ctx,
-    block: Name,
     at: CtorPlace,
     family: &RawFamily,
     ctor: &RawCtor,
     m: &mut Meter,
 ) -> Result<Constructor, Halt>
-    requires nest { room + m.old.nest ≡ 2048 }
-    requires env { IsCountedEnv env.now }
-    requires ctx { IsCountedContext env.now ctx.now }
-    requires sort { IsSortOver env.now.levels family.now.sort }
-    ensures follows { (B : Block) → B.name ≡ block → extend [] B.params ≡ ctx.now → Follows (constructor_rule env.now (test_of env.now) (infer env.now (test_of env.now) room) (compare env.now (test_of env.now) room) B (family_of family.now) at.family at.ctor (ctor_of ctor.now) m.old.account) result m.old m.new }
+    requires nest { setting.now.room + m.old.nest ≡ 2048 }
+    requires env { IsCountedEnv setting.now.env.now }
+    requires ctx { IsCountedContext setting.now.env.now ctx.now }
+    requires sort { IsSortOver setting.now.env.now.levels family.now.sort }
+    ensures follows { (B : Block) → B.name ≡ setting.now.block → extend [] B.params ≡ ctx.now → Follows (constructor_within setting.now.env.now setting.now.room B (family_of family.now) at.family at.ctor (ctor_of ctor.now) m.old.account) result m.old m.new }
     ensures after { IsAfter m.old m.new }
-    ensures counted { IfOk result (λ _. AreCounted env.now ctor.now.args × AreCounted env.now ctor.now.result) }
+    ensures counted { IfOk result (λ _. AreCounted setting.now.env.now ctor.now.args × AreCounted setting.now.env.now ctor.now.result) }
 {
     let mut inner = ctx.share()?;
-    let arg_sorts = arguments(
-        alloc,
-        typer,
-        env,
-        room,
-        &mut inner,
-        block,
-        at,
-        &family.sort,
-        &ctor.args,
-        m,
-    )?;
+    let arg_sorts = arguments(alloc, setting, &mut inner, at, &family.sort, &ctor.args, m)?;
     counted(family.indices.len(), ctor.result.len())?;
     let args = number(ctor.args.len())?;
     check_results(
         alloc,
-        typer,
-        env,
-        room,
+        setting,
         &inner,
         args,
         &ctor.result,
         &family.indices,
         m,
     )?;
-    names_none(block, at, &ctor.result)?;
+    names_none(setting.block, at, &ctor.result)?;
     Ok(with_sorts(alloc, ctor, arg_sorts)?)
 }
 
@@ -115,20 +97,17 @@ fn check_constructor<T: Typer>(
 #[tactic(auto, using(crate::proofs::Leading::after_laws))]
 fn check_constructors<T: Typer>(
     alloc: Global,
-    typer: &T,
-    env: &Env,
-    room: u32,
+    setting: &BlockSetting<'_, T>,
     ctx: &Ctx,
-    block: Name,
     place: u32,
     family: &RawFamily,
     m: &mut Meter,
 ) -> Result<Constructors, Halt>
-    requires nest { room + m.old.nest ≡ 2048 }
-    requires env { IsCountedEnv env.now }
-    requires ctx { IsCountedContext env.now ctx.now }
-    requires sort { IsSortOver env.now.levels family.now.sort }
-    ensures follows { (B : Block) → B.name ≡ block → extend [] B.params ≡ ctx.now → Follows (constructors_rule env.now (test_of env.now) (infer env.now (test_of env.now) room) (compare env.now (test_of env.now) room) B (family_of family.now) place 0 (map ctor_of family.now.ctors) m.old.account) result m.old m.new }
+    requires nest { setting.now.room + m.old.nest ≡ 2048 }
+    requires env { IsCountedEnv setting.now.env.now }
+    requires ctx { IsCountedContext setting.now.env.now ctx.now }
+    requires sort { IsSortOver setting.now.env.now.levels family.now.sort }
+    ensures follows { (B : Block) → B.name ≡ setting.now.block → extend [] B.params ≡ ctx.now → Follows (constructors_within setting.now.env.now setting.now.room B (family_of family.now) place 0 (map ctor_of family.now.ctors) m.old.account) result m.old m.new }
     ensures after { IsAfter m.old m.new }
     ensures formed { IfOk result (λ _. ConstructorsFormed (map ctor_of family.now.ctors)) }
 {
@@ -139,9 +118,7 @@ fn check_constructors<T: Typer>(
             family: place,
             ctor: number(n)?,
         };
-        let ctor = check_constructor(
-            alloc, typer, env, room, ctx, block, at, family, &ctors[n], m,
-        )?;
+        let ctor = check_constructor(alloc, setting, ctx, at, family, &ctors[n], m)?;
         push(&mut out, ctor)?;
     }
     Ok(Constructors::of(out))
@@ -168,19 +145,16 @@ pub fn with_constructors(
 #[tactic(auto, using(crate::proofs::Leading::after_laws))]
 pub(crate) fn check_families<T: Typer>(
     alloc: Global,
-    typer: &T,
-    env: &Env,
-    room: u32,
+    setting: &BlockSetting<'_, T>,
     ctx: &Ctx,
-    block: Name,
     families: &RawFamilies,
     m: &mut Meter,
 ) -> Result<Families, Halt>
-    requires nest { room + m.old.nest ≡ 2048 }
-    requires env { IsCountedEnv env.now }
-    requires ctx { IsCountedContext env.now ctx.now }
-    requires heads { AreCountedFamilies env.now (map head_of (map family_of families.now)) }
-    ensures follows { (B : Block) → B.name ≡ block → extend [] B.params ≡ ctx.now → Follows (families_rule env.now (test_of env.now) (infer env.now (test_of env.now) room) (compare env.now (test_of env.now) room) B 0 (map family_of families.now) m.old.account) result m.old m.new }
+    requires nest { setting.now.room + m.old.nest ≡ 2048 }
+    requires env { IsCountedEnv setting.now.env.now }
+    requires ctx { IsCountedContext setting.now.env.now ctx.now }
+    requires heads { AreCountedFamilies setting.now.env.now (map head_of (map family_of families.now)) }
+    ensures follows { (B : Block) → B.name ≡ setting.now.block → extend [] B.params ≡ ctx.now → Follows (families_within setting.now.env.now setting.now.room B 0 (map family_of families.now) m.old.account) result m.old m.new }
     ensures after { IsAfter m.old m.new }
     ensures formed { IfOk result (λ _. FamiliesFormed (map family_of families.now)) }
 {
@@ -188,7 +162,7 @@ pub(crate) fn check_families<T: Typer>(
     let items = families.as_slice();
     for f in 0..items.len() {
         let family = &items[f];
-        let ctors = check_constructors(alloc, typer, env, room, ctx, block, number(f)?, family, m)?;
+        let ctors = check_constructors(alloc, setting, ctx, number(f)?, family, m)?;
         push(&mut out, with_constructors(alloc, family, ctors)?)?;
     }
     Ok(Families::of(out))

@@ -5,9 +5,9 @@
 //! rule, and it leaves the units and the uses of rules that these leave; and a block that it gives fits by the rules of well-formed
 //! environments (`fits`). A new block is looked at in two rounds: its heads (`heads`: parameters, then for each family the names of its
 //! constructors, its sort and its indices) over the environment, and its constructors (`constructors`: arguments, then result terms) over the
-//! environment in which the families are known by their types alone. Positivity goes through the kept blocks in which the families are nested:
-//! `positivity` says what a type or an argument comes to, `places` which parameters are named by a block's types, and `waiting` keeps the
-//! tests that are still to be made.
+//! environment in which the families are known by their types alone. What stays the same in a round is its `setting`. Positivity goes
+//! through the kept blocks in which the families are nested: `positivity` says what a type or an argument comes to, `places` which parameters
+//! are named by a block's types, and `waiting` keeps the tests that are still to be made.
 //!
 //! Below stand `pc_rules` (the rules, environments and contexts), `rule_laws` (the directed rules are sound), `instances` (terms put in for
 //! variables) and `dump_reader` (declarations as they are read), above the crate that judges whole environments.
@@ -24,6 +24,7 @@ mod places;
 pub mod positive;
 mod positivity;
 mod results;
+mod setting;
 pub mod sharing;
 pub mod telescope;
 mod types;

@@ -2,17 +2,16 @@
 ghost use Rattle.std.specs.Prelude.{◌≡◌, ◌+◌, length, IfOk};
 ghost use Rattle.pc_terms.specs.Syntax.{Rel};
 ghost use Rattle.pc_rules.specs.declared.meter.Account.{Account};
-ghost use Rattle.pc_rules.specs.DirectedComparison.{compare};
-ghost use Rattle.pc_rules.specs.DirectedTyping.{infer, counted, check_all};
-ghost use Rattle.pc_rules.specs.Entailment.{test_of};
+ghost use Rattle.pc_rules.specs.DirectedTyping.{counted};
 ghost use Rattle.pc_rules.specs.Follows.{Follows, Answers};
 ghost use Rattle.pc_rules.specs.WellCounted.{AreCounted, IsCountedContext, IsCountedEnv};
+ghost use Rattle.inductive_check.specs.Arguments.{results_within};
 
+use crate::setting::BlockSetting;
 use crate::types::check;
 use instances::instances::replacing::replace;
 use pc_rules::broken::Broken;
 use pc_rules::context::Ctx;
-use pc_rules::environment::Env;
 use pc_rules::meter::Meter;
 use pc_rules::stop::{Halt, Stop};
 use pc_rules::typer::Typer;
@@ -39,21 +38,19 @@ pub(crate) fn counted(want: usize, got: usize) -> Result<(), Halt>
 /// where such a type is beyond the limits of terms.
 pub(crate) fn check_results<T: Typer>(
     alloc: Global,
-    typer: &T,
-    env: &Env,
-    room: u32,
+    setting: &BlockSetting<'_, T>,
     ctx: &Ctx,
     args: u32,
     result_terms: &Terms,
     indices: &Telescope,
     m: &mut Meter,
 ) -> Result<(), Halt>
-    requires nest { room + m.old.nest ≡ 2048 }
-    requires env { IsCountedEnv env.now }
-    requires ctx { IsCountedContext env.now ctx.now }
+    requires nest { setting.now.room + m.old.nest ≡ 2048 }
+    requires env { IsCountedEnv setting.now.env.now }
+    requires ctx { IsCountedContext setting.now.env.now ctx.now }
     requires count { length indices.now ≡ length result_terms.now }
-    ensures follows { Follows (check_all env.now (infer env.now (test_of env.now) room) (compare env.now (test_of env.now) room) ctx.now (λ i. Rel (args + i)) result_terms.now indices.now m.old.account) result m.old m.new }
-    ensures counted { IfOk result (λ _. AreCounted env.now result_terms.now) }
+    ensures follows { Follows (results_within setting.now.env.now setting.now.room ctx.now (λ i. Rel (args + i)) result_terms.now indices.now m.old.account) result m.old m.new }
+    ensures counted { IfOk result (λ _. AreCounted setting.now.env.now result_terms.now) }
 {
     let terms = result_terms.as_slice();
     let types = indices.as_slice();
@@ -61,7 +58,7 @@ pub(crate) fn check_results<T: Typer>(
     for i in 0..terms.len() {
         let term = &terms[i];
         let ty = replace(alloc, &types[i], args, &before)?;
-        check(alloc, typer, env, room, ctx, term, &ty, m)?;
+        check(alloc, setting, ctx, term, &ty, m)?;
         before.push(term.share()?)?;
     }
     Ok(())

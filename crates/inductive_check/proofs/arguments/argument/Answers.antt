@@ -11,7 +11,7 @@ returns-in_err-sort-clause-follows g c = search (rules, follows_err)
 pub returns-in_err-fits_sort-clause-follows : goal.returns-in_err-fits_sort-clause-follows
 returns-in_err-fits_sort-clause-follows g c =
     let m = c.sort_of.new.m in
-    let f = still_stops (fits_sort (test_of c.args.env.now) c.args.family.now c.in_ok-sort.sort m.account) c.in_err-fits_sort.field-0.0 m (c.in_err-fits_sort.ensures.answers m.account) in
+    let f = still_stops (fits_sort (test_of c.args.setting.now.env.now) c.args.family.now c.in_ok-sort.sort m.account) c.in_err-fits_sort.field-0.0 m (c.in_err-fits_sort.ensures.answers m.account) in
     follows_bind _ _ _ _ _ _ _ c.in_ok-sort.ensures.follows (search (rules, follows_err))
 
 pub returns-in_err-positive_at-clause-follows : goal.returns-in_err-positive_at-clause-follows

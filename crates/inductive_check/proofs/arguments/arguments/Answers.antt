@@ -20,7 +20,7 @@ loop-ty-init g c = record {
 
 pub returns-in_err-sort-clause-follows : goal.returns-in_err-sort-clause-follows
 returns-in_err-sort-clause-follows g c =
-    let E = c.args.env.now in
+    let E = c.args.setting.now.env.now in
     let at = c.args.at in
     let As = c.args.args.now in
     let i = c.loop-ty.ty-index in
@@ -28,14 +28,14 @@ returns-in_err-sort-clause-follows g c =
     let lt : i < length As = grind arith in
     let is : A ≡ get_or As i A = cc in
     let before = c.loop-ty.invariant in
-    let inf = infer E (test_of E) c.args.room in
-    let stop = arguments_stop E (test_of E) inf c.args.block at.family at.ctor c.args.family.now c.loop-ty.ctx As i c.loop-ty.m.account A lt is _ c.loop-ty.sorts.items
+    let inf = infer E (test_of E) c.args.setting.now.room in
+    let stop = arguments_stop E (test_of E) inf c.args.setting.now.block at.family at.ctor c.args.family.now c.loop-ty.ctx As i c.loop-ty.m.account A lt is _ c.loop-ty.sorts.items
     c.in_err-sort.field-0.0 c.args.m.now c.loop-ty.m c.argument.new.m before.leads before.after c.in_err-sort.ensures.follows in
     search rules
 
 pub loop-ty-preserved : goal.loop-ty-preserved
 loop-ty-preserved g c =
-    let E = c.args.env.now in
+    let E = c.args.setting.now.env.now in
     let at = c.args.at in
     let As = c.args.args.now in
     let i = c.loop-ty.ty-index in
@@ -44,9 +44,9 @@ loop-ty-preserved g c =
     let is : A ≡ get_or As i A = cc in
     let before = c.loop-ty.invariant in
     let longer : c.assume.new.ctx ≡ Assumed A ∷ c.loop-ty.ctx = c.in_ok-assume.ensures.longer in
-    let inf = infer E (test_of E) c.args.room in
+    let inf = infer E (test_of E) c.args.setting.now.room in
     let f = c.in_ok-sort.ensures.follows in
-    let next = arguments_next E (test_of E) inf c.args.block at.family at.ctor c.args.family.now c.loop-ty.ctx As i c.loop-ty.m.account A lt is _ c.loop-ty.sorts.items
+    let next = arguments_next E (test_of E) inf c.args.setting.now.block at.family at.ctor c.args.family.now c.loop-ty.ctx As i c.loop-ty.m.account A lt is _ c.loop-ty.sorts.items
     c.in_ok-sort.sort c.argument.new.m.account before.leads f.answer in
     record {
       leads = rw (longer, c.in_ok-push.ensures.longer) next;
@@ -57,18 +57,18 @@ loop-ty-preserved g c =
 
 pub returns-clause-follows : goal.returns-clause-follows
 returns-clause-follows g c =
-    let E = c.args.env.now in
+    let E = c.args.setting.now.env.now in
     let at = c.args.at in
     let As = c.args.args.now in
     let ge : length As ≤ c.loop-ty.ty-index = grind arith in
     let m = c.loop-ty.m in
-    let inf = infer E (test_of E) c.args.room in
-    let over = arguments_over E (test_of E) inf c.args.block at.family at.ctor c.args.family.now c.loop-ty.ctx As c.loop-ty.ty-index m.account ge in
+    let inf = infer E (test_of E) c.args.setting.now.room in
+    let over = arguments_over E (test_of E) inf c.args.setting.now.block at.family at.ctor c.args.family.now c.loop-ty.ctx As c.loop-ty.ty-index m.account ge in
     rw c.of.ensures.is (collect_end _ c.loop-ty.sorts.items _ c.args.m.now m over c.loop-ty.invariant.leads c.loop-ty.invariant.after)
 
 pub returns-clause-counted : goal.returns-clause-counted
 returns-clause-counted g c =
-    let E = c.args.env.now in
+    let E = c.args.setting.now.env.now in
     let As = c.args.args.now in
     let ge : length As ≤ c.loop-ty.ty-index = grind arith in
     let same : extend c.args.ctx.now As ≡ c.loop-ty.ctx = c.loop-ty.invariant.longer ∙ ap (λ xs. extend c.loop-ty.ctx xs) (none_left As c.loop-ty.ty-index ge) in

@@ -9,56 +9,56 @@ use Rattle.inductive_check.proofs.block.check_parts.Goals as goal
 
 pub returns-in_err-enter-clause-follows : goal.returns-in_err-enter-clause-follows
 returns-in_err-enter-clause-follows g c =
-    let E = c.args.env.now in
-    let B = block_from c.args.name c.args.params.now c.args.families.now in
+    let E = c.args.setting.now.env.now in
+    let B = block_from c.args.setting.now.block c.args.params.now c.args.families.now in
     let f = rw c.new-ctx.ensures.empty at c.in_err-enter.ensures.follows in
-    rw (block_run E (test_of E) c.args.room B c.args.m.now.account) (search (rules, follows_err))
+    rw (block_run E (test_of E) c.args.setting.now.room B c.args.m.now.account) (search (rules, follows_err))
 
 pub returns-in_err-check_heads-clause-follows : goal.returns-in_err-check_heads-clause-follows
 returns-in_err-check_heads-clause-follows g c =
-    let E = c.args.env.now in
-    let B = block_from c.args.name c.args.params.now c.args.families.now in
+    let E = c.args.setting.now.env.now in
+    let B = block_from c.args.setting.now.block c.args.params.now c.args.families.now in
     let f1 = rw c.new-ctx.ensures.empty at c.in_ok-enter.ensures.follows in
     let ep : extend [] c.args.params.now ≡ c.enter.new.ctx = sym (c.in_ok-enter.ensures.longer ∙ ap (λ d. extend d c.args.params.now) c.new-ctx.ensures.empty) in
     let f2 = c.in_err-check_heads.ensures.follows B ep in
-    rw (block_run E (test_of E) c.args.room B c.args.m.now.account) (follows_bind _ _ _ _ _ _ _ f1 (search (rules, follows_err)))
+    rw (block_run E (test_of E) c.args.setting.now.room B c.args.m.now.account) (follows_bind _ _ _ _ _ _ _ f1 (search (rules, follows_err)))
 
 pub check_families-requires-clause-env : goal.check_families-requires-clause-env
 check_families-requires-clause-env g c =
     rw c.in_ok-under.ensures.ok
-    (heads_env c.args.env.now c.requires.env c.args.name c.args.params.now c.args.families.now c.requires.new c.in_ok-enter.ensures.counted c.in_ok-check_heads.ensures.counted)
+    (heads_env c.args.setting.now.env.now c.requires.env c.args.setting.now.block c.args.params.now c.args.families.now c.requires.new c.in_ok-enter.ensures.counted c.in_ok-check_heads.ensures.counted)
 
 pub check_families-requires-clause-ctx : goal.check_families-requires-clause-ctx
 check_families-requires-clause-ctx g c =
     rw c.in_ok-under.ensures.ok
-    (heads_context c.args.env.now c.requires.env c.args.name c.args.params.now c.args.families.now c.requires.new c.enter.new.ctx c.in_ok-enter.ensures.context)
+    (heads_context c.args.setting.now.env.now c.requires.env c.args.setting.now.block c.args.params.now c.args.families.now c.requires.new c.enter.new.ctx c.in_ok-enter.ensures.context)
 
 pub check_families-requires-clause-heads : goal.check_families-requires-clause-heads
 check_families-requires-clause-heads g c =
     rw c.in_ok-under.ensures.ok
-    (heads_families c.args.env.now c.requires.env c.args.name c.args.params.now c.args.families.now c.requires.new c.in_ok-enter.ensures.counted
+    (heads_families c.args.setting.now.env.now c.requires.env c.args.setting.now.block c.args.params.now c.args.families.now c.requires.new c.in_ok-enter.ensures.counted
     c.in_ok-check_heads.ensures.counted)
 
 pub returns-in_err-families-clause-follows : goal.returns-in_err-families-clause-follows
 returns-in_err-families-clause-follows g c =
-    let E = c.args.env.now in
-    let B = block_from c.args.name c.args.params.now c.args.families.now in
+    let E = c.args.setting.now.env.now in
+    let B = block_from c.args.setting.now.block c.args.params.now c.args.families.now in
     let f1 = rw c.new-ctx.ensures.empty at c.in_ok-enter.ensures.follows in
     let ep : extend [] c.args.params.now ≡ c.enter.new.ctx = sym (c.in_ok-enter.ensures.longer ∙ ap (λ d. extend d c.args.params.now) c.new-ctx.ensures.empty) in
     let f2 = c.in_ok-check_heads.ensures.follows B ep in
     let f3 = rw c.in_ok-under.ensures.ok at c.in_err-families.ensures.follows B refl ep in
-    rw (block_run E (test_of E) c.args.room B c.args.m.now.account) (follows_bind _ _ _ _ _ _ _ f1 (follows_bind _ _ _ _ _ _ _ f2 (search (rules, follows_err))))
+    rw (block_run E (test_of E) c.args.setting.now.room B c.args.m.now.account) (follows_bind _ _ _ _ _ _ _ f1 (follows_bind _ _ _ _ _ _ _ f2 (search (rules, follows_err))))
 
 pub returns-clause-follows : goal.returns-clause-follows
 returns-clause-follows g c =
-    let E = c.args.env.now in
-    let B = block_from c.args.name c.args.params.now c.args.families.now in
+    let E = c.args.setting.now.env.now in
+    let B = block_from c.args.setting.now.block c.args.params.now c.args.families.now in
     let f1 = rw c.new-ctx.ensures.empty at c.in_ok-enter.ensures.follows in
     let ep : extend [] c.args.params.now ≡ c.enter.new.ctx = sym (c.in_ok-enter.ensures.longer ∙ ap (λ d. extend d c.args.params.now) c.new-ctx.ensures.empty) in
     let f2 = c.in_ok-check_heads.ensures.follows B ep in
     let f3 = rw c.in_ok-under.ensures.ok at c.in_ok-families.ensures.follows B refl ep in
-    rw (block_run E (test_of E) c.args.room B c.args.m.now.account, c.in_ok-params.ensures.ok)
+    rw (block_run E (test_of E) c.args.setting.now.room B c.args.m.now.account, c.in_ok-params.ensures.ok)
     (follows_bind _ _ _ _ _ _ _ f1 (follows_bind _ _ _ _ _ _ _ f2 (follows_bind _ _ _ _ _ _ _ f3 (follows_done _ c.check_families.new.m))))
 
 pub returns-clause-formed : goal.returns-clause-formed
-returns-clause-formed g c = (all_formed c.args.env.now c.args.params.now c.in_ok-enter.ensures.counted, c.in_ok-families.ensures.formed)
+returns-clause-formed g c = (all_formed c.args.setting.now.env.now c.args.params.now c.in_ok-enter.ensures.counted, c.in_ok-families.ensures.formed)

@@ -37,7 +37,7 @@ returns-in_err-names_none-clause-follows g c = λ B en ep.
     let f3 = rw (longer, c.in_ok-args.ensures.is ∙ c.len-3.ensures.is) at c.in_ok-check_results.ensures.follows in
     let m2 = c.check_results.new.m in
     let at = c.args.at in
-    let f4 = still_stops (result_names c.args.block at.family at.ctor c.args.ctor.now.result m2.account) c.in_err-names_none.field-0.0 m2 (c.in_err-names_none.ensures.answers m2.account) in
+    let f4 = still_stops (result_names c.args.setting.now.block at.family at.ctor c.args.ctor.now.result m2.account) c.in_err-names_none.field-0.0 m2 (c.in_err-names_none.ensures.answers m2.account) in
     rw (en, ep) (follows_bind _ _ _ _ _ _ _ f1 (still_bind _ _ _ _ m m2 a2 (follows_bind _ _ _ _ _ _ _ f3 (search (rules, follows_err)))))
 
 pub returns-clause-follows : goal.returns-clause-follows

@@ -19,7 +19,7 @@ loop-n-init g c = record {
 
 pub returns-in_err-ctor-clause-follows : goal.returns-in_err-ctor-clause-follows
 returns-in_err-ctor-clause-follows g c = λ B en ep.
-    let E = c.args.env.now in
+    let E = c.args.setting.now.env.now in
     let cs = c.args.family.now.ctors in
     let n = c.loop-n.n in
     let ctor = c.index-ctors-n.result in
@@ -27,13 +27,13 @@ returns-in_err-ctor-clause-follows g c = λ B en ep.
     let is : ctor ≡ get_or cs n ctor = cc in
     let before = c.loop-n.invariant in
     let f = rw c.in_ok-number.ensures.is at c.in_err-ctor.ensures.follows B en ep in
-    let stop = constructors_stop E (test_of E) (infer E (test_of E) c.args.room) (compare E (test_of E) c.args.room) B (family_of c.args.family.now) c.args.place cs n
+    let stop = constructors_stop E (test_of E) (infer E (test_of E) c.args.setting.now.room) (compare E (test_of E) c.args.setting.now.room) B (family_of c.args.family.now) c.args.place cs n
     c.loop-n.m.account ctor lt is _ c.loop-n.out.items c.in_err-ctor.field-0.0 c.args.m.now c.loop-n.m c.check_constructor.new.m (before.leads B en ep) before.after f in
     search rules
 
 pub loop-n-preserved : goal.loop-n-preserved
 loop-n-preserved g c =
-    let E = c.args.env.now in
+    let E = c.args.setting.now.env.now in
     let cs = c.args.family.now.ctors in
     let n = c.loop-n.n in
     let ctor = c.index-ctors-n.result in
@@ -45,7 +45,7 @@ loop-n-preserved g c =
       leads = λ B en ep.
           let f = rw c.in_ok-number.ensures.is at c.in_ok-ctor.ensures.follows B en ep in
           rw c.in_ok-push.ensures.longer
-          (constructors_next E (test_of E) (infer E (test_of E) c.args.room) (compare E (test_of E) c.args.room) B (family_of c.args.family.now) c.args.place cs n
+          (constructors_next E (test_of E) (infer E (test_of E) c.args.setting.now.room) (compare E (test_of E) c.args.setting.now.room) B (family_of c.args.family.now) c.args.place cs n
           c.loop-n.m.account ctor lt is _ c.loop-n.out.items c.in_ok-ctor.ctor c.check_constructor.new.m.account (before.leads B en ep) f.answer);
       after = after-trans c.args.m.now c.loop-n.m c.check_constructor.new.m before.after c.check_constructor.ensures.after;
       formed = formed_next E cs n ctor lt is before.formed counted;
@@ -53,11 +53,11 @@ loop-n-preserved g c =
 
 pub returns-clause-follows : goal.returns-clause-follows
 returns-clause-follows g c = λ B en ep.
-    let E = c.args.env.now in
+    let E = c.args.setting.now.env.now in
     let cs = c.args.family.now.ctors in
     let ge : length cs ≤ c.loop-n.n = grind arith in
     let m = c.loop-n.m in
-    let over = constructors_over E (test_of E) (infer E (test_of E) c.args.room) (compare E (test_of E) c.args.room) B (family_of c.args.family.now) c.args.place cs c.loop-n.n m.account ge in
+    let over = constructors_over E (test_of E) (infer E (test_of E) c.args.setting.now.room) (compare E (test_of E) c.args.setting.now.room) B (family_of c.args.family.now) c.args.place cs c.loop-n.n m.account ge in
     rw c.of.ensures.is (collect_end _ c.loop-n.out.items _ c.args.m.now m over (c.loop-n.invariant.leads B en ep) c.loop-n.invariant.after)
 
 pub returns-clause-formed : goal.returns-clause-formed

@@ -20,7 +20,7 @@ loop-f-init g c = record {
 
 pub check_constructors-requires-clause-sort : goal.check_constructors-requires-clause-sort
 check_constructors-requires-clause-sort g c =
-    let E = c.args.env.now in
+    let E = c.args.setting.now.env.now in
     let fs = c.args.families.now in
     let f = c.loop-f.f in
     let family = c.index-items-f.result in
@@ -30,7 +30,7 @@ check_constructors-requires-clause-sort g c =
 
 pub returns-in_err-ctors-clause-follows : goal.returns-in_err-ctors-clause-follows
 returns-in_err-ctors-clause-follows g c = λ B en ep.
-    let E = c.args.env.now in
+    let E = c.args.setting.now.env.now in
     let fs = c.args.families.now in
     let f = c.loop-f.f in
     let family = c.index-items-f.result in
@@ -38,13 +38,13 @@ returns-in_err-ctors-clause-follows g c = λ B en ep.
     let is : family ≡ get_or fs f family = cc in
     let before = c.loop-f.invariant in
     let done = rw c.in_ok-number.ensures.is at c.in_err-ctors.ensures.follows B en ep in
-    let stop = families_stop E (test_of E) (infer E (test_of E) c.args.room) (compare E (test_of E) c.args.room) B fs f
+    let stop = families_stop E (test_of E) (infer E (test_of E) c.args.setting.now.room) (compare E (test_of E) c.args.setting.now.room) B fs f
     c.loop-f.m.account family lt is _ c.loop-f.out.items c.in_err-ctors.field-0.0 c.args.m.now c.loop-f.m c.check_constructors.new.m (before.leads B en ep) before.after done in
     search rules
 
 pub loop-f-preserved : goal.loop-f-preserved
 loop-f-preserved g c =
-    let E = c.args.env.now in
+    let E = c.args.setting.now.env.now in
     let fs = c.args.families.now in
     let f = c.loop-f.f in
     let family = c.index-items-f.result in
@@ -56,7 +56,7 @@ loop-f-preserved g c =
       leads = λ B en ep.
           let done = rw c.in_ok-number.ensures.is at c.in_ok-ctors.ensures.follows B en ep in
           rw (c.in_ok-push.ensures.longer, c.in_ok-with_constructors.ensures.ok)
-          (families_next E (test_of E) (infer E (test_of E) c.args.room) (compare E (test_of E) c.args.room) B fs f
+          (families_next E (test_of E) (infer E (test_of E) c.args.setting.now.room) (compare E (test_of E) c.args.setting.now.room) B fs f
           c.loop-f.m.account family lt is _ c.loop-f.out.items c.in_ok-ctors.ctors c.check_constructors.new.m.account (before.leads B en ep) done.answer);
       after = after-trans c.args.m.now c.loop-f.m c.check_constructors.new.m before.after c.check_constructors.ensures.after;
       heads = left.1;
@@ -65,11 +65,11 @@ loop-f-preserved g c =
 
 pub returns-clause-follows : goal.returns-clause-follows
 returns-clause-follows g c = λ B en ep.
-    let E = c.args.env.now in
+    let E = c.args.setting.now.env.now in
     let fs = c.args.families.now in
     let ge : length fs ≤ c.loop-f.f = grind arith in
     let m = c.loop-f.m in
-    let over = families_over E (test_of E) (infer E (test_of E) c.args.room) (compare E (test_of E) c.args.room) B fs c.loop-f.f m.account ge in
+    let over = families_over E (test_of E) (infer E (test_of E) c.args.setting.now.room) (compare E (test_of E) c.args.setting.now.room) B fs c.loop-f.f m.account ge in
     rw c.of.ensures.is (collect_end _ c.loop-f.out.items _ c.args.m.now m over (c.loop-f.invariant.leads B en ep) c.loop-f.invariant.after)
 
 pub returns-clause-formed : goal.returns-clause-formed

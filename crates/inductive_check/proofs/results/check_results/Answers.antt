@@ -11,7 +11,7 @@ use Rattle.pc_rules.proofs.ListSteps.{take_next}
 
 pub returns-in_err-ty-clause-follows : goal.returns-in_err-ty-clause-follows
 returns-in_err-ty-clause-follows g c =
-    let E = c.args.env.now in
+    let E = c.args.setting.now.env.now in
     let ts = c.args.result_terms.now in
     let As = c.args.indices.now in
     let i = c.loop-i.i in
@@ -23,13 +23,13 @@ returns-in_err-ty-clause-follows g c =
     let iA : A ≡ get_or As i A = cc in
     let before = c.loop-i.invariant in
     let s : ℕ → Term = λ j. Rel (c.args.args + j) in
-    let fault = results_fault E (infer E (test_of E) c.args.room) (compare E (test_of E) c.args.room) c.args.ctx.now (put_all c.loop-i.before s) ts As i
+    let fault = results_fault E (infer E (test_of E) c.args.setting.now.room) (compare E (test_of E) c.args.setting.now.room) c.args.ctx.now (put_all c.loop-i.before s) ts As i
     t A lt lA is iA _ c.args.m.now c.loop-i.m before.leads before.after c.in_err-ty.field-0.0 c.in_err-ty.ensures.too_deep in
     search rules
 
 pub returns-in_err-check-clause-follows : goal.returns-in_err-check-clause-follows
 returns-in_err-check-clause-follows g c =
-    let E = c.args.env.now in
+    let E = c.args.setting.now.env.now in
     let ts = c.args.result_terms.now in
     let As = c.args.indices.now in
     let i = c.loop-i.i in
@@ -41,13 +41,13 @@ returns-in_err-check-clause-follows g c =
     let iA : A ≡ get_or As i A = cc in
     let before = c.loop-i.invariant in
     let s : ℕ → Term = λ j. Rel (c.args.args + j) in
-    let stop = results_stop E (infer E (test_of E) c.args.room) (compare E (test_of E) c.args.room) c.args.ctx.now (put_all c.loop-i.before s) ts As i c.loop-i.m.account
+    let stop = results_stop E (infer E (test_of E) c.args.setting.now.room) (compare E (test_of E) c.args.setting.now.room) c.args.ctx.now (put_all c.loop-i.before s) ts As i c.loop-i.m.account
     t A lt lA is iA _ before.leads c.in_err-check.field-0.0 c.args.m.now c.loop-i.m c.check.new.m before.after (rw c.in_ok-ty.ensures.ok at c.in_err-check.ensures.follows) in
     search rules
 
 pub loop-i-preserved : goal.loop-i-preserved
 loop-i-preserved g c =
-    let E = c.args.env.now in
+    let E = c.args.setting.now.env.now in
     let ts = c.args.result_terms.now in
     let As = c.args.indices.now in
     let i = c.loop-i.i in
@@ -59,8 +59,8 @@ loop-i-preserved g c =
     let iA : A ≡ get_or As i A = cc in
     let before = c.loop-i.invariant in
     let s : ℕ → Term = λ j. Rel (c.args.args + j) in
-    let inf = infer E (test_of E) c.args.room in
-    let cmp = compare E (test_of E) c.args.room in
+    let inf = infer E (test_of E) c.args.setting.now.room in
+    let cmp = compare E (test_of E) c.args.setting.now.room in
     let f = rw c.in_ok-ty.ensures.ok at c.in_ok-check.ensures.follows in
     let next = results_next E inf cmp c.args.ctx.now (put_all c.loop-i.before s) ts As i c.loop-i.m.account t A lt lA is iA _ before.leads c.check.new.m.account f.answer in
     let more : c.push.new.self ≡ c.loop-i.before ++ (t ∷ []) = c.in_ok-push.ensures.ok ∙ ap (λ x. c.loop-i.before ++ (x ∷ [])) c.in_ok-share.ensures.ok in
@@ -73,10 +73,10 @@ loop-i-preserved g c =
 
 pub returns-clause-follows : goal.returns-clause-follows
 returns-clause-follows g c =
-    let E = c.args.env.now in
+    let E = c.args.setting.now.env.now in
     let ts = c.args.result_terms.now in
     let ge : length ts ≤ c.loop-i.i = grind arith in
     let s : ℕ → Term = λ j. Rel (c.args.args + j) in
-    let over = results_over E (infer E (test_of E) c.args.room) (compare E (test_of E) c.args.room) c.args.ctx.now (put_all c.loop-i.before s) ts c.args.indices.now c.loop-i.i
+    let over = results_over E (infer E (test_of E) c.args.setting.now.room) (compare E (test_of E) c.args.setting.now.room) c.args.ctx.now (put_all c.loop-i.before s) ts c.args.indices.now c.loop-i.i
     c.loop-i.m.account ge in
     follows_end _ _ _ _ (leads_along _ _ _ over c.loop-i.invariant.leads) c.loop-i.invariant.after
