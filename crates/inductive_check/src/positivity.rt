@@ -3,6 +3,7 @@ ghost use Rattle.std.specs.Prelude.{◌≡◌, ◌+◌, ◌++◌, ◌∷◌, [],
 ghost use Rattle.pc_terms.specs.Syntax.{Term, Rel, Prod, args};
 ghost use Rattle.pc_rules.specs.declared.meter.Meter.{Meter};
 ghost use Rattle.pc_rules.specs.declared.stop.Stop.TheVariants.{Memory};
+ghost use Rattle.calculus_rules.specs.Environment.{Env};
 ghost use Rattle.calculus_rules.specs.Naming.{names};
 ghost use Rattle.calculus_rules.specs.Positivity.{block_of};
 ghost use Rattle.pc_rules.specs.DirectedPositivity.{is_positive, own_arguments};
@@ -143,7 +144,6 @@ fn type_good<'a>(
 /// Tests an argument of a family of a block: where it names the target, it is a parameter, a unit is taken, and its place is nestable and it
 /// is a good type, as far as tests that are put behind those that wait do not decide it.
 fn argument_good<'a>(
-    _env: &'a Env,
     target: Target,
     under: u32,
     block: &'a Block,
@@ -152,8 +152,8 @@ fn argument_good<'a>(
     tests: &mut Vec<Test<'a>>,
     m: &mut Meter,
 ) -> Result<bool, Stop>
-    ensures goes { IfOk result (λ b. Goes _env.now (map waiting tests.old.items) (argument_waits target under block.now place term.now) (map waiting tests.new.items) m.old m.new b) }
-    ensures stops { IfErr result (λ s. Follows (each_test _env.now (map waiting tests.old.items ++ (argument_waits target under block.now place term.now ∷ [])) m.old.account) (halted (Err s)) m.old m.new) }
+    ensures goes { (E : Env) → IfOk result (λ b. Goes E (map waiting tests.old.items) (argument_waits target under block.now place term.now) (map waiting tests.new.items) m.old m.new b) }
+    ensures stops { (E : Env) → IfErr result (λ s. Follows (each_test E (map waiting tests.old.items ++ (argument_waits target under block.now place term.now ∷ [])) m.old.account) (halted (Err s)) m.old m.new) }
 {
     if !names(target, under, term) {
         return Ok(true);
@@ -199,7 +199,7 @@ fn one_good<'a>(
             block,
             place,
             term,
-        } => argument_good(env, target, under, block, place, term, tests, m),
+        } => argument_good(target, under, block, place, term, tests, m),
     }
 }
 
