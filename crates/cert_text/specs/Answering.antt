@@ -1,6 +1,6 @@
 -- What the calls that read a certificate answer, by reading as a function.
 use Rattle.std.specs.Prelude.{◌≡◌, ℕ, ◌<◌, ◌≤◌, List, [], ◌∷◌, length, Option, Some, None, Result, Ok, Err}
-use Rattle.sexp_reader.specs.Text.{Text}
+use Rattle.sexp_reader.specs.Text.{Text, Atom}
 use Rattle.sexp_reader.specs.Lex.{Spanned, left}
 use Rattle.dump_grammar.specs.Numbers.{number_of}
 use Rattle.cert_rules.specs.declared.item.CertItem.{CertItem}
@@ -58,6 +58,12 @@ TakesAtom bytes t (Err e) = Refuses (read_token AnItem t.start (text_of bytes t)
 -- the item that an atom of one byte is
 abbrev pub IsOfByte : ℕ → CertItem → Type 0
 IsOfByte b x = (start : ℕ) (go : Wants → CertRead) → read_item start (b ∷ []) (number_of (b ∷ [])) go ≡ with_item x (go AnItem)
+
+-- the item of a side whose word is this one byte, with so many steps
+abbrev pub IsSideOfByte : (b n : ℕ) → CertItem → Type 0
+IsSideOfByte b n x =
+    (w : Wants) × ((start : ℕ) (go : Wants → CertRead) → read_item start (b ∷ []) (number_of (b ∷ [])) go ≡ go w)
+    × ((start : ℕ) (a : List ℕ) (ss : List Spanned) (go : Wants → CertRead) → number_of a ≡ Some n → read_token w start (Atom a) ss go ≡ with_item x (go AnItem))
 
 -- nothing comes from an offset on
 abbrev pub Ends : List ℕ → ℕ → Result (Option Taken) CertText → Type 0

@@ -1,10 +1,12 @@
-//! A certificate out of its text, item by item. An item of one byte behind one space is read at once, any other by its tokens.
-ghost use Rattle.std.specs.Prelude.{◌≡◌, ◌≤◌, ◌<◌, true, false, [], ◌∷◌, ◌++◌, length, bytes_eq, Ok, Some, IsTrue, IfOk, IfErr, IfSome};
+//! A certificate out of its text, item by item. An item of one byte, and a side's with a number of one digit, are read at once where one space
+//! stands before each of these bytes and one behind the last; any other is read by its tokens.
+ghost use Rattle.std.specs.Prelude.{◌≡◌, ◌≤◌, ◌<◌, ◌+◌, ◌*◌, true, [], ◌∷◌, ◌++◌, length, get_or, vec_len, vec_capacity, bytes_eq, Ok, Some, IfOk, IfErr, IfSome};
+ghost use Rattle.dump_grammar.specs.Numbers.{number_of};
 ghost use Rattle.sexp_reader.specs.Text.{Open, Atom};
 ghost use Rattle.cert_rules.specs.declared.item.CertItem.TheVariants.{Left, Right};
 ghost use Rattle.cert_text.specs.CertReading.{is_text, read_items, read_bytes, AnItem, LeftSteps, RightSteps};
 ghost use Rattle.cert_text.specs.Scanned.{text_of};
-ghost use Rattle.cert_text.specs.Answering.{AnswersText, Expects, Counts, behind, with_items, TakesSide, TakesWord, TakesAtom, Ends, Takes, TakesWithin, IsOfByte};
+ghost use Rattle.cert_text.specs.Answering.{AnswersText, Expects, Counts, behind, with_items, TakesSide, TakesWord, TakesAtom, Ends, Takes, TakesWithin, IsOfByte, IsSideOfByte};
 ghost use Rattle.cert_text.specs.TextLaws.{SpellsCert};
 ghost use Rattle.cert_text.specs.declared.refusal.CertText.TheVariants.{Memory};
 ghost use Rattle.cert_text.specs.declared.scan.Kind.TheVariants as Kind;
@@ -12,7 +14,7 @@ ghost use Rattle.sexp_reader.specs.Lex.{is_atom_byte as atom_byte, left};
 
 use crate::number::{Numeral, numeral_at};
 use crate::refusal::CertText;
-use crate::scan::{Kind, Token, is_atom_byte, next};
+use crate::scan::{Kind, Token, next};
 use cert_rules::certificate::{Cert, CertItems};
 use cert_rules::item::CertItem;
 use std::alloc::Global;
@@ -216,13 +218,26 @@ fn end(bytes: &[u8], at: usize) -> Result<Option<Taken>, CertText>
     }
 }
 
+/// The number that a digit spells.
+fn digit(b: u8) -> Option<u32>
+    ensures atom { IfSome result (λ _. atom_byte b ≡ true) }
+    ensures is { IfSome result (λ n. number_of (b ∷ []) ≡ Some n) }
+{
+    match b {
+        b'0'..=b'9' => Some((b - b'0') as u32),
+        _ => None,
+    }
+}
+
 /// The item that an atom of this one byte is.
 fn byte_item(b: u8) -> Option<CertItem>
     ensures atom { IfSome result (λ _. atom_byte b ≡ true) }
     ensures is { IfSome result (IsOfByte b) }
 {
+    if let Some(n) = digit(b) {
+        return Some(CertItem::Number(n));
+    }
     match b {
-        b'0'..=b'9' => Some(CertItem::Number((b - b'0') as u32)),
         b's' => Some(CertItem::Same),
         b'c' => Some(CertItem::Conv),
         b'k' => Some(CertItem::Parts),
@@ -230,25 +245,33 @@ fn byte_item(b: u8) -> Option<CertItem>
     }
 }
 
-/// Whether an atom ends before a byte; a space, which mostly comes, is told first.
-fn ends_atom(b: u8) -> bool
-    ensures is { IsTrue result → atom_byte b ≡ false }
+/// The item of a side whose word is this one byte, with its number of steps.
+fn byte_side(b: u8, count: u32) -> Option<CertItem>
+    ensures atom { IfSome result (λ _. atom_byte b ≡ true) }
+    ensures is { IfSome result (IsSideOfByte b count) }
 {
-    b == b' ' || !is_atom_byte(b)
+    match b {
+        b'l' => Some(CertItem::Left(count)),
+        b'r' => Some(CertItem::Right(count)),
+        _ => None,
+    }
 }
 
-/// The item of one byte that stands from an offset on behind one space, as nearly all items of a certificate do; none where what comes next is
-/// anything else.
-fn short_item(bytes: &[u8], at: usize) -> Option<Taken>
+/// The item of a side that stands from an offset on, with a number of one digit: a space before its word, one before its number, and one behind it.
+/// None where anything else comes next.
+fn short_side(bytes: &[u8], at: usize) -> Option<Taken>
     requires { at ≤ length bytes.now }
     ensures takes { IfSome result (λ x. Takes bytes.now at (Ok (Some x))) }
     ensures within { IfSome result (λ x. (at < x.end) × (x.end ≤ length bytes.now)) }
 {
-    if bytes.len() - at < 3 || bytes[at] != b' ' || !ends_atom(bytes[at + 2]) {
+    if bytes.len() - at < 5 || bytes[at] != b' ' || bytes[at + 2] != b' ' || bytes[at + 4] != b' ' {
         return None;
     }
-    match byte_item(bytes[at + 1]) {
-        Some(item) => Some(Taken { item, end: at + 2 }),
+    match digit(bytes[at + 3]) {
+        Some(count) => match byte_side(bytes[at + 1], count) {
+            Some(item) => Some(Taken { item, end: at + 4 }),
+            None => None,
+        },
         None => None,
     }
 }
@@ -290,19 +313,52 @@ fn push(out: &mut Vec<CertItem>, item: CertItem) -> Result<(), CertText>
     }
 }
 
-/// Puts the items of one byte that stand from an offset on behind others, and gives the offset of what is none of them.
-fn short_items(bytes: &[u8], from: usize, out: &mut Vec<CertItem>) -> Result<usize, CertText>
-    requires { from ≤ length bytes.now }
-    ensures read { IfOk result (λ n. with_items out.old.items (behind bytes.now from AnItem) ≡ with_items out.new.items (behind bytes.now n AnItem)) }
-    ensures within { IfOk result (λ n. (from ≤ n) × (n ≤ length bytes.now)) }
-    ensures only_memory { IfErr result (λ e. e ≡ Memory) }
+/// The item that comes next from an offset on, a side's at once where that can be; none at the bracket that closes, behind which nothing may come.
+fn item_at(bytes: &[u8], at: usize) -> Result<Option<Taken>, CertText>
+    requires { at ≤ length bytes.now }
+    ensures takes { Takes bytes.now at result }
+    ensures within { IfOk result (TakesWithin bytes.now at) }
 {
-    let mut at = from;
-    'short: while let Some(taken) = short_item(bytes, at) {
-        push(out, taken.item)?;
-        at = taken.end;
+    match short_side(bytes, at) {
+        Some(taken) => Ok(Some(taken)),
+        None => any_item(bytes, at),
     }
-    Ok(at)
+}
+
+/// Puts items of one byte that stand from a space on, each before a space, behind others, at most so many, and gives the offset behind the last of
+/// them. Takes no memory.
+fn short_run(bytes: &[u8], from: usize, most: usize, out: &mut Vec<CertItem>) -> usize
+    requires space { get_or bytes.now from 0 ≡ 32 }
+    requires within { from + 2 * most < length bytes.now }
+    requires room { vec_len out.old + most ≤ vec_capacity out.old }
+    ensures read { with_items out.old.items (behind bytes.now from AnItem) ≡ with_items out.new.items (behind bytes.now result AnItem) }
+    ensures within { (from ≤ result) × (result ≤ length bytes.now) }
+{
+    let mut count = 0;
+    'short: while count < most && bytes[from + 2 * count + 2] == b' ' {
+        match byte_item(bytes[from + 2 * count + 1]) {
+            Some(item) => out.push_reserved(item),
+            None => return from + 2 * count,
+        }
+        count += 1;
+    }
+    from + 2 * count
+}
+
+/// Puts items of one byte that stand from an offset on behind others, as many as there is room for, and gives the offset behind the last of them.
+/// Takes no memory: where there was no room for the next, the caller's `push` makes it.
+fn short_items(bytes: &[u8], from: usize, out: &mut Vec<CertItem>) -> usize
+    requires { from ≤ length bytes.now }
+    ensures read { with_items out.old.items (behind bytes.now from AnItem) ≡ with_items out.new.items (behind bytes.now result AnItem) }
+    ensures within { (from ≤ result) × (result ≤ length bytes.now) }
+{
+    if from == bytes.len() || bytes[from] != b' ' {
+        return from;
+    }
+    let room = out.capacity() - out.len();
+    let follow = (bytes.len() - from - 1) / 2;
+    let most = if room < follow { room } else { follow };
+    short_run(bytes, from, most, out)
 }
 
 /// The items from an offset on, up to the end of the text.
@@ -311,10 +367,10 @@ fn items(alloc: Global, bytes: &[u8], from: usize) -> Result<CertItems, CertText
     ensures answers { AnswersText (read_items (length bytes.now) AnItem (left from bytes.now)) result }
 {
     let mut out = Vec::new(alloc);
-    let mut at = short_items(bytes, from, &mut out)?;
-    'items: while let Some(taken) = any_item(bytes, at)? {
+    let mut at = from;
+    'items: while let Some(taken) = item_at(bytes, at)? {
         push(&mut out, taken.item)?;
-        at = short_items(bytes, taken.end, &mut out)?;
+        at = short_items(bytes, taken.end, &mut out);
     }
     Ok(CertItems::of(out))
 }

@@ -4,23 +4,19 @@ use Rattle.cert_text.specs.Answering.{behind, with_items}
 use Rattle.cert_text.proofs.Gathering.{items_last, items_end, items_refused}
 use Rattle.cert_text.proofs.reading.items.Goals as goal
 
-pub items-init : goal.items-init
-items-init c = record { within = c.in_ok-at.ensures.within.1; read = rw c.new-out.ensures.items at c.in_ok-at.ensures.read }
-
 pub returns-in_err-taken : goal.returns-in_err-taken
 returns-in_err-taken c =
-    let q : c.from_residual-in_err-taken.result ≡ Err c.in_err-taken.field-0.0 = search rules in
+    let q : c.from_residual.result ≡ Err c.in_err-taken.field-0.0 = search rules in
     rw q (record { answers = items_refused c.items.out.items _ _ c.in_err-taken.field-0.0 c.items.invariant.read c.in_err-taken.ensures.takes })
 
 pub items-preserved : goal.items-preserved
 items-preserved c =
     let takes = rw c.in-Some.is at c.in_ok-taken.ensures.takes in
-    let within = rw c.in-Some.is at c.in_ok-taken.ensures.within in
     let rest = behind c.args.bytes.now c.in-Some.taken.end AnItem in
     record {
-      within = c.in_ok-at-2.ensures.within.1;
+      within = c.short_items-at.ensures.within.1;
       read = c.items.invariant.read ∙ ap (with_items c.items.out.items) takes ∙ sym (items_last c.items.out.items c.in-Some.taken.item rest)
-          ∙ ap (λ xs. with_items xs rest) (sym c.in_ok-push.ensures.ok) ∙ c.in_ok-at-2.ensures.read;
+          ∙ ap (λ xs. with_items xs rest) (sym c.in_ok-push.ensures.ok) ∙ c.short_items-at.ensures.read;
     }
 
 pub returns : goal.returns

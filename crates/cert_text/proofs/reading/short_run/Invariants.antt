@@ -1,0 +1,16 @@
+use Rattle.std.proofs.Common.{◌≡◌, ◌≤◌, ◌+◌, ◌*◌, ◌-◌, get_or, vec_len, vec_capacity}
+use Rattle.cert_text.specs.CertReading.{AnItem}
+use Rattle.cert_text.specs.Answering.{behind, with_items}
+use Rattle.cert_text.proofs.reading.short_run.Given as goal
+
+-- the items so far stand before what is read of the rest, which begins with a space
+abbrev pub invariant-short : goal.invariant-short
+invariant-short l = record {
+  within : l.count ≤ l.most;
+  room : vec_len l.out + l.most ≤ vec_capacity l.out + l.count;
+  space : get_or l.bytes (l.from + 2 * l.count) 0 ≡ 32;
+  read : with_items l.fn.out.items (behind l.bytes l.from AnItem) ≡ with_items l.out.items (behind l.bytes (l.from + 2 * l.count) AnItem);
+}
+
+abbrev pub decreases-short : goal.decreases-short
+decreases-short l = l.most - l.count
