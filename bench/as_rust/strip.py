@@ -12,7 +12,7 @@ What is dropped:
 
 What is put in place of what:
 
-- of std's modules `alloc`, `rc` and `collections`, and of the libraries smallvec, indexmap and itoa: those of the shim, whose calls take the allocator
+- of std's modules `alloc`, `rc` and `collections`, and of the libraries smallvec, indexmap, itoa and memchr: those of the shim, whose calls take the allocator
   `Global` as Rattle's do. The shim's `Vec`, `Box` and `String` are in scope everywhere (`shim::prelude`). It asks Rust's allocator for memory, and want of
   memory ends the program;
 - of `vec![in alloc; item; count]` and `to_vec(alloc)`: calls of the shim;
@@ -82,7 +82,7 @@ REPLACED = tuple((re.compile(form, re.M), new) for form, new in (
     (r": Drop\b(?! for)", ""),
     (r" \+ Drop\b", ""),
     (r"\buse std::(alloc|rc|collections)::", r"use shim::\1::"),
-    (r"\buse (smallvec|indexmap|itoa)::", r"use shim::\1::"),
+    (r"\buse (smallvec|indexmap|itoa|memchr)::", r"use shim::\1::"),
     (rf"\bvec!\[in (\w+); {ARGUMENT}; {ARGUMENT}\]", r"Vec::filled(\1, \2, \3)"),
     (r"\.to_vec\((\w+)\)", r".to_vec_with(\1)"),
 ))

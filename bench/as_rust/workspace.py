@@ -20,7 +20,7 @@ CALLED = {
 
 # Crates of the checkout for which one of this folder stands, and libraries of the toolchain that the shim has, or of which nothing is left.
 STOOD_FOR = ("kio",)
-LIBRARIES = ("indexmap", "itoa", "smallvec", "thiserror")
+LIBRARIES = ("indexmap", "itoa", "memchr", "smallvec", "thiserror")
 
 PROFILE = """
 [profile.release]

@@ -11,3 +11,5 @@ pub mod Verdicts
 pub mod Fronts
 pub mod Counting
 pub mod Passing
+pub mod Balance
+pub mod Closing

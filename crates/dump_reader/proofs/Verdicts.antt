@@ -1,5 +1,5 @@
 -- What an answer says that is the verdict on its text.
-use Rattle.std.proofs.Common.{◌≡◌, ◌≢◌, ◌⊎◌, inl, inr, ℕ, List, [], ◌∷◌, length, Result, Ok, Err, IfOk, IfErr, refl, sym, ap, subst, ◌∙◌}
+use Rattle.std.proofs.Common.{◌≡◌, ◌≢◌, ◌⊎◌, inl, inr, ℕ, List, [], ◌∷◌, length, take, Result, Ok, Err, IfOk, IfErr, refl, sym, ap, ap₂, subst, ◌∙◌}
 use Rattle.sexp_reader.specs.Lex.{tokens_of}
 use Rattle.dump_grammar.specs.declared.refusal.Foreign.{Foreign}
 use Rattle.dump_grammar.specs.declared.refusal.Limit.{Limit}
@@ -21,7 +21,8 @@ use Rattle.dump_parser.specs.Environment.{Gives, env_named}
 use Rattle.dump_reader.specs.declared.environment.RawEnv.{RawEnv}
 use Rattle.dump_reader.specs.Formed.{IsFormedEnv}
 use Rattle.dump_reader.specs.NumberedEnvironment.{numbered}
-use Rattle.dump_reader.specs.Spelling.{Spells, verdict_on, IsVerdict}
+use Rattle.dump_reader.specs.Front.{front_bytes, front_length}
+use Rattle.dump_reader.specs.Spelling.{Spells, verdict_on, IsFrontVerdict, IsReadAs, IsVerdict}
 use Rattle.dump_reader.proofs.Spelled.{spelled-formed}
 
 -- ---- the tree of a text
@@ -83,3 +84,15 @@ either bytes (Err (refusals.Limit l o)) env h e = absurd cc
 
 pub complete : (bytes : List ℕ) (x : Result RawEnv ReadRefusal) → IsVerdict bytes x → (d : Dump) → texts (tokens_of bytes) ≡ dump d [] → DumpIsWithin d → (x ≡ Ok (numbered (env_of d))) ⊎ (x ≡ Err refusals.Memory)
 complete bytes x h d e w = either bytes x (env_of d) h (limited.within (length bytes) (tokens_of bytes) d e w)
+
+-- ---- of the front of a text
+
+module _ (bytes : List ℕ) (read : RawEnv × ℕ) (h : IsFrontVerdict bytes (Ok read)) where
+  pub front_spelled : Spells (take read.1 bytes) read.0
+  front_spelled = subst (λ n. Spells (take n bytes) read.0) (sym h.0) (spelled (front_bytes bytes) (Ok read.0) h.1)
+
+  pub front_complete : (d : Dump) → texts (tokens_of (front_bytes bytes)) ≡ dump d [] → DumpIsWithin d → IsReadAs bytes d (Ok read)
+  front_complete d e w = elim (complete (front_bytes bytes) (Ok read.0) h.1 d e w) [
+    | inl is ↦ (let same : read.0 ≡ numbered (env_of d) = cc in inl (ap₂ (λ (a : RawEnv) (n : ℕ). Ok (a, n)) same h.0))
+    | inr f ↦ absurd cc
+  ]

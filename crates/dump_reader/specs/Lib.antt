@@ -9,3 +9,4 @@ pub mod Growth
 pub mod Made
 pub mod Front
 pub mod CountedUpTo
+pub mod Ahead

@@ -1,6 +1,7 @@
 //! Where the front of a text ends: behind the bracket that closes the first one.
 //!
-//! Inside the first bracket the bytes are counted by blocks, where nothing in them is unusual; elsewhere token by token.
+//! Inside the first bracket the bytes are counted by blocks, where nothing in them is unusual; elsewhere token by token. Where `ahead` finds the end and the bytes before it
+//! are an environment, nothing is counted.
 ghost use Rattle.std.specs.Prelude.{◌≡◌, ◌<◌, ◌≤◌, ◌+◌, length, drop, false, get_or, true};
 ghost use Rattle.sexp_reader.specs.Lex.{is_atom_byte as atom_byte, is_blank as blank, atom_len, lex};
 ghost use Rattle.dump_reader.specs.Front.{front_length as length_of_front};
@@ -17,7 +18,7 @@ enum Step {
 }
 
 /// Whether a byte is a blank.
-fn is_blank(b: u8) -> bool
+pub(crate) fn is_blank(b: u8) -> bool
     ensures is { result ≡ blank b }
 {
     b == b' ' || b == b'\t' || b == b'\n' || b == b'\r'

@@ -7,13 +7,14 @@
 //! spells (`spells`), each refusal is the first of the text and stands where its cause is (`first`, `syntax`, `unsupported`, `limit`), and a
 //! text that spells an environment within the limits is read as that environment unless memory runs out (`complete`). A text spells one
 //! environment at most (`meaning_is_unique`). `read_call` reads the environment that a text begins with, up to the bracket that closes the
-//! first one, with the same promises of that front, and gives the offset behind it (`behind`, `within`). Terms without subterms are shared (`leaves`); no
-//! clause says what is.
+//! first one, with the same promises of that front, and gives the offset behind it (`behind`, `within`). Where the text goes on as the job `cert` writes
+//! it, that bracket is found without counting (`ahead`); no clause says where. Terms without subterms are shared (`leaves`); no clause says what is.
 //!
 //! Below stand `dump_grammar` (the format and its refusals), `dump_parser` (the text as a tree), `pc_terms` and `universe_levels`. Above stand the
 //! printer and the checker.
 #![tactic(auto)]
 
+mod ahead;
 mod blocks;
 pub mod declaration;
 mod declared;

@@ -1,5 +1,5 @@
 //! Reading a text as the environment that it spells.
-ghost use Rattle.std.specs.Prelude.{◌≡◌, ◌≢◌, ◌≤◌, ◌⊎◌, ℕ, List, [], length, take, Result, Ok, Err, IfOk, IfErr};
+ghost use Rattle.std.specs.Prelude.{◌≡◌, ◌≢◌, ◌≤◌, ◌⊎◌, ℕ, List, [], length, take, Result, Ok, Err, IfOk, IfErr, IfSome};
 ghost use Rattle.sexp_reader.specs.Lex.{tokens_of};
 ghost use Rattle.dump_grammar.specs.declared.refusal.Foreign.{Foreign as Forms};
 ghost use Rattle.dump_grammar.specs.declared.refusal.Limit.{Limit as Limits};
@@ -14,6 +14,7 @@ ghost use Rattle.dump_reader.specs.NumberedEnvironment.{numbered};
 ghost use Rattle.dump_reader.specs.Front.{front_length as length_of_front, front_bytes};
 ghost use Rattle.dump_reader.specs.Spelling.{Spells, IsVerdict, IsFrontVerdict, IsReadAs};
 
+use crate::ahead::end_ahead;
 use crate::environment::RawEnv;
 use crate::front::front_length;
 use crate::whole::environment_of;
@@ -44,6 +45,19 @@ fn read(alloc: Global, bytes: &[u8]) -> Result<RawEnv, ReadRefusal>
     Ok(env)
 }
 
+/// The environment that a text begins with, and the offset behind its last bracket, where that is found without counting brackets. `None` where it isn't,
+/// where the bytes up to there aren't read, whatever they are refused for, or where there is no memory.
+fn read_ahead(alloc: Global, bytes: &[u8]) -> Option<(RawEnv, usize)>
+    ensures exact { IfSome result (λ read. IsFrontVerdict bytes.now (Ok read)) }
+    ensures within { IfSome result (λ read. read.1 ≤ length bytes.now) }
+{
+    let end = end_ahead(bytes)?;
+    match read(alloc, &bytes[..end]) {
+        Ok(env) => Some((env, end)),
+        Err(_) => None,
+    }
+}
+
 /// The environment that a text begins with, and the offset behind its last bracket: the text up to the bracket that closes the first one is read as
 /// `read_env` reads a whole text, with its refusals, and what follows that bracket isn't looked at. Where the first bracket isn't closed, or a token
 /// before is refused, that is the whole text. Offsets are bytes from the start of the text. `Memory` comes only where there is no memory.
@@ -58,6 +72,9 @@ pub fn read_call(alloc: Global, bytes: &[u8]) -> Result<(RawEnv, usize), ReadRef
     ensures limit { (which : Limits) (o : ℕ) → result ≡ Err (Past which o) → LimitAt (tokens_of (front_bytes bytes.now)) which o }
     ensures complete { (d : Dump) → texts (tokens_of (front_bytes bytes.now)) ≡ dump d [] → DumpIsWithin d → IsReadAs bytes.now d result }
 {
+    if let Some(read) = read_ahead(alloc, bytes) {
+        return Ok(read);
+    }
     let end = front_length(bytes);
     let env = read_env(alloc, &bytes[..end])?;
     Ok((env, end))

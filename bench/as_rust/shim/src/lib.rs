@@ -8,6 +8,7 @@ pub mod boxed;
 pub mod collections;
 pub mod indexmap;
 pub mod itoa;
+pub mod memchr;
 pub mod rc;
 pub mod smallvec;
 pub mod string;
