@@ -50,6 +50,7 @@ fn walk_parts<G: Guarder>(
             room: walk.verifier.room,
         },
         guarder: walk.guarder,
+        made: walk.made,
     };
     let made = families(alloc, &inner, &ctx, listed, trail)?;
     positivity(alloc, &under, raw, trail)?;

@@ -21,6 +21,7 @@ use type_cert::halt::{WalkHalt, at_item};
 use type_cert::trail::Trail;
 use type_cert::typing::TypeWalk;
 use type_cert::verifier::Verifier;
+use type_infer::made_types::MadeTypes;
 
 /// A declaration over the ones before, with the sorts of constructor arguments. Refused at the next item where its name was declared
 /// before.
@@ -66,6 +67,7 @@ pub(crate) fn declarations<'x, G: Guarder>(
     ensures formed { IfOk result (λ _. AllGivenFormed (map given_of decls.now)) }
     ensures after { IsAfter trail.old.meter trail.new.meter }
 {
+    let made = MadeTypes::new();
     for i in 0..decls.len() {
         let walk = TypeWalk {
             verifier: Verifier {
@@ -74,6 +76,7 @@ pub(crate) fn declarations<'x, G: Guarder>(
                 room,
             },
             guarder,
+            made: &made,
         };
         let kept = declaration(alloc, &walk, &decls[i], trail)?;
         env.keep(kept)?;

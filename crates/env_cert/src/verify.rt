@@ -25,6 +25,7 @@ use type_cert::halt::WalkHalt;
 use type_cert::trail::Trail;
 use type_cert::typing::TypeWalk;
 use type_cert::verifier::Verifier;
+use type_infer::made_types::MadeTypes;
 
 /// A type of main, behind which no item is left. Refused at the first of those that are.
 fn walk_main<G: Guarder>(
@@ -71,6 +72,7 @@ fn walk_env<'x, G: Guarder>(
         raw.decls.as_slice(),
         trail,
     )?;
+    let made = MadeTypes::new();
     let walk = TypeWalk {
         verifier: Verifier {
             cert,
@@ -78,6 +80,7 @@ fn walk_env<'x, G: Guarder>(
             room,
         },
         guarder,
+        made: &made,
     };
     let ty = walk_main(alloc, &walk, &raw.main, trail)?;
     Ok((env, ty))

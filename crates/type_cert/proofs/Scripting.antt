@@ -17,7 +17,7 @@ use Rattle.calculus_rules.specs.Context.{Context, values}
 use Rattle.calculus_rules.specs.declared.entry.Entry.TheVariants.{Assumed, Defined}
 use Rattle.pc_rules.specs.declared.meter.Meter.{Meter}
 use Rattle.rule_laws.proofs.KeepCounts.{steps_counted}
-use Rattle.cert_rules.specs.declared.item.CertItem.TheVariants.{Left, Right}
+use Rattle.cert_rules.specs.declared.item.CertItem.TheVariants.{Same, Left, Right}
 use Rattle.cert_rules.specs.Walk.{Items, WalkState, Walk, WalkEnd, WalkAct, Passed, Barred, Unpaid, Crowded, past, end_on, deep_on, walk_on, walk_all}
 use Rattle.cert_rules.specs.WalkSteps.{walk_steps}
 use Rattle.cert_rules.specs.Scripts.{Script, parts_of, walk_parts, script_by, script}
@@ -99,6 +99,13 @@ module _ (cert : Items) (E : Env) (q : Test) (V : Values) (equal : Bool) (a b : 
         answer = subst (λ m. WalkAnswers (script_by E q (script cert E q m) (slice_get cert t0.at) V equal a b (stand t0)) r (stand t3)) y w';
         after = nest_after t0 t1 t2 t3 n e p.after e' n';
       }
+
+  -- a script of one item
+  pub script_same : (n k : ℕ) (go : Script) {r : Result (Unit {0}) WalkHalt} {t0 t1 : Trail} → n ≡ suc k → slice_get cert t0.at ≡ Some Same →
+      Retraces (script_by E q go (Some Same) V equal a b (stand t0)) r t0 t1 → Retraces (script cert E q n V equal a b (stand t0)) r t0 t1
+  unfolding script
+  script_same zero k go z e p = absurd (omega arith)
+  script_same (suc j) k go {r = r} {t0 = t0} {t1 = t1} z e p = subst (λ o. Retraces (script_by E q (script cert E q j) o V equal a b (stand t0)) r t0 t1) (sym e) p
 
 -- two parts
 

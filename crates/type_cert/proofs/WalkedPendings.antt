@@ -1,5 +1,5 @@
 -- How calls that answer types of which arguments are still to be put in go along walks.
-use Rattle.std.proofs.Common.{◌≡◌, ◌∙◌, ◌+◌, ap, sym, refl, subst as transport, Option, Some, Result, Ok, Err, IsErrAnd, slice_get}
+use Rattle.std.proofs.Common.{◌≡◌, ◌∙◌, ◌+◌, ap, sym, refl, subst as transport, Some, Result, Ok, Err, IsErrAnd, slice_get}
 use Rattle.std.proofs.lemmas.Result.{err_from_is_err_and}
 use Rattle.trees.specs.Measures.{IsWithin, IsBeyond}
 use Rattle.pc_terms.specs.Syntax.{Term, Prod, put, substitute}
@@ -11,7 +11,6 @@ use Rattle.pc_rules.specs.declared.stop.Stop.TheVariants.{Memory}
 use Rattle.pc_rules.specs.Stops.{stop_of}
 use Rattle.pc_rules.specs.DirectedRun.{make}
 use Rattle.pc_rules.specs.Follows.{IsAfter}
-use Rattle.cert_rules.specs.declared.item.CertItem.{CertItem}
 use Rattle.cert_rules.specs.declared.item.CertItem.TheVariants.{Number}
 use Rattle.cert_rules.specs.Walk.{Items, Walk, walk_on, by_rules}
 use Rattle.cert_rules.specs.WalkSteps.{number_at, walk_steps, reduced}
@@ -65,7 +64,7 @@ pends_passed {r = r} e f =
     rw (p.1, p.2) (pends_halts f)
 
 -- a number that asks for no step leaves a product as it is
-no_steps : (cert : Items) (E : Env) (c : Context) (T : Term) (t : Trail) → slice_get cert t.at ≡ Some (Number 0) →
+pub no_steps : (cert : Items) (E : Env) (c : Context) (T : Term) (t : Trail) → slice_get cert t.at ≡ Some (Number 0) →
     Retraces (reduced cert E (values c) T (stand t)) (Ok (record { item = t.at; count = 0; term = T })) t (further t)
 unfolding reduced walk_steps
 no_steps cert E c T t e =

@@ -10,14 +10,14 @@ use Rattle.pc_terms.specs.declared.term.Match.{Match}
 use Rattle.calculus_rules.specs.declared.declaration.Block.{Block}
 use Rattle.calculus_rules.specs.declared.declaration.Constructor.{Constructor}
 use Rattle.calculus_rules.specs.Environment.{Env, FamilyDecl}
-use Rattle.calculus_rules.specs.Context.{Context, Values}
+use Rattle.calculus_rules.specs.Context.{Context, Values, values}
 use Rattle.calculus_rules.specs.Listed.{list_of}
 use Rattle.pc_rules.specs.Entailment.{test_of}
 use Rattle.cert_rules.specs.declared.item.CertItem.{CertItem}
 use Rattle.cert_rules.specs.Walk.{WalkState, Walk, WalkAct, pass, bar_here, past, walk_on}
-use Rattle.cert_rules.specs.WalkSteps.{walk_steps}
+use Rattle.cert_rules.specs.WalkSteps.{walk_steps, reduced}
 use Rattle.cert_rules.specs.Scripts.{Script, parts_of, walk_parts, script_by, script}
-use Rattle.cert_rules.specs.WalkTyping.{Walking, walk_infer, walk_rule, walk_sort_of, walk_fits, walk_check, walk_retype, walk_prod, walk_lambda, walk_let, walk_app, walk_check_all, walk_sorts_of, walk_predicate, walk_scrutinee, walk_branch, walk_branches, walk_case, walk_types, walk_definition, walk_definitions, walk_fix}
+use Rattle.cert_rules.specs.WalkTyping.{Walking, walk_infer, walk_rule, walk_sort_found, walk_sort_of, walk_fits, walk_check, walk_retype, walk_prod, walk_lambda, walk_let, walk_app, walk_check_all, walk_sorts_of, walk_predicate, walk_scrutinee, walk_branch, walk_branches, walk_case, walk_types, walk_definition, walk_definitions, walk_fix}
 use Rattle.type_cert.specs.declared.verifier.Verifier.{Verifier}
 
 abbrev pub going : Verifier → Script
@@ -46,6 +46,11 @@ rule_walk v = walk_rule v.cert.now v.env.now (inferring v) (going v)
 
 abbrev pub sorting : Verifier → Context → Term → WalkState → Walk Sort
 sorting v = walk_sort_of v.cert.now v.env.now (inferring v)
+
+-- from the type of the term on
+abbrev pub sorting_type : Verifier → Context → Term → WalkState → Walk Sort
+sorting_type v c T s =
+    walk_on (reduced v.cert.now v.env.now (values c) T s) (λ r w. walk_sort_found (inferring v) c r.item r.count r.term w)
 
 abbrev pub fitting : Verifier → Context → Term → Term → WalkAct
 fitting v = walk_fits v.cert.now v.env.now (inferring v) (going v)

@@ -1,5 +1,5 @@
 //! Applications: rule 6, which puts the arguments in all at once where the types of functions are written as products (`type_infer`: `pending`).
-ghost use Rattle.std.specs.Prelude.{◌≡◌, ◌+◌, IsTrue, IsFalse, Ok, Some, slice_get};
+ghost use Rattle.std.specs.Prelude.{◌≡◌, ◌+◌, Ok};
 ghost use Rattle.cert_rules.specs.Walk.{Walk, walk_on};
 ghost use Rattle.type_infer.specs.Ready.{IsReady};
 ghost use Rattle.type_cert.specs.Retraces.{Retraces, stand};
@@ -7,36 +7,18 @@ ghost use Rattle.type_cert.specs.Going.{app_walk, inferring};
 ghost use Rattle.type_cert.specs.PendingWalk.{RetracesPending, reduced_walk};
 ghost use Rattle.pc_terms.specs.Syntax.{App, Term};
 ghost use Rattle.type_cert.specs.declared.trail.Trail.{Trail};
-ghost use Rattle.cert_rules.specs.declared.item.CertItem.TheVariants.{Number};
 
 use crate::halt::WalkHalt;
 use crate::numbers::reduced;
-use crate::trail::Trail;
+use crate::trail::{Trail, passes_no_step};
 use crate::typing::TypeWalk;
 use crate::verifier::Verifier;
-use cert_rules::item::CertItem;
 use pc_rules::context::Ctx;
 use pc_rules::guarder::Guarder;
 use pc_rules::stop::Stop;
 use pc_terms::term::{Node, Term};
 use std::alloc::Global;
 use type_infer::pending::PendingType;
-
-/// Passes the next item where it is the number of no steps; whether it was.
-fn passes_no_step(cert: &[CertItem], trail: &mut Trail) -> bool
-    ensures there { IsTrue result → slice_get cert.now trail.old.at ≡ Some (Number 0) }
-    ensures passed { IsTrue result → trail.new.at ≡ trail.old.at + 1 }
-    ensures stays { IsFalse result → trail.new ≡ trail.old }
-    ensures meter { trail.new.meter ≡ trail.old.meter }
-{
-    match cert.get(trail.at) {
-        Some(CertItem::Number(0)) => {
-            trail.at += 1;
-            true
-        }
-        _ => false,
-    }
-}
 
 impl<G: Guarder> TypeWalk<'_, G> {
     /// An application has the codomain of its function's type, after the steps of a number, with the argument put in. Refused at that number
@@ -180,6 +162,7 @@ impl<G: Guarder> TypeWalk<'_, G> {
                 room: self.verifier.room - 1,
             },
             guarder: self.guarder,
+            made: self.made,
         };
         let answer = inner.application_type(alloc, ctx, function, argument, trail);
         trail.meter.leave();

@@ -5,6 +5,7 @@ ghost use Rattle.type_cert.specs.Retraces.{Retraces, stand};
 ghost use Rattle.type_cert.specs.Going.{prod_walk, lambda_walk, let_walk};
 
 use crate::halt::WalkHalt;
+use crate::sorts::sort_over;
 use crate::trail::Trail;
 use crate::typing::TypeWalk;
 use calculus_rules::entry::Entry;
@@ -12,7 +13,6 @@ use pc_rules::context::Ctx;
 use pc_rules::guarder::Guarder;
 use pc_terms::term::{Node, Term};
 use std::alloc::Global;
-use universe_levels::sort::Sort;
 
 impl<G: Guarder> TypeWalk<'_, G> {
     /// A product has the product sort of its domain's sort and of its codomain's, which is under the domain.
@@ -29,10 +29,10 @@ impl<G: Guarder> TypeWalk<'_, G> {
         requires ready { IsReady self.now.verifier.env.now ctx.now }
         ensures retraces { Retraces (prod_walk self.now.verifier ctx.now domain.now codomain.now (stand trail.old)) result trail.old trail.new }
     {
-        let low = self.sort_of(alloc, ctx, domain, trail)?;
+        let low = self.sort_term(alloc, ctx, domain, trail)?;
         let under = ctx.extended(alloc, Entry::Assumed(domain.share()?))?;
-        let high = self.sort_of(alloc, &under, codomain, trail)?;
-        let sort = Sort::product(alloc, &low, &high)?;
+        let high = self.sort_term(alloc, &under, codomain, trail)?;
+        let sort = sort_over(alloc, &low, &high)?;
         Ok(Term::make(alloc, Node::Sort(sort))?)
     }
 
@@ -50,7 +50,7 @@ impl<G: Guarder> TypeWalk<'_, G> {
         requires ready { IsReady self.now.verifier.env.now ctx.now }
         ensures retraces { Retraces (lambda_walk self.now.verifier ctx.now domain.now body.now (stand trail.old)) result trail.old trail.new }
     {
-        let _sort = self.sort_of(alloc, ctx, domain, trail)?;
+        self.sorted(alloc, ctx, domain, trail)?;
         let under = ctx.extended(alloc, Entry::Assumed(domain.share()?))?;
         let ty = self.infer(alloc, &under, body, trail)?;
         Ok(Term::make(alloc, Node::Prod(domain.share()?, ty))?)
@@ -71,7 +71,7 @@ impl<G: Guarder> TypeWalk<'_, G> {
         requires ready { IsReady self.now.verifier.env.now ctx.now }
         ensures retraces { Retraces (let_walk self.now.verifier ctx.now value.now ty.now body.now (stand trail.old)) result trail.old trail.new }
     {
-        let _sort = self.sort_of(alloc, ctx, ty, trail)?;
+        self.sorted(alloc, ctx, ty, trail)?;
         self.check(alloc, ctx, value, ty, trail)?;
         let entry = Entry::Defined {
             value: value.share()?,

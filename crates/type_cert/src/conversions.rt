@@ -1,17 +1,20 @@
-//! Conversion: the sort of a term, a term against a type, and a type in place of another.
+//! Conversion: the sort of a term, that a term has a sort, a term against a type, and a type in place of another.
 ghost use Rattle.std.specs.Prelude.{◌≡◌, ◌+◌, IfOk};
 ghost use Rattle.pc_rules.specs.WellCounted.{IsCounted};
 ghost use Rattle.type_infer.specs.Ready.{IsReady};
 ghost use Rattle.type_cert.specs.Retraces.{Retraces, stand};
-ghost use Rattle.type_cert.specs.Going.{sorting, fitting, checking, retyping};
+ghost use Rattle.type_cert.specs.Going.{sorting, sorting_type, fitting, checking, retyping};
+ghost use Rattle.type_cert.specs.Unread.{RetracesSort, RetracesUnread};
 
 use crate::halt::WalkHalt;
 use crate::numbers::{item_at, reduced};
+use crate::sorts::stays_sort;
 use crate::trail::Trail;
 use crate::typing::TypeWalk;
 use cert_rules::item::CertItem;
 use pc_rules::context::Ctx;
 use pc_rules::guarder::Guarder;
+use pc_rules::stop::Stop;
 use pc_terms::term::{Node, Term};
 use std::alloc::Global;
 use universe_levels::sort::Sort;
@@ -32,17 +35,106 @@ impl<G: Guarder> TypeWalk<'_, G> {
         ensures retraces { Retraces (sorting self.now.verifier ctx.now t.now (stand trail.old)) result trail.old trail.new }
         ensures counted { IfOk result (λ _. IsCounted self.now.verifier.env.now t.now) }
     {
+        let found = self.sort_term(alloc, ctx, t, trail)?;
+        match found.view() {
+            Node::Sort(s) => Ok(s.share(alloc)?),
+            // No other is found.
+            _ => Err(WalkHalt::Stop(Stop::Memory)),
+        }
+    }
+
+    /// The sort of a term, as a term.
+    #[cycle(infer)]
+    pub(crate) fn sort_term(
+        &self,
+        alloc: Global,
+        ctx: &Ctx,
+        t: &Term,
+        trail: &mut Trail,
+    ) -> Result<Term, WalkHalt>
+        requires nest { self.now.verifier.room + trail.old.meter.nest ≡ 2048 }
+        requires ready { IsReady self.now.verifier.env.now ctx.now }
+        ensures retraces { RetracesSort (sorting self.now.verifier ctx.now t.now (stand trail.old)) result trail.old trail.new }
+        ensures counted { IfOk result (λ _. IsCounted self.now.verifier.env.now t.now) }
+    {
         let ty = self.infer(alloc, ctx, t, trail)?;
+        if stays_sort(self.verifier.cert, &ty, trail) {
+            return Ok(ty);
+        }
+        self.sort_from(alloc, ctx, ty, trail)
+    }
+
+    /// That a term has a sort, which is not given: of a sort, and of a family whose type is one, no type is made.
+    #[cycle(infer)]
+    pub(crate) fn sorted(
+        &self,
+        alloc: Global,
+        ctx: &Ctx,
+        t: &Term,
+        trail: &mut Trail,
+    ) -> Result<(), WalkHalt>
+        requires nest { self.now.verifier.room + trail.old.meter.nest ≡ 2048 }
+        requires ready { IsReady self.now.verifier.env.now ctx.now }
+        ensures retraces { RetracesUnread (sorting self.now.verifier ctx.now t.now (stand trail.old)) result trail.old trail.new }
+        ensures counted { IfOk result (λ _. IsCounted self.now.verifier.env.now t.now) }
+    {
+        match t.view() {
+            Node::Sort(s) => {
+                if self.verifier.passes_sort(s, trail) {
+                    return Ok(());
+                }
+                self.inferred_sorted(alloc, ctx, t, trail)
+            }
+            Node::Ind(id) => {
+                if self.verifier.passes_family(*id, trail) {
+                    return Ok(());
+                }
+                self.inferred_sorted(alloc, ctx, t, trail)
+            }
+            _ => self.inferred_sorted(alloc, ctx, t, trail),
+        }
+    }
+
+    /// The same, by the term's type.
+    #[cycle(infer)]
+    fn inferred_sorted(
+        &self,
+        alloc: Global,
+        ctx: &Ctx,
+        t: &Term,
+        trail: &mut Trail,
+    ) -> Result<(), WalkHalt>
+        requires nest { self.now.verifier.room + trail.old.meter.nest ≡ 2048 }
+        requires ready { IsReady self.now.verifier.env.now ctx.now }
+        ensures retraces { RetracesUnread (sorting self.now.verifier ctx.now t.now (stand trail.old)) result trail.old trail.new }
+        ensures counted { IfOk result (λ _. IsCounted self.now.verifier.env.now t.now) }
+    {
+        let _found = self.sort_term(alloc, ctx, t, trail)?;
+        Ok(())
+    }
+
+    /// The sort of a term, as a term, by its type, of which the steps of a number are made.
+    #[cycle(infer)]
+    fn sort_from(
+        &self,
+        alloc: Global,
+        ctx: &Ctx,
+        ty: Term,
+        trail: &mut Trail,
+    ) -> Result<Term, WalkHalt>
+        requires nest { self.now.verifier.room + trail.old.meter.nest ≡ 2048 }
+        requires ready { IsReady self.now.verifier.env.now ctx.now }
+        ensures retraces { RetracesSort (sorting_type self.now.verifier ctx.now ty (stand trail.old)) result trail.old trail.new }
+    {
         let item = trail.at;
         let (count, found) = reduced(alloc, &self.verifier, ctx, ty, trail)?;
         match found.view() {
-            Node::Sort(s) => {
-                let sort = s.share(alloc)?;
+            Node::Sort(_) => {
                 if count == 0 {
-                    return Ok(sort);
+                    return Ok(found);
                 }
                 let _above = self.infer(alloc, ctx, &found, trail)?;
-                Ok(sort)
+                Ok(found)
             }
             _ => Err(WalkHalt::Barred { item }),
         }
@@ -74,7 +166,7 @@ impl<G: Guarder> TypeWalk<'_, G> {
             }
             Some(CertItem::Conv) => {
                 trail.at += 1;
-                let _sort = self.sort_of(alloc, ctx, ty, trail)?;
+                self.sorted(alloc, ctx, ty, trail)?;
                 self.verifier.script(alloc, ctx, false, found, ty, trail)
             }
             _ => Err(WalkHalt::Barred { item: trail.at }),
@@ -118,7 +210,7 @@ impl<G: Guarder> TypeWalk<'_, G> {
         if count == 0 {
             return Ok(());
         }
-        let _sort = self.sort_of(alloc, ctx, found, trail)?;
+        self.sorted(alloc, ctx, found, trail)?;
         Ok(())
     }
 }

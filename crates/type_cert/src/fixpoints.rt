@@ -44,7 +44,7 @@ impl<G: Guarder> TypeWalk<'_, G> {
         let mut under = ctx.share()?;
         for i in 0..count {
             let ty = items[i as usize].ty.lift(alloc, i, 0)?;
-            let _sort = self.sort_of(alloc, &under, &ty, trail)?;
+            self.sorted(alloc, &under, &ty, trail)?;
             under = under.extended(alloc, Entry::Assumed(ty))?;
         }
         Ok(under)

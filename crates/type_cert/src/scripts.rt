@@ -109,8 +109,49 @@ impl Verifier<'_> {
         steps(alloc, self.env, ctx, item, n, term, trail)
     }
 
-    /// A script for two terms. First it is gone along by values of which nothing is read (`unread`); where it isn't seen to pass so, the terms decide.
+    /// A script for two terms. If it is longer than an item, it is first gone along by values of which nothing is read (`unread`); where it isn't
+    /// seen to pass so, the terms decide.
     pub fn script(
+        &self,
+        alloc: Global,
+        ctx: &Ctx,
+        equal: bool,
+        a: &Term,
+        b: &Term,
+        trail: &mut Trail,
+    ) -> Result<(), WalkHalt>
+        requires nest { self.now.room + trail.old.meter.nest ≡ 2048 }
+        requires scriptable { AreScriptable self.now.env.now (values ctx.now) a.now b.now }
+        ensures retraces { Retraces (going self.now (values ctx.now) equal a.now b.now (stand trail.old)) result trail.old trail.new }
+    {
+        match item_at(self.cert, trail.at) {
+            Some(CertItem::Same) => self.short_script(equal, a, b, trail),
+            _ => self.long_script(alloc, ctx, equal, a, b, trail),
+        }
+    }
+
+    /// A script of one item, which says that two terms are the same, or sorts that stand as asked: one more rule that stands, and the item.
+    fn short_script(
+        &self,
+        equal: bool,
+        a: &Term,
+        b: &Term,
+        trail: &mut Trail,
+    ) -> Result<(), WalkHalt>
+        requires next { slice_get self.now.cert.now trail.old.at ≡ Some Same }
+        requires env { IsCountedEnv self.now.env.now }
+        requires left { IsCounted self.now.env.now a.now }
+        requires right { IsCounted self.now.env.now b.now }
+        ensures retraces { (V : Values) → Retraces (going self.now V equal a.now b.now (stand trail.old)) result trail.old trail.new }
+    {
+        if self.room == 0 {
+            return Err(WalkHalt::Stop(Stop::TooDeep));
+        }
+        self.same_item(equal, a, b, trail)
+    }
+
+    /// A script that begins with another item.
+    fn long_script(
         &self,
         alloc: Global,
         ctx: &Ctx,
@@ -133,7 +174,7 @@ impl Verifier<'_> {
         }
     }
 
-    /// Where a script is seen to pass by values of which nothing is read: the pace behind it. A script of one item isn't looked at.
+    /// Where a script is seen to pass by values of which nothing is read: the pace behind it.
     fn passes(
         &self,
         alloc: Global,
@@ -145,9 +186,6 @@ impl Verifier<'_> {
     ) -> Option<Pace>
         ensures passes { IfSome result (λ q. Passes (going self.now (values ctx.now) equal a.now b.now) (pace_of trail.now) q) }
     {
-        if let Some(CertItem::Same) = item_at(self.cert, trail.at) {
-            return None;
-        }
         let Ok(left) = a.share() else {
             return None;
         };

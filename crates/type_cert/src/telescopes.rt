@@ -39,7 +39,7 @@ impl<G: Guarder> TypeWalk<'_, G> {
         let items = entries.as_slice();
         for i in 0..items.len() {
             let ty = &items[i];
-            let _sort = self.sort_of(alloc, &inner, ty, trail)?;
+            self.sorted(alloc, &inner, ty, trail)?;
             let entry = Entry::Assumed(ty.share()?);
             inner = inner.extended(alloc, entry)?;
         }

@@ -14,14 +14,16 @@ use pc_rules::guarder::Guarder;
 use pc_rules::stop::Stop;
 use pc_terms::term::{Node, Term};
 use std::alloc::Global;
-use type_infer::declared::{const_rule, construct_rule, ind_rule};
+use type_infer::declared::{const_rule, constructor_rule, family_rule};
 use type_infer::leaves::{rel_rule, sort_rule};
+use type_infer::made_types::MadeTypes;
 
-/// What the walk of typing goes along: a certificate with an environment, and what judges fixpoints.
+/// What the walk of typing goes along: a certificate with an environment, what judges fixpoints, and the types of families and constructors that were made.
 #[derive(Drop)]
 pub struct TypeWalk<'a, G> {
     pub verifier: Verifier<'a>,
     pub guarder: &'a G,
+    pub made: &'a MadeTypes,
 }
 
 impl<G: Guarder> TypeWalk<'_, G> {
@@ -54,6 +56,7 @@ impl<G: Guarder> TypeWalk<'_, G> {
                 room: self.verifier.room - 1,
             },
             guarder: self.guarder,
+            made: self.made,
         };
         let answer = inner.rule(alloc, ctx, t, trail);
         trail.meter.leave();
@@ -77,8 +80,8 @@ impl<G: Guarder> TypeWalk<'_, G> {
             Node::LetIn(b, ty, t) => self.let_rule(alloc, ctx, b, ty, t, trail),
             Node::App(f, a) => self.app_rule(alloc, ctx, f, a, trail),
             Node::Const(k) => at_item(at, const_rule(env, *k)),
-            Node::Ind(f) => at_item(at, ind_rule(alloc, env, *f)),
-            Node::Construct(f, c) => at_item(at, construct_rule(alloc, env, *f, *c)),
+            Node::Ind(f) => at_item(at, family_rule(alloc, self.made, env, *f)),
+            Node::Construct(f, c) => at_item(at, constructor_rule(alloc, self.made, env, *f, *c)),
             Node::Case(x) => self.case_rule(alloc, ctx, x, trail),
             Node::Fix(ds, i) => self.fix_rule(alloc, ctx, t, ds, *i, trail),
         }

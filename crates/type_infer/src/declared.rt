@@ -68,13 +68,8 @@ pub fn ind_rule(alloc: Global, env: &Env, id: FamilyId) -> Result<Term, Halt>
     family_rule(alloc, &MadeTypes::none(), env, id)
 }
 
-/// The type of a family, rule 8, which is taken from the table where it was made before.
-pub(crate) fn family_rule(
-    alloc: Global,
-    made: &MadeTypes,
-    env: &Env,
-    id: FamilyId,
-) -> Result<Term, Halt>
+/// The type of a family, rule 8, as `ind_rule`; it is taken from the table where it was made before, and else kept there.
+pub fn family_rule(alloc: Global, made: &MadeTypes, env: &Env, id: FamilyId) -> Result<Term, Halt>
     ensures answers { (u : Account) → Answers (ind_rule env.now id u) result u }
 {
     let Some(block) = env.block(id.block) else {
@@ -92,8 +87,8 @@ pub fn construct_rule(alloc: Global, env: &Env, id: FamilyId, number: u32) -> Re
     constructor_rule(alloc, &MadeTypes::none(), env, id, number)
 }
 
-/// The type of a constructor, rule 9, which is taken from the table where it was made before.
-pub(crate) fn constructor_rule(
+/// The type of a constructor, rule 9, as `construct_rule`; it is taken from the table where it was made before, and else kept there.
+pub fn constructor_rule(
     alloc: Global,
     made: &MadeTypes,
     env: &Env,

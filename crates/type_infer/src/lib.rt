@@ -33,7 +33,7 @@ pub mod fixpoints;
 pub mod inference;
 pub mod leaves;
 pub mod lookup;
-mod made_types;
+pub mod made_types;
 mod matches;
 pub mod pending;
 pub mod scrutinees;

@@ -36,7 +36,7 @@ struct Made {
 
 /// A table of types of families and constructors, with room for `most` of them. Clauses know nothing of what is in it.
 #[derive(Drop)]
-pub(crate) struct MadeTypes {
+pub struct MadeTypes {
     most: u32,
     places: Cell<Option<Vec<Option<Made>>>>,
 }
@@ -205,7 +205,7 @@ fn put_at(places: &mut Vec<Option<Made>>, place: u32, made: Made) {
 
 impl MadeTypes {
     /// A table without types. Takes no memory.
-    pub(crate) fn new() -> MadeTypes {
+    pub fn new() -> MadeTypes {
         MadeTypes {
             most: MOST_MADE,
             places: Cell::new(None),

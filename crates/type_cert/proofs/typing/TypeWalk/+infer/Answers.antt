@@ -22,6 +22,7 @@ use Rattle.type_infer.proofs.Matching.{longer_next}
 use Rattle.type_cert.specs.Going.{inferring}
 use Rattle.type_cert.proofs.Retracing.{retraces_on, retraces_err, retraces_pass, retraces_memory, retraces_passed, passed_nothing, retraces_with, retraces_value, retraces_made, retraces_fault, retraces_answers, retraces_follows, retraces_passing, retraces_beyond, retraces_after, retraces_before, told_of}
 use Rattle.type_infer.proofs.Pendings.{pending_product, pending_beyond}
+use Rattle.type_cert.proofs.Sorting.{unread_done, unread_passed, sort_given, given_halts, given_passed, given_on, sort_taken, sort_stays, sort_passes, sort_counted}
 use Rattle.type_cert.proofs.WalkedPendings.{ends_made, pends_there, pends_whole, pends_fault, pends_from, pends_passed, pends_halts, pends_each, fault_later, product_stays}
 use Rattle.type_cert.proofs.Inferring.{infer_spent, infer_nested, infer_entered, inferred_from, reached_counted, sort_there, sort_goes, product_found, no_retype, retype_stops, retype_goes, fits_same, fits_differ, fits_conv}
 use Rattle.type_cert.proofs.TypedLists.{entered_next, entered_stop, entered_end, all_next, all_stop, all_fault, all_end, branches_next, branches_stop, branches_end, types_next, types_stop, types_fault, types_done, definitions_go, definitions_stop, definitions_end, all_definitions, few_lambdas, lambdas_found, is_family, no_family_found}
@@ -80,10 +81,10 @@ pub rule-returns-in-Const : goal.rule-returns-in-Const
 rule-returns-in-Const g t c = record { retraces = rw (← c.view.ensures.is, c.in-Const.is) (retraces_answers _ _ c.at_item-in-Const.ensures.is (c.const_rule.ensures.answers _)) }
 
 pub rule-returns-in-Ind : goal.rule-returns-in-Ind
-rule-returns-in-Ind g t c = record { retraces = rw (← c.view.ensures.is, c.in-Ind.is) (retraces_answers _ _ c.at_item-in-Ind.ensures.is (c.ind_rule.ensures.answers _)) }
+rule-returns-in-Ind g t c = record { retraces = rw (← c.view.ensures.is, c.in-Ind.is) (retraces_answers _ _ c.at_item-in-Ind.ensures.is (c.family_rule.ensures.answers _)) }
 
 pub rule-returns-in-Construct : goal.rule-returns-in-Construct
-rule-returns-in-Construct g t c = record { retraces = rw (← c.view.ensures.is, c.in-Construct.is) (retraces_answers _ _ c.at_item-in-Construct.ensures.is (c.construct_rule.ensures.answers _)) }
+rule-returns-in-Construct g t c = record { retraces = rw (← c.view.ensures.is, c.in-Construct.is) (retraces_answers _ _ c.at_item-in-Construct.ensures.is (c.constructor_rule.ensures.answers _)) }
 
 pub rule-returns-in-Case : goal.rule-returns-in-Case
 rule-returns-in-Case g t c = record { retraces = rw (← c.view.ensures.is, c.in-Case.is) c.case_rule.ensures.retraces }
@@ -99,77 +100,79 @@ rule-returns-in-Fix g t c = record { retraces = rw (← c.view.ensures.is, c.in-
 
 -- products
 pub prod_rule-returns-in_err-low : goal.prod_rule-returns-in_err-low
-prod_rule-returns-in_err-low g t c = record { retraces = retraces_passed c.from_residual.ensures.1 (retraces_err _ c.in_err-low.ensures.retraces) }
+prod_rule-returns-in_err-low g t c = record { retraces = retraces_passed c.from_residual.ensures.1 (retraces_err _ c.in_err-low.ensures.retraces.sorts) }
 
-pub prod_rule-sort_of-requires-2 : goal.prod_rule-sort_of-requires-2
-prod_rule-sort_of-requires-2 g t c =
+pub prod_rule-sort_term-requires-2 : goal.prod_rule-sort_term-requires-2
+prod_rule-sort_term-requires-2 g t c =
     let r : IsReady c.args.self.now.verifier.env.now c.in_ok-under.under = rw (c.in_ok-under.ensures.longer, c.in_ok-share.ensures.ok) (assumed_ready _ _ _ c.requires.ready c.in_ok-low.ensures.counted) in
     let n = c.in_ok-low.ensures.retraces.after.nest in
     search rules
 
 pub prod_rule-returns-in_err-high : goal.prod_rule-returns-in_err-high
 prod_rule-returns-in_err-high g t c =
-    record { retraces = retraces_passed c.from_residual-in_err-high.ensures.1 (retraces_on _ c.in_ok-low.ensures.retraces (retraces_err _ (rw (c.in_ok-under.ensures.longer, c.in_ok-share.ensures.ok) at c.in_err-high.ensures.retraces))) }
+    record { retraces = retraces_passed c.from_residual-in_err-high.ensures.1 (retraces_on _ c.in_ok-low.ensures.retraces.sorts.1.1 (retraces_err _ (rw (c.in_ok-under.ensures.longer, c.in_ok-share.ensures.ok) at c.in_err-high.ensures.retraces.sorts))) }
 
 pub prod_rule-returns : goal.prod_rule-returns
 prod_rule-returns g t c =
-    let h = rw (c.in_ok-under.ensures.longer, c.in_ok-share.ensures.ok) at c.in_ok-high.ensures.retraces in
-    record { retraces = retraces_on _ c.in_ok-low.ensures.retraces (retraces_on _ h (retraces_value _ _ _ (c.in_ok-make.ensures.ok ∙ ap SortT c.in_ok-sort.ensures.value))) }
+    let l = c.in_ok-low.ensures.retraces.sorts in
+    let h = c.in_ok-high.ensures.retraces.sorts in
+    let k = rw (c.in_ok-under.ensures.longer, c.in_ok-share.ensures.ok) at h.1.1 in
+    record { retraces = retraces_on _ l.1.1 (retraces_on _ k (retraces_value _ _ _ (c.in_ok-make.ensures.ok ∙ ap SortT (c.in_ok-sort.ensures.value l.0 h.0 l.1.0 h.1.0)))) }
 
 -- lambdas
-pub lambda_rule-returns-in_err-_sort : goal.lambda_rule-returns-in_err-_sort
-lambda_rule-returns-in_err-_sort g t c = record { retraces = retraces_passed c.from_residual.ensures.1 (retraces_err _ c.in_err-_sort.ensures.retraces) }
+pub lambda_rule-returns-in_err-sorted : goal.lambda_rule-returns-in_err-sorted
+lambda_rule-returns-in_err-sorted g t c = record { retraces = retraces_passed c.from_residual.ensures.1 (retraces_err _ c.in_err-sorted.ensures.retraces.unread) }
 
 pub lambda_rule-infer-requires : goal.lambda_rule-infer-requires
 lambda_rule-infer-requires g t c =
-    let r : IsReady c.args.self.now.verifier.env.now c.in_ok-under.under = rw (c.in_ok-under.ensures.longer, c.in_ok-share.ensures.ok) (assumed_ready _ _ _ c.requires.ready c.in_ok-_sort.ensures.counted) in
-    let n = c.in_ok-_sort.ensures.retraces.after.nest in
+    let r : IsReady c.args.self.now.verifier.env.now c.in_ok-under.under = rw (c.in_ok-under.ensures.longer, c.in_ok-share.ensures.ok) (assumed_ready _ _ _ c.requires.ready c.in_ok-sorted.ensures.counted) in
+    let n = c.in_ok-sorted.ensures.retraces.after.nest in
     search rules
 
 pub lambda_rule-returns-in_err-ty : goal.lambda_rule-returns-in_err-ty
 lambda_rule-returns-in_err-ty g t c =
-    record { retraces = retraces_passed c.from_residual-in_err-ty.ensures.1 (retraces_on _ c.in_ok-_sort.ensures.retraces (retraces_err _ (rw (c.in_ok-under.ensures.longer, c.in_ok-share.ensures.ok) at c.in_err-ty.ensures.retraces))) }
+    record { retraces = retraces_passed c.from_residual-in_err-ty.ensures.1 (retraces_on _ c.in_ok-sorted.ensures.retraces.unread.1 (retraces_err _ (rw (c.in_ok-under.ensures.longer, c.in_ok-share.ensures.ok) at c.in_err-ty.ensures.retraces))) }
 
 pub lambda_rule-returns-in_err-make : goal.lambda_rule-returns-in_err-make
 lambda_rule-returns-in_err-make g t c =
     let h = rw (c.in_ok-under.ensures.longer, c.in_ok-share.ensures.ok) at c.in_ok-ty.ensures.retraces in
-    record { retraces = retraces_passed c.from_residual-in_err-make.ensures.1 (retraces_on _ c.in_ok-_sort.ensures.retraces (retraces_on _ h (retraces_fault _ _ _ (rw c.in_ok-share-2.ensures.ok at c.in_err-make.ensures.too_deep)))) }
+    record { retraces = retraces_passed c.from_residual-in_err-make.ensures.1 (retraces_on _ c.in_ok-sorted.ensures.retraces.unread.1 (retraces_on _ h (retraces_fault _ _ _ (rw c.in_ok-share-2.ensures.ok at c.in_err-make.ensures.too_deep)))) }
 
 pub lambda_rule-returns : goal.lambda_rule-returns
 lambda_rule-returns g t c =
     let h = rw (c.in_ok-under.ensures.longer, c.in_ok-share.ensures.ok) at c.in_ok-ty.ensures.retraces in
-    record { retraces = retraces_on _ c.in_ok-_sort.ensures.retraces (retraces_on _ h (retraces_made _ _ _ (rw c.in_ok-share-2.ensures.ok at c.in_ok-make.ensures.ok))) }
+    record { retraces = retraces_on _ c.in_ok-sorted.ensures.retraces.unread.1 (retraces_on _ h (retraces_made _ _ _ (rw c.in_ok-share-2.ensures.ok at c.in_ok-make.ensures.ok))) }
 
 -- lets
-pub let_rule-returns-in_err-_sort : goal.let_rule-returns-in_err-_sort
-let_rule-returns-in_err-_sort g t c = record { retraces = retraces_passed c.from_residual.ensures.1 (retraces_err _ c.in_err-_sort.ensures.retraces) }
+pub let_rule-returns-in_err-sorted : goal.let_rule-returns-in_err-sorted
+let_rule-returns-in_err-sorted g t c = record { retraces = retraces_passed c.from_residual.ensures.1 (retraces_err _ c.in_err-sorted.ensures.retraces.unread) }
 
 pub let_rule-returns-in_err-check : goal.let_rule-returns-in_err-check
 let_rule-returns-in_err-check g t c =
-    record { retraces = retraces_passed c.from_residual-in_err-check.ensures.1 (retraces_on _ c.in_ok-_sort.ensures.retraces (retraces_err _ c.in_err-check.ensures.retraces)) }
+    record { retraces = retraces_passed c.from_residual-in_err-check.ensures.1 (retraces_on _ c.in_ok-sorted.ensures.retraces.unread.1 (retraces_err _ c.in_err-check.ensures.retraces)) }
 
 pub let_rule-infer-requires : goal.let_rule-infer-requires
 let_rule-infer-requires g t c =
-    let r : IsReady c.args.self.now.verifier.env.now c.in_ok-under.under = rw (c.in_ok-under.ensures.longer, c.in_ok-share.ensures.ok, c.in_ok-share-2.ensures.ok) (defined_ready _ _ _ _ c.requires.ready c.in_ok-check.ensures.counted c.in_ok-_sort.ensures.counted) in
-    let n = c.in_ok-check.ensures.retraces.after.nest ∙ c.in_ok-_sort.ensures.retraces.after.nest in
+    let r : IsReady c.args.self.now.verifier.env.now c.in_ok-under.under = rw (c.in_ok-under.ensures.longer, c.in_ok-share.ensures.ok, c.in_ok-share-2.ensures.ok) (defined_ready _ _ _ _ c.requires.ready c.in_ok-check.ensures.counted c.in_ok-sorted.ensures.counted) in
+    let n = c.in_ok-check.ensures.retraces.after.nest ∙ c.in_ok-sorted.ensures.retraces.after.nest in
     search rules
 
 pub let_rule-returns-in_err-found : goal.let_rule-returns-in_err-found
 let_rule-returns-in_err-found g t c =
     let h = rw (c.in_ok-under.ensures.longer, c.in_ok-share.ensures.ok, c.in_ok-share-2.ensures.ok) at c.in_err-found.ensures.retraces in
-    record { retraces = retraces_passed c.from_residual-in_err-found.ensures.1 (retraces_on _ c.in_ok-_sort.ensures.retraces (retraces_on _ c.in_ok-check.ensures.retraces (retraces_err _ h))) }
+    record { retraces = retraces_passed c.from_residual-in_err-found.ensures.1 (retraces_on _ c.in_ok-sorted.ensures.retraces.unread.1 (retraces_on _ c.in_ok-check.ensures.retraces (retraces_err _ h))) }
 
 pub let_rule-returns-in_err-made : goal.let_rule-returns-in_err-made
 let_rule-returns-in_err-made g t c =
     let h = rw (c.in_ok-under.ensures.longer, c.in_ok-share.ensures.ok, c.in_ok-share-2.ensures.ok) at c.in_ok-found.ensures.retraces in
     let k = rw (c.in_ok-share-3.ensures.ok, c.in_ok-share-4.ensures.ok) at c.in_err-made.ensures.too_deep in
-    record { retraces = retraces_passed c.from_residual-in_err-made.ensures.1 (retraces_on _ c.in_ok-_sort.ensures.retraces (retraces_on _ c.in_ok-check.ensures.retraces (retraces_on _ h (retraces_fault _ _ _ k)))) }
+    record { retraces = retraces_passed c.from_residual-in_err-made.ensures.1 (retraces_on _ c.in_ok-sorted.ensures.retraces.unread.1 (retraces_on _ c.in_ok-check.ensures.retraces (retraces_on _ h (retraces_fault _ _ _ k)))) }
 
 pub let_rule-returns : goal.let_rule-returns
 let_rule-returns g t c =
     let h = rw (c.in_ok-under.ensures.longer, c.in_ok-share.ensures.ok, c.in_ok-share-2.ensures.ok) at c.in_ok-found.ensures.retraces in
     let k = rw (c.in_ok-share-3.ensures.ok, c.in_ok-share-4.ensures.ok) at c.in_ok-made.ensures.ok in
-    record { retraces = retraces_on _ c.in_ok-_sort.ensures.retraces (retraces_on _ c.in_ok-check.ensures.retraces (retraces_on _ h (retraces_made _ _ _ k))) }
+    record { retraces = retraces_on _ c.in_ok-sorted.ensures.retraces.unread.1 (retraces_on _ c.in_ok-check.ensures.retraces (retraces_on _ h (retraces_made _ _ _ k))) }
 
 -- applications
 pub app_rule-returns-in_err-ty : goal.app_rule-returns-in_err-ty
@@ -303,37 +306,99 @@ inner_type-returns g t c =
     }
 
 -- the sort of a term
-pub sort_of-returns-in_err-ty-clause-retraces : goal.sort_of-returns-in_err-ty-clause-retraces
-unfolding walk_sort_of
-sort_of-returns-in_err-ty-clause-retraces g t c = retraces_passed c.from_residual.ensures.1 (retraces_err _ c.in_err-ty.ensures.retraces)
+pub sort_of-returns-in_err-found : goal.sort_of-returns-in_err-found
+sort_of-returns-in_err-found g t c = record { retraces = retraces_passed c.from_residual.ensures.1 c.in_err-found.ensures.retraces.sorts; counted = passed_nothing _ c.from_residual.result _ c.from_residual.ensures.1 }
 
-pub sort_of-returns-in_err-count-clause-retraces : goal.sort_of-returns-in_err-count-clause-retraces
-unfolding walk_sort_of
-sort_of-returns-in_err-count-clause-retraces g t c = retraces_passed c.from_residual-in_err-count.ensures.1 (retraces_on _ c.in_ok-ty.ensures.retraces (retraces_err _ c.in_err-count.ensures.retraces))
-
-pub sort_of-returns-then-count-eq0-clause-retraces : goal.sort_of-returns-then-count-eq0-clause-retraces
-unfolding walk_sort_of
-sort_of-returns-then-count-eq0-clause-retraces g t c =
+pub sort_of-returns-in-Sort : goal.sort_of-returns-in-Sort
+sort_of-returns-in-Sort g t c =
     let e = rw c.in-Sort.is at c.view.ensures.is in
-    retraces_on _ c.in_ok-ty.ensures.retraces (retraces_on _ c.in_ok-count.ensures.retraces (sort_there (inferring c.args.self.now.verifier) c.args.ctx.now _ _ e _ _ (search rules) c.in_ok-sort-in-Sort.ensures.value))
+    record { retraces = sort_taken c.in_ok-found.ensures.retraces e c.in_ok-share-in-Sort.ensures.value; counted = c.in_ok-found.ensures.counted }
 
-pub sort_of-returns-in_err-_above-in-Sort-clause-retraces : goal.sort_of-returns-in_err-_above-in-Sort-clause-retraces
+pub sort_term-returns-in_err-ty-clause-retraces : goal.sort_term-returns-in_err-ty-clause-retraces
 unfolding walk_sort_of
-sort_of-returns-in_err-_above-in-Sort-clause-retraces g t c =
+sort_term-returns-in_err-ty-clause-retraces g t c = given_passed c.from_residual.ensures.1 (retraces_err _ c.in_err-ty.ensures.retraces)
+
+pub sort_term-returns-then-stays_sort-clause-retraces : goal.sort_term-returns-then-stays_sort-clause-retraces
+unfolding walk_sort_of
+sort_term-returns-then-stays_sort-clause-retraces g t c =
+    let v = c.args.self.now.verifier in
+    let y = c.if-stays_sort.true in
+    let e = c.stays_sort.ensures.sort y in
+    sort_given e.1 (retraces_on _ c.in_ok-ty.ensures.retraces (sort_stays v.cert.now v.env.now (inferring v) c.args.ctx.now e.1 (c.stays_sort.ensures.there y) c.stays_sort.ensures.meter (c.stays_sort.ensures.passed y)))
+
+pub sort_term-returns-clause-retraces : goal.sort_term-returns-clause-retraces
+unfolding walk_sort_of
+sort_term-returns-clause-retraces g t c =
+    let stays : c.stays_sort.new.trail ≡ c.infer.new.trail = c.stays_sort.ensures.stays c.if-stays_sort.false in
+    given_on c.sort_from.result _ c.in_ok-ty.ensures.retraces (rw stays at c.sort_from.ensures.retraces)
+
+pub sort_term-returns-clause-counted : goal.sort_term-returns-clause-counted
+sort_term-returns-clause-counted g t c = if_ok _ c.sort_from.result c.in_ok-ty.ensures.inferred.subject
+
+pub sort_from-returns-in_err-count : goal.sort_from-returns-in_err-count
+sort_from-returns-in_err-count g t c = record { retraces = given_passed c.from_residual.ensures.1 (retraces_err _ c.in_err-count.ensures.retraces) }
+
+pub sort_from-returns-then-count-eq0 : goal.sort_from-returns-then-count-eq0
+sort_from-returns-then-count-eq0 g t c =
     let e = rw c.in-Sort.is at c.view.ensures.is in
-    retraces_passed c.from_residual-in_err-_above-in-Sort.ensures.1 (retraces_on _ c.in_ok-ty.ensures.retraces (retraces_on _ c.in_ok-count.ensures.retraces
-    (sort_goes (inferring c.args.self.now.verifier) c.args.ctx.now _ _ e (search rules) (retraces_err (λ _ w. pass c.in-Sort.s w) c.in_err-_above-in-Sort.ensures.retraces))))
+    record { retraces = sort_given e (retraces_on _ c.in_ok-count.ensures.retraces (sort_there (inferring c.args.self.now.verifier) c.args.ctx.now _ _ e _ _ (search rules) refl)) }
 
-pub sort_of-returns-in-Sort-clause-retraces : goal.sort_of-returns-in-Sort-clause-retraces
-unfolding walk_sort_of
-sort_of-returns-in-Sort-clause-retraces g t c =
+pub sort_from-returns-in_err-_above-in-Sort : goal.sort_from-returns-in_err-_above-in-Sort
+sort_from-returns-in_err-_above-in-Sort g t c =
     let e = rw c.in-Sort.is at c.view.ensures.is in
-    retraces_on _ c.in_ok-ty.ensures.retraces (retraces_on _ c.in_ok-count.ensures.retraces
-    (sort_goes (inferring c.args.self.now.verifier) c.args.ctx.now _ _ e (search rules) (retraces_on (λ _ w. pass c.in-Sort.s w) c.in_ok-_above-in-Sort.ensures.retraces (retraces_value _ _ _ c.in_ok-sort-in-Sort.ensures.value))))
+    record {
+      retraces = given_passed c.from_residual-in_err-_above-in-Sort.ensures.1 (retraces_on _ c.in_ok-count.ensures.retraces
+          (sort_goes (inferring c.args.self.now.verifier) c.args.ctx.now _ _ e (search rules) (retraces_err (λ _ w. pass _ w) c.in_err-_above-in-Sort.ensures.retraces)));
+    }
 
-pub sort_of-returns : goal.sort_of-returns
-unfolding walk_sort_of
-sort_of-returns g t c = record { retraces = retraces_on _ c.in_ok-ty.ensures.retraces (retraces_on _ c.in_ok-count.ensures.retraces (search rules)); counted = tt }
+pub sort_from-returns-in_ok-_above-in-Sort : goal.sort_from-returns-in_ok-_above-in-Sort
+sort_from-returns-in_ok-_above-in-Sort g t c =
+    let e = rw c.in-Sort.is at c.view.ensures.is in
+    record {
+      retraces = sort_given e (retraces_on _ c.in_ok-count.ensures.retraces
+          (sort_goes (inferring c.args.self.now.verifier) c.args.ctx.now _ _ e (search rules) (retraces_on (λ _ w. pass _ w) c.in_ok-_above-in-Sort.ensures.retraces (retraces_pass _ _))));
+    }
+
+pub sort_from-returns-in_default : goal.sort_from-returns-in_default
+sort_from-returns-in_default g t c = record { retraces = given_halts (retraces_on _ c.in_ok-count.ensures.retraces (search rules)) }
+
+-- that a term has a sort
+pub sorted-returns-then-passes_sort : goal.sorted-returns-then-passes_sort
+sorted-returns-then-passes_sort g t c =
+    let v = c.args.self.now.verifier in
+    let e = rw c.in-Sort.is at c.view.ensures.is in
+    let f = c.passes_sort.ensures.infers c.if-passes_sort.true c.args.ctx.now in
+    record {
+      retraces = sort_passes v.cert.now v.env.now c.args.ctx.now v.room e c.args.trail.now c.passes_sort.new.trail f (c.passes_sort.ensures.there c.if-passes_sort.true) (c.passes_sort.ensures.passed c.if-passes_sort.true);
+      counted = sort_counted v.cert.now v.env.now c.args.ctx.now v.room e c.args.trail.now c.passes_sort.new.trail f c.requires.ready c.view.ensures.formed;
+    }
+
+pub sorted-returns-else-passes_sort : goal.sorted-returns-else-passes_sort
+sorted-returns-else-passes_sort g t c =
+    let stays : c.passes_sort.new.trail ≡ c.args.trail.now = c.passes_sort.ensures.stays c.if-passes_sort.false in
+    record { retraces = rw stays at c.inferred_sorted.ensures.retraces; counted = c.inferred_sorted.ensures.counted }
+
+pub sorted-returns-then-passes_family : goal.sorted-returns-then-passes_family
+sorted-returns-then-passes_family g t c =
+    let v = c.args.self.now.verifier in
+    let e = rw c.in-Ind.is at c.view.ensures.is in
+    let y = c.if-passes_family.true in
+    let f = (c.passes_family.ensures.infers y).1 c.args.ctx.now in
+    record {
+      retraces = sort_passes v.cert.now v.env.now c.args.ctx.now v.room e c.args.trail.now c.passes_family.new.trail f (c.passes_family.ensures.there y) (c.passes_family.ensures.passed y);
+      counted = sort_counted v.cert.now v.env.now c.args.ctx.now v.room e c.args.trail.now c.passes_family.new.trail f c.requires.ready c.view.ensures.formed;
+    }
+
+pub sorted-returns-else-passes_family : goal.sorted-returns-else-passes_family
+sorted-returns-else-passes_family g t c =
+    let stays : c.passes_family.new.trail ≡ c.args.trail.now = c.passes_family.ensures.stays c.if-passes_family.false in
+    record { retraces = rw stays at c.inferred_sorted-in-Ind.ensures.retraces; counted = c.inferred_sorted-in-Ind.ensures.counted }
+
+pub inferred_sorted-returns-in_err-_found : goal.inferred_sorted-returns-in_err-_found
+inferred_sorted-returns-in_err-_found g t c = record { retraces = unread_passed c.from_residual.ensures.1 c.in_err-_found.ensures.retraces.sorts; counted = passed_nothing _ c.from_residual.result _ c.from_residual.ensures.1 }
+
+pub inferred_sorted-returns : goal.inferred_sorted-returns
+inferred_sorted-returns g t c = record { retraces = unread_done c.in_ok-_found.ensures.retraces.sorts.1.1; counted = c.in_ok-_found.ensures.counted }
 
 -- a term against a type
 pub check-returns-in_err-found-clause-retraces : goal.check-returns-in_err-found-clause-retraces
@@ -351,15 +416,15 @@ check-returns-clause-counted g t c = if_ok _ c.fits.result c.in_ok-found.ensures
 pub retype-returns-then-count-eq0 : goal.retype-returns-then-count-eq0
 retype-returns-then-count-eq0 g t c = record { retraces = no_retype _ _ _ _ _ c.args.count _ (search rules) }
 
-pub retype-returns-in_err-_sort : goal.retype-returns-in_err-_sort
-retype-returns-in_err-_sort g t c = record { retraces = retraces_passed c.from_residual.ensures.1 (retype_stops _ _ _ _ _ c.args.count _ _ _ (search rules) c.in_err-_sort.ensures.retraces) }
+pub retype-returns-in_err-sorted : goal.retype-returns-in_err-sorted
+retype-returns-in_err-sorted g t c = record { retraces = retraces_passed c.from_residual.ensures.1 (retype_stops _ _ _ _ _ c.args.count _ _ _ (search rules) c.in_err-sorted.ensures.retraces.unread) }
 
 pub retype-returns : goal.retype-returns
-retype-returns g t c = record { retraces = retype_goes _ _ _ _ _ c.args.count _ _ _ (search rules) c.in_ok-_sort.ensures.retraces }
+retype-returns g t c = record { retraces = retype_goes _ _ _ _ _ c.args.count _ _ _ (search rules) c.in_ok-sorted.ensures.retraces.unread.1 }
 
 -- the types of the definitions of a fixpoint
-pub types_rule-sort_of-requires : goal.types_rule-sort_of-requires
-types_rule-sort_of-requires g t c =
+pub types_rule-sorted-requires : goal.types_rule-sorted-requires
+types_rule-sorted-requires g t c =
     let r = c.loop-i.invariant.ready in
     let n = c.loop-i.invariant.after.nest in
     search rules
@@ -373,15 +438,15 @@ types_rule-returns-in_err-ty-clause-retraces g t c =
     retraces_with c.from_residual-in_err-ty.result c.from_residual-in_err-ty.ensures.1 (rw c.as_slice-items.ensures.is at (c.loop-i.invariant.rest _ _
     (types_fault _ _ _ _ _ _ _ (grind arith) c.index-items-i.is _ _ (rw (← c.index-items-i.is) at c.in_err-ty.ensures.too_deep))))
 
-pub types_rule-returns-in_err-_sort-clause-retraces : goal.types_rule-returns-in_err-_sort-clause-retraces
-types_rule-returns-in_err-_sort-clause-retraces g t c =
-    retraces_with c.from_residual-in_err-_sort.result c.from_residual-in_err-_sort.ensures.1 (rw c.as_slice-items.ensures.is at (c.loop-i.invariant.rest _ _
-    (types_stop _ _ _ _ _ _ _ (grind arith) c.index-items-i.is _ _ _ _ (rw (← c.index-items-i.is) at c.in_ok-ty.ensures.parallel) c.in_err-_sort.ensures.retraces)))
+pub types_rule-returns-in_err-sorted-clause-retraces : goal.types_rule-returns-in_err-sorted-clause-retraces
+types_rule-returns-in_err-sorted-clause-retraces g t c =
+    retraces_with c.from_residual-in_err-sorted.result c.from_residual-in_err-sorted.ensures.1 (rw c.as_slice-items.ensures.is at (c.loop-i.invariant.rest _ _
+    (types_stop _ _ _ _ _ _ _ (grind arith) c.index-items-i.is _ _ _ _ (rw (← c.index-items-i.is) at c.in_ok-ty.ensures.parallel) c.in_err-sorted.ensures.retraces.unread)))
 
 pub types_rule-returns-in_err-under-2-clause-retraces : goal.types_rule-returns-in_err-under-2-clause-retraces
 types_rule-returns-in_err-under-2-clause-retraces g t c =
     retraces_with c.from_residual-in_err-under-2.result c.from_residual-in_err-under-2.ensures.1 (rw c.in_err-under-2.ensures.only_memory (rw c.as_slice-items.ensures.is at (c.loop-i.invariant.rest _ _
-    (types_next _ _ _ _ _ _ _ (grind arith) c.index-items-i.is _ _ _ _ _ _ (rw (← c.index-items-i.is) at c.in_ok-ty.ensures.parallel) c.in_ok-_sort.ensures.retraces (retraces_memory _ _)))))
+    (types_next _ _ _ _ _ _ _ (grind arith) c.index-items-i.is _ _ _ _ _ _ (rw (← c.index-items-i.is) at c.in_ok-ty.ensures.parallel) c.in_ok-sorted.ensures.retraces.unread.1 (retraces_memory _ _)))))
 
 pub types_rule-loop-i-preserved : goal.types_rule-loop-i-preserved
 types_rule-loop-i-preserved g t c =
@@ -389,10 +454,10 @@ types_rule-loop-i-preserved g t c =
     let k = rw (← c.index-items-i.is) at c.in_ok-ty.ensures.parallel in
     let e = c.in_ok-under-2.ensures.longer in
     record {
-      rest = λ r n x. c.loop-i.invariant.rest r n (types_next _ _ _ _ _ _ _ l c.index-items-i.is _ _ r _ _ n k c.in_ok-_sort.ensures.retraces (rw e at x));
-      after = after-trans _ _ _ c.loop-i.invariant.after c.in_ok-_sort.ensures.retraces.after;
+      rest = λ r n x. c.loop-i.invariant.rest r n (types_next _ _ _ _ _ _ _ l c.index-items-i.is _ _ r _ _ n k c.in_ok-sorted.ensures.retraces.unread.1 (rw e at x));
+      after = after-trans _ _ _ c.loop-i.invariant.after c.in_ok-sorted.ensures.retraces.after;
       under = c.loop-i.invariant.under ∙ rw e (definitions_next _ _ _ _ l c.index-items-i.is _ k);
-      ready = rw e (assumed_ready _ _ _ c.loop-i.invariant.ready c.in_ok-_sort.ensures.counted);
+      ready = rw e (assumed_ready _ _ _ c.loop-i.invariant.ready c.in_ok-sorted.ensures.counted);
     }
 
 pub types_rule-returns-clause-retraces : goal.types_rule-returns-clause-retraces
@@ -507,8 +572,8 @@ pub entered-loop-i-init : goal.entered-loop-i-init
 entered-loop-i-init g t c =
     rw c.in_ok-inner.ensures.same (record { rest = λ r n x. x; longer = refl; ready = c.requires.ready; counted = tt; after = after-refl c.args.trail.now.meter })
 
-pub entered-sort_of-requires : goal.entered-sort_of-requires
-entered-sort_of-requires g t c =
+pub entered-sorted-requires : goal.entered-sorted-requires
+entered-sorted-requires g t c =
     let r = c.loop-i.invariant.ready in
     let n = c.loop-i.invariant.after.nest in
     search rules
@@ -516,26 +581,26 @@ entered-sort_of-requires g t c =
 pub entered-loop-i-preserved : goal.entered-loop-i-preserved
 entered-loop-i-preserved g t c =
     rw (c.in_ok-inner-2.ensures.longer, c.in_ok-share.ensures.ok) (record {
-      rest = λ r n x. c.loop-i.invariant.rest r n (entered_next _ _ _ _ _ _ _ c.loop-i-test.true c.index-items-i.is _ r _ _ n c.in_ok-_sort.ensures.retraces x);
+      rest = λ r n x. c.loop-i.invariant.rest r n (entered_next _ _ _ _ _ _ _ c.loop-i-test.true c.index-items-i.is _ r _ _ n c.in_ok-sorted.ensures.retraces.unread.1 x);
       longer = longer_next _ _ _ _ c.loop-i-test.true c.index-items-i.is ∙ c.loop-i.invariant.longer;
-      ready = assumed_ready _ _ _ c.loop-i.invariant.ready c.in_ok-_sort.ensures.counted;
-      counted = rw (take_next _ _ _ c.loop-i-test.true c.index-items-i.is) (appended_counted c.args.self.now.verifier.env.now _ (c.index-items-i.result ∷ []) c.loop-i.invariant.counted (c.in_ok-_sort.ensures.counted, tt));
-      after = after-trans _ _ _ c.loop-i.invariant.after c.in_ok-_sort.ensures.retraces.after;
+      ready = assumed_ready _ _ _ c.loop-i.invariant.ready c.in_ok-sorted.ensures.counted;
+      counted = rw (take_next _ _ _ c.loop-i-test.true c.index-items-i.is) (appended_counted c.args.self.now.verifier.env.now _ (c.index-items-i.result ∷ []) c.loop-i.invariant.counted (c.in_ok-sorted.ensures.counted, tt));
+      after = after-trans _ _ _ c.loop-i.invariant.after c.in_ok-sorted.ensures.retraces.after;
     })
 
-pub entered-returns-in_err-_sort-clause-retraces : goal.entered-returns-in_err-_sort-clause-retraces
-entered-returns-in_err-_sort-clause-retraces g t c =
-    retraces_with c.from_residual-in_err-_sort.result c.from_residual-in_err-_sort.ensures.1 (rw c.as_slice-items.ensures.is at (c.loop-i.invariant.rest _ _ (entered_stop _ _ _ _ _ _ _ c.loop-i-test.true c.index-items-i.is _ _ _ c.in_err-_sort.ensures.retraces)))
+pub entered-returns-in_err-sorted-clause-retraces : goal.entered-returns-in_err-sorted-clause-retraces
+entered-returns-in_err-sorted-clause-retraces g t c =
+    retraces_with c.from_residual-in_err-sorted.result c.from_residual-in_err-sorted.ensures.1 (rw c.as_slice-items.ensures.is at (c.loop-i.invariant.rest _ _ (entered_stop _ _ _ _ _ _ _ c.loop-i-test.true c.index-items-i.is _ _ _ c.in_err-sorted.ensures.retraces.unread)))
 
 pub entered-returns-in_err-share-clause-retraces : goal.entered-returns-in_err-share-clause-retraces
 entered-returns-in_err-share-clause-retraces g t c =
     retraces_with c.from_residual-in_err-share.result c.from_residual-in_err-share.ensures.1 (rw c.in_err-share.ensures.only_memory (rw c.as_slice-items.ensures.is at (c.loop-i.invariant.rest _ _
-    (entered_next _ _ _ _ _ _ _ c.loop-i-test.true c.index-items-i.is _ _ _ _ _ c.in_ok-_sort.ensures.retraces (retraces_memory _ _)))))
+    (entered_next _ _ _ _ _ _ _ c.loop-i-test.true c.index-items-i.is _ _ _ _ _ c.in_ok-sorted.ensures.retraces.unread.1 (retraces_memory _ _)))))
 
 pub entered-returns-in_err-inner-2-clause-retraces : goal.entered-returns-in_err-inner-2-clause-retraces
 entered-returns-in_err-inner-2-clause-retraces g t c =
     retraces_with c.from_residual-in_err-inner-2.result c.from_residual-in_err-inner-2.ensures.1 (rw c.in_err-inner-2.ensures.only_memory (rw c.as_slice-items.ensures.is at (c.loop-i.invariant.rest _ _
-    (entered_next _ _ _ _ _ _ _ c.loop-i-test.true c.index-items-i.is _ _ _ _ _ c.in_ok-_sort.ensures.retraces (retraces_memory _ _)))))
+    (entered_next _ _ _ _ _ _ _ c.loop-i-test.true c.index-items-i.is _ _ _ _ _ c.in_ok-sorted.ensures.retraces.unread.1 (retraces_memory _ _)))))
 
 pub entered-returns-clause-retraces : goal.entered-returns-clause-retraces
 entered-returns-clause-retraces g t c = rw c.as_slice-items.ensures.is at (c.loop-i.invariant.rest _ _ (entered_end _ _ _ _ _ _ _ c.loop-i-test.false))
@@ -797,23 +862,25 @@ fits-returns-else-not-same g t c =
     let s = same_yes _ _ c.same.result c.same.ensures.is c.if-not-same.false in
     record { retraces = fits_same _ _ _ _ _ _ _ c.args.trail.now e s; counted = subst (λ X. IsCounted c.args.self.now.verifier.env.now X) (same_is _ _ s) c.requires.found }
 
-pub fits-returns-in_err-_sort-in-Some-Conv : goal.fits-returns-in_err-_sort-in-Some-Conv
-fits-returns-in_err-_sort-in-Some-Conv g t c =
+pub fits-returns-in_err-sorted-in-Some-Conv : goal.fits-returns-in_err-sorted-in-Some-Conv
+fits-returns-in_err-sorted-in-Some-Conv g t c =
     let e : slice_get c.args.self.now.verifier.cert.now c.args.trail.now.at ≡ Some Conv = sym c.item_at.ensures.is ∙ c.in-Some-Conv.is ∙ ap (λ x. Some x) c.in-Some-Conv.field-0-is in
-    record { retraces = retraces_passed c.from_residual.ensures.1 (fits_conv _ _ _ _ _ _ _ _ c.args.trail.now _ e (retraces_err _ c.in_err-_sort-in-Some-Conv.ensures.retraces)); counted = passed_nothing _ c.from_residual.result _ c.from_residual.ensures.1 }
+    record { retraces = retraces_passed c.from_residual.ensures.1 (fits_conv _ _ _ _ _ _ _ _ c.args.trail.now _ e (retraces_err _ c.in_err-sorted-in-Some-Conv.ensures.retraces.unread)); counted = passed_nothing _ c.from_residual.result _ c.from_residual.ensures.1 }
 
 pub fits-script-requires : goal.fits-script-requires
 fits-script-requires g t c =
-    let r : AreScriptable c.args.self.now.verifier.env.now (values c.args.ctx.now) c.args.found.now c.args.ty.now = record { env = c.requires.ready.env; values = values_counted c.args.self.now.verifier.env.now c.args.ctx.now c.requires.ready.context; left = c.requires.found; right = c.in_ok-_sort-in-Some-Conv.ensures.counted } in
-    let n = c.in_ok-_sort-in-Some-Conv.ensures.retraces.after.nest in
+    let v = values_counted c.args.self.now.verifier.env.now c.args.ctx.now c.requires.ready.context in
+    let r : AreScriptable c.args.self.now.verifier.env.now (values c.args.ctx.now) c.args.found.now c.args.ty.now =
+    record { env = c.requires.ready.env; values = v; left = c.requires.found; right = c.in_ok-sorted-in-Some-Conv.ensures.counted } in
+    let n = c.in_ok-sorted-in-Some-Conv.ensures.retraces.after.nest in
     search rules
 
-pub fits-returns-in_ok-_sort-in-Some-Conv : goal.fits-returns-in_ok-_sort-in-Some-Conv
-fits-returns-in_ok-_sort-in-Some-Conv g t c =
+pub fits-returns-in_ok-sorted-in-Some-Conv : goal.fits-returns-in_ok-sorted-in-Some-Conv
+fits-returns-in_ok-sorted-in-Some-Conv g t c =
     let e : slice_get c.args.self.now.verifier.cert.now c.args.trail.now.at ≡ Some Conv = sym c.item_at.ensures.is ∙ c.in-Some-Conv.is ∙ ap (λ x. Some x) c.in-Some-Conv.field-0-is in
     record {
-      retraces = fits_conv _ _ _ _ _ _ _ _ c.args.trail.now _ e (retraces_on _ c.in_ok-_sort-in-Some-Conv.ensures.retraces c.script.ensures.retraces);
-      counted = if_ok _ c.script.result c.in_ok-_sort-in-Some-Conv.ensures.counted;
+      retraces = fits_conv _ _ _ _ _ _ _ _ c.args.trail.now _ e (retraces_on _ c.in_ok-sorted-in-Some-Conv.ensures.retraces.unread.1 c.script.ensures.retraces);
+      counted = if_ok _ c.script.result c.in_ok-sorted-in-Some-Conv.ensures.counted;
     }
 
 pub fits-returns-in_default-clause-retraces : goal.fits-returns-in_default-clause-retraces

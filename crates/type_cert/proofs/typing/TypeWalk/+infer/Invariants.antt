@@ -18,16 +18,28 @@ abbrev pub decreases-infer : goal.decreases-infer
 decreases-infer g l = l.self.now.verifier.room * 32
 
 abbrev pub decreases-sort_of : goal.decreases-sort_of
-decreases-sort_of g l = l.self.now.verifier.room * 32 + 1
+decreases-sort_of g l = l.self.now.verifier.room * 32 + 3
+
+abbrev pub decreases-sort_from : goal.decreases-sort_from
+decreases-sort_from g l = l.self.now.verifier.room * 32 + 1
+
+abbrev pub decreases-sort_term : goal.decreases-sort_term
+decreases-sort_term g l = l.self.now.verifier.room * 32 + 2
+
+abbrev pub decreases-inferred_sorted : goal.decreases-inferred_sorted
+decreases-inferred_sorted g l = l.self.now.verifier.room * 32 + 3
+
+abbrev pub decreases-sorted : goal.decreases-sorted
+decreases-sorted g l = l.self.now.verifier.room * 32 + 4
 
 abbrev pub decreases-fits : goal.decreases-fits
-decreases-fits g l = l.self.now.verifier.room * 32 + 2
+decreases-fits g l = l.self.now.verifier.room * 32 + 5
 
 abbrev pub decreases-check : goal.decreases-check
-decreases-check g l = l.self.now.verifier.room * 32 + 3
+decreases-check g l = l.self.now.verifier.room * 32 + 6
 
 abbrev pub decreases-retype : goal.decreases-retype
-decreases-retype g l = l.self.now.verifier.room * 32 + 2
+decreases-retype g l = l.self.now.verifier.room * 32 + 5
 
 abbrev pub decreases-prod_rule : goal.decreases-prod_rule
 decreases-prod_rule g l = l.self.now.verifier.room * 32 + 20
@@ -62,13 +74,13 @@ decreases-rule g l = l.self.now.verifier.room * 32 + 22
 -- fixpoints
 
 abbrev pub decreases-types_rule : goal.decreases-types_rule
-decreases-types_rule g l = l.self.now.verifier.room * 32 + 4
+decreases-types_rule g l = l.self.now.verifier.room * 32 + 6
 
 abbrev pub decreases-definition_rule : goal.decreases-definition_rule
-decreases-definition_rule g l = l.self.now.verifier.room * 32 + 4
+decreases-definition_rule g l = l.self.now.verifier.room * 32 + 7
 
 abbrev pub decreases-definitions_rule : goal.decreases-definitions_rule
-decreases-definitions_rule g l = l.self.now.verifier.room * 32 + 5
+decreases-definitions_rule g l = l.self.now.verifier.room * 32 + 8
 
 abbrev pub decreases-fix_rule : goal.decreases-fix_rule
 decreases-fix_rule g l = l.self.now.verifier.room * 32 + 20
@@ -96,7 +108,7 @@ invariant-definitions_rule-loop-i g l = record {
 -- matches
 
 abbrev pub decreases-entered : goal.decreases-entered
-decreases-entered g l = l.self.now.verifier.room * 32 + 4
+decreases-entered g l = l.self.now.verifier.room * 32 + 5
 
 -- what answers for the rest of the entries answers for the whole telescope
 abbrev pub invariant-entered-loop-i : goal.invariant-entered-loop-i
@@ -111,7 +123,7 @@ invariant-entered-loop-i g l = record {
 }
 
 abbrev pub decreases-check_all : goal.decreases-check_all
-decreases-check_all g l = l.self.now.verifier.room * 32 + 4
+decreases-check_all g l = l.self.now.verifier.room * 32 + 7
 
 -- what answers for the rest of the terms, with those before them put in, answers for all
 abbrev pub invariant-check_all-loop-i : goal.invariant-check_all-loop-i
@@ -125,16 +137,16 @@ invariant-check_all-loop-i g l = record {
 }
 
 abbrev pub decreases-predicate_rule : goal.decreases-predicate_rule
-decreases-predicate_rule g l = l.self.now.verifier.room * 32 + 5
+decreases-predicate_rule g l = l.self.now.verifier.room * 32 + 6
 
 abbrev pub decreases-scrutinee_rule : goal.decreases-scrutinee_rule
-decreases-scrutinee_rule g l = l.self.now.verifier.room * 32 + 4
+decreases-scrutinee_rule g l = l.self.now.verifier.room * 32 + 7
 
 abbrev pub decreases-branch_rule : goal.decreases-branch_rule
-decreases-branch_rule g l = l.self.now.verifier.room * 32 + 5
+decreases-branch_rule g l = l.self.now.verifier.room * 32 + 7
 
 abbrev pub decreases-branches_rule : goal.decreases-branches_rule
-decreases-branches_rule g l = l.self.now.verifier.room * 32 + 6
+decreases-branches_rule g l = l.self.now.verifier.room * 32 + 8
 
 -- what answers for the rest of the branches answers for all
 abbrev pub invariant-branches_rule-loop-i : goal.invariant-branches_rule-loop-i

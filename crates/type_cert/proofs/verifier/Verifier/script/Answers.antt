@@ -1,10 +1,13 @@
-use Rattle.std.proofs.Common.{refl}
+use Rattle.std.proofs.Common.{◌≡◌, ◌∙◌, sym, ap, Some, slice_get}
 use Rattle.calculus_rules.specs.Context.{values}
-use Rattle.type_cert.specs.Going.{going}
-use Rattle.type_cert.proofs.Passing.{passed_retraces}
+use Rattle.cert_rules.specs.declared.item.CertItem.TheVariants.{Same}
 use Rattle.type_cert.proofs.verifier.Verifier.script.Goals as goal
 
-pub returns-in-Some : goal.returns-in-Some
-returns-in-Some c = record {
-  retraces = passed_retraces (going c.args.self.now (values c.args.ctx.now) c.args.equal c.args.a.now c.args.b.now) c.in-Some.pace c.args.trail.now _ c.in-Some.ensures.passes refl refl refl;
-}
+pub short_script-requires : goal.short_script-requires
+short_script-requires c =
+    let e : slice_get c.args.self.now.cert.now c.args.trail.now.at ≡ Some Same = sym c.item_at.ensures.is ∙ c.in-Some-Same.is ∙ ap (λ x. Some x) c.in-Some-Same.field-0-is in
+    let s = c.requires.scriptable in
+    record { next = e; env = s.env; left = s.left; right = s.right }
+
+pub returns-in-Some-Same : goal.returns-in-Some-Same
+returns-in-Some-Same c = record { retraces = c.short_script.ensures.retraces (values c.args.ctx.now) }
