@@ -11,7 +11,7 @@ ghost use Rattle.pc_rules.specs.Follows.{Answers};
 ghost use Rattle.conversion.specs.Modes.{is_equal};
 
 use crate::mode::Mode;
-use pc_rules::broken::{Broken, Clash};
+use pc_rules::broken::{BoxedSort, Broken, Clash};
 use pc_rules::environment::Env;
 use pc_rules::stop::Halt;
 use std::alloc::Global;
@@ -42,8 +42,8 @@ pub fn compare_sorts(alloc: Global, env: &Env, mode: Mode, s: &Sort, t: &Sort) -
     if stand(env, mode, s, t) {
         return Ok(());
     }
-    let left = s.share(alloc)?;
-    let right = t.share(alloc)?;
+    let left = BoxedSort::new(alloc, s.share(alloc)?)?;
+    let right = BoxedSort::new(alloc, t.share(alloc)?)?;
     Err(Halt::Broken(Broken::NotBelow {
         clash: Clash::Sorts(left, right),
     }))

@@ -65,7 +65,7 @@ pub fn alike(a: &Term, b: &Term) -> bool
         (Node::Const(k), Node::Const(l)) => k.0 == l.0,
         (Node::Ind(f), Node::Ind(g)) => same_families(*f, *g),
         (Node::Construct(f, c), Node::Construct(g, d)) => same_families(*f, *g) && *c == *d,
-        (Node::Case(x), Node::Case(y)) => same_counts(x, y),
+        (Node::Case(x), Node::Case(y)) => same_counts(x.get(), y.get()),
         (Node::Fix(ds, i), Node::Fix(es, j)) => {
             *i == *j && same_recursive_arguments(ds.as_slice(), es.as_slice())
         }

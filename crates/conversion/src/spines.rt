@@ -76,7 +76,15 @@ impl<R: Reducer + Drop> Compare<R> {
         ensures follows { Follows (heads_equal env.now (compare env.now (test_of env.now) room) ctx.now a.now b.now m.old.account) result m.old m.new }
     {
         match (a.view(), b.view()) {
-            (Node::Case(x), Node::Case(y)) => self.matches(alloc, env, ctx, room, x, y, m),
+            (Node::Case(x), Node::Case(y)) => self.matches(
+                alloc,
+                env,
+                ctx,
+                room,
+                x.get(),
+                y.get(),
+                m,
+            ),
             (Node::Fix(ds, _), Node::Fix(es, _)) => {
                 self.fixpoints(alloc, env, ctx, room, ds, es, m)
             }

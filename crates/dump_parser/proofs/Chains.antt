@@ -1,5 +1,5 @@
 -- Calls one after another, where the tactics find the chain too long.
-use Rattle.std.proofs.Common.{◌≡◌, ℕ, ◌<◌, ◌≤◌, List, ◌∷◌, ◌++◌, length, Option, None, Result, Ok, Err, sym, ap, subst, ◌∙◌, arith}
+use Rattle.std.proofs.Common.{◌≡◌, ℕ, ◌<◌, ◌≤◌, List, [], ◌∷◌, ◌++◌, length, Option, None, Result, Ok, Err, sym, ap, subst, ◌∙◌, arith}
 use Rattle.std.specs.Prelude.{OnOk}
 use Rattle.sexp_reader.specs.Stream.{source, stream}
 use Rattle.sexp_reader.specs.declared.Tokens.{Tokens}
@@ -10,6 +10,7 @@ use Rattle.dump_grammar.specs.Table.{Value, Item, IList, Kind, next}
 use Rattle.dump_grammar.specs.Limits.{member_over}
 use Rattle.dump_grammar.specs.Judge.{Verdict}
 use Rattle.dump_parser.specs.declared.list.Member.TheVariants as members
+use Rattle.dump_parser.specs.Ending.{Ends}
 use Rattle.dump_parser.specs.Reading.{judged, limited, Goes, Reads, Leads, ReadsMember}
 
 goes-after : {X : Type 0} (r : Result X ReadRefusal) (f : X → Verdict) (v w : Verdict) → v ≡ w → Goes r f w → Goes r f v
@@ -28,6 +29,24 @@ err-after (refusals.Limit l o) f h v w e g = e ∙ g
 shorter-after : {X : Type 0} (r : Result X ReadRefusal) (a b c : ℕ) → b ≤ c → OnOk r (a < b) → OnOk r (a < c)
 shorter-after (Ok x) a b c le p = omega arith
 shorter-after (Err e) a b c le p = tt
+
+-- a refusal that is handed on
+pub goes-err : {X Y : Type 0} (r : Result X ReadRefusal) (e : ReadRefusal) → r ≡ Err e → (f : X → Verdict) (h : Y → Verdict) (v w : Verdict) → v ≡ w → Goes (Err e) h w → Goes r f v
+goes-err {X} r e q f h v w same goes = subst (λ (r : Result X ReadRefusal). Goes r f v) (sym q) (err-after e f h v w same goes)
+
+pub end-goes : (e : ReadRefusal) (t : Tokens) (vs : List Value) (h : Unit {0} → Verdict) → Ends (Err e) t → Goes (Err e) h (judged t [] vs)
+end-goes refusals.Memory t vs h ends = tt
+end-goes (refusals.Syntax o) t vs h ends = ends vs
+end-goes (refusals.Unsupported u o) t vs h ends = ends vs
+end-goes (refusals.Limit l o) t vs h ends = ends vs
+
+-- the verdict in other words
+pub goes-as : {X : Type 0} (r : Result X ReadRefusal) (f g : X → Verdict) (v : Verdict) → ((x : X) → f x ≡ g x) → Goes r f v → Goes r g v
+goes-as (Ok x) f g v same goes = goes ∙ same x
+goes-as (Err refusals.Memory) f g v same goes = tt
+goes-as (Err (refusals.Syntax o)) f g v same goes = goes
+goes-as (Err (refusals.Unsupported u o)) f g v same goes = goes
+goes-as (Err (refusals.Limit l o)) f g v same goes = goes
 
 -- a last call that gives the result
 pub reads-after : {X : Type 0} (r : Result X ReadRefusal) (old mid new : Tokens) (is js : List Item) (given before : List Value) (f : X → List Value → List Value) →

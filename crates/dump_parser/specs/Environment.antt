@@ -1,10 +1,9 @@
--- What the environment of a text means, in the words of the grammar, and what the verdict on the text says of the answer.
-use Rattle.std.specs.Prelude.{◌≡◌, List, [], ◌∷◌, map, Option, Some, None, Result, Ok, Err}
+-- What the parts of an environment mean, in the words of the grammar, and the values that they leave.
+use Rattle.std.specs.Prelude.{List, [], ◌∷◌, ◌++◌, map, Option, Some, None}
 use Rattle.dump_grammar.specs.Named as g
-use Rattle.dump_grammar.specs.Table.{Value, VName, VSort, VTerm, VNone, VTypes, VCtors, VFamilies, VEnv, act, AddConstant, AddBlock}
-use Rattle.dump_grammar.specs.Judge.{Verdict, Fine, Refuse}
-use Rattle.dump_grammar.specs.declared.refusal.ReadRefusal.{ReadRefusal}
-use Rattle.dump_grammar.specs.declared.refusal.ReadRefusal.TheVariants as refusals
+use Rattle.dump_grammar.specs.Table.{Value, VName, VSort, VTerm, VNone, VTypes, VCtors, VFamilies, VNames, VConstraints, act, AddConstant, AddBlock, Item, IOpen, IWord, IVersion, ILevels, IList, IDecls, Constraints, Do, NoNames, NoConstraints, opened}
+use Rattle.dump_grammar.specs.declared.keyword.Keyword.TheVariants as words
+use Rattle.dump_grammar.specs.declared.keyword.Opening.TheVariants as openings
 use Rattle.dump_parser.specs.declared.environment.Relation.{Relation}
 use Rattle.dump_parser.specs.declared.environment.Relation.TheVariants as relations
 use Rattle.dump_parser.specs.declared.environment.ConstraintTree.{ConstraintTree}
@@ -12,7 +11,7 @@ use Rattle.dump_parser.specs.declared.environment.CtorTree.{CtorTree}
 use Rattle.dump_parser.specs.declared.environment.FamilyTree.{FamilyTree}
 use Rattle.dump_parser.specs.declared.environment.DeclTree.{DeclTree}
 use Rattle.dump_parser.specs.declared.environment.DeclTree.TheVariants as decls
-use Rattle.dump_parser.specs.declared.environment.EnvTree.{EnvTree}
+use Rattle.dump_parser.specs.declared.environment.HeadTree.{HeadTree}
 use Rattle.dump_parser.specs.Tree.{named_sort}
 
 abbrev pub named_relation : Relation → g.NamedComparison
@@ -50,11 +49,20 @@ abbrev pub declared : DeclTree → List Value → List Value
 declared (decls.Constant k ty body) vs = act AddConstant (body_value body ∷ VTerm ty ∷ VName k.now ∷ vs)
 declared (decls.Block k params families) vs = act AddBlock (VFamilies (map named_family families.items) ∷ VTypes params.items ∷ VName k.now ∷ vs)
 
-abbrev pub env_named : EnvTree → g.NamedEnv
-env_named e = record { levels = map (λ a. a.now) e.levels.items; constraints = map named_constraint e.constraints.items; decls = map named_decl e.declarations.items; main = e.main }
+-- the declarations with the one that was read, if there was one
+abbrev pub with_next : List g.NamedDecl → Option DeclTree → List g.NamedDecl
+with_next ds None = ds
+with_next ds (Some d) = ds ++ named_decl d ∷ []
 
--- The verdict on a text gives this answer: the environment that is accepted, or the refusal. Want of memory alone is free.
-abbrev pub Gives : Verdict → Result EnvTree ReadRefusal → Type 0
-Gives v (Ok e) = v ≡ Fine (VEnv (env_named e) ∷ [])
-Gives v (Err refusals.Memory) = Unit {0}
-Gives v (Err r) = v ≡ Refuse r
+-- what follows a declaration: another one or main; and where there was none, what follows the word of main
+abbrev pub behind : Option DeclTree → List Item
+behind None = opened openings.Main
+behind (Some d) = IDecls ∷ []
+
+-- the items from the start of an environment to its constraints
+abbrev pub head_items : List Item
+head_items = IOpen ∷ IWord words.Env ∷ IVersion ∷ IOpen ∷ IWord words.Levels ∷ Do NoNames ILevels ∷ IOpen ∷ IWord words.Constraints ∷ Do NoConstraints (IList Constraints) ∷ []
+
+-- the values of the levels and the constraints
+abbrev pub head_values : HeadTree → List Value
+head_values h = VConstraints (map named_constraint h.constraints.items) ∷ VNames (map (λ a. a.now) h.levels.items) ∷ []

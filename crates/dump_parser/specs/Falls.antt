@@ -47,6 +47,6 @@ falls (nodes.App f a more) = omega (arith, head-applied (g.App f a) more.items, 
 falls (nodes.Const k) = omega arith
 falls (nodes.Ind k n) = omega arith
 falls (nodes.Construct k n c) = omega arith
-falls (nodes.Case m) = omega (arith, most-terms m.params.items, most-branches m.branches.items)
+falls (nodes.Case m) = omega (arith, most-terms m.value.params.items, most-branches m.value.branches.items)
 falls (nodes.Fix ds i) = omega (arith, most-defs ds.items)
 falls (nodes.Cast t ty) = omega arith

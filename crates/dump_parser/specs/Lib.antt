@@ -3,6 +3,7 @@ pub mod Tree
 pub mod Falls
 pub mod Leaves
 pub mod Environment
+pub mod Stages
 pub mod Reading
 pub mod Number
 pub mod Making

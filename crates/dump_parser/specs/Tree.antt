@@ -31,6 +31,9 @@ abbrev pub applied : Named → List Named → Named
 applied f [] = f
 applied f (a ∷ more) = applied (g.App f a) more
 
+abbrev pub named_match : Match → Named
+named_match m = g.Case m.block.now m.family (terms_of m.params.items) m.binders m.ret m.scrut (branches_of (map named_branch m.branches.items))
+
 abbrev pub named : Node → Named
 named (nodes.Rel n) = g.Rel n
 named (nodes.Sort s) = g.Sort (named_sort s)
@@ -41,7 +44,7 @@ named (nodes.App f a more) = applied (g.App f a) more.items
 named (nodes.Const k) = g.Const k.now
 named (nodes.Ind k n) = g.Ind k.now n
 named (nodes.Construct k n c) = g.Construct k.now n c
-named (nodes.Case m) = g.Case m.block.now m.family (terms_of m.params.items) m.binders m.ret m.scrut (branches_of (map named_branch m.branches.items))
+named (nodes.Case m) = named_match m.value
 named (nodes.Fix ds i) = g.Fix (defs_of (map named_def ds.items)) i
 named (nodes.Cast t ty) = cast t ty
 

@@ -1,10 +1,10 @@
 //! The declarations of an environment, up to the word of main.
 
-ghost use Rattle.std.specs.Prelude.{◌≡◌, [], ◌∷◌, ◌++◌, map};
-ghost use Rattle.dump_grammar.specs.declared.keyword.Opening.TheVariants as openings;
-ghost use Rattle.dump_grammar.specs.Table.{IDecls, Do, NoDecls, opened, VDecls};
+ghost use Rattle.std.specs.Prelude.{◌≡◌, [], ◌∷◌, List, length};
+ghost use Rattle.dump_grammar.specs.Named.{NamedDecl};
+ghost use Rattle.dump_grammar.specs.Table.{IDecls, opened, VDecls};
 ghost use Rattle.dump_parser.specs.Reading.{Leads};
-ghost use Rattle.dump_parser.specs.Environment.{named_decl};
+ghost use Rattle.dump_parser.specs.Environment.{behind, with_next};
 ghost use Rattle.dump_grammar.specs.Limits.{is_declaration as declaration};
 ghost use Rattle.dump_parser.specs.Opening.{IsOpening, ReadsOpening};
 
@@ -70,16 +70,15 @@ fn opening_bracket(tokens: &mut Tokens) -> Result<usize, ReadRefusal>
     }
 }
 
-/// What begins after these declarations, with its bracket and its word. `Limit` of the declarations, at the bracket, where a declaration begins
+/// What begins after so many declarations, with its bracket and its word. `Limit` of the declarations, at the bracket, where a declaration begins
 /// that is one too many.
-#[tactic(auto, using(crate::proofs::Maps::map_laws))]
-fn opening(tokens: &mut Tokens, before: &[DeclTree]) -> Result<Opening, ReadRefusal>
-    ensures leads { Leads result tokens.old tokens.new (IDecls ∷ []) (VDecls (map named_decl before.now) ∷ []) opened (λ o vs. VDecls (map named_decl before.now) ∷ vs) }
+fn opening(tokens: &mut Tokens, before: usize) -> Result<Opening, ReadRefusal>
+    ensures leads { (ds : List NamedDecl) → length ds ≡ before → Leads result tokens.old tokens.new (IDecls ∷ []) (VDecls ds ∷ []) opened (λ o vs. VDecls ds ∷ vs) }
 {
     let bracket = opening_bracket(tokens)?;
     match next(tokens)? {
         Some(token) if token.kind == TokenKind::Atom => {
-            opening_at(tokens.text(token), before.len(), bracket, token.start)
+            opening_at(tokens.text(token), before, bracket, token.start)
         }
         Some(token) => Err(ReadRefusal::Syntax {
             offset: token.start,
@@ -90,27 +89,24 @@ fn opening(tokens: &mut Tokens, before: &[DeclTree]) -> Result<Opening, ReadRefu
     }
 }
 
-/// The declarations, up to the word of main.
-#[tactic(auto, using(crate::proofs::Steps::judged_do, crate::proofs::Declarations::declared_more))]
-pub(crate) fn declarations<'a>(
+/// The declaration that follows so many, or none where the word of main follows, which is read.
+pub(crate) fn declaration<'a>(
     alloc: Global,
     leaves: &mut Leaves<'a>,
     tokens: &mut Tokens<'a>,
-) -> Result<Vec<DeclTree<'a>>, ReadRefusal>
-    ensures leads { Leads result tokens.old tokens.new (Do NoDecls IDecls ∷ []) [] (λ v. opened openings.Main) (λ v vs. VDecls (map named_decl v.items) ∷ vs) }
+    before: usize,
+) -> Result<Option<DeclTree<'a>>, ReadRefusal>
+    ensures leads { (ds : List NamedDecl) → length ds ≡ before → Leads result tokens.old tokens.new (IDecls ∷ []) (VDecls ds ∷ []) behind (λ o vs. VDecls (with_next ds o) ∷ vs) }
 {
-    let mut list = Vec::new(alloc);
-    loop {
-        match opening(tokens, list.as_slice())? {
-            Opening::Main => return Ok(list),
-            Opening::Constant => {
-                let d = constant(alloc, leaves, tokens)?;
-                list.push(d)?;
-            }
-            Opening::Block => {
-                let d = block(alloc, leaves, tokens)?;
-                list.push(d)?;
-            }
+    match opening(tokens, before)? {
+        Opening::Main => Ok(None),
+        Opening::Constant => {
+            let tree = constant(alloc, leaves, tokens)?;
+            Ok(Some(tree))
+        }
+        Opening::Block => {
+            let tree = block(alloc, leaves, tokens)?;
+            Ok(Some(tree))
         }
     }
 }

@@ -1,4 +1,4 @@
-//! The environment of a text: its levels, constraints, declarations and main, each name as the slice of the text where it stands.
+//! The parts of an environment: its levels, constraints and declarations, each name as the slice of the text where it stands.
 
 use crate::tree::{SortTree, Tree};
 
@@ -52,11 +52,9 @@ pub enum DeclTree<'a> {
     },
 }
 
-/// An environment: the levels and constraints, the declarations in their order, and main.
+/// What stands before the declarations: the levels and the constraints on them.
 #[derive(Drop)]
-pub struct EnvTree<'a> {
+pub struct HeadTree<'a> {
     pub levels: Vec<&'a [u8]>,
     pub constraints: Vec<ConstraintTree<'a>>,
-    pub declarations: Vec<DeclTree<'a>>,
-    pub main: Tree<'a>,
 }

@@ -278,6 +278,7 @@ fn branches<'a>(
     loop {
         match next_member(tokens)? {
             Member::Close(offset) => {
+                let whole = Box::new(alloc, whole)?;
                 let t = make(alloc, Node::Case(whole), offset)?;
                 return Ok(t);
             }

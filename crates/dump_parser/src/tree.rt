@@ -50,7 +50,8 @@ pub enum Node<'a> {
     Const(&'a [u8]),
     Ind(&'a [u8], u32),
     Construct(&'a [u8], u32, u32),
-    Case(Match<'a>),
+    /// A match, behind a box, so that a node takes no more room than its other forms need.
+    Case(Box<Match<'a>>),
     /// The definitions, and the index of one of them.
     Fix(Vec<Def<'a>>, u32),
     /// A term and its type.

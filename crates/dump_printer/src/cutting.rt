@@ -40,6 +40,7 @@ fn count_node(node: &Node, room: u32, nodes: u32) -> u32
         Node::App(a, b) => count(b, room, count(a, room, nodes)),
         Node::LetIn(a, b, c) => count(c, room, count(b, room, count(a, room, nodes))),
         Node::Case(m) => {
+            let m = m.get();
             let nodes = count_terms(m.params.as_slice(), room, nodes);
             let nodes = count(&m.scrut, room, count(&m.ret, room, nodes));
             count_branches(m.branches.as_slice(), room, nodes)

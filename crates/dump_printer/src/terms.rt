@@ -128,7 +128,7 @@ fn write_node<K: Sink>(env: &RawEnv, room: u32, node: &Node, out: &mut K, at: &m
         Node::Const(c) => write_constant(env, *c, out, at),
         Node::Ind(f) => write_family(env, *f, out, at),
         Node::Construct(f, c) => write_constructor(env, *f, *c, out, at),
-        Node::Case(m) => write_match(env, room, m, out, at),
+        Node::Case(m) => write_match(env, room, m.get(), out, at),
         Node::Fix(defs, i) => write_fix(env, room, defs, *i, out, at),
     }
 }

@@ -139,9 +139,3 @@ fix-term ds i xs p = record {
   numbers = restated (on p.numbers (fix_of i)) (def-names ds) (def-levels ds) (λ ns ls. fix-value ns ls ds i) refl;
   small = omega (arith, p.small_types, p.small_bodies (length xs));
 }
-
-pub fix-index : {old new : Tables} (ds : List Def) (i : ℕ) (xs : List Definition) → AreDefs ds old new xs → i < length (recursive_arguments (defs_of (map named_def ds))) → i < length (rargs_of xs)
-fix-index {old} {new} ds i xs p h =
-    let count : length (rargs_of xs) ≡ length (recursive_arguments (defs_of (map named_def ds))) =
-    ap (λ (ys : List Definition). length (rargs_of ys)) (p.numbers.is_value [] []) ∙ ap (λ (ys : List ℕ). length ys) (rarg-values _ _ ds) in
-    omega arith

@@ -6,6 +6,7 @@ pub mod Items
 pub mod Formers
 pub mod Universes
 pub mod Members
+pub mod Sequences
 pub mod Spelled
 pub mod Verdicts
 pub mod Fronts

@@ -1,9 +1,8 @@
 -- What is made of declarations and of a whole environment, from what is made of their parts.
-use Rattle.std.proofs.Common.{◌≡◌, ℕ, zero, suc, ◌+◌, ◌<◌, List, [], ◌∷◌, ◌++◌, map, length, take, get_or, Option, Some, None, refl, sym, ap, subst, ◌∙◌, arith}
+use Rattle.std.proofs.Common.{◌≡◌, ℕ, ◌+◌, ◌<◌, List, [], ◌∷◌, ◌++◌, map, length, take, get_or, Some, None, refl, sym, ap, subst, ◌∙◌}
 use Rattle.std.specs.Prelude.{Vec}
 use Rattle.std.specs.declared.alloc.Global.{Global}
 use Rattle.std.specs.Borrow.{Bor}
-use Rattle.std.specs.Option.{option_map}
 use Rattle.universe_levels.specs.declared.level.Level.{Level}
 use Rattle.universe_levels.specs.declared.constraint.Constraint.{Constraint}
 use Rattle.universe_levels.specs.declared.constraint.Relation.{Relation}
@@ -20,21 +19,21 @@ use Rattle.dump_parser.specs.declared.environment.CtorTree.{CtorTree}
 use Rattle.dump_parser.specs.declared.environment.FamilyTree.{FamilyTree}
 use Rattle.dump_parser.specs.declared.environment.DeclTree.{DeclTree}
 use Rattle.dump_parser.specs.declared.environment.DeclTree.TheVariants as trees
-use Rattle.dump_parser.specs.declared.environment.EnvTree.{EnvTree}
+use Rattle.dump_parser.specs.declared.environment.HeadTree.{HeadTree}
 use Rattle.dump_parser.specs.Tree.{named_sort}
-use Rattle.dump_parser.specs.Environment.{named_constraint, named_ctor, named_family, named_decl, env_named, named_relation}
+use Rattle.dump_parser.specs.Environment.{named_constraint, named_ctor, named_family, named_decl, named_relation}
 use Rattle.dump_reader.specs.declared.declaration.RawCtor.{RawCtor}
 use Rattle.dump_reader.specs.declared.declaration.RawFamily.{RawFamily}
 use Rattle.dump_reader.specs.declared.declaration.RawDecl.{RawDecl}
 use Rattle.dump_reader.specs.declared.declaration.RawDecl.TheVariants as decls
 use Rattle.dump_reader.specs.declared.environment.RawEnv.{RawEnv}
 use Rattle.dump_reader.specs.declared.numbering.Tables.{Tables}
-use Rattle.dump_reader.specs.Tables.{with_text, after_uses}
+use Rattle.dump_reader.specs.Tables.{after_uses}
 use Rattle.dump_reader.specs.Numbered.{name_number, level_number, numbered_sort, numbered_term}
 use Rattle.dump_reader.specs.NumberedEnvironment.{relation_of, numbered_constraint, numbered_ctor, numbered_family, numbered_decl, numbered_by, numbered}
 use Rattle.dump_reader.specs.Growth.{Uses, unused, Numbers}
 use Rattle.dump_reader.specs.Made.{IsTerm, AreTerms, NumbersEach, level_names, level_levels, level_value, constraint_names, constraint_levels, constraint_value, ctor_names, ctor_levels, ctor_value, family_names, family_levels, family_value, decl_names, decl_levels, decl_value}
-use Rattle.dump_reader.proofs.Growth.{on, both, restated, all-firsts, one-more-at}
+use Rattle.dump_reader.proofs.Growth.{both, restated, all-firsts, one-more-at}
 use Rattle.dump_reader.proofs.Universes.{same-item}
 
 each-map : {X Y : Type 0} (u : Y → Uses) (f : X → Y) (xs : List X) (after : List (List ℕ)) → each u (map f xs) after ≡ each (λ x. u (f x)) xs after
@@ -143,16 +142,21 @@ one-constraint cs i d ys zs l r rel within same put p q s =
 
 -- ---- whole environments
 
-names-used : (e : EnvTree) → each level_names e.levels.items (each constraint_names e.constraints.items (each decl_names e.declarations.items (names e.main []))) ≡ name_uses (env_named e)
-names-used e =
-    sym (each-nothing e.levels.items (each constraint_names e.constraints.items (each decl_names e.declarations.items (names e.main []))))
-    ∙ sym (each-nothing e.constraints.items (each decl_names e.declarations.items (names e.main []))) ∙ sym (each-map names_of_decl named_decl e.declarations.items (names e.main []))
+module _ (h : HeadTree) (ds : List DeclTree) (m : Named) where
+  -- the environment of these parts
+  abbrev pub env_of_parts : NamedEnv
+  env_of_parts = record { levels = map (λ a. a.now) h.levels.items; constraints = map named_constraint h.constraints.items; decls = map named_decl ds; main = m }
 
-levels-used : (e : EnvTree) → each level_levels e.levels.items (each constraint_levels e.constraints.items (each decl_levels e.declarations.items (levels e.main []))) ≡ level_uses (env_named e)
-levels-used e =
-    ap (λ more. each level_levels e.levels.items (each constraint_levels e.constraints.items more)) (sym (each-map levels_of_decl named_decl e.declarations.items (levels e.main [])))
-    ∙ ap (λ more. each level_levels e.levels.items more) (sym (each-map levels_of_constraint named_constraint e.constraints.items (each levels_of_decl (map named_decl e.declarations.items) (levels e.main []))))
-    ∙ sym (each-map one_use (λ a. a.now) e.levels.items (each levels_of_constraint (map named_constraint e.constraints.items) (each levels_of_decl (map named_decl e.declarations.items) (levels e.main []))))
+  names-used : each level_names h.levels.items (each constraint_names h.constraints.items (each decl_names ds (names m []))) ≡ name_uses env_of_parts
+  names-used =
+      sym (each-nothing h.levels.items (each constraint_names h.constraints.items (each decl_names ds (names m []))))
+      ∙ sym (each-nothing h.constraints.items (each decl_names ds (names m []))) ∙ sym (each-map names_of_decl named_decl ds (names m []))
+
+  levels-used : each level_levels h.levels.items (each constraint_levels h.constraints.items (each decl_levels ds (levels m []))) ≡ level_uses env_of_parts
+  levels-used =
+      ap (λ more. each level_levels h.levels.items (each constraint_levels h.constraints.items more)) (sym (each-map levels_of_decl named_decl ds (levels m [])))
+      ∙ ap (λ more. each level_levels h.levels.items more) (sym (each-map levels_of_constraint named_constraint h.constraints.items (each levels_of_decl (map named_decl ds) (levels m []))))
+      ∙ sym (each-map one_use (λ a. a.now) h.levels.items (each levels_of_constraint (map named_constraint h.constraints.items) (each levels_of_decl (map named_decl ds) (levels m []))))
 
 -- the tables behind the last use
 names-whole : (table last uses : List (List ℕ)) → table ≡ [] → after_uses table uses ≡ after_uses last [] → last ≡ firsts uses
@@ -169,27 +173,28 @@ Assembled = (ns ls : List (List ℕ)) → RawEnv
 assemble : List Level → List Constraint → List RawDecl → terms.Term → Assembled
 assemble l c d m ns ls = record { names = ns; level_names = ls; levels = l; constraints = c; decls = d; main = m }
 
-pub env-made : (e : EnvTree) {t0 t1 t2 t3 t4 : Tables} (atoms : List (Bor (List ℕ))) (cs : List ConstraintTree) (ds : List DeclTree) (xs xs' : List Level) (ys ys' : List Constraint) (zs zs' : List RawDecl) (m : terms.Term)
+pub env-made : (h : HeadTree) (ds : List DeclTree) (tree : Named) {t0 t1 t2 t3 t4 : Tables} (atoms : List (Bor (List ℕ))) (cs : List ConstraintTree) (xs xs' : List Level) (ys ys' : List Constraint) (zs zs' : List RawDecl) (m : terms.Term)
     → t0.names ≡ [] → t0.levels ≡ spelling words.Set ∷ []
-    → atoms ≡ e.levels.items → xs' ≡ xs → NumbersEach level_names level_levels level_value atoms t0 t1 xs
-    → cs ≡ e.constraints.items → ys' ≡ ys → NumbersEach constraint_names constraint_levels constraint_value cs t1 t2 ys
-    → ds ≡ e.declarations.items → zs' ≡ zs → NumbersEach decl_names decl_levels decl_value ds t2 t3 zs
-    → IsTerm e.main t3 t4 m
-    → record { names = t4.names; level_names = t4.levels; levels = xs'; constraints = ys'; decls = zs'; main = m } ≡ numbered (env_named e)
+    → atoms ≡ h.levels.items → xs' ≡ xs → NumbersEach level_names level_levels level_value atoms t0 t1 xs
+    → cs ≡ h.constraints.items → ys' ≡ ys → NumbersEach constraint_names constraint_levels constraint_value cs t1 t2 ys
+    → zs' ≡ zs → NumbersEach decl_names decl_levels decl_value ds t2 t3 zs
+    → IsTerm tree t3 t4 m
+    → record { names = t4.names; level_names = t4.levels; levels = xs'; constraints = ys'; decls = zs'; main = m } ≡ numbered (env_of_parts h ds tree)
 unfolding after_uses assemble
-env-made e {t0} {t1} {t2} {t3} {t4} atoms cs ds xs xs' ys ys' zs zs' m n0 l0 e1 f1 p e2 f2 q e3 f3 r s =
+env-made h ds tree {t0} {t1} {t2} {t3} {t4} atoms cs xs xs' ys ys' zs zs' m n0 l0 e1 f1 p e2 f2 q f3 r s =
+    let env = env_of_parts h ds tree in
     let whole =
     both {X = terms.Term → Assembled} (both {X = List RawDecl → terms.Term → Assembled} (both (each-along level_names level_levels level_value e1 f1 p) assemble (each-along constraint_names constraint_levels constraint_value e2 f2 q))
-    (λ k d. k d) (each-along decl_names decl_levels decl_value e3 f3 r)) (λ k n. k n) s.numbers in
-    let names-are : t4.names ≡ name_table (env_named e) = names-whole t0.names t4.names _ n0 (whole.names_grow []) ∙ ap firsts (names-used e) in
-    let levels-are : t4.levels ≡ level_table (env_named e) = levels-whole t0.levels t4.levels _ (spelling words.Set) l0 (whole.levels_grow []) ∙ ap (λ us. firsts (spelling words.Set ∷ us)) (levels-used e) in
-    let value : assemble xs' ys' zs' m t4.names t4.levels ≡ numbered_by t4.names t4.levels (env_named e) =
+    (λ k d. k d) (each-along decl_names decl_levels decl_value refl f3 r)) (λ k n. k n) s.numbers in
+    let names-are : t4.names ≡ name_table env = names-whole t0.names t4.names _ n0 (whole.names_grow []) ∙ ap firsts (names-used h ds tree) in
+    let levels-are : t4.levels ≡ level_table env = levels-whole t0.levels t4.levels _ (spelling words.Set) l0 (whole.levels_grow []) ∙ ap (λ us. firsts (spelling words.Set ∷ us)) (levels-used h ds tree) in
+    let value : assemble xs' ys' zs' m t4.names t4.levels ≡ numbered_by t4.names t4.levels env =
     ap (λ (k : Assembled). k t4.names t4.levels) (whole.is_value [] []) ∙ (λ i. record {
       names = t4.names;
       level_names = t4.levels;
-      levels = map-twice (level_number t4.levels) (λ a. a.now) e.levels.items i;
-      constraints = map-twice (numbered_constraint t4.levels) named_constraint e.constraints.items i;
-      decls = map-twice (numbered_decl t4.names t4.levels) named_decl e.declarations.items i;
-      main = numbered_term t4.names t4.levels e.main;
+      levels = map-twice (level_number t4.levels) (λ a. a.now) h.levels.items i;
+      constraints = map-twice (numbered_constraint t4.levels) named_constraint h.constraints.items i;
+      decls = map-twice (numbered_decl t4.names t4.levels) named_decl ds i;
+      main = numbered_term t4.names t4.levels tree;
     }) in
-    value ∙ ap (λ t. numbered_by t t4.levels (env_named e)) names-are ∙ ap (λ t. numbered_by (name_table (env_named e)) t (env_named e)) levels-are
+    value ∙ ap (λ t. numbered_by t t4.levels env) names-are ∙ ap (λ t. numbered_by (name_table env) t env) levels-are

@@ -1,5 +1,5 @@
 -- What is made of a sort, from what is made of its parts.
-use Rattle.std.proofs.Common.{◌≡◌, ◌≢◌, ℕ, zero, suc, ◌+◌, ◌<◌, List, [], ◌∷◌, ◌++◌, map, length, take, get_or, refl, sym, ap, subst, ◌∙◌, arith}
+use Rattle.std.proofs.Common.{◌≡◌, ℕ, zero, suc, ◌+◌, ◌<◌, List, [], ◌∷◌, ◌++◌, map, length, take, get_or, refl, sym, ap, subst, ◌∙◌, arith}
 use Rattle.universe_levels.specs.declared.level.Level.{Level}
 use Rattle.universe_levels.specs.declared.level.LevelExpr.{LevelExpr}
 use Rattle.universe_levels.specs.declared.sort.Sort.TheVariants as sorts
@@ -8,7 +8,6 @@ use Rattle.dump_grammar.specs.Named.{NamedSort, AType}
 use Rattle.dump_grammar.specs.Uses.{levels_of_sort, level_of_part, each}
 use Rattle.dump_parser.specs.declared.tree.LevelPart.{LevelPart}
 use Rattle.dump_parser.specs.Tree.{part_of}
-use Rattle.dump_reader.specs.Tables.{after_uses}
 use Rattle.dump_reader.specs.declared.numbering.Tables.{Tables}
 use Rattle.dump_reader.specs.Numbered.{level_number, level_part, numbered_sort}
 use Rattle.dump_reader.specs.Growth.{unused, Numbers}
@@ -50,13 +49,3 @@ sort-made s ps us xs ys u {old} {new} e f g h p =
     restated (on p (λ (z : List LevelExpr). sorts.Of (maximum_of z))) (no-names us) (sort-levels us) (λ ns ls. ap (λ (z : List LevelExpr). sorts.Of (maximum_of z)) (part-values ns ls us))
     (ap sorts.Of (h ∙ ap maximum_of g)) in
     subst (λ (z : NamedSort). Numbers unused (levels_of_sort z) (λ ns ls. numbered_sort ls z) old new (sorts.Of u)) (sym same) made
-
-no-parts : (ps : List LevelPart) (ns ls : List (List ℕ)) → [] ≡ map (numbered_part ns ls) ps → map part_of ps ≡ []
-no-parts [] ns ls e = refl
-no-parts (p ∷ ps) ns ls e = absurd cc
-
--- a sort with parts has a universe
-pub some-part : (ps us : List LevelPart) (xs ys : List LevelExpr) {old new : Tables} → us ≡ ps → ys ≡ xs → map part_of ps ≢ [] → NumbersEach part_names part_levels numbered_part us old new xs → ys ≡ [] → ⊥
-some-part ps us xs ys {old} {new} f g some p none =
-    let nothing : map part_of us ≡ [] = no-parts us (after_uses new.names []) (after_uses new.levels []) (sym none ∙ g ∙ p.is_value [] []) in
-    some (ap (λ (z : List LevelPart). map part_of z) (sym f) ∙ nothing)

@@ -10,18 +10,17 @@ use Rattle.dump_grammar.specs.Table.{VEnv}
 use Rattle.dump_grammar.specs.Environments as grammar
 use Rattle.dump_grammar.specs.Environments.{Dump, dump, env_of}
 use Rattle.dump_grammar.specs.Within.{DumpIsWithin}
-use Rattle.dump_grammar.specs.Judge.{texts, Verdict, Fine, Refuse, verdict}
+use Rattle.dump_grammar.specs.Judge.{texts, Verdict, Fine, Refuse}
 use Rattle.dump_grammar.specs.Law.{SyntaxAt, UnsupportedAt, LimitAt}
 use Rattle.dump_grammar.specs.FirstRefusal.{IsFirstRefusal}
 use Rattle.dump_grammar.proofs.Law.{judged}
 use Rattle.dump_grammar.proofs.Within.{limited}
 use Rattle.dump_grammar.proofs.FirstRefusal.{first_refusal}
-use Rattle.dump_parser.specs.declared.environment.EnvTree.{EnvTree}
-use Rattle.dump_parser.specs.Environment.{Gives, env_named}
+use Rattle.dump_parser.specs.Reading.{Goes}
 use Rattle.dump_reader.specs.declared.environment.RawEnv.{RawEnv}
 use Rattle.dump_reader.specs.Formed.{IsFormedEnv}
 use Rattle.dump_reader.specs.NumberedEnvironment.{numbered}
-use Rattle.dump_reader.specs.Front.{front_bytes, front_length}
+use Rattle.dump_reader.specs.Front.{front_bytes}
 use Rattle.dump_reader.specs.Spelling.{Spells, verdict_on, IsFrontVerdict, IsReadAs, IsVerdict}
 use Rattle.dump_reader.proofs.Spelled.{spelled-formed}
 
@@ -36,15 +35,12 @@ fine-spells bytes env e =
 pub fine-formed : (bytes : List ℕ) (env : NamedEnv) → verdict_on bytes ≡ Fine (VEnv env ∷ []) → IsFormedEnv env
 fine-formed bytes env e = spelled-formed bytes env (fine-spells bytes env e)
 
-pub made-verdict : (bytes : List ℕ) (tree : EnvTree) (env : RawEnv) → verdict_on bytes ≡ Fine (VEnv (env_named tree) ∷ []) → env ≡ numbered (env_named tree) → IsVerdict bytes (Ok env)
-made-verdict bytes tree env e f = (env_named tree, e, f)
-
--- a refusal of the text is one of its environment
-pub refused-verdict : (bytes : List ℕ) (r : ReadRefusal) (x : Result RawEnv ReadRefusal) → x ≡ Err r → Gives (verdict_on bytes) (Err r) → IsVerdict bytes x
-refused-verdict bytes refusals.Memory x e g = subst (λ (y : Result RawEnv ReadRefusal). IsVerdict bytes y) (sym e) tt
-refused-verdict bytes (refusals.Syntax o) x e g = subst (λ (y : Result RawEnv ReadRefusal). IsVerdict bytes y) (sym e) g
-refused-verdict bytes (refusals.Unsupported w o) x e g = subst (λ (y : Result RawEnv ReadRefusal). IsVerdict bytes y) (sym e) g
-refused-verdict bytes (refusals.Limit l o) x e g = subst (λ (y : Result RawEnv ReadRefusal). IsVerdict bytes y) (sym e) g
+-- a refusal of a part is one of the environment
+pub refused : {X : Type 0} (bytes : List ℕ) (r : ReadRefusal) (x : Result RawEnv ReadRefusal) → x ≡ Err r → (h : X → Verdict) (v : Verdict) → verdict_on bytes ≡ v → Goes (Err r) h v → IsVerdict bytes x
+refused bytes refusals.Memory x e h v same goes = subst (λ (y : Result RawEnv ReadRefusal). IsVerdict bytes y) (sym e) tt
+refused bytes (refusals.Syntax o) x e h v same goes = subst (λ (y : Result RawEnv ReadRefusal). IsVerdict bytes y) (sym e) (same ∙ goes)
+refused bytes (refusals.Unsupported w o) x e h v same goes = subst (λ (y : Result RawEnv ReadRefusal). IsVerdict bytes y) (sym e) (same ∙ goes)
+refused bytes (refusals.Limit l o) x e h v same goes = subst (λ (y : Result RawEnv ReadRefusal). IsVerdict bytes y) (sym e) (same ∙ goes)
 
 -- ---- what follows
 

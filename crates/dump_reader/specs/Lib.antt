@@ -7,6 +7,7 @@ pub mod Spelled
 pub mod Formed
 pub mod Growth
 pub mod Made
+pub mod Declarations
 pub mod Front
 pub mod CountedUpTo
 pub mod Ahead

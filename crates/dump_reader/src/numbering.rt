@@ -1,7 +1,6 @@
 //! The tables of names and of levels, which grow as a tree is read, with the numbers that names had last and the terms without subterms that
 //! were made.
 ghost use Rattle.std.specs.Prelude.{◌≡◌, ◌∷◌, [], IfOk, IfErr};
-ghost use Rattle.std.specs.Str.{IsAscii};
 ghost use Rattle.dump_grammar.specs.declared.refusal.ReadRefusal.TheVariants.{Memory};
 ghost use Rattle.dump_grammar.specs.declared.keyword.Keyword.TheVariants as words;
 ghost use Rattle.dump_grammar.specs.Keywords.{spelling};
@@ -38,7 +37,7 @@ impl Tables {
         ensures only_memory { IfErr result (λ e. e ≡ Memory) }
     {
         let mut levels = Names::new(alloc);
-        levels.number(alloc, text_of(spelling_of(Keyword::Set)))?;
+        levels.number(alloc, text_of(spelling_of(Keyword::Set))?)?;
         let names = Names::new(alloc);
         let recent = Recent::new(alloc);
         let leaves = Leaves::new(alloc);
@@ -52,7 +51,6 @@ impl Tables {
 
     /// The number of a name at a use of it. Mostly it is the one that was last at the name's place.
     pub(crate) fn name(&mut self, alloc: Global, text: &[u8]) -> Result<Name, ReadRefusal>
-        requires { IsAscii text.now }
         ensures made { IfOk result (Numbers (λ after. text.now ∷ after) unused (λ ns ls. name_number ns text.now) self.old self.new) }
         ensures only_memory { IfErr result (λ e. e ≡ Memory) }
     {
@@ -60,18 +58,17 @@ impl Tables {
         if self.names.is_text_of(last, text) {
             return Ok(Name(last));
         }
-        let number = self.names.number(alloc, text_of(text))?;
+        let number = self.names.number(alloc, text_of(text)?)?;
         self.recent.keep(text, number);
         Ok(Name(number))
     }
 
     /// The number of a level at a use of it.
     pub(crate) fn level(&mut self, alloc: Global, text: &[u8]) -> Result<Level, ReadRefusal>
-        requires { IsAscii text.now }
         ensures made { IfOk result (Numbers unused (λ after. text.now ∷ after) (λ ns ls. level_number ls text.now) self.old self.new) }
         ensures only_memory { IfErr result (λ e. e ≡ Memory) }
     {
-        let number = self.levels.number(alloc, text_of(text))?;
+        let number = self.levels.number(alloc, text_of(text)?)?;
         Ok(Level(number))
     }
 
@@ -99,13 +96,13 @@ impl Tables {
     }
 }
 
-/// ASCII bytes as text.
-fn text_of(bytes: &[u8]) -> &str
-    requires { IsAscii bytes.now }
-    ensures same { result.now ≡ bytes.now }
+/// Bytes as text. Names are ASCII in each text that the grammar knows, so that none is refused here.
+fn text_of(bytes: &[u8]) -> Result<&str, ReadRefusal>
+    ensures same { IfOk result (λ text. text.now ≡ bytes.now) }
+    ensures only_memory { IfErr result (λ e. e ≡ Memory) }
 {
     match str::from_utf8(bytes) {
-        Ok(text) => text,
-        Err(_) => unreachable!(),
+        Ok(text) => Ok(text),
+        Err(_) => Err(ReadRefusal::Memory),
     }
 }

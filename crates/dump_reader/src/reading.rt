@@ -17,9 +17,8 @@ ghost use Rattle.dump_reader.specs.Spelling.{Spells, IsVerdict, IsFrontVerdict, 
 use crate::ahead::end_ahead;
 use crate::environment::RawEnv;
 use crate::front::front_length;
-use crate::whole::environment_of;
+use crate::whole::read;
 use dump_grammar::ReadRefusal;
-use dump_parser::parse;
 use std::alloc::Global;
 
 /// The environment that a text spells, or the first refusal of the text. Offsets are bytes from the start of the text. `Memory` comes only where
@@ -34,15 +33,6 @@ pub fn read_env(alloc: Global, bytes: &[u8]) -> Result<RawEnv, ReadRefusal>
     ensures complete { (d : Dump) → texts (tokens_of bytes.now) ≡ dump d [] → DumpIsWithin d → (result ≡ Ok (numbered (env_of d))) ⊎ (result ≡ Err Memory) }
 {
     read(alloc, bytes)
-}
-
-/// The same, without what follows from the verdict.
-fn read(alloc: Global, bytes: &[u8]) -> Result<RawEnv, ReadRefusal>
-    ensures exact { IsVerdict bytes.now result }
-{
-    let tree = parse(alloc, bytes)?;
-    let env = environment_of(alloc, tree)?;
-    Ok(env)
 }
 
 /// The environment that a text begins with, and the offset behind its last bracket, where that is found without counting brackets. `None` where it isn't,

@@ -1,16 +1,13 @@
 //! Terms, with numbers for names and levels, made of the trees of a text.
-ghost use Rattle.std.specs.Prelude.{◌≡◌, ◌≤◌, map, IfOk, IfErr};
-ghost use Rattle.trees.specs.Tree.{terms_of};
+ghost use Rattle.std.specs.Prelude.{◌≡◌, ◌≤◌, IfOk, IfErr};
 ghost use Rattle.dump_grammar.specs.declared.refusal.ReadRefusal.TheVariants.{Memory};
-ghost use Rattle.dump_grammar.specs.Named.{branches_of, defs_of, depth, depth_terms, depth_branches, depth_defs};
-ghost use Rattle.dump_grammar.specs.Named as named;
-ghost use Rattle.dump_parser.specs.Tree.{named_branch, named_def, named as named_node};
+ghost use Rattle.dump_grammar.specs.Named.{depth};
+ghost use Rattle.dump_parser.specs.Tree.{named_match, named as named_node};
 ghost use Rattle.dump_parser.specs.declared.tree.Node.TheVariants as nodes;
-ghost use Rattle.dump_reader.specs.Formed.{IsFormed, AreFormed, AreFormedBranches, AreFormedDefs, Each};
 ghost use Rattle.dump_reader.specs.Made.{IsTerm, AreTerms, AreBranches, AreDefs};
 
 use crate::leaves::Leaf;
-use crate::making::made;
+use crate::making::{made, made_match};
 use crate::numbering::Tables;
 use crate::universe::sort;
 use dump_grammar::ReadRefusal;
@@ -23,7 +20,6 @@ use std::alloc::Global;
 /// The term of a tree.
 #[cycle(term)]
 pub(crate) fn term(alloc: Global, tables: &mut Tables, tree: &Tree) -> Result<Term, ReadRefusal>
-    requires { IsFormed tree.now }
     ensures made { IfOk result (IsTerm tree.now tables.old tables.new) }
     ensures only_memory { IfErr result (λ e. e ≡ Memory) }
 {
@@ -74,7 +70,6 @@ fn let_in(
     ty: &Tree,
     body: &Tree,
 ) -> Result<Term, ReadRefusal>
-    requires formed { IsFormed (named_node (nodes.LetIn value.now ty.now body.now)) }
     requires within { depth (named_node (nodes.LetIn value.now ty.now body.now)) ≤ 2048 }
     ensures made { IfOk result (IsTerm (named_node (nodes.LetIn value.now ty.now body.now)) tables.old tables.new) }
     ensures only_memory { IfErr result (λ e. e ≡ Memory) }
@@ -86,7 +81,7 @@ fn let_in(
     Ok(whole)
 }
 
-/// One of the definitions of a fixpoint.
+/// One of the definitions of a fixpoint. Its index is below their number in each text that the grammar knows, so that none is refused here.
 #[cycle(term)]
 fn fixpoint(
     alloc: Global,
@@ -94,12 +89,14 @@ fn fixpoint(
     defs: &Vec<tree::Def>,
     index: u32,
 ) -> Result<Term, ReadRefusal>
-    requires formed { IsFormed (named_node (nodes.Fix defs.now index)) }
     requires within { depth (named_node (nodes.Fix defs.now index)) ≤ 2048 }
     ensures made { IfOk result (IsTerm (named_node (nodes.Fix defs.now index)) tables.old tables.new) }
     ensures only_memory { IfErr result (λ e. e ≡ Memory) }
 {
     let items = definitions(alloc, tables, defs.as_slice())?;
+    if index as usize >= items.len() {
+        return Err(ReadRefusal::Memory);
+    }
     let whole = made(alloc, Node::Fix(Defs::of(items), index))?;
     Ok(whole)
 }
@@ -113,7 +110,6 @@ fn run(
     first: &Tree,
     more: &Vec<Tree>,
 ) -> Result<Term, ReadRefusal>
-    requires formed { IsFormed (named_node (nodes.App function.now first.now more.now)) }
     requires within { depth (named_node (nodes.App function.now first.now more.now)) ≤ 2048 }
     ensures made { IfOk result (IsTerm (named_node (nodes.App function.now first.now more.now)) tables.old tables.new) }
     ensures only_memory { IfErr result (λ e. e ≡ Memory) }
@@ -131,7 +127,6 @@ fn run(
 /// A cast: a function that gives back its argument, applied. Its type counts before its term.
 #[cycle(term)]
 fn cast(alloc: Global, tables: &mut Tables, subject: &Tree, ty: &Tree) -> Result<Term, ReadRefusal>
-    requires formed { IsFormed (named_node (nodes.Cast subject.now ty.now)) }
     requires within { depth (named_node (nodes.Cast subject.now ty.now)) ≤ 2048 }
     ensures made { IfOk result (IsTerm (named_node (nodes.Cast subject.now ty.now)) tables.old tables.new) }
     ensures only_memory { IfErr result (λ e. e ≡ Memory) }
@@ -147,9 +142,8 @@ fn cast(alloc: Global, tables: &mut Tables, subject: &Tree, ty: &Tree) -> Result
 /// A match.
 #[cycle(term)]
 fn case(alloc: Global, tables: &mut Tables, m: &tree::Match) -> Result<Term, ReadRefusal>
-    requires formed { IsFormed (named_node (nodes.Case m.now)) }
-    requires within { depth (named_node (nodes.Case m.now)) ≤ 2048 }
-    ensures made { IfOk result (IsTerm (named_node (nodes.Case m.now)) tables.old tables.new) }
+    requires within { depth (named_match m.now) ≤ 2048 }
+    ensures made { IfOk result (IsTerm (named_match m.now) tables.old tables.new) }
     ensures only_memory { IfErr result (λ e. e ≡ Memory) }
 {
     let block = tables.name(alloc, m.block)?;
@@ -157,20 +151,19 @@ fn case(alloc: Global, tables: &mut Tables, m: &tree::Match) -> Result<Term, Rea
     let ret = term(alloc, tables, &m.ret)?;
     let scrut = term(alloc, tables, &m.scrut)?;
     let branches = branches(alloc, tables, m.branches.as_slice())?;
-    let whole = made(
-        alloc,
-        Node::Case(Match {
-            family: FamilyId {
-                block,
-                family: m.family,
-            },
-            params: Terms::of(params),
-            binders: m.binders,
-            ret,
-            scrut,
-            branches: Branches::of(branches),
-        }),
-    )?;
+    let family = FamilyId {
+        block,
+        family: m.family,
+    };
+    let parts = Match {
+        family,
+        params: Terms::of(params),
+        binders: m.binders,
+        ret,
+        scrut,
+        branches: Branches::of(branches),
+    };
+    let whole = made_match(alloc, parts)?;
     Ok(whole)
 }
 
@@ -181,7 +174,6 @@ pub(crate) fn terms(
     tables: &mut Tables,
     trees: &[Tree],
 ) -> Result<Vec<Term>, ReadRefusal>
-    requires { Each IsFormed trees.now }
     ensures made { IfOk result (λ made. AreTerms trees.now tables.old tables.new made.items) }
     ensures only_memory { IfErr result (λ e. e ≡ Memory) }
 {
@@ -200,7 +192,6 @@ fn branches(
     tables: &mut Tables,
     trees: &[tree::Branch],
 ) -> Result<Vec<Branch>, ReadRefusal>
-    requires { AreFormedBranches (branches_of (map named_branch trees.now)) }
     ensures made { IfOk result (λ made. AreBranches trees.now tables.old tables.new made.items) }
     ensures only_memory { IfErr result (λ e. e ≡ Memory) }
 {
@@ -220,7 +211,6 @@ fn definitions(
     tables: &mut Tables,
     trees: &[tree::Def],
 ) -> Result<Vec<Def>, ReadRefusal>
-    requires { AreFormedDefs (defs_of (map named_def trees.now)) }
     ensures made { IfOk result (λ made. AreDefs trees.now tables.old tables.new made.items) }
     ensures only_memory { IfErr result (λ e. e ≡ Memory) }
 {

@@ -1,10 +1,9 @@
 //! Sorts, with numbers for levels.
-ghost use Rattle.std.specs.Prelude.{◌≡◌, IfOk, IfErr, map};
+ghost use Rattle.std.specs.Prelude.{◌≡◌, IfOk, IfErr};
 ghost use Rattle.dump_grammar.specs.declared.refusal.ReadRefusal.TheVariants.{Memory};
 ghost use Rattle.dump_grammar.specs.Uses.{levels_of_sort};
-ghost use Rattle.dump_parser.specs.Tree.{named_sort, part_of};
+ghost use Rattle.dump_parser.specs.Tree.{named_sort};
 ghost use Rattle.dump_reader.specs.Numbered.{numbered_sort};
-ghost use Rattle.dump_reader.specs.Formed.{IsFormedSort, IsFormedPart, Each};
 ghost use Rattle.dump_reader.specs.Growth.{Numbers, unused};
 ghost use Rattle.dump_reader.specs.Made.{NumbersEach, part_names, part_levels, numbered_part};
 
@@ -16,9 +15,8 @@ use universe_levels::level::LevelExpr;
 use universe_levels::sort::Sort;
 use universe_levels::universe::{Universe, UniverseFault};
 
-/// The sort of a tree.
+/// The sort of a tree. A universe has a part in each text that the grammar knows, so that none is refused here.
 pub(crate) fn sort(alloc: Global, tables: &mut Tables, tree: &SortTree) -> Result<Sort, ReadRefusal>
-    requires { IsFormedSort (named_sort tree.now) }
     ensures made { IfOk result (Numbers unused (levels_of_sort (named_sort tree.now)) (λ ns ls. numbered_sort ls (named_sort tree.now)) tables.old tables.new) }
     ensures only_memory { IfErr result (λ e. e ≡ Memory) }
 {
@@ -29,7 +27,7 @@ pub(crate) fn sort(alloc: Global, tables: &mut Tables, tree: &SortTree) -> Resul
             match Universe::of(alloc, parts.as_slice()) {
                 Ok(universe) => Ok(Sort::Of(universe)),
                 Err(UniverseFault::Memory) => Err(ReadRefusal::Memory),
-                Err(UniverseFault::Empty) => unreachable!(),
+                Err(UniverseFault::Empty) => Err(ReadRefusal::Memory),
                 Err(UniverseFault::TooBig) => unreachable!(),
             }
         }
@@ -42,7 +40,6 @@ fn parts_of(
     tables: &mut Tables,
     parts: &[LevelPart],
 ) -> Result<Vec<LevelExpr>, ReadRefusal>
-    requires { Each IsFormedPart (map part_of parts.now) }
     ensures made { IfOk result (λ made. NumbersEach part_names part_levels numbered_part parts.now tables.old tables.new made.items) }
     ensures only_memory { IfErr result (λ e. e ≡ Memory) }
 {

@@ -1,11 +1,10 @@
-//! Whole environments, with numbers for names and levels, made of the trees of a text.
-ghost use Rattle.std.specs.Prelude.{◌≡◌, map, IfOk, IfErr};
-ghost use Rattle.std.specs.Str.{IsAscii};
+//! Whole environments, with numbers for names and levels, made of a text part by part.
+ghost use Rattle.std.specs.Prelude.{◌≡◌, IfOk, IfErr};
 ghost use Rattle.dump_grammar.specs.declared.refusal.ReadRefusal.TheVariants.{Memory};
-ghost use Rattle.dump_parser.specs.Environment.{named_constraint, env_named, named_relation};
-ghost use Rattle.dump_reader.specs.Formed.{Each, IsFormedConstraint, IsFormedEnv};
-ghost use Rattle.dump_reader.specs.NumberedEnvironment.{numbered, relation_of};
+ghost use Rattle.dump_parser.specs.Environment.{named_relation};
+ghost use Rattle.dump_reader.specs.NumberedEnvironment.{relation_of};
 ghost use Rattle.dump_reader.specs.Made.{NumbersEach, level_names, level_levels, level_value, constraint_names, constraint_levels, constraint_value};
+ghost use Rattle.dump_reader.specs.Spelling.{IsVerdict};
 
 use crate::declaration::RawDecls;
 use crate::declared::declarations;
@@ -13,15 +12,14 @@ use crate::environment::{Constraints, Levels, RawEnv};
 use crate::numbering::Tables;
 use crate::term::term;
 use dump_grammar::ReadRefusal;
-use dump_parser::environment;
-use dump_parser::environment::{ConstraintTree, EnvTree};
+use dump_parser::environment::ConstraintTree;
+use dump_parser::{Parser, environment};
 use std::alloc::Global;
 use universe_levels::constraint::{Constraint, Relation};
 use universe_levels::level::Level;
 
 /// The items of `levels`.
 fn levels(alloc: Global, tables: &mut Tables, texts: &[&[u8]]) -> Result<Vec<Level>, ReadRefusal>
-    requires { Each IsAscii (map (λ a. a.now) texts.now) }
     ensures made { IfOk result (λ made. NumbersEach level_names level_levels level_value texts.now tables.old tables.new made.items) }
     ensures only_memory { IfErr result (λ e. e ≡ Memory) }
 {
@@ -50,7 +48,6 @@ fn constraints(
     tables: &mut Tables,
     trees: &[ConstraintTree],
 ) -> Result<Vec<Constraint>, ReadRefusal>
-    requires { Each IsFormedConstraint (map named_constraint trees.now) }
     ensures made { IfOk result (λ made. NumbersEach constraint_names constraint_levels constraint_value trees.now tables.old tables.new made.items) }
     ensures only_memory { IfErr result (λ e. e ≡ Memory) }
 {
@@ -68,17 +65,18 @@ fn constraints(
     Ok(items)
 }
 
-/// The environment of a tree.
-pub(crate) fn environment_of(alloc: Global, tree: EnvTree) -> Result<RawEnv, ReadRefusal>
-    requires { IsFormedEnv (env_named tree) }
-    ensures made { IfOk result (λ env. env ≡ numbered (env_named tree.entry)) }
-    ensures only_memory { IfErr result (λ e. e ≡ Memory) }
+/// The environment of a text, or its first refusal. Each part is numbered as soon as it is read, and its tree let go of.
+pub(crate) fn read(alloc: Global, bytes: &[u8]) -> Result<RawEnv, ReadRefusal>
+    ensures exact { IsVerdict bytes.now result }
 {
+    let mut parser = Parser::new(alloc, bytes);
     let mut tables = Tables::new(alloc)?;
-    let levels = levels(alloc, &mut tables, tree.levels.as_slice())?;
-    let constraints = constraints(alloc, &mut tables, tree.constraints.as_slice())?;
-    let decls = declarations(alloc, &mut tables, tree.declarations)?;
-    let main = term(alloc, &mut tables, &tree.main)?;
+    let head = parser.head(alloc)?;
+    let levels = levels(alloc, &mut tables, head.levels.as_slice())?;
+    let constraints = constraints(alloc, &mut tables, head.constraints.as_slice())?;
+    let decls = declarations(alloc, &mut tables, &mut parser)?;
+    let tree = parser.main(alloc)?;
+    let main = term(alloc, &mut tables, &tree)?;
     Ok(RawEnv {
         names: tables.names,
         level_names: tables.levels,

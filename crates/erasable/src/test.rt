@@ -115,7 +115,7 @@ fn former_test<T: SiteTyper, R: Reducer>(
             }
             type_test(alloc, typer, reducer, env, ctx, site, t, m)
         }
-        Node::Case(x) => match_test(alloc, typer, reducer, env, ctx, site, t, x, m),
+        Node::Case(x) => match_test(alloc, typer, reducer, env, ctx, site, t, x.get(), m),
         _ => type_test(alloc, typer, reducer, env, ctx, site, t, m),
     }
 }

@@ -130,7 +130,7 @@ impl<T: SiteTyper + Drop, R: Reducer + Drop> Eraser<T, R> {
             }
             Node::Const(name) => Ok(made(alloc, BoxNode::Const(*name))?),
             Node::Construct(id, number) => Ok(made(alloc, BoxNode::Construct(*id, *number))?),
-            Node::Case(x) => self.case(alloc, env, ctx, site, room, x, m),
+            Node::Case(x) => self.case(alloc, env, ctx, site, room, x.get(), m),
             Node::Fix(defs, i) => self.fixpoint(alloc, env, ctx, site, room, defs, *i, m),
             _ => Ok(made(alloc, BoxNode::Boxed)?),
         }

@@ -107,8 +107,8 @@ fn clash_lines(out: &mut Text, raw: &RawEnv, clash: &Clash)
             term_line(out, raw, b"asked for, where they differ", asked)
         }
         Clash::Sorts(found, asked) => {
-            sort_line(out, raw, b"sort found: ", found);
-            sort_line(out, raw, b"sort asked for: ", asked);
+            sort_line(out, raw, b"sort found: ", found.get());
+            sort_line(out, raw, b"sort asked for: ", asked.get());
             out.put(
                 b"needed: the first at most the second, or the same where types are to be equal\n",
             )
@@ -159,9 +159,9 @@ fn kept_lines(out: &mut Text, raw: &RawEnv, place: Place, rule: &Broken)
             two_numbers(out, b"family: ", *family, b"constructor: ", *ctor)
         }
         Broken::SortTooSmall { argument, family } => {
-            sort_line(out, raw, b"sort of the argument: ", argument);
-            sort_line(out, raw, b"sort of the family: ", family);
-            missing_line(out, raw, argument, family)
+            sort_line(out, raw, b"sort of the argument: ", argument.get());
+            sort_line(out, raw, b"sort of the family: ", family.get());
+            missing_line(out, raw, argument.get(), family.get())
         }
         Broken::DuplicateName { name } => text_line(out, b"name: ", twice(raw, place, *name)),
         Broken::RecArgNotInductive { whnf } => term_line(out, raw, b"type found", whnf),

@@ -39,6 +39,7 @@ pub(crate) fn head_mark(marks: &SharedList<Mark>, t: &Term) -> Mark
         },
         Node::App(f, _) => head_mark(marks, f).applied(),
         Node::Case(x) => {
+            let x = x.get();
             if head_mark(marks, &x.scrut).opens() {
                 Mark::Smaller
             } else {
@@ -92,6 +93,7 @@ pub(crate) fn push_branches(
     match t.view() {
         Node::App(f, _) => push_branches(alloc, env, recursive, scope, f, tasks),
         Node::Case(x) => {
+            let x = x.get();
             push_bodies(alloc, env, recursive, scope, x, tasks)?;
             push_branches(alloc, env, recursive, scope, &x.scrut, tasks)
         }

@@ -71,7 +71,7 @@ impl<R: Reducer + Drop> Guard<R> {
                 let inner = scope.defined(alloc, value, ty)?;
                 self.walk(alloc, env, recursive, &inner, body, m)
             }
-            Node::Case(x) => self.case(alloc, env, recursive, scope, x, m),
+            Node::Case(x) => self.case(alloc, env, recursive, scope, x.get(), m),
             Node::Fix(defs, _) => {
                 self.definitions(alloc, env, recursive, scope, args, t, defs.as_slice(), m)
             }

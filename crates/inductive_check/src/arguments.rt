@@ -15,7 +15,7 @@ use crate::setting::BlockSetting;
 use crate::telescope::assume;
 use crate::types::sort_of;
 use calculus_rules::declaration::Sorts;
-use pc_rules::broken::Broken;
+use pc_rules::broken::{BoxedSort, Broken};
 use pc_rules::context::Ctx;
 use pc_rules::environment::Env;
 use pc_rules::meter::Meter;
@@ -48,8 +48,8 @@ pub fn fits_sort(alloc: Global, env: &Env, argument: &Sort, family: &Sort) -> Re
     if env.entails(argument, family) {
         return Ok(());
     }
-    let argument = argument.share(alloc)?;
-    let family = family.share(alloc)?;
+    let argument = BoxedSort::new(alloc, argument.share(alloc)?)?;
+    let family = BoxedSort::new(alloc, family.share(alloc)?)?;
     Err(Halt::Broken(Broken::SortTooSmall { argument, family }))
 }
 

@@ -38,7 +38,7 @@ fn former_mark(node: &Node) -> u64 {
         Node::Const(k) => name_mark(7, *k),
         Node::Ind(f) => family_mark(8, *f),
         Node::Construct(f, c) => mixed(family_mark(9, *f), u64::from(*c)),
-        Node::Case(x) => family_mark(10, x.family),
+        Node::Case(x) => family_mark(10, x.get().family),
         Node::Fix(_, i) => mixed(11, u64::from(*i)),
     }
 }
@@ -61,7 +61,7 @@ fn parts(node: &Node) -> Option<(&Term, &Term)> {
             }
             Some((a, f))
         }
-        Node::Case(x) => Some((&x.scrut, &x.ret)),
+        Node::Case(x) => Some((&x.get().scrut, &x.get().ret)),
         Node::Fix(ds, _) => {
             let first = ds.as_slice().first()?;
             Some((&first.body, &first.ty))

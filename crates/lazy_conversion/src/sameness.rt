@@ -301,7 +301,7 @@ fn same_nodes(x: &Node, p: &Place<'_>, y: &Node, q: &Place<'_>, at: u32) -> Resu
         (Node::Const(c), Node::Const(d)) => Ok(*c == *d),
         (Node::Ind(f), Node::Ind(g)) => Ok(*f == *g),
         (Node::Construct(f, c), Node::Construct(g, d)) => Ok(*f == *g && *c == *d),
-        (Node::Case(m), Node::Case(n)) => same_whole(m, p, n, q, at),
+        (Node::Case(m), Node::Case(n)) => same_whole(m.get(), p, n.get(), q, at),
         (Node::Fix(ds, i), Node::Fix(es, j)) => {
             if *i != *j {
                 return Ok(false);

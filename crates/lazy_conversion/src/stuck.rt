@@ -42,7 +42,7 @@ pub fn stuck_match(x: Seen<'_>) -> Option<Stuck<'_>>
     };
     match l.term.view() {
         Node::Case(outer) => Some(Stuck {
-            outer,
+            outer: outer.get(),
             env: &l.env,
             scrut,
         }),

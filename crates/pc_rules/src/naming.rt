@@ -90,7 +90,7 @@ pub fn names_block(block: Name, t: &Term) -> bool
         Node::Const(_) => false,
         Node::Ind(family) => family.block.0 == block.0,
         Node::Construct(family, _) => family.block.0 == block.0,
-        Node::Case(m) => match_names_block(block, m),
+        Node::Case(m) => match_names_block(block, m.get()),
         Node::Fix(ds, _) => definitions_name_block(block, ds.as_slice()),
     }
 }
@@ -181,7 +181,7 @@ pub fn has_variable(i: u64, t: &Term) -> bool
         Node::Const(_) => false,
         Node::Ind(_) => false,
         Node::Construct(_, _) => false,
-        Node::Case(m) => match_has_variable(i, m),
+        Node::Case(m) => match_has_variable(i, m.get()),
         Node::Fix(ds, _) => definitions_have_variable(i, ds.as_slice()),
     }
 }

@@ -3,26 +3,26 @@ use Rattle.std.specs.Prelude.{ℕ, ◌+◌, ◌*◌, ◌≤◌, max, List, [], �
 use Rattle.std.proofs.Common.{arith}
 use Rattle.pc_terms.specs.declared.term.Branch.{Branch}
 use Rattle.pc_terms.specs.declared.term.Def.{Def}
-use Rattle.pc_terms.specs.declared.term.Branches.TheDeep.{deep-Branch, deep-Def, size-Branch, size-Def, size-Term, size-Terms, size-Branches, size-Defs}
+use Rattle.pc_terms.specs.declared.term.BoxedMatch.TheDeep.{deep-Branch, deep-Def, size-Branch, size-Def, size-Term, size-Terms, size-Branches, size-Defs}
 use Rattle.trees.specs.Tree.{terms_of}
 use Rattle.pc_terms.specs.Syntax.{Term}
 use Rattle.trees.specs.Measures.{depth, depth_trees}
 use Rattle.pc_terms.specs.Lists.{arms_of, types_of, bodies_of, depth_defs}
 use denote.Param.Weighed.{most}
 
-pub most_le-depth_trees : (ts : List Term) → most (λ t. 2 * depth t + 1) ts ≤ 2 * depth_trees (terms_of ts) + 1
+pub most_le-depth_trees : (ts : List Term) → most (λ t. 3 * depth t + 1) ts ≤ 3 * depth_trees (terms_of ts) + 1
 most_le-depth_trees [] = omega arith
 most_le-depth_trees (t ∷ ts) = omega (arith, most_le-depth_trees ts)
 
-pub most_le-depth_arms : (bs : List Branch) → most (λ x. deep-Branch x) bs ≤ 2 * depth_trees (arms_of bs) + 1
+pub most_le-depth_arms : (bs : List Branch) → most (λ x. deep-Branch x) bs ≤ 3 * depth_trees (arms_of bs) + 1
 most_le-depth_arms [] = omega arith
 most_le-depth_arms (b ∷ bs) = omega (arith, most_le-depth_arms bs)
 
-most_le-depth_bodies : (m : ℕ) (ds : List Def) → most (λ x. deep-Def x) ds ≤ 2 * max (depth_trees (types_of ds)) (depth_trees (bodies_of m ds)) + 1
+most_le-depth_bodies : (m : ℕ) (ds : List Def) → most (λ x. deep-Def x) ds ≤ 3 * max (depth_trees (types_of ds)) (depth_trees (bodies_of m ds)) + 1
 most_le-depth_bodies m [] = omega arith
 most_le-depth_bodies m (d ∷ ds) = omega (arith, most_le-depth_bodies m ds)
 
-pub most_le-depth_defs : (ds : List Def) → most (λ x. deep-Def x) ds ≤ 2 * depth_defs ds + 1
+pub most_le-depth_defs : (ds : List Def) → most (λ x. deep-Def x) ds ≤ 3 * depth_defs ds + 1
 most_le-depth_defs ds = most_le-depth_bodies (length ds) ds
 
 -- the same for a function over a slice of them, whose measure is the largest size in it

@@ -2,6 +2,7 @@ pub mod Syntax
 pub mod Formed
 pub mod Code
 pub mod Lists
+pub mod MatchCode
 pub mod View
 pub mod Counted
 pub mod Codes

@@ -1,8 +1,8 @@
 -- The lists within a term, and what a walk does to each of their items.
 use Rattle.std.specs.Prelude.{ℕ, ◌+◌, ◌<◌, ◌^◌, ◌⊎◌, max, List, [], ◌∷◌, length, map}
-use Rattle.trees.specs.Tree.{Done, Next}
+use Rattle.trees.specs.Tree.{Done, Next, terms_of}
 use Rattle.pc_terms.specs.Syntax.{Term, Terms}
-use Rattle.trees.specs.Measures.{depth_trees, loose_trees, above_trees}
+use Rattle.trees.specs.Measures.{depth, depth_trees, loose_trees, above_trees}
 use Rattle.trees.specs.Substitution.{walk}
 use Rattle.pc_terms.specs.declared.term.Branch.{Branch}
 use Rattle.pc_terms.specs.declared.term.Def.{Def}
@@ -33,6 +33,9 @@ above_defs ds = max (above_trees (types_of ds)) (above_trees (bodies_of (length 
 
 abbrev pub loose_defs : List Def → ℕ
 loose_defs ds = max (loose_trees (types_of ds)) (loose_trees (bodies_of (length ds) ds))
+
+abbrev pub depth_match : Match → ℕ
+depth_match m = max (max (depth_trees (terms_of m.params)) (depth m.ret)) (max (depth m.scrut) (depth_trees (arms_of m.branches)))
 
 abbrev pub AreBeyondDefs : List Def → Type 0
 AreBeyondDefs ds = (2048 < depth_defs ds) ⊎ (2 ^ 32 < above_defs ds)

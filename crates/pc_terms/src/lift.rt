@@ -234,8 +234,8 @@ impl Node {
                 Term::make(alloc, Node::App(function, argument))
             }
             Node::Case(m) => {
-                let m = m.lift_above(alloc, k, n, copies)?;
-                Term::make(alloc, Node::Case(m))
+                let m = m.get().lift_above(alloc, k, n, copies)?;
+                Term::of_match(alloc, m)
             }
             Node::Fix(ds, i) => {
                 let ds = ds.lift_above(alloc, k, n, copies)?;

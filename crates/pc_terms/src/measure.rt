@@ -7,8 +7,9 @@ ghost use Rattle.pc_terms.specs.Syntax.{HasIndex};
 ghost use Rattle.pc_terms.specs.Formed.{IsFormed};
 ghost use Rattle.pc_terms.specs.Lists.{arms_of, depth_defs, above_defs, loose_defs};
 ghost use Rattle.pc_terms.specs.View.{tree_of};
+ghost use Rattle.pc_terms.specs.declared.term.Node.TheVariants.{Case};
 
-use crate::term::{Branches, Defs, Node, Terms};
+use crate::term::{Branches, Defs, Match, Node, Terms};
 
 #[tactic(auto, using(crate::proofs::Most::list_laws, std::proofs::lemmas::Grind::common_steps))]
 impl Terms {
@@ -92,6 +93,20 @@ impl Defs {
 }
 
 #[tactic(auto, using(crate::proofs::Most::list_laws))]
+impl Match {
+    pub(crate) fn depth(&self) -> u32
+        ensures is { result ≡ depth (tree_of (Case self.now)) }
+        ensures depths { depth (tree_of (Case self.now)) ≤ 2049 }
+        ensures numbers { above (tree_of (Case self.now)) ≤ 2 ^ 32 }
+        ensures formed { IsFormed (tree_of (Case self.now)) }
+    {
+        let outer = self.params.depth().max(self.ret.depth());
+        let inner = self.scrut.depth().max(self.branches.depth());
+        outer.max(inner) + 1
+    }
+}
+
+#[tactic(auto, using(crate::proofs::Most::list_laws))]
 impl Node {
     pub(crate) fn depth(&self) -> u32
         ensures is { result ≡ depth (tree_of self.now) }
@@ -112,11 +127,7 @@ impl Node {
             Node::Const(_) => 1,
             Node::Ind(_) => 1,
             Node::Construct(_, _) => 1,
-            Node::Case(m) => {
-                let outer = m.params.depth().max(m.ret.depth());
-                let inner = m.scrut.depth().max(m.branches.depth());
-                outer.max(inner) + 1
-            }
+            Node::Case(m) => m.get().depth(),
             Node::Fix(ds, _) => ds.depth() + 1,
         }
     }
@@ -135,6 +146,7 @@ impl Node {
             Node::Ind(_) => 0,
             Node::Construct(_, _) => 0,
             Node::Case(m) => {
+                let m = m.get();
                 let binders = u64::from(m.binders);
                 let outer = m.params.loose().max(m.ret.loose().saturating_sub(binders));
                 let inner = m.scrut.loose().max(m.branches.loose());

@@ -97,7 +97,7 @@ impl Node {
             (Node::Const(c), Node::Const(d)) => *c == *d,
             (Node::Ind(f), Node::Ind(g)) => *f == *g,
             (Node::Construct(f, c), Node::Construct(g, d)) => *f == *g && *c == *d,
-            (Node::Case(m), Node::Case(n)) => m.same(n),
+            (Node::Case(m), Node::Case(n)) => m.get().same(n.get()),
             (Node::Fix(ds, i), Node::Fix(es, j)) => *i == *j && ds.same(es),
             _ => false,
         }

@@ -215,8 +215,8 @@ impl Node {
                 Term::make(alloc, Node::App(function, argument))
             }
             Node::Case(m) => {
-                let m = m.subst_above(alloc, k, x, copies)?;
-                Term::make(alloc, Node::Case(m))
+                let m = m.get().subst_above(alloc, k, x, copies)?;
+                Term::of_match(alloc, m)
             }
             Node::Fix(ds, i) => {
                 let ds = ds.subst_above(alloc, k, x, copies)?;

@@ -230,8 +230,8 @@ impl Node {
                 Term::make(alloc, Node::App(function, argument))
             }
             Node::Case(m) => {
-                let m = m.subst_list_above(alloc, k, xs, copies)?;
-                Term::make(alloc, Node::Case(m))
+                let m = m.get().subst_list_above(alloc, k, xs, copies)?;
+                Term::of_match(alloc, m)
             }
             Node::Fix(ds, i) => {
                 let ds = ds.subst_list_above(alloc, k, xs, copies)?;

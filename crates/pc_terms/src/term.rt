@@ -6,6 +6,7 @@ ghost use Rattle.pc_terms.specs.Syntax.{HasIndex};
 ghost use Rattle.pc_terms.specs.Formed.{IsFormed};
 ghost use Rattle.pc_terms.specs.View.{tree_of};
 ghost use Rattle.pc_terms.specs.Counted.{number_of, loose_of};
+ghost use Rattle.pc_terms.specs.declared.term.Node.TheVariants.{Case};
 ghost use Rattle.pc_terms.specs.declared.term.MakeFault.TheVariants.{TooDeep, Memory};
 
 use crate::copies::Walk;
@@ -29,7 +30,7 @@ pub struct Term {
     rc: Rc<Inner>,
 }
 
-// With the two counts of its `Rc` it has 120 bytes, and not 8 more: up to there an allocator such as glibc's takes it from lists of freed places of one size.
+// With the two counts of its `Rc` it has 72 bytes, and not 8 more: that is the whole of a place of an allocator such as glibc's, in steps of 16.
 #[cycle(term)]
 #[derive(Drop)]
 struct Inner {
@@ -63,7 +64,7 @@ pub enum Node {
     Ind(FamilyId),
     /// A constructor, by its place in the family from 0.
     Construct(FamilyId, u32),
-    Case(Match),
+    Case(BoxedMatch),
     /// One of the definitions of a fixpoint, by its place from 0.
     Fix(Defs, u32),
 }
@@ -122,6 +123,42 @@ pub struct Defs {
     pub(crate) items: Vec<Def>,
 }
 
+/// A match behind a box, so that a node takes no more room than its other formers need. Contracts see it as the match.
+#[cycle(term)]
+#[derive(Drop)]
+pub struct BoxedMatch {
+    inner: Box<Match>,
+}
+
+impl Model for BoxedMatch {
+    ghost use Rattle.std.specs.Prelude.{◌+◌, ◌*◌};
+    ghost use Rattle.pc_terms.specs.declared.term.Match.{Match};
+    ghost use Rattle.pc_terms.specs.MatchCode.{coded_match};
+
+    ghost Value = { Match };
+
+    ghost coded = { coded_match };
+
+    ghost use Rattle.pc_terms.specs.Lists.{depth_match};
+
+    ghost view = { λ b. b.inner.value };
+
+    ghost size = { λ m. 3 * depth_match m + 2 };
+
+    ghost use Rattle.std.proofs.Common.{arith};
+
+    ghost size_decreases = { λ b h. omega arith };
+}
+
+impl BoxedMatch {
+    /// The match. It takes no memory.
+    pub fn get(&self) -> &Match
+        ensures is { result.now ≡ self.now }
+    {
+        &self.inner
+    }
+}
+
 impl Model for Terms {
     ghost use Rattle.std.specs.Prelude.{List, ◌+◌, ◌*◌};
     ghost use Rattle.std.specs.Coded.{coded_list};
@@ -137,7 +174,7 @@ impl Model for Terms {
 
     ghost view = { λ a. a.items.items };
 
-    ghost size = { λ xs. 2 * depth_trees (terms_of xs) + 1 };
+    ghost size = { λ xs. 3 * depth_trees (terms_of xs) + 1 };
 
     ghost use Rattle.std.proofs.Common.{arith};
     ghost use Rattle.pc_terms.specs.Falls.{most_le-depth_trees};
@@ -160,7 +197,7 @@ impl Model for Branches {
 
     ghost view = { λ a. a.items.items };
 
-    ghost size = { λ xs. 2 * depth_trees (arms_of xs) + 1 };
+    ghost size = { λ xs. 3 * depth_trees (arms_of xs) + 1 };
 
     ghost use Rattle.std.proofs.Common.{arith};
     ghost use Rattle.pc_terms.specs.Falls.{most_le-depth_arms};
@@ -182,7 +219,7 @@ impl Model for Defs {
 
     ghost view = { λ a. a.items.items };
 
-    ghost size = { λ xs. 2 * depth_defs xs + 1 };
+    ghost size = { λ xs. 3 * depth_defs xs + 1 };
 
     ghost use Rattle.std.proofs.Common.{arith};
     ghost use Rattle.pc_terms.specs.Falls.{most_le-depth_defs};
@@ -207,7 +244,7 @@ impl Model for Term {
 
     ghost invariant = { λ t. IsCounted t.rc.value.depth (loose_of t.rc.value.is_open t.rc.value.outermost) t.rc.value.stamp (tree_of t.rc.value.node) };
 
-    ghost size = { λ t. 2 * depth t };
+    ghost size = { λ t. 3 * depth t };
 }
 
 /// Why a term was not made.
@@ -252,6 +289,22 @@ impl Term {
             },
         ) {
             Ok(rc) => Ok(Term { rc }),
+            Err(_) => Err(MakeFault::Memory),
+        }
+    }
+
+    /// The term of a match. `TooDeep` where it has a depth over 2,048.
+    pub fn of_match(alloc: Global, whole: Match) -> Result<Term, MakeFault>
+        ensures ok { IfOk result (λ t. t ≡ tree_of (Case whole)) }
+        ensures within { IfOk result IsWithin }
+        ensures too_deep { IfErr result (λ e. e ≡ TooDeep → IsBeyond (tree_of (Case whole))) }
+        ensures beyond { IsBeyond (tree_of (Case whole)) → result ≡ Err TooDeep }
+    {
+        if whole.depth() > 2048 {
+            return Err(MakeFault::TooDeep);
+        }
+        match Box::new(alloc, whole) {
+            Ok(inner) => Term::make(alloc, Node::Case(BoxedMatch { inner })),
             Err(_) => Err(MakeFault::Memory),
         }
     }

@@ -210,6 +210,7 @@ impl Machine {
                 Ok(Entered::Deeper)
             }
             Node::Case(m) => {
+                let m = m.get();
                 let scrutinee = kept.argument(&m.scrut, &self.focus.env)?;
                 let outer = self.focus.share()?;
                 self.push(Frame::Scrutinee(outer))?;

@@ -218,6 +218,7 @@ fn find_branch(env: &Env, value: &Value, outer: &Lazy) -> Result<Option<Branchin
     let Node::Case(m) = outer.term.view() else {
         unreachable!()
     };
+    let m = m.get();
     let Some(found) = find_constructed(env, value) else {
         return Ok(None);
     };

@@ -62,7 +62,7 @@ fn read_around_above(
         scrut,
         branches,
     };
-    Term::make(alloc, Node::Case(around))
+    Term::of_match(alloc, around)
 }
 
 /// A match under bindings with another scrutinee.
@@ -269,8 +269,9 @@ pub(crate) fn read_above(
         Node::Ind(_) => t.share(),
         Node::Construct(_, _) => t.share(),
         Node::Case(m) => {
+            let m = m.get();
             let m = read_match(m, alloc, at, k, env)?;
-            Term::make(alloc, Node::Case(m))
+            Term::of_match(alloc, m)
         }
         Node::Fix(ds, i) => {
             let ds = read_defs(ds, alloc, inner, k, env)?;

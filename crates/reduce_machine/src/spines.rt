@@ -53,6 +53,7 @@ fn read_match(alloc: Global, outer: &Lazy, inner: Term) -> Result<Term, MakeFaul
     let Node::Case(m) = outer.term.view() else {
         unreachable!()
     };
+    let m = m.get();
     read_around(m, alloc, &outer.env, inner)
 }
 

@@ -86,6 +86,7 @@ impl Machine {
                 Ok(true)
             }
             Node::Case(m) => {
+                let m = m.get();
                 let scrutinee = m.scrut.share()?;
                 let around = self.focus.share()?;
                 self.push(Frame::Scrutinee(around))?;

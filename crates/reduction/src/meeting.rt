@@ -155,7 +155,7 @@ pub(crate) fn rebuilt(alloc: Global, m: &Match, scrut: Term) -> Result<Term, Mak
         scrut,
         branches,
     };
-    Term::make(alloc, Node::Case(again))
+    Term::of_match(alloc, again)
 }
 
 /// A value that is the scrutinee of a match.
@@ -168,6 +168,7 @@ fn meet_match(alloc: Global, env: &Env, value: Value, around: &Term) -> Result<M
     let Node::Case(m) = around.view() else {
         unreachable!()
     };
+    let m = m.get();
     if let Some(redex) = branch(alloc, env, m, &value.term)? {
         return Ok(Met::Step(redex));
     }

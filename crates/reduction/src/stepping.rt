@@ -29,6 +29,7 @@ fn wrapped(alloc: Global, frame: Frame, inner: Term) -> Result<Term, MakeFault>
             let Node::Case(m) = around.view() else {
                 unreachable!()
             };
+            let m = m.get();
             rebuilt(alloc, m, inner)
         }
         Frame::Recursive(function) => Term::make(alloc, Node::App(function, inner)),

@@ -22,7 +22,7 @@ fn put_two_sorts(out: &mut String, env: &RawEnv, s: &Sort, t: &Sort) -> Result<(
 fn put_clash(out: &mut String, env: &RawEnv, clash: &Clash) -> Result<(), AllocError> {
     match clash {
         Clash::Terms(a, b) => put_two_terms(out, env, a, b),
-        Clash::Sorts(s, t) => put_two_sorts(out, env, s, t),
+        Clash::Sorts(s, t) => put_two_sorts(out, env, s.get(), t.get()),
     }
 }
 
@@ -77,7 +77,12 @@ fn put_names(out: &mut String, env: &RawEnv, rule: &Broken) -> Result<(), AllocE
         Broken::UnknownName { name } => put_name(out, env, *name),
         Broken::LevelUndeclared { level } => put_level(out, env, level.0),
         Broken::ElimNotAllowed { family } => put_family(out, env, *family),
-        Broken::SortTooSmall { argument, family } => put_two_sorts(out, env, argument, family),
+        Broken::SortTooSmall { argument, family } => put_two_sorts(
+            out,
+            env,
+            argument.get(),
+            family.get(),
+        ),
         _ => Ok(()),
     }
 }

@@ -81,7 +81,7 @@ fn put_node<'a>(
         Node::Lambda(domain, body) => open_two(out, stack, "(tLambda _ ", domain, body),
         Node::LetIn(value, ty, body) => open_let(out, stack, value, ty, body),
         Node::App(function, argument) => open_app(out, stack, function, argument),
-        Node::Case(whole) => open_match(out, env, stack, whole),
+        Node::Case(whole) => open_match(out, env, stack, whole.get()),
         Node::Fix(defs, index) => open_fix(out, stack, defs, *index),
     }
 }

@@ -27,7 +27,7 @@ pub fn constructor(term: &Term) -> Result<(FamilyId, u32), Fault> {
 /// The match that a term is.
 pub fn matched(term: &Term) -> Result<&Match, Fault> {
     match term.view() {
-        Node::Case(whole) => Ok(whole),
+        Node::Case(whole) => Ok(whole.get()),
         _ => Err(Fault::Faulty("no match")),
     }
 }

@@ -107,15 +107,15 @@ fn branches(alloc: Global, whole: &Match) -> Result<Branches, MakeFault> {
 fn match_on(alloc: Global, whole: &Match, scrut: Term) -> Result<Term, MakeFault> {
     let ret = whole.ret.share()?;
     let branches = branches(alloc, whole)?;
-    let node = Node::Case(Match {
+    let whole = Match {
         family: whole.family,
         params: Terms::new(alloc),
         binders: whole.binders,
         ret,
         scrut,
         branches,
-    });
-    Term::make(alloc, node)
+    };
+    Term::of_match(alloc, whole)
 }
 
 /// A match, which has no parameters, around itself, so that so many matches stand in one another.
@@ -132,6 +132,7 @@ fn run_nested(case: &Case, opened: &Opened, term: &Term, out: &mut String) -> Re
     let Node::Case(whole) = term.view() else {
         return Err(Fault::Faulty("no match"));
     };
+    let whole = whole.get();
     let times = case.row.number("times", 0)?;
     let term = made(nested(case.alloc, whole, times))?;
     put_whnf(case, opened, &term, out)

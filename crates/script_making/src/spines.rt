@@ -72,7 +72,7 @@ impl<R: Reducer> Maker<'_, R> {
         ensures makes { Makes (heads_making self.now.env.now self.now.room ctx.now a.now b.now draft.old.meter.account) result draft.old draft.new }
     {
         match (a.view(), b.view()) {
-            (Node::Case(x), Node::Case(y)) => self.matches(alloc, ctx, x, y, draft),
+            (Node::Case(x), Node::Case(y)) => self.matches(alloc, ctx, x.get(), y.get(), draft),
             (Node::Fix(ds, _), Node::Fix(es, _)) => self.fixpoints(alloc, ctx, ds, es, draft),
             _ => draft.put(CertItem::Same),
         }

@@ -74,6 +74,7 @@ pub(crate) fn enter(env: &Env, t: &Term, contracta: u64) -> Result<Found, MakeFa
             })
         }
         Node::Case(m) => {
+            let m = m.get();
             let term = m.scrut.share()?;
             Ok(Found::Inward {
                 frame: Frame::Scrutinee(whole),

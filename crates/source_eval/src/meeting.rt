@@ -22,6 +22,7 @@ fn choose(alloc: Global, env: &Env, around: Term, value: &Term) -> Result<Found,
     let Node::Case(m) = around.view() else {
         return Ok(Found::Stuck(around));
     };
+    let m = m.get();
     let Some(redex) = branch(alloc, env, m, value)? else {
         return Ok(Found::Stuck(around));
     };

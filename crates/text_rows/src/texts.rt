@@ -1,8 +1,7 @@
-//! The layer of the text: `parse`, `read` and `print`.
+//! The layer of the text: parsing, `read` and `print`.
 use crate::lists::put_text_lists;
 use crate::printing::{run_print, run_read};
-use dump_parser::environment::EnvTree;
-use dump_parser::parse;
+use dump_parser::Parser;
 use dump_reader::ReadRefusal;
 use row_files::{Case, Fault};
 use std::alloc::{AllocError, Global};
@@ -31,9 +30,44 @@ pub fn put_refusal(out: &mut String, refusal: &ReadRefusal) -> Result<(), AllocE
     }
 }
 
-fn put_tree(out: &mut String, tree: &EnvTree) -> Result<(), AllocError> {
-    let (levels, constraints) = (tree.levels.len(), tree.constraints.len());
-    let (declarations, depth) = (tree.declarations.len(), tree.main.depth());
+/// What a text was parsed as: how many levels, constraints and declarations it has, and the depth of main.
+#[derive(Clone, Copy, Debug)]
+struct Parsed {
+    levels: usize,
+    constraints: usize,
+    declarations: usize,
+    depth: usize,
+}
+
+/// Parses the declarations up to main, and counts them.
+fn count_declarations(alloc: Global, parser: &mut Parser) -> Result<usize, ReadRefusal> {
+    for before in 0..usize::MAX {
+        let tree = parser.declaration(alloc, before)?;
+        if tree.is_none() {
+            return Ok(before);
+        }
+    }
+    Ok(usize::MAX)
+}
+
+/// Parses a text.
+fn parse(alloc: Global, text: &[u8]) -> Result<Parsed, ReadRefusal> {
+    let mut parser = Parser::new(alloc, text);
+    let head = parser.head(alloc)?;
+    let (levels, constraints) = (head.levels.len(), head.constraints.len());
+    let declarations = count_declarations(alloc, &mut parser)?;
+    let main = parser.main(alloc)?;
+    Ok(Parsed {
+        levels,
+        constraints,
+        declarations,
+        depth: main.depth(),
+    })
+}
+
+fn put_parsed(out: &mut String, parsed: &Parsed) -> Result<(), AllocError> {
+    let (levels, constraints) = (parsed.levels, parsed.constraints);
+    let (declarations, depth) = (parsed.declarations, parsed.depth);
     write!(
         out,
         "levels {levels}, constraints {constraints}, declarations {declarations}, main of depth {depth}"
@@ -43,7 +77,7 @@ fn put_tree(out: &mut String, tree: &EnvTree) -> Result<(), AllocError> {
 fn run_parse(case: &Case, out: &mut String) -> Result<(), Fault> {
     let text = case.environment()?;
     match parse(case.alloc, text.as_slice()) {
-        Ok(tree) => Ok(put_tree(out, &tree)?),
+        Ok(parsed) => Ok(put_parsed(out, &parsed)?),
         Err(refusal) => Ok(put_refusal(out, &refusal)?),
     }
 }

@@ -56,6 +56,7 @@ impl Verifier<'_> {
         let Node::Case(y) = b.view() else {
             unreachable!()
         };
+        let y = y.get();
         let found = match_parts(alloc, x, y)?;
         let Some(parts) = found else {
             return Err(WalkHalt::Barred { item: at });

@@ -314,7 +314,7 @@ impl Verifier<'_> {
                 self.definition(alloc, ctx, value, ty, body, b, trail)
             }
             Node::App(f, x) => self.application(alloc, ctx, f, x, b, trail),
-            Node::Case(m) => self.matches(alloc, ctx, at, m, b, trail),
+            Node::Case(m) => self.matches(alloc, ctx, at, m.get(), b, trail),
             Node::Fix(defs, i) => self.fixpoints(alloc, ctx, at, defs, *i, b, trail),
             _ => leaf(a, b, at),
         }

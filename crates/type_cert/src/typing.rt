@@ -1,6 +1,5 @@
 //! The certified walk of typing: the unit of each rule, and which rule a term has.
 ghost use Rattle.std.specs.Prelude.{◌≡◌, ◌+◌, IfOk};
-ghost use Rattle.pc_rules.specs.DirectedTyping.{rule_number};
 ghost use Rattle.rule_laws.specs.Inference.{IsInferred};
 ghost use Rattle.type_infer.specs.Ready.{IsReady};
 ghost use Rattle.type_cert.specs.Retraces.{Retraces, stand};
@@ -82,7 +81,7 @@ impl<G: Guarder> TypeWalk<'_, G> {
             Node::Const(k) => at_item(at, const_rule(env, *k)),
             Node::Ind(f) => at_item(at, family_rule(alloc, self.made, env, *f)),
             Node::Construct(f, c) => at_item(at, constructor_rule(alloc, self.made, env, *f, *c)),
-            Node::Case(x) => self.case_rule(alloc, ctx, x, trail),
+            Node::Case(x) => self.case_rule(alloc, ctx, x.get(), trail),
             Node::Fix(ds, i) => self.fix_rule(alloc, ctx, t, ds, *i, trail),
         }
     }

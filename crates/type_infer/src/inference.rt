@@ -226,7 +226,7 @@ impl<R: Reducer + Drop, C: Converter + Drop, G: Guarder + Drop> Inference<R, C, 
             Node::Const(k) => const_rule(env, *k),
             Node::Ind(f) => family_rule(alloc, &self.made, env, *f),
             Node::Construct(f, c) => constructor_rule(alloc, &self.made, env, *f, *c),
-            Node::Case(x) => self.case_rule(alloc, env, ctx, site, room, x, m),
+            Node::Case(x) => self.case_rule(alloc, env, ctx, site, room, x.get(), m),
             Node::Fix(ds, i) => self.fix_rule(alloc, env, ctx, site, room, t, ds, *i, m),
         }
     }

@@ -12,7 +12,7 @@ ghost use Rattle.pc_rules.specs.DirectedTyping.{infer, sort_rule};
 ghost use Rattle.type_infer.specs.Unread.{with_result};
 
 use crate::leaves::undeclared_in;
-use pc_rules::broken::{Broken, Clash};
+use pc_rules::broken::{BoxedSort, Broken, Clash};
 use pc_rules::environment::Env;
 use pc_rules::meter::Meter;
 use pc_rules::stop::{Halt, Stop};
@@ -95,8 +95,8 @@ fn stand_below(alloc: Global, env: &Env, a: &Term, b: &Term, s: &Sort, t: &Sort)
     if env.entails(s, t) {
         return Ok(());
     }
-    let low = s.share(alloc)?;
-    let high = t.share(alloc)?;
+    let low = BoxedSort::new(alloc, s.share(alloc)?)?;
+    let high = BoxedSort::new(alloc, t.share(alloc)?)?;
     Err(Halt::Broken(Broken::NotBelow {
         clash: Clash::Sorts(low, high),
     }))

@@ -71,7 +71,7 @@ impl<R: Reducer, G: Guarder> TypeMaker<'_, R, G> {
             Node::Const(k) => const_rule(env, *k),
             Node::Ind(f) => ind_rule(alloc, env, *f),
             Node::Construct(f, c) => construct_rule(alloc, env, *f, *c),
-            Node::Case(x) => self.case_rule(alloc, ctx, x, draft),
+            Node::Case(x) => self.case_rule(alloc, ctx, x.get(), draft),
             Node::Fix(ds, i) => self.fix_rule(alloc, ctx, t, ds, *i, draft),
         }
     }

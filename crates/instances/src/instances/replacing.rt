@@ -189,8 +189,9 @@ fn replace_above(
         Node::Ind(_) => t.share(),
         Node::Construct(_, _) => t.share(),
         Node::Case(m) => {
+            let m = m.get();
             let m = match_above(alloc, m, k, raise, list)?;
-            Term::make(alloc, Node::Case(m))
+            Term::of_match(alloc, m)
         }
         Node::Fix(ds, i) => {
             let ds = defs_above(alloc, ds.as_slice(), k, raise, list)?;

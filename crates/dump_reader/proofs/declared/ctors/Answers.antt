@@ -1,16 +1,10 @@
-use Rattle.std.proofs.Common.{rules, subst, sym}
-use Rattle.dump_parser.specs.Environment.{named_ctor}
-use Rattle.dump_reader.specs.Formed.{IsFormedCtor}
+use Rattle.std.proofs.Common.{rules}
 use Rattle.dump_reader.specs.Made.{ctor_names, ctor_levels, ctor_value}
 use Rattle.dump_reader.proofs.Growth.{nothing-yet, one-more-at}
-use Rattle.dump_reader.proofs.Parts.{each-map-item}
 use Rattle.dump_reader.proofs.declared.ctors.Goals as goal
 
 pub loop-tree-init : goal.loop-tree-init
 loop-tree-init c = nothing-yet ctor_names ctor_levels ctor_value c.args.tables.now c.new-items.result.items (search rules)
-
-pub ctor-requires : goal.ctor-requires
-ctor-requires c = each-map-item IsFormedCtor named_ctor c.args.trees.now c.loop-tree.tree-index c.tree-item.result c.tree-item.is c.loop-tree-test.true c.requires
 
 pub loop-tree-preserved : goal.loop-tree-preserved
 loop-tree-preserved c =

@@ -1,6 +1,10 @@
-use Rattle.std.proofs.Common.{length, take}
-use Rattle.dump_reader.specs.Made.{NumbersEach, decl_names, decl_levels, decl_value}
+use Rattle.std.proofs.Common.{length}
+use Rattle.sexp_reader.specs.Stream.{stream}
+use Rattle.dump_reader.proofs.Sequences.{HasRead}
 use Rattle.dump_reader.proofs.declared.declarations.Given as goal
 
-abbrev pub invariant-loop-tree : goal.invariant-loop-tree
-invariant-loop-tree l = NumbersEach decl_names decl_levels decl_value (take (length l.yielded) l.fn.trees.items) l.fn.tables l.tables l.items.items
+abbrev pub invariant-loop-items : goal.invariant-loop-items
+invariant-loop-items l = HasRead l.fn.parser l.parser l.fn.tables l.tables l.items.items
+
+abbrev pub decreases-loop-items : goal.decreases-loop-items
+decreases-loop-items l = length (stream l.parser.tokens)

@@ -1,6 +1,6 @@
 use Rattle.std.proofs.Common.{◌+◌, ◌*◌, take, map}
 use Rattle.dump_grammar.specs.Named.{App, terms_of, branches_of, defs_of, depth, depth_terms, depth_branches, depth_defs}
-use Rattle.dump_parser.specs.Tree.{named, named_branch, named_def, applied}
+use Rattle.dump_parser.specs.Tree.{named, named_match, named_branch, named_def, applied}
 use Rattle.dump_parser.specs.declared.tree.Node.TheVariants as nodes
 use Rattle.dump_reader.specs.Made.{IsTerm, AreTerms, AreBranches, AreDefs}
 use Rattle.dump_reader.proofs.term.+term.Given as goal
@@ -21,7 +21,7 @@ abbrev pub decreases-fixpoint : goal.decreases-fixpoint
 decreases-fixpoint l = 3 * depth (named (nodes.Fix l.defs.now l.index)) + 1
 
 abbrev pub decreases-case : goal.decreases-case
-decreases-case l = 3 * depth (named (nodes.Case l.m.now)) + 1
+decreases-case l = 3 * depth (named_match l.m.now) + 1
 
 abbrev pub decreases-terms : goal.decreases-terms
 decreases-terms l = 3 * depth_terms (terms_of l.trees.now) + 3

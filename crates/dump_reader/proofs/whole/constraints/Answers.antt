@@ -1,20 +1,11 @@
 use Rattle.std.proofs.Common.{rules}
-use Rattle.dump_parser.specs.Environment.{named_constraint}
-use Rattle.dump_reader.specs.Formed.{IsFormedConstraint}
 use Rattle.dump_reader.specs.Made.{constraint_names, constraint_levels, constraint_value}
 use Rattle.dump_reader.proofs.Growth.{nothing-yet}
-use Rattle.dump_reader.proofs.Parts.{each-map-at}
 use Rattle.dump_reader.proofs.Members.{one-constraint}
 use Rattle.dump_reader.proofs.whole.constraints.Goals as goal
 
 pub loop-tree-init : goal.loop-tree-init
 loop-tree-init c = nothing-yet constraint_names constraint_levels constraint_value c.args.tables.now c.new-items.result.items (search rules)
-
-pub level-requires : goal.level-requires
-level-requires c = (each-map-at IsFormedConstraint named_constraint c.args.trees.now c.loop-tree.tree-index _ c.loop-tree-test.true c.requires).0
-
-pub level-requires-in-loop-tree : goal.level-requires-in-loop-tree
-level-requires-in-loop-tree c = (each-map-at IsFormedConstraint named_constraint c.args.trees.now c.loop-tree.tree-index _ c.loop-tree-test.true c.requires).1
 
 pub loop-tree-preserved : goal.loop-tree-preserved
 loop-tree-preserved c =

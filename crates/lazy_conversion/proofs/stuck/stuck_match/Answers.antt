@@ -10,7 +10,7 @@ returns-in_default-inner-clause-is c = absurd (no_open_match c.args.x _ c.in-Mat
 pub returns-in-Case-clause-is : goal.returns-in-Case-clause-is
 returns-in-Case-clause-is c =
     let e = rw c.in-Case.is at c.view.ensures.is in
-    stuck_head c.args.x c.in-Some.scrut c.in-Match.l c.in-Case.outer c.in-Some.ensures.some c.in-Match.is e
+    rw (← c.get.ensures.is) at (stuck_head c.args.x c.in-Some.scrut c.in-Match.l c.in-Case.outer c.in-Some.ensures.some c.in-Match.is e)
 
 pub returns-in_default-view-clause-is : goal.returns-in_default-view-clause-is
 returns-in_default-view-clause-is c = absurd (no_case_node c.args.x c.in-Some.scrut _ c.view.result.now c.in-Some.ensures.some c.in-Match.is c.view.ensures.is c.in_default-view.not-Case)

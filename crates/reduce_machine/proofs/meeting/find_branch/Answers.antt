@@ -20,11 +20,11 @@ returns-in_default-chosen-clause-ok c =
     let e = rw c.in-Case.is at c.view.ensures.is in
     λ V n. match_no_arm c.args.env.now V c.args.outer.now.env.items c.in-Case.m.family c.in-Some.found.family (terms_of c.in-Case.m.params) c.in-Case.m.binders
     c.in-Case.m.ret c.in-Case.m.scrut (arms_of c.in-Case.m.branches) c.args.outer.now.term (term_of c.args.value.now) c.in-Some.found.number c.in-Some.found.count _ e n
-    c.in-Some.ensures.is c.in-Some.ensures.count c.in_default-chosen.ensures.is
+    c.in-Some.ensures.is c.in-Some.ensures.count (rw c.get-m.ensures.is at c.in_default-chosen.ensures.is)
 
 pub returns-clause-ok : goal.returns-clause-ok
 returns-clause-ok c =
     let e = rw c.in-Case.is at c.view.ensures.is in
     λ V n. match_takes c.args.env.now V c.args.outer.now.env.items c.in-Case.m.family c.in-Some.found.family (terms_of c.in-Case.m.params) c.in-Case.m.binders
     c.in-Case.m.ret c.in-Case.m.scrut (arms_of c.in-Case.m.branches) c.args.outer.now.term (term_of c.args.value.now) c.in-Some.found.number c.in-Some.found.count _
-    c.in-Some-chosen.arm.now.body c.in_ok-body.body e n c.in-Some.ensures.is c.in-Some.ensures.count c.in-Some-chosen.ensures.is c.in_ok-body.ensures.ok
+    c.in-Some-chosen.arm.now.body c.in_ok-body.body e n c.in-Some.ensures.is c.in-Some.ensures.count (rw c.get-m.ensures.is at c.in-Some-chosen.ensures.is) c.in_ok-body.ensures.ok

@@ -13,8 +13,9 @@ unreachable-requires c = not_case c.view.result.now c.args.outer.now.term c.view
 pub returns : goal.returns
 returns c =
     let e = rw c.in-Case.is at c.view.ensures.is in
+    let around = rw c.get-m.ensures.is at c.read_around.ensures in
     record {
-      ok = along (λ u. IfOk c.read_around.result (λ t. t ≡ with_scrutinee (substitute (stands c.args.outer.now.env.items) u) c.args.inner)) e c.read_around.ensures.ok;
+      ok = along (λ u. IfOk c.read_around.result (λ t. t ≡ with_scrutinee (substitute (stands c.args.outer.now.env.items) u) c.args.inner)) e around.ok;
       too_deep = along (λ u. IfErr c.read_around.result (λ f. f ≡ TooDeep → IsBeyond (with_scrutinee (substitute (stands c.args.outer.now.env.items) u) c.args.inner))) e
-          c.read_around.ensures.too_deep;
+          around.too_deep;
     }

@@ -17,6 +17,6 @@ pub returns : goal.returns
 returns c =
     let apart = same_no _ _ c.same.result c.same.ensures.is c.if-same.false in
     record {
-      answers = λ d k u. rw (c.in_ok-low.ensures.value, c.in_ok-high.ensures.value) (entered_not_below c.args.env.now (test_of c.args.env.now) (compare c.args.env.now (test_of c.args.env.now) k) d c.args.s.now c.args.t.now u c.requires.left c.requires.right apart
+      answers = λ d k u. rw (c.in_ok-low.ensures.ok, c.in_ok-share.ensures.value, c.in_ok-high.ensures.ok, c.in_ok-share-2.ensures.value) (entered_not_below c.args.env.now (test_of c.args.env.now) (compare c.args.env.now (test_of c.args.env.now) k) d c.args.s.now c.args.t.now u c.requires.left c.requires.right apart
           (sym c.entails.ensures.test ∙ c.if-entails.false));
     }

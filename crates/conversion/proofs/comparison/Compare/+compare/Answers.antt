@@ -362,7 +362,7 @@ pub heads-returns-in-Case-Case : goal.heads-returns-in-Case-Case
 heads-returns-in-Case-Case g t c =
     let ea = rw c.in-Case-Case.is-0 at c.view.ensures.is in
     let eb = rw c.in-Case-Case.is-1 at c.view-2.ensures.is in
-    record { follows = rw (← ea, ← eb) c.matches.ensures.follows }
+    record { follows = rw (← ea, ← eb) (rw (c.get.ensures.is, c.get-in-Case-Case.ensures.is) at c.matches.ensures.follows) }
 
 pub heads-fixpoints-requires : goal.heads-fixpoints-requires
 heads-fixpoints-requires g t c =

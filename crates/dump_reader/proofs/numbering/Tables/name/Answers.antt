@@ -6,4 +6,4 @@ pub returns-then-is_text_of-clause-made : goal.returns-then-is_text_of-clause-ma
 returns-then-is_text_of-clause-made c = used-name c.args.text.now c.args.text.now c.last-last.result refl (sym (c.is_text_of.ensures.there c.if-is_text_of.true)) refl (sym (c.is_text_of.ensures.place c.if-is_text_of.true))
 
 pub returns-clause-made : goal.returns-clause-made
-returns-clause-made c = used-name c.args.text.now c.text_of.result.now c.in_ok-number.number c.text_of.ensures.same c.in_ok-number.ensures.added refl c.in_ok-number.ensures.number
+returns-clause-made c = used-name c.args.text.now c.in_ok-text_of.field-0.now c.in_ok-number.number c.in_ok-text_of.ensures.same c.in_ok-number.ensures.added refl c.in_ok-number.ensures.number

@@ -265,5 +265,15 @@ walk_applied-returns-in_ok-inner-in-LetIn g t c =
     let f = walk_in c.args.env.now c.args.recursive _ _ _ _ c.in-LetIn.body _ _ _ c.in_ok-inner-in-LetIn.ensures.values c.in_ok-inner-in-LetIn.ensures.marks c.walk-in-LetIn-3.ensures.follows in
     record { follows = rw (← e) (follows_bind _ _ _ _ _ _ _ c.in_ok-walk-in-LetIn.ensures.follows (follows_bind _ _ _ _ _ _ _ c.in_ok-walk-in-LetIn-2.ensures.follows f)) }
 
+pub walk_applied-returns-in-Case : goal.walk_applied-returns-in-Case
+walk_applied-returns-in-Case g t c =
+    let e = rw c.in-Case.is at c.view.ensures.is in
+    record { follows = rw (← e) (rw c.get.ensures.is at c.case.ensures.follows) }
+
+pub walk_applied-returns-in-Fix : goal.walk_applied-returns-in-Fix
+walk_applied-returns-in-Fix g t c =
+    let e = rw c.in-Fix.is at c.view.ensures.is in
+    record { follows = rw (← e) (rw c.as_slice.ensures.is at c.definitions.ensures.follows) }
+
 pub walk_applied-returns-in-Sort : goal.walk_applied-returns-in-Sort
 walk_applied-returns-in-Sort g t c = record { follows = walk_leaf _ _ _ _ _ _ _ c.args.m.now c.view.ensures.is c.in-Sort.is }

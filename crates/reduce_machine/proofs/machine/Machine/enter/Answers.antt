@@ -21,7 +21,7 @@ returns-in_ok-push-in-Case-clause-grown c =
     let e = rw c.in-Case.is at c.view.ensures.is in
     let n : Machine = record { focus = c.in_ok-scrutinee-in-Case.scrutinee; frames = c.push-in-Case.new.self.frames } in
     (case_entered c.args.self.now n c.in-Case.m.family (terms_of c.in-Case.m.params) c.in-Case.m.binders c.in-Case.m.ret c.in-Case.m.scrut (arms_of c.in-Case.m.branches) c.in_ok-outer-in-Case.outer c.requires.sound
-    c.in_ok-push-in-Case.ensures.ok c.in_ok-outer-in-Case.ensures.ok e c.in_ok-scrutinee-in-Case.ensures.ok c.in_ok-scrutinee-in-Case.ensures.rank).grown
+    c.in_ok-push-in-Case.ensures.ok c.in_ok-outer-in-Case.ensures.ok e (rw c.get-m.ensures.is at c.in_ok-scrutinee-in-Case.ensures.ok) c.in_ok-scrutinee-in-Case.ensures.rank).grown
 
 pub returns-in_ok-push-in-App-clause-sound : goal.returns-in_ok-push-in-App-clause-sound
 returns-in_ok-push-in-App-clause-sound c =
@@ -34,7 +34,7 @@ returns-in_ok-push-in-Case-clause-sound c =
     let e = rw c.in-Case.is at c.view.ensures.is in
     let n : Machine = record { focus = c.in_ok-scrutinee-in-Case.scrutinee; frames = c.push-in-Case.new.self.frames } in
     (case_entered c.args.self.now n c.in-Case.m.family (terms_of c.in-Case.m.params) c.in-Case.m.binders c.in-Case.m.ret c.in-Case.m.scrut (arms_of c.in-Case.m.branches) c.in_ok-outer-in-Case.outer c.requires.sound
-    c.in_ok-push-in-Case.ensures.ok c.in_ok-outer-in-Case.ensures.ok e c.in_ok-scrutinee-in-Case.ensures.ok c.in_ok-scrutinee-in-Case.ensures.rank).sound
+    c.in_ok-push-in-Case.ensures.ok c.in_ok-outer-in-Case.ensures.ok e (rw c.get-m.ensures.is at c.in_ok-scrutinee-in-Case.ensures.ok) c.in_ok-scrutinee-in-Case.ensures.rank).sound
 
 pub returns-in_ok-push-in-App-clause-load : goal.returns-in_ok-push-in-App-clause-load
 returns-in_ok-push-in-App-clause-load c =
@@ -47,7 +47,7 @@ returns-in_ok-push-in-Case-clause-load c =
     let e = rw c.in-Case.is at c.view.ensures.is in
     let n : Machine = record { focus = c.in_ok-scrutinee-in-Case.scrutinee; frames = c.push-in-Case.new.self.frames } in
     (case_entered c.args.self.now n c.in-Case.m.family (terms_of c.in-Case.m.params) c.in-Case.m.binders c.in-Case.m.ret c.in-Case.m.scrut (arms_of c.in-Case.m.branches) c.in_ok-outer-in-Case.outer c.requires.sound
-    c.in_ok-push-in-Case.ensures.ok c.in_ok-outer-in-Case.ensures.ok e c.in_ok-scrutinee-in-Case.ensures.ok c.in_ok-scrutinee-in-Case.ensures.rank).load
+    c.in_ok-push-in-Case.ensures.ok c.in_ok-outer-in-Case.ensures.ok e (rw c.get-m.ensures.is at c.in_ok-scrutinee-in-Case.ensures.ok) c.in_ok-scrutinee-in-Case.ensures.rank).load
 
 pub returns-in_ok-push-in-App-clause-falls : goal.returns-in_ok-push-in-App-clause-falls
 returns-in_ok-push-in-App-clause-falls c =
@@ -60,7 +60,7 @@ returns-in_ok-push-in-Case-clause-falls c =
     let e = rw c.in-Case.is at c.view.ensures.is in
     let n : Machine = record { focus = c.in_ok-scrutinee-in-Case.scrutinee; frames = c.push-in-Case.new.self.frames } in
     (case_entered c.args.self.now n c.in-Case.m.family (terms_of c.in-Case.m.params) c.in-Case.m.binders c.in-Case.m.ret c.in-Case.m.scrut (arms_of c.in-Case.m.branches) c.in_ok-outer-in-Case.outer c.requires.sound
-    c.in_ok-push-in-Case.ensures.ok c.in_ok-outer-in-Case.ensures.ok e c.in_ok-scrutinee-in-Case.ensures.ok c.in_ok-scrutinee-in-Case.ensures.rank).falls
+    c.in_ok-push-in-Case.ensures.ok c.in_ok-outer-in-Case.ensures.ok e (rw c.get-m.ensures.is at c.in_ok-scrutinee-in-Case.ensures.ok) c.in_ok-scrutinee-in-Case.ensures.rank).falls
 
 pub look-requires : goal.look-requires
 look-requires c = record { memo = c.in-Item.ensures.found.2 }
@@ -87,7 +87,7 @@ returns-in_ok-push-in-Case-clause-waiting c =
     let e = rw c.in-Case.is at c.view.ensures.is in
     let n : Machine = record { focus = c.in_ok-scrutinee-in-Case.scrutinee; frames = c.push-in-Case.new.self.frames } in
     let w = case_read c.args.self.now n c.in-Case.m.family (terms_of c.in-Case.m.params) c.in-Case.m.binders c.in-Case.m.ret c.in-Case.m.scrut (arms_of c.in-Case.m.branches) c.in_ok-outer-in-Case.outer
-    c.in_ok-outer-in-Case.ensures.ok e c.in_ok-scrutinee-in-Case.ensures.ok in
+    c.in_ok-outer-in-Case.ensures.ok e (rw c.get-m.ensures.is at c.in_ok-scrutinee-in-Case.ensures.ok) in
     λ E V h. waiting_pushed E V c.args.kept.now.left c.args.self.now.frames.items c.push-in-Case.new.self.frames.items (Scrutinee c.in_ok-outer-in-Case.outer) (read n.focus)
     c.in_ok-push-in-Case.ensures.ok tt (along (λ t. AreWaiting E V c.args.kept.now.left c.args.self.now.frames.items t) (sym w) h)
 

@@ -87,7 +87,7 @@ pub rule-returns-in-Construct : goal.rule-returns-in-Construct
 rule-returns-in-Construct g t c = record { retraces = rw (← c.view.ensures.is, c.in-Construct.is) (retraces_answers _ _ c.at_item-in-Construct.ensures.is (c.constructor_rule.ensures.answers _)) }
 
 pub rule-returns-in-Case : goal.rule-returns-in-Case
-rule-returns-in-Case g t c = record { retraces = rw (← c.view.ensures.is, c.in-Case.is) c.case_rule.ensures.retraces }
+rule-returns-in-Case g t c = record { retraces = rw (← c.view.ensures.is, c.in-Case.is) (rw c.get.ensures.is at c.case_rule.ensures.retraces) }
 
 pub rule-fix_rule-requires : goal.rule-fix_rule-requires
 rule-fix_rule-requires g t c =

@@ -1,4 +1,6 @@
 use Rattle.std.proofs.Common.{rules, arith, ◌≡◌, ◌∙◌, ap, sym, refl, ◌<◌, Some, length, slice_get, suc, ◌-◌, ◌+◌, ◌≤◌, subst}
+use Rattle.pc_terms.specs.View.{tree_of}
+use Rattle.pc_terms.specs.declared.term.Node.TheVariants.{Case}
 use Rattle.calculus_rules.specs.Context.{values}
 use Rattle.pc_rules.specs.Entailment.{test_of}
 use Rattle.pc_rules.specs.WellCounted.{IsCounted}
@@ -188,7 +190,8 @@ parts-returns-in-App t c =
 pub parts-returns-in-Case : goal.parts-returns-in-Case
 parts-returns-in-Case t c =
     let ea = rw c.in-Case.is at c.view.ensures.is in
-    record { retraces = rw (← ea) (c.matches.ensures.retraces c.args.equal) }
+    let eg : tree_of (Case c.get.result.now) ≡ c.args.a.now = ap (λ m. tree_of (Case m)) c.get.ensures.is ∙ ea in
+    record { retraces = rw (← eg) (c.matches.ensures.retraces c.args.equal) }
 
 pub parts-returns-in-Fix : goal.parts-returns-in-Fix
 parts-returns-in-Fix t c =
@@ -215,13 +218,13 @@ definition-returns t c =
 pub matches-returns-in_default-found : goal.matches-returns-in_default-found
 matches-returns-in_default-found t c =
     let eb = rw c.in-Case.is at c.view.ensures.is in
-    let e = rw c.in_default-found.is at c.in_ok-found.ensures.parts in
+    let e = rw (c.in_default-found.is, c.get-y.ensures.is) at c.in_ok-found.ensures.parts in
     record { retraces = λ equal. match_differs c.args.at (going c.args.self.now) (values c.args.ctx.now) equal c.args.trail.now c.args.x.now c.in-Case.y c.args.b.now eb e }
 
 pub matches-each_part-requires : goal.matches-each_part-requires
 matches-each_part-requires t c =
     let eb = rw c.in-Case.is at c.view.ensures.is in
-    let e = rw c.in-Some.is at c.in_ok-found.ensures.parts in
+    let e = rw (c.in-Some.is, c.get-y.ensures.is) at c.in_ok-found.ensures.parts in
     let r = subst (λ u. IsCounted c.args.self.now.env.now u) (sym eb) c.requires.scriptable.right in
     let k = matches_counted c.args.self.now.env.now c.args.x.now c.in-Case.y c.in-Some.parts.items c.requires.scriptable.left r e in
     let l : AreCountedParts c.args.self.now.env.now c.as_slice.result.now = rw c.as_slice.ensures.value k in
@@ -230,7 +233,7 @@ matches-each_part-requires t c =
 pub matches-returns : goal.matches-returns
 matches-returns t c =
     let eb = rw c.in-Case.is at c.view.ensures.is in
-    let e = rw c.in-Some.is at c.in_ok-found.ensures.parts in
+    let e = rw (c.in-Some.is, c.get-y.ensures.is) at c.in_ok-found.ensures.parts in
     let f = rw c.as_slice.ensures.value at c.each_part.ensures.retraces in
     record { retraces = λ equal. match_goes c.args.at (going c.args.self.now) (values c.args.ctx.now) equal c.args.trail.now c.args.x.now c.in-Case.y c.args.b.now c.in-Some.parts.items _ _ eb e f }
 

@@ -83,7 +83,7 @@ pub rule-returns-in-Construct : goal.rule-returns-in-Construct
 rule-returns-in-Construct g t c = record { follows = rw (← c.view.ensures.is, c.in-Construct.is) (still (c.constructor_rule.ensures.answers c.args.m.now.account)) }
 
 pub rule-returns-in-Case : goal.rule-returns-in-Case
-rule-returns-in-Case g t c = record { follows = rw (← c.view.ensures.is, c.in-Case.is) c.case_rule.ensures.follows }
+rule-returns-in-Case g t c = record { follows = rw (← c.view.ensures.is, c.in-Case.is) (rw c.get.ensures.is at c.case_rule.ensures.follows) }
 
 pub rule-fix_rule-requires : goal.rule-fix_rule-requires
 rule-fix_rule-requires g t c =

@@ -94,7 +94,7 @@ pub rule-returns-in-Construct : goal.rule-returns-in-Construct
 rule-returns-in-Construct g t c = record { makes = rw (← c.view.ensures.is, c.in-Construct.is) (makes_still _ c.construct_rule.ensures.answers) }
 
 pub rule-returns-in-Case : goal.rule-returns-in-Case
-rule-returns-in-Case g t c = record { makes = rw (← c.view.ensures.is, c.in-Case.is) c.case_rule.ensures.makes }
+rule-returns-in-Case g t c = record { makes = rw (← c.view.ensures.is, c.in-Case.is) (rw c.get.ensures.is at c.case_rule.ensures.makes) }
 
 pub rule-fix_rule-requires : goal.rule-fix_rule-requires
 rule-fix_rule-requires g t c =
