@@ -28,6 +28,6 @@ sort_over E c t h f n (Ok s) t0 t1 p =
     let q = decides E c h in
     let ti = infer_trace [] E w (test_of E) q n 0 in
     let g = (sort_trace [] E w (infer E (test_of E) n) (infer_making E n) (walk_infer [] E (test_of E) 0) ti c t h.context f).forgets t0.meter.account in
-    let e = made_follows _ (sort_of E (infer E (test_of E) n) c t t0.meter.account) (Ok s) g p in
+    let e = made_follows _ (sort_of E (infer E (test_of E) n) c t t0.meter.account) s g p in
     (sort_sound E w (infer E (test_of E) n) (infer_sound E w (test_of E) q n) c t s t0.meter.account t1.meter.account h.context f e.answer).2
 sort_over E c t h f n (Err x) t0 t1 p = tt

@@ -8,6 +8,7 @@ use Rattle.pc_terms.specs.declared.term.Match.{Match}
 use Rattle.pc_terms.specs.declared.term.MakeFault.{MakeFault}
 use Rattle.pc_terms.specs.declared.term.MakeFault.TheVariants.{TooDeep as DeepTerm, Memory as NoTerm}
 use Rattle.calculus_rules.specs.declared.declaration.Constructor.{Constructor}
+use Rattle.pc_rules.specs.declared.meter.Account.{Account}
 use Rattle.pc_rules.specs.declared.meter.Meter.{Meter}
 use Rattle.pc_rules.specs.declared.stop.Stop.TheVariants.{Spent, TooDeep}
 use Rattle.pc_rules.specs.declared.stop.Halt.{Halt}
@@ -20,11 +21,13 @@ use Rattle.calculus_rules.specs.Instances.{predicate_entries, branch_entries}
 use Rattle.pc_rules.specs.Stops.{stop_of}
 use Rattle.pc_rules.specs.Entailment.{test_of}
 use Rattle.pc_rules.specs.Follows.{Follows}
-use Rattle.pc_rules.specs.DirectedRun.{Act, ticked, too_nested, passing, any_beyond, refused, bind, run_all}
+use Rattle.pc_rules.specs.DirectedRun.{Act, ticked, too_nested, passing, any_beyond, refused, bind, run_all, Leaves}
 use Rattle.calculus_rules.specs.Lookups.{family_of}
 use Rattle.calculus_rules.specs.Listed.{list_of}
 use Rattle.pc_rules.specs.DirectedComparison.{Test, Comparison, compare, entered, entering, each_equal, branches_equal, matches_equal, heads_equal, spines_equal, alike}
 use Rattle.pc_rules.proofs.Following.{follows_spent, follows_nested, follows_entered, follows_bind, follows_err, follows_deep, follows_memory, follows_passing, follows_none, follows_next, follows_first_err, follows_then, follows_else, follows_refused}
+use Rattle.pc_rules.proofs.FairReduction.{FairComparison}
+use Rattle.pc_rules.proofs.Leaving.{leaving, comparison_leaves}
 use Rattle.pc_rules.proofs.ListSteps.{next_is, none_left, min_either}
 use Rattle.calculus_rules.proofs.Listing.{listed}
 
@@ -53,9 +56,10 @@ module _ (E : Env) (q : Test) (c : Context) (equal : Bool) (a b : Term) where
 
 -- under the entries of a telescope
 
-pub entering_fault : (c : Context) (As : List Term) (go : Context → Act) (f : MakeFault) (m : Meter) → (f ≡ DeepTerm → IsTrue (any_beyond As)) → Follows (entering c As go m.account) (Err (Stop (stop_of f))) m m
-entering_fault c As go DeepTerm m h = follows_err (passing (any_beyond As) m.account) (λ _ v. go (extend c As) v) (Stop TooDeep) m m (follows_deep (passing (any_beyond As) m.account) m (h refl))
-entering_fault c As go NoTerm m h = follows_memory (entering c As go m.account) m
+pub entering_fault : (c : Context) (As : List Term) (go : Context → Act) (f : MakeFault) (m : Meter) → (f ≡ DeepTerm → IsTrue (any_beyond As)) → ((d : Context) (u : Account) → Leaves (go d u).end u.left) →
+    Follows (entering c As go m.account) (Err (Stop (stop_of f))) m m
+entering_fault c As go DeepTerm m h l = follows_err (passing (any_beyond As) m.account) (λ _ v. go (extend c As) v) (Stop TooDeep) m m (follows_deep (passing (any_beyond As) m.account) m (h refl) (search leaving)) (λ _. l (extend c As))
+entering_fault c As go NoTerm m h l = follows_memory (entering c As go m.account) m (search (leaving, l))
 
 pub entering_goes : (c : Context) (As : List Term) (go : Context → Act) (r : Result (Unit {0}) Halt) (m0 m1 : Meter) → Follows (go (extend c As) m0.account) r m0 m1 → Follows (entering c As go m0.account) r m0 m1
 entering_goes c As go r m0 m1 f = follows_bind (passing (any_beyond As) m0.account) (λ _ v. go (extend c As) v) tt r m0 m0 m1 (follows_passing (any_beyond As) m0) f
@@ -69,11 +73,11 @@ module _ (cmp : Comparison) (c : Context) (ts us : List Term) where
       rw (next_is ts i t h e, next_is us i u k e')
       (follows_next (cmp c true t u) (each_equal cmp c (drop (i + 1) ts) (drop (i + 1) us)) r m0 m1 m2 f g)
 
-  pub each_stops : (i : ℕ) (t u : Term) (x : Halt) (m0 m1 : Meter) → i < length ts → i < length us → t ≡ get_or ts i t → u ≡ get_or us i u →
+  pub each_stops : FairComparison 0 0 cmp → (i : ℕ) (t u : Term) (x : Halt) (m0 m1 : Meter) → i < length ts → i < length us → t ≡ get_or ts i t → u ≡ get_or us i u →
       Follows (cmp c true t u m0.account) (Err x) m0 m1 → Follows (run_all (each_equal cmp c (drop i ts) (drop i us)) m0.account) (Err x) m0 m1
-  each_stops i t u x m0 m1 h k e e' f =
+  each_stops g i t u x m0 m1 h k e e' f =
       rw (next_is ts i t h e, next_is us i u k e')
-      (follows_first_err (cmp c true t u) (each_equal cmp c (drop (i + 1) ts) (drop (i + 1) us)) x m0 m1 f)
+      (follows_first_err (cmp c true t u) (each_equal cmp c (drop (i + 1) ts) (drop (i + 1) us)) x m0 m1 f (search (leaving, g)))
 
 each_none : (cmp : Comparison) (c : Context) (ts : List Term) → each_equal cmp c ts [] ≡ []
 each_none cmp c [] = refl
@@ -86,6 +90,14 @@ each_short cmp c ts us i (inr h) = rw (none_left us i h) (each_none cmp c (drop 
 pub each_done : (cmp : Comparison) (c : Context) (ts us : List Term) (i : ℕ) (m : Meter) → min (length ts) (length us) ≤ i →
     Follows (run_all (each_equal cmp c (drop i ts) (drop i us)) m.account) (Ok tt) m m
 each_done cmp c ts us i m h = rw (each_short cmp c ts us i (min_either (length ts) (length us) i h)) (follows_none m)
+
+-- one of three lists has no item left
+one_short : (k m n i : ℕ) → (k ≤ i) ⊎ (min m n ≤ i) → (k ≤ i) ⊎ ((m ≤ i) ⊎ (n ≤ i))
+one_short k m n i (inl h) = inl h
+one_short k m n i (inr h) = inr (min_either m n i h)
+
+pub which_short : (k m n i : ℕ) → min k (min m n) ≤ i → (k ≤ i) ⊎ ((m ≤ i) ⊎ (n ≤ i))
+which_short k m n i h = one_short k m n i (min_either k (min m n) i h)
 
 -- the branches of two matches, from their next ones on
 module _ (cmp : Comparison) (c : Context) (ps : List Term) (Cs : List Constructor) (bs bs' : List Branch) where
@@ -100,12 +112,12 @@ module _ (cmp : Comparison) (c : Context) (ps : List Term) (Cs : List Constructo
       rw (next_is Cs i C h e, next_is bs i b k e', next_is bs' i b' l e'')
       (follows_next (entering c (branch_entries C ps) (λ d. cmp d true b.body b'.body)) (branches_from (i + 1)) r m0 m1 m2 f g)
 
-  pub branches_stops : (i : ℕ) (C : Constructor) (b b' : Branch) (x : Halt) (m0 m1 : Meter) →
+  pub branches_stops : FairComparison 0 0 cmp → (i : ℕ) (C : Constructor) (b b' : Branch) (x : Halt) (m0 m1 : Meter) →
       i < length Cs → i < length bs → i < length bs' → C ≡ get_or Cs i C → b ≡ get_or bs i b → b' ≡ get_or bs' i b' →
       Follows (entering c (branch_entries C ps) (λ d. cmp d true b.body b'.body) m0.account) (Err x) m0 m1 → Follows (run_all (branches_from i) m0.account) (Err x) m0 m1
-  branches_stops i C b b' x m0 m1 h k l e e' e'' f =
+  branches_stops g i C b b' x m0 m1 h k l e e' e'' f =
       rw (next_is Cs i C h e, next_is bs i b k e', next_is bs' i b' l e'')
-      (follows_first_err (entering c (branch_entries C ps) (λ d. cmp d true b.body b'.body)) (branches_from (i + 1)) x m0 m1 f)
+      (follows_first_err (entering c (branch_entries C ps) (λ d. cmp d true b.body b'.body)) (branches_from (i + 1)) x m0 m1 f (search (leaving, g)))
 
   no_constructors : (xs ys : List Term) → branches_equal cmp c ps [] xs ys ≡ []
   no_constructors xs ys = refl
@@ -124,13 +136,9 @@ module _ (cmp : Comparison) (c : Context) (ps : List Term) (Cs : List Constructo
   branches_short i (inr (inl h)) = rw (none_left bs i h) (no_left (drop i Cs) (list_of (arms_of (drop i bs'))))
   branches_short i (inr (inr h)) = rw (none_left bs' i h) (no_right (drop i Cs) (list_of (arms_of (drop i bs))))
 
-  which_short : (i : ℕ) → (length Cs ≤ i) ⊎ (min (length bs) (length bs') ≤ i) → (length Cs ≤ i) ⊎ ((length bs ≤ i) ⊎ (length bs' ≤ i))
-  which_short i (inl h) = inl h
-  which_short i (inr h) = inr (min_either (length bs) (length bs') i h)
-
   pub branches_done : (i : ℕ) (m : Meter) → min (length Cs) (min (length bs) (length bs')) ≤ i → Follows (run_all (branches_from i) m.account) (Ok tt) m m
   branches_done i m h =
-      rw (branches_short i (which_short i (min_either (length Cs) (min (length bs) (length bs')) i h))) (follows_none m)
+      rw (branches_short i (which_short (length Cs) (length bs) (length bs') i h)) (follows_none m)
 
 -- two matches, by the lists of their parameters
 module _ (E : Env) (n : ℕ) (c : Context) (x y : Match) where

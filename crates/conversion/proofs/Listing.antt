@@ -1,5 +1,6 @@
 -- Lists of terms, branches and definitions, from one item on.
 use Rattle.std.proofs.Common.{◌≡◌, ◌∙◌, ap, refl, ℕ, suc, ◌<◌, ◌+◌, ◌==◌, ◌&&◌, Bool, true, false, List, [], ◌∷◌, length, drop, get_or, ◌≢◌, eq-eqb}
+use Rattle.std.proofs.lemmas.Bool.{and_right}
 use Rattle.trees.specs.Tree.{terms_of}
 use Rattle.pc_terms.specs.Syntax.{Term, number}
 use Rattle.pc_terms.specs.View.{tree_of}
@@ -45,21 +46,17 @@ module _ (xs ys : List Def) (i : ℕ) (x y : Def) (h : i < length xs) (k : i < l
 
 -- lists of other lengths are not the same
 
-and_false : (a b : Bool) → b ≡ false → (a && b) ≡ false
-and_false true b e = e
-and_false false b e = refl
-
 pub binders_other : (xs ys : List Branch) → length xs ≢ length ys → same_numbers (binders_of (arms_of xs)) (binders_of (arms_of ys)) ≡ false
 binders_other [] [] h = absurd (h refl)
 binders_other [] (y ∷ ys) h = refl
 binders_other (x ∷ xs) [] h = refl
-binders_other (x ∷ xs) (y ∷ ys) h = and_false (x.binders == y.binders) _ (binders_other xs ys (λ e. h (ap suc e)))
+binders_other (x ∷ xs) (y ∷ ys) h = and_right (x.binders == y.binders) _ (binders_other xs ys (λ e. h (ap suc e)))
 
 pub rargs_other : (xs ys : List Def) → length xs ≢ length ys → same_numbers (rargs_of xs) (rargs_of ys) ≡ false
 rargs_other [] [] h = absurd (h refl)
 rargs_other [] (y ∷ ys) h = refl
 rargs_other (x ∷ xs) [] h = refl
-rargs_other (x ∷ xs) (y ∷ ys) h = and_false (x.rarg == y.rarg) _ (rargs_other xs ys (λ e. h (ap suc e)))
+rargs_other (x ∷ xs) (y ∷ ys) h = and_right (x.rarg == y.rarg) _ (rargs_other xs ys (λ e. h (ap suc e)))
 
 -- the counts of two matches decide whether they are alike
 

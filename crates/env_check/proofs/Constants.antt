@@ -7,7 +7,9 @@ use Rattle.calculus_rules.specs.declared.declaration.Kept.{Kept}
 use Rattle.calculus_rules.specs.declared.declaration.Kept.TheVariants.{Constant}
 use Rattle.pc_rules.specs.declared.meter.Account.{Account}
 use Rattle.pc_rules.specs.declared.meter.Meter.{Meter}
+use Rattle.pc_rules.specs.declared.stop.Stop.TheVariants.{Memory}
 use Rattle.pc_rules.specs.declared.stop.Halt.{Halt}
+use Rattle.pc_rules.specs.declared.stop.Halt.TheVariants.{Stop}
 use Rattle.calculus_rules.specs.Environment.{Env}
 use Rattle.pc_rules.specs.Lookup.{IsNew}
 use Rattle.calculus_rules.specs.Accepted.{BodyFits, constant, IsAccepted}
@@ -18,7 +20,8 @@ use Rattle.pc_rules.specs.DirectedRun.{Run, done, bind}
 use Rattle.pc_rules.specs.DirectedComparison.{Test, compare}
 use Rattle.pc_rules.specs.DirectedTyping.{infer, sort_of}
 use Rattle.pc_rules.specs.DirectedDeclarations.{body_rule, constant_rule, GivenConstant}
-use Rattle.pc_rules.proofs.Following.{follows_bind, follows_err, follows_done}
+use Rattle.pc_rules.proofs.Fair.{same_left}
+use Rattle.pc_rules.proofs.Following.{follows_bind, follows_err, follows_memory, follows_done}
 use Rattle.rule_laws.specs.Reduction.{HasNamesOnce}
 use Rattle.rule_laws.specs.Declarations.{IsCheckedDeclaration}
 use Rattle.rule_laws.proofs.Names.{accepted_once}
@@ -42,7 +45,7 @@ module _ (E : Env) (q : Test) (k : Name) (T : Term) (b : Option Term) (s : Sort)
   constant_halted h p =
       let n = 2048 - m0.nest in
       follows_bind (sort_of E (infer E q n) [] T m0.account) (rest_of n) s (Err h) m0 m1 m2 f
-      (follows_err (body_rule E (infer E q n) (compare E q n) T b m1.account) (λ _ w. done (Constant k T b) w) h m1 m2 (body_follows (Err h) p))
+      (follows_err (body_rule E (infer E q n) (compare E q n) T b m1.account) (λ _ w. done (Constant k T b) w) h m1 m2 (body_follows (Err h) p) (λ _ w. same_left w))
 
   pub constant_done : Follows (body_rule E (infer E q (2048 - m1.nest)) (compare E q (2048 - m1.nest)) T b m1.account) (Ok tt) m1 m2 →
       Follows (constant_rule E q (2048 - m0.nest) k T b m0.account) (Ok (Constant k T b)) m0 m2
@@ -51,6 +54,16 @@ module _ (E : Env) (q : Test) (k : Name) (T : Term) (b : Option Term) (s : Sort)
       let n = 2048 - m0.nest in
       follows_bind (sort_of E (infer E q n) [] T m0.account) (rest_of n) s (Ok (Constant k T b)) m0 m1 m2 f
       (follows_bind (body_rule E (infer E q n) (compare E q n) T b m1.account) (λ _ w. done (Constant k T b) w) tt (Ok (Constant k T b)) m1 m2 m2 (body_follows (Ok tt) p) (follows_done (Constant k T b) m2))
+
+  -- there is no memory for what is kept
+  pub constant_wanting : Follows (body_rule E (infer E q (2048 - m1.nest)) (compare E q (2048 - m1.nest)) T b m1.account) (Ok tt) m1 m2 →
+      Follows (constant_rule E q (2048 - m0.nest) k T b m0.account) (Err (Stop Memory)) m0 m2
+  unfolding rest_of
+  constant_wanting p =
+      let n = 2048 - m0.nest in
+      follows_bind (sort_of E (infer E q n) [] T m0.account) (rest_of n) s (Err (Stop Memory)) m0 m1 m2 f
+      (follows_bind (body_rule E (infer E q n) (compare E q n) T b m1.account) (λ _ w. done (Constant k T b) w) tt (Err (Stop Memory)) m1 m2 m2 (body_follows (Ok tt) p)
+      (follows_memory (done (Constant k T b) m2.account) m2 (same_left m2.account)))
 
 -- it is kept
 

@@ -19,6 +19,9 @@ use Rattle.pc_rules.specs.DirectedRun.{Run, done, bind}
 use Rattle.calculus_rules.specs.Lookups.{kept_at}
 use Rattle.pc_rules.specs.DirectedComparison.{Test}
 use Rattle.pc_rules.specs.DirectedDeclarations.{fresh_name, constant_rule, block_rule, GivenConstant, GivenBlock, declaration_rule}
+use Rattle.pc_rules.proofs.Fair.{leaves_bind, same_left}
+use Rattle.pc_rules.proofs.FairTyping.{block_leaves, fresh_name_leaves}
+use Rattle.pc_rules.proofs.Leaving.{leaving}
 use Rattle.pc_rules.proofs.Following.{follows_bind, follows_err, follows_done, follows_still}
 use Rattle.rule_laws.specs.Declarations.{IsCheckedBlock, IsCheckedDeclaration}
 use Rattle.rule_laws.proofs.Extending.{fresh_is}
@@ -30,13 +33,14 @@ module _ (E : Env) (q : Test) (n : ℕ) (k : Name) (T : Term) (b : Option Term) 
   pub constant_name_taken : (h : Halt) (m : Meter) → Answers {A = Unit {0}} (fresh_name (kept_at E.declarations k) k m.account) (Err h) m.account →
       Follows (declaration_rule E q n (GivenConstant k T b) m.account) (Err h) m m
   constant_name_taken h m p =
-      follows_err (fresh_name (kept_at E.declarations k) k m.account) (λ _ v. constant_rule E q n k T b v) h m m (follows_still (fresh_name (kept_at E.declarations k) k m.account) (Err h) m p)
+      follows_err (fresh_name (kept_at E.declarations k) k m.account) (λ _ v. constant_rule E q n k T b v) h m m
+      (follows_still (fresh_name (kept_at E.declarations k) k m.account) (Err h) m p (fresh_name_leaves (kept_at E.declarations k) k m.account)) (search leaving depth 8)
 
   pub constant_declared : (r : Result Kept Halt) (m0 m1 : Meter) → Answers {A = Unit {0}} (fresh_name (kept_at E.declarations k) k m0.account) (Ok tt) m0.account →
       Follows (constant_rule E q n k T b m0.account) r m0 m1 → Follows (declaration_rule E q n (GivenConstant k T b) m0.account) r m0 m1
   constant_declared r m0 m1 p f =
       follows_bind (fresh_name (kept_at E.declarations k) k m0.account) (λ _ v. constant_rule E q n k T b v) tt r m0 m0 m1
-      (follows_still (fresh_name (kept_at E.declarations k) k m0.account) (Ok tt) m0 p) f
+      (follows_still (fresh_name (kept_at E.declarations k) k m0.account) (Ok tt) m0 p (fresh_name_leaves (kept_at E.declarations k) k m0.account)) f
 
 -- a block
 
@@ -48,19 +52,21 @@ module _ (E : Env) (q : Test) (n : ℕ) (B : Block) where
       Follows (declaration_rule E q n (GivenBlock B) m.account) (Err h) m m
   unfolding after_name
   block_name_taken h m p =
-      follows_err (fresh_name (kept_at E.declarations B.name) B.name m.account) after_name h m m (follows_still (fresh_name (kept_at E.declarations B.name) B.name m.account) (Err h) m p)
+      follows_err (fresh_name (kept_at E.declarations B.name) B.name m.account) after_name h m m
+      (follows_still (fresh_name (kept_at E.declarations B.name) B.name m.account) (Err h) m p (fresh_name_leaves (kept_at E.declarations B.name) B.name m.account))
+      (λ _ v. leaves_bind (block_rule E q n B v) (λ D w. done (Whole D) w) v.left (block_leaves E q n B v) (λ D w. same_left w))
 
   named : (r : Result Kept Halt) (m0 m1 : Meter) → Answers {A = Unit {0}} (fresh_name (kept_at E.declarations B.name) B.name m0.account) (Ok tt) m0.account →
       Follows (after_name tt m0.account) r m0 m1 → Follows (declaration_rule E q n (GivenBlock B) m0.account) r m0 m1
   unfolding after_name
   named r m0 m1 p f =
       follows_bind (fresh_name (kept_at E.declarations B.name) B.name m0.account) after_name tt r m0 m0 m1
-      (follows_still (fresh_name (kept_at E.declarations B.name) B.name m0.account) (Ok tt) m0 p) f
+      (follows_still (fresh_name (kept_at E.declarations B.name) B.name m0.account) (Ok tt) m0 p (fresh_name_leaves (kept_at E.declarations B.name) B.name m0.account)) f
 
   block_halted : (h : Halt) (m0 m1 : Meter) → Answers {A = Unit {0}} (fresh_name (kept_at E.declarations B.name) B.name m0.account) (Ok tt) m0.account →
       Follows (block_rule E q n B m0.account) (Err h) m0 m1 → Follows (declaration_rule E q n (GivenBlock B) m0.account) (Err h) m0 m1
   unfolding after_name
-  block_halted h m0 m1 p f = named (Err h) m0 m1 p (follows_err (block_rule E q n B m0.account) (λ D w. done (Whole D) w) h m0 m1 f)
+  block_halted h m0 m1 p f = named (Err h) m0 m1 p (follows_err (block_rule E q n B m0.account) (λ D w. done (Whole D) w) h m0 m1 f (λ D w. same_left w))
 
   block_declared : (D : Block) (m0 m1 : Meter) → Answers {A = Unit {0}} (fresh_name (kept_at E.declarations B.name) B.name m0.account) (Ok tt) m0.account →
       Follows (block_rule E q n B m0.account) (Ok D) m0 m1 → Follows (declaration_rule E q n (GivenBlock B) m0.account) (Ok (Whole D)) m0 m1

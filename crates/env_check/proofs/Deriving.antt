@@ -1,27 +1,18 @@
 -- What the directed rules accept of what is read has sound levels, and is well formed.
 use Rattle.std.proofs.Common.{◌≡◌, ℕ, List, [], length, Option, Some, None, refl, subst}
-use Rattle.universe_levels.specs.declared.level.Level.{Level}
 use Rattle.pc_terms.specs.Syntax.{Term}
 use Rattle.dump_reader.specs.declared.environment.RawEnv.{RawEnv}
 use Rattle.dump_reader.specs.Spelled.{IsSpelled}
 use Rattle.pc_rules.specs.declared.meter.Account.{Account}
 use Rattle.calculus_rules.specs.Environment.{Env}
 use Rattle.pc_rules.specs.Entailment.{entailed_by}
-use Rattle.pc_rules.specs.DirectedDeclarations.{Checked, IsCycle, Accepts, first_repeated, first_undeclared_end, levels_rule, constraints_rule, graph_rule, declarations_rule}
+use Rattle.pc_rules.specs.DirectedDeclarations.{Checked, IsCycle, Accepts, first_repeated, first_undeclared_end, constraints_rule, graph_rule, declarations_rule}
 use Rattle.pc_rules.proofs.Entailing.{entailed_decides}
 use Rattle.rule_laws.specs.Declarations.{IsCheckedEnvironment}
-use Rattle.rule_laws.proofs.Environments.{are_over, environment_sound}
+use Rattle.rule_laws.proofs.Environments.{are_over, levels_passed, constraints_passed, environment_sound}
 use Rattle.env_check.specs.Rules.{givens, rules_of, IsFound}
 use Rattle.env_check.specs.Beginning.{HasSoundLevels}
 use Rattle.env_check.proofs.ReadFormed.{read_formed}
-
-no_level : (o : Option (ℕ × Level)) (go : Checked) (u : Account) (E : Env) (T : Term) (v : Account) → (levels_rule o go u).outcome ≡ Accepts E T v → (o ≡ None) × (go.outcome ≡ Accepts E T v)
-no_level None go u E T v h = (refl, h)
-no_level (Some p) go u E T v h = absurd cc
-
-no_end : (o : Option (ℕ × Level)) (go : Checked) (u : Account) (E : Env) (T : Term) (v : Account) → (constraints_rule o go u).outcome ≡ Accepts E T v → (o ≡ None) × (go.outcome ≡ Accepts E T v)
-no_end None go u E T v h = (refl, h)
-no_end (Some p) go u E T v h = absurd cc
 
 cycle_is_none : (o : Option (List ℕ)) (go : Checked) (u : Account) (E : Env) (T : Term) (v : Account) → (graph_rule o go u).outcome ≡ Accepts E T v → o ≡ None
 cycle_is_none None go u E T v h = refl
@@ -36,8 +27,8 @@ module _ (raw : RawEnv) (cycle : Option (List ℕ)) (found : IsFound raw cycle) 
       let go3 : Checked = declarations_rule k cs (entailed_by k cs) n 0 [] (givens raw) raw.main u in
       let go2 : Checked = graph_rule cycle go3 u in
       let go1 : Checked = constraints_rule (first_undeclared_end k 0 cs) go2 u in
-      let p1 = no_level (first_repeated 0 [] raw.levels) go1 u E T v accepts in
-      let p2 = no_end (first_undeclared_end k 0 cs) go2 u E T v p1.1 in
+      let p1 = levels_passed (first_repeated 0 [] raw.levels) go1 u E T v accepts in
+      let p2 = constraints_passed (first_undeclared_end k 0 cs) go2 u E T v p1.1 in
       let none = cycle_is_none cycle go3 u E T v p2.1 in
       (record { once = p1.0; declared = p2.0; over = are_over k 0 cs p2.0; consistent = subst (IsCycle k cs) none (found p1.0 p2.0) }, none)
 

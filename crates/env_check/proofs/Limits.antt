@@ -30,11 +30,11 @@ none_both : (a b : Option Limit) → first a b ≡ None → (a ≡ None) × (b �
 none_both None b h = (refl, h)
 none_both (Some l) b h = absurd (cc)
 
-test_holds : (b : Bool) (l : Limit) → unless b l ≡ None → b ≡ true
+pub test_holds : (b : Bool) (l : Limit) → unless b l ≡ None → b ≡ true
 test_holds true l h = refl
 test_holds false l h = absurd (cc)
 
-one_more_fits : (most : ℕ) (l : Limit) (n : ℕ) → one_more_over most l n ≡ None → n < most
+pub one_more_fits : (most : ℕ) (l : Limit) (n : ℕ) → one_more_over most l n ≡ None → n < most
 one_more_fits most l n h = ltb-true n most (test_holds (nat_lt n most) l h)
 
 few_levels : (n : ℕ) (ls : List LevelName) → n ≤ 1024 → levels_over n ls ≡ None → n + length (level_names ls) ≤ 1024

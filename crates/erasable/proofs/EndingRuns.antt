@@ -17,13 +17,14 @@ use Rattle.pc_rules.specs.Follows.{Follows}
 use Rattle.pc_rules.specs.DirectedRun.{done}
 use Rattle.pc_rules.specs.DirectedWeakHead.{weak_next, whnf}
 use Rattle.pc_rules.proofs.Following.{follows_bind, follows_err, follows_done, follows_memory}
+use Rattle.pc_rules.proofs.Leaving.{leaving}
 use Rattle.rule_laws.proofs.Settled.{settled}
 use Rattle.erasable.proofs.SortEnds.{ends, ends_by_whnf, ends_under, ends_at_sort, ends_elsewhere}
 
 module _ (E : Env) (c : Context) where
   pub end_stops : (T : Term) (h : Halt) (m0 m1 : Meter) → Follows (whnf E (values c) T m0.account) (Err h) m0 m1 → Follows (ends E c T m0.account) (Err h) m0 m1
   end_stops T h m0 m1 f =
-      subst (λ d. Follows d (Err h) m0 m1) (sym (ends_by_whnf E c T m0.account)) (follows_err (whnf E (values c) T m0.account) (λ W v. ends E c W v) h m0 m1 f)
+      subst (λ d. Follows d (Err h) m0 m1) (sym (ends_by_whnf E c T m0.account)) (follows_err (whnf E (values c) T m0.account) (λ W v. ends E c W v) h m0 m1 f (search leaving))
 
   end_goes : (T W : Term) (r : Result Bool Halt) (m0 m1 m2 : Meter) → Follows (whnf E (values c) T m0.account) (Ok W) m0 m1 → Follows (ends E c W m1.account) r m1 m2 →
       Follows (ends E c T m0.account) r m0 m2
@@ -58,4 +59,4 @@ module _ (E : Env) (c : Context) where
       (follows_done false m1)))
 
   pub end_memory : (T W : Term) (m0 m1 : Meter) → Follows (whnf E (values c) T m0.account) (Ok W) m0 m1 → Follows (ends E c T m0.account) (Err (Stop Memory)) m0 m1
-  end_memory T W m0 m1 f = end_goes T W (Err (Stop Memory)) m0 m1 m1 f (follows_memory (ends E c W m1.account) m1)
+  end_memory T W m0 m1 f = end_goes T W (Err (Stop Memory)) m0 m1 m1 f (follows_memory (ends E c W m1.account) m1 (search leaving))

@@ -19,13 +19,14 @@ use Rattle.pc_rules.specs.Stops.{stop_of}
 use Rattle.pc_rules.specs.Follows.{Follows}
 use Rattle.pc_rules.specs.DirectedRun.{Run, done, passing, any_beyond, bind}
 use Rattle.calculus_rules.specs.Lookups.{family_of}
-use Rattle.calculus_rules.specs.Listed.{list_of}
 use Rattle.pc_rules.specs.DirectedComparison.{Test}
 use Rattle.pc_rules.specs.DirectedTyping.{infer, sort_of}
 use Rattle.pc_rules.specs.DirectedErasable.{ends_in_sort, proof_found, arity_found, type_test, match_sort, match_test, erasable_test}
 use Rattle.calculus_rules.specs.PropSorts.{is_prop}
 use Rattle.pc_rules.specs.WellCounted.{IsCountedNode, IsCounted, AreCounted, HasCountedDeclarations, IsCountedContext}
 use Rattle.pc_rules.proofs.Following.{follows_bind, follows_err, follows_done, follows_memory, follows_deep, follows_passing}
+use Rattle.pc_rules.proofs.Fair.{same_left}
+use Rattle.pc_rules.proofs.Leaving.{leaving}
 use Rattle.pc_rules.proofs.WeakNext.{family_found}
 use Rattle.rule_laws.proofs.KeepCounts.{kept_counted}
 use Rattle.rule_laws.proofs.CountedParts.{predicate_entries_counted, context_extended}
@@ -39,7 +40,8 @@ use Rattle.rule_laws.proofs.Inferring.{infer_sound}
 use Rattle.rule_laws.proofs.Evidence.{evidence_sound}
 use Rattle.calculus_rules.proofs.Listing.{listed}
 
-are_counted : (E : Env) (ps : List Term) → EachTerm (IsCountedNode E) (terms_of ps) → AreCounted E ps
+-- the terms of a list that is well counted are
+pub are_counted : (E : Env) (ps : List Term) → EachTerm (IsCountedNode E) (terms_of ps) → AreCounted E ps
 are_counted E [] h = tt
 are_counted E (p ∷ ps) h = (h.0, are_counted E ps h.1)
 
@@ -60,7 +62,7 @@ module _ (E : Env) (q : Test) (c : Context) (t : Term) where
 
   pub type_err : (h : Halt) (m0 m1 : Meter) → Follows (infer E q (2048 - m0.nest) c t m0.account) (Err h) m0 m1 → Follows (by_type m0) (Err h) m0 m1
   unfolding ends_then
-  type_err h m0 m1 f = follows_err (infer E q (2048 - m0.nest) c t m0.account) (ends_then m0) h m0 m1 f
+  type_err h m0 m1 f = follows_err (infer E q (2048 - m0.nest) c t m0.account) (ends_then m0) h m0 m1 f (search leaving)
 
   module _ (T : Term) (m0 m1 : Meter) (f : Follows (infer E q (2048 - m0.nest) c t m0.account) (Ok T) m0 m1) where
     type_goes : (r : Result (Option Evidence) Halt) (m2 : Meter) → Follows (ends_then m0 T m1.account) r m1 m2 → Follows (by_type m0) r m0 m2
@@ -70,7 +72,7 @@ module _ (E : Env) (q : Test) (c : Context) (t : Term) where
     pub arity_err : (h : Halt) (m2 : Meter) → Follows (ends_in_sort E m1.account.left c T m1.account) (Err h) m1 m2 → Follows (by_type m0) (Err h) m0 m2
     unfolding ends_then
     arity_err h m2 g =
-        type_goes (Err h) m2 (follows_err (ends_in_sort E m1.account.left c T m1.account) (λ b w. arity_found E (infer E q (2048 - m0.nest)) c T b w) h m1 m2 g)
+        type_goes (Err h) m2 (follows_err (ends_in_sort E m1.account.left c T m1.account) (λ b w. arity_found E (infer E q (2048 - m0.nest)) c T b w) h m1 m2 g (search leaving))
 
     arity_goes : (b : Bool) (r : Result (Option Evidence) Halt) (m2 m3 : Meter) → Follows (ends_in_sort E m1.account.left c T m1.account) (Ok b) m1 m2 →
         Follows (arity_found E (infer E q (2048 - m0.nest)) c T b m2.account) r m2 m3 → Follows (by_type m0) r m0 m3
@@ -92,7 +94,7 @@ module _ (E : Env) (q : Test) (c : Context) (t : Term) where
           (subst (λ k. Follows (bind (sort_of E (infer E q (2048 - k)) c T m2.account) (λ s v. proof_found s v)) r m2 m3) (g.after.nest ∙ f.after.nest) h))
 
       pub sort_err : (h : Halt) (m3 : Meter) → Follows (sort_of E (infer E q (2048 - m2.nest)) c T m2.account) (Err h) m2 m3 → Follows (by_type m0) (Err h) m0 m3
-      sort_err h m3 k = sorted (Err h) m3 (follows_err (sort_of E (infer E q (2048 - m2.nest)) c T m2.account) (λ s v. proof_found s v) h m2 m3 k)
+      sort_err h m3 k = sorted (Err h) m3 (follows_err (sort_of E (infer E q (2048 - m2.nest)) c T m2.account) (λ s v. proof_found s v) h m2 m3 k (search leaving))
 
       sort_goes : (s : Sort) (o : Option Evidence) (m3 : Meter) → (if is_prop s then Some Proof else None) ≡ o → Follows (sort_of E (infer E q (2048 - m2.nest)) c T m2.account) (Ok s) m2 m3 →
           Follows (by_type m0) (Ok o) m0 m3
@@ -125,11 +127,14 @@ module _ (E : Env) (q : Test) (c : Context) (t : Term) where
 
       fault : (x : MakeFault) (m : Meter) → (x ≡ DeepTerm → IsTrue (any_beyond (predicate_entries f F ps))) →
           Follows (passing (any_beyond (predicate_entries f F ps)) m.account) (Err (Stop (stop_of x))) m m
-      fault DeepTerm m h = follows_deep (passing (any_beyond (predicate_entries f F ps)) m.account) m (h refl)
-      fault NoTerm m h = follows_memory (passing (any_beyond (predicate_entries f F ps)) m.account) m
+      fault DeepTerm m h = follows_deep (passing (any_beyond (predicate_entries f F ps)) m.account) m (h refl) (same_left m.account)
+      fault NoTerm m h = follows_memory (passing (any_beyond (predicate_entries f F ps)) m.account) m (same_left m.account)
 
       pub entries_err : (x : MakeFault) (m : Meter) → (x ≡ DeepTerm → IsTrue (any_beyond (predicate_entries f F ps))) → Follows (by_match m) (Err (Stop (stop_of x))) m m
-      entries_err x m h = match_at (Err (Stop (stop_of x))) m m (follows_err (passing (any_beyond (predicate_entries f F ps)) m.account) (sort_then m) (Stop (stop_of x)) m m (fault x m h))
+      unfolding sort_then
+      entries_err x m h =
+          match_at (Err (Stop (stop_of x))) m m
+          (follows_err (passing (any_beyond (predicate_entries f F ps)) m.account) (sort_then m) (Stop (stop_of x)) m m (fault x m h) (search leaving depth 8))
 
       entered_goes : (r : Result (Option Evidence) Halt) (m0 m1 : Meter) → Follows (sort_then m0 tt m0.account) r m0 m1 → Follows (by_match m0) r m0 m1
       entered_goes r m0 m1 h =
@@ -140,7 +145,7 @@ module _ (E : Env) (q : Test) (c : Context) (t : Term) where
       unfolding sort_then
       predicate_err h m0 m1 k =
           entered_goes (Err h) m0 m1
-          (follows_err (sort_of E (infer E q (2048 - m0.nest)) (extend c (predicate_entries f F ps)) ret m0.account) (λ s w. match_sort E (infer E q (2048 - m0.nest)) c t s w) h m0 m1 k)
+          (follows_err (sort_of E (infer E q (2048 - m0.nest)) (extend c (predicate_entries f F ps)) ret m0.account) (λ s w. match_sort E (infer E q (2048 - m0.nest)) c t s w) h m0 m1 k (search leaving depth 8))
 
       predicate_goes : (s : Sort) (r : Result (Option Evidence) Halt) (m0 m1 m2 : Meter) →
           Follows (sort_of E (infer E q (2048 - m0.nest)) (extend c (predicate_entries f F ps)) ret m0.account) (Ok s) m0 m1 →

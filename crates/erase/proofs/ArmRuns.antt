@@ -22,11 +22,13 @@ use Rattle.calculus_rules.specs.Context.{Context, extend}
 use Rattle.calculus_rules.specs.Instances.{branch_entries}
 use Rattle.pc_rules.specs.Stops.{stop_of}
 use Rattle.pc_rules.specs.Follows.{Follows}
-use Rattle.pc_rules.specs.DirectedRun.{Run, done, passing, any_beyond, bind}
+use Rattle.pc_rules.specs.DirectedRun.{Run, done, passing, any_beyond, bind, Leaves}
 use Rattle.calculus_rules.specs.Lookups.{family_of}
 use Rattle.calculus_rules.specs.Listed.{list_of}
 use Rattle.pc_rules.specs.DirectedTyping.{Typing}
 use Rattle.pc_rules.specs.WellCounted.{IsCountedNode, IsCounted, AreCounted, AreCountedConstructors, IsCountedContext, HasCountedDeclarations}
+use Rattle.pc_rules.proofs.Fair.{leaves_bind, same_left}
+use Rattle.pc_rules.proofs.FairTyping.{FairTyping}
 use Rattle.pc_rules.proofs.Following.{follows_bind, follows_err, follows_done, follows_memory, follows_deep, follows_passing, follows_refused}
 use Rattle.pc_rules.proofs.ListSteps.{next_is, none_left, min_either}
 use Rattle.pc_rules.proofs.WeakNext.{family_found}
@@ -37,19 +39,23 @@ use Rattle.box_terms.specs.declared.term.BoxBranch.{BoxBranch}
 use Rattle.box_terms.specs.BoxLists.{arms_of as box_arms}
 use Rattle.calculus_rules.proofs.Listing.{listed}
 use Rattle.erase_rules.specs.DirectedErasure.{in_family, kept, kept_branches, erased}
+use Rattle.erase_rules.proofs.FairErasure.{erased_leaves, kept_branches_leave, family_branches_leave}
 use Rattle.erase_rules.proofs.Sizes.{Strips, erased_strips, branches_strip}
 use Rattle.erase.specs.Arms.{arms_before, after_arms, under_entries}
 use Rattle.erase.proofs.Runs.{within_by}
 
 -- a branch
 
-module _ (E : Env) (inf : Typing) (c : Context) (As : List Term) (t : Term) where
+module _ (E : Env) {inf : Typing} (fair : FairTyping 0 0 inf) (c : Context) (As : List Term) (t : Term) where
   entries_fault : (x : MakeFault) (m : Meter) → (x ≡ DeepTerm → IsTrue (any_beyond As)) → Follows (passing (any_beyond As) m.account) (Err (Stop (stop_of x))) m m
-  entries_fault DeepTerm m h = follows_deep (passing (any_beyond As) m.account) m (h refl)
-  entries_fault NoTerm m h = follows_memory (passing (any_beyond As) m.account) m
+  entries_fault DeepTerm m h = follows_deep (passing (any_beyond As) m.account) m (h refl) (same_left m.account)
+  entries_fault NoTerm m h = follows_memory (passing (any_beyond As) m.account) m (same_left m.account)
+
+  pub entries_leave : (u : Account) → Leaves (under_entries E inf c As t u).end u.left
+  entries_leave u = leaves_bind (passing (any_beyond As) u) (λ _ v. erased E inf (extend c As) t v) u.left (same_left u) (λ _ v. erased_leaves E inf fair (extend c As) t v)
 
   pub entries_err : (x : MakeFault) (m : Meter) → (x ≡ DeepTerm → IsTrue (any_beyond As)) → Follows (under_entries E inf c As t m.account) (Err (Stop (stop_of x))) m m
-  entries_err x m h = follows_err (passing (any_beyond As) m.account) (λ _ v. erased E inf (extend c As) t v) (Stop (stop_of x)) m m (entries_fault x m h)
+  entries_err x m h = follows_err (passing (any_beyond As) m.account) (λ _ v. erased E inf (extend c As) t v) (Stop (stop_of x)) m m (entries_fault x m h) (λ _ v. erased_leaves E inf fair (extend c As) t v)
 
   pub entries_go : (r : Result BoxTerm Halt) (m0 m1 : Meter) → Follows (erased E inf (extend c As) t m0.account) r m0 m1 → Follows (under_entries E inf c As t m0.account) r m0 m1
   entries_go r m0 m1 f =
@@ -77,7 +83,7 @@ pub after_more : (out : List BoxBranch) (b : BoxBranch) (r : Result BoxTerms Hal
 after_more out b (Ok ts) = ap Ok (sym (arms_more out b ts))
 after_more out b (Err h) = refl
 
-module _ (E : Env) (inf : Typing) (c : Context) (ps : List Term) where
+module _ (E : Env) {inf : Typing} (fair : FairTyping 0 0 inf) (c : Context) (ps : List Term) where
   abbrev pub arms_erased : List Constructor → List Branch → Account → Run BoxTerms
   arms_erased Cs bs u = kept_branches E inf c ps Cs (arms_of bs) u
 
@@ -85,20 +91,25 @@ module _ (E : Env) (inf : Typing) (c : Context) (ps : List Term) where
     then_rest : BoxTerm → Account → Run BoxTerms
     then_rest t' v = bind (kept_branches E inf c ps Cs (arms_of bs) v) (λ ts' w. done (Next b.binders t' ts') w)
 
+    rest_leaves : (t' : BoxTerm) (v : Account) → Leaves (then_rest t' v).end v.left
+    unfolding then_rest
+    rest_leaves t' v =
+        leaves_bind (kept_branches E inf c ps Cs (arms_of bs) v) (λ ts' w. done (Next b.binders t' ts') w) v.left (kept_branches_leave E inf fair c ps Cs (arms_of bs) v) (λ ts' w. same_left w)
+
     first_arm : (m : Meter) → bind (under_entries E inf c (branch_entries C ps) b.body m.account) then_rest ≡ arms_erased (C ∷ Cs) (b ∷ bs) m.account
     unfolding then_rest
     first_arm m = bind_assoc (λ _ v. erased E inf (extend c (branch_entries C ps)) b.body v) then_rest (passing (any_beyond (branch_entries C ps)) m.account)
 
     arm_stops : (h : Halt) (m0 m1 : Meter) → Follows (under_entries E inf c (branch_entries C ps) b.body m0.account) (Err h) m0 m1 → Follows (arms_erased (C ∷ Cs) (b ∷ bs) m0.account) (Err h) m0 m1
     arm_stops h m0 m1 f =
-        subst (λ d. Follows d (Err h) m0 m1) (first_arm m0) (follows_err (under_entries E inf c (branch_entries C ps) b.body m0.account) then_rest h m0 m1 f)
+        subst (λ d. Follows d (Err h) m0 m1) (first_arm m0) (follows_err (under_entries E inf c (branch_entries C ps) b.body m0.account) then_rest h m0 m1 f rest_leaves)
 
     rest_goes : (t' : BoxTerm) (r : Result BoxTerms Halt) (m1 m2 : Meter) → Follows (arms_erased Cs bs m1.account) r m1 m2 →
         Follows (then_rest t' m1.account) (with_arm (record { binders = b.binders; body = t' }) r) m1 m2
     unfolding then_rest
     rest_goes t' (Ok ts) m1 m2 g =
         follows_bind (arms_erased Cs bs m1.account) (λ ts' w. done (Next b.binders t' ts') w) ts (Ok (Next b.binders t' ts)) m1 m2 m2 g (follows_done (Next b.binders t' ts) m2)
-    rest_goes t' (Err h) m1 m2 g = follows_err (arms_erased Cs bs m1.account) (λ ts' w. done (Next b.binders t' ts') w) h m1 m2 g
+    rest_goes t' (Err h) m1 m2 g = follows_err (arms_erased Cs bs m1.account) (λ ts' w. done (Next b.binders t' ts') w) h m1 m2 g (λ ts' w. same_left w)
 
     arm_goes : (t' : BoxTerm) (r : Result BoxTerms Halt) (m0 m1 m2 : Meter) → Follows (under_entries E inf c (branch_entries C ps) b.body m0.account) (Ok t') m0 m1 →
         Follows (arms_erased Cs bs m1.account) r m1 m2 → Follows (arms_erased (C ∷ Cs) (b ∷ bs) m0.account) (with_arm (record { binders = b.binders; body = t' }) r) m0 m2
@@ -110,7 +121,7 @@ module _ (E : Env) (inf : Typing) (c : Context) (ps : List Term) where
         Follows (arms_erased (C ∷ Cs) (b ∷ bs) m0.account) (Err (Stop Memory)) m0 m1
     arm_memory t' m0 m1 f =
         subst (λ d. Follows d (Err (Stop Memory)) m0 m1) (first_arm m0)
-        (follows_bind (under_entries E inf c (branch_entries C ps) b.body m0.account) then_rest t' (Err (Stop Memory)) m0 m1 m1 f (follows_memory (then_rest t' m1.account) m1))
+        (follows_bind (under_entries E inf c (branch_entries C ps) b.body m0.account) then_rest t' (Err (Stop Memory)) m0 m1 m1 f (follows_memory (then_rest t' m1.account) m1 (rest_leaves t' m1.account)))
 
   -- the branches from one on
   module _ (Cs : List Constructor) (bs : List Branch) (i : ℕ) where
@@ -149,16 +160,22 @@ module _ (E : Env) (inf : Typing) (c : Context) (ps : List Term) where
 
 -- a match
 
-module _ (E : Env) (inf : Typing) (c : Context) (f : FamilyId) (ps : List Term) (n : ℕ) (ret s : Term) (bs : List Branch) where
+module _ (E : Env) {inf : Typing} (fair : FairTyping 0 0 inf) (c : Context) (f : FamilyId) (ps : List Term) (n : ℕ) (ret s : Term) (bs : List Branch) where
   abbrev pub case_erased : Account → Run BoxTerm
   case_erased u = kept E inf c (Case f (terms_of ps) n ret s (arms_of bs)) u
 
   then_arms : List Term → Option FamilyDecl → BoxTerm → Account → Run BoxTerm
   then_arms qs o s' v = bind (in_family f o (λ Cs w. kept_branches E inf c qs Cs (arms_of bs) w) v) (λ bs' w. done (BCase f s' bs') w)
 
+  arms_leave : (qs : List Term) (o : Option FamilyDecl) (s' : BoxTerm) (v : Account) → Leaves (then_arms qs o s' v).end v.left
+  unfolding then_arms
+  arms_leave qs o s' v =
+      leaves_bind (in_family f o (λ Cs w. kept_branches E inf c qs Cs (arms_of bs) w) v) (λ bs' w. done (BCase f s' bs') w) v.left
+      (family_branches_leave E inf fair c qs (arms_of bs) f o v) (λ bs' w. same_left w)
+
   pub scrutinee_err : (h : Halt) (m0 m1 : Meter) → Follows (erased E inf c s m0.account) (Err h) m0 m1 → Follows (case_erased m0.account) (Err h) m0 m1
   unfolding then_arms
-  scrutinee_err h m0 m1 g = follows_err (erased E inf c s m0.account) (then_arms (list_of (terms_of ps)) (family_of E f)) h m0 m1 g
+  scrutinee_err h m0 m1 g = follows_err (erased E inf c s m0.account) (then_arms (list_of (terms_of ps)) (family_of E f)) h m0 m1 g (arms_leave (list_of (terms_of ps)) (family_of E f))
 
   module _ (s' : BoxTerm) (m0 m1 : Meter) (g : Follows (erased E inf c s m0.account) (Ok s') m0 m1) where
     scrutinee_goes : (r : Result BoxTerm Halt) (m2 : Meter) (o : Option FamilyDecl) → family_of E f ≡ o → Follows (then_arms ps o s' m1.account) r m1 m2 → Follows (case_erased m0.account) r m0 m2
@@ -172,14 +189,14 @@ module _ (E : Env) (inf : Typing) (c : Context) (f : FamilyId) (ps : List Term) 
     case_unknown e =
         scrutinee_goes (Err (Refusal (UnknownName f.block))) m1 None e
         (follows_err (in_family f None (λ Cs w. kept_branches E inf c ps Cs (arms_of bs) w) m1.account) (λ bs' w. done (BCase f s' bs') w) (Refusal (UnknownName f.block)) m1 m1
-        (follows_refused (UnknownName f.block) m1))
+        (follows_refused (UnknownName f.block) m1) (λ bs' w. same_left w))
 
     module _ (F : FamilyDecl) (e : family_of E f ≡ Some F) where
       pub arms_err : (h : Halt) (m2 : Meter) → Follows (kept_branches E inf c ps F.constructors (arms_of bs) m1.account) (Err h) m1 m2 → Follows (case_erased m0.account) (Err h) m0 m2
       unfolding then_arms
       arms_err h m2 x =
           scrutinee_goes (Err h) m2 (Some F) e
-          (follows_err (kept_branches E inf c ps F.constructors (arms_of bs) m1.account) (λ bs' w. done (BCase f s' bs') w) h m1 m2 x)
+          (follows_err (kept_branches E inf c ps F.constructors (arms_of bs) m1.account) (λ bs' w. done (BCase f s' bs') w) h m1 m2 x (λ bs' w. same_left w))
 
       pub case_done : (bs' : BoxTerms) (m2 : Meter) → Follows (kept_branches E inf c ps F.constructors (arms_of bs) m1.account) (Ok bs') m1 m2 →
           Follows (case_erased m0.account) (Ok (BCase f s' bs')) m0 m2
@@ -195,7 +212,7 @@ module _ (E : Env) (inf : Typing) (c : Context) (f : FamilyId) (ps : List Term) 
       case_memory bs' m2 x =
           scrutinee_goes (Err (Stop Memory)) m2 (Some F) e
           (follows_bind (kept_branches E inf c ps F.constructors (arms_of bs) m1.account) (λ bs' w. done (BCase f s' bs') w) bs' (Err (Stop Memory)) m1 m2 m2 x
-          (follows_memory (done (BCase f s' bs') m2.account) m2))
+          (follows_memory (done (BCase f s' bs') m2.account) m2 (same_left m2.account)))
 
       pub case_within : (bs' : BoxTerms) (m2 : Meter) → Follows (kept_branches E inf c ps F.constructors (arms_of bs) m1.account) (Ok bs') m1 m2 →
           IsWithin (Case f (terms_of ps) n ret s (arms_of bs)) → IsWithin (BCase f s' bs')

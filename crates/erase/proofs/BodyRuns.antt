@@ -9,6 +9,7 @@ use Rattle.pc_terms.specs.Lists.{types_of, bodies_of, rargs_of}
 use Rattle.pc_terms.specs.Formed.{EachTerm}
 use Rattle.pc_terms.specs.Syntax.{Term, Terms, Fix, shift}
 use Rattle.box_terms.specs.BoxSyntax.{BoxTerm, BoxTerms, BFix}
+use Rattle.pc_terms.proofs.Parts.{rargs_length}
 use Rattle.calculus_rules.specs.declared.entry.Entry.TheVariants.{Assumed}
 use Rattle.pc_rules.specs.declared.meter.Account.{Account}
 use Rattle.pc_rules.specs.declared.meter.Meter.{Meter}
@@ -20,17 +21,21 @@ use Rattle.calculus_rules.specs.Context.{Context, extend}
 use Rattle.calculus_rules.specs.Instances.{definitions}
 use Rattle.pc_rules.specs.Stops.{stop_of}
 use Rattle.pc_rules.specs.Follows.{Follows}
-use Rattle.pc_rules.specs.DirectedRun.{Run, done, passing, any_beyond, bind}
+use Rattle.pc_rules.specs.DirectedRun.{Run, done, passing, any_beyond, bind, Leaves}
 use Rattle.calculus_rules.specs.Listed.{list_of}
 use Rattle.pc_rules.specs.DirectedComparison.{lifted_types}
 use Rattle.pc_rules.specs.DirectedTyping.{Typing}
 use Rattle.pc_rules.specs.WellCounted.{IsCountedNode, IsCounted, IsCountedContext}
+use Rattle.pc_rules.proofs.Fair.{leaves_bind, same_left}
+use Rattle.pc_rules.proofs.FairTyping.{FairTyping}
 use Rattle.pc_rules.proofs.Following.{follows_bind, follows_err, follows_done, follows_memory, follows_deep, follows_passing}
 use Rattle.pc_rules.proofs.ListSteps.{next_is, none_left, take_next}
 use Rattle.rule_laws.proofs.Counted.{shifted_counted}
 use Rattle.box_terms.specs.declared.term.BoxDef.{BoxDef}
+use Rattle.box_terms.proofs.Parts.{rargs_length as box_rargs_length}
 use Rattle.box_terms.specs.BoxLists.{bodies_of as box_bodies, rargs_of as box_rargs}
 use Rattle.erase_rules.specs.DirectedErasure.{kept, kept_bodies, erased}
+use Rattle.erase_rules.proofs.FairErasure.{kept_bodies_leave}
 use Rattle.erase_rules.proofs.Sizes.{Strips, bodies_strip}
 use Rattle.erase.specs.Arms.{bodies_before, after_bodies}
 use Rattle.erase.proofs.Runs.{within_by}
@@ -78,18 +83,10 @@ pub rargs_next : (ds : List Def) (i : ℕ) (d : Def) (out : List BoxDef) (t : Bo
 rargs_next ds i d out t l e h =
     rargs_more out (record { body = t; rarg = d.rarg }) ∙ ap (λ rs. rs ++ (d.rarg ∷ [])) h ∙ sym (ap rargs_of (take_next ds i d l e) ∙ defs_more (take i ds) d)
 
-rargs_long : (ds : List Def) → length (rargs_of ds) ≡ length ds
-rargs_long [] = refl
-rargs_long (d ∷ ds) = ap suc (rargs_long ds)
-
-box_rargs_long : (ds : List BoxDef) → length (box_rargs ds) ≡ length ds
-box_rargs_long [] = refl
-box_rargs_long (d ∷ ds) = ap suc (box_rargs_long ds)
-
 pub as_long : (ds : List BoxDef) (es : List Def) → box_rargs ds ≡ rargs_of es → length ds ≡ length es
-as_long ds es h = sym (box_rargs_long ds) ∙ ap length h ∙ rargs_long es
+as_long ds es h = sym (box_rargs_length ds) ∙ ap length h ∙ rargs_length es
 
-module _ (E : Env) (inf : Typing) (c : Context) (m : ℕ) where
+module _ (E : Env) {inf : Typing} (fair : FairTyping 0 0 inf) (c : Context) (m : ℕ) where
   abbrev pub bodies_erased : List Def → Account → Run BoxTerms
   bodies_erased ds u = kept_bodies E inf c (bodies_of m ds) u
 
@@ -97,15 +94,19 @@ module _ (E : Env) (inf : Typing) (c : Context) (m : ℕ) where
     then_rest : BoxTerm → Account → Run BoxTerms
     then_rest t' v = bind (kept_bodies E inf c (bodies_of m ds) v) (λ ts' w. done (Next m t' ts') w)
 
+    rest_leaves : (t' : BoxTerm) (v : Account) → Leaves (then_rest t' v).end v.left
+    unfolding then_rest
+    rest_leaves t' v = leaves_bind (kept_bodies E inf c (bodies_of m ds) v) (λ ts' w. done (Next m t' ts') w) v.left (kept_bodies_leave E inf fair c (bodies_of m ds) v) (λ ts' w. same_left w)
+
     body_stops : (h : Halt) (m0 m1 : Meter) → Follows (erased E inf c d.body m0.account) (Err h) m0 m1 → Follows (bodies_erased (d ∷ ds) m0.account) (Err h) m0 m1
     unfolding then_rest
-    body_stops h m0 m1 f = follows_err (erased E inf c d.body m0.account) then_rest h m0 m1 f
+    body_stops h m0 m1 f = follows_err (erased E inf c d.body m0.account) then_rest h m0 m1 f rest_leaves
 
     rest_goes : (t' : BoxTerm) (r : Result BoxTerms Halt) (m1 m2 : Meter) → Follows (bodies_erased ds m1.account) r m1 m2 → Follows (then_rest t' m1.account) (with_body m t' r) m1 m2
     unfolding then_rest
     rest_goes t' (Ok ts) m1 m2 g =
         follows_bind (bodies_erased ds m1.account) (λ ts' w. done (Next m t' ts') w) ts (Ok (Next m t' ts)) m1 m2 m2 g (follows_done (Next m t' ts) m2)
-    rest_goes t' (Err h) m1 m2 g = follows_err (bodies_erased ds m1.account) (λ ts' w. done (Next m t' ts') w) h m1 m2 g
+    rest_goes t' (Err h) m1 m2 g = follows_err (bodies_erased ds m1.account) (λ ts' w. done (Next m t' ts') w) h m1 m2 g (λ ts' w. same_left w)
 
     body_goes : (t' : BoxTerm) (r : Result BoxTerms Halt) (m0 m1 m2 : Meter) → Follows (erased E inf c d.body m0.account) (Ok t') m0 m1 → Follows (bodies_erased ds m1.account) r m1 m2 →
         Follows (bodies_erased (d ∷ ds) m0.account) (with_body m t' r) m0 m2
@@ -114,7 +115,7 @@ module _ (E : Env) (inf : Typing) (c : Context) (m : ℕ) where
 
     body_memory : (t' : BoxTerm) (m0 m1 : Meter) → Follows (erased E inf c d.body m0.account) (Ok t') m0 m1 → Follows (bodies_erased (d ∷ ds) m0.account) (Err (Stop Memory)) m0 m1
     unfolding then_rest
-    body_memory t' m0 m1 f = follows_bind (erased E inf c d.body m0.account) then_rest t' (Err (Stop Memory)) m0 m1 m1 f (follows_memory (then_rest t' m1.account) m1)
+    body_memory t' m0 m1 f = follows_bind (erased E inf c d.body m0.account) then_rest t' (Err (Stop Memory)) m0 m1 m1 f (follows_memory (then_rest t' m1.account) m1 (rest_leaves t' m1.account))
 
   module _ (ds : List Def) (i : ℕ) where
     abbrev pub bodies_from : ℕ → Account → Run BoxTerms
@@ -140,7 +141,7 @@ module _ (E : Env) (inf : Typing) (c : Context) (m : ℕ) where
 
 -- a fixpoint
 
-module _ (E : Env) (inf : Typing) (c : Context) (ds : List Def) (i : ℕ) where
+module _ (E : Env) {inf : Typing} (fair : FairTyping 0 0 inf) (c : Context) (ds : List Def) (i : ℕ) where
   abbrev pub fix_erased : Account → Run BoxTerm
   fix_erased u = kept E inf c (Fix i (rargs_of ds) (types_of ds) (bodies_of (length ds) ds)) u
 
@@ -150,13 +151,19 @@ module _ (E : Env) (inf : Typing) (c : Context) (ds : List Def) (i : ℕ) where
   then_bodies : Unit {0} → Account → Run BoxTerm
   then_bodies _ v = bind (kept_bodies E inf (definitions c 0 (types_of ds)) (bodies_of (length ds) ds) v) (λ bodies' w. done (BFix i (rargs_of ds) bodies') w)
 
+  bodies_leave : (x : Unit {0}) (v : Account) → Leaves (then_bodies x v).end v.left
+  unfolding then_bodies
+  bodies_leave x v =
+      leaves_bind (kept_bodies E inf (definitions c 0 (types_of ds)) (bodies_of (length ds) ds) v) (λ bodies' w. done (BFix i (rargs_of ds) bodies') w) v.left
+      (kept_bodies_leave E inf fair (definitions c 0 (types_of ds)) (bodies_of (length ds) ds) v) (λ bodies' w. same_left w)
+
   fault : (x : MakeFault) (m : Meter) → (x ≡ DeepTerm → IsTrue (any_beyond fix_entries)) → Follows (passing (any_beyond fix_entries) m.account) (Err (Stop (stop_of x))) m m
-  fault DeepTerm m h = follows_deep (passing (any_beyond fix_entries) m.account) m (h refl)
-  fault NoTerm m h = follows_memory (passing (any_beyond fix_entries) m.account) m
+  fault DeepTerm m h = follows_deep (passing (any_beyond fix_entries) m.account) m (h refl) (same_left m.account)
+  fault NoTerm m h = follows_memory (passing (any_beyond fix_entries) m.account) m (same_left m.account)
 
   pub fix_fault : (x : MakeFault) (m : Meter) → (x ≡ DeepTerm → IsTrue (any_beyond fix_entries)) → Follows (fix_erased m.account) (Err (Stop (stop_of x))) m m
   unfolding then_bodies
-  fix_fault x m h = follows_err (passing (any_beyond fix_entries) m.account) then_bodies (Stop (stop_of x)) m m (fault x m h)
+  fix_fault x m h = follows_err (passing (any_beyond fix_entries) m.account) then_bodies (Stop (stop_of x)) m m (fault x m h) bodies_leave
 
   fix_goes : (r : Result BoxTerm Halt) (m0 m1 : Meter) → Follows (then_bodies tt m0.account) r m0 m1 → Follows (fix_erased m0.account) r m0 m1
   unfolding then_bodies
@@ -167,7 +174,8 @@ module _ (E : Env) (inf : Typing) (c : Context) (ds : List Def) (i : ℕ) where
   fix_err h m0 m1 f =
       fix_goes (Err h) m0 m1
       (follows_err (kept_bodies E inf (definitions c 0 (types_of ds)) (bodies_of (length ds) ds) m0.account) (λ bodies' w. done (BFix i (rargs_of ds) bodies') w) h m0 m1
-      (subst (λ d. Follows (kept_bodies E inf d (bodies_of (length ds) ds) m0.account) (Err h) m0 m1) (all_definitions c 0 (types_of ds)) f))
+      (subst (λ d. Follows (kept_bodies E inf d (bodies_of (length ds) ds) m0.account) (Err h) m0 m1) (all_definitions c 0 (types_of ds)) f)
+      (λ bodies' w. same_left w))
 
   module _ (es : List BoxDef) (m0 m1 : Meter) (same : box_rargs es ≡ rargs_of ds)
       (f : Follows (kept_bodies E inf (extend c fix_entries) (bodies_of (length ds) ds) m0.account) (Ok (box_bodies (length ds) es)) m0 m1) where
@@ -184,6 +192,13 @@ module _ (E : Env) (inf : Typing) (c : Context) (ds : List Def) (i : ℕ) where
         (fix_goes (Ok (BFix i (rargs_of ds) (box_bodies (length ds) es))) m0 m1
         (follows_bind (kept_bodies E inf (definitions c 0 (types_of ds)) (bodies_of (length ds) ds) m0.account) (λ bodies' w. done (BFix i (rargs_of ds) bodies') w) (box_bodies (length ds) es)
         (Ok (BFix i (rargs_of ds) (box_bodies (length ds) es))) m0 m1 m1 bodies_follow (follows_done (BFix i (rargs_of ds) (box_bodies (length ds) es)) m1)))
+
+    pub fix_memory : Follows (fix_erased m0.account) (Err (Stop Memory)) m0 m1
+    unfolding then_bodies
+    fix_memory =
+        fix_goes (Err (Stop Memory)) m0 m1
+        (follows_bind (kept_bodies E inf (definitions c 0 (types_of ds)) (bodies_of (length ds) ds) m0.account) (λ bodies' w. done (BFix i (rargs_of ds) bodies') w) (box_bodies (length ds) es)
+        (Err (Stop Memory)) m0 m1 m1 bodies_follow (follows_memory (done (BFix i (rargs_of ds) (box_bodies (length ds) es)) m1.account) m1 (same_left m1.account)))
 
     pub fix_within : IsWithin (Fix i (rargs_of ds) (types_of ds) (bodies_of (length ds) ds)) → IsWithin (BFix i (box_rargs es) (box_bodies (length es) es))
     fix_within h =

@@ -9,10 +9,10 @@ use Rattle.pc_rules.specs.declared.broken.Place.TheVariants.{Declaration as AtDe
 use Rattle.pc_rules.specs.declared.meter.Account.{Account}
 use Rattle.calculus_rules.specs.Environment.{Env}
 use Rattle.pc_rules.specs.DirectedRun as run
-use Rattle.pc_rules.specs.DirectedRun.{Run}
+use Rattle.pc_rules.specs.DirectedRun.{Run, Leaves}
 use Rattle.pc_rules.specs.DirectedComparison.{Test}
 use Rattle.pc_rules.specs.DirectedTyping.{Typing, infer}
-use Rattle.pc_rules.specs.DirectedLaws.{more, Leaves, Stays}
+use Rattle.pc_rules.specs.DirectedLaws.{more, Stays}
 use Rattle.pc_rules.proofs.Fair.{IsFair}
 use Rattle.pc_rules.proofs.FairTyping.{FairTyping, fair_infer}
 use Rattle.pc_rules.specs.DirectedPlaces.{Outcome, Gives, Breaks, Spends, Nests, Placed, gives, outcome_at, at_place, outcome_then, and_then}

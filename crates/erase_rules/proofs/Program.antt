@@ -1,5 +1,6 @@
 -- A program that directed erasure gives is erased from the source.
-use Rattle.std.proofs.Common.{◌≡◌, ℕ, ◌||◌, ◌⊎◌, inl, inr, Bool, true, false, if◌then◌else◌, List, [], ◌∷◌, length, Option, Some, None, refl, sym, ap, ◌∙◌, subst}
+use Rattle.std.proofs.Common.{◌≡◌, ℕ, ◌||◌, Bool, true, false, if◌then◌else◌, List, [], ◌∷◌, length, Option, Some, None, refl, sym, ap, ◌∙◌, subst}
+use Rattle.std.proofs.lemmas.Bool.{or_left, or_right}
 use Rattle.universe_levels.specs.declared.constraint.Constraint.{Constraint}
 use Rattle.trees.specs.Tree.{Slot, Rel, Node, Places, End, Child, Group, Done, Next}
 use Rattle.trees.specs.Closed.{Every, EveryChild, EveryTerm}
@@ -25,7 +26,6 @@ use Rattle.pc_rules.proofs.SameTrees.{false_true, one_number}
 use Rattle.calculus_rules.proofs.Spines.{one_item}
 use Rattle.pc_rules.proofs.WeakNext.{none_some}
 use Rattle.rule_laws.proofs.TypedCounts.{typed_counted, accepted_counted}
-use Rattle.rule_laws.proofs.Alternatives.{or_left, or_right}
 use Rattle.rule_laws.proofs.Names.{accepted_once}
 pub use Rattle.rule_laws.proofs.Outcomes.{given_value}
 use Rattle.lambda_box.specs.BoxProgram.{BoxConstant, BoxProgram, Has, here, there, NamesKept, NamesOnly}
@@ -61,10 +61,6 @@ outcome_done p run.NoUnit a u h = absurd (cc)
 outcome_done p run.Nested a u h = absurd (cc)
 
 -- names
-
-or_is : (a b : Bool) → (a || b) ≡ true → (a ≡ true) ⊎ (b ≡ true)
-or_is true b h = inl refl
-or_is false b h = inr h
 
 -- a term that names declared constants alone names constants of a list, where each that it names is there
 module _ (ds : List Kept) (cs : List BoxConstant) where

@@ -1,5 +1,5 @@
 -- How the reading of arguments goes on at the next token.
-use Rattle.std.proofs.Common.{◌≡◌, ◌∙◌, ℕ, ◌+◌, ◌<◌, List, [], ◌∷◌, ◌++◌, length, Option, Some, None, Ok, Err, refl, sym, ap, subst, arith}
+use Rattle.std.proofs.Common.{◌≡◌, ◌∙◌, ℕ, ◌<◌, List, [], ◌∷◌, ◌++◌, length, Option, Some, None, Ok, Err, refl, sym, ap, subst, arith}
 use Rattle.sexp_reader.specs.Text.{Text}
 use Rattle.sexp_reader.specs.Lex.{Spanned, answer, answer_at, rest, nesting_after, nesting_after_text}
 use Rattle.sexp_reader.specs.Stream.{source, stream, depth, text_at, Gave}

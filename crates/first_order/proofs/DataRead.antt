@@ -6,22 +6,23 @@ use Rattle.std.proofs.lemmas.List.{map-append, take-append-drop, length-take-le}
 use Rattle.std.proofs.lemmas.List.Elements.{All-head, All-tail}
 use Rattle.std.proofs.lemmas.Option.{slice_get-map}
 use Rattle.pc_terms.specs.declared.leaf.FamilyId.{FamilyId}
-use Rattle.pc_terms.specs.Syntax.{Term, Rel, Ind, Construct, apply, head, args, over, put_all}
+use Rattle.pc_terms.specs.Syntax.{Term, Rel, Ind, Construct, apply, head, args, put_all}
 use Rattle.calculus_rules.specs.declared.declaration.Constructor.{Constructor}
 use Rattle.calculus_rules.specs.Environment.{Env}
-use Rattle.calculus_rules.specs.Instances.{entries_at, branch_entries}
+use Rattle.calculus_rules.specs.Instances.{branch_entries}
 use Rattle.calculus_rules.specs.Step.{IsConstructor, is_constructor}
 use Rattle.calculus_rules.specs.FirstOrder.{Shape as Member, shape_type, ArgumentsAt, no_argument, an_argument, ConstructorsAt, no_constructor, a_constructor, IsMember, IsFirstOrder, Data, Reads, reads, ReadsAll, no_field, field as field_read}
 use Rattle.calculus_rules.specs.Lookups.{if_some}
+use Rattle.calculus_rules.proofs.Telescopes.{entries_at_length}
 use Rattle.calculus_rules.proofs.Spines.{head-apply, args-apply, one_item}
-use Rattle.pc_rules.proofs.WeakNext.{none_some, if_some_is, if_is, same_families_is}
+use Rattle.pc_rules.proofs.WeakNext.{none_some, if_some_is, if_is, same_families_is, drop_long}
 use Rattle.calculus_rules.proofs.Spines.{spine_is}
 use Rattle.first_order.specs.declared.shapes.Shape.{Shape}
 use Rattle.first_order.specs.declared.shapes.ShapeCtor.{ShapeCtor}
 use Rattle.first_order.specs.declared.reading.Field.{Field}
 use Rattle.first_order.specs.Searching.{family_in, places, member, members, IsNamed}
 use Rattle.first_order.specs.Reading.{field, fields, is_family, Taken, arguments_of, node_in, node_of, Reading, Read, on_node, read_on, read, plain_ctor, plain_type, reading}
-use Rattle.first_order.proofs.NodeByNode.{fields_length, drop_length, put_read, read_none, read_past, read_next, many_read}
+use Rattle.first_order.proofs.NodeByNode.{fields_length, put_read, read_none, read_past, read_next, many_read}
 
 abbrev pub place_of : Field → ℕ
 place_of x = x.place
@@ -108,10 +109,6 @@ module _ (E : Env) (S : List Member) where
   arguments_long no_argument = refl
   arguments_long (an_argument e a bs) = ap suc (arguments_long bs)
 
-entries_long : (s : ℕ → Term) (As : List Term) → length (entries_at s As) ≡ length As
-entries_long s [] = refl
-entries_long s (A ∷ As) = ap suc (entries_long (over s) As)
-
 member_at : (hs : List Shape) (j : ℕ) (h : Shape) → slice_get hs j ≡ Some h → slice_get (members hs) j ≡ Some (member h)
 member_at hs j h e = slice_get-map member hs j ∙ ap (option_map member) e
 
@@ -128,10 +125,10 @@ node_built E hs x b n m =
     let js : slice_get (map places n.shape.ctors) b.0 ≡ Some n.ctor.args = slice_get-map places n.shape.ctors b.0 ∙ ap (option_map places) n.ctor_at in
     let c = constructors_there E (members hs) m.constructors b.0 n.ctor.args js in
     let long = arguments_long E (members hs) c.2 in
-    let entries = entries_long (put_all (args n.shape.ty) Rel) (c.0).args in
+    let entries = entries_at_length (put_all (args n.shape.ty) Rel) (c.0).args in
     let few : p ≤ length xs = omega (arith, n.counted) in
     let first = length-take-le p xs few in
-    let rest = drop_length p (length n.ctor.args) xs n.counted in
+    let rest = drop_long p (length n.ctor.args) xs n.counted in
     let params = m.parameters in
     is_constructor m.kept c.1 (first ∙ params) (rest ∙ sym long ∙ entries)
     (spine_is x.value ∙ ap (λ t. apply t xs) (n.head_is ∙ ap (λ f. Construct f b.0) (family_is n.family (head n.shape.ty) n.of_family))
@@ -144,7 +141,7 @@ one_node : (E : Env) (hs : List Shape) (x : Field) (xs : List Field) (b : Taken)
     ReadsFields E hs (b.1 ++ xs) es → ReadsFields E hs (x ∷ xs) ((b.0, length b.1) ∷ es)
 one_node E hs x xs b es n m r =
     let ys = drop (length (args n.shape.ty)) (args x.value) in
-    let long : length ys ≡ length n.ctor.args = drop_length (length (args n.shape.ty)) (length n.ctor.args) (args x.value) n.counted in
+    let long : length ys ≡ length n.ctor.args = drop_long (length (args n.shape.ty)) (length n.ctor.args) (args x.value) n.counted in
     let js : map place_of b.1 ≡ n.ctor.args = ap (map place_of) n.fields_are ∙ places_of_fields n.ctor.args ys long in
     let vs : map value_of b.1 ≡ ys = ap (map value_of) n.fields_are ∙ values_of_fields n.ctor.args ys long in
     let count : length ys ≡ length b.1 = long ∙ sym (ap length n.fields_are ∙ fields_length n.ctor.args ys long) in

@@ -6,6 +6,7 @@ use Rattle.pc_terms.specs.declared.leaf.FamilyId.{FamilyId}
 use Rattle.pc_terms.specs.Syntax.{Term, Construct, head, args}
 use Rattle.calculus_rules.specs.Lookups.{if_some}
 use Rattle.pc_rules.proofs.SameTrees.{not_true}
+use Rattle.pc_rules.proofs.WeakNext.{drop_long}
 use Rattle.first_order.specs.declared.shapes.Shape.{Shape}
 use Rattle.first_order.specs.declared.shapes.ShapeCtor.{ShapeCtor}
 use Rattle.first_order.specs.declared.reading.Field.{Field}
@@ -18,11 +19,6 @@ pub fields_length : (js : List ℕ) (xs : List Term) → length xs ≡ length js
 fields_length [] xs e = refl
 fields_length (j ∷ js) [] e = absurd (omega (arith, e))
 fields_length (j ∷ js) (x ∷ xs) e = ap suc (fields_length js xs (omega (arith, e)))
-
-pub drop_length : {A : Type 0} (n m : ℕ) (xs : List A) → length xs ≡ n + m → length (drop n xs) ≡ m
-drop_length zero m xs e = omega (arith, e)
-drop_length (suc n) m [] e = absurd (omega (arith, e))
-drop_length (suc n) m (x ∷ xs) e = drop_length n m xs (omega (arith, e))
 
 -- the node of a value
 
@@ -76,7 +72,7 @@ is_taken S x h f c t g b k xs ps n before old new e p p' r q z s u v l m y w =
     λ i. fields k.args (drop (length (sym v i)) (sym u i)) in (
       fields k.args (drop (length ps) xs),
       here ∙ found ∙ ap (λ o. Some (c, o)) same,
-      m ∙ sym (fields_length k.args (drop (length ps) xs) (drop_length (length ps) (length k.args) xs l)),
+      m ∙ sym (fields_length k.args (drop (length ps) xs) (drop_long (length ps) (length k.args) xs l)),
       w ∙ ap (λ i. fields k.args (drop i xs) ++ reverse old) y,
     )
 

@@ -16,12 +16,14 @@ use Rattle.pc_rules.specs.Stops.{stop_of}
 use Rattle.calculus_rules.specs.Environment.{Env, FamilyDecl, KeepsFamily, with_parameters}
 use Rattle.calculus_rules.specs.Instances.{branch_entries}
 use Rattle.calculus_rules.specs.FirstOrder.{Shape as Member, IsFirstOrder}
-use Rattle.pc_rules.specs.DirectedRun.{Run, Done, done, passing, any_beyond, bind}
+use Rattle.pc_rules.specs.DirectedRun.{Run, Done, done, passing, any_beyond, bind, Leaves}
 use Rattle.calculus_rules.specs.PropSorts.{is_prop}
 use Rattle.calculus_rules.specs.Lookups.{family_of}
 use Rattle.pc_rules.specs.DirectedWeakHead.{whnf}
 use Rattle.pc_rules.specs.DirectedFirstOrder.{Searched, Found, NotFirstOrder, on_found, with_found, place_in, put_behind, put_in_at, put_in, put_constructors, member_family, member_of, independent, or_not_first_order, argument_types, shape, work_type, first_order_search}
 use Rattle.pc_rules.specs.Follows.{Follows, Answers}
+use Rattle.pc_rules.proofs.Fair.{same_left}
+use Rattle.pc_rules.proofs.FairSearch.{put_at_leaves, put_constructors_leave}
 use Rattle.pc_rules.proofs.Following.{bind_end, or_left, follows_bind, follows_err, follows_done}
 use Rattle.pc_rules.proofs.SearchRuns.{search_is}
 use Rattle.calculus_rules.proofs.Spines.{one_item}
@@ -30,7 +32,7 @@ use Rattle.first_order.specs.declared.shapes.Shape.{Shape}
 use Rattle.first_order.specs.declared.shapes.ShapeCtor.{ShapeCtor}
 use Rattle.first_order.specs.declared.faults.ShapeRefusal.{ShapeRefusal}
 use Rattle.first_order.specs.Searching.{refusal_of, searched, as_is, one_constructor, family_in, places, member, ctor_name, constructor_name, IsNamed}
-use Rattle.first_order.proofs.Searches.{follows_found, follows_lost}
+use Rattle.first_order.proofs.Searches.{follows_found, follows_lost, then_leaves}
 
 -- ---- the argument types of a constructor
 
@@ -56,11 +58,14 @@ module _ (E : Env) (Ts : List Term) (T : Term) where
   abbrev at_place : Term → Account → Run (Searched (List Term × ℕ))
   at_place W v = put_in_at 1024 Ts W (place_in W Ts) v
 
+  place_leaves : (W : Term) (v : Account) → Leaves (at_place W v).end v.left
+  place_leaves W v = put_at_leaves 1024 Ts W (place_in W Ts) v
+
   pub put_in_stops : {X : Type 0} (f : X → List Term × ℕ) (s : StopKind) (m0 m1 : Meter) → Follows (whnf E [] T m0.account) (Err (Stop s)) m0 m1 →
       Follows (put_in E 1024 Ts T m0.account) (searched f (Err (refusal_of s))) m0 m1
-  put_in_stops f Spent m0 m1 h = follows_err (whnf E [] T m0.account) at_place (Stop Spent) m0 m1 h
-  put_in_stops f TooDeep m0 m1 h = follows_err (whnf E [] T m0.account) at_place (Stop TooDeep) m0 m1 h
-  put_in_stops f Memory m0 m1 h = follows_err (whnf E [] T m0.account) at_place (Stop Memory) m0 m1 h
+  put_in_stops f Spent m0 m1 h = follows_err (whnf E [] T m0.account) at_place (Stop Spent) m0 m1 h place_leaves
+  put_in_stops f TooDeep m0 m1 h = follows_err (whnf E [] T m0.account) at_place (Stop TooDeep) m0 m1 h place_leaves
+  put_in_stops f Memory m0 m1 h = follows_err (whnf E [] T m0.account) at_place (Stop Memory) m0 m1 h place_leaves
 
   pub put_in_there : (W : Term) (j : ℕ) (m0 m1 : Meter) → Follows (whnf E [] T m0.account) (Ok W) m0 m1 → Some j ≡ place_in W Ts → Follows (put_in E 1024 Ts T m0.account) (Ok (Found (Ts, j))) m0 m1
   put_in_there W j m0 m1 h e =
@@ -78,6 +83,9 @@ module _ (E : Env) (Ts : List Term) (W : Term) where
   abbrev then_put : FamilyId → List (List Term) → Account → Run (Searched (List Term × Member))
   then_put f Ass w = with_found (put_constructors E 1024 Ts Ass w) (λ q x. done (Found (q.0, shape f (args W) q.1)) x)
 
+  put_leaves : (f : FamilyId) (Ass : List (List Term)) (w : Account) → Leaves (then_put f Ass w).end w.left
+  put_leaves f Ass w = then_leaves (put_constructors E 1024 Ts Ass w) (λ q. (q.0, shape f (args W) q.1)) w.left (put_constructors_leave E 1024 Ts Ass w)
+
   abbrev then_types : FamilyId × FamilyDecl → Account → Run (Searched (List Term × Member))
   then_types m v = with_found (argument_types W (args W) (m.1).constructors v) (λ Ass w. then_put m.0 Ass w)
 
@@ -94,14 +102,14 @@ module _ (E : Env) (Ts : List Term) (W : Term) where
 
     pub types_lost_in : {X Y : Type 0} (v : X → List (List Term)) (w : Y → List Term × Member) (e : ShapeRefusal) → Follows (argument_types W (args W) G.ctors m.account) (searched v (Err e)) m m →
         Follows (work_type E 1024 Ts W m.account) (searched w (Err e)) m m
-    types_lost_in v w e h = from_types (searched w (Err e)) m (follows_lost (argument_types W (args W) G.ctors m.account) (λ Ass w. then_put f Ass w) v w e m m h)
+    types_lost_in v w e h = from_types (searched w (Err e)) m (follows_lost (argument_types W (args W) G.ctors m.account) (λ Ass w. then_put f Ass w) v w e m m h (put_leaves f))
 
     module _ (Ass : List (List Term)) (h : Follows (argument_types W (args W) G.ctors m.account) (Ok (Found Ass)) m m) where
       pub lists_lost_in : {X Y : Type 0} (v : X → List Term × List (List ℕ)) (w : Y → List Term × Member) (e : ShapeRefusal) (n : Meter) →
           Follows (put_constructors E 1024 Ts Ass m.account) (searched v (Err e)) m n → Follows (work_type E 1024 Ts W m.account) (searched w (Err e)) m n
       lists_lost_in v w e n k =
           from_types (searched w (Err e)) n (follows_found (argument_types W (args W) G.ctors m.account) (λ Ass w. then_put f Ass w) Ass (searched w (Err e)) m m n h
-          (follows_lost (put_constructors E 1024 Ts Ass m.account) (λ q x. done (Found (q.0, shape f (args W) q.1)) x) v w e m n k))
+          (follows_lost (put_constructors E 1024 Ts Ass m.account) (λ q x. done (Found (q.0, shape f (args W) q.1)) x) v w e m n k (λ q x. same_left x)))
 
       pub worked : (Us : List Term) (jss : List (List ℕ)) (n : Meter) → Follows (put_constructors E 1024 Ts Ass m.account) (Ok (Found (Us, jss))) m n →
           Follows (work_type E 1024 Ts W m.account) (Ok (Found (Us, shape f (args W) jss))) m n

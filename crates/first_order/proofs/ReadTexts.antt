@@ -6,7 +6,7 @@ use Rattle.std.proofs.lemmas.Option.{slice_get-get_or}
 use Rattle.pc_terms.specs.Syntax.{Term, args}
 use Rattle.calculus_rules.specs.FirstOrder.{Data}
 use Rattle.calculus_rules.specs.Lookups.{if_some}
-use Rattle.pc_rules.proofs.WeakNext.{if_some_is, if_is}
+use Rattle.pc_rules.proofs.WeakNext.{if_some_is, if_is, drop_long}
 use Rattle.calculus_rules.proofs.Spines.{one_item}
 use Rattle.first_order.specs.declared.shapes.Shape.{Shape}
 use Rattle.first_order.specs.declared.shapes.ShapeCtor.{ShapeCtor}
@@ -14,7 +14,7 @@ use Rattle.first_order.specs.declared.reading.Field.{Field}
 use Rattle.first_order.specs.declared.texts.Slot.{Slot}
 use Rattle.first_order.specs.Reading.{field, Taken, node_of, Read, read_on, read}
 use Rattle.first_order.specs.Texts.{counted_ctor, constructor_in, named_ctor, by_shapes, by_tags, HasNames, slot, slots, piece, Writing, Written, NotOf, NoTree, before, on_name, write_on, write}
-use Rattle.first_order.proofs.NodeByNode.{fields_length, drop_length, read_none, read_past, read_next, many_read}
+use Rattle.first_order.proofs.NodeByNode.{fields_length, read_none, read_past, read_next, many_read}
 use Rattle.first_order.proofs.DataRead.{IsNode, node_is, node_of_some, places_of_fields}
 use Rattle.first_order.proofs.Written.{written_node, nothing_written, too_many, IsCounted}
 
@@ -44,7 +44,7 @@ node_named : (S : List Shape) (names : List (List ℕ)) → HasNames S names →
     (e : List ℕ × List ℕ) × (by_shapes S names x.place (b.0, n) ≡ Some e) × (map at_field b.1 ≡ e.1)
 node_named S names h x b i n l =
     let ys = drop (length (args i.shape.ty)) (args x.value) in
-    let long : length ys ≡ length i.ctor.args = drop_length (length (args i.shape.ty)) (length i.ctor.args) (args x.value) i.counted in
+    let long : length ys ≡ length i.ctor.args = drop_long (length (args i.shape.ty)) (length i.ctor.args) (args x.value) i.counted in
     let count : length i.ctor.args ≡ n = sym long ∙ long ∙ sym (fields_length i.ctor.args ys long) ∙ sym (ap length i.fields_are) ∙ sym l in
     let there : constructor_in S x.place b.0 n ≡ Some i.ctor =
     ap (λ o. if_some o (λ h. if_some (slice_get h.ctors b.0) (λ k. counted_ctor n k))) i.at

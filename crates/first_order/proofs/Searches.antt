@@ -1,21 +1,27 @@
 -- Parts of a search that follow each other, and runs of a search that have come to another one.
-use Rattle.std.proofs.Common.{◌≡◌, ◌∙◌, sym, ap, refl, subst, ◌||◌, Bool, false, Result, Ok, Err}
+use Rattle.std.proofs.Common.{◌≡◌, ◌∙◌, sym, ap, refl, subst, ◌||◌, ℕ, Bool, false, Result, Ok, Err, IsErrAnd}
 use Rattle.std.proofs.Math.Bool.{or-false}
+use Rattle.std.proofs.lemmas.Result.{err_from_is_err_and}
+use Rattle.pc_terms.specs.declared.term.MakeFault.{MakeFault}
+use Rattle.pc_terms.specs.declared.term.MakeFault.TheVariants.{Memory as NoTerm}
 use Rattle.pc_rules.specs.declared.meter.Account.{Account}
 use Rattle.pc_rules.specs.declared.meter.Meter.{Meter}
 use Rattle.pc_rules.specs.declared.stop.Stop.TheVariants.{Spent, TooDeep, Memory}
 use Rattle.pc_rules.specs.declared.stop.Halt.{Halt}
 use Rattle.pc_rules.specs.declared.stop.Halt.TheVariants.{Stop, Broken as Refusal}
-use Rattle.pc_rules.specs.DirectedRun.{Run, End, Done, Refused, NoUnit, Nested, done, bind, end_then, deep_then}
+use Rattle.pc_rules.specs.DirectedRun.{Run, End, Done, Refused, NoUnit, Nested, done, bind, end_then, deep_then, Leaves}
 use Rattle.pc_rules.specs.DirectedFirstOrder.{Searched, Found, NotFirstOrder, TooManyTypes, on_found, with_found}
+use Rattle.pc_rules.specs.Stops.{stop_of}
 use Rattle.pc_rules.specs.Follows.{Follows, IsAfter, Answers}
 use Rattle.pc_rules.specs.Leads.{Leads}
 use Rattle.pc_rules.proofs.Meters.{after-trans}
-use Rattle.pc_rules.proofs.Following.{bind_end, bind_deep, bind_done, follows_bind, follows_err, follows_done}
+use Rattle.pc_rules.proofs.Fair.{leaves_bind, same_left}
+use Rattle.pc_rules.proofs.FairSearch.{on_found_leaves}
+use Rattle.pc_rules.proofs.Following.{bind_end, bind_deep, bind_done, leads_leave, follows_bind, follows_err, follows_done}
 use Rattle.pc_rules.proofs.SameWithin.{bind_assoc}
 use Rattle.first_order.specs.declared.faults.ShapeRefusal.{ShapeRefusal}
 use Rattle.first_order.specs.declared.faults.ShapeRefusal.TheVariants.{NotFirstOrder as Without, Types as ManyTypes, Spent as NoUnits, TooDeep as Deep, Memory as NoMemory}
-use Rattle.first_order.specs.Searching.{searched}
+use Rattle.first_order.specs.Searching.{searched, refusal_of}
 
 -- ---- grouping
 
@@ -60,15 +66,24 @@ pub follows_found : {B D : Type 0} (r : Run (Searched B)) (k : B → Account →
     Follows r (Ok (Found b)) m0 m1 → Follows (k b m1.account) x m1 m2 → Follows (with_found r k) x m0 m2
 follows_found r k b x m0 m1 m2 f g = follows_bind r (λ s u. on_found s u k) (Found b) x m0 m1 m2 f g
 
+-- where the first part finds nothing, what would come then never goes back on units
+
+found_leaves : {B D : Type 0} (k : B → Account → Run (Searched D)) → ((b : B) (u : Account) → Leaves (k b u).end u.left) → (s : Searched B) (u : Account) → Leaves (on_found s u k).end u.left
+found_leaves k q s u = on_found_leaves s u k q
+
+pub with_leaves : {B D : Type 0} (r : Run (Searched B)) (k : B → Account → Run (Searched D)) (n : ℕ) → Leaves r.end n → ((b : B) (u : Account) → Leaves (k b u).end u.left) →
+    Leaves (with_found r k).end n
+with_leaves r k n h q = leaves_bind r (λ s u. on_found s u k) n h (found_leaves k q)
+
 -- the first part finds nothing
 pub follows_lost : {A B C D : Type 0} (r : Run (Searched B)) (k : B → Account → Run (Searched D)) (v : A → B) (w : C → D) (e : ShapeRefusal) (m0 m1 : Meter) →
-    Follows r (searched v (Err e)) m0 m1 → Follows (with_found r k) (searched w (Err e)) m0 m1
-follows_lost r k v w (Without T) m0 m1 f =
+    Follows r (searched v (Err e)) m0 m1 → ((b : B) (u : Account) → Leaves (k b u).end u.left) → Follows (with_found r k) (searched w (Err e)) m0 m1
+follows_lost r k v w (Without T) m0 m1 f q =
     follows_bind r (λ s u. on_found s u k) (NotFirstOrder T) (Ok (NotFirstOrder T)) m0 m1 m1 f (follows_done (NotFirstOrder T) m1)
-follows_lost r k v w ManyTypes m0 m1 f = follows_bind r (λ s u. on_found s u k) TooManyTypes (Ok TooManyTypes) m0 m1 m1 f (follows_done TooManyTypes m1)
-follows_lost r k v w NoUnits m0 m1 f = follows_err r (λ s u. on_found s u k) (Stop Spent) m0 m1 f
-follows_lost r k v w Deep m0 m1 f = follows_err r (λ s u. on_found s u k) (Stop TooDeep) m0 m1 f
-follows_lost r k v w NoMemory m0 m1 f = follows_err r (λ s u. on_found s u k) (Stop Memory) m0 m1 f
+follows_lost r k v w ManyTypes m0 m1 f q = follows_bind r (λ s u. on_found s u k) TooManyTypes (Ok TooManyTypes) m0 m1 m1 f (follows_done TooManyTypes m1)
+follows_lost r k v w NoUnits m0 m1 f q = follows_err r (λ s u. on_found s u k) (Stop Spent) m0 m1 f (found_leaves k q)
+follows_lost r k v w Deep m0 m1 f q = follows_err r (λ s u. on_found s u k) (Stop TooDeep) m0 m1 f (found_leaves k q)
+follows_lost r k v w NoMemory m0 m1 f q = follows_err r (λ s u. on_found s u k) (Stop Memory) m0 m1 f (found_leaves k q)
 
 -- the same refusal, however results are seen
 pub lost_alike : {A C D : Type 0} (r : Run (Searched D)) (v : A → D) (w : C → D) (e : ShapeRefusal) (m0 m1 : Meter) →
@@ -80,8 +95,15 @@ lost_alike r v w Deep m0 m1 f = f
 lost_alike r v w NoMemory m0 m1 f = f
 
 -- there is no memory
-pub no_memory : {A B : Type 0} (r : Run (Searched B)) (v : A → B) (m0 m1 : Meter) → IsAfter m0 m1 → Follows r (searched v (Err NoMemory)) m0 m1
-no_memory r v m0 m1 after = record { answer = tt; after = after }
+pub no_memory : {A B : Type 0} (r : Run (Searched B)) (v : A → B) (m0 m1 : Meter) → IsAfter m0 m1 → Leaves r.end m1.account.left → Follows r (searched v (Err NoMemory)) m0 m1
+no_memory r v m0 m1 after l = record { answer = tt; after = after; leaves = l }
+
+-- a `?` gives on that there is none
+pub passes_memory : {A B : Type 0} (d : Run (Searched B)) (v : A → B) (r : Result A ShapeRefusal) (x : MakeFault) (m0 m1 : Meter) → x ≡ NoTerm → IsErrAnd r (λ e. e ≡ refusal_of (stop_of x)) →
+    IsAfter m0 m1 → Leaves d.end m1.account.left → Follows d (searched v r) m0 m1
+passes_memory d v r x m0 m1 e h after l =
+    let p = err_from_is_err_and r h in
+    rw (p.1, p.2, e) (no_memory d v m0 m1 after l)
 
 -- ---- runs that have come to another one
 
@@ -107,12 +129,16 @@ answers_led whole rest (Err (Refusal b)) u l h = l.end ∙ h
 
 pub follows_led : {A : Type 0} (whole rest : Run A) (r : Result A Halt) (m0 m1 m2 : Meter) → Leads whole rest → IsAfter m0 m1 → Follows rest r m1 m2 → Follows whole r m0 m2
 follows_led whole rest r m0 m1 m2 l after f =
-    record { answer = answers_led whole rest r m2.account l f.answer; after = after-trans m0 m1 m2 after f.after }
+    record { answer = answers_led whole rest r m2.account l f.answer; after = after-trans m0 m1 m2 after f.after; leaves = leads_leave whole rest m2.account.left l f.leaves }
 
 -- ---- results that are collected one by one: what is done with the results of the rest
 
 abbrev pub then_done : {B C : Type 0} → Run (Searched B) → (B → C) → Run (Searched C)
 then_done r f = with_found r (λ b w. done (Found (f b)) w)
+
+-- no units are won by what is done with a result
+pub then_leaves : {B C : Type 0} (r : Run (Searched B)) (f : B → C) (n : ℕ) → Leaves r.end n → Leaves (then_done r f).end n
+then_leaves r f n h = with_leaves r (λ b w. done (Found (f b)) w) n h (λ b u. same_left u)
 
 pub collect_start : {B : Type 0} (r : Run (Searched B)) → Leads r (then_done r (λ b. b))
 collect_start r = leads_same r (then_done r (λ b. b)) (found_unit r)
@@ -134,10 +160,16 @@ module _ {A B C : Type 0} (whole : Run (Searched C)) (one : Run (Searched A)) (r
       leads_along whole _ _ (one_done a v) (leads_found whole one (λ a v. then_done (both a v) pre) a v (leads_along whole _ _ regrouped l) e)
 
   pub collect_lost : {X Y : Type 0} (f : X → A) (h : Y → C) (e : ShapeRefusal) (m0 m1 m2 : Meter) → Leads whole (then_done (with_found one both) pre) → IsAfter m0 m1 →
-      Follows one (searched f (Err e)) m1 m2 → Follows whole (searched h (Err e)) m0 m2
-  collect_lost f h e m0 m1 m2 l after p =
+      Follows one (searched f (Err e)) m1 m2 → ((a : A) (v : Account) → Leaves (rest a v).end v.left) → Follows whole (searched h (Err e)) m0 m2
+  collect_lost f h e m0 m1 m2 l after p q =
       follows_led whole (with_found one (λ a v. then_done (both a v) pre)) (searched h (Err e)) m0 m1 m2 (leads_along whole _ _ regrouped l) after
-      (follows_lost one (λ a v. then_done (both a v) pre) f h e m1 m2 p)
+      (follows_lost one (λ a v. then_done (both a v) pre) f h e m1 m2 p (λ a v. then_leaves (both a v) pre v.left (then_leaves (rest a v) (g a) v.left (q a v))))
+
+-- there is no memory for what is found, and of the results of the rest something is done
+pub collect_memory : {A B C : Type 0} (whole : Run (Searched C)) (rest : Run (Searched B)) (pre : B → C) (v : A → C) (r : Result A ShapeRefusal) (x : MakeFault) (m0 m1 : Meter) → x ≡ NoTerm →
+    IsErrAnd r (λ e. e ≡ refusal_of (stop_of x)) → Leads whole (then_done rest pre) → IsAfter m0 m1 → Leaves rest.end m1.account.left → Follows whole (searched v r) m0 m1
+collect_memory whole rest pre v r x m0 m1 e h l after n =
+    passes_memory whole v r x m0 m1 e h after (leads_leave whole (then_done rest pre) m1.account.left l (then_leaves rest pre m1.account.left n))
 
 pub collect_end : {B C : Type 0} (whole : Run (Searched C)) (d : Run (Searched B)) (pre : B → C) (b : B) (m0 m1 : Meter) → d ≡ done (Found b) m1.account →
     Leads whole (then_done d pre) → IsAfter m0 m1 → Follows whole (Ok (Found (pre b))) m0 m1

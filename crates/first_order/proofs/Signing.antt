@@ -1,5 +1,8 @@
 -- The search for a signature, one argument at a time, and that what it finds is one.
-use Rattle.std.proofs.Common.{◌≡◌, ◌≢◌, ◌∙◌, sym, ap, refl, subst as along, ℕ, zero, suc, ◌-◌, ◌<◌, Bool, true, false, if◌then◌else◌, List, [], ◌∷◌, ◌++◌, Some, None, Result, Ok, Err, IfOk, append_assoc, append-nil, arith}
+use Rattle.std.proofs.Common.{◌≡◌, ◌≢◌, ◌∙◌, sym, ap, refl, subst as along, ℕ, zero, suc, ◌-◌, ◌<◌, Bool, true, false, if◌then◌else◌, List, [], ◌∷◌, ◌++◌, Some, None, Result, Ok, Err, IsErrAnd, IfOk, append_assoc, append-nil, arith}
+use Rattle.std.proofs.lemmas.Result.{err_from_is_err_and}
+use Rattle.pc_terms.specs.declared.term.MakeFault.{MakeFault}
+use Rattle.pc_terms.specs.declared.term.MakeFault.TheVariants.{Memory as NoTerm}
 use Rattle.pc_terms.specs.Syntax.{Term, Prod, shift}
 use Rattle.calculus_rules.specs.Environment.{Env}
 use Rattle.calculus_rules.specs.WeakHead.{WeakSteps, no_step, then_step}
@@ -10,14 +13,17 @@ use Rattle.pc_rules.specs.declared.stop.Stop.{Stop as StopKind}
 use Rattle.pc_rules.specs.declared.stop.Stop.TheVariants.{Spent, TooDeep, Memory}
 use Rattle.pc_rules.specs.declared.stop.Halt.{Halt}
 use Rattle.pc_rules.specs.declared.stop.Halt.TheVariants.{Stop}
-use Rattle.pc_rules.specs.DirectedRun.{Run, Done, done, bind}
+use Rattle.pc_rules.specs.DirectedRun.{Run, Done, done, bind, Leaves}
 use Rattle.pc_rules.specs.DirectedWeakHead.{whnf}
 use Rattle.pc_rules.specs.DirectedFirstOrder.{Searched, Found, NotFirstOrder, with_found, without, or_not_first_order, first_order_search}
+use Rattle.pc_rules.specs.Stops.{stop_of}
 use Rattle.pc_rules.specs.Follows.{Follows, IsAfter}
 use Rattle.pc_rules.specs.Leads.{Leads}
 use Rattle.pc_rules.proofs.EvaluationRuns.{bind_came}
-use Rattle.pc_rules.proofs.FairReduction.{steps_lead}
-use Rattle.pc_rules.proofs.Following.{follows_bind, follows_err, follows_done, bind_done}
+use Rattle.pc_rules.proofs.Fair.{leaves_bind, leaves_if, same_left}
+use Rattle.pc_rules.proofs.FairReduction.{steps_lead, steps_leaves}
+use Rattle.pc_rules.proofs.FairSearch.{steady_search, or_not_leaves}
+use Rattle.pc_rules.proofs.Following.{leads_leave, follows_bind, follows_err, follows_done, bind_done}
 use Rattle.pc_rules.proofs.SearchRuns.{search_is, with_found_came, done_found, or_not_is, without_is}
 use Rattle.first_order.specs.declared.faults.ShapeRefusal.{ShapeRefusal}
 use Rattle.first_order.specs.declared.faults.ShapeRefusal.TheVariants as of_types
@@ -26,7 +32,7 @@ use Rattle.first_order.specs.declared.shapes.Signature.{Signature}
 use Rattle.first_order.specs.Searching.{searched, refusal_of, as_is}
 use Rattle.first_order.specs.Signature.{IsSignature, answers, takes}
 use Rattle.first_order.specs.DirectedSignature.{Signed, Takes, TooManyArguments, before_arguments, one_argument, is_product, next_type, argument, answer_type, signature_within, signature_of, signature_search, signed, refusal_in, set_of, sets_of}
-use Rattle.first_order.proofs.Searches.{then_done, collect_start, collect_next, collect_lost, collect_end, follows_led, follows_found, follows_lost, leads_along}
+use Rattle.first_order.proofs.Searches.{then_done, with_leaves, then_leaves, collect_start, collect_next, collect_lost, collect_end, follows_led, follows_found, follows_lost, leads_along}
 
 -- ---- what follows an argument
 
@@ -49,9 +55,15 @@ module _ (E : Env) (W B : Term) where
   whnf_found C V m0 m1 f = follows_bind (whnf E [] C m0.account) (λ V w. done (Found V) w) V (Ok (Found V)) m0 m1 m1 f (follows_done (Found V) m1)
 
   pub whnf_stops : (C : Term) (s : StopKind) (m0 m1 : Meter) → Follows (whnf E [] C m0.account) (Err (Stop s)) m0 m1 → Follows (then_whnf C m0.account) (searched {A = Term} as_is (Err (refusal_of s))) m0 m1
-  whnf_stops C Spent m0 m1 f = follows_err (whnf E [] C m0.account) (λ V w. done (Found V) w) (Stop Spent) m0 m1 f
-  whnf_stops C TooDeep m0 m1 f = follows_err (whnf E [] C m0.account) (λ V w. done (Found V) w) (Stop TooDeep) m0 m1 f
-  whnf_stops C Memory m0 m1 f = follows_err (whnf E [] C m0.account) (λ V w. done (Found V) w) (Stop Memory) m0 m1 f
+  whnf_stops C Spent m0 m1 f = follows_err (whnf E [] C m0.account) (λ V w. done (Found V) w) (Stop Spent) m0 m1 f (λ V w. same_left w)
+  whnf_stops C TooDeep m0 m1 f = follows_err (whnf E [] C m0.account) (λ V w. done (Found V) w) (Stop TooDeep) m0 m1 f (λ V w. same_left w)
+  whnf_stops C Memory m0 m1 f = follows_err (whnf E [] C m0.account) (λ V w. done (Found V) w) (Stop Memory) m0 m1 f (λ V w. same_left w)
+
+  -- no units are won on the way
+  pub next_leaves : (u : Account) → Leaves (next_type E W B u).end u.left
+  next_leaves u =
+      with_leaves (or_not_first_order W (without 1 B) u) then_whnf u.left (or_not_leaves W (without 1 B) u)
+      (λ C v. leaves_bind (whnf E [] C v) (λ V w. done (Found V) w) v.left (steps_leaves E [] v.left C v) (λ V w. same_left w))
 
 -- ---- one argument
 
@@ -59,25 +71,50 @@ module _ (E : Env) (A B W : Term) (is : Prod A B ≡ W) where
   abbrev then_next : List Member → Account → Run (Searched (List Member × Term))
   then_next S v = with_found (next_type E W B v) (λ V w. done (Found (S, V)) w)
 
+  then_next_leaves : (S : List Member) (v : Account) → Leaves (then_next S v).end v.left
+  then_next_leaves S v = then_leaves (next_type E W B v) (λ V. (S, V)) v.left (next_leaves E W B v)
+
   of_product : (r : Result (Searched (List Member × Term)) Halt) (m0 m1 : Meter) → Follows (with_found (first_order_search E A m0.account) then_next) r m0 m1 → Follows (argument E W m0.account) r m0 m1
   of_product r m0 m1 f =
       along (λ T. Follows (with_found (first_order_search E A m0.account) (λ S v. with_found (next_type E T B v) (λ V w. done (Found (S, V)) w))) r m0 m1 → Follows (argument E T m0.account) r m0 m1) is (λ h. h) f
 
   pub argument_no_set : {X Y : Type 0} (f : X → List Member) (h : Y → List Member × Term) (e : ShapeRefusal) (m0 m1 : Meter) → Follows (first_order_search E A m0.account) (searched f (Err e)) m0 m1 →
       Follows (argument E W m0.account) (searched h (Err e)) m0 m1
-  argument_no_set f h e m0 m1 p = of_product (searched h (Err e)) m0 m1 (follows_lost (first_order_search E A m0.account) then_next f h e m0 m1 p)
+  argument_no_set f h e m0 m1 p = of_product (searched h (Err e)) m0 m1 (follows_lost (first_order_search E A m0.account) then_next f h e m0 m1 p then_next_leaves)
 
   module _ (S : List Member) (m0 m1 m2 : Meter) (set : Follows (first_order_search E A m0.account) (Ok (Found S)) m0 m1) where
     pub argument_no_type : {X Y : Type 0} (f : X → Term) (h : Y → List Member × Term) (e : ShapeRefusal) → Follows (next_type E W B m1.account) (searched f (Err e)) m1 m2 →
         Follows (argument E W m0.account) (searched h (Err e)) m0 m2
     argument_no_type f h e p =
         of_product (searched h (Err e)) m0 m2 (follows_found (first_order_search E A m0.account) then_next S (searched h (Err e)) m0 m1 m2 set
-        (follows_lost (next_type E W B m1.account) (λ V w. done (Found (S, V)) w) f h e m1 m2 p))
+        (follows_lost (next_type E W B m1.account) (λ V w. done (Found (S, V)) w) f h e m1 m2 p (λ V w. same_left w)))
 
     pub argument_found : (V : Term) → Follows (next_type E W B m1.account) (Ok (Found V)) m1 m2 → Follows (argument E W m0.account) (Ok (Found (S, V))) m0 m2
     argument_found V p =
         of_product (Ok (Found (S, V))) m0 m2 (follows_found (first_order_search E A m0.account) then_next S _ m0 m1 m2 set
         (follows_found (next_type E W B m1.account) (λ V w. done (Found (S, V)) w) V _ m1 m2 m2 p (follows_done (Found (S, V)) m2)))
+
+-- ---- the search never goes back on units
+
+argument_leaves : (E : Env) (W : Term) (u : Account) → Leaves (argument E W u).end u.left
+argument_leaves E (Prod A B) u =
+    with_leaves (first_order_search E A u) (then_next E A B (Prod A B) refl) u.left ((steady_search E 1024 A).falls u) (then_next_leaves E A B (Prod A B) refl)
+argument_leaves E W u = same_left u
+
+answer_leaves : (E : Env) (W : Term) (u : Account) → Leaves (answer_type E W u).end u.left
+answer_leaves E W u = then_leaves (first_order_search E W u) (λ R. Takes [] R) u.left ((steady_search E 1024 W).falls u)
+
+pub signature_leaves : (E : Env) (n : ℕ) (W : Term) (u : Account) → Leaves (signature_within E n W u).end u.left
+unfolding signature_within
+signature_leaves E zero W u = leaves_if (is_product W) (done (Found TooManyArguments) u) (answer_type E W u) u.left (same_left u) (answer_leaves E W u)
+signature_leaves E (suc n) W u =
+    leaves_if (is_product W) (with_found (argument E W u) (λ p v. then_done (signature_within E n p.1 v) (one_argument p.0))) (answer_type E W u) u.left
+    (with_leaves (argument E W u) (λ p v. then_done (signature_within E n p.1 v) (one_argument p.0)) u.left (argument_leaves E W u)
+    (λ p v. then_leaves (signature_within E n p.1 v) (one_argument p.0) v.left (signature_leaves E n p.1 v)))
+    (answer_leaves E W u)
+
+signature_of_leaves : (E : Env) (W : Term) (v : Account) → Leaves (signature_of E W v).end v.left
+signature_of_leaves E W v = leaves_if (is_product W) (signature_within E 255 W v) (done (NotFirstOrder W) v) v.left (signature_leaves E 255 W v) (same_left v)
 
 -- ---- arguments, one after another
 
@@ -88,6 +125,14 @@ seen_alike r f of_types.Types m0 m1 h = h
 seen_alike r f of_types.Spent m0 m1 h = h
 seen_alike r f of_types.TooDeep m0 m1 h = h
 seen_alike r f of_types.Memory m0 m1 h = h
+
+-- there is no memory for what is found
+pub signing_memory : {A : Type 0} (whole : Run (Searched Signed)) (rest : Run (Searched A)) (pre : A → Signed) (r : Result Signature SignatureRefusal) (x : MakeFault) (m0 m1 : Meter) → x ≡ NoTerm →
+    IsErrAnd r (λ e. e ≡ refusal_in (refusal_of (stop_of x))) → Leads whole (then_done rest pre) → IsAfter m0 m1 → Leaves rest.end m1.account.left → Follows whole (signed r) m0 m1
+signing_memory whole rest pre r x m0 m1 e h l after n =
+    let p = err_from_is_err_and r h in
+    let f : Follows whole (Err (Stop Memory)) m0 m1 = record { answer = tt; after = after; leaves = leads_leave whole (then_done rest pre) m1.account.left l (then_leaves rest pre m1.account.left n) } in
+    rw (p.1, p.2, e) f
 
 before_more : (Ss : List (List Member)) (S : List Member) (s : Signed) → before_arguments Ss (one_argument S s) ≡ before_arguments (Ss ++ (S ∷ [])) s
 before_more Ss S (Takes Ts R) = ap (λ xs. Takes xs R) (sym (append_assoc Ss (S ∷ []) Ts))
@@ -137,7 +182,8 @@ module _ (E : Env) where
         Follows (argument E W u) (searched f (Err e)) m1 m2 → Follows whole (signed (Err (refusal_in e))) m0 m2
     argument_lost is lt f e m0 m1 m2 after p =
         seen_alike {A = Signed} whole (λ s. s) e m0 m2
-        (collect_lost whole (argument E W u) (λ p v. signing (suc i) p.1 v) (λ p s. one_argument p.0 s) (before_arguments Ss) f (λ (s : Signed). s) e m0 m1 m2 (at_argument is lt) after p)
+        (collect_lost whole (argument E W u) (λ p v. signing (suc i) p.1 v) (λ p s. one_argument p.0 s) (before_arguments Ss) f (λ (s : Signed). s) e m0 m1 m2 (at_argument is lt) after p
+        (λ p v. signature_leaves E (255 - suc i) p.1 v))
 
     pub too_many : is_product W ≡ true → i ≡ 255 → (m0 m1 : Meter) → u ≡ m1.account → IsAfter m0 m1 → Follows whole (Ok (Found TooManyArguments)) m0 m1
     too_many is full m0 m1 same after =
@@ -163,15 +209,15 @@ module _ (E : Env) where
         seen_alike {A = Signed} whole (λ s. s) e m0 m2
         (follows_led whole (then_done (answer_type E W u) (before_arguments Ss)) (searched (λ (s : Signed). s) (Err e)) m0 m1 m2 (at_answer is) after
         (follows_lost (answer_type E W u) (λ s w. done (Found (before_arguments Ss s)) w) (λ (s : Signed). s) (λ (s : Signed). s) e m1 m2
-        (follows_lost (first_order_search E W u) (λ R v. done (Found (Takes [] R)) v) f (λ (s : Signed). s) e m1 m2 p)))
+        (follows_lost (first_order_search E W u) (λ R v. done (Found (Takes [] R)) v) f (λ (s : Signed). s) e m1 m2 p (λ R v. same_left v)) (λ s w. same_left w)))
 
 -- ---- the whole search
 
 module _ (E : Env) (T : Term) where
   pub type_stops : (s : StopKind) (m0 m1 : Meter) → Follows (whnf E [] T m0.account) (Err (Stop s)) m0 m1 → Follows (signature_search E T m0.account) (signed (Err (refusal_in (refusal_of s)))) m0 m1
-  type_stops Spent m0 m1 f = follows_err (whnf E [] T m0.account) (λ W v. signature_of E W v) (Stop Spent) m0 m1 f
-  type_stops TooDeep m0 m1 f = follows_err (whnf E [] T m0.account) (λ W v. signature_of E W v) (Stop TooDeep) m0 m1 f
-  type_stops Memory m0 m1 f = follows_err (whnf E [] T m0.account) (λ W v. signature_of E W v) (Stop Memory) m0 m1 f
+  type_stops Spent m0 m1 f = follows_err (whnf E [] T m0.account) (λ W v. signature_of E W v) (Stop Spent) m0 m1 f (signature_of_leaves E)
+  type_stops TooDeep m0 m1 f = follows_err (whnf E [] T m0.account) (λ W v. signature_of E W v) (Stop TooDeep) m0 m1 f (signature_of_leaves E)
+  type_stops Memory m0 m1 f = follows_err (whnf E [] T m0.account) (λ W v. signature_of E W v) (Stop Memory) m0 m1 f (signature_of_leaves E)
 
   pub no_product : (W : Term) (m0 m1 : Meter) → Follows (whnf E [] T m0.account) (Ok W) m0 m1 → is_product W ≡ false → Follows (signature_search E T m0.account) (Ok (NotFirstOrder W)) m0 m1
   no_product W m0 m1 f e =

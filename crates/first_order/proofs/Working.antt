@@ -20,7 +20,7 @@ use Rattle.calculus_rules.specs.Environment.{Env, FamilyDecl, with_parameters, f
 use Rattle.calculus_rules.specs.Instances.{branch_entries}
 use Rattle.calculus_rules.specs.Same.{same}
 use Rattle.calculus_rules.specs.FirstOrder.{Shape as Member}
-use Rattle.pc_rules.specs.DirectedRun.{Run, Done, done, passing, any_beyond, ticking, ticked}
+use Rattle.pc_rules.specs.DirectedRun.{Run, Done, done, passing, any_beyond, ticking, ticked, Leaves}
 use Rattle.calculus_rules.specs.PropSorts.{is_prop}
 use Rattle.calculus_rules.specs.Lookups.{if_some, kept_at, whole_block, family_of}
 use Rattle.pc_rules.specs.DirectedFirstOrder.{Searched, Found, TooManyTypes, on_found, with_found, next_place, place_in, put_behind, put_in, put_arguments}
@@ -29,6 +29,8 @@ use Rattle.pc_rules.specs.Follows.{Follows, IsAfter}
 use Rattle.pc_rules.specs.Leads.{Leads}
 use Rattle.pc_rules.proofs.ListSteps.{next_is, none_left, take_next}
 use Rattle.pc_rules.proofs.SameTrees.{same_is, same_itself, not_true}
+use Rattle.pc_rules.proofs.Fair.{leaves_bind, same_left}
+use Rattle.pc_rules.proofs.FairSearch.{put_arguments_leave, put_constructors_leave, argument_types_leave, work_on_leaves, or_not_leaves}
 use Rattle.pc_rules.proofs.Following.{follows_then, follows_else, follows_tick, follows_spent, follows_done}
 use Rattle.pc_rules.proofs.SameWithin.{bind_assoc}
 use Rattle.first_order.specs.declared.faults.ShapeRefusal.{ShapeRefusal}
@@ -243,6 +245,7 @@ module _ (E : Env) where
         IsAfter m0 m1 → Follows (put_in E 1024 Ts A u) (searched f (Err e)) m1 m2 → Follows whole (searched h (Err e)) m0 m2
     arguments_lost A lt is f h e m0 m1 m2 after p =
         collect_lost whole (put_in E 1024 Ts A u) (λ p v. put_arguments E 1024 p.0 (drop (i + 1) As) v) one_result (results js) f h e m0 m1 m2 (at_argument A lt is) after p
+        (λ p v. put_arguments_leave E 1024 p.0 (drop (i + 1) As) v)
 
     pub arguments_end : length As ≤ i → (m0 m1 : Meter) → u ≡ m1.account → IsAfter m0 m1 → Follows whole (Ok (Found (Ts, js))) m0 m1
     arguments_end ge m0 m1 same after =
@@ -267,6 +270,7 @@ module _ (E : Env) where
         IsAfter m0 m1 → Follows (put_arguments E 1024 Ts As u) (searched f (Err e)) m1 m2 → Follows whole (searched h (Err e)) m0 m2
     lists_lost As Ass is f h e m0 m1 m2 after p =
         collect_lost whole (put_arguments E 1024 Ts As u) (λ p v. put_constructors E 1024 p.0 Ass v) one_result (results jss) f h e m0 m1 m2 (at_list As Ass is) after p
+        (λ p v. put_constructors_leave E 1024 p.0 Ass v)
 
     pub lists_end : rest ≡ [] → (m0 m1 : Meter) → u ≡ m1.account → IsAfter m0 m1 → Follows whole (Ok (Found (Ts, jss))) m0 m1
     lists_end none m0 m1 same after =
@@ -290,6 +294,12 @@ module _ (W : Term) (ps : List Term) where
       sym (bind_assoc (λ _ v. or_not_first_order W (independent 0 (branch_entries C ps)) v) (λ s v. on_found s v (λ As w. then_done (argument_types W ps Cs w) (◌∷◌ As)))
       (passing (any_beyond (branch_entries C ps)) u))
 
+  -- no units are won by a look at the argument types
+  pub one_leaves : (C : Constructor) (u : Account) → Leaves (one_constructor W ps C u).end u.left
+  one_leaves C u =
+      leaves_bind (passing (any_beyond (branch_entries C ps)) u) (λ _ v. or_not_first_order W (independent 0 (branch_entries C ps)) v) u.left (same_left u)
+      (λ _ v. or_not_leaves W (independent 0 (branch_entries C ps)) v)
+
   no_types : (u : Account) → argument_types W ps [] u ≡ done (Found []) u
   unfolding argument_types
   no_types u = refl
@@ -311,6 +321,7 @@ module _ (W : Term) (ps : List Term) where
         IsAfter m0 m1 → Follows (one_constructor W ps C u) (searched f (Err e)) m1 m2 → Follows whole (searched h (Err e)) m0 m2
     types_lost C lt is f h e m0 m1 m2 after p =
         collect_lost whole (one_constructor W ps C u) (λ _ v. argument_types W ps (drop (i + 1) Cs) v) ◌∷◌ (appended Ass) f h e m0 m1 m2 (at_constructor C lt is) after p
+        (λ _ v. argument_types_leave W ps (drop (i + 1) Cs) v)
 
     pub types_end : length Cs ≤ i → (m0 m1 : Meter) → u ≡ m1.account → IsAfter m0 m1 → Follows whole (Ok (Found Ass)) m0 m1
     types_end ge m0 m1 same after =
@@ -335,6 +346,9 @@ module _ (E : Env) where
   abbrev pub working : List Term → ℕ → Account → Run (Searched (List Member))
   working Ts i u = work_on E 1024 (1024 - i) i Ts (slice_get Ts i) u
 
+  pub working_leaves : (Ts : List Term) (i : ℕ) (u : Account) → Leaves (working Ts i u).end u.left
+  working_leaves Ts i u = work_on_leaves E 1024 (1024 - i) i Ts (slice_get Ts i) u
+
   module _ (whole : Run (Searched (List Member))) (Ts : List Term) (hs : List Member) (i : ℕ) (u : Account) (leads : Leads whole (then_done (working Ts i u) (appended hs))) where
     at_type : (W : Term) → slice_get Ts i ≡ Some W → i < 1024 →
         Leads whole (then_done (with_found (work_type E 1024 Ts W u) (λ p v. then_done (working p.0 (suc i) v) (◌∷◌ p.1))) (appended hs))
@@ -352,6 +366,7 @@ module _ (E : Env) where
         IsAfter m0 m1 → Follows (work_type E 1024 Ts W u) (searched f (Err e)) m1 m2 → Follows whole (searched h (Err e)) m0 m2
     work_lost W at lt f h e m0 m1 m2 after p =
         collect_lost whole (work_type E 1024 Ts W u) (λ p v. working p.0 (suc i) v) (λ p gs. p.1 ∷ gs) (appended hs) f h e m0 m1 m2 (at_type W at lt) after p
+        (λ p v. working_leaves p.0 (suc i) v)
 
     pub work_end : slice_get Ts i ≡ None → (m0 m1 : Meter) → u ≡ m1.account → IsAfter m0 m1 → Follows whole (Ok (Found hs)) m0 m1
     work_end at m0 m1 same after =

@@ -2,7 +2,7 @@
 -- goes on with, then what doesn't stand at its type.
 use Rattle.std.specs.Prelude.{◌≡◌, ℕ, ◌+◌, List, [], ◌∷◌, ◌++◌, length, drop, map, bytes_eq, if◌then◌else◌, Option, Some, None, Result, Ok, Err, IfOk, IfErr, Vec}
 use Rattle.std.specs.declared.alloc.Global.{Global}
-use Rattle.sexp_reader.specs.Text.{Text, Open, Close, Atom, Stray}
+use Rattle.sexp_reader.specs.Text.{Text, Open, Close, Atom}
 use Rattle.sexp_reader.specs.Lex.{Spanned, answer_at, nesting_after_text, tokens_of}
 use Rattle.sexp_reader.specs.declared.Token.{Token}
 use Rattle.sexp_reader.specs.declared.TokenFault.{TokenFault}

@@ -17,6 +17,7 @@ use Rattle.pc_rules.specs.DirectedWeakHead.{whnf}
 use Rattle.pc_rules.specs.DirectedGuard.{recursive_block, walk_under, body_guard, normal_found, passed_argument, argument_found}
 use Rattle.pc_rules.specs.Follows.{Follows}
 use Rattle.pc_rules.proofs.Following.{follows_bind, follows_err, follows_done}
+use Rattle.pc_rules.proofs.Leaving.{leaving}
 
 module _ (E : Env) (V : Values) where
   other_node : (n : Node) (r : ℕ) (m : Meter) → ((A b : Term) → n ≡ node.Lambda A b → ⊥) → Follows (recursive_block E V r (tree_of n) m.account) (Ok None) m m
@@ -30,7 +31,7 @@ module _ (E : Env) (V : Values) where
 
   pub block_stops : (A b : Term) (r : ℕ) (h : Halt) (m0 m1 : Meter) → r ≡ 0 → Follows (whnf E V A m0.account) (Err h) m0 m1 →
       Follows (recursive_block E V r (Lambda A b) m0.account) (Err h) m0 m1
-  block_stops A b zero h m0 m1 e f = follows_err (whnf E V A m0.account) (λ W v. done (head_block (head W)) v) h m0 m1 f
+  block_stops A b zero h m0 m1 e f = follows_err (whnf E V A m0.account) (λ W v. done (head_block (head W)) v) h m0 m1 f (search leaving)
   block_stops A b (suc r) h m0 m1 e f = absurd (omega arith)
 
   pub block_here : (A b W : Term) (r : ℕ) (m0 m1 : Meter) → r ≡ 0 → Follows (whnf E V A m0.account) (Ok W) m0 m1 →
@@ -48,7 +49,7 @@ module _ (E : Env) (V : Values) where
 module _ (E : Env) (V : Values) (M : Marks) (rarg : ℕ) (t : Term) where
   pub body_stops : (h : Halt) (m0 m1 : Meter) → Follows (recursive_block E V rarg t m0.account) (Err h) m0 m1 → Follows (body_guard E V M rarg t m0.account) (Err h) m0 m1
   unfolding body_guard
-  body_stops h m0 m1 f = follows_err (recursive_block E V rarg t m0.account) (λ r v. walk_under E r V M Argument rarg t v) h m0 m1 f
+  body_stops h m0 m1 f = follows_err (recursive_block E V rarg t m0.account) (λ r v. walk_under E r V M Argument rarg t v) h m0 m1 f (search leaving)
 
   pub body_goes : (b : Option Name) (r : Result (Unit {0}) Halt) (m0 m1 m2 : Meter) → Follows (recursive_block E V rarg t m0.account) (Ok b) m0 m1 →
       Follows (walk_under E b V M Argument rarg t m1.account) r m1 m2 → Follows (body_guard E V M rarg t m0.account) r m0 m2
@@ -75,7 +76,7 @@ module _ (E : Env) (block : Option Name) (V : Values) (M : Marks) (o : Option Te
       Follows (argument_found E block V M o m0.account) (Err h) m0 m1
   found_stops a h m0 m1 e f =
       subst (λ o. Follows (argument_found E block V M o m0.account) (Err h) m0 m1) (sym e)
-      (follows_err (normal_found E block V M a m0.account) (λ p v. done p.1 v) h m0 m1 f)
+      (follows_err (normal_found E block V M a m0.account) (λ p v. done p.1 v) h m0 m1 f (search leaving))
 
   pub found_goes : (a : Term) (p : Term × Mark) (m0 m1 : Meter) → o ≡ Some a → Follows (normal_found E block V M a m0.account) (Ok p) m0 m1 →
       Follows (argument_found E block V M o m0.account) (Ok p.1) m0 m1

@@ -11,17 +11,20 @@ use Rattle.pc_rules.specs.declared.stop.Stop.TheVariants.{Memory}
 use Rattle.calculus_rules.specs.Environment.{Env}
 use Rattle.calculus_rules.specs.Context.{Values}
 use Rattle.calculus_rules.specs.Guardedness.{Mark, Recursive, Argument, Smaller, Other, Marks}
-use Rattle.pc_rules.specs.DirectedRun.{Run, done, bind}
+use Rattle.pc_rules.specs.DirectedRun.{Run, done, bind, Leaves}
 use Rattle.pc_rules.specs.DirectedWeakHead.{weak_next, whnf}
 use Rattle.pc_rules.specs.DirectedGuard.{if_smaller, find, smaller_argument, call_argument, call_rule}
 use Rattle.pc_rules.specs.Follows.{Follows}
 use Rattle.pc_rules.proofs.Following.{follows_bind, follows_err, follows_done, follows_refused, follows_memory}
+use Rattle.pc_rules.proofs.Fair.{leaves_bind, same_left}
+use Rattle.pc_rules.proofs.FairRules.{find_leaves, if_smaller_leaves}
+use Rattle.pc_rules.proofs.Leaving.{leaving}
 use Rattle.rule_laws.proofs.Settled.{settled}
 use Rattle.guard_check.specs.declared.mark.Mark.{Mark as Kept}
 use Rattle.guard_check.specs.declared.mark.Mark.TheVariants as kept
 use Rattle.guard_check.specs.declared.tasks.Task.{Task}
 use Rattle.guard_check.specs.Marks.{mark_of, marks_of, values_in, marks_in}
-use Rattle.guard_check.specs.Tasks.{ToFind, to_find, head_mark, branches_to_find, each_smaller}
+use Rattle.guard_check.specs.Tasks.{ToFind, to_find, head_mark, branches_to_find, smaller_then, each_then, each_smaller}
 use Rattle.pc_rules.proofs.SameWithin.{bind_assoc}
 use Rattle.guard_check.proofs.Findings.{found_in, find_by_whnf}
 use Rattle.guard_check.proofs.Heads.{each_append, concluded, normal_concluded, next_then, normal_next}
@@ -29,6 +32,19 @@ use Rattle.guard_check.proofs.Bodies.{map-push}
 
 pub same_run : {A : Type 0} (d d' : Run A) (r : Result A Halt) (m0 m1 : Meter) → d ≡ d' → Follows d' r m0 m1 → Follows d r m0 m1
 same_run d d' r m0 m1 e f = subst (λ x. Follows x r m0 m1) (sym e) f
+
+-- runs over what is to be found never go back on units
+each_then_leaves : (E : Env) (r : Option Name) (xs : List ToFind) (k : Account → Run Mark) → ((v : Account) → Leaves (k v).end v.left) → (u : Account) → Leaves (each_then E r xs k u).end u.left
+each_then_leaves E r [] k h u = h u
+each_then_leaves E r (x ∷ xs) k h u =
+    each_then_leaves E r xs (smaller_then E r x k) (λ v. leaves_bind _ _ _ (find_leaves E r v.left x.values x.marks x.term v) (λ m w. if_smaller_leaves m (k w) w (h w))) u
+
+pub each_smaller_leaves : (E : Env) (r : Option Name) (xs : List ToFind) (u : Account) → Leaves (each_smaller E r xs u).end u.left
+each_smaller_leaves E r xs u = each_then_leaves E r xs (λ v. done Smaller v) same_left u
+
+pub next_leaves : (E : Env) (r : Option Name) (m : Mark) (xs ys : List ToFind) (u : Account) → Leaves (next_then E r m xs ys u).end u.left
+next_leaves E r Smaller xs ys u = each_smaller_leaves E r (xs ++ ys) u
+next_leaves E r m xs ys u = same_left u
 
 module _ (E : Env) (block : Option Name) (V : Values) where
   alone : (a : Kept) (xs : List ToFind) (m : Meter) → (a ≡ kept.Smaller → ⊥) → Follows (concluded E block (mark_of a) xs m.account) (Ok (mark_of a)) m m
@@ -72,7 +88,7 @@ module _ (E : Env) (block : Option Name) where
         same_run (each_smaller E block (map to_find before) m0.account)
         (bind (whnf E (values_in a.scope) a.body m0.account)
         (λ W v. bind (found_in E block (values_in a.scope) (marks_in a.scope) W v) (λ m w. if_smaller m (each_smaller E block (map to_find after) w) w)))
-        (Err h) m0 m1 (popped m0.account) (follows_err _ _ h m0 m1 f)
+        (Err h) m0 m1 (popped m0.account) (follows_err _ _ h m0 m1 f (search (leaving, each_smaller_leaves, next_leaves)))
 
     -- it is reduced, and then what it is decides
     last_goes : (W : Term) (r : Result Mark Halt) (m0 m1 m2 : Meter) → Follows (whnf E (values_in a.scope) a.body m0.account) (Ok W) m0 m1 →
@@ -92,7 +108,7 @@ module _ (E : Env) (block : Option Name) where
     -- there is no memory for the branches
     pub last_memory : (W : Term) (m0 m1 : Meter) → Follows (whnf E (values_in a.scope) a.body m0.account) (Ok W) m0 m1 →
         Follows (each_smaller E block (map to_find before) m0.account) (Err (Stop Memory)) m0 m1
-    last_memory W m0 m1 f = last_goes W (Err (Stop Memory)) m0 m1 m1 f (follows_memory _ m1)
+    last_memory W m0 m1 f = last_goes W (Err (Stop Memory)) m0 m1 m1 f (follows_memory _ m1 (search (leaving, each_smaller_leaves, next_leaves)))
 
     not_smaller : (k : Kept) (xs ys : List ToFind) (m : Meter) → (k ≡ kept.Smaller → ⊥) → Follows (next_then E block (mark_of k) xs ys m.account) (Ok Other) m m
     not_smaller kept.Smaller xs ys m n = absurd (n refl)

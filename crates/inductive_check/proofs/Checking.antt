@@ -18,6 +18,9 @@ use Rattle.pc_rules.specs.Leads.{Leads}
 use Rattle.pc_rules.specs.Stops.{stop_of}
 use Rattle.pc_rules.specs.WellCounted.{IsCounted, AreCounted}
 use Rattle.pc_rules.proofs.Following.{follows_fault}
+use Rattle.pc_rules.proofs.FairReduction.{FairComparison}
+use Rattle.pc_rules.proofs.FairTyping.{FairTyping}
+use Rattle.pc_rules.proofs.Leaving.{leaving}
 use Rattle.inductive_check.proofs.Leading.{leads_along, leads_done, follows_first}
 use Rattle.pc_rules.proofs.ListSteps.{next_is, none_left}
 
@@ -62,17 +65,19 @@ module _ (E : Env) (inf : Typing) (cmp : Comparison) (c : Context) where
       results_next v e =
           leads_done whole (check E inf cmp c t (substitute s A) u) (λ _ w. check_all E inf cmp c (first t s) (drop (i + 1) ts) (drop (i + 1) As) w) tt v then_checked e
 
-      pub results_stop : (h : Halt) (m0 m1 m2 : Meter) → IsAfter m0 m1 → Follows (check E inf cmp c t (substitute s A) u) (Err h) m1 m2 → Follows whole (Err h) m0 m2
-      results_stop h m0 m1 m2 after f =
+      pub results_stop : (h : Halt) (m0 m1 m2 : Meter) → IsAfter m0 m1 → Follows (check E inf cmp c t (substitute s A) u) (Err h) m1 m2 → FairTyping 0 0 inf → FairComparison 0 0 cmp →
+          Follows whole (Err h) m0 m2
+      results_stop h m0 m1 m2 after f hf hg =
           follows_first whole (check E inf cmp c t (substitute s A) u) (λ _ w. check_all E inf cmp c (first t s) (drop (i + 1) ts) (drop (i + 1) As) w) h m0 m1 m2 then_checked after f
+          (search (leaving, hf, hg))
 
 -- the type of an index cannot be made
 pub results_fault : (E : Env) (inf : Typing) (cmp : Comparison) (c : Context) (s : ℕ → Term) (ts As : List Term) (i : ℕ) (t A : Term) → i < length ts → i < length As →
     t ≡ get_or ts i t → A ≡ get_or As i A → (whole : Run (Unit {0})) (m0 m1 : Meter) → Leads whole (check_all E inf cmp c s (drop i ts) (drop i As) m1.account) →
-    IsAfter m0 m1 → (f : MakeFault) → (f ≡ TooDeep → IsBeyond (substitute s A)) → Follows whole (Err (Stop (stop_of f))) m0 m1
-results_fault E inf cmp c s ts As i t A lt lA is iA whole m0 m1 l after f h =
+    IsAfter m0 m1 → (f : MakeFault) → (f ≡ TooDeep → IsBeyond (substitute s A)) → FairTyping 0 0 inf → FairComparison 0 0 cmp → Follows whole (Err (Stop (stop_of f))) m0 m1
+results_fault E inf cmp c s ts As i t A lt lA is iA whole m0 m1 l after f h hf hg =
     follows_first whole (make (substitute s A) m1.account) (rest E inf cmp c s t (drop (i + 1) ts) (drop (i + 1) As)) (Stop (stop_of f)) m0 m1 m1
-    (made_first E inf cmp c s ts As i m1.account t A lt lA is iA whole l) after (follows_fault (substitute s A) f m1 h)
+    (made_first E inf cmp c s ts As i m1.account t A lt lA is iA whole l) after (follows_fault (substitute s A) f m1 h) (search (leaving, hf, hg))
 
 -- one more term is put in
 pub first_put : (E : Env) (inf : Typing) (cmp : Comparison) (c : Context) (xs : List Term) (t : Term) (s : ℕ → Term) (ts As : List Term) (u : Account) →

@@ -16,6 +16,8 @@ use Rattle.pc_rules.specs.DirectedDeclarations.{constructor_rule, constructors_r
 use Rattle.pc_rules.specs.Follows.{Follows, IsAfter}
 use Rattle.pc_rules.specs.Leads.{Leads}
 use Rattle.pc_rules.specs.WellCounted.{AreCounted, AreCountedFamilies}
+use Rattle.pc_rules.proofs.FairReduction.{FairComparison}
+use Rattle.pc_rules.proofs.FairTyping.{FairTyping, constructors_leave, families_leave}
 use Rattle.rule_laws.specs.Declarations.{ConstructorsFormed, FamiliesFormed}
 use Rattle.rule_laws.proofs.MatchRule.{all_formed}
 use Rattle.inductive_check.specs.Given.{ctor_of, family_of}
@@ -64,10 +66,11 @@ module _ (H : Env) (q : Test) (inf : Typing) (cmp : Comparison) (B : Block) (F :
           (λ D. D) D v (leads_along whole _ _ one_then l) e
 
       pub constructors_stop : (h : Halt) (m0 m1 m2 : Meter) → Constructing whole n u out → IsAfter m0 m1 →
-          Follows (constructor_rule H q inf cmp B F f n (ctor_of c) u) (Err h) m1 m2 → Follows whole (Err h) m0 m2
-      constructors_stop h m0 m1 m2 l after stops =
+          Follows (constructor_rule H q inf cmp B F f n (ctor_of c) u) (Err h) m1 m2 → FairTyping 0 0 inf → FairComparison 0 0 cmp → Follows whole (Err h) m0 m2
+      constructors_stop h m0 m1 m2 l after stops hf hg =
           collect_first whole out (constructor_rule H q inf cmp B F f n (ctor_of c) u) (λ D v. constructors_rule H q inf cmp B F f (n + 1) (map ctor_of (drop (n + 1) cs)) v)
           (λ D. D) h m0 m1 m2 (leads_along whole _ _ one_then l) after stops
+          (λ D v. constructors_leave H q inf cmp hf hg B F f (n + 1) (map ctor_of (drop (n + 1) cs)) v)
 
 -- families
 
@@ -122,7 +125,8 @@ module _ (H : Env) (q : Test) (inf : Typing) (cmp : Comparison) (B : Block) (fs 
           collect_next whole out one_family (λ Cs v. families_rule H q inf cmp B (n + 1) (map family_of (drop (n + 1) fs)) v) (λ Cs. with_constructors (family_of f) Cs) Cs v
           (leads_along whole _ _ family_then l) e
 
-      pub families_stop : (h : Halt) (m0 m1 m2 : Meter) → Declaring whole n u out → IsAfter m0 m1 → Follows one_family (Err h) m1 m2 → Follows whole (Err h) m0 m2
-      families_stop h m0 m1 m2 l after stops =
+      pub families_stop : (h : Halt) (m0 m1 m2 : Meter) → Declaring whole n u out → IsAfter m0 m1 → Follows one_family (Err h) m1 m2 → FairTyping 0 0 inf → FairComparison 0 0 cmp →
+          Follows whole (Err h) m0 m2
+      families_stop h m0 m1 m2 l after stops hf hg =
           collect_first whole out one_family (λ Cs v. families_rule H q inf cmp B (n + 1) (map family_of (drop (n + 1) fs)) v) (λ Cs. with_constructors (family_of f) Cs) h m0 m1 m2
-          (leads_along whole _ _ family_then l) after stops
+          (leads_along whole _ _ family_then l) after stops (λ Cs v. families_leave H q inf cmp hf hg B (n + 1) (map family_of (drop (n + 1) fs)) v)

@@ -14,7 +14,7 @@ use Rattle.pc_rules.specs.declared.meter.Account.{Account}
 use Rattle.pc_rules.specs.declared.meter.Meter.{Meter}
 use Rattle.pc_rules.specs.declared.stop.Halt.{Halt}
 use Rattle.pc_rules.specs.declared.stop.Halt.TheVariants.{Stop}
-use Rattle.pc_rules.specs.declared.stop.Stop.TheVariants.{Spent}
+use Rattle.pc_rules.specs.declared.stop.Stop.TheVariants.{Spent, Memory}
 use Rattle.calculus_rules.specs.Environment.{Env}
 use Rattle.calculus_rules.specs.Same.{same_names}
 use Rattle.calculus_rules.specs.Naming.{names}
@@ -24,10 +24,11 @@ use Rattle.calculus_rules.specs.Lookups.{kept_at, whole_block}
 use Rattle.pc_rules.specs.DirectedPositivity.{Nesting, both, own_arguments, given_parameters, family_good, argument_good, good, arguments_good, families_good, nestable}
 use Rattle.pc_rules.specs.Follows.{Follows}
 use Rattle.pc_rules.proofs.SameWithin.{Agrees}
-use Rattle.pc_rules.proofs.Following.{follows_tick, follows_spent}
+use Rattle.pc_rules.proofs.Following.{follows_tick, follows_spent, follows_memory}
+use Rattle.pc_rules.proofs.FairPositivity.{good_leaves, nestable_leaves}
 use Rattle.inductive_check.specs.Waiting.{Waiting, type_waits, argument_waits, arguments_waiting, families_waiting, one_test, each_then, each_test, Goes}
 use Rattle.inductive_check.proofs.Nesting.{agrees_less, agrees_both, good_fuel}
-use Rattle.inductive_check.proofs.InTurn.{both_assoc, yes_both, no_both, each_append, last_test, families_wait, arguments_wait, each_agrees}
+use Rattle.inductive_check.proofs.InTurn.{both_assoc, yes_both, no_both, both_leaves, each_append, last_test, families_wait, arguments_wait, each_agrees, each_leaves}
 
 absurd_true : {A : Type 0} → true ≡ false → A
 absurd_true e = absurd (cc)
@@ -222,6 +223,16 @@ module _ (E : Env) (before : List Waiting) (g : Target) (j : ℕ) (B : Block) (i
     after_unit m0 m1 d r n p q s t f =
         subst (λ d. Follows d r m0 n) (sym (takes_unit m0.account))
         (follows_tick (rest m0.account.left) r m0 m1 n p q s (subst (λ d. Follows d r m1 n) (sym t) f))
+
+    -- there is no memory behind the unit
+    pub no_memory_left : (m0 m1 : Meter) → 0 < m0.account.left → m1.account ≡ ticked m0.account → m1.nest ≡ m0.nest → Follows (each_test E all m0.account) (Err (Stop Memory)) m0 m1
+    no_memory_left m0 m1 p q s =
+        let n : ℕ = m0.account.left in
+        let v : Account = m1.account in
+        after_unit m0 m1 (rest n v) (Err (Stop Memory)) m1 p q s refl
+        (follows_memory (rest n v) m1
+        (both_leaves (both (nestable E n B i v) (good E (nestable E n) g j a)) (each_test E before) v.left
+        (both_leaves (nestable E n B i v) (good E (nestable E n) g j a) v.left (nestable_leaves E n B i v) (good_leaves E n g j a)) (each_leaves E before)))
 
     more_fuel : (m0 m1 : Meter) → 0 < m0.account.left → m1.account ≡ ticked m0.account → m0.account.left ≡ suc m1.account.left
     more_fuel m0 m1 p q = let e : m1.account.left ≡ m0.account.left - 1 = ap (λ u. u.left) q in omega arith

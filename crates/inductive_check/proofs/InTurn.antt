@@ -7,8 +7,9 @@ use Rattle.calculus_rules.specs.declared.declaration.Block.{Block}
 use Rattle.calculus_rules.specs.declared.target.Target.{Target}
 use Rattle.pc_rules.specs.declared.meter.Account.{Account}
 use Rattle.calculus_rules.specs.Environment.{Env}
-use Rattle.pc_rules.specs.DirectedRun.{Run, done, bind}
+use Rattle.pc_rules.specs.DirectedRun.{Run, done, bind, Leaves}
 use Rattle.pc_rules.specs.DirectedPositivity.{both, argument_good, good, arguments_good, types_good, constructors_good, families_good, nestable}
+use Rattle.pc_rules.proofs.Fair.{leaves_bind, leaves_if, same_left}
 use Rattle.pc_rules.proofs.SameWithin.{Agrees, agrees_at, agrees_from, bind_assoc}
 use Rattle.pc_rules.proofs.Following.{bind_done}
 use Rattle.inductive_check.specs.Waiting.{Waiting, type_waits, argument_waits, arguments_waiting, types_waiting, constructors_waiting, families_waiting, one_test, each_then, each_test}
@@ -29,6 +30,9 @@ yes_both u k = bind_done true u (λ b v. if b then k v else done false v)
 
 pub no_both : (u : Account) (k : Account → Run Bool) → both (done false u) k ≡ done false u
 no_both u k = bind_done false u (λ b v. if b then k v else done false v)
+
+pub both_leaves : (r : Run Bool) (k : Account → Run Bool) (n : ℕ) → Leaves r.end n → ((v : Account) → Leaves (k v).end v.left) → Leaves (both r k).end n
+both_leaves r k n h q = leaves_bind r (λ b v. if b then k v else done false v) n h (λ b v. leaves_if b (k v) (done false v) v.left (q v) (same_left v))
 
 module _ (E : Env) where
   -- each of two lists, of which the second comes first
@@ -110,3 +114,7 @@ module _ (E : Env) where
       same = λ u l. refl;
       falls = λ u l. (argument_fuel E u.left g j B i a).falls u (omega arith);
     }
+
+pub each_leaves : (E : Env) (xs : List Waiting) (u : Account) → Leaves (each_test E xs u).end u.left
+each_leaves E xs u =
+    (each_agrees E (suc u.left) (λ u. done true u) (record { same = λ u l. refl; falls = λ u l. omega arith }) xs).falls u (omega arith)

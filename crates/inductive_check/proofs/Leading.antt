@@ -6,11 +6,12 @@ use Rattle.pc_rules.specs.declared.meter.Meter.{Meter}
 use Rattle.pc_rules.specs.declared.stop.Stop.TheVariants.{Spent, TooDeep, Memory}
 use Rattle.pc_rules.specs.declared.stop.Halt.{Halt}
 use Rattle.pc_rules.specs.declared.stop.Halt.TheVariants.{Stop, Broken as Refusal}
-use Rattle.pc_rules.specs.DirectedRun.{Run, End, Done, Refused, NoUnit, Nested, done, bind, end_then, deep_then}
+use Rattle.pc_rules.specs.DirectedRun.{Run, End, Done, Refused, NoUnit, Nested, done, bind, end_then, deep_then, Leaves}
 use Rattle.pc_rules.specs.Follows.{Follows, IsAfter, Answers}
 use Rattle.pc_rules.specs.Leads.{Leads}
 use Rattle.pc_rules.proofs.Meters.{after-refl, after-trans}
-use Rattle.pc_rules.proofs.Following.{bind_end, bind_deep, follows_bind, follows_err, bind_done}
+use Rattle.pc_rules.proofs.Fair.{leaves_bind, same_left}
+use Rattle.pc_rules.proofs.Following.{bind_end, bind_deep, follows_bind, follows_err, follows_memory, follows_still, bind_done, leaves_at, leads_leave}
 
 end_assoc : {A B C : Type 0} (e : End A) (f : A → Account → End B) (g : B → Account → End C) →
     end_then (end_then e f) g ≡ end_then e (λ a u. end_then (f a u) g)
@@ -73,16 +74,20 @@ answers_leads whole rest (Err (Refusal b)) u l h = l.end ∙ h
 
 pub follows_leads : {A : Type 0} (whole rest : Run A) (r : Result A Halt) (m0 m1 m2 : Meter) → Leads whole rest → IsAfter m0 m1 → Follows rest r m1 m2 → Follows whole r m0 m2
 follows_leads whole rest r m0 m1 m2 l after f =
-    record { answer = answers_leads whole rest r m2.account l f.answer; after = after-trans m0 m1 m2 after f.after }
+    record { answer = answers_leads whole rest r m2.account l f.answer; after = after-trans m0 m1 m2 after f.after; leaves = leads_leave whole rest m2.account.left l f.leaves }
 
 -- the first part of the rest is refused or stops
 pub follows_first : {A B : Type 0} (whole : Run B) (d : Run A) (k : A → Account → Run B) (h : Halt) (m0 m1 m2 : Meter) → Leads whole (bind d k) → IsAfter m0 m1 →
-    Follows d (Err h) m1 m2 → Follows whole (Err h) m0 m2
-follows_first whole d k h m0 m1 m2 l after f = follows_leads whole (bind d k) (Err h) m0 m1 m2 l after (follows_err d k h m1 m2 f)
+    Follows d (Err h) m1 m2 → ((a : A) (u : Account) → Leaves (k a u).end u.left) → Follows whole (Err h) m0 m2
+follows_first whole d k h m0 m1 m2 l after f q = follows_leads whole (bind d k) (Err h) m0 m1 m2 l after (follows_err d k h m1 m2 f q)
+
+-- there is no memory for the rest, which never goes back on units
+pub follows_wanting : {A : Type 0} (whole rest : Run A) (m0 m1 : Meter) → Leads whole rest → IsAfter m0 m1 → Leaves rest.end m1.account.left → Follows whole (Err (Stop Memory)) m0 m1
+follows_wanting whole rest m0 m1 l after q = follows_leads whole rest (Err (Stop Memory)) m0 m1 m1 l after (follows_memory rest m1 q)
 
 -- all is done
 pub follows_end : {A : Type 0} (whole : Run A) (a : A) (m0 m1 : Meter) → Leads whole (done a m1.account) → IsAfter m0 m1 → Follows whole (Ok a) m0 m1
-follows_end whole a m0 m1 l after = record { answer = l.end; after = after }
+follows_end whole a m0 m1 l after = record { answer = l.end; after = after; leaves = leads_leave whole (done a m1.account) m1.account.left l (same_left m1.account) }
 
 -- lists that are collected: what is found of the first, and the rest
 
@@ -108,9 +113,10 @@ module _ {A B : Type 0} (whole : Run (List B)) (out : List B) (one : Run A) (res
       (leads_done whole one (λ a v. bind (found a v) (λ bs w. done (out ++ bs) w)) a v (leads_along whole _ _ regrouped l) e)
 
   pub collect_first : (h : Halt) (m0 m1 m2 : Meter) → Leads whole (bind (bind one found) (λ bs w. done (out ++ bs) w)) → IsAfter m0 m1 → Follows one (Err h) m1 m2 →
-      Follows whole (Err h) m0 m2
-  collect_first h m0 m1 m2 l after f =
+      ((a : A) (v : Account) → Leaves (rest a v).end v.left) → Follows whole (Err h) m0 m2
+  collect_first h m0 m1 m2 l after f q =
       follows_first whole one (λ a v. bind (found a v) (λ bs w. done (out ++ bs) w)) h m0 m1 m2 (leads_along whole _ _ regrouped l) after f
+      (λ a v. leaves_bind (found a v) (λ bs w. done (out ++ bs) w) v.left (leaves_bind (rest a v) (λ bs w. done (g a ∷ bs) w) v.left (q a v) (λ bs w. same_left w)) (λ bs w. same_left w))
 
 pub collect_end : {B : Type 0} (whole : Run (List B)) (out : List B) (d : Run (List B)) (m0 m1 : Meter) → d ≡ done [] m1.account →
     Leads whole (bind d (λ bs w. done (out ++ bs) w)) → IsAfter m0 m1 → Follows whole (Ok out) m0 m1
@@ -122,9 +128,9 @@ collect_end whole out d m0 m1 e l after =
 
 pub still_bind : {A B : Type 0} (d : Run A) (k : A → Account → Run B) (a : A) (r : Result B Halt) (m0 m1 : Meter) → Answers d (Ok a) m0.account →
     Follows (k a m0.account) r m0 m1 → Follows (bind d k) r m0 m1
-still_bind d k a r m0 m1 h f = follows_bind d k a r m0 m0 m1 (record { answer = h; after = after-refl m0 }) f
+still_bind d k a r m0 m1 h f = follows_bind d k a r m0 m0 m1 (record { answer = h; after = after-refl m0; leaves = leaves_at d (Done a m0.account) m0.account.left h (same_left m0.account) }) f
 
-pub still_stops : {A : Type 0} (d : Run A) (h : Halt) (m : Meter) → Answers d (Err h) m.account → Follows d (Err h) m m
-still_stops d h m e = record { answer = e; after = after-refl m }
+pub still_stops : {A : Type 0} (d : Run A) (h : Halt) (m : Meter) → Answers d (Err h) m.account → Leaves d.end m.account.left → Follows d (Err h) m m
+still_stops d h m e l = follows_still d (Err h) m e l
 
 pub ruleset after_laws = (after-refl, after-trans)

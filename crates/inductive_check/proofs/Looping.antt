@@ -15,6 +15,7 @@ use Rattle.pc_rules.specs.DirectedPositivity.{both, good, nestable, is_positive}
 use Rattle.pc_rules.specs.DirectedDeclarations.{positive_rule}
 use Rattle.pc_rules.specs.Follows.{Follows}
 use Rattle.pc_rules.proofs.Following.{follows_bind, follows_err, follows_done, follows_refused}
+use Rattle.pc_rules.proofs.Leaving.{leaving}
 use Rattle.inductive_check.proofs.Leading.{bind_unit}
 use Rattle.inductive_check.specs.declared.waiting.Test.{Test}
 use Rattle.inductive_check.specs.Waiting.{Waiting, waiting, type_waits, each_test, Goes}
@@ -68,7 +69,7 @@ module _ (E : Env) (k : Name) (f n : ℕ) (A : Term) where
   rule_then b v = if b then done tt v else refused (NotPositive f n) v
 
   pub positive_stops : (h : Halt) (m0 m1 : Meter) → Follows (is_positive E k A m0.account) (Err h) m0 m1 → Follows (positive_rule E k f n A m0.account) (Err h) m0 m1
-  positive_stops h m0 m1 p = follows_err (is_positive E k A m0.account) rule_then h m0 m1 p
+  positive_stops h m0 m1 p = follows_err (is_positive E k A m0.account) rule_then h m0 m1 p (search leaving)
 
   pub positive_holds : (b : Bool) (m0 m1 : Meter) → b ≡ true → Follows (is_positive E k A m0.account) (Ok b) m0 m1 → Follows (positive_rule E k f n A m0.account) (Ok tt) m0 m1
   positive_holds true m0 m1 e p = follows_bind (is_positive E k A m0.account) rule_then true (Ok tt) m0 m1 m1 p (follows_done tt m1)

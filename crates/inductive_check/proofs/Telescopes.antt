@@ -20,6 +20,7 @@ use Rattle.inductive_check.specs.Arguments.{argument_rule, entries_rule}
 use Rattle.inductive_check.proofs.Leading.{bind_assoc, leads_along, collect_next, collect_first}
 use Rattle.pc_rules.proofs.ListSteps.{next_is, none_left}
 use Rattle.pc_rules.proofs.Following.{bind_done}
+use Rattle.pc_rules.proofs.FairTyping.{FairTyping, arguments_leave}
 
 -- the context is longer by an entry, and what is left of the telescope is shorter
 pub extend_next : (c : Context) (As : List Term) (i : ℕ) (A : Term) → i < length As → A ≡ get_or As i A →
@@ -101,10 +102,10 @@ module _ (H : Env) (q : Test) (inf : Typing) (k : Name) (f n : ℕ) (r : Sort) (
         (leads_along whole _ _ one_then l) e
 
     pub arguments_stop : (h : Halt) (m0 m1 m2 : Meter) → Collecting c (drop i As) u out → IsAfter m0 m1 →
-        Follows (argument_rule H q inf k f n r c A u) (Err h) m1 m2 → Follows whole (Err h) m0 m2
-    arguments_stop h m0 m1 m2 l after stops =
+        Follows (argument_rule H q inf k f n r c A u) (Err h) m1 m2 → FairTyping 0 0 inf → Follows whole (Err h) m0 m2
+    arguments_stop h m0 m1 m2 l after stops hf =
         collect_first whole out (argument_rule H q inf k f n r c A u) (λ s x. arguments_rule H q inf k f n r (Assumed A ∷ c) (drop (i + 1) As) x) (λ s. s) h m0 m1 m2
-        (leads_along whole _ _ one_then l) after stops
+        (leads_along whole _ _ one_then l) after stops (λ s x. arguments_leave H q inf hf k f n r (Assumed A ∷ c) (drop (i + 1) As) x)
 
 -- an entry of a well-counted type is put in
 pub assumed_counted : (E : Env) (c d : Context) (A : Term) → d ≡ Assumed A ∷ c → IsCounted E A → IsCountedContext E c → IsCountedContext E d

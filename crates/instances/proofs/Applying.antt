@@ -1,11 +1,12 @@
 -- Terms applied to variables and to lifted terms.
 use Rattle.std.proofs.Common.{◌≡◌, ℕ, zero, suc, ◌∙◌, ◌+◌, ◌-◌, ◌<◌, ◌≤◌, inl, inr, List, [], ◌∷◌, ◌++◌, length, map, append_assoc, refl, ap, arith}
+use Rattle.std.proofs.lemmas.Bool.{or_cases}
 use Rattle.std.specs.Bool.{IsTrue}
 use Rattle.trees.specs.Measures.{depth, IsBeyond}
 use Rattle.pc_terms.specs.Syntax.{Term, Rel, App, apply, shift, variables}
 use Rattle.pc_terms.proofs.Applied.{beyond-apply}
 use Rattle.pc_rules.specs.DirectedRun.{is_beyond, any_beyond}
-use Rattle.instances.proofs.Beyond.{one_true, true_beyond}
+use Rattle.instances.proofs.Beyond.{true_beyond}
 use Rattle.pc_rules.proofs.SearchRuns.{variables_long}
 
 -- a term is beyond the limits where it is applied to one that is
@@ -15,7 +16,7 @@ wider f a (inr e) = inr (omega arith)
 
 pub apply-any_beyond : (f : Term) (xs : List Term) → IsTrue (any_beyond xs) → IsBeyond (apply f xs)
 apply-any_beyond f [] e = cc
-apply-any_beyond f (x ∷ xs) e = elim (one_true (is_beyond x) (any_beyond xs) e) [
+apply-any_beyond f (x ∷ xs) e = elim (or_cases (is_beyond x) (any_beyond xs) e) [
   | inl h ↦ beyond-apply (App f x) xs (wider f x (true_beyond x h))
   | inr h ↦ apply-any_beyond (App f x) xs h
 ]

@@ -1,25 +1,21 @@
 -- The limits as facts and as tests, of terms and of lists of terms.
-use Rattle.std.proofs.Common.{◌≡◌, ℕ, zero, suc, ◌<◌, ◌^◌, ◌||◌, ◌⊎◌, inl, inr, Bool, true, false, List, [], ◌∷◌, ◌++◌, length, get_or, nat_lt, map, refl, subst as along, arith}
+use Rattle.std.proofs.Common.{◌≡◌, ℕ, zero, suc, ◌<◌, ◌^◌, inl, inr, true, false, List, [], ◌∷◌, ◌++◌, length, get_or, nat_lt, map, subst as along, arith}
 use Rattle.std.specs.Bool.{IsTrue}
-use Rattle.std.proofs.lemmas.Bool.{ltb-true}
+use Rattle.std.proofs.lemmas.Bool.{ltb-true, or_cases}
 use Rattle.trees.specs.Measures.{depth, above, IsBeyond}
 use Rattle.pc_terms.specs.Syntax.{Term}
 use Rattle.pc_rules.specs.DirectedRun.{is_beyond, any_beyond}
 use Rattle.pc_rules.proofs.Following.{beyond_is, or_left, or_right}
 
-pub one_true : (a b : Bool) → IsTrue (a || b) → IsTrue a ⊎ IsTrue b
-one_true true b e = inl refl
-one_true false b e = inr e
-
 pub true_beyond : (t : Term) → IsTrue (is_beyond t) → IsBeyond t
-true_beyond t e = elim (one_true (nat_lt 2048 (depth t)) (nat_lt (2 ^ 32) (above t)) e) [
+true_beyond t e = elim (or_cases (nat_lt 2048 (depth t)) (nat_lt (2 ^ 32) (above t)) e) [
   | inl h ↦ inl (ltb-true 2048 (depth t) h)
   | inr h ↦ inr (ltb-true (2 ^ 32) (above t) h)
 ]
 
 pub any_beyond-left : (xs ys : List Term) → IsTrue (any_beyond xs) → IsTrue (any_beyond (xs ++ ys))
 any_beyond-left [] ys e = cc
-any_beyond-left (x ∷ xs) ys e = elim (one_true (is_beyond x) (any_beyond xs) e) [
+any_beyond-left (x ∷ xs) ys e = elim (or_cases (is_beyond x) (any_beyond xs) e) [
   | inl h ↦ or_left (is_beyond x) (any_beyond (xs ++ ys)) h
   | inr h ↦ or_right (is_beyond x) (any_beyond (xs ++ ys)) (any_beyond-left xs ys h)
 ]

@@ -5,9 +5,9 @@ use Rattle.trees.specs.Measures.{depth, IsBeyond}
 use Rattle.pc_terms.specs.Syntax.{Term, Prod}
 use Rattle.calculus_rules.specs.Instances.{products}
 
-pub products-append : (As Bs : List Term) (T : Term) → products (As ++ Bs) T ≡ products As (products Bs T)
-products-append [] Bs T = refl
-products-append (A ∷ As) Bs T = ap (Prod A) (products-append As Bs T)
+products-last : (As : List Term) (A T : Term) → products (As ++ (A ∷ [])) T ≡ products As (Prod A T)
+products-last [] A T = refl
+products-last (B ∷ As) A T = ap (Prod B) (products-last As A T)
 
 -- a product is beyond the limits where its end is
 wider : (A B : Term) → IsBeyond B → IsBeyond (Prod A B)
@@ -34,5 +34,5 @@ products-next As n i A T is e l =
     let f : n - i ≡ (n - (i + 1)) + 1 = omega arith in
     let h : n - (i + 1) < length As = omega arith in
     sym (ap (λ m. products (take m As) T) f ∙ ap (λ Bs. products Bs T) (take_more As (n - (i + 1)) A h)
-    ∙ products-append (take (n - (i + 1)) As) (get_or As (n - (i + 1)) A ∷ []) T
+    ∙ products-last (take (n - (i + 1)) As) (get_or As (n - (i + 1)) A) T
     ∙ ap (λ B. products (take (n - (i + 1)) As) (Prod B T)) (sym (is ∙ ap (λ m. get_or As m A) d)))

@@ -9,6 +9,8 @@ use Rattle.pc_rules.specs.DirectedRun.{Done}
 use Rattle.pc_rules.specs.DirectedTyping.{infer}
 use Rattle.pc_rules.specs.Entailment.{test_of}
 use Rattle.pc_rules.specs.Follows.{Follows, IsAfter}
+use Rattle.pc_rules.proofs.Fair.{same_left}
+use Rattle.pc_rules.proofs.Following.{leaves_at}
 use Rattle.run_costs.specs.Costs.{differences, AreUnder, spent}
 use Rattle.run_costs.specs.Laws.{InferenceIsMeasured}
 use Rattle.known_types.specs.Knowing.{IsRun, IsKnown, Gives}
@@ -19,14 +21,18 @@ use Rattle.known_types.proofs.Counts.{uses_rise, within_under}
 given : InferenceIsMeasured → (E : Env) (c : Context) (k n : ℕ) → k ≤ n → (t T : Term) (u v : Account) → IsRun E c k t T u v → AreUnder v.uses → (m0 m1 : Meter) →
     u.left - v.left ≤ m0.account.left → AreUnder m0.account.uses → length u.uses ≡ length m0.account.uses →
     m1.account ≡ spent (u.left - v.left) (differences v.uses u.uses) m0.account → m1.nest ≡ m0.nest → Follows (infer E (test_of E) n c t m0.account) (Ok T) m0 m1
-given law E c k n l t T u v run under m0 m1 enough free counts e nest = record {
-  answer = law E (test_of E) k n l c t u v m0.account T run under (within_under m0.account.uses free) counts enough ∙ ap (λ a. Done T a) (sym e);
-  after = record {
-    nest = nest;
-    left = rw e (omega arith);
-    uses = λ i. rw e (uses_rise (differences v.uses u.uses) m0.account.uses i free);
-  };
-}
+given law E c k n l t T u v run under m0 m1 enough free counts e nest =
+    let d = infer E (test_of E) n c t m0.account in
+    let a : d.end ≡ Done T m1.account = law E (test_of E) k n l c t u v m0.account T run under (within_under m0.account.uses free) counts enough ∙ ap (λ a. Done T a) (sym e) in
+    record {
+      answer = a;
+      after = record {
+        nest = nest;
+        left = rw e (omega arith);
+        uses = λ i. rw e (uses_rise (differences v.uses u.uses) m0.account.uses i free);
+      };
+      leaves = leaves_at d (Done T m1.account) m1.account.left a (same_left m1.account);
+    }
 
 pub given_again : InferenceIsMeasured → (v w : World) (k n : ℕ) → k ≤ n → (s t T U : Term) (a b a' b' : Account) → IsKnown v k s T a b → v.env ≡ w.env → v.ctx ≡ w.ctx → s ≡ t → U ≡ T → a' ≡ a → b' ≡ b →
     (m0 m1 : Meter) → a'.left - b'.left ≤ m0.account.left → AreUnder m0.account.uses → length a'.uses ≡ length m0.account.uses →

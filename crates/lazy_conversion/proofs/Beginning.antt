@@ -10,17 +10,20 @@ use Rattle.pc_rules.specs.declared.stop.Halt.TheVariants.{Stop}
 use Rattle.calculus_rules.specs.Environment.{Env}
 use Rattle.calculus_rules.specs.Context.{Context, Values, values}
 use Rattle.calculus_rules.specs.Same.{same}
-use Rattle.pc_rules.specs.DirectedRun.{Run, ticked, is_beyond, bind}
+use Rattle.pc_rules.specs.DirectedRun.{Run, ticked, is_beyond, bind, Leaves}
 use Rattle.pc_rules.specs.DirectedWeakHead.{whnf}
 use Rattle.pc_rules.specs.DirectedComparison.{Test, Comparison, compare, entered, pair}
 use Rattle.pc_rules.specs.Follows.{Follows, IsAfter}
 use Rattle.pc_rules.proofs.Following.{or_left, or_right, beyond_is, follows_done}
 use Rattle.pc_rules.proofs.Meters.{after-refl, after-trans, after-tick}
+use Rattle.pc_rules.proofs.FairReduction.{FairComparison}
+use Rattle.pc_rules.proofs.Leaving.{leaving}
+use Rattle.std.proofs.lemmas.Bool.{or_cases}
 use Rattle.instances.proofs.Beyond.{true_beyond}
 use Rattle.conversion.proofs.Comparing.{compare_spent, compare_nested, compare_entered}
 use Rattle.reduce_machine.specs.Passed.{having_passed}
 use Rattle.lazy_conversion.specs.Tracks.{Tracks, EitherBeyond}
-use Rattle.lazy_conversion.proofs.Tracking.{or_cases, passed_more, passed_bind, passed_err, passed_entered, followed, tracks_by, tracks_each}
+use Rattle.lazy_conversion.proofs.Tracking.{passed_more, passed_bind, passed_err, passed_entered, followed, tracks_by, tracks_each}
 
 -- how a meter is left where a rule was entered and left
 whole_after : (m0 m1 m2 m3 m4 : Meter) → m1.account ≡ ticked m0.account → m1.nest ≡ m0.nest → m2.account ≡ m1.account → m2.nest ≡ m1.nest + 1 → IsAfter m2 m3 →
@@ -83,24 +86,27 @@ module _ (E : Env) (q : Test) (cmp : Comparison) (V : Values) (equal : Bool) (a 
     reduced_first : (c : Context) (u : Account) → values c ≡ V → entered E q cmp c equal a b u ≡ bind (whnf E V a u) (then_pair c)
     reduced_first c u e = rw (no, e) refl
 
+    then_leaves : FairComparison 0 0 cmp → (c : Context) (x : Term) (u : Account) → Leaves (then_pair c x u).end u.left
+    then_leaves g c x u = search (leaving, g)
+
     passed_start : (p : Bool) (t : Term) → (IsBeyond t → IsTrue p) → IsTrue (is_beyond t) → IsTrue p
     passed_start p t h e = h (true_beyond t e)
 
-    pub left_stops : (x : Halt) (m0 m1 : Meter) → Follows (having_passed (is_beyond a) (whnf E V a m0.account)) (Err x) m0 m1 → Tracks V (EitherBeyond a b) entering_pair (Err x) m0 m1
-    left_stops x m0 m1 f =
+    pub left_stops : FairComparison 0 0 cmp → (x : Halt) (m0 m1 : Meter) → Follows (having_passed (is_beyond a) (whnf E V a m0.account)) (Err x) m0 m1 → Tracks V (EitherBeyond a b) entering_pair (Err x) m0 m1
+    left_stops g x m0 m1 f =
         tracks_by entering_pair (Err x) m0 m1 f.after
         (λ c p e h. rw (reduced_first c m0.account e) (passed_err p (whnf E V a m0.account) (then_pair c) x m0 m1
-        (passed_more (is_beyond a) p (whnf E V a m0.account) (Err x) m0 m1 (passed_start p a (λ k. h (inl k))) f)))
+        (passed_more (is_beyond a) p (whnf E V a m0.account) (Err x) m0 m1 (passed_start p a (λ k. h (inl k))) f) (then_leaves g c)))
 
     module _ (x : Term) (m0 m1 : Meter) (f : Follows (having_passed (is_beyond a) (whnf E V a m0.account)) (Ok x) m0 m1) where
-      pub right_stops : (y : Halt) (m2 : Meter) → Follows (having_passed (is_beyond b) (whnf E V b m1.account)) (Err y) m1 m2 → Tracks V (EitherBeyond a b) entering_pair (Err y) m0 m2
-      right_stops y m2 g =
+      pub right_stops : FairComparison 0 0 cmp → (y : Halt) (m2 : Meter) → Follows (having_passed (is_beyond b) (whnf E V b m1.account)) (Err y) m1 m2 → Tracks V (EitherBeyond a b) entering_pair (Err y) m0 m2
+      right_stops fair y m2 g =
           let l = (whnf E V a m0.account).deep in
           tracks_by entering_pair (Err y) m0 m2 (after-trans m0 m1 m2 f.after g.after)
           (λ c p e h. rw (reduced_first c m0.account e) (passed_bind p (whnf E V a m0.account) (then_pair c) x (Err y) m0 m1 m2
           (passed_more (is_beyond a) p (whnf E V a m0.account) (Ok x) m0 m1 (passed_start p a (λ k. h (inl k))) f)
           (passed_err (p || l) (whnf E V b m1.account) (λ z w. pair E q cmp c equal x z w) y m1 m2
-          (passed_more (is_beyond b) (p || l) (whnf E V b m1.account) (Err y) m1 m2 (passed_start (p || l) b (λ k. or_left p l (h (inr k)))) g))))
+          (passed_more (is_beyond b) (p || l) (whnf E V b m1.account) (Err y) m1 m2 (passed_start (p || l) b (λ k. or_left p l (h (inr k)))) g) (search (leaving, fair)))))
 
       either_deep : (p o l : Bool) (t : Term) → (IsTrue (is_beyond t) → IsTrue (o || l)) → (IsTrue o → IsTrue p) → IsBeyond t → IsTrue (p || l)
       either_deep p o l t f g h = elim (or_cases o l (f (beyond_is t h))) [

@@ -1,7 +1,7 @@
 -- What a comparison of lists, spines, matches and fixpoints answers, from its parts.
 use Rattle.std.proofs.Common.{◌≡◌, ◌∙◌, ap, refl, ℕ, suc, ◌<◌, ◌≤◌, ◌+◌, ◌==◌, ◌&&◌, min, ◌⊎◌, inl, inr, Result, Ok, Err, Bool, true, false, List, [], ◌∷◌, ◌++◌, length, drop, get_or, Some, None, length-append, map, arith}
 use Rattle.trees.specs.Tree.{terms_of}
-use Rattle.pc_terms.specs.Syntax.{Term, Ind, apply, over, put_all, Rel, variables, shift, head, args}
+use Rattle.pc_terms.specs.Syntax.{Term, Ind, apply, put_all, Rel, variables, shift, head, args}
 use Rattle.pc_terms.specs.Lists.{arms_of}
 use Rattle.pc_terms.specs.declared.leaf.FamilyId.{FamilyId}
 use Rattle.pc_terms.specs.declared.term.Branch.{Branch}
@@ -20,11 +20,16 @@ use Rattle.calculus_rules.specs.Instances.{entries_at, predicate_entries, branch
 use Rattle.calculus_rules.specs.Listed.{list_of}
 use Rattle.calculus_rules.specs.Lookups.{family_of}
 use Rattle.calculus_rules.proofs.Listing.{listed}
+use Rattle.calculus_rules.proofs.Telescopes.{entries_at_length}
+use Rattle.rule_laws.proofs.Comparing.{lifted_long}
 use Rattle.pc_rules.specs.DirectedRun.{Act, refused, bind, run_all}
 use Rattle.pc_rules.specs.DirectedComparison.{Comparison, each_equal, entering, branches_equal, matches_equal, lifted_types, heads_equal, spines_equal, alike}
+use Rattle.pc_rules.proofs.FairReduction.{FairComparison}
+use Rattle.pc_rules.proofs.Leaving.{leaving}
 use Rattle.pc_rules.proofs.ListSteps.{next_is, none_left, min_either}
 use Rattle.lazy_conversion.specs.Stuck.{stuck_equal, type_list}
 use Rattle.lazy_conversion.specs.Tracks.{Tracks}
+use Rattle.conversion.proofs.Comparing.{which_short}
 use Rattle.lazy_conversion.proofs.Tracking.{tracks_none, tracks_next, tracks_first_err, tracks_refused, tracks_same}
 
 -- two lists of terms, from their next ones on
@@ -52,11 +57,11 @@ module _ (cmp : Comparison) (ts us : List Term) where
         tracks_same (λ c. run_all (cmp c true t u ∷ each_equal cmp c (drop (i + 1) ts) (drop (i + 1) us))) (list_from i) r m0 m2 (list_step i t u m0 h k e e')
         (tracks_next (λ c. cmp c true t u) (λ c. each_equal cmp c (drop (i + 1) ts) (drop (i + 1) us)) r m0 m1 m2 f g)
 
-    pub list_stops : (i : ℕ) (t u : Term) (x : Halt) (m0 m1 : Meter) → i < length ts → i < length us → t ≡ get_or ts i t → u ≡ get_or us i u →
+    pub list_stops : FairComparison 0 0 cmp → (i : ℕ) (t u : Term) (x : Halt) (m0 m1 : Meter) → i < length ts → i < length us → t ≡ get_or ts i t → u ≡ get_or us i u →
         Tracks V P (λ c. cmp c true t u) (Err x) m0 m1 → Tracks V P (list_from i) (Err x) m0 m1
-    list_stops i t u x m0 m1 h k e e' f =
+    list_stops g i t u x m0 m1 h k e e' f =
         tracks_same (λ c. run_all (cmp c true t u ∷ each_equal cmp c (drop (i + 1) ts) (drop (i + 1) us))) (list_from i) (Err x) m0 m1 (list_step i t u m0 h k e e')
-        (tracks_first_err (λ c. cmp c true t u) (λ c. each_equal cmp c (drop (i + 1) ts) (drop (i + 1) us)) x m0 m1 f)
+        (tracks_first_err (λ c. cmp c true t u) (λ c. each_equal cmp c (drop (i + 1) ts) (drop (i + 1) us)) x m0 m1 f (search (leaving, g)))
 
     pub list_done : (i : ℕ) (m : Meter) → min (length ts) (length us) ≤ i → Tracks V P (list_from i) (Ok tt) m m
     list_done i m h = tracks_same (λ c. run_all []) (list_from i) (Ok tt) m m (λ c. ap (λ x. run_all x m.account) (short c i (min_either (length ts) (length us) i h))) (tracks_none m)
@@ -81,10 +86,6 @@ module _ (cmp : Comparison) (ps : List Term) (Cs : List Constructor) (bs bs' : L
   short_arms c i (inr (inl h)) = rw (none_left bs i h) (no_left_arms c (drop i Cs) (list_of (arms_of (drop i bs'))))
   short_arms c i (inr (inr h)) = rw (none_left bs' i h) (no_right_arms c (drop i Cs) (list_of (arms_of (drop i bs))))
 
-  which_short : (i : ℕ) → (length Cs ≤ i) ⊎ (min (length bs) (length bs') ≤ i) → (length Cs ≤ i) ⊎ ((length bs ≤ i) ⊎ (length bs' ≤ i))
-  which_short i (inl h) = inl h
-  which_short i (inr h) = inr (min_either (length bs) (length bs') i h)
-
   -- the bodies of the next branches
   abbrev arm_equal : Constructor → Branch → Branch → Context → Act
   arm_equal C b b' c = entering c (branch_entries C ps) (λ d. cmp d true b.body b'.body)
@@ -106,44 +107,36 @@ module _ (cmp : Comparison) (ps : List Term) (Cs : List Constructor) (bs bs' : L
         tracks_same (λ c. run_all (arm_equal C b b' c ∷ later_arms i c)) (arms_from i) r m0 m2 (arms_step i C b b' m0 h k l e e' e'')
         (tracks_next (arm_equal C b b') (later_arms i) r m0 m1 m2 f g)
 
-    pub arms_stop : (i : ℕ) (C : Constructor) (b b' : Branch) (x : Halt) (m0 m1 : Meter) →
+    pub arms_stop : FairComparison 0 0 cmp → (i : ℕ) (C : Constructor) (b b' : Branch) (x : Halt) (m0 m1 : Meter) →
         i < length Cs → i < length bs → i < length bs' → C ≡ get_or Cs i C → b ≡ get_or bs i b → b' ≡ get_or bs' i b' →
         Tracks V P (λ c. entering c (branch_entries C ps) (λ d. cmp d true b.body b'.body)) (Err x) m0 m1 → Tracks V P (arms_from i) (Err x) m0 m1
-    arms_stop i C b b' x m0 m1 h k l e e' e'' f =
+    arms_stop g i C b b' x m0 m1 h k l e e' e'' f =
         tracks_same (λ c. run_all (arm_equal C b b' c ∷ later_arms i c)) (arms_from i) (Err x) m0 m1 (arms_step i C b b' m0 h k l e e' e'')
-        (tracks_first_err (arm_equal C b b') (later_arms i) x m0 m1 f)
+        (tracks_first_err (arm_equal C b b') (later_arms i) x m0 m1 f (search (leaving, g)))
 
     pub arms_done : (i : ℕ) (m : Meter) → min (length Cs) (min (length bs) (length bs')) ≤ i → Tracks V P (arms_from i) (Ok tt) m m
     arms_done i m h =
         tracks_same (λ c. run_all []) (arms_from i) (Ok tt) m m
-        (λ c. ap (λ x. run_all x m.account) (short_arms c i (which_short i (min_either (length Cs) (min (length bs) (length bs')) i h)))) (tracks_none m)
+        (λ c. ap (λ x. run_all x m.account) (short_arms c i (which_short (length Cs) (length bs) (length bs') i h))) (tracks_none m)
 
 -- how many entries there are
 
-pub entries_count : (s : ℕ → Term) (As : List Term) → length (entries_at s As) ≡ length As
-entries_count s [] = refl
-entries_count s (A ∷ As) = ap suc (entries_count (over s) As)
-
 pub branch_count : (C : Constructor) (ps : List Term) → length (branch_entries C ps) ≡ length C.args
-branch_count C ps = entries_count (put_all ps Rel) C.args
+branch_count C ps = entries_at_length (put_all ps Rel) C.args
 
 pub predicate_count : (f : FamilyId) (Ps : List Term) (F : Family) (ps : List Term) → length (predicate_entries f (with_parameters Ps F) ps) ≡ suc (length F.indices)
 predicate_count f Ps F ps =
     let x = entries_at (put_all ps Rel) F.indices in
-    let n : length x ≡ length F.indices = entries_count (put_all ps Rel) F.indices in
+    let n : length x ≡ length F.indices = entries_at_length (put_all ps Rel) F.indices in
     let k = length-append x (apply (Ind f) (map (shift (length F.indices) 0) ps ++ variables (length F.indices)) ∷ []) in
     omega (arith, k, n)
-
-types_count : (n : ℕ) (Ts : List Term) → length (lifted_types n Ts) ≡ length Ts
-types_count n [] = refl
-types_count n (T ∷ Ts) = ap suc (types_count (suc n) Ts)
 
 type_list_count : (ds : List Def) → length (type_list ds) ≡ length ds
 type_list_count [] = refl
 type_list_count (d ∷ ds) = ap suc (type_list_count ds)
 
 pub lifted_count : (ds : List Def) → length (lifted_types 0 (type_list ds)) ≡ length ds
-lifted_count ds = types_count 0 (type_list ds) ∙ type_list_count ds
+lifted_count ds = lifted_long 0 (type_list ds) ∙ type_list_count ds
 
 -- two matches, by the lists of their parameters
 module _ (E : Env) (cmp : Comparison) (x y : Match) where

@@ -154,7 +154,7 @@ some_is : (s : ℕ → ℕ → ℕ) (l : LevelExpr) (hs : List LevelExpr) → so
 some_is s l [] e = absurd (cc)
 some_is s l (h ∷ hs) e = some_of s l h hs (covers_part s l h) refl (some_is s l hs) e
 
-or_second : (a b : Bool) → b ≡ true → (a || b) ≡ true
+pub or_second : (a b : Bool) → b ≡ true → (a || b) ≡ true
 or_second true b e = refl
 or_second false b e = e
 

@@ -3,11 +3,10 @@ use Rattle.std.proofs.Common.{◌≡◌, ℕ, zero, suc, ◌+◌, ◌-◌, lengt
 use Rattle.pc_terms.specs.Syntax.{Term, Rel, Lambda, LetIn, App, Const, Case, put, substitute, head, args}
 use Rattle.pc_rules.specs.declared.meter.Account.{Account}
 use Rattle.calculus_rules.specs.Environment.{Env}
-use Rattle.pc_rules.specs.DirectedRun.{Run, no_unit, make, ticked, paid, ticking}
+use Rattle.pc_rules.specs.DirectedRun.{Run, no_unit, make, ticked, paid, ticking, Leaves}
 use Rattle.calculus_rules.specs.Lookups.{kept_at, body_of}
 use Rattle.pc_rules.specs.DirectedWeakHead.{built, branch_of}
 use Rattle.pc_rules.specs.DirectedEvaluation.{Evaluated, Value, Stuck, Evaluating, on_value, with_value, contracted, contracts, takes_more, unfolding_at, applied, node, evaluate, evaluation}
-use Rattle.pc_rules.specs.DirectedLaws.{Leaves}
 use Rattle.pc_rules.proofs.SameWithin.{Agrees, agrees_done, agrees_if, agrees_bind, agrees_ticking}
 
 agrees_make : (n : ℕ) (t : Term) → Agrees n (λ u. make t u) (λ u. make t u)

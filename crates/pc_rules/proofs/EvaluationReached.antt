@@ -48,7 +48,7 @@ kept_there {d = d} (constant_declared {ds = ds} {k = l} {T = T} {b = b} a f p q)
 kept_there (block {ds = ds} {B = B} a f p) here k e = first_is (Whole B) ds k e
 kept_there {d = d} (block {ds = ds} {B = B} a f p) (there h) k e = rest_is (Whole B) d ds k (f d h) e (kept_there a h k e)
 
-body_there : (E : Env) → IsAccepted E → (k : Name) (T b : Term) → KeepsConstant E k T (Some b) → body_of (kept_at E.declarations k) ≡ Some b
+pub body_there : (E : Env) → IsAccepted E → (k : Name) (T b : Term) → KeepsConstant E k T (Some b) → body_of (kept_at E.declarations k) ≡ Some b
 body_there E a k T b h = ap body_of (kept_there a.declarations h k refl)
 
 pub family_there : (E : Env) → IsAccepted E → (f : FamilyId) (F : FamilyDecl) → KeepsFamily E f F → family_of E f ≡ Some F
@@ -72,11 +72,11 @@ built_there E a f c v qs xs (is_constructor {F = F} {C = C} k i p l e) =
 
 -- what the tests say
 
-at_spine : (E : Env) (g h : Term) (xs : List Term) → g ≡ apply h xs → takes_more E (head g) (length (args g)) ≡ takes_more E (head h) (length (args h ++ xs))
+pub at_spine : (E : Env) (g h : Term) (xs : List Term) → g ≡ apply h xs → takes_more E (head g) (length (args g)) ≡ takes_more E (head h) (length (args h ++ xs))
 at_spine E g h xs e =
     (λ j. takes_more E (head (e j)) (length (args (e j)))) ∙ (λ j. takes_more E (head-apply h xs j) (length (args-apply h xs j)))
 
-more_there : (E : Env) → IsAccepted E → (g : Term) → TakesMore E g → takes_more E (head g) (length (args g)) ≡ true
+pub more_there : (E : Env) → IsAccepted E → (g : Term) → TakesMore E g → takes_more E (head g) (length (args g)) ≡ true
 more_there E a g (family f xs e) = at_spine E g (Ind f) xs e
 more_there E a g (constructor f c xs {F = F} {C = C} k i l e) =
     at_spine E g (Construct f c) xs e ∙ ap (lacks_arguments (length xs) c) (family_there E a f F k)
@@ -84,12 +84,12 @@ more_there E a g (constructor f c xs {F = F} {C = C} k i l e) =
 more_there E a g (fixpoint i rargs types bodies xs {rarg = rarg} r l e) =
     at_spine E g (Fix i rargs types bodies) xs e ∙ ap (is_below (length xs)) r ∙ lt-ltb (length xs) rarg l
 
-no_more : (E : Env) (g v u : Term) → Unfolds g v u → takes_more E (head g) (length (args g)) ≡ false
+pub no_more : (E : Env) (g v u : Term) → Unfolds g v u → takes_more E (head g) (length (args g)) ≡ false
 no_more E g v u (unfolds i rargs types bodies xs {rarg = rarg} r l b e) =
     let enough : rarg ≤ length xs = omega arith in
     at_spine E g (Fix i rargs types bodies) xs e ∙ ap (is_below (length xs)) r ∙ le-ltb (length xs) rarg enough
 
-unfolding_there : (g v u : Term) → Unfolds g v u → unfolding_at (head g) (args g) v ≡ Some u
+pub unfolding_there : (g v u : Term) → Unfolds g v u → unfolding_at (head g) (args g) v ≡ Some u
 unfolding_there g v u (unfolds i rargs types bodies xs {rarg = rarg} {body = body} r l b e) =
     (λ j. unfolding_at (head (e j)) (args (e j)) v)
     ∙ (λ j. unfolding_at (head-apply (Fix i rargs types bodies) xs j) (args-apply (Fix i rargs types bodies) xs j) v)
@@ -98,7 +98,7 @@ unfolding_there g v u (unfolds i rargs types bodies xs {rarg = rarg} {body = bod
     ∙ ap (λ o. if_some o (λ (p : ℕ × Term). if p.0 == length rargs then Some (App (apply (unfolded rargs types bodies p.1) xs) v) else None)) b
     ∙ ap (λ z. if z then Some (App (apply (unfolded rargs types bodies body) xs) v) else None) (eq-eqb (length rargs) (length rargs) refl)
 
-branch_there : (E : Env) → IsAccepted E → (f : FamilyId) (c : ℕ) (s : Term) (bs : Terms) (qs xs : List Term) (body : Term) → IsConstructor E f c s qs xs →
+pub branch_there : (E : Env) → IsAccepted E → (f : FamilyId) (c : ℕ) (s : Term) (bs : Terms) (qs xs : List Term) (body : Term) → IsConstructor E f c s qs xs →
     term_at bs c ≡ Some (length xs, body) → branch_of bs f (built E s) ≡ Some (substitute (put_all xs Rel) body)
 branch_there E a f c s bs qs xs body h b =
     ap (branch_of bs f) (built_there E a f c s qs xs h)
@@ -155,11 +155,11 @@ value_stays E go t u ind_is = refl
 value_stays E go t u construct_is = refl
 value_stays E go t u fix_is = refl
 
-two : (n m : ℕ) (w : Account) → more (n + m) w ≡ more n (more m w)
-two n m w = sym (more_more n m w)
+pub more_two : (n m : ℕ) (w : Account) → more (n + m) w ≡ more n (more m w)
+more_two n m w = sym (more_more n m w)
 
-three : (n m k : ℕ) (w : Account) → more (n + m + k) w ≡ more n (more m (more k w))
-three n m k w = two (n + m) k w ∙ two n m (more k w)
+pub more_three : (n m k : ℕ) (w : Account) → more (n + m + k) w ≡ more n (more m (more k w))
+more_three n m k w = more_two (n + m) k w ∙ more_two n m (more k w)
 
 some_nodes : {E : Env} {t v : Term} {n : ℕ} → Evaluates E t v n → 0 < n
 some_nodes (value i) = omega arith
@@ -187,29 +187,29 @@ reached E a (suc m) t v n (constant {k = k} {n = j} {T = T} {b = b} h e) l w =
     (contracts_goes (evaluate E m) t (body_of (kept_at E.declarations k)) b (more j w) (body_there E a k T b h) ∙ reached E a m b v j e (omega arith) w)
 reached E a (suc m) t y n (let_in {b = b} {t = body} {v = v} {n = i} {m = j} e e') l w =
     node_entered E m t (i + j) y w
-    (ap (λ u. (node E (evaluate E m) t u).end) (two i j w)
+    (ap (λ u. (node E (evaluate E m) t u).end) (more_two i j w)
     ∙ with_value_goes (evaluate E m b (more i (more j w))) (λ v w. contracted (evaluate E m) (substitute (put v) body) w) v (more j w) (reached E a m b v i e (omega arith) (more j w))
     ∙ contracted_goes (evaluate E m) (substitute (put v) body) (more j w) ∙ reached E a m (substitute (put v) body) y j e' (omega arith) w)
 reached E a (suc m) t y n (beta {f = f} {a = arg} {A = A} {b = b} {v = v} {n = i} {m = j} {k = k} e e' e'') l w =
     node_entered E m t (i + j + k) y w
-    (ap (λ u. (node E (evaluate E m) t u).end) (three i j k w)
+    (ap (λ u. (node E (evaluate E m) t u).end) (more_three i j k w)
     ∙ app_goes E (evaluate E m) f arg (Lambda A b) v y (more i (more j (more k w))) (more j (more k w)) (more k w) w
     (reached E a m f (Lambda A b) i e (omega arith) (more j (more k w))) (reached E a m arg v j e' (omega arith) (more k w))
     (contracted_goes (evaluate E m) (substitute (put v) b) (more k w) ∙ reached E a m (substitute (put v) b) y k e'' (omega arith) w))
 reached E a (suc m) t y n (extend {f = f} {a = arg} {g = g} {v = v} {n = i} {m = j} e e' h) l w =
     node_entered E m t (i + j) y w
-    (ap (λ u. (node E (evaluate E m) t u).end) (two i j w)
+    (ap (λ u. (node E (evaluate E m) t u).end) (more_two i j w)
     ∙ app_goes E (evaluate E m) f arg g v y (more i (more j w)) (more j w) w w
     (reached E a m f g i e (omega arith) (more j w)) (reached E a m arg v j e' (omega arith) w) (extended_goes E a (evaluate E m) t g v w h))
 reached E a (suc m) t y n (unfold_fix {f = f} {a = arg} {g = g} {v = v} {u = c} {n = i} {m = j} {k = k} e e' h e'') l w =
     node_entered E m t (i + j + k) y w
-    (ap (λ u. (node E (evaluate E m) t u).end) (three i j k w)
+    (ap (λ u. (node E (evaluate E m) t u).end) (more_three i j k w)
     ∙ app_goes E (evaluate E m) f arg g v y (more i (more j (more k w))) (more j (more k w)) (more k w) w
     (reached E a m f g i e (omega arith) (more j (more k w))) (reached E a m arg v j e' (omega arith) (more k w))
     (unfolded_goes E (evaluate E m) t g v c (more k w) h ∙ reached E a m c y k e'' (omega arith) w))
 reached E a (suc m) t y n (enter {f = f} {bs = bs} {c = c} {n = i} {m = j} {s = s} {v = v} {body = body} {qs = qs} {xs = xs} e h b e') l w =
     node_entered E m t (i + j) y w
-    (ap (λ u. (node E (evaluate E m) t u).end) (two i j w)
+    (ap (λ u. (node E (evaluate E m) t u).end) (more_two i j w)
     ∙ with_value_goes (evaluate E m s (more i (more j w))) (λ v w. contracts (evaluate E m) t (branch_of bs f (built E v)) w) v (more j w)
     (reached E a m s v i e (omega arith) (more j w))
     ∙ contracts_goes (evaluate E m) t (branch_of bs f (built E v)) (substitute (put_all xs Rel) body) (more j w) (branch_there E a f c v bs qs xs body h b)

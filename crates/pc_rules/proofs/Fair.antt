@@ -2,8 +2,8 @@
 use Rattle.std.proofs.Common.{◌≡◌, ℕ, zero, suc, ◌+◌, ◌≤◌, ◌<◌, ◌-◌, Bool, true, false, if◌then◌else◌, List, [], ◌∷◌, refl, sym, ap, subst, arith}
 use Rattle.pc_rules.specs.declared.meter.Account.{Account}
 use Rattle.pc_rules.specs.declared.broken.Broken.{Broken}
-use Rattle.pc_rules.specs.DirectedRun.{Run, End, Done, Refused, NoUnit, Nested, Act, done, refused, no_unit, too_nested, made, passing, paid, ticking, ticked, noted, end_then, bind, run_all}
-use Rattle.pc_rules.specs.DirectedLaws.{more, Leaves, Stays, IsSteady}
+use Rattle.pc_rules.specs.DirectedRun.{Run, End, Done, Refused, NoUnit, Nested, Act, done, refused, no_unit, too_nested, made, passing, paid, ticking, ticked, noted, end_then, bind, run_all, Leaves}
+use Rattle.pc_rules.specs.DirectedLaws.{more, Stays, IsSteady}
 
 -- f with n units at most, and g with k more
 pub record IsFair {A : Type 0} (n k : ℕ) (f g : Account → Run A) : Type 0 where
@@ -45,12 +45,12 @@ leaves_less (Refused b v) m n l h = omega arith
 leaves_less NoUnit m n l h = tt
 leaves_less Nested m n l h = tt
 
-leaves_then : {A B : Type 0} {n k : ℕ} (g g' : A → Account → Run B) → ((a : A) → IsFair n k (g a) (g' a)) → (m : ℕ) (e : End A) → Leaves e m →
+leaves_then : {A B : Type 0} (g : A → Account → Run B) → ((a : A) (v : Account) → Leaves (g a v).end v.left) → (m : ℕ) (e : End A) → Leaves e m →
     Leaves (end_then e (λ a v. (g a v).end)) m
-leaves_then g g' q m (Done a v) h = leaves_less (g a v).end v.left m h ((q a).falls v)
-leaves_then g g' q m (Refused b v) h = h
-leaves_then g g' q m NoUnit h = tt
-leaves_then g g' q m Nested h = tt
+leaves_then g q m (Done a v) h = leaves_less (g a v).end v.left m h (q a v)
+leaves_then g q m (Refused b v) h = h
+leaves_then g q m NoUnit h = tt
+leaves_then g q m Nested h = tt
 
 stays_then : {A B : Type 0} {n k : ℕ} (g g' : A → Account → Run B) → ((a : A) → IsFair n k (g a) (g' a)) → (m : ℕ) → m ≤ n → (e e' : End A) → Leaves e m →
     Stays k e e' → Stays k (end_then e (λ a v. (g a v).end)) (end_then e' (λ a v. (g' a v).end))
@@ -63,7 +63,7 @@ pub fair_bind : {A B : Type 0} {n k : ℕ} (f f' : Account → Run A) (g g' : A 
     IsFair n k (λ u. bind (f u) g) (λ u. bind (f' u) g')
 unfolding bind
 fair_bind {k = k} f f' g g' p q = record {
-  falls = λ u. leaves_then g g' q u.left (f u).end (p.falls u);
+  falls = λ u. leaves_then g (λ a. (q a).falls) u.left (f u).end (p.falls u);
   stays = λ u l. stays_then g g' q u.left l (f u).end (f' (more k u)).end (p.falls u) (p.stays u l);
 }
 
@@ -106,3 +106,25 @@ pub fair_all : {n k : ℕ} {fs fs' : List Act} → AreFair n k fs fs' → IsFair
 unfolding run_all
 fair_all no_act = fair_done tt
 fair_all (an_act p ps) = fair_bind _ _ _ _ p (λ a. fair_all ps)
+
+-- what a run leaves, from one account: at most the units that it begins with
+
+pub same_left : (u : Account) → u.left ≤ u.left
+same_left u = omega arith
+
+pub leaves_bind : {A B : Type 0} (d : Run A) (k : A → Account → Run B) (n : ℕ) → Leaves d.end n → ((a : A) (v : Account) → Leaves (k a v).end v.left) → Leaves (bind d k).end n
+unfolding bind
+leaves_bind d k n h q = leaves_then k q n d.end h
+
+pub leaves_if : {A : Type 0} (b : Bool) (p q : Run A) (n : ℕ) → Leaves p.end n → Leaves q.end n → Leaves (if b then p else q).end n
+leaves_if true p q n h g = h
+leaves_if false p q n h g = g
+
+pub leaves_ticking : {A : Type 0} (u : Account) (go : Account → Run A) → ((v : Account) → Leaves (go v).end v.left) → Leaves (ticking u go).end u.left
+unfolding ticking
+leaves_ticking u go h = paid_leaves u.left u.left (go (ticked u)) (leaves_less (go (ticked u)).end (u.left - 1) u.left (omega arith) (h (ticked u)))
+
+pub leaves_all : (acts : List Act) → AreFair 0 0 acts acts → (u : Account) → Leaves (run_all acts u).end u.left
+leaves_all acts ps u = (fair_all ps).falls u
+
+pub ruleset leaving_runs = (same_left, leaves_bind, leaves_if, leaves_ticking, leaves_all, no_act, an_act)

@@ -12,10 +12,10 @@ use Rattle.calculus_rules.specs.Environment.{Env}
 use Rattle.calculus_rules.specs.Same.{same_names}
 use Rattle.calculus_rules.specs.Naming.{names}
 use Rattle.calculus_rules.specs.Positivity.{parameter_target, block_of, types_name}
-use Rattle.pc_rules.specs.DirectedRun.{Run}
+use Rattle.pc_rules.specs.DirectedRun.{Run, Leaves}
 use Rattle.calculus_rules.specs.Lookups.{kept_at, whole_block}
-use Rattle.pc_rules.specs.DirectedPositivity.{Nesting, both, own_arguments, given_parameters, family_good, argument_good, good, arguments_good, types_good, constructors_good, families_good, nestable, is_positive}
-use Rattle.pc_rules.proofs.Fair.{IsFair, fair_done, fair_if, fair_bind, fair_spent, fair_ticking}
+use Rattle.pc_rules.specs.DirectedPositivity.{Nesting, both, own_arguments, given_parameters, family_good, argument_good, good, arguments_good, types_good, constructors_good, families_good, nestable, is_positive, types_positive, constructor_positive, constructors_positive, families_positive}
+use Rattle.pc_rules.proofs.Fair.{IsFair, fair_done, fair_if, fair_bind, fair_spent, fair_ticking, leaves_bind, leaves_if, same_left}
 
 fair_both : {n k : ℕ} (f f' g g' : Account → Run Bool) → IsFair n k f f' → IsFair n k g g' → IsFair n k (λ u. both (f u) g) (λ u. both (f' u) g')
 fair_both f f' g g' p q = fair_bind _ _ _ _ p (λ b. fair_if b _ _ _ _ q (fair_done false))
@@ -78,3 +78,43 @@ fair_positive {n = n} {k = k} E b A = record {
   falls = λ u. (fair_good {n = n} {k = k} E (nestable E u.left) (nestable E u.left) (fair_nestable E u.left u.left (omega arith)) (Families b) 0 A).falls u;
   stays = λ u l. (fair_good {n = n} {k = k} E (nestable E u.left) (nestable E (u.left + k)) (fair_nestable E u.left (u.left + k) (omega arith)) (Families b) 0 A).stays u l;
 }
+
+-- what runs leave, from one account; families nest so deep at most
+module _ (E : Env) (m : ℕ) where
+  pub good_leaves : (g : Target) (j : ℕ) (t : Term) (u : Account) → Leaves (good E (nestable E m) g j t u).end u.left
+  good_leaves g j t u = (fair_good {n = m} {k = 0} E (nestable E m) (nestable E m) (fair_nestable E m m (omega arith)) g j t).falls u
+
+  pub arguments_good_leaves : (g : Target) (j : ℕ) (B : Block) (t : Term) (u : Account) → Leaves (arguments_good E (nestable E m) g j B t u).end u.left
+  arguments_good_leaves g j B t u = (fair_arguments {n = m} {k = 0} E (nestable E m) (nestable E m) (fair_nestable E m m (omega arith)) g j B t).falls u
+
+  pub types_good_leaves : (g : Target) (j : ℕ) (As : List Term) (u : Account) → Leaves (types_good E (nestable E m) g j As u).end u.left
+  types_good_leaves g j As u = (fair_types {n = m} {k = 0} E (nestable E m) (nestable E m) (fair_nestable E m m (omega arith)) g j As).falls u
+
+  pub constructors_good_leaves : (g : Target) (Cs : List Constructor) (u : Account) → Leaves (constructors_good E (nestable E m) g Cs u).end u.left
+  constructors_good_leaves g Cs u = (fair_constructors {n = m} {k = 0} E (nestable E m) (nestable E m) (fair_nestable E m m (omega arith)) g Cs).falls u
+
+  pub families_good_leaves : (g : Target) (Fs : List Family) (u : Account) → Leaves (families_good E (nestable E m) g Fs u).end u.left
+  families_good_leaves g Fs u = (fair_families {n = m} {k = 0} E (nestable E m) (nestable E m) (fair_nestable E m m (omega arith)) g Fs).falls u
+
+  pub nestable_leaves : (B : Block) (p : ℕ) (u : Account) → Leaves (nestable E m B p u).end u.left
+  nestable_leaves B p u = (fair_nestable {n = m} {k = 0} E m m (omega arith) B p).falls u
+
+pub types_positive_leaves : (E : Env) (b : Name) (As : List Term) (u : Account) → Leaves (types_positive E b As u).end u.left
+types_positive_leaves E b [] u = same_left u
+types_positive_leaves E b (A ∷ As) u =
+    leaves_bind (is_positive E b A u) _ u.left (good_leaves E u.left (Families b) 0 A u) (λ x v. leaves_if x _ _ v.left (types_positive_leaves E b As v) (same_left v))
+
+pub constructors_positive_leaves : (E : Env) (b : Name) (Cs : List Constructor) (u : Account) → Leaves (constructors_positive E b Cs u).end u.left
+constructors_positive_leaves E b [] u = same_left u
+constructors_positive_leaves E b (C ∷ Cs) u =
+    leaves_bind (constructor_positive E b C u) _ u.left
+    (leaves_bind (types_positive E b C.args u) _ u.left (types_positive_leaves E b C.args u) (λ x v. leaves_if x _ _ v.left (same_left v) (same_left v)))
+    (λ x v. leaves_if x _ _ v.left (constructors_positive_leaves E b Cs v) (same_left v))
+
+pub families_positive_leaves : (E : Env) (b : Name) (Fs : List Family) (u : Account) → Leaves (families_positive E b Fs u).end u.left
+families_positive_leaves E b [] u = same_left u
+families_positive_leaves E b (F ∷ Fs) u =
+    leaves_bind (constructors_positive E b F.ctors u) _ u.left (constructors_positive_leaves E b F.ctors u)
+    (λ x v. leaves_if x _ _ v.left (families_positive_leaves E b Fs v) (same_left v))
+
+pub ruleset leaving_positivity = (good_leaves, arguments_good_leaves, types_good_leaves, constructors_good_leaves, families_good_leaves, nestable_leaves, types_positive_leaves, constructors_positive_leaves, families_positive_leaves)

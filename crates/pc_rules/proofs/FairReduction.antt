@@ -12,12 +12,12 @@ use Rattle.calculus_rules.specs.Context.{Context, Values, extend, values}
 use Rattle.calculus_rules.specs.Instances.{predicate_entries, branch_entries}
 use Rattle.calculus_rules.specs.Same.{same}
 use Rattle.calculus_rules.specs.WeakHead.{WeakSteps, no_step, then_step}
-use Rattle.pc_rules.specs.DirectedRun.{Run, End, Done, Act, done, ticked, any_beyond, run_all}
+use Rattle.pc_rules.specs.DirectedRun.{Run, End, Done, Act, done, ticked, any_beyond, run_all, Leaves}
 use Rattle.calculus_rules.specs.Lookups.{family_of}
 use Rattle.pc_rules.specs.DirectedWeakHead.{weak_next, after_step, stuck_step, steps, whnf}
 use Rattle.calculus_rules.specs.Listed.{list_of}
 use Rattle.pc_rules.specs.DirectedComparison.{Test, Comparison, sorts_stand, alike, each_equal, entering, branches_equal, matches_equal, lifted_types, fixpoints_equal, heads_equal, spines_equal, pair, entered, compare}
-use Rattle.pc_rules.specs.DirectedLaws.{more, Leaves, Stays}
+use Rattle.pc_rules.specs.DirectedLaws.{more, Stays}
 use Rattle.pc_rules.proofs.Fair.{IsFair, AreFair, no_act, an_act, fair_done, fair_refused, fair_passing, fair_nested, fair_if, fair_bind, fair_ticking, fair_all}
 use Rattle.pc_rules.proofs.WeakNext.{weak_next_found}
 
@@ -36,7 +36,7 @@ after_leaves : (o : Option Term) (t : Term) (u : Account) (go : Term → Run Ter
 after_leaves None t u go h = omega arith
 after_leaves (Some x) t u go h = h x
 
-steps_leaves : (E : Env) (V : Values) (m : ℕ) (t : Term) (u : Account) → Leaves (steps E V m t u).end u.left
+pub steps_leaves : (E : Env) (V : Values) (m : ℕ) (t : Term) (u : Account) → Leaves (steps E V m t u).end u.left
 unfolding steps
 steps_leaves E V zero t u = stuck_leaves (weak_next E V t) t u
 steps_leaves E V (suc m) t u =
@@ -176,3 +176,41 @@ pub fair_compare : {n k : ℕ} (E : Env) (q : Test) (m : ℕ) (c : Context) (equ
 unfolding compare
 fair_compare E q zero c equal a b = fair_ticking _ _ fair_nested
 fair_compare E q (suc m) c equal a b = fair_ticking _ _ (fair_entered E q (compare E q m) (fair_compare E q m) c equal a b)
+
+-- a comparison that is fair wherever it is asked
+pub record FairComparison (n k : ℕ) (cmp : Comparison) : Type 0 where
+  pub at : (c : Context) (equal : Bool) (a b : Term) → IsFair n k (λ u. cmp c equal a b u) (λ u. cmp c equal a b u)
+
+pub comparing_fair : {n k : ℕ} (E : Env) (q : Test) (m : ℕ) → FairComparison n k (compare E q m)
+comparing_fair E q m = record { at = fair_compare E q m }
+
+-- what runs leave, from one account
+
+pub each_fair : (cmp : Comparison) → FairComparison 0 0 cmp → (c : Context) (ts us : List Term) → AreFair 0 0 (each_equal cmp c ts us) (each_equal cmp c ts us)
+each_fair cmp g c ts us = fair_each cmp g.at c ts us
+
+pub branches_fair : (cmp : Comparison) → FairComparison 0 0 cmp → (c : Context) (ps : List Term) (Cs : List Constructor) (bs bs' : List Term) → AreFair 0 0 (branches_equal cmp c ps Cs bs bs') (branches_equal cmp c ps Cs bs bs')
+branches_fair cmp g c ps Cs bs bs' = fair_branches cmp g.at c ps Cs bs bs'
+
+pub matches_leave : (cmp : Comparison) → FairComparison 0 0 cmp → (c : Context) (f : FamilyId) (o : Option FamilyDecl) (ps : Terms) (ret s : Term) (bs qs : Terms) (ret' s' : Term) (bs' : Terms) (u : Account) → Leaves (matches_equal cmp c f o ps ret s bs qs ret' s' bs' u).end u.left
+matches_leave cmp g c f o ps ret s bs qs ret' s' bs' u = (fair_matches {n = 0} {k = 0} cmp g.at c f o ps ret s bs qs ret' s' bs').falls u
+
+pub fixpoints_leave : (cmp : Comparison) → FairComparison 0 0 cmp → (c : Context) (types bodies types' bodies' : Terms) (u : Account) → Leaves (fixpoints_equal cmp c types bodies types' bodies' u).end u.left
+fixpoints_leave cmp g c types bodies types' bodies' u = (fair_fixpoints {n = 0} {k = 0} cmp g.at c types bodies types' bodies').falls u
+
+pub heads_leave : (E : Env) (cmp : Comparison) → FairComparison 0 0 cmp → (c : Context) (a b : Term) (u : Account) → Leaves (heads_equal E cmp c a b u).end u.left
+heads_leave E cmp g c a b u = (fair_heads {n = 0} {k = 0} E cmp g.at c a b).falls u
+
+pub spines_leave : (E : Env) (cmp : Comparison) → FairComparison 0 0 cmp → (c : Context) (a b : Term) (u : Account) → Leaves (spines_equal E cmp c a b u).end u.left
+spines_leave E cmp g c a b u = (fair_spines {n = 0} {k = 0} E cmp g.at c a b).falls u
+
+pub pair_leaves : (E : Env) (q : Test) (cmp : Comparison) → FairComparison 0 0 cmp → (c : Context) (equal : Bool) (a b : Term) (u : Account) → Leaves (pair E q cmp c equal a b u).end u.left
+pair_leaves E q cmp g c equal a b u = (fair_pair {n = 0} {k = 0} E q cmp g.at c equal a b).falls u
+
+pub entered_leaves : (E : Env) (q : Test) (cmp : Comparison) → FairComparison 0 0 cmp → (c : Context) (equal : Bool) (a b : Term) (u : Account) → Leaves (entered E q cmp c equal a b u).end u.left
+entered_leaves E q cmp g c equal a b u = (fair_entered {n = 0} {k = 0} E q cmp g.at c equal a b).falls u
+
+pub compare_leaves : (E : Env) (q : Test) (m : ℕ) (c : Context) (equal : Bool) (a b : Term) (u : Account) → Leaves (compare E q m c equal a b u).end u.left
+compare_leaves E q m c equal a b u = (fair_compare {n = 0} {k = 0} E q m c equal a b).falls u
+
+pub ruleset leaving_reduction = (each_fair, branches_fair, matches_leave, fixpoints_leave, heads_leave, spines_leave, pair_leaves, entered_leaves, compare_leaves, steps_leaves, comparing_fair, fair_compare)

@@ -8,11 +8,11 @@ use Rattle.pc_rules.specs.declared.meter.Account.{Account}
 use Rattle.calculus_rules.specs.Environment.{Env}
 use Rattle.calculus_rules.specs.Context.{Values, under}
 use Rattle.calculus_rules.specs.Guardedness.{Mark, Recursive, Argument, Smaller, Other, Marks, Ending, ending, others, head_block, definition_marks}
-use Rattle.pc_rules.specs.DirectedRun.{Run, Act, no_unit, is_beyond}
+use Rattle.pc_rules.specs.DirectedRun.{Run, Act, no_unit, is_beyond, bind, passing, Leaves}
 use Rattle.calculus_rules.specs.Lookups.{family_of}
 use Rattle.pc_rules.specs.DirectedWeakHead.{weak_next}
 use Rattle.pc_rules.specs.DirectedGuard.{Finding, found_at, applied, opens, constructors_of, step_on, if_smaller, if_opened, first_marks, later, look, look_branches, find, normal_found, smaller_argument, call_argument, call_rule, interleaved, passed_argument, argument_found, if_passed, walk, walk_children, walk_terms, walk_branches, walk_passed, walk_under, recursive_block, body_guard, bodies_guard, fix_guard}
-use Rattle.pc_rules.proofs.Fair.{IsFair, AreFair, no_act, an_act, fair_done, fair_refused, fair_passing, fair_spent, fair_if, fair_bind, fair_ticking, fair_ticking_less, fair_less, fair_all}
+use Rattle.pc_rules.proofs.Fair.{IsFair, AreFair, no_act, an_act, fair_done, fair_refused, fair_passing, fair_spent, fair_if, fair_bind, fair_ticking, fair_ticking_less, fair_less, fair_all, leaves_bind, leaves_ticking, same_left}
 use Rattle.pc_rules.proofs.FairReduction.{fair_whnf}
 
 -- the guard
@@ -82,12 +82,12 @@ fair_call : {n k : ℕ} (E : Env) (r : Option Name) (V : Values) (M : Marks) (i 
 fair_call E r V M i xs (Some (Recursive rarg)) = fair_argument E r V M i (slice_get xs rarg)
 fair_call E r V M i xs m = fair_done tt
 
-fair_interleaved : {n k : ℕ} {fs fs' gs gs' : List Act} → AreFair n k fs fs' → AreFair n k gs gs' → AreFair n k (interleaved fs gs) (interleaved fs' gs')
+pub fair_interleaved : {n k : ℕ} {fs fs' gs gs' : List Act} → AreFair n k fs fs' → AreFair n k gs gs' → AreFair n k (interleaved fs gs) (interleaved fs' gs')
 fair_interleaved no_act q = q
 fair_interleaved (an_act p ps) no_act = an_act p ps
 fair_interleaved (an_act p ps) (an_act q qs) = an_act p (an_act q (fair_interleaved ps qs))
 
-fair_append : {n k : ℕ} {fs fs' gs gs' : List Act} → AreFair n k fs fs' → AreFair n k gs gs' → AreFair n k (fs ++ gs) (fs' ++ gs')
+pub fair_append : {n k : ℕ} {fs fs' gs gs' : List Act} → AreFair n k fs fs' → AreFair n k gs gs' → AreFair n k (fs ++ gs) (fs' ++ gs')
 fair_append no_act q = q
 fair_append (an_act p ps) q = an_act p (fair_append ps q)
 
@@ -95,12 +95,12 @@ fair_argument_found : {n k : ℕ} (E : Env) (r : Option Name) (V : Values) (M : 
 fair_argument_found E r V M None = fair_done Other
 fair_argument_found E r V M (Some a) = fair_bind _ _ _ _ (fair_normal E r V M a) (λ p. fair_done p.1)
 
-fair_if_passed : {n k : ℕ} {fs fs' gs gs' : List Act} (m : Mark) → AreFair n k fs fs' → AreFair n k gs gs' → AreFair n k (if_passed m fs gs) (if_passed m fs' gs')
+pub fair_if_passed : {n k : ℕ} {fs fs' gs gs' : List Act} (m : Mark) → AreFair n k fs fs' → AreFair n k gs gs' → AreFair n k (if_passed m fs gs) (if_passed m fs' gs')
 fair_if_passed Smaller p q = p
 fair_if_passed m p q = q
 
 mutual
-  fair_walk : {n k : ℕ} (E : Env) (r : Option Name) (V : Values) (M : Marks) (xs : List Term) (t : Term) → IsFair n k (λ u. walk E r V M xs t u) (λ u. walk E r V M xs t u)
+  pub fair_walk : {n k : ℕ} (E : Env) (r : Option Name) (V : Values) (M : Marks) (xs : List Term) (t : Term) → IsFair n k (λ u. walk E r V M xs t u) (λ u. walk E r V M xs t u)
   fair_walk E r V M xs (Rel i) = fair_call E r V M i xs (slice_get M i)
   fair_walk E r V M xs (App f a) = fair_bind _ _ _ _ (fair_walk E r V M (a ∷ xs) f) (λ x. fair_walk E r V M [] a)
   fair_walk E r V M xs (LetIn b B t) =
@@ -136,7 +136,7 @@ mutual
   fair_walk_passed E r V M (rarg ∷ rargs) Done = no_act
   fair_walk_passed E r V M (rarg ∷ rargs) (Next n b bs) = an_act (fair_walk_under E r (under n V) (others n M) Smaller rarg b) (fair_walk_passed E r V M rargs bs)
 
-  fair_walk_under : {n k : ℕ} (E : Env) (r : Option Name) (V : Values) (M : Marks) (m : Mark) (rarg : ℕ) (t : Term) → IsFair n k (λ u. walk_under E r V M m rarg t u) (λ u. walk_under E r V M m rarg t u)
+  pub fair_walk_under : {n k : ℕ} (E : Env) (r : Option Name) (V : Values) (M : Marks) (m : Mark) (rarg : ℕ) (t : Term) → IsFair n k (λ u. walk_under E r V M m rarg t u) (λ u. walk_under E r V M m rarg t u)
   fair_walk_under E r V M m zero (Lambda A b) = fair_bind _ _ _ _ (fair_walk E r V M [] A) (λ x. fair_walk E r (None ∷ V) (m ∷ M) [] b)
   fair_walk_under E r V M m (suc rarg) (Lambda A b) = fair_bind _ _ _ _ (fair_walk E r V M [] A) (λ x. fair_walk_under E r (None ∷ V) (Other ∷ M) m rarg b)
   fair_walk_under E r V M m rarg t = fair_refused (NotGuarded t)
@@ -146,7 +146,7 @@ fair_block E V zero (Lambda A b) = fair_bind _ _ _ _ (fair_whnf E V A) (λ W. fa
 fair_block E V (suc rarg) (Lambda A b) = fair_block E (None ∷ V) rarg b
 fair_block E V rarg t = fair_done None
 
-fair_body : {n k : ℕ} (E : Env) (V : Values) (M : Marks) (rarg : ℕ) (t : Term) → IsFair n k (λ u. body_guard E V M rarg t u) (λ u. body_guard E V M rarg t u)
+pub fair_body : {n k : ℕ} (E : Env) (V : Values) (M : Marks) (rarg : ℕ) (t : Term) → IsFair n k (λ u. body_guard E V M rarg t u) (λ u. body_guard E V M rarg t u)
 unfolding body_guard
 fair_body E V M rarg t = fair_bind _ _ _ _ (fair_block E V rarg t) (λ r. fair_walk_under E r V M Argument rarg t)
 
@@ -157,3 +157,89 @@ fair_bodies E V M (r ∷ rargs) (Next m b bs) = an_act (fair_body E V M r b) (fa
 
 pub fair_guard : {n k : ℕ} (E : Env) (V : Values) (rargs : List ℕ) (bodies : Terms) → IsFair n k (λ u. fix_guard E V rargs bodies u) (λ u. fix_guard E V rargs bodies u)
 fair_guard E V rargs bodies = fair_all (fair_bodies E (under (length rargs) V) (definition_marks rargs []) rargs bodies)
+
+-- what runs leave, from one account
+
+pub smaller_leaves : (W : Term) (m : Mark) (u : Account) → Leaves (smaller_argument W m u).end u.left
+smaller_leaves W m u = (fair_smaller {n = 0} {k = 0} W m).falls u
+
+pub call_argument_leaves : (E : Env) (r : Option Name) (V : Values) (M : Marks) (i : ℕ) (o : Option Term) (u : Account) → Leaves (call_argument E r V M i o u).end u.left
+call_argument_leaves E r V M i o u = (fair_argument {n = 0} {k = 0} E r V M i o).falls u
+
+pub call_leaves : (E : Env) (r : Option Name) (V : Values) (M : Marks) (i : ℕ) (xs : List Term) (o : Option Mark) (u : Account) → Leaves (call_rule E r V M i xs o u).end u.left
+call_leaves E r V M i xs o u = (fair_call {n = 0} {k = 0} E r V M i xs o).falls u
+
+pub argument_found_leaves : (E : Env) (r : Option Name) (V : Values) (M : Marks) (o : Option Term) (u : Account) → Leaves (argument_found E r V M o u).end u.left
+argument_found_leaves E r V M o u = (fair_argument_found {n = 0} {k = 0} E r V M o).falls u
+
+pub walk_leaves : (E : Env) (r : Option Name) (V : Values) (M : Marks) (xs : List Term) (t : Term) (u : Account) → Leaves (walk E r V M xs t u).end u.left
+walk_leaves E r V M xs t u = (fair_walk {n = 0} {k = 0} E r V M xs t).falls u
+
+pub walk_children_fair : (E : Env) (r : Option Name) (V : Values) (M : Marks) {ss : List Slot} (ts : Children ss) → AreFair 0 0 (walk_children E r V M ts) (walk_children E r V M ts)
+walk_children_fair E r V M ts = fair_walk_children E r V M ts
+
+pub walk_terms_fair : (E : Env) (r : Option Name) (V : Values) (M : Marks) (ts : Terms) → AreFair 0 0 (walk_terms E r V M ts) (walk_terms E r V M ts)
+walk_terms_fair E r V M ts = fair_walk_terms E r V M ts
+
+pub walk_branches_fair : (E : Env) (r : Option Name) (V : Values) (M : Marks) (q : Ending) (opened : Bool) (Cs : List Constructor) (bs : Terms) → AreFair 0 0 (walk_branches E r V M q opened Cs bs) (walk_branches E r V M q opened Cs bs)
+walk_branches_fair E r V M q opened Cs bs = fair_walk_branches E r V M q opened Cs bs
+
+pub walk_passed_fair : (E : Env) (r : Option Name) (V : Values) (M : Marks) (rargs : List ℕ) (bs : Terms) → AreFair 0 0 (walk_passed E r V M rargs bs) (walk_passed E r V M rargs bs)
+walk_passed_fair E r V M rargs bs = fair_walk_passed E r V M rargs bs
+
+pub walk_under_leaves : (E : Env) (r : Option Name) (V : Values) (M : Marks) (m : Mark) (rarg : ℕ) (t : Term) (u : Account) → Leaves (walk_under E r V M m rarg t u).end u.left
+walk_under_leaves E r V M m rarg t u = (fair_walk_under {n = 0} {k = 0} E r V M m rarg t).falls u
+
+pub recursive_block_leaves : (E : Env) (V : Values) (rarg : ℕ) (t : Term) (u : Account) → Leaves (recursive_block E V rarg t u).end u.left
+recursive_block_leaves E V rarg t u = (fair_block {n = 0} {k = 0} E V rarg t).falls u
+
+pub body_leaves : (E : Env) (V : Values) (M : Marks) (rarg : ℕ) (t : Term) (u : Account) → Leaves (body_guard E V M rarg t u).end u.left
+body_leaves E V M rarg t u = (fair_body {n = 0} {k = 0} E V M rarg t).falls u
+
+pub bodies_fair : (E : Env) (V : Values) (M : Marks) (rargs : List ℕ) (bs : Terms) → AreFair 0 0 (bodies_guard E V M rargs bs) (bodies_guard E V M rargs bs)
+bodies_fair E V M rargs bs = fair_bodies E V M rargs bs
+
+pub guard_leaves : (E : Env) (V : Values) (rargs : List ℕ) (bodies : Terms) (u : Account) → Leaves (fix_guard E V rargs bodies u).end u.left
+guard_leaves E V rargs bodies u = (fair_guard {n = 0} {k = 0} E V rargs bodies).falls u
+
+pub find_leaves : (E : Env) (r : Option Name) (m : ℕ) (V : Values) (M : Marks) (t : Term) (u : Account) → Leaves (find E r m V M t u).end u.left
+find_leaves E r m V M t u = (fair_find {k = 0} E r m m (omega arith) V M t).falls u
+
+-- of one that goes on with a number of steps at most
+pub look_leaves : (E : Env) (r : Option Name) (m : ℕ) (V : Values) (M : Marks) (t : Term) (u : Account) → Leaves (look E r (find E r m) V M t u).end u.left
+look_leaves E r m V M t u = (fair_look {k = 0} E r (find E r m) (find E r m) (fair_find E r m m (omega arith)) V M t).falls u
+
+pub look_branches_leaves : (E : Env) (r : Option Name) (m : ℕ) (V : Values) (M : Marks) (q : Ending) (Cs : List Constructor) (bs : Terms) (u : Account) →
+    Leaves (look_branches E r (find E r m) V M q Cs bs u).end u.left
+look_branches_leaves E r m V M q Cs bs u = (fair_look_branches {k = 0} E r (find E r m) (find E r m) (fair_find E r m m (omega arith)) V M q Cs bs).falls u
+
+pub step_on_leaves : (o : Option Term) (stay : Run Mark) (go : Term → Account → Run Mark) (u : Account) → Leaves stay.end u.left →
+    ((t : Term) (v : Account) → Leaves (go t v).end v.left) → Leaves (step_on o stay go u).end u.left
+step_on_leaves None stay go u h q = h
+step_on_leaves (Some t) stay go u h q =
+    leaves_ticking u (λ v. bind (passing (is_beyond t) v) (λ x w. go t w)) (λ v. leaves_bind (passing (is_beyond t) v) (λ x w. go t w) v.left (same_left v) (λ x w. q t w))
+
+pub if_smaller_leaves : (m : Mark) (d : Run Mark) (u : Account) → Leaves d.end u.left → Leaves (if_smaller m d u).end u.left
+if_smaller_leaves Smaller d u h = h
+if_smaller_leaves m d u h = same_left u
+
+pub ruleset leaving_finding = (find_leaves, look_leaves, look_branches_leaves, step_on_leaves, if_smaller_leaves, argument_found_leaves)
+
+pub ruleset leaving_walks = (
+  smaller_leaves,
+  call_argument_leaves,
+  call_leaves,
+  walk_leaves,
+  walk_under_leaves,
+  walk_children_fair,
+  walk_terms_fair,
+  walk_branches_fair,
+  walk_passed_fair,
+  fair_walk,
+  fair_walk_under,
+  fair_interleaved,
+  fair_append,
+  fair_if_passed,
+)
+
+pub ruleset leaving_guard = (leaving_finding, leaving_walks, recursive_block_leaves, body_leaves, bodies_fair, guard_leaves, fair_body)

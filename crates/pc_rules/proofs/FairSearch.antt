@@ -5,13 +5,13 @@ use Rattle.calculus_rules.specs.declared.declaration.Constructor.{Constructor}
 use Rattle.pc_rules.specs.declared.meter.Account.{Account}
 use Rattle.calculus_rules.specs.Environment.{Env}
 use Rattle.calculus_rules.specs.Instances.{branch_entries}
-use Rattle.pc_rules.specs.DirectedRun.{Run, is_beyond, any_beyond}
+use Rattle.pc_rules.specs.DirectedRun.{Run, is_beyond, any_beyond, Leaves}
 use Rattle.calculus_rules.specs.Lookups.{kept_at, body_of}
 use Rattle.pc_rules.specs.DirectedWeakHead.{built, branch_of}
 use Rattle.pc_rules.specs.DirectedEvaluation.{Evaluated, Value, Stuck, Evaluating, on_value, with_value, contracted, contracts, takes_more, unfolding_at, applied, node, evaluate, evaluation}
 use Rattle.pc_rules.specs.DirectedFirstOrder.{Searched, Found, NotFirstOrder, TooManyTypes, on_found, with_found, place_in, put_in_at, put_in, put_arguments, put_constructors, independent, member_of, or_not_first_order, argument_types, shape, work_type, work_on, search_within}
 use Rattle.pc_rules.specs.DirectedLaws.{IsSteady}
-use Rattle.pc_rules.proofs.Fair.{IsFair, steady, fair_done, fair_spent, fair_made, fair_passing, fair_if, fair_bind, fair_ticking, fair_ticking_less}
+use Rattle.pc_rules.proofs.Fair.{IsFair, steady, fair_done, fair_spent, fair_made, fair_passing, fair_if, fair_bind, fair_ticking, fair_ticking_less, same_left}
 use Rattle.pc_rules.proofs.FairReduction.{fair_whnf}
 
 -- an evaluation that is fair wherever it is asked
@@ -133,3 +133,53 @@ fair_work_on E limit (suc m) i Ts (Some W) =
 pub steady_search : (E : Env) (limit : ℕ) (T : Term) → IsSteady (search_within E limit T)
 steady_search E limit T = steady (search_within E limit T) (λ n k.
     fair_with_found _ _ (fair_put_in E limit [] T) (λ p. fair_work_on E limit limit 0 p.0 (slice_get p.0 0)))
+
+-- what runs leave, from one account
+
+pub put_at_leaves : (limit : ℕ) (Ts : List Term) (W : Term) (o : Option ℕ) (u : Account) → Leaves (put_in_at limit Ts W o u).end u.left
+put_at_leaves limit Ts W o u = (fair_put_at {n = 0} {k = 0} limit Ts W o).falls u
+
+pub put_arguments_leave : (E : Env) (limit : ℕ) (Ts As : List Term) (u : Account) → Leaves (put_arguments E limit Ts As u).end u.left
+put_arguments_leave E limit Ts As u = (fair_arguments {n = 0} {k = 0} E limit Ts As).falls u
+
+pub put_constructors_leave : (E : Env) (limit : ℕ) (Ts : List Term) (Ass : List (List Term)) (u : Account) → Leaves (put_constructors E limit Ts Ass u).end u.left
+put_constructors_leave E limit Ts Ass u = (fair_constructors {n = 0} {k = 0} E limit Ts Ass).falls u
+
+pub argument_types_leave : (W : Term) (ps : List Term) (Cs : List Constructor) (u : Account) → Leaves (argument_types W ps Cs u).end u.left
+argument_types_leave W ps Cs u = (fair_argument_types {n = 0} {k = 0} W ps Cs).falls u
+
+pub work_type_leaves : (E : Env) (limit : ℕ) (Ts : List Term) (W : Term) (u : Account) → Leaves (work_type E limit Ts W u).end u.left
+work_type_leaves E limit Ts W u = (fair_work_type {n = 0} {k = 0} E limit Ts W).falls u
+
+pub work_on_leaves : (E : Env) (limit m i : ℕ) (Ts : List Term) (o : Option Term) (u : Account) → Leaves (work_on E limit m i Ts o u).end u.left
+work_on_leaves E limit m i Ts o u = (fair_work_on {n = 0} {k = 0} E limit m i Ts o).falls u
+
+pub or_not_leaves : {A : Type 0} (W : Term) (o : Option A) (u : Account) → Leaves (or_not_first_order W o u).end u.left
+or_not_leaves W None u = same_left u
+or_not_leaves W (Some a) u = same_left u
+
+pub on_found_leaves : {A B : Type 0} (s : Searched A) (u : Account) (g : A → Account → Run (Searched B)) → ((a : A) (v : Account) → Leaves (g a v).end v.left) →
+    Leaves (on_found s u g).end u.left
+on_found_leaves (Found a) u g h = h a u
+on_found_leaves (NotFirstOrder T) u g h = same_left u
+on_found_leaves TooManyTypes u g h = same_left u
+
+pub on_value_leaves : (e : Evaluated) (u : Account) (g : Term → Account → Run Evaluated) → ((v : Term) (w : Account) → Leaves (g v w).end w.left) → Leaves (on_value e u g).end u.left
+on_value_leaves (Value v) u g h = h v u
+on_value_leaves (Stuck t) u g h = same_left u
+
+pub evaluate_leaves : (E : Env) (m : ℕ) (t : Term) (u : Account) → Leaves (evaluate E m t u).end u.left
+evaluate_leaves E m t u = (fair_evaluate E 0 m t).falls u
+
+-- of an evaluation of nodes one inside the other, so many at most
+
+pub contracts_leave : (E : Env) (m : ℕ) (t : Term) (o : Option Term) (u : Account) → Leaves (contracts (evaluate E m) t o u).end u.left
+contracts_leave E m t o u = (fair_contracts {n = m} {k = 0} (evaluate E m) (evaluate E (m + 0)) (record { at = fair_evaluate E 0 m }) t o).falls u
+
+pub applied_leaves : (E : Env) (m : ℕ) (t g v : Term) (u : Account) → Leaves (applied E (evaluate E m) t g v u).end u.left
+applied_leaves E m t g v u = (fair_applied {n = m} {k = 0} E (evaluate E m) (evaluate E (m + 0)) (record { at = fair_evaluate E 0 m }) t g v).falls u
+
+pub node_leaves : (E : Env) (m : ℕ) (t : Term) (u : Account) → Leaves (node E (evaluate E m) t u).end u.left
+node_leaves E m t u = (fair_node {n = m} {k = 0} E (evaluate E m) (evaluate E (m + 0)) (record { at = fair_evaluate E 0 m }) t).falls u
+
+pub ruleset leaving_search = (put_at_leaves, put_arguments_leave, put_constructors_leave, argument_types_leave, work_type_leaves, work_on_leaves, or_not_leaves, on_found_leaves, on_value_leaves, evaluate_leaves, contracts_leave, applied_leaves, node_leaves)

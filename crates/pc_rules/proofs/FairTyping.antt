@@ -1,5 +1,5 @@
 -- Inference and blocks never go back on units, and more units change no result.
-use Rattle.std.proofs.Common.{ℕ, zero, suc, ◌+◌, ◌==◌, ◌&&◌, Bool, false, List, [], ◌∷◌, ◌++◌, length, drop, Option, Some, None, slice_get}
+use Rattle.std.proofs.Common.{ℕ, zero, suc, ◌+◌, ◌==◌, ◌&&◌, false, List, [], ◌∷◌, ◌++◌, length, drop, Option, Some, None, slice_get}
 use Rattle.universe_levels.specs.declared.level.Level.{Level}
 use Rattle.universe_levels.specs.declared.sort.Sort.{Sort}
 use Rattle.universe_levels.specs.declared.sort.Sort.TheVariants.{Prop, Of}
@@ -19,25 +19,23 @@ use Rattle.calculus_rules.specs.Environment.{Env, FamilyDecl, family_at}
 use Rattle.calculus_rules.specs.Context.{Context, values, extend, type_at}
 use Rattle.calculus_rules.specs.Instances.{family_type, constructor_type, predicate_entries, branch_entries, predicate_at, branch_type, definitions}
 use Rattle.calculus_rules.specs.Same.{same}
-use Rattle.pc_rules.specs.DirectedRun.{done, make, is_beyond, any_beyond}
+use Rattle.pc_rules.specs.declared.meter.Account.{Account}
+use Rattle.pc_rules.specs.DirectedRun.{done, make, is_beyond, any_beyond, Leaves}
 use Rattle.calculus_rules.specs.Lookups.{kept_at, known_block, whole_block}
 use Rattle.calculus_rules.specs.Listed.{list_of}
 use Rattle.pc_rules.specs.DirectedComparison.{Test, Comparison, compare, sort_below}
 use Rattle.pc_rules.specs.DirectedTyping.{Typing, conv, sort_found, sort_of, check, retype, rel_rule, undeclared_in, raises_past, levels_declared, sort_rule, app_found, const_rule, family_number, find_family, constructor_number, counted, names_counted, match_counted, check_all, sorts_of, may_eliminate, eliminated, is_the_family, found_family, scrutinee_fits, scrutinee_rule, branch_beyond, branch_rule, branches_rule, predicate_rule, case_rule, types_rule, recursive_domain, enough_abstractions, is_a_family, family_found, definition_rule, definitions_rule, definition_type, rule, rule_number, infer}
 use Rattle.calculus_rules.specs.declared.target.Target.TheVariants.{Families}
 use Rattle.calculus_rules.specs.Naming.{some_names}
-use Rattle.pc_rules.specs.DirectedDeclarations.{has_name, distinct_names, family_heads, fits_sort, arguments_rule, with_sorts, constructor_rule, constructors_rule, with_constructors, families_rule, with_families, with_heads, block_rule}
-use Rattle.pc_rules.proofs.Fair.{IsFair, fair_done, fair_refused, fair_made, fair_passing, fair_nested, fair_if, fair_noted, fair_bind, fair_ticking}
-use Rattle.pc_rules.proofs.FairReduction.{fair_whnf, fair_compare}
+use Rattle.pc_rules.specs.DirectedDeclarations.{has_name, distinct_names, family_heads, fits_sort, arguments_rule, with_sorts, constructor_rule, constructors_rule, with_constructors, families_rule, with_families, with_heads, block_rule, body_rule, fresh_name}
+use Rattle.pc_rules.proofs.Fair.{IsFair, fair_done, fair_refused, fair_made, fair_passing, fair_nested, fair_if, fair_noted, fair_bind, fair_ticking, same_left}
+use Rattle.pc_rules.proofs.FairReduction.{FairComparison, fair_whnf, fair_compare}
 use Rattle.pc_rules.proofs.FairRules.{fair_guard}
 use Rattle.pc_rules.proofs.FairPositivity.{fair_positive}
 
--- an inference and a comparison that are fair wherever they are asked
+-- an inference that is fair wherever it is asked
 pub record FairTyping (n k : ℕ) (inf : Typing) : Type 0 where
   pub at : (c : Context) (t : Term) → IsFair n k (λ u. inf c t u) (λ u. inf c t u)
-
-pub record FairComparison (n k : ℕ) (cmp : Comparison) : Type 0 where
-  pub at : (c : Context) (equal : Bool) (a b : Term) → IsFair n k (λ u. cmp c equal a b u) (λ u. cmp c equal a b u)
 
 fair_make : {n k : ℕ} (t : Term) → IsFair n k (λ u. make t u) (λ u. make t u)
 fair_make t = fair_made (is_beyond t) t
@@ -306,3 +304,130 @@ fair_block E q m B =
     (λ ss. fair_family_heads E (infer E q m) (record { at = fair_infer E q m }) B B.families)) (λ x.
     fair_bind _ _ _ _ (fair_families (with_heads E B) q (infer (with_heads E B) q m) (compare (with_heads E B) q m)
     (record { at = fair_infer (with_heads E B) q m }) (record { at = fair_compare (with_heads E B) q m }) B 0 B.families) (λ Fs. fair_done (with_families B Fs)))
+
+-- what runs leave, from one account
+
+pub inferring_fair : {n k : ℕ} (E : Env) (q : Test) (m : ℕ) → FairTyping n k (infer E q m)
+inferring_fair E q m = record { at = fair_infer E q m }
+
+pub conv_leaves : (u : Account) → Leaves (conv u).end u.left
+conv_leaves u = (fair_conv {n = 0} {k = 0}).falls u
+
+pub sort_found_leaves : (inf : Typing) → FairTyping 0 0 inf → (c : Context) (T W : Term) (u : Account) → Leaves (sort_found inf c T W u).end u.left
+sort_found_leaves inf h c T W u = (fair_sort_found {n = 0} {k = 0} inf h c T W).falls u
+
+pub sort_of_leaves : (E : Env) (inf : Typing) → FairTyping 0 0 inf → (c : Context) (A : Term) (u : Account) → Leaves (sort_of E inf c A u).end u.left
+sort_of_leaves E inf h c A u = (fair_sort_of {n = 0} {k = 0} E inf h c A).falls u
+
+pub check_leaves : (E : Env) (inf : Typing) (cmp : Comparison) → FairTyping 0 0 inf → FairComparison 0 0 cmp → (c : Context) (t T : Term) (u : Account) → Leaves (check E inf cmp c t T u).end u.left
+check_leaves E inf cmp h g c t T u = (fair_check {n = 0} {k = 0} E inf cmp h g c t T).falls u
+
+pub retype_leaves : (E : Env) (inf : Typing) → FairTyping 0 0 inf → (c : Context) (T W : Term) (u : Account) → Leaves (retype E inf c T W u).end u.left
+retype_leaves E inf h c T W u = (fair_retype {n = 0} {k = 0} E inf h c T W).falls u
+
+pub rel_leaves : (c : Context) (i : ℕ) (o : Option Term) (u : Account) → Leaves (rel_rule c i o u).end u.left
+rel_leaves c i o u = (fair_rel {n = 0} {k = 0} c i o).falls u
+
+pub levels_leave : (o : Option Level) (u : Account) → Leaves (levels_declared o u).end u.left
+levels_leave o u = (fair_levels {n = 0} {k = 0} o).falls u
+
+pub app_found_leaves : (E : Env) (inf : Typing) (cmp : Comparison) → FairTyping 0 0 inf → FairComparison 0 0 cmp → (c : Context) (a T W : Term) (u : Account) → Leaves (app_found E inf cmp c a T W u).end u.left
+app_found_leaves E inf cmp h g c a T W u = (fair_app_found {n = 0} {k = 0} E inf cmp h g c a T W).falls u
+
+pub const_leaves : (l : Name) (o : Option Kept) (u : Account) → Leaves (const_rule l o u).end u.left
+const_leaves l o u = (fair_const {n = 0} {k = 0} l o).falls u
+
+pub family_number_leaves : (B : Block) (f : FamilyId) (o : Option FamilyDecl) (u : Account) → Leaves (family_number B f o u).end u.left
+family_number_leaves B f o u = (fair_number {n = 0} {k = 0} B f o).falls u
+
+pub find_family_leaves : (f : FamilyId) (o : Option Block) (u : Account) → Leaves (find_family f o u).end u.left
+find_family_leaves f o u = (fair_find_family {n = 0} {k = 0} f o).falls u
+
+pub constructor_number_leaves : (F : FamilyDecl) (m : ℕ) (o : Option Constructor) (u : Account) → Leaves (constructor_number F m o u).end u.left
+constructor_number_leaves F m o u = (fair_constructor {n = 0} {k = 0} F m o).falls u
+
+pub names_counted_leaves : (Cs : List Constructor) (ns : List ℕ) (u : Account) → Leaves (names_counted Cs ns u).end u.left
+names_counted_leaves Cs ns u = (fair_names {n = 0} {k = 0} Cs ns).falls u
+
+pub check_all_leaves : (E : Env) (inf : Typing) (cmp : Comparison) → FairTyping 0 0 inf → FairComparison 0 0 cmp → (c : Context) (s : ℕ → Term) (ts As : List Term) (u : Account) → Leaves (check_all E inf cmp c s ts As u).end u.left
+check_all_leaves E inf cmp h g c s ts As u = (fair_check_all {n = 0} {k = 0} E inf cmp h g c s ts As).falls u
+
+pub sorts_of_leaves : (E : Env) (inf : Typing) → FairTyping 0 0 inf → (c : Context) (As : List Term) (u : Account) → Leaves (sorts_of E inf c As u).end u.left
+sorts_of_leaves E inf h c As u = (fair_sorts_of {n = 0} {k = 0} E inf h c As).falls u
+
+pub branches_leave : (E : Env) (inf : Typing) (cmp : Comparison) → FairTyping 0 0 inf → FairComparison 0 0 cmp → (c : Context) (f : FamilyId) (m : ℕ) (Cs : List Constructor) (ps : List Term) (ret : Term) (bs : List Term) (u : Account) →
+    Leaves (branches_rule E inf cmp c f m Cs ps ret bs u).end u.left
+branches_leave E inf cmp h g c f m Cs ps ret bs u = (fair_branches {n = 0} {k = 0} E inf cmp h g c f m Cs ps ret bs).falls u
+
+pub types_leave : (E : Env) (inf : Typing) → FairTyping 0 0 inf → (c : Context) (m : ℕ) (Ts : List Term) (u : Account) → Leaves (types_rule E inf c m Ts u).end u.left
+types_leave E inf h c m Ts u = (fair_types {n = 0} {k = 0} E inf h c m Ts).falls u
+
+pub enough_leaves : (d : ℕ) (o : Option (Context × Term)) (u : Account) → Leaves (enough_abstractions d o u).end u.left
+enough_leaves d o u = (fair_enough {n = 0} {k = 0} d o).falls u
+
+pub definitions_leave : (E : Env) (inf : Typing) (cmp : Comparison) → FairTyping 0 0 inf → FairComparison 0 0 cmp → (c : Context) (m d : ℕ) (rargs : List ℕ) (Ts bs : List Term) (u : Account) → Leaves (definitions_rule E inf cmp c m d rargs Ts bs u).end u.left
+definitions_leave E inf cmp h g c m d rargs Ts bs u = (fair_definitions {n = 0} {k = 0} E inf cmp h g c m d rargs Ts bs).falls u
+
+pub definition_type_leaves : (i m : ℕ) (o : Option (ℕ × Term)) (u : Account) → Leaves (definition_type i m o u).end u.left
+definition_type_leaves i m o u = (fair_definition_type {n = 0} {k = 0} i m o).falls u
+
+pub rule_leaves : (E : Env) (inf : Typing) (cmp : Comparison) → FairTyping 0 0 inf → FairComparison 0 0 cmp → (c : Context) (t : Term) (u : Account) → Leaves (rule E inf cmp c t u).end u.left
+rule_leaves E inf cmp h g c t u = (fair_rule {n = 0} {k = 0} E inf cmp h g c t).falls u
+
+pub infer_leaves : (E : Env) (q : Test) (m : ℕ) (c : Context) (t : Term) (u : Account) → Leaves (infer E q m c t u).end u.left
+infer_leaves E q m c t u = (fair_infer {n = 0} {k = 0} E q m c t).falls u
+
+pub distinct_leaves : (before Cs : List Constructor) (u : Account) → Leaves (distinct_names before Cs u).end u.left
+distinct_leaves before Cs u = (fair_distinct {n = 0} {k = 0} before Cs).falls u
+
+pub family_heads_leave : (E : Env) (inf : Typing) → FairTyping 0 0 inf → (B : Block) (Fs : List Family) (u : Account) → Leaves (family_heads E inf B Fs u).end u.left
+family_heads_leave E inf h B Fs u = (fair_family_heads {n = 0} {k = 0} E inf h B Fs).falls u
+
+pub fits_sort_leaves : (q : Test) (r s : Sort) (u : Account) → Leaves (fits_sort q r s u).end u.left
+fits_sort_leaves q r s u = (fair_fits_sort {n = 0} {k = 0} q r s).falls u
+
+pub arguments_leave : (H : Env) (q : Test) (inf : Typing) → FairTyping 0 0 inf → (l : Name) (f m : ℕ) (r : Sort) (c : Context) (As : List Term) (u : Account) → Leaves (arguments_rule H q inf l f m r c As u).end u.left
+arguments_leave H q inf h l f m r c As u = (fair_arguments {n = 0} {k = 0} H q inf h l f m r c As).falls u
+
+pub constructors_leave : (H : Env) (q : Test) (inf : Typing) (cmp : Comparison) → FairTyping 0 0 inf → FairComparison 0 0 cmp → (B : Block) (F : Family) (f m : ℕ) (Cs : List Constructor) (u : Account) → Leaves (constructors_rule H q inf cmp B F f m Cs u).end u.left
+constructors_leave H q inf cmp h g B F f m Cs u = (fair_constructors {n = 0} {k = 0} H q inf cmp h g B F f m Cs).falls u
+
+pub families_leave : (H : Env) (q : Test) (inf : Typing) (cmp : Comparison) → FairTyping 0 0 inf → FairComparison 0 0 cmp → (B : Block) (f : ℕ) (Fs : List Family) (u : Account) → Leaves (families_rule H q inf cmp B f Fs u).end u.left
+families_leave H q inf cmp h g B f Fs u = (fair_families {n = 0} {k = 0} H q inf cmp h g B f Fs).falls u
+
+pub block_leaves : (E : Env) (q : Test) (m : ℕ) (B : Block) (u : Account) → Leaves (block_rule E q m B u).end u.left
+block_leaves E q m B u = (fair_block {n = 0} {k = 0} E q m B).falls u
+
+pub body_rule_leaves : (E : Env) (inf : Typing) (cmp : Comparison) → FairTyping 0 0 inf → FairComparison 0 0 cmp → (T : Term) (b : Option Term) (u : Account) →
+    Leaves (body_rule E inf cmp T b u).end u.left
+body_rule_leaves E inf cmp h g T None u = same_left u
+body_rule_leaves E inf cmp h g T (Some b) u = check_leaves E inf cmp h g [] b T u
+
+pub fresh_name_leaves : (o : Option Kept) (l : Name) (u : Account) → Leaves (fresh_name o l u).end u.left
+fresh_name_leaves None l u = same_left u
+fresh_name_leaves (Some d) l u = same_left u
+
+pub ruleset leaving_sorts = (conv_leaves, sort_found_leaves, sort_of_leaves, sorts_of_leaves, levels_leave, check_leaves, check_all_leaves, retype_leaves)
+
+pub ruleset leaving_terms = (
+  rel_leaves,
+  app_found_leaves,
+  const_leaves,
+  family_number_leaves,
+  find_family_leaves,
+  constructor_number_leaves,
+  names_counted_leaves,
+  branches_leave,
+  types_leave,
+  enough_leaves,
+  definitions_leave,
+  definition_type_leaves,
+  rule_leaves,
+  infer_leaves,
+  inferring_fair,
+)
+
+pub ruleset leaving_blocks =
+    (distinct_leaves, family_heads_leave, fits_sort_leaves, arguments_leave, constructors_leave, families_leave, block_leaves, body_rule_leaves, fresh_name_leaves)
+
+pub ruleset leaving_typing = (leaving_sorts, leaving_terms, leaving_blocks)

@@ -4,6 +4,8 @@ pub mod FairReduction
 pub mod FairPositivity
 pub mod FairRules
 pub mod FairTyping
+pub mod FairErasable
+pub mod Leaving
 pub mod Examples
 mod NestedExamples
 pub mod SameTrees

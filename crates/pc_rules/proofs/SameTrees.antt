@@ -21,7 +21,7 @@ same_numbers_is (m ∷ ms) (n ∷ ns) e =
 same_numbers_is [] (n ∷ ns) e = cc
 same_numbers_is (m ∷ ms) [] e = cc
 
-same_parts_is : (ps qs : List LevelExpr) → same_parts ps qs ≡ true → ps ≡ qs
+pub same_parts_is : (ps qs : List LevelExpr) → same_parts ps qs ≡ true → ps ≡ qs
 same_parts_is [] [] e = refl
 same_parts_is (p ∷ ps) (q ∷ qs) e =
     let both = both_true (p.level.0 == q.level.0) ((p.add == q.add) && same_parts ps qs) e in
@@ -30,7 +30,7 @@ same_parts_is (p ∷ ps) (q ∷ qs) e =
 same_parts_is [] (q ∷ qs) e = cc
 same_parts_is (p ∷ ps) [] e = cc
 
-same_sorts_is : (s r : Sort) → same_sorts s r ≡ true → s ≡ r
+pub same_sorts_is : (s r : Sort) → same_sorts s r ≡ true → s ≡ r
 same_sorts_is Prop Prop e = refl
 same_sorts_is (Of u) (Of w) e = ap Of (same_parts_is u w e)
 same_sorts_is Prop (Of w) e = cc
@@ -39,7 +39,7 @@ same_sorts_is (Of u) Prop e = cc
 pub false_true : {A : Type 0} → false ≡ true → A
 false_true e = absurd (cc)
 
-same_labels_is : (l m : Label) → same_labels l m ≡ true → l ≡ m
+pub same_labels_is : (l m : Label) → same_labels l m ≡ true → l ≡ m
 same_labels_is (SortOf s) (SortOf r) e = ap SortOf (same_sorts_is s r e)
 same_labels_is ProdOf ProdOf e = refl
 same_labels_is LambdaOf LambdaOf e = refl
@@ -88,7 +88,7 @@ mutual
 pub one_number : (n : ℕ) → (n == n) ≡ true
 one_number n = eq-eqb n n refl
 
-one_list : (ns : List ℕ) → same_numbers ns ns ≡ true
+pub one_list : (ns : List ℕ) → same_numbers ns ns ≡ true
 one_list [] = refl
 one_list (n ∷ ns) = and_true (n == n) (same_numbers ns ns) (one_number n) (one_list ns)
 

@@ -1,8 +1,7 @@
 -- Runs that are the same where fewer than n units are left, and that never go back on units there.
 use Rattle.std.proofs.Common.{◌≡◌, ℕ, zero, suc, ◌<◌, ◌-◌, Bool, true, false, if◌then◌else◌, ◌||◌, refl, sym, ap, ◌∙◌, subst, arith}
 use Rattle.pc_rules.specs.declared.meter.Account.{Account}
-use Rattle.pc_rules.specs.DirectedRun.{Run, End, Done, Refused, NoUnit, Nested, done, passing, paid, ticking, ticked, end_then, deep_then, bind}
-use Rattle.pc_rules.specs.DirectedLaws.{Leaves}
+use Rattle.pc_rules.specs.DirectedRun.{Run, End, Done, Refused, NoUnit, Nested, done, passing, paid, ticking, ticked, end_then, deep_then, bind, Leaves}
 use Rattle.pc_rules.proofs.Fair.{leaves_less}
 
 pub record Agrees {A : Type 0} (n : ℕ) (f g : Account → Run A) : Type 0 where

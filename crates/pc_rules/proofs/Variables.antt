@@ -7,7 +7,7 @@ use Rattle.trees.proofs.Closed.{deeper_is}
 use Rattle.pc_terms.specs.Syntax.{Slot, Term, Terms, Children, End, Child, Group, Done, Next, Rel, Node}
 use Rattle.calculus_rules.specs.Naming.{has_variable, has_variable_children, has_variable_terms}
 
-neither : (a b : Bool) → a ≡ false → b ≡ false → (a || b) ≡ false
+pub neither : (a b : Bool) → a ≡ false → b ≡ false → (a || b) ≡ false
 neither a b p q = ap (λ x. x || b) p ∙ q
 
 mutual

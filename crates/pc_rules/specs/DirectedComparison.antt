@@ -7,8 +7,7 @@ use Rattle.universe_levels.specs.declared.sort.Sort.TheVariants.{Prop, Of}
 use Rattle.universe_levels.specs.Consistency.{Entails, IsOver}
 use Rattle.universe_levels.specs.declared.constraint.Constraint.{Constraint}
 use Rattle.pc_terms.specs.declared.leaf.FamilyId.{FamilyId}
-use Rattle.pc_terms.specs.Syntax.{Term, Terms, Next, Rel, SortT, Prod, Lambda, Const, Ind, Construct, Case, Fix, head, args, number, shift}
-use Rattle.pc_terms.specs.Syntax as syntax
+use Rattle.pc_terms.specs.Syntax.{Term, Terms, Rel, SortT, Prod, Lambda, Const, Ind, Construct, Case, Fix, head, args, number, shift}
 use Rattle.pc_terms.specs.Formed.{binders_of}
 use Rattle.calculus_rules.specs.declared.declaration.Constructor.{Constructor}
 use Rattle.calculus_rules.specs.declared.entry.Entry.TheVariants.{Assumed}

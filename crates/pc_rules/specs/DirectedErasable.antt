@@ -1,7 +1,6 @@
 -- The test of erasable terms, with units: the first of the four kinds of evidence that there is, or none.
 use Rattle.std.specs.Prelude.{ℕ, zero, suc, Bool, true, false, if◌then◌else◌, List, ◌∷◌, Option, Some, None, slice_get}
 use Rattle.universe_levels.specs.declared.sort.Sort.{Sort}
-use Rattle.universe_levels.specs.declared.sort.Sort.TheVariants.{Prop}
 use Rattle.pc_terms.specs.declared.leaf.FamilyId.{FamilyId}
 use Rattle.pc_terms.specs.Syntax.{Term, SortT, Prod, Construct, Case}
 use Rattle.calculus_rules.specs.declared.declaration.Constructor.{Constructor}

@@ -1,5 +1,5 @@
 -- Sanity laws of the directed rules, as statements.
-use Rattle.std.specs.Prelude.{ℕ, ◌+◌, ◌≤◌, ◌≡◌, ◌↔◌, Bool, true, List, Some}
+use Rattle.std.specs.Prelude.{ℕ, ◌+◌, ◌≡◌, ◌↔◌, Bool, true, List, Some}
 use Rattle.universe_levels.specs.declared.constraint.Constraint.{Constraint}
 use Rattle.universe_levels.specs.Consistency.{IsConsistent}
 use Rattle.pc_terms.specs.Syntax.{Term, Terms, shift}
@@ -13,7 +13,7 @@ use Rattle.calculus_rules.specs.Accepted.{IsAccepted}
 use Rattle.calculus_rules.specs.Evaluation.{Evaluates}
 use Rattle.calculus_rules.specs.FirstOrder.{Shape, IsFirstOrder}
 use Rattle.calculus_rules.specs.Same.{same}
-use Rattle.pc_rules.specs.DirectedRun.{Run, End, Done, Refused, NoUnit, Nested}
+use Rattle.pc_rules.specs.DirectedRun.{Run, End, Done, Refused, NoUnit, Nested, Leaves}
 use Rattle.pc_rules.specs.DirectedWeakHead.{weak_next, whnf}
 use Rattle.pc_rules.specs.DirectedComparison.{Test, compare}
 use Rattle.pc_rules.specs.DirectedGuard.{fix_guard}
@@ -25,13 +25,6 @@ use Rattle.pc_rules.specs.DirectedFirstOrder.{Found, without, search_within}
 -- k units more
 abbrev pub more : ℕ → Account → Account
 more k u = record u { left = u.left + k }
-
--- an end leaves n units at most
-abbrev pub Leaves : {A : Type 0} → End A → ℕ → Type 0
-Leaves (Done a v) n = v.left ≤ n
-Leaves (Refused b v) n = v.left ≤ n
-Leaves NoUnit n = Unit {0}
-Leaves Nested n = Unit {0}
 
 -- with k units more an end is the same, with k units more left, unless no unit was left
 abbrev pub Stays : {A : Type 0} → ℕ → End A → End A → Type 0

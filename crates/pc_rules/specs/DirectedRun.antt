@@ -1,6 +1,6 @@
 -- What directed rules do with units: how they end, and whether they have passed a limit till then. A rule is a function of the account of
 -- units and uses; all of them are put together from the runs below. They go on past a limit, and note that they have passed it.
-use Rattle.std.specs.Prelude.{ℕ, zero, suc, ◌+◌, ◌-◌, ◌^◌, Bool, true, false, ◌||◌, nat_lt, if◌then◌else◌, List, [], ◌∷◌, slice_index, slice_set}
+use Rattle.std.specs.Prelude.{ℕ, zero, suc, ◌+◌, ◌-◌, ◌≤◌, ◌^◌, Bool, true, false, ◌||◌, nat_lt, if◌then◌else◌, List, [], ◌∷◌, slice_index, slice_set}
 use Rattle.trees.specs.Measures.{depth, above}
 use Rattle.pc_terms.specs.Syntax.{Term}
 use Rattle.pc_rules.specs.declared.meter.Account.{Account}
@@ -32,6 +32,13 @@ pub data End (A : Type 0) : Type 0 where
   Refused : Broken → Account → End A
   NoUnit : End A
   Nested : End A
+
+-- an end leaves n units at most
+abbrev pub Leaves : {A : Type 0} → End A → ℕ → Type 0
+Leaves (Done a v) n = v.left ≤ n
+Leaves (Refused b v) n = v.left ≤ n
+Leaves NoUnit n = Unit {0}
+Leaves Nested n = Unit {0}
 
 -- how a rule ends, and whether it has passed a limit
 pub record Run (A : Type 0) : Type 0 where

@@ -1,16 +1,12 @@
 -- Weak-head steps as a function, and with units: one for each step.
-use Rattle.std.specs.Prelude.{ℕ, zero, suc, ◌+◌, ◌==◌, ◌||◌, if◌then◌else◌, List, [], ◌∷◌, length, drop, Option, Some, None, slice_get, option_map}
-use Rattle.pc_terms.specs.declared.leaf.Name.{Name}
+use Rattle.std.specs.Prelude.{ℕ, zero, suc, ◌+◌, ◌==◌, ◌||◌, if◌then◌else◌, List, length, drop, Option, Some, None, slice_get, option_map}
 use Rattle.pc_terms.specs.declared.leaf.FamilyId.{FamilyId}
 use Rattle.pc_terms.specs.Syntax.{Term, Terms, Rel, Lambda, LetIn, App, Const, Construct, Case, Fix, put, put_all, substitute, apply, head, args, term_at}
-use Rattle.calculus_rules.specs.declared.declaration.Block.{Block}
-use Rattle.calculus_rules.specs.declared.declaration.Kept.{Kept}
-use Rattle.calculus_rules.specs.declared.declaration.Kept.TheVariants.{Constant, Heads, Block as Whole}
 use Rattle.pc_rules.specs.declared.meter.Account.{Account}
-use Rattle.calculus_rules.specs.Environment.{Env, FamilyDecl, name_of, family_at}
+use Rattle.calculus_rules.specs.Environment.{Env, FamilyDecl}
 use Rattle.calculus_rules.specs.Context.{Values, value_at}
 use Rattle.calculus_rules.specs.Instances.{unfolded}
-use Rattle.calculus_rules.specs.Same.{same_names, same_families}
+use Rattle.calculus_rules.specs.Same.{same_families}
 use Rattle.pc_rules.specs.DirectedRun.{Run, done, no_unit, is_beyond, ticked}
 use Rattle.calculus_rules.specs.Lookups.{if_some, kept_at, body_of, family_of}
 

@@ -1,6 +1,6 @@
 -- What a call that follows directed rules answers, and how it leaves its meter. The rules are a run `d`: how they end, and whether they
 -- have passed a limit till then. Where they have not, the call's answer is the end of the run, or want of memory. Where they have, the
--- answer may be that a limit was passed as well.
+-- answer may be that a limit was passed as well. Whatever the answer is, no more units are gone than the whole run takes.
 use Rattle.std.specs.Prelude.{◌≡◌, ℕ, ◌≤◌, Result, Ok, Err, IsTrue, slice_index}
 use Rattle.pc_rules.specs.declared.meter.Account.{Account}
 use Rattle.pc_rules.specs.declared.meter.Meter.{Meter}
@@ -8,7 +8,7 @@ use Rattle.pc_rules.specs.declared.stop.Stop.{Stop as StopKind}
 use Rattle.pc_rules.specs.declared.stop.Stop.TheVariants.{Spent, TooDeep, Memory}
 use Rattle.pc_rules.specs.declared.stop.Halt.{Halt}
 use Rattle.pc_rules.specs.declared.stop.Halt.TheVariants.{Stop, Broken as Refusal}
-use Rattle.pc_rules.specs.DirectedRun.{Run, Done, Refused, NoUnit}
+use Rattle.pc_rules.specs.DirectedRun.{Run, Done, Refused, NoUnit, Leaves}
 
 -- as many rules stand in one another as before, no unit was won, and no use of a rule was forgotten
 pub record IsAfter (old new : Meter) : Type 0 where
@@ -39,3 +39,5 @@ halted (Err s) = Err (Stop s)
 pub record Follows {A : Type 0} (d : Run A) (r : Result A Halt) (old new : Meter) : Type 0 where
   pub answer : Answers d r new.account
   pub after : IsAfter old new
+  -- at least as many units are left as at the end of the run, where that tells units
+  pub leaves : Leaves d.end new.account.left

@@ -9,7 +9,8 @@
 //!
 //! The traits `Reducer`, `Converter`, `Guarder` and `Typer` say of each implementation that it follows the directed rules (`follows`, by
 //! `Follows`): its results and refusals are theirs with the units that are left and the uses of rules; it stops for want of units exactly
-//! where they do, unless they pass a limit first; and it may always answer want of memory. Besides, its results are right by the
+//! where they do, unless they pass a limit first; and it may always answer want of memory. Whatever it answers, no more units are gone than
+//! the whole run of the rules takes. Besides, its results are right by the
 //! declarative definitions (`reached`, `below`, `equal`, `guarded`, `typed`). Their conditions are in `WellCounted`
 //! (declared levels, the counts of matches, and the form that each term in memory has) and `FixConditions`.
 //!

@@ -1,5 +1,5 @@
 -- Constructors and branches, as they are read from lists.
-use Rattle.std.proofs.Common.{◌≡◌, ℕ, zero, suc, ◌+◌, ◌==◌, ◌<◌, ◌≤◌, inl, inr, get_or, if◌then◌else◌, Bool, true, false, List, [], ◌∷◌, length, drop, map, Some, None, refl, sym, ap, ◌∙◌, subst as along, arith, slice_get}
+use Rattle.std.proofs.Common.{◌≡◌, ℕ, zero, suc, ◌+◌, ◌==◌, ◌<◌, ◌≤◌, get_or, if◌then◌else◌, Bool, true, false, List, [], ◌∷◌, length, drop, map, Some, None, refl, sym, ap, ◌∙◌, subst as along, arith, slice_get}
 use Rattle.std.proofs.lemmas.Bool.{eq-eqb, eqb-true}
 use Rattle.trees.proofs.Put.{each_length}
 use Rattle.pc_terms.specs.declared.leaf.FamilyId.{FamilyId}
@@ -17,6 +17,7 @@ use Rattle.calculus_rules.specs.Lookups.{if_some}
 use Rattle.calculus_rules.specs.Same.{same_families}
 use Rattle.pc_rules.proofs.SameTrees.{not_true}
 use Rattle.redexes.proofs.Reading.{arm_some, arm_none}
+use Rattle.reduction.proofs.Plugging.{argument_beyond}
 use Rattle.reduce_machine.specs.Arms.{arm_at}
 use Rattle.reduce_machine.specs.Layers.{IsMatchNode, IsFixNode}
 use Rattle.reduce_machine.specs.Reads.{read}
@@ -33,7 +34,7 @@ count_is xs n m e =
     let d = drop_count (map read xs) n (omega arith) in
     omega arith
 
-arm_if : (bs : Terms) (f g : FamilyId) (c n : ℕ) (t : Bool) → same_families f g ≡ t →
+pub arm_if : (bs : Terms) (f g : FamilyId) (c n : ℕ) (t : Bool) → same_families f g ≡ t →
     arm_at bs f g c n ≡ (if t then if_some (term_at bs c) (λ b. if b.0 == n then Some b.1 else None) else None)
 arm_if bs f g c n t e = ap (λ t. if t then if_some (term_at bs c) (λ b. if b.0 == n then Some b.1 else None) else None) e
 
@@ -78,10 +79,6 @@ drop_item (y ∷ xs) (suc i) x e h =
     drop_item xs i x e (omega arith) ∙ ap (λ z. x ∷ z) (ap (λ m. drop m (y ∷ xs)) n)
 
 -- an argument that is beyond the limits
-app_deep : (g t : Term) → IsBeyond t → IsBeyond (App g t)
-app_deep g t (inl h) = inl (omega arith)
-app_deep g t (inr h) = inr (omega arith)
-
 pub applied_deep : (t u : Term) (xs : List Lazy) (i : ℕ) (x : Lazy) (w : Term) → x ≡ get_or xs i x → i < length xs → u ≡ read x → apply t (map read (drop i xs)) ≡ w →
     IsBeyond (App t u) → IsBeyond w
 applied_deep t u xs i x w e h p q b =
@@ -89,4 +86,4 @@ applied_deep t u xs i x w e h p q b =
     (beyond-apply (App t (read x)) (map read (drop (i + 1) xs)) (along (λ (y : Term). IsBeyond (App t y)) p b))
 
 pub item_deep : (t : Term) (xs : List Lazy) (i : ℕ) (x : Lazy) (w : Term) → x ≡ get_or xs i x → i < length xs → apply t (map read (drop i xs)) ≡ w → IsBeyond (read x) → IsBeyond w
-item_deep t xs i x w e h q b = applied_deep t (read x) xs i x w e h refl q (app_deep t (read x) b)
+item_deep t xs i x w e h q b = applied_deep t (read x) xs i x w e h refl q (argument_beyond t (read x) b)

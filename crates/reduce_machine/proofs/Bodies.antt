@@ -1,30 +1,16 @@
 -- Bodies of fixpoints under bindings.
-use Rattle.std.proofs.Common.{◌≡◌, ℕ, zero, suc, ◌<◌, ◌==◌, if◌then◌else◌, List, [], ◌∷◌, length, Some, None, refl, sym, ap, ◌∙◌, subst as along, arith, slice_get, Result, Ok, Err, IfOk}
+use Rattle.std.proofs.Common.{◌≡◌, ℕ, zero, suc, ◌<◌, List, [], ◌∷◌, length, Some, sym, ap, ◌∙◌, subst as along, arith, slice_get, Result, Ok, Err, IfOk}
 use Rattle.pc_terms.specs.declared.term.MakeFault.{MakeFault}
-use Rattle.std.proofs.lemmas.Bool.{eq-eqb}
 use Rattle.trees.proofs.Put.{substituted_term, term_at-substitute, substitute_same}
 use Rattle.pc_terms.specs.declared.term.Def.{Def}
 use Rattle.pc_terms.specs.Lists.{rargs_of, types_of, bodies_of}
-use Rattle.pc_terms.specs.Syntax.{Term, Terms, App, Fix, Next, Done, apply, term_at, substitute, substitute_terms, overs, first}
+use Rattle.pc_terms.specs.Syntax.{Term, App, Fix, Next, Done, apply, term_at, substitute, substitute_terms, overs, first}
 use Rattle.pc_terms.proofs.Parts.{rargs_length}
-use Rattle.calculus_rules.specs.Instances.{unfolded}
-use Rattle.calculus_rules.specs.Lookups.{if_some}
-use Rattle.redexes.specs.Redexes.{body_or, fix_body, unfold_next}
+use Rattle.redexes.specs.Redexes.{fix_body, unfold_next}
+use Rattle.redexes.proofs.Unfolding.{bodies_found, unfolds_at}
 use Rattle.reduce_machine.specs.Reads.{stands, read}
 use Rattle.reduce_machine.specs.declared.bindings.Lazy.{Lazy}
 use Rattle.reduce_machine.proofs.Standing.{put_all-over}
-
-bodies_found : (m : ℕ) (ds : List Def) (i : ℕ) → i < length ds → (b : Term) × (term_at (bodies_of m ds) i ≡ Some (m, b))
-bodies_found m [] i l = absurd (omega arith)
-bodies_found m (d ∷ ds) zero l = (d.body, refl)
-bodies_found m (d ∷ ds) (suc i) l = bodies_found m ds i (omega arith)
-
-unfolds_at : (i : ℕ) (rargs : List ℕ) (types bodies : Terms) (xs : List Term) (a : Term) (m : ℕ) (b : Term) → term_at bodies i ≡ Some (m, b) → m ≡ length rargs →
-    unfold_next (Fix i rargs types bodies) xs a ≡ Some (App (apply (fix_body (Fix i rargs types bodies)) xs) a)
-unfolds_at i rargs types bodies xs a m b e p =
-    ap (λ o. if_some o (λ b. if b.0 == length rargs then Some (App (apply (unfolded rargs types bodies b.1) xs) a) else None)) e
-    ∙ ap (λ y. if y then Some (App (apply (unfolded rargs types bodies b) xs) a) else None) (eq-eqb m (length rargs) p)
-    ∙ sym (ap (λ o. Some (App (apply (body_or rargs types bodies (Fix i rargs types bodies) o) xs) a)) e)
 
 -- the definitions of a term are as many as their recursive arguments, also under bindings
 pub unfolds_read : (ds : List Def) (i : ℕ) (f : Lazy) → Fix i (rargs_of ds) (types_of ds) (bodies_of (length ds) ds) ≡ f.term → i < length (rargs_of ds) →

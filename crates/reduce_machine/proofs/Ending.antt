@@ -20,13 +20,7 @@ use Rattle.reduce_machine.specs.Payment.{HasNoResult}
 use Rattle.reduce_machine.specs.Reducts.{after, ticks}
 use Rattle.reduce_machine.proofs.Keeping.{after_first, goes_far}
 use Rattle.reduce_machine.proofs.Plugging.{plug_beyond, plug_steps}
-use Rattle.reduction.proofs.Running.{spent}
-use Rattle.reduction.proofs.Ending.{GoesOn, goes_on}
-
-spent_follows : (d : Run Term) (E : Env) (V : Values) (t next : Term) (m0 m1 m2 : Meter) → Leads d (whnf E V t m1.account) → weak_next E V t ≡ Some next →
-    IsAfter m0 m1 → m1.account.left ≡ 0 → m2.account ≡ ticked m1.account → m2.nest ≡ m1.nest → Follows d (halted {A = Term} (Err Spent)) m0 m2
-spent_follows d E V t next m0 m1 m2 l e a z k n =
-    record { answer = (spent d E V t next m1.account z l e, rw k (omega arith)); after = after-trans m0 m1 m2 a (after-tick m1 m2 k n) }
+use Rattle.reduction.proofs.Ending.{whnf_left, ticked_left, spent_follows, GoesOn, goes_on}
 
 -- a step without a result
 pub unpaid_follows : (d : Run Term) (E : Env) (V : Values) (t : Term) (fs : List Layer) (r : Step) (s : StopKind) (m0 m1 m2 : Meter) →
@@ -36,12 +30,13 @@ unpaid_follows d E V t fs r Spent m0 m1 m2 l y a e q f h k n = spent_follows d E
 unpaid_follows d E V t fs r TooDeep m0 m1 m2 l y a e q f h k n =
     let x = plug fs (contractum r) in
     let g = goes_on d E V t x x m0 m1 m2 l a e refl h.0 k n in
-    record { answer = deep h.1 g.beyond; after = g.after }
+    record { answer = deep h.1 g.beyond; after = g.after; leaves = whnf_left d E V x m2.account g.leads }
   where
     deep : IsBeyond (source r) ⊎ IsBeyond (contractum r) → (IsTrue (is_beyond (plug fs (contractum r))) → IsTrue d.deep) → IsTrue d.deep
     deep (inl b) g = y (beyond_is t (q.part b))
     deep (inr b) g = g (beyond_is (plug fs (contractum r)) (plug_beyond fs (contractum r) f b))
-unpaid_follows d E V t fs r Memory m0 m1 m2 l y a e q f h k n = record { answer = tt; after = after-trans m0 m1 m2 a (after-tick m1 m2 k n) }
+unpaid_follows d E V t fs r Memory m0 m1 m2 l y a e q f h k n =
+    record { answer = tt; after = after-trans m0 m1 m2 a (after-tick m1 m2 k n); leaves = rw k (ticked_left d E V t (plug fs (contractum r)) m1.account l e) }
 
 -- units that were taken one after the other
 after_ticks : (n : ℕ) (m1 m2 : Meter) → m2.account ≡ ticks n m1.account → m2.nest ≡ m1.nest → IsAfter m1 m2

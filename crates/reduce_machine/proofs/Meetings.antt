@@ -29,6 +29,7 @@ use Rattle.pc_terms.specs.declared.term.MakeFault.{MakeFault}
 use Rattle.pc_terms.specs.declared.term.MakeFault.TheVariants.{TooDeep}
 use Rattle.reduce_machine.specs.declared.values.Value.{Value}
 use Rattle.reduce_machine.specs.declared.steps.Step.{Step}
+use Rattle.reduce_machine.proofs.Arms.{arm_if}
 use Rattle.reduce_machine.proofs.Standing.{put_all-over}
 use Rattle.reduce_machine.proofs.HeadKinds.{fix_head, fix_args}
 use Rattle.reduce_machine.proofs.Nesting.{nested_head, argument_deep}
@@ -100,18 +101,14 @@ arms_put : (s : ℕ → Term) (xs : List Term) (o : Option (ℕ × Term)) →
 arms_put s xs None = refl
 arms_put s xs (Some p) = arm_put s xs p.0 p.1 (p.0 == length xs) refl
 
-arm_here : (bs : Terms) (f g : FamilyId) (c n : ℕ) (t : Bool) → same_families f g ≡ t →
-    arm_at bs f g c n ≡ (if t then if_some (term_at bs c) (λ b. if b.0 == n then Some b.1 else None) else None)
-arm_here bs f g c n t e = ap (λ t. if t then if_some (term_at bs c) (λ b. if b.0 == n then Some b.1 else None) else None) e
-
 branch_arm : (s : ℕ → Term) (bs : Terms) (f g : FamilyId) (c : ℕ) (xs : List Term) (t : Bool) → same_families f g ≡ t →
     branch_of (substitute_terms s bs) f (Some (g, c, xs)) ≡ put_in s xs (arm_at bs f g c (length xs))
 branch_arm s bs f g c xs true e =
     branch_here (substitute_terms s bs) f g c xs e
     ∙ ap (λ o. if_some o (λ b. if b.0 == length xs then Some (substitute (put_all xs Rel) b.1) else None)) (term_at-substitute bs s c)
-    ∙ arms_put s xs (term_at bs c) ∙ sym (ap (put_in s xs) (arm_here bs f g c (length xs) true e))
+    ∙ arms_put s xs (term_at bs c) ∙ sym (ap (put_in s xs) (arm_if bs f g c (length xs) true e))
 branch_arm s bs f g c xs false e =
-    branch_other (substitute_terms s bs) f g c xs e ∙ sym (ap (put_in s xs) (arm_here bs f g c (length xs) false e))
+    branch_other (substitute_terms s bs) f g c xs e ∙ sym (ap (put_in s xs) (arm_if bs f g c (length xs) false e))
 
 -- a match on a value
 pub match_none : (E : Env) (V : Values) (l : Lazy) (v : Term) → IsMatchNode l.term → weak_next E V v ≡ None → built E v ≡ None →

@@ -2,8 +2,6 @@
 use Rattle.std.proofs.Common.{◌≡◌, ◌∙◌, IsTrue, [], None, refl, sym, ap, subst as along}
 use Rattle.trees.specs.Measures.{IsWithin}
 use Rattle.pc_terms.specs.Syntax.{Term}
-use Rattle.pc_terms.specs.declared.term.MakeFault.{MakeFault}
-use Rattle.pc_terms.specs.declared.term.MakeFault.TheVariants.{TooDeep as DeepTerm, Memory as NoTerm}
 use Rattle.calculus_rules.specs.Environment.{Env}
 use Rattle.calculus_rules.specs.Context.{Values}
 use Rattle.calculus_rules.specs.WeakHead.{WeakSteps}
@@ -42,7 +40,3 @@ passed_beyond E V t w u p h = or_left (is_beyond t) _ (along (λ x. IsTrue (is_b
 pub passed_reached : (E : Env) (V : Values) (t0 t w : Term) (u0 u1 : Account) → Leads (reduced E V t0 u0) (whnf E V t u1) → weak_next E V t ≡ None → w ≡ t →
     WeakSteps E V t0 w
 passed_reached E V t0 t w u0 u1 l e p = rw p (steps_lead E V u0.left t0 t u0 u1 (stays (reduced E V t0 u0) E V t u1 l e))
-
--- want of memory is no passed limit
-pub not_deep : (f : MakeFault) → f ≡ NoTerm → f ≡ DeepTerm → ⊥
-not_deep f p q = let e = sym p ∙ q in cc

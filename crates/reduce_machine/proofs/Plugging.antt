@@ -1,12 +1,13 @@
 -- Terms in frames.
 use Rattle.std.proofs.Common.{◌≡◌, ◌+◌, inl, inr, List, [], ◌∷◌, ◌++◌, Some, refl, ap, arith}
 use Rattle.trees.specs.Measures.{IsBeyond}
-use Rattle.pc_terms.specs.Syntax.{Term, App, Case}
+use Rattle.pc_terms.specs.Syntax.{Term, Case}
 use Rattle.calculus_rules.specs.Environment.{Env}
 use Rattle.calculus_rules.specs.Context.{Values}
 use Rattle.pc_rules.specs.DirectedWeakHead.{case_step, weak_next}
 use Rattle.redexes.proofs.Unfolding.{function_beyond}
 use Rattle.reduce_machine.specs.Layered.{Layer, ToArgument, InMatch, OfFixpoint, ByItself, around, plug, IsFrame, AreFrames, weight, weights}
+use Rattle.reduction.proofs.Plugging.{argument_beyond}
 use Rattle.reduction.proofs.Steps.{function_steps, argument_steps}
 
 -- a step in a frame is a step
@@ -38,10 +39,6 @@ weights_last [] f = omega arith
 weights_last (g ∷ fs) f = omega (arith, weights_last fs f)
 
 -- what is around a term beyond the limits is beyond them
-argument_beyond : (g t : Term) → IsBeyond t → IsBeyond (App g t)
-argument_beyond g t (inl h) = inl (omega arith)
-argument_beyond g t (inr h) = inr (omega arith)
-
 around_beyond : (f : Layer) (t : Term) → IsFrame f → IsBeyond t → IsBeyond (around f t)
 around_beyond (ToArgument a) t k h = function_beyond t a h
 around_beyond (InMatch (Case f ps n ret s bs)) t k (inl h) = inl (omega arith)

@@ -1,5 +1,6 @@
 -- A block that the directed rules let pass fits.
 use Rattle.std.proofs.Common.{◌≡◌, ◌≢◌, ℕ, zero, suc, ◌+◌, Bool, true, false, if◌then◌else◌, List, [], ◌∷◌, map, length, Some, refl, sym, subst, arith, slice_get}
+use Rattle.std.proofs.lemmas.Bool.{or_parts}
 use Rattle.std.specs.List.{All, AllPairs}
 use Rattle.std.proofs.lemmas.List.Elements.{All-nil, All-cons}
 use Rattle.std.proofs.lemmas.List.Kept.{AllPairs-cons}
@@ -40,7 +41,6 @@ use Rattle.rule_laws.proofs.MatchRule.{count_is, entries_sound, all_sound}
 use Rattle.rule_laws.proofs.Inferring.{infer_sound}
 use Rattle.rule_laws.proofs.Extending.{FindsAs, all_more, constructors_more, finds_more, finds_without, env_more}
 use Rattle.rule_laws.proofs.Positive.{other_name, positive_is}
-use Rattle.rule_laws.proofs.Alternatives.{or_false}
 use Rattle.pc_rules.proofs.WeakNext.{none_some}
 
 -- the names of constructors are distinct
@@ -59,8 +59,8 @@ Distinct (k ∷ ks) = Differs k ks × Distinct ks
 
 has_none : (k : Name) (Bs : List Constructor) → has_name k Bs ≡ false → (X : Constructor) → Has Bs X → X.name ≢ k
 has_none k [] h X p = elim p [ ]
-has_none k (B ∷ Bs) h X here = other_name B.name k (or_false (same_names B.name k) (has_name k Bs) h).0
-has_none k (B ∷ Bs) h X (there p) = has_none k Bs (or_false (same_names B.name k) (has_name k Bs) h).1 X p
+has_none k (B ∷ Bs) h X here = other_name B.name k (or_parts (same_names B.name k) (has_name k Bs) h).0
+has_none k (B ∷ Bs) h X (there p) = has_none k Bs (or_parts (same_names B.name k) (has_name k Bs) h).1 X p
 
 -- distinct, and different from those before
 abbrev pub AreNew : List Constructor → List Constructor → Type 0
@@ -121,12 +121,13 @@ module _ (E : Env) (w : HasCountedDeclarations E) (inf : Typing) (si : Infers E 
 
 -- its constructors
 
+pub sort_fits : (H : Env) → HasCountedDeclarations H → (q : Test) → IsTest H.levels H.constraints q → (r s : Sort) (u v : Account) → (fits_sort q r s u).end ≡ run.Done tt v → r ≢ Prop →
+    SortEntails H s r
+sort_fits H w q test Prop s u v h n = absurd (n refl)
+sort_fits H w q test (Of x) s u v h n = entails H q test w s (Of x) (tested (sort_below q s (Of x)) (done tt u) (SortTooSmall s (Of x)) u tt v h).0
+
 module _ (H : Env) (w : HasCountedDeclarations H) (inf : Typing) (si : Infers H inf) (cmp : Comparison) (sc : IsSound H cmp) (q : Test)
     (test : IsTest H.levels H.constraints q) where
-  fits : (r s : Sort) (u v : Account) → (fits_sort q r s u).end ≡ run.Done tt v → r ≢ Prop → SortEntails H s r
-  fits Prop s u v h n = absurd (n refl)
-  fits (Of x) s u v h n = entails H q test w s (Of x) (tested (sort_below q s (Of x)) (done tt u) (SortTooSmall s (Of x)) u tt v h).0
-
   type_positive : (k : Name) (f n : ℕ) (A : Term) (u v : Account) → (positive_rule H k f n A u).end ≡ run.Done tt v → IsGood H (Families k) 0 A
   type_positive k f n A u v h =
       let p = bind_both (is_positive H k A u) (λ b v. if b then done tt v else run.refused (NotPositive f n) v) tt v h in
@@ -160,7 +161,7 @@ module _ (H : Env) (w : HasCountedDeclarations H) (inf : Typing) (si : Infers H 
       subst (λ ss. AreArguments k r c (A ∷ As) ss) (done_value p4.3)
       (record {
         sorts = a_sort a.0 rest.sorts;
-        small = λ p. (fits r s p1.1 p2.1 p2.2 p, rest.small p);
+        small = λ p. (sort_fits H w q test r s p1.1 p2.1 p2.2 p, rest.small p);
         positive = (type_positive k f n A p2.1 p3.1 p3.2, rest.positive);
         all = (a.1, rest.all);
         over = (a.2, rest.over);

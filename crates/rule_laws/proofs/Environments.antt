@@ -1,7 +1,7 @@
 -- An environment that the directed rules accept is well formed.
 use Rattle.std.proofs.Common.{◌≡◌, ◌≢◌, ℕ, suc, ◌==◌, ◌≤◌, Bool, true, false, if◌then◌else◌, nat_le, List, [], ◌∷◌, ◌++◌, map, reverse, append_assoc, append-nil, length, Option, Some, None, refl, sym, ap, ◌∙◌, subst, arith}
 use Rattle.std.specs.List.{All, AllPairs}
-use Rattle.std.proofs.lemmas.Bool.{leb-true, eq-eqb}
+use Rattle.std.proofs.lemmas.Bool.{leb-true, eq-eqb, or_parts}
 use Rattle.std.proofs.lemmas.Grind.{reverse_onto}
 use Rattle.std.proofs.lemmas.List.Elements.{All-nil, All-cons}
 use Rattle.std.proofs.lemmas.List.Kept.{AllPairs-cons}
@@ -38,7 +38,6 @@ use Rattle.rule_laws.proofs.Inferring.{infer_sound}
 use Rattle.rule_laws.proofs.Extending.{fresh_is, env_more}
 use Rattle.rule_laws.proofs.Positive.{none_true}
 use Rattle.rule_laws.proofs.Blocks.{block_sound}
-use Rattle.rule_laws.proofs.Alternatives.{or_false}
 
 -- a new name
 
@@ -188,8 +187,8 @@ Distinct (k ∷ ks) = Differs k ks × Distinct ks
 
 has_none : (k : Level) (ls : List Level) → has_level k ls ≡ false → (l : Level) → Has ls l → l ≢ k
 has_none k [] h l p = elim p [ ]
-has_none k (m ∷ ls) h l here = λ e. other_level k m (or_false (k.0 == m.0) (has_level k ls) h).0 (sym e)
-has_none k (m ∷ ls) h l (there p) = has_none k ls (or_false (k.0 == m.0) (has_level k ls) h).1 l p
+has_none k (m ∷ ls) h l here = λ e. other_level k m (or_parts (k.0 == m.0) (has_level k ls) h).0 (sym e)
+has_none k (m ∷ ls) h l (there p) = has_none k ls (or_parts (k.0 == m.0) (has_level k ls) h).1 l p
 
 abbrev AreNew : List Level → List Level → Type 0
 AreNew before ls = Distinct ls × ((k : Level) → Has before k → Differs k ls)

@@ -68,18 +68,37 @@ name_at (Next k t ts) (suc i) m n T h e = name_at ts i m n T h.1 e
 pub shifted_formed : (n : ℕ) (T : Term) → IsFormed T → IsFormed (shift n 0 T)
 shifted_formed n T h = each_renamed HasForm T (λ i. n + i) h
 
-module _ (E : Env) (w : HasCountedDeclarations E) (inf : Typing) (si : Infers E inf) where
+module _ (E : Env) where
   -- the types of the definitions
   pub record AreTypes (c : Context) (n : ℕ) (types : Terms) : Type 0 where
     pub sorts : Sorts guarded E c n types
     pub all : EachTerm (IsCountedNode E) types
     pub context : IsCountedContext E (definitions c n types)
 
-  next_types : (c : Context) (n m : ℕ) (T : Term) (ts : Terms) → m ≡ 0 → AreTypes c n (Next 0 T ts) → AreTypes c n (Next m T ts)
+  pub next_types : (c : Context) (n m : ℕ) (T : Term) (ts : Terms) → m ≡ 0 → AreTypes c n (Next 0 T ts) → AreTypes c n (Next m T ts)
   next_types c n m T ts e h = subst (λ m. AreTypes c n (Next m T ts)) (sym e) h
 
+  -- a definition's body, and those of all
+  pub record IsDefinition (c : Context) (n rarg : ℕ) (T body : Term) : Type 0 where
+    pub recursive : Recurses E (values c) rarg body
+    pub typed : Types guarded E c body (shift n 0 T)
+    pub subject : IsCounted E body
+    pub begin : BeginsWith (suc rarg) body
+
+  pub record AreBodies (c : Context) (n : ℕ) (rargs : List ℕ) (types bodies : Terms) : Type 0 where
+    pub typed : Bodies guarded E c n rargs types bodies
+    pub all : EachTerm (IsCountedNode E) bodies
+    pub begin : HaveLambdas rargs bodies
+
+  pub next_bodies : (c : Context) (n m m' r : ℕ) (rargs : List ℕ) (T body : Term) (ts bs : Terms) → m ≡ 0 → m' ≡ n →
+      AreBodies c n (r ∷ rargs) (Next 0 T ts) (Next n body bs) → AreBodies c n (r ∷ rargs) (Next m T ts) (Next m' body bs)
+  next_bodies c n m m' r rargs T body ts bs e e' h =
+      subst (λ m. AreBodies c n (r ∷ rargs) (Next m T ts) (Next m' body bs)) (sym e)
+      (subst (λ m. AreBodies c n (r ∷ rargs) (Next 0 T ts) (Next m body bs)) (sym e') h)
+
+module _ (E : Env) (w : HasCountedDeclarations E) (inf : Typing) (si : Infers E inf) where
   pub types_sound : (c : Context) (n : ℕ) (types : Terms) (u v : Account) → IsCountedContext E c → AreAll 0 (binders_of types) → EachTerm HasForm types →
-      (types_rule E inf c n (list_of types) u).end ≡ run.Done tt v → AreTypes c n types
+      (types_rule E inf c n (list_of types) u).end ≡ run.Done tt v → AreTypes E c n types
   unfolding types_rule
   types_sound c n Done u v k a f h = record { sorts = no_types; all = tt; context = k }
   types_sound c n (Next m T ts) u v k a f h =
@@ -88,22 +107,11 @@ module _ (E : Env) (w : HasCountedDeclarations E) (inf : Typing) (si : Infers E 
       let p = bind_both (sort_of E inf c S u) (λ _ w. types_rule E inf (Assumed S ∷ c) (suc n) (list_of ts) w) tt v h1 in
       let s = sort_sound E w inf si c S p.0 u p.1 k (shifted_formed n T f.0) p.2 in
       let r = types_sound (Assumed S ∷ c) (suc n) ts p.1 v (s.1, k) a.1 f.1 p.3 in
-      next_types c n m T ts a.0 (record { sorts = a_type s.0 r.sorts; all = (before_shift E n 0 T s.1, r.all); context = r.context })
+      next_types E c n m T ts a.0 (record { sorts = a_type s.0 r.sorts; all = (before_shift E n 0 T s.1, r.all); context = r.context })
 
   module _ (cmp : Comparison) (sc : IsSound E cmp) where
-    pub record AreBodies (c : Context) (n : ℕ) (rargs : List ℕ) (types bodies : Terms) : Type 0 where
-      pub typed : Bodies guarded E c n rargs types bodies
-      pub all : EachTerm (IsCountedNode E) bodies
-      pub begin : HaveLambdas rargs bodies
-
-    pub record IsDefinition (c : Context) (n rarg : ℕ) (T body : Term) : Type 0 where
-      pub recursive : Recurses E (values c) rarg body
-      pub typed : Types guarded E c body (shift n 0 T)
-      pub subject : IsCounted E body
-      pub begin : BeginsWith (suc rarg) body
-
     definition_sound : (c : Context) (n d rarg : ℕ) (T body : Term) (u v : Account) → IsCountedContext E c → IsCounted E T → IsFormed body →
-        (definition_rule E inf cmp c n d rarg T body u).end ≡ run.Done tt v → IsDefinition c n rarg T body
+        (definition_rule E inf cmp c n d rarg T body u).end ≡ run.Done tt v → IsDefinition E c n rarg T body
     definition_sound c n d rarg T body u v k wT f h =
         let S : Term = shift n 0 T in
         let k3 : Context × Term → Unit {0} → Account → Run (Unit {0}) = λ p _ x. bind (whnf E (values p.0) p.1 x) (λ W y. family_found W y) in
@@ -127,15 +135,9 @@ module _ (E : Env) (w : HasCountedDeclarations E) (inf : Typing) (si : Infers E 
           begin = begins c rarg body q e;
         }
 
-    next_bodies : (c : Context) (n m m' r : ℕ) (rargs : List ℕ) (T body : Term) (ts bs : Terms) → m ≡ 0 → m' ≡ n →
-        AreBodies c n (r ∷ rargs) (Next 0 T ts) (Next n body bs) → AreBodies c n (r ∷ rargs) (Next m T ts) (Next m' body bs)
-    next_bodies c n m m' r rargs T body ts bs e e' h =
-        subst (λ m. AreBodies c n (r ∷ rargs) (Next m T ts) (Next m' body bs)) (sym e)
-        (subst (λ m. AreBodies c n (r ∷ rargs) (Next 0 T ts) (Next m body bs)) (sym e') h)
-
     pub bodies_sound : (c : Context) (n d : ℕ) (rargs : List ℕ) (types bodies : Terms) (u v : Account) → IsCountedContext E c → AreAll 0 (binders_of types) → AreAll n (binders_of bodies) →
         length (binders_of types) ≡ length rargs → length (binders_of bodies) ≡ length rargs → EachTerm (IsCountedNode E) types → EachTerm HasForm bodies →
-        (definitions_rule E inf cmp c n d rargs (list_of types) (list_of bodies) u).end ≡ run.Done tt v → AreBodies c n rargs types bodies
+        (definitions_rule E inf cmp c n d rargs (list_of types) (list_of bodies) u).end ≡ run.Done tt v → AreBodies E c n rargs types bodies
     unfolding definitions_rule
     bodies_sound c n d [] Done Done u v k a b l l' wt fb h = record { typed = no_bodies; all = tt; begin = tt }
     bodies_sound c n d [] (Next m T ts) bs u v k a b l l' wt fb h = absurd (omega arith)
@@ -146,7 +148,7 @@ module _ (E : Env) (w : HasCountedDeclarations E) (inf : Typing) (si : Infers E 
         let p = bind_both (definition_rule E inf cmp c n d r T body u) (λ _ v. definitions_rule E inf cmp c n (suc d) rargs (list_of ts) (list_of bs) v) tt v h in
         let one = definition_sound c n d r T body u p.1 k wt.0 fb.0 p.2 in
         let rest = bodies_sound c n (suc d) rargs ts bs p.1 v k a.1 b.1 (omega arith) (omega arith) wt.1 fb.1 p.3 in
-        next_bodies c n m m' r rargs T body ts bs a.0 b.0
+        next_bodies E c n m m' r rargs T body ts bs a.0 b.0
         (record { typed = a_body one.recursive one.typed rest.typed; all = (one.subject, rest.all); begin = (one.begin, rest.begin) })
 
     pub fix_rule_sound : (c : Context) (i : ℕ) (rargs : List ℕ) (types bodies : Terms) (T : Term) (u v : Account) → IsCountedContext E c →

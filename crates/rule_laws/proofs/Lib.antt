@@ -2,7 +2,6 @@ pub mod Names
 pub mod NoStep
 pub mod Counted
 pub mod KeepCounts
-pub mod Alternatives
 pub mod Outcomes
 pub mod Runs
 pub mod Settled

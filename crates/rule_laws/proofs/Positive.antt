@@ -1,6 +1,6 @@
 -- What the test of positivity lets pass is positive.
-use Rattle.std.proofs.Common.{◌≡◌, ℕ, zero, suc, ◌+◌, ◌<◌, ◌≤◌, ◌==◌, ◌||◌, not, ◌⊎◌, inl, inr, Bool, true, false, if◌then◌else◌, nat_lt, nat_le, List, [], ◌∷◌, ◌++◌, length, take, drop, Option, Some, None, refl, sym, ap, ◌∙◌, subst, arith}
-use Rattle.std.proofs.lemmas.Bool.{eq-eqb, not-true, ltb-true, leb-true, eqb-true}
+use Rattle.std.proofs.Common.{◌≡◌, ℕ, zero, suc, ◌+◌, ◌<◌, ◌≤◌, ◌==◌, not, ◌⊎◌, inl, inr, Bool, true, false, if◌then◌else◌, nat_lt, nat_le, List, [], ◌∷◌, ◌++◌, length, take, drop, Option, Some, None, refl, sym, ap, ◌∙◌, subst, arith}
+use Rattle.std.proofs.lemmas.Bool.{eq-eqb, not-true, ltb-true, leb-true, eqb-true, or_from}
 use Rattle.pc_terms.specs.declared.leaf.Name.{Name}
 use Rattle.pc_terms.specs.declared.leaf.FamilyId.{FamilyId}
 use Rattle.pc_terms.specs.Syntax.{Term, Rel, SortT, Prod, Lambda, LetIn, App, Const, Ind, Construct, Case, Fix, apply, head, args}
@@ -108,12 +108,9 @@ module _ (E : Env) (nest : Nesting) (sound : (B : Block) (p : ℕ) (u : Account)
   first_nested g j B i (suc m) (x ∷ xs) (inl f, h) = other f (first_nested g j B (suc i) m xs h)
   first_nested g j B i (suc m) (x ∷ xs) (inr f, h) = naming f.1.0 f.1.1 (first_nested g j B (suc i) m xs h)
 
-  neither : (a b : Bool) → a ≡ false → b ≡ false → (a || b) ≡ false
-  neither a b p q = ap (λ x. x || b) p ∙ q
-
   rest_none : (g : Target) (j : ℕ) (B : Block) (i m : ℕ) (xs : List Term) → length B.params ≤ i + m → AllFit g j B i xs → some_names g j (drop m xs) ≡ false
   rest_none g j B i zero [] l h = refl
-  rest_none g j B i zero (x ∷ xs) l (inl f, h) = neither (names g j x) (some_names g j xs) f (rest_none g j B (suc i) zero xs (omega arith) h)
+  rest_none g j B i zero (x ∷ xs) l (inl f, h) = or_from (names g j x) (some_names g j xs) f (rest_none g j B (suc i) zero xs (omega arith) h)
   rest_none g j B i zero (x ∷ xs) l (inr f, h) = let q = f.0 in absurd (omega arith)
   rest_none g j B i (suc m) [] l h = refl
   rest_none g j B i (suc m) (x ∷ xs) l h = rest_none g j B (suc i) m xs (omega arith) h.1

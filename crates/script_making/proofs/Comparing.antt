@@ -30,6 +30,7 @@ use Rattle.cert_rules.specs.declared.item.CertItem.TheVariants.{Same}
 use Rattle.cert_rules.specs.Writing.{WriteAct, silent, noting, noting_all, write_on, write_all}
 use Rattle.cert_rules.specs.MakingTyping.{MakeComparison, make_compare, make_entered, make_entering, make_each, make_branches_equal, make_matches_equal, make_heads_equal, make_spines_equal, part_items}
 use Rattle.conversion.specs.Comparable.{AreComparable}
+use Rattle.conversion.proofs.Comparing.{which_short}
 use Rattle.script_making.specs.declared.draft.Draft.{Draft}
 use Rattle.script_making.specs.Makes.{Makes}
 use Rattle.script_making.specs.Comparing.{compare_making}
@@ -129,13 +130,9 @@ module _ (cmp : MakeComparison) (c : Context) (ps : List Term) (Cs : List Constr
   branches_short i (inr (inl h)) = rw (none_left bs i h) (no_left (drop i Cs) (list_of (arms_of (drop i bs'))))
   branches_short i (inr (inr h)) = rw (none_left bs' i h) (no_right (drop i Cs) (list_of (arms_of (drop i bs))))
 
-  which_short : (i : ℕ) → (length Cs ≤ i) ⊎ (min (length bs) (length bs') ≤ i) → (length Cs ≤ i) ⊎ ((length bs ≤ i) ⊎ (length bs' ≤ i))
-  which_short i (inl h) = inl h
-  which_short i (inr h) = inr (min_either (length bs) (length bs') i h)
-
   pub branches_done : (i : ℕ) (t : Draft) → min (length Cs) (min (length bs) (length bs')) ≤ i → Makes (write_all (branches_from i) t.meter.account) (Ok tt) t t
   branches_done i t h =
-      rw (branches_short i (which_short i (min_either (length Cs) (min (length bs) (length bs')) i h))) (makes_none t)
+      rw (branches_short i (which_short (length Cs) (length bs) (length bs') i h)) (makes_none t)
 
 -- two matches, by the lists of their parameters
 module _ (E : Env) (n : ℕ) (c : Context) (x y : Match) where

@@ -14,7 +14,8 @@ use Rattle.pc_rules.specs.declared.stop.Halt.TheVariants.{Stop, Broken as Refusa
 use Rattle.pc_rules.specs.Stops.{stop_of}
 use Rattle.pc_rules.specs.DirectedRun.{Run, Done, ticked, noted, done, make, passing, end_then, too_nested, ticking}
 use Rattle.pc_rules.specs.Follows.{Follows, IsAfter, Answers, Halts}
-use Rattle.pc_rules.proofs.Following.{or_left, or_right, ticking-more, follows_still, follows_made, follows_fault, follows_passing, follows_deep, follows_entered, follows_spent, follows_nested, follows_noted}
+use Rattle.pc_rules.proofs.Fair.{same_left}
+use Rattle.pc_rules.proofs.Following.{or_left, or_right, ticking-more, leaves_at, follows_done, follows_made, follows_fault, follows_passing, follows_deep, follows_entered, follows_spent, follows_nested, follows_noted}
 use Rattle.pc_rules.proofs.Meters.{after-refl, after-trans}
 use Rattle.cert_rules.specs.Walk.{Items}
 use Rattle.cert_rules.specs.Writing.{Wrote, wrote, WriteAct, end_writing, writing_steps, silent, noting_all, end_before, write_on, write_all, end_forgotten, forgotten}
@@ -123,7 +124,7 @@ makes_put is d a n t0 t1 t2 f w c e w2 =
 -- items are written, and no unit is taken
 
 pub makes_noted : (xs : Items) (t0 t1 : Draft) → t1.meter ≡ t0.meter → t1.written.items ≡ t0.written.items ++ xs → Makes (noting_all xs t0.meter.account) (Ok tt) t0 t1
-makes_noted xs t0 t1 e w = makes_steps (λ n. xs) (done tt t0.meter.account) tt t0 t0 t1 (follows_still (done tt t0.meter.account) (Ok tt) t0.meter refl) e w
+makes_noted xs t0 t1 e w = makes_steps (λ n. xs) (done tt t0.meter.account) tt t0 t0 t1 (follows_done tt t0.meter) e w
 
 -- what takes no item is done by calls that follow the directed rules
 
@@ -143,7 +144,7 @@ makes_metered f r t m p = makes_silent f p refl
 
 -- also those that take no unit
 pub makes_answers : {A : Type 0} (f : Account → Run A) {r : Result A Halt} {t : Draft} → Answers (f t.meter.account) r t.meter.account → Makes (silent f t.meter.account) r t t
-makes_answers f {r = r} {t = t} h = makes_silent f (follows_still (f t.meter.account) r t.meter h) refl
+makes_answers f {r = r} {t = t} h = record { answer = silent_writes f r t t h refl; after = after-refl t.meter }
 
 pub makes_done : {A : Type 0} (a : A) (t : Draft) → Makes (silent (done a) t.meter.account) (Ok a) t t
 makes_done a t = makes_answers (done a) refl
@@ -165,7 +166,7 @@ pub makes_passing : {B : Type 0} (b : Bool) (k : Unit {0} → Account → Run (W
 makes_passing b k {t0 = t0} p = makes_on k (makes_silent (passing b) (follows_passing b t0.meter) refl) p
 
 deep_passing : (b : Bool) (f : MakeFault) (t : Draft) → (f ≡ DeepTerm → IsTrue b) → Makes (silent (passing b) t.meter.account) (Err (Stop (stop_of f))) t t
-deep_passing b DeepTerm t h = makes_silent (passing b) (follows_deep (passing b t.meter.account) t.meter (h refl)) refl
+deep_passing b DeepTerm t h = makes_silent (passing b) (follows_deep (passing b t.meter.account) t.meter (h refl) (same_left t.meter.account)) refl
 deep_passing b NoTerm t h = makes_memory (silent (passing b) t.meter.account) t
 
 pub makes_beyond : {B : Type 0} (b : Bool) (k : Unit {0} → Account → Run (Wrote B)) (f : MakeFault) (t : Draft) → (f ≡ DeepTerm → IsTrue b) →
@@ -195,7 +196,7 @@ pub makes_entered : {A : Type 0} (go : Account → Run (Wrote A)) (r : Result A 
     t1.meter.account ≡ ticked t0.meter.account → t1.meter.nest ≡ t0.meter.nest → t2.meter.account ≡ t1.meter.account → t2.meter.nest ≡ t1.meter.nest + 1 → t2.written.items ≡ t0.written.items →
     Makes (go t2.meter.account) r t2 t3 → t4.meter.account ≡ t3.meter.account → t4.meter.nest ≡ t3.meter.nest - 1 → t4.written.items ≡ t3.written.items → Makes (ticking t0.meter.account go) r t0 t4
 makes_entered {A = A} go r t0 t1 t2 t3 t4 h e n e2 n2 w2 p e4 n4 w4 =
-    let after = (follows_entered {A = A} (λ v. too_nested) (Err (Stop Memory)) t0.meter t1.meter t2.meter t3.meter t4.meter h e n e2 n2 (record { answer = tt; after = p.after }) e4 n4).after in
+    let after = (follows_entered {A = A} (λ v. too_nested) (Err (Stop Memory)) t0.meter t1.meter t2.meter t3.meter t4.meter h e n e2 n2 (record { answer = tt; after = p.after; leaves = tt }) e4 n4).after in
     let k : ticked t0.meter.account ≡ t2.meter.account = sym (e2 ∙ e) in
     rw (ticking-more t0.meter.account go h, k) (record { answer = writes_as (go t2.meter.account) r t0 t2 t3 t4 w2 e4 w4 p.answer; after = after })
 
@@ -203,7 +204,7 @@ makes_entered {A = A} go r t0 t1 t2 t3 t4 h e n e2 n2 w2 p e4 n4 w4 =
 pub makes_used : {A : Type 0} (go : Account → Run (Wrote A)) (r : Result A Halt) (i : ℕ) (t0 t1 t2 : Draft) → t1.meter.account ≡ noted i t0.meter.account → t1.meter.nest ≡ t0.meter.nest →
     t1.written.items ≡ t0.written.items → Makes (go t1.meter.account) r t1 t2 → Makes (go (noted i t0.meter.account)) r t0 t2
 makes_used {A = A} go r i t0 t1 t2 e n w p =
-    let after = (follows_noted {A = A} (λ v. too_nested) (Err (Stop Memory)) i t0.meter t1.meter t2.meter e n (record { answer = tt; after = p.after })).after in
+    let after = (follows_noted {A = A} (λ v. too_nested) (Err (Stop Memory)) i t0.meter t1.meter t2.meter e n (record { answer = tt; after = p.after; leaves = tt })).after in
     rw (← e) (record { answer = writes_as (go t1.meter.account) r t0 t1 t2 t2 w refl refl p.answer; after = after })
 
 -- each of a list of runs that write, the first first
@@ -222,16 +223,10 @@ unfolding write_all
 makes_first_err act acts h t0 t1 p = makes_err (λ _ v. write_all acts v) p
 
 -- but for the items, what is made is what the directed rules give
-
-answers_forgotten : {A : Type 0} (d : Run (Wrote A)) (r : Result A Halt) (t0 t1 : Draft) → Writes d r t0 t1 → Answers (forgotten d) r t1.meter.account
-answers_forgotten d (Ok a) t0 t1 h = ap (λ e. end_forgotten e) h.1
-answers_forgotten d (Err (Stop Spent)) t0 t1 h = (ap (λ e. end_forgotten e) h.0, h.1)
-answers_forgotten d (Err (Stop TooDeep)) t0 t1 h = h
-answers_forgotten d (Err (Stop Memory)) t0 t1 h = tt
-answers_forgotten d (Err (Refusal b)) t0 t1 h = ap (λ e. end_forgotten e) h
-
-pub made_follows : {A : Type 0} (d : Run (Wrote A)) (e : Run A) (r : Result A Halt) {t0 t1 : Draft} → forgotten d ≡ e → Makes d r t0 t1 → Follows e r t0.meter t1.meter
-made_follows d e r {t0 = t0} {t1 = t1} g p = subst (λ x. Follows x r t0.meter t1.meter) g (record { answer = answers_forgotten d r t0 t1 p.answer; after = p.after })
+pub made_follows : {A : Type 0} (d : Run (Wrote A)) (e : Run A) (a : A) {t0 t1 : Draft} → forgotten d ≡ e → Makes d (Ok a) t0 t1 → Follows e (Ok a) t0.meter t1.meter
+made_follows d e a {t1 = t1} g p =
+    let h : e.end ≡ Done a t1.meter.account = sym (ap (λ x. x.end) g) ∙ ap (λ x. end_forgotten x) p.answer.1 in
+    record { answer = h; after = p.after; leaves = leaves_at e (Done a t1.meter.account) t1.meter.account.left h (same_left t1.meter.account) }
 
 -- what a `?` gives on, without its number
 pub counted_passed : (d : Run Term) (r : Result (ℕ × Term) Halt) (h : Halt) (m0 m1 : Meter) → IsErrAnd r (λ e. e ≡ h) → Follows d (Err h) m0 m1 → Follows d (without_count r) m0 m1

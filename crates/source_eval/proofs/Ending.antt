@@ -10,13 +10,14 @@ use Rattle.calculus_rules.specs.Environment.{Env}
 use Rattle.calculus_rules.specs.Evaluation.{Evaluates}
 use Rattle.pc_rules.specs.Follows.{Follows, IsAfter}
 use Rattle.pc_rules.specs.Leads.{Leads}
-use Rattle.pc_rules.specs.DirectedRun.{Run, End, Done, NoUnit, done, no_unit, ticked, ticking, end_then, bind}
+use Rattle.pc_rules.specs.DirectedRun.{Run, End, Done, NoUnit, Leaves, done, no_unit, ticked, ticking, end_then, bind}
 use Rattle.pc_rules.specs.DirectedEvaluation.{Evaluated, Value, Stuck, on_value, node, evaluation}
 use Rattle.pc_rules.specs.DirectedLaws.{more, Stays}
 use Rattle.pc_rules.proofs.EvaluationReached.{reached}
 use Rattle.pc_rules.proofs.FairSearch.{steady_evaluation}
 use Rattle.pc_rules.proofs.EvaluationRuns.{evaluate_sound}
-use Rattle.pc_rules.proofs.Following.{ticking-more, ticking-none}
+use Rattle.pc_rules.proofs.Fair.{same_left}
+use Rattle.pc_rules.proofs.Following.{leaves_at, ticking-more, ticking-none}
 use Rattle.pc_rules.proofs.Meters.{after-refl, after-trans, after-tick}
 use Rattle.source_eval.specs.declared.evaluation.EvalStop.TheVariants.{Spent as NoUnits, TooDeep as Deep, Stuck as Without, Memory as NoMemory}
 use Rattle.source_eval.specs.declared.frames.Frame.{Frame}
@@ -50,9 +51,11 @@ pub spent_follows : (d : Run Evaluated) (E : Env) (fs : List Frame) (t : Term) (
     m1.account.left ≡ 0 → m2.account ≡ ticked m1.account → m2.nest ≡ m1.nest → Follows d (evaluated (Err NoUnits)) m0 m2
 spent_follows d E fs t m0 m1 m2 l a z k n =
     let e = evaluation_next E t m1.account ∙ ticking-none m1.account (λ v. node E (evaluation E) t v) z in
+    let p = l.end ∙ none_within E fs (evaluation E t m1.account) (ap (λ (r : Run Evaluated). r.end) e) in
     record {
-      answer = (l.end ∙ none_within E fs (evaluation E t m1.account) (ap (λ (r : Run Evaluated). r.end) e), rw k (omega arith));
+      answer = (p, rw k (omega arith));
       after = after-trans m0 m1 m2 a (after-tick m1 m2 k n);
+      leaves = leaves_at d NoUnit m2.account.left p tt;
     }
 
 -- a term was entered
@@ -74,9 +77,14 @@ pub after_node : (m0 m1 m2 : Meter) → IsAfter m0 m1 → m2.account ≡ ticked 
 after_node m0 m1 m2 a k n = after-trans m0 m1 m2 a (after-tick m1 m2 k n)
 
 -- there is no memory, or a limit was passed
-pub fault_follows : (d : Run Evaluated) (f : MakeFault) (m0 m1 : Meter) → (f ≡ DeepTerm → IsTrue d.deep) → IsAfter m0 m1 → Follows d (evaluated (Err (eval_stop f))) m0 m1
-fault_follows d DeepTerm m0 m1 h a = record { answer = h refl; after = a }
-fault_follows d NoTerm m0 m1 h a = record { answer = tt; after = a }
+pub fault_follows : (d : Run Evaluated) (f : MakeFault) (m0 m1 : Meter) → (f ≡ DeepTerm → IsTrue d.deep) → IsAfter m0 m1 → Leaves d.end m1.account.left →
+    Follows d (evaluated (Err (eval_stop f))) m0 m1
+fault_follows d DeepTerm m0 m1 h a l = record { answer = h refl; after = a; leaves = l }
+fault_follows d NoTerm m0 m1 h a l = record { answer = tt; after = a; leaves = l }
+
+pub memory_follows : (d : Run Evaluated) (f : MakeFault) (m0 m1 : Meter) → f ≡ NoTerm → IsAfter m0 m1 → Leaves d.end m1.account.left →
+    Follows d (evaluated (Err (eval_stop f))) m0 m1
+memory_follows d f m0 m1 e a l = fault_follows d f m0 m1 (λ h. let z : DeepTerm ≡ NoTerm = sym h ∙ e in absurd (cc)) a l
 
 pub passed : (d : Run Evaluated) (E : Env) (fs : List Frame) (t : Term) (f : Found) (u w : Account) → Leads d (within E fs (evaluation E t u)) → 0 < u.left →
     w ≡ ticked u → Comes E (λ x. node E (evaluation E) t x) f → Passes (λ x. within E fs (goes_on E f x)) → IsTrue d.deep
@@ -84,11 +92,13 @@ passed d E fs t f u w l h k c p = (entered d E fs t f u w l h k c).deep (p.deep 
 
 -- a value, or a term without a rule
 pub value_follows : (d : Run Evaluated) (v : Term) (m0 m1 : Meter) → Leads d (done (Value v) m1.account) → IsAfter m0 m1 → Follows d (evaluated (Ok v)) m0 m1
-value_follows d v m0 m1 l a = record { answer = l.end; after = a }
+value_follows d v m0 m1 l a =
+    record { answer = l.end; after = a; leaves = leaves_at d (Done (Value v) m1.account) m1.account.left l.end (same_left m1.account) }
 
 pub stuck_follows : (d : Run Evaluated) (t : Term) (m0 m1 : Meter) → Leads d (done (Stuck t) m1.account) → IsAfter m0 m1 →
     Follows d (evaluated (Err (Without t))) m0 m1
-stuck_follows d t m0 m1 l a = record { answer = l.end; after = a }
+stuck_follows d t m0 m1 l a =
+    record { answer = l.end; after = a; leaves = leaves_at d (Done (Stuck t) m1.account) m1.account.left l.end (same_left m1.account) }
 
 pub value_is : (E : Env) (t v : Term) (u w : Account) → Leads (evaluation E t u) (done (Value v) w) → (n : ℕ) × Evaluates E t v n × (u ≡ more n w)
 value_is E t v u w l = evaluate_sound E u.left t v u w l.end

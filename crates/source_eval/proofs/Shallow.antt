@@ -14,11 +14,11 @@ use Rattle.pc_rules.specs.DirectedEvaluation.{Evaluated, Value, on_value, with_v
 use Rattle.pc_rules.specs.DirectedLaws.{more}
 use Rattle.calculus_rules.proofs.Determined.{not_more, not_unfolds}
 use Rattle.pc_rules.proofs.EvaluationNext.{evaluation_next}
-use Rattle.pc_rules.proofs.EvaluationRuns.{more_none, more_more}
+use Rattle.pc_rules.proofs.EvaluationReached.{body_there, more_there, no_more, unfolding_there, branch_there, more_two, more_three}
+use Rattle.pc_rules.proofs.EvaluationRuns.{more_none}
 use Rattle.pc_rules.proofs.Following.{bind_done, ticking-more}
 use Rattle.source_eval.specs.StaysWithin.{StaysWithin}
 use Rattle.source_eval.specs.Waiting.{applied_other}
-use Rattle.source_eval.proofs.Contracta.{body_there, more_there, no_more, unfolding_there, branch_there}
 
 not_beyond : (t : Term) → IsWithin t → is_beyond t ≡ false
 not_beyond t h = ap (λ b. b || nat_lt (2 ^ 32) (above t)) (le-ltb 2048 (depth t) h.0) ∙ le-ltb (2 ^ 32) (above t) h.1
@@ -74,37 +74,31 @@ module _ (E : Env) where
   value_stays t u construct_is = refl
   value_stays t u fix_is = refl
 
-two : (n m : ℕ) (w : Account) → more (n + m) w ≡ more n (more m w)
-two n m w = sym (more_more n m w)
-
-three : (n m k : ℕ) (w : Account) → more (n + m + k) w ≡ more n (more m (more k w))
-three n m k w = two (n + m) k w ∙ two n m (more k w)
-
 -- with a unit for each node, the whole run is the value
 pub runs : (E : Env) → IsAccepted E → (t v : Term) (n : ℕ) (e : Evaluates E t v n) → StaysWithin e → (w : Account) → evaluation E t (more n w) ≡ done (Value v) w
 runs E a t v n (value i) h w = node_goes_on E t 0 w ∙ value_stays E t (more 0 w) i ∙ ap (done (Value t)) (sym (more_none w))
 runs E a t v n (constant {k = k} {n = j} {T = T} {b = b} c e) h w =
     node_goes_on E t j w ∙ contracts_goes_on E t (body_of (kept_at E.declarations k)) b (more j w) (body_there E a k T b c) h.0 ∙ runs E a b v j e h.1 w
 runs E a t y n (let_in {b = b} {t = body} {v = v} {n = i} {m = j} e e') h w =
-    node_goes_on E t (i + j) w ∙ ap (node E (evaluation E) t) (two i j w)
+    node_goes_on E t (i + j) w ∙ ap (node E (evaluation E) t) (more_two i j w)
     ∙ value_goes_on (evaluation E b (more i (more j w))) (λ v w. contracted (evaluation E) (substitute (put v) body) w) v (more j w) (runs E a b v i e h.1 (more j w))
     ∙ contracted_goes_on E (substitute (put v) body) (more j w) h.0 ∙ runs E a (substitute (put v) body) y j e' h.2 w
 runs E a t y n (beta {f = f} {a = arg} {A = A} {b = b} {v = v} {n = i} {m = j} {k = k} e e' e'') h w =
-    node_goes_on E t (i + j + k) w ∙ ap (node E (evaluation E) t) (three i j k w)
+    node_goes_on E t (i + j + k) w ∙ ap (node E (evaluation E) t) (more_three i j k w)
     ∙ app_goes_on E f arg (Lambda A b) v (more i (more j (more k w))) (more j (more k w)) (more k w)
     (runs E a f (Lambda A b) i e h.1 (more j (more k w))) (runs E a arg v j e' h.2 (more k w))
     ∙ contracted_goes_on E (substitute (put v) b) (more k w) h.0 ∙ runs E a (substitute (put v) b) y k e'' h.3 w
 runs E a t y n (extend {f = f} {a = arg} {g = g} {v = v} {n = i} {m = j} e e' m) h w =
-    node_goes_on E t (i + j) w ∙ ap (node E (evaluation E) t) (two i j w)
+    node_goes_on E t (i + j) w ∙ ap (node E (evaluation E) t) (more_two i j w)
     ∙ app_goes_on E f arg g v (more i (more j w)) (more j w) w (runs E a f g i e h.1 (more j w)) (runs E a arg v j e' h.2 w)
     ∙ extended_goes_on E a t g v w m h.0
 runs E a t y n (unfold_fix {f = f} {a = arg} {g = g} {v = v} {u = c} {n = i} {m = j} {k = k} e e' m e'') h w =
-    node_goes_on E t (i + j + k) w ∙ ap (node E (evaluation E) t) (three i j k w)
+    node_goes_on E t (i + j + k) w ∙ ap (node E (evaluation E) t) (more_three i j k w)
     ∙ app_goes_on E f arg g v (more i (more j (more k w))) (more j (more k w)) (more k w)
     (runs E a f g i e h.1 (more j (more k w))) (runs E a arg v j e' h.2 (more k w))
     ∙ unfolded_goes_on E t g v c (more k w) m h.0 ∙ runs E a c y k e'' h.3 w
 runs E a t y n (enter {f = f} {bs = bs} {c = c} {n = i} {m = j} {s = s} {v = v} {body = body} {qs = qs} {xs = xs} e m b e') h w =
-    node_goes_on E t (i + j) w ∙ ap (node E (evaluation E) t) (two i j w)
+    node_goes_on E t (i + j) w ∙ ap (node E (evaluation E) t) (more_two i j w)
     ∙ value_goes_on (evaluation E s (more i (more j w))) (λ v w. contracts (evaluation E) t (branch_of bs f (built E v)) w) v (more j w) (runs E a s v i e h.1 (more j w))
     ∙ contracts_goes_on E t (branch_of bs f (built E v)) (substitute (put_all xs Rel) body) (more j w) (branch_there E a f c v bs qs xs body m b) h.0
     ∙ runs E a (substitute (put_all xs Rel) body) y j e' h.2 w

@@ -27,8 +27,12 @@ use Rattle.pc_rules.specs.DirectedRun.{Run, make, bind}
 use Rattle.pc_rules.specs.DirectedWeakHead.{whnf}
 use Rattle.calculus_rules.specs.Listed.{list_of}
 use Rattle.pc_rules.specs.DirectedComparison.{Comparison}
-use Rattle.pc_rules.specs.DirectedTyping.{Typing, sort_of, check, types_rule, recursive_domain, is_a_family, family_found, definition_rule, definitions_rule, definition_type}
-use Rattle.pc_rules.proofs.Following.{follows_bind, follows_err, follows_made, follows_fault, follows_done, follows_refused, follows_then, follows_else}
+use Rattle.pc_rules.specs.DirectedTyping.{Typing, sort_of, check, types_rule, recursive_domain, enough_abstractions, is_a_family, family_found, definition_rule, definitions_rule, definition_type}
+use Rattle.pc_rules.proofs.Following.{follows_bind, follows_err, follows_made, follows_fault, follows_done, follows_refused, follows_then, follows_else, follows_memory}
+use Rattle.pc_rules.proofs.FairReduction.{FairComparison}
+use Rattle.pc_rules.proofs.Fair.{leaves_bind}
+use Rattle.pc_rules.proofs.FairTyping.{FairTyping, enough_leaves}
+use Rattle.pc_rules.proofs.Leaving.{leaving}
 use Rattle.type_infer.proofs.Declaring.{halts_either}
 use Rattle.pc_terms.proofs.Parts.{rargs_length}
 
@@ -50,18 +54,18 @@ module _ (E : Env) (inf : Typing) (c : Context) where
         follows_bind (make (shift i 0 T) m0.account) after_type S r m0 m0 m2 (follows_made (shift i 0 T) S m0 e)
         (follows_bind (sort_of E inf c S m0.account) (λ _ w. types_rule E inf (Assumed S ∷ c) (suc i) Ts w) s r m0 m1 m2 f g)
 
-    type_stops : (S : Term) (x : Halt) (m0 m1 : Meter) → S ≡ shift i 0 T → Follows (sort_of E inf c S m0.account) (Err x) m0 m1 →
+    type_stops : FairTyping 0 0 inf → (S : Term) (x : Halt) (m0 m1 : Meter) → S ≡ shift i 0 T → Follows (sort_of E inf c S m0.account) (Err x) m0 m1 →
         Follows (types_rule E inf c i (T ∷ Ts) m0.account) (Err x) m0 m1
     unfolding types_rule
-    type_stops S x m0 m1 e f =
+    type_stops g S x m0 m1 e f =
         follows_bind (make (shift i 0 T) m0.account) after_type S (Err x) m0 m0 m1 (follows_made (shift i 0 T) S m0 e)
-        (follows_err (sort_of E inf c S m0.account) (λ _ w. types_rule E inf (Assumed S ∷ c) (suc i) Ts w) x m0 m1 f)
+        (follows_err (sort_of E inf c S m0.account) (λ _ w. types_rule E inf (Assumed S ∷ c) (suc i) Ts w) x m0 m1 f (search (leaving, g)))
 
-    type_fault : (f : MakeFault) (m : Meter) → (f ≡ DeepTerm → IsBeyond (lift i 0 T)) → Follows (types_rule E inf c i (T ∷ Ts) m.account) (Err (Stop (stop_of f))) m m
+    type_fault : FairTyping 0 0 inf → (f : MakeFault) (m : Meter) → (f ≡ DeepTerm → IsBeyond (lift i 0 T)) → Follows (types_rule E inf c i (T ∷ Ts) m.account) (Err (Stop (stop_of f))) m m
     unfolding types_rule
-    type_fault f m h =
+    type_fault g f m h =
         follows_err (make (shift i 0 T) m.account) after_type (Stop (stop_of f)) m m
-        (follows_fault (shift i 0 T) f m (λ e. transport (λ X. IsBeyond X) (lift-shift i 0 T) (h e)))
+        (follows_fault (shift i 0 T) f m (λ e. transport (λ X. IsBeyond X) (lift-shift i 0 T) (h e))) (search (leaving, g))
 
   pub no_more_types : (i : ℕ) (m : Meter) → Follows (types_rule E inf c i [] m.account) (Ok tt) m m
   unfolding types_rule
@@ -78,13 +82,13 @@ module _ (E : Env) (inf : Typing) (c : Context) where
       types_next S s r m0 m1 m2 p f g =
           rw (next_is ds i d h e) (type_step i d.ty (list_of (types_of (drop (suc i) ds))) S s r m0 m1 m2 p f (rw add-one at g))
 
-      pub types_stop : (S : Term) (x : Halt) (m0 m1 : Meter) → S ≡ shift i 0 d.ty → Follows (sort_of E inf c S m0.account) (Err x) m0 m1 →
+      pub types_stop : FairTyping 0 0 inf → (S : Term) (x : Halt) (m0 m1 : Meter) → S ≡ shift i 0 d.ty → Follows (sort_of E inf c S m0.account) (Err x) m0 m1 →
           Follows (types_rule E inf c i (list_of (types_of (drop i ds))) m0.account) (Err x) m0 m1
-      types_stop S x m0 m1 p f = rw (next_is ds i d h e) (type_stops i d.ty (list_of (types_of (drop (suc i) ds))) S x m0 m1 p f)
+      types_stop g S x m0 m1 p f = rw (next_is ds i d h e) (type_stops i d.ty (list_of (types_of (drop (suc i) ds))) g S x m0 m1 p f)
 
-      pub types_fault : (f : MakeFault) (m : Meter) → (f ≡ DeepTerm → IsBeyond (lift i 0 d.ty)) →
+      pub types_fault : FairTyping 0 0 inf → (f : MakeFault) (m : Meter) → (f ≡ DeepTerm → IsBeyond (lift i 0 d.ty)) →
           Follows (types_rule E inf c i (list_of (types_of (drop i ds))) m.account) (Err (Stop (stop_of f))) m m
-      types_fault f m p = rw (next_is ds i d h e) (type_fault i d.ty (list_of (types_of (drop (suc i) ds))) f m p)
+      types_fault g f m p = rw (next_is ds i d h e) (type_fault i d.ty (list_of (types_of (drop (suc i) ds))) g f m p)
 
 -- the context under them
 
@@ -101,9 +105,15 @@ pub lift_beyond : (n : ℕ) (T : Term) (f : MakeFault) → (f ≡ DeepTerm → I
 lift_beyond n T f h e = transport (λ X. IsBeyond X) (lift-shift n 0 T) (h e)
 
 module _ (D : Def) (E : Env) (inf : Typing) (cmp : Comparison) (c : Context) (n d : ℕ) where
-  pub few_lambdas : {m : Meter} → recursive_domain c D.rarg D.body ≡ None →
+  pub few_lambdas : FairTyping 0 0 inf → FairComparison 0 0 cmp → {m : Meter} → recursive_domain c D.rarg D.body ≡ None →
       Follows (definition_rule E inf cmp c n d D.rarg D.ty D.body m.account) (Err (Refusal (NotEnoughAbstractions d))) m m
-  few_lambdas {m = m} e = rw e (follows_err _ _ _ m m (follows_refused (NotEnoughAbstractions d) m))
+  few_lambdas h g {m = m} e = rw e (follows_err _ _ _ m m (follows_refused (NotEnoughAbstractions d) m) (search (leaving, h, g)))
+
+  pub definition_memory : FairTyping 0 0 inf → FairComparison 0 0 cmp → (m : Meter) → Follows (definition_rule E inf cmp c n d D.rarg D.ty D.body m.account) (Err (Stop Memory)) m m
+  definition_memory h g m =
+      follows_memory _ m
+      (leaves_bind (enough_abstractions d (recursive_domain c D.rarg D.body) m.account) _ m.account.left (enough_leaves d (recursive_domain c D.rarg D.body) m.account)
+      (search (leaving, h, g)))
 
   pub lambdas_found : {q : Context × Term} {r : Result (Unit {0}) Halt} {m0 m1 : Meter} → recursive_domain c D.rarg D.body ≡ Some q →
       Follows (bind (make (shift n 0 D.ty) m0.account) (λ S w. bind (check E inf cmp c D.body S w) (λ _ x. bind (whnf E (values q.0) q.1 x) (λ W y. family_found W y)))) r m0 m1 →
@@ -127,11 +137,11 @@ module _ (E : Env) (inf : Typing) (cmp : Comparison) (c : Context) (n : ℕ) whe
     definition_step x m0 m1 m2 f g =
         follows_bind (definition_rule E inf cmp c n i r T b m0.account) (λ _ v. definitions_rule E inf cmp c n (suc i) rargs Ts bs v) tt x m0 m1 m2 f g
 
-    definition_stops : (x : Halt) (m0 m1 : Meter) → Follows (definition_rule E inf cmp c n i r T b m0.account) (Err x) m0 m1 →
+    definition_stops : FairTyping 0 0 inf → FairComparison 0 0 cmp → (x : Halt) (m0 m1 : Meter) → Follows (definition_rule E inf cmp c n i r T b m0.account) (Err x) m0 m1 →
         Follows (definitions_rule E inf cmp c n i (r ∷ rargs) (T ∷ Ts) (b ∷ bs) m0.account) (Err x) m0 m1
     unfolding definitions_rule
-    definition_stops x m0 m1 f =
-        follows_err (definition_rule E inf cmp c n i r T b m0.account) (λ _ v. definitions_rule E inf cmp c n (suc i) rargs Ts bs v) x m0 m1 f
+    definition_stops h g x m0 m1 f =
+        follows_err (definition_rule E inf cmp c n i r T b m0.account) (λ _ v. definitions_rule E inf cmp c n (suc i) rargs Ts bs v) x m0 m1 f (search (leaving, h, g))
 
   no_more_definitions : (i : ℕ) (m : Meter) → Follows (definitions_rule E inf cmp c n i [] [] [] m.account) (Ok tt) m m
   unfolding definitions_rule
@@ -150,9 +160,9 @@ module _ (E : Env) (inf : Typing) (cmp : Comparison) (c : Context) (n : ℕ) whe
           Follows (definitions_from m0.account) x m0 m2
       definitions_go x m0 m1 m2 f g = rw (next_is ds i d h e) (definition_step i d.rarg _ d.ty _ d.body _ x m0 m1 m2 f (rw add-one at g))
 
-      pub definitions_stop : (x : Halt) (m0 m1 : Meter) → Follows (definition_rule E inf cmp c n i d.rarg d.ty d.body m0.account) (Err x) m0 m1 →
+      pub definitions_stop : FairTyping 0 0 inf → FairComparison 0 0 cmp → (x : Halt) (m0 m1 : Meter) → Follows (definition_rule E inf cmp c n i d.rarg d.ty d.body m0.account) (Err x) m0 m1 →
           Follows (definitions_from m0.account) (Err x) m0 m1
-      definitions_stop x m0 m1 f = rw (next_is ds i d h e) (definition_stops i d.rarg _ d.ty _ d.body _ x m0 m1 f)
+      definitions_stop p q x m0 m1 f = rw (next_is ds i d h e) (definition_stops i d.rarg _ d.ty _ d.body _ p q x m0 m1 f)
 
 -- the type of the definition that is named
 

@@ -1,10 +1,10 @@
 -- Types of which arguments are still to be put in: what they stand for, and how calls that answer them follow the rules.
-use Rattle.std.proofs.Common.{◌≡◌, ◌∙◌, ap, sym, refl, subst as transport, ◌≤◌, ◌<◌, ◌^◌, inl, inr, length, List, [], ◌∷◌, ◌++◌, Result, Ok, Err, IfOk, IfErr, IsErrAnd, arith}
+use Rattle.std.proofs.Common.{◌≡◌, ◌∙◌, ap, sym, refl, subst as transport, inl, inr, length, List, [], ◌∷◌, ◌++◌, Result, Ok, Err, IsErrAnd, arith}
 use Rattle.std.proofs.lemmas.Result.{err_from_is_err_and}
-use Rattle.trees.specs.Measures.{depth, above, IsWithin, IsBeyond}
+use Rattle.trees.specs.Measures.{IsWithin, IsBeyond}
 use Rattle.trees.proofs.Cutoffs.{subst-substitute}
 use Rattle.trees.proofs.Operations.{list-none, list-one, list-last, list-into_subst, list-lifted}
-use Rattle.pc_terms.specs.Syntax.{Term, Prod, App, lift, subst, subst_list, put, substitute}
+use Rattle.pc_terms.specs.Syntax.{Term, Prod, lift, subst, subst_list, put, substitute}
 use Rattle.pc_terms.specs.declared.term.MakeFault.{MakeFault}
 use Rattle.pc_terms.specs.declared.term.MakeFault.TheVariants.{TooDeep as DeepTerm, Memory as NoTerm}
 use Rattle.calculus_rules.specs.Environment.{Env}
@@ -15,7 +15,7 @@ use Rattle.pc_rules.specs.declared.stop.Stop.TheVariants.{Memory}
 use Rattle.pc_rules.specs.declared.stop.Halt.{Halt}
 use Rattle.pc_rules.specs.declared.stop.Halt.TheVariants.{Stop}
 use Rattle.pc_rules.specs.Stops.{stop_of}
-use Rattle.pc_rules.specs.DirectedRun.{Run, bind, make, done}
+use Rattle.pc_rules.specs.DirectedRun.{Run, bind, make, Leaves}
 use Rattle.pc_rules.specs.DirectedComparison.{Comparison}
 use Rattle.pc_rules.specs.DirectedTyping.{Typing, check, retype, app_found}
 use Rattle.pc_rules.specs.DirectedWeakHead.{whnf}
@@ -24,7 +24,6 @@ use Rattle.pc_rules.proofs.Following.{follows_made, follows_fault, follows_done,
 use Rattle.pc_rules.proofs.SameTrees.{same_itself}
 use Rattle.type_infer.specs.declared.pending.PendingType.{PendingType}
 use Rattle.type_infer.specs.Pending.{standing, IsMaking, ended, Pends, halt_of, FollowsPending}
-use Rattle.type_infer.proofs.Finding.{product_found}
 use Rattle.type_infer.proofs.Steps.{and_then}
 
 -- one argument more is one more substitution
@@ -73,7 +72,7 @@ ends_there halt P w e f g (Err NoTerm) h = g
 
 pub pends_there : {d : Run Term} {p : PendingType} {T : Term} {m0 m1 : Meter} → IsWithin T → standing p ≡ T → Follows d (Ok T) m0 m1 → FollowsPending d (Ok p) m0 m1
 pends_there {d = d} {m0 = m0} {m1 = m1} w e f =
-    record { pends = ends_there halt_of (λ q. Follows d q m0 m1) w e f (record { answer = tt; after = f.after }); after = f.after }
+    record { pends = ends_there halt_of (λ q. Follows d q m0 m1) w e f (record { answer = tt; after = f.after; leaves = f.leaves }); after = f.after }
 
 -- an answer where nothing fails
 pub pends_whole : {d : Run Term} {p : PendingType} {m0 m1 : Meter} → FollowsPending d (Ok p) m0 m1 → Follows d (Ok (standing p)) m0 m1
@@ -89,6 +88,11 @@ pends_halts f = record { pends = f; after = f.after }
 pub pends_each : {d : Run Term} {p : PendingType} {m0 m1 : Meter} → ((r : Result Term MakeFault) → IsMaking (standing p) r → Follows d (ended halt_of r) m0 m1) → FollowsPending d (Ok p) m0 m1
 pends_each f = record { pends = f; after = (f (Err NoTerm) (tt, λ z. absurd (cc))).after }
 
+-- at least as many units are left as at the end of the run, whatever the making answers
+pends_leaves : {d : Run Term} (r : Result PendingType Halt) {m0 m1 : Meter} → FollowsPending d r m0 m1 → Leaves d.end m1.account.left
+pends_leaves (Ok p) f = (f.pends (Err NoTerm) (tt, λ z. absurd (cc))).leaves
+pends_leaves (Err h) f = f.pends.leaves
+
 -- what follows from each answer follows from one of which arguments are to be put in
 pub map_pends : {H : Type 0} (halt : MakeFault → H) (P Q : Result Term H → Type 0) → ((q : Result Term H) → P q → Q q) → (r : Result PendingType H) → Pends halt P r → Pends halt Q r
 map_pends halt P Q f (Ok p) h = λ r k. f _ (h r k)
@@ -97,7 +101,7 @@ map_pends halt P Q f (Err x) h = f (Err x) h
 pub pends_from : {d e : Run Term} {r : Result PendingType Halt} {m0 m1 m2 m3 : Meter} → ((q : Result Term Halt) → Follows d q m0 m1 → Follows e q m2 m3) →
     FollowsPending d r m0 m1 → FollowsPending e r m2 m3
 pends_from {d = d} {e = e} {r = r} {m0 = m0} {m1 = m1} {m2 = m2} {m3 = m3} f g =
-    record { pends = map_pends halt_of (λ q. Follows d q m0 m1) (λ q. Follows e q m2 m3) f r g.pends; after = (f (Err (Stop Memory)) (record { answer = tt; after = g.after })).after }
+    record { pends = map_pends halt_of (λ q. Follows d q m0 m1) (λ q. Follows e q m2 m3) f r g.pends; after = (f (Err (Stop Memory)) (record { answer = tt; after = g.after; leaves = pends_leaves r g })).after }
 
 -- what a `?` gives on is the halt of its call
 pub pends_passed : {d : Run Term} {r : Result PendingType Halt} {h : Halt} {m0 m1 : Meter} → IsErrAnd r (λ e. e ≡ h) → Follows d (Err h) m0 m1 → FollowsPending d r m0 m1

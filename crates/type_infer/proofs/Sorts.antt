@@ -1,8 +1,11 @@
 -- Sorts as types: a type that is a sort, the sort of a sort, and two sorts compared.
-use Rattle.std.proofs.Common.{◌≡◌, refl, sym, subst as transport, ℕ, zero, suc, ◌<◌, ◌+◌, ◌-◌, true, false, if◌then◌else◌, Result, Ok, Err, IfOk, arith}
+use Rattle.std.proofs.Common.{◌≡◌, refl, sym, subst as transport, ℕ, zero, suc, ◌<◌, ◌+◌, ◌-◌, true, false, if◌then◌else◌, Result, Ok, Err, IfOk, arith, inl, inr}
 use Rattle.universe_levels.specs.declared.sort.Sort.{Sort}
 use Rattle.universe_levels.specs.Sorts.{super_sort}
 use Rattle.universe_levels.specs.Consistency.{IsSortOver}
+use Rattle.trees.specs.Measures.{IsBeyond}
+use Rattle.pc_terms.specs.declared.term.MakeFault.{MakeFault}
+use Rattle.pc_terms.specs.declared.term.MakeFault.TheVariants.{TooDeep as DeepTerm, Memory as NoTerm}
 use Rattle.pc_terms.specs.Formed.{IsFormed}
 use Rattle.pc_terms.specs.Syntax.{Term, SortT}
 use Rattle.calculus_rules.specs.Environment.{Env}
@@ -22,6 +25,7 @@ use Rattle.pc_rules.specs.Follows.{Answers, Follows}
 use Rattle.pc_rules.specs.WellCounted.{IsCounted}
 use Rattle.pc_rules.specs.Entailment.{test_of}
 use Rattle.pc_rules.proofs.Following.{follows_spent, follows_nested, follows_tick, follows_whnf_stays}
+use Rattle.pc_rules.proofs.Leaving.{leaving}
 use Rattle.pc_rules.proofs.SameTrees.{same_itself}
 use Rattle.type_infer.specs.Ready.{IsReady}
 use Rattle.type_infer.specs.Unread.{FollowsUnread, sort_of_type, with_result}
@@ -33,6 +37,15 @@ use Rattle.type_infer.proofs.Steps.{and_then, halts, still, unread_done, unread_
 -- the levels of a sort that is well counted are declared
 pub over_from : (E : Env) (s : Sort) (a : Term) → SortT s ≡ a → IsCounted E a → IsSortOver E.levels s
 over_from E s a e h = (transport (λ t. IsCounted E t) (sym e) h).0.1
+
+-- a sort passes no limit, so it is made or there is no memory for it
+not_beyond : (s : Sort) → IsBeyond (SortT s) → ⊥
+not_beyond s (inl h) = omega (arith, h)
+not_beyond s (inr h) = omega (arith, h)
+
+pub sort_memory : (s : Sort) (f : MakeFault) → (f ≡ DeepTerm → IsBeyond (SortT s)) → f ≡ NoTerm
+sort_memory s DeepTerm h = absurd (not_beyond s (h refl))
+sort_memory s NoTerm h = refl
 
 -- a type that is a sort stays as it is
 pub sort_stays : (E : Env) (n : ℕ) (c : Context) (T : Term) (s r : Sort) {m : Meter} → SortT s ≡ T → r ≡ s → Follows (sort_of_type E (infer E (test_of E) n) c T m.account) (Ok r) m m
@@ -47,13 +60,13 @@ pub infer_sort : (E : Env) (s : Sort) (c : Context) (n : ℕ) (r : Result (Unit 
     ((u : Account) → Answers (sort_rule E s u) (with_result (SortT (super_sort s)) r) u) → m4.account ≡ m3.account → m4.nest ≡ m3.nest - 1 →
     Follows (infer E (test_of E) n c (SortT s) m0.account) (with_result (SortT (super_sort s)) r) m0 m4
 infer_sort E s c n r m0 m1 m2 m3 m4 p h e k e2 k2 e3 k3 f e4 k4 =
-    infer_entered E (test_of E) c (SortT s) n (n - 1) (with_result (SortT (super_sort s)) r) m0 m1 m2 m3 m3 m4 (omega (arith, p)) h e k e2 k2 e3 k3 (still (f m3.account)) e4 k4
+    infer_entered E (test_of E) c (SortT s) n (n - 1) (with_result (SortT (super_sort s)) r) m0 m1 m2 m3 m3 m4 (omega (arith, p)) h e k e2 k2 e3 k3 (still (f m3.account) (search leaving)) e4 k4
 
 unread : (E : Env) (n : ℕ) (c : Context) (s : Sort) (r : Result (Unit {0}) Halt) {m0 m1 : Meter} → Follows (infer E (test_of E) n c (SortT s) m0.account) (with_result (SortT (super_sort s)) r) m0 m1 →
     FollowsUnread (sort_of E (infer E (test_of E) n) c (SortT s) m0.account) r m0 m1
 unfolding sort_of
 unread E n c s (Ok x) f = unread_done (and_then _ f (sort_stays E n c (SortT (super_sort s)) (super_sort s) (super_sort s) refl refl))
-unread E n c s (Err h) f = unread_halts (halts _ f)
+unread E n c s (Err h) f = unread_halts (halts _ f (search leaving))
 
 counted : (E : Env) (n : ℕ) (c : Context) (s : Sort) (r : Result (Unit {0}) Halt) {m0 m1 : Meter} → IsReady E c → IsFormed (SortT s) →
     Follows (infer E (test_of E) n c (SortT s) m0.account) (with_result (SortT (super_sort s)) r) m0 m1 → IfOk r (λ _. IsCounted E (SortT s))
@@ -85,7 +98,7 @@ module _ (E : Env) (q : Test) (c : Context) (a b : Term) where
       ((k : ℕ) → Answers (entered E q (compare E q k) c false a b m1.account) r m1.account) → Follows (compare E q n c false a b m0.account) r m0 m1
   unfolding compare
   below_entered zero r m0 m1 p h e k f = absurd (omega arith)
-  below_entered (suc n) r m0 m1 p h e k f = follows_tick (λ v. entered E q (compare E q n) c false a b v) r m0 m1 m1 h e k (still (f n))
+  below_entered (suc n) r m0 m1 p h e k f = follows_tick (λ v. entered E q (compare E q n) c false a b v) r m0 m1 m1 h e k (still (f n) (search leaving))
 
 -- two sorts
 pub entered_same : (E : Env) (q : Test) (cmp : Comparison) (c : Context) (a b : Term) (u : Account) → same a b ≡ true → Answers (entered E q cmp c false a b u) (Ok tt) u

@@ -90,4 +90,4 @@ made_guardable E c i rargs types bodies n t0 t1 t2 h ff p q =
     let k = (ts.leads t0.meter.account (wrote p.answer.0 tt) t1.meter.account p.answer.1).0 in
     let ds = definitions_traced [] E w infd infg infh ti (compare E (test_of E) n) (make_compare E (test_of E) n) (script [] E (test_of E) 0) tc (definitions c 0 types) (length rargs) 0 rargs types bodies k.1 k.0 ff.1.1.0 in
     guardable E c i rargs types bodies n t0.meter t1.meter t2.meter h ff
-    (made_follows _ _ (Ok tt) (ts.forgets t0.meter.account) p) (made_follows _ _ (Ok tt) (ds.forgets t1.meter.account) q)
+    (made_follows _ _ tt (ts.forgets t0.meter.account) p) (made_follows _ _ tt (ds.forgets t1.meter.account) q)

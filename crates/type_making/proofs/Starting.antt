@@ -59,9 +59,10 @@ module _ (E : Env) (q : Test) (c : Context) (t : Term) where
 -- what has been inferred is a type
 pub made_inferred : (E : Env) (c : Context) (t : Term) → IsReady E c → IsFormed t → (n : ℕ) (r : Result Term Halt) (t0 t1 : Draft) →
     Makes (make_infer E (test_of E) n c t t0.meter.account) r t0 t1 → IfOk r (λ T. IsInferred E c t T)
-made_inferred E c t h f n r t0 t1 p =
+made_inferred E c t h f n (Ok T) t0 t1 p =
     let g = (infer_trace [] E h.env.declarations (test_of E) (decides E c h) n 0 c t h.context f).forgets t0.meter.account in
-    inferred_from E c t h f n r t0.meter t1.meter (made_follows (make_infer E (test_of E) n c t t0.meter.account) (infer E (test_of E) n c t t0.meter.account) r g p)
+    inferred_from E c t h f n (Ok T) t0.meter t1.meter (made_follows (make_infer E (test_of E) n c t t0.meter.account) (infer E (test_of E) n c t t0.meter.account) T g p)
+made_inferred E c t h f n (Err x) t0 t1 p = tt
 
 -- a type's weak-head normal form, where it is a sort
 

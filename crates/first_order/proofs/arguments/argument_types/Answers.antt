@@ -6,7 +6,7 @@ use Rattle.pc_rules.proofs.Following.{follows_still}
 use Rattle.pc_rules.proofs.Meters.{after-refl}
 use Rattle.first_order.specs.Searching.{as_is, listed, types_in, name_in, constructor_name}
 use Rattle.first_order.proofs.Searches.{collect_start}
-use Rattle.first_order.proofs.Working.{meter_at, types_next, types_lost, types_end, mapped_next, mapped_end}
+use Rattle.first_order.proofs.Working.{meter_at, one_leaves, types_next, types_lost, types_end, mapped_next, mapped_end}
 use Rattle.first_order.proofs.arguments.argument_types.Goals as goal
 
 pub loop-ctor-init : goal.loop-ctor-init
@@ -24,7 +24,7 @@ returns-in_err-types-clause-answers c =
     let is : C ≡ get_or Cs i C = cc in
     let p = err_from_is_err_and c.from_residual.result c.from_residual.ensures.1 in
     λ u. rw (p.1, p.2) (types_lost c.args.ty.now c.args.params.now _ Cs i (map types_in c.loop-ctor.out.items) u (c.loop-ctor.invariant.leads u) C lt is as_is listed c.in_err-types.field-0.0
-    (meter_at u) (meter_at u) (meter_at u) (after-refl (meter_at u)) (follows_still _ _ (meter_at u) (c.in_err-types.ensures.answers u))).answer
+    (meter_at u) (meter_at u) (meter_at u) (after-refl (meter_at u)) (follows_still _ _ (meter_at u) (c.in_err-types.ensures.answers u) (one_leaves c.args.ty.now c.args.params.now C u))).answer
 
 pub loop-ctor-preserved : goal.loop-ctor-preserved
 loop-ctor-preserved c =

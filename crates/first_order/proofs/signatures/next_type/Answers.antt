@@ -1,7 +1,24 @@
 use Rattle.std.proofs.Common.{sym, ◌∙◌}
 use Rattle.std.proofs.lemmas.Result.{err_from_is_err_and}
-use Rattle.first_order.proofs.Signing.{names_variable, codomain_reduced, whnf_found, whnf_stops}
+use Rattle.pc_rules.proofs.Meters.{after-refl}
+use Rattle.first_order.specs.Searching.{as_is}
+use Rattle.first_order.proofs.Searches.{passes_memory}
+use Rattle.first_order.proofs.Signing.{next_leaves, names_variable, codomain_reduced, whnf_found, whnf_stops}
 use Rattle.first_order.proofs.signatures.next_type.Goals as goal
+
+pub returns-in_err-found : goal.returns-in_err-found
+returns-in_err-found g c =
+    record {
+      follows = passes_memory _ as_is _ _ c.args.m.now c.args.m.now c.in_err-found.ensures.only_memory c.from_residual.ensures.1 (after-refl c.args.m.now)
+          (next_leaves c.args.env.now c.args.ty.now c.args.codomain.now c.args.m.now.account);
+    }
+
+pub returns-in_err-ty : goal.returns-in_err-ty
+returns-in_err-ty g c =
+    record {
+      follows = passes_memory _ as_is _ _ c.args.m.now c.args.m.now c.in_err-ty.ensures.only_memory c.from_residual-in_err-ty.ensures.1 (after-refl c.args.m.now)
+          (next_leaves c.args.env.now c.args.ty.now c.args.codomain.now c.args.m.now.account);
+    }
 
 pub returns-in_default : goal.returns-in_default
 returns-in_default g c =

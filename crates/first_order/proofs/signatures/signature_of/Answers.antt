@@ -1,12 +1,12 @@
-use Rattle.std.proofs.Common.{◌≡◌, ◌∙◌, ◌<◌, ◌∷◌, [], length, refl, sym, ap, subst, true, false, arith, length-append}
+use Rattle.std.proofs.Common.{◌≡◌, ◌∙◌, ◌<◌, ◌-◌, ◌∷◌, [], ◌++◌, suc, length, refl, sym, ap, subst, true, false, arith, length-append}
 use Rattle.std.proofs.lemmas.List.{map-append}
 use Rattle.std.proofs.lemmas.List.Elements.{All-nil, All-cons, All-append}
 use Rattle.std.proofs.lemmas.Result.{err_from_is_err_and}
 use Rattle.pc_rules.proofs.Meters.{after-refl, after-trans}
 use Rattle.first_order.specs.declared.shapes.Shapes.{Shapes}
 use Rattle.first_order.specs.Searching.{members, AreNamed}
-use Rattle.first_order.specs.DirectedSignature.{is_product, found_argument, set_of, sets_of, AreAllNamed}
-use Rattle.first_order.proofs.Signing.{signing_starts, argument_next, argument_lost, too_many, answer_found, answer_lost}
+use Rattle.first_order.specs.DirectedSignature.{is_product, before_arguments, found_argument, set_of, sets_of, AreAllNamed}
+use Rattle.first_order.proofs.Signing.{signing, signature_leaves, signing_memory, signing_starts, argument_next, argument_lost, too_many, answer_found, answer_lost}
 use Rattle.first_order.proofs.signatures.signature_of.Goals as goal
 
 pub arguments-init : goal.arguments-init
@@ -33,6 +33,22 @@ returns-in_err-shapes-clause-follows g c =
     let p = err_from_is_err_and c.from_residual.result c.from_residual.ensures.1 in
     rw (p.1, p.2) (argument_lost c.args.env.now _ c.arguments.ty (sets_of c.arguments.args.items) (length c.arguments.args.items) c.arguments.m.account before.leads is lt found_argument c.in_err-shapes.field-0.0
     c.args.m.now c.arguments.m c.argument.new.m before.after c.in_err-shapes.ensures.follows)
+
+pub returns-in_err-put-clause-follows : goal.returns-in_err-put-clause-follows
+returns-in_err-put-clause-follows g c =
+    let before = c.arguments.invariant in
+    let is : is_product c.arguments.ty ≡ true = sym c.is_product.ensures.is ∙ c.arguments-test.true in
+    let few = before.few in
+    let lt : length c.arguments.args.items < 255 = grind arith in
+    let f = c.in_ok-shapes.ensures.follows in
+    let E = c.args.env.now in
+    let ss = c.arguments.args.items in
+    let V = c.in_ok-shapes.next in
+    let Ts = sets_of ss ++ (set_of c.in_ok-shapes.shapes ∷ []) in
+    let leads = argument_next E _ c.arguments.ty (sets_of ss) (length ss) c.arguments.m.account before.leads is lt (set_of c.in_ok-shapes.shapes) V c.argument.new.m.account f.answer
+    Ts (suc (length ss)) refl refl in
+    signing_memory _ (signing E (suc (length ss)) V c.argument.new.m.account) (before_arguments Ts) _ _ c.args.m.now c.argument.new.m c.in_err-put.ensures.only_memory c.from_residual-in_err-put.ensures.1
+    leads (after-trans c.args.m.now c.arguments.m c.argument.new.m before.after f.after) (signature_leaves E (255 - suc (length ss)) V c.argument.new.m.account)
 
 pub arguments-preserved : goal.arguments-preserved
 arguments-preserved g c =

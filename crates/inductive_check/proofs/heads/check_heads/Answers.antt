@@ -1,4 +1,4 @@
-use Rattle.std.proofs.Common.{rules, ◌≡◌, ◌<◌, ◌≤◌, [], ◌∷◌, map, sym, subst, length, get_or, take, arith}
+use Rattle.std.proofs.Common.{◌≡◌, ◌<◌, ◌≤◌, [], ◌∷◌, map, sym, subst, length, get_or, take, arith}
 use Rattle.std.proofs.lemmas.List.{take_all}
 use Rattle.calculus_rules.specs.Environment.{head_of}
 use Rattle.pc_rules.specs.DirectedTyping.{infer}
@@ -7,6 +7,8 @@ use Rattle.pc_rules.specs.Entailment.{test_of}
 use Rattle.pc_rules.specs.WellCounted.{AreCountedFamilies}
 use Rattle.pc_rules.proofs.Meters.{after-trans}
 use Rattle.inductive_check.specs.Given.{family_of}
+use Rattle.pc_rules.proofs.Following.{follows_passed}
+use Rattle.pc_rules.proofs.Leaving.{leaving}
 use Rattle.inductive_check.proofs.Leading.{leads_along, leads_done, follows_first, follows_end}
 use Rattle.inductive_check.proofs.Listed.{heads_at, heads_over, heads_next, families_more}
 use Rattle.inductive_check.proofs.heads.check_heads.Goals as goal
@@ -21,7 +23,7 @@ returns-in_err-check_head-clause-follows g c = λ B ep.
     let is : f ≡ get_or fs i f = cc in
     let at = heads_at E (infer E (test_of E) c.args.room) B fs i c.loop-family.m.account f lt is in
     let l = leads_along _ _ _ at (c.loop-family.invariant.leads B ep) in
-    search (rules, follows_first _ _ _ _ _ _ _ l c.loop-family.invariant.after (c.in_err-check_head.ensures.follows B ep))
+    follows_passed _ _ _ _ _ c.from_residual.ensures.1 (follows_first _ _ _ _ _ _ _ l c.loop-family.invariant.after (c.in_err-check_head.ensures.follows B ep) (search leaving))
 
 pub loop-family-preserved : goal.loop-family-preserved
 loop-family-preserved g c =

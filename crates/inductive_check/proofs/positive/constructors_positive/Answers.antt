@@ -1,6 +1,7 @@
 use Rattle.std.proofs.Common.{◌≡◌, ◌<◌, ◌≤◌, length, get_or, arith, refl, map}
 use Rattle.std.proofs.lemmas.Result.{err_from_is_err_and}
 use Rattle.pc_rules.specs.DirectedPositivity.{constructor_positive, constructors_positive}
+use Rattle.pc_rules.proofs.FairPositivity.{constructors_positive_leaves}
 use Rattle.inductive_check.specs.Given.{ctor_of}
 use Rattle.inductive_check.proofs.EachItem.{none_fails, item_stops, item_fails, item_holds}
 use Rattle.inductive_check.proofs.positive.constructors_positive.Goals as goal
@@ -18,7 +19,7 @@ returns-in_err-constructor_positive c =
     let is : x ≡ get_or xs i x = cc in
     record {
       follows = rw (p.1, p.2) (c.loop-ctor.invariant _ _
-          (item_stops (λ C. constructor_positive c.args.env.now c.args.block (ctor_of C)) (λ Cs. constructors_positive c.args.env.now c.args.block (map ctor_of Cs)) (λ x xs u. refl) xs i x lt is c.loop-ctor.m c.constructor_positive.new.m _ c.in_err-constructor_positive.ensures.follows));
+          (item_stops (λ C. constructor_positive c.args.env.now c.args.block (ctor_of C)) (λ Cs. constructors_positive c.args.env.now c.args.block (map ctor_of Cs)) (λ x xs u. refl) xs i x lt is c.loop-ctor.m c.constructor_positive.new.m _ c.in_err-constructor_positive.ensures.follows (λ Cs v. constructors_positive_leaves c.args.env.now c.args.block (map ctor_of Cs) v)));
     }
 
 pub returns-then-not-branch : goal.returns-then-not-branch

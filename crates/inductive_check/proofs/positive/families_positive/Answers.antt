@@ -1,6 +1,7 @@
 use Rattle.std.proofs.Common.{◌≡◌, ◌<◌, ◌≤◌, length, get_or, arith, refl, map}
 use Rattle.std.proofs.lemmas.Result.{err_from_is_err_and}
 use Rattle.pc_rules.specs.DirectedPositivity.{constructors_positive, families_positive}
+use Rattle.pc_rules.proofs.FairPositivity.{families_positive_leaves}
 use Rattle.inductive_check.specs.Given.{ctor_of, family_of}
 use Rattle.inductive_check.proofs.EachItem.{none_fails, item_stops, item_fails, item_holds}
 use Rattle.inductive_check.proofs.positive.families_positive.Goals as goal
@@ -18,7 +19,7 @@ returns-in_err-constructors_positive c =
     let is : x ≡ get_or xs i x = cc in
     record {
       follows = rw (p.1, p.2) (c.loop-family.invariant _ _
-          (item_stops (λ F. constructors_positive c.args.env.now c.args.block (map ctor_of F.ctors)) (λ Fs. families_positive c.args.env.now c.args.block (map family_of Fs)) (λ x xs u. refl) xs i x lt is c.loop-family.m c.constructors_positive.new.m _ (rw (← c.as_slice.ensures.is) c.in_err-constructors_positive.ensures.follows)));
+          (item_stops (λ F. constructors_positive c.args.env.now c.args.block (map ctor_of F.ctors)) (λ Fs. families_positive c.args.env.now c.args.block (map family_of Fs)) (λ x xs u. refl) xs i x lt is c.loop-family.m c.constructors_positive.new.m _ (rw (← c.as_slice.ensures.is) c.in_err-constructors_positive.ensures.follows) (λ Fs v. families_positive_leaves c.args.env.now c.args.block (map family_of Fs) v)));
     }
 
 pub returns-then-not-branch : goal.returns-then-not-branch

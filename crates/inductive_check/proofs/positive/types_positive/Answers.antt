@@ -1,6 +1,7 @@
 use Rattle.std.proofs.Common.{◌≡◌, ◌<◌, ◌≤◌, length, get_or, arith, refl}
 use Rattle.std.proofs.lemmas.Result.{err_from_is_err_and}
 use Rattle.pc_rules.specs.DirectedPositivity.{is_positive, types_positive}
+use Rattle.pc_rules.proofs.FairPositivity.{types_positive_leaves}
 use Rattle.inductive_check.proofs.EachItem.{none_fails, item_stops, item_fails, item_holds}
 use Rattle.inductive_check.proofs.positive.types_positive.Goals as goal
 
@@ -17,7 +18,7 @@ returns-in_err-is_positive c =
     let is : x ≡ get_or xs i x = cc in
     record {
       follows = rw (p.1, p.2) (c.loop-ty.invariant _ _
-          (item_stops (λ A. is_positive c.args.env.now c.args.block A) (types_positive c.args.env.now c.args.block) (λ x xs u. refl) xs i x lt is c.loop-ty.m c.is_positive.new.m _ c.in_err-is_positive.ensures.follows));
+          (item_stops (λ A. is_positive c.args.env.now c.args.block A) (types_positive c.args.env.now c.args.block) (λ x xs u. refl) xs i x lt is c.loop-ty.m c.is_positive.new.m _ c.in_err-is_positive.ensures.follows (types_positive_leaves c.args.env.now c.args.block)));
     }
 
 pub returns-then-not-branch : goal.returns-then-not-branch

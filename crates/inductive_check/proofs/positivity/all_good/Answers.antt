@@ -3,6 +3,7 @@ use Rattle.std.proofs.lemmas.Grind.{common_steps}
 use Rattle.std.proofs.lemmas.Result.{err_from_is_err_and}
 use Rattle.pc_rules.proofs.Following.{follows_memory}
 use Rattle.inductive_check.specs.Waiting.{waiting}
+use Rattle.inductive_check.proofs.InTurn.{each_leaves}
 use Rattle.inductive_check.proofs.Looping.{none_waits, test_stops, test_fails, test_goes}
 use Rattle.inductive_check.proofs.positivity.all_good.Goals as goal
 
@@ -30,4 +31,4 @@ loop-preserved c = λ r n f.
     (test_goes c.args.env.now c.loop.tests.items c.pop.new.self.items c.in-Some.test c.in-Some.ensures.items (map waiting c.one_good.new.tests.items) c.loop.m c.one_good.new.m c.in_ok-one_good.field-0 c.if-not-branch.false c.in_ok-one_good.ensures.goes r n f)
 
 pub returns : goal.returns
-returns c = record { follows = c.loop.invariant _ _ (follows_memory _ c.loop.m) }
+returns c = record { follows = c.loop.invariant _ _ (follows_memory _ c.loop.m (each_leaves c.args.env.now (map waiting c.loop.tests.items) c.loop.m.account)) }

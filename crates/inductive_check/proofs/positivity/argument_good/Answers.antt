@@ -2,7 +2,8 @@ use Rattle.std.proofs.Common.{rules, ◌≡◌, ◌∙◌, ◌++◌, ◌<◌, �
 use Rattle.calculus_rules.specs.Positivity.{types_name}
 use Rattle.inductive_check.specs.Waiting.{waiting, families_waiting}
 use Rattle.inductive_check.proofs.Looping.{pushed}
-use Rattle.inductive_check.proofs.Going.{argument_named_none, further_named, no_unit_left, place_fails, place_goes, lt_yes, lt_no}
+use Rattle.inductive_check.proofs.Going.{argument_named_none, further_named, no_unit_left, no_memory_left, place_fails, place_goes, lt_yes, lt_no}
+use Rattle.std.proofs.lemmas.Result.{err_from_is_err_and}
 use Rattle.inductive_check.proofs.positivity.argument_good.Goals as goal
 
 pub returns-then-not-names-clause-goes : goal.returns-then-not-names-clause-goes
@@ -35,3 +36,39 @@ returns-clause-goes c = λ E.
     (λ z. pushed c.args.tests.now.items c.push.new.items.items _ c.in_ok-push.ensures.longer z ++ families_waiting (c.in_ok-parameter.ensures.is z) c.args.block.now.families) in
     place_goes E (map waiting c.args.tests.now.items) c.args.target c.args.under c.args.block.now c.args.place c.args.term.now c.if-not-names.ensures.is (lt_yes c.args.place (length c.args.block.now.params) q) c.args.m.now c.tick.new.self (map waiting c.push_families.new.tests.items) p
     c.tick.ensures.account c.tick.ensures.nest y w
+
+pub returns-in_err-parameter-clause-stops : goal.returns-in_err-parameter-clause-stops
+returns-in_err-parameter-clause-stops c = λ E.
+    let q : c.args.place < length c.args.block.now.params = grind arith in
+    let p : 0 < c.args.m.now.account.left = search rules in
+    let f = no_memory_left E (map waiting c.args.tests.now.items) c.args.target c.args.under c.args.block.now c.args.place c.args.term.now c.if-not-names.ensures.is (lt_yes c.args.place (length c.args.block.now.params) q) c.args.m.now c.tick.new.self p
+    c.tick.ensures.account c.tick.ensures.nest in
+    let e = err_from_is_err_and c.from_residual.result c.from_residual.ensures.1 in
+    rw (e.1, e.2, c.in_err-parameter.ensures.only_memory) f
+
+pub returns-in_err-types_name-clause-stops : goal.returns-in_err-types_name-clause-stops
+returns-in_err-types_name-clause-stops c = λ E.
+    let q : c.args.place < length c.args.block.now.params = grind arith in
+    let p : 0 < c.args.m.now.account.left = search rules in
+    let f = no_memory_left E (map waiting c.args.tests.now.items) c.args.target c.args.under c.args.block.now c.args.place c.args.term.now c.if-not-names.ensures.is (lt_yes c.args.place (length c.args.block.now.params) q) c.args.m.now c.tick.new.self p
+    c.tick.ensures.account c.tick.ensures.nest in
+    let e = err_from_is_err_and c.from_residual-in_err-types_name.result c.from_residual-in_err-types_name.ensures.1 in
+    rw (e.1, e.2, c.in_err-types_name.ensures.only_memory) f
+
+pub returns-in_err-push-clause-stops : goal.returns-in_err-push-clause-stops
+returns-in_err-push-clause-stops c = λ E.
+    let q : c.args.place < length c.args.block.now.params = grind arith in
+    let p : 0 < c.args.m.now.account.left = search rules in
+    let f = no_memory_left E (map waiting c.args.tests.now.items) c.args.target c.args.under c.args.block.now c.args.place c.args.term.now c.if-not-names.ensures.is (lt_yes c.args.place (length c.args.block.now.params) q) c.args.m.now c.tick.new.self p
+    c.tick.ensures.account c.tick.ensures.nest in
+    let e = err_from_is_err_and c.from_residual-in_err-push.result c.from_residual-in_err-push.ensures.1 in
+    rw (e.1, e.2, c.in_err-push.ensures.only_memory) f
+
+pub returns-in_err-push_families-clause-stops : goal.returns-in_err-push_families-clause-stops
+returns-in_err-push_families-clause-stops c = λ E.
+    let q : c.args.place < length c.args.block.now.params = grind arith in
+    let p : 0 < c.args.m.now.account.left = search rules in
+    let f = no_memory_left E (map waiting c.args.tests.now.items) c.args.target c.args.under c.args.block.now c.args.place c.args.term.now c.if-not-names.ensures.is (lt_yes c.args.place (length c.args.block.now.params) q) c.args.m.now c.tick.new.self p
+    c.tick.ensures.account c.tick.ensures.nest in
+    let e = err_from_is_err_and c.from_residual-in_err-push_families.result c.from_residual-in_err-push_families.ensures.1 in
+    rw (e.1, e.2, c.in_err-push_families.ensures.only_memory) f

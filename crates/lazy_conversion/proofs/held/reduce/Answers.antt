@@ -1,11 +1,18 @@
 use Rattle.std.proofs.Common.{refl}
+use Rattle.std.proofs.lemmas.Result.{err_from_is_err_and}
 use Rattle.calculus_rules.specs.Context.{values}
 use Rattle.calculus_rules.specs.WeakHead.{no_step}
 use Rattle.pc_rules.specs.DirectedRun.{is_beyond}
-use Rattle.pc_rules.proofs.Following.{follows_whnf_stays, or_left}
+use Rattle.pc_rules.proofs.Following.{follows_memory, follows_whnf_stays, or_left}
+use Rattle.pc_rules.proofs.Leaving.{leaving}
 use Rattle.reduce_machine.specs.Seen.{seen_term, argument_term}
 use Rattle.lazy_conversion.proofs.Tracking.{passed_none}
 use Rattle.lazy_conversion.proofs.held.reduce.Goals as goal
+
+pub returns-in_err-l-in-Lazy-clause-follows : goal.returns-in_err-l-in-Lazy-clause-follows
+returns-in_err-l-in-Lazy-clause-follows c =
+    let p = err_from_is_err_and c.from_residual.result c.from_residual.ensures.1 in
+    rw (p.1, p.2, c.in_err-l-in-Lazy.ensures.only_memory) (follows_memory _ _ (search leaving))
 
 pub returns-in-Value-clause-follows : goal.returns-in-Value-clause-follows
 returns-in-Value-clause-follows c =

@@ -6,7 +6,7 @@ use Rattle.pc_rules.specs.DirectedWeakHead.{weak_next, whnf}
 use Rattle.pc_rules.specs.Leads.{Leads}
 use Rattle.pc_rules.proofs.Following.{beyond_is}
 use Rattle.pc_rules.proofs.Meters.{after-refl}
-use Rattle.reduction.proofs.Ending.{fault_follows, done_follows, goes_on}
+use Rattle.reduction.proofs.Ending.{whnf_left, fault_follows, done_follows, goes_on}
 use Rattle.reduce_machine.specs.Layered.{plug}
 use Rattle.reduce_machine.specs.Layers.{layers}
 use Rattle.reduce_machine.specs.Passed.{reduced}
@@ -56,7 +56,8 @@ pub returns-in_err-sought-clause-follows : goal.returns-in_err-sought-clause-fol
 returns-in_err-sought-clause-follows c =
     let p = err_from_is_err_and c.from_residual.result c.from_residual.ensures.1 in
     rw (p.1, p.2) (fault_follows (reduced c.args.env.now (values c.args.ctx.now) (read c.args.term) c.args.m.now.account) c.in_err-sought.field-0.0 c.args.m.now c.steps.m
-    (λ e. c.steps.invariant.beyond (beyond_is (whole c.steps.machine) (c.in_err-sought.ensures.too_deep e))) c.steps.invariant.after)
+    (λ e. c.steps.invariant.beyond (beyond_is (whole c.steps.machine) (c.in_err-sought.ensures.too_deep e))) c.steps.invariant.after
+    (whnf_left (reduced c.args.env.now (values c.args.ctx.now) (read c.args.term) c.args.m.now.account) c.args.env.now (values c.args.ctx.now) (whole c.steps.machine) c.steps.m.account c.steps.invariant.leads))
 
 pub returns-in_err-paid-in-Step-clause-follows : goal.returns-in_err-paid-in-Step-clause-follows
 returns-in_err-paid-in-Step-clause-follows c =
@@ -74,7 +75,8 @@ returns-in_err-flatten-in-Step-clause-follows c =
     c.steps.invariant.leads c.steps.invariant.after s.0 c.in_ok-paid-in-Step.ensures.ok c.in_ok-paid-in-Step.ensures.unit c.paid.ensures.account c.paid.ensures.nest in
     let p = err_from_is_err_and c.from_residual-in_err-flatten-in-Step.result c.from_residual-in_err-flatten-in-Step.ensures.1 in
     rw (p.1, p.2) (fault_follows (reduced c.args.env.now (values c.args.ctx.now) (read c.args.term) c.args.m.now.account) c.in_err-flatten-in-Step.field-0.0 c.args.m.now c.paid.new.m
-    (λ e. g.beyond (beyond_is (whole c.paid.new.machine) (c.in_err-flatten-in-Step.ensures.too_deep e))) g.after)
+    (λ e. g.beyond (beyond_is (whole c.paid.new.machine) (c.in_err-flatten-in-Step.ensures.too_deep e))) g.after
+    (whnf_left (reduced c.args.env.now (values c.args.ctx.now) (read c.args.term) c.args.m.now.account) c.args.env.now (values c.args.ctx.now) (whole c.paid.new.machine) c.paid.new.m.account g.leads))
 
 pub steps-smaller-in-Continue-branch-3 : goal.steps-smaller-in-Continue-branch-3
 steps-smaller-in-Continue-branch-3 c = rw c.paid.ensures.account (omega (arith, c.in_ok-paid-in-Step.ensures.unit))

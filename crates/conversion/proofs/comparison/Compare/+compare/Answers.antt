@@ -10,7 +10,10 @@ use Rattle.pc_rules.specs.Entailment.{test_of}
 use Rattle.calculus_rules.specs.Instances.{predicate_entries, branch_entries}
 use Rattle.pc_terms.specs.Lists.{types_of, bodies_of}
 use Rattle.calculus_rules.specs.Same.{same}
-use Rattle.pc_rules.proofs.Following.{follows_bind, follows_err, follows_still}
+use Rattle.pc_rules.specs.Stops.{stop_of}
+use Rattle.pc_rules.proofs.FairReduction.{comparing_fair}
+use Rattle.pc_rules.proofs.Following.{follows_bind, follows_err, follows_halted, follows_no_memory, follows_still}
+use Rattle.pc_rules.proofs.Leaving.{leaving}
 use Rattle.std.proofs.lemmas.Result.{err_from_is_err_and}
 use Rattle.conversion.specs.Modes.{is_equal}
 use Rattle.conversion.proofs.Defaults.{sort_and_other, product_and_other, lambda_and_other, other_first}
@@ -54,13 +57,13 @@ entered-returns-then-same g t c =
 pub entered-returns-in_err-x : goal.entered-returns-in_err-x
 entered-returns-in_err-x g t c =
     let e : same c.args.a.now c.args.b.now ≡ false = same_no _ _ c.same.result c.same.ensures.is c.if-same.false in
-    record { follows = rw e (search (rules, follows_err)) }
+    record { follows = rw e (follows_halted _ _ _ _ _ _ c.from_residual.ensures.1 c.in_err-x.ensures.follows (search leaving)) }
 
 pub entered-returns-in_err-y : goal.entered-returns-in_err-y
 entered-returns-in_err-y g t c =
     let e : same c.args.a.now c.args.b.now ≡ false = same_no _ _ c.same.result c.same.ensures.is c.if-same.false in
     let f = c.in_ok-x.ensures.follows in
-    record { follows = rw e (follows_bind _ _ _ _ _ _ _ f (search (rules, follows_err))) }
+    record { follows = rw e (follows_bind _ _ _ _ _ _ _ f (follows_halted _ _ _ _ _ _ c.from_residual-in_err-y.ensures.1 c.in_err-y.ensures.follows (search leaving))) }
 
 pub entered-pair-requires : goal.entered-pair-requires
 entered-pair-requires g t c =
@@ -92,7 +95,7 @@ pub pair-returns-in-Sort-Sort : goal.pair-returns-in-Sort-Sort
 pair-returns-in-Sort-Sort g t c =
     let ea = rw c.in-Sort-Sort.is-0 at c.view.ensures.is in
     let eb = rw c.in-Sort-Sort.is-1 at c.view-2.ensures.is in
-    record { follows = rw (← ea, ← eb) (follows_still _ _ _ (c.compare_sorts.ensures.answers c.args.m.now.account)) }
+    record { follows = rw (← ea, ← eb) (follows_still _ _ _ (c.compare_sorts.ensures.answers c.args.m.now.account) (search leaving)) }
 
 pub pair-compare-requires : goal.pair-compare-requires
 pair-compare-requires g t c =
@@ -112,7 +115,7 @@ pub pair-returns-in_err-compare-in-Prod-Prod : goal.pair-returns-in_err-compare-
 pair-returns-in_err-compare-in-Prod-Prod g t c =
     let ea = rw c.in-Prod-Prod.is-0 at c.view.ensures.is in
     let eb = rw c.in-Prod-Prod.is-1 at c.view-2.ensures.is in
-    record { follows = rw (← ea, ← eb) (search (rules, follows_err)) }
+    record { follows = rw (← ea, ← eb) (follows_halted _ _ _ _ _ _ c.from_residual.ensures.1 c.in_err-compare-in-Prod-Prod.ensures.follows (search leaving)) }
 
 pub pair-returns-in_ok-under-in-Prod-Prod : goal.pair-returns-in_ok-under-in-Prod-Prod
 pair-returns-in_ok-under-in-Prod-Prod g t c =
@@ -141,7 +144,7 @@ pub pair-returns-in_err-compare-in-Lambda-Lambda : goal.pair-returns-in_err-comp
 pair-returns-in_err-compare-in-Lambda-Lambda g t c =
     let ea = rw c.in-Lambda-Lambda.is-0 at c.view.ensures.is in
     let eb = rw c.in-Lambda-Lambda.is-1 at c.view-2.ensures.is in
-    record { follows = rw (← ea, ← eb) (search (rules, follows_err)) }
+    record { follows = rw (← ea, ← eb) (follows_halted _ _ _ _ _ _ c.from_residual-in_err-compare-in-Lambda-Lambda.ensures.1 c.in_err-compare-in-Lambda-Lambda.ensures.follows (search leaving)) }
 
 pub pair-returns-in_ok-under-in-Lambda-Lambda : goal.pair-returns-in_ok-under-in-Lambda-Lambda
 pair-returns-in_ok-under-in-Lambda-Lambda g t c =
@@ -151,6 +154,34 @@ pair-returns-in_ok-under-in-Lambda-Lambda g t c =
     let es = c.in_ok-share-in-Lambda-Lambda.ensures.ok in
     let eu = c.in_ok-under-in-Lambda-Lambda.ensures.longer in
     record { follows = rw (← ea, ← eb) (follows_bind _ _ _ _ _ _ _ f (rw (eu, es) at c.compare-in-Lambda-Lambda-2.ensures.follows)) }
+
+pub pair-returns-in_err-share-in-Prod-Prod : goal.pair-returns-in_err-share-in-Prod-Prod
+pair-returns-in_err-share-in-Prod-Prod g t c =
+    let ea = rw c.in-Prod-Prod.is-0 at c.view.ensures.is in
+    let eb = rw c.in-Prod-Prod.is-1 at c.view-2.ensures.is in
+    let f = c.in_ok-compare-in-Prod-Prod.ensures.follows in
+    record { follows = rw (← ea, ← eb) (follows_bind _ _ _ _ _ _ _ f (follows_no_memory _ _ _ _ (ap stop_of c.in_err-share-in-Prod-Prod.ensures.only_memory) c.from_residual-in_err-share-in-Prod-Prod.ensures.1 (search leaving))) }
+
+pub pair-returns-in_err-under-in-Prod-Prod : goal.pair-returns-in_err-under-in-Prod-Prod
+pair-returns-in_err-under-in-Prod-Prod g t c =
+    let ea = rw c.in-Prod-Prod.is-0 at c.view.ensures.is in
+    let eb = rw c.in-Prod-Prod.is-1 at c.view-2.ensures.is in
+    let f = c.in_ok-compare-in-Prod-Prod.ensures.follows in
+    record { follows = rw (← ea, ← eb) (follows_bind _ _ _ _ _ _ _ f (follows_no_memory _ _ _ _ c.in_err-under-in-Prod-Prod.ensures.only_memory c.from_residual-in_err-under-in-Prod-Prod.ensures.1 (search leaving))) }
+
+pub pair-returns-in_err-share-in-Lambda-Lambda : goal.pair-returns-in_err-share-in-Lambda-Lambda
+pair-returns-in_err-share-in-Lambda-Lambda g t c =
+    let ea = rw c.in-Lambda-Lambda.is-0 at c.view.ensures.is in
+    let eb = rw c.in-Lambda-Lambda.is-1 at c.view-2.ensures.is in
+    let f = c.in_ok-compare-in-Lambda-Lambda.ensures.follows in
+    record { follows = rw (← ea, ← eb) (follows_bind _ _ _ _ _ _ _ f (follows_no_memory _ _ _ _ (ap stop_of c.in_err-share-in-Lambda-Lambda.ensures.only_memory) c.from_residual-in_err-share-in-Lambda-Lambda.ensures.1 (search leaving))) }
+
+pub pair-returns-in_err-under-in-Lambda-Lambda : goal.pair-returns-in_err-under-in-Lambda-Lambda
+pair-returns-in_err-under-in-Lambda-Lambda g t c =
+    let ea = rw c.in-Lambda-Lambda.is-0 at c.view.ensures.is in
+    let eb = rw c.in-Lambda-Lambda.is-1 at c.view-2.ensures.is in
+    let f = c.in_ok-compare-in-Lambda-Lambda.ensures.follows in
+    record { follows = rw (← ea, ← eb) (follows_bind _ _ _ _ _ _ _ f (follows_no_memory _ _ _ _ c.in_err-under-in-Lambda-Lambda.ensures.only_memory c.from_residual-in_err-under-in-Lambda-Lambda.ensures.1 (search leaving))) }
 
 pub pair-returns-in_default : goal.pair-returns-in_default
 pair-returns-in_default g t c =
@@ -194,12 +225,18 @@ spines-returns-then-not-fit g t c =
     let q = rw (c.in_ok-left.ensures.head, c.in_ok-right.ensures.head, c.in_ok-left.ensures.args, c.in_ok-right.ensures.args) at c.fit.ensures.is in
     record { follows = rw c.in_ok-clash.ensures.ok (spines_clash c.args.env.now (at_room c.args.env.now c.args.room) c.args.ctx.now c.args.a.now c.args.b.now c.args.m.now (sym q ∙ c.if-not-fit.true)) }
 
+pub spines-returns-in_err-left : goal.spines-returns-in_err-left
+spines-returns-in_err-left g t c = record { follows = follows_no_memory _ _ _ _ (ap stop_of c.in_err-left.ensures.only_memory) c.from_residual.ensures.1 (search leaving) }
+
+pub spines-returns-in_err-right : goal.spines-returns-in_err-right
+spines-returns-in_err-right g t c = record { follows = follows_no_memory _ _ _ _ (ap stop_of c.in_err-right.ensures.only_memory) c.from_residual-in_err-right.ensures.1 (search leaving) }
+
 pub spines-returns-in_err-heads : goal.spines-returns-in_err-heads
 spines-returns-in_err-heads g t c =
     let p = err_from_is_err_and c.from_residual-in_err-heads.result c.from_residual-in_err-heads.ensures.1 in
     let q = rw (c.in_ok-left.ensures.head, c.in_ok-right.ensures.head, c.in_ok-left.ensures.args, c.in_ok-right.ensures.args) at c.fit.ensures.is in
     let f = rw (c.in_ok-left.ensures.head, c.in_ok-right.ensures.head) at c.in_err-heads.ensures.follows in
-    record { follows = rw (p.1, p.2) (spines_go c.args.env.now (at_room c.args.env.now c.args.room) c.args.ctx.now c.args.a.now c.args.b.now _ c.args.m.now _ (sym q ∙ c.if-not-fit.false) (follows_err _ _ _ _ _ f)) }
+    record { follows = rw (p.1, p.2) (spines_go c.args.env.now (at_room c.args.env.now c.args.room) c.args.ctx.now c.args.a.now c.args.b.now _ c.args.m.now _ (sym q ∙ c.if-not-fit.false) (follows_err _ _ _ _ _ f (search leaving))) }
 
 pub spines-returns : goal.spines-returns
 spines-returns g t c =
@@ -234,7 +271,7 @@ each-returns-in_err-compare g t c =
     let l : c.loop-i.i < length c.as_slice-lefts.result.now = grind arith in
     let k : c.loop-i.i < length c.as_slice-rights.result.now = grind arith in
     let f = c.in_err-compare.ensures.follows in
-    let whole = c.loop-i.invariant.rest _ _ (each_stops (at_room c.args.env.now c.args.room) c.args.ctx.now c.as_slice-lefts.result.now c.as_slice-rights.result.now c.loop-i.i c.index-lefts-i.result c.index-rights-i.result _ c.loop-i.m c.compare.new.m l k c.index-lefts-i.is c.index-rights-i.is f) in
+    let whole = c.loop-i.invariant.rest _ _ (each_stops (at_room c.args.env.now c.args.room) c.args.ctx.now c.as_slice-lefts.result.now c.as_slice-rights.result.now (comparing_fair _ _ _) c.loop-i.i c.index-lefts-i.result c.index-rights-i.result _ c.loop-i.m c.compare.new.m l k c.index-lefts-i.is c.index-rights-i.is f) in
     record { follows = rw (p.1, p.2) (rw (c.as_slice-lefts.ensures.is, c.as_slice-rights.ensures.is) at whole) }
 
 pub each-returns : goal.each-returns
@@ -249,6 +286,9 @@ pub under-compare-requires : goal.under-compare-requires
 under-compare-requires g t c =
     let k = extended_comparable _ _ _ c.args.entries.now _ _ c.in_ok-inner.ensures.longer c.requires.comparable in
     search (rules, k)
+
+pub under-returns-in_err-inner : goal.under-returns-in_err-inner
+under-returns-in_err-inner g t c = record { follows = follows_no_memory _ _ _ _ c.in_err-inner.ensures.only_memory c.from_residual.ensures.1 (search leaving) }
 
 pub under-returns : goal.under-returns
 under-returns g t c =
@@ -294,7 +334,7 @@ predicates-returns-in_err-entries g t c =
     let p = err_from_is_err_and c.from_residual.result c.from_residual.ensures.1 in
     record {
       follows = λ Ps. rw (p.1, p.2) (entering_fault c.args.ctx.now (predicate_entries c.args.x.now.family (with_parameters Ps c.args.family.now) c.args.x.now.params) (λ d. at_room c.args.env.now c.args.room d true c.args.x.now.ret c.args.y.now.ret) _ c.args.m.now
-          (λ e. c.in_err-entries.ensures.too_deep e Ps));
+          (λ e. c.in_err-entries.ensures.too_deep e Ps) (search leaving));
     }
 
 pub predicates-returns : goal.predicates-returns
@@ -315,8 +355,8 @@ branches-returns-in_err-entries g t c =
     let h : c.loop-i.i < length c.as_slice-listed.result.now = grind arith in
     let k : c.loop-i.i < length c.as_slice-xs.result.now = grind arith in
     let l : c.loop-i.i < length c.as_slice-ys.result.now = grind arith in
-    let f = entering_fault c.args.ctx.now (branch_entries c.index-listed-i.result c.args.x.now.params) (λ d. at_room c.args.env.now c.args.room d true c.index-xs-i.result.body c.index-ys-i.result.body) _ c.loop-i.m c.in_err-entries.ensures.too_deep in
-    let whole = c.loop-i.invariant.rest _ _ (branches_stops (at_room c.args.env.now c.args.room) c.args.ctx.now c.args.x.now.params c.as_slice-listed.result.now c.as_slice-xs.result.now c.as_slice-ys.result.now c.loop-i.i c.index-listed-i.result c.index-xs-i.result
+    let f = entering_fault c.args.ctx.now (branch_entries c.index-listed-i.result c.args.x.now.params) (λ d. at_room c.args.env.now c.args.room d true c.index-xs-i.result.body c.index-ys-i.result.body) _ c.loop-i.m c.in_err-entries.ensures.too_deep (search leaving) in
+    let whole = c.loop-i.invariant.rest _ _ (branches_stops (at_room c.args.env.now c.args.room) c.args.ctx.now c.args.x.now.params c.as_slice-listed.result.now c.as_slice-xs.result.now c.as_slice-ys.result.now (comparing_fair _ _ _) c.loop-i.i c.index-listed-i.result c.index-xs-i.result
     c.index-ys-i.result _ c.loop-i.m c.loop-i.m h k l c.index-listed-i.is c.index-xs-i.is c.index-ys-i.is f) in
     record { follows = rw (p.1, p.2) (rw (c.as_slice-listed.ensures.is, c.as_slice-xs.ensures.is, c.as_slice-ys.ensures.is) at whole) }
 
@@ -339,7 +379,7 @@ branches-returns-in_err-under g t c =
     let k : c.loop-i.i < length c.as_slice-xs.result.now = grind arith in
     let l : c.loop-i.i < length c.as_slice-ys.result.now = grind arith in
     let f = rw (c.in_ok-entries.ensures.ok, ← c.index-xs-i.is, ← c.index-ys-i.is) at c.in_err-under.ensures.follows in
-    let whole = c.loop-i.invariant.rest _ _ (branches_stops (at_room c.args.env.now c.args.room) c.args.ctx.now c.args.x.now.params c.as_slice-listed.result.now c.as_slice-xs.result.now c.as_slice-ys.result.now c.loop-i.i c.index-listed-i.result c.index-xs-i.result
+    let whole = c.loop-i.invariant.rest _ _ (branches_stops (at_room c.args.env.now c.args.room) c.args.ctx.now c.args.x.now.params c.as_slice-listed.result.now c.as_slice-xs.result.now c.as_slice-ys.result.now (comparing_fair _ _ _) c.loop-i.i c.index-listed-i.result c.index-xs-i.result
     c.index-ys-i.result _ c.loop-i.m c.under.new.m h k l c.index-listed-i.is c.index-xs-i.is c.index-ys-i.is f) in
     record { follows = rw (p.1, p.2) (rw (c.as_slice-listed.ensures.is, c.as_slice-xs.ensures.is, c.as_slice-ys.ensures.is) at whole) }
 
@@ -385,11 +425,17 @@ fixpoints-each-requires g t c =
     let k = same_comparable _ _ _ _ _ _ c.in_ok-left.ensures.ok c.in_ok-right.ensures.ok c.requires.types in
     search (rules, k)
 
+pub fixpoints-returns-in_err-left : goal.fixpoints-returns-in_err-left
+fixpoints-returns-in_err-left g t c = record { follows = follows_no_memory _ _ _ _ (ap stop_of c.in_err-left.ensures.only_memory) c.from_residual.ensures.1 (search leaving) }
+
+pub fixpoints-returns-in_err-right : goal.fixpoints-returns-in_err-right
+fixpoints-returns-in_err-right g t c = record { follows = follows_no_memory _ _ _ _ (ap stop_of c.in_err-right.ensures.only_memory) c.from_residual-in_err-right.ensures.1 (search leaving) }
+
 pub fixpoints-returns-in_err-each : goal.fixpoints-returns-in_err-each
 fixpoints-returns-in_err-each g t c =
     let p = err_from_is_err_and c.from_residual-in_err-each.result c.from_residual-in_err-each.ensures.1 in
     let f = rw (c.in_ok-left.ensures.ok, c.in_ok-right.ensures.ok) at c.in_err-each.ensures.follows in
-    record { follows = rw (p.1, p.2) (follows_err _ _ _ _ _ f) }
+    record { follows = rw (p.1, p.2) (follows_err _ _ _ _ _ f (search leaving)) }
 
 pub fixpoints-returns : goal.fixpoints-returns
 fixpoints-returns g t c =
@@ -407,8 +453,17 @@ compare_bodies-returns-in_err-entries g t c =
     let p = err_from_is_err_and c.from_residual.result c.from_residual.ensures.1 in
     record {
       follows = rw (p.1, p.2) (entering_fault c.args.ctx.now (lifted_types 0 (list_of (types_of c.args.ds.now))) (λ d. run_all
-          (each_equal (at_room c.args.env.now c.args.room) d (list_of (bodies_of (length c.args.ds.now) c.args.ds.now)) (list_of (bodies_of (length c.args.es.now) c.args.es.now)))) _ c.args.m.now c.in_err-entries.ensures.too_deep);
+          (each_equal (at_room c.args.env.now c.args.room) d (list_of (bodies_of (length c.args.ds.now) c.args.ds.now)) (list_of (bodies_of (length c.args.es.now) c.args.es.now)))) _ c.args.m.now c.in_err-entries.ensures.too_deep (search leaving));
     }
+
+pub compare_bodies-returns-in_err-inner : goal.compare_bodies-returns-in_err-inner
+compare_bodies-returns-in_err-inner g t c = record { follows = follows_no_memory _ _ _ _ c.in_err-inner.ensures.only_memory c.from_residual-in_err-inner.ensures.1 (search leaving) }
+
+pub compare_bodies-returns-in_err-left : goal.compare_bodies-returns-in_err-left
+compare_bodies-returns-in_err-left g t c = record { follows = follows_no_memory _ _ _ _ (ap stop_of c.in_err-left.ensures.only_memory) c.from_residual-in_err-left.ensures.1 (search leaving) }
+
+pub compare_bodies-returns-in_err-right : goal.compare_bodies-returns-in_err-right
+compare_bodies-returns-in_err-right g t c = record { follows = follows_no_memory _ _ _ _ (ap stop_of c.in_err-right.ensures.only_memory) c.from_residual-in_err-right.ensures.1 (search leaving) }
 
 pub compare_bodies-returns : goal.compare_bodies-returns
 compare_bodies-returns g t c =
@@ -422,14 +477,14 @@ pub matches-returns-in_err-each : goal.matches-returns-in_err-each
 matches-returns-in_err-each g t c =
     let e = c.in-Some.ensures.kept in
     let p = err_from_is_err_and c.from_residual.result c.from_residual.ensures.1 in
-    record { follows = rw (p.1, p.2) (matched c.args.env.now c.args.room c.args.ctx.now c.args.x.now c.args.y.now (with_parameters e.0 c.in-Some.family.now) _ c.args.m.now _ e.1 (follows_err _ _ _ _ _ c.in_err-each.ensures.follows)) }
+    record { follows = rw (p.1, p.2) (matched c.args.env.now c.args.room c.args.ctx.now c.args.x.now c.args.y.now (with_parameters e.0 c.in-Some.family.now) _ c.args.m.now _ e.1 (follows_err _ _ _ _ _ c.in_err-each.ensures.follows (search leaving))) }
 
 pub matches-returns-in_err-predicates : goal.matches-returns-in_err-predicates
 matches-returns-in_err-predicates g t c =
     let e = c.in-Some.ensures.kept in
     let p = err_from_is_err_and c.from_residual-in_err-predicates.result c.from_residual-in_err-predicates.ensures.1 in
     let f1 = c.in_ok-each.ensures.follows in
-    record { follows = rw (p.1, p.2) (matched c.args.env.now c.args.room c.args.ctx.now c.args.x.now c.args.y.now (with_parameters e.0 c.in-Some.family.now) _ c.args.m.now _ e.1 (follows_bind _ _ _ _ _ _ _ f1 (follows_err _ _ _ _ _ (c.in_err-predicates.ensures.follows e.0)))) }
+    record { follows = rw (p.1, p.2) (matched c.args.env.now c.args.room c.args.ctx.now c.args.x.now c.args.y.now (with_parameters e.0 c.in-Some.family.now) _ c.args.m.now _ e.1 (follows_bind _ _ _ _ _ _ _ f1 (follows_err _ _ _ _ _ (c.in_err-predicates.ensures.follows e.0) (search leaving)))) }
 
 pub matches-returns-in_err-compare : goal.matches-returns-in_err-compare
 matches-returns-in_err-compare g t c =
@@ -439,5 +494,5 @@ matches-returns-in_err-compare g t c =
     let f2 = c.in_ok-predicates.ensures.follows e.0 in
     record {
       follows = rw (p.1, p.2) (matched c.args.env.now c.args.room c.args.ctx.now c.args.x.now c.args.y.now (with_parameters e.0 c.in-Some.family.now) _ c.args.m.now _ e.1
-          (follows_bind _ _ _ _ _ _ _ f1 (follows_bind _ _ _ _ _ _ _ f2 (follows_err _ _ _ _ _ c.in_err-compare.ensures.follows))));
+          (follows_bind _ _ _ _ _ _ _ f1 (follows_bind _ _ _ _ _ _ _ f2 (follows_err _ _ _ _ _ c.in_err-compare.ensures.follows (search leaving)))));
     }

@@ -1,5 +1,7 @@
 use Rattle.std.proofs.Common.{◌≡◌, ◌-◌, suc, arith}
 use Rattle.std.proofs.lemmas.Result.{err_from_is_err_and}
+use Rattle.pc_rules.proofs.Following.{follows_memory}
+use Rattle.pc_rules.proofs.FairRules.{recursive_block_leaves}
 use Rattle.guard_check.specs.Marks.{values_in}
 use Rattle.guard_check.proofs.BlockRuns.{block_other, block_stops, block_here, block_later}
 use Rattle.guard_check.proofs.guard.Guard.+recursive_block.Goals as goal
@@ -31,4 +33,12 @@ returns g t c =
     record {
       follows = rw (← e) (block_later c.args.env.now (values_in c.args.scope.now) _ c.in-Lambda.domain c.in-Lambda.body c.args.rarg (c.args.rarg - 1) _ c.args.m.now c.recursive_block.new.m z
           c.in_ok-inner.ensures.values c.recursive_block.ensures.follows);
+    }
+
+pub returns-in_err-inner : goal.returns-in_err-inner
+returns-in_err-inner g t c =
+    let p = err_from_is_err_and c.from_residual-in_err-inner.result c.from_residual-in_err-inner.ensures.1 in
+    record {
+      follows = rw (p.1, p.2, c.in_err-inner.ensures.only_memory)
+          (follows_memory _ c.args.m.now (recursive_block_leaves c.args.env.now (values_in c.args.scope.now) c.args.rarg c.args.t.now c.args.m.now.account));
     }

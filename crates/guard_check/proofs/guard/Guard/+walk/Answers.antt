@@ -1,19 +1,20 @@
 use Rattle.std.proofs.Common.{rules, arith, ◌≡◌, ◌≤◌, ◌<◌, ◌-◌, suc, length}
 use Rattle.std.proofs.lemmas.Result.{err_from_is_err_and}
-use Rattle.pc_rules.proofs.Following.{follows_bind, follows_err, follows_next, follows_first_err}
+use Rattle.pc_rules.proofs.Following.{follows_bind, follows_err, follows_halted, follows_first_halted, follows_memory, follows_no_memory, follows_next}
+use Rattle.pc_rules.proofs.Leaving.{leaving}
 use Rattle.trees.specs.Tree.{terms_of}
 use Rattle.trees.specs.Measures.{depth, depth_trees}
 use Rattle.pc_terms.specs.Lists.{arms_of, rargs_of, types_of, bodies_of, depth_defs}
 use Rattle.calculus_rules.specs.Guardedness.{Smaller}
 use Rattle.guard_check.specs.Marks.{mark_of, values_in, marks_in}
 use Rattle.guard_check.proofs.Depths.{term_in, body_in, type_in, definition_in}
-use Rattle.guard_check.proofs.WalkRuns.{walk_leaf, walk_in, follows_last, terms_next, terms_stop, terms_end, branches_next, branches_stop, branches_end, definitions_next, definitions_type, definitions_body, definitions_end, passed_next, passed_type, passed_body, passed_end, fix_smaller, fix_other, under_in, under_other, under_stops, under_last, under_more}
+use Rattle.guard_check.proofs.WalkRuns.{walk_leaf, walk_in, follows_last, terms_next, terms_stop, terms_end, branches_next, branches_stop, branches_end, definitions_next, definitions_type, definitions_body, definitions_end, passed_next, passed_type, passed_body, passed_end, fix_smaller, fix_other, under_in, under_other, under_stops, under_last, under_more, app_stops, let_stops, let_type_stops, let_memory, under_last_memory, under_more_memory}
 use Rattle.guard_check.proofs.guard.Guard.+walk.Goals as goal
 
 -- under a binder
 
 pub binder-returns-in_err-walk : goal.binder-returns-in_err-walk
-binder-returns-in_err-walk g t c = record { follows = search (rules, follows_first_err) }
+binder-returns-in_err-walk g t c = record { follows = follows_first_halted _ _ _ _ _ _ c.from_residual.ensures.1 c.in_err-walk.ensures.follows (search leaving) }
 
 pub binder-returns : goal.binder-returns
 binder-returns g t c =
@@ -52,21 +53,25 @@ branches-returns g t c =
 -- a match
 
 pub case-returns-in_err-mark : goal.case-returns-in_err-mark
-case-returns-in_err-mark g t c = record { follows = search (rules, follows_err) }
+case-returns-in_err-mark g t c = record { follows = follows_halted _ _ _ _ _ _ c.from_residual.ensures.1 c.in_err-mark.ensures.follows (search leaving) }
 
 pub case-returns-in_err-walk : goal.case-returns-in_err-walk
-case-returns-in_err-walk g t c = record { follows = follows_bind _ _ _ _ _ _ _ c.in_ok-mark.ensures.follows (search (rules, follows_err)) }
+case-returns-in_err-walk g t c =
+    record { follows = follows_bind _ _ _ _ _ _ _ c.in_ok-mark.ensures.follows (follows_halted _ _ _ _ _ _ c.from_residual-in_err-walk.ensures.1 c.in_err-walk.ensures.follows (search leaving)) }
 
 pub case-returns-in_err-terms : goal.case-returns-in_err-terms
 case-returns-in_err-terms g t c =
-    record { follows = follows_bind _ _ _ _ _ _ _ c.in_ok-mark.ensures.follows (follows_bind _ _ _ _ _ _ _ c.in_ok-walk.ensures.follows (search (rules, follows_err))) }
+    record {
+      follows = follows_bind _ _ _ _ _ _ _ c.in_ok-mark.ensures.follows (follows_bind _ _ _ _ _ _ _ c.in_ok-walk.ensures.follows
+          (follows_halted _ _ _ _ _ _ c.from_residual-in_err-terms.ensures.1 (rw c.as_slice.ensures.is at c.in_err-terms.ensures.follows) (search leaving)));
+    }
 
 pub case-returns-in_err-walk-2 : goal.case-returns-in_err-walk-2
 case-returns-in_err-walk-2 g t c =
     let p = err_from_is_err_and c.from_residual-in_err-walk-2.result c.from_residual-in_err-walk-2.ensures.1 in
     let ft = rw c.as_slice.ensures.is at c.in_ok-terms.ensures.follows in
     let fr = walk_in c.args.env.now c.args.recursive _ _ _ _ c.args.x.now.ret _ _ _ c.in_ok-inner.ensures.values c.in_ok-inner.ensures.marks c.in_err-walk-2.ensures.follows in
-    record { follows = rw (p.1, p.2) (follows_bind _ _ _ _ _ _ _ c.in_ok-mark.ensures.follows (follows_bind _ _ _ _ _ _ _ c.in_ok-walk.ensures.follows (follows_bind _ _ _ _ _ _ _ ft (follows_err _ _ _ _ _ fr)))) }
+    record { follows = rw (p.1, p.2) (follows_bind _ _ _ _ _ _ _ c.in_ok-mark.ensures.follows (follows_bind _ _ _ _ _ _ _ c.in_ok-walk.ensures.follows (follows_bind _ _ _ _ _ _ _ ft (follows_err _ _ _ _ _ fr (search leaving))))) }
 
 pub case-returns : goal.case-returns
 case-returns g t c =
@@ -78,7 +83,7 @@ case-returns g t c =
 -- a fixpoint
 
 pub definitions-returns-in_err-mark : goal.definitions-returns-in_err-mark
-definitions-returns-in_err-mark g t c = record { follows = search (rules, follows_err) }
+definitions-returns-in_err-mark g t c = record { follows = follows_halted _ _ _ _ _ _ c.from_residual.ensures.1 c.in_err-mark.ensures.follows (search leaving) }
 
 pub definitions-returns-in-Smaller : goal.definitions-returns-in-Smaller
 definitions-returns-in-Smaller g t c =
@@ -231,17 +236,17 @@ pub walk_applied-returns-in_err-walk_applied-in-App : goal.walk_applied-returns-
 walk_applied-returns-in_err-walk_applied-in-App g t c =
     let e = rw c.in-App.is at c.view.ensures.is in
     let f = rw c.with.ensures.longer at c.in_err-walk_applied-in-App.ensures.follows in
-    record { follows = rw (← e) (search (rules, follows_err)) }
+    record { follows = rw (← e) (app_stops c.args.env.now c.args.recursive (values_in c.args.scope.now) (marks_in c.args.scope.now) c.args.args.now _ _ c.from_residual.ensures.1 c.in-App.f c.in-App.a _ _ f) }
 
 pub walk_applied-returns-in_err-walk-in-LetIn : goal.walk_applied-returns-in_err-walk-in-LetIn
 walk_applied-returns-in_err-walk-in-LetIn g t c =
     let e = rw c.in-LetIn.is at c.view.ensures.is in
-    record { follows = rw (← e) (search (rules, follows_err)) }
+    record { follows = rw (← e) (let_stops c.args.env.now c.args.recursive (values_in c.args.scope.now) (marks_in c.args.scope.now) c.args.args.now _ _ c.from_residual-in_err-walk-in-LetIn.ensures.1 c.in-LetIn.value c.in-LetIn.ty c.in-LetIn.body _ _ c.in_err-walk-in-LetIn.ensures.follows) }
 
 pub walk_applied-returns-in_err-walk-in-LetIn-2 : goal.walk_applied-returns-in_err-walk-in-LetIn-2
 walk_applied-returns-in_err-walk-in-LetIn-2 g t c =
     let e = rw c.in-LetIn.is at c.view.ensures.is in
-    record { follows = rw (← e) (follows_bind _ _ _ _ _ _ _ c.in_ok-walk-in-LetIn.ensures.follows (search (rules, follows_err))) }
+    record { follows = rw (← e) (let_type_stops c.args.env.now c.args.recursive (values_in c.args.scope.now) (marks_in c.args.scope.now) c.args.args.now _ _ c.from_residual-in_err-walk-in-LetIn-2.ensures.1 c.in-LetIn.value c.in-LetIn.ty c.in-LetIn.body _ _ _ c.in_ok-walk-in-LetIn.ensures.follows c.in_err-walk-in-LetIn-2.ensures.follows) }
 
 pub walk_applied-returns-in_ok-walk_applied-in-App : goal.walk_applied-returns-in_ok-walk_applied-in-App
 walk_applied-returns-in_ok-walk_applied-in-App g t c =
@@ -277,3 +282,52 @@ walk_applied-returns-in-Fix g t c =
 
 pub walk_applied-returns-in-Sort : goal.walk_applied-returns-in-Sort
 walk_applied-returns-in-Sort g t c = record { follows = walk_leaf _ _ _ _ _ _ _ c.args.m.now c.view.ensures.is c.in-Sort.is }
+
+-- where there is no memory for a scope
+
+pub binder-returns-in_err-inner : goal.binder-returns-in_err-inner
+binder-returns-in_err-inner g t c =
+    record { follows = follows_next _ _ _ _ _ _ c.in_ok-walk.ensures.follows (follows_no_memory _ _ _ _ c.in_err-inner.ensures.only_memory c.from_residual-in_err-inner.ensures.1 (search leaving)) }
+
+pub branches-returns-in_err-inner : goal.branches-returns-in_err-inner
+branches-returns-in_err-inner g t c =
+    let p = err_from_is_err_and c.from_residual.result c.from_residual.ensures.1 in
+    let whole = c.loop-place.invariant _ _ (follows_memory _ c.loop-place.m (search leaving)) in
+    record { follows = rw (p.1, p.2, c.in_err-inner.ensures.only_memory) (rw c.as_slice-branches.ensures.is at whole) }
+
+pub definitions-returns-in_err-inner : goal.definitions-returns-in_err-inner
+definitions-returns-in_err-inner g t c =
+    record { follows = follows_bind _ _ _ _ _ _ _ c.in_ok-mark.ensures.follows (follows_no_memory _ _ _ _ c.in_err-inner.ensures.only_memory c.from_residual-in_err-inner.ensures.1 (search leaving)) }
+
+pub case-returns-in_err-inner : goal.case-returns-in_err-inner
+case-returns-in_err-inner g t c =
+    let ft = rw c.as_slice.ensures.is at c.in_ok-terms.ensures.follows in
+    record {
+      follows = follows_bind _ _ _ _ _ _ _ c.in_ok-mark.ensures.follows (follows_bind _ _ _ _ _ _ _ c.in_ok-walk.ensures.follows (follows_bind _ _ _ _ _ _ _ ft
+          (follows_no_memory _ _ _ _ c.in_err-inner.ensures.only_memory c.from_residual-in_err-inner.ensures.1 (search leaving))));
+    }
+
+pub under-returns-in_err-inner : goal.under-returns-in_err-inner
+under-returns-in_err-inner g t c =
+    let e = rw c.in-Lambda.is at c.view.ensures.is in
+    record {
+      follows = rw (← e) (under_last_memory c.args.env.now c.args.recursive (values_in c.args.scope.now) (marks_in c.args.scope.now) _ _ c.in_err-inner.ensures.only_memory c.from_residual-in_err-inner.ensures.1
+          c.in-Lambda.domain c.in-Lambda.body (mark_of c.args.mark) c.args.rarg c.args.m.now c.walk.new.m c.if-rarg-eq0.true c.in_ok-walk.ensures.follows);
+    }
+
+pub under-returns-in_err-inner-2 : goal.under-returns-in_err-inner-2
+under-returns-in_err-inner-2 g t c =
+    let e = rw c.in-Lambda.is at c.view.ensures.is in
+    let z : c.args.rarg ≡ suc (c.args.rarg - 1) = grind arith in
+    record {
+      follows = rw (← e) (under_more_memory c.args.env.now c.args.recursive (values_in c.args.scope.now) (marks_in c.args.scope.now) _ _ c.in_err-inner-2.ensures.only_memory c.from_residual-in_err-inner-2.ensures.1
+          c.in-Lambda.domain c.in-Lambda.body (mark_of c.args.mark) c.args.rarg (c.args.rarg - 1) c.args.m.now c.walk.new.m z c.in_ok-walk.ensures.follows);
+    }
+
+pub walk_applied-returns-in_err-inner-in-LetIn : goal.walk_applied-returns-in_err-inner-in-LetIn
+walk_applied-returns-in_err-inner-in-LetIn g t c =
+    let e = rw c.in-LetIn.is at c.view.ensures.is in
+    record {
+      follows = rw (← e) (let_memory c.args.env.now c.args.recursive (values_in c.args.scope.now) (marks_in c.args.scope.now) _ _ c.in_err-inner-in-LetIn.ensures.only_memory c.from_residual-in_err-inner-in-LetIn.ensures.1
+          c.args.args.now c.in-LetIn.value c.in-LetIn.ty c.in-LetIn.body c.args.m.now c.walk-in-LetIn.new.m c.walk-in-LetIn-2.new.m c.in_ok-walk-in-LetIn.ensures.follows c.in_ok-walk-in-LetIn-2.ensures.follows);
+    }

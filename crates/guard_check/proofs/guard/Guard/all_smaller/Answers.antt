@@ -1,8 +1,9 @@
-use Rattle.std.proofs.Common.{◌≡◌, [], arith}
+use Rattle.std.proofs.Common.{◌≡◌, [], map, arith}
 use Rattle.std.proofs.lemmas.Grind.{common_steps}
 use Rattle.std.proofs.lemmas.Result.{err_from_is_err_and}
 use Rattle.pc_rules.proofs.Following.{follows_memory}
-use Rattle.guard_check.proofs.FoundRuns.{last_stops, last_other, last_smaller, none_left, last_memory}
+use Rattle.guard_check.specs.Tasks.{to_find}
+use Rattle.guard_check.proofs.FoundRuns.{each_smaller_leaves, last_stops, last_other, last_smaller, none_left, last_memory}
 use Rattle.guard_check.proofs.guard.Guard.all_smaller.Goals as goal
 
 pub loop-init : goal.loop-init
@@ -36,4 +37,4 @@ loop-preserved g c = λ r n f. c.loop.invariant r n
     c.in_ok-whnf.ensures.follows c.in-Smaller.ensures.is c.in_ok-push_branches.ensures.pushed f)
 
 pub returns : goal.returns
-returns g c = record { follows = c.loop.invariant _ _ (follows_memory _ c.loop.m) }
+returns g c = record { follows = c.loop.invariant _ _ (follows_memory _ c.loop.m (each_smaller_leaves c.args.env.now c.args.recursive (map to_find c.loop.tasks.items) c.loop.m.account)) }

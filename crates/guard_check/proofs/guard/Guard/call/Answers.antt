@@ -1,5 +1,6 @@
 use Rattle.std.proofs.Common.{rules, ◌≡◌, ◌<◌}
-use Rattle.pc_rules.proofs.Following.{follows_tick, follows_spent, follows_bind, follows_err, follows_done}
+use Rattle.pc_rules.proofs.Following.{follows_tick, follows_spent, follows_bind, follows_halted, follows_done}
+use Rattle.pc_rules.proofs.Leaving.{leaving}
 use Rattle.guard_check.specs.Marks.{values_in, marks_in}
 use Rattle.guard_check.proofs.FoundRuns.{mark_at, call_with, argument_refused}
 use Rattle.guard_check.proofs.guard.Guard.call.Goals as goal
@@ -20,7 +21,7 @@ returns-in_err-argument-2 g c =
     record {
       follows = call_with c.args.env.now c.args.recursive (values_in c.args.scope.now) (marks_in c.args.scope.now) c.args.index c.in-Some-Recursive.place c.args.args.now c.in-Some.argument.now e c.in-Some.ensures.at _ c.args.m.now c.normal_found.new.m (follows_tick _ _ c.args.m.now
           c.tick.new.self c.normal_found.new.m h c.tick.ensures.account c.tick.ensures.nest
-          (search (rules, follows_err)));
+          (follows_halted _ _ _ _ _ _ c.from_residual-in_err-argument-2.ensures.1 c.in_err-argument-2.ensures.follows (search leaving)));
     }
 
 pub returns-in-Smaller : goal.returns-in-Smaller

@@ -1,4 +1,4 @@
-use Rattle.std.proofs.Common.{rules, arith, ◌≡◌, ◌∙◌, sym, inl, inr, ◌<◌, ◌≤◌, ◌-◌, ◌+◌, true, suc, min, length}
+use Rattle.std.proofs.Common.{rules, arith, ◌≡◌, ◌∙◌, sym, ap, inl, inr, ◌<◌, ◌≤◌, ◌-◌, ◌+◌, true, suc, min, length}
 use Rattle.std.proofs.lemmas.List.{length-map}
 use Rattle.std.proofs.lemmas.Result.{err_from_is_err_and}
 use Rattle.trees.specs.Substitution.{walk}
@@ -7,10 +7,13 @@ use Rattle.pc_terms.specs.Lists.{walk_branch}
 use Rattle.calculus_rules.specs.Environment.{with_parameters}
 use Rattle.calculus_rules.specs.Context.{values}
 use Rattle.calculus_rules.specs.Instances.{predicate_entries, branch_entries}
+use Rattle.pc_rules.specs.Stops.{stop_of}
 use Rattle.pc_rules.specs.Entailment.{test_of}
 use Rattle.pc_rules.specs.DirectedRun.{run_all, done}
 use Rattle.pc_rules.specs.DirectedComparison.{compare, each_equal, lifted_types, heads_equal}
+use Rattle.pc_rules.proofs.FairReduction.{comparing_fair}
 use Rattle.pc_rules.proofs.Following.{follows_still}
+use Rattle.pc_rules.proofs.Leaving.{leaving}
 use Rattle.pc_rules.proofs.Meters.{after-refl}
 use Rattle.pc_rules.proofs.SameTrees.{same_yes, same_no}
 use Rattle.conversion.specs.Modes.{is_equal}
@@ -19,7 +22,7 @@ use Rattle.reduce_machine.specs.Reads.{stands_under}
 use Rattle.reduce_machine.specs.Seen.{seen_term, argument_term}
 use Rattle.lazy_conversion.specs.Lists.{read_list}
 use Rattle.lazy_conversion.specs.Stuck.{match_of, defs_of, type_list, body_list}
-use Rattle.lazy_conversion.proofs.Tracking.{tracks_bind, tracks_err, tracks_where, tracks_each, tracks_same, tracks_done, tracks_memory, tracks_fault, tracks_assumed, tracks_entering}
+use Rattle.lazy_conversion.proofs.Tracking.{tracks_bind, tracks_err, tracks_where, tracks_each, tracks_same, tracks_done, tracks_memory, tracks_no_memory, tracks_fault, tracks_assumed, tracks_entering}
 use Rattle.lazy_conversion.proofs.Beginning.{tracks_spent, tracks_nested, tracks_entered, entered_same, left_stops, right_stops, both_reduced}
 use Rattle.lazy_conversion.proofs.Growing.{list_next, list_stops, list_done, arms_next, arms_stop, arms_done, branch_count, predicate_count, lifted_count, stuck_goes, stuck_unknown, spines_go, spines_clash}
 use Rattle.lazy_conversion.proofs.Limits.{heads_beyond, arguments_beyond, items_beyond, domain_beyond, body_beyond, params_beyond, predicate_beyond, scrutinee_beyond, arm_beyond, types_beyond, bodies_beyond, defs_beyond}
@@ -65,7 +68,7 @@ entered-same_arguments-requires-clause-right t c = sound_seen _ _ _ c.requires.r
 pub entered-returns-in_err-same : goal.entered-returns-in_err-same
 entered-returns-in_err-same t c =
     let p = err_from_is_err_and c.from_residual.result c.from_residual.ensures.1 in
-    record { tracks = rw (p.1, p.2) (tracks_fault _ _ c.args.m.now c.in_err-same.ensures.too_deep) }
+    record { tracks = rw (p.1, p.2) (tracks_fault _ _ c.args.m.now c.in_err-same.ensures.too_deep (search leaving)) }
 
 pub entered-returns-then-same : goal.entered-returns-then-same
 entered-returns-then-same t c =
@@ -78,14 +81,14 @@ entered-returns-in_err-x t c =
     let p = err_from_is_err_and c.from_residual-in_err-x.result c.from_residual-in_err-x.ensures.1 in
     let e = same_no _ _ c.in_ok-same.same c.in_ok-same.ensures.ok c.if-same.false in
     let cmp = compare c.args.at.now.env.now (test_of c.args.at.now.env.now) c.args.room in
-    record { tracks = rw (p.1, p.2) (left_stops c.args.at.now.env.now (test_of c.args.at.now.env.now) cmp (values c.args.at.now.ctx.now) (is_equal c.args.mode) (argument_term c.args.a) (argument_term c.args.b) e _ _ _ c.in_err-x.ensures.follows) }
+    record { tracks = rw (p.1, p.2) (left_stops c.args.at.now.env.now (test_of c.args.at.now.env.now) cmp (values c.args.at.now.ctx.now) (is_equal c.args.mode) (argument_term c.args.a) (argument_term c.args.b) e (comparing_fair _ _ _) _ _ _ c.in_err-x.ensures.follows) }
 
 pub entered-returns-in_err-y : goal.entered-returns-in_err-y
 entered-returns-in_err-y t c =
     let p = err_from_is_err_and c.from_residual-in_err-y.result c.from_residual-in_err-y.ensures.1 in
     let e = same_no _ _ c.in_ok-same.same c.in_ok-same.ensures.ok c.if-same.false in
     let cmp = compare c.args.at.now.env.now (test_of c.args.at.now.env.now) c.args.room in
-    record { tracks = rw (p.1, p.2) (right_stops c.args.at.now.env.now (test_of c.args.at.now.env.now) cmp (values c.args.at.now.ctx.now) (is_equal c.args.mode) (argument_term c.args.a) (argument_term c.args.b) e _ _ _ c.in_ok-x.ensures.follows _ _ c.in_err-y.ensures.follows) }
+    record { tracks = rw (p.1, p.2) (right_stops c.args.at.now.env.now (test_of c.args.at.now.env.now) cmp (values c.args.at.now.ctx.now) (is_equal c.args.mode) (argument_term c.args.a) (argument_term c.args.b) e _ _ _ c.in_ok-x.ensures.follows (comparing_fair _ _ _) _ _ c.in_err-y.ensures.follows) }
 
 pub entered-pair-requires : goal.entered-pair-requires
 entered-pair-requires t c =
@@ -129,7 +132,7 @@ pub pair-returns-in-Sort-Sort : goal.pair-returns-in-Sort-Sort
 pair-returns-in-Sort-Sort t c =
     let ea = rw c.in-Sort-Sort.is-0 at c.shape_of.ensures.is in
     let eb = rw c.in-Sort-Sort.is-1 at c.shape_of-2.ensures.is in
-    record { tracks = rw (ea, eb) (tracks_each _ _ _ _ (after-refl _) (λ d. follows_still _ _ _ (c.compare_sorts.ensures.answers c.args.m.now.account))) }
+    record { tracks = rw (ea, eb) (tracks_each _ _ _ _ (after-refl _) (λ d. follows_still _ _ _ (c.compare_sorts.ensures.answers c.args.m.now.account) (search leaving))) }
 
 pub pair-binders-requires : goal.pair-binders-requires
 pair-binders-requires t c =
@@ -193,7 +196,12 @@ binders-part-requires-2 t c =
 pub binders-returns-in_err-part : goal.binders-returns-in_err-part
 binders-returns-in_err-part t c =
     let p = err_from_is_err_and c.from_residual.result c.from_residual.ensures.1 in
-    record { tracks = rw (p.1, p.2) (tracks_err _ _ _ _ _ (tracks_where _ _ _ _ (domain_beyond c.args.f c.args.g) c.in_err-part.ensures.tracks)) }
+    record { tracks = rw (p.1, p.2) (tracks_err _ _ _ _ _ (tracks_where _ _ _ _ (domain_beyond c.args.f c.args.g) c.in_err-part.ensures.tracks) (search leaving)) }
+
+pub binders-returns-in_err-inner : goal.binders-returns-in_err-inner
+binders-returns-in_err-inner t c =
+    let f = tracks_where _ _ _ _ (domain_beyond c.args.f c.args.g) c.in_ok-part.ensures.tracks in
+    record { tracks = tracks_bind _ _ _ _ _ _ f (tracks_no_memory _ _ _ _ c.in_err-inner.ensures.only_memory c.from_residual-in_err-inner.ensures.1 (search leaving)) }
 
 pub binders-returns : goal.binders-returns
 binders-returns t c =
@@ -206,7 +214,7 @@ binders-returns t c =
 pub part-returns-in_err-same : goal.part-returns-in_err-same
 part-returns-in_err-same t c =
     let p = err_from_is_err_and c.from_residual.result c.from_residual.ensures.1 in
-    record { tracks = rw (p.1, p.2) (tracks_fault _ _ c.args.m.now (λ e. inl c.in_err-same.ensures.too_deep)) }
+    record { tracks = rw (p.1, p.2) (tracks_fault _ _ c.args.m.now (λ e. inl c.in_err-same.ensures.too_deep) (search leaving)) }
 
 pub part-returns-then-same : goal.part-returns-then-same
 part-returns-then-same t c =
@@ -217,12 +225,12 @@ part-returns-then-same t c =
 pub part-returns-in_err-x : goal.part-returns-in_err-x
 part-returns-in_err-x t c =
     let p = err_from_is_err_and c.from_residual-in_err-x.result c.from_residual-in_err-x.ensures.1 in
-    record { tracks = rw (p.1, p.2) (tracks_fault _ _ c.args.m.now (λ e. inl (c.in_err-x.ensures.too_deep e))) }
+    record { tracks = rw (p.1, p.2) (tracks_fault _ _ c.args.m.now (λ e. inl (c.in_err-x.ensures.too_deep e)) (search leaving)) }
 
 pub part-returns-in_err-y : goal.part-returns-in_err-y
 part-returns-in_err-y t c =
     let p = err_from_is_err_and c.from_residual-in_err-y.result c.from_residual-in_err-y.ensures.1 in
-    record { tracks = rw (p.1, p.2) (tracks_fault _ _ c.args.m.now (λ e. inr (c.in_err-y.ensures.too_deep e))) }
+    record { tracks = rw (p.1, p.2) (tracks_fault _ _ c.args.m.now (λ e. inr (c.in_err-y.ensures.too_deep e)) (search leaving)) }
 
 pub part-compare-requires : goal.part-compare-requires
 part-compare-requires t c =
@@ -248,7 +256,7 @@ spines-fit-requires-clause-right t c = c.requires.right.seen
 pub spines-returns-in_err-clash : goal.spines-returns-in_err-clash
 spines-returns-in_err-clash t c =
     let p = err_from_is_err_and c.from_residual.result c.from_residual.ensures.1 in
-    record { tracks = rw (p.1, p.2) (tracks_fault _ _ c.args.m.now c.in_err-clash.ensures.too_deep) }
+    record { tracks = rw (p.1, p.2) (tracks_fault _ _ c.args.m.now c.in_err-clash.ensures.too_deep (search leaving)) }
 
 pub spines-returns-then-not-fit : goal.spines-returns-then-not-fit
 spines-returns-then-not-fit t c =
@@ -261,13 +269,17 @@ spines-returns-in_err-heads t c =
     let cmp = compare c.args.at.now.env.now (test_of c.args.at.now.env.now) c.args.room in
     record {
       tracks = rw (p.1, p.2) (spines_go c.args.at.now.env.now cmp (seen_term c.args.x) (seen_term c.args.y) _ _ _ (sym c.fit.ensures.is ∙ c.if-not-fit.false) (tracks_err (λ d. heads_equal c.args.at.now.env.now cmp d (head (seen_term c.args.x)) (head (seen_term c.args.y)))
-          (λ d. run_all (each_equal cmp d (args (seen_term c.args.x)) (args (seen_term c.args.y)))) _ _ _ c.in_err-heads.ensures.tracks));
+          (λ d. run_all (each_equal cmp d (args (seen_term c.args.x)) (args (seen_term c.args.y)))) _ _ _ c.in_err-heads.ensures.tracks (search leaving)));
     }
 
 pub spines-returns-in_err-keeping : goal.spines-returns-in_err-keeping
 spines-returns-in_err-keeping t c =
-    let p = err_from_is_err_and c.from_residual-in_err-keeping.result c.from_residual-in_err-keeping.ensures.1 in
-    record { tracks = rw (p.1, p.2, c.in_err-keeping.ensures.only_memory) (tracks_memory _ c.args.m.now c.heads.new.m c.in_ok-heads.ensures.tracks.after) }
+    let cmp = compare c.args.at.now.env.now (test_of c.args.at.now.env.now) c.args.room in
+    record {
+      tracks = spines_go c.args.at.now.env.now cmp (seen_term c.args.x) (seen_term c.args.y) _ _ _ (sym c.fit.ensures.is ∙ c.if-not-fit.false) (tracks_bind (λ d. heads_equal c.args.at.now.env.now cmp d (head (seen_term c.args.x)) (head (seen_term c.args.y)))
+          (λ d. run_all (each_equal cmp d (args (seen_term c.args.x)) (args (seen_term c.args.y)))) _ _ _ _ c.in_ok-heads.ensures.tracks
+          (tracks_no_memory _ _ _ _ (ap stop_of c.in_err-keeping.ensures.only_memory) c.from_residual-in_err-keeping.ensures.1 (search leaving)));
+    }
 
 pub spines-arguments-requires : goal.spines-arguments-requires
 spines-arguments-requires t c =
@@ -407,7 +419,7 @@ arguments-returns-in_err-compare t c =
     let e = item_at (args (seen_term c.args.x)) c.loop-i.i _ c.argument-left.ensures.is in
     let d = item_at (args (seen_term c.args.y)) c.loop-i.i _ c.argument-right.ensures.is in
     let f = tracks_where _ _ _ _ (arguments_beyond (seen_term c.args.x) (seen_term c.args.y) c.loop-i.i _ _ h k e d) c.in_err-compare.ensures.tracks in
-    record { tracks = rw (p.1, p.2) (c.loop-i.invariant.rest _ _ (list_stops (compare c.args.at.now.env.now (test_of c.args.at.now.env.now) c.args.room) (args (seen_term c.args.x)) (args (seen_term c.args.y)) c.loop-i.i _ _ _ c.loop-i.m c.compare.new.m h k e d f)) }
+    record { tracks = rw (p.1, p.2) (c.loop-i.invariant.rest _ _ (list_stops (compare c.args.at.now.env.now (test_of c.args.at.now.env.now) c.args.room) (args (seen_term c.args.x)) (args (seen_term c.args.y)) (comparing_fair _ _ _) c.loop-i.i _ _ _ c.loop-i.m c.compare.new.m h k e d f)) }
 
 pub arguments-returns : goal.arguments-returns
 arguments-returns t c =
@@ -451,7 +463,7 @@ each-returns-in_err-part t c =
     let e = mapped_at (walk (stands_under c.args.ts.env.now.items) c.args.ts.under) c.args.ts.terms.now c.loop-i.i c.index-lefts-i.result il (cc) in
     let d = mapped_at (walk (stands_under c.args.us.env.now.items) c.args.us.under) c.args.us.terms.now c.loop-i.i c.index-rights-i.result ik (cc) in
     let f = tracks_where _ _ _ _ (items_beyond (read_list c.args.ts) (read_list c.args.us) c.loop-i.i _ _ l k e d) c.in_err-part.ensures.tracks in
-    record { tracks = rw (p.1, p.2) (c.loop-i.invariant.rest _ _ (list_stops (compare c.args.at.now.env.now (test_of c.args.at.now.env.now) c.args.room) (read_list c.args.ts) (read_list c.args.us) c.loop-i.i _ _ _ c.loop-i.m c.part.new.m l k e d f)) }
+    record { tracks = rw (p.1, p.2) (c.loop-i.invariant.rest _ _ (list_stops (compare c.args.at.now.env.now (test_of c.args.at.now.env.now) c.args.room) (read_list c.args.ts) (read_list c.args.us) (comparing_fair _ _ _) c.loop-i.i _ _ _ c.loop-i.m c.part.new.m l k e d f)) }
 
 pub each-returns : goal.each-returns
 each-returns t c =
@@ -475,7 +487,7 @@ matches-returns-in_err-each t c =
     let e = c.in-Some.ensures.kept in
     let p = err_from_is_err_and c.from_residual.result c.from_residual.ensures.1 in
     let f = rw (c.params.ensures.is, c.params-2.ensures.is) at c.in_err-each.ensures.tracks in
-    record { tracks = rw (p.1, p.2) (stuck_goes c.args.at.now.env.now (compare c.args.at.now.env.now (test_of c.args.at.now.env.now) c.args.room) (match_of c.args.x) (match_of c.args.y) (with_parameters e.0 c.in-Some.family.now) _ _ _ e.1 (tracks_err _ _ _ _ _ (tracks_where _ _ _ _ (params_beyond (match_of c.args.x) (match_of c.args.y)) f))) }
+    record { tracks = rw (p.1, p.2) (stuck_goes c.args.at.now.env.now (compare c.args.at.now.env.now (test_of c.args.at.now.env.now) c.args.room) (match_of c.args.x) (match_of c.args.y) (with_parameters e.0 c.in-Some.family.now) _ _ _ e.1 (tracks_err _ _ _ _ _ (tracks_where _ _ _ _ (params_beyond (match_of c.args.x) (match_of c.args.y)) f) (search leaving))) }
 
 pub matches-predicates-requires : goal.matches-predicates-requires
 matches-predicates-requires t c =
@@ -488,7 +500,7 @@ matches-returns-in_err-predicates t c =
     let p = err_from_is_err_and c.from_residual-in_err-predicates.result c.from_residual-in_err-predicates.ensures.1 in
     let f = tracks_where _ _ _ _ (params_beyond (match_of c.args.x) (match_of c.args.y)) (rw (c.params.ensures.is, c.params-2.ensures.is) at c.in_ok-each.ensures.tracks) in
     record {
-      tracks = rw (p.1, p.2) (stuck_goes c.args.at.now.env.now (compare c.args.at.now.env.now (test_of c.args.at.now.env.now) c.args.room) (match_of c.args.x) (match_of c.args.y) (with_parameters e.0 c.in-Some.family.now) _ _ _ e.1 (tracks_bind _ _ _ _ _ _ f (tracks_err _ _ _ _ _ (c.in_err-predicates.ensures.tracks e.0))));
+      tracks = rw (p.1, p.2) (stuck_goes c.args.at.now.env.now (compare c.args.at.now.env.now (test_of c.args.at.now.env.now) c.args.room) (match_of c.args.x) (match_of c.args.y) (with_parameters e.0 c.in-Some.family.now) _ _ _ e.1 (tracks_bind _ _ _ _ _ _ f (tracks_err _ _ _ _ _ (c.in_err-predicates.ensures.tracks e.0) (search leaving))));
     }
 
 pub matches-compare-requires : goal.matches-compare-requires
@@ -504,7 +516,7 @@ matches-returns-in_err-compare t c =
     let f = tracks_where _ _ _ _ (params_beyond (match_of c.args.x) (match_of c.args.y)) (rw (c.params.ensures.is, c.params-2.ensures.is) at c.in_ok-each.ensures.tracks) in
     let s = tracks_where _ _ _ _ (scrutinee_beyond (match_of c.args.x) (match_of c.args.y)) c.in_err-compare.ensures.tracks in
     record {
-      tracks = rw (p.1, p.2) (stuck_goes c.args.at.now.env.now (compare c.args.at.now.env.now (test_of c.args.at.now.env.now) c.args.room) (match_of c.args.x) (match_of c.args.y) (with_parameters e.0 c.in-Some.family.now) _ _ _ e.1 (tracks_bind _ _ _ _ _ _ f (tracks_bind _ _ _ _ _ _ (c.in_ok-predicates.ensures.tracks e.0) (tracks_err _ _ _ _ _ s))));
+      tracks = rw (p.1, p.2) (stuck_goes c.args.at.now.env.now (compare c.args.at.now.env.now (test_of c.args.at.now.env.now) c.args.room) (match_of c.args.x) (match_of c.args.y) (with_parameters e.0 c.in-Some.family.now) _ _ _ e.1 (tracks_bind _ _ _ _ _ _ f (tracks_bind _ _ _ _ _ _ (c.in_ok-predicates.ensures.tracks e.0) (tracks_err _ _ _ _ _ s (search leaving)))));
     }
 
 pub matches-branches-requires : goal.matches-branches-requires
@@ -527,6 +539,9 @@ predicates-part-requires t c =
     let k = predicates_of c.args.at.now.env.now (values c.args.at.now.ctx.now) (match_of c.args.x) (match_of c.args.y) c.requires.comparable in
     let h = under_comparable c.args.at.now.env.now (values c.args.at.now.ctx.now) _ (suc (length c.args.family.now.indices)) _ _ c.in_ok-inner.ensures.longer k in
     (search rules, (c.requires.nest, rw (c.new-setting.ensures.env, c.new-setting.ensures.ctx, c.predicate.ensures.is, c.predicate-2.ensures.is) h))
+
+pub predicates-returns-in_err-inner : goal.predicates-returns-in_err-inner
+predicates-returns-in_err-inner t c = record { tracks = λ Ps. tracks_no_memory _ _ _ _ c.in_err-inner.ensures.only_memory c.from_residual.ensures.1 (search leaving) }
 
 pub predicates-returns : goal.predicates-returns
 predicates-returns t c =
@@ -587,13 +602,13 @@ branches-returns-in_err-part t c =
     let f = tracks_entering c.args.at.now.env.now (branch_entries c.index-listed-i.result (match_of c.args.x).params) (length c.index-listed-i.result.args) (λ b. cmp b true left.body right.body) _ c.loop-i.m c.part.new.m
     (branch_count c.index-listed-i.result (match_of c.args.x).params) (tracks_where _ _ _ _ (arm_beyond (match_of c.args.x) (match_of c.args.y) c.loop-i.i left right k l e d) g) in
     record {
-      tracks = rw (p.1, p.2) (c.loop-i.invariant.rest _ _ (arms_stop cmp (match_of c.args.x).params c.args.ctors.now (match_of c.args.x).branches (match_of c.args.y).branches c.loop-i.i c.index-listed-i.result left right _ c.loop-i.m c.part.new.m h k l (cc) e d f));
+      tracks = rw (p.1, p.2) (c.loop-i.invariant.rest _ _ (arms_stop cmp (match_of c.args.x).params c.args.ctors.now (match_of c.args.x).branches (match_of c.args.y).branches (comparing_fair _ _ _) c.loop-i.i c.index-listed-i.result left right _ c.loop-i.m c.part.new.m h k l (cc) e d f));
     }
 
 pub branches-returns-in_err-inner : goal.branches-returns-in_err-inner
 branches-returns-in_err-inner t c =
     let p = err_from_is_err_and c.from_residual.result c.from_residual.ensures.1 in
-    record { tracks = rw (p.1, p.2, c.in_err-inner.ensures.only_memory) (c.loop-i.invariant.rest _ _ (tracks_memory _ c.loop-i.m c.loop-i.m (after-refl c.loop-i.m))) }
+    record { tracks = rw (p.1, p.2, c.in_err-inner.ensures.only_memory) (c.loop-i.invariant.rest _ _ (tracks_memory _ c.loop-i.m (search leaving))) }
 
 pub branches-returns : goal.branches-returns
 branches-returns t c =
@@ -609,11 +624,17 @@ pub fixpoints-each-requires : goal.fixpoints-each-requires
 fixpoints-each-requires t c =
     (search rules, (c.requires.nest, rw (c.type_parts-ts.ensures.is, c.type_parts-us.ensures.is) c.requires.types))
 
+pub fixpoints-returns-in_err-left : goal.fixpoints-returns-in_err-left
+fixpoints-returns-in_err-left t c = record { tracks = tracks_no_memory _ _ _ _ (ap stop_of c.in_err-left.ensures.only_memory) c.from_residual.ensures.1 (search leaving) }
+
+pub fixpoints-returns-in_err-right : goal.fixpoints-returns-in_err-right
+fixpoints-returns-in_err-right t c = record { tracks = tracks_no_memory _ _ _ _ (ap stop_of c.in_err-right.ensures.only_memory) c.from_residual-in_err-right.ensures.1 (search leaving) }
+
 pub fixpoints-returns-in_err-each : goal.fixpoints-returns-in_err-each
 fixpoints-returns-in_err-each t c =
     let p = err_from_is_err_and c.from_residual-in_err-each.result c.from_residual-in_err-each.ensures.1 in
     let f = tracks_where _ _ _ _ (types_beyond (defs_of c.args.f) (defs_of c.args.g)) (rw (c.type_parts-ts.ensures.is, c.type_parts-us.ensures.is) at c.in_err-each.ensures.tracks) in
-    record { tracks = rw (p.1, p.2) (tracks_err _ _ _ _ _ f) }
+    record { tracks = rw (p.1, p.2) (tracks_err _ _ _ _ _ f (search leaving)) }
 
 pub fixpoints-bodies-requires : goal.fixpoints-bodies-requires
 fixpoints-bodies-requires t c =
@@ -629,6 +650,15 @@ pub bodies-each-requires : goal.bodies-each-requires
 bodies-each-requires t c =
     let h = under_comparable c.args.at.now.env.now (values c.args.at.now.ctx.now) _ (length c.args.f.defs.now) _ _ c.in_ok-inner.ensures.longer c.requires.bodies in
     (search rules, (c.requires.nest, rw (c.new-setting.ensures.env, c.new-setting.ensures.ctx, c.body_parts-ts.ensures.is, c.body_parts-us.ensures.is) h))
+
+pub bodies-returns-in_err-left : goal.bodies-returns-in_err-left
+bodies-returns-in_err-left t c = record { tracks = tracks_no_memory _ _ _ _ (ap stop_of c.in_err-left.ensures.only_memory) c.from_residual.ensures.1 (search leaving) }
+
+pub bodies-returns-in_err-right : goal.bodies-returns-in_err-right
+bodies-returns-in_err-right t c = record { tracks = tracks_no_memory _ _ _ _ (ap stop_of c.in_err-right.ensures.only_memory) c.from_residual-in_err-right.ensures.1 (search leaving) }
+
+pub bodies-returns-in_err-inner : goal.bodies-returns-in_err-inner
+bodies-returns-in_err-inner t c = record { tracks = tracks_no_memory _ _ _ _ c.in_err-inner.ensures.only_memory c.from_residual-in_err-inner.ensures.1 (search leaving) }
 
 pub bodies-returns : goal.bodies-returns
 bodies-returns t c =
