@@ -1,4 +1,5 @@
 pub mod Steps
+pub mod Atoms
 pub mod Numbers
 pub mod Depths
 pub mod Lists

@@ -1,8 +1,10 @@
 -- What each function of the reader promises: whatever is to come, the verdict on the tokens before the call is the verdict on the tokens after
 -- it, with what was read among the values; or the refusal that the function answers.
-use Rattle.std.specs.Prelude.{◌≡◌, ℕ, ◌<◌, ◌≤◌, List, [], ◌∷◌, ◌++◌, length, Option, Some, None, Result, Ok, Err, OnOk, IfOk, IfSome, false}
+use Rattle.std.specs.Prelude.{◌≡◌, ℕ, ◌<◌, ◌≤◌, List, [], ◌∷◌, ◌++◌, length, Option, Some, None, Result, Ok, Err, OnOk, IfOk, IfSome, false, slice_range}
+use Rattle.std.specs.Str.{IsAscii}
 use Rattle.sexp_reader.specs.Stream.{source, stream, depth, text_at}
 use Rattle.sexp_reader.specs.declared.Token.{Token}
+use Rattle.sexp_reader.specs.declared.TokenKind.TheVariants as kinds
 use Rattle.sexp_reader.specs.declared.Tokens.{Tokens}
 use Rattle.dump_grammar.specs.declared.refusal.Limit.{Limit}
 use Rattle.dump_grammar.specs.declared.refusal.ReadRefusal.{ReadRefusal}
@@ -35,6 +37,10 @@ abbrev pub Ahead : Result (Option Token) ReadRefusal → Tokens → Tokens → T
 Ahead (Ok None) old new = texts (stream old) ≡ []
 Ahead (Ok (Some t)) old new = texts (stream old) ≡ text_at (source old) t ∷ texts (stream new)
 Ahead (Err e) old new = begins_declaration (texts (stream old)) ≡ false
+
+-- The text of the next token is ASCII where it is an atom.
+abbrev pub IsAsciiAtom : Result (Option Token) ReadRefusal → Tokens → Type 0
+IsAsciiAtom result old = IfOk result (λ o. IfSome o (λ t. t.kind ≡ kinds.Atom → IsAscii (slice_range (source old) t.start t.end)))
 
 -- ---- what stands between brackets
 

@@ -1,5 +1,5 @@
 -- What the parts of a tree mean, in the words of the grammar.
-use Rattle.std.specs.Prelude.{◌≡◌, ℕ, ◌≤◌, List, [], ◌∷◌, map}
+use Rattle.std.specs.Prelude.{◌≡◌, ℕ, ◌<◌, ◌≤◌, List, [], ◌∷◌, length, map}
 use Rattle.dump_grammar.specs.Terms.{cast}
 use Rattle.dump_grammar.specs.Named as g
 use Rattle.dump_grammar.specs.Named.{Named, terms_of, branches_of, defs_of, depth}
@@ -18,7 +18,7 @@ part_of p = (p.level.now, p.add)
 
 abbrev pub named_sort : SortTree → g.NamedSort
 named_sort sorts.Prop = g.AProp
-named_sort (sorts.Type ps) = g.AType (map part_of ps.items)
+named_sort (sorts.Type p ps) = g.AType (part_of p ∷ map part_of ps.items)
 
 abbrev pub named_branch : Branch → g.NamedBranch
 named_branch b = record { binders = b.binders; body = b.body }
@@ -48,10 +48,16 @@ named (nodes.Case m) = named_match m.value
 named (nodes.Fix ds i) = g.Fix (defs_of (map named_def ds.items)) i
 named (nodes.Cast t ty) = cast t ty
 
--- What a tree keeps of its depth.
-pub record IsMeasured (d : ℕ) (t : Named) : Type 0 where
-  pub depth_is : d ≡ depth t
+-- The index of a fixpoint is below the number of its definitions.
+abbrev pub IsIndexed : Node → Type 0
+IsIndexed (nodes.Fix ds i) = i < length ds.items
+IsIndexed _ = Unit {0}
+
+-- What a tree keeps of its node: its depth, within the limit, and that its index was tested.
+pub record IsMeasured (d : ℕ) (n : Node) : Type 0 where
+  pub depth_is : d ≡ depth (named n)
   pub within : d ≤ 2048
+  pub indexed : IsIndexed n
 
 -- The values that a match leaves before the bracket that closes it, the newest first.
 abbrev pub match_values : Match → List Value

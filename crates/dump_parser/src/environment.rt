@@ -1,4 +1,4 @@
-//! The parts of an environment: its levels, constraints and declarations, each name as the slice of the text where it stands.
+//! The parts of an environment: its levels, constraints and declarations, each name as the slice of the text where it stands. Names are ASCII.
 
 use crate::tree::{SortTree, Tree};
 
@@ -14,15 +14,15 @@ pub enum Relation {
 #[derive(Clone, Copy, Debug)]
 pub struct ConstraintTree<'a> {
     pub relation: Relation,
-    pub left: &'a [u8],
-    pub right: &'a [u8],
+    pub left: &'a str,
+    pub right: &'a str,
 }
 
 /// A constructor: the types of its arguments, the outermost first, each under the block's parameters and the arguments before it; and the indices
 /// of what it builds, under the parameters and all arguments.
 #[derive(Drop)]
 pub struct CtorTree<'a> {
-    pub name: &'a [u8],
+    pub name: &'a str,
     pub args: Vec<Tree<'a>>,
     pub result: Vec<Tree<'a>>,
 }
@@ -31,7 +31,7 @@ pub struct CtorTree<'a> {
 /// constructors.
 #[derive(Drop)]
 pub struct FamilyTree<'a> {
-    pub name: &'a [u8],
+    pub name: &'a str,
     pub sort: SortTree<'a>,
     pub indices: Vec<Tree<'a>>,
     pub ctors: Vec<CtorTree<'a>>,
@@ -41,12 +41,12 @@ pub struct FamilyTree<'a> {
 #[derive(Drop)]
 pub enum DeclTree<'a> {
     Constant {
-        name: &'a [u8],
+        name: &'a str,
         ty: Tree<'a>,
         body: Option<Tree<'a>>,
     },
     Block {
-        name: &'a [u8],
+        name: &'a str,
         params: Vec<Tree<'a>>,
         families: Vec<FamilyTree<'a>>,
     },
@@ -55,6 +55,6 @@ pub enum DeclTree<'a> {
 /// What stands before the declarations: the levels and the constraints on them.
 #[derive(Drop)]
 pub struct HeadTree<'a> {
-    pub levels: Vec<&'a [u8]>,
+    pub levels: Vec<&'a str>,
     pub constraints: Vec<ConstraintTree<'a>>,
 }

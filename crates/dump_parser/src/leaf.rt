@@ -1,6 +1,6 @@
 //! The terms of the text without subterms, and what a match is of.
 
-ghost use Rattle.std.specs.Prelude.{◌≡◌, [], ◌∷◌, ◌++◌, ◌≤◌, ◌<◌, length, map};
+ghost use Rattle.std.specs.Prelude.{◌≡◌, [], ◌∷◌, ◌++◌, ◌≤◌, ◌<◌, IfOk, length, map};
 ghost use Rattle.dump_grammar.specs.declared.keyword.Former.TheVariants as formers;
 ghost use Rattle.dump_grammar.specs.declared.keyword.Keyword.TheVariants as words;
 ghost use Rattle.dump_grammar.specs.Table.{IOpen, IClose, IWord, IName, INumber, IIndex, INames, Do, Zero, row, VNumber, VName, VTerm, VDefs};
@@ -87,7 +87,7 @@ pub(crate) fn constructor_name<'a>(
 }
 
 /// The family that a match is of, in its brackets.
-pub(crate) fn matched<'a>(tokens: &mut Tokens<'a>) -> Result<(&'a [u8], u32), ReadRefusal>
+pub(crate) fn matched<'a>(tokens: &mut Tokens<'a>) -> Result<(&'a str, u32), ReadRefusal>
     ensures reads { Reads result tokens.old tokens.new (IOpen ∷ IName ∷ INumber ∷ IClose ∷ []) [] (λ x vs. VNumber x.1 ∷ VName x.0.now ∷ vs) }
 {
     open(tokens)?;
@@ -142,6 +142,7 @@ pub(crate) fn predicate_binders(tokens: &mut Tokens) -> Result<u32, ReadRefusal>
 pub(crate) fn index(tokens: &mut Tokens, defs: &[Def]) -> Result<u32, ReadRefusal>
     requires { (0 < length defs.now) × (length defs.now ≤ 255) }
     ensures reads { Reads result tokens.old tokens.new (IIndex ∷ []) (VDefs (map named_def defs.now) ∷ []) (λ n vs. VNumber n ∷ VDefs (map named_def defs.now) ∷ vs) }
+    ensures below { IfOk result (λ n. n < length defs.now) }
 {
     match next(tokens)? {
         Some(token) if token.kind == TokenKind::Atom => match numeral_of(tokens.text(token)) {

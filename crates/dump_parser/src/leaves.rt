@@ -2,7 +2,7 @@
 
 ghost use Rattle.std.specs.Prelude.{◌≡◌, ◌<◌, ◌^◌, IsTrue, IfOk, IfErr, IfSome};
 ghost use Rattle.dump_grammar.specs.declared.refusal.ReadRefusal.TheVariants.{Memory};
-ghost use Rattle.dump_parser.specs.Tree.{named};
+ghost use Rattle.dump_parser.specs.Tree.{named, IsIndexed};
 ghost use Rattle.dump_parser.specs.Leaves.{leaf_named};
 
 use crate::tree::{Node, Tree};
@@ -19,9 +19,16 @@ const NAMED: usize = 1024;
 #[derive(Clone, Copy, Debug)]
 pub(crate) enum Leaf<'a> {
     Rel(u32),
-    Const(&'a [u8]),
-    Ind(&'a [u8], u32),
-    Construct(&'a [u8], u32, u32),
+    Const(&'a str),
+    Ind(&'a str, u32),
+    Construct(&'a str, u32, u32),
+}
+
+/// Whether two names are the same.
+fn same_text(name: &str, other: &str) -> bool
+    ensures is { IsTrue result → name.now ≡ other.now }
+{
+    name.as_bytes() == other.as_bytes()
 }
 
 /// A number that tells many names apart, by a name's length and three of its bytes.
@@ -44,6 +51,7 @@ impl<'a> Leaf<'a> {
     /// The node of the term.
     fn node(self) -> Node<'a>
         ensures is { named result ≡ leaf_named self.entry }
+        ensures indexed { IsIndexed result }
     {
         match self {
             Leaf::Rel(n) => Node::Rel(n),
@@ -63,16 +71,16 @@ impl<'a> Leaf<'a> {
                 _ => false,
             },
             Leaf::Const(name) => match node {
-                Node::Const(other) => name == *other,
+                Node::Const(other) => same_text(name, other),
                 _ => false,
             },
             Leaf::Ind(block, family) => match node {
-                Node::Ind(other, at) => family == *at && block == *other,
+                Node::Ind(other, at) => family == *at && same_text(block, other),
                 _ => false,
             },
             Leaf::Construct(block, family, place) => match node {
                 Node::Construct(other, at, number) => {
-                    place == *number && family == *at && block == *other
+                    place == *number && family == *at && same_text(block, other)
                 }
                 _ => false,
             },
@@ -85,9 +93,11 @@ impl<'a> Leaf<'a> {
     {
         match self {
             Leaf::Rel(n) => (n % VARIABLES) as usize,
-            Leaf::Const(name) => 64 + 4 * mark(name) % NAMED,
-            Leaf::Ind(block, _) => 65 + 4 * mark(block) % NAMED,
-            Leaf::Construct(block, _, place) => 66 + 4 * mark(block) % NAMED + (place % 2) as usize,
+            Leaf::Const(name) => 64 + 4 * mark(name.as_bytes()) % NAMED,
+            Leaf::Ind(block, _) => 65 + 4 * mark(block.as_bytes()) % NAMED,
+            Leaf::Construct(block, _, place) => 66
+                + 4 * mark(block.as_bytes()) % NAMED
+                + (place % 2) as usize,
         }
     }
 }

@@ -9,7 +9,7 @@ ghost use Rattle.dump_parser.specs.Environment.{named_relation, named_constraint
 
 use crate::environment::{ConstraintTree, Relation};
 use crate::list::{Member, next_member};
-use crate::token::{close, level, next, open, word};
+use crate::token::{close, level, next, open, text_of, word};
 use dump_grammar::{Foreign, Keyword, Limit, ReadRefusal, is_word};
 use sexp_reader::{TokenKind, Tokens};
 use std::alloc::Global;
@@ -21,7 +21,7 @@ const MAX_CONSTRAINTS: usize = 16384;
 
 /// The names of the levels, up to the bracket that closes them. The level Set isn't allowed.
 #[tactic(auto, using(crate::proofs::Steps::judged_do, crate::proofs::Maps::map_laws))]
-fn names<'a>(alloc: Global, tokens: &mut Tokens<'a>) -> Result<Vec<&'a [u8]>, ReadRefusal>
+fn names<'a>(alloc: Global, tokens: &mut Tokens<'a>) -> Result<Vec<&'a str>, ReadRefusal>
     ensures reads { Reads result tokens.old tokens.new (Do NoNames ILevels ∷ []) [] (λ v vs. VNames (map (λ a. a.now) v.items) ∷ vs) }
 {
     let mut list = Vec::new(alloc);
@@ -41,7 +41,7 @@ fn names<'a>(alloc: Global, tokens: &mut Tokens<'a>) -> Result<Vec<&'a [u8]>, Re
                         offset: token.start,
                     });
                 }
-                list.push(text)?;
+                list.push(text_of(text))?;
             }
             Some(token) => {
                 return Err(ReadRefusal::Unsupported {
@@ -62,7 +62,7 @@ fn names<'a>(alloc: Global, tokens: &mut Tokens<'a>) -> Result<Vec<&'a [u8]>, Re
 pub(crate) fn levels<'a>(
     alloc: Global,
     tokens: &mut Tokens<'a>,
-) -> Result<Vec<&'a [u8]>, ReadRefusal>
+) -> Result<Vec<&'a str>, ReadRefusal>
     ensures reads { Reads result tokens.old tokens.new (IOpen ∷ IWord words.Levels ∷ Do NoNames ILevels ∷ []) [] (λ v vs. VNames (map (λ a. a.now) v.items) ∷ vs) }
 {
     open(tokens)?;

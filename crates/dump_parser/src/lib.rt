@@ -7,7 +7,8 @@
 //!
 //! What is promised: `start` of `Parser::new` and `reads` of `head`, `declaration` and `main` say what the verdict of the grammar on the text is at each stage
 //! (`specs/Stages`): in the end the environment of the parts that were given, or the text's first refusal with its offset; want of memory alone is
-//! free. `within` of `Tree::node` says that no term has a depth over 2,048.
+//! free. `within` of `Tree::node` says that no term has a depth over 2,048, and `indexed` that the index of a fixpoint is below the number of its definitions.
+//! Names are `&str`, since each byte of an atom is ASCII (`proofs/Atoms`).
 //!
 //! Contracts see a term as the term that the grammar means (`specs/Tree`). What a function of the reader promises (`specs/Reading`) is said for all
 //! that is to come: the verdict on the tokens before the call is the verdict on the tokens after it, with what was read among the values.

@@ -4,7 +4,7 @@ ghost use Rattle.std.specs.Prelude.{◌≡◌, ◌≤◌, map, [], ◌∷◌};
 ghost use Rattle.dump_grammar.specs.Table.{IEnd, VTerm};
 ghost use Rattle.dump_parser.specs.Reading.{Reads};
 ghost use Rattle.dump_grammar.specs.Named.{Named, terms_of, branches_of, defs_of, depth, depth_terms, depth_branches, depth_defs};
-ghost use Rattle.dump_parser.specs.Tree.{named, named_branch, named_def, applied};
+ghost use Rattle.dump_parser.specs.Tree.{named, named_branch, named_def, applied, IsIndexed};
 ghost use Rattle.dump_parser.specs.Making.{Makes};
 ghost use Rattle.dump_parser.specs.Leaves.{leaf_named};
 
@@ -99,6 +99,7 @@ impl<'a> Node<'a> {
 /// The term of a node. `Limit` of the depth, at the bracket that closes it, where its depth is over 2,048.
 #[tactic(auto, using(crate::proofs::Depths::depth_limit))]
 pub(crate) fn make<'a>(alloc: Global, node: Node<'a>, close: usize) -> Result<Tree<'a>, ReadRefusal>
+    requires indexed { IsIndexed node }
     ensures made { Makes result (named node.entry) close }
 {
     let nesting = node.depth();
@@ -118,6 +119,7 @@ pub(crate) fn finish<'a>(
     tokens: &mut Tokens<'a>,
     node: Node<'a>,
 ) -> Result<Tree<'a>, ReadRefusal>
+    requires indexed { IsIndexed node }
     ensures reads { Reads result tokens.old tokens.new (IEnd ∷ []) (VTerm (named node.entry) ∷ []) (λ t vs. VTerm t ∷ vs) }
 {
     match next(tokens)? {

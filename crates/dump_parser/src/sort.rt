@@ -2,7 +2,6 @@
 
 ghost use Rattle.std.specs.Prelude.{◌≡◌, [], ◌∷◌, ◌++◌, map};
 ghost use Rattle.dump_grammar.specs.Table.{ISort, IWord, IOpen, ILevel, IAdd, IClose, IList, Parts, Do, NoParts, AddPart, act, VNumber, VName, VParts, VSort};
-ghost use Rattle.dump_grammar.specs.Named.{AType};
 ghost use Rattle.dump_grammar.specs.declared.keyword.Keyword.TheVariants as words;
 ghost use Rattle.dump_parser.specs.Reading.{Reads};
 ghost use Rattle.dump_parser.specs.Tree.{named_sort, part_of};
@@ -12,23 +11,23 @@ use crate::list::{Member, next_member};
 use crate::number::add;
 use crate::token::{close, level, next, open, word};
 use crate::tree::{LevelPart, SortTree};
-use dump_grammar::{Foreign, Keyword, ReadRefusal, is_word, spelling_of};
+use dump_grammar::{Foreign, Keyword, ReadRefusal, is_word};
 use sexp_reader::{TokenKind, Tokens};
 use std::alloc::Global;
 
 /// The sort of a word. `SProp` is a form that is known and not read.
+#[tactic(auto, unfolding(dump_grammar::specs::Keywords::spelling))]
 fn sort_of_word<'a>(alloc: Global, text: &[u8], offset: usize) -> Result<SortTree<'a>, ReadRefusal>
     ensures sort { IsSort result text.now offset }
 {
     if is_word(text, Keyword::Prop) {
         Ok(SortTree::Prop)
     } else if is_word(text, Keyword::Set) {
-        let mut parts = Vec::new(alloc);
-        parts.push(LevelPart {
-            level: spelling_of(Keyword::Set),
+        let set = LevelPart {
+            level: "Set",
             add: 0,
-        })?;
-        Ok(SortTree::Type(parts))
+        };
+        Ok(SortTree::Type(set, Vec::new(alloc)))
     } else if is_word(text, Keyword::SProp) {
         Err(ReadRefusal::Unsupported {
             what: Foreign::SProp,
@@ -50,20 +49,19 @@ fn part<'a>(tokens: &mut Tokens<'a>) -> Result<LevelPart<'a>, ReadRefusal>
     Ok(LevelPart { level, add })
 }
 
-/// The further parts of a sort, up to the bracket that closes it.
+/// The further parts of a sort, up to the bracket that closes it, and the whole sort.
 #[tactic(auto, using(crate::proofs::Steps::judged_do))]
 fn parts<'a>(
     alloc: Global,
     tokens: &mut Tokens<'a>,
     first: LevelPart<'a>,
-) -> Result<Vec<LevelPart<'a>>, ReadRefusal>
-    ensures reads { Reads result tokens.old tokens.new (IList Parts ∷ []) (VParts (part_of first.entry ∷ []) ∷ []) (λ v vs. VSort (AType (map part_of v.items)) ∷ vs) }
+) -> Result<SortTree<'a>, ReadRefusal>
+    ensures reads { Reads result tokens.old tokens.new (IList Parts ∷ []) (VParts (part_of first.entry ∷ []) ∷ []) (λ s vs. VSort (named_sort s) ∷ vs) }
 {
     let mut list = Vec::new(alloc);
-    list.push(first)?;
     loop {
         match next_member(tokens)? {
-            Member::Close(_) => return Ok(list),
+            Member::Close(_) => return Ok(SortTree::Type(first, list)),
             Member::Open(_) => {
                 let p = part(tokens)?;
                 list.push(p)?;
@@ -80,8 +78,8 @@ fn maximum<'a>(alloc: Global, tokens: &mut Tokens<'a>) -> Result<SortTree<'a>, R
     word(tokens, Keyword::Type)?;
     open(tokens)?;
     let first = part(tokens)?;
-    let list = parts(alloc, tokens, first)?;
-    Ok(SortTree::Type(list))
+    let s = parts(alloc, tokens, first)?;
+    Ok(s)
 }
 
 /// A sort.

@@ -297,7 +297,7 @@ fn match_rest<'a>(
     alloc: Global,
     leaves: &mut Leaves<'a>,
     tokens: &mut Tokens<'a>,
-    block: &'a [u8],
+    block: &'a str,
     family: u32,
     params: Vec<Tree<'a>>,
 ) -> Result<Tree<'a>, ReadRefusal>

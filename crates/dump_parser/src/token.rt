@@ -1,9 +1,10 @@
 //! Single tokens of the text.
 
 ghost use Rattle.std.specs.Prelude.{◌≡◌, [], ◌∷◌, Some, None, Ok, Err};
+ghost use Rattle.std.specs.Str.{IsAscii};
 ghost use Rattle.sexp_reader.specs.Stream.{source, stream, depth, text_at};
 ghost use Rattle.dump_grammar.specs.Table.{IOpen, IClose, IEntryEnd, IWord, IParams, IBinder, IName, ILevel, VName};
-ghost use Rattle.dump_parser.specs.Reading.{judged, Gets, Ahead, Reads};
+ghost use Rattle.dump_parser.specs.Reading.{judged, Gets, Ahead, IsAsciiAtom, Reads};
 
 use dump_grammar::{Foreign, Keyword, Limit, ReadRefusal, is_word};
 use sexp_reader::{Token, TokenFault, TokenKind, Tokens};
@@ -12,6 +13,7 @@ use sexp_reader::{Token, TokenFault, TokenKind, Tokens};
 pub(crate) fn next(tokens: &mut Tokens) -> Result<Option<Token>, ReadRefusal>
     ensures gets { Gets result tokens.old tokens.new }
     ensures ahead { Ahead result tokens.old tokens.new }
+    ensures ascii { IsAsciiAtom result tokens.old }
 {
     match tokens.next() {
         Ok(token) => Ok(token),
@@ -24,6 +26,17 @@ pub(crate) fn next(tokens: &mut Tokens) -> Result<Option<Token>, ReadRefusal>
             which: Limit::Nesting,
             offset,
         }),
+    }
+}
+
+/// ASCII bytes as text.
+pub(crate) fn text_of(bytes: &[u8]) -> &str
+    requires { IsAscii bytes.now }
+    ensures same { result.now ≡ bytes.now }
+{
+    match str::from_utf8(bytes) {
+        Ok(text) => text,
+        Err(_) => unreachable!(),
     }
 }
 
@@ -137,11 +150,11 @@ pub(crate) fn binder(tokens: &mut Tokens) -> Result<(), ReadRefusal>
 }
 
 /// A name, where it lies in the text.
-pub(crate) fn name<'a>(tokens: &mut Tokens<'a>) -> Result<&'a [u8], ReadRefusal>
+pub(crate) fn name<'a>(tokens: &mut Tokens<'a>) -> Result<&'a str, ReadRefusal>
     ensures reads { Reads result tokens.old tokens.new (IName ∷ []) [] (λ x vs. VName x.now ∷ vs) }
 {
     match next(tokens)? {
-        Some(token) if token.kind == TokenKind::Atom => Ok(tokens.text(token)),
+        Some(token) if token.kind == TokenKind::Atom => Ok(text_of(tokens.text(token))),
         Some(token) => Err(ReadRefusal::Syntax {
             offset: token.start,
         }),
@@ -152,11 +165,11 @@ pub(crate) fn name<'a>(tokens: &mut Tokens<'a>) -> Result<&'a [u8], ReadRefusal>
 }
 
 /// A level, where it lies in the text. A bracket in its place begins a form that is known and not read.
-pub(crate) fn level<'a>(tokens: &mut Tokens<'a>) -> Result<&'a [u8], ReadRefusal>
+pub(crate) fn level<'a>(tokens: &mut Tokens<'a>) -> Result<&'a str, ReadRefusal>
     ensures reads { Reads result tokens.old tokens.new (ILevel ∷ []) [] (λ x vs. VName x.now ∷ vs) }
 {
     match next(tokens)? {
-        Some(token) if token.kind == TokenKind::Atom => Ok(tokens.text(token)),
+        Some(token) if token.kind == TokenKind::Atom => Ok(text_of(tokens.text(token))),
         Some(token) if token.kind == TokenKind::Open => Err(ReadRefusal::Unsupported {
             what: Foreign::LevelVariable,
             offset: token.start,

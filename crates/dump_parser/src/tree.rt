@@ -1,8 +1,8 @@
-//! The terms of a text, without the names of binders, each name as the slice of the text where it stands.
+//! The terms of a text, without the names of binders, each name as the slice of the text where it stands. Names are ASCII.
 
 ghost use Rattle.std.specs.Prelude.{◌≡◌, ◌≤◌, IfSome};
 ghost use Rattle.dump_grammar.specs.Named.{depth};
-ghost use Rattle.dump_parser.specs.Tree.{named};
+ghost use Rattle.dump_parser.specs.Tree.{named, IsIndexed};
 
 use std::marker::Model;
 use std::rc::Rc;
@@ -10,19 +10,20 @@ use std::rc::Rc;
 /// A level of a sort, and what is added to it.
 #[derive(Clone, Copy, Debug)]
 pub struct LevelPart<'a> {
-    pub level: &'a [u8],
+    pub level: &'a str,
     pub add: u32,
 }
 
-/// A sort: `Prop`, or the maximum of its parts. `Set` is the part of the level `Set` with nothing added.
+/// A sort: `Prop`, or the maximum of a first part and further ones. `Set` is the part of the level `Set` with nothing added.
 #[derive(Drop)]
 pub enum SortTree<'a> {
     Prop,
-    Type(Vec<LevelPart<'a>>),
+    Type(LevelPart<'a>, Vec<LevelPart<'a>>),
 }
 
 /// A term of a text, with its depth, which is at most 2,048: 1 for a node without subterms, and else one more than its deepest subterm's, where an
-/// application takes one argument and a cast is a lambda applied. Two terms may share a node.
+/// application takes one argument and a cast is a lambda applied. Two terms may share a node. The index of a fixpoint is below the number of its
+/// definitions.
 ///
 /// Contracts see it as the term that the grammar means by it.
 #[cycle(tree)]
@@ -47,12 +48,12 @@ pub enum Node<'a> {
     LetIn(Tree<'a>, Tree<'a>, Tree<'a>),
     /// A function, its first argument, and its further arguments.
     App(Tree<'a>, Tree<'a>, Vec<Tree<'a>>),
-    Const(&'a [u8]),
-    Ind(&'a [u8], u32),
-    Construct(&'a [u8], u32, u32),
+    Const(&'a str),
+    Ind(&'a str, u32),
+    Construct(&'a str, u32, u32),
     /// A match, behind a box, so that a node takes no more room than its other forms need.
     Case(Box<Match<'a>>),
-    /// The definitions, and the index of one of them.
+    /// The definitions, and the index of one of them, below their number.
     Fix(Vec<Def<'a>>, u32),
     /// A term and its type.
     Cast(Tree<'a>, Tree<'a>),
@@ -62,7 +63,7 @@ pub enum Node<'a> {
 #[cycle(tree)]
 #[derive(Drop)]
 pub struct Match<'a> {
-    pub block: &'a [u8],
+    pub block: &'a str,
     pub family: u32,
     pub params: Vec<Tree<'a>>,
     pub binders: u32,
@@ -100,7 +101,7 @@ impl<'a> Model for Tree<'a> {
 
     ghost view = { λ t. named t.node.value };
 
-    ghost invariant = { λ t. IsMeasured t.nesting (named t.node.value) };
+    ghost invariant = { λ t. IsMeasured t.nesting t.node.value };
 
     ghost size = { λ t. depth t };
 
@@ -115,6 +116,7 @@ impl<'a> Tree<'a> {
     pub fn node(&self) -> &Node<'a>
         ensures is { named result.now ≡ self.now }
         ensures within { depth self.now ≤ 2048 }
+        ensures indexed { IsIndexed result.now }
     {
         &self.node
     }

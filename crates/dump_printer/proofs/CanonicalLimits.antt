@@ -24,7 +24,7 @@ use Rattle.dump_printer.proofs.CanonicalForms.{numeral-of, blank, zero_numeral, 
 use Rattle.dump_printer.proofs.CanonicalTokens.{SmallParts, small-parts}
 use Rattle.dump_printer.proofs.Normal.{normal, normal_terms, normal_branches, normal_defs, canon-meaning}
 use Rattle.dump_printer.proofs.Good.{AreGood, good-length}
-use Rattle.dump_printer.proofs.Fitting.{both, held}
+use Rattle.dump_printer.proofs.Fitting.{both, rest-over, held}
 
 pub join : (a b : Option Limit) → a ≡ None → b ≡ None → first a b ≡ None
 join a b e f = ap (λ x. first x b) e ∙ f
@@ -51,10 +51,6 @@ tokens-within d (Stray ∷ ts) g h = elim g.0 [ ]
 shallow : (t : Named) → depth_over t ≡ None → depth t ≤ 2048
 unfolding depth_over
 shallow t e = leb-true (depth t) 2048 (held (nat_le (depth t) 2048) limits.Depth e)
-
-depth-fine : (t : Named) → depth t ≤ 2048 → depth_over t ≡ None
-unfolding depth_over
-depth-fine t h = ap (λ b. unless b limits.Depth) (le-leb (depth t) 2048 h)
 
 module _ (ls : List (List ℕ)) where
   mutual
@@ -86,15 +82,12 @@ module _ (ls : List (List ℕ)) where
     depth-defs (OneDef A b n more) = simp (depth-normal A, depth-normal b, depth-defs more)
 
 lambda-depth : (T t : Named) → depth_over (App (Lambda T (Rel 0)) t) ≡ None → depth_over (Lambda T (Rel 0)) ≡ None
-unfolding depth
-lambda-depth T t e = (let k = shallow (App (Lambda T (Rel 0)) t) e in depth-fine (Lambda T (Rel 0)) (omega arith))
+unfolding depth depth_over
+lambda-depth T t e = (let k = shallow (App (Lambda T (Rel 0)) t) e in ap (λ b. unless b limits.Depth) (le-leb (depth (Lambda T (Rel 0))) 2048 (omega arith)))
 
 no-args : (t : Named) → applied t NoForm ≡ t
 unfolding meaning
 no-args t = refl
-
-rest-over : (a b : Option Limit) → first a b ≡ None → b ≡ None
-rest-over a b e = (both a b e).1
 
 form-depth : (f : Form) → form_over f ≡ None → depth_over (meaning f) ≡ None
 unfolding form_over
@@ -177,10 +170,11 @@ module _ (ls : List (List ℕ)) where
 
   module _ (ns : List (List ℕ)) (set : text_of ls 0 ≡ spelling words.Set) where
     depth-alone : (f : Form) → Fits ns ls (meaning f) → form_over f ≡ None → depth_over (meaning (canon ls f NoForm)) ≡ None
+    unfolding depth_over
     depth-alone f h o =
         let m = canon-meaning ls ns set f h NoForm in
         let e : depth (meaning (canon ls f NoForm)) ≡ depth (meaning f) = ap depth (m ∙ no-args (normal ls (meaning f))) ∙ depth-normal ls (meaning f) in
-        depth-fine (meaning (canon ls f NoForm)) (let k = shallow (meaning f) (form-depth f o) in omega arith)
+        ap (λ d. unless (nat_le d 2048) limits.Depth) e ∙ form-depth f o
 
     -- The form by itself; and before arguments that are canonical.
     abbrev Over : Form → Type 0

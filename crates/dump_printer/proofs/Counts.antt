@@ -2,7 +2,7 @@
 use Rattle.std.proofs.Common.{◌≡◌, ◌∙◌, sym, ap, refl, ℕ, zero, suc, ◌+◌, ◌-◌, ◌<◌, ◌≤◌, Bool, if◌then◌else◌, List, ◌∷◌, length, drop, get_or, true, false, arith}
 use Rattle.std.specs.Prelude.{nat_le}
 use Rattle.std.proofs.lemmas.Bool.{le-leb, lt-leb}
-use Rattle.std.proofs.lemmas.List.{drop_more, drop_all}
+use Rattle.std.proofs.lemmas.List.{at_drop_more, drop_all}
 use Rattle.trees.specs.Tree.{terms_of}
 use Rattle.pc_terms.specs.Syntax.{Term}
 use Rattle.pc_terms.specs.Lists.{arms_of, types_of, bodies_of}
@@ -10,14 +10,15 @@ use Rattle.pc_terms.specs.declared.term.Branch.{Branch}
 use Rattle.pc_terms.specs.declared.term.Def.{Def}
 use Rattle.dump_printer.specs.Cut.{nodes_within, sum_below, sum_of_terms, deepest_from}
 
-next_is : {A : Type 0} (xs : List A) (i : ℕ) (x : A) → i < length xs → x ≡ get_or xs i x → drop i xs ≡ x ∷ drop (i + 1) xs
-next_is xs i x l is = drop_more xs i x l ∙ ap (λ y. y ∷ drop (i + 1) xs) (sym is)
+-- a number that is made of what is left of a list, at an item that a loop has read
+at_next : {A : Type 0} (made : List A → ℕ) (xs : List A) (i : ℕ) (x : A) → i < length xs → x ≡ get_or xs i x → made (drop i xs) ≡ made (x ∷ drop (i + 1) xs)
+at_next made xs i x l is = at_drop_more made xs i x l ∙ ap (λ y. made (y ∷ drop (i + 1) xs)) (sym is)
 
 module _ (f : Term → ℕ) where
   pub next_term : (ts : List Term) (i : ℕ) (t : Term) → i < length ts → t ≡ get_or ts i t →
       sum_of_terms f (terms_of (drop i ts)) ≡ f t + sum_of_terms f (terms_of (drop (i + 1) ts))
   unfolding sum_of_terms
-  next_term ts i t l is = ap (λ us. sum_of_terms f (terms_of us)) (next_is ts i t l is)
+  next_term ts i t l is = at_next (λ us. sum_of_terms f (terms_of us)) ts i t l is
 
   pub no_term : (ts : List Term) (i : ℕ) → length ts ≤ i → sum_of_terms f (terms_of (drop i ts)) ≡ 0
   unfolding sum_of_terms
@@ -26,7 +27,7 @@ module _ (f : Term → ℕ) where
   pub next_arm : (bs : List Branch) (i : ℕ) (b : Branch) → i < length bs → b ≡ get_or bs i b →
       sum_of_terms f (arms_of (drop i bs)) ≡ f b.body + sum_of_terms f (arms_of (drop (i + 1) bs))
   unfolding sum_of_terms
-  next_arm bs i b l is = ap (λ us. sum_of_terms f (arms_of us)) (next_is bs i b l is)
+  next_arm bs i b l is = at_next (λ us. sum_of_terms f (arms_of us)) bs i b l is
 
   pub no_arm : (bs : List Branch) (i : ℕ) → length bs ≤ i → sum_of_terms f (arms_of (drop i bs)) ≡ 0
   unfolding sum_of_terms
@@ -35,12 +36,12 @@ module _ (f : Term → ℕ) where
   pub next_type : (ds : List Def) (i : ℕ) (x : Def) → i < length ds → x ≡ get_or ds i x →
       sum_of_terms f (types_of (drop i ds)) ≡ f x.ty + sum_of_terms f (types_of (drop (i + 1) ds))
   unfolding sum_of_terms
-  next_type ds i x l is = ap (λ us. sum_of_terms f (types_of us)) (next_is ds i x l is)
+  next_type ds i x l is = at_next (λ us. sum_of_terms f (types_of us)) ds i x l is
 
   pub next_body : (m : ℕ) (ds : List Def) (i : ℕ) (x : Def) → i < length ds → x ≡ get_or ds i x →
       sum_of_terms f (bodies_of m (drop i ds)) ≡ f x.body + sum_of_terms f (bodies_of m (drop (i + 1) ds))
   unfolding sum_of_terms
-  next_body m ds i x l is = ap (λ us. sum_of_terms f (bodies_of m us)) (next_is ds i x l is)
+  next_body m ds i x l is = at_next (λ us. sum_of_terms f (bodies_of m us)) ds i x l is
 
   pub no_type : (ds : List Def) (i : ℕ) → length ds ≤ i → sum_of_terms f (types_of (drop i ds)) ≡ 0
   unfolding sum_of_terms

@@ -6,11 +6,6 @@ use Rattle.dump_grammar.specs.Named.{terms_of}
 use Rattle.dump_grammar.specs.Terms.{Forms, NoForm, OneForm, meaning, meanings}
 use Rattle.dump_printer.proofs.Fits.{IsName, Fits, FitTerms, FitsSort}
 
--- each of a list
-abbrev pub Each : {X : Type 0} → (X → Type 0) → List X → Type 0
-Each P [] = Unit {0}
-Each P (x ∷ xs) = P x × Each P xs
-
 module _ (ns ls : List (List ℕ)) where
   abbrev pub IsLevel : List ℕ → Type 0
   IsLevel a = is_in a ls ≡ true

@@ -23,6 +23,9 @@ pub both : (a b : Option Limit) → first a b ≡ None → (a ≡ None) × (b �
 both None b e = (refl, e)
 both (Some l) b e = absurd cc
 
+pub rest-over : (a b : Option Limit) → first a b ≡ None → b ≡ None
+rest-over a b e = (both a b e).1
+
 pub held : (b : Bool) (l : Limit) → unless b l ≡ None → b ≡ true
 held true l e = refl
 held false l e = absurd cc

@@ -1,7 +1,7 @@
 -- Tokens that can stand in a text: brackets, and atoms of 1 to 255 atom bytes.
 use Rattle.std.proofs.Common.{◌≡◌, ℕ, suc, ◌+◌, ◌<◌, ◌≤◌, List, [], ◌∷◌, ◌++◌, length, Option, Some, None, Bool, true, false, ◌&&◌, ◌||◌, refl, sym, ap, subst, ◌∙◌, arith, decimal, inl, inr}
 use Rattle.std.specs.Prelude.{nat_le, nat_lt, nat_eq}
-use Rattle.std.proofs.lemmas.Bool.{cases_Bool, le-leb, leb-true}
+use Rattle.std.proofs.lemmas.Bool.{and_parts, cases_Bool, le-leb, leb-true}
 use Rattle.std.specs.Str.Parse.{AllDigits}
 use Rattle.std.proofs.lemmas.Str.Parse.{digit_from_value}
 use Rattle.std.proofs.lemmas.Fmt.{decimal_is_IsNumeral, decimal_nonempty, length-decimal-le}
@@ -43,22 +43,18 @@ abbrev pub AreGood : List Text → Type 0
 AreGood [] = Unit {0}
 AreGood (t ∷ ts) = IsGood t × AreGood ts
 
-pub and-parts : (a b : Bool) → (a && b) ≡ true → (a ≡ true) × (b ≡ true)
-and-parts true b e = (refl, e)
-and-parts false b e = absurd cc
-
 all-each : (a : List ℕ) → all_bytes a ≡ true → Each (λ b. is_atom_byte b ≡ true) a
 all-each [] e = tt
-all-each (b ∷ bs) e = (let x = and-parts (is_atom_byte b) (all_bytes bs) e in (x.0, all-each bs x.1))
+all-each (b ∷ bs) e = (let x = and_parts (is_atom_byte b) (all_bytes bs) e in (x.0, all-each bs x.1))
 
 each-all : (a : List ℕ) → Each (λ b. is_atom_byte b ≡ true) a → all_bytes a ≡ true
 each-all [] h = refl
 each-all (b ∷ bs) h = rw (h.0, each-all bs h.1) refl
 
-good-parts : (a : List ℕ) → is_good a ≡ true → (0 < length a) × Each (λ b. is_atom_byte b ≡ true) a
+pub good-parts : (a : List ℕ) → is_good a ≡ true → (0 < length a) × Each (λ b. is_atom_byte b ≡ true) a
 good-parts [] e = absurd cc
 good-parts (b ∷ bs) e =
-    let x = and-parts (is_atom_byte b && all_bytes bs) (nat_le (length (b ∷ bs)) 255) e in
+    let x = and_parts (is_atom_byte b && all_bytes bs) (nat_le (length (b ∷ bs)) 255) e in
     (omega arith, all-each (b ∷ bs) x.0)
 
 good-from : (a : List ℕ) → 0 < length a → Each (λ b. is_atom_byte b ≡ true) a → length a ≤ 255 → is_good a ≡ true
@@ -67,7 +63,7 @@ good-from (b ∷ bs) h k l = rw (k.0, each-all bs k.1, le-leb (suc (length bs)) 
 
 pub good-length : (a : List ℕ) → is_good a ≡ true → length a ≤ 255
 good-length [] e = absurd cc
-good-length (b ∷ bs) e = leb-true (length (b ∷ bs)) 255 (and-parts (is_atom_byte b && all_bytes bs) (nat_le (length (b ∷ bs)) 255) e).1
+good-length (b ∷ bs) e = leb-true (length (b ∷ bs)) 255 (and_parts (is_atom_byte b && all_bytes bs) (nat_le (length (b ∷ bs)) 255) e).1
 
 digit-byte : (c : ℕ) → 48 ≤ c → c ≤ 57 → is_atom_byte c ≡ true
 digit-byte c a b =

@@ -4,19 +4,12 @@ use Rattle.std.proofs.lemmas.List.{length-take-le, take-append-drop}
 use Rattle.std.specs.Io.KnownBytes.{Appends}
 use Rattle.kio.specs.Causes.{Rose}
 use Rattle.kio.specs.Known.{StillTells}
+use Rattle.kio.proofs.Bytes.{tells-again}
 use Rattle.sexp_reader.specs.Text.{Text, Open, Close, Atom}
 use Rattle.dump_printer.specs.Layout.{gap, laid}
 use Rattle.dump_printer.specs.Writing.{Start, counted, IsAhead, IsOn}
 use Rattle.dump_printer.specs.declared.writing.Progress.{Progress}
 use Rattle.dump_printer.proofs.Laid.{laid-open, laid-close, laid-atom}
-
-tells-again : (a b c : Option (List ℕ)) → StillTells a b → StillTells b c → StillTells a c
-tells-again None None None p q = tt
-tells-again (Some x) (Some y) (Some z) p q = tt
-tells-again None None (Some z) p q = absurd q
-tells-again (Some x) (Some y) None p q = absurd q
-tells-again None (Some y) c p q = absurd p
-tells-again (Some x) None c p q = absurd p
 
 appends-again : (a b c : Option (List ℕ)) (v w : List ℕ) → Appends a b v → Appends b c w → Appends a c (v ++ w)
 appends-again None b c v w p q = tt

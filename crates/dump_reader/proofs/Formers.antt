@@ -1,5 +1,6 @@
 -- What is made of each former of a tree, from what is made of its parts.
 use Rattle.std.proofs.Common.{◌≡◌, ℕ, ◌<◌, ◌≤◌, ◌^◌, List, [], ◌∷◌, map, length, Result, IfOk, refl, sym, ap, subst, ◌∙◌, arith}
+use Rattle.std.proofs.lemmas.List.{length-map}
 use Rattle.std.proofs.lemmas.Result.{IfOk-weaker}
 use Rattle.trees.specs.Tree as trees
 use Rattle.trees.specs.Measures.{above, above_trees, IsWithin}
@@ -10,6 +11,7 @@ use Rattle.pc_terms.specs.Syntax as terms
 use Rattle.pc_terms.specs.Lists.{arms_of, types_of, bodies_of, rargs_of}
 use Rattle.pc_terms.specs.declared.term.Branch.{Branch as Arm}
 use Rattle.pc_terms.specs.declared.term.Def.{Def as Definition}
+use Rattle.pc_terms.proofs.Parts.{rargs_length}
 use Rattle.dump_grammar.specs.declared.refusal.ReadRefusal.{ReadRefusal}
 use Rattle.dump_grammar.specs.Terms.{cast}
 use Rattle.dump_grammar.specs.Named.{NamedSort, Named, Rel, Sort, Prod, Lambda, LetIn, App, Const, Ind, Construct, Case, Fix, terms_of, branches_of, defs_of, depth}
@@ -23,7 +25,7 @@ use Rattle.dump_reader.specs.Growth.{unused, Numbers}
 use Rattle.dump_reader.specs.Made.{IsTerm, AreTerms, AreBranches, AreDefs, numbered_def}
 use Rattle.dump_reader.proofs.Growth.{plain, on, both, kept, restated}
 use Rattle.dump_reader.proofs.Depths.{depth-numbered}
-use Rattle.dump_reader.proofs.Items.{term-names, term-levels, branch-names, branch-levels, def-names, def-levels, term-values, branch-values, rarg-values, type-values, body-values, rargs-length}
+use Rattle.dump_reader.proofs.Items.{term-names, term-levels, branch-names, branch-levels, def-names, def-levels, term-values, branch-values, rarg-values, type-values, body-values}
 
 -- ---- results
 
@@ -124,7 +126,7 @@ fix_of i ds = terms.Fix i (rargs_of ds) (types_of ds) (bodies_of (length ds) ds)
 
 module _ (ns ls : List (List ℕ)) (ds : List Def) where
   def-count : length (map (numbered_def ns ls) ds) ≡ length (recursive_arguments (defs_of (map named_def ds)))
-  def-count = sym (rargs-length (map (numbered_def ns ls) ds)) ∙ ap (λ (xs : List ℕ). length xs) (rarg-values ns ls ds)
+  def-count = sym (rargs_length (map (numbered_def ns ls) ds)) ∙ ap (λ (xs : List ℕ). length xs) (rarg-values ns ls ds)
 
   fix-value : (i : ℕ) → fix_of i (map (numbered_def ns ls) ds) ≡ numbered_term ns ls (Fix (defs_of (map named_def ds)) i)
   unfolding numbered_term
@@ -132,6 +134,10 @@ module _ (ns ls : List (List ℕ)) (ds : List Def) where
       let bodies : bodies_of (length (map (numbered_def ns ls) ds)) (map (numbered_def ns ls) ds) ≡ numbered_bodies ns ls (length (recursive_arguments (defs_of (map named_def ds)))) (defs_of (map named_def ds)) =
       ap (λ n. bodies_of n (map (numbered_def ns ls) ds)) def-count ∙ body-values ns ls (length (recursive_arguments (defs_of (map named_def ds)))) ds in
       λ j. terms.Fix i (rarg-values ns ls ds j) (type-values ns ls ds j) (bodies j)
+
+-- There are as many definitions as in the tree.
+pub defs-count : {ds : List Def} {old new : Tables} {xs : List Definition} → AreDefs ds old new xs → length xs ≡ length ds
+defs-count {ds = ds} p = ap (λ (z : List Definition). length z) (p.numbers.is_value [] []) ∙ length-map ds (numbered_def _ _)
 
 pub fix-term : {old new : Tables} (ds : List Def) (i : ℕ) (xs : List Definition) → AreDefs ds old new xs → IsTerm (Fix (defs_of (map named_def ds)) i) old new (terms.Fix i (rargs_of xs) (types_of xs) (bodies_of (length xs) xs))
 unfolding names levels

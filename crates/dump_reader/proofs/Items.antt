@@ -1,5 +1,5 @@
 -- The lists within a tree: their uses and their values, item by item.
-use Rattle.std.proofs.Common.{◌≡◌, ℕ, suc, ◌+◌, ◌<◌, ◌≤◌, ◌^◌, List, [], ◌∷◌, ◌++◌, map, length, take, get_or, refl, sym, ap, subst, arith}
+use Rattle.std.proofs.Common.{◌≡◌, ℕ, ◌+◌, ◌<◌, ◌≤◌, ◌^◌, List, [], ◌∷◌, ◌++◌, map, length, take, get_or, refl, sym, ap, subst, arith}
 use Rattle.trees.specs.Tree as trees
 use Rattle.trees.specs.Measures.{above, above_trees}
 use Rattle.pc_terms.specs.Syntax as terms
@@ -75,10 +75,6 @@ module _ (ns ls : List (List ℕ)) where
   unfolding numbered_term
   body-values m [] = refl
   body-values m (d ∷ ds) = ap (trees.Next m (numbered_term ns ls d.body)) (body-values m ds)
-
-pub rargs-length : (ds : List Definition) → length (rargs_of ds) ≡ length ds
-rargs-length [] = refl
-rargs-length (d ∷ ds) = ap (λ n. suc n) (rargs-length ds)
 
 -- ---- variables are numbers of 32 bits
 

@@ -1,5 +1,5 @@
 -- The parts of a tree, which are less deep.
-use Rattle.std.proofs.Common.{◌≡◌, ℕ, zero, suc, ◌+◌, ◌<◌, ◌≤◌, max, List, [], ◌∷◌, ◌++◌, map, length, take, get_or, refl, sym, ap, subst, ◌∙◌, arith}
+use Rattle.std.proofs.Common.{◌≡◌, ℕ, zero, suc, ◌+◌, ◌<◌, ◌≤◌, max, List, [], ◌∷◌, ◌++◌, map, length, take, get_or, sym, ap, subst, ◌∙◌, arith}
 use Rattle.std.proofs.lemmas.List.{take_more}
 use Rattle.dump_grammar.specs.Terms.{cast}
 use Rattle.dump_grammar.specs.Named.{Named, Rel, Prod, Lambda, LetIn, App, Case, Fix, terms_of, branches_of, defs_of, depth, depth_terms, depth_branches, depth_defs}
@@ -7,6 +7,7 @@ use Rattle.dump_parser.specs.declared.tree.Branch.{Branch}
 use Rattle.dump_parser.specs.declared.tree.Def.{Def}
 use Rattle.dump_parser.specs.declared.tree.Node.{Node}
 use Rattle.dump_parser.specs.Tree.{named, named_branch, named_def, applied}
+use Rattle.dump_parser.proofs.Lists.{applied_more}
 
 -- a node that was seen
 pub seen : {t : Named} {n m : Node} → named n ≡ t → n ≡ m → t ≡ named m
@@ -93,15 +94,11 @@ applied-front f ts zero h = (applied-depths f ts h).0
 applied-front f [] (suc n) h = omega arith
 applied-front f (t ∷ ts) (suc n) h = applied-front (App f t) ts n (omega arith)
 
-applied-push : (f : Named) (ts : List Named) (t : Named) → applied f (ts ++ t ∷ []) ≡ App (applied f ts) t
-applied-push f [] t = refl
-applied-push f (u ∷ ts) t = applied-push (App f u) ts t
-
 -- one argument more, at an item that a loop has read
 pub applied-more : (f : Named) (ts : List Named) (i : ℕ) (t : Named) → t ≡ get_or ts i t → i < length ts → applied f (take (i + 1) ts) ≡ App (applied f (take i ts)) t
 applied-more f ts i t at within =
     let longer : take (i + 1) ts ≡ take i ts ++ t ∷ [] = take_more ts i t within ∙ ap (λ (u : Named). take i ts ++ u ∷ []) (sym at) in
-    ap (applied f) longer ∙ applied-push f (take i ts) t
+    ap (applied f) longer ∙ applied_more f (take i ts) t
 
 -- the application of one argument more is within the run
 pub run-within : (f a : Named) (ts : List Named) (i : ℕ) (t : Named) → t ≡ get_or ts i t → i < length ts → depth (App (applied (App f a) (take i ts)) t) ≤ depth (applied (App f a) ts)

@@ -1,5 +1,6 @@
 -- What is made of a sort, from what is made of its parts.
-use Rattle.std.proofs.Common.{◌≡◌, ℕ, zero, suc, ◌+◌, ◌<◌, List, [], ◌∷◌, ◌++◌, map, length, take, get_or, refl, sym, ap, subst, ◌∙◌, arith}
+use Rattle.std.proofs.Common.{◌≡◌, ◌≢◌, ℕ, zero, suc, ◌+◌, ◌<◌, List, [], ◌∷◌, ◌++◌, map, length, take, get_or, refl, sym, ap, subst, ◌∙◌, arith}
+use Rattle.std.proofs.lemmas.List.{take_more}
 use Rattle.universe_levels.specs.declared.level.Level.{Level}
 use Rattle.universe_levels.specs.declared.level.LevelExpr.{LevelExpr}
 use Rattle.universe_levels.specs.declared.sort.Sort.TheVariants as sorts
@@ -12,20 +13,39 @@ use Rattle.dump_reader.specs.declared.numbering.Tables.{Tables}
 use Rattle.dump_reader.specs.Numbered.{level_number, level_part, numbered_sort}
 use Rattle.dump_reader.specs.Growth.{unused, Numbers}
 use Rattle.dump_reader.specs.Made.{NumbersEach, part_names, part_levels, numbered_part}
-use Rattle.dump_reader.proofs.Growth.{on, restated, one-more-at}
+use Rattle.dump_reader.proofs.Growth.{on, restated, none-yet, one-more}
 
 pub same-item : {X : Type 0} (xs : List X) (i : ℕ) (d e : X) → i < length xs → get_or xs i d ≡ get_or xs i e
 same-item [] i d e h = absurd (omega arith)
 same-item (x ∷ xs) zero d e h = refl
 same-item (x ∷ xs) (suc i) d e h = same-item xs i d e (omega arith)
 
-pub one-part : (ps : List LevelPart) (i : ℕ) (d : LevelPart) (ys zs : List LevelExpr) (l : Level) {old mid new : Tables} → i < length ps → zs ≡ ys ++ record { level = l; add = (get_or ps i d).add } ∷ []
-    → NumbersEach part_names part_levels numbered_part (take i ps) old mid ys
-    → Numbers unused (λ after. (get_or ps i d).level.now ∷ after) (λ ns ls. level_number ls (get_or ps i d).level.now) mid new l
-    → NumbersEach part_names part_levels numbered_part (take (i + 1) ps) old new zs
-one-part ps i d ys zs l within put p q =
-    one-more-at part_names part_levels numbered_part ps i (get_or ps i d) ys zs (record { level = l; add = (get_or ps i d).add }) (same-item ps i d (get_or ps i d) within) within put p
-    (restated (on q (λ m. record { level = m; add = (get_or ps i d).add })) (λ after. refl) (λ after. refl) (λ ns ls. refl) refl)
+pub expression-made : (p : LevelPart) (l : Level) {old new : Tables} → Numbers unused (λ after. p.level.now ∷ after) (λ ns ls. level_number ls p.level.now) old new l
+    → Numbers (part_names p) (part_levels p) (λ ns ls. numbered_part ns ls p) old new (record { level = l; add = p.add })
+expression-made p l made = restated (on made (λ m. record { level = m; add = p.add })) (λ after. refl) (λ after. refl) (λ ns ls. refl) refl
+
+pub first-part : (p : LevelPart) (zs : List LevelExpr) (e : LevelExpr) {old new : Tables} → zs ≡ e ∷ [] → Numbers (part_names p) (part_levels p) (λ ns ls. numbered_part ns ls p) old new e
+    → NumbersEach part_names part_levels numbered_part (p ∷ []) old new zs
+first-part p zs e {old} {new} put one =
+    subst (λ (z : List LevelExpr). NumbersEach part_names part_levels numbered_part (p ∷ []) old new z) (sym put)
+    (one-more part_names part_levels numbered_part [] p [] e (none-yet part_names part_levels numbered_part old) one)
+
+-- a further part, at an item that a loop has read
+pub next-part : (p : LevelPart) (ps : List LevelPart) (i : ℕ) (d : LevelPart) (ys zs : List LevelExpr) (e : LevelExpr) {old mid new : Tables} → i < length ps → zs ≡ ys ++ e ∷ []
+    → NumbersEach part_names part_levels numbered_part (p ∷ take i ps) old mid ys → Numbers (part_names (get_or ps i d)) (part_levels (get_or ps i d)) (λ ns ls. numbered_part ns ls (get_or ps i d)) mid new e
+    → NumbersEach part_names part_levels numbered_part (p ∷ take (i + 1) ps) old new zs
+next-part p ps i d ys zs e {old} {mid} {new} within put made one =
+    let q : LevelPart = get_or ps i d in
+    let longer : take (i + 1) ps ≡ take i ps ++ q ∷ [] = take_more ps i d within in
+    subst (λ (z : List LevelExpr). NumbersEach part_names part_levels numbered_part (p ∷ take (i + 1) ps) old new z) (sym put)
+    (subst (λ (z : List LevelPart). NumbersEach part_names part_levels numbered_part (p ∷ z) old new (ys ++ e ∷ [])) (sym longer) (one-more part_names part_levels numbered_part (p ∷ take i ps) q ys e made one))
+
+not-empty : {X : Type 0} (x : X) (xs ys : List X) → ys ≡ x ∷ xs → ys ≢ []
+not-empty x xs ys e = λ f. cc
+
+-- what is made of a first part and of further ones is not empty
+pub some-made : (p : LevelPart) (ps : List LevelPart) (xs : List LevelExpr) {old new : Tables} → NumbersEach part_names part_levels numbered_part (p ∷ ps) old new xs → xs ≢ []
+some-made p ps xs made = not-empty _ _ xs (made.is_value [] [])
 
 no-names : (ps : List LevelPart) (after : List (List ℕ)) → after ≡ each part_names ps after
 unfolding each

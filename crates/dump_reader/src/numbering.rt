@@ -13,7 +13,7 @@ use crate::leaves::{Leaf, Leaves};
 use crate::making::made;
 use crate::names::Names;
 use crate::recent::Recent;
-use dump_grammar::{Keyword, ReadRefusal, spelling_of};
+use dump_grammar::ReadRefusal;
 use pc_terms::leaf::Name;
 use pc_terms::term::{Node, Term};
 use std::alloc::Global;
@@ -37,7 +37,7 @@ impl Tables {
         ensures only_memory { IfErr result (λ e. e ≡ Memory) }
     {
         let mut levels = Names::new(alloc);
-        levels.number(alloc, text_of(spelling_of(Keyword::Set))?)?;
+        levels.number(alloc, "Set")?;
         let names = Names::new(alloc);
         let recent = Recent::new(alloc);
         let leaves = Leaves::new(alloc);
@@ -50,25 +50,25 @@ impl Tables {
     }
 
     /// The number of a name at a use of it. Mostly it is the one that was last at the name's place.
-    pub(crate) fn name(&mut self, alloc: Global, text: &[u8]) -> Result<Name, ReadRefusal>
+    pub(crate) fn name(&mut self, alloc: Global, text: &str) -> Result<Name, ReadRefusal>
         ensures made { IfOk result (Numbers (λ after. text.now ∷ after) unused (λ ns ls. name_number ns text.now) self.old self.new) }
         ensures only_memory { IfErr result (λ e. e ≡ Memory) }
     {
-        let last = self.recent.last(text);
-        if self.names.is_text_of(last, text) {
+        let last = self.recent.last(text.as_bytes());
+        if self.names.is_text_of(last, text.as_bytes()) {
             return Ok(Name(last));
         }
-        let number = self.names.number(alloc, text_of(text)?)?;
-        self.recent.keep(text, number);
+        let number = self.names.number(alloc, text)?;
+        self.recent.keep(text.as_bytes(), number);
         Ok(Name(number))
     }
 
     /// The number of a level at a use of it.
-    pub(crate) fn level(&mut self, alloc: Global, text: &[u8]) -> Result<Level, ReadRefusal>
+    pub(crate) fn level(&mut self, alloc: Global, text: &str) -> Result<Level, ReadRefusal>
         ensures made { IfOk result (Numbers unused (λ after. text.now ∷ after) (λ ns ls. level_number ls text.now) self.old self.new) }
         ensures only_memory { IfErr result (λ e. e ≡ Memory) }
     {
-        let number = self.levels.number(alloc, text_of(text)?)?;
+        let number = self.levels.number(alloc, text)?;
         Ok(Level(number))
     }
 
@@ -93,16 +93,5 @@ impl Tables {
             Sort::Prop => self.leaf(alloc, Leaf::Prop),
             Sort::Of(universe) => made(alloc, Node::Sort(Sort::Of(universe))),
         }
-    }
-}
-
-/// Bytes as text. Names are ASCII in each text that the grammar knows, so that none is refused here.
-fn text_of(bytes: &[u8]) -> Result<&str, ReadRefusal>
-    ensures same { IfOk result (λ text. text.now ≡ bytes.now) }
-    ensures only_memory { IfErr result (λ e. e ≡ Memory) }
-{
-    match str::from_utf8(bytes) {
-        Ok(text) => Ok(text),
-        Err(_) => Err(ReadRefusal::Memory),
     }
 }

@@ -2,7 +2,7 @@
 ghost use Rattle.std.specs.Prelude.{◌≡◌, ◌≤◌, IfOk, IfErr};
 ghost use Rattle.dump_grammar.specs.declared.refusal.ReadRefusal.TheVariants.{Memory};
 ghost use Rattle.dump_grammar.specs.Named.{depth};
-ghost use Rattle.dump_parser.specs.Tree.{named_match, named as named_node};
+ghost use Rattle.dump_parser.specs.Tree.{named_match, named as named_node, IsIndexed};
 ghost use Rattle.dump_parser.specs.declared.tree.Node.TheVariants as nodes;
 ghost use Rattle.dump_reader.specs.Made.{IsTerm, AreTerms, AreBranches, AreDefs};
 
@@ -81,7 +81,7 @@ fn let_in(
     Ok(whole)
 }
 
-/// One of the definitions of a fixpoint. Its index is below their number in each text that the grammar knows, so that none is refused here.
+/// One of the definitions of a fixpoint, by its index, which is below their number.
 #[cycle(term)]
 fn fixpoint(
     alloc: Global,
@@ -90,13 +90,11 @@ fn fixpoint(
     index: u32,
 ) -> Result<Term, ReadRefusal>
     requires within { depth (named_node (nodes.Fix defs.now index)) ≤ 2048 }
+    requires indexed { IsIndexed (nodes.Fix defs.now index) }
     ensures made { IfOk result (IsTerm (named_node (nodes.Fix defs.now index)) tables.old tables.new) }
     ensures only_memory { IfErr result (λ e. e ≡ Memory) }
 {
     let items = definitions(alloc, tables, defs.as_slice())?;
-    if index as usize >= items.len() {
-        return Err(ReadRefusal::Memory);
-    }
     let whole = made(alloc, Node::Fix(Defs::of(items), index))?;
     Ok(whole)
 }

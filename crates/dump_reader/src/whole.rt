@@ -19,7 +19,7 @@ use universe_levels::constraint::{Constraint, Relation};
 use universe_levels::level::Level;
 
 /// The items of `levels`.
-fn levels(alloc: Global, tables: &mut Tables, texts: &[&[u8]]) -> Result<Vec<Level>, ReadRefusal>
+fn levels(alloc: Global, tables: &mut Tables, texts: &[&str]) -> Result<Vec<Level>, ReadRefusal>
     ensures made { IfOk result (λ made. NumbersEach level_names level_levels level_value texts.now tables.old tables.new made.items) }
     ensures only_memory { IfErr result (λ e. e ≡ Memory) }
 {

@@ -9,7 +9,7 @@ abbrev pub invariant-loop-list : goal.invariant-loop-list
 invariant-loop-list l = record {
   same : source l.tokens ≡ source l.fn.tokens;
   shorter : length (stream l.tokens) ≤ length (stream l.fn.tokens);
-  goes : (k : List Item) (vs : List Value) → judged l.fn.tokens (IList Parts ∷ k) (VParts (part_of l.fn.first ∷ []) ∷ vs) ≡ judged l.tokens (IList Parts ∷ k) (VParts (map part_of l.list.items) ∷ vs);
+  goes : (k : List Item) (vs : List Value) → judged l.fn.tokens (IList Parts ∷ k) (VParts (part_of l.fn.first ∷ []) ∷ vs) ≡ judged l.tokens (IList Parts ∷ k) (VParts (part_of l.first ∷ map part_of l.list.items) ∷ vs);
 }
 
 abbrev pub decreases-loop-list : goal.decreases-loop-list

@@ -1,10 +1,12 @@
 use Rattle.dump_parser.proofs.Steps.{gets, ahead, fault, long-ahead}
+use Rattle.dump_parser.proofs.Atoms.{ascii_atom}
 use Rattle.dump_parser.proofs.token.next.Goals as goal
 
 pub returns-in-Ok : goal.returns-in-Ok
 returns-in-Ok c = record {
   gets = gets c.in-Ok.token c.args.tokens.now c.next.new.self c.in-Ok.ensures.answer c.in-Ok.ensures.ok c.in-Ok.ensures.gave c.in-Ok.ensures.same;
   ahead = ahead c.in-Ok.token c.args.tokens.now c.next.new.self c.in-Ok.ensures.gave;
+  ascii = ascii_atom c.in-Ok.token c.args.tokens.now c.next.new.self c.in-Ok.ensures.gave;
 }
 
 pub returns-in-Err-Stray-clause-gets : goal.returns-in-Err-Stray-clause-gets

@@ -1,9 +1,10 @@
-use Rattle.std.proofs.Common.{rules, ◌≡◌, map, length, refl, ap, arith}
+use Rattle.std.proofs.Common.{rules, ◌≡◌, map, refl, ap, arith}
 use Rattle.dump_grammar.specs.Named.{LetIn, App, Fix, terms_of, branches_of, defs_of, depth_terms, depth_branches, depth_defs}
+use Rattle.pc_terms.proofs.Parts.{rargs_length}
 use Rattle.dump_parser.specs.Tree.{named_sort, named_def, named_branch}
 use Rattle.dump_reader.proofs.Parts.{seen, term-at, branch-at, def-at, prod-parts, lambda-parts, let-parts, fix-part, cast-parts, cast-function, case-depths, applied-more, run-within, run-depths}
-use Rattle.dump_reader.proofs.Items.{no-terms, no-branches, no-defs, one-term, one-branch, one-def, rargs-length}
-use Rattle.dump_reader.proofs.Formers.{as-term, of-tree, kept-term, terms-along, branches-along, defs-along, term-result, term-within, rel-term, sort-term, const-term, ind-term, construct-term, prod-term, lambda-term, app-term, let-term, case-term, fix-term}
+use Rattle.dump_reader.proofs.Items.{no-terms, no-branches, no-defs, one-term, one-branch, one-def}
+use Rattle.dump_reader.proofs.Formers.{as-term, of-tree, kept-term, terms-along, branches-along, defs-along, term-result, term-within, rel-term, sort-term, const-term, ind-term, construct-term, prod-term, lambda-term, app-term, let-term, case-term, defs-count, fix-term}
 use Rattle.dump_reader.proofs.term.+term.Goals as goal
 
 pub terms-loop-tree-init : goal.terms-loop-tree-init
@@ -178,10 +179,9 @@ fixpoint-definitions-requires t c =
 
 pub fixpoint-made-requires-clause-indexed : goal.fixpoint-made-requires-clause-indexed
 fixpoint-made-requires-clause-indexed t c =
-    let count = rargs-length c.of.result in
-    let same : length c.of.result ≡ length c.in_ok-items.items.items = ap (λ xs. length xs) c.of.ensures.is in
-    let tested : c.len.result ≡ c.in_ok-items.items.len = c.len.ensures in
-    omega (arith, count, same, tested, c.in_ok-items.items.ok.0, c.if-index-len.false)
+    let count = rargs_length c.of.result in
+    let same = defs-count (defs-along c.as_slice.ensures.value c.of.ensures.is c.in_ok-items.ensures.made) in
+    omega (arith, count, same, c.requires.indexed)
 
 pub fixpoint-made-requires-clause-within : goal.fixpoint-made-requires-clause-within
 fixpoint-made-requires-clause-within t c = term-within (fix-term c.args.defs.now.items c.args.index c.of.result (defs-along c.as_slice.ensures.value c.of.ensures.is c.in_ok-items.ensures.made)) c.requires.within
