@@ -1,3 +1,4 @@
+pub mod Packing
 pub mod Collecting
 pub mod PassedWalks
 pub mod SoundScripts

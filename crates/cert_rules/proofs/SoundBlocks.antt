@@ -1,7 +1,7 @@
 -- A block that the certified walk accepts fits.
 use Rattle.std.proofs.Common.{◌≡◌, ◌≢◌, ℕ, zero, suc, ◌+◌, Bool, true, false, List, [], ◌∷◌, map, length, Some, refl, sym, subst, slice_get}
 use Rattle.universe_levels.specs.declared.sort.Sort.{Sort}
-use Rattle.universe_levels.specs.declared.sort.Sort.TheVariants.{Prop, Of}
+use Rattle.universe_levels.specs.declared.sort.Sort.TheVariants.{Prop}
 use Rattle.pc_terms.specs.declared.leaf.Name.{Name}
 use Rattle.pc_terms.specs.Syntax.{Term, Rel}
 use Rattle.calculus_rules.specs.declared.declaration.Constructor.{Constructor}
@@ -9,15 +9,13 @@ use Rattle.calculus_rules.specs.declared.declaration.Family.{Family}
 use Rattle.calculus_rules.specs.declared.declaration.Block.{Block}
 use Rattle.calculus_rules.specs.declared.declaration.Kept.TheVariants.{Heads, Block as Whole}
 use Rattle.calculus_rules.specs.declared.entry.Entry.TheVariants.{Assumed}
-use Rattle.pc_rules.specs.declared.broken.Broken.TheVariants.{SortTooSmall}
-use Rattle.pc_rules.specs.declared.meter.Account.{Account}
-use Rattle.calculus_rules.specs.Environment.{Env, head_of, heads_of, SortEntails}
+use Rattle.calculus_rules.specs.Environment.{Env, head_of, heads_of}
 use Rattle.calculus_rules.specs.Context.{Context, extend}
 use Rattle.calculus_rules.specs.Typing.{guarded, EntrySorts, no_sorts, a_sort}
 use Rattle.calculus_rules.specs.Positivity.{ArePositive, ArePositiveConstructors, ArePositiveFamilies}
 use Rattle.calculus_rules.specs.Accepted.{IsFresh, AllAtMost, ConstructorFits, FamilyFits, BlockFits, env}
 use Rattle.pc_rules.specs.DirectedRun as run
-use Rattle.pc_rules.specs.DirectedComparison.{Test, IsTest, sort_below}
+use Rattle.pc_rules.specs.DirectedComparison.{Test, IsTest}
 use Rattle.pc_rules.specs.DirectedTyping.{counted, undeclared_in, levels_declared}
 use Rattle.pc_rules.specs.DirectedPositivity.{block_positive}
 use Rattle.calculus_rules.specs.declared.target.Target.TheVariants.{Families}
@@ -28,14 +26,12 @@ use Rattle.calculus_rules.proofs.Spines.{one_item}
 use Rattle.pc_rules.proofs.WeakNext.{none_some}
 use Rattle.rule_laws.specs.Inference.{AllFormed}
 use Rattle.rule_laws.specs.Declarations.{plain_constructor, plain_family, ConstructorsFormed, FamiliesFormed, BlockFormed, IsCheckedBlock}
-use Rattle.rule_laws.proofs.Runs.{tested as rules_tested}
 use Rattle.rule_laws.proofs.CountedParts.{context_extended}
 use Rattle.rule_laws.proofs.SimpleRules.{declared_over, levels_are_declared}
 use Rattle.rule_laws.proofs.MatchRule.{count_is}
 use Rattle.rule_laws.proofs.Extending.{FindsAs, all_more, constructors_more, finds_more, finds_without, env_more}
 use Rattle.rule_laws.proofs.Positive.{block_positive_is}
-use Rattle.rule_laws.proofs.Comparing.{entails}
-use Rattle.rule_laws.proofs.Blocks.{names_in, Distinct, are_new, all_pairs, HeadFits, HeadsFit, heads_counted}
+use Rattle.rule_laws.proofs.Blocks.{names_in, Distinct, are_new, all_pairs, HeadFits, HeadsFit, heads_counted, sort_fits}
 use Rattle.cert_rules.specs.Walk.{Items, WalkState, Walk, Passed, pass, walk_on, by_rules}
 use Rattle.cert_rules.specs.Scripts.{Script, script}
 use Rattle.cert_rules.specs.WalkTyping.{Walking, walk_infer, walk_sort_of, walk_sorts_of, walk_check_all}
@@ -81,10 +77,6 @@ ConstructorPositive H k C = ArePositive H k C.args × (some_names (Families k) 0
 
 module _ (cert : Items) (H : Env) (w : HasCountedDeclarations H) (inf : Walking) (si : Infers H inf) (cmp : Script) (sc : Shows H cmp) (q : Test)
     (test : IsTest H.levels H.constraints q) where
-  fits : (r s : Sort) (u v : Account) → (fits_sort q r s u).end ≡ run.Done tt v → r ≢ Prop → SortEntails H s r
-  fits Prop s u v h n = absurd (n refl)
-  fits (Of x) s u v h n = entails H q test w s (Of x) (rules_tested (sort_below q s (Of x)) (run.done tt u) (SortTooSmall s (Of x)) u tt v h).0
-
   record AreArguments (r : Sort) (c : Context) (As : List Term) (ss : List Sort) : Type 0 where
     sorts : EntrySorts guarded H c As ss
     small : r ≢ Prop → AllAtMost H ss r
@@ -110,7 +102,7 @@ module _ (cert : Items) (H : Env) (w : HasCountedDeclarations H) (inf : Walking)
       subst (λ ss. AreArguments r c (A ∷ As) ss) (passed_value p3.3)
       (record {
         sorts = a_sort a.0 rest.sorts;
-        small = λ p. (fits r s p1.1.account r2.0 r2.1 p, rest.small p);
+        small = λ p. (sort_fits H w q test r s p1.1.account r2.0 r2.1 p, rest.small p);
         all = (a.1, rest.all);
         over = (a.2, rest.over);
       })

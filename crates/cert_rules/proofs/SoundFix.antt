@@ -8,21 +8,20 @@ use Rattle.calculus_rules.specs.Context.{Context, values}
 use Rattle.calculus_rules.specs.Instances.{definitions}
 use Rattle.calculus_rules.specs.Conversion.{Equal}
 use Rattle.calculus_rules.specs.Guardedness.{IsGuarded}
-use Rattle.calculus_rules.specs.Typing.{guarded, Types, fix, Recurses, Sorts, no_types, a_type, Bodies, no_bodies, a_body}
+use Rattle.calculus_rules.specs.Typing.{fix, no_types, a_type, no_bodies, a_body}
 use Rattle.pc_rules.specs.DirectedRun.{make}
 use Rattle.calculus_rules.specs.Listed.{list_of}
 use Rattle.pc_rules.specs.DirectedGuard.{fix_guard}
 use Rattle.pc_rules.specs.DirectedTyping.{recursive_domain, enough_abstractions, is_a_family, definition_type}
 use Rattle.calculus_rules.proofs.Spines.{spine_is}
 use Rattle.calculus_rules.proofs.WeakHead.{weak_equal}
-use Rattle.pc_rules.specs.FixConditions.{BeginsWith, HaveLambdas}
 use Rattle.pc_rules.specs.WellCounted.{IsCountedNode, IsCounted, HasCountedDeclarations, IsCountedContext}
 use Rattle.rule_laws.specs.Inference.{IsInferred}
 use Rattle.rule_laws.proofs.Counted.{shifted_counted, before_shift, term_counted}
 use Rattle.rule_laws.proofs.KeepCounts.{values_counted}
 use Rattle.rule_laws.proofs.Comparing.{names_long}
 use Rattle.rule_laws.proofs.SimpleRules.{formed}
-use Rattle.rule_laws.proofs.FixRule.{enough, a_family, begins, recurses, named_type, name_at}
+use Rattle.rule_laws.proofs.FixRule.{enough, a_family, begins, recurses, named_type, name_at, AreTypes, next_types, IsDefinition, AreBodies, next_bodies}
 use Rattle.rule_laws.proofs.Guarding.{guard_sound}
 pub use Rattle.rule_laws.proofs.FixRule.{shifted_formed}
 use Rattle.cert_rules.specs.Walk.{Items, WalkState, Walk, Passed, pass, walk_on, by_rules}
@@ -34,17 +33,8 @@ use Rattle.cert_rules.proofs.SoundScripts.{Shows}
 use Rattle.cert_rules.proofs.SoundSimple.{Infers, sort_sound, check_sound}
 
 module _ (cert : Items) (E : Env) (w : HasCountedDeclarations E) (inf : Walking) (si : Infers E inf) where
-  -- the types of the definitions
-  pub record AreTypes (c : Context) (n : ℕ) (types : Terms) : Type 0 where
-    pub sorts : Sorts guarded E c n types
-    pub all : EachTerm (IsCountedNode E) types
-    pub context : IsCountedContext E (definitions c n types)
-
-  next_types : (c : Context) (n m : ℕ) (T : Term) (ts : Terms) → m ≡ 0 → AreTypes c n (Next 0 T ts) → AreTypes c n (Next m T ts)
-  next_types c n m T ts e h = subst (λ m. AreTypes c n (Next m T ts)) (sym e) h
-
   pub types_sound : (c : Context) (n : ℕ) (types : Terms) (u v : WalkState) → IsCountedContext E c → AreAll 0 (binders_of types) → EachTerm HasForm types →
-      (walk_types cert E inf c n (list_of types) u).end ≡ Passed tt v → AreTypes c n types
+      (walk_types cert E inf c n (list_of types) u).end ≡ Passed tt v → AreTypes E c n types
   unfolding walk_types
   types_sound c n Done u v k a f h = record { sorts = no_types; all = tt; context = k }
   types_sound c n (Next m T ts) u v k a f h =
@@ -53,22 +43,11 @@ module _ (cert : Items) (E : Env) (w : HasCountedDeclarations E) (inf : Walking)
       let p = on_both (walk_sort_of cert E inf c S u) (λ _ w. walk_types cert E inf (Assumed S ∷ c) (suc n) (list_of ts) w) tt v h1 in
       let s = sort_sound cert E w inf si c S p.0 u p.1 k (shifted_formed n T f.0) p.2 in
       let r = types_sound (Assumed S ∷ c) (suc n) ts p.1 v (s.1, k) a.1 f.1 p.3 in
-      next_types c n m T ts a.0 (record { sorts = a_type s.0 r.sorts; all = (before_shift E n 0 T s.1, r.all); context = r.context })
+      next_types E c n m T ts a.0 (record { sorts = a_type s.0 r.sorts; all = (before_shift E n 0 T s.1, r.all); context = r.context })
 
   module _ (cmp : Script) (sc : Shows E cmp) where
-    pub record AreBodies (c : Context) (n : ℕ) (rargs : List ℕ) (types bodies : Terms) : Type 0 where
-      pub typed : Bodies guarded E c n rargs types bodies
-      pub all : EachTerm (IsCountedNode E) bodies
-      pub begin : HaveLambdas rargs bodies
-
-    record IsDefinition (c : Context) (n rarg : ℕ) (T body : Term) : Type 0 where
-      recursive : Recurses E (values c) rarg body
-      typed : Types guarded E c body (shift n 0 T)
-      subject : IsCounted E body
-      begin : BeginsWith (suc rarg) body
-
     definition_sound : (c : Context) (n d rarg : ℕ) (T body : Term) (u v : WalkState) → IsCountedContext E c → IsCounted E T → IsFormed body →
-        (walk_definition cert E inf cmp c n d rarg T body u).end ≡ Passed tt v → IsDefinition c n rarg T body
+        (walk_definition cert E inf cmp c n d rarg T body u).end ≡ Passed tt v → IsDefinition E c n rarg T body
     definition_sound c n d rarg T body u v k wT f h =
         let S : Term = shift n 0 T in
         let k4 : Reduced → WalkState → Walk (Unit {0}) = λ r y. walk_family_found r.item r.term y in
@@ -95,15 +74,9 @@ module _ (cert : Items) (E : Env) (w : HasCountedDeclarations E) (inf : Walking)
           begin = begins c rarg body q e;
         }
 
-    next_bodies : (c : Context) (n m m' r : ℕ) (rargs : List ℕ) (T body : Term) (ts bs : Terms) → m ≡ 0 → m' ≡ n →
-        AreBodies c n (r ∷ rargs) (Next 0 T ts) (Next n body bs) → AreBodies c n (r ∷ rargs) (Next m T ts) (Next m' body bs)
-    next_bodies c n m m' r rargs T body ts bs e e' h =
-        subst (λ m. AreBodies c n (r ∷ rargs) (Next m T ts) (Next m' body bs)) (sym e)
-        (subst (λ m. AreBodies c n (r ∷ rargs) (Next 0 T ts) (Next m body bs)) (sym e') h)
-
     pub bodies_sound : (c : Context) (n d : ℕ) (rargs : List ℕ) (types bodies : Terms) (u v : WalkState) → IsCountedContext E c → AreAll 0 (binders_of types) → AreAll n (binders_of bodies) →
         length (binders_of types) ≡ length rargs → length (binders_of bodies) ≡ length rargs → EachTerm (IsCountedNode E) types → EachTerm HasForm bodies →
-        (walk_definitions cert E inf cmp c n d rargs (list_of types) (list_of bodies) u).end ≡ Passed tt v → AreBodies c n rargs types bodies
+        (walk_definitions cert E inf cmp c n d rargs (list_of types) (list_of bodies) u).end ≡ Passed tt v → AreBodies E c n rargs types bodies
     unfolding walk_definitions
     bodies_sound c n d [] Done Done u v k a b l l' wt fb h = record { typed = no_bodies; all = tt; begin = tt }
     bodies_sound c n d [] (Next m T ts) bs u v k a b l l' wt fb h = absurd (omega arith)
@@ -114,7 +87,7 @@ module _ (cert : Items) (E : Env) (w : HasCountedDeclarations E) (inf : Walking)
         let p = on_both (walk_definition cert E inf cmp c n d r T body u) (λ _ v. walk_definitions cert E inf cmp c n (suc d) rargs (list_of ts) (list_of bs) v) tt v h in
         let one = definition_sound c n d r T body u p.1 k wt.0 fb.0 p.2 in
         let rest = bodies_sound c n (suc d) rargs ts bs p.1 v k a.1 b.1 (omega arith) (omega arith) wt.1 fb.1 p.3 in
-        next_bodies c n m m' r rargs T body ts bs a.0 b.0
+        next_bodies E c n m m' r rargs T body ts bs a.0 b.0
         (record { typed = a_body one.recursive one.typed rest.typed; all = (one.subject, rest.all); begin = (one.begin, rest.begin) })
 
     pub fix_rule_sound : (c : Context) (i : ℕ) (rargs : List ℕ) (types bodies : Terms) (T : Term) (u v : WalkState) → IsCountedContext E c →

@@ -1,19 +1,20 @@
 -- Two terms for which a script is accepted are equal, or the first is below the second.
-use Rattle.std.proofs.Common.{◌≡◌, ℕ, zero, suc, ◌==◌, ◌&&◌, ◌||◌, ◌⊎◌, inl, inr, Bool, true, false, if◌then◌else◌, List, [], ◌∷◌, Option, Some, None, refl, sym, ap, subst, slice_get}
-use Rattle.std.proofs.lemmas.Bool.{eqb-true}
-use Rattle.universe_levels.specs.declared.level.LevelExpr.{LevelExpr}
+use Rattle.std.proofs.Common.{◌≡◌, ℕ, zero, suc, ◌==◌, ◌||◌, inl, inr, Bool, true, false, if◌then◌else◌, List, [], ◌∷◌, Option, Some, None, refl, sym, subst, slice_get}
+use Rattle.std.proofs.lemmas.Bool.{eqb-true, or_cases}
 use Rattle.universe_levels.specs.declared.sort.Sort.{Sort}
 use Rattle.universe_levels.specs.declared.sort.Sort.TheVariants.{Prop, Of}
-use Rattle.pc_terms.specs.Syntax.{Slot, slots, Label, SortOf, ProdOf, LambdaOf, LetInOf, AppOf, ConstOf, IndOf, ConstructOf, CaseOf, FixOf, Term, Terms, Children, End, Child, Group, Next, Rel, Node, SortT, Prod, LetIn}
+use Rattle.pc_terms.specs.Syntax.{Slot, slots, Label, ProdOf, LetInOf, Term, Terms, Children, End, Child, Group, Next, Rel, Node, SortT, Prod, LetIn}
 use Rattle.pc_terms.specs.Syntax as syntax
 use Rattle.calculus_rules.specs.Environment.{Env, SortEntails}
 use Rattle.calculus_rules.specs.Context.{Values, under}
 use Rattle.calculus_rules.specs.Conversion.{Equal, EqualChildren, EqualTerms, inside, and, group, end, same as the_same, back, chain, sorts, Below, equal as of_equal, sort as of_sorts, product}
 use Rattle.calculus_rules.specs.Conversion as conversion
-use Rattle.calculus_rules.specs.Same.{same, same_parts, same_sorts, same_labels, same_families, same_numbers}
+use Rattle.calculus_rules.specs.Same.{same, same_labels}
 use Rattle.pc_rules.specs.DirectedComparison.{Test, IsTest, sort_below, sorts_stand}
-use Rattle.pc_rules.proofs.WeakNext.{same_names_is, same_families_is, both_true, none_some}
-use Rattle.pc_rules.proofs.SameTrees.{same_is, same_numbers_is, false_true}
+use Rattle.calculus_rules.proofs.Spines.{one_item}
+use Rattle.pc_rules.proofs.WeakNext.{both_true, none_some}
+use Rattle.pc_rules.proofs.SameTrees.{same_is, false_true}
+pub use Rattle.pc_rules.proofs.SameTrees.{same_labels_is}
 use Rattle.calculus_rules.proofs.Congruence.{equal_products, equal_lets}
 use Rattle.calculus_rules.proofs.WeakHead.{weak_equal}
 use Rattle.rule_laws.specs.Comparison.{Compares}
@@ -24,51 +25,6 @@ use Rattle.cert_rules.specs.Walk.{Items, WalkState, WalkAct, Passed, pass, bar_h
 use Rattle.cert_rules.specs.WalkSteps.{walk_steps}
 use Rattle.cert_rules.specs.Scripts.{Script, with_part, term_parts, child_parts, node_parts, parts_of, sorts_at, walk_parts, script_by, script}
 use Rattle.cert_rules.proofs.PassedWalks.{on_both, tested, barred_passed, crowded_passed, all_both, steps_lead}
-
--- labels
-
-same_parts_is : (ps qs : List LevelExpr) → same_parts ps qs ≡ true → ps ≡ qs
-same_parts_is [] [] e = refl
-same_parts_is (p ∷ ps) (q ∷ qs) e =
-    let both = both_true (p.level.0 == q.level.0) ((p.add == q.add) && same_parts ps qs) e in
-    let rest = both_true (p.add == q.add) (same_parts ps qs) both.1 in
-    λ i. record { level = record { 0 = eqb-true p.level.0 q.level.0 both.0 i }; add = eqb-true p.add q.add rest.0 i } ∷ same_parts_is ps qs rest.1 i
-same_parts_is [] (q ∷ qs) e = cc
-same_parts_is (p ∷ ps) [] e = cc
-
-same_sorts_is : (s r : Sort) → same_sorts s r ≡ true → s ≡ r
-same_sorts_is Prop Prop e = refl
-same_sorts_is (Of u) (Of w) e = ap Of (same_parts_is u w e)
-same_sorts_is Prop (Of w) e = cc
-same_sorts_is (Of u) Prop e = cc
-
-pub same_labels_is : (l m : Label) → same_labels l m ≡ true → l ≡ m
-same_labels_is (SortOf s) (SortOf r) e = ap SortOf (same_sorts_is s r e)
-same_labels_is ProdOf ProdOf e = refl
-same_labels_is LambdaOf LambdaOf e = refl
-same_labels_is LetInOf LetInOf e = refl
-same_labels_is AppOf AppOf e = refl
-same_labels_is (ConstOf k) (ConstOf l) e = ap ConstOf (same_names_is k l e)
-same_labels_is (IndOf f) (IndOf g) e = ap IndOf (same_families_is f g e)
-same_labels_is (ConstructOf f c) (ConstructOf g d) e =
-    let both = both_true (same_families f g) (c == d) e in λ i. ConstructOf (same_families_is f g both.0 i) (eqb-true c d both.1 i)
-same_labels_is (CaseOf f n) (CaseOf g m) e =
-    let both = both_true (same_families f g) (n == m) e in λ i. CaseOf (same_families_is f g both.0 i) (eqb-true n m both.1 i)
-same_labels_is (FixOf i rargs) (FixOf j rargs') e =
-    let both = both_true (i == j) (same_numbers rargs rargs') e in λ x. FixOf (eqb-true i j both.0 x) (same_numbers_is rargs rargs' both.1 x)
-same_labels_is _ _ e = false_true e
-
-list_or : Option (List WalkAct) → List WalkAct → List WalkAct
-list_or None o = o
-list_or (Some xs) o = xs
-
-one_list : {xs ys : List WalkAct} → Some xs ≡ Some ys → xs ≡ ys
-unfolding list_or
-one_list {xs = xs} e = ap (λ o. list_or o xs) e
-
-or_true : (a b : Bool) → (a || b) ≡ true → (a ≡ true) ⊎ (b ≡ true)
-or_true true b h = inl refl
-or_true false b h = inr h
 
 -- what passes from somewhere
 abbrev Passes : WalkAct → Type 0
@@ -89,7 +45,7 @@ Begins act o = Passes act × ((more : List WalkAct) × (o ≡ Some more) × AllP
 begins : (act : WalkAct) (o : Option (List WalkAct)) (acts : List WalkAct) → with_part act o ≡ Some acts → AllPass acts → Begins act o
 begins act None acts e p = absurd (none_some e)
 begins act (Some more) acts e p =
-    let q : AllPass (act ∷ more) = subst (λ xs. AllPass xs) (sym (one_list e)) p in
+    let q : AllPass (act ∷ more) = subst (λ xs. AllPass xs) (sym (one_item e)) p in
     (q.0, (more, refl, q.1))
 
 module _ (E : Env) where
@@ -146,10 +102,10 @@ module _ (E : Env) where
     node_shown : (V : Values) (equal : Bool) (l : Label) (ts us : Children (slots l)) (acts : List WalkAct) → node_parts go V equal l ts us ≡ Some acts → AllPass acts →
         Compares E equal V (Node l ts) (Node l us)
     node_shown V equal ProdOf (Child A (Child B End)) (Child A' (Child B' End)) acts h p =
-        let q : AllPass (go V true A A' ∷ go (None ∷ V) equal B B' ∷ []) = subst (λ xs. AllPass xs) (sym (one_list h)) p in
+        let q : AllPass (go V true A A' ∷ go (None ∷ V) equal B B' ∷ []) = subst (λ xs. AllPass xs) (sym (one_item h)) p in
         product_shown equal V A A' B B' (shown V A A' q.0) (shows (None ∷ V) equal B B' q.1.0.0 q.1.0.1 q.1.0.2)
     node_shown V equal LetInOf (Child b (Child B (Child t End))) (Child b' (Child B' (Child t' End))) acts h p =
-        let q : AllPass (go V true b b' ∷ go V true B B' ∷ go (Some b ∷ V) true t t' ∷ []) = subst (λ xs. AllPass xs) (sym (one_list h)) p in
+        let q : AllPass (go V true b b' ∷ go V true B B' ∷ go (Some b ∷ V) true t t' ∷ []) = subst (λ xs. AllPass xs) (sym (one_item h)) p in
         weaker E equal V (LetIn b B t) (LetIn b' B' t') (equal_lets E V b b' B B' t t' (shown V b b' q.0) (shown V B B' q.1.0) (shown (Some b ∷ V) t t' q.1.1.0))
     node_shown V equal l ts us acts h p = weaker E equal V (Node l ts) (Node l us) (inside (children_shown V (slots l) ts us acts h p))
 
@@ -193,7 +149,7 @@ module _ (E : Env) where
     same_shown : (V : Values) (equal : Bool) (a b : Term) (s v : WalkState) → (if same a b || sorts_at q equal a b then pass {A = Unit {0}} tt (past s) else bar_here s).end ≡ Passed tt v →
         Compares E equal V a b
     same_shown V equal a b s v h =
-        elim (or_true (same a b) (sorts_at q equal a b) (tested (same a b || sorts_at q equal a b) (pass tt (past s)) s.at s tt v h).0) [
+        elim (or_cases (same a b) (sorts_at q equal a b) (tested (same a b || sorts_at q equal a b) (pass tt (past s)) s.at s tt v h).0) [
           | inl e ↦ weaker E equal V a b (subst (λ x. Equal E V a x) (same_is a b e) the_same)
           | inr e ↦ at_shown V equal a b e
         ]

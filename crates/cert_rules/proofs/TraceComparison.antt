@@ -1,5 +1,6 @@
 -- What directed comparison writes of any two terms is accepted as a script.
 use Rattle.std.proofs.Common.{◌≡◌, ◌∙◌, ℕ, zero, suc, ◌+◌, ◌-◌, ◌≤◌, inl, Bool, [], ◌++◌, refl, sym, ap, subst, arith}
+use Rattle.std.proofs.lemmas.Bool.{or_left}
 use Rattle.pc_terms.specs.Syntax.{Term}
 use Rattle.pc_rules.specs.declared.meter.Account.{Account}
 use Rattle.calculus_rules.specs.Environment.{Env}
@@ -12,7 +13,6 @@ use Rattle.pc_rules.specs.DirectedComparison.{Test, Comparison, pair, entered, c
 use Rattle.pc_rules.specs.WellCounted.{HasCountedDeclarations}
 use Rattle.rule_laws.proofs.Runs.{ticking_done, nested_done}
 use Rattle.rule_laws.proofs.KeepCounts.{steps_counted}
-use Rattle.rule_laws.proofs.Alternatives.{or_left}
 use Rattle.cert_rules.specs.declared.item.CertItem.{CertItem}
 use Rattle.cert_rules.specs.declared.item.CertItem.TheVariants.{Left, Right}
 use Rattle.cert_rules.specs.Walk.{Items, WalkState, Walk, past, walk_on}

@@ -222,7 +222,7 @@ levels_passed : (o : Option (ℕ × Level)) (g : Made) (u v : Account) (r : Wrot
 levels_passed None g u v r h = (refl, h)
 levels_passed (Some p) g u v r h = absurd (breaks_gives h)
 
-unless_none : {A : Type 0} (o : Option A) (go : Walk (Env × Term)) (s : WalkState) → o ≡ None → walk_unless o go s ≡ go
+pub unless_none : {A : Type 0} (o : Option A) (go : Walk (Env × Term)) (s : WalkState) → o ≡ None → walk_unless o go s ≡ go
 unless_none o go s e = ap (λ o. walk_unless o go s) e
 
 -- a certificate lies in itself

@@ -89,7 +89,7 @@ module _ (cert : Items) (E : Env) (w : HasCountedDeclarations E) (infd : Typing)
       (sort_trace cert E w infd infg infh ti (extend c (predicate_entries f F ps)) ret (context_extended E c (predicate_entries f F ps) k all) fr)
       (λ x kr. trace_rules cert (eliminated B f F x) (λ j. exact_eliminated B f F x) (λ u a v e. kr))))
 
-  types_trace : (c : Context) (n : ℕ) (types : Terms) → IsCountedContext E c → AreAll 0 (binders_of types) → EachTerm HasForm types →
+  pub types_trace : (c : Context) (n : ℕ) (types : Terms) → IsCountedContext E c → AreAll 0 (binders_of types) → EachTerm HasForm types →
       Traces cert (λ _. EachTerm (IsCountedNode E) types × IsCountedContext E (definitions c n types)) (λ u. types_rule E infd c n (list_of types) u)
       (λ u. make_types E infg c n (list_of types) u) (λ s. walk_types cert E infh c n (list_of types) s)
   unfolding types_rule make_types walk_types

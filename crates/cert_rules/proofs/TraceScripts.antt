@@ -18,7 +18,7 @@ use Rattle.calculus_rules.specs.Listed.{list_of}
 use Rattle.calculus_rules.proofs.Telescopes.{entries_at_length}
 use Rattle.pc_rules.specs.WellCounted.{arities, IsCountedNode, IsCounted, AreCountedValues}
 use Rattle.pc_rules.proofs.WeakNext.{same_names_is, same_families_is, both_true}
-use Rattle.pc_rules.proofs.SameTrees.{same_numbers_is, same_itself, one_number, one_family, and_true, false_true}
+use Rattle.pc_rules.proofs.SameTrees.{same_numbers_is, same_itself, one_number, one_list, one_family, and_true, false_true}
 use Rattle.rule_laws.proofs.Runs.{done_value}
 use Rattle.rule_laws.proofs.KeepCounts.{under_counted, values_extended}
 use Rattle.rule_laws.proofs.Comparing.{names_long, list_long, first_same, rest_same, no_suc, no_cons, lifted_long}
@@ -66,7 +66,7 @@ unfolding walk_all walk_on
 all_on [] ys s = refl
 all_on (x ∷ xs) ys s = all_on_end (x s).end xs ys (λ v. all_on xs ys v)
 
-one_end : (e : WalkEnd (Unit {0})) → end_on e (λ _ v. Passed tt v) ≡ e
+pub one_end : (e : WalkEnd (Unit {0})) → end_on e (λ _ v. Passed tt v) ≡ e
 one_end (Passed a v) = refl
 one_end (Barred i u) = refl
 one_end Unpaid = refl
@@ -126,10 +126,6 @@ parts_last [] x = refl
 parts_last (y ∷ xs) x = ap (λ is. Parts ∷ is) (parts_last xs x)
 
 -- labels, numbers
-
-one_number_list : (ns : List ℕ) → same_numbers ns ns ≡ true
-one_number_list [] = refl
-one_number_list (n ∷ ns) = and_true (n == n) (same_numbers ns ns) (one_number n) (one_number_list ns)
 
 all_binders : (n : ℕ) (ts us : Terms) → AreAll n (binders_of ts) → AreAll n (binders_of us) → number ts ≡ number us → binders_of ts ≡ binders_of us
 all_binders n Done Done a b e = refl
@@ -319,7 +315,7 @@ module _ (cert : Items) (E : Env) (q : Test) where
           let go : Script = script cert E q m in
           let V : Values = values c in
           ap (λ b. if b then node_parts go V equal (FixOf i rargs) (Group types (Group bodies End)) (Group types' (Group bodies' End)) else None)
-          (and_true (i == i) (same_numbers rargs rargs) (one_number i) (one_number_list rargs))
+          (and_true (i == i) (same_numbers rargs rargs) (one_number i) (one_list rargs))
           ∙ term_parts_are go V types types' (term_parts go V bodies bodies' (Some [])) _ e (term_parts_are go V bodies bodies' (Some []) [] e' refl)
 
       fix_trace : (m : ℕ) (equal : Bool) (i j : ℕ) (rargs rargs' : List ℕ) (types types' bodies bodies' : Terms) → IsCounted E (Fix i rargs types bodies) →

@@ -1,6 +1,6 @@
 -- What directed comparison writes is accepted as a script: spines, weak-head normal forms, and any two terms.
 use Rattle.std.proofs.Common.{◌≡◌, ◌∙◌, ℕ, zero, suc, ◌+◌, ◌==◌, ◌&&◌, ◌||◌, inl, Bool, true, List, [], ◌∷◌, ◌++◌, length, None, refl, sym, ap, subst, arith, length-append, append-nil, append_assoc}
-use Rattle.std.proofs.lemmas.Bool.{eqb-true}
+use Rattle.std.proofs.lemmas.Bool.{eqb-true, or_right}
 use Rattle.universe_levels.specs.declared.sort.Sort.{Sort}
 use Rattle.pc_terms.specs.Syntax.{Term, SortT, head, args, Prod, Lambda, App}
 use Rattle.calculus_rules.specs.declared.entry.Entry.TheVariants.{Assumed}
@@ -17,7 +17,6 @@ use Rattle.pc_rules.specs.WellCounted.{IsCounted, AreCounted, AreCountedValues}
 use Rattle.pc_rules.proofs.WeakNext.{both_true}
 use Rattle.rule_laws.proofs.Runs.{done_value}
 use Rattle.rule_laws.proofs.Counted.{head_counted, args_counted}
-use Rattle.rule_laws.proofs.Alternatives.{or_right}
 use Rattle.cert_rules.specs.declared.item.CertItem.TheVariants.{Parts}
 use Rattle.cert_rules.specs.Walk.{Items, WalkAct, walk_on, walk_all}
 use Rattle.cert_rules.specs.Scripts.{Script, sorts_at, script}

@@ -1,3 +1,4 @@
+pub mod Packed
 pub mod Walk
 pub mod WalkSteps
 pub mod Scripts

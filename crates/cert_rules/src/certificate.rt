@@ -1,13 +1,15 @@
 //! Certificates: lists of items.
-ghost use Rattle.std.specs.Prelude.{◌≡◌};
+ghost use Rattle.std.specs.Prelude.{◌≡◌, ◌<◌, ◌+◌, ◌^◌, IsTrue, IfSome, Some, length, slice_get};
+ghost use Rattle.cert_rules.specs.Packed.{item_of, unpacked};
 
 use crate::item::CertItem;
+use crate::packed::PackedItems;
 use std::marker::Model;
 
-/// A list of items.
+/// A list of items. Contracts see it as its items.
 #[derive(Drop)]
 pub struct CertItems {
-    items: Vec<CertItem>,
+    items: PackedItems,
 }
 
 /// A certificate, as its items in the order in which they are taken.
@@ -22,7 +24,9 @@ impl Model for CertItems {
 
     ghost Value = { List CertItem };
 
-    ghost view = { λ a. a.items.items };
+    ghost use Rattle.cert_rules.specs.Packed.{unpacked};
+
+    ghost view = { λ a. unpacked a.items };
 }
 
 impl Model for Cert {
@@ -35,25 +39,42 @@ impl Model for Cert {
 }
 
 impl CertItems {
-    /// The list of the items of a vector. Takes no memory.
-    pub fn of(items: Vec<CertItem>) -> CertItems
-        ensures is { result ≡ items.items }
+    /// The list of packed items. Takes no memory.
+    pub fn of(items: PackedItems) -> CertItems
+        ensures is { result ≡ unpacked items }
     {
         CertItems { items }
     }
 
-    /// The vector of the items. Takes no memory.
-    pub fn into_vec(self) -> Vec<CertItem>
-        ensures is { result.items ≡ self }
+    /// The packed items. Takes no memory.
+    pub fn into_packed(self) -> PackedItems
+        ensures is { unpacked result ≡ self }
     {
         self.items
     }
 
-    /// The items, the first first.
-    pub fn as_slice(&self) -> &[CertItem]
-        ensures is { result.now ≡ self.now }
+    /// The number of items. Takes no memory.
+    pub fn len(&self) -> usize
+        ensures is { result ≡ length self.now }
     {
-        self.items.as_slice()
+        self.items.len()
+    }
+
+    /// The item at a number, from 0; none exactly where there are not so many. Takes no memory.
+    pub fn get(&self, at: usize) -> Option<CertItem>
+        ensures is { result ≡ slice_get self.now at }
+        ensures more { IfSome result (λ _. at + 1 < 2 ^ 64) }
+    {
+        self.items.get(at)
+    }
+
+    /// Whether the item at a number, from 0, is seen to be that of a byte (`packed`). Takes no memory.
+    pub fn is_own(&self, at: usize, code: u8) -> bool
+        requires own { code < 255 }
+        ensures there { IsTrue result → slice_get self.now at ≡ Some (item_of code) }
+        ensures more { IsTrue result → at + 1 < 2 ^ 64 }
+    {
+        self.items.is_own(at, code)
     }
 }
 
@@ -65,11 +86,11 @@ impl Cert {
         Cert { items }
     }
 
-    /// Its items, the first first.
-    pub fn as_slice(&self) -> &[CertItem]
+    /// Its items, the first first. Takes no memory.
+    pub fn items(&self) -> &CertItems
         ensures is { result.now ≡ self.now }
     {
-        self.items.as_slice()
+        &self.items
     }
 
     /// Its items as a list of their own. Takes no memory.

@@ -18,4 +18,5 @@
 pub mod certificate;
 pub mod item;
 pub mod making;
+pub mod packed;
 pub mod soundness;

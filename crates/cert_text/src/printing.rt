@@ -9,7 +9,7 @@ ghost use Rattle.dump_printer.specs.Writing.{HasGone, Writes};
 ghost use Rattle.cert_text.specs.CertText.{item_tokens, cert_before, cert_text, AreSmall, IsWithinU32};
 ghost use Rattle.cert_text.specs.TextLaws.{IsReadBack};
 
-use cert_rules::certificate::Cert;
+use cert_rules::certificate::{Cert, CertItems};
 use cert_rules::item::CertItem;
 use dump_printer::{Progress, atom, close, number, open};
 use kio::{Sink, WriteFault};
@@ -38,12 +38,15 @@ fn write_item<K: Sink>(out: &mut K, at: &mut Progress, item: CertItem)
 }
 
 /// The items, the first first.
-fn write_items<K: Sink>(out: &mut K, at: &mut Progress, items: &[CertItem])
+fn write_items<K: Sink>(out: &mut K, at: &mut Progress, items: &CertItems)
     ensures goes { Writes (K.taken out.old) (K.taken out.new) (K.faults out.old) (K.faults out.new) at.old at.new (λ more. each item_tokens items.now more) }
     ensures small { AreSmall items.now }
 {
-    for item in items {
-        write_item(out, at, *item);
+    for i in 0..items.len() {
+        match items.get(i) {
+            Some(item) => write_item(out, at, item),
+            None => unreachable!(),
+        }
     }
 }
 
@@ -55,7 +58,7 @@ fn write_cert<K: Sink>(out: &mut K, at: &mut Progress, cert: &Cert)
     open(out, at);
     atom(out, at, b"cert");
     atom(out, at, b"1");
-    write_items(out, at, cert.as_slice());
+    write_items(out, at, cert.items());
     close(out, at)
 }
 

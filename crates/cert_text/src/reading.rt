@@ -4,6 +4,7 @@ ghost use Rattle.std.specs.Prelude.{◌≡◌, ◌≤◌, ◌<◌, ◌+◌, ◌*
 ghost use Rattle.dump_grammar.specs.Numbers.{number_of};
 ghost use Rattle.sexp_reader.specs.Text.{Open, Atom};
 ghost use Rattle.cert_rules.specs.declared.item.CertItem.TheVariants.{Left, Right};
+ghost use Rattle.cert_rules.specs.Packed.{item_of, unpacked};
 ghost use Rattle.cert_text.specs.CertReading.{is_text, read_items, read_bytes, AnItem, LeftSteps, RightSteps};
 ghost use Rattle.cert_text.specs.Scanned.{text_of};
 ghost use Rattle.cert_text.specs.Answering.{AnswersText, Expects, Counts, behind, with_items, TakesSide, TakesWord, TakesAtom, Ends, Takes, TakesWithin, IsOfByte, IsSideOfByte};
@@ -17,6 +18,7 @@ use crate::refusal::CertText;
 use crate::scan::{Kind, Token, next};
 use cert_rules::certificate::{Cert, CertItems};
 use cert_rules::item::CertItem;
+use cert_rules::packed::{CONV, PARTS, PackedItems, SAME};
 use std::alloc::Global;
 
 /// A number of steps, and the offset behind it.
@@ -229,18 +231,17 @@ fn digit(b: u8) -> Option<u32>
     }
 }
 
-/// The item that an atom of this one byte is.
-fn byte_item(b: u8) -> Option<CertItem>
+/// The byte that a list of items has for the item that an atom of this one byte is.
+fn byte_code(b: u8) -> Option<u8>
     ensures atom { IfSome result (λ _. atom_byte b ≡ true) }
-    ensures is { IfSome result (IsOfByte b) }
+    ensures own { IfSome result (λ c. c < 255) }
+    ensures is { IfSome result (λ c. IsOfByte b (item_of c)) }
 {
-    if let Some(n) = digit(b) {
-        return Some(CertItem::Number(n));
-    }
     match b {
-        b's' => Some(CertItem::Same),
-        b'c' => Some(CertItem::Conv),
-        b'k' => Some(CertItem::Parts),
+        b'0'..=b'9' => Some(b - b'0'),
+        b's' => Some(SAME),
+        b'c' => Some(CONV),
+        b'k' => Some(PARTS),
         _ => None,
     }
 }
@@ -303,8 +304,8 @@ fn any_item(bytes: &[u8], at: usize) -> Result<Option<Taken>, CertText>
 }
 
 /// Puts an item behind others.
-fn push(out: &mut Vec<CertItem>, item: CertItem) -> Result<(), CertText>
-    ensures ok { IfOk result (λ _. out.new.items ≡ out.old.items ++ item ∷ []) }
+fn push(out: &mut PackedItems, item: CertItem) -> Result<(), CertText>
+    ensures ok { IfOk result (λ _. unpacked out.new ≡ unpacked out.old ++ item ∷ []) }
     ensures only_memory { IfErr result (λ e. e ≡ Memory) }
 {
     match out.push(item) {
@@ -327,17 +328,17 @@ fn item_at(bytes: &[u8], at: usize) -> Result<Option<Taken>, CertText>
 
 /// Puts items of one byte that stand from a space on, each before a space, behind others, at most so many, and gives the offset behind the last of
 /// them. Takes no memory.
-fn short_run(bytes: &[u8], from: usize, most: usize, out: &mut Vec<CertItem>) -> usize
+fn short_run(bytes: &[u8], from: usize, most: usize, out: &mut PackedItems) -> usize
     requires space { get_or bytes.now from 0 ≡ 32 }
     requires within { from + 2 * most < length bytes.now }
-    requires room { vec_len out.old + most ≤ vec_capacity out.old }
-    ensures read { with_items out.old.items (behind bytes.now from AnItem) ≡ with_items out.new.items (behind bytes.now result AnItem) }
+    requires room { vec_len out.old.codes + most ≤ vec_capacity out.old.codes }
+    ensures read { with_items (unpacked out.old) (behind bytes.now from AnItem) ≡ with_items (unpacked out.new) (behind bytes.now result AnItem) }
     ensures within { (from ≤ result) × (result ≤ length bytes.now) }
 {
     let mut count = 0;
     'short: while count < most && bytes[from + 2 * count + 2] == b' ' {
-        match byte_item(bytes[from + 2 * count + 1]) {
-            Some(item) => out.push_reserved(item),
+        match byte_code(bytes[from + 2 * count + 1]) {
+            Some(code) => out.push_reserved(code),
             None => return from + 2 * count,
         }
         count += 1;
@@ -347,15 +348,15 @@ fn short_run(bytes: &[u8], from: usize, most: usize, out: &mut Vec<CertItem>) ->
 
 /// Puts items of one byte that stand from an offset on behind others, as many as there is room for, and gives the offset behind the last of them.
 /// Takes no memory: where there was no room for the next, the caller's `push` makes it.
-fn short_items(bytes: &[u8], from: usize, out: &mut Vec<CertItem>) -> usize
+fn short_items(bytes: &[u8], from: usize, out: &mut PackedItems) -> usize
     requires { from ≤ length bytes.now }
-    ensures read { with_items out.old.items (behind bytes.now from AnItem) ≡ with_items out.new.items (behind bytes.now result AnItem) }
+    ensures read { with_items (unpacked out.old) (behind bytes.now from AnItem) ≡ with_items (unpacked out.new) (behind bytes.now result AnItem) }
     ensures within { (from ≤ result) × (result ≤ length bytes.now) }
 {
     if from == bytes.len() || bytes[from] != b' ' {
         return from;
     }
-    let room = out.capacity() - out.len();
+    let room = out.codes.capacity() - out.codes.len();
     let follow = (bytes.len() - from - 1) / 2;
     let most = if room < follow { room } else { follow };
     short_run(bytes, from, most, out)
@@ -366,7 +367,7 @@ fn items(alloc: Global, bytes: &[u8], from: usize) -> Result<CertItems, CertText
     requires { from ≤ length bytes.now }
     ensures answers { AnswersText (read_items (length bytes.now) AnItem (left from bytes.now)) result }
 {
-    let mut out = Vec::new(alloc);
+    let mut out = PackedItems::new(alloc);
     let mut at = from;
     'items: while let Some(taken) = item_at(bytes, at)? {
         push(&mut out, taken.item)?;

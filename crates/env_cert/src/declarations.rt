@@ -11,7 +11,7 @@ ghost use Rattle.env_cert.specs.EnvWalks.{declaration_walk, LeadsOn, StopsAmong}
 use crate::constants::constant;
 use block_cert::block::walk_block;
 use calculus_rules::declaration::Kept;
-use cert_rules::item::CertItem;
+use cert_rules::certificate::CertItems;
 use dump_reader::declaration::RawDecl;
 use env_check::declarations::check_name;
 use pc_rules::environment::Env;
@@ -52,7 +52,7 @@ fn declaration<G: Guarder>(
 /// All declarations, in their order, each over the ones before, by an environment.
 pub(crate) fn declarations<'x, G: Guarder>(
     alloc: Global,
-    cert: &'x [CertItem],
+    cert: &'x CertItems,
     guarder: &'x G,
     room: u32,
     mut env: Env,

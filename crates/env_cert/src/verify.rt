@@ -12,8 +12,7 @@ ghost use Rattle.env_cert.specs.Verified.{WalksAlong, Verifies, IsVerified};
 use crate::beginning::begun;
 use crate::declarations::declarations;
 use crate::refusal::{VerifyRefusal, verified};
-use cert_rules::certificate::Cert;
-use cert_rules::item::CertItem;
+use cert_rules::certificate::{Cert, CertItems};
 use dump_reader::environment::RawEnv;
 use pc_rules::context::Ctx;
 use pc_rules::environment::Env;
@@ -51,7 +50,7 @@ fn walk_env<'x, G: Guarder>(
     alloc: Global,
     guarder: &'x G,
     raw: &RawEnv,
-    cert: &'x [CertItem],
+    cert: &'x CertItems,
     trail: &mut Trail,
 ) -> Result<(Env, Term), WalkHalt>
     requires spelled { IsSpelled raw.now }
@@ -112,7 +111,7 @@ pub fn verify_env<G: Guarder>(
         },
         at: 0,
     };
-    let answer = walk_env(alloc, guarder, raw, cert.as_slice(), &mut trail);
+    let answer = walk_env(alloc, guarder, raw, cert.items(), &mut trail);
     m.account = trail.meter.account;
     m.nest = trail.meter.nest;
     verified(answer)

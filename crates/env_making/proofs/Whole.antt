@@ -1,5 +1,5 @@
 -- The making of a whole environment: what is refused first, the declarations and main.
-use Rattle.std.proofs.Common.{◌≡◌, ◌∙◌, ℕ, ◌-◌, sym, ap, subst, List, [], ◌++◌, length, Option, Some, None, map, Result, Ok, Err, IsErrAnd, IsTrue}
+use Rattle.std.proofs.Common.{◌≡◌, ◌∙◌, ◌⊎◌, inl, inr, ℕ, ◌-◌, sym, ap, subst, List, [], ◌++◌, length, Option, Some, None, map, Result, Ok, Err, IsErrAnd, IsTrue}
 use Rattle.universe_levels.specs.declared.level.Level.{Level}
 use Rattle.pc_terms.specs.Syntax.{Term}
 use Rattle.dump_reader.specs.declared.declaration.RawDecl.{RawDecl}
@@ -17,12 +17,13 @@ use Rattle.env_check.specs.declared.refusal.BareRefusal.TheVariants as refusals
 use Rattle.env_check.specs.Places.{bare}
 use Rattle.env_check.specs.Rules.{givens}
 use Rattle.env_check.specs.Beginning.{HasSoundLevels, Refuses, level_refusal, end_refusal, RefusesGraph, IsRefusedFirst, at_levels, at_constraints, at_graph}
+use Rattle.cert_rules.specs.Walk.{Items}
 use Rattle.cert_rules.specs.Writing.{wrote}
 use Rattle.cert_rules.specs.MakingDeclarations.{Made, make_graph, make_constraints, make_levels}
 use Rattle.script_making.specs.declared.draft.Draft.{Draft}
 use Rattle.env_making.specs.declared.refusal.CertRefusal.{CertRefusal}
 use Rattle.env_making.specs.declared.refusal.CertRefusal.TheVariants.{Broken, Spent, TooDeep, Memory}
-use Rattle.env_making.specs.Refusals.{refused_first, certified}
+use Rattle.env_making.specs.Refusals.{refused_first, certified, IsCertified}
 use Rattle.env_making.specs.Placing.{PlacedWrites, MakesPlaced}
 use Rattle.env_making.specs.Certified.{making_of, CertAnswers, MakesCert}
 use Rattle.env_making.specs.EnvMaking.{declarations_making, LeadsMaking, EndsMaking, DraftsFound, DraftsAlong}
@@ -161,3 +162,7 @@ module _ (raw : RawEnv) (t0 t1 : Draft) (m0 m1 : Meter) (account : t0.meter.acco
   makes_cert (Err Spent) h = record { cycle = h.cycle; found = h.found; answers = answers h.cycle (Err Spent) h.makes.answer }
   makes_cert (Err TooDeep) h = record { cycle = h.cycle; found = h.found; answers = answers h.cycle (Err TooDeep) h.makes.answer }
   makes_cert (Err Memory) h = tt
+
+  pub makes_certified : (r : Result (Env × Term) CertRefusal) (q : Result Items CertRefusal) → DraftsAlong raw r t0 t1 → IsCertified t1.written.items r q → MakesCert raw q m0 m1
+  makes_certified r q h (inl e) = subst (λ x. MakesCert raw x m0 m1) (sym e) (makes_cert r h)
+  makes_certified r q h (inr e) = subst (λ x. MakesCert raw x m0 m1) (sym e) tt

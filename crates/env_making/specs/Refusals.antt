@@ -1,5 +1,5 @@
 -- What halts the making of a certificate, as its refusal, and its end as a certificate.
-use Rattle.std.specs.Prelude.{Result, Ok, Err}
+use Rattle.std.specs.Prelude.{◌≡◌, ◌⊎◌, Result, Ok, Err}
 use Rattle.pc_terms.specs.Syntax.{Term}
 use Rattle.calculus_rules.specs.Environment.{Env}
 use Rattle.pc_rules.specs.declared.broken.Place.{Place}
@@ -28,3 +28,7 @@ refused_first refusals.Memory = Memory
 abbrev pub certified : Items → Result (Env × Term) CertRefusal → Result Items CertRefusal
 certified written (Ok p) = Ok written
 certified written (Err e) = Err e
+
+-- or there was no memory for the certificate
+abbrev pub IsCertified : Items → Result (Env × Term) CertRefusal → Result Items CertRefusal → Type 0
+IsCertified written answer result = (result ≡ certified written answer) ⊎ (result ≡ Err Memory)

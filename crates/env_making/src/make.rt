@@ -1,9 +1,10 @@
 //! An environment that is read, and its certificate.
-ghost use Rattle.std.specs.Prelude.{◌≡◌, ◌+◌, ◌-◌, ◌≤◌, IfOk};
+ghost use Rattle.std.specs.Prelude.{◌≡◌, ◌+◌, ◌-◌, ◌≤◌, IfOk, IfSome};
 ghost use Rattle.dump_reader.specs.Spelled.{IsSpelled};
 ghost use Rattle.pc_rules.specs.Follows.{IsAfter};
 ghost use Rattle.env_cert.specs.Verified.{IsVerified};
-ghost use Rattle.env_making.specs.Refusals.{certified};
+ghost use Rattle.env_making.specs.Refusals.{IsCertified};
+ghost use Rattle.cert_rules.specs.Packed.{unpacked};
 ghost use Rattle.env_making.specs.EnvMaking.{DraftsAlong};
 ghost use Rattle.env_making.specs.Certified.{MakesCert, FollowsDirected, IsCertificateOf};
 
@@ -11,6 +12,7 @@ use crate::declarations::declarations;
 use crate::refusal::{CertRefusal, halted_at};
 use cert_rules::certificate::{Cert, CertItems};
 use cert_rules::item::CertItem;
+use cert_rules::packed::PackedItems;
 use dump_reader::environment::RawEnv;
 use env_check::beginning::bare_env;
 use pc_rules::broken::Place;
@@ -63,15 +65,33 @@ fn make_env<'x, R: Reducer, G: Guarder>(
     }
 }
 
-/// An end of the making, with what was written, as an answer. Takes no memory.
+/// The items that were written, a byte for each; none for want of memory.
+fn packed(alloc: Global, written: &[CertItem]) -> Option<PackedItems>
+    ensures is { IfSome result (λ items. unpacked items ≡ written.now) }
+{
+    let mut items = PackedItems::new(alloc);
+    for item in written {
+        match items.push(*item) {
+            Ok(()) => {}
+            Err(_) => return None,
+        }
+    }
+    Some(items)
+}
+
+/// An end of the making, with what was written, as an answer.
 fn certified(
+    alloc: Global,
     written: Vec<CertItem>,
     answer: Result<(Env, Term), CertRefusal>,
 ) -> Result<Cert, CertRefusal>
-    ensures is { result ≡ certified written.items answer }
+    ensures is { IsCertified written.items answer result }
 {
     match answer {
-        Ok(_found) => Ok(Cert::of(CertItems::of(written))),
+        Ok(_found) => match packed(alloc, written.as_slice()) {
+            Some(items) => Ok(Cert::of(CertItems::of(items))),
+            None => Err(CertRefusal::Memory),
+        },
         Err(refusal) => Err(refusal),
     }
 }
@@ -109,5 +129,5 @@ pub fn make_cert<R: Reducer, G: Guarder>(
     let Draft { meter, written } = draft;
     m.account = meter.account;
     m.nest = meter.nest;
-    certified(written, answer)
+    certified(alloc, written, answer)
 }

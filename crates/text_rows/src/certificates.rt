@@ -25,7 +25,7 @@ fn put_refusal(out: &mut String, refusal: CertText) -> Result<(), AllocError> {
 
 /// How many items were read, and what of them went out to a sink, with the fault if one came.
 fn put_cert(out: &mut String, cert: &Cert, sink: &mut MemSink) -> Result<(), AllocError> {
-    let count = cert.as_slice().len();
+    let count = cert.items().len();
     write!(out, "{count} items: ")?;
     if let Err(fault) = print_cert(cert, sink) {
         let written = fault.written;

@@ -12,7 +12,7 @@ use Rattle.pc_terms.specs.declared.term.MakeFault.TheVariants.{TooDeep as DeepTe
 use Rattle.pc_rules.specs.Stops.{stop_of}
 use Rattle.pc_rules.specs.DirectedRun.{Run, make, passing, ticked}
 use Rattle.pc_rules.specs.Follows.{Follows, Answers, Halts, IsAfter}
-use Rattle.pc_rules.proofs.Following.{follows_still, follows_made, follows_fault, follows_passing, follows_deep}
+use Rattle.pc_rules.proofs.Following.{follows_made, follows_fault, follows_passing}
 use Rattle.pc_rules.proofs.Meters.{after-refl, after-trans, after-tick}
 use Rattle.cert_rules.specs.Walk.{WalkState, Walk, WalkEnd, Passed, Barred, Unpaid, Crowded, pass, bar, crowded, tick, paid_walk, walk_ticking, end_on, deep_on, walk_on, end_at, by_rules}
 use Rattle.cert_rules.specs.WalkSteps.{Reduced}
@@ -124,6 +124,10 @@ pub retraces_rules : {A : Type 0} (f : Account → Run A) (r : Result A Halt) (t
 retraces_rules f r t0 t1 p e =
     rw e (record { answer = rules_answer f (stand t0) r t1.meter.account p.answer; after = p.after })
 
+-- rules that leave the meter as it is
+pub retraces_still : {A : Type 0} (f : Account → Run A) (r : Result A Halt) (t : Trail) → Answers (f t.meter.account) r t.meter.account → Retraces (by_rules f (stand t)) (barred_at t.at r) t t
+retraces_still f r t h = record { answer = rules_answer f (stand t) r t.meter.account h; after = after-refl t.meter }
+
 -- what a `?` gives on is the halt of its call
 pub retraces_passed : {A : Type 0} {d : Walk A} {r : Result A WalkHalt} {h : WalkHalt} {t0 t1 : Trail} → IsErrAnd r (λ e. e ≡ h) → Retraces d (Err h) t0 t1 → Retraces d r t0 t1
 retraces_passed {r = r} e f =
@@ -149,12 +153,12 @@ passed_nothing P (Err y) h e = tt
 -- a call that takes no unit answers directed rules
 pub retraces_answers : {A : Type 0} (f : Account → Run A) (r : Result A Halt) {q : Result A WalkHalt} {t : Trail} → q ≡ barred_at t.at r → Answers (f t.meter.account) r t.meter.account →
     Retraces (by_rules f (stand t)) q t t
-retraces_answers f r {t = t} e h = rw e (retraces_rules f r t t (follows_still (f t.meter.account) r t.meter h) refl)
+retraces_answers f r {t = t} e h = rw e (retraces_still f r t h)
 
 -- and it halts where they do
 pub retraces_halts : {A : Type 0} (f : Account → Run A) (h : Halt) {g : WalkHalt} {t : Trail} → g ≡ halt_at t.at h → Halts (f t.meter.account) h t.meter.account →
     Retraces (by_rules f (stand t)) (Err g) t t
-retraces_halts f h {t = t} e k = rw e (retraces_rules f (Err h) t t (follows_still (f t.meter.account) (Err h) t.meter k) refl)
+retraces_halts f h {t = t} e k = rw e (retraces_still f (Err h) t k)
 
 -- a term is made, or there is a fault
 pub retraces_made : (T made : Term) (t : Trail) → made ≡ T → Retraces (by_rules (make T) (stand t)) (Ok made) t t
@@ -169,7 +173,7 @@ pub retraces_passing : {B : Type 0} (b : Bool) (k : Unit {0} → WalkState → W
 retraces_passing b k {t0 = t0} p = retraces_on k (retraces_rules (passing b) (Ok tt) t0 t0 (follows_passing b t0.meter) refl) p
 
 deep_passing : (b : Bool) (f : MakeFault) (t : Trail) → (f ≡ DeepTerm → IsTrue b) → Retraces (by_rules (passing b) (stand t)) (Err (walks.Stop (stop_of f))) t t
-deep_passing b DeepTerm t h = retraces_rules (passing b) (Err (halts.Stop TooDeep)) t t (follows_deep (passing b t.meter.account) t.meter (h refl)) refl
+deep_passing b DeepTerm t h = retraces_still (passing b) (Err (halts.Stop TooDeep)) t (h refl)
 deep_passing b NoTerm t h = retraces_memory (by_rules (passing b) (stand t)) t
 
 pub retraces_beyond : {B : Type 0} (b : Bool) (k : Unit {0} → WalkState → Walk B) (f : MakeFault) (t : Trail) → (f ≡ DeepTerm → IsTrue b) →

@@ -24,7 +24,6 @@ use Rattle.pc_rules.specs.Stops.{stop_of}
 use Rattle.pc_rules.specs.Follows.{Answers, Halts}
 use Rattle.pc_rules.specs.DirectedRun.{make, done, refused, is_beyond}
 use Rattle.pc_rules.specs.DirectedTyping.{find_family, match_counted, is_the_family, found_family}
-use Rattle.pc_rules.proofs.Following.{follows_deep}
 use Rattle.cert_rules.specs.Walk.{Items, WalkState, Walk, pass, bar, walk_on, by_rules}
 use Rattle.cert_rules.specs.Scripts.{Script}
 use Rattle.cert_rules.specs.WalkTyping.{Walking, walk_check_all, walk_found_family, walk_predicate, walk_scrutinee, walk_branches, walk_case}
@@ -32,7 +31,7 @@ use Rattle.type_cert.specs.declared.halt.WalkHalt.{WalkHalt}
 use Rattle.type_cert.specs.declared.halt.WalkHalt.TheVariants as walks
 use Rattle.type_cert.specs.declared.trail.Trail.{Trail}
 use Rattle.type_cert.specs.Retraces.{stand, Retraces, halt_at, barred_at}
-use Rattle.type_cert.proofs.Retracing.{retraces_on, retraces_err, retraces_pass, retraces_bar, retraces_memory, retraces_answers, retraces_halts, retraces_rules}
+use Rattle.type_cert.proofs.Retracing.{retraces_on, retraces_err, retraces_pass, retraces_bar, retraces_memory, retraces_answers, retraces_halts, retraces_still}
 
 -- the rule, from the family on
 
@@ -75,7 +74,7 @@ raised_by_none cert E inf cmp c ts As {r = r} {t0 = t0} {t1 = t1} p =
 pub pred_fault : (ret : Term) (is : List Term) (t : Term) (f : MakeFault) (u : Trail) → (f ≡ DeepTerm → IsTrue (is_beyond (predicate_at ret is t))) →
     Retraces (by_rules (make (predicate_at ret is t)) (stand u)) (Err (walks.Stop (stop_of f))) u u
 pred_fault ret is t DeepTerm u h =
-    retraces_rules (make (predicate_at ret is t)) (Err (halts.Stop TooDeep)) u u (follows_deep (make (predicate_at ret is t) u.meter.account) u.meter (h refl)) refl
+    retraces_still (make (predicate_at ret is t)) (Err (halts.Stop TooDeep)) u (h refl)
 pred_fault ret is t NoTerm u h = retraces_memory (by_rules (make (predicate_at ret is t)) (stand u)) u
 
 -- what a scrutinee's type comes to is the family, or not

@@ -1,18 +1,19 @@
 -- How calls that answer types of which arguments are still to be put in go along walks.
-use Rattle.std.proofs.Common.{◌≡◌, ◌∙◌, ◌+◌, ap, sym, refl, subst as transport, Some, Result, Ok, Err, IsErrAnd, slice_get}
+use Rattle.std.proofs.Common.{◌≡◌, ◌∙◌, ◌+◌, ◌⊎◌, inl, inr, ap, sym, refl, subst as transport, Some, Result, Ok, Err, IfOk, IfErr, IsErrAnd, slice_get}
 use Rattle.std.proofs.lemmas.Result.{err_from_is_err_and}
 use Rattle.trees.specs.Measures.{IsWithin, IsBeyond}
 use Rattle.pc_terms.specs.Syntax.{Term, Prod, put, substitute}
 use Rattle.pc_terms.specs.declared.term.MakeFault.{MakeFault}
-use Rattle.pc_terms.specs.declared.term.MakeFault.TheVariants.{Memory as NoTerm}
+use Rattle.pc_terms.specs.declared.term.MakeFault.TheVariants.{TooDeep as DeepTerm, Memory as NoTerm}
 use Rattle.calculus_rules.specs.Context.{Context, values}
 use Rattle.calculus_rules.specs.Environment.{Env}
 use Rattle.pc_rules.specs.declared.stop.Stop.TheVariants.{Memory}
 use Rattle.pc_rules.specs.Stops.{stop_of}
 use Rattle.pc_rules.specs.DirectedRun.{make}
 use Rattle.pc_rules.specs.Follows.{IsAfter}
+use Rattle.pc_rules.proofs.Meters.{after-trans}
 use Rattle.cert_rules.specs.declared.item.CertItem.TheVariants.{Number}
-use Rattle.cert_rules.specs.Walk.{Items, Walk, walk_on, by_rules}
+use Rattle.cert_rules.specs.Walk.{Items, WalkState, Walk, walk_on, by_rules}
 use Rattle.cert_rules.specs.WalkSteps.{number_at, walk_steps, reduced}
 use Rattle.cert_rules.specs.Scripts.{Script}
 use Rattle.cert_rules.specs.WalkTyping.{Walking, walk_check, walk_app_found}
@@ -23,8 +24,8 @@ use Rattle.type_cert.specs.declared.halt.WalkHalt.{WalkHalt}
 use Rattle.type_cert.specs.declared.halt.WalkHalt.TheVariants as walks
 use Rattle.type_cert.specs.declared.trail.Trail.{Trail}
 use Rattle.type_cert.specs.Retraces.{stand, WalkHalts, Retraces}
-use Rattle.type_cert.specs.PendingWalk.{walk_halt_of, RetracesPending}
-use Rattle.type_cert.proofs.Retracing.{retraces_on, retraces_pass, retraces_made, retraces_fault}
+use Rattle.type_cert.specs.PendingWalk.{walk_halt_of, RetracesPending, HaltsMaking}
+use Rattle.type_cert.proofs.Retracing.{retraces_on, retraces_err, retraces_pass, retraces_made, retraces_fault}
 use Rattle.type_cert.proofs.Scripting.{from_past, further, retraces_is}
 use Rattle.type_cert.proofs.Inferring.{no_retype}
 
@@ -82,9 +83,29 @@ product_stays cert E inf cmp c a {A = A} {B = B} {r = r} {t0 = t0} {t1 = t1} {t2
     transport (λ T. Retraces (walk_on (reduced cert E (values c) T (stand t0)) (λ q w. walk_app_found cert E inf cmp c a q.item q.count q.term w)) r t0 t2) e
     (retraces_on _ (no_steps cert E c T t0 z) (retraces_on _ (no_retype cert E inf c T 0 (further t0) refl) g))
 
--- a fault is that of the walk before items that are passed since
-pub fault_later : {d : Walk Term} (f : MakeFault) {t0 t1 t2 : Trail} → t2.meter ≡ t1.meter → Retraces d (Err (walks.Stop (stop_of f))) t0 t1 → Retraces d (Err (walks.Stop (stop_of f))) t0 t2
-fault_later {d = d} f {t0 = t0} e p = record {
-  answer = transport (λ m. WalkHalts d (walks.Stop (stop_of f)) m.account) (sym e) p.answer;
-  after = transport (λ m. IsAfter t0.meter m) (sym e) p.after;
-}
+-- a fault of a making is that of the walk before all that was done since
+fault_after : {d : Walk Term} (f : MakeFault) {t0 t1 t2 : Trail} → IsAfter t1.meter t2.meter → Retraces d (Err (walk_halt_of f)) t0 t1 → Retraces d (Err (walk_halt_of f)) t0 t2
+fault_after DeepTerm {t0 = t0} {t1 = t1} {t2 = t2} a p = record { answer = p.answer; after = after-trans t0.meter t1.meter t2.meter p.after a }
+fault_after NoTerm {t0 = t0} {t1 = t1} {t2 = t2} a p = record { answer = tt; after = after-trans t0.meter t1.meter t2.meter p.after a }
+
+-- an argument halts along the walk of its application, or the type of the function can't be made, of which the domain is a part
+pub argument_halts : {A : Type 0} {d : Walk Term} {e : Walk A} (W : Term) (k : Term → WalkState → Walk Term) {h : WalkHalt} {t0 t1 t2 t3 : Trail} → t2.meter ≡ t1.meter → HaltsMaking W e h t2 t3 →
+    (Retraces e (Err h) t2 t3 → Retraces (walk_on d k) (Err h) t0 t3) → ((f : MakeFault) → IsMaking W (Err f) → Retraces d (Err (walk_halt_of f)) t0 t1) → Retraces (walk_on d k) (Err h) t0 t3
+argument_halts W k m (inl x) go made = go x
+argument_halts {d = d} W k {t0 = t0} {t1 = t1} {t3 = t3} m (inr (f, e, j, a)) go made =
+    let b : IsAfter t1.meter t3.meter = transport (λ x. IsAfter x t3.meter) m a in
+    transport (λ h. Retraces (walk_on d k) (Err h) t0 t3) (sym e) (retraces_err k (fault_after f b (made f j)))
+
+-- what a `?` gives on is the halt of its call
+pub halts_passed : {A B : Type 0} {d : Walk A} (W : Term) (r : Result B WalkHalt) {h : WalkHalt} {t0 t1 : Trail} → IsErrAnd r (λ e. e ≡ h) → HaltsMaking W d h t0 t1 → IfErr r (λ x. HaltsMaking W d x t0 t1)
+halts_passed W (Ok b) e p = tt
+halts_passed {d = d} W (Err x) {t0 = t0} {t1 = t1} e p = transport (λ y. HaltsMaking W d y t0 t1) (sym e) p
+
+-- an answer that goes along the walk, with its result or without
+pub passes_ok : {d : Walk (Unit {0})} (r : Result (Unit {0}) WalkHalt) {t0 t1 : Trail} → Retraces d r t0 t1 → IfOk r (λ _. Retraces d (Ok tt) t0 t1)
+passes_ok (Ok a) p = p
+passes_ok (Err x) p = tt
+
+pub passes_err : {d : Walk (Unit {0})} (W : Term) (r : Result (Unit {0}) WalkHalt) {t0 t1 : Trail} → Retraces d r t0 t1 → IfErr r (λ h. HaltsMaking W d h t0 t1)
+passes_err W (Ok a) p = tt
+passes_err W (Err x) p = inl p

@@ -1,11 +1,11 @@
 //! Applications: rule 6, which puts the arguments in all at once where the types of functions are written as products (`type_infer`: `pending`).
-ghost use Rattle.std.specs.Prelude.{◌≡◌, ◌+◌, Ok};
+ghost use Rattle.std.specs.Prelude.{◌≡◌, ◌+◌, Ok, IfOk, IfErr};
 ghost use Rattle.cert_rules.specs.Walk.{Walk, walk_on};
 ghost use Rattle.type_infer.specs.Ready.{IsReady};
 ghost use Rattle.type_cert.specs.Retraces.{Retraces, stand};
-ghost use Rattle.type_cert.specs.Going.{app_walk, inferring};
-ghost use Rattle.type_cert.specs.PendingWalk.{RetracesPending, reduced_walk};
-ghost use Rattle.pc_terms.specs.Syntax.{App, Term};
+ghost use Rattle.type_cert.specs.Going.{app_walk, checking, inferring};
+ghost use Rattle.type_cert.specs.PendingWalk.{RetracesPending, HaltsMaking, reduced_walk};
+ghost use Rattle.pc_terms.specs.Syntax.{App, Term, subst_list};
 ghost use Rattle.type_cert.specs.declared.trail.Trail.{Trail};
 
 use crate::halt::WalkHalt;
@@ -60,13 +60,39 @@ impl<G: Guarder> TypeWalk<'_, G> {
                 if !passes_no_step(self.verifier.cert, trail) {
                     return self.whole_type(alloc, ctx, &ty, argument, trail);
                 }
-                let wanted = ty.instance(alloc, domain)?;
-                self.check(alloc, ctx, argument, &wanted, trail)?;
+                self.check_instance(alloc, ctx, argument, &ty, domain, trail)?;
                 let base = codomain.share()?;
                 Ok(ty.and(base, argument)?)
             }
             _ => self.whole_type(alloc, ctx, &ty, argument, trail),
         }
+    }
+
+    /// An argument against a domain in which arguments are still to be put: these are put in only where the argument's type isn't seen to be that.
+    #[cycle(infer)]
+    fn check_instance(
+        &self,
+        alloc: Global,
+        ctx: &Ctx,
+        argument: &Term,
+        ty: &PendingType,
+        domain: &Term,
+        trail: &mut Trail,
+    ) -> Result<(), WalkHalt>
+        requires nest { self.now.verifier.room + trail.old.meter.nest ≡ 2048 }
+        requires ready { IsReady self.now.verifier.env.now ctx.now }
+        ensures ok { IfOk result (λ _. Retraces (checking self.now.verifier ctx.now argument.now (subst_list 0 ty.now.arguments domain.now) (stand trail.old)) (Ok tt) trail.old trail.new) }
+        ensures err { IfErr result (λ h. HaltsMaking (subst_list 0 ty.now.arguments domain.now) (checking self.now.verifier ctx.now argument.now (subst_list 0 ty.now.arguments domain.now) (stand trail.old)) h trail.old trail.new) }
+    {
+        if self.verifier.fits_leaf(ctx, argument, ty, domain, trail) {
+            return Ok(());
+        }
+        let found = self.infer(alloc, ctx, argument, trail)?;
+        if self.verifier.fits_instance(&found, ty, domain, trail) {
+            return Ok(());
+        }
+        let wanted = ty.instance(alloc, domain)?;
+        self.fits(alloc, ctx, &found, &wanted, trail)
     }
 
     /// The type of an application whose function's type is put together first.
@@ -128,11 +154,29 @@ impl<G: Guarder> TypeWalk<'_, G> {
     {
         match t.view() {
             Node::App(f, a) => self.inner_type(alloc, ctx, f, a, trail),
-            _ => {
-                let ty = self.infer(alloc, ctx, t, trail)?;
-                Ok(PendingType::of(alloc, ty))
-            }
+            Node::Const(name) => match self.verifier.constant_head(*name, trail) {
+                Some(ty) => Ok(PendingType::of(alloc, ty)),
+                None => self.inferred_type(alloc, ctx, t, trail),
+            },
+            _ => self.inferred_type(alloc, ctx, t, trail),
         }
+    }
+
+    /// The type of a function that is no application.
+    #[cycle(infer)]
+    fn inferred_type(
+        &self,
+        alloc: Global,
+        ctx: &Ctx,
+        t: &Term,
+        trail: &mut Trail,
+    ) -> Result<PendingType, WalkHalt>
+        requires nest { self.now.verifier.room + trail.old.meter.nest ≡ 2048 }
+        requires ready { IsReady self.now.verifier.env.now ctx.now }
+        ensures retraces { RetracesPending (inferring self.now.verifier ctx.now t.now (stand trail.old)) result trail.old trail.new }
+    {
+        let ty = self.infer(alloc, ctx, t, trail)?;
+        Ok(PendingType::of(alloc, ty))
     }
 
     /// The type of an application that is a function: a unit, one more rule that stands, and the rule.

@@ -1,5 +1,5 @@
 //! The numbers of a certificate: how many weak-head steps a type makes. Where they lead to a weak-head normal form, they are made by closures.
-ghost use Rattle.std.specs.Prelude.{◌≡◌, ℕ, slice_get, Ok, Some, IfOk, IfSome, MatchOption};
+ghost use Rattle.std.specs.Prelude.{◌≡◌, ◌<◌, ◌+◌, ◌^◌, ℕ, slice_get, Ok, Some, IfOk, IfSome, MatchOption};
 ghost use Rattle.calculus_rules.specs.Context.{values};
 ghost use Rattle.calculus_rules.specs.WeakHead.{WeakSteps};
 ghost use Rattle.cert_rules.specs.WalkSteps.{number_at, walk_steps, reduced};
@@ -9,6 +9,7 @@ ghost use Rattle.type_cert.specs.Retraces.{Retraces, stand, at_number};
 use crate::halt::WalkHalt;
 use crate::trail::Trail;
 use crate::verifier::Verifier;
+use cert_rules::certificate::CertItems;
 use cert_rules::item::CertItem;
 use pc_rules::context::Ctx;
 use pc_rules::environment::Env;
@@ -21,23 +22,21 @@ use reduction::stepping::one_step;
 use std::alloc::Global;
 
 /// The item at a number; none exactly where there are not so many.
-pub fn item_at(cert: &[CertItem], at: usize) -> Option<CertItem>
+pub fn item_at(cert: &CertItems, at: usize) -> Option<CertItem>
     ensures is { result ≡ slice_get cert.now at }
+    ensures more { IfSome result (λ _. at + 1 < 2 ^ 64) }
 {
-    match cert.get(at) {
-        Some(item) => Some(*item),
-        None => None,
-    }
+    cert.get(at)
 }
 
 /// The number that comes next. Refused at the next item where it is no number, or where there is none.
-pub fn number(cert: &[CertItem], trail: &mut Trail) -> Result<u32, WalkHalt>
+pub fn number(cert: &CertItems, trail: &mut Trail) -> Result<u32, WalkHalt>
     ensures retraces { Retraces (number_at (slice_get cert.now trail.old.at) (stand trail.old)) result trail.old trail.new }
 {
     match cert.get(trail.at) {
         Some(CertItem::Number(n)) => {
             trail.at += 1;
-            Ok(*n)
+            Ok(n)
         }
         _ => Err(WalkHalt::Barred { item: trail.at }),
     }

@@ -80,6 +80,8 @@ impl Verifier<'_> {
         requires right { IsCounted self.now.env.now b.now }
         ensures retraces { (V : Values) → Retraces (scripting self.now (Some Same) V equal a.now b.now (stand trail.old)) result trail.old trail.new }
     {
+        // A list in memory has fewer items than 64 bits count.
+        let _count = self.cert.len();
         if a.same(b) || sorts_stand(self.env, equal, a, b) {
             trail.at += 1;
             return Ok(());
@@ -105,6 +107,8 @@ impl Verifier<'_> {
             return Err(WalkHalt::Barred { item });
         }
         let term = t.share()?;
+        // A list in memory has fewer items than 64 bits count.
+        let _count = self.cert.len();
         trail.at += 1;
         steps(alloc, self.env, ctx, item, n, term, trail)
     }
@@ -284,6 +288,8 @@ impl Verifier<'_> {
         if former(a) != former(b) {
             return Err(WalkHalt::Barred { item: at });
         }
+        // A list in memory has fewer items than 64 bits count.
+        let _count = self.cert.len();
         trail.at += 1;
         self.parts(alloc, ctx, equal, at, a, b, trail)
     }

@@ -13,7 +13,7 @@ ghost use Rattle.type_cert.specs.Going.{inferring};
 
 use crate::trail::{Trail, passes_no_step};
 use crate::verifier::Verifier;
-use cert_rules::item::CertItem;
+use cert_rules::certificate::CertItems;
 use pc_rules::environment::Env;
 use pc_terms::leaf::FamilyId;
 use pc_terms::term::{Node, Term};
@@ -40,7 +40,7 @@ fn parts_stand(levels: u32, parts: &[LevelExpr]) -> bool
 }
 
 /// Whether a sort's levels are among the first `levels`, and it can be raised by one.
-fn sort_stands(levels: u32, s: &Sort) -> bool
+pub(crate) fn sort_stands(levels: u32, s: &Sort) -> bool
     ensures declared { IsTrue result → undeclared_in levels s.now ≡ None }
 {
     match s {
@@ -50,7 +50,7 @@ fn sort_stands(levels: u32, s: &Sort) -> bool
 }
 
 /// Passes the number of no steps where it comes next and the term is a sort; whether it was so.
-pub(crate) fn stays_sort(cert: &[CertItem], t: &Term, trail: &mut Trail) -> bool
+pub(crate) fn stays_sort(cert: &CertItems, t: &Term, trail: &mut Trail) -> bool
     ensures sort { IsTrue result → (s : _) × (SortT s ≡ t.now) }
     ensures there { IsTrue result → slice_get cert.now trail.old.at ≡ Some (Number 0) }
     ensures passed { IsTrue result → trail.new.at ≡ trail.old.at + 1 }
@@ -75,7 +75,7 @@ pub(crate) fn sort_over(alloc: Global, low: &Term, high: &Term) -> Result<Sort, 
 }
 
 /// The sort of a family without parameters and indices, which is its type; none of another.
-fn plain_sort(env: &Env, id: FamilyId) -> Option<&Sort>
+pub(crate) fn plain_sort(env: &Env, id: FamilyId) -> Option<&Sort>
     ensures answers { IfSome result (λ s. (u : Account) → Answers (ind_rule env.now id u) (Ok (SortT s.now)) u) }
 {
     let Some(block) = env.block(id.block) else {

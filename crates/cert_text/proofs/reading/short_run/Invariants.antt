@@ -1,4 +1,5 @@
 use Rattle.std.proofs.Common.{◌≡◌, ◌≤◌, ◌+◌, ◌*◌, ◌-◌, get_or, vec_len, vec_capacity}
+use Rattle.cert_rules.specs.Packed.{unpacked}
 use Rattle.cert_text.specs.CertReading.{AnItem}
 use Rattle.cert_text.specs.Answering.{behind, with_items}
 use Rattle.cert_text.proofs.reading.short_run.Given as goal
@@ -7,9 +8,9 @@ use Rattle.cert_text.proofs.reading.short_run.Given as goal
 abbrev pub invariant-short : goal.invariant-short
 invariant-short l = record {
   within : l.count ≤ l.most;
-  room : vec_len l.out + l.most ≤ vec_capacity l.out + l.count;
+  room : vec_len l.out.codes + l.most ≤ vec_capacity l.out.codes + l.count;
   space : get_or l.bytes (l.from + 2 * l.count) 0 ≡ 32;
-  read : with_items l.fn.out.items (behind l.bytes l.from AnItem) ≡ with_items l.out.items (behind l.bytes (l.from + 2 * l.count) AnItem);
+  read : with_items (unpacked l.fn.out) (behind l.bytes l.from AnItem) ≡ with_items (unpacked l.out) (behind l.bytes (l.from + 2 * l.count) AnItem);
 }
 
 abbrev pub decreases-short : goal.decreases-short

@@ -1,4 +1,4 @@
-use Rattle.std.proofs.Common.{rules, arith, ◌≡◌, ◌∙◌, ap, ◌<◌, ◌-◌, ◌+◌, sym, length, ◌++◌, ◌∷◌, [], refl, Some, subst, slice_get, Ok}
+use Rattle.std.proofs.Common.{rules, arith, ◌≡◌, ◌∙◌, ap, ◌<◌, ◌-◌, ◌+◌, sym, length, ◌++◌, ◌∷◌, [], refl, Some, subst, slice_get, inl, Ok}
 use Rattle.std.proofs.lemmas.List.{take_all}
 use Rattle.pc_terms.specs.Syntax.{Rel, SortT, App}
 use Rattle.calculus_rules.specs.Environment.{with_parameters}
@@ -23,7 +23,7 @@ use Rattle.type_cert.specs.Going.{inferring}
 use Rattle.type_cert.proofs.Retracing.{retraces_on, retraces_err, retraces_pass, retraces_memory, retraces_passed, passed_nothing, retraces_with, retraces_value, retraces_made, retraces_fault, retraces_answers, retraces_follows, retraces_passing, retraces_beyond, retraces_after, retraces_before, told_of}
 use Rattle.type_infer.proofs.Pendings.{pending_product, pending_beyond}
 use Rattle.type_cert.proofs.Sorting.{unread_done, unread_passed, sort_given, given_halts, given_passed, given_on, sort_taken, sort_stays, sort_passes, sort_counted}
-use Rattle.type_cert.proofs.WalkedPendings.{ends_made, pends_there, pends_whole, pends_fault, pends_from, pends_passed, pends_halts, pends_each, fault_later, product_stays}
+use Rattle.type_cert.proofs.WalkedPendings.{ends_made, pends_there, pends_whole, pends_fault, pends_from, pends_passed, pends_halts, pends_each, argument_halts, halts_passed, passes_ok, passes_err, product_stays}
 use Rattle.type_cert.proofs.Inferring.{infer_spent, infer_nested, infer_entered, inferred_from, reached_counted, sort_there, sort_goes, product_found, no_retype, retype_stops, retype_goes, fits_same, fits_differ, fits_conv}
 use Rattle.type_cert.proofs.TypedLists.{entered_next, entered_stop, entered_end, all_next, all_stop, all_fault, all_end, branches_next, branches_stop, branches_end, types_next, types_stop, types_fault, types_done, definitions_go, definitions_stop, definitions_end, all_definitions, few_lambdas, lambdas_found, is_family, no_family_found}
 use Rattle.type_cert.proofs.TypedMatches.{case_goes, case_unknown, pred_fault, family_there, family_halts, raised_by_none}
@@ -193,42 +193,87 @@ application_type-returns-then-not-passes_no_step g t c =
     let stays : c.passes_no_step.new.trail ≡ c.function_type.new.trail = search rules in
     record { retraces = c.whole_type.ensures.retraces _ _ (rw stays c.in_ok-ty.ensures.retraces) }
 
-pub application_type-returns-in_err-wanted-in-Prod : goal.application_type-returns-in_err-wanted-in-Prod
-application_type-returns-in_err-wanted-in-Prod g t c =
-    let e = rw c.in-Prod.is at c.view.ensures.is in
-    let p = pends_fault _ (pending_beyond _ e _ c.in_err-wanted-in-Prod.ensures.making) c.in_ok-ty.ensures.retraces in
-    record { retraces = pends_passed c.from_residual-in_err-wanted-in-Prod.ensures.1 (retraces_err _ (fault_later _ c.passes_no_step.ensures.meter p)) }
+pub application_type-check_instance-requires : goal.application_type-check_instance-requires
+application_type-check_instance-requires g t c =
+    let n = ap (λ m. m.nest) c.passes_no_step.ensures.meter ∙ c.in_ok-ty.ensures.retraces.after.nest in
+    search rules
 
-pub application_type-returns-in_err-check-in-Prod : goal.application_type-returns-in_err-check-in-Prod
-application_type-returns-in_err-check-in-Prod g t c =
+pub application_type-returns-in_err-check_instance-in-Prod : goal.application_type-returns-in_err-check_instance-in-Prod
+application_type-returns-in_err-check_instance-in-Prod g t c =
     let e = rw c.in-Prod.is at c.view.ensures.is in
-    let h = rw c.in_ok-wanted-in-Prod.ensures.making.0 at c.in_err-check-in-Prod.ensures.retraces in
     record {
-      retraces = pends_passed c.from_residual-in_err-check-in-Prod.ensures.1 (retraces_on _ (pends_whole c.in_ok-ty.ensures.retraces)
-          (product_stays _ _ _ _ _ _ (pending_product _ e) (search rules) c.passes_no_step.ensures.meter (search rules) (retraces_err _ h)));
+      retraces = pends_passed c.from_residual-in_err-check_instance-in-Prod.ensures.1 (argument_halts _ _ c.passes_no_step.ensures.meter c.in_err-check_instance-in-Prod.ensures.err
+          (λ h. retraces_on _ (pends_whole c.in_ok-ty.ensures.retraces)
+          (product_stays _ _ _ _ _ _ (pending_product _ e) (search rules) c.passes_no_step.ensures.meter (search rules) (retraces_err _ h)))
+          (λ f m. pends_fault f (pending_beyond _ e _ m) c.in_ok-ty.ensures.retraces));
     }
 
 pub application_type-returns-in_err-and-in-Prod : goal.application_type-returns-in_err-and-in-Prod
 application_type-returns-in_err-and-in-Prod g t c =
     let e = rw c.in-Prod.is at c.view.ensures.is in
-    let h = rw c.in_ok-wanted-in-Prod.ensures.making.0 at c.in_ok-check-in-Prod.ensures.retraces in
     record {
       retraces = pends_passed c.from_residual-in_err-and-in-Prod.ensures.1 (rw c.in_err-and-in-Prod.ensures.only_memory (retraces_on _ (pends_whole c.in_ok-ty.ensures.retraces)
-          (product_stays _ _ _ _ _ _ (pending_product _ e) (search rules) c.passes_no_step.ensures.meter (search rules) (retraces_on _ h (retraces_memory _ _)))));
+          (product_stays _ _ _ _ _ _ (pending_product _ e) (search rules) c.passes_no_step.ensures.meter (search rules) (retraces_on _ c.in_ok-check_instance-in-Prod.ensures.ok (retraces_memory _ _)))));
     }
 
 pub application_type-returns-in_ok-and-in-Prod : goal.application_type-returns-in_ok-and-in-Prod
 application_type-returns-in_ok-and-in-Prod g t c =
     let e = rw c.in-Prod.is at c.view.ensures.is in
-    let h = rw c.in_ok-wanted-in-Prod.ensures.making.0 at c.in_ok-check-in-Prod.ensures.retraces in
     let k = rw c.in_ok-base-in-Prod.ensures.ok at c.in_ok-and-in-Prod.ensures.ok in
     record {
       retraces = pends_each (λ r m. retraces_on _ (pends_whole c.in_ok-ty.ensures.retraces)
-          (product_stays _ _ _ _ _ _ (pending_product _ e) (search rules) c.passes_no_step.ensures.meter (search rules) (retraces_on _ h (ends_made r k m))));
+          (product_stays _ _ _ _ _ _ (pending_product _ e) (search rules) c.passes_no_step.ensures.meter (search rules) (retraces_on _ c.in_ok-check_instance-in-Prod.ensures.ok (ends_made r k m))));
     }
 
 pub application_type-returns-in_default : goal.application_type-returns-in_default
 application_type-returns-in_default g t c = record { retraces = c.whole_type-in_default.ensures.retraces _ _ c.in_ok-ty.ensures.retraces }
+
+-- an argument against a domain in which arguments are still to be put
+pub check_instance-infer-requires : goal.check_instance-infer-requires
+check_instance-infer-requires g t c =
+    let s : c.fits_leaf.new.trail ≡ c.args.trail.now = search rules in
+    let n = ap (λ t. t.meter.nest) s in
+    search rules
+
+pub check_instance-returns-in_err-found-clause-err : goal.check_instance-returns-in_err-found-clause-err
+unfolding walk_check
+check_instance-returns-in_err-found-clause-err g t c =
+    let s : c.fits_leaf.new.trail ≡ c.args.trail.now = search rules in
+    let p = rw s at c.in_err-found.ensures.retraces in
+    halts_passed _ c.from_residual.result c.from_residual.ensures.1 (inl (retraces_err _ p))
+
+pub check_instance-returns-then-fits_instance-clause-ok : goal.check_instance-returns-then-fits_instance-clause-ok
+unfolding walk_check
+check_instance-returns-then-fits_instance-clause-ok g t c =
+    let s : c.fits_leaf.new.trail ≡ c.args.trail.now = search rules in
+    let p = rw s at c.in_ok-found.ensures.retraces in
+    retraces_on _ p (c.fits_instance.ensures.fits c.if-fits_instance.true c.args.ctx.now)
+
+pub check_instance-fits-requires : goal.check_instance-fits-requires
+check_instance-fits-requires g t c =
+    let s : c.fits_leaf.new.trail ≡ c.args.trail.now = search rules in
+    let u : c.fits_instance.new.trail ≡ c.infer.new.trail = search rules in
+    let n = ap (λ t. t.meter.nest) u ∙ c.in_ok-found.ensures.retraces.after.nest ∙ ap (λ t. t.meter.nest) s in
+    let k = c.in_ok-found.ensures.inferred.classifier in
+    search rules
+
+pub check_instance-returns-clause-ok : goal.check_instance-returns-clause-ok
+unfolding walk_check
+check_instance-returns-clause-ok g t c =
+    let s : c.fits_leaf.new.trail ≡ c.args.trail.now = search rules in
+    let u : c.fits_instance.new.trail ≡ c.infer.new.trail = search rules in
+    let p = rw s at c.in_ok-found.ensures.retraces in
+    let f = rw (c.in_ok-wanted.ensures.making.0, u) at c.fits.ensures.retraces in
+    passes_ok c.fits.result (retraces_on _ p f)
+
+pub check_instance-returns-clause-err : goal.check_instance-returns-clause-err
+unfolding walk_check
+check_instance-returns-clause-err g t c =
+    let s : c.fits_leaf.new.trail ≡ c.args.trail.now = search rules in
+    let u : c.fits_instance.new.trail ≡ c.infer.new.trail = search rules in
+    let p = rw s at c.in_ok-found.ensures.retraces in
+    let f = rw (c.in_ok-wanted.ensures.making.0, u) at c.fits.ensures.retraces in
+    passes_err _ c.fits.result (retraces_on _ p f)
 
 pub whole_type-returns-in_err-whole : goal.whole_type-returns-in_err-whole
 whole_type-returns-in_err-whole g t c =
@@ -271,13 +316,32 @@ reduced_type-returns g t c = record { retraces = pends_halts (retraces_on _ c.in
 pub function_type-returns-in-App : goal.function_type-returns-in-App
 function_type-returns-in-App g t c = record { retraces = rw (← c.view.ensures.is, c.in-App.is) c.inner_type.ensures.retraces }
 
-pub function_type-returns-in_err-ty-in_default : goal.function_type-returns-in_err-ty-in_default
-function_type-returns-in_err-ty-in_default g t c = record { retraces = pends_passed c.from_residual.ensures.1 c.in_err-ty-in_default.ensures.retraces }
+pub function_type-inferred_type-requires : goal.function_type-inferred_type-requires
+function_type-inferred_type-requires g t c =
+    let s : c.constant_head.new.trail ≡ c.args.trail.now = search rules in
+    let n = ap (λ t. t.meter.nest) s in
+    search rules
 
-pub function_type-returns-in_ok-ty-in_default : goal.function_type-returns-in_ok-ty-in_default
-function_type-returns-in_ok-ty-in_default g t c = record { retraces = pends_there c.of.ensures.within c.of.ensures.is c.in_ok-ty-in_default.ensures.retraces }
+pub function_type-inferred_type-requires-in_default : goal.function_type-inferred_type-requires-in_default
+function_type-inferred_type-requires-in_default g t c =
+    let n = c.requires.nest in
+    search rules
 
--- the start of an inference of a function
+pub function_type-returns-in-Some : goal.function_type-returns-in-Some
+function_type-returns-in-Some g t c =
+    record { retraces = rw (← c.view.ensures.is, c.in-Const.is) (pends_there c.of.ensures.within c.of.ensures.is (c.in-Some.ensures.infers c.args.ctx.now)) }
+
+pub inferred_type-infer-requires : goal.inferred_type-infer-requires
+inferred_type-infer-requires g t c =
+    let n = c.requires.nest in
+    search rules
+
+pub inferred_type-returns-in_err-ty : goal.inferred_type-returns-in_err-ty
+inferred_type-returns-in_err-ty g t c = record { retraces = pends_passed c.from_residual.ensures.1 c.in_err-ty.ensures.retraces }
+
+pub inferred_type-returns : goal.inferred_type-returns
+inferred_type-returns g t c = record { retraces = pends_there c.of.ensures.within c.of.ensures.is c.in_ok-ty.ensures.retraces }
+
 pub inner_type-returns-then-not-tick : goal.inner_type-returns-then-not-tick
 inner_type-returns-then-not-tick g t c =
     let v = c.args.self.now.verifier in

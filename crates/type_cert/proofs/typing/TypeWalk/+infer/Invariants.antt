@@ -63,7 +63,13 @@ abbrev pub decreases-reduced_type : goal.decreases-reduced_type
 decreases-reduced_type g l = l.self.now.verifier.room * 32 + 18
 
 abbrev pub decreases-function_type : goal.decreases-function_type
-decreases-function_type g l = l.self.now.verifier.room * 32 + 1
+decreases-function_type g l = l.self.now.verifier.room * 32 + 2
+
+abbrev pub decreases-inferred_type : goal.decreases-inferred_type
+decreases-inferred_type g l = l.self.now.verifier.room * 32 + 1
+
+abbrev pub decreases-check_instance : goal.decreases-check_instance
+decreases-check_instance g l = l.self.now.verifier.room * 32 + 6
 
 abbrev pub decreases-inner_type : goal.decreases-inner_type
 decreases-inner_type g l = l.self.now.verifier.room * 32
